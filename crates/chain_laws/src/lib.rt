@@ -1,1 +1,7 @@
+//! What chains are, and every law that speaks of chains alone. There is no code here: each public function has an
+//! empty body and carries a law as its contract.
 #![tactic(auto)]
+
+pub mod partition;
+pub mod operations;
+pub mod walks;

@@ -1,0 +1,113 @@
+-- What a chain is, over numbers alone: an index is a number, and an arena is what it shows at each index.
+use Rattle.std.specs.Prelude.{◌≡◌, ◌≢◌, ◌↔◌, ℕ, ◌<◌, ◌≤◌, ◌⊎◌, List, [], ◌∷◌, ◌++◌, Option, None, Some}
+
+-- the indexes that a link names: that of the link before it, and that of the link after it
+pub record Interlinks : Type 0 where
+  pub prev : Option ℕ
+  pub next : Option ℕ
+
+-- what an arena shows: at each index the interlinks of the link there, if one stands there
+abbrev pub Shown : Type 0
+Shown = ℕ → Option Interlinks
+
+abbrev pub prev_in : Option Interlinks → Option ℕ
+prev_in None = None
+prev_in (Some link) = link.prev
+
+abbrev pub next_in : Option Interlinks → Option ℕ
+next_in None = None
+next_in (Some link) = link.next
+
+abbrev pub prev_of : Shown → ℕ → Option ℕ
+prev_of shown i = prev_in (shown i)
+
+abbrev pub next_of : Shown → ℕ → Option ℕ
+next_of shown i = next_in (shown i)
+
+-- a link stands at i
+pub record IsValid (shown : Shown) (i : ℕ) : Type 0 where
+  pub link : Interlinks
+  pub shows : shown i ≡ Some link
+
+-- the one rule of interlinks: j comes after i exactly if i comes before j.
+-- So whatever an interlink names is valid, since an invalid index names nothing.
+pub record Agrees (shown : Shown) : Type 0 where
+  pub both : (i j : ℕ) → (next_of shown i ≡ Some j) ↔ (prev_of shown j ≡ Some i)
+
+-- every valid index is one of the numbers from 1 to the number of slots
+pub record IsWithin (shown : Shown) (slots : ℕ) : Type 0 where
+  pub within : (i : ℕ) → IsValid shown i → (1 ≤ i) × (i ≤ slots)
+
+-- y is among the items
+abbrev pub Has : List ℕ → ℕ → Type 0
+Has [] y = ⊥
+Has (x ∷ xs) y = (x ≡ y) ⊎ Has xs y
+
+abbrev pub HasNoRepetition : List ℕ → Type 0
+HasNoRepetition [] = Unit {0}
+HasNoRepetition (x ∷ xs) = (Has xs x → ⊥) × HasNoRepetition xs
+
+-- a linear chain from its start to its end, or a cyclic one from one of its links once round
+pub data Chain : Type 0 where
+  linear : List ℕ → Chain
+  cyclic : List ℕ → Chain
+
+abbrev pub items : Chain → List ℕ
+items (linear xs) = xs
+items (cyclic xs) = xs
+
+-- the first item, or else what comes after
+abbrev pub first_or : List ℕ → Option ℕ → Option ℕ
+first_or [] after = after
+first_or (x ∷ xs) after = Some x
+
+-- the last item, or else what comes before
+abbrev pub last_or : List ℕ → Option ℕ → Option ℕ
+last_or [] before = before
+last_or (x ∷ xs) before = last_or xs (Some x)
+
+-- each item shows as prev the item before it, and as next the item after it
+abbrev pub Stands : Shown → Option ℕ → List ℕ → Option ℕ → Type 0
+Stands shown before [] after = Unit {0}
+Stands shown before (x ∷ xs) after =
+    (shown x ≡ Some (record { prev = before; next = first_or xs after })) × Stands shown (Some x) xs after
+
+-- the arena has this chain; a cyclic one may be written from any of its links
+abbrev pub IsChain : Shown → Chain → Type 0
+IsChain shown (linear xs) = (xs ≢ []) × HasNoRepetition xs × Stands shown None xs None
+IsChain shown (cyclic xs) = (xs ≢ []) × HasNoRepetition xs × Stands shown (last_or xs None) xs (first_or xs None)
+
+abbrev pub HasChain : List Chain → Chain → Type 0
+HasChain [] c = ⊥
+HasChain (d ∷ chains) c = (d ≡ c) ⊎ HasChain chains c
+
+-- the items of all chains, one chain after another
+abbrev pub all_items : List Chain → List ℕ
+all_items [] = []
+all_items (c ∷ chains) = items c ++ all_items chains
+
+-- these are the chains of the arena, in some order
+pub record AreChains (shown : Shown) (chains : List Chain) : Type 0 where
+  pub each : (c : Chain) → HasChain chains c → IsChain shown c
+  pub once : HasNoRepetition (all_items chains)
+  pub all : (i : ℕ) → IsValid shown i → Has (all_items chains) i
+
+abbrev pub IsAtMostEach : ℕ → List ℕ → Type 0
+IsAtMostEach x [] = Unit {0}
+IsAtMostEach x (y ∷ ys) = (x ≤ y) × IsAtMostEach x ys
+
+-- a cyclic chain is written from its least index
+abbrev pub IsWritten : Chain → Type 0
+IsWritten (linear xs) = Unit {0}
+IsWritten (cyclic []) = Unit {0}
+IsWritten (cyclic (x ∷ xs)) = IsAtMostEach x xs
+
+-- each chain has an index below all indexes of the chains after it
+abbrev pub Rises : List Chain → Type 0
+Rises [] = Unit {0}
+Rises (c ∷ chains) = ((m : ℕ) × Has (items c) m × ((y : ℕ) → Has (all_items chains) y → m < y)) × Rises chains
+
+-- the set of chains, written in one way: the chains by their least index, each cyclic one from its least index
+pub record IsInOrder (chains : List Chain) : Type 0 where
+  pub written : (c : Chain) → HasChain chains c → IsWritten c
+  pub rises : Rises chains

@@ -1,0 +1,4 @@
+pub mod Chains
+pub mod Neighbors
+pub mod Operations
+pub mod Walks

@@ -1,0 +1,45 @@
+-- The chains of an arena by neighbour pairs: a partition of its links that has its interlinks.
+use Rattle.std.specs.Prelude.{◌≡◌, ◌≢◌, ◌↔◌, ℕ, ◌⊎◌, List, [], ◌∷◌, ◌++◌, Option, None, Some}
+use Rattle.chain_laws.specs.Chains.{Shown, Chain, linear, cyclic, items, all_items, HasChain, Has, HasNoRepetition, IsValid, IsWithin, Agrees, IsInOrder, first_or, last_or, prev_of, next_of}
+
+-- b stands directly after a in the list
+abbrev pub IsBeside : List ℕ → ℕ → ℕ → Type 0
+IsBeside xs a b = (before : List ℕ) × (after : List ℕ) × (xs ≡ before ++ a ∷ b ∷ after)
+
+-- b stands directly after a in the chain; in a cyclic one the first also after the last
+abbrev pub AreNeighborsIn : Chain → ℕ → ℕ → Type 0
+AreNeighborsIn (linear xs) a b = IsBeside xs a b
+AreNeighborsIn (cyclic xs) a b = IsBeside xs a b ⊎ ((last_or xs None ≡ Some a) × (first_or xs None ≡ Some b))
+
+-- (a, b) is a neighbour pair of the chains
+abbrev pub AreNeighborsOf : List Chain → ℕ → ℕ → Type 0
+AreNeighborsOf chains a b = (c : Chain) × HasChain chains c × AreNeighborsIn c a b
+
+-- (a, b) is a neighbour pair of the arena
+abbrev pub AreNeighbors : Shown → ℕ → ℕ → Type 0
+AreNeighbors shown a b = next_of shown a ≡ Some b
+
+-- every valid index stands in exactly one chain, at one place, and no other index stands in any
+pub record Partition (shown : Shown) (chains : List Chain) : Type 0 where
+  pub filled : (c : Chain) → HasChain chains c → items c ≢ []
+  pub once : HasNoRepetition (all_items chains)
+  pub valid : (i : ℕ) → IsValid shown i ↔ Has (all_items chains) i
+
+-- the arena's interlinks are the neighbour pairs of the chains
+pub record HasInterlinks (shown : Shown) (chains : List Chain) : Type 0 where
+  pub next : (a b : ℕ) → (next_of shown a ≡ Some b) ↔ AreNeighborsOf chains a b
+  pub prev : (a b : ℕ) → (prev_of shown b ≡ Some a) ↔ AreNeighborsOf chains a b
+
+-- the chains of the arena: they partition its links and have its interlinks
+pub record AreTheChains (shown : Shown) (chains : List Chain) : Type 0 where
+  pub partition : Partition shown chains
+  pub interlinks : HasInterlinks shown chains
+  pub order : IsInOrder chains
+
+-- an arena whose interlinks agree has chains ..
+abbrev pub HasChains : Type 0
+HasChains = (shown : Shown) (slots : ℕ) → Agrees shown → IsWithin shown slots → (chains : List Chain) × AreTheChains shown chains
+
+-- .. and no two sets of them
+abbrev pub HasNoOtherChains : Type 0
+HasNoOtherChains = (shown : Shown) (chains others : List Chain) → AreTheChains shown chains → AreTheChains shown others → chains ≡ others

@@ -1,0 +1,58 @@
+-- What becomes of the interlinks and of the chains: a join, and a new link that stands alone.
+use Rattle.std.specs.Prelude.{◌≡◌, ◌↔◌, ℕ, ◌==◌, if◌then◌else◌, ◌⊎◌, List, [], ◌∷◌, ◌++◌, Option, None, Some}
+use Rattle.std.specs.Option.{option_map}
+use Rattle.chain_laws.specs.Chains.{Shown, Interlinks, Chain, linear, cyclic, items, Has, IsChain, IsValid, first_or, last_or}
+use Rattle.chain_laws.specs.Neighbors.{AreNeighbors}
+
+abbrev pub with_prev : Option ℕ → Interlinks → Interlinks
+with_prev before link = record link { prev = before }
+
+abbrev pub with_next : Option ℕ → Interlinks → Interlinks
+with_next after link = record link { next = after }
+
+-- the link at i, if i is an index and a link stands there, names another link as the one before it
+abbrev pub prev_set : Shown → Option ℕ → Option ℕ → Shown
+prev_set shown None before j = shown j
+prev_set shown (Some i) before j = if j == i then option_map (with_prev before) (shown j) else shown j
+
+-- .. and as the one after it
+abbrev pub next_set : Shown → Option ℕ → Option ℕ → Shown
+next_set shown None after j = shown j
+next_set shown (Some i) after j = if j == i then option_map (with_next after) (shown j) else shown j
+
+-- v comes after u, each where it is some index
+abbrev pub linked : Shown → Option ℕ → Option ℕ → Shown
+linked shown u v = prev_set (next_set shown u v) v u
+
+-- b comes after a
+abbrev pub joined : Shown → ℕ → ℕ → Shown
+joined shown a b = linked shown (Some a) (Some b)
+
+-- a link that stands alone is added at q
+abbrev pub with_lone : Shown → ℕ → Shown
+with_lone shown q j = if j == q then Some (record { prev = None; next = None }) else shown j
+
+-- exactly one neighbour pair is added
+pub record AddsPair (old new : Shown) (a b : ℕ) : Type 0 where
+  pub pairs : (i j : ℕ) → AreNeighbors new i j ↔ (AreNeighbors old i j ⊎ ((i ≡ a) × (j ≡ b)))
+  pub links : (i : ℕ) → IsValid new i ↔ IsValid old i
+
+-- a chain that names neither index stays, item for item
+abbrev pub KeepsChainsWithout : Shown → Shown → ℕ → ℕ → Type 0
+KeepsChainsWithout old new a b = (c : Chain) → (Has (items c) a → ⊥) → (Has (items c) b → ⊥) → IsChain old c ↔ IsChain new c
+
+-- the join of the chain that ends in a and the chain that starts with b
+pub record Connects (old new : Shown) (a b : ℕ) : Type 0 where
+  -- two chains: the one is written after the other
+  pub two : (x y : List ℕ) → IsChain old (linear (x ++ a ∷ [])) → IsChain old (linear (b ∷ y)) → (Has (x ++ a ∷ []) b → ⊥)
+      → IsChain new (linear ((x ++ a ∷ []) ++ b ∷ y))
+  -- one chain: it becomes cyclic
+  pub one : (xs : List ℕ) → IsChain old (linear xs) → first_or xs None ≡ Some b → last_or xs None ≡ Some a → IsChain new (cyclic xs)
+  pub rest : KeepsChainsWithout old new a b
+
+-- a link that stands alone comes to the chains
+pub record AddsLone (old new : Shown) (q : ℕ) : Type 0 where
+  pub alone : IsChain new (linear (q ∷ []))
+  pub rest : (c : Chain) → (Has (items c) q → ⊥) → IsChain old c ↔ IsChain new c
+  pub pairs : (i j : ℕ) → AreNeighbors new i j ↔ AreNeighbors old i j
+  pub links : (i : ℕ) → IsValid new i ↔ (IsValid old i ⊎ (i ≡ q))

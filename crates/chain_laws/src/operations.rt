@@ -1,0 +1,1 @@
+// What a join and a new lone link do to the chains.

@@ -1,0 +1,1 @@
+// The chains of an arena: that there are some, and no others.
