@@ -1,0 +1,36 @@
+-- What an answer of a call that invalidates holds: its value, and whether the counter overflowed.
+use Rattle.std.specs.Prelude.{Bool, true, false, Option, Some, None}
+use Rattle.arena_ptr.specs.declared.invalidation.InvalidationOption.{InvalidationOption}
+use Rattle.arena_ptr.specs.declared.invalidation.InvalidationOption.TheVariants as option
+use Rattle.arena_ptr.specs.declared.invalidation.InvalidationResult.{InvalidationResult}
+use Rattle.arena_ptr.specs.declared.invalidation.InvalidationResult.TheVariants as outcome
+
+module _ {T : Type 0} where
+  abbrev pub value_in : InvalidationOption T → T
+  value_in (option.Success t) = t
+  value_in (option.GenerationOverflow t) = t
+
+  abbrev pub is_overflow : InvalidationOption T → Bool
+  is_overflow (option.Success t) = false
+  is_overflow (option.GenerationOverflow t) = true
+
+  -- the answer of a value, where it is told whether the counter overflowed
+  abbrev pub invalidation_option : Bool → T → InvalidationOption T
+  invalidation_option false t = option.Success t
+  invalidation_option true t = option.GenerationOverflow t
+
+  abbrev pub value_within : InvalidationResult T → Option T
+  value_within (outcome.Success t) = Some t
+  value_within (outcome.GenerationOverflow t) = Some t
+  value_within outcome.InvalidPtr = None
+
+  abbrev pub is_overflow_result : InvalidationResult T → Bool
+  is_overflow_result (outcome.Success t) = false
+  is_overflow_result (outcome.GenerationOverflow t) = true
+  is_overflow_result outcome.InvalidPtr = false
+
+  -- the answer of a value, if there is one, where it is told whether the counter overflowed
+  abbrev pub invalidation_result : Bool → Option T → InvalidationResult T
+  invalidation_result overflow None = outcome.InvalidPtr
+  invalidation_result false (Some t) = outcome.Success t
+  invalidation_result true (Some t) = outcome.GenerationOverflow t

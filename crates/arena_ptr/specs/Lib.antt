@@ -1,0 +1,5 @@
+pub mod Numbers
+pub mod Indexes
+pub mod Generations
+pub mod ToolPtr
+pub mod Invalidation

@@ -1,0 +1,34 @@
+-- A tool pointer is its index, as a number, and its generation.
+use Rattle.std.specs.Prelude.{◌≡◌, ℕ, ◌==◌, ◌&&◌, ◌↔◌, Bool, true}
+use Rattle.std.proofs.Common.{ap, rules}
+use Rattle.arena_ptr.specs.Indexes.{number_of_inx32, same_inx32, eq_is_same_inx32}
+use Rattle.arena_ptr.specs.Generations.{eq_is_same_gen32}
+use Rattle.arena_ptr.specs.declared.generation.Gen32.{Gen32}
+use Rattle.arena_ptr.specs.declared.tool_ptr.ToolPtr.{ToolPtr}
+
+abbrev pub key_of : ToolPtr → ℕ × Gen32
+key_of p = (number_of_inx32 p.inx, p.generation)
+
+pub same_parts : (p q : ToolPtr) → p.inx ≡ q.inx → p.generation ≡ q.generation → p ≡ q
+same_parts p q same_inx same_generation = λ i. record { inx = same_inx i; generation = same_generation i }
+
+pub same_tool_ptr : (p q : ToolPtr) → key_of p ≡ key_of q → p ≡ q
+same_tool_ptr p q e =
+    same_parts p q (same_inx32 p.inx q.inx (ap (λ (k : ℕ × Gen32). k.0) e)) (ap (λ (k : ℕ × Gen32). k.1) e)
+
+pub eq_is_same : (p q : ToolPtr) → (((p.inx.number == q.inx.number) && (p.generation.number == q.generation.number)) ≡ true) ↔ (p ≡ q)
+eq_is_same p q =
+    let inx = eq_is_same_inx32 p.inx q.inx in
+    let generation = eq_is_same_gen32 p.generation q.generation in (
+      λ t. same_parts p q (inx.0 (left_true _ _ t)) (generation.0 (right_true _ _ t)),
+      λ e. both_true _ _ (inx.1 (ap (λ (r : ToolPtr). r.inx) e)) (generation.1 (ap (λ (r : ToolPtr). r.generation) e)),
+    )
+  where
+    left_true : (a b : Bool) → (a && b) ≡ true → a ≡ true
+    left_true a b t = search rules
+
+    right_true : (a b : Bool) → (a && b) ≡ true → b ≡ true
+    right_true a b t = search rules
+
+    both_true : (a b : Bool) → a ≡ true → b ≡ true → (a && b) ≡ true
+    both_true a b s t = search rules

@@ -1,0 +1,103 @@
+ghost use Rattle.std.specs.Prelude.{◌≡◌, MatchOption, IsSomeAnd, None};
+ghost use Rattle.std.specs.Option.{ForSome};
+ghost use Rattle.arena_ptr.specs.Invalidation.{value_in, value_within, is_overflow, is_overflow_result};
+
+/// The answer of a call that invalidates: its value, and whether the generation counter overflowed,
+/// from the greatest generation to two.
+///
+/// Carries `InvalidationOption` of `triple_arena`.
+#[derive(Debug, Clone, Copy, PartialEq, Eq, Drop)]
+pub enum InvalidationOption<T> {
+    /// No overflow.
+    Success(T),
+    /// The counter overflowed, so that pointers of older rounds may be valid again.
+    GenerationOverflow(T),
+}
+
+/// The answer of a call that invalidates what a pointer or an index names, if that is valid.
+///
+/// Carries `InvalidationResult` of `triple_arena`.
+#[derive(Debug, Clone, Copy, PartialEq, Eq, Drop)]
+pub enum InvalidationResult<T> {
+    /// No overflow.
+    Success(T),
+    /// The counter overflowed, so that pointers of older rounds may be valid again.
+    GenerationOverflow(T),
+    /// The pointer or index is not valid, and nothing changed.
+    InvalidPtr,
+}
+
+impl<T> InvalidationOption<T> {
+    /// The value, whether or not the counter overflowed.
+    pub fn allow(self) -> T
+        ensures { result ≡ value_in self }
+    {
+        match self {
+            InvalidationOption::Success(t) => t,
+            InvalidationOption::GenerationOverflow(t) => t,
+        }
+    }
+
+    /// The value, and whether the counter overflowed.
+    pub fn overflowing(self) -> (T, bool)
+        ensures { result ≡ (value_in self, is_overflow self) }
+    {
+        match self {
+            InvalidationOption::Success(t) => (t, false),
+            InvalidationOption::GenerationOverflow(t) => (t, true),
+        }
+    }
+
+    /// The same answer with `f` of its value.
+    pub fn map<U, F: FnOnce(T) -> U>(self, f: F) -> InvalidationOption<U>
+        requires { F.pre f (value_in self) }
+        ensures value { F.post f (value_in self) (value_in result) }
+        ensures overflow { is_overflow result ≡ is_overflow self }
+    {
+        match self {
+            InvalidationOption::Success(t) => InvalidationOption::Success(f(t)),
+            InvalidationOption::GenerationOverflow(t) => InvalidationOption::GenerationOverflow(f(
+                t,
+            )),
+        }
+    }
+}
+
+impl<T> InvalidationResult<T> {
+    /// The value, whether or not the counter overflowed. `None` for `InvalidPtr`.
+    pub fn allow(self) -> Option<T>
+        ensures { result ≡ value_within self }
+    {
+        match self {
+            InvalidationResult::Success(t) => Some(t),
+            InvalidationResult::GenerationOverflow(t) => Some(t),
+            InvalidationResult::InvalidPtr => None,
+        }
+    }
+
+    /// The value, and whether the counter overflowed. `(None, false)` for `InvalidPtr`.
+    pub fn overflowing(self) -> (Option<T>, bool)
+        ensures { result ≡ (value_within self, is_overflow_result self) }
+    {
+        match self {
+            InvalidationResult::Success(t) => (Some(t), false),
+            InvalidationResult::GenerationOverflow(t) => (Some(t), true),
+            InvalidationResult::InvalidPtr => (None, false),
+        }
+    }
+
+    /// The same answer with `f` of its value. `InvalidPtr` stays, and `f` is not called.
+    pub fn map<U, F: FnOnce(T) -> U + Drop>(self, f: F) -> InvalidationResult<U>
+        requires { ForSome (value_within self) (F.pre f) }
+        ensures value { MatchOption (value_within self) (value_within result ≡ None) (λ t. IsSomeAnd (value_within result) (F.post f t)) }
+        ensures overflow { is_overflow_result result ≡ is_overflow_result self }
+    {
+        match self {
+            InvalidationResult::Success(t) => InvalidationResult::Success(f(t)),
+            InvalidationResult::GenerationOverflow(t) => InvalidationResult::GenerationOverflow(f(
+                t,
+            )),
+            InvalidationResult::InvalidPtr => InvalidationResult::InvalidPtr,
+        }
+    }
+}

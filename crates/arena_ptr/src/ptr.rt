@@ -1,0 +1,101 @@
+ghost use Rattle.std.specs.Prelude.{◌≡◌, ℕ, ◌^◌, ◌<◌, ◌≤◌, ◌↔◌, IsSome, IfSome, Some, Bool, true};
+
+use std::fmt;
+use std::fmt::Debug;
+use std::hash::Hash;
+
+/// An index into the slots of an arena: a number from 1 to the greatest of its type.
+///
+/// Carries `PtrInx` of `triple_arena`, over `usize` in place of `NonZeroUsize`.
+pub trait PtrInx: Copy + Eq + Ord + Hash + Debug {
+    ghost number: { Self → ℕ };
+
+    ghost greatest: { ℕ };
+
+    /// The greatest index of the type, at least 1 and below 2^64.
+    fn greatest() -> usize
+        ensures value { result ≡ greatest }
+        ensures some { 1 ≤ result };
+
+    /// The index of a number. `None` where the number is 0 or above the greatest.
+    fn try_from_usize(n: usize) -> Option<Self>
+        ensures variant { IsSome result ↔ ((1 ≤ n) × (n ≤ greatest)) }
+        ensures value { IfSome result (λ i. number i ≡ n) };
+
+    /// The number of the index. Each index has one, since a `usize` has 64 bits.
+    fn try_into_usize(self) -> Option<usize>
+        ensures { result ≡ Some (number self) };
+
+    /// Writes the number in lower-case hexadecimal, without a prefix, whatever the caller's format.
+    fn fmt_hex<W: fmt::Write>(self, f: &mut fmt::Formatter<W>) -> fmt::Result;
+
+    ghost greatest_fits: { greatest < 2 ^ 64 };
+
+    ghost at_least_one: { (i : Self) → 1 ≤ number i };
+
+    ghost at_most_greatest: { (i : Self) → number i ≤ greatest };
+
+    ghost same_number: { (i j : Self) → number i ≡ number j → i ≡ j };
+
+    ghost eq_is_same: { (i j : Self) → (Self.eq i j ≡ true) ↔ (i ≡ j) };
+}
+
+/// A generation, which tells the entries that stood at one index apart.
+///
+/// Carries `PtrGen` of `triple_arena`, with `fmt_gen` beside it.
+pub trait PtrGen: Copy + Eq + Ord + Hash + Debug {
+    ghost first: { Self };
+
+    ghost following: { Self → Self };
+
+    ghost wraps: { Self → Bool };
+
+    /// The first generation that an arena gives.
+    fn two() -> Self
+        ensures { result ≡ first };
+
+    /// The next generation and whether it overflowed: after the greatest comes two, and `true`.
+    fn generational_inc(self) -> (Self, bool)
+        ensures next { result.0 ≡ following self }
+        ensures overflow { result.1 ≡ wraps self };
+
+    /// Writes `(`, the generation in lower-case hexadecimal and `)`, whatever the caller's format.
+    /// Writes nothing for `()`.
+    fn fmt_gen<W: fmt::Write>(self, f: &mut fmt::Formatter<W>) -> fmt::Result;
+
+    ghost eq_is_same: { (g h : Self) → (Self.eq g h ≡ true) ↔ (g ≡ h) };
+}
+
+/// A pointer to an entry of an arena: the index at which the entry stands, and the generation that it has.
+///
+/// Two pointers are equal exactly if both parts are. Carries `Ptr` of `triple_arena`.
+pub trait Ptr: Copy + Eq + Ord + Hash + Debug {
+    type Inx: PtrInx;
+
+    type Gen: PtrGen;
+
+    ghost key: { Self → ℕ × Self.Gen };
+
+    /// The name of the pointer type, with which the text of a pointer begins.
+    fn name() -> &'static str;
+
+    /// A pointer to nothing yet: its index is 1, and its generation is 1 (or `()`), before any that an arena gives.
+    fn invalid() -> Self
+        ensures { (key result).0 ≡ 1 };
+
+    /// The index.
+    fn inx(self) -> Self::Inx
+        ensures { Self.Inx.number result ≡ (key self).0 };
+
+    /// The generation.
+    fn generation(self) -> Self::Gen
+        ensures { result ≡ (key self).1 };
+
+    /// The pointer of an index and a generation, whether or not an entry stands there.
+    fn _from_raw(inx: Self::Inx, generation: Self::Gen) -> Self
+        ensures { key result ≡ (Self.Inx.number inx, generation) };
+
+    ghost same_key: { (p q : Self) → key p ≡ key q → p ≡ q };
+
+    ghost eq_is_same: { (p q : Self) → (Self.eq p q ≡ true) ↔ (p ≡ q) };
+}

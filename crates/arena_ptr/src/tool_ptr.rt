@@ -1,0 +1,69 @@
+ghost use Rattle.std.specs.Prelude.{◌≡◌};
+
+use crate::generation::Gen32;
+use crate::index::Inx32;
+use crate::ptr::{Ptr, PtrGen, PtrInx};
+use std::fmt;
+
+/// The pointer type of the program: 32 bits of index, 32 bits of generation, and the name `P0`.
+///
+/// Its order is by index first, then by generation.
+#[derive(Clone, Copy, PartialEq, Eq, PartialOrd, Ord, Hash)]
+pub struct ToolPtr {
+    inx: Inx32,
+    generation: Gen32,
+}
+
+impl Ptr for ToolPtr {
+    ghost use Rattle.std.proofs.Common.{rules};
+    ghost use Rattle.arena_ptr.specs.Generations.{number_of_gen32};
+    ghost use Rattle.arena_ptr.specs.ToolPtr.{key_of, same_tool_ptr, eq_is_same};
+
+    type Inx = Inx32;
+
+    type Gen = Gen32;
+
+    ghost key = { key_of };
+
+    ghost same_key = { same_tool_ptr };
+
+    ghost eq_is_same = { eq_is_same };
+
+    fn name() -> &'static str {
+        "P0"
+    }
+
+    /// Index 1 and generation 1.
+    fn invalid() -> Self
+        ensures index { (key_of result).0 ≡ 1 }
+        ensures generation { number_of_gen32 (key_of result).1 ≡ 1 }
+    {
+        ToolPtr {
+            inx: Inx32::new(1).unwrap(),
+            generation: Gen32::new(1).unwrap(),
+        }
+    }
+
+    fn inx(self) -> Inx32 {
+        self.inx
+    }
+
+    fn generation(self) -> Gen32 {
+        self.generation
+    }
+
+    fn _from_raw(inx: Inx32, generation: Gen32) -> Self {
+        ToolPtr { inx, generation }
+    }
+}
+
+impl fmt::Debug for ToolPtr {
+    /// The name, the index in brackets and the generation in parentheses, in hexadecimal, as `P0[1](2)`.
+    fn fmt<W: fmt::Write>(&self, f: &mut fmt::Formatter<W>) -> fmt::Result {
+        f.write_str(Self::name())?;
+        f.write_str("[")?;
+        self.inx.fmt_hex(f)?;
+        f.write_str("]")?;
+        self.generation.fmt_gen(f)
+    }
+}
