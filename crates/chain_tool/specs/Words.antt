@@ -1,10 +1,9 @@
 -- Lines, words, numbers and pointers of a text. A text is its bytes: 10 ends a line, 32 parts words, 46 parts a pointer.
-use Rattle.std.specs.Prelude.{◌≡◌, ℕ, zero, suc, ◌≤◌, ◌-◌, ◌==◌, ◌&&◌, nat_lt, nat_le, Bool, true, false, if◌then◌else◌, List, [], ◌∷◌, length, take, slice_index, filter, Option, Some, None, option_and_then}
-use Rattle.std.specs.List.{slice_split}
+use Rattle.std.specs.Prelude.{◌≡◌, refl, ℕ, leb, ◌-◌, ◌==◌, ◌&&◌, nat_lt, nat_le, Bool, true, false, if◌then◌else◌, List, [], ◌∷◌, length, take, slice_index, filter, Option, Some, None, option_and_then}
+use Rattle.std.specs.List.{slice_split, before_first, after_first}
 use Rattle.std.specs.Str.{all_ascii_digits}
 use Rattle.std.specs.Str.Parse.{digits_value}
-use Rattle.std.specs.Option.{option_map}
-use Rattle.std.proofs.Common.{refl}
+use Rattle.std.proofs.lemmas.Bool.{leb-true}
 use Rattle.arena_ptr.specs.Numbers.{IsWithin}
 use Rattle.arena_ptr.specs.declared.index.Inx32.{Inx32}
 use Rattle.arena_ptr.specs.declared.generation.Gen32.{Gen32}
@@ -46,3 +45,39 @@ is_number word = nat_lt 0 (length word) && nat_le (length word) 10 && all_ascii_
 
 abbrev pub number_of : List ℕ → Option ℕ
 number_of word = if is_number word then Some (digits_value 10 word) else None
+
+-- what is made of a number from 1 to 4294967295, and nothing of any other
+module _ {A : Type 0} (make : (n : ℕ) → IsWithin 0xffff_ffff n → A) where
+  abbrev pub made_if : (n : ℕ) (low high : Bool) → leb 1 n ≡ low → leb n 0xffff_ffff ≡ high → Option A
+  made_if n true true at_least at_most = Some (make n (leb-true 1 n at_least, leb-true n 0xffff_ffff at_most))
+  made_if n true false at_least at_most = None
+  made_if n false high at_least at_most = None
+
+  abbrev pub made_of : ℕ → Option A
+  made_of n = made_if n (leb 1 n) (leb n 0xffff_ffff) refl refl
+
+abbrev pub index_at : (n : ℕ) → IsWithin 0xffff_ffff n → Inx32
+index_at n within = record { number = n; in_range = within }
+
+abbrev pub generation_at : (n : ℕ) → IsWithin 0xffff_ffff n → Gen32
+generation_at n within = record { number = n; in_range = within }
+
+-- the index of a number, from 1 on
+unfoldable pub index_of : ℕ → Option Inx32
+index_of n = made_of index_at n
+
+-- the generation of a number, from 1 on
+unfoldable pub generation_of : ℕ → Option Gen32
+generation_of n = made_of generation_at n
+
+abbrev pub pointer_with : Option Inx32 → Option Gen32 → Option ToolPtr
+pointer_with None generation = None
+pointer_with (Some index) None = None
+pointer_with (Some index) (Some generation) = Some (record { inx = index; generation = generation })
+
+abbrev pub is_dot : ℕ → Bool
+is_dot c = c == 46
+
+-- a pointer is an index, a dot and a generation
+abbrev pub pointer_of : List ℕ → Option ToolPtr
+pointer_of word = pointer_with (option_and_then index_of (number_of (before_first is_dot word))) (option_and_then generation_of (number_of (after_first is_dot word)))
