@@ -1,5 +1,6 @@
 #![tactic(auto)]
 
+mod command;
 mod words;
 
 fn main() {}
