@@ -1,3 +1,5 @@
 #![tactic(auto)]
 
+mod arena_base;
+
 fn main() {}
