@@ -80,3 +80,53 @@ prev_of-prev_set shown (Some i) v j valid = ⊎_elim
         subst (λ k. prev_of (prev_set shown (Some i) v) k ≡ v) (sym e) (ap prev_in (prev_set-at shown i v at_i.link at_i.shows)) ∙ sym (put-same (prev_of shown) i v j e))
     (λ ne. ap prev_in (if_other j i _ _ ne) ∙ sym (put-other (prev_of shown) i v j ne))
     (cases_eq j i)
+
+-- indexes that show the same are valid alike
+pub IsValid-same : (left right : Shown) (j : ℕ) → left j ≡ right j → IsValid left j ↔ IsValid right j
+IsValid-same left right j e =
+    (λ h. record { link = h.link; shows = sym e ∙ h.shows }, λ h. record { link = h.link; shows = e ∙ h.shows })
+
+-- a link that is changed is a link
+pub IsValid-changed : (left right : Shown) (change : Interlinks → Interlinks) (j : ℕ) → left j ≡ option_map change (right j) → IsValid left j ↔ IsValid right j
+IsValid-changed left right change j e =
+    (λ h. by (right j) refl (sym e ∙ h.shows), λ h. record { link = change h.link; shows = e ∙ ap (option_map change) h.shows })
+  where
+    by : {link : Interlinks} (o : Option Interlinks) → right j ≡ o → option_map change o ≡ Some link → IsValid right j
+    by None shows h = absurd (cc)
+    by (Some l) shows h = record { link = l; shows = shows }
+
+-- a write of `next` leaves no index invalid and makes none valid
+pub IsValid-next_set : (shown : Shown) (u v : Option ℕ) (j : ℕ) → IsValid (next_set shown u v) j ↔ IsValid shown j
+IsValid-next_set shown None v j = (λ h. h, λ h. h)
+IsValid-next_set shown (Some i) v j = ⊎_elim
+    (λ e. IsValid-changed (next_set shown (Some i) v) shown (with_next v) j (if_same j i _ _ e))
+    (λ ne. IsValid-same (next_set shown (Some i) v) shown j (if_other j i _ _ ne))
+    (cases_eq j i)
+
+-- nor does one of `prev`
+pub IsValid-prev_set : (shown : Shown) (u v : Option ℕ) (j : ℕ) → IsValid (prev_set shown u v) j ↔ IsValid shown j
+IsValid-prev_set shown None v j = (λ h. h, λ h. h)
+IsValid-prev_set shown (Some i) v j = ⊎_elim
+    (λ e. IsValid-changed (prev_set shown (Some i) v) shown (with_prev v) j (if_same j i _ _ e))
+    (λ ne. IsValid-same (prev_set shown (Some i) v) shown j (if_other j i _ _ ne))
+    (cases_eq j i)
+
+-- nor does linking
+pub IsValid-linked : (shown : Shown) (u v : Option ℕ) (j : ℕ) → IsValid (linked shown u v) j ↔ IsValid shown j
+IsValid-linked shown u v j =
+    let outer = IsValid-prev_set (next_set shown u v) v u j in
+    let inner = IsValid-next_set shown u v j in
+    (λ h. inner.0 (outer.0 h), λ h. outer.1 (inner.1 h))
+
+-- what comes after each index once v comes after u
+pub next_of-linked : (shown : Shown) (u v : Option ℕ) (j : ℕ) → IsValidAt shown u → next_of (linked shown u v) j ≡ put_at (next_of shown) u v j
+next_of-linked shown u v j valid = next_of-prev_set (next_set shown u v) v u j ∙ next_of-next_set shown u v j valid
+
+-- .. and what comes before each
+pub prev_of-linked : (shown : Shown) (u v : Option ℕ) (j : ℕ) → IsValidAt shown v → prev_of (linked shown u v) j ≡ put_at (prev_of shown) v u j
+prev_of-linked shown u v j valid =
+    prev_of-prev_set (next_set shown u v) v u j (λ i e. (IsValid-next_set shown u v i).1 (valid i e)) ∙ same v
+  where
+    same : (w : Option ℕ) → put_at (prev_of (next_set shown u v)) w u j ≡ put_at (prev_of shown) w u j
+    same None = prev_of-next_set shown u v j
+    same (Some i) = ap (λ o. if j == i then u else o) (prev_of-next_set shown u v j)
