@@ -1,5 +1,7 @@
 -- Lists of indexes: what they have, what is written one after another, and lists without repetition.
-use Rattle.std.proofs.Common.{◌≡◌, ◌≢◌, ◌↔◌, ℕ, zero, suc, ◌+◌, ◌<◌, ◌≤◌, ◌⊎◌, inl, inr, ⊎_elim, List, [], ◌∷◌, ◌++◌, length, Option, None, Some, refl, sym, ap, ◌∙◌, subst, append_assoc, append-nil, arith}
+use Rattle.std.proofs.Common.{◌≡◌, ◌≢◌, ◌↔◌, ℕ, zero, suc, ◌+◌, ◌<◌, ◌≤◌, ◌⊎◌, inl, inr, ⊎_elim, List, [], ◌∷◌, ◌++◌, length, Option, None, Some, refl, sym, ap, ◌∙◌, subst, Bool, true, false, ◌||◌, eqb, eqb-true, ne_eqb, arith}
+use Rattle.std.specs.List.{IsDistinct, AllByRecursion, list_any}
+use Rattle.std.proofs.lemmas.Map.Steps.{length-le_from_distinct_below}
 use Rattle.std.proofs.Math.Decide.{ℕ_discrete}
 use Rattle.chain_laws.specs.Chains.{Has, HasNoRepetition, first_or, last_or}
 
@@ -148,3 +150,37 @@ written_once (b ∷ before) after (o ∷ others) rest a once e =
     let tail : before ++ a ∷ after ≡ others ++ a ∷ rest = cc in
     let more = written_once before after others rest a once.1 tail in
     (cc more.0, more.1)
+
+-- numbers without repetition, each one as asked by an equality test
+distinct : (xs : List ℕ) → HasNoRepetition xs → IsDistinct eqb xs
+unfolding IsDistinct
+distinct [] once = tt
+distinct (x ∷ xs) once = (differs x xs once.0, distinct xs once.1)
+  where
+    differs : (x : ℕ) (xs : List ℕ) → (Has xs x → ⊥) → AllByRecursion (λ (y : ℕ). eqb x y ≡ false) xs
+    differs x [] apart = tt
+    differs x (y ∷ ys) apart = (ne_eqb x y (λ e. apart (inl (sym e))), differs x ys (λ h. apart (inr h)))
+
+-- what the search through a list finds, the list has
+any_Has : (xs : List ℕ) (q : ℕ) → list_any (eqb q) xs ≡ true → Has xs q
+any_Has [] q e = absurd (cc)
+any_Has (x ∷ xs) q e = by_test (eqb q x) refl e (any_Has xs q)
+  where
+    by_test : (b : Bool) → eqb q x ≡ b → (b || list_any (eqb q) xs) ≡ true → (list_any (eqb q) xs ≡ true → Has xs q) → Has (x ∷ xs) q
+    by_test true is t rest = inl (sym (eqb-true q x is))
+    by_test false is t rest = inr (rest t)
+
+-- at most n numbers without repetition stand from 1 to n
+pub length_bound : (xs : List ℕ) (n : ℕ) → HasNoRepetition xs → ((i : ℕ) → Has xs i → (1 ≤ i) × (i ≤ n)) → length xs ≤ n
+length_bound xs n once within =
+    let all = length-le_from_distinct_below (0 ∷ xs) (suc n) (distinct (0 ∷ xs) (zero_apart, once)) below in
+    let more : suc (length xs) ≤ suc n = all in
+    omega arith
+  where
+    zero_apart : Has xs 0 → ⊥
+    zero_apart h = let w = within 0 h in let low : 1 ≤ 0 = w.0 in omega arith
+    below_of : (q : ℕ) → Has (0 ∷ xs) q → q < suc n
+    below_of q (inl e) = omega arith
+    below_of q (inr h) = let w = within q h in let high : q ≤ n = w.1 in omega arith
+    below : (q : ℕ) → list_any (eqb q) (0 ∷ xs) ≡ true → q < suc n
+    below q e = below_of q (any_Has (0 ∷ xs) q e)
