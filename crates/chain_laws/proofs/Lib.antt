@@ -5,3 +5,4 @@ pub mod Linking
 pub mod Linked
 pub mod Joining
 pub mod Alone
+pub mod Walking
