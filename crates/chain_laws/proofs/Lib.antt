@@ -1,2 +1,4 @@
 pub mod Members
 pub mod Standing
+pub mod Unique
+pub mod Turning
