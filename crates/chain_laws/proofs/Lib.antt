@@ -1,5 +1,7 @@
 pub mod Members
 pub mod Standing
+pub mod Unique
+pub mod Turning
 pub mod Agreement
 pub mod Linking
 pub mod Linked
