@@ -7,8 +7,8 @@ use Rattle.chain_laws.specs.Neighbors.{AreNeighbors}
 use Rattle.chain_laws.specs.Operations.{joined, linked, AddsPair, Connects, AreEndAndStart}
 use Rattle.chain_laws.proofs.Agreement.{put, put-same, put-other, join_undoes, Undoes-at, one_some, not_both_ways}
 use Rattle.chain_laws.proofs.Linking.{next_of-linked, prev_of-linked, IsValidAt, IsValid-linked}
-use Rattle.chain_laws.proofs.Linked.{IsApart, IsApart-Some, Stands-glued, Stands-ringed, IsChain-linked, first_shared}
-use Rattle.chain_laws.proofs.Standing.{Stands-prev}
+use Rattle.chain_laws.proofs.Linked.{IsApart, IsApart-Some, Stands-glued, Stands-ringed, IsChain-linked}
+use Rattle.chain_laws.proofs.Unique.{chain_closed, reaches_first}
 use Rattle.chain_laws.proofs.Members.{Has-middle, Has-filled, HasNoRepetition-append, last_or-append}
 
 -- an index that is named as some index
@@ -52,17 +52,13 @@ joined_adds_a_pair shown a b ends =
         next_of-joined shown a b ends.valid_end i ∙ put-other (next_of shown) a (Some b) i ne ∙ e
     back i j (inr (s, t)) = next_of-joined shown a b ends.valid_end i ∙ put-same (next_of shown) a (Some b) i s ∙ ap Some (sym t)
 
--- a linear chain goes back to no index but its own
-linear_goes_back : (shown : Shown) (xs : List ℕ) (after : Option ℕ) → Stands shown None xs after → (i j : ℕ) → Has xs i → prev_of shown i ≡ Some j → Has xs j
-linear_goes_back shown xs after stands i j h e = ⊎_elim (λ k. k) (λ n. absurd (cc)) (Stands-prev shown None xs after i j stands h e)
-
 -- two chains become one, written one after the other
 pub joined_two : (shown : Shown) (a b : ℕ) (x y : List ℕ) → IsChain shown (linear (x ++ a ∷ [])) → IsChain shown (linear (b ∷ y)) → (Has (x ++ a ∷ []) b → ⊥)
     → IsChain (joined shown a b) (linear ((x ++ a ∷ []) ++ b ∷ y))
 joined_two shown a b x y left right none =
     let xs = x ++ a ∷ [] in
     let apart : (k : ℕ) → Has xs k → Has (b ∷ y) k → ⊥ = λ k h g.
-        none (first_shared shown xs (linear_goes_back shown xs None left.2) None b y None right.2 k g h) in
+        none (reaches_first shown (Has xs) None b y None k (chain_closed shown (linear xs) left) right.2 g h) in
     let ends : last_or xs None ≡ Some a = last_or-append x (a ∷ []) None in
     let glued : Stands (linked shown (last_or xs None) (Some b)) None (xs ++ b ∷ y) None =
         Stands-glued shown None xs None None (b ∷ y) None left.1 right.1

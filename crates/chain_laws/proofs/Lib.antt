@@ -8,3 +8,7 @@ pub mod Linked
 pub mod Joining
 pub mod Alone
 pub mod Walking
+pub mod Gathering
+pub mod Exists
+pub mod Passing
+pub mod Determined

@@ -1,7 +1,7 @@
 -- What linking does to lists that stand: one that it does not name stays, two become one, one closes to a ring.
 use Rattle.std.specs.Prelude.{◌≡◌, ◌≢◌, ◌↔◌, ℕ, ◌⊎◌, List, [], ◌∷◌, ◌++◌, Option, None, Some}
 use Rattle.std.proofs.Common.{sym, refl, ap, ◌∙◌, subst, inl, inr, ⊎_elim}
-use Rattle.chain_laws.specs.Chains.{Shown, Interlinks, Chain, linear, cyclic, items, IsChain, prev_in, prev_of, Has, HasNoRepetition, Stands, first_or, last_or}
+use Rattle.chain_laws.specs.Chains.{Shown, Interlinks, Chain, linear, cyclic, items, IsChain, Has, HasNoRepetition, Stands, first_or, last_or}
 use Rattle.chain_laws.specs.Operations.{with_prev, with_next, prev_set, next_set, linked}
 use Rattle.chain_laws.proofs.Members.{Has-left, Has-right, last_or-Has, first_or-Has}
 use Rattle.chain_laws.proofs.Standing.{Stands-frame, Stands-append}
@@ -89,11 +89,3 @@ IsChain-linked shown u v (cyclic xs) apart_u apart_v =
 -- an index that is named as some index is apart from what does not have it
 pub IsApart-Some : (i : ℕ) (xs : List ℕ) → (Has xs i → ⊥) → IsApart (Some i) xs
 IsApart-Some i xs none k e h = none (subst (Has xs) (sym (one_some e)) h)
-
--- an index that shows what stands in a list that a list goes back in, goes back to the list's first
-pub first_shared : (shown : Shown) (xs : List ℕ) → ((i j : ℕ) → Has xs i → prev_of shown i ≡ Some j → Has xs j)
-    → (before : Option ℕ) (y : ℕ) (ys : List ℕ) (after : Option ℕ) → Stands shown before (y ∷ ys) after → (k : ℕ) → Has (y ∷ ys) k → Has xs k → Has xs y
-first_shared shown xs back before y ys after stands k (inl e) h = subst (Has xs) (sym e) h
-first_shared shown xs back before y [] after stands k (inr g) h = elim g [ ]
-first_shared shown xs back before y (z ∷ zs) after stands k (inr g) h =
-    back z y (first_shared shown xs back (Some y) z zs after stands.1 k g h) (ap prev_in stands.1.0)

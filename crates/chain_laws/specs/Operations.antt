@@ -1,7 +1,7 @@
 -- What becomes of the interlinks and of the chains: a join, and a new link that stands alone.
 use Rattle.std.specs.Prelude.{◌≡◌, ◌↔◌, ℕ, ◌==◌, if◌then◌else◌, ◌⊎◌, List, [], ◌∷◌, ◌++◌, Option, None, Some}
 use Rattle.std.specs.Option.{option_map}
-use Rattle.chain_laws.specs.Chains.{Shown, Interlinks, Chain, linear, cyclic, items, Has, IsChain, IsValid, Agrees, first_or, last_or, prev_of, next_of}
+use Rattle.chain_laws.specs.Chains.{Shown, Interlinks, Chain, linear, cyclic, items, Has, IsChain, IsValid, IsWithin, Agrees, first_or, last_or, prev_of, next_of}
 use Rattle.chain_laws.specs.Neighbors.{AreNeighbors}
 
 abbrev pub with_prev : Option ℕ → Interlinks → Interlinks
@@ -83,3 +83,21 @@ LoneAgrees = (shown : Shown) (q : ℕ) → shown q ≡ None → Agrees shown →
 -- .. and it comes to the chains
 abbrev pub LoneAdds : Type 0
 LoneAdds = (shown : Shown) (q : ℕ) → shown q ≡ None → AddsLone shown (with_lone shown q) q
+
+-- the same chains stand in both
+abbrev pub HaveSameChains : Shown → Shown → Type 0
+HaveSameChains left right = (c : Chain) → IsChain left c ↔ IsChain right c
+
+-- two arenas that agree and have the same chains show the same
+abbrev pub ChainsDecide : Type 0
+ChainsDecide = (left right : Shown) (slots : ℕ) → Agrees left → Agrees right → IsWithin left slots → IsWithin right slots
+    → HaveSameChains left right → left ≡ right
+
+-- what connects an end and a start has the chains of their join, and no others
+abbrev pub ConnectsAsAJoin : Type 0
+ConnectsAsAJoin = (old new : Shown) (slots a b : ℕ) → Agrees old → IsWithin old slots → AreEndAndStart old a b
+    → Connects old new a b → HaveSameChains new (joined old a b)
+
+-- what adds a link that stands alone has the chains with it, and no others
+abbrev pub AddsAsALone : Type 0
+AddsAsALone = (old new : Shown) (q : ℕ) → old q ≡ None → AddsLone old new q → HaveSameChains new (with_lone old q)
