@@ -2,3 +2,5 @@ pub mod Members
 pub mod Standing
 pub mod Unique
 pub mod Turning
+pub mod Gathering
+pub mod Exists
