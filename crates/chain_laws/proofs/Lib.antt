@@ -4,3 +4,5 @@ pub mod Unique
 pub mod Turning
 pub mod Gathering
 pub mod Exists
+pub mod Neighboring
+pub mod Partitions
