@@ -1,7 +1,7 @@
 -- What becomes of the interlinks and of the chains: a join, and a new link that stands alone.
 use Rattle.std.specs.Prelude.{◌≡◌, ◌↔◌, ℕ, ◌==◌, if◌then◌else◌, ◌⊎◌, List, [], ◌∷◌, ◌++◌, Option, None, Some}
 use Rattle.std.specs.Option.{option_map}
-use Rattle.chain_laws.specs.Chains.{Shown, Interlinks, Chain, linear, cyclic, items, Has, IsChain, IsValid, first_or, last_or}
+use Rattle.chain_laws.specs.Chains.{Shown, Interlinks, Chain, linear, cyclic, items, Has, IsChain, IsValid, IsWithin, Agrees, first_or, last_or, prev_of, next_of}
 use Rattle.chain_laws.specs.Neighbors.{AreNeighbors}
 
 abbrev pub with_prev : Option ℕ → Interlinks → Interlinks
@@ -56,3 +56,48 @@ pub record AddsLone (old new : Shown) (q : ℕ) : Type 0 where
   pub rest : (c : Chain) → (Has (items c) q → ⊥) → IsChain old c ↔ IsChain new c
   pub pairs : (i j : ℕ) → AreNeighbors new i j ↔ AreNeighbors old i j
   pub links : (i : ℕ) → IsValid new i ↔ (IsValid old i ⊎ (i ≡ q))
+
+-- a is the end of a linear chain, and b the start of one, maybe of the same
+pub record AreEndAndStart (shown : Shown) (a b : ℕ) : Type 0 where
+  pub valid_end : IsValid shown a
+  pub valid_start : IsValid shown b
+  pub end : next_of shown a ≡ None
+  pub start : prev_of shown b ≡ None
+
+-- after a join of an end and a start the interlinks still agree ..
+abbrev pub JoinAgrees : Type 0
+JoinAgrees = (shown : Shown) (a b : ℕ) → Agrees shown → AreEndAndStart shown a b → Agrees (joined shown a b)
+
+-- .. the pair is added and no other ..
+abbrev pub JoinAddsAPair : Type 0
+JoinAddsAPair = (shown : Shown) (a b : ℕ) → AreEndAndStart shown a b → AddsPair shown (joined shown a b) a b
+
+-- .. and the chains are connected, all cases
+abbrev pub JoinConnects : Type 0
+JoinConnects = (shown : Shown) (a b : ℕ) → Connects shown (joined shown a b) a b
+
+-- with a new link that stands alone the interlinks still agree ..
+abbrev pub LoneAgrees : Type 0
+LoneAgrees = (shown : Shown) (q : ℕ) → shown q ≡ None → Agrees shown → Agrees (with_lone shown q)
+
+-- .. and it comes to the chains
+abbrev pub LoneAdds : Type 0
+LoneAdds = (shown : Shown) (q : ℕ) → shown q ≡ None → AddsLone shown (with_lone shown q) q
+
+-- the same chains stand in both
+abbrev pub HaveSameChains : Shown → Shown → Type 0
+HaveSameChains left right = (c : Chain) → IsChain left c ↔ IsChain right c
+
+-- two arenas that agree and have the same chains show the same
+abbrev pub ChainsDecide : Type 0
+ChainsDecide = (left right : Shown) (slots : ℕ) → Agrees left → Agrees right → IsWithin left slots → IsWithin right slots
+    → HaveSameChains left right → left ≡ right
+
+-- what connects an end and a start has the chains of their join, and no others
+abbrev pub ConnectsAsAJoin : Type 0
+ConnectsAsAJoin = (old new : Shown) (slots a b : ℕ) → Agrees old → IsWithin old slots → AreEndAndStart old a b
+    → Connects old new a b → HaveSameChains new (joined old a b)
+
+-- what adds a link that stands alone has the chains with it, and no others
+abbrev pub AddsAsALone : Type 0
+AddsAsALone = (old new : Shown) (q : ℕ) → old q ≡ None → AddsLone old new q → HaveSameChains new (with_lone old q)

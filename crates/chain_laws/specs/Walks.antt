@@ -1,6 +1,6 @@
 -- The walk from a link through its chain.
-use Rattle.std.specs.Prelude.{◌≡◌, ℕ, zero, suc, ◌==◌, if◌then◌else◌, List, [], ◌∷◌, ◌++◌, reverse, Option, None, Some}
-use Rattle.chain_laws.specs.Chains.{Shown, Chain, linear, cyclic, IsChain, IsValid, IsWithin, Agrees, prev_of, next_of}
+use Rattle.std.specs.Prelude.{◌≡◌, ◌↔◌, ℕ, zero, suc, ◌==◌, if◌then◌else◌, List, [], ◌∷◌, ◌++◌, reverse, Option, None, Some}
+use Rattle.chain_laws.specs.Chains.{Shown, Chain, linear, cyclic, items, Has, HasNoRepetition, IsChain, IsValid, IsWithin, Agrees, prev_of, next_of}
 
 -- from i: in a linear chain on to the end, and then from the link before i back to the start; in a cyclic one once round
 pub data IsWalk (shown : Shown) (i : ℕ) : List ℕ → Type 0 where
@@ -32,3 +32,12 @@ WalksAhead = (shown : Shown) (slots i : ℕ) → Agrees shown → IsWithin shown
 -- there is one walk from a link
 abbrev pub HasNoOtherWalk : Type 0
 HasNoOtherWalk = (shown : Shown) (i : ℕ) (walk other : List ℕ) → IsWalk shown i walk → IsWalk shown i other → walk ≡ other
+
+-- a walk passes no link twice ..
+abbrev pub PassesEachOnce : Type 0
+PassesEachOnce = (shown : Shown) (i : ℕ) (walk : List ℕ) → IsWalk shown i walk → HasNoRepetition walk
+
+-- .. and passes the links of its chain and no others
+abbrev pub PassesTheChain : Type 0
+PassesTheChain = (shown : Shown) (i : ℕ) (walk : List ℕ) (c : Chain) → IsWalk shown i walk → IsChain shown c → Has (items c) i
+    → (j : ℕ) → Has walk j ↔ Has (items c) j

@@ -1,1 +1,33 @@
-// What a join and a new lone link do to the chains.
+//! What a join and a new lone link do to the interlinks and to the chains.
+
+ghost use Rattle.chain_laws.specs.Operations.{JoinAgrees, JoinAddsAPair, JoinConnects, LoneAgrees, LoneAdds};
+
+/// Where an end and a start are joined, of two chains or of one, the interlinks still agree.
+pub fn join_agrees()
+    ensures { JoinAgrees }
+{
+}
+
+/// A join adds one neighbour pair, and changes nothing else.
+pub fn join_adds_a_pair()
+    ensures { JoinAddsAPair }
+{
+}
+
+/// A join writes two chains as one, or closes one chain to a cyclic one, and every other chain stays.
+pub fn join_connects()
+    ensures { JoinConnects }
+{
+}
+
+/// With a new link that stands alone the interlinks still agree.
+pub fn lone_agrees()
+    ensures { LoneAgrees }
+{
+}
+
+/// A new link that stands alone is a chain of its own, and every other chain stays.
+pub fn lone_adds()
+    ensures { LoneAdds }
+{
+}

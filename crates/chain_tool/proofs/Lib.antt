@@ -1,2 +1,3 @@
+pub mod Slotting
 pub mod WordLemmas
 pub mod Pointers

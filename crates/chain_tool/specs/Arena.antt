@@ -1,6 +1,7 @@
 -- The state of a generational arena, as contracts see it.
 use Rattle.std.specs.Prelude.{◌≡◌, ℕ, zero, suc, ◌+◌, List, [], ◌∷◌, ◌++◌, length, count_by, is_some, slice_index_or, slice_set, Option, None, Some}
 use Rattle.std.specs.Option.{option_map}
+use Rattle.std.specs.Borrow.{Bor}
 
 -- At each slot the entry there, a generation and a value, if one stands there; slot k has the index k + 1.
 -- An insertion takes the counter as its generation. The capacity is how many entries fit without growth.
@@ -10,6 +11,10 @@ pub record Arena (Gen T : Type 0) : Type 0 where
   pub capacity : ℕ
 
 module _ {Gen T : Type 0} where
+  -- an entry as a look at it shows it
+  abbrev pub seen_entry : Gen × Bor T → Gen × T
+  seen_entry e = (e.0, e.1.now)
+
   -- the entry at an index: no index is 0
   abbrev pub entry_in : List (Option (Gen × T)) → ℕ → Option (Gen × T)
   entry_in slots zero = None

@@ -1,4 +1,5 @@
 pub mod Arena
 pub mod ChainArena
+pub mod Slots
 pub mod Words
 pub mod Commands

@@ -1,5 +1,6 @@
 #![tactic(auto)]
 
+mod arena_base;
 mod command;
 mod words;
 

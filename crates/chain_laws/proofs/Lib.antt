@@ -1,0 +1,16 @@
+pub mod Members
+pub mod Standing
+pub mod Unique
+pub mod Turning
+pub mod Gathering
+pub mod Exists
+pub mod Neighboring
+pub mod Partitions
+pub mod Agreement
+pub mod Linking
+pub mod Linked
+pub mod Joining
+pub mod Alone
+pub mod Walking
+pub mod Passing
+pub mod Determined

@@ -1,0 +1,5 @@
+use Rattle.chain_laws.proofs.Passing.{walk_once}
+use Rattle.chain_laws.proofs.walks.walk_passes_each_once.Goals as goal
+
+pub returns : goal.returns
+returns c = walk_once

@@ -1,0 +1,5 @@
+use Rattle.chain_laws.proofs.Passing.{walk_has}
+use Rattle.chain_laws.proofs.walks.walk_passes_the_chain.Goals as goal
+
+pub returns : goal.returns
+returns c = walk_has
