@@ -1,3 +1,4 @@
 pub mod Slotting
 pub mod WordLemmas
 pub mod Pointers
+pub mod AnswerLemmas

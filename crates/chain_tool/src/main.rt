@@ -1,7 +1,10 @@
 #![tactic(auto)]
 
 mod arena_base;
+mod answer;
+mod chain_arena;
 mod command;
+mod text;
 mod words;
 
 fn main() {}
