@@ -2,3 +2,4 @@ pub mod Slotting
 pub mod WordLemmas
 pub mod Pointers
 pub mod AnswerLemmas
+pub mod Feeding

@@ -1,7 +1,12 @@
 //! A run: lines come in from a reader, and their answers go out to a writer.
-ghost use Rattle.std.specs.Prelude.{◌≡◌, ℕ, List, ◌∷◌, [], ◌++◌, OnOk, OnErr, IfErr, take, string_bytes};
-ghost use Rattle.std.specs.Io.KnownBytes.{Appends, Consumes, Keeps};
+ghost use Rattle.std.specs.Prelude.{◌≡◌, ℕ, List, ◌∷◌, [], ◌++◌, OnOk, OnErr, IfErr, take, length, Option};
+ghost use Rattle.std.specs.Io.KnownBytes.{Appends};
+ghost use Rattle.chain_tool.specs.Answers.{Links};
+ghost use Rattle.chain_tool.specs.Progress.{AnswersOne, Progress, Comes};
 
+use crate::answer::answer;
+use crate::chain_arena::ChainArena;
+use arena_ptr::ToolPtr;
 use std::io::{ErrorKind, Read, Write};
 
 /// Why a run stopped before the end of its input.
@@ -38,4 +43,51 @@ fn put<W: Write>(writer: &mut W, text: &[u8]) -> Result<(), ToolError>
         }
     }
     Err(ToolError::Write)
+}
+
+/// Carries out a line, and gives its answer to the writer.
+fn reply<W: Write>(arena: &mut ChainArena<ToolPtr, u32>, line: &[u8], text: &mut String, writer: &mut W) -> Result<(), ToolError>
+    ensures { AnswersOne result arena.old arena.new line.now (W.contents writer.old) (W.contents writer.new) }
+{
+    match answer(arena, line, text) {
+        Ok(()) => put(writer, text.as_bytes()),
+        Err(_) => Err(ToolError::Memory),
+    }
+}
+
+/// Keeps one more byte of an unfinished line, up to 201 bytes.
+fn keep(line: &mut Vec<u8>, byte: u8) -> Result<(), ToolError>
+    ensures ok { OnOk result ((rest : List ℕ) → line.old.items ≡ take 201 rest → line.new.items ≡ take 201 (rest ++ byte ∷ [])) }
+    ensures error { IfErr result (λ e. e ≡ ToolError.Memory) }
+{
+    if line.len() > 200 {
+        return Ok(());
+    }
+    match line.push(byte) {
+        Ok(()) => Ok(()),
+        Err(_) => Err(ToolError::Memory),
+    }
+}
+
+/// Answers the lines that a piece of the input ends, and keeps what it has of the next.
+fn feed<W: Write>(
+    arena: &mut ChainArena<ToolPtr, u32>,
+    piece: &[u8],
+    line: &mut Vec<u8>,
+    text: &mut String,
+    writer: &mut W,
+) -> Result<(), ToolError>
+    ensures { (old : Links) (read : List ℕ) (held : Option (List ℕ)) →
+        Progress old read arena.old line.old.items held (W.contents writer.old) →
+        Comes result old (read ++ piece.now) arena.new line.new.items held (W.contents writer.new) }
+{
+    for byte in piece {
+        if *byte == b'\n' {
+            reply(arena, line, text, writer)?;
+            line.clear();
+        } else {
+            keep(line, *byte)?;
+        }
+    }
+    Ok(())
 }
