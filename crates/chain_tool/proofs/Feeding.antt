@@ -1,5 +1,5 @@
 -- Lemmas on lines that come byte by byte.
-use Rattle.std.proofs.Common.{◌≡◌, ℕ, suc, ◌+◌, ◌<◌, ◌≤◌, ◌==◌, Bool, true, false, nat_lt, cond, List, [], ◌∷◌, ◌++◌, length, take, refl, sym, ap, ◌∙◌, subst, length-append, arith, rules}
+use Rattle.std.proofs.Common.{◌≡◌, ℕ, suc, ◌+◌, ◌<◌, ◌≤◌, ◌==◌, Bool, true, false, nat_lt, cond, List, [], ◌∷◌, ◌++◌, length, take, refl, sym, ap, ◌∙◌, subst, length-append, append_assoc, append-nil, arith, rules}
 use Rattle.std.proofs.lemmas.List.{take_all, take-append-le, length-take}
 use Rattle.std.proofs.lemmas.Grind.{common_steps}
 use Rattle.std.specs.List.{slice_split, onto_first}
@@ -109,3 +109,20 @@ pub all_but_last-append : (lines : List (List ℕ)) (rest : List ℕ) → all_bu
 all_but_last-append [] rest = refl
 all_but_last-append (line ∷ []) rest = refl
 all_but_last-append (line ∷ next ∷ lines) rest = ap (λ l. line ∷ l) (all_but_last-append (next ∷ lines) rest)
+
+-- lines that were ended stay, whatever more is read
+pub lines_of-more : (more text : List ℕ) (lines : List (List ℕ)) (rest : List ℕ) → lines_of text ≡ lines ++ rest ∷ [] → (others : List (List ℕ)) × (lines_of (text ++ more) ≡ lines ++ others)
+lines_of-more [] text lines rest cut = (rest ∷ [], ap lines_of (append-nil text) ∙ cut)
+lines_of-more (c ∷ more) text lines rest cut = by_test (c == 10) refl (λ lines rest. lines_of-more more (text ++ c ∷ []) lines rest)
+  where
+    end_is : (c == 10) ≡ true → c ≡ 10
+    end_is e = search rules
+
+    by_test : (b : Bool) → (c == 10) ≡ b
+        → ((lines : List (List ℕ)) (rest : List ℕ) → lines_of (text ++ c ∷ []) ≡ lines ++ rest ∷ [] → (others : List (List ℕ)) × (lines_of ((text ++ c ∷ []) ++ more) ≡ lines ++ others))
+        → (others : List (List ℕ)) × (lines_of (text ++ c ∷ more) ≡ lines ++ others)
+    by_test true e on = (rest ∷ lines_of more,
+      ap (λ d. lines_of (text ++ d ∷ more)) (end_is e) ∙ lines_of-end text more ∙ ap (λ l. l ++ lines_of more) cut ∙ append_assoc lines (rest ∷ []) (lines_of more))
+    by_test false e on =
+        let found = on lines (rest ++ c ∷ []) (cut-on text c lines rest e cut) in
+        (found.0, ap lines_of (sym (append_assoc text (c ∷ []) more)) ∙ found.1)

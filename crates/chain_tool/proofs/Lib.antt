@@ -3,3 +3,4 @@ pub mod WordLemmas
 pub mod Pointers
 pub mod AnswerLemmas
 pub mod Feeding
+pub mod Coming
