@@ -23,7 +23,7 @@ Answers-more old mid new (first ∷ lines) line text more answers next =
       ap (λ t. t ++ more) answers.5 ∙ append_assoc answers.1 answers.2 more)
 
 -- what an answer to what is kept is, is an answer to the line
-of_kept : (old new : Links) (kept rest text : List ℕ) → kept ≡ take 201 rest → AnswersLine old (line_of kept) text new → AnswersLine old (line_of rest) text new
+pub of_kept : (old new : Links) (kept rest text : List ℕ) → kept ≡ take 201 rest → AnswersLine old (line_of kept) text new → AnswersLine old (line_of rest) text new
 of_kept old new kept rest text keeps answers = subst (λ l. AnswersLine old l text new) (ap line_of keeps ∙ line_of-take rest) answers
 
 module _ (old mid new : Links) (read kept : List ℕ) (held held_mid held_after : Option (List ℕ)) (come : Progress old read mid kept held held_mid) where

@@ -4,3 +4,4 @@ pub mod Pointers
 pub mod AnswerLemmas
 pub mod Feeding
 pub mod Coming
+pub mod Ending

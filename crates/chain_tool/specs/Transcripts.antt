@@ -1,7 +1,9 @@
 -- What the program answers to all that it reads, and how far it comes where reading, writing or memory fails.
-use Rattle.std.specs.Prelude.{◌≡◌, ℕ, List, [], ◌∷◌, ◌++◌, Option}
+use Rattle.std.specs.Prelude.{◌≡◌, ℕ, List, [], ◌∷◌, ◌++◌, Option, Result, Ok, Err}
 use Rattle.std.specs.Io.KnownBytes.{Consumes, Appends, IsAtEnd}
 use Rattle.arena_ptr.specs.Generations.{two32}
+use Rattle.chain_tool.specs.declared.run.ToolError.{ToolError}
+use Rattle.chain_tool.specs.declared.run.ToolError.TheVariants as errors
 use Rattle.chain_tool.specs.Words.{lines_of, whole_lines}
 use Rattle.chain_tool.specs.Commands.{line_of}
 use Rattle.chain_tool.specs.Answers.{Links, AnswersLine}
@@ -61,3 +63,10 @@ pub record StopsForMemory (old new : Links) (left left_after held held_after : O
   pub reads : Consumes left left_after read
   pub writes : Appends held held_after text
   pub answers : IsGivenUp old new (lines_of read) text
+
+-- how a run ends, by its result
+abbrev pub Ends : {A : Type 0} → Result A ToolError → Links → Links → Option (List ℕ) → Option (List ℕ) → Option (List ℕ) → Option (List ℕ) → Type 0
+Ends (Ok x) old new left left_after held held_after = AnswersAll old new left left_after held held_after
+Ends (Err errors.Read) old new left left_after held held_after = StopsReading old new left left_after held held_after
+Ends (Err errors.Write) old new left left_after held held_after = StopsWriting old new left left_after held held_after
+Ends (Err errors.Memory) old new left left_after held held_after = StopsForMemory old new left left_after held held_after

@@ -1,12 +1,14 @@
 //! A run: lines come in from a reader, and their answers go out to a writer.
-ghost use Rattle.std.specs.Prelude.{◌≡◌, ℕ, List, ◌∷◌, [], ◌++◌, OnOk, OnErr, IfErr, take, length, Option};
-ghost use Rattle.std.specs.Io.KnownBytes.{Appends};
+ghost use Rattle.std.specs.Prelude.{◌≡◌, ℕ, List, ◌∷◌, [], ◌++◌, OnOk, OnErr, IfErr, take, length, Option, IfOk, ◌<◌, ◌≤◌, vec_len};
+ghost use Rattle.std.specs.Io.KnownBytes.{Appends, Consumes, Keeps, IsAtEnd};
 ghost use Rattle.chain_tool.specs.Answers.{Links};
 ghost use Rattle.chain_tool.specs.Progress.{AnswersOne, Progress, Comes};
+ghost use Rattle.chain_tool.specs.Transcripts.{IsNew, Ends};
 
 use crate::answer::answer;
 use crate::chain_arena::ChainArena;
 use arena_ptr::ToolPtr;
+use std::alloc::Global;
 use std::io::{ErrorKind, Read, Write};
 
 /// Why a run stopped before the end of its input.
@@ -90,4 +92,95 @@ fn feed<W: Write>(
         }
     }
     Ok(())
+}
+
+/// Flushes a writer.
+fn flush<W: Write>(writer: &mut W) -> Result<(), ToolError>
+    ensures kept { Keeps (W.contents writer.old) (W.contents writer.new) }
+    ensures error { IfErr result (λ e. e ≡ ToolError.Write) }
+{
+    match writer.flush() {
+        Ok(()) => Ok(()),
+        Err(_) => Err(ToolError::Write),
+    }
+}
+
+/// Reads a piece of the input: how many bytes came, none only at the end.
+fn read_piece<R: Read>(reader: &mut R, piece: &mut [u8]) -> Result<usize, ToolError>
+    ensures bound { IfOk result (λ n. n ≤ length piece.new) }
+    ensures bytes { IfOk result (λ n. Consumes (R.remaining reader.old) (R.remaining reader.new) (take n piece.new)) }
+    ensures end { IfOk result (λ n. n ≡ 0 → 0 < length piece.new → IsAtEnd (R.remaining reader.new)) }
+    ensures err { OnErr result (Keeps (R.remaining reader.old) (R.remaining reader.new)) }
+    ensures error { IfErr result (λ e. e ≡ ToolError.Read) }
+{
+    match reader.read(piece) {
+        Ok(n) => Ok(n),
+        Err(_) => Err(ToolError::Read),
+    }
+}
+
+/// Answers the last line, which no line feed ended.
+fn finish<W: Write>(arena: &mut ChainArena<ToolPtr, u32>, line: &[u8], text: &mut String, writer: &mut W) -> Result<(), ToolError>
+    ensures { AnswersOne result arena.old arena.new line.now (W.contents writer.old) (W.contents writer.new) }
+{
+    reply(arena, line, text, writer)?;
+    flush(writer)
+}
+
+/// Room for a piece of the input.
+fn room(alloc: Global) -> Result<Vec<u8>, ToolError>
+    ensures some { IfOk result (λ piece. 0 < vec_len piece) }
+    ensures error { IfErr result (λ e. e ≡ ToolError.Memory) }
+{
+    match vec![in alloc; 0u8; 65536] {
+        Ok(piece) => Ok(piece),
+        Err(_) => Err(ToolError::Memory),
+    }
+}
+
+/// Carries out the lines of a reader, piece by piece.
+fn run_pieces<R: Read, W: Write>(
+    alloc: Global,
+    arena: &mut ChainArena<ToolPtr, u32>,
+    reader: &mut R,
+    writer: &mut W,
+    piece: &mut [u8],
+) -> Result<(), ToolError>
+    requires { 0 < length piece.old }
+    ensures { Ends result arena.old arena.new (R.remaining reader.old) (R.remaining reader.new) (W.contents writer.old) (W.contents writer.new) }
+{
+    let mut line = Vec::new(alloc);
+    let mut text = String::new(alloc);
+    for _ in 0..u64::MAX {
+        flush(writer)?;
+        let n = read_piece(reader, piece)?;
+        if n == 0 {
+            return finish(arena, &line, &mut text, writer);
+        }
+        feed(arena, &piece[..n], &mut line, &mut text, writer)?;
+    }
+    Err(ToolError::Read)
+}
+
+/// Carries out the lines of a reader on an arena, and gives their answers to a writer, which is flushed before each
+/// read.
+pub fn run_on<R: Read, W: Write>(
+    alloc: Global,
+    arena: &mut ChainArena<ToolPtr, u32>,
+    reader: &mut R,
+    writer: &mut W,
+) -> Result<(), ToolError>
+    ensures { Ends result arena.old arena.new (R.remaining reader.old) (R.remaining reader.new) (W.contents writer.old) (W.contents writer.new) }
+{
+    let mut piece = room(alloc)?;
+    run_pieces(alloc, arena, reader, writer, &mut piece)
+}
+
+/// Carries out the lines of a reader on an empty arena.
+pub fn run<R: Read, W: Write>(alloc: Global, reader: &mut R, writer: &mut W) -> Result<(), ToolError>
+    ensures { (old : Links) × (new : Links) × IsNew old
+        × Ends result old new (R.remaining reader.old) (R.remaining reader.new) (W.contents writer.old) (W.contents writer.new) }
+{
+    let mut arena = ChainArena::new(alloc);
+    run_on(alloc, &mut arena, reader, writer)
 }
