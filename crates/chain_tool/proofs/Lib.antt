@@ -1,1 +1,3 @@
+pub mod Relinking
+pub mod Seeing
 pub mod Slotting

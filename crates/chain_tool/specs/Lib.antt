@@ -1,3 +1,4 @@
 pub mod Arena
 pub mod ChainArena
+pub mod Links
 pub mod Slots

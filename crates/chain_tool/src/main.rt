@@ -1,5 +1,6 @@
 #![tactic(auto)]
 
 mod arena_base;
+mod chain_arena;
 
 fn main() {}
