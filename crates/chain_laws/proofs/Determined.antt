@@ -3,7 +3,7 @@ use Rattle.std.specs.Prelude.{◌≡◌, ◌≢◌, ◌↔◌, ℕ, ◌⊎◌, L
 use Rattle.std.proofs.Common.{sym, refl, ap, ◌∙◌, subst, inl, inr, ⊎_elim}
 use mathlib.Core.Path.{fun_ext}
 use Rattle.chain_laws.specs.Chains.{Shown, Interlinks, Chain, linear, cyclic, items, IsChain, IsValid, IsWithin, Agrees, Has, HasNoRepetition, Stands, prev_in, next_in, prev_of, next_of, first_or, last_or}
-use Rattle.chain_laws.specs.Operations.{joined, with_lone, Connects, AddsLone, AreEndAndStart, HaveSameChains, ChainsDecide, ConnectsAsAJoin, AddsAsALone}
+use Rattle.chain_laws.specs.Operations.{joined, with_lone, Connects, AddsLone, AreEndAndStart, HaveSameChains, ChainsDecide, JoinIsDetermined, LoneIsDetermined}
 use Rattle.chain_laws.proofs.Members.{Has-left, Has-right, Has-middle, Has-written, Has-or_not, first_or-filled, last_or-filled, last_or-append}
 use Rattle.chain_laws.proofs.Standing.{Stands-at, shows_next, shows_prev}
 use Rattle.chain_laws.proofs.Unique.{chains_share, not_both, one_linear, one_cyclic}
@@ -101,8 +101,8 @@ connected_alike old left right a b d l r in_left in_right has_a has_b c chain = 
     by (inr none_a) (inr none_b) = (r.rest c none_a none_b).0 ((l.rest c none_a none_b).1 chain)
 
 -- what connects an end and a start has the chains of their join
-pub connects_as_a_join : ConnectsAsAJoin
-connects_as_a_join old new slots a b agrees within ends connects c =
+pub join_is_determined : JoinIsDetermined
+join_is_determined old new slots a b agrees within ends connects c =
     let x = end_chain old a (has_chain old slots agrees within a ends.valid_end) ends.end in
     let y = start_chain old b (has_chain old slots agrees within b ends.valid_start) ends.start in
     let d = connected_chain old a b x.0 y.0 x.1 y.1 in
@@ -121,8 +121,8 @@ added_alike old left right q l r c chain = by (Has-or_not (items c) q)
     by (inr none) = (r.rest c none).0 ((l.rest c none).1 chain)
 
 -- what adds a link that stands alone has the chains with it
-pub adds_as_a_lone : AddsAsALone
-adds_as_a_lone old new q free adds c =
+pub lone_is_determined : LoneIsDetermined
+lone_is_determined old new q free adds c =
     let lone = with_lone_adds old q free in
     (added_alike old new (with_lone old q) q adds lone c, added_alike old (with_lone old q) new q lone adds c)
 

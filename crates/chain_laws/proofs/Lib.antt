@@ -14,3 +14,4 @@ pub mod Alone
 pub mod Walking
 pub mod Passing
 pub mod Determined
+pub mod OperationRows

@@ -1,6 +1,6 @@
 //! What a join and a new lone link do to the interlinks and to the chains.
 
-ghost use Rattle.chain_laws.specs.Operations.{JoinAgrees, JoinAddsAPair, JoinConnects, LoneAgrees, LoneAdds};
+ghost use Rattle.chain_laws.specs.Operations.{JoinAgrees, JoinAddsAPair, JoinConnects, JoinIsDetermined, LoneAgrees, LoneAdds, LoneIsDetermined, ChainsDecide};
 
 /// Where an end and a start are joined, of two chains or of one, the interlinks still agree.
 pub fn join_agrees()
@@ -20,6 +20,12 @@ pub fn join_connects()
 {
 }
 
+/// Whatever connects an end and a start in this way has the chains of their join, and no others.
+pub fn join_is_determined()
+    ensures { JoinIsDetermined }
+{
+}
+
 /// With a new link that stands alone the interlinks still agree.
 pub fn lone_agrees()
     ensures { LoneAgrees }
@@ -29,5 +35,17 @@ pub fn lone_agrees()
 /// A new link that stands alone is a chain of its own, and every other chain stays.
 pub fn lone_adds()
     ensures { LoneAdds }
+{
+}
+
+/// Whatever adds a link in this way has the chains with it, and no others.
+pub fn lone_is_determined()
+    ensures { LoneIsDetermined }
+{
+}
+
+/// Two arenas whose interlinks agree and that have the same chains show the same interlinks.
+pub fn chains_decide()
+    ensures { ChainsDecide }
 {
 }
