@@ -3,9 +3,10 @@ use Rattle.std.specs.Prelude.{◌≡◌, ◌≢◌, ◌↔◌, ℕ, ◌⊎◌, L
 use Rattle.std.proofs.Common.{sym, refl, ap, ◌∙◌, subst, inl, inr, ⊎_elim}
 use mathlib.Core.Path.{fun_ext}
 use Rattle.chain_laws.specs.Chains.{Shown, Interlinks, Chain, linear, cyclic, items, IsChain, IsValid, IsWithin, Agrees, Has, HasNoRepetition, Stands, prev_in, next_in, prev_of, next_of, first_or, last_or}
-use Rattle.chain_laws.specs.Operations.{joined, with_lone, Connects, AddsLone, AreEndAndStart, HaveSameChains, ChainsDecide, JoinIsDetermined, LoneIsDetermined}
+use Rattle.chain_laws.specs.Neighbors.{AreNeighbors}
+use Rattle.chain_laws.specs.Operations.{joined, with_lone, Connects, AddsLone, AreEndAndStart, HaveSameChains, ChainsDecide, PairsDecide, JoinIsDetermined, LoneIsDetermined}
 use Rattle.chain_laws.proofs.Members.{Has-left, Has-right, Has-middle, Has-written, Has-or_not, first_or-filled, last_or-filled, last_or-append}
-use Rattle.chain_laws.proofs.Standing.{Stands-at, shows_next, shows_prev}
+use Rattle.chain_laws.proofs.Standing.{link, Stands-at, shows_next, shows_prev, shows_both}
 use Rattle.chain_laws.proofs.Unique.{chains_share, not_both, one_linear, one_cyclic}
 use Rattle.chain_laws.proofs.Turning.{turned, turned_to}
 use Rattle.chain_laws.proofs.Exists.{ChainOf, chain_of, has_chain}
@@ -141,3 +142,27 @@ chains_decide left right slots agrees_left agrees_right within_left within_right
     by i (Some l) e p f = shows_alike left right slots agrees_left within_left same i (record { link = l; shows = e })
     by i None e None f = e ∙ sym f
     by i None e (Some m) f = sym (shows_alike right left slots agrees_right within_right (λ c. ((same c).1, (same c).0)) i (record { link = m; shows = f }))
+
+-- options that name the same are the same
+same_named : (o p : Option ℕ) → ((j : ℕ) → (o ≡ Some j) ↔ (p ≡ Some j)) → o ≡ p
+same_named None None same = refl
+same_named None (Some k) same = let none = (same k).1 refl in absurd (cc)
+same_named (Some k) p same = sym ((same k).0 refl)
+
+-- two arenas with the same links and neighbour pairs show the same
+pub pairs_decide : PairsDecide
+pairs_decide left right agrees_left agrees_right links pairs = fun_ext (λ i. by i (left i) refl (right i) refl)
+  where
+    next_same : (i : ℕ) → next_of left i ≡ next_of right i
+    next_same i = same_named (next_of left i) (next_of right i) (pairs i)
+    prev_same : (i : ℕ) → prev_of left i ≡ prev_of right i
+    prev_same i = same_named (prev_of left i) (prev_of right i)
+        (λ j. (λ e. (agrees_right.both j i).0 ((pairs j i).0 ((agrees_left.both j i).1 e)), λ e. (agrees_left.both j i).0 ((pairs j i).1 ((agrees_right.both j i).1 e))))
+    valid_same : (i : ℕ) → IsValid left i → left i ≡ right i
+    valid_same i valid =
+        shows_both left i (prev_of right i) (next_of right i) valid (prev_same i) (next_same i)
+        ∙ sym (shows_both right i (prev_of right i) (next_of right i) ((links i).0 valid) refl refl)
+    by : (i : ℕ) (o : Option Interlinks) → left i ≡ o → (p : Option Interlinks) → right i ≡ p → left i ≡ right i
+    by i (Some l) e p f = valid_same i (record { link = l; shows = e })
+    by i None e None f = e ∙ sym f
+    by i None e (Some m) f = valid_same i ((links i).1 (record { link = m; shows = f }))

@@ -6,14 +6,10 @@ use Rattle.chain_laws.specs.Chains.{Shown, Chain, linear, cyclic, items, IsChain
 use Rattle.chain_laws.specs.Neighbors.{AreNeighbors}
 use Rattle.chain_laws.specs.Operations.{joined, linked, AddsPair, Connects, AreEndAndStart}
 use Rattle.chain_laws.proofs.Agreement.{put, put-same, put-other, join_undoes, Undoes-at, one_some, not_both_ways}
-use Rattle.chain_laws.proofs.Linking.{next_of-linked, prev_of-linked, IsValidAt, IsValid-linked}
-use Rattle.chain_laws.proofs.Linked.{IsApart, IsApart-Some, Stands-glued, Stands-ringed, IsChain-linked}
+use Rattle.chain_laws.proofs.Linking.{next_of-linked, prev_of-linked, IsValidAt-Some, IsValid-linked}
+use Rattle.chain_laws.proofs.Gluing.{IsApart, IsApart-Some, Stands-glued, Stands-ringed, IsChain-linked}
 use Rattle.chain_laws.proofs.Unique.{chain_closed, reaches_first}
 use Rattle.chain_laws.proofs.Members.{Has-middle, Has-filled, HasNoRepetition-append, last_or-append}
-
--- an index that is named as some index
-pub IsValidAt-Some : (shown : Shown) (i : ℕ) → IsValid shown i → IsValidAt shown (Some i)
-IsValidAt-Some shown i valid k e = subst (IsValid shown) (one_some e) valid
 
 -- what comes after each index once b comes after a
 pub next_of-joined : (shown : Shown) (a b : ℕ) → IsValid shown a → (j : ℕ) → next_of (joined shown a b) j ≡ put (next_of shown) a (Some b) j

@@ -8,7 +8,7 @@ pub mod Neighboring
 pub mod Partitions
 pub mod Agreement
 pub mod Linking
-pub mod Linked
+pub mod Gluing
 pub mod Joining
 pub mod Alone
 pub mod Walking

@@ -1,10 +1,10 @@
 -- Worked rows: joins, and walks as a walker passes them. Each is computed.
 use Rattle.std.specs.Prelude.{◌≡◌, ℕ, ◌==◌, if◌then◌else◌, ◌++◌, List, [], ◌∷◌, Option, None, Some}
-use Rattle.std.proofs.Common.{refl}
+use Rattle.std.proofs.Common.{refl, inl, inr, arith}
 use Rattle.chain_laws.specs.Chains.{Shown, Interlinks, IsChain, linear, cyclic, prev_of, next_of}
 use Rattle.chain_laws.specs.Operations.{joined, linked, with_lone}
 use Rattle.chain_laws.specs.Walks.{IsWalk, there_and_back, round, ahead}
-use Rattle.chain_laws.proofs.Standing.{link}
+use Rattle.chain_laws.proofs.Standing.{link, first_no_repetition}
 
 -- nothing stands anywhere
 abbrev bare : Shown
@@ -65,6 +65,14 @@ join_with_nothing = refl
 -- no index at one side: the other side is cut off
 linked_to_none : linked three (Some 1) None 1 ≡ Some (link None None)
 linked_to_none = refl
+
+-- the linear chain that two lone links become
+two_lone_as_a_chain : IsChain (joined two_lone 1 2) (linear (1 ∷ 2 ∷ []))
+two_lone_as_a_chain = (λ e. cc, first_no_repetition (joined two_lone 1 2) (1 ∷ 2 ∷ []) None (refl, (refl, tt)), (refl, (refl, tt)))
+
+-- the cyclic chain, written from its second link
+ring_as_a_chain : IsChain ring (cyclic (2 ∷ 3 ∷ 1 ∷ []))
+ring_as_a_chain = (λ e. cc, (λ h. elim h [ inl e ↦ absurd (omega arith) | inr k ↦ elim k [ inl e ↦ absurd (omega arith) | inr n ↦ n ] ], (λ h. elim h [ inl e ↦ absurd (omega arith) | inr n ↦ n ], (λ h. h, tt))), (refl, (refl, (refl, tt))))
 
 -- a walker in a linear chain from its second link: on, and then back
 walker_from_second : ahead 4 four 2 (Some 2) (prev_of four 2) ≡ 2 ∷ 9 ∷ 7 ∷ 4 ∷ []

@@ -93,6 +93,11 @@ abbrev pub ChainsDecide : Type 0
 ChainsDecide = (left right : Shown) (slots : ℕ) → Agrees left → Agrees right → IsWithin left slots → IsWithin right slots
     → HaveSameChains left right → left ≡ right
 
+-- two arenas that agree and have the same links and neighbour pairs show the same
+abbrev pub PairsDecide : Type 0
+PairsDecide = (left right : Shown) → Agrees left → Agrees right → ((i : ℕ) → IsValid left i ↔ IsValid right i)
+    → ((i j : ℕ) → AreNeighbors left i j ↔ AreNeighbors right i j) → left ≡ right
+
 -- what connects an end and a start has the chains of their join, and no others
 abbrev pub JoinIsDetermined : Type 0
 JoinIsDetermined = (old new : Shown) (slots a b : ℕ) → Agrees old → IsWithin old slots → AreEndAndStart old a b

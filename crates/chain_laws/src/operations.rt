@@ -1,6 +1,6 @@
 //! What a join and a new lone link do to the interlinks and to the chains.
 
-ghost use Rattle.chain_laws.specs.Operations.{JoinAgrees, JoinAddsAPair, JoinConnects, JoinIsDetermined, LoneAgrees, LoneAdds, LoneIsDetermined, ChainsDecide};
+ghost use Rattle.chain_laws.specs.Operations.{JoinAgrees, JoinAddsAPair, JoinConnects, JoinIsDetermined, LoneAgrees, LoneAdds, LoneIsDetermined, ChainsDecide, PairsDecide};
 
 /// Where an end and a start are joined, of two chains or of one, the interlinks still agree.
 pub fn join_agrees()
@@ -47,5 +47,11 @@ pub fn lone_is_determined()
 /// Two arenas whose interlinks agree and that have the same chains show the same interlinks.
 pub fn chains_decide()
     ensures { ChainsDecide }
+{
+}
+
+/// Two arenas whose interlinks agree and that have the same links and neighbour pairs show the same interlinks.
+pub fn pairs_decide()
+    ensures { PairsDecide }
 {
 }
