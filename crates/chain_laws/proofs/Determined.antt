@@ -1,12 +1,11 @@
 -- What the chains of an arena decide: what it shows, and that a contract in chains leaves no choice.
-use Rattle.std.specs.Prelude.{◌≡◌, ◌≢◌, ◌↔◌, ℕ, ◌⊎◌, List, [], ◌∷◌, ◌++◌, Option, None, Some}
-use Rattle.std.proofs.Common.{sym, refl, ap, ◌∙◌, subst, inl, inr, ⊎_elim}
+use Rattle.std.specs.Prelude.{◌≡◌, ◌↔◌, ℕ, ◌⊎◌, List, [], ◌∷◌, ◌++◌, Option, None, Some}
+use Rattle.std.proofs.Common.{sym, refl, ap, ◌∙◌, subst, inl, inr}
 use mathlib.Core.Path.{fun_ext}
-use Rattle.chain_laws.specs.Chains.{Shown, Interlinks, Chain, linear, cyclic, items, IsChain, IsValid, IsWithin, Agrees, Has, HasNoRepetition, Stands, prev_in, next_in, prev_of, next_of, first_or, last_or}
-use Rattle.chain_laws.specs.Neighbors.{AreNeighbors}
-use Rattle.chain_laws.specs.Operations.{joined, with_lone, Connects, AddsLone, AreEndAndStart, HaveSameChains, ChainsDecide, PairsDecide, JoinIsDetermined, LoneIsDetermined}
-use Rattle.chain_laws.proofs.Members.{Has-left, Has-right, Has-middle, Has-written, Has-or_not, first_or-filled, last_or-filled, last_or-append}
-use Rattle.chain_laws.proofs.Standing.{link, Stands-at, shows_next, shows_prev, shows_both}
+use Rattle.chain_laws.specs.Chains.{Shown, Interlinks, Chain, linear, cyclic, items, IsChain, IsValid, IsWithin, Agrees, Has, Stands, prev_of, next_of, first_or, last_or}
+use Rattle.chain_laws.specs.Operations.{joined, with_lone, Connects, AddsLone, HaveSameChains, ChainsDecide, PairsDecide, JoinIsDetermined, LoneIsDetermined}
+use Rattle.chain_laws.proofs.Members.{Has-left, Has-middle, Has-written, Has-or_not, last_or-filled, last_or-append}
+use Rattle.chain_laws.proofs.Standing.{Stands-at, shows_next, shows_prev, shows_both}
 use Rattle.chain_laws.proofs.Unique.{chains_share, not_both, one_linear, one_cyclic}
 use Rattle.chain_laws.proofs.Turning.{turned, turned_to}
 use Rattle.chain_laws.proofs.Exists.{ChainOf, chain_of, has_chain}
@@ -84,12 +83,18 @@ connected_chain old a b x y left right = by (Has-or_not (x ++ a ∷ []) b)
   where
     by : Has (x ++ a ∷ []) b ⊎ (Has (x ++ a ∷ []) b → ⊥) → (d : Chain) × Has (items d) a × Has (items d) b × ((new : Shown) → Connects old new a b → IsChain new d)
     by (inl h) =
-        let same : x ++ a ∷ [] ≡ b ∷ y = one_linear old (x ++ a ∷ []) (b ∷ y) b left right h (inl refl) in
-        ( cyclic (x ++ a ∷ []), Has-middle x [] a, h
-        , λ new connects. connects.one (x ++ a ∷ []) left (ap (λ (zs : List ℕ). first_or zs None) same) (last_or-append x (a ∷ []) None) )
-    by (inr none) =
-        ( linear ((x ++ a ∷ []) ++ b ∷ y), Has-left (x ++ a ∷ []) (b ∷ y) a (Has-middle x [] a), Has-middle (x ++ a ∷ []) y b
-        , λ new connects. connects.two x y left right none )
+        let same : x ++ a ∷ [] ≡ b ∷ y = one_linear old (x ++ a ∷ []) (b ∷ y) b left right h (inl refl) in (
+          cyclic (x ++ a ∷ []),
+          Has-middle x [] a,
+          h,
+          λ new connects. connects.one (x ++ a ∷ []) left (ap (λ (zs : List ℕ). first_or zs None) same) (last_or-append x (a ∷ []) None),
+        )
+    by (inr none) = (
+      linear ((x ++ a ∷ []) ++ b ∷ y),
+      Has-left (x ++ a ∷ []) (b ∷ y) a (Has-middle x [] a),
+      Has-middle (x ++ a ∷ []) y b,
+      λ new connects. connects.two x y left right none,
+    )
 
 -- two arenas in which a and b are connected have the same chains
 connected_alike : (old left right : Shown) (a b : ℕ) (d : Chain) → Connects old left a b → Connects old right a b
@@ -109,9 +114,10 @@ join_is_determined old new slots a b agrees within ends connects c =
     let d = connected_chain old a b x.0 y.0 x.1 y.1 in
     let join = joined_connects old a b in
     let in_new = d.3 new connects in
-    let in_join = d.3 (joined old a b) join in
-    ( connected_alike old new (joined old a b) a b d.0 connects join in_new in_join d.1 d.2 c
-    , connected_alike old (joined old a b) new a b d.0 join connects in_join in_new d.1 d.2 c )
+    let in_join = d.3 (joined old a b) join in (
+      connected_alike old new (joined old a b) a b d.0 connects join in_new in_join d.1 d.2 c,
+      connected_alike old (joined old a b) new a b d.0 join connects in_join in_new d.1 d.2 c,
+    )
 
 -- two arenas to which q comes alone have the same chains
 added_alike : (old left right : Shown) (q : ℕ) → AddsLone old left q → AddsLone old right q → (c : Chain) → IsChain left c → IsChain right c
@@ -155,13 +161,16 @@ pairs_decide left right agrees_left agrees_right links pairs = fun_ext (λ i. by
   where
     next_same : (i : ℕ) → next_of left i ≡ next_of right i
     next_same i = same_named (next_of left i) (next_of right i) (pairs i)
+
     prev_same : (i : ℕ) → prev_of left i ≡ prev_of right i
     prev_same i = same_named (prev_of left i) (prev_of right i)
         (λ j. (λ e. (agrees_right.both j i).0 ((pairs j i).0 ((agrees_left.both j i).1 e)), λ e. (agrees_left.both j i).0 ((pairs j i).1 ((agrees_right.both j i).1 e))))
+
     valid_same : (i : ℕ) → IsValid left i → left i ≡ right i
     valid_same i valid =
         shows_both left i (prev_of right i) (next_of right i) valid (prev_same i) (next_same i)
         ∙ sym (shows_both right i (prev_of right i) (next_of right i) ((links i).0 valid) refl refl)
+
     by : (i : ℕ) (o : Option Interlinks) → left i ≡ o → (p : Option Interlinks) → right i ≡ p → left i ≡ right i
     by i (Some l) e p f = valid_same i (record { link = l; shows = e })
     by i None e None f = e ∙ sym f

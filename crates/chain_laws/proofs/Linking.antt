@@ -1,9 +1,9 @@
 -- What `linked` does at each index.
-use Rattle.std.specs.Prelude.{◌≡◌, ◌≢◌, ◌↔◌, ℕ, ◌==◌, ◌⊎◌, if◌then◌else◌, List, [], ◌∷◌, ◌++◌, Option, None, Some}
+use Rattle.std.specs.Prelude.{◌≡◌, ◌≢◌, ◌↔◌, ℕ, ◌==◌, if◌then◌else◌, Option, None, Some}
 use Rattle.std.specs.Option.{option_map}
-use Rattle.std.proofs.Common.{sym, refl, ap, ◌∙◌, subst, inl, inr, ⊎_elim}
+use Rattle.std.proofs.Common.{sym, refl, ap, ◌∙◌, subst, ⊎_elim}
 use Rattle.std.proofs.lemmas.Bool.{cases_eq}
-use Rattle.chain_laws.specs.Chains.{Shown, Interlinks, prev_in, next_in, prev_of, next_of, IsValid, Has, HasNoRepetition, Stands, first_or, last_or}
+use Rattle.chain_laws.specs.Chains.{Shown, Interlinks, prev_in, next_in, prev_of, next_of, IsValid}
 use Rattle.chain_laws.specs.Operations.{with_prev, with_next, prev_set, next_set, linked}
 use Rattle.chain_laws.proofs.Agreement.{put, if_same, if_other, put-same, put-other, one_some}
 
@@ -77,7 +77,7 @@ pub next_of-next_set : (shown : Shown) (u v : Option ℕ) (j : ℕ) → IsValidA
 next_of-next_set shown None v j valid = refl
 next_of-next_set shown (Some i) v j valid = ⊎_elim
     (λ e. let at_i = valid i refl in
-        subst (λ k. next_of (next_set shown (Some i) v) k ≡ v) (sym e) (ap next_in (next_set-at shown i v at_i.link at_i.shows)) ∙ sym (put-same (next_of shown) i v j e))
+    subst (λ k. next_of (next_set shown (Some i) v) k ≡ v) (sym e) (ap next_in (next_set-at shown i v at_i.link at_i.shows)) ∙ sym (put-same (next_of shown) i v j e))
     (λ ne. ap next_in (if_other j i _ _ ne) ∙ sym (put-other (next_of shown) i v j ne))
     (cases_eq j i)
 
@@ -86,7 +86,7 @@ pub prev_of-prev_set : (shown : Shown) (u v : Option ℕ) (j : ℕ) → IsValidA
 prev_of-prev_set shown None v j valid = refl
 prev_of-prev_set shown (Some i) v j valid = ⊎_elim
     (λ e. let at_i = valid i refl in
-        subst (λ k. prev_of (prev_set shown (Some i) v) k ≡ v) (sym e) (ap prev_in (prev_set-at shown i v at_i.link at_i.shows)) ∙ sym (put-same (prev_of shown) i v j e))
+    subst (λ k. prev_of (prev_set shown (Some i) v) k ≡ v) (sym e) (ap prev_in (prev_set-at shown i v at_i.link at_i.shows)) ∙ sym (put-same (prev_of shown) i v j e))
     (λ ne. ap prev_in (if_other j i _ _ ne) ∙ sym (put-other (prev_of shown) i v j ne))
     (cases_eq j i)
 

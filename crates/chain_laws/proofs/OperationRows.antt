@@ -1,7 +1,7 @@
 -- Worked rows: joins, and walks as a walker passes them. Each is computed.
-use Rattle.std.specs.Prelude.{◌≡◌, ℕ, ◌==◌, if◌then◌else◌, ◌++◌, List, [], ◌∷◌, Option, None, Some}
+use Rattle.std.specs.Prelude.{◌≡◌, [], ◌∷◌, None, Some}
 use Rattle.std.proofs.Common.{refl, inl, inr, arith}
-use Rattle.chain_laws.specs.Chains.{Shown, Interlinks, IsChain, linear, cyclic, prev_of, next_of}
+use Rattle.chain_laws.specs.Chains.{Shown, IsChain, linear, cyclic, prev_of}
 use Rattle.chain_laws.specs.Operations.{joined, linked, with_lone}
 use Rattle.chain_laws.specs.Walks.{IsWalk, there_and_back, round, ahead}
 use Rattle.chain_laws.proofs.Standing.{link, first_no_repetition}

@@ -5,53 +5,44 @@ ghost use Rattle.chain_laws.specs.Operations.{JoinAgrees, JoinAddsAPair, JoinCon
 /// Where an end and a start are joined, of two chains or of one, the interlinks still agree.
 pub fn join_agrees()
     ensures { JoinAgrees }
-{
-}
+{}
 
-/// A join adds one neighbour pair, and changes nothing else.
+/// A join adds one neighbour pair and takes none away, and the links stay.
 pub fn join_adds_a_pair()
     ensures { JoinAddsAPair }
-{
-}
+{}
 
 /// A join writes two chains as one, or closes one chain to a cyclic one, and every other chain stays.
 pub fn join_connects()
     ensures { JoinConnects }
-{
-}
+{}
 
-/// Whatever connects an end and a start in this way has the chains of their join, and no others.
+/// What `Connects` says of an end and a start leaves no choice: whatever it holds of has the chains of their join, and no others.
 pub fn join_is_determined()
     ensures { JoinIsDetermined }
-{
-}
+{}
 
 /// With a new link that stands alone the interlinks still agree.
 pub fn lone_agrees()
     ensures { LoneAgrees }
-{
-}
+{}
 
 /// A new link that stands alone is a chain of its own, and every other chain stays.
 pub fn lone_adds()
     ensures { LoneAdds }
-{
-}
+{}
 
-/// Whatever adds a link in this way has the chains with it, and no others.
+/// What `AddsLone` says leaves no choice: whatever it holds of has the chains with the new link, and no others.
 pub fn lone_is_determined()
     ensures { LoneIsDetermined }
-{
-}
+{}
 
 /// Two arenas whose interlinks agree and that have the same chains show the same interlinks.
 pub fn chains_decide()
     ensures { ChainsDecide }
-{
-}
+{}
 
 /// Two arenas whose interlinks agree and that have the same links and neighbour pairs show the same interlinks.
 pub fn pairs_decide()
     ensures { PairsDecide }
-{
-}
+{}
