@@ -6,3 +6,4 @@ pub mod Gathering
 pub mod Exists
 pub mod Neighboring
 pub mod Partitions
+pub mod Rows
