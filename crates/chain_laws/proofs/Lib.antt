@@ -15,3 +15,4 @@ pub mod Walking
 pub mod Passing
 pub mod Determined
 pub mod OperationRows
+pub mod Rows
