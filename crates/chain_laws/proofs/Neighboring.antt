@@ -212,3 +212,11 @@ pub agrees_from_pairs : (shown : Shown) (chains : List Chain) → HasInterlinks 
 agrees_from_pairs shown chains pairs = record {
     both = λ i j. ((λ e. (pairs.prev i j).1 ((pairs.next i j).0 e)), (λ e. (pairs.next i j).1 ((pairs.prev i j).0 e)))
   }
+
+-- .. and so has an arena with chains
+pub agrees_from_chains : (shown : Shown) (chains : List Chain) → AreChains shown chains → Agrees shown
+agrees_from_chains shown chains are = agrees_from_pairs shown chains (interlinks shown chains are)
+
+-- chains item by item and by neighbour pairs are the same
+pub chains_by_pairs : (shown : Shown) (chains : List Chain) → AreChains shown chains ↔ (Partition shown chains × HasInterlinks shown chains)
+chains_by_pairs shown chains = ((λ are. (partitions shown chains are, interlinks shown chains are)), (λ both. chains_from_pairs shown chains both.0 both.1))

@@ -1,7 +1,7 @@
 -- The chains of an arena: that there is one list of them in order, and no other; and one chain of each index.
 use Rattle.std.proofs.Common.{◌≡◌, ◌≢◌, ◌↔◌, ℕ, ◌<◌, ◌≤◌, ◌⊎◌, inl, inr, ⊎_elim, List, [], ◌∷◌, ◌++◌, Option, None, Some, refl, sym, ap, ◌∙◌, subst, arith}
 use Rattle.chain_laws.specs.Chains.{Shown, IsValid, IsWithin, Agrees, Has, HasNoRepetition, Chain, items, IsChain, HasChain, all_items, AreChains, IsWritten, Rises, IsInOrder}
-use Rattle.chain_laws.specs.Neighbors.{Partition, HasInterlinks, AreTheChains}
+use Rattle.chain_laws.specs.Neighbors.{Partition, HasInterlinks, AreTheChains, StandsIn, AreWritten}
 use Rattle.chain_laws.proofs.Members.{Has-left, Has-right, Has-parts, filled-Has, HasNoRepetition-right, HasNoRepetition-apart}
 use Rattle.chain_laws.proofs.Unique.{chain_valid, chain_filled, one_chain}
 use Rattle.chain_laws.proofs.Gathering.{chain_at, all_items_valid, Has-all_items}
@@ -95,24 +95,26 @@ no_others shown chains others are also =
         (λ i h. (also.partition.valid i).0 ((are.partition.valid i).1 h)) (λ i h. (are.partition.valid i).0 ((also.partition.valid i).1 h))
 
 -- a written chain of an arena is one of all its chains, if these are written
-pub is_among : (shown : Shown) (chains : List Chain) (c : Chain) → AreChains shown chains → ((d : Chain) → HasChain chains d → IsWritten d)
-    → IsChain shown c → IsWritten c → HasChain chains c
+pub is_among : (shown : Shown) (chains : List Chain) (c : Chain) → AreChains shown chains → AreWritten chains → IsChain shown c → IsWritten c → HasChain chains c
 is_among shown chains c are written h w =
     let x = filled-Has (items c) (chain_filled shown c h) in
     let at = chain_at chains x.0 (are.all x.0 (chain_valid shown c x.0 h x.1)) in
     subst (HasChain chains) (one_chain shown at.0 c x.0 (are.each at.0 at.1) h (written at.0 at.1) w at.2 x.1) at.1
 
 -- lists of all chains of one arena have the same members, if each cyclic one is written from its least index
-pub same_members : (shown : Shown) (chains others : List Chain) → AreChains shown chains → AreChains shown others
-    → ((c : Chain) → HasChain chains c → IsWritten c) → ((c : Chain) → HasChain others c → IsWritten c) → (c : Chain) → HasChain chains c ↔ HasChain others c
+pub same_members : (shown : Shown) (chains others : List Chain) → AreChains shown chains → AreChains shown others → AreWritten chains → AreWritten others
+    → (c : Chain) → HasChain chains c ↔ HasChain others c
 same_members shown chains others are also written too c =
     ( (λ m. is_among shown others c also too (are.each c m) (written c m))
     , (λ m. is_among shown chains c are written (also.each c m) (too c m)) )
 
--- each valid index stands in a chain, written from its least index if it is cyclic
-pub chain_of_each : (shown : Shown) (slots i : ℕ) → Agrees shown → IsWithin shown slots → IsValid shown i
-    → (c : Chain) × IsChain shown c × IsWritten c × Has (items c) i
+-- each valid index stands in a chain
+pub chain_of_each : (shown : Shown) (slots i : ℕ) → Agrees shown → IsWithin shown slots → IsValid shown i → (c : Chain) × StandsIn shown i c
 chain_of_each shown slots i agrees within valid =
     let all = has_chains shown slots agrees within in
     let at = chain_at all.0 i (all.1.all i valid) in
-    (at.0, all.1.each at.0 at.1, all.2.written at.0 at.1, at.2)
+    (at.0, record { chain = all.1.each at.0 at.1; written = all.2.written at.0 at.1; has = at.2 })
+
+-- .. and in no other
+pub no_other_of_each : (shown : Shown) (i : ℕ) (c other : Chain) → StandsIn shown i c → StandsIn shown i other → c ≡ other
+no_other_of_each shown i c other s t = one_chain shown c other i s.chain t.chain s.written t.written s.has t.has
