@@ -80,11 +80,6 @@ pub last_or-append : (xs ys : List ℕ) (before : Option ℕ) → last_or (xs ++
 last_or-append [] ys before = refl
 last_or-append (x ∷ xs) ys before = last_or-append xs ys (Some x)
 
--- a list with an item has a first one, whatever comes after
-pub first_or-filled : (xs : List ℕ) (y : ℕ) → Has xs y → (first : ℕ) × ((after : Option ℕ) → first_or xs after ≡ Some first)
-first_or-filled [] y h = elim h [ ]
-first_or-filled (x ∷ xs) y h = (x, λ after. refl)
-
 -- a list with an item has a last one, whatever comes before
 pub last_or-filled : (xs : List ℕ) (y : ℕ) → Has xs y → (last : ℕ) × ((before : Option ℕ) → last_or xs before ≡ Some last)
 last_or-filled [] y h = elim h [ ]

@@ -1,6 +1,6 @@
 -- Lists of links that stand: taken apart, put together, framed, closed under the interlinks, without repetition.
 use Rattle.std.proofs.Common.{◌≡◌, ◌≢◌, ℕ, ◌+◌, ◌⊎◌, inl, inr, ⊎_elim, List, [], ◌∷◌, ◌++◌, length, Option, None, Some, refl, sym, ap, ◌∙◌, subst, length-append, arith}
-use Rattle.chain_laws.specs.Chains.{Shown, Interlinks, IsValid, Agrees, Has, HasNoRepetition, first_or, last_or, prev_in, next_in, prev_of, next_of, Stands}
+use Rattle.chain_laws.specs.Chains.{Shown, Interlinks, IsValid, Has, HasNoRepetition, first_or, last_or, prev_in, next_in, prev_of, next_of, Stands}
 use Rattle.chain_laws.proofs.Members.{Has-written, first_or-append, first_or-Has}
 
 -- interlinks, as they are written
@@ -45,14 +45,6 @@ shows_both shown i before after v p n =
   where
     both : (l : Interlinks) (before after : Option ℕ) → l.prev ≡ before → l.next ≡ after → l ≡ link before after
     both l before after q m = λ i. record { prev = q i; next = m i }
-
--- where interlinks agree, the next of a valid index is valid and names it
-pub next_back : (shown : Shown) (i j : ℕ) → Agrees shown → next_of shown i ≡ Some j → prev_of shown j ≡ Some i
-next_back shown i j agrees e = (agrees.both i j).0 e
-
--- .. and the one before it too
-pub prev_on : (shown : Shown) (i j : ℕ) → Agrees shown → prev_of shown j ≡ Some i → next_of shown i ≡ Some j
-prev_on shown i j agrees e = (agrees.both i j).1 e
 
 -- two lists that stand one after the other stand as one
 pub Stands-append : (shown : Shown) (before : Option ℕ) (xs ys : List ℕ) (after : Option ℕ)
