@@ -1,8 +1,8 @@
 -- The definitions on small worked examples, by computing.
-use Rattle.std.proofs.Common.{◌≡◌, ◌≢◌, ◌↔◌, ℕ, zero, suc, ◌<◌, ◌≤◌, Bool, true, false, ◌==◌, if◌then◌else◌, ◌⊎◌, inl, inr, List, [], ◌∷◌, ◌++◌, Option, None, Some, refl, sym, ap, ◌∙◌, subst, eqb-true, arith}
-use Rattle.chain_laws.specs.Chains.{Shown, Interlinks, IsValid, IsWithin, Agrees, Has, HasNoRepetition, Chain, linear, cyclic, items, prev_in, next_in, prev_of, next_of, Stands, IsChain, HasChain, all_items, AreChains, IsWritten, Rises, IsInOrder}
-use Rattle.chain_laws.specs.Neighbors.{IsBeside, AreNeighborsIn, AreNeighborsOf, Partition, HasInterlinks, AreTheChains}
-use Rattle.chain_laws.proofs.Standing.{link, shows_valid}
+use Rattle.std.proofs.Common.{◌≡◌, ℕ, ◌<◌, ◌≤◌, Bool, true, false, ◌==◌, if◌then◌else◌, inl, inr, List, [], ◌∷◌, ◌++◌, None, Some, refl, sym, ap, subst, eqb-true, arith}
+use Rattle.chain_laws.specs.Chains.{Shown, Interlinks, IsValid, IsWithin, Agrees, Has, Chain, linear, cyclic, prev_in, next_in, prev_of, next_of, IsChain, HasChain, all_items, AreChains, IsWritten, Rises, IsInOrder}
+use Rattle.chain_laws.specs.Neighbors.{IsBeside, AreNeighborsIn, AreSameButTurned, AreTheChains}
+use Rattle.chain_laws.proofs.Standing.{link}
 use Rattle.chain_laws.proofs.Neighboring.{partitions, interlinks, agrees_from_chains}
 use Rattle.chain_laws.proofs.Partitions.{no_others}
 
@@ -107,6 +107,9 @@ ring_written = (omega arith, tt)
 ring_not_written : IsWritten (cyclic (3 ∷ 2 ∷ [])) → ⊥
 ring_not_written w = let high : 3 ≤ 2 = w.0 in omega arith
 
+ring_turned : AreSameButTurned (cyclic (3 ∷ 2 ∷ [])) (cyclic (2 ∷ 3 ∷ []))
+ring_turned = (3 ∷ [], 2 ∷ [], refl, refl)
+
 -- neighbours in a list, and in a ring from the last to the first
 beside : IsBeside (1 ∷ 2 ∷ 3 ∷ []) 2 3
 beside = (1 ∷ [], [], refl)
@@ -151,19 +154,21 @@ crossed_not_rises r = by_member r.0.0 r.0.1 (r.0.2 1 (inr (inl refl)))
 -- the chains of the three rows: there are no others
 three_chains : AreChains (rows three) (linear (1 ∷ 2 ∷ []) ∷ cyclic (3 ∷ []) ∷ [])
 three_chains = record {
-    each = each;
-    once = (apart, (apart_more, ((λ h. h), tt)));
-    all = λ i v. rows_valid three i v
-  }
+  each = each;
+  once = (apart, (apart_more, ((λ h. h), tt)));
+  all = λ i v. rows_valid three i v;
+}
   where
     each : (c : Chain) → HasChain (linear (1 ∷ 2 ∷ []) ∷ cyclic (3 ∷ []) ∷ []) c → IsChain (rows three) c
     each c (inl e) = subst (IsChain (rows three)) e three_linear
     each c (inr (inl e)) = subst (IsChain (rows three)) e three_cyclic
     each c (inr (inr h)) = absurd h
+
     apart : Has (2 ∷ 3 ∷ []) 1 → ⊥
     apart (inl e) = omega arith
     apart (inr (inl e)) = omega arith
     apart (inr (inr h)) = h
+
     apart_more : Has (3 ∷ []) 2 → ⊥
     apart_more (inl e) = omega arith
     apart_more (inr h) = h
@@ -175,6 +180,7 @@ three_in_order = record { written = written; rises = ((1, inl refl, above), ((3,
     written c (inl e) = subst IsWritten e tt
     written c (inr (inl e)) = subst IsWritten e tt
     written c (inr (inr h)) = absurd h
+
     above : (y : ℕ) → Has (3 ∷ []) y → 1 < y
     above y (inl e) = let is : 3 ≡ y = e in omega arith
     above y (inr h) = absurd h
