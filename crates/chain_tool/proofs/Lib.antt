@@ -1,3 +1,6 @@
+pub mod Connecting
+pub mod Inserting
+pub mod Outcomes
 pub mod Relinking
 pub mod Seeing
 pub mod Slotting

@@ -32,7 +32,7 @@ length-slice_set (y ∷ xs) zero x = refl
 length-slice_set (y ∷ xs) (suc k) x = ap (λ n. suc n) (length-slice_set xs k x)
 
 -- numbers are equal if those before them are
-if_suc : {A : Type 0} (j k : ℕ) (x y : A) → (if j == k then x else y) ≡ (if suc j == suc k then x else y)
+pub if_suc : {A : Type 0} (j k : ℕ) (x y : A) → (if j == k then x else y) ≡ (if suc j == suc k then x else y)
 if_suc j k x y = ap (λ b. if b then x else y) (sym (eqb-suc-suc j k))
 
 -- a list with one item changed, at that item and elsewhere

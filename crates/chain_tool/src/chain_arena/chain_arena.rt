@@ -102,8 +102,8 @@ impl<P: Ptr, T: Drop> ChainArena<P, T> {
             LinkInsertKind::Disconnected => {}
         }
         match self.arena.insert_reallocating(LinkBody::new((None, None), t)) {
-            Ok(p) => Ok(p),
-            Err(refusal) => Err(insertion_error(refusal)),
+            Ok(p) => return Ok(p),
+            Err(refusal) => return Err(insertion_error(refusal)),
         }
     }
 
@@ -129,9 +129,12 @@ impl<P: Ptr, T: Drop> ChainArena<P, T> {
 fn can_connect<P: Ptr, T: Drop>(arena: &Arena<P, LinkNoGen<P, T>>, p: P, q: P) -> bool
     ensures { IsTrue result ↔ CanConnect (seen_links P.Inx.number arena.now) (P.key p) (P.key q) }
 {
-    match (arena.get(p), arena.get(q)) {
-        (Some(first), Some(second)) => first.next().is_none() && second.prev().is_none(),
-        _ => false,
+    match arena.get(p) {
+        Some(first) => match arena.get(q) {
+            Some(second) => first.next().is_none() && second.prev().is_none(),
+            None => false,
+        },
+        None => false,
     }
 }
 
@@ -139,9 +142,11 @@ fn can_connect<P: Ptr, T: Drop>(arena: &Arena<P, LinkNoGen<P, T>>, p: P, q: P) -
 fn neighbor<P: Ptr, T: Drop>(arena: &Arena<P, LinkNoGen<P, T>>, i: Option<P::Inx>) -> Option<P>
     ensures { option_map P.key result ≡ option_and_then (ptr_at (seen_links P.Inx.number arena.now)) (option_map P.Inx.number i) }
 {
-    let i = i?;
-    match arena.get_inx(i) {
-        Some((generation, _)) => Some(P::_from_raw(i, generation)),
+    match i {
+        Some(i) => match arena.get_inx(i) {
+            Some((generation, _)) => Some(P::_from_raw(i, generation)),
+            None => None,
+        },
         None => None,
     }
 }
