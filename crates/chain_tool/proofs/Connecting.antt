@@ -29,11 +29,15 @@ module _ {Gen I T : Type 0} (number : I → ℕ) where
   next_of-seen : (a : Arena Gen (LinkBody I T)) (p : ℕ × Gen) (link : LinkBody I T) → entry_at a p.0 ≡ Some (p.1, link) → next_of (shown (seen_links number a)) p.0 ≡ option_map number link.next
   next_of-seen a p link stands = ap (λ (o : Option (Gen × LinkSeen T)). next_in (option_map interlinks_of o)) (entry_at-seen_links number a p.0 ∙ ap (option_map (seen_pair number)) stands)
 
-  prev_of-seen : (a : Arena Gen (LinkBody I T)) (p : ℕ × Gen) (link : LinkBody I T) → entry_at a p.0 ≡ Some (p.1, link) → prev_of (shown (seen_links number a)) p.0 ≡ option_map number link.prev
+  pub prev_of-seen : (a : Arena Gen (LinkBody I T)) (p : ℕ × Gen) (link : LinkBody I T) → entry_at a p.0 ≡ Some (p.1, link) → prev_of (shown (seen_links number a)) p.0 ≡ option_map number link.prev
   prev_of-seen a p link stands = ap (λ (o : Option (Gen × LinkSeen T)). prev_in (option_map interlinks_of o)) (entry_at-seen_links number a p.0 ∙ ap (option_map (seen_pair number)) stands)
 
   valid-seen : (a : Arena Gen (LinkBody I T)) (p : ℕ × Gen) (link : LinkBody I T) → entry_at a p.0 ≡ Some (p.1, link) → IsValidPtr (seen_links number a) p
   valid-seen a p link stands = (IsValidPtr-seen_links number a p).0 (record { value = link; stands = stands })
+
+  -- a link stands at the index of a valid pointer
+  pub valid_at : (a : Arena Gen (LinkBody I T)) (p : ℕ × Gen) (link : LinkBody I T) → entry_at a p.0 ≡ Some (p.1, link) → IsValid (shown (seen_links number a)) p.0
+  valid_at a p link stands = record { link = interlinks_of (p.1, seen_link number link); shows = ap (option_map interlinks_of) (entry_at-seen_links number a p.0 ∙ ap (option_map (seen_pair number)) stands) }
 
   -- two links may be joined exactly if the first has no next and the second no prev
   pub connectable : (a : Arena Gen (LinkBody I T)) (p q : ℕ × Gen) (first second : LinkBody I T) (b : Bool) → entry_at a p.0 ≡ Some (p.1, first) → entry_at a q.0 ≡ Some (q.1, second)
@@ -43,9 +47,10 @@ module _ {Gen I T : Type 0} (number : I → ℕ) where
       first_valid = valid-seen a p first at_p;
       second_valid = valid-seen a q second at_q;
       no_next = next_of-seen a p first at_p ∙ map_of_none number first.next no_next;
-      no_prev = prev_of-seen a q second at_q ∙ map_of_none number second.prev (tells ∙ ap not yes)
+      no_prev = prev_of-seen a q second at_q ∙ map_of_none number second.prev (tells ∙ ap not yes);
     }),
-    (λ can. truth_of_not b (sym (none_of_map number second.prev (sym (prev_of-seen a q second at_q) ∙ can.no_prev)) ∙ tells)))
+    (λ can. truth_of_not b (sym (none_of_map number second.prev (sym (prev_of-seen a q second at_q) ∙ can.no_prev)) ∙ tells)),
+  )
 
   -- they may not where the first has a next
   pub has_next : (a : Arena Gen (LinkBody I T)) (p q : ℕ × Gen) (first : LinkBody I T) → entry_at a p.0 ≡ Some (p.1, first) → is_some first.next ≡ true → CanConnect (seen_links number a) p q → ⊥
@@ -93,5 +98,5 @@ module _ {Gen I T : Type 0} (number : I → ℕ) where
     stands = entry_at-seen_links number a p.0 ∙ ap (option_map (seen_pair number)) stands;
     before = before;
     after = after;
-    value = refl
+    value = refl;
   }

@@ -43,20 +43,22 @@ module _ {Gen T : Type 0} where
   shown-insert_at a t (suc k) =
       ap (option_map interlinks_of) (slice_index_or-append a.slots (Some (a.counter, lone t)) k)
       ∙ (map-if (k == length a.slots) (Some (a.counter, lone t)) (slice_index_or a.slots k None) ∙ if_suc k (length a.slots) _ _) where
-    map-if : (b : Bool) (x y : Option (Gen × LinkSeen T)) → option_map interlinks_of (if b then x else y) ≡ (if b then option_map interlinks_of x else option_map interlinks_of y)
-    map-if true x y = refl
-    map-if false x y = refl
+        map-if : (b : Bool) (x y : Option (Gen × LinkSeen T)) → option_map interlinks_of (if b then x else y) ≡ (if b then option_map interlinks_of x else option_map interlinks_of y)
+        map-if true x y = refl
+        map-if false x y = refl
 
   -- the arena with a new link shows that link alone beside what it showed
   pub shown-insert_lone : (a : Arena Gen (LinkSeen T)) (t : T) → shown (insert_lone a t) ≡ with_lone (shown a) (next_index a)
   shown-insert_lone a t = fun_ext (λ i. shown-insert_at a t i ∙ ap (λ q. with_lone (shown a) q i) (let same : suc (length a.slots) ≡ length a.slots + 1 = omega arith in same))
 
+  -- what shows interlinks is an entry
+  pub some_entry : (o : Option (Gen × LinkSeen T)) (l : Interlinks) → option_map interlinks_of o ≡ Some l → (e : Gen × LinkSeen T) × (o ≡ Some e)
+  some_entry None l stands = absurd (let h = stands in cc)
+  some_entry (Some e) l stands = (e, refl)
+
   -- every valid index is one of the slots'
   pub shown-within : (a : Arena Gen (LinkSeen T)) → IsWithin (shown a) (length a.slots)
   shown-within a = record { within = inside } where
-    some_entry : (o : Option (Gen × LinkSeen T)) (l : Interlinks) → option_map interlinks_of o ≡ Some l → (e : Gen × LinkSeen T) × (o ≡ Some e)
-    some_entry None l stands = absurd (let h = stands in cc)
-    some_entry (Some e) l stands = (e, refl)
     inside : (i : ℕ) → IsValid (shown a) i → (1 ≤ i) × (i ≤ length a.slots)
     inside zero valid = absurd (let h = valid.shows in cc)
     inside (suc k) valid =
@@ -74,6 +76,7 @@ module _ {Gen I T : Type 0} (number : I → ℕ) where
     tell : (o : Option (Gen × LinkBody I T)) → is_some (option_map (seen_pair number) o) ≡ is_some o
     tell None = refl
     tell (Some e) = refl
+
     count : (slots : List (Option (Gen × LinkBody I T))) → count_by is_some (map (option_map (seen_pair number)) slots) ≡ count_by is_some slots
     count [] = refl
     count (e ∷ slots) = sum_by-cons _ (option_map (seen_pair number) e) (map (option_map (seen_pair number)) slots)

@@ -1,5 +1,6 @@
 pub mod Connecting
 pub mod Inserting
+pub mod Iterating
 pub mod Outcomes
 pub mod Relinking
 pub mod Seeing

@@ -126,4 +126,5 @@ module _ {Gen I T : Type 0} (number : I → ℕ) where
   pub IsValidPtr-seen_links : (a : Arena Gen (LinkBody I T)) (p : ℕ × Gen) → IsValidPtr a p ↔ IsValidPtr (seen_links number a) p
   IsValidPtr-seen_links a p = (
     (λ valid. record { value = seen_link number valid.value; stands = entry_at-seen_links a p.0 ∙ ap (option_map (seen_pair number)) valid.stands }),
-    (λ valid. valid_of_entry p a (entry_at a p.0) valid.value refl (sym (entry_at-seen_links a p.0) ∙ valid.stands)))
+    (λ valid. valid_of_entry p a (entry_at a p.0) valid.value refl (sym (entry_at-seen_links a p.0) ∙ valid.stands)),
+  )

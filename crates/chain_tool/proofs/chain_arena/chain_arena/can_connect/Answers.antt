@@ -7,7 +7,7 @@ use Rattle.chain_tool.proofs.chain_arena.chain_arena.can_connect.Goals as goal
 pub returns-then-is_none : goal.returns-then-is_none
 returns-then-is_none g c =
     connectable g.P.Inx.PtrInx.number c.args.arena.now _ _ c.in-Some.first.now c.in-Some-get.second.now _ c.in-Some.ensures.value c.in-Some-get.ensures.value
-      (sym (ap is_some c.next.ensures) ∙ (c.is_none.ensures ∙ ap not c.if-is_none.true)) (sym (ap is_some c.prev.ensures) ∙ c.is_none-then-is_none.ensures)
+    (sym (ap is_some c.next.ensures) ∙ (c.is_none.ensures ∙ ap not c.if-is_none.true)) (sym (ap is_some c.prev.ensures) ∙ c.is_none-then-is_none.ensures)
 
 no_truth : false ≡ true → ⊥
 no_truth h = cc

@@ -19,11 +19,11 @@ returns-in-Some g c =
     ap (seen_links number) held
     ∙ (ap (λ l. seen_links number (with_value a n l)) c.set_prev.ensures
     ∙ seen_links-write number a n c.in-Some.link.now write (with_prev (option_map number c.args.prev)) _ (λ l. refl)
-        (sym c.get_inx_mut.ensures.value ∙ ap option_copied_mut c.in-Some.is) (λ i. refl))
+    (sym c.get_inx_mut.ensures.value ∙ ap option_copied_mut c.in-Some.is) (λ i. refl))
 
 pub returns-in-None : goal.returns-in-None
 returns-in-None g c =
     let number = g.P.Inx.PtrInx.number in
     ap (seen_links number) c.get_inx_mut.follows.holds-at-none
     ∙ seen_links-no_write number c.args.arena.now (number c.args.i) (with_prev (option_map number c.args.prev)) _
-        (sym c.get_inx_mut.ensures.value ∙ ap option_copied_mut c.in-None.is) (λ i. refl)
+    (sym c.get_inx_mut.ensures.value ∙ ap option_copied_mut c.in-None.is) (λ i. refl)

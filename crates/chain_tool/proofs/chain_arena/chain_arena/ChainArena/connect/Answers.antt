@@ -19,8 +19,8 @@ is_joined g c =
     let old = seen_links number c.self.inside.arena in
     let between = seen_links number c.set_next.new.arena in
     linked_by_writes old between (seen_links number c.set_prev.new.arena) (Some (g.P.Ptr.key c.args.p).0) (Some (g.P.Ptr.key c.args.q).0)
-      (c.set_next.ensures ∙ ap₂ (λ (i j : ℕ). relinked old (next_set (shown old) (Some i) (Some j))) c.inx.ensures c.inx-2.ensures)
-      (c.set_prev.ensures ∙ ap₂ (λ (i j : ℕ). relinked between (prev_set (shown between) (Some i) (Some j))) c.inx-3.ensures c.inx-4.ensures)
+    (c.set_next.ensures ∙ ap₂ (λ (i j : ℕ). relinked old (next_set (shown old) (Some i) (Some j))) c.inx.ensures c.inx-2.ensures)
+    (c.set_prev.ensures ∙ ap₂ (λ (i j : ℕ). relinked between (prev_set (shown between) (Some i) (Some j))) c.inx-3.ensures c.inx-4.ensures)
 
 can : (g : Over) (c : After-set_prev g) → CanConnect (seen_links g.P.Inx.PtrInx.number c.self.inside.arena) (g.P.Ptr.key c.args.p) (g.P.Ptr.key c.args.q)
 can g c = c.can_connect.ensures.0 c.if-not-can_connect.false

@@ -17,8 +17,8 @@ returns-in-Some-clause-link g c =
     let number = g.P.Inx.PtrInx.number in
     let seen = seen_links number c.self.inside.arena in
     rw (← c.self.view_is, c.new.ensures) (link_at number c.self.inside.arena (g.P.Ptr.key c.args.p) c.in-Some.link.now _ _ c.in-Some.ensures.value
-      (c.neighbor-prev.ensures ∙ ap (λ o. option_and_then (ptr_at seen) (option_map number o)) c.prev.ensures)
-      (c.neighbor-next.ensures ∙ ap (λ o. option_and_then (ptr_at seen) (option_map number o)) c.next.ensures))
+    (c.neighbor-prev.ensures ∙ ap (λ o. option_and_then (ptr_at seen) (option_map number o)) c.prev.ensures)
+    (c.neighbor-next.ensures ∙ ap (λ o. option_and_then (ptr_at seen) (option_map number o)) c.next.ensures))
 
 pub returns-in-None-clause-some : goal.returns-in-None-clause-some
 returns-in-None-clause-some g c =

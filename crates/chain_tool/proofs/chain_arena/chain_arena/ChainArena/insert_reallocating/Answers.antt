@@ -12,8 +12,8 @@ invariant_of-self g c =
     let number = g.P.Inx.PtrInx.number in
     let is_lone = ap (seen_link number) c.new.ensures in
     ⊎_elim (λ ok. agrees-inserted number c.self.inside.arena _ c.new.result c.args.t is_lone ok c.self.invariant)
-      (λ err. subst (λ a. Agrees (shown (seen_links number a))) (sym err) c.self.invariant)
-      (ok_or_err c.insert_reallocating.result c.insert_reallocating.ensures.ok c.insert_reallocating.ensures.err)
+    (λ err. subst (λ a. Agrees (shown (seen_links number a))) (sym err) c.self.invariant)
+    (ok_or_err c.insert_reallocating.result c.insert_reallocating.ensures.ok c.insert_reallocating.ensures.err)
 
 pub returns-in-Ok-clause-adds : goal.returns-in-Ok-clause-adds
 returns-in-Ok-clause-adds g c =
