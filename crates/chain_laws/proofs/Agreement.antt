@@ -1,6 +1,6 @@
 -- Agreement of plain functions: `f` tells what comes after an index, `g` what comes before it.
-use Rattle.std.specs.Prelude.{◌≡◌, ◌≢◌, ◌↔◌, ℕ, ◌==◌, ◌⊎◌, if◌then◌else◌, Option, None, Some, Bool, true, false}
-use Rattle.std.proofs.Common.{sym, refl, ap, ◌∙◌, subst, inl, inr, ⊎_elim, eq-eqb, ne_eqb}
+use Rattle.std.specs.Prelude.{◌≡◌, ◌≢◌, ◌↔◌, ℕ, ◌==◌, if◌then◌else◌, Option, None, Some}
+use Rattle.std.proofs.Common.{sym, ap, ◌∙◌, subst, ⊎_elim, eq-eqb, ne_eqb}
 use Rattle.std.proofs.lemmas.Bool.{cases_eq}
 
 -- what f names, g names back
@@ -43,23 +43,23 @@ one_some e = cc
 pub join_answers : (f g : ℕ → Option ℕ) (a b : ℕ) → Answers f g → g b ≡ None → Answers (put f a (Some b)) (put g b (Some a))
 join_answers f g a b each free i j e =
     ⊎_elim
-        (λ s. let same : j ≡ b = one_some (sym e ∙ put-same f a (Some b) i s) in put-same g b (Some a) j same ∙ ap Some (sym s))
-        (λ ne.
-            let back : g j ≡ Some i = each i j (sym (put-other f a (Some b) i ne) ∙ e) in
-            let apart : j ≢ b = λ s. not_both_ways (g b) i free (subst (λ k. g k ≡ Some i) s back) in
-            put-other g b (Some a) j apart ∙ back)
-        (cases_eq i a)
+    (λ s. let same : j ≡ b = one_some (sym e ∙ put-same f a (Some b) i s) in put-same g b (Some a) j same ∙ ap Some (sym s))
+    (λ ne.
+    let back : g j ≡ Some i = each i j (sym (put-other f a (Some b) i ne) ∙ e) in
+    let apart : j ≢ b = λ s. not_both_ways (g b) i free (subst (λ k. g k ≡ Some i) s back) in
+    put-other g b (Some a) j apart ∙ back)
+    (cases_eq i a)
 
 -- a pair taken out, of which a had b after it
 pub cut_answers : (f g : ℕ → Option ℕ) (a b : ℕ) → Answers f g → Answers g f → f a ≡ Some b → Answers (put f a None) (put g b None)
 cut_answers f g a b each back pair i j e =
     ⊎_elim
-        (λ s. absurd (not_both_ways (put f a None i) j (put-same f a None i s) e))
-        (λ ne.
-            let here : f i ≡ Some j = sym (put-other f a None i ne) ∙ e in
-            let apart : j ≢ b = λ s. ne (one_some (sym (each i b (subst (λ k. f i ≡ Some k) s here)) ∙ each a b pair)) in
-            put-other g b None j apart ∙ each i j here)
-        (cases_eq i a)
+    (λ s. absurd (not_both_ways (put f a None i) j (put-same f a None i s) e))
+    (λ ne.
+    let here : f i ≡ Some j = sym (put-other f a None i ne) ∙ e in
+    let apart : j ≢ b = λ s. ne (one_some (sym (each i b (subst (λ k. f i ≡ Some k) s here)) ∙ each a b pair)) in
+    put-other g b None j apart ∙ each i j here)
+    (cases_eq i a)
 
 -- the two directions as one
 pub undoes_both : (f g : ℕ → Option ℕ) → Answers f g → Answers g f → Undoes f g
@@ -69,15 +69,15 @@ undoes_both f g there back i j = (there i j, back j i)
 pub join_undoes : (f g : ℕ → Option ℕ) (a b : ℕ) → Undoes f g → f a ≡ None → g b ≡ None → Undoes (put f a (Some b)) (put g b (Some a))
 join_undoes f g a b each none_after none_before =
     undoes_both (put f a (Some b)) (put g b (Some a))
-        (join_answers f g a b (λ i j. (each i j).0) none_before)
-        (join_answers g f b a (λ i j. (each j i).1) none_after)
+    (join_answers f g a b (λ i j. (each i j).0) none_before)
+    (join_answers g f b a (λ i j. (each j i).1) none_after)
 
 -- a cut of a pair
 pub cut_undoes : (f g : ℕ → Option ℕ) (a b : ℕ) → Undoes f g → f a ≡ Some b → Undoes (put f a None) (put g b None)
 cut_undoes f g a b each pair =
     undoes_both (put f a None) (put g b None)
-        (cut_answers f g a b (λ i j. (each i j).0) (λ i j. (each j i).1) pair)
-        (cut_answers g f b a (λ i j. (each j i).1) (λ i j. (each i j).0) ((each a b).0 pair))
+    (cut_answers f g a b (λ i j. (each i j).0) (λ i j. (each j i).1) pair)
+    (cut_answers g f b a (λ i j. (each j i).1) (λ i j. (each i j).0) ((each a b).0 pair))
 
 -- two functions that are f and g at each place
 pub Undoes-at : (f g h k : ℕ → Option ℕ) → ((i : ℕ) → h i ≡ f i) → ((i : ℕ) → k i ≡ g i) → Undoes f g → Undoes h k

@@ -1,9 +1,8 @@
 -- A new link that stands alone: the interlinks still agree, no pair is added, and it is a chain of its own.
-use Rattle.std.specs.Prelude.{◌≡◌, ◌≢◌, ◌↔◌, ℕ, ◌⊎◌, List, [], ◌∷◌, Option, None, Some}
+use Rattle.std.specs.Prelude.{◌≡◌, ◌≢◌, ◌↔◌, ℕ, ◌⊎◌, List, Option, None, Some}
 use Rattle.std.proofs.Common.{sym, refl, ap, ◌∙◌, subst, inl, inr, ⊎_elim}
 use Rattle.std.proofs.lemmas.Bool.{cases_eq}
-use Rattle.chain_laws.specs.Chains.{Shown, Interlinks, Chain, linear, cyclic, items, IsChain, IsValid, Agrees, Has, Stands, prev_in, next_in, prev_of, next_of, first_or, last_or}
-use Rattle.chain_laws.specs.Neighbors.{AreNeighbors}
+use Rattle.chain_laws.specs.Chains.{Shown, Chain, linear, cyclic, items, IsChain, IsValid, Agrees, Has, Stands, prev_in, next_in, prev_of, next_of, first_or, last_or}
 use Rattle.chain_laws.specs.Operations.{with_lone, AddsLone}
 use Rattle.chain_laws.proofs.Agreement.{if_same, if_other}
 use Rattle.chain_laws.proofs.Standing.{link, Stands-frame}
@@ -35,9 +34,10 @@ prev_of-with_lone shown q free j = ⊎_elim
 pub with_lone_agrees : (shown : Shown) (q : ℕ) → shown q ≡ None → Agrees shown → Agrees (with_lone shown q)
 with_lone_agrees shown q free agrees =
     record {
-      both = λ i j.
-          ( λ e. prev_of-with_lone shown q free j ∙ (agrees.both i j).0 (sym (next_of-with_lone shown q free i) ∙ e)
-          , λ e. next_of-with_lone shown q free i ∙ (agrees.both i j).1 (sym (prev_of-with_lone shown q free j) ∙ e) )
+      both = λ i j. (
+        λ e. prev_of-with_lone shown q free j ∙ (agrees.both i j).0 (sym (next_of-with_lone shown q free i) ∙ e),
+        λ e. next_of-with_lone shown q free i ∙ (agrees.both i j).1 (sym (prev_of-with_lone shown q free j) ∙ e),
+      );
     }
 
 -- the items of a list without q show what they showed
@@ -47,9 +47,10 @@ without shown q xs none i h = with_lone-off shown q i (λ e. none (subst (Has xs
 -- a list without q stands before exactly if it stands after
 Stands-with_lone : (shown : Shown) (q : ℕ) (before : Option ℕ) (xs : List ℕ) (after : Option ℕ) → (Has xs q → ⊥)
     → Stands shown before xs after ↔ Stands (with_lone shown q) before xs after
-Stands-with_lone shown q before xs after none =
-    ( Stands-frame shown (with_lone shown q) before xs after (λ i h. sym (without shown q xs none i h))
-    , Stands-frame (with_lone shown q) shown before xs after (without shown q xs none) )
+Stands-with_lone shown q before xs after none = (
+  Stands-frame shown (with_lone shown q) before xs after (λ i h. sym (without shown q xs none i h)),
+  Stands-frame (with_lone shown q) shown before xs after (without shown q xs none),
+)
 
 -- a chain without q is one before exactly if it is one after
 pub IsChain-with_lone : (shown : Shown) (q : ℕ) (c : Chain) → (Has (items c) q → ⊥) → IsChain shown c ↔ IsChain (with_lone shown q) c
@@ -62,18 +63,19 @@ IsChain-with_lone shown q (cyclic xs) none =
 
 -- the new link is valid, and no other
 pub IsValid-with_lone : (shown : Shown) (q i : ℕ) → IsValid (with_lone shown q) i ↔ (IsValid shown i ⊎ (i ≡ q))
-IsValid-with_lone shown q i =
-    ( λ h. ⊎_elim
-          (λ e. let r : IsValid shown i ⊎ (i ≡ q) = inr e in r)
-          (λ ne. inl ((IsValid-same (with_lone shown q) shown i (with_lone-off shown q i ne)).0 h))
-          (cases_eq i q)
-    , λ h. ⊎_elim
-          (λ v. ⊎_elim
-              (λ e. record { link = link None None; shows = with_lone-at shown q i e })
-              (λ ne. (IsValid-same (with_lone shown q) shown i (with_lone-off shown q i ne)).1 v)
-              (cases_eq i q))
-          (λ e. record { link = link None None; shows = with_lone-at shown q i e })
-          h )
+IsValid-with_lone shown q i = (
+  λ h. ⊎_elim
+      (λ e. let r : IsValid shown i ⊎ (i ≡ q) = inr e in r)
+      (λ ne. inl ((IsValid-same (with_lone shown q) shown i (with_lone-off shown q i ne)).0 h))
+      (cases_eq i q),
+  λ h. ⊎_elim
+      (λ v. ⊎_elim
+      (λ e. record { link = link None None; shows = with_lone-at shown q i e })
+      (λ ne. (IsValid-same (with_lone shown q) shown i (with_lone-off shown q i ne)).1 v)
+      (cases_eq i q))
+      (λ e. record { link = link None None; shows = with_lone-at shown q i e })
+      h,
+)
 
 -- a link that stands alone comes to the chains
 pub with_lone_adds : (shown : Shown) (q : ℕ) → shown q ≡ None → AddsLone shown (with_lone shown q) q
@@ -82,5 +84,5 @@ with_lone_adds shown q free =
       alone = (λ e. cc, (λ h. h, tt), (with_lone-at shown q q refl, tt));
       rest = IsChain-with_lone shown q;
       pairs = λ i j. (λ e. sym (next_of-with_lone shown q free i) ∙ e, λ e. next_of-with_lone shown q free i ∙ e);
-      links = IsValid-with_lone shown q
+      links = IsValid-with_lone shown q;
     }

@@ -1,11 +1,11 @@
 -- What the chains of an arena decide: what it shows, and that a contract in chains leaves no choice.
-use Rattle.std.specs.Prelude.{◌≡◌, ◌≢◌, ◌↔◌, ℕ, ◌⊎◌, List, [], ◌∷◌, ◌++◌, Option, None, Some}
-use Rattle.std.proofs.Common.{sym, refl, ap, ◌∙◌, subst, inl, inr, ⊎_elim}
+use Rattle.std.specs.Prelude.{◌≡◌, ◌↔◌, ℕ, ◌⊎◌, List, [], ◌∷◌, ◌++◌, Option, None, Some}
+use Rattle.std.proofs.Common.{sym, refl, ap, ◌∙◌, subst, inl, inr}
 use mathlib.Core.Path.{fun_ext}
-use Rattle.chain_laws.specs.Chains.{Shown, Interlinks, Chain, linear, cyclic, items, IsChain, IsValid, IsWithin, Agrees, Has, HasNoRepetition, Stands, prev_in, next_in, prev_of, next_of, first_or, last_or}
-use Rattle.chain_laws.specs.Operations.{joined, with_lone, Connects, AddsLone, AreEndAndStart, HaveSameChains, ChainsDecide, ConnectsAsAJoin, AddsAsALone}
-use Rattle.chain_laws.proofs.Members.{Has-left, Has-right, Has-middle, Has-written, Has-or_not, first_or-filled, last_or-filled, last_or-append}
-use Rattle.chain_laws.proofs.Standing.{Stands-at, shows_next, shows_prev}
+use Rattle.chain_laws.specs.Chains.{Shown, Interlinks, Chain, linear, cyclic, items, IsChain, IsValid, IsWithin, Agrees, Has, Stands, prev_of, next_of, first_or, last_or}
+use Rattle.chain_laws.specs.Operations.{joined, with_lone, Connects, AddsLone, HaveSameChains, ChainsDecide, PairsDecide, JoinIsDetermined, LoneIsDetermined}
+use Rattle.chain_laws.proofs.Members.{Has-left, Has-middle, Has-written, Has-or_not, last_or-filled, last_or-append}
+use Rattle.chain_laws.proofs.Standing.{Stands-at, shows_next, shows_prev, shows_both}
 use Rattle.chain_laws.proofs.Unique.{chains_share, not_both, one_linear, one_cyclic}
 use Rattle.chain_laws.proofs.Turning.{turned, turned_to}
 use Rattle.chain_laws.proofs.Exists.{ChainOf, chain_of, has_chain}
@@ -83,12 +83,18 @@ connected_chain old a b x y left right = by (Has-or_not (x ++ a ∷ []) b)
   where
     by : Has (x ++ a ∷ []) b ⊎ (Has (x ++ a ∷ []) b → ⊥) → (d : Chain) × Has (items d) a × Has (items d) b × ((new : Shown) → Connects old new a b → IsChain new d)
     by (inl h) =
-        let same : x ++ a ∷ [] ≡ b ∷ y = one_linear old (x ++ a ∷ []) (b ∷ y) b left right h (inl refl) in
-        ( cyclic (x ++ a ∷ []), Has-middle x [] a, h
-        , λ new connects. connects.one (x ++ a ∷ []) left (ap (λ (zs : List ℕ). first_or zs None) same) (last_or-append x (a ∷ []) None) )
-    by (inr none) =
-        ( linear ((x ++ a ∷ []) ++ b ∷ y), Has-left (x ++ a ∷ []) (b ∷ y) a (Has-middle x [] a), Has-middle (x ++ a ∷ []) y b
-        , λ new connects. connects.two x y left right none )
+        let same : x ++ a ∷ [] ≡ b ∷ y = one_linear old (x ++ a ∷ []) (b ∷ y) b left right h (inl refl) in (
+          cyclic (x ++ a ∷ []),
+          Has-middle x [] a,
+          h,
+          λ new connects. connects.one (x ++ a ∷ []) left (ap (λ (zs : List ℕ). first_or zs None) same) (last_or-append x (a ∷ []) None),
+        )
+    by (inr none) = (
+      linear ((x ++ a ∷ []) ++ b ∷ y),
+      Has-left (x ++ a ∷ []) (b ∷ y) a (Has-middle x [] a),
+      Has-middle (x ++ a ∷ []) y b,
+      λ new connects. connects.two x y left right none,
+    )
 
 -- two arenas in which a and b are connected have the same chains
 connected_alike : (old left right : Shown) (a b : ℕ) (d : Chain) → Connects old left a b → Connects old right a b
@@ -101,16 +107,17 @@ connected_alike old left right a b d l r in_left in_right has_a has_b c chain = 
     by (inr none_a) (inr none_b) = (r.rest c none_a none_b).0 ((l.rest c none_a none_b).1 chain)
 
 -- what connects an end and a start has the chains of their join
-pub connects_as_a_join : ConnectsAsAJoin
-connects_as_a_join old new slots a b agrees within ends connects c =
+pub join_is_determined : JoinIsDetermined
+join_is_determined old new slots a b agrees within ends connects c =
     let x = end_chain old a (has_chain old slots agrees within a ends.valid_end) ends.end in
     let y = start_chain old b (has_chain old slots agrees within b ends.valid_start) ends.start in
     let d = connected_chain old a b x.0 y.0 x.1 y.1 in
     let join = joined_connects old a b in
     let in_new = d.3 new connects in
-    let in_join = d.3 (joined old a b) join in
-    ( connected_alike old new (joined old a b) a b d.0 connects join in_new in_join d.1 d.2 c
-    , connected_alike old (joined old a b) new a b d.0 join connects in_join in_new d.1 d.2 c )
+    let in_join = d.3 (joined old a b) join in (
+      connected_alike old new (joined old a b) a b d.0 connects join in_new in_join d.1 d.2 c,
+      connected_alike old (joined old a b) new a b d.0 join connects in_join in_new d.1 d.2 c,
+    )
 
 -- two arenas to which q comes alone have the same chains
 added_alike : (old left right : Shown) (q : ℕ) → AddsLone old left q → AddsLone old right q → (c : Chain) → IsChain left c → IsChain right c
@@ -121,8 +128,8 @@ added_alike old left right q l r c chain = by (Has-or_not (items c) q)
     by (inr none) = (r.rest c none).0 ((l.rest c none).1 chain)
 
 -- what adds a link that stands alone has the chains with it
-pub adds_as_a_lone : AddsAsALone
-adds_as_a_lone old new q free adds c =
+pub lone_is_determined : LoneIsDetermined
+lone_is_determined old new q free adds c =
     let lone = with_lone_adds old q free in
     (added_alike old new (with_lone old q) q adds lone c, added_alike old (with_lone old q) new q lone adds c)
 
@@ -141,3 +148,30 @@ chains_decide left right slots agrees_left agrees_right within_left within_right
     by i (Some l) e p f = shows_alike left right slots agrees_left within_left same i (record { link = l; shows = e })
     by i None e None f = e ∙ sym f
     by i None e (Some m) f = sym (shows_alike right left slots agrees_right within_right (λ c. ((same c).1, (same c).0)) i (record { link = m; shows = f }))
+
+-- options that name the same are the same
+same_named : (o p : Option ℕ) → ((j : ℕ) → (o ≡ Some j) ↔ (p ≡ Some j)) → o ≡ p
+same_named None None same = refl
+same_named None (Some k) same = let none = (same k).1 refl in absurd (cc)
+same_named (Some k) p same = sym ((same k).0 refl)
+
+-- two arenas with the same links and neighbour pairs show the same
+pub pairs_decide : PairsDecide
+pairs_decide left right agrees_left agrees_right links pairs = fun_ext (λ i. by i (left i) refl (right i) refl)
+  where
+    next_same : (i : ℕ) → next_of left i ≡ next_of right i
+    next_same i = same_named (next_of left i) (next_of right i) (pairs i)
+
+    prev_same : (i : ℕ) → prev_of left i ≡ prev_of right i
+    prev_same i = same_named (prev_of left i) (prev_of right i)
+        (λ j. (λ e. (agrees_right.both j i).0 ((pairs j i).0 ((agrees_left.both j i).1 e)), λ e. (agrees_left.both j i).0 ((pairs j i).1 ((agrees_right.both j i).1 e))))
+
+    valid_same : (i : ℕ) → IsValid left i → left i ≡ right i
+    valid_same i valid =
+        shows_both left i (prev_of right i) (next_of right i) valid (prev_same i) (next_same i)
+        ∙ sym (shows_both right i (prev_of right i) (next_of right i) ((links i).0 valid) refl refl)
+
+    by : (i : ℕ) (o : Option Interlinks) → left i ≡ o → (p : Option Interlinks) → right i ≡ p → left i ≡ right i
+    by i (Some l) e p f = valid_same i (record { link = l; shows = e })
+    by i None e None f = e ∙ sym f
+    by i None e (Some m) f = valid_same i ((links i).1 (record { link = m; shows = f }))

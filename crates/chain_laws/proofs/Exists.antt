@@ -1,9 +1,9 @@
 -- An arena whose interlinks agree has chains: one from each index, and so a list of all.
-use Rattle.std.proofs.Common.{◌≡◌, ◌≢◌, ◌↔◌, ℕ, zero, suc, ◌+◌, ◌<◌, ◌≤◌, ◌⊎◌, inl, inr, ⊎_elim, List, [], ◌∷◌, ◌++◌, length, Option, None, Some, refl, sym, ap, ◌∙◌, subst, length-append, arith}
+use Rattle.std.proofs.Common.{◌≡◌, ◌≢◌, ℕ, zero, suc, ◌+◌, ◌<◌, ◌≤◌, ◌⊎◌, inl, inr, ⊎_elim, List, [], ◌∷◌, ◌++◌, length, Option, None, Some, refl, sym, ap, ◌∙◌, subst, length-append, arith}
 use Rattle.std.proofs.Math.Decide.{ℕ_discrete}
-use Rattle.chain_laws.specs.Chains.{Shown, Interlinks, IsValid, IsWithin, Agrees, Has, HasNoRepetition, Chain, linear, cyclic, items, first_or, last_or, prev_in, next_in, prev_of, next_of, Stands, IsChain, HasChain, all_items, IsWritten, Rises, AreChains, IsInOrder}
-use Rattle.chain_laws.proofs.Members.{Has-left, Has-right, Has-parts, Has-middle, Has-filled, Has-or_not, HasNoRepetition-append, last_or-filled, first_or-filled, length_bound}
-use Rattle.chain_laws.proofs.Standing.{link, shows_valid, shows_both, shows_prev, shows_next, next_valid, prev_valid, Stands-append, Stands-valid, Stands-last, apart_no_repetition, last_no_repetition}
+use Rattle.chain_laws.specs.Chains.{Shown, Interlinks, IsValid, IsWithin, Agrees, Has, HasNoRepetition, Chain, linear, cyclic, items, last_or, prev_in, prev_of, next_of, Stands, IsChain, HasChain, all_items, IsWritten, Rises, AreChains, IsInOrder}
+use Rattle.chain_laws.proofs.Members.{Has-left, Has-right, Has-parts, Has-filled, Has-or_not, HasNoRepetition-append, last_or-filled, length_bound}
+use Rattle.chain_laws.proofs.Standing.{link, shows_valid, shows_both, next_valid, prev_valid, Stands-append, Stands-valid, Stands-last, apart_no_repetition, last_no_repetition}
 use Rattle.chain_laws.proofs.Unique.{chain_valid, chain_once, chains_share, Has-at_most}
 use Rattle.chain_laws.proofs.Turning.{turned_to}
 use Rattle.chain_laws.proofs.Gathering.{Has-all_items, chain_at, all_items_valid}
@@ -22,7 +22,6 @@ pub data ChainOf (shown : Shown) (k : ℕ) : Type 0 where
   chain_of : (c : Chain) → IsChain shown c → Has (items c) k → ChainOf shown k
 
 module _ (shown : Shown) (slots : ℕ) (agrees : Agrees shown) (within : IsWithin shown slots) where
-
   -- a list without repetition of valid indexes has no room beyond the slots
   room : (xs : List ℕ) → HasNoRepetition xs → ((i : ℕ) → Has xs i → IsValid shown i) → slots < length xs → ⊥
   room xs once valid more =
@@ -45,18 +44,24 @@ module _ (shown : Shown) (slots : ℕ) (agrees : Agrees shown) (within : IsWithi
     where
       named : prev_of shown j ≡ last_or (k ∷ xs) before
       named = names_last before k xs j s
+
       valid : IsValid shown j
       valid = let last = last_or-filled (k ∷ xs) k (inl refl) in prev_valid shown j last.0 (named ∙ last.1 before)
+
       longer : slots < left + length (k ∷ xs ++ j ∷ [])
       longer = let l : length (xs ++ j ∷ []) ≡ length xs + length (j ∷ []) = length-append xs (j ∷ []) in omega arith
+
       stands : (after : Option ℕ) → next_of shown j ≡ after → Stands shown before (k ∷ xs ++ j ∷ []) after
       stands after n = Stands-append shown before (k ∷ xs) (j ∷ []) after s (shows_both shown j (last_or (k ∷ xs) before) after valid named n, tt)
+
       still_apart : Has (xs ++ j ∷ []) k → ⊥
       still_apart h = ⊎_elim apart (⊎_elim differs (λ (n : ⊥). n)) (Has-parts xs (j ∷ []) k h)
+
       by_test : (m : ℕ) → next_of shown j ≡ Some m → Dec (m ≡ k)
           → ((m : ℕ) → Stands shown before (k ∷ xs ++ j ∷ []) (Some m) → (Has (xs ++ j ∷ []) k → ⊥) → (m ≢ k) → Ending shown before k) → Ending shown before k
       by_test m n (yes e) on = comes_round (xs ++ j ∷ []) (stands (Some k) (n ∙ ap (λ (z : ℕ). Some z) e)) still_apart
       by_test m n (no d) on = on m (stands (Some m) n) still_apart d
+
       by_next : (after : Option ℕ) → next_of shown j ≡ after
           → ((m : ℕ) → Stands shown before (k ∷ xs ++ j ∷ []) (Some m) → (Has (xs ++ j ∷ []) k → ⊥) → (m ≢ k) → Ending shown before k) → Ending shown before k
       by_next None n on = ends (xs ++ j ∷ []) (stands None n)
@@ -68,9 +73,11 @@ module _ (shown : Shown) (slots : ℕ) (agrees : Agrees shown) (within : IsWithi
     where
       stands : (after : Option ℕ) → next_of shown k ≡ after → Stands shown (prev_of shown k) (k ∷ []) after
       stands after n = (shows_both shown k (prev_of shown k) after valid refl n, tt)
+
       by_test : (m : ℕ) → next_of shown k ≡ Some m → Dec (m ≡ k) → Ending shown (prev_of shown k) k
       by_test m n (yes e) = comes_round [] (stands (Some k) (n ∙ ap (λ (z : ℕ). Some z) e)) (λ h. h)
       by_test m n (no d) = onward slots (prev_of shown k) k [] m (stands (Some m) n) (λ h. h) d (omega arith)
+
       by_next : (after : Option ℕ) → next_of shown k ≡ after → Ending shown (prev_of shown k) k
       by_next None n = ends [] (stands None n)
       by_next (Some m) n = by_test m n (ℕ_discrete m k)
@@ -84,6 +91,7 @@ module _ (shown : Shown) (slots : ℕ) (agrees : Agrees shown) (within : IsWithi
     where
       on : next_of shown j ≡ Some x
       on = (agrees.both j x).1 (ap prev_in s.0)
+
       before : shown j ≡ Some (link (prev_of shown j) (Some x))
       before = shows_both shown j (prev_of shown j) (Some x) (next_valid shown j x on) refl on
 
@@ -93,14 +101,16 @@ module _ (shown : Shown) (slots : ℕ) (agrees : Agrees shown) (within : IsWithi
     where
       by_beginning : Beginning shown k → ChainOf shown k
       by_beginning (begins xs s h) = chain_of (linear xs) (Has-filled xs k h, last_no_repetition shown None xs s, s) h
+
       ring : (after : List ℕ) → Stands shown (prev_of shown k) (k ∷ after) (Some k) → Stands shown (last_or (k ∷ after) None) (k ∷ after) (Some k)
       ring after s = subst (λ (o : Option ℕ). Stands shown o (k ∷ after) (Some k)) (names_last (prev_of shown k) k after k s) s
+
       by_ending : Ending shown (prev_of shown k) k → ChainOf shown k
       by_ending (ends after s) = by_beginning (backward slots (prev_of shown k) k after k s (inl refl) (omega arith))
       by_ending (comes_round after s apart) =
           chain_of (cyclic (k ∷ after))
-              (Has-filled (k ∷ after) k (inl refl), apart_no_repetition shown (prev_of shown k) k after (Some k) s apart, ring after s)
-              (inl refl)
+          (Has-filled (k ∷ after) k (inl refl), apart_no_repetition shown (prev_of shown k) k after (Some k) s apart, ring after s)
+          (inl refl)
 
   -- the chain of an index that is at most its other indexes, a cyclic one written from it
   data WrittenFrom (k : ℕ) : Type 0 where
@@ -128,27 +138,31 @@ module _ (shown : Shown) (slots : ℕ) (agrees : Agrees shown) (within : IsWithi
       → ((i : ℕ) → IsValid shown i → i < k → Has (all_items done) i) → ((y : ℕ) → Has (items c) y → Has (all_items done) y → ⊥)
       → Others (c ∷ done) → Others done
   with_chain k done c h m w below apart more = record {
-      chains = c ∷ more.chains;
-      each = chains_each;
-      written = chains_written;
-      once = HasNoRepetition-append (items c) (all_items more.chains) (chain_once shown c h) more.once (λ y n o. more.apart y o (Has-left (items c) (all_items done) y n));
-      apart = λ i n o. ⊎_elim (λ (p : Has (items c) i). apart i p o) (λ (p : Has (all_items more.chains) i). more.apart i p (Has-right (items c) (all_items done) i o)) (Has-parts (items c) (all_items more.chains) i n);
-      all = λ i v. by_more i (more.all i v);
-      rises = ((k, m, above), more.rises)
-    }
+    chains = c ∷ more.chains;
+    each = chains_each;
+    written = chains_written;
+    once = HasNoRepetition-append (items c) (all_items more.chains) (chain_once shown c h) more.once (λ y n o. more.apart y o (Has-left (items c) (all_items done) y n));
+    apart = λ i n o. ⊎_elim (λ (p : Has (items c) i). apart i p o) (λ (p : Has (all_items more.chains) i). more.apart i p (Has-right (items c) (all_items done) i o)) (Has-parts (items c) (all_items more.chains) i n);
+    all = λ i v. by_more i (more.all i v);
+    rises = ((k, m, above), more.rises);
+  }
     where
       chains_each : (d : Chain) → HasChain (c ∷ more.chains) d → IsChain shown d
       chains_each d (inl e) = subst (IsChain shown) e h
       chains_each d (inr n) = more.each d n
+
       chains_written : (d : Chain) → HasChain (c ∷ more.chains) d → IsWritten d
       chains_written d (inl e) = subst IsWritten e w
       chains_written d (inr n) = more.written d n
+
       by_part : (i : ℕ) → Has (items c) i ⊎ Has (all_items done) i → Has (all_items done) i ⊎ Has (items c ++ all_items more.chains) i
       by_part i (inl n) = inr (Has-left (items c) (all_items more.chains) i n)
       by_part i (inr n) = inl n
+
       by_more : (i : ℕ) → Has (items c ++ all_items done) i ⊎ Has (all_items more.chains) i → Has (all_items done) i ⊎ Has (items c ++ all_items more.chains) i
       by_more i (inl n) = by_part i (Has-parts (items c) (all_items done) i n)
       by_more i (inr n) = inr (Has-right (items c) (all_items more.chains) i n)
+
       above : (y : ℕ) → Has (all_items more.chains) y → k < y
       above y n =
           let late : (y < k) → ⊥ = λ (l : y < k). more.apart y n (Has-right (items c) (all_items done) y (below y (all_items_valid shown more.chains y more.each n) l)) in
@@ -159,47 +173,54 @@ module _ (shown : Shown) (slots : ℕ) (agrees : Agrees shown) (within : IsWithi
   others : (left k : ℕ) (done : List Chain) → k + left ≡ suc slots → ((c : Chain) → HasChain done c → IsChain shown c)
       → ((i : ℕ) → IsValid shown i → i < k → Has (all_items done) i) → Others done
   others zero k done e each below = record {
-      chains = [];
-      each = λ c n. absurd n;
-      written = λ c n. absurd n;
-      once = tt;
-      apart = λ i n o. n;
-      all = λ i v. inl (below i v (let w = within.within i v in let high : i ≤ slots = w.1 in omega arith));
-      rises = tt
-    }
+    chains = [];
+    each = λ c n. absurd n;
+    written = λ c n. absurd n;
+    once = tt;
+    apart = λ i n o. n;
+    all = λ i v. inl (below i v (let w = within.within i v in let high : i ≤ slots = w.1 in omega arith));
+    rises = tt;
+  }
   others (suc left) k done e each below =
       by_valid (shown k) refl (λ below_more. others left (suc k) done next each below_more)
-          (λ c h below_more. others left (suc k) (c ∷ done) next (each_more c h) below_more)
+      (λ c h below_more. others left (suc k) (c ∷ done) next (each_more c h) below_more)
     where
       next : suc k + left ≡ suc slots
       next = omega arith
+
       each_more : (c : Chain) → IsChain shown c → (d : Chain) → HasChain (c ∷ done) d → IsChain shown d
       each_more c h d (inl f) = subst (IsChain shown) f h
       each_more c h d (inr n) = each d n
+
       split : (P : ℕ → Type 0) → ((i : ℕ) → IsValid shown i → i < k → P i) → (IsValid shown k → P k) → (i : ℕ) → IsValid shown i → i < suc k → P i
       split P low here i v l = by_test (ℕ_discrete i k)
         where
           by_test : Dec (i ≡ k) → P i
           by_test (yes f) = subst P (sym f) (here (subst (IsValid shown) f v))
           by_test (no d) = low i v (omega arith)
+
       done_apart : (Has (all_items done) k → ⊥) → (c : Chain) → IsChain shown c → Has (items c) k → (y : ℕ) → Has (items c) y → Has (all_items done) y → ⊥
       done_apart new c h m y n o =
           let d = chain_at done y o in
           new (Has-all_items done d.0 k d.1 (chains_share shown c d.0 y k h (each d.0 d.1) n d.2 m))
+
       by_written : (Has (all_items done) k → ⊥) → WrittenFrom k
           → ((c : Chain) → IsChain shown c → ((i : ℕ) → IsValid shown i → i < suc k → Has (all_items (c ∷ done)) i) → Others (c ∷ done)) → Others done
       by_written new (written_from c h m w) more =
           with_chain k done c h m w below (done_apart new c h m)
-              (more c h (split (Has (items c ++ all_items done)) (λ i v l. Has-right (items c) (all_items done) i (below i v l)) (λ v. Has-left (items c) (all_items done) k m)))
+          (more c h (split (Has (items c ++ all_items done)) (λ i v l. Has-right (items c) (all_items done) i (below i v l)) (λ v. Has-left (items c) (all_items done) k m)))
+
       least : (Has (all_items done) k → ⊥) → (c : Chain) (y : ℕ) → IsChain shown c → Has (items c) k → Has (items c) y → k ≤ y
       least new c y h m n =
           let early : (y < k) → ⊥ = λ (l : y < k). done_apart new c h m y n (below y (chain_valid shown c y h n) l) in
           omega arith
+
       by_done : IsValid shown k → Has (all_items done) k ⊎ (Has (all_items done) k → ⊥)
           → (((i : ℕ) → IsValid shown i → i < suc k → Has (all_items done) i) → Others done)
           → ((c : Chain) → IsChain shown c → ((i : ℕ) → IsValid shown i → i < suc k → Has (all_items (c ∷ done)) i) → Others (c ∷ done)) → Others done
       by_done v (inl h) same more = same (split (Has (all_items done)) below (λ w. h))
       by_done v (inr new) same more = by_written new (from_least k (has_chain k v) (least new)) more
+
       by_valid : (o : Option Interlinks) → shown k ≡ o
           → (((i : ℕ) → IsValid shown i → i < suc k → Has (all_items done) i) → Others done)
           → ((c : Chain) → IsChain shown c → ((i : ℕ) → IsValid shown i → i < suc k → Has (all_items (c ∷ done)) i) → Others (c ∷ done)) → Others done
@@ -209,10 +230,11 @@ module _ (shown : Shown) (slots : ℕ) (agrees : Agrees shown) (within : IsWithi
   -- the arena has chains, in order
   pub has_chains : (chains : List Chain) × AreChains shown chains × IsInOrder chains
   has_chains =
-      let all = others slots 1 [] (omega arith) (λ c n. absurd n) none_before in
-      ( all.chains
-      , record { each = all.each; once = all.once; all = λ i v. ⊎_elim (λ (n : ⊥). absurd n) (λ (n : Has (all_items all.chains) i). n) (all.all i v) }
-      , record { written = all.written; rises = all.rises } )
+      let all = others slots 1 [] (omega arith) (λ c n. absurd n) none_before in (
+        all.chains,
+        record { each = all.each; once = all.once; all = λ i v. ⊎_elim (λ (n : ⊥). absurd n) (λ (n : Has (all_items all.chains) i). n) (all.all i v) },
+        record { written = all.written; rises = all.rises },
+      )
     where
       none_before : (i : ℕ) → IsValid shown i → i < 1 → ⊥
       none_before i v l = let w = within.within i v in let low : 1 ≤ i = w.0 in omega arith

@@ -1,6 +1,6 @@
 -- Lists of chains: which chain an index stands in.
-use Rattle.std.proofs.Common.{◌≡◌, ◌≢◌, ◌↔◌, ℕ, ◌<◌, ◌≤◌, ◌⊎◌, inl, inr, ⊎_elim, List, [], ◌∷◌, ◌++◌, Option, None, Some, refl, sym, ap, ◌∙◌, subst, arith}
-use Rattle.chain_laws.specs.Chains.{Shown, IsValid, Has, HasNoRepetition, Chain, items, HasChain, all_items, IsChain, AreChains}
+use Rattle.std.proofs.Common.{◌≡◌, ℕ, ◌⊎◌, inl, inr, List, [], ◌∷◌, refl, sym, ◌∙◌, subst}
+use Rattle.chain_laws.specs.Chains.{Shown, IsValid, Has, HasNoRepetition, Chain, items, HasChain, all_items, IsChain}
 use Rattle.chain_laws.proofs.Members.{Has-left, Has-right, Has-parts, HasNoRepetition-left, HasNoRepetition-right, HasNoRepetition-apart}
 use Rattle.chain_laws.proofs.Unique.{chain_valid}
 

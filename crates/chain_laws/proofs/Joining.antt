@@ -1,19 +1,15 @@
 -- What a join keeps and does: the interlinks still agree, one pair is added, and two chains become one.
-use Rattle.std.specs.Prelude.{◌≡◌, ◌≢◌, ◌↔◌, ℕ, ◌==◌, ◌⊎◌, if◌then◌else◌, List, [], ◌∷◌, ◌++◌, Option, None, Some}
-use Rattle.std.proofs.Common.{sym, refl, ap, ◌∙◌, subst, subst₂, inl, inr, ⊎_elim}
+use Rattle.std.specs.Prelude.{◌≡◌, ◌≢◌, ℕ, ◌⊎◌, List, [], ◌∷◌, ◌++◌, None, Some}
+use Rattle.std.proofs.Common.{sym, ap, ◌∙◌, subst, subst₂, inl, inr, ⊎_elim}
 use Rattle.std.proofs.lemmas.Bool.{cases_eq}
-use Rattle.chain_laws.specs.Chains.{Shown, Chain, linear, cyclic, items, IsChain, prev_of, next_of, IsValid, Agrees, Has, HasNoRepetition, Stands, first_or, last_or}
+use Rattle.chain_laws.specs.Chains.{Shown, linear, cyclic, items, IsChain, prev_of, next_of, IsValid, Agrees, Has, Stands, first_or, last_or}
 use Rattle.chain_laws.specs.Neighbors.{AreNeighbors}
 use Rattle.chain_laws.specs.Operations.{joined, linked, AddsPair, Connects, AreEndAndStart}
 use Rattle.chain_laws.proofs.Agreement.{put, put-same, put-other, join_undoes, Undoes-at, one_some, not_both_ways}
-use Rattle.chain_laws.proofs.Linking.{next_of-linked, prev_of-linked, IsValidAt, IsValid-linked}
-use Rattle.chain_laws.proofs.Linked.{IsApart, IsApart-Some, Stands-glued, Stands-ringed, IsChain-linked}
+use Rattle.chain_laws.proofs.Linking.{next_of-linked, prev_of-linked, IsValidAt-Some, IsValid-linked}
+use Rattle.chain_laws.proofs.Gluing.{IsApart, IsApart-Some, Stands-glued, Stands-ringed, IsChain-linked}
 use Rattle.chain_laws.proofs.Unique.{chain_closed, reaches_first}
 use Rattle.chain_laws.proofs.Members.{Has-middle, Has-filled, HasNoRepetition-append, last_or-append}
-
--- an index that is named as some index
-pub IsValidAt-Some : (shown : Shown) (i : ℕ) → IsValid shown i → IsValidAt shown (Some i)
-IsValidAt-Some shown i valid k e = subst (IsValid shown) (one_some e) valid
 
 -- what comes after each index once b comes after a
 pub next_of-joined : (shown : Shown) (a b : ℕ) → IsValid shown a → (j : ℕ) → next_of (joined shown a b) j ≡ put (next_of shown) a (Some b) j
@@ -29,7 +25,7 @@ joined_agrees shown a b agrees ends =
     record {
       both = Undoes-at (put (next_of shown) a (Some b)) (put (prev_of shown) b (Some a)) (next_of (joined shown a b)) (prev_of (joined shown a b))
           (next_of-joined shown a b ends.valid_end) (prev_of-joined shown a b ends.valid_start)
-          (join_undoes (next_of shown) (prev_of shown) a b agrees.both ends.end ends.start)
+          (join_undoes (next_of shown) (prev_of shown) a b agrees.both ends.end ends.start);
     }
 
 -- a join adds its pair and no other
@@ -37,7 +33,7 @@ pub joined_adds_a_pair : (shown : Shown) (a b : ℕ) → AreEndAndStart shown a 
 joined_adds_a_pair shown a b ends =
     record {
       pairs = λ i j. (there i j, back i j);
-      links = λ i. IsValid-linked shown (Some a) (Some b) i
+      links = λ i. IsValid-linked shown (Some a) (Some b) i;
     }
   where
     there : (i j : ℕ) → AreNeighbors (joined shown a b) i j → AreNeighbors shown i j ⊎ ((i ≡ a) × (j ≡ b))
@@ -45,10 +41,11 @@ joined_adds_a_pair shown a b ends =
         (λ s. let to_b : Some b ≡ Some j = sym (put-same (next_of shown) a (Some b) i s) ∙ sym (next_of-joined shown a b ends.valid_end i) ∙ e in inr (s, sym (one_some to_b)))
         (λ ne. inl (sym (put-other (next_of shown) a (Some b) i ne) ∙ sym (next_of-joined shown a b ends.valid_end i) ∙ e))
         (cases_eq i a)
+
     back : (i j : ℕ) → AreNeighbors shown i j ⊎ ((i ≡ a) × (j ≡ b)) → AreNeighbors (joined shown a b) i j
-    back i j (inl e) = 
+    back i j (inl e) =
         let ne : i ≢ a = λ s. let at_a : next_of shown a ≡ Some j = subst (λ k. next_of shown k ≡ Some j) s e in
-            not_both_ways (next_of shown a) j ends.end at_a in
+        not_both_ways (next_of shown a) j ends.end at_a in
         next_of-joined shown a b ends.valid_end i ∙ put-other (next_of shown) a (Some b) i ne ∙ e
     back i j (inr (s, t)) = next_of-joined shown a b ends.valid_end i ∙ put-same (next_of shown) a (Some b) i s ∙ ap Some (sym t)
 
@@ -58,12 +55,12 @@ pub joined_two : (shown : Shown) (a b : ℕ) (x y : List ℕ) → IsChain shown 
 joined_two shown a b x y left right none =
     let xs = x ++ a ∷ [] in
     let apart : (k : ℕ) → Has xs k → Has (b ∷ y) k → ⊥ = λ k h g.
-        none (reaches_first shown (Has xs) None b y None k (chain_closed shown (linear xs) left) right.2 g h) in
+    none (reaches_first shown (Has xs) None b y None k (chain_closed shown (linear xs) left) right.2 g h) in
     let ends : last_or xs None ≡ Some a = last_or-append x (a ∷ []) None in
     let glued : Stands (linked shown (last_or xs None) (Some b)) None (xs ++ b ∷ y) None =
-        Stands-glued shown None xs None None (b ∷ y) None left.1 right.1
-            (subst (λ u. IsApart u (b ∷ y)) (sym ends) (IsApart-Some a (b ∷ y) (apart a (Has-middle x [] a))))
-            (IsApart-Some b xs none) left.2 right.2 in
+    Stands-glued shown None xs None None (b ∷ y) None left.1 right.1
+    (subst (λ u. IsApart u (b ∷ y)) (sym ends) (IsApart-Some a (b ∷ y) (apart a (Has-middle x [] a))))
+    (IsApart-Some b xs none) left.2 right.2 in
     (Has-filled (xs ++ b ∷ y) b (Has-middle xs y b), HasNoRepetition-append xs (b ∷ y) left.1 right.1 apart, subst (λ u. Stands (linked shown u (Some b)) None (xs ++ b ∷ y) None) ends glued)
 
 -- one chain becomes cyclic
@@ -77,5 +74,5 @@ joined_connects shown a b =
     record {
       two = joined_two shown a b;
       one = joined_one shown a b;
-      rest = λ c none_a none_b. IsChain-linked shown (Some a) (Some b) c (IsApart-Some a (items c) none_a) (IsApart-Some b (items c) none_b)
+      rest = λ c none_a none_b. IsChain-linked shown (Some a) (Some b) c (IsApart-Some a (items c) none_a) (IsApart-Some b (items c) none_b);
     }

@@ -8,9 +8,11 @@ pub mod Neighboring
 pub mod Partitions
 pub mod Agreement
 pub mod Linking
-pub mod Linked
+pub mod Gluing
 pub mod Joining
 pub mod Alone
 pub mod Walking
 pub mod Passing
 pub mod Determined
+pub mod OperationRows
+pub mod Rows

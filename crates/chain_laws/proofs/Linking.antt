@@ -1,11 +1,11 @@
--- What `linked` does: at one index, and to the lists that stand.
-use Rattle.std.specs.Prelude.{◌≡◌, ◌≢◌, ◌↔◌, ℕ, ◌==◌, ◌⊎◌, if◌then◌else◌, List, [], ◌∷◌, ◌++◌, Option, None, Some}
+-- What `linked` does at each index.
+use Rattle.std.specs.Prelude.{◌≡◌, ◌≢◌, ◌↔◌, ℕ, ◌==◌, if◌then◌else◌, Option, None, Some}
 use Rattle.std.specs.Option.{option_map}
-use Rattle.std.proofs.Common.{sym, refl, ap, ◌∙◌, subst, inl, inr, ⊎_elim}
+use Rattle.std.proofs.Common.{sym, refl, ap, ◌∙◌, subst, ⊎_elim}
 use Rattle.std.proofs.lemmas.Bool.{cases_eq}
-use Rattle.chain_laws.specs.Chains.{Shown, Interlinks, prev_in, next_in, prev_of, next_of, IsValid, Has, HasNoRepetition, Stands, first_or, last_or}
+use Rattle.chain_laws.specs.Chains.{Shown, Interlinks, prev_in, next_in, prev_of, next_of, IsValid}
 use Rattle.chain_laws.specs.Operations.{with_prev, with_next, prev_set, next_set, linked}
-use Rattle.chain_laws.proofs.Agreement.{put, if_same, if_other, put-same, put-other}
+use Rattle.chain_laws.proofs.Agreement.{put, if_same, if_other, put-same, put-other, one_some}
 
 -- the index, where it is one, is not j
 abbrev pub IsOff : Option ℕ → ℕ → Type 0
@@ -15,34 +15,43 @@ IsOff u j = (i : ℕ) → u ≡ Some i → j ≢ i
 abbrev pub IsValidAt : Shown → Option ℕ → Type 0
 IsValidAt shown u = (i : ℕ) → u ≡ Some i → IsValid shown i
 
+-- a valid index, as some index
+pub IsValidAt-Some : (shown : Shown) (i : ℕ) → IsValid shown i → IsValidAt shown (Some i)
+IsValidAt-Some shown i valid k e = subst (IsValid shown) (one_some e) valid
+
 -- what a function names, but o at u
 abbrev pub put_at : (ℕ → Option ℕ) → Option ℕ → Option ℕ → ℕ → Option ℕ
 put_at f None o j = f j
 put_at f (Some i) o j = put f i o j
 
--- another index shows what it showed
+-- another index shows what it showed, after a write of `next` ..
 pub next_set-off : (shown : Shown) (u v : Option ℕ) (j : ℕ) → IsOff u j → next_set shown u v j ≡ shown j
 next_set-off shown None v j off = refl
 next_set-off shown (Some i) v j off = if_other j i _ _ (off i refl)
 
+-- .. of `prev` ..
 pub prev_set-off : (shown : Shown) (u v : Option ℕ) (j : ℕ) → IsOff u j → prev_set shown u v j ≡ shown j
 prev_set-off shown None v j off = refl
 prev_set-off shown (Some i) v j off = if_other j i _ _ (off i refl)
 
+-- .. and of both
 pub linked-off : (shown : Shown) (u v : Option ℕ) (j : ℕ) → IsOff u j → IsOff v j → linked shown u v j ≡ shown j
 linked-off shown u v j off_u off_v = prev_set-off (next_set shown u v) v u j off_v ∙ next_set-off shown u v j off_u
 
--- what the written link shows
+-- what the link shows whose `next` is written ..
 pub next_set-at : (shown : Shown) (i : ℕ) (v : Option ℕ) (link : Interlinks) → shown i ≡ Some link → next_set shown (Some i) v i ≡ Some (with_next v link)
 next_set-at shown i v link e = if_same i i _ _ refl ∙ ap (option_map (with_next v)) e
 
+-- .. and whose `prev` is
 pub prev_set-at : (shown : Shown) (i : ℕ) (u : Option ℕ) (link : Interlinks) → shown i ≡ Some link → prev_set shown (Some i) u i ≡ Some (with_prev u link)
 prev_set-at shown i u link e = if_same i i _ _ refl ∙ ap (option_map (with_prev u)) e
 
+-- a link with another `next` has its `prev`
 prev_in-with_next : (v : Option ℕ) (o : Option Interlinks) → prev_in (option_map (with_next v) o) ≡ prev_in o
 prev_in-with_next v None = refl
 prev_in-with_next v (Some link) = refl
 
+-- a link with another `prev` has its `next`
 next_in-with_prev : (u : Option ℕ) (o : Option Interlinks) → next_in (option_map (with_prev u) o) ≡ next_in o
 next_in-with_prev u None = refl
 next_in-with_prev u (Some link) = refl
@@ -68,7 +77,7 @@ pub next_of-next_set : (shown : Shown) (u v : Option ℕ) (j : ℕ) → IsValidA
 next_of-next_set shown None v j valid = refl
 next_of-next_set shown (Some i) v j valid = ⊎_elim
     (λ e. let at_i = valid i refl in
-        subst (λ k. next_of (next_set shown (Some i) v) k ≡ v) (sym e) (ap next_in (next_set-at shown i v at_i.link at_i.shows)) ∙ sym (put-same (next_of shown) i v j e))
+    subst (λ k. next_of (next_set shown (Some i) v) k ≡ v) (sym e) (ap next_in (next_set-at shown i v at_i.link at_i.shows)) ∙ sym (put-same (next_of shown) i v j e))
     (λ ne. ap next_in (if_other j i _ _ ne) ∙ sym (put-other (next_of shown) i v j ne))
     (cases_eq j i)
 
@@ -77,7 +86,7 @@ pub prev_of-prev_set : (shown : Shown) (u v : Option ℕ) (j : ℕ) → IsValidA
 prev_of-prev_set shown None v j valid = refl
 prev_of-prev_set shown (Some i) v j valid = ⊎_elim
     (λ e. let at_i = valid i refl in
-        subst (λ k. prev_of (prev_set shown (Some i) v) k ≡ v) (sym e) (ap prev_in (prev_set-at shown i v at_i.link at_i.shows)) ∙ sym (put-same (prev_of shown) i v j e))
+    subst (λ k. prev_of (prev_set shown (Some i) v) k ≡ v) (sym e) (ap prev_in (prev_set-at shown i v at_i.link at_i.shows)) ∙ sym (put-same (prev_of shown) i v j e))
     (λ ne. ap prev_in (if_other j i _ _ ne) ∙ sym (put-other (prev_of shown) i v j ne))
     (cases_eq j i)
 

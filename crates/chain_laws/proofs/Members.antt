@@ -1,5 +1,5 @@
 -- Lists of indexes: what they have, what is written one after another, and lists without repetition.
-use Rattle.std.proofs.Common.{◌≡◌, ◌≢◌, ◌↔◌, ℕ, zero, suc, ◌+◌, ◌<◌, ◌≤◌, ◌⊎◌, inl, inr, ⊎_elim, List, [], ◌∷◌, ◌++◌, length, Option, None, Some, refl, sym, ap, ◌∙◌, subst, Bool, true, false, ◌||◌, eqb, eqb-true, ne_eqb, arith}
+use Rattle.std.proofs.Common.{◌≡◌, ◌≢◌, ℕ, suc, ◌<◌, ◌≤◌, ◌⊎◌, inl, inr, ⊎_elim, List, [], ◌∷◌, ◌++◌, length, Option, Some, refl, sym, ap, subst, Bool, true, false, ◌||◌, eqb, eqb-true, ne_eqb, arith}
 use Rattle.std.specs.List.{IsDistinct, AllByRecursion, list_any}
 use Rattle.std.proofs.lemmas.Map.Steps.{length-le_from_distinct_below}
 use Rattle.std.proofs.Math.Decide.{ℕ_discrete}
@@ -79,11 +79,6 @@ first_or-append (x ∷ xs) ys after = refl
 pub last_or-append : (xs ys : List ℕ) (before : Option ℕ) → last_or (xs ++ ys) before ≡ last_or ys (last_or xs before)
 last_or-append [] ys before = refl
 last_or-append (x ∷ xs) ys before = last_or-append xs ys (Some x)
-
--- a list with an item has a first one, whatever comes after
-pub first_or-filled : (xs : List ℕ) (y : ℕ) → Has xs y → (first : ℕ) × ((after : Option ℕ) → first_or xs after ≡ Some first)
-first_or-filled [] y h = elim h [ ]
-first_or-filled (x ∷ xs) y h = (x, λ after. refl)
 
 -- a list with an item has a last one, whatever comes before
 pub last_or-filled : (xs : List ℕ) (y : ℕ) → Has xs y → (last : ℕ) × ((before : Option ℕ) → last_or xs before ≡ Some last)
@@ -179,8 +174,10 @@ length_bound xs n once within =
   where
     zero_apart : Has xs 0 → ⊥
     zero_apart h = let w = within 0 h in let low : 1 ≤ 0 = w.0 in omega arith
+
     below_of : (q : ℕ) → Has (0 ∷ xs) q → q < suc n
     below_of q (inl e) = omega arith
     below_of q (inr h) = let w = within q h in let high : q ≤ n = w.1 in omega arith
+
     below : (q : ℕ) → list_any (eqb q) (0 ∷ xs) ≡ true → q < suc n
     below q e = below_of q (any_Has (0 ∷ xs) q e)

@@ -1,7 +1,7 @@
 -- Neighbour pairs: what stands beside an index in a list, in a chain, in the chains, and in the arena.
-use Rattle.std.proofs.Common.{◌≡◌, ◌≢◌, ◌↔◌, ℕ, ◌<◌, ◌≤◌, ◌⊎◌, inl, inr, ⊎_elim, List, [], ◌∷◌, ◌++◌, Option, None, Some, refl, sym, ap, ◌∙◌, subst, append_assoc, arith}
-use Rattle.chain_laws.specs.Chains.{Shown, IsValid, Agrees, Has, HasNoRepetition, Chain, linear, cyclic, items, first_or, last_or, prev_in, next_in, prev_of, next_of, Stands, IsChain, HasChain, all_items, AreChains}
-use Rattle.chain_laws.specs.Neighbors.{IsBeside, AreNeighborsIn, AreNeighborsOf, AreNeighbors, Partition, HasInterlinks}
+use Rattle.std.proofs.Common.{◌≡◌, ◌≢◌, ◌↔◌, ℕ, inl, inr, ⊎_elim, List, [], ◌∷◌, ◌++◌, Option, None, Some, refl, sym, ap, ◌∙◌, subst, append_assoc}
+use Rattle.chain_laws.specs.Chains.{Shown, Agrees, Has, HasNoRepetition, Chain, linear, cyclic, items, first_or, last_or, prev_in, next_in, prev_of, next_of, Stands, IsChain, HasChain, AreChains}
+use Rattle.chain_laws.specs.Neighbors.{IsBeside, AreNeighborsIn, Partition, HasInterlinks}
 use Rattle.chain_laws.proofs.Members.{Has-right, Has-middle, Has-written, HasNoRepetition-right, first_or-Has, last_or-Has, last_or-append, written_once}
 use Rattle.chain_laws.proofs.Standing.{link, shows_both, next_valid, prev_valid, Stands-at, Stands-each}
 use Rattle.chain_laws.proofs.Unique.{chain_once, chain_filled}
@@ -111,17 +111,19 @@ neighbors_before (cyclic xs) (b ∷ before) after i j once e (inr w) = absurd (f
 
 -- neighbours stand in the list
 pub beside_Has : (xs : List ℕ) (i j : ℕ) → IsBeside xs i j → Has xs i × Has xs j
-beside_Has xs i j b =
-    ( subst (λ (zs : List ℕ). Has zs i) (sym b.2) (Has-middle b.0 (j ∷ b.1) i)
-    , subst (λ (zs : List ℕ). Has zs j) (sym b.2) (Has-right b.0 (i ∷ j ∷ b.1) j (inr (inl refl))) )
+beside_Has xs i j b = (
+  subst (λ (zs : List ℕ). Has zs i) (sym b.2) (Has-middle b.0 (j ∷ b.1) i),
+  subst (λ (zs : List ℕ). Has zs j) (sym b.2) (Has-right b.0 (i ∷ j ∷ b.1) j (inr (inl refl))),
+)
 
 -- neighbours stand in the chain
 pub neighbors_Has : (c : Chain) (i j : ℕ) → AreNeighborsIn c i j → Has (items c) i × Has (items c) j
 neighbors_Has (linear xs) i j b = beside_Has xs i j b
 neighbors_Has (cyclic xs) i j (inl b) = beside_Has xs i j b
-neighbors_Has (cyclic xs) i j (inr w) =
-    ( ⊎_elim (λ (h : Has xs i). h) (λ (n : None ≡ Some i). absurd (cc)) (last_or-Has xs None i w.0)
-    , ⊎_elim (λ (h : Has xs j). h) (λ (n : None ≡ Some j). absurd (cc)) (first_or-Has xs None j w.1) )
+neighbors_Has (cyclic xs) i j (inr w) = (
+  ⊎_elim (λ (h : Has xs i). h) (λ (n : None ≡ Some i). absurd (cc)) (last_or-Has xs None i w.0),
+  ⊎_elim (λ (h : Has xs j). h) (λ (n : None ≡ Some j). absurd (cc)) (first_or-Has xs None j w.1),
+)
 
 -- what an item of a chain shows, by its place
 pub chain_shows : (shown : Shown) (c : Chain) (before after : List ℕ) (i : ℕ) → IsChain shown c → items c ≡ before ++ i ∷ after
@@ -133,38 +135,42 @@ chain_shows shown c before after i h e =
 pub chain_next : (shown : Shown) (c : Chain) (i j : ℕ) → IsChain shown c → Has (items c) i → (next_of shown i ≡ Some j) ↔ AreNeighborsIn c i j
 chain_next shown c i j h m =
     let w = Has-written (items c) i m in
-    let shows : next_of shown i ≡ first_or w.1 (after_last c) = ap next_in (chain_shows shown c w.0 w.1 i h w.2) in
-    ( (λ e. after_neighbors c w.0 w.1 i j w.2 (sym shows ∙ e))
-    , (λ n. shows ∙ neighbors_after c w.0 w.1 i j (chain_once shown c h) w.2 n) )
+    let shows : next_of shown i ≡ first_or w.1 (after_last c) = ap next_in (chain_shows shown c w.0 w.1 i h w.2) in (
+      (λ e. after_neighbors c w.0 w.1 i j w.2 (sym shows ∙ e)),
+      (λ n. shows ∙ neighbors_after c w.0 w.1 i j (chain_once shown c h) w.2 n),
+    )
 
 -- an item of a chain shows as prev what has it as a neighbour, and nothing else
 pub chain_prev : (shown : Shown) (c : Chain) (i j : ℕ) → IsChain shown c → Has (items c) i → (prev_of shown i ≡ Some j) ↔ AreNeighborsIn c j i
 chain_prev shown c i j h m =
     let w = Has-written (items c) i m in
-    let shows : prev_of shown i ≡ last_or w.0 (before_first c) = ap prev_in (chain_shows shown c w.0 w.1 i h w.2) in
-    ( (λ e. before_neighbors c w.0 w.1 i j w.2 (sym shows ∙ e))
-    , (λ n. shows ∙ neighbors_before c w.0 w.1 i j (chain_once shown c h) w.2 n) )
+    let shows : prev_of shown i ≡ last_or w.0 (before_first c) = ap prev_in (chain_shows shown c w.0 w.1 i h w.2) in (
+      (λ e. before_neighbors c w.0 w.1 i j w.2 (sym shows ∙ e)),
+      (λ n. shows ∙ neighbors_before c w.0 w.1 i j (chain_once shown c h) w.2 n),
+    )
 
 -- ---- in the arena
 
 -- the chains of an arena partition its links
 pub partitions : (shown : Shown) (chains : List Chain) → AreChains shown chains → Partition shown chains
 partitions shown chains are = record {
-    filled = λ c m. chain_filled shown c (are.each c m);
-    once = are.once;
-    valid = λ i. (are.all i, all_items_valid shown chains i are.each)
-  }
+  filled = λ c m. chain_filled shown c (are.each c m);
+  once = are.once;
+  valid = λ i. (are.all i, all_items_valid shown chains i are.each);
+}
 
 -- the chains of an arena have its interlinks
 pub interlinks : (shown : Shown) (chains : List Chain) → AreChains shown chains → HasInterlinks shown chains
 interlinks shown chains are = record {
-    next = λ a b.
-        ( (λ e. let w = chain_at chains a (are.all a (next_valid shown a b e)) in (w.0, w.1, (chain_next shown w.0 a b (are.each w.0 w.1) w.2).0 e))
-        , (λ n. (chain_next shown n.0 a b (are.each n.0 n.1) (neighbors_Has n.0 a b n.2).0).1 n.2) );
-    prev = λ a b.
-        ( (λ e. let w = chain_at chains b (are.all b (prev_valid shown b a e)) in (w.0, w.1, (chain_prev shown w.0 b a (are.each w.0 w.1) w.2).0 e))
-        , (λ n. (chain_prev shown n.0 b a (are.each n.0 n.1) (neighbors_Has n.0 a b n.2).1).1 n.2) )
-  }
+  next = λ a b. (
+    (λ e. let w = chain_at chains a (are.all a (next_valid shown a b e)) in (w.0, w.1, (chain_next shown w.0 a b (are.each w.0 w.1) w.2).0 e)),
+    (λ n. (chain_next shown n.0 a b (are.each n.0 n.1) (neighbors_Has n.0 a b n.2).0).1 n.2),
+  );
+  prev = λ a b. (
+    (λ e. let w = chain_at chains b (are.all b (prev_valid shown b a e)) in (w.0, w.1, (chain_prev shown w.0 b a (are.each w.0 w.1) w.2).0 e)),
+    (λ n. (chain_prev shown n.0 b a (are.each n.0 n.1) (neighbors_Has n.0 a b n.2).1).1 n.2),
+  );
+}
 
 -- two options of the same values are the same
 same_option : (o p : Option ℕ) → ((j : ℕ) → (o ≡ Some j) ↔ (p ≡ Some j)) → o ≡ p
@@ -175,40 +181,54 @@ same_option (Some j) p same = sym ((same j).0 refl)
 -- what partitions the links and has the interlinks are the chains
 pub chains_from_pairs : (shown : Shown) (chains : List Chain) → Partition shown chains → HasInterlinks shown chains → AreChains shown chains
 chains_from_pairs shown chains partition pairs = record {
-    each = λ c m. stands_chain shown c (partition.filled c m) (once_each chains c partition.once m)
-        (Stands-each shown (before_first c) (items c) (after_last c) (λ left right i e. shows c m left right i e));
-    once = partition.once;
-    all = λ i v. (partition.valid i).0 v
-  }
+  each = λ c m. stands_chain shown c (partition.filled c m) (once_each chains c partition.once m)
+      (Stands-each shown (before_first c) (items c) (after_last c) (λ left right i e. shows c m left right i e));
+  once = partition.once;
+  all = λ i v. (partition.valid i).0 v;
+}
   where
     member : (c : Chain) (left right : List ℕ) (i : ℕ) → items c ≡ left ++ i ∷ right → Has (items c) i
     member c left right i e = subst (λ (zs : List ℕ). Has zs i) (sym e) (Has-middle left right i)
+
     same_chain : (c d : Chain) (i : ℕ) → HasChain chains c → HasChain chains d → Has (items c) i → Has (items d) i → d ≡ c
     same_chain c d i m n h k = once_chain chains d c i partition.once n m k h
+
     next_is : (c : Chain) → HasChain chains c → (left right : List ℕ) (i : ℕ) → items c ≡ left ++ i ∷ right → (j : ℕ)
         → (next_of shown i ≡ Some j) ↔ (first_or right (after_last c) ≡ Some j)
-    next_is c m left right i e j =
-        ( (λ n. let w = (pairs.next i j).0 n in
-            neighbors_after c left right i j (once_each chains c partition.once m) e
-                (subst (λ (d : Chain). AreNeighborsIn d i j) (same_chain c w.0 i m w.1 (member c left right i e) (neighbors_Has w.0 i j w.2).0) w.2))
-        , (λ n. (pairs.next i j).1 (c, m, after_neighbors c left right i j e n)) )
+    next_is c m left right i e j = (
+      (λ n. let w = (pairs.next i j).0 n in
+          neighbors_after c left right i j (once_each chains c partition.once m) e
+          (subst (λ (d : Chain). AreNeighborsIn d i j) (same_chain c w.0 i m w.1 (member c left right i e) (neighbors_Has w.0 i j w.2).0) w.2)),
+      (λ n. (pairs.next i j).1 (c, m, after_neighbors c left right i j e n)),
+    )
+
     prev_is : (c : Chain) → HasChain chains c → (left right : List ℕ) (i : ℕ) → items c ≡ left ++ i ∷ right → (j : ℕ)
         → (prev_of shown i ≡ Some j) ↔ (last_or left (before_first c) ≡ Some j)
-    prev_is c m left right i e j =
-        ( (λ n. let w = (pairs.prev j i).0 n in
-            neighbors_before c left right i j (once_each chains c partition.once m) e
-                (subst (λ (d : Chain). AreNeighborsIn d j i) (same_chain c w.0 i m w.1 (member c left right i e) (neighbors_Has w.0 j i w.2).1) w.2))
-        , (λ n. (pairs.prev j i).1 (c, m, before_neighbors c left right i j e n)) )
+    prev_is c m left right i e j = (
+      (λ n. let w = (pairs.prev j i).0 n in
+          neighbors_before c left right i j (once_each chains c partition.once m) e
+          (subst (λ (d : Chain). AreNeighborsIn d j i) (same_chain c w.0 i m w.1 (member c left right i e) (neighbors_Has w.0 j i w.2).1) w.2)),
+      (λ n. (pairs.prev j i).1 (c, m, before_neighbors c left right i j e n)),
+    )
+
     shows : (c : Chain) → HasChain chains c → (left right : List ℕ) (i : ℕ) → items c ≡ left ++ i ∷ right
         → shown i ≡ Some (link (last_or left (before_first c)) (first_or right (after_last c)))
     shows c m left right i e =
         shows_both shown i (last_or left (before_first c)) (first_or right (after_last c))
-            ((partition.valid i).1 (Has-all_items chains c i m (member c left right i e)))
-            (same_option (prev_of shown i) (last_or left (before_first c)) (prev_is c m left right i e))
-            (same_option (next_of shown i) (first_or right (after_last c)) (next_is c m left right i e))
+        ((partition.valid i).1 (Has-all_items chains c i m (member c left right i e)))
+        (same_option (prev_of shown i) (last_or left (before_first c)) (prev_is c m left right i e))
+        (same_option (next_of shown i) (first_or right (after_last c)) (next_is c m left right i e))
 
 -- an arena whose interlinks are the neighbour pairs of some chains has interlinks that agree
 pub agrees_from_pairs : (shown : Shown) (chains : List Chain) → HasInterlinks shown chains → Agrees shown
 agrees_from_pairs shown chains pairs = record {
-    both = λ i j. ((λ e. (pairs.prev i j).1 ((pairs.next i j).0 e)), (λ e. (pairs.next i j).1 ((pairs.prev i j).0 e)))
-  }
+  both = λ i j. ((λ e. (pairs.prev i j).1 ((pairs.next i j).0 e)), (λ e. (pairs.next i j).1 ((pairs.prev i j).0 e)));
+}
+
+-- .. and so has an arena with chains
+pub agrees_from_chains : (shown : Shown) (chains : List Chain) → AreChains shown chains → Agrees shown
+agrees_from_chains shown chains are = agrees_from_pairs shown chains (interlinks shown chains are)
+
+-- chains item by item and by neighbour pairs are the same
+pub chains_by_pairs : (shown : Shown) (chains : List Chain) → AreChains shown chains ↔ (Partition shown chains × HasInterlinks shown chains)
+chains_by_pairs shown chains = ((λ are. (partitions shown chains are, interlinks shown chains are)), (λ both. chains_from_pairs shown chains both.0 both.1))

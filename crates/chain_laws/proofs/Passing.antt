@@ -1,10 +1,10 @@
 -- A walk has each link of its chain once, and from each link there is one.
-use Rattle.std.specs.Prelude.{◌≡◌, ◌≢◌, ◌↔◌, ℕ, suc, ◌≤◌, ◌⊎◌, List, [], ◌∷◌, ◌++◌, reverse, length, Option, None, Some}
-use Rattle.std.proofs.Common.{sym, refl, ap, ◌∙◌, subst, inl, inr, ⊎_elim, arith}
+use Rattle.std.specs.Prelude.{◌↔◌, ℕ, ◌≤◌, ◌⊎◌, List, [], ◌∷◌, ◌++◌, reverse, length}
+use Rattle.std.proofs.Common.{sym, refl, subst, inl, inr, ⊎_elim}
 use mathlib.Core.List.{reverse_aux}
-use Rattle.chain_laws.specs.Chains.{Shown, Chain, linear, cyclic, items, IsChain, IsValid, IsWithin, Agrees, Has, HasNoRepetition, Stands, prev_of}
-use Rattle.chain_laws.specs.Walks.{IsWalk, there_and_back, round, ahead, WalksAhead, PassesEachOnce, PassesTheChain}
-use Rattle.chain_laws.proofs.Members.{Has-left, Has-right, Has-parts, Has-middle, Has-written, HasNoRepetition-left, HasNoRepetition-right, HasNoRepetition-apart, HasNoRepetition-append, length_bound}
+use Rattle.chain_laws.specs.Chains.{Shown, Chain, linear, cyclic, items, IsChain, IsValid, IsWithin, Agrees, Has, HasNoRepetition}
+use Rattle.chain_laws.specs.Walks.{IsWalk, there_and_back, round, WalksAhead, PassesTheChain}
+use Rattle.chain_laws.proofs.Members.{Has-left, Has-right, Has-parts, Has-written, HasNoRepetition-left, HasNoRepetition-right, HasNoRepetition-apart, HasNoRepetition-append, length_bound}
 use Rattle.chain_laws.proofs.Unique.{chain_valid, chains_share}
 use Rattle.chain_laws.proofs.Turning.{turned_to}
 use Rattle.chain_laws.proofs.Exists.{ChainOf, chain_of, has_chain}
@@ -21,6 +21,7 @@ Has-reversed (x ∷ xs) zs y =
     there (inl h) = inl (inr h)
     there (inr (inl e)) = inl (inl e)
     there (inr (inr h)) = inr h
+
     back : Has (x ∷ xs) y ⊎ Has zs y → Has xs y ⊎ Has (x ∷ zs) y
     back (inl (inl e)) = inr (inl e)
     back (inl (inr h)) = inl h
@@ -49,8 +50,8 @@ walk_starts shown i _ (round after chain) = inl refl
 pub walk_once : (shown : Shown) (i : ℕ) (walk : List ℕ) → IsWalk shown i walk → HasNoRepetition walk
 walk_once shown i _ (there_and_back before after chain) =
     HasNoRepetition-append (i ∷ after) (reverse before) (HasNoRepetition-right before (i ∷ after) chain.1)
-        (HasNoRepetition-reversed before [] (HasNoRepetition-left before (i ∷ after) chain.1) tt (λ y h n. n))
-        (λ y h k. HasNoRepetition-apart before (i ∷ after) y chain.1 (Has-back before y k) h)
+    (HasNoRepetition-reversed before [] (HasNoRepetition-left before (i ∷ after) chain.1) tt (λ y h n. n))
+    (λ y h k. HasNoRepetition-apart before (i ∷ after) y chain.1 (Has-back before y k) h)
 walk_once shown i _ (round after chain) = chain.1
 
 -- a chain with the items of a walk
@@ -59,6 +60,7 @@ walk_chain shown i _ (there_and_back before after chain) = (linear (before ++ i 
   where
     there : (j : ℕ) → Has ((i ∷ after) ++ reverse before) j → Has (before ++ i ∷ after) j
     there j h = ⊎_elim (λ k. Has-right before (i ∷ after) j k) (λ k. Has-left before (i ∷ after) j (Has-back before j k)) (Has-parts (i ∷ after) (reverse before) j h)
+
     back : (j : ℕ) → Has (before ++ i ∷ after) j → Has ((i ∷ after) ++ reverse before) j
     back j h = ⊎_elim (λ k. Has-right (i ∷ after) (reverse before) j ((Has-reversed before [] j).1 (inl k))) (λ k. Has-left (i ∷ after) (reverse before) j k) (Has-parts before (i ∷ after) j h)
 walk_chain shown i _ (round after chain) = (cyclic (i ∷ after), chain, λ j. (λ h. h, λ h. h))
@@ -67,9 +69,10 @@ walk_chain shown i _ (round after chain) = (cyclic (i ∷ after), chain, λ j. (
 pub walk_has : PassesTheChain
 walk_has shown i walk c is_walk chain has j =
     let own = walk_chain shown i walk is_walk in
-    let own_has : Has (items own.0) i = (own.2 i).0 (walk_starts shown i walk is_walk) in
-    ( λ h. chains_share shown own.0 c i j own.1 chain own_has has ((own.2 j).0 h)
-    , λ h. (own.2 j).1 (chains_share shown c own.0 i j chain own.1 has own_has h) )
+    let own_has : Has (items own.0) i = (own.2 i).0 (walk_starts shown i walk is_walk) in (
+      λ h. chains_share shown own.0 c i j own.1 chain own_has has ((own.2 j).0 h),
+      λ h. (own.2 j).1 (chains_share shown c own.0 i j chain own.1 has own_has h),
+    )
 
 -- the links of a walk are valid
 pub walk_valid : (shown : Shown) (i : ℕ) (walk : List ℕ) → IsWalk shown i walk → (j : ℕ) → Has walk j → IsValid shown j

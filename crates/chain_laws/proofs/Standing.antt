@@ -1,8 +1,7 @@
 -- Lists of links that stand: taken apart, put together, framed, closed under the interlinks, without repetition.
-use Rattle.std.proofs.Common.{◌≡◌, ◌≢◌, ◌↔◌, ℕ, zero, suc, ◌+◌, ◌<◌, ◌≤◌, Bool, true, false, ◌||◌, eqb, ◌⊎◌, inl, inr, ⊎_elim, List, [], ◌∷◌, ◌++◌, length, Option, None, Some, refl, sym, ap, ◌∙◌, subst, length-append, append_assoc, append-nil, arith}
-use Rattle.std.proofs.Math.Decide.{ℕ_discrete}
-use Rattle.chain_laws.specs.Chains.{Shown, Interlinks, IsValid, IsWithin, Agrees, Has, HasNoRepetition, first_or, last_or, prev_in, next_in, prev_of, next_of, Stands}
-use Rattle.chain_laws.proofs.Members.{Has-left, Has-right, Has-parts, Has-middle, Has-written, first_or-append, last_or-append, first_or-Has, last_or-Has}
+use Rattle.std.proofs.Common.{◌≡◌, ◌≢◌, ℕ, ◌+◌, ◌⊎◌, inl, inr, ⊎_elim, List, [], ◌∷◌, ◌++◌, length, Option, None, Some, refl, sym, ap, ◌∙◌, subst, length-append, arith}
+use Rattle.chain_laws.specs.Chains.{Shown, Interlinks, IsValid, Has, HasNoRepetition, first_or, last_or, prev_in, next_in, prev_of, next_of, Stands}
+use Rattle.chain_laws.proofs.Members.{Has-written, first_or-append, first_or-Has}
 
 -- interlinks, as they are written
 abbrev pub link : Option ℕ → Option ℕ → Interlinks
@@ -47,29 +46,23 @@ shows_both shown i before after v p n =
     both : (l : Interlinks) (before after : Option ℕ) → l.prev ≡ before → l.next ≡ after → l ≡ link before after
     both l before after q m = λ i. record { prev = q i; next = m i }
 
--- where interlinks agree, the next of a valid index is valid and names it
-pub next_back : (shown : Shown) (i j : ℕ) → Agrees shown → next_of shown i ≡ Some j → prev_of shown j ≡ Some i
-next_back shown i j agrees e = (agrees.both i j).0 e
-
--- .. and the one before it too
-pub prev_on : (shown : Shown) (i j : ℕ) → Agrees shown → prev_of shown j ≡ Some i → next_of shown i ≡ Some j
-prev_on shown i j agrees e = (agrees.both i j).1 e
-
 -- two lists that stand one after the other stand as one
 pub Stands-append : (shown : Shown) (before : Option ℕ) (xs ys : List ℕ) (after : Option ℕ)
     → Stands shown before xs (first_or ys after) → Stands shown (last_or xs before) ys after → Stands shown before (xs ++ ys) after
 Stands-append shown before [] ys after s t = t
-Stands-append shown before (x ∷ xs) ys after s t =
-    ( s.0 ∙ ap (λ (o : Option ℕ). Some (link before o)) (sym (first_or-append xs ys after))
-    , Stands-append shown (Some x) xs ys after s.1 t )
+Stands-append shown before (x ∷ xs) ys after s t = (
+  s.0 ∙ ap (λ (o : Option ℕ). Some (link before o)) (sym (first_or-append xs ys after)),
+  Stands-append shown (Some x) xs ys after s.1 t,
+)
 
 -- the left part of a list that stands
 pub Stands-left : (shown : Shown) (before : Option ℕ) (xs ys : List ℕ) (after : Option ℕ)
     → Stands shown before (xs ++ ys) after → Stands shown before xs (first_or ys after)
 Stands-left shown before [] ys after s = tt
-Stands-left shown before (x ∷ xs) ys after s =
-    ( s.0 ∙ ap (λ (o : Option ℕ). Some (link before o)) (first_or-append xs ys after)
-    , Stands-left shown (Some x) xs ys after s.1 )
+Stands-left shown before (x ∷ xs) ys after s = (
+  s.0 ∙ ap (λ (o : Option ℕ). Some (link before o)) (first_or-append xs ys after),
+  Stands-left shown (Some x) xs ys after s.1,
+)
 
 -- the right part of a list that stands
 pub Stands-right : (shown : Shown) (before : Option ℕ) (xs ys : List ℕ) (after : Option ℕ)
@@ -86,9 +79,10 @@ Stands-at shown before xs ys after i s = (Stands-right shown before xs (i ∷ ys
 pub Stands-each : (shown : Shown) (before : Option ℕ) (xs : List ℕ) (after : Option ℕ)
     → ((left right : List ℕ) (i : ℕ) → xs ≡ left ++ i ∷ right → shown i ≡ Some (link (last_or left before) (first_or right after))) → Stands shown before xs after
 Stands-each shown before [] after each = tt
-Stands-each shown before (x ∷ xs) after each =
-    ( each [] xs x refl
-    , Stands-each shown (Some x) xs after (λ left right i e. each (x ∷ left) right i (ap (λ (zs : List ℕ). x ∷ zs) e)) )
+Stands-each shown before (x ∷ xs) after each = (
+  each [] xs x refl,
+  Stands-each shown (Some x) xs after (λ left right i e. each (x ∷ left) right i (ap (λ (zs : List ℕ). x ∷ zs) e)),
+)
 
 -- a list that stands depends on what its own items show alone
 pub Stands-frame : (old new : Shown) (before : Option ℕ) (xs : List ℕ) (after : Option ℕ)
@@ -144,7 +138,7 @@ Stands-last shown before (x ∷ []) after a s filled e =
     subst (λ (z : ℕ). next_of shown z ≡ after) same (ap next_in s.0)
 Stands-last shown before (x ∷ z ∷ xs) after a s filled e = Stands-last shown (Some x) (z ∷ xs) after a s.1 (λ r. cc) e
 
--- an item of a list whose first names nothing before it: the one that names nothing before it is the first
+-- of a list with nothing before it, an item that names nothing before it is the first
 pub Stands-first : (shown : Shown) (xs : List ℕ) (after : Option ℕ) (i : ℕ)
     → Stands shown None xs after → Has xs i → prev_of shown i ≡ None → (others : Option ℕ) → first_or xs others ≡ Some i
 Stands-first shown [] after i s h p others = elim h [ ]
@@ -158,7 +152,7 @@ Stands-first shown (x ∷ xs) after i s (inr h) p others =
 
 -- ---- no repetition for free
 
--- an item that stands before its own list, and not in the rest of it, never comes again: no repetition
+-- a list whose first item is not among the rest has no repetition
 pub apart_no_repetition : (shown : Shown) (before : Option ℕ) (x : ℕ) (xs : List ℕ) (after : Option ℕ)
     → Stands shown before (x ∷ xs) after → (Has xs x → ⊥) → HasNoRepetition (x ∷ xs)
 apart_no_repetition shown before x [] after s apart = (apart, tt)
@@ -167,6 +161,7 @@ apart_no_repetition shown before x (y ∷ ys) after s apart =
   where
     named : prev_of shown y ≡ Some x
     named = ap prev_in s.1.0
+
     again : Has ys y → ⊥
     again h = ⊎_elim (λ (k : Has ys x). apart (inr k)) (λ (e : Some y ≡ Some x). apart (inl (cc))) (Stands-prev shown (Some y) ys after y x s.1.1 h named)
 
@@ -177,6 +172,7 @@ first_no_repetition shown (x ∷ xs) after s = apart_no_repetition shown None x 
   where
     clash : (j : ℕ) → prev_of shown x ≡ Some j → ⊥
     clash j q = let n : prev_of shown x ≡ None = ap prev_in s.0 in cc
+
     again : Has xs x → ⊥
     again h = let more = Stands-prev_some shown x xs after x s.1 h in clash more.0 more.1
 
@@ -224,5 +220,6 @@ last_no_repetition shown before (x ∷ xs) s = (again, last_no_repetition shown 
         let w : x ∷ xs ≡ x ∷ right = one_onward shown before (last_or left (Some x)) (x ∷ xs) (x ∷ right) s u refl in
         let v : left ++ x ∷ right ≡ right = sym e ∙ (cc) in
         no_longer left x right v
+
     again : Has xs x → ⊥
     again h = let w = Has-written xs x h in longer w.0 w.1 w.2

@@ -1,8 +1,8 @@
 -- Chains that share an index are one chain.
-use Rattle.std.proofs.Common.{◌≡◌, ◌≢◌, ◌↔◌, ℕ, ◌<◌, ◌≤◌, ◌⊎◌, inl, inr, ⊎_elim, List, [], ◌∷◌, ◌++◌, Option, None, Some, refl, sym, ap, ◌∙◌, subst, arith}
-use Rattle.chain_laws.specs.Chains.{Shown, Interlinks, IsValid, Agrees, Has, HasNoRepetition, Chain, linear, cyclic, items, first_or, last_or, prev_in, next_in, prev_of, next_of, Stands, IsChain, IsWritten, IsAtMostEach}
-use Rattle.chain_laws.proofs.Members.{first_or-Has, last_or-Has, first_or-filled, last_or-filled}
-use Rattle.chain_laws.proofs.Standing.{Stands-valid, Stands-next, Stands-prev, Stands-prev_some, Stands-first, one_onward, one_round, next_valid}
+use Rattle.std.proofs.Common.{◌≡◌, ◌≢◌, ℕ, ◌≤◌, inl, inr, ⊎_elim, List, [], ◌∷◌, Option, None, Some, refl, sym, ap, ◌∙◌, subst, arith}
+use Rattle.chain_laws.specs.Chains.{Shown, IsValid, Has, HasNoRepetition, Chain, linear, cyclic, items, first_or, last_or, prev_in, next_in, prev_of, next_of, Stands, IsChain, IsWritten, IsAtMostEach}
+use Rattle.chain_laws.proofs.Members.{first_or-Has, last_or-Has, last_or-filled}
+use Rattle.chain_laws.proofs.Standing.{Stands-valid, Stands-next, Stands-prev, Stands-prev_some, Stands-first, one_onward, one_round}
 
 -- what comes before or after a member is a member
 pub record IsClosed (shown : Shown) (Member : ℕ → Type 0) : Type 0 where
@@ -15,16 +15,20 @@ chain_closed shown (linear xs) h = record { forth = onward; back = backward }
   where
     onward : (i j : ℕ) → Has xs i → next_of shown i ≡ Some j → Has xs j
     onward i j m e = ⊎_elim (λ (k : Has xs j). k) (λ (n : None ≡ Some j). absurd (cc)) (Stands-next shown None xs None i j h.2 m e)
+
     backward : (i j : ℕ) → Has xs i → prev_of shown i ≡ Some j → Has xs j
     backward i j m e = ⊎_elim (λ (k : Has xs j). k) (λ (n : None ≡ Some j). absurd (cc)) (Stands-prev shown None xs None i j h.2 m e)
 chain_closed shown (cyclic xs) h = record { forth = onward; back = backward }
   where
     first : (j : ℕ) → first_or xs None ≡ Some j → Has xs j
     first j e = ⊎_elim (λ (k : Has xs j). k) (λ (n : None ≡ Some j). absurd (cc)) (first_or-Has xs None j e)
+
     last : (j : ℕ) → last_or xs None ≡ Some j → Has xs j
     last j e = ⊎_elim (λ (k : Has xs j). k) (λ (n : None ≡ Some j). absurd (cc)) (last_or-Has xs None j e)
+
     onward : (i j : ℕ) → Has xs i → next_of shown i ≡ Some j → Has xs j
     onward i j m e = ⊎_elim (λ (k : Has xs j). k) (first j) (Stands-next shown (last_or xs None) xs (first_or xs None) i j h.2 m e)
+
     backward : (i j : ℕ) → Has xs i → prev_of shown i ≡ Some j → Has xs j
     backward i j m e = ⊎_elim (λ (k : Has xs j). k) (last j) (Stands-prev shown (last_or xs None) xs (first_or xs None) i j h.2 m e)
 

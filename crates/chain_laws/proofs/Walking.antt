@@ -1,10 +1,10 @@
 -- A walker passes the walk: on to the end and back to the start, or once round.
-use Rattle.std.specs.Prelude.{◌≡◌, ◌≢◌, ◌↔◌, ℕ, zero, suc, ◌+◌, ◌≤◌, ◌==◌, if◌then◌else◌, ◌⊎◌, List, [], ◌∷◌, ◌++◌, reverse, length, Option, None, Some}
-use Rattle.std.proofs.Common.{sym, refl, ap, ap₂, ◌∙◌, subst, inl, inr, ⊎_elim, arith}
+use Rattle.std.specs.Prelude.{◌≡◌, ◌≢◌, ℕ, zero, suc, ◌+◌, ◌≤◌, List, [], ◌∷◌, ◌++◌, reverse, length, Option, None, Some}
+use Rattle.std.proofs.Common.{sym, refl, ap, ap₂, ◌∙◌, inl, inr, arith}
 use mathlib.Core.List.{reverse_aux}
-use Rattle.chain_laws.specs.Chains.{Shown, Chain, linear, cyclic, items, IsChain, Has, HasNoRepetition, Stands, prev_in, next_in, prev_of, next_of, first_or, last_or}
+use Rattle.chain_laws.specs.Chains.{Shown, Has, Stands, prev_in, next_in, prev_of, first_or, last_or}
 use Rattle.chain_laws.specs.Walks.{IsWalk, there_and_back, round, ahead, going_on, going_back, HasNoOtherWalk}
-use Rattle.chain_laws.proofs.Members.{Has-middle, HasNoRepetition-right}
+use Rattle.chain_laws.proofs.Members.{HasNoRepetition-right}
 use Rattle.chain_laws.proofs.Standing.{Stands-left, Stands-right}
 use Rattle.chain_laws.proofs.Agreement.{if_same, if_other}
 
@@ -46,14 +46,14 @@ passes_on : (left : ℕ) (shown : Shown) (start : ℕ) (before : Option ℕ) (y 
 passes_on zero shown start before y ys zs stands none back enough = absurd (omega arith)
 passes_on (suc left) shown start before y [] zs stands none back enough =
     ap (λ (w : List ℕ). y ∷ w)
-        ( ap (λ (o : Option ℕ). ahead left shown start (going_on start o) (going_back start o (first_or zs None))) (ap next_in stands.0)
-        ∙ passes_back left shown start zs back (omega arith) )
+    (ap (λ (o : Option ℕ). ahead left shown start (going_on start o) (going_back start o (first_or zs None))) (ap next_in stands.0)
+    ∙ passes_back left shown start zs back (omega arith))
 passes_on (suc left) shown start before y (k ∷ ks) zs stands none back enough =
     let other : k ≢ start = λ e. none (inl e) in
     ap (λ (w : List ℕ). y ∷ w)
-        ( ap (λ (o : Option ℕ). ahead left shown start (going_on start o) (going_back start o (first_or zs None))) (ap next_in stands.0)
-        ∙ ap₂ (λ (o p : Option ℕ). ahead left shown start o p) (going_on-other start k other) (going_back-other start k (first_or zs None) other)
-        ∙ passes_on left shown start (Some y) k ks zs stands.1 (λ h. none (inr h)) back (omega arith) )
+    (ap (λ (o : Option ℕ). ahead left shown start (going_on start o) (going_back start o (first_or zs None))) (ap next_in stands.0)
+    ∙ ap₂ (λ (o p : Option ℕ). ahead left shown start o p) (going_on-other start k other) (going_back-other start k (first_or zs None) other)
+    ∙ passes_on left shown start (Some y) k ks zs stands.1 (λ h. none (inr h)) back (omega arith))
 
 -- once round a cyclic chain
 passes_round : (left : ℕ) (shown : Shown) (start : ℕ) (before back : Option ℕ) (y : ℕ) (ys : List ℕ)
@@ -62,15 +62,15 @@ passes_round : (left : ℕ) (shown : Shown) (start : ℕ) (before back : Option 
 passes_round zero shown start before back y ys stands none enough = absurd (omega arith)
 passes_round (suc left) shown start before back y [] stands none enough =
     ap (λ (w : List ℕ). y ∷ w)
-        ( ap (λ (o : Option ℕ). ahead left shown start (going_on start o) (going_back start o back)) (ap next_in stands.0)
-        ∙ ap₂ (λ (o p : Option ℕ). ahead left shown start o p) (if_same start start None (Some start) refl) (if_same start start None back refl)
-        ∙ passes_back left shown start [] tt (omega arith) )
+    (ap (λ (o : Option ℕ). ahead left shown start (going_on start o) (going_back start o back)) (ap next_in stands.0)
+    ∙ ap₂ (λ (o p : Option ℕ). ahead left shown start o p) (if_same start start None (Some start) refl) (if_same start start None back refl)
+    ∙ passes_back left shown start [] tt (omega arith))
 passes_round (suc left) shown start before back y (k ∷ ks) stands none enough =
     let other : k ≢ start = λ e. none (inl e) in
     ap (λ (w : List ℕ). y ∷ w)
-        ( ap (λ (o : Option ℕ). ahead left shown start (going_on start o) (going_back start o back)) (ap next_in stands.0)
-        ∙ ap₂ (λ (o p : Option ℕ). ahead left shown start o p) (going_on-other start k other) (going_back-other start k back other)
-        ∙ passes_round left shown start (Some y) back k ks stands.1 (λ h. none (inr h)) (omega arith) )
+    (ap (λ (o : Option ℕ). ahead left shown start (going_on start o) (going_back start o back)) (ap next_in stands.0)
+    ∙ ap₂ (λ (o p : Option ℕ). ahead left shown start o p) (going_on-other start k other) (going_back-other start k back other)
+    ∙ passes_round left shown start (Some y) back k ks stands.1 (λ h. none (inr h)) (omega arith))
 
 -- with enough steps a walker passes any walk from its first link
 pub walk_passed : (left : ℕ) (shown : Shown) (i : ℕ) (walk : List ℕ) → IsWalk shown i walk → length walk ≤ left → ahead left shown i (Some i) (prev_of shown i) ≡ walk

@@ -1,6 +1,6 @@
 -- The chains of an arena by neighbour pairs: a partition of its links that has its interlinks.
-use Rattle.std.specs.Prelude.{◌≡◌, ◌≢◌, ◌↔◌, ℕ, ◌⊎◌, List, [], ◌∷◌, ◌++◌, Option, None, Some}
-use Rattle.chain_laws.specs.Chains.{Shown, Chain, linear, cyclic, items, all_items, HasChain, Has, HasNoRepetition, IsValid, IsWithin, Agrees, IsInOrder, first_or, last_or, prev_of, next_of}
+use Rattle.std.specs.Prelude.{◌≡◌, ◌≢◌, ◌↔◌, ℕ, ◌⊎◌, List, [], ◌∷◌, ◌++◌, None, Some}
+use Rattle.chain_laws.specs.Chains.{Shown, Chain, linear, cyclic, items, all_items, HasChain, Has, HasNoRepetition, IsValid, IsWithin, Agrees, IsChain, AreChains, IsWritten, IsInOrder, first_or, last_or, prev_of, next_of}
 
 -- b stands directly after a in the list
 abbrev pub IsBeside : List ℕ → ℕ → ℕ → Type 0
@@ -43,3 +43,58 @@ HasChains = (shown : Shown) (slots : ℕ) → Agrees shown → IsWithin shown sl
 -- .. and no two sets of them
 abbrev pub HasNoOtherChains : Type 0
 HasNoOtherChains = (shown : Shown) (chains others : List Chain) → AreTheChains shown chains → AreTheChains shown others → chains ≡ others
+
+-- chains that each show the items beside them, and chains by neighbour pairs, are the same
+abbrev pub AreByNeighbors : Type 0
+AreByNeighbors = (shown : Shown) (chains : List Chain) → AreChains shown chains ↔ (Partition shown chains × HasInterlinks shown chains)
+
+-- interlinks that are the neighbour pairs of some chains agree ..
+abbrev pub AgreesByPairs : Type 0
+AgreesByPairs = (shown : Shown) (chains : List Chain) → HasInterlinks shown chains → Agrees shown
+
+-- .. and so do those of an arena that has chains
+abbrev pub AgreesByChains : Type 0
+AgreesByChains = (shown : Shown) (chains : List Chain) → AreChains shown chains → Agrees shown
+
+-- i stands in this chain of the arena; a cyclic one is written from its least index
+pub record StandsIn (shown : Shown) (i : ℕ) (c : Chain) : Type 0 where
+  pub chain : IsChain shown c
+  pub written : IsWritten c
+  pub has : Has (items c) i
+
+-- each valid index stands in a chain ..
+abbrev pub HasChainOfEach : Type 0
+HasChainOfEach = (shown : Shown) (slots i : ℕ) → Agrees shown → IsWithin shown slots → IsValid shown i → (c : Chain) × StandsIn shown i c
+
+-- .. and in no other
+abbrev pub HasNoOtherOfEach : Type 0
+HasNoOtherOfEach = (shown : Shown) (i : ℕ) (c other : Chain) → StandsIn shown i c → StandsIn shown i other → c ≡ other
+
+-- the same chain; a cyclic one maybe written from another of its links
+abbrev pub AreSameButTurned : Chain → Chain → Type 0
+AreSameButTurned (linear xs) (linear ys) = xs ≡ ys
+AreSameButTurned (linear xs) (cyclic ys) = ⊥
+AreSameButTurned (cyclic xs) (linear ys) = ⊥
+AreSameButTurned (cyclic xs) (cyclic ys) = (left : List ℕ) × (right : List ℕ) × (xs ≡ left ++ right) × (ys ≡ right ++ left)
+
+-- a chain, written from another of its links, is a chain of the arena too ..
+abbrev pub TurnsFreely : Type 0
+TurnsFreely = (shown : Shown) (c other : Chain) → IsChain shown c → AreSameButTurned c other → IsChain shown other
+
+-- .. and chains that share an index are the same but for that
+abbrev pub SharesOnlyTurned : Type 0
+SharesOnlyTurned = (shown : Shown) (i : ℕ) (c other : Chain) → IsChain shown c → IsChain shown other → Has (items c) i → Has (items other) i → AreSameButTurned c other
+
+-- each cyclic chain is written from its least index
+abbrev pub AreWritten : List Chain → Type 0
+AreWritten chains = (c : Chain) → HasChain chains c → IsWritten c
+
+-- in whatever order the chains of an arena are listed, they are the same chains
+abbrev pub AreSameInAnyOrder : Type 0
+AreSameInAnyOrder = (shown : Shown) (chains others : List Chain) → AreChains shown chains → AreChains shown others → AreWritten chains → AreWritten others
+    → (c : Chain) → HasChain chains c ↔ HasChain others c
+
+-- .. also where cyclic ones are written from other links
+abbrev pub AreTurnedInAnyOrder : Type 0
+AreTurnedInAnyOrder = (shown : Shown) (chains others : List Chain) → AreChains shown chains → AreChains shown others
+    → (c : Chain) → HasChain chains c → (other : Chain) × HasChain others other × AreSameButTurned c other

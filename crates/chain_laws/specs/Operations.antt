@@ -93,11 +93,16 @@ abbrev pub ChainsDecide : Type 0
 ChainsDecide = (left right : Shown) (slots : ℕ) → Agrees left → Agrees right → IsWithin left slots → IsWithin right slots
     → HaveSameChains left right → left ≡ right
 
+-- two arenas that agree and have the same links and neighbour pairs show the same
+abbrev pub PairsDecide : Type 0
+PairsDecide = (left right : Shown) → Agrees left → Agrees right → ((i : ℕ) → IsValid left i ↔ IsValid right i)
+    → ((i j : ℕ) → AreNeighbors left i j ↔ AreNeighbors right i j) → left ≡ right
+
 -- what connects an end and a start has the chains of their join, and no others
-abbrev pub ConnectsAsAJoin : Type 0
-ConnectsAsAJoin = (old new : Shown) (slots a b : ℕ) → Agrees old → IsWithin old slots → AreEndAndStart old a b
+abbrev pub JoinIsDetermined : Type 0
+JoinIsDetermined = (old new : Shown) (slots a b : ℕ) → Agrees old → IsWithin old slots → AreEndAndStart old a b
     → Connects old new a b → HaveSameChains new (joined old a b)
 
 -- what adds a link that stands alone has the chains with it, and no others
-abbrev pub AddsAsALone : Type 0
-AddsAsALone = (old new : Shown) (q : ℕ) → old q ≡ None → AddsLone old new q → HaveSameChains new (with_lone old q)
+abbrev pub LoneIsDetermined : Type 0
+LoneIsDetermined = (old new : Shown) (q : ℕ) → old q ≡ None → AddsLone old new q → HaveSameChains new (with_lone old q)

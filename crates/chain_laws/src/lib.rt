@@ -2,6 +2,6 @@
 //! empty body and carries a law as its contract.
 #![tactic(auto)]
 
-pub mod partition;
 pub mod operations;
+pub mod partition;
 pub mod walks;

@@ -5,23 +5,19 @@ ghost use Rattle.chain_laws.specs.Walks.{WalksAhead, HasNoOtherWalk, PassesEachO
 /// From any link, a walker that follows `next` to the end and then `prev` from its start, or comes round, passes a walk.
 pub fn walker_passes_the_walk()
     ensures { WalksAhead }
-{
-}
+{}
 
 /// There is one walk from a link.
 pub fn one_walk()
     ensures { HasNoOtherWalk }
-{
-}
+{}
 
 /// A walk passes no link twice.
 pub fn walk_passes_each_once()
     ensures { PassesEachOnce }
-{
-}
+{}
 
 /// A walk passes each link of its chain and no others.
 pub fn walk_passes_the_chain()
     ensures { PassesTheChain }
-{
-}
+{}

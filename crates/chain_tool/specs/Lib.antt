@@ -1,5 +1,10 @@
 pub mod Arena
 pub mod ChainArena
+pub mod Links
 pub mod Slots
+pub mod Walkers
 pub mod Words
 pub mod Commands
+pub mod Answers
+pub mod Transcripts
+pub mod Progress

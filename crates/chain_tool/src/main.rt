@@ -1,8 +1,8 @@
 #![tactic(auto)]
 
 mod arena_base;
-mod answer;
 mod chain_arena;
+mod answer;
 mod command;
 mod run;
 mod text;

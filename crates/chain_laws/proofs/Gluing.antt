@@ -1,9 +1,9 @@
 -- What linking does to lists that stand: one that it does not name stays, two become one, one closes to a ring.
-use Rattle.std.specs.Prelude.{◌≡◌, ◌≢◌, ◌↔◌, ℕ, ◌⊎◌, List, [], ◌∷◌, ◌++◌, Option, None, Some}
-use Rattle.std.proofs.Common.{sym, refl, ap, ◌∙◌, subst, inl, inr, ⊎_elim}
-use Rattle.chain_laws.specs.Chains.{Shown, Interlinks, Chain, linear, cyclic, items, IsChain, Has, HasNoRepetition, Stands, first_or, last_or}
-use Rattle.chain_laws.specs.Operations.{with_prev, with_next, prev_set, next_set, linked}
-use Rattle.chain_laws.proofs.Members.{Has-left, Has-right, last_or-Has, first_or-Has}
+use Rattle.std.specs.Prelude.{◌≡◌, ◌↔◌, ℕ, List, [], ◌∷◌, ◌++◌, Option, None, Some}
+use Rattle.std.proofs.Common.{sym, ◌∙◌, subst, inl, inr, ⊎_elim}
+use Rattle.chain_laws.specs.Chains.{Shown, Chain, linear, cyclic, items, IsChain, Has, HasNoRepetition, Stands, first_or, last_or}
+use Rattle.chain_laws.specs.Operations.{prev_set, next_set, linked}
+use Rattle.chain_laws.proofs.Members.{last_or-Has}
 use Rattle.chain_laws.proofs.Standing.{Stands-frame, Stands-append}
 use Rattle.chain_laws.proofs.Linking.{IsOff, next_set-off, prev_set-off, linked-off, next_set-at, prev_set-at}
 use Rattle.chain_laws.proofs.Agreement.{one_some}
@@ -40,9 +40,9 @@ Stands-unlinked shown u v before xs after apart_u apart_v stands =
 last_beyond : (x y : ℕ) (ys : List ℕ) → (Has (y ∷ ys) x → ⊥) → IsOff (last_or ys (Some y)) x
 last_beyond x y ys none i named e =
     ⊎_elim
-        (λ h. none (inr (subst (Has ys) (sym e) h)))
-        (λ s. none (inl (one_some s ∙ sym e)))
-        (last_or-Has ys (Some y) i named)
+    (λ h. none (inr (subst (Has ys) (sym e) h)))
+    (λ s. none (inl (one_some s ∙ sym e)))
+    (last_or-Has ys (Some y) i named)
 
 -- a list stands with v after it once v comes after its last item
 pub Stands-next_of_last : (shown : Shown) (v before : Option ℕ) (xs : List ℕ) (after : Option ℕ) → HasNoRepetition xs → Stands shown before xs after
@@ -68,8 +68,8 @@ Stands-glued shown before xs xs_after ys_before ys after xs_once ys_once last_ap
     let u = last_or xs before in
     let v = first_or ys after in
     Stands-append (linked shown u v) before xs ys after
-        (Stands-prev_set (next_set shown u v) v u before xs v first_apart (Stands-next_of_last shown v before xs xs_after xs_once xs_stands))
-        (Stands-prev_of_first (next_set shown u v) u ys_before ys after ys_once (Stands-next_set shown u v ys_before ys after last_apart ys_stands))
+    (Stands-prev_set (next_set shown u v) v u before xs v first_apart (Stands-next_of_last shown v before xs xs_after xs_once xs_stands))
+    (Stands-prev_of_first (next_set shown u v) u ys_before ys after ys_once (Stands-next_set shown u v ys_before ys after last_apart ys_stands))
 
 -- a list stands as a ring once its first item comes after its last
 pub Stands-ringed : (shown : Shown) (before : Option ℕ) (xs : List ℕ) (after : Option ℕ) → HasNoRepetition xs → Stands shown before xs after

@@ -1,0 +1,9 @@
+-- Since chains that share an index are one.
+use Rattle.chain_laws.proofs.Partitions.{same_members, same_turned}
+use Rattle.chain_laws.proofs.partition.same_chains_in_any_order.Goals as goal
+
+pub returns-clause-written : goal.returns-clause-written
+returns-clause-written c = same_members
+
+pub returns-clause-turned : goal.returns-clause-turned
+returns-clause-turned c = same_turned
