@@ -30,8 +30,11 @@ abbrev pub show_text : Option (ℕ × Gen32) → Option (ℕ × Gen32) → ℕ �
 show_text prev next value = codes "prev " ++ neighbor_text prev ++ codes " next " ++ neighbor_text next ++ codes " value " ++ decimal value
 
 -- a link of a walk: its pointer and its value
+abbrev pub passed_text : ℕ × Gen32 → ℕ → List ℕ
+passed_text p value = pointer_text p ++ codes ":" ++ decimal value
+
 abbrev pub link_text : ℕ × (Gen32 × LinkSeen ℕ) → List ℕ
-link_text e = pointer_text (e.0, e.1.0) ++ codes ":" ++ decimal e.1.1.value
+link_text e = passed_text (e.0, e.1.0) e.1.1.value
 
 -- a walk: its links, with a space between
 abbrev pub walk_text : List (ℕ × (Gen32 × LinkSeen ℕ)) → List ℕ

@@ -6,7 +6,7 @@ ghost use Rattle.chain_tool.specs.Answers.{Adds, Connects, Shows, Walks, Gives, 
 
 use crate::chain_arena::{ChainArena, LinkInsertKind};
 use crate::command::{Command, Line, parse};
-use crate::text::{push_link, push_pointer};
+use crate::text::{push_link, push_pointer, push_walk};
 use arena_ptr::ToolPtr;
 use std::alloc::AllocError;
 
@@ -87,5 +87,8 @@ fn chain(arena: &ChainArena<ToolPtr, u32>, p: ToolPtr, text: &mut String) -> Res
     ensures { OnOk result (Walks arena.now (key_of p) (string_bytes text.new)) }
 {
     text.clear();
-    text.push_str("none")
+    match arena.iter_chain(p) {
+        Some(links) => push_walk(text, links),
+        None => text.push_str("none"),
+    }
 }
