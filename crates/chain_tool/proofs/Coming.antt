@@ -18,9 +18,14 @@ pub Answers-more : (old mid new : Links) (lines : List (List ℕ)) (line text mo
 Answers-more old mid new [] line text more answers next =
     let first : AnswersLine old (line_of line) more new = subst (λ m. AnswersLine m (line_of line) more new) answers.1 next in
     (new, more, [], first, (refl, refl), ap (λ t. t ++ more) answers.0 ∙ sym (append-nil more))
-Answers-more old mid new (first ∷ lines) line text more answers next =
-    (answers.0, answers.1, answers.2 ++ more, answers.3, Answers-more answers.0 mid new lines line answers.2 more answers.4 next,
-      ap (λ t. t ++ more) answers.5 ∙ append_assoc answers.1 answers.2 more)
+Answers-more old mid new (first ∷ lines) line text more answers next = (
+  answers.0,
+  answers.1,
+  answers.2 ++ more,
+  answers.3,
+  Answers-more answers.0 mid new lines line answers.2 more answers.4 next,
+  ap (λ t. t ++ more) answers.5 ∙ append_assoc answers.1 answers.2 more,
+)
 
 -- what an answer to what is kept is, is an answer to the line
 pub of_kept : (old new : Links) (kept rest text : List ℕ) → kept ≡ take 201 rest → AnswersLine old (line_of kept) text new → AnswersLine old (line_of rest) text new
@@ -48,11 +53,12 @@ module _ (old mid new : Links) (read kept : List ℕ) (held held_mid held_after 
   pub Comes-stopped : (A B : Type 0) (error : ToolError) (more kept_after : List ℕ) → AnswersOne {A = A} (Err error) mid new kept held_mid held_after
       → Comes {A = B} (Err error) old (read ++ 10 ∷ more) new kept_after held held_after
   Comes-stopped A B errors.Read more kept_after stopped = stopped
-  Comes-stopped A B errors.Write more kept_after stopped =
-      (come.text ++ stopped.0,
-        subst (λ l. IsCutShort old new l (come.text ++ stopped.0)) (sym (ended more))
+  Comes-stopped A B errors.Write more kept_after stopped = (
+    come.text ++ stopped.0,
+    subst (λ l. IsCutShort old new l (come.text ++ stopped.0)) (sym (ended more))
         (within come.lines (lines_of more) come.rest mid come.text stopped.0 stopped.1 come.answers (of_kept mid new kept come.rest (stopped.0 ++ stopped.1) come.keeps stopped.2)),
-        Appends-trans held held_mid held_after _ _ come.writes stopped.3)
+    Appends-trans held held_mid held_after _ _ come.writes stopped.3,
+  )
   Comes-stopped A B errors.Memory more kept_after stopped =
       (come.text, subst (λ l. IsGivenUp old new l come.text) (sym (ended more)) (given_up more stopped.1), Appends-kept held held_mid held_after _ come.writes stopped.0)
 
@@ -67,14 +73,14 @@ Progress-stopped old new read kept more held held_after come =
 pub Progress-byte : (old new : Links) (read kept kept_after : List ℕ) (byte : ℕ) (held held_after : Option (List ℕ)) → Progress old read new kept held held_after → (byte == 10) ≡ false
     → ((rest : List ℕ) → kept ≡ take 201 rest → kept_after ≡ take 201 (rest ++ byte ∷ [])) → Progress old (read ++ byte ∷ []) new kept_after held held_after
 Progress-byte old new read kept kept_after byte held held_after come other keep = record {
-    lines = come.lines;
-    rest = come.rest ++ byte ∷ [];
-    text = come.text;
-    cut = cut-on read byte come.lines come.rest other come.cut;
-    keeps = keep come.rest come.keeps;
-    answers = come.answers;
-    writes = come.writes;
-  }
+  lines = come.lines;
+  rest = come.rest ++ byte ∷ [];
+  text = come.text;
+  cut = cut-on read byte come.lines come.rest other come.cut;
+  keeps = keep come.rest come.keeps;
+  answers = come.answers;
+  writes = come.writes;
+}
 
 -- ---- a piece, byte by byte
 
@@ -101,7 +107,7 @@ module _ (old now : Links) (read piece kept : List ℕ) (i : ℕ) (held held_now
       let here : Progress old (read ++ take (i + 1) piece) new [] held held_new = subst (λ l. Progress old l new [] held held_new) (piece_more read piece i 10 below byte) come_now in
       subst (λ h. Progress old (read ++ take (i + 1) piece) joined kept_after held h) (sym is_held)
       (subst (λ k. Progress old (read ++ take (i + 1) piece) joined k held held_new) (sym is_empty)
-        (subst (λ a. Progress old (read ++ take (i + 1) piece) a [] held held_new) (sym is_new) here))
+      (subst (λ a. Progress old (read ++ take (i + 1) piece) a [] held held_new) (sym is_new) here))
 
   pub feed-byte : (joined : Links) (byte : ℕ) (kept_new kept_after : List ℕ) (held_joined : Option (List ℕ))
       → get_or piece i 0 ≡ byte → (byte ≡ 10 → ⊥) → ((rest : List ℕ) → kept ≡ take 201 rest → kept_new ≡ take 201 (rest ++ byte ∷ []))
@@ -111,7 +117,7 @@ module _ (old now : Links) (read piece kept : List ℕ) (i : ℕ) (held held_now
       let here : Progress old (read ++ take (i + 1) piece) now kept_new held held_now = subst (λ l. Progress old l now kept_new held held_now) (piece_more read piece i byte below is) come_now in
       subst (λ h. Progress old (read ++ take (i + 1) piece) joined kept_after held h) (sym is_held)
       (subst (λ k. Progress old (read ++ take (i + 1) piece) joined k held held_now) (sym is_kept)
-        (subst (λ a. Progress old (read ++ take (i + 1) piece) a kept_new held held_now) (sym is_now) here))
+      (subst (λ a. Progress old (read ++ take (i + 1) piece) a kept_new held held_now) (sym is_now) here))
     where
       no_end : (b : ℕ) → (b ≡ 10 → ⊥) → (b == 10) ≡ false
       no_end b h = search rules

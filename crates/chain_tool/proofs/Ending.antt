@@ -68,22 +68,22 @@ module _ (old now : Links) (kept : List ℕ) (left left_now held held_now : Opti
   -- the reader fails
   pub Ends-unread : (B : Type 0) (r : Result B ToolError) (left_after : Option (List ℕ)) → Keeps left_now left_after → r ≡ Err errors.Read → Ends r old now left left_after held held_now
   Ends-unread B r left_after keeps is = subst (λ q. Ends q old now left left_after held held_now) (sym is) (record {
-      read = has.read;
-      text = has.come.text;
-      reads = Consumes-kept left left_now left_after _ has.reads keeps;
-      writes = has.come.writes;
-      answers = subst (λ l. Answers old l has.come.text now) (sym (ap all_but_last has.come.cut ∙ all_but_last-append has.come.lines has.come.rest)) has.come.answers;
-    })
+    read = has.read;
+    text = has.come.text;
+    reads = Consumes-kept left left_now left_after _ has.reads keeps;
+    writes = has.come.writes;
+    answers = subst (λ l. Answers old l has.come.text now) (sym (ap all_but_last has.come.cut ∙ all_but_last-append has.come.lines has.come.rest)) has.come.answers;
+  })
 
   -- the writer cannot be flushed
   pub Ends-unflushed : (B : Type 0) (r : Result B ToolError) (held_after : Option (List ℕ)) → Keeps held_now held_after → r ≡ Err errors.Write → Ends r old now left left_now held held_after
   Ends-unflushed B r held_after keeps is = subst (λ q. Ends q old now left left_now held held_after) (sym is) (record {
-      read = has.read;
-      text = has.come.text;
-      reads = has.reads;
-      writes = Appends-kept held held_now held_after _ has.come.writes keeps;
-      answers = subst (λ l. IsCutShort old now l has.come.text) (sym has.come.cut) (between has.come.lines (has.come.rest ∷ []) has.come.text has.come.answers);
-    })
+    read = has.read;
+    text = has.come.text;
+    reads = has.reads;
+    writes = Appends-kept held held_now held_after _ has.come.writes keeps;
+    answers = subst (λ l. IsCutShort old now l has.come.text) (sym has.come.cut) (between has.come.lines (has.come.rest ∷ []) has.come.text has.come.answers);
+  })
 
   -- the last line is answered
   pub Ends-finished : (B : Type 0) (r : Result B ToolError) (new : Links) (line : List ℕ) (left_after held_after : Option (List ℕ)) → line ≡ kept → Consumes left_now left_after [] → IsAtEnd left_after
@@ -108,7 +108,7 @@ module _ (old now : Links) (kept : List ℕ) (left left_now held held_now : Opti
         ended = end;
         writes = Appends-trans held held_now held_after _ _ has.come.writes answered.2;
         answers = subst (λ l. Answers old l (has.come.text ++ answered.0) new) (sym has.come.cut)
-          (Answers-more old now new has.come.lines has.come.rest has.come.text answered.0 has.come.answers (last answered.0 answered.1));
+            (Answers-more old now new has.come.lines has.come.rest has.come.text answered.0 has.come.answers (last answered.0 answered.1));
       }
       by_result (Err errors.Read) answered = absurd answered
       by_result (Err errors.Write) answered = record {
@@ -117,7 +117,7 @@ module _ (old now : Links) (kept : List ℕ) (left left_now held held_now : Opti
         reads = all;
         writes = Appends-trans held held_now held_after _ _ has.come.writes answered.3;
         answers = subst (λ l. IsCutShort old new l (has.come.text ++ answered.0)) (sym has.come.cut)
-          (within has.come.lines [] has.come.rest now has.come.text answered.0 answered.1 has.come.answers (last (answered.0 ++ answered.1) answered.2));
+            (within has.come.lines [] has.come.rest now has.come.text answered.0 answered.1 has.come.answers (last (answered.0 ++ answered.1) answered.2));
       }
       by_result (Err errors.Memory) answered = record {
         read = has.read;
@@ -130,9 +130,9 @@ module _ (old now : Links) (kept : List ℕ) (left left_now held held_now : Opti
 -- there is no room for a piece: nothing is read and nothing written
 pub Ends-no_room : (B : Type 0) (r : Result B ToolError) (error : ToolError) (links : Links) (left held : Option (List ℕ)) → error ≡ errors.Memory → r ≡ Err error → Ends r links links left left held held
 Ends-no_room B r error links left held memory is = subst (λ q. Ends q links links left left held held) (sym (is ∙ ap Err memory)) (record {
-    read = [];
-    text = [];
-    reads = Consumes-nil left;
-    writes = Appends-nil held;
-    answers = before [] ([] ∷ []) [] (refl, refl);
-  })
+  read = [];
+  text = [];
+  reads = Consumes-nil left;
+  writes = Appends-nil held;
+  answers = before [] ([] ∷ []) [] (refl, refl);
+})

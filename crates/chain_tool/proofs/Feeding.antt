@@ -121,8 +121,10 @@ lines_of-more (c ∷ more) text lines rest cut = by_test (c == 10) refl (λ line
     by_test : (b : Bool) → (c == 10) ≡ b
         → ((lines : List (List ℕ)) (rest : List ℕ) → lines_of (text ++ c ∷ []) ≡ lines ++ rest ∷ [] → (others : List (List ℕ)) × (lines_of ((text ++ c ∷ []) ++ more) ≡ lines ++ others))
         → (others : List (List ℕ)) × (lines_of (text ++ c ∷ more) ≡ lines ++ others)
-    by_test true e on = (rest ∷ lines_of more,
-      ap (λ d. lines_of (text ++ d ∷ more)) (end_is e) ∙ lines_of-end text more ∙ ap (λ l. l ++ lines_of more) cut ∙ append_assoc lines (rest ∷ []) (lines_of more))
+    by_test true e on = (
+      rest ∷ lines_of more,
+      ap (λ d. lines_of (text ++ d ∷ more)) (end_is e) ∙ lines_of-end text more ∙ ap (λ l. l ++ lines_of more) cut ∙ append_assoc lines (rest ∷ []) (lines_of more),
+    )
     by_test false e on =
         let found = on lines (rest ++ c ∷ []) (cut-on text c lines rest e cut) in
         (found.0, ap lines_of (sym (append_assoc text (c ∷ []) more)) ∙ found.1)

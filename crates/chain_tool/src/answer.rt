@@ -12,7 +12,11 @@ use std::alloc::AllocError;
 
 /// Carries out a line, and makes its answer in `text`. An `Err` is memory for the answer: the line may be carried out
 /// then, or not.
-pub fn answer(arena: &mut ChainArena<ToolPtr, u32>, line: &[u8], text: &mut String) -> Result<(), AllocError>
+pub fn answer(
+    arena: &mut ChainArena<ToolPtr, u32>,
+    line: &[u8],
+    text: &mut String,
+) -> Result<(), AllocError>
     ensures ok { OnOk result (AnswersLine arena.old (line_of line.now) (string_bytes text.new) arena.new) }
     ensures err { OnErr result ((arena.new ≡ arena.old) ⊎ ((words : List ℕ) × AnswersLine arena.old (line_of line.now) words arena.new)) }
 {
@@ -28,7 +32,11 @@ pub fn answer(arena: &mut ChainArena<ToolPtr, u32>, line: &[u8], text: &mut Stri
 }
 
 /// Carries out a command, and makes its answer in `text`.
-fn carry_out(arena: &mut ChainArena<ToolPtr, u32>, command: Command, text: &mut String) -> Result<(), AllocError>
+fn carry_out(
+    arena: &mut ChainArena<ToolPtr, u32>,
+    command: Command,
+    text: &mut String,
+) -> Result<(), AllocError>
     ensures ok { OnOk result (Gives arena.old command (string_bytes text.new) arena.new) }
     ensures err { OnErr result ((arena.new ≡ arena.old) ⊎ ((words : List ℕ) × Gives arena.old command words arena.new)) }
 {
@@ -45,7 +53,11 @@ fn carry_out(arena: &mut ChainArena<ToolPtr, u32>, command: Command, text: &mut 
 }
 
 /// The answer to `add alone V`.
-fn add_alone(arena: &mut ChainArena<ToolPtr, u32>, v: u32, text: &mut String) -> Result<(), AllocError>
+fn add_alone(
+    arena: &mut ChainArena<ToolPtr, u32>,
+    v: u32,
+    text: &mut String,
+) -> Result<(), AllocError>
     ensures ok { OnOk result (Adds arena.old v (string_bytes text.new) arena.new) }
     ensures err { OnErr result ((words : List ℕ) × Adds arena.old v words arena.new) }
 {
@@ -60,7 +72,12 @@ fn add_alone(arena: &mut ChainArena<ToolPtr, u32>, v: u32, text: &mut String) ->
 }
 
 /// The answer to `connect P Q`.
-fn connect(arena: &mut ChainArena<ToolPtr, u32>, p: ToolPtr, q: ToolPtr, text: &mut String) -> Result<(), AllocError>
+fn connect(
+    arena: &mut ChainArena<ToolPtr, u32>,
+    p: ToolPtr,
+    q: ToolPtr,
+    text: &mut String,
+) -> Result<(), AllocError>
     ensures ok { OnOk result (Connects arena.old (key_of p) (key_of q) (string_bytes text.new) arena.new) }
     ensures err { OnErr result ((words : List ℕ) × Connects arena.old (key_of p) (key_of q) words arena.new) }
 {

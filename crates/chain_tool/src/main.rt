@@ -6,6 +6,8 @@ mod arena_base;
 mod chain_arena;
 mod command;
 mod run;
+#[cfg(test)]
+mod tests;
 mod text;
 mod words;
 

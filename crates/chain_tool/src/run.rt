@@ -48,7 +48,12 @@ fn put<W: Write>(writer: &mut W, text: &[u8]) -> Result<(), ToolError>
 }
 
 /// Carries out a line, and gives its answer to the writer.
-fn reply<W: Write>(arena: &mut ChainArena<ToolPtr, u32>, line: &[u8], text: &mut String, writer: &mut W) -> Result<(), ToolError>
+fn reply<W: Write>(
+    arena: &mut ChainArena<ToolPtr, u32>,
+    line: &[u8],
+    text: &mut String,
+    writer: &mut W,
+) -> Result<(), ToolError>
     ensures { AnswersOne result arena.old arena.new line.now (W.contents writer.old) (W.contents writer.new) }
 {
     match answer(arena, line, text) {
@@ -120,7 +125,12 @@ fn read_piece<R: Read>(reader: &mut R, piece: &mut [u8]) -> Result<usize, ToolEr
 }
 
 /// Answers the last line, which no line feed ended.
-fn finish<W: Write>(arena: &mut ChainArena<ToolPtr, u32>, line: &[u8], text: &mut String, writer: &mut W) -> Result<(), ToolError>
+fn finish<W: Write>(
+    arena: &mut ChainArena<ToolPtr, u32>,
+    line: &[u8],
+    text: &mut String,
+    writer: &mut W,
+) -> Result<(), ToolError>
     ensures { AnswersOne result arena.old arena.new line.now (W.contents writer.old) (W.contents writer.new) }
 {
     reply(arena, line, text, writer)?;
@@ -177,7 +187,11 @@ pub fn run_on<R: Read, W: Write>(
 }
 
 /// Carries out the lines of a reader on an empty arena.
-pub fn run<R: Read, W: Write>(alloc: Global, reader: &mut R, writer: &mut W) -> Result<(), ToolError>
+pub fn run<R: Read, W: Write>(
+    alloc: Global,
+    reader: &mut R,
+    writer: &mut W,
+) -> Result<(), ToolError>
     ensures { (old : Links) × (new : Links) × IsNew old
         × Ends result old new (R.remaining reader.old) (R.remaining reader.new) (W.contents writer.old) (W.contents writer.new) }
 {

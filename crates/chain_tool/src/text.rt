@@ -25,7 +25,12 @@ fn push_neighbor(text: &mut String, neighbor: Option<ToolPtr>) -> Result<(), All
 }
 
 /// Adds a link to a text: its neighbours and its value.
-pub fn push_link(text: &mut String, prev: Option<ToolPtr>, next: Option<ToolPtr>, value: u32) -> Result<(), AllocError>
+pub fn push_link(
+    text: &mut String,
+    prev: Option<ToolPtr>,
+    next: Option<ToolPtr>,
+    value: u32,
+) -> Result<(), AllocError>
     ensures { OnOk result (string_bytes text.new
         ≡ string_bytes text.old ++ show_text (option_map key_of prev) (option_map key_of next) value) }
 {

@@ -9,7 +9,7 @@ use Rattle.chain_tool.proofs.run.put.Goals.{in-Ok, in-Err+else-ne}
 more : (a b c : Option (List ℕ)) (text rest : List ℕ) (w n m : ℕ) → m ≡ w + n → rest ≡ drop w text → Appends a b (take w text) → Appends b c (take n rest) → Appends a c (take m text)
 more a b c text rest w n m sum e first next =
     subst (λ k. Appends a c (take k text)) (sym sum) (
-      subst (Appends a c) (sym (take-add w n text)) (Appends-trans a b c _ _ first (subst (λ r. Appends b c (take n r)) e next)))
+    subst (Appends a c) (sym (take-add w n text)) (Appends-trans a b c _ _ first (subst (λ r. Appends b c (take n r)) e next)))
 
 kept : (a b c : Option (List ℕ)) (text : List ℕ) (w m : ℕ) → m ≡ w → Appends a b (take w text) → Keeps b c → Appends a c (take m text)
 kept a b c text w m same first next = subst (λ k. Appends a c (take k text)) (sym same) (Appends-kept a b c _ first next)

@@ -14,9 +14,12 @@ written : {A : Type 0} (r : Result A ToolError) (old new : Links) (line text byt
 written (Ok x) old new line text bytes held held_after answers is ok err error = (text, answers, subst (Appends held held_after) is ok)
 written (Err errors.Read) old new line text bytes held held_after answers is ok err error = cc
 written (Err errors.Memory) old new line text bytes held held_after answers is ok err error = cc
-written (Err errors.Write) old new line text bytes held held_after answers is ok err error =
-    (take err.0 text, drop err.0 text, subst (λ t. AnswersLine old (line_of line) t new) (sym (take-append-drop err.0 text)) answers,
-      subst (λ t. Appends held held_after (take err.0 t)) is err.1)
+written (Err errors.Write) old new line text bytes held held_after answers is ok err error = (
+  take err.0 text,
+  drop err.0 text,
+  subst (λ t. AnswersLine old (line_of line) t new) (sym (take-append-drop err.0 text)) answers,
+  subst (λ t. Appends held held_after (take err.0 t)) is err.1,
+)
 
 pub returns-in-Ok : goal.returns-in-Ok
 returns-in-Ok g c = written c.put.result _ _ _ _ _ _ _ c.in-Ok.ensures.ok c.as_bytes.ensures.value c.put.ensures.ok c.put.ensures.err c.put.ensures.error
