@@ -13,6 +13,11 @@ pub mod Joining
 pub mod Alone
 pub mod Walking
 pub mod Passing
+pub mod Skipping
+pub mod RemovalPairs
+pub mod Removing
 pub mod Determined
+pub mod Shortening
 pub mod OperationRows
+pub mod RemovalRows
 pub mod Rows

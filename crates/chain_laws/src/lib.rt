@@ -4,4 +4,5 @@
 
 pub mod operations;
 pub mod partition;
+pub mod removal;
 pub mod walks;
