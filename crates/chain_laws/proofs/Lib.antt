@@ -18,6 +18,9 @@ pub mod RemovalPairs
 pub mod Removing
 pub mod Determined
 pub mod Shortening
+pub mod CutPairs
+pub mod Parting
 pub mod OperationRows
 pub mod RemovalRows
+pub mod CutRows
 pub mod Rows

@@ -1,4 +1,5 @@
 pub mod Chains
+pub mod Cuts
 pub mod Neighbors
 pub mod Operations
 pub mod Removals

@@ -2,6 +2,7 @@
 //! empty body and carries a law as its contract.
 #![tactic(auto)]
 
+pub mod cutting;
 pub mod operations;
 pub mod partition;
 pub mod removal;
