@@ -1,6 +1,6 @@
 -- What a cut does to the interlinks: one pair goes, and they still agree.
-use Rattle.std.specs.Prelude.{◌≡◌, ◌≢◌, ◌↔◌, ℕ, ◌==◌, if◌then◌else◌, ◌⊎◌, Option, None, Some}
-use Rattle.std.proofs.Common.{sym, refl, ap, ◌∙◌, subst, inl, inr, ⊎_elim}
+use Rattle.std.specs.Prelude.{◌≡◌, ◌≢◌, ◌↔◌, ℕ, ◌==◌, if◌then◌else◌, ◌⊎◌, None, Some}
+use Rattle.std.proofs.Common.{sym, refl, ap, ◌∙◌, inl, inr}
 use Rattle.std.proofs.lemmas.Bool.{cases_eq}
 use Rattle.chain_laws.specs.Chains.{Shown, IsValid, Agrees, prev_of, next_of}
 use Rattle.chain_laws.specs.Neighbors.{AreNeighbors}
@@ -115,8 +115,7 @@ pub join_of_cut : JoinOfCutRestores
 join_of_cut shown a b agrees pair =
     let ends = cut_ends shown a b agrees pair in
     let valid = IsValid-joined (cut shown a b) a b in
-    let valid_cut = IsValid-cut shown a b in
-    (
+    let valid_cut = IsValid-cut shown a b in (
       ends,
       pairs_decide (joined (cut shown a b) a b) shown (joined_agrees (cut shown a b) a b (cut_agrees shown a b agrees pair) ends) agrees
           (λ i. (λ v. (valid_cut i).0 ((valid i).0 v), λ v. (valid i).1 ((valid_cut i).1 v)))
@@ -154,8 +153,7 @@ pub cut_of_join : CutOfJoinRestores
 cut_of_join shown a b agrees ends =
     let pair = joined_neighbors shown a b ends.valid_end in
     let valid = IsValid-joined shown a b in
-    let valid_cut = IsValid-cut (joined shown a b) a b in
-    (
+    let valid_cut = IsValid-cut (joined shown a b) a b in (
       pair,
       pairs_decide (cut (joined shown a b) a b) shown (cut_agrees (joined shown a b) a b (joined_agrees shown a b agrees ends) pair) agrees
           (λ i. (λ v. (valid i).0 ((valid_cut i).0 v), λ v. (valid_cut i).1 ((valid i).1 v)))

@@ -2,9 +2,9 @@
 use Rattle.std.specs.Prelude.{◌≡◌, ◌≢◌, ◌↔◌, ℕ, ◌⊎◌, List, [], ◌∷◌, ◌++◌, Option, None, Some}
 use Rattle.std.proofs.Common.{sym, refl, ap, ◌∙◌, subst, inl, inr, ⊎_elim}
 use Rattle.std.proofs.lemmas.List.{append_assoc}
-use Rattle.chain_laws.specs.Chains.{Shown, Chain, linear, cyclic, items, IsChain, IsValid, IsWithin, Agrees, Has, HasNoRepetition, Stands, prev_of, next_of, first_or, last_or}
+use Rattle.chain_laws.specs.Chains.{Shown, Chain, linear, cyclic, items, IsChain, Agrees, Has, HasNoRepetition, Stands, prev_of, first_or, last_or}
 use Rattle.chain_laws.specs.Neighbors.{AreNeighbors}
-use Rattle.chain_laws.specs.Operations.{prev_set, next_set, linked, HaveSameChains}
+use Rattle.chain_laws.specs.Operations.{prev_set, next_set, linked}
 use Rattle.chain_laws.specs.Cuts.{cut, Cuts, CutIsDetermined}
 use Rattle.chain_laws.proofs.Agreement.{one_some}
 use Rattle.chain_laws.proofs.Members.{Has-written, Has-middle, Has-filled, Has-or_not, last_or-append, last_or-Has, HasNoRepetition-left, HasNoRepetition-right, HasNoRepetition-apart}
@@ -26,8 +26,7 @@ parts_stand shown a b xs y filled ends once stands =
     subst (λ (o : Option ℕ). Stands (next_set shown o None) None xs None) ends
     (Stands-next_of_last shown None None xs (Some b) xs_once (Stands-left shown None xs (b ∷ y) None stands)) in
     let right : Stands ended (last_or xs None) (b ∷ y) None =
-    Stands-next_set shown (Some a) None (last_or xs None) (b ∷ y) None (IsApart-Some a (b ∷ y) a_apart) (Stands-right shown None xs (b ∷ y) None stands) in
-    (
+    Stands-next_set shown (Some a) None (last_or xs None) (b ∷ y) None (IsApart-Some a (b ∷ y) a_apart) (Stands-right shown None xs (b ∷ y) None stands) in (
       (filled, xs_once, Stands-prev_set ended (Some b) None None xs None (IsApart-Some b xs b_apart) left),
       (Has-filled (b ∷ y) b (inl refl), ys_once, Stands-prev_of_first ended None (last_or xs None) (b ∷ y) None ys_once right),
     )
@@ -52,8 +51,7 @@ cut_one shown a b [] chain starts ends = absurd (chain.0 refl)
 cut_one shown a b (x ∷ xs) chain starts ends =
     let ended : Stands (next_set shown (Some a) None) (last_or xs (Some x)) (x ∷ xs) None =
     subst (λ (o : Option ℕ). Stands (next_set shown o None) (last_or xs (Some x)) (x ∷ xs) None) ends
-    (Stands-next_of_last shown None (last_or xs (Some x)) (x ∷ xs) (Some x) chain.1 chain.2) in
-    (
+    (Stands-next_of_last shown None (last_or xs (Some x)) (x ∷ xs) (Some x) chain.1 chain.2) in (
       chain.0,
       chain.1,
       subst (λ (o : Option ℕ). Stands (prev_set (next_set shown (Some a) None) o None) None (x ∷ xs) None) starts

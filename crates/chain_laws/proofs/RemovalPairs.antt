@@ -1,17 +1,17 @@
 -- What a removal does to the interlinks: they pass over the index, so they still agree.
-use Rattle.std.specs.Prelude.{◌≡◌, ◌≢◌, ◌↔◌, ℕ, ◌==◌, if◌then◌else◌, ◌⊎◌, Option, None, Some}
+use Rattle.std.specs.Prelude.{◌≡◌, ◌≢◌, ◌↔◌, ℕ, ◌⊎◌, Option, None, Some}
 use Rattle.std.specs.Option.{option_map}
 use Rattle.std.proofs.Common.{sym, refl, ap, ap₂, ◌∙◌, inl, inr, ⊎_elim}
 use Rattle.std.proofs.lemmas.Bool.{cases_eq}
 use mathlib.Core.Path.{fun_ext}
-use Rattle.chain_laws.specs.Chains.{Shown, Interlinks, IsValid, Agrees, prev_in, next_in, prev_of, next_of}
+use Rattle.chain_laws.specs.Chains.{Shown, IsValid, Agrees, prev_in, next_in, prev_of, next_of}
 use Rattle.chain_laws.specs.Operations.{with_prev, with_next, prev_set, next_set, linked, with_lone}
 use Rattle.chain_laws.specs.Removals.{without, removed, RemovesPairs}
-use Rattle.chain_laws.proofs.Agreement.{if_same, if_other, put-same, one_some, not_both_ways}
+use Rattle.chain_laws.proofs.Agreement.{if_same, if_other, put-same}
 use Rattle.chain_laws.proofs.Standing.{next_valid, prev_valid}
 use Rattle.chain_laws.proofs.Linking.{IsOff, IsValidAt-Some, next_set-off, prev_set-off, prev_of-next_set, next_of-prev_set, next_of-next_set, prev_of-prev_set, IsValid-same, IsValid-next_set, IsValid-linked}
 use Rattle.chain_laws.proofs.Alone.{with_lone-at, with_lone-off}
-use Rattle.chain_laws.proofs.Skipping.{Skips, skips_pairs, skips_undo, undoes_back}
+use Rattle.chain_laws.proofs.Skipping.{Skips, skips_pairs, skips_undo}
 
 -- nothing stands there any more
 pub without-at : (shown : Shown) (q j : ℕ) → j ≡ q → without shown q j ≡ None

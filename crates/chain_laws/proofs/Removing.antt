@@ -1,7 +1,7 @@
 -- What a removal does to the chains: the index leaves its list, and every other chain stays.
-use Rattle.std.specs.Prelude.{◌≡◌, ◌≢◌, ◌↔◌, ℕ, List, [], ◌∷◌, ◌++◌, Option, None, Some}
-use Rattle.std.proofs.Common.{sym, refl, ap, ◌∙◌, subst, subst₂, inl, inr, ⊎_elim}
-use Rattle.chain_laws.specs.Chains.{Shown, Chain, linear, cyclic, items, IsChain, IsValid, Agrees, Has, HasNoRepetition, Stands, prev_in, next_in, prev_of, next_of, first_or, last_or}
+use Rattle.std.specs.Prelude.{◌≡◌, ◌≢◌, ℕ, List, [], ◌∷◌, ◌++◌, Option, None, Some}
+use Rattle.std.proofs.Common.{sym, refl, ap, subst, subst₂, inl, inr, ⊎_elim}
+use Rattle.chain_laws.specs.Chains.{Shown, Chain, linear, cyclic, items, IsChain, Agrees, Has, HasNoRepetition, Stands, prev_in, next_in, prev_of, next_of, first_or, last_or}
 use Rattle.chain_laws.specs.Operations.{linked}
 use Rattle.chain_laws.specs.Removals.{without, removed, Removes}
 use Rattle.chain_laws.proofs.Members.{Has-turned, Has-filled, filled-Has, first_or-Has, last_or-Has, HasNoRepetition-left, HasNoRepetition-right, HasNoRepetition-apart, HasNoRepetition-append}
@@ -38,8 +38,7 @@ removed_from_linear shown i x y chain filled =
     let glued : Stands (linked (without shown i) (last_or x None) (first_or y None)) None (x ++ y) None =
     Stands-glued (without shown i) None x (Some i) (Some i) y None x_once rest_once.1 last_apart first_apart
     (Stands-without shown i None x (Some i) (λ h. HasNoRepetition-apart x (i ∷ y) i chain.1 h (inl refl)) (Stands-left shown None x (i ∷ y) None chain.2))
-    (Stands-without shown i (Some i) y None rest_once.0 right.1) in
-    (
+    (Stands-without shown i (Some i) y None rest_once.0 right.1) in (
       filled,
       HasNoRepetition-append x y x_once rest_once.1 (parts_apart x y i chain.1),
       subst₂ (λ u v. Stands (linked (without shown i) u v) None (x ++ y) None) (sym (ap prev_in right.0)) (sym (ap next_in right.0)) glued,
@@ -56,8 +55,7 @@ pub removed_first_of_cyclic : (shown : Shown) (i : ℕ) (y : List ℕ) → IsCha
 removed_first_of_cyclic shown i [] chain filled = absurd (filled refl)
 removed_first_of_cyclic shown i (k ∷ y) chain filled =
     let ringed : Stands (linked (without shown i) (last_or y (Some k)) (Some k)) (last_or y (Some k)) (k ∷ y) (Some k) =
-    Stands-ringed (without shown i) (Some i) (k ∷ y) (Some i) chain.1.1 (Stands-without shown i (Some i) (k ∷ y) (Some i) chain.1.0 chain.2.1) in
-    (
+    Stands-ringed (without shown i) (Some i) (k ∷ y) (Some i) chain.1.1 (Stands-without shown i (Some i) (k ∷ y) (Some i) chain.1.0 chain.2.1) in (
       filled,
       chain.1.1,
       subst₂ (λ u v. Stands (linked (without shown i) u v) (last_or y (Some k)) (k ∷ y) (Some k)) (sym (ap prev_in chain.2.0)) (sym (ap next_in chain.2.0)) ringed,

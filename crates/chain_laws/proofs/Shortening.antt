@@ -1,11 +1,10 @@
 -- The chains after a removal are those before it, each without the index: what removes leaves no choice.
-use Rattle.std.specs.Prelude.{◌≡◌, ◌≢◌, ◌↔◌, ℕ, ◌⊎◌, List, [], ◌∷◌, ◌++◌, Option, None, Some}
+use Rattle.std.specs.Prelude.{◌≡◌, ◌≢◌, ℕ, ◌⊎◌, List, [], ◌∷◌, ◌++◌}
 use Rattle.std.proofs.Common.{sym, refl, ap, ◌∙◌, subst, inl, inr, ⊎_elim}
 use Rattle.std.proofs.lemmas.Bool.{cases_eq}
-use Rattle.chain_laws.specs.Chains.{Shown, Chain, linear, cyclic, items, IsChain, IsValid, IsWithin, Agrees, Has, HasNoRepetition}
+use Rattle.chain_laws.specs.Chains.{Shown, Chain, linear, cyclic, items, IsChain, IsWithin, Agrees, Has, HasNoRepetition}
 use Rattle.chain_laws.specs.Neighbors.{AreSameButTurned}
-use Rattle.chain_laws.specs.Operations.{HaveSameChains}
-use Rattle.chain_laws.specs.Removals.{removed, Removes, RemovesPairs, list_without, chain_without, HasChainsWithout, RemovalIsDetermined, RemovalLeavesEachWithout, RemovalIsDeterminedByPairs}
+use Rattle.chain_laws.specs.Removals.{removed, Removes, list_without, chain_without, RemovalIsDetermined, RemovalLeavesEachWithout, RemovalIsDeterminedByPairs}
 use Rattle.chain_laws.proofs.Agreement.{if_same, if_other}
 use Rattle.chain_laws.proofs.Members.{Has-written, Has-middle, Has-or_not, Has-filled, filled-Has}
 use Rattle.chain_laws.proofs.Unique.{chain_valid, chain_filled, chains_share}

@@ -1,5 +1,5 @@
 -- What becomes of the interlinks and of the chains where a link is removed.
-use Rattle.std.specs.Prelude.{◌≡◌, ◌≢◌, ◌↔◌, ℕ, ◌==◌, if◌then◌else◌, ◌⊎◌, List, [], ◌∷◌, ◌++◌, Option, None, Some}
+use Rattle.std.specs.Prelude.{◌≡◌, ◌≢◌, ◌↔◌, ℕ, ◌==◌, if◌then◌else◌, ◌⊎◌, List, [], ◌∷◌, ◌++◌, None, Some}
 use Rattle.chain_laws.specs.Chains.{Shown, Chain, linear, cyclic, items, Has, IsChain, IsValid, IsWithin, Agrees, prev_of, next_of}
 use Rattle.chain_laws.specs.Neighbors.{AreNeighbors}
 use Rattle.chain_laws.specs.Operations.{linked, with_lone, HaveSameChains}
