@@ -47,8 +47,7 @@ fn definitions()
     ensures add { line_of (codes "add alone 7") ≡ Carried (AddAlone 7) }
     ensures later_command { line_of (codes "add end 1.2 7") ≡ Bad }
     ensures blank { line_of (codes " ") ≡ Blank }
-{
-}
+{}
 
 #[test]
 fn small_texts() {
