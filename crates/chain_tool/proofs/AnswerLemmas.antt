@@ -6,7 +6,7 @@ use Rattle.chain_tool.specs.Arena.{entry_count, next_index, with_capacity_of}
 use Rattle.chain_tool.specs.ChainArena.{LinkSeen, shown, relinked, insert_lone, CanConnect}
 use Rattle.chain_tool.specs.declared.command.Command.{Command}
 use Rattle.chain_tool.specs.declared.command.Line.{Line}
-use Rattle.chain_tool.specs.declared.command.Line.TheVariants.{Carried}
+use Rattle.chain_tool.specs.declared.command.Line.TheVariants.{Good}
 use Rattle.chain_tool.specs.Answers.{Links, Adds, added, refused, Connects, connected, not_connected, Gives, AnswersLine, pointer_text, link_text, walk_text}
 
 module _ {T E : Type 0} where
@@ -29,7 +29,7 @@ module _ {T E : Type 0} where
   not_connected_err old new p q (Err e) cannot same = (codes "none", not_connected cannot refl same)
 
   -- what a command's step leaves, a line's step leaves
-  pub line_err : (old new : Links) (line : Line) (command : Command) (r : Result T E) → Carried command ≡ line → (new ≡ old) ⊎ ((words : List ℕ) × Gives old command words new)
+  pub line_err : (old new : Links) (line : Line) (command : Command) (r : Result T E) → Good command ≡ line → (new ≡ old) ⊎ ((words : List ℕ) × Gives old command words new)
       → OnErr r ((new ≡ old) ⊎ ((words : List ℕ) × AnswersLine old line words new))
   line_err old new line command (Ok x) is steps = tt
   line_err old new line command (Err e) is steps =

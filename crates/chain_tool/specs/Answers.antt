@@ -10,7 +10,7 @@ use Rattle.chain_tool.specs.ChainArena.{LinkSeen, shown, relinked, insert_lone, 
 use Rattle.chain_tool.specs.declared.command.Command.{Command}
 use Rattle.chain_tool.specs.declared.command.Command.TheVariants.{AddAlone, Connect, Show, Chain, Len}
 use Rattle.chain_tool.specs.declared.command.Line.{Line}
-use Rattle.chain_tool.specs.declared.command.Line.TheVariants.{Blank, Bad, Carried}
+use Rattle.chain_tool.specs.declared.command.Line.TheVariants.{Blank, Bad, Good}
 
 -- the arenas of the program: links of numbers, with indexes and generations of 32 bits
 abbrev pub Links : Type 0
@@ -69,4 +69,4 @@ Gives old Len text new = (text ≡ codes "count " ++ decimal (entry_count old)) 
 abbrev pub AnswersLine : Links → Line → List ℕ → Links → Type 0
 AnswersLine old Blank text new = (text ≡ []) × (new ≡ old)
 AnswersLine old Bad text new = (text ≡ codes "bad line" ++ 10 ∷ []) × (new ≡ old)
-AnswersLine old (Carried command) text new = (words : List ℕ) × (text ≡ words ++ 10 ∷ []) × Gives old command words new
+AnswersLine old (Good command) text new = (words : List ℕ) × (text ≡ words ++ 10 ∷ []) × Gives old command words new

@@ -55,7 +55,7 @@ command_of name arguments =
 
 abbrev pub line_with : Option Command → Line
 line_with None = lines.Bad
-line_with (Some command) = lines.Carried command
+line_with (Some command) = lines.Good command
 
 -- a line of these words
 abbrev pub line_of_words : List (List ℕ) → Line

@@ -24,7 +24,7 @@ pub fn answer(
     match parse(line) {
         Line::Blank => Ok(()),
         Line::Bad => text.push_str("bad line\n"),
-        Line::Carried(command) => {
+        Line::Good(command) => {
             carry_out(arena, command, text)?;
             text.push_str("\n")
         }

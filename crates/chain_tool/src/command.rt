@@ -29,7 +29,7 @@ pub enum Line {
     /// No command.
     Bad,
     /// A command to carry out.
-    Carried(Command),
+    Good(Command),
 }
 
 /// What a line says.
@@ -43,7 +43,7 @@ pub fn parse(line: &[u8]) -> Line
         None => Line::Blank,
         Some((name, arguments)) => match named(name, arguments) {
             None => Line::Bad,
-            Some(command) => Line::Carried(command),
+            Some(command) => Line::Good(command),
         },
     }
 }

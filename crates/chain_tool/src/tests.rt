@@ -1,7 +1,7 @@
 //! Runs of the program over readers and writers in memory.
 ghost use Rattle.std.specs.Prelude.{◌≡◌, ◌∷◌, [], codes, Some, None, option_map};
 ghost use Rattle.chain_tool.specs.declared.command.Command.TheVariants.{AddAlone, Len};
-ghost use Rattle.chain_tool.specs.declared.command.Line.TheVariants.{Blank, Bad, Carried};
+ghost use Rattle.chain_tool.specs.declared.command.Line.TheVariants.{Blank, Bad, Good};
 ghost use Rattle.chain_tool.specs.Words.{lines_of, whole_lines, without_return, words_of, number_of, pointer_of};
 ghost use Rattle.chain_tool.specs.Commands.{line_of};
 
@@ -43,8 +43,8 @@ fn definitions()
     ensures index_zero { pointer_of (codes "0.3") ≡ None }
     ensures generation_zero { pointer_of (codes "12.0") ≡ None }
     ensures two_dots { pointer_of (codes "1.2.3") ≡ None }
-    ensures len { line_of (codes " len ") ≡ Carried Len }
-    ensures add { line_of (codes "add alone 7") ≡ Carried (AddAlone 7) }
+    ensures len { line_of (codes " len ") ≡ Good Len }
+    ensures add { line_of (codes "add alone 7") ≡ Good (AddAlone 7) }
     ensures later_command { line_of (codes "add end 1.2 7") ≡ Bad }
     ensures blank { line_of (codes " ") ≡ Blank }
 {}
