@@ -2,3 +2,4 @@ pub mod Arena
 pub mod ChainArena
 pub mod Links
 pub mod Slots
+pub mod Slow

@@ -2,5 +2,7 @@
 
 mod arena_base;
 mod chain_arena;
+#[cfg(test)]
+mod slow;
 
 fn main() {}

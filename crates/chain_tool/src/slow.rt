@@ -1,0 +1,6 @@
+//! The chains and walks of small interlinks, found in the plainest way and checked against their definitions.
+//! The tests of the chain arena compare it with this program.
+
+mod checks;
+
+pub use checks::{Row, is_chain};
