@@ -1,3 +1,4 @@
 pub mod Relinking
 pub mod Seeing
 pub mod Slotting
+pub mod SlowLemmas
