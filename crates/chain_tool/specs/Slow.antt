@@ -1,5 +1,5 @@
 -- What the plain slow program sees: rows of interlinks, and lists of items that are linear or cyclic chains.
-use Rattle.std.specs.Prelude.{ℕ, zero, suc, List, Bool, true, false, Option, None, Some, slice_index_or}
+use Rattle.std.specs.Prelude.{ℕ, zero, suc, List, Bool, true, false, Option, None, Some, slice_index_or, ◌++◌, reverse, take, drop}
 use Rattle.std.specs.Option.{option_map}
 use Rattle.chain_laws.specs.Chains.{Shown, Interlinks, Chain, linear, cyclic}
 
@@ -23,3 +23,8 @@ shown_by rows i = option_map interlinks_in (row_in rows i)
 abbrev pub chain_of : Bool → List ℕ → Chain
 chain_of true xs = cyclic xs
 chain_of false xs = linear xs
+
+-- the walk from the item at k
+abbrev pub walk_at : Chain → ℕ → List ℕ
+walk_at (linear xs) k = drop k xs ++ reverse (take k xs)
+walk_at (cyclic xs) k = drop k xs ++ take k xs

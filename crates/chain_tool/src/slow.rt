@@ -3,6 +3,10 @@
 
 mod chains;
 mod checks;
+mod finds;
+mod walks;
 
-pub use chains::{SlowChain, are_the_chains};
-pub use checks::{Row, is_chain};
+pub use chains::SlowChain;
+pub use checks::{Row, has, is_chain};
+pub use finds::chains_of;
+pub use walks::walk_of;
