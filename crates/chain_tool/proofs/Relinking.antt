@@ -54,8 +54,8 @@ module _ {Gen T : Type 0} where
   -- of interlinks written twice the second count
   pub relinked-again : (a : Arena Gen (LinkSeen T)) (first second : Shown) → FitsLinks first a → relinked (relinked a first) second ≡ relinked a second
   relinked-again a first second fits = is_relinked a (relinked (relinked a first) second) second
-    (length-relinked (relinked a first) second ∙ length-relinked a first) refl refl
-    (λ i. entry_at-relinked (relinked a first) second i ∙ (ap (relink (second i)) (entry_at-relinked a first i) ∙ relink-again (first i) (second i) (entry_at a i) (fits i)))
+      (length-relinked (relinked a first) second ∙ length-relinked a first) refl refl
+      (λ i. entry_at-relinked (relinked a first) second i ∙ (ap (relink (second i)) (entry_at-relinked a first i) ∙ relink-again (first i) (second i) (entry_at a i) (fits i)))
 
   pub FitsLinks-shown : (a : Arena Gen (LinkSeen T)) → FitsLinks (shown a) a
   FitsLinks-shown a i = is_some-map interlinks_of (entry_at a i)
@@ -86,7 +86,7 @@ module _ {Gen I T : Type 0} (number : I → ℕ) where
   seen-write : (o : Option (Gen × LinkBody I T)) (link : LinkBody I T) (write : LinkBody I T → LinkBody I T) (change : Interlinks → Interlinks) → IsWrite number write change
       → option_map (λ (e : Gen × LinkBody I T). e.1) o ≡ Some link
       → option_map (seen_pair number) (option_map (λ (e : Gen × LinkBody I T). (e.0, write link)) o)
-        ≡ relink (option_map change (option_map interlinks_of (option_map (seen_pair number) o))) (option_map (seen_pair number) o)
+      ≡ relink (option_map change (option_map interlinks_of (option_map (seen_pair number) o))) (option_map (seen_pair number) o)
   seen-write None link write change is stands = refl
   seen-write (Some e) link write change is stands =
       ap (λ (l : LinkBody I T). let o : Option (Gen × LinkSeen T) = Some (e.0, seen_link number (write l)) in o) (sym (one_some stands)) ∙ ap (λ (l : LinkSeen T). let o : Option (Gen × LinkSeen T) = Some (e.0, l) in o) (is e.1)
@@ -100,18 +100,18 @@ module _ {Gen I T : Type 0} (number : I → ℕ) where
       let seen = seen_links number a in
       let w = write link in
       let at : (i : ℕ) → i ≡ n → entry_at (seen_links number (with_value a n w)) i ≡ relink (interlinks i) (entry_at seen i) =
-          (λ i same. entry_at-seen_links number (with_value a n w) i
-            ∙ (ap (option_map (seen_pair number)) (entry_at-with_value a n w i ∙ if_same i n _ _ same)
-            ∙ (seen-write (entry_at a i) link write change is (ap (λ k. option_map (λ (e : Gen × LinkBody I T). e.1) (entry_at a k)) same ∙ stands)
-            ∙ ap₂ relink (ap (λ o. option_map change (option_map interlinks_of o)) (sym (entry_at-seen_links number a i)) ∙ sym (are i ∙ if_same i n _ _ same)) (sym (entry_at-seen_links number a i))))) in
+      (λ i same. entry_at-seen_links number (with_value a n w) i
+      ∙ (ap (option_map (seen_pair number)) (entry_at-with_value a n w i ∙ if_same i n _ _ same)
+      ∙ (seen-write (entry_at a i) link write change is (ap (λ k. option_map (λ (e : Gen × LinkBody I T). e.1) (entry_at a k)) same ∙ stands)
+      ∙ ap₂ relink (ap (λ o. option_map change (option_map interlinks_of o)) (sym (entry_at-seen_links number a i)) ∙ sym (are i ∙ if_same i n _ _ same)) (sym (entry_at-seen_links number a i))))) in
       let off : (i : ℕ) → i ≢ n → entry_at (seen_links number (with_value a n w)) i ≡ relink (interlinks i) (entry_at seen i) =
-          (λ i other. entry_at-seen_links number (with_value a n w) i
-            ∙ (ap (option_map (seen_pair number)) (entry_at-with_value a n w i ∙ if_other i n _ _ other)
-            ∙ (sym (entry_at-seen_links number a i)
-            ∙ (relink-own (entry_at seen i) ∙ ap (λ l. relink l (entry_at seen i)) (sym (are i ∙ if_other i n _ _ other)))))) in
+      (λ i other. entry_at-seen_links number (with_value a n w) i
+      ∙ (ap (option_map (seen_pair number)) (entry_at-with_value a n w i ∙ if_other i n _ _ other)
+      ∙ (sym (entry_at-seen_links number a i)
+      ∙ (relink-own (entry_at seen i) ∙ ap (λ l. relink l (entry_at seen i)) (sym (are i ∙ if_other i n _ _ other)))))) in
       is_relinked seen (seen_links number (with_value a n w)) interlinks
-        (length-seen_links number (with_value a n w) ∙ (length-with_value a n w ∙ sym (length-seen_links number a))) (counter-with_value a n w) (capacity-with_value a n w)
-        (λ i. ⊎_elim (at i) (off i) (cases_eq i n))
+      (length-seen_links number (with_value a n w) ∙ (length-with_value a n w ∙ sym (length-seen_links number a))) (counter-with_value a n w) (capacity-with_value a n w)
+      (λ i. ⊎_elim (at i) (off i) (cases_eq i n))
 
   -- where no link stands nothing is written
   pub seen_links-no_write : (a : Arena Gen (LinkBody I T)) (n : ℕ) (change : Interlinks → Interlinks) (interlinks : Shown)
@@ -121,8 +121,8 @@ module _ {Gen I T : Type 0} (number : I → ℕ) where
   seen_links-no_write a n change interlinks none are =
       let seen = seen_links number a in
       let at : (i : ℕ) → i ≡ n → entry_at seen i ≡ relink (interlinks i) (entry_at seen i) =
-          (λ i same. let nothing : entry_at seen i ≡ None = entry_at-seen_links number a i ∙ ap (option_map (seen_pair number)) (no_entry (entry_at a i) (ap (λ k. option_map (λ (e : Gen × LinkBody I T). e.1) (entry_at a k)) same ∙ none)) in
-            nothing ∙ ap (relink (interlinks i)) (sym nothing)) in
+      (λ i same. let nothing : entry_at seen i ≡ None = entry_at-seen_links number a i ∙ ap (option_map (seen_pair number)) (no_entry (entry_at a i) (ap (λ k. option_map (λ (e : Gen × LinkBody I T). e.1) (entry_at a k)) same ∙ none)) in
+      nothing ∙ ap (relink (interlinks i)) (sym nothing)) in
       let off : (i : ℕ) → i ≢ n → entry_at seen i ≡ relink (interlinks i) (entry_at seen i) =
-          (λ i other. relink-own (entry_at seen i) ∙ ap (λ l. relink l (entry_at seen i)) (sym (are i ∙ if_other i n _ _ other))) in
+      (λ i other. relink-own (entry_at seen i) ∙ ap (λ l. relink l (entry_at seen i)) (sym (are i ∙ if_other i n _ _ other))) in
       is_relinked seen seen interlinks refl refl refl (λ i. ⊎_elim (at i) (off i) (cases_eq i n))

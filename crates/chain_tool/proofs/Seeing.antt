@@ -32,7 +32,7 @@ length-slice_set (y ∷ xs) zero x = refl
 length-slice_set (y ∷ xs) (suc k) x = ap (λ n. suc n) (length-slice_set xs k x)
 
 -- numbers are equal if those before them are
-if_suc : {A : Type 0} (j k : ℕ) (x y : A) → (if j == k then x else y) ≡ (if suc j == suc k then x else y)
+pub if_suc : {A : Type 0} (j k : ℕ) (x y : A) → (if j == k then x else y) ≡ (if suc j == suc k then x else y)
 if_suc j k x y = ap (λ b. if b then x else y) (sym (eqb-suc-suc j k))
 
 -- a list with one item changed, at that item and elsewhere
@@ -126,4 +126,5 @@ module _ {Gen I T : Type 0} (number : I → ℕ) where
   pub IsValidPtr-seen_links : (a : Arena Gen (LinkBody I T)) (p : ℕ × Gen) → IsValidPtr a p ↔ IsValidPtr (seen_links number a) p
   IsValidPtr-seen_links a p = (
     (λ valid. record { value = seen_link number valid.value; stands = entry_at-seen_links a p.0 ∙ ap (option_map (seen_pair number)) valid.stands }),
-    (λ valid. valid_of_entry p a (entry_at a p.0) valid.value refl (sym (entry_at-seen_links a p.0) ∙ valid.stands)))
+    (λ valid. valid_of_entry p a (entry_at a p.0) valid.value refl (sym (entry_at-seen_links a p.0) ∙ valid.stands)),
+  )

@@ -65,12 +65,12 @@ module _ {P T Inx Gen : Type 0} where
       let seen = seen_arena greatest slots counter capacity in
       let index : suc k ≡ n = omega (arith, at) in
       let entry : option_map (λ (e : Gen × T). (e.0, written.t)) (slice_index_or (map entry_of slots) k None) ≡ entry_of written =
-          ap (option_map (λ (e : Gen × T). (e.0, written.t))) (slice_index_or-entries slots k ∙ ap (option_map pair_of) stands)
-          ∙ ap (λ (generation : Gen). let e : Option (Gen × T) = Some (generation, written.t) in e) (sym same) in
+      ap (option_map (λ (e : Gen × T). (e.0, written.t))) (slice_index_or-entries slots k ∙ ap (option_map pair_of) stands)
+      ∙ ap (λ (generation : Gen). let e : Option (Gen × T) = Some (generation, written.t) in e) (sym same) in
       let slots_are : map entry_of (slice_set slots k written) ≡ slice_set (map entry_of slots) k (option_map (λ (e : Gen × T). (e.0, written.t)) (slice_index_or (map entry_of slots) k None)) =
-          map-slice_set slots k written ∙ ap (slice_set (map entry_of slots) k) (sym entry) in
+      map-slice_set slots k written ∙ ap (slice_set (map entry_of slots) k) (sym entry) in
       subst (λ i. seen_arena greatest (slice_set slots k written) counter capacity ≡ with_value seen i written.t) index
-        (ap (λ (es : List (Option (Gen × T))). let a : Arena Gen T = record seen { slots = es } in a) slots_are)
+      (ap (λ (es : List (Option (Gen × T))). let a : Arena Gen T = record seen { slots = es } in a) slots_are)
 
   -- the value that stands there
   pub value_at-slots : (slots : List (ArenaSlot P T Inx Gen)) (k n : ℕ) (slot : ArenaSlot P T Inx Gen) → k + 1 ≡ n → slice_get slots k ≡ Some slot

@@ -3,3 +3,4 @@ pub mod ChainArena
 pub mod Links
 pub mod Slots
 pub mod Slow
+pub mod Walkers

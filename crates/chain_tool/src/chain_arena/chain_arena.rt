@@ -1,10 +1,11 @@
-ghost use Rattle.std.specs.Prelude.{◌≡◌, ℕ, ◌+◌, ◌<◌, ◌≤◌, ◌↔◌, [], Some, IsTrue, IsSome, IfSome, OnSome, IfNone, IfOk, OnOk, OnErr, IfErr};
+ghost use Rattle.std.specs.Prelude.{◌≡◌, ℕ, ◌+◌, ◌<◌, ◌≤◌, ◌↔◌, [], length, Some, IsTrue, IsSome, IfSome, OnSome, IfNone, IfOk, OnOk, OnErr, IfErr};
 ghost use Rattle.std.specs.Option.{option_map, option_and_then};
 ghost use Rattle.chain_laws.specs.Operations.{joined, next_set, prev_set, Connects, AddsPair, AddsLone};
 ghost use Rattle.chain_tool.specs.Arena.{Arena as State, entry_at, entry_count, next_index, with_capacity_of, IsValidPtr};
-ghost use Rattle.chain_tool.specs.ChainArena.{LinkSeen, shown, relinked, insert_lone, CanConnect, IsLinkAt, ptr_at};
+ghost use Rattle.chain_tool.specs.ChainArena.{LinkSeen, shown, relinked, insert_lone, CanConnect, IsLinkAt, IsWalkOf, ptr_at};
 ghost use Rattle.chain_tool.specs.Links.{seen_link, seen_links};
 
+use super::chain_iterators::ChainIter;
 use super::chain_traits::LinkInsertKind;
 use super::links::{Link, LinkBody, LinkNoGen};
 use crate::arena_base::{Arena, ArenaTrait};
@@ -85,11 +86,27 @@ impl<P: Ptr, T: Drop> ChainArena<P, T> {
         }
     }
 
+    /// The links of a pointer's chain in walk order, each once. `None` where the pointer is not valid.
+    pub fn iter_chain(&self, p: P) -> Option<ChainIter<'_, P, T>>
+        ensures some { IsSome result ↔ IsValidPtr self.now (P.key p) }
+        ensures walk { IfSome result (IsWalkOf self.now (P.key p).0) }
+        ensures count { IfSome result (λ links. length links ≤ entry_count self.now) }
+    {
+        match self.arena.get(p) {
+            Some(link) => Some(ChainIter::new(&self.arena, p.inx(), link.prev(), self.arena.len())),
+            None => None,
+        }
+    }
+
     /// Adds a link and answers its pointer: the next index, with the counter as its generation.
     ///
     /// `AllocError`: the arena is full, and either its index type has no further index or memory was refused.
     /// Then nothing has changed, and the value is dropped.
-    pub fn insert_reallocating(&mut self, kind: LinkInsertKind, t: T) -> Result<P, ChainInsertionError>
+    pub fn insert_reallocating(
+        &mut self,
+        kind: LinkInsertKind,
+        t: T,
+    ) -> Result<P, ChainInsertionError>
         ensures ptr { IfOk result (λ p. P.key p ≡ (next_index self.old, self.old.counter)) }
         ensures ok { OnOk result (self.new ≡ with_capacity_of (insert_lone self.old t) self.new) }
         ensures adds { OnOk result (AddsLone (shown self.old) (shown self.new) (next_index self.old)) }
@@ -101,9 +118,12 @@ impl<P: Ptr, T: Drop> ChainArena<P, T> {
         match kind {
             LinkInsertKind::Disconnected => {}
         }
-        match self.arena.insert_reallocating(LinkBody::new((None, None), t)) {
-            Ok(p) => Ok(p),
-            Err(refusal) => Err(insertion_error(refusal)),
+        match self
+            .arena
+            .insert_reallocating(LinkBody::new((None, None), t))
+        {
+            Ok(p) => return Ok(p),
+            Err(refusal) => return Err(insertion_error(refusal)),
         }
     }
 
@@ -129,9 +149,12 @@ impl<P: Ptr, T: Drop> ChainArena<P, T> {
 fn can_connect<P: Ptr, T: Drop>(arena: &Arena<P, LinkNoGen<P, T>>, p: P, q: P) -> bool
     ensures { IsTrue result ↔ CanConnect (seen_links P.Inx.number arena.now) (P.key p) (P.key q) }
 {
-    match (arena.get(p), arena.get(q)) {
-        (Some(first), Some(second)) => first.next().is_none() && second.prev().is_none(),
-        _ => false,
+    match arena.get(p) {
+        Some(first) => match arena.get(q) {
+            Some(second) => first.next().is_none() && second.prev().is_none(),
+            None => false,
+        },
+        None => false,
     }
 }
 
@@ -139,9 +162,11 @@ fn can_connect<P: Ptr, T: Drop>(arena: &Arena<P, LinkNoGen<P, T>>, p: P, q: P) -
 fn neighbor<P: Ptr, T: Drop>(arena: &Arena<P, LinkNoGen<P, T>>, i: Option<P::Inx>) -> Option<P>
     ensures { option_map P.key result ≡ option_and_then (ptr_at (seen_links P.Inx.number arena.now)) (option_map P.Inx.number i) }
 {
-    let i = i?;
-    match arena.get_inx(i) {
-        Some((generation, _)) => Some(P::_from_raw(i, generation)),
+    match i {
+        Some(i) => match arena.get_inx(i) {
+            Some((generation, _)) => Some(P::_from_raw(i, generation)),
+            None => None,
+        },
         None => None,
     }
 }

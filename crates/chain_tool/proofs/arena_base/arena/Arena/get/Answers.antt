@@ -20,19 +20,28 @@ same_generation : (g : Over) (c : goal.Then-eq g) → c.in-Some.slot.now.generat
 same_generation g c = (g.met.P.Gen.PtrGen.eq_is_same c.in-Some.slot.now.generation c.generation.result).0 (sym c.eq.ensures ∙ c.if-eq.true) ∙ c.generation.ensures
 
 pub returns-then-eq-clause-some : goal.returns-then-eq-clause-some
-returns-then-eq-clause-some g c = (λ _. record {
+returns-then-eq-clause-some g c = (
+  λ _. record {
     value = c.in-Some.slot.now.t;
-    stands = stands_at c.args.self.now _ _ c.in-Some.slot.now.generation _ c.in-Some.slot.now.t (sym (the_entry g (goal.at.returns-then-eq-clause-some g c).In-Some)) refl (same_generation g c)
-  }, λ _. refl)
+    stands = stands_at c.args.self.now _ _ c.in-Some.slot.now.generation _ c.in-Some.slot.now.t (sym (the_entry g (goal.at.returns-then-eq-clause-some g c).In-Some)) refl (same_generation g c);
+  },
+  λ _. refl,
+)
 
 pub returns-then-eq-clause-value : goal.returns-then-eq-clause-value
 returns-then-eq-clause-value g c = stands_at c.args.self.now _ _ c.in-Some.slot.now.generation _ c.in-Some.slot.now.t (sym (the_entry g (goal.at.returns-then-eq-clause-value g c).In-Some)) refl (same_generation g c)
 
 pub returns-else-eq-clause-some : goal.returns-else-eq-clause-some
-returns-else-eq-clause-some g c = (λ h. absurd (no_truth h), λ valid.
-    let same = generation_of_valid c.args.self.now _ c.in-Some.slot.now.generation c.in-Some.slot.now.t (the_entry g (goal.at.returns-else-eq-clause-some g c).In-Some) valid in
-    sym c.if-eq.false ∙ (c.eq.ensures ∙ (g.met.P.Gen.PtrGen.eq_is_same c.in-Some.slot.now.generation c.generation.result).1 (same ∙ sym c.generation.ensures)))
+returns-else-eq-clause-some g c = (
+  λ h. absurd (no_truth h),
+  λ valid.
+      let same = generation_of_valid c.args.self.now _ c.in-Some.slot.now.generation c.in-Some.slot.now.t (the_entry g (goal.at.returns-else-eq-clause-some g c).In-Some) valid in
+      sym c.if-eq.false ∙ (c.eq.ensures ∙ (g.met.P.Gen.PtrGen.eq_is_same c.in-Some.slot.now.generation c.generation.result).1 (same ∙ sym c.generation.ensures)),
+)
 
 pub returns-in-None-clause-some : goal.returns-in-None-clause-some
-returns-in-None-clause-some g c = (λ h. absurd (no_truth h), λ valid. absurd (none_valid c.args.self.now _
-    (rw (← c.self.view_is) (entry_in-slots c.self.inside.slots.items c.position_of.result _ (c.position_of.ensures ∙ c.inx.ensures) ∙ ap (option_map pair_of) (sym c.in-None.ensures))) valid))
+returns-in-None-clause-some g c = (
+  λ h. absurd (no_truth h),
+  λ valid. absurd (none_valid c.args.self.now _
+      (rw (← c.self.view_is) (entry_in-slots c.self.inside.slots.items c.position_of.result _ (c.position_of.ensures ∙ c.inx.ensures) ∙ ap (option_map pair_of) (sym c.in-None.ensures))) valid),
+)
