@@ -1,5 +1,5 @@
 -- Lemmas for the plain slow program: rows and lists taken apart, and what makes the chains of an arena.
-use Rattle.std.proofs.Common.{◌≡◌, ◌↔◌, ℕ, zero, suc, ◌<◌, List, [], ◌∷◌, ◌++◌, length, reverse, take, drop, drop-cons, ◌∙◌, arith, inl, inr, ⊎_elim, true, Option, None, Some, refl, sym, ap, subst}
+use Rattle.std.proofs.Common.{◌≡◌, ◌↔◌, ℕ, zero, suc, ◌<◌, List, [], ◌∷◌, ◌++◌, length, reverse, take, drop, drop-cons, ◌∙◌, arith, inl, inr, ⊎_elim, true, None, Some, refl, sym, ap, subst}
 use Rattle.std.specs.Prelude.{slice_index_or, is_some}
 use Rattle.std.specs.Option.{option_map}
 use Rattle.std.proofs.lemmas.List.{take-append-drop}

@@ -1,5 +1,5 @@
 -- What the plain slow program sees: rows of interlinks, and lists of items that are linear or cyclic chains.
-use Rattle.std.specs.Prelude.{ℕ, zero, suc, List, Bool, true, false, Option, None, Some, slice_index_or, ◌++◌, reverse, take, drop}
+use Rattle.std.specs.Prelude.{ℕ, zero, suc, List, Bool, true, false, Option, None, slice_index_or, ◌++◌, reverse, take, drop}
 use Rattle.std.specs.Option.{option_map}
 use Rattle.chain_laws.specs.Chains.{Shown, Interlinks, Chain, linear, cyclic}
 

@@ -7,6 +7,6 @@ mod finds;
 mod walks;
 
 pub use chains::SlowChain;
-pub use checks::{Row, has, is_chain};
+pub use checks::Row;
 pub use finds::chains_of;
 pub use walks::walk_of;

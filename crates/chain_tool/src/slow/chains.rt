@@ -8,7 +8,7 @@ use std::alloc::{AllocError, Global};
 use std::marker::Model;
 
 /// A chain: its items in order, and whether it is cyclic.
-#[derive(Drop, Debug)]
+#[derive(Drop)]
 pub struct SlowChain {
     pub items: Vec<usize>,
     pub cyclic: bool,

@@ -1,5 +1,5 @@
 -- Below each item of the chains is below each item of the first and of the others.
-use Rattle.std.proofs.Common.{◌≡◌, ◌∷◌, take, drop, length, ◌-◌, arith, subst, sym}
+use Rattle.std.proofs.Common.{◌≡◌, ◌∷◌, take, drop, length, ◌-◌, arith}
 use Rattle.std.proofs.lemmas.Grind.{common_steps}
 use Rattle.chain_tool.proofs.SlowLemmas.{below_chains}
 use Rattle.chain_tool.proofs.slow.chains.+is_below_all.Goals as goal

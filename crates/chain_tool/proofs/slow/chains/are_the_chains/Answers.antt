@@ -1,5 +1,5 @@
 -- The chains of an arena are its chains in some order, and in order.
-use Rattle.std.proofs.Common.{◌≡◌, sym, ◌∙◌}
+use Rattle.std.proofs.Common.{sym, ◌∙◌}
 use Rattle.chain_tool.specs.Slow.{shown_by}
 use Rattle.chain_tool.proofs.SlowLemmas.{in_order}
 use Rattle.chain_tool.proofs.slow.chains.are_the_chains.Goals.{then-are_chains, else-are_chains}

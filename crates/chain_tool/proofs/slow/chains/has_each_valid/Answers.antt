@@ -1,6 +1,5 @@
 -- At the row where the loop stops a link stands, which is not among the items.
-use Rattle.std.proofs.Common.{◌≡◌, sym, ◌∙◌, false, true, subst, ℕ, suc, ◌+◌, add-one}
-use Rattle.chain_laws.specs.Chains.{Has}
+use Rattle.std.proofs.Common.{◌≡◌, sym, ◌∙◌, false, true, suc, add-one}
 use Rattle.chain_tool.proofs.SlowLemmas.{row_valid}
 use Rattle.chain_tool.proofs.slow.chains.has_each_valid.Goals as goal
 
