@@ -13,6 +13,14 @@ pub mod Joining
 pub mod Alone
 pub mod Walking
 pub mod Passing
+pub mod Skipping
+pub mod RemovalPairs
+pub mod Removing
 pub mod Determined
+pub mod Shortening
+pub mod CutPairs
+pub mod Parting
 pub mod OperationRows
+pub mod RemovalRows
+pub mod CutRows
 pub mod Rows

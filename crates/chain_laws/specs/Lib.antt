@@ -1,4 +1,6 @@
 pub mod Chains
+pub mod Cuts
 pub mod Neighbors
 pub mod Operations
+pub mod Removals
 pub mod Walks

@@ -98,3 +98,9 @@ AreSameInAnyOrder = (shown : Shown) (chains others : List Chain) → AreChains s
 abbrev pub AreTurnedInAnyOrder : Type 0
 AreTurnedInAnyOrder = (shown : Shown) (chains others : List Chain) → AreChains shown chains → AreChains shown others
     → (c : Chain) → HasChain chains c → (other : Chain) × HasChain others other × AreSameButTurned c other
+
+-- there is exactly one set of chains that partitions the links of the arena and has its interlinks
+pub record HasOneSetOfChains (shown : Shown) : Type 0 where
+  pub chains : List Chain
+  pub are : AreTheChains shown chains
+  pub only : (others : List Chain) → AreTheChains shown others → others ≡ chains

@@ -2,6 +2,8 @@
 //! empty body and carries a law as its contract.
 #![tactic(auto)]
 
+pub mod cutting;
 pub mod operations;
 pub mod partition;
+pub mod removal;
 pub mod walks;

@@ -1,5 +1,6 @@
 ghost use Rattle.std.specs.Prelude.{◌≡◌, ℕ, ◌+◌, ◌<◌, ◌≤◌, ◌↔◌, [], length, Some, IsTrue, IsSome, IfSome, OnSome, IfNone, IfOk, OnOk, OnErr, IfErr};
 ghost use Rattle.std.specs.Option.{option_map, option_and_then};
+ghost use Rattle.chain_laws.specs.Neighbors.{HasOneSetOfChains};
 ghost use Rattle.chain_laws.specs.Operations.{joined, next_set, prev_set, Connects, AddsPair, AddsLone};
 ghost use Rattle.chain_tool.specs.Arena.{Arena as State, entry_at, entry_count, next_index, with_capacity_of, IsValidPtr};
 ghost use Rattle.chain_tool.specs.ChainArena.{LinkSeen, shown, relinked, insert_lone, CanConnect, IsLinkAt, IsWalkOf, ptr_at};
@@ -47,10 +48,12 @@ impl<P: Ptr, T: Drop> ChainArena<P, T> {
         }
     }
 
-    /// How many links there are.
+    /// How many links there are. Each of them stands in exactly one chain, at one place, and no two sets of chains
+    /// say what the arena shows.
     pub fn len(&self) -> usize
         ensures count { result ≡ entry_count self.now }
         ensures fits { result ≤ self.now.capacity }
+        ensures chains { HasOneSetOfChains (shown self.now) }
     {
         self.arena.len()
     }

@@ -1,0 +1,5 @@
+use Rattle.chain_laws.proofs.RemovalPairs.{removed_agrees}
+use Rattle.chain_laws.proofs.removal.removal_agrees.Goals as goal
+
+pub returns : goal.returns
+returns c = removed_agrees

@@ -1,0 +1,53 @@
+-- What becomes of the interlinks and of the chains where two neighbours are cut apart.
+use Rattle.std.specs.Prelude.{◌≡◌, ◌↔◌, ℕ, List, [], ◌∷◌, ◌++◌, None, Some}
+use Rattle.chain_laws.specs.Chains.{Shown, linear, cyclic, IsChain, IsValid, IsWithin, Agrees, first_or, last_or}
+use Rattle.chain_laws.specs.Neighbors.{AreNeighbors}
+use Rattle.chain_laws.specs.Operations.{linked, joined, KeepsChainsWithout, AreEndAndStart, HaveSameChains}
+
+-- nothing comes after a, and nothing before b
+abbrev pub cut : Shown → ℕ → ℕ → Shown
+cut shown a b = linked (linked shown (Some a) None) None (Some b)
+
+-- exactly one neighbour pair is taken away
+pub record TakesPair (old new : Shown) (a b : ℕ) : Type 0 where
+  pub pairs : (i j : ℕ) → AreNeighbors new i j ↔ (AreNeighbors old i j × ((i ≡ a) × (j ≡ b) → ⊥))
+  pub links : (i : ℕ) → IsValid new i ↔ IsValid old i
+
+-- the chain in which b comes after a is cut between them
+pub record Cuts (old new : Shown) (a b : ℕ) : Type 0 where
+  -- a linear chain: it becomes two, of which the one ends in a, and the other starts with b
+  pub two : (x y : List ℕ) → IsChain old (linear (x ++ a ∷ b ∷ y)) → IsChain new (linear (x ++ a ∷ [])) × IsChain new (linear (b ∷ y))
+  -- a cyclic chain, written from b, so that a is its last: it becomes linear
+  pub one : (xs : List ℕ) → IsChain old (cyclic xs) → first_or xs None ≡ Some b → last_or xs None ≡ Some a → IsChain new (linear xs)
+  pub rest : KeepsChainsWithout old new a b
+
+-- after a cut the interlinks still agree ..
+abbrev pub CutAgrees : Type 0
+CutAgrees = (shown : Shown) (a b : ℕ) → Agrees shown → AreNeighbors shown a b → Agrees (cut shown a b)
+
+-- .. the pair is taken away and no other ..
+abbrev pub CutTakesAPair : Type 0
+CutTakesAPair = (shown : Shown) (a b : ℕ) → AreNeighbors shown a b → TakesPair shown (cut shown a b) a b
+
+-- .. and the chain is cut, all cases
+abbrev pub CutPartsChains : Type 0
+CutPartsChains = (shown : Shown) (a b : ℕ) → Cuts shown (cut shown a b) a b
+
+-- what cuts two neighbours apart has the chains of their cut, and no others ..
+abbrev pub CutIsDetermined : Type 0
+CutIsDetermined = (old new : Shown) (slots a b : ℕ) → Agrees old → IsWithin old slots → AreNeighbors old a b
+    → Cuts old new a b → HaveSameChains new (cut old a b)
+
+-- .. and what takes their pair, and agrees, is the cut
+abbrev pub CutIsDeterminedByPairs : Type 0
+CutIsDeterminedByPairs = (old new : Shown) (a b : ℕ) → Agrees old → Agrees new → AreNeighbors old a b → TakesPair old new a b → new ≡ cut old a b
+
+-- what is cut apart is an end and a start, and joined again it is as it was ..
+abbrev pub JoinOfCutRestores : Type 0
+JoinOfCutRestores = (shown : Shown) (a b : ℕ) → Agrees shown → AreNeighbors shown a b
+    → AreEndAndStart (cut shown a b) a b × (joined (cut shown a b) a b ≡ shown)
+
+-- .. and what is joined are neighbours, and cut again it is as it was
+abbrev pub CutOfJoinRestores : Type 0
+CutOfJoinRestores = (shown : Shown) (a b : ℕ) → Agrees shown → AreEndAndStart shown a b
+    → AreNeighbors (joined shown a b) a b × (cut (joined shown a b) a b ≡ shown)
