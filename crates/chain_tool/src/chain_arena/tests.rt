@@ -1,4 +1,5 @@
 mod small_arenas;
+mod tiny_ptr;
 
 use super::{ChainArena, Link, LinkInsertKind, LinkNoGen};
 use arena_ptr::{Gen32, Inx32, Ptr, ToolPtr};
