@@ -3,3 +3,4 @@ pub mod Indexes
 pub mod Generations
 pub mod ToolPtr
 pub mod Invalidation
+pub mod Text

@@ -13,8 +13,8 @@ pub use errors::{
     AllocError, ChainInsertionError, MaxCapacityReductionError, NotWithinCapacityError,
     ReallocationError,
 };
-pub use generation::Gen32;
-pub use index::Inx32;
+pub use generation::{Gen8, Gen32, Gen64};
+pub use index::{Inx8, Inx32, Inx64};
 pub use invalidation::{InvalidationOption, InvalidationResult};
 pub use ptr::{Ptr, PtrGen, PtrInx};
 pub use tool_ptr::ToolPtr;
