@@ -4,3 +4,6 @@ pub mod Generations
 pub mod ToolPtr
 pub mod Invalidation
 pub mod Text
+pub mod SlotStack
+pub mod Slots
+pub mod LimitedStack
