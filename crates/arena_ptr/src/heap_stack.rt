@@ -36,7 +36,11 @@ impl<E: Drop> SlotStack for HeapStack<E> {
 
     ghost within_maximum = { λ _. tt };
 
-    ghost written = { λ s i e. (refl, refl, refl) };
+    ghost items_written = { λ s i e. refl };
+
+    ghost capacity_written = { λ s i e. refl };
+
+    ghost maximum_written = { λ s i e. refl };
 
     fn new(alloc: Global) -> Self {
         HeapStack {

@@ -1,4 +1,6 @@
-ghost use Rattle.std.specs.Prelude.{vec_capacity};
+ghost use Rattle.std.specs.Prelude.{◌≡◌, OnSome, slice_get, vec_capacity};
+ghost use Rattle.std.specs.Option.{option_copied_mut};
+ghost use Rattle.std.specs.Borrow.{LendsSo, sem};
 ghost use Rattle.arena_ptr.specs.SlotStack.{IsWithinMaximum, IsWithinMaximum-prop};
 
 use crate::errors::{MaxCapacityReductionError, ReallocationError};
@@ -16,9 +18,24 @@ pub struct LimitedStack<E> {
     ghost within: { IsWithinMaximum most (vec_capacity slots) } by { IsWithinMaximum-prop most (vec_capacity slots) },
 }
 
+impl<E> LimitedStack<E> {
+    ghost use Rattle.arena_ptr.specs.LimitedStack.{with_item_at};
+    ghost use Rattle.arena_ptr.specs.contracts.limited_stack.LimitedStack.{the_row};
+
+    // The slot at position `i` for writing.
+    fn slot_mut(&mut self, i: usize) -> Option<&mut E>
+        ensures* lends { sem 𝓛 (LendsSo (the_row E.row) E.row self.entry result
+            (λ new w. OnSome result (new ≡ with_item_at self.old i w))
+            (λ new. new ≡ self.old)) }
+        ensures value { option_copied_mut result ≡ slice_get self.old.slots.items i }
+    {
+        self.slots.get_mut(i)
+    }
+}
+
 impl<E: Drop> SlotStack for LimitedStack<E> {
     ghost use Rattle.std.specs.Prelude.{◌*◌, None, refl};
-    ghost use Rattle.std.specs.Vec.{with_item as vec_with_item};
+    ghost use Rattle.arena_ptr.specs.LimitedStack.{with_item_at};
     ghost use Rattle.arena_ptr.specs.SlotStack.{capped};
     ghost use Rattle.arena_ptr.specs.Slots.{slots_have_room, slots_fit};
 
@@ -34,7 +51,7 @@ impl<E: Drop> SlotStack for LimitedStack<E> {
 
     ghost next_capacity = { λ s. capped s.most (2 * vec_capacity s.slots) };
 
-    ghost with_item = { λ s i e. record { slots = vec_with_item s.slots i e; most = s.most; within = s.within } };
+    ghost with_item = { with_item_at };
 
     ghost has_room = { λ s. slots_have_room s.slots };
 
@@ -42,7 +59,11 @@ impl<E: Drop> SlotStack for LimitedStack<E> {
 
     ghost within_maximum = { λ s. s.within };
 
-    ghost written = { λ s i e. (refl, refl, refl) };
+    ghost items_written = { λ s i e. refl };
+
+    ghost capacity_written = { λ s i e. refl };
+
+    ghost maximum_written = { λ s i e. refl };
 
     fn new(alloc: Global) -> Self {
         LimitedStack {
@@ -88,7 +109,7 @@ impl<E: Drop> SlotStack for LimitedStack<E> {
     }
 
     fn get_mut(&mut self, i: usize) -> Option<&mut E> {
-        self.slots.get_mut(i)
+        self.slot_mut(i)
     }
 
     fn swap(&mut self, i: usize, j: usize) {
@@ -101,7 +122,7 @@ impl<E: Drop> SlotStack for LimitedStack<E> {
 }
 
 impl<E: Drop> SetMaxCapacity for LimitedStack<E> {
-    ghost use Rattle.std.specs.Prelude.{◌≡◌, Some};
+    ghost use Rattle.std.specs.Prelude.{Some};
 
     ghost stack_capacity = { λ s. vec_capacity s.slots };
 

@@ -1,6 +1,6 @@
 ghost use Rattle.std.specs.Prelude.{◌≡◌, ℕ, ◌+◌, ◌^◌, ◌<◌, ◌≤◌, ◌↔◌, List, [], ◌∷◌, ◌++◌, length, take, swap, slice_get, slice_set, Option, Some, Ok, Err, IsOk, OnOk, OnErr, OnSome, option_copied};
 ghost use Rattle.std.specs.Option.{option_copied_mut};
-ghost use Rattle.std.specs.Borrow.{LendsSo, sem};
+ghost use Rattle.std.specs.Borrow.{LendsIf, sem};
 ghost use Rattle.arena_ptr.specs.SlotStack.{IsBeyond, IsWithinMaximum};
 
 use crate::errors::{MaxCapacityReductionError, ReallocationError};
@@ -78,9 +78,7 @@ pub trait SlotStack: Drop {
 
     /// The item at position `i` for writing, from 0. `None` from the length on.
     fn get_mut(&mut self, i: usize) -> Option<&mut Self::Item>
-        ensures* lends { sem 𝓛 (LendsSo Self.row Self.Item.row self.entry result
-            (λ new w. OnSome result ((items new ≡ slice_set (items self.old) i w) × (capacity new ≡ capacity self.old) × (maximum new ≡ maximum self.old) × (new ≡ with_item self.old i w)))
-            (λ new. new ≡ self.old)) }
+        ensures* lends { sem 𝓛 (LendsIf Self.row Self.Item.row self.entry result (with_item self.old i) self.old) }
         ensures value { option_copied_mut result ≡ slice_get (items self.old) i };
 
     /// Exchanges the items at positions `i` and `j`. The capacity stays.
@@ -104,7 +102,11 @@ pub trait SlotStack: Drop {
 
     ghost within_maximum: { (s : Self) → IsWithinMaximum (maximum s) (capacity s) };
 
-    ghost written: { (s : Self) (i : ℕ) (e : Self.Item) → (items (with_item s i e) ≡ slice_set (items s) i e) × (capacity (with_item s i e) ≡ capacity s) × (maximum (with_item s i e) ≡ maximum s) };
+    ghost items_written: { (s : Self) (i : ℕ) (e : Self.Item) → items (with_item s i e) ≡ slice_set (items s) i e };
+
+    ghost capacity_written: { (s : Self) (i : ℕ) (e : Self.Item) → capacity (with_item s i e) ≡ capacity s };
+
+    ghost maximum_written: { (s : Self) (i : ℕ) (e : Self.Item) → maximum (with_item s i e) ≡ maximum s };
 }
 
 /// A container whose greatest capacity can be set.

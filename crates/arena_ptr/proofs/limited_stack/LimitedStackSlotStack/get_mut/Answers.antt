@@ -1,22 +1,16 @@
-use Rattle.std.proofs.Common.{◌≡◌, ℕ, List, Option, Some, None, refl, sym, MutBor}
-use Rattle.std.proofs.lemmas.Option.{slice_get_past, slice_get_read}
-use Rattle.std.specs.List.{slice_get, IsItemAtMut}
-use Rattle.std.specs.Option.{OnSome, option_copied_mut}
-use Rattle.arena_ptr.specs.LimitedStack.{same_within}
+use borrow.Follows.Closed.{read_of}
+use Rattle.std.proofs.Common.{◌≡◌, Option, Some, None, ap, inl, inr, MutBor}
+use Rattle.std.specs.Borrow.{GName}
+use Rattle.std.specs.Option.{OnSome, ghost_name_of}
 use Rattle.arena_ptr.proofs.limited_stack.LimitedStackSlotStack.get_mut.Goals as goal
 
--- a fact holds where there is a value
-on_some : {A : Type 0} {P : Type 0} (o : Option A) → P → OnSome o P
-on_some None p = tt
-on_some (Some x) p = p
-
--- what the reference to the item at i shows
-shown_at : {X : Type 0} (o : Option (MutBor X)) (xs : List X) (i : ℕ) → IsItemAtMut xs i o → option_copied_mut o ≡ slice_get xs i
-shown_at None xs i item = sym (slice_get_past xs i item.3)
-shown_at (Some x) xs i item = sym (slice_get_read xs _ i x.now refl item.3.0 item.1)
+-- what a lender reads once its loan is over, where two readings agree at each value and at none
+read_same : {D E : Type 0} (r : Option (MutBor E)) (F G : E → D) (u v : D) → ((w : E) → OnSome r (F w ≡ G w)) → u ≡ v →
+    read_of (ghost_name_of r) F u ≡ read_of (ghost_name_of r) G v
+read_same None F G u v each same = ap inr same
+read_same {D} {E} (Some x) F G u v each same = ap (λ (H : E → D). inl (x.ghost_name, H)) (λ j w. each w j)
 
 pub returns : goal.returns
-returns g c = (
-  (refl, (λ w. on_some c.get_mut.result (refl, refl, refl, same_within _ _)), same_within c.args.self.now _),
-  record { lends = tt; value = shown_at c.get_mut.result _ _ c.get_mut.ensures.item },
-)
+returns g c =
+    (read_same c.slot_mut.result _ _ _ _ c.slot_mut.follows.holds c.slot_mut.follows.holds-at-none,
+     record { lends = tt; value = c.slot_mut.ensures.value })
