@@ -1,6 +1,5 @@
 use borrow.Follows.Closed.{read_of}
 use Rattle.std.proofs.Common.{◌≡◌, Option, Some, None, ap, inl, inr, MutBor}
-use Rattle.std.specs.Borrow.{GName}
 use Rattle.std.specs.Option.{OnSome, ghost_name_of}
 use Rattle.arena_ptr.proofs.limited_stack.LimitedStackSlotStack.get_mut.Goals as goal
 
@@ -11,6 +10,7 @@ read_same None F G u v each same = ap inr same
 read_same {D} {E} (Some x) F G u v each same = ap (λ (H : E → D). inl (x.ghost_name, H)) (λ j w. each w j)
 
 pub returns : goal.returns
-returns g c =
-    (read_same c.slot_mut.result _ _ _ _ c.slot_mut.follows.holds c.slot_mut.follows.holds-at-none,
-     record { lends = tt; value = c.slot_mut.ensures.value })
+returns g c = (
+  read_same c.slot_mut.result _ _ _ _ c.slot_mut.follows.holds c.slot_mut.follows.holds-at-none,
+  record { lends = tt; value = c.slot_mut.ensures.value },
+)
