@@ -1,8 +1,41 @@
+//! A program over a chain arena: lines of commands come in, and their answers go out.
 #![tactic(auto)]
 
+mod answer;
 mod arena_base;
 mod chain_arena;
+mod command;
+mod run;
 #[cfg(test)]
 mod slow;
+#[cfg(test)]
+mod tests;
+mod text;
+mod words;
 
-fn main() {}
+use run::{ToolError, run};
+use std::io::{BufWriter, writer};
+use std::process::ExitCode;
+
+fn main(rt: HostRuntime) -> ExitCode {
+    let result = match BufWriter::new(rt.alloc(), writer(&rt)) {
+        Ok(mut answers) => run(rt.alloc(), &mut rt.reader(), &mut answers),
+        Err(_) => Err(ToolError::Memory),
+    };
+    match result {
+        Ok(()) => ExitCode::SUCCESS,
+        Err(error) => {
+            let _ = rt.eprintln(reason(error));
+            ExitCode::FAILURE
+        }
+    }
+}
+
+/// What standard error is told of a fault.
+fn reason(error: ToolError) -> &'static str {
+    match error {
+        ToolError::Read => "chain_tool: cannot read",
+        ToolError::Write => "chain_tool: cannot write",
+        ToolError::Memory => "chain_tool: no memory",
+    }
+}

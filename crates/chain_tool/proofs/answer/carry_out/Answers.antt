@@ -1,0 +1,21 @@
+use Rattle.std.proofs.Common.{refl, sym, ◌≡◌, OnOk, Result, Ok, Err, List, ℕ, subst}
+use Rattle.arena_ptr.specs.ToolPtr.{key_of}
+use Rattle.arena_ptr.specs.declared.tool_ptr.ToolPtr.{ToolPtr}
+use Rattle.chain_tool.specs.Answers.{Links, Gives, Shows, Walks}
+use Rattle.chain_tool.specs.declared.command.Command.{Command}
+use Rattle.chain_tool.specs.declared.command.Command.TheVariants.{Show, Chain}
+use Rattle.chain_tool.proofs.answer.carry_out.Goals as goal
+
+shows_ok : {T E : Type 0} (old : Links) (p : ToolPtr) (text : List ℕ) (r : Result T E) → OnOk r (Shows old (key_of p) text) → OnOk r (Gives old (Show p) text old)
+shows_ok old p text (Ok x) shows = (shows, refl)
+shows_ok old p text (Err e) shows = tt
+
+walks_ok : {T E : Type 0} (old : Links) (p : ToolPtr) (text : List ℕ) (r : Result T E) → OnOk r (Walks old (key_of p) text) → OnOk r (Gives old (Chain p) text old)
+walks_ok old p text (Ok x) walks = (walks, refl)
+walks_ok old p text (Err e) walks = tt
+
+pub returns-in-Show-clause-ok : goal.returns-in-Show-clause-ok
+returns-in-Show-clause-ok c = rw c.in-Show.is (shows_ok _ c.in-Show.p _ c.show.result c.show.ensures)
+
+pub returns-in-Chain-clause-ok : goal.returns-in-Chain-clause-ok
+returns-in-Chain-clause-ok c = rw c.in-Chain.is (walks_ok _ c.in-Chain.p _ c.chain.result c.chain.ensures)

@@ -1,0 +1,72 @@
+-- What the program answers to a line, and the arena after it.
+use Rattle.std.specs.Prelude.{◌≡◌, ℕ, ◌⊎◌, List, [], ◌∷◌, ◌++◌, map, codes, decimal, Option, None, Some}
+use Rattle.std.specs.List.{join_with_byte}
+use Rattle.arena_ptr.specs.Generations.{number_of_gen32}
+use Rattle.arena_ptr.specs.ToolPtr.{key_of}
+use Rattle.arena_ptr.specs.declared.generation.gen32.Gen32.{Gen32}
+use Rattle.chain_laws.specs.Operations.{joined}
+use Rattle.chain_tool.specs.Arena.{Arena, IsValidPtr, entry_count, next_index, with_capacity_of}
+use Rattle.chain_tool.specs.ChainArena.{LinkSeen, shown, relinked, insert_lone, CanConnect, IsLinkAt, IsWalkOf}
+use Rattle.chain_tool.specs.declared.command.Command.{Command}
+use Rattle.chain_tool.specs.declared.command.Command.TheVariants.{AddAlone, Connect, Show, Chain, Len}
+use Rattle.chain_tool.specs.declared.command.Line.{Line}
+use Rattle.chain_tool.specs.declared.command.Line.TheVariants.{Blank, Bad, Carried}
+
+-- the arenas of the program: links of numbers, with indexes and generations of 32 bits
+abbrev pub Links : Type 0
+Links = Arena Gen32 (LinkSeen ℕ)
+
+-- a pointer: its index, a dot and its generation
+abbrev pub pointer_text : ℕ × Gen32 → List ℕ
+pointer_text p = decimal p.0 ++ codes "." ++ decimal (number_of_gen32 p.1)
+
+-- a neighbour: its pointer, or a dash
+abbrev pub neighbor_text : Option (ℕ × Gen32) → List ℕ
+neighbor_text None = codes "-"
+neighbor_text (Some p) = pointer_text p
+
+-- a link: its neighbours and its value
+abbrev pub show_text : Option (ℕ × Gen32) → Option (ℕ × Gen32) → ℕ → List ℕ
+show_text prev next value = codes "prev " ++ neighbor_text prev ++ codes " next " ++ neighbor_text next ++ codes " value " ++ decimal value
+
+-- a link of a walk: its pointer and its value
+abbrev pub passed_text : ℕ × Gen32 → ℕ → List ℕ
+passed_text p value = pointer_text p ++ codes ":" ++ decimal value
+
+abbrev pub link_text : ℕ × (Gen32 × LinkSeen ℕ) → List ℕ
+link_text e = passed_text (e.0, e.1.0) e.1.1.value
+
+-- a walk: its links, with a space between
+abbrev pub walk_text : List (ℕ × (Gen32 × LinkSeen ℕ)) → List ℕ
+walk_text links = join_with_byte 32 (map link_text links)
+
+-- the new link has its pointer; memory may be refused where the arena is full
+pub data Adds (old : Links) (v : ℕ) (text : List ℕ) (new : Links) : Type 0 where
+  added : text ≡ codes "at " ++ pointer_text (next_index old, old.counter) → new ≡ with_capacity_of (insert_lone old v) new → Adds old v text new
+  refused : entry_count old ≡ old.capacity → text ≡ codes "refused memory" → new ≡ old → Adds old v text new
+
+pub data Connects (old : Links) (p q : ℕ × Gen32) (text : List ℕ) (new : Links) : Type 0 where
+  connected : CanConnect old p q → text ≡ codes "ok" → new ≡ relinked old (joined (shown old) p.0 q.0) → Connects old p q text new
+  not_connected : (CanConnect old p q → ⊥) → text ≡ codes "none" → new ≡ old → Connects old p q text new
+
+pub data Shows (old : Links) (p : ℕ × Gen32) (text : List ℕ) : Type 0 where
+  link : (prev next : Option (ℕ × Gen32)) (value : ℕ) → IsLinkAt old p prev next value → text ≡ show_text prev next value → Shows old p text
+  no_link : (IsValidPtr old p → ⊥) → text ≡ codes "none" → Shows old p text
+
+pub data Walks (old : Links) (p : ℕ × Gen32) (text : List ℕ) : Type 0 where
+  walk : (links : List (ℕ × (Gen32 × LinkSeen ℕ))) → IsValidPtr old p → IsWalkOf old p.0 links → text ≡ walk_text links → Walks old p text
+  no_walk : (IsValidPtr old p → ⊥) → text ≡ codes "none" → Walks old p text
+
+-- what a command answers, and the arena after it
+abbrev pub Gives : Links → Command → List ℕ → Links → Type 0
+Gives old (AddAlone v) text new = Adds old v text new
+Gives old (Connect p q) text new = Connects old (key_of p) (key_of q) text new
+Gives old (Show p) text new = Shows old (key_of p) text × (new ≡ old)
+Gives old (Chain p) text new = Walks old (key_of p) text × (new ≡ old)
+Gives old Len text new = (text ≡ codes "count " ++ decimal (entry_count old)) × (new ≡ old)
+
+-- what a line is answered, and the arena after it; an answer ends with a line feed
+abbrev pub AnswersLine : Links → Line → List ℕ → Links → Type 0
+AnswersLine old Blank text new = (text ≡ []) × (new ≡ old)
+AnswersLine old Bad text new = (text ≡ codes "bad line" ++ 10 ∷ []) × (new ≡ old)
+AnswersLine old (Carried command) text new = (words : List ℕ) × (text ≡ words ++ 10 ∷ []) × Gives old command words new

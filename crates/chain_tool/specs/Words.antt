@@ -1,0 +1,83 @@
+-- Lines, words, numbers and pointers of a text. A text is its bytes: 10 ends a line, 32 parts words, 46 parts a pointer.
+use Rattle.std.specs.Prelude.{◌≡◌, refl, ℕ, leb, ◌-◌, ◌==◌, ◌&&◌, nat_lt, nat_le, Bool, true, false, if◌then◌else◌, List, [], ◌∷◌, length, take, slice_index, filter, Option, Some, None, option_and_then}
+use Rattle.std.specs.List.{slice_split, before_first, after_first}
+use Rattle.std.specs.Str.{all_ascii_digits}
+use Rattle.std.specs.Str.Parse.{digits_value}
+use Rattle.std.proofs.lemmas.Bool.{leb-true}
+use Rattle.arena_ptr.specs.Numbers.{IsWithin}
+use Rattle.arena_ptr.specs.declared.index.inx32.Inx32.{Inx32}
+use Rattle.arena_ptr.specs.declared.generation.gen32.Gen32.{Gen32}
+use Rattle.arena_ptr.specs.declared.tool_ptr.ToolPtr.{ToolPtr}
+
+-- the pieces of a text between the bytes b: one at least, and some may be empty
+abbrev pub pieces : ℕ → List ℕ → List (List ℕ)
+pieces b text = slice_split (λ c. c == b) text
+
+-- each piece but the last
+abbrev pub all_but_last : List (List ℕ) → List (List ℕ)
+all_but_last [] = []
+all_but_last (piece ∷ []) = []
+all_but_last (piece ∷ next ∷ others) = piece ∷ all_but_last (next ∷ others)
+
+-- the lines of a text: what is after the last line feed is a line too, and may be empty
+abbrev pub lines_of : List ℕ → List (List ℕ)
+lines_of text = pieces 10 text
+
+-- the lines that end with their line feed
+abbrev pub whole_lines : List ℕ → List (List ℕ)
+whole_lines text = all_but_last (lines_of text)
+
+-- a line without its last byte, where that is a carriage return
+abbrev pub without_return : List ℕ → List ℕ
+without_return line = if slice_index line (length line - 1) == 13 then take (length line - 1) line else line
+
+abbrev pub is_filled : List ℕ → Bool
+is_filled [] = false
+is_filled (c ∷ bytes) = true
+
+-- the words: the pieces between spaces that are not empty
+abbrev pub words_of : List ℕ → List (List ℕ)
+words_of text = filter is_filled (pieces 32 text)
+
+-- 1 to 10 decimal digits, up to 4294967295
+abbrev pub is_number : List ℕ → Bool
+is_number word = nat_lt 0 (length word) && nat_le (length word) 10 && all_ascii_digits word && nat_le (digits_value 10 word) 4294967295
+
+abbrev pub number_of : List ℕ → Option ℕ
+number_of word = if is_number word then Some (digits_value 10 word) else None
+
+-- what is made of a number from 1 to 4294967295, and nothing of any other
+module _ {A : Type 0} (make : (n : ℕ) → IsWithin 0xffff_ffff n → A) where
+  abbrev pub made_if : (n : ℕ) (low high : Bool) → leb 1 n ≡ low → leb n 0xffff_ffff ≡ high → Option A
+  made_if n true true at_least at_most = Some (make n (leb-true 1 n at_least, leb-true n 0xffff_ffff at_most))
+  made_if n true false at_least at_most = None
+  made_if n false high at_least at_most = None
+
+  abbrev pub made_of : ℕ → Option A
+  made_of n = made_if n (leb 1 n) (leb n 0xffff_ffff) refl refl
+
+abbrev pub index_at : (n : ℕ) → IsWithin 0xffff_ffff n → Inx32
+index_at n within = record { number = n; in_range = within }
+
+abbrev pub generation_at : (n : ℕ) → IsWithin 0xffff_ffff n → Gen32
+generation_at n within = record { number = n; in_range = within }
+
+-- the index of a number, from 1 on
+unfoldable pub index_of : ℕ → Option Inx32
+index_of n = made_of index_at n
+
+-- the generation of a number, from 1 on
+unfoldable pub generation_of : ℕ → Option Gen32
+generation_of n = made_of generation_at n
+
+abbrev pub pointer_with : Option Inx32 → Option Gen32 → Option ToolPtr
+pointer_with None generation = None
+pointer_with (Some index) None = None
+pointer_with (Some index) (Some generation) = Some (record { inx = index; generation = generation })
+
+abbrev pub is_dot : ℕ → Bool
+is_dot c = c == 46
+
+-- a pointer is an index, a dot and a generation
+abbrev pub pointer_of : List ℕ → Option ToolPtr
+pointer_of word = pointer_with (option_and_then index_of (number_of (before_first is_dot word))) (option_and_then generation_of (number_of (after_first is_dot word)))

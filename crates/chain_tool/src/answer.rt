@@ -1,0 +1,111 @@
+//! The answers to lines: each command is one step of the arena or one lookup.
+ghost use Rattle.std.specs.Prelude.{◌≡◌, ℕ, List, ◌⊎◌, OnOk, OnErr, string_bytes};
+ghost use Rattle.arena_ptr.specs.ToolPtr.{key_of};
+ghost use Rattle.chain_tool.specs.Commands.{line_of};
+ghost use Rattle.chain_tool.specs.Answers.{Adds, Connects, Shows, Walks, Gives, AnswersLine};
+
+use crate::chain_arena::{ChainArena, LinkInsertKind};
+use crate::command::{Command, Line, parse};
+use crate::text::{push_link, push_pointer, push_walk};
+use arena_ptr::ToolPtr;
+use std::alloc::AllocError;
+
+/// Carries out a line, and makes its answer in `text`. An `Err` is memory for the answer: the line may be carried out
+/// then, or not.
+pub fn answer(
+    arena: &mut ChainArena<ToolPtr, u32>,
+    line: &[u8],
+    text: &mut String,
+) -> Result<(), AllocError>
+    ensures ok { OnOk result (AnswersLine arena.old (line_of line.now) (string_bytes text.new) arena.new) }
+    ensures err { OnErr result ((arena.new ≡ arena.old) ⊎ ((words : List ℕ) × AnswersLine arena.old (line_of line.now) words arena.new)) }
+{
+    text.clear();
+    match parse(line) {
+        Line::Blank => Ok(()),
+        Line::Bad => text.push_str("bad line\n"),
+        Line::Carried(command) => {
+            carry_out(arena, command, text)?;
+            text.push_str("\n")
+        }
+    }
+}
+
+/// Carries out a command, and makes its answer in `text`.
+fn carry_out(
+    arena: &mut ChainArena<ToolPtr, u32>,
+    command: Command,
+    text: &mut String,
+) -> Result<(), AllocError>
+    ensures ok { OnOk result (Gives arena.old command (string_bytes text.new) arena.new) }
+    ensures err { OnErr result ((arena.new ≡ arena.old) ⊎ ((words : List ℕ) × Gives arena.old command words arena.new)) }
+{
+    match command {
+        Command::AddAlone(v) => add_alone(arena, v, text),
+        Command::Connect(p, q) => connect(arena, p, q, text),
+        Command::Show(p) => show(arena, p, text),
+        Command::Chain(p) => chain(arena, p, text),
+        Command::Len => {
+            text.clear();
+            write!(text, "count {}", arena.len())
+        }
+    }
+}
+
+/// The answer to `add alone V`.
+fn add_alone(
+    arena: &mut ChainArena<ToolPtr, u32>,
+    v: u32,
+    text: &mut String,
+) -> Result<(), AllocError>
+    ensures ok { OnOk result (Adds arena.old v (string_bytes text.new) arena.new) }
+    ensures err { OnErr result ((words : List ℕ) × Adds arena.old v words arena.new) }
+{
+    text.clear();
+    match arena.insert_reallocating(LinkInsertKind::Disconnected, v) {
+        Ok(p) => {
+            text.push_str("at ")?;
+            push_pointer(text, p)
+        }
+        Err(_) => text.push_str("refused memory"),
+    }
+}
+
+/// The answer to `connect P Q`.
+fn connect(
+    arena: &mut ChainArena<ToolPtr, u32>,
+    p: ToolPtr,
+    q: ToolPtr,
+    text: &mut String,
+) -> Result<(), AllocError>
+    ensures ok { OnOk result (Connects arena.old (key_of p) (key_of q) (string_bytes text.new) arena.new) }
+    ensures err { OnErr result ((words : List ℕ) × Connects arena.old (key_of p) (key_of q) words arena.new) }
+{
+    text.clear();
+    match arena.connect(p, q) {
+        Some(()) => text.push_str("ok"),
+        None => text.push_str("none"),
+    }
+}
+
+/// The answer to `show P`.
+fn show(arena: &ChainArena<ToolPtr, u32>, p: ToolPtr, text: &mut String) -> Result<(), AllocError>
+    ensures { OnOk result (Shows arena.now (key_of p) (string_bytes text.new)) }
+{
+    text.clear();
+    match arena.get_link(p) {
+        Some(link) => push_link(text, link.prev(), link.next(), *link.t),
+        None => text.push_str("none"),
+    }
+}
+
+/// The answer to `chain P`.
+fn chain(arena: &ChainArena<ToolPtr, u32>, p: ToolPtr, text: &mut String) -> Result<(), AllocError>
+    ensures { OnOk result (Walks arena.now (key_of p) (string_bytes text.new)) }
+{
+    text.clear();
+    match arena.iter_chain(p) {
+        Some(links) => push_walk(text, links),
+        None => text.push_str("none"),
+    }
+}

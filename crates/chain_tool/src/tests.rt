@@ -1,0 +1,316 @@
+//! Runs of the program over readers and writers in memory.
+use crate::chain_arena::{ChainArena, LinkInsertKind};
+use crate::run::{ToolError, run, run_on};
+use arena_ptr::ToolPtr;
+use std::alloc::Global;
+use std::io;
+use std::io::{ErrorKind, Read, Write};
+use std::process::Abort;
+
+/// Runs the program on a text, and looks whether it writes these lines.
+fn expect(rt: &impl Abort, alloc: Global, input: &str, output: &str) -> Result<(), ToolError> {
+    let mut reader = input.as_bytes();
+    let mut written = Vec::new(alloc);
+    run(alloc, &mut reader, &mut written)?;
+    assert_eq!(rt; written.as_slice(), output.as_bytes(), "at {input:?}");
+    Ok(())
+}
+
+#[test]
+fn two_lone_links_connected(rt: HostRuntime) -> Result<(), ToolError> {
+    let input = "add alone 10\nadd alone 20\nconnect 1.2 2.2\nchain 1.2\n";
+    expect(
+        &rt,
+        rt.alloc(),
+        input,
+        "at 1.2\nat 2.2\nok\n1.2:10 2.2:20\n",
+    )
+}
+
+#[test]
+fn first_table(rt: HostRuntime) -> Result<(), ToolError> {
+    let input =
+        "add alone 1\nconnect 1.2 1.2\nshow 1.2\nconnect 1.2 1.2\nadd end 1.2 2\nadd alone 2\nadd alone 3\n\
+        connect 2.2 3.2\nconnect 3.2 2.2\nchain 3.2\nlen\nbreaknext 3.2\n";
+    let output = "at 1.2\nok\nprev 1.2 next 1.2 value 1\nnone\nbad line\nat 2.2\nat 3.2\n\
+        ok\nok\n3.2:3 2.2:2\ncount 3\nbad line\n";
+    expect(&rt, rt.alloc(), input, output)
+}
+
+#[test]
+fn lines_and_words(rt: HostRuntime) -> Result<(), ToolError> {
+    let rows = [
+        ("", ""),
+        ("\n\n \n", ""),
+        ("\r\n  \r\n", ""),
+        ("len", "count 0\n"),
+        ("len\r", "count 0\n"),
+        ("len\n", "count 0\n"),
+        ("  len  \n", "count 0\n"),
+        ("add  alone   007\r\n", "at 1.2\n"),
+        ("len\r\r\n", "bad line\n"),
+        ("len\t\n", "bad line\n"),
+        ("LEN\n", "bad line\n"),
+        ("le\n", "bad line\n"),
+        ("len 1\n", "bad line\n"),
+        ("add alone\n", "bad line\n"),
+        ("add alone 1 2\n", "bad line\n"),
+        ("connect 1.2\n", "bad line\n"),
+        ("connect 1.2 1.2 1.2\n", "bad line\n"),
+        ("hello\nlen\n", "bad line\ncount 0\n"),
+        ("add end 0.2 5\n", "bad line\n"),
+        (
+            "remove 1.2\nclear\naddwithin alone 1\n",
+            "bad line\nbad line\nbad line\n",
+        ),
+    ];
+    for (input, output) in rows {
+        expect(&rt, rt.alloc(), input, output)?;
+    }
+    Ok(())
+}
+
+#[test]
+fn numbers_and_pointers(rt: HostRuntime) -> Result<(), ToolError> {
+    let rows = [
+        (
+            "add alone 4294967295\nshow 1.2\n",
+            "at 1.2\nprev - next - value 4294967295\n",
+        ),
+        ("add alone 4294967296\n", "bad line\n"),
+        ("add alone 0000000007\nchain 1.2\n", "at 1.2\n1.2:7\n"),
+        ("add alone 00000000007\n", "bad line\n"),
+        ("add alone -1\n", "bad line\n"),
+        ("add alone +1\n", "bad line\n"),
+        ("add alone 1x\n", "bad line\n"),
+        ("show 0.2\n", "bad line\n"),
+        ("show 1.0\n", "bad line\n"),
+        ("show 1.1\n", "none\n"),
+        ("chain 1.2\n", "none\n"),
+        ("connect 1.2 1.2\n", "none\n"),
+        ("show 4294967295.4294967295\n", "none\n"),
+        ("show 4294967296.2\n", "bad line\n"),
+        ("show 1\n", "bad line\n"),
+        ("show 1.\n", "bad line\n"),
+        ("show .2\n", "bad line\n"),
+        ("show .\n", "bad line\n"),
+        ("show 1.2.3\n", "bad line\n"),
+        (
+            "add alone 5\nshow 01.002\n",
+            "at 1.2\nprev - next - value 5\n",
+        ),
+    ];
+    for (input, output) in rows {
+        expect(&rt, rt.alloc(), input, output)?;
+    }
+    Ok(())
+}
+
+/// A line of a command and enough spaces to fill it, without its line feed.
+fn filled(alloc: Global, command: &str, len: usize) -> Result<Vec<u8>, ToolError> {
+    let mut line = Vec::new(alloc);
+    if line.extend_from_slice(command.as_bytes()).is_err() {
+        return Err(ToolError::Memory);
+    }
+    for _ in command.len()..len {
+        if line.push(b' ').is_err() {
+            return Err(ToolError::Memory);
+        }
+    }
+    Ok(line)
+}
+
+#[test]
+fn lines_of_200_bytes_and_more(rt: HostRuntime) -> Result<(), ToolError> {
+    let rows = [
+        ("len", 200, "", "count 0\n"),
+        ("len", 201, "", "bad line\n"),
+        ("len", 199, "\r\n", "count 0\n"),
+        ("len", 200, "\r\n", "bad line\n"),
+        ("len", 200, "\nlen\n", "count 0\ncount 0\n"),
+        ("", 200, "\n", ""),
+        ("", 201, "\n", "bad line\n"),
+        ("", 70000, "\nlen\n", "bad line\ncount 0\n"),
+    ];
+    for (command, len, end, output) in rows {
+        let mut line = filled(rt.alloc(), command, len)?;
+        if line.extend_from_slice(end.as_bytes()).is_err() {
+            return Err(ToolError::Memory);
+        }
+        let mut reader = line.as_slice();
+        let mut written = Vec::new(rt.alloc());
+        run(rt.alloc(), &mut reader, &mut written)?;
+        assert_eq!(rt;
+            written.as_slice(),
+            output.as_bytes(),
+            "at {command} {len} {end:?}"
+        );
+        assert!(rt; reader.is_empty(), "input left at {command} {len}");
+    }
+    Ok(())
+}
+
+/// Gives its bytes, a few at a time, and then fails.
+#[derive(Drop)]
+struct FailingReader<'a> {
+    left: &'a [u8],
+    step: usize,
+    kind: ErrorKind,
+}
+
+impl Read for FailingReader<'_> {
+    fn read(&mut self, buf: &mut [u8]) -> io::Result<usize> {
+        let n = self.step.min(buf.len()).min(self.left.len());
+        if n == 0 {
+            return Err(io::Error::from(self.kind));
+        }
+        let (now, later) = self.left.split_at(n);
+        buf[..n].copy_from_slice(now);
+        self.left = later;
+        Ok(n)
+    }
+}
+
+#[test]
+fn a_reader_that_fails(rt: HostRuntime) -> Result<(), ToolError> {
+    for kind in [
+        ErrorKind::Other,
+        ErrorKind::Interrupted,
+        ErrorKind::UnexpectedEof,
+    ] {
+        for step in [1, 2, 7, 100] {
+            let mut reader = FailingReader {
+                left: b"add alone 1\nlen\nadd alone 2",
+                step,
+                kind,
+            };
+            let mut written = Vec::new(rt.alloc());
+            let mut arena = ChainArena::<ToolPtr, u32>::new(rt.alloc());
+            let result = run_on(rt.alloc(), &mut arena, &mut reader, &mut written);
+            assert_eq!(rt; result, Err(ToolError::Read));
+            assert_eq!(rt; written.as_slice(), b"at 1.2\ncount 1\n".as_slice());
+            assert_eq!(rt; arena.len(), 1, "the unfinished line is not carried out");
+        }
+    }
+    Ok(())
+}
+
+/// Takes a few bytes at a time, up to a limit, and then fails. Each second call is interrupted.
+#[derive(Drop)]
+struct FailingWriter {
+    held: Vec<u8>,
+    step: usize,
+    room: usize,
+    is_interrupted: bool,
+    fails_with: Option<ErrorKind>,
+    flushes: usize,
+}
+
+impl Write for FailingWriter {
+    fn write(&mut self, buf: &[u8]) -> io::Result<usize> {
+        self.is_interrupted = !self.is_interrupted;
+        if self.is_interrupted {
+            return Err(io::Error::from(ErrorKind::Interrupted));
+        }
+        let n = self.step.min(buf.len()).min(self.room);
+        if n == 0 {
+            return match self.fails_with {
+                Some(kind) => Err(io::Error::from(kind)),
+                None => Ok(0),
+            };
+        }
+        let (now, _) = buf.split_at(n);
+        self.held.extend_from_slice(now)?;
+        self.room -= n;
+        Ok(n)
+    }
+
+    fn flush(&mut self) -> io::Result<()> {
+        if self.flushes == 0 {
+            return Err(io::Error::from(ErrorKind::Other));
+        }
+        self.flushes -= 1;
+        Ok(())
+    }
+}
+
+fn failing_writer(
+    alloc: Global,
+    step: usize,
+    room: usize,
+    fails_with: Option<ErrorKind>,
+) -> FailingWriter {
+    FailingWriter {
+        held: Vec::new(alloc),
+        step,
+        room,
+        is_interrupted: false,
+        fails_with,
+        flushes: 1000,
+    }
+}
+
+#[test]
+fn a_writer_that_fails(rt: HostRuntime) -> Result<(), ToolError> {
+    let input = b"add alone 1\nadd alone 2\nadd alone 3\n".as_slice();
+    let output = b"at 1.2\nat 2.2\nat 3.2\n".as_slice();
+    for fails_with in [None, Some(ErrorKind::Other), Some(ErrorKind::WriteZero)] {
+        for step in [1, 3, 100] {
+            for room in 0..21 {
+                let mut reader = input;
+                let mut writer = failing_writer(rt.alloc(), step, room, fails_with);
+                let mut arena = ChainArena::<ToolPtr, u32>::new(rt.alloc());
+                let result = run_on(rt.alloc(), &mut arena, &mut reader, &mut writer);
+                assert_eq!(rt; result, Err(ToolError::Write));
+                assert_eq!(rt;
+                    writer.held.as_slice(),
+                    &output[..room],
+                    "at {step}, {room}"
+                );
+                assert_eq!(rt;
+                    arena.len(),
+                    room / 7 + 1,
+                    "the line of the last answer is carried out"
+                );
+            }
+        }
+    }
+    Ok(())
+}
+
+#[test]
+fn a_writer_that_is_interrupted(rt: HostRuntime) -> Result<(), ToolError> {
+    let mut reader = b"add alone 1\nlen\n".as_slice();
+    let mut writer = failing_writer(rt.alloc(), 1, 1000, None);
+    let result = run(rt.alloc(), &mut reader, &mut writer);
+    assert_eq!(rt; result, Ok(()));
+    assert_eq!(rt; writer.held.as_slice(), b"at 1.2\ncount 1\n".as_slice());
+    Ok(())
+}
+
+#[test]
+fn a_flush_that_fails(rt: HostRuntime) -> Result<(), ToolError> {
+    for (flushes, output) in [(0, ""), (1, "at 1.2\n"), (2, "at 1.2\n")] {
+        let mut reader = b"add alone 1\n".as_slice();
+        let mut writer = failing_writer(rt.alloc(), 100, 1000, None);
+        writer.flushes = flushes;
+        let result = run(rt.alloc(), &mut reader, &mut writer);
+        assert_eq!(rt; result, Err(ToolError::Write));
+        assert_eq!(rt; writer.held.as_slice(), output.as_bytes());
+    }
+    Ok(())
+}
+
+#[test]
+fn a_given_arena(rt: HostRuntime) -> Result<(), ToolError> {
+    let mut arena = ChainArena::<ToolPtr, u32>::new(rt.alloc());
+    let added = arena.insert_reallocating(LinkInsertKind::Disconnected, 5);
+    assert!(rt; added.is_ok());
+    let mut reader = b"add alone 6\nconnect 2.2 1.2\n".as_slice();
+    let mut written = Vec::new(rt.alloc());
+    run_on(rt.alloc(), &mut arena, &mut reader, &mut written)?;
+    let mut reader = b"chain 2.2".as_slice();
+    run_on(rt.alloc(), &mut arena, &mut reader, &mut written)?;
+    assert_eq!(rt; written.as_slice(), b"at 2.2\nok\n2.2:6 1.2:5\n".as_slice());
+    Ok(())
+}

@@ -1,0 +1,65 @@
+//! The texts of answers.
+ghost use Rattle.std.specs.Prelude.{◌≡◌, ◌++◌, OnOk, string_bytes, option_map};
+ghost use Rattle.arena_ptr.specs.ToolPtr.{key_of};
+ghost use Rattle.chain_tool.specs.Answers.{pointer_text, neighbor_text, show_text, passed_text, walk_text};
+
+use crate::chain_arena::ChainIter;
+use arena_ptr::{Ptr, ToolPtr};
+use std::alloc::AllocError;
+
+/// Adds a pointer to a text.
+pub fn push_pointer(text: &mut String, p: ToolPtr) -> Result<(), AllocError>
+    ensures { OnOk result (string_bytes text.new ≡ string_bytes text.old ++ pointer_text (key_of p)) }
+{
+    write!(text, "{}.{}", p.inx().get(), p.generation().get())
+}
+
+/// Adds the pointer of a neighbour to a text, or a dash.
+fn push_neighbor(text: &mut String, neighbor: Option<ToolPtr>) -> Result<(), AllocError>
+    ensures { OnOk result (string_bytes text.new ≡ string_bytes text.old ++ neighbor_text (option_map key_of neighbor)) }
+{
+    match neighbor {
+        Some(p) => push_pointer(text, p),
+        None => text.push_str("-"),
+    }
+}
+
+/// Adds a link to a text: its neighbours and its value.
+pub fn push_link(
+    text: &mut String,
+    prev: Option<ToolPtr>,
+    next: Option<ToolPtr>,
+    value: u32,
+) -> Result<(), AllocError>
+    ensures { OnOk result (string_bytes text.new
+        ≡ string_bytes text.old ++ show_text (option_map key_of prev) (option_map key_of next) value) }
+{
+    text.push_str("prev ")?;
+    push_neighbor(text, prev)?;
+    text.push_str(" next ")?;
+    push_neighbor(text, next)?;
+    write!(text, " value {value}")
+}
+
+/// Adds a link of a walk to a text: its pointer and its value.
+fn push_passed(text: &mut String, p: ToolPtr, value: u32) -> Result<(), AllocError>
+    ensures { OnOk result (string_bytes text.new ≡ string_bytes text.old ++ passed_text (key_of p) value) }
+{
+    push_pointer(text, p)?;
+    write!(text, ":{value}")
+}
+
+/// Adds the links of a walk to a text, with a space between.
+pub fn push_walk(text: &mut String, links: ChainIter<'_, ToolPtr, u32>) -> Result<(), AllocError>
+    ensures { OnOk result (string_bytes text.new ≡ string_bytes text.old ++ walk_text links.entry) }
+{
+    let mut is_first = true;
+    for (p, link) in links {
+        if !is_first {
+            text.push_str(" ")?;
+        }
+        is_first = false;
+        push_passed(text, p, link.t)?;
+    }
+    Ok(())
+}
