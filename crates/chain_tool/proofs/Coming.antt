@@ -1,11 +1,10 @@
 -- Lemmas on how far a run comes: by a byte, by a line, and by a line at which it stops.
-use Rattle.std.proofs.Common.{◌≡◌, ℕ, ◌==◌, ◌⊎◌, true, false, List, [], ◌∷◌, ◌++◌, ◌+◌, ◌<◌, length, get_or, take, drop, Option, Result, Ok, Err, refl, sym, ap, ◌∙◌, subst, append_assoc, append-nil, inl, inr, rules}
+use Rattle.std.proofs.Common.{◌≡◌, ℕ, ◌==◌, ◌⊎◌, false, List, [], ◌∷◌, ◌++◌, ◌+◌, ◌<◌, length, get_or, take, drop, Option, Result, Ok, Err, refl, sym, ap, ◌∙◌, subst, append_assoc, append-nil, inl, inr, rules}
 use Rattle.std.proofs.lemmas.List.{take_more, take-append-drop}
-use Rattle.std.specs.Io.KnownBytes.{Appends, Keeps}
 use Rattle.std.proofs.KnownBytes.{Appends-trans, Appends-kept}
 use Rattle.chain_tool.specs.declared.run.ToolError.{ToolError}
 use Rattle.chain_tool.specs.declared.run.ToolError.TheVariants as errors
-use Rattle.chain_tool.specs.Words.{lines_of, whole_lines}
+use Rattle.chain_tool.specs.Words.{lines_of}
 use Rattle.chain_tool.specs.Commands.{line_of}
 use Rattle.chain_tool.specs.Answers.{Links, AnswersLine}
 use Rattle.chain_tool.specs.Transcripts.{Answers, IsCutShort, within, IsGivenUp, before, after}

@@ -1,13 +1,13 @@
 -- Lemmas on how a run ends.
-use Rattle.std.proofs.Common.{◌≡◌, ℕ, ◌<◌, ◌≤◌, ◌⊎◌, List, [], ◌∷◌, ◌++◌, take, Option, Result, Ok, Err, OnOk, OnErr, IfErr, refl, sym, ap, ◌∙◌, subst, append_assoc, append-nil, inl, inr}
-use Rattle.std.specs.Io.KnownBytes.{Appends, Consumes, Keeps, IsAtEnd}
+use Rattle.std.proofs.Common.{◌≡◌, ℕ, ◌⊎◌, List, [], ◌∷◌, ◌++◌, Option, Result, Ok, Err, refl, sym, ap, ◌∙◌, subst, append-nil, inl, inr}
+use Rattle.std.specs.Io.KnownBytes.{Consumes, Keeps, IsAtEnd}
 use Rattle.std.proofs.KnownBytes.{Appends-trans, Appends-kept, Appends-nil, Consumes-trans, Consumes-kept, Consumes-nil}
 use Rattle.chain_tool.specs.declared.run.ToolError.{ToolError}
 use Rattle.chain_tool.specs.declared.run.ToolError.TheVariants as errors
-use Rattle.chain_tool.specs.Words.{lines_of, whole_lines, all_but_last}
+use Rattle.chain_tool.specs.Words.{all_but_last}
 use Rattle.chain_tool.specs.Commands.{line_of}
 use Rattle.chain_tool.specs.Answers.{Links, AnswersLine}
-use Rattle.chain_tool.specs.Transcripts.{Answers, IsCutShort, between, within, IsGivenUp, before, after, AnswersAll, StopsReading, StopsWriting, StopsForMemory, Ends}
+use Rattle.chain_tool.specs.Transcripts.{Answers, IsCutShort, between, within, IsGivenUp, before, after, Ends}
 use Rattle.chain_tool.specs.Progress.{AnswersOne, Progress, Comes}
 use Rattle.chain_tool.proofs.Feeding.{all_but_last-append}
 use Rattle.chain_tool.proofs.Coming.{Answers-more, of_kept}

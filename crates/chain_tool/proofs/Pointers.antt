@@ -1,8 +1,6 @@
 -- Lemmas on the numbers and pointers of words.
-use Rattle.std.proofs.Common.{◌≡◌, ℕ, ◌^◌, ◌<◌, ◌≤◌, ◌==◌, ◌↔◌, Bool, true, false, leb, List, [], ◌∷◌, length, take, take_while, not, drop, Option, Some, None, IsSome, IfSome, option_and_then, refl, sym, ap, ◌∙◌, subst, arith, rules}
+use Rattle.std.proofs.Common.{◌≡◌, ℕ, ◌^◌, ◌<◌, ◌≤◌, ◌↔◌, Bool, true, false, leb, Option, Some, None, IsSome, IfSome, option_and_then, refl, sym, ap, ◌∙◌, arith}
 use Rattle.std.proofs.lemmas.Bool.{le-leb, leb-true}
-use Rattle.std.proofs.lemmas.List.Folds.{length-prefix_len}
-use Rattle.std.specs.List.{before_first, after_first, position_or_len}
 use Rattle.arena_ptr.specs.Numbers.{IsWithin}
 use Rattle.arena_ptr.specs.Indexes.{number_of_inx32, same_inx32}
 use Rattle.arena_ptr.specs.Generations.{number_of_gen32, same_gen32}
@@ -10,7 +8,7 @@ use Rattle.arena_ptr.specs.declared.index.inx32.Inx32.{Inx32}
 use Rattle.arena_ptr.specs.declared.generation.gen32.Gen32.{Gen32}
 use Rattle.arena_ptr.specs.declared.tool_ptr.ToolPtr.{ToolPtr}
 use Rattle.arena_ptr.specs.ToolPtr.{key_of, same_tool_ptr}
-use Rattle.chain_tool.specs.Words.{number_of, made_if, index_at, generation_at, index_of, generation_of, pointer_with, pointer_of, is_dot}
+use Rattle.chain_tool.specs.Words.{made_if, index_at, generation_at, index_of, generation_of, pointer_with}
 
 module _ {A : Type 0} (make : (n : ℕ) → IsWithin 0xffff_ffff n → A) where
   made_if-some : (n : ℕ) (x : A) → IsWithin 0xffff_ffff n → ((within : IsWithin 0xffff_ffff n) → make n within ≡ x)

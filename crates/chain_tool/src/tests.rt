@@ -1,4 +1,10 @@
 //! Runs of the program over readers and writers in memory.
+ghost use Rattle.std.specs.Prelude.{◌≡◌, ◌∷◌, [], codes, Some, None, option_map};
+ghost use Rattle.chain_tool.specs.declared.command.Command.TheVariants.{AddAlone, Len};
+ghost use Rattle.chain_tool.specs.declared.command.Line.TheVariants.{Blank, Bad, Carried};
+ghost use Rattle.chain_tool.specs.Words.{lines_of, whole_lines, without_return, words_of, number_of, pointer_of};
+ghost use Rattle.chain_tool.specs.Commands.{line_of};
+
 use crate::chain_arena::{ChainArena, LinkInsertKind};
 use crate::run::{ToolError, run, run_on};
 use arena_ptr::ToolPtr;
@@ -14,6 +20,38 @@ fn expect(rt: &impl Abort, alloc: Global, input: &str, output: &str) -> Result<(
     run(alloc, &mut reader, &mut written)?;
     assert_eq!(rt; written.as_slice(), output.as_bytes(), "at {input:?}");
     Ok(())
+}
+
+/// The definitions on small texts.
+fn definitions()
+    ensures lines { lines_of (97 ∷ 10 ∷ 10 ∷ 98 ∷ []) ≡ (97 ∷ []) ∷ [] ∷ (98 ∷ []) ∷ [] }
+    ensures no_line { lines_of [] ≡ [] ∷ [] }
+    ensures ended { lines_of (97 ∷ 10 ∷ []) ≡ (97 ∷ []) ∷ [] ∷ [] }
+    ensures whole { whole_lines (97 ∷ 10 ∷ 98 ∷ []) ≡ (97 ∷ []) ∷ [] }
+    ensures return_dropped { without_return (97 ∷ 13 ∷ 13 ∷ []) ≡ 97 ∷ 13 ∷ [] }
+    ensures return_within { without_return (13 ∷ 97 ∷ []) ≡ 13 ∷ 97 ∷ [] }
+    ensures words { words_of (codes "  add  7 ") ≡ codes "add" ∷ codes "7" ∷ [] }
+    ensures no_words { words_of (codes "   ") ≡ [] }
+    ensures number { number_of (codes "007") ≡ Some 7 }
+    ensures greatest { number_of (codes "4294967295") ≡ Some 4294967295 }
+    ensures too_great { number_of (codes "4294967296") ≡ None }
+    ensures too_long { number_of (codes "00000000007") ≡ None }
+    ensures no_digit { number_of (codes "7x") ≡ None }
+    ensures no_number { number_of [] ≡ None }
+    ensures index { option_map (λ p. p.inx.number) (pointer_of (codes "12.3")) ≡ Some 12 }
+    ensures generation { option_map (λ p. p.generation.number) (pointer_of (codes "12.3")) ≡ Some 3 }
+    ensures index_zero { pointer_of (codes "0.3") ≡ None }
+    ensures generation_zero { pointer_of (codes "12.0") ≡ None }
+    ensures two_dots { pointer_of (codes "1.2.3") ≡ None }
+    ensures len { line_of (codes " len ") ≡ Carried Len }
+    ensures add { line_of (codes "add alone 7") ≡ Carried (AddAlone 7) }
+    ensures later_command { line_of (codes "add end 1.2 7") ≡ Bad }
+    ensures blank { line_of (codes " ") ≡ Blank }
+{}
+
+#[test]
+fn small_texts() {
+    definitions();
 }
 
 #[test]

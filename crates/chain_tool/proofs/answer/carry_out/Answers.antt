@@ -1,8 +1,7 @@
-use Rattle.std.proofs.Common.{refl, sym, ◌≡◌, OnOk, Result, Ok, Err, List, ℕ, subst}
+use Rattle.std.proofs.Common.{refl, OnOk, Result, Ok, Err, List, ℕ}
 use Rattle.arena_ptr.specs.ToolPtr.{key_of}
 use Rattle.arena_ptr.specs.declared.tool_ptr.ToolPtr.{ToolPtr}
 use Rattle.chain_tool.specs.Answers.{Links, Gives, Shows, Walks}
-use Rattle.chain_tool.specs.declared.command.Command.{Command}
 use Rattle.chain_tool.specs.declared.command.Command.TheVariants.{Show, Chain}
 use Rattle.chain_tool.proofs.answer.carry_out.Goals as goal
 

@@ -1,4 +1,4 @@
-use Rattle.std.proofs.Common.{◌≡◌, ◌++◌, ℕ, List, take, sym, ap, ◌∙◌, subst, refl, arith, Err}
+use Rattle.std.proofs.Common.{◌++◌, ap, ◌∙◌, subst, refl, arith, Err}
 use Rattle.std.proofs.lemmas.Result.{err_from_is_err_and}
 use Rattle.std.proofs.lemmas.List.{take_all}
 use Rattle.chain_tool.specs.Progress.{Progress}

@@ -1,9 +1,9 @@
-use Rattle.std.proofs.Common.{◌≡◌, ◌++◌, ◌<◌, ℕ, List, length, take, sym, ap, ◌∙◌, subst, refl, arith, Err}
+use Rattle.std.proofs.Common.{◌<◌, length, take, ap, ◌∙◌, subst, refl, arith, Err}
 use Rattle.std.proofs.lemmas.Result.{err_from_is_err_and}
 use Rattle.std.specs.Io.KnownBytes.{Consumes}
 use Rattle.std.proofs.KnownBytes.{Keeps-refl}
 use Rattle.chain_tool.specs.declared.run.ToolError.TheVariants as errors
-use Rattle.chain_tool.proofs.Ending.{HasRead, HasRead-nothing, HasRead-flushed, HasRead-fed, Ends-fed, Ends-unread, Ends-unflushed, Ends-finished}
+use Rattle.chain_tool.proofs.Ending.{HasRead-nothing, HasRead-flushed, HasRead-fed, Ends-fed, Ends-unread, Ends-unflushed, Ends-finished}
 use Rattle.chain_tool.proofs.run.run_pieces.Goals as goal
 
 pub loop-init : goal.loop-init

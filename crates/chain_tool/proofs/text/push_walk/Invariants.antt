@@ -1,4 +1,3 @@
-use Rattle.std.proofs.Common.{◌≡◌, ◌++◌}
 use Rattle.std.specs.Prelude.{string_bytes}
 use Rattle.chain_tool.proofs.AnswerLemmas.{IsWalked}
 use Rattle.chain_tool.proofs.text.push_walk.Given as goal

@@ -1,8 +1,8 @@
-use Rattle.std.proofs.Common.{rules, ◌≡◌, ℕ, ◌+◌, ◌-◌, ◌*◌, ◌^◌, ◌<◌, ◌≤◌, length, get_or, take, arith, rules, true, false, Bool, Result, Ok, Err, Option, Some, None, sym, ap, ◌∙◌, subst, refl, List, add-one, ◌==◌}
+use Rattle.std.proofs.Common.{rules, ◌≡◌, ℕ, ◌+◌, ◌-◌, ◌*◌, ◌^◌, ◌<◌, ◌≤◌, length, take, arith, rules, true, false, Bool, Result, Ok, Err, Option, Some, ap, ◌∙◌, subst, List, add-one, ◌==◌}
 use Rattle.std.proofs.lemmas.Grind.{common_steps}
 use Rattle.std.proofs.lemmas.Int.Digits.{digits_value_more, digits_more}
 use Rattle.std.proofs.lemmas.Str.Parse.{digit_at}
-use Rattle.std.specs.Bool.{MatchBool, OnTrue}
+use Rattle.std.specs.Bool.{MatchBool}
 use Rattle.std.specs.Char.{IsAsciiDigit, IsNotAsciiDigit, digit_value}
 use Rattle.std.specs.Int.{IsInRange}
 use Rattle.std.specs.Result.{OkIff, result_ok}
@@ -10,7 +10,7 @@ use Rattle.std.specs.Str.Parse.{digits_value, AllDigits}
 use Rattle.std.proofs.lemmas.List.{take_all}
 use Rattle.std.proofs.Math.Nat.{pow-suc}
 use Rattle.chain_tool.specs.Words.{number_of}
-use Rattle.chain_tool.proofs.WordLemmas.{number_of-none, number_of-some, IsNumber}
+use Rattle.chain_tool.proofs.WordLemmas.{number_of-none, number_of-some}
 use Rattle.chain_tool.proofs.words.number.Goals as goal
 
 no_digit : (r : Bool) (b : ℕ) → MatchBool r (IsAsciiDigit b) (IsNotAsciiDigit b) → r ≡ false → IsInRange 48 57 b → ⊥
