@@ -1,6 +1,6 @@
 -- A step that was made is some answer's step, also where memory for the answer was refused.
 use Rattle.std.proofs.Common.{◌≡◌, ℕ, ◌⊎◌, List, [], ◌∷◌, ◌++◌, Result, Ok, Err, OnErr, refl, sym, ap, ◌∙◌, inl, inr, subst, Bool, cond, append_assoc, append-nil, true, false, codes}
-use Rattle.arena_ptr.specs.declared.generation.Gen32.{Gen32}
+use Rattle.arena_ptr.specs.declared.generation.gen32.Gen32.{Gen32}
 use Rattle.chain_laws.specs.Operations.{joined}
 use Rattle.chain_tool.specs.Arena.{entry_count, next_index, with_capacity_of}
 use Rattle.chain_tool.specs.ChainArena.{LinkSeen, shown, relinked, insert_lone, CanConnect}

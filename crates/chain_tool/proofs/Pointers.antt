@@ -4,8 +4,8 @@ use Rattle.std.proofs.lemmas.Bool.{le-leb, leb-true}
 use Rattle.arena_ptr.specs.Numbers.{IsWithin}
 use Rattle.arena_ptr.specs.Indexes.{number_of_inx32, same_inx32}
 use Rattle.arena_ptr.specs.Generations.{number_of_gen32, same_gen32}
-use Rattle.arena_ptr.specs.declared.index.Inx32.{Inx32}
-use Rattle.arena_ptr.specs.declared.generation.Gen32.{Gen32}
+use Rattle.arena_ptr.specs.declared.index.inx32.Inx32.{Inx32}
+use Rattle.arena_ptr.specs.declared.generation.gen32.Gen32.{Gen32}
 use Rattle.arena_ptr.specs.declared.tool_ptr.ToolPtr.{ToolPtr}
 use Rattle.arena_ptr.specs.ToolPtr.{key_of, same_tool_ptr}
 use Rattle.chain_tool.specs.Words.{made_if, index_at, generation_at, index_of, generation_of, pointer_with}

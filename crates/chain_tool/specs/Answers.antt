@@ -3,7 +3,7 @@ use Rattle.std.specs.Prelude.{◌≡◌, ℕ, List, [], ◌∷◌, ◌++◌, map
 use Rattle.std.specs.List.{join_with_byte}
 use Rattle.arena_ptr.specs.Generations.{number_of_gen32}
 use Rattle.arena_ptr.specs.ToolPtr.{key_of}
-use Rattle.arena_ptr.specs.declared.generation.Gen32.{Gen32}
+use Rattle.arena_ptr.specs.declared.generation.gen32.Gen32.{Gen32}
 use Rattle.chain_laws.specs.Operations.{joined}
 use Rattle.chain_tool.specs.Arena.{Arena, IsValidPtr, entry_count, next_index, with_capacity_of}
 use Rattle.chain_tool.specs.ChainArena.{LinkSeen, shown, relinked, insert_lone, CanConnect, IsLinkAt, IsWalkOf}

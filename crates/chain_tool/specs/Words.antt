@@ -5,8 +5,8 @@ use Rattle.std.specs.Str.{all_ascii_digits}
 use Rattle.std.specs.Str.Parse.{digits_value}
 use Rattle.std.proofs.lemmas.Bool.{leb-true}
 use Rattle.arena_ptr.specs.Numbers.{IsWithin}
-use Rattle.arena_ptr.specs.declared.index.Inx32.{Inx32}
-use Rattle.arena_ptr.specs.declared.generation.Gen32.{Gen32}
+use Rattle.arena_ptr.specs.declared.index.inx32.Inx32.{Inx32}
+use Rattle.arena_ptr.specs.declared.generation.gen32.Gen32.{Gen32}
 use Rattle.arena_ptr.specs.declared.tool_ptr.ToolPtr.{ToolPtr}
 
 -- the pieces of a text between the bytes b: one at least, and some may be empty

@@ -4,6 +4,8 @@ mod chain_arena;
 mod chain_iterators;
 mod chain_traits;
 mod links;
+#[cfg(test)]
+mod tests;
 
 pub use chain_arena::ChainArena;
 pub use chain_iterators::ChainIter;

@@ -7,6 +7,8 @@ mod chain_arena;
 mod command;
 mod run;
 #[cfg(test)]
+mod slow;
+#[cfg(test)]
 mod tests;
 mod text;
 mod words;

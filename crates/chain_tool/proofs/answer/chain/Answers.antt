@@ -1,5 +1,5 @@
 use Rattle.std.proofs.Common.{◌≡◌, ◌∙◌, ◌++◌, ℕ, List, [], Result, Ok, Err, OnOk, ap, refl}
-use Rattle.arena_ptr.specs.declared.generation.Gen32.{Gen32}
+use Rattle.arena_ptr.specs.declared.generation.gen32.Gen32.{Gen32}
 use Rattle.chain_tool.specs.Arena.{IsValidPtr}
 use Rattle.chain_tool.specs.ChainArena.{LinkSeen, IsWalkOf}
 use Rattle.chain_tool.specs.Answers.{Links, Walks, walk, walk_text}

@@ -1,7 +1,7 @@
 use Rattle.std.proofs.Common.{◌≡◌, ◌∙◌, ◌++◌, ℕ, List, [], Option, Result, Ok, Err, OnOk, ap, sym, subst}
 use Rattle.std.specs.Option.{option_map}
 use Rattle.arena_ptr.specs.ToolPtr.{key_of}
-use Rattle.arena_ptr.specs.declared.generation.Gen32.{Gen32}
+use Rattle.arena_ptr.specs.declared.generation.gen32.Gen32.{Gen32}
 use Rattle.arena_ptr.specs.declared.tool_ptr.ToolPtr.{ToolPtr}
 use Rattle.chain_tool.specs.ChainArena.{IsLinkAt}
 use Rattle.chain_tool.specs.Answers.{Links, Shows, link, show_text}
