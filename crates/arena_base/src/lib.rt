@@ -1,0 +1,4 @@
+//! The generational arena: entries under indexes from 1 on, each with a generation, in slots that are used again.
+#![tactic(auto)]
+
+mod tally;
