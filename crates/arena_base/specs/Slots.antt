@@ -1,5 +1,5 @@
 -- How an arena lies in its slots. No public clause cites this module but by the arena's model.
-use Rattle.std.specs.Prelude.{◌≡◌, ℕ, zero, suc, ◌+◌, ◌≤◌, List, [], ◌∷◌, map, min, length, count_by, is_some, slice_get, Option, None, Some}
+use Rattle.std.specs.Prelude.{◌≡◌, ℕ, zero, suc, ◌+◌, ◌≤◌, ⊤, List, [], ◌∷◌, map, min, length, count_by, is_some, slice_get, Option, None, Some}
 use Rattle.arena_base.specs.Arena.{Arena, Has, IsApart}
 use Rattle.arena_base.specs.declared.slot.ArenaSlot.{ArenaSlot}
 use Rattle.arena_base.specs.declared.slot.ArenaSlot.TheVariants.{Allocated, Free}
@@ -24,6 +24,34 @@ module _ {P T Inx Gen : Type 0} where
   abbrev pub with_generation_in : ArenaSlot P T Inx Gen → Gen → ArenaSlot P T Inx Gen
   with_generation_in (Allocated generation t) g = Allocated g t
   with_generation_in (Free next) g = Free next
+
+  abbrev pub allocated_slot : Gen → T → ArenaSlot P T Inx Gen
+  allocated_slot generation t = Allocated generation t
+
+  abbrev pub free_slot : Option Inx → ArenaSlot P T Inx Gen
+  free_slot next = Free next
+
+  -- the slot without its entry, if it has one
+  abbrev pub freed_slot : ArenaSlot P T Inx Gen → Option Inx → ArenaSlot P T Inx Gen
+  freed_slot (Allocated generation t) next = Free next
+  freed_slot (Free other) next = Free other
+
+  -- the entry of a slot that may be none
+  abbrev pub entry_in : Option (ArenaSlot P T Inx Gen) → Option (Gen × T)
+  entry_in None = None
+  entry_in (Some slot) = entry_of slot
+
+  -- there is a slot, and it is free
+  abbrev pub IsFree : Option (ArenaSlot P T Inx Gen) → Type 0
+  IsFree None = ⊥
+  IsFree (Some (Allocated generation t)) = ⊥
+  IsFree (Some (Free next)) = ⊤
+
+  -- the slots with another generation at a position
+  abbrev pub with_generation_at : List (ArenaSlot P T Inx Gen) → ℕ → Gen → List (ArenaSlot P T Inx Gen)
+  with_generation_at [] k g = []
+  with_generation_at (slot ∷ slots) zero g = with_generation_in slot g ∷ slots
+  with_generation_at (slot ∷ slots) (suc k) g = slot ∷ with_generation_at slots k g
 
   -- the free slot that a slot names as the next
   abbrev pub next_of : Option (ArenaSlot P T Inx Gen) → Option Inx
