@@ -1,3 +1,4 @@
+mod Ranging
 mod Reading
 mod Soundness
 mod Viewing

@@ -2,3 +2,5 @@ pub mod Arena
 pub mod Entries
 pub mod Advancing
 pub mod Slots
+pub mod AdvancingLaws
+pub mod EntryLaws

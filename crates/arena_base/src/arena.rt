@@ -1,10 +1,13 @@
 // The generational arena and its own calls.
-ghost use Rattle.std.specs.Prelude.{◌≡◌, [], min, ◌<◌, ◌≤◌, ◌+◌, ◌↔◌, IsTrue, IsSome, IfSome, IsErr, IfOk, IsOk, OnOk, OnErr, Some, None, Ok, Err, length};
+ghost use Rattle.std.specs.Prelude.{◌≡◌, [], min, ◌<◌, ◌≤◌, ◌+◌, ◌↔◌, IsTrue, IsSome, IfSome, IsErr, IfOk, IsOk, OnOk, OnErr, Some, None, Ok, Err, length, drop, take, slice_index_or, ◌^◌};
 ghost use Rattle.std.specs.Option.{option_map};
 ghost use Rattle.arena_ptr.specs.SlotStack.{IsBeyond};
 ghost use Rattle.arena_ptr.specs.Invalidation.{invalidation_option};
+ghost use Rattle.arena_base.specs.Entries.{entries, entries_from, key_at, first_key, last_key};
+ghost use Rattle.arena_base.specs.Advancing.{ahead};
 ghost use Rattle.arena_base.specs.Arena.{entry_at, entry_count, next_index, insert_next, with_counter, with_capacity_of, with_maximum, new_arena, IsListed};
 
+use crate::look::Look;
 use crate::slot::{ArenaSlot, fill, position_of};
 use crate::tally::Tally;
 use arena_ptr::{
@@ -154,6 +157,59 @@ impl<P: Ptr, T: Drop, S: SlotStack<Item = ArenaSlot<P, T>>> Arena<P, T, S> {
             return Err(ReallocationError::AllocError);
         }
         self.slots.reserve_to(n)
+    }
+
+    // The pointer of the entry at a position, from 0, if one stands there.
+    pub(crate) fn ptr_at(&self, k: usize) -> Option<P>
+        ensures key { option_map P.key result ≡ option_map (key_at (k + 1)) (slice_index_or self.now.slots k None) }
+        ensures fits { IsSome result → k + 2 < 2 ^ 64 }
+    {
+        match self.slots.get(k) {
+            Some(ArenaSlot::Allocated(generation, _)) => match P::Inx::try_from_usize(k + 1) {
+                Some(i) => Some(P::_from_raw(i, *generation)),
+                None => unreachable!(),
+            },
+            Some(ArenaSlot::Free(_)) => None,
+            None => None,
+        }
+    }
+
+    // The valid pointer of least index from a position on, from 0.
+    pub(crate) fn first_from(&self, from: usize) -> Option<P>
+        ensures key { option_map P.key result ≡ first_key (entries_from (from + 1) (drop from self.now.slots)) }
+        ensures fits { IfSome result (λ p. (P.key p).0 + 1 < 2 ^ 64) }
+    {
+        for k in from..self.slots.len() {
+            if let Some(p) = self.ptr_at(k) {
+                return Some(p);
+            }
+        }
+        None
+    }
+
+    // The valid pointer of greatest index up to an index.
+    pub(crate) fn last_to(&self, to: usize) -> Option<P>
+        ensures key { option_map P.key result ≡ last_key (entries_from 1 (take to self.now.slots)) }
+        ensures fits { IfSome result (λ p. (P.key p).0 + 1 < 2 ^ 64) }
+    {
+        for k in (0..to.min(self.slots.len())).rev() {
+            if let Some(p) = self.ptr_at(k) {
+                return Some(p);
+            }
+        }
+        None
+    }
+
+    // The pointer of the first entry ahead.
+    pub(crate) fn find(&self, look: Look) -> Option<P>
+        ensures key { option_map P.key result ≡ first_key (ahead look (entries self.now)) }
+        ensures fits { IfSome result (λ p. (P.key p).0 + 1 < 2 ^ 64) }
+    {
+        match look {
+            Look::Up(from) => self.first_from(from.saturating_sub(1)),
+            Look::Down(to) => self.last_to(to),
+            Look::Nowhere => None,
+        }
     }
 
     // The pointer of the next insertion.

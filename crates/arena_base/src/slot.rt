@@ -69,6 +69,16 @@ pub(crate) fn position_of<P: Ptr>(i: P::Inx) -> usize
     }
 }
 
+// The number of an index.
+pub(crate) fn number_of<P: Ptr>(i: P::Inx) -> usize
+    ensures { result ≡ P.Inx.number i }
+{
+    match i.try_into_usize() {
+        Some(n) => n,
+        None => unreachable!(),
+    }
+}
+
 // Writes an entry into a free slot, and answers the next freed index that it named.
 pub(crate) fn fill<P: Ptr, T: Drop, S: SlotStack<Item = ArenaSlot<P, T>>>(
     slots: &mut S,
