@@ -1,5 +1,6 @@
 mod Ranging
 mod Reading
+mod Seeing
 mod Soundness
 mod Viewing
 mod Walks

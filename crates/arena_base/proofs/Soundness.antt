@@ -2,10 +2,10 @@
 use Rattle.std.proofs.Common.{◌≡◌, ℕ, zero, suc, ◌+◌, ◌-◌, ◌<◌, ◌≤◌, List, [], ◌∷◌, ◌++◌, length, length-append, Option, None, Some, refl, ap, sym, ◌∙◌, subst, arith, inl, inr, ◌⊎◌}
 use Rattle.std.specs.Prelude.{slice_get, slice_set}
 use Rattle.arena_base.specs.Arena.{Has, IsApart, without_first}
-use Rattle.arena_base.specs.Slots.{item_at, entry_of, next_of, allocated_slot, free_slot, freed_from, freed_of, IsFreeList, IsSound}
+use Rattle.arena_base.specs.Slots.{item_at, entry_of, with_value_in, next_of, allocated_slot, free_slot, freed_from, freed_of, IsFreeList, IsSound}
 use Rattle.arena_base.specs.declared.slot.ArenaSlot.{ArenaSlot}
 use Rattle.arena_base.specs.declared.slot.ArenaSlot.TheVariants.{Allocated, Free}
-use Rattle.arena_base.proofs.Reading.{same_or_not, slice_get-set-same, length-slice_set, item_at-set-other, item_at-append, item_at-push, at_position, taken_count-set, taken_count-push}
+use Rattle.arena_base.proofs.Reading.{same_or_not, slice_get-set-same, slice_set-itself, length-slice_set, item_at-set-other, item_at-append, item_at-push, at_position, taken_count-set, taken_count-push}
 
 module _ {P T Inx Gen : Type 0} where
   -- a taken slot is not free
@@ -140,3 +140,15 @@ module _ {P T Inx Gen : Type 0} (number : Inx → ℕ) where
   pub none_freed : {slots : List (ArenaSlot P T Inx Gen)} {greatest len : ℕ} {ns : List ℕ} → IsSound number slots greatest len None ns → len ≡ length slots
   none_freed {ns = []} s = omega (arith, s.total)
   none_freed {ns = n ∷ ns} s = let some : None ≡ Some s.linked.0 = s.linked.2 in cc
+
+  -- where an entry stands one is counted
+  pub some_taken : {slots : List (ArenaSlot P T Inx Gen)} {greatest len : ℕ} {head : Option Inx} {ns : List ℕ} → IsSound number slots greatest len head ns
+      → (k : ℕ) (g : Gen) (t : T) → slice_get slots k ≡ Some (allocated_slot g t) → 1 ≤ len
+  some_taken {slots = slots} {head = head} s k g t is = omega (arith, s.counted, taken_count-set slots k (allocated_slot g t) (free_slot head) is)
+
+  -- a value is written
+  pub lent : {slots : List (ArenaSlot P T Inx Gen)} {greatest len : ℕ} {head : Option Inx} {ns : List ℕ} (k : ℕ) (slot : ArenaSlot P T Inx Gen) (w : T)
+      → IsSound number slots greatest len head ns → slice_get slots k ≡ Some slot → IsSound number (slice_set slots k (with_value_in slot w)) greatest len head ns
+  lent k (Allocated g t) w s is = rewritten s k g g t w is
+  lent {slots = slots} {greatest = greatest} {len = len} {head = head} {ns = ns} k (Free next) w s is =
+      subst (λ es. IsSound number es greatest len head ns) (sym (slice_set-itself slots k (free_slot next) is)) s

@@ -2,16 +2,16 @@
 ghost use Rattle.std.specs.Prelude.{◌≡◌, [], min, ◌<◌, ◌≤◌, ◌+◌, ◌↔◌, IsTrue, IsSome, IfSome, IsErr, IfOk, IsOk, OnOk, OnErr, Some, None, Ok, Err, length, drop, take, slice_index_or, ◌^◌};
 ghost use Rattle.std.specs.Option.{option_map};
 ghost use Rattle.arena_ptr.specs.SlotStack.{IsBeyond};
-ghost use Rattle.arena_ptr.specs.Invalidation.{invalidation_option};
+ghost use Rattle.arena_ptr.specs.Invalidation.{invalidation_option, invalidation_result};
 ghost use Rattle.arena_base.specs.Entries.{entries, entries_from, key_at, first_key, last_key};
 ghost use Rattle.arena_base.specs.Advancing.{ahead};
-ghost use Rattle.arena_base.specs.Arena.{entry_at, entry_count, next_index, insert_next, with_counter, with_capacity_of, with_maximum, new_arena, IsListed};
+ghost use Rattle.arena_base.specs.Arena.{entry_at, entry_count, next_index, insert_next, remove_at, renewed_at, with_counter, with_capacity_of, with_maximum, new_arena, IsListed};
 
 use crate::look::Look;
-use crate::slot::{ArenaSlot, fill, position_of};
+use crate::slot::{ArenaSlot, fill, position_of, regenerate_at, vacate_at};
 use crate::tally::Tally;
 use arena_ptr::{
-    HeapStack, InvalidationOption, LimitStack, MaxCapacityReductionError, NotWithinCapacityError,
+    HeapStack, InvalidationOption, InvalidationResult, LimitStack, MaxCapacityReductionError, NotWithinCapacityError,
     Ptr, PtrGen, PtrInx, ReallocationError, SetMaxCapacity, SlotStack,
 };
 use std::alloc::Global;
@@ -226,6 +226,38 @@ impl<P: Ptr, T: Drop, S: SlotStack<Item = ArenaSlot<P, T>>> Arena<P, T, S> {
         }
     }
 
+    // Takes out the entry at an index, if one stands there, and increments the counter.
+    pub(crate) fn take_at(&mut self, i: P::Inx) -> InvalidationResult<(P::Gen, T)>
+        ensures answer { result ≡ invalidation_result (P.Gen.wraps self.old.counter) (entry_at self.old (P.Inx.number i)) }
+        ensures some { IsSome (entry_at self.old (P.Inx.number i)) → self.new ≡ remove_at P.Gen.following self.old (P.Inx.number i) }
+        ensures none { entry_at self.old (P.Inx.number i) ≡ None → self.new ≡ self.old }
+    {
+        match vacate_at(&mut self.slots, position_of::<P>(i), self.first_free) {
+            Some(entry) => {
+                self.first_free = Some(i);
+                self.len -= 1;
+                self.placed = self.placed.one_more();
+                let (generation, overflow) = self.counter.generational_inc();
+                self.counter = generation;
+                outcome(overflow, entry)
+            }
+            None => InvalidationResult::InvalidPtr,
+        }
+    }
+
+    // Increments the counter and gives it to the entry at an index.
+    pub(crate) fn renew_at(&mut self, i: P::Inx) -> (P::Gen, bool)
+        requires { IsSome (entry_at self.old (P.Inx.number i)) }
+        ensures next { result.0 ≡ P.Gen.following self.old.counter }
+        ensures overflow { result.1 ≡ P.Gen.wraps self.old.counter }
+        ensures after { self.new ≡ renewed_at P.Gen.following self.old (P.Inx.number i) }
+    {
+        let (generation, overflow) = self.counter.generational_inc();
+        self.counter = generation;
+        regenerate_at(&mut self.slots, position_of::<P>(i), generation);
+        (generation, overflow)
+    }
+
     // Adds an entry where there is room.
     pub(crate) fn insert_here(&mut self, t: T) -> P
         requires { entry_count self.old < self.old.capacity }
@@ -244,6 +276,17 @@ impl<P: Ptr, T: Drop, S: SlotStack<Item = ArenaSlot<P, T>>> Arena<P, T, S> {
         self.len += 1;
         self.placed = self.placed.one_more();
         p
+    }
+}
+
+// The answer of a call that invalidated an entry, or gave out what it was.
+pub(crate) fn outcome<T>(overflow: bool, t: T) -> InvalidationResult<T>
+    ensures { result ≡ invalidation_result overflow (Some t) }
+{
+    if overflow {
+        InvalidationResult::GenerationOverflow(t)
+    } else {
+        InvalidationResult::Success(t)
     }
 }
 

@@ -1,13 +1,13 @@
 // The calls that an arena shares with other arenas.
-ghost use Rattle.std.specs.Prelude.{◌≡◌, ◌↔◌, IsTrue, IfSome, Some, length, [], ◌≤◌};
-ghost use Rattle.arena_ptr.specs.Invalidation.{invalidation_result, value_within, is_overflow_result};
+ghost use Rattle.std.specs.Prelude.{◌≡◌, ◌≤◌, length};
+ghost use Rattle.arena_ptr.specs.Invalidation.{value_within, is_overflow_result};
 ghost use Rattle.std.specs.Option.{option_map};
 ghost use Rattle.arena_base.specs.Arena.{counter_after_clear, overflows_after_clear, entry_count};
 ghost use Rattle.arena_base.specs.Entries.{seen_of};
 
 use crate::advancer::PtrAdvancer;
-use crate::arena::{Arena, invalidated};
-use crate::slot::{ArenaSlot, number_of, position_of, regenerate_at, vacate_at};
+use crate::arena::{Arena, invalidated, outcome};
+use crate::slot::{ArenaSlot, number_of, position_of};
 use crate::traits::{ArenaTrait, CompactArenaTrait};
 use arena_ptr::{
     AllocError, InvalidationOption, InvalidationResult, Ptr, PtrGen, PtrInx, ReallocationError,
@@ -83,7 +83,7 @@ impl<P: Ptr, T: Drop, S: SlotStack<Item = ArenaSlot<P, T>>> ArenaTrait<P, T> for
     }
 
     fn reallocate_min_capacity(&mut self, n: usize) -> Result<(), ReallocationError> {
-        if n <= self.capacity() {
+        if n <= self.slots.capacity().min(P::Inx::greatest()) {
             return Ok(());
         }
         self.grow_to(n)
@@ -153,9 +153,7 @@ impl<P: Ptr, T: Drop, S: SlotStack<Item = ArenaSlot<P, T>>> ArenaTrait<P, T> for
         if !self.contains(p) {
             return InvalidationResult::InvalidPtr;
         }
-        let (generation, overflow) = self.counter.generational_inc();
-        self.counter = generation;
-        regenerate_at(&mut self.slots, position_of::<P>(p.inx()), generation);
+        let (generation, overflow) = self.renew_at(p.inx());
         outcome(overflow, P::_from_raw(p.inx(), generation))
     }
 
@@ -167,17 +165,7 @@ impl<P: Ptr, T: Drop, S: SlotStack<Item = ArenaSlot<P, T>>> ArenaTrait<P, T> for
     }
 
     fn remove_inx(&mut self, i: P::Inx) -> InvalidationResult<(P::Gen, T)> {
-        match vacate_at(&mut self.slots, position_of::<P>(i), self.first_free) {
-            Some(entry) => {
-                self.first_free = Some(i);
-                self.len -= 1;
-                self.placed = self.placed.one_more();
-                let (generation, overflow) = self.counter.generational_inc();
-                self.counter = generation;
-                outcome(overflow, entry)
-            }
-            None => InvalidationResult::InvalidPtr,
-        }
+        self.take_at(i)
     }
 
     fn clear(&mut self) -> InvalidationOption<()> {
@@ -191,17 +179,6 @@ impl<P: Ptr, T: Drop, S: SlotStack<Item = ArenaSlot<P, T>>> ArenaTrait<P, T> for
 }
 
 impl<P: Ptr, T: Drop, S: SlotStack<Item = ArenaSlot<P, T>>> CompactArenaTrait<P, T> for Arena<P, T, S> {}
-
-// The answer of a call that invalidated an entry.
-fn outcome<T>(overflow: bool, t: T) -> InvalidationResult<T>
-    ensures { result ≡ invalidation_result overflow (Some t) }
-{
-    if overflow {
-        InvalidationResult::GenerationOverflow(t)
-    } else {
-        InvalidationResult::Success(t)
-    }
-}
 
 // The answer of a removal without the generation.
 fn value_alone<G: Drop, T>(removed: InvalidationResult<(G, T)>) -> InvalidationResult<T>
