@@ -4,6 +4,7 @@
 mod advancer;
 mod arena;
 mod arena_trait;
+mod entry;
 mod look;
 mod slot;
 mod tally;
@@ -11,5 +12,6 @@ mod traits;
 
 pub use advancer::PtrAdvancer;
 pub use arena::Arena;
+pub use entry::ArenaInsertEntry;
 pub use slot::ArenaSlot;
 pub use traits::{Advancer, ArenaTrait, CompactArenaTrait};
