@@ -1,6 +1,7 @@
 -- The entries of slots from a position on, and up to one.
 use Rattle.std.proofs.Common.{◌≡◌, ℕ, zero, suc, ◌+◌, ◌-◌, ◌<◌, ◌≤◌, Bool, true, false, cond, leb, List, [], ◌∷◌, ◌++◌, length, take, drop, reverse, Option, None, Some, refl, ap, sym, ◌∙◌, arith, rules}
-use Rattle.std.specs.Prelude.{slice_index_or}
+use Rattle.std.specs.Prelude.{slice_index_or, slice_set}
+use Rattle.arena_base.specs.Arena.{slot_at, with_slot}
 use Rattle.std.specs.Option.{option_map}
 use Rattle.std.proofs.lemmas.List.{append-nil, reverse-append}
 use Rattle.std.proofs.lemmas.Grind.{common_steps}
@@ -119,3 +120,84 @@ module _ {Gen T : Type 0} where
   -- what lies ahead by falling index ends at a position
   pub ahead_down : (slots : List (Option (Gen × T))) (to : ℕ) → entries_from 1 (take to slots) ≡ up_to_index to (entries_from 1 slots)
   ahead_down slots to = sym (up_to_index-take slots to 1 to (omega arith))
+
+  drop-none : (slots : List (Option (Gen × T))) → drop 0 slots ≡ slots
+  drop-none [] = refl
+  drop-none (s ∷ slots) = refl
+
+  -- all entries from the first position on
+  pub entries_from-start : (slots : List (Option (Gen × T))) → entries_from (0 + 1) (drop 0 slots) ≡ entries_from 1 slots
+  entries_from-start slots = ap (entries_from 1) (drop-none slots)
+
+  first_split : (slots : List (Option (Gen × T))) (m i : ℕ) (g : Gen) → first_key (entries_from m slots) ≡ Some (i, g)
+      → (t : T) × (k : ℕ) × (m + k ≡ i) × (slice_index_or slots k None ≡ Some (g, t)) × (entries_from m slots ≡ ((i, g), t) ∷ entries_from (suc i) (drop (suc k) slots))
+  first_split [] m i g first = cc
+  first_split (None ∷ slots) m i g first =
+      let found = first_split slots (suc m) i g first in
+      (found.0, suc found.1, omega (arith, found.2), found.3, found.4)
+  first_split (Some e ∷ slots) m i g first =
+      let key : (m, e.0) ≡ (i, g) = cc in
+      let index : m ≡ i = ap (λ (k : ℕ × Gen). k.0) key in
+      let generation : e.0 ≡ g = ap (λ (k : ℕ × Gen). k.1) key in
+      (e.1, 0, omega (arith, index), ap (λ (h : Gen). let o : Option (Gen × T) = Some (h, e.1) in o) generation,
+       ap (λ (k : ℕ × Gen). (k, e.1) ∷ entries_from (suc m) slots) key ∙ ap (λ n. ((i, g), e.1) ∷ entries_from (suc n) slots) index
+       ∙ ap (λ es. ((i, g), e.1) ∷ entries_from (suc i) es) (sym (drop-none slots)))
+
+  first_after : (slots : List (Option (Gen × T))) (m n j i : ℕ) (g : Gen) → m + n ≡ j → first_key (entries_from j (drop n slots)) ≡ Some (i, g)
+      → (t : T) × (k : ℕ) × (m + k ≡ i) × (slice_index_or slots k None ≡ Some (g, t)) × (entries_from j (drop n slots) ≡ ((i, g), t) ∷ entries_from (suc i) (drop (suc k) slots))
+  first_after [] m zero j i g at first = cc
+  first_after [] m (suc n) j i g at first = cc
+  first_after (s ∷ slots) m zero j i g at first =
+      let found = first_split (s ∷ slots) j i g first in
+      (found.0, found.1, omega (arith, found.2, at), found.3, found.4)
+  first_after (s ∷ slots) m (suc n) j i g at first =
+      let found = first_after slots (suc m) n j i g (omega (arith, at)) first in
+      (found.0, suc found.1, omega (arith, found.2), found.3, found.4)
+
+  -- the next entry from a position on, and what is left behind it
+  pub next_entry : (slots : List (Option (Gen × T))) (n i : ℕ) (g : Gen) → Some (i, g) ≡ first_key (entries_from (n + 1) (drop n slots))
+      → (t : T) × (slot_at slots i ≡ Some (g, t)) × (entries_from (n + 1) (drop n slots) ≡ ((i, g), t) ∷ entries_from (i + 1) (drop i slots))
+  next_entry slots n i g first =
+      let found = first_after slots 1 n (n + 1) i g (omega arith) (sym first) in
+      let index : suc found.1 ≡ i = omega (arith, found.2) in
+      let behind : suc i ≡ i + 1 = omega arith in
+      (found.0, ap (slot_at slots) (sym index) ∙ found.3,
+       found.4 ∙ (ap (λ m. ((i, g), found.0) ∷ entries_from m (drop (suc found.1) slots)) behind ∙ ap (λ m. ((i, g), found.0) ∷ entries_from (i + 1) (drop m slots)) index))
+
+  -- no key, no entries
+  pub no_first : (es : List ((ℕ × Gen) × T)) → None ≡ first_key es → es ≡ []
+  no_first [] none = refl
+  no_first (e ∷ es) none = cc
+
+  -- what lies behind a slot does not change with it
+  pub drop-with_slot : (slots : List (Option (Gen × T))) (i : ℕ) (slot : Option (Gen × T)) → drop i (with_slot slots i slot) ≡ drop i slots
+  drop-with_slot slots zero slot = refl
+  drop-with_slot slots (suc k) slot = behind slots k
+    where
+      behind : (xs : List (Option (Gen × T))) (k : ℕ) → drop (suc k) (slice_set xs k slot) ≡ drop (suc k) xs
+      behind [] zero = refl
+      behind [] (suc k) = refl
+      behind (x ∷ xs) zero = refl
+      behind (x ∷ xs) (suc k) = behind xs k
+
+  -- the next entry, as a look at its index shows it
+  pub next_shown : (slots : List (Option (Gen × T))) (n m made : ℕ) (key : ℕ × Gen) (shown : Gen × T) → Some key ≡ first_key (entries_from (n + 1) (drop n slots)) → Some shown ≡ slot_at slots m → m ≡ key.0 → made ≡ key.0
+      → entries_from (n + 1) (drop n slots) ≡ (key, shown.1) ∷ entries_from (made + 1) (drop made slots)
+  next_shown slots n m made key shown first looked index same =
+      let next = next_entry slots n key.0 key.1 first in
+      let both : Some shown ≡ Some (key.1, next.0) = looked ∙ (ap (slot_at slots) index ∙ next.1) in
+      let value : shown ≡ (key.1, next.0) = cc in
+      next.2 ∙ (ap (λ (e : Gen × T). (key, e.1) ∷ entries_from (key.0 + 1) (drop key.0 slots)) (sym value)
+      ∙ ap (λ i. (key, shown.1) ∷ entries_from (i + 1) (drop i slots)) (sym same))
+
+  pub next_stands : (slots : List (Option (Gen × T))) (n m : ℕ) (key : ℕ × Gen) → Some key ≡ first_key (entries_from (n + 1) (drop n slots)) → None ≡ slot_at slots m → m ≡ key.0 → ⊥
+  next_stands slots n m key first looked index =
+      let next = next_entry slots n key.0 key.1 first in
+      let both : None ≡ Some (key.1, next.0) = looked ∙ (ap (slot_at slots) index ∙ next.1) in cc
+
+  -- the same once it is taken out
+  pub next_taken : (slots after : List (Option (Gen × T))) (n m made : ℕ) (key : ℕ × Gen) (shown : Gen × T) → Some key ≡ first_key (entries_from (n + 1) (drop n slots)) → Some shown ≡ slot_at slots m → m ≡ key.0 → made ≡ key.0
+      → after ≡ with_slot slots m None → entries_from (n + 1) (drop n slots) ≡ (key, shown.1) ∷ entries_from (made + 1) (drop made after)
+  next_taken slots after n m made key shown first looked index same is =
+      let behind : drop made slots ≡ drop made after = sym (ap (drop made) (is ∙ ap (λ i. with_slot slots i None) (index ∙ sym same)) ∙ drop-with_slot slots made None) in
+      next_shown slots n m made key shown first looked index same ∙ ap (λ es. (key, shown.1) ∷ entries_from (made + 1) es) behind
