@@ -1,3 +1,4 @@
+mod Listing
 mod Ranging
 mod Reading
 mod Seeing

@@ -2,7 +2,7 @@
 ghost use Rattle.std.specs.Prelude.{◌≡◌, ◌≤◌, length};
 ghost use Rattle.arena_ptr.specs.Invalidation.{value_within, is_overflow_result};
 ghost use Rattle.std.specs.Option.{option_map};
-ghost use Rattle.arena_base.specs.Arena.{counter_after_clear, overflows_after_clear, entry_count};
+ghost use Rattle.arena_base.specs.Arena.{counter_after_clear, overflows_after_clear, entry_count, IsListed};
 ghost use Rattle.arena_base.specs.Entries.{seen_of};
 
 use crate::advancer::PtrAdvancer;
@@ -74,6 +74,10 @@ impl<P: Ptr, T: Drop, S: SlotStack<Item = ArenaSlot<P, T>>> ArenaTrait<P, T> for
         ensures count { result ≡ length (seen_of self.now).entries }
         ensures fits { result ≤ (seen_of self.now).capacity }
         ensures entries { result ≡ entry_count self.now }
+
+        // The slots and the freed list, in every arena.
+        ensures listed { IsListed self.now }
+        ensures slots { length self.now.slots ≤ P.Inx.greatest }
     {
         self.len
     }
