@@ -1,4 +1,4 @@
-mod Listing
+mod FreeSlots
 mod Ranging
 mod Reading
 mod Seeing

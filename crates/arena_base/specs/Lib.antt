@@ -4,3 +4,4 @@ pub mod Advancing
 pub mod Slots
 pub mod AdvancingLaws
 pub mod EntryLaws
+pub mod Compacting

@@ -5,8 +5,11 @@ ghost use Rattle.arena_ptr.specs.SlotStack.{IsBeyond};
 ghost use Rattle.arena_ptr.specs.Invalidation.{invalidation_option, invalidation_result};
 ghost use Rattle.arena_base.specs.Entries.{entries, entries_from, key_at, first_key, last_key};
 ghost use Rattle.arena_base.specs.Advancing.{ahead};
+ghost use Rattle.arena_base.specs.Compacting.{held_of, lent_out, returned, with_placement, with_touch};
 ghost use Rattle.arena_base.specs.Arena.{entry_at, entry_count, next_index, insert_next, remove_at, renewed_at, with_counter, with_capacity_of, with_maximum, new_arena, IsListed};
 
+use crate::held::HeldSlots;
+use crate::listing::{relist, trim};
 use crate::look::Look;
 use crate::slot::{ArenaSlot, fill, position_of, regenerate_at, vacate_at};
 use crate::tally::Tally;
@@ -14,8 +17,8 @@ use arena_ptr::{
     HeapStack, InvalidationOption, InvalidationResult, LimitStack, MaxCapacityReductionError, NotWithinCapacityError,
     Ptr, PtrGen, PtrInx, ReallocationError, SetMaxCapacity, SlotStack,
 };
-use std::alloc::Global;
 use std::marker::Model;
+use std::mem;
 
 /// An arena: entries under indexes from 1 on, each with a generation, in a stack of slots.
 ///
@@ -256,6 +259,45 @@ impl<P: Ptr, T: Drop, S: SlotStack<Item = ArenaSlot<P, T>>> Arena<P, T, S> {
         self.counter = generation;
         regenerate_at(&mut self.slots, position_of::<P>(i), generation);
         (generation, overflow)
+    }
+
+    // Takes the slots out, and leaves the arena empty over a new stack.
+    pub(crate) fn take_slots(&mut self) -> HeldSlots<P, T, S>
+        ensures held { result ≡ held_of self.old }
+        ensures after { self.new ≡ lent_out S.initial_maximum self.old }
+        ensures fits { length self.old.slots ≤ P.Inx.greatest }
+    {
+        let empty = S::new(self.slots.allocator());
+        let slots = mem::replace(&mut self.slots, empty);
+        self.len = 0;
+        self.first_free = None;
+        HeldSlots { slots }
+    }
+
+    // Takes slots back: those at the end that are free are cut off, and the others listed.
+    pub(crate) fn return_slots(&mut self, held: HeldSlots<P, T, S>)
+        ensures { self.new ≡ returned P.Inx.greatest self.old held }
+    {
+        let HeldSlots { mut slots } = held;
+        trim(&mut slots);
+        let (len, first_free) = relist::<P, T, S>(&mut slots);
+        self.slots = slots;
+        self.len = len;
+        self.first_free = first_free;
+    }
+
+    // Counts one placement.
+    pub(crate) fn count_placement(&mut self)
+        ensures { self.new ≡ with_placement self.old }
+    {
+        self.placed = self.placed.one_more();
+    }
+
+    // Counts one touch.
+    pub(crate) fn count_touch(&mut self)
+        ensures { self.new ≡ with_touch self.old }
+    {
+        self.touched = self.touched.one_more();
     }
 
     // Adds an entry where there is room.

@@ -4,8 +4,11 @@
 mod advancer;
 mod arena;
 mod arena_trait;
+mod compactor;
 mod entry;
+mod held;
 mod iterators;
+mod listing;
 mod look;
 mod slot;
 mod tally;
@@ -13,6 +16,7 @@ mod traits;
 
 pub use advancer::PtrAdvancer;
 pub use arena::Arena;
+pub use compactor::{Compactor, SlotAccess, Work};
 pub use entry::ArenaInsertEntry;
 pub use iterators::{CapacityDrain, Iter};
 pub use slot::ArenaSlot;

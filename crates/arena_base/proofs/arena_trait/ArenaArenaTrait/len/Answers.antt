@@ -1,7 +1,7 @@
 -- There are as many entries as are counted.
 use Rattle.std.proofs.Common.{arith}
 use Rattle.arena_base.proofs.Reading.{length-map}
-use Rattle.arena_base.proofs.Listing.{listed}
+use Rattle.arena_base.proofs.FreeSlots.{listed}
 use Rattle.arena_base.proofs.Seeing.{length-entries}
 use Rattle.arena_base.proofs.arena_trait.ArenaArenaTrait.len.Goals as goal
 
