@@ -8,7 +8,7 @@ use Rattle.arena_base.specs.declared.slot.ArenaSlot.TheVariants.{Allocated, Free
 use Rattle.arena_base.proofs.Reading.{slice_get-below, slot_at-map, length-map}
 use Rattle.arena_base.proofs.Soundness.{listed_is_free}
 
-there : {X : Type 0} (xs : List X) (k : ℕ) → k < length xs → (x : X) × (slice_get xs k ≡ Some x)
+pub there : {X : Type 0} (xs : List X) (k : ℕ) → k < length xs → (x : X) × (slice_get xs k ≡ Some x)
 there [] k below = absurd (omega (arith, below))
 there (x ∷ xs) zero below = (x, refl)
 there (x ∷ xs) (suc k) below = there xs k (omega (arith, below))
@@ -21,7 +21,7 @@ module _ {P T Inx Gen : Type 0} where
       let below = slice_get-below slots k (free_slot next) is in
       (slot_at-map slots k (suc k) (omega arith) ∙ ap entry_in is, omega arith, omega (arith, below, length-map slots))
 
-  free_of : (slot : ArenaSlot P T Inx Gen) → entry_of slot ≡ None → (next : Option Inx) × (slot ≡ free_slot next)
+  pub free_of : (slot : ArenaSlot P T Inx Gen) → entry_of slot ≡ None → (next : Option Inx) × (slot ≡ free_slot next)
   free_of (Allocated g t) none = cc
   free_of (Free next) none = (next, refl)
 

@@ -9,7 +9,7 @@ use Rattle.arena_base.specs.declared.slot.ArenaSlot.TheVariants.{Allocated, Free
 use Rattle.arena_base.proofs.Soundness.{lent, walked_all}
 use Rattle.arena_base.proofs.Reading.{map-slice_set, map-push, slot_at-map, with_slot-position}
 
-entry_of-written : {P T Inx Gen : Type 0} (slot : ArenaSlot P T Inx Gen) (w : T) → entry_of (with_value_in slot w) ≡ option_map (λ (e : Gen × T). (e.0, w)) (entry_of slot)
+pub entry_of-written : {P T Inx Gen : Type 0} (slot : ArenaSlot P T Inx Gen) (w : T) → entry_of (with_value_in slot w) ≡ option_map (λ (e : Gen × T). (e.0, w)) (entry_of slot)
 entry_of-written (Allocated g t) w = refl
 entry_of-written (Free next) w = refl
 
