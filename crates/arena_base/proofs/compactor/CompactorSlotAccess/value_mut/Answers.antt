@@ -8,7 +8,11 @@ on_both P None p q = tt
 on_both P (Some x) p q = (p, q)
 
 pub returns : goal.returns
-returns g c =
-    ((refl, (λ w. on_both _ c.value_mut.result (c.value_mut.follows.holds w) (refl, c.count_touch.ensures, refl, c.saturating_add-self.ensures)),
-      (c.value_mut.follows.holds-at-none, (refl, c.count_touch.ensures, refl, c.saturating_add-self.ensures))),
-     record { writes_back = tt; value = c.value_mut.ensures.value })
+returns g c = (
+  (
+    refl,
+    (λ w. on_both _ c.value_mut.result (c.value_mut.follows.holds w) (refl, c.count_touch.ensures, refl, c.saturating_add-self.ensures)),
+    (c.value_mut.follows.holds-at-none, (refl, c.count_touch.ensures, refl, c.saturating_add-self.ensures)),
+  ),
+  record { writes_back = tt; value = c.value_mut.ensures.value },
+)
