@@ -74,14 +74,14 @@ module _ {P T Inx Gen : Type 0} where
       let moved = map-swap slots i j first second in
       let long : j < length inner = omega (arith, second, length-slice_set es i b, mapped slots) in
       let all : map entry_of (with_generation_at (swap slots i j) j g) ≡ with_slot (with_slot es from (slot_at es to)) to (regenerated g (slot_at es from)) =
-          map-with_generation_at (swap slots i j) j g
-          ∙ (ap (λ fs. slice_set fs j (regenerated g (slice_index_or fs j None))) moved
-          ∙ (ap (λ o. slice_set (slice_set inner j a) j (regenerated g o)) (index-set inner j a None long)
-          ∙ (set-twice inner j a (regenerated g a)
-          ∙ (ap (λ o. slice_set (slice_set es i o) j (regenerated g a)) (slot_at-position es j to at_to)
-          ∙ (ap (λ o. slice_set (slice_set es i (slot_at es to)) j (regenerated g o)) (slot_at-position es i from at_from)
-          ∙ (ap (λ fs. slice_set fs j (regenerated g (slot_at es from))) (sym (with_slot-position es i from (slot_at es to) at_from))
-          ∙ sym (with_slot-position (with_slot es from (slot_at es to)) j to (regenerated g (slot_at es from)) at_to))))))) in
+      map-with_generation_at (swap slots i j) j g
+      ∙ (ap (λ fs. slice_set fs j (regenerated g (slice_index_or fs j None))) moved
+      ∙ (ap (λ o. slice_set (slice_set inner j a) j (regenerated g o)) (index-set inner j a None long)
+      ∙ (set-twice inner j a (regenerated g a)
+      ∙ (ap (λ o. slice_set (slice_set es i o) j (regenerated g a)) (slot_at-position es j to at_to)
+      ∙ (ap (λ o. slice_set (slice_set es i (slot_at es to)) j (regenerated g o)) (slot_at-position es i from at_from)
+      ∙ (ap (λ fs. slice_set fs j (regenerated g (slot_at es from))) (sym (with_slot-position es i from (slot_at es to) at_from))
+      ∙ sym (with_slot-position (with_slot es from (slot_at es to)) j to (regenerated g (slot_at es from)) at_to))))))) in
       ap (λ fs. let h : Held Gen T = record { slots = fs; stack_capacity = capacity; maximum = maximum } in h) all
     where
       mapped : (xs : List (ArenaSlot P T Inx Gen)) → length (map entry_of xs) ≡ length xs
@@ -95,5 +95,5 @@ module _ {P T Inx Gen : Type 0} where
   held_lent slots items capacity room maximum most k n slot w at is written same_room same_most =
       let rewrite : Option (Gen × T) → Option (Gen × T) = option_map (λ (e : Gen × T). (e.0, w)) in
       let all = ap (map entry_of) written ∙ (map-slice_set slots k (with_value_in slot w) ∙ (sym (with_slot-position (map entry_of slots) k n (entry_of (with_value_in slot w)) at)
-        ∙ ap (λ (o : Option (Gen × T)). with_slot (map entry_of slots) n o) (entry_of-written slot w ∙ ap rewrite (sym (slot_at-map slots k n at ∙ ap entry_in is))))) in
+      ∙ ap (λ (o : Option (Gen × T)). with_slot (map entry_of slots) n o) (entry_of-written slot w ∙ ap rewrite (sym (slot_at-map slots k n at ∙ ap entry_in is))))) in
       λ i. record { slots = all i; stack_capacity = same_room i; maximum = same_most i }

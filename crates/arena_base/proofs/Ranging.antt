@@ -138,10 +138,14 @@ module _ {Gen T : Type 0} where
   first_split (Some e ∷ slots) m i g first =
       let key : (m, e.0) ≡ (i, g) = cc in
       let index : m ≡ i = ap (λ (k : ℕ × Gen). k.0) key in
-      let generation : e.0 ≡ g = ap (λ (k : ℕ × Gen). k.1) key in
-      (e.1, 0, omega (arith, index), ap (λ (h : Gen). let o : Option (Gen × T) = Some (h, e.1) in o) generation,
-       ap (λ (k : ℕ × Gen). (k, e.1) ∷ entries_from (suc m) slots) key ∙ ap (λ n. ((i, g), e.1) ∷ entries_from (suc n) slots) index
-       ∙ ap (λ es. ((i, g), e.1) ∷ entries_from (suc i) es) (sym (drop-none slots)))
+      let generation : e.0 ≡ g = ap (λ (k : ℕ × Gen). k.1) key in (
+        e.1,
+        0,
+        omega (arith, index),
+        ap (λ (h : Gen). let o : Option (Gen × T) = Some (h, e.1) in o) generation,
+        ap (λ (k : ℕ × Gen). (k, e.1) ∷ entries_from (suc m) slots) key ∙ ap (λ n. ((i, g), e.1) ∷ entries_from (suc n) slots) index
+            ∙ ap (λ es. ((i, g), e.1) ∷ entries_from (suc i) es) (sym (drop-none slots)),
+      )
 
   first_after : (slots : List (Option (Gen × T))) (m n j i : ℕ) (g : Gen) → m + n ≡ j → first_key (entries_from j (drop n slots)) ≡ Some (i, g)
       → (t : T) × (k : ℕ) × (m + k ≡ i) × (slice_index_or slots k None ≡ Some (g, t)) × (entries_from j (drop n slots) ≡ ((i, g), t) ∷ entries_from (suc i) (drop (suc k) slots))
@@ -160,9 +164,11 @@ module _ {Gen T : Type 0} where
   next_entry slots n i g first =
       let found = first_after slots 1 n (n + 1) i g (omega arith) (sym first) in
       let index : suc found.1 ≡ i = omega (arith, found.2) in
-      let behind : suc i ≡ i + 1 = omega arith in
-      (found.0, ap (slot_at slots) (sym index) ∙ found.3,
-       found.4 ∙ (ap (λ m. ((i, g), found.0) ∷ entries_from m (drop (suc found.1) slots)) behind ∙ ap (λ m. ((i, g), found.0) ∷ entries_from (i + 1) (drop m slots)) index))
+      let behind : suc i ≡ i + 1 = omega arith in (
+        found.0,
+        ap (slot_at slots) (sym index) ∙ found.3,
+        found.4 ∙ (ap (λ m. ((i, g), found.0) ∷ entries_from m (drop (suc found.1) slots)) behind ∙ ap (λ m. ((i, g), found.0) ∷ entries_from (i + 1) (drop m slots)) index),
+      )
 
   -- no key, no entries
   pub no_first : (es : List ((ℕ × Gen) × T)) → None ≡ first_key es → es ≡ []

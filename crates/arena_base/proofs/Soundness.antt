@@ -59,13 +59,19 @@ module _ {P T Inx Gen : Type 0} (number : Inx → ℕ) where
         let stood : item_at slots (number i) ≡ Some (allocated_slot g t) = at_position slots k (number i) at ∙ is in
         let out = taken_is_not_listed slots ns head (number i) g t s.linked stood in
         record {
-          linked = (i, head, refl, refl,
+          linked = (
+            i,
+            head,
+            refl,
+            refl,
             at_position (slice_set slots k (free_slot head)) k (number i) at ∙ slice_get-set-same slots k (free_slot head) (allocated_slot g t) is,
-            IsFreeList-set slots k (free_slot head) ns head (λ h. out (subst (λ n. Has n ns) index h)) s.linked);
+            IsFreeList-set slots k (free_slot head) ns head (λ h. out (subst (λ n. Has n ns) index h)) s.linked,
+          );
           apart = (out, s.apart);
           covers = λ n next free. elim (same_or_not (number i) n) [
             | inl same ↦ inl same
-            | inr other ↦ inr (s.covers n next (sym (item_at-set-other slots k n (free_slot head) (λ e. other (sym index ∙ e))) ∙ free)) ];
+            | inr other ↦ inr (s.covers n next (sym (item_at-set-other slots k n (free_slot head) (λ e. other (sym index ∙ e))) ∙ free))
+          ];
           counted = omega (arith, one, s.counted, taken_count-set slots k (allocated_slot g t) (free_slot head) is);
           total = omega (arith, one, s.total, length-slice_set slots k (free_slot head));
           fits = omega (arith, s.fits, length-slice_set slots k (free_slot head));
@@ -82,7 +88,8 @@ module _ {P T Inx Gen : Type 0} (number : Inx → ℕ) where
           apart = s.apart;
           covers = λ n next free. elim (same_or_not (suc k) n) [
             | inl same ↦ absurd (not_free slot new_g new_t next refl (sym (slice_get-set-same slots k slot (allocated_slot g t) is) ∙ subst (λ m. item_at (slice_set slots k slot) m ≡ Some (free_slot next)) (sym same) free))
-            | inr other ↦ s.covers n next (sym (item_at-set-other slots k n slot other) ∙ free) ];
+            | inr other ↦ s.covers n next (sym (item_at-set-other slots k n slot other) ∙ free)
+          ];
           counted = omega (arith, s.counted, taken_count-set slots k (allocated_slot g t) slot is);
           total = omega (arith, s.total, length-slice_set slots k slot);
           fits = omega (arith, s.fits, length-slice_set slots k slot);
@@ -102,17 +109,20 @@ module _ {P T Inx Gen : Type 0} (number : Inx → ℕ) where
       let stood : item_at slots n ≡ Some (free_slot next) = sym (ap (item_at slots) named) ∙ (at_position slots k (number i) at ∙ is) in
       let both : Some (free_slot s.linked.1) ≡ Some (free_slot next) = sym s.linked.4 ∙ stood in
       let rest : s.linked.1 ≡ next = cc in
-      let out : Has (suc k) ns → ⊥ = λ h. s.apart.0 (subst (λ m. Has m ns) (index ∙ named) h) in
-      (record {
-        linked = IsFreeList-set slots k slot ns next out (subst (λ o. IsFreeList number slots ns o) rest s.linked.5);
-        apart = s.apart.1;
-        covers = λ m other free. elim (same_or_not (suc k) m) [
-          | inl here ↦ absurd (not_free slot g t other refl (sym (slice_get-set-same slots k slot (free_slot next) is) ∙ subst (λ j. item_at (slice_set slots k slot) j ≡ Some (free_slot other)) (sym here) free))
-          | inr away ↦ elsewhere m (λ e. away (index ∙ (named ∙ e))) (s.covers m other (sym (item_at-set-other slots k m slot away) ∙ free)) ];
-        counted = omega (arith, s.counted, taken_count-set slots k (free_slot next) slot is);
-        total = omega (arith, s.total, length-slice_set slots k slot);
-        fits = omega (arith, s.fits, length-slice_set slots k slot);
-      }, ap (λ m. m ∷ ns) (sym named))
+      let out : Has (suc k) ns → ⊥ = λ h. s.apart.0 (subst (λ m. Has m ns) (index ∙ named) h) in (
+        record {
+          linked = IsFreeList-set slots k slot ns next out (subst (λ o. IsFreeList number slots ns o) rest s.linked.5);
+          apart = s.apart.1;
+          covers = λ m other free. elim (same_or_not (suc k) m) [
+            | inl here ↦ absurd (not_free slot g t other refl (sym (slice_get-set-same slots k slot (free_slot next) is) ∙ subst (λ j. item_at (slice_set slots k slot) j ≡ Some (free_slot other)) (sym here) free))
+            | inr away ↦ elsewhere m (λ e. away (index ∙ (named ∙ e))) (s.covers m other (sym (item_at-set-other slots k m slot away) ∙ free))
+          ];
+          counted = omega (arith, s.counted, taken_count-set slots k (free_slot next) slot is);
+          total = omega (arith, s.total, length-slice_set slots k slot);
+          fits = omega (arith, s.fits, length-slice_set slots k slot);
+        },
+        ap (λ m. m ∷ ns) (sym named),
+      )
     where
       elsewhere : (m : ℕ) → (n ≡ m → ⊥) → (n ≡ m) ⊎ Has m ns → Has m ns
       elsewhere m away (inl here) = absurd (away here)
@@ -123,17 +133,20 @@ module _ {P T Inx Gen : Type 0} (number : Inx → ℕ) where
       → IsSound number slots greatest len None ns → length slots < greatest
       → IsSound number (slots ++ allocated_slot g t ∷ []) greatest (len + 1) None [] × (ns ≡ [])
   filled_next {slots = slots} {ns = []} g t s room =
-      let slot = allocated_slot g t in
-      (record {
-        linked = refl;
-        apart = tt;
-        covers = λ m other free. elim (item_at-push slots slot (free_slot other) m free) [
-          | inl before ↦ s.covers m other before
-          | inr new ↦ absurd (not_free slot g t other refl (ap (λ z. Some z) new)) ];
-        counted = omega (arith, s.counted, taken_count-push slots slot);
-        total = omega (arith, s.total, length-append slots (slot ∷ []));
-        fits = omega (arith, room, length-append slots (slot ∷ []));
-      }, refl)
+      let slot = allocated_slot g t in (
+        record {
+          linked = refl;
+          apart = tt;
+          covers = λ m other free. elim (item_at-push slots slot (free_slot other) m free) [
+            | inl before ↦ s.covers m other before
+            | inr new ↦ absurd (not_free slot g t other refl (ap (λ z. Some z) new))
+          ];
+          counted = omega (arith, s.counted, taken_count-push slots slot);
+          total = omega (arith, s.total, length-append slots (slot ∷ []));
+          fits = omega (arith, room, length-append slots (slot ∷ []));
+        },
+        refl,
+      )
   filled_next {slots = slots} {ns = n ∷ ns} g t s room = let some : None ≡ Some s.linked.0 = s.linked.2 in cc
 
   -- where no slot is freed there are as many entries as slots

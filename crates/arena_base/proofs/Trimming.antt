@@ -149,7 +149,7 @@ module _ {P T Inx Gen : Type 0} (number : Inx → ℕ) where
         record {
           same = l.same;
           linked = subst (λ es. IsFreeList number slots (free_from (suc k) es) head) (sym taken)
-            (subst (λ es. IsFreeList number slots (free_from (suc (suc k)) es) head) (sym rest) (subst (λ i. IsFreeList number slots (free_from (suc i) (drop n entries)) head) (sym at) l.linked));
+              (subst (λ es. IsFreeList number slots (free_from (suc (suc k)) es) head) (sym rest) (subst (λ i. IsFreeList number slots (free_from (suc i) (drop n entries)) head) (sym at) l.linked));
           counted = omega (arith, l.counted, ap (count_by is_some) rest, ap (count_by is_some) taken, sum_by-cons (λ (o : Option (Gen × T)). cond (is_some o) 1 0) (Some e) (drop (suc k) entries));
         }
 
@@ -163,7 +163,7 @@ module _ {P T Inx Gen : Type 0} (number : Inx → ℕ) where
         record {
           same = map-slice_set slots k (free_slot head) ∙ (unchanged (map entry_of slots) k (slice_index_or-map slots k ∙ ap entry_in is) ∙ l.same);
           linked = subst (λ es. IsFreeList number (slice_set slots k (free_slot head)) (free_from (suc k) es) (Some i)) (sym free)
-            (i, head, refl, index, slice_get-set-same slots k (free_slot head) (free_slot old) is, IsFreeList-set number slots k (free_slot head) (free_from (suc (suc k)) (drop (suc k) entries)) head out old_list);
+              (i, head, refl, index, slice_get-set-same slots k (free_slot head) (free_slot old) is, IsFreeList-set number slots k (free_slot head) (free_from (suc (suc k)) (drop (suc k) entries)) head out old_list);
           counted = omega (arith, l.counted, ap (count_by is_some) rest, ap (count_by is_some) free, sum_by-cons (λ (o : Option (Gen × T)). cond (is_some o) 1 0) None (drop (suc k) entries));
         }
       where
@@ -191,7 +191,7 @@ module _ {P T Inx Gen : Type 0} (number : Inx → ℕ) where
       listed (suc k) next free =
           let below = slice_get-below slots k (free_slot next) free in
           free_from-has entries 1 k (suc k) (omega arith) (omega (arith, below, length-map slots, ap length l.same))
-            (ap (λ es. slice_index_or es k None) (sym l.same) ∙ (slice_index_or-map slots k ∙ ap entry_in free))
+          (ap (λ es. slice_index_or es k None) (sym l.same) ∙ (slice_index_or-map slots k ∙ ap entry_in free))
 
   -- one step of the listing, at a free slot
   pub listing_frees : {slots items : List (ArenaSlot P T Inx Gen)} {entries : List (Option (Gen × T))} {n len : ℕ} {head : Option Inx} → IsListing slots entries n len head
@@ -202,7 +202,7 @@ module _ {P T Inx Gen : Type 0} (number : Inx → ℕ) where
       let slot = there slots k below in
       let old = free_of slot.0 (sym (ap entry_in slot.1) ∙ none_of (entry_in (slice_get slots k)) free) in
       subst (λ es. IsListing es entries k len (Some i)) (sym written)
-        (listing_lists l k (omega (arith, at)) below old.0 i (slot.1 ∙ ap (λ s. Some s) old.1) (omega (arith, index)))
+      (listing_lists l k (omega (arith, at)) below old.0 i (slot.1 ∙ ap (λ s. Some s) old.1) (omega (arith, index)))
 
   -- and at a taken one
   pub listing_takes : {slots : List (ArenaSlot P T Inx Gen)} {entries : List (Option (Gen × T))} {n len : ℕ} {head : Option Inx} → IsListing slots entries n len head

@@ -47,15 +47,15 @@ module _ {P T Inx Gen : Type 0} (slots : List (ArenaSlot P T Inx Gen)) (ns : Lis
   seen_lent k n slot w at is =
       let rewrite : Option (Gen × T) → Option (Gen × T) = option_map (λ (e : Gen × T). (e.0, w)) in
       ap (λ (es : List (Option (Gen × T))). let a : Arena Gen T = record now { slots = es } in a)
-        (seen_slots k n (with_value_in slot w) at
-        ∙ ap (λ (o : Option (Gen × T)). with_slot (map entry_of slots) n o) (entry_of-written slot w ∙ ap rewrite (sym (slot_at-map slots k n at ∙ ap entry_in is))))
+      (seen_slots k n (with_value_in slot w) at
+      ∙ ap (λ (o : Option (Gen × T)). with_slot (map entry_of slots) n o) (entry_of-written slot w ∙ ap rewrite (sym (slot_at-map slots k n at ∙ ap entry_in is))))
 
   pub seen_renewed : (following : Gen → Gen) (k n : ℕ) (g : Gen) (t : T) → k + 1 ≡ n → slice_get slots k ≡ Some (allocated_slot g t)
       → arena_of (slice_set slots k (allocated_slot (following counter) t)) ns (following counter) greatest capacity maximum placed touched ≡ renewed_at following now n
   seen_renewed following k n g t at is =
       ap (λ (es : List (Option (Gen × T))). let a : Arena Gen T = record now { slots = es; counter = following counter } in a)
-        (seen_slots k n (allocated_slot (following counter) t) at
-        ∙ ap (λ (o : Option (Gen × T)). with_slot (map entry_of slots) n (option_map (λ (e : Gen × T). (following counter, e.1)) o)) (sym (entry_seen k n g t at is)))
+      (seen_slots k n (allocated_slot (following counter) t) at
+      ∙ ap (λ (o : Option (Gen × T)). with_slot (map entry_of slots) n (option_map (λ (e : Gen × T). (following counter, e.1)) o)) (sym (entry_seen k n g t at is)))
 
 module _ {P T Inx Gen : Type 0} (number : Inx → ℕ) where
   -- the arena after a write of a value
@@ -65,4 +65,4 @@ module _ {P T Inx Gen : Type 0} (number : Inx → ℕ) where
       → arena_of items (freed_of number items head) counter greatest room most placed touched ≡ with_value (arena_of slots (freed_of number slots head) counter greatest capacity maximum placed touched) n w
   lent_view {slots = slots} {greatest = greatest} {head = head} s counter capacity maximum placed touched k n slot w items room most at is written same_room same_most =
       rw (written, same_room, same_most, walked_all number (lent number k slot w s is))
-        (seen_lent slots (freed_of number slots head) counter greatest capacity maximum placed touched k n slot w at is)
+      (seen_lent slots (freed_of number slots head) counter greatest capacity maximum placed touched k n slot w at is)

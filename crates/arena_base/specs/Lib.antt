@@ -5,3 +5,4 @@ pub mod Slots
 pub mod AdvancingLaws
 pub mod EntryLaws
 pub mod Compacting
+pub mod Taking

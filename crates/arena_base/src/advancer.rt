@@ -34,13 +34,18 @@ impl<P> PtrAdvancer<P> {
         ensures { result.look ≡ (if rev then Look.Down from else Look.Up from) }
     {
         PtrAdvancer {
-            look: if rev { Look::Down(from) } else { Look::Up(from) },
+            look: if rev {
+                Look::Down(from)
+            } else {
+                Look::Up(from)
+            },
             of: PhantomData,
         }
     }
 }
 
-impl<P: Ptr, T: Drop, S: SlotStack<Item = ArenaSlot<P, T>>> Advancer<Arena<P, T, S>> for PtrAdvancer<P> {
+impl<P: Ptr, T: Drop, S: SlotStack<Item = ArenaSlot<P, T>>> Advancer<Arena<P, T, S>>
+    for PtrAdvancer<P> {
     ghost use Rattle.std.specs.Prelude.{◌≡◌, refl};
     ghost use Rattle.std.specs.Option.{option_map};
     ghost use Rattle.arena_base.specs.Entries.{entries};

@@ -14,8 +14,8 @@ use crate::look::Look;
 use crate::slot::{ArenaSlot, fill, position_of, regenerate_at, vacate_at};
 use crate::tally::Tally;
 use arena_ptr::{
-    HeapStack, InvalidationOption, InvalidationResult, LimitStack, MaxCapacityReductionError, NotWithinCapacityError,
-    Ptr, PtrGen, PtrInx, ReallocationError, SetMaxCapacity, SlotStack,
+    HeapStack, InvalidationOption, InvalidationResult, LimitStack, MaxCapacityReductionError,
+    NotWithinCapacityError, Ptr, PtrGen, PtrInx, ReallocationError, SetMaxCapacity, SlotStack,
 };
 use std::marker::Model;
 use std::mem;
@@ -28,8 +28,11 @@ use std::mem;
 ///
 /// Carries `Arena` of `triple_arena`.
 #[derive(Drop)]
-pub struct Arena<P: Ptr, T: Drop, S: SlotStack<Item = ArenaSlot<P, T>> = HeapStack<ArenaSlot<P, T>>>
-{
+pub struct Arena<
+    P: Ptr,
+    T: Drop,
+    S: SlotStack<Item = ArenaSlot<P, T>> = HeapStack<ArenaSlot<P, T>>,
+> {
     pub(crate) slots: S,
     // The number of entries.
     pub(crate) len: usize,
@@ -93,8 +96,7 @@ impl<P: Ptr, T: Drop, S: SlotStack<Item = ArenaSlot<P, T>>> Arena<P, T, S> {
     }
 
     /// The slots.
-    pub fn backing(&self) -> &S
-    {
+    pub fn backing(&self) -> &S {
         &self.slots
     }
 
@@ -312,7 +314,8 @@ impl<P: Ptr, T: Drop, S: SlotStack<Item = ArenaSlot<P, T>>> Arena<P, T, S> {
                 self.first_free = fill(&mut self.slots, position_of::<P>(i), self.counter, t);
             }
             None => {
-                self.slots.push_within(ArenaSlot::Allocated(self.counter, t));
+                self.slots
+                    .push_within(ArenaSlot::Allocated(self.counter, t));
             }
         }
         self.len += 1;

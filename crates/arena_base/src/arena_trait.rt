@@ -182,7 +182,8 @@ impl<P: Ptr, T: Drop, S: SlotStack<Item = ArenaSlot<P, T>>> ArenaTrait<P, T> for
     }
 }
 
-impl<P: Ptr, T: Drop, S: SlotStack<Item = ArenaSlot<P, T>>> CompactArenaTrait<P, T> for Arena<P, T, S> {}
+impl<P: Ptr, T: Drop, S: SlotStack<Item = ArenaSlot<P, T>>> CompactArenaTrait<P, T>
+    for Arena<P, T, S> {}
 
 // The answer of a removal without the generation.
 fn value_alone<G: Drop, T>(removed: InvalidationResult<(G, T)>) -> InvalidationResult<T>

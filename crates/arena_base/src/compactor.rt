@@ -84,7 +84,12 @@ impl<'a, P: Ptr, T: Drop, S: SlotStack<Item = ArenaSlot<P, T>>> Compactor<'a, P,
         ensures placed { result.placed ≡ self.entry.placed }
         ensures touched { result.touched ≡ self.entry.touched }
     {
-        let Compactor { arena, held, placed, touched } = self;
+        let Compactor {
+            arena,
+            held,
+            placed,
+            touched,
+        } = self;
         arena.return_slots(held);
         Work { placed, touched }
     }
@@ -94,7 +99,12 @@ impl<'a, P: Ptr, T: Drop, S: SlotStack<Item = ArenaSlot<P, T>>> Drop for Compact
     fn drop(self)
         ensures { self.exit.0.now ≡ returned P.Inx.greatest self.entry.arena.now self.entry.held }
     {
-        let Compactor { arena, held, placed: _, touched: _ } = self;
+        let Compactor {
+            arena,
+            held,
+            placed: _,
+            touched: _,
+        } = self;
         arena.return_slots(held);
     }
 }
@@ -119,7 +129,8 @@ pub trait SlotAccess<P: Ptr, T: Drop> {
         ensures value { option_copied_mut result ≡ option_map (λ e. e.1) (slot_at (held self.old).slots (P.Inx.number i)) };
 }
 
-impl<'a, P: Ptr, T: Drop, S: SlotStack<Item = ArenaSlot<P, T>>> SlotAccess<P, T> for Compactor<'a, P, T, S> {
+impl<'a, P: Ptr, T: Drop, S: SlotStack<Item = ArenaSlot<P, T>>> SlotAccess<P, T>
+    for Compactor<'a, P, T, S> {
     ghost use Rattle.std.specs.Prelude.{◌≡◌};
     ghost use Rattle.arena_base.specs.Compacting.{with_touch, one_more};
 

@@ -27,16 +27,18 @@ impl<P: Ptr, T: Drop, S: SlotStack<Item = ArenaSlot<P, T>>> Arena<P, T, S> {
     /// A place for an entry within the capacity.
     ///
     /// `NotWithinCapacityError`: there are as many entries as the capacity. Then nothing has changed.
-    pub fn entry_insert_within_capacity(&mut self) -> Result<ArenaInsertEntry<'_, P, T, S>, NotWithinCapacityError>
+    pub fn entry_insert_within_capacity(
+        &mut self,
+    ) -> Result<ArenaInsertEntry<'_, P, T, S>, NotWithinCapacityError>
         ensures* unchanged_at_err { sem 𝓛 (RestsIfErr
             (arena_row P.row T.row S.row P.Inx.row P.Gen.row
-                (record { key = P.key }) (record { eq = P.eq }) (record { cmp = P.cmp }) (record { partial_cmp = P.partial_cmp })
-                (record { hash_input = P.hash_input }) (record { debug_output = P.debug_output })
-                (record { number = P.Inx.number; greatest = P.Inx.greatest }) (record { eq = P.Inx.eq }) (record { cmp = P.Inx.cmp }) (record { partial_cmp = P.Inx.partial_cmp })
-                (record { hash_input = P.Inx.hash_input }) (record { debug_output = P.Inx.debug_output })
-                (record { first = P.Gen.first; following = P.Gen.following; wraps = P.Gen.wraps }) (record { eq = P.Gen.eq }) (record { cmp = P.Gen.cmp }) (record { partial_cmp = P.Gen.partial_cmp })
-                (record { hash_input = P.Gen.hash_input }) (record { debug_output = P.Gen.debug_output })
-                S.SlotStack)
+            (record { key = P.key }) (record { eq = P.eq }) (record { cmp = P.cmp }) (record { partial_cmp = P.partial_cmp })
+            (record { hash_input = P.hash_input }) (record { debug_output = P.debug_output })
+            (record { number = P.Inx.number; greatest = P.Inx.greatest }) (record { eq = P.Inx.eq }) (record { cmp = P.Inx.cmp }) (record { partial_cmp = P.Inx.partial_cmp })
+            (record { hash_input = P.Inx.hash_input }) (record { debug_output = P.Inx.debug_output })
+            (record { first = P.Gen.first; following = P.Gen.following; wraps = P.Gen.wraps }) (record { eq = P.Gen.eq }) (record { cmp = P.Gen.cmp }) (record { partial_cmp = P.Gen.partial_cmp })
+            (record { hash_input = P.Gen.hash_input }) (record { debug_output = P.Gen.debug_output })
+            S.SlotStack)
             self.entry (λ e. e.arena.ghost_name) result (λ n. n ≡ self.old)) }
         ensures refused { IsErr result ↔ (entry_count self.old ≡ self.old.capacity) }
         ensures same_reference { IfOk result (λ e. e.arena.ghost_name ≡ self.entry.ghost_name) }

@@ -69,7 +69,8 @@ pub(crate) trait LendsValue<P: Ptr, T: Drop> {
         ensures value { option_copied_mut result ≡ option_map (λ e. e.1) (slot_at (lent self.old).slots (P.Inx.number i)) };
 }
 
-impl<P: Ptr, T: Drop, S: SlotStack<Item = ArenaSlot<P, T>>> LendsValue<P, T> for HeldSlots<P, T, S> {
+impl<P: Ptr, T: Drop, S: SlotStack<Item = ArenaSlot<P, T>>> LendsValue<P, T>
+    for HeldSlots<P, T, S> {
     ghost lent = { λ h. h };
 
     fn value_mut(&mut self, i: P::Inx) -> Option<&mut T> {

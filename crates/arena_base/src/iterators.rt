@@ -154,7 +154,8 @@ impl<P: Ptr, T: Drop, S: SlotStack<Item = ArenaSlot<P, T>>> IntoIterator for Are
     }
 }
 
-impl<'a, P: Ptr, T: Drop, S: SlotStack<Item = ArenaSlot<P, T>>> IntoIterator for &'a Arena<P, T, S> {
+impl<'a, P: Ptr, T: Drop, S: SlotStack<Item = ArenaSlot<P, T>>> IntoIterator
+    for &'a Arena<P, T, S> {
     ghost use Rattle.std.specs.Prelude.{◌≡◌};
     ghost use Rattle.arena_base.specs.Entries.{entries};
 

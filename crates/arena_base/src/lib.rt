@@ -12,6 +12,8 @@ mod listing;
 mod look;
 mod slot;
 mod tally;
+#[cfg(test)]
+mod tests;
 mod traits;
 
 pub use advancer::PtrAdvancer;

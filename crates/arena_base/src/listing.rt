@@ -21,7 +21,9 @@ pub(crate) fn trim<P: Ptr, T: Drop, S: SlotStack<Item = ArenaSlot<P, T>>>(slots:
 }
 
 // Lists the free slots, the least index first. Answers the number of entries and the first free index.
-pub(crate) fn relist<P: Ptr, T: Drop, S: SlotStack<Item = ArenaSlot<P, T>>>(slots: &mut S) -> (usize, Option<P::Inx>)
+pub(crate) fn relist<P: Ptr, T: Drop, S: SlotStack<Item = ArenaSlot<P, T>>>(
+    slots: &mut S,
+) -> (usize, Option<P::Inx>)
     requires { length (S.items slots.old) ≤ P.Inx.greatest }
     ensures entries { map entry_of (S.items slots.new) ≡ map entry_of (S.items slots.old) }
     ensures sound { IsSound P.Inx.number (S.items slots.new) P.Inx.greatest result.0 result.1 (free_from 1 (map entry_of (S.items slots.old))) }

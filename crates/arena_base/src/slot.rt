@@ -140,7 +140,10 @@ pub(crate) fn regenerate_at<P: Ptr, T: Drop, S: SlotStack<Item = ArenaSlot<P, T>
 }
 
 // Whether the slot at a position is free.
-pub(crate) fn is_free_at<P: Ptr, T: Drop, S: SlotStack<Item = ArenaSlot<P, T>>>(slots: &S, k: usize) -> bool
+pub(crate) fn is_free_at<P: Ptr, T: Drop, S: SlotStack<Item = ArenaSlot<P, T>>>(
+    slots: &S,
+    k: usize,
+) -> bool
     requires { k < length (S.items slots.now) }
     ensures { result ≡ is_none (entry_in (slice_get (S.items slots.now) k)) }
 {

@@ -22,7 +22,7 @@ pub returns-in-Some-clause-key : goal.returns-in-Some-clause-key
 returns-in-Some-clause-key g c =
     let items = g.S.SlotStack.items c.self.inside.slots in
     rw (← c.self.view_is, slice_index_or-map items c.args.k, ← c.in-Some-Allocated.ensures, c.in-Some-Allocated.field-0-is)
-      (ap (λ p. Some p) (c._from_raw.ensures ∙ ap (λ n. (n, c.in-Some-Allocated.generation)) c.in-Some.ensures.value))
+    (ap (λ p. Some p) (c._from_raw.ensures ∙ ap (λ n. (n, c.in-Some-Allocated.generation)) c.in-Some.ensures.value))
 
 pub returns-in-Some-clause-fits : goal.returns-in-Some-clause-fits
 returns-in-Some-clause-fits g c =

@@ -42,8 +42,8 @@ returns-in-Some-clause-some g c =
     let some = some_taken number c.self.invariant c.position_of.result _ _ is in
     let sound = vacated number c.self.invariant c.position_of.result c.args.i _ _ (c.self.inside.len - 1) c.position_of.ensures is (omega (arith, some)) in
     λ _. rw (← c.self.view_is, c.one_more-self-inside.ensures, c.generational_inc-generation.ensures.next, c.in-Some.ensures.some, c.vacate_at.ensures.capacity, c.vacate_at.ensures.maximum, walked_all number sound)
-      (seen_vacated items _ c.self.inside.counter g.P.Inx.PtrInx.greatest (g.S.SlotStack.capacity c.self.inside.slots) (g.S.SlotStack.maximum c.self.inside.slots) c.self.inside.placed.count c.self.inside.touched.count
-        g.P.Gen.PtrGen.following c.position_of.result (number c.args.i) c.self.inside.first_free c.position_of.ensures)
+    (seen_vacated items _ c.self.inside.counter g.P.Inx.PtrInx.greatest (g.S.SlotStack.capacity c.self.inside.slots) (g.S.SlotStack.maximum c.self.inside.slots) c.self.inside.placed.count c.self.inside.touched.count
+    g.P.Gen.PtrGen.following c.position_of.result (number c.args.i) c.self.inside.first_free c.position_of.ensures)
 
 pub returns-in-Some-clause-none : goal.returns-in-Some-clause-none
 returns-in-Some-clause-none g c = λ none. let both = sym (the_entry g (goal.at.returns-in-Some-clause-none g c).In-Some) ∙ none in cc

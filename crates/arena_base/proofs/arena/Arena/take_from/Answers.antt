@@ -19,4 +19,4 @@ returns-in-Some-value_of-clause-some g c =
     let held = c.value_of.ensures ∙ (ap value_within c.take_at.ensures.answer ∙ value_within-made (g.P.Gen.PtrGen.wraps c.args.self.now.counter) (entry_at c.args.self.now n)) in
     let looked = sym c.in-Some-value_of.is ∙ held in
     next_taken c.args.self.now.slots c.take_at.new.self.slots c.args.from n c.number_of.result (g.P.Ptr.key c.in-Some.p) (c.in-Some-value_of.field-0-0, c.in-Some-value_of.t)
-      c.in-Some.ensures.key looked c.inx.ensures (c.number_of.ensures ∙ c.inx-in-Some-value_of.ensures) (ap (λ a. a.slots) (c.take_at.ensures.some (sym (ap is_some looked))))
+    c.in-Some.ensures.key looked c.inx.ensures (c.number_of.ensures ∙ c.inx-in-Some-value_of.ensures) (ap (λ a. a.slots) (c.take_at.ensures.some (sym (ap is_some looked))))

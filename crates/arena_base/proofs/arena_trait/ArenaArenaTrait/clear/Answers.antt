@@ -12,4 +12,4 @@ returns-clause-after g c =
     let inside = c.self.inside in
     let items = g.S.SlotStack.items inside.slots in
     rw (← c.self.view_is, c.truncate.ensures.items, c.truncate.ensures.capacity, c.truncate.ensures.maximum, c.after_clear-generation.ensures.next, c.self.invariant.counted)
-      (seen_cleared g.P.Gen.PtrGen.following (arena_of items (freed_of g.P.Inx.PtrInx.number items inside.first_free) inside.counter g.P.Inx.PtrInx.greatest (g.S.SlotStack.capacity inside.slots) (g.S.SlotStack.maximum inside.slots) inside.placed.count inside.touched.count))
+    (seen_cleared g.P.Gen.PtrGen.following (arena_of items (freed_of g.P.Inx.PtrInx.number items inside.first_free) inside.counter g.P.Inx.PtrInx.greatest (g.S.SlotStack.capacity inside.slots) (g.S.SlotStack.maximum inside.slots) inside.placed.count inside.touched.count))

@@ -6,6 +6,7 @@ use Rattle.arena_base.proofs.arena_trait.ArenaArenaTrait.is_empty.Goals as goal
 
 pub returns : goal.returns
 returns g c =
-    let count : c.self.inside.len ≡ entry_count c.args.self.now = rw (← c.self.view_is) c.self.invariant.counted in
-    (λ zero. let is : c.self.inside.len ≡ 0 = search rules in no_entries c.args.self.now (sym count ∙ is),
-     λ none. eq-eqb c.self.inside.len 0 (count ∙ (sym (length-entries c.args.self.now) ∙ ap length none)))
+    let count : c.self.inside.len ≡ entry_count c.args.self.now = rw (← c.self.view_is) c.self.invariant.counted in (
+      λ zero. let is : c.self.inside.len ≡ 0 = search rules in no_entries c.args.self.now (sym count ∙ is),
+      λ none. eq-eqb c.self.inside.len 0 (count ∙ (sym (length-entries c.args.self.now) ∙ ap length none)),
+    )

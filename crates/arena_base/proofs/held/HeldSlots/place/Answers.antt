@@ -19,5 +19,5 @@ returns g c =
     let items = g.S.SlotStack.items slots in
     let long = ap (λ h. length h.slots) c.self.view_is in
     rw (← c.self.view_is, c.regenerate_at.ensures.items, c.regenerate_at.ensures.capacity, c.regenerate_at.ensures.maximum, c.swap.ensures.items, c.swap.ensures.capacity, c.swap.ensures.maximum)
-      (held_placed items (g.S.SlotStack.capacity slots) (g.S.SlotStack.maximum slots) c.position_of.result c.position_of-to.result (number c.args.from) (number c.args.to) c.args.generation c.position_of.ensures c.position_of-to.ensures
-        (omega (arith, long, length-map items, c.position_of.ensures, c.requires.from)) (omega (arith, long, length-map items, c.position_of-to.ensures, c.requires.to)))
+    (held_placed items (g.S.SlotStack.capacity slots) (g.S.SlotStack.maximum slots) c.position_of.result c.position_of-to.result (number c.args.from) (number c.args.to) c.args.generation c.position_of.ensures c.position_of-to.ensures
+    (omega (arith, long, length-map items, c.position_of.ensures, c.requires.from)) (omega (arith, long, length-map items, c.position_of-to.ensures, c.requires.to)))
