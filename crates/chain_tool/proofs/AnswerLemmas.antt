@@ -2,12 +2,12 @@
 use Rattle.std.proofs.Common.{◌≡◌, ℕ, ◌⊎◌, List, [], ◌∷◌, ◌++◌, Result, Ok, Err, OnErr, refl, sym, ap, ◌∙◌, inl, inr, subst, Bool, cond, append_assoc, append-nil, true, false, codes}
 use Rattle.arena_ptr.specs.declared.generation.gen32.Gen32.{Gen32}
 use Rattle.chain_laws.specs.Operations.{joined}
-use Rattle.chain_tool.specs.Arena.{entry_count, next_index, with_capacity_of}
-use Rattle.chain_tool.specs.ChainArena.{LinkSeen, shown, relinked, insert_lone, CanConnect}
+use Rattle.arena_base.specs.Arena.{entry_count, next_index, with_capacity_of}
+use Rattle.chain_arena.specs.ChainArena.{LinkSeen, shown, relinked, insert_lone}
 use Rattle.chain_tool.specs.declared.command.Command.{Command}
 use Rattle.chain_tool.specs.declared.command.Line.{Line}
 use Rattle.chain_tool.specs.declared.command.Line.TheVariants.{Good}
-use Rattle.chain_tool.specs.Answers.{Links, Adds, added, refused, Connects, connected, not_connected, Gives, AnswersLine, pointer_text, link_text, walk_text}
+use Rattle.chain_tool.specs.Answers.{Links, CanConnect, Adds, added, refused, Connects, connected, not_connected, Gives, AnswersLine, pointer_text, link_text, walk_text}
 
 module _ {T E : Type 0} where
   pub added_err : (old new : Links) (v : ℕ) (r : Result T E) → new ≡ with_capacity_of (insert_lone old v) new → OnErr r ((words : List ℕ) × Adds old v words new)

@@ -1,14 +1,6 @@
 pub mod AnswerLemmas
 pub mod Coming
-pub mod Connecting
 pub mod Ending
 pub mod Feeding
-pub mod Inserting
-pub mod Iterating
-pub mod Outcomes
 pub mod Pointers
-pub mod Relinking
-pub mod Seeing
-pub mod Slotting
-pub mod SlowLemmas
 pub mod WordLemmas

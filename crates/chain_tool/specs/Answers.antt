@@ -1,14 +1,16 @@
 -- What the program answers to a line, and the arena after it.
-use Rattle.std.specs.Prelude.{◌≡◌, ℕ, List, [], ◌∷◌, ◌++◌, map, codes, decimal, Option, None, Some}
+use Rattle.std.specs.Prelude.{◌≡◌, ℕ, List, [], ◌∷◌, ◌++◌, map, codes, decimal, ◌+◌, Bool, true, false, Option, None, Some}
 use Rattle.std.specs.List.{join_with_byte}
-use Rattle.arena_ptr.specs.Generations.{number_of_gen32}
+use Rattle.arena_ptr.specs.Generations.{number_of_gen32, after32, is_greatest32}
 use Rattle.arena_ptr.specs.ToolPtr.{key_of}
 use Rattle.arena_ptr.specs.declared.generation.gen32.Gen32.{Gen32}
 use Rattle.chain_laws.specs.Operations.{joined}
-use Rattle.chain_tool.specs.Arena.{Arena, IsValidPtr, entry_count, next_index, with_capacity_of}
-use Rattle.chain_tool.specs.ChainArena.{LinkSeen, shown, relinked, insert_lone, CanConnect, IsLinkAt, IsWalkOf}
+use Rattle.arena_ptr.specs.SlotStack.{IsBeyond}
+use Rattle.arena_base.specs.Arena.{Arena, IsValid, IsValidPtr, entry_at, entry_count, next_index, with_capacity_of}
+use Rattle.chain_arena.specs.ChainArena as chain
+use Rattle.chain_arena.specs.ChainArena.{LinkSeen, shown, values_of, relinked, insert_lone, remove_link, IsWalkOf}
 use Rattle.chain_tool.specs.declared.command.Command.{Command}
-use Rattle.chain_tool.specs.declared.command.Command.TheVariants.{AddAlone, Connect, Show, Chain, Len}
+use Rattle.chain_tool.specs.declared.command.Command.TheVariants.{AddAlone, Connect, Remove, Show, Chain, Len}
 use Rattle.chain_tool.specs.declared.command.Line.{Line}
 use Rattle.chain_tool.specs.declared.command.Line.TheVariants.{Blank, Bad, Good}
 
@@ -40,10 +42,22 @@ link_text e = passed_text (e.0, e.1.0) e.1.1.value
 abbrev pub walk_text : List (ℕ × (Gen32 × LinkSeen ℕ)) → List ℕ
 walk_text links = join_with_byte 32 (map link_text links)
 
--- the new link has its pointer; memory may be refused where the arena is full
+-- a pointer is valid: a link stands at its index with its generation
+abbrev pub IsValidIn : Links → ℕ × Gen32 → Type 0
+IsValidIn a p = IsValid (entry_at (values_of a)) p
+
+abbrev pub CanConnect : Links → ℕ × Gen32 → ℕ × Gen32 → Type 0
+CanConnect a p q = chain.CanConnect (entry_at (values_of a)) (shown a) p q
+
+-- the link of a pointer, with the pointers of now to its neighbours, and its value
+abbrev pub IsLinkAt : Links → ℕ × Gen32 → Option (ℕ × Gen32) → Option (ℕ × Gen32) → ℕ → Type 0
+IsLinkAt a p prev next value = chain.IsLinkAt (entry_at (values_of a)) (shown a) p prev next value
+
+-- the new link has its pointer; an arena that is full may have to grow beyond its maximum, and else memory may be refused
 pub data Adds (old : Links) (v : ℕ) (text : List ℕ) (new : Links) : Type 0 where
   added : text ≡ codes "at " ++ pointer_text (next_index old, old.counter) → new ≡ with_capacity_of (insert_lone old v) new → Adds old v text new
-  refused : entry_count old ≡ old.capacity → text ≡ codes "refused memory" → new ≡ old → Adds old v text new
+  limited : entry_count old ≡ old.capacity → IsBeyond old.maximum (entry_count old + 1) → text ≡ codes "refused limit" → new ≡ old → Adds old v text new
+  refused : entry_count old ≡ old.capacity → (IsBeyond old.maximum (entry_count old + 1) → ⊥) → text ≡ codes "refused memory" → new ≡ old → Adds old v text new
 
 pub data Connects (old : Links) (p q : ℕ × Gen32) (text : List ℕ) (new : Links) : Type 0 where
   connected : CanConnect old p q → text ≡ codes "ok" → new ≡ relinked old (joined (shown old) p.0 q.0) → Connects old p q text new
@@ -51,16 +65,28 @@ pub data Connects (old : Links) (p q : ℕ × Gen32) (text : List ℕ) (new : Li
 
 pub data Shows (old : Links) (p : ℕ × Gen32) (text : List ℕ) : Type 0 where
   link : (prev next : Option (ℕ × Gen32)) (value : ℕ) → IsLinkAt old p prev next value → text ≡ show_text prev next value → Shows old p text
-  no_link : (IsValidPtr old p → ⊥) → text ≡ codes "none" → Shows old p text
+  no_link : (IsValidIn old p → ⊥) → text ≡ codes "none" → Shows old p text
 
 pub data Walks (old : Links) (p : ℕ × Gen32) (text : List ℕ) : Type 0 where
   walk : (links : List (ℕ × (Gen32 × LinkSeen ℕ))) → IsValidPtr old p → IsWalkOf old p.0 links → text ≡ walk_text links → Walks old p text
   no_walk : (IsValidPtr old p → ⊥) → text ≡ codes "none" → Walks old p text
 
+-- what follows an answer where the counter has overflowed
+abbrev pub overflow_text : Bool → List ℕ
+overflow_text false = []
+overflow_text true = codes " overflow"
+
+-- the link is gone, and those that it stood between are joined
+pub data Removes (old : Links) (p : ℕ × Gen32) (text : List ℕ) (new : Links) : Type 0 where
+  removed : (value : ℕ) → entry_at (values_of old) p.0 ≡ Some (p.1, value) → text ≡ codes "value " ++ decimal value ++ overflow_text (is_greatest32 old.counter)
+      → new ≡ remove_link after32 old p.0 → Removes old p text new
+  not_removed : (IsValidIn old p → ⊥) → text ≡ codes "none" → new ≡ old → Removes old p text new
+
 -- what a command answers, and the arena after it
 abbrev pub Gives : Links → Command → List ℕ → Links → Type 0
 Gives old (AddAlone v) text new = Adds old v text new
 Gives old (Connect p q) text new = Connects old (key_of p) (key_of q) text new
+Gives old (Remove p) text new = Removes old (key_of p) text new
 Gives old (Show p) text new = Shows old (key_of p) text × (new ≡ old)
 Gives old (Chain p) text new = Walks old (key_of p) text × (new ≡ old)
 Gives old Len text new = (text ≡ codes "count " ++ decimal (entry_count old)) × (new ≡ old)

@@ -3,7 +3,7 @@ use Rattle.std.specs.Prelude.{ℕ, nat_lt, if◌then◌else◌, List, [], ◌∷
 use Rattle.std.specs.Option.{option_map}
 use Rattle.arena_ptr.specs.declared.tool_ptr.ToolPtr.{ToolPtr}
 use Rattle.chain_tool.specs.declared.command.Command.{Command}
-use Rattle.chain_tool.specs.declared.command.Command.TheVariants.{AddAlone, Connect, Show, Chain, Len}
+use Rattle.chain_tool.specs.declared.command.Command.TheVariants.{AddAlone, Connect, Remove, Show, Chain, Len}
 use Rattle.chain_tool.specs.declared.command.Line.{Line}
 use Rattle.chain_tool.specs.declared.command.Line.TheVariants as lines
 use Rattle.chain_tool.specs.Words.{words_of, number_of, pointer_of, without_return}
@@ -48,10 +48,11 @@ abbrev pub command_of : List ℕ → List (List ℕ) → Option Command
 command_of name arguments =
     if bytes_eq name (codes "add") then add_of arguments
     else (if bytes_eq name (codes "connect") then connect_of arguments
+    else (if bytes_eq name (codes "remove") then option_map Remove (one_pointer arguments)
     else (if bytes_eq name (codes "show") then option_map Show (one_pointer arguments)
     else (if bytes_eq name (codes "chain") then option_map Chain (one_pointer arguments)
     else (if bytes_eq name (codes "len") then no_arguments arguments (Some Len)
-    else None))))
+    else None)))))
 
 abbrev pub line_with : Option Command → Line
 line_with None = lines.Bad

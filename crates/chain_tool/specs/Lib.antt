@@ -1,11 +1,5 @@
 pub mod Answers
-pub mod Arena
-pub mod ChainArena
 pub mod Commands
-pub mod Links
 pub mod Progress
-pub mod Slots
-pub mod Slow
 pub mod Transcripts
-pub mod Walkers
 pub mod Words

@@ -2,18 +2,19 @@
 ghost use Rattle.std.specs.Prelude.{◌≡◌, ℕ, List, ◌⊎◌, OnOk, OnErr, string_bytes};
 ghost use Rattle.arena_ptr.specs.ToolPtr.{key_of};
 ghost use Rattle.chain_tool.specs.Commands.{line_of};
-ghost use Rattle.chain_tool.specs.Answers.{Adds, Connects, Shows, Walks, Gives, AnswersLine};
+ghost use Rattle.chain_tool.specs.Answers.{Adds, Connects, Removes, Shows, Walks, Gives, AnswersLine};
 
-use crate::chain_arena::{ChainArena, LinkInsertKind};
 use crate::command::{Command, Line, parse};
-use crate::text::{push_link, push_pointer, push_walk};
-use arena_ptr::ToolPtr;
+use crate::text::{push_link, push_pointer, push_value, push_walk};
+use arena_base::{ArenaSlot, ArenaTrait};
+use arena_ptr::{ChainInsertionError, InvalidationResult, SlotStack, ToolPtr};
+use chain_arena::{ChainArena, ChainArenaTrait, LinkInsertKind, LinkNoGen};
 use std::alloc::AllocError;
 
 /// Carries out a line, and makes its answer in `text`. An `Err` is memory for the answer: the line may be carried out
 /// then, or not.
-pub fn answer(
-    arena: &mut ChainArena<ToolPtr, u32>,
+pub fn answer<S: SlotStack<Item = ArenaSlot<ToolPtr, LinkNoGen<ToolPtr, u32>>>>(
+    arena: &mut ChainArena<ToolPtr, u32, S>,
     line: &[u8],
     text: &mut String,
 ) -> Result<(), AllocError>
@@ -32,8 +33,8 @@ pub fn answer(
 }
 
 /// Carries out a command, and makes its answer in `text`.
-fn carry_out(
-    arena: &mut ChainArena<ToolPtr, u32>,
+fn carry_out<S: SlotStack<Item = ArenaSlot<ToolPtr, LinkNoGen<ToolPtr, u32>>>>(
+    arena: &mut ChainArena<ToolPtr, u32, S>,
     command: Command,
     text: &mut String,
 ) -> Result<(), AllocError>
@@ -43,6 +44,7 @@ fn carry_out(
     match command {
         Command::AddAlone(v) => add_alone(arena, v, text),
         Command::Connect(p, q) => connect(arena, p, q, text),
+        Command::Remove(p) => remove(arena, p, text),
         Command::Show(p) => show(arena, p, text),
         Command::Chain(p) => chain(arena, p, text),
         Command::Len => {
@@ -53,8 +55,8 @@ fn carry_out(
 }
 
 /// The answer to `add alone V`.
-fn add_alone(
-    arena: &mut ChainArena<ToolPtr, u32>,
+fn add_alone<S: SlotStack<Item = ArenaSlot<ToolPtr, LinkNoGen<ToolPtr, u32>>>>(
+    arena: &mut ChainArena<ToolPtr, u32, S>,
     v: u32,
     text: &mut String,
 ) -> Result<(), AllocError>
@@ -67,13 +69,14 @@ fn add_alone(
             text.push_str("at ")?;
             push_pointer(text, p)
         }
+        Err(ChainInsertionError::BeyondMaxCapacity) => text.push_str("refused limit"),
         Err(_) => text.push_str("refused memory"),
     }
 }
 
 /// The answer to `connect P Q`.
-fn connect(
-    arena: &mut ChainArena<ToolPtr, u32>,
+fn connect<S: SlotStack<Item = ArenaSlot<ToolPtr, LinkNoGen<ToolPtr, u32>>>>(
+    arena: &mut ChainArena<ToolPtr, u32, S>,
     p: ToolPtr,
     q: ToolPtr,
     text: &mut String,
@@ -88,8 +91,21 @@ fn connect(
     }
 }
 
+/// The answer to `remove P`.
+fn remove<S: SlotStack<Item = ArenaSlot<ToolPtr, LinkNoGen<ToolPtr, u32>>>>(arena: &mut ChainArena<ToolPtr, u32, S>, p: ToolPtr, text: &mut String) -> Result<(), AllocError>
+    ensures ok { OnOk result (Removes arena.old (key_of p) (string_bytes text.new) arena.new) }
+    ensures err { OnErr result ((words : List ℕ) × Removes arena.old (key_of p) words arena.new) }
+{
+    text.clear();
+    match arena.remove_link_no_gen(p) {
+        InvalidationResult::Success(link) => push_value(text, link.t, false),
+        InvalidationResult::GenerationOverflow(link) => push_value(text, link.t, true),
+        InvalidationResult::InvalidPtr => text.push_str("none"),
+    }
+}
+
 /// The answer to `show P`.
-fn show(arena: &ChainArena<ToolPtr, u32>, p: ToolPtr, text: &mut String) -> Result<(), AllocError>
+fn show<S: SlotStack<Item = ArenaSlot<ToolPtr, LinkNoGen<ToolPtr, u32>>>>(arena: &ChainArena<ToolPtr, u32, S>, p: ToolPtr, text: &mut String) -> Result<(), AllocError>
     ensures { OnOk result (Shows arena.now (key_of p) (string_bytes text.new)) }
 {
     text.clear();
@@ -100,7 +116,7 @@ fn show(arena: &ChainArena<ToolPtr, u32>, p: ToolPtr, text: &mut String) -> Resu
 }
 
 /// The answer to `chain P`.
-fn chain(arena: &ChainArena<ToolPtr, u32>, p: ToolPtr, text: &mut String) -> Result<(), AllocError>
+fn chain<S: SlotStack<Item = ArenaSlot<ToolPtr, LinkNoGen<ToolPtr, u32>>>>(arena: &ChainArena<ToolPtr, u32, S>, p: ToolPtr, text: &mut String) -> Result<(), AllocError>
     ensures { OnOk result (Walks arena.now (key_of p) (string_bytes text.new)) }
 {
     text.clear();

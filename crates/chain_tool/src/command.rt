@@ -13,6 +13,8 @@ pub enum Command {
     AddAlone(u32),
     /// `connect P Q`: the second link follows the first.
     Connect(ToolPtr, ToolPtr),
+    /// `remove P`: the link goes, and its neighbours are joined.
+    Remove(ToolPtr),
     /// `show P`: the link and its neighbours.
     Show(ToolPtr),
     /// `chain P`: the walk from the link.
@@ -56,6 +58,8 @@ fn named(name: &[u8], arguments: &[u8]) -> Option<Command>
         add(arguments)
     } else if is(name, "connect") {
         connect(arguments)
+    } else if is(name, "remove") {
+        Some(Command::Remove(one_pointer(arguments)?))
     } else if is(name, "show") {
         Some(Command::Show(one_pointer(arguments)?))
     } else if is(name, "chain") {

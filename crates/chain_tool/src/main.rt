@@ -2,12 +2,8 @@
 #![tactic(auto)]
 
 mod answer;
-mod arena_base;
-mod chain_arena;
 mod command;
 mod run;
-#[cfg(test)]
-mod slow;
 #[cfg(test)]
 mod tests;
 mod text;

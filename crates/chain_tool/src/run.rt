@@ -6,8 +6,9 @@ ghost use Rattle.chain_tool.specs.Progress.{AnswersOne, Progress, Comes};
 ghost use Rattle.chain_tool.specs.Transcripts.{IsNew, Ends};
 
 use crate::answer::answer;
-use crate::chain_arena::ChainArena;
-use arena_ptr::ToolPtr;
+use arena_base::{ArenaSlot, ArenaTrait};
+use arena_ptr::{SlotStack, ToolPtr};
+use chain_arena::{ChainArena, LinkNoGen};
 use std::alloc::Global;
 use std::io::{ErrorKind, Read, Write};
 
@@ -48,8 +49,8 @@ fn put<W: Write>(writer: &mut W, text: &[u8]) -> Result<(), ToolError>
 }
 
 /// Carries out a line, and gives its answer to the writer.
-fn reply<W: Write>(
-    arena: &mut ChainArena<ToolPtr, u32>,
+fn reply<W: Write, S: SlotStack<Item = ArenaSlot<ToolPtr, LinkNoGen<ToolPtr, u32>>>>(
+    arena: &mut ChainArena<ToolPtr, u32, S>,
     line: &[u8],
     text: &mut String,
     writer: &mut W,
@@ -77,8 +78,8 @@ fn keep(line: &mut Vec<u8>, byte: u8) -> Result<(), ToolError>
 }
 
 /// Answers the lines that a piece of the input ends, and keeps what it has of the next.
-fn feed<W: Write>(
-    arena: &mut ChainArena<ToolPtr, u32>,
+fn feed<W: Write, S: SlotStack<Item = ArenaSlot<ToolPtr, LinkNoGen<ToolPtr, u32>>>>(
+    arena: &mut ChainArena<ToolPtr, u32, S>,
     piece: &[u8],
     line: &mut Vec<u8>,
     text: &mut String,
@@ -125,8 +126,8 @@ fn read_piece<R: Read>(reader: &mut R, piece: &mut [u8]) -> Result<usize, ToolEr
 }
 
 /// Answers the last line, which no line feed ended.
-fn finish<W: Write>(
-    arena: &mut ChainArena<ToolPtr, u32>,
+fn finish<W: Write, S: SlotStack<Item = ArenaSlot<ToolPtr, LinkNoGen<ToolPtr, u32>>>>(
+    arena: &mut ChainArena<ToolPtr, u32, S>,
     line: &[u8],
     text: &mut String,
     writer: &mut W,
@@ -149,9 +150,9 @@ fn room(alloc: Global) -> Result<Vec<u8>, ToolError>
 }
 
 /// Carries out the lines of a reader, piece by piece.
-fn run_pieces<R: Read, W: Write>(
+fn run_pieces<R: Read, W: Write, S: SlotStack<Item = ArenaSlot<ToolPtr, LinkNoGen<ToolPtr, u32>>>>(
     alloc: Global,
-    arena: &mut ChainArena<ToolPtr, u32>,
+    arena: &mut ChainArena<ToolPtr, u32, S>,
     reader: &mut R,
     writer: &mut W,
     piece: &mut [u8],
@@ -174,9 +175,9 @@ fn run_pieces<R: Read, W: Write>(
 
 /// Carries out the lines of a reader on an arena, and gives their answers to a writer, which is flushed before each
 /// read.
-pub fn run_on<R: Read, W: Write>(
+pub fn run_on<R: Read, W: Write, S: SlotStack<Item = ArenaSlot<ToolPtr, LinkNoGen<ToolPtr, u32>>>>(
     alloc: Global,
-    arena: &mut ChainArena<ToolPtr, u32>,
+    arena: &mut ChainArena<ToolPtr, u32, S>,
     reader: &mut R,
     writer: &mut W,
 ) -> Result<(), ToolError>
@@ -195,6 +196,6 @@ pub fn run<R: Read, W: Write>(
     ensures { (old : Links) × (new : Links) × IsNew old
         × Ends result old new (R.remaining reader.old) (R.remaining reader.new) (W.contents writer.old) (W.contents writer.new) }
 {
-    let mut arena = ChainArena::new(alloc);
+    let mut arena: ChainArena<ToolPtr, u32> = ChainArena::new(alloc);
     run_on(alloc, &mut arena, reader, writer)
 }

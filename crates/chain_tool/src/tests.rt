@@ -5,7 +5,8 @@ ghost use Rattle.chain_tool.specs.declared.command.Line.TheVariants.{Blank, Bad,
 ghost use Rattle.chain_tool.specs.Words.{lines_of, whole_lines, without_return, words_of, number_of, pointer_of};
 ghost use Rattle.chain_tool.specs.Commands.{line_of};
 
-use crate::chain_arena::{ChainArena, LinkInsertKind};
+use arena_base::ArenaTrait;
+use chain_arena::{ChainArena, ChainArenaTrait, LinkInsertKind};
 use crate::run::{ToolError, run, run_on};
 use arena_ptr::ToolPtr;
 use std::alloc::Global;

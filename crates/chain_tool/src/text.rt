@@ -1,10 +1,11 @@
 //! The texts of answers.
-ghost use Rattle.std.specs.Prelude.{◌≡◌, ◌++◌, OnOk, string_bytes, option_map};
+ghost use Rattle.std.specs.Prelude.{◌≡◌, ◌++◌, OnOk, string_bytes, option_map, codes, decimal};
 ghost use Rattle.arena_ptr.specs.ToolPtr.{key_of};
-ghost use Rattle.chain_tool.specs.Answers.{pointer_text, neighbor_text, show_text, passed_text, walk_text};
+ghost use Rattle.chain_tool.specs.Answers.{pointer_text, overflow_text, neighbor_text, show_text, passed_text, walk_text};
 
-use crate::chain_arena::ChainIter;
-use arena_ptr::{Ptr, ToolPtr};
+use arena_base::ArenaSlot;
+use arena_ptr::{Ptr, SlotStack, ToolPtr};
+use chain_arena::{ChainIter, LinkNoGen};
 use std::alloc::AllocError;
 
 /// Adds a pointer to a text.
@@ -41,6 +42,14 @@ pub fn push_link(
     write!(text, " value {value}")
 }
 
+/// Adds the value of a link that is gone to a text, and whether the counter has overflowed.
+pub fn push_value(text: &mut String, value: u32, overflow: bool) -> Result<(), AllocError>
+    ensures { OnOk result (string_bytes text.new ≡ string_bytes text.old ++ (codes "value " ++ decimal value ++ overflow_text overflow)) }
+{
+    write!(text, "value {value}")?;
+    text.push_str(if overflow { " overflow" } else { "" })
+}
+
 /// Adds a link of a walk to a text: its pointer and its value.
 fn push_passed(text: &mut String, p: ToolPtr, value: u32) -> Result<(), AllocError>
     ensures { OnOk result (string_bytes text.new ≡ string_bytes text.old ++ passed_text (key_of p) value) }
@@ -50,7 +59,7 @@ fn push_passed(text: &mut String, p: ToolPtr, value: u32) -> Result<(), AllocErr
 }
 
 /// Adds the links of a walk to a text, with a space between.
-pub fn push_walk(text: &mut String, links: ChainIter<'_, ToolPtr, u32>) -> Result<(), AllocError>
+pub fn push_walk<S: SlotStack<Item = ArenaSlot<ToolPtr, LinkNoGen<ToolPtr, u32>>>>(text: &mut String, links: ChainIter<'_, ToolPtr, u32, S>) -> Result<(), AllocError>
     ensures { OnOk result (string_bytes text.new ≡ string_bytes text.old ++ walk_text links.entry) }
 {
     let mut is_first = true;

@@ -14,7 +14,7 @@ walks_ok old p text (Ok x) walks = (walks, refl)
 walks_ok old p text (Err e) walks = tt
 
 pub returns-in-Show-clause-ok : goal.returns-in-Show-clause-ok
-returns-in-Show-clause-ok c = rw c.in-Show.is (shows_ok _ c.in-Show.p _ c.show.result c.show.ensures)
+returns-in-Show-clause-ok g c = rw c.in-Show.is (shows_ok _ c.in-Show.p _ c.show.result c.show.ensures)
 
 pub returns-in-Chain-clause-ok : goal.returns-in-Chain-clause-ok
-returns-in-Chain-clause-ok c = rw c.in-Chain.is (walks_ok _ c.in-Chain.p _ c.chain.result c.chain.ensures)
+returns-in-Chain-clause-ok g c = rw c.in-Chain.is (walks_ok _ c.in-Chain.p _ c.chain.result c.chain.ensures)

@@ -1,7 +1,7 @@
 use Rattle.std.proofs.Common.{◌≡◌, ◌∙◌, ◌++◌, ℕ, List, [], Result, Ok, Err, OnOk, ap, refl}
 use Rattle.arena_ptr.specs.declared.generation.gen32.Gen32.{Gen32}
-use Rattle.chain_tool.specs.Arena.{IsValidPtr}
-use Rattle.chain_tool.specs.ChainArena.{LinkSeen, IsWalkOf}
+use Rattle.arena_base.specs.Arena.{IsValidPtr}
+use Rattle.chain_arena.specs.ChainArena.{LinkSeen, IsWalkOf}
 use Rattle.chain_tool.specs.Answers.{Links, Walks, walk, walk_text}
 use Rattle.chain_tool.proofs.answer.chain.Goals as goal
 
@@ -11,4 +11,4 @@ walked_ok a p links before text (Ok x) valid at none written = walk links valid 
 walked_ok a p links before text (Err e) valid at none written = tt
 
 pub returns-in-Some : goal.returns-in-Some
-returns-in-Some c = walked_ok _ _ _ _ _ c.push_walk.result (c.in-Some.ensures.some.0 refl) c.in-Some.ensures.walk c.clear.ensures.bytes c.push_walk.ensures
+returns-in-Some g c = walked_ok _ _ _ _ _ c.push_walk.result (c.in-Some.ensures.some.0 refl) c.in-Some.ensures.walk c.clear.ensures.bytes c.push_walk.ensures

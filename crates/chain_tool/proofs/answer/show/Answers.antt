@@ -3,8 +3,7 @@ use Rattle.std.specs.Option.{option_map}
 use Rattle.arena_ptr.specs.ToolPtr.{key_of}
 use Rattle.arena_ptr.specs.declared.generation.gen32.Gen32.{Gen32}
 use Rattle.arena_ptr.specs.declared.tool_ptr.ToolPtr.{ToolPtr}
-use Rattle.chain_tool.specs.ChainArena.{IsLinkAt}
-use Rattle.chain_tool.specs.Answers.{Links, Shows, link, show_text}
+use Rattle.chain_tool.specs.Answers.{Links, IsLinkAt, Shows, link, show_text}
 use Rattle.chain_tool.proofs.answer.show.Goals as goal
 
 shown_ok : {T E : Type 0} (a : Links) (p : ℕ × Gen32) (prev next prev_got next_got : Option ToolPtr) (value : ℕ) (before text : List ℕ) (r : Result T E)
@@ -18,5 +17,5 @@ shown_ok a p prev next prev_got next_got value before text (Ok x) at same_prev s
 shown_ok a p prev next prev_got next_got value before text (Err e) at same_prev same_next none written = tt
 
 pub returns-in-Some : goal.returns-in-Some
-returns-in-Some c =
+returns-in-Some g c =
     shown_ok _ _ _ _ _ _ _ _ _ c.push_link.result c.in-Some.ensures.link c.prev.ensures c.next.ensures c.clear.ensures.bytes c.push_link.ensures
