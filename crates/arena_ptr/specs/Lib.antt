@@ -3,3 +3,7 @@ pub mod Indexes
 pub mod Generations
 pub mod ToolPtr
 pub mod Invalidation
+pub mod Text
+pub mod SlotStack
+pub mod Slots
+pub mod LimitedStack

@@ -1,8 +1,9 @@
 -- A tool pointer is its index, as a number, and its generation.
-use Rattle.std.specs.Prelude.{◌≡◌, ℕ, ◌==◌, ◌&&◌, ◌↔◌, Bool, true}
+use Rattle.std.specs.Prelude.{◌≡◌, ℕ, ◌==◌, ◌&&◌, ◌↔◌, Bool, true, List, ◌++◌, codes}
 use Rattle.std.proofs.Common.{ap, rules}
 use Rattle.arena_ptr.specs.Indexes.{number_of_inx32, same_inx32, eq_is_same_inx32}
-use Rattle.arena_ptr.specs.Generations.{eq_is_same_gen32}
+use Rattle.arena_ptr.specs.Generations.{number_of_gen32, eq_is_same_gen32}
+use Rattle.arena_ptr.specs.Text.{hexadecimal, in_parentheses}
 use Rattle.arena_ptr.specs.declared.generation.Gen32.{Gen32}
 use Rattle.arena_ptr.specs.declared.tool_ptr.ToolPtr.{ToolPtr}
 
@@ -32,3 +33,7 @@ eq_is_same p q =
 
     both_true : (a b : Bool) → a ≡ true → b ≡ true → (a && b) ≡ true
     both_true a b s t = search rules
+
+-- as `P0[1](2)`
+abbrev pub text_of : ToolPtr → List ℕ
+text_of p = codes "P0" ++ codes "[" ++ hexadecimal (number_of_inx32 p.inx) ++ codes "]" ++ in_parentheses (number_of_gen32 p.generation)

@@ -4,17 +4,26 @@
 
 mod errors;
 mod generation;
+mod heap_stack;
 mod index;
 mod invalidation;
+mod limited_stack;
 mod ptr;
+mod slot_stack;
+mod slots;
+#[cfg(test)]
+mod tests;
 mod tool_ptr;
 
 pub use errors::{
     AllocError, ChainInsertionError, MaxCapacityReductionError, NotWithinCapacityError,
     ReallocationError,
 };
-pub use generation::Gen32;
-pub use index::Inx32;
+pub use generation::{Gen8, Gen32, Gen64};
+pub use heap_stack::HeapStack;
+pub use index::{Inx8, Inx32, Inx64};
 pub use invalidation::{InvalidationOption, InvalidationResult};
+pub use limited_stack::LimitedStack;
 pub use ptr::{Ptr, PtrGen, PtrInx};
+pub use slot_stack::{LimitStack, SetMaxCapacity, SlotStack};
 pub use tool_ptr::ToolPtr;

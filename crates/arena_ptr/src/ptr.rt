@@ -1,4 +1,6 @@
 ghost use Rattle.std.specs.Prelude.{◌≡◌, ℕ, ◌^◌, ◌<◌, ◌≤◌, ◌↔◌, IsSome, IfSome, Some, Bool, true};
+ghost use Rattle.std.specs.Fmt.{WritesOnOk};
+ghost use Rattle.arena_ptr.specs.Text.{hexadecimal};
 
 use std::fmt;
 use std::fmt::Debug;
@@ -27,7 +29,8 @@ pub trait PtrInx: Copy + Eq + Ord + Hash + Debug {
         ensures { result ≡ Some (number self) };
 
     /// Writes the number in lower-case hexadecimal, without a prefix, whatever the caller's format.
-    fn fmt_hex<W: fmt::Write>(self, f: &mut fmt::Formatter<W>) -> fmt::Result;
+    fn fmt_hex<W: fmt::Write>(self, f: &mut fmt::Formatter<W>) -> fmt::Result
+        ensures { WritesOnOk W.write_str_gives f.old result (hexadecimal (number self)) f.new };
 
     ghost greatest_fits: { greatest < 2 ^ 64 };
 

@@ -1,4 +1,4 @@
-ghost use Rattle.std.specs.Prelude.{◌≡◌};
+ghost use Rattle.std.specs.Prelude.{◌≡◌, codes};
 
 use crate::generation::Gen32;
 use crate::index::Inx32;
@@ -29,7 +29,9 @@ impl Ptr for ToolPtr {
 
     ghost eq_is_same = { eq_is_same };
 
-    fn name() -> &'static str {
+    fn name() -> &'static str
+        ensures { result.now ≡ codes "P0" }
+    {
         "P0"
     }
 
@@ -58,6 +60,11 @@ impl Ptr for ToolPtr {
 }
 
 impl fmt::Debug for ToolPtr {
+    ghost use Rattle.std.specs.Prelude.{Some};
+    ghost use Rattle.arena_ptr.specs.ToolPtr.{text_of};
+
+    ghost debug_output = { λ p. Some (text_of p) };
+
     /// The name, the index in brackets and the generation in parentheses, in hexadecimal, as `P0[1](2)`.
     fn fmt<W: fmt::Write>(&self, f: &mut fmt::Formatter<W>) -> fmt::Result {
         f.write_str(Self::name())?;

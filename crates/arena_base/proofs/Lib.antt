@@ -1,0 +1,4 @@
+mod Reading
+mod Soundness
+mod Viewing
+mod Walks

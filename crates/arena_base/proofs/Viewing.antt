@@ -1,0 +1,54 @@
+-- What each step on slots makes of the arena that contracts see.
+use Rattle.std.proofs.Common.{◌≡◌, ℕ, suc, ◌+◌, List, [], ◌∷◌, ◌++◌, length, map, Option, None, Some, refl, ap, sym, ◌∙◌}
+use Rattle.std.specs.Prelude.{slice_get, slice_set}
+use Rattle.arena_base.specs.Arena.{Arena, slot_at, with_slot, insert_next, remove_at, with_value, renewed_at}
+use Rattle.std.specs.Option.{option_map}
+use Rattle.arena_base.specs.Slots.{entry_of, allocated_slot, free_slot, arena_of}
+use Rattle.arena_base.specs.declared.slot.ArenaSlot.{ArenaSlot}
+use Rattle.arena_base.proofs.Reading.{map-slice_set, map-push, slot_at-map, with_slot-position}
+
+module _ {P T Inx Gen : Type 0} (slots : List (ArenaSlot P T Inx Gen)) (ns : List ℕ) (counter : Gen) (greatest capacity : ℕ) (maximum : Option ℕ) (placed touched : ℕ) where
+  abbrev now : Arena Gen T
+  now = arena_of slots ns counter greatest capacity maximum placed touched
+
+  -- the slots that are seen after a write of a slot
+  pub seen_slots : (k n : ℕ) (slot : ArenaSlot P T Inx Gen) → k + 1 ≡ n → map entry_of (slice_set slots k slot) ≡ with_slot (map entry_of slots) n (entry_of slot)
+  seen_slots k n slot at = map-slice_set slots k slot ∙ sym (with_slot-position (map entry_of slots) k n (entry_of slot) at)
+
+  pub seen_filled_next : (t : T) → ns ≡ []
+      → arena_of (slots ++ allocated_slot counter t ∷ []) [] counter greatest capacity maximum (placed + 1) touched ≡ insert_next now t
+  seen_filled_next t none =
+      ap (λ (es : List (Option (Gen × T))). let a : Arena Gen T = record now { slots = es; freed = []; placed = placed + 1 } in a) (map-push slots (allocated_slot counter t))
+      ∙ ap (λ ms. insert_next (record now { freed = ms }) t) (sym none)
+
+  pub seen_filled_freed : (k n : ℕ) (rest : List ℕ) (t : T) → k + 1 ≡ n → ns ≡ n ∷ rest
+      → arena_of (slice_set slots k (allocated_slot counter t)) rest counter greatest capacity maximum (placed + 1) touched ≡ insert_next now t
+  seen_filled_freed k n rest t at first =
+      ap (λ (es : List (Option (Gen × T))). let a : Arena Gen T = record now { slots = es; freed = rest; placed = placed + 1 } in a) (seen_slots k n (allocated_slot counter t) at)
+      ∙ ap (λ ms. insert_next (record now { freed = ms }) t) (sym first)
+
+  pub seen_vacated : (following : Gen → Gen) (k n : ℕ) (next : Option Inx) → k + 1 ≡ n
+      → arena_of (slice_set slots k (free_slot next)) (n ∷ ns) (following counter) greatest capacity maximum (placed + 1) touched ≡ remove_at following now n
+  seen_vacated following k n next at =
+      ap (λ (es : List (Option (Gen × T))). let a : Arena Gen T = record now { slots = es; counter = following counter; freed = n ∷ ns; placed = placed + 1 } in a) (seen_slots k n (free_slot next) at)
+
+  -- the entry that is seen at an index
+  entry_seen : (k n : ℕ) (g : Gen) (t : T) → k + 1 ≡ n → slice_get slots k ≡ Some (allocated_slot g t) → slot_at (map entry_of slots) n ≡ Some (g, t)
+  entry_seen k n g t at is = slot_at-map slots k n at ∙ ap (λ (o : Option (ArenaSlot P T Inx Gen)). entry_seen_of o) is
+    where
+      entry_seen_of : Option (ArenaSlot P T Inx Gen) → Option (Gen × T)
+      entry_seen_of None = None
+      entry_seen_of (Some slot) = entry_of slot
+
+  pub seen_written : (k n : ℕ) (g : Gen) (t w : T) → k + 1 ≡ n → slice_get slots k ≡ Some (allocated_slot g t)
+      → arena_of (slice_set slots k (allocated_slot g w)) ns counter greatest capacity maximum placed touched ≡ with_value now n w
+  seen_written k n g t w at is =
+      ap (λ (es : List (Option (Gen × T))). let a : Arena Gen T = record now { slots = es } in a)
+        (seen_slots k n (allocated_slot g w) at ∙ ap (λ (o : Option (Gen × T)). with_slot (map entry_of slots) n (option_map (λ (e : Gen × T). (e.0, w)) o)) (sym (entry_seen k n g t at is)))
+
+  pub seen_renewed : (following : Gen → Gen) (k n : ℕ) (g : Gen) (t : T) → k + 1 ≡ n → slice_get slots k ≡ Some (allocated_slot g t)
+      → arena_of (slice_set slots k (allocated_slot (following counter) t)) ns (following counter) greatest capacity maximum placed touched ≡ renewed_at following now n
+  seen_renewed following k n g t at is =
+      ap (λ (es : List (Option (Gen × T))). let a : Arena Gen T = record now { slots = es; counter = following counter } in a)
+        (seen_slots k n (allocated_slot (following counter) t) at
+        ∙ ap (λ (o : Option (Gen × T)). with_slot (map entry_of slots) n (option_map (λ (e : Gen × T). (following counter, e.1)) o)) (sym (entry_seen k n g t at is)))

@@ -1,0 +1,110 @@
+-- The entries of an arena by rising index, each under its key, the pair of its index and its generation; and what code
+-- that is generic over arenas sees of one.
+use Rattle.std.specs.Prelude.{◌≡◌, ℕ, suc, ◌+◌, ◌≤◌, ◌==◌, ⊤, cond, List, [], ◌∷◌, reverse, length, Option, None, Some, IfSome}
+use Rattle.std.specs.Option.{option_map}
+use Rattle.arena_base.specs.Arena.{Arena, counter_after_clear}
+
+-- the number of slots, the freed list, next to be used first, and the totals of placements and touches
+pub record Slots : Type 0 where
+  pub count : ℕ
+  pub freed : List ℕ
+  pub placed : ℕ
+  pub touched : ℕ
+
+-- what generic code sees of an arena: its entries by rising index, its counter where there is one, its slots where they
+-- are told, its capacity and its maximum
+pub record Seen (Gen T : Type 0) : Type 0 where
+  pub entries : List ((ℕ × Gen) × T)
+  pub counter : Option Gen
+  pub slots : Option Slots
+  pub capacity : ℕ
+  pub maximum : Option ℕ
+
+-- a freed slot goes to the front of the freed list, and counts as a placement
+abbrev pub with_freed : ℕ → Slots → Slots
+with_freed i slots = record slots { freed = i ∷ slots.freed; placed = slots.placed + 1 }
+
+-- no slots are left
+abbrev pub without_slots : Slots → Slots
+without_slots slots = record slots { count = 0; freed = [] }
+
+module _ {Gen T : Type 0} where
+  -- the entries of slots, the first of which has index i
+  abbrev pub entries_from : ℕ → List (Option (Gen × T)) → List ((ℕ × Gen) × T)
+  entries_from i [] = []
+  entries_from i (None ∷ slots) = entries_from (suc i) slots
+  entries_from i (Some e ∷ slots) = ((i, e.0), e.1) ∷ entries_from (suc i) slots
+
+  abbrev pub entries : Arena Gen T → List ((ℕ × Gen) × T)
+  entries a = entries_from 1 a.slots
+
+  -- an arena as generic code sees it
+  abbrev pub seen_of : Arena Gen T → Seen Gen T
+  seen_of a = record {
+    entries = entries a;
+    counter = Some a.counter;
+    slots = Some (record { count = length a.slots; freed = a.freed; placed = a.placed; touched = a.touched });
+    capacity = a.capacity;
+    maximum = a.maximum;
+  }
+
+  -- the generation and the value at an index, among entries
+  abbrev pub found : ℕ → List ((ℕ × Gen) × T) → Option (Gen × T)
+  found i [] = None
+  found i (e ∷ es) = cond (e.0.0 == i) (Some (e.0.1, e.1)) (found i es)
+
+  -- the entries but that at an index
+  abbrev pub without : ℕ → List ((ℕ × Gen) × T) → List ((ℕ × Gen) × T)
+  without i [] = []
+  without i (e ∷ es) = cond (e.0.0 == i) es (e ∷ without i es)
+
+  -- the entries, with that at an index replaced
+  abbrev pub replaced : ℕ → (Gen × T → Gen × T) → List ((ℕ × Gen) × T) → List ((ℕ × Gen) × T)
+  replaced i f [] = []
+  replaced i f (e ∷ es) = cond (e.0.0 == i) (((i, (f (e.0.1, e.1)).0), (f (e.0.1, e.1)).1) ∷ es) (e ∷ replaced i f es)
+
+  -- the indexes of the entries rise, and none is below i
+  abbrev pub RisesFrom : ℕ → List ((ℕ × Gen) × T) → Type 0
+  RisesFrom i [] = ⊤
+  RisesFrom i (e ∷ es) = (i ≤ e.0.0) × RisesFrom (suc e.0.0) es
+
+  abbrev pub first_key : List ((ℕ × Gen) × T) → Option (ℕ × Gen)
+  first_key [] = None
+  first_key (e ∷ es) = Some e.0
+
+  abbrev pub last_key : List ((ℕ × Gen) × T) → Option (ℕ × Gen)
+  last_key es = first_key (reverse es)
+
+  -- what is seen after the removal of the entry at an index
+  abbrev pub removed : (Gen → Gen) → Seen Gen T → ℕ → Seen Gen T
+  removed following s i = record s {
+    entries = without i s.entries;
+    counter = option_map following s.counter;
+    slots = option_map (with_freed i) s.slots;
+  }
+
+  -- what is seen after the entry at the index of a key got the key's generation, as the counter did
+  abbrev pub renewed : Seen Gen T → ℕ × Gen → Seen Gen T
+  renewed s p = record s { entries = replaced p.0 (λ e. (p.1, e.1)) s.entries; counter = option_map (λ _. p.1) s.counter }
+
+  -- what is seen after a write of the value at an index
+  abbrev pub written : Seen Gen T → ℕ → T → Seen Gen T
+  written s i t = record s { entries = replaced i (λ e. (e.0, t)) s.entries }
+
+  -- what is seen after a clear, which leaves no slots: the counter stays where there were no entries
+  abbrev pub emptied : (Gen → Gen) → Seen Gen T → Seen Gen T
+  emptied following s = record s {
+    entries = [];
+    counter = option_map (counter_after_clear following (length s.entries)) s.counter;
+    slots = option_map without_slots s.slots;
+  }
+
+  -- the same but for room
+  abbrev pub with_capacity : Seen Gen T → ℕ → Seen Gen T
+  with_capacity s n = record s { capacity = n }
+
+  -- a new arena: no entries, a counter that begins at the first generation, no slots, and nothing counted
+  pub record IsNew (first : Gen) (s : Seen Gen T) : Type 0 where
+    pub entries : s.entries ≡ []
+    pub counter : IfSome s.counter (λ g. g ≡ first)
+    pub slots : IfSome s.slots (λ slots. slots ≡ record { count = 0; freed = []; placed = 0; touched = 0 })

@@ -1,0 +1,4 @@
+pub mod Arena
+pub mod Entries
+pub mod Advancing
+pub mod Slots

@@ -1,0 +1,98 @@
+-- How an arena lies in its slots. No public clause cites this module but by the arena's model.
+use Rattle.std.specs.Prelude.{◌≡◌, ℕ, zero, suc, ◌+◌, ◌≤◌, ⊤, List, [], ◌∷◌, map, min, length, count_by, is_some, slice_get, Option, None, Some}
+use Rattle.arena_base.specs.Arena.{Arena, Has, IsApart}
+use Rattle.arena_base.specs.declared.slot.ArenaSlot.{ArenaSlot}
+use Rattle.arena_base.specs.declared.slot.ArenaSlot.TheVariants.{Allocated, Free}
+
+-- the item at an index: no index is 0
+abbrev pub item_at : {X : Type 0} → List X → ℕ → Option X
+item_at items zero = None
+item_at items (suc k) = slice_get items k
+
+module _ {P T Inx Gen : Type 0} where
+  -- the entry of a slot
+  abbrev pub entry_of : ArenaSlot P T Inx Gen → Option (Gen × T)
+  entry_of (Allocated generation t) = Some (generation, t)
+  entry_of (Free next) = None
+
+  -- the slot with another value, if it has one
+  abbrev pub with_value_in : ArenaSlot P T Inx Gen → T → ArenaSlot P T Inx Gen
+  with_value_in (Allocated generation t) w = Allocated generation w
+  with_value_in (Free next) w = Free next
+
+  -- the slot with another generation, if it has one
+  abbrev pub with_generation_in : ArenaSlot P T Inx Gen → Gen → ArenaSlot P T Inx Gen
+  with_generation_in (Allocated generation t) g = Allocated g t
+  with_generation_in (Free next) g = Free next
+
+  abbrev pub allocated_slot : Gen → T → ArenaSlot P T Inx Gen
+  allocated_slot generation t = Allocated generation t
+
+  abbrev pub free_slot : Option Inx → ArenaSlot P T Inx Gen
+  free_slot next = Free next
+
+  -- the slot without its entry, if it has one
+  abbrev pub freed_slot : ArenaSlot P T Inx Gen → Option Inx → ArenaSlot P T Inx Gen
+  freed_slot (Allocated generation t) next = Free next
+  freed_slot (Free other) next = Free other
+
+  -- the entry of a slot that may be none
+  abbrev pub entry_in : Option (ArenaSlot P T Inx Gen) → Option (Gen × T)
+  entry_in None = None
+  entry_in (Some slot) = entry_of slot
+
+  -- there is a slot, and it is free
+  abbrev pub IsFree : Option (ArenaSlot P T Inx Gen) → Type 0
+  IsFree None = ⊥
+  IsFree (Some (Allocated generation t)) = ⊥
+  IsFree (Some (Free next)) = ⊤
+
+  -- the slots with another generation at a position
+  abbrev pub with_generation_at : List (ArenaSlot P T Inx Gen) → ℕ → Gen → List (ArenaSlot P T Inx Gen)
+  with_generation_at [] k g = []
+  with_generation_at (slot ∷ slots) zero g = with_generation_in slot g ∷ slots
+  with_generation_at (slot ∷ slots) (suc k) g = slot ∷ with_generation_at slots k g
+
+  -- the free slot that a slot names as the next
+  abbrev pub next_of : Option (ArenaSlot P T Inx Gen) → Option Inx
+  next_of None = None
+  next_of (Some (Allocated generation t)) = None
+  next_of (Some (Free next)) = next
+
+module _ {P T Inx Gen : Type 0} (number : Inx → ℕ) (slots : List (ArenaSlot P T Inx Gen)) where
+  -- the freed indexes from a first one on, at most so many
+  abbrev pub freed_from : ℕ → Option Inx → List ℕ
+  freed_from zero head = []
+  freed_from (suc most) None = []
+  freed_from (suc most) (Some i) = number i ∷ freed_from most (next_of (item_at slots (number i)))
+
+  -- these are the freed indexes from a first one on: each names the next
+  abbrev pub IsFreeList : List ℕ → Option Inx → Type 0
+  IsFreeList [] head = head ≡ None
+  IsFreeList (n ∷ ns) head = (i : Inx) × (next : Option Inx) × (head ≡ Some i) × (number i ≡ n) × (item_at slots n ≡ Some (Free next)) × IsFreeList ns next
+
+  -- `len` counts the entries, and the freed list from `head` holds every free slot once
+  pub record IsSound (greatest len : ℕ) (head : Option Inx) (freed : List ℕ) : Type 0 where
+    pub linked : IsFreeList freed head
+    pub apart : IsApart freed
+    pub covers : (n : ℕ) (next : Option Inx) → item_at slots n ≡ Some (Free next) → Has n freed
+    pub counted : len ≡ count_by is_some (map entry_of slots)
+    pub total : len + length freed ≡ length slots
+    pub fits : length slots ≤ greatest
+
+  -- the freed list of all slots
+  abbrev pub freed_of : Option Inx → List ℕ
+  freed_of head = freed_from (length slots) head
+
+-- an arena of slots, with its freed list
+abbrev pub arena_of : {P T Inx Gen : Type 0} → List (ArenaSlot P T Inx Gen) → List ℕ → Gen → ℕ → ℕ → Option ℕ → ℕ → ℕ → Arena Gen T
+arena_of slots freed counter greatest capacity maximum placed touched = record {
+  slots = map entry_of slots;
+  counter = counter;
+  freed = freed;
+  capacity = min capacity greatest;
+  stack_capacity = capacity;
+  maximum = maximum;
+  placed = placed;
+  touched = touched;
+}

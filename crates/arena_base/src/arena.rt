@@ -1,0 +1,214 @@
+// The generational arena and its own calls.
+ghost use Rattle.std.specs.Prelude.{◌≡◌, [], min, ◌<◌, ◌≤◌, ◌+◌, ◌↔◌, IsTrue, IsSome, IfSome, IsErr, IfOk, IsOk, OnOk, OnErr, Some, None, Ok, Err, length};
+ghost use Rattle.std.specs.Option.{option_map};
+ghost use Rattle.arena_ptr.specs.SlotStack.{IsBeyond};
+ghost use Rattle.arena_ptr.specs.Invalidation.{invalidation_option};
+ghost use Rattle.arena_base.specs.Arena.{entry_at, entry_count, next_index, insert_next, with_counter, with_capacity_of, with_maximum, new_arena, IsListed};
+
+use crate::slot::{ArenaSlot, fill, position_of};
+use crate::tally::Tally;
+use arena_ptr::{
+    HeapStack, InvalidationOption, LimitStack, MaxCapacityReductionError, NotWithinCapacityError,
+    Ptr, PtrGen, PtrInx, ReallocationError, SetMaxCapacity, SlotStack,
+};
+use std::alloc::Global;
+use std::marker::Model;
+
+/// An arena: entries under indexes from 1 on, each with a generation, in a stack of slots.
+///
+/// A freed index is used again, the last freed first; else the next index is the number of slots plus one. The one
+/// counter of generations begins at two; an insertion gives it to its entry, and a removal increments it. Insertion,
+/// look-up and removal take constant time, but where an insertion grows.
+///
+/// Carries `Arena` of `triple_arena`.
+#[derive(Drop)]
+pub struct Arena<P: Ptr, T: Drop, S: SlotStack<Item = ArenaSlot<P, T>> = HeapStack<ArenaSlot<P, T>>>
+{
+    pub(crate) slots: S,
+    // The number of entries.
+    pub(crate) len: usize,
+    // The index to be used next, where a slot is free.
+    pub(crate) first_free: Option<P::Inx>,
+    pub(crate) counter: P::Gen,
+    pub(crate) placed: Tally,
+    pub(crate) touched: Tally,
+}
+
+impl<P: Ptr, T: Drop, S: SlotStack<Item = ArenaSlot<P, T>>> Model for Arena<P, T, S> {
+    ghost use Rattle.arena_base.specs.Arena.{Arena as State};
+
+    ghost Value = { State P.Gen T };
+
+    ghost use Rattle.arena_base.specs.Slots.{arena_of, freed_of, IsSound};
+
+    ghost view = { λ a. arena_of (S.items a.slots) (freed_of P.Inx.number (S.items a.slots) a.first_free) a.counter P.Inx.greatest (S.capacity a.slots) (S.maximum a.slots) a.placed.count a.touched.count };
+
+    ghost invariant = { λ a. IsSound P.Inx.number (S.items a.slots) P.Inx.greatest a.len a.first_free (freed_of P.Inx.number (S.items a.slots) a.first_free) };
+}
+
+impl<P: Ptr, T: Drop, S: SlotStack<Item = ArenaSlot<P, T>>> Arena<P, T, S> {
+    // An arena over an empty stack.
+    pub(crate) fn over(slots: S) -> Self
+        requires { S.items slots ≡ [] }
+        ensures { result ≡ record (new_arena P.Gen.first (S.maximum slots)) { capacity = min (S.capacity slots) P.Inx.greatest; stack_capacity = S.capacity slots } }
+    {
+        Arena {
+            slots,
+            len: 0,
+            first_free: None,
+            counter: P::Gen::two(),
+            placed: Tally::zero(),
+            touched: Tally::zero(),
+        }
+    }
+
+    /// The counter: the generation of the next entry.
+    pub fn generation(&self) -> P::Gen
+        ensures { result ≡ self.now.counter }
+    {
+        self.counter
+    }
+
+    /// Sets the counter.
+    pub fn set_generation(&mut self, generation: P::Gen)
+        ensures { self.new ≡ with_counter self.old generation }
+    {
+        self.counter = generation;
+    }
+
+    /// Increments the counter. `GenerationOverflow`: it was at its greatest, and is two now.
+    pub fn inc_generation(&mut self) -> InvalidationOption<()>
+        ensures overflow { result ≡ invalidation_option (P.Gen.wraps self.old.counter) tt }
+        ensures after { self.new ≡ with_counter self.old (P.Gen.following self.old.counter) }
+    {
+        let (next, overflow) = self.counter.generational_inc();
+        self.counter = next;
+        invalidated(overflow, ())
+    }
+
+    /// The slots.
+    pub fn backing(&self) -> &S
+    {
+        &self.slots
+    }
+
+    /// Adds an entry at the next index, with the counter as its generation, and answers its pointer. It takes no memory.
+    ///
+    /// `NotWithinCapacityError`: there are as many entries as the capacity. Then nothing has changed, and the value is
+    /// dropped.
+    pub fn insert_within_capacity(&mut self, t: T) -> Result<P, NotWithinCapacityError>
+        ensures refused { IsErr result ↔ (entry_count self.old ≡ self.old.capacity) }
+        ensures ptr { IfOk result (λ p. P.key p ≡ (next_index self.old, self.old.counter)) }
+        ensures ok { OnOk result (self.new ≡ insert_next self.old t) }
+        ensures err { OnErr result (self.new ≡ self.old) }
+    {
+        if self.is_full() {
+            return Err(NotWithinCapacityError);
+        }
+        Ok(self.insert_here(t))
+    }
+
+    /// Adds an entry at the next index, with the counter as its generation, and answers its pointer. An arena with as
+    /// many entries as its capacity grows first, in proportion to its slots.
+    ///
+    /// `BeyondMaxCapacity`: the growth needed goes beyond the maximum, which is tested first. `AllocError`: it goes
+    /// beyond the greatest index, or memory was refused. After either nothing has changed, and the value is dropped.
+    pub fn insert_reallocating(&mut self, t: T) -> Result<P, ReallocationError>
+        ensures ptr { IfOk result (λ p. P.key p ≡ (next_index self.old, self.old.counter)) }
+        ensures ok { OnOk result (self.new ≡ with_capacity_of (insert_next self.old t) self.new) }
+        ensures err { OnErr result (self.new ≡ self.old) }
+        ensures room { entry_count self.old < self.old.capacity → IsOk result × (self.new.capacity ≡ self.old.capacity) }
+        ensures beyond { (result ≡ Err ReallocationError.BeyondMaxCapacity) ↔ ((entry_count self.old ≡ self.old.capacity) × IsBeyond self.old.maximum (entry_count self.old + 1)) }
+        ensures greatest { entry_count self.old ≡ P.Inx.greatest → IsErr result }
+    {
+        if self.is_full() {
+            self.grow_to(self.len + 1)?;
+        }
+        Ok(self.insert_here(t))
+    }
+
+    // Whether there are as many entries as the capacity.
+    pub(crate) fn is_full(&self) -> bool
+        ensures full { IsTrue result ↔ (entry_count self.now ≡ self.now.capacity) }
+        ensures fits { entry_count self.now ≤ self.now.capacity }
+        ensures greatest { self.now.capacity ≤ P.Inx.greatest }
+    {
+        self.len == self.slots.capacity().min(P::Inx::greatest())
+    }
+
+    // Grows to room for so many entries, more than there is room for.
+    pub(crate) fn grow_to(&mut self, n: usize) -> Result<(), ReallocationError>
+        ensures beyond { (result ≡ Err ReallocationError.BeyondMaxCapacity) ↔ IsBeyond self.old.maximum n }
+        ensures greatest { P.Inx.greatest < n → IsErr result }
+        ensures ok { OnOk result (n ≤ self.new.capacity) }
+        ensures err { OnErr result (self.new ≡ self.old) }
+        ensures after { self.new ≡ with_capacity_of self.old self.new }
+        ensures never_less { self.old.capacity ≤ self.new.capacity }
+    {
+        if let Some(most) = self.slots.max_capacity()
+            && most < n
+        {
+            return Err(ReallocationError::BeyondMaxCapacity);
+        }
+        if n > P::Inx::greatest() {
+            return Err(ReallocationError::AllocError);
+        }
+        self.slots.reserve_to(n)
+    }
+
+    // The pointer of the next insertion.
+    pub(crate) fn next_ptr(&self) -> P
+        requires { entry_count self.now < self.now.capacity }
+        ensures { P.key result ≡ (next_index self.now, self.now.counter) }
+    {
+        match self.first_free {
+            Some(i) => P::_from_raw(i, self.counter),
+            None => match P::Inx::try_from_usize(self.slots.len() + 1) {
+                Some(i) => P::_from_raw(i, self.counter),
+                None => unreachable!(),
+            },
+        }
+    }
+
+    // Adds an entry where there is room.
+    pub(crate) fn insert_here(&mut self, t: T) -> P
+        requires { entry_count self.old < self.old.capacity }
+        ensures ptr { P.key result ≡ (next_index self.old, self.old.counter) }
+        ensures after { self.new ≡ insert_next self.old t }
+    {
+        let p = self.next_ptr();
+        match self.first_free {
+            Some(i) => {
+                self.first_free = fill(&mut self.slots, position_of::<P>(i), self.counter, t);
+            }
+            None => {
+                self.slots.push_within(ArenaSlot::Allocated(self.counter, t));
+            }
+        }
+        self.len += 1;
+        self.placed = self.placed.one_more();
+        p
+    }
+}
+
+// The answer of a call that invalidates.
+pub(crate) fn invalidated<T>(overflow: bool, t: T) -> InvalidationOption<T>
+    ensures { result ≡ invalidation_option overflow t }
+{
+    if overflow {
+        InvalidationOption::GenerationOverflow(t)
+    } else {
+        InvalidationOption::Success(t)
+    }
+}
+
+impl<P: Ptr, T: Drop, S: LimitStack<Item = ArenaSlot<P, T>>> SetMaxCapacity for Arena<P, T, S> {
+    ghost stack_capacity = { λ a. a.stack_capacity };
+
+    ghost limits = { λ a n b. b ≡ with_maximum a n };
+
+    /// Sets the maximum to `n`. Refused exactly if `n` is below the capacity of the stack, and then nothing changes.
+    fn set_max_capacity(&mut self, n: usize) -> Result<(), MaxCapacityReductionError> {
+        self.slots.set_max_capacity(n)
+    }
+}

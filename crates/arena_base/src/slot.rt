@@ -1,0 +1,130 @@
+// One slot of an arena, and the steps on a stack of them.
+ghost use Rattle.std.specs.Prelude.{◌≡◌, ◌+◌, ◌<◌, length, slice_get, slice_set, Some, None, Option, OnSome, IfNone};
+ghost use Rattle.std.specs.Option.{option_map, option_copied, option_copied_mut};
+ghost use Rattle.std.specs.Borrow.{LendsIf, sem};
+ghost use Rattle.arena_base.specs.Slots.{entry_of, entry_in, with_value_in, with_generation_in, with_generation_at, IsFree, free_slot, allocated_slot, freed_slot};
+
+use arena_ptr::{Ptr, PtrInx, SlotStack};
+use std::mem;
+
+/// One slot of an arena: an entry with its generation, or a free one, which names the slot that was freed before it.
+///
+/// Carries the slots of `triple_arena`'s backings.
+#[derive(Drop)]
+pub enum ArenaSlot<P: Ptr, T> {
+    /// The generation and the value of the entry.
+    Allocated(P::Gen, T),
+    /// The next freed index, if there is one.
+    Free(Option<P::Inx>),
+}
+
+impl<P: Ptr, T> ArenaSlot<P, T> {
+    ghost use Rattle.arena_base.specs.contracts.slot.ArenaSlot.{the_row};
+
+    // The value of an entry, for writing.
+    pub(crate) fn value_mut(&mut self) -> Option<&mut T>
+        ensures* lends { sem 𝓛 (LendsIf (the_row P.row T.row P.Inx.row P.Gen.row) T.row self.entry result (with_value_in self.old) self.old) }
+        ensures value { option_copied_mut result ≡ option_map (λ e. e.1) (entry_of self.old) }
+    {
+        match self {
+            ArenaSlot::Allocated(_, t) => Some(t),
+            ArenaSlot::Free(_) => None,
+        }
+    }
+
+    // Gives an entry another generation.
+    pub(crate) fn set_generation(&mut self, generation: P::Gen)
+        ensures { self.new ≡ with_generation_in self.old generation }
+    {
+        match self {
+            ArenaSlot::Allocated(g, _) => {
+                *g = generation;
+            }
+            ArenaSlot::Free(_) => {}
+        }
+    }
+
+    // Takes an entry out, and leaves the slot free before the next freed one.
+    fn vacate(&mut self, next: Option<P::Inx>) -> Option<(P::Gen, T)>
+        ensures entry { result ≡ entry_of self.old }
+        ensures after { self.new ≡ freed_slot self.old next }
+    {
+        match self {
+            ArenaSlot::Free(_) => None,
+            ArenaSlot::Allocated(_, _) => match mem::replace(self, ArenaSlot::Free(next)) {
+                ArenaSlot::Allocated(generation, t) => Some((generation, t)),
+                ArenaSlot::Free(_) => unreachable!(),
+            },
+        }
+    }
+}
+
+// The position of an index in the list of slots, from 0.
+pub(crate) fn position_of<P: Ptr>(i: P::Inx) -> usize
+    ensures { result + 1 ≡ P.Inx.number i }
+{
+    match i.try_into_usize() {
+        Some(n) => n - 1,
+        None => unreachable!(),
+    }
+}
+
+// Writes an entry into a free slot, and answers the next freed index that it named.
+pub(crate) fn fill<P: Ptr, T: Drop, S: SlotStack<Item = ArenaSlot<P, T>>>(
+    slots: &mut S,
+    k: usize,
+    generation: P::Gen,
+    t: T,
+) -> Option<P::Inx>
+    requires { IsFree (slice_get (S.items slots.old) k) }
+    ensures was { slice_get (S.items slots.old) k ≡ Some (free_slot result) }
+    ensures items { S.items slots.new ≡ slice_set (S.items slots.old) k (allocated_slot generation t) }
+    ensures capacity { S.capacity slots.new ≡ S.capacity slots.old }
+    ensures maximum { S.maximum slots.new ≡ S.maximum slots.old }
+{
+    match slots.get_mut(k) {
+        Some(slot) => {
+            let next = match slot {
+                ArenaSlot::Free(next) => *next,
+                ArenaSlot::Allocated(_, _) => unreachable!(),
+            };
+            *slot = ArenaSlot::Allocated(generation, t);
+            next
+        }
+        None => unreachable!(),
+    }
+}
+
+// Takes the entry at a position out, if one stands there, and leaves its slot free before the next freed one.
+pub(crate) fn vacate_at<P: Ptr, T: Drop, S: SlotStack<Item = ArenaSlot<P, T>>>(
+    slots: &mut S,
+    k: usize,
+    next: Option<P::Inx>,
+) -> Option<(P::Gen, T)>
+    ensures entry { result ≡ entry_in (slice_get (S.items slots.old) k) }
+    ensures some { OnSome result (S.items slots.new ≡ slice_set (S.items slots.old) k (free_slot next)) }
+    ensures none { IfNone result (S.items slots.new ≡ S.items slots.old) }
+    ensures capacity { S.capacity slots.new ≡ S.capacity slots.old }
+    ensures maximum { S.maximum slots.new ≡ S.maximum slots.old }
+{
+    match slots.get_mut(k) {
+        Some(slot) => slot.vacate(next),
+        None => None,
+    }
+}
+
+// Gives the entry at a position another generation, if one stands there, and tells whether one does.
+pub(crate) fn regenerate_at<P: Ptr, T: Drop, S: SlotStack<Item = ArenaSlot<P, T>>>(
+    slots: &mut S,
+    k: usize,
+    generation: P::Gen,
+)
+    ensures items { S.items slots.new ≡ with_generation_at (S.items slots.old) k generation }
+    ensures capacity { S.capacity slots.new ≡ S.capacity slots.old }
+    ensures maximum { S.maximum slots.new ≡ S.maximum slots.old }
+{
+    match slots.get_mut(k) {
+        Some(slot) => slot.set_generation(generation),
+        None => {}
+    }
+}

@@ -1,0 +1,31 @@
+// A total that contracts alone see. It takes no bytes when the program runs.
+ghost use Rattle.std.specs.Prelude.{◌≡◌, ℕ, ◌+◌};
+ghost use Rattle.std.specs.Borrow.{ftrue};
+
+use std::marker::Model;
+
+// Its only field is a number without a greatest value, so nothing of it is left in the program.
+#[derive(Drop)]
+pub struct Tally {
+    pub ghost count: { ℕ },
+}
+
+impl Model for Tally {
+    ghost also_owns = { λ _. ftrue };
+}
+
+const _: () = prove!(std::mem::size_of::<Tally>() == 0);
+
+impl Tally {
+    pub(crate) fn zero() -> Tally
+        ensures { result.count ≡ 0 }
+    {
+        Tally {}
+    }
+
+    pub(crate) fn one_more(&self) -> Tally
+        ensures { result.count ≡ self.now.count + 1 }
+    {
+        Tally {}
+    }
+}

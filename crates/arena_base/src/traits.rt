@@ -1,0 +1,216 @@
+// What arenas share, so that code may be generic over them.
+ghost use Rattle.std.specs.Prelude.{◌≡◌, ℕ, ◌<◌, ◌≤◌, ◌↔◌, ⊤, List, [], length, IsTrue, IsSome, IfSome, OnSome, IsOk, IfOk, IsErr, OnOk, OnErr, Some, None, Option, if◌then◌else◌};
+ghost use Rattle.std.specs.Option.{option_map, option_copied_mut};
+ghost use Rattle.std.specs.Borrow.{LendsSo, sem};
+ghost use Rattle.arena_ptr.specs.SlotStack.{IsBeyond, IsWithinMaximum};
+ghost use Rattle.arena_ptr.specs.Invalidation.{value_within, invalidation_result, invalidation_option};
+ghost use Rattle.arena_base.specs.Arena.{IsValid, seen_entry, overflows_after_clear};
+ghost use Rattle.arena_base.specs.Entries.{Seen, IsNew, found, RisesFrom, first_key, last_key, removed, renewed, written, emptied, with_capacity};
+ghost use Rattle.arena_base.specs.Advancing.{IsLook};
+ghost use Rattle.arena_base.specs.declared.look.Look.{Look};
+
+use arena_ptr::{
+    AllocError, InvalidationOption, InvalidationResult, Ptr, PtrGen, PtrInx, ReallocationError,
+};
+use std::alloc::Global;
+
+/// Goes over a collection without borrowing it: each call is handed the collection anew.
+///
+/// Carries `Advancer` of `triple_arena`.
+pub trait Advancer<C>: Drop {
+    /// What a call answers.
+    type Item;
+
+    // A call over a collection takes the first to the second and gives the answer.
+    ghost gives: { Self → C → Option Self.Item → Self → Type 0 };
+
+    ghost is_spent: { Self → Type 0 };
+
+    /// The next item, if there is one.
+    fn advance(&mut self, collection: &C) -> Option<Self::Item>
+        ensures { gives self.old collection.now result self.new };
+
+    /// An advancer that answers `None` always.
+    fn empty() -> Self
+        ensures { is_spent result };
+
+    ghost stays_spent: { (a b : Self) (c : C) (r : Option Self.Item) → is_spent a → gives a c r b → (r ≡ None) × is_spent b };
+}
+
+/// An arena: a finite map from indexes to entries, each a generation and a value, where a removed entry's pointer
+/// stops to be valid.
+///
+/// Carries `ArenaTrait` of `triple_arena`. The generation that upstream answers beside a `&mut` is left to the calls
+/// that read.
+pub trait ArenaTrait<P: Ptr, T: Drop> {
+    /// An advancer over the pointers of the arena, by rising or falling index.
+    type PtrAdvancer: Advancer<Self, Item = P>;
+
+    ghost seen: { Self → Seen P.Gen T };
+
+    // The generation and the value at each index.
+    ghost entry: { Self → ℕ → Option (P.Gen × T) };
+
+    // Where an advancer looks next.
+    ghost looks: { Self.PtrAdvancer → Look };
+
+    // What more is known of a new arena with room for so many entries.
+    ghost starts: { ℕ → Self → Type 0 } = { λ _ _. ⊤ };
+
+    // What more is known of the second arena than what is seen, after a growth of the first; after a write of a value
+    // at an index; after the entry there got the next generation; after its removal; after a clear.
+    ghost grows: { Self → Self → Type 0 } = { λ _ _. ⊤ };
+
+    ghost writes: { Self → ℕ → T → Self → Type 0 } = { λ _ _ _ _. ⊤ };
+
+    ghost renews: { Self → ℕ → Self → Type 0 } = { λ _ _ _. ⊤ };
+
+    ghost removes: { Self → ℕ → Self → Type 0 } = { λ _ _ _. ⊤ };
+
+    ghost clears: { Self → Self → Type 0 } = { λ _ _. ⊤ };
+
+    /// An empty arena with the counter two. It takes no memory.
+    fn new(alloc: Global) -> Self
+        ensures new { IsNew P.Gen.first (seen result) }
+        ensures more { starts 0 result };
+
+    /// An empty arena with the counter two and room for at least `n` entries.
+    ///
+    /// `AllocError`: `n` is above the greatest index or the maximum of a new stack, or memory was refused.
+    fn with_min_capacity(alloc: Global, n: usize) -> Result<Self, AllocError>
+        ensures new { IfOk result (λ a. IsNew P.Gen.first (seen a)) }
+        ensures room { IfOk result (λ a. n ≤ (seen a).capacity) }
+        ensures beyond { IfOk result (λ a. IsWithinMaximum (seen a).maximum n) }
+        ensures greatest { P.Inx.greatest < n → IsErr result }
+        ensures no_room { n ≡ 0 → IsOk result }
+        ensures more { IfOk result (starts n) };
+
+    /// How many entries there may be before the arena has to grow, at most the greatest index.
+    fn capacity(&self) -> usize
+        ensures value { result ≡ (seen self.now).capacity }
+        ensures greatest { result ≤ P.Inx.greatest };
+
+    /// The greatest capacity that the slots may have, if there is a limit.
+    fn max_capacity(&self) -> Option<usize>
+        ensures { result ≡ (seen self.now).maximum };
+
+    /// How many entries there are.
+    fn len(&self) -> usize
+        ensures count { result ≡ length (seen self.now).entries }
+        ensures fits { result ≤ (seen self.now).capacity };
+
+    /// Whether there are no entries.
+    fn is_empty(&self) -> bool
+        ensures { IsTrue result ↔ ((seen self.now).entries ≡ []) };
+
+    /// Grows to room for at least `n` entries. Up to the capacity nothing changes.
+    ///
+    /// `BeyondMaxCapacity`: `n` is above the maximum, which is tested first. `AllocError`: `n` is above the greatest
+    /// index, or memory was refused. After either nothing has changed.
+    fn reallocate_min_capacity(&mut self, n: usize) -> Result<(), ReallocationError>
+        ensures within { n ≤ (seen self.old).capacity → IsOk result × (self.new ≡ self.old) }
+        ensures beyond { (result ≡ Err ReallocationError.BeyondMaxCapacity) ↔ IsBeyond (seen self.old).maximum n }
+        ensures greatest { P.Inx.greatest < n → IsErr result }
+        ensures ok { OnOk result (n ≤ (seen self.new).capacity) }
+        ensures err { OnErr result (self.new ≡ self.old) }
+        ensures after { seen self.new ≡ with_capacity (seen self.old) (seen self.new).capacity }
+        ensures never_less { (seen self.old).capacity ≤ (seen self.new).capacity }
+        ensures more { grows self.old self.new };
+
+    /// The counter of generations, where there is a single one.
+    fn singular_generation(&self) -> Option<P::Gen>
+        ensures { result ≡ (seen self.now).counter };
+
+    /// Whether a pointer is valid: an entry stands at its index, with its generation.
+    fn contains(&self, p: P) -> bool
+        ensures { IsTrue result ↔ IsValid (entry self.now) (P.key p) };
+
+    /// The value of an entry. `None`: the pointer is not valid.
+    fn get(&self, p: P) -> Option<&T>
+        ensures some { IsSome result ↔ IsValid (entry self.now) (P.key p) }
+        ensures value { IfSome result (λ t. entry self.now (P.key p).0 ≡ Some ((P.key p).1, t.now)) };
+
+    /// The value of an entry, for writing. `None`: the pointer is not valid.
+    fn get_mut(&mut self, p: P) -> Option<&mut T>
+        ensures* writes_back { sem 𝓛 (LendsSo Self.row T.row self.entry result
+            (λ new t. OnSome result ((seen new ≡ written (seen self.old) (P.key p).0 t) × writes self.old (P.key p).0 t new)) (λ new. new ≡ self.old)) }
+        ensures some { IsSome result ↔ IsValid (entry self.old) (P.key p) }
+        ensures value { IfSome result (λ t. entry self.old (P.key p).0 ≡ Some ((P.key p).1, t.now)) };
+
+    /// The generation and the value at an index. `None`: no entry stands there.
+    fn get_inx(&self, i: P::Inx) -> Option<(P::Gen, &T)>
+        ensures { option_map seen_entry result ≡ entry self.now (P.Inx.number i) };
+
+    /// The value at an index, for writing. `None`: no entry stands there.
+    fn get_inx_mut(&mut self, i: P::Inx) -> Option<&mut T>
+        ensures* writes_back { sem 𝓛 (LendsSo Self.row T.row self.entry result
+            (λ new t. OnSome result ((seen new ≡ written (seen self.old) (P.Inx.number i) t) × writes self.old (P.Inx.number i) t new)) (λ new. new ≡ self.old)) }
+        ensures value { option_copied_mut result ≡ option_map (λ e. e.1) (entry self.old (P.Inx.number i)) };
+
+    /// The valid pointer of least index. `None`: there are no entries.
+    fn find_first_inx_ptr(&self) -> Option<P>
+        ensures { option_map P.key result ≡ first_key (seen self.now).entries };
+
+    /// The valid pointer of greatest index. `None`: there are no entries.
+    fn find_last_inx_ptr(&self) -> Option<P>
+        ensures { option_map P.key result ≡ last_key (seen self.now).entries };
+
+    /// An advancer by rising index: each answer up to the first `None` is the valid pointer of least index above the
+    /// last answer, in the arena handed to that call, and `None` where there is none.
+    fn advancer(&self) -> Self::PtrAdvancer
+        ensures { looks result ≡ Look.Up 1 };
+
+    /// An advancer that begins at the index itself, by rising index or, with `rev`, by falling index.
+    fn advancer_inx(&self, i: P::Inx, rev: bool) -> Self::PtrAdvancer
+        ensures { looks result ≡ (if rev then Look.Down (P.Inx.number i) else Look.Up (P.Inx.number i)) };
+
+    /// Increments the counter and gives it to an entry as its generation, and answers the entry's new pointer.
+    ///
+    /// `InvalidPtr`: the pointer is not valid, and nothing has changed. `GenerationOverflow`: the counter was at its
+    /// greatest, and is two now.
+    fn invalidate(&mut self, p: P) -> InvalidationResult<P>
+        ensures valid { IsValid (entry self.old) (P.key p) → IfSome (value_within result) (λ q. ((P.key q).0 ≡ (P.key p).0) × (seen self.new ≡ renewed (seen self.old) (P.key q))) × IsSome (value_within result) }
+        ensures counter { IfSome (seen self.old).counter (λ g. (result ≡ invalidation_result (P.Gen.wraps g) (value_within result)) × IfSome (value_within result) (λ q. (P.key q).1 ≡ P.Gen.following g)) }
+        ensures invalid { ¬ IsValid (entry self.old) (P.key p) → (value_within result ≡ None) × (self.new ≡ self.old) }
+        ensures more { IsValid (entry self.old) (P.key p) → renews self.old (P.key p).0 self.new };
+
+    /// Removes an entry, answers its value and increments the counter.
+    ///
+    /// `InvalidPtr`: the pointer is not valid, and nothing has changed. `GenerationOverflow`: the counter was at its
+    /// greatest, and is two now.
+    fn remove(&mut self, p: P) -> InvalidationResult<T>
+        ensures valid { IsValid (entry self.old) (P.key p) → (value_within result ≡ option_map (λ e. e.1) (entry self.old (P.key p).0)) × (seen self.new ≡ removed P.Gen.following (seen self.old) (P.key p).0) }
+        ensures overflow { IfSome (seen self.old).counter (λ g. result ≡ invalidation_result (P.Gen.wraps g) (value_within result)) }
+        ensures invalid { ¬ IsValid (entry self.old) (P.key p) → (value_within result ≡ None) × (self.new ≡ self.old) }
+        ensures more { IsValid (entry self.old) (P.key p) → removes self.old (P.key p).0 self.new };
+
+    /// Removes the entry at an index, answers its generation and value, and increments the counter.
+    ///
+    /// `InvalidPtr`: no entry stands there, and nothing has changed. `GenerationOverflow`: the counter was at its
+    /// greatest, and is two now.
+    fn remove_inx(&mut self, i: P::Inx) -> InvalidationResult<(P::Gen, T)>
+        ensures answer { value_within result ≡ entry self.old (P.Inx.number i) }
+        ensures overflow { IfSome (seen self.old).counter (λ g. result ≡ invalidation_result (P.Gen.wraps g) (value_within result)) }
+        ensures valid { IsSome (entry self.old (P.Inx.number i)) → seen self.new ≡ removed P.Gen.following (seen self.old) (P.Inx.number i) }
+        ensures invalid { entry self.old (P.Inx.number i) ≡ None → self.new ≡ self.old }
+        ensures more { IsSome (entry self.old (P.Inx.number i)) → removes self.old (P.Inx.number i) self.new };
+
+    /// Removes all entries and slots, and increments the counter once where there were entries. The capacity stays.
+    ///
+    /// `GenerationOverflow`: the counter was at its greatest, and is two now.
+    fn clear(&mut self) -> InvalidationOption<()>
+        ensures overflow { IfSome (seen self.old).counter (λ g. result ≡ invalidation_option (overflows_after_clear P.Gen.wraps (length (seen self.old).entries) g) tt) }
+        ensures after { seen self.new ≡ emptied P.Gen.following (seen self.old) }
+        ensures more { clears self.old self.new };
+
+    ghost rises: { (a : Self) → RisesFrom 1 (seen a).entries };
+
+    ghost looked_up: { (a : Self) (i : ℕ) → found i (seen a).entries ≡ entry a i };
+
+    ghost advances: { (a b : Self.PtrAdvancer) (c : Self) (r : Option P) → Self.PtrAdvancer.gives a c r b → IsLook (seen c).entries (looks a) (option_map P.key r) (looks b) };
+}
+
+/// An arena whose capacity grows with its entries alone, and not with their indexes.
+///
+/// Carries `CompactArenaTrait` of `triple_arena`, a mark without functions.
+pub trait CompactArenaTrait<P: Ptr, T: Drop>: ArenaTrait<P, T> {}

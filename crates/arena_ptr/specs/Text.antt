@@ -1,0 +1,10 @@
+-- How the parts of a pointer are written.
+use Rattle.std.specs.Prelude.{ℕ, false, List, ◌++◌, codes}
+use Rattle.std.specs.Fmt.{digits}
+
+-- lower-case hexadecimal, without a prefix
+abbrev pub hexadecimal : ℕ → List ℕ
+hexadecimal n = digits 16 false n
+
+abbrev pub in_parentheses : ℕ → List ℕ
+in_parentheses n = codes "(" ++ hexadecimal n ++ codes ")"

@@ -1,0 +1,94 @@
+use crate::errors::ReallocationError;
+use crate::slot_stack::SlotStack;
+use crate::slots;
+use std::alloc::Global;
+
+/// A slot stack in one block of the heap, without a maximum.
+///
+/// A growth at least doubles its capacity, so that pushing n items moves fewer than 2 n of them in all.
+#[derive(Drop)]
+pub struct HeapStack<E> {
+    slots: Vec<E>,
+}
+
+impl<E: Drop> SlotStack for HeapStack<E> {
+    ghost use Rattle.std.specs.Prelude.{◌*◌, None, vec_capacity, refl};
+    ghost use Rattle.std.specs.Vec.{with_item as vec_with_item};
+    ghost use Rattle.arena_ptr.specs.Slots.{slots_have_room, slots_fit};
+
+    type Item = E;
+
+    ghost items = { λ s. s.slots.items };
+
+    ghost capacity = { λ s. vec_capacity s.slots };
+
+    ghost maximum = { λ _. None };
+
+    ghost initial_maximum = { None };
+
+    ghost next_capacity = { λ s. 2 * vec_capacity s.slots };
+
+    ghost with_item = { λ s i e. record { slots = vec_with_item s.slots i e } };
+
+    ghost has_room = { λ s. slots_have_room s.slots };
+
+    ghost room_fits = { λ s. slots_fit s.slots };
+
+    ghost within_maximum = { λ _. tt };
+
+    ghost items_written = { λ s i e. refl };
+
+    ghost capacity_written = { λ s i e. refl };
+
+    ghost maximum_written = { λ s i e. refl };
+
+    fn new(alloc: Global) -> Self {
+        HeapStack {
+            slots: Vec::new(alloc),
+        }
+    }
+
+    fn allocator(&self) -> Global {
+        *self.slots.allocator()
+    }
+
+    fn len(&self) -> usize {
+        self.slots.len()
+    }
+
+    fn capacity(&self) -> usize {
+        self.slots.capacity()
+    }
+
+    fn max_capacity(&self) -> Option<usize> {
+        None
+    }
+
+    fn reserve_to(&mut self, n: usize) -> Result<(), ReallocationError> {
+        if n <= self.slots.capacity() {
+            return Ok(());
+        }
+        let twice = self.slots.capacity().saturating_mul(2);
+        slots::reserve_to(&mut self.slots, n.max(twice))
+    }
+
+    fn push_within(&mut self, item: E) {
+        self.slots.push_reserved(item);
+    }
+
+    fn get(&self, i: usize) -> Option<&E> {
+        self.slots.get(i)
+    }
+
+    fn get_mut(&mut self, i: usize) -> Option<&mut E> {
+        self.slots.get_mut(i)
+    }
+
+    fn swap(&mut self, i: usize, j: usize) {
+        self.slots.swap(i, j);
+    }
+
+    fn truncate(&mut self, n: usize) {
+        self.slots.truncate(n);
+    }
+}

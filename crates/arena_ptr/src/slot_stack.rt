@@ -1,0 +1,134 @@
+ghost use Rattle.std.specs.Prelude.{◌≡◌, ℕ, ◌+◌, ◌^◌, ◌<◌, ◌≤◌, ◌↔◌, List, [], ◌∷◌, ◌++◌, length, take, swap, slice_get, slice_set, Option, Some, Ok, Err, IsOk, OnOk, OnErr, OnSome, option_copied};
+ghost use Rattle.std.specs.Option.{option_copied_mut};
+ghost use Rattle.std.specs.Borrow.{LendsIf, sem};
+ghost use Rattle.arena_ptr.specs.SlotStack.{IsBeyond, IsWithinMaximum};
+
+use crate::errors::{MaxCapacityReductionError, ReallocationError};
+use std::alloc::Global;
+
+/// The slots of an arena: a list, a capacity that is at least its length, and an optional maximum that is at
+/// least the capacity.
+///
+/// A stack is made with an allocator and keeps it. It stands in the place of the backings of `triple_arena`.
+pub trait SlotStack: Drop {
+    /// What a slot holds.
+    type Item: Drop;
+
+    ghost items: { Self → List Self.Item };
+
+    ghost capacity: { Self → ℕ };
+
+    ghost maximum: { Self → Option ℕ };
+
+    // The maximum of a new stack.
+    ghost initial_maximum: { Option ℕ };
+
+    // The capacity that a growth reaches at least. The default says nothing.
+    ghost next_capacity: { Self → ℕ } = { λ _. 0 };
+
+    // The stack after a write of an item at a position.
+    ghost with_item: { Self → ℕ → Self.Item → Self };
+
+    /// An empty stack. It takes no memory, so its capacity is 0.
+    fn new(alloc: Global) -> Self
+        ensures items { items result ≡ [] }
+        ensures capacity { capacity result ≡ 0 }
+        ensures maximum { maximum result ≡ initial_maximum };
+
+    /// The allocator that the stack was made with.
+    fn allocator(&self) -> Global;
+
+    /// How many items there are.
+    fn len(&self) -> usize
+        ensures { result ≡ length (items self.now) };
+
+    /// How many items there may be before the stack has to grow.
+    fn capacity(&self) -> usize
+        ensures { result ≡ capacity self.now };
+
+    /// The greatest capacity that the stack may have, if there is a limit.
+    fn max_capacity(&self) -> Option<usize>
+        ensures { result ≡ maximum self.now };
+
+    /// Grows so that there may be `n` items. Up to the capacity nothing changes.
+    ///
+    /// Above the maximum the answer is `BeyondMaxCapacity`, which is tested first, and else `AllocError` where
+    /// memory was refused. After either nothing has changed. How far the capacity goes beyond `n` is open.
+    fn reserve_to(&mut self, n: usize) -> Result<(), ReallocationError>
+        ensures items { items self.new ≡ items self.old }
+        ensures maximum { maximum self.new ≡ maximum self.old }
+
+        ensures within { n ≤ capacity self.old → (result ≡ Ok tt) × (capacity self.new ≡ capacity self.old) }
+        ensures beyond { (result ≡ Err ReallocationError.BeyondMaxCapacity) ↔ IsBeyond (maximum self.old) n }
+        ensures grown { OnOk result (n ≤ capacity self.new) }
+        ensures ample { OnOk result (capacity self.old < n → next_capacity self.old ≤ capacity self.new) }
+        ensures never_less { capacity self.old ≤ capacity self.new }
+        ensures refused { OnErr result (capacity self.new ≡ capacity self.old) };
+
+    /// Appends an item where the capacity has room. The capacity stays.
+    fn push_within(&mut self, item: Self::Item)
+        requires { length (items self.old) < capacity self.old }
+        ensures items { items self.new ≡ items self.old ++ item ∷ [] }
+        ensures capacity { capacity self.new ≡ capacity self.old }
+        ensures maximum { maximum self.new ≡ maximum self.old };
+
+    /// The item at position `i`, from 0. `None` from the length on.
+    fn get(&self, i: usize) -> Option<&Self::Item>
+        ensures { option_copied result ≡ slice_get (items self.now) i };
+
+    /// The item at position `i` for writing, from 0. `None` from the length on.
+    fn get_mut(&mut self, i: usize) -> Option<&mut Self::Item>
+        ensures* lends { sem 𝓛 (LendsIf Self.row Self.Item.row self.entry result (with_item self.old i) self.old) }
+        ensures value { option_copied_mut result ≡ slice_get (items self.old) i };
+
+    /// Exchanges the items at positions `i` and `j`. The capacity stays.
+    fn swap(&mut self, i: usize, j: usize)
+        requires i_in_bounds { i < length (items self.old) }
+        requires j_in_bounds { j < length (items self.old) }
+        ensures items { items self.new ≡ swap (items self.old) i j }
+        ensures capacity { capacity self.new ≡ capacity self.old }
+        ensures maximum { maximum self.new ≡ maximum self.old };
+
+    /// Drops the items from position `n` on. The capacity stays.
+    fn truncate(&mut self, n: usize)
+        requires { n ≤ length (items self.old) }
+        ensures items { items self.new ≡ take n (items self.old) }
+        ensures capacity { capacity self.new ≡ capacity self.old }
+        ensures maximum { maximum self.new ≡ maximum self.old };
+
+    ghost has_room: { (s : Self) → length (items s) ≤ capacity s };
+
+    ghost room_fits: { (s : Self) → capacity s + 1 < 2 ^ 64 };
+
+    ghost within_maximum: { (s : Self) → IsWithinMaximum (maximum s) (capacity s) };
+
+    ghost items_written: { (s : Self) (i : ℕ) (e : Self.Item) → items (with_item s i e) ≡ slice_set (items s) i e };
+
+    ghost capacity_written: { (s : Self) (i : ℕ) (e : Self.Item) → capacity (with_item s i e) ≡ capacity s };
+
+    ghost maximum_written: { (s : Self) (i : ℕ) (e : Self.Item) → maximum (with_item s i e) ≡ maximum s };
+}
+
+/// A container whose greatest capacity can be set.
+///
+/// Carries `SetMaxCapacity` of `triple_arena`.
+pub trait SetMaxCapacity {
+    // The capacity that no maximum may fall below.
+    ghost stack_capacity: { Self → ℕ };
+
+    // The second is the first with this maximum.
+    ghost limits: { Self → ℕ → Self → Type 0 };
+
+    /// Sets the maximum to `n`. Refused exactly if `n` is below the capacity of the stack, and then nothing changes.
+    fn set_max_capacity(&mut self, n: usize) -> Result<(), MaxCapacityReductionError>
+        ensures variant { IsOk result ↔ (stack_capacity self.old ≤ n) }
+        ensures ok { OnOk result (limits self.old n self.new) }
+        ensures err { OnErr result (self.new ≡ self.old) };
+}
+
+/// A slot stack whose maximum can be set.
+pub trait LimitStack: SlotStack + SetMaxCapacity {
+    ghost same_capacity: { (s : Self) → Self.stack_capacity s ≡ Self.capacity s };
+
+    ghost limited: { (s t : Self) (n : ℕ) → Self.limits s n t → (Self.items t ≡ Self.items s) × (Self.capacity t ≡ Self.capacity s) × (Self.maximum t ≡ Some n) };
+}
