@@ -8,3 +8,4 @@ pub mod Relinking
 pub mod Seeing
 pub mod Unlinking
 pub mod Valuing
+pub mod Writing

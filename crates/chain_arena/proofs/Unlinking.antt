@@ -113,6 +113,12 @@ module _ {Gen I T : Type 0} (number : I → ℕ) (following : Gen → Gen) (a b 
     twice None = refl
     twice (Some e) = refl
 
+  pub taken-alone : option_map (λ (e : Gen × LinkBody I T). e.1.t) taken ≡ option_map (λ (e : Gen × T). e.1) (entry_at (values_of (seen_links number a)) n)
+  taken-alone = alone taken ∙ ap (option_map (λ (e : Gen × T). e.1)) taken-value where
+    alone : (o : Option (Gen × LinkBody I T)) → option_map (λ (e : Gen × LinkBody I T). e.1.t) o ≡ option_map (λ (e : Gen × T). e.1) (option_map (on_value held_in) o)
+    alone None = refl
+    alone (Some e) = refl
+
   pub taken-some : is_some (entry_at (values_of (seen_links number a)) n) ≡ true → is_some taken ≡ true
   taken-some stands = sym (is_some-map (on_value held_in) taken) ∙ (ap is_some taken-value ∙ stands)
 

@@ -8,7 +8,7 @@ ghost use Rattle.arena_base.specs.Entries.{seen_of};
 ghost use Rattle.chain_arena.specs.ChainArena.{values_of, shown};
 
 use crate::chain_arena::ChainArena;
-use crate::interlinks::{take_out};
+use crate::interlinks::take_out;
 use crate::links::{LinkBody, LinkNoGen};
 use arena_base::{Advancer, Arena, ArenaSlot, ArenaTrait, CompactArenaTrait, PtrAdvancer};
 use arena_ptr::{
@@ -103,7 +103,7 @@ impl<P: Ptr, T: Drop, S: SlotStack<Item = ArenaSlot<P, LinkNoGen<P, T>>>> ArenaT
 
     fn get(&self, p: P) -> Option<&T> {
         match self.arena.get(p) {
-            Some(link) => Some(&link.t),
+            Some(link) => Some(link.value()),
             None => None,
         }
     }
@@ -118,7 +118,7 @@ impl<P: Ptr, T: Drop, S: SlotStack<Item = ArenaSlot<P, LinkNoGen<P, T>>>> ArenaT
 
     fn get_inx(&self, i: P::Inx) -> Option<(P::Gen, &T)> {
         match self.arena.get_inx(i) {
-            Some((generation, link)) => Some((generation, &link.t)),
+            Some((generation, link)) => Some((generation, link.value())),
             None => None,
         }
     }

@@ -50,6 +50,13 @@ impl<I: Copy, T> LinkBody<I, T> {
         }
     }
 
+    // The value, for reading.
+    pub(crate) fn value(&self) -> &T
+        ensures { result.now ≡ self.now.t }
+    {
+        &self.t
+    }
+
     // The link after this one becomes another.
     pub(crate) fn set_next(&mut self, next: Option<I>)
         ensures { self.new ≡ record self.old { next = next } }
