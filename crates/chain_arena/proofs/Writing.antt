@@ -60,10 +60,10 @@ module _ {Gen I T : Type 0} (number : I → ℕ) (following : Gen → Gen) (a b 
       ∙ (ap (λ (x : Arena Gen T). seen_of x) (with_each-renewed_at value_in following (seen_links number a) n) ∙ seen-renewed_at following (values_of (seen_links number a)) n some)
 
   -- the new pointer tells the new generation
-  pub renewed-told : {Q : Type 0} {X : Q → Type 0} (key : Q → ℕ × Gen) (o : Option Q) → 1 ≤ n → IfSome o (λ q. ((key q).0 ≡ n) × X q) × IsSome o → IfSome o (λ q. (key q).1 ≡ following a.counter)
+  pub renewed-told : {Q : Type 0} (X : Q → Type 0) (key : Q → ℕ × Gen) (o : Option Q) → 1 ≤ n → IfSome o (λ q. ((key q).0 ≡ n) × X q) × IsSome o → IfSome o (λ q. (key q).1 ≡ following a.counter)
       → IfSome o (λ q. ((key q).0 ≡ n) × (seen_of (values_of (seen_links number b)) ≡ renewed (seen_of (values_of (seen_links number a))) (key q))) × IsSome o
-  renewed-told key None some told generation = absurd (let h = told.1 in cc)
-  renewed-told {Q} {X} key (Some q) some told generation =
+  renewed-told X key None some told generation = absurd (let h = told.1 in cc)
+  renewed-told X key (Some q) some told generation =
       ((told.0.0, renewed-seen some ∙ ap₂ (λ (i : ℕ) (g : Gen). renewed (seen_of (values_of (seen_links number a))) (i, g)) (sym told.0.0) (sym generation)), told.1)
 
 -- after a clear
