@@ -1,4 +1,9 @@
+mod FreeSlots
+mod Holding
+mod Ranging
 mod Reading
+mod Seeing
 mod Soundness
+mod Trimming
 mod Viewing
 mod Walks

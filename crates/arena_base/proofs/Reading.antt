@@ -1,6 +1,6 @@
 -- Reads and writes of slots, by position and by index.
 use Rattle.std.proofs.Common.{◌≡◌, ℕ, zero, suc, ◌+◌, ◌<◌, List, [], ◌∷◌, ◌++◌, length, map, Option, None, Some, refl, ap, sym, ◌∙◌, subst, arith, inl, inr, ◌⊎◌}
-use Rattle.std.specs.Prelude.{count_by, is_some, cond, slice_index_or, slice_get, slice_set}
+use Rattle.std.specs.Prelude.{IsSome, true, false, count_by, is_some, cond, slice_index_or, slice_get, slice_set}
 use Rattle.std.specs.Option.{option_map}
 use Rattle.std.proofs.lemmas.List.Sums.{sum_by-cons}
 use Rattle.arena_base.specs.Arena.{slot_at, with_slot}
@@ -150,3 +150,13 @@ module _ {P T Inx Gen : Type 0} where
       slot_with None = allocated_slot g t
       slot_with (Some f) = allocated_slot f.0 f.1
   allocated-entry (Free next) e is = cc
+
+  -- a slot whose entry is known
+  pub allocated-at : (o : Option (ArenaSlot P T Inx Gen)) (e : Gen × T) → Some e ≡ entry_in o → o ≡ Some (allocated_slot e.0 e.1)
+  allocated-at None e is = cc
+  allocated-at (Some slot) e is = ap (λ s. Some s) (allocated-entry slot e (sym is))
+
+-- a value that is there
+pub the_value : {X : Type 0} (o : Option X) → IsSome o → (x : X) × (Some x ≡ o)
+the_value None some = let both : false ≡ true = some in cc
+the_value (Some x) some = (x, refl)

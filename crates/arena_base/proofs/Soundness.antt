@@ -2,10 +2,10 @@
 use Rattle.std.proofs.Common.{◌≡◌, ℕ, zero, suc, ◌+◌, ◌-◌, ◌<◌, ◌≤◌, List, [], ◌∷◌, ◌++◌, length, length-append, Option, None, Some, refl, ap, sym, ◌∙◌, subst, arith, inl, inr, ◌⊎◌}
 use Rattle.std.specs.Prelude.{slice_get, slice_set}
 use Rattle.arena_base.specs.Arena.{Has, IsApart, without_first}
-use Rattle.arena_base.specs.Slots.{item_at, entry_of, next_of, allocated_slot, free_slot, freed_from, freed_of, IsFreeList, IsSound}
+use Rattle.arena_base.specs.Slots.{item_at, entry_of, with_value_in, next_of, allocated_slot, free_slot, freed_from, freed_of, IsFreeList, IsSound}
 use Rattle.arena_base.specs.declared.slot.ArenaSlot.{ArenaSlot}
 use Rattle.arena_base.specs.declared.slot.ArenaSlot.TheVariants.{Allocated, Free}
-use Rattle.arena_base.proofs.Reading.{same_or_not, slice_get-set-same, length-slice_set, item_at-set-other, item_at-append, item_at-push, at_position, taken_count-set, taken_count-push}
+use Rattle.arena_base.proofs.Reading.{same_or_not, slice_get-set-same, slice_set-itself, length-slice_set, item_at-set-other, item_at-append, item_at-push, at_position, taken_count-set, taken_count-push}
 
 module _ {P T Inx Gen : Type 0} where
   -- a taken slot is not free
@@ -59,13 +59,19 @@ module _ {P T Inx Gen : Type 0} (number : Inx → ℕ) where
         let stood : item_at slots (number i) ≡ Some (allocated_slot g t) = at_position slots k (number i) at ∙ is in
         let out = taken_is_not_listed slots ns head (number i) g t s.linked stood in
         record {
-          linked = (i, head, refl, refl,
+          linked = (
+            i,
+            head,
+            refl,
+            refl,
             at_position (slice_set slots k (free_slot head)) k (number i) at ∙ slice_get-set-same slots k (free_slot head) (allocated_slot g t) is,
-            IsFreeList-set slots k (free_slot head) ns head (λ h. out (subst (λ n. Has n ns) index h)) s.linked);
+            IsFreeList-set slots k (free_slot head) ns head (λ h. out (subst (λ n. Has n ns) index h)) s.linked,
+          );
           apart = (out, s.apart);
           covers = λ n next free. elim (same_or_not (number i) n) [
             | inl same ↦ inl same
-            | inr other ↦ inr (s.covers n next (sym (item_at-set-other slots k n (free_slot head) (λ e. other (sym index ∙ e))) ∙ free)) ];
+            | inr other ↦ inr (s.covers n next (sym (item_at-set-other slots k n (free_slot head) (λ e. other (sym index ∙ e))) ∙ free))
+          ];
           counted = omega (arith, one, s.counted, taken_count-set slots k (allocated_slot g t) (free_slot head) is);
           total = omega (arith, one, s.total, length-slice_set slots k (free_slot head));
           fits = omega (arith, s.fits, length-slice_set slots k (free_slot head));
@@ -82,7 +88,8 @@ module _ {P T Inx Gen : Type 0} (number : Inx → ℕ) where
           apart = s.apart;
           covers = λ n next free. elim (same_or_not (suc k) n) [
             | inl same ↦ absurd (not_free slot new_g new_t next refl (sym (slice_get-set-same slots k slot (allocated_slot g t) is) ∙ subst (λ m. item_at (slice_set slots k slot) m ≡ Some (free_slot next)) (sym same) free))
-            | inr other ↦ s.covers n next (sym (item_at-set-other slots k n slot other) ∙ free) ];
+            | inr other ↦ s.covers n next (sym (item_at-set-other slots k n slot other) ∙ free)
+          ];
           counted = omega (arith, s.counted, taken_count-set slots k (allocated_slot g t) slot is);
           total = omega (arith, s.total, length-slice_set slots k slot);
           fits = omega (arith, s.fits, length-slice_set slots k slot);
@@ -102,17 +109,20 @@ module _ {P T Inx Gen : Type 0} (number : Inx → ℕ) where
       let stood : item_at slots n ≡ Some (free_slot next) = sym (ap (item_at slots) named) ∙ (at_position slots k (number i) at ∙ is) in
       let both : Some (free_slot s.linked.1) ≡ Some (free_slot next) = sym s.linked.4 ∙ stood in
       let rest : s.linked.1 ≡ next = cc in
-      let out : Has (suc k) ns → ⊥ = λ h. s.apart.0 (subst (λ m. Has m ns) (index ∙ named) h) in
-      (record {
-        linked = IsFreeList-set slots k slot ns next out (subst (λ o. IsFreeList number slots ns o) rest s.linked.5);
-        apart = s.apart.1;
-        covers = λ m other free. elim (same_or_not (suc k) m) [
-          | inl here ↦ absurd (not_free slot g t other refl (sym (slice_get-set-same slots k slot (free_slot next) is) ∙ subst (λ j. item_at (slice_set slots k slot) j ≡ Some (free_slot other)) (sym here) free))
-          | inr away ↦ elsewhere m (λ e. away (index ∙ (named ∙ e))) (s.covers m other (sym (item_at-set-other slots k m slot away) ∙ free)) ];
-        counted = omega (arith, s.counted, taken_count-set slots k (free_slot next) slot is);
-        total = omega (arith, s.total, length-slice_set slots k slot);
-        fits = omega (arith, s.fits, length-slice_set slots k slot);
-      }, ap (λ m. m ∷ ns) (sym named))
+      let out : Has (suc k) ns → ⊥ = λ h. s.apart.0 (subst (λ m. Has m ns) (index ∙ named) h) in (
+        record {
+          linked = IsFreeList-set slots k slot ns next out (subst (λ o. IsFreeList number slots ns o) rest s.linked.5);
+          apart = s.apart.1;
+          covers = λ m other free. elim (same_or_not (suc k) m) [
+            | inl here ↦ absurd (not_free slot g t other refl (sym (slice_get-set-same slots k slot (free_slot next) is) ∙ subst (λ j. item_at (slice_set slots k slot) j ≡ Some (free_slot other)) (sym here) free))
+            | inr away ↦ elsewhere m (λ e. away (index ∙ (named ∙ e))) (s.covers m other (sym (item_at-set-other slots k m slot away) ∙ free))
+          ];
+          counted = omega (arith, s.counted, taken_count-set slots k (free_slot next) slot is);
+          total = omega (arith, s.total, length-slice_set slots k slot);
+          fits = omega (arith, s.fits, length-slice_set slots k slot);
+        },
+        ap (λ m. m ∷ ns) (sym named),
+      )
     where
       elsewhere : (m : ℕ) → (n ≡ m → ⊥) → (n ≡ m) ⊎ Has m ns → Has m ns
       elsewhere m away (inl here) = absurd (away here)
@@ -123,20 +133,35 @@ module _ {P T Inx Gen : Type 0} (number : Inx → ℕ) where
       → IsSound number slots greatest len None ns → length slots < greatest
       → IsSound number (slots ++ allocated_slot g t ∷ []) greatest (len + 1) None [] × (ns ≡ [])
   filled_next {slots = slots} {ns = []} g t s room =
-      let slot = allocated_slot g t in
-      (record {
-        linked = refl;
-        apart = tt;
-        covers = λ m other free. elim (item_at-push slots slot (free_slot other) m free) [
-          | inl before ↦ s.covers m other before
-          | inr new ↦ absurd (not_free slot g t other refl (ap (λ z. Some z) new)) ];
-        counted = omega (arith, s.counted, taken_count-push slots slot);
-        total = omega (arith, s.total, length-append slots (slot ∷ []));
-        fits = omega (arith, room, length-append slots (slot ∷ []));
-      }, refl)
+      let slot = allocated_slot g t in (
+        record {
+          linked = refl;
+          apart = tt;
+          covers = λ m other free. elim (item_at-push slots slot (free_slot other) m free) [
+            | inl before ↦ s.covers m other before
+            | inr new ↦ absurd (not_free slot g t other refl (ap (λ z. Some z) new))
+          ];
+          counted = omega (arith, s.counted, taken_count-push slots slot);
+          total = omega (arith, s.total, length-append slots (slot ∷ []));
+          fits = omega (arith, room, length-append slots (slot ∷ []));
+        },
+        refl,
+      )
   filled_next {slots = slots} {ns = n ∷ ns} g t s room = let some : None ≡ Some s.linked.0 = s.linked.2 in cc
 
   -- where no slot is freed there are as many entries as slots
   pub none_freed : {slots : List (ArenaSlot P T Inx Gen)} {greatest len : ℕ} {ns : List ℕ} → IsSound number slots greatest len None ns → len ≡ length slots
   none_freed {ns = []} s = omega (arith, s.total)
   none_freed {ns = n ∷ ns} s = let some : None ≡ Some s.linked.0 = s.linked.2 in cc
+
+  -- where an entry stands one is counted
+  pub some_taken : {slots : List (ArenaSlot P T Inx Gen)} {greatest len : ℕ} {head : Option Inx} {ns : List ℕ} → IsSound number slots greatest len head ns
+      → (k : ℕ) (g : Gen) (t : T) → slice_get slots k ≡ Some (allocated_slot g t) → 1 ≤ len
+  some_taken {slots = slots} {head = head} s k g t is = omega (arith, s.counted, taken_count-set slots k (allocated_slot g t) (free_slot head) is)
+
+  -- a value is written
+  pub lent : {slots : List (ArenaSlot P T Inx Gen)} {greatest len : ℕ} {head : Option Inx} {ns : List ℕ} (k : ℕ) (slot : ArenaSlot P T Inx Gen) (w : T)
+      → IsSound number slots greatest len head ns → slice_get slots k ≡ Some slot → IsSound number (slice_set slots k (with_value_in slot w)) greatest len head ns
+  lent k (Allocated g t) w s is = rewritten s k g g t w is
+  lent {slots = slots} {greatest = greatest} {len = len} {head = head} {ns = ns} k (Free next) w s is =
+      subst (λ es. IsSound number es greatest len head ns) (sym (slice_set-itself slots k (free_slot next) is)) s

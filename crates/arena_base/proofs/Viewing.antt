@@ -3,9 +3,15 @@ use Rattle.std.proofs.Common.{◌≡◌, ℕ, suc, ◌+◌, List, [], ◌∷◌,
 use Rattle.std.specs.Prelude.{slice_get, slice_set}
 use Rattle.arena_base.specs.Arena.{Arena, slot_at, with_slot, insert_next, remove_at, with_value, renewed_at}
 use Rattle.std.specs.Option.{option_map}
-use Rattle.arena_base.specs.Slots.{entry_of, allocated_slot, free_slot, arena_of}
+use Rattle.arena_base.specs.Slots.{entry_of, entry_in, with_value_in, allocated_slot, free_slot, arena_of, freed_of, IsSound}
 use Rattle.arena_base.specs.declared.slot.ArenaSlot.{ArenaSlot}
+use Rattle.arena_base.specs.declared.slot.ArenaSlot.TheVariants.{Allocated, Free}
+use Rattle.arena_base.proofs.Soundness.{lent, walked_all}
 use Rattle.arena_base.proofs.Reading.{map-slice_set, map-push, slot_at-map, with_slot-position}
+
+pub entry_of-written : {P T Inx Gen : Type 0} (slot : ArenaSlot P T Inx Gen) (w : T) → entry_of (with_value_in slot w) ≡ option_map (λ (e : Gen × T). (e.0, w)) (entry_of slot)
+entry_of-written (Allocated g t) w = refl
+entry_of-written (Free next) w = refl
 
 module _ {P T Inx Gen : Type 0} (slots : List (ArenaSlot P T Inx Gen)) (ns : List ℕ) (counter : Gen) (greatest capacity : ℕ) (maximum : Option ℕ) (placed touched : ℕ) where
   abbrev now : Arena Gen T
@@ -34,21 +40,29 @@ module _ {P T Inx Gen : Type 0} (slots : List (ArenaSlot P T Inx Gen)) (ns : Lis
 
   -- the entry that is seen at an index
   entry_seen : (k n : ℕ) (g : Gen) (t : T) → k + 1 ≡ n → slice_get slots k ≡ Some (allocated_slot g t) → slot_at (map entry_of slots) n ≡ Some (g, t)
-  entry_seen k n g t at is = slot_at-map slots k n at ∙ ap (λ (o : Option (ArenaSlot P T Inx Gen)). entry_seen_of o) is
-    where
-      entry_seen_of : Option (ArenaSlot P T Inx Gen) → Option (Gen × T)
-      entry_seen_of None = None
-      entry_seen_of (Some slot) = entry_of slot
+  entry_seen k n g t at is = slot_at-map slots k n at ∙ ap entry_in is
 
-  pub seen_written : (k n : ℕ) (g : Gen) (t w : T) → k + 1 ≡ n → slice_get slots k ≡ Some (allocated_slot g t)
-      → arena_of (slice_set slots k (allocated_slot g w)) ns counter greatest capacity maximum placed touched ≡ with_value now n w
-  seen_written k n g t w at is =
+  pub seen_lent : (k n : ℕ) (slot : ArenaSlot P T Inx Gen) (w : T) → k + 1 ≡ n → slice_get slots k ≡ Some slot
+      → arena_of (slice_set slots k (with_value_in slot w)) ns counter greatest capacity maximum placed touched ≡ with_value now n w
+  seen_lent k n slot w at is =
+      let rewrite : Option (Gen × T) → Option (Gen × T) = option_map (λ (e : Gen × T). (e.0, w)) in
       ap (λ (es : List (Option (Gen × T))). let a : Arena Gen T = record now { slots = es } in a)
-        (seen_slots k n (allocated_slot g w) at ∙ ap (λ (o : Option (Gen × T)). with_slot (map entry_of slots) n (option_map (λ (e : Gen × T). (e.0, w)) o)) (sym (entry_seen k n g t at is)))
+      (seen_slots k n (with_value_in slot w) at
+      ∙ ap (λ (o : Option (Gen × T)). with_slot (map entry_of slots) n o) (entry_of-written slot w ∙ ap rewrite (sym (slot_at-map slots k n at ∙ ap entry_in is))))
 
   pub seen_renewed : (following : Gen → Gen) (k n : ℕ) (g : Gen) (t : T) → k + 1 ≡ n → slice_get slots k ≡ Some (allocated_slot g t)
       → arena_of (slice_set slots k (allocated_slot (following counter) t)) ns (following counter) greatest capacity maximum placed touched ≡ renewed_at following now n
   seen_renewed following k n g t at is =
       ap (λ (es : List (Option (Gen × T))). let a : Arena Gen T = record now { slots = es; counter = following counter } in a)
-        (seen_slots k n (allocated_slot (following counter) t) at
-        ∙ ap (λ (o : Option (Gen × T)). with_slot (map entry_of slots) n (option_map (λ (e : Gen × T). (following counter, e.1)) o)) (sym (entry_seen k n g t at is)))
+      (seen_slots k n (allocated_slot (following counter) t) at
+      ∙ ap (λ (o : Option (Gen × T)). with_slot (map entry_of slots) n (option_map (λ (e : Gen × T). (following counter, e.1)) o)) (sym (entry_seen k n g t at is)))
+
+module _ {P T Inx Gen : Type 0} (number : Inx → ℕ) where
+  -- the arena after a write of a value
+  pub lent_view : {slots : List (ArenaSlot P T Inx Gen)} {greatest len : ℕ} {head : Option Inx} → IsSound number slots greatest len head (freed_of number slots head)
+      → (counter : Gen) (capacity : ℕ) (maximum : Option ℕ) (placed touched : ℕ) (k n : ℕ) (slot : ArenaSlot P T Inx Gen) (w : T)
+      → (items : List (ArenaSlot P T Inx Gen)) (room : ℕ) (most : Option ℕ) → k + 1 ≡ n → slice_get slots k ≡ Some slot → items ≡ slice_set slots k (with_value_in slot w) → room ≡ capacity → most ≡ maximum
+      → arena_of items (freed_of number items head) counter greatest room most placed touched ≡ with_value (arena_of slots (freed_of number slots head) counter greatest capacity maximum placed touched) n w
+  lent_view {slots = slots} {greatest = greatest} {head = head} s counter capacity maximum placed touched k n slot w items room most at is written same_room same_most =
+      rw (written, same_room, same_most, walked_all number (lent number k slot w s is))
+      (seen_lent slots (freed_of number slots head) counter greatest capacity maximum placed touched k n slot w at is)

@@ -4,12 +4,16 @@ use Rattle.arena_base.specs.Entries.{first_key}
 use Rattle.arena_base.specs.declared.look.Look.{Look}
 use Rattle.arena_base.specs.declared.look.Look.TheVariants.{Up, Down, Nowhere}
 
+-- the look behind an index
+abbrev pub look_on : Look → ℕ → Look
+look_on (Up from) i = Up (i + 1)
+look_on (Down to) i = Down (i - 1)
+look_on Nowhere i = Nowhere
+
 -- the look after an answer: on from the answer, or nowhere once there was none
 abbrev pub look_after : {Gen : Type 0} → Look → Option (ℕ × Gen) → Look
 look_after look None = Nowhere
-look_after (Up i) (Some p) = Up (p.0 + 1)
-look_after (Down i) (Some p) = Down (p.0 - 1)
-look_after Nowhere (Some p) = Nowhere
+look_after look (Some p) = look_on look p.0
 
 module _ {Gen T : Type 0} where
   -- the entries from an index on

@@ -29,6 +29,10 @@ abbrev pub without_slots : Slots → Slots
 without_slots slots = record slots { count = 0; freed = [] }
 
 module _ {Gen T : Type 0} where
+  -- the key of an entry at an index
+  abbrev pub key_at : ℕ → Gen × T → ℕ × Gen
+  key_at i e = (i, e.0)
+
   -- the entries of slots, the first of which has index i
   abbrev pub entries_from : ℕ → List (Option (Gen × T)) → List ((ℕ × Gen) × T)
   entries_from i [] = []

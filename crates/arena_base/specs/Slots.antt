@@ -1,5 +1,6 @@
 -- How an arena lies in its slots. No public clause cites this module but by the arena's model.
 use Rattle.std.specs.Prelude.{◌≡◌, ℕ, zero, suc, ◌+◌, ◌≤◌, ⊤, List, [], ◌∷◌, map, min, length, count_by, is_some, slice_get, Option, None, Some}
+use Rattle.arena_base.specs.Compacting.{Held}
 use Rattle.arena_base.specs.Arena.{Arena, Has, IsApart}
 use Rattle.arena_base.specs.declared.slot.ArenaSlot.{ArenaSlot}
 use Rattle.arena_base.specs.declared.slot.ArenaSlot.TheVariants.{Allocated, Free}
@@ -96,3 +97,7 @@ arena_of slots freed counter greatest capacity maximum placed touched = record {
   placed = placed;
   touched = touched;
 }
+
+-- slots that a compactor holds
+abbrev pub held_slots : {P T Inx Gen : Type 0} → List (ArenaSlot P T Inx Gen) → ℕ → Option ℕ → Held Gen T
+held_slots slots capacity maximum = record { slots = map entry_of slots; stack_capacity = capacity; maximum = maximum }

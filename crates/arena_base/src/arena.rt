@@ -1,18 +1,24 @@
 // The generational arena and its own calls.
-ghost use Rattle.std.specs.Prelude.{◌≡◌, [], min, ◌<◌, ◌≤◌, ◌+◌, ◌↔◌, IsTrue, IsSome, IfSome, IsErr, IfOk, IsOk, OnOk, OnErr, Some, None, Ok, Err, length};
+ghost use Rattle.std.specs.Prelude.{◌≡◌, [], min, ◌<◌, ◌≤◌, ◌+◌, ◌↔◌, IsTrue, IsSome, IfSome, IsErr, IfOk, IsOk, OnOk, OnErr, Some, None, Ok, Err, length, drop, take, slice_index_or, ◌^◌};
 ghost use Rattle.std.specs.Option.{option_map};
 ghost use Rattle.arena_ptr.specs.SlotStack.{IsBeyond};
-ghost use Rattle.arena_ptr.specs.Invalidation.{invalidation_option};
-ghost use Rattle.arena_base.specs.Arena.{entry_at, entry_count, next_index, insert_next, with_counter, with_capacity_of, with_maximum, new_arena, IsListed};
+ghost use Rattle.arena_ptr.specs.Invalidation.{invalidation_option, invalidation_result};
+ghost use Rattle.arena_base.specs.Entries.{entries, entries_from, key_at, first_key, last_key};
+ghost use Rattle.arena_base.specs.Advancing.{ahead};
+ghost use Rattle.arena_base.specs.Compacting.{held_of, lent_out, returned, with_placement, with_touch};
+ghost use Rattle.arena_base.specs.Arena.{entry_at, entry_count, next_index, insert_next, remove_at, renewed_at, with_counter, with_capacity_of, with_maximum, new_arena, IsListed};
 
-use crate::slot::{ArenaSlot, fill, position_of};
+use crate::held::HeldSlots;
+use crate::listing::{relist, trim};
+use crate::look::Look;
+use crate::slot::{ArenaSlot, fill, position_of, regenerate_at, vacate_at};
 use crate::tally::Tally;
 use arena_ptr::{
-    HeapStack, InvalidationOption, LimitStack, MaxCapacityReductionError, NotWithinCapacityError,
-    Ptr, PtrGen, PtrInx, ReallocationError, SetMaxCapacity, SlotStack,
+    HeapStack, InvalidationOption, InvalidationResult, LimitStack, MaxCapacityReductionError,
+    NotWithinCapacityError, Ptr, PtrGen, PtrInx, ReallocationError, SetMaxCapacity, SlotStack,
 };
-use std::alloc::Global;
 use std::marker::Model;
+use std::mem;
 
 /// An arena: entries under indexes from 1 on, each with a generation, in a stack of slots.
 ///
@@ -22,8 +28,11 @@ use std::marker::Model;
 ///
 /// Carries `Arena` of `triple_arena`.
 #[derive(Drop)]
-pub struct Arena<P: Ptr, T: Drop, S: SlotStack<Item = ArenaSlot<P, T>> = HeapStack<ArenaSlot<P, T>>>
-{
+pub struct Arena<
+    P: Ptr,
+    T: Drop,
+    S: SlotStack<Item = ArenaSlot<P, T>> = HeapStack<ArenaSlot<P, T>>,
+> {
     pub(crate) slots: S,
     // The number of entries.
     pub(crate) len: usize,
@@ -87,8 +96,7 @@ impl<P: Ptr, T: Drop, S: SlotStack<Item = ArenaSlot<P, T>>> Arena<P, T, S> {
     }
 
     /// The slots.
-    pub fn backing(&self) -> &S
-    {
+    pub fn backing(&self) -> &S {
         &self.slots
     }
 
@@ -156,6 +164,59 @@ impl<P: Ptr, T: Drop, S: SlotStack<Item = ArenaSlot<P, T>>> Arena<P, T, S> {
         self.slots.reserve_to(n)
     }
 
+    // The pointer of the entry at a position, from 0, if one stands there.
+    pub(crate) fn ptr_at(&self, k: usize) -> Option<P>
+        ensures key { option_map P.key result ≡ option_map (key_at (k + 1)) (slice_index_or self.now.slots k None) }
+        ensures fits { IsSome result → k + 2 < 2 ^ 64 }
+    {
+        match self.slots.get(k) {
+            Some(ArenaSlot::Allocated(generation, _)) => match P::Inx::try_from_usize(k + 1) {
+                Some(i) => Some(P::_from_raw(i, *generation)),
+                None => unreachable!(),
+            },
+            Some(ArenaSlot::Free(_)) => None,
+            None => None,
+        }
+    }
+
+    // The valid pointer of least index from a position on, from 0.
+    pub(crate) fn first_from(&self, from: usize) -> Option<P>
+        ensures key { option_map P.key result ≡ first_key (entries_from (from + 1) (drop from self.now.slots)) }
+        ensures fits { IfSome result (λ p. (P.key p).0 + 1 < 2 ^ 64) }
+    {
+        for k in from..self.slots.len() {
+            if let Some(p) = self.ptr_at(k) {
+                return Some(p);
+            }
+        }
+        None
+    }
+
+    // The valid pointer of greatest index up to an index.
+    pub(crate) fn last_to(&self, to: usize) -> Option<P>
+        ensures key { option_map P.key result ≡ last_key (entries_from 1 (take to self.now.slots)) }
+        ensures fits { IfSome result (λ p. (P.key p).0 + 1 < 2 ^ 64) }
+    {
+        for k in (0..to.min(self.slots.len())).rev() {
+            if let Some(p) = self.ptr_at(k) {
+                return Some(p);
+            }
+        }
+        None
+    }
+
+    // The pointer of the first entry ahead.
+    pub(crate) fn find(&self, look: Look) -> Option<P>
+        ensures key { option_map P.key result ≡ first_key (ahead look (entries self.now)) }
+        ensures fits { IfSome result (λ p. (P.key p).0 + 1 < 2 ^ 64) }
+    {
+        match look {
+            Look::Up(from) => self.first_from(from.saturating_sub(1)),
+            Look::Down(to) => self.last_to(to),
+            Look::Nowhere => None,
+        }
+    }
+
     // The pointer of the next insertion.
     pub(crate) fn next_ptr(&self) -> P
         requires { entry_count self.now < self.now.capacity }
@@ -170,6 +231,77 @@ impl<P: Ptr, T: Drop, S: SlotStack<Item = ArenaSlot<P, T>>> Arena<P, T, S> {
         }
     }
 
+    // Takes out the entry at an index, if one stands there, and increments the counter.
+    pub(crate) fn take_at(&mut self, i: P::Inx) -> InvalidationResult<(P::Gen, T)>
+        ensures answer { result ≡ invalidation_result (P.Gen.wraps self.old.counter) (entry_at self.old (P.Inx.number i)) }
+        ensures some { IsSome (entry_at self.old (P.Inx.number i)) → self.new ≡ remove_at P.Gen.following self.old (P.Inx.number i) }
+        ensures none { entry_at self.old (P.Inx.number i) ≡ None → self.new ≡ self.old }
+    {
+        match vacate_at(&mut self.slots, position_of::<P>(i), self.first_free) {
+            Some(entry) => {
+                self.first_free = Some(i);
+                self.len -= 1;
+                self.placed = self.placed.one_more();
+                let (generation, overflow) = self.counter.generational_inc();
+                self.counter = generation;
+                outcome(overflow, entry)
+            }
+            None => InvalidationResult::InvalidPtr,
+        }
+    }
+
+    // Increments the counter and gives it to the entry at an index.
+    pub(crate) fn renew_at(&mut self, i: P::Inx) -> (P::Gen, bool)
+        requires { IsSome (entry_at self.old (P.Inx.number i)) }
+        ensures next { result.0 ≡ P.Gen.following self.old.counter }
+        ensures overflow { result.1 ≡ P.Gen.wraps self.old.counter }
+        ensures after { self.new ≡ renewed_at P.Gen.following self.old (P.Inx.number i) }
+    {
+        let (generation, overflow) = self.counter.generational_inc();
+        self.counter = generation;
+        regenerate_at(&mut self.slots, position_of::<P>(i), generation);
+        (generation, overflow)
+    }
+
+    // Takes the slots out, and leaves the arena empty over a new stack.
+    pub(crate) fn take_slots(&mut self) -> HeldSlots<P, T, S>
+        ensures held { result ≡ held_of self.old }
+        ensures after { self.new ≡ lent_out S.initial_maximum self.old }
+        ensures fits { length self.old.slots ≤ P.Inx.greatest }
+    {
+        let empty = S::new(self.slots.allocator());
+        let slots = mem::replace(&mut self.slots, empty);
+        self.len = 0;
+        self.first_free = None;
+        HeldSlots { slots }
+    }
+
+    // Takes slots back: those at the end that are free are cut off, and the others listed.
+    pub(crate) fn return_slots(&mut self, held: HeldSlots<P, T, S>)
+        ensures { self.new ≡ returned P.Inx.greatest self.old held }
+    {
+        let HeldSlots { mut slots } = held;
+        trim(&mut slots);
+        let (len, first_free) = relist::<P, T, S>(&mut slots);
+        self.slots = slots;
+        self.len = len;
+        self.first_free = first_free;
+    }
+
+    // Counts one placement.
+    pub(crate) fn count_placement(&mut self)
+        ensures { self.new ≡ with_placement self.old }
+    {
+        self.placed = self.placed.one_more();
+    }
+
+    // Counts one touch.
+    pub(crate) fn count_touch(&mut self)
+        ensures { self.new ≡ with_touch self.old }
+    {
+        self.touched = self.touched.one_more();
+    }
+
     // Adds an entry where there is room.
     pub(crate) fn insert_here(&mut self, t: T) -> P
         requires { entry_count self.old < self.old.capacity }
@@ -182,12 +314,24 @@ impl<P: Ptr, T: Drop, S: SlotStack<Item = ArenaSlot<P, T>>> Arena<P, T, S> {
                 self.first_free = fill(&mut self.slots, position_of::<P>(i), self.counter, t);
             }
             None => {
-                self.slots.push_within(ArenaSlot::Allocated(self.counter, t));
+                self.slots
+                    .push_within(ArenaSlot::Allocated(self.counter, t));
             }
         }
         self.len += 1;
         self.placed = self.placed.one_more();
         p
+    }
+}
+
+// The answer of a call that invalidated an entry, or gave out what it was.
+pub(crate) fn outcome<T>(overflow: bool, t: T) -> InvalidationResult<T>
+    ensures { result ≡ invalidation_result overflow (Some t) }
+{
+    if overflow {
+        InvalidationResult::GenerationOverflow(t)
+    } else {
+        InvalidationResult::Success(t)
     }
 }
 

@@ -1,12 +1,25 @@
 //! The generational arena: entries under indexes from 1 on, each with a generation, in slots that are used again.
 #![tactic(auto)]
 
+mod advancer;
 mod arena;
+mod arena_trait;
+mod compactor;
+mod entry;
+mod held;
+mod iterators;
+mod listing;
 mod look;
 mod slot;
 mod tally;
+#[cfg(test)]
+mod tests;
 mod traits;
 
+pub use advancer::PtrAdvancer;
 pub use arena::Arena;
+pub use compactor::{Compactor, SlotAccess, Work};
+pub use entry::ArenaInsertEntry;
+pub use iterators::{CapacityDrain, Iter};
 pub use slot::ArenaSlot;
 pub use traits::{Advancer, ArenaTrait, CompactArenaTrait};

@@ -1,5 +1,5 @@
 // One slot of an arena, and the steps on a stack of them.
-ghost use Rattle.std.specs.Prelude.{◌≡◌, ◌+◌, ◌<◌, length, slice_get, slice_set, Some, None, Option, OnSome, IfNone};
+ghost use Rattle.std.specs.Prelude.{◌≡◌, ◌+◌, ◌<◌, length, slice_get, slice_set, Some, None, Option, OnSome, IfNone, IfSome, IsSome, is_none};
 ghost use Rattle.std.specs.Option.{option_map, option_copied, option_copied_mut};
 ghost use Rattle.std.specs.Borrow.{LendsIf, sem};
 ghost use Rattle.arena_base.specs.Slots.{entry_of, entry_in, with_value_in, with_generation_in, with_generation_at, IsFree, free_slot, allocated_slot, freed_slot};
@@ -69,6 +69,16 @@ pub(crate) fn position_of<P: Ptr>(i: P::Inx) -> usize
     }
 }
 
+// The number of an index.
+pub(crate) fn number_of<P: Ptr>(i: P::Inx) -> usize
+    ensures { result ≡ P.Inx.number i }
+{
+    match i.try_into_usize() {
+        Some(n) => n,
+        None => unreachable!(),
+    }
+}
+
 // Writes an entry into a free slot, and answers the next freed index that it named.
 pub(crate) fn fill<P: Ptr, T: Drop, S: SlotStack<Item = ArenaSlot<P, T>>>(
     slots: &mut S,
@@ -127,4 +137,42 @@ pub(crate) fn regenerate_at<P: Ptr, T: Drop, S: SlotStack<Item = ArenaSlot<P, T>
         Some(slot) => slot.set_generation(generation),
         None => {}
     }
+}
+
+// Whether the slot at a position is free.
+pub(crate) fn is_free_at<P: Ptr, T: Drop, S: SlotStack<Item = ArenaSlot<P, T>>>(
+    slots: &S,
+    k: usize,
+) -> bool
+    requires { k < length (S.items slots.now) }
+    ensures { result ≡ is_none (entry_in (slice_get (S.items slots.now) k)) }
+{
+    match slots.get(k) {
+        Some(ArenaSlot::Allocated(_, _)) => false,
+        Some(ArenaSlot::Free(_)) => true,
+        None => unreachable!(),
+    }
+}
+
+// Puts a free slot before the freed list, and answers its index.
+pub(crate) fn list_at<P: Ptr, T: Drop, S: SlotStack<Item = ArenaSlot<P, T>>>(
+    slots: &mut S,
+    k: usize,
+    next: Option<P::Inx>,
+) -> Option<P::Inx>
+    requires in_bounds { k < length (S.items slots.old) }
+    requires fits { k < P.Inx.greatest }
+    ensures index { IfSome result (λ i. P.Inx.number i ≡ k + 1) }
+    ensures some { IsSome result }
+    ensures items { S.items slots.new ≡ slice_set (S.items slots.old) k (free_slot next) }
+    ensures capacity { S.capacity slots.new ≡ S.capacity slots.old }
+    ensures maximum { S.maximum slots.new ≡ S.maximum slots.old }
+{
+    match slots.get_mut(k) {
+        Some(slot) => {
+            *slot = ArenaSlot::Free(next);
+        }
+        None => unreachable!(),
+    }
+    P::Inx::try_from_usize(k + 1)
 }

@@ -2,9 +2,9 @@
 use Rattle.std.specs.Prelude.{◌≡◌, ℕ, ◌==◌, ◌↔◌, Bool, true}
 use Rattle.std.proofs.Common.{lit≤}
 use Rattle.arena_ptr.specs.Numbers.{IsWithin, IsWithin-prop, next_number, next_within, same_made, eq_is_same}
-use Rattle.arena_ptr.specs.declared.generation.Gen8.{Gen8}
-use Rattle.arena_ptr.specs.declared.generation.Gen32.{Gen32}
-use Rattle.arena_ptr.specs.declared.generation.Gen64.{Gen64}
+use Rattle.arena_ptr.specs.declared.generation.gen8.Gen8.{Gen8}
+use Rattle.arena_ptr.specs.declared.generation.gen32.Gen32.{Gen32}
+use Rattle.arena_ptr.specs.declared.generation.gen64.Gen64.{Gen64}
 
 abbrev pub number_of_gen8 : Gen8 → ℕ
 number_of_gen8 g = g.number

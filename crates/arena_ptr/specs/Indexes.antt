@@ -1,9 +1,9 @@
 -- The number of an index, by its type.
 use Rattle.std.specs.Prelude.{◌≡◌, ℕ, ◌==◌, ◌↔◌, true}
 use Rattle.arena_ptr.specs.Numbers.{IsWithin, IsWithin-prop, same_made, eq_is_same}
-use Rattle.arena_ptr.specs.declared.index.Inx8.{Inx8}
-use Rattle.arena_ptr.specs.declared.index.Inx32.{Inx32}
-use Rattle.arena_ptr.specs.declared.index.Inx64.{Inx64}
+use Rattle.arena_ptr.specs.declared.index.inx8.Inx8.{Inx8}
+use Rattle.arena_ptr.specs.declared.index.inx32.Inx32.{Inx32}
+use Rattle.arena_ptr.specs.declared.index.inx64.Inx64.{Inx64}
 
 abbrev pub number_of_inx8 : Inx8 → ℕ
 number_of_inx8 i = i.number

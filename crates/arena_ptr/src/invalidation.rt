@@ -33,8 +33,8 @@ impl<T> InvalidationOption<T> {
         ensures { result ≡ value_in self }
     {
         match self {
-            InvalidationOption::Success(t) => t,
-            InvalidationOption::GenerationOverflow(t) => t,
+            Self::Success(t) => t,
+            Self::GenerationOverflow(t) => t,
         }
     }
 
@@ -43,8 +43,8 @@ impl<T> InvalidationOption<T> {
         ensures { result ≡ (value_in self, is_overflow self) }
     {
         match self {
-            InvalidationOption::Success(t) => (t, false),
-            InvalidationOption::GenerationOverflow(t) => (t, true),
+            Self::Success(t) => (t, false),
+            Self::GenerationOverflow(t) => (t, true),
         }
     }
 
@@ -55,10 +55,8 @@ impl<T> InvalidationOption<T> {
         ensures overflow { is_overflow result ≡ is_overflow self }
     {
         match self {
-            InvalidationOption::Success(t) => InvalidationOption::Success(f(t)),
-            InvalidationOption::GenerationOverflow(t) => InvalidationOption::GenerationOverflow(f(
-                t,
-            )),
+            Self::Success(t) => InvalidationOption::Success(f(t)),
+            Self::GenerationOverflow(t) => InvalidationOption::GenerationOverflow(f(t)),
         }
     }
 }
@@ -69,9 +67,9 @@ impl<T> InvalidationResult<T> {
         ensures { result ≡ value_within self }
     {
         match self {
-            InvalidationResult::Success(t) => Some(t),
-            InvalidationResult::GenerationOverflow(t) => Some(t),
-            InvalidationResult::InvalidPtr => None,
+            Self::Success(t) => Some(t),
+            Self::GenerationOverflow(t) => Some(t),
+            Self::InvalidPtr => None,
         }
     }
 
@@ -80,9 +78,9 @@ impl<T> InvalidationResult<T> {
         ensures { result ≡ (value_within self, is_overflow_result self) }
     {
         match self {
-            InvalidationResult::Success(t) => (Some(t), false),
-            InvalidationResult::GenerationOverflow(t) => (Some(t), true),
-            InvalidationResult::InvalidPtr => (None, false),
+            Self::Success(t) => (Some(t), false),
+            Self::GenerationOverflow(t) => (Some(t), true),
+            Self::InvalidPtr => (None, false),
         }
     }
 
@@ -93,11 +91,9 @@ impl<T> InvalidationResult<T> {
         ensures overflow { is_overflow_result result ≡ is_overflow_result self }
     {
         match self {
-            InvalidationResult::Success(t) => InvalidationResult::Success(f(t)),
-            InvalidationResult::GenerationOverflow(t) => InvalidationResult::GenerationOverflow(f(
-                t,
-            )),
-            InvalidationResult::InvalidPtr => InvalidationResult::InvalidPtr,
+            Self::Success(t) => InvalidationResult::Success(f(t)),
+            Self::GenerationOverflow(t) => InvalidationResult::GenerationOverflow(f(t)),
+            Self::InvalidPtr => InvalidationResult::InvalidPtr,
         }
     }
 }

@@ -10,6 +10,7 @@ use std::hash::Hash;
 ///
 /// Carries `PtrInx` of `triple_arena`, over `usize` in place of `NonZeroUsize`.
 pub trait PtrInx: Copy + Eq + Ord + Hash + Debug {
+    // The number of an index, from 1 to the greatest. Contracts name indexes by it.
     ghost number: { Self → ℕ };
 
     ghost greatest: { ℕ };
@@ -49,8 +50,10 @@ pub trait PtrInx: Copy + Eq + Ord + Hash + Debug {
 pub trait PtrGen: Copy + Eq + Ord + Hash + Debug {
     ghost first: { Self };
 
+    // What comes after a generation.
     ghost following: { Self → Self };
 
+    // Whether a generation is the greatest, after which the counting begins again.
     ghost wraps: { Self → Bool };
 
     /// The first generation that an arena gives.
@@ -73,10 +76,13 @@ pub trait PtrGen: Copy + Eq + Ord + Hash + Debug {
 ///
 /// Two pointers are equal exactly if both parts are. Carries `Ptr` of `triple_arena`.
 pub trait Ptr: Copy + Eq + Ord + Hash + Debug {
+    /// The type of the index.
     type Inx: PtrInx;
 
+    /// The type of the generation, `()` for pointers without one.
     type Gen: PtrGen;
 
+    // The index as a number, and the generation: all that a pointer is.
     ghost key: { Self → ℕ × Self.Gen };
 
     /// The name of the pointer type, with which the text of a pointer begins.

@@ -116,7 +116,7 @@ pub trait SetMaxCapacity {
     // The capacity that no maximum may fall below.
     ghost stack_capacity: { Self → ℕ };
 
-    // The second is the first with this maximum.
+    // What the second is, if it is the first with this maximum.
     ghost limits: { Self → ℕ → Self → Type 0 };
 
     /// Sets the maximum to `n`. Refused exactly if `n` is below the capacity of the stack, and then nothing changes.
@@ -126,7 +126,7 @@ pub trait SetMaxCapacity {
         ensures err { OnErr result (self.new ≡ self.old) };
 }
 
-/// A slot stack whose maximum can be set.
+/// A slot stack whose maximum can be set, which changes nothing else of it.
 pub trait LimitStack: SlotStack + SetMaxCapacity {
     ghost same_capacity: { (s : Self) → Self.stack_capacity s ≡ Self.capacity s };
 

@@ -67,10 +67,11 @@ impl fmt::Debug for ToolPtr {
 
     /// The name, the index in brackets and the generation in parentheses, in hexadecimal, as `P0[1](2)`.
     fn fmt<W: fmt::Write>(&self, f: &mut fmt::Formatter<W>) -> fmt::Result {
+        let ToolPtr { inx, generation } = *self;
         f.write_str(Self::name())?;
         f.write_str("[")?;
-        self.inx.fmt_hex(f)?;
+        inx.fmt_hex(f)?;
         f.write_str("]")?;
-        self.generation.fmt_gen(f)
+        generation.fmt_gen(f)
     }
 }

@@ -4,7 +4,8 @@ ghost use Rattle.std.specs.Borrow.{Lends, sem};
 ghost use Rattle.arena_ptr.specs.SlotStack.{IsBeyond};
 
 use crate::{
-    HeapStack, LimitStack, LimitedStack, MaxCapacityReductionError, ReallocationError, SlotStack,
+    HeapStack, LimitStack, LimitedStack, MaxCapacityReductionError, ReallocationError,
+    SetMaxCapacity, SlotStack,
 };
 use std::alloc::Global;
 use std::mem;
@@ -154,6 +155,24 @@ impl<S: SlotStack> SlotStack for Rationed<S> {
     }
 }
 
+impl<S: LimitStack> SetMaxCapacity for Rationed<S> {
+    ghost stack_capacity = { λ s. S.capacity s.inner };
+
+    ghost limits = { λ s n t. (S.items t.inner ≡ S.items s.inner) × (S.capacity t.inner ≡ S.capacity s.inner) × (S.maximum t.inner ≡ Some n) };
+
+    fn set_max_capacity(&mut self, n: usize) -> Result<(), MaxCapacityReductionError> {
+        self.inner.set_max_capacity(n)
+    }
+}
+
+impl<S: LimitStack> LimitStack for Rationed<S> {
+    ghost use Rattle.std.specs.Prelude.{refl};
+
+    ghost same_capacity = { λ _. refl };
+
+    ghost limited = { λ s t n kept. kept };
+}
+
 // What the stack holds, in order, its capacity and its maximum.
 fn seen<S: SlotStack<Item = u32>>(
     stack: &S,
@@ -282,7 +301,12 @@ fn limited_stacks_hold_a_list(rt: HostRuntime) -> Result<(), Fail> {
 
 #[test]
 fn limited_stacks_stop_at_their_maximum(rt: HostRuntime) -> Result<(), Fail> {
-    check_maximum(&rt, rt.alloc(), &mut LimitedStack::new(rt.alloc()))
+    check_maximum(&rt, rt.alloc(), &mut LimitedStack::new(rt.alloc()))?;
+    let mut rationed = Rationed {
+        inner: LimitedStack::new(rt.alloc()),
+        ration: 100,
+    };
+    check_maximum(&rt, rt.alloc(), &mut rationed)
 }
 
 #[test]

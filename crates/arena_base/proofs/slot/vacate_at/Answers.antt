@@ -13,6 +13,6 @@ pub returns-in-Some-clause-none : goal.returns-in-Some-clause-none
 returns-in-Some-clause-none g c =
     let items = g.S.SlotStack.items c.args.slots.now in
     if_none c.vacate.result (λ none.
-      g.met.S.SlotStack.items_written c.args.slots.now c.args.k c.vacate.new.self
-      ∙ (ap (slice_set items c.args.k) (c.vacate.ensures.after ∙ freed_slot-free c.in-Some.slot.now c.args.next (sym c.vacate.ensures.entry ∙ none))
-      ∙ slice_set-itself items c.args.k c.in-Some.slot.now (sym c.in-Some.ensures.value)))
+    g.met.S.SlotStack.items_written c.args.slots.now c.args.k c.vacate.new.self
+    ∙ (ap (slice_set items c.args.k) (c.vacate.ensures.after ∙ freed_slot-free c.in-Some.slot.now c.args.next (sym c.vacate.ensures.entry ∙ none))
+    ∙ slice_set-itself items c.args.k c.in-Some.slot.now (sym c.in-Some.ensures.value)))

@@ -1,0 +1,209 @@
+-- The entries of slots from a position on, and up to one.
+use Rattle.std.proofs.Common.{◌≡◌, ℕ, zero, suc, ◌+◌, ◌-◌, ◌<◌, ◌≤◌, Bool, true, false, cond, leb, List, [], ◌∷◌, ◌++◌, length, take, drop, reverse, Option, None, Some, refl, ap, sym, ◌∙◌, arith, rules}
+use Rattle.std.specs.Prelude.{slice_index_or, slice_set}
+use Rattle.arena_base.specs.Arena.{slot_at, with_slot}
+use Rattle.std.specs.Option.{option_map}
+use Rattle.std.proofs.lemmas.List.{append-nil, reverse-append}
+use Rattle.std.proofs.lemmas.Grind.{common_steps}
+use Rattle.arena_base.specs.Entries.{entries_from, key_at, first_key, last_key}
+use Rattle.arena_base.specs.Advancing.{from_index, up_to_index}
+
+within : (m n : ℕ) → m ≤ n → leb m n ≡ true
+within m n below = search rules
+
+beyond : (m n : ℕ) → n < m → leb m n ≡ false
+beyond m n above = grind (arith, common_steps)
+
+-- the first, or else the second
+abbrev pub first_of : {K : Type 0} → Option K → Option K → Option K
+first_of None rest = rest
+first_of (Some p) rest = Some p
+
+module _ {Gen T : Type 0} where
+  -- the first key from a position on is that of the slot there, or else the first one behind it
+  pub first_key-drop : (slots : List (Option (Gen × T))) (i k : ℕ) → k < length slots
+      → first_key (entries_from i (drop k slots)) ≡ first_of (option_map (key_at i) (slice_index_or slots k None)) (first_key (entries_from (suc i) (drop (suc k) slots)))
+  first_key-drop [] i k below = absurd (omega (arith, below))
+  first_key-drop (None ∷ slots) i zero below = refl
+  first_key-drop (Some e ∷ slots) i zero below = refl
+  first_key-drop (s ∷ slots) i (suc k) below = first_key-drop slots i k (omega (arith, below))
+
+  pub drop-all : (slots : List (Option (Gen × T))) (i k : ℕ) → length slots ≤ k → entries_from i (drop k slots) ≡ []
+  drop-all [] i zero past = refl
+  drop-all [] i (suc k) past = refl
+  drop-all (s ∷ slots) i zero past = absurd (omega (arith, past))
+  drop-all (s ∷ slots) i (suc k) past = drop-all slots i k (omega (arith, past))
+
+  -- the entries of one slot more
+  abbrev pub entry_list : ℕ → Option (Gen × T) → List ((ℕ × Gen) × T)
+  entry_list i None = []
+  entry_list i (Some e) = ((i, e.0), e.1) ∷ []
+
+  pub entries_from-take : (slots : List (Option (Gen × T))) (i k n : ℕ) → k < length slots → i + k ≡ n
+      → entries_from i (take (suc k) slots) ≡ entries_from i (take k slots) ++ entry_list n (slice_index_or slots k None)
+  entries_from-take [] i k n below at = absurd (omega (arith, below))
+  entries_from-take (None ∷ slots) i zero n below at = refl
+  entries_from-take (Some e ∷ slots) i zero n below at = let same : i ≡ n = omega (arith, at) in ap (λ m. ((m, e.0), e.1) ∷ []) same
+  entries_from-take (None ∷ slots) i (suc k) n below at = entries_from-take slots (suc i) k n (omega (arith, below)) (omega (arith, at))
+  entries_from-take (Some e ∷ slots) i (suc k) n below at = ap (λ es. ((i, e.0), e.1) ∷ es) (entries_from-take slots (suc i) k n (omega (arith, below)) (omega (arith, at)))
+
+  -- the last key up to a position is that of the slot there, or else the last one before it
+  pub last_key-take : (slots : List (Option (Gen × T))) (k n : ℕ) → k < length slots → 1 + k ≡ n
+      → last_key (entries_from 1 (take (suc k) slots)) ≡ first_of (option_map (key_at n) (slice_index_or slots k None)) (last_key (entries_from 1 (take k slots)))
+  last_key-take slots k n below at = ap last_key (entries_from-take slots 1 k n below at) ∙ last_key-of (entries_from 1 (take k slots)) (slice_index_or slots k None)
+    where
+      last_key-of : (es : List ((ℕ × Gen) × T)) (o : Option (Gen × T)) → last_key (es ++ entry_list n o) ≡ first_of (option_map (key_at n) o) (last_key es)
+      last_key-of es None = ap last_key (append-nil es)
+      last_key-of es (Some e) = ap first_key (reverse-append es (((n, e.0), e.1) ∷ []))
+
+  pub take-all : (slots : List (Option (Gen × T))) (i k : ℕ) → length slots ≤ k → entries_from i (take k slots) ≡ entries_from i slots
+  take-all [] i zero past = refl
+  take-all [] i (suc k) past = refl
+  take-all (s ∷ slots) i zero past = absurd (omega (arith, past))
+  take-all (None ∷ slots) i (suc k) past = take-all slots (suc i) k (omega (arith, past))
+  take-all (Some e ∷ slots) i (suc k) past = ap (λ es. ((i, e.0), e.1) ∷ es) (take-all slots (suc i) k (omega (arith, past)))
+
+  -- all entries of slots stand from the first one's index on
+  from_index-all : (slots : List (Option (Gen × T))) (i j : ℕ) → i ≤ j → from_index i (entries_from j slots) ≡ entries_from j slots
+  from_index-all [] i j below = refl
+  from_index-all (None ∷ slots) i j below = from_index-all slots i (suc j) (omega (arith, below))
+  from_index-all (Some e ∷ slots) i j below =
+      ap (λ b. cond b (((j, e.0), e.1) ∷ entries_from (suc j) slots) (from_index i (entries_from (suc j) slots))) (within i j below)
+
+  pub from_index-drop : (slots : List (Option (Gen × T))) (i j k : ℕ) → j + k ≡ i → from_index i (entries_from j slots) ≡ entries_from i (drop k slots)
+  from_index-drop slots i j zero at = let same : i ≡ j = omega (arith, at) in from_index-all slots i j (omega (arith, at)) ∙ ap (λ n. entries_from n slots) (sym same)
+  from_index-drop [] i j (suc k) at = refl
+  from_index-drop (None ∷ slots) i j (suc k) at = from_index-drop slots i (suc j) k (omega (arith, at))
+  from_index-drop (Some e ∷ slots) i j (suc k) at =
+      ap (λ b. cond b (((j, e.0), e.1) ∷ entries_from (suc j) slots) (from_index i (entries_from (suc j) slots))) (beyond i j (omega (arith, at)))
+      ∙ from_index-drop slots i (suc j) k (omega (arith, at))
+
+  -- no entry of slots stands before the first one's index
+  up_to_index-none : (slots : List (Option (Gen × T))) (i j : ℕ) → i < j → up_to_index i (entries_from j slots) ≡ []
+  up_to_index-none [] i j below = refl
+  up_to_index-none (None ∷ slots) i j below = up_to_index-none slots i (suc j) (omega (arith, below))
+  up_to_index-none (Some e ∷ slots) i j below =
+      ap (λ b. cond b (((j, e.0), e.1) ∷ up_to_index i (entries_from (suc j) slots)) []) (beyond j i below)
+
+  pub up_to_index-take : (slots : List (Option (Gen × T))) (i j k : ℕ) → j + k ≡ suc i → up_to_index i (entries_from j slots) ≡ entries_from j (take k slots)
+  up_to_index-take slots i j zero at = up_to_index-none slots i j (omega (arith, at)) ∙ sym (none slots)
+    where
+      none : (xs : List (Option (Gen × T))) → entries_from j (take 0 xs) ≡ []
+      none [] = refl
+      none (x ∷ xs) = refl
+  up_to_index-take [] i j (suc k) at = refl
+  up_to_index-take (None ∷ slots) i j (suc k) at = up_to_index-take slots i (suc j) k (omega (arith, at))
+  up_to_index-take (Some e ∷ slots) i j (suc k) at =
+      ap (λ b. cond b (((j, e.0), e.1) ∷ up_to_index i (entries_from (suc j) slots)) []) (within j i (omega (arith, at)))
+      ∙ ap (λ es. ((j, e.0), e.1) ∷ es) (up_to_index-take slots i (suc j) k (omega (arith, at)))
+
+  -- one step of a search down
+  pub last_key-step : (slots : List (Option (Gen × T))) (k n : ℕ) (o : Option (ℕ × Gen)) → k + 1 ≡ n → k < length slots → o ≡ option_map (key_at (k + 1)) (slice_index_or slots k None)
+      → last_key (entries_from 1 (take n slots)) ≡ first_of o (last_key (entries_from 1 (take k slots)))
+  last_key-step slots k n o at below is =
+      let next : suc k ≡ n = omega (arith, at) in
+      ap (λ m. last_key (entries_from 1 (take m slots))) (sym next)
+      ∙ (last_key-take slots k (k + 1) below (omega arith) ∙ ap (λ p. first_of p (last_key (entries_from 1 (take k slots)))) (sym is))
+
+  -- what lies ahead by rising index begins at a position
+  pub ahead_up : (slots : List (Option (Gen × T))) (from k : ℕ) → k ≡ from - 1 → entries_from (k + 1) (drop k slots) ≡ from_index from (entries_from 1 slots)
+  ahead_up slots zero k at =
+      let start : k ≡ 0 = omega (arith, at) in
+      ap (λ j. entries_from (j + 1) (drop j slots)) start ∙ (ap (λ j. entries_from j slots) (one 1) ∙ sym (from_index-all slots 0 1 (omega arith)))
+    where
+      one : (n : ℕ) → 0 + n ≡ n
+      one n = omega arith
+  ahead_up slots (suc n) k at =
+      let next : k + 1 ≡ suc n = omega (arith, at) in
+      ap (λ j. entries_from j (drop k slots)) next ∙ sym (from_index-drop slots (suc n) 1 k (omega (arith, next)))
+
+  -- what lies ahead by falling index ends at a position
+  pub ahead_down : (slots : List (Option (Gen × T))) (to : ℕ) → entries_from 1 (take to slots) ≡ up_to_index to (entries_from 1 slots)
+  ahead_down slots to = sym (up_to_index-take slots to 1 to (omega arith))
+
+  drop-none : (slots : List (Option (Gen × T))) → drop 0 slots ≡ slots
+  drop-none [] = refl
+  drop-none (s ∷ slots) = refl
+
+  -- all entries from the first position on
+  pub entries_from-start : (slots : List (Option (Gen × T))) → entries_from (0 + 1) (drop 0 slots) ≡ entries_from 1 slots
+  entries_from-start slots = ap (entries_from 1) (drop-none slots)
+
+  first_split : (slots : List (Option (Gen × T))) (m i : ℕ) (g : Gen) → first_key (entries_from m slots) ≡ Some (i, g)
+      → (t : T) × (k : ℕ) × (m + k ≡ i) × (slice_index_or slots k None ≡ Some (g, t)) × (entries_from m slots ≡ ((i, g), t) ∷ entries_from (suc i) (drop (suc k) slots))
+  first_split [] m i g first = cc
+  first_split (None ∷ slots) m i g first =
+      let found = first_split slots (suc m) i g first in
+      (found.0, suc found.1, omega (arith, found.2), found.3, found.4)
+  first_split (Some e ∷ slots) m i g first =
+      let key : (m, e.0) ≡ (i, g) = cc in
+      let index : m ≡ i = ap (λ (k : ℕ × Gen). k.0) key in
+      let generation : e.0 ≡ g = ap (λ (k : ℕ × Gen). k.1) key in (
+        e.1,
+        0,
+        omega (arith, index),
+        ap (λ (h : Gen). let o : Option (Gen × T) = Some (h, e.1) in o) generation,
+        ap (λ (k : ℕ × Gen). (k, e.1) ∷ entries_from (suc m) slots) key ∙ ap (λ n. ((i, g), e.1) ∷ entries_from (suc n) slots) index
+            ∙ ap (λ es. ((i, g), e.1) ∷ entries_from (suc i) es) (sym (drop-none slots)),
+      )
+
+  first_after : (slots : List (Option (Gen × T))) (m n j i : ℕ) (g : Gen) → m + n ≡ j → first_key (entries_from j (drop n slots)) ≡ Some (i, g)
+      → (t : T) × (k : ℕ) × (m + k ≡ i) × (slice_index_or slots k None ≡ Some (g, t)) × (entries_from j (drop n slots) ≡ ((i, g), t) ∷ entries_from (suc i) (drop (suc k) slots))
+  first_after [] m zero j i g at first = cc
+  first_after [] m (suc n) j i g at first = cc
+  first_after (s ∷ slots) m zero j i g at first =
+      let found = first_split (s ∷ slots) j i g first in
+      (found.0, found.1, omega (arith, found.2, at), found.3, found.4)
+  first_after (s ∷ slots) m (suc n) j i g at first =
+      let found = first_after slots (suc m) n j i g (omega (arith, at)) first in
+      (found.0, suc found.1, omega (arith, found.2), found.3, found.4)
+
+  -- the next entry from a position on, and what is left behind it
+  pub next_entry : (slots : List (Option (Gen × T))) (n i : ℕ) (g : Gen) → Some (i, g) ≡ first_key (entries_from (n + 1) (drop n slots))
+      → (t : T) × (slot_at slots i ≡ Some (g, t)) × (entries_from (n + 1) (drop n slots) ≡ ((i, g), t) ∷ entries_from (i + 1) (drop i slots))
+  next_entry slots n i g first =
+      let found = first_after slots 1 n (n + 1) i g (omega arith) (sym first) in
+      let index : suc found.1 ≡ i = omega (arith, found.2) in
+      let behind : suc i ≡ i + 1 = omega arith in (
+        found.0,
+        ap (slot_at slots) (sym index) ∙ found.3,
+        found.4 ∙ (ap (λ m. ((i, g), found.0) ∷ entries_from m (drop (suc found.1) slots)) behind ∙ ap (λ m. ((i, g), found.0) ∷ entries_from (i + 1) (drop m slots)) index),
+      )
+
+  -- no key, no entries
+  pub no_first : (es : List ((ℕ × Gen) × T)) → None ≡ first_key es → es ≡ []
+  no_first [] none = refl
+  no_first (e ∷ es) none = cc
+
+  -- what lies behind a slot does not change with it
+  pub drop-with_slot : (slots : List (Option (Gen × T))) (i : ℕ) (slot : Option (Gen × T)) → drop i (with_slot slots i slot) ≡ drop i slots
+  drop-with_slot slots zero slot = refl
+  drop-with_slot slots (suc k) slot = behind slots k
+    where
+      behind : (xs : List (Option (Gen × T))) (k : ℕ) → drop (suc k) (slice_set xs k slot) ≡ drop (suc k) xs
+      behind [] zero = refl
+      behind [] (suc k) = refl
+      behind (x ∷ xs) zero = refl
+      behind (x ∷ xs) (suc k) = behind xs k
+
+  -- the next entry, as a look at its index shows it
+  pub next_shown : (slots : List (Option (Gen × T))) (n m made : ℕ) (key : ℕ × Gen) (shown : Gen × T) → Some key ≡ first_key (entries_from (n + 1) (drop n slots)) → Some shown ≡ slot_at slots m → m ≡ key.0 → made ≡ key.0
+      → entries_from (n + 1) (drop n slots) ≡ (key, shown.1) ∷ entries_from (made + 1) (drop made slots)
+  next_shown slots n m made key shown first looked index same =
+      let next = next_entry slots n key.0 key.1 first in
+      let both : Some shown ≡ Some (key.1, next.0) = looked ∙ (ap (slot_at slots) index ∙ next.1) in
+      let value : shown ≡ (key.1, next.0) = cc in
+      next.2 ∙ (ap (λ (e : Gen × T). (key, e.1) ∷ entries_from (key.0 + 1) (drop key.0 slots)) (sym value)
+      ∙ ap (λ i. (key, shown.1) ∷ entries_from (i + 1) (drop i slots)) (sym same))
+
+  pub next_stands : (slots : List (Option (Gen × T))) (n m : ℕ) (key : ℕ × Gen) → Some key ≡ first_key (entries_from (n + 1) (drop n slots)) → None ≡ slot_at slots m → m ≡ key.0 → ⊥
+  next_stands slots n m key first looked index =
+      let next = next_entry slots n key.0 key.1 first in
+      let both : None ≡ Some (key.1, next.0) = looked ∙ (ap (slot_at slots) index ∙ next.1) in cc
+
+  -- the same once it is taken out
+  pub next_taken : (slots after : List (Option (Gen × T))) (n m made : ℕ) (key : ℕ × Gen) (shown : Gen × T) → Some key ≡ first_key (entries_from (n + 1) (drop n slots)) → Some shown ≡ slot_at slots m → m ≡ key.0 → made ≡ key.0
+      → after ≡ with_slot slots m None → entries_from (n + 1) (drop n slots) ≡ (key, shown.1) ∷ entries_from (made + 1) (drop made after)
+  next_taken slots after n m made key shown first looked index same is =
+      let behind : drop made slots ≡ drop made after = sym (ap (drop made) (is ∙ ap (λ i. with_slot slots i None) (index ∙ sym same)) ∙ drop-with_slot slots made None) in
+      next_shown slots n m made key shown first looked index same ∙ ap (λ es. (key, shown.1) ∷ entries_from (made + 1) es) behind

@@ -1,0 +1,59 @@
+-- The arena gets the value written to the slot that was lent.
+use Rattle.std.proofs.Common.{◌≡◌, Option, Some, None, refl, sym, ◌∙◌, ap}
+use Rattle.std.specs.Prelude.{OnSome, slice_get}
+use Rattle.std.specs.Option.{option_map}
+use Rattle.arena_base.specs.Arena.{with_value}
+use Rattle.arena_base.specs.Slots.{entry_in, with_value_in}
+use Rattle.arena_base.specs.Entries.{seen_of}
+use Rattle.arena_base.proofs.Reading.{slot_at-map, slice_set-itself}
+use Rattle.arena_base.proofs.Soundness.{lent, closed}
+use Rattle.arena_base.proofs.Seeing.{seen_written}
+use Rattle.arena_base.proofs.Viewing.{lent_view}
+use Rattle.arena_base.proofs.arena_trait.ArenaArenaTrait.get_inx_mut.Goals as goal
+
+on_some : {X Q : Type 0} (o : Option X) → Q → OnSome o Q
+on_some None q = tt
+on_some (Some x) q = q
+
+pub invariant_of-self-lent : goal.invariant_of-self-lent
+invariant_of-self-lent g c o =
+    let number = g.P.Inx.PtrInx.number in
+    let slots = c.self.inside.slots in
+    let items = g.S.SlotStack.items slots in
+    let k = c.position_of.result in
+    let slot = c.in-Some.slot.now in
+    let is = sym c.in-Some.ensures.value in (
+      λ w. rw (g.met.S.SlotStack.items_written slots k (with_value_in slot w)) (closed number (lent number k slot w c.self.invariant is)),
+      rw (g.met.S.SlotStack.items_written slots k slot, slice_set-itself items k slot is) c.self.invariant,
+    )
+
+pub returns-in-Some : goal.returns-in-Some
+returns-in-Some g c =
+    let number = g.P.Inx.PtrInx.number in
+    let slots = c.self.inside.slots in
+    let items = g.S.SlotStack.items slots in
+    let k = c.position_of.result in
+    let n = number c.args.i in
+    let slot = c.in-Some.slot.now in
+    let is = sym c.in-Some.ensures.value in
+    let at = c.position_of.ensures in (
+      (
+        refl,
+        (λ w.
+            let written = lent_view number c.self.invariant c.self.inside.counter (g.S.SlotStack.capacity slots) (g.S.SlotStack.maximum slots) c.self.inside.placed.count c.self.inside.touched.count k n slot w
+            (g.S.SlotStack.items (g.S.SlotStack.with_item slots k (with_value_in slot w))) (g.S.SlotStack.capacity (g.S.SlotStack.with_item slots k (with_value_in slot w))) (g.S.SlotStack.maximum (g.S.SlotStack.with_item slots k (with_value_in slot w)))
+            at is (g.met.S.SlotStack.items_written slots k (with_value_in slot w)) (g.met.S.SlotStack.capacity_written slots k (with_value_in slot w)) (g.met.S.SlotStack.maximum_written slots k (with_value_in slot w))
+            ∙ ap (λ a. with_value a n w) c.self.view_is in
+            on_some c.value_mut.result (ap seen_of written ∙ seen_written c.args.self.now n w, written)),
+        rw (← c.self.view_is, g.met.S.SlotStack.items_written slots k slot, g.met.S.SlotStack.capacity_written slots k slot, g.met.S.SlotStack.maximum_written slots k slot, slice_set-itself items k slot is),
+      ),
+      record { writes_back = tt; value = c.value_mut.ensures.value ∙ rw (← c.self.view_is) (ap (option_map (λ e. e.1)) (sym (slot_at-map items k n at ∙ ap entry_in is))) },
+    )
+
+pub returns-in-None : goal.returns-in-None
+returns-in-None g c =
+    let number = g.P.Inx.PtrInx.number in
+    let items = g.S.SlotStack.items c.self.inside.slots in (
+      (refl, (λ w. tt), c.self.view_is),
+      record { writes_back = tt; value = rw (← c.self.view_is, slot_at-map items c.position_of.result (number c.args.i) c.position_of.ensures, ← c.in-None.ensures.value) },
+    )

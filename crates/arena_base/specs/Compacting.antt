@@ -1,0 +1,71 @@
+-- The slots of an arena while entries are moved, and what the arena is before and after.
+use Rattle.std.specs.Prelude.{◌≡◌, ℕ, suc, ◌+◌, ◌-◌, ◌^◌, min, List, [], ◌∷◌, Option, None, Some}
+use Rattle.std.specs.Option.{option_map}
+use Rattle.std.specs.Borrow.{Bor}
+use Rattle.arena_base.specs.Arena.{Arena, slot_at, with_slot}
+
+-- the slots that a compactor holds, with the capacity and the maximum of their stack
+pub record Held (Gen T : Type 0) : Type 0 where
+  pub slots : List (Option (Gen × T))
+  pub stack_capacity : ℕ
+  pub maximum : Option ℕ
+
+-- a count of work: it stays at its greatest value
+abbrev pub one_more : ℕ → ℕ
+one_more n = min (n + 1) (2 ^ 128 - 1)
+
+module _ {X : Type 0} where
+  -- a free slot at the end is cut off
+  abbrev pub before_cut : Option X → List (Option X) → List (Option X)
+  before_cut None [] = []
+  before_cut None (slot ∷ slots) = None ∷ slot ∷ slots
+  before_cut (Some x) slots = Some x ∷ slots
+
+  -- the slots without the free ones at the end
+  abbrev pub trimmed : List (Option X) → List (Option X)
+  trimmed [] = []
+  trimmed (slot ∷ slots) = before_cut slot (trimmed slots)
+
+  -- the indexes of the free slots by rising index, where the first slot has index i
+  abbrev pub free_from : ℕ → List (Option X) → List ℕ
+  free_from i [] = []
+  free_from i (None ∷ slots) = i ∷ free_from (suc i) slots
+  free_from i (Some x ∷ slots) = free_from (suc i) slots
+
+module _ {Gen T : Type 0} where
+  -- an entry as a look at both its parts shows it
+  abbrev pub seen_parts : Bor Gen × Bor T → Gen × T
+  seen_parts e = (e.0.now, e.1.now)
+
+  abbrev pub held_of : Arena Gen T → Held Gen T
+  held_of a = record { slots = a.slots; stack_capacity = a.stack_capacity; maximum = a.maximum }
+
+  -- the arena whose slots are taken out: empty over a new stack, with its counter and totals
+  abbrev pub lent_out : Option ℕ → Arena Gen T → Arena Gen T
+  lent_out maximum a = record a { slots = []; freed = []; capacity = 0; stack_capacity = 0; maximum = maximum }
+
+  -- the arena that got slots back: those at the end that are free are cut off, and the others listed, the least index first
+  abbrev pub returned : ℕ → Arena Gen T → Held Gen T → Arena Gen T
+  returned greatest a held = record a {
+    slots = trimmed held.slots;
+    freed = free_from 1 (trimmed held.slots);
+    capacity = min held.stack_capacity greatest;
+    stack_capacity = held.stack_capacity;
+    maximum = held.maximum;
+  }
+
+  abbrev pub with_touch : Arena Gen T → Arena Gen T
+  with_touch a = record a { touched = a.touched + 1 }
+
+  abbrev pub with_placement : Arena Gen T → Arena Gen T
+  with_placement a = record a { placed = a.placed + 1 }
+
+  -- the slots at two indexes exchanged, the entry from the first with a new generation
+  abbrev pub placed : Held Gen T → ℕ → ℕ → Gen → Held Gen T
+  placed held from to g = record held {
+    slots = with_slot (with_slot held.slots from (slot_at held.slots to)) to (option_map (λ e. (g, e.1)) (slot_at held.slots from));
+  }
+
+  -- the slots with another value at an index, if an entry stands there
+  abbrev pub held_with_value : Held Gen T → ℕ → T → Held Gen T
+  held_with_value held i t = record held { slots = with_slot held.slots i (option_map (λ e. (e.0, t)) (slot_at held.slots i)) }

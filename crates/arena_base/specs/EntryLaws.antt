@@ -1,0 +1,43 @@
+-- The entries of slots rise, and an index finds among them what stands in its slot.
+use Rattle.std.specs.Prelude.{◌≡◌, ℕ, zero, suc, ◌+◌, ◌<◌, ◌≤◌, ◌==◌, Bool, true, false, cond, List, [], ◌∷◌, Option, None, Some, slice_index_or}
+use Rattle.std.proofs.Common.{refl, ap, sym, ◌∙◌, arith, rules, subst}
+use Rattle.std.proofs.lemmas.Grind.{common_steps}
+use Rattle.arena_base.specs.Arena.{Arena, slot_at, entry_at}
+use Rattle.arena_base.specs.Entries.{entries_from, entries, found, RisesFrom}
+
+same : (m n : ℕ) → m ≡ n → (m == n) ≡ true
+same m n is = search rules
+
+other : (m n : ℕ) → m < n → (m == n) ≡ false
+other m n below = grind (arith, common_steps)
+
+module _ {Gen T : Type 0} where
+  rises_later : (i j : ℕ) (slots : List (Option (Gen × T))) → i ≤ j → RisesFrom i (entries_from j slots)
+  rises_later i j [] below = tt
+  rises_later i j (None ∷ slots) below = rises_later i (suc j) slots (omega (arith, below))
+  rises_later i j (Some e ∷ slots) below = (below, rises_later (suc j) (suc j) slots (omega arith))
+
+  pub entries_rise : (a : Arena Gen T) → RisesFrom 1 (entries a)
+  entries_rise a = rises_later 1 1 a.slots (omega arith)
+
+  -- no entry has an index below that of the first slot
+  pub found-below : (i j : ℕ) (slots : List (Option (Gen × T))) → i < j → found i (entries_from j slots) ≡ None
+  found-below i j [] below = refl
+  found-below i j (None ∷ slots) below = found-below i (suc j) slots (omega (arith, below))
+  found-below i j (Some e ∷ slots) below =
+      ap (λ b. cond b (Some (e.0, e.1)) (found i (entries_from (suc j) slots))) (above j i below) ∙ found-below i (suc j) slots (omega (arith, below))
+    where
+      above : (m n : ℕ) → n < m → (m == n) ≡ false
+      above m n below = grind (arith, common_steps)
+
+  pub found-entries_from : (i j k : ℕ) (slots : List (Option (Gen × T))) → j + k ≡ i → found i (entries_from j slots) ≡ slice_index_or slots k None
+  found-entries_from i j k [] at = refl
+  found-entries_from i j zero (None ∷ slots) at = found-below i (suc j) slots (omega (arith, at))
+  found-entries_from i j (suc k) (None ∷ slots) at = found-entries_from i (suc j) k slots (omega (arith, at))
+  found-entries_from i j zero (Some e ∷ slots) at = ap (λ b. cond b (Some (e.0, e.1)) (found i (entries_from (suc j) slots))) (same j i (omega (arith, at)))
+  found-entries_from i j (suc k) (Some e ∷ slots) at =
+      ap (λ b. cond b (Some (e.0, e.1)) (found i (entries_from (suc j) slots))) (other j i (omega (arith, at))) ∙ found-entries_from i (suc j) k slots (omega (arith, at))
+
+  pub found-entries : (a : Arena Gen T) (i : ℕ) → found i (entries a) ≡ entry_at a i
+  found-entries a zero = found-below 0 1 a.slots (omega arith)
+  found-entries a (suc k) = found-entries_from (suc k) 1 k a.slots (omega arith)

@@ -1,0 +1,83 @@
+// Advancers over the pointers of arenas, by rising or falling index.
+ghost use Rattle.std.specs.Prelude.{◌≡◌, if◌then◌else◌};
+
+use crate::arena::Arena;
+use crate::look::Look;
+use crate::slot::{ArenaSlot, number_of};
+use crate::traits::Advancer;
+use arena_ptr::{Ptr, SlotStack};
+use std::marker::PhantomData;
+
+/// Goes over the valid pointers of an arena by rising or falling index. Once it has answered `None` it answers nothing
+/// else.
+///
+/// Carries `PtrAdvancer` of `triple_arena`, with which one type serves the plain and the chain arena.
+#[derive(Drop)]
+pub struct PtrAdvancer<P> {
+    look: Look,
+    of: PhantomData<P>,
+}
+
+impl<P> PtrAdvancer<P> {
+    /// By rising index from an index on.
+    pub(crate) fn up(from: usize) -> Self
+        ensures { result.look ≡ Look.Up from }
+    {
+        PtrAdvancer {
+            look: Look::Up(from),
+            of: PhantomData,
+        }
+    }
+
+    /// From an index on, by rising or, with `rev`, by falling index.
+    pub(crate) fn begin(from: usize, rev: bool) -> Self
+        ensures { result.look ≡ (if rev then Look.Down from else Look.Up from) }
+    {
+        PtrAdvancer {
+            look: if rev {
+                Look::Down(from)
+            } else {
+                Look::Up(from)
+            },
+            of: PhantomData,
+        }
+    }
+}
+
+impl<P: Ptr, T: Drop, S: SlotStack<Item = ArenaSlot<P, T>>> Advancer<Arena<P, T, S>>
+    for PtrAdvancer<P> {
+    ghost use Rattle.std.specs.Prelude.{◌≡◌, refl};
+    ghost use Rattle.std.specs.Option.{option_map};
+    ghost use Rattle.arena_base.specs.Entries.{entries};
+    ghost use Rattle.arena_base.specs.Advancing.{IsLook};
+    ghost use Rattle.arena_base.specs.AdvancingLaws.{nowhere_stays};
+    ghost use Rattle.arena_base.specs.declared.look.Look.TheVariants.{Nowhere};
+
+    type Item = P;
+
+    ghost gives = { λ a arena answer b. IsLook (entries arena) a.look (option_map P.key answer) b.look };
+
+    ghost is_spent = { λ a. a.look ≡ Nowhere };
+
+    ghost stays_spent = { λ a b arena answer spent given. nowhere_stays P.key (entries arena) a.look answer b.look spent given };
+
+    fn advance(&mut self, collection: &Arena<P, T, S>) -> Option<P> {
+        match collection.find(self.look) {
+            Some(p) => {
+                self.look = self.look.after(number_of::<P>(p.inx()));
+                Some(p)
+            }
+            None => {
+                self.look = Look::Nowhere;
+                None
+            }
+        }
+    }
+
+    fn empty() -> Self {
+        PtrAdvancer {
+            look: Look::Nowhere,
+            of: PhantomData,
+        }
+    }
+}

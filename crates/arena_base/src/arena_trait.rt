@@ -1,0 +1,210 @@
+// The calls that an arena shares with other arenas.
+ghost use Rattle.std.specs.Prelude.{◌≡◌, ◌≤◌, length};
+ghost use Rattle.arena_ptr.specs.Invalidation.{value_within, is_overflow_result};
+ghost use Rattle.std.specs.Option.{option_map};
+ghost use Rattle.arena_base.specs.Arena.{counter_after_clear, overflows_after_clear, entry_count, IsListed};
+ghost use Rattle.arena_base.specs.Entries.{seen_of};
+
+use crate::advancer::PtrAdvancer;
+use crate::arena::{Arena, invalidated, outcome};
+use crate::slot::{ArenaSlot, number_of, position_of};
+use crate::traits::{ArenaTrait, CompactArenaTrait};
+use arena_ptr::{
+    AllocError, InvalidationOption, InvalidationResult, Ptr, PtrGen, PtrInx, ReallocationError,
+    SlotStack,
+};
+use std::alloc::Global;
+
+impl<P: Ptr, T: Drop, S: SlotStack<Item = ArenaSlot<P, T>>> ArenaTrait<P, T> for Arena<P, T, S> {
+    ghost use Rattle.std.specs.Prelude.{◌≡◌};
+    ghost use Rattle.arena_base.specs.Arena.{entry_at, new_arena, with_capacity_of, with_value, renewed_at, remove_at, cleared};
+    ghost use Rattle.arena_base.specs.Entries.{seen_of};
+    ghost use Rattle.arena_base.specs.EntryLaws.{entries_rise, found-entries};
+
+    type PtrAdvancer = PtrAdvancer<P>;
+
+    ghost seen = { seen_of };
+
+    ghost entry = { entry_at };
+
+    ghost looks = { λ a. a.look };
+
+    ghost starts = { λ n a. (a ≡ with_capacity_of (new_arena P.Gen.first S.initial_maximum) a) × (n ≡ 0 → a.stack_capacity ≡ 0) };
+
+    ghost grows = { λ a b. b ≡ with_capacity_of a b };
+
+    ghost writes = { λ a i t b. b ≡ with_value a i t };
+
+    ghost renews = { λ a i b. b ≡ renewed_at P.Gen.following a i };
+
+    ghost removes = { λ a i b. b ≡ remove_at P.Gen.following a i };
+
+    ghost clears = { λ a b. b ≡ cleared P.Gen.following a };
+
+    ghost rises = { entries_rise };
+
+    ghost looked_up = { found-entries };
+
+    ghost advances = { λ a b arena answer given. given };
+
+    fn new(alloc: Global) -> Self {
+        Arena::over(S::new(alloc))
+    }
+
+    fn with_min_capacity(alloc: Global, n: usize) -> Result<Self, AllocError> {
+        if n > P::Inx::greatest() {
+            return Err(AllocError);
+        }
+        let mut slots = S::new(alloc);
+        match slots.reserve_to(n) {
+            Ok(()) => Ok(Arena::over(slots)),
+            Err(_) => Err(AllocError),
+        }
+    }
+
+    fn capacity(&self) -> usize {
+        self.slots.capacity().min(P::Inx::greatest())
+    }
+
+    fn max_capacity(&self) -> Option<usize> {
+        self.slots.max_capacity()
+    }
+
+    fn len(&self) -> usize
+        ensures count { result ≡ length (seen_of self.now).entries }
+        ensures fits { result ≤ (seen_of self.now).capacity }
+        ensures entries { result ≡ entry_count self.now }
+
+        // The slots and the freed list, in every arena.
+        ensures listed { IsListed self.now }
+        ensures slots { length self.now.slots ≤ P.Inx.greatest }
+    {
+        self.len
+    }
+
+    fn is_empty(&self) -> bool {
+        self.len == 0
+    }
+
+    fn reallocate_min_capacity(&mut self, n: usize) -> Result<(), ReallocationError> {
+        if n <= self.slots.capacity().min(P::Inx::greatest()) {
+            return Ok(());
+        }
+        self.grow_to(n)
+    }
+
+    fn singular_generation(&self) -> Option<P::Gen> {
+        Some(self.counter)
+    }
+
+    fn contains(&self, p: P) -> bool {
+        self.get(p).is_some()
+    }
+
+    fn get(&self, p: P) -> Option<&T> {
+        match self.get_inx(p.inx()) {
+            Some((generation, t)) => {
+                if generation == p.generation() {
+                    Some(t)
+                } else {
+                    None
+                }
+            }
+            None => None,
+        }
+    }
+
+    fn get_mut(&mut self, p: P) -> Option<&mut T> {
+        if self.contains(p) {
+            self.get_inx_mut(p.inx())
+        } else {
+            None
+        }
+    }
+
+    fn get_inx(&self, i: P::Inx) -> Option<(P::Gen, &T)> {
+        match self.slots.get(position_of::<P>(i)) {
+            Some(ArenaSlot::Allocated(generation, t)) => Some((*generation, t)),
+            Some(ArenaSlot::Free(_)) => None,
+            None => None,
+        }
+    }
+
+    fn get_inx_mut(&mut self, i: P::Inx) -> Option<&mut T> {
+        match self.slots.get_mut(position_of::<P>(i)) {
+            Some(slot) => slot.value_mut(),
+            None => None,
+        }
+    }
+
+    fn find_first_inx_ptr(&self) -> Option<P> {
+        self.first_from(0)
+    }
+
+    fn find_last_inx_ptr(&self) -> Option<P> {
+        self.last_to(self.slots.len())
+    }
+
+    fn advancer(&self) -> PtrAdvancer<P> {
+        PtrAdvancer::up(1)
+    }
+
+    fn advancer_inx(&self, i: P::Inx, rev: bool) -> PtrAdvancer<P> {
+        PtrAdvancer::begin(number_of::<P>(i), rev)
+    }
+
+    fn invalidate(&mut self, p: P) -> InvalidationResult<P> {
+        if !self.contains(p) {
+            return InvalidationResult::InvalidPtr;
+        }
+        let (generation, overflow) = self.renew_at(p.inx());
+        outcome(overflow, P::_from_raw(p.inx(), generation))
+    }
+
+    fn remove(&mut self, p: P) -> InvalidationResult<T> {
+        if !self.contains(p) {
+            return InvalidationResult::InvalidPtr;
+        }
+        value_alone(self.remove_inx(p.inx()))
+    }
+
+    fn remove_inx(&mut self, i: P::Inx) -> InvalidationResult<(P::Gen, T)> {
+        self.take_at(i)
+    }
+
+    fn clear(&mut self) -> InvalidationOption<()> {
+        let (generation, overflow) = after_clear(self.counter, self.len);
+        self.counter = generation;
+        self.slots.truncate(0);
+        self.len = 0;
+        self.first_free = None;
+        invalidated(overflow, ())
+    }
+}
+
+impl<P: Ptr, T: Drop, S: SlotStack<Item = ArenaSlot<P, T>>> CompactArenaTrait<P, T>
+    for Arena<P, T, S> {}
+
+// The answer of a removal without the generation.
+fn value_alone<G: Drop, T>(removed: InvalidationResult<(G, T)>) -> InvalidationResult<T>
+    ensures value { value_within result ≡ option_map (λ e. e.1) (value_within removed) }
+    ensures overflow { is_overflow_result result ≡ is_overflow_result removed }
+{
+    match removed {
+        InvalidationResult::Success((_, t)) => InvalidationResult::Success(t),
+        InvalidationResult::GenerationOverflow((_, t)) => InvalidationResult::GenerationOverflow(t),
+        InvalidationResult::InvalidPtr => InvalidationResult::InvalidPtr,
+    }
+}
+
+// The counter after so many entries were cleared, and whether it overflowed.
+fn after_clear<G: PtrGen>(counter: G, count: usize) -> (G, bool)
+    ensures next { result.0 ≡ counter_after_clear G.following count counter }
+    ensures overflow { result.1 ≡ overflows_after_clear G.wraps count counter }
+{
+    if count == 0 {
+        (counter, false)
+    } else {
+        counter.generational_inc()
+    }
+}

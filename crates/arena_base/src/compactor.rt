@@ -1,0 +1,152 @@
+// The compactor: it holds the slots of an arena while entries are moved.
+ghost use Rattle.std.specs.Prelude.{◌≡◌, ◌≤◌, ◌<◌, ◌+◌, ⊤, ℕ, OnSome, IsSome, length, List, Option};
+ghost use Rattle.std.specs.Option.{option_map, option_copied_mut};
+ghost use Rattle.std.specs.Borrow.{LendsSo, follows_so, sem};
+ghost use mathlib.Core.Option.{none};
+ghost use Rattle.arena_base.specs.Arena.{slot_at};
+ghost use Rattle.arena_base.specs.Compacting.{Held, seen_parts, placed, held_with_value, held_of, lent_out, returned, with_touch, with_placement, one_more};
+
+use crate::arena::Arena;
+use crate::held::{HeldSlots, LendsValue};
+use crate::slot::ArenaSlot;
+use arena_ptr::{HeapStack, Ptr, SlotStack};
+
+/// What a compactor did: how many entries it placed, and how many slots it was asked for. Each count stays at 2^128 - 1
+/// once it is there.
+#[derive(Debug, Clone, Copy, PartialEq, Eq)]
+pub struct Work {
+    pub placed: u128,
+    pub touched: u128,
+}
+
+/// The slots of an arena, out of it while entries are moved. `finish` and the drop put them back; until then the arena
+/// is empty, over a new stack. None of its calls takes memory or changes the counter.
+pub struct Compactor<
+    'a,
+    P: Ptr,
+    T: Drop,
+    S: SlotStack<Item = ArenaSlot<P, T>> = HeapStack<ArenaSlot<P, T>>,
+> {
+    arena: &'a mut Arena<P, T, S>,
+    held: HeldSlots<P, T, S>,
+    placed: u128,
+    touched: u128,
+}
+
+impl<P: Ptr, T: Drop, S: SlotStack<Item = ArenaSlot<P, T>>> Arena<P, T, S> {
+    /// Takes the slots out, for moving entries.
+    pub fn compactor(&mut self) -> Compactor<'_, P, T, S>
+        ensures same_reference { result.arena.ghost_name ≡ self.entry.ghost_name }
+        ensures arena { result.arena.now ≡ lent_out S.initial_maximum self.old }
+        ensures held { result.held ≡ held_of self.old }
+        ensures placed { result.placed ≡ 0 }
+        ensures touched { result.touched ≡ 0 }
+        ensures fits { length self.old.slots ≤ P.Inx.greatest }
+    {
+        let held = self.take_slots();
+        Compactor {
+            arena: self,
+            held,
+            placed: 0,
+            touched: 0,
+        }
+    }
+}
+
+impl<'a, P: Ptr, T: Drop, S: SlotStack<Item = ArenaSlot<P, T>>> Compactor<'a, P, T, S> {
+    /// How many slots there are. No call but `finish` and the drop changes it.
+    pub fn slots(&self) -> usize
+        ensures { result ≡ length self.now.held.slots }
+    {
+        self.held.len()
+    }
+
+    /// Exchanges two slots, gives the entry now at `to` a generation, and counts one placement.
+    pub fn place(&mut self, from: P::Inx, to: P::Inx, generation: P::Gen)
+        requires from { P.Inx.number from ≤ length self.old.held.slots }
+        requires to { P.Inx.number to ≤ length self.old.held.slots }
+        requires entry { IsSome (slot_at self.old.held.slots (P.Inx.number from)) }
+        ensures same_reference { self.new.arena.ghost_name ≡ self.old.arena.ghost_name }
+        ensures arena { self.new.arena.now ≡ with_placement self.old.arena.now }
+        ensures held { self.new.held ≡ placed self.old.held (P.Inx.number from) (P.Inx.number to) generation }
+        ensures placed { self.new.placed ≡ one_more self.old.placed }
+        ensures touched { self.new.touched ≡ self.old.touched }
+    {
+        self.arena.count_placement();
+        self.placed = self.placed.saturating_add(1);
+        self.held.place(from, to, generation);
+    }
+
+    /// Cuts free slots off the end, lists the others, the least index to be used first, and gives the slots back to the
+    /// arena. Answers what was counted.
+    pub fn finish(self) -> Work
+        ensures arena { self.exit.0.now ≡ returned P.Inx.greatest self.entry.arena.now self.entry.held }
+        ensures placed { result.placed ≡ self.entry.placed }
+        ensures touched { result.touched ≡ self.entry.touched }
+    {
+        let Compactor {
+            arena,
+            held,
+            placed,
+            touched,
+        } = self;
+        arena.return_slots(held);
+        Work { placed, touched }
+    }
+}
+
+impl<'a, P: Ptr, T: Drop, S: SlotStack<Item = ArenaSlot<P, T>>> Drop for Compactor<'a, P, T, S> {
+    fn drop(self)
+        ensures { self.exit.0.now ≡ returned P.Inx.greatest self.entry.arena.now self.entry.held }
+    {
+        let Compactor {
+            arena,
+            held,
+            placed: _,
+            touched: _,
+        } = self;
+        arena.return_slots(held);
+    }
+}
+
+/// The looks into the slots that a compactor holds.
+pub trait SlotAccess<P: Ptr, T: Drop> {
+    ghost held: { Self → Held P.Gen T };
+
+    // The second is the first after one touch, but for what it holds.
+    ghost touches: { Self → Self → Type 0 };
+
+    /// The generation and the value at an index. Counts one touch.
+    fn peek(&mut self, i: P::Inx) -> Option<(&P::Gen, &T)>
+        ensures* after { sem 𝓛 (follows_so Self.row Self.row self.entry.ghost_name none (λ _ _. ⊤) (λ new. (held new ≡ held self.old) × touches self.old new)) }
+        ensures value { option_map seen_parts result ≡ slot_at (held self.old).slots (P.Inx.number i) };
+
+    /// The value at an index, for writing. Counts one touch.
+    fn value_mut(&mut self, i: P::Inx) -> Option<&mut T>
+        ensures* writes_back { sem 𝓛 (LendsSo Self.row T.row self.entry result
+            (λ new t. OnSome result ((held new ≡ held_with_value (held self.old) (P.Inx.number i) t) × touches self.old new))
+            (λ new. (held new ≡ held self.old) × touches self.old new)) }
+        ensures value { option_copied_mut result ≡ option_map (λ e. e.1) (slot_at (held self.old).slots (P.Inx.number i)) };
+}
+
+impl<'a, P: Ptr, T: Drop, S: SlotStack<Item = ArenaSlot<P, T>>> SlotAccess<P, T>
+    for Compactor<'a, P, T, S> {
+    ghost use Rattle.std.specs.Prelude.{◌≡◌};
+    ghost use Rattle.arena_base.specs.Compacting.{with_touch, one_more};
+
+    ghost held = { λ c. c.held };
+
+    ghost touches = { λ a b. (b.arena.ghost_name ≡ a.arena.ghost_name) × (b.arena.now ≡ with_touch a.arena.now) × (b.placed ≡ a.placed) × (b.touched ≡ one_more a.touched) };
+
+    fn peek(&mut self, i: P::Inx) -> Option<(&P::Gen, &T)> {
+        self.arena.count_touch();
+        self.touched = self.touched.saturating_add(1);
+        self.held.look(i)
+    }
+
+    fn value_mut(&mut self, i: P::Inx) -> Option<&mut T> {
+        self.arena.count_touch();
+        self.touched = self.touched.saturating_add(1);
+        self.held.value_mut(i)
+    }
+}

@@ -1,0 +1,68 @@
+// An insertion that is made ready before its value.
+ghost use Rattle.std.specs.Prelude.{◌≡◌, ◌↔◌, ◌<◌, IsErr, IfOk};
+ghost use Rattle.std.specs.Borrow.{RestsIfErr, sem};
+ghost use Rattle.arena_base.specs.Arena.{entry_count, next_index, insert_next};
+
+use crate::arena::Arena;
+use crate::slot::ArenaSlot;
+use arena_ptr::{HeapStack, NotWithinCapacityError, Ptr, SlotStack};
+
+/// A place for an entry, whose pointer is known before its value. Dropping it changes nothing.
+///
+/// Carries `ArenaInsertEntry` of `triple_arena`.
+#[derive(Drop)]
+pub struct ArenaInsertEntry<
+    'a,
+    P: Ptr,
+    T: Drop,
+    S: SlotStack<Item = ArenaSlot<P, T>> = HeapStack<ArenaSlot<P, T>>,
+> {
+    arena: &'a mut Arena<P, T, S>,
+    ghost room: { entry_count arena.now < arena.now.capacity },
+}
+
+impl<P: Ptr, T: Drop, S: SlotStack<Item = ArenaSlot<P, T>>> Arena<P, T, S> {
+    ghost use Rattle.arena_base.specs.contracts.arena.Arena.{the_row as arena_row};
+
+    /// A place for an entry within the capacity.
+    ///
+    /// `NotWithinCapacityError`: there are as many entries as the capacity. Then nothing has changed.
+    pub fn entry_insert_within_capacity(
+        &mut self,
+    ) -> Result<ArenaInsertEntry<'_, P, T, S>, NotWithinCapacityError>
+        ensures* unchanged_at_err { sem 𝓛 (RestsIfErr
+            (arena_row P.row T.row S.row P.Inx.row P.Gen.row
+            (record { key = P.key }) (record { eq = P.eq }) (record { cmp = P.cmp }) (record { partial_cmp = P.partial_cmp })
+            (record { hash_input = P.hash_input }) (record { debug_output = P.debug_output })
+            (record { number = P.Inx.number; greatest = P.Inx.greatest }) (record { eq = P.Inx.eq }) (record { cmp = P.Inx.cmp }) (record { partial_cmp = P.Inx.partial_cmp })
+            (record { hash_input = P.Inx.hash_input }) (record { debug_output = P.Inx.debug_output })
+            (record { first = P.Gen.first; following = P.Gen.following; wraps = P.Gen.wraps }) (record { eq = P.Gen.eq }) (record { cmp = P.Gen.cmp }) (record { partial_cmp = P.Gen.partial_cmp })
+            (record { hash_input = P.Gen.hash_input }) (record { debug_output = P.Gen.debug_output })
+            S.SlotStack)
+            self.entry (λ e. e.arena.ghost_name) result (λ n. n ≡ self.old)) }
+        ensures refused { IsErr result ↔ (entry_count self.old ≡ self.old.capacity) }
+        ensures same_reference { IfOk result (λ e. e.arena.ghost_name ≡ self.entry.ghost_name) }
+        ensures arena { IfOk result (λ e. e.arena.now ≡ self.old) }
+    {
+        if self.is_full() {
+            return Err(NotWithinCapacityError);
+        }
+        Ok(ArenaInsertEntry { arena: self })
+    }
+}
+
+impl<'a, P: Ptr, T: Drop, S: SlotStack<Item = ArenaSlot<P, T>>> ArenaInsertEntry<'a, P, T, S> {
+    /// The pointer that the entry gets.
+    pub fn ptr(&self) -> P
+        ensures { P.key result ≡ (next_index self.now.arena.now, self.now.arena.now.counter) }
+    {
+        self.arena.next_ptr()
+    }
+
+    /// Adds the entry. It takes no memory.
+    pub fn insert(self, t: T)
+        ensures { self.exit.0.now ≡ insert_next self.entry.arena.now t }
+    {
+        self.arena.insert_here(t);
+    }
+}

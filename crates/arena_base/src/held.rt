@@ -1,0 +1,82 @@
+// The slots of an arena while entries are moved: the freed list is not kept.
+ghost use Rattle.std.specs.Prelude.{◌≡◌, ◌≤◌, ◌<◌, ◌+◌, OnSome, IsSome, length, count_by, is_some, map};
+ghost use Rattle.std.specs.Option.{option_map, option_copied_mut};
+ghost use Rattle.std.specs.Borrow.{LendsSo, sem};
+ghost use Rattle.arena_base.specs.Arena.{slot_at};
+ghost use Rattle.arena_base.specs.Compacting.{Held, seen_parts, placed, held_with_value};
+
+use crate::slot::{ArenaSlot, position_of, regenerate_at};
+use arena_ptr::{Ptr, SlotStack};
+use std::marker::Model;
+
+#[derive(Drop)]
+pub(crate) struct HeldSlots<P: Ptr, T: Drop, S: SlotStack<Item = ArenaSlot<P, T>>> {
+    pub(crate) slots: S,
+}
+
+impl<P: Ptr, T: Drop, S: SlotStack<Item = ArenaSlot<P, T>>> Model for HeldSlots<P, T, S> {
+    ghost use Rattle.std.specs.Prelude.{◌≤◌, length};
+    ghost use Rattle.arena_base.specs.Compacting.{Held};
+
+    ghost Value = { Held P.Gen T };
+
+    ghost use Rattle.arena_base.specs.Slots.{held_slots};
+
+    ghost view = { λ h. held_slots (S.items h.slots) (S.capacity h.slots) (S.maximum h.slots) };
+
+    ghost invariant = { λ h. length (S.items h.slots) ≤ P.Inx.greatest };
+}
+
+impl<P: Ptr, T: Drop, S: SlotStack<Item = ArenaSlot<P, T>>> HeldSlots<P, T, S> {
+    // How many slots there are.
+    pub(crate) fn len(&self) -> usize
+        ensures { result ≡ length self.now.slots }
+    {
+        self.slots.len()
+    }
+
+    // The entry at an index.
+    pub(crate) fn look(&self, i: P::Inx) -> Option<(&P::Gen, &T)>
+        ensures { option_map seen_parts result ≡ slot_at self.now.slots (P.Inx.number i) }
+    {
+        match self.slots.get(position_of::<P>(i)) {
+            Some(ArenaSlot::Allocated(generation, t)) => Some((generation, t)),
+            Some(ArenaSlot::Free(_)) => None,
+            None => None,
+        }
+    }
+
+    // Exchanges two slots and gives the entry that came to the second a generation.
+    pub(crate) fn place(&mut self, from: P::Inx, to: P::Inx, generation: P::Gen)
+        requires from { P.Inx.number from ≤ length self.old.slots }
+        requires to { P.Inx.number to ≤ length self.old.slots }
+        ensures { self.new ≡ placed self.old (P.Inx.number from) (P.Inx.number to) generation }
+    {
+        let to = position_of::<P>(to);
+        self.slots.swap(position_of::<P>(from), to);
+        regenerate_at(&mut self.slots, to, generation);
+    }
+}
+
+// What the held slots lend.
+pub(crate) trait LendsValue<P: Ptr, T: Drop> {
+    ghost lent: { Self → Held P.Gen T };
+
+    // The value at an index, for writing.
+    fn value_mut(&mut self, i: P::Inx) -> Option<&mut T>
+        ensures* writes_back { sem 𝓛 (LendsSo Self.row T.row self.entry result
+            (λ new t. OnSome result (lent new ≡ held_with_value (lent self.old) (P.Inx.number i) t)) (λ new. lent new ≡ lent self.old)) }
+        ensures value { option_copied_mut result ≡ option_map (λ e. e.1) (slot_at (lent self.old).slots (P.Inx.number i)) };
+}
+
+impl<P: Ptr, T: Drop, S: SlotStack<Item = ArenaSlot<P, T>>> LendsValue<P, T>
+    for HeldSlots<P, T, S> {
+    ghost lent = { λ h. h };
+
+    fn value_mut(&mut self, i: P::Inx) -> Option<&mut T> {
+        match self.slots.get_mut(position_of::<P>(i)) {
+            Some(slot) => slot.value_mut(),
+            None => None,
+        }
+    }
+}

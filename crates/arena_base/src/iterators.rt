@@ -1,0 +1,174 @@
+// The iterators over the entries of an arena. Each goes by rising index, and looks at each slot once.
+ghost use Rattle.std.specs.Prelude.{◌≡◌, ◌+◌, [], ◌∷◌, drop, IfNone, IfSome};
+ghost use Rattle.arena_ptr.specs.Invalidation.{value_within};
+ghost use Rattle.arena_base.specs.Entries.{entries_from};
+ghost use Rattle.std.specs.Iterator.{YieldsFirstBy, item_count};
+
+use crate::arena::Arena;
+use crate::slot::{ArenaSlot, number_of};
+use crate::traits::ArenaTrait;
+use arena_ptr::{HeapStack, InvalidationResult, Ptr, SlotStack};
+use std::marker::Model;
+
+impl<P: Ptr, T: Drop, S: SlotStack<Item = ArenaSlot<P, T>>> Arena<P, T, S> {
+    // The first entry from a position on, with the position behind it.
+    fn next_from(&self, from: usize) -> Option<(usize, P, &T)>
+        ensures none { IfNone result (entries_from (from + 1) (drop from self.now.slots) ≡ []) }
+        ensures some { IfSome result (λ e. entries_from (from + 1) (drop from self.now.slots) ≡ (P.key e.1, e.2.now) ∷ entries_from (e.0 + 1) (drop e.0 self.now.slots)) }
+    {
+        match self.first_from(from) {
+            Some(p) => match self.get_inx(p.inx()) {
+                Some((_, t)) => Some((number_of::<P>(p.inx()), p, t)),
+                None => unreachable!(),
+            },
+            None => None,
+        }
+    }
+
+    // Takes out the first entry from a position on, and answers it with the position behind it.
+    fn take_from(&mut self, from: usize) -> Option<(usize, P, T)>
+        ensures none { IfNone result ((entries_from (from + 1) (drop from self.old.slots) ≡ []) × (self.new ≡ self.old)) }
+        ensures some { IfSome result (λ e. entries_from (from + 1) (drop from self.old.slots) ≡ (P.key e.1, e.2) ∷ entries_from (e.0 + 1) (drop e.0 self.new.slots)) }
+    {
+        match self.first_from(from) {
+            Some(p) => match value_of(self.take_at(p.inx())) {
+                Some((_, t)) => Some((number_of::<P>(p.inx()), p, t)),
+                None => unreachable!(),
+            },
+            None => None,
+        }
+    }
+}
+
+// What an answer holds.
+fn value_of<T>(outcome: InvalidationResult<T>) -> Option<T>
+    ensures { result ≡ value_within outcome }
+{
+    match outcome {
+        InvalidationResult::Success(t) => Some(t),
+        InvalidationResult::GenerationOverflow(t) => Some(t),
+        InvalidationResult::InvalidPtr => None,
+    }
+}
+
+/// The pointers and values of an arena, seen as the list of the entries that are left.
+///
+/// Carries `Iter` of `triple_arena`.
+#[derive(Drop)]
+pub struct Iter<
+    'a,
+    P: Ptr,
+    T: Drop,
+    S: SlotStack<Item = ArenaSlot<P, T>> = HeapStack<ArenaSlot<P, T>>,
+> {
+    arena: &'a Arena<P, T, S>,
+    // The position of the first slot to look at.
+    next: usize,
+}
+
+impl<'a, P: Ptr, T: Drop, S: SlotStack<Item = ArenaSlot<P, T>>> Model for Iter<'a, P, T, S> {
+    ghost use Rattle.std.specs.Prelude.{ℕ, List, ◌+◌, drop};
+
+    ghost Value = { List ((ℕ × P.Gen) × T) };
+
+    ghost use Rattle.arena_base.specs.Entries.{entries_from};
+
+    ghost view = { λ it. entries_from (it.next + 1) (drop it.next it.arena.now.slots) };
+}
+
+impl<'a, P: Ptr, T: Drop, S: SlotStack<Item = ArenaSlot<P, T>>> Iterator for Iter<'a, P, T, S> {
+    type Item = (P, &'a T);
+
+    ghost next_gives = { YieldsFirstBy (λ item. (P.key item.0, item.1.now)) (λ rest. rest) };
+
+    ghost remaining = { item_count (λ rest. rest) };
+
+    fn next(&mut self) -> Option<(P, &'a T)> {
+        match self.arena.next_from(self.next) {
+            Some((next, p, t)) => {
+                self.next = next;
+                Some((p, t))
+            }
+            None => None,
+        }
+    }
+}
+
+/// The pointers and values of an arena that is used up, seen as the list of the entries that are left.
+///
+/// Carries `CapacityDrain` of `triple_arena`.
+#[derive(Drop)]
+pub struct CapacityDrain<
+    P: Ptr,
+    T: Drop,
+    S: SlotStack<Item = ArenaSlot<P, T>> = HeapStack<ArenaSlot<P, T>>,
+> {
+    arena: Arena<P, T, S>,
+    // The position of the first slot to look at.
+    next: usize,
+}
+
+impl<P: Ptr, T: Drop, S: SlotStack<Item = ArenaSlot<P, T>>> Model for CapacityDrain<P, T, S> {
+    ghost use Rattle.std.specs.Prelude.{ℕ, List, ◌+◌, drop};
+
+    ghost Value = { List ((ℕ × P.Gen) × T) };
+
+    ghost use Rattle.arena_base.specs.Entries.{entries_from};
+
+    ghost view = { λ it. entries_from (it.next + 1) (drop it.next it.arena.slots) };
+}
+
+impl<P: Ptr, T: Drop, S: SlotStack<Item = ArenaSlot<P, T>>> Iterator for CapacityDrain<P, T, S> {
+    type Item = (P, T);
+
+    ghost next_gives = { YieldsFirstBy (λ item. (P.key item.0, item.1)) (λ rest. rest) };
+
+    ghost remaining = { item_count (λ rest. rest) };
+
+    fn next(&mut self) -> Option<(P, T)> {
+        match self.arena.take_from(self.next) {
+            Some((next, p, t)) => {
+                self.next = next;
+                Some((p, t))
+            }
+            None => None,
+        }
+    }
+}
+
+impl<P: Ptr, T: Drop, S: SlotStack<Item = ArenaSlot<P, T>>> IntoIterator for Arena<P, T, S> {
+    ghost use Rattle.std.specs.Prelude.{◌≡◌};
+    ghost use Rattle.arena_base.specs.Entries.{entries};
+
+    type Item = (P, T);
+
+    type IntoIter = CapacityDrain<P, T, S>;
+
+    ghost into_iter_gives = { λ a it. it ≡ entries a };
+
+    fn into_iter(self) -> CapacityDrain<P, T, S> {
+        CapacityDrain {
+            arena: self,
+            next: 0,
+        }
+    }
+}
+
+impl<'a, P: Ptr, T: Drop, S: SlotStack<Item = ArenaSlot<P, T>>> IntoIterator
+    for &'a Arena<P, T, S> {
+    ghost use Rattle.std.specs.Prelude.{◌≡◌};
+    ghost use Rattle.arena_base.specs.Entries.{entries};
+
+    type Item = (P, &'a T);
+
+    type IntoIter = Iter<'a, P, T, S>;
+
+    ghost into_iter_gives = { λ a it. it ≡ entries a.now };
+
+    fn into_iter(self) -> Iter<'a, P, T, S> {
+        Iter {
+            arena: self,
+            next: 0,
+        }
+    }
+}

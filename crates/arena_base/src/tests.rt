@@ -1,0 +1,4 @@
+mod generic;
+mod limits;
+mod pointers;
+mod rows;

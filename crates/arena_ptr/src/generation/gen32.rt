@@ -1,0 +1,76 @@
+ghost use Rattle.std.specs.Prelude.{◌≡◌, ◌≤◌, ◌↔◌, IsSome, IfSome};
+ghost use Rattle.arena_ptr.specs.Numbers.{IsWithin};
+
+use crate::ptr::PtrGen;
+use std::fmt;
+
+/// A generation of 32 bits, from 1 to 4,294,967,295.
+/// Counting begins at 2, and begins again there after the greatest.
+///
+/// This crate's own, as `triple_arena` takes the NonZero types of Rust.
+#[derive(Clone, Copy, Debug, PartialEq, Eq, PartialOrd, Ord, Hash)]
+pub struct Gen32 {
+    number: u32,
+    pub ghost in_range: { IsWithin 0xffff_ffff number },
+}
+
+impl Gen32 {
+    ghost use Rattle.arena_ptr.specs.Generations.{number_of_gen32};
+
+    /// The generation `n`. `None` exactly for 0.
+    pub fn new(n: u32) -> Option<Self>
+        ensures variant { IsSome result ↔ (1 ≤ n) }
+        ensures value { IfSome result (λ g. number_of_gen32 g ≡ n) }
+    {
+        if n == 0 {
+            None
+        } else {
+            Some(Gen32 { number: n })
+        }
+    }
+
+    /// The number of the generation, from 1.
+    pub fn get(self) -> u32
+        ensures value { result ≡ number_of_gen32 self }
+        ensures some { 1 ≤ result }
+    {
+        self.number
+    }
+}
+
+impl PtrGen for Gen32 {
+    ghost use Rattle.std.specs.Fmt.{WritesOnOk};
+    ghost use Rattle.arena_ptr.specs.Generations.{number_of_gen32, two32, after32, is_greatest32, eq_is_same_gen32};
+    ghost use Rattle.arena_ptr.specs.Text.{in_parentheses};
+
+    ghost first = { two32 };
+
+    ghost following = { after32 };
+
+    ghost wraps = { is_greatest32 };
+
+    ghost eq_is_same = { eq_is_same_gen32 };
+
+    fn two() -> Self {
+        Gen32 { number: 2 }
+    }
+
+    fn generational_inc(self) -> (Self, bool) {
+        if self.number == u32::MAX {
+            (Self::two(), true)
+        } else {
+            (
+                Gen32 {
+                    number: self.number + 1,
+                },
+                false,
+            )
+        }
+    }
+
+    fn fmt_gen<W: fmt::Write>(self, f: &mut fmt::Formatter<W>) -> fmt::Result
+        ensures { WritesOnOk W.write_str_gives f.old result (in_parentheses (number_of_gen32 self)) f.new }
+    {
+        write!(f, "({:x})", self.number)
+    }
+}

@@ -1,0 +1,76 @@
+ghost use Rattle.std.specs.Prelude.{◌≡◌, ◌≤◌, ◌↔◌, IsSome, IfSome};
+ghost use Rattle.arena_ptr.specs.Numbers.{IsWithin};
+
+use crate::ptr::PtrGen;
+use std::fmt;
+
+/// A generation of 64 bits, from 1 to 18,446,744,073,709,551,615.
+/// Counting begins at 2, and begins again there after the greatest.
+///
+/// This crate's own, as `triple_arena` takes the NonZero types of Rust.
+#[derive(Clone, Copy, Debug, PartialEq, Eq, PartialOrd, Ord, Hash)]
+pub struct Gen64 {
+    number: u64,
+    pub ghost in_range: { IsWithin 0xffff_ffff_ffff_ffff number },
+}
+
+impl Gen64 {
+    ghost use Rattle.arena_ptr.specs.Generations.{number_of_gen64};
+
+    /// The generation `n`. `None` exactly for 0.
+    pub fn new(n: u64) -> Option<Self>
+        ensures variant { IsSome result ↔ (1 ≤ n) }
+        ensures value { IfSome result (λ g. number_of_gen64 g ≡ n) }
+    {
+        if n == 0 {
+            None
+        } else {
+            Some(Gen64 { number: n })
+        }
+    }
+
+    /// The number of the generation, from 1.
+    pub fn get(self) -> u64
+        ensures value { result ≡ number_of_gen64 self }
+        ensures some { 1 ≤ result }
+    {
+        self.number
+    }
+}
+
+impl PtrGen for Gen64 {
+    ghost use Rattle.std.specs.Fmt.{WritesOnOk};
+    ghost use Rattle.arena_ptr.specs.Generations.{number_of_gen64, two64, after64, is_greatest64, eq_is_same_gen64};
+    ghost use Rattle.arena_ptr.specs.Text.{in_parentheses};
+
+    ghost first = { two64 };
+
+    ghost following = { after64 };
+
+    ghost wraps = { is_greatest64 };
+
+    ghost eq_is_same = { eq_is_same_gen64 };
+
+    fn two() -> Self {
+        Gen64 { number: 2 }
+    }
+
+    fn generational_inc(self) -> (Self, bool) {
+        if self.number == u64::MAX {
+            (Self::two(), true)
+        } else {
+            (
+                Gen64 {
+                    number: self.number + 1,
+                },
+                false,
+            )
+        }
+    }
+
+    fn fmt_gen<W: fmt::Write>(self, f: &mut fmt::Formatter<W>) -> fmt::Result
+        ensures { WritesOnOk W.write_str_gives f.old result (in_parentheses (number_of_gen64 self)) f.new }
+    {
+        write!(f, "({:x})", self.number)
+    }
+}

@@ -1,0 +1,76 @@
+ghost use Rattle.std.specs.Prelude.{◌≡◌, ◌≤◌, ◌↔◌, IsSome, IfSome};
+ghost use Rattle.arena_ptr.specs.Numbers.{IsWithin};
+
+use crate::ptr::PtrGen;
+use std::fmt;
+
+/// A generation of 8 bits, from 1 to 255.
+/// Counting begins at 2, and begins again there after the greatest.
+///
+/// This crate's own, as `triple_arena` takes the NonZero types of Rust.
+#[derive(Clone, Copy, Debug, PartialEq, Eq, PartialOrd, Ord, Hash)]
+pub struct Gen8 {
+    number: u8,
+    pub ghost in_range: { IsWithin 0xff number },
+}
+
+impl Gen8 {
+    ghost use Rattle.arena_ptr.specs.Generations.{number_of_gen8};
+
+    /// The generation `n`. `None` exactly for 0.
+    pub fn new(n: u8) -> Option<Self>
+        ensures variant { IsSome result ↔ (1 ≤ n) }
+        ensures value { IfSome result (λ g. number_of_gen8 g ≡ n) }
+    {
+        if n == 0 {
+            None
+        } else {
+            Some(Gen8 { number: n })
+        }
+    }
+
+    /// The number of the generation, from 1.
+    pub fn get(self) -> u8
+        ensures value { result ≡ number_of_gen8 self }
+        ensures some { 1 ≤ result }
+    {
+        self.number
+    }
+}
+
+impl PtrGen for Gen8 {
+    ghost use Rattle.std.specs.Fmt.{WritesOnOk};
+    ghost use Rattle.arena_ptr.specs.Generations.{number_of_gen8, two8, after8, is_greatest8, eq_is_same_gen8};
+    ghost use Rattle.arena_ptr.specs.Text.{in_parentheses};
+
+    ghost first = { two8 };
+
+    ghost following = { after8 };
+
+    ghost wraps = { is_greatest8 };
+
+    ghost eq_is_same = { eq_is_same_gen8 };
+
+    fn two() -> Self {
+        Gen8 { number: 2 }
+    }
+
+    fn generational_inc(self) -> (Self, bool) {
+        if self.number == u8::MAX {
+            (Self::two(), true)
+        } else {
+            (
+                Gen8 {
+                    number: self.number + 1,
+                },
+                false,
+            )
+        }
+    }
+
+    fn fmt_gen<W: fmt::Write>(self, f: &mut fmt::Formatter<W>) -> fmt::Result
+        ensures { WritesOnOk W.write_str_gives f.old result (in_parentheses (number_of_gen8 self)) f.new }
+    {
+        write!(f, "({:x})", self.number)
+    }
+}

@@ -1,0 +1,32 @@
+ghost use Rattle.std.specs.Prelude.{◌≡◌, IsOk};
+
+use crate::ptr::PtrGen;
+use std::fmt;
+
+impl PtrGen for () {
+    ghost use Rattle.std.specs.Prelude.{false};
+    ghost use Rattle.std.proofs.Common.{rules};
+
+    ghost first = { tt };
+
+    ghost following = { λ g. g };
+
+    ghost wraps = { λ _. false };
+
+    ghost eq_is_same = { Prim.search rules };
+
+    fn two() -> Self {}
+
+    /// There is one generation, which never overflows.
+    fn generational_inc(self) -> (Self, bool) {
+        ((), false)
+    }
+
+    /// Writes nothing.
+    fn fmt_gen<W: fmt::Write>(self, f: &mut fmt::Formatter<W>) -> fmt::Result
+        ensures writes { f.new ≡ f.old }
+        ensures ok { IsOk result }
+    {
+        Ok(())
+    }
+}

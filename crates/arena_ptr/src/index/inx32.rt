@@ -1,0 +1,76 @@
+ghost use Rattle.std.specs.Prelude.{◌≡◌, ◌≤◌, ◌↔◌, IsSome, IfSome};
+ghost use Rattle.arena_ptr.specs.Numbers.{IsWithin};
+
+use crate::ptr::PtrInx;
+use std::fmt;
+
+/// An index of 32 bits, from 1 to 4,294,967,295.
+///
+/// This crate's own, as `triple_arena` takes the NonZero types of Rust.
+#[derive(Clone, Copy, Debug, PartialEq, Eq, PartialOrd, Ord, Hash)]
+pub struct Inx32 {
+    number: u32,
+    pub ghost in_range: { IsWithin 0xffff_ffff number },
+}
+
+impl Inx32 {
+    ghost use Rattle.arena_ptr.specs.Indexes.{number_of_inx32};
+
+    /// The index `n`. `None` exactly for 0.
+    pub fn new(n: u32) -> Option<Self>
+        ensures variant { IsSome result ↔ (1 ≤ n) }
+        ensures value { IfSome result (λ i. number_of_inx32 i ≡ n) }
+    {
+        if n == 0 {
+            None
+        } else {
+            Some(Inx32 { number: n })
+        }
+    }
+
+    /// The number of the index, from 1.
+    pub fn get(self) -> u32
+        ensures value { result ≡ number_of_inx32 self }
+        ensures some { 1 ≤ result }
+    {
+        self.number
+    }
+}
+
+impl PtrInx for Inx32 {
+    ghost use Rattle.std.proofs.Common.{lit<};
+    ghost use Rattle.arena_ptr.specs.Indexes.{number_of_inx32, same_inx32, eq_is_same_inx32};
+
+    ghost number = { number_of_inx32 };
+
+    ghost greatest = { 0xffff_ffff };
+
+    ghost greatest_fits = { lit< tt };
+
+    ghost at_least_one = { λ i. i.in_range.0 };
+
+    ghost at_most_greatest = { λ i. i.in_range.1 };
+
+    ghost same_number = { same_inx32 };
+
+    ghost eq_is_same = { eq_is_same_inx32 };
+
+    fn greatest() -> usize {
+        u32::MAX as usize
+    }
+
+    fn try_from_usize(n: usize) -> Option<Self> {
+        if n > u32::MAX as usize {
+            return None;
+        }
+        Inx32::new(n as u32)
+    }
+
+    fn try_into_usize(self) -> Option<usize> {
+        Some(self.number as usize)
+    }
+
+    fn fmt_hex<W: fmt::Write>(self, f: &mut fmt::Formatter<W>) -> fmt::Result {
+        write!(f, "{:x}", self.number)
+    }
+}

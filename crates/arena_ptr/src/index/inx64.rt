@@ -1,0 +1,73 @@
+ghost use Rattle.std.specs.Prelude.{◌≡◌, ◌≤◌, ◌↔◌, IsSome, IfSome};
+ghost use Rattle.arena_ptr.specs.Numbers.{IsWithin};
+
+use crate::ptr::PtrInx;
+use std::fmt;
+
+/// An index of 64 bits, from 1 to 18,446,744,073,709,551,615.
+///
+/// This crate's own, as `triple_arena` takes the NonZero types of Rust.
+#[derive(Clone, Copy, Debug, PartialEq, Eq, PartialOrd, Ord, Hash)]
+pub struct Inx64 {
+    number: u64,
+    pub ghost in_range: { IsWithin 0xffff_ffff_ffff_ffff number },
+}
+
+impl Inx64 {
+    ghost use Rattle.arena_ptr.specs.Indexes.{number_of_inx64};
+
+    /// The index `n`. `None` exactly for 0.
+    pub fn new(n: u64) -> Option<Self>
+        ensures variant { IsSome result ↔ (1 ≤ n) }
+        ensures value { IfSome result (λ i. number_of_inx64 i ≡ n) }
+    {
+        if n == 0 {
+            None
+        } else {
+            Some(Inx64 { number: n })
+        }
+    }
+
+    /// The number of the index, from 1.
+    pub fn get(self) -> u64
+        ensures value { result ≡ number_of_inx64 self }
+        ensures some { 1 ≤ result }
+    {
+        self.number
+    }
+}
+
+impl PtrInx for Inx64 {
+    ghost use Rattle.std.proofs.Common.{lit<};
+    ghost use Rattle.arena_ptr.specs.Indexes.{number_of_inx64, same_inx64, eq_is_same_inx64};
+
+    ghost number = { number_of_inx64 };
+
+    ghost greatest = { 0xffff_ffff_ffff_ffff };
+
+    ghost greatest_fits = { lit< tt };
+
+    ghost at_least_one = { λ i. i.in_range.0 };
+
+    ghost at_most_greatest = { λ i. i.in_range.1 };
+
+    ghost same_number = { same_inx64 };
+
+    ghost eq_is_same = { eq_is_same_inx64 };
+
+    fn greatest() -> usize {
+        usize::MAX
+    }
+
+    fn try_from_usize(n: usize) -> Option<Self> {
+        Inx64::new(n as u64)
+    }
+
+    fn try_into_usize(self) -> Option<usize> {
+        Some(self.number as usize)
+    }
+
+    fn fmt_hex<W: fmt::Write>(self, f: &mut fmt::Formatter<W>) -> fmt::Result {
+        write!(f, "{:x}", self.number)
+    }
+}
