@@ -1,0 +1,161 @@
+-- What an insertion does to the state of a chain arena.
+use Rattle.std.proofs.Common.{◌≡◌, ◌≢◌, ◌↔◌, ℕ, zero, suc, ◌+◌, ◌-◌, ◌<◌, ◌≤◌, List, [], ◌∷◌, ◌++◌, length, map, Bool, true, false, Option, None, Some, refl, ap, ap₂, sym, ◌∙◌, subst, arith, inl, inr, ⊎_elim}
+use Rattle.std.specs.Prelude.{◌==◌, if◌then◌else◌, slice_index_or, slice_set}
+use Rattle.std.specs.Option.{option_map}
+use mathlib.Core.Path.{fun_ext}
+use Rattle.chain_laws.specs.Chains.{Shown, Interlinks, Agrees, IsValid, IsWithin}
+use Rattle.chain_laws.specs.Operations.{with_lone, AddsLone}
+use Rattle.chain_laws.proofs.Agreement.{if_same, if_other}
+use Rattle.chain_laws.proofs.Alone.{with_lone_agrees, with_lone_adds}
+use Rattle.chain_arena.specs.declared.links.LinkBody.{LinkBody}
+use Rattle.chain_arena.specs.Links.{seen_link, seen_pair, seen_links}
+use Rattle.arena_base.specs.Arena.{Arena, slot_at, with_slot, filled, first_or_next, Has, IsListed, entry_at, entry_count, next_index, insert_next, with_capacity_of}
+use Rattle.chain_arena.specs.ChainArena.{on_value, LinkSeen, value_in, values_of, shown, IsInserted, interlinks_of, lone, insert_lone}
+use Rattle.arena_base.specs.Entries.{entries}
+use Rattle.chain_arena.proofs.Listing.{length-entries}
+use Rattle.chain_arena.proofs.Mapping.{with_each-insert_next, entry_count-with_each, entry_at-with_each, length-with_each}
+use Rattle.chain_arena.proofs.Seeing.{if_suc}
+
+-- the item after a list, and those of the list
+slice_index_or-append : {X : Type 0} (xs : List (Option X)) (x : Option X) (k : ℕ) → slice_index_or (xs ++ x ∷ []) k None ≡ (if k == length xs then x else slice_index_or xs k None)
+slice_index_or-append [] x zero = refl
+slice_index_or-append [] x (suc k) = sym (if_other (suc k) 0 _ _ (λ is. absurd (omega (arith, is))))
+slice_index_or-append (y ∷ xs) x zero = sym (if_other 0 (suc (length xs)) _ _ (λ is. absurd (omega (arith, is))))
+slice_index_or-append (y ∷ xs) x (suc k) = slice_index_or-append xs x k ∙ if_suc k (length xs) _ _
+
+slice_index_or-past : {X : Type 0} (xs : List (Option X)) (k : ℕ) → length xs ≤ k → slice_index_or xs k None ≡ None
+slice_index_or-past [] k past = refl
+slice_index_or-past (x ∷ xs) zero past = absurd (omega (arith, past))
+slice_index_or-past (x ∷ xs) (suc k) past = slice_index_or-past xs k (omega (arith, past))
+
+slice_index_or-inside : {X : Type 0} (xs : List (Option X)) (k : ℕ) (x : X) → slice_index_or xs k None ≡ Some x → k < length xs
+slice_index_or-inside [] k x stands = absurd (let h = stands in cc)
+slice_index_or-inside (y ∷ xs) zero x stands = omega arith
+slice_index_or-inside (y ∷ xs) (suc k) x stands = let inside = slice_index_or-inside xs k x stands in omega arith
+
+-- what a write of one item leaves, where there is such an item
+slice_index_or-written : {X : Type 0} (xs : List (Option X)) (k j : ℕ) (x : Option X) → k < length xs
+    → slice_index_or (slice_set xs k x) j None ≡ (if j == k then x else slice_index_or xs j None)
+slice_index_or-written [] k j x inside = absurd (omega (arith, inside))
+slice_index_or-written (y ∷ xs) zero zero x inside = refl
+slice_index_or-written (y ∷ xs) zero (suc j) x inside = sym (if_other (suc j) 0 _ _ (λ is. absurd (omega (arith, is))))
+slice_index_or-written (y ∷ xs) (suc k) zero x inside = sym (if_other 0 (suc k) _ _ (λ is. absurd (omega (arith, is))))
+slice_index_or-written (y ∷ xs) (suc k) (suc j) x inside = slice_index_or-written xs k j x (omega (arith, inside)) ∙ if_suc j k _ _
+
+slot_at-written : {X : Type 0} (slots : List (Option X)) (n j : ℕ) (x : Option X) → 1 ≤ n → n ≤ length slots
+    → slot_at (with_slot slots n x) j ≡ (if j == n then x else slot_at slots j)
+slot_at-written slots zero j x some inside = absurd (omega (arith, some))
+slot_at-written slots (suc k) zero x some inside = sym (if_other 0 (suc k) _ _ (λ is. absurd (omega (arith, is))))
+slot_at-written slots (suc k) (suc j) x some inside = slice_index_or-written slots k j x (omega (arith, inside)) ∙ if_suc j k _ _
+
+-- the freed indexes are those of free slots
+abbrev AreFree : {X : Type 0} → List (Option X) → List ℕ → Type 0
+AreFree slots freed = (i : ℕ) → Has i freed → (slot_at slots i ≡ None) × (1 ≤ i) × (i ≤ length slots)
+
+-- what an insertion leaves at each index
+slot_at-filled : {X : Type 0} (freed : List ℕ) (slots : List (Option X)) (x : X) (j : ℕ) → AreFree slots freed
+    → slot_at (filled freed slots x) j ≡ (if j == first_or_next freed (length slots) then Some x else slot_at slots j)
+slot_at-filled [] slots x zero free = sym (if_other 0 (length slots + 1) _ _ (λ is. absurd (omega (arith, is))))
+slot_at-filled [] slots x (suc k) free = slice_index_or-append slots (Some x) k
+    ∙ (if_suc k (length slots) _ _ ∙ ap (λ q. if suc k == q then Some x else slice_index_or slots k None) (let same : suc (length slots) ≡ length slots + 1 = omega arith in same))
+slot_at-filled (i ∷ freed) slots x j free = let here = free i (inl refl) in slot_at-written slots i j (Some x) here.1 here.2
+
+-- nothing stands at the next index yet
+slot_at-next : {X : Type 0} (freed : List ℕ) (slots : List (Option X)) → AreFree slots freed → slot_at slots (first_or_next freed (length slots)) ≡ None
+slot_at-next [] slots free = ap (slot_at slots) (let same : length slots + 1 ≡ suc (length slots) = omega arith in same) ∙ slice_index_or-past slots (length slots) (omega arith)
+slot_at-next (i ∷ freed) slots free = (free i (inl refl)).0
+
+module _ {Gen T : Type 0} where
+  -- no link stands at the next index yet
+  pub shown-next : (a : Arena Gen (LinkSeen T)) → AreFree a.slots a.freed → shown a (next_index a) ≡ None
+  shown-next a free = ap (option_map interlinks_of) (slot_at-next a.freed a.slots free)
+
+  map-if : (b : Bool) (x y : Option (Gen × LinkSeen T)) → option_map interlinks_of (if b then x else y) ≡ (if b then option_map interlinks_of x else option_map interlinks_of y)
+  map-if true x y = refl
+  map-if false x y = refl
+
+  -- the arena with a new link shows that link alone beside what it showed
+  pub shown-insert_lone : (a : Arena Gen (LinkSeen T)) (t : T) → AreFree a.slots a.freed → shown (insert_lone a t) ≡ with_lone (shown a) (next_index a)
+  shown-insert_lone a t free = fun_ext (λ i. ap (option_map interlinks_of) (slot_at-filled a.freed a.slots (a.counter, lone t) i free)
+      ∙ map-if (i == next_index a) (Some (a.counter, lone t)) (entry_at a i))
+
+  -- what shows interlinks is an entry
+  pub some_entry : (o : Option (Gen × LinkSeen T)) (l : Interlinks) → option_map interlinks_of o ≡ Some l → (e : Gen × LinkSeen T) × (o ≡ Some e)
+  some_entry None l stands = absurd (let h = stands in cc)
+  some_entry (Some e) l stands = (e, refl)
+
+  -- every valid index is one of the slots'
+  pub shown-within : (a : Arena Gen (LinkSeen T)) → IsWithin (shown a) (length a.slots)
+  shown-within a = record { within = inside } where
+    inside : (i : ℕ) → IsValid (shown a) i → (1 ≤ i) × (i ≤ length a.slots)
+    inside zero valid = absurd (let h = valid.shows in cc)
+    inside (suc k) valid =
+        let entry = some_entry (slice_index_or a.slots k None) valid.link valid.shows in
+        let below = slice_index_or-inside a.slots k entry.0 entry.1 in (omega arith, omega arith)
+
+module _ {Gen T : Type 0} where
+  -- an insertion, entry by entry
+  inserted_at : (a b : Arena Gen T) (t : T) (p : ℕ × Gen) → AreFree a.slots a.freed → b ≡ with_capacity_of (insert_next a t) b → p ≡ (next_index a, a.counter)
+      → IsInserted (entry_at a) (entry_at b) p t
+  inserted_at a b t p free inserted at =
+      let entries : (i : ℕ) → entry_at b i ≡ (if i == next_index a then Some (a.counter, t) else entry_at a i) =
+      (λ i. ap (λ (x : Arena Gen T). entry_at x i) inserted ∙ slot_at-filled a.freed a.slots (a.counter, t) i free) in
+      subst (λ (q : ℕ × Gen). IsInserted (entry_at a) (entry_at b) q t) (sym at) (record {
+        free = slot_at-next a.freed a.slots free;
+        stands = entries (next_index a) ∙ if_same (next_index a) (next_index a) _ _ refl;
+        rest = λ i other. entries i ∙ if_other i (next_index a) _ _ other;
+      })
+
+module _ {Gen I T : Type 0} (number : I → ℕ) where
+  -- an insertion, seen
+  pub seen_links-insert_next : (a : Arena Gen (LinkBody I T)) (link : LinkBody I T) → seen_links number (insert_next a link) ≡ insert_next (seen_links number a) (seen_link number link)
+  seen_links-insert_next a link = with_each-insert_next (seen_link number) a link
+
+  pub entry_count-seen_links : (a : Arena Gen (LinkBody I T)) → entry_count (seen_links number a) ≡ entry_count a
+  entry_count-seen_links a = entry_count-with_each (seen_link number) a
+
+  pub next_index-seen_links : (a : Arena Gen (LinkBody I T)) → next_index (seen_links number a) ≡ next_index a
+  next_index-seen_links a = ap (first_or_next a.freed) (length-with_each (seen_link number) a)
+
+  -- the freed indexes are those of free slots
+  free-seen_links : (a : Arena Gen (LinkBody I T)) → IsListed a → AreFree (seen_links number a).slots a.freed
+  free-seen_links a listed i has = let here = listed.free i has in
+      (entry_at-with_each (seen_link number) a i ∙ ap (option_map (on_value (seen_link number))) here.0, here.1, subst (λ n. i ≤ n) (sym (length-with_each (seen_link number) a)) here.2)
+
+  free-values : (a : Arena Gen (LinkBody I T)) → IsListed a → AreFree (values_of (seen_links number a)).slots a.freed
+  free-values a listed i has = let here = free-seen_links a listed i has in
+      (entry_at-with_each value_in (seen_links number a) i ∙ ap (option_map (on_value value_in)) here.0, here.1, subst (λ n. i ≤ n) (sym (length-with_each value_in (seen_links number a))) here.2)
+
+  -- how many values there are
+  pub count-values : (a : Arena Gen (LinkBody I T)) → length (entries (values_of (seen_links number a))) ≡ entry_count a
+  count-values a = length-entries (values_of (seen_links number a)) ∙ (entry_count-with_each value_in (seen_links number a) ∙ entry_count-seen_links a)
+
+  -- after the insertion of a lone link ..
+  module _ (a b : Arena Gen (LinkBody I T)) (link : LinkBody I T) (t : T) (listed : IsListed a) (is_lone : seen_link number link ≡ lone t) (inserted : b ≡ with_capacity_of (insert_next a link) b) where
+    -- .. it is in the state
+    pub seen-inserted : seen_links number b ≡ with_capacity_of (insert_lone (seen_links number a) t) (seen_links number b)
+    seen-inserted = ap (λ (x : Arena Gen (LinkBody I T)). seen_links number x) inserted
+        ∙ ap (λ (x : Arena Gen (LinkSeen T)). with_capacity_of x (seen_links number b)) (seen_links-insert_next a link ∙ ap (insert_next (seen_links number a)) is_lone)
+
+    -- .. it is an entry
+    pub entry-inserted : (p : ℕ × Gen) → p ≡ (next_index a, a.counter) → IsInserted (entry_at (values_of (seen_links number a))) (entry_at (values_of (seen_links number b))) p t
+    entry-inserted p at = inserted_at (values_of (seen_links number a)) (values_of (seen_links number b)) t p (free-values a listed)
+        (ap (λ (x : Arena Gen (LinkSeen T)). values_of x) seen-inserted
+        ∙ ap (λ (x : Arena Gen T). with_capacity_of x (values_of (seen_links number b))) (with_each-insert_next value_in (seen_links number a) (lone t)))
+        (at ∙ ap (λ (n : ℕ). let q : ℕ × Gen = (n, a.counter) in q) (sym (ap (first_or_next a.freed) (length-with_each value_in (seen_links number a)) ∙ next_index-seen_links a)))
+
+    -- .. the arena shows it beside what it showed
+    pub shown-inserted : shown (seen_links number b) ≡ with_lone (shown (seen_links number a)) (next_index (seen_links number a))
+    shown-inserted = ap (λ (x : Arena Gen (LinkSeen T)). shown x) seen-inserted ∙ shown-insert_lone (seen_links number a) t (free-seen_links a listed)
+
+    nothing_there : shown (seen_links number a) (next_index (seen_links number a)) ≡ None
+    nothing_there = shown-next (seen_links number a) (free-seen_links a listed)
+
+    -- .. the interlinks agree
+    pub agrees-inserted : Agrees (shown (seen_links number a)) → Agrees (shown (seen_links number b))
+    agrees-inserted agrees = subst Agrees (sym shown-inserted) (with_lone_agrees (shown (seen_links number a)) (next_index (seen_links number a)) nothing_there agrees)
+
+    -- .. and the link is a chain of its own
+    pub adds-inserted : AddsLone (shown (seen_links number a)) (shown (seen_links number b)) (next_index (seen_links number a))
+    adds-inserted = subst (λ (new : Shown). AddsLone (shown (seen_links number a)) new (next_index (seen_links number a))) (sym shown-inserted)
+        (with_lone_adds (shown (seen_links number a)) (next_index (seen_links number a)) nothing_there)

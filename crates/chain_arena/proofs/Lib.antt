@@ -1,0 +1,12 @@
+pub mod Connecting
+pub mod Inserting
+pub mod Iterating
+pub mod Lending
+pub mod Listing
+pub mod Mapping
+pub mod Outcomes
+pub mod Relinking
+pub mod Seeing
+pub mod Unlinking
+pub mod Valuing
+pub mod Writing

@@ -1,0 +1,103 @@
+-- Lemmas on the state of a chain arena, entry by entry.
+use Rattle.std.proofs.Common.{◌≡◌, ◌≢◌, ◌↔◌, ℕ, zero, suc, ◌+◌, ◌-◌, ◌<◌, ◌≤◌, List, [], ◌∷◌, ◌++◌, length, map, Bool, true, false, Option, None, Some, refl, ap, sym, ◌∙◌, subst, arith, rules, inl, inr, ⊎_elim}
+use Rattle.std.specs.Prelude.{count_by, is_some, slice_index_or, slice_get, slice_set, ◌==◌, if◌then◌else◌}
+use Rattle.std.proofs.lemmas.List.{length-map}
+use Rattle.std.proofs.Math.Dec.{eqb-suc-suc}
+use Rattle.std.specs.Option.{option_map}
+use Rattle.chain_laws.specs.Chains.{Shown, Interlinks, IsValid, IsWithin, prev_of, next_of}
+use Rattle.chain_laws.specs.Operations.{next_set, prev_set, linked, with_next, with_prev, with_lone}
+use Rattle.chain_laws.proofs.Agreement.{if_same, if_other}
+use Rattle.chain_arena.proofs.Mapping.{entry_at-with_each, length-with_each, IsValidPtr-with_each}
+use Rattle.chain_arena.specs.declared.links.LinkBody.{LinkBody}
+use Rattle.chain_arena.specs.Links.{seen_link, seen_pair, seen_links}
+use Rattle.arena_base.specs.Arena.{Arena, slot_at, with_slot, entry_at, with_value, IsValidPtr}
+use Rattle.chain_arena.specs.ChainArena.{LinkSeen, shown, relink, relink_from, relinked, interlinks_of}
+
+-- two lists of one length with the same items are one
+pub same_items : {X : Type 0} (xs ys : List X) (d : X) → length xs ≡ length ys → ((k : ℕ) → slice_index_or xs k d ≡ slice_index_or ys k d) → xs ≡ ys
+same_items [] [] d long same = refl
+same_items [] (y ∷ ys) d long same = absurd (omega (arith, long))
+same_items (x ∷ xs) [] d long same = absurd (omega (arith, long))
+same_items (x ∷ xs) (y ∷ ys) d long same = let front = same 0 in let rest = same_items xs ys d (omega (arith, long)) (λ k. same (suc k)) in cc
+
+length-slice_set : {X : Type 0} (xs : List X) (k : ℕ) (x : X) → length (slice_set xs k x) ≡ length xs
+length-slice_set [] k x = refl
+length-slice_set (y ∷ xs) zero x = refl
+length-slice_set (y ∷ xs) (suc k) x = ap (λ n. suc n) (length-slice_set xs k x)
+
+-- numbers are equal if those before them are
+pub if_suc : {A : Type 0} (j k : ℕ) (x y : A) → (if j == k then x else y) ≡ (if suc j == suc k then x else y)
+if_suc j k x y = ap (λ b. if b then x else y) (sym (eqb-suc-suc j k))
+
+-- a list with one item changed, at that item and elsewhere
+slice_index_or-slice_set : {X : Type 0} (xs : List (Option X)) (k j : ℕ) (f : Option X → Option X) → f None ≡ None
+    → slice_index_or (slice_set xs k (f (slice_index_or xs k None))) j None ≡ (if j == k then f (slice_index_or xs j None) else slice_index_or xs j None)
+slice_index_or-slice_set {X} [] k j f none = elim (j == k) as (λ b. let o : Option X = None in o ≡ (if b then f None else None)) [ true ↦ sym none | false ↦ refl ]
+slice_index_or-slice_set (y ∷ xs) zero zero f none = refl
+slice_index_or-slice_set (y ∷ xs) zero (suc j) f none = sym (if_other (suc j) 0 _ _ (λ is. absurd (omega (arith, is))))
+slice_index_or-slice_set (y ∷ xs) (suc k) zero f none = sym (if_other 0 (suc k) _ _ (λ is. absurd (omega (arith, is))))
+slice_index_or-slice_set (y ∷ xs) (suc k) (suc j) f none = slice_index_or-slice_set xs k j f none ∙ if_suc j k _ _
+
+-- slots with what stands at one index changed, at that index and elsewhere
+pub slot_at-changed : {X : Type 0} (slots : List (Option X)) (n i : ℕ) (f : Option X → Option X) → f None ≡ None
+    → slot_at (with_slot slots n (f (slot_at slots n))) i ≡ (if i == n then f (slot_at slots i) else slot_at slots i)
+slot_at-changed {X} slots zero zero f none = sym (if_same 0 0 (f None) None refl ∙ none)
+slot_at-changed slots zero (suc j) f none = sym (if_other (suc j) 0 _ _ (λ is. absurd (omega (arith, is))))
+slot_at-changed slots (suc k) zero f none = sym (if_other 0 (suc k) _ _ (λ is. absurd (omega (arith, is))))
+slot_at-changed slots (suc k) (suc j) f none = slice_index_or-slice_set slots k j f none ∙ if_suc j k _ _
+
+pub length-with_slot : {X : Type 0} (slots : List X) (n : ℕ) (x : X) → length (with_slot slots n x) ≡ length slots
+length-with_slot slots zero x = refl
+length-with_slot slots (suc k) x = length-slice_set slots k x
+
+module _ {Gen T : Type 0} where
+  -- the entries of an arena with one value written
+  pub entry_at-with_value : (a : Arena Gen T) (n : ℕ) (t : T) (i : ℕ)
+      → entry_at (with_value a n t) i ≡ (if i == n then option_map (λ (e : Gen × T). (e.0, t)) (entry_at a i) else entry_at a i)
+  entry_at-with_value a n t i = slot_at-changed a.slots n i (option_map (λ (e : Gen × T). (e.0, t))) refl
+
+  pub no_entry : (o : Option (Gen × T)) → option_map (λ (e : Gen × T). e.1) o ≡ None → o ≡ None
+  no_entry None none = refl
+  no_entry (Some e) none = absurd (let h = none in cc)
+
+  pub length-with_value : (a : Arena Gen T) (n : ℕ) (t : T) → length (with_value a n t).slots ≡ length a.slots
+  length-with_value a n t = length-with_slot a.slots n _
+
+module _ {Gen T : Type 0} where
+  slice_index_or-relink_from : (interlinks : Shown) (k x j : ℕ) (slots : List (Option (Gen × LinkSeen T))) → x ≡ k + j
+      → slice_index_or (relink_from interlinks k slots) j None ≡ relink (interlinks x) (slice_index_or slots j None)
+  slice_index_or-relink_from interlinks k x j [] at = refl
+  slice_index_or-relink_from interlinks k x zero (e ∷ slots) at = ap (λ i. relink (interlinks i) e) (let same : k ≡ x = omega (arith, at) in same)
+  slice_index_or-relink_from interlinks k x (suc j) (e ∷ slots) at = slice_index_or-relink_from interlinks (suc k) x j slots (omega (arith, at))
+
+  -- the entries of an arena with other interlinks
+  pub entry_at-relinked : (a : Arena Gen (LinkSeen T)) (interlinks : Shown) (i : ℕ) → entry_at (relinked a interlinks) i ≡ relink (interlinks i) (entry_at a i)
+  entry_at-relinked a interlinks zero = refl
+  entry_at-relinked a interlinks (suc j) = slice_index_or-relink_from interlinks 1 (suc j) j a.slots (omega arith)
+
+  length-relink_from : (interlinks : Shown) (k : ℕ) (slots : List (Option (Gen × LinkSeen T))) → length (relink_from interlinks k slots) ≡ length slots
+  length-relink_from interlinks k [] = refl
+  length-relink_from interlinks k (e ∷ slots) = ap (λ n. suc n) (length-relink_from interlinks (suc k) slots)
+
+  pub length-relinked : (a : Arena Gen (LinkSeen T)) (interlinks : Shown) → length (relinked a interlinks).slots ≡ length a.slots
+  length-relinked a interlinks = length-relink_from interlinks 1 a.slots
+
+  -- an arena that has the entries of another with other interlinks, and else is as that, is that arena
+  pub is_relinked : (a b : Arena Gen (LinkSeen T)) (interlinks : Shown) → length b.slots ≡ length a.slots → b ≡ record a { slots = b.slots }
+      → ((i : ℕ) → entry_at b i ≡ relink (interlinks i) (entry_at a i)) → b ≡ relinked a interlinks
+  is_relinked a b interlinks long rest entries =
+      rest ∙ ap (λ (slots : List (Option (Gen × LinkSeen T))). let c : Arena Gen (LinkSeen T) = record a { slots = slots } in c)
+        (same_items b.slots (relink_from interlinks 1 a.slots) None (long ∙ sym (length-relink_from interlinks 1 a.slots))
+          (λ k. entries (suc k) ∙ sym (entry_at-relinked a interlinks (suc k))))
+
+-- links as contracts see them
+module _ {Gen I T : Type 0} (number : I → ℕ) where
+  pub entry_at-seen_links : (a : Arena Gen (LinkBody I T)) (i : ℕ) → entry_at (seen_links number a) i ≡ option_map (seen_pair number) (entry_at a i)
+  entry_at-seen_links a i = entry_at-with_each (seen_link number) a i
+
+  pub length-seen_links : (a : Arena Gen (LinkBody I T)) → length (seen_links number a).slots ≡ length a.slots
+  length-seen_links a = length-with_each (seen_link number) a
+
+  -- the same pointers are valid
+  pub IsValidPtr-seen_links : (a : Arena Gen (LinkBody I T)) (p : ℕ × Gen) → IsValidPtr a p ↔ IsValidPtr (seen_links number a) p
+  IsValidPtr-seen_links a p = IsValidPtr-with_each (seen_link number) a p

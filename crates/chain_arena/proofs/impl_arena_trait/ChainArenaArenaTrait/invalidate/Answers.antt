@@ -1,0 +1,33 @@
+-- The link has a new generation, and stays in its chain.
+use Rattle.std.proofs.Common.{◌≡◌, Option, None, Some, refl, ap, sym, ◌∙◌, subst, ⊎_elim}
+use Rattle.chain_laws.specs.Chains.{Agrees}
+use Rattle.chain_arena.specs.ChainArena.{shown}
+use Rattle.chain_arena.specs.Links.{seen_links}
+use Rattle.arena_ptr.specs.Invalidation.{value_within}
+use Rattle.chain_arena.proofs.Connecting.{same_valid}
+use Rattle.chain_arena.proofs.Lending.{valid_index, valid_or_not}
+use Rattle.chain_arena.proofs.Writing.{renewed-state, renewed-shown, renewed-told}
+use Rattle.chain_arena.proofs.impl_arena_trait.ChainArenaArenaTrait.invalidate.Goals as goal
+
+pub invariant_of-self : goal.invariant_of-self
+invariant_of-self g c =
+    let p = g.P.Ptr.key c.args.p in
+    ⊎_elim
+    (λ valid. subst Agrees (sym (renewed-shown g.P.Inx.PtrInx.number g.P.Gen.PtrGen.following c.self.inside.arena _ _ (c.invalidate.ensures.more valid))) c.self.invariant)
+    (λ invalid. subst (λ a. Agrees (shown (seen_links g.P.Inx.PtrInx.number a))) (sym (c.invalidate.ensures.invalid invalid).1) c.self.invariant)
+    (valid_or_not _ g.met.P.Gen.PtrGen.eq_is_same c.self.inside.arena p)
+
+pub returns-clause-valid : goal.returns-clause-valid
+returns-clause-valid g c = rw (← c.self.view_is) (λ valid.
+    let stands = (same_valid g.P.Inx.PtrInx.number c.self.inside.arena (g.P.Ptr.key c.args.p)).1 valid in
+    renewed-told g.P.Inx.PtrInx.number g.P.Gen.PtrGen.following c.self.inside.arena _ _ (c.invalidate.ensures.more stands) _ g.P.Ptr.key (value_within c.invalidate.result) (valid_index c.self.inside.arena (g.P.Ptr.key c.args.p) stands) (c.invalidate.ensures.valid stands) (c.invalidate.ensures.counter.1))
+
+pub returns-clause-invalid : goal.returns-clause-invalid
+returns-clause-invalid g c = rw (← c.self.view_is) (λ invalid.
+    let told = c.invalidate.ensures.invalid (λ valid. invalid ((same_valid g.P.Inx.PtrInx.number c.self.inside.arena (g.P.Ptr.key c.args.p)).0 valid)) in
+    (told.0, ap (seen_links g.P.Inx.PtrInx.number) told.1))
+
+pub returns-clause-more : goal.returns-clause-more
+returns-clause-more g c = rw (← c.self.view_is) (λ valid.
+    let stands = (same_valid g.P.Inx.PtrInx.number c.self.inside.arena (g.P.Ptr.key c.args.p)).1 valid in
+    (renewed-state g.P.Inx.PtrInx.number g.P.Gen.PtrGen.following c.self.inside.arena _ _ (c.invalidate.ensures.more stands), renewed-shown g.P.Inx.PtrInx.number g.P.Gen.PtrGen.following c.self.inside.arena _ _ (c.invalidate.ensures.more stands)))

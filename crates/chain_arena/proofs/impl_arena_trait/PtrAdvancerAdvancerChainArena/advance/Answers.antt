@@ -1,0 +1,11 @@
+-- The same pointers are met.
+use Rattle.std.proofs.Common.{subst}
+use Rattle.std.specs.Option.{option_map}
+use Rattle.arena_base.specs.Entries.{entries}
+use Rattle.arena_base.specs.Advancing.{IsLook}
+use Rattle.chain_arena.proofs.Valuing.{held_in, look-with_each, values_of-seen_links}
+use Rattle.chain_arena.proofs.impl_arena_trait.PtrAdvancerAdvancerChainArena.advance.Goals as goal
+
+pub returns : goal.returns
+returns g c = rw (← c.collection.view_is) (subst (λ v. IsLook (entries v) c.args.self.now.look (option_map g.P.Ptr.key c.advance.result) c.advance.new.self.look)
+    (values_of-seen_links g.P.Inx.PtrInx.number c.collection.inside.arena) (look-with_each held_in c.collection.inside.arena _ _ _ c.advance.ensures))

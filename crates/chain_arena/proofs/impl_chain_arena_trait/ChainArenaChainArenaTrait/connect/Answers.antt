@@ -1,0 +1,44 @@
+-- Two writes join the links, and the laws of joins say the rest.
+use Rattle.std.proofs.Common.{◌≡◌, ℕ, Option, Some, refl, sym, ap, ap₂, ◌∙◌}
+use Rattle.std.specs.Prelude.{IsTrue, not}
+use Rattle.std.specs.Option.{option_map}
+use Rattle.chain_laws.specs.Operations.{joined, next_set, prev_set}
+use Rattle.arena_base.specs.Arena.{entry_at}
+use Rattle.arena_base.specs.Entries.{seen_of}
+use Rattle.chain_arena.specs.Links.{seen_links}
+use Rattle.chain_arena.specs.ChainArena.{values_of, CanConnect, relinked, shown}
+use Rattle.chain_arena.proofs.Connecting.{shows, joined-values, joined-agrees, joined-pair, joined-chains}
+use Rattle.chain_arena.proofs.impl_chain_arena_trait.ChainArenaChainArenaTrait.connect.Given.{Over}
+use Rattle.chain_arena.proofs.impl_chain_arena_trait.ChainArenaChainArenaTrait.connect.Goals.{After-link_up}
+use Rattle.chain_arena.proofs.impl_chain_arena_trait.ChainArenaChainArenaTrait.connect.Goals as goal
+
+-- what is written is the join
+is_joined : (g : Over) (c : After-link_up g) → seen_links g.P.Inx.PtrInx.number c.link_up.new.arena
+    ≡ relinked (seen_links g.P.Inx.PtrInx.number c.self.inside.arena) (joined (shown (seen_links g.P.Inx.PtrInx.number c.self.inside.arena)) (g.P.Ptr.key c.args.p).0 (g.P.Ptr.key c.args.q).0)
+is_joined g c =
+    let old = seen_links g.P.Inx.PtrInx.number c.self.inside.arena in
+    c.link_up.ensures ∙ ap₂ (λ (i j : ℕ). relinked old (joined (shown old) i j)) c.inx.ensures c.inx-2.ensures
+
+can : (g : Over) (c : After-link_up g) → CanConnect (entry_at (values_of (seen_links g.P.Inx.PtrInx.number c.self.inside.arena))) (shown (seen_links g.P.Inx.PtrInx.number c.self.inside.arena)) (g.P.Ptr.key c.args.p) (g.P.Ptr.key c.args.q)
+can g c = c.can_connect.ensures.0 c.if-not-can_connect.false
+
+pub invariant_of-self : goal.invariant_of-self
+invariant_of-self g c = joined-agrees _ _ _ _ (can g c) (is_joined g c) c.self.invariant
+
+pub returns-clause-some : goal.returns-clause-some
+returns-clause-some g c = rw (← c.self.view_is) (λ _. can g c, λ _. refl)
+
+pub returns-clause-state : goal.returns-clause-state
+returns-clause-state g c = rw (← c.self.view_is) (is_joined g c)
+
+pub returns-clause-pair : goal.returns-clause-pair
+returns-clause-pair g c = rw (← c.self.view_is) (joined-pair _ _ _ _ (can g c) (is_joined g c))
+
+pub returns-clause-chains : goal.returns-clause-chains
+returns-clause-chains g c = rw (← c.self.view_is) (joined-chains _ _ _ _ (can g c) (is_joined g c))
+
+pub returns-clause-joined : goal.returns-clause-joined
+returns-clause-joined g c = rw (← c.self.view_is) (shows _ _ _ _ (can g c) (is_joined g c))
+
+pub returns-clause-seen : goal.returns-clause-seen
+returns-clause-seen g c = rw (← c.self.view_is) (ap (λ a. seen_of a) (joined-values _ _ _ _ (can g c) (is_joined g c)))

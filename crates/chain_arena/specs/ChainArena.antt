@@ -1,0 +1,129 @@
+-- The state of a chain arena: an arena of links.
+use Rattle.std.specs.Prelude.{◌≡◌, ◌≢◌, ℕ, suc, zero, ◌+◌, List, [], ◌∷◌, map, All, Option, None, Some}
+use Rattle.std.specs.Option.{option_map, option_and_then}
+use Rattle.chain_laws.specs.Chains.{Shown, Interlinks, prev_of, next_of}
+use Rattle.chain_laws.specs.Walks.{IsWalk}
+use Rattle.chain_laws.specs.Removals.{removed}
+use Rattle.arena_base.specs.Arena.{Arena, with_slot, entry_at, insert_next, remove_at, IsValid}
+
+-- a pair of a generation and a value, with something else for the value
+abbrev pub on_value : {Gen X Y : Type 0} → (X → Y) → Gen × X → Gen × Y
+on_value f e = (e.0, f e.1)
+
+-- an arena with something else for each value
+abbrev pub with_each : {Gen X Y : Type 0} → (X → Y) → Arena Gen X → Arena Gen Y
+with_each f a = record {
+  slots = map (option_map (on_value f)) a.slots;
+  counter = a.counter;
+  freed = a.freed;
+  capacity = a.capacity;
+  stack_capacity = a.stack_capacity;
+  maximum = a.maximum;
+  placed = a.placed;
+  touched = a.touched;
+}
+
+-- a link: the indexes of its neighbours, where it has them, and its value
+pub record LinkSeen (T : Type 0) : Type 0 where
+  pub prev : Option ℕ
+  pub next : Option ℕ
+  pub value : T
+
+-- a link without neighbours
+abbrev pub lone : {T : Type 0} → T → LinkSeen T
+lone t = record { prev = None; next = None; value = t }
+
+module _ {T : Type 0} where
+  abbrev pub value_in : LinkSeen T → T
+  value_in link = link.value
+
+  -- the link with another value
+  abbrev pub with_value_in : T → LinkSeen T → LinkSeen T
+  with_value_in t link = record link { value = t }
+
+  abbrev pub interlinks_in : LinkSeen T → Interlinks
+  interlinks_in link = record { prev = link.prev; next = link.next }
+
+  -- the link with other interlinks
+  abbrev pub with_interlinks : Interlinks → LinkSeen T → LinkSeen T
+  with_interlinks interlinks link = record link { prev = interlinks.prev; next = interlinks.next }
+
+module _ {Gen T : Type 0} where
+  abbrev pub interlinks_of : Gen × LinkSeen T → Interlinks
+  interlinks_of e = interlinks_in e.1
+
+  -- the interlinks that the arena shows
+  abbrev pub shown : Arena Gen (LinkSeen T) → Shown
+  shown a i = option_map interlinks_of (entry_at a i)
+
+  -- the arena of the values alone
+  abbrev pub values_of : Arena Gen (LinkSeen T) → Arena Gen T
+  values_of a = with_each value_in a
+
+  -- the entry with other interlinks
+  abbrev pub relink : Option Interlinks → Option (Gen × LinkSeen T) → Option (Gen × LinkSeen T)
+  relink interlinks None = None
+  relink None (Some e) = None
+  relink (Some l) (Some e) = Some (e.0, with_interlinks l e.1)
+
+  -- the entries from an index on, with other interlinks
+  abbrev pub relink_from : Shown → ℕ → List (Option (Gen × LinkSeen T)) → List (Option (Gen × LinkSeen T))
+  relink_from interlinks i [] = []
+  relink_from interlinks i (e ∷ es) = relink (interlinks i) e ∷ relink_from interlinks (suc i) es
+
+  -- the arena with other interlinks: values, generations, counter, freed list, room and totals stay
+  abbrev pub relinked : Arena Gen (LinkSeen T) → Shown → Arena Gen (LinkSeen T)
+  relinked a interlinks = record a { slots = relink_from interlinks 1 a.slots }
+
+  -- the arena after the insertion of a link that stands alone
+  abbrev pub insert_lone : Arena Gen (LinkSeen T) → T → Arena Gen (LinkSeen T)
+  insert_lone a t = insert_next a (lone t)
+
+  -- the arena with another value in the link at an index, if one stands there
+  abbrev pub with_value_at : Arena Gen (LinkSeen T) → ℕ → T → Arena Gen (LinkSeen T)
+  with_value_at a i t = record a { slots = with_slot a.slots i (option_map (on_value (with_value_in t)) (entry_at a i)) }
+
+  -- the arena after the removal of the link at an index, where those that it stood between are linked
+  abbrev pub remove_link : (Gen → Gen) → Arena Gen (LinkSeen T) → ℕ → Arena Gen (LinkSeen T)
+  remove_link following a i = relinked (remove_at following a i) (removed (shown a) i)
+
+  -- the links of the walk from an index, each with its index and generation
+  pub record IsWalkOf (a : Arena Gen (LinkSeen T)) (i : ℕ) (links : List (ℕ × (Gen × LinkSeen T))) : Type 0 where
+    pub walk : IsWalk (shown a) i (map (λ e. e.0) links)
+    pub stands : All (λ e. entry_at a e.0 ≡ Some e.1) links
+
+-- Links of any arena, where the entry and the interlinks at each index are given.
+module _ {Gen T : Type 0} where
+  abbrev pub link_of : Option (Gen × T) → Option Interlinks → Option (Gen × LinkSeen T)
+  link_of None interlinks = None
+  link_of (Some e) None = None
+  link_of (Some e) (Some l) = Some (e.0, record { prev = l.prev; next = l.next; value = e.1 })
+
+module _ {Gen T : Type 0} (entry : ℕ → Option (Gen × T)) where
+  -- the pointer of now to a neighbour
+  abbrev pub ptr_at : ℕ → Option (ℕ × Gen)
+  ptr_at i = option_map (λ e. (i, e.0)) (entry i)
+
+  -- what stands at each index is told, and one index is new
+  pub record IsInserted (after : ℕ → Option (Gen × T)) (p : ℕ × Gen) (t : T) : Type 0 where
+    pub free : entry p.0 ≡ None
+    pub stands : after p.0 ≡ Some (p.1, t)
+    pub rest : (i : ℕ) → i ≢ p.0 → after i ≡ entry i
+
+module _ {Gen T : Type 0} (entry : ℕ → Option (Gen × T)) (interlinks : Shown) where
+  -- the link at an index
+  abbrev pub link_at : ℕ → Option (Gen × LinkSeen T)
+  link_at i = link_of (entry i) (interlinks i)
+
+  -- q may come after p: both are valid, p has no next and q no prev
+  pub record CanConnect (p q : ℕ × Gen) : Type 0 where
+    pub first_valid : IsValid entry p
+    pub second_valid : IsValid entry q
+    pub no_next : next_of interlinks p.0 ≡ None
+    pub no_prev : prev_of interlinks q.0 ≡ None
+
+  -- the link of a pointer, with the pointers of now to its neighbours
+  pub record IsLinkAt (p : ℕ × Gen) (prev next : Option (ℕ × Gen)) (t : T) : Type 0 where
+    pub stands : entry p.0 ≡ Some (p.1, t)
+    pub before : prev ≡ option_and_then (ptr_at entry) (prev_of interlinks p.0)
+    pub after : next ≡ option_and_then (ptr_at entry) (next_of interlinks p.0)

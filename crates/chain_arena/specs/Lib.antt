@@ -1,0 +1,4 @@
+pub mod ChainArena
+pub mod Links
+pub mod Walkers
+pub mod ChainArenaLaws

@@ -1,0 +1,95 @@
+ghost use Rattle.std.specs.Prelude.{◌≡◌, ◌≤◌, ◌↔◌, length, IsSome, IfSome};
+ghost use Rattle.arena_ptr.specs.Invalidation.{invalidation_option};
+ghost use Rattle.arena_base.specs.Arena.{entry_count, with_counter, with_maximum, IsValidPtr};
+ghost use Rattle.chain_arena.specs.ChainArena.{IsWalkOf};
+
+use crate::chain_iterators::ChainIter;
+use crate::links::LinkNoGen;
+use arena_base::{Arena, ArenaSlot, ArenaTrait};
+use arena_ptr::{
+    HeapStack, InvalidationOption, LimitStack, MaxCapacityReductionError, Ptr, SetMaxCapacity,
+    SlotStack,
+};
+use std::marker::Model;
+
+/// Links under typed pointers with generations, tied into many separate doubly linked chains, linear or cyclic.
+///
+/// Carries `ChainArena` of `triple_arena`. Its invariant is local: the interlinks agree. That every link then stands
+/// in exactly one chain is a law of the crate `chain_laws`.
+#[derive(Drop)]
+pub struct ChainArena<
+    P: Ptr,
+    T: Drop,
+    S: SlotStack<Item = ArenaSlot<P, LinkNoGen<P, T>>> = HeapStack<ArenaSlot<P, LinkNoGen<P, T>>>,
+> {
+    pub(crate) arena: Arena<P, LinkNoGen<P, T>, S>,
+}
+
+impl<P: Ptr, T: Drop, S: SlotStack<Item = ArenaSlot<P, LinkNoGen<P, T>>>> Model for ChainArena<P, T, S> {
+    ghost use Rattle.chain_laws.specs.Chains.{Agrees};
+    ghost use Rattle.arena_base.specs.Arena.{Arena as State};
+    ghost use Rattle.chain_arena.specs.ChainArena.{LinkSeen, shown};
+
+    ghost Value = { State P.Gen (LinkSeen T) };
+
+    ghost use Rattle.chain_arena.specs.Links.{seen_links};
+
+    ghost view = { λ a. seen_links P.Inx.number a.arena };
+
+    ghost invariant = { λ a. Agrees (shown (seen_links P.Inx.number a.arena)) };
+}
+
+impl<P: Ptr, T: Drop, S: SlotStack<Item = ArenaSlot<P, LinkNoGen<P, T>>>> ChainArena<P, T, S> {
+    /// The links of a pointer's chain in walk order, each once. `None`: the pointer is not valid.
+    pub fn iter_chain(&self, p: P) -> Option<ChainIter<'_, P, T, S>>
+        ensures some { IsSome result ↔ IsValidPtr self.now (P.key p) }
+        ensures walk { IfSome result (IsWalkOf self.now (P.key p).0) }
+        ensures count { IfSome result (λ links. length links ≤ entry_count self.now) }
+    {
+        match self.arena.get(p) {
+            Some(link) => Some(ChainIter::new(&self.arena, p.inx(), link.prev(), self.arena.len())),
+            None => None,
+        }
+    }
+
+    /// The counter: the generation of the next link.
+    pub fn generation(&self) -> P::Gen
+        ensures { result ≡ self.now.counter }
+    {
+        self.arena.generation()
+    }
+
+    /// Sets the counter.
+    pub fn set_generation(&mut self, generation: P::Gen)
+        ensures { self.new ≡ with_counter self.old generation }
+    {
+        self.arena.set_generation(generation);
+    }
+
+    /// Increments the counter. `GenerationOverflow`: it was at its greatest, and is two now.
+    pub fn inc_generation(&mut self) -> InvalidationOption<()>
+        ensures overflow { result ≡ invalidation_option (P.Gen.wraps self.old.counter) tt }
+        ensures after { self.new ≡ with_counter self.old (P.Gen.following self.old.counter) }
+    {
+        self.arena.inc_generation()
+    }
+
+    /// The slots.
+    pub fn backing(&self) -> &S
+    {
+        self.arena.backing()
+    }
+}
+
+impl<P: Ptr, T: Drop, S: LimitStack<Item = ArenaSlot<P, LinkNoGen<P, T>>>> SetMaxCapacity
+    for ChainArena<P, T, S>
+{
+    ghost stack_capacity = { λ a. a.stack_capacity };
+
+    ghost limits = { λ a n b. b ≡ with_maximum a n };
+
+    /// Sets the maximum to `n`. Refused exactly if `n` is below the capacity of the stack, and then nothing changes.
+    fn set_max_capacity(&mut self, n: usize) -> Result<(), MaxCapacityReductionError> {
+        self.arena.set_max_capacity(n)
+    }
+}

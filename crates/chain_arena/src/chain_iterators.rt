@@ -1,0 +1,131 @@
+ghost use Rattle.std.specs.Prelude.{◌≡◌, ℕ, Some};
+ghost use Rattle.std.specs.Option.{option_map};
+ghost use Rattle.std.specs.Iterator.{YieldsFirstBy, item_count};
+ghost use Rattle.chain_laws.specs.Walks.{going_on, going_back};
+ghost use Rattle.arena_base.specs.Arena.{entry_at};
+ghost use Rattle.chain_arena.specs.Links.{seen_links};
+ghost use Rattle.chain_arena.specs.Walkers.{links_ahead, seen_item, index_and_entry};
+
+use crate::links::LinkNoGen;
+use arena_base::{Arena, ArenaSlot, ArenaTrait};
+use arena_ptr::{Ptr, SlotStack};
+use std::marker::Model;
+
+/// The links of one chain in walk order, each with its pointer: from a link on to the end, and then from the link
+/// before it back to the start; a cyclic chain once round.
+///
+/// Made by `ChainArena::iter_chain`. Stands for the `impl Iterator` of `triple_arena`'s `iter_chain`.
+#[derive(Drop)]
+pub struct ChainIter<'a, P: Ptr, T: Drop, S: SlotStack<Item = ArenaSlot<P, LinkNoGen<P, T>>>> {
+    arena: &'a Arena<P, LinkNoGen<P, T>, S>,
+    start: P::Inx,
+    forth: Option<P::Inx>,
+    back: Option<P::Inx>,
+
+    // No more steps than this.
+    left: usize,
+}
+
+impl<'a, P: Ptr, T: Drop, S: SlotStack<Item = ArenaSlot<P, LinkNoGen<P, T>>>> Model for ChainIter<'a, P, T, S> {
+    ghost use Rattle.std.specs.Prelude.{ℕ, List};
+    ghost use Rattle.std.specs.Option.{option_map};
+    ghost use Rattle.chain_arena.specs.ChainArena.{LinkSeen};
+
+    ghost Value = { List (ℕ × (P.Gen × LinkSeen T)) };
+
+    ghost use Rattle.chain_arena.specs.Links.{seen_links};
+    ghost use Rattle.chain_arena.specs.Walkers.{links_ahead};
+
+    ghost view = { λ it. links_ahead (seen_links P.Inx.number it.arena.now) it.left (P.Inx.number it.start)
+        (option_map P.Inx.number it.forth) (option_map P.Inx.number it.back) };
+}
+
+impl<'a, P: Ptr, T: Drop, S: SlotStack<Item = ArenaSlot<P, LinkNoGen<P, T>>>> ChainIter<'a, P, T, S> {
+    // A walker that stands before the link at `start`, behind which `back` stands.
+    pub(crate) fn new(
+        arena: &'a Arena<P, LinkNoGen<P, T>, S>,
+        start: P::Inx,
+        back: Option<P::Inx>,
+        left: usize,
+    ) -> Self
+        ensures { result ≡ links_ahead (seen_links P.Inx.number arena.now) left (P.Inx.number start)
+            (Some (P.Inx.number start)) (option_map P.Inx.number back) }
+    {
+        ChainIter {
+            arena,
+            start,
+            forth: Some(start),
+            back,
+            left,
+        }
+    }
+}
+
+impl<'a, P: Ptr, T: Drop, S: SlotStack<Item = ArenaSlot<P, LinkNoGen<P, T>>>> Iterator for ChainIter<'a, P, T, S> {
+    type Item = (P, &'a LinkNoGen<P, T>);
+
+    ghost next_gives = { YieldsFirstBy (seen_item P.key P.Inx.number) (λ rest. rest) };
+
+    ghost remaining = { item_count (λ rest. rest) };
+
+    fn next(&mut self) -> Option<(P, &'a LinkNoGen<P, T>)> {
+        if self.left == 0 {
+            return None;
+        }
+        match self.forth {
+            Some(i) => match look(self.arena, i) {
+                Some((p, link)) => {
+                    self.left -= 1;
+                    self.back = going_back::<P>(self.start, link.next(), self.back);
+                    self.forth = going_on::<P>(self.start, link.next());
+                    Some((p, link))
+                }
+                None => None,
+            },
+            None => match self.back {
+                Some(i) => match look(self.arena, i) {
+                    Some((p, link)) => {
+                        self.left -= 1;
+                        self.back = link.prev();
+                        Some((p, link))
+                    }
+                    None => None,
+                },
+                None => None,
+            },
+        }
+    }
+}
+
+// The pointer and the link at an index.
+fn look<P: Ptr, T: Drop, S: SlotStack<Item = ArenaSlot<P, LinkNoGen<P, T>>>>(
+    arena: &Arena<P, LinkNoGen<P, T>, S>,
+    i: P::Inx,
+) -> Option<(P, &LinkNoGen<P, T>)>
+    ensures { option_map (seen_item P.key P.Inx.number) result ≡ option_map (index_and_entry (P.Inx.number i)) (entry_at (seen_links P.Inx.number arena.now) (P.Inx.number i)) }
+{
+    match arena.get_inx(i) {
+        Some((generation, link)) => Some((P::_from_raw(i, generation), link)),
+        None => None,
+    }
+}
+
+// Where a walker goes on to from a link: to the next one, unless it has come round.
+fn going_on<P: Ptr>(start: P::Inx, next: Option<P::Inx>) -> Option<P::Inx>
+    ensures { option_map P.Inx.number result ≡ going_on (P.Inx.number start) (option_map P.Inx.number next) }
+{
+    match next {
+        Some(k) => { if k == start { None } else { Some(k) } }
+        None => None,
+    }
+}
+
+// Where it goes back to from the end of the chain: nowhere, where it has come round.
+fn going_back<P: Ptr>(start: P::Inx, next: Option<P::Inx>, back: Option<P::Inx>) -> Option<P::Inx>
+    ensures { option_map P.Inx.number result ≡ going_back (P.Inx.number start) (option_map P.Inx.number next) (option_map P.Inx.number back) }
+{
+    match next {
+        Some(k) => { if k == start { None } else { back } }
+        None => back,
+    }
+}

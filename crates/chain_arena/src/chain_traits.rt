@@ -1,0 +1,115 @@
+ghost use Rattle.std.specs.Prelude.{◌≡◌, ◌↔◌, ◌<◌, ◌≤◌, ◌+◌, ◌⊎◌, ℕ, length, is_some, IsTrue, IsSome, IfSome, OnSome, IfNone, IsOk, IfOk, IsErr, IfErr, OnOk, OnErr, Err, None};
+ghost use Rattle.std.specs.Option.{option_map};
+ghost use Rattle.arena_ptr.specs.SlotStack.{IsBeyond};
+ghost use Rattle.arena_ptr.specs.Invalidation.{value_within, invalidation_result};
+ghost use Rattle.chain_laws.specs.Chains.{Shown, Agrees};
+ghost use Rattle.chain_laws.specs.Operations.{joined, with_lone};
+ghost use Rattle.chain_laws.specs.Removals.{removed};
+ghost use Rattle.arena_base.specs.Arena.{IsValid};
+ghost use Rattle.arena_base.specs.Entries.{removed as seen_removed};
+ghost use Rattle.chain_arena.specs.ChainArena.{link_at, on_value, CanConnect, IsInserted, IsLinkAt};
+ghost use Rattle.chain_arena.specs.Links.{seen_link, seen_lent};
+
+use crate::links::{Link, LinkNoGen};
+use arena_base::ArenaTrait;
+use arena_ptr::{ChainInsertionError, InvalidationResult, Ptr, PtrGen, PtrInx};
+
+/// Where a new link goes, and what that asks of the links there.
+///
+/// Carries `LinkInsertKind` of `triple_arena`, of which it has one kind so far.
+#[derive(Clone, Copy, Debug, PartialEq, Eq)]
+pub enum LinkInsertKind {
+    /// The new link is a linear chain of its own. This asks nothing.
+    Disconnected,
+}
+
+/// An arena whose entries are links, each in one linear or cyclic chain.
+///
+/// The calls of `ArenaTrait` see the values alone. A removal by them links the neighbours of what it removed, and no
+/// other of them changes a chain but `clear`, which leaves none.
+///
+/// Carries `ChainArenaTrait` of `triple_arena`.
+pub trait ChainArenaTrait<P: Ptr, T: Drop>: ArenaTrait<P, T> {
+    // The interlinks of the link at each index.
+    ghost interlinks: { Self → Shown };
+
+    /// Adds a link and answers its pointer, which has the counter as its generation.
+    ///
+    /// `BeyondMaxCapacity`: the growth needed goes beyond the maximum, which is tested first. `AllocError`: it goes
+    /// beyond the greatest index, or memory was refused. After either nothing has changed, and the value is dropped.
+    fn insert_reallocating(
+        &mut self,
+        kind: LinkInsertKind,
+        t: T,
+    ) -> Result<P, ChainInsertionError>
+        ensures inserted { IfOk result (λ p. IsInserted (Self.entry self.old) (Self.entry self.new) (P.key p) t) }
+        ensures alone { IfOk result (λ p. interlinks self.new ≡ with_lone (interlinks self.old) (P.key p).0) }
+        ensures generation { IfOk result (λ p. IfSome (Self.seen self.old).counter (λ g. (P.key p).1 ≡ g)) }
+        ensures counter { OnOk result ((Self.seen self.new).counter ≡ (Self.seen self.old).counter) }
+        ensures maximum { OnOk result ((Self.seen self.new).maximum ≡ (Self.seen self.old).maximum) }
+        ensures err { OnErr result (self.new ≡ self.old) }
+        ensures error { IfErr result (λ e. (e ≡ ChainInsertionError.AllocError) ⊎ (e ≡ ChainInsertionError.BeyondMaxCapacity)) }
+        ensures room { length (Self.seen self.old).entries < (Self.seen self.old).capacity → IsOk result × ((Self.seen self.new).capacity ≡ (Self.seen self.old).capacity) }
+        ensures beyond { (result ≡ Err ChainInsertionError.BeyondMaxCapacity) ↔ ((length (Self.seen self.old).entries ≡ (Self.seen self.old).capacity) × IsBeyond (Self.seen self.old).maximum (length (Self.seen self.old).entries + 1)) }
+        ensures greatest { length (Self.seen self.old).entries ≡ P.Inx.greatest → IsErr result };
+
+    /// The link of a pointer, with the pointers to its neighbours as they are now. `None`: the pointer is not valid.
+    fn get_link(&self, p: P) -> Option<Link<P, &T>>
+        ensures some { IsSome result ↔ IsValid (Self.entry self.now) (P.key p) }
+        ensures link { IfSome result (λ link. IsLinkAt (Self.entry self.now) (interlinks self.now) (P.key p) (option_map P.key link.prev) (option_map P.key link.next) link.t.now) };
+
+    /// The link of a pointer. `None`: the pointer is not valid.
+    fn get_link_no_gen(&self, p: P) -> Option<&LinkNoGen<P, T>>
+        ensures some { IsSome result ↔ IsValid (Self.entry self.now) (P.key p) }
+        ensures link { IfSome result (λ link. link_at (Self.entry self.now) (interlinks self.now) (P.key p).0 ≡ Some ((P.key p).1, seen_link P.Inx.number link.now)) }
+        ensures agree { Agrees (interlinks self.now) };
+
+    /// The generation and the link at an index. `None`: no link stands there.
+    fn get_inx_link_no_gen(&self, i: P::Inx) -> Option<(P::Gen, &LinkNoGen<P, T>)>
+        ensures link { option_map (seen_lent P.Inx.number) result ≡ link_at (Self.entry self.now) (interlinks self.now) (P.Inx.number i) }
+        ensures agree { Agrees (interlinks self.now) };
+
+    /// Makes q the link after p: two chains become one, or one chain becomes cyclic. `Some` exactly if both pointers
+    /// are valid, p has no next link and q no previous one; otherwise nothing changes.
+    fn connect(&mut self, p: P, q: P) -> Option<()>
+        ensures some { IsSome result ↔ CanConnect (Self.entry self.old) (interlinks self.old) (P.key p) (P.key q) }
+        ensures joined { OnSome result (interlinks self.new ≡ joined (interlinks self.old) (P.key p).0 (P.key q).0) }
+        ensures seen { OnSome result (Self.seen self.new ≡ Self.seen self.old) }
+        ensures none { IfNone result (self.new ≡ self.old) };
+
+    /// Removes a link, answers it with the interlinks that it had, increments the counter, and links its neighbours:
+    /// the rest of its chain stays linear or cyclic.
+    ///
+    /// `InvalidPtr`: the pointer is not valid, and nothing has changed. `GenerationOverflow`: the counter was at its
+    /// greatest, and is two now.
+    fn remove_link_no_gen(&mut self, p: P) -> InvalidationResult<LinkNoGen<P, T>>
+        ensures valid { IsValid (Self.entry self.old) (P.key p) → (option_map (λ link. ((P.key p).1, seen_link P.Inx.number link)) (value_within result) ≡ link_at (Self.entry self.old) (interlinks self.old) (P.key p).0)
+            × (Self.seen self.new ≡ seen_removed P.Gen.following (Self.seen self.old) (P.key p).0) × (interlinks self.new ≡ removed (interlinks self.old) (P.key p).0) }
+        ensures overflow { IfSome (Self.seen self.old).counter (λ g. result ≡ invalidation_result (P.Gen.wraps g) (value_within result)) }
+        ensures invalid { ¬ IsValid (Self.entry self.old) (P.key p) → (value_within result ≡ None) × (self.new ≡ self.old) }
+        ensures agreed { Agrees (interlinks self.old) };
+
+    /// Removes the link at an index, answers its generation and the link with the interlinks that it had, increments
+    /// the counter, and links its neighbours: the rest of its chain stays linear or cyclic.
+    ///
+    /// `InvalidPtr`: no link stands there, and nothing has changed. `GenerationOverflow`: the counter was at its
+    /// greatest, and is two now.
+    fn remove_inx_link_no_gen(&mut self, i: P::Inx) -> InvalidationResult<(P::Gen, LinkNoGen<P, T>)>
+        ensures answer { option_map (on_value (seen_link P.Inx.number)) (value_within result) ≡ link_at (Self.entry self.old) (interlinks self.old) (P.Inx.number i) }
+        ensures overflow { IfSome (Self.seen self.old).counter (λ g. result ≡ invalidation_result (P.Gen.wraps g) (value_within result)) }
+        ensures valid { IsSome (Self.entry self.old (P.Inx.number i)) → (Self.seen self.new ≡ seen_removed P.Gen.following (Self.seen self.old) (P.Inx.number i)) × (interlinks self.new ≡ removed (interlinks self.old) (P.Inx.number i)) }
+        ensures invalid { Self.entry self.old (P.Inx.number i) ≡ None → self.new ≡ self.old }
+        ensures agreed { Agrees (interlinks self.old) };
+
+    // A link stands where an entry stands.
+    ghost stand: { (a : Self) (i : ℕ) → is_some (interlinks a i) ≡ is_some (Self.entry a i) };
+
+    // What the calls of `ArenaTrait` do to chains.
+    ghost grown: { (a b : Self) → Self.grows a b → interlinks b ≡ interlinks a };
+
+    ghost written: { (a b : Self) (i : ℕ) (t : T) → Self.writes a i t b → interlinks b ≡ interlinks a };
+
+    ghost renewed: { (a b : Self) (i : ℕ) → Self.renews a i b → interlinks b ≡ interlinks a };
+
+    ghost passed_over: { (a b : Self) (i : ℕ) → Self.removes a i b → interlinks b ≡ removed (interlinks a) i };
+}

@@ -1,0 +1,235 @@
+// A chain arena as an arena of values.
+ghost use Rattle.std.specs.Prelude.{◌≡◌, ◌≤◌, length};
+ghost use Rattle.std.specs.Option.{option_map};
+ghost use Rattle.arena_ptr.specs.Invalidation.{value_within, is_overflow_result};
+ghost use Rattle.chain_laws.specs.Neighbors.{HasOneSetOfChains};
+ghost use Rattle.arena_base.specs.Arena.{entry_count};
+ghost use Rattle.arena_base.specs.Entries.{seen_of};
+ghost use Rattle.chain_arena.specs.ChainArena.{values_of, shown};
+
+use crate::chain_arena::ChainArena;
+use crate::interlinks::take_out;
+use crate::links::{LinkBody, LinkNoGen};
+use arena_base::{Advancer, Arena, ArenaSlot, ArenaTrait, CompactArenaTrait, PtrAdvancer};
+use arena_ptr::{
+    AllocError, InvalidationOption, InvalidationResult, Ptr, PtrGen, PtrInx, ReallocationError,
+    SlotStack,
+};
+use std::alloc::Global;
+
+impl<P: Ptr, T: Drop, S: SlotStack<Item = ArenaSlot<P, LinkNoGen<P, T>>>> ArenaTrait<P, T>
+    for ChainArena<P, T, S>
+{
+    ghost use Rattle.std.specs.Prelude.{◌≡◌};
+    ghost use Rattle.arena_base.specs.Arena.{entry_at, new_arena, with_capacity_of, renewed_at, cleared};
+    ghost use Rattle.arena_base.specs.Entries.{seen_of};
+    ghost use Rattle.arena_base.specs.EntryLaws.{entries_rise, found-entries};
+    ghost use Rattle.chain_laws.specs.Removals.{removed};
+    ghost use Rattle.chain_arena.specs.ChainArena.{shown, values_of, with_value_at, remove_link};
+
+    type PtrAdvancer = PtrAdvancer<P>;
+
+    ghost seen = { λ a. seen_of (values_of a) };
+
+    ghost entry = { λ a. entry_at (values_of a) };
+
+    ghost looks = { λ a. a.look };
+
+    ghost starts = { λ n a. (a ≡ with_capacity_of (new_arena P.Gen.first S.initial_maximum) a) × (n ≡ 0 → a.stack_capacity ≡ 0) };
+
+    ghost grows = { λ a b. (b ≡ with_capacity_of a b) × (shown b ≡ shown a) };
+
+    ghost writes = { λ a i t b. (b ≡ with_value_at a i t) × (shown b ≡ shown a) };
+
+    ghost renews = { λ a i b. (b ≡ renewed_at P.Gen.following a i) × (shown b ≡ shown a) };
+
+    ghost removes = { λ a i b. (b ≡ remove_link P.Gen.following a i) × (shown b ≡ removed (shown a) i) };
+
+    ghost clears = { λ a b. b ≡ cleared P.Gen.following a };
+
+    ghost rises = { λ a. entries_rise (values_of a) };
+
+    ghost looked_up = { λ a. found-entries (values_of a) };
+
+    ghost advances = { λ a b arena answer given. given };
+
+    fn new(alloc: Global) -> Self {
+        ChainArena {
+            arena: Arena::new(alloc),
+        }
+    }
+
+    fn with_min_capacity(alloc: Global, n: usize) -> Result<Self, AllocError> {
+        match Arena::with_min_capacity(alloc, n) {
+            Ok(arena) => Ok(ChainArena { arena }),
+            Err(refusal) => Err(refusal),
+        }
+    }
+
+    fn capacity(&self) -> usize {
+        self.arena.capacity()
+    }
+
+    fn max_capacity(&self) -> Option<usize> {
+        self.arena.max_capacity()
+    }
+
+    /// How many links there are. Each of them stands in exactly one chain, at one place, and no two sets of chains
+    /// say what the arena shows.
+    fn len(&self) -> usize
+        ensures count { result ≡ length (seen_of (values_of self.now)).entries }
+        ensures fits { result ≤ (seen_of (values_of self.now)).capacity }
+        ensures links { result ≡ entry_count self.now }
+        ensures chains { HasOneSetOfChains (shown self.now) }
+    {
+        self.arena.len()
+    }
+
+    fn is_empty(&self) -> bool {
+        self.arena.is_empty()
+    }
+
+    fn reallocate_min_capacity(&mut self, n: usize) -> Result<(), ReallocationError> {
+        self.arena.reallocate_min_capacity(n)
+    }
+
+    fn singular_generation(&self) -> Option<P::Gen> {
+        self.arena.singular_generation()
+    }
+
+    fn contains(&self, p: P) -> bool {
+        self.arena.contains(p)
+    }
+
+    fn get(&self, p: P) -> Option<&T> {
+        match self.arena.get(p) {
+            Some(link) => Some(link.value()),
+            None => None,
+        }
+    }
+
+    fn get_mut(&mut self, p: P) -> Option<&mut T> {
+        if self.contains(p) {
+            self.get_inx_mut(p.inx())
+        } else {
+            None
+        }
+    }
+
+    fn get_inx(&self, i: P::Inx) -> Option<(P::Gen, &T)> {
+        match self.arena.get_inx(i) {
+            Some((generation, link)) => Some((generation, link.value())),
+            None => None,
+        }
+    }
+
+    fn get_inx_mut(&mut self, i: P::Inx) -> Option<&mut T> {
+        match self.arena.get_inx_mut(i) {
+            Some(link) => Some(&mut link.t),
+            None => None,
+        }
+    }
+
+    fn find_first_inx_ptr(&self) -> Option<P> {
+        self.arena.find_first_inx_ptr()
+    }
+
+    fn find_last_inx_ptr(&self) -> Option<P> {
+        self.arena.find_last_inx_ptr()
+    }
+
+    fn advancer(&self) -> PtrAdvancer<P> {
+        self.arena.advancer()
+    }
+
+    fn advancer_inx(&self, i: P::Inx, rev: bool) -> PtrAdvancer<P> {
+        self.arena.advancer_inx(i, rev)
+    }
+
+    /// Increments the counter and gives it to a link, which stays in its chain.
+    fn invalidate(&mut self, p: P) -> InvalidationResult<P> {
+        self.arena.invalidate(p)
+    }
+
+    fn remove(&mut self, p: P) -> InvalidationResult<T> {
+        if self.contains(p) {
+            value_alone(take_out(&mut self.arena, p.inx()))
+        } else {
+            InvalidationResult::InvalidPtr
+        }
+    }
+
+    fn remove_inx(&mut self, i: P::Inx) -> InvalidationResult<(P::Gen, T)> {
+        value_with_generation(take_out(&mut self.arena, i))
+    }
+
+    fn clear(&mut self) -> InvalidationOption<()> {
+        self.arena.clear()
+    }
+}
+
+impl<P: Ptr, T: Drop, S: SlotStack<Item = ArenaSlot<P, LinkNoGen<P, T>>>> CompactArenaTrait<P, T>
+    for ChainArena<P, T, S>
+{}
+
+impl<P: Ptr, T: Drop, S: SlotStack<Item = ArenaSlot<P, LinkNoGen<P, T>>>> Advancer<ChainArena<P, T, S>>
+    for PtrAdvancer<P>
+{
+    ghost use Rattle.std.specs.Prelude.{◌≡◌};
+    ghost use Rattle.std.specs.Option.{option_map};
+    ghost use Rattle.arena_base.specs.Entries.{entries};
+    ghost use Rattle.arena_base.specs.Advancing.{IsLook};
+    ghost use Rattle.arena_base.specs.AdvancingLaws.{nowhere_stays};
+    ghost use Rattle.arena_base.specs.declared.look.Look.TheVariants.{Nowhere};
+    ghost use Rattle.chain_arena.specs.ChainArena.{values_of};
+
+    type Item = P;
+
+    ghost gives = { λ a arena answer b. IsLook (entries (values_of arena)) a.look (option_map P.key answer) b.look };
+
+    ghost is_spent = { λ a. a.look ≡ Nowhere };
+
+    ghost stays_spent = { λ a b arena answer spent given. nowhere_stays P.key (entries (values_of arena)) a.look answer b.look spent given };
+
+    fn advance(&mut self, collection: &ChainArena<P, T, S>) -> Option<P> {
+        self.advance(&collection.arena)
+    }
+
+    fn empty() -> Self {
+        <PtrAdvancer<P> as Advancer<Arena<P, LinkNoGen<P, T>, S>>>::empty()
+    }
+}
+
+// The answer of a removal without the generation and the interlinks.
+fn value_alone<G: Drop, I: Drop, T>(
+    removed: InvalidationResult<(G, LinkBody<I, T>)>,
+) -> InvalidationResult<T>
+    ensures value { value_within result ≡ option_map (λ e. e.1.t) (value_within removed) }
+    ensures overflow { is_overflow_result result ≡ is_overflow_result removed }
+{
+    match removed {
+        InvalidationResult::Success((_, link)) => InvalidationResult::Success(link.t),
+        InvalidationResult::GenerationOverflow((_, link)) => {
+            InvalidationResult::GenerationOverflow(link.t)
+        }
+        InvalidationResult::InvalidPtr => InvalidationResult::InvalidPtr,
+    }
+}
+
+// The answer of a removal without the interlinks.
+fn value_with_generation<G, I: Drop, T>(
+    removed: InvalidationResult<(G, LinkBody<I, T>)>,
+) -> InvalidationResult<(G, T)>
+    ensures value { value_within result ≡ option_map (λ e. (e.0, e.1.t)) (value_within removed) }
+    ensures overflow { is_overflow_result result ≡ is_overflow_result removed }
+{
+    match removed {
+        InvalidationResult::Success((generation, link)) => {
+            InvalidationResult::Success((generation, link.t))
+        }
+        InvalidationResult::GenerationOverflow((generation, link)) => {
+            InvalidationResult::GenerationOverflow((generation, link.t))
+        }
+        InvalidationResult::InvalidPtr => InvalidationResult::InvalidPtr,
+    }
+}

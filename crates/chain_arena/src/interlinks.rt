@@ -1,0 +1,136 @@
+// How a chain arena reads and writes interlinks in the arena that holds its links.
+ghost use Rattle.std.specs.Prelude.{◌≡◌, ◌↔◌, IsTrue, IsSome, Some, None};
+ghost use Rattle.std.specs.Option.{option_map, option_and_then};
+ghost use Rattle.arena_ptr.specs.Invalidation.{value_within, invalidation_result};
+ghost use Rattle.chain_laws.specs.Operations.{next_set, prev_set, linked};
+ghost use Rattle.arena_base.specs.Arena.{entry_at};
+ghost use Rattle.chain_arena.specs.ChainArena.{shown, relinked, remove_link, values_of, CanConnect, ptr_at};
+ghost use Rattle.chain_arena.specs.Links.{seen_links, seen_pair};
+
+use crate::links::LinkNoGen;
+use arena_base::{Arena, ArenaSlot, ArenaTrait};
+use arena_ptr::{ChainInsertionError, InvalidationResult, Ptr, PtrInx, ReallocationError, SlotStack};
+
+// Whether q may come after p.
+pub(crate) fn can_connect<P: Ptr, T: Drop, S: SlotStack<Item = ArenaSlot<P, LinkNoGen<P, T>>>>(
+    arena: &Arena<P, LinkNoGen<P, T>, S>,
+    p: P,
+    q: P,
+) -> bool
+    ensures { IsTrue result ↔ CanConnect (entry_at (values_of (seen_links P.Inx.number arena.now))) (shown (seen_links P.Inx.number arena.now)) (P.key p) (P.key q) }
+{
+    match arena.get(p) {
+        Some(first) => match arena.get(q) {
+            Some(second) => first.next().is_none() && second.prev().is_none(),
+            None => false,
+        },
+        None => false,
+    }
+}
+
+// The pointer of now to the link that an interlink names.
+pub(crate) fn neighbor<P: Ptr, T: Drop, S: SlotStack<Item = ArenaSlot<P, LinkNoGen<P, T>>>>(
+    arena: &Arena<P, LinkNoGen<P, T>, S>,
+    i: Option<P::Inx>,
+) -> Option<P>
+    ensures { option_map P.key result ≡ option_and_then (ptr_at (entry_at (values_of (seen_links P.Inx.number arena.now)))) (option_map P.Inx.number i) }
+{
+    match i {
+        Some(i) => match arena.get_inx(i) {
+            Some((generation, _)) => Some(P::_from_raw(i, generation)),
+            None => None,
+        },
+        None => None,
+    }
+}
+
+// The link at i, if i is an index and a link stands there, names another as the one after it.
+fn set_next<P: Ptr, T: Drop, S: SlotStack<Item = ArenaSlot<P, LinkNoGen<P, T>>>>(
+    arena: &mut Arena<P, LinkNoGen<P, T>, S>,
+    i: Option<P::Inx>,
+    next: Option<P::Inx>,
+)
+    ensures { seen_links P.Inx.number arena.new ≡ relinked (seen_links P.Inx.number arena.old)
+        (next_set (shown (seen_links P.Inx.number arena.old)) (option_map P.Inx.number i) (option_map P.Inx.number next)) }
+{
+    match i {
+        Some(i) => match arena.get_inx_mut(i) {
+            Some(link) => link.set_next(next),
+            None => {}
+        },
+        None => {}
+    }
+}
+
+// The link at i, if i is an index and a link stands there, names another as the one before it.
+fn set_prev<P: Ptr, T: Drop, S: SlotStack<Item = ArenaSlot<P, LinkNoGen<P, T>>>>(
+    arena: &mut Arena<P, LinkNoGen<P, T>, S>,
+    i: Option<P::Inx>,
+    prev: Option<P::Inx>,
+)
+    ensures { seen_links P.Inx.number arena.new ≡ relinked (seen_links P.Inx.number arena.old)
+        (prev_set (shown (seen_links P.Inx.number arena.old)) (option_map P.Inx.number i) (option_map P.Inx.number prev)) }
+{
+    match i {
+        Some(i) => match arena.get_inx_mut(i) {
+            Some(link) => link.set_prev(prev),
+            None => {}
+        },
+        None => {}
+    }
+}
+
+// One link follows another, each where it is some index at which a link stands.
+pub(crate) fn link_up<P: Ptr, T: Drop, S: SlotStack<Item = ArenaSlot<P, LinkNoGen<P, T>>>>(
+    arena: &mut Arena<P, LinkNoGen<P, T>, S>,
+    prev: Option<P::Inx>,
+    next: Option<P::Inx>,
+)
+    ensures { seen_links P.Inx.number arena.new ≡ relinked (seen_links P.Inx.number arena.old)
+        (linked (shown (seen_links P.Inx.number arena.old)) (option_map P.Inx.number prev) (option_map P.Inx.number next)) }
+{
+    set_next(arena, prev, next);
+    set_prev(arena, next, prev);
+}
+
+// Takes the link at an index out, and links those that it stood between.
+pub(crate) fn take_out<P: Ptr, T: Drop, S: SlotStack<Item = ArenaSlot<P, LinkNoGen<P, T>>>>(
+    arena: &mut Arena<P, LinkNoGen<P, T>, S>,
+    i: P::Inx,
+) -> InvalidationResult<(P::Gen, LinkNoGen<P, T>)>
+    ensures answer { option_map (seen_pair P.Inx.number) (value_within result) ≡ entry_at (seen_links P.Inx.number arena.old) (P.Inx.number i) }
+    ensures overflow { result ≡ invalidation_result (P.Gen.wraps arena.old.counter) (value_within result) }
+    ensures valid { IsSome (value_within result) → seen_links P.Inx.number arena.new ≡ remove_link P.Gen.following (seen_links P.Inx.number arena.old) (P.Inx.number i) }
+    ensures invalid { value_within result ≡ None → arena.new ≡ arena.old }
+{
+    let (entry, overflow) = arena.remove_inx(i).overflowing();
+    match entry {
+        Some((generation, link)) => {
+            link_up(arena, link.prev(), link.next());
+            invalidated(overflow, (generation, link))
+        }
+        None => InvalidationResult::InvalidPtr,
+    }
+}
+
+// The answer of a removal that removed something.
+fn invalidated<T>(overflow: bool, t: T) -> InvalidationResult<T>
+    ensures { result ≡ invalidation_result overflow (Some t) }
+{
+    if overflow {
+        InvalidationResult::GenerationOverflow(t)
+    } else {
+        InvalidationResult::Success(t)
+    }
+}
+
+// What a refused growth is to an insertion.
+pub(crate) fn insertion_error(refusal: ReallocationError) -> ChainInsertionError
+    ensures alloc { refusal ≡ ReallocationError.AllocError → result ≡ ChainInsertionError.AllocError }
+    ensures beyond { refusal ≡ ReallocationError.BeyondMaxCapacity → result ≡ ChainInsertionError.BeyondMaxCapacity }
+{
+    match refusal {
+        ReallocationError::AllocError => ChainInsertionError::AllocError,
+        ReallocationError::BeyondMaxCapacity => ChainInsertionError::BeyondMaxCapacity,
+    }
+}
