@@ -78,10 +78,11 @@ taken_more {P} {Gen} {T} key taken p t es left all n from rises first index g me
     let value : t ≡ at.value = same_value (g, t) ((key p).1, at.value) (met ∙ at.finds) in
     let rest : left ≡ at.rest = gone ∙ at.leaves in
     let next : suc (key p).0 ≡ (key p).0 + 1 = omega arith in
-    let cons : (key p, t) ∷ left ≡ es = ap (λ v. (key p, v) ∷ left) value ∙ (ap (λ fs. (key p, at.value) ∷ fs) rest ∙ sym at.all) in
-    (moved taken left ∙ (ap (λ fs. map (keyed key) taken ++ fs) cons ∙ so_far),
-     subst (λ m. RisesFrom m left) next (subst (RisesFrom (suc (key p).0)) (sym rest) at.rises),
-     ap length at.all ∙ ap suc (ap length (sym rest)))
+    let cons : (key p, t) ∷ left ≡ es = ap (λ v. (key p, v) ∷ left) value ∙ (ap (λ fs. (key p, at.value) ∷ fs) rest ∙ sym at.all) in (
+      moved taken left ∙ (ap (λ fs. map (keyed key) taken ++ fs) cons ∙ so_far),
+      subst (λ m. RisesFrom m left) next (subst (RisesFrom (suc (key p).0)) (sym rest) at.rises),
+      ap length at.all ∙ ap suc (ap length (sym rest)),
+    )
   where
     moved : (xs : List (P × T)) (ys : List ((ℕ × Gen) × T)) → map (keyed key) (xs ++ (p, t) ∷ []) ++ ys ≡ map (keyed key) xs ++ (key p, t) ∷ ys
     moved [] ys = refl

@@ -1,13 +1,9 @@
 // Worked rows: which index and generation comes next, and what moves.
 use crate::tests::pointers::{BarePtr, SmallPtr};
 use crate::{Advancer, Arena, ArenaTrait, Compactor, SlotAccess, Work};
-use arena_ptr::{
-    Gen8, HeapStack, InvalidationOption, InvalidationResult, Inx8, LimitStack, LimitedStack, Ptr,
-    SetMaxCapacity, SlotStack,
-};
+use arena_ptr::{Gen8, InvalidationResult, Inx8, Ptr};
 use std::alloc::Global;
 use std::mem;
-use std::process::Abort;
 use std::test::Fail;
 
 type SmallArena = Arena<SmallPtr, u32>;

@@ -21,14 +21,14 @@ first g c =
 -- what is taken and what is left, once it is taken out
 step : (g : Over) (c : In-Some-value_of g) → Some (g.P.Ptr.key c.in-Some.p) ≡ first_key (from_index c.loop-p.invariant.from (g.A.ArenaTrait.seen c.loop-p.arena).entries)
     → (map (keyed g.P.Ptr.key) (c.loop-p.taken.items ++ (c.in-Some.p, c.in-Some-value_of.t) ∷ []) ++ (g.A.ArenaTrait.seen c.remove_inx.new.self).entries ≡ (g.A.ArenaTrait.seen c.args.arena.now).entries)
-      × RisesFrom ((g.P.Ptr.key c.in-Some.p).0 + 1) (g.A.ArenaTrait.seen c.remove_inx.new.self).entries
-      × (length (g.A.ArenaTrait.seen c.loop-p.arena).entries ≡ suc (length (g.A.ArenaTrait.seen c.remove_inx.new.self).entries))
+    × RisesFrom ((g.P.Ptr.key c.in-Some.p).0 + 1) (g.A.ArenaTrait.seen c.remove_inx.new.self).entries
+    × (length (g.A.ArenaTrait.seen c.loop-p.arena).entries ≡ suc (length (g.A.ArenaTrait.seen c.remove_inx.new.self).entries))
 step g c met =
     let n = g.P.Inx.PtrInx.number c.inx.result in
     let stands = sym c.in-Some-value_of.is ∙ (c.value_of.ensures ∙ c.remove_inx.ensures.answer) in
     taken_more g.P.Ptr.key c.loop-p.taken.items c.in-Some.p c.in-Some-value_of.t (g.A.ArenaTrait.seen c.loop-p.arena).entries (g.A.ArenaTrait.seen c.remove_inx.new.self).entries (g.A.ArenaTrait.seen c.args.arena.now).entries
-      n c.loop-p.invariant.from c.loop-p.invariant.rises met c.inx.ensures c.in-Some-value_of.field-0-0 (stands ∙ sym (g.met.A.ArenaTrait.looked_up c.loop-p.arena n))
-      (ap (λ s. s.entries) (c.remove_inx.ensures.valid (sym (ap is_some stands)))) c.loop-p.invariant.all
+    n c.loop-p.invariant.from c.loop-p.invariant.rises met c.inx.ensures c.in-Some-value_of.field-0-0 (stands ∙ sym (g.met.A.ArenaTrait.looked_up c.loop-p.arena n))
+    (ap (λ s. s.entries) (c.remove_inx.ensures.valid (sym (ap is_some stands)))) c.loop-p.invariant.all
 
 -- where there is no answer there are no entries
 nothing : (g : Over) (arena : g.row.A.Denot) (before after : g.row.A-PtrAdvancer.Denot) (from : ℕ) → g.A.ArenaTrait.looks before ≡ Up from → RisesFrom from (g.A.ArenaTrait.seen arena).entries
@@ -42,7 +42,7 @@ pub unreachable-requires : goal.unreachable-requires
 unreachable-requires g c =
     let n = g.P.Inx.PtrInx.number c.inx.result in
     finds_it (g.A.ArenaTrait.seen c.loop-p.arena).entries c.loop-p.invariant.from n (g.P.Ptr.key c.in-Some.p) c.loop-p.invariant.rises (first g (goal.at.unreachable-requires g c).In-Some) c.inx.ensures
-      (sym c.in_default-value_of.is ∙ (c.value_of.ensures ∙ (c.remove_inx.ensures.answer ∙ sym (g.met.A.ArenaTrait.looked_up c.loop-p.arena n))))
+    (sym c.in_default-value_of.is ∙ (c.value_of.ensures ∙ (c.remove_inx.ensures.answer ∙ sym (g.met.A.ArenaTrait.looked_up c.loop-p.arena n))))
 
 pub loop-p-smaller : goal.loop-p-smaller
 loop-p-smaller g c = let at = goal.at.loop-p-smaller g c in omega (arith, (step g at.In-Some-value_of (first g at.In-Some)).2)
