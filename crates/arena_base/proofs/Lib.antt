@@ -1,3 +1,4 @@
+mod Emptying
 mod FreeSlots
 mod Holding
 mod Ranging

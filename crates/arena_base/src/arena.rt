@@ -1,8 +1,9 @@
 // The generational arena and its own calls.
-ghost use Rattle.std.specs.Prelude.{◌≡◌, [], min, ◌<◌, ◌≤◌, ◌+◌, ◌↔◌, IsTrue, IsSome, IfSome, IsErr, IfOk, IsOk, OnOk, OnErr, Some, None, Ok, Err, length, drop, take, slice_index_or, ◌^◌};
+ghost use Rattle.std.specs.Prelude.{◌≡◌, [], min, ◌<◌, ◌≤◌, ◌+◌, ◌↔◌, IsTrue, IsSome, IfSome, IsErr, IfOk, IsOk, OnOk, OnErr, Some, None, Ok, Err, length, drop, take, slice_index_or, map, ◌^◌};
 ghost use Rattle.std.specs.Option.{option_map};
 ghost use Rattle.arena_ptr.specs.SlotStack.{IsBeyond};
 ghost use Rattle.arena_ptr.specs.Invalidation.{invalidation_option, invalidation_result};
+ghost use Rattle.arena_base.specs.Slots.{entry_of};
 ghost use Rattle.arena_base.specs.Entries.{entries, entries_from, key_at, first_key, last_key};
 ghost use Rattle.arena_base.specs.Advancing.{ahead};
 ghost use Rattle.arena_base.specs.Compacting.{held_of, lent_out, returned, with_placement, with_touch};
@@ -79,10 +80,10 @@ impl<P: Ptr, T: Drop, S: SlotStack<Item = ArenaSlot<P, T>>> Arena<P, T, S> {
     }
 
     /// Sets the counter.
-    pub fn set_generation(&mut self, generation: P::Gen)
-        ensures { self.new ≡ with_counter self.old generation }
+    pub fn set_generation(&mut self, counter: P::Gen)
+        ensures { self.new ≡ with_counter self.old counter }
     {
-        self.counter = generation;
+        self.counter = counter;
     }
 
     /// Increments the counter. `GenerationOverflow`: it was at its greatest, and is two now.
@@ -96,7 +97,11 @@ impl<P: Ptr, T: Drop, S: SlotStack<Item = ArenaSlot<P, T>>> Arena<P, T, S> {
     }
 
     /// The slots.
-    pub fn backing(&self) -> &S {
+    pub fn backing(&self) -> &S
+        ensures slots { map entry_of (S.items result.now) ≡ self.now.slots }
+        ensures capacity { S.capacity result.now ≡ self.now.stack_capacity }
+        ensures maximum { S.maximum result.now ≡ self.now.maximum }
+    {
         &self.slots
     }
 

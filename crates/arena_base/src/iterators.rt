@@ -41,7 +41,7 @@ impl<P: Ptr, T: Drop, S: SlotStack<Item = ArenaSlot<P, T>>> Arena<P, T, S> {
 }
 
 // What an answer holds.
-fn value_of<T>(outcome: InvalidationResult<T>) -> Option<T>
+pub(crate) fn value_of<T>(outcome: InvalidationResult<T>) -> Option<T>
     ensures { result ≡ value_within outcome }
 {
     match outcome {

@@ -2,9 +2,10 @@
 ghost use Rattle.std.specs.Prelude.{◌≡◌, OnOk, IfOk, [], map};
 ghost use Rattle.arena_base.specs.Taking.{keyed};
 
+use crate::iterators::value_of;
 use crate::tests::pointers::{BarePtr, SmallPtr};
 use crate::{Advancer, Arena, ArenaTrait};
-use arena_ptr::{InvalidationResult, Ptr};
+use arena_ptr::Ptr;
 use std::alloc::{AllocError, Global};
 use std::test::Fail;
 
@@ -19,11 +20,10 @@ fn take_all<P: Ptr, T: Drop, A: ArenaTrait<P, T>>(
     let mut taken = Vec::new(alloc);
     let mut advancer = arena.advancer();
     while let Some(p) = advancer.advance(arena) {
-        match arena.remove_inx(p.inx()) {
-            InvalidationResult::Success((_, t)) => taken.push((p, t))?,
-            InvalidationResult::GenerationOverflow((_, t)) => taken.push((p, t))?,
-            InvalidationResult::InvalidPtr => unreachable!(),
-        }
+        let Some((_, t)) = value_of(arena.remove_inx(p.inx())) else {
+            unreachable!();
+        };
+        taken.push((p, t))?;
     }
     Ok(taken)
 }

@@ -6,7 +6,6 @@ use arena_ptr::{
     MaxCapacityReductionError, NotWithinCapacityError, Ptr, ReallocationError, SetMaxCapacity,
     SlotStack,
 };
-use std::alloc::Global;
 use std::process::Abort;
 use std::test::Fail;
 

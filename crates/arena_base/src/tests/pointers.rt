@@ -13,7 +13,7 @@ impl Ptr for SmallPtr {
     ghost use Rattle.std.specs.Prelude.{◌≡◌, ℕ, ◌==◌, true};
     ghost use Rattle.arena_ptr.specs.Indexes.{number_of_inx8, same_inx8, eq_is_same_inx8};
     ghost use Rattle.arena_ptr.specs.Generations.{number_of_gen8, eq_is_same_gen8};
-    ghost use Rattle.arena_ptr.specs.declared.generation.Gen8.{Gen8};
+    ghost use Rattle.arena_ptr.specs.declared.generation.gen8.Gen8.{Gen8};
 
     type Inx = Inx8;
 

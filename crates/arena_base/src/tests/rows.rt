@@ -1,13 +1,9 @@
 // Worked rows: which index and generation comes next, and what moves.
 use crate::tests::pointers::{BarePtr, SmallPtr};
-use crate::{Advancer, Arena, ArenaTrait, SlotAccess, Work};
-use arena_ptr::{
-    Gen8, HeapStack, InvalidationOption, InvalidationResult, Inx8, LimitStack, LimitedStack, Ptr,
-    SetMaxCapacity, SlotStack,
-};
+use crate::{Advancer, Arena, ArenaTrait, Compactor, SlotAccess, Work};
+use arena_ptr::{Gen8, InvalidationResult, Inx8, Ptr};
 use std::alloc::Global;
 use std::mem;
-use std::process::Abort;
 use std::test::Fail;
 
 type SmallArena = Arena<SmallPtr, u32>;
@@ -31,6 +27,24 @@ fn three(alloc: Global) -> Result<SmallArena, Fail> {
     Ok(arena)
 }
 
+// Moves an entry within the slots, and tells whether one stands there.
+fn moves(
+    compactor: &mut Compactor<'_, SmallPtr, u32>,
+    from: Inx8,
+    to: Inx8,
+    generation: Gen8,
+) -> bool {
+    let count = compactor.slots();
+    if from.get() as usize > count || to.get() as usize > count {
+        return false;
+    }
+    if compactor.peek(from).is_none() {
+        return false;
+    }
+    compactor.place(from, to, generation);
+    true
+}
+
 #[test]
 fn last_freed_first_used(rt: HostRuntime) -> Result<(), Fail> {
     let mut arena = three(rt.alloc())?;
@@ -50,8 +64,8 @@ fn the_compactor_closes_a_hole(rt: HostRuntime) -> Result<(), Fail> {
     assert_eq!(rt; arena.remove(at(1, 2)?), InvalidationResult::Success(10));
     let mut compactor = arena.compactor();
     assert_eq!(rt; compactor.slots(), 3);
-    assert!(rt; compactor.peek(index(3)?).is_some());
-    compactor.place(index(3)?, index(1)?, Gen8::new(3).ok_or("a generation")?);
+    let generation = Gen8::new(3).ok_or("a generation")?;
+    assert!(rt; moves(&mut compactor, index(3)?, index(1)?, generation));
     let work = compactor.finish();
     assert_eq!(rt;
         work,
