@@ -62,19 +62,19 @@ module _ {Gen T : Type 0} where
   seen-remove_at following a zero some = absurd (omega (arith, some))
   seen-remove_at following a (suc k) some =
       ap₂ (λ (es : List ((ℕ × Gen) × T)) (n : ℕ). let s : Seen Gen T = record (seen_of (remove_at following a (suc k))) { entries = es; slots = Some (record { count = n; freed = suc k ∷ a.freed; placed = a.placed + 1; touched = a.touched }) } in s)
-        (entries-freed (suc k) 1 k a.slots (omega arith)) (length-slice_set a.slots k None)
+      (entries-freed (suc k) 1 k a.slots (omega arith)) (length-slice_set a.slots k None)
 
   pub seen-with_value : (a : Arena Gen T) (i : ℕ) (t : T) → 1 ≤ i → seen_of (with_value a i t) ≡ written (seen_of a) i t
   seen-with_value a zero t some = absurd (omega (arith, some))
   seen-with_value a (suc k) t some =
       ap₂ (λ (es : List ((ℕ × Gen) × T)) (n : ℕ). let s : Seen Gen T = record (seen_of a) { entries = es; slots = Some (record { count = n; freed = a.freed; placed = a.placed; touched = a.touched }) } in s)
-        (entries-changed (suc k) 1 k (λ (e : Gen × T). (e.0, t)) a.slots (omega arith)) (length-slice_set a.slots k _)
+      (entries-changed (suc k) 1 k (λ (e : Gen × T). (e.0, t)) a.slots (omega arith)) (length-slice_set a.slots k _)
 
   pub seen-renewed_at : (following : Gen → Gen) (a : Arena Gen T) (i : ℕ) → 1 ≤ i → seen_of (renewed_at following a i) ≡ renewed (seen_of a) (i, following a.counter)
   seen-renewed_at following a zero some = absurd (omega (arith, some))
   seen-renewed_at following a (suc k) some =
       ap₂ (λ (es : List ((ℕ × Gen) × T)) (n : ℕ). let s : Seen Gen T = record (seen_of (renewed_at following a (suc k))) { entries = es; slots = Some (record { count = n; freed = a.freed; placed = a.placed; touched = a.touched }) } in s)
-        (entries-changed (suc k) 1 k (λ (e : Gen × T). (following a.counter, e.1)) a.slots (omega arith)) (length-slice_set a.slots k _)
+      (entries-changed (suc k) 1 k (λ (e : Gen × T). (following a.counter, e.1)) a.slots (omega arith)) (length-slice_set a.slots k _)
 
   pub seen-cleared : (following : Gen → Gen) (a : Arena Gen T) → seen_of (cleared following a) ≡ emptied following (seen_of a)
   seen-cleared following a = ap (λ (n : ℕ). let s : Seen Gen T = record (emptied following (seen_of a)) { counter = Some (counter_after_clear following n a.counter) } in s) (sym (length-entries a))

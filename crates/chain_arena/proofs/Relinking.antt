@@ -78,11 +78,11 @@ module _ {Gen T : Type 0} where
   pub values_of-relinked : (a : Arena Gen (LinkSeen T)) (interlinks : Shown) → FitsLinks interlinks a → values_of (relinked a interlinks) ≡ values_of a
   values_of-relinked a interlinks fits =
       ap (λ (slots : List (Option (Gen × T))). let b : Arena Gen T = record (values_of a) { slots = slots } in b)
-        (same_items (values_of (relinked a interlinks)).slots (values_of a).slots None
-          (length-with_each value_in (relinked a interlinks) ∙ (length-relinked a interlinks ∙ sym (length-with_each value_in a)))
-          (λ k. entry_at-with_each value_in (relinked a interlinks) (suc k)
-            ∙ (ap (option_map (on_value value_in)) (entry_at-relinked a interlinks (suc k))
-            ∙ (value-relink (interlinks (suc k)) (entry_at a (suc k)) (fits (suc k)) ∙ sym (entry_at-with_each value_in a (suc k))))))
+      (same_items (values_of (relinked a interlinks)).slots (values_of a).slots None
+      (length-with_each value_in (relinked a interlinks) ∙ (length-relinked a interlinks ∙ sym (length-with_each value_in a)))
+      (λ k. entry_at-with_each value_in (relinked a interlinks) (suc k)
+      ∙ (ap (option_map (on_value value_in)) (entry_at-relinked a interlinks (suc k))
+      ∙ (value-relink (interlinks (suc k)) (entry_at a (suc k)) (fits (suc k)) ∙ sym (entry_at-with_each value_in a (suc k))))))
 
   pub FitsLinks-linked : (a : Arena Gen (LinkSeen T)) (u v : Option ℕ) → FitsLinks (linked (shown a) u v) a
   FitsLinks-linked a u v = FitsLinks-prev_set a (next_set (shown a) u v) v u (FitsLinks-next_set a (shown a) u v (FitsLinks-shown a))

@@ -87,8 +87,8 @@ module _ {Gen T : Type 0} where
       → ((i : ℕ) → entry_at b i ≡ relink (interlinks i) (entry_at a i)) → b ≡ relinked a interlinks
   is_relinked a b interlinks long rest entries =
       rest ∙ ap (λ (slots : List (Option (Gen × LinkSeen T))). let c : Arena Gen (LinkSeen T) = record a { slots = slots } in c)
-        (same_items b.slots (relink_from interlinks 1 a.slots) None (long ∙ sym (length-relink_from interlinks 1 a.slots))
-          (λ k. entries (suc k) ∙ sym (entry_at-relinked a interlinks (suc k))))
+      (same_items b.slots (relink_from interlinks 1 a.slots) None (long ∙ sym (length-relink_from interlinks 1 a.slots))
+      (λ k. entries (suc k) ∙ sym (entry_at-relinked a interlinks (suc k))))
 
 -- links as contracts see them
 module _ {Gen I T : Type 0} (number : I → ℕ) where

@@ -25,7 +25,8 @@ pub struct ChainArena<
     pub(crate) arena: Arena<P, LinkNoGen<P, T>, S>,
 }
 
-impl<P: Ptr, T: Drop, S: SlotStack<Item = ArenaSlot<P, LinkNoGen<P, T>>>> Model for ChainArena<P, T, S> {
+impl<P: Ptr, T: Drop, S: SlotStack<Item = ArenaSlot<P, LinkNoGen<P, T>>>> Model
+    for ChainArena<P, T, S> {
     ghost use Rattle.chain_laws.specs.Chains.{Agrees};
     ghost use Rattle.arena_base.specs.Arena.{Arena as State};
     ghost use Rattle.chain_arena.specs.ChainArena.{LinkSeen, shown};
@@ -75,15 +76,13 @@ impl<P: Ptr, T: Drop, S: SlotStack<Item = ArenaSlot<P, LinkNoGen<P, T>>>> ChainA
     }
 
     /// The slots.
-    pub fn backing(&self) -> &S
-    {
+    pub fn backing(&self) -> &S {
         self.arena.backing()
     }
 }
 
 impl<P: Ptr, T: Drop, S: LimitStack<Item = ArenaSlot<P, LinkNoGen<P, T>>>> SetMaxCapacity
-    for ChainArena<P, T, S>
-{
+    for ChainArena<P, T, S> {
     ghost stack_capacity = { λ a. a.stack_capacity };
 
     ghost limits = { λ a n b. b ≡ with_maximum a n };

@@ -26,7 +26,8 @@ pub struct ChainIter<'a, P: Ptr, T: Drop, S: SlotStack<Item = ArenaSlot<P, LinkN
     left: usize,
 }
 
-impl<'a, P: Ptr, T: Drop, S: SlotStack<Item = ArenaSlot<P, LinkNoGen<P, T>>>> Model for ChainIter<'a, P, T, S> {
+impl<'a, P: Ptr, T: Drop, S: SlotStack<Item = ArenaSlot<P, LinkNoGen<P, T>>>> Model
+    for ChainIter<'a, P, T, S> {
     ghost use Rattle.std.specs.Prelude.{ℕ, List};
     ghost use Rattle.std.specs.Option.{option_map};
     ghost use Rattle.chain_arena.specs.ChainArena.{LinkSeen};
@@ -40,7 +41,12 @@ impl<'a, P: Ptr, T: Drop, S: SlotStack<Item = ArenaSlot<P, LinkNoGen<P, T>>>> Mo
         (option_map P.Inx.number it.forth) (option_map P.Inx.number it.back) };
 }
 
-impl<'a, P: Ptr, T: Drop, S: SlotStack<Item = ArenaSlot<P, LinkNoGen<P, T>>>> ChainIter<'a, P, T, S> {
+impl<'a, P: Ptr, T: Drop, S: SlotStack<Item = ArenaSlot<P, LinkNoGen<P, T>>>> ChainIter<
+    'a,
+    P,
+    T,
+    S,
+> {
     // A walker that stands before the link at `start`, behind which `back` stands.
     pub(crate) fn new(
         arena: &'a Arena<P, LinkNoGen<P, T>, S>,
@@ -61,7 +67,8 @@ impl<'a, P: Ptr, T: Drop, S: SlotStack<Item = ArenaSlot<P, LinkNoGen<P, T>>>> Ch
     }
 }
 
-impl<'a, P: Ptr, T: Drop, S: SlotStack<Item = ArenaSlot<P, LinkNoGen<P, T>>>> Iterator for ChainIter<'a, P, T, S> {
+impl<'a, P: Ptr, T: Drop, S: SlotStack<Item = ArenaSlot<P, LinkNoGen<P, T>>>> Iterator
+    for ChainIter<'a, P, T, S> {
     type Item = (P, &'a LinkNoGen<P, T>);
 
     ghost next_gives = { YieldsFirstBy (seen_item P.key P.Inx.number) (λ rest. rest) };

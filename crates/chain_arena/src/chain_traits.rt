@@ -37,11 +37,7 @@ pub trait ChainArenaTrait<P: Ptr, T: Drop>: ArenaTrait<P, T> {
     ///
     /// `BeyondMaxCapacity`: the growth needed goes beyond the maximum, which is tested first. `AllocError`: it goes
     /// beyond the greatest index, or memory was refused. After either nothing has changed, and the value is dropped.
-    fn insert_reallocating(
-        &mut self,
-        kind: LinkInsertKind,
-        t: T,
-    ) -> Result<P, ChainInsertionError>
+    fn insert_reallocating(&mut self, kind: LinkInsertKind, t: T) -> Result<P, ChainInsertionError>
         ensures inserted { IfOk result (λ p. IsInserted (Self.entry self.old) (Self.entry self.new) (P.key p) t) }
         ensures alone { IfOk result (λ p. interlinks self.new ≡ with_lone (interlinks self.old) (P.key p).0) }
         ensures generation { IfOk result (λ p. IfSome (Self.seen self.old).counter (λ g. (P.key p).1 ≡ g)) }

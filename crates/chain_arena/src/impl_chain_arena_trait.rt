@@ -14,16 +14,16 @@ ghost use Rattle.chain_arena.specs.Links.{seen_link, seen_lent};
 
 use crate::chain_arena::ChainArena;
 use crate::chain_traits::{ChainArenaTrait, LinkInsertKind};
-use crate::interlinks::{can_connect, insertion_error, link_up, neighbor, take_out};
+use crate::interlinks::{
+    can_connect, freed_are_free, insertion_error, link_up, neighbor, take_out,
+};
 use crate::links::{Link, LinkBody, LinkNoGen};
 use arena_base::{ArenaSlot, ArenaTrait};
 use arena_ptr::{ChainInsertionError, InvalidationResult, Ptr, PtrGen, PtrInx, SlotStack};
 
 impl<P: Ptr, T: Drop, S: SlotStack<Item = ArenaSlot<P, LinkNoGen<P, T>>>> ChainArenaTrait<P, T>
-    for ChainArena<P, T, S>
-{
+    for ChainArena<P, T, S> {
     ghost use Rattle.chain_arena.specs.ChainArena.{shown};
-
     ghost use Rattle.chain_arena.specs.ChainArenaLaws.{links_stand};
 
     ghost interlinks = { shown };
@@ -38,11 +38,7 @@ impl<P: Ptr, T: Drop, S: SlotStack<Item = ArenaSlot<P, LinkNoGen<P, T>>>> ChainA
 
     ghost passed_over = { λ a b i h. h.1 };
 
-    fn insert_reallocating(
-        &mut self,
-        kind: LinkInsertKind,
-        t: T,
-    ) -> Result<P, ChainInsertionError>
+    fn insert_reallocating(&mut self, kind: LinkInsertKind, t: T) -> Result<P, ChainInsertionError>
         ensures inserted { IfOk result (λ p. IsInserted (entry_at (values_of self.old)) (entry_at (values_of self.new)) (P.key p) t) }
         ensures alone { IfOk result (λ p. shown self.new ≡ with_lone (shown self.old) (P.key p).0) }
         ensures generation { IfOk result (λ p. IfSome (seen_of (values_of self.old)).counter (λ g. (P.key p).1 ≡ g)) }
@@ -60,6 +56,7 @@ impl<P: Ptr, T: Drop, S: SlotStack<Item = ArenaSlot<P, LinkNoGen<P, T>>>> ChainA
         match kind {
             LinkInsertKind::Disconnected => {}
         }
+        freed_are_free(&self.arena);
         match self
             .arena
             .insert_reallocating(LinkBody::new((None, None), t))
@@ -152,7 +149,9 @@ fn link_alone<G: Drop, L>(removed: InvalidationResult<(G, L)>) -> InvalidationRe
 {
     match removed {
         InvalidationResult::Success((_, link)) => InvalidationResult::Success(link),
-        InvalidationResult::GenerationOverflow((_, link)) => InvalidationResult::GenerationOverflow(link),
+        InvalidationResult::GenerationOverflow((_, link)) => InvalidationResult::GenerationOverflow(
+            link,
+        ),
         InvalidationResult::InvalidPtr => InvalidationResult::InvalidPtr,
     }
 }

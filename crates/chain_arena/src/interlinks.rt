@@ -3,13 +3,15 @@ ghost use Rattle.std.specs.Prelude.{◌≡◌, ◌↔◌, IsTrue, IsSome, Some, 
 ghost use Rattle.std.specs.Option.{option_map, option_and_then};
 ghost use Rattle.arena_ptr.specs.Invalidation.{value_within, invalidation_result};
 ghost use Rattle.chain_laws.specs.Operations.{next_set, prev_set, linked};
-ghost use Rattle.arena_base.specs.Arena.{entry_at};
+ghost use Rattle.arena_base.specs.Arena.{entry_at, IsListed};
 ghost use Rattle.chain_arena.specs.ChainArena.{shown, relinked, remove_link, values_of, CanConnect, ptr_at};
 ghost use Rattle.chain_arena.specs.Links.{seen_links, seen_pair};
 
 use crate::links::LinkNoGen;
 use arena_base::{Arena, ArenaSlot, ArenaTrait};
-use arena_ptr::{ChainInsertionError, InvalidationResult, Ptr, PtrInx, ReallocationError, SlotStack};
+use arena_ptr::{
+    ChainInsertionError, InvalidationResult, Ptr, PtrInx, ReallocationError, SlotStack,
+};
 
 // Whether q may come after p.
 pub(crate) fn can_connect<P: Ptr, T: Drop, S: SlotStack<Item = ArenaSlot<P, LinkNoGen<P, T>>>>(
@@ -122,6 +124,15 @@ fn invalidated<T>(overflow: bool, t: T) -> InvalidationResult<T>
     } else {
         InvalidationResult::Success(t)
     }
+}
+
+// The freed list holds each free slot once, so the next insertion writes over none.
+pub(crate) fn freed_are_free<P: Ptr, T: Drop, S: SlotStack<Item = ArenaSlot<P, T>>>(
+    arena: &Arena<P, T, S>,
+)
+    ensures { IsListed arena.now }
+{
+    arena.len();
 }
 
 // What a refused growth is to an insertion.

@@ -18,12 +18,19 @@ pub returns-in-Some : goal.returns-in-Some
 returns-in-Some g c =
     let a = c.self.inside.arena in
     let n = g.P.Inx.PtrInx.number c.args.i in
-    let l = c.in-Some.link.now in
-    ((refl, (λ w.
-      let held = rw c.in-Some.is at (c.get_inx_mut.follows.holds (record l { t = w })) in
-      rw (← c.self.view_is) (written-seen g.P.Inx.PtrInx.number a _ n l w (sym c.in-Some.ensures.value) held.1 (g.met.P.Inx.PtrInx.at_least_one _),
-        (written-state g.P.Inx.PtrInx.number a _ n l w (sym c.in-Some.ensures.value) held.1, written-shown g.P.Inx.PtrInx.number a _ n l w (sym c.in-Some.ensures.value) held.1))), refl),
-    record { writes_back = tt; value = rw (← c.self.view_is) (sym (value_there g.P.Inx.PtrInx.number a n ∙ ap (option_map held_in) (sym c.in-Some.ensures.value))) })
+    let l = c.in-Some.link.now in (
+      (
+        refl,
+        (λ w.
+            let held = rw c.in-Some.is at (c.get_inx_mut.follows.holds (record l { t = w })) in
+            rw (← c.self.view_is) (
+              written-seen g.P.Inx.PtrInx.number a _ n l w (sym c.in-Some.ensures.value) held.1 (g.met.P.Inx.PtrInx.at_least_one _),
+              (written-state g.P.Inx.PtrInx.number a _ n l w (sym c.in-Some.ensures.value) held.1, written-shown g.P.Inx.PtrInx.number a _ n l w (sym c.in-Some.ensures.value) held.1),
+            )),
+        refl,
+      ),
+      record { writes_back = tt; value = rw (← c.self.view_is) (sym (value_there g.P.Inx.PtrInx.number a n ∙ ap (option_map held_in) (sym c.in-Some.ensures.value))) },
+    )
 
 pub returns-in-None : goal.returns-in-None
 returns-in-None g c = ((refl, (λ w. tt), ap (seen_links g.P.Inx.PtrInx.number) c.get_inx_mut.follows.holds-at-none ∙ c.self.view_is), record { writes_back = tt; value = rw (← c.self.view_is) (sym (value_there g.P.Inx.PtrInx.number c.self.inside.arena (g.P.Inx.PtrInx.number c.args.i) ∙ ap (option_map held_in) (sym c.in-None.ensures.value))) })

@@ -13,7 +13,7 @@ pub invariant_of-self : goal.invariant_of-self
 invariant_of-self g c =
     let number = g.P.Inx.PtrInx.number in
     let is_lone = ap (seen_link number) c.new.ensures in
-    ⊎_elim (λ ok. agrees-inserted number c.self.inside.arena _ c.new.result c.args.t c.insert_reallocating.ensures.listed is_lone ok c.self.invariant)
+    ⊎_elim (λ ok. agrees-inserted number c.self.inside.arena _ c.new.result c.args.t c.freed_are_free.ensures is_lone ok c.self.invariant)
     (λ err. subst (λ a. Agrees (shown (seen_links number a))) (sym err) c.self.invariant)
     (ok_or_err c.insert_reallocating.result c.insert_reallocating.ensures.ok c.insert_reallocating.ensures.err)
 
@@ -21,27 +21,27 @@ pub returns-in-Ok-clause-inserted : goal.returns-in-Ok-clause-inserted
 returns-in-Ok-clause-inserted g c =
     let number = g.P.Inx.PtrInx.number in
     let is_lone = ap (seen_link number) c.new.ensures in
-    rw (← c.self.view_is) (entry-inserted number c.self.inside.arena _ c.new.result c.args.t c.in-Ok.ensures.listed is_lone c.in-Ok.ensures.ok _ c.in-Ok.ensures.ptr)
+    rw (← c.self.view_is) (entry-inserted number c.self.inside.arena _ c.new.result c.args.t c.freed_are_free.ensures is_lone c.in-Ok.ensures.ok _ c.in-Ok.ensures.ptr)
 
 pub returns-in-Ok-clause-alone : goal.returns-in-Ok-clause-alone
 returns-in-Ok-clause-alone g c =
     let number = g.P.Inx.PtrInx.number in
     let a = c.self.inside.arena in
     let is_lone = ap (seen_link number) c.new.ensures in
-    rw (← c.self.view_is) (shown-inserted number a _ c.new.result c.args.t c.in-Ok.ensures.listed is_lone c.in-Ok.ensures.ok
+    rw (← c.self.view_is) (shown-inserted number a _ c.new.result c.args.t c.freed_are_free.ensures is_lone c.in-Ok.ensures.ok
     ∙ ap (with_lone (shown (seen_links number a))) (next_index-seen_links number a ∙ sym (ap (λ p. p.0) c.in-Ok.ensures.ptr)))
 
 pub returns-in-Ok-clause-state : goal.returns-in-Ok-clause-state
 returns-in-Ok-clause-state g c =
     let number = g.P.Inx.PtrInx.number in
     let is_lone = ap (seen_link number) c.new.ensures in
-    rw (← c.self.view_is) (seen-inserted number c.self.inside.arena _ c.new.result c.args.t c.in-Ok.ensures.listed is_lone c.in-Ok.ensures.ok)
+    rw (← c.self.view_is) (seen-inserted number c.self.inside.arena _ c.new.result c.args.t c.freed_are_free.ensures is_lone c.in-Ok.ensures.ok)
 
 pub returns-in-Ok-clause-chains : goal.returns-in-Ok-clause-chains
 returns-in-Ok-clause-chains g c =
     let number = g.P.Inx.PtrInx.number in
     let is_lone = ap (seen_link number) c.new.ensures in
-    rw (← c.self.view_is) (adds-inserted number c.self.inside.arena _ c.new.result c.args.t c.in-Ok.ensures.listed is_lone c.in-Ok.ensures.ok)
+    rw (← c.self.view_is) (adds-inserted number c.self.inside.arena _ c.new.result c.args.t c.freed_are_free.ensures is_lone c.in-Ok.ensures.ok)
 
 pub returns-in-Ok-clause-room : goal.returns-in-Ok-clause-room
 returns-in-Ok-clause-room g c =

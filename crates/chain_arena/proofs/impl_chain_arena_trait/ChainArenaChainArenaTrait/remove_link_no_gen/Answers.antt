@@ -11,9 +11,11 @@ pub invariant_of-self : goal.invariant_of-self
 invariant_of-self g c = taken-agrees g.P.Inx.PtrInx.number g.P.Gen.PtrGen.following c.self.inside.arena c.take_out.new.arena _ _ c.take_out.ensures.answer c.take_out.ensures.valid c.take_out.ensures.invalid c.self.invariant
 
 pub returns-then-contains-clause-valid : goal.returns-then-contains-clause-valid
-returns-then-contains-clause-valid g c = rw (← c.inx.ensures, ← c.self.view_is) (λ valid.
-    (ap (option_map (λ link. ((g.P.Ptr.key c.args.p).1, seen_link g.P.Inx.PtrInx.number link))) c.link_alone.ensures.value ∙ taken-link g.P.Inx.PtrInx.number g.P.Gen.PtrGen.following c.self.inside.arena c.take_out.new.arena _ _ c.take_out.ensures.answer c.take_out.ensures.valid c.take_out.ensures.invalid _ _ (ap (entry_at (values_of (seen_links g.P.Inx.PtrInx.number c.self.inside.arena))) c.inx.ensures ∙ valid.stands),
-      taken-seen g.P.Inx.PtrInx.number g.P.Gen.PtrGen.following c.self.inside.arena c.take_out.new.arena _ _ c.take_out.ensures.answer c.take_out.ensures.valid c.take_out.ensures.invalid (valid_stands g.P.Inx.PtrInx.number g.P.Gen.PtrGen.following c.self.inside.arena c.take_out.new.arena _ _ c.take_out.ensures.answer c.take_out.ensures.valid c.take_out.ensures.invalid (g.P.Ptr.key c.args.p) c.inx.ensures valid) (g.met.P.Inx.PtrInx.at_least_one _), taken-shown g.P.Inx.PtrInx.number g.P.Gen.PtrGen.following c.self.inside.arena c.take_out.new.arena _ _ c.take_out.ensures.answer c.take_out.ensures.valid c.take_out.ensures.invalid (valid_stands g.P.Inx.PtrInx.number g.P.Gen.PtrGen.following c.self.inside.arena c.take_out.new.arena _ _ c.take_out.ensures.answer c.take_out.ensures.valid c.take_out.ensures.invalid (g.P.Ptr.key c.args.p) c.inx.ensures valid)))
+returns-then-contains-clause-valid g c = rw (← c.inx.ensures, ← c.self.view_is) (λ valid. (
+  ap (option_map (λ link. ((g.P.Ptr.key c.args.p).1, seen_link g.P.Inx.PtrInx.number link))) c.link_alone.ensures.value ∙ taken-link g.P.Inx.PtrInx.number g.P.Gen.PtrGen.following c.self.inside.arena c.take_out.new.arena _ _ c.take_out.ensures.answer c.take_out.ensures.valid c.take_out.ensures.invalid _ _ (ap (entry_at (values_of (seen_links g.P.Inx.PtrInx.number c.self.inside.arena))) c.inx.ensures ∙ valid.stands),
+  taken-seen g.P.Inx.PtrInx.number g.P.Gen.PtrGen.following c.self.inside.arena c.take_out.new.arena _ _ c.take_out.ensures.answer c.take_out.ensures.valid c.take_out.ensures.invalid (valid_stands g.P.Inx.PtrInx.number g.P.Gen.PtrGen.following c.self.inside.arena c.take_out.new.arena _ _ c.take_out.ensures.answer c.take_out.ensures.valid c.take_out.ensures.invalid (g.P.Ptr.key c.args.p) c.inx.ensures valid) (g.met.P.Inx.PtrInx.at_least_one _),
+  taken-shown g.P.Inx.PtrInx.number g.P.Gen.PtrGen.following c.self.inside.arena c.take_out.new.arena _ _ c.take_out.ensures.answer c.take_out.ensures.valid c.take_out.ensures.invalid (valid_stands g.P.Inx.PtrInx.number g.P.Gen.PtrGen.following c.self.inside.arena c.take_out.new.arena _ _ c.take_out.ensures.answer c.take_out.ensures.valid c.take_out.ensures.invalid (g.P.Ptr.key c.args.p) c.inx.ensures valid),
+))
 
 pub returns-then-contains-clause-state : goal.returns-then-contains-clause-state
 returns-then-contains-clause-state g c = rw (← c.inx.ensures, ← c.self.view_is) (λ valid. taken-state g.P.Inx.PtrInx.number g.P.Gen.PtrGen.following c.self.inside.arena c.take_out.new.arena _ _ c.take_out.ensures.answer c.take_out.ensures.valid c.take_out.ensures.invalid (valid_stands g.P.Inx.PtrInx.number g.P.Gen.PtrGen.following c.self.inside.arena c.take_out.new.arena _ _ c.take_out.ensures.answer c.take_out.ensures.valid c.take_out.ensures.invalid (g.P.Ptr.key c.args.p) c.inx.ensures valid))
