@@ -14,9 +14,26 @@ module _ {T E : Type 0} where
   added_err old new v (Ok x) is = tt
   added_err old new v (Err e) is = (codes "at " ++ pointer_text (next_index old, old.counter), added refl is)
 
-  pub refused_err : (old new : Links) (v : ℕ) (r : Result T E) → entry_count old ≡ old.capacity → new ≡ old → OnErr r ((words : List ℕ) × Adds old v words new)
-  refused_err old new v (Ok x) full same = tt
-  refused_err old new v (Err e) full same = (codes "refused memory", refused full refl same)
+  -- a text that was cleared and pushed to
+  pushed_is : (old v_text new : List ℕ) → old ≡ [] → new ≡ old ++ v_text → new ≡ v_text
+  pushed_is old text new none is = is ∙ ap (λ b. b ++ text) none
+
+  pub adds_ok : (old new : Links) (v : ℕ) (before after text : List ℕ) (r : Result T E) → before ≡ [] → after ≡ (if is_ok r then before ++ text else before) → Adds old v text new
+      → OnOk r (Adds old v after new)
+  adds_ok old new v before after text (Ok x) none is adds = subst (λ t. Adds old v t new) (sym (pushed_is before text after none is)) adds
+  adds_ok old new v before after text (Err e) none is adds = tt
+
+  pub adds_err : (old new : Links) (v : ℕ) (text : List ℕ) (r : Result T E) → Adds old v text new → OnErr r ((words : List ℕ) × Adds old v words new)
+  adds_err old new v text (Ok x) adds = tt
+  adds_err old new v text (Err e) adds = (text, adds)
+
+  pub removes_ok : (old new : Links) (p : ℕ × Gen32) (before after text : List ℕ) (r : Result T E) → before ≡ [] → OnOk r (after ≡ before ++ text) → Removes old p text new → OnOk r (Removes old p after new)
+  removes_ok old new p before after text (Ok x) none is removes = subst (λ t. Removes old p t new) (sym (pushed_is before text after none is)) removes
+  removes_ok old new p before after text (Err e) none is removes = tt
+
+  pub removes_err : (old new : Links) (p : ℕ × Gen32) (text : List ℕ) (r : Result T E) → Removes old p text new → OnErr r ((words : List ℕ) × Removes old p words new)
+  removes_err old new p text (Ok x) removes = tt
+  removes_err old new p text (Err e) removes = (text, removes)
 
   pub connected_err : (old new : Links) (p q : ℕ × Gen32) (r : Result T E) → CanConnect old p q → new ≡ relinked old (joined (shown old) p.0 q.0)
       → OnErr r ((words : List ℕ) × Connects old p q words new)
@@ -34,6 +51,23 @@ module _ {T E : Type 0} where
   line_err old new line command (Ok x) is steps = tt
   line_err old new line command (Err e) is steps =
       elim steps [ inl same ↦ inl same | inr some ↦ inr (some.0 ++ 10 ∷ [], subst (λ l. AnswersLine old l (some.0 ++ 10 ∷ []) new) is (some.0, refl, some.1)) ]
+
+-- there are as many entries of values as links
+links_counted : (a : Links) → length (seen_of (values_of a)).entries ≡ entry_count a
+links_counted a = length-entries (values_of a) ∙ entry_count-with_each value_in a
+
+-- a refused insertion answers why
+pub adds_refused : {X : Type 0} (old new : Links) (v : ℕ) (text : List ℕ) (e : ChainInsertionError) (more : Type 0) → new ≡ old
+    → (e ≡ AllocError) ⊎ (e ≡ BeyondMaxCapacity)
+    → (length (seen_of (values_of old)).entries < old.capacity → IsOk (failed {X = X} e) × more)
+    → (failed {X = X} e ≡ failed BeyondMaxCapacity) ↔ ((length (seen_of (values_of old)).entries ≡ old.capacity) × IsBeyond old.maximum (length (seen_of (values_of old)).entries + 1))
+    → (e ≡ BeyondMaxCapacity → text ≡ codes "refused limit") → (e ≡ AllocError → text ≡ codes "refused memory") → Adds old v text new
+adds_refused {X} old new v text e more same (inl memory) room beyond limit_text memory_text =
+    refused (is_full {X = X} old e more room)
+      (λ past. other {X = X} e memory (beyond.1 (omega (arith, is_full {X = X} old e more room, links_counted old), subst (λ n. IsBeyond old.maximum (n + 1)) (sym (links_counted old)) past)))
+      (memory_text memory) same
+adds_refused {X} old new v text e more same (inr limit) room beyond limit_text memory_text =
+    limited (is_full {X = X} old e more room) (subst (λ n. IsBeyond old.maximum (n + 1)) (links_counted old) (beyond.0 (ap (failed {X = X}) limit)).1) (limit_text limit) same
 
 pub no_some : false ≡ true → ⊥
 no_some e = cc

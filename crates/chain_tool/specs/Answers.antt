@@ -56,8 +56,8 @@ IsLinkAt a p prev next value = chain.IsLinkAt (entry_at (values_of a)) (shown a)
 -- the new link has its pointer; an arena that is full may have to grow beyond its maximum, and else memory may be refused
 pub data Adds (old : Links) (v : ℕ) (text : List ℕ) (new : Links) : Type 0 where
   added : text ≡ codes "at " ++ pointer_text (next_index old, old.counter) → new ≡ with_capacity_of (insert_lone old v) new → Adds old v text new
-  limited : entry_count old ≡ old.capacity → IsBeyond old.maximum (entry_count old + 1) → text ≡ codes "refused limit" → new ≡ old → Adds old v text new
-  refused : entry_count old ≡ old.capacity → (IsBeyond old.maximum (entry_count old + 1) → ⊥) → text ≡ codes "refused memory" → new ≡ old → Adds old v text new
+  limited : old.capacity ≤ entry_count old → IsBeyond old.maximum (entry_count old + 1) → text ≡ codes "refused limit" → new ≡ old → Adds old v text new
+  refused : old.capacity ≤ entry_count old → (IsBeyond old.maximum (entry_count old + 1) → ⊥) → text ≡ codes "refused memory" → new ≡ old → Adds old v text new
 
 pub data Connects (old : Links) (p q : ℕ × Gen32) (text : List ℕ) (new : Links) : Type 0 where
   connected : CanConnect old p q → text ≡ codes "ok" → new ≡ relinked old (joined (shown old) p.0 q.0) → Connects old p q text new

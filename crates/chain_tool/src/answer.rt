@@ -1,5 +1,5 @@
 //! The answers to lines: each command is one step of the arena or one lookup.
-ghost use Rattle.std.specs.Prelude.{◌≡◌, ℕ, List, ◌⊎◌, OnOk, OnErr, string_bytes};
+ghost use Rattle.std.specs.Prelude.{◌≡◌, ℕ, List, ◌⊎◌, OnOk, OnErr, string_bytes, codes};
 ghost use Rattle.arena_ptr.specs.ToolPtr.{key_of};
 ghost use Rattle.chain_tool.specs.Commands.{line_of};
 ghost use Rattle.chain_tool.specs.Answers.{Adds, Connects, Removes, Shows, Walks, Gives, AnswersLine};
@@ -69,8 +69,20 @@ fn add_alone<S: SlotStack<Item = ArenaSlot<ToolPtr, LinkNoGen<ToolPtr, u32>>>>(
             text.push_str("at ")?;
             push_pointer(text, p)
         }
-        Err(ChainInsertionError::BeyondMaxCapacity) => text.push_str("refused limit"),
-        Err(_) => text.push_str("refused memory"),
+        Err(error) => text.push_str(refusal(error)),
+    }
+}
+
+/// The answer to an insertion that was refused.
+fn refusal(error: ChainInsertionError) -> &'static str
+    ensures limit { error ≡ ChainInsertionError.BeyondMaxCapacity → result.now ≡ codes "refused limit" }
+    ensures memory { error ≡ ChainInsertionError.AllocError → result.now ≡ codes "refused memory" }
+{
+    match error {
+        ChainInsertionError::FailedLinkRequirement => "refused link",
+        ChainInsertionError::NotWithinCapacity => "refused capacity",
+        ChainInsertionError::AllocError => "refused memory",
+        ChainInsertionError::BeyondMaxCapacity => "refused limit",
     }
 }
 
