@@ -10,7 +10,9 @@ use std::test::Fail;
 
 // Slots of links with numbers, over std's memory without a limit and with one.
 type Slots = ArenaSlot<ToolPtr, LinkNoGen<ToolPtr, u32>>;
+
 type Unlimited = HeapStack<Slots>;
+
 type Limited = LimitedStack<Slots>;
 
 // The pointer of an index and a generation.

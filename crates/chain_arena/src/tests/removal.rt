@@ -80,7 +80,10 @@ fn check_row<S: SlotStack<Item = Slots>>(
     assert_eq!(rt; interlinks(&gone), (None, Some(3)));
     let gone = arena.remove_link_no_gen(d).allow().expect(rt, "d is valid");
     assert_eq!(rt; interlinks(&gone), (Some(3), None));
-    assert_eq!(rt; arena.get_link_no_gen(c).map(interlinks), Some((None, None)));
+    assert_eq!(rt;
+        arena.get_link_no_gen(c).map(interlinks),
+        Some((None, None))
+    );
     assert_eq!(rt; take_next(&mut arena, c.inx()), None);
     assert!(rt; arena.is_empty());
     Ok(())

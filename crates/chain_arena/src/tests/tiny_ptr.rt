@@ -47,7 +47,8 @@ impl PtrInx for TinyInx {
     }
 
     fn fmt_hex<W: fmt::Write>(self, f: &mut fmt::Formatter<W>) -> fmt::Result {
-        write!(f, "{}", if self.is_two { 2 } else { 1 })
+        let number: u8 = if self.is_two { 2 } else { 1 };
+        write!(f, "{:x}", number)
     }
 }
 
