@@ -1,22 +1,28 @@
 -- A step that was made is some answer's step, also where memory for the answer was refused.
-use Rattle.std.proofs.Common.{◌≡◌, ℕ, ◌⊎◌, List, [], ◌∷◌, ◌++◌, Result, Ok, Err, OnErr, refl, sym, ap, ◌∙◌, inl, inr, subst, Bool, cond, append_assoc, append-nil, true, false, codes}
+use Rattle.std.proofs.Common.{OnOk, ◌≤◌, ◌<◌, ◌+◌, ◌↔◌, length, arith, IsOk, is_ok, if◌then◌else◌, ◌≡◌, ℕ, ◌⊎◌, List, [], ◌∷◌, ◌++◌, Result, Ok, Err, OnErr, refl, sym, ap, ◌∙◌, inl, inr, subst, Bool, cond, append_assoc, append-nil, true, false, codes}
 use Rattle.arena_ptr.specs.declared.generation.gen32.Gen32.{Gen32}
 use Rattle.chain_laws.specs.Operations.{joined}
 use Rattle.arena_base.specs.Arena.{entry_count, next_index, with_capacity_of}
-use Rattle.chain_arena.specs.ChainArena.{LinkSeen, shown, relinked, insert_lone}
+use Rattle.arena_ptr.specs.SlotStack.{IsBeyond}
+use Rattle.arena_ptr.specs.declared.errors.ChainInsertionError.{ChainInsertionError}
+use Rattle.arena_ptr.specs.declared.errors.ChainInsertionError.TheVariants.{AllocError, BeyondMaxCapacity}
+use Rattle.arena_base.specs.Entries.{seen_of}
+use Rattle.chain_arena.proofs.Listing.{length-entries}
+use Rattle.chain_arena.proofs.Mapping.{entry_count-with_each}
+use Rattle.chain_arena.specs.ChainArena.{LinkSeen, shown, values_of, value_in, relinked, insert_lone}
 use Rattle.chain_tool.specs.declared.command.Command.{Command}
 use Rattle.chain_tool.specs.declared.command.Line.{Line}
 use Rattle.chain_tool.specs.declared.command.Line.TheVariants.{Good}
-use Rattle.chain_tool.specs.Answers.{Links, CanConnect, Adds, added, refused, Connects, connected, not_connected, Gives, AnswersLine, pointer_text, link_text, walk_text}
+use Rattle.chain_tool.specs.Answers.{Links, CanConnect, Adds, added, limited, refused, Removes, Connects, connected, not_connected, Gives, AnswersLine, pointer_text, link_text, walk_text}
+
+-- a text that was cleared and pushed to
+pushed_is : (old v_text new : List ℕ) → old ≡ [] → new ≡ old ++ v_text → new ≡ v_text
+pushed_is old text new none is = is ∙ ap (λ b. b ++ text) none
 
 module _ {T E : Type 0} where
   pub added_err : (old new : Links) (v : ℕ) (r : Result T E) → new ≡ with_capacity_of (insert_lone old v) new → OnErr r ((words : List ℕ) × Adds old v words new)
   added_err old new v (Ok x) is = tt
   added_err old new v (Err e) is = (codes "at " ++ pointer_text (next_index old, old.counter), added refl is)
-
-  -- a text that was cleared and pushed to
-  pushed_is : (old v_text new : List ℕ) → old ≡ [] → new ≡ old ++ v_text → new ≡ v_text
-  pushed_is old text new none is = is ∙ ap (λ b. b ++ text) none
 
   pub adds_ok : (old new : Links) (v : ℕ) (before after text : List ℕ) (r : Result T E) → before ≡ [] → after ≡ (if is_ok r then before ++ text else before) → Adds old v text new
       → OnOk r (Adds old v after new)
@@ -52,25 +58,36 @@ module _ {T E : Type 0} where
   line_err old new line command (Err e) is steps =
       elim steps [ inl same ↦ inl same | inr some ↦ inr (some.0 ++ 10 ∷ [], subst (λ l. AnswersLine old l (some.0 ++ 10 ∷ []) new) is (some.0, refl, some.1)) ]
 
+pub no_some : false ≡ true → ⊥
+no_some e = cc
+
 -- there are as many entries of values as links
 links_counted : (a : Links) → length (seen_of (values_of a)).entries ≡ entry_count a
 links_counted a = length-entries (values_of a) ∙ entry_count-with_each value_in a
 
+-- what is refused with an error
+abbrev pub failed : {X : Type 0} → ChainInsertionError → Result X ChainInsertionError
+failed e = Err e
+
+is_full : (X : Type 0) (old : Links) (e : ChainInsertionError) (more : Type 0) → (length (seen_of (values_of old)).entries < old.capacity → IsOk (failed {X = X} e) × more)
+    → old.capacity ≤ entry_count old
+is_full X old e more room = let none : length (seen_of (values_of old)).entries < old.capacity → ⊥ = (λ less. no_some (room less).0) in omega (arith, none, links_counted old)
+
+other : {X : Type 0} (e : ChainInsertionError) → e ≡ AllocError → failed {X = X} e ≡ failed BeyondMaxCapacity → ⊥
+other e is same = cc
+
 -- a refused insertion answers why
-pub adds_refused : {X : Type 0} (old new : Links) (v : ℕ) (text : List ℕ) (e : ChainInsertionError) (more : Type 0) → new ≡ old
+pub adds_refused : {X : Type 0} (old new : Links) (v : ℕ) (text : List ℕ) (e : ChainInsertionError) (more : Type 0) → new ≡ old → length (seen_of (values_of old)).entries ≤ old.capacity
     → (e ≡ AllocError) ⊎ (e ≡ BeyondMaxCapacity)
     → (length (seen_of (values_of old)).entries < old.capacity → IsOk (failed {X = X} e) × more)
     → (failed {X = X} e ≡ failed BeyondMaxCapacity) ↔ ((length (seen_of (values_of old)).entries ≡ old.capacity) × IsBeyond old.maximum (length (seen_of (values_of old)).entries + 1))
     → (e ≡ BeyondMaxCapacity → text ≡ codes "refused limit") → (e ≡ AllocError → text ≡ codes "refused memory") → Adds old v text new
-adds_refused {X} old new v text e more same (inl memory) room beyond limit_text memory_text =
-    refused (is_full {X = X} old e more room)
-      (λ past. other {X = X} e memory (beyond.1 (omega (arith, is_full {X = X} old e more room, links_counted old), subst (λ n. IsBeyond old.maximum (n + 1)) (sym (links_counted old)) past)))
+adds_refused {X} old new v text e more same fits (inl memory) room beyond limit_text memory_text =
+    refused (is_full X old e more room)
+      (λ past. other {X = X} e memory (beyond.1 (let full = is_full X old e more room in omega (arith, fits, full, links_counted old), subst (λ n. IsBeyond old.maximum (n + 1)) (sym (links_counted old)) past)))
       (memory_text memory) same
-adds_refused {X} old new v text e more same (inr limit) room beyond limit_text memory_text =
-    limited (is_full {X = X} old e more room) (subst (λ n. IsBeyond old.maximum (n + 1)) (links_counted old) (beyond.0 (ap (failed {X = X}) limit)).1) (limit_text limit) same
-
-pub no_some : false ≡ true → ⊥
-no_some e = cc
+adds_refused {X} old new v text e more same fits (inr limit) room beyond limit_text memory_text =
+    limited (is_full X old e more room) (subst (λ n. IsBeyond old.maximum (n + 1)) (links_counted old) (beyond.0 (ap (failed {X = X}) limit)).1) (limit_text limit) same
 
 -- ---- the text of a walk
 

@@ -3,4 +3,5 @@ pub mod Coming
 pub mod Ending
 pub mod Feeding
 pub mod Pointers
+pub mod RemovalAnswers
 pub mod WordLemmas

@@ -1,5 +1,5 @@
 -- What the program answers to a line, and the arena after it.
-use Rattle.std.specs.Prelude.{◌≡◌, ℕ, List, [], ◌∷◌, ◌++◌, map, codes, decimal, ◌+◌, Bool, true, false, Option, None, Some}
+use Rattle.std.specs.Prelude.{◌≤◌, ◌≡◌, ℕ, List, [], ◌∷◌, ◌++◌, map, codes, decimal, ◌+◌, Bool, true, false, Option, None, Some}
 use Rattle.std.specs.List.{join_with_byte}
 use Rattle.arena_ptr.specs.Generations.{number_of_gen32, after32, is_greatest32}
 use Rattle.arena_ptr.specs.ToolPtr.{key_of}

@@ -64,6 +64,9 @@ fn add_alone<S: SlotStack<Item = ArenaSlot<ToolPtr, LinkNoGen<ToolPtr, u32>>>>(
     ensures err { OnErr result ((words : List ℕ) × Adds arena.old v words arena.new) }
 {
     text.clear();
+    let count = arena.len();
+    let room = arena.capacity();
+    prove!(count <= room);
     match arena.insert_reallocating(LinkInsertKind::Disconnected, v) {
         Ok(p) => {
             text.push_str("at ")?;
