@@ -84,8 +84,8 @@ pub adds_refused : {X : Type 0} (old new : Links) (v : ℕ) (text : List ℕ) (e
     → (e ≡ BeyondMaxCapacity → text ≡ codes "refused limit") → (e ≡ AllocError → text ≡ codes "refused memory") → Adds old v text new
 adds_refused {X} old new v text e more same fits (inl memory) room beyond limit_text memory_text =
     refused (is_full X old e more room)
-      (λ past. other {X = X} e memory (beyond.1 (let full = is_full X old e more room in omega (arith, fits, full, links_counted old), subst (λ n. IsBeyond old.maximum (n + 1)) (sym (links_counted old)) past)))
-      (memory_text memory) same
+    (λ past. other {X = X} e memory (beyond.1 (let full = is_full X old e more room in omega (arith, fits, full, links_counted old), subst (λ n. IsBeyond old.maximum (n + 1)) (sym (links_counted old)) past)))
+    (memory_text memory) same
 adds_refused {X} old new v text e more same fits (inr limit) room beyond limit_text memory_text =
     limited (is_full X old e more room) (subst (λ n. IsBeyond old.maximum (n + 1)) (links_counted old) (beyond.0 (ap (failed {X = X}) limit)).1) (limit_text limit) same
 

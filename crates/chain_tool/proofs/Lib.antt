@@ -4,4 +4,5 @@ pub mod Ending
 pub mod Feeding
 pub mod Pointers
 pub mod RemovalAnswers
+pub mod SlowLemmas
 pub mod WordLemmas

@@ -31,9 +31,9 @@ valid_at a p (Some e) stands = ⊎_elim
     (λ same. inl (record { value = e.1; stands = stands ∙ ap (λ (g : Gen32). let o : Option (Gen32 × ℕ) = Some (g, e.1) in o) (same_gen32 e.0 p.1 same) }))
     (λ other. inr (λ valid. other (ap (generation_or e.0) (sym stands ∙ valid.stands))))
     (cases_eq (number_of_gen32 e.0) (number_of_gen32 p.1)) where
-  generation_or : Gen32 → Option (Gen32 × ℕ) → ℕ
-  generation_or g None = number_of_gen32 g
-  generation_or g (Some f) = number_of_gen32 f.0
+      generation_or : Gen32 → Option (Gen32 × ℕ) → ℕ
+      generation_or g None = number_of_gen32 g
+      generation_or g (Some f) = number_of_gen32 f.0
 
 abbrev number : Inx32 → ℕ
 number i = i.number
@@ -52,7 +52,7 @@ stood : (a : Links) (p : ℕ × Gen32) (link : LinkBody Inx32 ℕ) → IsValidIn
     → entry_at (values_of a) p.0 ≡ Some (p.1, link.t)
 stood a p link valid told =
     valid.stands ∙ ap (λ (v : ℕ). let o : Option (Gen32 × ℕ) = Some (p.1, v) in o)
-      (value_told p.1 valid.value (seen_link number link) (shown a p.0) (told ∙ ap (λ (o : Option (Gen32 × ℕ)). link_of o (shown a p.0)) valid.stands))
+    (value_told p.1 valid.value (seen_link number link) (shown a p.0) (told ∙ ap (λ (o : Option (Gen32 × ℕ)). link_of o (shown a p.0)) valid.stands))
 
 not_overflowed : {A : Type 0} (b : Bool) (x : A) → Success x ≡ invalidation_result b (Some x) → b ≡ false
 not_overflowed true x told = absurd (let h = told in cc)

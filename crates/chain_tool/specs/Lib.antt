@@ -1,5 +1,6 @@
 pub mod Answers
 pub mod Commands
 pub mod Progress
+pub mod Slow
 pub mod Transcripts
 pub mod Words

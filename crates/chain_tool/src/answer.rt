@@ -107,7 +107,11 @@ fn connect<S: SlotStack<Item = ArenaSlot<ToolPtr, LinkNoGen<ToolPtr, u32>>>>(
 }
 
 /// The answer to `remove P`.
-fn remove<S: SlotStack<Item = ArenaSlot<ToolPtr, LinkNoGen<ToolPtr, u32>>>>(arena: &mut ChainArena<ToolPtr, u32, S>, p: ToolPtr, text: &mut String) -> Result<(), AllocError>
+fn remove<S: SlotStack<Item = ArenaSlot<ToolPtr, LinkNoGen<ToolPtr, u32>>>>(
+    arena: &mut ChainArena<ToolPtr, u32, S>,
+    p: ToolPtr,
+    text: &mut String,
+) -> Result<(), AllocError>
     ensures ok { OnOk result (Removes arena.old (key_of p) (string_bytes text.new) arena.new) }
     ensures err { OnErr result ((words : List ℕ) × Removes arena.old (key_of p) words arena.new) }
 {
@@ -120,7 +124,11 @@ fn remove<S: SlotStack<Item = ArenaSlot<ToolPtr, LinkNoGen<ToolPtr, u32>>>>(aren
 }
 
 /// The answer to `show P`.
-fn show<S: SlotStack<Item = ArenaSlot<ToolPtr, LinkNoGen<ToolPtr, u32>>>>(arena: &ChainArena<ToolPtr, u32, S>, p: ToolPtr, text: &mut String) -> Result<(), AllocError>
+fn show<S: SlotStack<Item = ArenaSlot<ToolPtr, LinkNoGen<ToolPtr, u32>>>>(
+    arena: &ChainArena<ToolPtr, u32, S>,
+    p: ToolPtr,
+    text: &mut String,
+) -> Result<(), AllocError>
     ensures { OnOk result (Shows arena.now (key_of p) (string_bytes text.new)) }
 {
     text.clear();
@@ -131,7 +139,11 @@ fn show<S: SlotStack<Item = ArenaSlot<ToolPtr, LinkNoGen<ToolPtr, u32>>>>(arena:
 }
 
 /// The answer to `chain P`.
-fn chain<S: SlotStack<Item = ArenaSlot<ToolPtr, LinkNoGen<ToolPtr, u32>>>>(arena: &ChainArena<ToolPtr, u32, S>, p: ToolPtr, text: &mut String) -> Result<(), AllocError>
+fn chain<S: SlotStack<Item = ArenaSlot<ToolPtr, LinkNoGen<ToolPtr, u32>>>>(
+    arena: &ChainArena<ToolPtr, u32, S>,
+    p: ToolPtr,
+    text: &mut String,
+) -> Result<(), AllocError>
     ensures { OnOk result (Walks arena.now (key_of p) (string_bytes text.new)) }
 {
     text.clear();

@@ -5,6 +5,10 @@ mod answer;
 mod command;
 mod run;
 #[cfg(test)]
+mod slow;
+#[cfg(test)]
+mod small_arenas;
+#[cfg(test)]
 mod tests;
 mod text;
 mod words;

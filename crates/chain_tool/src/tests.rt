@@ -5,10 +5,10 @@ ghost use Rattle.chain_tool.specs.declared.command.Line.TheVariants.{Blank, Bad,
 ghost use Rattle.chain_tool.specs.Words.{lines_of, whole_lines, without_return, words_of, number_of, pointer_of};
 ghost use Rattle.chain_tool.specs.Commands.{line_of};
 
-use arena_base::ArenaTrait;
-use chain_arena::{ChainArena, ChainArenaTrait, LinkInsertKind};
 use crate::run::{ToolError, run, run_on};
-use arena_ptr::ToolPtr;
+use arena_base::{ArenaSlot, ArenaTrait};
+use arena_ptr::{Gen32, LimitedStack, SetMaxCapacity, ToolPtr};
+use chain_arena::{ChainArena, ChainArenaTrait, LinkInsertKind, LinkNoGen};
 use std::alloc::Global;
 use std::io;
 use std::io::{ErrorKind, Read, Write};
@@ -351,5 +351,45 @@ fn a_given_arena(rt: HostRuntime) -> Result<(), ToolError> {
     let mut reader = b"chain 2.2".as_slice();
     run_on(rt.alloc(), &mut arena, &mut reader, &mut written)?;
     assert_eq!(rt; written.as_slice(), b"at 2.2\nok\n2.2:6 1.2:5\n".as_slice());
+    Ok(())
+}
+
+#[test]
+fn removal_table(rt: HostRuntime) -> Result<(), ToolError> {
+    let input =
+        "add alone 1\nadd alone 2\nconnect 1.2 2.2\nconnect 2.2 1.2\nremove 2.2\nshow 1.2\nadd alone 9\n\
+        len\nremove 2.2\nremove 1.2 \nremove 1\nremove\n";
+    let output = "at 1.2\nat 2.2\nok\nok\nvalue 2\nprev 1.2 next 1.2 value 1\nat 2.3\n\
+        count 2\nnone\nvalue 1\nbad line\nbad line\n";
+    expect(&rt, rt.alloc(), input, output)
+}
+
+#[test]
+fn a_limited_arena(rt: HostRuntime) -> Result<(), ToolError> {
+    let mut arena: ChainArena<
+        ToolPtr,
+        u32,
+        LimitedStack<ArenaSlot<ToolPtr, LinkNoGen<ToolPtr, u32>>>,
+    > = ChainArena::new(rt.alloc());
+    assert!(rt; arena.set_max_capacity(2).is_ok());
+    let mut reader =
+        b"add alone 1\nadd alone 2\nadd alone 3\nremove 1.2\nadd alone 3\nlen\n".as_slice();
+    let mut written = Vec::new(rt.alloc());
+    run_on(rt.alloc(), &mut arena, &mut reader, &mut written)?;
+    let output = b"at 1.2\nat 2.2\nrefused limit\nvalue 1\nat 1.3\ncount 2\n";
+    assert_eq!(rt; written.as_slice(), output.as_slice());
+    Ok(())
+}
+
+#[test]
+fn a_removal_that_overflows(rt: HostRuntime) -> Result<(), ToolError> {
+    let mut arena = ChainArena::<ToolPtr, u32>::new(rt.alloc());
+    let greatest = Gen32::new(4294967295).ok_or(ToolError::Memory)?;
+    arena.set_generation(greatest);
+    let mut reader = b"add alone 5\nremove 1.4294967295\nadd alone 6\n".as_slice();
+    let mut written = Vec::new(rt.alloc());
+    run_on(rt.alloc(), &mut arena, &mut reader, &mut written)?;
+    let output = b"at 1.4294967295\nvalue 5 overflow\nat 1.2\n";
+    assert_eq!(rt; written.as_slice(), output.as_slice());
     Ok(())
 }

@@ -59,7 +59,10 @@ fn push_passed(text: &mut String, p: ToolPtr, value: u32) -> Result<(), AllocErr
 }
 
 /// Adds the links of a walk to a text, with a space between.
-pub fn push_walk<S: SlotStack<Item = ArenaSlot<ToolPtr, LinkNoGen<ToolPtr, u32>>>>(text: &mut String, links: ChainIter<'_, ToolPtr, u32, S>) -> Result<(), AllocError>
+pub fn push_walk<S: SlotStack<Item = ArenaSlot<ToolPtr, LinkNoGen<ToolPtr, u32>>>>(
+    text: &mut String,
+    links: ChainIter<'_, ToolPtr, u32, S>,
+) -> Result<(), AllocError>
     ensures { OnOk result (string_bytes text.new ≡ string_bytes text.old ++ walk_text links.entry) }
 {
     let mut is_first = true;
