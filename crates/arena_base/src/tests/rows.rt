@@ -1,4 +1,4 @@
-// Worked rows: which index and generation comes next, and what moves.
+// Which index and generation comes next, and what moves.
 use crate::tests::pointers::{BarePtr, SmallPtr};
 use crate::{Advancer, Arena, ArenaTrait, Compactor, SlotAccess, Work};
 use arena_ptr::{Gen8, InvalidationResult, Inx8, Ptr};
