@@ -1,5 +1,7 @@
 //! An arena whose pointers have two indexes and no generation.
 
+ghost use Rattle.std.specs.Prelude.{◌≡◌, if◌then◌else◌};
+
 use crate::chain_arena::{ChainArena, LinkInsertKind};
 use arena_ptr::{ChainInsertionError, Ptr, PtrInx};
 use std::fmt;
@@ -46,7 +48,17 @@ impl PtrInx for TinyInx {
     }
 
     fn fmt_hex<W: fmt::Write>(self, f: &mut fmt::Formatter<W>) -> fmt::Result {
-        write!(f, "{}", if self.is_two { 2 } else { 1 })
+        let digit = self.digit();
+        write!(f, "{digit:x}")
+    }
+}
+
+impl TinyInx {
+    // The number of the index.
+    fn digit(self) -> u8
+        ensures { result ≡ (if self.is_two then 2 else 1) }
+    {
+        if self.is_two { 2 } else { 1 }
     }
 }
 
