@@ -1,13 +1,7 @@
 //! An arena whose pointers have two indexes and no generation.
 
-<<<<<<< HEAD:crates/chain_arena/src/tests/tiny_ptr.rt
 use crate::{ChainArena, ChainArenaTrait, LinkInsertKind};
 use arena_base::ArenaTrait;
-=======
-ghost use Rattle.std.specs.Prelude.{◌≡◌, if◌then◌else◌};
-
-use crate::chain_arena::{ChainArena, LinkInsertKind};
->>>>>>> main:crates/chain_tool/src/chain_arena/tests/tiny_ptr.rt
 use arena_ptr::{ChainInsertionError, Ptr, PtrInx};
 use std::fmt;
 use std::test::Fail;
@@ -53,22 +47,8 @@ impl PtrInx for TinyInx {
     }
 
     fn fmt_hex<W: fmt::Write>(self, f: &mut fmt::Formatter<W>) -> fmt::Result {
-<<<<<<< HEAD:crates/chain_arena/src/tests/tiny_ptr.rt
         let number: u8 = if self.is_two { 2 } else { 1 };
         write!(f, "{:x}", number)
-=======
-        let digit = self.digit();
-        write!(f, "{digit:x}")
-    }
-}
-
-impl TinyInx {
-    // The number of the index.
-    fn digit(self) -> u8
-        ensures { result ≡ (if self.is_two then 2 else 1) }
-    {
-        if self.is_two { 2 } else { 1 }
->>>>>>> main:crates/chain_tool/src/chain_arena/tests/tiny_ptr.rt
     }
 }
 
