@@ -99,7 +99,7 @@ fn lines_and_words(rt: HostRuntime) -> Result<(), ToolError> {
         ("hello\nlen\n", "bad line\ncount 0\n"),
         ("add end 0.2 5\n", "bad line\n"),
         (
-            "remove 1.2\nclear\naddwithin alone 1\n",
+            "remove 1.2 1.2\nclear\naddwithin alone 1\n",
             "bad line\nbad line\nbad line\n",
         ),
     ];
