@@ -1,3 +1,4 @@
+mod calls;
 mod generic;
 mod limits;
 mod pointers;

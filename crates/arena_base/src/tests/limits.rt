@@ -1,12 +1,10 @@
-// The greatest index, the greatest generation, and each call once over both stacks.
+// The greatest index, the greatest generation and a maximum.
 use crate::tests::pointers::SmallPtr;
-use crate::{Advancer, Arena, ArenaSlot, ArenaTrait};
+use crate::{Arena, ArenaSlot, ArenaTrait};
 use arena_ptr::{
-    Gen8, HeapStack, InvalidationOption, InvalidationResult, LimitedStack,
-    MaxCapacityReductionError, NotWithinCapacityError, Ptr, ReallocationError, SetMaxCapacity,
-    SlotStack,
+    Gen8, InvalidationOption, InvalidationResult, LimitedStack, MaxCapacityReductionError,
+    NotWithinCapacityError, ReallocationError, SetMaxCapacity,
 };
-use std::process::Abort;
 use std::test::Fail;
 
 #[test]
@@ -68,61 +66,4 @@ fn a_maximum_of_two(rt: HostRuntime) -> Result<(), Fail> {
         (2, 2, Some(2))
     );
     Ok(())
-}
-
-// Each call once, through the trait where it is one of the trait.
-fn use_each<S: SlotStack<Item = ArenaSlot<SmallPtr, u32>>>(
-    rt: &impl Abort,
-    mut arena: Arena<SmallPtr, u32, S>,
-) -> Result<(), Fail> {
-    arena.reallocate_min_capacity(4)?;
-    assert!(rt; arena.capacity() >= 4);
-    let p = arena.insert_within_capacity(1).ok().ok_or("an entry")?;
-    let entry = arena.entry_insert_within_capacity().ok().ok_or("a place")?;
-    let q = entry.ptr();
-    entry.insert(2);
-    assert_eq!(rt; arena.get(q).copied(), Some(2));
-    assert_eq!(rt; arena.get_inx(p.inx()).map(|e| *e.1), Some(1));
-    if let Some(t) = arena.get_mut(p) {
-        *t = 5;
-    }
-    if let Some(t) = arena.get_inx_mut(q.inx()) {
-        *t = 6;
-    }
-    assert_eq!(rt; arena.find_first_inx_ptr(), Some(p));
-    assert_eq!(rt; arena.find_last_inx_ptr(), Some(q));
-    assert_eq!(rt; arena.advancer().advance(&arena), Some(p));
-    assert_eq!(rt; arena.singular_generation(), Some(arena.generation()));
-    let InvalidationResult::Success(renewed) = arena.invalidate(p) else {
-        return Err("a new pointer".into());
-    };
-    assert!(rt; arena.contains(renewed) && !arena.contains(p));
-    assert!(rt; arena.inc_generation() == InvalidationOption::Success(()));
-    let mut seen = 0;
-    for (_, t) in &arena {
-        seen ^= *t;
-    }
-    assert_eq!(rt; seen, 3);
-    assert_eq!(rt; arena.backing().len(), 2);
-    let InvalidationResult::Success((_, t)) = arena.remove_inx(q.inx()) else {
-        return Err("an entry".into());
-    };
-    assert_eq!(rt; t, 6);
-    let mut taken = 0;
-    for (p, t) in arena {
-        assert_eq!(rt; p, renewed);
-        taken = t;
-    }
-    assert_eq!(rt; taken, 5);
-    Ok(())
-}
-
-#[test]
-fn each_call_over_both_stacks(rt: HostRuntime) -> Result<(), Fail> {
-    let heap: Arena<SmallPtr, u32, HeapStack<ArenaSlot<SmallPtr, u32>>> = Arena::new(rt.alloc());
-    use_each(&rt, heap)?;
-    let limited: Arena<SmallPtr, u32, LimitedStack<ArenaSlot<SmallPtr, u32>>> = Arena::new(
-        rt.alloc(),
-    );
-    use_each(&rt, limited)
 }
