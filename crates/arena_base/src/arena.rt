@@ -100,6 +100,7 @@ impl<P: Ptr, T: Drop, S: SlotStack<Item = ArenaSlot<P, T>>> Arena<P, T, S> {
     pub fn backing(&self) -> &S
         ensures slots { map entry_of (S.items result.now) ≡ self.now.slots }
         ensures capacity { S.capacity result.now ≡ self.now.stack_capacity }
+        ensures room { self.now.capacity ≡ min (S.capacity result.now) P.Inx.greatest }
         ensures maximum { S.maximum result.now ≡ self.now.maximum }
     {
         &self.slots
