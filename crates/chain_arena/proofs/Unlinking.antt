@@ -11,7 +11,7 @@ use Rattle.chain_laws.proofs.Removing.{removed_removes}
 use Rattle.arena_base.specs.Arena.{Arena, slot_at, IsValid, entry_at, remove_at, renewed_at, with_capacity_of}
 use Rattle.arena_base.specs.Entries.{seen_of}
 use Rattle.arena_base.specs.Entries.{removed as seen_removed}
-use Rattle.chain_arena.specs.ChainArena.{on_value, LinkSeen, value_in, with_value_in, shown, relinked, interlinks_of, values_of, with_value_at, remove_link, link_at}
+use Rattle.chain_arena.specs.ChainArena.{on_value, LinkSeen, value_in, with_value_in, shown, relinked, interlinks_of, values_of, with_value_at, remove_link, link_at, IsRemoval}
 use Rattle.chain_arena.specs.declared.links.LinkBody.{LinkBody}
 use Rattle.chain_arena.specs.Links.{seen_link, seen_links, seen_pair}
 use Rattle.chain_arena.proofs.Connecting.{link_at-seen}
@@ -147,6 +147,9 @@ module _ {Gen I T : Type 0} (number : I → ℕ) (following : Gen → Gen) (a b 
 
     pub taken-pairs : Agrees (shown (seen_links number a)) → RemovesPairs (shown (seen_links number a)) (shown (seen_links number b)) n
     taken-pairs agrees = removed-pairs following (seen_links number a) (seen_links number b) n taken-state agrees
+
+    pub taken-removal : Agrees (shown (seen_links number a)) → IsRemoval following (seen_links number a) n (seen_links number b)
+    taken-removal agrees = record { state = taken-state; shows = taken-shown; chains = taken-chains agrees; pairs = taken-pairs agrees }
 
   -- where the generation is known, the link alone tells the rest
   pub taken-link : (g : Gen) (t : T) → entry_at (values_of (seen_links number a)) n ≡ Some (g, t)

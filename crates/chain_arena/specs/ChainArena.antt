@@ -3,7 +3,7 @@ use Rattle.std.specs.Prelude.{◌≡◌, ◌≢◌, ℕ, suc, zero, ◌+◌, Lis
 use Rattle.std.specs.Option.{option_map, option_and_then}
 use Rattle.chain_laws.specs.Chains.{Shown, Interlinks, prev_of, next_of}
 use Rattle.chain_laws.specs.Walks.{IsWalk}
-use Rattle.chain_laws.specs.Removals.{removed}
+use Rattle.chain_laws.specs.Removals.{removed, Removes, RemovesPairs}
 use Rattle.arena_base.specs.Arena.{Arena, with_slot, entry_at, insert_next, remove_at, IsValid}
 
 -- a pair of a generation and a value, with something else for the value
@@ -86,6 +86,13 @@ module _ {Gen T : Type 0} where
   -- the arena after the removal of the link at an index, where those that it stood between are linked
   abbrev pub remove_link : (Gen → Gen) → Arena Gen (LinkSeen T) → ℕ → Arena Gen (LinkSeen T)
   remove_link following a i = relinked (remove_at following a i) (removed (shown a) i)
+
+  -- the link at an index was removed: in the state, and so in what is shown, in chains and in pairs
+  pub record IsRemoval (following : Gen → Gen) (old : Arena Gen (LinkSeen T)) (i : ℕ) (new : Arena Gen (LinkSeen T)) : Type 0 where
+    pub state : new ≡ remove_link following old i
+    pub shows : shown new ≡ removed (shown old) i
+    pub chains : Removes (shown old) (shown new) i
+    pub pairs : RemovesPairs (shown old) (shown new) i
 
   -- the links of the walk from an index, each with its index and generation
   pub record IsWalkOf (a : Arena Gen (LinkSeen T)) (i : ℕ) (links : List (ℕ × (Gen × LinkSeen T))) : Type 0 where

@@ -23,8 +23,7 @@ impl<P: Ptr, T: Drop, S: SlotStack<Item = ArenaSlot<P, LinkNoGen<P, T>>>> ArenaT
     ghost use Rattle.arena_base.specs.Arena.{entry_at, new_arena, with_capacity_of, renewed_at, cleared};
     ghost use Rattle.arena_base.specs.Entries.{seen_of};
     ghost use Rattle.arena_base.specs.EntryLaws.{entries_rise, found-entries};
-    ghost use Rattle.chain_laws.specs.Removals.{removed};
-    ghost use Rattle.chain_arena.specs.ChainArena.{shown, values_of, with_value_at, remove_link};
+    ghost use Rattle.chain_arena.specs.ChainArena.{shown, values_of, with_value_at, IsRemoval};
 
     type PtrAdvancer = PtrAdvancer<P>;
 
@@ -42,7 +41,7 @@ impl<P: Ptr, T: Drop, S: SlotStack<Item = ArenaSlot<P, LinkNoGen<P, T>>>> ArenaT
 
     ghost renews = { λ a i b. (b ≡ renewed_at P.Gen.following a i) × (shown b ≡ shown a) };
 
-    ghost removes = { λ a i b. (b ≡ remove_link P.Gen.following a i) × (shown b ≡ removed (shown a) i) };
+    ghost removes = { λ a i b. IsRemoval P.Gen.following a i b };
 
     ghost clears = { λ a b. b ≡ cleared P.Gen.following a };
 

@@ -36,7 +36,7 @@ impl<P: Ptr, T: Drop, S: SlotStack<Item = ArenaSlot<P, LinkNoGen<P, T>>>> ChainA
 
     ghost renewed = { λ a b i h. h.1 };
 
-    ghost passed_over = { λ a b i h. h.1 };
+    ghost passed_over = { λ a b i h. h.shows };
 
     fn insert_reallocating(&mut self, kind: LinkInsertKind, t: T) -> Result<P, ChainInsertionError>
         ensures inserted { IfOk result (λ p. IsInserted (entry_at (values_of self.old)) (entry_at (values_of self.new)) (P.key p) t) }

@@ -2,7 +2,7 @@
 use Rattle.std.proofs.Common.{◌≡◌, Option, None, Some, refl, ap, sym, ◌∙◌}
 use Rattle.std.specs.Option.{option_map}
 use Rattle.arena_base.specs.Arena.{entry_at}
-use Rattle.chain_arena.proofs.Unlinking.{taken-agrees, taken-seen, taken-shown, taken-state, taken-alone, valid_stands}
+use Rattle.chain_arena.proofs.Unlinking.{taken-agrees, taken-seen, taken-removal, taken-alone, valid_stands}
 use Rattle.chain_arena.proofs.impl_arena_trait.ChainArenaArenaTrait.remove.Goals as goal
 
 pub invariant_of-self : goal.invariant_of-self
@@ -15,4 +15,4 @@ returns-then-contains-clause-valid g c = rw (← c.inx.ensures, ← c.self.view_
 pub returns-then-contains-clause-more : goal.returns-then-contains-clause-more
 returns-then-contains-clause-more g c = rw (← c.inx.ensures, ← c.self.view_is) (λ valid.
     let stands = valid_stands g.P.Inx.PtrInx.number g.P.Gen.PtrGen.following c.self.inside.arena c.take_out.new.arena _ _ c.take_out.ensures.answer c.take_out.ensures.valid c.take_out.ensures.invalid (g.P.Ptr.key c.args.p) c.inx.ensures valid in
-    (taken-state g.P.Inx.PtrInx.number g.P.Gen.PtrGen.following c.self.inside.arena c.take_out.new.arena _ _ c.take_out.ensures.answer c.take_out.ensures.valid c.take_out.ensures.invalid stands, taken-shown g.P.Inx.PtrInx.number g.P.Gen.PtrGen.following c.self.inside.arena c.take_out.new.arena _ _ c.take_out.ensures.answer c.take_out.ensures.valid c.take_out.ensures.invalid stands))
+    taken-removal g.P.Inx.PtrInx.number g.P.Gen.PtrGen.following c.self.inside.arena c.take_out.new.arena _ _ c.take_out.ensures.answer c.take_out.ensures.valid c.take_out.ensures.invalid stands c.self.invariant)

@@ -1,5 +1,5 @@
 -- The link goes, and its neighbours are linked.
-use Rattle.chain_arena.proofs.Unlinking.{taken-agrees, taken-seen, taken-shown, taken-state}
+use Rattle.chain_arena.proofs.Unlinking.{taken-agrees, taken-seen, taken-removal}
 use Rattle.chain_arena.proofs.impl_arena_trait.ChainArenaArenaTrait.remove_inx.Goals as goal
 
 pub invariant_of-self : goal.invariant_of-self
@@ -9,4 +9,4 @@ pub returns-clause-valid : goal.returns-clause-valid
 returns-clause-valid g c = rw (← c.self.view_is) (λ stands. taken-seen g.P.Inx.PtrInx.number g.P.Gen.PtrGen.following c.self.inside.arena c.take_out.new.arena _ _ c.take_out.ensures.answer c.take_out.ensures.valid c.take_out.ensures.invalid stands (g.met.P.Inx.PtrInx.at_least_one _))
 
 pub returns-clause-more : goal.returns-clause-more
-returns-clause-more g c = rw (← c.self.view_is) (λ stands. (taken-state g.P.Inx.PtrInx.number g.P.Gen.PtrGen.following c.self.inside.arena c.take_out.new.arena _ _ c.take_out.ensures.answer c.take_out.ensures.valid c.take_out.ensures.invalid stands, taken-shown g.P.Inx.PtrInx.number g.P.Gen.PtrGen.following c.self.inside.arena c.take_out.new.arena _ _ c.take_out.ensures.answer c.take_out.ensures.valid c.take_out.ensures.invalid stands))
+returns-clause-more g c = rw (← c.self.view_is) (λ stands. taken-removal g.P.Inx.PtrInx.number g.P.Gen.PtrGen.following c.self.inside.arena c.take_out.new.arena _ _ c.take_out.ensures.answer c.take_out.ensures.valid c.take_out.ensures.invalid stands c.self.invariant)
