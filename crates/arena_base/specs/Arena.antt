@@ -76,7 +76,8 @@ new_arena first maximum = record {
 }
 
 module _ {Gen T : Type 0} where
-  -- an entry stands at the index of a key with its generation, where the entry at each index is given
+  -- a pointer, an index and a generation, is valid: an entry stands at its index with its generation, where the entry
+  -- at each index is given
   pub record IsValid (entry : ℕ → Option (Gen × T)) (p : ℕ × Gen) : Type 0 where
     pub value : T
     pub stands : entry p.0 ≡ Some (p.1, value)
@@ -87,10 +88,6 @@ module _ {Gen T : Type 0} where
 
   abbrev pub entry_at : Arena Gen T → ℕ → Option (Gen × T)
   entry_at a i = slot_at a.slots i
-
-  -- a pointer, an index and a generation, is valid if an entry stands at its index with its generation
-  abbrev pub IsValidPtr : Arena Gen T → ℕ × Gen → Type 0
-  IsValidPtr a p = IsValid (entry_at a) p
 
   -- how many entries there are
   abbrev pub entry_count : Arena Gen T → ℕ

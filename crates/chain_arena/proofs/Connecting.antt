@@ -7,9 +7,9 @@ use Rattle.chain_laws.specs.Operations.{AddsPair, Connects, joined, AreEndAndSta
 use Rattle.chain_laws.proofs.Joining.{joined_agrees, joined_adds_a_pair, joined_connects}
 use Rattle.chain_arena.specs.declared.links.LinkBody.{LinkBody}
 use Rattle.chain_arena.specs.Links.{seen_link, seen_pair, seen_links}
-use Rattle.arena_base.specs.Arena.{Arena, entry_at, IsValidPtr}
+use Rattle.arena_base.specs.Arena.{Arena, entry_at}
 use Rattle.chain_arena.specs.ChainArena.{on_value, LinkSeen, value_in, shown, values_of, relinked, interlinks_of, CanConnect, IsLinkAt, ptr_at, link_at, link_of}
-use Rattle.chain_arena.proofs.Mapping.{entry_at-with_each, IsValidPtr-with_each}
+use Rattle.chain_arena.proofs.Mapping.{IsValidPtr, entry_at-with_each, IsValidPtr-with_each}
 use Rattle.chain_arena.proofs.Seeing.{entry_at-seen_links}
 use Rattle.chain_arena.proofs.Relinking.{shown-relinked, values_of-relinked, FitsLinks-linked}
 

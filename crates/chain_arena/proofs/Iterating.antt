@@ -13,7 +13,7 @@ use Rattle.chain_laws.proofs.Partitions.{the_chains, no_others}
 use Rattle.chain_laws.proofs.Members.{Has-written, Has-parts, Has-left, Has-right}
 use Rattle.chain_laws.proofs.Passing.{has_walk, walk_valid, walk_once}
 use Rattle.chain_laws.proofs.Walking.{walk_passed}
-use Rattle.arena_base.specs.Arena.{Arena, entry_at, entry_count, IsValidPtr}
+use Rattle.arena_base.specs.Arena.{Arena, entry_at, entry_count}
 use Rattle.chain_arena.specs.ChainArena.{LinkSeen, shown, interlinks_of, IsWalkOf}
 use Rattle.chain_arena.specs.Walkers.{links_at, links_ahead}
 use Rattle.chain_arena.proofs.Inserting.{shown-within, some_entry}

@@ -3,11 +3,12 @@ use Rattle.std.proofs.Common.{◌≡◌, ◌↔◌, ◌⊎◌, inl, inr, ℕ, ze
 use Rattle.std.specs.Prelude.{is_some, IfSome, IsSome}
 use Rattle.std.specs.Option.{option_map, option_copied_mut}
 use denote.MutBor.{MutBor}
-use Rattle.arena_base.specs.Arena.{Arena, entry_at, IsValid, IsValidPtr}
+use Rattle.arena_base.specs.Arena.{Arena, entry_at, IsValid}
 use Rattle.chain_arena.specs.declared.links.LinkBody.{LinkBody}
 use Rattle.chain_arena.specs.ChainArena.{on_value, values_of}
 use Rattle.chain_arena.specs.Links.{seen_links}
 use Rattle.chain_arena.proofs.Connecting.{value_at}
+use Rattle.chain_arena.proofs.Mapping.{IsValidPtr}
 use Rattle.chain_arena.proofs.Valuing.{held_in}
 
 module _ {Gen I T : Type 0} (number : I → ℕ) where

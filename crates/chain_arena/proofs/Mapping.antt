@@ -4,7 +4,7 @@ use Rattle.std.specs.Prelude.{count_by, is_some, slice_index_or, slice_set, if�
 use Rattle.std.specs.Option.{option_map}
 use Rattle.std.proofs.lemmas.List.{length-map, map-append}
 use Rattle.std.proofs.lemmas.List.Sums.{sum_by-cons}
-use Rattle.arena_base.specs.Arena.{Arena, slot_at, with_slot, filled, entry_at, entry_count, insert_next, remove_at, renewed_at, with_value, cleared, counter_after_clear, IsValidPtr}
+use Rattle.arena_base.specs.Arena.{Arena, slot_at, with_slot, filled, entry_at, entry_count, insert_next, remove_at, renewed_at, with_value, cleared, counter_after_clear, IsValid}
 use Rattle.chain_arena.specs.ChainArena.{on_value, with_each}
 
 map-slice_set : {X Y : Type 0} (f : X → Y) (xs : List X) (k : ℕ) (x : X) → map f (slice_set xs k x) ≡ slice_set (map f xs) k (f x)
@@ -21,6 +21,10 @@ generation_is g h x y same = ap (generation_or g) same where
   generation_or : {Gen X : Type 0} → Gen → Option (Gen × X) → Gen
   generation_or other None = other
   generation_or other (Some e) = e.0
+
+-- a pointer is valid in an arena
+abbrev pub IsValidPtr : {Gen X : Type 0} → Arena Gen X → ℕ × Gen → Type 0
+IsValidPtr a p = IsValid (entry_at a) p
 
 module _ {Gen X Y : Type 0} (f : X → Y) where
   slot_at-map : (slots : List (Option (Gen × X))) (k : ℕ)

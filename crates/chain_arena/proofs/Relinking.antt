@@ -9,7 +9,7 @@ use mathlib.Core.Path.{fun_ext}
 use Rattle.chain_laws.proofs.Agreement.{if_same, if_other, one_some}
 use Rattle.chain_arena.specs.declared.links.LinkBody.{LinkBody}
 use Rattle.chain_arena.specs.Links.{seen_link, seen_pair, seen_links}
-use Rattle.arena_base.specs.Arena.{Arena, entry_at, with_value, IsValidPtr}
+use Rattle.arena_base.specs.Arena.{Arena, entry_at, with_value}
 use Rattle.chain_arena.specs.ChainArena.{on_value, value_in, values_of, LinkSeen, shown, relink, relinked, interlinks_of, interlinks_in, with_interlinks}
 use Rattle.chain_arena.proofs.Mapping.{entry_at-with_each, length-with_each}
 use Rattle.chain_arena.proofs.Seeing.{same_items, is_relinked, entry_at-relinked, entry_at-with_value, entry_at-seen_links, length-with_value, length-seen_links, length-relinked, no_entry}

@@ -7,10 +7,10 @@ use Rattle.std.specs.Option.{option_map}
 use Rattle.chain_laws.specs.Chains.{Shown, Interlinks, IsValid, IsWithin, prev_of, next_of}
 use Rattle.chain_laws.specs.Operations.{next_set, prev_set, linked, with_next, with_prev, with_lone}
 use Rattle.chain_laws.proofs.Agreement.{if_same, if_other}
-use Rattle.chain_arena.proofs.Mapping.{entry_at-with_each, length-with_each, IsValidPtr-with_each}
+use Rattle.chain_arena.proofs.Mapping.{entry_at-with_each, length-with_each}
 use Rattle.chain_arena.specs.declared.links.LinkBody.{LinkBody}
 use Rattle.chain_arena.specs.Links.{seen_link, seen_pair, seen_links}
-use Rattle.arena_base.specs.Arena.{Arena, slot_at, with_slot, entry_at, with_value, IsValidPtr}
+use Rattle.arena_base.specs.Arena.{Arena, slot_at, with_slot, entry_at, with_value}
 use Rattle.chain_arena.specs.ChainArena.{LinkSeen, shown, relink, relink_from, relinked, interlinks_of}
 
 -- two lists of one length with the same items are one
@@ -97,7 +97,3 @@ module _ {Gen I T : Type 0} (number : I → ℕ) where
 
   pub length-seen_links : (a : Arena Gen (LinkBody I T)) → length (seen_links number a).slots ≡ length a.slots
   length-seen_links a = length-with_each (seen_link number) a
-
-  -- the same pointers are valid
-  pub IsValidPtr-seen_links : (a : Arena Gen (LinkBody I T)) (p : ℕ × Gen) → IsValidPtr a p ↔ IsValidPtr (seen_links number a) p
-  IsValidPtr-seen_links a p = IsValidPtr-with_each (seen_link number) a p

@@ -1,7 +1,10 @@
-ghost use Rattle.std.specs.Prelude.{◌≡◌, ◌≤◌, ◌↔◌, length, IsSome, IfSome};
+ghost use Rattle.std.specs.Prelude.{◌≡◌, ◌≤◌, ◌↔◌, length, map, min, IsSome, IfSome};
+ghost use Rattle.std.specs.Option.{option_map};
 ghost use Rattle.arena_ptr.specs.Invalidation.{invalidation_option};
-ghost use Rattle.arena_base.specs.Arena.{entry_count, with_counter, with_maximum, IsValidPtr};
-ghost use Rattle.chain_arena.specs.ChainArena.{IsWalkOf};
+ghost use Rattle.arena_base.specs.Arena.{entry_at, entry_count, with_counter, with_maximum, IsValid};
+ghost use Rattle.arena_base.specs.Slots.{entry_of};
+ghost use Rattle.chain_arena.specs.ChainArena.{values_of, IsWalkOf};
+ghost use Rattle.chain_arena.specs.Links.{seen_pair};
 
 use crate::chain_iterators::ChainIter;
 use crate::links::LinkNoGen;
@@ -43,7 +46,7 @@ impl<P: Ptr, T: Drop, S: SlotStack<Item = ArenaSlot<P, LinkNoGen<P, T>>>> Model
 impl<P: Ptr, T: Drop, S: SlotStack<Item = ArenaSlot<P, LinkNoGen<P, T>>>> ChainArena<P, T, S> {
     /// The links of a pointer's chain in walk order, each once. `None`: the pointer is not valid.
     pub fn iter_chain(&self, p: P) -> Option<ChainIter<'_, P, T, S>>
-        ensures some { IsSome result ↔ IsValidPtr self.now (P.key p) }
+        ensures some { IsSome result ↔ IsValid (entry_at (values_of self.now)) (P.key p) }
         ensures walk { IfSome result (IsWalkOf self.now (P.key p).0) }
         ensures count { IfSome result (λ links. length links ≤ entry_count self.now) }
     {
@@ -76,7 +79,12 @@ impl<P: Ptr, T: Drop, S: SlotStack<Item = ArenaSlot<P, LinkNoGen<P, T>>>> ChainA
     }
 
     /// The slots.
-    pub fn backing(&self) -> &S {
+    pub fn backing(&self) -> &S
+        ensures slots { map (option_map (seen_pair P.Inx.number)) (map entry_of (S.items result.now)) ≡ self.now.slots }
+        ensures capacity { S.capacity result.now ≡ self.now.stack_capacity }
+        ensures room { self.now.capacity ≡ min (S.capacity result.now) P.Inx.greatest }
+        ensures maximum { S.maximum result.now ≡ self.now.maximum }
+    {
         self.arena.backing()
     }
 }

@@ -6,7 +6,7 @@ use Rattle.arena_ptr.specs.ToolPtr.{key_of}
 use Rattle.arena_ptr.specs.declared.generation.gen32.Gen32.{Gen32}
 use Rattle.chain_laws.specs.Operations.{joined}
 use Rattle.arena_ptr.specs.SlotStack.{IsBeyond}
-use Rattle.arena_base.specs.Arena.{Arena, IsValid, IsValidPtr, entry_at, entry_count, next_index, with_capacity_of}
+use Rattle.arena_base.specs.Arena.{Arena, IsValid, entry_at, entry_count, next_index, with_capacity_of}
 use Rattle.chain_arena.specs.ChainArena as chain
 use Rattle.chain_arena.specs.ChainArena.{LinkSeen, shown, values_of, relinked, insert_lone, remove_link, IsWalkOf}
 use Rattle.chain_tool.specs.declared.command.Command.{Command}
@@ -68,8 +68,8 @@ pub data Shows (old : Links) (p : ℕ × Gen32) (text : List ℕ) : Type 0 where
   no_link : (IsValidIn old p → ⊥) → text ≡ codes "none" → Shows old p text
 
 pub data Walks (old : Links) (p : ℕ × Gen32) (text : List ℕ) : Type 0 where
-  walk : (links : List (ℕ × (Gen32 × LinkSeen ℕ))) → IsValidPtr old p → IsWalkOf old p.0 links → text ≡ walk_text links → Walks old p text
-  no_walk : (IsValidPtr old p → ⊥) → text ≡ codes "none" → Walks old p text
+  walk : (links : List (ℕ × (Gen32 × LinkSeen ℕ))) → IsValidIn old p → IsWalkOf old p.0 links → text ≡ walk_text links → Walks old p text
+  no_walk : (IsValidIn old p → ⊥) → text ≡ codes "none" → Walks old p text
 
 -- what follows an answer where the counter has overflowed
 abbrev pub overflow_text : Bool → List ℕ

@@ -5,17 +5,16 @@ use Rattle.chain_arena.specs.Links.{seen_links}
 use Rattle.arena_base.specs.Arena.{entry_count}
 use Rattle.chain_arena.specs.ChainArena.{shown, IsWalkOf}
 use Rattle.chain_arena.specs.Walkers.{links_ahead}
-use Rattle.chain_arena.proofs.Seeing.{IsValidPtr-seen_links}
 use Rattle.chain_arena.proofs.Inserting.{entry_count-seen_links}
 use Rattle.chain_arena.proofs.Iterating.{walker-walk, length-walk}
-use Rattle.chain_arena.proofs.Connecting.{prev_of-seen, valid_at}
+use Rattle.chain_arena.proofs.Connecting.{prev_of-seen, same_valid, valid_at}
 use Rattle.chain_arena.proofs.chain_arena.ChainArena.iter_chain.Given.{Over}
 use Rattle.chain_arena.proofs.chain_arena.ChainArena.iter_chain.Goals.{After-new}
 use Rattle.chain_arena.proofs.chain_arena.ChainArena.iter_chain.Goals as goal
 
 pub returns-in-Some-clause-some : goal.returns-in-Some-clause-some
 returns-in-Some-clause-some g c =
-    let same = IsValidPtr-seen_links g.P.Inx.PtrInx.number c.self.inside.arena (g.P.Ptr.key c.args.p) in
+    let same = same_valid g.P.Inx.PtrInx.number c.self.inside.arena (g.P.Ptr.key c.args.p) in
     rw (← c.self.view_is) (λ h. same.0 (c.in-Some.ensures.some.0 h), λ valid. c.in-Some.ensures.some.1 (same.1 valid))
 
 the_walk : (g : Over) (c : After-new g) → IsWalkOf (seen_links g.P.Inx.PtrInx.number c.self.inside.arena) (g.P.Ptr.key c.args.p).0 c.new.result
@@ -34,5 +33,5 @@ returns-in-Some-clause-count g c = rw (← c.self.view_is) (length-walk _ _ _ (t
 
 pub returns-in-None-clause-some : goal.returns-in-None-clause-some
 returns-in-None-clause-some g c =
-    let same = IsValidPtr-seen_links g.P.Inx.PtrInx.number c.self.inside.arena (g.P.Ptr.key c.args.p) in
+    let same = same_valid g.P.Inx.PtrInx.number c.self.inside.arena (g.P.Ptr.key c.args.p) in
     rw (← c.self.view_is) (λ h. same.0 (c.in-None.ensures.some.0 h), λ valid. c.in-None.ensures.some.1 (same.1 valid))
