@@ -1,12 +1,14 @@
-//! Removal, over both stacks.
+//! Removal, over both stacks and with and without generations.
 
 ghost use Rattle.std.specs.Prelude.{◌≡◌, IsSome, None, Some};
 ghost use Rattle.chain_laws.specs.Removals.{removed};
 
-use super::{Limited, Slots, Unlimited, interlinks, lone_links, ptr, walk_from};
-use crate::{ChainArena, ChainArenaTrait, LinkInsertKind};
+use super::pointers::BarePtr;
+use super::{Limited, Slots, Unlimited, interlinks, row_of, walk_from};
+use crate::{ChainArenaTrait, LinkInsertKind};
 use arena_base::ArenaTrait;
-use arena_ptr::{InvalidationResult, Ptr, PtrInx, SlotStack, ToolPtr};
+use arena_ptr::{Gen32, InvalidationResult, Inx32, Ptr, PtrInx, SlotStack, ToolPtr};
+use std::alloc::Global;
 use std::process::Abort;
 use std::test::Fail;
 
@@ -20,38 +22,21 @@ fn take_next<P: Ptr, T: Drop, A: ChainArenaTrait<P, T>>(arena: &mut A, i: P::Inx
     }
 }
 
-// An arena of `count` links in a row, linear or tied to a ring, and their pointers in order.
-fn row_of<S: SlotStack<Item = Slots>>(
-    rt: &impl Abort,
-    alloc: std::alloc::Global,
-    count: u32,
-    cyclic: bool,
-) -> Result<(ChainArena<ToolPtr, u32, S>, Vec<ToolPtr>), Fail> {
-    let (mut arena, ptrs) = lone_links::<S>(alloc, count)?;
-    for k in 1..ptrs.len() {
-        assert!(rt; arena.connect(ptrs[k - 1], ptrs[k]).is_some());
-    }
-    if cyclic && let (Some(last), Some(first)) = (ptrs.last(), ptrs.first()) {
-        assert!(rt; arena.connect(*last, *first).is_some());
-    }
-    Ok((arena, ptrs))
-}
-
 // The link at index 1 goes from a cycle of two: the other names itself.
-fn check_cycle_of_two<S: SlotStack<Item = Slots>>(
+fn check_cycle_of_two<P: Ptr, S: SlotStack<Item = Slots<P>>>(
     rt: &impl Abort,
-    alloc: std::alloc::Global,
+    alloc: Global,
 ) -> Result<(), Fail> {
-    let (mut arena, ptrs) = row_of::<S>(rt, alloc, 2, true)?;
+    let (mut arena, ptrs) = row_of::<P, S>(rt, alloc, 2, true)?;
     assert_eq!(rt; ptrs.len(), 2);
     let (a, b) = (ptrs[0], ptrs[1]);
     let gone = arena.remove_link_no_gen(a).allow();
     let link = gone.expect(rt, "a is valid");
-    assert_eq!(rt; interlinks(&link), (Some(2), Some(2)));
+    assert_eq!(rt; interlinks::<P, u32>(&link), (Some(2), Some(2)));
     assert_eq!(rt; link.t, 1);
     assert!(rt; !arena.contains(a));
     assert_eq!(rt;
-        arena.get_link_no_gen(b).map(interlinks),
+        arena.get_link_no_gen(b).map(interlinks::<P, u32>),
         Some((Some(2), Some(2)))
     );
     assert_eq!(rt; arena.len(), 1);
@@ -60,16 +45,54 @@ fn check_cycle_of_two<S: SlotStack<Item = Slots>>(
 
 #[test]
 fn removal_from_a_cycle_of_two(rt: HostRuntime) -> Result<(), Fail> {
-    check_cycle_of_two::<Unlimited>(&rt, rt.alloc())?;
-    check_cycle_of_two::<Limited>(&rt, rt.alloc())
+    check_cycle_of_two::<ToolPtr, Unlimited<ToolPtr>>(&rt, rt.alloc())?;
+    check_cycle_of_two::<ToolPtr, Limited<ToolPtr>>(&rt, rt.alloc())?;
+    check_cycle_of_two::<BarePtr, Unlimited<BarePtr>>(&rt, rt.alloc())
+}
+
+// The second of a ring of two goes, and the first names itself. The freed index is used again, with the counter of then.
+fn check_table<P: Ptr, S: SlotStack<Item = Slots<P>>>(
+    rt: &impl Abort,
+    alloc: Global,
+) -> Result<P, Fail> {
+    let (mut arena, ptrs) = row_of::<P, S>(rt, alloc, 2, true)?;
+    assert_eq!(rt; ptrs.len(), 2);
+    let (a, b) = (ptrs[0], ptrs[1]);
+    assert_eq!(rt; arena.remove(b), InvalidationResult::Success(2));
+    assert_eq!(rt;
+        arena.get_link(a).map(|link| link.prev_next()),
+        Some((Some(a), Some(a)))
+    );
+    assert_eq!(rt; arena.get_link(a).map(|link| *link.t), Some(1));
+    let c = arena.insert_reallocating(LinkInsertKind::Disconnected, 9)?;
+    assert_eq!(rt; arena.get(c).copied(), Some(9));
+    assert_eq!(rt; arena.len(), 2);
+    Ok(c)
+}
+
+#[test]
+fn removal_table(rt: HostRuntime) -> Result<(), Fail> {
+    let inx = Inx32::new(2).ok_or("an index")?;
+    let again = ToolPtr::_from_raw(inx, Gen32::new(3).ok_or("a generation")?);
+    assert_eq!(rt;
+        check_table::<ToolPtr, Unlimited<ToolPtr>>(&rt, rt.alloc())?,
+        again
+    );
+    assert_eq!(rt;
+        check_table::<ToolPtr, Limited<ToolPtr>>(&rt, rt.alloc())?,
+        again
+    );
+    let bare = check_table::<BarePtr, Unlimited<BarePtr>>(&rt, rt.alloc())?;
+    assert_eq!(rt; Some(bare), super::first_at(2));
+    Ok(())
 }
 
 // The second of four links in a row goes, then the start, then the end, then the last one left.
-fn check_row<S: SlotStack<Item = Slots>>(
+fn check_row<P: Ptr, S: SlotStack<Item = Slots<P>>>(
     rt: &impl Abort,
-    alloc: std::alloc::Global,
+    alloc: Global,
 ) -> Result<(), Fail> {
-    let (mut arena, ptrs) = row_of::<S>(rt, alloc, 4, false)?;
+    let (mut arena, ptrs) = row_of::<P, S>(rt, alloc, 4, false)?;
     assert_eq!(rt; ptrs.len(), 4);
     let (a, b, c, d) = (ptrs[0], ptrs[1], ptrs[2], ptrs[3]);
     assert_eq!(rt; arena.remove(b), InvalidationResult::Success(2));
@@ -77,11 +100,11 @@ fn check_row<S: SlotStack<Item = Slots>>(
     let walk = walk_from(rt, alloc, &arena, a)?.expect(rt, "a is valid");
     assert_eq!(rt; walk.as_slice(), [1, 3, 4].as_slice());
     let gone = arena.remove_link_no_gen(a).allow().expect(rt, "a is valid");
-    assert_eq!(rt; interlinks(&gone), (None, Some(3)));
+    assert_eq!(rt; interlinks::<P, u32>(&gone), (None, Some(3)));
     let gone = arena.remove_link_no_gen(d).allow().expect(rt, "d is valid");
-    assert_eq!(rt; interlinks(&gone), (Some(3), None));
+    assert_eq!(rt; interlinks::<P, u32>(&gone), (Some(3), None));
     assert_eq!(rt;
-        arena.get_link_no_gen(c).map(interlinks),
+        arena.get_link_no_gen(c).map(interlinks::<P, u32>),
         Some((None, None))
     );
     assert_eq!(rt; take_next(&mut arena, c.inx()), None);
@@ -90,42 +113,51 @@ fn check_row<S: SlotStack<Item = Slots>>(
 }
 
 #[test]
-fn removal_table(rt: HostRuntime) -> Result<(), Fail> {
-    check_row::<Unlimited>(&rt, rt.alloc())?;
-    check_row::<Limited>(&rt, rt.alloc())
+fn removal_from_a_row(rt: HostRuntime) -> Result<(), Fail> {
+    check_row::<ToolPtr, Unlimited<ToolPtr>>(&rt, rt.alloc())?;
+    check_row::<ToolPtr, Limited<ToolPtr>>(&rt, rt.alloc())?;
+    check_row::<BarePtr, Unlimited<BarePtr>>(&rt, rt.alloc())
 }
 
-// A ring of three stays a ring to the end, and a freed index is used again with the counter of then.
-#[test]
-fn a_ring_stays_a_ring(rt: HostRuntime) -> Result<(), Fail> {
-    let (mut arena, ptrs) = row_of::<Unlimited>(&rt, rt.alloc(), 3, true)?;
+// A ring of three stays a ring to the end.
+fn check_ring<P: Ptr, S: SlotStack<Item = Slots<P>>>(
+    rt: &impl Abort,
+    alloc: Global,
+) -> Result<(), Fail> {
+    let (mut arena, ptrs) = row_of::<P, S>(rt, alloc, 3, true)?;
     assert_eq!(rt; ptrs.len(), 3);
     let (a, b, c) = (ptrs[0], ptrs[1], ptrs[2]);
     assert_eq!(rt; take_next(&mut arena, b.inx()), Some(c.inx()));
     assert_eq!(rt;
-        arena.get_link_no_gen(a).map(interlinks),
+        arena.get_link_no_gen(a).map(interlinks::<P, u32>),
         Some((Some(3), Some(3)))
     );
     assert_eq!(rt; take_next(&mut arena, c.inx()), Some(a.inx()));
     assert_eq!(rt;
-        arena.get_link_no_gen(a).map(interlinks),
+        arena.get_link_no_gen(a).map(interlinks::<P, u32>),
         Some((Some(1), Some(1)))
     );
-    let p = arena.insert_reallocating(LinkInsertKind::Disconnected, 9)?;
-    assert_eq!(rt; Some(p), ptr(3, 4));
     assert_eq!(rt; arena.remove_inx(a.inx()).allow().map(|e| e.1), Some(1));
-    assert_eq!(rt; arena.len(), 1);
+    assert!(rt; arena.is_empty());
     Ok(())
+}
+
+#[test]
+fn a_ring_stays_a_ring(rt: HostRuntime) -> Result<(), Fail> {
+    check_ring::<ToolPtr, Unlimited<ToolPtr>>(&rt, rt.alloc())?;
+    check_ring::<ToolPtr, Limited<ToolPtr>>(&rt, rt.alloc())?;
+    check_ring::<BarePtr, Unlimited<BarePtr>>(&rt, rt.alloc())
 }
 
 // A link that gets a new generation stays in its chain.
 #[test]
 fn a_renewed_link_stays_in_its_chain(rt: HostRuntime) -> Result<(), Fail> {
-    let (mut arena, ptrs) = row_of::<Unlimited>(&rt, rt.alloc(), 2, false)?;
+    let (mut arena, ptrs) = row_of::<ToolPtr, Unlimited<ToolPtr>>(&rt, rt.alloc(), 2, false)?;
     assert_eq!(rt; ptrs.len(), 2);
     let (a, b) = (ptrs[0], ptrs[1]);
     let renewed = arena.invalidate(a).allow();
-    assert_eq!(rt; renewed, ptr(1, 3));
+    let third = Gen32::new(3).ok_or("a generation")?;
+    assert_eq!(rt; renewed, Some(ToolPtr::_from_raw(a.inx(), third)));
     assert!(rt; !arena.contains(a));
     assert_eq!(rt;
         arena.get_link(b).map(|link| link.prev_next()),
