@@ -1,4 +1,4 @@
--- How an arena lies in its slots. No public clause cites this module but by the arena's model.
+-- How an arena lies in its slots. Of this module public clauses cite `entry_of` alone, where the slots are shown.
 use Rattle.std.specs.Prelude.{◌≡◌, ℕ, zero, suc, ◌+◌, ◌≤◌, ⊤, List, [], ◌∷◌, map, min, length, count_by, is_some, slice_get, Option, None, Some}
 use Rattle.arena_base.specs.Compacting.{Held}
 use Rattle.arena_base.specs.Arena.{Arena, Has, IsApart}
