@@ -1,4 +1,5 @@
 mod calls;
+mod example;
 mod limits;
 mod pointers;
 mod removal;
