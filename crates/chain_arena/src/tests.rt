@@ -30,12 +30,17 @@ fn first_at<P: Ptr>(inx: usize) -> Option<P> {
     Some(P::_from_raw(P::Inx::try_from_usize(inx)?, P::Gen::two()))
 }
 
+// An interlink as a number.
+fn number_in<P: Ptr>(i: Option<P::Inx>) -> Option<usize> {
+    match i {
+        Some(i) => Some(number_of::<P>(i)),
+        None => None,
+    }
+}
+
 // The interlinks of a link, as numbers.
 fn interlinks<P: Ptr, T>(link: &LinkNoGen<P, T>) -> (Option<usize>, Option<usize>) {
-    (
-        link.prev().map(number_of::<P>),
-        link.next().map(number_of::<P>),
-    )
+    (number_in::<P>(link.prev()), number_in::<P>(link.next()))
 }
 
 // An arena of `count` lone links, each with its index as its value, and their pointers in order.
