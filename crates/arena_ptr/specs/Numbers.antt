@@ -15,6 +15,9 @@ IsWithin-prop greatest n = ×_prop le_prop le_prop
 abbrev pub next_number : ℕ → ℕ → ℕ
 next_number greatest n = if n == greatest then 2 else n + 1
 
+pub next_after_greatest : (greatest n : ℕ) → (n == greatest) ≡ true → next_number greatest n ≡ 2
+next_after_greatest greatest n is = ap (λ b. if b then 2 else n + 1) is
+
 pub next_within : (greatest n : ℕ) → 2 ≤ greatest → IsWithin greatest n → IsWithin greatest (next_number greatest n)
 next_within greatest n two within = grind (arith, common_steps)
 

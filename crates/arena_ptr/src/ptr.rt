@@ -69,6 +69,8 @@ pub trait PtrGen: Copy + Eq + Ord + Hash + Debug {
     /// Writes nothing for `()`.
     fn fmt_gen<W: fmt::Write>(self, f: &mut fmt::Formatter<W>) -> fmt::Result;
 
+    ghost begins_again: { (g : Self) → wraps g ≡ true → following g ≡ first };
+
     ghost eq_is_same: { (g h : Self) → (Self.eq g h ≡ true) ↔ (g ≡ h) };
 }
 

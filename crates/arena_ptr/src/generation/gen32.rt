@@ -40,7 +40,7 @@ impl Gen32 {
 
 impl PtrGen for Gen32 {
     ghost use Rattle.std.specs.Fmt.{WritesOnOk};
-    ghost use Rattle.arena_ptr.specs.Generations.{number_of_gen32, two32, after32, is_greatest32, eq_is_same_gen32};
+    ghost use Rattle.arena_ptr.specs.Generations.{number_of_gen32, two32, after32, is_greatest32, begins_again32, eq_is_same_gen32};
     ghost use Rattle.arena_ptr.specs.Text.{in_parentheses};
 
     ghost first = { two32 };
@@ -48,6 +48,8 @@ impl PtrGen for Gen32 {
     ghost following = { after32 };
 
     ghost wraps = { is_greatest32 };
+
+    ghost begins_again = { begins_again32 };
 
     ghost eq_is_same = { eq_is_same_gen32 };
 

@@ -40,7 +40,7 @@ impl Gen64 {
 
 impl PtrGen for Gen64 {
     ghost use Rattle.std.specs.Fmt.{WritesOnOk};
-    ghost use Rattle.arena_ptr.specs.Generations.{number_of_gen64, two64, after64, is_greatest64, eq_is_same_gen64};
+    ghost use Rattle.arena_ptr.specs.Generations.{number_of_gen64, two64, after64, is_greatest64, begins_again64, eq_is_same_gen64};
     ghost use Rattle.arena_ptr.specs.Text.{in_parentheses};
 
     ghost first = { two64 };
@@ -48,6 +48,8 @@ impl PtrGen for Gen64 {
     ghost following = { after64 };
 
     ghost wraps = { is_greatest64 };
+
+    ghost begins_again = { begins_again64 };
 
     ghost eq_is_same = { eq_is_same_gen64 };
 

@@ -40,7 +40,7 @@ impl Gen8 {
 
 impl PtrGen for Gen8 {
     ghost use Rattle.std.specs.Fmt.{WritesOnOk};
-    ghost use Rattle.arena_ptr.specs.Generations.{number_of_gen8, two8, after8, is_greatest8, eq_is_same_gen8};
+    ghost use Rattle.arena_ptr.specs.Generations.{number_of_gen8, two8, after8, is_greatest8, begins_again8, eq_is_same_gen8};
     ghost use Rattle.arena_ptr.specs.Text.{in_parentheses};
 
     ghost first = { two8 };
@@ -48,6 +48,8 @@ impl PtrGen for Gen8 {
     ghost following = { after8 };
 
     ghost wraps = { is_greatest8 };
+
+    ghost begins_again = { begins_again8 };
 
     ghost eq_is_same = { eq_is_same_gen8 };
 

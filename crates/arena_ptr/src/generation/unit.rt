@@ -5,13 +5,15 @@ use std::fmt;
 
 impl PtrGen for () {
     ghost use Rattle.std.specs.Prelude.{false};
-    ghost use Rattle.std.proofs.Common.{rules};
+    ghost use Rattle.std.proofs.Common.{refl, rules};
 
     ghost first = { tt };
 
     ghost following = { λ g. g };
 
     ghost wraps = { λ _. false };
+
+    ghost begins_again = { λ _ _. refl };
 
     ghost eq_is_same = { Prim.search rules };
 
