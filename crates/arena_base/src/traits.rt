@@ -85,10 +85,11 @@ pub trait ArenaTrait<P: Ptr, T: Drop> {
         ensures no_room { n ≡ 0 → IsOk result }
         ensures more { IfOk result (starts n) };
 
-    /// How many entries there may be before the arena has to grow, at most the greatest index.
+    /// How many entries there may be before the arena has to grow, at most the greatest index and the maximum.
     fn capacity(&self) -> usize
         ensures value { result ≡ (seen self.now).capacity }
-        ensures greatest { result ≤ P.Inx.greatest };
+        ensures greatest { result ≤ P.Inx.greatest }
+        ensures maximum { IsWithinMaximum (seen self.now).maximum result };
 
     /// The greatest capacity that the slots may have, if there is a limit.
     fn max_capacity(&self) -> Option<usize>
