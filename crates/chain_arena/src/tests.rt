@@ -43,6 +43,28 @@ fn interlinks<P: Ptr, T>(link: &LinkNoGen<P, T>) -> (Option<usize>, Option<usize
     (number_in::<P>(link.prev()), number_in::<P>(link.next()))
 }
 
+// The interlinks of the link of a pointer, as numbers.
+fn interlinks_at<P: Ptr, S: SlotStack<Item = Slots<P>>>(
+    arena: &ChainArena<P, u32, S>,
+    p: P,
+) -> Option<(Option<usize>, Option<usize>)> {
+    match arena.get_link_no_gen(p) {
+        Some(link) => Some(interlinks::<P, u32>(link)),
+        None => None,
+    }
+}
+
+// The pointers of now to the neighbours of the link of a pointer.
+fn neighbors_of<P: Ptr, S: SlotStack<Item = Slots<P>>>(
+    arena: &ChainArena<P, u32, S>,
+    p: P,
+) -> Option<(Option<P>, Option<P>)> {
+    match arena.get_link(p) {
+        Some(link) => Some(link.prev_next()),
+        None => None,
+    }
+}
+
 // An arena of `count` lone links, each with its index as its value, and their pointers in order.
 fn lone_links<P: Ptr, S: SlotStack<Item = Slots<P>>>(
     alloc: Global,

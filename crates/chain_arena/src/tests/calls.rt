@@ -1,6 +1,6 @@
 //! Each call that a chain arena shares with other arenas once, over both stacks.
 
-use super::{Limited, Slots, Unlimited, first_at, row_of};
+use super::{Limited, Slots, Unlimited, first_at, neighbors_of, row_of};
 use crate::{ChainArena, ChainArenaTrait};
 use arena_base::{Advancer, ArenaTrait};
 use arena_ptr::{InvalidationOption, Ptr, SlotStack, ToolPtr};
@@ -37,10 +37,7 @@ fn check_looks<S: SlotStack<Item = Slots<ToolPtr>>>(
         ),
         (Some(1), Some(7), Some(8))
     );
-    assert_eq!(rt;
-        arena.get_link(b).map(|link| link.prev_next()),
-        Some((Some(a), Some(c)))
-    );
+    assert_eq!(rt; neighbors_of(&arena, b), Some((Some(a), Some(c))));
     Ok(())
 }
 

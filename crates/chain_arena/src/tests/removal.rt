@@ -4,7 +4,9 @@ ghost use Rattle.std.specs.Prelude.{◌≡◌, IsSome, None, Some};
 ghost use Rattle.chain_laws.specs.Removals.{removed};
 
 use super::pointers::BarePtr;
-use super::{Limited, Slots, Unlimited, interlinks, row_of, walk_from};
+use super::{
+    Limited, Slots, Unlimited, interlinks, interlinks_at, neighbors_of, row_of, walk_from,
+};
 use crate::{ChainArenaTrait, LinkInsertKind};
 use arena_base::ArenaTrait;
 use arena_ptr::{Gen32, InvalidationResult, Inx32, Ptr, PtrInx, SlotStack, ToolPtr};
@@ -35,10 +37,7 @@ fn check_cycle_of_two<P: Ptr, S: SlotStack<Item = Slots<P>>>(
     assert_eq!(rt; interlinks::<P, u32>(&link), (Some(2), Some(2)));
     assert_eq!(rt; link.t, 1);
     assert!(rt; !arena.contains(a));
-    assert_eq!(rt;
-        arena.get_link_no_gen(b).map(interlinks::<P, u32>),
-        Some((Some(2), Some(2)))
-    );
+    assert_eq!(rt; interlinks_at(&arena, b), Some((Some(2), Some(2))));
     assert_eq!(rt; arena.len(), 1);
     Ok(())
 }
@@ -59,11 +58,8 @@ fn check_table<P: Ptr, S: SlotStack<Item = Slots<P>>>(
     assert_eq!(rt; ptrs.len(), 2);
     let (a, b) = (ptrs[0], ptrs[1]);
     assert_eq!(rt; arena.remove(b), InvalidationResult::Success(2));
-    assert_eq!(rt;
-        arena.get_link(a).map(|link| link.prev_next()),
-        Some((Some(a), Some(a)))
-    );
-    assert_eq!(rt; arena.get_link(a).map(|link| *link.t), Some(1));
+    assert_eq!(rt; neighbors_of(&arena, a), Some((Some(a), Some(a))));
+    assert_eq!(rt; arena.get(a).copied(), Some(1));
     let c = arena.insert_reallocating(LinkInsertKind::Disconnected, 9)?;
     assert_eq!(rt; arena.get(c).copied(), Some(9));
     assert_eq!(rt; arena.len(), 2);
@@ -103,10 +99,7 @@ fn check_row<P: Ptr, S: SlotStack<Item = Slots<P>>>(
     assert_eq!(rt; interlinks::<P, u32>(&gone), (None, Some(3)));
     let gone = arena.remove_link_no_gen(d).allow().expect(rt, "d is valid");
     assert_eq!(rt; interlinks::<P, u32>(&gone), (Some(3), None));
-    assert_eq!(rt;
-        arena.get_link_no_gen(c).map(interlinks::<P, u32>),
-        Some((None, None))
-    );
+    assert_eq!(rt; interlinks_at(&arena, c), Some((None, None)));
     assert_eq!(rt; take_next(&mut arena, c.inx()), None);
     assert!(rt; arena.is_empty());
     Ok(())
@@ -128,15 +121,9 @@ fn check_ring<P: Ptr, S: SlotStack<Item = Slots<P>>>(
     assert_eq!(rt; ptrs.len(), 3);
     let (a, b, c) = (ptrs[0], ptrs[1], ptrs[2]);
     assert_eq!(rt; take_next(&mut arena, b.inx()), Some(c.inx()));
-    assert_eq!(rt;
-        arena.get_link_no_gen(a).map(interlinks::<P, u32>),
-        Some((Some(3), Some(3)))
-    );
+    assert_eq!(rt; interlinks_at(&arena, a), Some((Some(3), Some(3))));
     assert_eq!(rt; take_next(&mut arena, c.inx()), Some(a.inx()));
-    assert_eq!(rt;
-        arena.get_link_no_gen(a).map(interlinks::<P, u32>),
-        Some((Some(1), Some(1)))
-    );
+    assert_eq!(rt; interlinks_at(&arena, a), Some((Some(1), Some(1))));
     assert_eq!(rt; arena.remove_inx(a.inx()).allow().map(|e| e.1), Some(1));
     assert!(rt; arena.is_empty());
     Ok(())
@@ -159,9 +146,6 @@ fn a_renewed_link_stays_in_its_chain(rt: HostRuntime) -> Result<(), Fail> {
     let third = Gen32::new(3).ok_or("a generation")?;
     assert_eq!(rt; renewed, Some(ToolPtr::_from_raw(a.inx(), third)));
     assert!(rt; !arena.contains(a));
-    assert_eq!(rt;
-        arena.get_link(b).map(|link| link.prev_next()),
-        Some((renewed, None))
-    );
+    assert_eq!(rt; neighbors_of(&arena, b), Some((renewed, None)));
     Ok(())
 }

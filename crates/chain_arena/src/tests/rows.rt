@@ -1,7 +1,9 @@
 //! What connects, what is refused, and what is walked, over both stacks and with and without generations.
 
 use super::pointers::BarePtr;
-use super::{Limited, Slots, Unlimited, first_at, interlinks, lone_links, row_of, walk_from};
+use super::{
+    Limited, Slots, Unlimited, first_at, interlinks_at, lone_links, neighbors_of, row_of, walk_from,
+};
 use crate::{ChainArenaTrait, Link, LinkInsertKind, LinkNoGen};
 use arena_base::ArenaTrait;
 use arena_ptr::{Gen32, Inx32, Ptr, SlotStack, ToolPtr};
@@ -19,29 +21,15 @@ fn check_two<P: Ptr, S: SlotStack<Item = Slots<P>>>(
     let (a, b) = (ptrs[0], ptrs[1]);
     assert_eq!(rt; (Some(a), Some(b)), (first_at(1), first_at(2)));
     for p in [a, b] {
-        assert_eq!(rt;
-            arena.get_link_no_gen(p).map(interlinks::<P, u32>),
-            Some((None, None))
-        );
+        assert_eq!(rt; interlinks_at(&arena, p), Some((None, None)));
     }
     assert!(rt; arena.connect(a, b).is_some());
-    assert_eq!(rt;
-        arena.get_link_no_gen(a).map(interlinks::<P, u32>),
-        Some((None, Some(2)))
-    );
-    assert_eq!(rt;
-        arena.get_link_no_gen(b).map(interlinks::<P, u32>),
-        Some((Some(1), None))
-    );
-    assert_eq!(rt;
-        arena.get_link(a).map(|link| link.prev_next()),
-        Some((None, Some(b)))
-    );
-    assert_eq!(rt;
-        arena.get_link(b).map(|link| link.prev_next()),
-        Some((Some(a), None))
-    );
-    assert_eq!(rt; arena.get_link(b).map(|link| *link.t), Some(2));
+    assert_eq!(rt; interlinks_at(&arena, a), Some((None, Some(2))));
+    assert_eq!(rt; interlinks_at(&arena, b), Some((Some(1), None)));
+    assert_eq!(rt; neighbors_of(&arena, a), Some((None, Some(b))));
+    assert_eq!(rt; neighbors_of(&arena, b), Some((Some(a), None)));
+    let link = arena.get_link(b).expect(rt, "b is valid");
+    assert_eq!(rt; *link.t, 2);
     Ok(())
 }
 
@@ -63,18 +51,9 @@ fn check_taken_ends<P: Ptr, S: SlotStack<Item = Slots<P>>>(
     assert!(rt; arena.connect(a, b).is_some());
     assert!(rt; arena.connect(a, c).is_none(), "a has a next link");
     assert!(rt; arena.connect(c, b).is_none(), "b has a previous link");
-    assert_eq!(rt;
-        arena.get_link_no_gen(a).map(interlinks::<P, u32>),
-        Some((None, Some(2)))
-    );
-    assert_eq!(rt;
-        arena.get_link_no_gen(b).map(interlinks::<P, u32>),
-        Some((Some(1), None))
-    );
-    assert_eq!(rt;
-        arena.get_link_no_gen(c).map(interlinks::<P, u32>),
-        Some((None, None))
-    );
+    assert_eq!(rt; interlinks_at(&arena, a), Some((None, Some(2))));
+    assert_eq!(rt; interlinks_at(&arena, b), Some((Some(1), None)));
+    assert_eq!(rt; interlinks_at(&arena, c), Some((None, None)));
     Ok(())
 }
 
@@ -107,10 +86,7 @@ fn check_refused<P: Ptr, S: SlotStack<Item = Slots<P>>>(
         assert!(rt; arena.invalidate(*p).allow().is_none());
     }
     assert_eq!(rt; arena.len(), 1);
-    assert_eq!(rt;
-        arena.get_link_no_gen(a).map(interlinks::<P, u32>),
-        Some((None, None))
-    );
+    assert_eq!(rt; interlinks_at(&arena, a), Some((None, None)));
     Ok(())
 }
 
@@ -180,10 +156,7 @@ fn check_rings<P: Ptr, S: SlotStack<Item = Slots<P>>>(
     assert_eq!(rt; ptrs.len(), 1);
     let a = ptrs[0];
     assert!(rt; arena.connect(a, a).is_some());
-    assert_eq!(rt;
-        arena.get_link(a).map(|link| link.prev_next()),
-        Some((Some(a), Some(a)))
-    );
+    assert_eq!(rt; neighbors_of(&arena, a), Some((Some(a), Some(a))));
     assert!(rt; arena.connect(a, a).is_none());
     let walk = walk_from(rt, alloc, &arena, a)?.expect(rt, "a is valid");
     assert_eq!(rt; walk.as_slice(), [1].as_slice());
