@@ -2,3 +2,4 @@ pub mod ChainArena
 pub mod Links
 pub mod Walkers
 pub mod ChainArenaLaws
+pub mod Plain

@@ -1,3 +1,5 @@
+mod behind;
+mod plain;
 mod removal;
 mod tiny_ptr;
 
