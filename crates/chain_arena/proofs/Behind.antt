@@ -1,13 +1,11 @@
 -- A link that is added behind another, in any arena of links, or taken out again.
-use Rattle.std.proofs.Common.{◌≡◌, ◌≢◌, ◌↔◌, ℕ, suc, ◌<◌, ◌≤◌, List, [], ◌∷◌, Option, None, Some, refl, ap, sym, ◌∙◌, subst, arith, ⊎_elim}
-use Rattle.std.specs.Prelude.{◌==◌, cond, is_some, true, false}
+use Rattle.std.proofs.Common.{◌≡◌, ◌≢◌, ℕ, suc, ◌<◌, List, [], ◌∷◌, Option, None, Some, refl, ap, sym, ◌∙◌, arith, ⊎_elim}
+use Rattle.std.specs.Prelude.{◌==◌, cond, is_some, false}
 use Rattle.std.proofs.lemmas.Bool.{cases_eq}
-use Rattle.chain_laws.specs.Chains.{Shown, Interlinks, prev_of, next_of, prev_in, next_in}
-use Rattle.chain_laws.specs.Operations.{with_lone}
+use Rattle.chain_laws.specs.Chains.{Shown}
 use Rattle.chain_laws.proofs.Agreement.{if_same, if_other}
-use Rattle.arena_base.specs.Arena.{IsValid}
 use Rattle.arena_base.specs.Entries.{found, without, RisesFrom}
-use Rattle.chain_arena.specs.ChainArena.{CanConnect, IsInserted}
+use Rattle.chain_arena.specs.ChainArena.{IsInserted}
 
 none_of : {X : Type 0} (o : Option X) → is_some o ≡ false → o ≡ None
 none_of None is = refl
@@ -36,7 +34,7 @@ module _ {Gen T : Type 0} where
       (λ differs. ap (found i) (if_other e.0.0 n es (e ∷ without n es) differs) ∙ ap (cond (e.0.0 == i) (Some (e.0.1, e.1))) (found-kept i n es other))
       (cases_eq e.0.0 n)
 
-module _ {Gen T : Type 0} (old mid : ℕ → Option (Gen × T)) (p q : ℕ × Gen) (t : T) (inserted : IsInserted old mid q t) where
+module _ {Gen T : Type 0} (old mid : ℕ → Option (Gen × T)) (q : ℕ × Gen) (t : T) (inserted : IsInserted old mid q t) where
   -- what was inserted and taken out again leaves what was there
   pub taken_back : (new : ℕ → Option (Gen × T)) (es fs : List ((ℕ × Gen) × T)) → RisesFrom 1 es → ((i : ℕ) → found i es ≡ mid i) → ((i : ℕ) → found i fs ≡ new i) → fs ≡ without q.0 es
       → (i : ℕ) → new i ≡ old i
@@ -46,25 +44,6 @@ module _ {Gen T : Type 0} (old mid : ℕ → Option (Gen × T)) (p q : ℕ × Ge
       (λ is. ap (λ k. found k (without q.0 es)) is ∙ (found-gone q.0 1 es rises ∙ (sym inserted.free ∙ ap old (sym is))))
       (λ other. found-kept i q.0 es other ∙ (was i ∙ inserted.rest i other))
       (cases_eq i q.0)
-
-  module _ (interlinks : Shown) (valid : IsValid old p) where
-    apart : p.0 ≢ q.0
-    apart is = let both = sym inserted.free ∙ (ap old (sym is) ∙ valid.stands) in absurd (cc)
-
-    next-kept : next_of (with_lone interlinks q.0) p.0 ≡ next_of interlinks p.0
-    next-kept = ap next_in (if_other p.0 q.0 (Some (record { prev = None; next = None })) (interlinks p.0) apart)
-
-    -- it may come behind a link that has no next one
-    pub may_follow : CanConnect mid (with_lone interlinks q.0) p q ↔ (IsValid old p × (next_of interlinks p.0 ≡ None))
-    may_follow = (
-      (λ can. (valid, sym next-kept ∙ can.no_next)),
-      (λ is. record {
-        first_valid = record { value = valid.value; stands = inserted.rest p.0 apart ∙ valid.stands };
-        second_valid = record { value = t; stands = inserted.stands };
-        no_next = next-kept ∙ is.1;
-        no_prev = ap prev_in (if_same q.0 q.0 (Some (record { prev = None; next = None })) (interlinks q.0) refl);
-      }),
-    )
 
   -- nothing was shown where it went
   pub not_shown : (interlinks : Shown) → is_some (interlinks q.0) ≡ is_some (old q.0) → interlinks q.0 ≡ None

@@ -1,10 +1,10 @@
 -- Places of a plain arena: how many are taken, and what a write to one leaves.
-use Rattle.std.proofs.Common.{◌≡◌, ℕ, zero, suc, ◌+◌, ◌<◌, ◌≤◌, Bool, true, false, cond, leb, List, [], ◌∷◌, ◌++◌, length, min, Option, None, Some, refl, ap, ap₂, sym, ◌∙◌, arith, rules, ◌⊎◌, inl, inr, ⊎_elim}
+use Rattle.std.proofs.Common.{◌≡◌, ℕ, zero, suc, ◌+◌, ◌<◌, ◌≤◌, true, false, cond, leb, List, [], ◌∷◌, ◌++◌, length, min, Option, None, Some, refl, ap, ap₂, sym, ◌∙◌, arith, rules, ◌⊎◌, inl, inr, ⊎_elim}
 use Rattle.std.specs.Prelude.{◌==◌, if◌then◌else◌, slice_index_or, slice_set, is_some}
 use Rattle.std.specs.Option.{option_map}
 use Rattle.std.proofs.lemmas.List.{length-append, append-nil, reverse-append, get_or_default}
 use Rattle.std.proofs.lemmas.Grind.{common_steps}
-use Rattle.chain_laws.proofs.Agreement.{if_same, if_other}
+use Rattle.chain_laws.proofs.Agreement.{if_other}
 use Rattle.arena_base.specs.Arena.{slot_at}
 use Rattle.arena_base.specs.Entries.{entries_from, key_at, first_key, last_key}
 use Rattle.arena_base.specs.Advancing.{from_index, up_to_index}
@@ -116,9 +116,6 @@ module _ {Gen X : Type 0} where
 
   pub scan-end : (places : List (Option (Gen × X))) (i : ℕ) → length places < i → from_index i (entries_from 1 places) ≡ []
   scan-end places i past = none_on places i 1 (omega (arith, past))
-
-  pub scan-found : (places : List (Option (Gen × X))) (k : ℕ) (e : Gen × X) → slice_index_or places k None ≡ Some e → first_key (from_index (k + 1) (entries_from 1 places)) ≡ Some (k + 1, e.0)
-  scan-found places k e is = ap first_key (from-place places (k + 1) 1 k (omega arith)) ∙ ap (λ (o : Option (Gen × X)). first_key (entry_list (k + 1) o ++ from_index (suc (k + 1)) (entries_from 1 places))) is
 
   pub scan-passed : (places : List (Option (Gen × X))) (k n : ℕ) → k + 2 ≡ n → slice_index_or places k None ≡ None → from_index n (entries_from 1 places) ≡ from_index (k + 1) (entries_from 1 places)
   scan-passed places k n at is = sym (from-place places (k + 1) 1 k (omega arith) ∙ (ap (λ (o : Option (Gen × X)). entry_list (k + 1) o ++ from_index (suc (k + 1)) (entries_from 1 places)) is

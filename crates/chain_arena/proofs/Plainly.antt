@@ -1,6 +1,6 @@
 -- What each call makes of a plain arena of links.
-use Rattle.std.proofs.Common.{◌≡◌, ◌≢◌, ℕ, zero, suc, ◌+◌, ◌-◌, ◌<◌, ◌≤◌, List, [], ◌∷◌, length, min, Bool, true, false, Option, None, Some, refl, ap, ap₂, sym, ◌∙◌, subst, arith, ⊎_elim}
-use Rattle.std.specs.Prelude.{◌==◌, if◌then◌else◌, slice_index_or, slice_set, is_some, IfSome, IsSome}
+use Rattle.std.proofs.Common.{◌≡◌, ℕ, zero, suc, ◌+◌, ◌-◌, ◌<◌, ◌≤◌, List, [], ◌∷◌, length, min, Bool, true, false, Option, None, Some, refl, ap, ap₂, sym, ◌∙◌, subst, arith, ⊎_elim}
+use Rattle.std.specs.Prelude.{◌==◌, if◌then◌else◌, slice_index_or, slice_set, IfSome, IsSome}
 use Rattle.std.specs.Option.{option_map}
 use Rattle.std.proofs.lemmas.List.{get_or_default}
 use mathlib.Core.Path.{fun_ext}
@@ -10,8 +10,8 @@ use Rattle.chain_laws.specs.Removals.{removed}
 use Rattle.chain_laws.proofs.Agreement.{if_same, if_other}
 use Rattle.chain_laws.proofs.Alone.{with_lone_agrees}
 use Rattle.chain_laws.proofs.RemovalPairs.{removed_agrees}
-use Rattle.arena_base.specs.Arena.{Arena, slot_at, with_slot, entry_at, with_value, renewed_at, overflows_after_clear, counter_after_clear}
-use Rattle.arena_base.specs.Entries.{Seen, seen_of, entries, entries_from, first_key, last_key, emptied}
+use Rattle.arena_base.specs.Arena.{Arena, slot_at, with_slot, entry_at, with_value, overflows_after_clear, counter_after_clear}
+use Rattle.arena_base.specs.Entries.{Seen, entries, entries_from, first_key, last_key, emptied}
 use Rattle.arena_base.specs.Advancing.{ahead, look_after, IsLook}
 use Rattle.arena_base.specs.declared.look.Look.{Look}
 use Rattle.arena_base.specs.declared.look.Look.TheVariants.{Up, Down}
@@ -19,7 +19,7 @@ use Rattle.arena_ptr.specs.Invalidation.{value_within, invalidation_result}
 use Rattle.arena_ptr.specs.declared.invalidation.InvalidationResult.{InvalidationResult}
 use Rattle.arena_base.specs.Entries.{removed as seen_removed}
 use Rattle.chain_arena.specs.declared.links.LinkBody.{LinkBody}
-use Rattle.chain_arena.specs.ChainArena.{on_value, LinkSeen, value_in, shown, relinked, values_of, interlinks_of, lone, remove_link, IsInserted}
+use Rattle.chain_arena.specs.ChainArena.{on_value, LinkSeen, shown, relinked, values_of, interlinks_of, lone, remove_link, IsInserted}
 use Rattle.chain_arena.specs.Links.{seen_link, seen_links, seen_pair}
 use Rattle.chain_arena.specs.Plain.{plain_arena, links_in, plain_seen, untold, unlinked, put_at, look_of}
 use Rattle.chain_arena.proofs.Connecting.{value_at, prev_of-seen, next_of-seen}
@@ -47,15 +47,6 @@ module _ {X : Type 0} where
     by [] k past = refl
     by (x ∷ xs) zero past = absurd (omega (arith, past))
     by (x ∷ xs) (suc k) past = by xs k (omega (arith, past))
-
-  -- nothing is written where nothing stands
-  pub none_at : (places : List (Option X)) (n : ℕ) → slot_at places n ≡ None → with_slot places n None ≡ places
-  none_at places zero is = refl
-  none_at places (suc k) is = by places k is where
-    by : (xs : List (Option X)) (k : ℕ) → slice_index_or xs k None ≡ None → slice_set xs k None ≡ xs
-    by [] k is = refl
-    by (x ∷ xs) zero is = ap (λ y. y ∷ xs) (sym is)
-    by (x ∷ xs) (suc k) is = ap (λ ys. x ∷ ys) (by xs k is)
 
 module _ {Gen X : Type 0} where
   -- another value at the index of an entry
@@ -188,10 +179,12 @@ module _ {Gen I T : Type 0} (number : I → ℕ) (places : List (Option (Gen × 
 
 -- no links agree
 pub none_agree : {Gen I T : Type 0} (number : I → ℕ) (counter : Gen) (cap : ℕ) → Agrees (shown (links_in {T = T} number [] counter cap))
-none_agree {Gen} {I} {T} number counter room = record { both = λ i j. (
-  (λ h. let none = sym (ap next_in (by i)) ∙ h in absurd (cc)),
-  (λ h. let none = sym (ap prev_in (by j)) ∙ h in absurd (cc)),
-) } where
+none_agree {Gen} {I} {T} number counter room = record {
+  both = λ i j. (
+    (λ h. let none = sym (ap next_in (by i)) ∙ h in absurd (cc)),
+    (λ h. let none = sym (ap prev_in (by j)) ∙ h in absurd (cc)),
+  );
+} where
   by : (i : ℕ) → shown (links_in {T = T} number [] counter room) i ≡ None
   by zero = refl
   by (suc k) = refl

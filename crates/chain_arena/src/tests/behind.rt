@@ -39,12 +39,18 @@ fn add_behind<P: Ptr, T: Drop, A: ChainArenaTrait<P, T>>(
 }
 
 // Three links in a row, of which the second goes and another is added: the same happens in any arena of links.
-fn check_row<A: ChainArenaTrait<ToolPtr, u32> + Drop>(rt: &impl Abort, alloc: Global) -> Result<(), Fail> {
+fn check_row<A: ChainArenaTrait<ToolPtr, u32> + Drop>(
+    rt: &impl Abort,
+    alloc: Global,
+) -> Result<(), Fail> {
     let mut arena = A::new(alloc);
     let a = arena.insert_reallocating(LinkInsertKind::Disconnected, 10)?;
     let b = add_behind(&mut arena, a, 20)?.expect(rt, "a is an end");
     let c = add_behind(&mut arena, b, 30)?.expect(rt, "b is an end");
-    assert_eq!(rt; (Some(a), Some(b), Some(c)), (ptr(1, 2), ptr(2, 2), ptr(3, 2)));
+    assert_eq!(rt;
+        (Some(a), Some(b), Some(c)),
+        (ptr(1, 2), ptr(2, 2), ptr(3, 2))
+    );
     assert_eq!(rt;
         arena.get_link(b).map(|link| (link.prev_next(), *link.t)),
         Some(((Some(a), Some(c)), 20))

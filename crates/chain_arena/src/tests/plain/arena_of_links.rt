@@ -24,7 +24,11 @@ impl<P: Ptr, T: Drop> ChainArenaTrait<P, T> for PlainChains<P, T> {
 
     ghost passed_over = { λ a b i h. h };
 
-    fn insert_reallocating(&mut self, kind: LinkInsertKind, t: T) -> Result<P, ChainInsertionError> {
+    fn insert_reallocating(
+        &mut self,
+        kind: LinkInsertKind,
+        t: T,
+    ) -> Result<P, ChainInsertionError> {
         match kind {
             LinkInsertKind::Disconnected => {}
         }
@@ -33,7 +37,11 @@ impl<P: Ptr, T: Drop> ChainArenaTrait<P, T> for PlainChains<P, T> {
             return Err(ChainInsertionError::AllocError);
         };
         let generation = self.counter;
-        match put(&mut self.places, k, (generation, LinkBody::new((None, None), t))) {
+        match put(
+            &mut self.places,
+            k,
+            (generation, LinkBody::new((None, None), t)),
+        ) {
             Ok(()) => return Ok(P::_from_raw(i, generation)),
             Err(_) => return Err(ChainInsertionError::AllocError),
         }
@@ -75,7 +83,10 @@ impl<P: Ptr, T: Drop> ChainArenaTrait<P, T> for PlainChains<P, T> {
         }
     }
 
-    fn remove_inx_link_no_gen(&mut self, i: P::Inx) -> InvalidationResult<(P::Gen, LinkNoGen<P, T>)> {
+    fn remove_inx_link_no_gen(
+        &mut self,
+        i: P::Inx,
+    ) -> InvalidationResult<(P::Gen, LinkNoGen<P, T>)> {
         self.take_out(i)
     }
 }

@@ -12,7 +12,10 @@ use arena_ptr::{Ptr, PtrInx};
 use std::alloc::AllocError;
 
 // Takes out what stands at an index.
-pub(super) fn take_at<P: Ptr, X>(places: &mut Vec<Option<(P::Gen, X)>>, i: P::Inx) -> Option<(P::Gen, X)>
+pub(super) fn take_at<P: Ptr, X>(
+    places: &mut Vec<Option<(P::Gen, X)>>,
+    i: P::Inx,
+) -> Option<(P::Gen, X)>
     ensures entry { result ≡ slot_at places.old.items (P.Inx.number i) }
     ensures some { IsSome result → places.new.items ≡ with_slot places.old.items (P.Inx.number i) None }
     ensures none { result ≡ None → places.new.items ≡ places.old.items }
@@ -27,7 +30,11 @@ pub(super) fn take_at<P: Ptr, X>(places: &mut Vec<Option<(P::Gen, X)>>, i: P::In
 }
 
 // Gives what stands at an index another generation.
-pub(super) fn renew_at<P: Ptr, X>(places: &mut Vec<Option<(P::Gen, X)>>, i: P::Inx, generation: P::Gen)
+pub(super) fn renew_at<P: Ptr, X>(
+    places: &mut Vec<Option<(P::Gen, X)>>,
+    i: P::Inx,
+    generation: P::Gen,
+)
     ensures items { places.new.items ≡ with_slot places.old.items (P.Inx.number i) (option_map (λ e. (generation, e.1)) (slot_at places.old.items (P.Inx.number i))) }
     ensures capacity { vec_capacity places.new ≡ vec_capacity places.old }
 {

@@ -1,6 +1,6 @@
 -- Both pointers are valid, the first link has no next and the second no prev.
 use Rattle.std.proofs.Common.{◌≡◌, true, false, min, sym, ap, ◌∙◌}
-use Rattle.std.specs.Prelude.{is_some, not, vec_capacity}
+use Rattle.std.specs.Prelude.{is_some, vec_capacity}
 use Rattle.chain_arena.specs.Plain.{plain_arena}
 use Rattle.chain_arena.proofs.Connecting.{connectable, not_valid}
 use Rattle.chain_arena.proofs.tests.plain.PlainChains.can_connect.Goals as goal

@@ -1,5 +1,5 @@
 -- What stands at the index, under its pointer of now.
-use Rattle.std.proofs.Common.{of_calls, ◌≡◌, None, Some, min, sym, ap, ◌∙◌}
+use Rattle.std.proofs.Common.{of_calls, ◌≡◌, Some, min, sym, ap, ◌∙◌}
 use Rattle.std.specs.Prelude.{vec_capacity}
 use Rattle.chain_arena.specs.Plain.{plain_arena}
 use Rattle.chain_arena.proofs.Connecting.{ptr_at-some, ptr_at-none}

@@ -1,11 +1,11 @@
 -- The link goes, and its neighbours are linked.
-use Rattle.std.proofs.Common.{◌≡◌, ◌<◌, ◌≤◌, length, true, Option, None, Some, min, refl, sym, ap, ap₂, ◌∙◌, arith}
+use Rattle.std.proofs.Common.{◌≡◌, length, true, None, Some, min, sym, ap, ap₂, ◌∙◌, arith}
 use Rattle.std.specs.Prelude.{is_some, vec_capacity}
 use Rattle.std.specs.Option.{option_map}
-use Rattle.arena_base.specs.Arena.{slot_at, entry_at}
+use Rattle.arena_base.specs.Arena.{slot_at}
 use Rattle.arena_ptr.specs.Invalidation.{value_within}
-use Rattle.chain_arena.specs.ChainArena.{on_value, values_of}
-use Rattle.chain_arena.specs.Links.{seen_link, seen_pair}
+use Rattle.chain_arena.specs.ChainArena.{on_value}
+use Rattle.chain_arena.specs.Links.{seen_pair}
 use Rattle.chain_arena.specs.Plain.{plain_arena, links_in, unlinked}
 use Rattle.chain_arena.proofs.Connecting.{value_at, link_at-seen}
 use Rattle.chain_arena.proofs.Seeing.{length-with_slot}

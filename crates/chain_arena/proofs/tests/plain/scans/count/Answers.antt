@@ -1,6 +1,6 @@
 -- One place after another is counted.
-use Rattle.std.proofs.Common.{◌≡◌, ◌+◌, ◌<◌, ◌≤◌, length, ap, sym, ◌∙◌, arith}
-use Rattle.chain_arena.proofs.Placing.{back-start, back-end, count-step, one_of, one_of-true, one_of-false}
+use Rattle.std.proofs.Common.{◌<◌, length, ap, sym, ◌∙◌, arith}
+use Rattle.chain_arena.proofs.Placing.{back-start, back-end, count-step, one_of-true, one_of-false}
 use Rattle.chain_arena.proofs.tests.plain.scans.count.Goals.{then-is_some, else-is_some}
 use Rattle.chain_arena.proofs.tests.plain.scans.count.Goals as goal
 

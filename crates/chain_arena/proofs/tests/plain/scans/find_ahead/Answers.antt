@@ -1,5 +1,5 @@
 -- What lies ahead by rising index begins at a position.
-use Rattle.std.proofs.Common.{◌≡◌, ◌+◌, ◌-◌, ℕ, zero, suc, List, Option, ap, sym, ◌∙◌, arith, refl}
+use Rattle.std.proofs.Common.{◌≡◌, ◌+◌, ◌-◌, ℕ, zero, suc, List, Option, ap, sym, ◌∙◌, arith}
 use Rattle.arena_base.specs.Entries.{entries_from, first_key}
 use Rattle.arena_base.specs.Advancing.{from_index}
 use Rattle.chain_arena.proofs.Placing.{scan-start}

@@ -1,5 +1,5 @@
 -- Each position that was passed is empty.
-use Rattle.std.proofs.Common.{◌≡◌, ◌+◌, ◌<◌, ◌≤◌, length, ap, sym, ◌∙◌, arith}
+use Rattle.std.proofs.Common.{◌+◌, ap, sym, ◌∙◌, arith}
 use Rattle.arena_base.specs.Entries.{first_key}
 use Rattle.chain_arena.proofs.Placing.{scan-here, scan-on, scan-end}
 use Rattle.chain_arena.proofs.tests.plain.scans.first_from.Goals as goal

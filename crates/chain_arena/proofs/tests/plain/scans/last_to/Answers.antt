@@ -1,5 +1,5 @@
 -- Each position that was passed is empty.
-use Rattle.std.proofs.Common.{◌≡◌, ◌+◌, ◌-◌, ◌<◌, ◌≤◌, length, min, ap, sym, ◌∙◌, arith}
+use Rattle.std.proofs.Common.{◌≡◌, ◌-◌, min, ap, sym, ◌∙◌, arith}
 use Rattle.arena_base.specs.Entries.{last_key, entries_from}
 use Rattle.arena_base.specs.Advancing.{up_to_index}
 use Rattle.chain_arena.proofs.Placing.{back-here, back-on, back-end, back-min}

@@ -1,5 +1,5 @@
 -- The place that is read is empty, and those before it are taken.
-use Rattle.std.proofs.Common.{◌≡◌, ◌+◌, ◌<◌, ◌≤◌, length, refl, ap, sym, ◌∙◌, arith}
+use Rattle.std.proofs.Common.{◌+◌, ◌<◌, ◌≤◌, length, refl, ap, sym, ◌∙◌, arith}
 use Rattle.chain_arena.proofs.Placing.{back-start, back-end, count-step, one_of-true, none_read, slot_at-empty, slot_at-end, taken-fewer}
 use Rattle.chain_arena.proofs.tests.plain.scans.next_position.Goals as goal
 

@@ -1,5 +1,5 @@
 -- A write within the places, or a push behind them.
-use Rattle.std.proofs.Common.{◌≡◌, ◌<◌, ◌≤◌, length, [], ◌∷◌, ◌++◌, Some, ap, sym, ◌∙◌, arith}
+use Rattle.std.proofs.Common.{[], ◌∷◌, ◌++◌, Some, ap, ◌∙◌, arith}
 use Rattle.chain_arena.proofs.Placing.{put-set, put-push}
 use Rattle.chain_arena.proofs.tests.plain.ties.put.Goals as goal
 

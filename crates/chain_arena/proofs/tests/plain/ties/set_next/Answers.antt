@@ -1,5 +1,5 @@
 -- The link that stands there is written, and where none stands nothing is.
-use Rattle.std.proofs.Common.{◌≡◌, ◌+◌, ◌<◌, ◌≤◌, length, refl, ap, sym, ◌∙◌, Some, arith}
+use Rattle.std.proofs.Common.{refl, arith}
 use Rattle.std.specs.Option.{option_map}
 use Rattle.chain_laws.specs.Operations.{with_next}
 use Rattle.chain_arena.specs.declared.links.LinkBody.{LinkBody}

@@ -1,5 +1,5 @@
 -- Two writes join the links, and the laws of joins say the rest.
-use Rattle.std.proofs.Common.{◌≡◌, ◌≤◌, ℕ, length, min, refl, sym, ap, ap₂, ◌∙◌, subst, arith}
+use Rattle.std.proofs.Common.{◌≡◌, ℕ, min, sym, ap, ap₂, ◌∙◌, subst, arith}
 use Rattle.std.specs.Prelude.{vec_capacity}
 use Rattle.chain_laws.specs.Operations.{joined}
 use Rattle.arena_base.specs.Arena.{entry_at}

@@ -1,5 +1,5 @@
 -- The first of what lies ahead is met, and the look goes on behind it.
-use Rattle.std.proofs.Common.{◌≡◌, ◌+◌, ◌-◌, ℕ, Some, None, min, refl, ap, sym, ◌∙◌}
+use Rattle.std.proofs.Common.{◌+◌, ◌-◌, Some, None, min, refl, ap, ◌∙◌}
 use Rattle.std.specs.Prelude.{vec_capacity}
 use Rattle.arena_base.specs.declared.look.Look.TheVariants.{Nowhere}
 use Rattle.chain_arena.specs.Plain.{look_of}

@@ -1,10 +1,9 @@
 -- Nothing is left.
-use Rattle.std.proofs.Common.{◌≡◌, ◌≤◌, length, [], min, refl, sym, ap, ap₂, ◌∙◌, subst, arith, false, true}
+use Rattle.std.proofs.Common.{◌≡◌, [], min, sym, ap, ap₂, ◌∙◌, arith}
 use Rattle.std.specs.Prelude.{vec_capacity}
-use Rattle.chain_laws.specs.Chains.{Agrees}
 use Rattle.arena_ptr.specs.Invalidation.{invalidation_option}
 use Rattle.arena_base.specs.Entries.{entries}
-use Rattle.chain_arena.specs.ChainArena.{shown, values_of}
+use Rattle.chain_arena.specs.ChainArena.{values_of}
 use Rattle.chain_arena.specs.Plain.{links_in, plain_seen}
 use Rattle.chain_arena.proofs.Plainly.{none_agree, cleared_plain, cleared_overflow}
 use Rattle.chain_arena.proofs.tests.plain.arena_of_values.PlainChainsArenaTrait.clear.Given.{Over}

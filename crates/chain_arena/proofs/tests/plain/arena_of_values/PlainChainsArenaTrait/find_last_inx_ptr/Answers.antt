@@ -1,5 +1,5 @@
 -- The same pointers are valid.
-use Rattle.std.proofs.Common.{◌≡◌, ◌+◌, ◌≤◌, min, ap, sym, ◌∙◌, arith}
+use Rattle.std.proofs.Common.{min, ap, sym, ◌∙◌, arith}
 use Rattle.std.specs.Prelude.{vec_capacity}
 use Rattle.arena_base.specs.Entries.{last_key}
 use Rattle.chain_arena.proofs.Placing.{back-start}

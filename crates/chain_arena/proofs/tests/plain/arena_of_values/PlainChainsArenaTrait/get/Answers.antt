@@ -1,5 +1,5 @@
 -- The value of the link that stands there.
-use Rattle.std.proofs.Common.{◌≡◌, Some, min, ap, ◌∙◌}
+use Rattle.std.proofs.Common.{min, ap, ◌∙◌}
 use Rattle.std.specs.Prelude.{vec_capacity}
 use Rattle.std.specs.Option.{option_map}
 use Rattle.chain_arena.specs.ChainArena.{on_value}

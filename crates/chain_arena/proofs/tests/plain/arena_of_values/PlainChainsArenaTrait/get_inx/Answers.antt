@@ -1,5 +1,5 @@
 -- The generation and the value of the link that stands there.
-use Rattle.std.proofs.Common.{◌≡◌, Some, min, ap, sym, ◌∙◌, of_calls}
+use Rattle.std.proofs.Common.{min, ap, sym, ◌∙◌, of_calls}
 use Rattle.std.specs.Prelude.{vec_capacity}
 use Rattle.std.specs.Option.{option_map}
 use Rattle.chain_arena.specs.ChainArena.{on_value}

@@ -1,5 +1,5 @@
 -- The value of the link that was lent is written.
-use Rattle.std.proofs.Common.{◌≡◌, ◌+◌, ◌<◌, ◌≤◌, ℕ, length, Option, None, Some, min, refl, ap, sym, ◌∙◌, arith}
+use Rattle.std.proofs.Common.{◌≡◌, ◌≤◌, length, None, Some, min, refl, ap, sym, ◌∙◌, arith}
 use Rattle.std.specs.Prelude.{vec_capacity, slice_set}
 use Rattle.std.specs.Option.{option_map}
 use Rattle.chain_laws.specs.Chains.{Agrees}

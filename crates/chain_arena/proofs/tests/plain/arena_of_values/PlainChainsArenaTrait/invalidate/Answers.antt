@@ -1,5 +1,5 @@
 -- The link has a new generation, and stays in its chain.
-use Rattle.std.proofs.Common.{◌≡◌, ◌≤◌, ℕ, length, Option, None, Some, min, refl, ap, ap₂, sym, ◌∙◌, subst, arith}
+use Rattle.std.proofs.Common.{◌≡◌, ℕ, length, min, ap, ap₂, sym, ◌∙◌, subst, arith}
 use Rattle.std.specs.Prelude.{vec_capacity}
 use Rattle.std.specs.Option.{option_map}
 use Rattle.chain_laws.specs.Chains.{Agrees}
@@ -39,8 +39,7 @@ returns-clause-valid g c =
     let new = links_in number c.renew_at.new.places.items c.generational_inc-generation.result.0 (min (vec_capacity c.renew_at.new.places) g.P.Inx.PtrInx.greatest) in
     let named : (number c.inx.result, g.P.Gen.PtrGen.following c.self.inside.counter) ≡ g.P.Ptr.key c._from_raw.result =
     sym (c._from_raw.ensures ∙ ap₂ (λ (i : ℕ) (h : g.row.P-Gen.Denot). (i, h)) (c.inx-2.ensures ∙ sym c.inx.ensures) c.generational_inc-generation.ensures.next) in
-    rw (← c.self.view_is) (λ _. if_made _ c._from_raw.result c.invalidated.result (λ q. ((g.P.Ptr.key q).0 ≡ (g.P.Ptr.key c.args.p).0) × (plain_seen new ≡ renewed (plain_seen old) (g.P.Ptr.key q))) c.invalidated.ensures
-    (
+    rw (← c.self.view_is) (λ _. if_made _ c._from_raw.result c.invalidated.result (λ q. ((g.P.Ptr.key q).0 ≡ (g.P.Ptr.key c.args.p).0) × (plain_seen new ≡ renewed (plain_seen old) (g.P.Ptr.key q))) c.invalidated.ensures (
       sym (ap (λ k. k.0) named) ∙ c.inx.ensures,
       ap untold (renewed-seen number g.P.Gen.PtrGen.following a b (number c.inx.result) (is_renewed g c) (g.met.P.Inx.PtrInx.at_least_one c.inx.result)) ∙ ap (renewed (plain_seen old)) named,
     ))

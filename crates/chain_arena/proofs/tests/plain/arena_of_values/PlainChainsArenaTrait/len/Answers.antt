@@ -1,5 +1,5 @@
 -- Each place that is taken has its value, and there are no more of them than there is room for.
-use Rattle.std.proofs.Common.{◌≡◌, ◌≤◌, length, min, sym, ◌∙◌, arith}
+use Rattle.std.proofs.Common.{min, sym, ◌∙◌, arith}
 use Rattle.std.specs.Prelude.{vec_capacity}
 use Rattle.chain_arena.proofs.Placing.{taken-most}
 use Rattle.chain_arena.proofs.Plainly.{count_plain}

@@ -1,8 +1,4 @@
 -- The links beside it are linked.
-use Rattle.std.proofs.Common.{ap, ◌∙◌}
-use Rattle.std.specs.Prelude.{is_some}
-use Rattle.arena_base.specs.Arena.{entry_at}
-use Rattle.chain_arena.specs.ChainArena.{values_of}
 use Rattle.chain_arena.proofs.tests.plain.arena_of_values.PlainChainsArenaTrait.remove_inx.Goals as goal
 
 pub returns-clause-more : goal.returns-clause-more
