@@ -1,10 +1,15 @@
 -- A link that is added behind another, in any arena of links, or taken out again.
-use Rattle.std.proofs.Common.{◌≡◌, ◌≢◌, ℕ, suc, ◌<◌, List, [], ◌∷◌, Option, None, Some, refl, ap, sym, ◌∙◌, arith, ⊎_elim}
-use Rattle.std.specs.Prelude.{◌==◌, cond, is_some, false}
+use Rattle.std.proofs.Common.{◌≡◌, ◌≢◌, ℕ, suc, ◌<◌, List, [], ◌∷◌, ◌++◌, Option, None, Some, refl, ap, sym, ◌∙◌, subst, arith, ⊎_elim}
+use Rattle.std.specs.Prelude.{◌==◌, cond, is_some, true, false, OnSome}
 use Rattle.std.proofs.lemmas.Bool.{cases_eq}
-use Rattle.chain_laws.specs.Chains.{Shown}
+use Rattle.chain_laws.specs.Chains.{Shown, Chain, linear, items, Has, IsChain}
+use Rattle.chain_laws.specs.Operations.{joined, with_lone}
 use Rattle.chain_laws.proofs.Agreement.{if_same, if_other}
+use Rattle.chain_laws.proofs.Alone.{with_lone_adds}
+use Rattle.chain_laws.proofs.Joining.{joined_connects}
+use Rattle.chain_laws.proofs.Unique.{chain_valid}
 use Rattle.arena_base.specs.Entries.{found, without, RisesFrom}
+use Rattle.chain_arena.specs.Behind.{Extends}
 use Rattle.chain_arena.specs.ChainArena.{IsInserted}
 
 none_of : {X : Type 0} (o : Option X) → is_some o ≡ false → o ≡ None
@@ -48,3 +53,21 @@ module _ {Gen T : Type 0} (old mid : ℕ → Option (Gen × T)) (q : ℕ × Gen)
   -- nothing was shown where it went
   pub not_shown : (interlinks : Shown) → is_some (interlinks q.0) ≡ is_some (old q.0) → interlinks q.0 ≡ None
   not_shown interlinks stands = none_of (interlinks q.0) (stands ∙ ap is_some inserted.free)
+
+-- a link that was added alone and joined makes the chain longer
+pub extends : (old mid new : Shown) (p q : ℕ) → old q ≡ None → mid ≡ with_lone old q → new ≡ joined mid p q → Extends old new p q
+extends old mid new p q none alone joins =
+    let lone = with_lone_adds old q none in
+    let tied = joined_connects (with_lone old q) p q in
+    let absent : (c : Chain) → IsChain old c → Has (items c) q → ⊥ = λ c is has. let both = sym none ∙ (chain_valid old c q is has).shows in absurd (cc) in
+    subst (λ (s : Shown). Extends old s p q) (sym (joins ∙ ap (λ (m : Shown). joined m p q) alone)) (record {
+      longer = λ x is.
+          tied.two x [] ((lone.rest (linear (x ++ p ∷ [])) (absent (linear (x ++ p ∷ [])) is)).0 is) lone.alone (absent (linear (x ++ p ∷ [])) is);
+      rest = λ c without_p without_q.
+          let first = lone.rest c without_q in
+          let second = tied.rest c without_p without_q in (λ h. second.0 (first.0 h), λ h. first.1 (second.1 h));
+    })
+
+pub some_holds : {X Q : Type 0} (o : Option X) → is_some o ≡ true → OnSome o Q → Q
+some_holds None some q = absurd (let h = some in cc)
+some_holds (Some x) some q = q

@@ -3,3 +3,4 @@ pub mod Links
 pub mod Walkers
 pub mod ChainArenaLaws
 pub mod Plain
+pub mod Behind

@@ -1,11 +1,11 @@
--- The new link is taken out again.
+-- The new link is joined, or else taken out again.
 use Rattle.std.proofs.Common.{◌≡◌, false, Option, None, Some, ap, sym, ◌∙◌, subst}
 use Rattle.std.specs.Prelude.{is_some, IfNone}
 use Rattle.chain_laws.specs.Removals.{removed}
 use Rattle.arena_base.specs.Arena.{IsValid}
 use Rattle.arena_base.specs.Entries.{without}
 use Rattle.chain_laws.proofs.RemovalPairs.{removed_of_lone}
-use Rattle.chain_arena.proofs.Behind.{taken_back, not_shown}
+use Rattle.chain_arena.proofs.Behind.{taken_back, not_shown, extends, some_holds}
 use Rattle.chain_arena.proofs.tests.behind.add_behind.Goals as goal
 
 none_holds : {X Q : Type 0} (o : Option X) → is_some o ≡ false → IfNone o Q → Q
@@ -27,3 +27,12 @@ returns-clause-none g c =
       gone.2 ∙ (ap (λ a. removed (g.A.ChainArenaTrait.interlinks a) q.0) same ∙ (ap (λ s. removed s q.0) c.in_ok-q.ensures.alone
           ∙ removed_of_lone (g.A.ChainArenaTrait.interlinks old) q.0 (not_shown (g.A.ArenaTrait.entry old) (g.A.ArenaTrait.entry mid) q c.args.t inserted (g.A.ChainArenaTrait.interlinks old) (g.met.A.ChainArenaTrait.stand old q.0)))),
     )
+
+pub returns-then-is_some-clause-chains : goal.returns-then-is_some-clause-chains
+returns-then-is_some-clause-chains g c =
+    let old = c.args.arena.now in
+    let mid = c.insert_reallocating.new.self in
+    let q = g.P.Ptr.key c.in_ok-q.q in
+    extends (g.A.ChainArenaTrait.interlinks old) (g.A.ChainArenaTrait.interlinks mid) (g.A.ChainArenaTrait.interlinks c.connect.new.self) (g.P.Ptr.key c.args.p).0 q.0
+    (not_shown (g.A.ArenaTrait.entry old) (g.A.ArenaTrait.entry mid) q c.args.t c.in_ok-q.ensures.inserted (g.A.ChainArenaTrait.interlinks old) (g.met.A.ChainArenaTrait.stand old q.0))
+    c.in_ok-q.ensures.alone (some_holds c.connect.result (sym c.is_some.ensures ∙ c.if-is_some.true) c.connect.ensures.joined)
