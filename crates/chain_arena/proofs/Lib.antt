@@ -1,3 +1,4 @@
+pub mod Behind
 pub mod Connecting
 pub mod Inserting
 pub mod Iterating
@@ -5,6 +6,8 @@ pub mod Lending
 pub mod Listing
 pub mod Mapping
 pub mod Outcomes
+pub mod Placing
+pub mod Plainly
 pub mod Relinking
 pub mod Seeing
 pub mod Unlinking

@@ -55,7 +55,7 @@ module _ {Gen I T : Type 0} (number : I → ℕ) (following : Gen → Gen) (a b 
   pub renewed-shown : shown (seen_links number b) ≡ shown (seen_links number a)
   renewed-shown = shown-renewed following (seen_links number a) (seen_links number b) n renewed-state
 
-  renewed-seen : 1 ≤ n → seen_of (values_of (seen_links number b)) ≡ renewed (seen_of (values_of (seen_links number a))) (n, following a.counter)
+  pub renewed-seen : 1 ≤ n → seen_of (values_of (seen_links number b)) ≡ renewed (seen_of (values_of (seen_links number a))) (n, following a.counter)
   renewed-seen some = ap (λ (x : Arena Gen (LinkSeen T)). seen_of (values_of x)) renewed-state
       ∙ (ap (λ (x : Arena Gen T). seen_of x) (with_each-renewed_at value_in following (seen_links number a) n) ∙ seen-renewed_at following (values_of (seen_links number a)) n some)
 

@@ -2,3 +2,5 @@ pub mod ChainArena
 pub mod Links
 pub mod Walkers
 pub mod ChainArenaLaws
+pub mod Plain
+pub mod Behind

@@ -198,7 +198,7 @@ impl<P: Ptr, T: Drop, S: SlotStack<Item = ArenaSlot<P, LinkNoGen<P, T>>>> Advanc
 }
 
 // The answer of a removal without the generation and the interlinks.
-fn value_alone<G: Drop, I: Drop, T>(
+pub(crate) fn value_alone<G: Drop, I: Drop, T>(
     removed: InvalidationResult<(G, LinkBody<I, T>)>,
 ) -> InvalidationResult<T>
     ensures value { value_within result ≡ option_map (λ e. e.1.t) (value_within removed) }
@@ -214,7 +214,7 @@ fn value_alone<G: Drop, I: Drop, T>(
 }
 
 // The answer of a removal without the interlinks.
-fn value_with_generation<G, I: Drop, T>(
+pub(crate) fn value_with_generation<G, I: Drop, T>(
     removed: InvalidationResult<(G, LinkBody<I, T>)>,
 ) -> InvalidationResult<(G, T)>
     ensures value { value_within result ≡ option_map (λ e. (e.0, e.1.t)) (value_within removed) }

@@ -143,7 +143,7 @@ impl<P: Ptr, T: Drop, S: SlotStack<Item = ArenaSlot<P, LinkNoGen<P, T>>>> ChainA
 }
 
 // The answer of a removal without the generation.
-fn link_alone<G: Drop, L>(removed: InvalidationResult<(G, L)>) -> InvalidationResult<L>
+pub(crate) fn link_alone<G: Drop, L>(removed: InvalidationResult<(G, L)>) -> InvalidationResult<L>
     ensures value { value_within result ≡ option_map (λ e. e.1) (value_within removed) }
     ensures overflow { is_overflow_result result ≡ is_overflow_result removed }
 {

@@ -116,7 +116,7 @@ pub(crate) fn take_out<P: Ptr, T: Drop, S: SlotStack<Item = ArenaSlot<P, LinkNoG
 }
 
 // The answer of a removal that removed something.
-fn invalidated<T>(overflow: bool, t: T) -> InvalidationResult<T>
+pub(crate) fn invalidated<T>(overflow: bool, t: T) -> InvalidationResult<T>
     ensures { result ≡ invalidation_result overflow (Some t) }
 {
     if overflow {

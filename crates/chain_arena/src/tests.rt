@@ -1,6 +1,8 @@
+mod behind;
 mod calls;
 mod example;
 mod limits;
+mod plain;
 mod pointers;
 mod removal;
 mod rows;
@@ -8,7 +10,7 @@ mod tiny_ptr;
 
 use crate::{ChainArena, ChainArenaTrait, LinkInsertKind, LinkNoGen};
 use arena_base::{ArenaSlot, ArenaTrait};
-use arena_ptr::{HeapStack, LimitedStack, Ptr, PtrGen, PtrInx, SlotStack};
+use arena_ptr::{Gen32, HeapStack, Inx32, LimitedStack, Ptr, PtrGen, PtrInx, SlotStack, ToolPtr};
 use std::alloc::Global;
 use std::process::Abort;
 use std::test::Fail;
@@ -23,6 +25,11 @@ type Limited<P> = LimitedStack<Slots<P>>;
 // An index as a number.
 fn number_of<P: Ptr>(i: P::Inx) -> usize {
     i.try_into_usize().unwrap_or(0)
+}
+
+// The tool pointer of an index and a generation.
+fn ptr(inx: u32, generation: u32) -> Option<ToolPtr> {
+    Some(ToolPtr::_from_raw(Inx32::new(inx)?, Gen32::new(generation)?))
 }
 
 // The pointer of an index, with the generation of the first links.

@@ -5,11 +5,12 @@ ghost use Rattle.chain_laws.specs.Removals.{removed};
 
 use super::pointers::BarePtr;
 use super::{
-    Limited, Slots, Unlimited, interlinks, interlinks_at, neighbors_of, row_of, walk_from,
+    Limited, Slots, Unlimited, first_at, interlinks, interlinks_at, neighbors_of, ptr, row_of,
+    walk_from,
 };
 use crate::{ChainArenaTrait, LinkInsertKind};
 use arena_base::ArenaTrait;
-use arena_ptr::{Gen32, InvalidationResult, Inx32, Ptr, PtrInx, SlotStack, ToolPtr};
+use arena_ptr::{InvalidationResult, Ptr, PtrInx, SlotStack, ToolPtr};
 use std::alloc::Global;
 use std::process::Abort;
 use std::test::Fail;
@@ -68,8 +69,7 @@ fn check_table<P: Ptr, S: SlotStack<Item = Slots<P>>>(
 
 #[test]
 fn removal_table(rt: HostRuntime) -> Result<(), Fail> {
-    let inx = Inx32::new(2).ok_or("an index")?;
-    let again = ToolPtr::_from_raw(inx, Gen32::new(3).ok_or("a generation")?);
+    let again = ptr(2, 3).ok_or("a pointer")?;
     assert_eq!(rt;
         check_table::<ToolPtr, Unlimited<ToolPtr>>(&rt, rt.alloc())?,
         again
@@ -79,7 +79,7 @@ fn removal_table(rt: HostRuntime) -> Result<(), Fail> {
         again
     );
     let bare = check_table::<BarePtr, Unlimited<BarePtr>>(&rt, rt.alloc())?;
-    assert_eq!(rt; Some(bare), super::first_at(2));
+    assert_eq!(rt; Some(bare), first_at(2));
     Ok(())
 }
 
@@ -143,8 +143,7 @@ fn a_renewed_link_stays_in_its_chain(rt: HostRuntime) -> Result<(), Fail> {
     assert_eq!(rt; ptrs.len(), 2);
     let (a, b) = (ptrs[0], ptrs[1]);
     let renewed = arena.invalidate(a).allow();
-    let third = Gen32::new(3).ok_or("a generation")?;
-    assert_eq!(rt; renewed, Some(ToolPtr::_from_raw(a.inx(), third)));
+    assert_eq!(rt; renewed, ptr(1, 3));
     assert!(rt; !arena.contains(a));
     assert_eq!(rt; neighbors_of(&arena, b), Some((renewed, None)));
     Ok(())

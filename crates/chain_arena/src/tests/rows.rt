@@ -2,11 +2,12 @@
 
 use super::pointers::BarePtr;
 use super::{
-    Limited, Slots, Unlimited, first_at, interlinks_at, lone_links, neighbors_of, row_of, walk_from,
+    Limited, Slots, Unlimited, first_at, interlinks_at, lone_links, neighbors_of, ptr, row_of,
+    walk_from,
 };
 use crate::{ChainArenaTrait, Link, LinkInsertKind, LinkNoGen};
 use arena_base::ArenaTrait;
-use arena_ptr::{Gen32, Inx32, Ptr, SlotStack, ToolPtr};
+use arena_ptr::{Inx32, Ptr, SlotStack, ToolPtr};
 use std::alloc::Global;
 use std::process::Abort;
 use std::test::Fail;
@@ -94,8 +95,7 @@ fn check_refused<P: Ptr, S: SlotStack<Item = Slots<P>>>(
 #[test]
 fn refuses_invalid_pointers(rt: HostRuntime) -> Result<(), Fail> {
     let beyond: ToolPtr = first_at(2).ok_or("a pointer")?;
-    let inx = Inx32::new(1).ok_or("an index")?;
-    let later = ToolPtr::_from_raw(inx, Gen32::new(3).ok_or("a generation")?);
+    let later = ptr(1, 3).ok_or("a pointer")?;
     let stale = [ToolPtr::invalid(), later, beyond];
     check_refused::<ToolPtr, Unlimited<ToolPtr>>(&rt, rt.alloc(), &stale)?;
     check_refused::<ToolPtr, Limited<ToolPtr>>(&rt, rt.alloc(), &stale)?;

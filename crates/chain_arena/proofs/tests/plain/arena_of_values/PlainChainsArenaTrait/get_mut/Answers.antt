@@ -1,0 +1,18 @@
+-- The value at the index of a valid pointer is lent.
+use Rattle.std.proofs.Common.{refl}
+use Rattle.arena_base.specs.Arena.{entry_at}
+use Rattle.chain_arena.specs.ChainArena.{values_of}
+use Rattle.chain_arena.proofs.Lending.{lent_some, lent_value}
+use Rattle.chain_arena.proofs.tests.plain.arena_of_values.PlainChainsArenaTrait.get_mut.Goals as goal
+
+pub returns-then-contains : goal.returns-then-contains
+returns-then-contains g c =
+    let entry = entry_at (values_of c.args.self.now) in
+    let valid = c.contains.ensures.0 c.if-contains.true in (
+      (refl, (λ w. rw (← c.inx.ensures) (c.get_inx_mut.follows.holds w)), c.get_inx_mut.follows.holds-at-none),
+      record {
+        writes_back = tt;
+        some = (λ _. valid, λ _. lent_some entry _ _ c.get_inx_mut.result c.inx.ensures valid c.get_inx_mut.ensures.value);
+        value = lent_value entry _ _ c.get_inx_mut.result c.inx.ensures valid c.get_inx_mut.ensures.value;
+      },
+    )
