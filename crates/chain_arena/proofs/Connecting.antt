@@ -60,11 +60,7 @@ module _ {Gen I T : Type 0} (number : I → ℕ) where
     (λ can. truth_of_not b (sym (none_of_map number second.prev (sym (prev_of-seen a q second at_q) ∙ can.no_prev)) ∙ tells)),
   )
 
-  -- they may not where the first has a next
-  pub has_next : (a : Arena Gen (LinkBody I T)) (p q : ℕ × Gen) (first : LinkBody I T) → entry_at a p.0 ≡ Some (p.1, first) → is_some first.next ≡ true → CanConnect (entry_at (values_of (seen_links number a))) (shown (seen_links number a)) p q → ⊥
-  has_next a p q first at_p some can = let none = none_of_map number first.next (sym (next_of-seen a p first at_p) ∙ can.no_next) in let h : false ≡ true = sym none ∙ some in cc
-
-  -- nor where a pointer is not valid
+  -- they may not where a pointer is not valid
   pub not_valid : (a : Arena Gen (LinkBody I T)) (p : ℕ × Gen) → (IsValidPtr a p → ⊥) → IsValidPtr (values_of (seen_links number a)) p → ⊥
   not_valid a p invalid valid = invalid ((same_valid a p).1 valid)
 

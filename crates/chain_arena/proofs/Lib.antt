@@ -1,4 +1,3 @@
-pub mod Behind
 pub mod Connecting
 pub mod Inserting
 pub mod Iterating
@@ -6,8 +5,6 @@ pub mod Lending
 pub mod Listing
 pub mod Mapping
 pub mod Outcomes
-pub mod Placing
-pub mod Plainly
 pub mod Relinking
 pub mod Seeing
 pub mod Unlinking

@@ -30,11 +30,7 @@ module _ {Gen T : Type 0} where
   map-if true x y = refl
   map-if false x y = refl
 
-  -- growth ..
-  pub shown-grown : (a b : Arena Gen (LinkSeen T)) → b ≡ with_capacity_of a b → shown b ≡ shown a
-  shown-grown a b grown = ap (λ (x : Arena Gen (LinkSeen T)). shown x) grown
-
-  -- .. a write of a value ..
+  -- a write of a value ..
   pub shown-written : (a b : Arena Gen (LinkSeen T)) (i : ℕ) (t : T) → b ≡ with_value_at a i t → shown b ≡ shown a
   shown-written a b i t written = ap (λ (x : Arena Gen (LinkSeen T)). shown x) written ∙ fun_ext (λ j.
       ap (option_map interlinks_of) (slot_at-changed a.slots i j (option_map (on_value (with_value_in t))) refl)

@@ -37,10 +37,6 @@ module _ {Gen X Y : Type 0} (f : X → Y) where
   first-map [] = refl
   first-map (e ∷ es) = refl
 
-  first-append : (es rest : List ((ℕ × Gen) × X)) → first_key (map on_entry es ++ map on_entry rest) ≡ first_key (es ++ rest)
-  first-append [] rest = first-map rest
-  first-append (e ∷ es) rest = refl
-
   reverse-map : (es : List ((ℕ × Gen) × X)) → reverse (map on_entry es) ≡ map on_entry (reverse es)
   reverse-map [] = refl
   reverse-map (e ∷ es) = reverse-append (on_entry e ∷ []) (map on_entry es)

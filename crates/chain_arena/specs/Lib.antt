@@ -2,5 +2,3 @@ pub mod ChainArena
 pub mod Links
 pub mod Walkers
 pub mod ChainArenaLaws
-pub mod Plain
-pub mod Behind

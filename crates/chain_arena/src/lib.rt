@@ -8,8 +8,6 @@ mod impl_arena_trait;
 mod impl_chain_arena_trait;
 mod interlinks;
 mod links;
-#[cfg(test)]
-mod tests;
 
 pub use chain_arena::ChainArena;
 pub use chain_iterators::ChainIter;

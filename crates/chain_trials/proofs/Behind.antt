@@ -1,0 +1,73 @@
+-- A link that is added behind another, in any arena of links, or taken out again.
+use Rattle.std.proofs.Common.{◌≡◌, ◌≢◌, ℕ, suc, ◌<◌, List, [], ◌∷◌, ◌++◌, Option, None, Some, refl, ap, sym, ◌∙◌, subst, arith, ⊎_elim}
+use Rattle.std.specs.Prelude.{◌==◌, cond, is_some, true, false, OnSome}
+use Rattle.std.proofs.lemmas.Bool.{cases_eq}
+use Rattle.chain_laws.specs.Chains.{Shown, Chain, linear, items, Has, IsChain}
+use Rattle.chain_laws.specs.Operations.{joined, with_lone}
+use Rattle.chain_laws.proofs.Agreement.{if_same, if_other}
+use Rattle.chain_laws.proofs.Alone.{with_lone_adds}
+use Rattle.chain_laws.proofs.Joining.{joined_connects}
+use Rattle.chain_laws.proofs.Unique.{chain_valid}
+use Rattle.arena_base.specs.Entries.{found, without, RisesFrom}
+use Rattle.chain_trials.specs.Behind.{Extends}
+use Rattle.chain_arena.specs.ChainArena.{IsInserted}
+
+none_of : {X : Type 0} (o : Option X) → is_some o ≡ false → o ≡ None
+none_of None is = refl
+none_of (Some x) is = absurd (let h = is in cc)
+
+module _ {Gen T : Type 0} where
+  -- an index below the entries finds none
+  found-low : (i j : ℕ) (es : List ((ℕ × Gen) × T)) → i < j → RisesFrom j es → found i es ≡ None
+  found-low i j [] below rises = refl
+  found-low i j (e ∷ es) below rises = if_other e.0.0 i (Some (e.0.1, e.1)) (found i es) (λ is. absurd (omega (arith, is, below, rises.0)))
+      ∙ found-low i (suc e.0.0) es (omega (arith, below, rises.0)) rises.1
+
+  -- a removed index finds nothing, and every other one what it did
+  found-gone : (n j : ℕ) (es : List ((ℕ × Gen) × T)) → RisesFrom j es → found n (without n es) ≡ None
+  found-gone n j [] rises = refl
+  found-gone n j (e ∷ es) rises = ⊎_elim
+      (λ is. ap (found n) (if_same e.0.0 n es (e ∷ without n es) is) ∙ found-low n (suc e.0.0) es (omega (arith, is)) rises.1)
+      (λ other. ap (found n) (if_other e.0.0 n es (e ∷ without n es) other)
+      ∙ (if_other e.0.0 n (Some (e.0.1, e.1)) (found n (without n es)) other ∙ found-gone n (suc e.0.0) es rises.1))
+      (cases_eq e.0.0 n)
+
+  found-kept : (i n : ℕ) (es : List ((ℕ × Gen) × T)) → i ≢ n → found i (without n es) ≡ found i es
+  found-kept i n [] other = refl
+  found-kept i n (e ∷ es) other = ⊎_elim
+      (λ is. ap (found i) (if_same e.0.0 n es (e ∷ without n es) is) ∙ sym (if_other e.0.0 i (Some (e.0.1, e.1)) (found i es) (λ same. other (sym same ∙ is))))
+      (λ differs. ap (found i) (if_other e.0.0 n es (e ∷ without n es) differs) ∙ ap (cond (e.0.0 == i) (Some (e.0.1, e.1))) (found-kept i n es other))
+      (cases_eq e.0.0 n)
+
+module _ {Gen T : Type 0} (old mid : ℕ → Option (Gen × T)) (q : ℕ × Gen) (t : T) (inserted : IsInserted old mid q t) where
+  -- what was inserted and taken out again leaves what was there
+  pub taken_back : (new : ℕ → Option (Gen × T)) (es fs : List ((ℕ × Gen) × T)) → RisesFrom 1 es → ((i : ℕ) → found i es ≡ mid i) → ((i : ℕ) → found i fs ≡ new i) → fs ≡ without q.0 es
+      → (i : ℕ) → new i ≡ old i
+  taken_back new es fs rises was finds gone i =
+      let left : new i ≡ found i (without q.0 es) = sym (finds i) ∙ ap (found i) gone in
+      left ∙ ⊎_elim
+      (λ is. ap (λ k. found k (without q.0 es)) is ∙ (found-gone q.0 1 es rises ∙ (sym inserted.free ∙ ap old (sym is))))
+      (λ other. found-kept i q.0 es other ∙ (was i ∙ inserted.rest i other))
+      (cases_eq i q.0)
+
+  -- nothing was shown where it went
+  pub not_shown : (interlinks : Shown) → is_some (interlinks q.0) ≡ is_some (old q.0) → interlinks q.0 ≡ None
+  not_shown interlinks stands = none_of (interlinks q.0) (stands ∙ ap is_some inserted.free)
+
+-- a link that was added alone and joined makes the chain longer
+pub extends : (old mid new : Shown) (p q : ℕ) → old q ≡ None → mid ≡ with_lone old q → new ≡ joined mid p q → Extends old new p q
+extends old mid new p q none alone joins =
+    let lone = with_lone_adds old q none in
+    let tied = joined_connects (with_lone old q) p q in
+    let absent : (c : Chain) → IsChain old c → Has (items c) q → ⊥ = λ c is has. let both = sym none ∙ (chain_valid old c q is has).shows in absurd (cc) in
+    subst (λ (s : Shown). Extends old s p q) (sym (joins ∙ ap (λ (m : Shown). joined m p q) alone)) (record {
+      longer = λ x is.
+          tied.two x [] ((lone.rest (linear (x ++ p ∷ [])) (absent (linear (x ++ p ∷ [])) is)).0 is) lone.alone (absent (linear (x ++ p ∷ [])) is);
+      rest = λ c without_p without_q.
+          let first = lone.rest c without_q in
+          let second = tied.rest c without_p without_q in (λ h. second.0 (first.0 h), λ h. first.1 (second.1 h));
+    })
+
+pub some_holds : {X Q : Type 0} (o : Option X) → is_some o ≡ true → OnSome o Q → Q
+some_holds None some q = absurd (let h = some in cc)
+some_holds (Some x) some q = q

@@ -1,0 +1,35 @@
+//! The rows that any arena of links meets, at the chain arena over both stacks and at an arena that hands each call on.
+
+use super::wrapped::Wrapped;
+use super::{Chains, LimitedChains, behind, calls, removal, rows};
+use arena_ptr::ToolPtr;
+use chain_arena::ChainArenaTrait;
+use std::alloc::Global;
+use std::process::Abort;
+use std::test::Fail;
+
+// Each row that is known of an arena of links by its traits alone.
+fn check_all<A: ChainArenaTrait<ToolPtr, u32> + Drop>(
+    rt: &impl Abort,
+    alloc: Global,
+) -> Result<(), Fail> {
+    behind::check_new::<A>(rt, alloc);
+    rows::check_rows::<A>(rt, alloc)?;
+    removal::check_removals::<A>(rt, alloc)?;
+    calls::check_calls::<A>(rt, alloc)
+}
+
+#[test]
+fn a_chain_arena(rt: HostRuntime) -> Result<(), Fail> {
+    check_all::<Chains>(&rt, rt.alloc())
+}
+
+#[test]
+fn a_chain_arena_over_a_limited_stack(rt: HostRuntime) -> Result<(), Fail> {
+    check_all::<LimitedChains>(&rt, rt.alloc())
+}
+
+#[test]
+fn an_arena_that_hands_each_call_on(rt: HostRuntime) -> Result<(), Fail> {
+    check_all::<Wrapped<Chains>>(&rt, rt.alloc())
+}

@@ -1,0 +1,211 @@
+//! A second arena of links for generic code: it hands each call on to another arena, of which it knows the contract
+//! alone, so that it is an arena of links by the clauses of the traits and nothing else.
+
+use arena_base::{Advancer, ArenaTrait, CompactArenaTrait};
+use arena_ptr::{
+    AllocError, ChainInsertionError, InvalidationOption, InvalidationResult, Ptr, ReallocationError,
+};
+use chain_arena::{ChainArenaTrait, Link, LinkInsertKind, LinkNoGen};
+use std::alloc::Global;
+
+// An arena around an arena.
+#[derive(Drop)]
+pub(super) struct Wrapped<A> {
+    inner: A,
+}
+
+// An advancer around an advancer.
+#[derive(Drop)]
+pub(super) struct WrappedAdvancer<V> {
+    inner: V,
+}
+
+impl<A, V: Advancer<A>> Advancer<Wrapped<A>> for WrappedAdvancer<V> {
+    type Item = V::Item;
+
+    ghost gives = { λ a arena answer b. V.gives a.inner arena.inner answer b.inner };
+
+    ghost is_spent = { λ a. V.is_spent a.inner };
+
+    ghost stays_spent = { λ a b arena answer spent given. V.stays_spent a.inner b.inner arena.inner answer spent given };
+
+    fn advance(&mut self, collection: &Wrapped<A>) -> Option<V::Item> {
+        self.inner.advance(&collection.inner)
+    }
+
+    fn empty() -> Self {
+        WrappedAdvancer { inner: V::empty() }
+    }
+}
+
+impl<P: Ptr, T: Drop, A: ArenaTrait<P, T>> ArenaTrait<P, T> for Wrapped<A> {
+    type PtrAdvancer = WrappedAdvancer<A::PtrAdvancer>;
+
+    ghost seen = { λ w. A.seen w.inner };
+
+    ghost entry = { λ w. A.entry w.inner };
+
+    ghost looks = { λ v. A.looks v.inner };
+
+    ghost starts = { λ n w. A.starts n w.inner };
+
+    ghost grows = { λ v w. A.grows v.inner w.inner };
+
+    ghost writes = { λ v i t w. A.writes v.inner i t w.inner };
+
+    ghost renews = { λ v i w. A.renews v.inner i w.inner };
+
+    ghost removes = { λ v i w. A.removes v.inner i w.inner };
+
+    ghost clears = { λ v w. A.clears v.inner w.inner };
+
+    ghost rises = { λ w. A.rises w.inner };
+
+    ghost looked_up = { λ w. A.looked_up w.inner };
+
+    ghost advances = { λ a b w answer given. A.advances a.inner b.inner w.inner answer given };
+
+    fn new(alloc: Global) -> Self {
+        Wrapped {
+            inner: A::new(alloc),
+        }
+    }
+
+    fn with_min_capacity(alloc: Global, n: usize) -> Result<Self, AllocError> {
+        match A::with_min_capacity(alloc, n) {
+            Ok(inner) => Ok(Wrapped { inner }),
+            Err(refusal) => Err(refusal),
+        }
+    }
+
+    fn capacity(&self) -> usize {
+        self.inner.capacity()
+    }
+
+    fn max_capacity(&self) -> Option<usize> {
+        self.inner.max_capacity()
+    }
+
+    fn len(&self) -> usize {
+        self.inner.len()
+    }
+
+    fn is_empty(&self) -> bool {
+        self.inner.is_empty()
+    }
+
+    fn reallocate_min_capacity(&mut self, n: usize) -> Result<(), ReallocationError> {
+        self.inner.reallocate_min_capacity(n)
+    }
+
+    fn singular_generation(&self) -> Option<P::Gen> {
+        self.inner.singular_generation()
+    }
+
+    fn contains(&self, p: P) -> bool {
+        self.inner.contains(p)
+    }
+
+    fn get(&self, p: P) -> Option<&T> {
+        self.inner.get(p)
+    }
+
+    fn get_mut(&mut self, p: P) -> Option<&mut T> {
+        self.inner.get_mut(p)
+    }
+
+    fn get_inx(&self, i: P::Inx) -> Option<(P::Gen, &T)> {
+        self.inner.get_inx(i)
+    }
+
+    fn get_inx_mut(&mut self, i: P::Inx) -> Option<&mut T> {
+        self.inner.get_inx_mut(i)
+    }
+
+    fn find_first_inx_ptr(&self) -> Option<P> {
+        self.inner.find_first_inx_ptr()
+    }
+
+    fn find_last_inx_ptr(&self) -> Option<P> {
+        self.inner.find_last_inx_ptr()
+    }
+
+    fn advancer(&self) -> WrappedAdvancer<A::PtrAdvancer> {
+        WrappedAdvancer {
+            inner: self.inner.advancer(),
+        }
+    }
+
+    fn advancer_inx(&self, i: P::Inx, rev: bool) -> WrappedAdvancer<A::PtrAdvancer> {
+        WrappedAdvancer {
+            inner: self.inner.advancer_inx(i, rev),
+        }
+    }
+
+    fn invalidate(&mut self, p: P) -> InvalidationResult<P> {
+        self.inner.invalidate(p)
+    }
+
+    fn remove(&mut self, p: P) -> InvalidationResult<T> {
+        self.inner.remove(p)
+    }
+
+    fn remove_inx(&mut self, i: P::Inx) -> InvalidationResult<(P::Gen, T)> {
+        self.inner.remove_inx(i)
+    }
+
+    fn clear(&mut self) -> InvalidationOption<()> {
+        self.inner.clear()
+    }
+}
+
+impl<P: Ptr, T: Drop, A: CompactArenaTrait<P, T>> CompactArenaTrait<P, T> for Wrapped<A> {}
+
+impl<P: Ptr, T: Drop, A: ChainArenaTrait<P, T>> ChainArenaTrait<P, T> for Wrapped<A> {
+    ghost interlinks = { λ w. A.interlinks w.inner };
+
+    ghost stand = { λ w i. A.stand w.inner i };
+
+    ghost grown = { λ v w grows. A.grown v.inner w.inner grows };
+
+    ghost written = { λ v w i t writes. A.written v.inner w.inner i t writes };
+
+    ghost renewed = { λ v w i renews. A.renewed v.inner w.inner i renews };
+
+    ghost passed_over = { λ v w i removes. A.passed_over v.inner w.inner i removes };
+
+    fn insert_reallocating(
+        &mut self,
+        kind: LinkInsertKind,
+        t: T,
+    ) -> Result<P, ChainInsertionError> {
+        self.inner.insert_reallocating(kind, t)
+    }
+
+    fn get_link(&self, p: P) -> Option<Link<P, &T>> {
+        self.inner.get_link(p)
+    }
+
+    fn get_link_no_gen(&self, p: P) -> Option<&LinkNoGen<P, T>> {
+        self.inner.get_link_no_gen(p)
+    }
+
+    fn get_inx_link_no_gen(&self, i: P::Inx) -> Option<(P::Gen, &LinkNoGen<P, T>)> {
+        self.inner.get_inx_link_no_gen(i)
+    }
+
+    fn connect(&mut self, p: P, q: P) -> Option<()> {
+        self.inner.connect(p, q)
+    }
+
+    fn remove_link_no_gen(&mut self, p: P) -> InvalidationResult<LinkNoGen<P, T>> {
+        self.inner.remove_link_no_gen(p)
+    }
+
+    fn remove_inx_link_no_gen(
+        &mut self,
+        i: P::Inx,
+    ) -> InvalidationResult<(P::Gen, LinkNoGen<P, T>)> {
+        self.inner.remove_inx_link_no_gen(i)
+    }
+}
