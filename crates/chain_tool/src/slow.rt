@@ -9,4 +9,4 @@ mod walks;
 pub use chains::SlowChain;
 pub use checks::Row;
 pub use finds::chains_of;
-pub use walks::walk_of;
+pub use walks::{place_of, walk_of};

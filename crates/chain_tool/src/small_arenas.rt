@@ -1,71 +1,79 @@
 //! Every arena of up to four links: the chain arena beside the plain slow program.
 
-use crate::slow::{Row, SlowChain, chains_of, walk_of};
+use crate::slow::{Row, SlowChain, chains_of, place_of, walk_of};
+use crate::tests::{Links, same};
 use arena_base::ArenaTrait;
 use arena_ptr::{Inx32, Ptr, ToolPtr};
-use chain_arena::{ChainArena, ChainArenaTrait, LinkInsertKind, LinkNoGen};
-use std::alloc::{AllocError, Global};
+use chain_arena::{ChainArenaTrait, LinkInsertKind, LinkNoGen};
+use std::alloc::Global;
 use std::process::Abort;
-use std::test::Fail;
 
 // An index as a number.
-fn number_of(i: Inx32) -> usize {
-    i.get() as usize
+fn number_of(i: Option<Inx32>) -> Option<usize> {
+    match i {
+        Some(i) => Some(i.get() as usize),
+        None => None,
+    }
 }
 
 // The interlinks of a link, as numbers.
-fn interlinks<T>(link: &LinkNoGen<ToolPtr, T>) -> (Option<usize>, Option<usize>) {
-    (link.prev().map(number_of), link.next().map(number_of))
-}
-
-// An arena of `count` lone links, each with its index as its value, and their pointers in order.
-fn lone_links(alloc: Global, count: u32) -> Result<(ChainArena<ToolPtr, u32>, Vec<ToolPtr>), Fail> {
-    let mut arena = ChainArena::new(alloc);
-    let mut ptrs = Vec::new(alloc);
-    for k in 1..=count {
-        ptrs.push(arena.insert_reallocating(LinkInsertKind::Disconnected, k)?)?;
+fn interlinks(link: Option<&LinkNoGen<ToolPtr, u32>>) -> Row {
+    match link {
+        Some(link) => Some((number_of(link.prev()), number_of(link.next()))),
+        None => None,
     }
-    Ok((arena, ptrs))
 }
 
-// The indexes of the links that `iter_chain` yields, each of which comes with its pointer of now and its value.
-fn walk_from(
-    rt: &impl Abort,
-    alloc: Global,
-    arena: &ChainArena<ToolPtr, u32>,
-    p: ToolPtr,
-) -> Result<Option<Vec<usize>>, Fail> {
-    let Some(links) = arena.iter_chain(p) else {
-        return Ok(None);
-    };
+// Adds a lone link.
+fn add(rt: &impl Abort, arena: &mut Links, value: u32) -> ToolPtr {
+    let added = arena.insert_reallocating(LinkInsertKind::Disconnected, value);
+    added.expect(rt, "room for a link")
+}
+
+// The number of a link that `iter_chain` yields, which comes with its pointer of now and its value.
+fn passed(rt: &impl Abort, arena: &Links, p: ToolPtr, value: u32) -> usize {
+    assert!(rt; arena.contains(p) && value == p.inx().get());
+    p.inx().get() as usize
+}
+
+// The numbers of the links that `iter_chain` yields.
+fn walk_from(rt: &impl Abort, alloc: Global, arena: &Links, p: ToolPtr) -> Vec<usize> {
     let mut walk = Vec::new(alloc);
-    for (q, link) in links {
-        assert!(rt; arena.contains(q));
-        assert_eq!(rt; link.t, q.inx().get());
-        walk.push(number_of(q.inx()))?;
+    for (q, link) in arena.iter_chain(p).expect(rt, "a walk") {
+        let number = passed(rt, arena, q, link.t);
+        walk.push(number).expect(rt, "memory");
     }
-    Ok(Some(walk))
+    walk
 }
 
 // An arena and the pointers of its links in order.
 #[derive(Drop)]
 struct Small {
-    arena: ChainArena<ToolPtr, u32>,
+    arena: Links,
     ptrs: Vec<ToolPtr>,
 }
 
 impl Small {
+    // An arena of `count` lone links, each with its index as its value.
+    fn lone(rt: &impl Abort, alloc: Global, count: u32) -> Small {
+        let mut arena = Links::new(alloc);
+        let mut ptrs = Vec::new(alloc);
+        for k in 1..=count {
+            ptrs.push(add(rt, &mut arena, k)).expect(rt, "memory");
+        }
+        Small { arena, ptrs }
+    }
+
     // Lone links, and then each with its next one, where it has one: `nexts` has that index, or 0. `None` where two
     // links have the same next.
-    fn build(alloc: Global, count: u32, nexts: [usize; 4]) -> Result<Option<Small>, Fail> {
-        let (arena, ptrs) = lone_links(alloc, count)?;
-        let mut small = Small { arena, ptrs };
+    fn build(rt: &impl Abort, alloc: Global, count: u32, nexts: [usize; 4]) -> Option<Small> {
+        let mut small = Small::lone(rt, alloc, count);
         for (k, next) in nexts.iter().enumerate() {
             if *next != 0 && !small.connect(k + 1, *next) {
-                return Ok(None);
+                return None;
             }
         }
-        Ok(Some(small))
+        Some(small)
     }
 
     // Whether the link at j comes after the link at i from now on.
@@ -86,91 +94,137 @@ impl Small {
     }
 
     // What the arena shows.
-    fn rows(&self, alloc: Global) -> Result<Vec<Row>, Fail> {
+    fn rows(&self, rt: &impl Abort, alloc: Global) -> Vec<Row> {
         let mut rows = Vec::new(alloc);
         for p in &self.ptrs {
-            rows.push(self.arena.get_link_no_gen(*p).map(interlinks))?;
+            let row = interlinks(self.arena.get_link_no_gen(*p));
+            rows.push(row).expect(rt, "memory");
         }
-        Ok(rows)
+        rows
     }
 }
 
 // The chains of an arena, by the slow program.
-fn slow_chains(rt: &impl Abort, alloc: Global, small: &Small) -> Result<Vec<SlowChain>, Fail> {
-    let rows = small.rows(alloc)?;
-    Ok(chains_of(alloc, &rows)?.expect(rt, "an arena has chains"))
+fn slow_chains(rt: &impl Abort, alloc: Global, rows: &[Row]) -> Vec<SlowChain> {
+    let found = chains_of(alloc, rows).expect(rt, "memory");
+    found.expect(rt, "an arena has chains")
+}
+
+// The walk from a link, by the slow program.
+fn slow_walk(rt: &impl Abort, alloc: Global, rows: &[Row], i: usize) -> Vec<usize> {
+    let found = walk_of(alloc, rows, i).expect(rt, "memory");
+    found.expect(rt, "a link has a walk")
+}
+
+// Whether the link at k can have this next one, or none by 0, among `count` links.
+fn can_have(count: usize, k: usize, next: usize) -> bool {
+    next == 0 || (k <= count && next <= count)
 }
 
 // The next one of each link, or 0: the digits of a code to the base five. `None` where they name more than `count`
 // links.
 fn nexts_of(count: u32, code: usize) -> Option<[usize; 4]> {
     let count = count as usize;
-    let nexts = [code % 5, code / 5 % 5, code / 25 % 5, code / 125];
-    for (k, next) in nexts.iter().enumerate() {
-        if *next > count || (*next != 0 && k >= count) {
-            return None;
+    let [a, b, c, d] = [code % 5, code / 5 % 5, code / 25 % 5, code / 125];
+    let first = can_have(count, 1, a) && can_have(count, 2, b);
+    if first && can_have(count, 3, c) && can_have(count, 4, d) {
+        Some([a, b, c, d])
+    } else {
+        None
+    }
+}
+
+// The linear chain whose last item is i, or else whose first item is i.
+fn linear(chains: &[SlowChain], is_last: bool, i: usize) -> Option<&SlowChain> {
+    for c in chains {
+        let items = c.items();
+        let item = if is_last { items.last() } else { items.first() };
+        if !c.cyclic && item == Some(&i) {
+            return Some(c);
         }
     }
-    Some(nexts)
-}
-
-// The linear chain that ends in i.
-fn ending_in(chains: &[SlowChain], i: usize) -> Option<&SlowChain> {
-    chains
-        .iter()
-        .find(|c| !c.cyclic && c.items().last().copied() == Some(i))
-}
-
-// The linear chain that starts with i.
-fn starting_with(chains: &[SlowChain], i: usize) -> Option<&SlowChain> {
-    chains
-        .iter()
-        .find(|c| !c.cyclic && c.items().first().copied() == Some(i))
+    None
 }
 
 // Whether the chain is among the chains.
 fn have(chains: &[SlowChain], items: &[usize], cyclic: bool) -> bool {
-    chains
-        .iter()
-        .any(|c| c.cyclic == cyclic && c.items() == items)
+    for c in chains {
+        if c.cyclic == cyclic && c.items() == items {
+            return true;
+        }
+    }
+    false
+}
+
+// Some items and then others.
+fn joined(rt: &impl Abort, alloc: Global, front: &[usize], back: &[usize]) -> Vec<usize> {
+    let mut items = front.to_vec(alloc).expect(rt, "memory");
+    items.extend_from_slice(back).expect(rt, "memory");
+    items
 }
 
 // The items from the least one on, once round.
-fn from_least(alloc: Global, items: &[usize]) -> Result<Vec<usize>, AllocError> {
-    let least = items.iter().copied().min();
-    let place = items.iter().position(|x| Some(*x) == least).unwrap_or(0);
-    let mut turned = items[place..].to_vec(alloc)?;
-    turned.extend_from_slice(&items[..place])?;
-    Ok(turned)
+fn from_least(rt: &impl Abort, alloc: Global, items: &[usize]) -> Vec<usize> {
+    let least = items.iter().copied().min().expect(rt, "an item");
+    let place = place_of(items, least).expect(rt, "its place");
+    joined(rt, alloc, &items[place..], &items[..place])
 }
 
-// The new chains are the old ones, but for the join of the chain that ends in i with the one that starts with j.
-fn check_join(
-    rt: &impl Abort,
-    alloc: Global,
-    old: &[SlowChain],
-    new: &[SlowChain],
-    front: &SlowChain,
-    back: &SlowChain,
-) -> Result<(), Fail> {
-    if front.items() == back.items() {
-        assert_eq!(rt; new.len(), old.len());
-        let closed = from_least(alloc, front.items())?;
-        assert!(rt; have(new, &closed, true));
-    } else {
-        assert_eq!(rt; new.len(), old.len().saturating_sub(1));
-        let mut joined = front.items().to_vec(alloc)?;
-        joined.extend_from_slice(back.items())?;
-        assert!(rt; have(new, &joined, false));
-    }
+// Whether the new chains have each old one but for two.
+fn have_others(new: &[SlowChain], old: &[SlowChain], front: &SlowChain, back: &SlowChain) -> bool {
     for c in old {
         let parted = c.items() == front.items() || c.items() == back.items();
-        assert!(rt; parted || have(new, c.items(), c.cyclic));
+        if !parted && !have(new, c.items(), c.cyclic) {
+            return false;
+        }
     }
-    Ok(())
+    true
 }
 
-// A connection of i and j answers Some exactly where i ends a chain and j starts one, and joins these.
+// Whether the new chains are the old ones, but for the join of the chain that ends in i with the one that starts
+// with j.
+fn is_join(
+    rt: &impl Abort,
+    alloc: Global,
+    new: &[SlowChain],
+    old: &[SlowChain],
+    front: &SlowChain,
+    back: &SlowChain,
+) -> bool {
+    let is_closed = front.items() == back.items();
+    let items = if is_closed {
+        from_least(rt, alloc, front.items())
+    } else {
+        joined(rt, alloc, front.items(), back.items())
+    };
+    let fewer = if is_closed { 0 } else { 1 };
+    new.len() == old.len().saturating_sub(fewer)
+        && have(new, &items, is_closed)
+        && have_others(new, old, front, back)
+}
+
+// Whether a connection of i and j, which went through or did not, is right about what an arena shows before and
+// after: it goes through exactly where i ends a chain and j starts one, and joins these.
+fn is_right(
+    rt: &impl Abort,
+    alloc: Global,
+    connected: bool,
+    before: &[Row],
+    after: &[Row],
+    i: usize,
+    j: usize,
+) -> bool {
+    let old = slow_chains(rt, alloc, before);
+    match (linear(&old, true, i), linear(&old, false, j)) {
+        (Some(front), Some(back)) => {
+            let new = slow_chains(rt, alloc, after);
+            connected && is_join(rt, alloc, &new, &old, front, back)
+        }
+        _ => !connected && before == after,
+    }
+}
+
+// Looks at the connection of i and j in one arena.
 fn check_connect(
     rt: &impl Abort,
     alloc: Global,
@@ -178,70 +232,62 @@ fn check_connect(
     nexts: [usize; 4],
     i: usize,
     j: usize,
-) -> Result<(), Fail> {
-    let mut small = Small::build(alloc, count, nexts)?.expect(rt, "built before");
-    let rows = small.rows(alloc)?;
-    let old = slow_chains(rt, alloc, &small)?;
+) {
+    let mut small = Small::build(rt, alloc, count, nexts).expect(rt, "built before");
+    let before = small.rows(rt, alloc);
     let connected = small.connect(i, j);
-    match (ending_in(&old, i), starting_with(&old, j)) {
-        (Some(front), Some(back)) => {
-            assert!(rt; connected);
-            let new = slow_chains(rt, alloc, &small)?;
-            check_join(rt, alloc, &old, &new, front, back)?;
-        }
-        _ => {
-            assert!(rt; !connected);
-            let after = small.rows(alloc)?;
-            assert_eq!(rt; after.as_slice(), rows.as_slice());
-        }
-    }
-    Ok(())
+    let after = small.rows(rt, alloc);
+    let right = is_right(rt, alloc, connected, &before, &after, i, j);
+    same(
+        rt,
+        "a connection",
+        (nexts, i, j, right),
+        (nexts, i, j, true),
+    );
 }
 
-// All walks and all connections of one arena.
-fn check_arena(
-    rt: &impl Abort,
-    alloc: Global,
-    count: u32,
-    nexts: [usize; 4],
-    small: &Small,
-) -> Result<(), Fail> {
-    let rows = small.rows(alloc)?;
+// Looks at all walks of one arena.
+fn check_walks(rt: &impl Abort, alloc: Global, small: &Small) {
+    let rows = small.rows(rt, alloc);
     for (k, p) in small.ptrs.iter().enumerate() {
-        let walk = walk_from(rt, alloc, &small.arena, *p)?;
-        assert!(rt; walk.is_some());
-        assert_eq!(rt; walk, walk_of(alloc, &rows, k + 1)?);
-        for j in 1..=small.ptrs.len() {
-            check_connect(rt, alloc, count, nexts, k + 1, j)?;
-        }
+        let walk = walk_from(rt, alloc, &small.arena, *p);
+        same(rt, "a walk", walk, slow_walk(rt, alloc, &rows, k + 1));
     }
-    Ok(())
 }
 
-// All arenas of `count` links, and how many they are.
-fn check_arenas(rt: &impl Abort, alloc: Global, count: u32) -> Result<u32, Fail> {
+// Looks at all walks and all connections of the arena of a code, and says whether there is one.
+fn check_arena(rt: &impl Abort, alloc: Global, count: u32, code: usize) -> bool {
+    let Some(nexts) = nexts_of(count, code) else {
+        return false;
+    };
+    let Some(small) = Small::build(rt, alloc, count, nexts) else {
+        return false;
+    };
+    check_walks(rt, alloc, &small);
+    for i in 1..=small.ptrs.len() {
+        for j in 1..=small.ptrs.len() {
+            check_connect(rt, alloc, count, nexts, i, j);
+        }
+    }
+    true
+}
+
+// Looks at all arenas of `count` links, and says how many they are.
+fn check_arenas(rt: &impl Abort, alloc: Global, count: u32) -> u32 {
     let mut seen = 0;
     for code in 0..625 {
-        let Some(nexts) = nexts_of(count, code) else {
-            continue;
-        };
-        if let Some(small) = Small::build(alloc, count, nexts)? {
-            check_arena(rt, alloc, count, nexts, &small)?;
+        if check_arena(rt, alloc, count, code) {
             seen += 1;
         }
     }
-    Ok(seen)
+    seen
 }
 
 // There is an arena for each way in which links can each have at most one next and be next to at most one.
 #[test]
-fn agrees_with_the_slow_program(rt: HostRuntime) -> Result<(), Fail> {
+fn agrees_with_the_slow_program(rt: HostRuntime) {
     for (count, arenas) in [(0, 1), (1, 2), (2, 7), (3, 34), (4, 209)] {
-        assert_eq!(rt;
-            check_arenas(&rt, rt.alloc(), count)?,
-            arenas,
-            "of {count} links"
-        );
+        let seen = check_arenas(&rt, rt.alloc(), count);
+        same(&rt, "arenas", (count, seen), (count, arenas));
     }
-    Ok(())
 }

@@ -10,17 +10,46 @@ use arena_base::{ArenaSlot, ArenaTrait};
 use arena_ptr::{Gen32, LimitedStack, SetMaxCapacity, ToolPtr};
 use chain_arena::{ChainArena, ChainArenaTrait, LinkInsertKind, LinkNoGen};
 use std::alloc::Global;
+use std::fmt::Debug;
 use std::io;
 use std::io::{ErrorKind, Read, Write};
 use std::process::Abort;
 
-/// Runs the program on a text, and looks whether it writes these lines.
-fn expect(rt: &impl Abort, alloc: Global, input: &str, output: &str) -> Result<(), ToolError> {
+/// The arena of a run.
+pub type Links = ChainArena<ToolPtr, u32>;
+
+/// An arena with a limit.
+type Limited = ChainArena<ToolPtr, u32, LimitedStack<ArenaSlot<ToolPtr, LinkNoGen<ToolPtr, u32>>>>;
+
+/// Looks whether a test got what it wants.
+pub fn same<T: PartialEq + Debug + Drop>(rt: &impl Abort, what: &str, got: T, want: T) {
+    assert_eq!(rt; got, want, "{what}");
+}
+
+/// Runs the program on bytes, and looks whether it reads them to their end and writes these.
+fn check(rt: &impl Abort, alloc: Global, what: &str, input: &[u8], output: &[u8]) {
+    let mut reader = input;
+    let mut written = Vec::new(alloc);
+    let result = run(alloc, &mut reader, &mut written);
+    same(rt, what, result, Ok(()));
+    same(rt, what, written.as_slice(), output);
+    same(rt, what, reader.len(), 0);
+}
+
+/// Runs the program on texts, and looks whether it writes these.
+fn check_texts(rt: &impl Abort, alloc: Global, rows: &[(&str, &str)]) {
+    for (input, output) in rows {
+        check(rt, alloc, input, input.as_bytes(), output.as_bytes());
+    }
+}
+
+/// Carries out a text on an arena, and looks whether the program writes these lines.
+fn check_on(rt: &impl Abort, alloc: Global, arena: &mut Links, input: &str, output: &str) {
     let mut reader = input.as_bytes();
     let mut written = Vec::new(alloc);
-    run(alloc, &mut reader, &mut written)?;
-    assert_eq!(rt; written.as_slice(), output.as_bytes(), "at {input:?}");
-    Ok(())
+    let result = run_on(alloc, arena, &mut reader, &mut written);
+    same(rt, input, result, Ok(()));
+    same(rt, input, written.as_slice(), output.as_bytes());
 }
 
 /// The definitions on small texts.
@@ -56,28 +85,24 @@ fn small_texts() {
 }
 
 #[test]
-fn two_lone_links_connected(rt: HostRuntime) -> Result<(), ToolError> {
+fn two_lone_links_connected(rt: HostRuntime) {
     let input = "add alone 10\nadd alone 20\nconnect 1.2 2.2\nchain 1.2\n";
-    expect(
-        &rt,
-        rt.alloc(),
-        input,
-        "at 1.2\nat 2.2\nok\n1.2:10 2.2:20\n",
-    )
+    let output = "at 1.2\nat 2.2\nok\n1.2:10 2.2:20\n";
+    check_texts(&rt, rt.alloc(), &[(input, output)]);
 }
 
 #[test]
-fn first_table(rt: HostRuntime) -> Result<(), ToolError> {
+fn first_table(rt: HostRuntime) {
     let input =
         "add alone 1\nconnect 1.2 1.2\nshow 1.2\nconnect 1.2 1.2\nadd end 1.2 2\nadd alone 2\nadd alone 3\n\
         connect 2.2 3.2\nconnect 3.2 2.2\nchain 3.2\nlen\nbreaknext 3.2\n";
     let output = "at 1.2\nok\nprev 1.2 next 1.2 value 1\nnone\nbad line\nat 2.2\nat 3.2\n\
         ok\nok\n3.2:3 2.2:2\ncount 3\nbad line\n";
-    expect(&rt, rt.alloc(), input, output)
+    check_texts(&rt, rt.alloc(), &[(input, output)]);
 }
 
 #[test]
-fn lines_and_words(rt: HostRuntime) -> Result<(), ToolError> {
+fn lines_and_words(rt: HostRuntime) {
     let rows = [
         ("", ""),
         ("\n\n \n", ""),
@@ -103,14 +128,11 @@ fn lines_and_words(rt: HostRuntime) -> Result<(), ToolError> {
             "bad line\nbad line\nbad line\n",
         ),
     ];
-    for (input, output) in rows {
-        expect(&rt, rt.alloc(), input, output)?;
-    }
-    Ok(())
+    check_texts(&rt, rt.alloc(), &rows);
 }
 
 #[test]
-fn numbers_and_pointers(rt: HostRuntime) -> Result<(), ToolError> {
+fn numbers_and_pointers(rt: HostRuntime) {
     let rows = [
         (
             "add alone 4294967295\nshow 1.2\n",
@@ -139,54 +161,36 @@ fn numbers_and_pointers(rt: HostRuntime) -> Result<(), ToolError> {
             "at 1.2\nprev - next - value 5\n",
         ),
     ];
-    for (input, output) in rows {
-        expect(&rt, rt.alloc(), input, output)?;
-    }
-    Ok(())
+    check_texts(&rt, rt.alloc(), &rows);
 }
 
-/// A line of a command and enough spaces to fill it, without its line feed.
-fn filled(alloc: Global, command: &str, len: usize) -> Result<Vec<u8>, ToolError> {
-    let mut line = Vec::new(alloc);
-    if line.extend_from_slice(command.as_bytes()).is_err() {
-        return Err(ToolError::Memory);
-    }
-    for _ in command.len()..len {
-        if line.push(b' ').is_err() {
-            return Err(ToolError::Memory);
-        }
-    }
-    Ok(line)
+/// A command, enough spaces to fill a line of this length, and what ends the line.
+fn filled(rt: &impl Abort, alloc: Global, command: &str, len: usize, end: &str) -> String {
+    format!(in alloc; "{command:len$}{end}").expect(rt, "memory")
 }
 
 #[test]
-fn lines_of_200_bytes_and_more(rt: HostRuntime) -> Result<(), ToolError> {
+fn lines_of_200_bytes_and_more(rt: HostRuntime) {
     let rows = [
-        ("len", 200, "", "count 0\n"),
-        ("len", 201, "", "bad line\n"),
-        ("len", 199, "\r\n", "count 0\n"),
-        ("len", 200, "\r\n", "bad line\n"),
-        ("len", 200, "\nlen\n", "count 0\ncount 0\n"),
-        ("", 200, "\n", ""),
-        ("", 201, "\n", "bad line\n"),
-        ("", 70000, "\nlen\n", "bad line\ncount 0\n"),
+        ("200 bytes", "len", 200, "", "count 0\n"),
+        ("201 bytes", "len", 201, "", "bad line\n"),
+        ("200 bytes with a return", "len", 199, "\r\n", "count 0\n"),
+        ("201 bytes with a return", "len", 200, "\r\n", "bad line\n"),
+        (
+            "200 bytes and a line",
+            "len",
+            200,
+            "\nlen\n",
+            "count 0\ncount 0\n",
+        ),
+        ("200 spaces", "", 200, "\n", ""),
+        ("201 spaces", "", 201, "\n", "bad line\n"),
+        ("70000 spaces", "", 70000, "\nlen\n", "bad line\ncount 0\n"),
     ];
-    for (command, len, end, output) in rows {
-        let mut line = filled(rt.alloc(), command, len)?;
-        if line.extend_from_slice(end.as_bytes()).is_err() {
-            return Err(ToolError::Memory);
-        }
-        let mut reader = line.as_slice();
-        let mut written = Vec::new(rt.alloc());
-        run(rt.alloc(), &mut reader, &mut written)?;
-        assert_eq!(rt;
-            written.as_slice(),
-            output.as_bytes(),
-            "at {command} {len} {end:?}"
-        );
-        assert!(rt; reader.is_empty(), "input left at {command} {len}");
+    for (what, command, len, end, output) in rows {
+        let input = filled(&rt, rt.alloc(), command, len, end);
+        check(&rt, rt.alloc(), what, input.as_bytes(), output.as_bytes());
     }
-    Ok(())
 }
 
 /// Gives its bytes, a few at a time, and then fails.
@@ -210,28 +214,30 @@ impl Read for FailingReader<'_> {
     }
 }
 
+/// Runs the program on a reader that fails in its third line, and looks at what it did before.
+fn check_reader(rt: &impl Abort, alloc: Global, kind: ErrorKind, step: usize) {
+    let left = b"add alone 1\nlen\nadd alone 2".as_slice();
+    let mut reader = FailingReader { left, step, kind };
+    let mut written = Vec::new(alloc);
+    let mut arena = Links::new(alloc);
+    let result = run_on(alloc, &mut arena, &mut reader, &mut written);
+    same(rt, "the reader fails", result, Err(ToolError::Read));
+    let lines = b"at 1.2\ncount 1\n".as_slice();
+    same(rt, "whole lines are answered", written.as_slice(), lines);
+    same(rt, "the unfinished line is not carried out", arena.len(), 1);
+}
+
 #[test]
-fn a_reader_that_fails(rt: HostRuntime) -> Result<(), ToolError> {
+fn a_reader_that_fails(rt: HostRuntime) {
     for kind in [
         ErrorKind::Other,
         ErrorKind::Interrupted,
         ErrorKind::UnexpectedEof,
     ] {
         for step in [1, 2, 7, 100] {
-            let mut reader = FailingReader {
-                left: b"add alone 1\nlen\nadd alone 2",
-                step,
-                kind,
-            };
-            let mut written = Vec::new(rt.alloc());
-            let mut arena = ChainArena::<ToolPtr, u32>::new(rt.alloc());
-            let result = run_on(rt.alloc(), &mut arena, &mut reader, &mut written);
-            assert_eq!(rt; result, Err(ToolError::Read));
-            assert_eq!(rt; written.as_slice(), b"at 1.2\ncount 1\n".as_slice());
-            assert_eq!(rt; arena.len(), 1, "the unfinished line is not carried out");
+            check_reader(&rt, rt.alloc(), kind, step);
         }
     }
-    Ok(())
 }
 
 /// Takes a few bytes at a time, up to a limit, and then fails. Each second call is interrupted.
@@ -289,107 +295,121 @@ fn failing_writer(
     }
 }
 
-#[test]
-fn a_writer_that_fails(rt: HostRuntime) -> Result<(), ToolError> {
-    let input = b"add alone 1\nadd alone 2\nadd alone 3\n".as_slice();
+/// Runs the program on a writer that fails when it has no room, and looks at what it did before.
+fn check_writer(
+    rt: &impl Abort,
+    alloc: Global,
+    fails_with: Option<ErrorKind>,
+    step: usize,
+    room: usize,
+) {
+    let mut reader = b"add alone 1\nadd alone 2\nadd alone 3\n".as_slice();
     let output = b"at 1.2\nat 2.2\nat 3.2\n".as_slice();
+    let mut writer = failing_writer(alloc, step, room, fails_with);
+    let mut arena = Links::new(alloc);
+    let result = run_on(alloc, &mut arena, &mut reader, &mut writer);
+    same(rt, "the writer fails", result, Err(ToolError::Write));
+    let held = (step, room, output.get(..room));
+    same(
+        rt,
+        "it has what it took",
+        (step, room, Some(writer.held.as_slice())),
+        held,
+    );
+    same(
+        rt,
+        "the line of the last answer is carried out",
+        arena.len(),
+        room / 7 + 1,
+    );
+}
+
+#[test]
+fn a_writer_that_fails(rt: HostRuntime) {
     for fails_with in [None, Some(ErrorKind::Other), Some(ErrorKind::WriteZero)] {
         for step in [1, 3, 100] {
             for room in 0..21 {
-                let mut reader = input;
-                let mut writer = failing_writer(rt.alloc(), step, room, fails_with);
-                let mut arena = ChainArena::<ToolPtr, u32>::new(rt.alloc());
-                let result = run_on(rt.alloc(), &mut arena, &mut reader, &mut writer);
-                assert_eq!(rt; result, Err(ToolError::Write));
-                assert_eq!(rt;
-                    writer.held.as_slice(),
-                    &output[..room],
-                    "at {step}, {room}"
-                );
-                assert_eq!(rt;
-                    arena.len(),
-                    room / 7 + 1,
-                    "the line of the last answer is carried out"
-                );
+                check_writer(&rt, rt.alloc(), fails_with, step, room);
             }
         }
     }
-    Ok(())
 }
 
 #[test]
-fn a_writer_that_is_interrupted(rt: HostRuntime) -> Result<(), ToolError> {
+fn a_writer_that_is_interrupted(rt: HostRuntime) {
     let mut reader = b"add alone 1\nlen\n".as_slice();
     let mut writer = failing_writer(rt.alloc(), 1, 1000, None);
     let result = run(rt.alloc(), &mut reader, &mut writer);
-    assert_eq!(rt; result, Ok(()));
-    assert_eq!(rt; writer.held.as_slice(), b"at 1.2\ncount 1\n".as_slice());
-    Ok(())
+    same(&rt, "it tries again", result, Ok(()));
+    let lines = b"at 1.2\ncount 1\n".as_slice();
+    same(&rt, "all lines come", writer.held.as_slice(), lines);
+}
+
+/// Runs the program on a writer of which a flush fails, and looks at what it wrote before.
+fn check_flush(rt: &impl Abort, alloc: Global, flushes: usize, output: &str) {
+    let mut reader = b"add alone 1\n".as_slice();
+    let mut writer = failing_writer(alloc, 100, 1000, None);
+    writer.flushes = flushes;
+    let result = run(alloc, &mut reader, &mut writer);
+    same(rt, "the flush fails", result, Err(ToolError::Write));
+    same(
+        rt,
+        "lines before it",
+        writer.held.as_slice(),
+        output.as_bytes(),
+    );
 }
 
 #[test]
-fn a_flush_that_fails(rt: HostRuntime) -> Result<(), ToolError> {
+fn a_flush_that_fails(rt: HostRuntime) {
     for (flushes, output) in [(0, ""), (1, "at 1.2\n"), (2, "at 1.2\n")] {
-        let mut reader = b"add alone 1\n".as_slice();
-        let mut writer = failing_writer(rt.alloc(), 100, 1000, None);
-        writer.flushes = flushes;
-        let result = run(rt.alloc(), &mut reader, &mut writer);
-        assert_eq!(rt; result, Err(ToolError::Write));
-        assert_eq!(rt; writer.held.as_slice(), output.as_bytes());
+        check_flush(&rt, rt.alloc(), flushes, output);
     }
-    Ok(())
 }
 
 #[test]
-fn a_given_arena(rt: HostRuntime) -> Result<(), ToolError> {
-    let mut arena = ChainArena::<ToolPtr, u32>::new(rt.alloc());
+fn a_given_arena(rt: HostRuntime) {
+    let mut arena = Links::new(rt.alloc());
     let added = arena.insert_reallocating(LinkInsertKind::Disconnected, 5);
-    assert!(rt; added.is_ok());
-    let mut reader = b"add alone 6\nconnect 2.2 1.2\n".as_slice();
-    let mut written = Vec::new(rt.alloc());
-    run_on(rt.alloc(), &mut arena, &mut reader, &mut written)?;
-    let mut reader = b"chain 2.2".as_slice();
-    run_on(rt.alloc(), &mut arena, &mut reader, &mut written)?;
-    assert_eq!(rt; written.as_slice(), b"at 2.2\nok\n2.2:6 1.2:5\n".as_slice());
-    Ok(())
+    same(&rt, "added", added.is_ok(), true);
+    let input = "add alone 6\nconnect 2.2 1.2\n";
+    check_on(&rt, rt.alloc(), &mut arena, input, "at 2.2\nok\n");
+    check_on(&rt, rt.alloc(), &mut arena, "chain 2.2", "2.2:6 1.2:5\n");
 }
 
 #[test]
-fn removal_table(rt: HostRuntime) -> Result<(), ToolError> {
+fn removal_table(rt: HostRuntime) {
     let input =
         "add alone 1\nadd alone 2\nconnect 1.2 2.2\nconnect 2.2 1.2\nremove 2.2\nshow 1.2\nadd alone 9\n\
         len\nremove 2.2\nremove 1.2 \nremove 1\nremove\n";
     let output = "at 1.2\nat 2.2\nok\nok\nvalue 2\nprev 1.2 next 1.2 value 1\nat 2.3\n\
         count 2\nnone\nvalue 1\nbad line\nbad line\n";
-    expect(&rt, rt.alloc(), input, output)
+    check_texts(&rt, rt.alloc(), &[(input, output)]);
 }
 
 #[test]
-fn a_limited_arena(rt: HostRuntime) -> Result<(), ToolError> {
-    let mut arena: ChainArena<
-        ToolPtr,
-        u32,
-        LimitedStack<ArenaSlot<ToolPtr, LinkNoGen<ToolPtr, u32>>>,
-    > = ChainArena::new(rt.alloc());
-    assert!(rt; arena.set_max_capacity(2).is_ok());
+fn a_limited_arena(rt: HostRuntime) {
+    let mut arena = Limited::new(rt.alloc());
+    same(&rt, "a limit", arena.set_max_capacity(2), Ok(()));
     let mut reader =
         b"add alone 1\nadd alone 2\nadd alone 3\nremove 1.2\nadd alone 3\nlen\n".as_slice();
+    let output = b"at 1.2\nat 2.2\nrefused limit\nvalue 1\nat 1.3\ncount 2\n".as_slice();
     let mut written = Vec::new(rt.alloc());
-    run_on(rt.alloc(), &mut arena, &mut reader, &mut written)?;
-    let output = b"at 1.2\nat 2.2\nrefused limit\nvalue 1\nat 1.3\ncount 2\n";
-    assert_eq!(rt; written.as_slice(), output.as_slice());
-    Ok(())
+    let result = run_on(rt.alloc(), &mut arena, &mut reader, &mut written);
+    same(&rt, "its run", result, Ok(()));
+    same(&rt, "its lines", written.as_slice(), output);
+}
+
+/// The greatest generation.
+fn greatest(rt: &impl Abort) -> Gen32 {
+    Gen32::new(4294967295).expect(rt, "a generation")
 }
 
 #[test]
-fn a_removal_that_overflows(rt: HostRuntime) -> Result<(), ToolError> {
-    let mut arena = ChainArena::<ToolPtr, u32>::new(rt.alloc());
-    let greatest = Gen32::new(4294967295).ok_or(ToolError::Memory)?;
-    arena.set_generation(greatest);
-    let mut reader = b"add alone 5\nremove 1.4294967295\nadd alone 6\n".as_slice();
-    let mut written = Vec::new(rt.alloc());
-    run_on(rt.alloc(), &mut arena, &mut reader, &mut written)?;
-    let output = b"at 1.4294967295\nvalue 5 overflow\nat 1.2\n";
-    assert_eq!(rt; written.as_slice(), output.as_slice());
-    Ok(())
+fn a_removal_that_overflows(rt: HostRuntime) {
+    let mut arena = Links::new(rt.alloc());
+    arena.set_generation(greatest(&rt));
+    let input = "add alone 5\nremove 1.4294967295\nadd alone 6\n";
+    let output = "at 1.4294967295\nvalue 5 overflow\nat 1.2\n";
+    check_on(&rt, rt.alloc(), &mut arena, input, output);
 }

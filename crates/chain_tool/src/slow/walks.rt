@@ -8,8 +8,8 @@ use super::checks::Row;
 use super::finds::chains_of;
 use std::alloc::{AllocError, Global};
 
-// The place of i among the items.
-fn place_of(items: &[usize], i: usize) -> Option<usize>
+/// The place of i among the items.
+pub fn place_of(items: &[usize], i: usize) -> Option<usize>
     ensures { IfSome result (λ k. (k < length items.now) × (slice_index items.now k ≡ i)) }
 {
     items.iter().position(|x| *x == i)
