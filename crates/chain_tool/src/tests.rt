@@ -216,13 +216,13 @@ impl Read for FailingReader<'_> {
 
 /// Runs the program on a reader that fails in its third line, and looks at what it did before.
 fn check_reader(rt: &impl Abort, alloc: Global, kind: ErrorKind, step: usize) {
-    let left = b"add alone 1\nlen\nadd alone 2".as_slice();
+    let left = "add alone 1\nlen\nadd alone 2".as_bytes();
     let mut reader = FailingReader { left, step, kind };
     let mut written = Vec::new(alloc);
     let mut arena = Links::new(alloc);
     let result = run_on(alloc, &mut arena, &mut reader, &mut written);
     same(rt, "the reader fails", result, Err(ToolError::Read));
-    let lines = b"at 1.2\ncount 1\n".as_slice();
+    let lines = "at 1.2\ncount 1\n".as_bytes();
     same(rt, "whole lines are answered", written.as_slice(), lines);
     same(rt, "the unfinished line is not carried out", arena.len(), 1);
 }
@@ -303,8 +303,8 @@ fn check_writer(
     step: usize,
     room: usize,
 ) {
-    let mut reader = b"add alone 1\nadd alone 2\nadd alone 3\n".as_slice();
-    let output = b"at 1.2\nat 2.2\nat 3.2\n".as_slice();
+    let mut reader = "add alone 1\nadd alone 2\nadd alone 3\n".as_bytes();
+    let output = "at 1.2\nat 2.2\nat 3.2\n".as_bytes();
     let mut writer = failing_writer(alloc, step, room, fails_with);
     let mut arena = Links::new(alloc);
     let result = run_on(alloc, &mut arena, &mut reader, &mut writer);
@@ -337,17 +337,17 @@ fn a_writer_that_fails(rt: HostRuntime) {
 
 #[test]
 fn a_writer_that_is_interrupted(rt: HostRuntime) {
-    let mut reader = b"add alone 1\nlen\n".as_slice();
+    let mut reader = "add alone 1\nlen\n".as_bytes();
     let mut writer = failing_writer(rt.alloc(), 1, 1000, None);
     let result = run(rt.alloc(), &mut reader, &mut writer);
     same(&rt, "it tries again", result, Ok(()));
-    let lines = b"at 1.2\ncount 1\n".as_slice();
+    let lines = "at 1.2\ncount 1\n".as_bytes();
     same(&rt, "all lines come", writer.held.as_slice(), lines);
 }
 
 /// Runs the program on a writer of which a flush fails, and looks at what it wrote before.
 fn check_flush(rt: &impl Abort, alloc: Global, flushes: usize, output: &str) {
-    let mut reader = b"add alone 1\n".as_slice();
+    let mut reader = "add alone 1\n".as_bytes();
     let mut writer = failing_writer(alloc, 100, 1000, None);
     writer.flushes = flushes;
     let result = run(alloc, &mut reader, &mut writer);
@@ -392,8 +392,8 @@ fn a_limited_arena(rt: HostRuntime) {
     let mut arena = Limited::new(rt.alloc());
     same(&rt, "a limit", arena.set_max_capacity(2), Ok(()));
     let mut reader =
-        b"add alone 1\nadd alone 2\nadd alone 3\nremove 1.2\nadd alone 3\nlen\n".as_slice();
-    let output = b"at 1.2\nat 2.2\nrefused limit\nvalue 1\nat 1.3\ncount 2\n".as_slice();
+        "add alone 1\nadd alone 2\nadd alone 3\nremove 1.2\nadd alone 3\nlen\n".as_bytes();
+    let output = "at 1.2\nat 2.2\nrefused limit\nvalue 1\nat 1.3\ncount 2\n".as_bytes();
     let mut written = Vec::new(rt.alloc());
     let result = run_on(rt.alloc(), &mut arena, &mut reader, &mut written);
     same(&rt, "its run", result, Ok(()));
