@@ -103,7 +103,7 @@ fn first_table(rt: HostRuntime) {
 
 #[test]
 fn lines_and_words(rt: HostRuntime) {
-    let rows = [
+    const ROWS: [(&str, &str); 20] = [
         ("", ""),
         ("\n\n \n", ""),
         ("\r\n  \r\n", ""),
@@ -128,12 +128,12 @@ fn lines_and_words(rt: HostRuntime) {
             "bad line\nbad line\nbad line\n",
         ),
     ];
-    check_texts(&rt, rt.alloc(), &rows);
+    check_texts(&rt, rt.alloc(), &ROWS);
 }
 
 #[test]
 fn numbers_and_pointers(rt: HostRuntime) {
-    let rows = [
+    const ROWS: [(&str, &str); 20] = [
         (
             "add alone 4294967295\nshow 1.2\n",
             "at 1.2\nprev - next - value 4294967295\n",
@@ -161,7 +161,7 @@ fn numbers_and_pointers(rt: HostRuntime) {
             "at 1.2\nprev - next - value 5\n",
         ),
     ];
-    check_texts(&rt, rt.alloc(), &rows);
+    check_texts(&rt, rt.alloc(), &ROWS);
 }
 
 /// A command, enough spaces to fill a line of this length, and what ends the line.
@@ -169,27 +169,38 @@ fn filled(rt: &impl Abort, alloc: Global, command: &str, len: usize, end: &str) 
     format!(in alloc; "{command:len$}{end}").expect(rt, "memory")
 }
 
+/// What a row is about, a command, the length that spaces fill its line to, what ends the line, and what the program
+/// writes.
+type FilledLine<'a> = (&'a str, &'a str, usize, &'a str, &'a str);
+
+/// Runs the program on a filled line, and looks whether it writes this.
+fn check_filled(rt: &impl Abort, alloc: Global, line: &FilledLine<'_>) {
+    let (what, command, len, end, output) = line;
+    let input = filled(rt, alloc, command, *len, end);
+    check(rt, alloc, what, input.as_bytes(), output.as_bytes());
+}
+
+const FILLED_LINES: [FilledLine<'static>; 8] = [
+    ("200 bytes", "len", 200, "", "count 0\n"),
+    ("201 bytes", "len", 201, "", "bad line\n"),
+    ("200 bytes with a return", "len", 199, "\r\n", "count 0\n"),
+    ("201 bytes with a return", "len", 200, "\r\n", "bad line\n"),
+    (
+        "200 bytes and a line",
+        "len",
+        200,
+        "\nlen\n",
+        "count 0\ncount 0\n",
+    ),
+    ("200 spaces", "", 200, "\n", ""),
+    ("201 spaces", "", 201, "\n", "bad line\n"),
+    ("70000 spaces", "", 70000, "\nlen\n", "bad line\ncount 0\n"),
+];
+
 #[test]
 fn lines_of_200_bytes_and_more(rt: HostRuntime) {
-    let rows = [
-        ("200 bytes", "len", 200, "", "count 0\n"),
-        ("201 bytes", "len", 201, "", "bad line\n"),
-        ("200 bytes with a return", "len", 199, "\r\n", "count 0\n"),
-        ("201 bytes with a return", "len", 200, "\r\n", "bad line\n"),
-        (
-            "200 bytes and a line",
-            "len",
-            200,
-            "\nlen\n",
-            "count 0\ncount 0\n",
-        ),
-        ("200 spaces", "", 200, "\n", ""),
-        ("201 spaces", "", 201, "\n", "bad line\n"),
-        ("70000 spaces", "", 70000, "\nlen\n", "bad line\ncount 0\n"),
-    ];
-    for (what, command, len, end, output) in rows {
-        let input = filled(&rt, rt.alloc(), command, len, end);
-        check(&rt, rt.alloc(), what, input.as_bytes(), output.as_bytes());
+    for line in &FILLED_LINES {
+        check_filled(&rt, rt.alloc(), line);
     }
 }
 
