@@ -39,7 +39,8 @@ fn passed(rt: &impl Abort, arena: &Links, p: ToolPtr, value: u32) -> usize {
 // The numbers of the links that `iter_chain` yields.
 fn walk_from(rt: &impl Abort, alloc: Global, arena: &Links, p: ToolPtr) -> Vec<usize> {
     let mut walk = Vec::new(alloc);
-    for (q, link) in arena.iter_chain(p).expect(rt, "a walk") {
+    let mut links = arena.iter_chain(p).expect(rt, "a walk");
+    while let Some((q, link)) = links.next() {
         let number = passed(rt, arena, q, link.t);
         walk.push(number).expect(rt, "memory");
     }
@@ -158,7 +159,8 @@ fn have(chains: &[SlowChain], items: &[usize], cyclic: bool) -> bool {
 
 // Some items and then others.
 fn joined(rt: &impl Abort, alloc: Global, front: &[usize], back: &[usize]) -> Vec<usize> {
-    let mut items = front.to_vec(alloc).expect(rt, "memory");
+    let mut items = Vec::new(alloc);
+    items.extend_from_slice(front).expect(rt, "memory");
     items.extend_from_slice(back).expect(rt, "memory");
     items
 }
