@@ -182,9 +182,11 @@ type FilledLine<'a> = (&'a str, &'a str, usize, &'a str, &'a str);
 fn check_filled(rt: &impl Abort, alloc: Global, line: &FilledLine<'_>) {
     let (what, command, len, end, output) = line;
     let input = filled(rt, alloc, command, *len, end);
+    same(rt, what, input.len().saturating_sub(end.len()), *len);
     check(rt, alloc, what, input.as_bytes(), output.as_bytes());
 }
 
+/// Filled lines of up to 200 bytes, and longer ones.
 const FILLED_LINES: [FilledLine<'static>; 8] = [
     ("200 bytes", "len", 200, "", "count 0\n"),
     ("201 bytes", "len", 201, "", "bad line\n"),
