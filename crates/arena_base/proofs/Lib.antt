@@ -1,4 +1,3 @@
-mod Emptying
 mod FreeSlots
 mod Holding
 mod Ranging

@@ -5,4 +5,3 @@ pub mod Slots
 pub mod AdvancingLaws
 pub mod EntryLaws
 pub mod Compacting
-pub mod Taking

@@ -12,8 +12,6 @@ mod listing;
 mod look;
 mod slot;
 mod tally;
-#[cfg(test)]
-mod tests;
 mod traits;
 
 pub use advancer::PtrAdvancer;

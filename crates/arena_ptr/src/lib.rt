@@ -11,8 +11,6 @@ mod limited_stack;
 mod ptr;
 mod slot_stack;
 mod slots;
-#[cfg(test)]
-mod tests;
 mod tool_ptr;
 
 pub use errors::{

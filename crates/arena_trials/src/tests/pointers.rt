@@ -1,8 +1,9 @@
 // Pointer types of the tests.
 use arena_ptr::{Gen8, Inx8, Ptr};
+use std::fmt;
 
 // A pointer of 8 bits of index and 8 bits of generation.
-#[derive(Clone, Copy, Debug, PartialEq, Eq, PartialOrd, Ord, Hash)]
+#[derive(Clone, Copy, PartialEq, Eq, PartialOrd, Ord, Hash)]
 pub(super) struct SmallPtr {
     inx: Inx8,
     generation: Gen8,
@@ -60,6 +61,13 @@ impl Ptr for SmallPtr {
 
     fn _from_raw(inx: Inx8, generation: Gen8) -> Self {
         SmallPtr { inx, generation }
+    }
+}
+
+impl fmt::Debug for SmallPtr {
+    // The index and the generation, as `1.2`.
+    fn fmt<W: fmt::Write>(&self, f: &mut fmt::Formatter<W>) -> fmt::Result {
+        write!(f, "{}.{}", self.inx.get(), self.generation.get())
     }
 }
 

@@ -3,7 +3,7 @@ use Rattle.std.proofs.Common.{◌≡◌, ℕ, suc, ◌+◌, ◌≤◌, subst, Bo
 use Rattle.std.specs.Prelude.{◌==◌}
 use Rattle.arena_base.specs.Entries.{RisesFrom, first_key, found, without}
 use Rattle.arena_base.specs.Advancing.{from_index}
-use Rattle.arena_base.specs.Taking.{keyed}
+use Rattle.arena_trials.specs.Taking.{keyed}
 
 within : (m n : ℕ) → m ≤ n → leb m n ≡ true
 within m n below = search rules

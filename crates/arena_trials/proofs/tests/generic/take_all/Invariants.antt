@@ -1,9 +1,9 @@
 -- What was taken and what is left are all entries in their order, and the advancer looks from before what is left.
 use Rattle.std.proofs.Common.{◌≡◌, ℕ, ◌++◌, length, map}
 use Rattle.arena_base.specs.Entries.{RisesFrom}
-use Rattle.arena_base.specs.Taking.{keyed}
+use Rattle.arena_trials.specs.Taking.{keyed}
 use Rattle.arena_base.specs.declared.look.Look.TheVariants.{Up}
-use Rattle.arena_base.proofs.tests.generic.take_all.Given as goal
+use Rattle.arena_trials.proofs.tests.generic.take_all.Given as goal
 
 abbrev pub invariant-loop-p : goal.invariant-loop-p
 invariant-loop-p g l = record {

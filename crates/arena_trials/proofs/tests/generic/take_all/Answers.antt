@@ -5,12 +5,12 @@ use Rattle.std.proofs.lemmas.List.{append-nil}
 use Rattle.arena_ptr.specs.Invalidation.{value_within}
 use Rattle.arena_base.specs.Entries.{first_key, found, without, RisesFrom}
 use Rattle.arena_base.specs.Advancing.{from_index, ahead, look_after}
-use Rattle.arena_base.specs.Taking.{keyed}
+use Rattle.arena_trials.specs.Taking.{keyed}
 use Rattle.arena_base.specs.declared.look.Look.TheVariants.{Up}
-use Rattle.arena_base.proofs.Emptying.{finds_it, none_left, taken_more}
-use Rattle.arena_base.proofs.tests.generic.take_all.Given.{Over}
-use Rattle.arena_base.proofs.tests.generic.take_all.Goals.{In-Some, In-Some-value_of}
-use Rattle.arena_base.proofs.tests.generic.take_all.Goals as goal
+use Rattle.arena_trials.proofs.Emptying.{finds_it, none_left, taken_more}
+use Rattle.arena_trials.proofs.tests.generic.take_all.Given.{Over}
+use Rattle.arena_trials.proofs.tests.generic.take_all.Goals.{In-Some, In-Some-allow}
+use Rattle.arena_trials.proofs.tests.generic.take_all.Goals as goal
 
 -- the answer is the first entry's pointer
 first : (g : Over) (c : In-Some g) → Some (g.P.Ptr.key c.in-Some.p) ≡ first_key (from_index c.loop-p.invariant.from (g.A.ArenaTrait.seen c.loop-p.arena).entries)
@@ -19,15 +19,15 @@ first g c =
     look.first ∙ ap (λ l. first_key (ahead l (g.A.ArenaTrait.seen c.loop-p.arena).entries)) c.loop-p.invariant.looks
 
 -- what is taken and what is left, once it is taken out
-step : (g : Over) (c : In-Some-value_of g) → Some (g.P.Ptr.key c.in-Some.p) ≡ first_key (from_index c.loop-p.invariant.from (g.A.ArenaTrait.seen c.loop-p.arena).entries)
-    → (map (keyed g.P.Ptr.key) (c.loop-p.taken.items ++ (c.in-Some.p, c.in-Some-value_of.t) ∷ []) ++ (g.A.ArenaTrait.seen c.remove_inx.new.self).entries ≡ (g.A.ArenaTrait.seen c.args.arena.now).entries)
+step : (g : Over) (c : In-Some-allow g) → Some (g.P.Ptr.key c.in-Some.p) ≡ first_key (from_index c.loop-p.invariant.from (g.A.ArenaTrait.seen c.loop-p.arena).entries)
+    → (map (keyed g.P.Ptr.key) (c.loop-p.taken.items ++ (c.in-Some.p, c.in-Some-allow.t) ∷ []) ++ (g.A.ArenaTrait.seen c.remove_inx.new.self).entries ≡ (g.A.ArenaTrait.seen c.args.arena.now).entries)
     × RisesFrom ((g.P.Ptr.key c.in-Some.p).0 + 1) (g.A.ArenaTrait.seen c.remove_inx.new.self).entries
     × (length (g.A.ArenaTrait.seen c.loop-p.arena).entries ≡ suc (length (g.A.ArenaTrait.seen c.remove_inx.new.self).entries))
 step g c met =
     let n = g.P.Inx.PtrInx.number c.inx.result in
-    let stands = sym c.in-Some-value_of.is ∙ (c.value_of.ensures ∙ c.remove_inx.ensures.answer) in
-    taken_more g.P.Ptr.key c.loop-p.taken.items c.in-Some.p c.in-Some-value_of.t (g.A.ArenaTrait.seen c.loop-p.arena).entries (g.A.ArenaTrait.seen c.remove_inx.new.self).entries (g.A.ArenaTrait.seen c.args.arena.now).entries
-    n c.loop-p.invariant.from c.loop-p.invariant.rises met c.inx.ensures c.in-Some-value_of.field-0-0 (stands ∙ sym (g.met.A.ArenaTrait.looked_up c.loop-p.arena n))
+    let stands = sym c.in-Some-allow.is ∙ (c.allow.ensures ∙ c.remove_inx.ensures.answer) in
+    taken_more g.P.Ptr.key c.loop-p.taken.items c.in-Some.p c.in-Some-allow.t (g.A.ArenaTrait.seen c.loop-p.arena).entries (g.A.ArenaTrait.seen c.remove_inx.new.self).entries (g.A.ArenaTrait.seen c.args.arena.now).entries
+    n c.loop-p.invariant.from c.loop-p.invariant.rises met c.inx.ensures c.in-Some-allow.field-0-0 (stands ∙ sym (g.met.A.ArenaTrait.looked_up c.loop-p.arena n))
     (ap (λ s. s.entries) (c.remove_inx.ensures.valid (sym (ap is_some stands)))) c.loop-p.invariant.all
 
 -- where there is no answer there are no entries
@@ -42,15 +42,15 @@ pub unreachable-requires : goal.unreachable-requires
 unreachable-requires g c =
     let n = g.P.Inx.PtrInx.number c.inx.result in
     finds_it (g.A.ArenaTrait.seen c.loop-p.arena).entries c.loop-p.invariant.from n (g.P.Ptr.key c.in-Some.p) c.loop-p.invariant.rises (first g (goal.at.unreachable-requires g c).In-Some) c.inx.ensures
-    (sym c.in_default-value_of.is ∙ (c.value_of.ensures ∙ (c.remove_inx.ensures.answer ∙ sym (g.met.A.ArenaTrait.looked_up c.loop-p.arena n))))
+    (sym c.in_default-allow.is ∙ (c.allow.ensures ∙ (c.remove_inx.ensures.answer ∙ sym (g.met.A.ArenaTrait.looked_up c.loop-p.arena n))))
 
 pub loop-p-smaller : goal.loop-p-smaller
-loop-p-smaller g c = let at = goal.at.loop-p-smaller g c in omega (arith, (step g at.In-Some-value_of (first g at.In-Some)).2)
+loop-p-smaller g c = let at = goal.at.loop-p-smaller g c in omega (arith, (step g at.In-Some-allow (first g at.In-Some)).2)
 
 pub loop-p-preserved : goal.loop-p-preserved
 loop-p-preserved g c =
     let at = goal.at.loop-p-preserved g c in
-    let next = step g at.In-Some-value_of (first g at.In-Some) in
+    let next = step g at.In-Some-allow (first g at.In-Some) in
     let look = g.met.A.ArenaTrait.advances c.loop-p.advancer c.advance.new.self c.loop-p.arena (Some c.in-Some.p) c.in-Some.ensures in
     record {
       from = (g.P.Ptr.key c.in-Some.p).0 + 1;

@@ -1,5 +1,0 @@
-mod calls;
-mod generic;
-mod limits;
-mod pointers;
-mod rows;

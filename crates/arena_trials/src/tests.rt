@@ -1,0 +1,12 @@
+mod answers;
+mod calls;
+mod compactors;
+mod generic;
+mod limits;
+mod numbers;
+mod pointers;
+mod rows;
+mod scripts;
+mod stacks;
+mod texts;
+mod tools;

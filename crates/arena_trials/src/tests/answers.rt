@@ -1,0 +1,81 @@
+// The answers of calls that invalidate, and the errors.
+use crate::tests::tools::same;
+use arena_ptr::{AllocError, InvalidationOption, InvalidationResult};
+use std::alloc;
+
+// The value, the value with the overflow, and the answer to whether the value is above three.
+fn each_of_option(answer: InvalidationOption<i32>) -> (i32, (i32, bool), InvalidationOption<bool>) {
+    (answer.allow(), answer.overflowing(), answer.map(|n| n > 3))
+}
+
+fn each_of_result(
+    answer: InvalidationResult<u8>,
+) -> (Option<u8>, (Option<u8>, bool), InvalidationResult<bool>) {
+    (answer.allow(), answer.overflowing(), answer.map(|n| n > 3))
+}
+
+#[test]
+fn an_answer_gives_its_value_and_tells_overflow(rt: HostRuntime) {
+    for (answer, want) in [
+        (
+            InvalidationOption::Success(3),
+            (3, (3, false), InvalidationOption::Success(false)),
+        ),
+        (
+            InvalidationOption::GenerationOverflow(4),
+            (4, (4, true), InvalidationOption::GenerationOverflow(true)),
+        ),
+    ] {
+        same(&rt, "an answer", each_of_option(answer), want);
+    }
+}
+
+#[test]
+fn a_result_may_have_no_value(rt: HostRuntime) {
+    for (answer, want) in [
+        (
+            InvalidationResult::Success(3),
+            (
+                Some(3),
+                (Some(3), false),
+                InvalidationResult::Success(false),
+            ),
+        ),
+        (
+            InvalidationResult::GenerationOverflow(4),
+            (
+                Some(4),
+                (Some(4), true),
+                InvalidationResult::GenerationOverflow(true),
+            ),
+        ),
+        (
+            InvalidationResult::InvalidPtr,
+            (None, (None, false), InvalidationResult::InvalidPtr),
+        ),
+    ] {
+        same(&rt, "a result", each_of_result(answer), want);
+    }
+}
+
+#[test]
+fn an_answer_may_own_its_value(rt: HostRuntime) {
+    let owned = Vec::from_array(rt.alloc(), [5]).expect(&rt, "memory");
+    let answer = InvalidationResult::GenerationOverflow(owned);
+    same(
+        &rt,
+        "the length",
+        answer.map(|v| v.len()),
+        InvalidationResult::GenerationOverflow(1),
+    );
+}
+
+#[test]
+fn refused_memory_of_std_is_an_error_here(rt: HostRuntime) {
+    same(
+        &rt,
+        "the error",
+        AllocError::from(alloc::AllocError),
+        AllocError,
+    );
+}

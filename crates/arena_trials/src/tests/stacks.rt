@@ -1,0 +1,452 @@
+// Slot stacks through their bounds: filled, refused, edited, limited.
+ghost use Rattle.std.specs.Prelude.{◌≡◌, ◌+◌, ◌<◌, ◌≤◌, ◌↔◌, [], ◌∷◌, ◌++◌, length, IsErr, IsOk, OnOk, OnErr, OnSome, IfNone, Err, Some, slice_get, slice_set};
+ghost use Rattle.std.specs.Borrow.{Lends, sem};
+ghost use Rattle.arena_ptr.specs.SlotStack.{IsBeyond};
+
+use crate::tests::tools::{same, text};
+use arena_ptr::{
+    HeapStack, LimitStack, LimitedStack, MaxCapacityReductionError, ReallocationError,
+    SetMaxCapacity, SlotStack,
+};
+use std::alloc::Global;
+use std::mem;
+use std::process::Abort;
+
+// Appends an item, after a growth where the stack is full, and tells whether it grew.
+fn push<S: SlotStack>(stack: &mut S, item: S::Item) -> Result<bool, ReallocationError>
+    ensures ok { OnOk result (S.items stack.new ≡ S.items stack.old ++ item ∷ []) }
+    ensures err { OnErr result ((S.items stack.new ≡ S.items stack.old) × (S.capacity stack.new ≡ S.capacity stack.old)) }
+    ensures maximum { S.maximum stack.new ≡ S.maximum stack.old }
+    ensures beyond { (result ≡ Err ReallocationError.BeyondMaxCapacity) ↔ ((length (S.items stack.old) ≡ S.capacity stack.old) × IsBeyond (S.maximum stack.old) (length (S.items stack.old) + 1)) }
+    ensures room { length (S.items stack.old) < S.capacity stack.old → IsOk result }
+{
+    let full = stack.len() == stack.capacity();
+    if full {
+        stack.reserve_to(stack.len() + 1)?;
+    }
+    stack.push_within(item);
+    Ok(full)
+}
+
+// Writes an item over another, which it answers.
+fn replace<E: Drop, S: SlotStack<Item = E>>(stack: &mut S, i: usize, item: E) -> Option<E>
+    ensures was { result ≡ slice_get (S.items stack.old) i }
+    ensures some { OnSome result (S.items stack.new ≡ slice_set (S.items stack.old) i item) }
+    ensures none { IfNone result (stack.new ≡ stack.old) }
+    ensures capacity { S.capacity stack.new ≡ S.capacity stack.old }
+    ensures maximum { S.maximum stack.new ≡ S.maximum stack.old }
+{
+    match stack.get_mut(i) {
+        Some(slot) => Some(mem::replace(slot, item)),
+        None => None,
+    }
+}
+
+// The slot at a position within the length, for writing.
+fn slot_mut<E: Drop, S: SlotStack<Item = E>>(stack: &mut S, i: usize) -> &mut E
+    requires { i < length (S.items stack.old) }
+    ensures* lends { sem 𝓛 (Lends S.row E.row stack.entry result (S.with_item stack.old i)) }
+    ensures value { slice_get (S.items stack.old) i ≡ Some result.now }
+{
+    match stack.get_mut(i) {
+        Some(slot) => slot,
+        None => unreachable!(),
+    }
+}
+
+// Sets the maximum, at a stack as well as at what is made over one.
+fn limit<S: LimitStack>(stack: &mut S, n: usize) -> Result<(), MaxCapacityReductionError>
+    ensures refused { IsErr result ↔ (n < S.capacity stack.old) }
+    ensures ok { OnOk result ((S.items stack.new ≡ S.items stack.old) × (S.capacity stack.new ≡ S.capacity stack.old) × (S.maximum stack.new ≡ Some n)) }
+    ensures err { OnErr result (stack.new ≡ stack.old) }
+{
+    stack.set_max_capacity(n)
+}
+
+// A stack over another that refuses to grow once its ration is used up.
+#[derive(Drop)]
+struct Rationed<S> {
+    inner: S,
+    ration: u32,
+}
+
+impl<S: SlotStack> SlotStack for Rationed<S> {
+    type Item = S::Item;
+
+    ghost items = { λ s. S.items s.inner };
+
+    ghost capacity = { λ s. S.capacity s.inner };
+
+    ghost maximum = { λ s. S.maximum s.inner };
+
+    ghost initial_maximum = { S.initial_maximum };
+
+    ghost with_item = { λ s i e. record s { inner = S.with_item s.inner i e } };
+
+    ghost has_room = { λ s. S.has_room s.inner };
+
+    ghost room_fits = { λ s. S.room_fits s.inner };
+
+    ghost within_maximum = { λ s. S.within_maximum s.inner };
+
+    ghost items_written = { λ s i e. S.items_written s.inner i e };
+
+    ghost capacity_written = { λ s i e. S.capacity_written s.inner i e };
+
+    ghost maximum_written = { λ s i e. S.maximum_written s.inner i e };
+
+    fn new(alloc: Global) -> Self {
+        Rationed {
+            inner: S::new(alloc),
+            ration: 0,
+        }
+    }
+
+    fn allocator(&self) -> Global {
+        self.inner.allocator()
+    }
+
+    fn len(&self) -> usize {
+        self.inner.len()
+    }
+
+    fn capacity(&self) -> usize {
+        self.inner.capacity()
+    }
+
+    fn max_capacity(&self) -> Option<usize> {
+        self.inner.max_capacity()
+    }
+
+    fn reserve_to(&mut self, n: usize) -> Result<(), ReallocationError> {
+        if n <= self.inner.capacity() {
+            return Ok(());
+        }
+        if let Some(most) = self.inner.max_capacity()
+            && most < n
+        {
+            return Err(ReallocationError::BeyondMaxCapacity);
+        }
+        if self.ration == 0 {
+            return Err(ReallocationError::AllocError);
+        }
+        self.ration -= 1;
+        self.inner.reserve_to(n)
+    }
+
+    fn push_within(&mut self, item: S::Item) {
+        self.inner.push_within(item);
+    }
+
+    fn get(&self, i: usize) -> Option<&S::Item> {
+        self.inner.get(i)
+    }
+
+    fn get_mut(&mut self, i: usize) -> Option<&mut S::Item> {
+        self.inner.get_mut(i)
+    }
+
+    fn swap(&mut self, i: usize, j: usize) {
+        self.inner.swap(i, j);
+    }
+
+    fn truncate(&mut self, n: usize) {
+        self.inner.truncate(n);
+    }
+}
+
+impl<S: LimitStack> SetMaxCapacity for Rationed<S> {
+    ghost stack_capacity = { λ s. S.capacity s.inner };
+
+    ghost limits = { λ s n t. (S.items t.inner ≡ S.items s.inner) × (S.capacity t.inner ≡ S.capacity s.inner) × (S.maximum t.inner ≡ Some n) };
+
+    fn set_max_capacity(&mut self, n: usize) -> Result<(), MaxCapacityReductionError> {
+        self.inner.set_max_capacity(n)
+    }
+}
+
+impl<S: LimitStack> LimitStack for Rationed<S> {
+    ghost use Rattle.std.specs.Prelude.{refl};
+
+    ghost same_capacity = { λ _. refl };
+
+    ghost limited = { λ s t n kept. kept };
+}
+
+// A call on a stack of numbers.
+#[derive(Clone, Copy)]
+enum Call {
+    Push(u32),
+    Reserve(usize),
+    Limit(usize),
+}
+
+// What a call answers.
+#[derive(Clone, Copy, Debug, PartialEq, Eq)]
+enum Answer {
+    Done,
+    Grown,
+    NoMemory,
+    BeyondMaximum,
+    BelowCapacity,
+}
+
+fn answer_to<S: LimitStack<Item = u32>>(stack: &mut S, call: Call) -> Answer {
+    match call {
+        Call::Push(item) => match push(stack, item) {
+            Ok(true) => Answer::Grown,
+            Ok(false) => Answer::Done,
+            Err(ReallocationError::AllocError) => Answer::NoMemory,
+            Err(ReallocationError::BeyondMaxCapacity) => Answer::BeyondMaximum,
+        },
+        Call::Reserve(n) => match stack.reserve_to(n) {
+            Ok(()) => Answer::Done,
+            Err(ReallocationError::AllocError) => Answer::NoMemory,
+            Err(ReallocationError::BeyondMaxCapacity) => Answer::BeyondMaximum,
+        },
+        Call::Limit(n) => match limit(stack, n) {
+            Ok(()) => Answer::Done,
+            Err(MaxCapacityReductionError) => Answer::BelowCapacity,
+        },
+    }
+}
+
+// The length, the capacity and the maximum.
+fn shape<S: SlotStack<Item = u32>>(stack: &S) -> (usize, usize, Option<usize>) {
+    (stack.len(), stack.capacity(), stack.max_capacity())
+}
+
+// What the stack holds, in order.
+fn held<S: SlotStack<Item = u32>>(rt: &impl Abort, alloc: Global, stack: &S) -> Vec<u32> {
+    let mut items = Vec::new(alloc);
+    for i in 0..stack.len() {
+        let item = *stack.get(i).expect(rt, "an item");
+        items.push(item).expect(rt, "memory");
+    }
+    items
+}
+
+// Appends the numbers from 0 on, `n` of them, and counts the growths.
+fn fill<S: SlotStack<Item = u32>>(rt: &impl Abort, stack: &mut S, n: u32) -> u64 {
+    let mut growths = 0u64;
+    for k in 0..n {
+        if push(stack, k).ok().expect(rt, "room") {
+            growths = growths.saturating_add(1);
+        }
+    }
+    growths
+}
+
+// Edits a stack of a thousand numbers, of which four are left.
+fn edit<S: SlotStack<Item = u32>>(rt: &impl Abort, stack: &mut S) {
+    assert!(rt; stack.len() == 1000);
+    stack.swap(0, 999);
+    stack.swap(2, 2);
+    *slot_mut(stack, 3) = 80;
+    stack.truncate(4);
+    stack.truncate(4);
+}
+
+// A stack that is filled, read and edited.
+fn check_edits<S: SlotStack<Item = u32>>(rt: &impl Abort, alloc: Global) {
+    let mut stack = S::new(alloc);
+    same(rt, "new", shape(&stack), (0, 0, None));
+    same(rt, "nothing", stack.get(0).copied(), None);
+    // Each growth at least doubles the capacity: 1, 2, 4, .. 1024.
+    same(rt, "few growths", fill(rt, &mut stack, 1000) <= 11, true);
+    let capacity = stack.capacity();
+    for (i, was) in [(1, Some(1)), (1000, None)] {
+        same(rt, "replaced", replace(&mut stack, i, 70), was);
+    }
+    edit(rt, &mut stack);
+    same(
+        rt,
+        "left",
+        held(rt, alloc, &stack).as_slice(),
+        [999, 70, 2, 80].as_slice(),
+    );
+    same(rt, "as much room", shape(&stack), (4, capacity, None));
+    stack.truncate(0);
+    same(rt, "emptied", shape(&stack), (0, capacity, None));
+}
+
+// A reservation that no block can hold changes nothing.
+fn check_refused_memory<S: SlotStack<Item = u32>>(rt: &impl Abort, alloc: Global, stack: &mut S) {
+    fill(rt, stack, 3);
+    let before = shape(stack);
+    let refused = stack.reserve_to(usize::MAX);
+    same(rt, "refused", refused, Err(ReallocationError::AllocError));
+    same(rt, "unchanged", shape(stack), before);
+    same(
+        rt,
+        "held still",
+        held(rt, alloc, stack).as_slice(),
+        [0, 1, 2].as_slice(),
+    );
+    let grown = stack.reserve_to(5).is_ok() && stack.capacity() >= 5;
+    same(rt, "grown", (grown, stack.len()), (true, 3));
+}
+
+// A stack with a maximum, which is tested before memory is asked for.
+fn check_maximum<S: LimitStack<Item = u32>>(rt: &impl Abort, alloc: Global, stack: &mut S) {
+    same(
+        rt,
+        "a maximum",
+        answer_to(stack, Call::Limit(5)),
+        Answer::Done,
+    );
+    same(rt, "set", shape(stack).2, Some(5));
+    fill(rt, stack, 5);
+    for (call, want, after, items) in [
+        (
+            Call::Reserve(6),
+            Answer::BeyondMaximum,
+            (5, 5, Some(5)),
+            "[0, 1, 2, 3, 4]",
+        ),
+        (
+            Call::Reserve(usize::MAX),
+            Answer::BeyondMaximum,
+            (5, 5, Some(5)),
+            "[0, 1, 2, 3, 4]",
+        ),
+        (
+            Call::Push(5),
+            Answer::BeyondMaximum,
+            (5, 5, Some(5)),
+            "[0, 1, 2, 3, 4]",
+        ),
+        (
+            Call::Reserve(5),
+            Answer::Done,
+            (5, 5, Some(5)),
+            "[0, 1, 2, 3, 4]",
+        ),
+        (
+            Call::Limit(4),
+            Answer::BelowCapacity,
+            (5, 5, Some(5)),
+            "[0, 1, 2, 3, 4]",
+        ),
+        (
+            Call::Limit(5),
+            Answer::Done,
+            (5, 5, Some(5)),
+            "[0, 1, 2, 3, 4]",
+        ),
+        (
+            Call::Limit(7),
+            Answer::Done,
+            (5, 5, Some(7)),
+            "[0, 1, 2, 3, 4]",
+        ),
+        (
+            Call::Push(5),
+            Answer::Grown,
+            (6, 7, Some(7)),
+            "[0, 1, 2, 3, 4, 5]",
+        ),
+        (
+            Call::Push(6),
+            Answer::Done,
+            (7, 7, Some(7)),
+            "[0, 1, 2, 3, 4, 5, 6]",
+        ),
+        (
+            Call::Push(7),
+            Answer::BeyondMaximum,
+            (7, 7, Some(7)),
+            "[0, 1, 2, 3, 4, 5, 6]",
+        ),
+    ] {
+        same(rt, "an answer", answer_to(stack, call), want);
+        same(rt, "the shape", shape(stack), after);
+        let left = text(rt, alloc, held(rt, alloc, stack));
+        same(rt, "what is held", left.as_str(), items);
+    }
+}
+
+#[test]
+fn heap_stacks_hold_a_list(rt: HostRuntime) {
+    check_edits::<HeapStack<u32>>(&rt, rt.alloc());
+    check_refused_memory(&rt, rt.alloc(), &mut HeapStack::new(rt.alloc()));
+}
+
+#[test]
+fn limited_stacks_hold_a_list(rt: HostRuntime) {
+    check_edits::<LimitedStack<u32>>(&rt, rt.alloc());
+    check_refused_memory(&rt, rt.alloc(), &mut LimitedStack::new(rt.alloc()));
+    let mut wide = LimitedStack::new(rt.alloc());
+    same(&rt, "a maximum", limit(&mut wide, usize::MAX), Ok(()));
+    check_refused_memory(&rt, rt.alloc(), &mut wide);
+}
+
+#[test]
+fn limited_stacks_stop_at_their_maximum(rt: HostRuntime) {
+    check_maximum(&rt, rt.alloc(), &mut LimitedStack::new(rt.alloc()));
+    let mut rationed = Rationed {
+        inner: LimitedStack::new(rt.alloc()),
+        ration: 100,
+    };
+    check_maximum(&rt, rt.alloc(), &mut rationed);
+}
+
+#[test]
+fn a_full_stack_reads_to_its_end(rt: HostRuntime) {
+    let mut stack: HeapStack<u32> = HeapStack::new(rt.alloc());
+    fill(&rt, &mut stack, 1000);
+    let last = (stack.get(999).copied(), stack.get(1000).copied());
+    same(&rt, "the last", last, (Some(999), None));
+    same(&rt, "none beyond", stack.get_mut(1000).is_none(), true);
+}
+
+#[test]
+fn a_stack_that_never_grows_stays_empty(rt: HostRuntime) {
+    let mut stack = LimitedStack::new(rt.alloc());
+    for (call, want) in [
+        (Call::Limit(0), Answer::Done),
+        (Call::Push(1), Answer::BeyondMaximum),
+    ] {
+        same(&rt, "an answer", answer_to(&mut stack, call), want);
+    }
+    same(&rt, "empty", shape(&stack), (0, 0, Some(0)));
+}
+
+// Capacities 0, 1, 2 and 4, each of them used up before the refusal.
+#[test]
+fn each_growth_may_be_refused(rt: HostRuntime) {
+    for (ration, capacity, items) in [
+        (0, 0, "[]"),
+        (1, 1, "[0]"),
+        (2, 2, "[0, 1]"),
+        (3, 4, "[0, 1, 2, 3]"),
+    ] {
+        let mut stack = Rationed {
+            inner: HeapStack::new(rt.alloc()),
+            ration,
+        };
+        for k in 0..100 {
+            if push(&mut stack, k).is_err() {
+                break;
+            }
+        }
+        same(&rt, "all used", shape(&stack), (capacity, capacity, None));
+        let left = text(&rt, rt.alloc(), held(&rt, rt.alloc(), &stack));
+        same(&rt, "what is held", left.as_str(), items);
+    }
+}
+
+#[test]
+fn items_that_own_memory_are_dropped(rt: HostRuntime) {
+    let mut stack = HeapStack::new(rt.alloc());
+    for k in 1..5 {
+        let item = Vec::from_array(rt.alloc(), [k, k + 1]).expect(&rt, "memory");
+        push(&mut stack, item).ok().expect(&rt, "room");
+    }
+    assert!(&rt; stack.len() == 4);
+    stack.truncate(2);
+    same(&rt, "the second", stack.get(1).map(|v| v.len()), Some(2));
+    let empty = Vec::new(stack.allocator());
+    let was = replace(&mut stack, 0, empty);
+    same(&rt, "one was there", was.is_some(), true);
+}

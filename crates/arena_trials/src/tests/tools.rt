@@ -1,0 +1,47 @@
+// What the tests share: one comparison, texts of answers, and what has to be there.
+use crate::tests::pointers::SmallPtr;
+use arena_base::ArenaSlot;
+use arena_ptr::{Gen8, Gen32, Gen64, Inx8, Inx32, Inx64, Ptr};
+use std::alloc::Global;
+use std::fmt::Debug;
+use std::process::Abort;
+
+pub(super) type Slots = ArenaSlot<SmallPtr, u32>;
+
+pub(super) fn same<T: PartialEq + Debug + Drop>(rt: &impl Abort, what: &str, got: T, want: T) {
+    assert_eq!(rt; got, want, "{what}");
+}
+
+// An answer as `Debug` writes it.
+pub(super) fn text<T: Debug + Drop>(rt: &impl Abort, alloc: Global, answer: T) -> String {
+    format!(in alloc; "{answer:?}").expect(rt, "memory")
+}
+
+pub(super) fn inx8(rt: &impl Abort, n: u8) -> Inx8 {
+    Inx8::new(n).expect(rt, "an index")
+}
+
+pub(super) fn inx32(rt: &impl Abort, n: u32) -> Inx32 {
+    Inx32::new(n).expect(rt, "an index")
+}
+
+pub(super) fn inx64(rt: &impl Abort, n: u64) -> Inx64 {
+    Inx64::new(n).expect(rt, "an index")
+}
+
+pub(super) fn gen8(rt: &impl Abort, n: u8) -> Gen8 {
+    Gen8::new(n).expect(rt, "a generation")
+}
+
+pub(super) fn gen32(rt: &impl Abort, n: u32) -> Gen32 {
+    Gen32::new(n).expect(rt, "a generation")
+}
+
+pub(super) fn gen64(rt: &impl Abort, n: u64) -> Gen64 {
+    Gen64::new(n).expect(rt, "a generation")
+}
+
+// The pointer of two numbers.
+pub(super) fn at(rt: &impl Abort, inx: u8, generation: u8) -> SmallPtr {
+    SmallPtr::_from_raw(inx8(rt, inx), gen8(rt, generation))
+}
