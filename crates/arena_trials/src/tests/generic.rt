@@ -3,14 +3,14 @@ ghost use Rattle.std.specs.Prelude.{◌≡◌, OnOk, IfOk, [], map};
 ghost use Rattle.arena_trials.specs.Taking.{keyed};
 
 use crate::tests::pointers::BarePtr;
-use crate::tests::scripts::{Change, Own, changes, owns, three};
-use crate::tests::tools::{same, text};
+use crate::tests::tools::same;
 use arena_base::{Advancer, Arena, ArenaTrait};
-use arena_ptr::Ptr;
+use arena_ptr::{InvalidationResult, Ptr};
 use std::alloc::{AllocError, Global};
+use std::process::Abort;
 
 // Takes all entries out by an advancer, and answers them by rising index.
-fn take_all<P: Ptr, T: Drop, A: ArenaTrait<P, T>>(
+pub(super) fn take_all<P: Ptr, T: Drop, A: ArenaTrait<P, T>>(
     alloc: Global,
     arena: &mut A,
 ) -> Result<Vec<(P, T)>, AllocError>
@@ -28,42 +28,28 @@ fn take_all<P: Ptr, T: Drop, A: ArenaTrait<P, T>>(
     Ok(taken)
 }
 
-#[test]
-fn all_entries_by_rising_index(rt: HostRuntime) {
-    let mut arena = three(&rt, rt.alloc());
-    owns(
-        &rt,
-        rt.alloc(),
-        &mut arena,
-        &[(Own::Insert(40), "Ok(4.2)"), (Own::Insert(50), "Ok(5.2)")],
-    );
-    changes(
-        &rt,
-        rt.alloc(),
-        &mut arena,
-        &[(
-            Change::Remove(1, 2),
-            "Success(10)",
-            "[(2.2, 20), (3.2, 30), (4.2, 40), (5.2, 50)]",
-        )],
-    );
-    let taken = take_all(rt.alloc(), &mut arena).expect(&rt, "memory");
-    same(
-        &rt,
-        "what was taken",
-        text(&rt, rt.alloc(), taken).as_str(),
-        "[(2.2, 20), (3.2, 30), (4.2, 40), (5.2, 50)]",
-    );
-    same(&rt, "nothing is left", arena.is_empty(), true);
+// Adds an entry at the only index, and removes it.
+fn reuse<P: Ptr>(rt: &impl Abort, arena: &mut Arena<P, u32>, value: u32) {
+    let p = arena.insert_reallocating(value).ok().expect(rt, "an entry");
+    same(rt, "the pointer", p, P::invalid());
+    let answer = arena.remove(p);
+    same(rt, "the value", answer, InvalidationResult::Success(value));
 }
 
+fn check_taking<P: Ptr>(rt: &impl Abort, alloc: Global, mut arena: Arena<P, u32>) {
+    let taken = take_all(alloc, &mut arena).expect(rt, "memory");
+    same(rt, "taken", (taken.len(), arena.is_empty()), (5, true));
+}
+
+// Pointers to indexes alone: an index is used again under the same pointer, and the entries are taken out.
 #[test]
-fn all_entries_without_generations(rt: HostRuntime) {
+fn pointers_without_generations(rt: HostRuntime) {
     let mut arena: Arena<BarePtr, u32> = Arena::new(rt.alloc());
+    for k in 0..300u32 {
+        reuse(&rt, &mut arena, k);
+    }
     for k in 0..5u32 {
         same(&rt, "room", arena.insert_reallocating(k).is_ok(), true);
     }
-    let taken = take_all(rt.alloc(), &mut arena).expect(&rt, "memory");
-    same(&rt, "what was taken", taken.len(), 5);
-    same(&rt, "nothing is left", arena.is_empty(), true);
+    check_taking(&rt, rt.alloc(), arena);
 }

@@ -1,15 +1,17 @@
-// Calls of arenas as rows of tables, each with the text of its answer and of what the arena holds then.
+// Calls of arenas as rows of tables, each with the text of its answer.
+use crate::tests::generic::take_all;
 use crate::tests::pointers::SmallPtr;
 use crate::tests::tools::{Slots, at, gen8, inx8, same, text};
-use arena_base::{Advancer, Arena, ArenaTrait};
-use arena_ptr::{Gen8, NotWithinCapacityError, Ptr, SlotStack};
+use arena_base::{Advancer, Arena, ArenaTrait, Compactor, SlotAccess, Work};
+use arena_ptr::{Gen8, Inx8, NotWithinCapacityError, Ptr, SlotStack};
 use std::alloc::Global;
 use std::mem;
 use std::process::Abort;
 
-// A call of the trait that changes nothing. A pointer is its index and its generation.
+// A call on an arena. A pointer is its index and its generation.
 #[derive(Clone, Copy, Debug)]
-pub(super) enum Look {
+pub(super) enum Call {
+    // Looks of the trait.
     Len,
     IsEmpty,
     Capacity,
@@ -21,14 +23,13 @@ pub(super) enum Look {
     GetInx(u8),
     First,
     Last,
+    // The first answer of an advancer, the first three of one from an index on, and that of an empty one.
     Advance,
     AdvanceFrom(u8, bool),
     AdvanceEmpty,
-}
-
-// A call of the trait that may change the arena.
-#[derive(Clone, Copy, Debug)]
-pub(super) enum Change {
+    // The pointers and the values that the indexes show.
+    Held,
+    // Changes of the trait.
     Write(u8, u8, u32),
     WriteInx(u8, u32),
     Invalidate(u8, u8),
@@ -36,12 +37,9 @@ pub(super) enum Change {
     RemoveInx(u8),
     Clear,
     Reserve(usize),
-}
-
-// A call of the arena itself.
-#[derive(Clone, Copy, Debug)]
-pub(super) enum Own {
+    // Calls of the arena itself.
     Insert(u32),
+    InsertMany(u32),
     InsertWithin(u32),
     Enter(u32),
     Generation,
@@ -49,9 +47,17 @@ pub(super) enum Own {
     IncGeneration,
     Slots,
     Entries,
+    // Takes the entries out by an advancer, or with the arena.
+    TakeAll,
+    Drain,
+    // Calls of a compactor: a move to an index with a generation, a write after looks at two indexes, and none.
+    Move(u8, u8, u8),
+    Rewrite(u8, u8, u32),
+    DropCompactor,
+    ForgetCompactor,
 }
 
-// What an arena holds: the pointers and the values.
+// What an arena holds, as its indexes show it.
 fn listed<A: ArenaTrait<SmallPtr, u32>>(
     rt: &impl Abort,
     alloc: Global,
@@ -65,17 +71,6 @@ fn listed<A: ArenaTrait<SmallPtr, u32>>(
         }
     }
     entries
-}
-
-// The text of what an arena holds is this one.
-pub(super) fn listed_are<A: ArenaTrait<SmallPtr, u32>>(
-    rt: &impl Abort,
-    alloc: Global,
-    arena: &A,
-    want: &str,
-) {
-    let entries = text(rt, alloc, listed(rt, alloc, arena));
-    same(rt, "what is held", entries.as_str(), want);
 }
 
 fn number(generation: Gen8) -> u8 {
@@ -99,65 +94,79 @@ fn overwritten(slot: Option<&mut u32>, value: u32) -> Option<u32> {
     }
 }
 
-fn look_answer<A: ArenaTrait<SmallPtr, u32>>(
-    rt: &impl Abort,
-    alloc: Global,
-    arena: &A,
-    call: Look,
-) -> String {
-    match call {
-        Look::Len => text(rt, alloc, arena.len()),
-        Look::IsEmpty => text(rt, alloc, arena.is_empty()),
-        Look::Capacity => text(rt, alloc, arena.capacity()),
-        Look::HasRoom(n) => text(rt, alloc, arena.capacity() >= n),
-        Look::Maximum => text(rt, alloc, arena.max_capacity()),
-        Look::Counter => text(rt, alloc, arena.singular_generation().map(number)),
-        Look::Contains(i, g) => text(rt, alloc, arena.contains(at(rt, i, g))),
-        Look::Get(i, g) => text(rt, alloc, arena.get(at(rt, i, g))),
-        Look::GetInx(i) => text(rt, alloc, arena.get_inx(inx8(rt, i)).map(shared_numbers)),
-        Look::First => text(rt, alloc, arena.find_first_inx_ptr()),
-        Look::Last => text(rt, alloc, arena.find_last_inx_ptr()),
-        Look::Advance => text(rt, alloc, arena.advancer().advance(arena)),
-        Look::AdvanceFrom(i, rev) => {
-            let mut advancer = arena.advancer_inx(inx8(rt, i), rev);
-            text(rt, alloc, advancer.advance(arena))
-        }
-        Look::AdvanceEmpty => {
-            let mut advancer = A::PtrAdvancer::empty();
-            text(rt, alloc, advancer.advance(arena))
-        }
-    }
+// The first three answers of an advancer.
+fn thrice<C, A: Advancer<C, Item = SmallPtr>>(
+    mut advancer: A,
+    collection: &C,
+) -> [Option<SmallPtr>; 3] {
+    [
+        advancer.advance(collection),
+        advancer.advance(collection),
+        advancer.advance(collection),
+    ]
 }
 
-fn change_answer<A: ArenaTrait<SmallPtr, u32>>(
+// The answer to a call of the trait.
+fn trait_answer<A: ArenaTrait<SmallPtr, u32>>(
     rt: &impl Abort,
     alloc: Global,
     arena: &mut A,
-    call: Change,
+    call: Call,
 ) -> String {
     match call {
-        Change::Write(i, g, value) => {
+        Call::Len => text(rt, alloc, arena.len()),
+        Call::IsEmpty => text(rt, alloc, arena.is_empty()),
+        Call::Capacity => text(rt, alloc, arena.capacity()),
+        Call::HasRoom(n) => text(rt, alloc, arena.capacity() >= n),
+        Call::Maximum => text(rt, alloc, arena.max_capacity()),
+        Call::Counter => text(rt, alloc, arena.singular_generation().map(number)),
+        Call::Contains(i, g) => text(rt, alloc, arena.contains(at(rt, i, g))),
+        Call::Get(i, g) => text(rt, alloc, arena.get(at(rt, i, g))),
+        Call::GetInx(i) => text(rt, alloc, arena.get_inx(inx8(rt, i)).map(shared_numbers)),
+        Call::First => text(rt, alloc, arena.find_first_inx_ptr()),
+        Call::Last => text(rt, alloc, arena.find_last_inx_ptr()),
+        Call::Advance => text(rt, alloc, arena.advancer().advance(arena)),
+        Call::AdvanceFrom(i, rev) => {
+            let advancer = arena.advancer_inx(inx8(rt, i), rev);
+            text(rt, alloc, thrice(advancer, arena))
+        }
+        Call::AdvanceEmpty => text(rt, alloc, A::PtrAdvancer::empty().advance(arena)),
+        Call::Held => text(rt, alloc, listed(rt, alloc, arena)),
+        Call::Write(i, g, value) => {
             text(rt, alloc, overwritten(arena.get_mut(at(rt, i, g)), value))
         }
-        Change::WriteInx(i, value) => {
+        Call::WriteInx(i, value) => {
             text(
                 rt,
                 alloc,
                 overwritten(arena.get_inx_mut(inx8(rt, i)), value),
             )
         }
-        Change::Invalidate(i, g) => text(rt, alloc, arena.invalidate(at(rt, i, g))),
-        Change::Remove(i, g) => text(rt, alloc, arena.remove(at(rt, i, g))),
-        Change::RemoveInx(i) => {
+        Call::Invalidate(i, g) => text(rt, alloc, arena.invalidate(at(rt, i, g))),
+        Call::Remove(i, g) => text(rt, alloc, arena.remove(at(rt, i, g))),
+        Call::RemoveInx(i) => {
             text(
                 rt,
                 alloc,
                 arena.remove_inx(inx8(rt, i)).allow().map(numbers),
             )
         }
-        Change::Clear => text(rt, alloc, arena.clear()),
-        Change::Reserve(n) => text(rt, alloc, arena.reallocate_min_capacity(n)),
+        Call::Clear => text(rt, alloc, arena.clear()),
+        Call::Reserve(n) => text(rt, alloc, arena.reallocate_min_capacity(n)),
+        Call::TakeAll => text(rt, alloc, take_all(alloc, arena)),
+        _ => text(rt, alloc, "no call of the trait"),
     }
+}
+
+// Adds as many entries, the values from 0 on, and counts those that were added.
+fn insert_many<S: SlotStack<Item = Slots>>(arena: &mut Arena<SmallPtr, u32, S>, n: u32) -> u32 {
+    let mut added = 0u32;
+    for k in 0..n {
+        if arena.insert_reallocating(k).is_ok() {
+            added = added.saturating_add(1);
+        }
+    }
+    added
 }
 
 // Adds an entry whose pointer is known before.
@@ -165,10 +174,14 @@ fn enter<S: SlotStack<Item = Slots>>(
     arena: &mut Arena<SmallPtr, u32, S>,
     value: u32,
 ) -> Result<SmallPtr, NotWithinCapacityError> {
-    let entry = arena.entry_insert_within_capacity()?;
-    let p = entry.ptr();
-    entry.insert(value);
-    Ok(p)
+    match arena.entry_insert_within_capacity() {
+        Ok(entry) => {
+            let p = entry.ptr();
+            entry.insert(value);
+            Ok(p)
+        }
+        Err(error) => Err(error),
+    }
 }
 
 // What an arena holds, as its iterator goes over it.
@@ -184,79 +197,144 @@ fn iterated<S: SlotStack<Item = Slots>>(
     entries
 }
 
-fn own_answer<S: SlotStack<Item = Slots>>(
+// What is taken out of an arena that is used up. A new one is left.
+fn drained<S: SlotStack<Item = Slots>>(
     rt: &impl Abort,
     alloc: Global,
     arena: &mut Arena<SmallPtr, u32, S>,
-    call: Own,
-) -> String {
-    match call {
-        Own::Insert(value) => text(rt, alloc, arena.insert_reallocating(value)),
-        Own::InsertWithin(value) => text(rt, alloc, arena.insert_within_capacity(value)),
-        Own::Enter(value) => text(rt, alloc, enter(arena, value)),
-        Own::Generation => text(rt, alloc, arena.generation().get()),
-        Own::SetGeneration(g) => {
-            arena.set_generation(gen8(rt, g));
-            text(rt, alloc, ())
-        }
-        Own::IncGeneration => text(rt, alloc, arena.inc_generation()),
-        Own::Slots => text(rt, alloc, arena.backing().len()),
-        Own::Entries => text(rt, alloc, iterated(rt, alloc, arena)),
+) -> Vec<(SmallPtr, u32)> {
+    let mut entries = Vec::new(alloc);
+    for entry in mem::replace(arena, Arena::new(alloc)) {
+        entries.push(entry).expect(rt, "memory");
+    }
+    entries
+}
+
+// Moves an entry within the slots, and tells whether one stands there.
+fn moves<S: SlotStack<Item = Slots>>(
+    compactor: &mut Compactor<'_, SmallPtr, u32, S>,
+    from: Inx8,
+    to: Inx8,
+    generation: Gen8,
+) -> bool {
+    let count = compactor.slots();
+    if from.get() as usize > count || to.get() as usize > count {
+        return false;
+    }
+    if compactor.peek(from).is_none() {
+        return false;
+    }
+    compactor.place(from, to, generation);
+    true
+}
+
+// The number of slots, whether an entry was moved, and what was counted.
+fn moved<S: SlotStack<Item = Slots>>(
+    arena: &mut Arena<SmallPtr, u32, S>,
+    from: Inx8,
+    to: Inx8,
+    generation: Gen8,
+) -> (usize, bool, Work) {
+    let mut compactor = arena.compactor();
+    let slots = compactor.slots();
+    let done = moves(&mut compactor, from, to, generation);
+    (slots, done, compactor.finish())
+}
+
+// The value that a compactor shows.
+fn peeked<S: SlotStack<Item = Slots>>(
+    compactor: &mut Compactor<'_, SmallPtr, u32, S>,
+    i: Inx8,
+) -> Option<u32> {
+    match compactor.peek(i) {
+        Some((_, t)) => Some(*t),
+        None => None,
     }
 }
 
-// Each look answers its text.
-pub(super) fn looks<A: ArenaTrait<SmallPtr, u32>>(
+// The values that a compactor shows at two indexes, that which it overwrites at the first, and what was counted.
+fn rewritten<S: SlotStack<Item = Slots>>(
+    arena: &mut Arena<SmallPtr, u32, S>,
+    i: Inx8,
+    other: Inx8,
+    value: u32,
+) -> ([Option<u32>; 3], Work) {
+    let mut compactor = arena.compactor();
+    let shown = peeked(&mut compactor, i);
+    let beside = peeked(&mut compactor, other);
+    let was = overwritten(compactor.value_mut(i), value);
+    ([shown, beside, was], compactor.finish())
+}
+
+fn answer_to<S: SlotStack<Item = Slots>>(
     rt: &impl Abort,
     alloc: Global,
-    arena: &A,
-    rows: &[(Look, &str)],
-) {
-    for (call, want) in rows {
-        let got = look_answer(rt, alloc, arena, *call);
-        assert_eq!(rt; got.as_str(), *want, "{call:?}");
+    arena: &mut Arena<SmallPtr, u32, S>,
+    call: Call,
+) -> String {
+    match call {
+        Call::Insert(value) => text(rt, alloc, arena.insert_reallocating(value)),
+        Call::InsertMany(n) => text(rt, alloc, insert_many(arena, n)),
+        Call::InsertWithin(value) => text(rt, alloc, arena.insert_within_capacity(value)),
+        Call::Enter(value) => text(rt, alloc, enter(arena, value)),
+        Call::Generation => text(rt, alloc, arena.generation().get()),
+        Call::SetGeneration(g) => text(rt, alloc, arena.set_generation(gen8(rt, g))),
+        Call::IncGeneration => text(rt, alloc, arena.inc_generation()),
+        Call::Slots => text(rt, alloc, arena.backing().len()),
+        Call::Entries => text(rt, alloc, iterated(rt, alloc, arena)),
+        Call::Drain => text(rt, alloc, drained(rt, alloc, arena)),
+        Call::Move(from, to, g) => {
+            text(
+                rt,
+                alloc,
+                moved(arena, inx8(rt, from), inx8(rt, to), gen8(rt, g)),
+            )
+        }
+        Call::Rewrite(i, other, value) => {
+            text(
+                rt,
+                alloc,
+                rewritten(arena, inx8(rt, i), inx8(rt, other), value),
+            )
+        }
+        Call::DropCompactor => text(rt, alloc, drop(arena.compactor())),
+        Call::ForgetCompactor => text(rt, alloc, mem::forget(arena.compactor())),
+        other => trait_answer(rt, alloc, arena, other),
     }
 }
 
-// Each change answers its text, and leaves what the next text tells.
-pub(super) fn changes<A: ArenaTrait<SmallPtr, u32>>(
+// Each call of the trait answers its text.
+pub(super) fn asks<A: ArenaTrait<SmallPtr, u32>>(
     rt: &impl Abort,
     alloc: Global,
     arena: &mut A,
-    rows: &[(Change, &str, &str)],
+    rows: &[(Call, &str)],
 ) {
-    for (call, want, left) in rows {
-        let got = change_answer(rt, alloc, arena, *call);
+    for (call, want) in rows {
+        let got = trait_answer(rt, alloc, arena, *call);
         assert_eq!(rt; got.as_str(), *want, "{call:?}");
-        listed_are(rt, alloc, arena, left);
     }
 }
 
-// Each call of the arena itself answers its text.
-pub(super) fn owns<S: SlotStack<Item = Slots>>(
+// Each call answers its text.
+pub(super) fn runs<S: SlotStack<Item = Slots>>(
     rt: &impl Abort,
     alloc: Global,
     arena: &mut Arena<SmallPtr, u32, S>,
-    rows: &[(Own, &str)],
+    rows: &[(Call, &str)],
 ) {
     for (call, want) in rows {
-        let got = own_answer(rt, alloc, arena, *call);
+        let got = answer_to(rt, alloc, arena, *call);
         assert_eq!(rt; got.as_str(), *want, "{call:?}");
     }
 }
 
-// An arena with the entries 10, 20 and 30 at 1, 2 and 3.
-pub(super) fn three(rt: &impl Abort, alloc: Global) -> Arena<SmallPtr, u32> {
-    let mut arena = Arena::new(alloc);
-    owns(
-        rt,
-        alloc,
-        &mut arena,
-        &[
-            (Own::Insert(10), "Ok(1.2)"),
-            (Own::Insert(20), "Ok(2.2)"),
-            (Own::Insert(30), "Ok(3.2)"),
-        ],
-    );
-    arena
+// Each call on a new arena answers its text.
+pub(super) fn plays<S: SlotStack<Item = Slots>>(
+    rt: &impl Abort,
+    alloc: Global,
+    rows: &[(Call, &str)],
+) {
+    let mut arena: Arena<SmallPtr, u32, S> = Arena::new(alloc);
+    runs(rt, alloc, &mut arena, rows);
 }

@@ -176,39 +176,21 @@ impl<S: LimitStack> LimitStack for Rationed<S> {
 // A call on a stack of numbers.
 #[derive(Clone, Copy)]
 enum Call {
+    // Pushes the numbers from 0 on, as many.
+    Fill(u32),
     Push(u32),
     Reserve(usize),
     Limit(usize),
 }
 
 // What a call answers.
-#[derive(Clone, Copy, Debug, PartialEq, Eq)]
+#[derive(Clone, Copy, Debug)]
 enum Answer {
     Done,
     Grown,
     NoMemory,
     BeyondMaximum,
     BelowCapacity,
-}
-
-fn answer_to<S: LimitStack<Item = u32>>(stack: &mut S, call: Call) -> Answer {
-    match call {
-        Call::Push(item) => match push(stack, item) {
-            Ok(true) => Answer::Grown,
-            Ok(false) => Answer::Done,
-            Err(ReallocationError::AllocError) => Answer::NoMemory,
-            Err(ReallocationError::BeyondMaxCapacity) => Answer::BeyondMaximum,
-        },
-        Call::Reserve(n) => match stack.reserve_to(n) {
-            Ok(()) => Answer::Done,
-            Err(ReallocationError::AllocError) => Answer::NoMemory,
-            Err(ReallocationError::BeyondMaxCapacity) => Answer::BeyondMaximum,
-        },
-        Call::Limit(n) => match limit(stack, n) {
-            Ok(()) => Answer::Done,
-            Err(MaxCapacityReductionError) => Answer::BelowCapacity,
-        },
-    }
 }
 
 // The length, the capacity and the maximum.
@@ -237,6 +219,44 @@ fn fill<S: SlotStack<Item = u32>>(rt: &impl Abort, stack: &mut S, n: u32) -> u64
     growths
 }
 
+fn answer_to<S: LimitStack<Item = u32>>(rt: &impl Abort, stack: &mut S, call: Call) -> Answer {
+    match call {
+        Call::Fill(n) => {
+            fill(rt, stack, n);
+            Answer::Done
+        }
+        Call::Push(item) => match push(stack, item) {
+            Ok(true) => Answer::Grown,
+            Ok(false) => Answer::Done,
+            Err(ReallocationError::AllocError) => Answer::NoMemory,
+            Err(ReallocationError::BeyondMaxCapacity) => Answer::BeyondMaximum,
+        },
+        Call::Reserve(n) => match stack.reserve_to(n) {
+            Ok(()) => Answer::Done,
+            Err(ReallocationError::AllocError) => Answer::NoMemory,
+            Err(ReallocationError::BeyondMaxCapacity) => Answer::BeyondMaximum,
+        },
+        Call::Limit(n) => match limit(stack, n) {
+            Ok(()) => Answer::Done,
+            Err(MaxCapacityReductionError) => Answer::BelowCapacity,
+        },
+    }
+}
+
+// Each call answers, and leaves the length, the capacity, the maximum and the items, as its text tells.
+fn runs<S: LimitStack<Item = u32>>(
+    rt: &impl Abort,
+    alloc: Global,
+    stack: &mut S,
+    rows: &[(Call, &str)],
+) {
+    for (call, want) in rows {
+        let answer = answer_to(rt, stack, *call);
+        let after = text(rt, alloc, (answer, shape(stack), held(rt, alloc, stack)));
+        same(rt, "after a call", after.as_str(), *want);
+    }
+}
+
 // Edits a stack of a thousand numbers, of which four are left.
 fn edit<S: SlotStack<Item = u32>>(rt: &impl Abort, stack: &mut S) {
     assert!(rt; stack.len() == 1000);
@@ -245,6 +265,15 @@ fn edit<S: SlotStack<Item = u32>>(rt: &impl Abort, stack: &mut S) {
     *slot_mut(stack, 3) = 80;
     stack.truncate(4);
     stack.truncate(4);
+}
+
+// A stack of a thousand numbers, read at its end and beyond.
+fn check_ends<S: SlotStack<Item = u32>>(rt: &impl Abort, alloc: Global) {
+    let mut stack = S::new(alloc);
+    fill(rt, &mut stack, 1000);
+    let last = (stack.get(999).copied(), stack.get(1000).copied());
+    same(rt, "the last", last, (Some(999), None));
+    same(rt, "none beyond", stack.get_mut(1000).is_none(), true);
 }
 
 // A stack that is filled, read and edited.
@@ -289,164 +318,136 @@ fn check_refused_memory<S: SlotStack<Item = u32>>(rt: &impl Abort, alloc: Global
 
 // A stack with a maximum, which is tested before memory is asked for.
 fn check_maximum<S: LimitStack<Item = u32>>(rt: &impl Abort, alloc: Global, stack: &mut S) {
-    same(
+    runs(
         rt,
-        "a maximum",
-        answer_to(stack, Call::Limit(5)),
-        Answer::Done,
+        alloc,
+        stack,
+        &[
+            (Call::Limit(5), "(Done, (0, 0, Some(5)), [])"),
+            (Call::Fill(5), "(Done, (5, 5, Some(5)), [0, 1, 2, 3, 4])"),
+            (
+                Call::Reserve(6),
+                "(BeyondMaximum, (5, 5, Some(5)), [0, 1, 2, 3, 4])",
+            ),
+            (
+                Call::Reserve(usize::MAX),
+                "(BeyondMaximum, (5, 5, Some(5)), [0, 1, 2, 3, 4])",
+            ),
+            (
+                Call::Push(5),
+                "(BeyondMaximum, (5, 5, Some(5)), [0, 1, 2, 3, 4])",
+            ),
+            (Call::Reserve(5), "(Done, (5, 5, Some(5)), [0, 1, 2, 3, 4])"),
+            (
+                Call::Limit(4),
+                "(BelowCapacity, (5, 5, Some(5)), [0, 1, 2, 3, 4])",
+            ),
+            (Call::Limit(5), "(Done, (5, 5, Some(5)), [0, 1, 2, 3, 4])"),
+            (Call::Limit(7), "(Done, (5, 5, Some(7)), [0, 1, 2, 3, 4])"),
+            (
+                Call::Push(5),
+                "(Grown, (6, 7, Some(7)), [0, 1, 2, 3, 4, 5])",
+            ),
+            (
+                Call::Push(6),
+                "(Done, (7, 7, Some(7)), [0, 1, 2, 3, 4, 5, 6])",
+            ),
+            (
+                Call::Push(7),
+                "(BeyondMaximum, (7, 7, Some(7)), [0, 1, 2, 3, 4, 5, 6])",
+            ),
+        ],
     );
-    same(rt, "set", shape(stack).2, Some(5));
-    fill(rt, stack, 5);
-    for (call, want, after, items) in [
-        (
-            Call::Reserve(6),
-            Answer::BeyondMaximum,
-            (5, 5, Some(5)),
-            "[0, 1, 2, 3, 4]",
-        ),
-        (
-            Call::Reserve(usize::MAX),
-            Answer::BeyondMaximum,
-            (5, 5, Some(5)),
-            "[0, 1, 2, 3, 4]",
-        ),
-        (
-            Call::Push(5),
-            Answer::BeyondMaximum,
-            (5, 5, Some(5)),
-            "[0, 1, 2, 3, 4]",
-        ),
-        (
-            Call::Reserve(5),
-            Answer::Done,
-            (5, 5, Some(5)),
-            "[0, 1, 2, 3, 4]",
-        ),
-        (
-            Call::Limit(4),
-            Answer::BelowCapacity,
-            (5, 5, Some(5)),
-            "[0, 1, 2, 3, 4]",
-        ),
-        (
-            Call::Limit(5),
-            Answer::Done,
-            (5, 5, Some(5)),
-            "[0, 1, 2, 3, 4]",
-        ),
-        (
-            Call::Limit(7),
-            Answer::Done,
-            (5, 5, Some(7)),
-            "[0, 1, 2, 3, 4]",
-        ),
-        (
-            Call::Push(5),
-            Answer::Grown,
-            (6, 7, Some(7)),
-            "[0, 1, 2, 3, 4, 5]",
-        ),
-        (
-            Call::Push(6),
-            Answer::Done,
-            (7, 7, Some(7)),
-            "[0, 1, 2, 3, 4, 5, 6]",
-        ),
-        (
-            Call::Push(7),
-            Answer::BeyondMaximum,
-            (7, 7, Some(7)),
-            "[0, 1, 2, 3, 4, 5, 6]",
-        ),
-    ] {
-        same(rt, "an answer", answer_to(stack, call), want);
-        same(rt, "the shape", shape(stack), after);
-        let left = text(rt, alloc, held(rt, alloc, stack));
-        same(rt, "what is held", left.as_str(), items);
+}
+
+// Appends the numbers from 0 on, at most a hundred, until one is refused.
+fn push_until_refused<S: SlotStack<Item = u32>>(stack: &mut S) {
+    for k in 0..100 {
+        if push(stack, k).is_err() {
+            break;
+        }
     }
 }
 
-#[test]
-fn heap_stacks_hold_a_list(rt: HostRuntime) {
-    check_edits::<HeapStack<u32>>(&rt, rt.alloc());
-    check_refused_memory(&rt, rt.alloc(), &mut HeapStack::new(rt.alloc()));
+// Capacities 0, 1, 2 and 4, each of them used up before the refusal.
+fn check_growths<S: SlotStack<Item = u32>>(rt: &impl Abort, alloc: Global) {
+    for (ration, want) in [
+        (0, "((0, 0, None), [])"),
+        (1, "((1, 1, None), [0])"),
+        (2, "((2, 2, None), [0, 1])"),
+        (3, "((4, 4, None), [0, 1, 2, 3])"),
+    ] {
+        let mut stack = Rationed {
+            inner: S::new(alloc),
+            ration,
+        };
+        push_until_refused(&mut stack);
+        let left = text(rt, alloc, (shape(&stack), held(rt, alloc, &stack)));
+        same(rt, "all used", left.as_str(), want);
+    }
+}
+
+// Items that own memory, four of which two are dropped and one is replaced.
+fn check_owners<S: SlotStack<Item = Vec<i32>>>(rt: &impl Abort, alloc: Global) {
+    let mut stack = S::new(alloc);
+    for k in 1..5 {
+        let item = Vec::from_array(alloc, [k, k + 1]).expect(rt, "memory");
+        push(&mut stack, item).ok().expect(rt, "room");
+    }
+    assert!(rt; stack.len() == 4);
+    stack.truncate(2);
+    same(rt, "the second", stack.get(1).map(|v| v.len()), Some(2));
+    let empty = Vec::new(stack.allocator());
+    let was = replace(&mut stack, 0, empty);
+    same(rt, "one was there", was.is_some(), true);
+}
+
+// A stack with a maximum, one over it, one with the greatest maximum and one that never grows.
+fn check_limits<S: LimitStack<Item = u32>>(rt: &impl Abort, alloc: Global) {
+    check_maximum(rt, alloc, &mut S::new(alloc));
+    let mut rationed = Rationed {
+        inner: S::new(alloc),
+        ration: 100,
+    };
+    check_maximum(rt, alloc, &mut rationed);
+    let mut wide = S::new(alloc);
+    same(rt, "a maximum", limit(&mut wide, usize::MAX), Ok(()));
+    check_refused_memory(rt, alloc, &mut wide);
+    runs(
+        rt,
+        alloc,
+        &mut S::new(alloc),
+        &[
+            (Call::Limit(0), "(Done, (0, 0, Some(0)), [])"),
+            (Call::Push(1), "(BeyondMaximum, (0, 0, Some(0)), [])"),
+        ],
+    );
+}
+
+// A stack that holds a list.
+fn check_list<S: SlotStack<Item = u32>>(rt: &impl Abort, alloc: Global) {
+    check_edits::<S>(rt, alloc);
+    check_ends::<S>(rt, alloc);
+    check_refused_memory(rt, alloc, &mut S::new(alloc));
 }
 
 #[test]
-fn limited_stacks_hold_a_list(rt: HostRuntime) {
-    check_edits::<LimitedStack<u32>>(&rt, rt.alloc());
-    check_refused_memory(&rt, rt.alloc(), &mut LimitedStack::new(rt.alloc()));
-    let mut wide = LimitedStack::new(rt.alloc());
-    same(&rt, "a maximum", limit(&mut wide, usize::MAX), Ok(()));
-    check_refused_memory(&rt, rt.alloc(), &mut wide);
+fn both_stacks_hold_a_list(rt: HostRuntime) {
+    check_list::<HeapStack<u32>>(&rt, rt.alloc());
+    check_list::<LimitedStack<u32>>(&rt, rt.alloc());
 }
 
 #[test]
 fn limited_stacks_stop_at_their_maximum(rt: HostRuntime) {
-    check_maximum(&rt, rt.alloc(), &mut LimitedStack::new(rt.alloc()));
-    let mut rationed = Rationed {
-        inner: LimitedStack::new(rt.alloc()),
-        ration: 100,
-    };
-    check_maximum(&rt, rt.alloc(), &mut rationed);
+    check_limits::<LimitedStack<u32>>(&rt, rt.alloc());
 }
 
-#[test]
-fn a_full_stack_reads_to_its_end(rt: HostRuntime) {
-    let mut stack: HeapStack<u32> = HeapStack::new(rt.alloc());
-    fill(&rt, &mut stack, 1000);
-    let last = (stack.get(999).copied(), stack.get(1000).copied());
-    same(&rt, "the last", last, (Some(999), None));
-    same(&rt, "none beyond", stack.get_mut(1000).is_none(), true);
-}
-
-#[test]
-fn a_stack_that_never_grows_stays_empty(rt: HostRuntime) {
-    let mut stack = LimitedStack::new(rt.alloc());
-    for (call, want) in [
-        (Call::Limit(0), Answer::Done),
-        (Call::Push(1), Answer::BeyondMaximum),
-    ] {
-        same(&rt, "an answer", answer_to(&mut stack, call), want);
-    }
-    same(&rt, "empty", shape(&stack), (0, 0, Some(0)));
-}
-
-// Capacities 0, 1, 2 and 4, each of them used up before the refusal.
 #[test]
 fn each_growth_may_be_refused(rt: HostRuntime) {
-    for (ration, capacity, items) in [
-        (0, 0, "[]"),
-        (1, 1, "[0]"),
-        (2, 2, "[0, 1]"),
-        (3, 4, "[0, 1, 2, 3]"),
-    ] {
-        let mut stack = Rationed {
-            inner: HeapStack::new(rt.alloc()),
-            ration,
-        };
-        for k in 0..100 {
-            if push(&mut stack, k).is_err() {
-                break;
-            }
-        }
-        same(&rt, "all used", shape(&stack), (capacity, capacity, None));
-        let left = text(&rt, rt.alloc(), held(&rt, rt.alloc(), &stack));
-        same(&rt, "what is held", left.as_str(), items);
-    }
+    check_growths::<HeapStack<u32>>(&rt, rt.alloc());
 }
 
 #[test]
 fn items_that_own_memory_are_dropped(rt: HostRuntime) {
-    let mut stack = HeapStack::new(rt.alloc());
-    for k in 1..5 {
-        let item = Vec::from_array(rt.alloc(), [k, k + 1]).expect(&rt, "memory");
-        push(&mut stack, item).ok().expect(&rt, "room");
-    }
-    assert!(&rt; stack.len() == 4);
-    stack.truncate(2);
-    same(&rt, "the second", stack.get(1).map(|v| v.len()), Some(2));
-    let empty = Vec::new(stack.allocator());
-    let was = replace(&mut stack, 0, empty);
-    same(&rt, "one was there", was.is_some(), true);
+    check_owners::<HeapStack<Vec<i32>>>(&rt, rt.alloc());
 }
