@@ -1,5 +1,5 @@
 -- An advancer over entries of which the first is taken out at each step.
-use Rattle.std.proofs.Common.{◌≡◌, ℕ, suc, ◌+◌, ◌≤◌, subst, Bool, true, cond, leb, List, [], ◌∷◌, ◌++◌, map, length, Option, None, Some, refl, ap, sym, ◌∙◌, arith, rules}
+use Rattle.std.proofs.Common.{◌≡◌, ℕ, suc, ◌+◌, ◌≤◌, subst, true, cond, leb, List, [], ◌∷◌, ◌++◌, map, length, Option, None, Some, refl, ap, sym, ◌∙◌, arith, rules}
 use Rattle.std.specs.Prelude.{◌==◌}
 use Rattle.arena_base.specs.Entries.{RisesFrom, first_key, found, without}
 use Rattle.arena_base.specs.Advancing.{from_index}

@@ -1,9 +1,8 @@
 -- The first entry is taken at each step.
-use Rattle.std.proofs.Common.{◌≡◌, ℕ, suc, ◌+◌, ◌++◌, [], ◌∷◌, length, map, Some, None, sym, ◌∙◌, ap, arith, refl}
+use Rattle.std.proofs.Common.{◌≡◌, ℕ, suc, ◌+◌, ◌++◌, [], ◌∷◌, length, map, Some, None, sym, ◌∙◌, ap, arith}
 use Rattle.std.specs.Prelude.{is_some}
 use Rattle.std.proofs.lemmas.List.{append-nil}
-use Rattle.arena_ptr.specs.Invalidation.{value_within}
-use Rattle.arena_base.specs.Entries.{first_key, found, without, RisesFrom}
+use Rattle.arena_base.specs.Entries.{first_key, RisesFrom}
 use Rattle.arena_base.specs.Advancing.{from_index, ahead, look_after}
 use Rattle.arena_trials.specs.Taking.{keyed}
 use Rattle.arena_base.specs.declared.look.Look.TheVariants.{Up}
