@@ -253,7 +253,7 @@ fn runs<S: LimitStack<Item = u32>>(
     for (call, want) in rows {
         let answer = answer_to(rt, stack, *call);
         let after = text(rt, alloc, (answer, shape(stack), held(rt, alloc, stack)));
-        same(rt, "after a call", after.as_str(), *want);
+        same(rt, want, after.as_str(), *want);
     }
 }
 
@@ -383,7 +383,7 @@ fn check_growths<S: SlotStack<Item = u32>>(rt: &impl Abort, alloc: Global) {
         };
         push_until_refused(&mut stack);
         let left = text(rt, alloc, (shape(&stack), held(rt, alloc, &stack)));
-        same(rt, "all used", left.as_str(), want);
+        same(rt, want, left.as_str(), want);
     }
 }
 

@@ -1,7 +1,7 @@
-//! The rows that any arena of links meets, at the chain arena over both stacks and at an arena that hands each call on.
+//! The rows that any arena of links meets, at the chain arena and at an arena that hands each call on.
 
 use super::wrapped::Wrapped;
-use super::{Chains, LimitedChains, behind, calls, removal, rows};
+use super::{Chains, behind, calls, removal, rows};
 use arena_ptr::ToolPtr;
 use chain_arena::ChainArenaTrait;
 use std::alloc::Global;
@@ -22,11 +22,6 @@ fn check_all<A: ChainArenaTrait<ToolPtr, u32> + Drop>(
 #[test]
 fn a_chain_arena(rt: HostRuntime) -> Result<(), Fail> {
     check_all::<Chains>(&rt, rt.alloc())
-}
-
-#[test]
-fn a_chain_arena_over_a_limited_stack(rt: HostRuntime) -> Result<(), Fail> {
-    check_all::<LimitedChains>(&rt, rt.alloc())
 }
 
 #[test]

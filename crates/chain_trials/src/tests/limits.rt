@@ -36,9 +36,9 @@ fn an_index_type_of_255(rt: HostRuntime) {
     }
     same(&rt, "full", room(&arena), (255, 255));
     let refused = arena.insert_reallocating(LinkInsertKind::Disconnected, 256);
-    same(&rt, "a link", refused, Err(ChainInsertionError::AllocError));
+    assert!(rt; refused == Err(ChainInsertionError::AllocError));
     let refused = arena.reallocate_min_capacity(256);
-    same(&rt, "room", refused, Err(ReallocationError::AllocError));
+    assert!(rt; refused == Err(ReallocationError::AllocError));
     same(&rt, "as before", room(&arena), (255, 255));
 }
 
@@ -66,7 +66,7 @@ fn links_without_generations(rt: HostRuntime) {
         shown_at(&rt, &arena, 1),
         Some((1, Some(b), Some(b))),
     );
-    same(&rt, "gone", arena.remove(b), InvalidationResult::Success(2));
+    assert!(rt; arena.remove(b) == InvalidationResult::Success(2));
     same(&rt, "no link", shown_at(&rt, &arena, 2), None);
     same(
         &rt,
@@ -74,7 +74,7 @@ fn links_without_generations(rt: HostRuntime) {
         shown_at(&rt, &arena, 1),
         Some((1, Some(a), Some(a))),
     );
-    same(&rt, "the next", add(&rt, &mut arena, 9), bare(&rt, 2));
+    assert!(rt; add(&rt, &mut arena, 9) == bare(&rt, 2));
     same(
         &rt,
         "not tied",
@@ -95,9 +95,8 @@ fn a_generation_type_of_255(rt: HostRuntime) {
     );
     let greatest = Gen8::new(255).expect(&rt, "a generation");
     arena.set_generation(greatest);
-    same(&rt, "set", arena.generation(), greatest);
-    let over = InvalidationResult::GenerationOverflow(1);
-    same(&rt, "removed", arena.remove(p), over);
+    assert!(rt; arena.generation() == greatest);
+    assert!(rt; arena.remove(p) == InvalidationResult::GenerationOverflow(1));
     same(&rt, "again two", arena.generation().get(), 2);
     counts_on(&rt, &mut arena, greatest);
 }
@@ -105,12 +104,11 @@ fn a_generation_type_of_255(rt: HostRuntime) {
 // From two on, and once more over the greatest generation, by a clear.
 fn counts_on(rt: &impl Abort, arena: &mut ChainArena<SmallPtr, u32>, greatest: Gen8) {
     let fine = InvalidationOption::Success(());
-    same(rt, "incremented", arena.inc_generation(), fine);
+    assert!(rt; arena.inc_generation() == fine);
     same(rt, "three", arena.generation().get(), 3);
     arena.set_generation(greatest);
-    let cleared = (arena.clear(), arena.clear());
-    let over = InvalidationOption::GenerationOverflow(());
-    same(rt, "cleared", cleared, (over, fine));
+    assert!(rt; arena.clear() == InvalidationOption::GenerationOverflow(()));
+    assert!(rt; arena.clear() == fine);
     same(rt, "two", arena.generation().get(), 2);
 }
 
@@ -118,7 +116,7 @@ fn counts_on(rt: &impl Abort, arena: &mut ChainArena<SmallPtr, u32>, greatest: G
 #[test]
 fn a_maximum_of_two(rt: HostRuntime) {
     let mut arena = LimitedChains::new(rt.alloc());
-    same(&rt, "set", arena.set_max_capacity(2), Ok(()));
+    assert!(rt; arena.set_max_capacity(2).is_ok());
     let one = arena.insert_reallocating(LinkInsertKind::Disconnected, 1);
     let two = arena.insert_reallocating(LinkInsertKind::Disconnected, 2);
     assert!(rt; one.is_ok() && two.is_ok());
@@ -128,21 +126,11 @@ fn a_maximum_of_two(rt: HostRuntime) {
 // No growth is possible, and nothing changes.
 fn check_full(rt: &impl Abort, arena: &mut LimitedChains) {
     let refused = arena.insert_reallocating(LinkInsertKind::Disconnected, 3);
-    same(
-        rt,
-        "a link",
-        refused,
-        Err(ChainInsertionError::BeyondMaxCapacity),
-    );
+    assert!(rt; refused == Err(ChainInsertionError::BeyondMaxCapacity));
     let refused = arena.reallocate_min_capacity(3);
-    same(
-        rt,
-        "room",
-        refused,
-        Err(ReallocationError::BeyondMaxCapacity),
-    );
+    assert!(rt; refused == Err(ReallocationError::BeyondMaxCapacity));
     let refused = arena.set_max_capacity(1);
-    same(rt, "a lower one", refused, Err(MaxCapacityReductionError));
-    let room = (arena.len(), arena.capacity(), arena.max_capacity());
-    same(rt, "as before", room, (2, 2, Some(2)));
+    assert!(rt; refused == Err(MaxCapacityReductionError));
+    assert!(rt; arena.len() == 2 && arena.capacity() == 2);
+    assert!(rt; arena.max_capacity() == Some(2));
 }

@@ -102,12 +102,7 @@ fn refuses_a_third_index(rt: HostRuntime) {
     let (p, q) = (add(&rt, &mut arena, 'a'), add(&rt, &mut arena, 'b'));
     assert!(rt; arena.connect(p, q).is_some() && arena.connect(q, p).is_some());
     let refused = arena.insert_reallocating(LinkInsertKind::Disconnected, 'c');
-    same(
-        &rt,
-        "a third",
-        refused,
-        Err(ChainInsertionError::AllocError),
-    );
+    assert!(rt; refused == Err(ChainInsertionError::AllocError));
     same(&rt, "two", arena.len(), 2);
     same(
         &rt,

@@ -34,7 +34,8 @@ pub(super) fn walk_from(
     p: ToolPtr,
 ) -> Result<Vec<(At, u32)>, Fail> {
     let mut walk = Vec::new(alloc);
-    for (q, link) in arena.iter_chain(p).expect(rt, "a valid pointer") {
+    let mut links = arena.iter_chain(p).expect(rt, "a valid pointer");
+    while let Some((q, link)) = links.next() {
         assert!(rt; arena.contains(q));
         walk.push((numbers(Some(q)), link.t))?;
     }
@@ -90,12 +91,8 @@ fn walks_from_no_invalid_pointer(rt: HostRuntime) {
 fn walks_past_what_is_gone(rt: HostRuntime) -> Result<(), Fail> {
     let mut arena = tied(&rt, rt.alloc(), 4, &[(1, 2), (2, 3), (3, 4)]);
     let b = first(&rt, 2);
-    let twice = (arena.remove(b), arena.remove(b));
-    let once = (
-        InvalidationResult::Success(2),
-        InvalidationResult::InvalidPtr,
-    );
-    same(&rt, "the second", twice, once);
+    assert!(rt; arena.remove(b) == InvalidationResult::Success(2));
+    assert!(rt; arena.remove(b) == InvalidationResult::InvalidPtr);
     walks(&rt, rt.alloc(), &arena, first(&rt, 1), &[1, 3, 4])
 }
 
@@ -112,9 +109,8 @@ fn an_empty_advancer(rt: HostRuntime) {
 fn slots_and_counter(rt: HostRuntime) {
     let mut arena = tied(&rt, rt.alloc(), 2, &[(1, 2), (2, 1)]);
     same(&rt, "slots", arena.backing().len(), 2);
-    let counter = arena.singular_generation();
-    same(&rt, "the counter", counter, Some(arena.generation()));
-    same(&rt, "all", arena.clear(), InvalidationOption::Success(()));
-    let after = (arena.backing().len(), arena.generation().get());
-    same(&rt, "after", after, (0, 3));
+    assert!(rt; arena.singular_generation() == Some(arena.generation()));
+    assert!(rt; arena.clear() == InvalidationOption::Success(()));
+    same(&rt, "no slots", arena.backing().len(), 0);
+    same(&rt, "three", arena.generation().get(), 3);
 }
