@@ -1,3 +1,4 @@
+mod Filling
 mod FreeSlots
 mod Holding
 mod Ranging
