@@ -1,9 +1,10 @@
 -- The first entry is taken at each step.
-use Rattle.std.proofs.Common.{◌≡◌, ℕ, suc, ◌+◌, ◌++◌, [], ◌∷◌, length, map, Some, None, sym, ◌∙◌, ap, arith}
+use Rattle.std.proofs.Common.{◌≡◌, ℕ, suc, ◌+◌, ◌++◌, [], ◌∷◌, length, map, Option, Some, None, sym, ◌∙◌, ap, subst, arith}
 use Rattle.std.specs.Prelude.{is_some}
+use Rattle.std.specs.Option.{option_map}
 use Rattle.std.proofs.lemmas.List.{append-nil}
 use Rattle.arena_base.specs.Entries.{first_key, RisesFrom}
-use Rattle.arena_base.specs.Advancing.{from_index, ahead, look_after}
+use Rattle.arena_base.specs.Advancing.{from_index, IsLook, IsLookUntilNone}
 use Rattle.arena_trials.specs.Taking.{keyed}
 use Rattle.arena_base.specs.declared.look.Look.TheVariants.{Up}
 use Rattle.arena_trials.proofs.Emptying.{finds_it, none_left, taken_more}
@@ -11,11 +12,20 @@ use Rattle.arena_trials.proofs.tests.generic.take_all.Given.{Over}
 use Rattle.arena_trials.proofs.tests.generic.take_all.Goals.{In-Some, In-Some-allow}
 use Rattle.arena_trials.proofs.tests.generic.take_all.Goals as goal
 
--- the answer is the first entry's pointer
+-- a call of the advancer
+looks_up : (g : Over) (arena : g.row.A.Denot) (before after : g.row.A-PtrAdvancer.Denot) (answer : Option g.row.P.Denot) (from : ℕ) → g.A.ArenaTrait.looks before ≡ Up from
+    → g.A.PtrAdvancer.Advancer.gives before arena answer after
+    → IsLook (g.A.ArenaTrait.seen arena).entries (Up from) (option_map g.P.Ptr.key answer) (g.A.ArenaTrait.looks after)
+looks_up g arena before after answer from is given =
+    subst (λ l. IsLookUntilNone (g.A.ArenaTrait.seen arena).entries l (option_map g.P.Ptr.key answer) (g.A.ArenaTrait.looks after)) is
+    (g.met.A.ArenaTrait.advances before after arena answer given)
+
+-- the answer is the first entry's pointer, and the advancer looks on behind it
+look : (g : Over) (c : In-Some g) → IsLook (g.A.ArenaTrait.seen c.loop-p.arena).entries (Up c.loop-p.invariant.from) (Some (g.P.Ptr.key c.in-Some.p)) (g.A.ArenaTrait.looks c.advance.new.self)
+look g c = looks_up g c.loop-p.arena c.loop-p.advancer c.advance.new.self (Some c.in-Some.p) c.loop-p.invariant.from c.loop-p.invariant.looks c.in-Some.ensures
+
 first : (g : Over) (c : In-Some g) → Some (g.P.Ptr.key c.in-Some.p) ≡ first_key (from_index c.loop-p.invariant.from (g.A.ArenaTrait.seen c.loop-p.arena).entries)
-first g c =
-    let look = g.met.A.ArenaTrait.advances c.loop-p.advancer c.advance.new.self c.loop-p.arena (Some c.in-Some.p) c.in-Some.ensures in
-    look.first ∙ ap (λ l. first_key (ahead l (g.A.ArenaTrait.seen c.loop-p.arena).entries)) c.loop-p.invariant.looks
+first g c = (look g c).first
 
 -- what is taken and what is left, once it is taken out
 step : (g : Over) (c : In-Some-allow g) → Some (g.P.Ptr.key c.in-Some.p) ≡ first_key (from_index c.loop-p.invariant.from (g.A.ArenaTrait.seen c.loop-p.arena).entries)
@@ -33,9 +43,7 @@ step g c met =
 nothing : (g : Over) (arena : g.row.A.Denot) (before after : g.row.A-PtrAdvancer.Denot) (from : ℕ) → g.A.ArenaTrait.looks before ≡ Up from → RisesFrom from (g.A.ArenaTrait.seen arena).entries
     → g.A.PtrAdvancer.Advancer.gives before arena None after → (g.A.ArenaTrait.seen arena).entries ≡ []
 nothing g arena before after from looks rises given =
-    let es = (g.A.ArenaTrait.seen arena).entries in
-    let look = g.met.A.ArenaTrait.advances before after arena None given in
-    none_left es from rises (look.first ∙ ap (λ l. first_key (ahead l es)) looks)
+    none_left (g.A.ArenaTrait.seen arena).entries from rises (looks_up g arena before after None from looks given).first
 
 pub unreachable-requires : goal.unreachable-requires
 unreachable-requires g c =
@@ -50,10 +58,9 @@ pub loop-p-preserved : goal.loop-p-preserved
 loop-p-preserved g c =
     let at = goal.at.loop-p-preserved g c in
     let next = step g at.In-Some-allow (first g at.In-Some) in
-    let look = g.met.A.ArenaTrait.advances c.loop-p.advancer c.advance.new.self c.loop-p.arena (Some c.in-Some.p) c.in-Some.ensures in
     record {
       from = (g.P.Ptr.key c.in-Some.p).0 + 1;
-      looks = look.moves ∙ ap (λ l. look_after l (Some (g.P.Ptr.key c.in-Some.p))) c.loop-p.invariant.looks;
+      looks = (look g at.In-Some).moves;
       rises = next.1;
       all = rw c.in_ok-push.ensures.items next.0;
     }
