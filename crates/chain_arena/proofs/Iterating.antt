@@ -8,8 +8,6 @@ use Rattle.std.proofs.lemmas.List.Sums.{sum_by-cons}
 use Rattle.std.proofs.lemmas.List.Elements.{All-from_recursion}
 use Rattle.chain_laws.specs.Chains.{Shown, Interlinks, Agrees, IsValid, IsWithin, Has, HasNoRepetition, prev_of}
 use Rattle.chain_laws.specs.Walks.{IsWalk, ahead}
-use Rattle.chain_laws.specs.Neighbors.{HasOneSetOfChains}
-use Rattle.chain_laws.proofs.Partitions.{the_chains, no_others}
 use Rattle.chain_laws.proofs.Members.{Has-written, Has-parts, Has-left, Has-right}
 use Rattle.chain_laws.proofs.Passing.{has_walk, walk_valid, walk_once}
 use Rattle.chain_laws.proofs.Walking.{walk_passed}
@@ -103,8 +101,3 @@ module _ {Gen T : Type 0} where
       ∙ (ap (λ n. links_ahead a n start (Some start) back) same_left
       ∙ (ap (λ s. links_ahead a (entry_count a) s (Some s) back) same_start
       ∙ ap (links_ahead a (entry_count a) i (Some i)) same_back)))) (links_ahead-walk a i agrees valid)
-
--- an arena whose interlinks agree has one set of chains
-pub one_set : {Gen T : Type 0} (a : Arena Gen (LinkSeen T)) → Agrees (shown a) → HasOneSetOfChains (shown a)
-one_set a agrees = let is = the_chains (shown a) (length a.slots) agrees (shown-within a) in
-    record { chains = is.0; are = is.1; only = λ others are. no_others (shown a) others is.0 are is.1 }

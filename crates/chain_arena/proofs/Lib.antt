@@ -8,4 +8,5 @@ pub mod Relinking
 pub mod Seeing
 pub mod Unlinking
 pub mod Valuing
+pub mod Within
 pub mod Writing

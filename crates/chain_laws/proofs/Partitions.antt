@@ -1,7 +1,7 @@
 -- The chains of an arena: that there is one list of them in order, and no other; and one chain of each index.
 use Rattle.std.proofs.Common.{◌≡◌, ◌↔◌, ℕ, ◌<◌, ◌⊎◌, inl, inr, ⊎_elim, List, [], ◌∷◌, refl, sym, subst, arith}
 use Rattle.chain_laws.specs.Chains.{Shown, IsValid, IsWithin, Agrees, Has, HasNoRepetition, Chain, items, IsChain, HasChain, all_items, AreChains, IsWritten, Rises}
-use Rattle.chain_laws.specs.Neighbors.{AreTheChains, StandsIn, AreWritten, AreSameButTurned}
+use Rattle.chain_laws.specs.Neighbors.{AreTheChains, StandsIn, AreWritten, AreSameButTurned, HasOneSetOfChains}
 use Rattle.chain_laws.proofs.Members.{Has-left, Has-right, Has-parts, filled-Has, HasNoRepetition-right, HasNoRepetition-apart}
 use Rattle.chain_laws.proofs.Unique.{chain_valid, chain_filled, one_chain}
 use Rattle.chain_laws.proofs.Turning.{one_turned}
@@ -131,3 +131,9 @@ chain_of_each shown slots i agrees within valid =
 -- .. and in no other
 pub no_other_of_each : (shown : Shown) (i : ℕ) (c other : Chain) → StandsIn shown i c → StandsIn shown i other → c ≡ other
 no_other_of_each shown i c other s t = one_chain shown c other i s.chain t.chain s.written t.written s.has t.has
+
+-- an arena whose interlinks agree has one set of chains
+pub one_set : (shown : Shown) (slots : ℕ) → Agrees shown → IsWithin shown slots → HasOneSetOfChains shown
+one_set shown slots agrees within =
+    let is = the_chains shown slots agrees within in
+    record { chains = is.0; are = is.1; only = λ others are. no_others shown others is.0 are is.1 }

@@ -1,7 +1,8 @@
 //! What code that knows an arena of links by its traits alone can do.
 
-ghost use Rattle.std.specs.Prelude.{◌≡◌, ◌↔◌, ℕ, IsSome, IfSome, IfNone, IfOk, OnErr, None};
+ghost use Rattle.std.specs.Prelude.{◌≡◌, ◌↔◌, ℕ, IsSome, IfSome, IfNone, IfOk, OnErr, None, length};
 ghost use Rattle.chain_laws.specs.Chains.{next_of};
+ghost use Rattle.chain_laws.specs.Neighbors.{HasOneSetOfChains};
 ghost use Rattle.chain_laws.specs.Operations.{joined, with_lone};
 ghost use Rattle.arena_base.specs.Arena.{IsValid};
 ghost use Rattle.chain_trials.specs.Behind.{Extends};
@@ -13,6 +14,15 @@ use arena_ptr::{ChainInsertionError, Ptr, ToolPtr};
 use chain_arena::{ChainArenaTrait, LinkInsertKind};
 use std::alloc::Global;
 use std::process::Abort;
+
+// The number of links of any arena: each stands in one chain, and no two sets of chains say what the arena shows.
+fn count_of_links<P: Ptr, T: Drop, A: ChainArenaTrait<P, T>>(arena: &A) -> usize
+    ensures count { result ≡ length (A.seen arena.now).entries }
+    ensures chains { HasOneSetOfChains (A.interlinks arena.now) }
+{
+    arena.get_inx_link_no_gen(P::invalid().inx());
+    arena.len()
+}
 
 // Adds a link behind the end of a chain and answers its pointer. `None`: the pointer is not valid or its link has a next
 // one, and what stood before stands as it did.
@@ -92,5 +102,5 @@ fn check_gone<A: ChainArenaTrait<ToolPtr, u32>>(rt: &impl Abort, arena: &mut A, 
 pub(super) fn check_new<A: ChainArenaTrait<ToolPtr, u32> + Drop>(rt: &impl Abort, alloc: Global) {
     let mut arena = A::new(alloc);
     check_row(rt, &mut arena);
-    same(rt, "three again", arena.len(), 3);
+    same(rt, "three again", count_of_links(&arena), 3);
 }

@@ -2,18 +2,18 @@
 use Rattle.std.proofs.Common.{◌≤◌, sym, ◌∙◌, subst, arith}
 use Rattle.arena_base.specs.Arena.{HasRoom}
 use Rattle.chain_arena.specs.Links.{seen_links}
-use Rattle.chain_arena.specs.ChainArena.{values_of}
+use Rattle.chain_arena.specs.ChainArena.{values_of, shown}
 use Rattle.chain_arena.proofs.Seeing.{length-seen_links}
 use Rattle.arena_base.proofs.Filling.{entries_within, they_fill}
-use Rattle.chain_arena.proofs.Inserting.{count-values, length-values, listed-seen_links, listed-values}
-use Rattle.chain_arena.proofs.Iterating.{one_set}
+use Rattle.chain_arena.proofs.Inserting.{count-values, shown-within, length-values, listed-seen_links, listed-values}
+use Rattle.chain_laws.proofs.Partitions.{one_set}
 use Rattle.chain_arena.proofs.impl_arena_trait.ChainArenaArenaTrait.len.Goals as goal
 
 pub returns-clause-count : goal.returns-clause-count
 returns-clause-count g c = rw (← c.self.view_is) (c.len.ensures.entries ∙ sym (count-values g.P.Inx.PtrInx.number c.self.inside.arena))
 
 pub returns-clause-chains : goal.returns-clause-chains
-returns-clause-chains g c = rw (← c.self.view_is) (one_set (seen_links g.P.Inx.PtrInx.number c.self.inside.arena) c.self.invariant)
+returns-clause-chains g c = rw (← c.self.view_is) (one_set (shown (seen_links g.P.Inx.PtrInx.number c.self.inside.arena)) _ c.self.invariant (shown-within (seen_links g.P.Inx.PtrInx.number c.self.inside.arena)))
 
 pub returns-clause-indexes : goal.returns-clause-indexes
 returns-clause-indexes g c =
