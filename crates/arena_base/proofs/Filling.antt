@@ -1,12 +1,12 @@
 -- The entries of an arena and its freed list fill its slots: each index from 1 to their number is that of an entry or
 -- a freed one, and of one alone.
-use Rattle.std.proofs.Common.{◌≡◌, ◌↔◌, ℕ, zero, suc, ◌+◌, ◌<◌, ◌≤◌, List, [], ◌∷◌, ◌++◌, length, map, Option, None, Some, refl, ap, sym, ◌∙◌, arith, rules, inl, inr, ◌⊎◌}
+use Rattle.std.proofs.Common.{◌≡◌, ℕ, zero, suc, ◌+◌, ◌<◌, ◌≤◌, List, [], ◌∷◌, ◌++◌, length, map, Option, None, Some, refl, ap, sym, ◌∙◌, arith, rules, inl, inr, ◌⊎◌}
 use Rattle.std.specs.Prelude.{slice_index_or, All, min}
 use Rattle.std.proofs.lemmas.List.Elements.{All-nil, All-cons}
 use Rattle.arena_ptr.specs.Numbers.{IsWithin}
 use Rattle.arena_ptr.specs.SlotStack.{IsWithinMaximum}
 use Rattle.arena_base.specs.Arena.{Arena, Has, IsApart, IsListed, IsRoom}
-use Rattle.arena_base.specs.Entries.{Slots, entries_from, entries, index_of, AreTheSlots}
+use Rattle.arena_base.specs.Entries.{entries_from, entries, index_of, AreTheSlots}
 
 -- a number of the first list, or of the second, stands in both together, and no other does
 Has-append : (xs ys : List ℕ) (n : ℕ) → Has n xs ⊎ Has n ys → Has n (xs ++ ys)
@@ -19,13 +19,13 @@ Has-append (x ∷ xs) ys n (inr has) = inr (Has-append xs ys n (inr has))
 Has-of : (xs ys : List ℕ) (n : ℕ) → Has n (xs ++ ys) → Has n xs ⊎ Has n ys
 Has-of [] ys n has = inr has
 Has-of (x ∷ xs) ys n (inl same) = inl (inl same)
-Has-of (x ∷ xs) ys n (inr has) = elim (Has-of xs ys n has) [ | inl first ↦ inl (inr first) | inr second ↦ inr second ]
+Has-of (x ∷ xs) ys n (inr has) = elim (Has-of xs ys n has) [ inl first ↦ inl (inr first) | inr second ↦ inr second ]
 
 -- two lists without a common number
 IsApart-append : (xs ys : List ℕ) → IsApart xs → IsApart ys → ((n : ℕ) → Has n xs → Has n ys → ⊥) → IsApart (xs ++ ys)
 IsApart-append [] ys first second none = second
 IsApart-append (x ∷ xs) ys first second none = (
-  λ has. elim (Has-of xs ys x has) [ | inl here ↦ first.0 here | inr there ↦ none x (inl refl) there ],
+  λ has. elim (Has-of xs ys x has) [ inl here ↦ first.0 here | inr there ↦ none x (inl refl) there ],
   IsApart-append xs ys first.1 second (λ n here there. none n (inr here) there),
 )
 
@@ -70,7 +70,7 @@ module _ {Gen T : Type 0} where
   indexes-all (Some e ∷ slots) i zero n at below = inl (inl (omega (arith, at)))
   indexes-all (None ∷ slots) i (suc k) n at below = indexes-all slots (suc i) k n (omega (arith, at)) (omega (arith, below))
   indexes-all (Some e ∷ slots) i (suc k) n at below =
-      elim (indexes-all slots (suc i) k n (omega (arith, at)) (omega (arith, below))) [ | inl has ↦ inl (inr has) | inr none ↦ inr none ]
+      elim (indexes-all slots (suc i) k n (omega (arith, at)) (omega (arith, below))) [ inl has ↦ inl (inr has) | inr none ↦ inr none ]
 
   module _ (a : Arena Gen T) (listed : IsListed a) (placed touched : ℕ) where
     taken_or_free : (i : ℕ) → IsWithin (length a.slots) i → Has i (indexes 1 a.slots) ⊎ Has i a.freed

@@ -1,12 +1,12 @@
 -- What generic code sees after each call of an arena.
-use Rattle.std.proofs.Common.{◌≡◌, ℕ, zero, suc, ◌+◌, ◌<◌, ◌≤◌, Bool, true, false, cond, List, [], ◌∷◌, length, Option, None, Some, refl, ap, sym, ◌∙◌, arith, rules}
-use Rattle.std.specs.Prelude.{◌==◌, IsSome, is_some, count_by, slice_index_or, slice_set}
+use Rattle.std.proofs.Common.{◌≡◌, ℕ, zero, suc, ◌+◌, ◌<◌, Bool, true, false, cond, List, [], ◌∷◌, length, Option, None, Some, refl, ap, sym, ◌∙◌, arith, rules}
+use Rattle.std.specs.Prelude.{◌==◌, is_some, count_by, slice_index_or, slice_set}
 use Rattle.std.specs.Option.{option_map}
 use Rattle.std.proofs.lemmas.Grind.{common_steps}
 use Rattle.std.proofs.lemmas.List.Sums.{sum_by-cons}
 use Rattle.arena_ptr.specs.Invalidation.{value_within, invalidation_result}
-use Rattle.arena_base.specs.Arena.{Arena, entry_at, entry_count, slot_at, with_slot, remove_at, renewed_at, with_value, cleared, counter_after_clear}
-use Rattle.arena_base.specs.Entries.{Seen, Slots, entries_from, entries, seen_of, without, replaced, removed, renewed, written, emptied}
+use Rattle.arena_base.specs.Arena.{Arena, entry_count, slot_at, with_slot, remove_at, renewed_at, with_value, cleared, counter_after_clear}
+use Rattle.arena_base.specs.Entries.{Seen, entries_from, entries, seen_of, without, replaced, removed, renewed, written, emptied}
 use Rattle.arena_base.proofs.Reading.{length-slice_set}
 
 equal : (m n : ℕ) → m ≡ n → (m == n) ≡ true

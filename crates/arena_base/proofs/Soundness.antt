@@ -1,8 +1,8 @@
 -- Each step on slots keeps them sound: the count right, and every free slot in the freed list once.
-use Rattle.std.proofs.Common.{◌≡◌, ℕ, zero, suc, ◌+◌, ◌-◌, ◌<◌, ◌≤◌, List, [], ◌∷◌, ◌++◌, length, length-append, Option, None, Some, refl, ap, sym, ◌∙◌, subst, arith, inl, inr, ◌⊎◌}
+use Rattle.std.proofs.Common.{◌≡◌, ℕ, zero, suc, ◌+◌, ◌<◌, ◌≤◌, List, [], ◌∷◌, ◌++◌, length, length-append, Option, None, Some, refl, ap, sym, ◌∙◌, subst, arith, inl, inr, ◌⊎◌}
 use Rattle.std.specs.Prelude.{slice_get, slice_set}
-use Rattle.arena_base.specs.Arena.{Has, IsApart, without_first}
-use Rattle.arena_base.specs.Slots.{item_at, entry_of, with_value_in, next_of, allocated_slot, free_slot, freed_from, freed_of, IsFreeList, IsSound}
+use Rattle.arena_base.specs.Arena.{Has, without_first}
+use Rattle.arena_base.specs.Slots.{item_at, with_value_in, next_of, allocated_slot, free_slot, freed_from, freed_of, IsFreeList, IsSound}
 use Rattle.arena_base.specs.declared.slot.ArenaSlot.{ArenaSlot}
 use Rattle.arena_base.specs.declared.slot.ArenaSlot.TheVariants.{Allocated, Free}
 use Rattle.arena_base.proofs.Reading.{same_or_not, slice_get-set-same, slice_set-itself, length-slice_set, item_at-set-other, item_at-append, item_at-push, at_position, taken_count-set, taken_count-push}

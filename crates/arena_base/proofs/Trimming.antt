@@ -1,12 +1,12 @@
 -- Free slots cut off the end, and the free slots that are left listed by rising index.
-use Rattle.std.proofs.Common.{◌≡◌, ℕ, zero, suc, ◌+◌, ◌<◌, ◌≤◌, cond, List, [], ◌∷◌, length, map, take, drop, Option, None, Some, refl, ap, sym, ◌∙◌, subst, arith, inl, inr, ◌⊎◌}
+use Rattle.std.proofs.Common.{◌≡◌, ℕ, zero, suc, ◌+◌, ◌<◌, ◌≤◌, cond, List, [], ◌∷◌, length, map, take, drop, Option, None, Some, refl, ap, sym, ◌∙◌, subst, arith, inl, inr}
 use Rattle.std.specs.Prelude.{true, false, IsSome, IfSome, count_by, is_some, is_none, slice_index_or, slice_get, slice_set}
 use Rattle.std.proofs.lemmas.List.Sums.{sum_by-cons}
 use Rattle.arena_base.specs.Arena.{Has, IsApart}
 use Rattle.arena_base.specs.Compacting.{before_cut, trimmed, free_from}
 use Rattle.arena_base.specs.Slots.{item_at, entry_of, entry_in, free_slot, IsFreeList, IsSound}
 use Rattle.arena_base.specs.declared.slot.ArenaSlot.{ArenaSlot}
-use Rattle.arena_base.proofs.Reading.{at_position, slice_get-below, slice_get-set-same, slice_index_or-map, length-map, map-slice_set}
+use Rattle.arena_base.proofs.Reading.{slice_get-below, slice_get-set-same, slice_index_or-map, length-map, map-slice_set}
 use Rattle.arena_base.proofs.FreeSlots.{there, free_of}
 use Rattle.arena_base.proofs.Soundness.{IsFreeList-set}
 

@@ -1,5 +1,5 @@
 -- What each step on slots makes of the arena that contracts see.
-use Rattle.std.proofs.Common.{◌≡◌, ℕ, suc, ◌+◌, List, [], ◌∷◌, ◌++◌, length, map, Option, None, Some, refl, ap, sym, ◌∙◌}
+use Rattle.std.proofs.Common.{◌≡◌, ℕ, ◌+◌, List, [], ◌∷◌, ◌++◌, map, Option, Some, refl, ap, sym, ◌∙◌}
 use Rattle.std.specs.Prelude.{slice_get, slice_set}
 use Rattle.arena_base.specs.Arena.{Arena, slot_at, with_slot, insert_next, remove_at, with_value, renewed_at}
 use Rattle.std.specs.Option.{option_map}

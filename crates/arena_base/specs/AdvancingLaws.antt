@@ -1,8 +1,8 @@
 -- An advancer of this crate that looks nowhere stays there, and it keeps what is asked of any.
 use Rattle.std.specs.Prelude.{◌≡◌, ℕ, List, Option, None, Some}
 use Rattle.std.specs.Option.{option_map}
-use Rattle.std.proofs.Common.{refl, ap, sym, ◌∙◌}
-use Rattle.arena_base.specs.Advancing.{IsLook, IsLookUntilNone, ahead, look_after}
+use Rattle.std.proofs.Common.{refl, ap, ◌∙◌}
+use Rattle.arena_base.specs.Advancing.{IsLook, IsLookUntilNone, ahead}
 use Rattle.arena_base.specs.Entries.{first_key}
 use Rattle.arena_base.specs.declared.look.Look.{Look}
 use Rattle.arena_base.specs.declared.look.Look.TheVariants.{Up, Down, Nowhere}

@@ -1,8 +1,8 @@
 -- The entries of slots rise, and an index finds among them what stands in its slot.
-use Rattle.std.specs.Prelude.{◌≡◌, ℕ, zero, suc, ◌+◌, ◌<◌, ◌≤◌, ◌==◌, Bool, true, false, cond, List, [], ◌∷◌, Option, None, Some, slice_index_or}
-use Rattle.std.proofs.Common.{refl, ap, sym, ◌∙◌, arith, rules, subst}
+use Rattle.std.specs.Prelude.{◌≡◌, ℕ, zero, suc, ◌+◌, ◌<◌, ◌≤◌, ◌==◌, true, false, cond, List, [], ◌∷◌, Option, None, Some, slice_index_or}
+use Rattle.std.proofs.Common.{refl, ap, ◌∙◌, arith, rules}
 use Rattle.std.proofs.lemmas.Grind.{common_steps}
-use Rattle.arena_base.specs.Arena.{Arena, slot_at, entry_at}
+use Rattle.arena_base.specs.Arena.{Arena, entry_at}
 use Rattle.arena_base.specs.Entries.{entries_from, entries, found, RisesFrom}
 
 same : (m n : ℕ) → m ≡ n → (m == n) ≡ true

@@ -1,9 +1,9 @@
 -- Lemmas on the join of two links.
-use Rattle.std.proofs.Common.{◌≡◌, ◌↔◌, ℕ, List, Bool, true, false, Option, None, Some, refl, ap, ap₂, sym, ◌∙◌, subst, arith}
+use Rattle.std.proofs.Common.{◌≡◌, ◌↔◌, ℕ, Bool, true, false, Option, None, Some, refl, ap, ap₂, sym, ◌∙◌, subst}
 use Rattle.std.specs.Prelude.{is_some, not, IsTrue}
 use Rattle.std.specs.Option.{option_map, option_and_then}
-use Rattle.chain_laws.specs.Chains.{Shown, Interlinks, Agrees, IsValid, prev_of, next_of, prev_in, next_in}
-use Rattle.chain_laws.specs.Operations.{AddsPair, Connects, joined, AreEndAndStart, next_set, prev_set}
+use Rattle.chain_laws.specs.Chains.{Shown, Agrees, IsValid, prev_of, next_of, prev_in, next_in}
+use Rattle.chain_laws.specs.Operations.{AddsPair, Connects, joined, AreEndAndStart}
 use Rattle.chain_laws.proofs.Joining.{joined_agrees, joined_adds_a_pair, joined_connects}
 use Rattle.chain_arena.specs.declared.links.LinkBody.{LinkBody}
 use Rattle.chain_arena.specs.Links.{seen_link, seen_pair, seen_links}

@@ -1,5 +1,5 @@
 -- What an insertion does to the state of a chain arena.
-use Rattle.std.proofs.Common.{◌≡◌, ◌≢◌, ◌↔◌, ℕ, zero, suc, ◌+◌, ◌-◌, ◌<◌, ◌≤◌, List, [], ◌∷◌, ◌++◌, length, length-append, map, Bool, true, false, Option, None, Some, refl, ap, ap₂, sym, ◌∙◌, subst, arith, inl, inr, ⊎_elim}
+use Rattle.std.proofs.Common.{◌≡◌, ℕ, zero, suc, ◌+◌, ◌<◌, ◌≤◌, List, [], ◌∷◌, ◌++◌, length, length-append, Bool, true, false, Option, None, Some, refl, ap, sym, ◌∙◌, subst, arith, inl}
 use Rattle.std.specs.Prelude.{◌==◌, if◌then◌else◌, slice_index_or, slice_set}
 use Rattle.std.specs.Option.{option_map}
 use mathlib.Core.Path.{fun_ext}
@@ -8,12 +8,12 @@ use Rattle.chain_laws.specs.Operations.{with_lone, AddsLone}
 use Rattle.chain_laws.proofs.Agreement.{if_same, if_other}
 use Rattle.chain_laws.proofs.Alone.{with_lone_agrees, with_lone_adds}
 use Rattle.chain_arena.specs.declared.links.LinkBody.{LinkBody}
-use Rattle.chain_arena.specs.Links.{seen_link, seen_pair, seen_links}
+use Rattle.chain_arena.specs.Links.{seen_link, seen_links}
 use Rattle.arena_base.specs.Arena.{Arena, slot_at, with_slot, filled, first_or_next, without_first, Has, IsListed, entry_at, entry_count, next_index, insert_next, with_capacity_of}
-use Rattle.chain_arena.specs.ChainArena.{on_value, LinkSeen, value_in, values_of, seen, shown, IsInserted, interlinks_of, lone, insert_lone}
+use Rattle.chain_arena.specs.ChainArena.{LinkSeen, value_in, values_of, seen, shown, IsInserted, interlinks_of, lone, insert_lone}
 use Rattle.arena_base.specs.Entries.{Slots, entries, seen_of, count_with_next, with_next_filled}
 use Rattle.arena_base.proofs.Seeing.{length-entries}
-use Rattle.chain_arena.proofs.Mapping.{with_each-insert_next, entry_count-with_each, entry_at-with_each, length-with_each, listed-with_each}
+use Rattle.chain_arena.proofs.Mapping.{with_each-insert_next, entry_count-with_each, length-with_each, listed-with_each}
 use Rattle.chain_arena.proofs.Seeing.{if_suc, length-with_slot}
 
 -- the item after a list, and those of the list

@@ -1,18 +1,17 @@
 -- A walker passes the walk, link by link.
-use Rattle.std.proofs.Common.{◌≡◌, ℕ, zero, suc, ◌+◌, ◌-◌, ◌<◌, ◌≤◌, List, [], ◌∷◌, ◌++◌, length, map, Option, None, Some, refl, ap, sym, ◌∙◌, subst, arith, inl, inr, length-append}
-use Rattle.std.specs.Prelude.{slice_index_or, is_some, count_by, cond, All}
+use Rattle.std.proofs.Common.{◌≡◌, ℕ, zero, suc, ◌+◌, ◌≤◌, List, [], ◌∷◌, ◌++◌, length, map, Option, None, Some, refl, ap, sym, ◌∙◌, subst, arith, inl, inr, length-append}
+use Rattle.std.specs.Prelude.{slice_index_or, is_some, count_by, cond}
 use Rattle.std.specs.List.{AllByRecursion}
 use Rattle.std.proofs.lemmas.List.{length-map}
-use Rattle.std.specs.Option.{option_map}
 use Rattle.std.proofs.lemmas.List.Sums.{sum_by-cons}
 use Rattle.std.proofs.lemmas.List.Elements.{All-from_recursion}
-use Rattle.chain_laws.specs.Chains.{Shown, Interlinks, Agrees, IsValid, IsWithin, Has, HasNoRepetition, prev_of}
-use Rattle.chain_laws.specs.Walks.{IsWalk, ahead}
+use Rattle.chain_laws.specs.Chains.{Agrees, IsValid, Has, HasNoRepetition, prev_of}
+use Rattle.chain_laws.specs.Walks.{IsWalk}
 use Rattle.chain_laws.proofs.Members.{Has-written, Has-parts, Has-left, Has-right}
 use Rattle.chain_laws.proofs.Passing.{has_walk, walk_valid, walk_once}
 use Rattle.chain_laws.proofs.Walking.{walk_passed}
 use Rattle.arena_base.specs.Arena.{Arena, entry_at, entry_count}
-use Rattle.chain_arena.specs.ChainArena.{LinkSeen, shown, interlinks_of, IsWalkOf}
+use Rattle.chain_arena.specs.ChainArena.{LinkSeen, shown, IsWalkOf}
 use Rattle.chain_arena.specs.Walkers.{links_at, links_ahead}
 use Rattle.chain_arena.proofs.Inserting.{shown-within, some_entry}
 

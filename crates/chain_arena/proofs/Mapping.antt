@@ -1,10 +1,10 @@
 -- An arena with something else for each value: what stands at each index, and what each call makes of it.
-use Rattle.std.proofs.Common.{◌≡◌, ◌↔◌, ℕ, zero, suc, ◌+◌, ◌≤◌, List, [], ◌∷◌, ◌++◌, length, map, Option, None, Some, refl, ap, ap₂, sym, ◌∙◌, subst, arith}
+use Rattle.std.proofs.Common.{◌≡◌, ◌↔◌, ℕ, zero, suc, ◌+◌, ◌≤◌, List, [], ◌∷◌, length, map, Option, None, Some, refl, ap, ap₂, sym, ◌∙◌, subst}
 use Rattle.std.specs.Prelude.{count_by, is_some, slice_index_or, slice_set, if◌then◌else◌}
 use Rattle.std.specs.Option.{option_map}
 use Rattle.std.proofs.lemmas.List.{length-map, map-append}
 use Rattle.std.proofs.lemmas.List.Sums.{sum_by-cons}
-use Rattle.arena_base.specs.Arena.{Arena, slot_at, with_slot, filled, entry_at, entry_count, insert_next, remove_at, renewed_at, with_value, cleared, counter_after_clear, IsListed, IsValid}
+use Rattle.arena_base.specs.Arena.{Arena, with_slot, filled, entry_at, entry_count, insert_next, remove_at, renewed_at, with_value, cleared, counter_after_clear, IsListed, IsValid}
 use Rattle.chain_arena.specs.ChainArena.{on_value, with_each}
 
 map-slice_set : {X Y : Type 0} (f : X → Y) (xs : List X) (k : ℕ) (x : X) → map f (slice_set xs k x) ≡ slice_set (map f xs) k (f x)

@@ -1,9 +1,9 @@
 -- What a write to a link does to the state of a chain arena.
-use Rattle.std.proofs.Common.{◌≡◌, ◌≢◌, ◌↔◌, ℕ, zero, suc, ◌+◌, ◌-◌, ◌<◌, ◌≤◌, List, [], ◌∷◌, ◌++◌, length, map, Bool, true, false, Option, None, Some, refl, ap, ap₂, sym, ◌∙◌, subst, arith, inl, inr, ⊎_elim}
-use Rattle.std.specs.Prelude.{◌==◌, if◌then◌else◌, slice_index_or, is_some}
+use Rattle.std.proofs.Common.{◌≡◌, ◌≢◌, ℕ, suc, List, Bool, true, false, Option, None, Some, refl, ap, ap₂, sym, ◌∙◌, ⊎_elim}
+use Rattle.std.specs.Prelude.{◌==◌, if◌then◌else◌, is_some}
 use Rattle.std.specs.Option.{option_map}
-use Rattle.chain_laws.specs.Chains.{Shown, Interlinks, IsValid, IsWithin, prev_of, next_of}
-use Rattle.chain_laws.specs.Operations.{next_set, prev_set, linked, joined, with_next, with_prev, with_lone}
+use Rattle.chain_laws.specs.Chains.{Shown, Interlinks}
+use Rattle.chain_laws.specs.Operations.{next_set, prev_set, linked, with_next, with_prev}
 use Rattle.std.proofs.lemmas.Bool.{cases_eq}
 use mathlib.Core.Path.{fun_ext}
 use Rattle.chain_laws.proofs.Agreement.{if_same, if_other, one_some}

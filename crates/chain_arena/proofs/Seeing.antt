@@ -1,17 +1,15 @@
 -- Lemmas on the state of a chain arena, entry by entry.
-use Rattle.std.proofs.Common.{◌≡◌, ◌≢◌, ◌↔◌, ℕ, zero, suc, ◌+◌, ◌-◌, ◌<◌, ◌≤◌, List, [], ◌∷◌, ◌++◌, length, map, Bool, true, false, Option, None, Some, refl, ap, sym, ◌∙◌, subst, arith, rules, inl, inr, ⊎_elim}
-use Rattle.std.specs.Prelude.{count_by, is_some, slice_index_or, slice_get, slice_set, ◌==◌, if◌then◌else◌}
-use Rattle.std.proofs.lemmas.List.{length-map}
+use Rattle.std.proofs.Common.{◌≡◌, ℕ, zero, suc, ◌+◌, List, [], ◌∷◌, length, true, false, Option, None, Some, refl, ap, sym, ◌∙◌, arith}
+use Rattle.std.specs.Prelude.{slice_index_or, slice_set, ◌==◌, if◌then◌else◌}
 use Rattle.std.proofs.Math.Dec.{eqb-suc-suc}
 use Rattle.std.specs.Option.{option_map}
-use Rattle.chain_laws.specs.Chains.{Shown, Interlinks, IsValid, IsWithin, prev_of, next_of}
-use Rattle.chain_laws.specs.Operations.{next_set, prev_set, linked, with_next, with_prev, with_lone}
+use Rattle.chain_laws.specs.Chains.{Shown}
 use Rattle.chain_laws.proofs.Agreement.{if_same, if_other}
 use Rattle.chain_arena.proofs.Mapping.{entry_at-with_each, length-with_each}
 use Rattle.chain_arena.specs.declared.links.LinkBody.{LinkBody}
 use Rattle.chain_arena.specs.Links.{seen_link, seen_pair, seen_links}
 use Rattle.arena_base.specs.Arena.{Arena, slot_at, with_slot, entry_at, with_value}
-use Rattle.chain_arena.specs.ChainArena.{LinkSeen, shown, relink, relink_from, relinked, interlinks_of}
+use Rattle.chain_arena.specs.ChainArena.{LinkSeen, relink, relink_from, relinked}
 
 -- two lists of one length with the same items are one
 pub same_items : {X : Type 0} (xs ys : List X) (d : X) → length xs ≡ length ys → ((k : ℕ) → slice_index_or xs k d ≡ slice_index_or ys k d) → xs ≡ ys

@@ -1,14 +1,14 @@
 -- What a removal and the other calls on entries do to the state of a chain arena.
-use Rattle.std.proofs.Common.{◌≡◌, ◌≢◌, ◌↔◌, ℕ, ◌≤◌, Bool, true, false, List, Option, None, Some, refl, ap, ap₂, sym, ◌∙◌, subst}
+use Rattle.std.proofs.Common.{◌≡◌, ℕ, Bool, true, false, Option, None, Some, refl, ap, ap₂, sym, ◌∙◌, subst}
 use Rattle.std.specs.Prelude.{◌==◌, if◌then◌else◌, is_some}
 use Rattle.std.specs.Option.{option_map}
 use mathlib.Core.Path.{fun_ext}
-use Rattle.chain_laws.specs.Chains.{Shown, Interlinks, Agrees, prev_of, next_of}
-use Rattle.chain_laws.specs.Operations.{next_set, prev_set, linked}
+use Rattle.chain_laws.specs.Chains.{Shown, Agrees, prev_of, next_of}
+use Rattle.chain_laws.specs.Operations.{linked}
 use Rattle.chain_laws.specs.Removals.{without, removed, Removes, RemovesPairs}
 use Rattle.chain_laws.proofs.RemovalPairs.{removed_agrees, removed_in_pairs}
 use Rattle.chain_laws.proofs.Removing.{removed_removes}
-use Rattle.arena_base.specs.Arena.{Arena, slot_at, IsValid, entry_at, remove_at, renewed_at, with_capacity_of}
+use Rattle.arena_base.specs.Arena.{Arena, IsValid, entry_at, remove_at, renewed_at}
 use Rattle.arena_base.specs.Entries.{seen_of}
 use Rattle.arena_base.specs.Entries.{removed as seen_removed}
 use Rattle.chain_arena.specs.ChainArena.{on_value, LinkSeen, value_in, with_value_in, shown, relinked, interlinks_of, values_of, with_value_at, remove_link, link_at, IsRemoval}

@@ -1,5 +1,5 @@
 -- A chain arena as an arena of values: the entries by rising index are those of the arena of links.
-use Rattle.std.proofs.Common.{◌≡◌, ◌↔◌, ℕ, zero, suc, List, [], ◌∷◌, ◌++◌, map, Bool, true, false, Option, None, Some, refl, ap, sym, ◌∙◌}
+use Rattle.std.proofs.Common.{◌≡◌, ◌↔◌, ℕ, suc, List, [], ◌∷◌, ◌++◌, map, Bool, true, false, Option, None, Some, refl, ap, sym, ◌∙◌}
 use Rattle.std.specs.Prelude.{reverse, cond, leb}
 use Rattle.std.specs.Option.{option_map}
 use Rattle.std.proofs.lemmas.List.{reverse-append, map-append}
@@ -10,7 +10,7 @@ use Rattle.arena_base.specs.declared.look.Look.{Look}
 use Rattle.arena_base.specs.declared.look.Look.TheVariants.{Up, Down, Nowhere}
 use Rattle.chain_arena.specs.ChainArena.{on_value, with_each, value_in, values_of}
 use Rattle.chain_arena.specs.declared.links.LinkBody.{LinkBody}
-use Rattle.chain_arena.specs.Links.{seen_link, seen_links, seen_pair}
+use Rattle.chain_arena.specs.Links.{seen_links, seen_pair}
 
 -- the value of a link
 abbrev pub held_in : {I T : Type 0} → LinkBody I T → T

@@ -1,10 +1,10 @@
 -- In any arena of links, for generic code: a link's index is one of the pointers' type.
-use Rattle.std.proofs.Common.{◌≡◌, ℕ, suc, ◌<◌, ◌≤◌, ◌==◌, Bool, true, false, cond, List, [], ◌∷◌, length, Option, None, Some, refl, ap, sym, ◌∙◌, arith, rules}
+use Rattle.std.proofs.Common.{◌≡◌, ℕ, ◌==◌, Bool, true, false, cond, List, [], ◌∷◌, Option, Some, refl, ap, sym, ◌∙◌, arith, rules}
 use Rattle.std.specs.Prelude.{is_some, All}
 use Rattle.std.proofs.lemmas.List.Elements.{All-head, All-tail}
 use Rattle.arena_ptr.specs.Numbers as numbers
 use Rattle.arena_base.specs.Entries.{found, index_of}
-use Rattle.chain_laws.specs.Chains.{Shown, IsValid, IsWithin}
+use Rattle.chain_laws.specs.Chains.{Shown, IsWithin}
 
 module _ {Gen T : Type 0} (greatest : ℕ) where
   -- at the first entry's index, or further on

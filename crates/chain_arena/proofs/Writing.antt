@@ -1,10 +1,10 @@
 -- What a write of a value, a new generation and a clear make of a chain arena.
-use Rattle.std.proofs.Common.{◌≡◌, ℕ, ◌+◌, ◌≤◌, List, length, true, Option, None, Some, refl, ap, ap₂, sym, ◌∙◌, subst}
-use Rattle.std.specs.Prelude.{is_some, IfSome, IsSome}
+use Rattle.std.proofs.Common.{◌≡◌, ℕ, Option, None, Some, refl, ap, ap₂, sym, ◌∙◌, subst}
+use Rattle.std.specs.Prelude.{IfSome, IsSome}
 use Rattle.std.specs.Option.{option_map}
 use Rattle.chain_laws.specs.Chains.{Agrees}
 use Rattle.arena_base.specs.Arena.{Arena, entry_at, with_slot, with_value, renewed_at, cleared}
-use Rattle.arena_base.specs.Entries.{entries, seen_of, written, renewed, emptied}
+use Rattle.arena_base.specs.Entries.{seen_of, written, renewed, emptied}
 use Rattle.chain_arena.specs.declared.links.LinkBody.{LinkBody}
 use Rattle.chain_arena.specs.ChainArena.{on_value, LinkSeen, value_in, with_value_in, values_of, shown, with_value_at}
 use Rattle.chain_arena.specs.Links.{seen_link, seen_links, seen_pair}

@@ -1,5 +1,5 @@
 -- The state of a chain arena: an arena of links.
-use Rattle.std.specs.Prelude.{◌≡◌, ◌≢◌, ℕ, suc, zero, ◌+◌, List, [], ◌∷◌, map, All, Option, None, Some}
+use Rattle.std.specs.Prelude.{◌≡◌, ◌≢◌, ℕ, suc, List, [], ◌∷◌, map, All, Option, None, Some}
 use Rattle.std.specs.Option.{option_map, option_and_then}
 use Rattle.chain_laws.specs.Chains.{Shown, Interlinks, prev_of, next_of}
 use Rattle.chain_laws.specs.Walks.{IsWalk}

@@ -1,5 +1,5 @@
 -- What a walker over a chain arena still yields.
-use Rattle.std.specs.Prelude.{ℕ, List, [], ◌∷◌, map, Option, None, Some}
+use Rattle.std.specs.Prelude.{ℕ, List, [], ◌∷◌, Option, None, Some}
 use Rattle.std.specs.Borrow.{Bor}
 use Rattle.chain_laws.specs.Walks.{ahead}
 use Rattle.chain_arena.specs.declared.links.LinkBody.{LinkBody}

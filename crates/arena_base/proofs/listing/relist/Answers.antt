@@ -1,7 +1,7 @@
 -- Each free slot goes before those behind it, and each entry is counted.
-use Rattle.std.proofs.Common.{◌≡◌, ◌-◌, ◌<◌, length, sym, ◌∙◌, ap, subst, arith}
+use Rattle.std.proofs.Common.{◌≡◌, ◌-◌, length, sym, ◌∙◌, ap, arith}
 use Rattle.arena_base.proofs.Reading.{length-slice_set}
-use Rattle.arena_base.proofs.Trimming.{listing_frees, listing_takes, listing_ends, IsListing}
+use Rattle.arena_base.proofs.Trimming.{listing_frees, listing_takes, listing_ends}
 use Rattle.arena_base.proofs.listing.relist.Goals as goal
 
 pub loop-k-preserved-then-is_free_at : goal.loop-k-preserved-then-is_free_at

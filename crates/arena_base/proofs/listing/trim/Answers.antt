@@ -1,5 +1,5 @@
 -- What is cut off is free, and what stays ends in an entry.
-use Rattle.std.proofs.Common.{◌≡◌, ◌-◌, sym, ◌∙◌, arith}
+use Rattle.std.proofs.Common.{◌-◌, sym, ◌∙◌, arith}
 use Rattle.arena_base.proofs.Trimming.{cut_more, cut_ends, cut_all}
 use Rattle.arena_base.proofs.listing.trim.Goals.{then-loop-count-test+else-is_free_at, else-loop-count-test}
 use Rattle.arena_base.proofs.listing.trim.Goals as goal

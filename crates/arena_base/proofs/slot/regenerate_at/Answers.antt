@@ -1,6 +1,5 @@
 -- A write of the slot that was read.
-use Rattle.std.proofs.Common.{sym, ◌∙◌, ap}
-use Rattle.std.specs.Option.{option_copied_mut}
+use Rattle.std.proofs.Common.{sym}
 use Rattle.arena_base.proofs.Reading.{with_generation_at-set, with_generation_at-none}
 use Rattle.arena_base.proofs.slot.regenerate_at.Goals as goal
 

@@ -1,7 +1,6 @@
 -- A slot without an entry stays as it is.
 use Rattle.std.proofs.Common.{◌≡◌, Option, None, Some, sym, ◌∙◌, ap, refl}
 use Rattle.std.specs.Prelude.{IfNone, slice_set}
-use Rattle.arena_base.specs.Slots.{freed_slot}
 use Rattle.arena_base.proofs.Reading.{freed_slot-free, slice_set-itself}
 use Rattle.arena_base.proofs.slot.vacate_at.Goals as goal
 

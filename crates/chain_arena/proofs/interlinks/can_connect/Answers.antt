@@ -1,5 +1,5 @@
 -- Both pointers are valid, the first link has no next and the second no prev.
-use Rattle.std.proofs.Common.{◌≡◌, true, false, refl, sym, ap, ◌∙◌}
+use Rattle.std.proofs.Common.{◌≡◌, true, false, sym, ap, ◌∙◌}
 use Rattle.std.specs.Prelude.{is_some, not}
 use Rattle.chain_arena.proofs.Connecting.{connectable, not_valid}
 use Rattle.chain_arena.proofs.interlinks.can_connect.Goals as goal

@@ -1,6 +1,5 @@
 -- The entry at the index, under its pointer of now.
-use Rattle.std.proofs.Common.{of_calls, rules, ◌≡◌, None, Some, sym, ap, ◌∙◌}
-use Rattle.std.specs.Option.{option_map}
+use Rattle.std.proofs.Common.{of_calls, ◌≡◌, Some, sym, ap, ◌∙◌}
 use Rattle.chain_arena.proofs.Connecting.{ptr_at-some, ptr_at-none}
 use Rattle.chain_arena.proofs.interlinks.neighbor.Goals as goal
 

@@ -1,11 +1,10 @@
 -- The link that was lent is written, and where none stands nothing is.
-use Rattle.std.proofs.Common.{◌≡◌, refl, sym, ap, ◌∙◌, Some}
+use Rattle.std.proofs.Common.{refl, sym, ap, ◌∙◌}
 use Rattle.std.specs.Option.{option_map, option_copied_mut}
-use Rattle.chain_laws.specs.Operations.{with_next, next_set}
+use Rattle.chain_laws.specs.Operations.{with_next}
 use Rattle.chain_arena.specs.declared.links.LinkBody.{LinkBody}
 use Rattle.arena_base.specs.Arena.{with_value}
 use Rattle.chain_arena.specs.Links.{seen_links}
-use Rattle.chain_arena.specs.ChainArena.{shown}
 use Rattle.chain_arena.proofs.Relinking.{seen_links-write, seen_links-no_write, relinked-own}
 use Rattle.chain_arena.proofs.interlinks.set_next.Goals as goal
 

@@ -1,5 +1,5 @@
 -- The link goes, and those that it stood between are linked.
-use Rattle.std.proofs.Common.{of_calls, rules, ◌≡◌, Option, Some, refl, sym, ap, ◌∙◌}
+use Rattle.std.proofs.Common.{of_calls, ◌≡◌, Some, sym, ap, ◌∙◌}
 use Rattle.std.specs.Prelude.{is_some}
 use Rattle.std.specs.Option.{option_map}
 use Rattle.arena_base.specs.Arena.{entry_at}

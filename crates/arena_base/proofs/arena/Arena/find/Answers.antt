@@ -1,5 +1,5 @@
 -- What lies ahead begins or ends at a position.
-use Rattle.std.proofs.Common.{sym, ◌∙◌, ap}
+use Rattle.std.proofs.Common.{◌∙◌, ap}
 use Rattle.arena_base.specs.Entries.{first_key, last_key}
 use Rattle.arena_base.proofs.Ranging.{ahead_up, ahead_down}
 use Rattle.arena_base.proofs.arena.Arena.find.Goals as goal

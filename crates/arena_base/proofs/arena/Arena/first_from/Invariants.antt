@@ -1,5 +1,5 @@
 -- No entry stands between the first position and this one.
-use Rattle.std.proofs.Common.{◌≡◌, ◌+◌, ◌≤◌, drop, length}
+use Rattle.std.proofs.Common.{◌≡◌, ◌+◌, drop}
 use Rattle.arena_base.specs.Entries.{entries_from, first_key}
 use Rattle.arena_base.proofs.arena.Arena.first_from.Given as goal
 

@@ -1,5 +1,5 @@
 -- The entry goes into the slot that was freed last, or else into a new one.
-use Rattle.std.proofs.Common.{◌<◌, length, arith}
+use Rattle.std.proofs.Common.{arith}
 use Rattle.arena_base.proofs.Soundness.{filled_freed, filled_next, none_freed, closed, walked_all}
 use Rattle.arena_base.proofs.Viewing.{seen_filled_freed, seen_filled_next}
 use Rattle.arena_base.proofs.arena.Arena.insert_here.Goals.{in-Some, in-None}

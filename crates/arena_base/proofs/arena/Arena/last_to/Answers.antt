@@ -1,5 +1,5 @@
 -- Each position that was passed is free.
-use Rattle.std.proofs.Common.{◌≡◌, ◌<◌, ◌-◌, length, Some, None, sym, ◌∙◌, ap, arith}
+use Rattle.std.proofs.Common.{◌<◌, ◌-◌, length, Some, None, sym, ◌∙◌, ap, arith}
 use Rattle.arena_base.proofs.Reading.{length-map}
 use Rattle.arena_base.proofs.Ranging.{last_key-step}
 use Rattle.arena_base.proofs.arena.Arena.last_to.Goals as goal

@@ -1,5 +1,5 @@
 -- What stands at a position within the slots has an index.
-use Rattle.std.proofs.Common.{◌≡◌, ℕ, ◌+◌, ◌<◌, length, Some, sym, ◌∙◌, ap, arith}
+use Rattle.std.proofs.Common.{◌<◌, length, Some, sym, ◌∙◌, ap, arith}
 use Rattle.arena_base.proofs.Reading.{slice_get-below, slice_index_or-map}
 use Rattle.arena_base.proofs.arena.Arena.ptr_at.Given.{Over}
 use Rattle.arena_base.proofs.arena.Arena.ptr_at.Goals.{In-Some-Allocated}

@@ -1,12 +1,9 @@
 -- The slot of the entry gets the next generation.
-use Rattle.std.proofs.Common.{◌≡◌, ◌+◌, Some, sym, ◌∙◌, ap}
-use Rattle.std.specs.Prelude.{slice_get, slice_set, IsSome}
-use Rattle.arena_base.specs.Arena.{slot_at}
-use Rattle.arena_base.specs.Slots.{allocated_slot, entry_in, with_generation_at}
+use Rattle.std.specs.Prelude.{slice_get}
+use Rattle.arena_base.specs.Slots.{allocated_slot, entry_in}
 use Rattle.arena_base.proofs.Reading.{slot_at-map, allocated-at, the_value, with_generation_at-set}
 use Rattle.arena_base.proofs.Soundness.{rewritten, closed, walked_all}
 use Rattle.arena_base.proofs.Viewing.{seen_renewed}
-use Rattle.arena_base.proofs.arena.Arena.renew_at.Given.{Over}
 use Rattle.arena_base.proofs.arena.Arena.renew_at.Goals as goal
 
 pub invariant_of-self : goal.invariant_of-self

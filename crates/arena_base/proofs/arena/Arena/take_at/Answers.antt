@@ -1,9 +1,9 @@
 -- The entry's slot goes to the front of the freed list.
-use Rattle.std.proofs.Common.{◌≡◌, ◌+◌, ◌-◌, ◌≤◌, Some, None, true, false, sym, ◌∙◌, ap, refl, arith}
+use Rattle.std.proofs.Common.{◌≡◌, ◌-◌, Some, None, true, false, sym, ◌∙◌, ap, arith}
 use Rattle.std.specs.Prelude.{slice_get, is_some}
-use Rattle.arena_base.specs.Slots.{allocated_slot, entry_in}
+use Rattle.arena_base.specs.Slots.{allocated_slot}
 use Rattle.arena_base.specs.Arena.{entry_at}
-use Rattle.arena_base.proofs.Reading.{slot_at-map, allocated-at, taken_count-set}
+use Rattle.arena_base.proofs.Reading.{slot_at-map, allocated-at}
 use Rattle.arena_base.proofs.Soundness.{vacated, closed, walked_all, some_taken}
 use Rattle.arena_base.proofs.Viewing.{seen_vacated}
 use Rattle.arena_base.proofs.arena.Arena.take_at.Given.{Over}

@@ -1,6 +1,6 @@
 -- The arena gets the value written to the slot that was lent.
-use Rattle.std.proofs.Common.{◌≡◌, Option, Some, None, refl, sym, ◌∙◌, ap}
-use Rattle.std.specs.Prelude.{OnSome, slice_get}
+use Rattle.std.proofs.Common.{Option, Some, None, refl, sym, ◌∙◌, ap}
+use Rattle.std.specs.Prelude.{OnSome}
 use Rattle.std.specs.Option.{option_map}
 use Rattle.arena_base.specs.Arena.{with_value}
 use Rattle.arena_base.specs.Slots.{entry_in, with_value_in}

@@ -30,5 +30,8 @@ returns-clause-room g c =
     let slots = c.self.inside.slots in
     let many = length-map (g.S.SlotStack.items slots) in
     let within : length (g.S.SlotStack.items slots) ≤ g.S.SlotStack.capacity slots = g.met.S.SlotStack.has_room slots in
-    rw (← c.self.view_is) (room_for g.P.Inx.PtrInx.greatest _ (g.S.SlotStack.capacity slots) (g.S.SlotStack.maximum slots)
-    (omega (arith, many, within)) (omega (arith, many, c.self.invariant.fits)) (g.met.S.SlotStack.within_maximum slots), refl)
+    rw (← c.self.view_is) (
+      room_for g.P.Inx.PtrInx.greatest _ (g.S.SlotStack.capacity slots) (g.S.SlotStack.maximum slots)
+          (omega (arith, many, within)) (omega (arith, many, c.self.invariant.fits)) (g.met.S.SlotStack.within_maximum slots),
+      refl,
+    )

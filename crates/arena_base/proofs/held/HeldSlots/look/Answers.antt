@@ -1,6 +1,4 @@
 -- The entry at an index is that of the slot at its position.
-use Rattle.std.proofs.Common.{sym, ◌∙◌, ap}
-use Rattle.arena_base.specs.Slots.{entry_in}
 use Rattle.arena_base.proofs.Reading.{slot_at-map}
 use Rattle.arena_base.proofs.held.HeldSlots.look.Goals as goal
 

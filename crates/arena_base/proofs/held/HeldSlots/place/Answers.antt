@@ -1,5 +1,5 @@
 -- The two slots are exchanged, and the second gets the generation.
-use Rattle.std.proofs.Common.{◌≡◌, ◌≤◌, ◌<◌, length, ap, arith}
+use Rattle.std.proofs.Common.{length, ap, arith}
 use Rattle.std.specs.Prelude.{swap}
 use Rattle.arena_base.proofs.Reading.{length-map}
 use Rattle.arena_base.proofs.Holding.{held_placed, length-swap, length-with_generation_at}

@@ -1,10 +1,8 @@
 -- The walker passes the walk from the pointer's link.
-use Rattle.std.proofs.Common.{◌≡◌, refl, sym, ap, ap₂, ◌∙◌, subst, Some}
+use Rattle.std.proofs.Common.{sym, ap, ◌∙◌}
 use Rattle.std.specs.Option.{option_map}
 use Rattle.chain_arena.specs.Links.{seen_links}
-use Rattle.arena_base.specs.Arena.{entry_count}
-use Rattle.chain_arena.specs.ChainArena.{shown, IsWalkOf}
-use Rattle.chain_arena.specs.Walkers.{links_ahead}
+use Rattle.chain_arena.specs.ChainArena.{IsWalkOf}
 use Rattle.chain_arena.proofs.Inserting.{entry_count-seen_links}
 use Rattle.chain_arena.proofs.Iterating.{walker-walk, length-walk}
 use Rattle.chain_arena.proofs.Connecting.{prev_of-seen, same_valid, valid_at}

@@ -1,5 +1,5 @@
 -- Nothing is left.
-use Rattle.std.proofs.Common.{◌≡◌, ap, sym, ◌∙◌}
+use Rattle.std.proofs.Common.{ap, sym, ◌∙◌}
 use Rattle.arena_ptr.specs.Invalidation.{invalidation_option}
 use Rattle.arena_base.specs.Arena.{overflows_after_clear}
 use Rattle.arena_base.proofs.Seeing.{length-entries}

@@ -1,5 +1,5 @@
 -- The value of the link that stands there.
-use Rattle.std.proofs.Common.{◌≡◌, Some, ap, ◌∙◌}
+use Rattle.std.proofs.Common.{ap, ◌∙◌}
 use Rattle.std.specs.Option.{option_map}
 use Rattle.chain_arena.specs.ChainArena.{on_value}
 use Rattle.chain_arena.proofs.Connecting.{same_valid, value_at}

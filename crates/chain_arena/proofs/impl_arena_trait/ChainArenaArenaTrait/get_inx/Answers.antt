@@ -1,5 +1,5 @@
 -- The generation and the value of the link that stands there.
-use Rattle.std.proofs.Common.{◌≡◌, Some, ap, sym, ◌∙◌, of_calls}
+use Rattle.std.proofs.Common.{ap, sym, ◌∙◌, of_calls}
 use Rattle.std.specs.Option.{option_map}
 use Rattle.chain_arena.specs.ChainArena.{on_value}
 use Rattle.chain_arena.proofs.Connecting.{value_at}

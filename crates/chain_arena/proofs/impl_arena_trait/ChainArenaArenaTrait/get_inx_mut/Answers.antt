@@ -1,8 +1,6 @@
 -- The value of the link that was lent is written.
-use Rattle.std.proofs.Common.{◌≡◌, Option, None, Some, refl, ap, sym, ◌∙◌}
-use Rattle.std.specs.Option.{option_map, option_copied_mut}
-use Rattle.arena_base.specs.Arena.{entry_at}
-use Rattle.chain_arena.specs.ChainArena.{on_value}
+use Rattle.std.proofs.Common.{refl, ap, sym, ◌∙◌}
+use Rattle.std.specs.Option.{option_map}
 use Rattle.chain_arena.specs.Links.{seen_links}
 use Rattle.chain_arena.proofs.Lending.{value_there}
 use Rattle.chain_arena.proofs.Valuing.{held_in}

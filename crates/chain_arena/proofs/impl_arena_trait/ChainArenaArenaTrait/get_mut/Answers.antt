@@ -1,5 +1,5 @@
 -- The value at the index of a valid pointer is lent.
-use Rattle.std.proofs.Common.{◌≡◌, refl}
+use Rattle.std.proofs.Common.{refl}
 use Rattle.arena_base.specs.Arena.{entry_at}
 use Rattle.chain_arena.specs.ChainArena.{values_of}
 use Rattle.chain_arena.proofs.Lending.{lent_some, lent_value}

@@ -1,5 +1,5 @@
 -- The link has a new generation, and stays in its chain.
-use Rattle.std.proofs.Common.{◌≡◌, Option, None, Some, refl, ap, sym, ◌∙◌, subst, ⊎_elim}
+use Rattle.std.proofs.Common.{ap, sym, subst, ⊎_elim}
 use Rattle.chain_laws.specs.Chains.{Agrees}
 use Rattle.chain_arena.specs.ChainArena.{shown}
 use Rattle.chain_arena.specs.Links.{seen_links}

@@ -1,7 +1,5 @@
 -- The link goes, and its neighbours are linked.
-use Rattle.std.proofs.Common.{◌≡◌, Option, None, Some, refl, ap, sym, ◌∙◌}
-use Rattle.std.specs.Option.{option_map}
-use Rattle.arena_base.specs.Arena.{entry_at}
+use Rattle.std.proofs.Common.{◌∙◌}
 use Rattle.chain_arena.proofs.Unlinking.{taken-agrees, taken-seen, taken-removal, taken-alone, valid_stands}
 use Rattle.chain_arena.proofs.impl_arena_trait.ChainArenaArenaTrait.remove.Goals as goal
 

@@ -1,8 +1,6 @@
 -- Two writes join the links, and the laws of joins say the rest.
-use Rattle.std.proofs.Common.{◌≡◌, ℕ, Option, Some, refl, sym, ap, ap₂, ◌∙◌}
-use Rattle.std.specs.Prelude.{IsTrue, not}
-use Rattle.std.specs.Option.{option_map}
-use Rattle.chain_laws.specs.Operations.{joined, next_set, prev_set}
+use Rattle.std.proofs.Common.{◌≡◌, ℕ, refl, ap, ap₂, ◌∙◌}
+use Rattle.chain_laws.specs.Operations.{joined}
 use Rattle.arena_base.specs.Arena.{entry_at}
 use Rattle.arena_base.specs.Entries.{seen_of}
 use Rattle.chain_arena.specs.Links.{seen_links}

@@ -1,5 +1,5 @@
 -- The link, with the pointers of now to the links that it names.
-use Rattle.std.proofs.Common.{◌≡◌, refl, sym, ap, ◌∙◌}
+use Rattle.std.proofs.Common.{ap, ◌∙◌}
 use Rattle.std.specs.Option.{option_map, option_and_then}
 use Rattle.arena_base.specs.Arena.{entry_at}
 use Rattle.chain_arena.specs.Links.{seen_links}

@@ -1,5 +1,5 @@
 -- The new link stands alone beside what the arena showed.
-use Rattle.std.proofs.Common.{◌≡◌, refl, sym, ap, ◌∙◌, ⊎_elim, subst}
+use Rattle.std.proofs.Common.{refl, sym, ap, ◌∙◌, ⊎_elim, subst}
 use Rattle.std.specs.Prelude.{◌<◌, ◌+◌}
 use Rattle.arena_base.specs.Arena.{IsRoom, HasRoom}
 use Rattle.chain_laws.specs.Chains.{Agrees}

@@ -1,5 +1,5 @@
 -- The link goes, and its neighbours are linked.
-use Rattle.std.proofs.Common.{◌≡◌, ap, ◌∙◌}
+use Rattle.std.proofs.Common.{ap, ◌∙◌}
 use Rattle.std.specs.Option.{option_map}
 use Rattle.arena_base.specs.Arena.{entry_at}
 use Rattle.chain_arena.specs.ChainArena.{values_of}
