@@ -2,7 +2,7 @@ pub mod Filling
 mod FreeSlots
 mod Holding
 mod Ranging
-mod Reading
+pub mod Reading
 pub mod Seeing
 mod Soundness
 mod Trimming

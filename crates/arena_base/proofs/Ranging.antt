@@ -4,15 +4,9 @@ use Rattle.std.specs.Prelude.{slice_index_or, slice_set}
 use Rattle.arena_base.specs.Arena.{slot_at, with_slot}
 use Rattle.std.specs.Option.{option_map}
 use Rattle.std.proofs.lemmas.List.{append-nil, reverse-append}
-use Rattle.std.proofs.lemmas.Grind.{common_steps}
+use Rattle.std.proofs.lemmas.Bool.{le-leb, lt-leb}
 use Rattle.arena_base.specs.Entries.{entries_from, key_at, first_key, last_key}
 use Rattle.arena_base.specs.Advancing.{from_index, up_to_index}
-
-within : (m n : ℕ) → m ≤ n → leb m n ≡ true
-within m n below = search rules
-
-beyond : (m n : ℕ) → n < m → leb m n ≡ false
-beyond m n above = grind (arith, common_steps)
 
 -- the first, or else the second
 abbrev pub first_of : {K : Type 0} → Option K → Option K → Option K
@@ -68,14 +62,14 @@ module _ {Gen T : Type 0} where
   from_index-all [] i j below = refl
   from_index-all (None ∷ slots) i j below = from_index-all slots i (suc j) (omega (arith, below))
   from_index-all (Some e ∷ slots) i j below =
-      ap (λ b. cond b (((j, e.0), e.1) ∷ entries_from (suc j) slots) (from_index i (entries_from (suc j) slots))) (within i j below)
+      ap (λ b. cond b (((j, e.0), e.1) ∷ entries_from (suc j) slots) (from_index i (entries_from (suc j) slots))) (le-leb i j below)
 
   pub from_index-drop : (slots : List (Option (Gen × T))) (i j k : ℕ) → j + k ≡ i → from_index i (entries_from j slots) ≡ entries_from i (drop k slots)
   from_index-drop slots i j zero at = let same : i ≡ j = omega (arith, at) in from_index-all slots i j (omega (arith, at)) ∙ ap (λ n. entries_from n slots) (sym same)
   from_index-drop [] i j (suc k) at = refl
   from_index-drop (None ∷ slots) i j (suc k) at = from_index-drop slots i (suc j) k (omega (arith, at))
   from_index-drop (Some e ∷ slots) i j (suc k) at =
-      ap (λ b. cond b (((j, e.0), e.1) ∷ entries_from (suc j) slots) (from_index i (entries_from (suc j) slots))) (beyond i j (omega (arith, at)))
+      ap (λ b. cond b (((j, e.0), e.1) ∷ entries_from (suc j) slots) (from_index i (entries_from (suc j) slots))) (lt-leb i j (omega (arith, at)))
       ∙ from_index-drop slots i (suc j) k (omega (arith, at))
 
   -- no entry of slots stands before the first one's index
@@ -83,7 +77,7 @@ module _ {Gen T : Type 0} where
   up_to_index-none [] i j below = refl
   up_to_index-none (None ∷ slots) i j below = up_to_index-none slots i (suc j) (omega (arith, below))
   up_to_index-none (Some e ∷ slots) i j below =
-      ap (λ b. cond b (((j, e.0), e.1) ∷ up_to_index i (entries_from (suc j) slots)) []) (beyond j i below)
+      ap (λ b. cond b (((j, e.0), e.1) ∷ up_to_index i (entries_from (suc j) slots)) []) (lt-leb j i below)
 
   pub up_to_index-take : (slots : List (Option (Gen × T))) (i j k : ℕ) → j + k ≡ suc i → up_to_index i (entries_from j slots) ≡ entries_from j (take k slots)
   up_to_index-take slots i j zero at = up_to_index-none slots i j (omega (arith, at)) ∙ sym (none slots)
@@ -94,7 +88,7 @@ module _ {Gen T : Type 0} where
   up_to_index-take [] i j (suc k) at = refl
   up_to_index-take (None ∷ slots) i j (suc k) at = up_to_index-take slots i (suc j) k (omega (arith, at))
   up_to_index-take (Some e ∷ slots) i j (suc k) at =
-      ap (λ b. cond b (((j, e.0), e.1) ∷ up_to_index i (entries_from (suc j) slots)) []) (within j i (omega (arith, at)))
+      ap (λ b. cond b (((j, e.0), e.1) ∷ up_to_index i (entries_from (suc j) slots)) []) (le-leb j i (omega (arith, at)))
       ∙ ap (λ es. ((j, e.0), e.1) ∷ es) (up_to_index-take slots i (suc j) k (omega (arith, at)))
 
   -- one step of a search down

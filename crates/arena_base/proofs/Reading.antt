@@ -70,6 +70,10 @@ module _ {X : Type 0} where
   pub at_position : (xs : List X) (k n : ℕ) → k + 1 ≡ n → item_at xs n ≡ slice_get xs k
   at_position xs k n is = let at : suc k ≡ n = omega (arith, is) in subst (λ i. item_at xs i ≡ slice_get xs k) at refl
 
+  pub length-with_slot : (xs : List X) (n : ℕ) (x : X) → length (with_slot xs n x) ≡ length xs
+  length-with_slot xs zero x = refl
+  length-with_slot xs (suc k) x = length-slice_set xs k x
+
   pub with_slot-position : (xs : List X) (k n : ℕ) (x : X) → k + 1 ≡ n → with_slot xs n x ≡ slice_set xs k x
   with_slot-position xs k n x is = let at : suc k ≡ n = omega (arith, is) in subst (λ i. with_slot xs i x ≡ slice_set xs k x) at refl
 

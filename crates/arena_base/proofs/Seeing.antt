@@ -2,21 +2,12 @@
 use Rattle.std.proofs.Common.{◌≡◌, ℕ, zero, suc, ◌+◌, ◌<◌, Bool, true, false, cond, List, [], ◌∷◌, length, Option, None, Some, refl, ap, sym, ◌∙◌, arith, rules}
 use Rattle.std.specs.Prelude.{◌==◌, is_some, count_by, slice_index_or, slice_set}
 use Rattle.std.specs.Option.{option_map}
-use Rattle.std.proofs.lemmas.Grind.{common_steps}
+use Rattle.std.proofs.lemmas.Bool.{eq-eqb, ne_eqb}
 use Rattle.std.proofs.lemmas.List.Sums.{sum_by-cons}
 use Rattle.arena_ptr.specs.Invalidation.{value_within, invalidation_result}
 use Rattle.arena_base.specs.Arena.{Arena, entry_count, slot_at, with_slot, remove_at, renewed_at, with_value, cleared, counter_after_clear}
 use Rattle.arena_base.specs.Entries.{Seen, entries_from, entries, seen_of, without, replaced, removed, renewed, written, emptied}
-use Rattle.arena_base.proofs.Reading.{length-slice_set}
-
-equal : (m n : ℕ) → m ≡ n → (m == n) ≡ true
-equal m n is = search rules
-
-below : (m n : ℕ) → m < n → (m == n) ≡ false
-below m n less = grind (arith, common_steps)
-
-above : (m n : ℕ) → n < m → (m == n) ≡ false
-above m n more = grind (arith, common_steps)
+use Rattle.arena_base.proofs.Reading.{length-with_slot}
 
 module _ {Gen T : Type 0} where
   length-entries_from : (i : ℕ) (slots : List (Option (Gen × T))) → length (entries_from i slots) ≡ count_by is_some slots
@@ -41,26 +32,26 @@ module _ {Gen T : Type 0} where
   without-below i j (None ∷ slots) less = without-below i (suc j) slots (omega (arith, less))
   without-below i j (Some e ∷ slots) less =
       let rest = entries_from (suc j) slots in
-      ap (λ b. cond b rest (((j, e.0), e.1) ∷ without i rest)) (above j i less) ∙ ap (λ es. ((j, e.0), e.1) ∷ es) (without-below i (suc j) slots (omega (arith, less)))
+      ap (λ b. cond b rest (((j, e.0), e.1) ∷ without i rest)) (ne_eqb j i (λ is. omega (arith, less, is))) ∙ ap (λ es. ((j, e.0), e.1) ∷ es) (without-below i (suc j) slots (omega (arith, less)))
 
   entries_from-freed : (i j k : ℕ) (slots : List (Option (Gen × T))) → j + k ≡ i → entries_from j (slice_set slots k None) ≡ without i (entries_from j slots)
   entries_from-freed i j k [] at = refl
   entries_from-freed i j zero (None ∷ slots) at = sym (without-below i (suc j) slots (omega (arith, at)))
   entries_from-freed i j zero (Some e ∷ slots) at =
       let rest = entries_from (suc j) slots in
-      sym (ap (λ b. cond b rest (((j, e.0), e.1) ∷ without i rest)) (equal j i (omega (arith, at))))
+      sym (ap (λ b. cond b rest (((j, e.0), e.1) ∷ without i rest)) (eq-eqb j i (omega (arith, at))))
   entries_from-freed i j (suc k) (None ∷ slots) at = entries_from-freed i (suc j) k slots (omega (arith, at))
   entries_from-freed i j (suc k) (Some e ∷ slots) at =
       let rest = entries_from (suc j) slots in
       ap (λ es. ((j, e.0), e.1) ∷ es) (entries_from-freed i (suc j) k slots (omega (arith, at)))
-      ∙ sym (ap (λ b. cond b rest (((j, e.0), e.1) ∷ without i rest)) (below j i (omega (arith, at))))
+      ∙ sym (ap (λ b. cond b rest (((j, e.0), e.1) ∷ without i rest)) (ne_eqb j i (λ is. omega (arith, at, is))))
 
   replaced-below : (f : Gen × T → Gen × T) (i j : ℕ) (slots : List (Option (Gen × T))) → i < j → replaced i f (entries_from j slots) ≡ entries_from j slots
   replaced-below f i j [] less = refl
   replaced-below f i j (None ∷ slots) less = replaced-below f i (suc j) slots (omega (arith, less))
   replaced-below f i j (Some e ∷ slots) less =
       let rest = entries_from (suc j) slots in
-      ap (λ b. cond b (((i, (f (e.0, e.1)).0), (f (e.0, e.1)).1) ∷ rest) (((j, e.0), e.1) ∷ replaced i f rest)) (above j i less)
+      ap (λ b. cond b (((i, (f (e.0, e.1)).0), (f (e.0, e.1)).1) ∷ rest) (((j, e.0), e.1) ∷ replaced i f rest)) (ne_eqb j i (λ is. omega (arith, less, is)))
       ∙ ap (λ es. ((j, e.0), e.1) ∷ es) (replaced-below f i (suc j) slots (omega (arith, less)))
 
   entries_from-replaced : (f : Gen × T → Gen × T) (i j k : ℕ) (slots : List (Option (Gen × T))) → j + k ≡ i
@@ -71,12 +62,12 @@ module _ {Gen T : Type 0} where
       let rest = entries_from (suc j) slots in
       let same : j ≡ i = omega (arith, at) in
       ap (λ n. ((n, (f (e.0, e.1)).0), (f (e.0, e.1)).1) ∷ rest) same
-      ∙ sym (ap (λ b. cond b (((i, (f (e.0, e.1)).0), (f (e.0, e.1)).1) ∷ rest) (((j, e.0), e.1) ∷ replaced i f rest)) (equal j i same))
+      ∙ sym (ap (λ b. cond b (((i, (f (e.0, e.1)).0), (f (e.0, e.1)).1) ∷ rest) (((j, e.0), e.1) ∷ replaced i f rest)) (eq-eqb j i same))
   entries_from-replaced f i j (suc k) (None ∷ slots) at = entries_from-replaced f i (suc j) k slots (omega (arith, at))
   entries_from-replaced f i j (suc k) (Some e ∷ slots) at =
       let rest = entries_from (suc j) slots in
       ap (λ es. ((j, e.0), e.1) ∷ es) (entries_from-replaced f i (suc j) k slots (omega (arith, at)))
-      ∙ sym (ap (λ b. cond b (((i, (f (e.0, e.1)).0), (f (e.0, e.1)).1) ∷ rest) (((j, e.0), e.1) ∷ replaced i f rest)) (below j i (omega (arith, at))))
+      ∙ sym (ap (λ b. cond b (((i, (f (e.0, e.1)).0), (f (e.0, e.1)).1) ∷ rest) (((j, e.0), e.1) ∷ replaced i f rest)) (ne_eqb j i (λ is. omega (arith, at, is))))
 
   entries-freed : (slots : List (Option (Gen × T))) (n : ℕ) → entries_from 1 (with_slot slots n None) ≡ without n (entries_from 1 slots)
   entries-freed slots zero = sym (without-below 0 1 slots (omega arith))
@@ -85,10 +76,6 @@ module _ {Gen T : Type 0} where
   entries-replaced : (f : Gen × T → Gen × T) (slots : List (Option (Gen × T))) (n : ℕ) → entries_from 1 (with_slot slots n (option_map f (slot_at slots n))) ≡ replaced n f (entries_from 1 slots)
   entries-replaced f slots zero = sym (replaced-below f 0 1 slots (omega arith))
   entries-replaced f slots (suc k) = entries_from-replaced f (suc k) 1 k slots (omega arith)
-
-  length-with_slot : (slots : List (Option (Gen × T))) (n : ℕ) (slot : Option (Gen × T)) → length (with_slot slots n slot) ≡ length slots
-  length-with_slot slots zero slot = refl
-  length-with_slot slots (suc k) slot = length-slice_set slots k slot
 
   -- what is seen of an arena, by its entries, its number of slots, its freed list, its counter and its placements
   abbrev shape : Arena Gen T → List ((ℕ × Gen) × T) → ℕ → List ℕ → Gen → ℕ → Seen Gen T

@@ -1,15 +1,9 @@
 -- The entries of slots rise, and an index finds among them what stands in its slot.
 use Rattle.std.specs.Prelude.{◌≡◌, ℕ, zero, suc, ◌+◌, ◌<◌, ◌≤◌, ◌==◌, true, false, cond, List, [], ◌∷◌, Option, None, Some, slice_index_or}
 use Rattle.std.proofs.Common.{refl, ap, ◌∙◌, arith, rules}
-use Rattle.std.proofs.lemmas.Grind.{common_steps}
+use Rattle.std.proofs.lemmas.Bool.{eq-eqb, ne_eqb}
 use Rattle.arena_base.specs.Arena.{Arena, entry_at}
 use Rattle.arena_base.specs.Entries.{entries_from, entries, found, RisesFrom}
-
-same : (m n : ℕ) → m ≡ n → (m == n) ≡ true
-same m n is = search rules
-
-other : (m n : ℕ) → m < n → (m == n) ≡ false
-other m n below = grind (arith, common_steps)
 
 module _ {Gen T : Type 0} where
   rises_later : (i j : ℕ) (slots : List (Option (Gen × T))) → i ≤ j → RisesFrom i (entries_from j slots)
@@ -25,18 +19,15 @@ module _ {Gen T : Type 0} where
   found-below i j [] below = refl
   found-below i j (None ∷ slots) below = found-below i (suc j) slots (omega (arith, below))
   found-below i j (Some e ∷ slots) below =
-      ap (λ b. cond b (Some (e.0, e.1)) (found i (entries_from (suc j) slots))) (above j i below) ∙ found-below i (suc j) slots (omega (arith, below))
-    where
-      above : (m n : ℕ) → n < m → (m == n) ≡ false
-      above m n below = grind (arith, common_steps)
+      ap (λ b. cond b (Some (e.0, e.1)) (found i (entries_from (suc j) slots))) (ne_eqb j i (λ is. omega (arith, below, is))) ∙ found-below i (suc j) slots (omega (arith, below))
 
   pub found-entries_from : (i j k : ℕ) (slots : List (Option (Gen × T))) → j + k ≡ i → found i (entries_from j slots) ≡ slice_index_or slots k None
   found-entries_from i j k [] at = refl
   found-entries_from i j zero (None ∷ slots) at = found-below i (suc j) slots (omega (arith, at))
   found-entries_from i j (suc k) (None ∷ slots) at = found-entries_from i (suc j) k slots (omega (arith, at))
-  found-entries_from i j zero (Some e ∷ slots) at = ap (λ b. cond b (Some (e.0, e.1)) (found i (entries_from (suc j) slots))) (same j i (omega (arith, at)))
+  found-entries_from i j zero (Some e ∷ slots) at = ap (λ b. cond b (Some (e.0, e.1)) (found i (entries_from (suc j) slots))) (eq-eqb j i (omega (arith, at)))
   found-entries_from i j (suc k) (Some e ∷ slots) at =
-      ap (λ b. cond b (Some (e.0, e.1)) (found i (entries_from (suc j) slots))) (other j i (omega (arith, at))) ∙ found-entries_from i (suc j) k slots (omega (arith, at))
+      ap (λ b. cond b (Some (e.0, e.1)) (found i (entries_from (suc j) slots))) (ne_eqb j i (λ is. omega (arith, at, is))) ∙ found-entries_from i (suc j) k slots (omega (arith, at))
 
   pub found-entries : (a : Arena Gen T) (i : ℕ) → found i (entries a) ≡ entry_at a i
   found-entries a zero = found-below 0 1 a.slots (omega arith)

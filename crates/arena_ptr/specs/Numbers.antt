@@ -2,6 +2,7 @@
 use Rattle.std.specs.Prelude.{◌≡◌, ℕ, ◌+◌, ◌==◌, ◌≤◌, ◌↔◌, true, if◌then◌else◌}
 use Rattle.std.specs.Coded.{le_prop, ×_prop}
 use Rattle.std.proofs.Common.{subst, ap, arith, rules}
+use Rattle.std.proofs.lemmas.Bool.{eqb-true, eq-eqb}
 use Rattle.std.proofs.lemmas.Grind.{common_steps}
 
 -- from 1 to the greatest
@@ -30,10 +31,4 @@ same_made {A} {B} {P} make prop a b p q e =
 -- a test of the numbers tells exactly whether the two values are the same, where the number determines the value
 pub eq_is_same : {A : Type 0} (number : A → ℕ) → ((a b : A) → number a ≡ number b → a ≡ b) →
     (a b : A) → ((number a == number b) ≡ true) ↔ (a ≡ b)
-eq_is_same {A} number same a b = (λ t. same a b (equal (number a) (number b) t), λ e. reflexive (number a) (number b) (ap number e))
-  where
-    equal : (m n : ℕ) → (m == n) ≡ true → m ≡ n
-    equal m n t = search rules
-
-    reflexive : (m n : ℕ) → m ≡ n → (m == n) ≡ true
-    reflexive m n e = search rules
+eq_is_same {A} number same a b = (λ t. same a b (eqb-true (number a) (number b) t), λ e. eq-eqb (number a) (number b) (ap number e))

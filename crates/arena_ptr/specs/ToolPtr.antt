@@ -1,6 +1,7 @@
 -- A tool pointer is its index, as a number, and its generation.
 use Rattle.std.specs.Prelude.{◌≡◌, ℕ, ◌==◌, ◌&&◌, ◌↔◌, Bool, true, List, ◌++◌, codes}
 use Rattle.std.proofs.Common.{ap, rules}
+use Rattle.std.proofs.lemmas.Bool.{and_from}
 use Rattle.arena_ptr.specs.Indexes.{number_of_inx32, same_inx32, eq_is_same_inx32}
 use Rattle.arena_ptr.specs.Generations.{number_of_gen32, eq_is_same_gen32}
 use Rattle.arena_ptr.specs.Text.{hexadecimal, in_parentheses}
@@ -22,7 +23,7 @@ eq_is_same p q =
     let inx = eq_is_same_inx32 p.inx q.inx in
     let generation = eq_is_same_gen32 p.generation q.generation in (
       λ t. same_parts p q (inx.0 (left_true _ _ t)) (generation.0 (right_true _ _ t)),
-      λ e. both_true _ _ (inx.1 (ap (λ (r : ToolPtr). r.inx) e)) (generation.1 (ap (λ (r : ToolPtr). r.generation) e)),
+      λ e. and_from _ _ (inx.1 (ap (λ (r : ToolPtr). r.inx) e)) (generation.1 (ap (λ (r : ToolPtr). r.generation) e)),
     )
   where
     left_true : (a b : Bool) → (a && b) ≡ true → a ≡ true
@@ -30,9 +31,6 @@ eq_is_same p q =
 
     right_true : (a b : Bool) → (a && b) ≡ true → b ≡ true
     right_true a b t = search rules
-
-    both_true : (a b : Bool) → a ≡ true → b ≡ true → (a && b) ≡ true
-    both_true a b s t = search rules
 
 -- as `P0[1](2)`
 abbrev pub text_of : ToolPtr → List ℕ

@@ -1,21 +1,16 @@
 -- An advancer over entries of which the first is taken out at each step.
 use Rattle.std.proofs.Common.{◌≡◌, ℕ, suc, ◌+◌, ◌≤◌, subst, true, cond, leb, List, [], ◌∷◌, ◌++◌, map, length, Option, None, Some, refl, ap, sym, ◌∙◌, arith, rules}
 use Rattle.std.specs.Prelude.{◌==◌}
+use Rattle.std.proofs.lemmas.Bool.{le-leb, eq-eqb}
 use Rattle.arena_base.specs.Entries.{RisesFrom, first_key, found, without}
 use Rattle.arena_base.specs.Advancing.{from_index}
 use Rattle.arena_trials.specs.Taking.{keyed}
-
-within : (m n : ℕ) → m ≤ n → leb m n ≡ true
-within m n below = search rules
-
-equal : (m n : ℕ) → m ≡ n → (m == n) ≡ true
-equal m n is = search rules
 
 module _ {Gen T : Type 0} where
   -- all entries lie ahead
   pub all_ahead : (es : List ((ℕ × Gen) × T)) (from : ℕ) → RisesFrom from es → from_index from es ≡ es
   all_ahead [] from rises = refl
-  all_ahead (e ∷ es) from rises = ap (λ b. cond b (e ∷ es) (from_index from es)) (within from e.0.0 rises.0)
+  all_ahead (e ∷ es) from rises = ap (λ b. cond b (e ∷ es) (from_index from es)) (le-leb from e.0.0 rises.0)
 
   -- the first entry, what an index finds then, and what is left without it
   pub record IsFirst (es : List ((ℕ × Gen) × T)) (key : ℕ × Gen) (n : ℕ) : Type 0 where
@@ -33,7 +28,7 @@ module _ {Gen T : Type 0} where
       split [] up is = cc
       split (e ∷ fs) up is =
           let same : key ≡ e.0 = cc in
-          let test = equal e.0.0 n (sym (index ∙ ap (λ (k : ℕ × Gen). k.0) same)) in
+          let test = eq-eqb e.0.0 n (sym (index ∙ ap (λ (k : ℕ × Gen). k.0) same)) in
           record {
             value = e.1;
             rest = fs;

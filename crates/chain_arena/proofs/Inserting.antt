@@ -14,7 +14,8 @@ use Rattle.chain_arena.specs.ChainArena.{LinkSeen, value_in, values_of, seen, sh
 use Rattle.arena_base.specs.Entries.{Slots, entries, seen_of, count_with_next, with_next_filled}
 use Rattle.arena_base.proofs.Seeing.{length-entries}
 use Rattle.chain_arena.proofs.Mapping.{with_each-insert_next, entry_count-with_each, length-with_each, listed-with_each}
-use Rattle.chain_arena.proofs.Seeing.{if_suc, length-with_slot}
+use Rattle.chain_arena.proofs.Seeing.{if_suc}
+use Rattle.arena_base.proofs.Reading.{length-with_slot}
 
 -- the item after a list, and those of the list
 slice_index_or-append : {X : Type 0} (xs : List (Option X)) (x : Option X) (k : ℕ) → slice_index_or (xs ++ x ∷ []) k None ≡ (if k == length xs then x else slice_index_or xs k None)
@@ -75,7 +76,7 @@ module _ {Gen T : Type 0} where
   pub shown-next : (a : Arena Gen (LinkSeen T)) → AreFree a.slots a.freed → shown a (next_index a) ≡ None
   shown-next a free = ap (option_map interlinks_of) (slot_at-next a.freed a.slots free)
 
-  map-if : (b : Bool) (x y : Option (Gen × LinkSeen T)) → option_map interlinks_of (if b then x else y) ≡ (if b then option_map interlinks_of x else option_map interlinks_of y)
+  pub map-if : (b : Bool) (x y : Option (Gen × LinkSeen T)) → option_map interlinks_of (if b then x else y) ≡ (if b then option_map interlinks_of x else option_map interlinks_of y)
   map-if true x y = refl
   map-if false x y = refl
 

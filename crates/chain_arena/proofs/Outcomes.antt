@@ -11,10 +11,6 @@ pub ok_or_err : {X E A B : Type 0} (r : Result X E) → OnOk r A → OnErr r B �
 ok_or_err (Ok x) a b = inl a
 ok_or_err (Err e) a b = inr b
 
--- a refusal is no success
-pub not_ok : ◌≡◌ {A = Bool} false true → ⊥
-not_ok is = cc
-
 -- so many entries fill the capacity, and one more is beyond the maximum
 abbrev IsFullAndBeyond : Option ℕ → ℕ → ℕ → Type 0
 IsFullAndBeyond maximum capacity n = (n ≡ capacity) × IsBeyond maximum (n + 1)

@@ -5,6 +5,7 @@ use Rattle.std.proofs.Math.Dec.{eqb-suc-suc}
 use Rattle.std.specs.Option.{option_map}
 use Rattle.chain_laws.specs.Chains.{Shown}
 use Rattle.chain_laws.proofs.Agreement.{if_same, if_other}
+use Rattle.arena_base.proofs.Reading.{length-with_slot}
 use Rattle.chain_arena.proofs.Mapping.{entry_at-with_each, length-with_each}
 use Rattle.chain_arena.specs.declared.links.LinkBody.{LinkBody}
 use Rattle.chain_arena.specs.Links.{seen_link, seen_pair, seen_links}
@@ -17,11 +18,6 @@ same_items [] [] d long same = refl
 same_items [] (y ∷ ys) d long same = absurd (omega (arith, long))
 same_items (x ∷ xs) [] d long same = absurd (omega (arith, long))
 same_items (x ∷ xs) (y ∷ ys) d long same = let front = same 0 in let rest = same_items xs ys d (omega (arith, long)) (λ k. same (suc k)) in cc
-
-length-slice_set : {X : Type 0} (xs : List X) (k : ℕ) (x : X) → length (slice_set xs k x) ≡ length xs
-length-slice_set [] k x = refl
-length-slice_set (y ∷ xs) zero x = refl
-length-slice_set (y ∷ xs) (suc k) x = ap (λ n. suc n) (length-slice_set xs k x)
 
 -- numbers are equal if those before them are
 pub if_suc : {A : Type 0} (j k : ℕ) (x y : A) → (if j == k then x else y) ≡ (if suc j == suc k then x else y)
@@ -43,10 +39,6 @@ slot_at-changed {X} slots zero zero f none = sym (if_same 0 0 (f None) None refl
 slot_at-changed slots zero (suc j) f none = sym (if_other (suc j) 0 _ _ (λ is. absurd (omega (arith, is))))
 slot_at-changed slots (suc k) zero f none = sym (if_other 0 (suc k) _ _ (λ is. absurd (omega (arith, is))))
 slot_at-changed slots (suc k) (suc j) f none = slice_index_or-slice_set slots k j f none ∙ if_suc j k _ _
-
-pub length-with_slot : {X : Type 0} (slots : List X) (n : ℕ) (x : X) → length (with_slot slots n x) ≡ length slots
-length-with_slot slots zero x = refl
-length-with_slot slots (suc k) x = length-slice_set slots k x
 
 module _ {Gen T : Type 0} where
   -- the entries of an arena with one value written

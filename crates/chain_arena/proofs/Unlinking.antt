@@ -16,6 +16,7 @@ use Rattle.chain_arena.specs.declared.links.LinkBody.{LinkBody}
 use Rattle.chain_arena.specs.Links.{seen_link, seen_links, seen_pair}
 use Rattle.chain_arena.proofs.Connecting.{link_at-seen}
 use Rattle.arena_base.proofs.Seeing as seeing
+use Rattle.chain_arena.proofs.Inserting.{map-if}
 use Rattle.chain_arena.proofs.Mapping.{with_each-remove_at, entry_at-with_each, generation_is}
 use Rattle.chain_arena.proofs.Seeing.{slot_at-changed, entry_at-seen_links}
 use Rattle.chain_arena.proofs.Valuing.{held_in}
@@ -26,10 +27,6 @@ same_if true x y same = same
 same_if false x y same = refl
 
 module _ {Gen T : Type 0} where
-  map-if : (b : Bool) (x y : Option (Gen × LinkSeen T)) → option_map interlinks_of (if b then x else y) ≡ (if b then option_map interlinks_of x else option_map interlinks_of y)
-  map-if true x y = refl
-  map-if false x y = refl
-
   -- a write of a value ..
   pub shown-written : (a b : Arena Gen (LinkSeen T)) (i : ℕ) (t : T) → b ≡ with_value_at a i t → shown b ≡ shown a
   shown-written a b i t written = ap (λ (x : Arena Gen (LinkSeen T)). shown x) written ∙ fun_ext (λ j.

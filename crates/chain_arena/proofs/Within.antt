@@ -1,6 +1,7 @@
 -- In any arena of links, for generic code: a link's index is one of the pointers' type.
 use Rattle.std.proofs.Common.{◌≡◌, ℕ, ◌==◌, Bool, true, false, cond, List, [], ◌∷◌, Option, Some, refl, ap, sym, ◌∙◌, arith, rules}
 use Rattle.std.specs.Prelude.{is_some, All}
+use Rattle.std.proofs.lemmas.Bool.{eqb-true}
 use Rattle.std.proofs.lemmas.List.Elements.{All-head, All-tail}
 use Rattle.arena_ptr.specs.Numbers as numbers
 use Rattle.arena_base.specs.Entries.{found, index_of}
@@ -10,10 +11,7 @@ module _ {Gen T : Type 0} (greatest : ℕ) where
   -- at the first entry's index, or further on
   at_first_or_later : (e : (ℕ × Gen) × T) (es : List ((ℕ × Gen) × T)) (i : ℕ) (b : Bool) → (e.0.0 == i) ≡ b → numbers.IsWithin greatest e.0.0
       → (is_some (found i es) ≡ true → numbers.IsWithin greatest i) → is_some (cond b (Some (e.0.1, e.1)) (found i es)) ≡ true → numbers.IsWithin greatest i
-  at_first_or_later e es i true same here later is = let at : e.0.0 ≡ i = equal e.0.0 i same in (omega (arith, at, here.0), omega (arith, at, here.1))
-    where
-      equal : (m n : ℕ) → (m == n) ≡ true → m ≡ n
-      equal m n t = search rules
+  at_first_or_later e es i true same here later is = let at : e.0.0 ≡ i = eqb-true e.0.0 i same in (omega (arith, at, here.0), omega (arith, at, here.1))
   at_first_or_later e es i false other here later is = later is
 
   -- an index at which an entry is found is one of theirs

@@ -4,6 +4,7 @@ use Rattle.std.proofs.Common.{sym, refl, ap, ◌∙◌, subst, inl, inr}
 use mathlib.Core.Path.{fun_ext}
 use Rattle.chain_laws.specs.Chains.{Shown, Interlinks, Chain, linear, cyclic, items, IsChain, IsValid, IsWithin, Agrees, Has, Stands, prev_of, next_of, first_or, last_or}
 use Rattle.chain_laws.specs.Operations.{joined, with_lone, Connects, AddsLone, HaveSameChains, ChainsDecide, PairsDecide, JoinIsDetermined, LoneIsDetermined}
+use Rattle.chain_laws.proofs.Neighboring.{same_named}
 use Rattle.chain_laws.proofs.Members.{Has-left, Has-middle, Has-written, Has-or_not, last_or-filled, last_or-append}
 use Rattle.chain_laws.proofs.Standing.{Stands-at, shows_next, shows_prev, shows_both}
 use Rattle.chain_laws.proofs.Unique.{chains_share, not_both, one_linear, one_cyclic}
@@ -148,12 +149,6 @@ chains_decide left right slots agrees_left agrees_right within_left within_right
     by i (Some l) e p f = shows_alike left right slots agrees_left within_left same i (record { link = l; shows = e })
     by i None e None f = e ∙ sym f
     by i None e (Some m) f = sym (shows_alike right left slots agrees_right within_right (λ c. ((same c).1, (same c).0)) i (record { link = m; shows = f }))
-
--- options that name the same are the same
-same_named : (o p : Option ℕ) → ((j : ℕ) → (o ≡ Some j) ↔ (p ≡ Some j)) → o ≡ p
-same_named None None same = refl
-same_named None (Some k) same = let none = (same k).1 refl in absurd (cc)
-same_named (Some k) p same = sym ((same k).0 refl)
 
 -- two arenas with the same links and neighbour pairs show the same
 pub pairs_decide : PairsDecide

@@ -172,11 +172,11 @@ interlinks shown chains are = record {
   );
 }
 
--- two options of the same values are the same
-same_option : (o p : Option ℕ) → ((j : ℕ) → (o ≡ Some j) ↔ (p ≡ Some j)) → o ≡ p
-same_option None None same = refl
-same_option None (Some j) same = (same j).1 refl
-same_option (Some j) p same = sym ((same j).0 refl)
+-- options that name the same are the same
+pub same_named : (o p : Option ℕ) → ((j : ℕ) → (o ≡ Some j) ↔ (p ≡ Some j)) → o ≡ p
+same_named None None same = refl
+same_named None (Some j) same = (same j).1 refl
+same_named (Some j) p same = sym ((same j).0 refl)
 
 -- what partitions the links and has the interlinks are the chains
 pub chains_from_pairs : (shown : Shown) (chains : List Chain) → Partition shown chains → HasInterlinks shown chains → AreChains shown chains
@@ -216,8 +216,8 @@ chains_from_pairs shown chains partition pairs = record {
     shows c m left right i e =
         shows_both shown i (last_or left (before_first c)) (first_or right (after_last c))
         ((partition.valid i).1 (Has-all_items chains c i m (member c left right i e)))
-        (same_option (prev_of shown i) (last_or left (before_first c)) (prev_is c m left right i e))
-        (same_option (next_of shown i) (first_or right (after_last c)) (next_is c m left right i e))
+        (same_named (prev_of shown i) (last_or left (before_first c)) (prev_is c m left right i e))
+        (same_named (next_of shown i) (first_or right (after_last c)) (next_is c m left right i e))
 
 -- an arena whose interlinks are the neighbour pairs of some chains has interlinks that agree
 pub agrees_from_pairs : (shown : Shown) (chains : List Chain) → HasInterlinks shown chains → Agrees shown

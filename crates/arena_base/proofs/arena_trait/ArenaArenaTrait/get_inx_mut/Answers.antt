@@ -1,6 +1,5 @@
 -- The arena gets the value written to the slot that was lent.
-use Rattle.std.proofs.Common.{Option, Some, None, refl, sym, ◌∙◌, ap}
-use Rattle.std.specs.Prelude.{OnSome}
+use Rattle.std.proofs.Common.{refl, sym, ◌∙◌, ap}
 use Rattle.std.specs.Option.{option_map}
 use Rattle.arena_base.specs.Arena.{with_value}
 use Rattle.arena_base.specs.Slots.{entry_in, with_value_in}
@@ -9,11 +8,8 @@ use Rattle.arena_base.proofs.Reading.{slot_at-map, slice_set-itself}
 use Rattle.arena_base.proofs.Soundness.{lent, closed}
 use Rattle.arena_base.proofs.Seeing.{seen_written}
 use Rattle.arena_base.proofs.Viewing.{lent_view}
+use Rattle.arena_ptr.proofs.Options.{on_some}
 use Rattle.arena_base.proofs.arena_trait.ArenaArenaTrait.get_inx_mut.Goals as goal
-
-on_some : {X Q : Type 0} (o : Option X) → Q → OnSome o Q
-on_some None q = tt
-on_some (Some x) q = q
 
 pub invariant_of-self-lent : goal.invariant_of-self-lent
 invariant_of-self-lent g c o =

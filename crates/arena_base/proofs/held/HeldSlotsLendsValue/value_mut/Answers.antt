@@ -1,16 +1,12 @@
 -- The held slots get the value written to the slot that was lent.
-use Rattle.std.proofs.Common.{Option, Some, None, refl, sym, ◌∙◌, ap}
-use Rattle.std.specs.Prelude.{OnSome}
+use Rattle.std.proofs.Common.{refl, sym, ◌∙◌, ap}
 use Rattle.std.specs.Option.{option_map}
 use Rattle.arena_base.specs.Compacting.{held_with_value}
 use Rattle.arena_base.specs.Slots.{entry_in, with_value_in}
 use Rattle.arena_base.proofs.Reading.{slot_at-map, slice_set-itself}
 use Rattle.arena_base.proofs.Holding.{held_lent}
+use Rattle.arena_ptr.proofs.Options.{on_some}
 use Rattle.arena_base.proofs.held.HeldSlotsLendsValue.value_mut.Goals as goal
-
-on_some : {X Q : Type 0} (o : Option X) → Q → OnSome o Q
-on_some None q = tt
-on_some (Some x) q = q
 
 pub returns-in-Some : goal.returns-in-Some
 returns-in-Some g c =

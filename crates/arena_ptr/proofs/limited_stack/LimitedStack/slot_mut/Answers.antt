@@ -1,14 +1,10 @@
 use Rattle.std.proofs.Common.{◌≡◌, ℕ, List, Option, Some, None, refl, sym, MutBor}
 use Rattle.std.proofs.lemmas.Option.{slice_get_past, slice_get_read}
 use Rattle.std.specs.List.{slice_get, IsItemAtMut}
-use Rattle.std.specs.Option.{OnSome, option_copied_mut}
+use Rattle.std.specs.Option.{option_copied_mut}
 use Rattle.arena_ptr.specs.LimitedStack.{same_within}
+use Rattle.arena_ptr.proofs.Options.{on_some}
 use Rattle.arena_ptr.proofs.limited_stack.LimitedStack.slot_mut.Goals as goal
-
--- a fact holds where there is a value
-on_some : {A : Type 0} {P : Type 0} (o : Option A) → P → OnSome o P
-on_some None p = tt
-on_some (Some x) p = p
 
 -- what the reference to the item at i shows
 shown_at : {X : Type 0} (o : Option (MutBor X)) (xs : List X) (i : ℕ) → IsItemAtMut xs i o → option_copied_mut o ≡ slice_get xs i

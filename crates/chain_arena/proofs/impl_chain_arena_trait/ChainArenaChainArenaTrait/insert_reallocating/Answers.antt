@@ -1,13 +1,14 @@
 -- The new link stands alone beside what the arena showed.
 use Rattle.std.proofs.Common.{refl, sym, ap, ◌∙◌, ⊎_elim, subst}
 use Rattle.std.specs.Prelude.{◌<◌, ◌+◌}
+use Rattle.std.proofs.lemmas.Bool.{false≢true}
 use Rattle.arena_base.specs.Arena.{IsRoom, HasRoom}
 use Rattle.chain_laws.specs.Chains.{Agrees}
 use Rattle.chain_laws.specs.Operations.{with_lone}
 use Rattle.chain_arena.specs.Links.{seen_links, seen_link}
 use Rattle.chain_arena.specs.ChainArena.{shown}
 use Rattle.chain_arena.proofs.Inserting.{agrees-inserted, adds-inserted, seen-inserted, shown-inserted, entry-inserted, seen-in_room, slots-inserted, count-values, entry_count-seen_links, next_index-values, next_index-seen_links}
-use Rattle.chain_arena.proofs.Outcomes.{ok_or_err, not_ok, beyond-ok, beyond-err}
+use Rattle.chain_arena.proofs.Outcomes.{ok_or_err, beyond-ok, beyond-err}
 use Rattle.chain_arena.proofs.impl_chain_arena_trait.ChainArenaChainArenaTrait.insert_reallocating.Goals as goal
 
 pub invariant_of-self : goal.invariant_of-self
@@ -68,7 +69,7 @@ pub returns-in-Err-clause-state_in_room : goal.returns-in-Err-clause-state_in_ro
 returns-in-Err-clause-state_in_room g c =
     let number = g.P.Inx.PtrInx.number in
     let a = c.self.inside.arena in
-    rw (← c.self.view_is) (λ room. absurd (not_ok (c.in-Err.ensures.room (subst (λ n. n < a.capacity) (entry_count-seen_links number a) room)).0))
+    rw (← c.self.view_is) (λ room. absurd (false≢true (c.in-Err.ensures.room (subst (λ n. n < a.capacity) (entry_count-seen_links number a) room)).0))
 
 pub returns-in-Ok-clause-grown : goal.returns-in-Ok-clause-grown
 returns-in-Ok-clause-grown g c =
@@ -94,7 +95,7 @@ pub returns-in-Err-clause-room : goal.returns-in-Err-clause-room
 returns-in-Err-clause-room g c =
     let number = g.P.Inx.PtrInx.number in
     let a = c.self.inside.arena in
-    rw (← c.self.view_is) (λ room. absurd (not_ok (c.in-Err.ensures.room (subst (λ n. n < a.capacity) (count-values number a) room)).0))
+    rw (← c.self.view_is) (λ room. absurd (false≢true (c.in-Err.ensures.room (subst (λ n. n < a.capacity) (count-values number a) room)).0))
 
 pub returns-in-Ok-clause-beyond : goal.returns-in-Ok-clause-beyond
 returns-in-Ok-clause-beyond g c =
