@@ -1,8 +1,6 @@
 -- The step that was made, also where memory for the answer was refused.
-use Rattle.std.proofs.Common.{◌≡◌, ◌≤◌, ◌∙◌, sym, ap, subst}
-use Rattle.chain_tool.specs.Answers.{Adds}
+use Rattle.std.proofs.Common.{◌≤◌, subst}
 use Rattle.chain_tool.proofs.AnswerLemmas.{added_err, adds_refused, adds_ok, adds_err}
-use Rattle.chain_tool.proofs.answer.add_alone.Given.{Over}
 use Rattle.chain_tool.proofs.answer.add_alone.Goals as goal
 
 pub returns-in_err-push_str-in-Ok-clause-err : goal.returns-in_err-push_str-in-Ok-clause-err
