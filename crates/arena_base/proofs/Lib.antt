@@ -1,8 +1,9 @@
+pub mod Filling
 mod FreeSlots
 mod Holding
 mod Ranging
 mod Reading
-mod Seeing
+pub mod Seeing
 mod Soundness
 mod Trimming
 mod Viewing

@@ -1,5 +1,5 @@
 -- What an advancer answers over entries by rising index.
-use Rattle.std.specs.Prelude.{◌≡◌, ℕ, ◌+◌, ◌-◌, cond, leb, List, [], ◌∷◌, reverse, Option, None, Some}
+use Rattle.std.specs.Prelude.{◌≡◌, ℕ, ◌+◌, ◌-◌, ⊤, cond, leb, List, [], ◌∷◌, reverse, Option, None, Some}
 use Rattle.arena_base.specs.Entries.{first_key}
 use Rattle.arena_base.specs.declared.look.Look.{Look}
 use Rattle.arena_base.specs.declared.look.Look.TheVariants.{Up, Down, Nowhere}
@@ -36,3 +36,9 @@ module _ {Gen T : Type 0} where
   pub record IsLook (es : List ((ℕ × Gen) × T)) (look : Look) (answer : Option (ℕ × Gen)) (after : Look) : Type 0 where
     pub first : answer ≡ first_key (ahead look es)
     pub moves : after ≡ look_after look answer
+
+  -- what is asked of a call of any advancer: nothing once a call has answered none
+  abbrev pub IsLookUntilNone : List ((ℕ × Gen) × T) → Look → Option (ℕ × Gen) → Look → Type 0
+  IsLookUntilNone es (Up i) answer after = IsLook es (Up i) answer after
+  IsLookUntilNone es (Down i) answer after = IsLook es (Down i) answer after
+  IsLookUntilNone es Nowhere answer after = ⊤

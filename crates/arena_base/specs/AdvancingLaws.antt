@@ -1,8 +1,8 @@
--- An advancer that looks nowhere stays there.
+-- An advancer of this crate that looks nowhere stays there, and it keeps what is asked of any.
 use Rattle.std.specs.Prelude.{◌≡◌, ℕ, List, Option, None, Some}
 use Rattle.std.specs.Option.{option_map}
 use Rattle.std.proofs.Common.{refl, ap, sym, ◌∙◌}
-use Rattle.arena_base.specs.Advancing.{IsLook, ahead, look_after}
+use Rattle.arena_base.specs.Advancing.{IsLook, IsLookUntilNone, ahead, look_after}
 use Rattle.arena_base.specs.Entries.{first_key}
 use Rattle.arena_base.specs.declared.look.Look.{Look}
 use Rattle.arena_base.specs.declared.look.Look.TheVariants.{Up, Down, Nowhere}
@@ -12,3 +12,8 @@ pub nowhere_stays : {P Gen T : Type 0} (key : P → ℕ × Gen) (es : List ((ℕ
 nowhere_stays key es look None after spent given = (refl, given.moves)
 nowhere_stays key es look (Some p) after spent given =
     let met : Some (key p) ≡ None = given.first ∙ ap (λ l. first_key (ahead l es)) spent in cc
+
+pub until_none : {Gen T : Type 0} (es : List ((ℕ × Gen) × T)) (look : Look) (answer : Option (ℕ × Gen)) (after : Look) → IsLook es look answer after → IsLookUntilNone es look answer after
+until_none es (Up i) answer after given = given
+until_none es (Down i) answer after given = given
+until_none es Nowhere answer after given = tt

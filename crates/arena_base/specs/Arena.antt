@@ -1,7 +1,9 @@
 -- The state of a generational arena, as contracts see it, and what each call makes of it.
-use Rattle.std.specs.Prelude.{◌≡◌, ℕ, zero, suc, ◌+◌, ◌≤◌, ◌⊎◌, ⊤, Bool, false, List, [], ◌∷◌, ◌++◌, length, count_by, is_some, slice_index_or, slice_set, Option, None, Some}
+use Rattle.std.specs.Prelude.{◌≡◌, ℕ, zero, suc, ◌+◌, ◌≤◌, ◌⊎◌, ⊤, min, Bool, false, List, [], ◌∷◌, ◌++◌, length, count_by, is_some, slice_index_or, slice_set}
+use Rattle.std.specs.Prelude.{Option, None, Some}
 use Rattle.std.specs.Option.{option_map}
 use Rattle.std.specs.Borrow.{Bor}
+use Rattle.arena_ptr.specs.SlotStack.{IsWithinMaximum}
 
 -- At each slot the entry there, a generation and a value, if one stands there; slot k has the index k + 1.
 -- An insertion takes the counter as its generation, and its index from the freed list, the first one there, if there is
@@ -51,6 +53,12 @@ Has n (m ∷ ms) = (m ≡ n) ⊎ Has n ms
 abbrev pub IsApart : List ℕ → Type 0
 IsApart [] = ⊤
 IsApart (m ∷ ms) = (Has m ms → ⊥) × IsApart ms
+
+-- a capacity leaves room for n entries, is at most the greatest index, and within the maximum
+pub record IsRoom (greatest : ℕ) (maximum : Option ℕ) (n capacity : ℕ) : Type 0 where
+  pub fits : n ≤ capacity
+  pub at_most_greatest : capacity ≤ greatest
+  pub within_maximum : IsWithinMaximum maximum capacity
 
 -- the counter after so many entries were cleared: none leave it as it is
 abbrev pub counter_after_clear : {Gen : Type 0} → (Gen → Gen) → ℕ → Gen → Gen
@@ -129,6 +137,10 @@ module _ {Gen T : Type 0} where
   -- the same but for room, which is as in another
   abbrev pub with_capacity_of : Arena Gen T → Arena Gen T → Arena Gen T
   with_capacity_of a b = record a { capacity = b.capacity; stack_capacity = b.stack_capacity }
+
+  -- there is room for n entries, and the capacity is the lesser of the stack's and the greatest index
+  abbrev pub HasRoom : ℕ → ℕ → Arena Gen T → Type 0
+  HasRoom greatest n a = IsRoom greatest a.maximum n a.capacity × (a.capacity ≡ min a.stack_capacity greatest)
 
   -- each free slot stands in the freed list exactly once, and nothing else does
   pub record IsListed (a : Arena Gen T) : Type 0 where

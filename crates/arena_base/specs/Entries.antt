@@ -1,8 +1,10 @@
 -- The entries of an arena by rising index, each under its key, the pair of its index and its generation; and what code
 -- that is generic over arenas sees of one.
-use Rattle.std.specs.Prelude.{◌≡◌, ℕ, suc, ◌+◌, ◌≤◌, ◌==◌, ⊤, cond, List, [], ◌∷◌, reverse, length, Option, None, Some, IfSome}
+use Rattle.std.specs.Prelude.{◌≡◌, ◌↔◌, ℕ, suc, ◌+◌, ◌<◌, ◌≤◌, ◌==◌, ⊤, cond, List, [], ◌∷◌, ◌++◌, map, reverse, length, Option, None, Some, IfSome}
 use Rattle.std.specs.Option.{option_map}
-use Rattle.arena_base.specs.Arena.{Arena, counter_after_clear}
+use Rattle.arena_ptr.specs.Numbers.{IsWithin}
+use Rattle.arena_ptr.specs.SlotStack.{IsBeyond}
+use Rattle.arena_base.specs.Arena.{Arena, Has, IsApart, first_or_next, without_first, counter_after_clear}
 
 -- the number of slots, the freed list, next to be used first, and the totals of placements and touches
 pub record Slots : Type 0 where
@@ -24,6 +26,19 @@ pub record Seen (Gen T : Type 0) : Type 0 where
 abbrev pub with_freed : ℕ → Slots → Slots
 with_freed i slots = record slots { freed = i ∷ slots.freed; placed = slots.placed + 1 }
 
+-- the index of the next insertion
+abbrev pub next_slot : Slots → ℕ
+next_slot slots = first_or_next slots.freed slots.count
+
+-- how many slots there are after it, of a freed list and so many before
+abbrev pub count_with_next : List ℕ → ℕ → ℕ
+count_with_next [] n = n + 1
+count_with_next (i ∷ freed) n = n
+
+-- it fills the first freed slot, or else a new one, and counts as a placement
+abbrev pub with_next_filled : Slots → Slots
+with_next_filled slots = record slots { count = count_with_next slots.freed slots.count; freed = without_first slots.freed; placed = slots.placed + 1 }
+
 -- no slots are left
 abbrev pub without_slots : Slots → Slots
 without_slots slots = record slots { count = 0; freed = [] }
@@ -41,6 +56,14 @@ module _ {Gen T : Type 0} where
 
   abbrev pub entries : Arena Gen T → List ((ℕ × Gen) × T)
   entries a = entries_from 1 a.slots
+
+  abbrev pub index_of : (ℕ × Gen) × T → ℕ
+  index_of e = e.0.0
+
+  -- the indexes of the entries and the freed indexes together are 1 to the number of slots, each once
+  pub record AreTheSlots (es : List ((ℕ × Gen) × T)) (slots : Slots) : Type 0 where
+    pub apart : IsApart (map index_of es ++ slots.freed)
+    pub all : (i : ℕ) → Has i (map index_of es ++ slots.freed) ↔ IsWithin slots.count i
 
   -- an arena as generic code sees it
   abbrev pub seen_of : Arena Gen T → Seen Gen T
@@ -106,6 +129,17 @@ module _ {Gen T : Type 0} where
   -- the same but for room
   abbrev pub with_capacity : Seen Gen T → ℕ → Seen Gen T
   with_capacity s n = record s { capacity = n }
+
+  -- how many entries there are
+  abbrev pub count : Seen Gen T → ℕ
+  count s = length s.entries
+
+  abbrev pub HasRoomLeft : Seen Gen T → Type 0
+  HasRoomLeft s = count s < s.capacity
+
+  -- one entry more asks for a growth beyond the maximum
+  abbrev pub NeedsBeyondMaximum : Seen Gen T → Type 0
+  NeedsBeyondMaximum s = (count s ≡ s.capacity) × IsBeyond s.maximum (count s + 1)
 
   -- a new arena: no entries, a counter that begins at the first generation, no slots, and nothing counted
   pub record IsNew (first : Gen) (s : Seen Gen T) : Type 0 where

@@ -7,7 +7,7 @@ ghost use Rattle.arena_base.specs.Slots.{entry_of};
 ghost use Rattle.arena_base.specs.Entries.{entries, entries_from, key_at, first_key, last_key};
 ghost use Rattle.arena_base.specs.Advancing.{ahead};
 ghost use Rattle.arena_base.specs.Compacting.{held_of, lent_out, returned, with_placement, with_touch};
-ghost use Rattle.arena_base.specs.Arena.{entry_at, entry_count, next_index, insert_next, remove_at, renewed_at, with_counter, with_capacity_of, with_maximum, new_arena, IsListed};
+ghost use Rattle.arena_base.specs.Arena.{entry_at, entry_count, next_index, insert_next, remove_at, renewed_at, with_counter, with_capacity_of, with_maximum, new_arena, HasRoom};
 
 use crate::held::HeldSlots;
 use crate::listing::{relist, trim};
@@ -130,9 +130,11 @@ impl<P: Ptr, T: Drop, S: SlotStack<Item = ArenaSlot<P, T>>> Arena<P, T, S> {
     pub fn insert_reallocating(&mut self, t: T) -> Result<P, ReallocationError>
         ensures ptr { IfOk result (λ p. P.key p ≡ (next_index self.old, self.old.counter)) }
         ensures ok { OnOk result (self.new ≡ with_capacity_of (insert_next self.old t) self.new) }
+        ensures grown { OnOk result (HasRoom P.Inx.greatest (entry_count self.old + 1) self.new) }
         ensures err { OnErr result (self.new ≡ self.old) }
-        ensures room { entry_count self.old < self.old.capacity → IsOk result × (self.new.capacity ≡ self.old.capacity) }
-        ensures beyond { (result ≡ Err ReallocationError.BeyondMaxCapacity) ↔ ((entry_count self.old ≡ self.old.capacity) × IsBeyond self.old.maximum (entry_count self.old + 1)) }
+        ensures room { entry_count self.old < self.old.capacity → IsOk result × (self.new ≡ insert_next self.old t) }
+        ensures beyond { (result ≡ Err ReallocationError.BeyondMaxCapacity) ↔
+            ((entry_count self.old ≡ self.old.capacity) × IsBeyond self.old.maximum (entry_count self.old + 1)) }
         ensures greatest { entry_count self.old ≡ P.Inx.greatest → IsErr result }
     {
         if self.is_full() {
@@ -144,8 +146,7 @@ impl<P: Ptr, T: Drop, S: SlotStack<Item = ArenaSlot<P, T>>> Arena<P, T, S> {
     // Whether there are as many entries as the capacity.
     pub(crate) fn is_full(&self) -> bool
         ensures full { IsTrue result ↔ (entry_count self.now ≡ self.now.capacity) }
-        ensures fits { entry_count self.now ≤ self.now.capacity }
-        ensures greatest { self.now.capacity ≤ P.Inx.greatest }
+        ensures room { HasRoom P.Inx.greatest (entry_count self.now) self.now }
     {
         self.len == self.slots.capacity().min(P::Inx::greatest())
     }
@@ -154,7 +155,7 @@ impl<P: Ptr, T: Drop, S: SlotStack<Item = ArenaSlot<P, T>>> Arena<P, T, S> {
     pub(crate) fn grow_to(&mut self, n: usize) -> Result<(), ReallocationError>
         ensures beyond { (result ≡ Err ReallocationError.BeyondMaxCapacity) ↔ IsBeyond self.old.maximum n }
         ensures greatest { P.Inx.greatest < n → IsErr result }
-        ensures ok { OnOk result (n ≤ self.new.capacity) }
+        ensures ok { OnOk result (HasRoom P.Inx.greatest n self.new) }
         ensures err { OnErr result (self.new ≡ self.old) }
         ensures after { self.new ≡ with_capacity_of self.old self.new }
         ensures never_less { self.old.capacity ≤ self.new.capacity }

@@ -1,9 +1,10 @@
 // The calls that an arena shares with other arenas.
-ghost use Rattle.std.specs.Prelude.{◌≡◌, ◌≤◌, length};
+ghost use Rattle.std.specs.Prelude.{◌≡◌, ◌≤◌, length, All, IfSome};
 ghost use Rattle.arena_ptr.specs.Invalidation.{value_within, is_overflow_result};
 ghost use Rattle.std.specs.Option.{option_map};
-ghost use Rattle.arena_base.specs.Arena.{counter_after_clear, overflows_after_clear, entry_count, IsListed};
-ghost use Rattle.arena_base.specs.Entries.{seen_of};
+ghost use Rattle.arena_base.specs.Arena.{counter_after_clear, overflows_after_clear, entry_count, HasRoom, IsListed};
+ghost use Rattle.arena_ptr.specs.Numbers.{IsWithin};
+ghost use Rattle.arena_base.specs.Entries.{seen_of, index_of, AreTheSlots};
 
 use crate::advancer::PtrAdvancer;
 use crate::arena::{Arena, invalidated, outcome};
@@ -18,8 +19,10 @@ use std::alloc::Global;
 impl<P: Ptr, T: Drop, S: SlotStack<Item = ArenaSlot<P, T>>> ArenaTrait<P, T> for Arena<P, T, S> {
     ghost use Rattle.std.specs.Prelude.{◌≡◌};
     ghost use Rattle.arena_base.specs.Arena.{entry_at, new_arena, with_capacity_of, with_value, renewed_at, remove_at, cleared};
-    ghost use Rattle.arena_base.specs.Entries.{seen_of};
+    ghost use Rattle.std.specs.Option.{option_map};
+    ghost use Rattle.arena_base.specs.Entries.{seen_of, entries};
     ghost use Rattle.arena_base.specs.EntryLaws.{entries_rise, found-entries};
+    ghost use Rattle.arena_base.specs.AdvancingLaws.{until_none};
 
     type PtrAdvancer = PtrAdvancer<P>;
 
@@ -29,7 +32,7 @@ impl<P: Ptr, T: Drop, S: SlotStack<Item = ArenaSlot<P, T>>> ArenaTrait<P, T> for
 
     ghost looks = { λ a. a.look };
 
-    ghost starts = { λ n a. (a ≡ with_capacity_of (new_arena P.Gen.first S.initial_maximum) a) × (n ≡ 0 → a.stack_capacity ≡ 0) };
+    ghost starts = { λ n a. (a ≡ with_capacity_of (new_arena P.Gen.first S.initial_maximum) a) × (n ≡ 0 → a ≡ new_arena P.Gen.first S.initial_maximum) };
 
     ghost grows = { λ a b. b ≡ with_capacity_of a b };
 
@@ -45,7 +48,7 @@ impl<P: Ptr, T: Drop, S: SlotStack<Item = ArenaSlot<P, T>>> ArenaTrait<P, T> for
 
     ghost looked_up = { found-entries };
 
-    ghost advances = { λ a b arena answer given. given };
+    ghost advances = { λ a b arena answer given. until_none (entries arena) a.look (option_map P.key answer) b.look given };
 
     fn new(alloc: Global) -> Self {
         Arena::over(S::new(alloc))
@@ -73,11 +76,13 @@ impl<P: Ptr, T: Drop, S: SlotStack<Item = ArenaSlot<P, T>>> ArenaTrait<P, T> for
     fn len(&self) -> usize
         ensures count { result ≡ length (seen_of self.now).entries }
         ensures fits { result ≤ (seen_of self.now).capacity }
+        ensures indexes { All (λ e. IsWithin P.Inx.greatest (index_of e)) (seen_of self.now).entries }
+        ensures filled { IfSome (seen_of self.now).slots (AreTheSlots (seen_of self.now).entries) }
         ensures entries { result ≡ entry_count self.now }
 
-        // The slots and the freed list, in every arena.
+        // The slots, the freed list and the room, in every arena.
         ensures listed { IsListed self.now }
-        ensures slots { length self.now.slots ≤ P.Inx.greatest }
+        ensures room { HasRoom P.Inx.greatest (length self.now.slots) self.now }
     {
         self.len
     }

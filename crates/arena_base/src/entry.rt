@@ -10,7 +10,6 @@ use arena_ptr::{HeapStack, NotWithinCapacityError, Ptr, SlotStack};
 /// A place for an entry, whose pointer is known before its value. Dropping it changes nothing.
 ///
 /// Carries `ArenaInsertEntry` of `triple_arena`.
-#[derive(Drop)]
 pub struct ArenaInsertEntry<
     'a,
     P: Ptr,
@@ -64,5 +63,15 @@ impl<'a, P: Ptr, T: Drop, S: SlotStack<Item = ArenaSlot<P, T>>> ArenaInsertEntry
         ensures { self.exit.0.now ≡ insert_next self.entry.arena.now t }
     {
         self.arena.insert_here(t);
+        let ArenaInsertEntry { arena: _ } = self;
+    }
+}
+
+impl<'a, P: Ptr, T: Drop, S: SlotStack<Item = ArenaSlot<P, T>>> Drop
+    for ArenaInsertEntry<'a, P, T, S> {
+    fn drop(self)
+        ensures { self.exit.0.now ≡ self.entry.arena.now }
+    {
+        let ArenaInsertEntry { arena: _ } = self;
     }
 }

@@ -1,12 +1,13 @@
 // What arenas share, so that code may be generic over them.
-ghost use Rattle.std.specs.Prelude.{◌≡◌, ℕ, ◌<◌, ◌≤◌, ◌↔◌, ⊤, List, [], length, IsTrue, IsSome, IfSome, OnSome, IsOk, IfOk, IsErr, OnOk, OnErr, Some, None, Option, if◌then◌else◌};
+ghost use Rattle.std.specs.Prelude.{◌≡◌, ℕ, ◌<◌, ◌≤◌, ◌↔◌, ⊤, List, [], length, All, IsTrue, IsSome, IfSome, OnSome, IsOk, IfOk, IsErr, OnOk, OnErr, Some, None, Option, if◌then◌else◌};
 ghost use Rattle.std.specs.Option.{option_map, option_copied_mut};
 ghost use Rattle.std.specs.Borrow.{LendsSo, sem};
+ghost use Rattle.arena_ptr.specs.Numbers.{IsWithin};
 ghost use Rattle.arena_ptr.specs.SlotStack.{IsBeyond, IsWithinMaximum};
 ghost use Rattle.arena_ptr.specs.Invalidation.{value_within, invalidation_result, invalidation_option};
-ghost use Rattle.arena_base.specs.Arena.{IsValid, seen_entry, overflows_after_clear};
-ghost use Rattle.arena_base.specs.Entries.{Seen, IsNew, found, RisesFrom, first_key, last_key, removed, renewed, written, emptied, with_capacity};
-ghost use Rattle.arena_base.specs.Advancing.{IsLook};
+ghost use Rattle.arena_base.specs.Arena.{IsRoom, IsValid, seen_entry, overflows_after_clear};
+ghost use Rattle.arena_base.specs.Entries.{Seen, AreTheSlots, index_of, IsNew, found, RisesFrom, first_key, last_key, removed, renewed, written, emptied, with_capacity};
+ghost use Rattle.arena_base.specs.Advancing.{IsLookUntilNone};
 ghost use Rattle.arena_base.specs.declared.look.Look.{Look};
 
 use arena_ptr::{
@@ -95,10 +96,13 @@ pub trait ArenaTrait<P: Ptr, T: Drop> {
     fn max_capacity(&self) -> Option<usize>
         ensures { result ≡ (seen self.now).maximum };
 
-    /// How many entries there are.
+    /// How many entries there are, each at an index of the pointers' type. Where the slots are told, the entries and the
+    /// freed list fill them.
     fn len(&self) -> usize
         ensures count { result ≡ length (seen self.now).entries }
-        ensures fits { result ≤ (seen self.now).capacity };
+        ensures fits { result ≤ (seen self.now).capacity }
+        ensures indexes { All (λ e. IsWithin P.Inx.greatest (index_of e)) (seen self.now).entries }
+        ensures filled { IfSome (seen self.now).slots (AreTheSlots (seen self.now).entries) };
 
     /// Whether there are no entries.
     fn is_empty(&self) -> bool
@@ -112,7 +116,7 @@ pub trait ArenaTrait<P: Ptr, T: Drop> {
         ensures within { n ≤ (seen self.old).capacity → IsOk result × (self.new ≡ self.old) }
         ensures beyond { (result ≡ Err ReallocationError.BeyondMaxCapacity) ↔ IsBeyond (seen self.old).maximum n }
         ensures greatest { P.Inx.greatest < n → IsErr result }
-        ensures ok { OnOk result (n ≤ (seen self.new).capacity) }
+        ensures ok { OnOk result (IsRoom P.Inx.greatest (seen self.new).maximum n (seen self.new).capacity) }
         ensures err { OnErr result (self.new ≡ self.old) }
         ensures after { seen self.new ≡ with_capacity (seen self.old) (seen self.new).capacity }
         ensures never_less { (seen self.old).capacity ≤ (seen self.new).capacity }
@@ -170,8 +174,10 @@ pub trait ArenaTrait<P: Ptr, T: Drop> {
     /// `InvalidPtr`: the pointer is not valid, and nothing has changed. `GenerationOverflow`: the counter was at its
     /// greatest, and is two now.
     fn invalidate(&mut self, p: P) -> InvalidationResult<P>
-        ensures valid { IsValid (entry self.old) (P.key p) → IfSome (value_within result) (λ q. ((P.key q).0 ≡ (P.key p).0) × (seen self.new ≡ renewed (seen self.old) (P.key q))) × IsSome (value_within result) }
-        ensures counter { IfSome (seen self.old).counter (λ g. (result ≡ invalidation_result (P.Gen.wraps g) (value_within result)) × IfSome (value_within result) (λ q. (P.key q).1 ≡ P.Gen.following g)) }
+        ensures valid { IsValid (entry self.old) (P.key p) → IfSome (value_within result) (λ q.
+            ((P.key q).0 ≡ (P.key p).0) × (seen self.new ≡ renewed (seen self.old) (P.key q))) × IsSome (value_within result) }
+        ensures counter { IfSome (seen self.old).counter (λ g. (result ≡ invalidation_result (P.Gen.wraps g) (value_within result))
+            × IfSome (value_within result) (λ q. (P.key q).1 ≡ P.Gen.following g)) }
         ensures invalid { ¬ IsValid (entry self.old) (P.key p) → (value_within result ≡ None) × (self.new ≡ self.old) }
         ensures more { IsValid (entry self.old) (P.key p) → renews self.old (P.key p).0 self.new };
 
@@ -180,7 +186,8 @@ pub trait ArenaTrait<P: Ptr, T: Drop> {
     /// `InvalidPtr`: the pointer is not valid, and nothing has changed. `GenerationOverflow`: the counter was at its
     /// greatest, and is two now.
     fn remove(&mut self, p: P) -> InvalidationResult<T>
-        ensures valid { IsValid (entry self.old) (P.key p) → (value_within result ≡ option_map (λ e. e.1) (entry self.old (P.key p).0)) × (seen self.new ≡ removed P.Gen.following (seen self.old) (P.key p).0) }
+        ensures valid { IsValid (entry self.old) (P.key p) → (value_within result ≡ option_map (λ e. e.1) (entry self.old (P.key p).0))
+            × (seen self.new ≡ removed P.Gen.following (seen self.old) (P.key p).0) }
         ensures overflow { IfSome (seen self.old).counter (λ g. result ≡ invalidation_result (P.Gen.wraps g) (value_within result)) }
         ensures invalid { ¬ IsValid (entry self.old) (P.key p) → (value_within result ≡ None) × (self.new ≡ self.old) }
         ensures more { IsValid (entry self.old) (P.key p) → removes self.old (P.key p).0 self.new };
@@ -208,7 +215,7 @@ pub trait ArenaTrait<P: Ptr, T: Drop> {
 
     ghost looked_up: { (a : Self) (i : ℕ) → found i (seen a).entries ≡ entry a i };
 
-    ghost advances: { (a b : Self.PtrAdvancer) (c : Self) (r : Option P) → Self.PtrAdvancer.gives a c r b → IsLook (seen c).entries (looks a) (option_map P.key r) (looks b) };
+    ghost advances: { (a b : Self.PtrAdvancer) (c : Self) (r : Option P) → Self.PtrAdvancer.gives a c r b → IsLookUntilNone (seen c).entries (looks a) (option_map P.key r) (looks b) };
 }
 
 /// An arena whose capacity grows with its entries alone, and not with their indexes.

@@ -1,5 +1,6 @@
 ghost use Rattle.std.specs.Prelude.{◌≡◌, ℕ, ◌^◌, ◌<◌, ◌≤◌, ◌↔◌, IsSome, IfSome, Some, Bool, true};
 ghost use Rattle.std.specs.Fmt.{WritesOnOk};
+ghost use Rattle.arena_ptr.specs.Numbers.{IsWithin};
 ghost use Rattle.arena_ptr.specs.Text.{hexadecimal};
 
 use std::fmt;
@@ -105,6 +106,8 @@ pub trait Ptr: Copy + Eq + Ord + Hash + Debug {
     /// The pointer of an index and a generation, whether or not an entry stands there.
     fn _from_raw(inx: Self::Inx, generation: Self::Gen) -> Self
         ensures { key result ≡ (Self.Inx.number inx, generation) };
+
+    ghost index_within: { (p : Self) → IsWithin Self.Inx.greatest (key p).0 };
 
     ghost same_key: { (p q : Self) → key p ≡ key q → p ≡ q };
 

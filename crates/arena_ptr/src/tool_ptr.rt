@@ -25,6 +25,8 @@ impl Ptr for ToolPtr {
 
     ghost key = { key_of };
 
+    ghost index_within = { λ p. p.inx.in_range };
+
     ghost same_key = { same_tool_ptr };
 
     ghost eq_is_same = { eq_is_same };

@@ -1,5 +1,5 @@
 -- What an insertion does to the state of a chain arena.
-use Rattle.std.proofs.Common.{◌≡◌, ◌≢◌, ◌↔◌, ℕ, zero, suc, ◌+◌, ◌-◌, ◌<◌, ◌≤◌, List, [], ◌∷◌, ◌++◌, length, map, Bool, true, false, Option, None, Some, refl, ap, ap₂, sym, ◌∙◌, subst, arith, inl, inr, ⊎_elim}
+use Rattle.std.proofs.Common.{◌≡◌, ◌≢◌, ◌↔◌, ℕ, zero, suc, ◌+◌, ◌-◌, ◌<◌, ◌≤◌, List, [], ◌∷◌, ◌++◌, length, length-append, map, Bool, true, false, Option, None, Some, refl, ap, ap₂, sym, ◌∙◌, subst, arith, inl, inr, ⊎_elim}
 use Rattle.std.specs.Prelude.{◌==◌, if◌then◌else◌, slice_index_or, slice_set}
 use Rattle.std.specs.Option.{option_map}
 use mathlib.Core.Path.{fun_ext}
@@ -9,12 +9,12 @@ use Rattle.chain_laws.proofs.Agreement.{if_same, if_other}
 use Rattle.chain_laws.proofs.Alone.{with_lone_agrees, with_lone_adds}
 use Rattle.chain_arena.specs.declared.links.LinkBody.{LinkBody}
 use Rattle.chain_arena.specs.Links.{seen_link, seen_pair, seen_links}
-use Rattle.arena_base.specs.Arena.{Arena, slot_at, with_slot, filled, first_or_next, Has, IsListed, entry_at, entry_count, next_index, insert_next, with_capacity_of}
-use Rattle.chain_arena.specs.ChainArena.{on_value, LinkSeen, value_in, values_of, shown, IsInserted, interlinks_of, lone, insert_lone}
-use Rattle.arena_base.specs.Entries.{entries}
-use Rattle.chain_arena.proofs.Listing.{length-entries}
-use Rattle.chain_arena.proofs.Mapping.{with_each-insert_next, entry_count-with_each, entry_at-with_each, length-with_each}
-use Rattle.chain_arena.proofs.Seeing.{if_suc}
+use Rattle.arena_base.specs.Arena.{Arena, slot_at, with_slot, filled, first_or_next, without_first, Has, IsListed, entry_at, entry_count, next_index, insert_next, with_capacity_of}
+use Rattle.chain_arena.specs.ChainArena.{on_value, LinkSeen, value_in, values_of, seen, shown, IsInserted, interlinks_of, lone, insert_lone}
+use Rattle.arena_base.specs.Entries.{Slots, entries, seen_of, count_with_next, with_next_filled}
+use Rattle.arena_base.proofs.Seeing.{length-entries}
+use Rattle.chain_arena.proofs.Mapping.{with_each-insert_next, entry_count-with_each, entry_at-with_each, length-with_each, listed-with_each}
+use Rattle.chain_arena.proofs.Seeing.{if_suc, length-with_slot}
 
 -- the item after a list, and those of the list
 slice_index_or-append : {X : Type 0} (xs : List (Option X)) (x : Option X) (k : ℕ) → slice_index_or (xs ++ x ∷ []) k None ≡ (if k == length xs then x else slice_index_or xs k None)
@@ -59,6 +59,11 @@ slot_at-filled [] slots x zero free = sym (if_other 0 (length slots + 1) _ _ (λ
 slot_at-filled [] slots x (suc k) free = slice_index_or-append slots (Some x) k
     ∙ (if_suc k (length slots) _ _ ∙ ap (λ q. if suc k == q then Some x else slice_index_or slots k None) (let same : suc (length slots) ≡ length slots + 1 = omega arith in same))
 slot_at-filled (i ∷ freed) slots x j free = let here = free i (inl refl) in slot_at-written slots i j (Some x) here.1 here.2
+
+-- how many slots there are then
+length-filled : {X : Type 0} (freed : List ℕ) (slots : List (Option X)) (x : X) → length (filled freed slots x) ≡ count_with_next freed (length slots)
+length-filled [] slots x = length-append slots (Some x ∷ [])
+length-filled (i ∷ freed) slots x = length-with_slot slots i (Some x)
 
 -- nothing stands at the next index yet
 slot_at-next : {X : Type 0} (freed : List ℕ) (slots : List (Option X)) → AreFree slots freed → slot_at slots (first_or_next freed (length slots)) ≡ None
@@ -117,14 +122,18 @@ module _ {Gen I T : Type 0} (number : I → ℕ) where
   pub next_index-seen_links : (a : Arena Gen (LinkBody I T)) → next_index (seen_links number a) ≡ next_index a
   next_index-seen_links a = ap (first_or_next a.freed) (length-with_each (seen_link number) a)
 
-  -- the freed indexes are those of free slots
-  free-seen_links : (a : Arena Gen (LinkBody I T)) → IsListed a → AreFree (seen_links number a).slots a.freed
-  free-seen_links a listed i has = let here = listed.free i has in
-      (entry_at-with_each (seen_link number) a i ∙ ap (option_map (on_value (seen_link number))) here.0, here.1, subst (λ n. i ≤ n) (sym (length-with_each (seen_link number) a)) here.2)
+  -- the arena of values lists its free slots too
+  pub listed-seen_links : (a : Arena Gen (LinkBody I T)) → IsListed a → IsListed (seen_links number a)
+  listed-seen_links a listed = listed-with_each (seen_link number) a listed
 
-  free-values : (a : Arena Gen (LinkBody I T)) → IsListed a → AreFree (values_of (seen_links number a)).slots a.freed
-  free-values a listed i has = let here = free-seen_links a listed i has in
-      (entry_at-with_each value_in (seen_links number a) i ∙ ap (option_map (on_value value_in)) here.0, here.1, subst (λ n. i ≤ n) (sym (length-with_each value_in (seen_links number a))) here.2)
+  pub listed-values : (a : Arena Gen (LinkBody I T)) → IsListed a → IsListed (values_of (seen_links number a))
+  listed-values a listed = listed-with_each value_in (seen_links number a) (listed-seen_links a listed)
+
+  pub length-values : (a : Arena Gen (LinkBody I T)) → length (values_of (seen_links number a)).slots ≡ length a.slots
+  length-values a = length-with_each value_in (seen_links number a) ∙ length-with_each (seen_link number) a
+
+  pub next_index-values : (a : Arena Gen (LinkBody I T)) → next_index (values_of (seen_links number a)) ≡ next_index a
+  next_index-values a = ap (first_or_next a.freed) (length-values a)
 
   -- how many values there are
   pub count-values : (a : Arena Gen (LinkBody I T)) → length (entries (values_of (seen_links number a))) ≡ entry_count a
@@ -137,19 +146,31 @@ module _ {Gen I T : Type 0} (number : I → ℕ) where
     seen-inserted = ap (λ (x : Arena Gen (LinkBody I T)). seen_links number x) inserted
         ∙ ap (λ (x : Arena Gen (LinkSeen T)). with_capacity_of x (seen_links number b)) (seen_links-insert_next a link ∙ ap (insert_next (seen_links number a)) is_lone)
 
+    -- .. nothing else is, where there was room
+    pub seen-in_room : b ≡ insert_next a link → seen_links number b ≡ insert_lone (seen_links number a) t
+    seen-in_room room = ap (λ (x : Arena Gen (LinkBody I T)). seen_links number x) room ∙ (seen_links-insert_next a link ∙ ap (insert_next (seen_links number a)) is_lone)
+
+    values-inserted : values_of (seen_links number b) ≡ with_capacity_of (insert_next (values_of (seen_links number a)) t) (values_of (seen_links number b))
+    values-inserted = ap (λ (x : Arena Gen (LinkSeen T)). values_of x) seen-inserted
+        ∙ ap (λ (x : Arena Gen T). with_capacity_of x (values_of (seen_links number b))) (with_each-insert_next value_in (seen_links number a) (lone t))
+
+    -- .. the next slot is filled
+    pub slots-inserted : (seen (seen_links number b)).slots ≡ option_map with_next_filled (seen (seen_links number a)).slots
+    slots-inserted = ap (λ (x : Arena Gen T). (seen_of x).slots) values-inserted
+        ∙ ap (λ (n : ℕ). let o : Option Slots = Some (record { count = n; freed = without_first a.freed; placed = a.placed + 1; touched = a.touched }) in o)
+        (length-filled a.freed (values_of (seen_links number a)).slots (a.counter, t))
+
     -- .. it is an entry
     pub entry-inserted : (p : ℕ × Gen) → p ≡ (next_index a, a.counter) → IsInserted (entry_at (values_of (seen_links number a))) (entry_at (values_of (seen_links number b))) p t
-    entry-inserted p at = inserted_at (values_of (seen_links number a)) (values_of (seen_links number b)) t p (free-values a listed)
-        (ap (λ (x : Arena Gen (LinkSeen T)). values_of x) seen-inserted
-        ∙ ap (λ (x : Arena Gen T). with_capacity_of x (values_of (seen_links number b))) (with_each-insert_next value_in (seen_links number a) (lone t)))
-        (at ∙ ap (λ (n : ℕ). let q : ℕ × Gen = (n, a.counter) in q) (sym (ap (first_or_next a.freed) (length-with_each value_in (seen_links number a)) ∙ next_index-seen_links a)))
+    entry-inserted p at = inserted_at (values_of (seen_links number a)) (values_of (seen_links number b)) t p (listed-values a listed).free values-inserted
+        (at ∙ ap (λ (n : ℕ). let q : ℕ × Gen = (n, a.counter) in q) (sym (next_index-values a)))
 
     -- .. the arena shows it beside what it showed
     pub shown-inserted : shown (seen_links number b) ≡ with_lone (shown (seen_links number a)) (next_index (seen_links number a))
-    shown-inserted = ap (λ (x : Arena Gen (LinkSeen T)). shown x) seen-inserted ∙ shown-insert_lone (seen_links number a) t (free-seen_links a listed)
+    shown-inserted = ap (λ (x : Arena Gen (LinkSeen T)). shown x) seen-inserted ∙ shown-insert_lone (seen_links number a) t (listed-seen_links a listed).free
 
     nothing_there : shown (seen_links number a) (next_index (seen_links number a)) ≡ None
-    nothing_there = shown-next (seen_links number a) (free-seen_links a listed)
+    nothing_there = shown-next (seen_links number a) (listed-seen_links a listed).free
 
     -- .. the interlinks agree
     pub agrees-inserted : Agrees (shown (seen_links number a)) → Agrees (shown (seen_links number b))

@@ -20,13 +20,6 @@ module _ {Gen I T : Type 0} (number : I → ℕ) where
     by (Some e) = refl
 
 module _ {Gen X : Type 0} where
-  -- a valid pointer has an index
-  pub valid_index : (a : Arena Gen X) (p : ℕ × Gen) → IsValidPtr a p → 1 ≤ p.0
-  valid_index a p valid = by p.0 refl where
-    by : (n : ℕ) → p.0 ≡ n → 1 ≤ p.0
-    by zero at = let none : entry_at a 0 ≡ Some (p.1, valid.value) = ap (entry_at a) (sym at) ∙ valid.stands in absurd (cc)
-    by (suc k) at = omega (arith, at)
-
   abbrev generation_or : Gen → Option (Gen × X) → Gen
   generation_or other None = other
   generation_or other (Some e) = e.0

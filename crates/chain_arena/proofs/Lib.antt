@@ -2,7 +2,6 @@ pub mod Connecting
 pub mod Inserting
 pub mod Iterating
 pub mod Lending
-pub mod Listing
 pub mod Mapping
 pub mod Outcomes
 pub mod Relinking

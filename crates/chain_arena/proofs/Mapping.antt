@@ -1,10 +1,10 @@
 -- An arena with something else for each value: what stands at each index, and what each call makes of it.
-use Rattle.std.proofs.Common.{◌≡◌, ◌↔◌, ℕ, zero, suc, ◌+◌, List, [], ◌∷◌, ◌++◌, length, map, Option, None, Some, refl, ap, ap₂, sym, ◌∙◌, arith}
+use Rattle.std.proofs.Common.{◌≡◌, ◌↔◌, ℕ, zero, suc, ◌+◌, ◌≤◌, List, [], ◌∷◌, ◌++◌, length, map, Option, None, Some, refl, ap, ap₂, sym, ◌∙◌, subst, arith}
 use Rattle.std.specs.Prelude.{count_by, is_some, slice_index_or, slice_set, if◌then◌else◌}
 use Rattle.std.specs.Option.{option_map}
 use Rattle.std.proofs.lemmas.List.{length-map, map-append}
 use Rattle.std.proofs.lemmas.List.Sums.{sum_by-cons}
-use Rattle.arena_base.specs.Arena.{Arena, slot_at, with_slot, filled, entry_at, entry_count, insert_next, remove_at, renewed_at, with_value, cleared, counter_after_clear, IsValid}
+use Rattle.arena_base.specs.Arena.{Arena, slot_at, with_slot, filled, entry_at, entry_count, insert_next, remove_at, renewed_at, with_value, cleared, counter_after_clear, IsListed, IsValid}
 use Rattle.chain_arena.specs.ChainArena.{on_value, with_each}
 
 map-slice_set : {X Y : Type 0} (f : X → Y) (xs : List X) (k : ℕ) (x : X) → map f (slice_set xs k x) ≡ slice_set (map f xs) k (f x)
@@ -39,6 +39,23 @@ module _ {Gen X Y : Type 0} (f : X → Y) where
 
   pub length-with_each : (a : Arena Gen X) → length (with_each f a).slots ≡ length a.slots
   length-with_each a = length-map a.slots (option_map (on_value f))
+
+  -- the same indexes are free
+  pub none-with_each : (a : Arena Gen X) (i : ℕ) → (entry_at a i ≡ None) ↔ (entry_at (with_each f a) i ≡ None)
+  none-with_each a i = (
+    λ none. entry_at-with_each a i ∙ ap (option_map (on_value f)) none,
+    λ none. of_map (entry_at a i) (sym (entry_at-with_each a i) ∙ none),
+  ) where
+    of_map : (o : Option (Gen × X)) → option_map (on_value f) o ≡ None → o ≡ None
+    of_map None none = refl
+    of_map (Some e) none = cc
+
+  pub listed-with_each : (a : Arena Gen X) → IsListed a → IsListed (with_each f a)
+  listed-with_each a listed = record {
+    apart = listed.apart;
+    free = λ i has. let here = listed.free i has in ((none-with_each a i).0 here.0, here.1, subst (λ n. i ≤ n) (sym (length-with_each a)) here.2);
+    listed = λ i some within none. listed.listed i some (subst (λ n. i ≤ n) (length-with_each a) within) ((none-with_each a i).1 none);
+  }
 
   tell : (o : Option (Gen × X)) → is_some (option_map (on_value f) o) ≡ is_some o
   tell None = refl

@@ -1,5 +1,5 @@
 -- Lemmas on what a call answered.
-use Rattle.std.proofs.Common.{◌≡◌, ◌↔◌, ◌⊎◌, ℕ, ◌+◌, inl, inr, refl, ap, sym, ◌∙◌, subst, Option, Some, None, Result, Ok, Err, OnOk, OnErr}
+use Rattle.std.proofs.Common.{◌≡◌, ◌↔◌, ◌⊎◌, ℕ, ◌+◌, inl, inr, refl, ap, sym, ◌∙◌, subst, Option, Some, None, Result, Ok, Err, Bool, true, false, OnOk, OnErr}
 use Rattle.arena_ptr.specs.SlotStack.{IsBeyond}
 use Rattle.arena_ptr.specs.declared.errors.ReallocationError.{ReallocationError}
 use Rattle.arena_ptr.specs.declared.errors.ReallocationError.TheVariants as refused
@@ -10,6 +10,10 @@ use Rattle.arena_ptr.specs.declared.errors.ChainInsertionError.TheVariants as fa
 pub ok_or_err : {X E A B : Type 0} (r : Result X E) → OnOk r A → OnErr r B → A ⊎ B
 ok_or_err (Ok x) a b = inl a
 ok_or_err (Err e) a b = inr b
+
+-- a refusal is no success
+pub not_ok : ◌≡◌ {A = Bool} false true → ⊥
+not_ok is = cc
 
 -- so many entries fill the capacity, and one more is beyond the maximum
 abbrev IsFullAndBeyond : Option ℕ → ℕ → ℕ → Type 0

@@ -15,7 +15,7 @@ use Rattle.chain_arena.specs.ChainArena.{on_value, LinkSeen, value_in, with_valu
 use Rattle.chain_arena.specs.declared.links.LinkBody.{LinkBody}
 use Rattle.chain_arena.specs.Links.{seen_link, seen_links, seen_pair}
 use Rattle.chain_arena.proofs.Connecting.{link_at-seen}
-use Rattle.chain_arena.proofs.Listing.{seen-remove_at}
+use Rattle.arena_base.proofs.Seeing as seeing
 use Rattle.chain_arena.proofs.Mapping.{with_each-remove_at, entry_at-with_each, generation_is}
 use Rattle.chain_arena.proofs.Seeing.{slot_at-changed, entry_at-seen_links}
 use Rattle.chain_arena.proofs.Valuing.{held_in}
@@ -84,9 +84,9 @@ module _ {Gen T : Type 0} where
   pub values_of-remove_link : (following : Gen → Gen) (a : Arena Gen (LinkSeen T)) (i : ℕ) → values_of (remove_link following a i) ≡ remove_at following (values_of a) i
   values_of-remove_link following a i = values_of-relinked (remove_at following a i) (removed (shown a) i) (fits-removed following a i) ∙ with_each-remove_at value_in following a i
 
-  pub seen-removed : (following : Gen → Gen) (a b : Arena Gen (LinkSeen T)) (i : ℕ) → 1 ≤ i → b ≡ remove_link following a i → seen_of (values_of b) ≡ seen_removed following (seen_of (values_of a)) i
-  seen-removed following a b i some gone =
-      ap (λ (x : Arena Gen (LinkSeen T)). seen_of (values_of x)) gone ∙ (ap (λ (x : Arena Gen T). seen_of x) (values_of-remove_link following a i) ∙ seen-remove_at following (values_of a) i some)
+  pub seen-removed : (following : Gen → Gen) (a b : Arena Gen (LinkSeen T)) (i : ℕ) → b ≡ remove_link following a i → seen_of (values_of b) ≡ seen_removed following (seen_of (values_of a)) i
+  seen-removed following a b i gone =
+      ap (λ (x : Arena Gen (LinkSeen T)). seen_of (values_of x)) gone ∙ (ap (λ (x : Arena Gen T). seen_of x) (values_of-remove_link following a i) ∙ seeing.seen_removed following (values_of a) i)
 
   -- the steps of a removal
   pub removal_by_steps : (following : Gen → Gen) (a out b : Arena Gen (LinkSeen T)) (i : ℕ) (u v : Option ℕ) → out ≡ remove_at following a i
@@ -135,8 +135,8 @@ module _ {Gen I T : Type 0} (number : I → ℕ) (following : Gen → Gen) (a b 
     pub taken-shown : shown (seen_links number b) ≡ removed (shown (seen_links number a)) n
     taken-shown = passes_over following (seen_links number a) (seen_links number b) n taken-state
 
-    pub taken-seen : 1 ≤ n → seen_of (values_of (seen_links number b)) ≡ seen_removed following (seen_of (values_of (seen_links number a))) n
-    taken-seen some = seen-removed following (seen_links number a) (seen_links number b) n some taken-state
+    pub taken-seen : seen_of (values_of (seen_links number b)) ≡ seen_removed following (seen_of (values_of (seen_links number a))) n
+    taken-seen = seen-removed following (seen_links number a) (seen_links number b) n taken-state
 
     pub taken-chains : Agrees (shown (seen_links number a)) → Removes (shown (seen_links number a)) (shown (seen_links number b)) n
     taken-chains agrees = removed-chains following (seen_links number a) (seen_links number b) n taken-state agrees

@@ -9,7 +9,7 @@ use Rattle.chain_arena.specs.declared.links.LinkBody.{LinkBody}
 use Rattle.chain_arena.specs.ChainArena.{on_value, LinkSeen, value_in, with_value_in, values_of, shown, with_value_at}
 use Rattle.chain_arena.specs.Links.{seen_link, seen_links, seen_pair}
 use Rattle.chain_arena.proofs.Mapping.{with_each-with_value, with_each-renewed_at, with_each-cleared}
-use Rattle.chain_arena.proofs.Listing.{seen-with_value, seen-renewed_at, seen-cleared}
+use Rattle.arena_base.proofs.Seeing.{seen_written, seen_renewed, seen_cleared}
 use Rattle.chain_arena.proofs.Seeing.{entry_at-seen_links}
 use Rattle.chain_arena.proofs.Unlinking.{shown-written, shown-renewed}
 
@@ -44,9 +44,9 @@ module _ {Gen I T : Type 0} (number : I → ℕ) (a b : Arena Gen (LinkBody I T)
   pub written-agrees : Agrees (shown (seen_links number a)) → Agrees (shown (seen_links number b))
   written-agrees agrees = subst Agrees (sym written-shown) agrees
 
-  pub written-seen : 1 ≤ n → seen_of (values_of (seen_links number b)) ≡ written (seen_of (values_of (seen_links number a))) n w
-  written-seen some = ap (λ (x : Arena Gen (LinkSeen T)). seen_of (values_of x)) written-state
-      ∙ (ap (λ (x : Arena Gen T). seen_of x) (values_of-with_value_at (seen_links number a) n (seen_link number l) w seen_stands) ∙ seen-with_value (values_of (seen_links number a)) n w some)
+  pub written-seen : seen_of (values_of (seen_links number b)) ≡ written (seen_of (values_of (seen_links number a))) n w
+  written-seen = ap (λ (x : Arena Gen (LinkSeen T)). seen_of (values_of x)) written-state
+      ∙ (ap (λ (x : Arena Gen T). seen_of x) (values_of-with_value_at (seen_links number a) n (seen_link number l) w seen_stands) ∙ seen_written (values_of (seen_links number a)) n w)
 
 module _ {Gen I T : Type 0} (number : I → ℕ) (following : Gen → Gen) (a b : Arena Gen (LinkBody I T)) (n : ℕ) (is : b ≡ renewed_at following a n) where
   pub renewed-state : seen_links number b ≡ renewed_at following (seen_links number a) n
@@ -55,20 +55,20 @@ module _ {Gen I T : Type 0} (number : I → ℕ) (following : Gen → Gen) (a b 
   pub renewed-shown : shown (seen_links number b) ≡ shown (seen_links number a)
   renewed-shown = shown-renewed following (seen_links number a) (seen_links number b) n renewed-state
 
-  pub renewed-seen : 1 ≤ n → seen_of (values_of (seen_links number b)) ≡ renewed (seen_of (values_of (seen_links number a))) (n, following a.counter)
-  renewed-seen some = ap (λ (x : Arena Gen (LinkSeen T)). seen_of (values_of x)) renewed-state
-      ∙ (ap (λ (x : Arena Gen T). seen_of x) (with_each-renewed_at value_in following (seen_links number a) n) ∙ seen-renewed_at following (values_of (seen_links number a)) n some)
+  pub renewed-seen : seen_of (values_of (seen_links number b)) ≡ renewed (seen_of (values_of (seen_links number a))) (n, following a.counter)
+  renewed-seen = ap (λ (x : Arena Gen (LinkSeen T)). seen_of (values_of x)) renewed-state
+      ∙ (ap (λ (x : Arena Gen T). seen_of x) (with_each-renewed_at value_in following (seen_links number a) n) ∙ seen_renewed following (values_of (seen_links number a)) n)
 
   -- the new pointer tells the new generation
-  pub renewed-told : {Q : Type 0} (X : Q → Type 0) (key : Q → ℕ × Gen) (o : Option Q) → 1 ≤ n → IfSome o (λ q. ((key q).0 ≡ n) × X q) × IsSome o → IfSome o (λ q. (key q).1 ≡ following a.counter)
+  pub renewed-told : {Q : Type 0} (X : Q → Type 0) (key : Q → ℕ × Gen) (o : Option Q) → IfSome o (λ q. ((key q).0 ≡ n) × X q) × IsSome o → IfSome o (λ q. (key q).1 ≡ following a.counter)
       → IfSome o (λ q. ((key q).0 ≡ n) × (seen_of (values_of (seen_links number b)) ≡ renewed (seen_of (values_of (seen_links number a))) (key q))) × IsSome o
-  renewed-told X key None some told generation = absurd (let h = told.1 in cc)
-  renewed-told X key (Some q) some told generation =
-      ((told.0.0, renewed-seen some ∙ ap₂ (λ (i : ℕ) (g : Gen). renewed (seen_of (values_of (seen_links number a))) (i, g)) (sym told.0.0) (sym generation)), told.1)
+  renewed-told X key None told generation = absurd (let h = told.1 in cc)
+  renewed-told X key (Some q) told generation =
+      ((told.0.0, renewed-seen ∙ ap₂ (λ (i : ℕ) (g : Gen). renewed (seen_of (values_of (seen_links number a))) (i, g)) (sym told.0.0) (sym generation)), told.1)
 
 -- after a clear
 module _ {Gen I T : Type 0} (number : I → ℕ) (following : Gen → Gen) (a b : Arena Gen (LinkBody I T)) (is : b ≡ cleared following a) where
   pub cleared-seen : seen_of (values_of (seen_links number b)) ≡ emptied following (seen_of (values_of (seen_links number a)))
   cleared-seen = ap (λ (x : Arena Gen (LinkBody I T)). seen_of (values_of (seen_links number x))) is
       ∙ (ap (λ (x : Arena Gen (LinkSeen T)). seen_of (values_of x)) (with_each-cleared (seen_link number) following a)
-      ∙ (ap (λ (x : Arena Gen T). seen_of x) (with_each-cleared value_in following (seen_links number a)) ∙ seen-cleared following (values_of (seen_links number a))))
+      ∙ (ap (λ (x : Arena Gen T). seen_of x) (with_each-cleared value_in following (seen_links number a)) ∙ seen_cleared following (values_of (seen_links number a))))

@@ -5,6 +5,7 @@ use Rattle.chain_laws.specs.Chains.{Shown, Interlinks, prev_of, next_of}
 use Rattle.chain_laws.specs.Walks.{IsWalk}
 use Rattle.chain_laws.specs.Removals.{removed, Removes, RemovesPairs}
 use Rattle.arena_base.specs.Arena.{Arena, with_slot, entry_at, insert_next, remove_at, IsValid}
+use Rattle.arena_base.specs.Entries.{Seen, seen_of}
 
 -- a pair of a generation and a value, with something else for the value
 abbrev pub on_value : {Gen X Y : Type 0} → (X → Y) → Gen × X → Gen × Y
@@ -59,6 +60,13 @@ module _ {Gen T : Type 0} where
   -- the arena of the values alone
   abbrev pub values_of : Arena Gen (LinkSeen T) → Arena Gen T
   values_of a = with_each value_in a
+
+  -- the values as generic code sees them, and what stands at each index
+  abbrev pub seen : Arena Gen (LinkSeen T) → Seen Gen T
+  seen a = seen_of (values_of a)
+
+  abbrev pub entry : Arena Gen (LinkSeen T) → ℕ → Option (Gen × T)
+  entry a i = entry_at (values_of a) i
 
   -- the entry with other interlinks
   abbrev pub relink : Option Interlinks → Option (Gen × LinkSeen T) → Option (Gen × LinkSeen T)

@@ -1,9 +1,9 @@
 ghost use Rattle.std.specs.Prelude.{◌≡◌, ◌≤◌, ◌↔◌, length, map, min, IsSome, IfSome};
 ghost use Rattle.std.specs.Option.{option_map};
 ghost use Rattle.arena_ptr.specs.Invalidation.{invalidation_option};
-ghost use Rattle.arena_base.specs.Arena.{entry_at, entry_count, with_counter, with_maximum, IsValid};
+ghost use Rattle.arena_base.specs.Arena.{entry_count, with_counter, with_maximum, IsValid};
 ghost use Rattle.arena_base.specs.Slots.{entry_of};
-ghost use Rattle.chain_arena.specs.ChainArena.{values_of, IsWalkOf};
+ghost use Rattle.chain_arena.specs.ChainArena.{entry, IsWalkOf};
 ghost use Rattle.chain_arena.specs.Links.{seen_pair};
 
 use crate::chain_iterators::ChainIter;
@@ -46,7 +46,7 @@ impl<P: Ptr, T: Drop, S: SlotStack<Item = ArenaSlot<P, LinkNoGen<P, T>>>> Model
 impl<P: Ptr, T: Drop, S: SlotStack<Item = ArenaSlot<P, LinkNoGen<P, T>>>> ChainArena<P, T, S> {
     /// The links of a pointer's chain in walk order, each once. `None`: the pointer is not valid.
     pub fn iter_chain(&self, p: P) -> Option<ChainIter<'_, P, T, S>>
-        ensures some { IsSome result ↔ IsValid (entry_at (values_of self.now)) (P.key p) }
+        ensures some { IsSome result ↔ IsValid (entry self.now) (P.key p) }
         ensures walk { IfSome result (IsWalkOf self.now (P.key p).0) }
         ensures count { IfSome result (λ links. length links ≤ entry_count self.now) }
     {

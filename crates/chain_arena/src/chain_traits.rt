@@ -1,11 +1,11 @@
-ghost use Rattle.std.specs.Prelude.{◌≡◌, ◌↔◌, ◌<◌, ◌≤◌, ◌+◌, ◌⊎◌, ℕ, length, is_some, IsTrue, IsSome, IfSome, OnSome, IfNone, IsOk, IfOk, IsErr, IfErr, OnOk, OnErr, Err, None};
+ghost use Rattle.std.specs.Prelude.{◌≡◌, ◌↔◌, ◌<◌, ◌≤◌, ◌+◌, ◌⊎◌, ℕ, is_some, IsTrue, IsSome, IfSome, OnSome, IfNone, IsOk, IfOk, IsErr, IfErr, OnOk, OnErr, Err, None};
 ghost use Rattle.std.specs.Option.{option_map};
-ghost use Rattle.arena_ptr.specs.SlotStack.{IsBeyond};
 ghost use Rattle.arena_ptr.specs.Invalidation.{value_within, invalidation_result};
 ghost use Rattle.chain_laws.specs.Chains.{Shown, Agrees};
 ghost use Rattle.chain_laws.specs.Operations.{joined, with_lone};
 ghost use Rattle.chain_laws.specs.Removals.{removed};
-ghost use Rattle.arena_base.specs.Arena.{IsValid};
+ghost use Rattle.arena_base.specs.Arena.{IsValid, IsRoom};
+ghost use Rattle.arena_base.specs.Entries.{next_slot, with_next_filled, count, HasRoomLeft, NeedsBeyondMaximum};
 ghost use Rattle.arena_base.specs.Entries.{removed as seen_removed};
 ghost use Rattle.chain_arena.specs.ChainArena.{link_at, on_value, CanConnect, IsInserted, IsLinkAt};
 ghost use Rattle.chain_arena.specs.Links.{seen_link, seen_lent};
@@ -40,19 +40,25 @@ pub trait ChainArenaTrait<P: Ptr, T: Drop>: ArenaTrait<P, T> {
     fn insert_reallocating(&mut self, kind: LinkInsertKind, t: T) -> Result<P, ChainInsertionError>
         ensures inserted { IfOk result (λ p. IsInserted (Self.entry self.old) (Self.entry self.new) (P.key p) t) }
         ensures alone { IfOk result (λ p. interlinks self.new ≡ with_lone (interlinks self.old) (P.key p).0) }
+        ensures agreed { Agrees (interlinks self.old) }
         ensures generation { IfOk result (λ p. IfSome (Self.seen self.old).counter (λ g. (P.key p).1 ≡ g)) }
+        ensures index { IfOk result (λ p. IfSome (Self.seen self.old).slots (λ slots. (P.key p).0 ≡ next_slot slots)) }
+        ensures slots { OnOk result ((Self.seen self.new).slots ≡ option_map with_next_filled (Self.seen self.old).slots) }
         ensures counter { OnOk result ((Self.seen self.new).counter ≡ (Self.seen self.old).counter) }
         ensures maximum { OnOk result ((Self.seen self.new).maximum ≡ (Self.seen self.old).maximum) }
         ensures err { OnErr result (self.new ≡ self.old) }
         ensures error { IfErr result (λ e. (e ≡ ChainInsertionError.AllocError) ⊎ (e ≡ ChainInsertionError.BeyondMaxCapacity)) }
-        ensures room { length (Self.seen self.old).entries < (Self.seen self.old).capacity → IsOk result × ((Self.seen self.new).capacity ≡ (Self.seen self.old).capacity) }
-        ensures beyond { (result ≡ Err ChainInsertionError.BeyondMaxCapacity) ↔ ((length (Self.seen self.old).entries ≡ (Self.seen self.old).capacity) × IsBeyond (Self.seen self.old).maximum (length (Self.seen self.old).entries + 1)) }
-        ensures greatest { length (Self.seen self.old).entries ≡ P.Inx.greatest → IsErr result };
+        ensures room { HasRoomLeft (Self.seen self.old) → IsOk result × ((Self.seen self.new).capacity ≡ (Self.seen self.old).capacity) }
+        ensures grown { OnOk result (IsRoom P.Inx.greatest (Self.seen self.new).maximum (count (Self.seen self.old) + 1) (Self.seen self.new).capacity) }
+        ensures beyond { (result ≡ Err ChainInsertionError.BeyondMaxCapacity) ↔ NeedsBeyondMaximum (Self.seen self.old) }
+        ensures greatest { count (Self.seen self.old) ≡ P.Inx.greatest → IsErr result };
 
     /// The link of a pointer, with the pointers to its neighbours as they are now. `None`: the pointer is not valid.
     fn get_link(&self, p: P) -> Option<Link<P, &T>>
         ensures some { IsSome result ↔ IsValid (Self.entry self.now) (P.key p) }
-        ensures link { IfSome result (λ link. IsLinkAt (Self.entry self.now) (interlinks self.now) (P.key p) (option_map P.key link.prev) (option_map P.key link.next) link.t.now) };
+        ensures link { IfSome result (λ link. IsLinkAt (Self.entry self.now) (interlinks self.now) (P.key p)
+            (option_map P.key link.prev) (option_map P.key link.next) link.t.now) }
+        ensures agree { Agrees (interlinks self.now) };
 
     /// The link of a pointer. `None`: the pointer is not valid.
     fn get_link_no_gen(&self, p: P) -> Option<&LinkNoGen<P, T>>
@@ -71,7 +77,8 @@ pub trait ChainArenaTrait<P: Ptr, T: Drop>: ArenaTrait<P, T> {
         ensures some { IsSome result ↔ CanConnect (Self.entry self.old) (interlinks self.old) (P.key p) (P.key q) }
         ensures joined { OnSome result (interlinks self.new ≡ joined (interlinks self.old) (P.key p).0 (P.key q).0) }
         ensures seen { OnSome result (Self.seen self.new ≡ Self.seen self.old) }
-        ensures none { IfNone result (self.new ≡ self.old) };
+        ensures none { IfNone result (self.new ≡ self.old) }
+        ensures agreed { Agrees (interlinks self.old) };
 
     /// Removes a link, answers it with the interlinks that it had, increments the counter, and links its neighbours:
     /// the rest of its chain stays linear or cyclic.
@@ -79,7 +86,8 @@ pub trait ChainArenaTrait<P: Ptr, T: Drop>: ArenaTrait<P, T> {
     /// `InvalidPtr`: the pointer is not valid, and nothing has changed. `GenerationOverflow`: the counter was at its
     /// greatest, and is two now.
     fn remove_link_no_gen(&mut self, p: P) -> InvalidationResult<LinkNoGen<P, T>>
-        ensures valid { IsValid (Self.entry self.old) (P.key p) → (option_map (λ link. ((P.key p).1, seen_link P.Inx.number link)) (value_within result) ≡ link_at (Self.entry self.old) (interlinks self.old) (P.key p).0)
+        ensures valid { IsValid (Self.entry self.old) (P.key p) →
+            (option_map (λ link. ((P.key p).1, seen_link P.Inx.number link)) (value_within result) ≡ link_at (Self.entry self.old) (interlinks self.old) (P.key p).0)
             × (Self.seen self.new ≡ seen_removed P.Gen.following (Self.seen self.old) (P.key p).0) × (interlinks self.new ≡ removed (interlinks self.old) (P.key p).0) }
         ensures overflow { IfSome (Self.seen self.old).counter (λ g. result ≡ invalidation_result (P.Gen.wraps g) (value_within result)) }
         ensures invalid { ¬ IsValid (Self.entry self.old) (P.key p) → (value_within result ≡ None) × (self.new ≡ self.old) }
@@ -93,7 +101,8 @@ pub trait ChainArenaTrait<P: Ptr, T: Drop>: ArenaTrait<P, T> {
     fn remove_inx_link_no_gen(&mut self, i: P::Inx) -> InvalidationResult<(P::Gen, LinkNoGen<P, T>)>
         ensures answer { option_map (on_value (seen_link P.Inx.number)) (value_within result) ≡ link_at (Self.entry self.old) (interlinks self.old) (P.Inx.number i) }
         ensures overflow { IfSome (Self.seen self.old).counter (λ g. result ≡ invalidation_result (P.Gen.wraps g) (value_within result)) }
-        ensures valid { IsSome (Self.entry self.old (P.Inx.number i)) → (Self.seen self.new ≡ seen_removed P.Gen.following (Self.seen self.old) (P.Inx.number i)) × (interlinks self.new ≡ removed (interlinks self.old) (P.Inx.number i)) }
+        ensures valid { IsSome (Self.entry self.old (P.Inx.number i)) →
+            (Self.seen self.new ≡ seen_removed P.Gen.following (Self.seen self.old) (P.Inx.number i)) × (interlinks self.new ≡ removed (interlinks self.old) (P.Inx.number i)) }
         ensures invalid { Self.entry self.old (P.Inx.number i) ≡ None → self.new ≡ self.old }
         ensures agreed { Agrees (interlinks self.old) };
 

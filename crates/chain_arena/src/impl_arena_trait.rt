@@ -1,11 +1,12 @@
 // A chain arena as an arena of values.
-ghost use Rattle.std.specs.Prelude.{◌≡◌, ◌≤◌, length};
+ghost use Rattle.std.specs.Prelude.{◌≡◌, ◌≤◌, length, All, IfSome};
 ghost use Rattle.std.specs.Option.{option_map};
 ghost use Rattle.arena_ptr.specs.Invalidation.{value_within, is_overflow_result};
 ghost use Rattle.chain_laws.specs.Neighbors.{HasOneSetOfChains};
-ghost use Rattle.arena_base.specs.Arena.{entry_count};
-ghost use Rattle.arena_base.specs.Entries.{seen_of};
-ghost use Rattle.chain_arena.specs.ChainArena.{values_of, shown};
+ghost use Rattle.arena_ptr.specs.Numbers.{IsWithin};
+ghost use Rattle.arena_base.specs.Arena.{entry_count, HasRoom, IsListed};
+ghost use Rattle.arena_base.specs.Entries.{index_of, AreTheSlots};
+ghost use Rattle.chain_arena.specs.ChainArena.{seen, shown};
 
 use crate::chain_arena::ChainArena;
 use crate::interlinks::take_out;
@@ -21,8 +22,10 @@ impl<P: Ptr, T: Drop, S: SlotStack<Item = ArenaSlot<P, LinkNoGen<P, T>>>> ArenaT
     for ChainArena<P, T, S> {
     ghost use Rattle.std.specs.Prelude.{◌≡◌};
     ghost use Rattle.arena_base.specs.Arena.{entry_at, new_arena, with_capacity_of, renewed_at, cleared};
-    ghost use Rattle.arena_base.specs.Entries.{seen_of};
+    ghost use Rattle.std.specs.Option.{option_map};
+    ghost use Rattle.arena_base.specs.Entries.{seen_of, entries};
     ghost use Rattle.arena_base.specs.EntryLaws.{entries_rise, found-entries};
+    ghost use Rattle.arena_base.specs.AdvancingLaws.{until_none};
     ghost use Rattle.chain_arena.specs.ChainArena.{shown, values_of, with_value_at, IsRemoval};
 
     type PtrAdvancer = PtrAdvancer<P>;
@@ -33,7 +36,7 @@ impl<P: Ptr, T: Drop, S: SlotStack<Item = ArenaSlot<P, LinkNoGen<P, T>>>> ArenaT
 
     ghost looks = { λ a. a.look };
 
-    ghost starts = { λ n a. (a ≡ with_capacity_of (new_arena P.Gen.first S.initial_maximum) a) × (n ≡ 0 → a.stack_capacity ≡ 0) };
+    ghost starts = { λ n a. (a ≡ with_capacity_of (new_arena P.Gen.first S.initial_maximum) a) × (n ≡ 0 → a ≡ new_arena P.Gen.first S.initial_maximum) };
 
     ghost grows = { λ a b. (b ≡ with_capacity_of a b) × (shown b ≡ shown a) };
 
@@ -49,7 +52,7 @@ impl<P: Ptr, T: Drop, S: SlotStack<Item = ArenaSlot<P, LinkNoGen<P, T>>>> ArenaT
 
     ghost looked_up = { λ a. found-entries (values_of a) };
 
-    ghost advances = { λ a b arena answer given. given };
+    ghost advances = { λ a b arena answer given. until_none (entries (values_of arena)) a.look (option_map P.key answer) b.look given };
 
     fn new(alloc: Global) -> Self {
         ChainArena {
@@ -75,10 +78,16 @@ impl<P: Ptr, T: Drop, S: SlotStack<Item = ArenaSlot<P, LinkNoGen<P, T>>>> ArenaT
     /// How many links there are. Each of them stands in exactly one chain, at one place, and no two sets of chains
     /// say what the arena shows.
     fn len(&self) -> usize
-        ensures count { result ≡ length (seen_of (values_of self.now)).entries }
-        ensures fits { result ≤ (seen_of (values_of self.now)).capacity }
+        ensures count { result ≡ length (seen self.now).entries }
+        ensures fits { result ≤ (seen self.now).capacity }
+        ensures indexes { All (λ e. IsWithin P.Inx.greatest (index_of e)) (seen self.now).entries }
+        ensures filled { IfSome (seen self.now).slots (AreTheSlots (seen self.now).entries) }
         ensures links { result ≡ entry_count self.now }
         ensures chains { HasOneSetOfChains (shown self.now) }
+
+        // The slots, the freed list and the room, in every arena.
+        ensures listed { IsListed self.now }
+        ensures room { HasRoom P.Inx.greatest (length self.now.slots) self.now }
     {
         self.arena.len()
     }

@@ -1,15 +1,15 @@
 // A chain arena as an arena of links.
-ghost use Rattle.std.specs.Prelude.{◌≡◌, ◌↔◌, ◌<◌, ◌≤◌, ◌+◌, ◌⊎◌, length, IsTrue, IsSome, IfSome, OnSome, IfNone, IsOk, IfOk, IsErr, IfErr, OnOk, OnErr, Err, None, Some};
+ghost use Rattle.std.specs.Prelude.{◌≡◌, ◌↔◌, ◌<◌, ◌≤◌, ◌+◌, ◌⊎◌, IsTrue, IsSome, IfSome, OnSome, IfNone, IsOk, IfOk, IsErr, IfErr, OnOk, OnErr, Err, None, Some};
 ghost use Rattle.std.specs.Option.{option_map};
-ghost use Rattle.arena_ptr.specs.SlotStack.{IsBeyond};
 ghost use Rattle.arena_ptr.specs.Invalidation.{value_within, is_overflow_result, invalidation_result};
 ghost use Rattle.chain_laws.specs.Chains.{Agrees};
 ghost use Rattle.chain_laws.specs.Operations.{joined, with_lone, Connects, AddsPair, AddsLone};
 ghost use Rattle.chain_laws.specs.Removals.{removed, Removes, RemovesPairs};
-ghost use Rattle.arena_base.specs.Arena.{entry_at, entry_count, next_index, with_capacity_of, IsValid};
-ghost use Rattle.arena_base.specs.Entries.{seen_of};
+ghost use Rattle.arena_base.specs.Arena.{entry_count, next_index, with_capacity_of, IsValid, IsRoom, HasRoom};
+ghost use Rattle.arena_base.specs.Entries.{next_slot, with_next_filled, count, HasRoomLeft, NeedsBeyondMaximum};
 ghost use Rattle.arena_base.specs.Entries.{removed as seen_removed};
-ghost use Rattle.chain_arena.specs.ChainArena.{shown, values_of, relinked, insert_lone, remove_link, link_at, on_value, CanConnect, IsInserted, IsLinkAt};
+ghost use Rattle.chain_arena.specs.ChainArena.{shown as interlinks};
+ghost use Rattle.chain_arena.specs.ChainArena.{seen, entry, relinked, insert_lone, remove_link, link_at, on_value, CanConnect, IsInserted, IsLinkAt};
 ghost use Rattle.chain_arena.specs.Links.{seen_link, seen_lent};
 
 use crate::chain_arena::ChainArena;
@@ -39,19 +39,26 @@ impl<P: Ptr, T: Drop, S: SlotStack<Item = ArenaSlot<P, LinkNoGen<P, T>>>> ChainA
     ghost passed_over = { λ a b i h. h.shows };
 
     fn insert_reallocating(&mut self, kind: LinkInsertKind, t: T) -> Result<P, ChainInsertionError>
-        ensures inserted { IfOk result (λ p. IsInserted (entry_at (values_of self.old)) (entry_at (values_of self.new)) (P.key p) t) }
-        ensures alone { IfOk result (λ p. shown self.new ≡ with_lone (shown self.old) (P.key p).0) }
-        ensures generation { IfOk result (λ p. IfSome (seen_of (values_of self.old)).counter (λ g. (P.key p).1 ≡ g)) }
-        ensures counter { OnOk result ((seen_of (values_of self.new)).counter ≡ (seen_of (values_of self.old)).counter) }
-        ensures maximum { OnOk result ((seen_of (values_of self.new)).maximum ≡ (seen_of (values_of self.old)).maximum) }
+        ensures inserted { IfOk result (λ p. IsInserted (entry self.old) (entry self.new) (P.key p) t) }
+        ensures alone { IfOk result (λ p. interlinks self.new ≡ with_lone (interlinks self.old) (P.key p).0) }
+        ensures agreed { Agrees (interlinks self.old) }
+        ensures generation { IfOk result (λ p. IfSome (seen self.old).counter (λ g. (P.key p).1 ≡ g)) }
+        ensures index { IfOk result (λ p. IfSome (seen self.old).slots (λ slots. (P.key p).0 ≡ next_slot slots)) }
+        ensures slots { OnOk result ((seen self.new).slots ≡ option_map with_next_filled (seen self.old).slots) }
+        ensures counter { OnOk result ((seen self.new).counter ≡ (seen self.old).counter) }
+        ensures maximum { OnOk result ((seen self.new).maximum ≡ (seen self.old).maximum) }
         ensures err { OnErr result (self.new ≡ self.old) }
         ensures error { IfErr result (λ e. (e ≡ ChainInsertionError.AllocError) ⊎ (e ≡ ChainInsertionError.BeyondMaxCapacity)) }
-        ensures room { length (seen_of (values_of self.old)).entries < (seen_of (values_of self.old)).capacity → IsOk result × ((seen_of (values_of self.new)).capacity ≡ (seen_of (values_of self.old)).capacity) }
-        ensures beyond { (result ≡ Err ChainInsertionError.BeyondMaxCapacity) ↔ ((length (seen_of (values_of self.old)).entries ≡ (seen_of (values_of self.old)).capacity) × IsBeyond (seen_of (values_of self.old)).maximum (length (seen_of (values_of self.old)).entries + 1)) }
-        ensures greatest { length (seen_of (values_of self.old)).entries ≡ P.Inx.greatest → IsErr result }
+        ensures room { HasRoomLeft (seen self.old) → IsOk result × ((seen self.new).capacity ≡ (seen self.old).capacity) }
+        ensures grown { OnOk result (IsRoom P.Inx.greatest (seen self.new).maximum (count (seen self.old) + 1) (seen self.new).capacity) }
+        ensures beyond { (result ≡ Err ChainInsertionError.BeyondMaxCapacity) ↔ NeedsBeyondMaximum (seen self.old) }
+        ensures greatest { count (seen self.old) ≡ P.Inx.greatest → IsErr result }
+
         ensures place { IfOk result (λ p. (P.key p).0 ≡ next_index self.old) }
         ensures state { OnOk result (self.new ≡ with_capacity_of (insert_lone self.old t) self.new) }
-        ensures chains { OnOk result (AddsLone (shown self.old) (shown self.new) (next_index self.old)) }
+        ensures state_in_room { entry_count self.old < self.old.capacity → self.new ≡ insert_lone self.old t }
+        ensures state_grown { OnOk result (HasRoom P.Inx.greatest (entry_count self.old + 1) self.new) }
+        ensures chains { OnOk result (AddsLone (interlinks self.old) (interlinks self.new) (next_index self.old)) }
     {
         match kind {
             LinkInsertKind::Disconnected => {}
@@ -67,8 +74,10 @@ impl<P: Ptr, T: Drop, S: SlotStack<Item = ArenaSlot<P, LinkNoGen<P, T>>>> ChainA
     }
 
     fn get_link(&self, p: P) -> Option<Link<P, &T>>
-        ensures some { IsSome result ↔ IsValid (entry_at (values_of self.now)) (P.key p) }
-        ensures link { IfSome result (λ link. IsLinkAt (entry_at (values_of self.now)) (shown self.now) (P.key p) (option_map P.key link.prev) (option_map P.key link.next) link.t.now) }
+        ensures some { IsSome result ↔ IsValid (entry self.now) (P.key p) }
+        ensures link { IfSome result (λ link. IsLinkAt (entry self.now) (interlinks self.now) (P.key p)
+            (option_map P.key link.prev) (option_map P.key link.next) link.t.now) }
+        ensures agree { Agrees (interlinks self.now) }
     {
         match self.arena.get(p) {
             Some(link) => {
@@ -81,28 +90,29 @@ impl<P: Ptr, T: Drop, S: SlotStack<Item = ArenaSlot<P, LinkNoGen<P, T>>>> ChainA
     }
 
     fn get_link_no_gen(&self, p: P) -> Option<&LinkNoGen<P, T>>
-        ensures some { IsSome result ↔ IsValid (entry_at (values_of self.now)) (P.key p) }
-        ensures link { IfSome result (λ link. link_at (entry_at (values_of self.now)) (shown self.now) (P.key p).0 ≡ Some ((P.key p).1, seen_link P.Inx.number link.now)) }
-        ensures agree { Agrees (shown self.now) }
+        ensures some { IsSome result ↔ IsValid (entry self.now) (P.key p) }
+        ensures link { IfSome result (λ link. link_at (entry self.now) (interlinks self.now) (P.key p).0 ≡ Some ((P.key p).1, seen_link P.Inx.number link.now)) }
+        ensures agree { Agrees (interlinks self.now) }
     {
         self.arena.get(p)
     }
 
     fn get_inx_link_no_gen(&self, i: P::Inx) -> Option<(P::Gen, &LinkNoGen<P, T>)>
-        ensures link { option_map (seen_lent P.Inx.number) result ≡ link_at (entry_at (values_of self.now)) (shown self.now) (P.Inx.number i) }
-        ensures agree { Agrees (shown self.now) }
+        ensures link { option_map (seen_lent P.Inx.number) result ≡ link_at (entry self.now) (interlinks self.now) (P.Inx.number i) }
+        ensures agree { Agrees (interlinks self.now) }
     {
         self.arena.get_inx(i)
     }
 
     fn connect(&mut self, p: P, q: P) -> Option<()>
-        ensures some { IsSome result ↔ CanConnect (entry_at (values_of self.old)) (shown self.old) (P.key p) (P.key q) }
-        ensures joined { OnSome result (shown self.new ≡ joined (shown self.old) (P.key p).0 (P.key q).0) }
-        ensures seen { OnSome result (seen_of (values_of self.new) ≡ seen_of (values_of self.old)) }
+        ensures some { IsSome result ↔ CanConnect (entry self.old) (interlinks self.old) (P.key p) (P.key q) }
+        ensures joined { OnSome result (interlinks self.new ≡ joined (interlinks self.old) (P.key p).0 (P.key q).0) }
+        ensures seen { OnSome result (seen self.new ≡ seen self.old) }
         ensures none { IfNone result (self.new ≡ self.old) }
-        ensures state { OnSome result (self.new ≡ relinked self.old (joined (shown self.old) (P.key p).0 (P.key q).0)) }
-        ensures pair { OnSome result (AddsPair (shown self.old) (shown self.new) (P.key p).0 (P.key q).0) }
-        ensures chains { OnSome result (Connects (shown self.old) (shown self.new) (P.key p).0 (P.key q).0) }
+        ensures agreed { Agrees (interlinks self.old) }
+        ensures state { OnSome result (self.new ≡ relinked self.old (joined (interlinks self.old) (P.key p).0 (P.key q).0)) }
+        ensures pair { OnSome result (AddsPair (interlinks self.old) (interlinks self.new) (P.key p).0 (P.key q).0) }
+        ensures chains { OnSome result (Connects (interlinks self.old) (interlinks self.new) (P.key p).0 (P.key q).0) }
     {
         if !can_connect(&self.arena, p, q) {
             return None;
@@ -112,14 +122,15 @@ impl<P: Ptr, T: Drop, S: SlotStack<Item = ArenaSlot<P, LinkNoGen<P, T>>>> ChainA
     }
 
     fn remove_link_no_gen(&mut self, p: P) -> InvalidationResult<LinkNoGen<P, T>>
-        ensures valid { IsValid (entry_at (values_of self.old)) (P.key p) → (option_map (λ link. ((P.key p).1, seen_link P.Inx.number link)) (value_within result) ≡ link_at (entry_at (values_of self.old)) (shown self.old) (P.key p).0)
-            × (seen_of (values_of self.new) ≡ seen_removed P.Gen.following (seen_of (values_of self.old)) (P.key p).0) × (shown self.new ≡ removed (shown self.old) (P.key p).0) }
-        ensures overflow { IfSome (seen_of (values_of self.old)).counter (λ g. result ≡ invalidation_result (P.Gen.wraps g) (value_within result)) }
-        ensures invalid { ¬ IsValid (entry_at (values_of self.old)) (P.key p) → (value_within result ≡ None) × (self.new ≡ self.old) }
-        ensures agreed { Agrees (shown self.old) }
-        ensures state { IsValid (entry_at (values_of self.old)) (P.key p) → self.new ≡ remove_link P.Gen.following self.old (P.key p).0 }
-        ensures chains { IsValid (entry_at (values_of self.old)) (P.key p) → Removes (shown self.old) (shown self.new) (P.key p).0 }
-        ensures pairs { IsValid (entry_at (values_of self.old)) (P.key p) → RemovesPairs (shown self.old) (shown self.new) (P.key p).0 }
+        ensures valid { IsValid (entry self.old) (P.key p) →
+            (option_map (λ link. ((P.key p).1, seen_link P.Inx.number link)) (value_within result) ≡ link_at (entry self.old) (interlinks self.old) (P.key p).0)
+            × (seen self.new ≡ seen_removed P.Gen.following (seen self.old) (P.key p).0) × (interlinks self.new ≡ removed (interlinks self.old) (P.key p).0) }
+        ensures overflow { IfSome (seen self.old).counter (λ g. result ≡ invalidation_result (P.Gen.wraps g) (value_within result)) }
+        ensures invalid { ¬ IsValid (entry self.old) (P.key p) → (value_within result ≡ None) × (self.new ≡ self.old) }
+        ensures agreed { Agrees (interlinks self.old) }
+        ensures state { IsValid (entry self.old) (P.key p) → self.new ≡ remove_link P.Gen.following self.old (P.key p).0 }
+        ensures chains { IsValid (entry self.old) (P.key p) → Removes (interlinks self.old) (interlinks self.new) (P.key p).0 }
+        ensures pairs { IsValid (entry self.old) (P.key p) → RemovesPairs (interlinks self.old) (interlinks self.new) (P.key p).0 }
     {
         if self.contains(p) {
             link_alone(take_out(&mut self.arena, p.inx()))
@@ -129,14 +140,15 @@ impl<P: Ptr, T: Drop, S: SlotStack<Item = ArenaSlot<P, LinkNoGen<P, T>>>> ChainA
     }
 
     fn remove_inx_link_no_gen(&mut self, i: P::Inx) -> InvalidationResult<(P::Gen, LinkNoGen<P, T>)>
-        ensures answer { option_map (on_value (seen_link P.Inx.number)) (value_within result) ≡ link_at (entry_at (values_of self.old)) (shown self.old) (P.Inx.number i) }
-        ensures overflow { IfSome (seen_of (values_of self.old)).counter (λ g. result ≡ invalidation_result (P.Gen.wraps g) (value_within result)) }
-        ensures valid { IsSome (entry_at (values_of self.old) (P.Inx.number i)) → (seen_of (values_of self.new) ≡ seen_removed P.Gen.following (seen_of (values_of self.old)) (P.Inx.number i)) × (shown self.new ≡ removed (shown self.old) (P.Inx.number i)) }
-        ensures invalid { entry_at (values_of self.old) (P.Inx.number i) ≡ None → self.new ≡ self.old }
-        ensures agreed { Agrees (shown self.old) }
-        ensures state { IsSome (entry_at (values_of self.old) (P.Inx.number i)) → self.new ≡ remove_link P.Gen.following self.old (P.Inx.number i) }
-        ensures chains { IsSome (entry_at (values_of self.old) (P.Inx.number i)) → Removes (shown self.old) (shown self.new) (P.Inx.number i) }
-        ensures pairs { IsSome (entry_at (values_of self.old) (P.Inx.number i)) → RemovesPairs (shown self.old) (shown self.new) (P.Inx.number i) }
+        ensures answer { option_map (on_value (seen_link P.Inx.number)) (value_within result) ≡ link_at (entry self.old) (interlinks self.old) (P.Inx.number i) }
+        ensures overflow { IfSome (seen self.old).counter (λ g. result ≡ invalidation_result (P.Gen.wraps g) (value_within result)) }
+        ensures valid { IsSome (entry self.old (P.Inx.number i)) →
+            (seen self.new ≡ seen_removed P.Gen.following (seen self.old) (P.Inx.number i)) × (interlinks self.new ≡ removed (interlinks self.old) (P.Inx.number i)) }
+        ensures invalid { entry self.old (P.Inx.number i) ≡ None → self.new ≡ self.old }
+        ensures agreed { Agrees (interlinks self.old) }
+        ensures state { IsSome (entry self.old (P.Inx.number i)) → self.new ≡ remove_link P.Gen.following self.old (P.Inx.number i) }
+        ensures chains { IsSome (entry self.old (P.Inx.number i)) → Removes (interlinks self.old) (interlinks self.new) (P.Inx.number i) }
+        ensures pairs { IsSome (entry self.old (P.Inx.number i)) → RemovesPairs (interlinks self.old) (interlinks self.new) (P.Inx.number i) }
     {
         take_out(&mut self.arena, i)
     }

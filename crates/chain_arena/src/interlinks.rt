@@ -4,7 +4,7 @@ ghost use Rattle.std.specs.Option.{option_map, option_and_then};
 ghost use Rattle.arena_ptr.specs.Invalidation.{value_within, invalidation_result};
 ghost use Rattle.chain_laws.specs.Operations.{next_set, prev_set, linked};
 ghost use Rattle.arena_base.specs.Arena.{entry_at, IsListed};
-ghost use Rattle.chain_arena.specs.ChainArena.{shown, relinked, remove_link, values_of, CanConnect, ptr_at};
+ghost use Rattle.chain_arena.specs.ChainArena.{shown, relinked, remove_link, entry, CanConnect, ptr_at};
 ghost use Rattle.chain_arena.specs.Links.{seen_links, seen_pair};
 
 use crate::links::LinkNoGen;
@@ -19,7 +19,7 @@ pub(crate) fn can_connect<P: Ptr, T: Drop, S: SlotStack<Item = ArenaSlot<P, Link
     p: P,
     q: P,
 ) -> bool
-    ensures { IsTrue result ↔ CanConnect (entry_at (values_of (seen_links P.Inx.number arena.now))) (shown (seen_links P.Inx.number arena.now)) (P.key p) (P.key q) }
+    ensures { IsTrue result ↔ CanConnect (entry (seen_links P.Inx.number arena.now)) (shown (seen_links P.Inx.number arena.now)) (P.key p) (P.key q) }
 {
     match arena.get(p) {
         Some(first) => match arena.get(q) {
@@ -35,7 +35,7 @@ pub(crate) fn neighbor<P: Ptr, T: Drop, S: SlotStack<Item = ArenaSlot<P, LinkNoG
     arena: &Arena<P, LinkNoGen<P, T>, S>,
     i: Option<P::Inx>,
 ) -> Option<P>
-    ensures { option_map P.key result ≡ option_and_then (ptr_at (entry_at (values_of (seen_links P.Inx.number arena.now)))) (option_map P.Inx.number i) }
+    ensures { option_map P.key result ≡ option_and_then (ptr_at (entry (seen_links P.Inx.number arena.now))) (option_map P.Inx.number i) }
 {
     match i {
         Some(i) => match arena.get_inx(i) {

@@ -21,6 +21,8 @@ impl Ptr for SmallPtr {
 
     ghost key = { λ p. (number_of_inx8 p.inx, p.generation) };
 
+    ghost index_within = { λ p. p.inx.in_range };
+
     ghost same_key = { λ p q e.
         let inx : p.inx ≡ q.inx = same_inx8 p.inx q.inx (ap (λ (k : ℕ × Gen8). k.0) e) in
         let generation : p.generation ≡ q.generation = ap (λ (k : ℕ × Gen8). k.1) e in
@@ -79,6 +81,8 @@ impl Ptr for BarePtr {
     type Gen = ();
 
     ghost key = { λ p. (number_of_inx8 p.inx, tt) };
+
+    ghost index_within = { λ p. p.inx.in_range };
 
     ghost same_key = { λ p q e. let same : p.inx ≡ q.inx = same_inx8 p.inx q.inx (ap (λ (k : ℕ × Unit {0}). k.0) e) in λ i. record { inx = same i } };
 

@@ -69,6 +69,8 @@ impl Ptr for TinyPtr {
 
     ghost key = { λ p. ((if p.inx.is_two then 2 else 1), tt) };
 
+    ghost index_within = { Prim.search rules };
+
     ghost same_key = { Prim.search rules };
 
     ghost eq_is_same = { Prim.search rules };

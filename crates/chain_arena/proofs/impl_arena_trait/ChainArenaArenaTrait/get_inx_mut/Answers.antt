@@ -24,7 +24,7 @@ returns-in-Some g c =
         (λ w.
             let held = rw c.in-Some.is at (c.get_inx_mut.follows.holds (record l { t = w })) in
             rw (← c.self.view_is) (
-              written-seen g.P.Inx.PtrInx.number a _ n l w (sym c.in-Some.ensures.value) held.1 (g.met.P.Inx.PtrInx.at_least_one _),
+              written-seen g.P.Inx.PtrInx.number a _ n l w (sym c.in-Some.ensures.value) held.1,
               (written-state g.P.Inx.PtrInx.number a _ n l w (sym c.in-Some.ensures.value) held.1, written-shown g.P.Inx.PtrInx.number a _ n l w (sym c.in-Some.ensures.value) held.1),
             )),
         refl,

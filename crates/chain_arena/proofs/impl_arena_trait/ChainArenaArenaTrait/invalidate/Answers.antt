@@ -5,7 +5,7 @@ use Rattle.chain_arena.specs.ChainArena.{shown}
 use Rattle.chain_arena.specs.Links.{seen_links}
 use Rattle.arena_ptr.specs.Invalidation.{value_within}
 use Rattle.chain_arena.proofs.Connecting.{same_valid}
-use Rattle.chain_arena.proofs.Lending.{valid_index, valid_or_not}
+use Rattle.chain_arena.proofs.Lending.{valid_or_not}
 use Rattle.chain_arena.proofs.Writing.{renewed-state, renewed-shown, renewed-told}
 use Rattle.chain_arena.proofs.impl_arena_trait.ChainArenaArenaTrait.invalidate.Goals as goal
 
@@ -20,7 +20,7 @@ invariant_of-self g c =
 pub returns-clause-valid : goal.returns-clause-valid
 returns-clause-valid g c = rw (← c.self.view_is) (λ valid.
     let stands = (same_valid g.P.Inx.PtrInx.number c.self.inside.arena (g.P.Ptr.key c.args.p)).1 valid in
-    renewed-told g.P.Inx.PtrInx.number g.P.Gen.PtrGen.following c.self.inside.arena _ _ (c.invalidate.ensures.more stands) _ g.P.Ptr.key (value_within c.invalidate.result) (valid_index c.self.inside.arena (g.P.Ptr.key c.args.p) stands) (c.invalidate.ensures.valid stands) (c.invalidate.ensures.counter.1))
+    renewed-told g.P.Inx.PtrInx.number g.P.Gen.PtrGen.following c.self.inside.arena _ _ (c.invalidate.ensures.more stands) _ g.P.Ptr.key (value_within c.invalidate.result) (c.invalidate.ensures.valid stands) (c.invalidate.ensures.counter.1))
 
 pub returns-clause-invalid : goal.returns-clause-invalid
 returns-clause-invalid g c = rw (← c.self.view_is) (λ invalid.

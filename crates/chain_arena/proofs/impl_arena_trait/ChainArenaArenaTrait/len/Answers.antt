@@ -1,7 +1,11 @@
 -- The interlinks agree, so there is one set of chains.
-use Rattle.std.proofs.Common.{sym, ◌∙◌}
+use Rattle.std.proofs.Common.{◌≤◌, sym, ◌∙◌, subst, arith}
+use Rattle.arena_base.specs.Arena.{HasRoom}
 use Rattle.chain_arena.specs.Links.{seen_links}
-use Rattle.chain_arena.proofs.Inserting.{count-values, entry_count-seen_links}
+use Rattle.chain_arena.specs.ChainArena.{values_of}
+use Rattle.chain_arena.proofs.Seeing.{length-seen_links}
+use Rattle.arena_base.proofs.Filling.{entries_within, they_fill}
+use Rattle.chain_arena.proofs.Inserting.{count-values, length-values, listed-seen_links, listed-values}
 use Rattle.chain_arena.proofs.Iterating.{one_set}
 use Rattle.chain_arena.proofs.impl_arena_trait.ChainArenaArenaTrait.len.Goals as goal
 
@@ -10,3 +14,24 @@ returns-clause-count g c = rw (← c.self.view_is) (c.len.ensures.entries ∙ sy
 
 pub returns-clause-chains : goal.returns-clause-chains
 returns-clause-chains g c = rw (← c.self.view_is) (one_set (seen_links g.P.Inx.PtrInx.number c.self.inside.arena) c.self.invariant)
+
+pub returns-clause-indexes : goal.returns-clause-indexes
+returns-clause-indexes g c =
+    let number = g.P.Inx.PtrInx.number in
+    let a = c.self.inside.arena in
+    rw (← c.self.view_is) (entries_within (values_of (seen_links number a)).slots g.P.Inx.PtrInx.greatest
+    (subst (λ n. n ≤ g.P.Inx.PtrInx.greatest) (sym (length-values number a)) (omega (arith, c.len.ensures.room.0.fits, c.len.ensures.room.0.at_most_greatest))))
+
+pub returns-clause-filled : goal.returns-clause-filled
+returns-clause-filled g c =
+    let number = g.P.Inx.PtrInx.number in
+    let a = c.self.inside.arena in
+    rw (← c.self.view_is) (they_fill (values_of (seen_links number a)) (listed-values number a c.len.ensures.listed) a.placed a.touched)
+
+pub returns-clause-listed : goal.returns-clause-listed
+returns-clause-listed g c = rw (← c.self.view_is) (listed-seen_links g.P.Inx.PtrInx.number c.self.inside.arena c.len.ensures.listed)
+
+pub returns-clause-room : goal.returns-clause-room
+returns-clause-room g c =
+    let a = c.self.inside.arena in
+    rw (← c.self.view_is) (subst (λ n. HasRoom g.P.Inx.PtrInx.greatest n (seen_links g.P.Inx.PtrInx.number a)) (sym (length-seen_links g.P.Inx.PtrInx.number a)) c.len.ensures.room)

@@ -13,7 +13,7 @@ invariant_of-self g c = taken-agrees g.P.Inx.PtrInx.number g.P.Gen.PtrGen.follow
 pub returns-then-contains-clause-valid : goal.returns-then-contains-clause-valid
 returns-then-contains-clause-valid g c = rw (← c.inx.ensures, ← c.self.view_is) (λ valid. (
   ap (option_map (λ link. ((g.P.Ptr.key c.args.p).1, seen_link g.P.Inx.PtrInx.number link))) c.link_alone.ensures.value ∙ taken-link g.P.Inx.PtrInx.number g.P.Gen.PtrGen.following c.self.inside.arena c.take_out.new.arena _ _ c.take_out.ensures.answer c.take_out.ensures.valid c.take_out.ensures.invalid _ _ (ap (entry_at (values_of (seen_links g.P.Inx.PtrInx.number c.self.inside.arena))) c.inx.ensures ∙ valid.stands),
-  taken-seen g.P.Inx.PtrInx.number g.P.Gen.PtrGen.following c.self.inside.arena c.take_out.new.arena _ _ c.take_out.ensures.answer c.take_out.ensures.valid c.take_out.ensures.invalid (valid_stands g.P.Inx.PtrInx.number g.P.Gen.PtrGen.following c.self.inside.arena c.take_out.new.arena _ _ c.take_out.ensures.answer c.take_out.ensures.valid c.take_out.ensures.invalid (g.P.Ptr.key c.args.p) c.inx.ensures valid) (g.met.P.Inx.PtrInx.at_least_one _),
+  taken-seen g.P.Inx.PtrInx.number g.P.Gen.PtrGen.following c.self.inside.arena c.take_out.new.arena _ _ c.take_out.ensures.answer c.take_out.ensures.valid c.take_out.ensures.invalid (valid_stands g.P.Inx.PtrInx.number g.P.Gen.PtrGen.following c.self.inside.arena c.take_out.new.arena _ _ c.take_out.ensures.answer c.take_out.ensures.valid c.take_out.ensures.invalid (g.P.Ptr.key c.args.p) c.inx.ensures valid),
   taken-shown g.P.Inx.PtrInx.number g.P.Gen.PtrGen.following c.self.inside.arena c.take_out.new.arena _ _ c.take_out.ensures.answer c.take_out.ensures.valid c.take_out.ensures.invalid (valid_stands g.P.Inx.PtrInx.number g.P.Gen.PtrGen.following c.self.inside.arena c.take_out.new.arena _ _ c.take_out.ensures.answer c.take_out.ensures.valid c.take_out.ensures.invalid (g.P.Ptr.key c.args.p) c.inx.ensures valid),
 ))
 
