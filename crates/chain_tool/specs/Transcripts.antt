@@ -1,7 +1,6 @@
 -- What the program answers to all that it reads, and how far it comes where reading, writing or memory fails.
 use Rattle.std.specs.Prelude.{◌≡◌, ℕ, List, [], ◌∷◌, ◌++◌, Option, Result, Ok, Err}
 use Rattle.std.specs.Io.KnownBytes.{Consumes, Appends, IsAtEnd}
-use Rattle.arena_ptr.specs.Generations.{two32}
 use Rattle.chain_tool.specs.declared.run.ToolError.{ToolError}
 use Rattle.chain_tool.specs.declared.run.ToolError.TheVariants as errors
 use Rattle.chain_tool.specs.Words.{lines_of, whole_lines}
@@ -12,11 +11,6 @@ use Rattle.chain_tool.specs.Answers.{Links, AnswersLine}
 abbrev pub Answers : Links → List (List ℕ) → List ℕ → Links → Type 0
 Answers old [] text new = (text ≡ []) × (new ≡ old)
 Answers old (line ∷ lines) text new = (mid : Links) × (first : List ℕ) × (rest : List ℕ) × AnswersLine old (line_of line) first mid × Answers mid lines rest new × (text ≡ first ++ rest)
-
--- an arena as it is made: empty, with the counter two
-pub record IsNew (links : Links) : Type 0 where
-  pub slots : links.slots ≡ []
-  pub counter : links.counter ≡ two32
 
 -- A run, from what the reader had left and the writer held to what they have left and hold, as far as they tell it.
 -- Nothing is left unread, and what is written is the answers to all the lines that were read, and nothing else.
