@@ -1,28 +1,37 @@
 -- A step that was made is some answer's step, also where memory for the answer was refused.
-use Rattle.std.proofs.Common.{OnOk, ◌≤◌, ◌<◌, ◌+◌, ◌↔◌, length, arith, IsOk, is_ok, if◌then◌else◌, ◌≡◌, ℕ, ◌⊎◌, List, [], ◌∷◌, ◌++◌, Result, Ok, Err, OnErr, refl, sym, ap, ◌∙◌, inl, inr, subst, Bool, cond, append_assoc, append-nil, true, false, codes}
+use Rattle.std.proofs.Common.{OnOk, ◌≤◌, ◌<◌, ◌+◌, ◌↔◌, length, arith, IsOk, is_ok, if◌then◌else◌, ◌≡◌, ℕ, ◌⊎◌, List, [], ◌∷◌, ◌++◌, Result, Ok, Err, OnErr, refl, sym, ap, ap₂, ◌∙◌, inl, inr, ⊎_elim, subst, Bool, cond, append_assoc, append-nil, true, false, codes}
+use Rattle.std.proofs.lemmas.Bool.{cases_lt}
 use Rattle.arena_ptr.specs.declared.generation.gen32.Gen32.{Gen32}
 use Rattle.chain_laws.specs.Operations.{joined}
-use Rattle.arena_base.specs.Arena.{entry_count, next_index, with_capacity_of}
+use Rattle.arena_base.specs.Arena.{entry_count, next_index, with_capacity_of, HasRoom}
 use Rattle.arena_ptr.specs.SlotStack.{IsBeyond}
 use Rattle.arena_ptr.specs.declared.errors.ChainInsertionError.{ChainInsertionError}
 use Rattle.arena_ptr.specs.declared.errors.ChainInsertionError.TheVariants.{AllocError, BeyondMaxCapacity}
 use Rattle.arena_base.specs.Entries.{seen_of}
-use Rattle.chain_arena.proofs.Listing.{length-entries}
+use Rattle.arena_base.proofs.Seeing.{length-entries}
 use Rattle.chain_arena.proofs.Mapping.{entry_count-with_each}
 use Rattle.chain_arena.specs.ChainArena.{LinkSeen, shown, values_of, value_in, relinked, insert_lone}
 use Rattle.chain_tool.specs.declared.command.Command.{Command}
 use Rattle.chain_tool.specs.declared.command.Line.{Line}
 use Rattle.chain_tool.specs.declared.command.Line.TheVariants.{Good}
-use Rattle.chain_tool.specs.Answers.{Links, CanConnect, Adds, added, limited, refused, Removes, Connects, connected, not_connected, Gives, AnswersLine, pointer_text, link_text, walk_text}
+use Rattle.chain_tool.specs.Answers.{Links, CanConnect, added_text, greatest_index, Adds, added, grown, limited, refused, Removes, Connects, connected, not_connected, Gives, AnswersLine, pointer_text, link_text, walk_text}
 
 -- a text that was cleared and pushed to
 pushed_is : (old v_text new : List ℕ) → old ≡ [] → new ≡ old ++ v_text → new ≡ v_text
 pushed_is old text new none is = is ∙ ap (λ b. b ++ text) none
 
+-- an insertion that was made, in the room that there was or after a growth
+pub adds_made : (old new : Links) (v : ℕ) → (entry_count old < old.capacity → new ≡ insert_lone old v) → HasRoom greatest_index (entry_count old + 1) new → new ≡ with_capacity_of (insert_lone old v) new
+    → Adds old v (added_text old) new
+adds_made old new v in_room room state = ⊎_elim (λ less. added less refl (in_room less)) (λ full. grown full room refl state) (cases_lt (entry_count old) old.capacity)
+
 module _ {T E : Type 0} where
-  pub added_err : (old new : Links) (v : ℕ) (r : Result T E) → new ≡ with_capacity_of (insert_lone old v) new → OnErr r ((words : List ℕ) × Adds old v words new)
-  added_err old new v (Ok x) is = tt
-  added_err old new v (Err e) is = (codes "at " ++ pointer_text (next_index old, old.counter), added refl is)
+  -- .. with its pointer pushed
+  pub adds_pushed : (old new : Links) (v : ℕ) (before mid after : List ℕ) (p : ℕ × Gen32) (r : Result T E) → before ≡ [] → mid ≡ before ++ codes "at " → OnOk r (after ≡ mid ++ pointer_text p)
+      → p.0 ≡ next_index old → p.1 ≡ old.counter → Adds old v (added_text old) new → OnOk r (Adds old v after new)
+  adds_pushed old new v before mid after p (Ok x) none start is index generation adds =
+      subst (λ t. Adds old v t new) (sym (is ∙ ap (λ t. t ++ pointer_text p) (pushed_is before (codes "at ") mid none start) ∙ ap₂ (λ i g. codes "at " ++ pointer_text (i, g)) index generation)) adds
+  adds_pushed old new v before mid after p (Err e) none start is index generation adds = tt
 
   pub adds_ok : (old new : Links) (v : ℕ) (before after text : List ℕ) (r : Result T E) → before ≡ [] → after ≡ (if is_ok r then before ++ text else before) → Adds old v text new
       → OnOk r (Adds old v after new)

@@ -4,12 +4,12 @@ use Rattle.std.proofs.lemmas.List.{take_more, take-append-drop}
 use Rattle.std.proofs.KnownBytes.{Appends-trans, Appends-kept}
 use Rattle.chain_tool.specs.declared.run.ToolError.{ToolError}
 use Rattle.chain_tool.specs.declared.run.ToolError.TheVariants as errors
-use Rattle.chain_tool.specs.Words.{lines_of}
+use Rattle.chain_tool.specs.Words.{lines_of, whole_lines}
 use Rattle.chain_tool.specs.Commands.{line_of}
 use Rattle.chain_tool.specs.Answers.{Links, AnswersLine}
 use Rattle.chain_tool.specs.Transcripts.{Answers, IsCutShort, within, IsGivenUp, before, after}
 use Rattle.chain_tool.specs.Progress.{AnswersOne, Progress, Comes}
-use Rattle.chain_tool.proofs.Feeding.{line_of-take, lines_of-end, lines_of-more, cut-on}
+use Rattle.chain_tool.proofs.Feeding.{line_of-take, lines_of-end, whole_lines-end, whole_lines-more, cut-on}
 
 -- one line more is answered
 pub Answers-more : (old mid new : Links) (lines : List (List ℕ)) (line text more : List ℕ) → Answers old lines text mid → AnswersLine mid (line_of line) more new
@@ -45,27 +45,30 @@ module _ (old mid new : Links) (read kept : List ℕ) (held held_mid held_after 
     writes = Appends-trans held held_mid held_after _ _ come.writes answered.2;
   }
 
-  given_up : (more : List ℕ) → (new ≡ mid) ⊎ ((text : List ℕ) × AnswersLine mid (line_of kept) text new) → IsGivenUp old new (come.lines ++ come.rest ∷ lines_of more) come.text
-  given_up more (inl same) = before come.lines (come.rest ∷ lines_of more) come.text (subst (λ m. Answers old come.lines come.text m) (sym same) come.answers)
-  given_up more (inr some) = after come.lines (lines_of more) come.rest mid come.text some.0 come.answers (of_kept mid new kept come.rest some.0 come.keeps some.1)
+  whole : (more : List ℕ) → whole_lines (read ++ 10 ∷ more) ≡ come.lines ++ come.rest ∷ whole_lines more
+  whole more = whole_lines-end read more come.lines come.rest come.cut
+
+  given_up : (more : List ℕ) → (new ≡ mid) ⊎ ((text : List ℕ) × AnswersLine mid (line_of kept) text new) → IsGivenUp old new (come.lines ++ come.rest ∷ whole_lines more) come.text
+  given_up more (inl same) = before come.lines (come.rest ∷ whole_lines more) come.text (subst (λ m. Answers old come.lines come.text m) (sym same) come.answers)
+  given_up more (inr some) = after come.lines (whole_lines more) come.rest mid come.text some.0 come.answers (of_kept mid new kept come.rest some.0 come.keeps some.1)
 
   pub Comes-stopped : (A B : Type 0) (error : ToolError) (more kept_after : List ℕ) → AnswersOne {A = A} (Err error) mid new kept held_mid held_after
       → Comes {A = B} (Err error) old (read ++ 10 ∷ more) new kept_after held held_after
   Comes-stopped A B errors.Read more kept_after stopped = stopped
   Comes-stopped A B errors.Write more kept_after stopped = (
     come.text ++ stopped.0,
-    subst (λ l. IsCutShort old new l (come.text ++ stopped.0)) (sym (ended more))
-        (within come.lines (lines_of more) come.rest mid come.text stopped.0 stopped.1 come.answers (of_kept mid new kept come.rest (stopped.0 ++ stopped.1) come.keeps stopped.2)),
+    subst (λ l. IsCutShort old new l (come.text ++ stopped.0)) (sym (whole more))
+        (within come.lines (whole_lines more) come.rest mid come.text stopped.0 stopped.1 come.answers (of_kept mid new kept come.rest (stopped.0 ++ stopped.1) come.keeps stopped.2)),
     Appends-trans held held_mid held_after _ _ come.writes stopped.3,
   )
   Comes-stopped A B errors.Memory more kept_after stopped =
-      (come.text, subst (λ l. IsGivenUp old new l come.text) (sym (ended more)) (given_up more stopped.1), Appends-kept held held_mid held_after _ come.writes stopped.0)
+      (come.text, subst (λ l. IsGivenUp old new l come.text) (sym (whole more)) (given_up more stopped.1), Appends-kept held held_mid held_after _ come.writes stopped.0)
 
 -- a run that stops between two lines
 pub Progress-stopped : (old new : Links) (read kept more : List ℕ) (held held_after : Option (List ℕ)) (come : Progress old read new kept held held_after)
-    → IsGivenUp old new (lines_of (read ++ more)) come.text
+    → IsGivenUp old new (whole_lines (read ++ more)) come.text
 Progress-stopped old new read kept more held held_after come =
-    let found = lines_of-more more read come.lines come.rest come.cut in
+    let found = whole_lines-more more read come.lines come.rest come.cut in
     subst (λ l. IsGivenUp old new l come.text) (sym found.1) (before come.lines found.0 come.text come.answers)
 
 -- a byte of a line, of which enough is kept
@@ -136,4 +139,4 @@ module _ (old now : Links) (read piece kept : List ℕ) (i : ℕ) (held held_now
   feed-full B error r kept_after memory is =
       let e : (read ++ take i piece) ++ drop i piece ≡ read ++ piece = append_assoc read (take i piece) (drop i piece) ∙ ap (λ l. read ++ l) (take-append-drop i piece) in
       subst (λ q. Comes q old (read ++ piece) now kept_after held held_now) (sym (is ∙ ap Err memory))
-      (come.text, subst (λ l. IsGivenUp old now (lines_of l) come.text) e (Progress-stopped old now (read ++ take i piece) kept (drop i piece) held held_now come), come.writes)
+      (come.text, subst (λ l. IsGivenUp old now (whole_lines l) come.text) e (Progress-stopped old now (read ++ take i piece) kept (drop i piece) held held_now come), come.writes)

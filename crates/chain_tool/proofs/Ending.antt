@@ -4,10 +4,10 @@ use Rattle.std.specs.Io.KnownBytes.{Consumes, Keeps, IsAtEnd}
 use Rattle.std.proofs.KnownBytes.{Appends-trans, Appends-kept, Appends-nil, Consumes-trans, Consumes-kept, Consumes-nil}
 use Rattle.chain_tool.specs.declared.run.ToolError.{ToolError}
 use Rattle.chain_tool.specs.declared.run.ToolError.TheVariants as errors
-use Rattle.chain_tool.specs.Words.{all_but_last}
+use Rattle.chain_tool.specs.Words.{all_but_last, lines_of, whole_lines}
 use Rattle.chain_tool.specs.Commands.{line_of}
 use Rattle.chain_tool.specs.Answers.{Links, AnswersLine}
-use Rattle.chain_tool.specs.Transcripts.{Answers, IsCutShort, between, within, IsGivenUp, before, after, Ends}
+use Rattle.chain_tool.specs.Transcripts.{Answers, by_line_feed, by_the_end, IsCutShort, between, within, IsGivenUp, before, after, Ends}
 use Rattle.chain_tool.specs.Progress.{AnswersOne, Progress, Comes}
 use Rattle.chain_tool.proofs.Feeding.{all_but_last-append}
 use Rattle.chain_tool.proofs.Coming.{Answers-more, of_kept}
@@ -62,8 +62,14 @@ module _ (old now : Links) (kept : List ℕ) (left left_now held held_now : Opti
 
       by_error : (error : ToolError) → Comes {A = A} (Err error) old (has.read ++ piece) new kept_after held held_after → Ends {A = B} (Err error) old new left left_after held held_after
       by_error errors.Read comes = absurd comes
-      by_error errors.Write comes = record { read = has.read ++ piece; text = comes.0; reads = all; writes = comes.2; answers = comes.1 }
-      by_error errors.Memory comes = record { read = has.read ++ piece; text = comes.0; reads = all; writes = comes.2; answers = comes.1 }
+      by_error errors.Write comes =
+          record { read = has.read ++ piece; lines = whole_lines (has.read ++ piece); text = comes.0; reads = all; complete = by_line_feed; writes = comes.2; answers = comes.1 }
+      by_error errors.Memory comes =
+          record { read = has.read ++ piece; lines = whole_lines (has.read ++ piece); text = comes.0; reads = all; complete = by_line_feed; writes = comes.2; answers = comes.1 }
+
+  -- the whole lines are those answered
+  whole : whole_lines has.read ≡ has.come.lines
+  whole = ap all_but_last has.come.cut ∙ all_but_last-append has.come.lines has.come.rest
 
   -- the reader fails
   pub Ends-unread : (B : Type 0) (r : Result B ToolError) (left_after : Option (List ℕ)) → Keeps left_now left_after → r ≡ Err errors.Read → Ends r old now left left_after held held_now
@@ -72,17 +78,19 @@ module _ (old now : Links) (kept : List ℕ) (left left_now held held_now : Opti
     text = has.come.text;
     reads = Consumes-kept left left_now left_after _ has.reads keeps;
     writes = has.come.writes;
-    answers = subst (λ l. Answers old l has.come.text now) (sym (ap all_but_last has.come.cut ∙ all_but_last-append has.come.lines has.come.rest)) has.come.answers;
+    answers = subst (λ l. Answers old l has.come.text now) (sym whole) has.come.answers;
   })
 
   -- the writer cannot be flushed
   pub Ends-unflushed : (B : Type 0) (r : Result B ToolError) (held_after : Option (List ℕ)) → Keeps held_now held_after → r ≡ Err errors.Write → Ends r old now left left_now held held_after
   Ends-unflushed B r held_after keeps is = subst (λ q. Ends q old now left left_now held held_after) (sym is) (record {
     read = has.read;
+    lines = whole_lines has.read;
     text = has.come.text;
     reads = has.reads;
+    complete = by_line_feed;
     writes = Appends-kept held held_now held_after _ has.come.writes keeps;
-    answers = subst (λ l. IsCutShort old now l has.come.text) (sym has.come.cut) (between has.come.lines (has.come.rest ∷ []) has.come.text has.come.answers);
+    answers = subst (λ l. IsCutShort old now l has.come.text) (append-nil has.come.lines ∙ sym whole) (between has.come.lines [] has.come.text has.come.answers);
   })
 
   -- the last line is answered
@@ -113,16 +121,20 @@ module _ (old now : Links) (kept : List ℕ) (left left_now held held_now : Opti
       by_result (Err errors.Read) answered = absurd answered
       by_result (Err errors.Write) answered = record {
         read = has.read;
+        lines = lines_of has.read;
         text = has.come.text ++ answered.0;
         reads = all;
+        complete = by_the_end end;
         writes = Appends-trans held held_now held_after _ _ has.come.writes answered.3;
         answers = subst (λ l. IsCutShort old new l (has.come.text ++ answered.0)) (sym has.come.cut)
             (within has.come.lines [] has.come.rest now has.come.text answered.0 answered.1 has.come.answers (last (answered.0 ++ answered.1) answered.2));
       }
       by_result (Err errors.Memory) answered = record {
         read = has.read;
+        lines = lines_of has.read;
         text = has.come.text;
         reads = all;
+        complete = by_the_end end;
         writes = Appends-kept held held_now held_after _ has.come.writes answered.0;
         answers = subst (λ l. IsGivenUp old new l has.come.text) (sym has.come.cut) (given_up answered.1);
       }
@@ -131,8 +143,10 @@ module _ (old now : Links) (kept : List ℕ) (left left_now held held_now : Opti
 pub Ends-no_room : (B : Type 0) (r : Result B ToolError) (error : ToolError) (links : Links) (left held : Option (List ℕ)) → error ≡ errors.Memory → r ≡ Err error → Ends r links links left left held held
 Ends-no_room B r error links left held memory is = subst (λ q. Ends q links links left left held held) (sym (is ∙ ap Err memory)) (record {
   read = [];
+  lines = [];
   text = [];
   reads = Consumes-nil left;
+  complete = by_line_feed;
   writes = Appends-nil held;
-  answers = before [] ([] ∷ []) [] (refl, refl);
+  answers = before [] [] [] (refl, refl);
 })

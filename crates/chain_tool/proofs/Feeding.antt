@@ -2,7 +2,7 @@
 use Rattle.std.proofs.Common.{◌≡◌, ℕ, ◌<◌, ◌≤◌, ◌==◌, Bool, true, false, nat_lt, cond, List, [], ◌∷◌, ◌++◌, length, take, refl, sym, ap, ◌∙◌, length-append, append_assoc, append-nil, arith, rules}
 use Rattle.std.proofs.lemmas.List.{take_all, take-append-le, length-take}
 use Rattle.std.specs.List.{onto_first}
-use Rattle.chain_tool.specs.Words.{lines_of, all_but_last, words_of, without_return}
+use Rattle.chain_tool.specs.Words.{lines_of, whole_lines, all_but_last, words_of, without_return}
 use Rattle.chain_tool.specs.Commands.{line_of, line_of_words}
 use Rattle.chain_tool.specs.declared.command.Line.TheVariants as lines
 
@@ -109,21 +109,43 @@ all_but_last-append [] rest = refl
 all_but_last-append (line ∷ []) rest = refl
 all_but_last-append (line ∷ next ∷ lines) rest = ap (λ l. line ∷ l) (all_but_last-append (next ∷ lines) rest)
 
+-- lines that others follow are whole
+all_but_last-before : (lines others : List (List ℕ)) → some_line others → all_but_last (lines ++ others) ≡ lines ++ all_but_last others
+all_but_last-before [] others some = refl
+all_but_last-before (line ∷ []) [] some = absurd some
+all_but_last-before (line ∷ []) (other ∷ others) some = refl
+all_but_last-before (line ∷ next ∷ lines) others some = ap (λ l. line ∷ l) (all_but_last-before (next ∷ lines) others some)
+
+-- a line that a line feed ended is whole, as those before it are
+pub whole_lines-end : (text more : List ℕ) (lines : List (List ℕ)) (rest : List ℕ) → lines_of text ≡ lines ++ rest ∷ []
+    → whole_lines (text ++ 10 ∷ more) ≡ lines ++ rest ∷ whole_lines more
+whole_lines-end text more lines rest cut =
+    ap all_but_last (lines_of-end text more ∙ ap (λ l. l ++ lines_of more) cut)
+    ∙ all_but_last-before (lines ++ rest ∷ []) (lines_of more) (lines_of-some more) ∙ append_assoc lines (rest ∷ []) (whole_lines more)
+
 -- lines that were ended stay, whatever more is read
-pub lines_of-more : (more text : List ℕ) (lines : List (List ℕ)) (rest : List ℕ) → lines_of text ≡ lines ++ rest ∷ [] → (others : List (List ℕ)) × (lines_of (text ++ more) ≡ lines ++ others)
-lines_of-more [] text lines rest cut = (rest ∷ [], ap lines_of (append-nil text) ∙ cut)
+lines_of-more : (more text : List ℕ) (lines : List (List ℕ)) (rest : List ℕ) → lines_of text ≡ lines ++ rest ∷ []
+    → (next : List ℕ) × (others : List (List ℕ)) × (lines_of (text ++ more) ≡ lines ++ next ∷ others)
+lines_of-more [] text lines rest cut = (rest, [], ap lines_of (append-nil text) ∙ cut)
 lines_of-more (c ∷ more) text lines rest cut = by_test (c == 10) refl (λ lines rest. lines_of-more more (text ++ c ∷ []) lines rest)
   where
     end_is : (c == 10) ≡ true → c ≡ 10
     end_is e = search rules
 
     by_test : (b : Bool) → (c == 10) ≡ b
-        → ((lines : List (List ℕ)) (rest : List ℕ) → lines_of (text ++ c ∷ []) ≡ lines ++ rest ∷ [] → (others : List (List ℕ)) × (lines_of ((text ++ c ∷ []) ++ more) ≡ lines ++ others))
-        → (others : List (List ℕ)) × (lines_of (text ++ c ∷ more) ≡ lines ++ others)
+        → ((lines : List (List ℕ)) (rest : List ℕ) → lines_of (text ++ c ∷ []) ≡ lines ++ rest ∷ [] → (next : List ℕ) × (others : List (List ℕ)) × (lines_of ((text ++ c ∷ []) ++ more) ≡ lines ++ next ∷ others))
+        → (next : List ℕ) × (others : List (List ℕ)) × (lines_of (text ++ c ∷ more) ≡ lines ++ next ∷ others)
     by_test true e on = (
-      rest ∷ lines_of more,
+      rest,
+      lines_of more,
       ap (λ d. lines_of (text ++ d ∷ more)) (end_is e) ∙ lines_of-end text more ∙ ap (λ l. l ++ lines_of more) cut ∙ append_assoc lines (rest ∷ []) (lines_of more),
     )
     by_test false e on =
         let found = on lines (rest ++ c ∷ []) (cut-on text c lines rest e cut) in
-        (found.0, ap lines_of (sym (append_assoc text (c ∷ []) more)) ∙ found.1)
+        (found.0, found.1, ap lines_of (sym (append_assoc text (c ∷ []) more)) ∙ found.2)
+
+-- .. and so do whole lines
+pub whole_lines-more : (more text : List ℕ) (lines : List (List ℕ)) (rest : List ℕ) → lines_of text ≡ lines ++ rest ∷ [] → (others : List (List ℕ)) × (whole_lines (text ++ more) ≡ lines ++ others)
+whole_lines-more more text lines rest cut =
+    let found = lines_of-more more text lines rest cut in
+    (all_but_last (found.0 ∷ found.1), ap all_but_last found.2 ∙ all_but_last-before lines (found.0 ∷ found.1) tt)

@@ -1,5 +1,5 @@
 -- What a removal answers.
-use Rattle.std.proofs.Common.{◌≡◌, ℕ, ◌⊎◌, List, ◌++◌, Option, None, Some, Bool, true, false, refl, sym, ap, ◌∙◌, inl, inr, subst, codes, decimal, ⊎_elim}
+use Rattle.std.proofs.Common.{◌≡◌, ℕ, ◌⊎◌, List, ◌++◌, Option, None, Some, Bool, true, false, refl, sym, ap, ◌∙◌, inl, inr, codes, decimal, ⊎_elim}
 use Rattle.std.specs.Option.{option_map}
 use Rattle.std.proofs.lemmas.Bool.{cases_eq}
 use Rattle.arena_ptr.specs.Generations.{number_of_gen32, same_gen32, after32, is_greatest32}

@@ -1,12 +1,12 @@
 -- What the program answers to a line, and the arena after it.
-use Rattle.std.specs.Prelude.{◌≤◌, ◌≡◌, ℕ, List, [], ◌∷◌, ◌++◌, map, codes, decimal, ◌+◌, Bool, true, false, Option, None, Some}
+use Rattle.std.specs.Prelude.{◌<◌, ◌≤◌, ◌≡◌, ℕ, List, [], ◌∷◌, ◌++◌, map, codes, decimal, ◌+◌, Bool, true, false, Option, None, Some}
 use Rattle.std.specs.List.{join_with_byte}
 use Rattle.arena_ptr.specs.Generations.{number_of_gen32, after32, is_greatest32}
 use Rattle.arena_ptr.specs.ToolPtr.{key_of}
 use Rattle.arena_ptr.specs.declared.generation.gen32.Gen32.{Gen32}
 use Rattle.chain_laws.specs.Operations.{joined}
 use Rattle.arena_ptr.specs.SlotStack.{IsBeyond}
-use Rattle.arena_base.specs.Arena.{Arena, IsValid, entry_at, entry_count, next_index, with_capacity_of}
+use Rattle.arena_base.specs.Arena.{Arena, IsValid, entry_at, entry_count, next_index, with_capacity_of, HasRoom}
 use Rattle.chain_arena.specs.ChainArena as chain
 use Rattle.chain_arena.specs.ChainArena.{LinkSeen, shown, values_of, relinked, insert_lone, remove_link, IsWalkOf}
 use Rattle.chain_tool.specs.declared.command.Command.{Command}
@@ -53,9 +53,19 @@ CanConnect a p q = chain.CanConnect (entry_at (values_of a)) (shown a) p q
 abbrev pub IsLinkAt : Links → ℕ × Gen32 → Option (ℕ × Gen32) → Option (ℕ × Gen32) → ℕ → Type 0
 IsLinkAt a p prev next value = chain.IsLinkAt (entry_at (values_of a)) (shown a) p prev next value
 
--- the new link has its pointer; an arena that is full may have to grow beyond its maximum, and else memory may be refused
+-- the pointer of the next link
+abbrev pub added_text : Links → List ℕ
+added_text old = codes "at " ++ pointer_text (next_index old, old.counter)
+
+-- the greatest index of 32 bits
+abbrev pub greatest_index : ℕ
+greatest_index = 0xffff_ffff
+
+-- Where there is room, the new link is added and nothing else changes. An arena that is full has grown to room for it;
+-- or it would have to grow beyond its maximum, and else memory may be refused.
 pub data Adds (old : Links) (v : ℕ) (text : List ℕ) (new : Links) : Type 0 where
-  added : text ≡ codes "at " ++ pointer_text (next_index old, old.counter) → new ≡ with_capacity_of (insert_lone old v) new → Adds old v text new
+  added : entry_count old < old.capacity → text ≡ added_text old → new ≡ insert_lone old v → Adds old v text new
+  grown : old.capacity ≤ entry_count old → HasRoom greatest_index (entry_count old + 1) new → text ≡ added_text old → new ≡ with_capacity_of (insert_lone old v) new → Adds old v text new
   limited : old.capacity ≤ entry_count old → IsBeyond old.maximum (entry_count old + 1) → text ≡ codes "refused limit" → new ≡ old → Adds old v text new
   refused : old.capacity ≤ entry_count old → (IsBeyond old.maximum (entry_count old + 1) → ⊥) → text ≡ codes "refused memory" → new ≡ old → Adds old v text new
 

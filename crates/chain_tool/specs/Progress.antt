@@ -3,7 +3,7 @@ use Rattle.std.specs.Prelude.{◌≡◌, ℕ, ◌⊎◌, List, [], ◌∷◌, �
 use Rattle.std.specs.Io.KnownBytes.{Appends, Keeps}
 use Rattle.chain_tool.specs.declared.run.ToolError.{ToolError}
 use Rattle.chain_tool.specs.declared.run.ToolError.TheVariants as errors
-use Rattle.chain_tool.specs.Words.{lines_of}
+use Rattle.chain_tool.specs.Words.{lines_of, whole_lines}
 use Rattle.chain_tool.specs.Commands.{line_of}
 use Rattle.chain_tool.specs.Answers.{Links, AnswersLine}
 use Rattle.chain_tool.specs.Transcripts.{Answers, IsCutShort, IsGivenUp}
@@ -26,9 +26,9 @@ pub record Progress (old : Links) (read : List ℕ) (new : Links) (kept : List �
   pub answers : Answers old lines text new
   pub writes : Appends held held_after text
 
--- how far a run has come after more was read
+-- how far a run has come after more was read: where it stops, no line is carried out but whole ones
 abbrev pub Comes : {A : Type 0} → Result A ToolError → Links → List ℕ → Links → List ℕ → Option (List ℕ) → Option (List ℕ) → Type 0
 Comes (Ok x) old read new kept held held_after = Progress old read new kept held held_after
 Comes (Err errors.Read) old read new kept held held_after = ⊥
-Comes (Err errors.Write) old read new kept held held_after = (text : List ℕ) × IsCutShort old new (lines_of read) text × Appends held held_after text
-Comes (Err errors.Memory) old read new kept held held_after = (text : List ℕ) × IsGivenUp old new (lines_of read) text × Appends held held_after text
+Comes (Err errors.Write) old read new kept held held_after = (text : List ℕ) × IsCutShort old new (whole_lines read) text × Appends held held_after text
+Comes (Err errors.Memory) old read new kept held held_after = (text : List ℕ) × IsGivenUp old new (whole_lines read) text × Appends held held_after text

@@ -1,9 +1,11 @@
 //! A run: lines come in from a reader, and their answers go out to a writer.
-ghost use Rattle.std.specs.Prelude.{◌≡◌, ℕ, List, ◌∷◌, [], ◌++◌, OnOk, OnErr, IfErr, take, length, Option, IfOk, ◌<◌, ◌≤◌, vec_len};
+ghost use Rattle.std.specs.Prelude.{◌≡◌, ℕ, List, ◌∷◌, [], ◌++◌, OnOk, OnErr, IfErr, take, length, Option, None, IfOk, ◌<◌, ◌≤◌, vec_len};
 ghost use Rattle.std.specs.Io.KnownBytes.{Appends, Consumes, Keeps, IsAtEnd};
+ghost use Rattle.arena_ptr.specs.Generations.{two32};
+ghost use Rattle.arena_base.specs.Arena.{new_arena};
 ghost use Rattle.chain_tool.specs.Answers.{Links};
 ghost use Rattle.chain_tool.specs.Progress.{AnswersOne, Progress, Comes};
-ghost use Rattle.chain_tool.specs.Transcripts.{IsNew, Ends};
+ghost use Rattle.chain_tool.specs.Transcripts.{Ends};
 
 use crate::answer::answer;
 use arena_base::{ArenaSlot, ArenaTrait};
@@ -187,14 +189,13 @@ pub fn run_on<R: Read, W: Write, S: SlotStack<Item = ArenaSlot<ToolPtr, LinkNoGe
     run_pieces(alloc, arena, reader, writer, &mut piece)
 }
 
-/// Carries out the lines of a reader on an empty arena.
+/// Carries out the lines of a reader on a new arena: empty, with the counter two, no room and no maximum.
 pub fn run<R: Read, W: Write>(
     alloc: Global,
     reader: &mut R,
     writer: &mut W,
 ) -> Result<(), ToolError>
-    ensures { (old : Links) × (new : Links) × IsNew old
-        × Ends result old new (R.remaining reader.old) (R.remaining reader.new) (W.contents writer.old) (W.contents writer.new) }
+    ensures { (new : Links) × Ends result (new_arena two32 None) new (R.remaining reader.old) (R.remaining reader.new) (W.contents writer.old) (W.contents writer.new) }
 {
     let mut arena: ChainArena<ToolPtr, u32> = ChainArena::new(alloc);
     run_on(alloc, &mut arena, reader, writer)

@@ -211,31 +211,41 @@ fn lines_of_200_bytes_and_more(rt: HostRuntime) {
     }
 }
 
-/// Gives its bytes, a few at a time, and then fails.
+/// Gives its bytes, a few at a time, then fails once, and has later ones for who reads on.
 #[derive(Drop)]
 struct FailingReader<'a> {
     left: &'a [u8],
+    later: &'a [u8],
     step: usize,
-    kind: ErrorKind,
+    fails_with: Option<ErrorKind>,
 }
 
 impl Read for FailingReader<'_> {
     fn read(&mut self, buf: &mut [u8]) -> io::Result<usize> {
         let n = self.step.min(buf.len()).min(self.left.len());
         if n == 0 {
-            return Err(io::Error::from(self.kind));
+            if let Some(kind) = self.fails_with.take() {
+                self.left = self.later;
+                return Err(io::Error::from(kind));
+            }
         }
-        let (now, later) = self.left.split_at(n);
+        let (now, next) = self.left.split_at(n);
         buf[..n].copy_from_slice(now);
-        self.left = later;
+        self.left = next;
         Ok(n)
     }
 }
 
-/// Runs the program on a reader that fails in its third line, and looks at what it did before.
+/// Runs the program on a reader that fails once, in its third line, and looks at what it did before, and whether it read
+/// on.
 fn check_reader(rt: &impl Abort, alloc: Global, kind: ErrorKind, step: usize) {
-    let left = "add alone 1\nlen\nadd alone 2".as_bytes();
-    let mut reader = FailingReader { left, step, kind };
+    let later = "5\nlen\n".as_bytes();
+    let mut reader = FailingReader {
+        left: "add alone 1\nlen\nadd alone 2".as_bytes(),
+        later,
+        step,
+        fails_with: Some(kind),
+    };
     let mut written = Vec::new(alloc);
     let mut arena = empty(alloc);
     let result = run_on(alloc, &mut arena, &mut reader, &mut written);
@@ -243,10 +253,11 @@ fn check_reader(rt: &impl Abort, alloc: Global, kind: ErrorKind, step: usize) {
     let lines = "at 1.2\ncount 1\n".as_bytes();
     same(rt, "whole lines are answered", written.as_slice(), lines);
     same(rt, "the unfinished line is not carried out", arena.len(), 1);
+    same(rt, "nothing more is read", reader.left, later);
 }
 
 #[test]
-fn a_reader_that_fails(rt: HostRuntime) {
+fn a_reader_that_fails_once(rt: HostRuntime) {
     for kind in [
         ErrorKind::Other,
         ErrorKind::Interrupted,
@@ -258,7 +269,8 @@ fn a_reader_that_fails(rt: HostRuntime) {
     }
 }
 
-/// Takes a few bytes at a time, up to a limit, and then fails. Each second call is interrupted.
+/// Takes a few bytes at a time, up to a limit, then fails once, and has room again for who writes on. So do its flushes.
+/// Each second write is interrupted.
 #[derive(Drop)]
 struct FailingWriter {
     held: Vec<u8>,
@@ -277,6 +289,7 @@ impl Write for FailingWriter {
         }
         let n = self.step.min(buf.len()).min(self.room);
         if n == 0 {
+            self.room = 1000;
             return match self.fails_with {
                 Some(kind) => Err(io::Error::from(kind)),
                 None => Ok(0),
@@ -290,6 +303,7 @@ impl Write for FailingWriter {
 
     fn flush(&mut self) -> io::Result<()> {
         if self.flushes == 0 {
+            self.flushes = 1000;
             return Err(io::Error::from(ErrorKind::Other));
         }
         self.flushes -= 1;
@@ -313,7 +327,8 @@ fn failing_writer(
     }
 }
 
-/// Runs the program on a writer that fails when it has no room, and looks at what it did before.
+/// Runs the program on a writer that fails once, when it has no room, and looks at what it did before, and whether it
+/// wrote on.
 fn check_writer(
     rt: &impl Abort,
     alloc: Global,
@@ -328,7 +343,8 @@ fn check_writer(
     let result = run_on(alloc, &mut arena, &mut reader, &mut writer);
     same(rt, "the writer fails", result, Err(ToolError::Write));
     let taken = &output[..room.min(output.len())];
-    same(rt, "it has what it took", writer.held.as_slice(), taken);
+    let held = writer.held.as_slice();
+    same(rt, "it has what it took before", held, taken);
     same(
         rt,
         "the line of the last answer is carried out",
@@ -338,7 +354,7 @@ fn check_writer(
 }
 
 #[test]
-fn a_writer_that_fails(rt: HostRuntime) {
+fn a_writer_that_fails_once(rt: HostRuntime) {
     for fails_with in [None, Some(ErrorKind::Other), Some(ErrorKind::WriteZero)] {
         for step in [1, 3, 100] {
             for room in 0..21 {
@@ -358,7 +374,7 @@ fn a_writer_that_is_interrupted(rt: HostRuntime) {
     same(&rt, "all lines come", writer.held.as_slice(), lines);
 }
 
-/// Runs the program on a writer of which a flush fails, and looks at what it wrote before.
+/// Runs the program on a writer of which one flush fails, and looks at what it wrote before, and whether it wrote on.
 fn check_flush(rt: &impl Abort, alloc: Global, flushes: usize, output: &str) {
     let mut reader = "add alone 1\n".as_bytes();
     let mut writer = failing_writer(alloc, 100, 1000, None);

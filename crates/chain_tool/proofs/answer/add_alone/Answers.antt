@@ -1,15 +1,18 @@
 -- The step that was made, also where memory for the answer was refused.
-use Rattle.std.proofs.Common.{◌≡◌, ◌≤◌, ◌∙◌, sym, ap, subst}
-use Rattle.chain_tool.specs.Answers.{Adds}
-use Rattle.chain_tool.proofs.AnswerLemmas.{added_err, adds_refused, adds_ok, adds_err}
-use Rattle.chain_tool.proofs.answer.add_alone.Given.{Over}
+use Rattle.std.proofs.Common.{◌≤◌, subst}
+use Rattle.arena_ptr.specs.ToolPtr.{key_of}
+use Rattle.chain_tool.proofs.AnswerLemmas.{adds_made, adds_pushed, adds_refused, adds_ok, adds_err}
 use Rattle.chain_tool.proofs.answer.add_alone.Goals as goal
 
 pub returns-in_err-push_str-in-Ok-clause-err : goal.returns-in_err-push_str-in-Ok-clause-err
-returns-in_err-push_str-in-Ok-clause-err g c = added_err _ _ _ c.from_residual.result c.in-Ok.ensures.state
+returns-in_err-push_str-in-Ok-clause-err g c = adds_err _ _ _ _ c.from_residual.result (adds_made _ _ _ c.in-Ok.ensures.state_in_room c.in-Ok.ensures.state_grown c.in-Ok.ensures.state)
+
+pub returns-in_ok-push_str-in-Ok-clause-ok : goal.returns-in_ok-push_str-in-Ok-clause-ok
+returns-in_ok-push_str-in-Ok-clause-ok g c = adds_pushed _ _ _ _ _ _ (key_of c.in-Ok.p) c.push_pointer.result c.clear.ensures.bytes c.in_ok-push_str-in-Ok.ensures.bytes c.push_pointer.ensures
+    c.in-Ok.ensures.place c.in-Ok.ensures.generation (adds_made _ _ _ c.in-Ok.ensures.state_in_room c.in-Ok.ensures.state_grown c.in-Ok.ensures.state)
 
 pub returns-in_ok-push_str-in-Ok-clause-err : goal.returns-in_ok-push_str-in-Ok-clause-err
-returns-in_ok-push_str-in-Ok-clause-err g c = added_err _ _ _ c.push_pointer.result c.in-Ok.ensures.state
+returns-in_ok-push_str-in-Ok-clause-err g c = adds_err _ _ _ _ c.push_pointer.result (adds_made _ _ _ c.in-Ok.ensures.state_in_room c.in-Ok.ensures.state_grown c.in-Ok.ensures.state)
 
 pub returns-in-Err-clause-ok : goal.returns-in-Err-clause-ok
 returns-in-Err-clause-ok g c = adds_ok _ _ _ _ _ _ c.push_str-in-Err.result c.clear.ensures.bytes c.push_str-in-Err.ensures.bytes

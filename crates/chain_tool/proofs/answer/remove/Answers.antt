@@ -1,10 +1,7 @@
 -- The answer is the text of the removal.
-use Rattle.std.proofs.Common.{◌≡◌, ◌∙◌, sym, ap, subst}
 use Rattle.arena_ptr.specs.ToolPtr.{key_of}
-use Rattle.chain_tool.specs.Answers.{Removes}
 use Rattle.chain_tool.proofs.AnswerLemmas.{removes_ok, removes_err}
-use Rattle.chain_tool.proofs.RemovalAnswers.{removal_answers, removal_text}
-use Rattle.chain_tool.proofs.answer.remove.Given.{Over}
+use Rattle.chain_tool.proofs.RemovalAnswers.{removal_answers}
 use Rattle.chain_tool.proofs.answer.remove.Goals.{In-Success, In-GenerationOverflow, In-InvalidPtr}
 use Rattle.chain_tool.proofs.answer.remove.Goals as goal
 
