@@ -51,7 +51,8 @@ impl<P: Ptr, T: Drop, S: SlotStack<Item = ArenaSlot<P, T>>> Model for Arena<P, T
 
     ghost use Rattle.arena_base.specs.Slots.{arena_of, freed_of, IsSound};
 
-    ghost view = { λ a. arena_of (S.items a.slots) (freed_of P.Inx.number (S.items a.slots) a.first_free) a.counter P.Inx.greatest (S.capacity a.slots) (S.maximum a.slots) a.placed.count a.touched.count };
+    ghost view = { λ a. arena_of (S.items a.slots) (freed_of P.Inx.number (S.items a.slots) a.first_free) a.counter
+        P.Inx.greatest (S.capacity a.slots) (S.maximum a.slots) a.placed.count a.touched.count };
 
     ghost invariant = { λ a. IsSound P.Inx.number (S.items a.slots) P.Inx.greatest a.len a.first_free (freed_of P.Inx.number (S.items a.slots) a.first_free) };
 }

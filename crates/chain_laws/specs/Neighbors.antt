@@ -1,6 +1,7 @@
 -- The chains of an arena by neighbour pairs: a partition of its links that has its interlinks.
 use Rattle.std.specs.Prelude.{◌≡◌, ◌≢◌, ◌↔◌, ℕ, ◌⊎◌, List, [], ◌∷◌, ◌++◌, None, Some}
-use Rattle.chain_laws.specs.Chains.{Shown, Chain, linear, cyclic, items, all_items, HasChain, Has, HasNoRepetition, IsValid, IsWithin, Agrees, IsChain, AreChains, IsWritten, IsInOrder, first_or, last_or, prev_of, next_of}
+use Rattle.chain_laws.specs.Chains.{Shown, Chain, linear, cyclic, items, all_items, HasChain, Has, HasNoRepetition, IsValid}
+use Rattle.chain_laws.specs.Chains.{IsWithin, Agrees, IsChain, AreChains, IsWritten, IsInOrder, first_or, last_or, prev_of, next_of}
 
 -- b stands directly after a in the list
 abbrev pub IsBeside : List ℕ → ℕ → ℕ → Type 0

@@ -1,5 +1,6 @@
 // The chains of an arena: that there are some, and no others.
-ghost use Rattle.chain_laws.specs.Neighbors.{HasChains, HasNoOtherChains, AreByNeighbors, AgreesByPairs, AgreesByChains, HasChainOfEach, HasNoOtherOfEach, AreSameInAnyOrder, AreTurnedInAnyOrder, TurnsFreely, SharesOnlyTurned};
+ghost use Rattle.chain_laws.specs.Neighbors.{HasChains, HasNoOtherChains, AreByNeighbors, AgreesByPairs, AgreesByChains};
+ghost use Rattle.chain_laws.specs.Neighbors.{HasChainOfEach, HasNoOtherOfEach, AreSameInAnyOrder, AreTurnedInAnyOrder, TurnsFreely, SharesOnlyTurned};
 
 /// An arena whose interlinks agree has exactly one list of chains, in order, that partitions its links and has its interlinks.
 pub fn one_set_of_chains()

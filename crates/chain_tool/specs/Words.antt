@@ -1,5 +1,6 @@
 -- Lines, words, numbers and pointers of a text. A text is its bytes: 10 ends a line, 32 parts words, 46 parts a pointer.
-use Rattle.std.specs.Prelude.{◌≡◌, refl, ℕ, leb, ◌-◌, ◌==◌, ◌&&◌, nat_lt, nat_le, Bool, true, false, if◌then◌else◌, List, [], ◌∷◌, length, take, slice_index, filter, Option, Some, None, option_and_then}
+use Rattle.std.specs.Prelude.{◌≡◌, refl, ℕ, leb, ◌-◌, ◌==◌, ◌&&◌, nat_lt, nat_le, Bool, true, false}
+use Rattle.std.specs.Prelude.{if◌then◌else◌, List, [], ◌∷◌, length, take, slice_index, filter, Option, Some, None, option_and_then}
 use Rattle.std.specs.List.{slice_split, before_first, after_first}
 use Rattle.std.specs.Str.{all_ascii_digits}
 use Rattle.std.specs.Str.Parse.{digits_value}
