@@ -54,6 +54,27 @@ fn an_index_type_of_255(rt: HostRuntime) {
     );
 }
 
+// Room up to the greatest index is to be had, though in proportion it would be more. A new arena follows each drain.
+#[test]
+fn room_up_to_the_greatest_index(rt: HostRuntime) {
+    plays::<HeapStack<Slots>>(
+        &rt,
+        rt.alloc(),
+        &[
+            (Call::Reserve(255), "Ok(())"),
+            (Call::Capacity, "255"),
+            (Call::Drain, "[]"),
+            (Call::Insert(10), "Ok(1.2)"),
+            (Call::Reserve(255), "Ok(())"),
+            (Call::Capacity, "255"),
+            (Call::Drain, "[(1.2, 10)]"),
+            (Call::Reserve(200), "Ok(())"),
+            (Call::Reserve(201), "Ok(())"),
+            (Call::HasRoom(201), "true"),
+        ],
+    );
+}
+
 #[test]
 fn a_generation_type_of_255(rt: HostRuntime) {
     plays::<HeapStack<Slots>>(
