@@ -28,8 +28,10 @@ fn check_births<A: ArenaTrait<SmallPtr, u32> + Drop>(rt: &impl Abort, alloc: Glo
         &mut arena,
         &[(Call::IsEmpty, "true"), (Call::HasRoom(3), "true")],
     );
-    let wide = A::with_min_capacity(alloc, 256);
-    same(rt, "beyond every index", wide.is_err(), true);
+    for (n, want) in [(200, true), (255, true), (256, false)] {
+        let born = A::with_min_capacity(alloc, n);
+        same(rt, "up to the greatest index", born.is_ok(), want);
+    }
 }
 
 // The calls of the trait, over the entries 10, 20 and 30 at 1, 2 and 3, which are removed.

@@ -299,6 +299,15 @@ fn check_edits<S: SlotStack<Item = u32>>(rt: &impl Abort, alloc: Global) {
     same(rt, "emptied", shape(&stack), (0, capacity, None));
 }
 
+// A growth that goes far beyond twice the capacity.
+fn check_far_growth<S: SlotStack<Item = u32>>(rt: &impl Abort, alloc: Global) {
+    let mut stack = S::new(alloc);
+    fill(rt, &mut stack, 1);
+    same(rt, "room for one", shape(&stack), (1, 1, None));
+    let grown = stack.reserve_to(100).is_ok() && stack.capacity() >= 100;
+    same(rt, "room for a hundred", (grown, stack.len()), (true, 1));
+}
+
 // A reservation that no block can hold changes nothing.
 fn check_refused_memory<S: SlotStack<Item = u32>>(rt: &impl Abort, alloc: Global, stack: &mut S) {
     fill(rt, stack, 3);
@@ -355,6 +364,14 @@ fn check_maximum<S: LimitStack<Item = u32>>(rt: &impl Abort, alloc: Global, stac
             (
                 Call::Push(7),
                 "(BeyondMaximum, (7, 7, Some(7)), [0, 1, 2, 3, 4, 5, 6])",
+            ),
+            (
+                Call::Limit(100),
+                "(Done, (7, 7, Some(100)), [0, 1, 2, 3, 4, 5, 6])",
+            ),
+            (
+                Call::Reserve(100),
+                "(Done, (7, 100, Some(100)), [0, 1, 2, 3, 4, 5, 6])",
             ),
         ],
     );
@@ -428,6 +445,7 @@ fn check_limits<S: LimitStack<Item = u32>>(rt: &impl Abort, alloc: Global) {
 fn check_list<S: SlotStack<Item = u32>>(rt: &impl Abort, alloc: Global) {
     check_edits::<S>(rt, alloc);
     check_ends::<S>(rt, alloc);
+    check_far_growth::<S>(rt, alloc);
     check_refused_memory(rt, alloc, &mut S::new(alloc));
 }
 

@@ -2,15 +2,20 @@
 
 use super::pointers::{BarePtr, SmallPtr};
 use super::{LimitedChains, same};
-use arena_base::ArenaTrait;
+use arena_base::{ArenaSlot, ArenaTrait};
 use arena_ptr::{
-    ChainInsertionError, Gen8, InvalidationOption, InvalidationResult, Inx8,
-    MaxCapacityReductionError, Ptr, ReallocationError, SetMaxCapacity,
+    ChainInsertionError, Gen8, InvalidationOption, InvalidationResult, Inx8, LimitStack,
+    LimitedStack, MaxCapacityReductionError, Ptr, ReallocationError, SetMaxCapacity,
 };
-use chain_arena::{ChainArena, ChainArenaTrait, LinkInsertKind};
+use chain_arena::{ChainArena, ChainArenaTrait, LinkInsertKind, LinkNoGen};
+use std::alloc::Global;
 use std::process::Abort;
+use std::rc::Rc;
 
 type Bare = ChainArena<BarePtr, u32>;
+
+// A slot for a link with one of several equal values, each of which tells how many of them there are.
+type Shared = ArenaSlot<BarePtr, LinkNoGen<BarePtr, Rc<u8>>>;
 
 // A pointer to an index alone.
 fn bare(rt: &impl Abort, inx: u8) -> BarePtr {
@@ -40,6 +45,28 @@ fn an_index_type_of_255(rt: HostRuntime) {
     let refused = arena.reallocate_min_capacity(256);
     assert!(rt; refused == Err(ReallocationError::AllocError));
     same(&rt, "as before", room(&arena), (255, 255));
+}
+
+// The links and the capacity of an arena of so many links that is given room up to the greatest index.
+fn reserved(rt: &impl Abort, alloc: Global, count: u32) -> (usize, usize) {
+    let mut arena = Bare::new(alloc);
+    for k in 0..count {
+        add(rt, &mut arena, k);
+    }
+    arena.reallocate_min_capacity(255).expect(rt, "room");
+    room(&arena)
+}
+
+// Room up to the greatest index is to be had, though in proportion it would be more.
+#[test]
+fn room_up_to_the_greatest_index(rt: HostRuntime) {
+    for n in [200, 255] {
+        let born = Bare::with_min_capacity(rt.alloc(), n);
+        same(&rt, "at birth", born.is_ok(), true);
+    }
+    for (count, want) in [(0, (0, 255)), (1, (1, 255))] {
+        same(&rt, "later", reserved(&rt, rt.alloc(), count), want);
+    }
 }
 
 // Each link of an arena without generations, by its index: its value and its neighbors.
@@ -133,4 +160,29 @@ fn check_full(rt: &impl Abort, arena: &mut LimitedChains) {
     assert!(rt; refused == Err(MaxCapacityReductionError));
     assert!(rt; arena.len() == 2 && arena.capacity() == 2);
     assert!(rt; arena.max_capacity() == Some(2));
+}
+
+// Hands 300 values to an arena with a maximum, and tells how many it holds and how many there are.
+fn handed<S: LimitStack<Item = Shared>>(
+    rt: &impl Abort,
+    alloc: Global,
+    most: usize,
+) -> (usize, usize) {
+    let value = Rc::new(alloc, 5).ok().expect(rt, "memory");
+    let mut arena: ChainArena<BarePtr, Rc<u8>, S> = ChainArena::new(alloc);
+    assert!(rt; arena.set_max_capacity(most).is_ok());
+    for _ in 0..300 {
+        let one = value.clone().expect(rt, "one more");
+        let _ = arena.insert_reallocating(LinkInsertKind::Disconnected, one);
+    }
+    (arena.len(), Rc::strong_count(&value))
+}
+
+// A value that an insertion refuses is dropped: there are those in the arena, and the one that they are shared from.
+#[test]
+fn refused_values_are_dropped(rt: HostRuntime) {
+    for (most, want) in [(2, (2, 3)), (1000, (255, 256))] {
+        let values = handed::<LimitedStack<Shared>>(&rt, rt.alloc(), most);
+        same(&rt, "values", values, want);
+    }
 }
