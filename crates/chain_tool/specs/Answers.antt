@@ -6,9 +6,9 @@ use Rattle.arena_ptr.specs.ToolPtr.{key_of}
 use Rattle.arena_ptr.specs.declared.generation.gen32.Gen32.{Gen32}
 use Rattle.chain_laws.specs.Operations.{joined}
 use Rattle.arena_ptr.specs.SlotStack.{IsBeyond}
-use Rattle.arena_base.specs.Arena.{Arena, IsValid, entry_at, entry_count, next_index, with_capacity_of, HasRoom}
+use Rattle.arena_base.specs.Arena.{Arena, IsValid, entry_count, next_index, with_capacity_of, HasRoom}
 use Rattle.chain_arena.specs.ChainArena as chain
-use Rattle.chain_arena.specs.ChainArena.{LinkSeen, shown, values_of, relinked, insert_lone, remove_link, IsWalkOf}
+use Rattle.chain_arena.specs.ChainArena.{LinkSeen, shown, entry, relinked, insert_lone, remove_link, IsWalkOf}
 use Rattle.chain_tool.specs.declared.command.Command.{Command}
 use Rattle.chain_tool.specs.declared.command.Command.TheVariants.{AddAlone, Connect, Remove, Show, Chain, Len}
 use Rattle.chain_tool.specs.declared.command.Line.{Line}
@@ -44,14 +44,14 @@ walk_text links = join_with_byte 32 (map link_text links)
 
 -- a pointer is valid: a link stands at its index with its generation
 abbrev pub IsValidIn : Links → ℕ × Gen32 → Type 0
-IsValidIn a p = IsValid (entry_at (values_of a)) p
+IsValidIn a p = IsValid (entry a) p
 
 abbrev pub CanConnect : Links → ℕ × Gen32 → ℕ × Gen32 → Type 0
-CanConnect a p q = chain.CanConnect (entry_at (values_of a)) (shown a) p q
+CanConnect a p q = chain.CanConnect (entry a) (shown a) p q
 
 -- the link of a pointer, with the pointers of now to its neighbours, and its value
 abbrev pub IsLinkAt : Links → ℕ × Gen32 → Option (ℕ × Gen32) → Option (ℕ × Gen32) → ℕ → Type 0
-IsLinkAt a p prev next value = chain.IsLinkAt (entry_at (values_of a)) (shown a) p prev next value
+IsLinkAt a p prev next value = chain.IsLinkAt (entry a) (shown a) p prev next value
 
 -- the pointer of the next link
 abbrev pub added_text : Links → List ℕ
@@ -88,7 +88,7 @@ overflow_text true = codes " overflow"
 
 -- the link is gone, and those that it stood between are joined
 pub data Removes (old : Links) (p : ℕ × Gen32) (text : List ℕ) (new : Links) : Type 0 where
-  removed : (value : ℕ) → entry_at (values_of old) p.0 ≡ Some (p.1, value) → text ≡ codes "value " ++ decimal value ++ overflow_text (is_greatest32 old.counter)
+  removed : (value : ℕ) → entry old p.0 ≡ Some (p.1, value) → text ≡ codes "value " ++ decimal value ++ overflow_text (is_greatest32 old.counter)
       → new ≡ remove_link after32 old p.0 → Removes old p text new
   not_removed : (IsValidIn old p → ⊥) → text ≡ codes "none" → new ≡ old → Removes old p text new
 
