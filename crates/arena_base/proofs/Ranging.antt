@@ -119,10 +119,6 @@ module _ {Gen T : Type 0} where
   drop-none [] = refl
   drop-none (s ∷ slots) = refl
 
-  -- all entries from the first position on
-  pub entries_from-start : (slots : List (Option (Gen × T))) → entries_from (0 + 1) (drop 0 slots) ≡ entries_from 1 slots
-  entries_from-start slots = ap (entries_from 1) (drop-none slots)
-
   first_split : (slots : List (Option (Gen × T))) (m i : ℕ) (g : Gen) → first_key (entries_from m slots) ≡ Some (i, g)
       → (t : T) × (k : ℕ) × (m + k ≡ i) × (slice_index_or slots k None ≡ Some (g, t)) × (entries_from m slots ≡ ((i, g), t) ∷ entries_from (suc i) (drop (suc k) slots))
   first_split [] m i g first = cc
@@ -163,11 +159,6 @@ module _ {Gen T : Type 0} where
         ap (slot_at slots) (sym index) ∙ found.3,
         found.4 ∙ (ap (λ m. ((i, g), found.0) ∷ entries_from m (drop (suc found.1) slots)) behind ∙ ap (λ m. ((i, g), found.0) ∷ entries_from (i + 1) (drop m slots)) index),
       )
-
-  -- no key, no entries
-  pub no_first : (es : List ((ℕ × Gen) × T)) → None ≡ first_key es → es ≡ []
-  no_first [] none = refl
-  no_first (e ∷ es) none = cc
 
   -- what lies behind a slot does not change with it
   pub drop-with_slot : (slots : List (Option (Gen × T))) (i : ℕ) (slot : Option (Gen × T)) → drop i (with_slot slots i slot) ≡ drop i slots

@@ -125,15 +125,6 @@ module _ {P T Inx Gen : Type 0} (number : Inx → ℕ) where
     pub linked : IsFreeList number slots (free_from (suc k) (drop k entries)) head
     pub counted : len ≡ count_by is_some (drop k entries)
 
-  pub listing_begins : (slots : List (ArenaSlot P T Inx Gen)) (k : ℕ) → length slots ≡ k → IsListing slots (map entry_of slots) k 0 None
-  listing_begins slots k is =
-      let none = drop-past (map entry_of slots) k (omega (arith, is, length-map slots)) in
-      record {
-        same = refl;
-        linked = subst (λ es. IsFreeList number slots (free_from (suc k) es) None) (sym none) refl;
-        counted = ap (count_by is_some) (sym none);
-      }
-
   module _ {slots : List (ArenaSlot P T Inx Gen)} {entries : List (Option (Gen × T))} {n len : ℕ} {head : Option Inx} (l : IsListing slots entries n len head) (k : ℕ) (at : suc k ≡ n) (below : k < length slots) where
     entry_there : slice_index_or entries k None ≡ entry_in (slice_get slots k)
     entry_there = ap (λ es. slice_index_or es k None) (sym l.same) ∙ slice_index_or-map slots k

@@ -37,8 +37,11 @@ module _ {Gen T : Type 0} where
     pub first : answer ≡ first_key (ahead look es)
     pub moves : after ≡ look_after look answer
 
-  -- what is asked of a call of any advancer: nothing once a call has answered none
+  -- what is asked of a call of any advancer: nothing of what it becomes with the answer none, and nothing of one that
+  -- looks nowhere
   abbrev pub IsLookUntilNone : List ((ℕ × Gen) × T) → Look → Option (ℕ × Gen) → Look → Type 0
-  IsLookUntilNone es (Up i) answer after = IsLook es (Up i) answer after
-  IsLookUntilNone es (Down i) answer after = IsLook es (Down i) answer after
+  IsLookUntilNone es (Up i) (Some p) after = IsLook es (Up i) (Some p) after
+  IsLookUntilNone es (Down i) (Some p) after = IsLook es (Down i) (Some p) after
+  IsLookUntilNone es (Up i) None after = ahead (Up i) es ≡ []
+  IsLookUntilNone es (Down i) None after = ahead (Down i) es ≡ []
   IsLookUntilNone es Nowhere answer after = ⊤

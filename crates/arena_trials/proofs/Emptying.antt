@@ -41,12 +41,8 @@ module _ {Gen T : Type 0} where
           subst_rises : e.0 ≡ key → RisesFrom (suc e.0.0) fs → RisesFrom (suc key.0) fs
           subst_rises at more = rw (← at) more
 
-  pub none_left : (es : List ((ℕ × Gen) × T)) (from : ℕ) → RisesFrom from es → None ≡ first_key (from_index from es) → es ≡ []
-  none_left es from rises none = nothing es (none ∙ ap first_key (all_ahead es from rises))
-    where
-      nothing : (fs : List ((ℕ × Gen) × T)) → None ≡ first_key fs → fs ≡ []
-      nothing [] is = refl
-      nothing (f ∷ fs) is = cc
+  pub none_left : (es : List ((ℕ × Gen) × T)) (from : ℕ) → RisesFrom from es → from_index from es ≡ [] → es ≡ []
+  none_left es from rises none = sym (all_ahead es from rises) ∙ none
 
   -- an index finds the first entry
   pub finds_it : (es : List ((ℕ × Gen) × T)) (from n : ℕ) (key : ℕ × Gen) → RisesFrom from es → Some key ≡ first_key (from_index from es) → n ≡ key.0 → None ≡ found n es → ⊥

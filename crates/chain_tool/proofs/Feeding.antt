@@ -41,9 +41,6 @@ line_of-take rest = by_length (nat_lt 201 (length rest)) refl
 
 -- ---- lines
 
-abbrev is_end : ℕ → Bool
-is_end c = c == 10
-
 abbrev some_line : List (List ℕ) → Type 0
 some_line [] = ⊥
 some_line (line ∷ others) = Unit {0}

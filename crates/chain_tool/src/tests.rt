@@ -1,9 +1,10 @@
 //! Runs of the program over readers and writers in memory.
-ghost use Rattle.std.specs.Prelude.{◌≡◌, ◌∷◌, [], codes, Some, None, option_map};
+ghost use Rattle.std.specs.Prelude.{◌≡◌, ℕ, List, ◌∷◌, [], codes, Some, None, option_map};
 ghost use Rattle.chain_tool.specs.declared.command.Command.TheVariants.{AddAlone, Len};
 ghost use Rattle.chain_tool.specs.declared.command.Line.TheVariants.{Blank, Bad, Good};
 ghost use Rattle.chain_tool.specs.Words.{lines_of, whole_lines, without_return, words_of, number_of, pointer_of};
 ghost use Rattle.chain_tool.specs.Commands.{line_of};
+ghost use Rattle.chain_tool.specs.Transcripts.{AreComplete};
 
 use crate::run::{ToolError, run, run_on};
 use arena_base::{ArenaSlot, ArenaTrait};
@@ -82,6 +83,8 @@ fn definitions()
     ensures add { line_of (codes "add alone 7") ≡ Good (AddAlone 7) }
     ensures later_command { line_of (codes "add end 1.2 7") ≡ Bad }
     ensures blank { line_of (codes " ") ≡ Blank }
+    ensures unfinished { (lines : List (List ℕ)) → AreComplete (codes "add alone 2") (Some (codes "5")) lines → lines ≡ [] }
+    ensures finished { AreComplete (codes "add alone 2") (Some []) (codes "add alone 2" ∷ []) }
 {}
 
 #[test]

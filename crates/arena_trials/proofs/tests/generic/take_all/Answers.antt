@@ -15,7 +15,7 @@ use Rattle.arena_trials.proofs.tests.generic.take_all.Goals as goal
 -- a call of the advancer
 looks_up : (g : Over) (arena : g.row.A.Denot) (before after : g.row.A-PtrAdvancer.Denot) (answer : Option g.row.P.Denot) (from : ℕ) → g.A.ArenaTrait.looks before ≡ Up from
     → g.A.PtrAdvancer.Advancer.gives before arena answer after
-    → IsLook (g.A.ArenaTrait.seen arena).entries (Up from) (option_map g.P.Ptr.key answer) (g.A.ArenaTrait.looks after)
+    → IsLookUntilNone (g.A.ArenaTrait.seen arena).entries (Up from) (option_map g.P.Ptr.key answer) (g.A.ArenaTrait.looks after)
 looks_up g arena before after answer from is given =
     subst (λ l. IsLookUntilNone (g.A.ArenaTrait.seen arena).entries l (option_map g.P.Ptr.key answer) (g.A.ArenaTrait.looks after)) is
     (g.met.A.ArenaTrait.advances before after arena answer given)
@@ -43,7 +43,7 @@ step g c met =
 nothing : (g : Over) (arena : g.row.A.Denot) (before after : g.row.A-PtrAdvancer.Denot) (from : ℕ) → g.A.ArenaTrait.looks before ≡ Up from → RisesFrom from (g.A.ArenaTrait.seen arena).entries
     → g.A.PtrAdvancer.Advancer.gives before arena None after → (g.A.ArenaTrait.seen arena).entries ≡ []
 nothing g arena before after from looks rises given =
-    none_left (g.A.ArenaTrait.seen arena).entries from rises (looks_up g arena before after None from looks given).first
+    none_left (g.A.ArenaTrait.seen arena).entries from rises (looks_up g arena before after None from looks given)
 
 pub unreachable-requires : goal.unreachable-requires
 unreachable-requires g c =
