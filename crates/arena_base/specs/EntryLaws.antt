@@ -1,6 +1,6 @@
 -- The entries of slots rise, and an index finds among them what stands in its slot.
-use Rattle.std.specs.Prelude.{◌≡◌, ℕ, zero, suc, ◌+◌, ◌<◌, ◌≤◌, ◌==◌, true, false, cond, List, [], ◌∷◌, Option, None, Some, slice_index_or}
-use Rattle.std.proofs.Common.{refl, ap, ◌∙◌, arith, rules}
+use Rattle.std.specs.Prelude.{◌≡◌, ℕ, zero, suc, ◌+◌, ◌<◌, ◌≤◌, cond, List, [], ◌∷◌, Option, None, Some, slice_index_or}
+use Rattle.std.proofs.Common.{refl, ap, ◌∙◌, arith}
 use Rattle.std.proofs.lemmas.Bool.{eq-eqb, ne_eqb}
 use Rattle.arena_base.specs.Arena.{Arena, entry_at}
 use Rattle.arena_base.specs.Entries.{entries_from, entries, found, RisesFrom}

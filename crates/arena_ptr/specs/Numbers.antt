@@ -1,7 +1,7 @@
 -- Numbers from 1 to a greatest one, as indexes and generations hold them.
 use Rattle.std.specs.Prelude.{◌≡◌, ℕ, ◌+◌, ◌==◌, ◌≤◌, ◌↔◌, true, if◌then◌else◌}
 use Rattle.std.specs.Coded.{le_prop, ×_prop}
-use Rattle.std.proofs.Common.{subst, ap, arith, rules}
+use Rattle.std.proofs.Common.{subst, ap, arith}
 use Rattle.std.proofs.lemmas.Bool.{eqb-true, eq-eqb}
 use Rattle.std.proofs.lemmas.Grind.{common_steps}
 

@@ -1,5 +1,5 @@
 -- What the chains of an arena decide: what it shows, and that a contract in chains leaves no choice.
-use Rattle.std.specs.Prelude.{◌≡◌, ◌↔◌, ℕ, ◌⊎◌, List, [], ◌∷◌, ◌++◌, Option, None, Some}
+use Rattle.std.specs.Prelude.{◌≡◌, ℕ, ◌⊎◌, List, [], ◌∷◌, ◌++◌, Option, None, Some}
 use Rattle.std.proofs.Common.{sym, refl, ap, ◌∙◌, subst, inl, inr}
 use mathlib.Core.Path.{fun_ext}
 use Rattle.chain_laws.specs.Chains.{Shown, Interlinks, Chain, linear, cyclic, items, IsChain, IsValid, IsWithin, Agrees, Has, Stands, prev_of, next_of, first_or, last_or}

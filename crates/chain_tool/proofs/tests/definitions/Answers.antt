@@ -1,4 +1,4 @@
-use Rattle.std.proofs.Common.{◌≡◌, ℕ, List, [], ◌∷◌, Some, refl}
+use Rattle.std.proofs.Common.{◌≡◌, ℕ, List, [], Some, refl}
 use Rattle.std.specs.Prelude.{codes}
 use Rattle.chain_tool.specs.Transcripts.{AreComplete, by_line_feed, by_the_end}
 use Rattle.chain_tool.specs.Words.{index_of, generation_of}
