@@ -2,6 +2,7 @@
 use Rattle.std.proofs.Common.{◌≡◌, ℕ, zero, suc, ◌+◌, ◌<◌, List, [], ◌∷◌, length, map, Option, None, Some, refl, ap, sym, ◌∙◌, arith}
 use Rattle.std.specs.Prelude.{slice_index_or, slice_get, slice_set, swap}
 use Rattle.std.specs.Option.{option_map}
+use Rattle.std.proofs.lemmas.List.{length-map}
 use Rattle.arena_base.specs.Arena.{slot_at, with_slot}
 use Rattle.arena_base.specs.Compacting.{Held, placed, held_with_value}
 use Rattle.arena_base.specs.Slots.{entry_of, entry_in, with_value_in, with_generation_in, with_generation_at, held_slots}
@@ -72,7 +73,7 @@ module _ {P T Inx Gen : Type 0} where
       let b : Option (Gen × T) = slice_index_or es j None in
       let inner : List (Option (Gen × T)) = slice_set es i b in
       let moved = map-swap slots i j first second in
-      let long : j < length inner = omega (arith, second, length-slice_set es i b, mapped slots) in
+      let long : j < length inner = omega (arith, second, length-slice_set es i b, length-map slots entry_of) in
       let all : map entry_of (with_generation_at (swap slots i j) j g) ≡ with_slot (with_slot es from (slot_at es to)) to (regenerated g (slot_at es from)) =
       map-with_generation_at (swap slots i j) j g
       ∙ (ap (λ fs. slice_set fs j (regenerated g (slice_index_or fs j None))) moved
@@ -83,10 +84,6 @@ module _ {P T Inx Gen : Type 0} where
       ∙ (ap (λ fs. slice_set fs j (regenerated g (slot_at es from))) (sym (with_slot-position es i from (slot_at es to) at_from))
       ∙ sym (with_slot-position (with_slot es from (slot_at es to)) j to (regenerated g (slot_at es from)) at_to))))))) in
       ap (λ fs. let h : Held Gen T = record { slots = fs; stack_capacity = capacity; maximum = maximum } in h) all
-    where
-      mapped : (xs : List (ArenaSlot P T Inx Gen)) → length (map entry_of xs) ≡ length xs
-      mapped [] = refl
-      mapped (x ∷ xs) = ap suc (mapped xs)
 
   -- a value is written
   pub held_lent : (slots items : List (ArenaSlot P T Inx Gen)) (capacity room : ℕ) (maximum most : Option ℕ) (k n : ℕ) (slot : ArenaSlot P T Inx Gen) (w : T) → k + 1 ≡ n → slice_get slots k ≡ Some slot

@@ -87,10 +87,6 @@ module _ {P T Inx Gen : Type 0} where
   map-push [] slot = refl
   map-push (s ∷ slots) slot = ap (λ es. entry_of s ∷ es) (map-push slots slot)
 
-  pub length-map : (slots : List (ArenaSlot P T Inx Gen)) → length (map entry_of slots) ≡ length slots
-  length-map [] = refl
-  length-map (s ∷ slots) = ap suc (length-map slots)
-
   pub slice_index_or-map : (slots : List (ArenaSlot P T Inx Gen)) (k : ℕ) → slice_index_or (map entry_of slots) k None ≡ entry_in (slice_get slots k)
   slice_index_or-map [] k = refl
   slice_index_or-map (s ∷ slots) zero = refl

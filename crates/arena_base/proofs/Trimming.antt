@@ -1,12 +1,13 @@
 -- Free slots cut off the end, and the free slots that are left listed by rising index.
 use Rattle.std.proofs.Common.{◌≡◌, ℕ, zero, suc, ◌+◌, ◌<◌, ◌≤◌, cond, List, [], ◌∷◌, length, map, take, drop, Option, None, Some, refl, ap, sym, ◌∙◌, subst, arith, inl, inr}
 use Rattle.std.specs.Prelude.{true, false, IsSome, IfSome, count_by, is_some, is_none, slice_index_or, slice_get, slice_set}
+use Rattle.std.proofs.lemmas.List.{length-map}
 use Rattle.std.proofs.lemmas.List.Sums.{sum_by-cons}
 use Rattle.arena_base.specs.Arena.{Has, IsApart}
 use Rattle.arena_base.specs.Compacting.{before_cut, trimmed, free_from}
 use Rattle.arena_base.specs.Slots.{item_at, entry_of, entry_in, free_slot, IsFreeList, IsSound}
 use Rattle.arena_base.specs.declared.slot.ArenaSlot.{ArenaSlot}
-use Rattle.arena_base.proofs.Reading.{slice_get-below, slice_get-set-same, slice_index_or-map, length-map, map-slice_set}
+use Rattle.arena_base.proofs.Reading.{slice_get-below, slice_get-set-same, slice_index_or-map, map-slice_set}
 use Rattle.arena_base.proofs.FreeSlots.{there, free_of}
 use Rattle.arena_base.proofs.Soundness.{IsFreeList-set}
 
@@ -101,7 +102,7 @@ module _ {P T Inx Gen : Type 0} where
       → trimmed (take k (map entry_of slots)) ≡ trimmed (map entry_of slots)
   cut_more slots k n at below free rest =
       let next : suc k ≡ n = omega (arith, at) in
-      sym (trimmed-cut (map entry_of slots) k (omega (arith, below, length-map slots)) (slice_index_or-map slots k ∙ none_of (entry_in (slice_get slots k)) free))
+      sym (trimmed-cut (map entry_of slots) k (omega (arith, below, length-map slots entry_of)) (slice_index_or-map slots k ∙ none_of (entry_in (slice_get slots k)) free))
       ∙ (ap (λ m. trimmed (take m (map entry_of slots))) next ∙ rest)
 
   -- the cut ends behind an entry
@@ -130,7 +131,7 @@ module _ {P T Inx Gen : Type 0} (number : Inx → ℕ) where
     entry_there = ap (λ es. slice_index_or es k None) (sym l.same) ∙ slice_index_or-map slots k
 
     within : k < length entries
-    within = omega (arith, below, length-map slots, ap length l.same)
+    within = omega (arith, below, length-map slots entry_of, ap length l.same)
 
     -- an entry is counted
     pub listing_counts : (e : Gen × T) → entry_in (slice_get slots k) ≡ Some e → IsListing slots entries k (len + 1) head
@@ -173,7 +174,7 @@ module _ {P T Inx Gen : Type 0} (number : Inx → ℕ) where
         apart = free_from-apart entries 1;
         covers = λ n next free. listed n next free;
         counted = l.counted ∙ (ap (count_by is_some) all ∙ ap (count_by is_some) (sym l.same));
-        total = omega (arith, l.counted, ap (count_by is_some) all, free_from-total entries 1, ap length l.same, length-map slots);
+        total = omega (arith, l.counted, ap (count_by is_some) all, free_from-total entries 1, ap length l.same, length-map slots entry_of);
         fits = few;
       }
     where
@@ -181,7 +182,7 @@ module _ {P T Inx Gen : Type 0} (number : Inx → ℕ) where
       listed zero next free = cc
       listed (suc k) next free =
           let below = slice_get-below slots k (free_slot next) free in
-          free_from-has entries 1 k (suc k) (omega arith) (omega (arith, below, length-map slots, ap length l.same))
+          free_from-has entries 1 k (suc k) (omega arith) (omega (arith, below, length-map slots entry_of, ap length l.same))
           (ap (λ es. slice_index_or es k None) (sym l.same) ∙ (slice_index_or-map slots k ∙ ap entry_in free))
 
   -- one step of the listing, at a free slot
