@@ -2,13 +2,13 @@
 use Rattle.std.proofs.Common.{◌≡◌, ℕ, zero, suc, ◌+◌, ◌<◌, List, [], ◌∷◌, length, map, Option, None, Some, refl, ap, sym, ◌∙◌, arith}
 use Rattle.std.specs.Prelude.{slice_index_or, slice_get, slice_set, swap}
 use Rattle.std.specs.Option.{option_map}
-use Rattle.std.proofs.lemmas.List.{length-map}
+use Rattle.std.proofs.lemmas.List.{length-map, length-set}
 use Rattle.arena_base.specs.Arena.{slot_at, with_slot}
 use Rattle.arena_base.specs.Compacting.{Held, placed, held_with_value}
 use Rattle.arena_base.specs.Slots.{entry_of, entry_in, with_value_in, with_generation_in, with_generation_at, held_slots}
 use Rattle.arena_base.specs.declared.slot.ArenaSlot.{ArenaSlot}
 use Rattle.arena_base.specs.declared.slot.ArenaSlot.TheVariants.{Allocated, Free}
-use Rattle.arena_base.proofs.Reading.{map-slice_set, slot_at-map, length-slice_set, with_slot-position}
+use Rattle.arena_base.proofs.Reading.{map-slice_set, slot_at-map, with_slot-position}
 use Rattle.arena_base.proofs.Viewing.{entry_of-written}
 
 module _ {X : Type 0} where
@@ -62,7 +62,7 @@ module _ {P T Inx Gen : Type 0} where
   length-swap [] i j = refl
   length-swap (d ∷ rest) i j =
       let slots : List (ArenaSlot P T Inx Gen) = d ∷ rest in
-      length-slice_set (slice_set slots i (slice_index_or slots j d)) j (slice_index_or slots i d) ∙ length-slice_set slots i (slice_index_or slots j d)
+      length-set (slice_set slots i (slice_index_or slots j d)) j (slice_index_or slots i d) ∙ length-set slots i (slice_index_or slots j d)
 
   -- two slots are exchanged, and the second gets a generation
   pub held_placed : (slots : List (ArenaSlot P T Inx Gen)) (capacity : ℕ) (maximum : Option ℕ) (i j from to : ℕ) (g : Gen) → i + 1 ≡ from → j + 1 ≡ to → i < length slots → j < length slots
@@ -73,7 +73,7 @@ module _ {P T Inx Gen : Type 0} where
       let b : Option (Gen × T) = slice_index_or es j None in
       let inner : List (Option (Gen × T)) = slice_set es i b in
       let moved = map-swap slots i j first second in
-      let long : j < length inner = omega (arith, second, length-slice_set es i b, length-map slots entry_of) in
+      let long : j < length inner = omega (arith, second, length-set es i b, length-map slots entry_of) in
       let all : map entry_of (with_generation_at (swap slots i j) j g) ≡ with_slot (with_slot es from (slot_at es to)) to (regenerated g (slot_at es from)) =
       map-with_generation_at (swap slots i j) j g
       ∙ (ap (λ fs. slice_set fs j (regenerated g (slice_index_or fs j None))) moved
