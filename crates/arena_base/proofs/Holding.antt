@@ -2,13 +2,13 @@
 use Rattle.std.proofs.Common.{◌≡◌, ℕ, zero, suc, ◌+◌, ◌<◌, List, [], ◌∷◌, length, map, Option, None, Some, refl, ap, sym, ◌∙◌, arith}
 use Rattle.std.specs.Prelude.{slice_index_or, slice_get, slice_set, swap}
 use Rattle.std.specs.Option.{option_map}
-use Rattle.std.proofs.lemmas.List.{length-map, length-set}
+use Rattle.std.proofs.lemmas.List.{length-map, length-set, map-set}
 use Rattle.arena_base.specs.Arena.{slot_at, with_slot}
 use Rattle.arena_base.specs.Compacting.{Held, placed, held_with_value}
 use Rattle.arena_base.specs.Slots.{entry_of, entry_in, with_value_in, with_generation_in, with_generation_at, held_slots}
 use Rattle.arena_base.specs.declared.slot.ArenaSlot.{ArenaSlot}
 use Rattle.arena_base.specs.declared.slot.ArenaSlot.TheVariants.{Allocated, Free}
-use Rattle.arena_base.proofs.Reading.{map-slice_set, slot_at-map, with_slot-position}
+use Rattle.arena_base.proofs.Reading.{slot_at-map, with_slot-position}
 use Rattle.arena_base.proofs.Viewing.{entry_of-written}
 
 module _ {X : Type 0} where
@@ -53,8 +53,8 @@ module _ {P T Inx Gen : Type 0} where
   map-swap [] i j first second = absurd (omega (arith, first))
   map-swap (d ∷ rest) i j first second =
       let slots : List (ArenaSlot P T Inx Gen) = d ∷ rest in
-      map-slice_set (slice_set slots i (slice_index_or slots j d)) j (slice_index_or slots i d)
-      ∙ (ap (λ es. slice_set es j (entry_of (slice_index_or slots i d))) (map-slice_set slots i (slice_index_or slots j d))
+      map-set entry_of (slice_set slots i (slice_index_or slots j d)) j (slice_index_or slots i d)
+      ∙ (ap (λ es. slice_set es j (entry_of (slice_index_or slots i d))) (map-set entry_of slots i (slice_index_or slots j d))
       ∙ (ap (λ o. slice_set (slice_set (map entry_of slots) i o) j (entry_of (slice_index_or slots i d))) (index-map slots j d second)
       ∙ ap (λ o. slice_set (slice_set (map entry_of slots) i (slice_index_or (map entry_of slots) j None)) j o) (index-map slots i d first)))
 
@@ -91,6 +91,6 @@ module _ {P T Inx Gen : Type 0} where
       → held_slots items room most ≡ held_with_value (held_slots slots capacity maximum) n w
   held_lent slots items capacity room maximum most k n slot w at is written same_room same_most =
       let rewrite : Option (Gen × T) → Option (Gen × T) = option_map (λ (e : Gen × T). (e.0, w)) in
-      let all = ap (map entry_of) written ∙ (map-slice_set slots k (with_value_in slot w) ∙ (sym (with_slot-position (map entry_of slots) k n (entry_of (with_value_in slot w)) at)
+      let all = ap (map entry_of) written ∙ (map-set entry_of slots k (with_value_in slot w) ∙ (sym (with_slot-position (map entry_of slots) k n (entry_of (with_value_in slot w)) at)
       ∙ ap (λ (o : Option (Gen × T)). with_slot (map entry_of slots) n o) (entry_of-written slot w ∙ ap rewrite (sym (slot_at-map slots k n at ∙ ap entry_in is))))) in
       λ i. record { slots = all i; stack_capacity = same_room i; maximum = same_most i }

@@ -74,11 +74,6 @@ module _ {X : Type 0} where
   with_slot-position xs k n x is = let at : suc k ≡ n = omega (arith, is) in subst (λ i. with_slot xs i x ≡ slice_set xs k x) at refl
 
 module _ {P T Inx Gen : Type 0} where
-  pub map-slice_set : (slots : List (ArenaSlot P T Inx Gen)) (k : ℕ) (slot : ArenaSlot P T Inx Gen) → map entry_of (slice_set slots k slot) ≡ slice_set (map entry_of slots) k (entry_of slot)
-  map-slice_set [] k slot = refl
-  map-slice_set (s ∷ slots) zero slot = refl
-  map-slice_set (s ∷ slots) (suc k) slot = ap (λ es. entry_of s ∷ es) (map-slice_set slots k slot)
-
   pub map-push : (slots : List (ArenaSlot P T Inx Gen)) (slot : ArenaSlot P T Inx Gen) → map entry_of (slots ++ slot ∷ []) ≡ map entry_of slots ++ entry_of slot ∷ []
   map-push [] slot = refl
   map-push (s ∷ slots) slot = ap (λ es. entry_of s ∷ es) (map-push slots slot)

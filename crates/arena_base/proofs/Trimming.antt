@@ -1,13 +1,13 @@
 -- Free slots cut off the end, and the free slots that are left listed by rising index.
 use Rattle.std.proofs.Common.{◌≡◌, ℕ, zero, suc, ◌+◌, ◌<◌, ◌≤◌, cond, List, [], ◌∷◌, length, map, take, drop, Option, None, Some, refl, ap, sym, ◌∙◌, subst, arith, inl, inr}
 use Rattle.std.specs.Prelude.{true, false, IsSome, IfSome, count_by, is_some, is_none, slice_index_or, slice_get, slice_set}
-use Rattle.std.proofs.lemmas.List.{length-map}
+use Rattle.std.proofs.lemmas.List.{length-map, map-set}
 use Rattle.std.proofs.lemmas.List.Sums.{sum_by-cons}
 use Rattle.arena_base.specs.Arena.{Has, IsApart}
 use Rattle.arena_base.specs.Compacting.{before_cut, trimmed, free_from}
 use Rattle.arena_base.specs.Slots.{item_at, entry_of, entry_in, free_slot, IsFreeList, IsSound}
 use Rattle.arena_base.specs.declared.slot.ArenaSlot.{ArenaSlot}
-use Rattle.arena_base.proofs.Reading.{slice_get-below, slice_get-set-same, slice_index_or-map, map-slice_set}
+use Rattle.arena_base.proofs.Reading.{slice_get-below, slice_get-set-same, slice_index_or-map}
 use Rattle.arena_base.proofs.FreeSlots.{there, free_of}
 use Rattle.arena_base.proofs.Soundness.{IsFreeList-set}
 
@@ -153,7 +153,7 @@ module _ {P T Inx Gen : Type 0} (number : Inx → ℕ) where
         let old_list = subst (λ es. IsFreeList number slots (free_from (suc (suc k)) es) head) (sym rest) (subst (λ i. IsFreeList number slots (free_from (suc i) (drop n entries)) head) (sym at) l.linked) in
         let out : Has (suc k) (free_from (suc (suc k)) (drop (suc k) entries)) → ⊥ = λ has. let more = free_from-above (drop (suc k) entries) (suc (suc k)) (suc k) has in absurd (omega (arith, more)) in
         record {
-          same = map-slice_set slots k (free_slot head) ∙ (unchanged (map entry_of slots) k (slice_index_or-map slots k ∙ ap entry_in is) ∙ l.same);
+          same = map-set entry_of slots k (free_slot head) ∙ (unchanged (map entry_of slots) k (slice_index_or-map slots k ∙ ap entry_in is) ∙ l.same);
           linked = subst (λ es. IsFreeList number (slice_set slots k (free_slot head)) (free_from (suc k) es) (Some i)) (sym free)
               (i, head, refl, index, slice_get-set-same slots k (free_slot head) (free_slot old) is, IsFreeList-set number slots k (free_slot head) (free_from (suc (suc k)) (drop (suc k) entries)) head out old_list);
           counted = omega (arith, l.counted, ap (count_by is_some) rest, ap (count_by is_some) free, sum_by-cons (λ (o : Option (Gen × T)). cond (is_some o) 1 0) None (drop (suc k) entries));
