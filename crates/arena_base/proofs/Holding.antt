@@ -2,7 +2,7 @@
 use Rattle.std.proofs.Common.{◌≡◌, ℕ, zero, suc, ◌+◌, ◌<◌, List, [], ◌∷◌, length, map, Option, None, Some, refl, ap, sym, ◌∙◌, arith}
 use Rattle.std.specs.Prelude.{slice_index_or, slice_get, slice_set, swap}
 use Rattle.std.specs.Option.{option_map}
-use Rattle.std.proofs.lemmas.List.{length-map, length-set, map-set}
+use Rattle.std.proofs.lemmas.List.{length-map, length-set, map-set, set-set, get_or-set_same}
 use Rattle.arena_base.specs.Arena.{slot_at, with_slot}
 use Rattle.arena_base.specs.Compacting.{Held, placed, held_with_value}
 use Rattle.arena_base.specs.Slots.{entry_of, entry_in, with_value_in, with_generation_in, with_generation_at, held_slots}
@@ -12,16 +12,6 @@ use Rattle.arena_base.proofs.Reading.{slot_at-map, with_slot-position}
 use Rattle.arena_base.proofs.Viewing.{entry_of-written}
 
 module _ {X : Type 0} where
-  set-twice : (xs : List X) (k : ℕ) (x y : X) → slice_set (slice_set xs k x) k y ≡ slice_set xs k y
-  set-twice [] k x y = refl
-  set-twice (z ∷ xs) zero x y = refl
-  set-twice (z ∷ xs) (suc k) x y = ap (λ zs. z ∷ zs) (set-twice xs k x y)
-
-  index-set : (xs : List X) (k : ℕ) (x d : X) → k < length xs → slice_index_or (slice_set xs k x) k d ≡ x
-  index-set [] k x d below = absurd (omega (arith, below))
-  index-set (z ∷ xs) zero x d below = refl
-  index-set (z ∷ xs) (suc k) x d below = index-set xs k x d (omega (arith, below))
-
   slot_at-position : (xs : List (Option X)) (k n : ℕ) → k + 1 ≡ n → slice_index_or xs k None ≡ slot_at xs n
   slot_at-position xs k n at = let next : suc k ≡ n = omega (arith, at) in ap (slot_at xs) next
 
@@ -77,8 +67,8 @@ module _ {P T Inx Gen : Type 0} where
       let all : map entry_of (with_generation_at (swap slots i j) j g) ≡ with_slot (with_slot es from (slot_at es to)) to (regenerated g (slot_at es from)) =
       map-with_generation_at (swap slots i j) j g
       ∙ (ap (λ fs. slice_set fs j (regenerated g (slice_index_or fs j None))) moved
-      ∙ (ap (λ o. slice_set (slice_set inner j a) j (regenerated g o)) (index-set inner j a None long)
-      ∙ (set-twice inner j a (regenerated g a)
+      ∙ (ap (λ o. slice_set (slice_set inner j a) j (regenerated g o)) (get_or-set_same inner j a None long)
+      ∙ (set-set inner j a (regenerated g a)
       ∙ (ap (λ o. slice_set (slice_set es i o) j (regenerated g a)) (slot_at-position es j to at_to)
       ∙ (ap (λ o. slice_set (slice_set es i (slot_at es to)) j (regenerated g o)) (slot_at-position es i from at_from)
       ∙ (ap (λ fs. slice_set fs j (regenerated g (slot_at es from))) (sym (with_slot-position es i from (slot_at es to) at_from))
