@@ -8,13 +8,6 @@ use Rattle.arena_base.specs.Slots.{item_at, entry_of, entry_in, allocated_slot, 
 use Rattle.arena_base.specs.declared.slot.ArenaSlot.{ArenaSlot}
 use Rattle.arena_base.specs.declared.slot.ArenaSlot.TheVariants.{Allocated, Free}
 
--- two numbers are the same or not
-pub same_or_not : (m n : ℕ) → (m ≡ n) ⊎ (m ≡ n → ⊥)
-same_or_not zero zero = inl refl
-same_or_not zero (suc n) = inr (λ e. cc)
-same_or_not (suc m) zero = inr (λ e. cc)
-same_or_not (suc m) (suc n) = elim (same_or_not m n) [ inl e ↦ inl (ap suc e) | inr other ↦ inr (λ e. other (omega (arith, e))) ]
-
 module _ {X : Type 0} where
   pub slice_get-set-other : (xs : List X) (k m : ℕ) (x : X) → (k ≡ m → ⊥) → slice_get (slice_set xs k x) m ≡ slice_get xs m
   slice_get-set-other [] k m x other = refl
