@@ -12,14 +12,6 @@ use Rattle.arena_base.proofs.FreeSlots.{there, free_of}
 use Rattle.arena_base.proofs.Soundness.{IsFreeList-set}
 
 module _ {X : Type 0} where
-  take-none : (xs : List (Option X)) → take 0 xs ≡ []
-  take-none [] = refl
-  take-none (x ∷ xs) = refl
-
-  pub trimmed-none : (xs : List (Option X)) → trimmed (take 0 xs) ≡ take 0 xs
-  trimmed-none [] = refl
-  trimmed-none (x ∷ xs) = refl
-
   keep : (s m : Option X) (xs : List (Option X)) → before_cut s (m ∷ xs) ≡ s ∷ m ∷ xs
   keep None m xs = refl
   keep (Some x) m xs = refl
@@ -28,35 +20,19 @@ module _ {X : Type 0} where
   pub trimmed-ends : (xs : List (Option X)) (k : ℕ) (x : X) → slice_index_or xs k None ≡ Some x → trimmed (take (suc k) xs) ≡ take (suc k) xs
   trimmed-ends [] k x is = cc
   trimmed-ends (s ∷ xs) zero x is =
-      ap (λ o. before_cut o (trimmed (take 0 xs))) is ∙ (ap (λ zs. Some x ∷ zs) (trimmed-none xs) ∙ ap (λ (o : Option X). o ∷ take 0 xs) (sym is))
+      ap (λ o. before_cut o (trimmed (take 0 xs))) is ∙ ap (λ (o : Option X). o ∷ take 0 xs) (sym is)
   trimmed-ends (s ∷ []) (suc k) x is = cc
   trimmed-ends (s ∷ m ∷ xs) (suc k) x is = ap (before_cut s) (trimmed-ends (m ∷ xs) k x is) ∙ keep s m (take k xs)
 
   -- a free slot at the end goes
   pub trimmed-cut : (xs : List (Option X)) (k : ℕ) → k < length xs → slice_index_or xs k None ≡ None → trimmed (take (suc k) xs) ≡ trimmed (take k xs)
   trimmed-cut [] k below is = absurd (omega (arith, below))
-  trimmed-cut (s ∷ xs) zero below is = ap (λ o. before_cut o (trimmed (take 0 xs))) is ∙ ap (before_cut None) (ap trimmed (take-none xs))
+  trimmed-cut (s ∷ xs) zero below is = ap (λ o. before_cut o (trimmed (take 0 xs))) is
   trimmed-cut (s ∷ xs) (suc k) below is = ap (before_cut s) (trimmed-cut xs k (omega (arith, below)) is)
-
-  pub take-whole : (xs : List (Option X)) (k : ℕ) → length xs ≡ k → take k xs ≡ xs
-  take-whole [] zero is = refl
-  take-whole [] (suc k) is = refl
-  take-whole (x ∷ xs) zero is = absurd (omega (arith, is))
-  take-whole (x ∷ xs) (suc k) is = ap (λ zs. x ∷ zs) (take-whole xs k (omega (arith, is)))
-
-  pub drop-whole : (xs : List (Option X)) → drop 0 xs ≡ xs
-  drop-whole [] = refl
-  drop-whole (x ∷ xs) = refl
-
-  pub drop-past : (xs : List (Option X)) (k : ℕ) → length xs ≤ k → drop k xs ≡ []
-  drop-past [] zero past = refl
-  drop-past [] (suc k) past = refl
-  drop-past (x ∷ xs) zero past = absurd (omega (arith, past))
-  drop-past (x ∷ xs) (suc k) past = drop-past xs k (omega (arith, past))
 
   pub drop-at : (xs : List (Option X)) (k : ℕ) → k < length xs → drop k xs ≡ slice_index_or xs k None ∷ drop (suc k) xs
   drop-at [] k below = absurd (omega (arith, below))
-  drop-at (x ∷ xs) zero below = ap (λ zs. x ∷ zs) (sym (drop-whole xs))
+  drop-at (x ∷ xs) zero below = refl
   drop-at (x ∷ xs) (suc k) below = drop-at xs k (omega (arith, below))
 
   pub free_from-above : (xs : List (Option X)) (i n : ℕ) → Has n (free_from i xs) → i ≤ n
@@ -117,7 +93,7 @@ module _ {P T Inx Gen : Type 0} where
   -- or nothing is left
   pub cut_all : (slots : List (ArenaSlot P T Inx Gen)) (n : ℕ) → n ≡ 0 → trimmed (take n (map entry_of slots)) ≡ trimmed (map entry_of slots) → map entry_of (take n slots) ≡ trimmed (map entry_of slots)
   cut_all slots n none rest =
-      map-take slots n ∙ (ap (λ m. take m (map entry_of slots)) none ∙ (sym (trimmed-none (map entry_of slots)) ∙ (ap (λ m. trimmed (take m (map entry_of slots))) (sym none) ∙ rest)))
+      map-take slots n ∙ (ap (λ m. take m (map entry_of slots)) none ∙ (ap (λ m. trimmed (take m (map entry_of slots))) (sym none) ∙ rest))
 
 module _ {P T Inx Gen : Type 0} (number : Inx → ℕ) where
   -- how far a listing has come, down to a position
@@ -167,14 +143,14 @@ module _ {P T Inx Gen : Type 0} (number : Inx → ℕ) where
   -- once all slots are listed they are sound
   pub listing_ends : {slots : List (ArenaSlot P T Inx Gen)} {entries : List (Option (Gen × T))} {len greatest : ℕ} {head : Option Inx} → IsListing slots entries 0 len head → length slots ≤ greatest
       → IsSound number slots greatest len head (free_from 1 entries)
-  listing_ends {slots = slots} {entries = entries} {head = head} l few =
-      let all = drop-whole entries in
+  listing_ends {slots = slots} {entries = entries} {len = len} l few =
+      let counted : len ≡ count_by is_some entries = l.counted in
       record {
-        linked = subst (λ es. IsFreeList number slots (free_from 1 es) head) all l.linked;
+        linked = l.linked;
         apart = free_from-apart entries 1;
         covers = λ n next free. listed n next free;
-        counted = l.counted ∙ (ap (count_by is_some) all ∙ ap (count_by is_some) (sym l.same));
-        total = omega (arith, l.counted, ap (count_by is_some) all, free_from-total entries 1, ap length l.same, length-map slots entry_of);
+        counted = counted ∙ ap (count_by is_some) (sym l.same);
+        total = omega (arith, counted, free_from-total entries 1, ap length l.same, length-map slots entry_of);
         fits = few;
       }
     where
