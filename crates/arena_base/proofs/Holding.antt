@@ -2,25 +2,16 @@
 use Rattle.std.proofs.Common.{◌≡◌, ℕ, zero, suc, ◌+◌, ◌<◌, List, [], ◌∷◌, length, map, Option, None, Some, refl, ap, sym, ◌∙◌, arith}
 use Rattle.std.specs.Prelude.{slice_index_or, slice_get, slice_set, swap}
 use Rattle.std.specs.Option.{option_map}
+use Rattle.std.proofs.lemmas.List.{length-map, length-set, map-set, set-set, get_or-set_same}
 use Rattle.arena_base.specs.Arena.{slot_at, with_slot}
 use Rattle.arena_base.specs.Compacting.{Held, placed, held_with_value}
 use Rattle.arena_base.specs.Slots.{entry_of, entry_in, with_value_in, with_generation_in, with_generation_at, held_slots}
 use Rattle.arena_base.specs.declared.slot.ArenaSlot.{ArenaSlot}
 use Rattle.arena_base.specs.declared.slot.ArenaSlot.TheVariants.{Allocated, Free}
-use Rattle.arena_base.proofs.Reading.{map-slice_set, slot_at-map, length-slice_set, with_slot-position}
+use Rattle.arena_base.proofs.Reading.{slot_at-map, with_slot-position}
 use Rattle.arena_base.proofs.Viewing.{entry_of-written}
 
 module _ {X : Type 0} where
-  set-twice : (xs : List X) (k : ℕ) (x y : X) → slice_set (slice_set xs k x) k y ≡ slice_set xs k y
-  set-twice [] k x y = refl
-  set-twice (z ∷ xs) zero x y = refl
-  set-twice (z ∷ xs) (suc k) x y = ap (λ zs. z ∷ zs) (set-twice xs k x y)
-
-  index-set : (xs : List X) (k : ℕ) (x d : X) → k < length xs → slice_index_or (slice_set xs k x) k d ≡ x
-  index-set [] k x d below = absurd (omega (arith, below))
-  index-set (z ∷ xs) zero x d below = refl
-  index-set (z ∷ xs) (suc k) x d below = index-set xs k x d (omega (arith, below))
-
   slot_at-position : (xs : List (Option X)) (k n : ℕ) → k + 1 ≡ n → slice_index_or xs k None ≡ slot_at xs n
   slot_at-position xs k n at = let next : suc k ≡ n = omega (arith, at) in ap (slot_at xs) next
 
@@ -52,8 +43,8 @@ module _ {P T Inx Gen : Type 0} where
   map-swap [] i j first second = absurd (omega (arith, first))
   map-swap (d ∷ rest) i j first second =
       let slots : List (ArenaSlot P T Inx Gen) = d ∷ rest in
-      map-slice_set (slice_set slots i (slice_index_or slots j d)) j (slice_index_or slots i d)
-      ∙ (ap (λ es. slice_set es j (entry_of (slice_index_or slots i d))) (map-slice_set slots i (slice_index_or slots j d))
+      map-set entry_of (slice_set slots i (slice_index_or slots j d)) j (slice_index_or slots i d)
+      ∙ (ap (λ es. slice_set es j (entry_of (slice_index_or slots i d))) (map-set entry_of slots i (slice_index_or slots j d))
       ∙ (ap (λ o. slice_set (slice_set (map entry_of slots) i o) j (entry_of (slice_index_or slots i d))) (index-map slots j d second)
       ∙ ap (λ o. slice_set (slice_set (map entry_of slots) i (slice_index_or (map entry_of slots) j None)) j o) (index-map slots i d first)))
 
@@ -61,7 +52,7 @@ module _ {P T Inx Gen : Type 0} where
   length-swap [] i j = refl
   length-swap (d ∷ rest) i j =
       let slots : List (ArenaSlot P T Inx Gen) = d ∷ rest in
-      length-slice_set (slice_set slots i (slice_index_or slots j d)) j (slice_index_or slots i d) ∙ length-slice_set slots i (slice_index_or slots j d)
+      length-set (slice_set slots i (slice_index_or slots j d)) j (slice_index_or slots i d) ∙ length-set slots i (slice_index_or slots j d)
 
   -- two slots are exchanged, and the second gets a generation
   pub held_placed : (slots : List (ArenaSlot P T Inx Gen)) (capacity : ℕ) (maximum : Option ℕ) (i j from to : ℕ) (g : Gen) → i + 1 ≡ from → j + 1 ≡ to → i < length slots → j < length slots
@@ -72,21 +63,17 @@ module _ {P T Inx Gen : Type 0} where
       let b : Option (Gen × T) = slice_index_or es j None in
       let inner : List (Option (Gen × T)) = slice_set es i b in
       let moved = map-swap slots i j first second in
-      let long : j < length inner = omega (arith, second, length-slice_set es i b, mapped slots) in
+      let long : j < length inner = omega (arith, second, length-set es i b, length-map slots entry_of) in
       let all : map entry_of (with_generation_at (swap slots i j) j g) ≡ with_slot (with_slot es from (slot_at es to)) to (regenerated g (slot_at es from)) =
       map-with_generation_at (swap slots i j) j g
       ∙ (ap (λ fs. slice_set fs j (regenerated g (slice_index_or fs j None))) moved
-      ∙ (ap (λ o. slice_set (slice_set inner j a) j (regenerated g o)) (index-set inner j a None long)
-      ∙ (set-twice inner j a (regenerated g a)
+      ∙ (ap (λ o. slice_set (slice_set inner j a) j (regenerated g o)) (get_or-set_same inner j a None long)
+      ∙ (set-set inner j a (regenerated g a)
       ∙ (ap (λ o. slice_set (slice_set es i o) j (regenerated g a)) (slot_at-position es j to at_to)
       ∙ (ap (λ o. slice_set (slice_set es i (slot_at es to)) j (regenerated g o)) (slot_at-position es i from at_from)
       ∙ (ap (λ fs. slice_set fs j (regenerated g (slot_at es from))) (sym (with_slot-position es i from (slot_at es to) at_from))
       ∙ sym (with_slot-position (with_slot es from (slot_at es to)) j to (regenerated g (slot_at es from)) at_to))))))) in
       ap (λ fs. let h : Held Gen T = record { slots = fs; stack_capacity = capacity; maximum = maximum } in h) all
-    where
-      mapped : (xs : List (ArenaSlot P T Inx Gen)) → length (map entry_of xs) ≡ length xs
-      mapped [] = refl
-      mapped (x ∷ xs) = ap suc (mapped xs)
 
   -- a value is written
   pub held_lent : (slots items : List (ArenaSlot P T Inx Gen)) (capacity room : ℕ) (maximum most : Option ℕ) (k n : ℕ) (slot : ArenaSlot P T Inx Gen) (w : T) → k + 1 ≡ n → slice_get slots k ≡ Some slot
@@ -94,6 +81,6 @@ module _ {P T Inx Gen : Type 0} where
       → held_slots items room most ≡ held_with_value (held_slots slots capacity maximum) n w
   held_lent slots items capacity room maximum most k n slot w at is written same_room same_most =
       let rewrite : Option (Gen × T) → Option (Gen × T) = option_map (λ (e : Gen × T). (e.0, w)) in
-      let all = ap (map entry_of) written ∙ (map-slice_set slots k (with_value_in slot w) ∙ (sym (with_slot-position (map entry_of slots) k n (entry_of (with_value_in slot w)) at)
+      let all = ap (map entry_of) written ∙ (map-set entry_of slots k (with_value_in slot w) ∙ (sym (with_slot-position (map entry_of slots) k n (entry_of (with_value_in slot w)) at)
       ∙ ap (λ (o : Option (Gen × T)). with_slot (map entry_of slots) n o) (entry_of-written slot w ∙ ap rewrite (sym (slot_at-map slots k n at ∙ ap entry_in is))))) in
       λ i. record { slots = all i; stack_capacity = same_room i; maximum = same_most i }

@@ -80,11 +80,7 @@ module _ {Gen T : Type 0} where
       ap (λ b. cond b (((j, e.0), e.1) ∷ up_to_index i (entries_from (suc j) slots)) []) (lt-leb j i below)
 
   pub up_to_index-take : (slots : List (Option (Gen × T))) (i j k : ℕ) → j + k ≡ suc i → up_to_index i (entries_from j slots) ≡ entries_from j (take k slots)
-  up_to_index-take slots i j zero at = up_to_index-none slots i j (omega (arith, at)) ∙ sym (none slots)
-    where
-      none : (xs : List (Option (Gen × T))) → entries_from j (take 0 xs) ≡ []
-      none [] = refl
-      none (x ∷ xs) = refl
+  up_to_index-take slots i j zero at = up_to_index-none slots i j (omega (arith, at))
   up_to_index-take [] i j (suc k) at = refl
   up_to_index-take (None ∷ slots) i j (suc k) at = up_to_index-take slots i (suc j) k (omega (arith, at))
   up_to_index-take (Some e ∷ slots) i j (suc k) at =
@@ -115,10 +111,6 @@ module _ {Gen T : Type 0} where
   pub ahead_down : (slots : List (Option (Gen × T))) (to : ℕ) → entries_from 1 (take to slots) ≡ up_to_index to (entries_from 1 slots)
   ahead_down slots to = sym (up_to_index-take slots to 1 to (omega arith))
 
-  drop-none : (slots : List (Option (Gen × T))) → drop 0 slots ≡ slots
-  drop-none [] = refl
-  drop-none (s ∷ slots) = refl
-
   first_split : (slots : List (Option (Gen × T))) (m i : ℕ) (g : Gen) → first_key (entries_from m slots) ≡ Some (i, g)
       → (t : T) × (k : ℕ) × (m + k ≡ i) × (slice_index_or slots k None ≡ Some (g, t)) × (entries_from m slots ≡ ((i, g), t) ∷ entries_from (suc i) (drop (suc k) slots))
   first_split [] m i g first = cc
@@ -133,8 +125,7 @@ module _ {Gen T : Type 0} where
         0,
         omega (arith, index),
         ap (λ (h : Gen). let o : Option (Gen × T) = Some (h, e.1) in o) generation,
-        ap (λ (k : ℕ × Gen). (k, e.1) ∷ entries_from (suc m) slots) key ∙ ap (λ n. ((i, g), e.1) ∷ entries_from (suc n) slots) index
-            ∙ ap (λ es. ((i, g), e.1) ∷ entries_from (suc i) es) (sym (drop-none slots)),
+        ap (λ (k : ℕ × Gen). (k, e.1) ∷ entries_from (suc m) slots) key ∙ ap (λ n. ((i, g), e.1) ∷ entries_from (suc n) slots) index,
       )
 
   first_after : (slots : List (Option (Gen × T))) (m n j i : ℕ) (g : Gen) → m + n ≡ j → first_key (entries_from j (drop n slots)) ≡ Some (i, g)

@@ -1,18 +1,12 @@
 -- Reads and writes of slots, by position and by index.
 use Rattle.std.proofs.Common.{◌≡◌, ℕ, zero, suc, ◌+◌, ◌<◌, List, [], ◌∷◌, ◌++◌, length, map, Option, None, Some, refl, ap, sym, ◌∙◌, subst, arith, inl, inr, ◌⊎◌}
 use Rattle.std.specs.Prelude.{IsSome, true, false, count_by, is_some, cond, slice_index_or, slice_get, slice_set}
+use Rattle.std.proofs.lemmas.List.{length-set}
 use Rattle.std.proofs.lemmas.List.Sums.{sum_by-cons}
 use Rattle.arena_base.specs.Arena.{slot_at, with_slot}
 use Rattle.arena_base.specs.Slots.{item_at, entry_of, entry_in, allocated_slot, with_generation_in, with_generation_at, freed_slot}
 use Rattle.arena_base.specs.declared.slot.ArenaSlot.{ArenaSlot}
 use Rattle.arena_base.specs.declared.slot.ArenaSlot.TheVariants.{Allocated, Free}
-
--- two numbers are the same or not
-pub same_or_not : (m n : ℕ) → (m ≡ n) ⊎ (m ≡ n → ⊥)
-same_or_not zero zero = inl refl
-same_or_not zero (suc n) = inr (λ e. cc)
-same_or_not (suc m) zero = inr (λ e. cc)
-same_or_not (suc m) (suc n) = elim (same_or_not m n) [ inl e ↦ inl (ap suc e) | inr other ↦ inr (λ e. other (omega (arith, e))) ]
 
 module _ {X : Type 0} where
   pub slice_get-set-other : (xs : List X) (k m : ℕ) (x : X) → (k ≡ m → ⊥) → slice_get (slice_set xs k x) m ≡ slice_get xs m
@@ -49,11 +43,6 @@ module _ {X : Type 0} where
   slice_get-below (z ∷ xs) zero x is = omega arith
   slice_get-below (z ∷ xs) (suc k) x is = let below = slice_get-below xs k x is in omega (arith, below)
 
-  pub length-slice_set : (xs : List X) (k : ℕ) (x : X) → length (slice_set xs k x) ≡ length xs
-  length-slice_set [] k x = refl
-  length-slice_set (y ∷ xs) zero x = refl
-  length-slice_set (y ∷ xs) (suc k) x = ap suc (length-slice_set xs k x)
-
   pub item_at-set-other : (xs : List X) (k n : ℕ) (x : X) → (suc k ≡ n → ⊥) → item_at (slice_set xs k x) n ≡ item_at xs n
   item_at-set-other xs k zero x other = refl
   item_at-set-other xs k (suc m) x other = slice_get-set-other xs k m x (λ e. other (ap suc e))
@@ -72,24 +61,15 @@ module _ {X : Type 0} where
 
   pub length-with_slot : (xs : List X) (n : ℕ) (x : X) → length (with_slot xs n x) ≡ length xs
   length-with_slot xs zero x = refl
-  length-with_slot xs (suc k) x = length-slice_set xs k x
+  length-with_slot xs (suc k) x = length-set xs k x
 
   pub with_slot-position : (xs : List X) (k n : ℕ) (x : X) → k + 1 ≡ n → with_slot xs n x ≡ slice_set xs k x
   with_slot-position xs k n x is = let at : suc k ≡ n = omega (arith, is) in subst (λ i. with_slot xs i x ≡ slice_set xs k x) at refl
 
 module _ {P T Inx Gen : Type 0} where
-  pub map-slice_set : (slots : List (ArenaSlot P T Inx Gen)) (k : ℕ) (slot : ArenaSlot P T Inx Gen) → map entry_of (slice_set slots k slot) ≡ slice_set (map entry_of slots) k (entry_of slot)
-  map-slice_set [] k slot = refl
-  map-slice_set (s ∷ slots) zero slot = refl
-  map-slice_set (s ∷ slots) (suc k) slot = ap (λ es. entry_of s ∷ es) (map-slice_set slots k slot)
-
   pub map-push : (slots : List (ArenaSlot P T Inx Gen)) (slot : ArenaSlot P T Inx Gen) → map entry_of (slots ++ slot ∷ []) ≡ map entry_of slots ++ entry_of slot ∷ []
   map-push [] slot = refl
   map-push (s ∷ slots) slot = ap (λ es. entry_of s ∷ es) (map-push slots slot)
-
-  pub length-map : (slots : List (ArenaSlot P T Inx Gen)) → length (map entry_of slots) ≡ length slots
-  length-map [] = refl
-  length-map (s ∷ slots) = ap suc (length-map slots)
 
   pub slice_index_or-map : (slots : List (ArenaSlot P T Inx Gen)) (k : ℕ) → slice_index_or (map entry_of slots) k None ≡ entry_in (slice_get slots k)
   slice_index_or-map [] k = refl

@@ -1,11 +1,13 @@
 -- Each step on slots keeps them sound: the count right, and every free slot in the freed list once.
 use Rattle.std.proofs.Common.{◌≡◌, ℕ, zero, suc, ◌+◌, ◌<◌, ◌≤◌, List, [], ◌∷◌, ◌++◌, length, length-append, Option, None, Some, refl, ap, sym, ◌∙◌, subst, arith, inl, inr, ◌⊎◌}
 use Rattle.std.specs.Prelude.{slice_get, slice_set}
+use Rattle.std.proofs.lemmas.List.{length-set}
+use Rattle.std.proofs.lemmas.Bool.{cases_eq}
 use Rattle.arena_base.specs.Arena.{Has, without_first}
 use Rattle.arena_base.specs.Slots.{item_at, with_value_in, next_of, allocated_slot, free_slot, freed_from, freed_of, IsFreeList, IsSound}
 use Rattle.arena_base.specs.declared.slot.ArenaSlot.{ArenaSlot}
 use Rattle.arena_base.specs.declared.slot.ArenaSlot.TheVariants.{Allocated, Free}
-use Rattle.arena_base.proofs.Reading.{same_or_not, slice_get-set-same, slice_set-itself, length-slice_set, item_at-set-other, item_at-append, item_at-push, at_position, taken_count-set, taken_count-push}
+use Rattle.arena_base.proofs.Reading.{slice_get-set-same, slice_set-itself, item_at-set-other, item_at-append, item_at-push, at_position, taken_count-set, taken_count-push}
 
 module _ {P T Inx Gen : Type 0} where
   -- a taken slot is not free
@@ -68,13 +70,13 @@ module _ {P T Inx Gen : Type 0} (number : Inx → ℕ) where
             IsFreeList-set slots k (free_slot head) ns head (λ h. out (subst (λ n. Has n ns) index h)) s.linked,
           );
           apart = (out, s.apart);
-          covers = λ n next free. elim (same_or_not (number i) n) [
+          covers = λ n next free. elim (cases_eq (number i) n) [
             | inl same ↦ inl same
             | inr other ↦ inr (s.covers n next (sym (item_at-set-other slots k n (free_slot head) (λ e. other (sym index ∙ e))) ∙ free))
           ];
           counted = omega (arith, one, s.counted, taken_count-set slots k (allocated_slot g t) (free_slot head) is);
-          total = omega (arith, one, s.total, length-slice_set slots k (free_slot head));
-          fits = omega (arith, s.fits, length-slice_set slots k (free_slot head));
+          total = omega (arith, one, s.total, length-set slots k (free_slot head));
+          fits = omega (arith, s.fits, length-set slots k (free_slot head));
         }
 
     -- an entry is written over another
@@ -86,13 +88,13 @@ module _ {P T Inx Gen : Type 0} (number : Inx → ℕ) where
         record {
           linked = IsFreeList-set slots k slot ns head out s.linked;
           apart = s.apart;
-          covers = λ n next free. elim (same_or_not (suc k) n) [
+          covers = λ n next free. elim (cases_eq (suc k) n) [
             | inl same ↦ absurd (not_free slot new_g new_t next refl (sym (slice_get-set-same slots k slot (allocated_slot g t) is) ∙ subst (λ m. item_at (slice_set slots k slot) m ≡ Some (free_slot next)) (sym same) free))
             | inr other ↦ s.covers n next (sym (item_at-set-other slots k n slot other) ∙ free)
           ];
           counted = omega (arith, s.counted, taken_count-set slots k (allocated_slot g t) slot is);
-          total = omega (arith, s.total, length-slice_set slots k slot);
-          fits = omega (arith, s.fits, length-slice_set slots k slot);
+          total = omega (arith, s.total, length-set slots k slot);
+          fits = omega (arith, s.fits, length-set slots k slot);
         }
 
   -- an entry is written into the slot that was freed last
@@ -113,13 +115,13 @@ module _ {P T Inx Gen : Type 0} (number : Inx → ℕ) where
         record {
           linked = IsFreeList-set slots k slot ns next out (subst (λ o. IsFreeList number slots ns o) rest s.linked.5);
           apart = s.apart.1;
-          covers = λ m other free. elim (same_or_not (suc k) m) [
+          covers = λ m other free. elim (cases_eq (suc k) m) [
             | inl here ↦ absurd (not_free slot g t other refl (sym (slice_get-set-same slots k slot (free_slot next) is) ∙ subst (λ j. item_at (slice_set slots k slot) j ≡ Some (free_slot other)) (sym here) free))
             | inr away ↦ elsewhere m (λ e. away (index ∙ (named ∙ e))) (s.covers m other (sym (item_at-set-other slots k m slot away) ∙ free))
           ];
           counted = omega (arith, s.counted, taken_count-set slots k (free_slot next) slot is);
-          total = omega (arith, s.total, length-slice_set slots k slot);
-          fits = omega (arith, s.fits, length-slice_set slots k slot);
+          total = omega (arith, s.total, length-set slots k slot);
+          fits = omega (arith, s.fits, length-set slots k slot);
         },
         ap (λ m. m ∷ ns) (sym named),
       )

@@ -1,24 +1,17 @@
 -- Free slots cut off the end, and the free slots that are left listed by rising index.
 use Rattle.std.proofs.Common.{◌≡◌, ℕ, zero, suc, ◌+◌, ◌<◌, ◌≤◌, cond, List, [], ◌∷◌, length, map, take, drop, Option, None, Some, refl, ap, sym, ◌∙◌, subst, arith, inl, inr}
 use Rattle.std.specs.Prelude.{true, false, IsSome, IfSome, count_by, is_some, is_none, slice_index_or, slice_get, slice_set}
+use Rattle.std.proofs.lemmas.List.{length-map, map-set}
 use Rattle.std.proofs.lemmas.List.Sums.{sum_by-cons}
 use Rattle.arena_base.specs.Arena.{Has, IsApart}
 use Rattle.arena_base.specs.Compacting.{before_cut, trimmed, free_from}
 use Rattle.arena_base.specs.Slots.{item_at, entry_of, entry_in, free_slot, IsFreeList, IsSound}
 use Rattle.arena_base.specs.declared.slot.ArenaSlot.{ArenaSlot}
-use Rattle.arena_base.proofs.Reading.{slice_get-below, slice_get-set-same, slice_index_or-map, length-map, map-slice_set}
+use Rattle.arena_base.proofs.Reading.{slice_get-below, slice_get-set-same, slice_index_or-map}
 use Rattle.arena_base.proofs.FreeSlots.{there, free_of}
 use Rattle.arena_base.proofs.Soundness.{IsFreeList-set}
 
 module _ {X : Type 0} where
-  take-none : (xs : List (Option X)) → take 0 xs ≡ []
-  take-none [] = refl
-  take-none (x ∷ xs) = refl
-
-  pub trimmed-none : (xs : List (Option X)) → trimmed (take 0 xs) ≡ take 0 xs
-  trimmed-none [] = refl
-  trimmed-none (x ∷ xs) = refl
-
   keep : (s m : Option X) (xs : List (Option X)) → before_cut s (m ∷ xs) ≡ s ∷ m ∷ xs
   keep None m xs = refl
   keep (Some x) m xs = refl
@@ -27,35 +20,19 @@ module _ {X : Type 0} where
   pub trimmed-ends : (xs : List (Option X)) (k : ℕ) (x : X) → slice_index_or xs k None ≡ Some x → trimmed (take (suc k) xs) ≡ take (suc k) xs
   trimmed-ends [] k x is = cc
   trimmed-ends (s ∷ xs) zero x is =
-      ap (λ o. before_cut o (trimmed (take 0 xs))) is ∙ (ap (λ zs. Some x ∷ zs) (trimmed-none xs) ∙ ap (λ (o : Option X). o ∷ take 0 xs) (sym is))
+      ap (λ o. before_cut o (trimmed (take 0 xs))) is ∙ ap (λ (o : Option X). o ∷ take 0 xs) (sym is)
   trimmed-ends (s ∷ []) (suc k) x is = cc
   trimmed-ends (s ∷ m ∷ xs) (suc k) x is = ap (before_cut s) (trimmed-ends (m ∷ xs) k x is) ∙ keep s m (take k xs)
 
   -- a free slot at the end goes
   pub trimmed-cut : (xs : List (Option X)) (k : ℕ) → k < length xs → slice_index_or xs k None ≡ None → trimmed (take (suc k) xs) ≡ trimmed (take k xs)
   trimmed-cut [] k below is = absurd (omega (arith, below))
-  trimmed-cut (s ∷ xs) zero below is = ap (λ o. before_cut o (trimmed (take 0 xs))) is ∙ ap (before_cut None) (ap trimmed (take-none xs))
+  trimmed-cut (s ∷ xs) zero below is = ap (λ o. before_cut o (trimmed (take 0 xs))) is
   trimmed-cut (s ∷ xs) (suc k) below is = ap (before_cut s) (trimmed-cut xs k (omega (arith, below)) is)
-
-  pub take-whole : (xs : List (Option X)) (k : ℕ) → length xs ≡ k → take k xs ≡ xs
-  take-whole [] zero is = refl
-  take-whole [] (suc k) is = refl
-  take-whole (x ∷ xs) zero is = absurd (omega (arith, is))
-  take-whole (x ∷ xs) (suc k) is = ap (λ zs. x ∷ zs) (take-whole xs k (omega (arith, is)))
-
-  pub drop-whole : (xs : List (Option X)) → drop 0 xs ≡ xs
-  drop-whole [] = refl
-  drop-whole (x ∷ xs) = refl
-
-  pub drop-past : (xs : List (Option X)) (k : ℕ) → length xs ≤ k → drop k xs ≡ []
-  drop-past [] zero past = refl
-  drop-past [] (suc k) past = refl
-  drop-past (x ∷ xs) zero past = absurd (omega (arith, past))
-  drop-past (x ∷ xs) (suc k) past = drop-past xs k (omega (arith, past))
 
   pub drop-at : (xs : List (Option X)) (k : ℕ) → k < length xs → drop k xs ≡ slice_index_or xs k None ∷ drop (suc k) xs
   drop-at [] k below = absurd (omega (arith, below))
-  drop-at (x ∷ xs) zero below = ap (λ zs. x ∷ zs) (sym (drop-whole xs))
+  drop-at (x ∷ xs) zero below = refl
   drop-at (x ∷ xs) (suc k) below = drop-at xs k (omega (arith, below))
 
   pub free_from-above : (xs : List (Option X)) (i n : ℕ) → Has n (free_from i xs) → i ≤ n
@@ -101,7 +78,7 @@ module _ {P T Inx Gen : Type 0} where
       → trimmed (take k (map entry_of slots)) ≡ trimmed (map entry_of slots)
   cut_more slots k n at below free rest =
       let next : suc k ≡ n = omega (arith, at) in
-      sym (trimmed-cut (map entry_of slots) k (omega (arith, below, length-map slots)) (slice_index_or-map slots k ∙ none_of (entry_in (slice_get slots k)) free))
+      sym (trimmed-cut (map entry_of slots) k (omega (arith, below, length-map slots entry_of)) (slice_index_or-map slots k ∙ none_of (entry_in (slice_get slots k)) free))
       ∙ (ap (λ m. trimmed (take m (map entry_of slots))) next ∙ rest)
 
   -- the cut ends behind an entry
@@ -116,7 +93,7 @@ module _ {P T Inx Gen : Type 0} where
   -- or nothing is left
   pub cut_all : (slots : List (ArenaSlot P T Inx Gen)) (n : ℕ) → n ≡ 0 → trimmed (take n (map entry_of slots)) ≡ trimmed (map entry_of slots) → map entry_of (take n slots) ≡ trimmed (map entry_of slots)
   cut_all slots n none rest =
-      map-take slots n ∙ (ap (λ m. take m (map entry_of slots)) none ∙ (sym (trimmed-none (map entry_of slots)) ∙ (ap (λ m. trimmed (take m (map entry_of slots))) (sym none) ∙ rest)))
+      map-take slots n ∙ (ap (λ m. take m (map entry_of slots)) none ∙ (ap (λ m. trimmed (take m (map entry_of slots))) (sym none) ∙ rest))
 
 module _ {P T Inx Gen : Type 0} (number : Inx → ℕ) where
   -- how far a listing has come, down to a position
@@ -130,7 +107,7 @@ module _ {P T Inx Gen : Type 0} (number : Inx → ℕ) where
     entry_there = ap (λ es. slice_index_or es k None) (sym l.same) ∙ slice_index_or-map slots k
 
     within : k < length entries
-    within = omega (arith, below, length-map slots, ap length l.same)
+    within = omega (arith, below, length-map slots entry_of, ap length l.same)
 
     -- an entry is counted
     pub listing_counts : (e : Gen × T) → entry_in (slice_get slots k) ≡ Some e → IsListing slots entries k (len + 1) head
@@ -152,7 +129,7 @@ module _ {P T Inx Gen : Type 0} (number : Inx → ℕ) where
         let old_list = subst (λ es. IsFreeList number slots (free_from (suc (suc k)) es) head) (sym rest) (subst (λ i. IsFreeList number slots (free_from (suc i) (drop n entries)) head) (sym at) l.linked) in
         let out : Has (suc k) (free_from (suc (suc k)) (drop (suc k) entries)) → ⊥ = λ has. let more = free_from-above (drop (suc k) entries) (suc (suc k)) (suc k) has in absurd (omega (arith, more)) in
         record {
-          same = map-slice_set slots k (free_slot head) ∙ (unchanged (map entry_of slots) k (slice_index_or-map slots k ∙ ap entry_in is) ∙ l.same);
+          same = map-set entry_of slots k (free_slot head) ∙ (unchanged (map entry_of slots) k (slice_index_or-map slots k ∙ ap entry_in is) ∙ l.same);
           linked = subst (λ es. IsFreeList number (slice_set slots k (free_slot head)) (free_from (suc k) es) (Some i)) (sym free)
               (i, head, refl, index, slice_get-set-same slots k (free_slot head) (free_slot old) is, IsFreeList-set number slots k (free_slot head) (free_from (suc (suc k)) (drop (suc k) entries)) head out old_list);
           counted = omega (arith, l.counted, ap (count_by is_some) rest, ap (count_by is_some) free, sum_by-cons (λ (o : Option (Gen × T)). cond (is_some o) 1 0) None (drop (suc k) entries));
@@ -166,14 +143,14 @@ module _ {P T Inx Gen : Type 0} (number : Inx → ℕ) where
   -- once all slots are listed they are sound
   pub listing_ends : {slots : List (ArenaSlot P T Inx Gen)} {entries : List (Option (Gen × T))} {len greatest : ℕ} {head : Option Inx} → IsListing slots entries 0 len head → length slots ≤ greatest
       → IsSound number slots greatest len head (free_from 1 entries)
-  listing_ends {slots = slots} {entries = entries} {head = head} l few =
-      let all = drop-whole entries in
+  listing_ends {slots = slots} {entries = entries} {len = len} l few =
+      let counted : len ≡ count_by is_some entries = l.counted in
       record {
-        linked = subst (λ es. IsFreeList number slots (free_from 1 es) head) all l.linked;
+        linked = l.linked;
         apart = free_from-apart entries 1;
         covers = λ n next free. listed n next free;
-        counted = l.counted ∙ (ap (count_by is_some) all ∙ ap (count_by is_some) (sym l.same));
-        total = omega (arith, l.counted, ap (count_by is_some) all, free_from-total entries 1, ap length l.same, length-map slots);
+        counted = counted ∙ ap (count_by is_some) (sym l.same);
+        total = omega (arith, counted, free_from-total entries 1, ap length l.same, length-map slots entry_of);
         fits = few;
       }
     where
@@ -181,7 +158,7 @@ module _ {P T Inx Gen : Type 0} (number : Inx → ℕ) where
       listed zero next free = cc
       listed (suc k) next free =
           let below = slice_get-below slots k (free_slot next) free in
-          free_from-has entries 1 k (suc k) (omega arith) (omega (arith, below, length-map slots, ap length l.same))
+          free_from-has entries 1 k (suc k) (omega arith) (omega (arith, below, length-map slots entry_of, ap length l.same))
           (ap (λ es. slice_index_or es k None) (sym l.same) ∙ (slice_index_or-map slots k ∙ ap entry_in free))
 
   -- one step of the listing, at a free slot

@@ -1,13 +1,14 @@
 -- What each step on slots makes of the arena that contracts see.
 use Rattle.std.proofs.Common.{◌≡◌, ℕ, ◌+◌, List, [], ◌∷◌, ◌++◌, map, Option, Some, refl, ap, sym, ◌∙◌}
 use Rattle.std.specs.Prelude.{slice_get, slice_set}
+use Rattle.std.proofs.lemmas.List.{map-set}
 use Rattle.arena_base.specs.Arena.{Arena, slot_at, with_slot, insert_next, remove_at, with_value, renewed_at}
 use Rattle.std.specs.Option.{option_map}
 use Rattle.arena_base.specs.Slots.{entry_of, entry_in, with_value_in, allocated_slot, free_slot, arena_of, freed_of, IsSound}
 use Rattle.arena_base.specs.declared.slot.ArenaSlot.{ArenaSlot}
 use Rattle.arena_base.specs.declared.slot.ArenaSlot.TheVariants.{Allocated, Free}
 use Rattle.arena_base.proofs.Soundness.{lent, walked_all}
-use Rattle.arena_base.proofs.Reading.{map-slice_set, map-push, slot_at-map, with_slot-position}
+use Rattle.arena_base.proofs.Reading.{map-push, slot_at-map, with_slot-position}
 
 pub entry_of-written : {P T Inx Gen : Type 0} (slot : ArenaSlot P T Inx Gen) (w : T) → entry_of (with_value_in slot w) ≡ option_map (λ (e : Gen × T). (e.0, w)) (entry_of slot)
 entry_of-written (Allocated g t) w = refl
@@ -19,7 +20,7 @@ module _ {P T Inx Gen : Type 0} (slots : List (ArenaSlot P T Inx Gen)) (ns : Lis
 
   -- the slots that are seen after a write of a slot
   pub seen_slots : (k n : ℕ) (slot : ArenaSlot P T Inx Gen) → k + 1 ≡ n → map entry_of (slice_set slots k slot) ≡ with_slot (map entry_of slots) n (entry_of slot)
-  seen_slots k n slot at = map-slice_set slots k slot ∙ sym (with_slot-position (map entry_of slots) k n (entry_of slot) at)
+  seen_slots k n slot at = map-set entry_of slots k slot ∙ sym (with_slot-position (map entry_of slots) k n (entry_of slot) at)
 
   pub seen_filled_next : (t : T) → ns ≡ []
       → arena_of (slots ++ allocated_slot counter t ∷ []) [] counter greatest capacity maximum (placed + 1) touched ≡ insert_next now t

@@ -2,6 +2,7 @@
 use Rattle.std.proofs.Common.{◌≡◌, ℕ, zero, suc, ◌+◌, ◌<◌, ◌≤◌, List, [], ◌∷◌, ◌++◌, length, length-append, Bool, true, false, Option, None, Some, refl, ap, sym, ◌∙◌, subst, arith, inl}
 use Rattle.std.specs.Prelude.{◌==◌, if◌then◌else◌, slice_index_or, slice_set}
 use Rattle.std.specs.Option.{option_map}
+use Rattle.std.proofs.lemmas.List.{get_or_past}
 use mathlib.Core.Path.{fun_ext}
 use Rattle.chain_laws.specs.Chains.{Shown, Interlinks, Agrees, IsValid, IsWithin}
 use Rattle.chain_laws.specs.Operations.{with_lone, AddsLone}
@@ -23,11 +24,6 @@ slice_index_or-append [] x zero = refl
 slice_index_or-append [] x (suc k) = sym (if_other (suc k) 0 _ _ (λ is. absurd (omega (arith, is))))
 slice_index_or-append (y ∷ xs) x zero = sym (if_other 0 (suc (length xs)) _ _ (λ is. absurd (omega (arith, is))))
 slice_index_or-append (y ∷ xs) x (suc k) = slice_index_or-append xs x k ∙ if_suc k (length xs) _ _
-
-slice_index_or-past : {X : Type 0} (xs : List (Option X)) (k : ℕ) → length xs ≤ k → slice_index_or xs k None ≡ None
-slice_index_or-past [] k past = refl
-slice_index_or-past (x ∷ xs) zero past = absurd (omega (arith, past))
-slice_index_or-past (x ∷ xs) (suc k) past = slice_index_or-past xs k (omega (arith, past))
 
 slice_index_or-inside : {X : Type 0} (xs : List (Option X)) (k : ℕ) (x : X) → slice_index_or xs k None ≡ Some x → k < length xs
 slice_index_or-inside [] k x stands = absurd (let h = stands in cc)
@@ -68,7 +64,7 @@ length-filled (i ∷ freed) slots x = length-with_slot slots i (Some x)
 
 -- nothing stands at the next index yet
 slot_at-next : {X : Type 0} (freed : List ℕ) (slots : List (Option X)) → AreFree slots freed → slot_at slots (first_or_next freed (length slots)) ≡ None
-slot_at-next [] slots free = ap (slot_at slots) (let same : length slots + 1 ≡ suc (length slots) = omega arith in same) ∙ slice_index_or-past slots (length slots) (omega arith)
+slot_at-next [] slots free = ap (slot_at slots) (let same : length slots + 1 ≡ suc (length slots) = omega arith in same) ∙ get_or_past slots (length slots) None (omega arith)
 slot_at-next (i ∷ freed) slots free = (free i (inl refl)).0
 
 module _ {Gen T : Type 0} where

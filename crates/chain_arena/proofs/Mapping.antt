@@ -2,19 +2,14 @@
 use Rattle.std.proofs.Common.{◌≡◌, ◌↔◌, ℕ, zero, suc, ◌+◌, ◌≤◌, List, [], ◌∷◌, length, map, Option, None, Some, refl, ap, ap₂, sym, ◌∙◌, subst}
 use Rattle.std.specs.Prelude.{count_by, is_some, slice_index_or, slice_set, if◌then◌else◌}
 use Rattle.std.specs.Option.{option_map}
-use Rattle.std.proofs.lemmas.List.{length-map, map-append}
+use Rattle.std.proofs.lemmas.List.{length-map, map-append, map-set}
 use Rattle.std.proofs.lemmas.List.Sums.{sum_by-cons}
 use Rattle.arena_base.specs.Arena.{Arena, with_slot, filled, entry_at, entry_count, insert_next, remove_at, renewed_at, with_value, cleared, counter_after_clear, IsListed, IsValid}
 use Rattle.chain_arena.specs.ChainArena.{on_value, with_each}
 
-map-slice_set : {X Y : Type 0} (f : X → Y) (xs : List X) (k : ℕ) (x : X) → map f (slice_set xs k x) ≡ slice_set (map f xs) k (f x)
-map-slice_set f [] k x = refl
-map-slice_set f (y ∷ xs) zero x = refl
-map-slice_set f (y ∷ xs) (suc k) x = ap (λ ys. f y ∷ ys) (map-slice_set f xs k x)
-
 map-with_slot : {X Y : Type 0} (f : X → Y) (xs : List X) (n : ℕ) (x : X) → map f (with_slot xs n x) ≡ with_slot (map f xs) n (f x)
 map-with_slot f xs zero x = refl
-map-with_slot f xs (suc k) x = map-slice_set f xs k x
+map-with_slot f xs (suc k) x = map-set f xs k x
 
 pub generation_is : {Gen X : Type 0} (g h : Gen) (x y : X) → ◌≡◌ {A = Option (Gen × X)} (Some (g, x)) (Some (h, y)) → g ≡ h
 generation_is g h x y same = ap (generation_or g) same where

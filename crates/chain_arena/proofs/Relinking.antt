@@ -5,6 +5,7 @@ use Rattle.std.specs.Option.{option_map}
 use Rattle.chain_laws.specs.Chains.{Shown, Interlinks}
 use Rattle.chain_laws.specs.Operations.{next_set, prev_set, linked, with_next, with_prev}
 use Rattle.std.proofs.lemmas.Bool.{cases_eq}
+use Rattle.std.proofs.lemmas.List.{ext_get_or}
 use mathlib.Core.Path.{fun_ext}
 use Rattle.chain_laws.proofs.Agreement.{if_same, if_other, one_some}
 use Rattle.chain_arena.specs.declared.links.LinkBody.{LinkBody}
@@ -12,7 +13,7 @@ use Rattle.chain_arena.specs.Links.{seen_link, seen_pair, seen_links}
 use Rattle.arena_base.specs.Arena.{Arena, entry_at, with_value}
 use Rattle.chain_arena.specs.ChainArena.{on_value, value_in, values_of, LinkSeen, shown, relink, relinked, interlinks_of, interlinks_in, with_interlinks}
 use Rattle.chain_arena.proofs.Mapping.{entry_at-with_each, length-with_each}
-use Rattle.chain_arena.proofs.Seeing.{same_items, is_relinked, entry_at-relinked, entry_at-with_value, entry_at-seen_links, length-with_value, length-seen_links, length-relinked, no_entry}
+use Rattle.chain_arena.proofs.Seeing.{is_relinked, entry_at-relinked, entry_at-with_value, entry_at-seen_links, length-with_value, length-seen_links, length-relinked, no_entry}
 
 pub is_some-map : {X Y : Type 0} (f : X → Y) (o : Option X) → is_some (option_map f o) ≡ is_some o
 is_some-map f None = refl
@@ -78,9 +79,9 @@ module _ {Gen T : Type 0} where
   pub values_of-relinked : (a : Arena Gen (LinkSeen T)) (interlinks : Shown) → FitsLinks interlinks a → values_of (relinked a interlinks) ≡ values_of a
   values_of-relinked a interlinks fits =
       ap (λ (slots : List (Option (Gen × T))). let b : Arena Gen T = record (values_of a) { slots = slots } in b)
-      (same_items (values_of (relinked a interlinks)).slots (values_of a).slots None
+      (ext_get_or None (values_of (relinked a interlinks)).slots (values_of a).slots
       (length-with_each value_in (relinked a interlinks) ∙ (length-relinked a interlinks ∙ sym (length-with_each value_in a)))
-      (λ k. entry_at-with_each value_in (relinked a interlinks) (suc k)
+      (λ k inside. entry_at-with_each value_in (relinked a interlinks) (suc k)
       ∙ (ap (option_map (on_value value_in)) (entry_at-relinked a interlinks (suc k))
       ∙ (value-relink (interlinks (suc k)) (entry_at a (suc k)) (fits (suc k)) ∙ sym (entry_at-with_each value_in a (suc k))))))
 

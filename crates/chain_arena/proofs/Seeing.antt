@@ -3,6 +3,7 @@ use Rattle.std.proofs.Common.{◌≡◌, ℕ, zero, suc, ◌+◌, List, [], ◌�
 use Rattle.std.specs.Prelude.{slice_index_or, slice_set, ◌==◌, if◌then◌else◌}
 use Rattle.std.proofs.Math.Dec.{eqb-suc-suc}
 use Rattle.std.specs.Option.{option_map}
+use Rattle.std.proofs.lemmas.List.{ext_get_or}
 use Rattle.chain_laws.specs.Chains.{Shown}
 use Rattle.chain_laws.proofs.Agreement.{if_same, if_other}
 use Rattle.arena_base.proofs.Reading.{length-with_slot}
@@ -11,13 +12,6 @@ use Rattle.chain_arena.specs.declared.links.LinkBody.{LinkBody}
 use Rattle.chain_arena.specs.Links.{seen_link, seen_pair, seen_links}
 use Rattle.arena_base.specs.Arena.{Arena, slot_at, with_slot, entry_at, with_value}
 use Rattle.chain_arena.specs.ChainArena.{LinkSeen, relink, relink_from, relinked}
-
--- two lists of one length with the same items are one
-pub same_items : {X : Type 0} (xs ys : List X) (d : X) → length xs ≡ length ys → ((k : ℕ) → slice_index_or xs k d ≡ slice_index_or ys k d) → xs ≡ ys
-same_items [] [] d long same = refl
-same_items [] (y ∷ ys) d long same = absurd (omega (arith, long))
-same_items (x ∷ xs) [] d long same = absurd (omega (arith, long))
-same_items (x ∷ xs) (y ∷ ys) d long same = let front = same 0 in let rest = same_items xs ys d (omega (arith, long)) (λ k. same (suc k)) in cc
 
 -- numbers are equal if those before them are
 pub if_suc : {A : Type 0} (j k : ℕ) (x y : A) → (if j == k then x else y) ≡ (if suc j == suc k then x else y)
@@ -77,8 +71,8 @@ module _ {Gen T : Type 0} where
       → ((i : ℕ) → entry_at b i ≡ relink (interlinks i) (entry_at a i)) → b ≡ relinked a interlinks
   is_relinked a b interlinks long rest entries =
       rest ∙ ap (λ (slots : List (Option (Gen × LinkSeen T))). let c : Arena Gen (LinkSeen T) = record a { slots = slots } in c)
-      (same_items b.slots (relink_from interlinks 1 a.slots) None (long ∙ sym (length-relink_from interlinks 1 a.slots))
-      (λ k. entries (suc k) ∙ sym (entry_at-relinked a interlinks (suc k))))
+      (ext_get_or None b.slots (relink_from interlinks 1 a.slots) (long ∙ sym (length-relink_from interlinks 1 a.slots))
+      (λ k inside. entries (suc k) ∙ sym (entry_at-relinked a interlinks (suc k))))
 
 -- links as contracts see them
 module _ {Gen I T : Type 0} (number : I → ℕ) where

@@ -1,6 +1,6 @@
 -- Each free slot goes before those behind it, and each entry is counted.
 use Rattle.std.proofs.Common.{◌≡◌, ◌-◌, length, sym, ◌∙◌, ap, arith}
-use Rattle.arena_base.proofs.Reading.{length-slice_set}
+use Rattle.std.proofs.lemmas.List.{length-set}
 use Rattle.arena_base.proofs.Trimming.{listing_frees, listing_takes, listing_ends}
 use Rattle.arena_base.proofs.listing.relist.Goals as goal
 
@@ -10,7 +10,7 @@ loop-k-preserved-then-is_free_at g c =
     let items = g.S.SlotStack.items c.loop-k.slots in
     let k = c.loop-k.k - 1 in
     record {
-      long = ap length c.list_at-head.ensures.items ∙ (length-slice_set items k _ ∙ at.long);
+      long = ap length c.list_at-head.ensures.items ∙ (length-set items k _ ∙ at.long);
       few = omega (arith, at.few);
       room = c.list_at-head.ensures.capacity ∙ at.room;
       most = c.list_at-head.ensures.maximum ∙ at.most;

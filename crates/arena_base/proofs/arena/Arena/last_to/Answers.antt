@@ -1,6 +1,7 @@
 -- Each position that was passed is free.
 use Rattle.std.proofs.Common.{◌<◌, ◌-◌, length, Some, None, sym, ◌∙◌, ap, arith}
-use Rattle.arena_base.proofs.Reading.{length-map}
+use Rattle.std.proofs.lemmas.List.{length-map}
+use Rattle.arena_base.specs.Slots.{entry_of}
 use Rattle.arena_base.proofs.Ranging.{last_key-step}
 use Rattle.arena_base.proofs.arena.Arena.last_to.Goals as goal
 
@@ -8,12 +9,12 @@ pub returns-in-Some-clause-key : goal.returns-in-Some-clause-key
 returns-in-Some-clause-key g c =
     let slots = c.args.self.now.slots in
     let long = ap (λ a. length a.slots) c.self.view_is in
-    let below : c.loop-k.k - 1 < length slots = omega (arith, long, length-map (g.S.SlotStack.items c.self.inside.slots)) in
+    let below : c.loop-k.k - 1 < length slots = omega (arith, long, length-map (g.S.SlotStack.items c.self.inside.slots) entry_of) in
     sym (last_key-step slots (c.loop-k.k - 1) c.loop-k.k (Some (g.P.Ptr.key c.in-Some.p)) (omega arith) below c.in-Some.ensures.key) ∙ c.loop-k.invariant
 
 pub loop-k-preserved : goal.loop-k-preserved
 loop-k-preserved g c =
     let slots = c.args.self.now.slots in
     let long = ap (λ a. length a.slots) c.self.view_is in
-    let below : c.loop-k.k - 1 < length slots = omega (arith, long, length-map (g.S.SlotStack.items c.self.inside.slots)) in
+    let below : c.loop-k.k - 1 < length slots = omega (arith, long, length-map (g.S.SlotStack.items c.self.inside.slots) entry_of) in
     sym (last_key-step slots (c.loop-k.k - 1) c.loop-k.k None (omega arith) below c.in_default.ensures.key) ∙ c.loop-k.invariant

@@ -1,7 +1,7 @@
 -- There are as many entries as are counted, and they fill the slots with the freed list.
 use Rattle.std.proofs.Common.{◌≤◌, length, map, refl, arith}
+use Rattle.std.proofs.lemmas.List.{length-map}
 use Rattle.arena_base.specs.Slots.{entry_of}
-use Rattle.arena_base.proofs.Reading.{length-map}
 use Rattle.arena_base.proofs.FreeSlots.{listed}
 use Rattle.arena_base.proofs.Filling.{entries_within, they_fill, room_for}
 use Rattle.arena_base.proofs.Seeing.{length-entries}
@@ -18,7 +18,7 @@ returns-clause-listed g c =
 pub returns-clause-indexes : goal.returns-clause-indexes
 returns-clause-indexes g c =
     let items = g.S.SlotStack.items c.self.inside.slots in
-    rw (← c.self.view_is) (entries_within (map entry_of items) g.P.Inx.PtrInx.greatest (omega (arith, c.self.invariant.fits, length-map items)))
+    rw (← c.self.view_is) (entries_within (map entry_of items) g.P.Inx.PtrInx.greatest (omega (arith, c.self.invariant.fits, length-map items entry_of)))
 
 pub returns-clause-filled : goal.returns-clause-filled
 returns-clause-filled g c =
@@ -28,7 +28,7 @@ returns-clause-filled g c =
 pub returns-clause-room : goal.returns-clause-room
 returns-clause-room g c =
     let slots = c.self.inside.slots in
-    let many = length-map (g.S.SlotStack.items slots) in
+    let many = length-map (g.S.SlotStack.items slots) entry_of in
     let within : length (g.S.SlotStack.items slots) ≤ g.S.SlotStack.capacity slots = g.met.S.SlotStack.has_room slots in
     rw (← c.self.view_is) (
       room_for g.P.Inx.PtrInx.greatest _ (g.S.SlotStack.capacity slots) (g.S.SlotStack.maximum slots)

@@ -1,7 +1,8 @@
 -- The two slots are exchanged, and the second gets the generation.
 use Rattle.std.proofs.Common.{length, ap, arith}
 use Rattle.std.specs.Prelude.{swap}
-use Rattle.arena_base.proofs.Reading.{length-map}
+use Rattle.std.proofs.lemmas.List.{length-map}
+use Rattle.arena_base.specs.Slots.{entry_of}
 use Rattle.arena_base.proofs.Holding.{held_placed, length-swap, length-with_generation_at}
 use Rattle.arena_base.proofs.held.HeldSlots.place.Goals as goal
 
@@ -20,4 +21,4 @@ returns g c =
     let long = ap (λ h. length h.slots) c.self.view_is in
     rw (← c.self.view_is, c.regenerate_at.ensures.items, c.regenerate_at.ensures.capacity, c.regenerate_at.ensures.maximum, c.swap.ensures.items, c.swap.ensures.capacity, c.swap.ensures.maximum)
     (held_placed items (g.S.SlotStack.capacity slots) (g.S.SlotStack.maximum slots) c.position_of.result c.position_of-to.result (number c.args.from) (number c.args.to) c.args.generation c.position_of.ensures c.position_of-to.ensures
-    (omega (arith, long, length-map items, c.position_of.ensures, c.requires.from)) (omega (arith, long, length-map items, c.position_of-to.ensures, c.requires.to)))
+    (omega (arith, long, length-map items entry_of, c.position_of.ensures, c.requires.from)) (omega (arith, long, length-map items entry_of, c.position_of-to.ensures, c.requires.to)))
