@@ -1,6 +1,6 @@
 -- An arena with something else for each value: what stands at each index, and what each call makes of it.
 use Rattle.std.proofs.Common.{◌≡◌, ◌↔◌, ℕ, zero, suc, ◌+◌, ◌≤◌, List, [], ◌∷◌, length, map, Option, None, Some, refl, ap, ap₂, sym, ◌∙◌, subst}
-use Rattle.std.specs.Prelude.{count_by, is_some, slice_index_or, slice_set, if◌then◌else◌}
+use Rattle.std.specs.Prelude.{count_by, is_some, slice_index_or, if◌then◌else◌}
 use Rattle.std.specs.Option.{option_map}
 use Rattle.std.proofs.lemmas.List.{length-map, map-append, map-set}
 use Rattle.std.proofs.lemmas.List.Sums.{sum_by-cons}

@@ -1,5 +1,5 @@
 -- Both pointers are valid, the first link has no next and the second no prev.
-use Rattle.std.proofs.Common.{◌≡◌, true, false, sym, ap, ◌∙◌}
+use Rattle.std.proofs.Common.{sym, ap, ◌∙◌}
 use Rattle.std.specs.Prelude.{is_some, not}
 use Rattle.std.proofs.lemmas.Bool.{false≢true}
 use Rattle.chain_arena.proofs.Connecting.{connectable, not_valid}
