@@ -85,13 +85,14 @@ three_not_cyclic h = let shows : prev_of (rows three) 1 ≡ Some 2 = ap prev_in 
 no_empty_chain : (shown : Shown) → IsChain shown (linear []) → ⊥
 no_empty_chain shown h = h.0 refl
 
+-- three is not two
+three_is_apart : Has (3 ∷ []) 2 → ⊥
+three_is_apart (inl e) = omega arith
+three_is_apart (inr h) = h
+
 -- a ring of two may be written from either ..
 ring_from_two : IsChain (rows ring) (cyclic (2 ∷ 3 ∷ []))
-ring_from_two = ((λ e. cc), (apart, ((λ h. h), tt)), (refl, (refl, tt)))
-  where
-    apart : Has (3 ∷ []) 2 → ⊥
-    apart (inl e) = omega arith
-    apart (inr h) = h
+ring_from_two = ((λ e. cc), (three_is_apart, ((λ h. h), tt)), (refl, (refl, tt)))
 
 ring_from_three : IsChain (rows ring) (cyclic (3 ∷ 2 ∷ []))
 ring_from_three = ((λ e. cc), (apart, ((λ h. h), tt)), (refl, (refl, tt)))
@@ -155,7 +156,7 @@ crossed_not_rises r = by_member r.0.0 r.0.1 (r.0.2 1 (inr (inl refl)))
 three_chains : AreChains (rows three) (linear (1 ∷ 2 ∷ []) ∷ cyclic (3 ∷ []) ∷ [])
 three_chains = record {
   each = each;
-  once = (apart, (apart_more, ((λ h. h), tt)));
+  once = (apart, (three_is_apart, ((λ h. h), tt)));
   all = λ i v. rows_valid three i v;
 }
   where
@@ -168,10 +169,6 @@ three_chains = record {
     apart (inl e) = omega arith
     apart (inr (inl e)) = omega arith
     apart (inr (inr h)) = h
-
-    apart_more : Has (3 ∷ []) 2 → ⊥
-    apart_more (inl e) = omega arith
-    apart_more (inr h) = h
 
 three_in_order : IsInOrder (linear (1 ∷ 2 ∷ []) ∷ cyclic (3 ∷ []) ∷ [])
 three_in_order = record { written = written; rises = ((1, inl refl, above), ((3, inl refl, λ y h. absurd h), tt)) }
