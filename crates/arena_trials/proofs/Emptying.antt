@@ -1,6 +1,7 @@
 -- An advancer over entries of which the first is taken out at each step.
 use Rattle.std.proofs.Common.{◌≡◌, ℕ, suc, ◌+◌, subst, cond, List, [], ◌∷◌, ◌++◌, map, length, Option, None, Some, refl, ap, sym, ◌∙◌, arith}
 use Rattle.std.proofs.lemmas.Bool.{le-leb, eq-eqb}
+use Rattle.std.proofs.lemmas.Option.{none-some}
 use Rattle.arena_base.specs.Entries.{RisesFrom, first_key, found, without}
 use Rattle.arena_base.specs.Advancing.{from_index}
 use Rattle.arena_trials.specs.Taking.{keyed}
@@ -47,10 +48,7 @@ module _ {Gen T : Type 0} where
   pub finds_it : (es : List ((ℕ × Gen) × T)) (from n : ℕ) (key : ℕ × Gen) → RisesFrom from es → Some key ≡ first_key (from_index from es) → n ≡ key.0 → None ≡ found n es → ⊥
   finds_it es from n key rises first index none =
       let at = is_first es from n key rises first index in
-      none_is_not (key.1, at.value) (none ∙ at.finds)
-    where
-      none_is_not : (e : Gen × T) → None ≡ Some e → ⊥
-      none_is_not e is = cc
+      none-some (key.1, at.value) (none ∙ at.finds)
 
 same_value : {Gen T : Type 0} (e f : Gen × T) → Some e ≡ Some f → e.1 ≡ f.1
 same_value {Gen} {T} e f is = ap (λ (o : Option (Gen × T)). value o) is
