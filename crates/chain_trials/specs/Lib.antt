@@ -1,1 +1,2 @@
+pub mod Advancers
 pub mod Behind

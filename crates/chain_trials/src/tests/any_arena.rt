@@ -1,7 +1,8 @@
 //! The rows that any arena of links meets, at the chain arena and at an arena that hands each call on.
 
 use super::wrapped::Wrapped;
-use super::{Chains, behind, calls, removal, rows};
+use super::{Chains, NONE, behind, calls, lone_links, removal, rows, same};
+use arena_base::ArenaTrait;
 use arena_ptr::ToolPtr;
 use chain_arena::ChainArenaTrait;
 use std::alloc::Global;
@@ -27,4 +28,12 @@ fn a_chain_arena(rt: HostRuntime) -> Result<(), Fail> {
 #[test]
 fn an_arena_that_hands_each_call_on(rt: HostRuntime) -> Result<(), Fail> {
     check_all::<Wrapped<Chains>>(&rt, rt.alloc())
+}
+
+// An advancer may begin anew after its first `None`: the arena that hands each call on has such a one.
+#[test]
+fn an_advancer_that_begins_anew(rt: HostRuntime) {
+    let arena: Wrapped<Chains> = lone_links(&rt, rt.alloc(), 1);
+    let met = calls::three(arena.advancer(), &arena);
+    same(&rt, "the link twice", met, [(1, 2), NONE, (1, 2)]);
 }

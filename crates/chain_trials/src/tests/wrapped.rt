@@ -14,31 +14,51 @@ pub(super) struct Wrapped<A> {
     inner: A,
 }
 
-// An advancer around an advancer.
+// An advancer around an advancer. It may have a second one, with which it goes on after its first `None`: no trait asks
+// what an advancer of an arena does then.
 #[derive(Drop)]
 pub(super) struct WrappedAdvancer<V> {
     inner: V,
+    again: Option<V>,
 }
 
 impl<A, V: Advancer<A>> Advancer<Wrapped<A>> for WrappedAdvancer<V> {
+    ghost use Rattle.std.specs.Prelude.{◌≡◌, OnSome, None};
+    ghost use Rattle.std.proofs.Common.{subst, sym};
+
     type Item = V::Item;
 
-    ghost gives = { λ a arena answer b. V.gives a.inner arena.inner answer b.inner };
+    ghost gives = { λ a arena answer b. (mid : V) × V.gives a.inner arena.inner answer mid
+        × OnSome answer (b.inner ≡ mid) × (a.again ≡ None → (b.inner ≡ mid) × (b.again ≡ None)) };
 
-    ghost is_spent = { λ a. V.is_spent a.inner };
+    ghost is_spent = { λ a. V.is_spent a.inner × (a.again ≡ None) };
 
-    ghost stays_spent = { λ a b arena answer spent given. V.stays_spent a.inner b.inner arena.inner answer spent given };
+    ghost stays_spent = { λ a b arena answer spent given.
+        let still = V.stays_spent a.inner given.0 arena.inner answer spent.0 given.1 in
+        let kept = given.3 spent.1 in
+        (still.0, (subst V.is_spent (sym kept.0) still.1, kept.1)) };
 
     fn advance(&mut self, collection: &Wrapped<A>) -> Option<V::Item> {
-        self.inner.advance(&collection.inner)
+        let answer = self.inner.advance(&collection.inner);
+        if answer.is_none() {
+            if let Some(again) = self.again.take() {
+                self.inner = again;
+            }
+        }
+        answer
     }
 
     fn empty() -> Self {
-        WrappedAdvancer { inner: V::empty() }
+        WrappedAdvancer {
+            inner: V::empty(),
+            again: None,
+        }
     }
 }
 
 impl<P: Ptr, T: Drop, A: ArenaTrait<P, T>> ArenaTrait<P, T> for Wrapped<A> {
+    ghost use Rattle.chain_trials.specs.Advancers.{until_none};
+
     type PtrAdvancer = WrappedAdvancer<A::PtrAdvancer>;
 
     ghost seen = { λ w. A.seen w.inner };
@@ -63,7 +83,8 @@ impl<P: Ptr, T: Drop, A: ArenaTrait<P, T>> ArenaTrait<P, T> for Wrapped<A> {
 
     ghost looked_up = { λ w. A.looked_up w.inner };
 
-    ghost advances = { λ a b w answer given. A.advances a.inner b.inner w.inner answer given };
+    ghost advances = { λ a b w answer given. until_none (A.seen w.inner).entries (A.looks a.inner) P.key answer A.looks given.0 b.inner given.2
+        (A.advances a.inner given.0 w.inner answer given.1) };
 
     fn new(alloc: Global) -> Self {
         Wrapped {
@@ -133,12 +154,14 @@ impl<P: Ptr, T: Drop, A: ArenaTrait<P, T>> ArenaTrait<P, T> for Wrapped<A> {
     fn advancer(&self) -> WrappedAdvancer<A::PtrAdvancer> {
         WrappedAdvancer {
             inner: self.inner.advancer(),
+            again: Some(self.inner.advancer()),
         }
     }
 
     fn advancer_inx(&self, i: P::Inx, rev: bool) -> WrappedAdvancer<A::PtrAdvancer> {
         WrappedAdvancer {
             inner: self.inner.advancer_inx(i, rev),
+            again: Some(self.inner.advancer()),
         }
     }
 
