@@ -1,6 +1,6 @@
 -- A step that was made is some answer's step, also where memory for the answer was refused.
 use Rattle.std.proofs.Common.{OnOk, ◌≤◌, ◌<◌, ◌+◌, ◌↔◌, length, arith, IsOk, is_ok, if◌then◌else◌, ◌≡◌, ℕ, ◌⊎◌, List, [], ◌∷◌, ◌++◌, Result, Ok, Err, OnErr, refl, sym, ap, ap₂, ◌∙◌, inl, inr, ⊎_elim, subst, Bool, cond, append_assoc, append-nil, true, false, codes}
-use Rattle.std.proofs.lemmas.Bool.{cases_lt}
+use Rattle.std.proofs.lemmas.Bool.{cases_lt, false≢true}
 use Rattle.arena_ptr.specs.declared.generation.gen32.Gen32.{Gen32}
 use Rattle.chain_laws.specs.Operations.{joined}
 use Rattle.arena_base.specs.Arena.{entry_count, next_index, with_capacity_of, HasRoom}
@@ -67,9 +67,6 @@ module _ {T E : Type 0} where
   line_err old new line command (Err e) is steps =
       elim steps [ inl same ↦ inl same | inr some ↦ inr (some.0 ++ 10 ∷ [], subst (λ l. AnswersLine old l (some.0 ++ 10 ∷ []) new) is (some.0, refl, some.1)) ]
 
-pub no_some : false ≡ true → ⊥
-no_some e = cc
-
 -- there are as many entries of values as links
 links_counted : (a : Links) → length (seen_of (values_of a)).entries ≡ entry_count a
 links_counted a = length-entries (values_of a) ∙ entry_count-with_each value_in a
@@ -80,7 +77,7 @@ failed e = Err e
 
 is_full : (X : Type 0) (old : Links) (e : ChainInsertionError) (more : Type 0) → (length (seen_of (values_of old)).entries < old.capacity → IsOk (failed {X = X} e) × more)
     → old.capacity ≤ entry_count old
-is_full X old e more room = let none : length (seen_of (values_of old)).entries < old.capacity → ⊥ = (λ less. no_some (room less).0) in omega (arith, none, links_counted old)
+is_full X old e more room = let none : length (seen_of (values_of old)).entries < old.capacity → ⊥ = (λ less. false≢true (room less).0) in omega (arith, none, links_counted old)
 
 other : {X : Type 0} (e : ChainInsertionError) → e ≡ AllocError → failed {X = X} e ≡ failed BeyondMaxCapacity → ⊥
 other e is same = cc
@@ -143,7 +140,7 @@ module _ (before text joined more : List ℕ) (first : Bool) (all left after : L
     where
       by_list : (passed : List Passed) → true ≡ is_none passed → text ≡ before ++ walk_text passed → more ≡ before ++ walk_text (passed ++ e ∷ [])
       by_list [] none written = link ∙ ap (λ l. l ++ link_text e) (same ∙ written ∙ append-nil before)
-      by_list (d ∷ passed) none written = absurd (no_some (sym none))
+      by_list (d ∷ passed) none written = absurd (false≢true (sym none))
 
   -- .. each other one after a space
   pub IsWalked-next : first ≡ false → joined ≡ text ++ 32 ∷ [] → IsWalked before more false all after
@@ -155,7 +152,7 @@ module _ (before text joined more : List ℕ) (first : Bool) (all left after : L
   }
     where
       by_list : (passed : List Passed) → false ≡ is_none passed → text ≡ before ++ walk_text passed → more ≡ before ++ walk_text (passed ++ e ∷ [])
-      by_list [] some written = absurd (no_some some)
+      by_list [] some written = absurd (false≢true some)
       by_list (d ∷ passed) some written =
           link ∙ ap (λ l. l ++ link_text e) (spaced ∙ ap (λ l. l ++ 32 ∷ []) written)
           ∙ append_assoc (before ++ walk_text (d ∷ passed)) (32 ∷ []) (link_text e) ∙ append_assoc before (walk_text (d ∷ passed)) (32 ∷ link_text e)

@@ -1,5 +1,6 @@
 -- Lemmas on lines that come byte by byte.
 use Rattle.std.proofs.Common.{◌≡◌, ℕ, ◌<◌, ◌≤◌, ◌==◌, Bool, true, false, nat_lt, cond, List, [], ◌∷◌, ◌++◌, length, take, refl, sym, ap, ◌∙◌, length-append, append_assoc, append-nil, arith, rules}
+use Rattle.std.proofs.lemmas.Bool.{lt-ltb}
 use Rattle.std.proofs.lemmas.List.{take_all, take-append-le, length-take}
 use Rattle.std.specs.List.{onto_first}
 use Rattle.chain_tool.specs.Words.{lines_of, whole_lines, all_but_last, words_of, without_return}
@@ -19,15 +20,12 @@ kept_more n byte kept rest is short =
     let same : kept ≡ rest = is ∙ take_all n rest (omega arith) in
     ap (λ l. l ++ byte ∷ []) same ∙ sym (take_all n (rest ++ byte ∷ []) (simp length-append (omega arith)))
 
-nat_lt_yes : (a b : ℕ) → a < b → nat_lt a b ≡ true
-nat_lt_yes a b h = search rules
-
 -- what a line says, its first 201 bytes say
 pub line_of-take : (rest : List ℕ) → line_of (take 201 rest) ≡ line_of rest
 line_of-take rest = by_length (nat_lt 201 (length rest)) refl
   where
     bad : (line : List ℕ) → 200 < length line → line_of line ≡ lines.Bad
-    bad line long = ap (λ b. cond b lines.Bad (line_of_words (words_of (without_return line)))) (nat_lt_yes 200 (length line) long)
+    bad line long = ap (λ b. cond b lines.Bad (line_of_words (words_of (without_return line)))) (lt-ltb 200 (length line) long)
 
     shorter : nat_lt 201 (length rest) ≡ false → length rest ≤ 201
     shorter e = search rules

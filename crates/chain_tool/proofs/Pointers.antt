@@ -1,6 +1,6 @@
 -- Lemmas on the numbers and pointers of words.
 use Rattle.std.proofs.Common.{◌≡◌, ℕ, ◌^◌, ◌<◌, ◌≤◌, ◌↔◌, Bool, true, false, leb, Option, Some, None, IsSome, IfSome, option_and_then, refl, sym, ap, ◌∙◌, arith}
-use Rattle.std.proofs.lemmas.Bool.{le-leb, leb-true}
+use Rattle.std.proofs.lemmas.Bool.{le-leb, leb-true, false≢true}
 use Rattle.arena_ptr.specs.Numbers.{IsWithin}
 use Rattle.arena_ptr.specs.Indexes.{number_of_inx32, same_inx32}
 use Rattle.arena_ptr.specs.Generations.{number_of_gen32, same_gen32}
@@ -22,21 +22,18 @@ module _ {A : Type 0} (make : (n : ℕ) → IsWithin 0xffff_ffff n → A) where
   made_if-none n absent true false at_least at_most = refl
   made_if-none n absent false high at_least at_most = refl
 
-no_some : false ≡ true → ⊥
-no_some e = cc
-
 -- what a test of the number answers is the index of the number
 pub index_of-new : (n : ℕ) (r : Option Inx32) → n < 2 ^ 32 → IsSome r ↔ (1 ≤ n) → IfSome r (λ i. number_of_inx32 i ≡ n) → r ≡ index_of n
 unfolding index_of
 index_of-new n (Some i) fits variant value =
     sym (made_if-some index_at n i (variant.0 refl, omega arith) (λ within. same_inx32 (index_at n within) i (sym value)) _ _ refl refl)
-index_of-new n None fits variant value = sym (made_if-none index_at n (λ at_least. no_some (variant.1 at_least)) _ _ refl refl)
+index_of-new n None fits variant value = sym (made_if-none index_at n (λ at_least. false≢true (variant.1 at_least)) _ _ refl refl)
 
 pub generation_of-new : (n : ℕ) (r : Option Gen32) → n < 2 ^ 32 → IsSome r ↔ (1 ≤ n) → IfSome r (λ g. number_of_gen32 g ≡ n) → r ≡ generation_of n
 unfolding generation_of
 generation_of-new n (Some g) fits variant value =
     sym (made_if-some generation_at n g (variant.0 refl, omega arith) (λ within. same_gen32 (generation_at n within) g (sym value)) _ _ refl refl)
-generation_of-new n None fits variant value = sym (made_if-none generation_at n (λ at_least. no_some (variant.1 at_least)) _ _ refl refl)
+generation_of-new n None fits variant value = sym (made_if-none generation_at n (λ at_least. false≢true (variant.1 at_least)) _ _ refl refl)
 
 pub index_of-chain : (o : Option ℕ) (n : ℕ) (r : Option Inx32) → o ≡ Some n → n < 2 ^ 32 → IsSome r ↔ (1 ≤ n) → IfSome r (λ i. number_of_inx32 i ≡ n) → r ≡ option_and_then index_of o
 index_of-chain o n r e fits variant value = index_of-new n r fits variant value ∙ ap (option_and_then index_of) (sym e)

@@ -2,6 +2,7 @@
 use Rattle.std.proofs.Common.{◌≡◌, ℕ, ◌⊎◌, List, ◌++◌, Option, None, Some, Bool, true, false, refl, sym, ap, ◌∙◌, inl, inr, codes, decimal, ⊎_elim}
 use Rattle.std.specs.Option.{option_map}
 use Rattle.std.proofs.lemmas.Bool.{cases_eq}
+use Rattle.std.proofs.lemmas.Option.{none-some}
 use Rattle.arena_ptr.specs.Generations.{number_of_gen32, same_gen32, after32, is_greatest32}
 use Rattle.arena_ptr.specs.Invalidation.{value_within, invalidation_result}
 use Rattle.arena_ptr.specs.declared.generation.gen32.Gen32.{Gen32}
@@ -24,9 +25,7 @@ removal_text InvalidPtr = codes "none"
 
 -- a pointer is valid, or it is not
 valid_at : (a : Links) (p : ℕ × Gen32) (o : Option (Gen32 × ℕ)) → entry_at (values_of a) p.0 ≡ o → IsValidIn a p ⊎ (IsValidIn a p → ⊥)
-valid_at a p None stands = inr (λ valid. nothing (sym stands ∙ valid.stands)) where
-  nothing : {A : Type 0} {x : A} → None ≡ Some x → ⊥
-  nothing h = cc
+valid_at a p None stands = inr (λ valid. none-some _ (sym stands ∙ valid.stands))
 valid_at a p (Some e) stands = ⊎_elim
     (λ same. inl (record { value = e.1; stands = stands ∙ ap (λ (g : Gen32). let o : Option (Gen32 × ℕ) = Some (g, e.1) in o) (same_gen32 e.0 p.1 same) }))
     (λ other. inr (λ valid. other (ap (generation_or e.0) (sym stands ∙ valid.stands))))
@@ -65,12 +64,8 @@ overflowed false x told = absurd (let h = told in cc)
 -- where a value stands a link does
 some_link : (o : Option (Gen32 × LinkSeen ℕ)) (e : Option (Gen32 × ℕ)) (v : Gen32 × ℕ) → e ≡ option_map (on_value value_in) o → e ≡ Some v
     → ◌≡◌ {A = Option (Gen32 × LinkSeen ℕ)} None (link_of e (option_map interlinks_of o)) → ⊥
-some_link None e v same stands told = nothing (sym same ∙ stands) where
-  nothing : ◌≡◌ {A = Option (Gen32 × ℕ)} None (Some v) → ⊥
-  nothing h = cc
-some_link (Some f) e v same stands told = nothing (told ∙ ap (λ (x : Option (Gen32 × ℕ)). link_of x (option_map interlinks_of (Some f))) same) where
-  nothing : ◌≡◌ {A = Option (Gen32 × LinkSeen ℕ)} None (link_of (option_map (on_value value_in) (Some f)) (option_map interlinks_of (Some f))) → ⊥
-  nothing h = cc
+some_link None e v same stands told = none-some v (sym same ∙ stands)
+some_link (Some f) e v same stands told = none-some _ (told ∙ ap (λ (x : Option (Gen32 × ℕ)). link_of x (option_map interlinks_of (Some f))) same)
 
 module _ (old new : Links) (p : ℕ × Gen32)
     (state : IsValidIn old p → new ≡ remove_link after32 old p.0) where

@@ -1,5 +1,6 @@
 -- Lemmas on numbers, words and pointers of a text.
 use Rattle.std.proofs.Common.{◌≡◌, ℕ, ◌+◌, ◌<◌, ◌≤◌, ◌&&◌, ◌==◌, Bool, true, false, nat_lt, nat_le, List, [], ◌∷◌, length, take, Some, None, refl, sym, ap, ◌∙◌, subst, arith, rules, cond, not, filter, take_while, drop, one-add}
+use Rattle.std.proofs.lemmas.Bool.{and_from, lt-ltb}
 use Rattle.std.specs.Str.{all_ascii_digits}
 use Rattle.std.specs.Str.Parse.{digits_value, AllDigits}
 use Rattle.std.proofs.lemmas.Str.Parse.{IsNumeralModel, numerals_by_value, tells_all_ascii_digits}
@@ -15,9 +16,6 @@ digit_words = numerals_by_value _ tells_all_ascii_digits
 both_true : (a b : Bool) → (a && b) ≡ true → (a ≡ true) × (b ≡ true)
 both_true a b h = search rules
 
-true_both : (a b : Bool) → a ≡ true → b ≡ true → (a && b) ≡ true
-true_both a b g h = search rules
-
 -- what a number is
 pub record IsNumber (word : List ℕ) : Type 0 where
   pub some : 0 < length word
@@ -30,9 +28,6 @@ nat_lt_is a b h = search rules
 
 nat_le_is : (a b : ℕ) → nat_le a b ≡ true → a ≤ b
 nat_le_is a b h = search rules
-
-is_nat_lt : (a b : ℕ) → a < b → nat_lt a b ≡ true
-is_nat_lt a b h = search rules
 
 is_nat_le : (a b : ℕ) → a ≤ b → nat_le a b ≡ true
 is_nat_le a b h = search rules
@@ -61,9 +56,9 @@ number_of-none word absent = sym (number_if word false (not_true _ (λ t. absent
 
 pub number_of-some : (word : List ℕ) → IsNumber word → Some (digits_value 10 word) ≡ number_of word
 number_of-some word is =
-    let lengths = true_both _ _ (is_nat_lt _ _ is.some) (is_nat_le _ _ is.short) in
-    let front = true_both _ _ lengths (digit_words.from word is.digits) in
-    sym (number_if word true (true_both _ _ front (is_nat_le _ _ is.small)))
+    let lengths = and_from _ _ (lt-ltb _ _ is.some) (is_nat_le _ _ is.short) in
+    let front = and_from _ _ lengths (digit_words.from word is.digits) in
+    sym (number_if word true (and_from _ _ front (is_nat_le _ _ is.small)))
 
 -- ---- words
 

@@ -1,7 +1,7 @@
 -- What is asked of a call of an advancer does not speak of what it becomes with the answer none.
 use Rattle.std.specs.Prelude.{◌≡◌, ℕ, List, Option, None, Some, OnSome}
 use Rattle.std.specs.Option.{option_map}
-use Rattle.std.proofs.Common.{subst, sym, ap}
+use Rattle.std.proofs.Common.{subst, sym}
 use Rattle.arena_base.specs.Advancing.{IsLookUntilNone}
 use Rattle.arena_base.specs.declared.look.Look.{Look}
 use Rattle.arena_base.specs.declared.look.Look.TheVariants.{Up, Down, Nowhere}
