@@ -18,44 +18,44 @@ module _ {X : Type 0} where
 abbrev regenerated : {Gen T : Type 0} → Gen → Option (Gen × T) → Option (Gen × T)
 regenerated {Gen} {T} g o = option_map (λ (e : Gen × T). (g, e.1)) o
 
-module _ {P T Inx Gen : Type 0} where
-  entry_of-regenerated : (slot : ArenaSlot P T Inx Gen) (g : Gen) → entry_of (with_generation_in slot g) ≡ regenerated g (entry_of slot)
+module _ {P T Inx Gen Word : Type 0} where
+  entry_of-regenerated : (slot : ArenaSlot P T Inx Gen Word) (g : Gen) → entry_of (with_generation_in slot g) ≡ regenerated g (entry_of slot)
   entry_of-regenerated (Allocated h t) g = refl
   entry_of-regenerated (Free next) g = refl
 
-  map-with_generation_at : (slots : List (ArenaSlot P T Inx Gen)) (k : ℕ) (g : Gen) → map entry_of (with_generation_at slots k g) ≡ slice_set (map entry_of slots) k (regenerated g (slice_index_or (map entry_of slots) k None))
+  map-with_generation_at : (slots : List (ArenaSlot P T Inx Gen Word)) (k : ℕ) (g : Gen) → map entry_of (with_generation_at slots k g) ≡ slice_set (map entry_of slots) k (regenerated g (slice_index_or (map entry_of slots) k None))
   map-with_generation_at [] k g = refl
   map-with_generation_at (s ∷ slots) zero g = ap (λ o. o ∷ map entry_of slots) (entry_of-regenerated s g)
   map-with_generation_at (s ∷ slots) (suc k) g = ap (λ es. entry_of s ∷ es) (map-with_generation_at slots k g)
 
-  pub length-with_generation_at : (slots : List (ArenaSlot P T Inx Gen)) (k : ℕ) (g : Gen) → length (with_generation_at slots k g) ≡ length slots
+  pub length-with_generation_at : (slots : List (ArenaSlot P T Inx Gen Word)) (k : ℕ) (g : Gen) → length (with_generation_at slots k g) ≡ length slots
   length-with_generation_at [] k g = refl
   length-with_generation_at (s ∷ slots) zero g = refl
   length-with_generation_at (s ∷ slots) (suc k) g = ap suc (length-with_generation_at slots k g)
 
-  index-map : (slots : List (ArenaSlot P T Inx Gen)) (k : ℕ) (d : ArenaSlot P T Inx Gen) → k < length slots → entry_of (slice_index_or slots k d) ≡ slice_index_or (map entry_of slots) k None
+  index-map : (slots : List (ArenaSlot P T Inx Gen Word)) (k : ℕ) (d : ArenaSlot P T Inx Gen Word) → k < length slots → entry_of (slice_index_or slots k d) ≡ slice_index_or (map entry_of slots) k None
   index-map [] k d below = absurd (omega (arith, below))
   index-map (s ∷ slots) zero d below = refl
   index-map (s ∷ slots) (suc k) d below = index-map slots k d (omega (arith, below))
 
-  map-swap : (slots : List (ArenaSlot P T Inx Gen)) (i j : ℕ) → i < length slots → j < length slots
+  map-swap : (slots : List (ArenaSlot P T Inx Gen Word)) (i j : ℕ) → i < length slots → j < length slots
       → map entry_of (swap slots i j) ≡ slice_set (slice_set (map entry_of slots) i (slice_index_or (map entry_of slots) j None)) j (slice_index_or (map entry_of slots) i None)
   map-swap [] i j first second = absurd (omega (arith, first))
   map-swap (d ∷ rest) i j first second =
-      let slots : List (ArenaSlot P T Inx Gen) = d ∷ rest in
+      let slots : List (ArenaSlot P T Inx Gen Word) = d ∷ rest in
       map-set entry_of (slice_set slots i (slice_index_or slots j d)) j (slice_index_or slots i d)
       ∙ (ap (λ es. slice_set es j (entry_of (slice_index_or slots i d))) (map-set entry_of slots i (slice_index_or slots j d))
       ∙ (ap (λ o. slice_set (slice_set (map entry_of slots) i o) j (entry_of (slice_index_or slots i d))) (index-map slots j d second)
       ∙ ap (λ o. slice_set (slice_set (map entry_of slots) i (slice_index_or (map entry_of slots) j None)) j o) (index-map slots i d first)))
 
-  pub length-swap : (slots : List (ArenaSlot P T Inx Gen)) (i j : ℕ) → length (swap slots i j) ≡ length slots
+  pub length-swap : (slots : List (ArenaSlot P T Inx Gen Word)) (i j : ℕ) → length (swap slots i j) ≡ length slots
   length-swap [] i j = refl
   length-swap (d ∷ rest) i j =
-      let slots : List (ArenaSlot P T Inx Gen) = d ∷ rest in
+      let slots : List (ArenaSlot P T Inx Gen Word) = d ∷ rest in
       length-set (slice_set slots i (slice_index_or slots j d)) j (slice_index_or slots i d) ∙ length-set slots i (slice_index_or slots j d)
 
   -- two slots are exchanged, and the second gets a generation
-  pub held_placed : (slots : List (ArenaSlot P T Inx Gen)) (capacity : ℕ) (maximum : Option ℕ) (i j from to : ℕ) (g : Gen) → i + 1 ≡ from → j + 1 ≡ to → i < length slots → j < length slots
+  pub held_placed : (slots : List (ArenaSlot P T Inx Gen Word)) (capacity : ℕ) (maximum : Option ℕ) (i j from to : ℕ) (g : Gen) → i + 1 ≡ from → j + 1 ≡ to → i < length slots → j < length slots
       → held_slots (with_generation_at (swap slots i j) j g) capacity maximum ≡ placed (held_slots slots capacity maximum) from to g
   held_placed slots capacity maximum i j from to g at_from at_to first second =
       let es = map entry_of slots in
@@ -76,7 +76,7 @@ module _ {P T Inx Gen : Type 0} where
       ap (λ fs. let h : Held Gen T = record { slots = fs; stack_capacity = capacity; maximum = maximum } in h) all
 
   -- a value is written
-  pub held_lent : (slots items : List (ArenaSlot P T Inx Gen)) (capacity room : ℕ) (maximum most : Option ℕ) (k n : ℕ) (slot : ArenaSlot P T Inx Gen) (w : T) → k + 1 ≡ n → slice_get slots k ≡ Some slot
+  pub held_lent : (slots items : List (ArenaSlot P T Inx Gen Word)) (capacity room : ℕ) (maximum most : Option ℕ) (k n : ℕ) (slot : ArenaSlot P T Inx Gen Word) (w : T) → k + 1 ≡ n → slice_get slots k ≡ Some slot
       → items ≡ slice_set slots k (with_value_in slot w) → room ≡ capacity → most ≡ maximum
       → held_slots items room most ≡ held_with_value (held_slots slots capacity maximum) n w
   held_lent slots items capacity room maximum most k n slot w at is written same_room same_most =

@@ -66,30 +66,30 @@ module _ {X : Type 0} where
   pub with_slot-position : (xs : List X) (k n : ℕ) (x : X) → k + 1 ≡ n → with_slot xs n x ≡ slice_set xs k x
   with_slot-position xs k n x is = let at : suc k ≡ n = omega (arith, is) in subst (λ i. with_slot xs i x ≡ slice_set xs k x) at refl
 
-module _ {P T Inx Gen : Type 0} where
-  pub map-push : (slots : List (ArenaSlot P T Inx Gen)) (slot : ArenaSlot P T Inx Gen) → map entry_of (slots ++ slot ∷ []) ≡ map entry_of slots ++ entry_of slot ∷ []
+module _ {P T Inx Gen Word : Type 0} where
+  pub map-push : (slots : List (ArenaSlot P T Inx Gen Word)) (slot : ArenaSlot P T Inx Gen Word) → map entry_of (slots ++ slot ∷ []) ≡ map entry_of slots ++ entry_of slot ∷ []
   map-push [] slot = refl
   map-push (s ∷ slots) slot = ap (λ es. entry_of s ∷ es) (map-push slots slot)
 
-  pub slice_index_or-map : (slots : List (ArenaSlot P T Inx Gen)) (k : ℕ) → slice_index_or (map entry_of slots) k None ≡ entry_in (slice_get slots k)
+  pub slice_index_or-map : (slots : List (ArenaSlot P T Inx Gen Word)) (k : ℕ) → slice_index_or (map entry_of slots) k None ≡ entry_in (slice_get slots k)
   slice_index_or-map [] k = refl
   slice_index_or-map (s ∷ slots) zero = refl
   slice_index_or-map (s ∷ slots) (suc k) = slice_index_or-map slots k
 
   -- the entry at an index is that of the slot at its position
-  pub slot_at-map : (slots : List (ArenaSlot P T Inx Gen)) (k n : ℕ) → k + 1 ≡ n → slot_at (map entry_of slots) n ≡ entry_in (slice_get slots k)
+  pub slot_at-map : (slots : List (ArenaSlot P T Inx Gen Word)) (k n : ℕ) → k + 1 ≡ n → slot_at (map entry_of slots) n ≡ entry_in (slice_get slots k)
   slot_at-map slots k n is =
       let at : suc k ≡ n = omega (arith, is) in
       subst (λ i. slot_at (map entry_of slots) i ≡ entry_in (slice_get slots k)) at (slice_index_or-map slots k)
 
   -- one if an entry stands in the slot, and else nothing
-  abbrev pub taken : ArenaSlot P T Inx Gen → ℕ
+  abbrev pub taken : ArenaSlot P T Inx Gen Word → ℕ
   taken slot = cond (is_some (entry_of slot)) 1 0
 
-  abbrev pub taken_count : List (ArenaSlot P T Inx Gen) → ℕ
+  abbrev pub taken_count : List (ArenaSlot P T Inx Gen Word) → ℕ
   taken_count slots = count_by is_some (map entry_of slots)
 
-  pub taken_count-set : (slots : List (ArenaSlot P T Inx Gen)) (k : ℕ) (old new : ArenaSlot P T Inx Gen) → slice_get slots k ≡ Some old
+  pub taken_count-set : (slots : List (ArenaSlot P T Inx Gen Word)) (k : ℕ) (old new : ArenaSlot P T Inx Gen Word) → slice_get slots k ≡ Some old
       → taken_count (slice_set slots k new) + taken old ≡ taken_count slots + taken new
   taken_count-set [] k old new is = cc
   taken_count-set (s ∷ slots) zero old new is =
@@ -102,7 +102,7 @@ module _ {P T Inx Gen : Type 0} where
       let after = sum_by-cons (λ (o : Option (Gen × T)). cond (is_some o) 1 0) (entry_of s) (map entry_of (slice_set slots k new)) in
       omega (arith, before, after, taken_count-set slots k old new is)
 
-  pub taken_count-push : (slots : List (ArenaSlot P T Inx Gen)) (slot : ArenaSlot P T Inx Gen) → taken_count (slots ++ slot ∷ []) ≡ taken_count slots + taken slot
+  pub taken_count-push : (slots : List (ArenaSlot P T Inx Gen Word)) (slot : ArenaSlot P T Inx Gen Word) → taken_count (slots ++ slot ∷ []) ≡ taken_count slots + taken slot
   taken_count-push [] slot = sum_by-cons (λ (o : Option (Gen × T)). cond (is_some o) 1 0) (entry_of slot) [] ∙ omega arith
   taken_count-push (s ∷ slots) slot =
       let before = sum_by-cons (λ (o : Option (Gen × T)). cond (is_some o) 1 0) (entry_of s) (map entry_of slots) in
@@ -110,32 +110,32 @@ module _ {P T Inx Gen : Type 0} where
       omega (arith, before, after, taken_count-push slots slot)
 
   -- a generation written at a position is a write of that slot
-  pub with_generation_at-set : (slots : List (ArenaSlot P T Inx Gen)) (k : ℕ) (slot : ArenaSlot P T Inx Gen) (g : Gen) → slice_get slots k ≡ Some slot
+  pub with_generation_at-set : (slots : List (ArenaSlot P T Inx Gen Word)) (k : ℕ) (slot : ArenaSlot P T Inx Gen Word) (g : Gen) → slice_get slots k ≡ Some slot
       → slice_set slots k (with_generation_in slot g) ≡ with_generation_at slots k g
   with_generation_at-set [] k slot g is = refl
   with_generation_at-set (s ∷ slots) zero slot g is = let same : s ≡ slot = cc in ap (λ z. with_generation_in z g ∷ slots) (sym same)
   with_generation_at-set (s ∷ slots) (suc k) slot g is = ap (λ zs. s ∷ zs) (with_generation_at-set slots k slot g is)
 
-  pub with_generation_at-none : (slots : List (ArenaSlot P T Inx Gen)) (k : ℕ) (g : Gen) → None ≡ slice_get slots k → slots ≡ with_generation_at slots k g
+  pub with_generation_at-none : (slots : List (ArenaSlot P T Inx Gen Word)) (k : ℕ) (g : Gen) → None ≡ slice_get slots k → slots ≡ with_generation_at slots k g
   with_generation_at-none [] k g is = refl
   with_generation_at-none (s ∷ slots) zero g is = cc
   with_generation_at-none (s ∷ slots) (suc k) g is = ap (λ zs. s ∷ zs) (with_generation_at-none slots k g is)
 
   -- a slot without an entry is free, and stays as it is
-  pub freed_slot-free : (slot : ArenaSlot P T Inx Gen) (next : Option Inx) → entry_of slot ≡ None → freed_slot slot next ≡ slot
+  pub freed_slot-free : (slot : ArenaSlot P T Inx Gen Word) (next : Option Inx) → entry_of slot ≡ None → freed_slot slot next ≡ slot
   freed_slot-free (Allocated g t) next is = cc
   freed_slot-free (Free other) next is = refl
 
-  pub allocated-entry : (slot : ArenaSlot P T Inx Gen) (e : Gen × T) → entry_of slot ≡ Some e → slot ≡ allocated_slot e.0 e.1
+  pub allocated-entry : (slot : ArenaSlot P T Inx Gen Word) (e : Gen × T) → entry_of slot ≡ Some e → slot ≡ allocated_slot e.0 e.1
   allocated-entry (Allocated g t) e is = ap (λ (o : Option (Gen × T)). slot_with o) is
     where
-      slot_with : Option (Gen × T) → ArenaSlot P T Inx Gen
+      slot_with : Option (Gen × T) → ArenaSlot P T Inx Gen Word
       slot_with None = allocated_slot g t
       slot_with (Some f) = allocated_slot f.0 f.1
   allocated-entry (Free next) e is = cc
 
   -- a slot whose entry is known
-  pub allocated-at : (o : Option (ArenaSlot P T Inx Gen)) (e : Gen × T) → Some e ≡ entry_in o → o ≡ Some (allocated_slot e.0 e.1)
+  pub allocated-at : (o : Option (ArenaSlot P T Inx Gen Word)) (e : Gen × T) → Some e ≡ entry_in o → o ≡ Some (allocated_slot e.0 e.1)
   allocated-at None e is = cc
   allocated-at (Some slot) e is = ap (λ s. Some s) (allocated-entry slot e (sym is))
 

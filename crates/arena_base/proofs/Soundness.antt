@@ -9,34 +9,34 @@ use Rattle.arena_base.specs.declared.slot.ArenaSlot.{ArenaSlot}
 use Rattle.arena_base.specs.declared.slot.ArenaSlot.TheVariants.{Allocated, Free}
 use Rattle.arena_base.proofs.Reading.{slice_get-set-same, slice_set-itself, item_at-set-other, item_at-append, item_at-push, at_position, taken_count-set, taken_count-push}
 
-module _ {P T Inx Gen : Type 0} where
+module _ {P T Inx Gen Word : Type 0} where
   -- a taken slot is not free
-  not_free : (slot : ArenaSlot P T Inx Gen) (g : Gen) (t : T) (next : Option Inx) → slot ≡ Allocated g t → Some slot ≡ Some (free_slot next) → ⊥
+  not_free : (slot : ArenaSlot P T Inx Gen Word) (g : Gen) (t : T) (next : Option Inx) → slot ≡ Allocated g t → Some slot ≡ Some (free_slot next) → ⊥
   not_free slot g t next taken free = cc
 
-module _ {P T Inx Gen : Type 0} (number : Inx → ℕ) where
+module _ {P T Inx Gen Word : Type 0} (number : Inx → ℕ) where
   -- what stands in the freed list is free
-  pub listed_is_free : (slots : List (ArenaSlot P T Inx Gen)) (ns : List ℕ) (head : Option Inx) (n : ℕ) → IsFreeList number slots ns head → Has n ns → (next : Option Inx) × (item_at slots n ≡ Some (free_slot next))
+  pub listed_is_free : (slots : List (ArenaSlot P T Inx Gen Word)) (ns : List ℕ) (head : Option Inx) (n : ℕ) → IsFreeList number slots ns head → Has n ns → (next : Option Inx) × (item_at slots n ≡ Some (free_slot next))
   listed_is_free slots [] head n l has = absurd has
   listed_is_free slots (m ∷ ns) head n l (inl same) = (l.1, subst (λ k. item_at slots k ≡ Some (free_slot l.1)) same l.4)
   listed_is_free slots (m ∷ ns) head n l (inr has) = listed_is_free slots ns l.1 n l.5 has
 
-  pub taken_is_not_listed : (slots : List (ArenaSlot P T Inx Gen)) (ns : List ℕ) (head : Option Inx) (n : ℕ) (g : Gen) (t : T) → IsFreeList number slots ns head → item_at slots n ≡ Some (allocated_slot g t) → Has n ns → ⊥
+  pub taken_is_not_listed : (slots : List (ArenaSlot P T Inx Gen Word)) (ns : List ℕ) (head : Option Inx) (n : ℕ) (g : Gen) (t : T) → IsFreeList number slots ns head → item_at slots n ≡ Some (allocated_slot g t) → Has n ns → ⊥
   taken_is_not_listed slots ns head n g t l is has =
       let free = listed_is_free slots ns head n l has in
       let both : Some (allocated_slot g t) ≡ Some (free_slot free.0) = sym is ∙ free.1 in cc
 
-  pub IsFreeList-set : (slots : List (ArenaSlot P T Inx Gen)) (k : ℕ) (slot : ArenaSlot P T Inx Gen) (ns : List ℕ) (head : Option Inx) → (Has (suc k) ns → ⊥) → IsFreeList number slots ns head → IsFreeList number (slice_set slots k slot) ns head
+  pub IsFreeList-set : (slots : List (ArenaSlot P T Inx Gen Word)) (k : ℕ) (slot : ArenaSlot P T Inx Gen Word) (ns : List ℕ) (head : Option Inx) → (Has (suc k) ns → ⊥) → IsFreeList number slots ns head → IsFreeList number (slice_set slots k slot) ns head
   IsFreeList-set slots k slot [] head out l = l
   IsFreeList-set slots k slot (n ∷ ns) head out l =
       (l.0, l.1, l.2, l.3, item_at-set-other slots k n slot (λ e. out (inl (sym e))) ∙ l.4, IsFreeList-set slots k slot ns l.1 (λ h. out (inr h)) l.5)
 
-  pub IsFreeList-push : (slots : List (ArenaSlot P T Inx Gen)) (slot : ArenaSlot P T Inx Gen) (ns : List ℕ) (head : Option Inx) → IsFreeList number slots ns head → IsFreeList number (slots ++ slot ∷ []) ns head
+  pub IsFreeList-push : (slots : List (ArenaSlot P T Inx Gen Word)) (slot : ArenaSlot P T Inx Gen Word) (ns : List ℕ) (head : Option Inx) → IsFreeList number slots ns head → IsFreeList number (slots ++ slot ∷ []) ns head
   IsFreeList-push slots slot [] head l = l
   IsFreeList-push slots slot (n ∷ ns) head l = (l.0, l.1, l.2, l.3, item_at-append slots (slot ∷ []) n (free_slot l.1) l.4, IsFreeList-push slots slot ns l.1 l.5)
 
   -- the walk along the freed list finds it
-  pub walked : (slots : List (ArenaSlot P T Inx Gen)) (ns : List ℕ) (most : ℕ) (head : Option Inx) → IsFreeList number slots ns head → length ns ≤ most → freed_from number slots most head ≡ ns
+  pub walked : (slots : List (ArenaSlot P T Inx Gen Word)) (ns : List ℕ) (most : ℕ) (head : Option Inx) → IsFreeList number slots ns head → length ns ≤ most → freed_from number slots most head ≡ ns
   walked slots [] zero head l few = refl
   walked slots [] (suc most) head l few = ap (freed_from number slots (suc most)) l
   walked slots (n ∷ ns) zero head l few = absurd (omega (arith, few))
@@ -45,7 +45,7 @@ module _ {P T Inx Gen : Type 0} (number : Inx → ℕ) where
       ∙ (ap (λ m. m ∷ freed_from number slots most (next_of (item_at slots m))) l.3
       ∙ (ap (λ o. n ∷ freed_from number slots most (next_of o)) l.4 ∙ ap (λ ms. n ∷ ms) (walked slots ns most l.1 l.5 (omega (arith, few)))))
 
-  module _ {slots : List (ArenaSlot P T Inx Gen)} {greatest len : ℕ} {head : Option Inx} {ns : List ℕ} (s : IsSound number slots greatest len head ns) where
+  module _ {slots : List (ArenaSlot P T Inx Gen Word)} {greatest len : ℕ} {head : Option Inx} {ns : List ℕ} (s : IsSound number slots greatest len head ns) where
     pub walked_all : freed_of number slots head ≡ ns
     walked_all = walked slots ns (length slots) head s.linked (omega (arith, s.total))
 
@@ -98,7 +98,7 @@ module _ {P T Inx Gen : Type 0} (number : Inx → ℕ) where
         }
 
   -- an entry is written into the slot that was freed last
-  pub filled_freed : {slots : List (ArenaSlot P T Inx Gen)} {greatest len : ℕ} {ns : List ℕ} (i : Inx) (next : Option Inx) (k : ℕ) (g : Gen) (t : T)
+  pub filled_freed : {slots : List (ArenaSlot P T Inx Gen Word)} {greatest len : ℕ} {ns : List ℕ} (i : Inx) (next : Option Inx) (k : ℕ) (g : Gen) (t : T)
       → IsSound number slots greatest len (Some i) ns → k + 1 ≡ number i → slice_get slots k ≡ Some (free_slot next)
       → IsSound number (slice_set slots k (allocated_slot g t)) greatest (len + 1) next (without_first ns) × (ns ≡ number i ∷ without_first ns)
   filled_freed {ns = []} i next k g t s at is = let none : Some i ≡ None = s.linked in cc
@@ -131,7 +131,7 @@ module _ {P T Inx Gen : Type 0} (number : Inx → ℕ) where
       elsewhere m away (inr has) = has
 
   -- an entry is appended where no slot is free
-  pub filled_next : {slots : List (ArenaSlot P T Inx Gen)} {greatest len : ℕ} {ns : List ℕ} (g : Gen) (t : T)
+  pub filled_next : {slots : List (ArenaSlot P T Inx Gen Word)} {greatest len : ℕ} {ns : List ℕ} (g : Gen) (t : T)
       → IsSound number slots greatest len None ns → length slots < greatest
       → IsSound number (slots ++ allocated_slot g t ∷ []) greatest (len + 1) None [] × (ns ≡ [])
   filled_next {slots = slots} {ns = []} g t s room =
@@ -152,17 +152,17 @@ module _ {P T Inx Gen : Type 0} (number : Inx → ℕ) where
   filled_next {slots = slots} {ns = n ∷ ns} g t s room = let some : None ≡ Some s.linked.0 = s.linked.2 in cc
 
   -- where no slot is freed there are as many entries as slots
-  pub none_freed : {slots : List (ArenaSlot P T Inx Gen)} {greatest len : ℕ} {ns : List ℕ} → IsSound number slots greatest len None ns → len ≡ length slots
+  pub none_freed : {slots : List (ArenaSlot P T Inx Gen Word)} {greatest len : ℕ} {ns : List ℕ} → IsSound number slots greatest len None ns → len ≡ length slots
   none_freed {ns = []} s = omega (arith, s.total)
   none_freed {ns = n ∷ ns} s = let some : None ≡ Some s.linked.0 = s.linked.2 in cc
 
   -- where an entry stands one is counted
-  pub some_taken : {slots : List (ArenaSlot P T Inx Gen)} {greatest len : ℕ} {head : Option Inx} {ns : List ℕ} → IsSound number slots greatest len head ns
+  pub some_taken : {slots : List (ArenaSlot P T Inx Gen Word)} {greatest len : ℕ} {head : Option Inx} {ns : List ℕ} → IsSound number slots greatest len head ns
       → (k : ℕ) (g : Gen) (t : T) → slice_get slots k ≡ Some (allocated_slot g t) → 1 ≤ len
   some_taken {slots = slots} {head = head} s k g t is = omega (arith, s.counted, taken_count-set slots k (allocated_slot g t) (free_slot head) is)
 
   -- a value is written
-  pub lent : {slots : List (ArenaSlot P T Inx Gen)} {greatest len : ℕ} {head : Option Inx} {ns : List ℕ} (k : ℕ) (slot : ArenaSlot P T Inx Gen) (w : T)
+  pub lent : {slots : List (ArenaSlot P T Inx Gen Word)} {greatest len : ℕ} {head : Option Inx} {ns : List ℕ} (k : ℕ) (slot : ArenaSlot P T Inx Gen Word) (w : T)
       → IsSound number slots greatest len head ns → slice_get slots k ≡ Some slot → IsSound number (slice_set slots k (with_value_in slot w)) greatest len head ns
   lent k (Allocated g t) w s is = rewritten s k g g t w is
   lent {slots = slots} {greatest = greatest} {len = len} {head = head} {ns = ns} k (Free next) w s is =

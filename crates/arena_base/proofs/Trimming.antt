@@ -66,15 +66,15 @@ pub some_of : {X : Type 0} (o : Option X) → is_none o ≡ false → (x : X) ×
 some_of None is = cc
 some_of (Some x) is = (x, refl)
 
-module _ {P T Inx Gen : Type 0} where
-  map-take : (slots : List (ArenaSlot P T Inx Gen)) (k : ℕ) → map entry_of (take k slots) ≡ take k (map entry_of slots)
+module _ {P T Inx Gen Word : Type 0} where
+  map-take : (slots : List (ArenaSlot P T Inx Gen Word)) (k : ℕ) → map entry_of (take k slots) ≡ take k (map entry_of slots)
   map-take [] zero = refl
   map-take [] (suc k) = refl
   map-take (s ∷ slots) zero = refl
   map-take (s ∷ slots) (suc k) = ap (λ es. entry_of s ∷ es) (map-take slots k)
 
   -- one step of the cut
-  pub cut_more : (slots : List (ArenaSlot P T Inx Gen)) (k n : ℕ) → k + 1 ≡ n → k < length slots → is_none (entry_in (slice_get slots k)) ≡ true → trimmed (take n (map entry_of slots)) ≡ trimmed (map entry_of slots)
+  pub cut_more : (slots : List (ArenaSlot P T Inx Gen Word)) (k n : ℕ) → k + 1 ≡ n → k < length slots → is_none (entry_in (slice_get slots k)) ≡ true → trimmed (take n (map entry_of slots)) ≡ trimmed (map entry_of slots)
       → trimmed (take k (map entry_of slots)) ≡ trimmed (map entry_of slots)
   cut_more slots k n at below free rest =
       let next : suc k ≡ n = omega (arith, at) in
@@ -82,7 +82,7 @@ module _ {P T Inx Gen : Type 0} where
       ∙ (ap (λ m. trimmed (take m (map entry_of slots))) next ∙ rest)
 
   -- the cut ends behind an entry
-  pub cut_ends : (slots : List (ArenaSlot P T Inx Gen)) (k n : ℕ) → k + 1 ≡ n → is_none (entry_in (slice_get slots k)) ≡ false → trimmed (take n (map entry_of slots)) ≡ trimmed (map entry_of slots)
+  pub cut_ends : (slots : List (ArenaSlot P T Inx Gen Word)) (k n : ℕ) → k + 1 ≡ n → is_none (entry_in (slice_get slots k)) ≡ false → trimmed (take n (map entry_of slots)) ≡ trimmed (map entry_of slots)
       → map entry_of (take n slots) ≡ trimmed (map entry_of slots)
   cut_ends slots k n at taken rest =
       let next : suc k ≡ n = omega (arith, at) in
@@ -91,18 +91,18 @@ module _ {P T Inx Gen : Type 0} where
       ∙ (ap (λ m. trimmed (take m (map entry_of slots))) next ∙ rest)))
 
   -- or nothing is left
-  pub cut_all : (slots : List (ArenaSlot P T Inx Gen)) (n : ℕ) → n ≡ 0 → trimmed (take n (map entry_of slots)) ≡ trimmed (map entry_of slots) → map entry_of (take n slots) ≡ trimmed (map entry_of slots)
+  pub cut_all : (slots : List (ArenaSlot P T Inx Gen Word)) (n : ℕ) → n ≡ 0 → trimmed (take n (map entry_of slots)) ≡ trimmed (map entry_of slots) → map entry_of (take n slots) ≡ trimmed (map entry_of slots)
   cut_all slots n none rest =
       map-take slots n ∙ (ap (λ m. take m (map entry_of slots)) none ∙ (ap (λ m. trimmed (take m (map entry_of slots))) (sym none) ∙ rest))
 
-module _ {P T Inx Gen : Type 0} (number : Inx → ℕ) where
+module _ {P T Inx Gen Word : Type 0} (number : Inx → ℕ) where
   -- how far a listing has come, down to a position
-  pub record IsListing (slots : List (ArenaSlot P T Inx Gen)) (entries : List (Option (Gen × T))) (k len : ℕ) (head : Option Inx) : Type 0 where
+  pub record IsListing (slots : List (ArenaSlot P T Inx Gen Word)) (entries : List (Option (Gen × T))) (k len : ℕ) (head : Option Inx) : Type 0 where
     pub same : map entry_of slots ≡ entries
     pub linked : IsFreeList number slots (free_from (suc k) (drop k entries)) head
     pub counted : len ≡ count_by is_some (drop k entries)
 
-  module _ {slots : List (ArenaSlot P T Inx Gen)} {entries : List (Option (Gen × T))} {n len : ℕ} {head : Option Inx} (l : IsListing slots entries n len head) (k : ℕ) (at : suc k ≡ n) (below : k < length slots) where
+  module _ {slots : List (ArenaSlot P T Inx Gen Word)} {entries : List (Option (Gen × T))} {n len : ℕ} {head : Option Inx} (l : IsListing slots entries n len head) (k : ℕ) (at : suc k ≡ n) (below : k < length slots) where
     entry_there : slice_index_or entries k None ≡ entry_in (slice_get slots k)
     entry_there = ap (λ es. slice_index_or es k None) (sym l.same) ∙ slice_index_or-map slots k
 
@@ -141,7 +141,7 @@ module _ {P T Inx Gen : Type 0} (number : Inx → ℕ) where
         unchanged (e ∷ es) (suc j) none = ap (λ fs. e ∷ fs) (unchanged es j none)
 
   -- once all slots are listed they are sound
-  pub listing_ends : {slots : List (ArenaSlot P T Inx Gen)} {entries : List (Option (Gen × T))} {len greatest : ℕ} {head : Option Inx} → IsListing slots entries 0 len head → length slots ≤ greatest
+  pub listing_ends : {slots : List (ArenaSlot P T Inx Gen Word)} {entries : List (Option (Gen × T))} {len greatest : ℕ} {head : Option Inx} → IsListing slots entries 0 len head → length slots ≤ greatest
       → IsSound number slots greatest len head (free_from 1 entries)
   listing_ends {slots = slots} {entries = entries} {len = len} l few =
       let counted : len ≡ count_by is_some entries = l.counted in
@@ -162,7 +162,7 @@ module _ {P T Inx Gen : Type 0} (number : Inx → ℕ) where
           (ap (λ es. slice_index_or es k None) (sym l.same) ∙ (slice_index_or-map slots k ∙ ap entry_in free))
 
   -- one step of the listing, at a free slot
-  pub listing_frees : {slots items : List (ArenaSlot P T Inx Gen)} {entries : List (Option (Gen × T))} {n len : ℕ} {head : Option Inx} → IsListing slots entries n len head
+  pub listing_frees : {slots items : List (ArenaSlot P T Inx Gen Word)} {entries : List (Option (Gen × T))} {n len : ℕ} {head : Option Inx} → IsListing slots entries n len head
       → (k : ℕ) (o : Option Inx) → k + 1 ≡ n → k < length slots → is_none (entry_in (slice_get slots k)) ≡ true → IsSome o → IfSome o (λ i. number i ≡ k + 1) → items ≡ slice_set slots k (free_slot head)
       → IsListing items entries k len o
   listing_frees l k None at below free some index written = let both : false ≡ true = some in cc
@@ -173,7 +173,7 @@ module _ {P T Inx Gen : Type 0} (number : Inx → ℕ) where
       (listing_lists l k (omega (arith, at)) below old.0 i (slot.1 ∙ ap (λ s. Some s) old.1) (omega (arith, index)))
 
   -- and at a taken one
-  pub listing_takes : {slots : List (ArenaSlot P T Inx Gen)} {entries : List (Option (Gen × T))} {n len : ℕ} {head : Option Inx} → IsListing slots entries n len head
+  pub listing_takes : {slots : List (ArenaSlot P T Inx Gen Word)} {entries : List (Option (Gen × T))} {n len : ℕ} {head : Option Inx} → IsListing slots entries n len head
       → (k : ℕ) → k + 1 ≡ n → k < length slots → is_none (entry_in (slice_get slots k)) ≡ false → IsListing slots entries k (len + 1) head
   listing_takes {slots = slots} l k at below taken =
       let entry = some_of (entry_in (slice_get slots k)) taken in

@@ -10,16 +10,16 @@ use Rattle.arena_base.specs.declared.slot.ArenaSlot.TheVariants.{Allocated, Free
 use Rattle.arena_base.proofs.Soundness.{lent, walked_all}
 use Rattle.arena_base.proofs.Reading.{map-push, slot_at-map, with_slot-position}
 
-pub entry_of-written : {P T Inx Gen : Type 0} (slot : ArenaSlot P T Inx Gen) (w : T) → entry_of (with_value_in slot w) ≡ option_map (λ (e : Gen × T). (e.0, w)) (entry_of slot)
+pub entry_of-written : {P T Inx Gen Word : Type 0} (slot : ArenaSlot P T Inx Gen Word) (w : T) → entry_of (with_value_in slot w) ≡ option_map (λ (e : Gen × T). (e.0, w)) (entry_of slot)
 entry_of-written (Allocated g t) w = refl
 entry_of-written (Free next) w = refl
 
-module _ {P T Inx Gen : Type 0} (slots : List (ArenaSlot P T Inx Gen)) (ns : List ℕ) (counter : Gen) (greatest capacity : ℕ) (maximum : Option ℕ) (placed touched : ℕ) where
+module _ {P T Inx Gen Word : Type 0} (slots : List (ArenaSlot P T Inx Gen Word)) (ns : List ℕ) (counter : Gen) (greatest capacity : ℕ) (maximum : Option ℕ) (placed touched : ℕ) where
   abbrev now : Arena Gen T
   now = arena_of slots ns counter greatest capacity maximum placed touched
 
   -- the slots that are seen after a write of a slot
-  pub seen_slots : (k n : ℕ) (slot : ArenaSlot P T Inx Gen) → k + 1 ≡ n → map entry_of (slice_set slots k slot) ≡ with_slot (map entry_of slots) n (entry_of slot)
+  pub seen_slots : (k n : ℕ) (slot : ArenaSlot P T Inx Gen Word) → k + 1 ≡ n → map entry_of (slice_set slots k slot) ≡ with_slot (map entry_of slots) n (entry_of slot)
   seen_slots k n slot at = map-set entry_of slots k slot ∙ sym (with_slot-position (map entry_of slots) k n (entry_of slot) at)
 
   pub seen_filled_next : (t : T) → ns ≡ []
@@ -43,7 +43,7 @@ module _ {P T Inx Gen : Type 0} (slots : List (ArenaSlot P T Inx Gen)) (ns : Lis
   entry_seen : (k n : ℕ) (g : Gen) (t : T) → k + 1 ≡ n → slice_get slots k ≡ Some (allocated_slot g t) → slot_at (map entry_of slots) n ≡ Some (g, t)
   entry_seen k n g t at is = slot_at-map slots k n at ∙ ap entry_in is
 
-  pub seen_lent : (k n : ℕ) (slot : ArenaSlot P T Inx Gen) (w : T) → k + 1 ≡ n → slice_get slots k ≡ Some slot
+  pub seen_lent : (k n : ℕ) (slot : ArenaSlot P T Inx Gen Word) (w : T) → k + 1 ≡ n → slice_get slots k ≡ Some slot
       → arena_of (slice_set slots k (with_value_in slot w)) ns counter greatest capacity maximum placed touched ≡ with_value now n w
   seen_lent k n slot w at is =
       let rewrite : Option (Gen × T) → Option (Gen × T) = option_map (λ (e : Gen × T). (e.0, w)) in
@@ -58,11 +58,11 @@ module _ {P T Inx Gen : Type 0} (slots : List (ArenaSlot P T Inx Gen)) (ns : Lis
       (seen_slots k n (allocated_slot (following counter) t) at
       ∙ ap (λ (o : Option (Gen × T)). with_slot (map entry_of slots) n (option_map (λ (e : Gen × T). (following counter, e.1)) o)) (sym (entry_seen k n g t at is)))
 
-module _ {P T Inx Gen : Type 0} (number : Inx → ℕ) where
+module _ {P T Inx Gen Word : Type 0} (number : Inx → ℕ) where
   -- the arena after a write of a value
-  pub lent_view : {slots : List (ArenaSlot P T Inx Gen)} {greatest len : ℕ} {head : Option Inx} → IsSound number slots greatest len head (freed_of number slots head)
-      → (counter : Gen) (capacity : ℕ) (maximum : Option ℕ) (placed touched : ℕ) (k n : ℕ) (slot : ArenaSlot P T Inx Gen) (w : T)
-      → (items : List (ArenaSlot P T Inx Gen)) (room : ℕ) (most : Option ℕ) → k + 1 ≡ n → slice_get slots k ≡ Some slot → items ≡ slice_set slots k (with_value_in slot w) → room ≡ capacity → most ≡ maximum
+  pub lent_view : {slots : List (ArenaSlot P T Inx Gen Word)} {greatest len : ℕ} {head : Option Inx} → IsSound number slots greatest len head (freed_of number slots head)
+      → (counter : Gen) (capacity : ℕ) (maximum : Option ℕ) (placed touched : ℕ) (k n : ℕ) (slot : ArenaSlot P T Inx Gen Word) (w : T)
+      → (items : List (ArenaSlot P T Inx Gen Word)) (room : ℕ) (most : Option ℕ) → k + 1 ≡ n → slice_get slots k ≡ Some slot → items ≡ slice_set slots k (with_value_in slot w) → room ≡ capacity → most ≡ maximum
       → arena_of items (freed_of number items head) counter greatest room most placed touched ≡ with_value (arena_of slots (freed_of number slots head) counter greatest capacity maximum placed touched) n w
   lent_view {slots = slots} {greatest = greatest} {head = head} s counter capacity maximum placed touched k n slot w items room most at is written same_room same_most =
       rw (written, same_room, same_most, walked_all number (lent number k slot w s is))

@@ -10,57 +10,57 @@ abbrev pub item_at : {X : Type 0} → List X → ℕ → Option X
 item_at items zero = None
 item_at items (suc k) = slice_get items k
 
-module _ {P T Inx Gen : Type 0} where
+module _ {P T Inx Gen Word : Type 0} where
   -- the entry of a slot
-  abbrev pub entry_of : ArenaSlot P T Inx Gen → Option (Gen × T)
+  abbrev pub entry_of : ArenaSlot P T Inx Gen Word → Option (Gen × T)
   entry_of (Allocated generation t) = Some (generation, t)
   entry_of (Free next) = None
 
   -- the slot with another value, if it has one
-  abbrev pub with_value_in : ArenaSlot P T Inx Gen → T → ArenaSlot P T Inx Gen
+  abbrev pub with_value_in : ArenaSlot P T Inx Gen Word → T → ArenaSlot P T Inx Gen Word
   with_value_in (Allocated generation t) w = Allocated generation w
   with_value_in (Free next) w = Free next
 
   -- the slot with another generation, if it has one
-  abbrev pub with_generation_in : ArenaSlot P T Inx Gen → Gen → ArenaSlot P T Inx Gen
+  abbrev pub with_generation_in : ArenaSlot P T Inx Gen Word → Gen → ArenaSlot P T Inx Gen Word
   with_generation_in (Allocated generation t) g = Allocated g t
   with_generation_in (Free next) g = Free next
 
-  abbrev pub allocated_slot : Gen → T → ArenaSlot P T Inx Gen
+  abbrev pub allocated_slot : Gen → T → ArenaSlot P T Inx Gen Word
   allocated_slot generation t = Allocated generation t
 
-  abbrev pub free_slot : Option Inx → ArenaSlot P T Inx Gen
+  abbrev pub free_slot : Option Inx → ArenaSlot P T Inx Gen Word
   free_slot next = Free next
 
   -- the slot without its entry, if it has one
-  abbrev pub freed_slot : ArenaSlot P T Inx Gen → Option Inx → ArenaSlot P T Inx Gen
+  abbrev pub freed_slot : ArenaSlot P T Inx Gen Word → Option Inx → ArenaSlot P T Inx Gen Word
   freed_slot (Allocated generation t) next = Free next
   freed_slot (Free other) next = Free other
 
   -- the entry of a slot that may be none
-  abbrev pub entry_in : Option (ArenaSlot P T Inx Gen) → Option (Gen × T)
+  abbrev pub entry_in : Option (ArenaSlot P T Inx Gen Word) → Option (Gen × T)
   entry_in None = None
   entry_in (Some slot) = entry_of slot
 
   -- there is a slot, and it is free
-  abbrev pub IsFree : Option (ArenaSlot P T Inx Gen) → Type 0
+  abbrev pub IsFree : Option (ArenaSlot P T Inx Gen Word) → Type 0
   IsFree None = ⊥
   IsFree (Some (Allocated generation t)) = ⊥
   IsFree (Some (Free next)) = ⊤
 
   -- the slots with another generation at a position
-  abbrev pub with_generation_at : List (ArenaSlot P T Inx Gen) → ℕ → Gen → List (ArenaSlot P T Inx Gen)
+  abbrev pub with_generation_at : List (ArenaSlot P T Inx Gen Word) → ℕ → Gen → List (ArenaSlot P T Inx Gen Word)
   with_generation_at [] k g = []
   with_generation_at (slot ∷ slots) zero g = with_generation_in slot g ∷ slots
   with_generation_at (slot ∷ slots) (suc k) g = slot ∷ with_generation_at slots k g
 
   -- the free slot that a slot names as the next
-  abbrev pub next_of : Option (ArenaSlot P T Inx Gen) → Option Inx
+  abbrev pub next_of : Option (ArenaSlot P T Inx Gen Word) → Option Inx
   next_of None = None
   next_of (Some (Allocated generation t)) = None
   next_of (Some (Free next)) = next
 
-module _ {P T Inx Gen : Type 0} (number : Inx → ℕ) (slots : List (ArenaSlot P T Inx Gen)) where
+module _ {P T Inx Gen Word : Type 0} (number : Inx → ℕ) (slots : List (ArenaSlot P T Inx Gen Word)) where
   -- the freed indexes from a first one on, at most so many
   abbrev pub freed_from : ℕ → Option Inx → List ℕ
   freed_from zero head = []
@@ -86,7 +86,7 @@ module _ {P T Inx Gen : Type 0} (number : Inx → ℕ) (slots : List (ArenaSlot 
   freed_of head = freed_from (length slots) head
 
 -- an arena of slots, with its freed list
-abbrev pub arena_of : {P T Inx Gen : Type 0} → List (ArenaSlot P T Inx Gen) → List ℕ → Gen → ℕ → ℕ → Option ℕ → ℕ → ℕ → Arena Gen T
+abbrev pub arena_of : {P T Inx Gen Word : Type 0} → List (ArenaSlot P T Inx Gen Word) → List ℕ → Gen → ℕ → ℕ → Option ℕ → ℕ → ℕ → Arena Gen T
 arena_of slots freed counter greatest capacity maximum placed touched = record {
   slots = map entry_of slots;
   counter = counter;
@@ -99,5 +99,5 @@ arena_of slots freed counter greatest capacity maximum placed touched = record {
 }
 
 -- slots that a compactor holds
-abbrev pub held_slots : {P T Inx Gen : Type 0} → List (ArenaSlot P T Inx Gen) → ℕ → Option ℕ → Held Gen T
+abbrev pub held_slots : {P T Inx Gen Word : Type 0} → List (ArenaSlot P T Inx Gen Word) → ℕ → Option ℕ → Held Gen T
 held_slots slots capacity maximum = record { slots = map entry_of slots; stack_capacity = capacity; maximum = maximum }

@@ -30,11 +30,12 @@ impl<P: Ptr, T: Drop, S: SlotStack<Item = ArenaSlot<P, T>>> Arena<P, T, S> {
         &mut self,
     ) -> Result<ArenaInsertEntry<'_, P, T, S>, NotWithinCapacityError>
         ensures* unchanged_at_err { sem 𝓛 (RestsIfErr
-            (arena_row P.row T.row S.row P.Inx.row P.Gen.row
+            (arena_row P.row T.row S.row P.Inx.row P.Gen.row P.Inx.Word.row
             (record { key = P.key }) (record { eq = P.eq }) (record { cmp = P.cmp }) (record { partial_cmp = P.partial_cmp })
             (record { hash_input = P.hash_input }) (record { debug_output = P.debug_output })
-            (record { number = P.Inx.number; greatest = P.Inx.greatest }) (record { eq = P.Inx.eq }) (record { cmp = P.Inx.cmp }) (record { partial_cmp = P.Inx.partial_cmp })
+            (record { number = P.Inx.number; packed_number = P.Inx.packed_number; greatest = P.Inx.greatest }) (record { eq = P.Inx.eq }) (record { cmp = P.Inx.cmp }) (record { partial_cmp = P.Inx.partial_cmp })
             (record { hash_input = P.Inx.hash_input }) (record { debug_output = P.Inx.debug_output })
+            (record { eq = P.Inx.Word.eq }) (record { cmp = P.Inx.Word.cmp }) (record { partial_cmp = P.Inx.Word.partial_cmp }) (record { hash_input = P.Inx.Word.hash_input })
             (record { first = P.Gen.first; following = P.Gen.following; wraps = P.Gen.wraps }) (record { eq = P.Gen.eq }) (record { cmp = P.Gen.cmp }) (record { partial_cmp = P.Gen.partial_cmp })
             (record { hash_input = P.Gen.hash_input }) (record { debug_output = P.Gen.debug_output })
             S.SlotStack)

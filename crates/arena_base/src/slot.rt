@@ -23,7 +23,7 @@ impl<P: Ptr, T> ArenaSlot<P, T> {
 
     // The value of an entry, for writing.
     pub(crate) fn value_mut(&mut self) -> Option<&mut T>
-        ensures* lends { sem 𝓛 (LendsIf (the_row P.row T.row P.Inx.row P.Gen.row) T.row self.entry result (with_value_in self.old) self.old) }
+        ensures* lends { sem 𝓛 (LendsIf (the_row P.row T.row P.Inx.row P.Gen.row P.Inx.Word.row) T.row self.entry result (with_value_in self.old) self.old) }
         ensures value { option_copied_mut result ≡ option_map (λ e. e.1) (entry_of self.old) }
     {
         match self {

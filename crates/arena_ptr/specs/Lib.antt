@@ -1,4 +1,5 @@
 pub mod Numbers
+pub mod Packed
 pub mod Indexes
 pub mod Generations
 pub mod ToolPtr

@@ -1,8 +1,11 @@
-ghost use Rattle.std.specs.Prelude.{◌≡◌, ℕ, ◌^◌, ◌<◌, ◌≤◌, ◌↔◌, IsSome, IfSome, Some, Bool, true};
+ghost use Rattle.std.specs.Prelude.{◌≡◌, ℕ, ◌^◌, ◌<◌, ◌≤◌, ◌↔◌, IsSome, IfSome, Option, Some, Bool, true};
+ghost use Rattle.std.specs.Option.{option_map};
 ghost use Rattle.std.specs.Fmt.{WritesOnOk};
+ghost use Rattle.arena_ptr.specs.declared.packed_option.PackedOption.{PackedOption};
 ghost use Rattle.arena_ptr.specs.Numbers.{IsWithin};
 ghost use Rattle.arena_ptr.specs.Text.{hexadecimal};
 
+use crate::packed_option::PackedOption;
 use std::fmt;
 use std::fmt::Debug;
 use std::hash::Hash;
@@ -11,8 +14,15 @@ use std::hash::Hash;
 ///
 /// Carries `PtrInx` of `triple_arena`, over `usize` in place of `NonZeroUsize`.
 pub trait PtrInx: Copy + Eq + Ord + Hash + Debug {
+    /// What an optional index is kept in: as narrow as the index where it has a number to spare, as 0 is,
+    /// else `Option<Self>`.
+    type Word: Copy + Eq + Ord + Hash;
+
     // The number of an index, from 1 to the greatest. Contracts name indexes by it.
     ghost number: { Self → ℕ };
+
+    // The number of the index that is packed, where there is one.
+    ghost packed_number: { PackedOption Self Self.Word → Option ℕ };
 
     ghost greatest: { ℕ };
 
@@ -30,6 +40,14 @@ pub trait PtrInx: Copy + Eq + Ord + Hash + Debug {
     fn try_into_usize(self) -> Option<usize>
         ensures { result ≡ Some (number self) };
 
+    /// Packs an optional index.
+    fn pack(i: Option<Self>) -> PackedOption<Self, Self::Word>
+        ensures { packed_number result ≡ option_map number i };
+
+    /// The optional index that is packed.
+    fn unpack(packed: PackedOption<Self, Self::Word>) -> Option<Self>
+        ensures { option_map number result ≡ packed_number packed };
+
     /// Writes the number in lower-case hexadecimal, without a prefix, whatever the caller's format.
     fn fmt_hex<W: fmt::Write>(self, f: &mut fmt::Formatter<W>) -> fmt::Result
         ensures { WritesOnOk W.write_str_gives f.old result (hexadecimal (number self)) f.new };
@@ -43,6 +61,10 @@ pub trait PtrInx: Copy + Eq + Ord + Hash + Debug {
     ghost same_number: { (i j : Self) → number i ≡ number j → i ≡ j };
 
     ghost eq_is_same: { (i j : Self) → (Self.eq i j ≡ true) ↔ (i ≡ j) };
+
+    ghost same_packed: { (o p : PackedOption Self Self.Word) → packed_number o ≡ packed_number p → o ≡ p };
+
+    ghost word_eq_is_same: { (v w : Self.Word) → (Self.Word.eq v w ≡ true) ↔ (v ≡ w) };
 }
 
 /// A generation, which tells the entries that stood at one index apart.

@@ -108,44 +108,44 @@ module _ {Gen T : Type 0} where
         rest = λ i other. entries i ∙ if_other i (next_index a) _ _ other;
       })
 
-module _ {Gen I T : Type 0} (number : I → ℕ) where
+module _ {Gen K T : Type 0} (number : K → Option ℕ) where
   -- an insertion, seen
-  pub seen_links-insert_next : (a : Arena Gen (LinkBody I T)) (link : LinkBody I T) → seen_links number (insert_next a link) ≡ insert_next (seen_links number a) (seen_link number link)
+  pub seen_links-insert_next : (a : Arena Gen (LinkBody K T)) (link : LinkBody K T) → seen_links number (insert_next a link) ≡ insert_next (seen_links number a) (seen_link number link)
   seen_links-insert_next a link = with_each-insert_next (seen_link number) a link
 
-  pub entry_count-seen_links : (a : Arena Gen (LinkBody I T)) → entry_count (seen_links number a) ≡ entry_count a
+  pub entry_count-seen_links : (a : Arena Gen (LinkBody K T)) → entry_count (seen_links number a) ≡ entry_count a
   entry_count-seen_links a = entry_count-with_each (seen_link number) a
 
-  pub next_index-seen_links : (a : Arena Gen (LinkBody I T)) → next_index (seen_links number a) ≡ next_index a
+  pub next_index-seen_links : (a : Arena Gen (LinkBody K T)) → next_index (seen_links number a) ≡ next_index a
   next_index-seen_links a = ap (first_or_next a.freed) (length-with_each (seen_link number) a)
 
   -- the arena of values lists its free slots too
-  pub listed-seen_links : (a : Arena Gen (LinkBody I T)) → IsListed a → IsListed (seen_links number a)
+  pub listed-seen_links : (a : Arena Gen (LinkBody K T)) → IsListed a → IsListed (seen_links number a)
   listed-seen_links a listed = listed-with_each (seen_link number) a listed
 
-  pub listed-values : (a : Arena Gen (LinkBody I T)) → IsListed a → IsListed (values_of (seen_links number a))
+  pub listed-values : (a : Arena Gen (LinkBody K T)) → IsListed a → IsListed (values_of (seen_links number a))
   listed-values a listed = listed-with_each value_in (seen_links number a) (listed-seen_links a listed)
 
-  pub length-values : (a : Arena Gen (LinkBody I T)) → length (values_of (seen_links number a)).slots ≡ length a.slots
+  pub length-values : (a : Arena Gen (LinkBody K T)) → length (values_of (seen_links number a)).slots ≡ length a.slots
   length-values a = length-with_each value_in (seen_links number a) ∙ length-with_each (seen_link number) a
 
-  pub next_index-values : (a : Arena Gen (LinkBody I T)) → next_index (values_of (seen_links number a)) ≡ next_index a
+  pub next_index-values : (a : Arena Gen (LinkBody K T)) → next_index (values_of (seen_links number a)) ≡ next_index a
   next_index-values a = ap (first_or_next a.freed) (length-values a)
 
   -- how many values there are
-  pub count-values : (a : Arena Gen (LinkBody I T)) → length (entries (values_of (seen_links number a))) ≡ entry_count a
+  pub count-values : (a : Arena Gen (LinkBody K T)) → length (entries (values_of (seen_links number a))) ≡ entry_count a
   count-values a = length-entries (values_of (seen_links number a)) ∙ (entry_count-with_each value_in (seen_links number a) ∙ entry_count-seen_links a)
 
   -- after the insertion of a lone link ..
-  module _ (a b : Arena Gen (LinkBody I T)) (link : LinkBody I T) (t : T) (listed : IsListed a) (is_lone : seen_link number link ≡ lone t) (inserted : b ≡ with_capacity_of (insert_next a link) b) where
+  module _ (a b : Arena Gen (LinkBody K T)) (link : LinkBody K T) (t : T) (listed : IsListed a) (is_lone : seen_link number link ≡ lone t) (inserted : b ≡ with_capacity_of (insert_next a link) b) where
     -- .. it is in the state
     pub seen-inserted : seen_links number b ≡ with_capacity_of (insert_lone (seen_links number a) t) (seen_links number b)
-    seen-inserted = ap (λ (x : Arena Gen (LinkBody I T)). seen_links number x) inserted
+    seen-inserted = ap (λ (x : Arena Gen (LinkBody K T)). seen_links number x) inserted
         ∙ ap (λ (x : Arena Gen (LinkSeen T)). with_capacity_of x (seen_links number b)) (seen_links-insert_next a link ∙ ap (insert_next (seen_links number a)) is_lone)
 
     -- .. nothing else is, where there was room
     pub seen-in_room : b ≡ insert_next a link → seen_links number b ≡ insert_lone (seen_links number a) t
-    seen-in_room room = ap (λ (x : Arena Gen (LinkBody I T)). seen_links number x) room ∙ (seen_links-insert_next a link ∙ ap (insert_next (seen_links number a)) is_lone)
+    seen-in_room room = ap (λ (x : Arena Gen (LinkBody K T)). seen_links number x) room ∙ (seen_links-insert_next a link ∙ ap (insert_next (seen_links number a)) is_lone)
 
     values-inserted : values_of (seen_links number b) ≡ with_capacity_of (insert_next (values_of (seen_links number a)) t) (values_of (seen_links number b))
     values-inserted = ap (λ (x : Arena Gen (LinkSeen T)). values_of x) seen-inserted

@@ -11,11 +11,11 @@ use Rattle.chain_arena.proofs.Connecting.{value_at}
 use Rattle.chain_arena.proofs.Mapping.{IsValidPtr}
 use Rattle.chain_arena.proofs.Valuing.{held_in}
 
-module _ {Gen I T : Type 0} (number : I → ℕ) where
+module _ {Gen K T : Type 0} (number : K → Option ℕ) where
   -- the value at an index is that of the link there
-  pub value_there : (a : Arena Gen (LinkBody I T)) (n : ℕ) → option_map (λ (e : Gen × T). e.1) (entry_at (values_of (seen_links number a)) n) ≡ option_map held_in (option_map (λ (e : Gen × LinkBody I T). e.1) (entry_at a n))
+  pub value_there : (a : Arena Gen (LinkBody K T)) (n : ℕ) → option_map (λ (e : Gen × T). e.1) (entry_at (values_of (seen_links number a)) n) ≡ option_map held_in (option_map (λ (e : Gen × LinkBody K T). e.1) (entry_at a n))
   value_there a n = ap (option_map (λ (e : Gen × T). e.1)) (value_at number a n) ∙ by (entry_at a n) where
-    by : (o : Option (Gen × LinkBody I T)) → option_map (λ (e : Gen × T). e.1) (option_map (on_value held_in) o) ≡ option_map held_in (option_map (λ (e : Gen × LinkBody I T). e.1) o)
+    by : (o : Option (Gen × LinkBody K T)) → option_map (λ (e : Gen × T). e.1) (option_map (on_value held_in) o) ≡ option_map held_in (option_map (λ (e : Gen × LinkBody K T). e.1) o)
     by None = refl
     by (Some e) = refl
 

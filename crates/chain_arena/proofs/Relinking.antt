@@ -99,21 +99,21 @@ module _ {Gen T : Type 0} where
       ∙ relinked-again a (next_set (shown a) u v) (linked (shown a) u v) fits))
 
 -- the interlinks were changed in a link that was written
-abbrev pub IsWrite : {I T : Type 0} → (I → ℕ) → (LinkBody I T → LinkBody I T) → (Interlinks → Interlinks) → Type 0
-IsWrite {I} {T} number write change = (l : LinkBody I T) → seen_link number (write l) ≡ with_interlinks (change (interlinks_in (seen_link number l))) (seen_link number l)
+abbrev pub IsWrite : {K T : Type 0} → (K → Option ℕ) → (LinkBody K T → LinkBody K T) → (Interlinks → Interlinks) → Type 0
+IsWrite {K} {T} number write change = (l : LinkBody K T) → seen_link number (write l) ≡ with_interlinks (change (interlinks_in (seen_link number l))) (seen_link number l)
 
-module _ {Gen I T : Type 0} (number : I → ℕ) where
-  seen-write : (o : Option (Gen × LinkBody I T)) (link : LinkBody I T) (write : LinkBody I T → LinkBody I T) (change : Interlinks → Interlinks) → IsWrite number write change
-      → option_map (λ (e : Gen × LinkBody I T). e.1) o ≡ Some link
-      → option_map (seen_pair number) (option_map (λ (e : Gen × LinkBody I T). (e.0, write link)) o)
+module _ {Gen K T : Type 0} (number : K → Option ℕ) where
+  seen-write : (o : Option (Gen × LinkBody K T)) (link : LinkBody K T) (write : LinkBody K T → LinkBody K T) (change : Interlinks → Interlinks) → IsWrite number write change
+      → option_map (λ (e : Gen × LinkBody K T). e.1) o ≡ Some link
+      → option_map (seen_pair number) (option_map (λ (e : Gen × LinkBody K T). (e.0, write link)) o)
       ≡ relink (option_map change (option_map interlinks_of (option_map (seen_pair number) o))) (option_map (seen_pair number) o)
   seen-write None link write change is stands = refl
   seen-write (Some e) link write change is stands =
-      ap (λ (l : LinkBody I T). let o : Option (Gen × LinkSeen T) = Some (e.0, seen_link number (write l)) in o) (sym (one_some stands)) ∙ ap (λ (l : LinkSeen T). let o : Option (Gen × LinkSeen T) = Some (e.0, l) in o) (is e.1)
+      ap (λ (l : LinkBody K T). let o : Option (Gen × LinkSeen T) = Some (e.0, seen_link number (write l)) in o) (sym (one_some stands)) ∙ ap (λ (l : LinkSeen T). let o : Option (Gen × LinkSeen T) = Some (e.0, l) in o) (is e.1)
 
   -- a link that was written, in an arena of links
-  pub seen_links-write : (a : Arena Gen (LinkBody I T)) (n : ℕ) (link : LinkBody I T) (write : LinkBody I T → LinkBody I T) (change : Interlinks → Interlinks) (interlinks : Shown) → IsWrite number write change
-      → option_map (λ (e : Gen × LinkBody I T). e.1) (entry_at a n) ≡ Some link
+  pub seen_links-write : (a : Arena Gen (LinkBody K T)) (n : ℕ) (link : LinkBody K T) (write : LinkBody K T → LinkBody K T) (change : Interlinks → Interlinks) (interlinks : Shown) → IsWrite number write change
+      → option_map (λ (e : Gen × LinkBody K T). e.1) (entry_at a n) ≡ Some link
       → ((i : ℕ) → interlinks i ≡ (if i == n then option_map change (shown (seen_links number a) i) else shown (seen_links number a) i))
       → seen_links number (with_value a n (write link)) ≡ relinked (seen_links number a) interlinks
   seen_links-write a n link write change interlinks is stands are =
@@ -122,7 +122,7 @@ module _ {Gen I T : Type 0} (number : I → ℕ) where
       let at : (i : ℕ) → i ≡ n → entry_at (seen_links number (with_value a n w)) i ≡ relink (interlinks i) (entry_at seen i) =
       (λ i same. entry_at-seen_links number (with_value a n w) i
       ∙ (ap (option_map (seen_pair number)) (entry_at-with_value a n w i ∙ if_same i n _ _ same)
-      ∙ (seen-write (entry_at a i) link write change is (ap (λ k. option_map (λ (e : Gen × LinkBody I T). e.1) (entry_at a k)) same ∙ stands)
+      ∙ (seen-write (entry_at a i) link write change is (ap (λ k. option_map (λ (e : Gen × LinkBody K T). e.1) (entry_at a k)) same ∙ stands)
       ∙ ap₂ relink (ap (λ o. option_map change (option_map interlinks_of o)) (sym (entry_at-seen_links number a i)) ∙ sym (are i ∙ if_same i n _ _ same)) (sym (entry_at-seen_links number a i))))) in
       let off : (i : ℕ) → i ≢ n → entry_at (seen_links number (with_value a n w)) i ≡ relink (interlinks i) (entry_at seen i) =
       (λ i other. entry_at-seen_links number (with_value a n w) i
@@ -134,14 +134,14 @@ module _ {Gen I T : Type 0} (number : I → ℕ) where
       (λ i. ⊎_elim (at i) (off i) (cases_eq i n))
 
   -- where no link stands nothing is written
-  pub seen_links-no_write : (a : Arena Gen (LinkBody I T)) (n : ℕ) (change : Interlinks → Interlinks) (interlinks : Shown)
-      → option_map (λ (e : Gen × LinkBody I T). e.1) (entry_at a n) ≡ None
+  pub seen_links-no_write : (a : Arena Gen (LinkBody K T)) (n : ℕ) (change : Interlinks → Interlinks) (interlinks : Shown)
+      → option_map (λ (e : Gen × LinkBody K T). e.1) (entry_at a n) ≡ None
       → ((i : ℕ) → interlinks i ≡ (if i == n then option_map change (shown (seen_links number a) i) else shown (seen_links number a) i))
       → seen_links number a ≡ relinked (seen_links number a) interlinks
   seen_links-no_write a n change interlinks none are =
       let seen = seen_links number a in
       let at : (i : ℕ) → i ≡ n → entry_at seen i ≡ relink (interlinks i) (entry_at seen i) =
-      (λ i same. let nothing : entry_at seen i ≡ None = entry_at-seen_links number a i ∙ ap (option_map (seen_pair number)) (no_entry (entry_at a i) (ap (λ k. option_map (λ (e : Gen × LinkBody I T). e.1) (entry_at a k)) same ∙ none)) in
+      (λ i same. let nothing : entry_at seen i ≡ None = entry_at-seen_links number a i ∙ ap (option_map (seen_pair number)) (no_entry (entry_at a i) (ap (λ k. option_map (λ (e : Gen × LinkBody K T). e.1) (entry_at a k)) same ∙ none)) in
       nothing ∙ ap (relink (interlinks i)) (sym nothing)) in
       let off : (i : ℕ) → i ≢ n → entry_at seen i ≡ relink (interlinks i) (entry_at seen i) =
       (λ i other. relink-own (entry_at seen i) ∙ ap (λ l. relink l (entry_at seen i)) (sym (are i ∙ if_other i n _ _ other))) in

@@ -75,9 +75,9 @@ module _ {Gen T : Type 0} where
       (λ k inside. entries (suc k) ∙ sym (entry_at-relinked a interlinks (suc k))))
 
 -- links as contracts see them
-module _ {Gen I T : Type 0} (number : I → ℕ) where
-  pub entry_at-seen_links : (a : Arena Gen (LinkBody I T)) (i : ℕ) → entry_at (seen_links number a) i ≡ option_map (seen_pair number) (entry_at a i)
+module _ {Gen K T : Type 0} (number : K → Option ℕ) where
+  pub entry_at-seen_links : (a : Arena Gen (LinkBody K T)) (i : ℕ) → entry_at (seen_links number a) i ≡ option_map (seen_pair number) (entry_at a i)
   entry_at-seen_links a i = entry_at-with_each (seen_link number) a i
 
-  pub length-seen_links : (a : Arena Gen (LinkBody I T)) → length (seen_links number a).slots ≡ length a.slots
+  pub length-seen_links : (a : Arena Gen (LinkBody K T)) → length (seen_links number a).slots ≡ length a.slots
   length-seen_links a = length-with_each (seen_link number) a

@@ -95,20 +95,20 @@ module _ {Gen T : Type 0} where
       ∙ ap₂ (λ (s t : Option ℕ). relinked (remove_at following a i) (linked (without (shown a) i) s t)) before after))
 
 -- a link was taken out of an arena of links
-module _ {Gen I T : Type 0} (number : I → ℕ) (following : Gen → Gen) (a b : Arena Gen (LinkBody I T)) (n : ℕ) (taken : Option (Gen × LinkBody I T))
+module _ {Gen K T : Type 0} (number : K → Option ℕ) (following : Gen → Gen) (a b : Arena Gen (LinkBody K T)) (n : ℕ) (taken : Option (Gen × LinkBody K T))
     (answer : option_map (seen_pair number) taken ≡ entry_at (seen_links number a) n)
     (valid : is_some taken ≡ true → seen_links number b ≡ remove_link following (seen_links number a) n)
     (invalid : taken ≡ None → b ≡ a) where
   -- the value that was taken
   pub taken-value : option_map (on_value held_in) taken ≡ entry_at (values_of (seen_links number a)) n
   taken-value = twice taken ∙ (ap (option_map (on_value value_in)) answer ∙ sym (entry_at-with_each value_in (seen_links number a) n)) where
-    twice : (o : Option (Gen × LinkBody I T)) → option_map (on_value held_in) o ≡ option_map (on_value value_in) (option_map (seen_pair number) o)
+    twice : (o : Option (Gen × LinkBody K T)) → option_map (on_value held_in) o ≡ option_map (on_value value_in) (option_map (seen_pair number) o)
     twice None = refl
     twice (Some e) = refl
 
-  pub taken-alone : option_map (λ (e : Gen × LinkBody I T). e.1.t) taken ≡ option_map (λ (e : Gen × T). e.1) (entry_at (values_of (seen_links number a)) n)
+  pub taken-alone : option_map (λ (e : Gen × LinkBody K T). e.1.t) taken ≡ option_map (λ (e : Gen × T). e.1) (entry_at (values_of (seen_links number a)) n)
   taken-alone = alone taken ∙ ap (option_map (λ (e : Gen × T). e.1)) taken-value where
-    alone : (o : Option (Gen × LinkBody I T)) → option_map (λ (e : Gen × LinkBody I T). e.1.t) o ≡ option_map (λ (e : Gen × T). e.1) (option_map (on_value held_in) o)
+    alone : (o : Option (Gen × LinkBody K T)) → option_map (λ (e : Gen × LinkBody K T). e.1.t) o ≡ option_map (λ (e : Gen × T). e.1) (option_map (on_value held_in) o)
     alone None = refl
     alone (Some e) = refl
 
@@ -121,8 +121,8 @@ module _ {Gen I T : Type 0} (number : I → ℕ) (following : Gen → Gen) (a b 
 
   pub taken-agrees : Agrees (shown (seen_links number a)) → Agrees (shown (seen_links number b))
   taken-agrees agrees = by taken refl where
-    by : (o : Option (Gen × LinkBody I T)) → taken ≡ o → Agrees (shown (seen_links number b))
-    by None is = subst (λ (x : Arena Gen (LinkBody I T)). Agrees (shown (seen_links number x))) (sym (invalid is)) agrees
+    by : (o : Option (Gen × LinkBody K T)) → taken ≡ o → Agrees (shown (seen_links number b))
+    by None is = subst (λ (x : Arena Gen (LinkBody K T)). Agrees (shown (seen_links number x))) (sym (invalid is)) agrees
     by (Some e) is = removed-agrees following (seen_links number a) (seen_links number b) n (valid (ap is_some is)) agrees
 
   module _ (stands : is_some (entry_at (values_of (seen_links number a)) n) ≡ true) where
@@ -146,10 +146,10 @@ module _ {Gen I T : Type 0} (number : I → ℕ) (following : Gen → Gen) (a b 
 
   -- where the generation is known, the link alone tells the rest
   pub taken-link : (g : Gen) (t : T) → entry_at (values_of (seen_links number a)) n ≡ Some (g, t)
-      → option_map (λ (l : LinkBody I T). (g, seen_link number l)) (option_map (λ (e : Gen × LinkBody I T). e.1) taken)
+      → option_map (λ (l : LinkBody K T). (g, seen_link number l)) (option_map (λ (e : Gen × LinkBody K T). e.1) taken)
       ≡ link_at (entry_at (values_of (seen_links number a))) (shown (seen_links number a)) n
   taken-link g t stands = alone taken (taken-value ∙ stands) ∙ (answer ∙ sym (link_at-seen number a n ∙ sym (entry_at-seen_links number a n))) where
-    alone : (o : Option (Gen × LinkBody I T)) → option_map (on_value held_in) o ≡ Some (g, t)
-        → option_map (λ (l : LinkBody I T). (g, seen_link number l)) (option_map (λ (e : Gen × LinkBody I T). e.1) o) ≡ option_map (seen_pair number) o
+    alone : (o : Option (Gen × LinkBody K T)) → option_map (on_value held_in) o ≡ Some (g, t)
+        → option_map (λ (l : LinkBody K T). (g, seen_link number l)) (option_map (λ (e : Gen × LinkBody K T). e.1) o) ≡ option_map (seen_pair number) o
     alone None is = absurd (let h = is in cc)
     alone (Some e) is = ap (λ (h : Gen). let o : Option (Gen × LinkSeen T) = Some (h, seen_link number e.1) in o) (sym (generation_is e.0 g _ _ is))

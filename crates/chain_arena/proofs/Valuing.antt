@@ -13,7 +13,7 @@ use Rattle.chain_arena.specs.declared.links.LinkBody.{LinkBody}
 use Rattle.chain_arena.specs.Links.{seen_links, seen_pair}
 
 -- the value of a link
-abbrev pub held_in : {I T : Type 0} → LinkBody I T → T
+abbrev pub held_in : {K T : Type 0} → LinkBody K T → T
 held_in link = link.t
 
 module _ {Gen X Y : Type 0} (f : X → Y) where
@@ -75,11 +75,11 @@ module _ {Gen X Y : Type 0} (f : X → Y) where
     moves = is.moves;
   }
 
-module _ {Gen I T : Type 0} (number : I → ℕ) where
+module _ {Gen K T : Type 0} (number : K → Option ℕ) where
   -- the values of the links
-  pub values_of-seen_links : (a : Arena Gen (LinkBody I T)) → with_each held_in a ≡ values_of (seen_links number a)
+  pub values_of-seen_links : (a : Arena Gen (LinkBody K T)) → with_each held_in a ≡ values_of (seen_links number a)
   values_of-seen_links a = ap (λ (slots : List (Option (Gen × T))). let b : Arena Gen T = record (with_each held_in a) { slots = slots } in b) (twice a.slots) where
-    twice : (slots : List (Option (Gen × LinkBody I T))) → map (option_map (on_value held_in)) slots ≡ map (option_map (on_value value_in)) (map (option_map (seen_pair number)) slots)
+    twice : (slots : List (Option (Gen × LinkBody K T))) → map (option_map (on_value held_in)) slots ≡ map (option_map (on_value value_in)) (map (option_map (seen_pair number)) slots)
     twice [] = refl
     twice (None ∷ slots) = ap (λ rest. None ∷ rest) (twice slots)
     twice (Some e ∷ slots) = ap (λ rest. Some (e.0, e.1.t) ∷ rest) (twice slots)

@@ -26,16 +26,16 @@ module _ {Gen T : Type 0} where
       → values_of (with_value_at a n w) ≡ with_value (values_of a) n w
   values_of-with_value_at a n l w stands = ap (λ (x : Arena Gen (LinkSeen T)). values_of x) (sym (value-written a n l w stands)) ∙ with_each-with_value value_in a n (with_value_in w l)
 
-module _ {Gen I T : Type 0} (number : I → ℕ) (a b : Arena Gen (LinkBody I T)) (n : ℕ) (l : LinkBody I T) (w : T)
-    (stands : option_map (λ (e : Gen × LinkBody I T). e.1) (entry_at a n) ≡ Some l) (wrote : b ≡ with_value a n (record l { t = w })) where
+module _ {Gen K T : Type 0} (number : K → Option ℕ) (a b : Arena Gen (LinkBody K T)) (n : ℕ) (l : LinkBody K T) (w : T)
+    (stands : option_map (λ (e : Gen × LinkBody K T). e.1) (entry_at a n) ≡ Some l) (wrote : b ≡ with_value a n (record l { t = w })) where
   seen_stands : option_map (λ (e : Gen × LinkSeen T). e.1) (entry_at (seen_links number a) n) ≡ Some (seen_link number l)
   seen_stands = ap (option_map (λ (e : Gen × LinkSeen T). e.1)) (entry_at-seen_links number a n) ∙ (by (entry_at a n) ∙ ap (option_map (seen_link number)) stands) where
-    by : (o : Option (Gen × LinkBody I T)) → option_map (λ (e : Gen × LinkSeen T). e.1) (option_map (seen_pair number) o) ≡ option_map (seen_link number) (option_map (λ (e : Gen × LinkBody I T). e.1) o)
+    by : (o : Option (Gen × LinkBody K T)) → option_map (λ (e : Gen × LinkSeen T). e.1) (option_map (seen_pair number) o) ≡ option_map (seen_link number) (option_map (λ (e : Gen × LinkBody K T). e.1) o)
     by None = refl
     by (Some e) = refl
 
   pub written-state : seen_links number b ≡ with_value_at (seen_links number a) n w
-  written-state = ap (λ (x : Arena Gen (LinkBody I T)). seen_links number x) wrote
+  written-state = ap (λ (x : Arena Gen (LinkBody K T)). seen_links number x) wrote
       ∙ (with_each-with_value (seen_link number) a n (record l { t = w }) ∙ value-written (seen_links number a) n (seen_link number l) w seen_stands)
 
   pub written-shown : shown (seen_links number b) ≡ shown (seen_links number a)
@@ -48,9 +48,9 @@ module _ {Gen I T : Type 0} (number : I → ℕ) (a b : Arena Gen (LinkBody I T)
   written-seen = ap (λ (x : Arena Gen (LinkSeen T)). seen_of (values_of x)) written-state
       ∙ (ap (λ (x : Arena Gen T). seen_of x) (values_of-with_value_at (seen_links number a) n (seen_link number l) w seen_stands) ∙ seen_written (values_of (seen_links number a)) n w)
 
-module _ {Gen I T : Type 0} (number : I → ℕ) (following : Gen → Gen) (a b : Arena Gen (LinkBody I T)) (n : ℕ) (is : b ≡ renewed_at following a n) where
+module _ {Gen K T : Type 0} (number : K → Option ℕ) (following : Gen → Gen) (a b : Arena Gen (LinkBody K T)) (n : ℕ) (is : b ≡ renewed_at following a n) where
   pub renewed-state : seen_links number b ≡ renewed_at following (seen_links number a) n
-  renewed-state = ap (λ (x : Arena Gen (LinkBody I T)). seen_links number x) is ∙ with_each-renewed_at (seen_link number) following a n
+  renewed-state = ap (λ (x : Arena Gen (LinkBody K T)). seen_links number x) is ∙ with_each-renewed_at (seen_link number) following a n
 
   pub renewed-shown : shown (seen_links number b) ≡ shown (seen_links number a)
   renewed-shown = shown-renewed following (seen_links number a) (seen_links number b) n renewed-state
@@ -67,8 +67,8 @@ module _ {Gen I T : Type 0} (number : I → ℕ) (following : Gen → Gen) (a b 
       ((told.0.0, renewed-seen ∙ ap₂ (λ (i : ℕ) (g : Gen). renewed (seen_of (values_of (seen_links number a))) (i, g)) (sym told.0.0) (sym generation)), told.1)
 
 -- after a clear
-module _ {Gen I T : Type 0} (number : I → ℕ) (following : Gen → Gen) (a b : Arena Gen (LinkBody I T)) (is : b ≡ cleared following a) where
+module _ {Gen K T : Type 0} (number : K → Option ℕ) (following : Gen → Gen) (a b : Arena Gen (LinkBody K T)) (is : b ≡ cleared following a) where
   pub cleared-seen : seen_of (values_of (seen_links number b)) ≡ emptied following (seen_of (values_of (seen_links number a)))
-  cleared-seen = ap (λ (x : Arena Gen (LinkBody I T)). seen_of (values_of (seen_links number x))) is
+  cleared-seen = ap (λ (x : Arena Gen (LinkBody K T)). seen_of (values_of (seen_links number x))) is
       ∙ (ap (λ (x : Arena Gen (LinkSeen T)). seen_of (values_of x)) (with_each-cleared (seen_link number) following a)
       ∙ (ap (λ (x : Arena Gen T). seen_of x) (with_each-cleared value_in following (seen_links number a)) ∙ seen_cleared following (values_of (seen_links number a))))

@@ -6,18 +6,18 @@ use Rattle.arena_base.specs.Arena.{Arena}
 use Rattle.chain_arena.specs.ChainArena.{LinkSeen, on_value, with_each}
 use Rattle.chain_arena.specs.declared.links.LinkBody.{LinkBody}
 
-module _ {I T : Type 0} where
-  abbrev pub seen_link : (I → ℕ) → LinkBody I T → LinkSeen T
-  seen_link number link = record { prev = option_map number link.prev; next = option_map number link.next; value = link.t }
+module _ {K T : Type 0} where
+  abbrev pub seen_link : (K → Option ℕ) → LinkBody K T → LinkSeen T
+  seen_link number link = record { prev = number link.prev; next = number link.next; value = link.t }
 
-module _ {Gen I T : Type 0} where
-  abbrev pub seen_pair : (I → ℕ) → Gen × LinkBody I T → Gen × LinkSeen T
+module _ {Gen K T : Type 0} where
+  abbrev pub seen_pair : (K → Option ℕ) → Gen × LinkBody K T → Gen × LinkSeen T
   seen_pair number e = on_value (seen_link number) e
 
   -- a generation and a link as a look at them shows them
-  abbrev pub seen_lent : (I → ℕ) → Gen × Bor (LinkBody I T) → Gen × LinkSeen T
+  abbrev pub seen_lent : (K → Option ℕ) → Gen × Bor (LinkBody K T) → Gen × LinkSeen T
   seen_lent number e = (e.0, seen_link number e.1.now)
 
   -- an arena of links
-  abbrev pub seen_links : (I → ℕ) → Arena Gen (LinkBody I T) → Arena Gen (LinkSeen T)
+  abbrev pub seen_links : (K → Option ℕ) → Arena Gen (LinkBody K T) → Arena Gen (LinkSeen T)
   seen_links number a = with_each (seen_link number) a

@@ -21,7 +21,7 @@ module _ {Gen T : Type 0} where
   abbrev pub index_and_entry : ℕ → Gen × LinkSeen T → ℕ × (Gen × LinkSeen T)
   index_and_entry i e = (i, e)
 
-module _ {P Gen I T : Type 0} where
+module _ {P Gen K T : Type 0} where
   -- a yielded pointer and link, as contracts see them
-  abbrev pub seen_item : (P → ℕ × Gen) → (I → ℕ) → P × Bor (LinkBody I T) → ℕ × (Gen × LinkSeen T)
+  abbrev pub seen_item : (P → ℕ × Gen) → (K → Option ℕ) → P × Bor (LinkBody K T) → ℕ × (Gen × LinkSeen T)
   seen_item key number item = ((key item.0).0, ((key item.0).1, seen_link number item.1.now))

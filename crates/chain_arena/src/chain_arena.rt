@@ -38,9 +38,9 @@ impl<P: Ptr, T: Drop, S: SlotStack<Item = ArenaSlot<P, LinkNoGen<P, T>>>> Model
 
     ghost use Rattle.chain_arena.specs.Links.{seen_links};
 
-    ghost view = { λ a. seen_links P.Inx.number a.arena };
+    ghost view = { λ a. seen_links P.Inx.packed_number a.arena };
 
-    ghost invariant = { λ a. Agrees (shown (seen_links P.Inx.number a.arena)) };
+    ghost invariant = { λ a. Agrees (shown (seen_links P.Inx.packed_number a.arena)) };
 }
 
 impl<P: Ptr, T: Drop, S: SlotStack<Item = ArenaSlot<P, LinkNoGen<P, T>>>> ChainArena<P, T, S> {
@@ -80,7 +80,7 @@ impl<P: Ptr, T: Drop, S: SlotStack<Item = ArenaSlot<P, LinkNoGen<P, T>>>> ChainA
 
     /// The slots.
     pub fn backing(&self) -> &S
-        ensures slots { map (option_map (seen_pair P.Inx.number)) (map entry_of (S.items result.now)) ≡ self.now.slots }
+        ensures slots { map (option_map (seen_pair P.Inx.packed_number)) (map entry_of (S.items result.now)) ≡ self.now.slots }
         ensures capacity { S.capacity result.now ≡ self.now.stack_capacity }
         ensures room { self.now.capacity ≡ min (S.capacity result.now) P.Inx.greatest }
         ensures maximum { S.maximum result.now ≡ self.now.maximum }

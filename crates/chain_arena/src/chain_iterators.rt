@@ -37,7 +37,7 @@ impl<'a, P: Ptr, T: Drop, S: SlotStack<Item = ArenaSlot<P, LinkNoGen<P, T>>>> Mo
     ghost use Rattle.chain_arena.specs.Links.{seen_links};
     ghost use Rattle.chain_arena.specs.Walkers.{links_ahead};
 
-    ghost view = { λ it. links_ahead (seen_links P.Inx.number it.arena.now) it.left (P.Inx.number it.start)
+    ghost view = { λ it. links_ahead (seen_links P.Inx.packed_number it.arena.now) it.left (P.Inx.number it.start)
         (option_map P.Inx.number it.forth) (option_map P.Inx.number it.back) };
 }
 
@@ -54,7 +54,7 @@ impl<'a, P: Ptr, T: Drop, S: SlotStack<Item = ArenaSlot<P, LinkNoGen<P, T>>>> Ch
         back: Option<P::Inx>,
         left: usize,
     ) -> Self
-        ensures { result ≡ links_ahead (seen_links P.Inx.number arena.now) left (P.Inx.number start)
+        ensures { result ≡ links_ahead (seen_links P.Inx.packed_number arena.now) left (P.Inx.number start)
             (Some (P.Inx.number start)) (option_map P.Inx.number back) }
     {
         ChainIter {
@@ -71,7 +71,7 @@ impl<'a, P: Ptr, T: Drop, S: SlotStack<Item = ArenaSlot<P, LinkNoGen<P, T>>>> It
     for ChainIter<'a, P, T, S> {
     type Item = (P, &'a LinkNoGen<P, T>);
 
-    ghost next_gives = { YieldsFirstBy (seen_item P.key P.Inx.number) (λ rest. rest) };
+    ghost next_gives = { YieldsFirstBy (seen_item P.key P.Inx.packed_number) (λ rest. rest) };
 
     ghost remaining = { item_count (λ rest. rest) };
 
@@ -109,7 +109,7 @@ fn look<P: Ptr, T: Drop, S: SlotStack<Item = ArenaSlot<P, LinkNoGen<P, T>>>>(
     arena: &Arena<P, LinkNoGen<P, T>, S>,
     i: P::Inx,
 ) -> Option<(P, &LinkNoGen<P, T>)>
-    ensures { option_map (seen_item P.key P.Inx.number) result ≡ option_map (index_and_entry (P.Inx.number i)) (entry_at (seen_links P.Inx.number arena.now) (P.Inx.number i)) }
+    ensures { option_map (seen_item P.key P.Inx.packed_number) result ≡ option_map (index_and_entry (P.Inx.number i)) (entry_at (seen_links P.Inx.packed_number arena.now) (P.Inx.number i)) }
 {
     match arena.get_inx(i) {
         Some((generation, link)) => Some((P::_from_raw(i, generation), link)),

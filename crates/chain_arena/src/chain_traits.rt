@@ -63,12 +63,12 @@ pub trait ChainArenaTrait<P: Ptr, T: Drop>: ArenaTrait<P, T> {
     /// The link of a pointer. `None`: the pointer is not valid.
     fn get_link_no_gen(&self, p: P) -> Option<&LinkNoGen<P, T>>
         ensures some { IsSome result ↔ IsValid (Self.entry self.now) (P.key p) }
-        ensures link { IfSome result (λ link. link_at (Self.entry self.now) (interlinks self.now) (P.key p).0 ≡ Some ((P.key p).1, seen_link P.Inx.number link.now)) }
+        ensures link { IfSome result (λ link. link_at (Self.entry self.now) (interlinks self.now) (P.key p).0 ≡ Some ((P.key p).1, seen_link P.Inx.packed_number link.now)) }
         ensures agree { Agrees (interlinks self.now) };
 
     /// The generation and the link at an index. `None`: no link stands there.
     fn get_inx_link_no_gen(&self, i: P::Inx) -> Option<(P::Gen, &LinkNoGen<P, T>)>
-        ensures link { option_map (seen_lent P.Inx.number) result ≡ link_at (Self.entry self.now) (interlinks self.now) (P.Inx.number i) }
+        ensures link { option_map (seen_lent P.Inx.packed_number) result ≡ link_at (Self.entry self.now) (interlinks self.now) (P.Inx.number i) }
         ensures agree { Agrees (interlinks self.now) };
 
     /// Makes q the link after p: two chains become one, or one chain becomes cyclic. `Some` exactly if both pointers
@@ -87,7 +87,7 @@ pub trait ChainArenaTrait<P: Ptr, T: Drop>: ArenaTrait<P, T> {
     /// greatest, and is two now.
     fn remove_link_no_gen(&mut self, p: P) -> InvalidationResult<LinkNoGen<P, T>>
         ensures valid { IsValid (Self.entry self.old) (P.key p) →
-            (option_map (λ link. ((P.key p).1, seen_link P.Inx.number link)) (value_within result) ≡ link_at (Self.entry self.old) (interlinks self.old) (P.key p).0)
+            (option_map (λ link. ((P.key p).1, seen_link P.Inx.packed_number link)) (value_within result) ≡ link_at (Self.entry self.old) (interlinks self.old) (P.key p).0)
             × (Self.seen self.new ≡ seen_removed P.Gen.following (Self.seen self.old) (P.key p).0) × (interlinks self.new ≡ removed (interlinks self.old) (P.key p).0) }
         ensures overflow { IfSome (Self.seen self.old).counter (λ g. result ≡ invalidation_result (P.Gen.wraps g) (value_within result)) }
         ensures invalid { ¬ IsValid (Self.entry self.old) (P.key p) → (value_within result ≡ None) × (self.new ≡ self.old) }
@@ -99,7 +99,7 @@ pub trait ChainArenaTrait<P: Ptr, T: Drop>: ArenaTrait<P, T> {
     /// `InvalidPtr`: no link stands there, and nothing has changed. `GenerationOverflow`: the counter was at its
     /// greatest, and is two now.
     fn remove_inx_link_no_gen(&mut self, i: P::Inx) -> InvalidationResult<(P::Gen, LinkNoGen<P, T>)>
-        ensures answer { option_map (on_value (seen_link P.Inx.number)) (value_within result) ≡ link_at (Self.entry self.old) (interlinks self.old) (P.Inx.number i) }
+        ensures answer { option_map (on_value (seen_link P.Inx.packed_number)) (value_within result) ≡ link_at (Self.entry self.old) (interlinks self.old) (P.Inx.number i) }
         ensures overflow { IfSome (Self.seen self.old).counter (λ g. result ≡ invalidation_result (P.Gen.wraps g) (value_within result)) }
         ensures valid { IsSome (Self.entry self.old (P.Inx.number i)) →
             (Self.seen self.new ≡ seen_removed P.Gen.following (Self.seen self.old) (P.Inx.number i)) × (interlinks self.new ≡ removed (interlinks self.old) (P.Inx.number i)) }

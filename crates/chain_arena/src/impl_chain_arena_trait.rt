@@ -91,14 +91,14 @@ impl<P: Ptr, T: Drop, S: SlotStack<Item = ArenaSlot<P, LinkNoGen<P, T>>>> ChainA
 
     fn get_link_no_gen(&self, p: P) -> Option<&LinkNoGen<P, T>>
         ensures some { IsSome result ↔ IsValid (entry self.now) (P.key p) }
-        ensures link { IfSome result (λ link. link_at (entry self.now) (interlinks self.now) (P.key p).0 ≡ Some ((P.key p).1, seen_link P.Inx.number link.now)) }
+        ensures link { IfSome result (λ link. link_at (entry self.now) (interlinks self.now) (P.key p).0 ≡ Some ((P.key p).1, seen_link P.Inx.packed_number link.now)) }
         ensures agree { Agrees (interlinks self.now) }
     {
         self.arena.get(p)
     }
 
     fn get_inx_link_no_gen(&self, i: P::Inx) -> Option<(P::Gen, &LinkNoGen<P, T>)>
-        ensures link { option_map (seen_lent P.Inx.number) result ≡ link_at (entry self.now) (interlinks self.now) (P.Inx.number i) }
+        ensures link { option_map (seen_lent P.Inx.packed_number) result ≡ link_at (entry self.now) (interlinks self.now) (P.Inx.number i) }
         ensures agree { Agrees (interlinks self.now) }
     {
         self.arena.get_inx(i)
@@ -123,7 +123,7 @@ impl<P: Ptr, T: Drop, S: SlotStack<Item = ArenaSlot<P, LinkNoGen<P, T>>>> ChainA
 
     fn remove_link_no_gen(&mut self, p: P) -> InvalidationResult<LinkNoGen<P, T>>
         ensures valid { IsValid (entry self.old) (P.key p) →
-            (option_map (λ link. ((P.key p).1, seen_link P.Inx.number link)) (value_within result) ≡ link_at (entry self.old) (interlinks self.old) (P.key p).0)
+            (option_map (λ link. ((P.key p).1, seen_link P.Inx.packed_number link)) (value_within result) ≡ link_at (entry self.old) (interlinks self.old) (P.key p).0)
             × (seen self.new ≡ seen_removed P.Gen.following (seen self.old) (P.key p).0) × (interlinks self.new ≡ removed (interlinks self.old) (P.key p).0) }
         ensures overflow { IfSome (seen self.old).counter (λ g. result ≡ invalidation_result (P.Gen.wraps g) (value_within result)) }
         ensures invalid { ¬ IsValid (entry self.old) (P.key p) → (value_within result ≡ None) × (self.new ≡ self.old) }
@@ -140,7 +140,7 @@ impl<P: Ptr, T: Drop, S: SlotStack<Item = ArenaSlot<P, LinkNoGen<P, T>>>> ChainA
     }
 
     fn remove_inx_link_no_gen(&mut self, i: P::Inx) -> InvalidationResult<(P::Gen, LinkNoGen<P, T>)>
-        ensures answer { option_map (on_value (seen_link P.Inx.number)) (value_within result) ≡ link_at (entry self.old) (interlinks self.old) (P.Inx.number i) }
+        ensures answer { option_map (on_value (seen_link P.Inx.packed_number)) (value_within result) ≡ link_at (entry self.old) (interlinks self.old) (P.Inx.number i) }
         ensures overflow { IfSome (seen self.old).counter (λ g. result ≡ invalidation_result (P.Gen.wraps g) (value_within result)) }
         ensures valid { IsSome (entry self.old (P.Inx.number i)) →
             (seen self.new ≡ seen_removed P.Gen.following (seen self.old) (P.Inx.number i)) × (interlinks self.new ≡ removed (interlinks self.old) (P.Inx.number i)) }

@@ -19,7 +19,7 @@ pub(crate) fn can_connect<P: Ptr, T: Drop, S: SlotStack<Item = ArenaSlot<P, Link
     p: P,
     q: P,
 ) -> bool
-    ensures { IsTrue result ↔ CanConnect (entry (seen_links P.Inx.number arena.now)) (shown (seen_links P.Inx.number arena.now)) (P.key p) (P.key q) }
+    ensures { IsTrue result ↔ CanConnect (entry (seen_links P.Inx.packed_number arena.now)) (shown (seen_links P.Inx.packed_number arena.now)) (P.key p) (P.key q) }
 {
     match arena.get(p) {
         Some(first) => match arena.get(q) {
@@ -35,7 +35,7 @@ pub(crate) fn neighbor<P: Ptr, T: Drop, S: SlotStack<Item = ArenaSlot<P, LinkNoG
     arena: &Arena<P, LinkNoGen<P, T>, S>,
     i: Option<P::Inx>,
 ) -> Option<P>
-    ensures { option_map P.key result ≡ option_and_then (ptr_at (entry (seen_links P.Inx.number arena.now))) (option_map P.Inx.number i) }
+    ensures { option_map P.key result ≡ option_and_then (ptr_at (entry (seen_links P.Inx.packed_number arena.now))) (option_map P.Inx.number i) }
 {
     match i {
         Some(i) => match arena.get_inx(i) {
@@ -52,8 +52,8 @@ fn set_next<P: Ptr, T: Drop, S: SlotStack<Item = ArenaSlot<P, LinkNoGen<P, T>>>>
     i: Option<P::Inx>,
     next: Option<P::Inx>,
 )
-    ensures { seen_links P.Inx.number arena.new ≡ relinked (seen_links P.Inx.number arena.old)
-        (next_set (shown (seen_links P.Inx.number arena.old)) (option_map P.Inx.number i) (option_map P.Inx.number next)) }
+    ensures { seen_links P.Inx.packed_number arena.new ≡ relinked (seen_links P.Inx.packed_number arena.old)
+        (next_set (shown (seen_links P.Inx.packed_number arena.old)) (option_map P.Inx.number i) (option_map P.Inx.number next)) }
 {
     match i {
         Some(i) => match arena.get_inx_mut(i) {
@@ -70,8 +70,8 @@ fn set_prev<P: Ptr, T: Drop, S: SlotStack<Item = ArenaSlot<P, LinkNoGen<P, T>>>>
     i: Option<P::Inx>,
     prev: Option<P::Inx>,
 )
-    ensures { seen_links P.Inx.number arena.new ≡ relinked (seen_links P.Inx.number arena.old)
-        (prev_set (shown (seen_links P.Inx.number arena.old)) (option_map P.Inx.number i) (option_map P.Inx.number prev)) }
+    ensures { seen_links P.Inx.packed_number arena.new ≡ relinked (seen_links P.Inx.packed_number arena.old)
+        (prev_set (shown (seen_links P.Inx.packed_number arena.old)) (option_map P.Inx.number i) (option_map P.Inx.number prev)) }
 {
     match i {
         Some(i) => match arena.get_inx_mut(i) {
@@ -88,8 +88,8 @@ pub(crate) fn link_up<P: Ptr, T: Drop, S: SlotStack<Item = ArenaSlot<P, LinkNoGe
     prev: Option<P::Inx>,
     next: Option<P::Inx>,
 )
-    ensures { seen_links P.Inx.number arena.new ≡ relinked (seen_links P.Inx.number arena.old)
-        (linked (shown (seen_links P.Inx.number arena.old)) (option_map P.Inx.number prev) (option_map P.Inx.number next)) }
+    ensures { seen_links P.Inx.packed_number arena.new ≡ relinked (seen_links P.Inx.packed_number arena.old)
+        (linked (shown (seen_links P.Inx.packed_number arena.old)) (option_map P.Inx.number prev) (option_map P.Inx.number next)) }
 {
     set_next(arena, prev, next);
     set_prev(arena, next, prev);
@@ -100,9 +100,9 @@ pub(crate) fn take_out<P: Ptr, T: Drop, S: SlotStack<Item = ArenaSlot<P, LinkNoG
     arena: &mut Arena<P, LinkNoGen<P, T>, S>,
     i: P::Inx,
 ) -> InvalidationResult<(P::Gen, LinkNoGen<P, T>)>
-    ensures answer { option_map (seen_pair P.Inx.number) (value_within result) ≡ entry_at (seen_links P.Inx.number arena.old) (P.Inx.number i) }
+    ensures answer { option_map (seen_pair P.Inx.packed_number) (value_within result) ≡ entry_at (seen_links P.Inx.packed_number arena.old) (P.Inx.number i) }
     ensures overflow { result ≡ invalidation_result (P.Gen.wraps arena.old.counter) (value_within result) }
-    ensures valid { IsSome (value_within result) → seen_links P.Inx.number arena.new ≡ remove_link P.Gen.following (seen_links P.Inx.number arena.old) (P.Inx.number i) }
+    ensures valid { IsSome (value_within result) → seen_links P.Inx.packed_number arena.new ≡ remove_link P.Gen.following (seen_links P.Inx.packed_number arena.old) (P.Inx.number i) }
     ensures invalid { value_within result ≡ None → arena.new ≡ arena.old }
 {
     let (entry, overflow) = arena.remove_inx(i).overflowing();

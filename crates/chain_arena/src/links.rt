@@ -1,51 +1,57 @@
 ghost use Rattle.std.specs.Prelude.{◌≡◌};
+ghost use Rattle.std.specs.Option.{option_map};
+ghost use Rattle.chain_arena.specs.Links.{seen_link};
 
-use arena_ptr::Ptr;
+use arena_ptr::{PackedOption, Ptr, PtrInx};
 
-/// A link with interlinks of a type `I`: the indexes of the links before it and after it, and its value.
-#[derive(Drop)]
-pub struct LinkBody<I, T> {
-    prev: Option<I>,
-    next: Option<I>,
+/// A link with interlinks of a type `K`, each an optional index: the links before it and after it, and its value.
+#[derive(Clone, Copy)]
+pub struct LinkBody<K, T> {
+    prev: K,
+    next: K,
 
     /// The value.
     pub t: T,
 }
 
+/// An interlink without a generation: an optional index, packed in the width of an index.
+pub type Interlink<P> = PackedOption<<P as Ptr>::Inx, <<P as Ptr>::Inx as PtrInx>::Word>;
+
 /// A link whose interlinks have no generation.
 ///
 /// Carries `LinkNoGen` of `triple_arena`.
-pub type LinkNoGen<P, T> = LinkBody<<P as Ptr>::Inx, T>;
+pub type LinkNoGen<P, T> = LinkBody<Interlink<P>, T>;
 
-impl<I: Copy, T> LinkBody<I, T> {
+impl<W: Copy, I: PtrInx<Word = W>, T> LinkBody<PackedOption<I, W>, T> {
     /// The index of the link before this one in its chain. `None` at the start of the chain.
     pub fn prev(&self) -> Option<I>
-        ensures { result ≡ self.now.prev }
+        ensures { option_map I.number result ≡ (seen_link I.packed_number self.now).prev }
     {
-        self.prev
+        I::unpack(self.prev)
     }
 
     /// The index of the link after this one in its chain. `None` at the end of the chain.
     pub fn next(&self) -> Option<I>
-        ensures { result ≡ self.now.next }
+        ensures { option_map I.number result ≡ (seen_link I.packed_number self.now).next }
     {
-        self.next
+        I::unpack(self.next)
     }
 
     /// Both interlinks: `(self.prev(), self.next())`.
     pub fn prev_next(&self) -> (Option<I>, Option<I>)
-        ensures { result ≡ (self.now.prev, self.now.next) }
+        ensures prev { option_map I.number result.0 ≡ (seen_link I.packed_number self.now).prev }
+        ensures next { option_map I.number result.1 ≡ (seen_link I.packed_number self.now).next }
     {
-        (self.prev, self.next)
+        (self.prev(), self.next())
     }
 
     /// A link of its parts.
     pub fn new(prev_next: (Option<I>, Option<I>), t: T) -> Self
-        ensures { result ≡ record { prev = prev_next.0; next = prev_next.1; t = t } }
+        ensures { seen_link I.packed_number result ≡ record { prev = option_map I.number prev_next.0; next = option_map I.number prev_next.1; value = t } }
     {
         LinkBody {
-            prev: prev_next.0,
-            next: prev_next.1,
+            prev: I::pack(prev_next.0),
+            next: I::pack(prev_next.1),
             t,
         }
     }
@@ -59,16 +65,18 @@ impl<I: Copy, T> LinkBody<I, T> {
 
     // The link after this one becomes another.
     pub(crate) fn set_next(&mut self, next: Option<I>)
-        ensures { self.new ≡ record self.old { next = next } }
+        ensures next { I.packed_number self.new.next ≡ option_map I.number next }
+        ensures rest { self.new ≡ record self.old { next = self.new.next } }
     {
-        self.next = next;
+        self.next = I::pack(next);
     }
 
     // The link before this one becomes another.
     pub(crate) fn set_prev(&mut self, prev: Option<I>)
-        ensures { self.new ≡ record self.old { prev = prev } }
+        ensures prev { I.packed_number self.new.prev ≡ option_map I.number prev }
+        ensures rest { self.new ≡ record self.old { prev = self.new.prev } }
     {
-        self.prev = prev;
+        self.prev = I::pack(prev);
     }
 }
 
@@ -108,7 +116,9 @@ impl<P: Copy, T> Link<P, T> {
 
     /// A link of its parts.
     pub fn new(prev_next: (Option<P>, Option<P>), t: T) -> Self
-        ensures { result ≡ record { prev = prev_next.0; next = prev_next.1; t = t } }
+        ensures prev { result.prev ≡ prev_next.0 }
+        ensures next { result.next ≡ prev_next.1 }
+        ensures value { result.t ≡ t }
     {
         Link {
             prev: prev_next.0,

@@ -11,6 +11,8 @@ use Rattle.arena_ptr.specs.declared.invalidation.InvalidationResult.{Invalidatio
 use Rattle.arena_ptr.specs.declared.invalidation.InvalidationResult.TheVariants.{Success, GenerationOverflow, InvalidPtr}
 use Rattle.chain_laws.specs.Chains.{Interlinks}
 use Rattle.arena_base.specs.Arena.{entry_at}
+use Rattle.arena_ptr.specs.declared.packed_option.PackedOption.{PackedOption}
+use Rattle.arena_ptr.specs.Packed.{zero_is_none}
 use Rattle.chain_arena.specs.declared.links.LinkBody.{LinkBody}
 use Rattle.chain_arena.specs.Links.{seen_link}
 use Rattle.chain_arena.specs.ChainArena.{LinkSeen, shown, values_of, value_in, on_value, interlinks_of, link_of, link_at, remove_link}
@@ -18,7 +20,7 @@ use Rattle.chain_arena.proofs.Mapping.{entry_at-with_each}
 use Rattle.chain_tool.specs.Answers.{Links, IsValidIn, Removes, removed, not_removed, overflow_text}
 
 -- what the program says of a removal
-abbrev pub removal_text : InvalidationResult (LinkBody Inx32 ℕ) → List ℕ
+abbrev pub removal_text : InvalidationResult (LinkBody (PackedOption Inx32 ℕ) ℕ) → List ℕ
 removal_text (Success link) = codes "value " ++ decimal link.t ++ overflow_text false
 removal_text (GenerationOverflow link) = codes "value " ++ decimal link.t ++ overflow_text true
 removal_text InvalidPtr = codes "none"
@@ -46,12 +48,12 @@ value_told g v link None told = absurd (let h = told in cc)
 value_told g v link (Some l) told = sym (ap (value_or v) told)
 
 -- the link that was removed stood there
-stood : (a : Links) (p : ℕ × Gen32) (link : LinkBody Inx32 ℕ) → IsValidIn a p
-    → ◌≡◌ {A = Option (Gen32 × LinkSeen ℕ)} (Some (p.1, seen_link number link)) (link_at (entry_at (values_of a)) (shown a) p.0)
+stood : (a : Links) (p : ℕ × Gen32) (link : LinkBody (PackedOption Inx32 ℕ) ℕ) → IsValidIn a p
+    → ◌≡◌ {A = Option (Gen32 × LinkSeen ℕ)} (Some (p.1, seen_link zero_is_none link)) (link_at (entry_at (values_of a)) (shown a) p.0)
     → entry_at (values_of a) p.0 ≡ Some (p.1, link.t)
 stood a p link valid told =
     valid.stands ∙ ap (λ (v : ℕ). let o : Option (Gen32 × ℕ) = Some (p.1, v) in o)
-    (value_told p.1 valid.value (seen_link number link) (shown a p.0) (told ∙ ap (λ (o : Option (Gen32 × ℕ)). link_of o (shown a p.0)) valid.stands))
+    (value_told p.1 valid.value (seen_link zero_is_none link) (shown a p.0) (told ∙ ap (λ (o : Option (Gen32 × ℕ)). link_of o (shown a p.0)) valid.stands))
 
 not_overflowed : {A : Type 0} (b : Bool) (x : A) → Success x ≡ invalidation_result b (Some x) → b ≡ false
 not_overflowed true x told = absurd (let h = told in cc)
@@ -69,11 +71,11 @@ some_link (Some f) e v same stands told = none-some _ (told ∙ ap (λ (x : Opti
 
 module _ (old new : Links) (p : ℕ × Gen32)
     (state : IsValidIn old p → new ≡ remove_link after32 old p.0) where
-  abbrev Told : InvalidationResult (LinkBody Inx32 ℕ) → Type 0
-  Told r = option_map (λ (link : LinkBody Inx32 ℕ). (p.1, seen_link number link)) (value_within r) ≡ link_at (entry_at (values_of old)) (shown old) p.0
+  abbrev Told : InvalidationResult (LinkBody (PackedOption Inx32 ℕ) ℕ) → Type 0
+  Told r = option_map (λ (link : LinkBody (PackedOption Inx32 ℕ) ℕ). (p.1, seen_link zero_is_none link)) (value_within r) ≡ link_at (entry_at (values_of old)) (shown old) p.0
 
   -- what is answered is the text of the removal
-  pub removal_answers : (r : InvalidationResult (LinkBody Inx32 ℕ)) → (IsValidIn old p → Told r)
+  pub removal_answers : (r : InvalidationResult (LinkBody (PackedOption Inx32 ℕ) ℕ)) → (IsValidIn old p → Told r)
       → ((IsValidIn old p → ⊥) → (value_within r ≡ None) × (new ≡ old)) → r ≡ invalidation_result (is_greatest32 old.counter) (value_within r)
       → Removes old p (removal_text r) new
   removal_answers (Success link) valid invalid overflow = ⊎_elim

@@ -1,6 +1,7 @@
 ghost use Rattle.std.specs.Prelude.{◌≡◌, ◌≤◌, ◌↔◌, IsSome, IfSome};
 ghost use Rattle.arena_ptr.specs.Numbers.{IsWithin};
 
+use crate::packed_option::PackedOption;
 use crate::ptr::PtrInx;
 use std::fmt;
 
@@ -38,10 +39,16 @@ impl Inx32 {
 }
 
 impl PtrInx for Inx32 {
+    ghost use Rattle.std.specs.Option.{option_map};
     ghost use Rattle.std.proofs.Common.{lit<};
+    ghost use Rattle.arena_ptr.specs.Packed.{zero_is_none, same_zero_is_none, eq_is_same_number};
     ghost use Rattle.arena_ptr.specs.Indexes.{number_of_inx32, same_inx32, eq_is_same_inx32};
 
+    type Word = u32;
+
     ghost number = { number_of_inx32 };
+
+    ghost packed_number = { zero_is_none };
 
     ghost greatest = { 0xffff_ffff };
 
@@ -54,6 +61,10 @@ impl PtrInx for Inx32 {
     ghost same_number = { same_inx32 };
 
     ghost eq_is_same = { eq_is_same_inx32 };
+
+    ghost same_packed = { same_zero_is_none };
+
+    ghost word_eq_is_same = { eq_is_same_number };
 
     fn greatest() -> usize {
         u32::MAX as usize
@@ -68,6 +79,21 @@ impl PtrInx for Inx32 {
 
     fn try_into_usize(self) -> Option<usize> {
         Some(self.number as usize)
+    }
+
+    fn pack(i: Option<Self>) -> PackedOption<Self, u32>
+        ensures { zero_is_none result ≡ option_map number_of_inx32 i }
+    {
+        match i {
+            Some(i) => PackedOption::new(i.number),
+            None => PackedOption::new(0),
+        }
+    }
+
+    fn unpack(packed: PackedOption<Self, u32>) -> Option<Self>
+        ensures { option_map number_of_inx32 result ≡ zero_is_none packed }
+    {
+        Inx32::new(packed.word())
     }
 
     fn fmt_hex<W: fmt::Write>(self, f: &mut fmt::Formatter<W>) -> fmt::Result {

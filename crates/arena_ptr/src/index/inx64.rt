@@ -1,6 +1,7 @@
 ghost use Rattle.std.specs.Prelude.{◌≡◌, ◌≤◌, ◌↔◌, IsSome, IfSome};
 ghost use Rattle.arena_ptr.specs.Numbers.{IsWithin};
 
+use crate::packed_option::PackedOption;
 use crate::ptr::PtrInx;
 use std::fmt;
 
@@ -38,10 +39,16 @@ impl Inx64 {
 }
 
 impl PtrInx for Inx64 {
+    ghost use Rattle.std.specs.Option.{option_map};
     ghost use Rattle.std.proofs.Common.{lit<};
+    ghost use Rattle.arena_ptr.specs.Packed.{zero_is_none, same_zero_is_none, eq_is_same_number};
     ghost use Rattle.arena_ptr.specs.Indexes.{number_of_inx64, same_inx64, eq_is_same_inx64};
 
+    type Word = u64;
+
     ghost number = { number_of_inx64 };
+
+    ghost packed_number = { zero_is_none };
 
     ghost greatest = { 0xffff_ffff_ffff_ffff };
 
@@ -55,6 +62,10 @@ impl PtrInx for Inx64 {
 
     ghost eq_is_same = { eq_is_same_inx64 };
 
+    ghost same_packed = { same_zero_is_none };
+
+    ghost word_eq_is_same = { eq_is_same_number };
+
     fn greatest() -> usize {
         usize::MAX
     }
@@ -65,6 +76,21 @@ impl PtrInx for Inx64 {
 
     fn try_into_usize(self) -> Option<usize> {
         Some(self.number as usize)
+    }
+
+    fn pack(i: Option<Self>) -> PackedOption<Self, u64>
+        ensures { zero_is_none result ≡ option_map number_of_inx64 i }
+    {
+        match i {
+            Some(i) => PackedOption::new(i.number),
+            None => PackedOption::new(0),
+        }
+    }
+
+    fn unpack(packed: PackedOption<Self, u64>) -> Option<Self>
+        ensures { option_map number_of_inx64 result ≡ zero_is_none packed }
+    {
+        Inx64::new(packed.word())
     }
 
     fn fmt_hex<W: fmt::Write>(self, f: &mut fmt::Formatter<W>) -> fmt::Result {

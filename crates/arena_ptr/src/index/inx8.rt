@@ -1,6 +1,7 @@
 ghost use Rattle.std.specs.Prelude.{◌≡◌, ◌≤◌, ◌↔◌, IsSome, IfSome};
 ghost use Rattle.arena_ptr.specs.Numbers.{IsWithin};
 
+use crate::packed_option::PackedOption;
 use crate::ptr::PtrInx;
 use std::fmt;
 
@@ -38,10 +39,16 @@ impl Inx8 {
 }
 
 impl PtrInx for Inx8 {
+    ghost use Rattle.std.specs.Option.{option_map};
     ghost use Rattle.std.proofs.Common.{lit<};
+    ghost use Rattle.arena_ptr.specs.Packed.{zero_is_none, same_zero_is_none, eq_is_same_number};
     ghost use Rattle.arena_ptr.specs.Indexes.{number_of_inx8, same_inx8, eq_is_same_inx8};
 
+    type Word = u8;
+
     ghost number = { number_of_inx8 };
+
+    ghost packed_number = { zero_is_none };
 
     ghost greatest = { 0xff };
 
@@ -54,6 +61,10 @@ impl PtrInx for Inx8 {
     ghost same_number = { same_inx8 };
 
     ghost eq_is_same = { eq_is_same_inx8 };
+
+    ghost same_packed = { same_zero_is_none };
+
+    ghost word_eq_is_same = { eq_is_same_number };
 
     fn greatest() -> usize {
         u8::MAX as usize
@@ -68,6 +79,21 @@ impl PtrInx for Inx8 {
 
     fn try_into_usize(self) -> Option<usize> {
         Some(self.number as usize)
+    }
+
+    fn pack(i: Option<Self>) -> PackedOption<Self, u8>
+        ensures { zero_is_none result ≡ option_map number_of_inx8 i }
+    {
+        match i {
+            Some(i) => PackedOption::new(i.number),
+            None => PackedOption::new(0),
+        }
+    }
+
+    fn unpack(packed: PackedOption<Self, u8>) -> Option<Self>
+        ensures { option_map number_of_inx8 result ≡ zero_is_none packed }
+    {
+        Inx8::new(packed.word())
     }
 
     fn fmt_hex<W: fmt::Write>(self, f: &mut fmt::Formatter<W>) -> fmt::Result {

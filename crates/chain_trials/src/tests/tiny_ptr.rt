@@ -2,7 +2,7 @@
 
 use super::same;
 use arena_base::ArenaTrait;
-use arena_ptr::{ChainInsertionError, Ptr, PtrInx};
+use arena_ptr::{ChainInsertionError, PackedOption, Ptr, PtrInx};
 use chain_arena::{ChainArena, ChainArenaTrait, LinkInsertKind};
 use std::fmt;
 use std::process::Abort;
@@ -14,10 +14,15 @@ struct TinyInx {
 }
 
 impl PtrInx for TinyInx {
-    ghost use Rattle.std.specs.Prelude.{if◌then◌else◌};
+    ghost use Rattle.std.specs.Prelude.{◌≡◌, if◌then◌else◌};
+    ghost use Rattle.std.specs.Option.{option_map};
     ghost use Rattle.std.proofs.Common.{lit<, rules};
 
+    type Word = Option<Self>;
+
     ghost number = { λ i. if i.is_two then 2 else 1 };
+
+    ghost packed_number = { λ o. option_map (λ i. if i.is_two then 2 else 1) o.word };
 
     ghost greatest = { 2 };
 
@@ -30,6 +35,10 @@ impl PtrInx for TinyInx {
     ghost same_number = { Prim.search rules };
 
     ghost eq_is_same = { Prim.search rules };
+
+    ghost same_packed = { Prim.search rules };
+
+    ghost word_eq_is_same = { Prim.search rules };
 
     fn greatest() -> usize {
         2
@@ -45,6 +54,18 @@ impl PtrInx for TinyInx {
 
     fn try_into_usize(self) -> Option<usize> {
         Some(if self.is_two { 2 } else { 1 })
+    }
+
+    fn pack(i: Option<Self>) -> PackedOption<Self, Option<Self>>
+        ensures { result.word ≡ i }
+    {
+        PackedOption::new(i)
+    }
+
+    fn unpack(packed: PackedOption<Self, Option<Self>>) -> Option<Self>
+        ensures { result ≡ packed.word }
+    {
+        packed.word()
     }
 
     fn fmt_hex<W: fmt::Write>(self, f: &mut fmt::Formatter<W>) -> fmt::Result {

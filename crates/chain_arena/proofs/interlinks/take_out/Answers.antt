@@ -12,14 +12,15 @@ use Rattle.chain_arena.proofs.interlinks.take_out.Goals as goal
 pub returns-in-Some-clause-valid : goal.returns-in-Some-clause-valid
 returns-in-Some-clause-valid g c is =
     let number = g.P.Inx.PtrInx.number in
+    let packed_number = g.P.Inx.PtrInx.packed_number in
     let a = c.args.arena.now in
     let n = number c.args.i in
     let stands : entry_at a n ≡ Some (c.in-Some.generation, c.in-Some.link) = sym c.remove_inx.ensures.answer ∙ (sym (ap (λ x. x.0) c.overflowing-entry.ensures) ∙ c.in-Some.is) in
-    let named_prev : option_map number c.prev.result ≡ option_map number c.in-Some.link.prev = search of_calls in
-    let named_next : option_map number c.next.result ≡ option_map number c.in-Some.link.next = search of_calls in
-    removal_by_steps g.P.Gen.PtrGen.following (seen_links number a) (seen_links number c.remove_inx.new.self) (seen_links number c.link_up.new.arena) n
+    let named_prev : option_map number c.prev.result ≡ packed_number c.in-Some.link.prev = search of_calls in
+    let named_next : option_map number c.next.result ≡ packed_number c.in-Some.link.next = search of_calls in
+    removal_by_steps g.P.Gen.PtrGen.following (seen_links packed_number a) (seen_links packed_number c.remove_inx.new.self) (seen_links packed_number c.link_up.new.arena) n
     (option_map number c.prev.result) (option_map number c.next.result)
-    (ap (seen_links number) (c.remove_inx.ensures.more (ap is_some stands)) ∙ with_each-remove_at (seen_link number) g.P.Gen.PtrGen.following a n)
+    (ap (seen_links packed_number) (c.remove_inx.ensures.more (ap is_some stands)) ∙ with_each-remove_at (seen_link packed_number) g.P.Gen.PtrGen.following a n)
     c.link_up.ensures
-    (named_prev ∙ sym (prev_of-seen number a (n, c.in-Some.generation) c.in-Some.link stands))
-    (named_next ∙ sym (next_of-seen number a (n, c.in-Some.generation) c.in-Some.link stands))
+    (named_prev ∙ sym (prev_of-seen packed_number a (n, c.in-Some.generation) c.in-Some.link stands))
+    (named_next ∙ sym (next_of-seen packed_number a (n, c.in-Some.generation) c.in-Some.link stands))

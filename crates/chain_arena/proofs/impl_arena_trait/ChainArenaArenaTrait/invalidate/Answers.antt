@@ -13,21 +13,21 @@ pub invariant_of-self : goal.invariant_of-self
 invariant_of-self g c =
     let p = g.P.Ptr.key c.args.p in
     ⊎_elim
-    (λ valid. subst Agrees (sym (renewed-shown g.P.Inx.PtrInx.number g.P.Gen.PtrGen.following c.self.inside.arena _ _ (c.invalidate.ensures.more valid))) c.self.invariant)
-    (λ invalid. subst (λ a. Agrees (shown (seen_links g.P.Inx.PtrInx.number a))) (sym (c.invalidate.ensures.invalid invalid).1) c.self.invariant)
+    (λ valid. subst Agrees (sym (renewed-shown g.P.Inx.PtrInx.packed_number g.P.Gen.PtrGen.following c.self.inside.arena _ _ (c.invalidate.ensures.more valid))) c.self.invariant)
+    (λ invalid. subst (λ a. Agrees (shown (seen_links g.P.Inx.PtrInx.packed_number a))) (sym (c.invalidate.ensures.invalid invalid).1) c.self.invariant)
     (valid_or_not _ g.met.P.Gen.PtrGen.eq_is_same c.self.inside.arena p)
 
 pub returns-clause-valid : goal.returns-clause-valid
 returns-clause-valid g c = rw (← c.self.view_is) (λ valid.
-    let stands = (same_valid g.P.Inx.PtrInx.number c.self.inside.arena (g.P.Ptr.key c.args.p)).1 valid in
-    renewed-told g.P.Inx.PtrInx.number g.P.Gen.PtrGen.following c.self.inside.arena _ _ (c.invalidate.ensures.more stands) _ g.P.Ptr.key (value_within c.invalidate.result) (c.invalidate.ensures.valid stands) (c.invalidate.ensures.counter.1))
+    let stands = (same_valid g.P.Inx.PtrInx.packed_number c.self.inside.arena (g.P.Ptr.key c.args.p)).1 valid in
+    renewed-told g.P.Inx.PtrInx.packed_number g.P.Gen.PtrGen.following c.self.inside.arena _ _ (c.invalidate.ensures.more stands) _ g.P.Ptr.key (value_within c.invalidate.result) (c.invalidate.ensures.valid stands) (c.invalidate.ensures.counter.1))
 
 pub returns-clause-invalid : goal.returns-clause-invalid
 returns-clause-invalid g c = rw (← c.self.view_is) (λ invalid.
-    let told = c.invalidate.ensures.invalid (λ valid. invalid ((same_valid g.P.Inx.PtrInx.number c.self.inside.arena (g.P.Ptr.key c.args.p)).0 valid)) in
-    (told.0, ap (seen_links g.P.Inx.PtrInx.number) told.1))
+    let told = c.invalidate.ensures.invalid (λ valid. invalid ((same_valid g.P.Inx.PtrInx.packed_number c.self.inside.arena (g.P.Ptr.key c.args.p)).0 valid)) in
+    (told.0, ap (seen_links g.P.Inx.PtrInx.packed_number) told.1))
 
 pub returns-clause-more : goal.returns-clause-more
 returns-clause-more g c = rw (← c.self.view_is) (λ valid.
-    let stands = (same_valid g.P.Inx.PtrInx.number c.self.inside.arena (g.P.Ptr.key c.args.p)).1 valid in
-    (renewed-state g.P.Inx.PtrInx.number g.P.Gen.PtrGen.following c.self.inside.arena _ _ (c.invalidate.ensures.more stands), renewed-shown g.P.Inx.PtrInx.number g.P.Gen.PtrGen.following c.self.inside.arena _ _ (c.invalidate.ensures.more stands)))
+    let stands = (same_valid g.P.Inx.PtrInx.packed_number c.self.inside.arena (g.P.Ptr.key c.args.p)).1 valid in
+    (renewed-state g.P.Inx.PtrInx.packed_number g.P.Gen.PtrGen.following c.self.inside.arena _ _ (c.invalidate.ensures.more stands), renewed-shown g.P.Inx.PtrInx.packed_number g.P.Gen.PtrGen.following c.self.inside.arena _ _ (c.invalidate.ensures.more stands)))

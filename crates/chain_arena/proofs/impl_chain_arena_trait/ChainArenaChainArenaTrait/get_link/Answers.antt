@@ -9,18 +9,18 @@ use Rattle.chain_arena.proofs.impl_chain_arena_trait.ChainArenaChainArenaTrait.g
 
 pub returns-in-Some-clause-some : goal.returns-in-Some-clause-some
 returns-in-Some-clause-some g c =
-    let same = same_valid g.P.Inx.PtrInx.number c.self.inside.arena (g.P.Ptr.key c.args.p) in
+    let same = same_valid g.P.Inx.PtrInx.packed_number c.self.inside.arena (g.P.Ptr.key c.args.p) in
     rw (← c.self.view_is) (λ h. same.0 (c.in-Some.ensures.some.0 h), λ valid. c.in-Some.ensures.some.1 (same.1 valid))
 
 pub returns-in-Some-clause-link : goal.returns-in-Some-clause-link
 returns-in-Some-clause-link g c =
-    let number = g.P.Inx.PtrInx.number in
+    let number = g.P.Inx.PtrInx.packed_number in
     let seen = seen_links number c.self.inside.arena in
     rw (← c.self.view_is, c.new.ensures) (link_at_ptr number c.self.inside.arena (g.P.Ptr.key c.args.p) c.in-Some.link.now _ _ c.in-Some.ensures.value
-    (c.neighbor-prev.ensures ∙ ap (λ o. option_and_then (ptr_at (entry_at (values_of seen))) (option_map number o)) c.prev.ensures)
-    (c.neighbor-next.ensures ∙ ap (λ o. option_and_then (ptr_at (entry_at (values_of seen))) (option_map number o)) c.next.ensures))
+    (c.neighbor-prev.ensures ∙ ap (option_and_then (ptr_at (entry_at (values_of seen)))) c.prev.ensures)
+    (c.neighbor-next.ensures ∙ ap (option_and_then (ptr_at (entry_at (values_of seen)))) c.next.ensures))
 
 pub returns-in-None-clause-some : goal.returns-in-None-clause-some
 returns-in-None-clause-some g c =
-    let same = same_valid g.P.Inx.PtrInx.number c.self.inside.arena (g.P.Ptr.key c.args.p) in
+    let same = same_valid g.P.Inx.PtrInx.packed_number c.self.inside.arena (g.P.Ptr.key c.args.p) in
     rw (← c.self.view_is) (λ h. same.0 (c.in-None.ensures.some.0 h), λ valid. c.in-None.ensures.some.1 (same.1 valid))
