@@ -1,6 +1,5 @@
 -- Links as contracts see them: their interlinks as numbers.
-use Rattle.std.specs.Prelude.{ℕ}
-use Rattle.std.specs.Option.{option_map}
+use Rattle.std.specs.Prelude.{ℕ, Option}
 use Rattle.std.specs.Borrow.{Bor}
 use Rattle.arena_base.specs.Arena.{Arena}
 use Rattle.chain_arena.specs.ChainArena.{LinkSeen, on_value, with_each}

@@ -2,7 +2,7 @@ ghost use Rattle.std.specs.Prelude.{◌≡◌};
 ghost use Rattle.std.specs.Option.{option_map};
 ghost use Rattle.chain_arena.specs.Links.{seen_link};
 
-use arena_ptr::{PackedOption, Ptr, PtrInx};
+use arena_ptr::{PackedOption, Ptr, PtrInx, ToolPtr};
 
 /// A link with interlinks of a type `K`, each an optional index: the links before it and after it, and its value.
 #[derive(Clone, Copy)]
@@ -21,6 +21,9 @@ pub type Interlink<P> = PackedOption<<P as Ptr>::Inx, <<P as Ptr>::Inx as PtrInx
 ///
 /// Carries `LinkNoGen` of `triple_arena`.
 pub type LinkNoGen<P, T> = LinkBody<Interlink<P>, T>;
+
+// An interlink takes no more than its index.
+const _: () = prove!(size_of::<LinkNoGen<ToolPtr, u32>>() == 12);
 
 impl<W: Copy, I: PtrInx<Word = W>, T> LinkBody<PackedOption<I, W>, T> {
     /// The index of the link before this one in its chain. `None` at the start of the chain.

@@ -1,6 +1,5 @@
 -- The walker passes the walk from the pointer's link.
-use Rattle.std.proofs.Common.{sym, ap, ◌∙◌}
-use Rattle.std.specs.Option.{option_map}
+use Rattle.std.proofs.Common.{sym, ◌∙◌}
 use Rattle.chain_arena.specs.Links.{seen_links}
 use Rattle.chain_arena.specs.ChainArena.{IsWalkOf}
 use Rattle.chain_arena.proofs.Inserting.{entry_count-seen_links}

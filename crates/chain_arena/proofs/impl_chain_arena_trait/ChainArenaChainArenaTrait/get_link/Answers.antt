@@ -1,6 +1,6 @@
 -- The link, with the pointers of now to the links that it names.
 use Rattle.std.proofs.Common.{ap, ◌∙◌}
-use Rattle.std.specs.Option.{option_map, option_and_then}
+use Rattle.std.specs.Option.{option_and_then}
 use Rattle.arena_base.specs.Arena.{entry_at}
 use Rattle.chain_arena.specs.Links.{seen_links}
 use Rattle.chain_arena.specs.ChainArena.{ptr_at, values_of}
@@ -16,7 +16,7 @@ pub returns-in-Some-clause-link : goal.returns-in-Some-clause-link
 returns-in-Some-clause-link g c =
     let number = g.P.Inx.PtrInx.packed_number in
     let seen = seen_links number c.self.inside.arena in
-    rw (← c.self.view_is, c.new.ensures) (link_at_ptr number c.self.inside.arena (g.P.Ptr.key c.args.p) c.in-Some.link.now _ _ c.in-Some.ensures.value
+    rw (← c.self.view_is, c.new.ensures.prev, c.new.ensures.next, c.new.ensures.value) (link_at_ptr number c.self.inside.arena (g.P.Ptr.key c.args.p) c.in-Some.link.now _ _ c.in-Some.ensures.value
     (c.neighbor-prev.ensures ∙ ap (option_and_then (ptr_at (entry_at (values_of seen)))) c.prev.ensures)
     (c.neighbor-next.ensures ∙ ap (option_and_then (ptr_at (entry_at (values_of seen)))) c.next.ensures))
 

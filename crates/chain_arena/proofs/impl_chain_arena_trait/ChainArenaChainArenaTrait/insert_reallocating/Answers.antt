@@ -5,7 +5,7 @@ use Rattle.std.proofs.lemmas.Bool.{false≢true}
 use Rattle.arena_base.specs.Arena.{IsRoom, HasRoom}
 use Rattle.chain_laws.specs.Chains.{Agrees}
 use Rattle.chain_laws.specs.Operations.{with_lone}
-use Rattle.chain_arena.specs.Links.{seen_links, seen_link}
+use Rattle.chain_arena.specs.Links.{seen_links}
 use Rattle.chain_arena.specs.ChainArena.{shown}
 use Rattle.chain_arena.proofs.Inserting.{agrees-inserted, adds-inserted, seen-inserted, shown-inserted, entry-inserted, seen-in_room, slots-inserted, count-values, entry_count-seen_links, next_index-values, next_index-seen_links}
 use Rattle.chain_arena.proofs.Outcomes.{ok_or_err, beyond-ok, beyond-err}
