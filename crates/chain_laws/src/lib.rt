@@ -3,6 +3,7 @@
 #![tactic(auto)]
 
 pub mod cutting;
+pub mod insertion;
 pub mod operations;
 pub mod partition;
 pub mod removal;
