@@ -20,6 +20,8 @@ pub mod Determined
 pub mod Shortening
 pub mod CutPairs
 pub mod Parting
+pub mod Between
+pub mod InsertionPairs
 pub mod OperationRows
 pub mod RemovalRows
 pub mod CutRows

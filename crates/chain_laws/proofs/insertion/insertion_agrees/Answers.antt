@@ -1,0 +1,5 @@
+use Rattle.chain_laws.proofs.InsertionPairs.{inserted_agrees}
+use Rattle.chain_laws.proofs.insertion.insertion_agrees.Goals as goal
+
+pub returns : goal.returns
+returns c = inserted_agrees
