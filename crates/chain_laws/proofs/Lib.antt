@@ -22,6 +22,7 @@ pub mod CutPairs
 pub mod Parting
 pub mod Between
 pub mod InsertionPairs
+pub mod Restoring
 pub mod OperationRows
 pub mod RemovalRows
 pub mod CutRows

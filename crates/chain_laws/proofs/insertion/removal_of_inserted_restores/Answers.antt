@@ -1,0 +1,5 @@
+use Rattle.chain_laws.proofs.Restoring.{removed_of_inserted_restores}
+use Rattle.chain_laws.proofs.insertion.removal_of_inserted_restores.Goals as goal
+
+pub returns : goal.returns
+returns c = removed_of_inserted_restores
