@@ -45,7 +45,7 @@ without : (shown : Shown) (q : ℕ) (xs : List ℕ) → (Has xs q → ⊥) → (
 without shown q xs none i h = with_lone-off shown q i (λ e. none (subst (Has xs) e h))
 
 -- a list without q stands before exactly if it stands after
-Stands-with_lone : (shown : Shown) (q : ℕ) (before : Option ℕ) (xs : List ℕ) (after : Option ℕ) → (Has xs q → ⊥)
+pub Stands-with_lone : (shown : Shown) (q : ℕ) (before : Option ℕ) (xs : List ℕ) (after : Option ℕ) → (Has xs q → ⊥)
     → Stands shown before xs after ↔ Stands (with_lone shown q) before xs after
 Stands-with_lone shown q before xs after none = (
   Stands-frame shown (with_lone shown q) before xs after (λ i h. sym (without shown q xs none i h)),

@@ -23,6 +23,7 @@ pub mod Parting
 pub mod Between
 pub mod InsertionPairs
 pub mod Restoring
+pub mod Inserting
 pub mod OperationRows
 pub mod RemovalRows
 pub mod CutRows

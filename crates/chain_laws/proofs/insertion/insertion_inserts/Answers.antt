@@ -1,0 +1,5 @@
+use Rattle.chain_laws.proofs.Inserting.{inserted_inserts}
+use Rattle.chain_laws.proofs.insertion.insertion_inserts.Goals as goal
+
+pub returns : goal.returns
+returns c = inserted_inserts
