@@ -24,6 +24,7 @@ pub mod Between
 pub mod InsertionPairs
 pub mod Restoring
 pub mod Inserting
+pub mod Lengthening
 pub mod OperationRows
 pub mod RemovalRows
 pub mod CutRows
