@@ -1,14 +1,14 @@
 -- What an insertion does to the chains: the new link comes into a list, between two, or closes one to a ring.
 use Rattle.std.specs.Prelude.{◌≡◌, ◌≢◌, ◌↔◌, ℕ, ◌⊎◌, List, [], ◌∷◌, ◌++◌, Option, None, Some}
-use Rattle.std.proofs.Common.{sym, refl, ap, ◌∙◌, subst, subst₂, inl, inr, ⊎_elim}
+use Rattle.std.proofs.Common.{sym, refl, ◌∙◌, subst, subst₂, inl, inr, ⊎_elim}
 use Rattle.std.proofs.lemmas.List.{append_assoc}
 use Rattle.chain_laws.specs.Chains.{Shown, Chain, linear, cyclic, items, IsChain, Has, HasNoRepetition, Stands, prev_of, next_of, first_or, last_or}
 use Rattle.chain_laws.specs.Operations.{linked, with_lone}
-use Rattle.chain_laws.specs.Insertions.{inserted, HasIndex, Inserts, InsertionInserts}
-use Rattle.chain_laws.proofs.Agreement.{one_some}
-use Rattle.chain_laws.proofs.Members.{Has-left, Has-right, Has-parts, Has-middle, Has-filled, first_or-Has, last_or-Has, last_or-append, HasNoRepetition-left, HasNoRepetition-right, HasNoRepetition-apart, HasNoRepetition-append}
+use Rattle.chain_laws.specs.Insertions.{inserted, HasIndex, InsertionInserts}
+use Rattle.chain_laws.proofs.Members.{Has-left, Has-right, Has-parts, Has-middle, Has-filled, first_or-Has, last_or-Has, last_or-append}
+use Rattle.chain_laws.proofs.Members.{HasNoRepetition-left, HasNoRepetition-right, HasNoRepetition-apart, HasNoRepetition-append}
 use Rattle.chain_laws.proofs.Standing.{Stands-left, Stands-right, Stands-at, Stands-last, shows_next, shows_prev}
-use Rattle.chain_laws.proofs.Unique.{chain_closed, chain_once, chain_valid, reaches_first}
+use Rattle.chain_laws.proofs.Unique.{chain_closed, chain_valid, reaches_first}
 use Rattle.chain_laws.proofs.Turning.{turned}
 use Rattle.chain_laws.proofs.Gluing.{IsApart, IsApart-Some, Stands-linked, Stands-glued, Stands-ringed, IsChain-linked}
 use Rattle.chain_laws.proofs.Alone.{with_lone-at, Stands-with_lone, with_lone_adds}
@@ -43,8 +43,9 @@ Stands-appended shown q before xs after ends once none stands =
     (with_lone-at shown q q refl, tt))
 
 -- a new link comes after the last of one list, or after none, and before the first of another, or before none
-pub inserted_between : (shown : Shown) (q : ℕ) (xs : List ℕ) (xs_after ys_before : Option ℕ) (ys : List ℕ) → HasNoRepetition (xs ++ ys) → (Has (xs ++ ys) q → ⊥)
-    → Stands shown None xs xs_after → Stands shown ys_before ys None → IsChain (inserted shown q (last_or xs None) (first_or ys None)) (linear (xs ++ q ∷ ys))
+pub inserted_between : (shown : Shown) (q : ℕ) (xs : List ℕ) (xs_after ys_before : Option ℕ) (ys : List ℕ) → HasNoRepetition (xs ++ ys)
+    → (Has (xs ++ ys) q → ⊥) → Stands shown None xs xs_after → Stands shown ys_before ys None
+    → IsChain (inserted shown q (last_or xs None) (first_or ys None)) (linear (xs ++ q ∷ ys))
 inserted_between shown q xs xs_after ys_before ys once none xs_stands ys_stands =
     let u = last_or xs None in
     let longer = xs ++ q ∷ [] in
@@ -55,7 +56,8 @@ inserted_between shown q xs xs_after ys_before ys once none xs_stands ys_stands 
     Stands-linked (with_lone shown q) u (Some q) ys_before ys None (last_apart xs ys apart) (IsApart-Some q ys not_right)
     ((Stands-with_lone shown q ys_before ys None not_right).0 ys_stands) in
     let glued : Stands (linked (appended shown q u) (last_or longer None) (first_or ys None)) None (longer ++ ys) None =
-    Stands-glued (appended shown q u) None longer None ys_before ys None xs_once ys_once (last_apart longer ys longer_apart) (first_apart longer ys longer_apart) left right in
+    Stands-glued (appended shown q u) None longer None ys_before ys None xs_once ys_once
+    (last_apart longer ys longer_apart) (first_apart longer ys longer_apart) left right in
     let chain : IsChain (inserted shown q u (first_or ys None)) (linear (longer ++ ys)) = (
       Has-filled (longer ++ ys) q (Has-left longer ys q (Has-middle xs [] q)),
       HasNoRepetition-append longer ys xs_once ys_once longer_apart,
@@ -91,7 +93,8 @@ inserted_round shown q before (x ∷ xs) after filled once none stands =
     Stands-ringed (appended shown q u) before longer None longer_once (Stands-appended shown q before (x ∷ xs) after refl once none stands) in (
       Has-filled longer x (inl refl),
       longer_once,
-      subst (λ (o : Option ℕ). Stands (linked (appended shown q u) o (Some x)) (last_or longer None) longer (Some x)) (last_or-append (x ∷ xs) (q ∷ []) None) ringed,
+      subst (λ (o : Option ℕ). Stands (linked (appended shown q u) o (Some x)) (last_or longer None) longer (Some x))
+          (last_or-append (x ∷ xs) (q ∷ []) None) ringed,
     )
 
 -- no chain has a free index
@@ -112,7 +115,8 @@ inserted_in_cyclic shown q xs ys free chain =
     let new = inserted shown q (last_or (ys ++ xs) None) (first_or (ys ++ xs) None) in
     let ring : IsChain shown (cyclic (ys ++ xs)) = turned shown xs ys chain in
     let longer : IsChain new (cyclic ((ys ++ xs) ++ q ∷ [])) =
-    inserted_round shown q (last_or (ys ++ xs) None) (ys ++ xs) (first_or (ys ++ xs) None) ring.0 ring.1 (chain_lacks_free shown q (cyclic (ys ++ xs)) free ring) ring.2 in
+    inserted_round shown q (last_or (ys ++ xs) None) (ys ++ xs) (first_or (ys ++ xs) None) ring.0 ring.1
+    (chain_lacks_free shown q (cyclic (ys ++ xs)) free ring) ring.2 in
     let turned_back : IsChain new (cyclic ((xs ++ q ∷ []) ++ ys)) =
     turned new ys (xs ++ q ∷ []) (subst (λ (zs : List ℕ). IsChain new (cyclic zs)) (append_assoc ys xs (q ∷ [])) longer) in
     subst (λ (zs : List ℕ). IsChain new (cyclic zs)) (append_assoc xs (q ∷ []) ys) turned_back
@@ -132,11 +136,11 @@ inserted_after_in_linear shown a q x y free chain =
 inserted_after_in_cyclic : (shown : Shown) (a q : ℕ) (x y : List ℕ) → shown q ≡ None → IsChain shown (cyclic (x ++ a ∷ y))
     → IsChain (inserted shown q (Some a) (next_of shown a)) (cyclic (x ++ a ∷ q ∷ y))
 inserted_after_in_cyclic shown a q x y free chain =
-    let zs = y ++ (x ++ a ∷ []) in
+    let round = y ++ (x ++ a ∷ []) in
     let split : IsChain shown (cyclic ((x ++ a ∷ []) ++ y)) = subst (λ (zs : List ℕ). IsChain shown (cyclic zs)) (sym (append_assoc x (a ∷ []) y)) chain in
-    let ring : IsChain shown (cyclic zs) = turned shown (x ++ a ∷ []) y split in
-    let ends : last_or zs None ≡ Some a = last_or-append y (x ++ a ∷ []) None ∙ last_or-append x (a ∷ []) (last_or y None) in
-    let follows : first_or zs None ≡ next_of shown a = sym (Stands-last shown _ zs _ a ring.2 ring.0 ends) in
+    let ring : IsChain shown (cyclic round) = turned shown (x ++ a ∷ []) y split in
+    let ends : last_or round None ≡ Some a = last_or-append y (x ++ a ∷ []) None ∙ last_or-append x (a ∷ []) (last_or y None) in
+    let follows : first_or round None ≡ next_of shown a = sym (Stands-last shown _ round _ a ring.2 ring.0 ends) in
     subst (λ (zs : List ℕ). IsChain (inserted shown q (Some a) (next_of shown a)) (cyclic zs)) (append_assoc x (a ∷ []) (q ∷ y))
     (subst₂ (λ (u v : Option ℕ). IsChain (inserted shown q u v) (cyclic ((x ++ a ∷ []) ++ q ∷ y))) ends follows
     (inserted_in_cyclic shown q (x ++ a ∷ []) y free split))
@@ -177,8 +181,8 @@ inserted_two shown a b q x y free left right none =
     written = append_assoc x (a ∷ []) (q ∷ b ∷ y) ∙ sym (append_assoc x (a ∷ q ∷ []) (b ∷ y))
 
 -- after the end and before the start of one chain
-inserted_one : (shown : Shown) (a b q : ℕ) (xs : List ℕ) → shown q ≡ None → IsChain shown (linear xs) → first_or xs None ≡ Some b → last_or xs None ≡ Some a
-    → IsChain (inserted shown q (Some a) (Some b)) (cyclic (xs ++ q ∷ []))
+inserted_one : (shown : Shown) (a b q : ℕ) (xs : List ℕ) → shown q ≡ None → IsChain shown (linear xs)
+    → first_or xs None ≡ Some b → last_or xs None ≡ Some a → IsChain (inserted shown q (Some a) (Some b)) (cyclic (xs ++ q ∷ []))
 inserted_one shown a b q xs free chain starts ends =
     subst₂ (λ (u v : Option ℕ). IsChain (inserted shown q u v) (cyclic (xs ++ q ∷ []))) ends starts
     (inserted_round shown q None xs None chain.0 chain.1 (chain_lacks_free shown q (linear xs) free chain) chain.2)
@@ -191,14 +195,14 @@ inserted_ring shown q =
     Stands-ringed (with_lone shown q) None (q ∷ []) None once (with_lone-at shown q q refl, tt) in
     (Has-filled (q ∷ []) q (inl refl), once, Stands-ringed (appended shown q (Some q)) (Some q) (q ∷ []) (Some q) once closed)
 
--- no index is apart from any list, and one that is not in a chain is
+-- an index that a chain does not have, or none, is apart from its items
 HasIndex-apart : (c : Chain) (u : Option ℕ) → (HasIndex c u → ⊥) → IsApart u (items c)
 HasIndex-apart c None none k e h = cc
 HasIndex-apart c (Some i) none k e h = IsApart-Some i (items c) none k e h
 
 -- a chain with none of the indexes stays
-inserted_rest : (shown : Shown) (q : ℕ) (u v : Option ℕ) → shown q ≡ None → (c : Chain) → (Has (items c) q → ⊥) → (HasIndex c u → ⊥) → (HasIndex c v → ⊥)
-    → IsChain shown c ↔ IsChain (inserted shown q u v) c
+inserted_rest : (shown : Shown) (q : ℕ) (u v : Option ℕ) → shown q ≡ None → (c : Chain)
+    → (Has (items c) q → ⊥) → (HasIndex c u → ⊥) → (HasIndex c v → ⊥) → IsChain shown c ↔ IsChain (inserted shown q u v) c
 inserted_rest shown q u v free c none_q none_u none_v =
     let alone = (with_lone_adds shown q free).rest c none_q in
     let inner = IsChain-linked (with_lone shown q) u (Some q) c (HasIndex-apart c u none_u) (IsApart-Some q (items c) none_q) in
@@ -212,13 +216,13 @@ inserted_inserts shown q u v agrees free gap =
       alone = λ at_u at_v. moved at_u at_v (linear (q ∷ [])) (inserted_between shown q [] None None [] tt (λ h. h) tt tt);
       ring = λ at_u at_v. moved at_u at_v (cyclic (q ∷ [])) (inserted_ring shown q);
       after = λ a at_u at_v x y. (
-          λ chain. moved at_u at_v (linear (x ++ a ∷ q ∷ y)) (inserted_after_in_linear shown a q x y free chain),
-          λ chain. moved at_u at_v (cyclic (x ++ a ∷ q ∷ y)) (inserted_after_in_cyclic shown a q x y free chain),
-        );
+        λ chain. moved at_u at_v (linear (x ++ a ∷ q ∷ y)) (inserted_after_in_linear shown a q x y free chain),
+        λ chain. moved at_u at_v (cyclic (x ++ a ∷ q ∷ y)) (inserted_after_in_cyclic shown a q x y free chain),
+      );
       before = λ b at_v at_u x y. (
-          λ chain. moved at_u at_v (linear (x ++ q ∷ b ∷ y)) (inserted_before_in_linear shown b q x y free chain),
-          λ chain. moved at_u at_v (cyclic (x ++ q ∷ b ∷ y)) (inserted_before_in_cyclic shown b q x y free chain),
-        );
+        λ chain. moved at_u at_v (linear (x ++ q ∷ b ∷ y)) (inserted_before_in_linear shown b q x y free chain),
+        λ chain. moved at_u at_v (cyclic (x ++ q ∷ b ∷ y)) (inserted_before_in_cyclic shown b q x y free chain),
+      );
       two = λ a b at_u at_v x y left right none. moved at_u at_v (linear ((x ++ a ∷ q ∷ []) ++ b ∷ y)) (inserted_two shown a b q x y free left right none);
       one = λ a b at_u at_v xs chain starts ends. moved at_u at_v (cyclic (xs ++ q ∷ [])) (inserted_one shown a b q xs free chain starts ends);
       rest = inserted_rest shown q u v free;

@@ -91,8 +91,8 @@ prev_puts shown q u v free between =
 
 -- there is room between what is not q, if what the one names can only be the other
 room_between : (shown : Shown) (q : ℕ) (u v : Option ℕ) → shown q ≡ None → IsValidAt shown u → IsValidAt shown v
-    → ((i j : ℕ) → u ≡ Some i → next_of shown i ≡ Some j → v ≡ Some j) → ((i j : ℕ) → v ≡ Some i → prev_of shown i ≡ Some j → u ≡ Some j)
-    → IsBetween shown q u v
+    → ((i j : ℕ) → u ≡ Some i → next_of shown i ≡ Some j → v ≡ Some j)
+    → ((i j : ℕ) → v ≡ Some i → prev_of shown i ≡ Some j → u ≡ Some j) → IsBetween shown q u v
 room_between shown q u v free valid_u valid_v after before =
     record {
       valid_before = λ i e. inl (valid_u i e);

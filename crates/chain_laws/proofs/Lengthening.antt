@@ -1,18 +1,17 @@
--- The chains after an insertion are those of the new link and those before it: what inserts leaves no choice.
+-- The chains after an insertion are that of the new link and those that stay: what inserts leaves no choice.
 use Rattle.std.specs.Prelude.{◌≡◌, ℕ, ◌⊎◌, List, [], ◌∷◌, ◌++◌, Option, None, Some}
 use Rattle.std.proofs.Common.{sym, refl, ap, ◌∙◌, subst, inl, inr, ⊎_elim}
-use Rattle.chain_laws.specs.Chains.{Shown, Chain, linear, cyclic, items, IsChain, IsWithin, IsValid, Agrees, Has, prev_of, next_of, first_or}
-use Rattle.chain_laws.specs.Neighbors.{AreNeighbors}
+use Rattle.chain_laws.specs.Chains.{Shown, Chain, linear, cyclic, items, IsChain, IsWithin, Agrees, Has, prev_of, next_of, first_or}
 use Rattle.chain_laws.specs.Insertions.{inserted, IsGap, HasIndex, Inserts, InsertionIsDetermined}
 use Rattle.chain_laws.proofs.Agreement.{one_some}
-use Rattle.chain_laws.proofs.Members.{Has-left, Has-right, Has-parts, Has-middle, Has-written, Has-or_not, last_or-append}
-use Rattle.chain_laws.proofs.Standing.{next_valid, prev_valid}
+use Rattle.chain_laws.proofs.Members.{Has-left, Has-right, Has-middle, Has-written, Has-or_not, last_or-append}
+use Rattle.chain_laws.proofs.Standing.{prev_valid}
 use Rattle.chain_laws.proofs.Unique.{chain_closed, one_linear}
 use Rattle.chain_laws.proofs.Exists.{ChainOf, chain_of, has_chain}
 use Rattle.chain_laws.proofs.Determined.{chain_elsewhere, end_chain, start_chain}
 use Rattle.chain_laws.proofs.Inserting.{inserted_inserts}
 
--- the chain of q wherever that is inserted between u and v: it has them
+-- the chain of q wherever that is inserted between u and v, which stand in it too
 record Lengthened (old : Shown) (q : ℕ) (u v : Option ℕ) : Type 0 where
   chain : Chain
   has_new : Has (items chain) q
@@ -83,7 +82,8 @@ lengthened_pair old a b q before (chain_of (cyclic xs) chain has) = let w = Has-
         lengthened_list old a b q x y has_a (cyclic (x ++ q ∷ b ∷ y)) refl (λ new inserts. (inserts.before b refl (sym before) x y).1 here)
 
 -- between an end and a start
-lengthened_bridge : (old : Shown) (a b q : ℕ) (x y : List ℕ) → IsChain old (linear (x ++ a ∷ [])) → IsChain old (linear (b ∷ y)) → Lengthened old q (Some a) (Some b)
+lengthened_bridge : (old : Shown) (a b q : ℕ) (x y : List ℕ) → IsChain old (linear (x ++ a ∷ [])) → IsChain old (linear (b ∷ y))
+    → Lengthened old q (Some a) (Some b)
 lengthened_bridge old a b q x y left right = by (Has-or_not (x ++ a ∷ []) b)
   where
     by : Has (x ++ a ∷ []) b ⊎ (Has (x ++ a ∷ []) b → ⊥) → Lengthened old q (Some a) (Some b)

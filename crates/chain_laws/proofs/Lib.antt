@@ -28,4 +28,5 @@ pub mod Lengthening
 pub mod OperationRows
 pub mod RemovalRows
 pub mod CutRows
+pub mod InsertionRows
 pub mod Rows
