@@ -12,7 +12,57 @@ use std::hash::Hash;
 
 /// An index into the slots of an arena: a number from 1 to the greatest of its type.
 ///
-/// Carries `PtrInx` of `triple_arena`, over `usize` in place of `NonZeroUsize`.
+/// Arenas keep many optional indexes, and so an index type says in which `Word` one is kept. A type that has a number
+/// to spare takes its own width, as `Inx32` does, in which 0 is none:
+///
+/// ```text
+/// ghost use Rattle.arena_ptr.specs.Packed.{zero_is_none, same_zero_is_none, eq_is_same_number};
+///
+/// type Word = u32;
+/// ghost packed_number = { zero_is_none };
+/// ghost same_packed = { same_zero_is_none };
+/// ghost word_eq_is_same = { eq_is_same_number };
+///
+/// fn pack(i: Option<Self>) -> PackedOption<Self, u32>
+///     ensures { zero_is_none result ≡ option_map number_of_inx32 i }
+/// {
+///     match i {
+///         Some(i) => PackedOption::new(i.number),
+///         None => PackedOption::new(0),
+///     }
+/// }
+///
+/// fn unpack(packed: PackedOption<Self, u32>) -> Option<Self>
+///     ensures { option_map number_of_inx32 result ≡ zero_is_none packed }
+/// {
+///     Inx32::new(packed.word())
+/// }
+/// ```
+///
+/// A type whose every value is an index, as a struct `TinyInx` of one `bool`, keeps the `Option` itself, where `number` is
+/// its number of an index:
+///
+/// ```text
+/// type Word = Option<Self>;
+/// ghost packed_number = { λ o. option_map number o.word };
+/// ghost same_packed = { Prim.search rules };
+/// ghost word_eq_is_same = { Prim.search rules };
+///
+/// fn pack(i: Option<Self>) -> PackedOption<Self, Option<Self>>
+///     ensures { result.word ≡ i }
+/// {
+///     PackedOption::new(i)
+/// }
+///
+/// fn unpack(packed: PackedOption<Self, Option<Self>>) -> Option<Self>
+///     ensures { result ≡ packed.word }
+/// {
+///     packed.word()
+/// }
+/// ```
+///
+/// Carries `PtrInx` of `triple_arena`, over `usize` in place of `NonZeroUsize`. The word and its two calls are this
+/// crate's own: they stand for the niche that `Option` of a NonZero type has in Rust.
 pub trait PtrInx: Copy + Eq + Ord + Hash + Debug {
     /// What an optional index is kept in: as narrow as the index where it has a number to spare, as 0 is,
     /// else `Option<Self>`.

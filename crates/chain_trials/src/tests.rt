@@ -6,6 +6,7 @@ mod limits;
 mod pointers;
 mod removal;
 mod rows;
+mod sizes;
 mod tiny_ptr;
 mod walks;
 mod wrapped;

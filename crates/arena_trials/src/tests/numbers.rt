@@ -1,5 +1,6 @@
 // Indexes, generations and pointers: what generic code knows of them by the traits alone, and the numbers of each type.
 ghost use Rattle.std.specs.Prelude.{◌≡◌, ◌≤◌, ◌↔◌, IsTrue, IsSome, IfSome, Some};
+ghost use Rattle.std.specs.Option.{option_map};
 
 use crate::tests::pointers::BarePtr;
 use crate::tests::tools::{gen8, gen32, gen64, inx8, inx32, inx64, same};
@@ -25,6 +26,20 @@ fn is_same_index<I: PtrInx>(i: I, j: I) -> bool
     ensures { IsTrue result ↔ (I.number i ≡ I.number j) }
 {
     i == j
+}
+
+// The optional index that a packed one unpacks to.
+fn unpacked_again<I: PtrInx>(i: Option<I>) -> Option<I>
+    ensures { option_map I.number result ≡ option_map I.number i }
+{
+    I::unpack(I::pack(i))
+}
+
+// Whether two optional indexes are the same once packed.
+fn packs_alike<I: PtrInx>(i: Option<I>, j: Option<I>) -> bool
+    ensures { IsTrue result ↔ (option_map I.number i ≡ option_map I.number j) }
+{
+    I::pack(i) == I::pack(j)
 }
 
 // The generation after the next one.
@@ -168,6 +183,25 @@ fn an_index_is_its_number(rt: HostRuntime) {
         (false, false, false),
     );
     same(&rt, "in order", inx8(&rt, 7) < inx8(&rt, 200), true);
+}
+
+// Whether optional indexes of each width, none and some, are as before once packed, and some is not packed as none.
+fn pack_well(rt: &impl Abort, (a, b, c): Widths) -> bool {
+    packs_well(inx8(rt, a)) && packs_well(inx32(rt, b)) && packs_well(inx64(rt, c))
+}
+
+fn packs_well<I: PtrInx>(i: I) -> bool {
+    unpacked_again(Some(i)) == Some(i)
+        && unpacked_again::<I>(None).is_none()
+        && packs_alike(Some(i), Some(i))
+        && !packs_alike(Some(i), None)
+}
+
+#[test]
+fn an_optional_index_is_packed_and_unpacked(rt: HostRuntime) {
+    for numbers in [ONES, GREATEST] {
+        same(&rt, "packed", pack_well(&rt, numbers), true);
+    }
 }
 
 #[test]
