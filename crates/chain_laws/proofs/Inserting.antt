@@ -211,7 +211,7 @@ inserted_rest shown q u v free c none_q none_u none_v =
 
 -- an insertion inserts the new link between the two
 pub inserted_inserts : InsertionInserts
-inserted_inserts shown q u v agrees free gap =
+inserted_inserts shown q u v free =
     record {
       alone = λ at_u at_v. moved at_u at_v (linear (q ∷ [])) (inserted_between shown q [] None None [] tt (λ h. h) tt tt);
       ring = λ at_u at_v. moved at_u at_v (cyclic (q ∷ [])) (inserted_ring shown q);

@@ -164,7 +164,7 @@ inserted_alike old left right q u v longer l r c chain = by (Has-or_not (items c
 pub insertion_is_determined : InsertionIsDetermined
 insertion_is_determined old new slots q u v agrees within free gap inserts c =
     let longer = lengthened old slots q u v agrees within gap in
-    let that = inserted_inserts old q u v agrees free gap in (
+    let that = inserted_inserts old q u v free in (
       inserted_alike old new (inserted old q u v) q u v longer inserts that c,
       inserted_alike old (inserted old q u v) new q u v longer that inserts c,
     )

@@ -114,8 +114,7 @@ InsertionInPairs = (shown : Shown) (q : ℕ) (u v : Option ℕ) → Agrees shown
 
 -- .. and so are the chains, all cases
 abbrev pub InsertionInserts : Type 0
-InsertionInserts = (shown : Shown) (q : ℕ) (u v : Option ℕ) → Agrees shown → shown q ≡ None → IsGap shown q u v
-    → Inserts shown (inserted shown q u v) q u v
+InsertionInserts = (shown : Shown) (q : ℕ) (u v : Option ℕ) → shown q ≡ None → Inserts shown (inserted shown q u v) q u v
 
 -- what inserts a link in a gap, by chains, has the chains of the insertion, and no others ..
 abbrev pub InsertionIsDetermined : Type 0

@@ -42,5 +42,10 @@ fn links_are_copied(rt: HostRuntime) {
     let i = ToolPtr::invalid().inx();
     let (link, again) = twice::<ToolPtr, u8>(LinkNoGen::<ToolPtr, u8>::new((Some(i), None), 7));
     let parts = (link.prev_next(), link.t, again.prev_next(), again.t);
-    same(&rt, "parts", parts, ((Some(i), None), 7, (Some(i), None), 7));
+    same(
+        &rt,
+        "parts",
+        parts,
+        ((Some(i), None), 7, (Some(i), None), 7),
+    );
 }

@@ -42,7 +42,7 @@ returns-in-Some g c =
             ∙ ap (λ a. with_value a n w) c.self.view_is in
             on_some c.value_mut.result (ap seen_of written ∙ seen_written c.args.self.now n w, written)),
         rw (← c.self.view_is, g.met.S.SlotStack.items_written slots k slot, g.met.S.SlotStack.capacity_written slots k slot, g.met.S.SlotStack.maximum_written slots k slot)
-        (ap (λ xs. arena_of xs (freed_of number xs c.self.inside.first_free) c.self.inside.counter g.P.Inx.PtrInx.greatest (g.S.SlotStack.capacity slots) (g.S.SlotStack.maximum slots) c.self.inside.placed.count c.self.inside.touched.count) (slice_set-itself items k slot is)),
+            (ap (λ xs. arena_of xs (freed_of number xs c.self.inside.first_free) c.self.inside.counter g.P.Inx.PtrInx.greatest (g.S.SlotStack.capacity slots) (g.S.SlotStack.maximum slots) c.self.inside.placed.count c.self.inside.touched.count) (slice_set-itself items k slot is)),
       ),
       record { writes_back = tt; value = c.value_mut.ensures.value ∙ rw (← c.self.view_is) (ap (option_map (λ e. e.1)) (sym (slot_at-map items k n at ∙ ap entry_in is))) },
     )
