@@ -16,6 +16,7 @@ use std::hash::Hash;
 /// to spare takes its own width, as `Inx32` does, in which 0 is none:
 ///
 /// ```text
+/// ghost use Rattle.std.specs.Option.{option_map};
 /// ghost use Rattle.arena_ptr.specs.Packed.{zero_is_none, same_zero_is_none, eq_is_same_number};
 ///
 /// type Word = u32;
@@ -43,6 +44,10 @@ use std::hash::Hash;
 /// its number of an index:
 ///
 /// ```text
+/// ghost use Rattle.std.specs.Prelude.{◌≡◌};
+/// ghost use Rattle.std.specs.Option.{option_map};
+/// ghost use Rattle.std.proofs.Common.{rules};
+///
 /// type Word = Option<Self>;
 /// ghost packed_number = { λ o. option_map number o.word };
 /// ghost same_packed = { Prim.search rules };
