@@ -13,7 +13,7 @@ use Rattle.chain_arena.proofs.Mapping.{IsValidPtr, entry_at-with_each, IsValidPt
 use Rattle.chain_arena.proofs.Seeing.{entry_at-seen_links}
 use Rattle.chain_arena.proofs.Relinking.{shown-relinked, values_of-relinked, FitsLinks-linked}
 
-is_none : {A : Type 0} (o : Option A) → is_some o ≡ false → o ≡ None
+pub is_none : {A : Type 0} (o : Option A) → is_some o ≡ false → o ≡ None
 is_none None none = refl
 is_none (Some x) none = cc
 

@@ -46,11 +46,11 @@ slot_at-written slots (suc k) zero x some inside = sym (if_other 0 (suc k) _ _ (
 slot_at-written slots (suc k) (suc j) x some inside = slice_index_or-written slots k j x (omega (arith, inside)) ∙ if_suc j k _ _
 
 -- the freed indexes are those of free slots
-abbrev AreFree : {X : Type 0} → List (Option X) → List ℕ → Type 0
+abbrev pub AreFree : {X : Type 0} → List (Option X) → List ℕ → Type 0
 AreFree slots freed = (i : ℕ) → Has i freed → (slot_at slots i ≡ None) × (1 ≤ i) × (i ≤ length slots)
 
 -- what an insertion leaves at each index
-slot_at-filled : {X : Type 0} (freed : List ℕ) (slots : List (Option X)) (x : X) (j : ℕ) → AreFree slots freed
+pub slot_at-filled : {X : Type 0} (freed : List ℕ) (slots : List (Option X)) (x : X) (j : ℕ) → AreFree slots freed
     → slot_at (filled freed slots x) j ≡ (if j == first_or_next freed (length slots) then Some x else slot_at slots j)
 slot_at-filled [] slots x zero free = sym (if_other 0 (length slots + 1) _ _ (λ is. absurd (omega (arith, is))))
 slot_at-filled [] slots x (suc k) free = slice_index_or-append slots (Some x) k
@@ -58,7 +58,7 @@ slot_at-filled [] slots x (suc k) free = slice_index_or-append slots (Some x) k
 slot_at-filled (i ∷ freed) slots x j free = let here = free i (inl refl) in slot_at-written slots i j (Some x) here.1 here.2
 
 -- how many slots there are then
-length-filled : {X : Type 0} (freed : List ℕ) (slots : List (Option X)) (x : X) → length (filled freed slots x) ≡ count_with_next freed (length slots)
+pub length-filled : {X : Type 0} (freed : List ℕ) (slots : List (Option X)) (x : X) → length (filled freed slots x) ≡ count_with_next freed (length slots)
 length-filled [] slots x = length-append slots (Some x ∷ [])
 length-filled (i ∷ freed) slots x = length-with_slot slots i (Some x)
 
@@ -97,7 +97,7 @@ module _ {Gen T : Type 0} where
 
 module _ {Gen T : Type 0} where
   -- an insertion, entry by entry
-  inserted_at : (a b : Arena Gen T) (t : T) (p : ℕ × Gen) → AreFree a.slots a.freed → b ≡ with_capacity_of (insert_next a t) b → p ≡ (next_index a, a.counter)
+  pub inserted_at : (a b : Arena Gen T) (t : T) (p : ℕ × Gen) → AreFree a.slots a.freed → b ≡ with_capacity_of (insert_next a t) b → p ≡ (next_index a, a.counter)
       → IsInserted (entry_at a) (entry_at b) p t
   inserted_at a b t p free inserted at =
       let entries : (i : ℕ) → entry_at b i ≡ (if i == next_index a then Some (a.counter, t) else entry_at a i) =
@@ -129,51 +129,6 @@ module _ {Gen K T : Type 0} (number : K → Option ℕ) where
   pub length-values : (a : Arena Gen (LinkBody K T)) → length (values_of (seen_links number a)).slots ≡ length a.slots
   length-values a = length-with_each value_in (seen_links number a) ∙ length-with_each (seen_link number) a
 
-  pub next_index-values : (a : Arena Gen (LinkBody K T)) → next_index (values_of (seen_links number a)) ≡ next_index a
-  next_index-values a = ap (first_or_next a.freed) (length-values a)
-
   -- how many values there are
   pub count-values : (a : Arena Gen (LinkBody K T)) → length (entries (values_of (seen_links number a))) ≡ entry_count a
   count-values a = length-entries (values_of (seen_links number a)) ∙ (entry_count-with_each value_in (seen_links number a) ∙ entry_count-seen_links a)
-
-  -- after the insertion of a lone link ..
-  module _ (a b : Arena Gen (LinkBody K T)) (link : LinkBody K T) (t : T) (listed : IsListed a) (is_lone : seen_link number link ≡ lone t) (inserted : b ≡ with_capacity_of (insert_next a link) b) where
-    -- .. it is in the state
-    pub seen-inserted : seen_links number b ≡ with_capacity_of (insert_lone (seen_links number a) t) (seen_links number b)
-    seen-inserted = ap (λ (x : Arena Gen (LinkBody K T)). seen_links number x) inserted
-        ∙ ap (λ (x : Arena Gen (LinkSeen T)). with_capacity_of x (seen_links number b)) (seen_links-insert_next a link ∙ ap (insert_next (seen_links number a)) is_lone)
-
-    -- .. nothing else is, where there was room
-    pub seen-in_room : b ≡ insert_next a link → seen_links number b ≡ insert_lone (seen_links number a) t
-    seen-in_room room = ap (λ (x : Arena Gen (LinkBody K T)). seen_links number x) room ∙ (seen_links-insert_next a link ∙ ap (insert_next (seen_links number a)) is_lone)
-
-    values-inserted : values_of (seen_links number b) ≡ with_capacity_of (insert_next (values_of (seen_links number a)) t) (values_of (seen_links number b))
-    values-inserted = ap (λ (x : Arena Gen (LinkSeen T)). values_of x) seen-inserted
-        ∙ ap (λ (x : Arena Gen T). with_capacity_of x (values_of (seen_links number b))) (with_each-insert_next value_in (seen_links number a) (lone t))
-
-    -- .. the next slot is filled
-    pub slots-inserted : (seen (seen_links number b)).slots ≡ option_map with_next_filled (seen (seen_links number a)).slots
-    slots-inserted = ap (λ (x : Arena Gen T). (seen_of x).slots) values-inserted
-        ∙ ap (λ (n : ℕ). let o : Option Slots = Some (record { count = n; freed = without_first a.freed; placed = a.placed + 1; touched = a.touched }) in o)
-        (length-filled a.freed (values_of (seen_links number a)).slots (a.counter, t))
-
-    -- .. it is an entry
-    pub entry-inserted : (p : ℕ × Gen) → p ≡ (next_index a, a.counter) → IsInserted (entry_at (values_of (seen_links number a))) (entry_at (values_of (seen_links number b))) p t
-    entry-inserted p at = inserted_at (values_of (seen_links number a)) (values_of (seen_links number b)) t p (listed-values a listed).free values-inserted
-        (at ∙ ap (λ (n : ℕ). let q : ℕ × Gen = (n, a.counter) in q) (sym (next_index-values a)))
-
-    -- .. the arena shows it beside what it showed
-    pub shown-inserted : shown (seen_links number b) ≡ with_lone (shown (seen_links number a)) (next_index (seen_links number a))
-    shown-inserted = ap (λ (x : Arena Gen (LinkSeen T)). shown x) seen-inserted ∙ shown-insert_lone (seen_links number a) t (listed-seen_links a listed).free
-
-    nothing_there : shown (seen_links number a) (next_index (seen_links number a)) ≡ None
-    nothing_there = shown-next (seen_links number a) (listed-seen_links a listed).free
-
-    -- .. the interlinks agree
-    pub agrees-inserted : Agrees (shown (seen_links number a)) → Agrees (shown (seen_links number b))
-    agrees-inserted agrees = subst Agrees (sym shown-inserted) (with_lone_agrees (shown (seen_links number a)) (next_index (seen_links number a)) nothing_there agrees)
-
-    -- .. and the link is a chain of its own
-    pub adds-inserted : AddsLone (shown (seen_links number a)) (shown (seen_links number b)) (next_index (seen_links number a))
-    adds-inserted = subst (λ (new : Shown). AddsLone (shown (seen_links number a)) new (next_index (seen_links number a))) (sym shown-inserted)
-        (with_lone_adds (shown (seen_links number a)) (next_index (seen_links number a)) nothing_there)

@@ -2,10 +2,13 @@ pub mod Connecting
 pub mod Inserting
 pub mod Iterating
 pub mod Lending
+pub mod Naming
 pub mod Mapping
 pub mod Outcomes
+pub mod Putting
 pub mod Relinking
 pub mod Seeing
+pub mod Telling
 pub mod Unlinking
 pub mod Valuing
 pub mod Within

@@ -6,11 +6,6 @@ use Rattle.arena_ptr.specs.declared.errors.ReallocationError.TheVariants as refu
 use Rattle.arena_ptr.specs.declared.errors.ChainInsertionError.{ChainInsertionError}
 use Rattle.arena_ptr.specs.declared.errors.ChainInsertionError.TheVariants as failed
 
--- a fact for either outcome
-pub ok_or_err : {X E A B : Type 0} (r : Result X E) → OnOk r A → OnErr r B → A ⊎ B
-ok_or_err (Ok x) a b = inl a
-ok_or_err (Err e) a b = inr b
-
 -- so many entries fill the capacity, and one more is beyond the maximum
 abbrev IsFullAndBeyond : Option ℕ → ℕ → ℕ → Type 0
 IsFullAndBeyond maximum capacity n = (n ≡ capacity) × IsBeyond maximum (n + 1)
@@ -22,13 +17,7 @@ module _ {P : Type 0} (maximum : Option ℕ) (capacity n m : ℕ) (same : n ≡ 
   abbrev IsFailed : Result P ChainInsertionError → Type 0
   IsFailed r = ◌≡◌ {A = Result P ChainInsertionError} r (Err failed.BeyondMaxCapacity)
 
-  -- an insertion is beyond the maximum exactly where the growth is
-  pub beyond-ok : (p : P) → IsRefused (Ok p) ↔ IsFullAndBeyond maximum capacity m → IsFailed (Ok p) ↔ IsFullAndBeyond maximum capacity n
-  beyond-ok p tells = (
-    (λ is. absurd (let h = is in cc)),
-    (λ beyond. let h = tells.1 (subst (IsFullAndBeyond maximum capacity) same beyond) in absurd (cc)),
-  )
-
+  -- an insertion is refused as beyond the maximum exactly where the growth is
   pub beyond-err : (refusal : ReallocationError) (error : ChainInsertionError) → (refusal ≡ refused.AllocError → error ≡ failed.AllocError) → (refusal ≡ refused.BeyondMaxCapacity → error ≡ failed.BeyondMaxCapacity)
       → IsRefused (Err refusal) ↔ IsFullAndBeyond maximum capacity m → IsFailed (Err error) ↔ IsFullAndBeyond maximum capacity n
   beyond-err refused.AllocError error alloc beyond tells = (

@@ -25,7 +25,7 @@ is_some-if false change l = refl
 
 module _ {Gen T : Type 0} where
   -- an entry with its own interlinks is itself
-  relink-own : (o : Option (Gen × LinkSeen T)) → o ≡ relink (option_map interlinks_of o) o
+  pub relink-own : (o : Option (Gen × LinkSeen T)) → o ≡ relink (option_map interlinks_of o) o
   relink-own None = refl
   relink-own (Some e) = refl
 

@@ -4,7 +4,9 @@ use Rattle.std.specs.Option.{option_map, option_and_then}
 use Rattle.chain_laws.specs.Chains.{Shown, Interlinks, prev_of, next_of}
 use Rattle.chain_laws.specs.Walks.{IsWalk}
 use Rattle.chain_laws.specs.Removals.{removed, Removes, RemovesPairs}
-use Rattle.arena_base.specs.Arena.{Arena, with_slot, entry_at, insert_next, remove_at, IsValid}
+use Rattle.chain_laws.specs.Operations.{next_set, prev_set}
+use Rattle.chain_laws.specs.Insertions.{InsertKind, inserted, inserted_as}
+use Rattle.arena_base.specs.Arena.{Arena, with_slot, entry_at, next_index, insert_next, remove_at, IsValid}
 use Rattle.arena_base.specs.Entries.{Seen, seen_of}
 
 -- a pair of a generation and a value, with something else for the value
@@ -29,6 +31,10 @@ pub record LinkSeen (T : Type 0) : Type 0 where
   pub prev : Option ℕ
   pub next : Option ℕ
   pub value : T
+
+-- a link with these neighbours
+abbrev pub new_link : {T : Type 0} → T → Option ℕ → Option ℕ → LinkSeen T
+new_link t u v = record { prev = u; next = v; value = t }
 
 -- a link without neighbours
 abbrev pub lone : {T : Type 0} → T → LinkSeen T
@@ -86,6 +92,18 @@ module _ {Gen T : Type 0} where
   -- the arena after the insertion of a link that stands alone
   abbrev pub insert_lone : Arena Gen (LinkSeen T) → T → Arena Gen (LinkSeen T)
   insert_lone a t = insert_next a (lone t)
+
+  -- u and v name q, the one as the link after it, the other as the link before it
+  abbrev pub named_by : Arena Gen (LinkSeen T) → Option ℕ → Option ℕ → ℕ → Arena Gen (LinkSeen T)
+  named_by a u v q = relinked a (prev_set (next_set (shown a) u (Some q)) v (Some q))
+
+  -- the arena after the insertion of a link between u and v
+  abbrev pub insert_between : Arena Gen (LinkSeen T) → T → Option ℕ → Option ℕ → Arena Gen (LinkSeen T)
+  insert_between a t u v = relinked (insert_lone a t) (inserted (shown a) (next_index a) u v)
+
+  -- .. and of one of a kind
+  abbrev pub insert_as : Arena Gen (LinkSeen T) → InsertKind ℕ → T → Arena Gen (LinkSeen T)
+  insert_as a kind t = relinked (insert_lone a t) (inserted_as (shown a) kind (next_index a))
 
   -- the arena with another value in the link at an index, if one stands there
   abbrev pub with_value_at : Arena Gen (LinkSeen T) → ℕ → T → Arena Gen (LinkSeen T)

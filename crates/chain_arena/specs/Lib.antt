@@ -1,4 +1,6 @@
 pub mod ChainArena
 pub mod Links
+pub mod Kinds
+pub mod Insertions
 pub mod Walkers
 pub mod ChainArenaLaws

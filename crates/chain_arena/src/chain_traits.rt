@@ -1,27 +1,22 @@
-ghost use Rattle.std.specs.Prelude.{◌≡◌, ◌↔◌, ◌<◌, ◌≤◌, ◌+◌, ◌⊎◌, ℕ, is_some, IsTrue, IsSome, IfSome, OnSome, IfNone, IsOk, IfOk, IsErr, IfErr, OnOk, OnErr, Err, None};
+ghost use Rattle.std.specs.Prelude.{◌≡◌, ◌≢◌, ◌↔◌, ◌<◌, ◌≤◌, ◌+◌, ◌⊎◌, ℕ, is_some, IsTrue, IsSome, IfSome, OnSome, IfNone, IsOk, IfOk, IsErr, IfErr, OnOk, OnErr, Err, None};
 ghost use Rattle.std.specs.Option.{option_map};
 ghost use Rattle.arena_ptr.specs.Invalidation.{value_within, invalidation_result};
 ghost use Rattle.chain_laws.specs.Chains.{Shown, Agrees};
-ghost use Rattle.chain_laws.specs.Operations.{joined, with_lone};
+ghost use Rattle.chain_laws.specs.Neighbors.{AreNeighbors};
+ghost use Rattle.chain_laws.specs.Operations.{joined};
 ghost use Rattle.chain_laws.specs.Removals.{removed};
 ghost use Rattle.arena_base.specs.Arena.{IsValid, IsRoom};
-ghost use Rattle.arena_base.specs.Entries.{next_slot, with_next_filled, count, HasRoomLeft, NeedsBeyondMaximum};
+ghost use Rattle.arena_base.specs.Entries.{count, HasRoomLeft, NeedsBeyondMaximum};
 ghost use Rattle.arena_base.specs.Entries.{removed as seen_removed};
-ghost use Rattle.chain_arena.specs.ChainArena.{link_at, on_value, CanConnect, IsInserted, IsLinkAt};
+ghost use Rattle.chain_arena.specs.ChainArena.{link_at, on_value, CanConnect, IsLinkAt};
+ghost use Rattle.chain_arena.specs.Insertions.{IsInsertion};
+ghost use Rattle.chain_arena.specs.Kinds.{names_in, by_index, MayInsert};
 ghost use Rattle.chain_arena.specs.Links.{seen_link, seen_lent};
 
+use crate::kinds::LinkInsertKind;
 use crate::links::{Link, LinkNoGen};
 use arena_base::ArenaTrait;
-use arena_ptr::{ChainInsertionError, InvalidationResult, Ptr, PtrGen, PtrInx};
-
-/// Where a new link goes, and what that asks of the links there.
-///
-/// Carries `LinkInsertKind` of `triple_arena`, of which it has one kind so far.
-#[derive(Clone, Copy, Debug, PartialEq, Eq)]
-pub enum LinkInsertKind {
-    /// The new link is a linear chain of its own. This asks nothing.
-    Disconnected,
-}
+use arena_ptr::{ChainInsertionError, InvalidationResult, Ptr, PtrGen, PtrInx, ReallocationError};
 
 /// An arena whose entries are links, each in one linear or cyclic chain.
 ///
@@ -33,25 +28,69 @@ pub trait ChainArenaTrait<P: Ptr, T: Drop>: ArenaTrait<P, T> {
     // The interlinks of the link at each index.
     ghost interlinks: { Self → Shown };
 
-    /// Adds a link and answers its pointer, which has the counter as its generation.
+    /// Whether a link of a kind may be inserted: what the kind asks of the links beside the new one holds.
+    fn can_insert(&self, kind: LinkInsertKind<P>) -> bool
+        ensures { IsTrue result ↔ MayInsert (Self.entry self.now) (interlinks self.now) (names_in P.key P.Inx.number kind) };
+
+    /// Adds a link of a kind within the capacity, and answers its pointer, which has the counter as its generation. It
+    /// takes no memory.
+    ///
+    /// `FailedLinkRequirement`: what the kind asks does not hold, which is tested first. `NotWithinCapacity`: there are
+    /// as many links as the capacity. After either nothing has changed, and the value is dropped.
+    fn insert_within_capacity(
+        &mut self,
+        kind: LinkInsertKind<P>,
+        t: T,
+    ) -> Result<P, ChainInsertionError>
+        ensures inserted { IfOk result (λ p. IsInsertion (by_index (names_in P.key P.Inx.number kind)) (Self.seen self.old) (Self.seen self.new) (Self.entry self.old) (Self.entry self.new) (interlinks self.old) (interlinks self.new) (P.key p) t) }
+        ensures agreed { Agrees (interlinks self.old) }
+        ensures capacity { (Self.seen self.new).capacity ≡ (Self.seen self.old).capacity }
+        ensures err { OnErr result (self.new ≡ self.old) }
+        ensures link { (result ≡ Err ChainInsertionError.FailedLinkRequirement) ↔ ¬ MayInsert (Self.entry self.old) (interlinks self.old) (names_in P.key P.Inx.number kind) }
+        ensures full { (result ≡ Err ChainInsertionError.NotWithinCapacity) ↔ (MayInsert (Self.entry self.old) (interlinks self.old) (names_in P.key P.Inx.number kind) × (count (Self.seen self.old) ≡ (Self.seen self.old).capacity)) }
+        ensures error { IfErr result (λ e. (e ≡ ChainInsertionError.FailedLinkRequirement) ⊎ (e ≡ ChainInsertionError.NotWithinCapacity)) };
+
+    /// Adds a link of a kind and answers its pointer, which has the counter as its generation. A full arena grows first.
+    ///
+    /// `FailedLinkRequirement`: what the kind asks does not hold, which is tested first. `BeyondMaxCapacity`: the growth
+    /// needed goes beyond the maximum, which is tested next. `AllocError`: it goes beyond the greatest index, or memory
+    /// was refused. After each nothing has changed, and the value is dropped.
+    fn insert_reallocating(
+        &mut self,
+        kind: LinkInsertKind<P>,
+        t: T,
+    ) -> Result<P, ChainInsertionError>
+        ensures inserted { IfOk result (λ p. IsInsertion (by_index (names_in P.key P.Inx.number kind)) (Self.seen self.old) (Self.seen self.new) (Self.entry self.old) (Self.entry self.new) (interlinks self.old) (interlinks self.new) (P.key p) t) }
+        ensures agreed { Agrees (interlinks self.old) }
+        ensures err { OnErr result (self.new ≡ self.old) }
+        ensures link { (result ≡ Err ChainInsertionError.FailedLinkRequirement) ↔ ¬ MayInsert (Self.entry self.old) (interlinks self.old) (names_in P.key P.Inx.number kind) }
+        ensures error { IfErr result (λ e. e ≢ ChainInsertionError.NotWithinCapacity) }
+        ensures room { MayInsert (Self.entry self.old) (interlinks self.old) (names_in P.key P.Inx.number kind) → HasRoomLeft (Self.seen self.old) → IsOk result × ((Self.seen self.new).capacity ≡ (Self.seen self.old).capacity) }
+        ensures grown { OnOk result (IsRoom P.Inx.greatest (Self.seen self.new).maximum (count (Self.seen self.old) + 1) (Self.seen self.new).capacity) }
+        ensures beyond { (result ≡ Err ChainInsertionError.BeyondMaxCapacity) ↔ (MayInsert (Self.entry self.old) (interlinks self.old) (names_in P.key P.Inx.number kind) × NeedsBeyondMaximum (Self.seen self.old)) }
+        ensures greatest { count (Self.seen self.old) ≡ P.Inx.greatest → IsErr result };
+
+    /// Adds a link of a kind that may be inserted (`can_insert`), and answers its pointer, as `insert_reallocating` does.
     ///
     /// `BeyondMaxCapacity`: the growth needed goes beyond the maximum, which is tested first. `AllocError`: it goes
     /// beyond the greatest index, or memory was refused. After either nothing has changed, and the value is dropped.
-    fn insert_reallocating(&mut self, kind: LinkInsertKind, t: T) -> Result<P, ChainInsertionError>
-        ensures inserted { IfOk result (λ p. IsInserted (Self.entry self.old) (Self.entry self.new) (P.key p) t) }
-        ensures alone { IfOk result (λ p. interlinks self.new ≡ with_lone (interlinks self.old) (P.key p).0) }
+    fn insert(&mut self, kind: LinkInsertKind<P>, t: T) -> Result<P, ReallocationError>
+        requires { MayInsert (Self.entry self.old) (interlinks self.old) (names_in P.key P.Inx.number kind) }
+        ensures inserted { IfOk result (λ p. IsInsertion (by_index (names_in P.key P.Inx.number kind)) (Self.seen self.old) (Self.seen self.new) (Self.entry self.old) (Self.entry self.new) (interlinks self.old) (interlinks self.new) (P.key p) t) }
         ensures agreed { Agrees (interlinks self.old) }
-        ensures generation { IfOk result (λ p. IfSome (Self.seen self.old).counter (λ g. (P.key p).1 ≡ g)) }
-        ensures index { IfOk result (λ p. IfSome (Self.seen self.old).slots (λ slots. (P.key p).0 ≡ next_slot slots)) }
-        ensures slots { OnOk result ((Self.seen self.new).slots ≡ option_map with_next_filled (Self.seen self.old).slots) }
-        ensures counter { OnOk result ((Self.seen self.new).counter ≡ (Self.seen self.old).counter) }
-        ensures maximum { OnOk result ((Self.seen self.new).maximum ≡ (Self.seen self.old).maximum) }
         ensures err { OnErr result (self.new ≡ self.old) }
-        ensures error { IfErr result (λ e. (e ≡ ChainInsertionError.AllocError) ⊎ (e ≡ ChainInsertionError.BeyondMaxCapacity)) }
         ensures room { HasRoomLeft (Self.seen self.old) → IsOk result × ((Self.seen self.new).capacity ≡ (Self.seen self.old).capacity) }
         ensures grown { OnOk result (IsRoom P.Inx.greatest (Self.seen self.new).maximum (count (Self.seen self.old) + 1) (Self.seen self.new).capacity) }
-        ensures beyond { (result ≡ Err ChainInsertionError.BeyondMaxCapacity) ↔ NeedsBeyondMaximum (Self.seen self.old) }
+        ensures beyond { (result ≡ Err ReallocationError.BeyondMaxCapacity) ↔ NeedsBeyondMaximum (Self.seen self.old) }
         ensures greatest { count (Self.seen self.old) ≡ P.Inx.greatest → IsErr result };
+
+    /// Whether q is the link after p: both pointers are valid, and the next link of p stands at q's index.
+    fn are_neighbors(&self, p: P, q: P) -> bool
+        ensures { IsTrue result ↔ (IsValid (Self.entry self.now) (P.key p) × IsValid (Self.entry self.now) (P.key q) × AreNeighbors (interlinks self.now) (P.key p).0 (P.key q).0) };
+
+    /// Whether the link after the one at i stands at j.
+    fn are_neighbors_inx(&self, i: P::Inx, j: P::Inx) -> bool
+        ensures { IsTrue result ↔ AreNeighbors (interlinks self.now) (P.Inx.number i) (P.Inx.number j) };
 
     /// The link of a pointer, with the pointers to its neighbours as they are now. `None`: the pointer is not valid.
     fn get_link(&self, p: P) -> Option<Link<P, &T>>

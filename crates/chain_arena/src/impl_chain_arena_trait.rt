@@ -1,25 +1,30 @@
 // A chain arena as an arena of links.
-ghost use Rattle.std.specs.Prelude.{◌≡◌, ◌↔◌, ◌<◌, ◌≤◌, ◌+◌, ◌⊎◌, IsTrue, IsSome, IfSome, OnSome, IfNone, IsOk, IfOk, IsErr, IfErr, OnOk, OnErr, Err, None, Some};
+ghost use Rattle.std.specs.Prelude.{◌≡◌, ◌≢◌, ◌↔◌, ◌<◌, ◌≤◌, ◌+◌, ◌⊎◌, IsTrue, IsSome, IfSome, OnSome, IfNone, IsOk, IfOk, IsErr, IfErr, OnOk, OnErr, Err, None, Some};
 ghost use Rattle.std.specs.Option.{option_map};
 ghost use Rattle.arena_ptr.specs.Invalidation.{value_within, is_overflow_result, invalidation_result};
 ghost use Rattle.chain_laws.specs.Chains.{Agrees};
-ghost use Rattle.chain_laws.specs.Operations.{joined, with_lone, Connects, AddsPair, AddsLone};
+ghost use Rattle.chain_laws.specs.Neighbors.{AreNeighbors};
+ghost use Rattle.chain_laws.specs.Operations.{joined, Connects, AddsPair};
 ghost use Rattle.chain_laws.specs.Removals.{removed, Removes, RemovesPairs};
 ghost use Rattle.arena_base.specs.Arena.{entry_count, next_index, with_capacity_of, IsValid, IsRoom, HasRoom};
-ghost use Rattle.arena_base.specs.Entries.{next_slot, with_next_filled, count, HasRoomLeft, NeedsBeyondMaximum};
+ghost use Rattle.arena_base.specs.Entries.{count, HasRoomLeft, NeedsBeyondMaximum};
 ghost use Rattle.arena_base.specs.Entries.{removed as seen_removed};
 ghost use Rattle.chain_arena.specs.ChainArena.{shown as interlinks};
-ghost use Rattle.chain_arena.specs.ChainArena.{seen, entry, relinked, insert_lone, remove_link, link_at, on_value, CanConnect, IsInserted, IsLinkAt};
+ghost use Rattle.chain_arena.specs.ChainArena.{seen, entry, relinked, insert_as, remove_link, link_at, on_value, CanConnect, IsLinkAt};
+ghost use Rattle.chain_arena.specs.Insertions.{IsInsertion};
+ghost use Rattle.chain_arena.specs.Kinds.{names_in, by_index, MayInsert};
 ghost use Rattle.chain_arena.specs.Links.{seen_link, seen_lent};
 
 use crate::chain_arena::ChainArena;
-use crate::chain_traits::{ChainArenaTrait, LinkInsertKind};
-use crate::interlinks::{
-    can_connect, freed_are_free, insertion_error, link_up, neighbor, take_out,
-};
-use crate::links::{Link, LinkBody, LinkNoGen};
+use crate::chain_traits::ChainArenaTrait;
+use crate::gaps::{is_index, next_of};
+use crate::interlinks::{can_connect, insertion_error, link_up, neighbor, take_out};
+use crate::kinds::{LinkInsertKind, Name};
+use crate::links::{Link, LinkNoGen};
 use arena_base::{ArenaSlot, ArenaTrait};
-use arena_ptr::{ChainInsertionError, InvalidationResult, Ptr, PtrGen, PtrInx, SlotStack};
+use arena_ptr::{
+    ChainInsertionError, InvalidationResult, Ptr, PtrGen, PtrInx, ReallocationError, SlotStack,
+};
 
 impl<P: Ptr, T: Drop, S: SlotStack<Item = ArenaSlot<P, LinkNoGen<P, T>>>> ChainArenaTrait<P, T>
     for ChainArena<P, T, S> {
@@ -38,39 +43,97 @@ impl<P: Ptr, T: Drop, S: SlotStack<Item = ArenaSlot<P, LinkNoGen<P, T>>>> ChainA
 
     ghost passed_over = { λ a b i h. h.shows };
 
-    fn insert_reallocating(&mut self, kind: LinkInsertKind, t: T) -> Result<P, ChainInsertionError>
-        ensures inserted { IfOk result (λ p. IsInserted (entry self.old) (entry self.new) (P.key p) t) }
-        ensures alone { IfOk result (λ p. interlinks self.new ≡ with_lone (interlinks self.old) (P.key p).0) }
+    fn can_insert(&self, kind: LinkInsertKind<P>) -> bool
+        ensures { IsTrue result ↔ MayInsert (entry self.now) (interlinks self.now) (names_in P.key P.Inx.number kind) }
+    {
+        self.gap_for(kind).is_some()
+    }
+
+    fn insert_within_capacity(
+        &mut self,
+        kind: LinkInsertKind<P>,
+        t: T,
+    ) -> Result<P, ChainInsertionError>
+        ensures inserted { IfOk result (λ p. IsInsertion (by_index (names_in P.key P.Inx.number kind)) (seen self.old) (seen self.new) (entry self.old) (entry self.new) (interlinks self.old) (interlinks self.new) (P.key p) t) }
         ensures agreed { Agrees (interlinks self.old) }
-        ensures generation { IfOk result (λ p. IfSome (seen self.old).counter (λ g. (P.key p).1 ≡ g)) }
-        ensures index { IfOk result (λ p. IfSome (seen self.old).slots (λ slots. (P.key p).0 ≡ next_slot slots)) }
-        ensures slots { OnOk result ((seen self.new).slots ≡ option_map with_next_filled (seen self.old).slots) }
-        ensures counter { OnOk result ((seen self.new).counter ≡ (seen self.old).counter) }
-        ensures maximum { OnOk result ((seen self.new).maximum ≡ (seen self.old).maximum) }
+        ensures capacity { (seen self.new).capacity ≡ (seen self.old).capacity }
         ensures err { OnErr result (self.new ≡ self.old) }
-        ensures error { IfErr result (λ e. (e ≡ ChainInsertionError.AllocError) ⊎ (e ≡ ChainInsertionError.BeyondMaxCapacity)) }
+        ensures link { (result ≡ Err ChainInsertionError.FailedLinkRequirement) ↔ ¬ MayInsert (entry self.old) (interlinks self.old) (names_in P.key P.Inx.number kind) }
+        ensures full { (result ≡ Err ChainInsertionError.NotWithinCapacity) ↔ (MayInsert (entry self.old) (interlinks self.old) (names_in P.key P.Inx.number kind) × (count (seen self.old) ≡ (seen self.old).capacity)) }
+        ensures error { IfErr result (λ e. (e ≡ ChainInsertionError.FailedLinkRequirement) ⊎ (e ≡ ChainInsertionError.NotWithinCapacity)) }
+        ensures place { IfOk result (λ p. (P.key p).0 ≡ next_index self.old) }
+        ensures state { OnOk result (self.new ≡ insert_as self.old (by_index (names_in P.key P.Inx.number kind)) t) }
+    {
+        match self.gap_for(kind) {
+            Some(gap) => match self.insert_in_room(gap, t) {
+                Ok(p) => Ok(p),
+                Err(_) => Err(ChainInsertionError::NotWithinCapacity),
+            },
+            None => Err(ChainInsertionError::FailedLinkRequirement),
+        }
+    }
+
+    fn insert_reallocating(
+        &mut self,
+        kind: LinkInsertKind<P>,
+        t: T,
+    ) -> Result<P, ChainInsertionError>
+        ensures inserted { IfOk result (λ p. IsInsertion (by_index (names_in P.key P.Inx.number kind)) (seen self.old) (seen self.new) (entry self.old) (entry self.new) (interlinks self.old) (interlinks self.new) (P.key p) t) }
+        ensures agreed { Agrees (interlinks self.old) }
+        ensures err { OnErr result (self.new ≡ self.old) }
+        ensures link { (result ≡ Err ChainInsertionError.FailedLinkRequirement) ↔ ¬ MayInsert (entry self.old) (interlinks self.old) (names_in P.key P.Inx.number kind) }
+        ensures error { IfErr result (λ e. e ≢ ChainInsertionError.NotWithinCapacity) }
+        ensures room { MayInsert (entry self.old) (interlinks self.old) (names_in P.key P.Inx.number kind) → HasRoomLeft (seen self.old) → IsOk result × ((seen self.new).capacity ≡ (seen self.old).capacity) }
+        ensures grown { OnOk result (IsRoom P.Inx.greatest (seen self.new).maximum (count (seen self.old) + 1) (seen self.new).capacity) }
+        ensures beyond { (result ≡ Err ChainInsertionError.BeyondMaxCapacity) ↔ (MayInsert (entry self.old) (interlinks self.old) (names_in P.key P.Inx.number kind) × NeedsBeyondMaximum (seen self.old)) }
+        ensures greatest { count (seen self.old) ≡ P.Inx.greatest → IsErr result }
+        ensures place { IfOk result (λ p. (P.key p).0 ≡ next_index self.old) }
+        ensures state { OnOk result (self.new ≡ with_capacity_of (insert_as self.old (by_index (names_in P.key P.Inx.number kind)) t) self.new) }
+        ensures state_in_room { MayInsert (entry self.old) (interlinks self.old) (names_in P.key P.Inx.number kind) → entry_count self.old < self.old.capacity → self.new ≡ insert_as self.old (by_index (names_in P.key P.Inx.number kind)) t }
+        ensures state_grown { OnOk result (HasRoom P.Inx.greatest (entry_count self.old + 1) self.new) }
+    {
+        match self.gap_for(kind) {
+            Some(gap) => match self.insert_growing(gap, t) {
+                Ok(p) => Ok(p),
+                Err(refusal) => Err(insertion_error(refusal)),
+            },
+            None => Err(ChainInsertionError::FailedLinkRequirement),
+        }
+    }
+
+    fn insert(&mut self, kind: LinkInsertKind<P>, t: T) -> Result<P, ReallocationError>
+        requires { MayInsert (entry self.old) (interlinks self.old) (names_in P.key P.Inx.number kind) }
+        ensures inserted { IfOk result (λ p. IsInsertion (by_index (names_in P.key P.Inx.number kind)) (seen self.old) (seen self.new) (entry self.old) (entry self.new) (interlinks self.old) (interlinks self.new) (P.key p) t) }
+        ensures agreed { Agrees (interlinks self.old) }
+        ensures err { OnErr result (self.new ≡ self.old) }
         ensures room { HasRoomLeft (seen self.old) → IsOk result × ((seen self.new).capacity ≡ (seen self.old).capacity) }
         ensures grown { OnOk result (IsRoom P.Inx.greatest (seen self.new).maximum (count (seen self.old) + 1) (seen self.new).capacity) }
-        ensures beyond { (result ≡ Err ChainInsertionError.BeyondMaxCapacity) ↔ NeedsBeyondMaximum (seen self.old) }
+        ensures beyond { (result ≡ Err ReallocationError.BeyondMaxCapacity) ↔ NeedsBeyondMaximum (seen self.old) }
         ensures greatest { count (seen self.old) ≡ P.Inx.greatest → IsErr result }
-
         ensures place { IfOk result (λ p. (P.key p).0 ≡ next_index self.old) }
-        ensures state { OnOk result (self.new ≡ with_capacity_of (insert_lone self.old t) self.new) }
-        ensures state_in_room { entry_count self.old < self.old.capacity → self.new ≡ insert_lone self.old t }
+        ensures state { OnOk result (self.new ≡ with_capacity_of (insert_as self.old (by_index (names_in P.key P.Inx.number kind)) t) self.new) }
+        ensures state_in_room { entry_count self.old < self.old.capacity → self.new ≡ insert_as self.old (by_index (names_in P.key P.Inx.number kind)) t }
         ensures state_grown { OnOk result (HasRoom P.Inx.greatest (entry_count self.old + 1) self.new) }
-        ensures chains { OnOk result (AddsLone (interlinks self.old) (interlinks self.new) (next_index self.old)) }
     {
-        match kind {
-            LinkInsertKind::Disconnected => {}
+        match self.gap_for(kind) {
+            Some(gap) => match self.insert_growing(gap, t) {
+                Ok(p) => Ok(p),
+                Err(refusal) => Err(refusal),
+            },
+            None => unreachable!(),
         }
-        freed_are_free(&self.arena);
-        match self
-            .arena
-            .insert_reallocating(LinkBody::new((None, None), t))
-        {
-            Ok(p) => return Ok(p),
-            Err(refusal) => return Err(insertion_error(refusal)),
-        }
+    }
+
+    fn are_neighbors(&self, p: P, q: P) -> bool
+        ensures { IsTrue result ↔ (IsValid (entry self.now) (P.key p) × IsValid (entry self.now) (P.key q) × AreNeighbors (interlinks self.now) (P.key p).0 (P.key q).0) }
+    {
+        self.contains(q) && is_index(next_of(&self.arena, Name::Pointer(p)), q.inx())
+    }
+
+    fn are_neighbors_inx(&self, i: P::Inx, j: P::Inx) -> bool
+        ensures { IsTrue result ↔ AreNeighbors (interlinks self.now) (P.Inx.number i) (P.Inx.number j) }
+    {
+        is_index(next_of(&self.arena, Name::Index(i)), j)
     }
 
     fn get_link(&self, p: P) -> Option<Link<P, &T>>

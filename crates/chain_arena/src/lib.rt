@@ -4,12 +4,16 @@
 mod chain_arena;
 mod chain_iterators;
 mod chain_traits;
+mod gaps;
 mod impl_arena_trait;
 mod impl_chain_arena_trait;
 mod interlinks;
+mod kinds;
 mod links;
+mod placing;
 
 pub use chain_arena::ChainArena;
 pub use chain_iterators::ChainIter;
-pub use chain_traits::{ChainArenaTrait, LinkInsertKind};
+pub use chain_traits::ChainArenaTrait;
+pub use kinds::{InsertKindBody, LinkInsertKind};
 pub use links::{Link, LinkBody, LinkNoGen};

@@ -3,7 +3,8 @@ use Rattle.std.specs.Prelude.{◌≡◌, ◌≢◌, ◌↔◌, ℕ, ◌⊎◌, O
 use Rattle.std.proofs.Common.{sym, refl, ap, ◌∙◌, inl, inr, ⊎_elim}
 use Rattle.chain_laws.specs.Chains.{Shown, IsValid, Agrees, prev_in, next_in, prev_of, next_of}
 use Rattle.chain_laws.specs.Operations.{linked, with_lone}
-use Rattle.chain_laws.specs.Insertions.{inserted, IsGap, InsertionAgrees, InsertionInPairs, InsertionIsDeterminedByPairs}
+use Rattle.chain_laws.specs.Insertions.{InsertKind, disconnected, single_link_cyclic, chain_end, chain_start, next_to, prev_to, at_interlink, bridge}
+use Rattle.chain_laws.specs.Insertions.{inserted, IsGap, KindGivesAGap, InsertionAgrees, InsertionInPairs, InsertionIsDeterminedByPairs}
 use Rattle.chain_laws.proofs.Agreement.{put, put-same, put-other, one_some, not_both_ways}
 use Rattle.chain_laws.proofs.Standing.{next_valid, prev_valid}
 use Rattle.chain_laws.proofs.Linking.{IsValidAt, IsValidAt-Some, put_at, next_of-linked, prev_of-linked, IsValid-linked}
@@ -171,3 +172,23 @@ insertion_is_determined_by_pairs old new q u v agrees agrees_new free gap insert
     pairs_decide new (inserted old q u v) agrees_new (inserted_agrees old q u v agrees free gap)
     (λ i. (λ w. (that.links i).1 ((inserts.links i).0 w), λ w. (inserts.links i).1 ((that.links i).0 w)))
     (λ i j. (λ e. (that.pairs i j).1 ((inserts.pairs i j).0 e), λ e. (inserts.pairs i j).1 ((that.pairs i j).0 e)))
+
+-- after a link, and before one, there is a gap
+gap_after : (shown : Shown) (a q : ℕ) (v : Option ℕ) → IsValid shown a → next_of shown a ≡ v → IsGap shown q (Some a) v
+gap_after shown a q None valid is = (valid, is)
+gap_after shown a q (Some b) valid is = inl is
+
+gap_before : (shown : Shown) (b q : ℕ) (u : Option ℕ) → Agrees shown → IsValid shown b → prev_of shown b ≡ u → IsGap shown q u (Some b)
+gap_before shown b q None agrees valid is = (valid, is)
+gap_before shown b q (Some a) agrees valid is = inl ((agrees.both a b).1 is)
+
+-- what a kind asks for is a gap
+pub kind_gap : KindGivesAGap
+kind_gap shown disconnected q agrees can = tt
+kind_gap shown single_link_cyclic q agrees can = inr (inr (refl, refl))
+kind_gap shown (chain_end a) q agrees can = can
+kind_gap shown (chain_start b) q agrees can = can
+kind_gap shown (next_to a) q agrees can = gap_after shown a q (next_of shown a) can refl
+kind_gap shown (prev_to b) q agrees can = gap_before shown b q (prev_of shown b) agrees can refl
+kind_gap shown (at_interlink a b) q agrees can = inl can.2
+kind_gap shown (bridge a b) q agrees can = inr (inl can)

@@ -28,5 +28,6 @@ pub mod Lengthening
 pub mod OperationRows
 pub mod RemovalRows
 pub mod CutRows
+pub mod InsertionWrites
 pub mod InsertionRows
 pub mod Rows

@@ -5,19 +5,19 @@ use Rattle.chain_laws.specs.Neighbors.{AreNeighbors}
 use Rattle.chain_laws.specs.Operations.{linked, with_lone, AreEndAndStart, HaveSameChains}
 use Rattle.chain_laws.specs.Removals.{removed}
 
--- the kinds of insertion, with the indexes of the links that they name
-pub data InsertKind : Type 0 where
-  disconnected : InsertKind
-  single_link_cyclic : InsertKind
-  chain_end : ℕ → InsertKind
-  chain_start : ℕ → InsertKind
-  next_to : ℕ → InsertKind
-  prev_to : ℕ → InsertKind
-  at_interlink : ℕ → ℕ → InsertKind
-  bridge : ℕ → ℕ → InsertKind
+-- the kinds of insertion, with what names the links beside which the new one comes
+pub data InsertKind (N : Type 0) : Type 0 where
+  disconnected : InsertKind N
+  single_link_cyclic : InsertKind N
+  chain_end : N → InsertKind N
+  chain_start : N → InsertKind N
+  next_to : N → InsertKind N
+  prev_to : N → InsertKind N
+  at_interlink : N → N → InsertKind N
+  bridge : N → N → InsertKind N
 
--- what a kind asks of the links that it names
-abbrev pub CanInsert : Shown → InsertKind → Type 0
+-- what a kind asks of the links that it names by their indexes
+abbrev pub CanInsert : Shown → InsertKind ℕ → Type 0
 CanInsert shown disconnected = Unit {0}
 CanInsert shown single_link_cyclic = Unit {0}
 CanInsert shown (chain_end a) = IsValid shown a × (next_of shown a ≡ None)
@@ -28,7 +28,7 @@ CanInsert shown (at_interlink a b) = IsValid shown a × IsValid shown b × AreNe
 CanInsert shown (bridge a b) = AreEndAndStart shown a b
 
 -- the link before the new one, which is q ..
-abbrev pub link_before : Shown → InsertKind → ℕ → Option ℕ
+abbrev pub link_before : Shown → InsertKind ℕ → ℕ → Option ℕ
 link_before shown disconnected q = None
 link_before shown single_link_cyclic q = Some q
 link_before shown (chain_end a) q = Some a
@@ -39,7 +39,7 @@ link_before shown (at_interlink a b) q = Some a
 link_before shown (bridge a b) q = Some a
 
 -- .. and the link after it
-abbrev pub link_after : Shown → InsertKind → ℕ → Option ℕ
+abbrev pub link_after : Shown → InsertKind ℕ → ℕ → Option ℕ
 link_after shown disconnected q = None
 link_after shown single_link_cyclic q = Some q
 link_after shown (chain_end a) q = None
@@ -54,7 +54,7 @@ abbrev pub inserted : Shown → ℕ → Option ℕ → Option ℕ → Shown
 inserted shown q u v = linked (linked (with_lone shown q) u (Some q)) (Some q) v
 
 -- a new link of a kind comes to q
-abbrev pub inserted_as : Shown → InsertKind → ℕ → Shown
+abbrev pub inserted_as : Shown → InsertKind ℕ → ℕ → Shown
 inserted_as shown kind q = inserted shown q (link_before shown kind q) (link_after shown kind q)
 
 -- a new link at q may come between u and v: they are neighbours, or an end and a start; one of them may be missing, or
@@ -100,7 +100,7 @@ pub record Inserts (old new : Shown) (q : ℕ) (u v : Option ℕ) : Type 0 where
 
 -- what a kind asks for is a gap ..
 abbrev pub KindGivesAGap : Type 0
-KindGivesAGap = (shown : Shown) (kind : InsertKind) (q : ℕ) → Agrees shown → CanInsert shown kind
+KindGivesAGap = (shown : Shown) (kind : InsertKind ℕ) (q : ℕ) → Agrees shown → CanInsert shown kind
     → IsGap shown q (link_before shown kind q) (link_after shown kind q)
 
 -- .. and with a new link in it the interlinks still agree ..

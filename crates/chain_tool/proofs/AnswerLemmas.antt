@@ -1,16 +1,18 @@
 -- A step that was made is some answer's step, also where memory for the answer was refused.
-use Rattle.std.proofs.Common.{OnOk, ◌≤◌, ◌<◌, ◌+◌, ◌↔◌, length, arith, IsOk, is_ok, if◌then◌else◌, ◌≡◌, ℕ, ◌⊎◌, List, [], ◌∷◌, ◌++◌, Result, Ok, Err, OnErr, refl, sym, ap, ap₂, ◌∙◌, inl, inr, ⊎_elim, subst, Bool, cond, append_assoc, append-nil, true, false, codes}
+use Rattle.std.proofs.Common.{OnOk, ◌≢◌, ◌≤◌, ◌<◌, ◌+◌, ◌↔◌, length, arith, IsOk, is_ok, if◌then◌else◌, ◌≡◌, ℕ, ◌⊎◌, List, [], ◌∷◌, ◌++◌, Result, Ok, Err, OnErr, refl, sym, ap, ap₂, ◌∙◌, inl, inr, ⊎_elim, subst, Bool, cond, append_assoc, append-nil, true, false, codes}
 use Rattle.std.proofs.lemmas.Bool.{cases_lt, false≢true}
 use Rattle.arena_ptr.specs.declared.generation.gen32.Gen32.{Gen32}
 use Rattle.chain_laws.specs.Operations.{joined}
-use Rattle.arena_base.specs.Arena.{entry_count, next_index, with_capacity_of, HasRoom}
+use Rattle.chain_laws.specs.Insertions.{disconnected}
+use Rattle.arena_base.specs.Arena.{entry_count, next_index, with_capacity_of, HasRoom, IsListed}
 use Rattle.arena_ptr.specs.SlotStack.{IsBeyond}
 use Rattle.arena_ptr.specs.declared.errors.ChainInsertionError.{ChainInsertionError}
-use Rattle.arena_ptr.specs.declared.errors.ChainInsertionError.TheVariants.{AllocError, BeyondMaxCapacity}
+use Rattle.arena_ptr.specs.declared.errors.ChainInsertionError.TheVariants.{FailedLinkRequirement, NotWithinCapacity, AllocError, BeyondMaxCapacity}
 use Rattle.arena_base.specs.Entries.{seen_of}
 use Rattle.arena_base.proofs.Seeing.{length-entries}
 use Rattle.chain_arena.proofs.Mapping.{entry_count-with_each}
-use Rattle.chain_arena.specs.ChainArena.{LinkSeen, shown, values_of, value_in, relinked, insert_lone}
+use Rattle.chain_arena.proofs.Telling.{lone_inserted}
+use Rattle.chain_arena.specs.ChainArena.{LinkSeen, shown, values_of, value_in, relinked, insert_as}
 use Rattle.chain_tool.specs.declared.command.Command.{Command}
 use Rattle.chain_tool.specs.declared.command.Line.{Line}
 use Rattle.chain_tool.specs.declared.command.Line.TheVariants.{Good}
@@ -20,10 +22,12 @@ use Rattle.chain_tool.specs.Answers.{Links, CanConnect, added_text, greatest_ind
 pushed_is : (old v_text new : List ℕ) → old ≡ [] → new ≡ old ++ v_text → new ≡ v_text
 pushed_is old text new none is = is ∙ ap (λ b. b ++ text) none
 
--- an insertion that was made, in the room that there was or after a growth
-pub adds_made : (old new : Links) (v : ℕ) → (entry_count old < old.capacity → new ≡ insert_lone old v) → HasRoom greatest_index (entry_count old + 1) new → new ≡ with_capacity_of (insert_lone old v) new
-    → Adds old v (added_text old) new
-adds_made old new v in_room room state = ⊎_elim (λ less. added less refl (in_room less)) (λ full. grown full room refl state) (cases_lt (entry_count old) old.capacity)
+-- a lone link that was inserted, in the room that there was or after a growth
+pub adds_made : (old new : Links) (v : ℕ) → IsListed old → (entry_count old < old.capacity → new ≡ insert_as old disconnected v) → HasRoom greatest_index (entry_count old + 1) new
+    → new ≡ with_capacity_of (insert_as old disconnected v) new → Adds old v (added_text old) new
+adds_made old new v listed in_room room state =
+    let lone = lone_inserted old v listed in
+    ⊎_elim (λ less. added less refl (in_room less ∙ lone)) (λ full. grown full room refl (state ∙ ap (λ (a : Links). with_capacity_of a new) lone)) (cases_lt (entry_count old) old.capacity)
 
 module _ {T E : Type 0} where
   -- .. with its pointer pushed
@@ -81,6 +85,13 @@ is_full X old e more room = let none : length (seen_of (values_of old)).entries 
 
 other : {X : Type 0} (e : ChainInsertionError) → e ≡ AllocError → failed {X = X} e ≡ failed BeyondMaxCapacity → ⊥
 other e is same = cc
+
+-- an insertion that grows, of a kind that may be inserted, is refused for the growth alone
+pub only_growth : (e : ChainInsertionError) → (e ≡ FailedLinkRequirement → ⊥) → e ≢ NotWithinCapacity → (e ≡ AllocError) ⊎ (e ≡ BeyondMaxCapacity)
+only_growth FailedLinkRequirement link within = absurd (link refl)
+only_growth NotWithinCapacity link within = absurd (within refl)
+only_growth AllocError link within = inl refl
+only_growth BeyondMaxCapacity link within = inr refl
 
 -- a refused insertion answers why
 pub adds_refused : {X : Type 0} (old new : Links) (v : ℕ) (text : List ℕ) (e : ChainInsertionError) (more : Type 0) → new ≡ old → length (seen_of (values_of old)).entries ≤ old.capacity

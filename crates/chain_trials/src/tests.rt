@@ -2,6 +2,7 @@ mod any_arena;
 mod behind;
 mod calls;
 mod example;
+mod kinds;
 mod limits;
 mod pointers;
 mod removal;

@@ -1,7 +1,7 @@
 //! The rows that any arena of links meets, at the chain arena and at an arena that hands each call on.
 
 use super::wrapped::Wrapped;
-use super::{Chains, NONE, behind, calls, lone_links, removal, rows, same};
+use super::{Chains, NONE, behind, calls, kinds, lone_links, removal, rows, same};
 use arena_base::ArenaTrait;
 use arena_ptr::ToolPtr;
 use chain_arena::ChainArenaTrait;
@@ -17,6 +17,7 @@ fn check_all<A: ChainArenaTrait<ToolPtr, u32> + Drop>(
     behind::check_new::<A>(rt, alloc);
     rows::check_rows::<A>(rt, alloc)?;
     removal::check_removals::<A>(rt, alloc)?;
+    kinds::check_kinds::<A>(rt, alloc)?;
     calls::check_calls::<A>(rt, alloc)
 }
 

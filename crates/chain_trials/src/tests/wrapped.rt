@@ -185,6 +185,13 @@ impl<P: Ptr, T: Drop, A: ArenaTrait<P, T>> ArenaTrait<P, T> for Wrapped<A> {
 impl<P: Ptr, T: Drop, A: CompactArenaTrait<P, T>> CompactArenaTrait<P, T> for Wrapped<A> {}
 
 impl<P: Ptr, T: Drop, A: ChainArenaTrait<P, T>> ChainArenaTrait<P, T> for Wrapped<A> {
+    ghost use Rattle.std.specs.Prelude.{◌≡◌, ◌≢◌, ◌↔◌, ◌⊎◌, ◌+◌, IsTrue, IsOk, IfOk, OnOk, IsErr, IfErr, OnErr, Err};
+    ghost use Rattle.chain_laws.specs.Chains.{Agrees};
+    ghost use Rattle.arena_base.specs.Arena.{IsRoom};
+    ghost use Rattle.arena_base.specs.Entries.{count, HasRoomLeft, NeedsBeyondMaximum};
+    ghost use Rattle.chain_arena.specs.Insertions.{IsInsertion};
+    ghost use Rattle.chain_arena.specs.Kinds.{names_in, by_index, MayInsert};
+
     ghost interlinks = { λ w. A.interlinks w.inner };
 
     ghost stand = { λ w i. A.stand w.inner i };
@@ -197,12 +204,65 @@ impl<P: Ptr, T: Drop, A: ChainArenaTrait<P, T>> ChainArenaTrait<P, T> for Wrappe
 
     ghost passed_over = { λ v w i removes. A.passed_over v.inner w.inner i removes };
 
+    fn can_insert(&self, kind: LinkInsertKind<P>) -> bool
+        ensures { IsTrue result ↔ MayInsert (A.entry self.now.inner) (A.interlinks self.now.inner) (names_in P.key P.Inx.number kind) }
+    {
+        self.inner.can_insert(kind)
+    }
+
+    fn insert_within_capacity(
+        &mut self,
+        kind: LinkInsertKind<P>,
+        t: T,
+    ) -> Result<P, ChainInsertionError>
+        ensures inserted { IfOk result (λ p. IsInsertion (by_index (names_in P.key P.Inx.number kind)) (A.seen self.old.inner) (A.seen self.new.inner) (A.entry self.old.inner) (A.entry self.new.inner) (A.interlinks self.old.inner) (A.interlinks self.new.inner) (P.key p) t) }
+        ensures agreed { Agrees (A.interlinks self.old.inner) }
+        ensures capacity { (A.seen self.new.inner).capacity ≡ (A.seen self.old.inner).capacity }
+        ensures err { OnErr result (self.new ≡ self.old) }
+        ensures link { (result ≡ Err ChainInsertionError.FailedLinkRequirement) ↔ ¬ MayInsert (A.entry self.old.inner) (A.interlinks self.old.inner) (names_in P.key P.Inx.number kind) }
+        ensures full { (result ≡ Err ChainInsertionError.NotWithinCapacity) ↔ (MayInsert (A.entry self.old.inner) (A.interlinks self.old.inner) (names_in P.key P.Inx.number kind) × (count (A.seen self.old.inner) ≡ (A.seen self.old.inner).capacity)) }
+        ensures error { IfErr result (λ e. (e ≡ ChainInsertionError.FailedLinkRequirement) ⊎ (e ≡ ChainInsertionError.NotWithinCapacity)) }
+    {
+        self.inner.insert_within_capacity(kind, t)
+    }
+
     fn insert_reallocating(
         &mut self,
-        kind: LinkInsertKind,
+        kind: LinkInsertKind<P>,
         t: T,
-    ) -> Result<P, ChainInsertionError> {
+    ) -> Result<P, ChainInsertionError>
+        ensures inserted { IfOk result (λ p. IsInsertion (by_index (names_in P.key P.Inx.number kind)) (A.seen self.old.inner) (A.seen self.new.inner) (A.entry self.old.inner) (A.entry self.new.inner) (A.interlinks self.old.inner) (A.interlinks self.new.inner) (P.key p) t) }
+        ensures agreed { Agrees (A.interlinks self.old.inner) }
+        ensures err { OnErr result (self.new ≡ self.old) }
+        ensures link { (result ≡ Err ChainInsertionError.FailedLinkRequirement) ↔ ¬ MayInsert (A.entry self.old.inner) (A.interlinks self.old.inner) (names_in P.key P.Inx.number kind) }
+        ensures error { IfErr result (λ e. e ≢ ChainInsertionError.NotWithinCapacity) }
+        ensures room { MayInsert (A.entry self.old.inner) (A.interlinks self.old.inner) (names_in P.key P.Inx.number kind) → HasRoomLeft (A.seen self.old.inner) → IsOk result × ((A.seen self.new.inner).capacity ≡ (A.seen self.old.inner).capacity) }
+        ensures grown { OnOk result (IsRoom P.Inx.greatest (A.seen self.new.inner).maximum (count (A.seen self.old.inner) + 1) (A.seen self.new.inner).capacity) }
+        ensures beyond { (result ≡ Err ChainInsertionError.BeyondMaxCapacity) ↔ (MayInsert (A.entry self.old.inner) (A.interlinks self.old.inner) (names_in P.key P.Inx.number kind) × NeedsBeyondMaximum (A.seen self.old.inner)) }
+        ensures greatest { count (A.seen self.old.inner) ≡ P.Inx.greatest → IsErr result }
+    {
         self.inner.insert_reallocating(kind, t)
+    }
+
+    fn insert(&mut self, kind: LinkInsertKind<P>, t: T) -> Result<P, ReallocationError>
+        requires { MayInsert (A.entry self.old.inner) (A.interlinks self.old.inner) (names_in P.key P.Inx.number kind) }
+        ensures inserted { IfOk result (λ p. IsInsertion (by_index (names_in P.key P.Inx.number kind)) (A.seen self.old.inner) (A.seen self.new.inner) (A.entry self.old.inner) (A.entry self.new.inner) (A.interlinks self.old.inner) (A.interlinks self.new.inner) (P.key p) t) }
+        ensures agreed { Agrees (A.interlinks self.old.inner) }
+        ensures err { OnErr result (self.new ≡ self.old) }
+        ensures room { HasRoomLeft (A.seen self.old.inner) → IsOk result × ((A.seen self.new.inner).capacity ≡ (A.seen self.old.inner).capacity) }
+        ensures grown { OnOk result (IsRoom P.Inx.greatest (A.seen self.new.inner).maximum (count (A.seen self.old.inner) + 1) (A.seen self.new.inner).capacity) }
+        ensures beyond { (result ≡ Err ReallocationError.BeyondMaxCapacity) ↔ NeedsBeyondMaximum (A.seen self.old.inner) }
+        ensures greatest { count (A.seen self.old.inner) ≡ P.Inx.greatest → IsErr result }
+    {
+        self.inner.insert(kind, t)
+    }
+
+    fn are_neighbors(&self, p: P, q: P) -> bool {
+        self.inner.are_neighbors(p, q)
+    }
+
+    fn are_neighbors_inx(&self, i: P::Inx, j: P::Inx) -> bool {
+        self.inner.are_neighbors_inx(i, j)
     }
 
     fn get_link(&self, p: P) -> Option<Link<P, &T>> {

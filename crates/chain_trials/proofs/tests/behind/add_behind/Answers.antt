@@ -5,6 +5,7 @@ use Rattle.chain_laws.specs.Removals.{removed}
 use Rattle.arena_base.specs.Arena.{IsValid}
 use Rattle.arena_base.specs.Entries.{without}
 use Rattle.chain_laws.proofs.RemovalPairs.{removed_of_lone}
+use Rattle.chain_laws.proofs.InsertionWrites.{alone_by_writes}
 use Rattle.chain_trials.proofs.Behind.{taken_back, not_shown, extends, some_holds}
 use Rattle.chain_trials.proofs.tests.behind.add_behind.Goals as goal
 
@@ -18,13 +19,13 @@ returns-clause-none g c =
     let mid = c.insert_reallocating.new.self in
     let new = c.remove_link_no_gen.new.self in
     let q = g.P.Ptr.key c.in_ok-q.q in
-    let inserted = c.in_ok-q.ensures.inserted in
+    let inserted = c.in_ok-q.ensures.inserted.entries in
     let same : c.connect.new.self ≡ mid = none_holds c.connect.result (sym c.is_some.ensures ∙ c.if-is_some.false) c.connect.ensures.none in
     let valid : IsValid (g.A.ArenaTrait.entry c.connect.new.self) q = subst (λ a. IsValid (g.A.ArenaTrait.entry a) q) (sym same) (record { value = c.args.t; stands = inserted.stands }) in
     let gone = c.remove_link_no_gen.ensures.valid valid in (
       taken_back (g.A.ArenaTrait.entry old) (g.A.ArenaTrait.entry mid) q c.args.t inserted (g.A.ArenaTrait.entry new) (g.A.ArenaTrait.seen mid).entries (g.A.ArenaTrait.seen new).entries (g.met.A.ArenaTrait.rises mid)
           (g.met.A.ArenaTrait.looked_up mid) (g.met.A.ArenaTrait.looked_up new) (ap (λ s. s.entries) gone.1 ∙ ap (λ a. without q.0 (g.A.ArenaTrait.seen a).entries) same),
-      gone.2 ∙ (ap (λ a. removed (g.A.ChainArenaTrait.interlinks a) q.0) same ∙ (ap (λ s. removed s q.0) c.in_ok-q.ensures.alone
+      gone.2 ∙ (ap (λ a. removed (g.A.ChainArenaTrait.interlinks a) q.0) same ∙ (ap (λ s. removed s q.0) (c.in_ok-q.ensures.inserted.shows ∙ alone_by_writes (g.A.ChainArenaTrait.interlinks old) q.0)
           ∙ removed_of_lone (g.A.ChainArenaTrait.interlinks old) q.0 (not_shown (g.A.ArenaTrait.entry old) (g.A.ArenaTrait.entry mid) q c.args.t inserted (g.A.ChainArenaTrait.interlinks old) (g.met.A.ChainArenaTrait.stand old q.0)))),
     )
 
@@ -34,5 +35,5 @@ returns-then-is_some-clause-chains g c =
     let mid = c.insert_reallocating.new.self in
     let q = g.P.Ptr.key c.in_ok-q.q in
     extends (g.A.ChainArenaTrait.interlinks old) (g.A.ChainArenaTrait.interlinks mid) (g.A.ChainArenaTrait.interlinks c.connect.new.self) (g.P.Ptr.key c.args.p).0 q.0
-    (not_shown (g.A.ArenaTrait.entry old) (g.A.ArenaTrait.entry mid) q c.args.t c.in_ok-q.ensures.inserted (g.A.ChainArenaTrait.interlinks old) (g.met.A.ChainArenaTrait.stand old q.0))
-    c.in_ok-q.ensures.alone (some_holds c.connect.result (sym c.is_some.ensures ∙ c.if-is_some.true) c.connect.ensures.joined)
+    (not_shown (g.A.ArenaTrait.entry old) (g.A.ArenaTrait.entry mid) q c.args.t c.in_ok-q.ensures.inserted.entries (g.A.ChainArenaTrait.interlinks old) (g.met.A.ChainArenaTrait.stand old q.0))
+    (c.in_ok-q.ensures.inserted.shows ∙ alone_by_writes (g.A.ChainArenaTrait.interlinks old) q.0) (some_holds c.connect.result (sym c.is_some.ensures ∙ c.if-is_some.true) c.connect.ensures.joined)

@@ -1,0 +1,24 @@
+-- Both stand, and the one's next link is the other.
+use Rattle.std.proofs.Common.{◌↔◌, Some, sym, ap, ◌∙◌}
+use Rattle.std.specs.Prelude.{is_some, IsTrue}
+use Rattle.chain_laws.specs.Neighbors.{AreNeighbors}
+use Rattle.arena_base.specs.Arena.{IsValid}
+use Rattle.chain_arena.specs.Links.{seen_links}
+use Rattle.chain_arena.specs.ChainArena.{entry, shown}
+use Rattle.chain_arena.proofs.Relinking.{is_some-map}
+use Rattle.chain_arena.proofs.impl_chain_arena_trait.ChainArenaChainArenaTrait.are_neighbors.Given.{Over}
+use Rattle.chain_arena.proofs.impl_chain_arena_trait.ChainArenaChainArenaTrait.are_neighbors.Goals.{After-is_index}
+use Rattle.chain_arena.proofs.impl_chain_arena_trait.ChainArenaChainArenaTrait.are_neighbors.Goals as goal
+
+-- in the links that the arena holds
+tells : (g : Over) (c : After-is_index g) → let s = seen_links g.P.Inx.PtrInx.packed_number c.self.inside.arena in
+    IsValid (entry s) (g.P.Ptr.key c.args.q) → IsTrue c.is_index.result
+    ↔ (IsValid (entry s) (g.P.Ptr.key c.args.p) × IsValid (entry s) (g.P.Ptr.key c.args.q) × AreNeighbors (shown s) (g.P.Ptr.key c.args.p).0 (g.P.Ptr.key c.args.q).0)
+tells g c valid = (
+  λ yes. let named = c.is_index.ensures.0 yes in let stands = c.next_of.ensures.some (sym (is_some-map _ c.next_of.result) ∙ ap is_some named) in
+      (stands, valid, sym (c.next_of.ensures.named stands) ∙ (named ∙ ap Some c.inx.ensures)),
+  λ h. c.is_index.ensures.1 (c.next_of.ensures.named h.0 ∙ (h.2 ∙ sym (ap Some c.inx.ensures))),
+)
+
+pub returns-then-contains : goal.returns-then-contains
+returns-then-contains g c = rw (← c.self.view_is) (tells g c (rw (← c.self.view_is) at (c.contains.ensures.0 c.if-contains.true)))

@@ -1,0 +1,20 @@
+-- What an insertion makes of an arena of links, whatever its kind.
+use Rattle.std.specs.Prelude.{◌≡◌, ℕ, IfSome, Option}
+use Rattle.std.specs.Option.{option_map}
+use Rattle.chain_laws.specs.Chains.{Shown}
+use Rattle.chain_laws.specs.Insertions.{InsertKind, link_before, link_after, inserted_as, InsertsPairs, Inserts}
+use Rattle.arena_base.specs.Entries.{Seen, next_slot, with_next_filled}
+use Rattle.chain_arena.specs.ChainArena.{IsInserted}
+
+-- a link of a kind came to p, by index, with a value: in the entries, in the interlinks, in pairs and in chains
+pub record IsInsertion {Gen T : Type 0} (kind : InsertKind ℕ) (old new : Seen Gen T) (entry after : ℕ → Option (Gen × T)) (interlinks changed : Shown) (p : ℕ × Gen) (t : T) : Type 0 where
+  pub entries : IsInserted entry after p t
+  pub shows : changed ≡ inserted_as interlinks kind p.0
+  pub pairs : InsertsPairs interlinks changed p.0 (link_before interlinks kind p.0) (link_after interlinks kind p.0)
+  pub chains : Inserts interlinks changed p.0 (link_before interlinks kind p.0) (link_after interlinks kind p.0)
+  -- the new link has the counter as its generation, and the next slot, where these are told; the counter stays
+  pub generation : IfSome old.counter (λ g. p.1 ≡ g)
+  pub index : IfSome old.slots (λ slots. p.0 ≡ next_slot slots)
+  pub slots : new.slots ≡ option_map with_next_filled old.slots
+  pub counter : new.counter ≡ old.counter
+  pub maximum : new.maximum ≡ old.maximum
