@@ -138,10 +138,24 @@ impl<P: Ptr, T: Drop, S: SlotStack<Item = ArenaSlot<P, T>>> Arena<P, T, S> {
             ((entry_count self.old ≡ self.old.capacity) × IsBeyond self.old.maximum (entry_count self.old + 1)) }
         ensures greatest { entry_count self.old ≡ P.Inx.greatest → IsErr result }
     {
-        if self.is_full() {
-            self.grow_to(self.len + 1)?;
-        }
+        self.make_room()?;
         Ok(self.insert_here(t))
+    }
+
+    // Grows a full arena to room for one entry more.
+    fn make_room(&mut self) -> Result<(), ReallocationError>
+        ensures room { entry_count self.old < self.old.capacity → IsOk result × (self.new ≡ self.old) }
+        ensures beyond { (result ≡ Err ReallocationError.BeyondMaxCapacity) ↔
+            ((entry_count self.old ≡ self.old.capacity) × IsBeyond self.old.maximum (entry_count self.old + 1)) }
+        ensures greatest { entry_count self.old ≡ P.Inx.greatest → IsErr result }
+        ensures ok { OnOk result (HasRoom P.Inx.greatest (entry_count self.old + 1) self.new) }
+        ensures err { OnErr result (self.new ≡ self.old) }
+        ensures after { self.new ≡ with_capacity_of self.old self.new }
+    {
+        if !self.is_full() {
+            return Ok(());
+        }
+        self.grow_to(self.len + 1)
     }
 
     // Whether there are as many entries as the capacity.

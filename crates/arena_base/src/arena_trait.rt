@@ -1,5 +1,5 @@
 // The calls that an arena shares with other arenas.
-ghost use Rattle.std.specs.Prelude.{◌≡◌, ◌≤◌, length, All, IfSome};
+ghost use Rattle.std.specs.Prelude.{◌≡◌, ◌≤◌, ◌<◌, ◌+◌, ◌^◌, length, All, IfSome};
 ghost use Rattle.arena_ptr.specs.Invalidation.{value_within, is_overflow_result};
 ghost use Rattle.std.specs.Option.{option_map};
 ghost use Rattle.arena_base.specs.Arena.{counter_after_clear, overflows_after_clear, entry_count, HasRoom, IsListed};
@@ -76,6 +76,7 @@ impl<P: Ptr, T: Drop, S: SlotStack<Item = ArenaSlot<P, T>>> ArenaTrait<P, T> for
     fn len(&self) -> usize
         ensures count { result ≡ length (seen_of self.now).entries }
         ensures fits { result ≤ (seen_of self.now).capacity }
+        ensures one_more { result + 1 < 2 ^ 64 }
         ensures indexes { All (λ e. IsWithin P.Inx.greatest (index_of e)) (seen_of self.now).entries }
         ensures filled { IfSome (seen_of self.now).slots (AreTheSlots (seen_of self.now).entries) }
         ensures entries { result ≡ entry_count self.now }

@@ -1,5 +1,5 @@
 // What arenas share, so that code may be generic over them.
-ghost use Rattle.std.specs.Prelude.{◌≡◌, ℕ, ◌<◌, ◌≤◌, ◌↔◌, ⊤, List, [], length, All, IsTrue, IsSome, IfSome, OnSome, IsOk, IfOk, IsErr, OnOk, OnErr, Some, None, Option, if◌then◌else◌};
+ghost use Rattle.std.specs.Prelude.{◌≡◌, ℕ, ◌<◌, ◌≤◌, ◌+◌, ◌^◌, ◌↔◌, ⊤, List, [], length, All, IsTrue, IsSome, IfSome, OnSome, IsOk, IfOk, IsErr, OnOk, OnErr, Some, None, Option, if◌then◌else◌};
 ghost use Rattle.std.specs.Option.{option_map, option_copied_mut};
 ghost use Rattle.std.specs.Borrow.{LendsSo, sem};
 ghost use Rattle.arena_ptr.specs.Numbers.{IsWithin};
@@ -96,11 +96,12 @@ pub trait ArenaTrait<P: Ptr, T: Drop> {
     fn max_capacity(&self) -> Option<usize>
         ensures { result ≡ (seen self.now).maximum };
 
-    /// How many entries there are, each at an index of the pointers' type. Where the slots are told, the entries and the
-    /// freed list fill them.
+    /// How many entries there are, each at an index of the pointers' type, and always fewer than `usize::MAX`: one more
+    /// can be counted. Where the slots are told, the entries and the freed list fill them.
     fn len(&self) -> usize
         ensures count { result ≡ length (seen self.now).entries }
         ensures fits { result ≤ (seen self.now).capacity }
+        ensures one_more { result + 1 < 2 ^ 64 }
         ensures indexes { All (λ e. IsWithin P.Inx.greatest (index_of e)) (seen self.now).entries }
         ensures filled { IfSome (seen self.now).slots (AreTheSlots (seen self.now).entries) };
 
