@@ -1,5 +1,5 @@
 // A chain arena as an arena of values.
-ghost use Rattle.std.specs.Prelude.{◌≡◌, ◌≤◌, length, All, IfSome};
+ghost use Rattle.std.specs.Prelude.{◌≡◌, ◌≤◌, ◌<◌, ◌+◌, ◌^◌, length, All, IfSome};
 ghost use Rattle.std.specs.Option.{option_map};
 ghost use Rattle.arena_ptr.specs.Invalidation.{value_within, is_overflow_result};
 ghost use Rattle.chain_laws.specs.Neighbors.{HasOneSetOfChains};
@@ -80,6 +80,7 @@ impl<P: Ptr, T: Drop, S: SlotStack<Item = ArenaSlot<P, LinkNoGen<P, T>>>> ArenaT
     fn len(&self) -> usize
         ensures count { result ≡ length (seen self.now).entries }
         ensures fits { result ≤ (seen self.now).capacity }
+        ensures one_more { result + 1 < 2 ^ 64 }
         ensures indexes { All (λ e. IsWithin P.Inx.greatest (index_of e)) (seen self.now).entries }
         ensures filled { IfSome (seen self.now).slots (AreTheSlots (seen self.now).entries) }
         ensures links { result ≡ entry_count self.now }
