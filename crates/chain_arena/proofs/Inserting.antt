@@ -4,15 +4,14 @@ use Rattle.std.specs.Prelude.{◌==◌, if◌then◌else◌, slice_index_or, sli
 use Rattle.std.specs.Option.{option_map}
 use Rattle.std.proofs.lemmas.List.{get_or_past}
 use mathlib.Core.Path.{fun_ext}
-use Rattle.chain_laws.specs.Chains.{Shown, Interlinks, Agrees, IsValid, IsWithin}
-use Rattle.chain_laws.specs.Operations.{with_lone, AddsLone}
+use Rattle.chain_laws.specs.Chains.{Interlinks, IsValid, IsWithin}
+use Rattle.chain_laws.specs.Operations.{with_lone}
 use Rattle.chain_laws.proofs.Agreement.{if_same, if_other}
-use Rattle.chain_laws.proofs.Alone.{with_lone_agrees, with_lone_adds}
 use Rattle.chain_arena.specs.declared.links.LinkBody.{LinkBody}
 use Rattle.chain_arena.specs.Links.{seen_link, seen_links}
-use Rattle.arena_base.specs.Arena.{Arena, slot_at, with_slot, filled, first_or_next, without_first, Has, IsListed, entry_at, entry_count, next_index, insert_next, with_capacity_of}
-use Rattle.chain_arena.specs.ChainArena.{LinkSeen, value_in, values_of, seen, shown, IsInserted, interlinks_of, lone, insert_lone}
-use Rattle.arena_base.specs.Entries.{Slots, entries, seen_of, count_with_next, with_next_filled}
+use Rattle.arena_base.specs.Arena.{Arena, slot_at, with_slot, filled, first_or_next, Has, IsListed, entry_at, entry_count, next_index, insert_next, with_capacity_of}
+use Rattle.chain_arena.specs.ChainArena.{LinkSeen, value_in, values_of, shown, IsInserted, interlinks_of, lone, insert_lone}
+use Rattle.arena_base.specs.Entries.{entries, count_with_next}
 use Rattle.arena_base.proofs.Seeing.{length-entries}
 use Rattle.chain_arena.proofs.Mapping.{with_each-insert_next, entry_count-with_each, length-with_each, listed-with_each}
 use Rattle.chain_arena.proofs.Seeing.{if_suc}

@@ -2,7 +2,7 @@
 use Rattle.std.proofs.Common.{◌≡◌, ℕ, ◌+◌, Option, None, Some, refl, ap, sym, ◌∙◌, subst, subst₂}
 use Rattle.chain_laws.specs.Chains.{Shown, Agrees}
 use Rattle.chain_laws.specs.Operations.{with_lone, linked}
-use Rattle.chain_laws.specs.Insertions.{InsertKind, disconnected, CanInsert, IsGap, link_before, link_after, inserted, inserted_as, InsertsPairs, Inserts}
+use Rattle.chain_laws.specs.Insertions.{InsertKind, disconnected, CanInsert, IsGap, link_before, link_after, inserted, InsertsPairs, Inserts}
 use Rattle.chain_laws.proofs.InsertionPairs.{kind_gap, inserted_agrees, inserted_in_pairs}
 use Rattle.chain_laws.proofs.Inserting.{inserted_inserts}
 use Rattle.chain_laws.proofs.InsertionWrites.{alone_by_writes}
@@ -10,7 +10,7 @@ use Rattle.arena_base.specs.Arena.{Arena, without_first, IsListed, entry_count, 
 use Rattle.arena_base.specs.Entries.{Slots, seen_of, count}
 use Rattle.arena_base.proofs.Seeing.{length-entries}
 use Rattle.chain_arena.specs.ChainArena.{LinkSeen, value_in, values_of, seen, entry, shown, relinked, lone, insert_lone, insert_between, insert_as}
-use Rattle.chain_arena.specs.Insertions.{IsInsertion}
+use Rattle.chain_arena.specs.Insertions.{IsInsertion, IsInsertionBetween}
 use Rattle.chain_arena.proofs.Mapping.{with_each-insert_next, length-with_each, listed-with_each, entry_count-with_each}
 use Rattle.chain_arena.proofs.Inserting.{shown-insert_lone, shown-next, inserted_at, length-filled}
 use Rattle.chain_arena.proofs.Relinking.{FitsLinks, FitsLinks-shown, FitsLinks-next_set, FitsLinks-prev_set, relinked-own, shown-relinked, values_of-relinked}
@@ -48,29 +48,25 @@ module _ {Gen T : Type 0} (a : Arena Gen (LinkSeen T)) (t : T) (listed : IsListe
   next_index-values_of : next_index (values_of a) ≡ next_index a
   next_index-values_of = ap (first_or_next a.freed) (length-with_each value_in a)
 
-  module _ (b : Arena Gen (LinkSeen T)) (kind : InsertKind ℕ) (is : b ≡ with_capacity_of (insert_as a kind t) b) where
-    told_shows : shown b ≡ inserted_as (shown a) kind (next_index a)
-    told_shows = ap (λ (x : Arena Gen (LinkSeen T)). shown x) is
-        ∙ shown-insert_between (link_before (shown a) kind (next_index a)) (link_after (shown a) kind (next_index a))
+  module _ (b : Arena Gen (LinkSeen T)) (u v : Option ℕ) (is : b ≡ with_capacity_of (insert_between a t u v) b) where
+    told_shows : shown b ≡ inserted (shown a) (next_index a) u v
+    told_shows = ap (λ (x : Arena Gen (LinkSeen T)). shown x) is ∙ shown-insert_between u v
 
     told_values : values_of b ≡ with_capacity_of (insert_next (values_of a) t) (values_of b)
     told_values = ap (λ (x : Arena Gen (LinkSeen T)). values_of x) is
         ∙ ap (λ (x : Arena Gen T). with_capacity_of x (values_of b))
-        (values_of-relinked (insert_lone a t) (inserted_as (shown a) kind (next_index a)) (fits_between (link_before (shown a) kind (next_index a)) (link_after (shown a) kind (next_index a)))
-        ∙ with_each-insert_next value_in a (lone t))
+        (values_of-relinked (insert_lone a t) (inserted (shown a) (next_index a) u v) (fits_between u v) ∙ with_each-insert_next value_in a (lone t))
 
-    -- what an insertion of the kind is, by the state alone
-    pub insertion_told : (p : ℕ × Gen) → p ≡ (next_index a, a.counter) → Agrees (shown a) → CanInsert (shown a) kind
-        → IsInsertion kind (seen a) (seen b) (entry a) (entry b) (shown a) (shown b) p t
-    insertion_told p at agrees can =
+    -- what an insertion between two links is, by the state alone
+    pub told_between : (p : ℕ × Gen) → p ≡ (next_index a, a.counter) → Agrees (shown a) → IsGap (shown a) (next_index a) u v
+        → IsInsertionBetween u v (seen a) (seen b) (entry a) (entry b) (shown a) (shown b) p t
+    told_between p at agrees gap =
         let q = next_index a in
-        let u = link_before (shown a) kind q in
-        let v = link_after (shown a) kind q in
         let free : shown a q ≡ None = shown-next a listed.free in
-        subst (λ (x : ℕ × Gen). IsInsertion kind (seen a) (seen b) (entry a) (entry b) (shown a) (shown b) x t) (sym at) (record {
+        subst (λ (x : ℕ × Gen). IsInsertionBetween u v (seen a) (seen b) (entry a) (entry b) (shown a) (shown b) x t) (sym at) (record {
           entries = inserted_at (values_of a) (values_of b) t (q, a.counter) (listed-with_each value_in a listed).free told_values (ap (λ (n : ℕ). (n, a.counter)) (sym next_index-values_of));
           shows = told_shows;
-          pairs = subst (λ (m : Shown). InsertsPairs (shown a) m q u v) (sym told_shows) (inserted_in_pairs (shown a) q u v agrees free (kind_gap (shown a) kind q agrees can));
+          pairs = subst (λ (m : Shown). InsertsPairs (shown a) m q u v) (sym told_shows) (inserted_in_pairs (shown a) q u v agrees free gap);
           chains = subst (λ (m : Shown). Inserts (shown a) m q u v) (sym told_shows) (inserted_inserts (shown a) q u v free);
           generation = refl;
           index = sym next_index-values_of;
@@ -80,3 +76,11 @@ module _ {Gen T : Type 0} (a : Arena Gen (LinkSeen T)) (t : T) (listed : IsListe
           counter = ap (λ (x : Arena Gen (LinkSeen T)). Some x.counter) is;
           maximum = ap (λ (x : Arena Gen (LinkSeen T)). x.maximum) is;
         })
+
+  -- .. and so what one of a kind is
+  pub insertion_told : (b : Arena Gen (LinkSeen T)) (kind : InsertKind ℕ) → b ≡ with_capacity_of (insert_as a kind t) b → (p : ℕ × Gen) → p ≡ (next_index a, a.counter)
+      → Agrees (shown a) → CanInsert (shown a) kind → IsInsertion kind (seen a) (seen b) (entry a) (entry b) (shown a) (shown b) p t
+  insertion_told b kind is p at agrees can =
+      let q = next_index a in
+      subst (λ (x : ℕ × Gen). IsInsertion kind (seen a) (seen b) (entry a) (entry b) (shown a) (shown b) x t) (sym at)
+      (told_between b (link_before (shown a) kind q) (link_after (shown a) kind q) is (q, a.counter) refl agrees (kind_gap (shown a) kind q agrees can))

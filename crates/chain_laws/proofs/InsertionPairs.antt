@@ -3,7 +3,7 @@ use Rattle.std.specs.Prelude.{◌≡◌, ◌≢◌, ◌↔◌, ℕ, ◌⊎◌, O
 use Rattle.std.proofs.Common.{sym, refl, ap, ◌∙◌, inl, inr, ⊎_elim}
 use Rattle.chain_laws.specs.Chains.{Shown, IsValid, Agrees, prev_in, next_in, prev_of, next_of}
 use Rattle.chain_laws.specs.Operations.{linked, with_lone}
-use Rattle.chain_laws.specs.Insertions.{InsertKind, disconnected, single_link_cyclic, chain_end, chain_start, next_to, prev_to, at_interlink, bridge}
+use Rattle.chain_laws.specs.Insertions.{disconnected, single_link_cyclic, chain_end, chain_start, next_to, prev_to, at_interlink, bridge}
 use Rattle.chain_laws.specs.Insertions.{inserted, IsGap, KindGivesAGap, InsertionAgrees, InsertionInPairs, InsertionIsDeterminedByPairs}
 use Rattle.chain_laws.proofs.Agreement.{put, put-same, put-other, one_some, not_both_ways}
 use Rattle.chain_laws.proofs.Standing.{next_valid, prev_valid}

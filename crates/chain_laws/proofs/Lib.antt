@@ -21,6 +21,7 @@ pub mod Shortening
 pub mod CutPairs
 pub mod Parting
 pub mod Between
+pub mod Gaps
 pub mod InsertionPairs
 pub mod Restoring
 pub mod Inserting

@@ -1,0 +1,234 @@
+// An insertion of a link that is made ready before its value.
+ghost use Rattle.std.specs.Prelude.{◌≡◌, ◌≢◌, ◌↔◌, ◌<◌, ◌+◌, ◌⊎◌, IsErr, IfOk, IfErr, OnOk, OnErr, IsOk, IsOkAnd, Err, Some};
+ghost use Rattle.std.specs.Borrow.{RestsIfErr, sem};
+ghost use Rattle.arena_ptr.specs.SlotStack.{IsBeyond};
+ghost use Rattle.chain_laws.specs.Insertions.{IsGap};
+ghost use Rattle.arena_base.specs.Arena.{entry_count, next_index, with_capacity_of, IsRoom};
+ghost use Rattle.chain_arena.specs.ChainArena.{entry, seen, shown, insert_between};
+ghost use Rattle.chain_arena.specs.Insertions.{IsInsertionBetween};
+ghost use Rattle.chain_arena.specs.Kinds.{before_in, after_in, names_in, by_index, IsGapOf, MayInsert};
+
+use crate::chain_arena::ChainArena;
+use crate::gaps::Gap;
+use crate::interlinks::insertion_error;
+use crate::kinds::LinkInsertKind;
+use crate::links::LinkNoGen;
+use arena_base::{ArenaSlot, ArenaTrait};
+use arena_ptr::{ChainInsertionError, HeapStack, Ptr, ReallocationError, SlotStack};
+
+/// A place for a link among the others, whose pointer is known before its value. Dropping it changes nothing: no link
+/// comes, and the pointer is that of the next insertion. A growth that was made for it stays.
+///
+/// Carries `ChainArenaInsertEntry` of `triple_arena`.
+pub struct ChainArenaInsertEntry<
+    'a,
+    P: Ptr,
+    T: Drop,
+    S: SlotStack<Item = ArenaSlot<P, LinkNoGen<P, T>>> = HeapStack<ArenaSlot<P, LinkNoGen<P, T>>>,
+> {
+    arena: &'a mut ChainArena<P, T, S>,
+    gap: Gap<P::Inx>,
+    ptr: P,
+    ghost room: { entry_count arena.now < arena.now.capacity },
+    ghost fits: { ∥ IsGap (shown arena.now) (next_index arena.now) (before_in P.Inx.number gap (next_index arena.now)) (after_in P.Inx.number gap (next_index arena.now)) ∥₁ },
+    ghost key: { P.key ptr ≡ (next_index arena.now, arena.now.counter) },
+}
+
+impl<P: Ptr, T: Drop, S: SlotStack<Item = ArenaSlot<P, LinkNoGen<P, T>>>> ChainArena<P, T, S> {
+    ghost use Rattle.chain_arena.specs.contracts.chain_arena.ChainArena.{the_row as chain_arena_row};
+
+    /// A place for a link of a kind within the capacity. It takes no memory.
+    ///
+    /// `FailedLinkRequirement`: what the kind asks does not hold, which is tested first. `NotWithinCapacity`: there are
+    /// as many links as the capacity. After either nothing has changed.
+    pub fn entry_insert_within_capacity(
+        &mut self,
+        kind: LinkInsertKind<P>,
+    ) -> Result<ChainArenaInsertEntry<'_, P, T, S>, ChainInsertionError>
+        ensures* unchanged_at_err { sem 𝓛 (RestsIfErr
+            (chain_arena_row P.row T.row S.row P.Inx.row P.Gen.row P.Inx.Word.row
+            (record { key = P.key }) (record { eq = P.eq }) (record { cmp = P.cmp }) (record { partial_cmp = P.partial_cmp })
+            (record { hash_input = P.hash_input }) (record { debug_output = P.debug_output })
+            (record { number = P.Inx.number; packed_number = P.Inx.packed_number; greatest = P.Inx.greatest }) (record { eq = P.Inx.eq }) (record { cmp = P.Inx.cmp }) (record { partial_cmp = P.Inx.partial_cmp })
+            (record { hash_input = P.Inx.hash_input }) (record { debug_output = P.Inx.debug_output })
+            (record { eq = P.Inx.Word.eq }) (record { cmp = P.Inx.Word.cmp }) (record { partial_cmp = P.Inx.Word.partial_cmp }) (record { hash_input = P.Inx.Word.hash_input })
+            (record { first = P.Gen.first; following = P.Gen.following; wraps = P.Gen.wraps }) (record { eq = P.Gen.eq }) (record { cmp = P.Gen.cmp }) (record { partial_cmp = P.Gen.partial_cmp })
+            (record { hash_input = P.Gen.hash_input }) (record { debug_output = P.Gen.debug_output })
+            S.SlotStack)
+            self.entry (λ e. e.arena.ghost_name) result (λ n. n ≡ self.old)) }
+        ensures link { (result ≡ Err ChainInsertionError.FailedLinkRequirement) ↔ ¬ MayInsert (entry self.old) (shown self.old) (names_in P.key P.Inx.number kind) }
+        ensures full { (result ≡ Err ChainInsertionError.NotWithinCapacity) ↔ (MayInsert (entry self.old) (shown self.old) (names_in P.key P.Inx.number kind) × (entry_count self.old ≡ self.old.capacity)) }
+        ensures error { IfErr result (λ e. (e ≡ ChainInsertionError.FailedLinkRequirement) ⊎ (e ≡ ChainInsertionError.NotWithinCapacity)) }
+        ensures same_reference { IfOk result (λ e. e.arena.ghost_name ≡ self.entry.ghost_name) }
+        ensures arena { IfOk result (λ e. e.arena.now ≡ self.old) }
+        ensures gap { IfOk result (λ e. IsGapOf P.Inx.number (entry self.old) (shown self.old) (names_in P.key P.Inx.number kind) (Some e.gap)) }
+    {
+        match self.gap_for(kind) {
+            Some(gap) => {
+                if self.len() == self.capacity() {
+                    return Err(ChainInsertionError::NotWithinCapacity);
+                }
+                Ok(self.entry_in(gap))
+            }
+            None => Err(ChainInsertionError::FailedLinkRequirement),
+        }
+    }
+
+    /// A place for a link of a kind. A full arena grows first, and the growth stays, whether the place is used or not.
+    ///
+    /// `FailedLinkRequirement`: what the kind asks does not hold, which is tested first. `BeyondMaxCapacity`: the growth
+    /// needed goes beyond the maximum, which is tested next. `AllocError`: it goes beyond the greatest index, or memory
+    /// was refused. After each nothing has changed.
+    pub fn entry_insert_reallocating(
+        &mut self,
+        kind: LinkInsertKind<P>,
+    ) -> Result<ChainArenaInsertEntry<'_, P, T, S>, ChainInsertionError>
+        ensures* unchanged_at_err { sem 𝓛 (RestsIfErr
+            (chain_arena_row P.row T.row S.row P.Inx.row P.Gen.row P.Inx.Word.row
+            (record { key = P.key }) (record { eq = P.eq }) (record { cmp = P.cmp }) (record { partial_cmp = P.partial_cmp })
+            (record { hash_input = P.hash_input }) (record { debug_output = P.debug_output })
+            (record { number = P.Inx.number; packed_number = P.Inx.packed_number; greatest = P.Inx.greatest }) (record { eq = P.Inx.eq }) (record { cmp = P.Inx.cmp }) (record { partial_cmp = P.Inx.partial_cmp })
+            (record { hash_input = P.Inx.hash_input }) (record { debug_output = P.Inx.debug_output })
+            (record { eq = P.Inx.Word.eq }) (record { cmp = P.Inx.Word.cmp }) (record { partial_cmp = P.Inx.Word.partial_cmp }) (record { hash_input = P.Inx.Word.hash_input })
+            (record { first = P.Gen.first; following = P.Gen.following; wraps = P.Gen.wraps }) (record { eq = P.Gen.eq }) (record { cmp = P.Gen.cmp }) (record { partial_cmp = P.Gen.partial_cmp })
+            (record { hash_input = P.Gen.hash_input }) (record { debug_output = P.Gen.debug_output })
+            S.SlotStack)
+            self.entry (λ e. e.arena.ghost_name) result (λ n. n ≡ self.old)) }
+        ensures link { (result ≡ Err ChainInsertionError.FailedLinkRequirement) ↔ ¬ MayInsert (entry self.old) (shown self.old) (names_in P.key P.Inx.number kind) }
+        ensures error { IfErr result (λ e. e ≢ ChainInsertionError.NotWithinCapacity) }
+        ensures room { MayInsert (entry self.old) (shown self.old) (names_in P.key P.Inx.number kind) → entry_count self.old < self.old.capacity → IsOkAnd result (λ e. e.arena.now ≡ self.old) }
+        ensures grown { IfOk result (λ e. IsRoom P.Inx.greatest e.arena.now.maximum (entry_count self.old + 1) e.arena.now.capacity) }
+        ensures beyond { (result ≡ Err ChainInsertionError.BeyondMaxCapacity) ↔ (MayInsert (entry self.old) (shown self.old) (names_in P.key P.Inx.number kind) × (entry_count self.old ≡ self.old.capacity) × IsBeyond self.old.maximum (entry_count self.old + 1)) }
+        ensures greatest { entry_count self.old ≡ P.Inx.greatest → IsErr result }
+        ensures same_reference { IfOk result (λ e. e.arena.ghost_name ≡ self.entry.ghost_name) }
+        ensures arena { IfOk result (λ e. e.arena.now ≡ with_capacity_of self.old e.arena.now) }
+        ensures gap { IfOk result (λ e. IsGapOf P.Inx.number (entry self.old) (shown self.old) (names_in P.key P.Inx.number kind) (Some e.gap)) }
+    {
+        match self.gap_for(kind) {
+            Some(gap) => match self.make_room() {
+                Ok(()) => Ok(self.entry_in(gap)),
+                Err(refusal) => Err(insertion_error(refusal)),
+            },
+            None => Err(ChainInsertionError::FailedLinkRequirement),
+        }
+    }
+
+    /// A place for a link of a kind that may be inserted (`can_insert`), as `entry_insert_reallocating` gives it.
+    ///
+    /// `BeyondMaxCapacity`: the growth needed goes beyond the maximum, which is tested first. `AllocError`: it goes
+    /// beyond the greatest index, or memory was refused. After either nothing has changed.
+    pub fn entry_insert(
+        &mut self,
+        kind: LinkInsertKind<P>,
+    ) -> Result<ChainArenaInsertEntry<'_, P, T, S>, ReallocationError>
+        requires { MayInsert (entry self.old) (shown self.old) (names_in P.key P.Inx.number kind) }
+        ensures* unchanged_at_err { sem 𝓛 (RestsIfErr
+            (chain_arena_row P.row T.row S.row P.Inx.row P.Gen.row P.Inx.Word.row
+            (record { key = P.key }) (record { eq = P.eq }) (record { cmp = P.cmp }) (record { partial_cmp = P.partial_cmp })
+            (record { hash_input = P.hash_input }) (record { debug_output = P.debug_output })
+            (record { number = P.Inx.number; packed_number = P.Inx.packed_number; greatest = P.Inx.greatest }) (record { eq = P.Inx.eq }) (record { cmp = P.Inx.cmp }) (record { partial_cmp = P.Inx.partial_cmp })
+            (record { hash_input = P.Inx.hash_input }) (record { debug_output = P.Inx.debug_output })
+            (record { eq = P.Inx.Word.eq }) (record { cmp = P.Inx.Word.cmp }) (record { partial_cmp = P.Inx.Word.partial_cmp }) (record { hash_input = P.Inx.Word.hash_input })
+            (record { first = P.Gen.first; following = P.Gen.following; wraps = P.Gen.wraps }) (record { eq = P.Gen.eq }) (record { cmp = P.Gen.cmp }) (record { partial_cmp = P.Gen.partial_cmp })
+            (record { hash_input = P.Gen.hash_input }) (record { debug_output = P.Gen.debug_output })
+            S.SlotStack)
+            self.entry (λ e. e.arena.ghost_name) result (λ n. n ≡ self.old)) }
+        ensures room { entry_count self.old < self.old.capacity → IsOkAnd result (λ e. e.arena.now ≡ self.old) }
+        ensures grown { IfOk result (λ e. IsRoom P.Inx.greatest e.arena.now.maximum (entry_count self.old + 1) e.arena.now.capacity) }
+        ensures beyond { (result ≡ Err ReallocationError.BeyondMaxCapacity) ↔ ((entry_count self.old ≡ self.old.capacity) × IsBeyond self.old.maximum (entry_count self.old + 1)) }
+        ensures greatest { entry_count self.old ≡ P.Inx.greatest → IsErr result }
+        ensures same_reference { IfOk result (λ e. e.arena.ghost_name ≡ self.entry.ghost_name) }
+        ensures arena { IfOk result (λ e. e.arena.now ≡ with_capacity_of self.old e.arena.now) }
+        ensures gap { IfOk result (λ e. IsGapOf P.Inx.number (entry self.old) (shown self.old) (names_in P.key P.Inx.number kind) (Some e.gap)) }
+    {
+        match self.gap_for(kind) {
+            Some(gap) => {
+                self.make_room()?;
+                Ok(self.entry_in(gap))
+            }
+            None => unreachable!(),
+        }
+    }
+
+    // The pointer of the next link.
+    fn next_ptr(&mut self) -> P
+        requires { entry_count self.old < self.old.capacity }
+        ensures key { P.key result ≡ (next_index self.old, self.old.counter) }
+        ensures same { self.new ≡ self.old }
+    {
+        match self.arena.entry_insert_within_capacity() {
+            Ok(entry) => entry.ptr(),
+            Err(_) => unreachable!(),
+        }
+    }
+
+    // Grows a full arena to room for one link more.
+    fn make_room(&mut self) -> Result<(), ReallocationError>
+        ensures room { entry_count self.old < self.old.capacity → IsOk result × (self.new ≡ self.old) }
+        ensures beyond { (result ≡ Err ReallocationError.BeyondMaxCapacity) ↔ ((entry_count self.old ≡ self.old.capacity) × IsBeyond self.old.maximum (entry_count self.old + 1)) }
+        ensures greatest { entry_count self.old ≡ P.Inx.greatest → IsErr result }
+        ensures ok { OnOk result (IsRoom P.Inx.greatest self.new.maximum (entry_count self.old + 1) self.new.capacity) }
+        ensures err { OnErr result (self.new ≡ self.old) }
+        ensures after { self.new ≡ with_capacity_of self.old self.new }
+    {
+        let n = self.len() + 1;
+        self.reallocate_min_capacity(n)
+    }
+
+    // The entry of a gap, where there is room.
+    fn entry_in(&mut self, gap: Gap<P::Inx>) -> ChainArenaInsertEntry<'_, P, T, S>
+        requires room { entry_count self.old < self.old.capacity }
+        requires gap { IsGap (shown self.old) (next_index self.old) (before_in P.Inx.number gap (next_index self.old)) (after_in P.Inx.number gap (next_index self.old)) }
+        ensures same_reference { result.arena.ghost_name ≡ self.entry.ghost_name }
+        ensures arena { result.arena.now ≡ self.old }
+        ensures gap { result.gap ≡ gap }
+    {
+        let ptr = self.next_ptr();
+        ChainArenaInsertEntry {
+            arena: self,
+            gap,
+            ptr,
+        }
+    }
+}
+
+impl<'a, P: Ptr, T: Drop, S: SlotStack<Item = ArenaSlot<P, LinkNoGen<P, T>>>> ChainArenaInsertEntry<
+    'a,
+    P,
+    T,
+    S,
+> {
+    /// The pointer that the link gets.
+    pub fn ptr(&self) -> P
+        ensures { P.key result ≡ (next_index self.now.arena.now, self.now.arena.now.counter) }
+    {
+        self.ptr
+    }
+
+    /// Adds the link. It takes no memory.
+    pub fn insert(self, t: T)
+        ensures state { self.exit.0.now ≡ insert_between self.entry.arena.now t (before_in P.Inx.number self.entry.gap (next_index self.entry.arena.now)) (after_in P.Inx.number self.entry.gap (next_index self.entry.arena.now)) }
+        ensures inserted { IsInsertionBetween (before_in P.Inx.number self.entry.gap (next_index self.entry.arena.now)) (after_in P.Inx.number self.entry.gap (next_index self.entry.arena.now)) (seen self.entry.arena.now) (seen self.exit.0.now) (entry self.entry.arena.now) (entry self.exit.0.now) (shown self.entry.arena.now) (shown self.exit.0.now) (next_index self.entry.arena.now, self.entry.arena.now.counter) t }
+    {
+        let gap = self.gap;
+        let _ = self.arena.insert_in_room(gap, t);
+        let ChainArenaInsertEntry {
+            arena: _,
+            gap: _,
+            ptr: _,
+        } = self;
+    }
+}
+
+impl<'a, P: Ptr, T: Drop, S: SlotStack<Item = ArenaSlot<P, LinkNoGen<P, T>>>> Drop
+    for ChainArenaInsertEntry<'a, P, T, S> {
+    fn drop(self)
+        ensures { self.exit.0.now ≡ self.entry.arena.now }
+    {
+        let ChainArenaInsertEntry {
+            arena: _,
+            gap: _,
+            ptr: _,
+        } = self;
+    }
+}
