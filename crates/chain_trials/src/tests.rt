@@ -1,6 +1,7 @@
 mod any_arena;
 mod behind;
 mod calls;
+mod entries;
 mod example;
 mod kinds;
 mod limits;

@@ -59,6 +59,24 @@ fn check_bridge<A: ChainArenaTrait<ToolPtr, u32> + Drop>(
     shows(rt, alloc, "a cycle of four", &arena, cycle.as_slice())
 }
 
+// A lone link is tied to itself, and another comes between it and itself.
+fn check_tied<A: ChainArenaTrait<ToolPtr, u32> + Drop>(
+    rt: &impl Abort,
+    alloc: Global,
+) -> Result<(), Fail> {
+    let mut arena: A = tied_links(rt, alloc, 1, &[(1, 1)]);
+    let p = first(rt, 1);
+    let alone = [((1, 2), 1, (1, 2), (1, 2))];
+    shows(rt, alloc, "tied to itself", &arena, alone.as_slice())?;
+    let between = LinkInsertKind::AtInterlink {
+        next_to: p,
+        prev_to: p,
+    };
+    same(rt, "between", put(rt, &mut arena, between, 2), (2, 2));
+    let two = [((1, 2), 1, (2, 2), (2, 2)), ((2, 2), 2, (1, 2), (1, 2))];
+    shows(rt, alloc, "two", &arena, two.as_slice())
+}
+
 // A ring of one grows to two, and has no end and no start.
 fn check_ring<A: ChainArenaTrait<ToolPtr, u32> + Drop>(
     rt: &impl Abort,
@@ -92,6 +110,8 @@ fn check_between<A: ChainArenaTrait<ToolPtr, u32> + Drop>(
 ) -> Result<(), Fail> {
     let mut arena: A = tied_links(rt, alloc, 2, &[(1, 2)]);
     let (a, b) = (first(rt, 1), first(rt, 2));
+    let near = (are_next(rt, &arena, 1, 2), are_next(rt, &arena, 2, 1));
+    same(rt, "tied", near, (true, false));
     same(
         rt,
         "behind 1",
@@ -161,6 +181,7 @@ pub(super) fn check_kinds<A: ChainArenaTrait<ToolPtr, u32> + Drop>(
     alloc: Global,
 ) -> Result<(), Fail> {
     check_bridge::<A>(rt, alloc)?;
+    check_tied::<A>(rt, alloc)?;
     check_ring::<A>(rt, alloc)?;
     check_between::<A>(rt, alloc)?;
     check_names::<A>(rt, alloc);
