@@ -1,10 +1,15 @@
 -- What an insertion makes of an arena of links, whatever its kind.
-use Rattle.std.specs.Prelude.{◌≡◌, ℕ, IfSome, Option}
+use Rattle.std.specs.Prelude.{◌≡◌, ℕ, zero, suc, IfSome, Option, None, Some}
 use Rattle.std.specs.Option.{option_map}
 use Rattle.chain_laws.specs.Chains.{Shown}
 use Rattle.chain_laws.specs.Insertions.{InsertKind, link_before, link_after, inserted, InsertsPairs, Inserts}
 use Rattle.arena_base.specs.Entries.{Seen, next_slot, with_next_filled}
 use Rattle.chain_arena.specs.ChainArena.{IsInserted}
+
+-- a number as an optional index, 0 for none
+abbrev pub index_from : ℕ → Option ℕ
+index_from zero = None
+index_from (suc n) = Some (suc n)
 
 -- a link came to p, by index, between u and v, with a value: in the entries, in the interlinks, in pairs and in chains
 pub record IsInsertionBetween {Gen T : Type 0} (u v : Option ℕ) (old new : Seen Gen T) (entry after : ℕ → Option (Gen × T)) (interlinks changed : Shown) (p : ℕ × Gen) (t : T) : Type 0 where

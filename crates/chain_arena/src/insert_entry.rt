@@ -1,11 +1,13 @@
 // An insertion of a link that is made ready before its value.
-ghost use Rattle.std.specs.Prelude.{◌≡◌, ◌≢◌, ◌↔◌, ◌<◌, ◌+◌, ◌⊎◌, IsErr, IfOk, IfErr, OnOk, OnErr, IsOk, IsOkAnd, Err, Some};
+ghost use Rattle.std.specs.Prelude.{◌≡◌, ◌≢◌, ◌↔◌, ◌<◌, ◌≤◌, ◌+◌, ◌⊎◌, IsErr, IfOk, IfErr, OnOk, OnErr, IsOk, IsOkAnd, Err, Some};
 ghost use Rattle.std.specs.Borrow.{RestsIfErr, sem};
 ghost use Rattle.arena_ptr.specs.SlotStack.{IsBeyond};
-ghost use Rattle.chain_laws.specs.Insertions.{IsGap};
+ghost use Rattle.chain_laws.specs.Insertions.{IsGap, link_before, link_after};
+ghost use Rattle.arena_ptr.specs.Numbers.{IsWithin};
+ghost use Rattle.std.specs.Option.{option_map};
 ghost use Rattle.arena_base.specs.Arena.{entry_count, next_index, with_capacity_of, IsRoom};
 ghost use Rattle.chain_arena.specs.ChainArena.{entry, seen, shown, insert_between};
-ghost use Rattle.chain_arena.specs.Insertions.{IsInsertionBetween};
+ghost use Rattle.chain_arena.specs.Insertions.{IsInsertionBetween, index_from};
 ghost use Rattle.chain_arena.specs.Kinds.{before_in, after_in, names_in, by_index, IsGapOf, MayInsert};
 
 use crate::chain_arena::ChainArena;
@@ -13,8 +15,9 @@ use crate::gaps::Gap;
 use crate::interlinks::insertion_error;
 use crate::kinds::LinkInsertKind;
 use crate::links::LinkNoGen;
+use crate::placing::around;
 use arena_base::{ArenaSlot, ArenaTrait};
-use arena_ptr::{ChainInsertionError, HeapStack, Ptr, ReallocationError, SlotStack};
+use arena_ptr::{ChainInsertionError, HeapStack, Ptr, PtrInx, ReallocationError, SlotStack};
 
 /// A place for a link among the others, whose pointer is known before its value. Dropping it changes nothing: no link
 /// comes, and the pointer is that of the next insertion. A growth that was made for it stays.
@@ -27,11 +30,37 @@ pub struct ChainArenaInsertEntry<
     S: SlotStack<Item = ArenaSlot<P, LinkNoGen<P, T>>> = HeapStack<ArenaSlot<P, LinkNoGen<P, T>>>,
 > {
     arena: &'a mut ChainArena<P, T, S>,
-    gap: Gap<P::Inx>,
-    ptr: P,
+    // The index of the new link, and those of the links beside it, 0 for none.
+    inx: usize,
+    prev: usize,
+    next: usize,
     ghost room: { entry_count arena.now < arena.now.capacity },
-    ghost fits: { ∥ IsGap (shown arena.now) (next_index arena.now) (before_in P.Inx.number gap (next_index arena.now)) (after_in P.Inx.number gap (next_index arena.now)) ∥₁ },
-    ghost key: { P.key ptr ≡ (next_index arena.now, arena.now.counter) },
+    ghost place: { inx ≡ next_index arena.now },
+    ghost index: { IsWithin P.Inx.greatest inx },
+    ghost indexes: { (prev ≤ P.Inx.greatest) × (next ≤ P.Inx.greatest) },
+    ghost fits: { ∥ IsGap (shown arena.now) (next_index arena.now) (index_from prev) (index_from next) ∥₁ },
+}
+
+// An optional index as a number, 0 for none.
+fn number_or_zero<I: PtrInx>(i: Option<I>) -> usize
+    ensures index { index_from result ≡ option_map I.number i }
+    ensures within { result ≤ I.greatest }
+{
+    match i {
+        Some(i) => match i.try_into_usize() {
+            Some(n) => n,
+            None => unreachable!(),
+        },
+        None => 0,
+    }
+}
+
+// .. and back.
+fn index_or_none<I: PtrInx>(n: usize) -> Option<I>
+    requires { n ≤ I.greatest }
+    ensures { option_map I.number result ≡ index_from n }
+{
+    I::try_from_usize(n)
 }
 
 impl<P: Ptr, T: Drop, S: SlotStack<Item = ArenaSlot<P, LinkNoGen<P, T>>>> ChainArena<P, T, S> {
@@ -61,7 +90,8 @@ impl<P: Ptr, T: Drop, S: SlotStack<Item = ArenaSlot<P, LinkNoGen<P, T>>>> ChainA
         ensures error { IfErr result (λ e. (e ≡ ChainInsertionError.FailedLinkRequirement) ⊎ (e ≡ ChainInsertionError.NotWithinCapacity)) }
         ensures same_reference { IfOk result (λ e. e.arena.ghost_name ≡ self.entry.ghost_name) }
         ensures arena { IfOk result (λ e. e.arena.now ≡ self.old) }
-        ensures gap { IfOk result (λ e. IsGapOf P.Inx.number (entry self.old) (shown self.old) (names_in P.key P.Inx.number kind) (Some e.gap)) }
+        ensures prev { IfOk result (λ e. index_from e.prev ≡ link_before (shown self.old) (by_index (names_in P.key P.Inx.number kind)) (next_index self.old)) }
+        ensures next { IfOk result (λ e. index_from e.next ≡ link_after (shown self.old) (by_index (names_in P.key P.Inx.number kind)) (next_index self.old)) }
     {
         match self.gap_for(kind) {
             Some(gap) => {
@@ -102,7 +132,8 @@ impl<P: Ptr, T: Drop, S: SlotStack<Item = ArenaSlot<P, LinkNoGen<P, T>>>> ChainA
         ensures greatest { entry_count self.old ≡ P.Inx.greatest → IsErr result }
         ensures same_reference { IfOk result (λ e. e.arena.ghost_name ≡ self.entry.ghost_name) }
         ensures arena { IfOk result (λ e. e.arena.now ≡ with_capacity_of self.old e.arena.now) }
-        ensures gap { IfOk result (λ e. IsGapOf P.Inx.number (entry self.old) (shown self.old) (names_in P.key P.Inx.number kind) (Some e.gap)) }
+        ensures prev { IfOk result (λ e. index_from e.prev ≡ link_before (shown self.old) (by_index (names_in P.key P.Inx.number kind)) (next_index self.old)) }
+        ensures next { IfOk result (λ e. index_from e.next ≡ link_after (shown self.old) (by_index (names_in P.key P.Inx.number kind)) (next_index self.old)) }
     {
         match self.gap_for(kind) {
             Some(gap) => match self.make_room() {
@@ -139,7 +170,8 @@ impl<P: Ptr, T: Drop, S: SlotStack<Item = ArenaSlot<P, LinkNoGen<P, T>>>> ChainA
         ensures greatest { entry_count self.old ≡ P.Inx.greatest → IsErr result }
         ensures same_reference { IfOk result (λ e. e.arena.ghost_name ≡ self.entry.ghost_name) }
         ensures arena { IfOk result (λ e. e.arena.now ≡ with_capacity_of self.old e.arena.now) }
-        ensures gap { IfOk result (λ e. IsGapOf P.Inx.number (entry self.old) (shown self.old) (names_in P.key P.Inx.number kind) (Some e.gap)) }
+        ensures prev { IfOk result (λ e. index_from e.prev ≡ link_before (shown self.old) (by_index (names_in P.key P.Inx.number kind)) (next_index self.old)) }
+        ensures next { IfOk result (λ e. index_from e.next ≡ link_after (shown self.old) (by_index (names_in P.key P.Inx.number kind)) (next_index self.old)) }
     {
         match self.gap_for(kind) {
             Some(gap) => {
@@ -181,13 +213,16 @@ impl<P: Ptr, T: Drop, S: SlotStack<Item = ArenaSlot<P, LinkNoGen<P, T>>>> ChainA
         requires gap { IsGap (shown self.old) (next_index self.old) (before_in P.Inx.number gap (next_index self.old)) (after_in P.Inx.number gap (next_index self.old)) }
         ensures same_reference { result.arena.ghost_name ≡ self.entry.ghost_name }
         ensures arena { result.arena.now ≡ self.old }
-        ensures gap { result.gap ≡ gap }
+        ensures prev { index_from result.prev ≡ before_in P.Inx.number gap (next_index self.old) }
+        ensures next { index_from result.next ≡ after_in P.Inx.number gap (next_index self.old) }
     {
-        let ptr = self.next_ptr();
+        let i = self.next_ptr().inx();
+        let (prev, next) = around(gap, i);
         ChainArenaInsertEntry {
             arena: self,
-            gap,
-            ptr,
+            inx: number_or_zero(Some(i)),
+            prev: number_or_zero(prev),
+            next: number_or_zero(next),
         }
     }
 }
@@ -202,20 +237,25 @@ impl<'a, P: Ptr, T: Drop, S: SlotStack<Item = ArenaSlot<P, LinkNoGen<P, T>>>> Ch
     pub fn ptr(&self) -> P
         ensures { P.key result ≡ (next_index self.now.arena.now, self.now.arena.now.counter) }
     {
-        self.ptr
+        match P::Inx::try_from_usize(self.inx) {
+            Some(i) => P::_from_raw(i, self.arena.generation()),
+            None => unreachable!(),
+        }
     }
 
     /// Adds the link. It takes no memory.
     pub fn insert(self, t: T)
-        ensures state { self.exit.0.now ≡ insert_between self.entry.arena.now t (before_in P.Inx.number self.entry.gap (next_index self.entry.arena.now)) (after_in P.Inx.number self.entry.gap (next_index self.entry.arena.now)) }
-        ensures inserted { IsInsertionBetween (before_in P.Inx.number self.entry.gap (next_index self.entry.arena.now)) (after_in P.Inx.number self.entry.gap (next_index self.entry.arena.now)) (seen self.entry.arena.now) (seen self.exit.0.now) (entry self.entry.arena.now) (entry self.exit.0.now) (shown self.entry.arena.now) (shown self.exit.0.now) (next_index self.entry.arena.now, self.entry.arena.now.counter) t }
+        ensures state { self.exit.0.now ≡ insert_between self.entry.arena.now t (index_from self.entry.prev) (index_from self.entry.next) }
+        ensures inserted { IsInsertionBetween (index_from self.entry.prev) (index_from self.entry.next) (seen self.entry.arena.now) (seen self.exit.0.now) (entry self.entry.arena.now) (entry self.exit.0.now) (shown self.entry.arena.now) (shown self.exit.0.now) (next_index self.entry.arena.now, self.entry.arena.now.counter) t }
     {
-        let gap = self.gap;
+        let (prev, next) = (self.prev, self.next);
+        let gap = Gap::Between(index_or_none(prev), index_or_none(next));
         let _ = self.arena.insert_in_room(gap, t);
         let ChainArenaInsertEntry {
             arena: _,
-            gap: _,
-            ptr: _,
+            inx: _,
+            prev: _,
+            next: _,
         } = self;
     }
 }
@@ -227,8 +267,9 @@ impl<'a, P: Ptr, T: Drop, S: SlotStack<Item = ArenaSlot<P, LinkNoGen<P, T>>>> Dr
     {
         let ChainArenaInsertEntry {
             arena: _,
-            gap: _,
-            ptr: _,
+            inx: _,
+            prev: _,
+            next: _,
         } = self;
     }
 }

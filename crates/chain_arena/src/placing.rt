@@ -22,7 +22,7 @@ pub(crate) fn link_in<P: Ptr, T>(gap: Gap<P::Inx>, t: T) -> LinkNoGen<P, T>
 }
 
 // The links beside a new one at an index.
-fn around<I: PtrInx>(gap: Gap<I>, i: I) -> (Option<I>, Option<I>)
+pub(crate) fn around<I: PtrInx>(gap: Gap<I>, i: I) -> (Option<I>, Option<I>)
     ensures before { option_map I.number result.0 ≡ before_in I.number gap (I.number i) }
     ensures after { option_map I.number result.1 ≡ after_in I.number gap (I.number i) }
 {

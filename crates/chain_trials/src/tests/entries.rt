@@ -106,14 +106,23 @@ fn first_links(rt: HostRuntime) {
     }
 }
 
-// How the calls that insert refuse a link of a kind.
-fn refusals(arena: &mut LimitedChains, kind: Kind) -> [Option<ChainInsertionError>; 4] {
-    [
-        arena.insert_reallocating(kind, 0).err(),
-        arena.insert_within_capacity(kind, 0).err(),
-        arena.entry_insert_reallocating(kind).err(),
-        arena.entry_insert_within_capacity(kind).err(),
-    ]
+// How an insertion of a kind is refused, by growth and within the capacity.
+fn refusals(arena: &mut LimitedChains, kind: Kind) -> [Option<ChainInsertionError>; 2] {
+    let growing = arena.insert_reallocating(kind, 0).err();
+    [growing, arena.insert_within_capacity(kind, 0).err()]
+}
+
+// How a place for one is.
+fn place_refusals(arena: &mut LimitedChains, kind: Kind) -> [Option<ChainInsertionError>; 2] {
+    let growing = match arena.entry_insert_reallocating(kind) {
+        Ok(_) => None,
+        Err(refusal) => Some(refusal),
+    };
+    let within = match arena.entry_insert_within_capacity(kind) {
+        Ok(_) => None,
+        Err(refusal) => Some(refusal),
+    };
+    [growing, within]
 }
 
 // Two links fill an arena with a maximum of two, and what a kind asks is tested before the room.
@@ -125,10 +134,22 @@ fn refusals_in_their_order(rt: HostRuntime) {
     add(&rt, &mut arena, 2);
     let beyond = Some(ChainInsertionError::BeyondMaxCapacity);
     let full = Some(ChainInsertionError::NotWithinCapacity);
-    let alone = refusals(&mut arena, LinkInsertKind::Disconnected);
-    same(&rt, "no room", alone, [beyond, full, beyond, full]);
-    let behind = refusals(&mut arena, LinkInsertKind::ChainEnd(at(&rt, 9, 9)));
+    let alone = LinkInsertKind::Disconnected;
+    same(&rt, "room", refusals(&mut arena, alone), [beyond, full]);
+    same(
+        &rt,
+        "room",
+        place_refusals(&mut arena, alone),
+        [beyond, full],
+    );
     let link = Some(ChainInsertionError::FailedLinkRequirement);
-    same(&rt, "no link", behind, [link, link, link, link]);
+    let behind = LinkInsertKind::ChainEnd(at(&rt, 9, 9));
+    same(&rt, "link", refusals(&mut arena, behind), [link, link]);
+    same(
+        &rt,
+        "link",
+        place_refusals(&mut arena, behind),
+        [link, link],
+    );
     same(&rt, "as before", (arena.len(), arena.capacity()), (2, 2));
 }
