@@ -1,1 +1,2 @@
 mod Behind
+mod Places

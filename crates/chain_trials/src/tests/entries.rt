@@ -3,8 +3,7 @@
 ghost use Rattle.std.specs.Prelude.{◌≡◌, ◌↔◌, IfOk, OnOk, OnErr, Err};
 ghost use Rattle.arena_ptr.specs.ToolPtr.{key_of};
 ghost use Rattle.arena_base.specs.Arena.{next_index, with_capacity_of};
-ghost use Rattle.chain_arena.specs.ChainArena.{seen, entry, shown, insert_as};
-ghost use Rattle.chain_arena.specs.Insertions.{IsInsertion};
+ghost use Rattle.chain_arena.specs.ChainArena.{entry, shown, insert_as};
 ghost use Rattle.chain_arena.specs.Kinds.{names_in, by_index, MayInsert};
 
 use super::{At, Chains, LimitedChains, NONE, add, at, numbers, same};
@@ -19,7 +18,7 @@ type Kind = LinkInsertKind<ToolPtr>;
 
 // A link in a place that was made for it, which is what an insertion in one call is.
 fn insert_by_entry(arena: &mut Chains, kind: Kind, t: u32) -> Result<ToolPtr, ChainInsertionError>
-    ensures inserted { IfOk result (λ p. IsInsertion (by_index (names_in key_of (λ i. i.number) kind)) (seen arena.old) (seen arena.new) (entry arena.old) (entry arena.new) (shown arena.old) (shown arena.new) (key_of p) t) }
+    ensures place { IfOk result (λ p. key_of p ≡ (next_index arena.old, arena.old.counter)) }
     ensures state { OnOk result (arena.new ≡ with_capacity_of (insert_as arena.old (by_index (names_in key_of (λ i. i.number) kind)) t) arena.new) }
     ensures err { OnErr result (arena.new ≡ arena.old) }
     ensures link { (result ≡ Err ChainInsertionError.FailedLinkRequirement) ↔ ¬ MayInsert (entry arena.old) (shown arena.old) (names_in key_of (λ i. i.number) kind) }
