@@ -2,6 +2,8 @@ pub mod AnswerLemmas
 pub mod Coming
 pub mod Ending
 pub mod Feeding
+pub mod InsertionAnswers
+pub mod KindLemmas
 pub mod Pointers
 pub mod RemovalAnswers
 pub mod SlowLemmas

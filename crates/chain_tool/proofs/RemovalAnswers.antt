@@ -26,7 +26,7 @@ removal_text (GenerationOverflow link) = codes "value " ++ decimal link.t ++ ove
 removal_text InvalidPtr = codes "none"
 
 -- a pointer is valid, or it is not
-valid_at : (a : Links) (p : ℕ × Gen32) (o : Option (Gen32 × ℕ)) → entry_at (values_of a) p.0 ≡ o → IsValidIn a p ⊎ (IsValidIn a p → ⊥)
+pub valid_at : (a : Links) (p : ℕ × Gen32) (o : Option (Gen32 × ℕ)) → entry_at (values_of a) p.0 ≡ o → IsValidIn a p ⊎ (IsValidIn a p → ⊥)
 valid_at a p None stands = inr (λ valid. none-some _ (sym stands ∙ valid.stands))
 valid_at a p (Some e) stands = ⊎_elim
     (λ same. inl (record { value = e.1; stands = stands ∙ ap (λ (g : Gen32). let o : Option (Gen32 × ℕ) = Some (g, e.1) in o) (same_gen32 e.0 p.1 same) }))

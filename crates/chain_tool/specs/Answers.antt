@@ -1,16 +1,23 @@
 -- What the program answers to a line, and the arena after it.
-use Rattle.std.specs.Prelude.{◌<◌, ◌≤◌, ◌≡◌, ℕ, List, [], ◌∷◌, ◌++◌, map, codes, decimal, ◌+◌, Bool, true, false, Option, None, Some}
+use Rattle.std.specs.Prelude.{◌<◌, ◌≤◌, ◌≡◌, ℕ, List, [], ◌∷◌, ◌++◌, map, codes, decimal, ◌+◌, Bool, true, false, Option, None, Some, Result, Ok, Err}
 use Rattle.std.specs.List.{join_with_byte}
 use Rattle.arena_ptr.specs.Generations.{number_of_gen32, after32, is_greatest32}
+use Rattle.arena_ptr.specs.Indexes.{number_of_inx32}
 use Rattle.arena_ptr.specs.ToolPtr.{key_of}
 use Rattle.arena_ptr.specs.declared.generation.gen32.Gen32.{Gen32}
+use Rattle.arena_ptr.specs.declared.tool_ptr.ToolPtr.{ToolPtr}
+use Rattle.arena_ptr.specs.declared.errors.ChainInsertionError.{ChainInsertionError}
+use Rattle.arena_ptr.specs.declared.errors.ChainInsertionError.TheVariants.{FailedLinkRequirement, NotWithinCapacity, AllocError, BeyondMaxCapacity}
+use Rattle.chain_laws.specs.Insertions.{InsertKind}
 use Rattle.chain_laws.specs.Operations.{joined}
 use Rattle.arena_ptr.specs.SlotStack.{IsBeyond}
 use Rattle.arena_base.specs.Arena.{Arena, IsValid, entry_count, next_index, with_capacity_of, HasRoom}
 use Rattle.chain_arena.specs.ChainArena as chain
-use Rattle.chain_arena.specs.ChainArena.{LinkSeen, shown, entry, relinked, insert_lone, remove_link, IsWalkOf}
+use Rattle.chain_arena.specs.ChainArena.{LinkSeen, shown, entry, relinked, insert_as, remove_link, IsWalkOf}
+use Rattle.chain_arena.specs.Kinds.{LinkName, names_in, by_index, MayInsert}
+use Rattle.chain_tool.specs.Commands.{Kind}
 use Rattle.chain_tool.specs.declared.command.Command.{Command}
-use Rattle.chain_tool.specs.declared.command.Command.TheVariants.{AddAlone, Connect, Remove, Show, Chain, Len}
+use Rattle.chain_tool.specs.declared.command.Command.TheVariants.{Add, AddWithin, Connect, Remove, Show, Chain, Len}
 use Rattle.chain_tool.specs.declared.command.Line.{Line}
 use Rattle.chain_tool.specs.declared.command.Line.TheVariants.{Blank, Bad, Good}
 
@@ -53,21 +60,53 @@ CanConnect a p q = chain.CanConnect (entry a) (shown a) p q
 abbrev pub IsLinkAt : Links → ℕ × Gen32 → Option (ℕ × Gen32) → Option (ℕ × Gen32) → ℕ → Type 0
 IsLinkAt a p prev next value = chain.IsLinkAt (entry a) (shown a) p prev next value
 
+-- what names the links beside which a new one of a kind comes
+abbrev pub names : Kind → InsertKind (LinkName Gen32)
+names kind = names_in key_of number_of_inx32 kind
+
+-- a link of the kind may be inserted: the links that it names stand, and are as the kind asks
+abbrev pub MayAdd : Links → Kind → Type 0
+MayAdd old kind = MayInsert (entry old) (shown old) (names kind)
+
+-- the links with a new one of the kind
+abbrev pub with_added : Links → Kind → ℕ → Links
+with_added old kind v = insert_as old (by_index (names kind)) v
+
 -- the pointer of the next link
 abbrev pub added_text : Links → List ℕ
 added_text old = codes "at " ++ pointer_text (next_index old, old.counter)
+
+-- why there is no new link
+abbrev pub refusal_text : ChainInsertionError → List ℕ
+refusal_text FailedLinkRequirement = codes "refused link"
+refusal_text NotWithinCapacity = codes "refused capacity"
+refusal_text AllocError = codes "refused memory"
+refusal_text BeyondMaxCapacity = codes "refused limit"
+
+-- an insertion: the pointer of the new link, or why there is none
+abbrev pub insertion_text : Result ToolPtr ChainInsertionError → List ℕ
+insertion_text (Ok p) = codes "at " ++ pointer_text (key_of p)
+insertion_text (Err error) = refusal_text error
 
 -- the greatest index of 32 bits
 abbrev pub greatest_index : ℕ
 greatest_index = 0xffff_ffff
 
--- Where there is room, the new link is added and nothing else changes. An arena that is full has grown to room for it;
--- or it would have to grow beyond its maximum, and else memory may be refused.
-pub data Adds (old : Links) (v : ℕ) (text : List ℕ) (new : Links) : Type 0 where
-  added : entry_count old < old.capacity → text ≡ added_text old → new ≡ insert_lone old v → Adds old v text new
-  grown : old.capacity ≤ entry_count old → HasRoom greatest_index (entry_count old + 1) new → text ≡ added_text old → new ≡ with_capacity_of (insert_lone old v) new → Adds old v text new
-  limited : old.capacity ≤ entry_count old → IsBeyond old.maximum (entry_count old + 1) → text ≡ codes "refused limit" → new ≡ old → Adds old v text new
-  refused : old.capacity ≤ entry_count old → (IsBeyond old.maximum (entry_count old + 1) → ⊥) → text ≡ codes "refused memory" → new ≡ old → Adds old v text new
+-- A kind that asks for what is not there is refused, whatever room there is. Else, where there is room, the new link is
+-- added and nothing else changes. An arena that is full has grown to room for it; or it would have to grow beyond its
+-- maximum, and else memory may be refused.
+pub data Adds (old : Links) (kind : Kind) (v : ℕ) (text : List ℕ) (new : Links) : Type 0 where
+  added : MayAdd old kind → entry_count old < old.capacity → text ≡ added_text old → new ≡ with_added old kind v → Adds old kind v text new
+  grown : MayAdd old kind → old.capacity ≤ entry_count old → HasRoom greatest_index (entry_count old + 1) new → text ≡ added_text old → new ≡ with_capacity_of (with_added old kind v) new → Adds old kind v text new
+  limited : MayAdd old kind → old.capacity ≤ entry_count old → IsBeyond old.maximum (entry_count old + 1) → text ≡ codes "refused limit" → new ≡ old → Adds old kind v text new
+  refused : MayAdd old kind → old.capacity ≤ entry_count old → (IsBeyond old.maximum (entry_count old + 1) → ⊥) → text ≡ codes "refused memory" → new ≡ old → Adds old kind v text new
+  not_linked : (MayAdd old kind → ⊥) → text ≡ codes "refused link" → new ≡ old → Adds old kind v text new
+
+-- the same within the capacity: an arena that is full is left as it is
+pub data AddsWithin (old : Links) (kind : Kind) (v : ℕ) (text : List ℕ) (new : Links) : Type 0 where
+  added_within : MayAdd old kind → entry_count old < old.capacity → text ≡ added_text old → new ≡ with_added old kind v → AddsWithin old kind v text new
+  full : MayAdd old kind → old.capacity ≤ entry_count old → text ≡ codes "refused capacity" → new ≡ old → AddsWithin old kind v text new
+  not_linked_within : (MayAdd old kind → ⊥) → text ≡ codes "refused link" → new ≡ old → AddsWithin old kind v text new
 
 pub data Connects (old : Links) (p q : ℕ × Gen32) (text : List ℕ) (new : Links) : Type 0 where
   connected : CanConnect old p q → text ≡ codes "ok" → new ≡ relinked old (joined (shown old) p.0 q.0) → Connects old p q text new
@@ -94,7 +133,8 @@ pub data Removes (old : Links) (p : ℕ × Gen32) (text : List ℕ) (new : Links
 
 -- what a command answers, and the arena after it
 abbrev pub Gives : Links → Command → List ℕ → Links → Type 0
-Gives old (AddAlone v) text new = Adds old v text new
+Gives old (Add kind v) text new = Adds old kind v text new
+Gives old (AddWithin kind v) text new = AddsWithin old kind v text new
 Gives old (Connect p q) text new = Connects old (key_of p) (key_of q) text new
 Gives old (Remove p) text new = Removes old (key_of p) text new
 Gives old (Show p) text new = Shows old (key_of p) text × (new ≡ old)

@@ -1,18 +1,19 @@
 -- The commands of the program, as lines write them.
 use Rattle.std.specs.Prelude.{ℕ, nat_lt, if◌then◌else◌, List, [], ◌∷◌, length, codes, bytes_eq, Option, Some, None}
-use Rattle.std.specs.Option.{option_map}
+use Rattle.std.specs.Option.{option_map, option_or, option_zip}
+use Rattle.arena_ptr.specs.declared.index.inx32.Inx32.{Inx32}
 use Rattle.arena_ptr.specs.declared.tool_ptr.ToolPtr.{ToolPtr}
+use Rattle.chain_arena.specs.declared.kinds.InsertKindBody.{InsertKindBody}
+use Rattle.chain_arena.specs.declared.kinds.InsertKindBody.TheVariants as kinds
 use Rattle.chain_tool.specs.declared.command.Command.{Command}
-use Rattle.chain_tool.specs.declared.command.Command.TheVariants.{AddAlone, Connect, Remove, Show, Chain, Len}
+use Rattle.chain_tool.specs.declared.command.Command.TheVariants.{Add, AddWithin, Connect, Remove, Show, Chain, Len}
 use Rattle.chain_tool.specs.declared.command.Line.{Line}
 use Rattle.chain_tool.specs.declared.command.Line.TheVariants as lines
-use Rattle.chain_tool.specs.Words.{words_of, number_of, pointer_of, without_return}
+use Rattle.chain_tool.specs.Words.{words_of, number_of, index_word, pointer_of, without_return}
 
--- arguments that are one number
-abbrev pub one_number : List (List ℕ) → Option ℕ
-one_number [] = None
-one_number (word ∷ []) = number_of word
-one_number (word ∷ next ∷ words) = None
+-- kinds of a new link, beside links that pointers or indexes name
+abbrev pub Kind : Type 0
+Kind = InsertKindBody ToolPtr Inx32
 
 -- arguments that are one pointer
 abbrev pub one_pointer : List (List ℕ) → Option ToolPtr
@@ -20,39 +21,65 @@ one_pointer [] = None
 one_pointer (word ∷ []) = pointer_of word
 one_pointer (word ∷ next ∷ words) = None
 
-abbrev pub both : {A B : Type 0} → Option A → Option B → Option (A × B)
-both None b = None
-both (Some a) None = None
-both (Some a) (Some b) = Some (a, b)
-
 -- arguments that are two pointers
 abbrev pub two_pointers : List (List ℕ) → Option (ToolPtr × ToolPtr)
 two_pointers [] = None
-two_pointers (word ∷ words) = both (pointer_of word) (one_pointer words)
+two_pointers (word ∷ words) = option_zip (pointer_of word) (one_pointer words)
 
 -- no arguments
 abbrev pub no_arguments : List (List ℕ) → Option Command → Option Command
 no_arguments [] command = command
 no_arguments (word ∷ words) command = None
 
--- the kind of the new link, and its value
-abbrev pub add_of : List (List ℕ) → Option Command
-add_of [] = None
-add_of (kind ∷ words) = if bytes_eq kind (codes "alone") then option_map AddAlone (one_number words) else None
+-- the kinds beside no link, by their names
+abbrev pub kind_alone : List ℕ → Option Kind
+kind_alone name =
+    if bytes_eq name (codes "alone") then Some kinds.Disconnected
+    else (if bytes_eq name (codes "ring") then Some kinds.SingleLinkCyclic
+    else None)
 
-abbrev pub connect_of : List (List ℕ) → Option Command
-connect_of arguments = option_map (λ p. Connect p.0 p.1) (two_pointers arguments)
+-- a kind by pointers, where these are some, or else by indexes
+abbrev pub kind_by : {P I : Type 0} → (P → Kind) → (I → Kind) → Option P → Option I → Option Kind
+kind_by by_pointers by_indexes pointers indexes = option_or (option_map by_pointers pointers) (option_map by_indexes indexes)
+
+-- the kinds beside one link
+abbrev pub kind_beside : List ℕ → List ℕ → Option Kind
+kind_beside name word =
+    let p = pointer_of word in
+    let i = index_word word in
+    if bytes_eq name (codes "end") then kind_by kinds.ChainEnd kinds.ChainEndInx p i
+    else (if bytes_eq name (codes "start") then kind_by kinds.ChainStart kinds.ChainStartInx p i
+    else (if bytes_eq name (codes "after") then kind_by kinds.NextTo kinds.NextToInx p i
+    else (if bytes_eq name (codes "before") then kind_by kinds.PrevTo kinds.PrevToInx p i
+    else None)))
+
+-- the kinds between two links, both named by pointers or both by indexes: after the first and before the second
+abbrev pub kind_between : List ℕ → List ℕ → List ℕ → Option Kind
+kind_between name first second =
+    let p = option_zip (pointer_of first) (pointer_of second) in
+    let i = option_zip (index_word first) (index_word second) in
+    if bytes_eq name (codes "between") then kind_by (λ x. kinds.AtInterlink x.0 x.1) (λ x. kinds.AtInterlinkInx x.0 x.1) p i
+    else (if bytes_eq name (codes "bridge") then kind_by (λ x. kinds.Bridge x.0 x.1) (λ x. kinds.BridgeInx x.0 x.1) p i
+    else None)
+
+-- the kind of a new link, with the links that it comes beside, and its value at the end
+abbrev pub kind_and_value : List (List ℕ) → Option (Kind × ℕ)
+kind_and_value (name ∷ value ∷ []) = option_zip (kind_alone name) (number_of value)
+kind_and_value (name ∷ x ∷ value ∷ []) = option_zip (kind_beside name x) (number_of value)
+kind_and_value (name ∷ x ∷ y ∷ value ∷ []) = option_zip (kind_between name x y) (number_of value)
+kind_and_value words = None
 
 -- the command of a name and its arguments
 abbrev pub command_of : List ℕ → List (List ℕ) → Option Command
 command_of name arguments =
-    if bytes_eq name (codes "add") then add_of arguments
-    else (if bytes_eq name (codes "connect") then connect_of arguments
+    if bytes_eq name (codes "add") then option_map (λ a. Add a.0 a.1) (kind_and_value arguments)
+    else (if bytes_eq name (codes "addwithin") then option_map (λ a. AddWithin a.0 a.1) (kind_and_value arguments)
+    else (if bytes_eq name (codes "connect") then option_map (λ p. Connect p.0 p.1) (two_pointers arguments)
     else (if bytes_eq name (codes "remove") then option_map Remove (one_pointer arguments)
     else (if bytes_eq name (codes "show") then option_map Show (one_pointer arguments)
     else (if bytes_eq name (codes "chain") then option_map Chain (one_pointer arguments)
     else (if bytes_eq name (codes "len") then no_arguments arguments (Some Len)
-    else None)))))
+    else None))))))
 
 abbrev pub line_with : Option Command → Line
 line_with None = lines.Bad

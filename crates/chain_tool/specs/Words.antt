@@ -71,6 +71,10 @@ index_of n = made_of index_at n
 unfoldable pub generation_of : ℕ → Option Gen32
 generation_of n = made_of generation_at n
 
+-- a word that is an index
+abbrev pub index_word : List ℕ → Option Inx32
+index_word word = option_and_then index_of (number_of word)
+
 abbrev pub pointer_with : Option Inx32 → Option Gen32 → Option ToolPtr
 pointer_with None generation = None
 pointer_with (Some index) None = None
@@ -81,4 +85,4 @@ is_dot c = c == 46
 
 -- a pointer is an index, a dot and a generation
 abbrev pub pointer_of : List ℕ → Option ToolPtr
-pointer_of word = pointer_with (option_and_then index_of (number_of (before_first is_dot word))) (option_and_then generation_of (number_of (after_first is_dot word)))
+pointer_of word = pointer_with (index_word (before_first is_dot word)) (option_and_then generation_of (number_of (after_first is_dot word)))

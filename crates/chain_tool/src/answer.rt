@@ -1,8 +1,8 @@
 //! The answers to lines: each command is one step of the arena or one lookup.
-ghost use Rattle.std.specs.Prelude.{◌≡◌, ℕ, List, ◌⊎◌, OnOk, OnErr, string_bytes, codes};
+ghost use Rattle.std.specs.Prelude.{◌≡◌, ℕ, List, ◌++◌, ◌⊎◌, OnOk, OnErr, string_bytes};
 ghost use Rattle.arena_ptr.specs.ToolPtr.{key_of};
 ghost use Rattle.chain_tool.specs.Commands.{line_of};
-ghost use Rattle.chain_tool.specs.Answers.{Adds, Connects, Removes, Shows, Walks, Gives, AnswersLine};
+ghost use Rattle.chain_tool.specs.Answers.{insertion_text, refusal_text, Adds, AddsWithin, Connects, Removes, Shows, Walks, Gives, AnswersLine};
 
 use crate::command::{Command, Line, parse};
 use crate::text::{push_link, push_pointer, push_value, push_walk};
@@ -42,7 +42,8 @@ fn carry_out<S: SlotStack<Item = ArenaSlot<ToolPtr, LinkNoGen<ToolPtr, u32>>>>(
     ensures err { OnErr result ((arena.new ≡ arena.old) ⊎ ((words : List ℕ) × Gives arena.old command words arena.new)) }
 {
     match command {
-        Command::AddAlone(v) => add_alone(arena, v, text),
+        Command::Add(kind, v) => add(arena, kind, v, text),
+        Command::AddWithin(kind, v) => add_within(arena, kind, v, text),
         Command::Connect(p, q) => connect(arena, p, q, text),
         Command::Remove(p) => remove(arena, p, text),
         Command::Show(p) => show(arena, p, text),
@@ -54,20 +55,50 @@ fn carry_out<S: SlotStack<Item = ArenaSlot<ToolPtr, LinkNoGen<ToolPtr, u32>>>>(
     }
 }
 
-/// The answer to `add alone V`.
-fn add_alone<S: SlotStack<Item = ArenaSlot<ToolPtr, LinkNoGen<ToolPtr, u32>>>>(
+/// The answer to `add K V`.
+fn add<S: SlotStack<Item = ArenaSlot<ToolPtr, LinkNoGen<ToolPtr, u32>>>>(
     arena: &mut ChainArena<ToolPtr, u32, S>,
+    kind: LinkInsertKind<ToolPtr>,
     v: u32,
     text: &mut String,
 ) -> Result<(), AllocError>
-    ensures ok { OnOk result (Adds arena.old v (string_bytes text.new) arena.new) }
-    ensures err { OnErr result ((words : List ℕ) × Adds arena.old v words arena.new) }
+    ensures ok { OnOk result (Adds arena.old kind v (string_bytes text.new) arena.new) }
+    ensures err { OnErr result ((words : List ℕ) × Adds arena.old kind v words arena.new) }
 {
     text.clear();
     let count = arena.len();
     let room = arena.capacity();
     prove!(count <= room);
-    match arena.insert_reallocating(LinkInsertKind::Disconnected, v) {
+    let inserted = arena.insert_reallocating(kind, v);
+    push_insertion(text, inserted)
+}
+
+/// The answer to `addwithin K V`.
+fn add_within<S: SlotStack<Item = ArenaSlot<ToolPtr, LinkNoGen<ToolPtr, u32>>>>(
+    arena: &mut ChainArena<ToolPtr, u32, S>,
+    kind: LinkInsertKind<ToolPtr>,
+    v: u32,
+    text: &mut String,
+) -> Result<(), AllocError>
+    ensures ok { OnOk result (AddsWithin arena.old kind v (string_bytes text.new) arena.new) }
+    ensures err { OnErr result ((words : List ℕ) × AddsWithin arena.old kind v words arena.new) }
+{
+    text.clear();
+    let count = arena.len();
+    let room = arena.capacity();
+    prove!(count <= room);
+    let inserted = arena.insert_within_capacity(kind, v);
+    push_insertion(text, inserted)
+}
+
+/// Adds what an insertion answers to a text.
+fn push_insertion(
+    text: &mut String,
+    inserted: Result<ToolPtr, ChainInsertionError>,
+) -> Result<(), AllocError>
+    ensures { OnOk result (string_bytes text.new ≡ string_bytes text.old ++ insertion_text inserted) }
+{
+    match inserted {
         Ok(p) => {
             text.push_str("at ")?;
             push_pointer(text, p)
@@ -78,8 +109,7 @@ fn add_alone<S: SlotStack<Item = ArenaSlot<ToolPtr, LinkNoGen<ToolPtr, u32>>>>(
 
 /// The answer to an insertion that was refused.
 fn refusal(error: ChainInsertionError) -> &'static str
-    ensures limit { error ≡ ChainInsertionError.BeyondMaxCapacity → result.now ≡ codes "refused limit" }
-    ensures memory { error ≡ ChainInsertionError.AllocError → result.now ≡ codes "refused memory" }
+    ensures { result.now ≡ refusal_text error }
 {
     match error {
         ChainInsertionError::FailedLinkRequirement => "refused link",

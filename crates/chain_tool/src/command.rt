@@ -1,16 +1,20 @@
 //! Commands, and the lines that write them.
 ghost use Rattle.std.specs.Prelude.{◌≡◌, bytes_eq};
+ghost use Rattle.chain_arena.specs.declared.kinds.InsertKindBody.TheVariants.{AtInterlink, AtInterlinkInx, Bridge, BridgeInx};
 ghost use Rattle.chain_tool.specs.Words.{words_of};
-ghost use Rattle.chain_tool.specs.Commands.{one_number, one_pointer, two_pointers, no_arguments, add_of, connect_of, command_of, line_of};
+ghost use Rattle.chain_tool.specs.Commands.{one_pointer, two_pointers, no_arguments, kind_by, kind_alone, kind_beside, kind_between, kind_and_value, command_of, line_of};
 
-use crate::words::{next_word, number, pointer, without_return};
-use arena_ptr::ToolPtr;
+use crate::words::{index, next_word, number, pointer, without_return};
+use arena_ptr::{Inx32, ToolPtr};
+use chain_arena::LinkInsertKind;
 
 /// A command, with its arguments.
 #[derive(Clone, Copy)]
 pub enum Command {
-    /// `add alone V`: a new link that stands alone.
-    AddAlone(u32),
+    /// `add K V`: a new link of a kind.
+    Add(LinkInsertKind<ToolPtr>, u32),
+    /// `addwithin K V`: .. within the capacity.
+    AddWithin(LinkInsertKind<ToolPtr>, u32),
     /// `connect P Q`: the second link follows the first.
     Connect(ToolPtr, ToolPtr),
     /// `remove P`: the link goes, and its neighbours are joined.
@@ -55,9 +59,14 @@ fn named(name: &[u8], arguments: &[u8]) -> Option<Command>
     ensures { result ≡ command_of name.now (words_of arguments.now) }
 {
     if is(name, "add") {
-        add(arguments)
+        let (kind, v) = kind_and_value(arguments)?;
+        Some(Command::Add(kind, v))
+    } else if is(name, "addwithin") {
+        let (kind, v) = kind_and_value(arguments)?;
+        Some(Command::AddWithin(kind, v))
     } else if is(name, "connect") {
-        connect(arguments)
+        let (p, q) = two_pointers(arguments)?;
+        Some(Command::Connect(p, q))
     } else if is(name, "remove") {
         Some(Command::Remove(one_pointer(arguments)?))
     } else if is(name, "show") {
@@ -78,24 +87,105 @@ fn is(word: &[u8], text: &str) -> bool
     word == text.as_bytes()
 }
 
-/// The arguments of `add`: the kind of the new link, and its value.
-fn add(arguments: &[u8]) -> Option<Command>
-    ensures { result ≡ add_of (words_of arguments.now) }
+/// The kind of a new link, with the links that it comes beside, and its value at the end.
+fn kind_and_value(arguments: &[u8]) -> Option<(LinkInsertKind<ToolPtr>, u32)>
+    ensures { result ≡ kind_and_value (words_of arguments.now) }
 {
-    let (kind, arguments) = next_word(arguments)?;
-    if is(kind, "alone") {
-        Some(Command::AddAlone(one_number(arguments)?))
+    let (name, arguments) = next_word(arguments)?;
+    let (first, arguments) = next_word(arguments)?;
+    let Some((second, arguments)) = next_word(arguments) else {
+        return kind_alone(name).zip(number(first));
+    };
+    let Some((third, arguments)) = next_word(arguments) else {
+        return kind_beside(name, first).zip(number(second));
+    };
+    match next_word(arguments) {
+        None => kind_between(name, first, second).zip(number(third)),
+        Some(_) => None,
+    }
+}
+
+/// The kind of this name beside no link.
+fn kind_alone(name: &[u8]) -> Option<LinkInsertKind<ToolPtr>>
+    ensures { result ≡ kind_alone name.now }
+{
+    if is(name, "alone") {
+        Some(LinkInsertKind::Disconnected)
+    } else if is(name, "ring") {
+        Some(LinkInsertKind::SingleLinkCyclic)
     } else {
         None
     }
 }
 
-/// The arguments of `connect`: two pointers.
-fn connect(arguments: &[u8]) -> Option<Command>
-    ensures { result ≡ connect_of (words_of arguments.now) }
+/// The kind of this name beside one link: a pointer, or an index.
+fn kind_beside(name: &[u8], word: &[u8]) -> Option<LinkInsertKind<ToolPtr>>
+    ensures { result ≡ kind_beside name.now word.now }
 {
-    let (p, q) = two_pointers(arguments)?;
-    Some(Command::Connect(p, q))
+    let p = pointer(word);
+    let i = index(word);
+    if is(name, "end") {
+        p.map(LinkInsertKind::ChainEnd)
+            .or(i.map(LinkInsertKind::ChainEndInx))
+    } else if is(name, "start") {
+        p.map(LinkInsertKind::ChainStart)
+            .or(i.map(LinkInsertKind::ChainStartInx))
+    } else if is(name, "after") {
+        p.map(LinkInsertKind::NextTo)
+            .or(i.map(LinkInsertKind::NextToInx))
+    } else if is(name, "before") {
+        p.map(LinkInsertKind::PrevTo)
+            .or(i.map(LinkInsertKind::PrevToInx))
+    } else {
+        None
+    }
+}
+
+/// The kind of this name between two links: two pointers, or two indexes.
+fn kind_between(name: &[u8], first: &[u8], second: &[u8]) -> Option<LinkInsertKind<ToolPtr>>
+    ensures { result ≡ kind_between name.now first.now second.now }
+{
+    let p = pointer(first).zip(pointer(second));
+    let i = index(first).zip(index(second));
+    if is(name, "between") {
+        between(p, i)
+    } else if is(name, "bridge") {
+        bridge(p, i)
+    } else {
+        None
+    }
+}
+
+/// The kind between two neighbours.
+fn between(
+    pointers: Option<(ToolPtr, ToolPtr)>,
+    indexes: Option<(Inx32, Inx32)>,
+) -> Option<LinkInsertKind<ToolPtr>>
+    ensures { result ≡ kind_by (λ x. AtInterlink x.0 x.1) (λ x. AtInterlinkInx x.0 x.1) pointers indexes }
+{
+    match pointers {
+        Some((next_to, prev_to)) => Some(LinkInsertKind::AtInterlink { next_to, prev_to }),
+        None => {
+            let (next_to, prev_to) = indexes?;
+            Some(LinkInsertKind::AtInterlinkInx { next_to, prev_to })
+        }
+    }
+}
+
+/// The kind after an end and before a start.
+fn bridge(
+    pointers: Option<(ToolPtr, ToolPtr)>,
+    indexes: Option<(Inx32, Inx32)>,
+) -> Option<LinkInsertKind<ToolPtr>>
+    ensures { result ≡ kind_by (λ x. Bridge x.0 x.1) (λ x. BridgeInx x.0 x.1) pointers indexes }
+{
+    match pointers {
+        Some((end, start)) => Some(LinkInsertKind::Bridge { end, start }),
+        None => {
+            let (end, start) = indexes?;
+            Some(LinkInsertKind::BridgeInx { end, start })
+        }
+    }
 }
 
 /// The command, where it has no arguments.
@@ -106,17 +196,6 @@ fn no_arguments(arguments: &[u8], command: Command) -> Option<Command>
         None => Some(command),
         Some(_) => None,
     }
-}
-
-/// The arguments, where they are one number.
-fn one_number(arguments: &[u8]) -> Option<u32>
-    ensures { result ≡ one_number (words_of arguments.now) }
-{
-    let (word, rest) = next_word(arguments)?;
-    if next_word(rest).is_some() {
-        return None;
-    }
-    number(word)
 }
 
 /// The arguments, where they are one pointer.

@@ -1,8 +1,11 @@
 //! Runs of the program over readers and writers in memory.
 ghost use Rattle.std.specs.Prelude.{◌≡◌, ℕ, List, ◌∷◌, [], codes, Some, None, option_map};
-ghost use Rattle.chain_tool.specs.declared.command.Command.TheVariants.{AddAlone, Len};
+ghost use Rattle.chain_arena.specs.declared.kinds.InsertKindBody.TheVariants.{Disconnected, SingleLinkCyclic, ChainEnd, NextToInx, BridgeInx};
+ghost use Rattle.arena_ptr.specs.declared.index.inx32.Inx32.{Inx32};
+ghost use Rattle.arena_ptr.specs.declared.tool_ptr.ToolPtr.{ToolPtr};
+ghost use Rattle.chain_tool.specs.declared.command.Command.TheVariants.{Add, AddWithin, Len};
 ghost use Rattle.chain_tool.specs.declared.command.Line.TheVariants.{Blank, Bad, Good};
-ghost use Rattle.chain_tool.specs.Words.{lines_of, whole_lines, without_return, words_of, number_of, pointer_of};
+ghost use Rattle.chain_tool.specs.Words.{lines_of, whole_lines, without_return, words_of, number_of, index_word, pointer_of};
 ghost use Rattle.chain_tool.specs.Commands.{line_of};
 ghost use Rattle.chain_tool.specs.Transcripts.{AreComplete};
 
@@ -80,8 +83,13 @@ fn definitions()
     ensures generation_zero { pointer_of (codes "12.0") ≡ None }
     ensures two_dots { pointer_of (codes "1.2.3") ≡ None }
     ensures len { line_of (codes " len ") ≡ Good Len }
-    ensures add { line_of (codes "add alone 7") ≡ Good (AddAlone 7) }
-    ensures later_command { line_of (codes "add end 1.2 7") ≡ Bad }
+    ensures add { line_of (codes "add alone 7") ≡ Good (Add Disconnected 7) }
+    ensures add_within { line_of (codes "addwithin ring 7") ≡ Good (AddWithin SingleLinkCyclic 7) }
+    ensures by_pointer { (p : ToolPtr) → pointer_of (codes "1.2") ≡ Some p → line_of (codes "add end 1.2 7") ≡ Good (Add (ChainEnd p) 7) }
+    ensures by_index { (i : Inx32) → index_word (codes "1") ≡ Some i → line_of (codes "addwithin after 1 7") ≡ Good (AddWithin (NextToInx i) 7) }
+    ensures by_indexes { (i j : Inx32) → index_word (codes "3") ≡ Some i → index_word (codes "1") ≡ Some j → line_of (codes "add bridge 3 1 7") ≡ Good (Add (BridgeInx i j) 7) }
+    ensures mixed_forms { line_of (codes "add between 1.2 1 5") ≡ Bad }
+    ensures later_command { line_of (codes "breaknext 1.2") ≡ Bad }
     ensures blank { line_of (codes " ") ≡ Blank }
     ensures unfinished { (lines : List (List ℕ)) → AreComplete (codes "add alone 2") (Some (codes "5")) lines → lines ≡ [] }
     ensures finished { AreComplete (codes "add alone 2") (Some []) (codes "add alone 2" ∷ []) }
@@ -104,14 +112,14 @@ fn first_table(rt: HostRuntime) {
     let input =
         "add alone 1\nconnect 1.2 1.2\nshow 1.2\nconnect 1.2 1.2\nadd end 1.2 2\nadd alone 2\nadd alone 3\n\
         connect 2.2 3.2\nconnect 3.2 2.2\nchain 3.2\nlen\nbreaknext 3.2\n";
-    let output = "at 1.2\nok\nprev 1.2 next 1.2 value 1\nnone\nbad line\nat 2.2\nat 3.2\n\
+    let output = "at 1.2\nok\nprev 1.2 next 1.2 value 1\nnone\nrefused link\nat 2.2\nat 3.2\n\
         ok\nok\n3.2:3 2.2:2\ncount 3\nbad line\n";
     check_texts(&rt, rt.alloc(), &[(input, output)]);
 }
 
 #[test]
 fn lines_and_words(rt: HostRuntime) {
-    const ROWS: [(&str, &str); 20] = [
+    const ROWS: [(&str, &str); 19] = [
         ("", ""),
         ("\n\n \n", ""),
         ("\r\n  \r\n", ""),
@@ -130,13 +138,70 @@ fn lines_and_words(rt: HostRuntime) {
         ("connect 1.2\n", "bad line\n"),
         ("connect 1.2 1.2 1.2\n", "bad line\n"),
         ("hello\nlen\n", "bad line\ncount 0\n"),
-        ("add end 0.2 5\n", "bad line\n"),
-        (
-            "remove 1.2 1.2\nclear\naddwithin alone 1\n",
-            "bad line\nbad line\nbad line\n",
-        ),
+        ("remove 1.2 1.2\nclear\n", "bad line\nbad line\n"),
     ];
     check_texts(&rt, rt.alloc(), &ROWS);
+}
+
+#[test]
+fn kinds_and_values(rt: HostRuntime) {
+    const ROWS: [(&str, &str); 20] = [
+        ("add end 0.2 5\n", "bad line\n"),
+        ("add end 0 5\n", "bad line\n"),
+        ("add between 1.2 1 5\n", "bad line\n"),
+        ("add bridge 1 1.2 5\n", "bad line\n"),
+        ("add ring\n", "bad line\n"),
+        ("add ring 1 2\n", "bad line\n"),
+        ("add end 1.2\n", "bad line\n"),
+        ("add end 1.2 2.2 5\n", "bad line\n"),
+        ("add between 1.2 5\n", "bad line\n"),
+        ("add between 1 2 3 5\n", "bad line\n"),
+        ("add sideways 1.2 3\n", "bad line\n"),
+        ("add alone 1.2\n", "bad line\n"),
+        ("add 3\n", "bad line\n"),
+        ("add\n", "bad line\n"),
+        ("addwithin 3\n", "bad line\n"),
+        ("addwithin alone 1 2\n", "bad line\n"),
+        ("addwithin alone 1\n", "refused capacity\n"),
+        ("addwithin end 1 1\n", "refused link\n"),
+        ("add after 1 1\n", "refused link\n"),
+        ("add before 4294967295.2 1\n", "refused link\n"),
+    ];
+    check_texts(&rt, rt.alloc(), &ROWS);
+}
+
+#[test]
+fn kinds_table(rt: HostRuntime) {
+    let input =
+        "add alone 1\nadd between 1.2 1.2 5\nadd bridge 1.2 1.2 2\nadd before 1 3\nadd between 3 1 4\n\
+        chain 2.2\nadd ring 6\nadd after 5.2 7\nshow 5.2\nadd start 5 8\naddwithin end 5.2 9\n";
+    let output =
+        "at 1.2\nrefused link\nat 2.2\nat 3.2\nat 4.2\n2.2:2 3.2:3 4.2:4 1.2:1\nat 5.2\nat 6.2\n\
+        prev 6.2 next 6.2 value 6\nrefused link\nrefused link\n";
+    check_texts(&rt, rt.alloc(), &[(input, output)]);
+}
+
+#[test]
+fn a_chain_grown_and_joined(rt: HostRuntime) {
+    let input =
+        "add alone 1\nadd alone 2\nconnect 1.2 2.2\nadd end 1.2 4\nadd end 2.2 4\nadd between 2.2 3.2 3\n\
+        add alone 5\nadd end 5.2 6\nadd end 6.2 7\nconnect 3.2 5.2\nchain 1.2\n";
+    let output = "at 1.2\nat 2.2\nok\nrefused link\nat 3.2\nat 4.2\nat 5.2\nat 6.2\nat 7.2\nok\n\
+        1.2:1 2.2:2 4.2:3 3.2:4 5.2:5 6.2:6 7.2:7\n";
+    check_texts(&rt, rt.alloc(), &[(input, output)]);
+}
+
+#[test]
+fn each_kind_by_pointer_and_by_index(rt: HostRuntime) {
+    let by_pointer =
+        "add alone 1\nadd end 1.2 2\nadd start 1.2 3\nadd after 3.2 4\nadd before 2.2 5\nadd between 1.2 5.2 6\n\
+        add bridge 2.2 3.2 7\nadd ring 8\nchain 3.2\nchain 8.2\n";
+    let by_index =
+        "add alone 1\nadd end 1 2\nadd start 1 3\nadd after 3 4\nadd before 2 5\nadd between 1 5 6\n\
+        add bridge 2 3 7\nadd ring 8\nchain 3.2\nchain 8.2\n";
+    let output = "at 1.2\nat 2.2\nat 3.2\nat 4.2\nat 5.2\nat 6.2\nat 7.2\nat 8.2\n\
+        3.2:3 4.2:4 1.2:1 6.2:6 5.2:5 2.2:2 7.2:7\n8.2:8\n";
+    check_texts(&rt, rt.alloc(), &[(by_pointer, output), (by_index, output)]);
 }
 
 #[test]
@@ -419,17 +484,34 @@ fn removal_table(rt: HostRuntime) {
     check_texts(&rt, rt.alloc(), &[(input, output)]);
 }
 
+/// Carries out a text on an arena with a limit, and looks whether the program writes these lines.
+fn check_limited(rt: &impl Abort, alloc: Global, arena: &mut Limited, input: &str, output: &str) {
+    let mut reader = input.as_bytes();
+    let mut written = Vec::new(alloc);
+    let result = run_on(alloc, arena, &mut reader, &mut written);
+    same(rt, input, result, Ok(()));
+    same(rt, input, written.as_slice(), output.as_bytes());
+}
+
 #[test]
 fn a_limited_arena(rt: HostRuntime) {
     let mut arena = Limited::new(rt.alloc());
     same(&rt, "a limit", arena.set_max_capacity(2), Ok(()));
-    let mut reader =
-        "add alone 1\nadd alone 2\nadd alone 3\nremove 1.2\nadd alone 3\nlen\n".as_bytes();
-    let output = "at 1.2\nat 2.2\nrefused limit\nvalue 1\nat 1.3\ncount 2\n".as_bytes();
-    let mut written = Vec::new(rt.alloc());
-    let result = run_on(rt.alloc(), &mut arena, &mut reader, &mut written);
-    same(&rt, "its run", result, Ok(()));
-    same(&rt, "its lines", written.as_slice(), output);
+    let input = "add alone 1\nadd alone 2\nadd alone 3\nremove 1.2\nadd alone 3\nlen\n";
+    let output = "at 1.2\nat 2.2\nrefused limit\nvalue 1\nat 1.3\ncount 2\n";
+    check_limited(&rt, rt.alloc(), &mut arena, input, output);
+}
+
+#[test]
+fn limited_run(rt: HostRuntime) {
+    let mut arena = Limited::new(rt.alloc());
+    same(&rt, "a limit", arena.set_max_capacity(2), Ok(()));
+    same(&rt, "room", arena.reallocate_min_capacity(2), Ok(()));
+    let input =
+        "addwithin alone 1\naddwithin alone 2\naddwithin alone 3\nadd alone 3\nadd end 9.9 3\nremove 1.2\n\
+        addwithin alone 3\n";
+    let output = "at 1.2\nat 2.2\nrefused capacity\nrefused limit\nrefused link\nvalue 1\nat 1.3\n";
+    check_limited(&rt, rt.alloc(), &mut arena, input, output);
 }
 
 /// The greatest generation.

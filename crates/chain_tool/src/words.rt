@@ -1,7 +1,7 @@
 //! The words of a line, and the numbers and pointers that words are.
 ghost use Rattle.std.specs.Prelude.{◌≡◌, ◌==◌, ◌∷◌, [], IfSome, IfNone, length, take_while, not, option_and_then};
 ghost use Rattle.std.specs.List.{before_first, after_first};
-ghost use Rattle.chain_tool.specs.Words.{without_return, words_of, number_of, index_of, generation_of, pointer_of};
+ghost use Rattle.chain_tool.specs.Words.{without_return, words_of, number_of, index_word, generation_of, pointer_of};
 
 use arena_ptr::{Gen32, Inx32, Ptr, ToolPtr};
 
@@ -71,8 +71,8 @@ pub fn number(word: &[u8]) -> Option<u32>
 }
 
 /// The index that a word is: a number from 1 on.
-fn index(word: &[u8]) -> Option<Inx32>
-    ensures { result ≡ option_and_then index_of (number_of word.now) }
+pub fn index(word: &[u8]) -> Option<Inx32>
+    ensures { result ≡ index_word word.now }
 {
     Inx32::new(number(word)?)
 }

@@ -1,26 +1,27 @@
 -- The answer is the text of the removal.
 use Rattle.arena_ptr.specs.ToolPtr.{key_of}
-use Rattle.chain_tool.proofs.AnswerLemmas.{removes_ok, removes_err}
+use Rattle.chain_tool.specs.Answers.{Removes}
+use Rattle.chain_tool.proofs.AnswerLemmas.{answers_ok, answers_err}
 use Rattle.chain_tool.proofs.RemovalAnswers.{removal_answers}
 use Rattle.chain_tool.proofs.answer.remove.Goals.{In-Success, In-GenerationOverflow, In-InvalidPtr}
 use Rattle.chain_tool.proofs.answer.remove.Goals as goal
 
 pub returns-in-Success-clause-ok : goal.returns-in-Success-clause-ok
-returns-in-Success-clause-ok g c = removes_ok _ _ _ _ _ _ c.push_value.result c.clear.ensures.bytes c.push_value.ensures
+returns-in-Success-clause-ok g c = answers_ok (Removes _ _) _ _ _ _ c.push_value.result c.clear.ensures.bytes c.push_value.ensures
     (removal_answers _ _ (key_of c.args.p) c.in-Success.ensures.state _ (λ v. (c.in-Success.ensures.valid v).0) c.in-Success.ensures.invalid c.in-Success.ensures.overflow)
 
 pub returns-in-Success-clause-err : goal.returns-in-Success-clause-err
-returns-in-Success-clause-err g c = removes_err _ _ _ _ c.push_value.result
+returns-in-Success-clause-err g c = answers_err (Removes _ _) _ _ c.push_value.result
     (removal_answers _ _ (key_of c.args.p) c.in-Success.ensures.state _ (λ v. (c.in-Success.ensures.valid v).0) c.in-Success.ensures.invalid c.in-Success.ensures.overflow)
 
 pub returns-in-GenerationOverflow-clause-ok : goal.returns-in-GenerationOverflow-clause-ok
-returns-in-GenerationOverflow-clause-ok g c = removes_ok _ _ _ _ _ _ c.push_value-in-GenerationOverflow.result c.clear.ensures.bytes c.push_value-in-GenerationOverflow.ensures
+returns-in-GenerationOverflow-clause-ok g c = answers_ok (Removes _ _) _ _ _ _ c.push_value-in-GenerationOverflow.result c.clear.ensures.bytes c.push_value-in-GenerationOverflow.ensures
     (removal_answers _ _ (key_of c.args.p) c.in-GenerationOverflow.ensures.state _ (λ v. (c.in-GenerationOverflow.ensures.valid v).0) c.in-GenerationOverflow.ensures.invalid c.in-GenerationOverflow.ensures.overflow)
 
 pub returns-in-GenerationOverflow-clause-err : goal.returns-in-GenerationOverflow-clause-err
-returns-in-GenerationOverflow-clause-err g c = removes_err _ _ _ _ c.push_value-in-GenerationOverflow.result
+returns-in-GenerationOverflow-clause-err g c = answers_err (Removes _ _) _ _ c.push_value-in-GenerationOverflow.result
     (removal_answers _ _ (key_of c.args.p) c.in-GenerationOverflow.ensures.state _ (λ v. (c.in-GenerationOverflow.ensures.valid v).0) c.in-GenerationOverflow.ensures.invalid c.in-GenerationOverflow.ensures.overflow)
 
 pub returns-in-InvalidPtr-clause-err : goal.returns-in-InvalidPtr-clause-err
-returns-in-InvalidPtr-clause-err g c = removes_err _ _ _ _ c.push_str.result
+returns-in-InvalidPtr-clause-err g c = answers_err (Removes _ _) _ _ c.push_str.result
     (removal_answers _ _ (key_of c.args.p) c.in-InvalidPtr.ensures.state _ (λ v. (c.in-InvalidPtr.ensures.valid v).0) c.in-InvalidPtr.ensures.invalid c.in-InvalidPtr.ensures.overflow)

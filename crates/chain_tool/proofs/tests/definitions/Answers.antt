@@ -1,5 +1,9 @@
-use Rattle.std.proofs.Common.{◌≡◌, ℕ, List, [], Some, refl}
+use Rattle.std.proofs.Common.{◌≡◌, ℕ, List, [], Some, ap, refl}
 use Rattle.std.specs.Prelude.{codes}
+use Rattle.std.specs.Option.{option_map, option_zip}
+use Rattle.chain_arena.specs.declared.kinds.InsertKindBody.TheVariants.{ChainEnd, NextToInx, BridgeInx}
+use Rattle.chain_tool.specs.declared.command.Command.TheVariants.{Add, AddWithin}
+use Rattle.chain_tool.specs.Commands.{line_with}
 use Rattle.chain_tool.specs.Transcripts.{AreComplete, by_line_feed, by_the_end}
 use Rattle.chain_tool.specs.Words.{index_of, generation_of}
 use Rattle.chain_tool.proofs.tests.definitions.Goals as goal
@@ -19,6 +23,22 @@ returns-clause-index_zero c = refl
 pub returns-clause-generation_zero : goal.returns-clause-generation_zero
 unfolding index_of generation_of
 returns-clause-generation_zero c = refl
+
+pub returns-clause-by_pointer : goal.returns-clause-by_pointer
+unfolding index_of generation_of
+returns-clause-by_pointer c = λ p is. ap (λ o. line_with (option_map (λ a. Add a.0 a.1) (option_zip (option_map ChainEnd o) (Some 7)))) is
+
+pub returns-clause-by_index : goal.returns-clause-by_index
+unfolding index_of generation_of
+returns-clause-by_index c = λ i is. ap (λ o. line_with (option_map (λ a. AddWithin a.0 a.1) (option_zip (option_map NextToInx o) (Some 7)))) is
+
+pub returns-clause-by_indexes : goal.returns-clause-by_indexes
+unfolding index_of generation_of
+returns-clause-by_indexes c = λ i j is_i is_j. (λ t. line_with (option_map (λ a. Add a.0 a.1) (option_zip (option_map (λ x. BridgeInx x.0 x.1) (option_zip (is_i t) (is_j t))) (Some 7))))
+
+pub returns-clause-mixed_forms : goal.returns-clause-mixed_forms
+unfolding index_of generation_of
+returns-clause-mixed_forms c = refl
 
 -- of a line still to come nothing is complete
 none_complete : (lines : List (List ℕ)) → AreComplete (codes "add alone 2") (Some (codes "5")) lines → lines ≡ []
