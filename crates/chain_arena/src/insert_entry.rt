@@ -1,14 +1,14 @@
 // An insertion of a link that is made ready before its value.
-ghost use Rattle.std.specs.Prelude.{◌≡◌, ◌≢◌, ◌↔◌, ◌<◌, ◌≤◌, ◌+◌, ◌⊎◌, IsErr, IfOk, IfErr, OnOk, OnErr, IsOk, IsOkAnd, Err, Some};
+ghost use Rattle.std.specs.Prelude.{◌≡◌, ◌≢◌, ◌↔◌, ◌<◌, ◌≤◌, ◌+◌, ◌⊎◌, IsErr, IfOk, IfErr, OnOk, OnErr, IsOk, IsOkAnd, Err};
 ghost use Rattle.std.specs.Borrow.{RestsIfErr, sem};
+ghost use Rattle.std.specs.Option.{option_map};
+ghost use Rattle.arena_ptr.specs.Numbers.{IsWithin};
 ghost use Rattle.arena_ptr.specs.SlotStack.{IsBeyond};
 ghost use Rattle.chain_laws.specs.Insertions.{IsGap, link_before, link_after};
-ghost use Rattle.arena_ptr.specs.Numbers.{IsWithin};
-ghost use Rattle.std.specs.Option.{option_map};
 ghost use Rattle.arena_base.specs.Arena.{entry_count, next_index, with_capacity_of, IsRoom};
 ghost use Rattle.chain_arena.specs.ChainArena.{entry, seen, shown, insert_between};
 ghost use Rattle.chain_arena.specs.Insertions.{IsInsertionBetween, index_from};
-ghost use Rattle.chain_arena.specs.Kinds.{before_in, after_in, names_in, by_index, IsGapOf, MayInsert};
+ghost use Rattle.chain_arena.specs.Kinds.{before_in, after_in, names_in, by_index, MayInsert};
 
 use crate::chain_arena::ChainArena;
 use crate::gaps::Gap;
