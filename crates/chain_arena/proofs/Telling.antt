@@ -2,18 +2,17 @@
 use Rattle.std.proofs.Common.{◌≡◌, ℕ, ◌+◌, Option, None, Some, refl, ap, sym, ◌∙◌, subst, subst₂}
 use Rattle.chain_laws.specs.Chains.{Shown, Agrees}
 use Rattle.chain_laws.specs.Operations.{with_lone, linked}
-use Rattle.chain_laws.specs.Insertions.{InsertKind, disconnected, CanInsert, IsGap, link_before, link_after, inserted, InsertsPairs, Inserts}
+use Rattle.chain_laws.specs.Insertions.{InsertKind, CanInsert, IsGap, link_before, link_after, inserted, InsertsPairs, Inserts}
 use Rattle.chain_laws.proofs.InsertionPairs.{kind_gap, inserted_agrees, inserted_in_pairs}
 use Rattle.chain_laws.proofs.Inserting.{inserted_inserts}
-use Rattle.chain_laws.proofs.InsertionWrites.{alone_by_writes}
 use Rattle.arena_base.specs.Arena.{Arena, without_first, IsListed, entry_count, first_or_next, next_index, insert_next, with_capacity_of}
 use Rattle.arena_base.specs.Entries.{Slots, seen_of, count}
 use Rattle.arena_base.proofs.Seeing.{length-entries}
-use Rattle.chain_arena.specs.ChainArena.{LinkSeen, value_in, values_of, seen, entry, shown, relinked, lone, insert_lone, insert_between, insert_as}
+use Rattle.chain_arena.specs.ChainArena.{LinkSeen, value_in, values_of, seen, entry, shown, lone, insert_lone, insert_between, insert_as}
 use Rattle.chain_arena.specs.Insertions.{IsInsertion, IsInsertionBetween}
 use Rattle.chain_arena.proofs.Mapping.{with_each-insert_next, length-with_each, listed-with_each, entry_count-with_each}
 use Rattle.chain_arena.proofs.Inserting.{shown-insert_lone, shown-next, inserted_at, length-filled}
-use Rattle.chain_arena.proofs.Relinking.{FitsLinks, FitsLinks-shown, FitsLinks-next_set, FitsLinks-prev_set, relinked-own, shown-relinked, values_of-relinked}
+use Rattle.chain_arena.proofs.Relinking.{FitsLinks, FitsLinks-shown, FitsLinks-next_set, FitsLinks-prev_set, shown-relinked, values_of-relinked}
 
 -- the gap of a kind that may be inserted
 pub gap_told : (interlinks : Shown) (kind : InsertKind ℕ) (q : ℕ) {u v : Option ℕ} → u ≡ link_before interlinks kind q → v ≡ link_after interlinks kind q
@@ -40,10 +39,6 @@ module _ {Gen T : Type 0} (a : Arena Gen (LinkSeen T)) (t : T) (listed : IsListe
   pub agrees-insert_between : (u v : Option ℕ) → Agrees (shown a) → IsGap (shown a) (next_index a) u v → Agrees (shown (insert_between a t u v))
   agrees-insert_between u v agrees gap =
       subst Agrees (sym (shown-insert_between u v)) (inserted_agrees (shown a) (next_index a) u v agrees (shown-next a listed.free) gap)
-
-  -- a link of no neighbours is a lone one
-  pub lone_inserted : insert_as a disconnected t ≡ insert_lone a t
-  lone_inserted = ap (relinked (insert_lone a t)) (alone_by_writes (shown a) (next_index a) ∙ sym (shown-insert_lone a t listed.free)) ∙ sym (relinked-own (insert_lone a t))
 
   next_index-values_of : next_index (values_of a) ≡ next_index a
   next_index-values_of = ap (first_or_next a.freed) (length-with_each value_in a)
