@@ -3,7 +3,7 @@ use Rattle.std.specs.Prelude.{◌≡◌, ℕ, ◌⊎◌, List, [], ◌∷◌, �
 use Rattle.std.proofs.Common.{sym, refl, ap, ◌∙◌, subst, inl, inr}
 use mathlib.Core.Path.{fun_ext}
 use Rattle.chain_laws.specs.Chains.{Shown, Interlinks, Chain, linear, cyclic, items, IsChain, IsValid, IsWithin, Agrees, Has, Stands, prev_of, next_of, first_or, last_or}
-use Rattle.chain_laws.specs.Operations.{joined, with_lone, Connects, AddsLone, HaveSameChains, ChainsDecide, PairsDecide, JoinIsDetermined, LoneIsDetermined}
+use Rattle.chain_laws.specs.Operations.{joined, with_lone, Connects, AddsLone, KeepsChainsWithout, HaveSameChains, ChainsDecide, PairsDecide, JoinIsDetermined, LoneIsDetermined}
 use Rattle.chain_laws.proofs.Neighboring.{same_named}
 use Rattle.chain_laws.proofs.Members.{Has-left, Has-middle, Has-written, Has-or_not, last_or-filled, last_or-append}
 use Rattle.chain_laws.proofs.Standing.{Stands-at, shows_next, shows_prev, shows_both}
@@ -42,6 +42,29 @@ chain_elsewhere left right (cyclic (x ∷ xs)) (cyclic ys) i c d there h k =
         let that : IsChain right (cyclic (x ∷ after ++ before)) = turned right before (x ∷ after) (subst (λ (zs : List ℕ). IsChain right (cyclic zs)) e there) in
         subst (λ (zs : List ℕ). IsChain right (cyclic (x ∷ zs))) (sym (one_cyclic left x xs (after ++ before) c here)) that
 
+-- what holds of an arena says which chains have a and b in it
+pub record Settles (Holds : Shown → Type 0) (a b : ℕ) : Type 0 where
+  pub left : Chain
+  pub right : Chain
+  pub has_a : Has (items left) a
+  pub has_b : Has (items right) b
+  pub left_stands : (new : Shown) → Holds new → IsChain new left
+  pub right_stands : (new : Shown) → Holds new → IsChain new right
+
+-- two arenas of which it holds have the same chains, where each chain with neither stays
+pub settled : (old one other : Shown) (Holds : Shown → Type 0) (a b : ℕ) → ((new : Shown) → Holds new → KeepsChainsWithout old new a b)
+    → Settles Holds a b → Holds one → Holds other → HaveSameChains one other
+settled old one other Holds a b keeps settles m n c = (alike one other m n, alike other one n m)
+  where
+    alike : (left right : Shown) → Holds left → Holds right → IsChain left c → IsChain right c
+    alike left right l r chain = by (Has-or_not (items c) a) (Has-or_not (items c) b)
+      where
+        by : Has (items c) a ⊎ (Has (items c) a → ⊥) → Has (items c) b ⊎ (Has (items c) b → ⊥) → IsChain right c
+        by (inl h) _ = chain_elsewhere left right c settles.left a chain (settles.left_stands left l) (settles.left_stands right r) h settles.has_a
+        by (inr none_a) (inl h) =
+            chain_elsewhere left right c settles.right b chain (settles.right_stands left l) (settles.right_stands right r) h settles.has_b
+        by (inr none_a) (inr none_b) = (keeps right r c none_a none_b).0 ((keeps left l c none_a none_b).1 chain)
+
 -- the chain of an index with none after it is linear and ends there
 pub end_chain : (shown : Shown) (a : ℕ) → ChainOf shown a → next_of shown a ≡ None → (x : List ℕ) × IsChain shown (linear (x ++ a ∷ []))
 end_chain shown a (chain_of (linear xs) chain has) end = let w = Has-written xs a has in by w.0 w.1 w.2
@@ -78,47 +101,30 @@ start_chain shown b (chain_of (cyclic xs) chain has) start =
     absurd (cc)
 
 -- the chain of a and b wherever they are connected
-connected_chain : (old : Shown) (a b : ℕ) (x y : List ℕ) → IsChain old (linear (x ++ a ∷ [])) → IsChain old (linear (b ∷ y))
-    → (d : Chain) × Has (items d) a × Has (items d) b × ((new : Shown) → Connects old new a b → IsChain new d)
-connected_chain old a b x y left right = by (Has-or_not (x ++ a ∷ []) b)
+connected : (old : Shown) (a b : ℕ) (x y : List ℕ) → IsChain old (linear (x ++ a ∷ [])) → IsChain old (linear (b ∷ y))
+    → Settles (λ (new : Shown). Connects old new a b) a b
+connected old a b x y left right = by (Has-or_not (x ++ a ∷ []) b)
   where
-    by : Has (x ++ a ∷ []) b ⊎ (Has (x ++ a ∷ []) b → ⊥) → (d : Chain) × Has (items d) a × Has (items d) b × ((new : Shown) → Connects old new a b → IsChain new d)
-    by (inl h) =
-        let same : x ++ a ∷ [] ≡ b ∷ y = one_linear old (x ++ a ∷ []) (b ∷ y) b left right h (inl refl) in (
-          cyclic (x ++ a ∷ []),
-          Has-middle x [] a,
-          h,
-          λ new connects. connects.one (x ++ a ∷ []) left (ap (λ (zs : List ℕ). first_or zs None) same) (last_or-append x (a ∷ []) None),
-        )
-    by (inr none) = (
-      linear ((x ++ a ∷ []) ++ b ∷ y),
-      Has-left (x ++ a ∷ []) (b ∷ y) a (Has-middle x [] a),
-      Has-middle (x ++ a ∷ []) y b,
-      λ new connects. connects.two x y left right none,
-    )
+    in_one : (d : Chain) → Has (items d) a → Has (items d) b → ((new : Shown) → Connects old new a b → IsChain new d)
+        → Settles (λ (new : Shown). Connects old new a b) a b
+    in_one d has_a has_b stands = record { left = d; right = d; has_a = has_a; has_b = has_b; left_stands = stands; right_stands = stands }
 
--- two arenas in which a and b are connected have the same chains
-connected_alike : (old left right : Shown) (a b : ℕ) (d : Chain) → Connects old left a b → Connects old right a b
-    → IsChain left d → IsChain right d → Has (items d) a → Has (items d) b → (c : Chain) → IsChain left c → IsChain right c
-connected_alike old left right a b d l r in_left in_right has_a has_b c chain = by (Has-or_not (items c) a) (Has-or_not (items c) b)
-  where
-    by : Has (items c) a ⊎ (Has (items c) a → ⊥) → Has (items c) b ⊎ (Has (items c) b → ⊥) → IsChain right c
-    by (inl h) _ = chain_elsewhere left right c d a chain in_left in_right h has_a
-    by (inr none_a) (inl h) = chain_elsewhere left right c d b chain in_left in_right h has_b
-    by (inr none_a) (inr none_b) = (r.rest c none_a none_b).0 ((l.rest c none_a none_b).1 chain)
+    by : Has (x ++ a ∷ []) b ⊎ (Has (x ++ a ∷ []) b → ⊥) → Settles (λ (new : Shown). Connects old new a b) a b
+    by (inl h) =
+        let same : x ++ a ∷ [] ≡ b ∷ y = one_linear old (x ++ a ∷ []) (b ∷ y) b left right h (inl refl) in
+        in_one (cyclic (x ++ a ∷ [])) (Has-middle x [] a) h
+        (λ new connects. connects.one (x ++ a ∷ []) left (ap (λ (zs : List ℕ). first_or zs None) same) (last_or-append x (a ∷ []) None))
+    by (inr none) =
+        in_one (linear ((x ++ a ∷ []) ++ b ∷ y)) (Has-left (x ++ a ∷ []) (b ∷ y) a (Has-middle x [] a)) (Has-middle (x ++ a ∷ []) y b)
+        (λ new connects. connects.two x y left right none)
 
 -- what connects an end and a start has the chains of their join
 pub join_is_determined : JoinIsDetermined
-join_is_determined old new slots a b agrees within ends connects c =
+join_is_determined old new slots a b agrees within ends connects =
     let x = end_chain old a (has_chain old slots agrees within a ends.valid_end) ends.end in
     let y = start_chain old b (has_chain old slots agrees within b ends.valid_start) ends.start in
-    let d = connected_chain old a b x.0 y.0 x.1 y.1 in
-    let join = joined_connects old a b in
-    let in_new = d.3 new connects in
-    let in_join = d.3 (joined old a b) join in (
-      connected_alike old new (joined old a b) a b d.0 connects join in_new in_join d.1 d.2 c,
-      connected_alike old (joined old a b) new a b d.0 join connects in_join in_new d.1 d.2 c,
-    )
+    settled old new (joined old a b) (λ (s : Shown). Connects old s a b) a b (λ s made. made.rest)
+    (connected old a b x.0 y.0 x.1 y.1) connects (joined_connects old a b)
 
 -- two arenas to which q comes alone have the same chains
 added_alike : (old left right : Shown) (q : ℕ) → AddsLone old left q → AddsLone old right q → (c : Chain) → IsChain left c → IsChain right c

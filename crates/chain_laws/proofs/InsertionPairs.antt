@@ -14,12 +14,12 @@ use Rattle.chain_laws.proofs.Between.{Puts, IsRoom, puts_pairs, puts_undo}
 use Rattle.chain_laws.proofs.Determined.{pairs_decide}
 
 -- the place of a change at an index, where it is one ..
-put_at-same : (f : ℕ → Option ℕ) (u o : Option ℕ) (j : ℕ) → u ≡ Some j → put_at f u o j ≡ o
+pub put_at-same : (f : ℕ → Option ℕ) (u o : Option ℕ) (j : ℕ) → u ≡ Some j → put_at f u o j ≡ o
 put_at-same f None o j e = absurd (cc)
 put_at-same f (Some i) o j e = put-same f i o j (sym (one_some e))
 
 -- .. and any other place
-put_at-other : (f : ℕ → Option ℕ) (u o : Option ℕ) (j : ℕ) → u ≢ Some j → put_at f u o j ≡ f j
+pub put_at-other : (f : ℕ → Option ℕ) (u o : Option ℕ) (j : ℕ) → u ≢ Some j → put_at f u o j ≡ f j
 put_at-other f None o j ne = refl
 put_at-other f (Some i) o j ne = put-other f i o j (λ e. ne (ap Some (sym e)))
 

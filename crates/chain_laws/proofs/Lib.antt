@@ -16,6 +16,7 @@ pub mod Passing
 pub mod Skipping
 pub mod RemovalPairs
 pub mod Removing
+pub mod Draining
 pub mod Determined
 pub mod Shortening
 pub mod CutPairs
@@ -26,9 +27,14 @@ pub mod InsertionPairs
 pub mod Restoring
 pub mod Inserting
 pub mod Lengthening
+pub mod Swapping
+pub mod ExchangePairs
+pub mod Exchanging
+pub mod Crossing
 pub mod OperationRows
 pub mod RemovalRows
 pub mod CutRows
 pub mod InsertionWrites
 pub mod InsertionRows
+pub mod ExchangeRows
 pub mod Rows

@@ -1,19 +1,19 @@
 -- What a cut does to the chains: a linear one becomes two, and a cyclic one linear; no choice is left.
-use Rattle.std.specs.Prelude.{◌≡◌, ◌≢◌, ◌↔◌, ℕ, ◌⊎◌, List, [], ◌∷◌, ◌++◌, Option, None, Some}
-use Rattle.std.proofs.Common.{sym, refl, ap, ◌∙◌, subst, inl, inr, ⊎_elim}
+use Rattle.std.specs.Prelude.{◌≡◌, ◌≢◌, ◌↔◌, ℕ, List, [], ◌∷◌, ◌++◌, Option, None, Some}
+use Rattle.std.proofs.Common.{sym, refl, ap, ◌∙◌, subst, inl, ⊎_elim}
 use Rattle.std.proofs.lemmas.List.{append_assoc}
 use Rattle.chain_laws.specs.Chains.{Shown, Chain, linear, cyclic, items, IsChain, Agrees, Has, HasNoRepetition, Stands, prev_of, first_or, last_or}
 use Rattle.chain_laws.specs.Neighbors.{AreNeighbors}
 use Rattle.chain_laws.specs.Operations.{prev_set, next_set, linked}
 use Rattle.chain_laws.specs.Cuts.{cut, Cuts, CutIsDetermined}
 use Rattle.chain_laws.proofs.Agreement.{one_some}
-use Rattle.chain_laws.proofs.Members.{Has-written, Has-middle, Has-filled, Has-or_not, last_or-append, last_or-Has, HasNoRepetition-left, HasNoRepetition-right, HasNoRepetition-apart}
+use Rattle.chain_laws.proofs.Members.{Has-written, Has-middle, Has-filled, last_or-append, last_or-Has, HasNoRepetition-left, HasNoRepetition-right, HasNoRepetition-apart}
 use Rattle.chain_laws.proofs.Standing.{Stands-left, Stands-right, Stands-at, shows_next, shows_prev, next_valid}
 use Rattle.chain_laws.proofs.Unique.{chain_closed}
 use Rattle.chain_laws.proofs.Turning.{turned_to}
 use Rattle.chain_laws.proofs.Exists.{ChainOf, chain_of, has_chain}
 use Rattle.chain_laws.proofs.Gluing.{IsApart, IsApart-Some, Stands-next_set, Stands-prev_set, Stands-next_of_last, Stands-prev_of_first, IsChain-linked}
-use Rattle.chain_laws.proofs.Determined.{chain_elsewhere}
+use Rattle.chain_laws.proofs.Determined.{Settles, settled}
 
 -- the two parts of a linear list that is cut after its left part
 parts_stand : (shown : Shown) (a b : ℕ) (xs y : List ℕ) → xs ≢ [] → last_or xs None ≡ Some a → HasNoRepetition (xs ++ b ∷ y) → Stands shown None (xs ++ b ∷ y) None
@@ -74,13 +74,8 @@ pub cut_cuts : (shown : Shown) (a b : ℕ) → Cuts shown (cut shown a b) a b
 cut_cuts shown a b = record { two = cut_two shown a b; one = cut_one shown a b; rest = cut_rest shown a b }
 
 -- the chains of a and of b wherever they are cut apart
-record Parted (old : Shown) (a b : ℕ) : Type 0 where
-  left : Chain
-  right : Chain
-  has_a : Has (items left) a
-  has_b : Has (items right) b
-  left_stands : (new : Shown) → Cuts old new a b → IsChain new left
-  right_stands : (new : Shown) → Cuts old new a b → IsChain new right
+abbrev Parted : Shown → ℕ → ℕ → Type 0
+Parted old a b = Settles (λ (new : Shown). Cuts old new a b) a b
 
 -- a cyclic chain that is written from b, of which a is the last
 parted_ring : (old : Shown) (a b : ℕ) (rest : List ℕ) → IsChain old (cyclic (b ∷ rest)) → prev_of old b ≡ Some a → Has (b ∷ rest) a → Parted old a b
@@ -123,18 +118,8 @@ parted old a b agrees pair (chain_of (cyclic xs) chain has) =
     let t = turned_to old xs b chain (closed.forth a b has pair) in
     parted_ring old a b t.0 t.1 ((agrees.both a b).0 pair) ((t.2 a).0 has)
 
--- two arenas in which a and b are cut apart have the same chains
-cut_alike : (old left right : Shown) (a b : ℕ) → Parted old a b → Cuts old left a b → Cuts old right a b → (c : Chain) → IsChain left c → IsChain right c
-cut_alike old left right a b parts l r c chain = by (Has-or_not (items c) a) (Has-or_not (items c) b)
-  where
-    by : Has (items c) a ⊎ (Has (items c) a → ⊥) → Has (items c) b ⊎ (Has (items c) b → ⊥) → IsChain right c
-    by (inl h) _ = chain_elsewhere left right c parts.left a chain (parts.left_stands left l) (parts.left_stands right r) h parts.has_a
-    by (inr none_a) (inl h) = chain_elsewhere left right c parts.right b chain (parts.right_stands left l) (parts.right_stands right r) h parts.has_b
-    by (inr none_a) (inr none_b) = (r.rest c none_a none_b).0 ((l.rest c none_a none_b).1 chain)
-
 -- what cuts two neighbours apart has the chains of their cut
 pub cut_is_determined : CutIsDetermined
-cut_is_determined old new slots a b agrees within pair cuts c =
-    let parts = parted old a b agrees pair (has_chain old slots agrees within a (next_valid old a b pair)) in
-    let that = cut_cuts old a b in
-    (cut_alike old new (cut old a b) a b parts cuts that c, cut_alike old (cut old a b) new a b parts that cuts c)
+cut_is_determined old new slots a b agrees within pair cuts =
+    settled old new (cut old a b) (λ (s : Shown). Cuts old s a b) a b (λ s made. made.rest)
+    (parted old a b agrees pair (has_chain old slots agrees within a (next_valid old a b pair))) cuts (cut_cuts old a b)

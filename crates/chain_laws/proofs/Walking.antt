@@ -32,7 +32,7 @@ passes_back (suc left) shown start (z ∷ zs) back enough =
     ap (λ (w : List ℕ). z ∷ w) (ap (λ (o : Option ℕ). ahead left shown start None o) back.0 ∙ passes_back left shown start zs back.1 (omega arith))
 
 -- a walker that sees another link than its first goes on to it ..
-going_on-other : (start k : ℕ) → k ≢ start → going_on start (Some k) ≡ Some k
+pub going_on-other : (start k : ℕ) → k ≢ start → going_on start (Some k) ≡ Some k
 going_on-other start k ne = if_other k start None (Some k) ne
 
 -- .. and may still go back from the end

@@ -1,5 +1,6 @@
 pub mod Chains
 pub mod Cuts
+pub mod Exchanges
 pub mod Insertions
 pub mod Neighbors
 pub mod Operations

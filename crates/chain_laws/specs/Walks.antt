@@ -1,6 +1,8 @@
 -- The walk from a link through its chain.
-use Rattle.std.specs.Prelude.{◌≡◌, ◌↔◌, ℕ, zero, suc, ◌==◌, if◌then◌else◌, List, [], ◌∷◌, ◌++◌, reverse, Option, None, Some}
-use Rattle.chain_laws.specs.Chains.{Shown, Chain, linear, cyclic, items, Has, HasNoRepetition, IsChain, IsValid, IsWithin, Agrees, prev_of, next_of}
+use Rattle.std.specs.Prelude.{◌≡◌, ◌↔◌, ℕ, zero, suc, ◌==◌, if◌then◌else◌, List, [], ◌∷◌, ◌++◌, reverse, Option, None, Some, is_some}
+use Rattle.std.specs.Option.{option_or}
+use Rattle.chain_laws.specs.Chains.{Shown, Chain, linear, cyclic, items, Has, HasNoRepetition, IsChain, IsValid, IsWithin, Agrees, first_or, prev_of, next_of}
+use Rattle.chain_laws.specs.Removals.{removed}
 
 -- from i: in a linear chain on to the end, and then from the link before i back to the start; in a cyclic one once round
 pub data IsWalk (shown : Shown) (i : ℕ) : List ℕ → Type 0 where
@@ -24,6 +26,21 @@ ahead (suc left) shown start (Some j) back = j ∷ ahead left shown start (going
 ahead (suc left) shown start None (Some k) = k ∷ ahead left shown start None (prev_of shown k)
 ahead (suc left) shown start None None = []
 
+-- a walker: how many steps it still makes at most, where it began, and where it goes, forth and then back
+pub record Walker : Type 0 where
+  pub left : ℕ
+  pub start : ℕ
+  pub forth : Option ℕ
+  pub back : Option ℕ
+
+-- what it still passes where nothing changes
+abbrev pub passes_ahead : Shown → Walker → List ℕ
+passes_ahead shown w = ahead w.left shown w.start w.forth w.back
+
+-- a walker that stands before the link at i
+abbrev pub walker_at : Shown → ℕ → ℕ → Walker
+walker_at shown left i = record { left = left; start = i; forth = Some i; back = prev_of shown i }
+
 -- a walker passes the walk
 abbrev pub WalksAhead : Type 0
 WalksAhead = (shown : Shown) (slots i : ℕ) → Agrees shown → IsWithin shown slots → IsValid shown i
@@ -41,3 +58,36 @@ PassesEachOnce = (shown : Shown) (i : ℕ) (walk : List ℕ) → IsWalk shown i 
 abbrev pub PassesTheChain : Type 0
 PassesTheChain = (shown : Shown) (i : ℕ) (walk : List ℕ) (c : Chain) → IsWalk shown i walk → IsChain shown c → Has (items c) i
     → (j : ℕ) → Has walk j ↔ Has (items c) j
+
+-- where a walk goes on whose first link is removed: to the link after it, or else to the one before it; nowhere, where there is no other
+abbrev pub goes_on : ℕ → Option ℕ → Option ℕ → Option ℕ
+goes_on i before after = option_or (going_on i after) (going_on i before)
+
+abbrev pub goes_on_to : Shown → ℕ → Option ℕ
+goes_on_to shown i = goes_on i (prev_of shown i) (next_of shown i)
+
+-- once its first link is removed, the rest of a walk is the walk from there
+abbrev pub RemovalLeavesTheWalk : Type 0
+RemovalLeavesTheWalk = (shown : Shown) (i : ℕ) (rest : List ℕ) → IsWalk shown i (i ∷ rest)
+    → (first_or rest None ≡ goes_on_to shown i) × ((k : ℕ) → first_or rest None ≡ Some k → IsWalk (removed shown i) k rest)
+
+-- the walk from i in an arena of so many slots, if i is an index and a link stands there
+abbrev pub walk_from : ℕ → Shown → Option ℕ → List ℕ
+walk_from slots shown None = []
+walk_from slots shown (Some i) = if is_some (shown i) then ahead slots shown i (Some i) (prev_of shown i) else []
+
+-- the links at these indexes are removed, one after another
+abbrev pub removed_each : Shown → List ℕ → Shown
+removed_each shown [] = shown
+removed_each shown (i ∷ rest) = removed_each (removed shown i) rest
+
+-- the links of a walk are gone, and nothing else has changed
+pub record TakesWalk (old new : Shown) (walk : List ℕ) : Type 0 where
+  pub gone : (j : ℕ) → Has walk j → new j ≡ None
+  pub rest : (j : ℕ) → (Has walk j → ⊥) → new j ≡ old j
+  -- the chains are the old ones that have no link of the walk, item for item
+  pub chains : (c : Chain) → IsChain new c ↔ (IsChain old c × ((j : ℕ) → Has walk j → Has (items c) j → ⊥))
+
+-- the links of a walk, removed in its order, are taken
+abbrev pub WalkIsTaken : Type 0
+WalkIsTaken = (shown : Shown) (i : ℕ) (walk : List ℕ) → IsWalk shown i walk → TakesWalk shown (removed_each shown walk) walk

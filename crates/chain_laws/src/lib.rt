@@ -3,6 +3,7 @@
 #![tactic(auto)]
 
 pub mod cutting;
+pub mod exchange;
 pub mod insertion;
 pub mod operations;
 pub mod partition;

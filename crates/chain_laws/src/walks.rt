@@ -1,6 +1,6 @@
 //! Walks: that a walker passes the walk from any link, and what the walk is.
 
-ghost use Rattle.chain_laws.specs.Walks.{WalksAhead, HasNoOtherWalk, PassesEachOnce, PassesTheChain};
+ghost use Rattle.chain_laws.specs.Walks.{WalksAhead, HasNoOtherWalk, PassesEachOnce, PassesTheChain, RemovalLeavesTheWalk, WalkIsTaken};
 
 /// From any link, a walker that follows `next` to the end and then `prev` from its start, or comes round, passes a walk.
 pub fn walker_passes_the_walk()
@@ -20,4 +20,14 @@ pub fn walk_passes_each_once()
 /// A walk passes each link of its chain and no others.
 pub fn walk_passes_the_chain()
     ensures { PassesTheChain }
+{}
+
+/// Once the first link of a walk is removed, the rest is the walk from the link after it, or else from the one before it.
+pub fn removal_leaves_the_walk()
+    ensures { RemovalLeavesTheWalk }
+{}
+
+/// The links of a walk, removed one after another, are gone, and every other chain stays, item for item.
+pub fn walk_is_taken()
+    ensures { WalkIsTaken }
 {}

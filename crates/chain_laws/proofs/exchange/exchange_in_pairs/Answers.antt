@@ -1,0 +1,5 @@
+use Rattle.chain_laws.proofs.ExchangePairs.{exchanged_in_pairs}
+use Rattle.chain_laws.proofs.exchange.exchange_in_pairs.Goals as goal
+
+pub returns : goal.returns
+returns c = exchanged_in_pairs

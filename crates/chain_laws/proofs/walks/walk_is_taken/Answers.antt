@@ -1,0 +1,5 @@
+use Rattle.chain_laws.proofs.Draining.{walk_is_taken}
+use Rattle.chain_laws.proofs.walks.walk_is_taken.Goals as goal
+
+pub returns : goal.returns
+returns c = walk_is_taken
