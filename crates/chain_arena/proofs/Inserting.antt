@@ -107,6 +107,11 @@ module _ {Gen T : Type 0} where
         rest = λ i other. entries i ∙ if_other i (next_index a) _ _ other;
       })
 
+module _ {Gen T : Type 0} where
+  -- there are as many values as links
+  pub values-count : (a : Arena Gen (LinkSeen T)) → length (entries (values_of a)) ≡ entry_count a
+  values-count a = length-entries (values_of a) ∙ entry_count-with_each value_in a
+
 module _ {Gen K T : Type 0} (number : K → Option ℕ) where
   -- an insertion, seen
   pub seen_links-insert_next : (a : Arena Gen (LinkBody K T)) (link : LinkBody K T) → seen_links number (insert_next a link) ≡ insert_next (seen_links number a) (seen_link number link)
@@ -130,4 +135,4 @@ module _ {Gen K T : Type 0} (number : K → Option ℕ) where
 
   -- how many values there are
   pub count-values : (a : Arena Gen (LinkBody K T)) → length (entries (values_of (seen_links number a))) ≡ entry_count a
-  count-values a = length-entries (values_of (seen_links number a)) ∙ (entry_count-with_each value_in (seen_links number a) ∙ entry_count-seen_links a)
+  count-values a = values-count (seen_links number a) ∙ entry_count-seen_links a

@@ -6,10 +6,9 @@ use denote.MutBor.{MutBor}
 use Rattle.arena_base.specs.Arena.{Arena, entry_at, IsValid}
 use Rattle.chain_arena.specs.declared.links.LinkBody.{LinkBody}
 use Rattle.chain_arena.specs.ChainArena.{on_value, values_of}
-use Rattle.chain_arena.specs.Links.{seen_links}
+use Rattle.chain_arena.specs.Links.{held_in, seen_links}
 use Rattle.chain_arena.proofs.Connecting.{value_at}
 use Rattle.chain_arena.proofs.Mapping.{IsValidPtr}
-use Rattle.chain_arena.proofs.Valuing.{held_in}
 
 module _ {Gen K T : Type 0} (number : K → Option ℕ) where
   -- the value at an index is that of the link there

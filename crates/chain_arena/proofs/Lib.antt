@@ -1,4 +1,7 @@
+pub mod Advancing
 pub mod Connecting
+pub mod Cutting
+pub mod Draining
 pub mod Inserting
 pub mod Iterating
 pub mod Lending

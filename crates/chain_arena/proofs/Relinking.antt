@@ -98,6 +98,18 @@ module _ {Gen T : Type 0} where
       ∙ (ap (λ (m : Shown). relinked (relinked a (next_set (shown a) u v)) (prev_set m v u)) (shown-relinked a (next_set (shown a) u v) fits)
       ∙ relinked-again a (next_set (shown a) u v) (linked (shown a) u v) fits))
 
+  -- .. and two pairs of writes, one after another, two links
+  pub linked_twice : (a b c : Arena Gen (LinkSeen T)) (u v w x : Option ℕ) → b ≡ relinked a (linked (shown a) u v) → c ≡ relinked b (linked (shown b) w x)
+      → c ≡ relinked a (linked (linked (shown a) u v) w x)
+  linked_twice a b c u v w x first second =
+      let one : Shown = linked (shown a) u v in
+      let fits : FitsLinks one a = FitsLinks-linked a u v in
+      second ∙ (ap (λ (y : Arena Gen (LinkSeen T)). relinked y (linked (shown y) w x)) first
+      ∙ (ap (λ (m : Shown). relinked (relinked a one) (linked m w x)) (shown-relinked a one fits) ∙ relinked-again a one (linked one w x) fits))
+
+  pub FitsLinks-twice : (a : Arena Gen (LinkSeen T)) (u v w x : Option ℕ) → FitsLinks (linked (linked (shown a) u v) w x) a
+  FitsLinks-twice a u v w x = FitsLinks-prev_set a (next_set (linked (shown a) u v) w x) x w (FitsLinks-next_set a (linked (shown a) u v) w x (FitsLinks-linked a u v))
+
 -- the interlinks were changed in a link that was written
 abbrev pub IsWrite : {K T : Type 0} → (K → Option ℕ) → (LinkBody K T → LinkBody K T) → (Interlinks → Interlinks) → Type 0
 IsWrite {K} {T} number write change = (l : LinkBody K T) → seen_link number (write l) ≡ with_interlinks (change (interlinks_in (seen_link number l))) (seen_link number l)

@@ -13,13 +13,12 @@ use Rattle.arena_base.specs.Entries.{seen_of}
 use Rattle.arena_base.specs.Entries.{removed as seen_removed}
 use Rattle.chain_arena.specs.ChainArena.{on_value, LinkSeen, value_in, with_value_in, shown, relinked, interlinks_of, values_of, with_value_at, remove_link, link_at, IsRemoval}
 use Rattle.chain_arena.specs.declared.links.LinkBody.{LinkBody}
-use Rattle.chain_arena.specs.Links.{seen_link, seen_links, seen_pair}
+use Rattle.chain_arena.specs.Links.{held_in, seen_link, seen_links, seen_pair}
 use Rattle.chain_arena.proofs.Connecting.{link_at-seen}
 use Rattle.arena_base.proofs.Seeing as seeing
 use Rattle.chain_arena.proofs.Inserting.{map-if}
 use Rattle.chain_arena.proofs.Mapping.{with_each-remove_at, entry_at-with_each, generation_is}
 use Rattle.chain_arena.proofs.Seeing.{slot_at-changed, entry_at-seen_links}
-use Rattle.chain_arena.proofs.Valuing.{held_in}
 use Rattle.chain_arena.proofs.Relinking.{is_some-map, FitsLinks, FitsLinks-linked, shown-relinked, values_of-relinked}
 
 same_if : {X : Type 0} (b : Bool) (x y : X) → x ≡ y → (if b then x else y) ≡ y

@@ -10,16 +10,12 @@ use Rattle.arena_base.specs.declared.look.Look.{Look}
 use Rattle.arena_base.specs.declared.look.Look.TheVariants.{Up, Down, Nowhere}
 use Rattle.chain_arena.specs.ChainArena.{on_value, with_each, value_in, values_of}
 use Rattle.chain_arena.specs.declared.links.LinkBody.{LinkBody}
-use Rattle.chain_arena.specs.Links.{seen_links, seen_pair}
-
--- the value of a link
-abbrev pub held_in : {K T : Type 0} → LinkBody K T → T
-held_in link = link.t
+use Rattle.chain_arena.specs.Links.{seen_link, held_in, held_entries, seen_links, seen_pair, seen_entries}
 
 module _ {Gen X Y : Type 0} (f : X → Y) where
   -- an entry with something else for its value
   abbrev on_entry : (ℕ × Gen) × X → (ℕ × Gen) × Y
-  on_entry e = (e.0, f e.1)
+  on_entry e = on_value f e
 
   entries_from-map : (i : ℕ) (slots : List (Option (Gen × X))) → entries_from i (map (option_map (on_value f)) slots) ≡ map on_entry (entries_from i slots)
   entries_from-map i [] = refl
@@ -83,3 +79,10 @@ module _ {Gen K T : Type 0} (number : K → Option ℕ) where
     twice [] = refl
     twice (None ∷ slots) = ap (λ rest. None ∷ rest) (twice slots)
     twice (Some e ∷ slots) = ap (λ rest. Some (e.0, e.1.t) ∷ rest) (twice slots)
+
+  -- the entries of an arena of links, seen, and their values
+  pub seen_entries-all : (a : Arena Gen (LinkBody K T)) → seen_entries number (entries a) ≡ entries (seen_links number a)
+  seen_entries-all a = sym (entries-with_each (seen_link number) a)
+
+  pub held_entries-all : (a : Arena Gen (LinkBody K T)) → held_entries (entries a) ≡ entries (values_of (seen_links number a))
+  held_entries-all a = sym (entries-with_each held_in a) ∙ ap (λ v. entries v) (values_of-seen_links a)

@@ -1,9 +1,11 @@
 -- The state of a chain arena: an arena of links.
-use Rattle.std.specs.Prelude.{◌≡◌, ◌≢◌, ℕ, suc, List, [], ◌∷◌, map, All, Option, None, Some}
+use Rattle.std.specs.Prelude.{◌≡◌, ◌≢◌, ℕ, suc, List, [], ◌∷◌, map, All, IsSome, Option, None, Some}
 use Rattle.std.specs.Option.{option_map, option_and_then}
 use Rattle.chain_laws.specs.Chains.{Shown, Interlinks, prev_of, next_of}
 use Rattle.chain_laws.specs.Walks.{IsWalk}
 use Rattle.chain_laws.specs.Removals.{removed, Removes, RemovesPairs}
+use Rattle.chain_laws.specs.Cuts.{cut, Cuts, TakesPair}
+use Rattle.chain_laws.specs.Exchanges.{exchanged, Exchanges, ExchangesPairs}
 use Rattle.chain_laws.specs.Operations.{next_set, prev_set}
 use Rattle.chain_laws.specs.Insertions.{InsertKind, inserted, inserted_as}
 use Rattle.arena_base.specs.Arena.{Arena, with_slot, entry_at, next_index, insert_next, remove_at, IsValid}
@@ -120,6 +122,20 @@ module _ {Gen T : Type 0} where
     pub chains : Removes (shown old) (shown new) i
     pub pairs : RemovesPairs (shown old) (shown new) i
 
+  -- two neighbours were cut apart: in the state, and so in what is shown, in pairs and in chains
+  pub record IsCut (old new : Arena Gen (LinkSeen T)) (a b : ℕ) : Type 0 where
+    pub state : new ≡ relinked old (cut (shown old) a b)
+    pub shows : shown new ≡ cut (shown old) a b
+    pub pair : TakesPair (shown old) (shown new) a b
+    pub chains : Cuts (shown old) (shown new) a b
+
+  -- what comes after two links was exchanged
+  pub record IsExchange (old new : Arena Gen (LinkSeen T)) (p q : ℕ) : Type 0 where
+    pub state : new ≡ relinked old (exchanged (shown old) p q)
+    pub shows : shown new ≡ exchanged (shown old) p q
+    pub pairs : ExchangesPairs (shown old) (shown new) p q
+    pub chains : Exchanges (shown old) (shown new) p q
+
   -- the links of the walk from an index, each with its index and generation
   pub record IsWalkOf (a : Arena Gen (LinkSeen T)) (i : ℕ) (links : List (ℕ × (Gen × LinkSeen T))) : Type 0 where
     pub walk : IsWalk (shown a) i (map (λ e. e.0) links)
@@ -154,6 +170,13 @@ module _ {Gen T : Type 0} (entry : ℕ → Option (Gen × T)) (interlinks : Show
     pub second_valid : IsValid entry q
     pub no_next : next_of interlinks p.0 ≡ None
     pub no_prev : prev_of interlinks q.0 ≡ None
+
+  -- what comes after p and after q may be exchanged: both are valid, and have a next
+  pub record CanExchange (p q : ℕ × Gen) : Type 0 where
+    pub first_valid : IsValid entry p
+    pub second_valid : IsValid entry q
+    pub first_next : IsSome (next_of interlinks p.0)
+    pub second_next : IsSome (next_of interlinks q.0)
 
   -- the link of a pointer, with the pointers of now to its neighbours
   pub record IsLinkAt (p : ℕ × Gen) (prev next : Option (ℕ × Gen)) (t : T) : Type 0 where

@@ -3,4 +3,5 @@ pub mod Links
 pub mod Kinds
 pub mod Insertions
 pub mod Walkers
+pub mod Drains
 pub mod ChainArenaLaws

@@ -1,8 +1,9 @@
-ghost use Rattle.std.specs.Prelude.{◌≡◌, ℕ, Some};
+ghost use Rattle.std.specs.Prelude.{◌≡◌, ℕ, Some, IfSome};
 ghost use Rattle.std.specs.Option.{option_map};
 ghost use Rattle.std.specs.Iterator.{YieldsFirstBy, item_count};
 ghost use Rattle.chain_laws.specs.Walks.{going_on, going_back};
-ghost use Rattle.arena_base.specs.Arena.{entry_at};
+ghost use Rattle.arena_base.specs.Arena.{entry_at, IsValid};
+ghost use Rattle.chain_arena.specs.ChainArena.{entry};
 ghost use Rattle.chain_arena.specs.Links.{seen_links};
 ghost use Rattle.chain_arena.specs.Walkers.{links_ahead, seen_item, index_and_entry};
 
@@ -105,11 +106,12 @@ impl<'a, P: Ptr, T: Drop, S: SlotStack<Item = ArenaSlot<P, LinkNoGen<P, T>>>> It
 }
 
 // The pointer and the link at an index.
-fn look<P: Ptr, T: Drop, S: SlotStack<Item = ArenaSlot<P, LinkNoGen<P, T>>>>(
+pub(crate) fn look<P: Ptr, T: Drop, S: SlotStack<Item = ArenaSlot<P, LinkNoGen<P, T>>>>(
     arena: &Arena<P, LinkNoGen<P, T>, S>,
     i: P::Inx,
 ) -> Option<(P, &LinkNoGen<P, T>)>
-    ensures { option_map (seen_item P.key P.Inx.packed_number) result ≡ option_map (index_and_entry (P.Inx.number i)) (entry_at (seen_links P.Inx.packed_number arena.now) (P.Inx.number i)) }
+    ensures link { option_map (seen_item P.key P.Inx.packed_number) result ≡ option_map (index_and_entry (P.Inx.number i)) (entry_at (seen_links P.Inx.packed_number arena.now) (P.Inx.number i)) }
+    ensures valid { IfSome result (λ item. IsValid (entry (seen_links P.Inx.packed_number arena.now)) (P.key item.0)) }
 {
     match arena.get_inx(i) {
         Some((generation, link)) => Some((P::_from_raw(i, generation), link)),
@@ -118,7 +120,7 @@ fn look<P: Ptr, T: Drop, S: SlotStack<Item = ArenaSlot<P, LinkNoGen<P, T>>>>(
 }
 
 // Where a walker goes on to from a link: to the next one, unless it has come round.
-fn going_on<P: Ptr>(start: P::Inx, next: Option<P::Inx>) -> Option<P::Inx>
+pub(crate) fn going_on<P: Ptr>(start: P::Inx, next: Option<P::Inx>) -> Option<P::Inx>
     ensures { option_map P.Inx.number result ≡ going_on (P.Inx.number start) (option_map P.Inx.number next) }
 {
     match next {
@@ -128,7 +130,11 @@ fn going_on<P: Ptr>(start: P::Inx, next: Option<P::Inx>) -> Option<P::Inx>
 }
 
 // Where it goes back to from the end of the chain: nowhere, where it has come round.
-fn going_back<P: Ptr>(start: P::Inx, next: Option<P::Inx>, back: Option<P::Inx>) -> Option<P::Inx>
+pub(crate) fn going_back<P: Ptr>(
+    start: P::Inx,
+    next: Option<P::Inx>,
+    back: Option<P::Inx>,
+) -> Option<P::Inx>
     ensures { option_map P.Inx.number result ≡ going_back (P.Inx.number start) (option_map P.Inx.number next) (option_map P.Inx.number back) }
 {
     match next {

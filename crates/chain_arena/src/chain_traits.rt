@@ -1,21 +1,25 @@
-ghost use Rattle.std.specs.Prelude.{◌≡◌, ◌≢◌, ◌↔◌, ◌<◌, ◌+◌, ◌⊎◌, ℕ, is_some, IsTrue, IsSome, IfSome, OnSome, IfNone, IsOk, IfOk, IsErr, IfErr, OnOk, OnErr, Err, None};
+ghost use Rattle.std.specs.Prelude.{◌≡◌, ◌≢◌, ◌↔◌, ◌<◌, ◌+◌, ◌⊎◌, ℕ, is_some, Option, IsTrue, IsSome, IfSome, OnSome, IfNone, IsOk, IfOk, IsErr, IfErr, OnOk, OnErr, Err, None};
 ghost use Rattle.std.specs.Option.{option_map};
 ghost use Rattle.arena_ptr.specs.Invalidation.{value_within, invalidation_result};
-ghost use Rattle.chain_laws.specs.Chains.{Shown, Agrees};
+ghost use Rattle.chain_laws.specs.Chains.{Shown, Agrees, prev_of, next_of};
+ghost use Rattle.chain_laws.specs.Cuts.{cut};
+ghost use Rattle.chain_laws.specs.Exchanges.{exchanged};
 ghost use Rattle.chain_laws.specs.Neighbors.{AreNeighbors};
 ghost use Rattle.chain_laws.specs.Operations.{joined};
 ghost use Rattle.chain_laws.specs.Removals.{removed};
 ghost use Rattle.arena_base.specs.Arena.{IsValid, IsRoom};
 ghost use Rattle.arena_base.specs.Entries.{count, HasRoomLeft, NeedsBeyondMaximum};
 ghost use Rattle.arena_base.specs.Entries.{removed as seen_removed};
-ghost use Rattle.chain_arena.specs.ChainArena.{link_at, on_value, CanConnect, IsLinkAt};
+ghost use Rattle.chain_arena.specs.ChainArena.{link_at, on_value, CanConnect, CanExchange, IsLinkAt};
 ghost use Rattle.chain_arena.specs.Insertions.{IsInsertion};
 ghost use Rattle.chain_arena.specs.Kinds.{names_in, by_index, MayInsert};
 ghost use Rattle.chain_arena.specs.Links.{seen_link, seen_lent};
+ghost use Rattle.chain_laws.specs.Walks.{Walker, walker_at};
+ghost use Rattle.chain_arena.specs.Walkers.{IsPassing};
 
 use crate::kinds::LinkInsertKind;
 use crate::links::{Link, LinkNoGen};
-use arena_base::ArenaTrait;
+use arena_base::{Advancer, ArenaTrait};
 use arena_ptr::{ChainInsertionError, InvalidationResult, Ptr, PtrGen, PtrInx, ReallocationError};
 
 /// An arena whose entries are links, each in one linear or cyclic chain.
@@ -25,8 +29,14 @@ use arena_ptr::{ChainInsertionError, InvalidationResult, Ptr, PtrGen, PtrInx, Re
 ///
 /// Carries `ChainArenaTrait` of `triple_arena`.
 pub trait ChainArenaTrait<P: Ptr, T: Drop>: ArenaTrait<P, T> {
+    /// An advancer along one chain.
+    type ChainPtrAdvancer: Advancer<Self, Item = P>;
+
     // The interlinks of the link at each index.
     ghost interlinks: { Self → Shown };
+
+    // Where an advancer along a chain stands, and how many steps it still makes at most.
+    ghost walker: { Self.ChainPtrAdvancer → Walker };
 
     /// Whether a link of a kind may be inserted: what the kind asks of the links beside the new one holds.
     fn can_insert(&self, kind: LinkInsertKind<P>) -> bool
@@ -110,11 +120,47 @@ pub trait ChainArenaTrait<P: Ptr, T: Drop>: ArenaTrait<P, T> {
         ensures link { option_map (seen_lent P.Inx.packed_number) result ≡ link_at (Self.entry self.now) (interlinks self.now) (P.Inx.number i) }
         ensures agree { Agrees (interlinks self.now) };
 
+    /// An advancer along the chain of p, in walk order: from p on to the end, and then from the link before p back to the
+    /// start; a cyclic chain once round. It makes no more steps than there are links now, whatever arenas it is handed.
+    /// Of an invalid pointer it answers `None` always.
+    fn advancer_chain(&self, p: P) -> Self::ChainPtrAdvancer
+        ensures valid { IsValid (Self.entry self.now) (P.key p) → walker result ≡ walker_at (interlinks self.now) (count (Self.seen self.now)) (P.key p).0 }
+        ensures invalid { ¬ IsValid (Self.entry self.now) (P.key p) → (walker result).left ≡ 0 }
+        ensures agree { Agrees (interlinks self.now) };
+
     /// Makes q the link after p: two chains become one, or one chain becomes cyclic. `Some` exactly if both pointers
     /// are valid, p has no next link and q no previous one; otherwise nothing changes.
     fn connect(&mut self, p: P, q: P) -> Option<()>
         ensures some { IsSome result ↔ CanConnect (Self.entry self.old) (interlinks self.old) (P.key p) (P.key q) }
         ensures joined { OnSome result (interlinks self.new ≡ joined (interlinks self.old) (P.key p).0 (P.key q).0) }
+        ensures seen { OnSome result (Self.seen self.new ≡ Self.seen self.old) }
+        ensures none { IfNone result (self.new ≡ self.old) }
+        ensures agreed { Agrees (interlinks self.old) };
+
+    /// Cuts a link apart from the one before it: a linear chain becomes two, a cyclic one linear. `Some` exactly if the
+    /// pointer is valid and its link has a previous one; otherwise nothing changes.
+    fn break_prev(&mut self, p: P) -> Option<()>
+        ensures some { IsSome result ↔ (IsValid (Self.entry self.old) (P.key p) × IsSome (prev_of (interlinks self.old) (P.key p).0)) }
+        ensures cut { OnSome result (IfSome (prev_of (interlinks self.old) (P.key p).0) (λ a. interlinks self.new ≡ cut (interlinks self.old) a (P.key p).0)) }
+        ensures seen { OnSome result (Self.seen self.new ≡ Self.seen self.old) }
+        ensures none { IfNone result (self.new ≡ self.old) }
+        ensures agreed { Agrees (interlinks self.old) };
+
+    /// Cuts a link apart from the one after it: a linear chain becomes two, a cyclic one linear. `Some` exactly if the
+    /// pointer is valid and its link has a next one; otherwise nothing changes.
+    fn break_next(&mut self, p: P) -> Option<()>
+        ensures some { IsSome result ↔ (IsValid (Self.entry self.old) (P.key p) × IsSome (next_of (interlinks self.old) (P.key p).0)) }
+        ensures cut { OnSome result (IfSome (next_of (interlinks self.old) (P.key p).0) (λ b. interlinks self.new ≡ cut (interlinks self.old) (P.key p).0 b)) }
+        ensures seen { OnSome result (Self.seen self.new ≡ Self.seen self.old) }
+        ensures none { IfNone result (self.new ≡ self.old) }
+        ensures agreed { Agrees (interlinks self.old) };
+
+    /// Exchanges what comes after p with what comes after q: one chain becomes two, or two become one, or two linear ones
+    /// exchange their ends; of p with itself nothing changes. `Some` exactly if both pointers are valid and their links
+    /// have next ones; otherwise nothing changes.
+    fn exchange_next(&mut self, p: P, q: P) -> Option<()>
+        ensures some { IsSome result ↔ CanExchange (Self.entry self.old) (interlinks self.old) (P.key p) (P.key q) }
+        ensures exchanged { OnSome result (interlinks self.new ≡ exchanged (interlinks self.old) (P.key p).0 (P.key q).0) }
         ensures seen { OnSome result (Self.seen self.new ≡ Self.seen self.old) }
         ensures none { IfNone result (self.new ≡ self.old) }
         ensures agreed { Agrees (interlinks self.old) };
@@ -144,6 +190,9 @@ pub trait ChainArenaTrait<P: Ptr, T: Drop>: ArenaTrait<P, T> {
             (Self.seen self.new ≡ seen_removed P.Gen.following (Self.seen self.old) (P.Inx.number i)) × (interlinks self.new ≡ removed (interlinks self.old) (P.Inx.number i)) }
         ensures invalid { Self.entry self.old (P.Inx.number i) ≡ None → self.new ≡ self.old }
         ensures agreed { Agrees (interlinks self.old) };
+
+    // A call of an advancer along a chain passes the link before it, in the arena of that call, or nothing any more.
+    ghost passes: { (a b : Self.ChainPtrAdvancer) (c : Self) (r : Option P) → Self.ChainPtrAdvancer.gives a c r b → IsPassing (Self.entry c) (interlinks c) (walker a) (option_map P.key r) (walker b) };
 
     // A link stands where an entry stands.
     ghost stand: { (a : Self) (i : ℕ) → is_some (interlinks a i) ≡ is_some (Self.entry a i) };

@@ -1,7 +1,7 @@
 // Where a kind puts a new link: the two links that it comes between, found once for all kinds.
 ghost use Rattle.std.specs.Prelude.{◌≡◌, IsTrue, IsSome, IfSome, ◌↔◌, Some, None};
 ghost use Rattle.std.specs.Option.{option_map};
-ghost use Rattle.chain_laws.specs.Chains.{next_of as shown_next};
+ghost use Rattle.chain_laws.specs.Chains.{prev_of as shown_prev, next_of as shown_next};
 ghost use Rattle.chain_laws.specs.Insertions.{chain_end, chain_start, next_to, prev_to, at_interlink, bridge};
 ghost use Rattle.chain_arena.specs.ChainArena.{shown, entry, interlinks_in};
 ghost use Rattle.chain_arena.specs.Links.{seen_links, seen_link};
@@ -46,6 +46,20 @@ pub(crate) fn next_of<P: Ptr, T: Drop, S: SlotStack<Item = ArenaSlot<P, LinkNoGe
 {
     match find(arena, name) {
         Some(link) => link.next(),
+        None => None,
+    }
+}
+
+// The index of the link before the one that has a name.
+pub(crate) fn prev_of<P: Ptr, T: Drop, S: SlotStack<Item = ArenaSlot<P, LinkNoGen<P, T>>>>(
+    arena: &Arena<P, LinkNoGen<P, T>, S>,
+    name: Name<P, P::Inx>,
+) -> Option<P::Inx>
+    ensures named { HasName (entry (seen_links P.Inx.packed_number arena.now)) (name_of P.key P.Inx.number name) → option_map P.Inx.number result ≡ shown_prev (shown (seen_links P.Inx.packed_number arena.now)) (name_of P.key P.Inx.number name).0 }
+    ensures some { IsSome result → HasName (entry (seen_links P.Inx.packed_number arena.now)) (name_of P.key P.Inx.number name) }
+{
+    match find(arena, name) {
+        Some(link) => link.prev(),
         None => None,
     }
 }

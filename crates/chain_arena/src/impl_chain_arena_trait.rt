@@ -2,7 +2,9 @@
 ghost use Rattle.std.specs.Prelude.{◌≡◌, ◌≢◌, ◌↔◌, ◌<◌, ◌+◌, ◌⊎◌, IsTrue, IsSome, IfSome, OnSome, IfNone, IsOk, IfOk, IsErr, IfErr, OnOk, OnErr, Err, None, Some};
 ghost use Rattle.std.specs.Option.{option_map};
 ghost use Rattle.arena_ptr.specs.Invalidation.{value_within, is_overflow_result, invalidation_result};
-ghost use Rattle.chain_laws.specs.Chains.{Agrees};
+ghost use Rattle.chain_laws.specs.Chains.{Agrees, prev_of, next_of};
+ghost use Rattle.chain_laws.specs.Cuts.{cut};
+ghost use Rattle.chain_laws.specs.Exchanges.{exchanged};
 ghost use Rattle.chain_laws.specs.Neighbors.{AreNeighbors};
 ghost use Rattle.chain_laws.specs.Operations.{joined, Connects, AddsPair};
 ghost use Rattle.chain_laws.specs.Removals.{removed, Removes, RemovesPairs};
@@ -10,18 +12,21 @@ ghost use Rattle.arena_base.specs.Arena.{entry_count, next_index, with_capacity_
 ghost use Rattle.arena_base.specs.Entries.{count, HasRoomLeft, NeedsBeyondMaximum};
 ghost use Rattle.arena_base.specs.Entries.{removed as seen_removed};
 ghost use Rattle.chain_arena.specs.ChainArena.{shown as interlinks};
-ghost use Rattle.chain_arena.specs.ChainArena.{seen, entry, relinked, insert_as, remove_link, link_at, on_value, CanConnect, IsLinkAt};
+ghost use Rattle.chain_arena.specs.ChainArena.{seen, entry, relinked, insert_as, remove_link, link_at, on_value, CanConnect, CanExchange, IsCut, IsExchange, IsLinkAt};
 ghost use Rattle.chain_arena.specs.Insertions.{IsInsertion};
 ghost use Rattle.chain_arena.specs.Kinds.{names_in, by_index, MayInsert};
 ghost use Rattle.chain_arena.specs.Links.{seen_link, seen_lent};
+ghost use Rattle.chain_laws.specs.Walks.{walker_at};
+ghost use Rattle.chain_arena.specs.Walkers.{walker_of};
 
+use crate::chain_advancer::ChainPtrAdvancer;
 use crate::chain_arena::ChainArena;
 use crate::chain_traits::ChainArenaTrait;
-use crate::gaps::{is_index, next_of};
-use crate::interlinks::{can_connect, insertion_error, link_up, neighbor, take_out};
+use crate::gaps::{is_index, next_of as next_of_link, prev_of as prev_of_link};
+use crate::interlinks::{can_connect, insertion_error, link_twice, link_up, neighbor, take_out};
 use crate::kinds::{LinkInsertKind, Name};
 use crate::links::{Link, LinkNoGen};
-use arena_base::{ArenaSlot, ArenaTrait};
+use arena_base::{Advancer, ArenaSlot, ArenaTrait};
 use arena_ptr::{
     ChainInsertionError, InvalidationResult, Ptr, PtrGen, PtrInx, ReallocationError, SlotStack,
 };
@@ -30,8 +35,15 @@ impl<P: Ptr, T: Drop, S: SlotStack<Item = ArenaSlot<P, LinkNoGen<P, T>>>> ChainA
     for ChainArena<P, T, S> {
     ghost use Rattle.chain_arena.specs.ChainArena.{shown};
     ghost use Rattle.chain_arena.specs.ChainArenaLaws.{links_stand};
+    ghost use Rattle.chain_arena.specs.Walkers.{walker_of};
+
+    type ChainPtrAdvancer = ChainPtrAdvancer<P>;
 
     ghost interlinks = { shown };
+
+    ghost walker = { λ a. walker_of P.Inx.number a.left a.start a.forth a.back };
+
+    ghost passes = { λ a b c r given. given };
 
     ghost stand = { links_stand };
 
@@ -127,13 +139,13 @@ impl<P: Ptr, T: Drop, S: SlotStack<Item = ArenaSlot<P, LinkNoGen<P, T>>>> ChainA
     fn are_neighbors(&self, p: P, q: P) -> bool
         ensures { IsTrue result ↔ (IsValid (entry self.now) (P.key p) × IsValid (entry self.now) (P.key q) × AreNeighbors (interlinks self.now) (P.key p).0 (P.key q).0) }
     {
-        self.contains(q) && is_index(next_of(&self.arena, Name::Pointer(p)), q.inx())
+        self.contains(q) && is_index(next_of_link(&self.arena, Name::Pointer(p)), q.inx())
     }
 
     fn are_neighbors_inx(&self, i: P::Inx, j: P::Inx) -> bool
         ensures { IsTrue result ↔ AreNeighbors (interlinks self.now) (P.Inx.number i) (P.Inx.number j) }
     {
-        is_index(next_of(&self.arena, Name::Index(i)), j)
+        is_index(next_of_link(&self.arena, Name::Index(i)), j)
     }
 
     fn get_link(&self, p: P) -> Option<Link<P, &T>>
@@ -167,6 +179,17 @@ impl<P: Ptr, T: Drop, S: SlotStack<Item = ArenaSlot<P, LinkNoGen<P, T>>>> ChainA
         self.arena.get_inx(i)
     }
 
+    fn advancer_chain(&self, p: P) -> ChainPtrAdvancer<P>
+        ensures valid { IsValid (entry self.now) (P.key p) → walker_of P.Inx.number result.left result.start result.forth result.back ≡ walker_at (interlinks self.now) (count (seen self.now)) (P.key p).0 }
+        ensures invalid { ¬ IsValid (entry self.now) (P.key p) → result.left ≡ 0 }
+        ensures agree { Agrees (interlinks self.now) }
+    {
+        match self.arena.get(p) {
+            Some(link) => ChainPtrAdvancer::new(self.arena.len(), p.inx(), link.prev()),
+            None => <ChainPtrAdvancer<P> as Advancer<Self>>::empty(),
+        }
+    }
+
     fn connect(&mut self, p: P, q: P) -> Option<()>
         ensures some { IsSome result ↔ CanConnect (entry self.old) (interlinks self.old) (P.key p) (P.key q) }
         ensures joined { OnSome result (interlinks self.new ≡ joined (interlinks self.old) (P.key p).0 (P.key q).0) }
@@ -181,6 +204,51 @@ impl<P: Ptr, T: Drop, S: SlotStack<Item = ArenaSlot<P, LinkNoGen<P, T>>>> ChainA
             return None;
         }
         link_up(&mut self.arena, Some(p.inx()), Some(q.inx()));
+        Some(())
+    }
+
+    fn break_prev(&mut self, p: P) -> Option<()>
+        ensures some { IsSome result ↔ (IsValid (entry self.old) (P.key p) × IsSome (prev_of (interlinks self.old) (P.key p).0)) }
+        ensures cut { OnSome result (IfSome (prev_of (interlinks self.old) (P.key p).0) (λ a. interlinks self.new ≡ cut (interlinks self.old) a (P.key p).0)) }
+        ensures seen { OnSome result (seen self.new ≡ seen self.old) }
+        ensures none { IfNone result (self.new ≡ self.old) }
+        ensures agreed { Agrees (interlinks self.old) }
+        ensures state { OnSome result (IfSome (prev_of (interlinks self.old) (P.key p).0) (λ a. IsCut self.old self.new a (P.key p).0)) }
+    {
+        let before = prev_of_link(&self.arena, Name::Pointer(p))?;
+        link_twice(&mut self.arena, (Some(before), None), (None, Some(p.inx())));
+        Some(())
+    }
+
+    fn break_next(&mut self, p: P) -> Option<()>
+        ensures some { IsSome result ↔ (IsValid (entry self.old) (P.key p) × IsSome (next_of (interlinks self.old) (P.key p).0)) }
+        ensures cut { OnSome result (IfSome (next_of (interlinks self.old) (P.key p).0) (λ b. interlinks self.new ≡ cut (interlinks self.old) (P.key p).0 b)) }
+        ensures seen { OnSome result (seen self.new ≡ seen self.old) }
+        ensures none { IfNone result (self.new ≡ self.old) }
+        ensures agreed { Agrees (interlinks self.old) }
+        ensures state { OnSome result (IfSome (next_of (interlinks self.old) (P.key p).0) (λ b. IsCut self.old self.new (P.key p).0 b)) }
+    {
+        let after = next_of_link(&self.arena, Name::Pointer(p))?;
+        link_twice(&mut self.arena, (Some(p.inx()), None), (None, Some(after)));
+        Some(())
+    }
+
+    fn exchange_next(&mut self, p: P, q: P) -> Option<()>
+        ensures some { IsSome result ↔ CanExchange (entry self.old) (interlinks self.old) (P.key p) (P.key q) }
+        ensures exchanged { OnSome result (interlinks self.new ≡ exchanged (interlinks self.old) (P.key p).0 (P.key q).0) }
+        ensures seen { OnSome result (seen self.new ≡ seen self.old) }
+        ensures none { IfNone result (self.new ≡ self.old) }
+        ensures agreed { Agrees (interlinks self.old) }
+        ensures state { OnSome result (IsExchange self.old self.new (P.key p).0 (P.key q).0) }
+    {
+        let after_p = next_of_link(&self.arena, Name::Pointer(p))?;
+        let after_q = next_of_link(&self.arena, Name::Pointer(q))?;
+        let (i, j) = (p.inx(), q.inx());
+        link_twice(
+            &mut self.arena,
+            (Some(i), Some(after_q)),
+            (Some(j), Some(after_p)),
+        );
         Some(())
     }
 

@@ -42,7 +42,7 @@ pub struct ChainArenaInsertEntry<
 }
 
 // An optional index as a number, 0 for none.
-fn number_or_zero<I: PtrInx>(i: Option<I>) -> usize
+pub(crate) fn number_or_zero<I: PtrInx>(i: Option<I>) -> usize
     ensures index { index_from result ≡ option_map I.number i }
     ensures within { result ≤ I.greatest }
 {

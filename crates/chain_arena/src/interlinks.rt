@@ -95,6 +95,20 @@ pub(crate) fn link_up<P: Ptr, T: Drop, S: SlotStack<Item = ArenaSlot<P, LinkNoGe
     set_prev(arena, next, prev);
 }
 
+// One link follows another, and then a third a fourth, each where it is some index at which a link stands.
+pub(crate) fn link_twice<P: Ptr, T: Drop, S: SlotStack<Item = ArenaSlot<P, LinkNoGen<P, T>>>>(
+    arena: &mut Arena<P, LinkNoGen<P, T>, S>,
+    first: (Option<P::Inx>, Option<P::Inx>),
+    second: (Option<P::Inx>, Option<P::Inx>),
+)
+    ensures { seen_links P.Inx.packed_number arena.new ≡ relinked (seen_links P.Inx.packed_number arena.old)
+        (linked (linked (shown (seen_links P.Inx.packed_number arena.old)) (option_map P.Inx.number first.0) (option_map P.Inx.number first.1))
+        (option_map P.Inx.number second.0) (option_map P.Inx.number second.1)) }
+{
+    link_up(arena, first.0, first.1);
+    link_up(arena, second.0, second.1);
+}
+
 // Takes the link at an index out, and links those that it stood between.
 pub(crate) fn take_out<P: Ptr, T: Drop, S: SlotStack<Item = ArenaSlot<P, LinkNoGen<P, T>>>>(
     arena: &mut Arena<P, LinkNoGen<P, T>, S>,

@@ -1,7 +1,9 @@
 //! Links in chains over a generational arena, which it reaches by the contracts of its calls alone.
 #![tactic(auto)]
 
+mod chain_advancer;
 mod chain_arena;
+mod chain_drains;
 mod chain_iterators;
 mod chain_traits;
 mod gaps;
@@ -9,13 +11,17 @@ mod impl_arena_trait;
 mod impl_chain_arena_trait;
 mod insert_entry;
 mod interlinks;
+mod iterators;
 mod kinds;
 mod links;
 mod placing;
 
+pub use chain_advancer::ChainPtrAdvancer;
 pub use chain_arena::ChainArena;
+pub use chain_drains::ChainDrain;
 pub use chain_iterators::ChainIter;
 pub use chain_traits::ChainArenaTrait;
 pub use insert_entry::ChainArenaInsertEntry;
+pub use iterators::ValIter;
 pub use kinds::{InsertKindBody, LinkInsertKind};
 pub use links::{Link, LinkBody, LinkNoGen};

@@ -1,0 +1,20 @@
+-- The drain stands at the pointer's link, and nothing has changed yet.
+use Rattle.std.proofs.Common.{refl, subst, ◌∙◌}
+use Rattle.chain_laws.specs.Chains.{Agrees}
+use Rattle.chain_arena.specs.ChainArena.{shown}
+use Rattle.chain_arena.proofs.Draining.{index_from-is, walk_left-valid}
+use Rattle.chain_arena.proofs.chain_arena.ChainArena.drain_chain.Goals as goal
+
+pub returns : goal.returns
+returns g c =
+    let valid = c.contains.ensures.0 c.if-not-contains.false in (
+      (refl, λ w. refl, tt),
+      record {
+        unchanged_at_none = tt;
+        some = (λ _. valid, λ _. refl);
+        same_reference = refl;
+        arena = refl;
+        at = index_from-is c.number_or_zero-at.result _ c.number_or_zero-at.ensures.index ∙ c.inx.ensures;
+        walk = walk_left-valid c.args.self.now (g.P.Ptr.key c.args.p) (subst (λ a. Agrees (shown a)) c.self.view_is c.self.invariant) valid;
+      },
+    )

@@ -1,0 +1,33 @@
+-- The advancer stands before the pointer's link.
+use Rattle.std.proofs.Common.{ap, sym, ◌∙◌, refl}
+use Rattle.std.specs.Prelude.{Some}
+use Rattle.std.specs.Option.{option_map}
+use Rattle.std.proofs.lemmas.Bool.{false≢true}
+use Rattle.chain_arena.specs.Links.{seen_links}
+use Rattle.chain_arena.proofs.Advancing.{same_walkers}
+use Rattle.chain_arena.proofs.Connecting.{prev_of-seen, same_valid}
+use Rattle.chain_arena.proofs.Inserting.{entry_count-seen_links}
+use Rattle.chain_arena.proofs.Telling.{count-seen}
+use Rattle.chain_arena.proofs.impl_chain_arena_trait.ChainArenaChainArenaTrait.advancer_chain.Goals as goal
+
+pub returns-in-Some-clause-valid : goal.returns-in-Some-clause-valid
+returns-in-Some-clause-valid g c =
+    let packed = g.P.Inx.PtrInx.packed_number in
+    let number = g.P.Inx.PtrInx.number in
+    let a = c.self.inside.arena in
+    let p = g.P.Ptr.key c.args.p in
+    rw (← c.self.view_is) (λ _. same_walkers
+      (c.new.ensures.left ∙ (c.len.ensures.entries ∙ (sym (entry_count-seen_links packed a) ∙ sym (count-seen (seen_links packed a)))))
+      (ap number c.new.ensures.start ∙ c.inx.ensures)
+      (ap (option_map number) c.new.ensures.forth ∙ ap Some c.inx.ensures)
+      (ap (option_map number) c.new.ensures.back ∙ (c.prev.ensures ∙ sym (prev_of-seen packed a p c.in-Some.link.now c.in-Some.ensures.value))))
+
+pub returns-in-Some-clause-invalid : goal.returns-in-Some-clause-invalid
+returns-in-Some-clause-invalid g c =
+    let same = same_valid g.P.Inx.PtrInx.packed_number c.self.inside.arena (g.P.Ptr.key c.args.p) in
+    rw (← c.self.view_is) (λ invalid. absurd (invalid (same.0 (c.in-Some.ensures.some.0 refl))))
+
+pub returns-in-None-clause-valid : goal.returns-in-None-clause-valid
+returns-in-None-clause-valid g c =
+    let same = same_valid g.P.Inx.PtrInx.packed_number c.self.inside.arena (g.P.Ptr.key c.args.p) in
+    rw (← c.self.view_is) (λ valid. absurd (false≢true (c.in-None.ensures.some.1 (same.1 valid))))

@@ -1,0 +1,54 @@
+-- Two links are made anew, and the laws of exchanges say the rest.
+use Rattle.std.proofs.Common.{◌≡◌, ℕ, Option, Some, refl, ap, ap₂, sym, ◌∙◌}
+use Rattle.chain_laws.specs.Chains.{IsValid, next_of}
+use Rattle.chain_laws.specs.Exchanges.{exchanged}
+use Rattle.chain_laws.specs.Operations.{linked}
+use Rattle.chain_laws.proofs.Standing.{next_valid}
+use Rattle.arena_base.specs.Arena.{Arena}
+use Rattle.arena_base.specs.Entries.{seen_of}
+use Rattle.chain_arena.specs.Links.{seen_links}
+use Rattle.chain_arena.specs.ChainArena.{LinkSeen, relinked, shown}
+use Rattle.chain_arena.proofs.Cutting.{exchange_values, exchange_shows, agrees_exchange, exchange_told}
+use Rattle.chain_arena.proofs.impl_chain_arena_trait.ChainArenaChainArenaTrait.exchange_next.Given.{Over}
+use Rattle.chain_arena.proofs.impl_chain_arena_trait.ChainArenaChainArenaTrait.exchange_next.Goals.{After-link_twice}
+use Rattle.chain_arena.proofs.impl_chain_arena_trait.ChainArenaChainArenaTrait.exchange_next.Goals as goal
+
+-- the links before the exchange, and after it
+abbrev links : (g : Over) → After-link_twice g → Arena g.row.P-Gen.Denot (LinkSeen g.row.T.Denot)
+links g c = seen_links g.P.Inx.PtrInx.packed_number c.self.inside.arena
+
+abbrev exchanged_links : (g : Over) → After-link_twice g → Arena g.row.P-Gen.Denot (LinkSeen g.row.T.Denot)
+exchanged_links g c = seen_links g.P.Inx.PtrInx.packed_number c.link_twice.new.arena
+
+-- the links after the two
+after_p : (g : Over) (c : After-link_twice g) → Some (g.P.Inx.PtrInx.number c.in_ok-after_p.after_p) ≡ next_of (shown (links g c)) (g.P.Ptr.key c.args.p).0
+after_p g c = c.in_ok-after_p.ensures.named (c.in_ok-after_p.ensures.some refl)
+
+after_q : (g : Over) (c : After-link_twice g) → Some (g.P.Inx.PtrInx.number c.in_ok-after_q.after_q) ≡ next_of (shown (links g c)) (g.P.Ptr.key c.args.q).0
+after_q g c = c.in_ok-after_q.ensures.named (c.in_ok-after_q.ensures.some refl)
+
+valid_p : (g : Over) (c : After-link_twice g) → IsValid (shown (links g c)) (g.P.Ptr.key c.args.p).0
+valid_p g c = next_valid (shown (links g c)) _ _ (sym (after_p g c))
+
+valid_q : (g : Over) (c : After-link_twice g) → IsValid (shown (links g c)) (g.P.Ptr.key c.args.q).0
+valid_q g c = next_valid (shown (links g c)) _ _ (sym (after_q g c))
+
+-- what is written is the exchange
+is_exchanged : (g : Over) (c : After-link_twice g) → exchanged_links g c ≡ relinked (links g c) (exchanged (shown (links g c)) (g.P.Ptr.key c.args.p).0 (g.P.Ptr.key c.args.q).0)
+is_exchanged g c =
+    let s = links g c in
+    c.link_twice.ensures
+    ∙ (ap₂ (λ (i j : ℕ). relinked s (linked (linked (shown s) (Some i) (Some (g.P.Inx.PtrInx.number c.in_ok-after_q.after_q))) (Some j) (Some (g.P.Inx.PtrInx.number c.in_ok-after_p.after_p)))) c.inx-i.ensures c.inx-j.ensures
+    ∙ ap₂ (λ (a b : Option ℕ). relinked s (linked (linked (shown s) (Some (g.P.Ptr.key c.args.p).0) b) (Some (g.P.Ptr.key c.args.q).0) a)) (after_p g c) (after_q g c))
+
+pub invariant_of-self : goal.invariant_of-self
+invariant_of-self g c = agrees_exchange (links g c) (exchanged_links g c) _ _ (is_exchanged g c) c.self.invariant (valid_p g c) (valid_q g c)
+
+pub returns-clause-exchanged : goal.returns-clause-exchanged
+returns-clause-exchanged g c = rw (← c.self.view_is) (exchange_shows (links g c) (exchanged_links g c) _ _ (is_exchanged g c))
+
+pub returns-clause-seen : goal.returns-clause-seen
+returns-clause-seen g c = rw (← c.self.view_is) (ap (λ a. seen_of a) (exchange_values (links g c) (exchanged_links g c) _ _ (is_exchanged g c)))
+
+pub returns-clause-state : goal.returns-clause-state
+returns-clause-state g c = rw (← c.self.view_is) (exchange_told (links g c) (exchanged_links g c) _ _ (is_exchanged g c) c.self.invariant (valid_p g c) (valid_q g c))

@@ -1,0 +1,15 @@
+-- All links, seen.
+use Rattle.std.proofs.Common.{ap, ◌∙◌, arith, length}
+use Rattle.chain_arena.specs.Links.{seen_entries}
+use Rattle.chain_arena.proofs.Valuing.{seen_entries-all}
+use Rattle.chain_arena.proofs.iterators.ChainArenaIntoIterator.into_iter.Goals as goal
+
+pub returns : goal.returns
+returns g c =
+    let number = g.P.Inx.PtrInx.packed_number in
+    record {
+      into_iter_gives = (
+        rw (← c.self.view_is) (ap (seen_entries number) c.into_iter.ensures.into_iter_gives ∙ seen_entries-all number c.self.inside.arena),
+        omega (arith, c.len.ensures.one_more, c.len.ensures.count, ap length c.into_iter.ensures.into_iter_gives),
+      );
+    }

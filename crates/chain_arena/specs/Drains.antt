@@ -1,0 +1,33 @@
+-- What a drain of a chain still removes, and what its steps make of the arena.
+use Rattle.std.specs.Prelude.{◌≡◌, ℕ, Bool, List, [], ◌∷◌, length, MatchOption, Option, Some}
+use Rattle.arena_ptr.specs.Invalidation.{value_in, is_overflow}
+use Rattle.arena_ptr.specs.declared.invalidation.InvalidationOption.{InvalidationOption}
+use Rattle.chain_laws.specs.Walks.{walk_from}
+use Rattle.arena_base.specs.Arena.{Arena, entry_at}
+use Rattle.chain_arena.specs.ChainArena.{LinkSeen, shown, remove_link}
+use Rattle.chain_arena.specs.Insertions.{index_from}
+use Rattle.chain_arena.specs.Links.{seen_link}
+use Rattle.chain_arena.specs.declared.links.LinkBody.{LinkBody}
+
+module _ {Gen T : Type 0} where
+  -- the walk from a link that is told by a number, 0 for none
+  abbrev pub walk_left : Arena Gen (LinkSeen T) → ℕ → List ℕ
+  walk_left a at = walk_from (length a.slots) (shown a) (index_from at)
+
+  -- the arena after the removal of the links at these indexes, one after another
+  abbrev pub without_each : (Gen → Gen) → Arena Gen (LinkSeen T) → List ℕ → Arena Gen (LinkSeen T)
+  without_each following a [] = a
+  without_each following a (i ∷ rest) = without_each following (remove_link following a i) rest
+
+module _ {P Gen K T : Type 0} (key : P → ℕ × Gen) (number : K → Option ℕ) (following : Gen → Gen) (wraps : Gen → Bool) where
+  -- a step of a drain that stood at a link: the link goes and is answered, and the drain stands where the walk goes on
+  pub record IsDrainStep (old : Arena Gen (LinkSeen T)) (at : ℕ) (answer : InvalidationOption (P × LinkBody K T)) (new : Arena Gen (LinkSeen T)) (next : ℕ) : Type 0 where
+    pub index : (key (value_in answer).0).0 ≡ at
+    pub stands : entry_at old at ≡ Some ((key (value_in answer).0).1, seen_link number (value_in answer).1)
+    pub overflow : is_overflow answer ≡ wraps old.counter
+    pub state : new ≡ remove_link following old at
+    pub walk : walk_left old at ≡ at ∷ walk_left new next
+
+  -- a call of a drain's `next`: nothing was left and nothing changes, or it made a step
+  abbrev pub DrainSteps : Arena Gen (LinkSeen T) → ℕ → Option (InvalidationOption (P × LinkBody K T)) → Arena Gen (LinkSeen T) → ℕ → Type 0
+  DrainSteps old at answer new next = MatchOption answer ((walk_left old at ≡ []) × (new ≡ old) × (next ≡ at)) (λ gone. IsDrainStep old at gone new next)

@@ -1,0 +1,184 @@
+// The removal of a whole chain, link by link.
+ghost use Rattle.std.specs.Prelude.{◌≡◌, ◌↔◌, [], IsSome, IfSome, IfNone};
+ghost use Rattle.std.specs.Borrow.{RestsIfNone, sem};
+ghost use Rattle.std.specs.Option.{option_map};
+ghost use Rattle.std.specs.Iterator.{item_count};
+ghost use Rattle.arena_ptr.specs.Invalidation.{value_in, is_overflow, invalidation_option};
+ghost use Rattle.chain_laws.specs.Chains.{Agrees};
+ghost use Rattle.chain_laws.specs.Walks.{goes_on, IsWalk, TakesWalk};
+ghost use Rattle.arena_base.specs.Arena.{IsValid};
+ghost use Rattle.chain_arena.specs.ChainArena.{entry, shown};
+ghost use Rattle.chain_arena.specs.Insertions.{index_from};
+ghost use Rattle.chain_arena.specs.Drains.{walk_left, without_each, IsDrainStep, DrainSteps};
+
+use crate::chain_arena::ChainArena;
+use crate::chain_traits::ChainArenaTrait;
+use crate::insert_entry::number_or_zero;
+use crate::links::LinkNoGen;
+use arena_base::{ArenaSlot, ArenaTrait};
+use arena_ptr::{HeapStack, InvalidationOption, Ptr, PtrInx, SlotStack};
+
+/// The removal of a chain: an iterator that removes each link as it yields it, in walk order. A link comes with its
+/// pointer and with the interlinks that it has at its own removal. `GenerationOverflow`: the counter was at its
+/// greatest then, and is two now.
+///
+/// Dropped, it removes the links that are left. Every other chain stays, item for item.
+///
+/// Carries `ChainDrain` of `triple_arena`.
+pub struct ChainDrain<
+    'a,
+    P: Ptr,
+    T: Drop,
+    S: SlotStack<Item = ArenaSlot<P, LinkNoGen<P, T>>> = HeapStack<ArenaSlot<P, LinkNoGen<P, T>>>,
+> {
+    arena: &'a mut ChainArena<P, T, S>,
+    // The index of the next link to go, 0 for none.
+    at: usize,
+}
+
+impl<P: Ptr, T: Drop, S: SlotStack<Item = ArenaSlot<P, LinkNoGen<P, T>>>> ChainArena<P, T, S> {
+    ghost use Rattle.chain_arena.specs.contracts.chain_arena.ChainArena.{the_row as chain_arena_row};
+
+    /// The removal of a pointer's chain, in walk order from its link. `None`: the pointer is not valid, and nothing has
+    /// changed.
+    ///
+    /// Carries `drain_chain` of `triple_arena`.
+    pub fn drain_chain(&mut self, p: P) -> Option<ChainDrain<'_, P, T, S>>
+        ensures* unchanged_at_none { sem 𝓛 (RestsIfNone
+            (chain_arena_row P.row T.row S.row P.Inx.row P.Gen.row P.Inx.Word.row
+            (record { key = P.key }) (record { eq = P.eq }) (record { cmp = P.cmp }) (record { partial_cmp = P.partial_cmp })
+            (record { hash_input = P.hash_input }) (record { debug_output = P.debug_output })
+            (record { number = P.Inx.number; packed_number = P.Inx.packed_number; greatest = P.Inx.greatest }) (record { eq = P.Inx.eq }) (record { cmp = P.Inx.cmp }) (record { partial_cmp = P.Inx.partial_cmp })
+            (record { hash_input = P.Inx.hash_input }) (record { debug_output = P.Inx.debug_output })
+            (record { eq = P.Inx.Word.eq }) (record { cmp = P.Inx.Word.cmp }) (record { partial_cmp = P.Inx.Word.partial_cmp }) (record { hash_input = P.Inx.Word.hash_input })
+            (record { first = P.Gen.first; following = P.Gen.following; wraps = P.Gen.wraps }) (record { eq = P.Gen.eq }) (record { cmp = P.Gen.cmp }) (record { partial_cmp = P.Gen.partial_cmp })
+            (record { hash_input = P.Gen.hash_input }) (record { debug_output = P.Gen.debug_output })
+            S.SlotStack)
+            self.entry (λ d. d.arena.ghost_name) result (λ n. n ≡ self.old)) }
+        ensures some { IsSome result ↔ IsValid (entry self.old) (P.key p) }
+        ensures same_reference { IfSome result (λ d. d.arena.ghost_name ≡ self.entry.ghost_name) }
+        ensures arena { IfSome result (λ d. d.arena.now ≡ self.old) }
+        ensures at { IfSome result (λ d. d.at ≡ (P.key p).0) }
+        ensures walk { IfSome result (λ d. IsWalk (shown self.old) (P.key p).0 (walk_left self.old (P.key p).0)) }
+    {
+        let _ = &self.arena;
+        if !self.contains(p) {
+            return None;
+        }
+        let at = number_or_zero(Some(p.inx()));
+        Some(ChainDrain { arena: self, at })
+    }
+
+    // The index of a number. `None`: no link stands there.
+    fn index_at(&self, at: usize) -> Option<P::Inx>
+        ensures some { IfSome result (λ i. P.Inx.number i ≡ at) }
+        ensures none { IfNone result (walk_left self.now at ≡ []) }
+    {
+        // There are no more slots than indexes.
+        self.len();
+        P::Inx::try_from_usize(at)
+    }
+
+    // Removes the link at a number, and answers it with the number of the one that its walk goes on to.
+    fn drain_at(&mut self, at: usize) -> Option<(usize, InvalidationOption<(P, LinkNoGen<P, T>)>)>
+        ensures none { IfNone result ((walk_left self.old at ≡ []) × (self.new ≡ self.old)) }
+        ensures some { IfSome result (λ e. IsDrainStep P.key P.Inx.packed_number P.Gen.following P.Gen.wraps self.old at e.1 self.new e.0) }
+        ensures agreed { Agrees (shown self.old) }
+    {
+        let _ = &self.arena;
+        match self.index_at(at) {
+            Some(i) => {
+                let (entry, overflow) = self.remove_inx_link_no_gen(i).overflowing();
+                match entry {
+                    Some(entry) => Some(yielded(i, entry, overflow)),
+                    None => None,
+                }
+            }
+            None => None,
+        }
+    }
+
+    // Removes the links of the walk from a number.
+    fn drain_from(&mut self, from: usize)
+        ensures state { self.new ≡ without_each P.Gen.following self.old (walk_left self.old from) }
+        ensures taken { TakesWalk (shown self.old) (shown self.new) (walk_left self.old from) }
+    {
+        let _ = &self.arena;
+        let mut at = from;
+        while let Some((next, _)) = self.drain_at(at) {
+            at = next;
+        }
+    }
+}
+
+// What a drain yields of an entry that was taken out of an index, behind the number of the link that the walk goes on to.
+fn yielded<P: Ptr, T>(
+    i: P::Inx,
+    entry: (P::Gen, LinkNoGen<P, T>),
+    overflow: bool,
+) -> (usize, InvalidationOption<(P, LinkNoGen<P, T>)>)
+    ensures next { index_from result.0 ≡ goes_on (P.Inx.number i) (P.Inx.packed_number entry.1.prev) (P.Inx.packed_number entry.1.next) }
+    ensures ptr { P.key (value_in result.1).0 ≡ (P.Inx.number i, entry.0) }
+    ensures link { (value_in result.1).1 ≡ entry.1 }
+    ensures overflow { is_overflow result.1 ≡ overflow }
+{
+    let (generation, link) = entry;
+    let next = goes_on_to(i, link.prev(), link.next());
+    let p = P::_from_raw(i, generation);
+    (number_or_zero(next), drained(overflow, (p, link)))
+}
+
+// A removed link, where it is told whether the counter overflowed.
+fn drained<T>(overflow: bool, t: T) -> InvalidationOption<T>
+    ensures { result ≡ invalidation_option overflow t }
+{
+    if overflow {
+        InvalidationOption::GenerationOverflow(t)
+    } else {
+        InvalidationOption::Success(t)
+    }
+}
+
+// Where a walk goes on whose first link is removed: to the link after it, or else to the one before it.
+fn goes_on_to<I: PtrInx>(i: I, prev: Option<I>, next: Option<I>) -> Option<I>
+    ensures { option_map I.number result ≡ goes_on (I.number i) (option_map I.number prev) (option_map I.number next) }
+{
+    match next {
+        Some(k) if k != i => Some(k),
+        _ => match prev {
+            Some(k) if k != i => Some(k),
+            _ => None,
+        },
+    }
+}
+
+impl<'a, P: Ptr, T: Drop, S: SlotStack<Item = ArenaSlot<P, LinkNoGen<P, T>>>> Iterator
+    for ChainDrain<'a, P, T, S> {
+    type Item = InvalidationOption<(P, LinkNoGen<P, T>)>;
+
+    ghost next_gives = { λ old r new. (new.arena.ghost_name ≡ old.arena.ghost_name)
+        × DrainSteps P.key P.Inx.packed_number P.Gen.following P.Gen.wraps old.arena.now old.at r new.arena.now new.at };
+
+    ghost remaining = { item_count (λ d. walk_left d.arena.now d.at) };
+
+    fn next(&mut self) -> Option<InvalidationOption<(P, LinkNoGen<P, T>)>> {
+        match self.arena.drain_at(self.at) {
+            Some((next, gone)) => {
+                self.at = next;
+                Some(gone)
+            }
+            None => None,
+        }
+    }
+}
+
+impl<'a, P: Ptr, T: Drop, S: SlotStack<Item = ArenaSlot<P, LinkNoGen<P, T>>>> Drop
+    for ChainDrain<'a, P, T, S> {
+    fn drop(self)
+        ensures state { self.exit.0.now ≡ without_each P.Gen.following self.entry.arena.now (walk_left self.entry.arena.now self.entry.at) }
+        ensures taken { TakesWalk (shown self.entry.arena.now) (shown self.exit.0.now) (walk_left self.entry.arena.now self.entry.at) }
+    {
+        let ChainDrain { arena, at } = self;
+        arena.drain_from(at);
+    }
+}

@@ -1,0 +1,131 @@
+// The iterators over all links of a chain arena. Each goes by rising index, and yields each link once.
+ghost use Rattle.std.specs.Prelude.{◌≡◌, ◌<◌, ◌^◌, length};
+ghost use Rattle.std.specs.Iterator.{YieldsFirstBy, item_count};
+ghost use Rattle.arena_base.specs.Entries.{entries};
+ghost use Rattle.chain_arena.specs.ChainArena.{values_of};
+ghost use Rattle.chain_arena.specs.Links.{seen_entries};
+
+use crate::chain_arena::ChainArena;
+use crate::links::LinkNoGen;
+use arena_base::{Arena, ArenaSlot, ArenaTrait, CapacityDrain, Iter};
+use arena_ptr::{HeapStack, Ptr, PtrInx, SlotStack};
+use std::marker::Model;
+
+/// The pointers and values of the links of a chain arena, seen as the list of those that are left.
+///
+/// Carries `ValIter` of `triple_arena`.
+#[derive(Drop)]
+pub struct ValIter<
+    'a,
+    P: Ptr,
+    T: Drop,
+    S: SlotStack<Item = ArenaSlot<P, LinkNoGen<P, T>>> = HeapStack<ArenaSlot<P, LinkNoGen<P, T>>>,
+> {
+    links: Iter<'a, P, LinkNoGen<P, T>, S>,
+}
+
+impl<'a, P: Ptr, T: Drop, S: SlotStack<Item = ArenaSlot<P, LinkNoGen<P, T>>>> Model
+    for ValIter<'a, P, T, S> {
+    ghost use Rattle.std.specs.Prelude.{ℕ, List};
+
+    ghost Value = { List ((ℕ × P.Gen) × T) };
+
+    ghost use Rattle.chain_arena.specs.Links.{held_entries};
+
+    ghost view = { λ it. held_entries it.links };
+}
+
+impl<'a, P: Ptr, T: Drop, S: SlotStack<Item = ArenaSlot<P, LinkNoGen<P, T>>>> Iterator
+    for ValIter<'a, P, T, S> {
+    type Item = (P, &'a T);
+
+    ghost next_gives = { YieldsFirstBy (λ item. (P.key item.0, item.1.now)) (λ rest. rest) };
+
+    ghost remaining = { item_count (λ rest. rest) };
+
+    fn next(&mut self) -> Option<(P, &'a T)> {
+        match self.links.next() {
+            Some((p, link)) => Some((p, link.value())),
+            None => None,
+        }
+    }
+}
+
+impl<P: Ptr, T: Drop, S: SlotStack<Item = ArenaSlot<P, LinkNoGen<P, T>>>> ChainArena<P, T, S> {
+    /// The values of all links by rising index, each with its pointer.
+    ///
+    /// Carries `iter` of `triple_arena`'s chain arena.
+    pub fn iter(&self) -> ValIter<'_, P, T, S>
+        ensures values { result ≡ entries (values_of self.now) }
+        ensures fits { length result < 2 ^ 64 }
+    {
+        ValIter {
+            links: links_of(&self.arena),
+        }
+    }
+
+    /// All links by rising index, each with its pointer.
+    ///
+    /// Carries `iter_link_no_gen` of `triple_arena`'s chain arena.
+    pub fn iter_link_no_gen(&self) -> Iter<'_, P, LinkNoGen<P, T>, S>
+        ensures links { seen_entries P.Inx.packed_number result ≡ entries self.now }
+        ensures fits { length result < 2 ^ 64 }
+    {
+        links_of(&self.arena)
+    }
+}
+
+// All links of an arena. No more of them stand there than can be counted.
+fn links_of<P: Ptr, T: Drop, S: SlotStack<Item = ArenaSlot<P, LinkNoGen<P, T>>>>(
+    arena: &Arena<P, LinkNoGen<P, T>, S>,
+) -> Iter<'_, P, LinkNoGen<P, T>, S>
+    ensures links { result ≡ entries arena.now }
+    ensures fits { length result < 2 ^ 64 }
+{
+    arena.len();
+    arena.into_iter()
+}
+
+impl<P: Ptr, T: Drop, S: SlotStack<Item = ArenaSlot<P, LinkNoGen<P, T>>>> IntoIterator
+    for ChainArena<P, T, S> {
+    ghost use Rattle.std.specs.Prelude.{◌≡◌, ◌<◌, ◌^◌, length};
+    ghost use Rattle.arena_base.specs.Entries.{entries};
+    ghost use Rattle.chain_arena.specs.Links.{seen_entries};
+
+    type Item = (P, LinkNoGen<P, T>);
+
+    type IntoIter = CapacityDrain<P, LinkNoGen<P, T>, S>;
+
+    ghost into_iter_gives = { λ a it. (seen_entries P.Inx.packed_number it ≡ entries a) × (length it < 2 ^ 64) };
+
+    /// All links of an arena that is used up, by rising index, each with its pointer, and with its interlinks as they
+    /// stood.
+    fn into_iter(self) -> CapacityDrain<P, LinkNoGen<P, T>, S> {
+        let ChainArena { arena } = self;
+        arena.len();
+        arena.into_iter()
+    }
+}
+
+// That an index and its word live as long follows from `&'a ChainArena<P, T, S>`, but the check does not see it.
+impl<'a, P: Ptr, T: Drop, S: SlotStack<Item = ArenaSlot<P, LinkNoGen<P, T>>>> IntoIterator
+    for &'a ChainArena<P, T, S>
+where
+    P::Inx: 'a,
+    <P::Inx as PtrInx>::Word: 'a,
+{
+    ghost use Rattle.std.specs.Prelude.{◌≡◌, ◌<◌, ◌^◌, length};
+    ghost use Rattle.arena_base.specs.Entries.{entries};
+    ghost use Rattle.chain_arena.specs.Links.{seen_entries};
+
+    type Item = (P, &'a LinkNoGen<P, T>);
+
+    type IntoIter = Iter<'a, P, LinkNoGen<P, T>, S>;
+
+    ghost into_iter_gives = { λ a it. (seen_entries P.Inx.packed_number it ≡ entries a.now) × (length it < 2 ^ 64) };
+
+    /// All links by rising index, each with its pointer.
+    fn into_iter(self) -> Iter<'a, P, LinkNoGen<P, T>, S> {
+        self.iter_link_no_gen()
+    }
+}
