@@ -1,8 +1,12 @@
+mod advancing;
 mod any_arena;
 mod behind;
 mod calls;
+mod cutting;
+mod drains;
 mod entries;
 mod example;
+mod iterators;
 mod kinds;
 mod limits;
 mod pointers;

@@ -1,7 +1,9 @@
 //! The rows that any arena of links meets, at the chain arena and at an arena that hands each call on.
 
 use super::wrapped::Wrapped;
-use super::{Chains, NONE, behind, calls, kinds, lone_links, removal, rows, same};
+use super::{
+    Chains, NONE, advancing, behind, calls, cutting, kinds, lone_links, removal, rows, same,
+};
 use arena_base::ArenaTrait;
 use arena_ptr::ToolPtr;
 use chain_arena::ChainArenaTrait;
@@ -18,6 +20,8 @@ fn check_all<A: ChainArenaTrait<ToolPtr, u32> + Drop>(
     rows::check_rows::<A>(rt, alloc)?;
     removal::check_removals::<A>(rt, alloc)?;
     kinds::check_kinds::<A>(rt, alloc)?;
+    cutting::check_cutting::<A>(rt, alloc)?;
+    advancing::check_advancing::<A>(rt, alloc);
     calls::check_calls::<A>(rt, alloc)
 }
 

@@ -56,6 +56,30 @@ impl<A, V: Advancer<A>> Advancer<Wrapped<A>> for WrappedAdvancer<V> {
     }
 }
 
+// An advancer along a chain around another.
+#[derive(Drop)]
+pub(super) struct WrappedWalk<V> {
+    inner: V,
+}
+
+impl<A, V: Advancer<A>> Advancer<Wrapped<A>> for WrappedWalk<V> {
+    type Item = V::Item;
+
+    ghost gives = { λ a arena answer b. V.gives a.inner arena.inner answer b.inner };
+
+    ghost is_spent = { λ a. V.is_spent a.inner };
+
+    ghost stays_spent = { λ a b arena answer spent given. V.stays_spent a.inner b.inner arena.inner answer spent given };
+
+    fn advance(&mut self, collection: &Wrapped<A>) -> Option<V::Item> {
+        self.inner.advance(&collection.inner)
+    }
+
+    fn empty() -> Self {
+        WrappedWalk { inner: V::empty() }
+    }
+}
+
 impl<P: Ptr, T: Drop, A: ArenaTrait<P, T>> ArenaTrait<P, T> for Wrapped<A> {
     ghost use Rattle.chain_trials.specs.Advancers.{until_none};
 
@@ -192,7 +216,13 @@ impl<P: Ptr, T: Drop, A: ChainArenaTrait<P, T>> ChainArenaTrait<P, T> for Wrappe
     ghost use Rattle.chain_arena.specs.Insertions.{IsInsertion};
     ghost use Rattle.chain_arena.specs.Kinds.{names_in, by_index, MayInsert};
 
+    type ChainPtrAdvancer = WrappedWalk<A::ChainPtrAdvancer>;
+
     ghost interlinks = { λ w. A.interlinks w.inner };
+
+    ghost walker = { λ v. A.walker v.inner };
+
+    ghost passes = { λ v w arena answer given. A.passes v.inner w.inner arena.inner answer given };
 
     ghost stand = { λ w i. A.stand w.inner i };
 
@@ -277,8 +307,26 @@ impl<P: Ptr, T: Drop, A: ChainArenaTrait<P, T>> ChainArenaTrait<P, T> for Wrappe
         self.inner.get_inx_link_no_gen(i)
     }
 
+    fn advancer_chain(&self, p: P) -> WrappedWalk<A::ChainPtrAdvancer> {
+        WrappedWalk {
+            inner: self.inner.advancer_chain(p),
+        }
+    }
+
     fn connect(&mut self, p: P, q: P) -> Option<()> {
         self.inner.connect(p, q)
+    }
+
+    fn break_prev(&mut self, p: P) -> Option<()> {
+        self.inner.break_prev(p)
+    }
+
+    fn break_next(&mut self, p: P) -> Option<()> {
+        self.inner.break_next(p)
+    }
+
+    fn exchange_next(&mut self, p: P, q: P) -> Option<()> {
+        self.inner.exchange_next(p, q)
     }
 
     fn remove_link_no_gen(&mut self, p: P) -> InvalidationResult<LinkNoGen<P, T>> {

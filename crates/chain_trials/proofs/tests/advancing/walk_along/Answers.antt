@@ -1,0 +1,19 @@
+-- What was passed is the walk, of which nothing is left.
+use Rattle.std.proofs.Common.{sym, ap, ◌∙◌, subst}
+use Rattle.chain_laws.specs.Walks.{IsWalk, passes_ahead}
+use Rattle.chain_trials.proofs.Along.{entry_valid, walk_ahead, walk_whole}
+use Rattle.chain_trials.proofs.tests.advancing.walk_along.Goals as goal
+
+pub returns : goal.returns
+returns g c =
+    let a = c.args.arena.now in
+    let links = g.A.ChainArenaTrait.interlinks a in
+    let entry = g.A.ArenaTrait.entry a in
+    let es = (g.A.ArenaTrait.seen a).entries in
+    let stands = g.met.A.ChainArenaTrait.stand a in
+    let looked = g.met.A.ArenaTrait.looked_up a in
+    let i = (g.P.Ptr.key c.args.p).0 in
+    λ valid. walk_whole links entry es stands looked i _ (passes_ahead links (g.A.ChainArenaTrait.walker c.loop-q.along))
+    (subst (IsWalk links i) (sym (c.loop-q.invariant ∙ ap (passes_ahead links) (c.advancer_chain-along.ensures.valid valid)))
+    (walk_ahead links entry es stands looked g.P.Inx.PtrInx.greatest i c.advancer_chain-along.ensures.agree c.len.ensures.indexes (entry_valid links entry es stands looked i _ valid.stands)))
+    (g.met.A.ChainArenaTrait.passes c.loop-q.along c.advance.new.self a _ c.in_default.ensures).end

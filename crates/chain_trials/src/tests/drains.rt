@@ -1,0 +1,158 @@
+//! Chains that are removed link by link.
+
+ghost use Rattle.std.specs.Prelude.{◌≡◌};
+ghost use Rattle.arena_base.specs.Arena.{IsValid};
+ghost use Rattle.chain_arena.specs.ChainArena.{entry};
+ghost use Rattle.chain_arena.specs.Drains.{walk_left, without_each};
+
+use super::{At, Chains, NONE, first, number, numbers, same, shows, tied_links};
+use arena_base::{ArenaSlot, ArenaTrait};
+use arena_ptr::{InvalidationOption, Ptr, SlotStack, ToolPtr};
+use chain_arena::{ChainArena, ChainDrain, LinkNoGen};
+use std::alloc::Global;
+use std::mem::forget;
+use std::process::Abort;
+use std::rt::HostRuntime;
+use std::test::Fail;
+
+// Removes a pointer's chain, in any chain arena.
+fn remove_chain<P: Ptr, T: Drop, S: SlotStack<Item = ArenaSlot<P, LinkNoGen<P, T>>>>(
+    arena: &mut ChainArena<P, T, S>,
+    p: P,
+)
+    ensures valid { IsValid (entry arena.old) (P.key p) → arena.new ≡ without_each P.Gen.following arena.old (walk_left arena.old (P.key p).0) }
+    ensures invalid { ¬ IsValid (entry arena.old) (P.key p) → arena.new ≡ arena.old }
+{
+    match arena.drain_chain(p) {
+        Some(drain) => drop(drain),
+        None => {}
+    }
+}
+
+// A link that is gone: its pointer, the indexes of the links that it stood between, and its value.
+type Gone = (At, (u32, u32), u32);
+
+// What a drain yields, where the counter does not overflow.
+fn gone(rt: &impl Abort, item: InvalidationOption<(ToolPtr, LinkNoGen<ToolPtr, u32>)>) -> Gone {
+    let ((p, link), overflow) = item.overflowing();
+    assert!(rt; !overflow);
+    (
+        numbers(Some(p)),
+        (number(link.prev()), number(link.next())),
+        link.t,
+    )
+}
+
+// The first link that a drain yields.
+fn first_gone(rt: &impl Abort, drain: &mut ChainDrain<'_, ToolPtr, u32>) -> Gone {
+    let item = drain.next().expect(rt, "a link");
+    gone(rt, item)
+}
+
+// Looks whether a drain from one of the first three links, of which some are tied, yields these and leaves none.
+fn drains(
+    rt: &impl Abort,
+    alloc: Global,
+    pairs: &[At],
+    from: u32,
+    want: &[Gone],
+) -> Result<(), Fail> {
+    let mut arena: Chains = tied_links(rt, alloc, 3, pairs);
+    let mut all = Vec::new(alloc);
+    let drain = arena.drain_chain(first(rt, from)).expect(rt, "a link");
+    for item in drain {
+        all.push(gone(rt, item))?;
+    }
+    assert_eq!(rt; all.as_slice(), want);
+    assert!(rt; arena.is_empty());
+    same(rt, "counter", arena.generation().get(), 5);
+    Ok(())
+}
+
+// A linear chain of four, and a lone link.
+fn four_and_one(rt: &impl Abort, alloc: Global) -> Chains {
+    tied_links(rt, alloc, 5, &[(1, 2), (2, 3), (3, 4)])
+}
+
+#[test]
+fn drains_a_linear_chain(rt: HostRuntime) -> Result<(), Fail> {
+    let pairs = [(1, 2), (2, 3)];
+    let all = [
+        ((1, 2), (0, 2), 1),
+        ((2, 2), (0, 3), 2),
+        ((3, 2), (0, 0), 3),
+    ];
+    drains(&rt, rt.alloc(), &pairs, 1, &all)?;
+    let from_the_middle = [
+        ((2, 2), (1, 3), 2),
+        ((3, 2), (1, 0), 3),
+        ((1, 2), (0, 0), 1),
+    ];
+    drains(&rt, rt.alloc(), &pairs, 2, &from_the_middle)
+}
+
+#[test]
+fn drains_a_cycle(rt: HostRuntime) -> Result<(), Fail> {
+    let pairs = [(1, 2), (2, 3), (3, 1)];
+    let all = [
+        ((1, 2), (3, 2), 1),
+        ((2, 2), (3, 3), 2),
+        ((3, 2), (3, 3), 3),
+    ];
+    drains(&rt, rt.alloc(), &pairs, 1, &all)
+}
+
+#[test]
+fn no_drain_of_an_invalid_pointer(rt: HostRuntime) -> Result<(), Fail> {
+    let mut arena: Chains = tied_links(&rt, rt.alloc(), 1, &[]);
+    remove_chain(&mut arena, first(&rt, 2));
+    assert!(rt; arena.drain_chain(first(&rt, 2)).is_none());
+    shows(
+        &rt,
+        rt.alloc(),
+        "the same",
+        &arena,
+        &[((1, 2), 1, NONE, NONE)],
+    )
+}
+
+#[test]
+fn a_dropped_drain_takes_the_rest(rt: HostRuntime) -> Result<(), Fail> {
+    let mut arena = four_and_one(&rt, rt.alloc());
+    let mut drain = arena.drain_chain(first(&rt, 2)).expect(&rt, "a link");
+    same(
+        &rt,
+        "the first",
+        first_gone(&rt, &mut drain),
+        ((2, 2), (1, 3), 2),
+    );
+    drop(drain);
+    same(&rt, "counter", arena.generation().get(), 6);
+    shows(
+        &rt,
+        rt.alloc(),
+        "the other",
+        &arena,
+        &[((5, 2), 5, NONE, NONE)],
+    )
+}
+
+#[test]
+fn a_forgotten_drain_leaves_the_rest(rt: HostRuntime) -> Result<(), Fail> {
+    let mut arena = four_and_one(&rt, rt.alloc());
+    let mut drain = arena.drain_chain(first(&rt, 2)).expect(&rt, "a link");
+    same(
+        &rt,
+        "the first",
+        first_gone(&rt, &mut drain),
+        ((2, 2), (1, 3), 2),
+    );
+    forget(drain);
+    let rest = [
+        ((1, 2), 1, NONE, (3, 2)),
+        ((3, 2), 3, (1, 2), (4, 2)),
+        ((4, 2), 4, (3, 2), NONE),
+        ((5, 2), 5, NONE, NONE),
+    ];
+    shows(&rt, rt.alloc(), "the rest", &arena, &rest)
+}
