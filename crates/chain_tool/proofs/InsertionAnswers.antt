@@ -1,6 +1,6 @@
 -- What an insertion answers.
 use Rattle.std.proofs.Common.{◌≡◌, ◌≢◌, ◌↔◌, ◌<◌, ◌≤◌, ◌+◌, ℕ, ◌⊎◌, ◌++◌, Option, None, Some, Result, Ok, Err, OnOk, OnErr, refl, sym, ap, ap₂, ◌∙◌, ⊎_elim, subst, codes, false, arith}
-use Rattle.std.specs.Prelude.{IsOk, IsSome, IsTrue, IfOk, IfErr}
+use Rattle.std.specs.Prelude.{IsOk, IsTrue, IfOk, IfErr}
 use Rattle.std.proofs.lemmas.Bool.{cases_lt, cases_eq, false≢true}
 use Rattle.std.proofs.lemmas.Option.{none-some}
 use Rattle.arena_ptr.specs.ToolPtr.{key_of}
@@ -19,7 +19,7 @@ use Rattle.chain_arena.specs.Kinds.{LinkName, HasName, MayInsert, by_index}
 use Rattle.chain_arena.proofs.Telling.{count-seen}
 use Rattle.chain_tool.specs.Commands.{Kind}
 use Rattle.chain_tool.specs.Answers.{Links, pointer_text, names, MayAdd, with_added, added_text, insertion_text, greatest_index, Adds, added, grown, limited, refused, not_linked, AddsWithin, added_within, full, not_linked_within}
-use Rattle.chain_tool.proofs.RemovalAnswers.{valid_at}
+use Rattle.chain_tool.proofs.RemovalAnswers.{named_at}
 
 -- what cannot fail to hold does
 abbrev Stable : Type 0 → Type 0
@@ -49,12 +49,7 @@ stable-valid interlinks i (Some l) is given = record { link = l; shows = is }
 
 module _ (a : Links) where
   stable-name : (name : LinkName Gen32) → Stable (HasName (entry a) name)
-  stable-name (i, None) given = by_option (entry a i) given
-    where
-      by_option : (o : Option (Gen32 × ℕ)) → Stable (IsSome o)
-      by_option None some = absurd (some false≢true)
-      by_option (Some e) some = refl
-  stable-name (i, Some g) given = ⊎_elim (λ valid. valid) (λ no. absurd (given no)) (valid_at a (i, g) (entry a i) refl)
+  stable-name name given = ⊎_elim (λ has. has) (λ no. absurd (given no)) (named_at a name)
 
   stable-link : (i : ℕ) → Stable (IsValid (shown a) i)
   stable-link i = stable-valid (shown a) i (shown a i) refl

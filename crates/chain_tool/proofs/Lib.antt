@@ -3,8 +3,10 @@ pub mod Coming
 pub mod Ending
 pub mod Feeding
 pub mod InsertionAnswers
+pub mod InvalidationAnswers
 pub mod KindLemmas
 pub mod Pointers
 pub mod RemovalAnswers
 pub mod SlowLemmas
+pub mod StepAnswers
 pub mod WordLemmas

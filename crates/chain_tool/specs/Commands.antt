@@ -1,12 +1,12 @@
 -- The commands of the program, as lines write them.
-use Rattle.std.specs.Prelude.{ℕ, nat_lt, if◌then◌else◌, List, [], ◌∷◌, length, codes, bytes_eq, Option, Some, None}
+use Rattle.std.specs.Prelude.{ℕ, nat_lt, if◌then◌else◌, List, [], ◌∷◌, length, codes, bytes_eq, Option, Some, None, option_and_then}
 use Rattle.std.specs.Option.{option_map, option_or, option_zip}
 use Rattle.arena_ptr.specs.declared.index.inx32.Inx32.{Inx32}
 use Rattle.arena_ptr.specs.declared.tool_ptr.ToolPtr.{ToolPtr}
 use Rattle.chain_arena.specs.declared.kinds.InsertKindBody.{InsertKindBody}
 use Rattle.chain_arena.specs.declared.kinds.InsertKindBody.TheVariants as kinds
 use Rattle.chain_tool.specs.declared.command.Command.{Command}
-use Rattle.chain_tool.specs.declared.command.Command.TheVariants.{Add, AddWithin, Connect, Remove, Show, Chain, Len}
+use Rattle.chain_tool.specs.declared.command.Command.TheVariants.{Add, AddWithin, Connect, BreakPrev, BreakNext, Exchange, Remove, RemoveInx, Invalidate, Clear, Show, Chain, Len}
 use Rattle.chain_tool.specs.declared.command.Line.{Line}
 use Rattle.chain_tool.specs.declared.command.Line.TheVariants as lines
 use Rattle.chain_tool.specs.Words.{words_of, number_of, index_word, pointer_of, without_return}
@@ -15,11 +15,15 @@ use Rattle.chain_tool.specs.Words.{words_of, number_of, index_word, pointer_of, 
 abbrev pub Kind : Type 0
 Kind = InsertKindBody ToolPtr Inx32
 
+-- arguments that are one word
+abbrev pub one_word : List (List ℕ) → Option (List ℕ)
+one_word [] = None
+one_word (word ∷ []) = Some word
+one_word (word ∷ next ∷ words) = None
+
 -- arguments that are one pointer
 abbrev pub one_pointer : List (List ℕ) → Option ToolPtr
-one_pointer [] = None
-one_pointer (word ∷ []) = pointer_of word
-one_pointer (word ∷ next ∷ words) = None
+one_pointer words = option_and_then pointer_of (one_word words)
 
 -- arguments that are two pointers
 abbrev pub two_pointers : List (List ℕ) → Option (ToolPtr × ToolPtr)
@@ -31,6 +35,14 @@ abbrev pub no_arguments : List (List ℕ) → Option Command → Option Command
 no_arguments [] command = command
 no_arguments (word ∷ words) command = None
 
+-- what is made of pointers, where these are some, or else of indexes
+abbrev pub by_either : {P I A : Type 0} → (P → A) → (I → A) → Option P → Option I → Option A
+by_either by_pointers by_indexes pointers indexes = option_or (option_map by_pointers pointers) (option_map by_indexes indexes)
+
+-- the removal of one link, by its pointer or by its index
+abbrev pub removal : List (List ℕ) → Option Command
+removal words = option_and_then (λ word. by_either Remove RemoveInx (pointer_of word) (index_word word)) (one_word words)
+
 -- the kinds beside no link, by their names
 abbrev pub kind_alone : List ℕ → Option Kind
 kind_alone name =
@@ -38,19 +50,15 @@ kind_alone name =
     else (if bytes_eq name (codes "ring") then Some kinds.SingleLinkCyclic
     else None)
 
--- a kind by pointers, where these are some, or else by indexes
-abbrev pub kind_by : {P I : Type 0} → (P → Kind) → (I → Kind) → Option P → Option I → Option Kind
-kind_by by_pointers by_indexes pointers indexes = option_or (option_map by_pointers pointers) (option_map by_indexes indexes)
-
 -- the kinds beside one link
 abbrev pub kind_beside : List ℕ → List ℕ → Option Kind
 kind_beside name word =
     let p = pointer_of word in
     let i = index_word word in
-    if bytes_eq name (codes "end") then kind_by kinds.ChainEnd kinds.ChainEndInx p i
-    else (if bytes_eq name (codes "start") then kind_by kinds.ChainStart kinds.ChainStartInx p i
-    else (if bytes_eq name (codes "after") then kind_by kinds.NextTo kinds.NextToInx p i
-    else (if bytes_eq name (codes "before") then kind_by kinds.PrevTo kinds.PrevToInx p i
+    if bytes_eq name (codes "end") then by_either kinds.ChainEnd kinds.ChainEndInx p i
+    else (if bytes_eq name (codes "start") then by_either kinds.ChainStart kinds.ChainStartInx p i
+    else (if bytes_eq name (codes "after") then by_either kinds.NextTo kinds.NextToInx p i
+    else (if bytes_eq name (codes "before") then by_either kinds.PrevTo kinds.PrevToInx p i
     else None)))
 
 -- the kinds between two links, both named by pointers or both by indexes: after the first and before the second
@@ -58,8 +66,8 @@ abbrev pub kind_between : List ℕ → List ℕ → List ℕ → Option Kind
 kind_between name first second =
     let p = option_zip (pointer_of first) (pointer_of second) in
     let i = option_zip (index_word first) (index_word second) in
-    if bytes_eq name (codes "between") then kind_by (λ x. kinds.AtInterlink x.0 x.1) (λ x. kinds.AtInterlinkInx x.0 x.1) p i
-    else (if bytes_eq name (codes "bridge") then kind_by (λ x. kinds.Bridge x.0 x.1) (λ x. kinds.BridgeInx x.0 x.1) p i
+    if bytes_eq name (codes "between") then by_either (λ x. kinds.AtInterlink x.0 x.1) (λ x. kinds.AtInterlinkInx x.0 x.1) p i
+    else (if bytes_eq name (codes "bridge") then by_either (λ x. kinds.Bridge x.0 x.1) (λ x. kinds.BridgeInx x.0 x.1) p i
     else None)
 
 -- the kind of a new link, with the links that it comes beside, and its value at the end
@@ -75,11 +83,16 @@ command_of name arguments =
     if bytes_eq name (codes "add") then option_map (λ a. Add a.0 a.1) (kind_and_value arguments)
     else (if bytes_eq name (codes "addwithin") then option_map (λ a. AddWithin a.0 a.1) (kind_and_value arguments)
     else (if bytes_eq name (codes "connect") then option_map (λ p. Connect p.0 p.1) (two_pointers arguments)
-    else (if bytes_eq name (codes "remove") then option_map Remove (one_pointer arguments)
+    else (if bytes_eq name (codes "breakprev") then option_map BreakPrev (one_pointer arguments)
+    else (if bytes_eq name (codes "breaknext") then option_map BreakNext (one_pointer arguments)
+    else (if bytes_eq name (codes "exchange") then option_map (λ p. Exchange p.0 p.1) (two_pointers arguments)
+    else (if bytes_eq name (codes "remove") then removal arguments
+    else (if bytes_eq name (codes "invalidate") then option_map Invalidate (one_pointer arguments)
+    else (if bytes_eq name (codes "clear") then no_arguments arguments (Some Clear)
     else (if bytes_eq name (codes "show") then option_map Show (one_pointer arguments)
     else (if bytes_eq name (codes "chain") then option_map Chain (one_pointer arguments)
     else (if bytes_eq name (codes "len") then no_arguments arguments (Some Len)
-    else None))))))
+    else None)))))))))))
 
 abbrev pub line_with : Option Command → Line
 line_with None = lines.Bad

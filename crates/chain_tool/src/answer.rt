@@ -1,13 +1,15 @@
 //! The answers to lines: each command is one step of the arena or one lookup.
 ghost use Rattle.std.specs.Prelude.{◌≡◌, ℕ, List, ◌++◌, ◌⊎◌, OnOk, OnErr, string_bytes};
 ghost use Rattle.arena_ptr.specs.ToolPtr.{key_of};
+ghost use Rattle.arena_ptr.specs.Indexes.{number_of_inx32};
+ghost use Rattle.chain_arena.specs.Kinds.{pointed, indexed};
 ghost use Rattle.chain_tool.specs.Commands.{line_of};
-ghost use Rattle.chain_tool.specs.Answers.{insertion_text, refusal_text, Adds, AddsWithin, Connects, Removes, Shows, Walks, Gives, AnswersLine};
+ghost use Rattle.chain_tool.specs.Answers.{insertion_text, refusal_text, Adds, AddsWithin, Connects, BreaksPrev, BreaksNext, Exchanges, Removes, Invalidates, Clears, Shows, Walks, Gives, AnswersLine};
 
 use crate::command::{Command, Line, parse};
-use crate::text::{push_link, push_pointer, push_value, push_walk};
+use crate::text::{push_done, push_link, push_pointer, push_renewed, push_value, push_walk};
 use arena_base::{ArenaSlot, ArenaTrait};
-use arena_ptr::{ChainInsertionError, InvalidationResult, SlotStack, ToolPtr};
+use arena_ptr::{ChainInsertionError, InvalidationResult, Inx32, SlotStack, ToolPtr};
 use chain_arena::{ChainArena, ChainArenaTrait, LinkInsertKind, LinkNoGen};
 use std::alloc::AllocError;
 
@@ -45,7 +47,13 @@ fn carry_out<S: SlotStack<Item = ArenaSlot<ToolPtr, LinkNoGen<ToolPtr, u32>>>>(
         Command::Add(kind, v) => add(arena, kind, v, text),
         Command::AddWithin(kind, v) => add_within(arena, kind, v, text),
         Command::Connect(p, q) => connect(arena, p, q, text),
+        Command::BreakPrev(p) => break_prev(arena, p, text),
+        Command::BreakNext(p) => break_next(arena, p, text),
+        Command::Exchange(p, q) => exchange(arena, p, q, text),
         Command::Remove(p) => remove(arena, p, text),
+        Command::RemoveInx(i) => remove_inx(arena, i, text),
+        Command::Invalidate(p) => invalidate(arena, p, text),
+        Command::Clear => clear(arena, text),
         Command::Show(p) => show(arena, p, text),
         Command::Chain(p) => chain(arena, p, text),
         Command::Len => {
@@ -130,10 +138,51 @@ fn connect<S: SlotStack<Item = ArenaSlot<ToolPtr, LinkNoGen<ToolPtr, u32>>>>(
     ensures err { OnErr result ((words : List ℕ) × Connects arena.old (key_of p) (key_of q) words arena.new) }
 {
     text.clear();
-    match arena.connect(p, q) {
-        Some(()) => text.push_str("ok"),
-        None => text.push_str("none"),
-    }
+    let done = arena.connect(p, q);
+    push_done(text, done)
+}
+
+/// The answer to `breakprev P`.
+fn break_prev<S: SlotStack<Item = ArenaSlot<ToolPtr, LinkNoGen<ToolPtr, u32>>>>(
+    arena: &mut ChainArena<ToolPtr, u32, S>,
+    p: ToolPtr,
+    text: &mut String,
+) -> Result<(), AllocError>
+    ensures ok { OnOk result (BreaksPrev arena.old (key_of p) (string_bytes text.new) arena.new) }
+    ensures err { OnErr result ((words : List ℕ) × BreaksPrev arena.old (key_of p) words arena.new) }
+{
+    text.clear();
+    let done = arena.break_prev(p);
+    push_done(text, done)
+}
+
+/// The answer to `breaknext P`.
+fn break_next<S: SlotStack<Item = ArenaSlot<ToolPtr, LinkNoGen<ToolPtr, u32>>>>(
+    arena: &mut ChainArena<ToolPtr, u32, S>,
+    p: ToolPtr,
+    text: &mut String,
+) -> Result<(), AllocError>
+    ensures ok { OnOk result (BreaksNext arena.old (key_of p) (string_bytes text.new) arena.new) }
+    ensures err { OnErr result ((words : List ℕ) × BreaksNext arena.old (key_of p) words arena.new) }
+{
+    text.clear();
+    let done = arena.break_next(p);
+    push_done(text, done)
+}
+
+/// The answer to `exchange P Q`.
+fn exchange<S: SlotStack<Item = ArenaSlot<ToolPtr, LinkNoGen<ToolPtr, u32>>>>(
+    arena: &mut ChainArena<ToolPtr, u32, S>,
+    p: ToolPtr,
+    q: ToolPtr,
+    text: &mut String,
+) -> Result<(), AllocError>
+    ensures ok { OnOk result (Exchanges arena.old (key_of p) (key_of q) (string_bytes text.new) arena.new) }
+    ensures err { OnErr result ((words : List ℕ) × Exchanges arena.old (key_of p) (key_of q) words arena.new) }
+{
+    text.clear();
+    let done = arena.exchange_next(p, q);
+    push_done(text, done)
 }
 
 /// The answer to `remove P`.
@@ -142,8 +191,8 @@ fn remove<S: SlotStack<Item = ArenaSlot<ToolPtr, LinkNoGen<ToolPtr, u32>>>>(
     p: ToolPtr,
     text: &mut String,
 ) -> Result<(), AllocError>
-    ensures ok { OnOk result (Removes arena.old (key_of p) (string_bytes text.new) arena.new) }
-    ensures err { OnErr result ((words : List ℕ) × Removes arena.old (key_of p) words arena.new) }
+    ensures ok { OnOk result (Removes arena.old (pointed key_of number_of_inx32 p) (string_bytes text.new) arena.new) }
+    ensures err { OnErr result ((words : List ℕ) × Removes arena.old (pointed key_of number_of_inx32 p) words arena.new) }
 {
     text.clear();
     match arena.remove_link_no_gen(p) {
@@ -151,6 +200,53 @@ fn remove<S: SlotStack<Item = ArenaSlot<ToolPtr, LinkNoGen<ToolPtr, u32>>>>(
         InvalidationResult::GenerationOverflow(link) => push_value(text, link.t, true),
         InvalidationResult::InvalidPtr => text.push_str("none"),
     }
+}
+
+/// The answer to `remove I`.
+fn remove_inx<S: SlotStack<Item = ArenaSlot<ToolPtr, LinkNoGen<ToolPtr, u32>>>>(
+    arena: &mut ChainArena<ToolPtr, u32, S>,
+    i: Inx32,
+    text: &mut String,
+) -> Result<(), AllocError>
+    ensures ok { OnOk result (Removes arena.old (indexed key_of number_of_inx32 i) (string_bytes text.new) arena.new) }
+    ensures err { OnErr result ((words : List ℕ) × Removes arena.old (indexed key_of number_of_inx32 i) words arena.new) }
+{
+    text.clear();
+    match arena.remove_inx_link_no_gen(i) {
+        InvalidationResult::Success((_, link)) => push_value(text, link.t, false),
+        InvalidationResult::GenerationOverflow((_, link)) => push_value(text, link.t, true),
+        InvalidationResult::InvalidPtr => text.push_str("none"),
+    }
+}
+
+/// The answer to `invalidate P`.
+fn invalidate<S: SlotStack<Item = ArenaSlot<ToolPtr, LinkNoGen<ToolPtr, u32>>>>(
+    arena: &mut ChainArena<ToolPtr, u32, S>,
+    p: ToolPtr,
+    text: &mut String,
+) -> Result<(), AllocError>
+    ensures ok { OnOk result (Invalidates arena.old (key_of p) (string_bytes text.new) arena.new) }
+    ensures err { OnErr result ((words : List ℕ) × Invalidates arena.old (key_of p) words arena.new) }
+{
+    text.clear();
+    match arena.invalidate(p) {
+        InvalidationResult::Success(q) => push_renewed(text, q, false),
+        InvalidationResult::GenerationOverflow(q) => push_renewed(text, q, true),
+        InvalidationResult::InvalidPtr => text.push_str("none"),
+    }
+}
+
+/// The answer to `clear`.
+fn clear<S: SlotStack<Item = ArenaSlot<ToolPtr, LinkNoGen<ToolPtr, u32>>>>(
+    arena: &mut ChainArena<ToolPtr, u32, S>,
+    text: &mut String,
+) -> Result<(), AllocError>
+    ensures ok { OnOk result (Clears arena.old (string_bytes text.new) arena.new) }
+    ensures err { OnErr result ((words : List ℕ) × Clears arena.old words arena.new) }
+{
+    text.clear();
+    let ((), overflow) = arena.clear().overflowing();
+    text.push_str(if overflow { "ok overflow" } else { "ok" })
 }
 
 /// The answer to `show P`.

@@ -1,8 +1,8 @@
 //! Commands, and the lines that write them.
-ghost use Rattle.std.specs.Prelude.{◌≡◌, bytes_eq};
+ghost use Rattle.std.specs.Prelude.{◌≡◌, bytes_eq, option_map};
 ghost use Rattle.chain_arena.specs.declared.kinds.InsertKindBody.TheVariants.{AtInterlink, AtInterlinkInx, Bridge, BridgeInx};
 ghost use Rattle.chain_tool.specs.Words.{words_of};
-ghost use Rattle.chain_tool.specs.Commands.{one_pointer, two_pointers, no_arguments, kind_by, kind_alone, kind_beside, kind_between, kind_and_value, command_of, line_of};
+ghost use Rattle.chain_tool.specs.Commands.{one_word, one_pointer, two_pointers, no_arguments, by_either, removal, kind_alone, kind_beside, kind_between, kind_and_value, command_of, line_of};
 
 use crate::words::{index, next_word, number, pointer, without_return};
 use arena_ptr::{Inx32, ToolPtr};
@@ -17,8 +17,20 @@ pub enum Command {
     AddWithin(LinkInsertKind<ToolPtr>, u32),
     /// `connect P Q`: the second link follows the first.
     Connect(ToolPtr, ToolPtr),
+    /// `breakprev P`: the link is cut apart from the one before it.
+    BreakPrev(ToolPtr),
+    /// `breaknext P`: .. from the one after it.
+    BreakNext(ToolPtr),
+    /// `exchange P Q`: what comes after the two links is exchanged.
+    Exchange(ToolPtr, ToolPtr),
     /// `remove P`: the link goes, and its neighbours are joined.
     Remove(ToolPtr),
+    /// `remove I`: .. the link at an index.
+    RemoveInx(Inx32),
+    /// `invalidate P`: the link gets the next generation.
+    Invalidate(ToolPtr),
+    /// `clear`: all links go.
+    Clear,
     /// `show P`: the link and its neighbours.
     Show(ToolPtr),
     /// `chain P`: the walk from the link.
@@ -67,8 +79,19 @@ fn named(name: &[u8], arguments: &[u8]) -> Option<Command>
     } else if is(name, "connect") {
         let (p, q) = two_pointers(arguments)?;
         Some(Command::Connect(p, q))
+    } else if is(name, "breakprev") {
+        Some(Command::BreakPrev(one_pointer(arguments)?))
+    } else if is(name, "breaknext") {
+        Some(Command::BreakNext(one_pointer(arguments)?))
+    } else if is(name, "exchange") {
+        let (p, q) = two_pointers(arguments)?;
+        Some(Command::Exchange(p, q))
     } else if is(name, "remove") {
-        Some(Command::Remove(one_pointer(arguments)?))
+        removal(arguments)
+    } else if is(name, "invalidate") {
+        Some(Command::Invalidate(one_pointer(arguments)?))
+    } else if is(name, "clear") {
+        no_arguments(arguments, Command::Clear)
     } else if is(name, "show") {
         Some(Command::Show(one_pointer(arguments)?))
     } else if is(name, "chain") {
@@ -161,7 +184,7 @@ fn between(
     pointers: Option<(ToolPtr, ToolPtr)>,
     indexes: Option<(Inx32, Inx32)>,
 ) -> Option<LinkInsertKind<ToolPtr>>
-    ensures { result ≡ kind_by (λ x. AtInterlink x.0 x.1) (λ x. AtInterlinkInx x.0 x.1) pointers indexes }
+    ensures { result ≡ by_either (λ x. AtInterlink x.0 x.1) (λ x. AtInterlinkInx x.0 x.1) pointers indexes }
 {
     match pointers {
         Some((next_to, prev_to)) => Some(LinkInsertKind::AtInterlink { next_to, prev_to }),
@@ -177,7 +200,7 @@ fn bridge(
     pointers: Option<(ToolPtr, ToolPtr)>,
     indexes: Option<(Inx32, Inx32)>,
 ) -> Option<LinkInsertKind<ToolPtr>>
-    ensures { result ≡ kind_by (λ x. Bridge x.0 x.1) (λ x. BridgeInx x.0 x.1) pointers indexes }
+    ensures { result ≡ by_either (λ x. Bridge x.0 x.1) (λ x. BridgeInx x.0 x.1) pointers indexes }
 {
     match pointers {
         Some((end, start)) => Some(LinkInsertKind::Bridge { end, start }),
@@ -198,15 +221,33 @@ fn no_arguments(arguments: &[u8], command: Command) -> Option<Command>
     }
 }
 
+/// The removal of the link of a pointer, or of the link at an index.
+fn removal(arguments: &[u8]) -> Option<Command>
+    ensures { result ≡ removal (words_of arguments.now) }
+{
+    let word = one_word(arguments)?;
+    match pointer(word) {
+        Some(p) => Some(Command::Remove(p)),
+        None => Some(Command::RemoveInx(index(word)?)),
+    }
+}
+
+/// The arguments, where they are one word.
+fn one_word(arguments: &[u8]) -> Option<&[u8]>
+    ensures { option_map (λ word. word.now) result ≡ one_word (words_of arguments.now) }
+{
+    let (word, rest) = next_word(arguments)?;
+    match next_word(rest) {
+        None => Some(word),
+        Some(_) => None,
+    }
+}
+
 /// The arguments, where they are one pointer.
 fn one_pointer(arguments: &[u8]) -> Option<ToolPtr>
     ensures { result ≡ one_pointer (words_of arguments.now) }
 {
-    let (word, rest) = next_word(arguments)?;
-    if next_word(rest).is_some() {
-        return None;
-    }
-    pointer(word)
+    pointer(one_word(arguments)?)
 }
 
 /// The arguments, where they are two pointers.

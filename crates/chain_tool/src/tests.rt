@@ -3,7 +3,7 @@ ghost use Rattle.std.specs.Prelude.{◌≡◌, ℕ, List, ◌∷◌, [], codes, 
 ghost use Rattle.chain_arena.specs.declared.kinds.InsertKindBody.TheVariants.{Disconnected, SingleLinkCyclic, ChainEnd, NextToInx, BridgeInx};
 ghost use Rattle.arena_ptr.specs.declared.index.inx32.Inx32.{Inx32};
 ghost use Rattle.arena_ptr.specs.declared.tool_ptr.ToolPtr.{ToolPtr};
-ghost use Rattle.chain_tool.specs.declared.command.Command.TheVariants.{Add, AddWithin, Len};
+ghost use Rattle.chain_tool.specs.declared.command.Command.TheVariants.{Add, AddWithin, Remove, RemoveInx, Len};
 ghost use Rattle.chain_tool.specs.declared.command.Line.TheVariants.{Blank, Bad, Good};
 ghost use Rattle.chain_tool.specs.Words.{lines_of, whole_lines, without_return, words_of, number_of, index_word, pointer_of};
 ghost use Rattle.chain_tool.specs.Commands.{line_of};
@@ -88,8 +88,10 @@ fn definitions()
     ensures by_pointer { (p : ToolPtr) → pointer_of (codes "1.2") ≡ Some p → line_of (codes "add end 1.2 7") ≡ Good (Add (ChainEnd p) 7) }
     ensures by_index { (i : Inx32) → index_word (codes "1") ≡ Some i → line_of (codes "addwithin after 1 7") ≡ Good (AddWithin (NextToInx i) 7) }
     ensures by_indexes { (i j : Inx32) → index_word (codes "3") ≡ Some i → index_word (codes "1") ≡ Some j → line_of (codes "add bridge 3 1 7") ≡ Good (Add (BridgeInx i j) 7) }
+    ensures remove_pointer { (p : ToolPtr) → pointer_of (codes "1.2") ≡ Some p → line_of (codes "remove 1.2") ≡ Good (Remove p) }
+    ensures remove_index { (i : Inx32) → index_word (codes "1") ≡ Some i → line_of (codes "remove 1") ≡ Good (RemoveInx i) }
     ensures mixed_forms { line_of (codes "add between 1.2 1 5") ≡ Bad }
-    ensures later_command { line_of (codes "breaknext 1.2") ≡ Bad }
+    ensures later_command { line_of (codes "drain") ≡ Bad }
     ensures blank { line_of (codes " ") ≡ Blank }
     ensures unfinished { (lines : List (List ℕ)) → AreComplete (codes "add alone 2") (Some (codes "5")) lines → lines ≡ [] }
     ensures finished { AreComplete (codes "add alone 2") (Some []) (codes "add alone 2" ∷ []) }
@@ -113,7 +115,7 @@ fn first_table(rt: HostRuntime) {
         "add alone 1\nconnect 1.2 1.2\nshow 1.2\nconnect 1.2 1.2\nadd end 1.2 2\nadd alone 2\nadd alone 3\n\
         connect 2.2 3.2\nconnect 3.2 2.2\nchain 3.2\nlen\nbreaknext 3.2\n";
     let output = "at 1.2\nok\nprev 1.2 next 1.2 value 1\nnone\nrefused link\nat 2.2\nat 3.2\n\
-        ok\nok\n3.2:3 2.2:2\ncount 3\nbad line\n";
+        ok\nok\n3.2:3 2.2:2\ncount 3\nok\n";
     check_texts(&rt, rt.alloc(), &[(input, output)]);
 }
 
@@ -138,7 +140,7 @@ fn lines_and_words(rt: HostRuntime) {
         ("connect 1.2\n", "bad line\n"),
         ("connect 1.2 1.2 1.2\n", "bad line\n"),
         ("hello\nlen\n", "bad line\ncount 0\n"),
-        ("remove 1.2 1.2\nclear\n", "bad line\nbad line\n"),
+        ("remove 1.2 1.2\nclear\n", "bad line\nok\n"),
     ];
     check_texts(&rt, rt.alloc(), &ROWS);
 }
@@ -480,8 +482,43 @@ fn removal_table(rt: HostRuntime) {
         "add alone 1\nadd alone 2\nconnect 1.2 2.2\nconnect 2.2 1.2\nremove 2.2\nshow 1.2\nadd alone 9\n\
         len\nremove 2.2\nremove 1.2 \nremove 1\nremove\n";
     let output = "at 1.2\nat 2.2\nok\nok\nvalue 2\nprev 1.2 next 1.2 value 1\nat 2.3\n\
-        count 2\nnone\nvalue 1\nbad line\nbad line\n";
+        count 2\nnone\nvalue 1\nnone\nbad line\n";
     check_texts(&rt, rt.alloc(), &[(input, output)]);
+}
+
+#[test]
+fn cutting_table(rt: HostRuntime) {
+    let input =
+        "add alone 1\nadd end 1 2\nadd end 2 3\nadd end 3 4\nexchange 1.2 2.2\nchain 1.2\nexchange 1.2 2.2\n\
+        chain 1.2\nbreaknext 2.2\nbreakprev 1.2\nexchange 4.2 1.2\ninvalidate 3.2\nshow 4.2\nlen\n";
+    let output =
+        "at 1.2\nat 2.2\nat 3.2\nat 4.2\nok\n1.2:1 3.2:3 4.2:4\nok\n1.2:1 2.2:2 3.2:3 4.2:4\nok\nnone\nnone\n\
+        at 3.3\nprev 3.3 next - value 4\ncount 4\n";
+    check_texts(&rt, rt.alloc(), &[(input, output)]);
+}
+
+#[test]
+fn removed_by_index(rt: HostRuntime) {
+    let input =
+        "add alone 1\nadd end 1.2 2\nremove 1\nremove 1\nremove 1.2\nshow 2.2\nclear\nclear\nadd alone 3\n";
+    let output = "at 1.2\nat 2.2\nvalue 1\nnone\nnone\nprev - next - value 2\nok\nok\nat 1.4\n";
+    check_texts(&rt, rt.alloc(), &[(input, output)]);
+}
+
+#[test]
+fn malformed_steps(rt: HostRuntime) {
+    const ROWS: [(&str, &str); 9] = [
+        ("breaknext 1\n", "bad line\n"),
+        ("breakprev\n", "bad line\n"),
+        ("exchange 1.2\n", "bad line\n"),
+        ("exchange 1.2 1\n", "bad line\n"),
+        ("invalidate 1\n", "bad line\n"),
+        ("clear 1\n", "bad line\n"),
+        ("remove 4294967296\n", "bad line\n"),
+        ("remove 0\n", "bad line\n"),
+        ("remove 1 2\n", "bad line\n"),
+    ];
+    check_texts(&rt, rt.alloc(), &ROWS);
 }
 
 /// Carries out a text on an arena with a limit, and looks whether the program writes these lines.
@@ -526,4 +563,29 @@ fn a_removal_that_overflows(rt: HostRuntime) {
     let input = "add alone 5\nremove 1.4294967295\nadd alone 6\n";
     let output = "at 1.4294967295\nvalue 5 overflow\nat 1.2\n";
     check_on(&rt, rt.alloc(), &mut arena, input, output);
+}
+
+/// Carries out a text on two linked links, where the counter is at its greatest, and looks whether the program writes
+/// these lines.
+fn check_at_greatest(rt: &impl Abort, alloc: Global, input: &str, output: &str) {
+    let mut arena = empty(alloc);
+    let links = "add alone 5\nadd end 1.2 6\n";
+    check_on(rt, alloc, &mut arena, links, "at 1.2\nat 2.2\n");
+    arena.set_generation(greatest(rt));
+    check_on(rt, alloc, &mut arena, input, output);
+}
+
+#[test]
+fn steps_that_overflow(rt: HostRuntime) {
+    const ROWS: [(&str, &str); 3] = [
+        (
+            "invalidate 2.2\nshow 1.2\n",
+            "at 2.2 overflow\nprev - next 2.2 value 5\n",
+        ),
+        ("remove 1\nlen\n", "value 5 overflow\ncount 1\n"),
+        ("clear\nclear\nadd alone 7\n", "ok overflow\nok\nat 1.2\n"),
+    ];
+    for (input, output) in &ROWS {
+        check_at_greatest(&rt, rt.alloc(), input, output);
+    }
 }

@@ -1,7 +1,7 @@
 //! The texts of answers.
 ghost use Rattle.std.specs.Prelude.{◌≡◌, ◌++◌, OnOk, string_bytes, option_map, codes, decimal};
 ghost use Rattle.arena_ptr.specs.ToolPtr.{key_of};
-ghost use Rattle.chain_tool.specs.Answers.{pointer_text, overflow_text, neighbor_text, show_text, passed_text, walk_text};
+ghost use Rattle.chain_tool.specs.Answers.{pointer_text, overflow_text, done_text, neighbor_text, show_text, passed_text, walk_text};
 
 use arena_base::ArenaSlot;
 use arena_ptr::{Ptr, SlotStack, ToolPtr};
@@ -47,7 +47,33 @@ pub fn push_value(text: &mut String, value: u32, overflow: bool) -> Result<(), A
     ensures { OnOk result (string_bytes text.new ≡ string_bytes text.old ++ (codes "value " ++ decimal value ++ overflow_text overflow)) }
 {
     write!(text, "value {value}")?;
+    push_overflow(text, overflow)
+}
+
+/// Adds the new pointer of a link to a text, and whether the counter has overflowed.
+pub fn push_renewed(text: &mut String, p: ToolPtr, overflow: bool) -> Result<(), AllocError>
+    ensures { OnOk result (string_bytes text.new ≡ string_bytes text.old ++ (codes "at " ++ pointer_text (key_of p) ++ overflow_text overflow)) }
+{
+    text.push_str("at ")?;
+    push_pointer(text, p)?;
+    push_overflow(text, overflow)
+}
+
+/// Adds to a text whether the counter has overflowed.
+fn push_overflow(text: &mut String, overflow: bool) -> Result<(), AllocError>
+    ensures { OnOk result (string_bytes text.new ≡ string_bytes text.old ++ overflow_text overflow) }
+{
     text.push_str(if overflow { " overflow" } else { "" })
+}
+
+/// Adds to a text whether a step was made.
+pub fn push_done(text: &mut String, done: Option<()>) -> Result<(), AllocError>
+    ensures { OnOk result (string_bytes text.new ≡ string_bytes text.old ++ done_text done) }
+{
+    match done {
+        Some(()) => text.push_str("ok"),
+        None => text.push_str("none"),
+    }
 }
 
 /// Adds a link of a walk to a text: its pointer and its value.

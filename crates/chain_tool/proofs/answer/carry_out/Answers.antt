@@ -1,8 +1,8 @@
-use Rattle.std.proofs.Common.{◌≡◌, ◌⊎◌, inr, refl, OnOk, OnErr, Result, Ok, Err, List, ℕ}
+use Rattle.std.proofs.Common.{◌⊎◌, inr, refl, OnOk, OnErr, Result, Ok, Err, List, ℕ}
 use Rattle.arena_ptr.specs.ToolPtr.{key_of}
 use Rattle.arena_ptr.specs.declared.tool_ptr.ToolPtr.{ToolPtr}
-use Rattle.chain_tool.specs.Answers.{Links, Gives, Removes, Shows, Walks}
-use Rattle.chain_tool.specs.declared.command.Command.TheVariants.{Remove, Show, Chain}
+use Rattle.chain_tool.specs.Answers.{Links, Gives, Shows, Walks}
+use Rattle.chain_tool.specs.declared.command.Command.TheVariants.{Show, Chain}
 use Rattle.chain_tool.proofs.answer.carry_out.Goals as goal
 
 shows_ok : {T E : Type 0} (old : Links) (p : ToolPtr) (text : List ℕ) (r : Result T E) → OnOk r (Shows old (key_of p) text) → OnOk r (Gives old (Show p) text old)
@@ -13,10 +13,9 @@ walks_ok : {T E : Type 0} (old : Links) (p : ToolPtr) (text : List ℕ) (r : Res
 walks_ok old p text (Ok x) walks = (walks, refl)
 walks_ok old p text (Err e) walks = tt
 
-removes_or : {T E : Type 0} (old new : Links) (p : ToolPtr) (r : Result T E) → OnErr r ((words : List ℕ) × Removes old (key_of p) words new)
-    → OnErr r ((new ≡ old) ⊎ ((words : List ℕ) × Gives old (Remove p) words new))
-removes_or old new p (Ok x) removes = tt
-removes_or old new p (Err e) removes = inr removes
+step_or : {T E : Type 0} (Same Steps : Type 0) (r : Result T E) → OnErr r Steps → OnErr r (Same ⊎ Steps)
+step_or Same Steps (Ok x) steps = tt
+step_or Same Steps (Err e) steps = inr steps
 
 pub returns-in-Show-clause-ok : goal.returns-in-Show-clause-ok
 returns-in-Show-clause-ok g c = rw c.in-Show.is (shows_ok _ c.in-Show.p _ c.show.result c.show.ensures)
@@ -24,5 +23,14 @@ returns-in-Show-clause-ok g c = rw c.in-Show.is (shows_ok _ c.in-Show.p _ c.show
 pub returns-in-Chain-clause-ok : goal.returns-in-Chain-clause-ok
 returns-in-Chain-clause-ok g c = rw c.in-Chain.is (walks_ok _ c.in-Chain.p _ c.chain.result c.chain.ensures)
 
+pub returns-in-BreakPrev-clause-err : goal.returns-in-BreakPrev-clause-err
+returns-in-BreakPrev-clause-err g c = rw c.in-BreakPrev.is (step_or _ _ c.break_prev.result c.break_prev.ensures.err)
+
+pub returns-in-BreakNext-clause-err : goal.returns-in-BreakNext-clause-err
+returns-in-BreakNext-clause-err g c = rw c.in-BreakNext.is (step_or _ _ c.break_next.result c.break_next.ensures.err)
+
 pub returns-in-Remove-clause-err : goal.returns-in-Remove-clause-err
-returns-in-Remove-clause-err g c = rw c.in-Remove.is (removes_or _ _ c.in-Remove.p c.remove.result c.remove.ensures.err)
+returns-in-Remove-clause-err g c = rw c.in-Remove.is (step_or _ _ c.remove.result c.remove.ensures.err)
+
+pub returns-in-RemoveInx-clause-err : goal.returns-in-RemoveInx-clause-err
+returns-in-RemoveInx-clause-err g c = rw c.in-RemoveInx.is (step_or _ _ c.remove_inx.result c.remove_inx.ensures.err)

@@ -1,11 +1,12 @@
-use Rattle.std.proofs.Common.{refl, codes}
-use Rattle.std.proofs.lemmas.Bool.{false≢true}
+use Rattle.std.proofs.Common.{refl}
+use Rattle.arena_ptr.specs.ToolPtr.{key_of}
 use Rattle.chain_tool.specs.Answers.{Connects, connected, not_connected}
 use Rattle.chain_tool.proofs.AnswerLemmas.{answers_err}
+use Rattle.chain_tool.proofs.StepAnswers.{done_answers}
 use Rattle.chain_tool.proofs.answer.connect.Goals as goal
 
-pub returns-in-Some-clause-err : goal.returns-in-Some-clause-err
-returns-in-Some-clause-err g c = answers_err (Connects _ _ _) _ (codes "ok") c.push_str.result (connected (c.in-Some.ensures.some.0 refl) refl c.in-Some.ensures.state)
-
-pub returns-in-None-clause-err : goal.returns-in-None-clause-err
-returns-in-None-clause-err g c = answers_err (Connects _ _ _) _ (codes "none") c.push_str-in-None.result (not_connected (λ can. false≢true (c.in-None.ensures.some.1 can)) refl c.in-None.ensures.none)
+pub returns-clause-err : goal.returns-clause-err
+returns-clause-err g c =
+    let step = c.connect-done in
+    answers_err (Connects _ _ _) _ _ c.push_done.result
+    (done_answers (λ text. Connects c.args.arena.now (key_of c.args.p) (key_of c.args.q) text step.new.self) (λ can is. connected can refl is) (λ cannot same. not_connected cannot refl same) step.result step.ensures.some step.ensures.state step.ensures.none)

@@ -1,9 +1,9 @@
-use Rattle.std.proofs.Common.{◌≡◌, ℕ, List, [], Some, ap, refl}
+use Rattle.std.proofs.Common.{◌≡◌, ℕ, List, [], None, Some, ap, refl}
 use Rattle.std.specs.Prelude.{codes}
 use Rattle.std.specs.Option.{option_map, option_zip}
 use Rattle.chain_arena.specs.declared.kinds.InsertKindBody.TheVariants.{ChainEnd, NextToInx, BridgeInx}
-use Rattle.chain_tool.specs.declared.command.Command.TheVariants.{Add, AddWithin}
-use Rattle.chain_tool.specs.Commands.{line_with}
+use Rattle.chain_tool.specs.declared.command.Command.TheVariants.{Add, AddWithin, Remove, RemoveInx}
+use Rattle.chain_tool.specs.Commands.{line_with, by_either}
 use Rattle.chain_tool.specs.Transcripts.{AreComplete, by_line_feed, by_the_end}
 use Rattle.chain_tool.specs.Words.{index_of, generation_of}
 use Rattle.chain_tool.proofs.tests.definitions.Goals as goal
@@ -35,6 +35,14 @@ returns-clause-by_index c = λ i is. ap (λ o. line_with (option_map (λ a. AddW
 pub returns-clause-by_indexes : goal.returns-clause-by_indexes
 unfolding index_of generation_of
 returns-clause-by_indexes c = λ i j is_i is_j. (λ t. line_with (option_map (λ a. Add a.0 a.1) (option_zip (option_map (λ x. BridgeInx x.0 x.1) (option_zip (is_i t) (is_j t))) (Some 7))))
+
+pub returns-clause-remove_pointer : goal.returns-clause-remove_pointer
+unfolding index_of generation_of
+returns-clause-remove_pointer c = λ p is. ap (λ o. line_with (by_either Remove RemoveInx o None)) is
+
+pub returns-clause-remove_index : goal.returns-clause-remove_index
+unfolding index_of generation_of
+returns-clause-remove_index c = λ i is. ap (λ o. line_with (by_either Remove RemoveInx None o)) is
 
 pub returns-clause-mixed_forms : goal.returns-clause-mixed_forms
 unfolding index_of generation_of
