@@ -15,7 +15,7 @@ use Rattle.arena_base.proofs.Reading.{length-with_slot}
 use Rattle.chain_arena.specs.ChainArena.{LinkSeen, shown, on_value, value_in as held_value, interlinks_of, values_of, link_of, link_at, remove_link}
 use Rattle.chain_arena.specs.Insertions.{index_from}
 use Rattle.chain_arena.specs.Links.{seen_link}
-use Rattle.chain_arena.specs.Drains.{walk_left, without_each, IsDrainStep}
+use Rattle.chain_arena.specs.Drains.{walk_left, without_each, IsDrainStep, CountsUp}
 use Rattle.chain_arena.specs.declared.links.LinkBody.{LinkBody}
 use Rattle.chain_arena.proofs.Mapping.{entry_at-with_each}
 use Rattle.chain_arena.proofs.Seeing.{length-relinked}
@@ -23,7 +23,7 @@ use Rattle.chain_arena.proofs.Inserting.{shown-within}
 use Rattle.chain_arena.proofs.Unlinking.{passes_over, shown-remove_link}
 
 -- an answer of a value tells whether the counter overflowed
-is_overflow_result-made : {X : Type 0} (overflow : Bool) (x : X) → is_overflow_result (invalidation_result overflow (Some x)) ≡ overflow
+pub is_overflow_result-made : {X : Type 0} (overflow : Bool) (x : X) → is_overflow_result (invalidation_result overflow (Some x)) ≡ overflow
 is_overflow_result-made true x = refl
 is_overflow_result-made false x = refl
 
@@ -72,6 +72,22 @@ module _ {Gen T : Type 0} where
   -- a removal leaves as many slots
   length-remove_link : (following : Gen → Gen) (a : Arena Gen (LinkSeen T)) (i : ℕ) → length (remove_link following a i).slots ≡ length a.slots
   length-remove_link following a i = length-relinked (remove_at following a i) (removed (shown a) i) ∙ length-with_slot a.slots i None
+
+  -- each removal counts up
+  pub without_each-counts : (following : Gen → Gen) (a b : Arena Gen (LinkSeen T)) (indexes : List ℕ) → b ≡ without_each following a indexes → CountsUp following (length indexes) a b
+  without_each-counts following a b indexes gone = subst (CountsUp following (length indexes) a) (sym gone) (counts a indexes)
+    where
+      counts : (a : Arena Gen (LinkSeen T)) (indexes : List ℕ) → CountsUp following (length indexes) a (without_each following a indexes)
+      counts a [] = record { counter = refl; slots = refl; capacity = refl; stack_capacity = refl; maximum = refl }
+      counts a (i ∷ rest) =
+          let later = counts (remove_link following a i) rest in
+          record {
+            counter = later.counter;
+            slots = later.slots ∙ length-remove_link following a i;
+            capacity = later.capacity;
+            stack_capacity = later.stack_capacity;
+            maximum = later.maximum;
+          }
 
   -- the walk goes on once its first link is removed
   walk_left-next : (following : Gen → Gen) (a b : Arena Gen (LinkSeen T)) (i next : ℕ) (e : Gen × LinkSeen T) → Agrees (shown a) → entry_at a i ≡ Some e → b ≡ remove_link following a i

@@ -5,6 +5,7 @@ pub mod Draining
 pub mod Inserting
 pub mod Iterating
 pub mod Lending
+pub mod LinkDraining
 pub mod Naming
 pub mod Mapping
 pub mod Outcomes

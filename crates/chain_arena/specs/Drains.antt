@@ -1,13 +1,20 @@
--- What a drain of a chain still removes, and what its steps make of the arena.
-use Rattle.std.specs.Prelude.{◌≡◌, ℕ, Bool, List, [], ◌∷◌, length, MatchOption, Option, Some}
+-- What a drain of a chain, or of all links, still removes, and what its steps make of the arena.
+use Rattle.std.specs.Prelude.{◌≡◌, ℕ, zero, suc, Bool, List, [], ◌∷◌, length, MatchOption, Option, Some}
 use Rattle.arena_ptr.specs.Invalidation.{value_in, is_overflow}
 use Rattle.arena_ptr.specs.declared.invalidation.InvalidationOption.{InvalidationOption}
 use Rattle.chain_laws.specs.Walks.{walk_from}
 use Rattle.arena_base.specs.Arena.{Arena, entry_at}
-use Rattle.chain_arena.specs.ChainArena.{LinkSeen, shown, remove_link}
+use Rattle.arena_base.specs.Entries.{entries}
+use Rattle.arena_base.specs.Advancing.{from_index}
+use Rattle.chain_arena.specs.ChainArena.{LinkSeen, shown, values_of, remove_link}
 use Rattle.chain_arena.specs.Insertions.{index_from}
 use Rattle.chain_arena.specs.Links.{seen_link}
 use Rattle.chain_arena.specs.declared.links.LinkBody.{LinkBody}
+
+-- a generation after so many increments
+abbrev pub after_times : {Gen : Type 0} → (Gen → Gen) → ℕ → Gen → Gen
+after_times following zero g = g
+after_times following (suc n) g = after_times following n (following g)
 
 module _ {Gen T : Type 0} where
   -- the walk from a link that is told by a number, 0 for none
@@ -18,6 +25,19 @@ module _ {Gen T : Type 0} where
   abbrev pub without_each : (Gen → Gen) → Arena Gen (LinkSeen T) → List ℕ → Arena Gen (LinkSeen T)
   without_each following a [] = a
   without_each following a (i ∷ rest) = without_each following (remove_link following a i) rest
+
+  -- so many removals: the counter goes up once for each, and slots and room stay
+  pub record CountsUp (following : Gen → Gen) (n : ℕ) (old new : Arena Gen (LinkSeen T)) : Type 0 where
+    pub counter : new.counter ≡ after_times following n old.counter
+    pub slots : length new.slots ≡ length old.slots
+    pub capacity : new.capacity ≡ old.capacity
+    pub stack_capacity : new.stack_capacity ≡ old.stack_capacity
+    pub maximum : new.maximum ≡ old.maximum
+
+  -- the entries from an index on, 0 for none: what a drain of all links has left
+  abbrev pub entries_left : Arena Gen (LinkSeen T) → ℕ → List ((ℕ × Gen) × T)
+  entries_left a zero = []
+  entries_left a (suc k) = from_index (suc k) (entries (values_of a))
 
 module _ {P Gen K T : Type 0} (key : P → ℕ × Gen) (number : K → Option ℕ) (following : Gen → Gen) (wraps : Gen → Bool) where
   -- a step of a drain that stood at a link: the link goes and is answered, and the drain stands where the walk goes on
@@ -31,3 +51,14 @@ module _ {P Gen K T : Type 0} (key : P → ℕ × Gen) (number : K → Option �
   -- a call of a drain's `next`: nothing was left and nothing changes, or it made a step
   abbrev pub DrainSteps : Arena Gen (LinkSeen T) → ℕ → Option (InvalidationOption (P × LinkBody K T)) → Arena Gen (LinkSeen T) → ℕ → Type 0
   DrainSteps old at answer new next = MatchOption answer ((walk_left old at ≡ []) × (new ≡ old) × (next ≡ at)) (λ gone. IsDrainStep old at gone new next)
+
+module _ {P Gen T : Type 0} (key : P → ℕ × Gen) (following : Gen → Gen) (wraps : Gen → Bool) where
+  -- a step of a drain of all links: the first one that was left goes and is answered
+  pub record IsLinkDrainStep (old : Arena Gen (LinkSeen T)) (at : ℕ) (answer : InvalidationOption (P × T)) (new : Arena Gen (LinkSeen T)) (next : ℕ) : Type 0 where
+    pub left : entries_left old at ≡ (key (value_in answer).0, (value_in answer).1) ∷ entries_left new next
+    pub overflow : is_overflow answer ≡ wraps old.counter
+    pub state : new ≡ remove_link following old (key (value_in answer).0).0
+
+  -- a call of its `next`: no link was left and nothing changes, or it made a step
+  abbrev pub LinkDrainSteps : Arena Gen (LinkSeen T) → ℕ → Option (InvalidationOption (P × T)) → Arena Gen (LinkSeen T) → ℕ → Type 0
+  LinkDrainSteps old at answer new next = MatchOption answer ((entries_left old at ≡ []) × (new ≡ old) × (next ≡ at)) (λ gone. IsLinkDrainStep old at gone new next)

@@ -1,5 +1,5 @@
 // The removal of a whole chain, link by link.
-ghost use Rattle.std.specs.Prelude.{◌≡◌, ◌↔◌, [], IsSome, IfSome, IfNone};
+ghost use Rattle.std.specs.Prelude.{◌≡◌, ◌↔◌, [], length, IsSome, IfSome, IfNone};
 ghost use Rattle.std.specs.Borrow.{RestsIfNone, sem};
 ghost use Rattle.std.specs.Option.{option_map};
 ghost use Rattle.std.specs.Iterator.{item_count};
@@ -9,7 +9,7 @@ ghost use Rattle.chain_laws.specs.Walks.{goes_on, IsWalk, TakesWalk};
 ghost use Rattle.arena_base.specs.Arena.{IsValid};
 ghost use Rattle.chain_arena.specs.ChainArena.{entry, shown};
 ghost use Rattle.chain_arena.specs.Insertions.{index_from};
-ghost use Rattle.chain_arena.specs.Drains.{walk_left, without_each, IsDrainStep, DrainSteps};
+ghost use Rattle.chain_arena.specs.Drains.{walk_left, without_each, IsDrainStep, DrainSteps, CountsUp};
 
 use crate::chain_arena::ChainArena;
 use crate::chain_traits::ChainArenaTrait;
@@ -102,6 +102,7 @@ impl<P: Ptr, T: Drop, S: SlotStack<Item = ArenaSlot<P, LinkNoGen<P, T>>>> ChainA
     fn drain_from(&mut self, from: usize)
         ensures state { self.new ≡ without_each P.Gen.following self.old (walk_left self.old from) }
         ensures taken { TakesWalk (shown self.old) (shown self.new) (walk_left self.old from) }
+        ensures counts { CountsUp P.Gen.following (length (walk_left self.old from)) self.old self.new }
     {
         let _ = &self.arena;
         let mut at = from;
@@ -129,7 +130,7 @@ fn yielded<P: Ptr, T>(
 }
 
 // A removed link, where it is told whether the counter overflowed.
-fn drained<T>(overflow: bool, t: T) -> InvalidationOption<T>
+pub(crate) fn drained<T>(overflow: bool, t: T) -> InvalidationOption<T>
     ensures { result ≡ invalidation_option overflow t }
 {
     if overflow {
@@ -177,6 +178,7 @@ impl<'a, P: Ptr, T: Drop, S: SlotStack<Item = ArenaSlot<P, LinkNoGen<P, T>>>> Dr
     fn drop(self)
         ensures state { self.exit.0.now ≡ without_each P.Gen.following self.entry.arena.now (walk_left self.entry.arena.now self.entry.at) }
         ensures taken { TakesWalk (shown self.entry.arena.now) (shown self.exit.0.now) (walk_left self.entry.arena.now self.entry.at) }
+        ensures counts { CountsUp P.Gen.following (length (walk_left self.entry.arena.now self.entry.at)) self.entry.arena.now self.exit.0.now }
     {
         let ChainDrain { arena, at } = self;
         arena.drain_from(at);

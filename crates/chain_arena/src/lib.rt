@@ -13,6 +13,7 @@ mod insert_entry;
 mod interlinks;
 mod iterators;
 mod kinds;
+mod link_drains;
 mod links;
 mod placing;
 
@@ -24,4 +25,5 @@ pub use chain_traits::ChainArenaTrait;
 pub use insert_entry::ChainArenaInsertEntry;
 pub use iterators::ValIter;
 pub use kinds::{InsertKindBody, LinkInsertKind};
+pub use link_drains::LinkDrain;
 pub use links::{Link, LinkBody, LinkNoGen};

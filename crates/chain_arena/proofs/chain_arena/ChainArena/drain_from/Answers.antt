@@ -2,7 +2,8 @@
 use Rattle.std.proofs.Common.{rules, refl, ◌∙◌, subst}
 use Rattle.chain_laws.specs.Chains.{Agrees}
 use Rattle.chain_arena.specs.ChainArena.{shown}
-use Rattle.chain_arena.proofs.Draining.{without_each-step, walk_left-step, without_each-takes}
+use Rattle.chain_arena.specs.Drains.{walk_left}
+use Rattle.chain_arena.proofs.Draining.{without_each-step, walk_left-step, without_each-takes, without_each-counts}
 use Rattle.chain_arena.proofs.chain_arena.ChainArena.drain_from.Goals as goal
 
 pub loop-next-init : goal.loop-next-init
@@ -25,3 +26,6 @@ returns-clause-state g c = search rules
 
 pub returns-clause-taken : goal.returns-clause-taken
 returns-clause-taken g c = without_each-takes g.P.Gen.PtrGen.following c.args.self.now c.drain_at.new.self c.args.from (subst (λ a. Agrees (shown a)) c.self.view_is c.self.invariant) (returns-clause-state g c)
+
+pub returns-clause-counts : goal.returns-clause-counts
+returns-clause-counts g c = without_each-counts g.P.Gen.PtrGen.following c.args.self.now c.drain_at.new.self (walk_left c.args.self.now c.args.from) (returns-clause-state g c)

@@ -17,10 +17,10 @@ returns-in-Some-clause-valid g c =
     let a = c.self.inside.arena in
     let p = g.P.Ptr.key c.args.p in
     rw (← c.self.view_is) (λ _. same_walkers
-      (c.new.ensures.left ∙ (c.len.ensures.entries ∙ (sym (entry_count-seen_links packed a) ∙ sym (count-seen (seen_links packed a)))))
-      (ap number c.new.ensures.start ∙ c.inx.ensures)
-      (ap (option_map number) c.new.ensures.forth ∙ ap Some c.inx.ensures)
-      (ap (option_map number) c.new.ensures.back ∙ (c.prev.ensures ∙ sym (prev_of-seen packed a p c.in-Some.link.now c.in-Some.ensures.value))))
+    (c.new.ensures.left ∙ (c.len.ensures.entries ∙ (sym (entry_count-seen_links packed a) ∙ sym (count-seen (seen_links packed a)))))
+    (ap number c.new.ensures.start ∙ c.inx.ensures)
+    (ap (option_map number) c.new.ensures.forth ∙ ap Some c.inx.ensures)
+    (ap (option_map number) c.new.ensures.back ∙ (c.prev.ensures ∙ sym (prev_of-seen packed a p c.in-Some.link.now c.in-Some.ensures.value))))
 
 pub returns-in-Some-clause-invalid : goal.returns-in-Some-clause-invalid
 returns-in-Some-clause-invalid g c =

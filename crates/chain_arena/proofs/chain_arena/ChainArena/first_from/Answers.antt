@@ -1,0 +1,9 @@
+-- No link stands from a number on that is no index.
+use Rattle.std.proofs.Common.{ap, sym}
+use Rattle.arena_base.specs.Entries.{first_key}
+use Rattle.chain_arena.proofs.LinkDraining.{none_left}
+use Rattle.chain_arena.proofs.chain_arena.ChainArena.first_from.Goals as goal
+
+pub returns-in-None : goal.returns-in-None
+returns-in-None g c =
+    sym (ap first_key (none_left g.P.Inx.PtrInx.greatest c.args.self.now c.args.at (λ within. let none = c.in-None.ensures.variant.1 within in cc) c.len.ensures.indexes))

@@ -1,0 +1,119 @@
+// The removal of all links of an arena, one after another.
+ghost use Rattle.std.specs.Prelude.{◌≡◌, [], length, map, IfNone, IfSome};
+ghost use Rattle.std.specs.Iterator.{item_count};
+ghost use Rattle.std.specs.Option.{option_map};
+ghost use Rattle.arena_base.specs.Entries.{entries, first_key, index_of};
+ghost use Rattle.chain_arena.specs.ChainArena.{values_of};
+ghost use Rattle.chain_arena.specs.Drains.{entries_left, without_each, IsLinkDrainStep, LinkDrainSteps, CountsUp};
+
+use crate::chain_arena::ChainArena;
+use crate::chain_drains::drained;
+use crate::insert_entry::number_or_zero;
+use crate::links::LinkNoGen;
+use arena_base::{Advancer, ArenaSlot, ArenaTrait};
+use arena_ptr::{HeapStack, InvalidationOption, Ptr, PtrInx, SlotStack};
+
+/// The removal of all links: an iterator that removes each link as it yields it, by rising index. A link comes as its
+/// pointer and its value. `GenerationOverflow`: the counter was at its greatest then, and is two now.
+///
+/// Dropped, it removes the links that are left. Unlike a clear it leaves the slots, and the counter goes up once a link.
+///
+/// Carries the iterator of `drain` of `triple_arena`'s chain arena.
+pub struct LinkDrain<
+    'a,
+    P: Ptr,
+    T: Drop,
+    S: SlotStack<Item = ArenaSlot<P, LinkNoGen<P, T>>> = HeapStack<ArenaSlot<P, LinkNoGen<P, T>>>,
+> {
+    arena: &'a mut ChainArena<P, T, S>,
+    // The index from which on the links go, 0 for none.
+    at: usize,
+}
+
+impl<P: Ptr, T: Drop, S: SlotStack<Item = ArenaSlot<P, LinkNoGen<P, T>>>> ChainArena<P, T, S> {
+    /// The removal of all links, by rising index.
+    ///
+    /// Carries `drain` of `triple_arena`'s chain arena.
+    pub fn drain(&mut self) -> LinkDrain<'_, P, T, S>
+        ensures same_reference { result.arena.ghost_name ≡ self.entry.ghost_name }
+        ensures arena { result.arena.now ≡ self.old }
+        ensures left { entries_left self.old result.at ≡ entries (values_of self.old) }
+    {
+        LinkDrain { arena: self, at: 1 }
+    }
+
+    // The first link from an index on.
+    fn first_from(&self, at: usize) -> Option<P>
+        ensures { option_map P.key result ≡ first_key (entries_left self.now at) }
+    {
+        // No link has an index above the greatest.
+        self.len();
+        match P::Inx::try_from_usize(at) {
+            Some(i) => self.advancer_inx(i, false).advance(self),
+            None => None,
+        }
+    }
+
+    // Removes the first link from an index on, and answers it with its index.
+    fn drain_first(&mut self, at: usize) -> Option<(usize, InvalidationOption<(P, T)>)>
+        ensures none { IfNone result ((entries_left self.old at ≡ []) × (self.new ≡ self.old)) }
+        ensures some { IfSome result (λ e. IsLinkDrainStep P.key P.Gen.following P.Gen.wraps self.old at e.1 self.new e.0) }
+    {
+        let _ = &self.arena;
+        match self.first_from(at) {
+            Some(p) => {
+                let (value, overflow) = self.remove(p).overflowing();
+                match value {
+                    Some(t) => Some((number_or_zero(Some(p.inx())), drained(overflow, (p, t)))),
+                    None => unreachable!(),
+                }
+            }
+            None => None,
+        }
+    }
+
+    // Removes the links from an index on.
+    fn drain_rest(&mut self, from: usize)
+        ensures state { self.new ≡ without_each P.Gen.following self.old (map index_of (entries_left self.old from)) }
+        ensures counts { CountsUp P.Gen.following (length (entries_left self.old from)) self.old self.new }
+        ensures empties { entries_left self.old from ≡ entries (values_of self.old) → entries (values_of self.new) ≡ [] }
+    {
+        let _ = &self.arena;
+        let mut at = from;
+        while let Some((next, _)) = self.drain_first(at) {
+            at = next;
+        }
+    }
+}
+
+impl<'a, P: Ptr, T: Drop, S: SlotStack<Item = ArenaSlot<P, LinkNoGen<P, T>>>> Iterator
+    for LinkDrain<'a, P, T, S> {
+    type Item = InvalidationOption<(P, T)>;
+
+    ghost next_gives = { λ old r new. (new.arena.ghost_name ≡ old.arena.ghost_name)
+        × LinkDrainSteps P.key P.Gen.following P.Gen.wraps old.arena.now old.at r new.arena.now new.at };
+
+    ghost remaining = { item_count (λ d. entries_left d.arena.now d.at) };
+
+    fn next(&mut self) -> Option<InvalidationOption<(P, T)>> {
+        match self.arena.drain_first(self.at) {
+            Some((next, gone)) => {
+                self.at = next;
+                Some(gone)
+            }
+            None => None,
+        }
+    }
+}
+
+impl<'a, P: Ptr, T: Drop, S: SlotStack<Item = ArenaSlot<P, LinkNoGen<P, T>>>> Drop
+    for LinkDrain<'a, P, T, S> {
+    fn drop(self)
+        ensures state { self.exit.0.now ≡ without_each P.Gen.following self.entry.arena.now (map index_of (entries_left self.entry.arena.now self.entry.at)) }
+        ensures counts { CountsUp P.Gen.following (length (entries_left self.entry.arena.now self.entry.at)) self.entry.arena.now self.exit.0.now }
+        ensures empties { entries_left self.entry.arena.now self.entry.at ≡ entries (values_of self.entry.arena.now) → entries (values_of self.exit.0.now) ≡ [] }
+    {
+        let LinkDrain { arena, at } = self;
+        arena.drain_rest(at);
+    }
+}
