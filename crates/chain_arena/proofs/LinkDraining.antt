@@ -9,10 +9,9 @@ use Rattle.arena_ptr.specs.Invalidation.{value_in, is_overflow, value_within, is
 use Rattle.arena_ptr.specs.declared.invalidation.InvalidationOption.{InvalidationOption}
 use Rattle.arena_ptr.specs.declared.invalidation.InvalidationResult.{InvalidationResult}
 use Rattle.arena_base.specs.Arena.{Arena, IsValid, entry_at}
-use Rattle.arena_base.specs.Entries.{Seen, seen_of, entries, index_of, found, without, first_key, RisesFrom}
+use Rattle.arena_base.specs.Entries.{Seen, entries, index_of, found, without, first_key, RisesFrom}
 use Rattle.arena_base.specs.Entries.{removed as seen_removed}
 use Rattle.arena_base.specs.EntryLaws.{entries_rise, found-entries}
-use Rattle.arena_base.specs.AdvancingLaws.{no_first}
 use Rattle.arena_base.specs.Advancing.{from_index}
 use Rattle.chain_arena.specs.ChainArena.{LinkSeen, values_of, seen, remove_link}
 use Rattle.chain_arena.specs.Drains.{entries_left, without_each, IsLinkDrainStep}

@@ -1,5 +1,5 @@
 -- Each step leaves what all removals leave, until no link is left.
-use Rattle.std.proofs.Common.{rules, refl, ap, length, map, sym, ◌∙◌, subst}
+use Rattle.std.proofs.Common.{rules, refl, ap, map, ◌∙◌, subst}
 use Rattle.std.proofs.lemmas.List.{length-map}
 use Rattle.arena_base.specs.Entries.{entries, index_of}
 use Rattle.chain_arena.specs.ChainArena.{values_of}
