@@ -1,14 +1,15 @@
-//! Chains that are removed link by link.
+//! Chains, and all links, that are removed one after another.
 
-ghost use Rattle.std.specs.Prelude.{◌≡◌};
+ghost use Rattle.std.specs.Prelude.{◌≡◌, [], length};
 ghost use Rattle.arena_base.specs.Arena.{IsValid};
-ghost use Rattle.chain_arena.specs.ChainArena.{entry};
-ghost use Rattle.chain_arena.specs.Drains.{walk_left, without_each};
+ghost use Rattle.arena_base.specs.Entries.{entries};
+ghost use Rattle.chain_arena.specs.ChainArena.{entry, values_of};
+ghost use Rattle.chain_arena.specs.Drains.{walk_left, without_each, CountsUp};
 
-use super::{At, Chains, NONE, first, number, numbers, same, shows, tied_links};
+use super::{At, Chains, NONE, add, first, number, numbers, same, shows, tied_links};
 use arena_base::{ArenaSlot, ArenaTrait};
-use arena_ptr::{InvalidationOption, Ptr, SlotStack, ToolPtr};
-use chain_arena::{ChainArena, ChainDrain, LinkNoGen};
+use arena_ptr::{Gen32, InvalidationOption, InvalidationResult, Ptr, SlotStack, ToolPtr};
+use chain_arena::{ChainArena, ChainDrain, LinkDrain, LinkNoGen};
 use std::alloc::Global;
 use std::mem::forget;
 use std::process::Abort;
@@ -27,6 +28,16 @@ fn remove_chain<P: Ptr, T: Drop, S: SlotStack<Item = ArenaSlot<P, LinkNoGen<P, T
         Some(drain) => drop(drain),
         None => {}
     }
+}
+
+// Removes all links, of any chain arena: none is left, and the counter goes up once for each.
+fn remove_all<P: Ptr, T: Drop, S: SlotStack<Item = ArenaSlot<P, LinkNoGen<P, T>>>>(
+    arena: &mut ChainArena<P, T, S>,
+)
+    ensures none { entries (values_of arena.new) ≡ [] }
+    ensures counts { CountsUp P.Gen.following (length (entries (values_of arena.old))) arena.old arena.new }
+{
+    drop(arena.drain());
 }
 
 // A link that is gone: its pointer, the indexes of the links that it stood between, and its value.
@@ -155,4 +166,79 @@ fn a_forgotten_drain_leaves_the_rest(rt: HostRuntime) -> Result<(), Fail> {
         ((5, 2), 5, NONE, NONE),
     ];
     shows(&rt, rt.alloc(), "the rest", &arena, &rest)
+}
+
+// The pointer and the value of a link that a drain of all links yields, where the counter does not overflow.
+fn value_gone(rt: &impl Abort, item: InvalidationOption<(ToolPtr, u32)>) -> (At, u32) {
+    let ((p, t), overflow) = item.overflowing();
+    assert!(rt; !overflow);
+    (numbers(Some(p)), t)
+}
+
+// The first link that a drain of all links yields.
+fn first_value_gone(rt: &impl Abort, drain: &mut LinkDrain<'_, ToolPtr, u32>) -> (At, u32) {
+    let item = drain.next().expect(rt, "a link");
+    value_gone(rt, item)
+}
+
+#[test]
+fn drains_all_links_by_rising_index(rt: HostRuntime) -> Result<(), Fail> {
+    let mut arena: Chains = tied_links(&rt, rt.alloc(), 4, &[(4, 1), (1, 3)]);
+    assert!(rt; arena.remove(first(&rt, 2)) == InvalidationResult::Success(2));
+    let mut all = Vec::new(rt.alloc());
+    for item in arena.drain() {
+        all.push(value_gone(&rt, item))?;
+    }
+    assert_eq!(rt;
+        all.as_slice(),
+        [((1, 2), 1), ((3, 2), 3), ((4, 2), 4)].as_slice()
+    );
+    assert!(rt; arena.drain().next().is_none());
+    same(&rt, "counter", arena.generation().get(), 6);
+    Ok(())
+}
+
+#[test]
+fn a_dropped_drain_of_all_takes_the_rest(rt: HostRuntime) {
+    let mut arena = four_and_one(&rt, rt.alloc());
+    let mut drain = arena.drain();
+    let gone = first_value_gone(&rt, &mut drain);
+    same(&rt, "the first", gone, ((1, 2), 1));
+    drop(drain);
+    assert!(rt; arena.is_empty());
+    same(&rt, "slots", arena.backing().len(), 5);
+    let p = add(&rt, &mut arena, 6);
+    same(&rt, "the next link", numbers(Some(p)), (5, 7));
+    remove_all(&mut arena);
+    assert!(rt; arena.is_empty());
+}
+
+#[test]
+fn a_forgotten_drain_of_all_leaves_whole_chains(rt: HostRuntime) -> Result<(), Fail> {
+    let mut arena = four_and_one(&rt, rt.alloc());
+    let mut drain = arena.drain();
+    let gone = first_value_gone(&rt, &mut drain);
+    same(&rt, "the first", gone, ((1, 2), 1));
+    forget(drain);
+    let rest = [
+        ((2, 2), 2, NONE, (3, 2)),
+        ((3, 2), 3, (2, 2), (4, 2)),
+        ((4, 2), 4, (3, 2), NONE),
+        ((5, 2), 5, NONE, NONE),
+    ];
+    shows(&rt, rt.alloc(), "the rest", &arena, &rest)
+}
+
+#[test]
+fn drains_tell_an_overflow(rt: HostRuntime) {
+    let mut arena: Chains = tied_links(&rt, rt.alloc(), 3, &[(1, 2)]);
+    let greatest = Gen32::new(u32::MAX).expect(&rt, "a generation");
+    arena.set_generation(greatest);
+    let mut drain = arena.drain();
+    let (_, overflow) = drain.next().expect(&rt, "a link").overflowing();
+    assert!(rt; overflow);
+    let gone = first_value_gone(&rt, &mut drain);
+    same(&rt, "the second", gone, ((2, 2), 2));
+    drop(drain);
+    same(&rt, "two removals later", arena.generation().get(), 4);
 }
