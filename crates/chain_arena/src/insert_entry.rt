@@ -5,7 +5,7 @@ ghost use Rattle.std.specs.Option.{option_map};
 ghost use Rattle.arena_ptr.specs.Numbers.{IsWithin};
 ghost use Rattle.arena_ptr.specs.SlotStack.{IsBeyond};
 ghost use Rattle.chain_laws.specs.Insertions.{IsGap, link_before, link_after};
-ghost use Rattle.arena_base.specs.Arena.{entry_count, next_index, with_capacity_of, IsRoom};
+ghost use Rattle.arena_base.specs.Arena.{entry_count, next_index, with_capacity_of, HasRoom};
 ghost use Rattle.chain_arena.specs.ChainArena.{entry, seen, shown, insert_between};
 ghost use Rattle.chain_arena.specs.Insertions.{IsInsertionBetween, index_from};
 ghost use Rattle.chain_arena.specs.Kinds.{before_in, after_in, names_in, by_index, MayInsert};
@@ -127,7 +127,7 @@ impl<P: Ptr, T: Drop, S: SlotStack<Item = ArenaSlot<P, LinkNoGen<P, T>>>> ChainA
         ensures link { (result ≡ Err ChainInsertionError.FailedLinkRequirement) ↔ ¬ MayInsert (entry self.old) (shown self.old) (names_in P.key P.Inx.number kind) }
         ensures error { IfErr result (λ e. e ≢ ChainInsertionError.NotWithinCapacity) }
         ensures room { MayInsert (entry self.old) (shown self.old) (names_in P.key P.Inx.number kind) → entry_count self.old < self.old.capacity → IsOkAnd result (λ e. e.arena.now ≡ self.old) }
-        ensures grown { IfOk result (λ e. IsRoom P.Inx.greatest e.arena.now.maximum (entry_count self.old + 1) e.arena.now.capacity) }
+        ensures grown { IfOk result (λ e. HasRoom P.Inx.greatest (entry_count self.old + 1) e.arena.now) }
         ensures beyond { (result ≡ Err ChainInsertionError.BeyondMaxCapacity) ↔ (MayInsert (entry self.old) (shown self.old) (names_in P.key P.Inx.number kind) × (entry_count self.old ≡ self.old.capacity) × IsBeyond self.old.maximum (entry_count self.old + 1)) }
         ensures greatest { entry_count self.old ≡ P.Inx.greatest → IsErr result }
         ensures same_reference { IfOk result (λ e. e.arena.ghost_name ≡ self.entry.ghost_name) }
@@ -165,7 +165,7 @@ impl<P: Ptr, T: Drop, S: SlotStack<Item = ArenaSlot<P, LinkNoGen<P, T>>>> ChainA
             S.SlotStack)
             self.entry (λ e. e.arena.ghost_name) result (λ n. n ≡ self.old)) }
         ensures room { entry_count self.old < self.old.capacity → IsOkAnd result (λ e. e.arena.now ≡ self.old) }
-        ensures grown { IfOk result (λ e. IsRoom P.Inx.greatest e.arena.now.maximum (entry_count self.old + 1) e.arena.now.capacity) }
+        ensures grown { IfOk result (λ e. HasRoom P.Inx.greatest (entry_count self.old + 1) e.arena.now) }
         ensures beyond { (result ≡ Err ReallocationError.BeyondMaxCapacity) ↔ ((entry_count self.old ≡ self.old.capacity) × IsBeyond self.old.maximum (entry_count self.old + 1)) }
         ensures greatest { entry_count self.old ≡ P.Inx.greatest → IsErr result }
         ensures same_reference { IfOk result (λ e. e.arena.ghost_name ≡ self.entry.ghost_name) }
@@ -199,12 +199,15 @@ impl<P: Ptr, T: Drop, S: SlotStack<Item = ArenaSlot<P, LinkNoGen<P, T>>>> ChainA
         ensures room { entry_count self.old < self.old.capacity → IsOk result × (self.new ≡ self.old) }
         ensures beyond { (result ≡ Err ReallocationError.BeyondMaxCapacity) ↔ ((entry_count self.old ≡ self.old.capacity) × IsBeyond self.old.maximum (entry_count self.old + 1)) }
         ensures greatest { entry_count self.old ≡ P.Inx.greatest → IsErr result }
-        ensures ok { OnOk result (IsRoom P.Inx.greatest self.new.maximum (entry_count self.old + 1) self.new.capacity) }
+        ensures ok { OnOk result (HasRoom P.Inx.greatest (entry_count self.old + 1) self.new) }
         ensures err { OnErr result (self.new ≡ self.old) }
         ensures after { self.new ≡ with_capacity_of self.old self.new }
     {
         let n = self.len() + 1;
-        self.reallocate_min_capacity(n)
+        self.reallocate_min_capacity(n)?;
+        // The room is as in every arena.
+        self.len();
+        Ok(())
     }
 
     // The entry of a gap, where there is room.

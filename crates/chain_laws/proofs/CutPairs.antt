@@ -4,7 +4,7 @@ use Rattle.std.proofs.Common.{sym, refl, ap, ◌∙◌, inl, inr}
 use Rattle.std.proofs.lemmas.Bool.{cases_eq}
 use Rattle.chain_laws.specs.Chains.{Shown, IsValid, Agrees, prev_of, next_of}
 use Rattle.chain_laws.specs.Neighbors.{AreNeighbors}
-use Rattle.chain_laws.specs.Operations.{prev_set, next_set, linked, joined, AddsPair, AreEndAndStart}
+use Rattle.chain_laws.specs.Operations.{linked, joined, AddsPair, AreEndAndStart}
 use Rattle.chain_laws.specs.Cuts.{cut, TakesPair, CutIsDeterminedByPairs, JoinOfCutRestores, CutOfJoinRestores}
 use Rattle.chain_laws.proofs.Agreement.{put, put-same, put-other, cut_undoes, Undoes-at, one_some, not_both_ways}
 use Rattle.chain_laws.proofs.Standing.{next_valid, prev_valid}
@@ -159,7 +159,3 @@ cut_of_join shown a b agrees ends =
           (λ i. (λ v. (valid i).0 ((valid_cut i).0 v), λ v. (valid_cut i).1 ((valid i).1 v)))
           (cut_of_join_pairs shown a b ends),
     )
-
--- what is written in steps is the cut
-pub cut_in_steps : (shown ended done : Shown) (a b : ℕ) → ended ≡ next_set shown (Some a) None → done ≡ prev_set ended (Some b) None → done ≡ cut shown a b
-cut_in_steps shown ended done a b next prev = prev ∙ ap (λ (s : Shown). prev_set s (Some b) None) next

@@ -142,11 +142,3 @@ removed_of_lone shown q free =
     by : (j : ℕ) → (j ≡ q) ⊎ (j ≢ q) → without (with_lone shown q) q j ≡ shown j
     by j (inl e) = without-at (with_lone shown q) q j e ∙ sym (ap shown e ∙ free)
     by j (inr ne) = without-off (with_lone shown q) q j ne ∙ with_lone-off shown q j ne
-
--- what is written in steps is the removal
-pub removed_in_steps : (shown out linked_after done : Shown) (q : ℕ) (u v : Option ℕ) → u ≡ prev_of shown q → v ≡ next_of shown q
-    → out ≡ without shown q → linked_after ≡ next_set out u v → done ≡ prev_set linked_after v u → done ≡ removed shown q
-removed_in_steps shown out linked_after done q u v before after taken next prev =
-    prev
-    ∙ ap (λ (s : Shown). prev_set s v u) (next ∙ ap (λ (s : Shown). next_set s u v) taken)
-    ∙ ap₂ (λ (s t : Option ℕ). linked (without shown q) s t) before after
