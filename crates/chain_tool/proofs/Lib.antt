@@ -1,5 +1,6 @@
 pub mod AnswerLemmas
 pub mod Coming
+pub mod DrainAnswers
 pub mod Ending
 pub mod Feeding
 pub mod InsertionAnswers

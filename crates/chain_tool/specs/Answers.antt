@@ -1,5 +1,5 @@
 -- What the program answers to a line, and the arena after it.
-use Rattle.std.specs.Prelude.{◌<◌, ◌≤◌, ◌≡◌, ℕ, List, [], ◌∷◌, ◌++◌, map, codes, decimal, ◌+◌, Bool, true, false, Option, None, Some, IsSome, Result, Ok, Err}
+use Rattle.std.specs.Prelude.{◌<◌, ◌≤◌, ◌≡◌, ℕ, List, [], ◌∷◌, ◌++◌, map, length, min, codes, decimal, ◌+◌, Bool, true, false, Option, None, Some, IsSome, Result, Ok, Err}
 use Rattle.std.specs.List.{join_with_byte}
 use Rattle.arena_ptr.specs.Generations.{number_of_gen32, after32, is_greatest32}
 use Rattle.arena_ptr.specs.Indexes.{number_of_inx32}
@@ -13,14 +13,16 @@ use Rattle.chain_laws.specs.Cuts.{cut}
 use Rattle.chain_laws.specs.Exchanges.{exchanged}
 use Rattle.chain_laws.specs.Insertions.{InsertKind}
 use Rattle.chain_laws.specs.Operations.{joined}
+use Rattle.chain_laws.specs.Walks.{IsWalk, TakesWalk}
 use Rattle.arena_ptr.specs.SlotStack.{IsBeyond}
 use Rattle.arena_base.specs.Arena.{Arena, IsValid, entry_count, next_index, with_capacity_of, renewed_at, cleared, overflows_after_clear, HasRoom}
 use Rattle.chain_arena.specs.ChainArena as chain
 use Rattle.chain_arena.specs.ChainArena.{LinkSeen, shown, entry, relinked, insert_as, remove_link, IsWalkOf}
+use Rattle.chain_arena.specs.Drains.{without_each}
 use Rattle.chain_arena.specs.Kinds.{LinkName, HasName, pointed, indexed, names_in, by_index, MayInsert}
 use Rattle.chain_tool.specs.Commands.{Kind}
 use Rattle.chain_tool.specs.declared.command.Command.{Command}
-use Rattle.chain_tool.specs.declared.command.Command.TheVariants.{Add, AddWithin, Connect, BreakPrev, BreakNext, Exchange, Remove, RemoveInx, Invalidate, Clear, Show, Chain, Len}
+use Rattle.chain_tool.specs.declared.command.Command.TheVariants.{Add, AddWithin, Connect, BreakPrev, BreakNext, Exchange, Remove, RemoveInx, Invalidate, Drain, Clear, Show, Chain, Len}
 use Rattle.chain_tool.specs.declared.command.Line.{Line}
 use Rattle.chain_tool.specs.declared.command.Line.TheVariants.{Blank, Bad, Good}
 
@@ -170,6 +172,12 @@ pub data Invalidates (old : Links) (p : ℕ × Gen32) (text : List ℕ) (new : L
       → new ≡ renewed_at after32 old p.0 → Invalidates old p text new
   not_invalidated : (IsValidIn old p → ⊥) → text ≡ codes "none" → new ≡ old → Invalidates old p text new
 
+-- the links of the walk from the link are gone, which are its whole chain, and N of them at most are counted
+pub data Drains (old : Links) (p : ℕ × Gen32) (n : ℕ) (text : List ℕ) (new : Links) : Type 0 where
+  drained : (walk : List ℕ) → IsValidIn old p → IsWalk (shown old) p.0 walk → text ≡ codes "count " ++ decimal (min n (length walk))
+      → new ≡ without_each after32 old walk → TakesWalk (shown old) (shown new) walk → Drains old p n text new
+  not_drained : (IsValidIn old p → ⊥) → text ≡ codes "none" → new ≡ old → Drains old p n text new
+
 -- all links are gone; where there were none the counter stays
 abbrev pub Clears : Links → List ℕ → Links → Type 0
 Clears old text new = (text ≡ codes "ok" ++ overflow_text (overflows_after_clear is_greatest32 (entry_count old) old.counter)) × (new ≡ cleared after32 old)
@@ -185,6 +193,7 @@ Gives old (Exchange p q) text new = Exchanges old (key_of p) (key_of q) text new
 Gives old (Remove p) text new = Removes old (pointed key_of number_of_inx32 p) text new
 Gives old (RemoveInx i) text new = Removes old (indexed key_of number_of_inx32 i) text new
 Gives old (Invalidate p) text new = Invalidates old (key_of p) text new
+Gives old (Drain p n) text new = Drains old (key_of p) n text new
 Gives old Clear text new = Clears old text new
 Gives old (Show p) text new = Shows old (key_of p) text × (new ≡ old)
 Gives old (Chain p) text new = Walks old (key_of p) text × (new ≡ old)

@@ -6,7 +6,7 @@ use Rattle.arena_ptr.specs.declared.tool_ptr.ToolPtr.{ToolPtr}
 use Rattle.chain_arena.specs.declared.kinds.InsertKindBody.{InsertKindBody}
 use Rattle.chain_arena.specs.declared.kinds.InsertKindBody.TheVariants as kinds
 use Rattle.chain_tool.specs.declared.command.Command.{Command}
-use Rattle.chain_tool.specs.declared.command.Command.TheVariants.{Add, AddWithin, Connect, BreakPrev, BreakNext, Exchange, Remove, RemoveInx, Invalidate, Clear, Show, Chain, Len}
+use Rattle.chain_tool.specs.declared.command.Command.TheVariants.{Add, AddWithin, Connect, BreakPrev, BreakNext, Exchange, Remove, RemoveInx, Invalidate, Drain, Clear, Show, Chain, Len}
 use Rattle.chain_tool.specs.declared.command.Line.{Line}
 use Rattle.chain_tool.specs.declared.command.Line.TheVariants as lines
 use Rattle.chain_tool.specs.Words.{words_of, number_of, index_word, pointer_of, without_return}
@@ -29,6 +29,11 @@ one_pointer words = option_and_then pointer_of (one_word words)
 abbrev pub two_pointers : List (List ℕ) → Option (ToolPtr × ToolPtr)
 two_pointers [] = None
 two_pointers (word ∷ words) = option_zip (pointer_of word) (one_pointer words)
+
+-- arguments that are one pointer and one number
+abbrev pub pointer_and_number : List (List ℕ) → Option (ToolPtr × ℕ)
+pointer_and_number [] = None
+pointer_and_number (word ∷ words) = option_zip (pointer_of word) (option_and_then number_of (one_word words))
 
 -- no arguments
 abbrev pub no_arguments : List (List ℕ) → Option Command → Option Command
@@ -88,11 +93,12 @@ command_of name arguments =
     else (if bytes_eq name (codes "exchange") then option_map (λ p. Exchange p.0 p.1) (two_pointers arguments)
     else (if bytes_eq name (codes "remove") then removal arguments
     else (if bytes_eq name (codes "invalidate") then option_map Invalidate (one_pointer arguments)
+    else (if bytes_eq name (codes "drain") then option_map (λ a. Drain a.0 a.1) (pointer_and_number arguments)
     else (if bytes_eq name (codes "clear") then no_arguments arguments (Some Clear)
     else (if bytes_eq name (codes "show") then option_map Show (one_pointer arguments)
     else (if bytes_eq name (codes "chain") then option_map Chain (one_pointer arguments)
     else (if bytes_eq name (codes "len") then no_arguments arguments (Some Len)
-    else None)))))))))))
+    else None))))))))))))
 
 abbrev pub line_with : Option Command → Line
 line_with None = lines.Bad

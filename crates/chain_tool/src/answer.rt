@@ -1,16 +1,18 @@
 //! The answers to lines: each command is one step of the arena or one lookup.
-ghost use Rattle.std.specs.Prelude.{◌≡◌, ℕ, List, ◌++◌, ◌⊎◌, OnOk, OnErr, string_bytes};
+ghost use Rattle.std.specs.Prelude.{◌≡◌, ℕ, List, ◌++◌, length, min, ◌⊎◌, OnOk, OnErr, string_bytes};
+ghost use Rattle.arena_ptr.specs.Generations.{after32};
 ghost use Rattle.arena_ptr.specs.ToolPtr.{key_of};
 ghost use Rattle.arena_ptr.specs.Indexes.{number_of_inx32};
+ghost use Rattle.chain_arena.specs.Drains.{walk_left, without_each};
 ghost use Rattle.chain_arena.specs.Kinds.{pointed, indexed};
 ghost use Rattle.chain_tool.specs.Commands.{line_of};
-ghost use Rattle.chain_tool.specs.Answers.{insertion_text, refusal_text, Adds, AddsWithin, Connects, BreaksPrev, BreaksNext, Exchanges, Removes, Invalidates, Clears, Shows, Walks, Gives, AnswersLine};
+ghost use Rattle.chain_tool.specs.Answers.{insertion_text, refusal_text, Adds, AddsWithin, Connects, BreaksPrev, BreaksNext, Exchanges, Removes, Invalidates, Drains, Clears, Shows, Walks, Gives, AnswersLine};
 
 use crate::command::{Command, Line, parse};
 use crate::text::{push_done, push_link, push_pointer, push_renewed, push_value, push_walk};
 use arena_base::{ArenaSlot, ArenaTrait};
 use arena_ptr::{ChainInsertionError, InvalidationResult, Inx32, SlotStack, ToolPtr};
-use chain_arena::{ChainArena, ChainArenaTrait, LinkInsertKind, LinkNoGen};
+use chain_arena::{ChainArena, ChainArenaTrait, ChainDrain, LinkInsertKind, LinkNoGen};
 use std::alloc::AllocError;
 
 /// Carries out a line, and makes its answer in `text`. An `Err` is memory for the answer: the line may be carried out
@@ -53,6 +55,7 @@ fn carry_out<S: SlotStack<Item = ArenaSlot<ToolPtr, LinkNoGen<ToolPtr, u32>>>>(
         Command::Remove(p) => remove(arena, p, text),
         Command::RemoveInx(i) => remove_inx(arena, i, text),
         Command::Invalidate(p) => invalidate(arena, p, text),
+        Command::Drain(p, n) => drain(arena, p, n, text),
         Command::Clear => clear(arena, text),
         Command::Show(p) => show(arena, p, text),
         Command::Chain(p) => chain(arena, p, text),
@@ -234,6 +237,47 @@ fn invalidate<S: SlotStack<Item = ArenaSlot<ToolPtr, LinkNoGen<ToolPtr, u32>>>>(
         InvalidationResult::GenerationOverflow(q) => push_renewed(text, q, true),
         InvalidationResult::InvalidPtr => text.push_str("none"),
     }
+}
+
+/// The answer to `drain P N`.
+fn drain<S: SlotStack<Item = ArenaSlot<ToolPtr, LinkNoGen<ToolPtr, u32>>>>(
+    arena: &mut ChainArena<ToolPtr, u32, S>,
+    p: ToolPtr,
+    n: u32,
+    text: &mut String,
+) -> Result<(), AllocError>
+    ensures ok { OnOk result (Drains arena.old (key_of p) n (string_bytes text.new) arena.new) }
+    ensures err { OnErr result ((words : List ℕ) × Drains arena.old (key_of p) n words arena.new) }
+{
+    text.clear();
+    match arena.drain_chain(p) {
+        Some(mut links) => {
+            let count = take_links(&mut links, n);
+            drop(links);
+            write!(text, "count {count}")
+        }
+        None => text.push_str("none"),
+    }
+}
+
+/// Takes so many links of a chain at most, and answers how many it took.
+fn take_links<S: SlotStack<Item = ArenaSlot<ToolPtr, LinkNoGen<ToolPtr, u32>>>>(
+    links: &mut ChainDrain<'_, ToolPtr, u32, S>,
+    n: u32,
+) -> u32
+    ensures same_reference { links.new.arena.ghost_name ≡ links.old.arena.ghost_name }
+    ensures count { result ≡ min n (length (walk_left links.old.arena.now links.old.at)) }
+    ensures state { without_each after32 links.new.arena.now (walk_left links.new.arena.now links.new.at)
+        ≡ without_each after32 links.old.arena.now (walk_left links.old.arena.now links.old.at) }
+{
+    let mut count = 0;
+    while count < n {
+        match links.next() {
+            Some(_) => count += 1,
+            None => return count,
+        }
+    }
+    count
 }
 
 /// The answer to `clear`.

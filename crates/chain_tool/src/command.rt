@@ -2,7 +2,7 @@
 ghost use Rattle.std.specs.Prelude.{◌≡◌, bytes_eq, option_map};
 ghost use Rattle.chain_arena.specs.declared.kinds.InsertKindBody.TheVariants.{AtInterlink, AtInterlinkInx, Bridge, BridgeInx};
 ghost use Rattle.chain_tool.specs.Words.{words_of};
-ghost use Rattle.chain_tool.specs.Commands.{one_word, one_pointer, two_pointers, no_arguments, by_either, removal, kind_alone, kind_beside, kind_between, kind_and_value, command_of, line_of};
+ghost use Rattle.chain_tool.specs.Commands.{one_word, one_pointer, two_pointers, pointer_and_number, no_arguments, by_either, removal, kind_alone, kind_beside, kind_between, kind_and_value, command_of, line_of};
 
 use crate::words::{index, next_word, number, pointer, without_return};
 use arena_ptr::{Inx32, ToolPtr};
@@ -29,6 +29,8 @@ pub enum Command {
     RemoveInx(Inx32),
     /// `invalidate P`: the link gets the next generation.
     Invalidate(ToolPtr),
+    /// `drain P N`: the link's chain goes, and so many of its links at most are counted.
+    Drain(ToolPtr, u32),
     /// `clear`: all links go.
     Clear,
     /// `show P`: the link and its neighbours.
@@ -90,6 +92,9 @@ fn named(name: &[u8], arguments: &[u8]) -> Option<Command>
         removal(arguments)
     } else if is(name, "invalidate") {
         Some(Command::Invalidate(one_pointer(arguments)?))
+    } else if is(name, "drain") {
+        let (p, n) = pointer_and_number(arguments)?;
+        Some(Command::Drain(p, n))
     } else if is(name, "clear") {
         no_arguments(arguments, Command::Clear)
     } else if is(name, "show") {
@@ -256,4 +261,12 @@ fn two_pointers(arguments: &[u8]) -> Option<(ToolPtr, ToolPtr)>
 {
     let (word, rest) = next_word(arguments)?;
     Some((pointer(word)?, one_pointer(rest)?))
+}
+
+/// The arguments, where they are one pointer and one number.
+fn pointer_and_number(arguments: &[u8]) -> Option<(ToolPtr, u32)>
+    ensures { result ≡ pointer_and_number (words_of arguments.now) }
+{
+    let (word, rest) = next_word(arguments)?;
+    Some((pointer(word)?, number(one_word(rest)?)?))
 }

@@ -3,7 +3,7 @@ ghost use Rattle.std.specs.Prelude.{◌≡◌, ℕ, List, ◌∷◌, [], codes, 
 ghost use Rattle.chain_arena.specs.declared.kinds.InsertKindBody.TheVariants.{Disconnected, SingleLinkCyclic, ChainEnd, NextToInx, BridgeInx};
 ghost use Rattle.arena_ptr.specs.declared.index.inx32.Inx32.{Inx32};
 ghost use Rattle.arena_ptr.specs.declared.tool_ptr.ToolPtr.{ToolPtr};
-ghost use Rattle.chain_tool.specs.declared.command.Command.TheVariants.{Add, AddWithin, Remove, RemoveInx, Len};
+ghost use Rattle.chain_tool.specs.declared.command.Command.TheVariants.{Add, AddWithin, Remove, RemoveInx, Drain, Len};
 ghost use Rattle.chain_tool.specs.declared.command.Line.TheVariants.{Blank, Bad, Good};
 ghost use Rattle.chain_tool.specs.Words.{lines_of, whole_lines, without_return, words_of, number_of, index_word, pointer_of};
 ghost use Rattle.chain_tool.specs.Commands.{line_of};
@@ -91,7 +91,8 @@ fn definitions()
     ensures remove_pointer { (p : ToolPtr) → pointer_of (codes "1.2") ≡ Some p → line_of (codes "remove 1.2") ≡ Good (Remove p) }
     ensures remove_index { (i : Inx32) → index_word (codes "1") ≡ Some i → line_of (codes "remove 1") ≡ Good (RemoveInx i) }
     ensures mixed_forms { line_of (codes "add between 1.2 1 5") ≡ Bad }
-    ensures later_command { line_of (codes "drain") ≡ Bad }
+    ensures drain { (p : ToolPtr) → pointer_of (codes "1.2") ≡ Some p → line_of (codes "drain 1.2 3") ≡ Good (Drain p 3) }
+    ensures drain_alone { line_of (codes "drain") ≡ Bad }
     ensures blank { line_of (codes " ") ≡ Blank }
     ensures unfinished { (lines : List (List ℕ)) → AreComplete (codes "add alone 2") (Some (codes "5")) lines → lines ≡ [] }
     ensures finished { AreComplete (codes "add alone 2") (Some []) (codes "add alone 2" ∷ []) }
@@ -184,12 +185,14 @@ fn kinds_table(rt: HostRuntime) {
 }
 
 #[test]
-fn a_chain_grown_and_joined(rt: HostRuntime) {
+fn a_chain_grown_joined_and_drained(rt: HostRuntime) {
     let input =
-        "add alone 1\nadd alone 2\nconnect 1.2 2.2\nadd end 1.2 4\nadd end 2.2 4\nadd between 2.2 3.2 3\n\
-        add alone 5\nadd end 5.2 6\nadd end 6.2 7\nconnect 3.2 5.2\nchain 1.2\n";
+        "add alone 1\nadd alone 2\nconnect 1.2 2.2\nadd end 1.2 9\nadd end 2.2 4\nadd between 2.2 3.2 3\n\
+        add alone 5\nadd end 5.2 6\nadd end 6.2 7\nconnect 3.2 5.2\nchain 1.2\nremove 3.2\nchain 1.2\n\
+        drain 5.2 0\nlen\nadd alone 8\n";
     let output = "at 1.2\nat 2.2\nok\nrefused link\nat 3.2\nat 4.2\nat 5.2\nat 6.2\nat 7.2\nok\n\
-        1.2:1 2.2:2 4.2:3 3.2:4 5.2:5 6.2:6 7.2:7\n";
+        1.2:1 2.2:2 4.2:3 3.2:4 5.2:5 6.2:6 7.2:7\nvalue 4\n1.2:1 2.2:2 4.2:3 5.2:5 6.2:6 7.2:7\n\
+        count 0\ncount 0\nat 1.9\n";
     check_texts(&rt, rt.alloc(), &[(input, output)]);
 }
 
@@ -208,7 +211,7 @@ fn each_kind_by_pointer_and_by_index(rt: HostRuntime) {
 
 #[test]
 fn numbers_and_pointers(rt: HostRuntime) {
-    const ROWS: [(&str, &str); 20] = [
+    const ROWS: [(&str, &str); 21] = [
         (
             "add alone 4294967295\nshow 1.2\n",
             "at 1.2\nprev - next - value 4294967295\n",
@@ -223,6 +226,7 @@ fn numbers_and_pointers(rt: HostRuntime) {
         ("show 1.0\n", "bad line\n"),
         ("show 1.1\n", "none\n"),
         ("chain 1.2\n", "none\n"),
+        ("drain 9.9 1\n", "none\n"),
         ("connect 1.2 1.2\n", "none\n"),
         ("show 4294967295.4294967295\n", "none\n"),
         ("show 4294967296.2\n", "bad line\n"),
@@ -490,10 +494,11 @@ fn removal_table(rt: HostRuntime) {
 fn cutting_table(rt: HostRuntime) {
     let input =
         "add alone 1\nadd end 1 2\nadd end 2 3\nadd end 3 4\nexchange 1.2 2.2\nchain 1.2\nexchange 1.2 2.2\n\
-        chain 1.2\nbreaknext 2.2\nbreakprev 1.2\nexchange 4.2 1.2\ninvalidate 3.2\nshow 4.2\nlen\n";
+        chain 1.2\nbreaknext 2.2\nbreakprev 1.2\nexchange 4.2 1.2\ninvalidate 3.2\nshow 4.2\n\
+        drain 4.2 1\nlen\nadd alone 9\ndrain 1.2 9\nclear\nadd alone 1\n";
     let output =
         "at 1.2\nat 2.2\nat 3.2\nat 4.2\nok\n1.2:1 3.2:3 4.2:4\nok\n1.2:1 2.2:2 3.2:3 4.2:4\nok\nnone\nnone\n\
-        at 3.3\nprev 3.3 next - value 4\ncount 4\n";
+        at 3.3\nprev 3.3 next - value 4\ncount 1\ncount 2\nat 3.5\ncount 2\nok\nat 1.8\n";
     check_texts(&rt, rt.alloc(), &[(input, output)]);
 }
 
@@ -507,12 +512,17 @@ fn removed_by_index(rt: HostRuntime) {
 
 #[test]
 fn malformed_steps(rt: HostRuntime) {
-    const ROWS: [(&str, &str); 9] = [
+    const ROWS: [(&str, &str); 14] = [
         ("breaknext 1\n", "bad line\n"),
         ("breakprev\n", "bad line\n"),
         ("exchange 1.2\n", "bad line\n"),
         ("exchange 1.2 1\n", "bad line\n"),
         ("invalidate 1\n", "bad line\n"),
+        ("drain 1.2\n", "bad line\n"),
+        ("drain 1 2\n", "bad line\n"),
+        ("drain 1.2 x\n", "bad line\n"),
+        ("drain 1.2 4294967296\n", "bad line\n"),
+        ("drain 1.2 1 1\n", "bad line\n"),
         ("clear 1\n", "bad line\n"),
         ("remove 4294967296\n", "bad line\n"),
         ("remove 0\n", "bad line\n"),
@@ -577,12 +587,16 @@ fn check_at_greatest(rt: &impl Abort, alloc: Global, input: &str, output: &str) 
 
 #[test]
 fn steps_that_overflow(rt: HostRuntime) {
-    const ROWS: [(&str, &str); 3] = [
+    const ROWS: [(&str, &str); 4] = [
         (
             "invalidate 2.2\nshow 1.2\n",
             "at 2.2 overflow\nprev - next 2.2 value 5\n",
         ),
         ("remove 1\nlen\n", "value 5 overflow\ncount 1\n"),
+        (
+            "drain 1.2 1\nlen\nadd alone 7\n",
+            "count 1\ncount 0\nat 2.3\n",
+        ),
         ("clear\nclear\nadd alone 7\n", "ok overflow\nok\nat 1.2\n"),
     ];
     for (input, output) in &ROWS {

@@ -34,3 +34,6 @@ returns-in-Remove-clause-err g c = rw c.in-Remove.is (step_or _ _ c.remove.resul
 
 pub returns-in-RemoveInx-clause-err : goal.returns-in-RemoveInx-clause-err
 returns-in-RemoveInx-clause-err g c = rw c.in-RemoveInx.is (step_or _ _ c.remove_inx.result c.remove_inx.ensures.err)
+
+pub returns-in-Drain-clause-err : goal.returns-in-Drain-clause-err
+returns-in-Drain-clause-err g c = rw c.in-Drain.is (step_or _ _ c.drain.result c.drain.ensures.err)
