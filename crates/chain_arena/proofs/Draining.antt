@@ -102,7 +102,7 @@ module _ {Gen T : Type 0} where
       ∙ ap (walk_from (length a.slots) (removed (shown a) i)) (on ∙ sym same)))))
 
   -- what is shown after the removals
-  shown-without_each : (following : Gen → Gen) (a : Arena Gen (LinkSeen T)) (walk : List ℕ) → shown (without_each following a walk) ≡ removed_each (shown a) walk
+  pub shown-without_each : (following : Gen → Gen) (a : Arena Gen (LinkSeen T)) (walk : List ℕ) → shown (without_each following a walk) ≡ removed_each (shown a) walk
   shown-without_each following a [] = refl
   shown-without_each following a (i ∷ rest) = shown-without_each following (remove_link following a i) rest ∙ ap (λ (s : Shown). removed_each s rest) (shown-remove_link following a i)
 

@@ -261,7 +261,7 @@ fn check_filled(rt: &impl Abort, alloc: Global, line: &FilledLine<'_>) {
 }
 
 /// Filled lines of up to 200 bytes, and longer ones.
-const FILLED_LINES: [FilledLine<'static>; 8] = [
+const FILLED_LINES: [FilledLine<'static>; 9] = [
     ("200 bytes", "len", 200, "", "count 0\n"),
     ("201 bytes", "len", 201, "", "bad line\n"),
     ("200 bytes with a return", "len", 199, "\r\n", "count 0\n"),
@@ -276,6 +276,13 @@ const FILLED_LINES: [FilledLine<'static>; 8] = [
     ("200 spaces", "", 200, "\n", ""),
     ("201 spaces", "", 201, "\n", "bad line\n"),
     ("70000 spaces", "", 70000, "\nlen\n", "bad line\ncount 0\n"),
+    (
+        "lines of every sort, one of them 201 spaces",
+        "add end 0.2 5\nadd  alone   007\r\n\nadd between 1.2 1 5\n",
+        254,
+        "\nremove 4294967296.2\nremove 1\nchain 1.2\nlen",
+        "bad line\nat 1.2\nbad line\nbad line\nbad line\nvalue 7\nnone\ncount 0\n",
+    ),
 ];
 
 #[test]
