@@ -133,6 +133,15 @@ fn check_ring<A: ChainArenaTrait<ToolPtr, u32> + Drop>(
     Ok(())
 }
 
+// Whether 1 stands before 2, by the pointers to 1 of before and of now, and by their indexes.
+fn stand_side_by_side<A: ChainArenaTrait<ToolPtr, u32>>(rt: &impl Abort, arena: &A) -> [bool; 3] {
+    [
+        arena.are_neighbors(first(rt, 1), first(rt, 2)),
+        arena.are_neighbors(at(rt, 1, 3), first(rt, 2)),
+        arena.are_neighbors_inx(index(rt, 1), index(rt, 2)),
+    ]
+}
+
 // A link that gets a new generation stays in its chain.
 fn check_renewed<A: ChainArenaTrait<ToolPtr, u32> + Drop>(
     rt: &impl Abort,
@@ -143,6 +152,10 @@ fn check_renewed<A: ChainArenaTrait<ToolPtr, u32> + Drop>(
     let renewed = numbers(arena.invalidate(a).allow());
     same(rt, "the pointer of now", renewed, (1, 3));
     assert!(rt; !arena.contains(a));
+    let counter = arena.singular_generation().expect(rt, "a counter");
+    same(rt, "counter", counter.get(), 3);
+    let beside = stand_side_by_side(rt, &arena);
+    same(rt, "neighbors", beside, [false, true, true]);
     let after = [((1, 3), 1, NONE, (2, 2)), ((2, 2), 2, (1, 3), NONE)];
     shows(rt, alloc, "after", &arena, &after)
 }
