@@ -137,12 +137,18 @@ module _ {P Gen T : Type 0} (key : P → ℕ × Gen) (following : Gen → Gen) (
         let item : value_in gone ≡ (p, t) = ap value_in answered ∙ value_in-made overflow (p, t) in
         let some : 1 ≤ next = omega (arith, met.3, index) in
         let es : entries (values_of new) ≡ without (key p).0 (entries (values_of old)) = ap (λ (s : Seen Gen T). s.entries) (answer (first_valid old at (key p) first)).1 in
+        let keyed : key (value_in gone).0 ≡ key p = ap (λ (x : P × T). key x.0) item in
+        let left : entries_left old at ≡ (key (value_in gone).0, (value_in gone).1) ∷ entries_left new next = met.2
+        ∙ (ap (λ (u : T). (key p, u) ∷ from_index (key p).0 (without (key p).0 (entries (values_of old)))) (sym value)
+        ∙ (ap (λ (x : P × T). (key x.0, x.1) ∷ from_index (key p).0 (without (key p).0 (entries (values_of old)))) (sym item)
+        ∙ ap (λ (l : List ((ℕ × Gen) × T)). (key (value_in gone).0, (value_in gone).1) ∷ l)
+        (ap (λ n. from_index n (without (key p).0 (entries (values_of old)))) (sym index) ∙ (ap (from_index next) (sym es) ∙ sym (entries_left-at new next some))))) in
         record {
-          left = met.2
-              ∙ (ap (λ (u : T). (key p, u) ∷ from_index (key p).0 (without (key p).0 (entries (values_of old)))) (sym value)
-              ∙ (ap (λ (x : P × T). (key x.0, x.1) ∷ from_index (key p).0 (without (key p).0 (entries (values_of old)))) (sym item)
-              ∙ ap (λ (l : List ((ℕ × Gen) × T)). (key (value_in gone).0, (value_in gone).1) ∷ l)
-              (ap (λ n. from_index n (without (key p).0 (entries (values_of old)))) (sym index) ∙ (ap (from_index next) (sym es) ∙ sym (entries_left-at new next some)))));
+          left = left;
+          all = λ whole. sym (es
+              ∙ (ap (without (key p).0) (sym whole ∙ left)
+              ∙ ap (λ b. cond b (entries_left new next) ((key (value_in gone).0, (value_in gone).1) ∷ without (key p).0 (entries_left new next)))
+              (eq-eqb (key (value_in gone).0).0 (key p).0 (ap (λ (k : ℕ × Gen). k.0) keyed))));
           overflow = ap is_overflow answered ∙ (is_overflow-made overflow (p, t)
               ∙ (told ∙ (ap is_overflow_result made ∙ (ap (λ (o : Option T). is_overflow_result (invalidation_result (wraps old.counter) o)) has ∙ is_overflow_result-made (wraps old.counter) t))));
           state = removal (first_valid old at (key p) first) ∙ ap (λ (x : P × T). remove_link following old (key x.0).0) (sym item);

@@ -58,6 +58,8 @@ module _ {P Gen T : Type 0} (key : P → ℕ × Gen) (following : Gen → Gen) (
     pub left : entries_left old at ≡ (key (value_in answer).0, (value_in answer).1) ∷ entries_left new next
     pub overflow : is_overflow answer ≡ wraps old.counter
     pub state : new ≡ remove_link following old (key (value_in answer).0).0
+    -- and where all links were left, all that there are now are
+    pub all : entries_left old at ≡ entries (values_of old) → entries_left new next ≡ entries (values_of new)
 
   -- a call of its `next`: no link was left and nothing changes, or it made a step
   abbrev pub LinkDrainSteps : Arena Gen (LinkSeen T) → ℕ → Option (InvalidationOption (P × T)) → Arena Gen (LinkSeen T) → ℕ → Type 0

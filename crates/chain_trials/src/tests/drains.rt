@@ -1,6 +1,6 @@
 //! Chains, and all links, that are removed one after another.
 
-ghost use Rattle.std.specs.Prelude.{◌≡◌, [], length};
+ghost use Rattle.std.specs.Prelude.{◌≡◌, ◌↔◌, [], length, IsTrue};
 ghost use Rattle.arena_base.specs.Arena.{IsValid};
 ghost use Rattle.arena_base.specs.Entries.{entries};
 ghost use Rattle.chain_arena.specs.ChainArena.{entry, values_of};
@@ -16,17 +16,21 @@ use std::process::Abort;
 use std::rt::HostRuntime;
 use std::test::Fail;
 
-// Removes a pointer's chain, in any chain arena.
+// Removes a pointer's chain, in any chain arena, and tells whether there was one.
 fn remove_chain<P: Ptr, T: Drop, S: SlotStack<Item = ArenaSlot<P, LinkNoGen<P, T>>>>(
     arena: &mut ChainArena<P, T, S>,
     p: P,
-)
+) -> bool
+    ensures some { IsTrue result ↔ IsValid (entry arena.old) (P.key p) }
     ensures valid { IsValid (entry arena.old) (P.key p) → arena.new ≡ without_each P.Gen.following arena.old (walk_left arena.old (P.key p).0) }
     ensures invalid { ¬ IsValid (entry arena.old) (P.key p) → arena.new ≡ arena.old }
 {
     match arena.drain_chain(p) {
-        Some(drain) => drop(drain),
-        None => {}
+        Some(drain) => {
+            drop(drain);
+            true
+        }
+        None => false,
     }
 }
 
@@ -38,6 +42,17 @@ fn remove_all<P: Ptr, T: Drop, S: SlotStack<Item = ArenaSlot<P, LinkNoGen<P, T>>
     ensures counts { CountsUp P.Gen.following (length (entries (values_of arena.old))) arena.old arena.new }
 {
     drop(arena.drain());
+}
+
+// The same where one link was taken before.
+fn remove_one_and_all<P: Ptr, T: Drop, S: SlotStack<Item = ArenaSlot<P, LinkNoGen<P, T>>>>(
+    arena: &mut ChainArena<P, T, S>,
+)
+    ensures none { entries (values_of arena.new) ≡ [] }
+{
+    let mut drain = arena.drain();
+    let _ = drain.next();
+    drop(drain);
 }
 
 // A link that is gone: its pointer, the indexes of the links that it stood between, and its value.
@@ -116,8 +131,7 @@ fn drains_a_cycle(rt: HostRuntime) -> Result<(), Fail> {
 #[test]
 fn no_drain_of_an_invalid_pointer(rt: HostRuntime) -> Result<(), Fail> {
     let mut arena: Chains = tied_links(&rt, rt.alloc(), 1, &[]);
-    remove_chain(&mut arena, first(&rt, 2));
-    assert!(rt; arena.drain_chain(first(&rt, 2)).is_none());
+    assert!(rt; !remove_chain(&mut arena, first(&rt, 2)));
     shows(
         &rt,
         rt.alloc(),
@@ -127,38 +141,35 @@ fn no_drain_of_an_invalid_pointer(rt: HostRuntime) -> Result<(), Fail> {
     )
 }
 
+// Takes the first link of a chain, and drops the drain.
+fn take_and_drop(rt: &impl Abort, arena: &mut Chains, p: ToolPtr) -> Gone {
+    let mut drain = arena.drain_chain(p).expect(rt, "a link");
+    first_gone(rt, &mut drain)
+}
+
+// .. and forgets it.
+fn take_and_forget(rt: &impl Abort, arena: &mut Chains, p: ToolPtr) -> Gone {
+    let mut drain = arena.drain_chain(p).expect(rt, "a link");
+    let gone = first_gone(rt, &mut drain);
+    forget(drain);
+    gone
+}
+
 #[test]
 fn a_dropped_drain_takes_the_rest(rt: HostRuntime) -> Result<(), Fail> {
     let mut arena = four_and_one(&rt, rt.alloc());
-    let mut drain = arena.drain_chain(first(&rt, 2)).expect(&rt, "a link");
-    same(
-        &rt,
-        "the first",
-        first_gone(&rt, &mut drain),
-        ((2, 2), (1, 3), 2),
-    );
-    drop(drain);
+    let gone = take_and_drop(&rt, &mut arena, first(&rt, 2));
+    same(&rt, "the first", gone, ((2, 2), (1, 3), 2));
     same(&rt, "counter", arena.generation().get(), 6);
-    shows(
-        &rt,
-        rt.alloc(),
-        "the other",
-        &arena,
-        &[((5, 2), 5, NONE, NONE)],
-    )
+    let other = [((5, 2), 5, NONE, NONE)];
+    shows(&rt, rt.alloc(), "the other", &arena, &other)
 }
 
 #[test]
 fn a_forgotten_drain_leaves_the_rest(rt: HostRuntime) -> Result<(), Fail> {
     let mut arena = four_and_one(&rt, rt.alloc());
-    let mut drain = arena.drain_chain(first(&rt, 2)).expect(&rt, "a link");
-    same(
-        &rt,
-        "the first",
-        first_gone(&rt, &mut drain),
-        ((2, 2), (1, 3), 2),
-    );
-    forget(drain);
+    let gone = take_and_forget(&rt, &mut arena, first(&rt, 2));
+    same(&rt, "the first", gone, ((2, 2), (1, 3), 2));
     let rest = [
         ((1, 2), 1, NONE, (3, 2)),
         ((3, 2), 3, (1, 2), (4, 2)),
@@ -193,33 +204,44 @@ fn drains_all_links_by_rising_index(rt: HostRuntime) -> Result<(), Fail> {
         all.as_slice(),
         [((1, 2), 1), ((3, 2), 3), ((4, 2), 4)].as_slice()
     );
-    assert!(rt; arena.drain().next().is_none());
+    assert!(rt; arena.is_empty());
     same(&rt, "counter", arena.generation().get(), 6);
     Ok(())
+}
+
+// Takes the first link of an arena, tells whether the counter overflowed, and drops the drain.
+fn take_one(rt: &impl Abort, arena: &mut Chains) -> ((At, u32), bool) {
+    let mut drain = arena.drain();
+    let ((p, t), overflow) = drain.next().expect(rt, "a link").overflowing();
+    ((numbers(Some(p)), t), overflow)
 }
 
 #[test]
 fn a_dropped_drain_of_all_takes_the_rest(rt: HostRuntime) {
     let mut arena = four_and_one(&rt, rt.alloc());
-    let mut drain = arena.drain();
-    let gone = first_value_gone(&rt, &mut drain);
-    same(&rt, "the first", gone, ((1, 2), 1));
-    drop(drain);
+    let first = take_one(&rt, &mut arena);
+    same(&rt, "the first", first, (((1, 2), 1), false));
     assert!(rt; arena.is_empty());
     same(&rt, "slots", arena.backing().len(), 5);
     let p = add(&rt, &mut arena, 6);
     same(&rt, "the next link", numbers(Some(p)), (5, 7));
-    remove_all(&mut arena);
+    remove_one_and_all(&mut arena);
     assert!(rt; arena.is_empty());
+}
+
+// .. and forgets it.
+fn forget_all_but_one(rt: &impl Abort, arena: &mut Chains) -> (At, u32) {
+    let mut drain = arena.drain();
+    let gone = first_value_gone(rt, &mut drain);
+    forget(drain);
+    gone
 }
 
 #[test]
 fn a_forgotten_drain_of_all_leaves_whole_chains(rt: HostRuntime) -> Result<(), Fail> {
     let mut arena = four_and_one(&rt, rt.alloc());
-    let mut drain = arena.drain();
-    let gone = first_value_gone(&rt, &mut drain);
+    let gone = forget_all_but_one(&rt, &mut arena);
     same(&rt, "the first", gone, ((1, 2), 1));
-    forget(drain);
     let rest = [
         ((2, 2), 2, NONE, (3, 2)),
         ((3, 2), 3, (2, 2), (4, 2)),
@@ -234,11 +256,9 @@ fn drains_tell_an_overflow(rt: HostRuntime) {
     let mut arena: Chains = tied_links(&rt, rt.alloc(), 3, &[(1, 2)]);
     let greatest = Gen32::new(u32::MAX).expect(&rt, "a generation");
     arena.set_generation(greatest);
-    let mut drain = arena.drain();
-    let (_, overflow) = drain.next().expect(&rt, "a link").overflowing();
-    assert!(rt; overflow);
-    let gone = first_value_gone(&rt, &mut drain);
-    same(&rt, "the second", gone, ((2, 2), 2));
-    drop(drain);
-    same(&rt, "two removals later", arena.generation().get(), 4);
+    let first = take_one(&rt, &mut arena);
+    same(&rt, "the first", first, (((1, 2), 1), true));
+    same(&rt, "three removals later", arena.generation().get(), 4);
+    remove_all(&mut arena);
+    assert!(rt; arena.is_empty());
 }
