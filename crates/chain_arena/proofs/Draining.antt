@@ -38,7 +38,7 @@ index_from-is (suc n) i is = cc
 
 module _ {Gen T : Type 0} where
   -- the link at an index is the entry there
-  link_at-entry : (a : Arena Gen (LinkSeen T)) (i : ℕ) → link_at (entry_at (values_of a)) (shown a) i ≡ entry_at a i
+  pub link_at-entry : (a : Arena Gen (LinkSeen T)) (i : ℕ) → link_at (entry_at (values_of a)) (shown a) i ≡ entry_at a i
   link_at-entry a i = ap (λ (o : Option (Gen × T)). link_of o (shown a i)) (entry_at-with_each held_value a i) ∙ whole (entry_at a i) where
     whole : (o : Option (Gen × LinkSeen T)) → link_of (option_map (on_value held_value) o) (option_map interlinks_of o) ≡ o
     whole None = refl

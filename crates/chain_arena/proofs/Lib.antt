@@ -1,6 +1,8 @@
 pub mod Advancing
 pub mod Connecting
 pub mod Cutting
+pub mod Deciding
+pub mod Determining
 pub mod Draining
 pub mod Inserting
 pub mod Iterating
@@ -11,7 +13,9 @@ pub mod Mapping
 pub mod Outcomes
 pub mod Putting
 pub mod Relinking
+pub mod Running
 pub mod Seeing
+pub mod Stepping
 pub mod Telling
 pub mod Unlinking
 pub mod Valuing

@@ -6,7 +6,7 @@ use Rattle.chain_laws.specs.Walks.{IsWalk}
 use Rattle.chain_laws.specs.Removals.{removed, Removes, RemovesPairs}
 use Rattle.chain_laws.specs.Cuts.{cut, Cuts, TakesPair}
 use Rattle.chain_laws.specs.Exchanges.{exchanged, Exchanges, ExchangesPairs}
-use Rattle.chain_laws.specs.Operations.{next_set, prev_set}
+use Rattle.chain_laws.specs.Operations.{next_set, prev_set, joined, AddsPair, Connects}
 use Rattle.chain_laws.specs.Insertions.{InsertKind, inserted, inserted_as}
 use Rattle.arena_base.specs.Arena.{Arena, with_slot, entry_at, next_index, insert_next, remove_at, IsValid}
 use Rattle.arena_base.specs.Entries.{Seen, seen_of}
@@ -121,6 +121,13 @@ module _ {Gen T : Type 0} where
     pub shows : shown new ≡ removed (shown old) i
     pub chains : Removes (shown old) (shown new) i
     pub pairs : RemovesPairs (shown old) (shown new) i
+
+  -- a start was joined to an end: in the state, and so in what is shown, in pairs and in chains
+  pub record IsJoin (old new : Arena Gen (LinkSeen T)) (a b : ℕ) : Type 0 where
+    pub state : new ≡ relinked old (joined (shown old) a b)
+    pub shows : shown new ≡ joined (shown old) a b
+    pub pair : AddsPair (shown old) (shown new) a b
+    pub chains : Connects (shown old) (shown new) a b
 
   -- two neighbours were cut apart: in the state, and so in what is shown, in pairs and in chains
   pub record IsCut (old new : Arena Gen (LinkSeen T)) (a b : ℕ) : Type 0 where

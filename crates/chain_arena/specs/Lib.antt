@@ -4,4 +4,5 @@ pub mod Kinds
 pub mod Insertions
 pub mod Walkers
 pub mod Drains
+pub mod Steps
 pub mod ChainArenaLaws

@@ -1,6 +1,7 @@
 //! Links in chains over a generational arena, which it reaches by the contracts of its calls alone.
 #![tactic(auto)]
 
+mod calls;
 mod chain_advancer;
 mod chain_arena;
 mod chain_drains;
@@ -17,6 +18,7 @@ mod link_drains;
 mod links;
 mod placing;
 
+pub use calls::{Call, Reply, apply, run_calls, runs_are_determined};
 pub use chain_advancer::ChainPtrAdvancer;
 pub use chain_arena::ChainArena;
 pub use chain_drains::ChainDrain;

@@ -1,13 +1,8 @@
 pub mod AnswerLemmas
 pub mod Coming
-pub mod DrainAnswers
 pub mod Ending
 pub mod Feeding
-pub mod InsertionAnswers
-pub mod InvalidationAnswers
 pub mod KindLemmas
 pub mod Pointers
-pub mod RemovalAnswers
 pub mod SlowLemmas
-pub mod StepAnswers
 pub mod WordLemmas

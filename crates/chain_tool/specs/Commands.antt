@@ -3,17 +3,24 @@ use Rattle.std.specs.Prelude.{ℕ, nat_lt, if◌then◌else◌, List, [], ◌∷
 use Rattle.std.specs.Option.{option_map, option_or, option_zip}
 use Rattle.arena_ptr.specs.declared.index.inx32.Inx32.{Inx32}
 use Rattle.arena_ptr.specs.declared.tool_ptr.ToolPtr.{ToolPtr}
+use Rattle.arena_ptr.specs.declared.generation.gen32.Gen32.{Gen32}
+use Rattle.chain_arena.specs.declared.calls.Call.{Call}
+use Rattle.chain_arena.specs.declared.calls.Call.TheVariants.{Insert, InsertWithin, Connect, BreakPrev, BreakNext, ExchangeNext, Remove, RemoveInx, Invalidate, DrainChain, Clear, Reserve, SetGeneration, IncGeneration}
 use Rattle.chain_arena.specs.declared.kinds.InsertKindBody.{InsertKindBody}
 use Rattle.chain_arena.specs.declared.kinds.InsertKindBody.TheVariants as kinds
 use Rattle.chain_tool.specs.declared.command.Command.{Command}
-use Rattle.chain_tool.specs.declared.command.Command.TheVariants.{Add, AddWithin, Connect, BreakPrev, BreakNext, Exchange, Remove, RemoveInx, Invalidate, Drain, Clear, Show, Chain, Len}
+use Rattle.chain_tool.specs.declared.command.Command.TheVariants.{Change, Show, Chain, Len}
 use Rattle.chain_tool.specs.declared.command.Line.{Line}
 use Rattle.chain_tool.specs.declared.command.Line.TheVariants as lines
-use Rattle.chain_tool.specs.Words.{words_of, number_of, index_word, pointer_of, without_return}
+use Rattle.chain_tool.specs.Words.{words_of, number_of, index_word, generation_word, pointer_of, without_return}
 
 -- kinds of a new link, beside links that pointers or indexes name
 abbrev pub Kind : Type 0
 Kind = InsertKindBody ToolPtr Inx32
+
+-- calls that may change the links
+abbrev pub LinkCall : Type 0
+LinkCall = Call ToolPtr ℕ Inx32 Gen32 ℕ
 
 -- arguments that are one word
 abbrev pub one_word : List (List ℕ) → Option (List ℕ)
@@ -36,16 +43,16 @@ pointer_and_number [] = None
 pointer_and_number (word ∷ words) = option_zip (pointer_of word) (option_and_then number_of (one_word words))
 
 -- no arguments
-abbrev pub no_arguments : List (List ℕ) → Option Command → Option Command
-no_arguments [] command = command
-no_arguments (word ∷ words) command = None
+abbrev pub no_arguments : List (List ℕ) → Option Unit
+no_arguments [] = Some tt
+no_arguments (word ∷ words) = None
 
 -- what is made of pointers, where these are some, or else of indexes
 abbrev pub by_either : {P I A : Type 0} → (P → A) → (I → A) → Option P → Option I → Option A
 by_either by_pointers by_indexes pointers indexes = option_or (option_map by_pointers pointers) (option_map by_indexes indexes)
 
 -- the removal of one link, by its pointer or by its index
-abbrev pub removal : List (List ℕ) → Option Command
+abbrev pub removal : List (List ℕ) → Option LinkCall
 removal words = option_and_then (λ word. by_either Remove RemoveInx (pointer_of word) (index_word word)) (one_word words)
 
 -- the kinds beside no link, by their names
@@ -82,23 +89,36 @@ kind_and_value (name ∷ x ∷ value ∷ []) = option_zip (kind_beside name x) (
 kind_and_value (name ∷ x ∷ y ∷ value ∷ []) = option_zip (kind_between name x y) (number_of value)
 kind_and_value words = None
 
--- the command of a name and its arguments
-abbrev pub command_of : List ℕ → List (List ℕ) → Option Command
-command_of name arguments =
-    if bytes_eq name (codes "add") then option_map (λ a. Add a.0 a.1) (kind_and_value arguments)
-    else (if bytes_eq name (codes "addwithin") then option_map (λ a. AddWithin a.0 a.1) (kind_and_value arguments)
+-- the call on the room or the counter of a name and its arguments
+abbrev pub room_or_counter : List ℕ → List (List ℕ) → Option LinkCall
+room_or_counter name arguments =
+    if bytes_eq name (codes "reserve") then option_map Reserve (option_and_then number_of (one_word arguments))
+    else (if bytes_eq name (codes "setgen") then option_map SetGeneration (option_and_then generation_word (one_word arguments))
+    else (if bytes_eq name (codes "incgen") then option_map (λ none. IncGeneration) (no_arguments arguments)
+    else None))
+
+-- the call of a name and its arguments
+abbrev pub call_of : List ℕ → List (List ℕ) → Option LinkCall
+call_of name arguments =
+    if bytes_eq name (codes "add") then option_map (λ a. Insert a.0 a.1) (kind_and_value arguments)
+    else (if bytes_eq name (codes "addwithin") then option_map (λ a. InsertWithin a.0 a.1) (kind_and_value arguments)
     else (if bytes_eq name (codes "connect") then option_map (λ p. Connect p.0 p.1) (two_pointers arguments)
     else (if bytes_eq name (codes "breakprev") then option_map BreakPrev (one_pointer arguments)
     else (if bytes_eq name (codes "breaknext") then option_map BreakNext (one_pointer arguments)
-    else (if bytes_eq name (codes "exchange") then option_map (λ p. Exchange p.0 p.1) (two_pointers arguments)
+    else (if bytes_eq name (codes "exchange") then option_map (λ p. ExchangeNext p.0 p.1) (two_pointers arguments)
     else (if bytes_eq name (codes "remove") then removal arguments
     else (if bytes_eq name (codes "invalidate") then option_map Invalidate (one_pointer arguments)
-    else (if bytes_eq name (codes "drain") then option_map (λ a. Drain a.0 a.1) (pointer_and_number arguments)
-    else (if bytes_eq name (codes "clear") then no_arguments arguments (Some Clear)
-    else (if bytes_eq name (codes "show") then option_map Show (one_pointer arguments)
+    else (if bytes_eq name (codes "drain") then option_map (λ a. DrainChain a.0 a.1) (pointer_and_number arguments)
+    else (if bytes_eq name (codes "clear") then option_map (λ none. Clear) (no_arguments arguments)
+    else room_or_counter name arguments)))))))))
+
+-- the command of a name and its arguments
+abbrev pub command_of : List ℕ → List (List ℕ) → Option Command
+command_of name arguments =
+    if bytes_eq name (codes "show") then option_map Show (one_pointer arguments)
     else (if bytes_eq name (codes "chain") then option_map Chain (one_pointer arguments)
-    else (if bytes_eq name (codes "len") then no_arguments arguments (Some Len)
-    else None))))))))))))
+    else (if bytes_eq name (codes "len") then option_map (λ none. Len) (no_arguments arguments)
+    else option_map Change (call_of name arguments)))
 
 abbrev pub line_with : Option Command → Line
 line_with None = lines.Bad

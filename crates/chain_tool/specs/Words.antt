@@ -75,6 +75,10 @@ generation_of n = made_of generation_at n
 abbrev pub index_word : List ℕ → Option Inx32
 index_word word = option_and_then index_of (number_of word)
 
+-- a word that is a generation
+abbrev pub generation_word : List ℕ → Option Gen32
+generation_word word = option_and_then generation_of (number_of word)
+
 abbrev pub pointer_with : Option Inx32 → Option Gen32 → Option ToolPtr
 pointer_with None generation = None
 pointer_with (Some index) None = None
@@ -85,4 +89,4 @@ is_dot c = c == 46
 
 -- a pointer is an index, a dot and a generation
 abbrev pub pointer_of : List ℕ → Option ToolPtr
-pointer_of word = pointer_with (index_word (before_first is_dot word)) (option_and_then generation_of (number_of (after_first is_dot word)))
+pointer_of word = pointer_with (index_word (before_first is_dot word)) (generation_word (after_first is_dot word))

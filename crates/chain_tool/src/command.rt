@@ -2,37 +2,17 @@
 ghost use Rattle.std.specs.Prelude.{◌≡◌, bytes_eq, option_map};
 ghost use Rattle.chain_arena.specs.declared.kinds.InsertKindBody.TheVariants.{AtInterlink, AtInterlinkInx, Bridge, BridgeInx};
 ghost use Rattle.chain_tool.specs.Words.{words_of};
-ghost use Rattle.chain_tool.specs.Commands.{one_word, one_pointer, two_pointers, pointer_and_number, no_arguments, by_either, removal, kind_alone, kind_beside, kind_between, kind_and_value, command_of, line_of};
+ghost use Rattle.chain_tool.specs.Commands.{one_word, one_pointer, two_pointers, pointer_and_number, no_arguments, by_either, removal, kind_alone, kind_beside, kind_between, kind_and_value, room_or_counter, call_of, command_of, line_of};
 
-use crate::words::{index, next_word, number, pointer, without_return};
+use crate::words::{generation, index, next_word, number, pointer, without_return};
 use arena_ptr::{Inx32, ToolPtr};
-use chain_arena::LinkInsertKind;
+use chain_arena::{Call, LinkInsertKind};
 
 /// A command, with its arguments.
-#[derive(Clone, Copy)]
+#[derive(Drop)]
 pub enum Command {
-    /// `add K V`: a new link of a kind.
-    Add(LinkInsertKind<ToolPtr>, u32),
-    /// `addwithin K V`: .. within the capacity.
-    AddWithin(LinkInsertKind<ToolPtr>, u32),
-    /// `connect P Q`: the second link follows the first.
-    Connect(ToolPtr, ToolPtr),
-    /// `breakprev P`: the link is cut apart from the one before it.
-    BreakPrev(ToolPtr),
-    /// `breaknext P`: .. from the one after it.
-    BreakNext(ToolPtr),
-    /// `exchange P Q`: what comes after the two links is exchanged.
-    Exchange(ToolPtr, ToolPtr),
-    /// `remove P`: the link goes, and its neighbours are joined.
-    Remove(ToolPtr),
-    /// `remove I`: .. the link at an index.
-    RemoveInx(Inx32),
-    /// `invalidate P`: the link gets the next generation.
-    Invalidate(ToolPtr),
-    /// `drain P N`: the link's chain goes, and so many of its links at most are counted.
-    Drain(ToolPtr, u32),
-    /// `clear`: all links go.
-    Clear,
+    /// A call that may change the links.
+    Change(Call<ToolPtr, u32>),
     /// `show P`: the link and its neighbours.
     Show(ToolPtr),
     /// `chain P`: the walk from the link.
@@ -42,7 +22,7 @@ pub enum Command {
 }
 
 /// What a line says.
-#[derive(Clone, Copy)]
+#[derive(Drop)]
 pub enum Line {
     /// Nothing: it has no words.
     Blank,
@@ -72,37 +52,64 @@ pub fn parse(line: &[u8]) -> Line
 fn named(name: &[u8], arguments: &[u8]) -> Option<Command>
     ensures { result ≡ command_of name.now (words_of arguments.now) }
 {
-    if is(name, "add") {
-        let (kind, v) = kind_and_value(arguments)?;
-        Some(Command::Add(kind, v))
-    } else if is(name, "addwithin") {
-        let (kind, v) = kind_and_value(arguments)?;
-        Some(Command::AddWithin(kind, v))
-    } else if is(name, "connect") {
-        let (p, q) = two_pointers(arguments)?;
-        Some(Command::Connect(p, q))
-    } else if is(name, "breakprev") {
-        Some(Command::BreakPrev(one_pointer(arguments)?))
-    } else if is(name, "breaknext") {
-        Some(Command::BreakNext(one_pointer(arguments)?))
-    } else if is(name, "exchange") {
-        let (p, q) = two_pointers(arguments)?;
-        Some(Command::Exchange(p, q))
-    } else if is(name, "remove") {
-        removal(arguments)
-    } else if is(name, "invalidate") {
-        Some(Command::Invalidate(one_pointer(arguments)?))
-    } else if is(name, "drain") {
-        let (p, n) = pointer_and_number(arguments)?;
-        Some(Command::Drain(p, n))
-    } else if is(name, "clear") {
-        no_arguments(arguments, Command::Clear)
-    } else if is(name, "show") {
+    if is(name, "show") {
         Some(Command::Show(one_pointer(arguments)?))
     } else if is(name, "chain") {
         Some(Command::Chain(one_pointer(arguments)?))
     } else if is(name, "len") {
-        no_arguments(arguments, Command::Len)
+        no_arguments(arguments)?;
+        Some(Command::Len)
+    } else {
+        Some(Command::Change(call(name, arguments)?))
+    }
+}
+
+/// The call of a name and the arguments after it.
+fn call(name: &[u8], arguments: &[u8]) -> Option<Call<ToolPtr, u32>>
+    ensures { result ≡ call_of name.now (words_of arguments.now) }
+{
+    if is(name, "add") {
+        let (kind, t) = kind_and_value(arguments)?;
+        Some(Call::Insert { kind, t })
+    } else if is(name, "addwithin") {
+        let (kind, t) = kind_and_value(arguments)?;
+        Some(Call::InsertWithin { kind, t })
+    } else if is(name, "connect") {
+        let (p, q) = two_pointers(arguments)?;
+        Some(Call::Connect(p, q))
+    } else if is(name, "breakprev") {
+        Some(Call::BreakPrev(one_pointer(arguments)?))
+    } else if is(name, "breaknext") {
+        Some(Call::BreakNext(one_pointer(arguments)?))
+    } else if is(name, "exchange") {
+        let (p, q) = two_pointers(arguments)?;
+        Some(Call::ExchangeNext(p, q))
+    } else if is(name, "remove") {
+        removal(arguments)
+    } else if is(name, "invalidate") {
+        Some(Call::Invalidate(one_pointer(arguments)?))
+    } else if is(name, "drain") {
+        let (p, take) = pointer_and_number(arguments)?;
+        Some(Call::DrainChain { p, take })
+    } else if is(name, "clear") {
+        no_arguments(arguments)?;
+        Some(Call::Clear)
+    } else {
+        room_or_counter(name, arguments)
+    }
+}
+
+/// The call on the room or the counter of a name and the arguments after it.
+fn room_or_counter(name: &[u8], arguments: &[u8]) -> Option<Call<ToolPtr, u32>>
+    ensures { result ≡ room_or_counter name.now (words_of arguments.now) }
+{
+    if is(name, "reserve") {
+        Some(Call::Reserve(number(one_word(arguments)?)? as usize))
+    } else if is(name, "setgen") {
+        Some(Call::SetGeneration(generation(one_word(arguments)?)?))
+    } else if is(name, "incgen") {
+        no_arguments(arguments)?;
+        Some(Call::IncGeneration)
     } else {
         None
     }
@@ -216,24 +223,24 @@ fn bridge(
     }
 }
 
-/// The command, where it has no arguments.
-fn no_arguments(arguments: &[u8], command: Command) -> Option<Command>
-    ensures { result ≡ no_arguments (words_of arguments.now) (Some command) }
+/// Where there are no arguments.
+fn no_arguments(arguments: &[u8]) -> Option<()>
+    ensures { result ≡ no_arguments (words_of arguments.now) }
 {
     match next_word(arguments) {
-        None => Some(command),
+        None => Some(()),
         Some(_) => None,
     }
 }
 
 /// The removal of the link of a pointer, or of the link at an index.
-fn removal(arguments: &[u8]) -> Option<Command>
+fn removal(arguments: &[u8]) -> Option<Call<ToolPtr, u32>>
     ensures { result ≡ removal (words_of arguments.now) }
 {
     let word = one_word(arguments)?;
     match pointer(word) {
-        Some(p) => Some(Command::Remove(p)),
-        None => Some(Command::RemoveInx(index(word)?)),
+        Some(p) => Some(Call::Remove(p)),
+        None => Some(Call::RemoveInx(index(word)?)),
     }
 }
 
@@ -264,9 +271,9 @@ fn two_pointers(arguments: &[u8]) -> Option<(ToolPtr, ToolPtr)>
 }
 
 /// The arguments, where they are one pointer and one number.
-fn pointer_and_number(arguments: &[u8]) -> Option<(ToolPtr, u32)>
+fn pointer_and_number(arguments: &[u8]) -> Option<(ToolPtr, usize)>
     ensures { result ≡ pointer_and_number (words_of arguments.now) }
 {
     let (word, rest) = next_word(arguments)?;
-    Some((pointer(word)?, number(one_word(rest)?)?))
+    Some((pointer(word)?, number(one_word(rest)?)? as usize))
 }

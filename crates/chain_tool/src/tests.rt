@@ -3,7 +3,8 @@ ghost use Rattle.std.specs.Prelude.{◌≡◌, ℕ, List, ◌∷◌, [], codes, 
 ghost use Rattle.chain_arena.specs.declared.kinds.InsertKindBody.TheVariants.{Disconnected, SingleLinkCyclic, ChainEnd, NextToInx, BridgeInx};
 ghost use Rattle.arena_ptr.specs.declared.index.inx32.Inx32.{Inx32};
 ghost use Rattle.arena_ptr.specs.declared.tool_ptr.ToolPtr.{ToolPtr};
-ghost use Rattle.chain_tool.specs.declared.command.Command.TheVariants.{Add, AddWithin, Remove, RemoveInx, Drain, Len};
+ghost use Rattle.chain_arena.specs.declared.calls.Call.TheVariants.{Insert, InsertWithin, Remove, RemoveInx, DrainChain, Reserve, IncGeneration};
+ghost use Rattle.chain_tool.specs.declared.command.Command.TheVariants.{Change, Len};
 ghost use Rattle.chain_tool.specs.declared.command.Line.TheVariants.{Blank, Bad, Good};
 ghost use Rattle.chain_tool.specs.Words.{lines_of, whole_lines, without_return, words_of, number_of, index_word, pointer_of};
 ghost use Rattle.chain_tool.specs.Commands.{line_of};
@@ -83,16 +84,19 @@ fn definitions()
     ensures generation_zero { pointer_of (codes "12.0") ≡ None }
     ensures two_dots { pointer_of (codes "1.2.3") ≡ None }
     ensures len { line_of (codes " len ") ≡ Good Len }
-    ensures add { line_of (codes "add alone 7") ≡ Good (Add Disconnected 7) }
-    ensures add_within { line_of (codes "addwithin ring 7") ≡ Good (AddWithin SingleLinkCyclic 7) }
-    ensures by_pointer { (p : ToolPtr) → pointer_of (codes "1.2") ≡ Some p → line_of (codes "add end 1.2 7") ≡ Good (Add (ChainEnd p) 7) }
-    ensures by_index { (i : Inx32) → index_word (codes "1") ≡ Some i → line_of (codes "addwithin after 1 7") ≡ Good (AddWithin (NextToInx i) 7) }
-    ensures by_indexes { (i j : Inx32) → index_word (codes "3") ≡ Some i → index_word (codes "1") ≡ Some j → line_of (codes "add bridge 3 1 7") ≡ Good (Add (BridgeInx i j) 7) }
-    ensures remove_pointer { (p : ToolPtr) → pointer_of (codes "1.2") ≡ Some p → line_of (codes "remove 1.2") ≡ Good (Remove p) }
-    ensures remove_index { (i : Inx32) → index_word (codes "1") ≡ Some i → line_of (codes "remove 1") ≡ Good (RemoveInx i) }
+    ensures add { line_of (codes "add alone 7") ≡ Good (Change (Insert Disconnected 7)) }
+    ensures add_within { line_of (codes "addwithin ring 7") ≡ Good (Change (InsertWithin SingleLinkCyclic 7)) }
+    ensures by_pointer { (p : ToolPtr) → pointer_of (codes "1.2") ≡ Some p → line_of (codes "add end 1.2 7") ≡ Good (Change (Insert (ChainEnd p) 7)) }
+    ensures by_index { (i : Inx32) → index_word (codes "1") ≡ Some i → line_of (codes "addwithin after 1 7") ≡ Good (Change (InsertWithin (NextToInx i) 7)) }
+    ensures by_indexes { (i j : Inx32) → index_word (codes "3") ≡ Some i → index_word (codes "1") ≡ Some j → line_of (codes "add bridge 3 1 7") ≡ Good (Change (Insert (BridgeInx i j) 7)) }
+    ensures remove_pointer { (p : ToolPtr) → pointer_of (codes "1.2") ≡ Some p → line_of (codes "remove 1.2") ≡ Good (Change (Remove p)) }
+    ensures remove_index { (i : Inx32) → index_word (codes "1") ≡ Some i → line_of (codes "remove 1") ≡ Good (Change (RemoveInx i)) }
     ensures mixed_forms { line_of (codes "add between 1.2 1 5") ≡ Bad }
-    ensures drain { (p : ToolPtr) → pointer_of (codes "1.2") ≡ Some p → line_of (codes "drain 1.2 3") ≡ Good (Drain p 3) }
+    ensures drain { (p : ToolPtr) → pointer_of (codes "1.2") ≡ Some p → line_of (codes "drain 1.2 3") ≡ Good (Change (DrainChain p 3)) }
     ensures drain_alone { line_of (codes "drain") ≡ Bad }
+    ensures reserve { line_of (codes "reserve 9") ≡ Good (Change (Reserve 9)) }
+    ensures incgen { line_of (codes "incgen") ≡ Good (Change IncGeneration) }
+    ensures setgen_zero { line_of (codes "setgen 0") ≡ Bad }
     ensures blank { line_of (codes " ") ≡ Blank }
     ensures unfinished { (lines : List (List ℕ)) → AreComplete (codes "add alone 2") (Some (codes "5")) lines → lines ≡ [] }
     ensures finished { AreComplete (codes "add alone 2") (Some []) (codes "add alone 2" ∷ []) }
@@ -510,6 +514,17 @@ fn cutting_table(rt: HostRuntime) {
 }
 
 #[test]
+fn overflow_table(rt: HostRuntime) {
+    let input =
+        "add alone 1\nsetgen 4294967295\nadd end 1.2 2\nshow 1.2\ninvalidate 1.2\nincgen\nremove 2.4294967295\n\
+        setgen 0\nreserve 0\nreserve 9\nreserve 4294967296\n";
+    let output =
+        "at 1.2\nok\nat 2.4294967295\nprev - next 2.4294967295 value 1\nat 1.2 overflow\nok\nvalue 2\n\
+        bad line\nok\nok\nbad line\n";
+    check_texts(&rt, rt.alloc(), &[(input, output)]);
+}
+
+#[test]
 fn removed_by_index(rt: HostRuntime) {
     let input =
         "add alone 1\nadd end 1.2 2\nremove 1\nremove 1\nremove 1.2\nshow 2.2\nclear\nclear\nadd alone 3\n";
@@ -519,7 +534,13 @@ fn removed_by_index(rt: HostRuntime) {
 
 #[test]
 fn malformed_steps(rt: HostRuntime) {
-    const ROWS: [(&str, &str); 14] = [
+    const ROWS: [(&str, &str); 20] = [
+        ("reserve\n", "bad line\n"),
+        ("reserve x\n", "bad line\n"),
+        ("setgen\n", "bad line\n"),
+        ("setgen 4294967296\n", "bad line\n"),
+        ("incgen 1\n", "bad line\n"),
+        ("reserve 1 2\n", "bad line\n"),
         ("breaknext 1\n", "bad line\n"),
         ("breakprev\n", "bad line\n"),
         ("exchange 1.2\n", "bad line\n"),

@@ -1,15 +1,18 @@
 //! The texts of answers.
-ghost use Rattle.std.specs.Prelude.{◌≡◌, ◌++◌, OnOk, string_bytes, option_map, codes, decimal};
+ghost use Rattle.std.specs.Prelude.{◌≡◌, ◌++◌, OnOk, string_bytes, option_map};
 ghost use Rattle.arena_ptr.specs.ToolPtr.{key_of};
-ghost use Rattle.chain_tool.specs.Answers.{pointer_text, overflow_text, done_text, neighbor_text, show_text, passed_text, walk_text};
+ghost use Rattle.chain_tool.specs.Answers.{pointer_text, at_text, value_text, told_text, counted_text, refusal_text, growth_refusal_text, reply_text, neighbor_text, show_text, passed_text, walk_text};
 
 use arena_base::ArenaSlot;
-use arena_ptr::{Ptr, SlotStack, ToolPtr};
-use chain_arena::{ChainIter, LinkNoGen};
+use arena_ptr::{
+    ChainInsertionError, Gen32, InvalidationOption, InvalidationResult, Ptr, ReallocationError,
+    SlotStack, ToolPtr,
+};
+use chain_arena::{ChainIter, LinkNoGen, Reply};
 use std::alloc::AllocError;
 
 /// Adds a pointer to a text.
-pub fn push_pointer(text: &mut String, p: ToolPtr) -> Result<(), AllocError>
+fn push_pointer(text: &mut String, p: ToolPtr) -> Result<(), AllocError>
     ensures { OnOk result (string_bytes text.new ≡ string_bytes text.old ++ pointer_text (key_of p)) }
 {
     write!(text, "{}.{}", p.inx().get(), p.generation().get())
@@ -42,37 +45,107 @@ pub fn push_link(
     write!(text, " value {value}")
 }
 
-/// Adds the value of a link that is gone to a text, and whether the counter has overflowed.
-pub fn push_value(text: &mut String, value: u32, overflow: bool) -> Result<(), AllocError>
-    ensures { OnOk result (string_bytes text.new ≡ string_bytes text.old ++ (codes "value " ++ decimal value ++ overflow_text overflow)) }
+/// Adds the reply to a call to a text.
+pub fn push_reply(text: &mut String, reply: Reply<ToolPtr, u32>) -> Result<(), AllocError>
+    ensures { OnOk result (string_bytes text.new ≡ string_bytes text.old ++ reply_text reply) }
 {
-    write!(text, "value {value}")?;
-    push_overflow(text, overflow)
+    match reply {
+        Reply::Inserted(Ok(p)) => push_at(text, p),
+        Reply::Inserted(Err(error)) => text.push_str(refusal(error)),
+        Reply::Done(done) => text.push_str(if done { "ok" } else { "none" }),
+        Reply::Removed(answer) => push_removed(text, answer),
+        Reply::RemovedInx(answer) => push_removed_inx(text, answer),
+        Reply::Renewed(answer) => push_renewed(text, answer),
+        Reply::Drained(Some(count)) => write!(text, "count {count}"),
+        Reply::Drained(None) => text.push_str("none"),
+        Reply::Counted(answer) => text.push_str(counted(answer)),
+        Reply::Reserved(Ok(())) => text.push_str("ok"),
+        Reply::Reserved(Err(error)) => text.push_str(growth_refusal(error)),
+        Reply::Set => text.push_str("ok"),
+    }
+}
+
+/// Adds the pointer of a new link to a text.
+fn push_at(text: &mut String, p: ToolPtr) -> Result<(), AllocError>
+    ensures { OnOk result (string_bytes text.new ≡ string_bytes text.old ++ at_text p) }
+{
+    text.push_str("at ")?;
+    push_pointer(text, p)
+}
+
+/// Why there is no new link.
+fn refusal(error: ChainInsertionError) -> &'static str
+    ensures { result.now ≡ refusal_text error }
+{
+    match error {
+        ChainInsertionError::FailedLinkRequirement => "refused link",
+        ChainInsertionError::NotWithinCapacity => "refused capacity",
+        ChainInsertionError::AllocError => "refused memory",
+        ChainInsertionError::BeyondMaxCapacity => "refused limit",
+    }
+}
+
+/// Why there is no more room.
+fn growth_refusal(error: ReallocationError) -> &'static str
+    ensures { result.now ≡ growth_refusal_text error }
+{
+    match error {
+        ReallocationError::AllocError => "refused memory",
+        ReallocationError::BeyondMaxCapacity => "refused limit",
+    }
+}
+
+/// Adds the value of a link that is gone to a text, and whether the counter has overflowed.
+fn push_removed(
+    text: &mut String,
+    answer: InvalidationResult<LinkNoGen<ToolPtr, u32>>,
+) -> Result<(), AllocError>
+    ensures { OnOk result (string_bytes text.new ≡ string_bytes text.old ++ told_text (λ link. value_text link.t) answer) }
+{
+    match answer {
+        InvalidationResult::Success(link) => write!(text, "value {}", link.t),
+        InvalidationResult::GenerationOverflow(link) => write!(text, "value {} overflow", link.t),
+        InvalidationResult::InvalidPtr => text.push_str("none"),
+    }
+}
+
+/// .. of one that was named by its index.
+fn push_removed_inx(
+    text: &mut String,
+    answer: InvalidationResult<(Gen32, LinkNoGen<ToolPtr, u32>)>,
+) -> Result<(), AllocError>
+    ensures { OnOk result (string_bytes text.new ≡ string_bytes text.old ++ told_text (λ e. value_text e.1.t) answer) }
+{
+    match answer {
+        InvalidationResult::Success((_, link)) => write!(text, "value {}", link.t),
+        InvalidationResult::GenerationOverflow((_, link)) => {
+            write!(text, "value {} overflow", link.t)
+        }
+        InvalidationResult::InvalidPtr => text.push_str("none"),
+    }
 }
 
 /// Adds the new pointer of a link to a text, and whether the counter has overflowed.
-pub fn push_renewed(text: &mut String, p: ToolPtr, overflow: bool) -> Result<(), AllocError>
-    ensures { OnOk result (string_bytes text.new ≡ string_bytes text.old ++ (codes "at " ++ pointer_text (key_of p) ++ overflow_text overflow)) }
+fn push_renewed(text: &mut String, answer: InvalidationResult<ToolPtr>) -> Result<(), AllocError>
+    ensures { OnOk result (string_bytes text.new ≡ string_bytes text.old ++ told_text at_text answer) }
 {
-    text.push_str("at ")?;
-    push_pointer(text, p)?;
-    push_overflow(text, overflow)
+    match answer {
+        InvalidationResult::Success(p) => push_at(text, p),
+        InvalidationResult::GenerationOverflow(p) => {
+            push_at(text, p)?;
+            text.push_str(" overflow")
+        }
+        InvalidationResult::InvalidPtr => text.push_str("none"),
+    }
 }
 
-/// Adds to a text whether the counter has overflowed.
-fn push_overflow(text: &mut String, overflow: bool) -> Result<(), AllocError>
-    ensures { OnOk result (string_bytes text.new ≡ string_bytes text.old ++ overflow_text overflow) }
+/// Whether the counter has overflowed in a call that has nothing else to tell.
+fn counted(answer: InvalidationOption<()>) -> &'static str
+    ensures { result.now ≡ counted_text answer }
 {
-    text.push_str(if overflow { " overflow" } else { "" })
-}
-
-/// Adds to a text whether a step was made.
-pub fn push_done(text: &mut String, done: Option<()>) -> Result<(), AllocError>
-    ensures { OnOk result (string_bytes text.new ≡ string_bytes text.old ++ done_text done) }
-{
-    match done {
-        Some(()) => text.push_str("ok"),
-        None => text.push_str("none"),
+    match answer {
+        InvalidationOption::Success(()) => "ok",
+        InvalidationOption::GenerationOverflow(()) => "ok overflow",
     }
 }
 

@@ -1,7 +1,7 @@
 //! The words of a line, and the numbers and pointers that words are.
-ghost use Rattle.std.specs.Prelude.{◌≡◌, ◌==◌, ◌∷◌, [], IfSome, IfNone, length, take_while, not, option_and_then};
+ghost use Rattle.std.specs.Prelude.{◌≡◌, ◌==◌, ◌∷◌, [], IfSome, IfNone, length, take_while, not};
 ghost use Rattle.std.specs.List.{before_first, after_first};
-ghost use Rattle.chain_tool.specs.Words.{without_return, words_of, number_of, index_word, generation_of, pointer_of};
+ghost use Rattle.chain_tool.specs.Words.{without_return, words_of, number_of, index_word, generation_word, pointer_of};
 
 use arena_ptr::{Gen32, Inx32, Ptr, ToolPtr};
 
@@ -78,8 +78,8 @@ pub fn index(word: &[u8]) -> Option<Inx32>
 }
 
 /// The generation that a word is: a number from 1 on.
-fn generation(word: &[u8]) -> Option<Gen32>
-    ensures { result ≡ option_and_then generation_of (number_of word.now) }
+pub fn generation(word: &[u8]) -> Option<Gen32>
+    ensures { result ≡ generation_word word.now }
 {
     Gen32::new(number(word)?)
 }

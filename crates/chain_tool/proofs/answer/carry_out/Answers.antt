@@ -23,17 +23,5 @@ returns-in-Show-clause-ok g c = rw c.in-Show.is (shows_ok _ c.in-Show.p _ c.show
 pub returns-in-Chain-clause-ok : goal.returns-in-Chain-clause-ok
 returns-in-Chain-clause-ok g c = rw c.in-Chain.is (walks_ok _ c.in-Chain.p _ c.chain.result c.chain.ensures)
 
-pub returns-in-BreakPrev-clause-err : goal.returns-in-BreakPrev-clause-err
-returns-in-BreakPrev-clause-err g c = rw c.in-BreakPrev.is (step_or _ _ c.break_prev.result c.break_prev.ensures.err)
-
-pub returns-in-BreakNext-clause-err : goal.returns-in-BreakNext-clause-err
-returns-in-BreakNext-clause-err g c = rw c.in-BreakNext.is (step_or _ _ c.break_next.result c.break_next.ensures.err)
-
-pub returns-in-Remove-clause-err : goal.returns-in-Remove-clause-err
-returns-in-Remove-clause-err g c = rw c.in-Remove.is (step_or _ _ c.remove.result c.remove.ensures.err)
-
-pub returns-in-RemoveInx-clause-err : goal.returns-in-RemoveInx-clause-err
-returns-in-RemoveInx-clause-err g c = rw c.in-RemoveInx.is (step_or _ _ c.remove_inx.result c.remove_inx.ensures.err)
-
-pub returns-in-Drain-clause-err : goal.returns-in-Drain-clause-err
-returns-in-Drain-clause-err g c = rw c.in-Drain.is (step_or _ _ c.drain.result c.drain.ensures.err)
+pub returns-in-Change-clause-err : goal.returns-in-Change-clause-err
+returns-in-Change-clause-err g c = rw c.in-Change.is (step_or _ _ c.change.result c.change.ensures.err)

@@ -1,0 +1,204 @@
+-- But for growth and memory, a state and a list of calls determine the replies and the state after them.
+use Rattle.std.proofs.Common.{◌≡◌, ℕ, ◌+◌, ◌<◌, ◌≤◌, Bool, true, false, List, [], ◌∷◌, length, min, Option, None, Some, Result, Ok, Err, refl, sym, ap, ap₂, ◌∙◌, subst, arith}
+use Rattle.std.specs.Option.{option_map}
+use Rattle.std.proofs.lemmas.Bool.{false≢true}
+use Rattle.std.proofs.lemmas.Option.{none-some}
+use Rattle.arena_ptr.specs.declared.errors.ChainInsertionError.{ChainInsertionError}
+use Rattle.arena_ptr.specs.declared.errors.ChainInsertionError.TheVariants as failed
+use Rattle.arena_ptr.specs.declared.errors.ReallocationError.{ReallocationError}
+use Rattle.arena_ptr.specs.declared.errors.ReallocationError.TheVariants as refused
+use Rattle.arena_ptr.specs.declared.invalidation.InvalidationResult.{InvalidationResult}
+use Rattle.arena_ptr.specs.declared.invalidation.InvalidationResult.TheVariants.{Success, GenerationOverflow, InvalidPtr}
+use Rattle.arena_ptr.specs.declared.packed_option.PackedOption.{PackedOption}
+use Rattle.chain_laws.specs.Chains.{prev_of, next_of}
+use Rattle.chain_laws.specs.Cuts.{cut}
+use Rattle.chain_laws.specs.Insertions.{InsertKind}
+use Rattle.chain_laws.proofs.Walking.{no_other_walk}
+use Rattle.arena_base.specs.Arena.{IsValid, entry_at, entry_count, with_capacity_of, renewed_at}
+use Rattle.chain_arena.specs.ChainArena.{LinkSeen, on_value, shown, entry, value_in, insert_as, relinked, remove_link}
+use Rattle.chain_arena.specs.Drains.{without_each}
+use Rattle.chain_arena.specs.Links.{seen_link}
+use Rattle.chain_arena.specs.Steps.{Links, HasRoomFor, stays, grown, Refuses, Connects, BreaksPrev, BreaksNext, Exchanges, Reserves, DrainsChain, Tells, kind_of, May, IsAdded, IsTaken, InsertsGrowing, InsertsWithin, Step, Run, HasRoomAlready, RunInRoom, RunIsDetermined}
+use Rattle.chain_arena.specs.declared.calls.Call.{Call}
+use Rattle.chain_arena.specs.declared.calls.Call.TheVariants as call
+use Rattle.chain_arena.specs.declared.calls.Reply.{Reply}
+use Rattle.chain_arena.specs.declared.calls.Reply.TheVariants as reply
+use Rattle.chain_arena.specs.declared.kinds.InsertKindBody.{InsertKindBody}
+use Rattle.chain_arena.specs.declared.links.LinkBody.{LinkBody}
+use Rattle.chain_arena.proofs.Mapping.{entry_at-with_each}
+
+-- two that are one and the same
+same : {A : Type 0} {x a b : A} → a ≡ x → b ≡ x → a ≡ b
+same one two = one ∙ sym two
+
+-- two pairs of an answer and a state are the same
+abbrev Same : {R S : Type 0} → R → R → S → S → Type 0
+Same r s a b = (r ≡ s) × (a ≡ b)
+
+module _ {Gen T : Type 0} where
+  -- where there is room already it stays
+  room_stays : (greatest n : ℕ) (old new : Links Gen T) → n ≤ old.capacity → HasRoomFor greatest n old new → (new.capacity ≡ old.capacity) × (new.stack_capacity ≡ old.stack_capacity)
+  room_stays greatest n old new enough (stays within capacity stack_capacity) = (capacity, stack_capacity)
+  room_stays greatest n old new enough (grown less room) = absurd (omega (arith, enough, less))
+
+  -- so that it makes no difference
+  same_in_room : (greatest n : ℕ) (old base a b : Links Gen T) → n ≤ old.capacity → HasRoomFor greatest n old a → HasRoomFor greatest n old b → a ≡ with_capacity_of base a → b ≡ with_capacity_of base b → a ≡ b
+  same_in_room greatest n old base a b enough one two is_a is_b =
+      let room_a = room_stays greatest n old a enough one in
+      let room_b = room_stays greatest n old b enough two in
+      is_a ∙ (ap₂ (λ c d. record base { capacity = c; stack_capacity = d }) (same room_a.0 room_b.0) (same room_a.1 room_b.1) ∙ sym is_b)
+
+  connects_same : (old a b : Links Gen T) (p q : ℕ × Gen) (r s : Bool) → Connects old p q r a → Connects old p q s b → Same r s a b
+  connects_same old a b p q false false one two = (refl, same one.1 two.1)
+  connects_same old a b p q false true one two = absurd (one.0 two.0)
+  connects_same old a b p q true false one two = absurd (two.0 one.0)
+  connects_same old a b p q true true one two = (refl, same one.1.state two.1.state)
+
+  exchanges_same : (old a b : Links Gen T) (p q : ℕ × Gen) (r s : Bool) → Exchanges old p q r a → Exchanges old p q s b → Same r s a b
+  exchanges_same old a b p q false false one two = (refl, same one.1 two.1)
+  exchanges_same old a b p q false true one two = absurd (one.0 two.0)
+  exchanges_same old a b p q true false one two = absurd (two.0 one.0)
+  exchanges_same old a b p q true true one two = (refl, same one.1.state two.1.state)
+
+  breaks_prev_same : (old a b : Links Gen T) (p : ℕ × Gen) (r s : Bool) → BreaksPrev old p r a → BreaksPrev old p s b → Same r s a b
+  breaks_prev_same old a b p false false one two = (refl, same one.1 two.1)
+  breaks_prev_same old a b p false true one two = absurd (none-some two.1 (sym (one.0 two.0) ∙ two.2))
+  breaks_prev_same old a b p true false one two = absurd (none-some one.1 (sym (two.0 one.0) ∙ one.2))
+  breaks_prev_same old a b p true true one two =
+      let met : Some one.1 ≡ Some two.1 = sym one.2 ∙ two.2 in
+      let beside : one.1 ≡ two.1 = cc in
+      (refl, one.3.state ∙ (ap (λ (i : ℕ). relinked old (cut (shown old) i p.0)) beside ∙ sym two.3.state))
+
+  breaks_next_same : (old a b : Links Gen T) (p : ℕ × Gen) (r s : Bool) → BreaksNext old p r a → BreaksNext old p s b → Same r s a b
+  breaks_next_same old a b p false false one two = (refl, same one.1 two.1)
+  breaks_next_same old a b p false true one two = absurd (none-some two.1 (sym (one.0 two.0) ∙ two.2))
+  breaks_next_same old a b p true false one two = absurd (none-some one.1 (sym (two.0 one.0) ∙ one.2))
+  breaks_next_same old a b p true true one two =
+      let met : Some one.1 ≡ Some two.1 = sym one.2 ∙ two.2 in
+      let beside : one.1 ≡ two.1 = cc in
+      (refl, one.3.state ∙ (ap (λ (i : ℕ). relinked old (cut (shown old) p.0 i)) beside ∙ sym two.3.state))
+
+  drains_same : (following : Gen → Gen) (old a b : Links Gen T) (p : ℕ × Gen) (take : ℕ) (r s : Option ℕ) → DrainsChain following old p take r a → DrainsChain following old p take s b → Same r s a b
+  drains_same following old a b p take None None one two = (refl, same one.1 two.1)
+  drains_same following old a b p take None (Some k) one two = absurd (one.0 two.valid)
+  drains_same following old a b p take (Some k) None one two = absurd (two.0 one.valid)
+  drains_same following old a b p take (Some k) (Some l) one two =
+      let walks = no_other_walk (shown old) p.0 one.walk two.walk one.is_walk two.is_walk in
+      (ap Some (one.counted ∙ (ap (λ (w : List ℕ). min take (length w)) walks ∙ sym two.counted)), one.state ∙ (ap (without_each following old) walks ∙ sym two.state))
+
+  reserves_same : (greatest : ℕ) (old a b : Links Gen T) (n : ℕ) (r s : Result Unit ReallocationError) → n ≤ old.capacity → Reserves greatest old n r a → Reserves greatest old n s b → Same r s a b
+  reserves_same greatest old a b n (Ok u) (Ok v) enough one two = (refl, same_in_room greatest n old old a b enough one.1 two.1 one.0 two.0)
+  reserves_same greatest old a b n (Err why) s enough one two = absurd (lacks why one.0)
+    where
+      lacks : (why : ReallocationError) → Refuses n old why → ⊥
+      lacks refused.BeyondMaxCapacity less = omega (arith, enough, less.0)
+      lacks refused.AllocError less = omega (arith, enough, less.0)
+  reserves_same greatest old a b n (Ok u) (Err why) enough one two = absurd (lacks why two.0)
+    where
+      lacks : (why : ReallocationError) → Refuses n old why → ⊥
+      lacks refused.BeyondMaxCapacity less = omega (arith, enough, less.0)
+      lacks refused.AllocError less = omega (arith, enough, less.0)
+
+-- what is told is told once
+tells_same : {X S : Type 0} {No : Type 0} (Done : X → S → Type 0) (overflow : Bool) (old a b : S) (r s : InvalidationResult X) → ((x : X) (c : S) → Done x c → No → ⊥)
+    → ((x y : X) → Done x a → Done y b → Same x y a b) → Tells (No × (a ≡ old)) overflow (λ x. Done x a) r → Tells (No × (b ≡ old)) overflow (λ x. Done x b) s → Same r s a b
+tells_same Done overflow old a b (Success x) (Success y) apart once one two = let both = once x y one.1 two.1 in (ap Success both.0, both.1)
+tells_same Done overflow old a b (GenerationOverflow x) (GenerationOverflow y) apart once one two = let both = once x y one.1 two.1 in (ap GenerationOverflow both.0, both.1)
+tells_same Done overflow old a b InvalidPtr InvalidPtr apart once one two = (refl, same one.1 two.1)
+tells_same Done overflow old a b (Success x) (GenerationOverflow y) apart once one two = absurd (false≢true (sym one.0 ∙ two.0))
+tells_same Done overflow old a b (GenerationOverflow x) (Success y) apart once one two = absurd (false≢true (sym two.0 ∙ one.0))
+tells_same Done overflow old a b (Success x) InvalidPtr apart once one two = absurd (apart x a one.1 two.0)
+tells_same Done overflow old a b (GenerationOverflow x) InvalidPtr apart once one two = absurd (apart x a one.1 two.0)
+tells_same Done overflow old a b InvalidPtr (Success y) apart once one two = absurd (apart y b two.1 one.0)
+tells_same Done overflow old a b InvalidPtr (GenerationOverflow y) apart once one two = absurd (apart y b two.1 one.0)
+
+module _ {P T I Gen W : Type 0} (key : P → ℕ × Gen) (number : I → ℕ) (packed : PackedOption I W → Option ℕ) (greatest : ℕ) (following : Gen → Gen) (wraps : Gen → Bool)
+    (same_key : (p q : P) → key p ≡ key q → p ≡ q) (same_packed : (o p : PackedOption I W) → packed o ≡ packed p → o ≡ p) where
+  same_link : (k l : LinkBody (PackedOption I W) T) → seen_link packed k ≡ seen_link packed l → k ≡ l
+  same_link k l is =
+      let prev = same_packed k.prev l.prev (ap (λ (x : LinkSeen T). x.prev) is) in
+      let next = same_packed k.next l.next (ap (λ (x : LinkSeen T). x.next) is) in
+      let value : k.t ≡ l.t = ap (λ (x : LinkSeen T). x.value) is in
+      (λ i. record { prev = prev i; next = next i; t = value i })
+
+  -- an entry that stands has a generation and a link
+  same_entry : (old : Links Gen T) (n : ℕ) (g h : Gen) (k l : LinkBody (PackedOption I W) T) → entry_at old n ≡ Some (g, seen_link packed k) → entry_at old n ≡ Some (h, seen_link packed l) → (g ≡ h) × (k ≡ l)
+  same_entry old n g h k l one two =
+      let both : Some (g, seen_link packed k) ≡ Some (h, seen_link packed l) = sym one ∙ two in
+      let pair : (g, seen_link packed k) ≡ (h, seen_link packed l) = cc in
+      (ap (λ (e : Gen × LinkSeen T). e.0) pair, same_link k l (ap (λ (e : Gen × LinkSeen T). e.1) pair))
+
+  stands : (old : Links Gen T) (n : ℕ) (g : Gen) (k : LinkBody (PackedOption I W) T) → entry_at old n ≡ Some (g, seen_link packed k) → entry old n ≡ Some (g, k.t)
+  stands old n g k is = entry_at-with_each value_in old n ∙ ap (option_map (on_value value_in)) is
+
+  same_pointer : (old a b : Links Gen T) (kind : InsertKind ℕ) (t : T) (p q : P) → IsAdded key old kind t p a → IsAdded key old kind t q b → p ≡ q
+  same_pointer old a b kind t p q one two = same_key p q (same one.pointer two.pointer)
+
+  inserts_same : (old a b : Links Gen T) (kind : InsertKindBody P I) (t : T) (r s : Result P ChainInsertionError) → entry_count old < old.capacity
+      → InsertsGrowing key number greatest old kind t r a → InsertsGrowing key number greatest old kind t s b → Same r s a b
+  inserts_same old a b kind t (Ok p) (Ok q) room one two =
+      (ap Ok (same_pointer old a b (kind_of key number kind) t p q one.1 two.1), same_in_room greatest (entry_count old + 1) old (insert_as old (kind_of key number kind) t) a b (omega (arith, room)) one.2 two.2 one.1.state two.1.state)
+  inserts_same old a b kind t (Ok p) (Err failed.FailedLinkRequirement) room one two = absurd (two.0 one.0)
+  inserts_same old a b kind t (Err failed.FailedLinkRequirement) (Ok q) room one two = absurd (one.0 two.0)
+  inserts_same old a b kind t (Err failed.FailedLinkRequirement) (Err failed.FailedLinkRequirement) room one two = (refl, same one.1 two.1)
+  inserts_same old a b kind t (Err failed.BeyondMaxCapacity) s room one two = absurd (omega (arith, room, one.1.0))
+  inserts_same old a b kind t (Err failed.AllocError) s room one two = absurd (omega (arith, room, one.1.0))
+  inserts_same old a b kind t (Err failed.NotWithinCapacity) s room one two = absurd one
+  inserts_same old a b kind t r (Err failed.BeyondMaxCapacity) room one two = absurd (omega (arith, room, two.1.0))
+  inserts_same old a b kind t r (Err failed.AllocError) room one two = absurd (omega (arith, room, two.1.0))
+  inserts_same old a b kind t r (Err failed.NotWithinCapacity) room one two = absurd two
+
+  inserts_within_same : (old a b : Links Gen T) (kind : InsertKindBody P I) (t : T) (r s : Result P ChainInsertionError)
+      → InsertsWithin key number old kind t r a → InsertsWithin key number old kind t s b → Same r s a b
+  inserts_within_same old a b kind t (Ok p) (Ok q) one two = (ap Ok (same_pointer old a b (kind_of key number kind) t p q one.2 two.2), same one.3 two.3)
+  inserts_within_same old a b kind t (Ok p) (Err failed.FailedLinkRequirement) one two = absurd (two.0 one.0)
+  inserts_within_same old a b kind t (Ok p) (Err failed.NotWithinCapacity) one two = absurd (omega (arith, one.1, two.1))
+  inserts_within_same old a b kind t (Err failed.FailedLinkRequirement) (Ok q) one two = absurd (one.0 two.0)
+  inserts_within_same old a b kind t (Err failed.FailedLinkRequirement) (Err failed.FailedLinkRequirement) one two = (refl, same one.1 two.1)
+  inserts_within_same old a b kind t (Err failed.FailedLinkRequirement) (Err failed.NotWithinCapacity) one two = absurd (one.0 two.0)
+  inserts_within_same old a b kind t (Err failed.NotWithinCapacity) (Ok q) one two = absurd (omega (arith, two.1, one.1))
+  inserts_within_same old a b kind t (Err failed.NotWithinCapacity) (Err failed.FailedLinkRequirement) one two = absurd (two.0 one.0)
+  inserts_within_same old a b kind t (Err failed.NotWithinCapacity) (Err failed.NotWithinCapacity) one two = (refl, same one.2 two.2)
+  inserts_within_same old a b kind t (Err failed.BeyondMaxCapacity) s one two = absurd one
+  inserts_within_same old a b kind t (Err failed.AllocError) s one two = absurd one
+  inserts_within_same old a b kind t r (Err failed.BeyondMaxCapacity) one two = absurd two
+  inserts_within_same old a b kind t r (Err failed.AllocError) one two = absurd two
+
+  -- two replies are the same whose answers are
+  answered_same : {A : Type 0} (told : A → Reply P T I Gen W) (r s : Reply P T I Gen W) (x y : A) (a b : Links Gen T) → r ≡ told x → s ≡ told y → Same x y a b → Same r s a b
+  answered_same told r s x y a b is_r is_s both = (is_r ∙ (ap told both.0 ∙ sym is_s), both.1)
+
+  step_same : (old : Links Gen T) (c : Call P T I Gen W) (r s : Reply P T I Gen W) (a b : Links Gen T) → HasRoomAlready key number packed greatest following wraps old c
+      → Step key number packed greatest following wraps old c r a → Step key number packed greatest following wraps old c s b → Same r s a b
+  step_same old (call.Insert kind t) r s a b room one two = answered_same reply.Inserted r s one.0 two.0 a b one.1 two.1 (inserts_same old a b kind t one.0 two.0 room one.2 two.2)
+  step_same old (call.InsertWithin kind t) r s a b room one two = answered_same reply.Inserted r s one.0 two.0 a b one.1 two.1 (inserts_within_same old a b kind t one.0 two.0 one.2 two.2)
+  step_same old (call.Connect p q) r s a b room one two = answered_same reply.Done r s one.0 two.0 a b one.1 two.1 (connects_same old a b (key p) (key q) one.0 two.0 one.2 two.2)
+  step_same old (call.BreakPrev p) r s a b room one two = answered_same reply.Done r s one.0 two.0 a b one.1 two.1 (breaks_prev_same old a b (key p) one.0 two.0 one.2 two.2)
+  step_same old (call.BreakNext p) r s a b room one two = answered_same reply.Done r s one.0 two.0 a b one.1 two.1 (breaks_next_same old a b (key p) one.0 two.0 one.2 two.2)
+  step_same old (call.ExchangeNext p q) r s a b room one two = answered_same reply.Done r s one.0 two.0 a b one.1 two.1 (exchanges_same old a b (key p) (key q) one.0 two.0 one.2 two.2)
+  step_same old (call.Remove p) r s a b room one two = answered_same reply.Removed r s one.0 two.0 a b one.1 two.1
+      (tells_same (λ link c. IsTaken packed following old (key p).0 (key p).1 link c) (wraps old.counter) old a b one.0 two.0
+      (λ link c taken cannot. cannot (record { value = link.t; stands = stands old (key p).0 (key p).1 link taken.stood }))
+      (λ k l first second. ((same_entry old (key p).0 _ _ k l first.stood second.stood).1, same first.removal.state second.removal.state)) one.2 two.2)
+  step_same old (call.RemoveInx i) r s a b room one two = answered_same reply.RemovedInx r s one.0 two.0 a b one.1 two.1
+      (tells_same (λ (e : Gen × LinkBody (PackedOption I W) T) c. IsTaken packed following old (number i) e.0 e.1 c) (wraps old.counter) old a b one.0 two.0
+      (λ e c taken none. none-some _ (sym none ∙ stands old (number i) e.0 e.1 taken.stood))
+      (λ k l first second. let both = same_entry old (number i) k.0 l.0 k.1 l.1 first.stood second.stood in (ap₂ (λ (g : Gen) (x : LinkBody (PackedOption I W) T). (g, x)) both.0 both.1, same first.removal.state second.removal.state)) one.2 two.2)
+  step_same old (call.Invalidate p) r s a b room one two = answered_same reply.Renewed r s one.0 two.0 a b one.1 two.1
+      (tells_same {No = IsValid (entry old) (key p) → ⊥} (λ (q : P) (c : Links Gen T). IsValid (entry old) (key p) × (key q ≡ ((key p).0, following old.counter)) × (c ≡ renewed_at following old (key p).0) × (shown c ≡ shown old)) (wraps old.counter) old a b one.0 two.0 (λ q c done cannot. cannot done.0) (λ q m first second. (same_key q m (same first.1 second.1), same first.2 second.2)) one.2 two.2)
+  step_same old (call.DrainChain p take) r s a b room one two = answered_same reply.Drained r s one.0 two.0 a b one.1 two.1 (drains_same following old a b (key p) take one.0 two.0 one.2 two.2)
+  step_same old call.Clear r s a b room one two = (same one.0 two.0, same one.1 two.1)
+  step_same old (call.Reserve n) r s a b room one two = answered_same reply.Reserved r s one.0 two.0 a b one.1 two.1 (reserves_same greatest old a b n one.0 two.0 room one.2 two.2)
+  step_same old (call.SetGeneration g) r s a b room one two = (same one.0 two.0, same one.1 two.1)
+  step_same old call.IncGeneration r s a b room one two = (same one.0 two.0, same one.1 two.1)
+
+  pub run_same : RunIsDetermined key number packed greatest following wraps T
+  run_same old [] [] [] new other one two = (refl, same one two)
+  run_same old [] [] (s ∷ others) new other one two = absurd two
+  run_same old [] (r ∷ replies) others new other one two = absurd one
+  run_same old (c ∷ calls) [] others new other one two = absurd one
+  run_same old (c ∷ calls) (r ∷ replies) [] new other one two = absurd two
+  run_same old (c ∷ calls) (r ∷ replies) (s ∷ others) new other one two =
+      let first = step_same old c r s one.0 two.0 one.1 one.2 two.1 in
+      let rest = run_same one.0 calls replies others new other one.3 (subst (λ a. Run key number packed greatest following wraps a calls others other) (sym first.1) two.2) in
+      (ap₂ (λ (x : Reply P T I Gen W) (xs : List (Reply P T I Gen W)). x ∷ xs) first.0 rest.0, rest.1)

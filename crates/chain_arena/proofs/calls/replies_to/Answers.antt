@@ -1,0 +1,29 @@
+-- Each call is made, and its reply is pushed where there is room.
+use Rattle.std.proofs.Common.{sym, ◌∙◌, arith}
+use Rattle.chain_arena.proofs.Running.{under_way_first, under_way_more, under_way_last}
+use Rattle.chain_arena.proofs.calls.replies_to.Goals as goal
+
+pub loop-call-init : goal.loop-call-init
+loop-call-init g c =
+    let gives = c.into_iter-call-iterator.ensures.into_iter_gives in
+    let none = c.in_ok-replies.ensures.len in
+    let room = c.in_ok-replies.ensures.capacity in
+    let counted = c.len.ensures in (
+      under_way_first g.P.Ptr.key g.P.Inx.PtrInx.number g.P.Inx.PtrInx.packed_number g.P.Inx.PtrInx.greatest g.P.Gen.PtrGen.following g.P.Gen.PtrGen.wraps _ _ _ _ gives.0 c.in_ok-replies.ensures.items,
+      omega (arith, gives.1, none, room, counted),
+    )
+
+pub loop-call-preserved : goal.loop-call-preserved
+loop-call-preserved g c =
+    let steps = c.in-Some.ensures.steps in
+    let more = c.in-Ok.ensures.len in
+    let room = c.in-Ok.ensures.capacity in
+    let before = c.loop-call.invariant.1 in (
+      under_way_more g.P.Ptr.key g.P.Inx.PtrInx.number g.P.Inx.PtrInx.packed_number g.P.Inx.PtrInx.greatest g.P.Gen.PtrGen.following g.P.Gen.PtrGen.wraps _ _ _ _ _ _ _ _ _ _ c.loop-call.invariant.0 steps.0 c.apply-reply.ensures.step c.in-Ok.ensures.items,
+      omega (arith, steps.1, more, room, before),
+    )
+
+pub returns-clause-run : goal.returns-clause-run
+returns-clause-run g c =
+    under_way_last g.P.Ptr.key g.P.Inx.PtrInx.number g.P.Inx.PtrInx.packed_number g.P.Inx.PtrInx.greatest g.P.Gen.PtrGen.following g.P.Gen.PtrGen.wraps _ _ _ _ _ c.loop-call.invariant.0
+    (sym c.loop-call.call-iterator.rest.ok.0 ∙ c.in-None.ensures.steps.0)

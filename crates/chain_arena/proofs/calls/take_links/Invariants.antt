@@ -1,0 +1,12 @@
+-- The links that are counted and those that are left are the walk, and what is left leaves what the whole walk leaves.
+use Rattle.std.proofs.Common.{◌≡◌, ◌+◌, ◌≤◌, length}
+use Rattle.chain_arena.specs.Drains.{walk_left, without_each}
+use Rattle.chain_arena.proofs.calls.take_links.Given as goal
+
+abbrev pub invariant-loop-count : goal.invariant-loop-count
+invariant-loop-count g l = record {
+  within : l.count ≤ l.take;
+  counted : l.count + length (walk_left l.links.arena.now l.links.at) ≡ length (walk_left l.fn.links.arena.now l.fn.links.at);
+  state : without_each g.P.Gen.PtrGen.following l.links.arena.now (walk_left l.links.arena.now l.links.at) ≡ without_each g.P.Gen.PtrGen.following l.fn.links.arena.now (walk_left l.fn.links.arena.now l.fn.links.at);
+  same_reference : l.links.arena.ghost_name ≡ l.fn.links.arena.ghost_name;
+}

@@ -1,0 +1,225 @@
+// Calls on an arena of links as values, each with its reply, and lists of them.
+ghost use Rattle.std.specs.Prelude.{◌≡◌, min, length, IfOk, OnErr, MatchResult};
+ghost use Rattle.chain_laws.specs.Neighbors.{HasOneSetOfChains};
+ghost use Rattle.chain_arena.specs.ChainArena.{shown};
+ghost use Rattle.chain_arena.specs.Drains.{walk_left, without_each};
+ghost use Rattle.chain_arena.specs.Steps.{InsertsGrowing, InsertsWithin, Reserves, DrainsChain, Step, Run, RunIsDetermined};
+
+use crate::chain_arena::ChainArena;
+use crate::chain_drains::ChainDrain;
+use crate::chain_traits::ChainArenaTrait;
+use crate::kinds::LinkInsertKind;
+use crate::links::LinkNoGen;
+use arena_base::{ArenaSlot, ArenaTrait};
+use arena_ptr::{
+    AllocError, ChainInsertionError, InvalidationOption, InvalidationResult, Ptr,
+    ReallocationError, SlotStack,
+};
+use std::alloc::Global;
+
+/// A call that may change an arena of links, with its arguments. Each is the call of the same name; `Insert` is
+/// `insert_reallocating`, `InsertWithin` is `insert_within_capacity`, and `Remove` and `RemoveInx` answer the link.
+#[derive(Drop)]
+pub enum Call<P: Ptr, T> {
+    /// Adds a link of a kind. A full arena grows first.
+    Insert { kind: LinkInsertKind<P>, t: T },
+    /// Adds a link of a kind within the capacity.
+    InsertWithin { kind: LinkInsertKind<P>, t: T },
+    /// Makes the second link the one after the first.
+    Connect(P, P),
+    /// Cuts a link apart from the one before it.
+    BreakPrev(P),
+    /// Cuts a link apart from the one after it.
+    BreakNext(P),
+    /// Exchanges what comes after two links.
+    ExchangeNext(P, P),
+    /// Removes a link.
+    Remove(P),
+    /// Removes the link at an index.
+    RemoveInx(P::Inx),
+    /// Gives a link the next generation.
+    Invalidate(P),
+    /// Takes so many links at most off a link's chain, in walk order from it, and removes the rest of it.
+    DrainChain { p: P, take: usize },
+    /// Removes all links and slots.
+    Clear,
+    /// Grows to room for so many links.
+    Reserve(usize),
+    /// Sets the counter.
+    SetGeneration(P::Gen),
+    /// Increments the counter.
+    IncGeneration,
+}
+
+/// What a call answers.
+#[derive(Drop)]
+pub enum Reply<P: Ptr, T> {
+    /// Of an insertion: the pointer of the new link, or why there is none.
+    Inserted(Result<P, ChainInsertionError>),
+    /// Of `Connect`, `BreakPrev`, `BreakNext` and `ExchangeNext`: whether it was done.
+    Done(bool),
+    /// Of `Remove`: the link, with the interlinks that it had.
+    Removed(InvalidationResult<LinkNoGen<P, T>>),
+    /// Of `RemoveInx`: the generation and the link, with the interlinks that it had.
+    RemovedInx(InvalidationResult<(P::Gen, LinkNoGen<P, T>)>),
+    /// Of `Invalidate`: the link's new pointer.
+    Renewed(InvalidationResult<P>),
+    /// Of `DrainChain`: how many links were taken. `None`: the pointer is not valid.
+    Drained(Option<usize>),
+    /// Of `Clear` and `IncGeneration`: whether the counter overflowed.
+    Counted(InvalidationOption<()>),
+    /// Of `Reserve`: why the arena did not grow, if it did not.
+    Reserved(Result<(), ReallocationError>),
+    /// Of `SetGeneration`.
+    Set,
+}
+
+/// Makes one call, and answers its reply.
+pub fn apply<P: Ptr, T: Drop, S: SlotStack<Item = ArenaSlot<P, LinkNoGen<P, T>>>>(
+    arena: &mut ChainArena<P, T, S>,
+    call: Call<P, T>,
+) -> Reply<P, T>
+    ensures step { Step P.key P.Inx.number P.Inx.packed_number P.Inx.greatest P.Gen.following P.Gen.wraps arena.old call result arena.new }
+{
+    match call {
+        Call::Insert { kind, t } => Reply::Inserted(insert(arena, kind, t)),
+        Call::InsertWithin { kind, t } => Reply::Inserted(insert_within(arena, kind, t)),
+        Call::Connect(p, q) => Reply::Done(arena.connect(p, q).is_some()),
+        Call::BreakPrev(p) => Reply::Done(arena.break_prev(p).is_some()),
+        Call::BreakNext(p) => Reply::Done(arena.break_next(p).is_some()),
+        Call::ExchangeNext(p, q) => Reply::Done(arena.exchange_next(p, q).is_some()),
+        Call::Remove(p) => Reply::Removed(arena.remove_link_no_gen(p)),
+        Call::RemoveInx(i) => Reply::RemovedInx(arena.remove_inx_link_no_gen(i)),
+        Call::Invalidate(p) => Reply::Renewed(arena.invalidate(p)),
+        Call::DrainChain { p, take } => Reply::Drained(drain(arena, p, take)),
+        Call::Clear => Reply::Counted(arena.clear()),
+        Call::Reserve(n) => Reply::Reserved(reserve(arena, n)),
+        Call::SetGeneration(generation) => {
+            arena.set_generation(generation);
+            Reply::Set
+        }
+        Call::IncGeneration => Reply::Counted(arena.inc_generation()),
+    }
+}
+
+// Adds a link of a kind. A full arena grows first.
+fn insert<P: Ptr, T: Drop, S: SlotStack<Item = ArenaSlot<P, LinkNoGen<P, T>>>>(
+    arena: &mut ChainArena<P, T, S>,
+    kind: LinkInsertKind<P>,
+    t: T,
+) -> Result<P, ChainInsertionError>
+    ensures { InsertsGrowing P.key P.Inx.number P.Inx.greatest arena.old kind t result arena.new }
+{
+    // There are no more links than the capacity.
+    arena.len();
+    arena.insert_reallocating(kind, t)
+}
+
+// Adds a link of a kind within the capacity.
+fn insert_within<P: Ptr, T: Drop, S: SlotStack<Item = ArenaSlot<P, LinkNoGen<P, T>>>>(
+    arena: &mut ChainArena<P, T, S>,
+    kind: LinkInsertKind<P>,
+    t: T,
+) -> Result<P, ChainInsertionError>
+    ensures { InsertsWithin P.key P.Inx.number arena.old kind t result arena.new }
+{
+    // There are no more links than the capacity.
+    arena.len();
+    arena.insert_within_capacity(kind, t)
+}
+
+// Grows to room for so many links.
+fn reserve<P: Ptr, T: Drop, S: SlotStack<Item = ArenaSlot<P, LinkNoGen<P, T>>>>(
+    arena: &mut ChainArena<P, T, S>,
+    n: usize,
+) -> Result<(), ReallocationError>
+    ensures { Reserves P.Inx.greatest arena.old n result arena.new }
+{
+    let grown = arena.reallocate_min_capacity(n);
+    // The room is as in every arena.
+    arena.len();
+    grown
+}
+
+// Removes a pointer's chain, and answers how many of its links were taken one by one. `None`: the pointer is not valid.
+fn drain<P: Ptr, T: Drop, S: SlotStack<Item = ArenaSlot<P, LinkNoGen<P, T>>>>(
+    arena: &mut ChainArena<P, T, S>,
+    p: P,
+    take: usize,
+) -> Option<usize>
+    ensures { DrainsChain P.Gen.following arena.old (P.key p) take result arena.new }
+{
+    match arena.drain_chain(p) {
+        Some(mut links) => {
+            let count = take_links(&mut links, take);
+            drop(links);
+            Some(count)
+        }
+        None => None,
+    }
+}
+
+// Takes so many links of a chain at most, and answers how many it took.
+fn take_links<P: Ptr, T: Drop, S: SlotStack<Item = ArenaSlot<P, LinkNoGen<P, T>>>>(
+    links: &mut ChainDrain<'_, P, T, S>,
+    take: usize,
+) -> usize
+    ensures same_reference { links.new.arena.ghost_name ≡ links.old.arena.ghost_name }
+    ensures count { result ≡ min take (length (walk_left links.old.arena.now links.old.at)) }
+    ensures state { without_each P.Gen.following links.new.arena.now (walk_left links.new.arena.now links.new.at)
+        ≡ without_each P.Gen.following links.old.arena.now (walk_left links.old.arena.now links.old.at) }
+{
+    let mut count = 0;
+    while count < take {
+        match links.next() {
+            Some(_) => count += 1,
+            None => return count,
+        }
+    }
+    count
+}
+
+/// Makes calls in their order, and answers their replies, one a call. A call that is refused changes nothing, its reply
+/// tells so, and the later calls are made.
+///
+/// `AllocError`: memory for the replies was refused, before any call: nothing has changed.
+pub fn run_calls<P: Ptr, T: Drop, S: SlotStack<Item = ArenaSlot<P, LinkNoGen<P, T>>>>(
+    alloc: Global,
+    arena: &mut ChainArena<P, T, S>,
+    calls: Vec<Call<P, T>>,
+) -> Result<Vec<Reply<P, T>>, AllocError>
+    ensures ends { HasOneSetOfChains (shown arena.new) × MatchResult result
+        (λ replies. Run P.key P.Inx.number P.Inx.packed_number P.Inx.greatest P.Gen.following P.Gen.wraps arena.old calls.items replies.items arena.new)
+        (λ refused. arena.new ≡ arena.old) }
+{
+    let replies = replies_to(alloc, arena, calls);
+    // Whatever was refused, the arena has one set of chains.
+    arena.len();
+    replies
+}
+
+// Makes calls in their order, and answers their replies.
+fn replies_to<P: Ptr, T: Drop, S: SlotStack<Item = ArenaSlot<P, LinkNoGen<P, T>>>>(
+    alloc: Global,
+    arena: &mut ChainArena<P, T, S>,
+    calls: Vec<Call<P, T>>,
+) -> Result<Vec<Reply<P, T>>, AllocError>
+    ensures run { IfOk result (λ replies. Run P.key P.Inx.number P.Inx.packed_number P.Inx.greatest P.Gen.following P.Gen.wraps arena.old calls.items replies.items arena.new) }
+    ensures err { OnErr result (arena.new ≡ arena.old) }
+{
+    let mut replies = Vec::with_capacity(alloc, calls.len())?;
+    for call in calls {
+        let reply = apply(arena, call);
+        match replies.push(reply) {
+            Ok(()) => {}
+            Err(_) => unreachable!(),
+        }
+    }
+    Ok(replies)
+}
+
+/// But for growth and memory, an arena and a list of calls determine the replies and the arena after them: a run of the
+/// machine says no less than the calls do.
+pub fn runs_are_determined<P: Ptr, T: Drop>()
+    ensures { RunIsDetermined P.key P.Inx.number P.Inx.packed_number P.Inx.greatest P.Gen.following P.Gen.wraps T }
+{}
