@@ -9,6 +9,7 @@ mod example;
 mod iterators;
 mod kinds;
 mod limits;
+mod machine;
 mod pointers;
 mod removal;
 mod rows;

@@ -61,12 +61,13 @@ fn check_looks<A: ChainArenaTrait<ToolPtr, u32> + Drop>(
     shows(rt, alloc, "written", &arena, &after)
 }
 
-// The next three answers of an advancer.
-pub(super) fn three<C, V: Advancer<C, Item = ToolPtr>>(mut advancer: V, arena: &C) -> [At; 3] {
+// The next four answers of an advancer.
+fn four<C, V: Advancer<C, Item = ToolPtr>>(mut advancer: V, arena: &C) -> [At; 4] {
     let a = numbers(advancer.advance(arena));
     let b = numbers(advancer.advance(arena));
     let c = numbers(advancer.advance(arena));
-    [a, b, c]
+    let d = numbers(advancer.advance(arena));
+    [a, b, c, d]
 }
 
 // The next two.
@@ -76,8 +77,12 @@ fn two<C, V: Advancer<C, Item = ToolPtr>>(mut advancer: V, arena: &C) -> [At; 2]
     [a, b]
 }
 
-// The pointers by index: 1 and 3 stand, 2 is freed.
-fn check_pointers<A: ChainArenaTrait<ToolPtr, u32> + Drop>(rt: &impl Abort, alloc: Global) {
+// The pointers by index: 1 and 3 stand, 2 is freed. After its first `None` an advancer may begin anew, or not.
+fn check_pointers<A: ChainArenaTrait<ToolPtr, u32> + Drop>(
+    rt: &impl Abort,
+    alloc: Global,
+    after_none: At,
+) {
     let mut arena: A = tied_links(rt, alloc, 3, &[(1, 2), (2, 3)]);
     assert!(rt; arena.remove(first(rt, 2)).allow().is_some());
     let ends = [
@@ -86,10 +91,10 @@ fn check_pointers<A: ChainArenaTrait<ToolPtr, u32> + Drop>(rt: &impl Abort, allo
     ];
     same(rt, "ends", ends, [(1, 2), (3, 2)]);
     let i = index(rt, 2);
-    let all = three(arena.advancer(), &arena);
+    let all = four(arena.advancer(), &arena);
     let up = two(arena.advancer_inx(i, false), &arena);
     let down = two(arena.advancer_inx(i, true), &arena);
-    same(rt, "all", all, [(1, 2), (3, 2), NONE]);
+    same(rt, "all", all, [(1, 2), (3, 2), NONE, after_none]);
     same(rt, "from 2 on", up, [(3, 2), NONE]);
     same(rt, "from 2 back", down, [(1, 2), NONE]);
 }
@@ -117,8 +122,9 @@ fn check_room<A: ChainArenaTrait<ToolPtr, u32> + Drop>(rt: &impl Abort, alloc: G
 pub(super) fn check_calls<A: ChainArenaTrait<ToolPtr, u32> + Drop>(
     rt: &impl Abort,
     alloc: Global,
+    after_none: At,
 ) -> Result<(), Fail> {
-    check_pointers::<A>(rt, alloc);
+    check_pointers::<A>(rt, alloc, after_none);
     check_birth::<A>(rt, alloc);
     check_room::<A>(rt, alloc);
     check_looks::<A>(rt, alloc)

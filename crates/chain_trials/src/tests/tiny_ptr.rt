@@ -9,7 +9,7 @@ use std::process::Abort;
 
 // An index of one bit: 1 or 2.
 #[derive(Clone, Copy, Debug, PartialEq, Eq, PartialOrd, Ord, Hash)]
-struct TinyInx {
+pub(super) struct TinyInx {
     is_two: bool,
 }
 
@@ -76,7 +76,7 @@ impl PtrInx for TinyInx {
 
 // A pointer that is an index and no more.
 #[derive(Clone, Copy, Debug, PartialEq, Eq, PartialOrd, Ord, Hash)]
-struct TinyPtr {
+pub(super) struct TinyPtr {
     inx: TinyInx,
 }
 
