@@ -17,6 +17,10 @@ pub mod Skipping
 pub mod RemovalPairs
 pub mod Removing
 pub mod Draining
+pub mod Backing
+pub mod Leaving
+pub mod Ranges
+pub mod Laying
 pub mod Determined
 pub mod Shortening
 pub mod CutPairs
@@ -38,3 +42,11 @@ pub mod InsertionWrites
 pub mod InsertionRows
 pub mod ExchangeRows
 pub mod Rows
+pub mod Images
+pub mod Carrying
+pub mod Placing
+pub mod Runs
+pub mod Moving
+pub mod Closing
+pub mod LeastIndex
+pub mod RenamingRows

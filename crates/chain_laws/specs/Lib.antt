@@ -6,3 +6,8 @@ pub mod Neighbors
 pub mod Operations
 pub mod Removals
 pub mod Walks
+pub mod Renamings
+pub mod Arrangements
+pub mod Moves
+pub mod Starts
+pub mod Relays

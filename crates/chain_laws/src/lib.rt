@@ -7,5 +7,7 @@ pub mod exchange;
 pub mod insertion;
 pub mod operations;
 pub mod partition;
+pub mod relaying;
 pub mod removal;
+pub mod renaming;
 pub mod walks;

@@ -1,0 +1,12 @@
+-- Since the places in a list of chains are their runs, and both arenas have the chains.
+use Rattle.chain_laws.proofs.Runs.{canonical_arranges, lays_chains_in_runs, runs_are_renumbered}
+use Rattle.chain_laws.proofs.renaming.canonical_lays_runs.Goals as goal
+
+pub returns-clause-arranges : goal.returns-clause-arranges
+returns-clause-arranges c = canonical_arranges
+
+pub returns-clause-lays : goal.returns-clause-lays
+returns-clause-lays c = lays_chains_in_runs
+
+pub returns-clause-renumbered : goal.returns-clause-renumbered
+returns-clause-renumbered c = runs_are_renumbered

@@ -1,0 +1,15 @@
+-- By where each link goes, before and after each step.
+use Rattle.chain_laws.proofs.Closing.{gathering_begins, gathering_skips, gathering_goes_on, gathering_ends}
+use Rattle.chain_laws.proofs.renaming.gathering_renumbers.Goals as goal
+
+pub returns-clause-begins : goal.returns-clause-begins
+returns-clause-begins c = gathering_begins
+
+pub returns-clause-skips : goal.returns-clause-skips
+returns-clause-skips c = gathering_skips
+
+pub returns-clause-goes_on : goal.returns-clause-goes_on
+returns-clause-goes_on c = gathering_goes_on
+
+pub returns-clause-ends : goal.returns-clause-ends
+returns-clause-ends c = gathering_ends

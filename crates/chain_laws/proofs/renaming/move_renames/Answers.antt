@@ -1,0 +1,13 @@
+-- By the index that each link comes from, and since only its neighbors name the link that moves.
+use Rattle.chain_laws.proofs.Carrying.{renamings_compose}
+use Rattle.chain_laws.proofs.Moving.{move_renames, neighbors_tell_a_move}
+use Rattle.chain_laws.proofs.renaming.move_renames.Goals as goal
+
+pub returns-clause-renames : goal.returns-clause-renames
+returns-clause-renames c = move_renames
+
+pub returns-clause-neighbors : goal.returns-clause-neighbors
+returns-clause-neighbors c = neighbors_tell_a_move
+
+pub returns-clause-compose : goal.returns-clause-compose
+returns-clause-compose c = renamings_compose

@@ -1,0 +1,56 @@
+-- What becomes of the interlinks and of the chains where each link goes to another index.
+use Rattle.std.specs.Prelude.{◌≡◌, ◌↔◌, ℕ, List, [], ◌∷◌, Option, None, Some}
+use Rattle.std.specs.Option.{option_and_then}
+use Rattle.chain_laws.specs.Chains.{Shown, Chain, linear, cyclic, IsValid, Agrees, IsChain, AreChains}
+use Rattle.chain_laws.specs.Neighbors.{AreNeighbors}
+
+-- each link of the old arena stands at its new index, where it names the new indexes of its neighbors; no two come to
+-- one index, and no other link stands in the new arena
+pub record IsRenaming (to : ℕ → Option ℕ) (old new : Shown) : Type 0 where
+  pub apart : (i j k : ℕ) → to i ≡ Some k → to j ≡ Some k → i ≡ j
+  pub each : (i : ℕ) → IsValid old i → (k : ℕ) × (to i ≡ Some k)
+  pub onto : (k : ℕ) → IsValid new k → (i : ℕ) × IsValid old i × (to i ≡ Some k)
+  pub carries : (i k : ℕ) (before after : Option ℕ) → old i ≡ Some (record { prev = before; next = after }) → to i ≡ Some k
+      → new k ≡ Some (record { prev = option_and_then to before; next = option_and_then to after })
+
+-- the new indexes of the items, one after another
+abbrev pub AreImages : (ℕ → Option ℕ) → List ℕ → List ℕ → Type 0
+AreImages to [] [] = Unit {0}
+AreImages to [] (y ∷ ys) = ⊥
+AreImages to (x ∷ xs) [] = ⊥
+AreImages to (x ∷ xs) (y ∷ ys) = (to x ≡ Some y) × AreImages to xs ys
+
+-- the chain of the new indexes: a linear one stays linear, a cyclic one cyclic
+abbrev pub IsImage : (ℕ → Option ℕ) → Chain → Chain → Type 0
+IsImage to (linear xs) (linear ys) = AreImages to xs ys
+IsImage to (cyclic xs) (cyclic ys) = AreImages to xs ys
+IsImage to (linear xs) (cyclic ys) = ⊥
+IsImage to (cyclic xs) (linear ys) = ⊥
+
+abbrev pub AreImagesOf : (ℕ → Option ℕ) → List Chain → List Chain → Type 0
+AreImagesOf to [] [] = Unit {0}
+AreImagesOf to [] (d ∷ others) = ⊥
+AreImagesOf to (c ∷ chains) [] = ⊥
+AreImagesOf to (c ∷ chains) (d ∷ others) = IsImage to c d × AreImagesOf to chains others
+
+-- after a renaming the interlinks still agree ..
+abbrev pub RenamingAgrees : Type 0
+RenamingAgrees = (to : ℕ → Option ℕ) (old new : Shown) → IsRenaming to old new → Agrees old → Agrees new
+
+-- .. the neighbor pairs are the old ones under their new indexes ..
+abbrev pub RenamingCarriesPairs : Type 0
+RenamingCarriesPairs = (to : ℕ → Option ℕ) (old new : Shown) (i j k m : ℕ) → IsRenaming to old new → IsValid old i → to i ≡ Some k → to j ≡ Some m
+    → AreNeighbors old i j ↔ AreNeighbors new k m
+
+-- .. so is each chain, linear or cyclic as it was ..
+abbrev pub RenamingCarriesChains : Type 0
+RenamingCarriesChains = (to : ℕ → Option ℕ) (old new : Shown) (c d : Chain) → IsRenaming to old new → IsChain old c → IsImage to c d → IsChain new d
+
+-- .. and so is the set of chains
+abbrev pub RenamingCarriesAll : Type 0
+RenamingCarriesAll = (to : ℕ → Option ℕ) (old new : Shown) (chains others : List Chain) → IsRenaming to old new → AreChains old chains → AreImagesOf to chains others
+    → AreChains new others
+
+-- where the links go to leaves no choice
+abbrev pub RenamingIsDetermined : Type 0
+RenamingIsDetermined = (to : ℕ → Option ℕ) (old new other : Shown) → IsRenaming to old new → IsRenaming to old other → new ≡ other
