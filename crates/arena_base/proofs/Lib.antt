@@ -1,10 +1,13 @@
+pub mod Closing
 pub mod Filling
 mod FreeSlots
+pub mod Gathering
 mod Holding
-mod Ranging
+pub mod Ranging
 pub mod Reading
 pub mod Seeing
 mod Soundness
 mod Trimming
 mod Viewing
+mod Visiting
 mod Walks

@@ -5,3 +5,5 @@ pub mod Slots
 pub mod AdvancingLaws
 pub mod EntryLaws
 pub mod Compacting
+pub mod Compressing
+pub mod Closing

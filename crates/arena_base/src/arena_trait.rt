@@ -3,6 +3,7 @@ ghost use Rattle.std.specs.Prelude.{◌≡◌, ◌≤◌, ◌<◌, ◌+◌, ◌^
 ghost use Rattle.arena_ptr.specs.Invalidation.{value_within, is_overflow_result};
 ghost use Rattle.std.specs.Option.{option_map};
 ghost use Rattle.arena_base.specs.Arena.{counter_after_clear, overflows_after_clear, entry_count, HasRoom, IsListed};
+ghost use Rattle.arena_base.specs.Compressing.{counter_after_compression, overflows_after_compression};
 ghost use Rattle.arena_ptr.specs.Numbers.{IsWithin};
 ghost use Rattle.arena_base.specs.Entries.{seen_of, index_of, AreTheSlots};
 
@@ -43,6 +44,8 @@ impl<P: Ptr, T: Drop, S: SlotStack<Item = ArenaSlot<P, T>>> ArenaTrait<P, T> for
     ghost removes = { λ a i b. b ≡ remove_at P.Gen.following a i };
 
     ghost clears = { λ a b. b ≡ cleared P.Gen.following a };
+
+    ghost compresses = { λ a b. b.stack_capacity ≡ a.stack_capacity };
 
     ghost rises = { entries_rise };
 
@@ -186,6 +189,17 @@ impl<P: Ptr, T: Drop, S: SlotStack<Item = ArenaSlot<P, T>>> ArenaTrait<P, T> for
         self.first_free = None;
         invalidated(overflow, ())
     }
+
+    fn compress_with<F: FnMut(P, &mut T, P) + Drop>(
+        &mut self,
+        reset: bool,
+        map: F,
+    ) -> InvalidationOption<()> {
+        let (generation, overflow) = after_compression(self.generation(), self.len(), reset);
+        self.set_generation(generation);
+        self.gather(map);
+        invalidated(overflow, ())
+    }
 }
 
 impl<P: Ptr, T: Drop, S: SlotStack<Item = ArenaSlot<P, T>>> CompactArenaTrait<P, T>
@@ -212,5 +226,17 @@ fn after_clear<G: PtrGen>(counter: G, count: usize) -> (G, bool)
         (counter, false)
     } else {
         counter.generational_inc()
+    }
+}
+
+// The counter after a compression of so many entries, and whether it overflowed.
+pub(crate) fn after_compression<G: PtrGen>(counter: G, count: usize, reset: bool) -> (G, bool)
+    ensures next { result.0 ≡ counter_after_compression G.first G.following reset count counter }
+    ensures overflow { result.1 ≡ overflows_after_compression G.wraps reset count counter }
+{
+    if reset {
+        (G::two(), false)
+    } else {
+        after_clear(counter, count)
     }
 }

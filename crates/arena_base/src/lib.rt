@@ -5,6 +5,7 @@ mod advancer;
 mod arena;
 mod arena_trait;
 mod compactor;
+mod compress;
 mod entry;
 mod held;
 mod iterators;

@@ -8,6 +8,7 @@ ghost use Rattle.arena_ptr.specs.Invalidation.{value_within, invalidation_result
 ghost use Rattle.arena_base.specs.Arena.{IsRoom, IsValid, seen_entry, overflows_after_clear};
 ghost use Rattle.arena_base.specs.Entries.{Seen, AreTheSlots, index_of, IsNew, found, RisesFrom, first_key, last_key, removed, renewed, written, emptied, with_capacity};
 ghost use Rattle.arena_base.specs.Advancing.{IsLookUntilNone};
+ghost use Rattle.arena_base.specs.Compressing.{IsCompressed, VisitsAll, overflows_after_compression, values_in};
 ghost use Rattle.arena_base.specs.declared.look.Look.{Look};
 
 use arena_ptr::{
@@ -59,7 +60,7 @@ pub trait ArenaTrait<P: Ptr, T: Drop> {
     ghost starts: { ℕ → Self → Type 0 } = { λ _ _. ⊤ };
 
     // What more is known of the second arena than what is seen, after a growth of the first; after a write of a value
-    // at an index; after the entry there got the next generation; after its removal; after a clear.
+    // at an index; after the entry there got the next generation; after its removal; after a clear; after a compression.
     ghost grows: { Self → Self → Type 0 } = { λ _ _. ⊤ };
 
     ghost writes: { Self → ℕ → T → Self → Type 0 } = { λ _ _ _ _. ⊤ };
@@ -69,6 +70,8 @@ pub trait ArenaTrait<P: Ptr, T: Drop> {
     ghost removes: { Self → ℕ → Self → Type 0 } = { λ _ _ _. ⊤ };
 
     ghost clears: { Self → Self → Type 0 } = { λ _ _. ⊤ };
+
+    ghost compresses: { Self → Self → Type 0 } = { λ _ _. ⊤ };
 
     /// An empty arena with the counter two. It takes no memory.
     fn new(alloc: Global) -> Self
@@ -211,6 +214,36 @@ pub trait ArenaTrait<P: Ptr, T: Drop> {
         ensures overflow { IfSome (seen self.old).counter (λ g. result ≡ invalidation_option (overflows_after_clear P.Gen.wraps (length (seen self.old).entries) g) tt) }
         ensures after { seen self.new ≡ emptied P.Gen.following (seen self.old) }
         ensures more { clears self.old self.new };
+
+    /// Closes the gaps: the entry of the k-th least index comes to index k. The closure sees each entry once, in that
+    /// order: the pointer that it had, its value, for writing, and the pointer that it has. With `reset` the counter becomes
+    /// two; else it is incremented once where there are entries. Each entry gets the counter as its generation. The slots
+    /// are exactly the entries then, and none is freed; the capacity stays. It takes no memory, and time in proportion to
+    /// the slots.
+    ///
+    /// `GenerationOverflow`: the counter was at its greatest, and is two now.
+    fn compress_with<F: FnMut(P, &mut T, P) + Drop>(
+        &mut self,
+        reset: bool,
+        map: F,
+    ) -> InvalidationOption<()>
+        requires { F.IsAlwaysCallable map }
+        ensures compressed { IsCompressed P.Gen.first P.Gen.following reset (seen self.old) (seen self.new) }
+        ensures visits { VisitsAll F.FnMut P.key map (seen self.old).entries (seen self.new).entries }
+        ensures overflow { IfSome (seen self.old).counter (λ g. result ≡ invalidation_option (overflows_after_compression P.Gen.wraps reset (length (seen self.old).entries) g) tt) }
+        ensures more { compresses self.old self.new };
+
+    /// Closes the gaps, as `compress_with` does, with no closure: each value stays as it is.
+    ///
+    /// `GenerationOverflow`: the counter was at its greatest, and is two now.
+    fn compress(&mut self, reset: bool) -> InvalidationOption<()>
+        ensures compressed { IsCompressed P.Gen.first P.Gen.following reset (seen self.old) (seen self.new) }
+        ensures values { values_in (seen self.new).entries ≡ values_in (seen self.old).entries }
+        ensures overflow { IfSome (seen self.old).counter (λ g. result ≡ invalidation_option (overflows_after_compression P.Gen.wraps reset (length (seen self.old).entries) g) tt) }
+        ensures more { compresses self.old self.new }
+    {
+        self.compress_with(reset, |_p: P, _t: &mut T, _q: P| {})
+    }
 
     ghost rises: { (a : Self) → RisesFrom 1 (seen a).entries };
 

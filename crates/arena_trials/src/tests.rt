@@ -1,6 +1,7 @@
 mod answers;
 mod calls;
 mod compactors;
+mod compressions;
 mod entries;
 mod generic;
 mod limits;

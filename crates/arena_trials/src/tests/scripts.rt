@@ -3,7 +3,7 @@ use crate::tests::generic::take_all;
 use crate::tests::pointers::SmallPtr;
 use crate::tests::tools::{Slots, at, gen8, inx8, same, text};
 use arena_base::{Advancer, Arena, ArenaTrait, Compactor, SlotAccess, Work};
-use arena_ptr::{Gen8, Inx8, NotWithinCapacityError, Ptr, SlotStack};
+use arena_ptr::{Gen8, InvalidationOption, Inx8, NotWithinCapacityError, Ptr, SlotStack};
 use std::alloc::Global;
 use std::mem;
 use std::process::Abort;
@@ -36,6 +36,9 @@ pub(super) enum Call {
     Remove(u8, u8),
     RemoveInx(u8),
     Clear,
+    // A compression, and one by a closure that adds the number of its call to each value: its answer, and what it saw.
+    Compress(bool),
+    CompressWith(bool),
     Reserve(usize),
     // Calls of the arena itself.
     Insert(u32),
@@ -106,6 +109,23 @@ fn thrice<C, A: Advancer<C, Item = SmallPtr>>(
     ]
 }
 
+// Compresses an arena, adds to each value which call of the closure it was, and lists what the closure saw.
+fn compressed<A: ArenaTrait<SmallPtr, u32>>(
+    rt: &impl Abort,
+    alloc: Global,
+    arena: &mut A,
+    reset: bool,
+) -> (InvalidationOption<()>, Vec<(SmallPtr, u32, SmallPtr)>) {
+    let mut seen = Vec::new(alloc);
+    let mut calls = 0u32;
+    let answer = arena.compress_with(reset, |from: SmallPtr, t: &mut u32, to: SmallPtr| {
+        seen.push((from, *t, to)).expect(rt, "memory");
+        calls = calls.saturating_add(1);
+        *t = t.saturating_add(calls);
+    });
+    (answer, seen)
+}
+
 // The answer to a call of the trait.
 fn trait_answer<A: ArenaTrait<SmallPtr, u32>>(
     rt: &impl Abort,
@@ -152,6 +172,8 @@ fn trait_answer<A: ArenaTrait<SmallPtr, u32>>(
             )
         }
         Call::Clear => text(rt, alloc, arena.clear()),
+        Call::Compress(reset) => text(rt, alloc, arena.compress(reset)),
+        Call::CompressWith(reset) => text(rt, alloc, compressed(rt, alloc, arena, reset)),
         Call::Reserve(n) => text(rt, alloc, arena.reallocate_min_capacity(n)),
         Call::TakeAll => text(rt, alloc, take_all(alloc, arena)),
         _ => text(rt, alloc, "no call of the trait"),

@@ -1,0 +1,90 @@
+-- Each entry comes to the end of the front, and is seen there.
+use Rattle.std.proofs.Common.{◌≡◌, ◌+◌, length, refl, sym, ap, ◌∙◌, arith, of_calls}
+use Rattle.arena_base.specs.Closing.{with_totals}
+use Rattle.std.specs.Option.{option_copied_mut}
+use Rattle.arena_base.specs.Arena.{slot_at}
+use Rattle.arena_base.proofs.Closing.{none_there, closing_length, closing_begins, brought_stands, closing_frees, closing_brings, closing_visits, closing_counts, closing_closes, totals_begin, totals_looked, totals_brought}
+use Rattle.arena_base.proofs.compress.close_gaps.Goals.{in-Some+in-Some-value_mut, in_default}
+use Rattle.arena_base.proofs.compress.close_gaps.Goals as goal
+
+pub loop-k-init : goal.loop-k-init
+loop-k-init g c =
+    let old = c.args.compactor.now in
+    record {
+      callable = c.requires.callable;
+      same_reference = refl;
+      capacity = refl;
+      maximum = refl;
+      closing = closing_begins g.F.FnMut g.P.Ptr.key c.args.generation c.args.map old.held.slots;
+      totals = totals_begin old.arena.now;
+    }
+
+pub inx_at-to-requires : goal.inx_at-to-requires
+inx_at-to-requires g c = omega (arith, c.requires.fits, c.loop-k.invariant.closing.passed)
+
+pub close_gap-requires-clause-from : goal.close_gap-requires-clause-from
+close_gap-requires-clause-from g c =
+    let long = closing_length g.F.FnMut g.P.Ptr.key c.args.generation c.args.map c.args.compactor.now.held.slots c.loop-k.k c.loop-k.count c.loop-k.map c.loop-k.compactor.held.slots c.loop-k.invariant.closing (omega arith) in
+    omega (arith, long, c.inx_at-from.ensures)
+
+pub close_gap-requires-clause-to : goal.close_gap-requires-clause-to
+close_gap-requires-clause-to g c =
+    let long = closing_length g.F.FnMut g.P.Ptr.key c.args.generation c.args.map c.args.compactor.now.held.slots c.loop-k.k c.loop-k.count c.loop-k.map c.loop-k.compactor.held.slots c.loop-k.invariant.closing (omega arith) in
+    omega (arith, long, c.inx_at-to.ensures, c.loop-k.invariant.closing.passed)
+
+pub unreachable-requires : goal.unreachable-requires
+unreachable-requires g c =
+    let number = g.P.Inx.PtrInx.number in
+    let old = c.args.compactor.now.held.slots in
+    brought_stands g.F.FnMut g.P.Ptr.key c.args.generation c.args.map old c.loop-k.k c.loop-k.count c.loop-k.map c.loop-k.compactor.held.slots c.loop-k.invariant.closing (omega arith)
+    (number c.inx_at-from.result) (number c.inx_at-to.result) c.in-Some.was c.close_gap.new.compactor.held.slots c.inx_at-from.ensures c.inx_at-to.ensures c.in-Some.ensures.answer (ap (λ h. h.slots) c.in-Some.ensures.some.0)
+    (sym (ap option_copied_mut c.in-None.is) ∙ c.value_mut.ensures.value)
+
+pub loop-k-preserved : goal.loop-k-preserved
+loop-k-preserved g c =
+    let number = g.P.Inx.PtrInx.number in
+    let at = c.loop-k.invariant in
+    let old = c.args.compactor.now in
+    elim c.match-close_gap.branch [
+      | in-Some+in-Some-value_mut w ↦
+          let lent = rw w.in-Some-value_mut.is at (w.value_mut.follows.holds w.map.new.arg3) in
+          let placed = w.in-Some.ensures.some in
+          rw (w.compactor-is, w.map-is, w.count-is) (record {
+            callable = search of_calls;
+            same_reference = lent.1.0 ∙ (c.close_gap.ensures.same_reference ∙ at.same_reference);
+            capacity = ap (λ h. h.stack_capacity) lent.0 ∙ (ap (λ h. h.stack_capacity) placed.0 ∙ at.capacity);
+            maximum = ap (λ h. h.maximum) lent.0 ∙ (ap (λ h. h.maximum) placed.0 ∙ at.maximum);
+            closing = closing_brings g.F.FnMut g.P.Ptr.key c.args.generation c.args.map old.held.slots c.loop-k.k c.loop-k.count c.loop-k.map c.loop-k.compactor.held.slots at.closing (omega arith)
+                (number c.inx_at-from.result) (number c.inx_at-to.result) w.in-Some.was c.close_gap.new.compactor.held.slots c.inx_at-from.ensures c.inx_at-to.ensures w.in-Some.ensures.answer (ap (λ h. h.slots) placed.0)
+                (record { from = w._from_raw.result; shown = w.in-Some-value_mut.t.now; to = w._from_raw-in-Some-value_mut.result; left = w.map.new.arg3 }) w.map.new.self _
+                (sym (ap option_copied_mut w.in-Some-value_mut.is) ∙ w.value_mut.ensures.value) (ap (λ h. h.slots) lent.0) w._from_raw.ensures w._from_raw-in-Some-value_mut.ensures
+                (record { lent = _; shows = refl; back = _; called = w.map.ensures; leaves = refl });
+            totals = totals_brought old.arena.now c.loop-k.compactor.arena.now _ c.loop-k.k c.loop-k.count c.close_gap.new.compactor.arena.now at.totals placed.1 lent.1.1;
+          })
+      | in_default w ↦
+          let kept = w.in_default.ensures.none in
+          rw (w.compactor-is, w.map-is, w.count-is, kept.0) (record {
+            callable = at.callable;
+            same_reference = c.close_gap.ensures.same_reference ∙ at.same_reference;
+            capacity = at.capacity;
+            maximum = at.maximum;
+            closing = closing_frees g.F.FnMut g.P.Ptr.key c.args.generation c.args.map old.held.slots c.loop-k.k c.loop-k.count c.loop-k.map c.loop-k.compactor.held.slots at.closing (omega arith)
+                (number c.inx_at-from.result) c.inx_at-from.ensures (none_there (slot_at c.loop-k.compactor.held.slots (number c.inx_at-from.result)) (sym w.in_default.is ∙ c.close_gap.ensures.answer));
+            totals = totals_looked old.arena.now c.loop-k.compactor.arena.now c.close_gap.new.compactor.arena.now c.loop-k.k c.loop-k.count at.totals kept.1;
+          })
+    ]
+
+pub returns-clause-closed : goal.returns-clause-closed
+returns-clause-closed g c =
+    closing_closes g.F.FnMut g.P.Ptr.key c.args.generation c.args.map c.args.compactor.now.held.slots c.loop-k.k c.loop-k.count c.loop-k.map c.loop-k.compactor.held.slots c.loop-k.invariant.closing (omega arith)
+    c.args.compactor.now.held c.loop-k.compactor.held refl refl c.loop-k.invariant.capacity c.loop-k.invariant.maximum
+
+pub returns-clause-visits : goal.returns-clause-visits
+returns-clause-visits g c =
+    closing_visits g.F.FnMut g.P.Ptr.key c.args.generation c.args.map c.args.compactor.now.held.slots c.loop-k.k c.loop-k.count c.loop-k.map c.loop-k.compactor.held.slots c.loop-k.invariant.closing (omega arith)
+
+pub returns-clause-totals : goal.returns-clause-totals
+returns-clause-totals g c =
+    let all : c.loop-k.k ≡ length c.args.compactor.now.held.slots = omega arith in
+    let count = closing_counts g.F.FnMut g.P.Ptr.key c.args.generation c.args.map c.args.compactor.now.held.slots c.loop-k.k c.loop-k.count c.loop-k.map c.loop-k.compactor.held.slots c.loop-k.invariant.closing all in
+    c.loop-k.invariant.totals ∙ (λ i. with_totals c.args.compactor.now.arena.now (count i) (all i + count i))

@@ -1,0 +1,16 @@
+-- The slots up to k are closed, and each was looked at once.
+use Rattle.std.proofs.Common.{◌≡◌, ◌+◌}
+use denote.Param.Always.{always_mut}
+use Rattle.arena_base.specs.Closing.{with_totals}
+use Rattle.arena_base.proofs.Closing.{IsClosing}
+use Rattle.arena_base.proofs.compress.close_gaps.Given as goal
+
+abbrev pub invariant-loop-k : goal.invariant-loop-k
+invariant-loop-k g l = record {
+  callable : always_mut g.F.FnMut l.map;
+  same_reference : l.compactor.arena.ghost_name ≡ l.fn.compactor.arena.ghost_name;
+  capacity : l.compactor.held.stack_capacity ≡ l.fn.compactor.held.stack_capacity;
+  maximum : l.compactor.held.maximum ≡ l.fn.compactor.held.maximum;
+  closing : IsClosing g.F.FnMut g.P.Ptr.key l.generation l.fn.map l.fn.compactor.held.slots l.k l.count l.map l.compactor.held.slots;
+  totals : l.compactor.arena.now ≡ with_totals l.fn.compactor.arena.now l.count (l.k + l.count);
+}

@@ -1,0 +1,7 @@
+-- The closure leaves each value as it is.
+use Rattle.std.proofs.Common.{rules}
+use Rattle.arena_base.proofs.Visiting.{values_kept}
+use Rattle.arena_base.proofs.traits.ArenaTrait.compress.Goals as goal
+
+pub returns-clause-values : goal.returns-clause-values
+returns-clause-values g c = values_kept _ g.P.Ptr.key (λ f visit next is. search (rules, is.shows, is.leaves, is.called)) c.compress_with.ensures.visits

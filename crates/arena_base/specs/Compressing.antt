@@ -1,0 +1,65 @@
+-- A compression: the entries come to the indexes from 1 on, in the order of their indexes.
+use Rattle.std.specs.Prelude.{◌≡◌, ℕ, ◌+◌, ◌*◌, ◌≤◌, Bool, true, false, List, [], map, length, All, Option, None, Some, IfSome}
+use Rattle.std.specs.Option.{option_map}
+use Rattle.std.specs.List.{FoldsTo, range_with_len}
+use Rattle.std.specs.Fn.{Mut, Called}
+use denote.Ref.{MutBor}
+use Rattle.arena_base.specs.Arena.{counter_after_clear, overflows_after_clear}
+use Rattle.arena_base.specs.Entries.{Seen, Slots, index_of}
+
+-- the counter after a compression of so many entries: a reset begins it anew, and else none leave it as it is
+abbrev pub counter_after_compression : {Gen : Type 0} → Gen → (Gen → Gen) → Bool → ℕ → Gen → Gen
+counter_after_compression first following true count g = first
+counter_after_compression first following false count g = counter_after_clear following count g
+
+-- whether it overflows then
+abbrev pub overflows_after_compression : {Gen : Type 0} → (Gen → Bool) → Bool → ℕ → Gen → Bool
+overflows_after_compression wraps true count g = false
+overflows_after_compression wraps false count g = overflows_after_clear wraps count g
+
+-- so many entries are in exactly as many slots, none is freed, each was placed once, and there were at most four times as
+-- many touches as slots
+abbrev pub AreCompacted : ℕ → Option Slots → Option Slots → Type 0
+AreCompacted count None new = new ≡ None
+AreCompacted count (Some old) new = (touches : ℕ) × (touches ≤ 4 * old.count)
+    × (new ≡ Some (record { count = count; freed = []; placed = old.placed + count; touched = old.touched + touches }))
+
+-- a call of the closure: the pointer that an entry had, the value that it was shown, the pointer that the entry has, and
+-- the value that it left
+pub record Visit (P T : Type 0) : Type 0 where
+  pub from : P
+  pub shown : T
+  pub to : P
+  pub left : T
+
+module _ {F P T : Type 0} (g : Mut F (P × (MutBor T × (P × Unit {0}))) (Unit {0} × (MutBor T × Unit {0}))) where
+  -- such a call takes the closure from the one state to the other
+  pub record IsVisit (f : F) (visit : Visit P T) (next : F) : Type 0 where
+    pub lent : MutBor T
+    pub shows : lent.now ≡ visit.shown
+    pub back : MutBor T
+    pub called : Called g f (visit.from, (lent, (visit.to, tt))) (tt, (back, tt)) next
+    pub leaves : back.now ≡ visit.left
+
+  -- the closure sees each entry once, in the order of the entries, and the entries afterwards are as it left them
+  pub record VisitsAll {Gen : Type 0} (key : P → ℕ × Gen) (f : F) (old new : List ((ℕ × Gen) × T)) : Type 0 where
+    pub visits : List (Visit P T)
+    pub last : F
+    pub in_turn : FoldsTo IsVisit f visits last
+    pub before : map (λ v. (key v.from, v.shown)) visits ≡ old
+    pub after : map (λ v. (key v.to, v.left)) visits ≡ new
+
+module _ {Gen T : Type 0} where
+  -- an arena whose entries have come to the indexes from 1 to their number; values are not looked at
+  pub record IsCompressed (first : Gen) (following : Gen → Gen) (reset : Bool) (old new : Seen Gen T) : Type 0 where
+    pub indexes : map index_of new.entries ≡ range_with_len 1 (length old.entries)
+    pub counter : new.counter ≡ option_map (counter_after_compression first following reset (length old.entries)) old.counter
+    -- each entry has the counter as its generation
+    pub generations : IfSome new.counter (λ g. All (λ e. e.0.1 ≡ g) new.entries)
+    pub slots : AreCompacted (length old.entries) old.slots new.slots
+    pub capacity : new.capacity ≡ old.capacity
+    pub maximum : new.maximum ≡ old.maximum
+
+  -- the values of entries
+  abbrev pub values_in : List ((ℕ × Gen) × T) → List T
+  values_in es = map (λ e. e.1) es

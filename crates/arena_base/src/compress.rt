@@ -1,0 +1,92 @@
+// Entries brought together at the indexes from 1 on, in the order of their indexes.
+ghost use Rattle.std.specs.Prelude.{◌≡◌, ◌≤◌, ◌<◌, ◌+◌, length, OnSome, IfNone};
+ghost use Rattle.std.specs.Option.{option_map};
+ghost use Rattle.arena_base.specs.Arena.{slot_at};
+ghost use Rattle.arena_base.specs.Entries.{entries_from};
+ghost use Rattle.arena_base.specs.Compacting.{placed, with_touch, with_placement};
+ghost use Rattle.arena_base.specs.Compressing.{VisitsAll};
+ghost use Rattle.arena_base.specs.Closing.{AreClosed, IsGathered, with_totals};
+
+use crate::arena::Arena;
+use crate::compactor::{Compactor, SlotAccess};
+use crate::slot::ArenaSlot;
+use arena_ptr::{Ptr, PtrInx, SlotStack};
+
+// The index at a position, from 0.
+fn inx_at<P: Ptr>(k: usize) -> P::Inx
+    requires { k < P.Inx.greatest }
+    ensures { P.Inx.number result ≡ k + 1 }
+{
+    match P::Inx::try_from_usize(k + 1) {
+        Some(i) => i,
+        None => unreachable!(),
+    }
+}
+
+// Brings the entry at an index to another, where one stands there, and gives it a generation. Answers the generation
+// that it had.
+fn close_gap<P: Ptr, T: Drop, S: SlotStack<Item = ArenaSlot<P, T>>>(
+    compactor: &mut Compactor<'_, P, T, S>,
+    from: P::Inx,
+    to: P::Inx,
+    generation: P::Gen,
+) -> Option<P::Gen>
+    requires from { P.Inx.number from ≤ length compactor.old.held.slots }
+    requires to { P.Inx.number to ≤ length compactor.old.held.slots }
+    ensures same_reference { compactor.new.arena.ghost_name ≡ compactor.old.arena.ghost_name }
+    ensures answer { result ≡ option_map (λ e. e.0) (slot_at compactor.old.held.slots (P.Inx.number from)) }
+    ensures some { OnSome result ((compactor.new.held ≡ placed compactor.old.held (P.Inx.number from) (P.Inx.number to) generation)
+        × (compactor.new.arena.now ≡ with_placement (with_touch compactor.old.arena.now))) }
+    ensures none { IfNone result ((compactor.new.held ≡ compactor.old.held) × (compactor.new.arena.now ≡ with_touch compactor.old.arena.now)) }
+{
+    let was = match compactor.peek(from) {
+        Some((was, _)) => *was,
+        None => return None,
+    };
+    compactor.place(from, to, generation);
+    Some(was)
+}
+
+// Brings each entry to the first index that is free, by rising index, gives it the generation, and shows it to the
+// closure: with the pointer that it had, its value, for writing, and the pointer that it has. Each slot is looked at
+// once, and each value lent once.
+fn close_gaps<P: Ptr, T: Drop, S: SlotStack<Item = ArenaSlot<P, T>>, F: FnMut(P, &mut T, P) + Drop>(
+    compactor: &mut Compactor<'_, P, T, S>,
+    generation: P::Gen,
+    mut map: F,
+)
+    requires callable { F.IsAlwaysCallable map }
+    requires fits { length compactor.old.held.slots ≤ P.Inx.greatest }
+    ensures same_reference { compactor.new.arena.ghost_name ≡ compactor.old.arena.ghost_name }
+    ensures closed { AreClosed generation compactor.old.held compactor.new.held }
+    ensures visits { VisitsAll F.FnMut P.key map (entries_from 1 compactor.old.held.slots) (entries_from 1 compactor.new.held.slots) }
+    ensures totals { compactor.new.arena.now ≡ with_totals compactor.old.arena.now (length (entries_from 1 compactor.old.held.slots))
+        (length compactor.old.held.slots + length (entries_from 1 compactor.old.held.slots)) }
+{
+    let mut count = 0;
+    for k in 0..compactor.slots() {
+        let from = inx_at::<P>(k);
+        let to = inx_at::<P>(count);
+        if let Some(was) = close_gap(compactor, from, to, generation) {
+            count += 1;
+            match compactor.value_mut(to) {
+                Some(t) => map(P::_from_raw(from, was), t, P::_from_raw(to, generation)),
+                None => unreachable!(),
+            }
+        }
+    }
+}
+
+impl<P: Ptr, T: Drop, S: SlotStack<Item = ArenaSlot<P, T>>> Arena<P, T, S> {
+    // Brings the entries together, gives each the counter as its generation, and shows each to the closure. The slots are
+    // exactly the entries then.
+    pub(crate) fn gather<F: FnMut(P, &mut T, P) + Drop>(&mut self, map: F)
+        requires { F.IsAlwaysCallable map }
+        ensures { IsGathered F.FnMut P.key map self.old self.new }
+    {
+        let generation = self.counter;
+        let mut compactor = self.compactor();
+        close_gaps(&mut compactor, generation, map);
+        drop(compactor);
+    }
+}
