@@ -1,4 +1,4 @@
--- But for growth and memory, a state and a list of calls determine the replies and the state after them.
+-- But for growth and memory, a state and a list of calls determine the replies, and the state after them but for touches.
 use Rattle.std.proofs.Common.{◌≡◌, ℕ, ◌+◌, ◌<◌, ◌≤◌, Bool, true, false, List, [], ◌∷◌, length, min, Option, None, Some, Result, Ok, Err, refl, sym, ap, ap₂, ◌∙◌, subst, arith}
 use Rattle.std.specs.Option.{option_map}
 use Rattle.std.proofs.lemmas.Bool.{false≢true}
@@ -10,15 +10,14 @@ use Rattle.arena_ptr.specs.declared.errors.ReallocationError.TheVariants as refu
 use Rattle.arena_ptr.specs.declared.invalidation.InvalidationResult.{InvalidationResult}
 use Rattle.arena_ptr.specs.declared.invalidation.InvalidationResult.TheVariants.{Success, GenerationOverflow, InvalidPtr}
 use Rattle.arena_ptr.specs.declared.packed_option.PackedOption.{PackedOption}
-use Rattle.chain_laws.specs.Chains.{prev_of, next_of}
 use Rattle.chain_laws.specs.Cuts.{cut}
 use Rattle.chain_laws.specs.Insertions.{InsertKind}
 use Rattle.chain_laws.proofs.Walking.{no_other_walk}
 use Rattle.arena_base.specs.Arena.{IsValid, entry_at, entry_count, with_capacity_of, renewed_at}
-use Rattle.chain_arena.specs.ChainArena.{LinkSeen, on_value, shown, entry, value_in, insert_as, relinked, remove_link}
+use Rattle.chain_arena.specs.ChainArena.{LinkSeen, on_value, shown, entry, value_in, insert_as, relinked}
 use Rattle.chain_arena.specs.Drains.{without_each}
 use Rattle.chain_arena.specs.Links.{seen_link}
-use Rattle.chain_arena.specs.Steps.{Links, HasRoomFor, stays, grown, Refuses, Connects, BreaksPrev, BreaksNext, Exchanges, Reserves, DrainsChain, Tells, kind_of, May, IsAdded, IsTaken, InsertsGrowing, InsertsWithin, Step, Run, HasRoomAlready, RunInRoom, RunIsDetermined}
+use Rattle.chain_arena.specs.Steps.{Links, HasRoomFor, stays, grown, Refuses, Connects, BreaksPrev, BreaksNext, Exchanges, Reserves, DrainsChain, Tells, kind_of, IsAdded, IsTaken, AreSameButTouched, InsertsGrowing, InsertsWithin, Step, Run, HasRoomAlready, RunIsDetermined}
 use Rattle.chain_arena.specs.declared.calls.Call.{Call}
 use Rattle.chain_arena.specs.declared.calls.Call.TheVariants as call
 use Rattle.chain_arena.specs.declared.calls.Reply.{Reply}
@@ -26,6 +25,7 @@ use Rattle.chain_arena.specs.declared.calls.Reply.TheVariants as reply
 use Rattle.chain_arena.specs.declared.kinds.InsertKindBody.{InsertKindBody}
 use Rattle.chain_arena.specs.declared.links.LinkBody.{LinkBody}
 use Rattle.chain_arena.proofs.Mapping.{entry_at-with_each}
+use Rattle.chain_arena.proofs.Touching.{touch, compression_same, run_touched}
 
 -- two that are one and the same
 same : {A : Type 0} {x a b : A} → a ≡ x → b ≡ x → a ≡ b
@@ -34,6 +34,13 @@ same one two = one ∙ sym two
 -- two pairs of an answer and a state are the same
 abbrev Same : {R S : Type 0} → R → R → S → S → Type 0
 Same r s a b = (r ≡ s) × (a ≡ b)
+
+-- .. but for how many slots were touched
+abbrev SameButTouched : {R Gen T : Type 0} → R → R → Links Gen T → Links Gen T → Type 0
+SameButTouched r s a b = (r ≡ s) × AreSameButTouched a b
+
+same_but_touched : {Gen T : Type 0} (a b : Links Gen T) → a ≡ b → AreSameButTouched a b
+same_but_touched {Gen} {T} a b is = is ∙ ap (λ (n : ℕ). touch n b) (sym (ap (λ (x : Links Gen T). x.touched) is))
 
 module _ {Gen T : Type 0} where
   -- where there is room already it stays
@@ -112,7 +119,7 @@ tells_same Done overflow old a b (GenerationOverflow x) InvalidPtr apart once on
 tells_same Done overflow old a b InvalidPtr (Success y) apart once one two = absurd (apart y b two.1 one.0)
 tells_same Done overflow old a b InvalidPtr (GenerationOverflow y) apart once one two = absurd (apart y b two.1 one.0)
 
-module _ {P T I Gen W : Type 0} (key : P → ℕ × Gen) (number : I → ℕ) (packed : PackedOption I W → Option ℕ) (greatest : ℕ) (following : Gen → Gen) (wraps : Gen → Bool)
+module _ {P T I Gen W : Type 0} (key : P → ℕ × Gen) (number : I → ℕ) (packed : PackedOption I W → Option ℕ) (greatest : ℕ) (first : Gen) (following : Gen → Gen) (wraps : Gen → Bool)
     (same_key : (p q : P) → key p ≡ key q → p ≡ q) (same_packed : (o p : PackedOption I W) → packed o ≡ packed p → o ≡ p) where
   same_link : (k l : LinkBody (PackedOption I W) T) → seen_link packed k ≡ seen_link packed l → k ≡ l
   same_link k l is =
@@ -165,11 +172,11 @@ module _ {P T I Gen W : Type 0} (key : P → ℕ × Gen) (number : I → ℕ) (p
   inserts_within_same old a b kind t r (Err failed.AllocError) one two = absurd two
 
   -- two replies are the same whose answers are
-  answered_same : {A : Type 0} (told : A → Reply P T I Gen W) (r s : Reply P T I Gen W) (x y : A) (a b : Links Gen T) → r ≡ told x → s ≡ told y → Same x y a b → Same r s a b
-  answered_same told r s x y a b is_r is_s both = (is_r ∙ (ap told both.0 ∙ sym is_s), both.1)
+  answered_same : {A : Type 0} (told : A → Reply P T I Gen W) (r s : Reply P T I Gen W) (x y : A) (a b : Links Gen T) → r ≡ told x → s ≡ told y → Same x y a b → SameButTouched r s a b
+  answered_same told r s x y a b is_r is_s both = (is_r ∙ (ap told both.0 ∙ sym is_s), same_but_touched a b both.1)
 
-  step_same : (old : Links Gen T) (c : Call P T I Gen W) (r s : Reply P T I Gen W) (a b : Links Gen T) → HasRoomAlready key number packed greatest following wraps old c
-      → Step key number packed greatest following wraps old c r a → Step key number packed greatest following wraps old c s b → Same r s a b
+  step_same : (old : Links Gen T) (c : Call P T I Gen W) (r s : Reply P T I Gen W) (a b : Links Gen T) → HasRoomAlready key number packed greatest first following wraps old c
+      → Step key number packed greatest first following wraps old c r a → Step key number packed greatest first following wraps old c s b → SameButTouched r s a b
   step_same old (call.Insert kind t) r s a b room one two = answered_same reply.Inserted r s one.0 two.0 a b one.1 two.1 (inserts_same old a b kind t one.0 two.0 room one.2 two.2)
   step_same old (call.InsertWithin kind t) r s a b room one two = answered_same reply.Inserted r s one.0 two.0 a b one.1 two.1 (inserts_within_same old a b kind t one.0 two.0 one.2 two.2)
   step_same old (call.Connect p q) r s a b room one two = answered_same reply.Done r s one.0 two.0 a b one.1 two.1 (connects_same old a b (key p) (key q) one.0 two.0 one.2 two.2)
@@ -187,18 +194,22 @@ module _ {P T I Gen W : Type 0} (key : P → ℕ × Gen) (number : I → ℕ) (p
   step_same old (call.Invalidate p) r s a b room one two = answered_same reply.Renewed r s one.0 two.0 a b one.1 two.1
       (tells_same {No = IsValid (entry old) (key p) → ⊥} (λ (q : P) (c : Links Gen T). IsValid (entry old) (key p) × (key q ≡ ((key p).0, following old.counter)) × (c ≡ renewed_at following old (key p).0) × (shown c ≡ shown old)) (wraps old.counter) old a b one.0 two.0 (λ q c done cannot. cannot done.0) (λ q m first second. (same_key q m (same first.1 second.1), same first.2 second.2)) one.2 two.2)
   step_same old (call.DrainChain p take) r s a b room one two = answered_same reply.Drained r s one.0 two.0 a b one.1 two.1 (drains_same following old a b (key p) take one.0 two.0 one.2 two.2)
-  step_same old call.Clear r s a b room one two = (same one.0 two.0, same one.1 two.1)
+  step_same old call.Clear r s a b room one two = (same one.0 two.0, same_but_touched a b (same one.1 two.1))
+  step_same old (call.Compress reset) r s a b room one two = (same one.0 two.0, compression_same first following reset old a b one.1 two.1)
   step_same old (call.Reserve n) r s a b room one two = answered_same reply.Reserved r s one.0 two.0 a b one.1 two.1 (reserves_same greatest old a b n one.0 two.0 room one.2 two.2)
-  step_same old (call.SetGeneration g) r s a b room one two = (same one.0 two.0, same one.1 two.1)
-  step_same old call.IncGeneration r s a b room one two = (same one.0 two.0, same one.1 two.1)
+  step_same old (call.SetGeneration g) r s a b room one two = (same one.0 two.0, same_but_touched a b (same one.1 two.1))
+  step_same old call.IncGeneration r s a b room one two = (same one.0 two.0, same_but_touched a b (same one.1 two.1))
 
-  pub run_same : RunIsDetermined key number packed greatest following wraps T
-  run_same old [] [] [] new other one two = (refl, same one two)
+  pub run_same : RunIsDetermined key number packed greatest first following wraps T
+  run_same old [] [] [] new other one two = (refl, same_but_touched new other (same one two))
   run_same old [] [] (s ∷ others) new other one two = absurd two
   run_same old [] (r ∷ replies) others new other one two = absurd one
   run_same old (c ∷ calls) [] others new other one two = absurd one
   run_same old (c ∷ calls) (r ∷ replies) [] new other one two = absurd two
   run_same old (c ∷ calls) (r ∷ replies) (s ∷ others) new other one two =
-      let first = step_same old c r s one.0 two.0 one.1 one.2 two.1 in
-      let rest = run_same one.0 calls replies others new other one.3 (subst (λ a. Run key number packed greatest following wraps a calls others other) (sym first.1) two.2) in
-      (ap₂ (λ (x : Reply P T I Gen W) (xs : List (Reply P T I Gen W)). x ∷ xs) first.0 rest.0, rest.1)
+      let step = step_same old c r s one.0 two.0 one.1 one.2 two.1 in
+      let touches = one.0.touched in
+      let beside = subst (λ (a : Links Gen T). Run key number packed greatest first following wraps a calls others (touch touches other)) (sym step.1)
+      (run_touched touches key number packed greatest first following wraps two.0 other calls others two.2) in
+      let rest = run_same one.0 calls replies others new (touch touches other) one.3 beside in
+      (ap₂ (λ (x : Reply P T I Gen W) (xs : List (Reply P T I Gen W)). x ∷ xs) step.0 rest.0, rest.1)

@@ -29,6 +29,20 @@ slice_index_or-inside [] k x stands = absurd (let h = stands in cc)
 slice_index_or-inside (y ∷ xs) zero x stands = omega arith
 slice_index_or-inside (y ∷ xs) (suc k) x stands = let inside = slice_index_or-inside xs k x stands in omega arith
 
+-- what shows interlinks is there
+pub some_entry : {X : Type 0} (f : X → Interlinks) (o : Option X) (l : Interlinks) → option_map f o ≡ Some l → (x : X) × (o ≡ Some x)
+some_entry f None l shows = absurd (let h = shows in cc)
+some_entry f (Some x) l shows = (x, refl)
+
+-- what slots show stands at an index of theirs
+pub slots-within : {X : Type 0} (f : X → Interlinks) (slots : List (Option X)) → IsWithin (λ i. option_map f (slot_at slots i)) (length slots)
+slots-within {X} f slots = record { within = inside } where
+  inside : (i : ℕ) → IsValid (λ i. option_map f (slot_at slots i)) i → (1 ≤ i) × (i ≤ length slots)
+  inside zero valid = absurd (let h = valid.shows in cc)
+  inside (suc k) valid =
+      let x = some_entry f (slice_index_or slots k None) valid.link valid.shows in
+      let below = slice_index_or-inside slots k x.0 x.1 in (omega arith, omega arith)
+
 -- what a write of one item leaves, where there is such an item
 slice_index_or-written : {X : Type 0} (xs : List (Option X)) (k j : ℕ) (x : Option X) → k < length xs
     → slice_index_or (slice_set xs k x) j None ≡ (if j == k then x else slice_index_or xs j None)
@@ -38,7 +52,8 @@ slice_index_or-written (y ∷ xs) zero (suc j) x inside = sym (if_other (suc j) 
 slice_index_or-written (y ∷ xs) (suc k) zero x inside = sym (if_other 0 (suc k) _ _ (λ is. absurd (omega (arith, is))))
 slice_index_or-written (y ∷ xs) (suc k) (suc j) x inside = slice_index_or-written xs k j x (omega (arith, inside)) ∙ if_suc j k _ _
 
-slot_at-written : {X : Type 0} (slots : List (Option X)) (n j : ℕ) (x : Option X) → 1 ≤ n → n ≤ length slots
+-- .. at that index and elsewhere
+pub slot_at-written : {X : Type 0} (slots : List (Option X)) (n j : ℕ) (x : Option X) → 1 ≤ n → n ≤ length slots
     → slot_at (with_slot slots n x) j ≡ (if j == n then x else slot_at slots j)
 slot_at-written slots zero j x some inside = absurd (omega (arith, some))
 slot_at-written slots (suc k) zero x some inside = sym (if_other 0 (suc k) _ _ (λ is. absurd (omega (arith, is))))
@@ -80,19 +95,9 @@ module _ {Gen T : Type 0} where
   shown-insert_lone a t free = fun_ext (λ i. ap (option_map interlinks_of) (slot_at-filled a.freed a.slots (a.counter, lone t) i free)
       ∙ map-if (i == next_index a) (Some (a.counter, lone t)) (entry_at a i))
 
-  -- what shows interlinks is an entry
-  pub some_entry : (o : Option (Gen × LinkSeen T)) (l : Interlinks) → option_map interlinks_of o ≡ Some l → (e : Gen × LinkSeen T) × (o ≡ Some e)
-  some_entry None l stands = absurd (let h = stands in cc)
-  some_entry (Some e) l stands = (e, refl)
-
   -- every valid index is one of the slots'
   pub shown-within : (a : Arena Gen (LinkSeen T)) → IsWithin (shown a) (length a.slots)
-  shown-within a = record { within = inside } where
-    inside : (i : ℕ) → IsValid (shown a) i → (1 ≤ i) × (i ≤ length a.slots)
-    inside zero valid = absurd (let h = valid.shows in cc)
-    inside (suc k) valid =
-        let entry = some_entry (slice_index_or a.slots k None) valid.link valid.shows in
-        let below = slice_index_or-inside a.slots k entry.0 entry.1 in (omega arith, omega arith)
+  shown-within a = slots-within interlinks_of a.slots
 
 module _ {Gen T : Type 0} where
   -- an insertion, entry by entry

@@ -7,26 +7,13 @@ use Rattle.std.proofs.lemmas.List.Sums.{sum_by-cons}
 use Rattle.std.proofs.lemmas.List.Elements.{All-from_recursion}
 use Rattle.chain_laws.specs.Chains.{Agrees, IsValid, Has, HasNoRepetition, prev_of}
 use Rattle.chain_laws.specs.Walks.{IsWalk}
-use Rattle.chain_laws.proofs.Members.{Has-written, Has-parts, Has-left, Has-right}
+use Rattle.chain_laws.proofs.Backing.{length_among}
 use Rattle.chain_laws.proofs.Passing.{has_walk, walk_valid, walk_once}
 use Rattle.chain_laws.proofs.Walking.{walk_passed}
 use Rattle.arena_base.specs.Arena.{Arena, entry_at, entry_count}
-use Rattle.chain_arena.specs.ChainArena.{LinkSeen, shown, IsWalkOf}
+use Rattle.chain_arena.specs.ChainArena.{LinkSeen, interlinks_of, shown, IsWalkOf}
 use Rattle.chain_arena.specs.Walkers.{links_at, links_ahead}
 use Rattle.chain_arena.proofs.Inserting.{shown-within, some_entry}
-
--- different numbers that all are among others are no more than those
-pub length-le_among : (xs ys : List ℕ) → HasNoRepetition xs → ((x : ℕ) → Has xs x → Has ys x) → length xs ≤ length ys
-length-le_among [] ys once among = omega arith
-length-le_among (x ∷ xs) ys once among =
-    let at = Has-written ys x (among x (inl refl)) in
-    let rest = length-le_among xs (at.0 ++ at.1) once.1 (λ y has. elsewhere x y at.0 at.1 (λ same. once.0 (subst (Has xs) (sym same) has)) (subst (λ l. Has l y) at.2 (among y (inr has)))) in
-    omega (arith, rest, ap length at.2, length-append at.0 at.1, length-append at.0 (x ∷ at.1)) where
-      elsewhere : (x y : ℕ) (before after : List ℕ) → (x ≡ y → ⊥) → Has (before ++ x ∷ after) y → Has (before ++ after) y
-      elsewhere x y before after other has = elim (Has-parts before (x ∷ after) y has) [
-        | inl left ↦ Has-left before after y left
-        | inr right ↦ elim right [ inl same ↦ absurd (other same) | inr rest ↦ Has-right before after y rest ]
-      ]
 
 -- the indexes of the entries, counted from k
 abbrev taken : {X : Type 0} → ℕ → List (Option X) → List ℕ
@@ -49,10 +36,10 @@ Has-taken k x (suc j) (Some f ∷ slots) e at stands = inr (Has-taken (suc k) x 
 module _ {Gen T : Type 0} where
   -- different valid indexes are no more than the entries
   pub length-le_entries : (a : Arena Gen (LinkSeen T)) (xs : List ℕ) → HasNoRepetition xs → ((x : ℕ) → Has xs x → IsValid (shown a) x) → length xs ≤ entry_count a
-  length-le_entries a xs once valid = subst (λ n. length xs ≤ n) (length-taken 1 a.slots) (length-le_among xs (taken 1 a.slots) once (λ x has. place x (valid x has))) where
+  length-le_entries a xs once valid = subst (λ n. length xs ≤ n) (length-taken 1 a.slots) (length_among xs (taken 1 a.slots) once (λ x has. place x (valid x has))) where
     place : (x : ℕ) → IsValid (shown a) x → Has (taken 1 a.slots) x
     place zero valid_at = absurd (let h = valid_at.shows in cc)
-    place (suc j) valid_at = let entry = some_entry (slice_index_or a.slots j None) valid_at.link valid_at.shows in Has-taken 1 (suc j) j a.slots entry.0 (omega arith) entry.1
+    place (suc j) valid_at = let entry = some_entry interlinks_of (slice_index_or a.slots j None) valid_at.link valid_at.shows in Has-taken 1 (suc j) j a.slots entry.0 (omega arith) entry.1
 
   links_at-entry : (a : Arena Gen (LinkSeen T)) (i : ℕ) (indexes : List ℕ) (e : Gen × LinkSeen T) → entry_at a i ≡ Some e → links_at a (i ∷ indexes) ≡ (i, e) ∷ links_at a indexes
   links_at-entry a i indexes e stands = ap (λ (o : Option (Gen × LinkSeen T)). let links : List (ℕ × (Gen × LinkSeen T)) = elim o [ None ↦ [] | Some f ↦ (i, f) ∷ links_at a indexes ] in links) stands
@@ -62,7 +49,7 @@ module _ {Gen T : Type 0} where
   index-links_at a [] valid = refl
   index-links_at a (i ∷ indexes) valid =
       let here = valid i (inl refl) in
-      let entry = some_entry (entry_at a i) here.link here.shows in
+      let entry = some_entry interlinks_of (entry_at a i) here.link here.shows in
       ap (map (λ (e : ℕ × (Gen × LinkSeen T)). e.0)) (links_at-entry a i indexes entry.0 entry.1) ∙ ap (λ l. i ∷ l) (index-links_at a indexes (λ j has. valid j (inr has)))
 
   abbrev Stand : Arena Gen (LinkSeen T) → ℕ × (Gen × LinkSeen T) → Type 0

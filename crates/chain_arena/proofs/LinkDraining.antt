@@ -29,7 +29,7 @@ is_overflow-made false x = refl
 
 module _ {Gen T : Type 0} where
   -- entries that rise from an index on stand there
-  from_index-rises : (i j : ℕ) (es : List ((ℕ × Gen) × T)) → i ≤ j → RisesFrom j es → from_index i es ≡ es
+  pub from_index-rises : (i j : ℕ) (es : List ((ℕ × Gen) × T)) → i ≤ j → RisesFrom j es → from_index i es ≡ es
   from_index-rises i j [] below rises = refl
   from_index-rises i j (e ∷ es) below rises = ap (λ b. cond b (e ∷ es) (from_index i es)) (le-leb i e.0.0 (omega (arith, below, rises.0)))
 

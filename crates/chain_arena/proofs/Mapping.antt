@@ -4,12 +4,22 @@ use Rattle.std.specs.Prelude.{count_by, is_some, slice_index_or, if◌then◌els
 use Rattle.std.specs.Option.{option_map}
 use Rattle.std.proofs.lemmas.List.{length-map, map-append, map-set}
 use Rattle.std.proofs.lemmas.List.Sums.{sum_by-cons}
-use Rattle.arena_base.specs.Arena.{Arena, with_slot, filled, entry_at, entry_count, insert_next, remove_at, renewed_at, with_value, cleared, counter_after_clear, IsListed, IsValid}
+use Rattle.arena_base.specs.Arena.{Arena, slot_at, with_slot, filled, entry_at, entry_count, insert_next, remove_at, renewed_at, with_value, cleared, counter_after_clear, IsListed, IsValid}
 use Rattle.chain_arena.specs.ChainArena.{on_value, with_each}
 
-map-with_slot : {X Y : Type 0} (f : X → Y) (xs : List X) (n : ℕ) (x : X) → map f (with_slot xs n x) ≡ with_slot (map f xs) n (f x)
+-- a list with one item changed at an index, mapped
+pub map-with_slot : {X Y : Type 0} (f : X → Y) (xs : List X) (n : ℕ) (x : X) → map f (with_slot xs n x) ≡ with_slot (map f xs) n (f x)
 map-with_slot f xs zero x = refl
 map-with_slot f xs (suc k) x = map-set f xs k x
+
+-- what stands at an index of mapped slots
+pub slot_at-map : {X Y : Type 0} (f : X → Y) (slots : List (Option X)) (i : ℕ) → slot_at (map (option_map f) slots) i ≡ option_map f (slot_at slots i)
+slot_at-map f slots zero = refl
+slot_at-map {X} {Y} f slots (suc k) = by slots k where
+  by : (xs : List (Option X)) (j : ℕ) → slice_index_or (map (option_map f) xs) j None ≡ option_map f (slice_index_or xs j None)
+  by [] j = refl
+  by (x ∷ xs) zero = refl
+  by (x ∷ xs) (suc j) = by xs j
 
 pub generation_is : {Gen X : Type 0} (g h : Gen) (x y : X) → ◌≡◌ {A = Option (Gen × X)} (Some (g, x)) (Some (h, y)) → g ≡ h
 generation_is g h x y same = ap (generation_or g) same where
@@ -22,15 +32,8 @@ abbrev pub IsValidPtr : {Gen X : Type 0} → Arena Gen X → ℕ × Gen → Type
 IsValidPtr a p = IsValid (entry_at a) p
 
 module _ {Gen X Y : Type 0} (f : X → Y) where
-  slot_at-map : (slots : List (Option (Gen × X))) (k : ℕ)
-      → slice_index_or (map (option_map (on_value f)) slots) k None ≡ option_map (on_value f) (slice_index_or slots k None)
-  slot_at-map [] k = refl
-  slot_at-map (e ∷ slots) zero = refl
-  slot_at-map (e ∷ slots) (suc k) = slot_at-map slots k
-
   pub entry_at-with_each : (a : Arena Gen X) (i : ℕ) → entry_at (with_each f a) i ≡ option_map (on_value f) (entry_at a i)
-  entry_at-with_each a zero = refl
-  entry_at-with_each a (suc k) = slot_at-map a.slots k
+  entry_at-with_each a i = slot_at-map (on_value f) a.slots i
 
   pub length-with_each : (a : Arena Gen X) → length (with_each f a).slots ≡ length a.slots
   length-with_each a = length-map a.slots (option_map (on_value f))

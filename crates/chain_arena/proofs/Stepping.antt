@@ -20,6 +20,7 @@ use Rattle.chain_laws.specs.Insertions.{InsertKind, link_before, link_after, Ins
 use Rattle.chain_laws.specs.Walks.{IsWalk, TakesWalk}
 use Rattle.chain_laws.proofs.Draining.{walk_is_taken}
 use Rattle.arena_base.specs.Arena.{IsValid, IsRoom, HasRoom, entry_at, entry_count, next_index, with_capacity_of, renewed_at, overflows_after_clear}
+use Rattle.arena_base.specs.Compressing.{overflows_after_compression}
 use Rattle.arena_base.specs.Entries.{count, renewed, HasRoomLeft, NeedsBeyondMaximum}
 use Rattle.chain_arena.specs.ChainArena.{LinkSeen, on_value, shown, seen, entry, value_in, insert_as, link_at, relinked, CanConnect, CanExchange, IsJoin, IsCut, IsExchange, IsRemoval}
 use Rattle.chain_arena.specs.Drains.{walk_left, without_each}
@@ -259,3 +260,8 @@ module _ {P Gen T : Type 0} (key : P → ℕ × Gen) (following : Gen → Gen) (
   pub clears_all : (r : InvalidationOption Unit) → r ≡ invalidation_option (overflows_after_clear wraps (length (seen old).entries) old.counter) tt
       → r ≡ invalidation_option (overflows_after_clear wraps (entry_count old) old.counter) tt
   clears_all r told = told ∙ ap (λ n. invalidation_option (overflows_after_clear wraps n old.counter) tt) (count-seen old)
+
+-- a compression
+pub compresses : {Gen T : Type 0} (wraps : Gen → Bool) (old : Links Gen T) (reset : Bool) (r : InvalidationOption Unit) → r ≡ invalidation_option (overflows_after_compression wraps reset (length (seen old).entries) old.counter) tt
+    → r ≡ invalidation_option (overflows_after_compression wraps reset (entry_count old) old.counter) tt
+compresses wraps old reset r told = told ∙ ap (λ n. invalidation_option (overflows_after_compression wraps reset n old.counter) tt) (count-seen old)

@@ -36,6 +36,11 @@ module _ {Gen T : Type 0} (a : Arena Gen (LinkSeen T)) (t : T) (listed : IsListe
   pub shown-insert_between : (u v : Option ℕ) → shown (insert_between a t u v) ≡ inserted (shown a) (next_index a) u v
   shown-insert_between u v = shown-relinked (insert_lone a t) (inserted (shown a) (next_index a) u v) (fits_between u v)
 
+  -- .. and its values
+  pub values_of-insert_between : (u v : Option ℕ) → values_of (insert_between a t u v) ≡ insert_next (values_of a) t
+  values_of-insert_between u v =
+      values_of-relinked (insert_lone a t) (inserted (shown a) (next_index a) u v) (fits_between u v) ∙ with_each-insert_next value_in a (lone t)
+
   pub agrees-insert_between : (u v : Option ℕ) → Agrees (shown a) → IsGap (shown a) (next_index a) u v → Agrees (shown (insert_between a t u v))
   agrees-insert_between u v agrees gap =
       subst Agrees (sym (shown-insert_between u v)) (inserted_agrees (shown a) (next_index a) u v agrees (shown-next a listed.free) gap)
@@ -49,8 +54,7 @@ module _ {Gen T : Type 0} (a : Arena Gen (LinkSeen T)) (t : T) (listed : IsListe
 
     told_values : values_of b ≡ with_capacity_of (insert_next (values_of a) t) (values_of b)
     told_values = ap (λ (x : Arena Gen (LinkSeen T)). values_of x) is
-        ∙ ap (λ (x : Arena Gen T). with_capacity_of x (values_of b))
-        (values_of-relinked (insert_lone a t) (inserted (shown a) (next_index a) u v) (fits_between u v) ∙ with_each-insert_next value_in a (lone t))
+        ∙ ap (λ (x : Arena Gen T). with_capacity_of x (values_of b)) (values_of-insert_between u v)
 
     -- what an insertion between two links is, by the state alone
     pub told_between : (p : ℕ × Gen) → p ≡ (next_index a, a.counter) → Agrees (shown a) → IsGap (shown a) (next_index a) u v

@@ -4,5 +4,8 @@ pub mod Kinds
 pub mod Insertions
 pub mod Walkers
 pub mod Drains
+pub mod Transfers
+pub mod Compressions
+pub mod HeldLinks
 pub mod Steps
 pub mod ChainArenaLaws

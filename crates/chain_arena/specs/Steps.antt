@@ -1,5 +1,6 @@
 -- The chain machine: what each call answers, and the arena after it. A refusal leaves the arena as it was, and comes
--- before those below it. Want of memory is the only free choice, and how far a growth goes.
+-- before those below it. Want of memory is the only free choice, and how far a growth goes, and how many slots a
+-- compression touches.
 use Rattle.std.specs.Prelude.{◌≡◌, ℕ, ◌+◌, ◌<◌, ◌≤◌, min, Bool, true, false, List, [], ◌∷◌, length, ⊤, Option, None, Some, Result, Ok, Err}
 use Rattle.arena_ptr.specs.Invalidation.{invalidation_option}
 use Rattle.arena_ptr.specs.SlotStack.{IsBeyond}
@@ -14,7 +15,10 @@ use Rattle.chain_laws.specs.Chains.{prev_of, next_of}
 use Rattle.chain_laws.specs.Insertions.{InsertKind, link_before, link_after, InsertsPairs, Inserts}
 use Rattle.chain_laws.specs.Walks.{IsWalk, TakesWalk}
 use Rattle.arena_base.specs.Arena.{Arena, IsValid, HasRoom, entry_at, entry_count, next_index, with_capacity_of, with_counter, renewed_at, cleared, overflows_after_clear}
-use Rattle.chain_arena.specs.ChainArena.{LinkSeen, shown, entry, insert_as, CanConnect, CanExchange, IsJoin, IsCut, IsExchange, IsRemoval}
+use Rattle.arena_base.specs.Compressing.{IsCompressed, values_in, overflows_after_compression}
+use Rattle.arena_base.specs.Entries.{entries}
+use Rattle.chain_arena.specs.ChainArena.{LinkSeen, shown, entry, values_of, seen, insert_as, CanConnect, CanExchange, IsJoin, IsCut, IsExchange, IsRemoval}
+use Rattle.chain_arena.specs.Compressions.{ClosesGaps}
 use Rattle.chain_arena.specs.Drains.{without_each}
 use Rattle.chain_arena.specs.Kinds.{names_in, by_index, MayInsert}
 use Rattle.chain_arena.specs.Links.{seen_link}
@@ -76,6 +80,17 @@ module _ {Gen T : Type 0} where
   DrainsChain following old p take None new = (IsValid (entry old) p → ⊥) × (new ≡ old)
   DrainsChain following old p take (Some count) new = IsDrained following old p take count new
 
+  -- the gaps are closed: the links come to the indexes from 1 on, in the order of their indexes, each with its value, and
+  -- name the new indexes of their neighbors
+  pub record IsCompression (first : Gen) (following : Gen → Gen) (reset : Bool) (old new : Links Gen T) : Type 0 where
+    pub seen : IsCompressed first following reset (seen old) (seen new)
+    pub values : values_in (entries (values_of new)) ≡ values_in (entries (values_of old))
+    pub links : ClosesGaps old new
+
+  -- two arenas that are the same, but for how many slots were touched
+  abbrev pub AreSameButTouched : Links Gen T → Links Gen T → Type 0
+  AreSameButTouched a b = a ≡ record b { touched = a.touched }
+
 -- an answer where something may be invalid: it is told whether the counter overflowed
 abbrev pub Tells : {X : Type 0} → Type 0 → Bool → (X → Type 0) → InvalidationResult X → Type 0
 Tells invalid overflow done InvalidPtr = invalid
@@ -135,7 +150,7 @@ module _ {P Gen T : Type 0} (key : P → ℕ × Gen) (following : Gen → Gen) (
   Invalidates old p answer new = Tells ((IsValid (entry old) p → ⊥) × (new ≡ old)) (wraps old.counter)
       (λ q. IsValid (entry old) p × (key q ≡ (p.0, following old.counter)) × (new ≡ renewed_at following old p.0) × (shown new ≡ shown old)) answer
 
-module _ {P T I Gen W : Type 0} (key : P → ℕ × Gen) (number : I → ℕ) (packed : PackedOption I W → Option ℕ) (greatest : ℕ) (following : Gen → Gen) (wraps : Gen → Bool) where
+module _ {P T I Gen W : Type 0} (key : P → ℕ × Gen) (number : I → ℕ) (packed : PackedOption I W → Option ℕ) (greatest : ℕ) (first : Gen) (following : Gen → Gen) (wraps : Gen → Bool) where
   -- a step of the machine: the reply to a call, and the arena after it
   abbrev pub Step : Links Gen T → Call P T I Gen W → Reply P T I Gen W → Links Gen T → Type 0
   Step old (call.Insert kind t) r new = (answer : Result P ChainInsertionError) × (r ≡ reply.Inserted answer) × InsertsGrowing key number greatest old kind t answer new
@@ -149,6 +164,7 @@ module _ {P T I Gen W : Type 0} (key : P → ℕ × Gen) (number : I → ℕ) (p
   Step old (call.Invalidate p) r new = (answer : InvalidationResult P) × (r ≡ reply.Renewed answer) × Invalidates key following wraps old (key p) answer new
   Step old (call.DrainChain p take) r new = (answer : Option ℕ) × (r ≡ reply.Drained answer) × DrainsChain following old (key p) take answer new
   Step old call.Clear r new = (r ≡ reply.Counted (invalidation_option (overflows_after_clear wraps (entry_count old) old.counter) tt)) × (new ≡ cleared following old)
+  Step old (call.Compress reset) r new = (r ≡ reply.Counted (invalidation_option (overflows_after_compression wraps reset (entry_count old) old.counter) tt)) × IsCompression first following reset old new
   Step old (call.Reserve n) r new = (answer : Result Unit ReallocationError) × (r ≡ reply.Reserved answer) × Reserves greatest old n answer new
   Step old (call.SetGeneration g) r new = (r ≡ reply.Set) × (new ≡ with_counter old g)
   Step old call.IncGeneration r new = (r ≡ reply.Counted (invalidation_option (wraps old.counter) tt)) × (new ≡ with_counter old (following old.counter))
@@ -171,8 +187,10 @@ module _ {P T I Gen W : Type 0} (key : P → ℕ × Gen) (number : I → ℕ) (p
   RunInRoom old (call ∷ calls) (reply ∷ replies) new = (between : Links Gen T) × HasRoomAlready old call × Step old call reply between × RunInRoom between calls replies new
   RunInRoom old calls replies new = ⊥
 
-module _ {P I Gen W : Type 0} (key : P → ℕ × Gen) (number : I → ℕ) (packed : PackedOption I W → Option ℕ) (greatest : ℕ) (following : Gen → Gen) (wraps : Gen → Bool) where
-  -- but for growth and memory a state and a list of calls determine the replies and the state after them
+module _ {P I Gen W : Type 0} (key : P → ℕ × Gen) (number : I → ℕ) (packed : PackedOption I W → Option ℕ) (greatest : ℕ) (first : Gen) (following : Gen → Gen) (wraps : Gen → Bool) where
+  -- But for growth and memory a state and a list of calls determine the replies, and the state after them but for how many
+  -- slots were touched, which a compression alone leaves open.
   abbrev pub RunIsDetermined : Type 0 → Type 0
   RunIsDetermined T = (old : Links Gen T) (calls : List (Call P T I Gen W)) (replies others : List (Reply P T I Gen W)) (new other : Links Gen T)
-      → RunInRoom key number packed greatest following wraps old calls replies new → Run key number packed greatest following wraps old calls others other → (replies ≡ others) × (new ≡ other)
+      → RunInRoom key number packed greatest first following wraps old calls replies new → Run key number packed greatest first following wraps old calls others other
+      → (replies ≡ others) × AreSameButTouched new other

@@ -43,6 +43,8 @@ pub enum Call<P: Ptr, T> {
     DrainChain { p: P, take: usize },
     /// Removes all links and slots.
     Clear,
+    /// Closes the gaps. With `true` the counter begins anew.
+    Compress(bool),
     /// Grows to room for so many links.
     Reserve(usize),
     /// Sets the counter.
@@ -66,7 +68,7 @@ pub enum Reply<P: Ptr, T> {
     Renewed(InvalidationResult<P>),
     /// Of `DrainChain`: how many links were taken. `None`: the pointer is not valid.
     Drained(Option<usize>),
-    /// Of `Clear` and `IncGeneration`: whether the counter overflowed.
+    /// Of `Clear`, `Compress` and `IncGeneration`: whether the counter overflowed.
     Counted(InvalidationOption<()>),
     /// Of `Reserve`: why the arena did not grow, if it did not.
     Reserved(Result<(), ReallocationError>),
@@ -79,7 +81,7 @@ pub fn apply<P: Ptr, T: Drop, S: SlotStack<Item = ArenaSlot<P, LinkNoGen<P, T>>>
     arena: &mut ChainArena<P, T, S>,
     call: Call<P, T>,
 ) -> Reply<P, T>
-    ensures step { Step P.key P.Inx.number P.Inx.packed_number P.Inx.greatest P.Gen.following P.Gen.wraps arena.old call result arena.new }
+    ensures step { Step P.key P.Inx.number P.Inx.packed_number P.Inx.greatest P.Gen.first P.Gen.following P.Gen.wraps arena.old call result arena.new }
 {
     match call {
         Call::Insert { kind, t } => Reply::Inserted(insert(arena, kind, t)),
@@ -93,6 +95,7 @@ pub fn apply<P: Ptr, T: Drop, S: SlotStack<Item = ArenaSlot<P, LinkNoGen<P, T>>>
         Call::Invalidate(p) => Reply::Renewed(arena.invalidate(p)),
         Call::DrainChain { p, take } => Reply::Drained(drain(arena, p, take)),
         Call::Clear => Reply::Counted(arena.clear()),
+        Call::Compress(reset) => Reply::Counted(arena.compress(reset)),
         Call::Reserve(n) => Reply::Reserved(reserve(arena, n)),
         Call::SetGeneration(generation) => {
             arena.set_generation(generation);
@@ -189,7 +192,7 @@ pub fn run_calls<P: Ptr, T: Drop, S: SlotStack<Item = ArenaSlot<P, LinkNoGen<P, 
     calls: Vec<Call<P, T>>,
 ) -> Result<Vec<Reply<P, T>>, AllocError>
     ensures ends { HasOneSetOfChains (shown arena.new) × MatchResult result
-        (λ replies. Run P.key P.Inx.number P.Inx.packed_number P.Inx.greatest P.Gen.following P.Gen.wraps arena.old calls.items replies.items arena.new)
+        (λ replies. Run P.key P.Inx.number P.Inx.packed_number P.Inx.greatest P.Gen.first P.Gen.following P.Gen.wraps arena.old calls.items replies.items arena.new)
         (λ refused. arena.new ≡ arena.old) }
 {
     let replies = replies_to(alloc, arena, calls);
@@ -204,7 +207,7 @@ fn replies_to<P: Ptr, T: Drop, S: SlotStack<Item = ArenaSlot<P, LinkNoGen<P, T>>
     arena: &mut ChainArena<P, T, S>,
     calls: Vec<Call<P, T>>,
 ) -> Result<Vec<Reply<P, T>>, AllocError>
-    ensures run { IfOk result (λ replies. Run P.key P.Inx.number P.Inx.packed_number P.Inx.greatest P.Gen.following P.Gen.wraps arena.old calls.items replies.items arena.new) }
+    ensures run { IfOk result (λ replies. Run P.key P.Inx.number P.Inx.packed_number P.Inx.greatest P.Gen.first P.Gen.following P.Gen.wraps arena.old calls.items replies.items arena.new) }
     ensures err { OnErr result (arena.new ≡ arena.old) }
 {
     let mut replies = Vec::with_capacity(alloc, calls.len())?;
@@ -218,8 +221,8 @@ fn replies_to<P: Ptr, T: Drop, S: SlotStack<Item = ArenaSlot<P, LinkNoGen<P, T>>
     Ok(replies)
 }
 
-/// But for growth and memory, an arena and a list of calls determine the replies and the arena after them: a run of the
-/// machine says no less than the calls do.
+/// But for growth and memory, an arena and a list of calls determine the replies, and the arena after them but for how
+/// many slots were touched: a run of the machine says no less than the calls do.
 pub fn runs_are_determined<P: Ptr, T: Drop>()
-    ensures { RunIsDetermined P.key P.Inx.number P.Inx.packed_number P.Inx.greatest P.Gen.following P.Gen.wraps T }
+    ensures { RunIsDetermined P.key P.Inx.number P.Inx.packed_number P.Inx.greatest P.Gen.first P.Gen.following P.Gen.wraps T }
 {}

@@ -1,4 +1,4 @@
-ghost use Rattle.std.specs.Prelude.{◌≡◌, ◌≢◌, ◌↔◌, ◌<◌, ◌+◌, ◌⊎◌, ℕ, is_some, Option, IsTrue, IsSome, IfSome, OnSome, IfNone, IsOk, IfOk, IsErr, IfErr, OnOk, OnErr, Err, None};
+ghost use Rattle.std.specs.Prelude.{◌≡◌, ◌≢◌, ◌↔◌, ◌<◌, ◌+◌, ◌⊎◌, ℕ, is_some, Option, map, IsTrue, IsSome, IfSome, OnSome, IfNone, IsOk, IfOk, IsErr, IfErr, OnOk, OnErr, Err, None};
 ghost use Rattle.std.specs.Option.{option_map};
 ghost use Rattle.arena_ptr.specs.Invalidation.{value_within, invalidation_result};
 ghost use Rattle.chain_laws.specs.Chains.{Shown, Agrees, prev_of, next_of};
@@ -7,8 +7,10 @@ ghost use Rattle.chain_laws.specs.Exchanges.{exchanged};
 ghost use Rattle.chain_laws.specs.Neighbors.{AreNeighbors};
 ghost use Rattle.chain_laws.specs.Operations.{joined};
 ghost use Rattle.chain_laws.specs.Removals.{removed};
+ghost use Rattle.chain_laws.specs.Renamings.{IsRenaming};
+ghost use Rattle.chain_laws.specs.Arrangements.{place_in};
 ghost use Rattle.arena_base.specs.Arena.{IsValid, IsRoom};
-ghost use Rattle.arena_base.specs.Entries.{count, HasRoomLeft, NeedsBeyondMaximum};
+ghost use Rattle.arena_base.specs.Entries.{count, index_of, HasRoomLeft, NeedsBeyondMaximum};
 ghost use Rattle.arena_base.specs.Entries.{removed as seen_removed};
 ghost use Rattle.chain_arena.specs.ChainArena.{link_at, on_value, CanConnect, CanExchange, IsLinkAt};
 ghost use Rattle.chain_arena.specs.Insertions.{IsInsertion};
@@ -24,8 +26,8 @@ use arena_ptr::{ChainInsertionError, InvalidationResult, Ptr, PtrGen, PtrInx, Re
 
 /// An arena whose entries are links, each in one linear or cyclic chain.
 ///
-/// The calls of `ArenaTrait` see the values alone. A removal by them links the neighbours of what it removed, and no
-/// other of them changes a chain but `clear`, which leaves none.
+/// The calls of `ArenaTrait` see the values alone. A removal by them links the neighbours of what it removed, a
+/// compression renames the links of all chains, and no other of them changes a chain but `clear`, which leaves none.
 ///
 /// Carries `ChainArenaTrait` of `triple_arena`.
 pub trait ChainArenaTrait<P: Ptr, T: Drop>: ArenaTrait<P, T> {
@@ -205,4 +207,6 @@ pub trait ChainArenaTrait<P: Ptr, T: Drop>: ArenaTrait<P, T> {
     ghost renewed: { (a b : Self) (i : ℕ) → Self.renews a i b → interlinks b ≡ interlinks a };
 
     ghost passed_over: { (a b : Self) (i : ℕ) → Self.removes a i b → interlinks b ≡ removed (interlinks a) i };
+
+    ghost compressed: { (a b : Self) → Self.compresses a b → IsRenaming (place_in (map index_of (Self.seen a).entries)) (interlinks a) (interlinks b) };
 }

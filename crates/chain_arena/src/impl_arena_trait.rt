@@ -9,6 +9,7 @@ ghost use Rattle.arena_base.specs.Entries.{index_of, AreTheSlots};
 ghost use Rattle.chain_arena.specs.ChainArena.{seen, shown};
 
 use crate::chain_arena::ChainArena;
+use crate::compress::{begin_generation, gather};
 use crate::interlinks::take_out;
 use crate::links::{LinkBody, LinkNoGen};
 use arena_base::{Advancer, Arena, ArenaSlot, ArenaTrait, CompactArenaTrait, PtrAdvancer};
@@ -27,6 +28,7 @@ impl<P: Ptr, T: Drop, S: SlotStack<Item = ArenaSlot<P, LinkNoGen<P, T>>>> ArenaT
     ghost use Rattle.arena_base.specs.EntryLaws.{entries_rise, found-entries};
     ghost use Rattle.arena_base.specs.AdvancingLaws.{until_none};
     ghost use Rattle.chain_arena.specs.ChainArena.{shown, values_of, with_value_at, IsRemoval};
+    ghost use Rattle.chain_arena.specs.Compressions.{ClosesGaps};
 
     type PtrAdvancer = PtrAdvancer<P>;
 
@@ -47,6 +49,8 @@ impl<P: Ptr, T: Drop, S: SlotStack<Item = ArenaSlot<P, LinkNoGen<P, T>>>> ArenaT
     ghost removes = { λ a i b. IsRemoval P.Gen.following a i b };
 
     ghost clears = { λ a b. b ≡ cleared P.Gen.following a };
+
+    ghost compresses = { ClosesGaps };
 
     ghost rises = { λ a. entries_rise (values_of a) };
 
@@ -173,6 +177,17 @@ impl<P: Ptr, T: Drop, S: SlotStack<Item = ArenaSlot<P, LinkNoGen<P, T>>>> ArenaT
 
     fn clear(&mut self) -> InvalidationOption<()> {
         self.arena.clear()
+    }
+
+    /// Closes the gaps, as in every arena; each link names the new indexes of its neighbors, so that each chain stays.
+    fn compress_with<F: FnMut(P, &mut T, P) + Drop>(
+        &mut self,
+        reset: bool,
+        map: F,
+    ) -> InvalidationOption<()> {
+        let overflow = begin_generation(&mut self.arena, reset);
+        gather(&mut self.arena, map);
+        overflow
     }
 }
 

@@ -55,6 +55,8 @@ impl<P: Ptr, T: Drop, S: SlotStack<Item = ArenaSlot<P, LinkNoGen<P, T>>>> ChainA
 
     ghost passed_over = { λ a b i h. h.shows };
 
+    ghost compressed = { λ a b h. h.renamed };
+
     fn can_insert(&self, kind: LinkInsertKind<P>) -> bool
         ensures { IsTrue result ↔ MayInsert (entry self.now) (interlinks self.now) (names_in P.key P.Inx.number kind) }
     {

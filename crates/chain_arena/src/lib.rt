@@ -7,6 +7,7 @@ mod chain_arena;
 mod chain_drains;
 mod chain_iterators;
 mod chain_traits;
+mod compress;
 mod gaps;
 mod impl_arena_trait;
 mod impl_chain_arena_trait;
@@ -17,6 +18,7 @@ mod kinds;
 mod link_drains;
 mod links;
 mod placing;
+mod transfer;
 
 pub use calls::{Call, Reply, apply, run_calls, runs_are_determined};
 pub use chain_advancer::ChainPtrAdvancer;

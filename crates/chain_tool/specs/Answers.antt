@@ -1,7 +1,7 @@
 -- What the program answers to a line, and the arena after it.
 use Rattle.std.specs.Prelude.{◌≡◌, ℕ, List, ◌∷◌, [], ◌++◌, map, codes, decimal, true, false, Option, None, Some, Ok, Err}
 use Rattle.std.specs.List.{join_with_byte}
-use Rattle.arena_ptr.specs.Generations.{number_of_gen32, after32, is_greatest32}
+use Rattle.arena_ptr.specs.Generations.{number_of_gen32, two32, after32, is_greatest32}
 use Rattle.arena_ptr.specs.Indexes.{number_of_inx32}
 use Rattle.arena_ptr.specs.Packed.{zero_is_none}
 use Rattle.arena_ptr.specs.ToolPtr.{key_of}
@@ -116,7 +116,7 @@ greatest_index = 0xffff_ffff
 
 -- a call is a step of the chain machine, and its answer is the text of the reply
 abbrev pub Changes : Links → LinkCall → List ℕ → Links → Type 0
-Changes old call text new = (reply : Reply ToolPtr ℕ Inx32 Gen32 ℕ) × Step key_of number_of_inx32 zero_is_none greatest_index after32 is_greatest32 old call reply new × (text ≡ reply_text reply)
+Changes old call text new = (reply : Reply ToolPtr ℕ Inx32 Gen32 ℕ) × Step key_of number_of_inx32 zero_is_none greatest_index two32 after32 is_greatest32 old call reply new × (text ≡ reply_text reply)
 
 pub data Shows (old : Links) (p : ℕ × Gen32) (text : List ℕ) : Type 0 where
   link : (prev next : Option (ℕ × Gen32)) (value : ℕ) → IsLinkAt old p prev next value → text ≡ show_text prev next value → Shows old p text

@@ -1,11 +1,11 @@
 -- The commands of the program, as lines write them.
-use Rattle.std.specs.Prelude.{ℕ, nat_lt, if◌then◌else◌, List, [], ◌∷◌, length, codes, bytes_eq, Option, Some, None, option_and_then}
+use Rattle.std.specs.Prelude.{ℕ, nat_lt, Bool, true, false, if◌then◌else◌, List, [], ◌∷◌, length, codes, bytes_eq, Option, Some, None, option_and_then}
 use Rattle.std.specs.Option.{option_map, option_or, option_zip}
 use Rattle.arena_ptr.specs.declared.index.inx32.Inx32.{Inx32}
 use Rattle.arena_ptr.specs.declared.tool_ptr.ToolPtr.{ToolPtr}
 use Rattle.arena_ptr.specs.declared.generation.gen32.Gen32.{Gen32}
 use Rattle.chain_arena.specs.declared.calls.Call.{Call}
-use Rattle.chain_arena.specs.declared.calls.Call.TheVariants.{Insert, InsertWithin, Connect, BreakPrev, BreakNext, ExchangeNext, Remove, RemoveInx, Invalidate, DrainChain, Clear, Reserve, SetGeneration, IncGeneration}
+use Rattle.chain_arena.specs.declared.calls.Call.TheVariants.{Insert, InsertWithin, Connect, BreakPrev, BreakNext, ExchangeNext, Remove, RemoveInx, Invalidate, DrainChain, Clear, Compress, Reserve, SetGeneration, IncGeneration}
 use Rattle.chain_arena.specs.declared.kinds.InsertKindBody.{InsertKindBody}
 use Rattle.chain_arena.specs.declared.kinds.InsertKindBody.TheVariants as kinds
 use Rattle.chain_tool.specs.declared.command.Command.{Command}
@@ -46,6 +46,13 @@ pointer_and_number (word ∷ words) = option_zip (pointer_of word) (option_and_t
 abbrev pub no_arguments : List (List ℕ) → Option Unit
 no_arguments [] = Some tt
 no_arguments (word ∷ words) = None
+
+-- whether a compression begins the counter anew, or keeps on counting
+abbrev pub reset_word : List ℕ → Option Bool
+reset_word word =
+    if bytes_eq word (codes "reset") then Some true
+    else (if bytes_eq word (codes "keep") then Some false
+    else None)
 
 -- what is made of pointers, where these are some, or else of indexes
 abbrev pub by_either : {P I A : Type 0} → (P → A) → (I → A) → Option P → Option I → Option A
@@ -110,7 +117,8 @@ call_of name arguments =
     else (if bytes_eq name (codes "invalidate") then option_map Invalidate (one_pointer arguments)
     else (if bytes_eq name (codes "drain") then option_map (λ a. DrainChain a.0 a.1) (pointer_and_number arguments)
     else (if bytes_eq name (codes "clear") then option_map (λ none. Clear) (no_arguments arguments)
-    else room_or_counter name arguments)))))))))
+    else (if bytes_eq name (codes "compress") then option_map Compress (option_and_then reset_word (one_word arguments))
+    else room_or_counter name arguments))))))))))
 
 -- the command of a name and its arguments
 abbrev pub command_of : List ℕ → List (List ℕ) → Option Command

@@ -2,7 +2,7 @@
 ghost use Rattle.std.specs.Prelude.{◌≡◌, bytes_eq, option_map};
 ghost use Rattle.chain_arena.specs.declared.kinds.InsertKindBody.TheVariants.{AtInterlink, AtInterlinkInx, Bridge, BridgeInx};
 ghost use Rattle.chain_tool.specs.Words.{words_of};
-ghost use Rattle.chain_tool.specs.Commands.{one_word, one_pointer, two_pointers, pointer_and_number, no_arguments, by_either, removal, kind_alone, kind_beside, kind_between, kind_and_value, room_or_counter, call_of, command_of, line_of};
+ghost use Rattle.chain_tool.specs.Commands.{one_word, one_pointer, two_pointers, pointer_and_number, no_arguments, reset_word, by_either, removal, kind_alone, kind_beside, kind_between, kind_and_value, room_or_counter, call_of, command_of, line_of};
 
 use crate::words::{generation, index, next_word, number, pointer, without_return};
 use arena_ptr::{Inx32, ToolPtr};
@@ -94,6 +94,8 @@ fn call(name: &[u8], arguments: &[u8]) -> Option<Call<ToolPtr, u32>>
     } else if is(name, "clear") {
         no_arguments(arguments)?;
         Some(Call::Clear)
+    } else if is(name, "compress") {
+        Some(Call::Compress(reset(one_word(arguments)?)?))
     } else {
         room_or_counter(name, arguments)
     }
@@ -230,6 +232,19 @@ fn no_arguments(arguments: &[u8]) -> Option<()>
     match next_word(arguments) {
         None => Some(()),
         Some(_) => None,
+    }
+}
+
+/// Whether a compression begins the counter anew.
+fn reset(word: &[u8]) -> Option<bool>
+    ensures { result ≡ reset_word word.now }
+{
+    if is(word, "reset") {
+        Some(true)
+    } else if is(word, "keep") {
+        Some(false)
+    } else {
+        None
     }
 }
 

@@ -1,9 +1,9 @@
 //! Runs of the program over readers and writers in memory.
-ghost use Rattle.std.specs.Prelude.{◌≡◌, ℕ, List, ◌∷◌, [], codes, Some, None, option_map};
+ghost use Rattle.std.specs.Prelude.{◌≡◌, ℕ, List, ◌∷◌, [], codes, true, Some, None, option_map};
 ghost use Rattle.chain_arena.specs.declared.kinds.InsertKindBody.TheVariants.{Disconnected, SingleLinkCyclic, ChainEnd, NextToInx, BridgeInx};
 ghost use Rattle.arena_ptr.specs.declared.index.inx32.Inx32.{Inx32};
 ghost use Rattle.arena_ptr.specs.declared.tool_ptr.ToolPtr.{ToolPtr};
-ghost use Rattle.chain_arena.specs.declared.calls.Call.TheVariants.{Insert, InsertWithin, Remove, RemoveInx, DrainChain, Reserve, IncGeneration};
+ghost use Rattle.chain_arena.specs.declared.calls.Call.TheVariants.{Insert, InsertWithin, Remove, RemoveInx, DrainChain, Compress, Reserve, IncGeneration};
 ghost use Rattle.chain_tool.specs.declared.command.Command.TheVariants.{Change, Len};
 ghost use Rattle.chain_tool.specs.declared.command.Line.TheVariants.{Blank, Bad, Good};
 ghost use Rattle.chain_tool.specs.Words.{lines_of, whole_lines, without_return, words_of, number_of, index_word, pointer_of};
@@ -94,6 +94,7 @@ fn definitions()
     ensures mixed_forms { line_of (codes "add between 1.2 1 5") ≡ Bad }
     ensures drain { (p : ToolPtr) → pointer_of (codes "1.2") ≡ Some p → line_of (codes "drain 1.2 3") ≡ Good (Change (DrainChain p 3)) }
     ensures drain_alone { line_of (codes "drain") ≡ Bad }
+    ensures compress { line_of (codes "compress reset") ≡ Good (Change (Compress true)) }
     ensures reserve { line_of (codes "reserve 9") ≡ Good (Change (Reserve 9)) }
     ensures incgen { line_of (codes "incgen") ≡ Good (Change IncGeneration) }
     ensures setgen_zero { line_of (codes "setgen 0") ≡ Bad }
@@ -514,6 +515,18 @@ fn cutting_table(rt: HostRuntime) {
 }
 
 #[test]
+fn compression_table(rt: HostRuntime) {
+    let input =
+        "add alone 1\nadd alone 2\nadd end 2.2 3\nremove 1.2\ncompress keep\nchain 1.4\ncompress reset\n\
+        chain 2.2\nsetgen 4294967295\ncompress reset\nsetgen 4294967295\ncompress keep\nchain 1.2\n\
+        clear\ncompress keep\nadd alone 4\n";
+    let output =
+        "at 1.2\nat 2.2\nat 3.2\nvalue 1\nok\n1.4:2 2.4:3\nok\n2.2:3 1.2:2\nok\nok\nok\nok overflow\n\
+        1.2:2 2.2:3\nok\nok\nat 1.3\n";
+    check_texts(&rt, rt.alloc(), &[(input, output)]);
+}
+
+#[test]
 fn overflow_table(rt: HostRuntime) {
     let input =
         "add alone 1\nsetgen 4294967295\nadd end 1.2 2\nshow 1.2\ninvalidate 1.2\nincgen\nremove 2.4294967295\n\
@@ -534,7 +547,7 @@ fn removed_by_index(rt: HostRuntime) {
 
 #[test]
 fn malformed_steps(rt: HostRuntime) {
-    const ROWS: [(&str, &str); 20] = [
+    const ROWS: [(&str, &str); 23] = [
         ("reserve\n", "bad line\n"),
         ("reserve x\n", "bad line\n"),
         ("setgen\n", "bad line\n"),
@@ -552,6 +565,9 @@ fn malformed_steps(rt: HostRuntime) {
         ("drain 1.2 4294967296\n", "bad line\n"),
         ("drain 1.2 1 1\n", "bad line\n"),
         ("clear 1\n", "bad line\n"),
+        ("compress\n", "bad line\n"),
+        ("compress x\n", "bad line\n"),
+        ("compress keep keep\n", "bad line\n"),
         ("remove 4294967296\n", "bad line\n"),
         ("remove 0\n", "bad line\n"),
         ("remove 1 2\n", "bad line\n"),
@@ -615,7 +631,7 @@ fn check_at_greatest(rt: &impl Abort, alloc: Global, input: &str, output: &str) 
 
 #[test]
 fn steps_that_overflow(rt: HostRuntime) {
-    const ROWS: [(&str, &str); 4] = [
+    const ROWS: [(&str, &str); 5] = [
         (
             "invalidate 2.2\nshow 1.2\n",
             "at 2.2 overflow\nprev - next 2.2 value 5\n",
@@ -626,6 +642,10 @@ fn steps_that_overflow(rt: HostRuntime) {
             "count 1\ncount 0\nat 2.3\n",
         ),
         ("clear\nclear\nadd alone 7\n", "ok overflow\nok\nat 1.2\n"),
+        (
+            "compress keep\ncompress keep\nchain 1.3\n",
+            "ok overflow\nok\n1.3:5 2.3:6\n",
+        ),
     ];
     for (input, output) in &ROWS {
         check_at_greatest(&rt, rt.alloc(), input, output);

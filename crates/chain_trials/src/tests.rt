@@ -15,6 +15,7 @@ mod removal;
 mod rows;
 mod sizes;
 mod tiny_ptr;
+mod transfers;
 mod walks;
 mod wrapped;
 

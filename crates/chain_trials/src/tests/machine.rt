@@ -168,21 +168,20 @@ fn calls_on_links(rt: &impl Abort, alloc: Global) -> Result<Vec<Call<ToolPtr, u3
         Call::Remove(b),
         Call::RemoveInx(index(rt, 3)),
         Call::RemoveInx(index(rt, 3)),
+        Call::Compress(false),
         Call::DrainChain {
             p: renewed,
             take: 5,
         },
-        Call::DrainChain {
-            p: renewed,
-            take: 5,
-        },
+        Call::Compress(true),
+        Call::DrainChain { p: a, take: 5 },
         Call::Clear,
     ];
     Ok(Vec::from_array(alloc, calls)?)
 }
 
 // Their replies.
-const REPLIES_ON_LINKS: [Told; 26] = [
+const REPLIES_ON_LINKS: [Told; 28] = [
     ("inserted", (1, 2)),
     ("not linked", NONE),
     ("inserted", (2, 2)),
@@ -206,8 +205,10 @@ const REPLIES_ON_LINKS: [Told; 26] = [
     ("invalid", NONE),
     ("gone", (2, 30)),
     ("invalid", NONE),
-    ("drained", (0, 1)),
+    ("counted", NONE),
     ("not drained", NONE),
+    ("counted", NONE),
+    ("drained", (0, 1)),
     ("counted", NONE),
 ];
 
@@ -217,6 +218,41 @@ fn every_call_with_its_replies(rt: HostRuntime) -> Result<(), Fail> {
     assert!(rt; arena.set_max_capacity(3).is_ok());
     let calls = calls_on_links(&rt, rt.alloc())?;
     replies(&rt, rt.alloc(), &mut arena, calls, &REPLIES_ON_LINKS)
+}
+
+// A cycle of one and a chain of two come to the indexes from 1 on, in the order of their indexes.
+#[test]
+fn a_compression_by_index_order(rt: HostRuntime) -> Result<(), Fail> {
+    let calls = Vec::from_array(
+        rt.alloc(),
+        [
+            alone(10),
+            Call::Insert {
+                kind: LinkInsertKind::SingleLinkCyclic,
+                t: 20,
+            },
+            alone(30),
+            behind(first(&rt, 3), 40),
+            Call::Remove(first(&rt, 1)),
+            Call::Compress(false),
+        ],
+    )?;
+    let want = [
+        ("inserted", (1, 2)),
+        ("inserted", (2, 2)),
+        ("inserted", (3, 2)),
+        ("inserted", (4, 2)),
+        ("gone", (0, 10)),
+        ("counted", NONE),
+    ];
+    let mut arena: Chains = ChainArena::new(rt.alloc());
+    replies(&rt, rt.alloc(), &mut arena, calls, &want)?;
+    let together = [
+        ((1, 4), 20, (1, 4), (1, 4)),
+        ((2, 4), 30, NONE, (3, 4)),
+        ((3, 4), 40, (2, 4), NONE),
+    ];
+    shows(&rt, rt.alloc(), "together", &arena, &together)
 }
 
 // Calls at the greatest generation, each of which tells that the counter overflows.
@@ -240,7 +276,13 @@ fn every_call_that_overflows(rt: HostRuntime) -> Result<(), Fail> {
             Call::RemoveInx(index(&rt, 1)),
             alone(70),
             Call::SetGeneration(greatest),
+            Call::Compress(true),
+            Call::SetGeneration(greatest),
+            Call::Compress(false),
+            Call::SetGeneration(greatest),
             Call::Clear,
+            Call::SetGeneration(greatest),
+            Call::Compress(false),
             Call::Clear,
         ],
     )?;
@@ -258,7 +300,13 @@ fn every_call_that_overflows(rt: HostRuntime) -> Result<(), Fail> {
         ("gone, overflow", (u32::MAX, 60)),
         ("inserted", (1, 2)),
         ("set", NONE),
+        ("counted", NONE),
+        ("set", NONE),
         ("overflow", NONE),
+        ("set", NONE),
+        ("overflow", NONE),
+        ("set", NONE),
+        ("counted", NONE),
         ("counted", NONE),
     ];
     let mut arena: Chains = ChainArena::new(rt.alloc());

@@ -1,5 +1,5 @@
 // Pointer types of the tests.
-use arena_ptr::{Gen8, Inx8, Ptr};
+use arena_ptr::{Gen8, Gen32, Inx8, Inx64, Ptr};
 
 // A pointer of 8 bits of index and 8 bits of generation.
 #[derive(Clone, Copy, Debug, PartialEq, Eq, PartialOrd, Ord, Hash)]
@@ -106,5 +106,69 @@ impl Ptr for BarePtr {
 
     fn _from_raw(inx: Inx8, _generation: ()) -> Self {
         BarePtr { inx }
+    }
+}
+
+// A pointer of 64 bits of index and 32 bits of generation.
+#[derive(Clone, Copy, Debug, PartialEq, Eq, PartialOrd, Ord, Hash)]
+pub(super) struct WidePtr {
+    inx: Inx64,
+    generation: Gen32,
+}
+
+impl Ptr for WidePtr {
+    ghost use Rattle.std.proofs.Common.{ap, rules};
+    ghost use Rattle.std.specs.Prelude.{◌≡◌, ℕ, ◌==◌, true};
+    ghost use Rattle.arena_ptr.specs.Indexes.{number_of_inx64, same_inx64, eq_is_same_inx64};
+    ghost use Rattle.arena_ptr.specs.Generations.{number_of_gen32, eq_is_same_gen32};
+    ghost use Rattle.arena_ptr.specs.declared.generation.gen32.Gen32.{Gen32};
+
+    type Inx = Inx64;
+
+    type Gen = Gen32;
+
+    ghost key = { λ p. (number_of_inx64 p.inx, p.generation) };
+
+    ghost index_within = { λ p. p.inx.in_range };
+
+    ghost same_key = { λ p q e.
+        let inx : p.inx ≡ q.inx = same_inx64 p.inx q.inx (ap (λ (k : ℕ × Gen32). k.0) e) in
+        let generation : p.generation ≡ q.generation = ap (λ (k : ℕ × Gen32). k.1) e in
+        λ i. record { inx = inx i; generation = generation i } };
+
+    ghost eq_is_same = { λ p q. (
+      λ t.
+          let first : (number_of_inx64 p.inx == number_of_inx64 q.inx) ≡ true = Prim.search rules in
+          let second : (number_of_gen32 p.generation == number_of_gen32 q.generation) ≡ true = Prim.search rules in
+          let inx : p.inx ≡ q.inx = (eq_is_same_inx64 p.inx q.inx).0 first in
+          let generation : p.generation ≡ q.generation = (eq_is_same_gen32 p.generation q.generation).0 second in
+          λ i. record { inx = inx i; generation = generation i },
+      λ e.
+          let first : (number_of_inx64 p.inx == number_of_inx64 q.inx) ≡ true = (eq_is_same_inx64 p.inx q.inx).1 (ap (λ (r : _). r.inx) e) in
+          let second : (number_of_gen32 p.generation == number_of_gen32 q.generation) ≡ true = (eq_is_same_gen32 p.generation q.generation).1 (ap (λ (r : _). r.generation) e) in
+          Prim.search rules,
+    ) };
+
+    fn name() -> &'static str {
+        "Wide"
+    }
+
+    fn invalid() -> Self {
+        WidePtr {
+            inx: Inx64::new(1).unwrap(),
+            generation: Gen32::new(1).unwrap(),
+        }
+    }
+
+    fn inx(self) -> Inx64 {
+        self.inx
+    }
+
+    fn generation(self) -> Gen32 {
+        self.generation
+    }
+
+    fn _from_raw(inx: Inx64, generation: Gen32) -> Self {
+        WidePtr { inx, generation }
     }
 }

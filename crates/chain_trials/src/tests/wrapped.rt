@@ -103,6 +103,8 @@ impl<P: Ptr, T: Drop, A: ArenaTrait<P, T>> ArenaTrait<P, T> for Wrapped<A> {
 
     ghost clears = { λ v w. A.clears v.inner w.inner };
 
+    ghost compresses = { λ v w. A.compresses v.inner w.inner };
+
     ghost rises = { λ w. A.rises w.inner };
 
     ghost looked_up = { λ w. A.looked_up w.inner };
@@ -204,6 +206,14 @@ impl<P: Ptr, T: Drop, A: ArenaTrait<P, T>> ArenaTrait<P, T> for Wrapped<A> {
     fn clear(&mut self) -> InvalidationOption<()> {
         self.inner.clear()
     }
+
+    fn compress_with<F: FnMut(P, &mut T, P) + Drop>(
+        &mut self,
+        reset: bool,
+        map: F,
+    ) -> InvalidationOption<()> {
+        self.inner.compress_with(reset, map)
+    }
 }
 
 impl<P: Ptr, T: Drop, A: CompactArenaTrait<P, T>> CompactArenaTrait<P, T> for Wrapped<A> {}
@@ -233,6 +243,8 @@ impl<P: Ptr, T: Drop, A: ChainArenaTrait<P, T>> ChainArenaTrait<P, T> for Wrappe
     ghost renewed = { λ v w i renews. A.renewed v.inner w.inner i renews };
 
     ghost passed_over = { λ v w i removes. A.passed_over v.inner w.inner i removes };
+
+    ghost compressed = { λ v w compresses. A.compressed v.inner w.inner compresses };
 
     fn can_insert(&self, kind: LinkInsertKind<P>) -> bool
         ensures { IsTrue result ↔ MayInsert (A.entry self.now.inner) (A.interlinks self.now.inner) (names_in P.key P.Inx.number kind) }

@@ -3,7 +3,7 @@ use Rattle.std.proofs.Common.{refl, ap}
 use Rattle.chain_arena.specs.declared.calls.Reply.TheVariants as reply
 use Rattle.chain_arena.specs.ChainArena.{values_of}
 use Rattle.chain_arena.proofs.Lending.{valid_or_not}
-use Rattle.chain_arena.proofs.Stepping.{joins, breaks_prev, breaks_next, exchanges, removes_link, removes_inx, renews_link, clears_all}
+use Rattle.chain_arena.proofs.Stepping.{joins, breaks_prev, breaks_next, exchanges, removes_link, removes_inx, renews_link, clears_all, compresses}
 use Rattle.chain_arena.proofs.calls.apply.Goals as goal
 
 pub returns-in-Insert : goal.returns-in-Insert
@@ -88,3 +88,13 @@ returns-in-Clear g c =
 
 pub returns-in-Reserve : goal.returns-in-Reserve
 returns-in-Reserve g c = rw c.in-Reserve.is (record { step = (c.reserve.result, refl, c.reserve.ensures) })
+
+pub returns-in-Compress : goal.returns-in-Compress
+returns-in-Compress g c =
+    let made = c.compress.ensures in
+    rw c.in-Compress.is (record {
+      step = (
+        ap (λ r. reply.Counted r) (compresses g.P.Gen.PtrGen.wraps c.args.arena.now c.in-Compress.reset c.compress.result made.overflow),
+        record { seen = made.compressed; values = made.values; links = made.more },
+      );
+    })

@@ -1,0 +1,243 @@
+-- A compression is determined but for how many slots it touched, and no step looks at how many were touched before it.
+use Rattle.std.proofs.Common.{◌≡◌, ℕ, suc, ◌+◌, Bool, true, false, List, [], ◌∷◌, length, map, Option, None, Some, Result, Ok, Err, refl, sym, ap, ap₂, ◌∙◌, subst, arith}
+use Rattle.std.specs.Prelude.{All}
+use Rattle.std.specs.Option.{option_map}
+use Rattle.std.proofs.lemmas.List.{ext_get_or}
+use Rattle.std.proofs.lemmas.List.Elements.{All-head, All-tail}
+use Rattle.arena_ptr.specs.declared.errors.ChainInsertionError.{ChainInsertionError}
+use Rattle.arena_ptr.specs.declared.errors.ChainInsertionError.TheVariants as failed
+use Rattle.arena_ptr.specs.declared.errors.ReallocationError.{ReallocationError}
+use Rattle.arena_ptr.specs.declared.invalidation.InvalidationResult.{InvalidationResult}
+use Rattle.arena_ptr.specs.declared.invalidation.InvalidationResult.TheVariants.{Success, GenerationOverflow, InvalidPtr}
+use Rattle.arena_ptr.specs.declared.packed_option.PackedOption.{PackedOption}
+use Rattle.chain_laws.specs.Chains.{Shown}
+use Rattle.chain_laws.proofs.Carrying.{renaming_is_determined}
+use Rattle.arena_base.specs.Arena.{entry_at}
+use Rattle.arena_base.specs.Compressing.{values_in}
+use Rattle.arena_base.specs.Entries.{Slots, entries, index_of, found}
+use Rattle.arena_base.specs.EntryLaws.{found-entries}
+use Rattle.chain_arena.specs.ChainArena.{shown, seen, entry, value_in, values_of, link_of, remove_link, IsJoin, IsCut, IsExchange, IsRemoval}
+use Rattle.chain_arena.specs.Drains.{without_each}
+use Rattle.chain_arena.specs.Steps.{Links, HasRoomFor, stays, grown, Connects, BreaksPrev, BreaksNext, Exchanges, Reserves, DrainsChain, IsCompression, AreSameButTouched, Tells, InsertsGrowing, InsertsWithin, Step, Run}
+use Rattle.chain_arena.specs.declared.calls.Call.{Call}
+use Rattle.chain_arena.specs.declared.calls.Call.TheVariants as call
+use Rattle.chain_arena.specs.declared.calls.Reply.{Reply}
+use Rattle.chain_arena.specs.declared.kinds.InsertKindBody.{InsertKindBody}
+use Rattle.chain_arena.proofs.Draining.{link_at-entry}
+use Rattle.chain_arena.proofs.Mapping.{length-with_each}
+
+-- the slots that are told
+abbrev slots_or : Slots → Option Slots → Slots
+slots_or slots None = slots
+slots_or slots (Some told) = told
+
+module _ {Gen T : Type 0} where
+  abbrev HasGeneration : Gen → (ℕ × Gen) × T → Type 0
+  HasGeneration g e = e.0.1 ≡ g
+
+  -- entries are determined by their indexes, their values and their one generation
+  same_entries : (g : Gen) (es fs : List ((ℕ × Gen) × T)) → map index_of es ≡ map index_of fs → values_in es ≡ values_in fs → All (HasGeneration g) es → All (HasGeneration g) fs → es ≡ fs
+  same_entries g [] [] indexes values left right = refl
+  same_entries g [] (f ∷ fs) indexes values left right = absurd (let h = indexes in cc)
+  same_entries g (e ∷ es) [] indexes values left right = absurd (let h = indexes in cc)
+  same_entries g (e ∷ es) (f ∷ fs) indexes values left right =
+      let i : e.0.0 ∷ map index_of es ≡ f.0.0 ∷ map index_of fs = indexes in
+      let v : e.1 ∷ values_in es ≡ f.1 ∷ values_in fs = values in
+      let index : e.0.0 ≡ f.0.0 = cc in
+      let value : e.1 ≡ f.1 = cc in
+      let key : e.0 ≡ f.0 = ap₂ (λ (n : ℕ) (h : Gen). (n, h)) index (All-head (HasGeneration g) e es left ∙ sym (All-head (HasGeneration g) f fs right)) in
+      let one : e ≡ f = ap₂ (λ (k : ℕ × Gen) (t : T). (k, t)) key value in
+      ap₂ (λ (x : (ℕ × Gen) × T) (xs : List ((ℕ × Gen) × T)). x ∷ xs) one (same_entries g es fs (cc) (cc) (All-tail (HasGeneration g) e es left) (All-tail (HasGeneration g) f fs right))
+
+  module _ (first : Gen) (following : Gen → Gen) (reset : Bool) (old : Links Gen T) where
+    abbrev Compressed : Links Gen T → Type 0
+    Compressed new = IsCompression first following reset old new
+
+    -- what a compression leaves of slots
+    slots_left : (new : Links Gen T) → Compressed new → (length new.slots ≡ length (seen old).entries) × (new.freed ≡ []) × (new.placed ≡ old.placed + length (seen old).entries)
+    slots_left new is =
+        let left : Slots = record { count = length (values_of new).slots; freed = new.freed; placed = new.placed; touched = new.touched } in
+        let told = is.seen.slots.2 in (
+          sym (length-with_each value_in new) ∙ ap (λ (o : Option Slots). (slots_or left o).count) told,
+          ap (λ (o : Option Slots). (slots_or left o).freed) told,
+          ap (λ (o : Option Slots). (slots_or left o).placed) told,
+        )
+
+    module _ (a b : Links Gen T) (one : Compressed a) (two : Compressed b) where
+      same_counter : a.counter ≡ b.counter
+      same_counter = let both : Some a.counter ≡ Some b.counter = one.seen.counter ∙ sym two.seen.counter in cc
+
+      same_links : entries (values_of a) ≡ entries (values_of b)
+      same_links = same_entries b.counter (entries (values_of a)) (entries (values_of b)) (one.seen.indexes ∙ sym two.seen.indexes) (one.values ∙ sym two.values)
+          (subst (λ (g : Gen). All (HasGeneration g) (entries (values_of a))) same_counter one.seen.generations) two.seen.generations
+
+      same_entry_at : (i : ℕ) → entry_at a i ≡ entry_at b i
+      same_entry_at i =
+          let values : entry a i ≡ entry b i = sym (found-entries (values_of a) i) ∙ (ap (found i) same_links ∙ found-entries (values_of b) i) in
+          let interlinks : shown a ≡ shown b = renaming_is_determined _ (shown old) (shown a) (shown b) one.links.renamed two.links.renamed in
+          sym (link_at-entry a i) ∙ (ap₂ link_of values (ap (λ (s : Shown). s i) interlinks) ∙ link_at-entry b i)
+
+      -- a compression is determined but for touches
+      pub compression_same : AreSameButTouched a b
+      compression_same =
+          let left = slots_left a one in
+          let right = slots_left b two in
+          let slots = ext_get_or None a.slots b.slots (left.0 ∙ sym right.0) (λ k inside. same_entry_at (suc k)) in
+          let counter = same_counter in
+          let freed = left.1 ∙ sym right.1 in
+          let capacity = one.seen.capacity ∙ sym two.seen.capacity in
+          let stack_capacity = one.links.stack_capacity ∙ sym two.links.stack_capacity in
+          let maximum = one.seen.maximum ∙ sym two.seen.maximum in
+          let placed = left.2 ∙ sym right.2 in
+          (λ i. record {
+            slots = slots i;
+            counter = counter i;
+            freed = freed i;
+            capacity = capacity i;
+            stack_capacity = stack_capacity i;
+            maximum = maximum i;
+            placed = placed i;
+            touched = a.touched;
+          })
+
+-- what is told of an answer tells what follows from it
+tells_so : {X : Type 0} {No Not : Type 0} (Done Made : X → Type 0) (overflow : Bool) (r : InvalidationResult X) → (No → Not) → ((x : X) → Done x → Made x) → Tells No overflow Done r → Tells Not overflow Made r
+tells_so Done Made overflow (Success x) not_made made told = (told.0, made x told.1)
+tells_so Done Made overflow (GenerationOverflow x) not_made made told = (told.0, made x told.1)
+tells_so Done Made overflow InvalidPtr not_made made told = not_made told
+
+-- each step is one too where so many slots were touched before it and after it
+module _ (n : ℕ) where
+  abbrev pub touch : {Gen T : Type 0} → Links Gen T → Links Gen T
+  touch a = record a { touched = n }
+
+  module _ {Gen T : Type 0} (old new : Links Gen T) where
+    join_touched : (i j : ℕ) → IsJoin old new i j → IsJoin (touch old) (touch new) i j
+    join_touched i j made = record { state = ap touch made.state; shows = made.shows; pair = made.pair; chains = made.chains }
+
+    cut_touched : (i j : ℕ) → IsCut old new i j → IsCut (touch old) (touch new) i j
+    cut_touched i j made = record { state = ap touch made.state; shows = made.shows; pair = made.pair; chains = made.chains }
+
+    exchange_touched : (i j : ℕ) → IsExchange old new i j → IsExchange (touch old) (touch new) i j
+    exchange_touched i j made = record { state = ap touch made.state; shows = made.shows; pairs = made.pairs; chains = made.chains }
+
+    removal_touched : (following : Gen → Gen) (i : ℕ) → IsRemoval following old i new → IsRemoval following (touch old) i (touch new)
+    removal_touched following i made = record { state = ap touch made.state; shows = made.shows; chains = made.chains; pairs = made.pairs }
+
+    connects_touched : (p q : ℕ × Gen) (r : Bool) → Connects old p q r new → Connects (touch old) p q r (touch new)
+    connects_touched p q false step = (step.0, ap touch step.1)
+    connects_touched p q true step = (step.0, join_touched p.0 q.0 step.1)
+
+    breaks_prev_touched : (p : ℕ × Gen) (r : Bool) → BreaksPrev old p r new → BreaksPrev (touch old) p r (touch new)
+    breaks_prev_touched p false step = (step.0, ap touch step.1)
+    breaks_prev_touched p true step = (step.0, step.1, step.2, cut_touched step.1 p.0 step.3)
+
+    breaks_next_touched : (p : ℕ × Gen) (r : Bool) → BreaksNext old p r new → BreaksNext (touch old) p r (touch new)
+    breaks_next_touched p false step = (step.0, ap touch step.1)
+    breaks_next_touched p true step = (step.0, step.1, step.2, cut_touched p.0 step.1 step.3)
+
+    exchanges_touched : (p q : ℕ × Gen) (r : Bool) → Exchanges old p q r new → Exchanges (touch old) p q r (touch new)
+    exchanges_touched p q false step = (step.0, ap touch step.1)
+    exchanges_touched p q true step = (step.0, exchange_touched p.0 q.0 step.1)
+
+    room_touched : (greatest m : ℕ) → HasRoomFor greatest m old new → HasRoomFor greatest m (touch old) (touch new)
+    room_touched greatest m (stays within capacity stack_capacity) = stays within capacity stack_capacity
+    room_touched greatest m (grown less room) = grown less room
+
+    reserves_touched : (greatest m : ℕ) (r : Result Unit ReallocationError) → Reserves greatest old m r new → Reserves greatest (touch old) m r (touch new)
+    reserves_touched greatest m (Ok done) step = (ap touch step.0, room_touched greatest m step.1)
+    reserves_touched greatest m (Err why) step = (step.0, ap touch step.1)
+
+    compression_touched : (first : Gen) (following : Gen → Gen) (reset : Bool) → IsCompression first following reset old new → IsCompression first following reset (touch old) (touch new)
+    compression_touched first following reset made =
+        let count = length (seen old).entries in
+        let counted = (λ (m : ℕ). let o : Option Slots = Some (record { count = count; freed = []; placed = old.placed + count; touched = m }) in o) in
+        let none : n ≡ n + 0 = omega arith in
+        record {
+          seen = record {
+            indexes = made.seen.indexes;
+            counter = made.seen.counter;
+            generations = made.seen.generations;
+            slots = (0, omega arith, ap (option_map (λ (s : Slots). let t : Slots = record s { touched = n } in t)) made.seen.slots.2 ∙ ap counted none);
+            capacity = made.seen.capacity;
+            maximum = made.seen.maximum;
+          };
+          values = made.values;
+          links = record { renamed = made.links.renamed; stack_capacity = made.links.stack_capacity };
+        }
+
+  module _ {Gen T : Type 0} (following : Gen → Gen) where
+    without_each_touched : (old : Links Gen T) (walk : List ℕ) → touch (without_each following old walk) ≡ without_each following (touch old) walk
+    without_each_touched old [] = refl
+    without_each_touched old (i ∷ walk) = without_each_touched (remove_link following old i) walk
+
+    drains_touched : (old new : Links Gen T) (p : ℕ × Gen) (take : ℕ) (r : Option ℕ) → DrainsChain following old p take r new → DrainsChain following (touch old) p take r (touch new)
+    drains_touched old new p take None step = (step.0, ap touch step.1)
+    drains_touched old new p take (Some count) step = record {
+      valid = step.valid;
+      walk = step.walk;
+      is_walk = step.is_walk;
+      counted = step.counted;
+      state = ap touch step.state ∙ without_each_touched old step.walk;
+      chains = step.chains;
+    }
+
+  module _ {P I Gen T : Type 0} (key : P → ℕ × Gen) (number : I → ℕ) (old new : Links Gen T) (kind : InsertKindBody P I) (t : T) where
+    inserts_touched : (greatest : ℕ) (r : Result P ChainInsertionError) → InsertsGrowing key number greatest old kind t r new → InsertsGrowing key number greatest (touch old) kind t r (touch new)
+    inserts_touched greatest (Err failed.FailedLinkRequirement) step = (step.0, ap touch step.1)
+    inserts_touched greatest (Err failed.BeyondMaxCapacity) step = (step.0, step.1, ap touch step.2)
+    inserts_touched greatest (Err failed.AllocError) step = (step.0, step.1, ap touch step.2)
+    inserts_touched greatest (Err failed.NotWithinCapacity) step = step
+    inserts_touched greatest (Ok p) step = (
+      step.0,
+      record { pointer = step.1.pointer; state = ap touch step.1.state; pairs = step.1.pairs; chains = step.1.chains },
+      room_touched old new greatest _ step.2,
+    )
+
+    inserts_within_touched : (r : Result P ChainInsertionError) → InsertsWithin key number old kind t r new → InsertsWithin key number (touch old) kind t r (touch new)
+    inserts_within_touched (Err failed.FailedLinkRequirement) step = (step.0, ap touch step.1)
+    inserts_within_touched (Err failed.NotWithinCapacity) step = (step.0, step.1, ap touch step.2)
+    inserts_within_touched (Err failed.BeyondMaxCapacity) step = step
+    inserts_within_touched (Err failed.AllocError) step = step
+    inserts_within_touched (Ok p) step = (
+      step.0,
+      step.1,
+      record { pointer = step.2.pointer; state = ap touch step.2.state; pairs = step.2.pairs; chains = step.2.chains },
+      ap touch step.3,
+    )
+
+  module _ {P T I Gen W : Type 0} (key : P → ℕ × Gen) (number : I → ℕ) (packed : PackedOption I W → Option ℕ) (greatest : ℕ) (first : Gen) (following : Gen → Gen) (wraps : Gen → Bool) where
+    step_touched : (old new : Links Gen T) (c : Call P T I Gen W) (r : Reply P T I Gen W) → Step key number packed greatest first following wraps old c r new
+        → Step key number packed greatest first following wraps (touch old) c r (touch new)
+    step_touched old new (call.Insert kind t) r step = (step.0, step.1, inserts_touched key number old new kind t greatest step.0 step.2)
+    step_touched old new (call.InsertWithin kind t) r step = (step.0, step.1, inserts_within_touched key number old new kind t step.0 step.2)
+    step_touched old new (call.Connect p q) r step = (step.0, step.1, connects_touched old new (key p) (key q) step.0 step.2)
+    step_touched old new (call.BreakPrev p) r step = (step.0, step.1, breaks_prev_touched old new (key p) step.0 step.2)
+    step_touched old new (call.BreakNext p) r step = (step.0, step.1, breaks_next_touched old new (key p) step.0 step.2)
+    step_touched old new (call.ExchangeNext p q) r step = (step.0, step.1, exchanges_touched old new (key p) (key q) step.0 step.2)
+    step_touched old new (call.Remove p) r step = (
+      step.0,
+      step.1,
+      tells_so _ _ (wraps old.counter) step.0 (λ no. (no.0, ap touch no.1))
+          (λ link taken. record { stood = taken.stood; removal = removal_touched old new following (key p).0 taken.removal }) step.2,
+    )
+    step_touched old new (call.RemoveInx i) r step = (
+      step.0,
+      step.1,
+      tells_so _ _ (wraps old.counter) step.0 (λ no. (no.0, ap touch no.1))
+          (λ e taken. record { stood = taken.stood; removal = removal_touched old new following (number i) taken.removal }) step.2,
+    )
+    step_touched old new (call.Invalidate p) r step = (step.0, step.1, tells_so _ _ (wraps old.counter) step.0 (λ no. (no.0, ap touch no.1)) (λ q made. (made.0, made.1, ap touch made.2, made.3)) step.2)
+    step_touched old new (call.DrainChain p take) r step = (step.0, step.1, drains_touched following old new (key p) take step.0 step.2)
+    step_touched old new call.Clear r step = (step.0, ap touch step.1)
+    step_touched old new (call.Compress reset) r step = (step.0, compression_touched old new first following reset step.1)
+    step_touched old new (call.Reserve m) r step = (step.0, step.1, reserves_touched old new greatest m step.0 step.2)
+    step_touched old new (call.SetGeneration g) r step = (step.0, ap touch step.1)
+    step_touched old new call.IncGeneration r step = (step.0, ap touch step.1)
+
+    pub run_touched : (old new : Links Gen T) (calls : List (Call P T I Gen W)) (replies : List (Reply P T I Gen W)) → Run key number packed greatest first following wraps old calls replies new
+        → Run key number packed greatest first following wraps (touch old) calls replies (touch new)
+    run_touched old new [] [] run = ap touch run
+    run_touched old new [] (r ∷ replies) run = run
+    run_touched old new (c ∷ calls) [] run = run
+    run_touched old new (c ∷ calls) (r ∷ replies) run = (touch run.0, step_touched old run.0 c r run.1, run_touched run.0 new calls replies run.2)

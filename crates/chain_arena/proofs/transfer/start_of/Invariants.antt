@@ -1,0 +1,10 @@
+-- So many steps back.
+use Rattle.std.specs.Prelude.{IsSome}
+use Rattle.chain_laws.specs.Starts.{IsBack}
+use Rattle.chain_arena.proofs.transfer.start_of.Given as goal
+
+abbrev pub invariant-loop-step : goal.invariant-loop-step
+invariant-loop-step g l = record {
+  back : IsBack (g.A.ChainArenaTrait.interlinks l.source) (g.Q.Inx.PtrInx.number l.i) l.step (g.Q.Inx.PtrInx.number l.at);
+  some : IsSome (g.A.ArenaTrait.entry l.source (g.Q.Inx.PtrInx.number l.at));
+}

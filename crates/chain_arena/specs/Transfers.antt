@@ -1,0 +1,82 @@
+-- A transfer: the links of another arena come, in the least-index order of its chains, to the indexes from 1 on.
+use Rattle.std.specs.Prelude.{◌≡◌, ℕ, zero, suc, ◌+◌, ◌≤◌, Bool, is_some, List, [], ◌∷◌, map, length, All, Option, None, Some, IsSome, IfSome}
+use Rattle.std.specs.Fn.{Mut, Called}
+use Rattle.std.specs.List.{FoldsTo, range_with_len}
+use Rattle.arena_ptr.specs.Invalidation.{value_in, is_overflow}
+use Rattle.arena_ptr.specs.declared.invalidation.InvalidationOption.{InvalidationOption}
+use Rattle.chain_laws.specs.Chains.{Shown, prev_of}
+use Rattle.chain_laws.specs.Starts.{IsStart}
+use Rattle.chain_laws.specs.Renamings.{IsRenaming}
+use Rattle.chain_laws.specs.Arrangements.{place_in, IsLeastIndexOrder}
+use Rattle.arena_base.specs.Arena.{Arena}
+use Rattle.arena_base.specs.Entries.{Seen, entries, found, removed}
+use Rattle.arena_base.specs.declared.look.Look.{Look}
+use Rattle.arena_base.specs.declared.look.Look.TheVariants.{Up}
+use Rattle.chain_arena.specs.ChainArena.{LinkSeen, shown, values_of}
+
+-- a link that was carried over: the pointer that it had, its value with whether its removal overflowed the counter, the
+-- pointer that it has, and the value that the closure answered for it
+pub record Carried (Q P U T : Type 0) : Type 0 where
+  pub from : Q
+  pub value : InvalidationOption U
+  pub to : P
+  pub answer : T
+
+-- whether each of so many removals, one after another, overflows the counter
+abbrev pub overflows : {Gen : Type 0} → (Gen → Gen) → (Gen → Bool) → ℕ → Gen → List Bool
+overflows following wraps zero g = []
+overflows following wraps (suc n) g = wraps g ∷ overflows following wraps n (following g)
+
+-- what is seen after the removal of the entries at these indexes, one after another
+abbrev pub removed_each : {Gen T : Type 0} → (Gen → Gen) → Seen Gen T → List ℕ → Seen Gen T
+removed_each following s [] = s
+removed_each following s (i ∷ rest) = removed_each following (removed following s i) rest
+
+-- the index that a link had
+abbrev pub old_index : {Q P G U T : Type 0} → (Q → ℕ × G) → Carried Q P U T → ℕ
+old_index key c = (key c.from).0
+
+module _ {Q P G Gen U T F : Type 0} (key : Q → ℕ × G) (new_key : P → ℕ × Gen) (following : G → G) (wraps : G → Bool) (call : Mut F (Q × (InvalidationOption U × (P × Unit {0}))) T) where
+  -- all links of a source, seen as it was and with the interlinks that it showed, came to another arena
+  pub record IsTransfer (generation : Gen) (f : F) (source : Seen G U) (interlinks : Shown) (source_after : Seen G U) (old new : Arena Gen (LinkSeen T)) : Type 0 where
+    -- the links in the order in which they came: the chains by their least index, each linear one from its start, each
+    -- cyclic one from its least index ..
+    pub carried : List (Carried Q P U T)
+    pub order : IsLeastIndexOrder interlinks (map (old_index key) carried)
+    -- .. to the indexes from 1 on, with the generation, where each names the new indexes of its neighbors
+    pub keys : map (λ c. new_key c.to) carried ≡ map (λ k. (k, generation)) (range_with_len 1 (length carried))
+    pub renamed : IsRenaming (place_in (map (old_index key) carried)) interlinks (shown new)
+    -- the closure was called once for each, in that order, with its pointer, its value and the overflow of its removal
+    pub last : F
+    pub in_turn : FoldsTo (λ s c t. Called call s (c.from, (c.value, (c.to, tt))) c.answer t) f carried last
+    pub stood : All (λ c. found (old_index key c) source.entries ≡ Some ((key c.from).1, value_in c.value)) carried
+    pub overflow : IfSome source.counter (λ g. map (λ c. is_overflow c.value) carried ≡ overflows following wraps (length carried) g)
+    -- its answers are the values; the slots are exactly the links, none is freed, and but for room nothing else has changed
+    pub values : entries (values_of new) ≡ map (λ c. (new_key c.to, c.answer)) carried
+    pub slots : length new.slots ≡ length carried
+    pub state : new ≡ record old {
+      slots = new.slots;
+      counter = generation;
+      freed = [];
+      capacity = new.capacity;
+      stack_capacity = new.stack_capacity;
+      placed = old.placed + length carried;
+    }
+    -- the source is empty: each of its links was removed, in that order
+    pub removals : source_after ≡ removed_each following source (map (old_index key) carried)
+    pub empty : source_after.entries ≡ []
+
+-- the first and the last index of a chain that lies in the so many indexes before q; none where it lies in none
+abbrev pub AreEnds : {I : Type 0} → (I → ℕ) → Option (I × I) → ℕ → ℕ → Type 0
+AreEnds number None m q = m ≡ 0
+AreEnds number (Some ends) m q = (1 ≤ m) × (number ends.0 + m ≡ q) × (number ends.1 + 1 ≡ q)
+
+-- the chain of the link of least index is found, where the links are seen and show these interlinks: the link that it is
+-- written from, and whether it is cyclic; an advancer that looked from an index on looks behind that link
+pub record IsNextChain {Gen T : Type 0} (source : Seen Gen T) (interlinks : Shown) (here : ℕ) (ring : Bool) (after : Look) : Type 0 where
+  pub least : ℕ
+  pub stands : IsSome (found least source.entries)
+  pub none_below : (j : ℕ) → IsSome (found j source.entries) → least ≤ j
+  pub start : IsStart interlinks least here
+  pub cyclic : ring ≡ is_some (prev_of interlinks here)
+  pub looks : after ≡ Up (least + 1)

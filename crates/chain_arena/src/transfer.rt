@@ -1,0 +1,349 @@
+// The transfer of all links of another arena, chain by chain.
+ghost use Rattle.std.specs.Prelude.{◌≡◌, ◌≢◌, ◌↔◌, ◌≤◌, ◌<◌, ◌+◌, ℕ, [], IsSome, IfSome, IfNone, IsOk, OnOk, OnErr, Err, None, Some};
+ghost use Rattle.std.specs.Option.{option_map};
+ghost use Rattle.arena_ptr.specs.SlotStack.{IsBeyond};
+ghost use Rattle.arena_ptr.specs.Invalidation.{value_in, is_overflow};
+ghost use Rattle.chain_laws.specs.Chains.{Agrees, prev_of, next_of};
+ghost use Rattle.chain_laws.specs.Insertions.{IsGap};
+ghost use Rattle.chain_laws.specs.Removals.{removed as passed_over};
+ghost use Rattle.chain_laws.specs.Walks.{going_on};
+ghost use Rattle.chain_laws.specs.Starts.{IsStart};
+ghost use Rattle.chain_laws.specs.Relays.{end_before, end_after};
+ghost use Rattle.arena_base.specs.Arena.{HasRoom, IsListed, with_capacity_of, entry_count, next_index};
+ghost use Rattle.arena_base.specs.Entries.{count, removed, RisesFrom};
+ghost use Rattle.arena_base.specs.declared.look.Look.{Look};
+ghost use Rattle.chain_arena.specs.ChainArena.{shown, insert_between};
+ghost use Rattle.chain_arena.specs.Kinds.{before_in, after_in};
+ghost use Rattle.chain_arena.specs.Transfers.{IsTransfer, IsNextChain, AreEnds};
+
+use crate::chain_arena::ChainArena;
+use crate::chain_drains::drained;
+use crate::chain_iterators::going_on as onward;
+use crate::chain_traits::ChainArenaTrait;
+use crate::gaps::Gap;
+use crate::links::LinkNoGen;
+use arena_base::{Advancer, ArenaSlot, ArenaTrait, CompactArenaTrait};
+use arena_ptr::{InvalidationOption, Ptr, PtrInx, ReallocationError, SlotStack};
+
+impl<P: Ptr, T: Drop, S: SlotStack<Item = ArenaSlot<P, LinkNoGen<P, T>>>> ChainArena<P, T, S> {
+    /// Takes all links out of a source, lays its chains one after another from index 1 on, and leaves nothing else here.
+    ///
+    /// The chains are taken in the order of their least indexes, a linear one from its start, a cyclic one from its least
+    /// index; the k-th link comes to index k, with the generation `new_generation`, which is the counter then. The
+    /// closure sees each link once, in that order: the pointer that it had, its value, where it is told whether its
+    /// removal overflowed the counter of the source, and the pointer that it has; its answer is the value. Where the
+    /// source has as many links as the capacity or fewer, no memory is taken. It takes time in proportion to the slots
+    /// of the source.
+    ///
+    /// `AllocError`: the source has more links than the greatest index, which is tested first, or memory was refused,
+    /// which comes last. `BeyondMaxCapacity`: it has more links than the maximum. After either nothing has changed in
+    /// either arena, and the closure was not called.
+    ///
+    /// Carries `transfer_canonical_reallocating` of `triple_arena`.
+    pub fn transfer_canonical_reallocating<
+        Q: Ptr,
+        U: Drop,
+        A: ChainArenaTrait<Q, U> + CompactArenaTrait<Q, U>,
+        F: FnMut(Q, InvalidationOption<U>, P) -> T + Drop,
+    >(&mut self, new_generation: P::Gen, source: &mut A, map: F) -> Result<(), ReallocationError>
+        requires { F.IsAlwaysCallable map }
+        ensures transferred { OnOk result (IsTransfer Q.key P.key Q.Gen.following Q.Gen.wraps F.FnMut new_generation map (A.seen source.old) (A.interlinks source.old) (A.seen source.new) self.old self.new) }
+        ensures room { OnOk result (HasRoom P.Inx.greatest (count (A.seen source.old)) self.new) }
+        ensures within { count (A.seen source.old) ≤ self.old.capacity → IsOk result × (self.new.capacity ≡ self.old.capacity) × (self.new.stack_capacity ≡ self.old.stack_capacity) }
+        ensures greatest { P.Inx.greatest < count (A.seen source.old) → result ≡ Err ReallocationError.AllocError }
+        ensures beyond { (result ≡ Err ReallocationError.BeyondMaxCapacity) ↔ ((count (A.seen source.old) ≤ P.Inx.greatest) × IsBeyond self.old.maximum (count (A.seen source.old))) }
+        ensures err { OnErr result ((self.new ≡ self.old) × (source.new ≡ source.old)) }
+    {
+        self.make_room_for(source.len())?;
+        self.clear();
+        self.set_generation(new_generation);
+        carry_all(self, source, map);
+        Ok(())
+    }
+
+    // Grows to room for so many links, where there is less. The greatest index is tested before the maximum.
+    fn make_room_for(&mut self, n: usize) -> Result<(), ReallocationError>
+        ensures within { n ≤ self.old.capacity → IsOk result × (self.new ≡ self.old) }
+        ensures greatest { P.Inx.greatest < n → result ≡ Err ReallocationError.AllocError }
+        ensures beyond { (result ≡ Err ReallocationError.BeyondMaxCapacity) ↔ ((n ≤ P.Inx.greatest) × IsBeyond self.old.maximum n) }
+        ensures err { OnErr result (self.new ≡ self.old) }
+        ensures room { OnOk result (HasRoom P.Inx.greatest n self.new) }
+        ensures after { self.new ≡ with_capacity_of self.old self.new }
+    {
+        if n <= self.capacity() {
+            // The room is as in every arena.
+            self.len();
+            return Ok(());
+        }
+        if n > P::Inx::greatest() {
+            return Err(ReallocationError::AllocError);
+        }
+        let grown = self.reallocate_min_capacity(n);
+        self.len();
+        grown
+    }
+}
+
+// Takes all links out of a source, which has no more than there is room for, and lays its chains one after another.
+fn carry_all<
+    P: Ptr,
+    T: Drop,
+    S: SlotStack<Item = ArenaSlot<P, LinkNoGen<P, T>>>,
+    Q: Ptr,
+    U: Drop,
+    A: ChainArenaTrait<Q, U> + CompactArenaTrait<Q, U>,
+    F: FnMut(Q, InvalidationOption<U>, P) -> T + Drop,
+>(target: &mut ChainArena<P, T, S>, source: &mut A, mut map: F)
+    requires callable { F.IsAlwaysCallable map }
+    requires slots { target.old.slots ≡ [] }
+    requires freed { target.old.freed ≡ [] }
+    requires room { count (A.seen source.old) ≤ target.old.capacity }
+    requires greatest { target.old.capacity ≤ P.Inx.greatest }
+    ensures transferred { IsTransfer Q.key P.key Q.Gen.following Q.Gen.wraps F.FnMut target.old.counter map (A.seen source.old) (A.interlinks source.old) (A.seen source.new) target.old target.new }
+    ensures capacity { target.new.capacity ≡ target.old.capacity }
+    ensures stack_capacity { target.new.stack_capacity ≡ target.old.stack_capacity }
+{
+    agree(source);
+    let generation = target.generation();
+    let mut advancer = source.advancer();
+    let mut on = None;
+    let mut ring = false;
+    let mut ends = None;
+    for k in 0..source.len() {
+        let (q, value, next, cyclic, laid) = take_next::<Q, U, A, P::Inx>(
+            source,
+            &mut advancer,
+            on,
+            ring,
+            ends,
+        );
+        let to = pointer_at::<P>(k + 1, generation);
+        let t = map(q, value, to);
+        ends = lay_behind(target, cyclic, laid, to, t);
+        ring = cyclic;
+        on = next;
+    }
+}
+
+// The interlinks of an arena of links agree. Of one without links no call but this tells it.
+fn agree<Q: Ptr, U: Drop, A: ChainArenaTrait<Q, U>>(source: &A)
+    ensures { Agrees (A.interlinks source.now) }
+{
+    if let Some(q) = source.find_first_inx_ptr() {
+        source.get_inx_link_no_gen(q.inx());
+    }
+}
+
+// The index of the link before the one at an index.
+fn before<Q: Ptr, U: Drop, A: ChainArenaTrait<Q, U>>(source: &A, i: Q::Inx) -> Option<Q::Inx>
+    ensures { option_map Q.Inx.number result ≡ prev_of (A.interlinks source.now) (Q.Inx.number i) }
+{
+    match source.get_inx_link_no_gen(i) {
+        Some((_, link)) => link.prev(),
+        None => None,
+    }
+}
+
+// The link that the chain of one is written from: the start of a linear one, and itself in a cyclic one.
+fn start_of<Q: Ptr, U: Drop, A: ChainArenaTrait<Q, U>>(source: &A, i: Q::Inx) -> Q::Inx
+    requires agree { Agrees (A.interlinks source.now) }
+    requires some { IsSome (A.entry source.now (Q.Inx.number i)) }
+    ensures start { IsStart (A.interlinks source.now) (Q.Inx.number i) (Q.Inx.number result) }
+    ensures some { IsSome (A.entry source.now (Q.Inx.number result)) }
+{
+    let mut at = i;
+    for step in 0..source.len() {
+        match before(source, at) {
+            Some(k) => {
+                if k == i {
+                    return i;
+                }
+                at = k;
+            }
+            None => return at,
+        }
+    }
+    unreachable!()
+}
+
+// The next chain of a source: the link that it is written from, and whether it is cyclic.
+fn next_chain<Q: Ptr, U: Drop, A: ChainArenaTrait<Q, U>>(
+    source: &A,
+    advancer: &mut A::PtrAdvancer,
+) -> (Q::Inx, bool)
+    requires agree { Agrees (A.interlinks source.now) }
+    requires low { (from : ℕ) × (A.looks advancer.old ≡ Look.Up from) × RisesFrom from (A.seen source.now).entries }
+    requires some { (A.seen source.now).entries ≢ [] }
+    ensures next { IsNextChain (A.seen source.now) (A.interlinks source.now) (Q.Inx.number result.0) result.1 (A.looks advancer.new) }
+    ensures some { IsSome (A.entry source.now (Q.Inx.number result.0)) }
+{
+    match advancer.advance(source) {
+        Some(q) => {
+            let start = start_of(source, q.inx());
+            (start, before(source, start).is_some())
+        }
+        None => unreachable!(),
+    }
+}
+
+// The next link to take: the one that a chain goes on to, or else that which the next chain is written from; with whether
+// its chain is cyclic, and the ends of what is laid of it.
+fn next_link<Q: Ptr, U: Drop, A: ChainArenaTrait<Q, U>, I: Copy + Drop>(
+    source: &A,
+    advancer: &mut A::PtrAdvancer,
+    on: Option<Q::Inx>,
+    ring: bool,
+    ends: Option<(I, I)>,
+) -> (Q::Inx, bool, Option<(I, I)>)
+    requires agree { Agrees (A.interlinks source.now) }
+    requires low { on ≡ None → (from : ℕ) × (A.looks advancer.old ≡ Look.Up from) × RisesFrom from (A.seen source.now).entries }
+    requires some { on ≡ None → (A.seen source.now).entries ≢ [] }
+    requires stands { IfSome on (λ i. IsSome (A.entry source.now (Q.Inx.number i))) }
+    ensures goes_on { IfSome on (λ i. (result ≡ (i, ring, ends)) × (A.looks advancer.new ≡ A.looks advancer.old)) }
+    ensures begins { IfNone on (IsNextChain (A.seen source.now) (A.interlinks source.now) (Q.Inx.number result.0) result.1 (A.looks advancer.new) × (result.2 ≡ None)) }
+    ensures some { IsSome (A.entry source.now (Q.Inx.number result.0)) }
+{
+    match on {
+        Some(i) => (i, ring, ends),
+        None => {
+            let (start, ring) = next_chain(source, advancer);
+            (start, ring, None)
+        }
+    }
+}
+
+// Takes the next link out: the one that a chain goes on to, or else that which the next chain is written from. Answers its
+// pointer, its value, where it is told whether the counter overflowed, the index of the link after it, unless that is
+// itself, whether its chain is cyclic, and the ends of what is laid of it.
+fn take_next<Q: Ptr, U: Drop, A: ChainArenaTrait<Q, U>, I: Copy + Drop>(
+    source: &mut A,
+    advancer: &mut A::PtrAdvancer,
+    on: Option<Q::Inx>,
+    ring: bool,
+    ends: Option<(I, I)>,
+) -> (
+    Q,
+    InvalidationOption<U>,
+    Option<Q::Inx>,
+    bool,
+    Option<(I, I)>,
+)
+    requires agree { Agrees (A.interlinks source.old) }
+    requires low { on ≡ None → (from : ℕ) × (A.looks advancer.old ≡ Look.Up from) × RisesFrom from (A.seen source.old).entries }
+    requires some { on ≡ None → (A.seen source.old).entries ≢ [] }
+    requires stands { IfSome on (λ i. IsSome (A.entry source.old (Q.Inx.number i))) }
+    ensures goes_on { IfSome on (λ i. ((Q.key result.0).0 ≡ Q.Inx.number i) × (result.3 ≡ ring) × (result.4 ≡ ends) × (A.looks advancer.new ≡ A.looks advancer.old)) }
+    ensures begins { IfNone on (IsNextChain (A.seen source.old) (A.interlinks source.old) (Q.key result.0).0 result.3 (A.looks advancer.new) × (result.4 ≡ None)) }
+    ensures stood { A.entry source.old (Q.key result.0).0 ≡ Some ((Q.key result.0).1, value_in result.1) }
+    ensures overflow { IfSome (A.seen source.old).counter (λ g. is_overflow result.1 ≡ Q.Gen.wraps g) }
+    ensures next { option_map Q.Inx.number result.2 ≡ going_on (Q.key result.0).0 (next_of (A.interlinks source.old) (Q.key result.0).0) }
+    ensures seen { A.seen source.new ≡ removed Q.Gen.following (A.seen source.old) (Q.key result.0).0 }
+    ensures links { A.interlinks source.new ≡ passed_over (A.interlinks source.old) (Q.key result.0).0 }
+{
+    let (i, cyclic, laid) = next_link::<Q, U, A, I>(source, advancer, on, ring, ends);
+    let (q, value, next) = take_link(source, i);
+    (q, value, next, cyclic, laid)
+}
+
+// Takes the link at an index out, and answers its pointer, its value, where it is told whether the counter overflowed, and
+// the index of the link after it, unless that is itself.
+fn take_link<Q: Ptr, U: Drop, A: ChainArenaTrait<Q, U>>(
+    source: &mut A,
+    i: Q::Inx,
+) -> (Q, InvalidationOption<U>, Option<Q::Inx>)
+    requires { IsSome (A.entry source.old (Q.Inx.number i)) }
+    ensures stood { A.entry source.old (Q.Inx.number i) ≡ Some ((Q.key result.0).1, value_in result.1) }
+    ensures index { (Q.key result.0).0 ≡ Q.Inx.number i }
+    ensures overflow { IfSome (A.seen source.old).counter (λ g. is_overflow result.1 ≡ Q.Gen.wraps g) }
+    ensures next { option_map Q.Inx.number result.2 ≡ going_on (Q.Inx.number i) (next_of (A.interlinks source.old) (Q.Inx.number i)) }
+    ensures seen { A.seen source.new ≡ removed Q.Gen.following (A.seen source.old) (Q.Inx.number i) }
+    ensures links { A.interlinks source.new ≡ passed_over (A.interlinks source.old) (Q.Inx.number i) }
+    ensures agreed { Agrees (A.interlinks source.old) }
+{
+    let (entry, overflow) = source.remove_inx_link_no_gen(i).overflowing();
+    match entry {
+        Some((generation, link)) => {
+            let next = onward::<Q>(i, link.next());
+            (Q::_from_raw(i, generation), drained(overflow, link.t), next)
+        }
+        None => unreachable!(),
+    }
+}
+
+// The pointer of an index that is given by its number.
+fn pointer_at<P: Ptr>(index: usize, generation: P::Gen) -> P
+    requires positive { 1 ≤ index }
+    requires greatest { index ≤ P.Inx.greatest }
+    ensures { P.key result ≡ (index, generation) }
+{
+    match P::Inx::try_from_usize(index) {
+        Some(i) => P::_from_raw(i, generation),
+        None => unreachable!(),
+    }
+}
+
+// Where a new link comes at the end of a chain: behind its last, and in a ring before its first.
+fn gap_behind<I: PtrInx>(ring: bool, ends: Option<(I, I)>) -> Gap<I>
+    ensures before { (m q : ℕ) → AreEnds I.number ends m q → before_in I.number result q ≡ end_before ring m q }
+    ensures after { (m q : ℕ) → AreEnds I.number ends m q → after_in I.number result q ≡ end_after ring m q }
+{
+    match ends {
+        None => {
+            if ring {
+                Gap::Itself
+            } else {
+                Gap::Between(None, None)
+            }
+        }
+        Some((first, last)) => Gap::Between(Some(last), if ring { Some(first) } else { None }),
+    }
+}
+
+// The ends of a chain with one more at its end.
+fn with_end<I: PtrInx>(ends: Option<(I, I)>, i: I) -> Option<(I, I)>
+    ensures { (m : ℕ) → AreEnds I.number ends m (I.number i) → AreEnds I.number result (m + 1) (I.number i + 1) }
+{
+    match ends {
+        Some((first, _)) => Some((first, i)),
+        None => Some((i, i)),
+    }
+}
+
+// Adds a link in a gap, where there is room.
+fn lay<P: Ptr, T: Drop, S: SlotStack<Item = ArenaSlot<P, LinkNoGen<P, T>>>>(
+    target: &mut ChainArena<P, T, S>,
+    gap: Gap<P::Inx>,
+    t: T,
+)
+    requires gap { IsGap (shown target.old) (next_index target.old) (before_in P.Inx.number gap (next_index target.old)) (after_in P.Inx.number gap (next_index target.old)) }
+    requires room { entry_count target.old < target.old.capacity }
+    ensures state { target.new ≡ insert_between target.old t (before_in P.Inx.number gap (next_index target.old)) (after_in P.Inx.number gap (next_index target.old)) }
+    ensures listed { IsListed target.old }
+{
+    match target.insert_in_room(gap, t) {
+        Ok(_) => {}
+        Err(_) => unreachable!(),
+    }
+}
+
+// Adds a link behind the last of a chain of which these are the ends, where there is room, at the index of a pointer.
+// Answers the ends with it.
+fn lay_behind<P: Ptr, T: Drop, S: SlotStack<Item = ArenaSlot<P, LinkNoGen<P, T>>>>(
+    target: &mut ChainArena<P, T, S>,
+    ring: bool,
+    ends: Option<(P::Inx, P::Inx)>,
+    to: P,
+    t: T,
+) -> Option<(P::Inx, P::Inx)>
+    requires ends { (m : ℕ) × AreEnds P.Inx.number ends m (next_index target.old)
+        × IsGap (shown target.old) (next_index target.old) (end_before ring m (next_index target.old)) (end_after ring m (next_index target.old)) }
+    requires room { entry_count target.old < target.old.capacity }
+    requires index { (P.key to).0 ≡ next_index target.old }
+    ensures laid { (m : ℕ) → AreEnds P.Inx.number ends m (next_index target.old)
+        → (target.new ≡ insert_between target.old t (end_before ring m (next_index target.old)) (end_after ring m (next_index target.old)))
+        × AreEnds P.Inx.number result (m + 1) (next_index target.old + 1) }
+    ensures listed { IsListed target.old }
+{
+    lay(target, gap_behind(ring, ends), t);
+    with_end(ends, to.inx())
+}
