@@ -1,8 +1,8 @@
 -- The walk back from a link to the start of its chain, or round.
-use Rattle.std.proofs.Common.{◌≡◌, ◌≢◌, ℕ, suc, ◌+◌, ◌<◌, ◌≤◌, ◌⊎◌, inl, inr, List, [], ◌∷◌, ◌++◌, length, Option, None, Some, refl, sym, ap, ◌∙◌, subst, length-append, append_assoc, append-nil, arith}
-use Rattle.chain_laws.specs.Chains.{Shown, Chain, linear, cyclic, items, Has, HasNoRepetition, IsChain, IsValid, IsWithin, Agrees, first_or, last_or, prev_in, prev_of}
+use Rattle.std.proofs.Common.{◌≡◌, ◌≢◌, ℕ, suc, ◌+◌, ◌<◌, ◌≤◌, ◌⊎◌, inl, inr, List, [], ◌∷◌, ◌++◌, length, None, Some, refl, sym, ap, ◌∙◌, subst, length-append, append_assoc, append-nil, arith}
+use Rattle.chain_laws.specs.Chains.{Shown, Chain, linear, cyclic, items, Has, HasNoRepetition, IsChain, first_or, last_or, prev_in, prev_of}
 use Rattle.chain_laws.specs.Neighbors.{StandsIn}
-use Rattle.chain_laws.specs.Starts.{IsBack, IsStart, WalkBackBegins, WalkBackGoesOn, WalkBackEnds, WalkBackComesRound, WalkBackIsShort}
+use Rattle.chain_laws.specs.Starts.{IsBack, WalkBackBegins, WalkBackGoesOn, WalkBackEnds, WalkBackComesRound, WalkBackIsShort}
 use Rattle.chain_laws.proofs.Members.{Has-left, Has-right, Has-parts, Has-written, HasNoRepetition-apart, last_or-append}
 use Rattle.chain_laws.proofs.Standing.{Stands-at}
 use Rattle.chain_laws.proofs.Unique.{chain_valid, chain_once}

@@ -1,13 +1,11 @@
 -- A new link at the end of the last of some runs.
-use Rattle.std.proofs.Common.{◌≡◌, ◌≢◌, ℕ, zero, suc, ◌+◌, ◌-◌, ◌<◌, ◌≤◌, ◌⊎◌, inl, inr, Bool, true, false, if◌then◌else◌, List, [], ◌∷◌, ◌++◌, length, Option, None, Some, refl, sym, ap, ap₂, ◌∙◌, subst, length-append, append_assoc, append-nil, arith}
+use Rattle.std.proofs.Common.{◌≡◌, ℕ, suc, ◌+◌, ◌-◌, ◌<◌, ◌≤◌, ◌⊎◌, inl, inr, Bool, true, false, if◌then◌else◌, List, [], ◌∷◌, ◌++◌, length, Option, None, Some, refl, sym, ap, ap₂, ◌∙◌, subst, length-append, append_assoc, append-nil, arith}
 use Rattle.std.specs.List.{range_with_len}
 use Rattle.chain_laws.specs.Chains.{Shown, Chain, linear, cyclic, items, all_items, HasChain, Has, HasNoRepetition, IsChain, IsValid, AreChains, first_or, last_or, next_in, next_of}
-use Rattle.chain_laws.specs.Neighbors.{AreNeighbors}
 use Rattle.chain_laws.specs.Insertions.{inserted, IsGap, Inserts, HasIndex}
 use Rattle.chain_laws.specs.Arrangements.{in_runs}
 use Rattle.chain_laws.specs.Starts.{chain_of}
 use Rattle.chain_laws.specs.Relays.{with_left, with_laid, end_before, end_after, LastIsLaid}
-use Rattle.chain_laws.proofs.Members.{Has-left, Has-right, Has-parts, Has-middle}
 use Rattle.chain_laws.proofs.Standing.{Stands-at, shows_valid}
 use Rattle.chain_laws.proofs.Gathering.{Has-all_items}
 use Rattle.chain_laws.proofs.Inserting.{inserted_inserts}

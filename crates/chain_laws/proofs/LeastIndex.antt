@@ -1,12 +1,16 @@
 -- The least-index order of an arena: that there is one, and that links that lie canonically lie in it.
-use Rattle.std.proofs.Common.{◌≡◌, ◌≢◌, ℕ, zero, suc, ◌+◌, ◌<◌, ◌≤◌, inl, inr, List, [], ◌∷◌, ◌++◌, refl, ap, ◌∙◌, subst, arith}
+use Rattle.std.proofs.Common.{◌≡◌, ◌≢◌, ℕ, zero, suc, ◌+◌, ◌<◌, ◌≤◌, inl, inr, List, [], ◌∷◌, ◌++◌, length, Some, refl, sym, ap, ◌∙◌, subst, arith}
 use Rattle.std.specs.List.{range_with_len}
 use Rattle.chain_laws.specs.Chains.{Chain, linear, cyclic, items, HasChain, all_items, Has, IsWritten, Rises, IsInOrder}
-use Rattle.chain_laws.specs.Arrangements.{HasLeastIndexOrder, LeastIndexOrderIsOrdered, LeastIndexOrderIsCanonical, LeastIndexOrderRests}
+use Rattle.std.proofs.Math.Decide.{ℕ_discrete}
+use Rattle.chain_laws.specs.Renamings.{IsRenaming}
+use Rattle.chain_laws.specs.Arrangements.{place_from, place_in, in_runs, LayoutRests, PlacesRest, HasLeastIndexOrder, LeastIndexOrderIsOrdered, LeastIndexOrderIsCanonical, LeastIndexOrderRests}
 use Rattle.chain_laws.proofs.Members.{Has-left, Has-right}
 use Rattle.chain_laws.proofs.Unique.{Has-at_most, chain_filled}
 use Rattle.chain_laws.proofs.Neighboring.{partitions, interlinks, chains_from_pairs}
 use Rattle.chain_laws.proofs.Partitions.{the_chains}
+use Rattle.chain_laws.proofs.Placing.{place-first, place-other}
+use Rattle.chain_laws.proofs.Runs.{lays_chains_in_runs}
 
 -- there is a least-index order
 pub has_least_index_order : HasLeastIndexOrder
@@ -97,3 +101,29 @@ least_index_order_rests shown n canonical = record {
   };
   items = canonical.items;
 }
+
+-- links that are laid out in it lie canonically
+pub layout_rests : LayoutRests
+layout_rests old new indexes order renaming =
+    let runs =
+    lays_chains_in_runs old new order.chains (chains_from_pairs old order.chains order.are.partition order.are.interlinks)
+    (subst (λ (is : List ℕ). IsRenaming (place_in is) old new) order.items renaming) in
+    least_index_order_rests new (length indexes) (record {
+      chains = in_runs 1 order.chains;
+      are = runs.0;
+      items = ap (λ (is : List ℕ). range_with_len 1 (length is)) order.items ∙ sym runs.1;
+    })
+
+-- in a run each item is at its own place
+run_rests : (k n i : ℕ) → k ≤ i → i < k + n → place_from k (range_with_len k n) i ≡ Some i
+run_rests k zero i low high = absurd (omega (arith, low, high))
+run_rests k (suc n) i low high = by (ℕ_discrete k i) (λ above. run_rests (suc k) n i above (omega (arith, high)))
+  where
+    by : Dec (k ≡ i) → (suc k ≤ i → place_from (suc k) (range_with_len (suc k) n) i ≡ Some i) → place_from k (range_with_len k (suc n)) i ≡ Some i
+    by (yes same) rest = place-first k k (range_with_len (k + 1) n) i same ∙ ap (λ (m : ℕ). Some m) same
+    by (no differs) rest =
+        place-other k k (range_with_len (k + 1) n) i differs
+        ∙ (ap (λ (m : ℕ). place_from (suc k) (range_with_len m n) i) (let next : k + 1 ≡ suc k = omega arith in next) ∙ rest (omega (arith, low, differs)))
+
+pub places_rest : PlacesRest
+places_rest n i low high = run_rests 1 n i low (omega (arith, high))

@@ -1,14 +1,14 @@
 -- The next chain in order, and what is left of it once its first link is removed.
-use Rattle.std.proofs.Common.{◌≡◌, ◌≢◌, ℕ, suc, ◌+◌, ◌<◌, ◌≤◌, ◌⊎◌, inl, inr, Bool, true, false, List, [], ◌∷◌, ◌++◌, length, Option, None, Some, refl, sym, ap, ◌∙◌, subst, arith}
+use Rattle.std.proofs.Common.{◌≡◌, ◌≢◌, ℕ, ◌≤◌, ◌⊎◌, inl, inr, Bool, true, false, List, [], ◌∷◌, ◌++◌, Option, None, Some, refl, sym, ap, ◌∙◌, subst, arith}
 use Rattle.std.specs.Prelude.{is_some}
-use Rattle.chain_laws.specs.Chains.{Shown, Chain, linear, cyclic, items, all_items, HasChain, Has, HasNoRepetition, IsChain, IsValid, IsWritten, IsInOrder, Agrees, AreChains, first_or, last_or, prev_in, next_in, prev_of, next_of}
+use Rattle.chain_laws.specs.Chains.{Shown, Chain, linear, cyclic, items, all_items, HasChain, Has, HasNoRepetition, IsChain, IsValid, IsWritten, first_or, prev_in, next_in, prev_of, next_of}
 use Rattle.chain_laws.specs.Removals.{removed}
 use Rattle.chain_laws.specs.Walks.{going_on}
 use Rattle.chain_laws.specs.Starts.{IsStart, chain_of, LeastIsNext}
 use Rattle.chain_laws.specs.Relays.{with_left, FirstIsTaken}
-use Rattle.chain_laws.proofs.Members.{Has-left, Has-right, Has-parts, Has-filled, HasNoRepetition-right, last_or-filled}
+use Rattle.chain_laws.proofs.Members.{Has-right, Has-parts, last_or-filled}
 use Rattle.chain_laws.proofs.Unique.{chain_valid, written_least}
-use Rattle.chain_laws.proofs.Gathering.{Has-all_items, all_items_valid}
+use Rattle.chain_laws.proofs.Gathering.{Has-all_items}
 use Rattle.chain_laws.proofs.Agreement.{if_same}
 use Rattle.chain_laws.proofs.Walking.{going_on-other}
 use Rattle.chain_laws.proofs.RemovalPairs.{IsValid-removed}

@@ -14,7 +14,7 @@ pub place-same : (n : ℕ) (xs : List ℕ) (i : ℕ) → place_from n (i ∷ xs)
 place-same n xs i = if_same i i (Some n) (place_from (suc n) xs i) refl
 
 -- the first item, as an index that is equal to it
-place-first : (n x : ℕ) (xs : List ℕ) (i : ℕ) → x ≡ i → place_from n (x ∷ xs) i ≡ Some n
+pub place-first : (n x : ℕ) (xs : List ℕ) (i : ℕ) → x ≡ i → place_from n (x ∷ xs) i ≡ Some n
 place-first n x xs i e = if_same x i (Some n) (place_from (suc n) xs i) e
 
 -- the place of an index that is not the first item

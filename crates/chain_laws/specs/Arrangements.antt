@@ -1,5 +1,5 @@
 -- Arrangements: lists of all links, and the renumberings that they give, where the k-th link goes to index k.
-use Rattle.std.specs.Prelude.{◌≡◌, ◌↔◌, ℕ, suc, ◌+◌, ◌==◌, if◌then◌else◌, List, [], ◌∷◌, length, Option, None, Some}
+use Rattle.std.specs.Prelude.{◌≡◌, ◌↔◌, ℕ, suc, ◌+◌, ◌≤◌, ◌==◌, if◌then◌else◌, List, [], ◌∷◌, length, Option, None, Some}
 use Rattle.std.specs.List.{range_with_len}
 use Rattle.chain_laws.specs.Chains.{Shown, Chain, linear, cyclic, all_items, Has, HasNoRepetition, IsValid, IsWithin, Agrees, AreChains}
 use Rattle.chain_laws.specs.Neighbors.{AreTheChains, HasOneSetOfChains}
@@ -78,3 +78,12 @@ LeastIndexOrderIsCanonical = (shown : Shown) (indexes : List ℕ) → IsLeastInd
 -- .. and where the links lie canonically as they stand, it leaves each in its place
 abbrev pub LeastIndexOrderRests : Type 0
 LeastIndexOrderRests = (shown : Shown) (n : ℕ) → IsCanonical shown (range_with_len 1 n) → IsLeastIndexOrder shown (range_with_len 1 n)
+
+-- .. so once the links are laid out in it, it leaves each in its place ..
+abbrev pub LayoutRests : Type 0
+LayoutRests = (old new : Shown) (indexes : List ℕ) → IsLeastIndexOrder old indexes → IsRenaming (place_in indexes) old new
+    → IsLeastIndexOrder new (range_with_len 1 (length indexes))
+
+-- .. which is where it stands
+abbrev pub PlacesRest : Type 0
+PlacesRest = (n i : ℕ) → 1 ≤ i → i ≤ n → place_in (range_with_len 1 n) i ≡ Some i

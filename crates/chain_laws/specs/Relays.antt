@@ -1,6 +1,6 @@
 -- Chains that are taken out of one arena, link by link from their first, and laid in runs in another.
 use Rattle.std.specs.Prelude.{◌≡◌, ℕ, zero, suc, ◌+◌, ◌-◌, Bool, if◌then◌else◌, List, [], ◌∷◌, ◌++◌, length, Option, None, Some}
-use Rattle.chain_laws.specs.Chains.{Shown, Chain, all_items, IsInOrder, Agrees, AreChains, first_or, next_of}
+use Rattle.chain_laws.specs.Chains.{Shown, Chain, all_items, Agrees, AreChains, first_or, next_of}
 use Rattle.chain_laws.specs.Removals.{removed}
 use Rattle.chain_laws.specs.Insertions.{inserted, IsGap}
 use Rattle.chain_laws.specs.Walks.{going_on}

@@ -1,5 +1,5 @@
 -- What becomes of the interlinks and of the chains where each link goes to another index.
-use Rattle.std.specs.Prelude.{◌≡◌, ◌↔◌, ℕ, List, [], ◌∷◌, Option, None, Some}
+use Rattle.std.specs.Prelude.{◌≡◌, ◌↔◌, ℕ, List, [], ◌∷◌, Option, Some}
 use Rattle.std.specs.Option.{option_and_then}
 use Rattle.chain_laws.specs.Chains.{Shown, Chain, linear, cyclic, IsValid, Agrees, IsChain, AreChains}
 use Rattle.chain_laws.specs.Neighbors.{AreNeighbors}

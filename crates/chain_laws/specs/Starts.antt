@@ -1,6 +1,6 @@
 -- Where a chain is written from, and the walk back to there.
-use Rattle.std.specs.Prelude.{◌≡◌, ◌≢◌, ℕ, ◌+◌, ◌≤◌, ◌<◌, is_some, Bool, if◌then◌else◌, List, [], ◌∷◌, ◌++◌, length, Option, None, Some}
-use Rattle.chain_laws.specs.Chains.{Shown, Chain, linear, cyclic, items, Has, IsChain, IsValid, IsWithin, IsInOrder, Agrees, AreChains, first_or, prev_of}
+use Rattle.std.specs.Prelude.{◌≡◌, ◌≢◌, ℕ, ◌+◌, ◌≤◌, ◌<◌, is_some, Bool, if◌then◌else◌, List, ◌∷◌, ◌++◌, length, None, Some}
+use Rattle.chain_laws.specs.Chains.{Shown, Chain, linear, cyclic, Has, IsChain, IsValid, IsWithin, IsInOrder, Agrees, AreChains, first_or, prev_of}
 
 -- a walker has gone so many steps back from i, and stands here
 pub record IsBack (shown : Shown) (i steps here : ℕ) : Type 0 where

@@ -3,7 +3,7 @@
 ghost use Rattle.chain_laws.specs.Renamings.{RenamingAgrees, RenamingCarriesPairs, RenamingCarriesChains, RenamingCarriesAll, RenamingIsDetermined};
 ghost use Rattle.chain_laws.specs.Arrangements.{ArrangementNumbers, PlacesAreApart, CanonicalArranges, LaysChainsInRuns, RunsAreRenumbered};
 ghost use Rattle.chain_laws.specs.Moves.{MoveRenames, NeighborsTellAMove, RenamingsCompose, GatheringBegins, GatheringSkips, GatheringGoesOn, GatheringEnds};
-ghost use Rattle.chain_laws.specs.Arrangements.{HasLeastIndexOrder, LeastIndexOrderIsOrdered, LeastIndexOrderIsCanonical, LeastIndexOrderRests};
+ghost use Rattle.chain_laws.specs.Arrangements.{HasLeastIndexOrder, LeastIndexOrderIsOrdered, LeastIndexOrderIsCanonical, LeastIndexOrderRests, LayoutRests, PlacesRest};
 
 /// After a renaming the interlinks agree as before, and the pairs and the chains are those of before under their new indexes,
 /// each chain linear or cyclic as it was. Where the links go leaves no choice.
@@ -31,12 +31,14 @@ pub fn canonical_lays_runs()
 {}
 
 /// There is one least-index order of an arena whose interlinks agree. It is canonical, and where the links lie canonically
-/// as they stand, it leaves each in its place.
+/// as they stand, as they do once they are laid out in it, it leaves each in its place.
 pub fn least_index_order()
     ensures there_is_one { HasLeastIndexOrder }
     ensures one { LeastIndexOrderIsOrdered }
     ensures canonical { LeastIndexOrderIsCanonical }
     ensures rests { LeastIndexOrderRests }
+    ensures layout_rests { LayoutRests }
+    ensures places_rest { PlacesRest }
 {}
 
 /// One link that goes to a free index is a renaming, for which only its neighbors have to be told; and renamings may be made
