@@ -1,10 +1,10 @@
 -- The arena of links out of which links are carried: the chains that are left of it, by the traits alone.
-use Rattle.std.proofs.Common.{◌≡◌, ◌≢◌, ℕ, zero, suc, ◌+◌, ◌≤◌, ◌<◌, ◌⊎◌, inl, inr, Bool, true, false, List, [], ◌∷◌, ◌++◌, length, Option, None, Some, refl, sym, ap, ap₂, ◌∙◌, subst, length-append, arith}
+use Rattle.std.proofs.Common.{◌≡◌, ◌≢◌, ℕ, suc, ◌+◌, ◌≤◌, ◌<◌, ◌⊎◌, inl, inr, Bool, true, false, List, [], ◌∷◌, ◌++◌, length, Option, None, Some, refl, sym, ap, ◌∙◌, subst, length-append, arith}
 use Rattle.std.specs.Prelude.{is_some, cond, ◌==◌}
 use Rattle.std.specs.Option.{option_map}
 use Rattle.std.proofs.lemmas.Bool.{eqb-true}
 use Rattle.std.proofs.Math.Decide.{ℕ_discrete}
-use Rattle.chain_laws.specs.Chains.{Shown, Interlinks, Chain, all_items, items, HasChain, Has, IsChain, IsValid, IsInOrder, Agrees, AreChains, first_or, next_of}
+use Rattle.chain_laws.specs.Chains.{Shown, Interlinks, Chain, items, Has, IsValid, IsInOrder, Agrees, AreChains, first_or, next_of}
 use Rattle.chain_laws.specs.Removals.{removed as passed_over}
 use Rattle.chain_laws.specs.Walks.{going_on}
 use Rattle.chain_laws.specs.Starts.{chain_of}

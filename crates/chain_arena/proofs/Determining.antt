@@ -16,8 +16,8 @@ use Rattle.chain_laws.proofs.Walking.{no_other_walk}
 use Rattle.arena_base.specs.Arena.{IsValid, entry_at, entry_count, with_capacity_of, renewed_at}
 use Rattle.chain_arena.specs.ChainArena.{LinkSeen, on_value, shown, entry, value_in, insert_as, relinked}
 use Rattle.chain_arena.specs.Drains.{without_each}
-use Rattle.chain_arena.specs.Links.{seen_link}
-use Rattle.chain_arena.specs.Steps.{Links, HasRoomFor, stays, grown, Refuses, Connects, BreaksPrev, BreaksNext, Exchanges, Reserves, DrainsChain, Tells, kind_of, IsAdded, IsTaken, AreSameButTouched, InsertsGrowing, InsertsWithin, Step, Run, HasRoomAlready, RunIsDetermined}
+use Rattle.chain_arena.specs.Links.{seen_link, seen_pair}
+use Rattle.chain_arena.specs.Steps.{Links, HasRoomFor, stays, grown, Refuses, Connects, BreaksPrev, BreaksNext, Exchanges, Reserves, DrainsChain, Tells, TellSame, ShowSame, kind_of, IsAdded, IsTaken, AreSameButTouched, InsertsGrowing, InsertsWithin, Step, Run, HasRoomAlready, RunIsDetermined}
 use Rattle.chain_arena.specs.declared.calls.Call.{Call}
 use Rattle.chain_arena.specs.declared.calls.Call.TheVariants as call
 use Rattle.chain_arena.specs.declared.calls.Reply.{Reply}
@@ -25,7 +25,7 @@ use Rattle.chain_arena.specs.declared.calls.Reply.TheVariants as reply
 use Rattle.chain_arena.specs.declared.kinds.InsertKindBody.{InsertKindBody}
 use Rattle.chain_arena.specs.declared.links.LinkBody.{LinkBody}
 use Rattle.chain_arena.proofs.Mapping.{entry_at-with_each}
-use Rattle.chain_arena.proofs.Touching.{touch, compression_same, run_touched}
+use Rattle.chain_arena.proofs.Touching.{touch, compression_same, layout_same, run_touched}
 
 -- two that are one and the same
 same : {A : Type 0} {x a b : A} → a ≡ x → b ≡ x → a ≡ b
@@ -34,10 +34,6 @@ same one two = one ∙ sym two
 -- two pairs of an answer and a state are the same
 abbrev Same : {R S : Type 0} → R → R → S → S → Type 0
 Same r s a b = (r ≡ s) × (a ≡ b)
-
--- .. but for how many slots were touched
-abbrev SameButTouched : {R Gen T : Type 0} → R → R → Links Gen T → Links Gen T → Type 0
-SameButTouched r s a b = (r ≡ s) × AreSameButTouched a b
 
 same_but_touched : {Gen T : Type 0} (a b : Links Gen T) → a ≡ b → AreSameButTouched a b
 same_but_touched {Gen} {T} a b is = is ∙ ap (λ (n : ℕ). touch n b) (sym (ap (λ (x : Links Gen T). x.touched) is))
@@ -107,33 +103,62 @@ module _ {Gen T : Type 0} where
       lacks refused.AllocError less = omega (arith, enough, less.0)
 
 -- what is told is told once
-tells_same : {X S : Type 0} {No : Type 0} (Done : X → S → Type 0) (overflow : Bool) (old a b : S) (r s : InvalidationResult X) → ((x : X) (c : S) → Done x c → No → ⊥)
-    → ((x y : X) → Done x a → Done y b → Same x y a b) → Tells (No × (a ≡ old)) overflow (λ x. Done x a) r → Tells (No × (b ≡ old)) overflow (λ x. Done x b) s → Same r s a b
-tells_same Done overflow old a b (Success x) (Success y) apart once one two = let both = once x y one.1 two.1 in (ap Success both.0, both.1)
-tells_same Done overflow old a b (GenerationOverflow x) (GenerationOverflow y) apart once one two = let both = once x y one.1 two.1 in (ap GenerationOverflow both.0, both.1)
-tells_same Done overflow old a b InvalidPtr InvalidPtr apart once one two = (refl, same one.1 two.1)
-tells_same Done overflow old a b (Success x) (GenerationOverflow y) apart once one two = absurd (false≢true (sym one.0 ∙ two.0))
-tells_same Done overflow old a b (GenerationOverflow x) (Success y) apart once one two = absurd (false≢true (sym two.0 ∙ one.0))
-tells_same Done overflow old a b (Success x) InvalidPtr apart once one two = absurd (apart x a one.1 two.0)
-tells_same Done overflow old a b (GenerationOverflow x) InvalidPtr apart once one two = absurd (apart x a one.1 two.0)
-tells_same Done overflow old a b InvalidPtr (Success y) apart once one two = absurd (apart y b two.1 one.0)
-tells_same Done overflow old a b InvalidPtr (GenerationOverflow y) apart once one two = absurd (apart y b two.1 one.0)
+tells_same : {X Y S : Type 0} {No : Type 0} (see : X → Y) (Done : X → S → Type 0) (overflow : Bool) (old a b : S) (r s : InvalidationResult X) → ((x : X) (c : S) → Done x c → No → ⊥)
+    → ((x y : X) → Done x a → Done y b → Same (see x) (see y) a b) → Tells (No × (a ≡ old)) overflow (λ x. Done x a) r → Tells (No × (b ≡ old)) overflow (λ x. Done x b) s → TellSame see r s × (a ≡ b)
+tells_same see Done overflow old a b (Success x) (Success y) apart once one two = once x y one.1 two.1
+tells_same see Done overflow old a b (GenerationOverflow x) (GenerationOverflow y) apart once one two = once x y one.1 two.1
+tells_same see Done overflow old a b InvalidPtr InvalidPtr apart once one two = (tt, same one.1 two.1)
+tells_same see Done overflow old a b (Success x) (GenerationOverflow y) apart once one two = absurd (false≢true (sym one.0 ∙ two.0))
+tells_same see Done overflow old a b (GenerationOverflow x) (Success y) apart once one two = absurd (false≢true (sym two.0 ∙ one.0))
+tells_same see Done overflow old a b (Success x) InvalidPtr apart once one two = absurd (apart x a one.1 two.0)
+tells_same see Done overflow old a b (GenerationOverflow x) InvalidPtr apart once one two = absurd (apart x a one.1 two.0)
+tells_same see Done overflow old a b InvalidPtr (Success y) apart once one two = absurd (apart y b two.1 one.0)
+tells_same see Done overflow old a b InvalidPtr (GenerationOverflow y) apart once one two = absurd (apart y b two.1 one.0)
+
+-- what tells the same, where all of it is seen, is the same
+same_told : {X : Type 0} (r s : InvalidationResult X) → TellSame (λ x. x) r s → r ≡ s
+same_told (Success x) (Success y) is = ap Success is
+same_told (GenerationOverflow x) (GenerationOverflow y) is = ap GenerationOverflow is
+same_told InvalidPtr InvalidPtr is = refl
+same_told (Success x) (GenerationOverflow y) is = absurd is
+same_told (Success x) InvalidPtr is = absurd is
+same_told (GenerationOverflow x) (Success y) is = absurd is
+same_told (GenerationOverflow x) InvalidPtr is = absurd is
+same_told InvalidPtr (Success y) is = absurd is
+same_told InvalidPtr (GenerationOverflow y) is = absurd is
+
+tells_itself : {X Y : Type 0} (see : X → Y) (r : InvalidationResult X) → TellSame see r r
+tells_itself see (Success x) = refl
+tells_itself see (GenerationOverflow x) = refl
+tells_itself see InvalidPtr = tt
+
+-- the same replies show the same
+shows_itself : {P T I Gen W : Type 0} (packed : PackedOption I W → Option ℕ) (r : Reply P T I Gen W) → ShowSame packed r r
+shows_itself packed (reply.Inserted answer) = refl
+shows_itself packed (reply.Done answer) = refl
+shows_itself packed (reply.Removed answer) = tells_itself (seen_link packed) answer
+shows_itself packed (reply.RemovedInx answer) = tells_itself (seen_pair packed) answer
+shows_itself packed (reply.Renewed answer) = refl
+shows_itself packed (reply.Drained answer) = refl
+shows_itself packed (reply.Counted answer) = refl
+shows_itself packed (reply.Reserved answer) = refl
+shows_itself packed reply.Set = refl
 
 module _ {P T I Gen W : Type 0} (key : P → ℕ × Gen) (number : I → ℕ) (packed : PackedOption I W → Option ℕ) (greatest : ℕ) (first : Gen) (following : Gen → Gen) (wraps : Gen → Bool)
-    (same_key : (p q : P) → key p ≡ key q → p ≡ q) (same_packed : (o p : PackedOption I W) → packed o ≡ packed p → o ≡ p) where
-  same_link : (k l : LinkBody (PackedOption I W) T) → seen_link packed k ≡ seen_link packed l → k ≡ l
-  same_link k l is =
-      let prev = same_packed k.prev l.prev (ap (λ (x : LinkSeen T). x.prev) is) in
-      let next = same_packed k.next l.next (ap (λ (x : LinkSeen T). x.next) is) in
-      let value : k.t ≡ l.t = ap (λ (x : LinkSeen T). x.value) is in
-      (λ i. record { prev = prev i; next = next i; t = value i })
+    (same_key : (p q : P) → key p ≡ key q → p ≡ q) where
+  -- two replies show the same, and the arenas are the same but for how many slots were touched
+  abbrev SameButTouched : Reply P T I Gen W → Reply P T I Gen W → Links Gen T → Links Gen T → Type 0
+  SameButTouched r s a b = ShowSame packed r s × AreSameButTouched a b
+
+  shows_same : (r s : Reply P T I Gen W) → r ≡ s → ShowSame packed r s
+  shows_same r s is = subst (ShowSame packed r) is (shows_itself packed r)
 
   -- an entry that stands has a generation and a link
-  same_entry : (old : Links Gen T) (n : ℕ) (g h : Gen) (k l : LinkBody (PackedOption I W) T) → entry_at old n ≡ Some (g, seen_link packed k) → entry_at old n ≡ Some (h, seen_link packed l) → (g ≡ h) × (k ≡ l)
+  same_entry : (old : Links Gen T) (n : ℕ) (g h : Gen) (k l : LinkBody (PackedOption I W) T) → entry_at old n ≡ Some (g, seen_link packed k) → entry_at old n ≡ Some (h, seen_link packed l) → seen_pair packed (g, k) ≡ seen_pair packed (h, l)
   same_entry old n g h k l one two =
       let both : Some (g, seen_link packed k) ≡ Some (h, seen_link packed l) = sym one ∙ two in
       let pair : (g, seen_link packed k) ≡ (h, seen_link packed l) = cc in
-      (ap (λ (e : Gen × LinkSeen T). e.0) pair, same_link k l (ap (λ (e : Gen × LinkSeen T). e.1) pair))
+      pair
 
   stands : (old : Links Gen T) (n : ℕ) (g : Gen) (k : LinkBody (PackedOption I W) T) → entry_at old n ≡ Some (g, seen_link packed k) → entry old n ≡ Some (g, k.t)
   stands old n g k is = entry_at-with_each value_in old n ∙ ap (option_map (on_value value_in)) is
@@ -173,7 +198,7 @@ module _ {P T I Gen W : Type 0} (key : P → ℕ × Gen) (number : I → ℕ) (p
 
   -- two replies are the same whose answers are
   answered_same : {A : Type 0} (told : A → Reply P T I Gen W) (r s : Reply P T I Gen W) (x y : A) (a b : Links Gen T) → r ≡ told x → s ≡ told y → Same x y a b → SameButTouched r s a b
-  answered_same told r s x y a b is_r is_s both = (is_r ∙ (ap told both.0 ∙ sym is_s), same_but_touched a b both.1)
+  answered_same told r s x y a b is_r is_s both = (shows_same r s (is_r ∙ (ap told both.0 ∙ sym is_s)), same_but_touched a b both.1)
 
   step_same : (old : Links Gen T) (c : Call P T I Gen W) (r s : Reply P T I Gen W) (a b : Links Gen T) → HasRoomAlready key number packed greatest first following wraps old c
       → Step key number packed greatest first following wraps old c r a → Step key number packed greatest first following wraps old c s b → SameButTouched r s a b
@@ -183,25 +208,30 @@ module _ {P T I Gen W : Type 0} (key : P → ℕ × Gen) (number : I → ℕ) (p
   step_same old (call.BreakPrev p) r s a b room one two = answered_same reply.Done r s one.0 two.0 a b one.1 two.1 (breaks_prev_same old a b (key p) one.0 two.0 one.2 two.2)
   step_same old (call.BreakNext p) r s a b room one two = answered_same reply.Done r s one.0 two.0 a b one.1 two.1 (breaks_next_same old a b (key p) one.0 two.0 one.2 two.2)
   step_same old (call.ExchangeNext p q) r s a b room one two = answered_same reply.Done r s one.0 two.0 a b one.1 two.1 (exchanges_same old a b (key p) (key q) one.0 two.0 one.2 two.2)
-  step_same old (call.Remove p) r s a b room one two = answered_same reply.Removed r s one.0 two.0 a b one.1 two.1
-      (tells_same (λ link c. IsTaken packed following old (key p).0 (key p).1 link c) (wraps old.counter) old a b one.0 two.0
+  step_same old (call.Remove p) r s a b room one two =
+      let both = tells_same (seen_link packed) (λ link c. IsTaken packed following old (key p).0 (key p).1 link c) (wraps old.counter) old a b one.0 two.0
       (λ link c taken cannot. cannot (record { value = link.t; stands = stands old (key p).0 (key p).1 link taken.stood }))
-      (λ k l first second. ((same_entry old (key p).0 _ _ k l first.stood second.stood).1, same first.removal.state second.removal.state)) one.2 two.2)
-  step_same old (call.RemoveInx i) r s a b room one two = answered_same reply.RemovedInx r s one.0 two.0 a b one.1 two.1
-      (tells_same (λ (e : Gen × LinkBody (PackedOption I W) T) c. IsTaken packed following old (number i) e.0 e.1 c) (wraps old.counter) old a b one.0 two.0
+      (λ k l first second. (ap (λ (e : Gen × LinkSeen T). e.1) (same_entry old (key p).0 (key p).1 (key p).1 k l first.stood second.stood), same first.removal.state second.removal.state)) one.2 two.2 in
+      (subst (λ x. ShowSame packed x s) (sym one.1) (subst (λ x. ShowSame packed (reply.Removed one.0) x) (sym two.1) both.0), same_but_touched a b both.1)
+  step_same old (call.RemoveInx i) r s a b room one two =
+      let both = tells_same (seen_pair packed) (λ (e : Gen × LinkBody (PackedOption I W) T) c. IsTaken packed following old (number i) e.0 e.1 c) (wraps old.counter) old a b one.0 two.0
       (λ e c taken none. none-some _ (sym none ∙ stands old (number i) e.0 e.1 taken.stood))
-      (λ k l first second. let both = same_entry old (number i) k.0 l.0 k.1 l.1 first.stood second.stood in (ap₂ (λ (g : Gen) (x : LinkBody (PackedOption I W) T). (g, x)) both.0 both.1, same first.removal.state second.removal.state)) one.2 two.2)
-  step_same old (call.Invalidate p) r s a b room one two = answered_same reply.Renewed r s one.0 two.0 a b one.1 two.1
-      (tells_same {No = IsValid (entry old) (key p) → ⊥} (λ (q : P) (c : Links Gen T). IsValid (entry old) (key p) × (key q ≡ ((key p).0, following old.counter)) × (c ≡ renewed_at following old (key p).0) × (shown c ≡ shown old)) (wraps old.counter) old a b one.0 two.0 (λ q c done cannot. cannot done.0) (λ q m first second. (same_key q m (same first.1 second.1), same first.2 second.2)) one.2 two.2)
+      (λ k l first second. (same_entry old (number i) k.0 l.0 k.1 l.1 first.stood second.stood, same first.removal.state second.removal.state)) one.2 two.2 in
+      (subst (λ x. ShowSame packed x s) (sym one.1) (subst (λ x. ShowSame packed (reply.RemovedInx one.0) x) (sym two.1) both.0), same_but_touched a b both.1)
+  step_same old (call.Invalidate p) r s a b room one two =
+      let both = tells_same {No = IsValid (entry old) (key p) → ⊥} (λ (q : P). q) (λ (q : P) (c : Links Gen T). IsValid (entry old) (key p) × (key q ≡ ((key p).0, following old.counter)) × (c ≡ renewed_at following old (key p).0) × (shown c ≡ shown old))
+      (wraps old.counter) old a b one.0 two.0 (λ q c done cannot. cannot done.0) (λ q m first second. (same_key q m (same first.1 second.1), same first.2 second.2)) one.2 two.2 in
+      answered_same reply.Renewed r s one.0 two.0 a b one.1 two.1 (same_told one.0 two.0 both.0, both.1)
   step_same old (call.DrainChain p take) r s a b room one two = answered_same reply.Drained r s one.0 two.0 a b one.1 two.1 (drains_same following old a b (key p) take one.0 two.0 one.2 two.2)
-  step_same old call.Clear r s a b room one two = (same one.0 two.0, same_but_touched a b (same one.1 two.1))
-  step_same old (call.Compress reset) r s a b room one two = (same one.0 two.0, compression_same first following reset old a b one.1 two.1)
+  step_same old call.Clear r s a b room one two = (shows_same r s (same one.0 two.0), same_but_touched a b (same one.1 two.1))
+  step_same old (call.Compress reset) r s a b room one two = (shows_same r s (same one.0 two.0), compression_same first following reset old a b one.1 two.1)
+  step_same old (call.CompressCanonical reset) r s a b room one two = (shows_same r s (same one.0 two.0), layout_same first following reset old a b one.1 two.1)
   step_same old (call.Reserve n) r s a b room one two = answered_same reply.Reserved r s one.0 two.0 a b one.1 two.1 (reserves_same greatest old a b n one.0 two.0 room one.2 two.2)
-  step_same old (call.SetGeneration g) r s a b room one two = (same one.0 two.0, same_but_touched a b (same one.1 two.1))
-  step_same old call.IncGeneration r s a b room one two = (same one.0 two.0, same_but_touched a b (same one.1 two.1))
+  step_same old (call.SetGeneration g) r s a b room one two = (shows_same r s (same one.0 two.0), same_but_touched a b (same one.1 two.1))
+  step_same old call.IncGeneration r s a b room one two = (shows_same r s (same one.0 two.0), same_but_touched a b (same one.1 two.1))
 
   pub run_same : RunIsDetermined key number packed greatest first following wraps T
-  run_same old [] [] [] new other one two = (refl, same_but_touched new other (same one two))
+  run_same old [] [] [] new other one two = (tt, same_but_touched new other (same one two))
   run_same old [] [] (s ∷ others) new other one two = absurd two
   run_same old [] (r ∷ replies) others new other one two = absurd one
   run_same old (c ∷ calls) [] others new other one two = absurd one
@@ -212,4 +242,4 @@ module _ {P T I Gen W : Type 0} (key : P → ℕ × Gen) (number : I → ℕ) (p
       let beside = subst (λ (a : Links Gen T). Run key number packed greatest first following wraps a calls others (touch touches other)) (sym step.1)
       (run_touched touches key number packed greatest first following wraps two.0 other calls others two.2) in
       let rest = run_same one.0 calls replies others new (touch touches other) one.3 beside in
-      (ap₂ (λ (x : Reply P T I Gen W) (xs : List (Reply P T I Gen W)). x ∷ xs) step.0 rest.0, rest.1)
+      ((step.0, rest.0), rest.1)

@@ -29,7 +29,7 @@ module _ {Gen X Y : Type 0} (f : Gen × X → Y) (slots : List (Option (Gen × X
   kept_there None is = refl
   kept_there (Some e) is = ap (λ (y : Y). Some y) (same e.0 ∙ ap (λ (x : X). f (e.0, x)) (one_some is))
 
-  kept_map : map (option_map f) (with_slot slots n (option_map (λ (e : Gen × X). (e.0, w)) (slot_at slots n))) ≡ map (option_map f) slots
+  pub kept_map : map (option_map f) (with_slot slots n (option_map (λ (e : Gen × X). (e.0, w)) (slot_at slots n))) ≡ map (option_map f) slots
   kept_map = by n stands
     where
       by : (m : ℕ) → Some l ≡ option_map (λ (e : Gen × X). e.1) (slot_at slots m)

@@ -17,7 +17,9 @@ pub mod Transferring
 pub mod Lending
 pub mod LinkDraining
 pub mod Naming
+pub mod Numbered
 pub mod Mapping
+pub mod Ordering
 pub mod Outcomes
 pub mod Putting
 pub mod Relinking
@@ -31,3 +33,17 @@ pub mod Unlinking
 pub mod Valuing
 pub mod Within
 pub mod Writing
+pub mod Counting
+pub mod Exchanging
+pub mod Fronting
+pub mod Passing
+pub mod Settling
+pub mod Tallying
+pub mod Watching
+pub mod Directing
+pub mod Backtracking
+pub mod Retying
+pub mod Emptying
+pub mod Arranging
+pub mod Layouts
+pub mod Canonizing

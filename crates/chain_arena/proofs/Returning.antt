@@ -30,7 +30,7 @@ module _ {X Y : Type 0} (f : X → Y) where
   cut-map None (o ∷ slots) = refl
   cut-map (Some x) slots = refl
 
-  trimmed-map : (slots : List (Option X)) → map (option_map f) (trimmed slots) ≡ trimmed (map (option_map f) slots)
+  pub trimmed-map : (slots : List (Option X)) → map (option_map f) (trimmed slots) ≡ trimmed (map (option_map f) slots)
   trimmed-map [] = refl
   trimmed-map (o ∷ slots) = cut-map o (trimmed slots) ∙ ap (before_cut (option_map f o)) (trimmed-map slots)
 
@@ -52,7 +52,7 @@ module _ {X : Type 0} where
   trimmed-at (o ∷ slots) zero = cut-at o (trimmed slots) zero
   trimmed-at (o ∷ slots) (suc k) = cut-at o (trimmed slots) (suc k) ∙ trimmed-at slots k
 
-  slot_at-trimmed : (slots : List (Option X)) (i : ℕ) → slot_at (trimmed slots) i ≡ slot_at slots i
+  pub slot_at-trimmed : (slots : List (Option X)) (i : ℕ) → slot_at (trimmed slots) i ≡ slot_at slots i
   slot_at-trimmed slots zero = refl
   slot_at-trimmed slots (suc k) = trimmed-at slots k
 

@@ -1,6 +1,6 @@
 -- An arena of links that code knows by its traits alone: a link stands where an entry stands, and the entries are all.
 use Rattle.std.proofs.Common.{◌≡◌, ℕ, suc, ◌+◌, ◌≤◌, ◌<◌, List, [], ◌∷◌, length, map, Bool, true, false, Option, None, Some, refl, sym, ap, ◌∙◌, subst, inl, inr, arith, le_refl}
-use Rattle.std.specs.Prelude.{is_some, IsSome, cond, All, ◌==◌}
+use Rattle.std.specs.Prelude.{is_some, cond, All, ◌==◌}
 use Rattle.std.specs.List.{AllByRecursion}
 use Rattle.std.proofs.lemmas.List.{length-map}
 use Rattle.std.proofs.lemmas.List.Elements.{recursion_from_All}
@@ -11,7 +11,7 @@ use Rattle.chain_laws.specs.Chains.{Shown, Interlinks, Agrees, Has, prev_of}
 use Rattle.chain_laws.specs.Starts.{IsBack}
 use Rattle.chain_laws.proofs.Backing.{back_is_short}
 use Rattle.arena_base.specs.Entries.{found, first_key, index_of, RisesFrom}
-use Rattle.arena_base.specs.Advancing.{from_index, IsLookUntilNone}
+use Rattle.arena_base.specs.Advancing.{IsLookUntilNone}
 use Rattle.arena_base.specs.declared.look.Look.{Look}
 use Rattle.arena_base.specs.declared.look.Look.TheVariants.{Up}
 use Rattle.chain_arena.proofs.LinkDraining.{from_index-rises}

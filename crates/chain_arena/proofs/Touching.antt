@@ -10,15 +10,18 @@ use Rattle.arena_ptr.specs.declared.errors.ReallocationError.{ReallocationError}
 use Rattle.arena_ptr.specs.declared.invalidation.InvalidationResult.{InvalidationResult}
 use Rattle.arena_ptr.specs.declared.invalidation.InvalidationResult.TheVariants.{Success, GenerationOverflow, InvalidPtr}
 use Rattle.arena_ptr.specs.declared.packed_option.PackedOption.{PackedOption}
-use Rattle.chain_laws.specs.Chains.{Shown}
+use Rattle.chain_laws.specs.Chains.{Shown, all_items}
+use Rattle.chain_laws.specs.Renamings.{IsRenaming}
+use Rattle.chain_laws.specs.Arrangements.{place_in}
 use Rattle.chain_laws.proofs.Carrying.{renaming_is_determined}
+use Rattle.chain_laws.proofs.Partitions.{no_others}
 use Rattle.arena_base.specs.Arena.{entry_at}
 use Rattle.arena_base.specs.Compressing.{values_in}
 use Rattle.arena_base.specs.Entries.{Slots, entries, index_of, found}
 use Rattle.arena_base.specs.EntryLaws.{found-entries}
 use Rattle.chain_arena.specs.ChainArena.{shown, seen, entry, value_in, values_of, link_of, remove_link, IsJoin, IsCut, IsExchange, IsRemoval}
 use Rattle.chain_arena.specs.Drains.{without_each}
-use Rattle.chain_arena.specs.Steps.{Links, HasRoomFor, stays, grown, Connects, BreaksPrev, BreaksNext, Exchanges, Reserves, DrainsChain, IsCompression, AreSameButTouched, Tells, InsertsGrowing, InsertsWithin, Step, Run}
+use Rattle.chain_arena.specs.Steps.{Links, HasRoomFor, stays, grown, Connects, BreaksPrev, BreaksNext, Exchanges, Reserves, DrainsChain, IsCompression, IsCanonicalCompression, AreSameButTouched, Tells, InsertsGrowing, InsertsWithin, Step, Run}
 use Rattle.chain_arena.specs.declared.calls.Call.{Call}
 use Rattle.chain_arena.specs.declared.calls.Call.TheVariants as call
 use Rattle.chain_arena.specs.declared.calls.Reply.{Reply}
@@ -30,6 +33,16 @@ use Rattle.chain_arena.proofs.Mapping.{length-with_each}
 abbrev slots_or : Slots → Option Slots → Slots
 slots_or slots None = slots
 slots_or slots (Some told) = told
+
+-- values that are there are the same where they are the same as maybe missing ones
+same_values : {T : Type 0} (xs ys : List T) → map (λ t. let o : Option T = Some t in o) xs ≡ map (λ t. let o : Option T = Some t in o) ys → xs ≡ ys
+same_values {T} [] [] is = refl
+same_values {T} [] (y ∷ ys) is = absurd (let h = is in cc)
+same_values {T} (x ∷ xs) [] is = absurd (let h = is in cc)
+same_values {T} (x ∷ xs) (y ∷ ys) is =
+    let v : Some x ∷ map (λ t. let o : Option T = Some t in o) xs ≡ Some y ∷ map (λ t. let o : Option T = Some t in o) ys = is in
+    let one : x ≡ y = cc in
+    ap₂ (λ (t : T) (ts : List T). t ∷ ts) one (same_values xs ys (cc))
 
 module _ {Gen T : Type 0} where
   abbrev HasGeneration : Gen → (ℕ × Gen) × T → Type 0
@@ -49,56 +62,69 @@ module _ {Gen T : Type 0} where
       let one : e ≡ f = ap₂ (λ (k : ℕ × Gen) (t : T). (k, t)) key value in
       ap₂ (λ (x : (ℕ × Gen) × T) (xs : List ((ℕ × Gen) × T)). x ∷ xs) one (same_entries g es fs (cc) (cc) (All-tail (HasGeneration g) e es left) (All-tail (HasGeneration g) f fs right))
 
-  module _ (first : Gen) (following : Gen → Gen) (reset : Bool) (old : Links Gen T) where
-    abbrev Compressed : Links Gen T → Type 0
-    Compressed new = IsCompression first following reset old new
+  -- what is told of the slots of an arena
+  slots_told : (new : Links Gen T) (count placed touched : ℕ) → (seen new).slots ≡ Some (record { count = count; freed = []; placed = placed; touched = touched })
+      → (length new.slots ≡ count) × (new.freed ≡ []) × (new.placed ≡ placed)
+  slots_told new count placed touched told =
+      let left : Slots = record { count = length (values_of new).slots; freed = new.freed; placed = new.placed; touched = new.touched } in (
+        sym (length-with_each value_in new) ∙ ap (λ (o : Option Slots). (slots_or left o).count) told,
+        ap (λ (o : Option Slots). (slots_or left o).freed) told,
+        ap (λ (o : Option Slots). (slots_or left o).placed) told,
+      )
 
-    -- what a compression leaves of slots
-    slots_left : (new : Links Gen T) → Compressed new → (length new.slots ≡ length (seen old).entries) × (new.freed ≡ []) × (new.placed ≡ old.placed + length (seen old).entries)
-    slots_left new is =
-        let left : Slots = record { count = length (values_of new).slots; freed = new.freed; placed = new.placed; touched = new.touched } in
-        let told = is.seen.slots.2 in (
-          sym (length-with_each value_in new) ∙ ap (λ (o : Option Slots). (slots_or left o).count) told,
-          ap (λ (o : Option Slots). (slots_or left o).freed) told,
-          ap (λ (o : Option Slots). (slots_or left o).placed) told,
-        )
-
-    module _ (a b : Links Gen T) (one : Compressed a) (two : Compressed b) where
-      same_counter : a.counter ≡ b.counter
-      same_counter = let both : Some a.counter ≡ Some b.counter = one.seen.counter ∙ sym two.seen.counter in cc
-
-      same_links : entries (values_of a) ≡ entries (values_of b)
-      same_links = same_entries b.counter (entries (values_of a)) (entries (values_of b)) (one.seen.indexes ∙ sym two.seen.indexes) (one.values ∙ sym two.values)
-          (subst (λ (g : Gen). All (HasGeneration g) (entries (values_of a))) same_counter one.seen.generations) two.seen.generations
-
+  -- two arenas are the same but for touches, whose entries, interlinks and room are, and whose slots are told alike
+  same_told_alike : (a b : Links Gen T) (count placed t u : ℕ) → entries (values_of a) ≡ entries (values_of b) → shown a ≡ shown b
+      → (seen a).slots ≡ Some (record { count = count; freed = []; placed = placed; touched = t }) → (seen b).slots ≡ Some (record { count = count; freed = []; placed = placed; touched = u })
+      → a.counter ≡ b.counter → a.capacity ≡ b.capacity → a.stack_capacity ≡ b.stack_capacity → a.maximum ≡ b.maximum → AreSameButTouched a b
+  same_told_alike a b count placed t u links interlinks told_a told_b counter capacity stack_capacity maximum =
+      let left = slots_told a count placed t told_a in
+      let right = slots_told b count placed u told_b in
+      let slots = ext_get_or None a.slots b.slots (left.0 ∙ sym right.0) (λ k inside. same_entry_at (suc k)) in
+      let freed = left.1 ∙ sym right.1 in
+      let totals = left.2 ∙ sym right.2 in
+      (λ i. record {
+        slots = slots i;
+        counter = counter i;
+        freed = freed i;
+        capacity = capacity i;
+        stack_capacity = stack_capacity i;
+        maximum = maximum i;
+        placed = totals i;
+        touched = a.touched;
+      })
+    where
       same_entry_at : (i : ℕ) → entry_at a i ≡ entry_at b i
       same_entry_at i =
-          let values : entry a i ≡ entry b i = sym (found-entries (values_of a) i) ∙ (ap (found i) same_links ∙ found-entries (values_of b) i) in
-          let interlinks : shown a ≡ shown b = renaming_is_determined _ (shown old) (shown a) (shown b) one.links.renamed two.links.renamed in
+          let values : entry a i ≡ entry b i = sym (found-entries (values_of a) i) ∙ (ap (found i) links ∙ found-entries (values_of b) i) in
           sym (link_at-entry a i) ∙ (ap₂ link_of values (ap (λ (s : Shown). s i) interlinks) ∙ link_at-entry b i)
 
-      -- a compression is determined but for touches
-      pub compression_same : AreSameButTouched a b
-      compression_same =
-          let left = slots_left a one in
-          let right = slots_left b two in
-          let slots = ext_get_or None a.slots b.slots (left.0 ∙ sym right.0) (λ k inside. same_entry_at (suc k)) in
-          let counter = same_counter in
-          let freed = left.1 ∙ sym right.1 in
-          let capacity = one.seen.capacity ∙ sym two.seen.capacity in
-          let stack_capacity = one.links.stack_capacity ∙ sym two.links.stack_capacity in
-          let maximum = one.seen.maximum ∙ sym two.seen.maximum in
-          let placed = left.2 ∙ sym right.2 in
-          (λ i. record {
-            slots = slots i;
-            counter = counter i;
-            freed = freed i;
-            capacity = capacity i;
-            stack_capacity = stack_capacity i;
-            maximum = maximum i;
-            placed = placed i;
-            touched = a.touched;
-          })
+  module _ (first : Gen) (following : Gen → Gen) (reset : Bool) (old a b : Links Gen T) where
+    -- a compression is determined but for touches
+    pub compression_same : IsCompression first following reset old a → IsCompression first following reset old b → AreSameButTouched a b
+    compression_same one two =
+        let both : Some a.counter ≡ Some b.counter = one.seen.counter ∙ sym two.seen.counter in
+        let counter : a.counter ≡ b.counter = cc in
+        same_told_alike a b (length (seen old).entries) (old.placed + length (seen old).entries) _ _
+        (same_entries b.counter (entries (values_of a)) (entries (values_of b)) (one.seen.indexes ∙ sym two.seen.indexes) (one.values ∙ sym two.values)
+        (subst (λ (g : Gen). All (HasGeneration g) (entries (values_of a))) counter one.seen.generations) two.seen.generations)
+        (renaming_is_determined _ (shown old) (shown a) (shown b) one.links.renamed two.links.renamed) one.seen.slots.2 two.seen.slots.2 counter
+        (one.seen.capacity ∙ sym two.seen.capacity) (one.links.stack_capacity ∙ sym two.links.stack_capacity) (one.seen.maximum ∙ sym two.seen.maximum)
+
+    -- .. and so is a canonical one
+    pub layout_same : IsCanonicalCompression first following reset old a → IsCanonicalCompression first following reset old b → AreSameButTouched a b
+    layout_same one two =
+        let x = one.layout in
+        let y = two.layout in
+        let both : Some a.counter ≡ Some b.counter = x.counter ∙ sym y.counter in
+        let counter : a.counter ≡ b.counter = cc in
+        let order : x.indexes ≡ y.indexes = x.order.items ∙ (ap all_items (no_others (shown old) x.order.chains y.order.chains x.order.are y.order.are) ∙ sym y.order.items) in
+        let values = same_values (values_in (entries (values_of a))) (values_in (entries (values_of b)))
+        (x.values ∙ (ap (λ (is : List ℕ). map (λ i. option_map (λ (e : Gen × T). e.1) (found i (seen old).entries)) is) order ∙ sym y.values)) in
+        same_told_alike a b (length (seen old).entries) (old.placed + length (seen old).entries) _ _
+        (same_entries b.counter (entries (values_of a)) (entries (values_of b)) (x.keys ∙ sym y.keys) values
+        (subst (λ (g : Gen). All (HasGeneration g) (entries (values_of a))) counter x.generations) y.generations)
+        (renaming_is_determined _ (shown old) (shown a) (shown b) (subst (λ (is : List ℕ). IsRenaming (place_in is) (shown old) (shown a)) order x.renamed) y.renamed) x.slots.2 y.slots.2 counter
+        (x.capacity ∙ sym y.capacity) (one.stack_capacity ∙ sym two.stack_capacity) (x.maximum ∙ sym y.maximum)
 
 -- what is told of an answer tells what follows from it
 tells_so : {X : Type 0} {No Not : Type 0} (Done Made : X → Type 0) (overflow : Bool) (r : InvalidationResult X) → (No → Not) → ((x : X) → Done x → Made x) → Tells No overflow Done r → Tells Not overflow Made r
@@ -166,6 +192,28 @@ module _ (n : ℕ) where
           links = record { renamed = made.links.renamed; stack_capacity = made.links.stack_capacity };
         }
 
+    layout_touched : (first : Gen) (following : Gen → Gen) (reset : Bool) → IsCanonicalCompression first following reset old new → IsCanonicalCompression first following reset (touch old) (touch new)
+    layout_touched first following reset made =
+        let count = length (seen old).entries in
+        let counted = (λ (m : ℕ). let o : Option Slots = Some (record { count = count; freed = []; placed = old.placed + count; touched = m }) in o) in
+        let none : n ≡ n + 0 = omega arith in
+        record {
+          layout = record {
+            indexes = made.layout.indexes;
+            order = made.layout.order;
+            renamed = made.layout.renamed;
+            runs = made.layout.runs;
+            keys = made.layout.keys;
+            values = made.layout.values;
+            counter = made.layout.counter;
+            generations = made.layout.generations;
+            slots = (0, omega arith, ap (option_map (λ (s : Slots). let t : Slots = record s { touched = n } in t)) made.layout.slots.2 ∙ ap counted none);
+            capacity = made.layout.capacity;
+            maximum = made.layout.maximum;
+          };
+          stack_capacity = made.stack_capacity;
+        }
+
   module _ {Gen T : Type 0} (following : Gen → Gen) where
     without_each_touched : (old : Links Gen T) (walk : List ℕ) → touch (without_each following old walk) ≡ without_each following (touch old) walk
     without_each_touched old [] = refl
@@ -231,6 +279,7 @@ module _ (n : ℕ) where
     step_touched old new (call.DrainChain p take) r step = (step.0, step.1, drains_touched following old new (key p) take step.0 step.2)
     step_touched old new call.Clear r step = (step.0, ap touch step.1)
     step_touched old new (call.Compress reset) r step = (step.0, compression_touched old new first following reset step.1)
+    step_touched old new (call.CompressCanonical reset) r step = (step.0, layout_touched old new first following reset step.1)
     step_touched old new (call.Reserve m) r step = (step.0, step.1, reserves_touched old new greatest m step.0 step.2)
     step_touched old new (call.SetGeneration g) r step = (step.0, ap touch step.1)
     step_touched old new call.IncGeneration r step = (step.0, ap touch step.1)

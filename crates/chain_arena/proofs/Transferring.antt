@@ -1,5 +1,5 @@
 -- The loop of a transfer: its beginning, its two steps and its end.
-use Rattle.std.proofs.Common.{◌≡◌, ◌≢◌, ℕ, suc, ◌+◌, ◌≤◌, ◌<◌, ◌⊎◌, inl, inr, Bool, true, List, [], ◌∷◌, ◌++◌, length, map, Option, None, Some, refl, sym, ap, ap₂, ◌∙◌, subst, subst₂, append_assoc, append-nil, length-append, arith}
+use Rattle.std.proofs.Common.{◌≡◌, ◌≢◌, ℕ, ◌+◌, ◌≤◌, ◌<◌, inl, Bool, true, List, [], ◌∷◌, ◌++◌, length, map, Option, None, Some, refl, sym, ap, ap₂, ◌∙◌, subst, subst₂, append_assoc, append-nil, length-append, arith}
 use Rattle.std.specs.Prelude.{is_some, IfSome, IfNone}
 use Rattle.std.specs.Option.{option_map}
 use Rattle.std.specs.Fn.{Mut, Called}
@@ -11,9 +11,8 @@ use Rattle.chain_laws.specs.Neighbors.{AreTheChains}
 use Rattle.chain_laws.specs.Insertions.{IsGap}
 use Rattle.chain_laws.specs.Removals.{removed as passed_over}
 use Rattle.chain_laws.specs.Renamings.{IsRenaming}
-use Rattle.chain_laws.specs.Arrangements.{place_in, in_runs, IsLeastIndexOrder}
+use Rattle.chain_laws.specs.Arrangements.{place_in, in_runs}
 use Rattle.chain_laws.specs.Walks.{going_on}
-use Rattle.chain_laws.specs.Starts.{chain_of}
 use Rattle.chain_laws.specs.Relays.{with_left, with_laid, end_before, end_after}
 use Rattle.chain_laws.proofs.Members.{HasNoRepetition-apart}
 use Rattle.chain_laws.proofs.Neighboring.{agrees_from_chains, chains_from_pairs}

@@ -7,5 +7,10 @@ pub mod Drains
 pub mod Transfers
 pub mod Compressions
 pub mod HeldLinks
+pub mod Layouts
+pub mod Counts
+pub mod Moving
+pub mod Numbering
 pub mod Steps
 pub mod ChainArenaLaws
+pub mod Rounds

@@ -2,6 +2,7 @@
 -- before those below it. Want of memory is the only free choice, and how far a growth goes, and how many slots a
 -- compression touches.
 use Rattle.std.specs.Prelude.{◌≡◌, ℕ, ◌+◌, ◌<◌, ◌≤◌, min, Bool, true, false, List, [], ◌∷◌, length, ⊤, Option, None, Some, Result, Ok, Err}
+use Rattle.std.specs.List.{AllZip}
 use Rattle.arena_ptr.specs.Invalidation.{invalidation_option}
 use Rattle.arena_ptr.specs.SlotStack.{IsBeyond}
 use Rattle.arena_ptr.specs.declared.packed_option.PackedOption.{PackedOption}
@@ -21,7 +22,8 @@ use Rattle.chain_arena.specs.ChainArena.{LinkSeen, shown, entry, values_of, seen
 use Rattle.chain_arena.specs.Compressions.{ClosesGaps}
 use Rattle.chain_arena.specs.Drains.{without_each}
 use Rattle.chain_arena.specs.Kinds.{names_in, by_index, MayInsert}
-use Rattle.chain_arena.specs.Links.{seen_link}
+use Rattle.chain_arena.specs.Layouts.{IsCanonicalLayout}
+use Rattle.chain_arena.specs.Links.{seen_link, seen_pair}
 use Rattle.chain_arena.specs.declared.calls.Call.{Call}
 use Rattle.chain_arena.specs.declared.calls.Call.TheVariants as call
 use Rattle.chain_arena.specs.declared.calls.Reply.{Reply}
@@ -87,6 +89,11 @@ module _ {Gen T : Type 0} where
     pub values : values_in (entries (values_of new)) ≡ values_in (entries (values_of old))
     pub links : ClosesGaps old new
 
+  -- the chains are laid one after another
+  pub record IsCanonicalCompression (first : Gen) (following : Gen → Gen) (reset : Bool) (old new : Links Gen T) : Type 0 where
+    pub layout : IsCanonicalLayout first following reset (seen old) (shown old) (seen new) (shown new)
+    pub stack_capacity : new.stack_capacity ≡ old.stack_capacity
+
   -- two arenas that are the same, but for how many slots were touched
   abbrev pub AreSameButTouched : Links Gen T → Links Gen T → Type 0
   AreSameButTouched a b = a ≡ record b { touched = a.touched }
@@ -96,6 +103,13 @@ abbrev pub Tells : {X : Type 0} → Type 0 → Bool → (X → Type 0) → Inval
 Tells invalid overflow done InvalidPtr = invalid
 Tells invalid overflow done (Success x) = (overflow ≡ false) × done x
 Tells invalid overflow done (GenerationOverflow x) = (overflow ≡ true) × done x
+
+-- two answers that tell the same, as it is seen
+abbrev pub TellSame : {X Y : Type 0} → (X → Y) → InvalidationResult X → InvalidationResult X → Type 0
+TellSame see InvalidPtr InvalidPtr = ⊤
+TellSame see (Success x) (Success y) = see x ≡ see y
+TellSame see (GenerationOverflow x) (GenerationOverflow y) = see x ≡ see y
+TellSame see answer other = ⊥
 
 module _ {P I Gen : Type 0} (key : P → ℕ × Gen) (number : I → ℕ) where
   -- a kind by the indexes that it names
@@ -165,6 +179,7 @@ module _ {P T I Gen W : Type 0} (key : P → ℕ × Gen) (number : I → ℕ) (p
   Step old (call.DrainChain p take) r new = (answer : Option ℕ) × (r ≡ reply.Drained answer) × DrainsChain following old (key p) take answer new
   Step old call.Clear r new = (r ≡ reply.Counted (invalidation_option (overflows_after_clear wraps (entry_count old) old.counter) tt)) × (new ≡ cleared following old)
   Step old (call.Compress reset) r new = (r ≡ reply.Counted (invalidation_option (overflows_after_compression wraps reset (entry_count old) old.counter) tt)) × IsCompression first following reset old new
+  Step old (call.CompressCanonical reset) r new = (r ≡ reply.Counted (invalidation_option (overflows_after_compression wraps reset (entry_count old) old.counter) tt)) × IsCanonicalCompression first following reset old new
   Step old (call.Reserve n) r new = (answer : Result Unit ReallocationError) × (r ≡ reply.Reserved answer) × Reserves greatest old n answer new
   Step old (call.SetGeneration g) r new = (r ≡ reply.Set) × (new ≡ with_counter old g)
   Step old call.IncGeneration r new = (r ≡ reply.Counted (invalidation_option (wraps old.counter) tt)) × (new ≡ with_counter old (following old.counter))
@@ -187,10 +202,16 @@ module _ {P T I Gen W : Type 0} (key : P → ℕ × Gen) (number : I → ℕ) (p
   RunInRoom old (call ∷ calls) (reply ∷ replies) new = (between : Links Gen T) × HasRoomAlready old call × Step old call reply between × RunInRoom between calls replies new
   RunInRoom old calls replies new = ⊥
 
+-- two replies are the same, where a link is looked at by its neighbors and its value
+abbrev pub ShowSame : {P T I Gen W : Type 0} → (PackedOption I W → Option ℕ) → Reply P T I Gen W → Reply P T I Gen W → Type 0
+ShowSame packed (reply.Removed answer) (reply.Removed other) = TellSame (seen_link packed) answer other
+ShowSame packed (reply.RemovedInx answer) (reply.RemovedInx other) = TellSame (seen_pair packed) answer other
+ShowSame packed r s = r ≡ s
+
 module _ {P I Gen W : Type 0} (key : P → ℕ × Gen) (number : I → ℕ) (packed : PackedOption I W → Option ℕ) (greatest : ℕ) (first : Gen) (following : Gen → Gen) (wraps : Gen → Bool) where
   -- But for growth and memory a state and a list of calls determine the replies, and the state after them but for how many
   -- slots were touched, which a compression alone leaves open.
   abbrev pub RunIsDetermined : Type 0 → Type 0
   RunIsDetermined T = (old : Links Gen T) (calls : List (Call P T I Gen W)) (replies others : List (Reply P T I Gen W)) (new other : Links Gen T)
       → RunInRoom key number packed greatest first following wraps old calls replies new → Run key number packed greatest first following wraps old calls others other
-      → (replies ≡ others) × AreSameButTouched new other
+      → AllZip (ShowSame packed) replies others × AreSameButTouched new other

@@ -13,6 +13,7 @@ use Rattle.arena_base.specs.Entries.{Seen, entries, found, removed}
 use Rattle.arena_base.specs.declared.look.Look.{Look}
 use Rattle.arena_base.specs.declared.look.Look.TheVariants.{Up}
 use Rattle.chain_arena.specs.ChainArena.{LinkSeen, shown, values_of}
+use Rattle.chain_arena.specs.Layouts.{IsCanonicalLayout}
 
 -- a link that was carried over: the pointer that it had, its value with whether its removal overflowed the counter, the
 -- pointer that it has, and the value that the closure answered for it
@@ -65,6 +66,14 @@ module _ {Q P G Gen U T F : Type 0} (key : Q → ℕ × G) (new_key : P → ℕ 
     -- the source is empty: each of its links was removed, in that order
     pub removals : source_after ≡ removed_each following source (map (old_index key) carried)
     pub empty : source_after.entries ≡ []
+
+-- A compression and a transfer of the same links lay them out alike: each comes to the same index, and names the same
+-- neighbors.
+abbrev pub LaysOutAlike : {Q P G Gen U T F : Type 0} → (Q → ℕ × G) → (P → ℕ × Gen) → G → (G → G) → (G → Bool) → Mut F (Q × (InvalidationOption U × (P × Unit {0}))) T → Type 0
+LaysOutAlike {Q} {P} {G} {Gen} {U} {T} {F} key new_key first following wraps call =
+    (reset : Bool) (generation : Gen) (f : F) (source compressed source_after : Seen G U) (links compressed_links : Shown) (old new : Arena Gen (LinkSeen T))
+    (layout : IsCanonicalLayout first following reset source links compressed compressed_links) (transfer : IsTransfer key new_key following wraps call generation f source links source_after old new)
+    → (layout.indexes ≡ map (old_index key) transfer.carried) × (compressed_links ≡ shown new)
 
 -- the first and the last index of a chain that lies in the so many indexes before q; none where it lies in none
 abbrev pub AreEnds : {I : Type 0} → (I → ℕ) → Option (I × I) → ℕ → ℕ → Type 0

@@ -45,6 +45,8 @@ pub enum Call<P: Ptr, T> {
     Clear,
     /// Closes the gaps. With `true` the counter begins anew.
     Compress(bool),
+    /// Lays the chains one after another. With `true` the counter begins anew.
+    CompressCanonical(bool),
     /// Grows to room for so many links.
     Reserve(usize),
     /// Sets the counter.
@@ -68,7 +70,7 @@ pub enum Reply<P: Ptr, T> {
     Renewed(InvalidationResult<P>),
     /// Of `DrainChain`: how many links were taken. `None`: the pointer is not valid.
     Drained(Option<usize>),
-    /// Of `Clear`, `Compress` and `IncGeneration`: whether the counter overflowed.
+    /// Of `Clear`, `Compress`, `CompressCanonical` and `IncGeneration`: whether the counter overflowed.
     Counted(InvalidationOption<()>),
     /// Of `Reserve`: why the arena did not grow, if it did not.
     Reserved(Result<(), ReallocationError>),
@@ -96,6 +98,7 @@ pub fn apply<P: Ptr, T: Drop, S: SlotStack<Item = ArenaSlot<P, LinkNoGen<P, T>>>
         Call::DrainChain { p, take } => Reply::Drained(drain(arena, p, take)),
         Call::Clear => Reply::Counted(arena.clear()),
         Call::Compress(reset) => Reply::Counted(arena.compress(reset)),
+        Call::CompressCanonical(reset) => Reply::Counted(arena.compress_canonical(reset)),
         Call::Reserve(n) => Reply::Reserved(reserve(arena, n)),
         Call::SetGeneration(generation) => {
             arena.set_generation(generation);

@@ -5,22 +5,28 @@ ghost use Rattle.std.specs.Option.{option_map};
 ghost use Rattle.arena_ptr.specs.Invalidation.{invalidation_option};
 ghost use Rattle.chain_laws.specs.Insertions.{IsGap};
 ghost use Rattle.arena_base.specs.Arena.{entry_count, next_index, with_counter, with_maximum, with_capacity_of, IsValid, IsListed, HasRoom};
+ghost use Rattle.arena_base.specs.Compressing.{overflows_after_compression};
 ghost use Rattle.arena_base.specs.Slots.{entry_of};
-ghost use Rattle.chain_arena.specs.ChainArena.{entry, shown, insert_between, IsWalkOf};
+ghost use Rattle.chain_arena.specs.ChainArena.{entry, seen, shown, insert_between, IsWalkOf};
 ghost use Rattle.chain_arena.specs.Kinds.{before_in, after_in, names_in, IsGapOf};
+ghost use Rattle.chain_arena.specs.Layouts.{IsCanonicalLayout, ShowsAll, ShowsLayout, AreAllMoves};
 ghost use Rattle.chain_arena.specs.Links.{seen_pair};
 
+use crate::canonical::lay_out;
 use crate::chain_iterators::ChainIter;
+use crate::compress::begin_generation;
 use crate::gaps::{Gap, gap_of};
 use crate::interlinks::freed_are_free;
 use crate::kinds::{LinkInsertKind, by_names};
 use crate::links::LinkNoGen;
 use crate::placing::{link_in, tie};
-use arena_base::{Arena, ArenaSlot, ArenaTrait};
+use crate::visiting::{Listing, Showing, Visitor};
+use arena_base::{Arena, ArenaSlot, ArenaTrait, Work};
 use arena_ptr::{
-    HeapStack, InvalidationOption, LimitStack, MaxCapacityReductionError, NotWithinCapacityError,
-    Ptr, ReallocationError, SetMaxCapacity, SlotStack,
+    AllocError, HeapStack, InvalidationOption, LimitStack, MaxCapacityReductionError,
+    NotWithinCapacityError, Ptr, ReallocationError, SetMaxCapacity, SlotStack,
 };
+use std::alloc::Global;
 use std::marker::Model;
 
 /// Links under typed pointers with generations, tied into many separate doubly linked chains, linear or cyclic.
@@ -139,6 +145,90 @@ impl<P: Ptr, T: Drop, S: SlotStack<Item = ArenaSlot<P, LinkNoGen<P, T>>>> ChainA
         ensures after { self.new ≡ with_counter self.old (P.Gen.following self.old.counter) }
     {
         self.arena.inc_generation()
+    }
+
+    // Sets the counter, and lays the links out. Answers whether the counter overflowed, the visitor, and the work.
+    fn compress_by<V: Visitor<P>>(
+        &mut self,
+        reset: bool,
+        visitor: V,
+    ) -> (InvalidationOption<()>, V, Work)
+        requires { V.is_ready visitor }
+        ensures canonical { IsCanonicalLayout P.Gen.first P.Gen.following reset (seen self.old) (shown self.old) (seen self.new) (shown self.new) }
+        ensures stack_capacity { self.new.stack_capacity ≡ self.old.stack_capacity }
+        ensures shows { ShowsAll V.sees P.key (seen self.old) (shown self.old) self.new.counter visitor result.1 }
+        ensures overflow { result.0 ≡ invalidation_option (overflows_after_compression P.Gen.wraps reset (entry_count self.old) self.old.counter) tt }
+        ensures placed { self.new.placed ≡ self.old.placed + result.2.placed }
+        ensures touched { self.new.touched ≡ self.old.touched + result.2.touched }
+        ensures agreed { Agrees (shown self.old) }
+    {
+        let overflow = begin_generation(&mut self.arena, reset);
+        let (visitor, work) = lay_out(&mut self.arena, visitor);
+        (overflow, visitor, work)
+    }
+
+    /// Lays the chains one after another from index 1 on, in the order of their least indexes, as `compress_canonical`
+    /// does, and shows each link to the closure, once, by rising new index: by the pointer that it had, and the one that it
+    /// has. It takes no memory.
+    ///
+    /// `GenerationOverflow`: the counter was at its greatest, and is two now.
+    pub fn compress_canonical_with<F: FnMut(P, P) + Drop>(
+        &mut self,
+        reset: bool,
+        map: F,
+    ) -> InvalidationOption<()>
+        requires { F.IsAlwaysCallable map }
+        ensures canonical { IsCanonicalLayout P.Gen.first P.Gen.following reset (seen self.old) (shown self.old) (seen self.new) (shown self.new) }
+        ensures stack_capacity { self.new.stack_capacity ≡ self.old.stack_capacity }
+        ensures shows { ShowsLayout F.FnMut P.key (seen self.old) (shown self.old) self.new.counter map }
+        ensures overflow { result ≡ invalidation_option (overflows_after_compression P.Gen.wraps reset (entry_count self.old) self.old.counter) tt }
+        ensures agreed { Agrees (shown self.old) }
+    {
+        let (overflow, _, _) = self.compress_by(reset, Showing { map });
+        overflow
+    }
+
+    /// `compress_canonical`, which answers the pointers that each link had and has, by rising new index. The room for them
+    /// is taken first.
+    ///
+    /// `AllocError`: memory for the pointers was refused, and nothing has changed. `GenerationOverflow`: the counter was at
+    /// its greatest, and is two now.
+    pub fn compress_canonical_moves(
+        &mut self,
+        alloc: Global,
+        reset: bool,
+    ) -> Result<(InvalidationOption<()>, Vec<(P, P)>), AllocError>
+        ensures canonical { OnOk result (IsCanonicalLayout P.Gen.first P.Gen.following reset (seen self.old) (shown self.old) (seen self.new) (shown self.new)) }
+        ensures stack_capacity { self.new.stack_capacity ≡ self.old.stack_capacity }
+        ensures moves { IfOk result (λ r. AreAllMoves P.key (seen self.old) (shown self.old) self.new.counter r.1.items) }
+        ensures overflow { IfOk result (λ r. r.0 ≡ invalidation_option (overflows_after_compression P.Gen.wraps reset (entry_count self.old) self.old.counter) tt) }
+        ensures err { OnErr result (self.new ≡ self.old) }
+        ensures agreed { Agrees (shown self.old) }
+    {
+        let moves = Vec::with_capacity(alloc, self.len())?;
+        let (overflow, listing, _) = self.compress_by(reset, Listing { moves });
+        Ok((overflow, listing.moves))
+    }
+
+    /// `compress_canonical` with its work: how many links were placed, which is how many there are, and how many slots were
+    /// looked at, at most four times as many as there were slots and twelve times as many as there are links.
+    ///
+    /// `GenerationOverflow`: the counter was at its greatest, and is two now.
+    pub fn compress_canonical_counted(&mut self, reset: bool) -> (InvalidationOption<()>, Work)
+        ensures canonical { IsCanonicalLayout P.Gen.first P.Gen.following reset (seen self.old) (shown self.old) (seen self.new) (shown self.new) }
+        ensures stack_capacity { self.new.stack_capacity ≡ self.old.stack_capacity }
+        ensures overflow { result.0 ≡ invalidation_option (overflows_after_compression P.Gen.wraps reset (entry_count self.old) self.old.counter) tt }
+        ensures placed { self.new.placed ≡ self.old.placed + result.1.placed }
+        ensures touched { self.new.touched ≡ self.old.touched + result.1.touched }
+        ensures agreed { Agrees (shown self.old) }
+    {
+        let (overflow, _, work) = self.compress_by(
+            reset,
+            Showing {
+                map: |_p: P, _q: P| {},
+            },
+        );
+        (overflow, work)
     }
 
     /// The slots.

@@ -1,6 +1,6 @@
-ghost use Rattle.std.specs.Prelude.{◌≡◌, ◌≢◌, ◌↔◌, ◌<◌, ◌+◌, ◌⊎◌, ℕ, is_some, Option, map, IsTrue, IsSome, IfSome, OnSome, IfNone, IsOk, IfOk, IsErr, IfErr, OnOk, OnErr, Err, None};
+ghost use Rattle.std.specs.Prelude.{◌≡◌, ◌≢◌, ◌↔◌, ◌<◌, ◌+◌, ◌⊎◌, ℕ, is_some, Option, map, length, IsTrue, IsSome, IfSome, OnSome, IfNone, IsOk, IfOk, IsErr, IfErr, OnOk, OnErr, Err, None};
 ghost use Rattle.std.specs.Option.{option_map};
-ghost use Rattle.arena_ptr.specs.Invalidation.{value_within, invalidation_result};
+ghost use Rattle.arena_ptr.specs.Invalidation.{value_within, invalidation_option, invalidation_result};
 ghost use Rattle.chain_laws.specs.Chains.{Shown, Agrees, prev_of, next_of};
 ghost use Rattle.chain_laws.specs.Cuts.{cut};
 ghost use Rattle.chain_laws.specs.Exchanges.{exchanged};
@@ -12,9 +12,11 @@ ghost use Rattle.chain_laws.specs.Arrangements.{place_in};
 ghost use Rattle.arena_base.specs.Arena.{IsValid, IsRoom};
 ghost use Rattle.arena_base.specs.Entries.{count, index_of, HasRoomLeft, NeedsBeyondMaximum};
 ghost use Rattle.arena_base.specs.Entries.{removed as seen_removed};
+ghost use Rattle.arena_base.specs.Compressing.{overflows_after_compression};
 ghost use Rattle.chain_arena.specs.ChainArena.{link_at, on_value, CanConnect, CanExchange, IsLinkAt};
 ghost use Rattle.chain_arena.specs.Insertions.{IsInsertion};
 ghost use Rattle.chain_arena.specs.Kinds.{names_in, by_index, MayInsert};
+ghost use Rattle.chain_arena.specs.Layouts.{IsCanonicalLayout};
 ghost use Rattle.chain_arena.specs.Links.{seen_link, seen_lent};
 ghost use Rattle.chain_laws.specs.Walks.{Walker, walker_at};
 ghost use Rattle.chain_arena.specs.Walkers.{IsPassing};
@@ -22,7 +24,10 @@ ghost use Rattle.chain_arena.specs.Walkers.{IsPassing};
 use crate::kinds::LinkInsertKind;
 use crate::links::{Link, LinkNoGen};
 use arena_base::{Advancer, ArenaTrait};
-use arena_ptr::{ChainInsertionError, InvalidationResult, Ptr, PtrGen, PtrInx, ReallocationError};
+use arena_ptr::{
+    ChainInsertionError, InvalidationOption, InvalidationResult, Ptr, PtrGen, PtrInx,
+    ReallocationError,
+};
 
 /// An arena whose entries are links, each in one linear or cyclic chain.
 ///
@@ -191,6 +196,17 @@ pub trait ChainArenaTrait<P: Ptr, T: Drop>: ArenaTrait<P, T> {
         ensures valid { IsSome (Self.entry self.old (P.Inx.number i)) →
             (Self.seen self.new ≡ seen_removed P.Gen.following (Self.seen self.old) (P.Inx.number i)) × (interlinks self.new ≡ removed (interlinks self.old) (P.Inx.number i)) }
         ensures invalid { Self.entry self.old (P.Inx.number i) ≡ None → self.new ≡ self.old }
+        ensures agreed { Agrees (interlinks self.old) };
+
+    /// Lays the chains one after another from index 1 on, in the order of their least indexes: each comes to one run of
+    /// indexes in `next` order, a linear one from its start, a cyclic one from its least index. Each link keeps its value
+    /// and its neighbors, and has the counter as its generation. The slots are exactly the links then. It takes no memory.
+    ///
+    /// The counter begins anew with `reset`, and else is incremented where there are links. `GenerationOverflow`: it was at
+    /// its greatest, and is two now.
+    fn compress_canonical(&mut self, reset: bool) -> InvalidationOption<()>
+        ensures canonical { IsCanonicalLayout P.Gen.first P.Gen.following reset (Self.seen self.old) (interlinks self.old) (Self.seen self.new) (interlinks self.new) }
+        ensures overflow { IfSome (Self.seen self.old).counter (λ g. result ≡ invalidation_option (overflows_after_compression P.Gen.wraps reset (length (Self.seen self.old).entries) g) tt) }
         ensures agreed { Agrees (interlinks self.old) };
 
     // A call of an advancer along a chain passes the link before it, in the arena of that call, or nothing any more.

@@ -22,7 +22,7 @@ use arena_base::{Arena, ArenaSlot, ArenaTrait, Compactor, SlotAccess};
 use arena_ptr::{InvalidationOption, Ptr, PtrGen, PtrInx, SlotStack};
 
 // The index at a position, from 0.
-fn inx_at<I: PtrInx>(k: usize) -> I
+pub(crate) fn inx_at<I: PtrInx>(k: usize) -> I
     requires { k < I.greatest }
     ensures { I.number result ≡ k + 1 }
 {
@@ -169,7 +169,9 @@ pub(crate) fn begin_generation<P: Ptr, T: Drop, S: SlotStack<Item = ArenaSlot<P,
 }
 
 // The capacity is the lesser of the stack's and the greatest index.
-fn has_room<P: Ptr, T: Drop, S: SlotStack<Item = ArenaSlot<P, T>>>(arena: &Arena<P, T, S>)
+pub(crate) fn has_room<P: Ptr, T: Drop, S: SlotStack<Item = ArenaSlot<P, T>>>(
+    arena: &Arena<P, T, S>,
+)
     ensures { HasRoom P.Inx.greatest (length arena.now.slots) arena.now }
 {
     arena.len();

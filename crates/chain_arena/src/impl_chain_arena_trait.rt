@@ -1,7 +1,7 @@
 // A chain arena as an arena of links.
-ghost use Rattle.std.specs.Prelude.{◌≡◌, ◌≢◌, ◌↔◌, ◌<◌, ◌+◌, ◌⊎◌, IsTrue, IsSome, IfSome, OnSome, IfNone, IsOk, IfOk, IsErr, IfErr, OnOk, OnErr, Err, None, Some};
+ghost use Rattle.std.specs.Prelude.{◌≡◌, ◌≢◌, ◌↔◌, ◌<◌, ◌+◌, ◌⊎◌, length, IsTrue, IsSome, IfSome, OnSome, IfNone, IsOk, IfOk, IsErr, IfErr, OnOk, OnErr, Err, None, Some};
 ghost use Rattle.std.specs.Option.{option_map};
-ghost use Rattle.arena_ptr.specs.Invalidation.{value_within, is_overflow_result, invalidation_result};
+ghost use Rattle.arena_ptr.specs.Invalidation.{value_within, is_overflow_result, invalidation_option, invalidation_result};
 ghost use Rattle.chain_laws.specs.Chains.{Agrees, prev_of, next_of};
 ghost use Rattle.chain_laws.specs.Cuts.{cut};
 ghost use Rattle.chain_laws.specs.Exchanges.{exchanged};
@@ -11,10 +11,12 @@ ghost use Rattle.chain_laws.specs.Removals.{removed, Removes, RemovesPairs};
 ghost use Rattle.arena_base.specs.Arena.{entry_count, next_index, with_capacity_of, IsValid, IsRoom, HasRoom};
 ghost use Rattle.arena_base.specs.Entries.{count, HasRoomLeft, NeedsBeyondMaximum};
 ghost use Rattle.arena_base.specs.Entries.{removed as seen_removed};
+ghost use Rattle.arena_base.specs.Compressing.{overflows_after_compression};
 ghost use Rattle.chain_arena.specs.ChainArena.{shown as interlinks};
 ghost use Rattle.chain_arena.specs.ChainArena.{seen, entry, relinked, insert_as, remove_link, link_at, on_value, CanConnect, CanExchange, IsCut, IsExchange, IsLinkAt};
 ghost use Rattle.chain_arena.specs.Insertions.{IsInsertion};
 ghost use Rattle.chain_arena.specs.Kinds.{names_in, by_index, MayInsert};
+ghost use Rattle.chain_arena.specs.Layouts.{IsCanonicalLayout};
 ghost use Rattle.chain_arena.specs.Links.{seen_link, seen_lent};
 ghost use Rattle.chain_laws.specs.Walks.{walker_at};
 ghost use Rattle.chain_arena.specs.Walkers.{walker_of};
@@ -28,7 +30,8 @@ use crate::kinds::{LinkInsertKind, Name};
 use crate::links::{Link, LinkNoGen};
 use arena_base::{Advancer, ArenaSlot, ArenaTrait};
 use arena_ptr::{
-    ChainInsertionError, InvalidationResult, Ptr, PtrGen, PtrInx, ReallocationError, SlotStack,
+    ChainInsertionError, InvalidationOption, InvalidationResult, Ptr, PtrGen, PtrInx,
+    ReallocationError, SlotStack,
 };
 
 impl<P: Ptr, T: Drop, S: SlotStack<Item = ArenaSlot<P, LinkNoGen<P, T>>>> ChainArenaTrait<P, T>
@@ -284,6 +287,15 @@ impl<P: Ptr, T: Drop, S: SlotStack<Item = ArenaSlot<P, LinkNoGen<P, T>>>> ChainA
         ensures pairs { IsSome (entry self.old (P.Inx.number i)) → RemovesPairs (interlinks self.old) (interlinks self.new) (P.Inx.number i) }
     {
         take_out(&mut self.arena, i)
+    }
+
+    fn compress_canonical(&mut self, reset: bool) -> InvalidationOption<()>
+        ensures canonical { IsCanonicalLayout P.Gen.first P.Gen.following reset (seen self.old) (interlinks self.old) (seen self.new) (interlinks self.new) }
+        ensures overflow { IfSome (seen self.old).counter (λ g. result ≡ invalidation_option (overflows_after_compression P.Gen.wraps reset (length (seen self.old).entries) g) tt) }
+        ensures agreed { Agrees (interlinks self.old) }
+        ensures stack_capacity { self.new.stack_capacity ≡ self.old.stack_capacity }
+    {
+        self.compress_canonical_with(reset, |_p: P, _q: P| {})
     }
 }
 

@@ -2,6 +2,7 @@
 #![tactic(auto)]
 
 mod calls;
+mod canonical;
 mod chain_advancer;
 mod chain_arena;
 mod chain_drains;
@@ -17,8 +18,11 @@ mod iterators;
 mod kinds;
 mod link_drains;
 mod links;
+mod moving;
+mod numbering;
 mod placing;
 mod transfer;
+mod visiting;
 
 pub use calls::{Call, Reply, apply, run_calls, runs_are_determined};
 pub use chain_advancer::ChainPtrAdvancer;
@@ -31,3 +35,4 @@ pub use iterators::ValIter;
 pub use kinds::{InsertKindBody, LinkInsertKind};
 pub use link_drains::LinkDrain;
 pub use links::{Link, LinkBody, LinkNoGen};
+pub use transfer::compression_and_transfer_agree;

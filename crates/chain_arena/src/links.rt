@@ -1,4 +1,4 @@
-ghost use Rattle.std.specs.Prelude.{◌≡◌};
+ghost use Rattle.std.specs.Prelude.{◌≡◌, None};
 ghost use Rattle.std.specs.Option.{option_map};
 ghost use Rattle.chain_arena.specs.Links.{seen_link};
 
@@ -9,6 +9,9 @@ use arena_ptr::{PackedOption, Ptr, PtrInx, ToolPtr};
 pub struct LinkBody<K, T> {
     prev: K,
     next: K,
+
+    // Where the link is to stand, while a compression moves the links.
+    destination: K,
 
     /// The value.
     pub t: T,
@@ -22,8 +25,8 @@ pub type Interlink<P> = PackedOption<<P as Ptr>::Inx, <<P as Ptr>::Inx as PtrInx
 /// Carries `LinkNoGen` of `triple_arena`.
 pub type LinkNoGen<P, T> = LinkBody<Interlink<P>, T>;
 
-// An interlink takes no more than its index.
-const _: () = prove!(size_of::<LinkNoGen<ToolPtr, u32>>() == 12);
+// An interlink takes no more than its index, and so does a destination.
+const _: () = prove!(size_of::<LinkNoGen<ToolPtr, u32>>() == 16);
 
 impl<W: Copy, I: PtrInx<Word = W>, T> LinkBody<PackedOption<I, W>, T> {
     /// The index of the link before this one in its chain. `None` at the start of the chain.
@@ -55,6 +58,7 @@ impl<W: Copy, I: PtrInx<Word = W>, T> LinkBody<PackedOption<I, W>, T> {
         LinkBody {
             prev: I::pack(prev_next.0),
             next: I::pack(prev_next.1),
+            destination: I::pack(None),
             t,
         }
     }
@@ -80,6 +84,32 @@ impl<W: Copy, I: PtrInx<Word = W>, T> LinkBody<PackedOption<I, W>, T> {
         ensures rest { self.new ≡ record self.old { prev = self.new.prev } }
     {
         self.prev = I::pack(prev);
+    }
+
+    // Where the link is to stand, if that is set.
+    pub(crate) fn destination(&self) -> Option<I>
+        ensures { option_map I.number result ≡ I.packed_number self.now.destination }
+    {
+        I::unpack(self.destination)
+    }
+
+    // The link is to stand elsewhere.
+    pub(crate) fn set_destination(&mut self, destination: Option<I>)
+        ensures destination { I.packed_number self.new.destination ≡ option_map I.number destination }
+        ensures rest { self.new ≡ record self.old { destination = self.new.destination } }
+    {
+        self.destination = I::pack(destination);
+    }
+
+    // Where the link is to stand, if that is set, which then it is no more.
+    pub(crate) fn take_destination(&mut self) -> Option<I>
+        ensures answer { option_map I.number result ≡ I.packed_number self.old.destination }
+        ensures empty { I.packed_number self.new.destination ≡ None }
+        ensures rest { self.new ≡ record self.old { destination = self.new.destination } }
+    {
+        let destination = self.destination();
+        self.set_destination(None);
+        destination
     }
 }
 

@@ -14,7 +14,7 @@ ghost use Rattle.arena_base.specs.Entries.{count, removed, RisesFrom};
 ghost use Rattle.arena_base.specs.declared.look.Look.{Look};
 ghost use Rattle.chain_arena.specs.ChainArena.{shown, insert_between};
 ghost use Rattle.chain_arena.specs.Kinds.{before_in, after_in};
-ghost use Rattle.chain_arena.specs.Transfers.{IsTransfer, IsNextChain, AreEnds};
+ghost use Rattle.chain_arena.specs.Transfers.{LaysOutAlike, IsTransfer, IsNextChain, AreEnds};
 
 use crate::chain_arena::ChainArena;
 use crate::chain_drains::drained;
@@ -347,3 +347,15 @@ fn lay_behind<P: Ptr, T: Drop, S: SlotStack<Item = ArenaSlot<P, LinkNoGen<P, T>>
     lay(target, gap_behind(ring, ends), t);
     with_end(ends, to.inx())
 }
+
+/// A compression and a transfer of the same links lay them out alike: each comes to the same index, and names the same
+/// neighbours.
+pub fn compression_and_transfer_agree<
+    P: Ptr,
+    T: Drop,
+    Q: Ptr,
+    U: Drop,
+    F: FnMut(Q, InvalidationOption<U>, P) -> T + Drop,
+>()
+    ensures { LaysOutAlike Q.key P.key Q.Gen.first Q.Gen.following Q.Gen.wraps F.FnMut }
+{}

@@ -1,6 +1,6 @@
 -- What the program answers to a line, and the arena after it.
-use Rattle.std.specs.Prelude.{◌≡◌, ℕ, List, ◌∷◌, [], ◌++◌, map, codes, decimal, true, false, Option, None, Some, Ok, Err}
-use Rattle.std.specs.List.{join_with_byte}
+use Rattle.std.specs.Prelude.{◌≡◌, ℕ, List, ◌∷◌, [], ◌++◌, map, length, codes, decimal, Bool, true, false, Option, None, Some, Ok, Err}
+use Rattle.std.specs.List.{join_with_byte, concat}
 use Rattle.arena_ptr.specs.Generations.{number_of_gen32, two32, after32, is_greatest32}
 use Rattle.arena_ptr.specs.Indexes.{number_of_inx32}
 use Rattle.arena_ptr.specs.Packed.{zero_is_none}
@@ -18,13 +18,15 @@ use Rattle.arena_ptr.specs.declared.invalidation.InvalidationResult.TheVariants 
 use Rattle.arena_ptr.specs.declared.tool_ptr.ToolPtr.{ToolPtr}
 use Rattle.arena_base.specs.Arena.{Arena, IsValid, entry_count}
 use Rattle.chain_arena.specs.ChainArena as chain
-use Rattle.chain_arena.specs.ChainArena.{LinkSeen, shown, entry, IsWalkOf}
+use Rattle.chain_arena.specs.ChainArena.{LinkSeen, shown, seen, entry, IsWalkOf}
+use Rattle.chain_arena.specs.Layouts.{AreAllMoves}
 use Rattle.chain_arena.specs.Steps.{Step}
+use Rattle.chain_arena.specs.declared.calls.Call.TheVariants.{CompressCanonical}
 use Rattle.chain_arena.specs.declared.calls.Reply.{Reply}
 use Rattle.chain_arena.specs.declared.calls.Reply.TheVariants.{Inserted, Done, Removed, RemovedInx, Renewed, Drained, Counted, Reserved, Set}
 use Rattle.chain_tool.specs.Commands.{LinkCall}
 use Rattle.chain_tool.specs.declared.command.Command.{Command}
-use Rattle.chain_tool.specs.declared.command.Command.TheVariants.{Change, Show, Chain, Len}
+use Rattle.chain_tool.specs.declared.command.Command.TheVariants.{Change, Show, Chain, Len, Moves}
 use Rattle.chain_tool.specs.declared.command.Line.{Line}
 use Rattle.chain_tool.specs.declared.command.Line.TheVariants.{Blank, Bad, Good}
 
@@ -126,11 +128,34 @@ pub data Walks (old : Links) (p : ℕ × Gen32) (text : List ℕ) : Type 0 where
   walk : (links : List (ℕ × (Gen32 × LinkSeen ℕ))) → IsValidIn old p → IsWalkOf old p.0 links → text ≡ walk_text links → Walks old p text
   no_walk : (IsValidIn old p → ⊥) → text ≡ codes "none" → Walks old p text
 
+-- a link that got another pointer: the one that it had and the one that it has
+abbrev pub move_text : ToolPtr × ToolPtr → List ℕ
+move_text m = codes " " ++ pointer_text (key_of m.0) ++ codes ">" ++ pointer_text (key_of m.1)
+
+-- at the end of an answer, whether the counter has overflowed
+abbrev pub overflow_text : InvalidationOption Unit → List ℕ
+overflow_text (option.Success done) = []
+overflow_text (option.GenerationOverflow done) = codes " overflow"
+
+-- how many links got other pointers, which, and whether the counter has overflowed
+abbrev pub moves_text : List (ToolPtr × ToolPtr) → InvalidationOption Unit → List ℕ
+moves_text moves told = codes "moved " ++ decimal (length moves) ++ concat (map move_text moves) ++ overflow_text told
+
+-- the chains are laid one after another by a step of the chain machine, and each link's old and new pointer is told, by
+-- rising new index
+pub record TellsMoves (old : Links) (reset : Bool) (text : List ℕ) (new : Links) : Type 0 where
+  pub told : InvalidationOption Unit
+  pub moves : List (ToolPtr × ToolPtr)
+  pub step : Step key_of number_of_inx32 zero_is_none greatest_index two32 after32 is_greatest32 old (CompressCanonical reset) (Counted told) new
+  pub all : AreAllMoves key_of (seen old) (shown old) new.counter moves
+  pub words : text ≡ moves_text moves told
+
 -- what a command answers, and the arena after it
 abbrev pub Gives : Links → Command → List ℕ → Links → Type 0
 Gives old (Change call) text new = Changes old call text new
 Gives old (Show p) text new = Shows old (key_of p) text × (new ≡ old)
 Gives old (Chain p) text new = Walks old (key_of p) text × (new ≡ old)
+Gives old (Moves reset) text new = TellsMoves old reset text new
 Gives old Len text new = (text ≡ codes "count " ++ decimal (entry_count old)) × (new ≡ old)
 
 -- what a line is answered, and the arena after it; an answer ends with a line feed

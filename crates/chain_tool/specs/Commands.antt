@@ -5,11 +5,11 @@ use Rattle.arena_ptr.specs.declared.index.inx32.Inx32.{Inx32}
 use Rattle.arena_ptr.specs.declared.tool_ptr.ToolPtr.{ToolPtr}
 use Rattle.arena_ptr.specs.declared.generation.gen32.Gen32.{Gen32}
 use Rattle.chain_arena.specs.declared.calls.Call.{Call}
-use Rattle.chain_arena.specs.declared.calls.Call.TheVariants.{Insert, InsertWithin, Connect, BreakPrev, BreakNext, ExchangeNext, Remove, RemoveInx, Invalidate, DrainChain, Clear, Compress, Reserve, SetGeneration, IncGeneration}
+use Rattle.chain_arena.specs.declared.calls.Call.TheVariants.{Insert, InsertWithin, Connect, BreakPrev, BreakNext, ExchangeNext, Remove, RemoveInx, Invalidate, DrainChain, Clear, Compress, CompressCanonical, Reserve, SetGeneration, IncGeneration}
 use Rattle.chain_arena.specs.declared.kinds.InsertKindBody.{InsertKindBody}
 use Rattle.chain_arena.specs.declared.kinds.InsertKindBody.TheVariants as kinds
 use Rattle.chain_tool.specs.declared.command.Command.{Command}
-use Rattle.chain_tool.specs.declared.command.Command.TheVariants.{Change, Show, Chain, Len}
+use Rattle.chain_tool.specs.declared.command.Command.TheVariants.{Change, Show, Chain, Len, Moves}
 use Rattle.chain_tool.specs.declared.command.Line.{Line}
 use Rattle.chain_tool.specs.declared.command.Line.TheVariants as lines
 use Rattle.chain_tool.specs.Words.{words_of, number_of, index_word, generation_word, pointer_of, without_return}
@@ -104,6 +104,13 @@ room_or_counter name arguments =
     else (if bytes_eq name (codes "incgen") then option_map (λ none. IncGeneration) (no_arguments arguments)
     else None))
 
+-- the renumbering of a name and its arguments, or else the call on the room or the counter
+abbrev pub renumbering : List ℕ → List (List ℕ) → Option LinkCall
+renumbering name arguments =
+    if bytes_eq name (codes "compress") then option_map Compress (option_and_then reset_word (one_word arguments))
+    else (if bytes_eq name (codes "canonical") then option_map CompressCanonical (option_and_then reset_word (one_word arguments))
+    else room_or_counter name arguments)
+
 -- the call of a name and its arguments
 abbrev pub call_of : List ℕ → List (List ℕ) → Option LinkCall
 call_of name arguments =
@@ -117,8 +124,7 @@ call_of name arguments =
     else (if bytes_eq name (codes "invalidate") then option_map Invalidate (one_pointer arguments)
     else (if bytes_eq name (codes "drain") then option_map (λ a. DrainChain a.0 a.1) (pointer_and_number arguments)
     else (if bytes_eq name (codes "clear") then option_map (λ none. Clear) (no_arguments arguments)
-    else (if bytes_eq name (codes "compress") then option_map Compress (option_and_then reset_word (one_word arguments))
-    else room_or_counter name arguments))))))))))
+    else renumbering name arguments)))))))))
 
 -- the command of a name and its arguments
 abbrev pub command_of : List ℕ → List (List ℕ) → Option Command
@@ -126,7 +132,8 @@ command_of name arguments =
     if bytes_eq name (codes "show") then option_map Show (one_pointer arguments)
     else (if bytes_eq name (codes "chain") then option_map Chain (one_pointer arguments)
     else (if bytes_eq name (codes "len") then option_map (λ none. Len) (no_arguments arguments)
-    else option_map Change (call_of name arguments)))
+    else (if bytes_eq name (codes "moves") then option_map Moves (option_and_then reset_word (one_word arguments))
+    else option_map Change (call_of name arguments))))
 
 abbrev pub line_with : Option Command → Line
 line_with None = lines.Bad

@@ -2,10 +2,10 @@
 ghost use Rattle.std.specs.Prelude.{◌≡◌, ℕ, List, ◌⊎◌, OnOk, OnErr, string_bytes};
 ghost use Rattle.arena_ptr.specs.ToolPtr.{key_of};
 ghost use Rattle.chain_tool.specs.Commands.{line_of};
-ghost use Rattle.chain_tool.specs.Answers.{Changes, Shows, Walks, Gives, AnswersLine};
+ghost use Rattle.chain_tool.specs.Answers.{Changes, Shows, Walks, TellsMoves, Gives, AnswersLine};
 
 use crate::command::{Command, Line, parse};
-use crate::text::{push_link, push_reply, push_walk};
+use crate::text::{push_link, push_moves, push_reply, push_walk};
 use arena_base::{ArenaSlot, ArenaTrait};
 use arena_ptr::{SlotStack, ToolPtr};
 use chain_arena::{Call, ChainArena, ChainArenaTrait, LinkNoGen, apply};
@@ -49,6 +49,7 @@ fn carry_out<S: SlotStack<Item = ArenaSlot<ToolPtr, LinkNoGen<ToolPtr, u32>>>>(
             text.clear();
             write!(text, "count {}", arena.len())
         }
+        Command::Moves(reset) => moves(arena, reset, text),
     }
 }
 
@@ -94,4 +95,26 @@ fn chain<S: SlotStack<Item = ArenaSlot<ToolPtr, LinkNoGen<ToolPtr, u32>>>>(
         Some(links) => push_walk(text, links),
         None => text.push_str("none"),
     }
+}
+
+/// The answer to `moves F`. The room for it is taken first.
+fn moves<S: SlotStack<Item = ArenaSlot<ToolPtr, LinkNoGen<ToolPtr, u32>>>>(
+    arena: &mut ChainArena<ToolPtr, u32, S>,
+    reset: bool,
+    text: &mut String,
+) -> Result<(), AllocError>
+    ensures ok { OnOk result (TellsMoves arena.old reset (string_bytes text.new) arena.new) }
+    ensures err { OnErr result ((arena.new ≡ arena.old) ⊎ ((words : List ℕ) × TellsMoves arena.old reset words arena.new)) }
+{
+    text.clear();
+    text.reserve(room_for_moves(arena.len()))?;
+    match arena.compress_canonical_moves(*text.allocator(), reset) {
+        Ok((told, moves)) => push_moves(text, moves.as_slice(), told),
+        Err(_) => Err(AllocError),
+    }
+}
+
+/// The greatest length of the answer to `moves F`: up to 26 bytes around, and up to 44 for each link.
+fn room_for_moves(links: usize) -> usize {
+    links.saturating_mul(44).saturating_add(26)
 }

@@ -2,7 +2,7 @@
 ghost use Rattle.std.specs.Prelude.{◌≡◌, bytes_eq, option_map};
 ghost use Rattle.chain_arena.specs.declared.kinds.InsertKindBody.TheVariants.{AtInterlink, AtInterlinkInx, Bridge, BridgeInx};
 ghost use Rattle.chain_tool.specs.Words.{words_of};
-ghost use Rattle.chain_tool.specs.Commands.{one_word, one_pointer, two_pointers, pointer_and_number, no_arguments, reset_word, by_either, removal, kind_alone, kind_beside, kind_between, kind_and_value, room_or_counter, call_of, command_of, line_of};
+ghost use Rattle.chain_tool.specs.Commands.{one_word, one_pointer, two_pointers, pointer_and_number, no_arguments, reset_word, by_either, removal, kind_alone, kind_beside, kind_between, kind_and_value, room_or_counter, renumbering, call_of, command_of, line_of};
 
 use crate::words::{generation, index, next_word, number, pointer, without_return};
 use arena_ptr::{Inx32, ToolPtr};
@@ -19,6 +19,8 @@ pub enum Command {
     Chain(ToolPtr),
     /// `len`: the number of links.
     Len,
+    /// `moves F`: the chains are laid one after another, and each link's old and new pointer is told.
+    Moves(bool),
 }
 
 /// What a line says.
@@ -59,6 +61,8 @@ fn named(name: &[u8], arguments: &[u8]) -> Option<Command>
     } else if is(name, "len") {
         no_arguments(arguments)?;
         Some(Command::Len)
+    } else if is(name, "moves") {
+        Some(Command::Moves(reset(one_word(arguments)?)?))
     } else {
         Some(Command::Change(call(name, arguments)?))
     }
@@ -94,8 +98,19 @@ fn call(name: &[u8], arguments: &[u8]) -> Option<Call<ToolPtr, u32>>
     } else if is(name, "clear") {
         no_arguments(arguments)?;
         Some(Call::Clear)
-    } else if is(name, "compress") {
+    } else {
+        renumbering(name, arguments)
+    }
+}
+
+/// The renumbering of a name and the arguments after it, or else the call on the room or the counter.
+fn renumbering(name: &[u8], arguments: &[u8]) -> Option<Call<ToolPtr, u32>>
+    ensures { result ≡ renumbering name.now (words_of arguments.now) }
+{
+    if is(name, "compress") {
         Some(Call::Compress(reset(one_word(arguments)?)?))
+    } else if is(name, "canonical") {
+        Some(Call::CompressCanonical(reset(one_word(arguments)?)?))
     } else {
         room_or_counter(name, arguments)
     }

@@ -3,8 +3,8 @@ ghost use Rattle.std.specs.Prelude.{◌≡◌, ℕ, List, ◌∷◌, [], codes, 
 ghost use Rattle.chain_arena.specs.declared.kinds.InsertKindBody.TheVariants.{Disconnected, SingleLinkCyclic, ChainEnd, NextToInx, BridgeInx};
 ghost use Rattle.arena_ptr.specs.declared.index.inx32.Inx32.{Inx32};
 ghost use Rattle.arena_ptr.specs.declared.tool_ptr.ToolPtr.{ToolPtr};
-ghost use Rattle.chain_arena.specs.declared.calls.Call.TheVariants.{Insert, InsertWithin, Remove, RemoveInx, DrainChain, Compress, Reserve, IncGeneration};
-ghost use Rattle.chain_tool.specs.declared.command.Command.TheVariants.{Change, Len};
+ghost use Rattle.chain_arena.specs.declared.calls.Call.TheVariants.{Insert, InsertWithin, Remove, RemoveInx, DrainChain, Compress, CompressCanonical, Reserve, IncGeneration};
+ghost use Rattle.chain_tool.specs.declared.command.Command.TheVariants.{Change, Len, Moves};
 ghost use Rattle.chain_tool.specs.declared.command.Line.TheVariants.{Blank, Bad, Good};
 ghost use Rattle.chain_tool.specs.Words.{lines_of, whole_lines, without_return, words_of, number_of, index_word, pointer_of};
 ghost use Rattle.chain_tool.specs.Commands.{line_of};
@@ -95,6 +95,8 @@ fn definitions()
     ensures drain { (p : ToolPtr) → pointer_of (codes "1.2") ≡ Some p → line_of (codes "drain 1.2 3") ≡ Good (Change (DrainChain p 3)) }
     ensures drain_alone { line_of (codes "drain") ≡ Bad }
     ensures compress { line_of (codes "compress reset") ≡ Good (Change (Compress true)) }
+    ensures canonical { line_of (codes "canonical reset") ≡ Good (Change (CompressCanonical true)) }
+    ensures moves { line_of (codes "moves reset") ≡ Good (Moves true) }
     ensures reserve { line_of (codes "reserve 9") ≡ Good (Change (Reserve 9)) }
     ensures incgen { line_of (codes "incgen") ≡ Good (Change IncGeneration) }
     ensures setgen_zero { line_of (codes "setgen 0") ≡ Bad }
@@ -523,6 +525,28 @@ fn compression_table(rt: HostRuntime) {
     let output =
         "at 1.2\nat 2.2\nat 3.2\nvalue 1\nok\n1.4:2 2.4:3\nok\n2.2:3 1.2:2\nok\nok\nok\nok overflow\n\
         1.2:2 2.2:3\nok\nok\nat 1.3\n";
+    check_texts(&rt, rt.alloc(), &[(input, output)]);
+}
+
+#[test]
+fn canonical_table(rt: HostRuntime) {
+    let input =
+        "add alone 1\nadd alone 2\nadd end 1.2 3\nadd end 2.2 4\nremove 1.2\nadd end 4.2 5\ncanonical keep\n\
+        chain 1.4\nshow 4.4\ncanonical reset\nchain 2.2\nsetgen 4294967295\ncanonical keep\n";
+    let output =
+        "at 1.2\nat 2.2\nat 3.2\nat 4.2\nvalue 1\nat 1.3\nok\n1.4:2 2.4:4 3.4:5\nprev - next - value 3\n\
+        ok\n2.2:4 3.2:5 1.2:2\nok\nok overflow\n";
+    check_texts(&rt, rt.alloc(), &[(input, output)]);
+}
+
+#[test]
+fn moves_table(rt: HostRuntime) {
+    let input =
+        "add alone 5\nadd alone 6\nadd start 1.2 7\nmoves keep\nmoves reset\nclear\nmoves keep\nmoves\n\
+        add alone 8\nsetgen 4294967295\nmoves keep\n";
+    let output =
+        "at 1.2\nat 2.2\nat 3.2\nmoved 3 3.2>1.3 1.2>2.3 2.2>3.3\nmoved 3 1.3>1.2 2.3>2.2 3.3>3.2\nok\nmoved 0\n\
+        bad line\nat 1.3\nok\nmoved 1 1.3>1.2 overflow\n";
     check_texts(&rt, rt.alloc(), &[(input, output)]);
 }
 

@@ -2,6 +2,7 @@ mod advancing;
 mod any_arena;
 mod behind;
 mod calls;
+mod canonical;
 mod cutting;
 mod drains;
 mod entries;
@@ -149,6 +150,22 @@ fn row_of<A: ChainArenaTrait<ToolPtr, u32>>(rt: &impl Abort, arena: &A, p: ToolP
     (numbers(Some(p)), t, prev, next)
 }
 
+// All links of an arena, by rising index.
+fn rows_of<A: ChainArenaTrait<ToolPtr, u32>>(
+    rt: &impl Abort,
+    alloc: Global,
+    arena: &A,
+) -> Result<Vec<Row>, Fail> {
+    let mut rows = Vec::new(alloc);
+    let mut all = arena.advancer();
+    for _ in 0..arena.len() {
+        let p = all.advance(arena).expect(rt, "as many pointers as links");
+        rows.push(row_of(rt, arena, p))?;
+    }
+    assert!(rt; all.advance(arena).is_none());
+    Ok(rows)
+}
+
 // Looks whether these are all links of the arena, by rising index.
 fn shows<A: ChainArenaTrait<ToolPtr, u32>>(
     rt: &impl Abort,
@@ -157,13 +174,7 @@ fn shows<A: ChainArenaTrait<ToolPtr, u32>>(
     arena: &A,
     want: &[Row],
 ) -> Result<(), Fail> {
-    let mut rows = Vec::new(alloc);
-    let mut all = arena.advancer();
-    for _ in 0..arena.len() {
-        let p = all.advance(arena).expect(rt, "as many pointers as links");
-        rows.push(row_of(rt, arena, p))?;
-    }
-    assert!(rt; all.advance(arena).is_none());
+    let rows = rows_of(rt, alloc, arena)?;
     assert_eq!(rt; rows.as_slice(), want, "{what}");
     Ok(())
 }

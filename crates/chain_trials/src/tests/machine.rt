@@ -255,6 +255,44 @@ fn a_compression_by_index_order(rt: HostRuntime) -> Result<(), Fail> {
     shows(&rt, rt.alloc(), "together", &arena, &together)
 }
 
+// Six lone links, of which the first four are removed, and two compressions.
+fn holes_before_two(rt: &impl Abort, alloc: Global) -> Result<Vec<Call<ToolPtr, u32>>, Fail> {
+    let mut calls = Vec::new(alloc);
+    for t in 1..=6 {
+        calls.push(alone(t))?;
+    }
+    for k in 1..=4 {
+        calls.push(Call::Remove(first(rt, k)))?;
+    }
+    for _ in 0..2 {
+        calls.push(Call::CompressCanonical(false))?;
+    }
+    Ok(calls)
+}
+
+#[test]
+fn holes_before_two_lone_links(rt: HostRuntime) -> Result<(), Fail> {
+    let want = [
+        ("inserted", (1, 2)),
+        ("inserted", (2, 2)),
+        ("inserted", (3, 2)),
+        ("inserted", (4, 2)),
+        ("inserted", (5, 2)),
+        ("inserted", (6, 2)),
+        ("gone", (0, 1)),
+        ("gone", (0, 2)),
+        ("gone", (0, 3)),
+        ("gone", (0, 4)),
+        ("counted", NONE),
+        ("counted", NONE),
+    ];
+    let mut arena: Chains = ChainArena::new(rt.alloc());
+    let calls = holes_before_two(&rt, rt.alloc())?;
+    replies(&rt, rt.alloc(), &mut arena, calls, &want)?;
+    let together = [((1, 8), 5, NONE, NONE), ((2, 8), 6, NONE, NONE)];
+    shows(&rt, rt.alloc(), "together", &arena, &together)
+}
+
 // Calls at the greatest generation, each of which tells that the counter overflows.
 #[test]
 fn every_call_that_overflows(rt: HostRuntime) -> Result<(), Fail> {

@@ -3,24 +3,14 @@ ghost use Rattle.std.specs.Prelude.{◌≡◌};
 
 use super::same;
 use arena_base::ArenaSlot;
-use arena_ptr::{PackedOption, Ptr, PtrInx, ToolPtr};
+use arena_ptr::{Ptr, ToolPtr};
 use chain_arena::LinkNoGen;
 
-// An optional index beside a link, as a third one in it would be.
-type Packed<P> = PackedOption<<P as Ptr>::Inx, <<P as Ptr>::Inx as PtrInx>::Word>;
-
-// A slot of links: the tag, the generation, the two interlinks and the value, four bytes each.
+// A slot of links: the tag, the generation, the two interlinks, the destination and the value, four bytes each.
 fn slot_size() -> usize
-    ensures { result ≡ 20 }
-{
-    size_of::<ArenaSlot<ToolPtr, LinkNoGen<ToolPtr, u32>>>()
-}
-
-// A slot of links with a third optional index.
-fn slot_size_with_third() -> usize
     ensures { result ≡ 24 }
 {
-    size_of::<ArenaSlot<ToolPtr, (LinkNoGen<ToolPtr, u32>, Packed<ToolPtr>)>>()
+    size_of::<ArenaSlot<ToolPtr, LinkNoGen<ToolPtr, u32>>>()
 }
 
 // A link twice.
@@ -33,8 +23,7 @@ fn twice<P: Ptr, T: Copy>(link: LinkNoGen<P, T>) -> (LinkNoGen<P, T>, LinkNoGen<
 
 #[test]
 fn slots_hold_interlinks_in_the_width_of_an_index(rt: HostRuntime) {
-    let sizes = (slot_size(), slot_size_with_third());
-    same(&rt, "bytes", sizes, (20, 24));
+    same(&rt, "bytes", slot_size(), 24);
 }
 
 #[test]

@@ -351,4 +351,8 @@ impl<P: Ptr, T: Drop, A: ChainArenaTrait<P, T>> ChainArenaTrait<P, T> for Wrappe
     ) -> InvalidationResult<(P::Gen, LinkNoGen<P, T>)> {
         self.inner.remove_inx_link_no_gen(i)
     }
+
+    fn compress_canonical(&mut self, reset: bool) -> InvalidationOption<()> {
+        self.inner.compress_canonical(reset)
+    }
 }

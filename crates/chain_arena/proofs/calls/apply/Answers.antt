@@ -98,3 +98,13 @@ returns-in-Compress g c =
         record { seen = made.compressed; values = made.values; links = made.more },
       );
     })
+
+pub returns-in-CompressCanonical : goal.returns-in-CompressCanonical
+returns-in-CompressCanonical g c =
+    let made = c.compress_canonical.ensures in
+    rw c.in-CompressCanonical.is (record {
+      step = (
+        ap (λ r. reply.Counted r) (compresses g.P.Gen.PtrGen.wraps c.args.arena.now c.in-CompressCanonical.reset c.compress_canonical.result made.overflow),
+        record { layout = made.canonical; stack_capacity = made.stack_capacity },
+      );
+    })

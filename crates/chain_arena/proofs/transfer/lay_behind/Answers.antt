@@ -1,4 +1,4 @@
-use Rattle.std.proofs.Common.{◌≡◌, ◌+◌, sym, ap, ap₂, ◌∙◌, subst}
+use Rattle.std.proofs.Common.{◌≡◌, ◌+◌, sym, ap₂, ◌∙◌, subst}
 use Rattle.arena_base.specs.Arena.{next_index}
 use Rattle.chain_arena.specs.ChainArena.{insert_between}
 use Rattle.chain_arena.specs.Transfers.{AreEnds}

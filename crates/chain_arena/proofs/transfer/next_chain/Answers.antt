@@ -1,11 +1,9 @@
 -- The link of least index is the next that the advancer answers.
-use Rattle.std.proofs.Common.{◌≡◌, ℕ, Option, None, Some, sym, ap, ◌∙◌, subst}
+use Rattle.std.proofs.Common.{None, Some, sym, ap, ◌∙◌, subst}
 use Rattle.std.specs.Prelude.{is_some}
-use Rattle.chain_laws.specs.Chains.{prev_of}
 use Rattle.chain_laws.specs.Starts.{IsStart}
 use Rattle.chain_arena.proofs.Relinking.{is_some-map}
 use Rattle.chain_arena.proofs.Sources.{next_is, none_is}
-use Rattle.chain_arena.proofs.transfer.next_chain.Given.{Over}
 use Rattle.chain_arena.proofs.transfer.next_chain.Goals as goal
 
 pub start_of-start-requires-clause-some : goal.start_of-start-requires-clause-some

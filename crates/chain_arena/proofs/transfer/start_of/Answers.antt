@@ -1,5 +1,5 @@
 -- One step back more, the start of a linear chain, and once round a cyclic one.
-use Rattle.std.proofs.Common.{◌≡◌, ◌≢◌, ℕ, Bool, true, false, Option, Some, sym, ap, ◌∙◌, arith, of_calls}
+use Rattle.std.proofs.Common.{◌≡◌, Bool, true, false, Some, sym, ap, ◌∙◌, arith, of_calls}
 use Rattle.chain_laws.proofs.Backing.{back_begins, back_goes_on, back_ends, back_comes_round}
 use Rattle.chain_laws.proofs.Standing.{next_valid}
 use Rattle.chain_arena.proofs.Sources.{few_back, valid_some}

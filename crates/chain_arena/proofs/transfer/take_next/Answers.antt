@@ -1,4 +1,4 @@
-use Rattle.std.proofs.Common.{◌≡◌, sym, ap, ◌∙◌}
+use Rattle.std.proofs.Common.{sym, ap, ◌∙◌}
 use Rattle.chain_laws.specs.Removals.{removed as passed_over}
 use Rattle.chain_arena.proofs.transfer.take_next.Goals as goal
 

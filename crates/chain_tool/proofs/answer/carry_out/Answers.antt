@@ -25,3 +25,6 @@ returns-in-Chain-clause-ok g c = rw c.in-Chain.is (walks_ok _ c.in-Chain.p _ c.c
 
 pub returns-in-Change-clause-err : goal.returns-in-Change-clause-err
 returns-in-Change-clause-err g c = rw c.in-Change.is (step_or _ _ c.change.result c.change.ensures.err)
+
+pub returns-clause-err : goal.returns-clause-err
+returns-clause-err g c = rw c.in-Moves.is c.moves.ensures.err

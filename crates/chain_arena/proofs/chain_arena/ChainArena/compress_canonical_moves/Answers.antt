@@ -1,0 +1,14 @@
+-- There is room for all pairs, so each is listed.
+use Rattle.std.proofs.Common.{arith}
+use Rattle.chain_laws.proofs.Neighboring.{agrees_from_pairs}
+use Rattle.chain_arena.proofs.Watching.{listed_all}
+use Rattle.chain_arena.proofs.chain_arena.ChainArena.compress_canonical_moves.Goals as goal
+
+pub returns-in_err-moves-clause-agreed : goal.returns-in_err-moves-clause-agreed
+returns-in_err-moves-clause-agreed g c = let all = c.len.ensures.chains in agrees_from_pairs _ all.chains all.are.interlinks
+
+pub returns-clause-moves : goal.returns-clause-moves
+returns-clause-moves g c =
+    let made = c.compress_by-overflow.ensures in
+    let new = c.in_ok-moves.ensures in
+    listed_all g.P.Ptr.key _ _ _ _ _ (λ v. v.moves) _ _ _ _ _ made.canonical made.shows new.items new.len (omega (arith, new.capacity, c.len.ensures.count))

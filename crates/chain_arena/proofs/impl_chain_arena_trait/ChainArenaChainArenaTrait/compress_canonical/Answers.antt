@@ -1,0 +1,11 @@
+-- The counter overflows as the number of links tells, which is that of the values.
+use Rattle.std.proofs.Common.{sym, ap, ◌∙◌}
+use Rattle.arena_ptr.specs.Invalidation.{invalidation_option}
+use Rattle.arena_base.specs.Compressing.{overflows_after_compression}
+use Rattle.chain_arena.proofs.Inserting.{values-count}
+use Rattle.chain_arena.proofs.impl_chain_arena_trait.ChainArenaChainArenaTrait.compress_canonical.Goals as goal
+
+pub returns-clause-overflow : goal.returns-clause-overflow
+returns-clause-overflow g c =
+    let a = c.args.self.now in
+    c.compress_canonical_with.ensures.overflow ∙ ap (λ n. invalidation_option (overflows_after_compression g.P.Gen.PtrGen.wraps c.args.reset n a.counter) tt) (sym (values-count a))
