@@ -7,3 +7,4 @@ pub mod EntryLaws
 pub mod Compacting
 pub mod Compressing
 pub mod Closing
+pub mod Copying

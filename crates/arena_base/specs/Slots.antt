@@ -60,6 +60,15 @@ module _ {P T Inx Gen Word : Type 0} where
   next_of (Some (Allocated generation t)) = None
   next_of (Some (Free next)) = next
 
+-- the slot with its value, if it has one, left out
+abbrev pub without_value : {P T Inx Gen Word : Type 0} → ArenaSlot P T Inx Gen Word → ArenaSlot P (Unit {0}) Inx Gen Word
+without_value (Allocated generation t) = Allocated generation tt
+without_value (Free next) = Free next
+
+-- slots with their values left out
+abbrev pub without_values : {P T Inx Gen Word : Type 0} → List (ArenaSlot P T Inx Gen Word) → List (ArenaSlot P (Unit {0}) Inx Gen Word)
+without_values slots = map without_value slots
+
 module _ {P T Inx Gen Word : Type 0} (number : Inx → ℕ) (slots : List (ArenaSlot P T Inx Gen Word)) where
   -- the freed indexes from a first one on, at most so many
   abbrev pub freed_from : ℕ → Option Inx → List ℕ

@@ -9,19 +9,8 @@ ghost use Rattle.arena_base.specs.Closing.{AreClosed, IsGathered, with_totals};
 
 use crate::arena::Arena;
 use crate::compactor::{Compactor, SlotAccess};
-use crate::slot::ArenaSlot;
-use arena_ptr::{Ptr, PtrInx, SlotStack};
-
-// The index at a position, from 0.
-fn inx_at<P: Ptr>(k: usize) -> P::Inx
-    requires { k < P.Inx.greatest }
-    ensures { P.Inx.number result ≡ k + 1 }
-{
-    match P::Inx::try_from_usize(k + 1) {
-        Some(i) => i,
-        None => unreachable!(),
-    }
-}
+use crate::slot::{ArenaSlot, inx_at};
+use arena_ptr::{Ptr, SlotStack};
 
 // Brings the entry at an index to another, where one stands there, and gives it a generation. Answers the generation
 // that it had.

@@ -79,6 +79,17 @@ pub(crate) fn number_of<P: Ptr>(i: P::Inx) -> usize
     }
 }
 
+// The index at a position, from 0.
+pub(crate) fn inx_at<P: Ptr>(k: usize) -> P::Inx
+    requires { k < P.Inx.greatest }
+    ensures { P.Inx.number result ≡ k + 1 }
+{
+    match P::Inx::try_from_usize(k + 1) {
+        Some(i) => i,
+        None => unreachable!(),
+    }
+}
+
 // Writes an entry into a free slot, and answers the next freed index that it named.
 pub(crate) fn fill<P: Ptr, T: Drop, S: SlotStack<Item = ArenaSlot<P, T>>>(
     slots: &mut S,

@@ -8,11 +8,15 @@ ghost use Rattle.arena_ptr.specs.Invalidation.{value_within, invalidation_result
 ghost use Rattle.arena_base.specs.Arena.{IsRoom, IsValid, seen_entry, overflows_after_clear};
 ghost use Rattle.arena_base.specs.Entries.{Seen, AreTheSlots, index_of, IsNew, found, RisesFrom, first_key, last_key, removed, renewed, written, emptied, with_capacity};
 ghost use Rattle.arena_base.specs.Advancing.{IsLookUntilNone};
+ghost use Rattle.arena_base.specs.Copying.{IsCopy};
 ghost use Rattle.arena_base.specs.Compressing.{IsCompressed, VisitsAll, overflows_after_compression, values_in};
 ghost use Rattle.arena_base.specs.declared.look.Look.{Look};
 
+use crate::arena::Arena;
+use crate::slot::ArenaSlot;
 use arena_ptr::{
     AllocError, InvalidationOption, InvalidationResult, Ptr, PtrGen, PtrInx, ReallocationError,
+    SlotStack,
 };
 use std::alloc::Global;
 
@@ -256,3 +260,57 @@ pub trait ArenaTrait<P: Ptr, T: Drop> {
 ///
 /// Carries `CompactArenaTrait` of `triple_arena`, a mark without functions.
 pub trait CompactArenaTrait<P: Ptr, T: Drop>: ArenaTrait<P, T> {}
+
+/// Makes the values of a copy of an arena, one after another.
+///
+/// It stands where a closure can not: where the values are made by a closure and by something else beside it, or where
+/// one may be refused.
+pub trait ValueMap<P, U, T>: Drop {
+    // It may make a value now, and then another.
+    ghost is_ready: { Self → Type 0 };
+
+    // It has made a value, of a pointer and a value.
+    ghost makes: { Self → P → U → T → Self → Type 0 };
+
+    // A value may be refused, of a pointer and a value.
+    ghost may_refuse: { P → U → Type 0 };
+
+    /// The value in the copy of an entry, given its pointer and its value in the source.
+    ///
+    /// `AllocError`: memory for the value was refused.
+    fn map_value(&mut self, p: P, u: &U) -> Result<T, AllocError>
+        requires { is_ready self.old }
+        ensures made { IfOk result (λ t. makes self.old p u.now t self.new) }
+        ensures ready { OnOk result (is_ready self.new) }
+        ensures refused { OnErr result (may_refuse p u.now) };
+}
+
+/// An arena that can become a copy of an `Arena`, with values that a closure makes of the values there.
+///
+/// Carries `ArenaCloneFromWith` of `triple_arena`.
+pub trait ArenaCloneFromWith<P: Ptr, T: Drop>: ArenaTrait<P, T> {
+    ghost use Rattle.arena_base.specs.Arena.{Arena as State};
+
+    // What more is known than what is seen, where the second arena became the third as a copy of the first.
+    ghost copies: { (U : Type 0) → State P.Gen U → Self → Self → Type 0 } = { λ _ _ _ _. ⊤ };
+
+    /// Becomes a copy of the source: its indexes, generations, counter, number of slots and freed list, with the
+    /// closure's answers as values. The closure sees each entry of the source once, by rising index. What the arena held is
+    /// dropped. It grows only where the source has more slots than its capacity.
+    ///
+    /// `BeyondMaxCapacity`: the source has more slots than the maximum, which is tested first. `AllocError`: memory was
+    /// refused. After either nothing has changed, and the closure was not called.
+    fn clone_from_with<U: Drop, S1: SlotStack<Item = ArenaSlot<P, U>>, F: FnMut(P, &U) -> T + Drop>(
+        &mut self,
+        source: &Arena<P, U, S1>,
+        map: F,
+    ) -> Result<(), ReallocationError>
+        requires { F.IsAlwaysCallable map }
+        ensures within { length source.now.slots ≤ (Self.seen self.old).capacity → IsOk result × ((Self.seen self.new).capacity ≡ (Self.seen self.old).capacity) }
+        ensures beyond { (result ≡ Err ReallocationError.BeyondMaxCapacity) ↔ IsBeyond (Self.seen self.old).maximum (length source.now.slots) }
+        ensures ok { OnOk result (IsRoom P.Inx.greatest (Self.seen self.new).maximum (length source.now.slots) (Self.seen self.new).capacity) }
+        ensures copied { OnOk result (IsCopy F.FnMut P.key map source.now (Self.seen self.old) (Self.seen self.new)) }
+        ensures never_less { (Self.seen self.old).capacity ≤ (Self.seen self.new).capacity }
+        ensures err { OnErr result (self.new ≡ self.old) }
+        ensures more { OnOk result (copies U source.now self.old self.new) };
+}

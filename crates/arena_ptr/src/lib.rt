@@ -1,5 +1,5 @@
 //! The lowest crate of the arenas: indexes, generations and pointers, the answers and errors that arenas give,
-//! and the stacks that hold an arena's slots.
+//! the stacks that hold an arena's slots, and the recasting of values.
 #![tactic(auto)]
 
 mod errors;
@@ -10,6 +10,7 @@ mod invalidation;
 mod limited_stack;
 mod packed_option;
 mod ptr;
+mod recast;
 mod slot_stack;
 mod slots;
 mod tool_ptr;
@@ -25,5 +26,6 @@ pub use invalidation::{InvalidationOption, InvalidationResult};
 pub use limited_stack::LimitedStack;
 pub use packed_option::PackedOption;
 pub use ptr::{Ptr, PtrGen, PtrInx};
+pub use recast::{Recast, Recaster};
 pub use slot_stack::{LimitStack, SetMaxCapacity, SlotStack};
 pub use tool_ptr::ToolPtr;

@@ -1,0 +1,51 @@
+-- Each slot is copied behind the others.
+use Rattle.std.proofs.Common.{refl, sym, ap, ◌∙◌, Some, arith}
+use Rattle.arena_base.proofs.Copying.{copying_begins, copying_frees, copying_answers, copied_alike, copied_all, copying_refused, on_err_anyhow}
+use Rattle.arena_base.proofs.copy.copy_slots.Goals.{in-Allocated+in_ok-t-in-Allocated, in-Free}
+use Rattle.arena_base.proofs.copy.copy_slots.Goals as goal
+
+pub loop-k-init : goal.loop-k-init
+loop-k-init g c = record {
+  ready = c.requires.ready;
+  room = refl;
+  most = refl;
+  copying = copying_begins g.M.ValueMap.makes g.P.Ptr.key c.args.values (g.S1.SlotStack.items c.args.source.now) (g.S.SlotStack.items c.args.slots.now) c.requires.empty;
+}
+
+pub loop-k-preserved : goal.loop-k-preserved
+loop-k-preserved g c =
+    let at = c.loop-k.invariant in
+    let old = g.S1.SlotStack.items c.args.source.now in
+    let slots = g.S.SlotStack.items c.loop-k.slots in
+    elim c.match-slot.branch [
+      | in-Allocated+in_ok-t-in-Allocated w ↦ rw (w.slots-is, w.values-is) (record {
+        ready = w.in_ok-t-in-Allocated.ensures.ready;
+        room = w.push_within.ensures.capacity ∙ at.room;
+        most = w.push_within.ensures.maximum ∙ at.most;
+        copying = copying_answers g.M.ValueMap.makes g.P.Ptr.key c.args.values old c.loop-k.k c.loop-k.values slots at.copying w.in-Allocated.generation w.in-Allocated.u
+            (record { pointer = w._from_raw.result; shown = w.in-Allocated.u; answer = w.in_ok-t-in-Allocated.t }) w.map_value.new.self _
+            (sym c.in-Some.ensures ∙ ap (λ s. Some s) w.in-Allocated.is) refl (w._from_raw.ensures ∙ ap (λ n. (n, w.in-Allocated.generation)) w.inx_at.ensures) w.in_ok-t-in-Allocated.ensures.made w.push_within.ensures.items;
+      })
+      | in-Free w ↦ rw (w.slots-is, w.values-is) (record {
+        ready = at.ready;
+        room = w.push_within-in-Free.ensures.capacity ∙ at.room;
+        most = w.push_within-in-Free.ensures.maximum ∙ at.most;
+        copying = copying_frees g.M.ValueMap.makes g.P.Ptr.key c.args.values old c.loop-k.k c.loop-k.values slots at.copying w.in-Free.next _
+            (sym c.in-Some.ensures ∙ ap (λ s. Some s) w.in-Free.is) w.push_within-in-Free.ensures.items;
+      })
+    ]
+
+pub returns-clause-alike : goal.returns-clause-alike
+returns-clause-alike g c =
+    copied_alike g.M.ValueMap.makes g.P.Ptr.key c.args.values (g.S1.SlotStack.items c.args.source.now) c.loop-k.k c.loop-k.values (g.S.SlotStack.items c.loop-k.slots) c.loop-k.invariant.copying (omega arith)
+
+pub returns-clause-copies : goal.returns-clause-copies
+returns-clause-copies g c =
+    copied_all g.M.ValueMap.makes g.P.Ptr.key c.args.values (g.S1.SlotStack.items c.args.source.now) c.loop-k.k c.loop-k.values (g.S.SlotStack.items c.loop-k.slots) c.loop-k.invariant.copying (omega arith)
+
+pub returns-in_err-t-in-Allocated-clause-refused : goal.returns-in_err-t-in-Allocated-clause-refused
+returns-in_err-t-in-Allocated-clause-refused g c =
+    let old = g.S1.SlotStack.items c.args.source.now in
+    on_err_anyhow c.from_residual.result
+    (copying_refused g.M.ValueMap.makes g.P.Ptr.key c.args.values old c.loop-k.k c.loop-k.values (g.S.SlotStack.items c.loop-k.slots) c.loop-k.invariant.copying c.in-Allocated.generation c.in-Allocated.u c._from_raw.result g.M.ValueMap.may_refuse
+    (sym c.in-Some.ensures ∙ ap (λ s. Some s) c.in-Allocated.is) (c._from_raw.ensures ∙ ap (λ n. (n, c.in-Allocated.generation)) c.inx_at.ensures) c.in_err-t-in-Allocated.ensures.refused)

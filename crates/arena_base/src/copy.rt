@@ -1,0 +1,124 @@
+// An arena made a copy of another, with other values.
+ghost use Rattle.std.specs.Prelude.{◌≡◌, ◌≤◌, ◌↔◌, ◌⊎◌, [], map, length, IsOk, OnOk, OnErr, Err};
+ghost use Rattle.arena_ptr.specs.SlotStack.{IsBeyond};
+ghost use Rattle.arena_base.specs.Arena.{HasRoom};
+ghost use Rattle.arena_base.specs.Slots.{entry_of, without_values};
+ghost use Rattle.arena_base.specs.Entries.{entries, entries_from};
+ghost use Rattle.arena_base.specs.Copying.{CopiesBy, HasRefusable, HasSlotsOf, IsGivenUp};
+
+use crate::arena::Arena;
+use crate::slot::{ArenaSlot, inx_at};
+use crate::traits::{ArenaCloneFromWith, ArenaTrait, ValueMap};
+use arena_ptr::{AllocError, Ptr, ReallocationError, SlotStack};
+
+// Makes the values of a copy by a closure.
+#[derive(Drop)]
+struct Answering<F> {
+    map: F,
+}
+
+impl<P, U, T, F: FnMut(P, &U) -> T + Drop> ValueMap<P, U, T> for Answering<F> {
+    ghost use Rattle.arena_base.specs.Copying.{IsCopyCall, itself};
+
+    ghost is_ready = { λ m. F.IsAlwaysCallable m.map };
+
+    ghost makes = { λ m p u t n. IsCopyCall F.FnMut itself m.map p u t n.map };
+
+    ghost may_refuse = { λ _ _. ⊥ };
+
+    fn map_value(&mut self, p: P, u: &U) -> Result<T, AllocError> {
+        Ok((self.map)(p, u))
+    }
+}
+
+// Appends a copy of each slot to an empty stack: a free one names the same next, and an entry has the same generation,
+// and a value that the map makes. It is shown each entry once, by rising index, up to the first value that is refused.
+fn copy_slots<
+    P: Ptr,
+    T: Drop,
+    U: Drop,
+    S: SlotStack<Item = ArenaSlot<P, T>>,
+    S1: SlotStack<Item = ArenaSlot<P, U>>,
+    M: ValueMap<P, U, T>,
+>(slots: &mut S, source: &S1, mut values: M) -> Result<(), AllocError>
+    requires ready { M.is_ready values }
+    requires empty { S.items slots.old ≡ [] }
+    requires room { length (S1.items source.now) ≤ S.capacity slots.old }
+    requires fits { length (S1.items source.now) ≤ P.Inx.greatest }
+    ensures alike { OnOk result (without_values (S.items slots.new) ≡ without_values (S1.items source.now)) }
+    ensures copies { OnOk result (CopiesBy M.makes P.key values (entries_from 1 (map entry_of (S1.items source.now))) (entries_from 1 (map entry_of (S.items slots.new)))) }
+    ensures capacity { S.capacity slots.new ≡ S.capacity slots.old }
+    ensures maximum { S.maximum slots.new ≡ S.maximum slots.old }
+    ensures refused { OnErr result (HasRefusable M.may_refuse P.key (entries_from 1 (map entry_of (S1.items source.now)))) }
+{
+    for k in 0..source.len() {
+        let slot = match source.get(k) {
+            Some(slot) => slot,
+            None => unreachable!(),
+        };
+        match slot {
+            ArenaSlot::Allocated(generation, u) => {
+                let t = values.map_value(P::_from_raw(inx_at::<P>(k), *generation), u)?;
+                slots.push_within(ArenaSlot::Allocated(*generation, t));
+            }
+            ArenaSlot::Free(next) => slots.push_within(ArenaSlot::Free(*next)),
+        }
+    }
+    Ok(())
+}
+
+impl<P: Ptr, T: Drop, S: SlotStack<Item = ArenaSlot<P, T>>> Arena<P, T, S> {
+    /// Becomes a copy of the source: its indexes, generations, counter, number of slots and freed list, with values that
+    /// the map makes. It is shown each entry of the source once, by rising index. What the arena held is dropped. It grows
+    /// only where the source has more slots than its capacity.
+    ///
+    /// `BeyondMaxCapacity`: the source has more slots than the maximum, which is tested first. `AllocError`: memory was
+    /// refused. After either nothing has changed, and the map made no value; but where the memory was refused for a value,
+    /// the arena is left without entries and slots.
+    pub fn clone_from_by<U: Drop, S1: SlotStack<Item = ArenaSlot<P, U>>, M: ValueMap<P, U, T>>(
+        &mut self,
+        source: &Arena<P, U, S1>,
+        values: M,
+    ) -> Result<(), ReallocationError>
+        requires { M.is_ready values }
+        ensures within { length source.now.slots ≤ self.old.capacity → (IsOk result ⊎ HasRefusable M.may_refuse P.key (entries source.now)) × (self.new.capacity ≡ self.old.capacity) }
+        ensures beyond { (result ≡ Err ReallocationError.BeyondMaxCapacity) ↔ IsBeyond self.old.maximum (length source.now.slots) }
+        ensures ok { OnOk result (HasRoom P.Inx.greatest (length source.now.slots) self.new) }
+        ensures copied { OnOk result (CopiesBy M.makes P.key values (entries source.now) (entries self.new)) }
+        ensures slots { OnOk result (HasSlotsOf source.now self.old self.new) }
+        ensures never_less { self.old.capacity ≤ self.new.capacity }
+        ensures err { OnErr result ((self.new ≡ self.old) ⊎ (HasRefusable M.may_refuse P.key (entries source.now) × IsGivenUp self.old self.new)) }
+    {
+        self.reallocate_min_capacity(source.slots.len())?;
+        self.slots.truncate(0);
+        match copy_slots(&mut self.slots, &source.slots, values) {
+            Ok(()) => {
+                self.len = source.len;
+                self.first_free = source.first_free;
+                self.counter = source.counter;
+                Ok(())
+            }
+            Err(_) => {
+                self.slots.truncate(0);
+                self.len = 0;
+                self.first_free = None;
+                Err(ReallocationError::AllocError)
+            }
+        }
+    }
+}
+
+impl<P: Ptr, T: Drop, S: SlotStack<Item = ArenaSlot<P, T>>> ArenaCloneFromWith<P, T>
+    for Arena<P, T, S> {
+    ghost use Rattle.arena_base.specs.Copying.{HasSlotsOf};
+
+    ghost copies = { λ _ source old new. HasSlotsOf source old new };
+
+    fn clone_from_with<U: Drop, S1: SlotStack<Item = ArenaSlot<P, U>>, F: FnMut(P, &U) -> T + Drop>(
+        &mut self,
+        source: &Arena<P, U, S1>,
+        map: F,
+    ) -> Result<(), ReallocationError> {
+        self.clone_from_by(source, Answering { map })
+    }
+}

@@ -1,0 +1,64 @@
+// A recaster that refuses, and a value of two values.
+ghost use Rattle.std.specs.Prelude.{◌≡◌, ◌⊎◌, OnErr, IsErr, Ok, Err};
+
+use crate::tests::tools::same;
+use arena_ptr::{Recast, Recaster};
+
+// Adds ten to each number but two, which it refuses.
+struct AddTen;
+
+impl Recaster for AddTen {
+    type Item = u32;
+
+    ghost recasts = { λ _ old new answer. OnErr answer ((answer ≡ Err old) × (new ≡ old)) };
+
+    fn recast_item(&self, item: &mut u32) -> Result<(), u32> {
+        if *item == 2 {
+            return Err(2);
+        }
+        *item = item.saturating_add(10);
+        Ok(())
+    }
+}
+
+#[derive(Drop)]
+struct Number(u32);
+
+impl Recast<u32> for Number {
+    ghost recast_by = { λ recasts old new answer. recasts old.0 new.0 answer };
+
+    fn recast<R: Recaster<Item = u32>>(&mut self, recaster: &R) -> Result<(), u32> {
+        recaster.recast_item(&mut self.0)
+    }
+}
+
+#[derive(Drop)]
+struct Two<T> {
+    first: T,
+    second: T,
+}
+
+impl<I, T: Recast<I>> Recast<I> for Two<T> {
+    // Both are recast, or else the first is refused and the second stays.
+    ghost recast_by = { λ recasts old new answer. (T.recast_by recasts old.first new.first (Ok tt) × T.recast_by recasts old.second new.second answer)
+        ⊎ (IsErr answer × T.recast_by recasts old.first new.first answer × (new.second ≡ old.second)) };
+
+    fn recast<R: Recaster<Item = I>>(&mut self, recaster: &R) -> Result<(), I> {
+        self.first.recast(recaster)?;
+        self.second.recast(recaster)
+    }
+}
+
+#[test]
+fn a_recaster_refuses(rt: HostRuntime) {
+    let mut two = Two {
+        first: Number(1),
+        second: Number(2),
+    };
+    let answer = two.recast(&AddTen);
+    same(&rt, "the answer", answer, Err(2));
+    same(&rt, "the numbers", (two.first.0, two.second.0), (11, 2));
+    let again = two.recast(&AddTen);
+    same(&rt, "again", again, Err(2));
+    same(&rt, "the numbers", (two.first.0, two.second.0), (21, 2));
+}
