@@ -30,6 +30,7 @@ use Rattle.chain_arena.proofs.Inserting.{some_entry, slots-within}
 use Rattle.chain_arena.proofs.HeldLinks.{work-more}
 use Rattle.chain_arena.proofs.Returning.{trimmed-map, slot_at-trimmed}
 use Rattle.chain_arena.proofs.Fronting.{front-length, front-none_free, moved_seen}
+use Rattle.chain_arena.proofs.Numbered.{length-seen}
 use Rattle.chain_arena.proofs.Tallying.{counted_none}
 use Rattle.chain_arena.proofs.Arranging.{count-standing, slots-filled, values-given}
 
@@ -142,12 +143,7 @@ module _ {Gen K T : Type 0} (number : K → Option ℕ) where
       twice None = refl
       twice (Some e) = refl
 
-  -- .. and there are as many slots where the links are seen alike, or are renamed
-  pub length-seen : (one other : Held Gen (LinkBody K T)) → seen_held number one ≡ seen_held number other → length one.slots ≡ length other.slots
-  length-seen one other same =
-      sym (length-map one.slots (option_map (seen_pair number)))
-      ∙ (ap (λ (h : Held Gen (LinkSeen T)). length h.slots) same ∙ length-map other.slots (option_map (seen_pair number)))
-
+  -- .. and there are as many slots where the links are renamed
   pub length-renamed : (to : ℕ → Option ℕ) (one other : Held Gen (LinkBody K T)) → seen_held number one ≡ renamed_held to (seen_held number other) → length one.slots ≡ length other.slots
   length-renamed to one other renamed =
       sym (length-map one.slots (option_map (seen_pair number)))

@@ -1,5 +1,7 @@
 pub mod Advancing
+pub mod Answered
 pub mod Compressing
+pub mod Cloning
 pub mod Connecting
 pub mod Cutting
 pub mod Deciding
@@ -24,6 +26,7 @@ pub mod Outcomes
 pub mod Putting
 pub mod Relinking
 pub mod Returning
+pub mod Rewriting
 pub mod Running
 pub mod Seeing
 pub mod Stepping

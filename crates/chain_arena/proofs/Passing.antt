@@ -7,6 +7,7 @@ use Rattle.arena_base.specs.Closing.{with_totals}
 use Rattle.chain_arena.specs.Moving.{Waits, HaveMoved, CanMoveAll, IsSettling, ArePassed, waiting, IsWorkOn}
 use Rattle.chain_arena.proofs.Exchanging.{moving_begins, moving_ends}
 use Rattle.chain_arena.proofs.Counting.{stands-within, waiting-none}
+use Rattle.chain_arena.proofs.Tallying.{same_totals}
 
 module _ {E : Type 0} (goal : E → Option ℕ) (Settles : E → E → Type 0) (done : (e f : E) → Settles e f → goal f ≡ None) where
   pub passing_begins : (old : List (Option E)) → CanMoveAll goal old → ArePassed goal Settles old old 0
@@ -44,14 +45,11 @@ module _ {E : Type 0} (goal : E → Option ℕ) (Settles : E → E → Type 0) (
   passing_leaves_none old now p = waiting-none goal now (nowhere old now p)
 
 module _ {Gen T : Type 0} where
-  totals_same : (old : Arena Gen T) (p q t u : ℕ) → p ≡ q → t ≡ u → ◌≡◌ {A = Arena Gen T} (record old { placed = p; touched = t }) (record old { placed = q; touched = u })
-  totals_same old p q t u e f = λ j. record old { placed = e j; touched = f j }
-
   -- no work so far
   pub work_on-begins : (a : Arena Gen T) (wait : ℕ) → IsWorkOn a a wait wait 0
   work_on-begins a wait = record {
     moved = 0;
-    arena = totals_same a a.placed (a.placed + 0) a.touched (a.touched + (0 + 0)) (omega arith) (omega arith);
+    arena = same_totals a a.placed (a.placed + 0) a.touched (a.touched + (0 + 0)) (omega arith) (omega arith);
     count = omega arith;
   }
 
@@ -61,7 +59,7 @@ module _ {Gen T : Type 0} where
   work_on-more old now looked next waited wait less looks work touched is fewer = record {
     moved = work.moved + 1;
     arena = is ∙ (ap with_placement touched ∙ (ap (λ (a : Arena Gen T). with_placement (with_touch a)) work.arena
-        ∙ totals_same old ((old.placed + work.moved) + 1) (old.placed + (work.moved + 1)) ((old.touched + (work.moved + looks)) + 1) (old.touched + ((work.moved + 1) + looks)) (omega arith) (omega arith)));
+        ∙ same_totals old ((old.placed + work.moved) + 1) (old.placed + (work.moved + 1)) ((old.touched + (work.moved + looks)) + 1) (old.touched + ((work.moved + 1) + looks)) (omega arith) (omega arith)));
     count = (let c : wait + work.moved ≡ waited = work.count in omega arith);
   }
 
@@ -70,7 +68,7 @@ module _ {Gen T : Type 0} where
   work_on-looked old now next waited wait looks work is = record {
     moved = work.moved;
     arena = is ∙ (ap with_touch work.arena
-        ∙ totals_same old (old.placed + work.moved) (old.placed + work.moved) ((old.touched + (work.moved + looks)) + 1) (old.touched + (work.moved + (looks + 1))) refl (omega arith));
+        ∙ same_totals old (old.placed + work.moved) (old.placed + work.moved) ((old.touched + (work.moved + looks)) + 1) (old.touched + (work.moved + (looks + 1))) refl (omega arith));
     count = work.count;
   }
 
@@ -79,7 +77,7 @@ module _ {Gen T : Type 0} where
   work_on-after old now next waited wait less looks more work further = record {
     moved = work.moved + further.moved;
     arena = further.arena ∙ (ap (λ (a : Arena Gen T). with_totals a further.moved (further.moved + more)) work.arena
-        ∙ totals_same old ((old.placed + work.moved) + further.moved) (old.placed + (work.moved + further.moved))
+        ∙ same_totals old ((old.placed + work.moved) + further.moved) (old.placed + (work.moved + further.moved))
         ((old.touched + (work.moved + looks)) + (further.moved + more)) (old.touched + ((work.moved + further.moved) + (looks + more))) (omega arith) (omega arith));
     count = (let a : wait + work.moved ≡ waited = work.count in let b : less + further.moved ≡ wait = further.count in omega arith);
   }

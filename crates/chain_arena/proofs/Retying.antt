@@ -14,8 +14,7 @@ use Rattle.chain_arena.specs.declared.links.LinkBody.{LinkBody}
 use Rattle.chain_arena.specs.ChainArena.{LinkSeen, on_value}
 use Rattle.chain_arena.specs.Links.{seen_link, seen_pair}
 use Rattle.chain_arena.specs.Moving.{goal_of}
-use Rattle.chain_arena.specs.Numbering.{renamed_link, renamed_held, looks_at, seen_held, given, IsRenamedAt}
-use Rattle.chain_arena.specs.Rounds.{AreRenamedTo}
+use Rattle.chain_arena.specs.Numbering.{renamed_link, renamed_held, looks_at, seen_held, given, IsRenamedAt, AreRenamedTo}
 use Rattle.chain_arena.proofs.Counting.{one_if}
 use Rattle.chain_arena.proofs.Mapping.{map-with_slot, slot_at-map}
 use Rattle.chain_arena.proofs.Seeing.{slot_at-changed}

@@ -9,7 +9,8 @@ counted_more : (n : ℕ) → one_more (counted n) ≡ counted (n + 1)
 counted_more n = omega arith
 
 module _ {Gen T : Type 0} where
-  same_totals : (a : Arena Gen T) (p q t u : ℕ) → p ≡ q → t ≡ u → ◌≡◌ {A = Arena Gen T} (record a { placed = p; touched = t }) (record a { placed = q; touched = u })
+  -- totals that are the same numbers
+  pub same_totals : (a : Arena Gen T) (p q t u : ℕ) → p ≡ q → t ≡ u → ◌≡◌ {A = Arena Gen T} (record a { placed = p; touched = t }) (record a { placed = q; touched = u })
   same_totals a p q t u e f = λ j. record a { placed = e j; touched = f j }
 
   -- nothing was done

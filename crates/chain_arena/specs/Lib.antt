@@ -1,11 +1,16 @@
 pub mod ChainArena
 pub mod Links
+pub mod Agreeing
+pub mod LinkOrder
+pub mod LinkOrderLaws
+pub mod Texts
 pub mod Kinds
 pub mod Insertions
 pub mod Walkers
 pub mod Drains
 pub mod Transfers
 pub mod Compressions
+pub mod Copies
 pub mod HeldLinks
 pub mod Layouts
 pub mod Counts
@@ -13,4 +18,4 @@ pub mod Moving
 pub mod Numbering
 pub mod Steps
 pub mod ChainArenaLaws
-pub mod Rounds
+pub mod Recasting

@@ -13,6 +13,10 @@ module _ {K T : Type 0} where
   abbrev pub held_in : LinkBody K T → T
   held_in link = link.t
 
+-- the index of a pointer, by its key
+abbrev pub index_in : {P Gen : Type 0} → (P → ℕ × Gen) → P → ℕ
+index_in key p = (key p).0
+
 module _ {Gen K T : Type 0} where
   abbrev pub seen_pair : (K → Option ℕ) → Gen × LinkBody K T → Gen × LinkSeen T
   seen_pair number e = on_value (seen_link number) e

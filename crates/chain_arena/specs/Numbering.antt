@@ -1,5 +1,5 @@
 -- Links that get their destinations: the places of a list.
-use Rattle.std.specs.Prelude.{◌≡◌, ℕ, ◌+◌, ◌*◌, ◌≤◌, Bool, false, List, ◌++◌, map, length, Option, None, Some, is_none}
+use Rattle.std.specs.Prelude.{◌≡◌, ℕ, ◌+◌, ◌*◌, ◌<◌, ◌≤◌, Bool, false, List, ◌++◌, map, length, Option, None, Some, is_none}
 use Rattle.std.specs.Option.{option_map, option_and_then}
 use Rattle.chain_laws.specs.Chains.{Chain, items, Has, IsChain, first_or}
 use Rattle.chain_laws.specs.Arrangements.{place_in, IsLeastIndexOrder}
@@ -19,6 +19,12 @@ renamed_link to link = record link { prev = option_and_then to link.prev; next =
 -- .. and so each link
 abbrev pub renamed_held : {Gen T : Type 0} → (ℕ → Option ℕ) → Held Gen (LinkSeen T) → Held Gen (LinkSeen T)
 renamed_held to held = record held { slots = map (option_map (on_value (renamed_link to))) held.slots }
+
+-- the links up to slot k name other indexes, and the others do not yet
+pub record AreRenamedTo {Gen T : Type 0} (to : ℕ → Option ℕ) (old now : List (Option (Gen × LinkSeen T))) (k : ℕ) : Type 0 where
+  pub renamed : (j : ℕ) → j ≤ k → slot_at now j ≡ option_map (on_value (renamed_link to)) (slot_at old j)
+  pub ahead : (j : ℕ) → k < j → slot_at now j ≡ slot_at old j
+  pub long : length now ≡ length old
 
 -- how many looks a slot takes where its link is renamed
 abbrev pub looks_at : {X : Type 0} → Option X → ℕ

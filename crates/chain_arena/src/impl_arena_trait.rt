@@ -11,7 +11,7 @@ ghost use Rattle.chain_arena.specs.ChainArena.{seen, shown};
 use crate::chain_arena::ChainArena;
 use crate::compress::{begin_generation, gather};
 use crate::interlinks::take_out;
-use crate::links::{LinkBody, LinkNoGen};
+use crate::links::{LinkBody, LinkNoGen, Vacant};
 use arena_base::{Advancer, Arena, ArenaSlot, ArenaTrait, CompactArenaTrait, PtrAdvancer};
 use arena_ptr::{
     AllocError, InvalidationOption, InvalidationResult, Ptr, PtrGen, PtrInx, ReallocationError,
@@ -223,7 +223,7 @@ impl<P: Ptr, T: Drop, S: SlotStack<Item = ArenaSlot<P, LinkNoGen<P, T>>>> Advanc
 }
 
 // The answer of a removal without the generation and the interlinks.
-pub(crate) fn value_alone<G: Drop, I: Drop, T>(
+pub(crate) fn value_alone<G: Drop, I: Vacant, T>(
     removed: InvalidationResult<(G, LinkBody<I, T>)>,
 ) -> InvalidationResult<T>
     ensures value { value_within result ≡ option_map (λ e. e.1.t) (value_within removed) }
@@ -239,7 +239,7 @@ pub(crate) fn value_alone<G: Drop, I: Drop, T>(
 }
 
 // The answer of a removal without the interlinks.
-pub(crate) fn value_with_generation<G, I: Drop, T>(
+pub(crate) fn value_with_generation<G, I: Vacant, T>(
     removed: InvalidationResult<(G, LinkBody<I, T>)>,
 ) -> InvalidationResult<(G, T)>
     ensures value { value_within result ≡ option_map (λ e. (e.0, e.1.t)) (value_within removed) }

@@ -1,12 +1,13 @@
 ghost use Rattle.std.specs.Prelude.{◌≡◌, None};
 ghost use Rattle.std.specs.Option.{option_map};
-ghost use Rattle.chain_arena.specs.Links.{seen_link};
+ghost use Rattle.chain_arena.specs.Links.{seen_link, index_in};
 
 use arena_ptr::{PackedOption, Ptr, PtrInx, ToolPtr};
+use std::alloc::AllocError;
 
 /// A link with interlinks of a type `K`, each an optional index: the links before it and after it, and its value.
-#[derive(Clone, Copy)]
-pub struct LinkBody<K, T> {
+#[derive(Copy)]
+pub struct LinkBody<K: Vacant, T> {
     prev: K,
     next: K,
 
@@ -15,6 +16,36 @@ pub struct LinkBody<K, T> {
 
     /// The value.
     pub t: T,
+}
+
+/// What holds an optional index, and so can hold none.
+pub trait Vacant: Copy {
+    /// No index.
+    fn vacant() -> Self;
+}
+
+impl<W: Copy, I: PtrInx<Word = W>> Vacant for PackedOption<I, W> {
+    fn vacant() -> Self {
+        I::pack(None)
+    }
+}
+
+// A clone has no destination.
+impl<K: Vacant, T: Clone> Clone for LinkBody<K, T> {
+    ghost use Rattle.std.specs.Prelude.{◌≡◌};
+
+    ghost is_clone = { λ l m. (m.prev ≡ l.prev) × (m.next ≡ l.next) × T.is_clone l.t m.t };
+
+    ghost is_infallible = { λ l. T.is_infallible l.t };
+
+    fn clone(&self) -> Result<Self, AllocError> {
+        Ok(LinkBody {
+            prev: self.prev,
+            next: self.next,
+            destination: K::vacant(),
+            t: self.t.clone()?,
+        })
+    }
 }
 
 /// An interlink without a generation: an optional index, packed in the width of an index.
@@ -116,13 +147,29 @@ impl<W: Copy, I: PtrInx<Word = W>, T> LinkBody<PackedOption<I, W>, T> {
 /// A link whose interlinks are pointers, with the generations of the time of the look.
 ///
 /// Carries `Link` of `triple_arena`.
-#[derive(Drop)]
+#[derive(Copy, PartialEq, Eq, PartialOrd, Ord, Hash)]
 pub struct Link<P, T> {
     prev: Option<P>,
     next: Option<P>,
 
     /// The value.
     pub t: T,
+}
+
+impl<P: Copy, T: Clone> Clone for Link<P, T> {
+    ghost use Rattle.std.specs.Prelude.{◌≡◌};
+
+    ghost is_clone = { λ l m. (m.prev ≡ l.prev) × (m.next ≡ l.next) × T.is_clone l.t m.t };
+
+    ghost is_infallible = { λ l. T.is_infallible l.t };
+
+    fn clone(&self) -> Result<Self, AllocError> {
+        Ok(Link {
+            prev: self.prev,
+            next: self.next,
+            t: self.t.clone()?,
+        })
+    }
 }
 
 impl<P: Copy, T> Link<P, T> {
@@ -158,5 +205,33 @@ impl<P: Copy, T> Link<P, T> {
             next: prev_next.1,
             t,
         }
+    }
+}
+
+impl<P: Ptr, T> Link<P, T> {
+    /// The same link without the generations of its neighbours.
+    pub fn no_gen(self) -> LinkNoGen<P, T>
+        ensures { seen_link P.Inx.packed_number result ≡ record { prev = option_map (index_in P.key) self.prev; next = option_map (index_in P.key) self.next; value = self.t } }
+    {
+        LinkBody::new((index_of(self.prev), index_of(self.next)), self.t)
+    }
+
+    /// The same link without the generations of its neighbours, with its value by reference.
+    pub fn no_gen_ref(&self) -> LinkNoGen<P, &T>
+        ensures prev { (seen_link P.Inx.packed_number result).prev ≡ option_map (index_in P.key) self.now.prev }
+        ensures next { (seen_link P.Inx.packed_number result).next ≡ option_map (index_in P.key) self.now.next }
+        ensures value { result.t.now ≡ self.now.t }
+    {
+        LinkBody::new((index_of(self.prev), index_of(self.next)), &self.t)
+    }
+}
+
+// The index of a pointer, if there is one.
+pub(crate) fn index_of<P: Ptr>(p: Option<P>) -> Option<P::Inx>
+    ensures { option_map P.Inx.number result ≡ option_map (index_in P.key) p }
+{
+    match p {
+        Some(p) => Some(p.inx()),
+        None => None,
     }
 }

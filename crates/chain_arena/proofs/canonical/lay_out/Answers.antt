@@ -3,7 +3,8 @@
 use Rattle.std.proofs.Common.{rules, ◌≡◌, ◌+◌, length, sym, ap, ◌∙◌, arith}
 use Rattle.arena_base.specs.Closing.{with_totals}
 use Rattle.chain_arena.specs.Numbering.{seen_held}
-use Rattle.chain_arena.proofs.Layouts.{four_counted, length-seen, length-renamed, agree-seen, links_can_move, links_laid, work_told}
+use Rattle.chain_arena.proofs.Numbered.{length-seen}
+use Rattle.chain_arena.proofs.Layouts.{four_counted, length-renamed, agree-seen, links_can_move, links_laid, work_told}
 use Rattle.chain_arena.proofs.canonical.lay_out.Goals as goal
 
 pub number_all-visitor-requires-clause-agree : goal.number_all-visitor-requires-clause-agree

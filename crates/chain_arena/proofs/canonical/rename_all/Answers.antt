@@ -3,8 +3,7 @@ use Rattle.std.proofs.Common.{◌≡◌, ◌<◌, ◌≤◌, length, refl, ap, �
 use Rattle.std.specs.Option.{option_map}
 use Rattle.std.proofs.lemmas.List.{length-map}
 use Rattle.chain_arena.specs.Links.{seen_pair}
-use Rattle.chain_arena.specs.Numbering.{seen_held, given}
-use Rattle.chain_arena.specs.Rounds.{AreRenamedTo}
+use Rattle.chain_arena.specs.Numbering.{seen_held, given, AreRenamedTo}
 use Rattle.chain_arena.proofs.HeldLinks.{work-none, work-more}
 use Rattle.chain_arena.proofs.Retying.{renaming_begins, one_more_renamed, all_renamed, looks_more, looks_all}
 use Rattle.chain_arena.proofs.Tallying.{counts_none, counts_then}

@@ -3,8 +3,7 @@ use Rattle.std.proofs.Common.{◌≡◌, ℕ, ◌+◌, ◌*◌}
 use Rattle.std.specs.Prelude.{count_by, is_some, take}
 use Rattle.chain_arena.specs.Counts.{CountsOn}
 use Rattle.chain_arena.specs.HeldLinks.{IsWork}
-use Rattle.chain_arena.specs.Numbering.{seen_held, given}
-use Rattle.chain_arena.specs.Rounds.{AreRenamedTo}
+use Rattle.chain_arena.specs.Numbering.{seen_held, given, AreRenamedTo}
 use Rattle.chain_arena.proofs.canonical.rename_all.Given as goal
 
 abbrev pub invariant-loop-k : goal.invariant-loop-k

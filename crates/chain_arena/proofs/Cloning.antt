@@ -1,0 +1,201 @@
+-- Copies of an arena of links: the interlinks, the values, and what is seen of them.
+use Rattle.std.proofs.Common.{◌≡◌, ℕ, suc, ◌≤◌, List, [], ◌∷◌, ◌++◌, length, map, Option, None, Some, Result, Ok, Err, OnOk, OnErr, IsOk, ◌⊎◌, inl, inr, arith, refl, ap, sym, ◌∙◌, subst}
+use Rattle.std.specs.Option.{option_map}
+use Rattle.std.specs.List.{FoldsTo}
+use Rattle.std.specs.Borrow.{Bor}
+use Rattle.std.specs.Fn.{Mut}
+use Rattle.arena_ptr.specs.declared.errors.ReallocationError.{ReallocationError}
+use Rattle.chain_laws.specs.Chains.{Interlinks, Agrees}
+use Rattle.arena_base.specs.Arena.{Arena, slot_at, new_arena}
+use Rattle.arena_base.specs.Entries.{Seen, Slots, entries_from, entries}
+use Rattle.arena_base.specs.Copying.{Copied, Makes, CopiesBy, IsCopyBy, IsCopyCall, itself, HasRefusable, HasSlotsOf, generations}
+use Rattle.chain_arena.specs.declared.links.LinkBody.{LinkBody}
+use Rattle.chain_arena.specs.ChainArena.{LinkSeen, on_value, interlinks_in, interlinks_of, shown, values_of}
+use Rattle.chain_arena.specs.Links.{seen_link, seen_links, seen_pair, held_in}
+use Rattle.chain_arena.specs.Copies.{MakesLink, IsClone}
+use Rattle.chain_arena.proofs.Mapping.{slot_at-map, length-with_each}
+use Rattle.chain_arena.proofs.Valuing.{seen_entries-all, held_entries-all}
+
+-- a value that was made, where the value shown and the answer are looked at in some way
+abbrev made_as : {P U T W X : Type 0} → (U → W) → (T → X) → Copied P U T → Copied P W X
+made_as before after c = record { pointer = c.pointer; shown = before c.shown; answer = after c.answer }
+
+-- What makes the values is looked at in part, and so are the values before and after.
+module _ {V F P U W T X : Type 0} (makes : V → P → U → T → V → Type 0) (others : F → P → W → X → F → Type 0) (see : V → F) (before : U → W) (after : T → X)
+    (step : (v : V) (p : P) (u : U) (t : T) (next : V) → makes v p u t next → others (see v) p (before u) (after t) (see next)) where
+  folds_seen : (made : List (Copied P U T)) (f last : V) → FoldsTo (Makes makes) f made last → FoldsTo (Makes others) (see f) (map (made_as before after) made) (see last)
+  folds_seen [] f last folds = ap see folds
+  folds_seen (c ∷ made) f last folds = (see folds.0, step f c.pointer c.shown c.answer folds.0 folds.1, folds_seen made folds.0 last folds.2)
+
+  module _ {Gen : Type 0} (key : P → ℕ × Gen) where
+    seen_before : (made : List (Copied P U T)) → map (λ c. (key c.pointer, c.shown)) (map (made_as before after) made) ≡ map (on_value before) (map (λ c. (key c.pointer, c.shown)) made)
+    seen_before [] = refl
+    seen_before (c ∷ made) = ap (λ es. (key c.pointer, before c.shown) ∷ es) (seen_before made)
+
+    seen_after : (made : List (Copied P U T)) → map (λ c. (key c.pointer, c.answer)) (map (made_as before after) made) ≡ map (on_value after) (map (λ c. (key c.pointer, c.answer)) made)
+    seen_after [] = refl
+    seen_after (c ∷ made) = ap (λ es. (key c.pointer, after c.answer) ∷ es) (seen_after made)
+
+    pub copies_seen : (f : V) (source : List ((ℕ × Gen) × U)) (copy : List ((ℕ × Gen) × T)) → CopiesBy makes key f source copy
+        → CopiesBy others key (see f) (map (on_value before) source) (map (on_value after) copy)
+    copies_seen f source copy c = record {
+      made = map (made_as before after) c.made;
+      last = see c.last;
+      in_turn = folds_seen c.made f c.last c.in_turn;
+      before = seen_before c.made ∙ ap (map (on_value before)) c.before;
+      after = seen_after c.made ∙ ap (map (on_value after)) c.after;
+    }
+
+-- Each value that is made looks like the one that it is made of.
+module _ {V P U T Z Gen : Type 0} (makes : V → P → U → T → V → Type 0) (f : U → Z) (g : T → Z)
+    (same : (v : V) (p : P) (u : U) (t : T) (next : V) → makes v p u t next → g t ≡ f u) (key : P → ℕ × Gen) where
+  made_alike : (made : List (Copied P U T)) (v last : V) → FoldsTo (Makes makes) v made last
+      → map (on_value g) (map (λ c. (key c.pointer, c.answer)) made) ≡ map (on_value f) (map (λ c. (key c.pointer, c.shown)) made)
+  made_alike [] v last folds = refl
+  made_alike (c ∷ made) v last folds =
+      λ i. (key c.pointer, same v c.pointer c.shown c.answer folds.0 folds.1 i) ∷ made_alike made folds.0 last folds.2 i
+
+  pub copies_alike : (v : V) (source : List ((ℕ × Gen) × U)) (copy : List ((ℕ × Gen) × T)) → CopiesBy makes key v source copy → map (on_value g) copy ≡ map (on_value f) source
+  copies_alike v source copy c = ap (map (on_value g)) (sym c.after) ∙ (made_alike c.made v c.last c.in_turn ∙ ap (map (on_value f)) c.before)
+
+abbrev first_value : {Gen Z : Type 0} → Z → List ((ℕ × Gen) × Z) → Z
+first_value z [] = z
+first_value z (e ∷ es) = e.1
+
+module _ {Gen U T Z : Type 0} (f : U → Z) (g : T → Z) where
+  -- slots with entries at the same places, and entries that look alike, look alike
+  pub slots_alike : (i : ℕ) (a : List (Option (Gen × U))) (b : List (Option (Gen × T))) → generations b ≡ generations a → map (on_value g) (entries_from i b) ≡ map (on_value f) (entries_from i a)
+      → map (option_map (on_value g)) b ≡ map (option_map (on_value f)) a
+  slots_alike i [] [] places same = refl
+  slots_alike i [] (e ∷ b) places same = absurd (let h = places in cc)
+  slots_alike i (d ∷ a) [] places same = absurd (let h = places in cc)
+  slots_alike i (None ∷ a) (None ∷ b) places same = ap (λ rest. None ∷ rest) (slots_alike (suc i) a b (let h = places in cc) same)
+  slots_alike i (None ∷ a) (Some e ∷ b) places same = absurd (let h = places in cc)
+  slots_alike i (Some d ∷ a) (None ∷ b) places same = absurd (let h = places in cc)
+  slots_alike i (Some d ∷ a) (Some e ∷ b) places same =
+      let generation : e.0 ≡ d.0 = let h = places in cc in
+      let value : g e.1 ≡ f d.1 = ap (first_value (g e.1)) same in
+      let rest = slots_alike (suc i) a b (let h = places in cc) (let h = same in cc) in
+      λ j. Some (generation j, value j) ∷ rest j
+
+module _ {Gen X Y : Type 0} (f : X → Y) where
+  generations-map : (slots : List (Option (Gen × X))) → generations (map (option_map (on_value f)) slots) ≡ generations slots
+  generations-map [] = refl
+  generations-map (None ∷ slots) = ap (λ gs. None ∷ gs) (generations-map slots)
+  generations-map (Some e ∷ slots) = ap (λ gs. Some e.0 ∷ gs) (generations-map slots)
+
+module _ {Gen K U T : Type 0} (number : K → Option ℕ) where
+  -- an arena of links that has become a copy, as it is seen
+  pub has_slots_seen : (source : Arena Gen (LinkBody K U)) (old new : Arena Gen (LinkBody K T)) → HasSlotsOf source old new → HasSlotsOf (seen_links number source) (seen_links number old) (seen_links number new)
+  has_slots_seen source old new has = record {
+    state = ap (seen_links number) has.state;
+    generations = generations-map (seen_link number) new.slots ∙ (has.generations ∙ sym (generations-map (seen_link number) source.slots));
+    room = λ few. has.room (subst (λ n. n ≤ old.capacity) (length-with_each (seen_link number) source) few);
+  }
+
+abbrev interlinks_as : {K T : Type 0} → (K → Option ℕ) → LinkBody K T → Interlinks
+interlinks_as number link = interlinks_in (seen_link number link)
+
+module _ {Gen K T : Type 0} (number : K → Option ℕ) where
+  shown-slots : (a : Arena Gen (LinkBody K T)) (i : ℕ) → shown (seen_links number a) i ≡ option_map (λ e. e.1) (slot_at (map (option_map (on_value (interlinks_as number))) a.slots) i)
+  shown-slots a i =
+      ap (option_map interlinks_of) (slot_at-map (seen_pair number) a.slots i)
+      ∙ (both (slot_at a.slots i) ∙ ap (option_map (λ (e : Gen × Interlinks). e.1)) (sym (slot_at-map (on_value (interlinks_as number)) a.slots i)))
+    where
+      both : (o : Option (Gen × LinkBody K T)) → option_map interlinks_of (option_map (seen_pair number) o) ≡ option_map (λ (e : Gen × Interlinks). e.1) (option_map (on_value (interlinks_as number)) o)
+      both None = refl
+      both (Some e) = refl
+
+-- The links of a copy were made of those of the source.
+module _ {V F P K U T Gen : Type 0} (number : K → Option ℕ) (makes : F → P → LinkSeen U → T → F → Type 0) (see : V → F) (key : P → ℕ × Gen) (f : V) (source : Arena Gen (LinkBody K U)) (old new : Arena Gen (LinkBody K T))
+    (made : CopiesBy (λ v p u t w. MakesLink number makes (see v) p u t (see w)) key f (entries source) (entries new)) (has : HasSlotsOf source old new) where
+  pub interlinks_copied : shown (seen_links number new) ≡ shown (seen_links number source)
+  interlinks_copied j i = (shown-slots number new i
+      ∙ (ap (λ slots. option_map (λ (e : Gen × Interlinks). e.1) (slot_at slots i))
+      (slots_alike (interlinks_as number) (interlinks_as number) 1 source.slots new.slots has.generations
+      (copies_alike (λ v p u t w. MakesLink number makes (see v) p u t (see w)) (interlinks_as number) (interlinks_as number) (λ v p u t w m. m.interlinks) key f (entries source) (entries new) made))
+      ∙ sym (shown-slots number source i))) j
+
+  pub values_copied : CopiesBy makes key (see f) (entries (seen_links number source)) (entries (values_of (seen_links number new)))
+  values_copied =
+      subst (CopiesBy makes key (see f) (entries (seen_links number source))) (held_entries-all number new)
+      (subst (λ es. CopiesBy makes key (see f) es (map (on_value held_in) (entries new))) (seen_entries-all number source)
+      (copies_seen (λ v p u t w. MakesLink number makes (see v) p u t (see w)) makes see (seen_link number) held_in (λ v p u t w m. m.value) key f (entries source) (entries new) made))
+
+  pub agrees_copied : Agrees (shown (seen_links number source)) → Agrees (shown (seen_links number new))
+  agrees_copied agrees = subst Agrees (sym interlinks_copied) agrees
+
+-- A closure that sees each link sees it as contracts do.
+module _ {F P K U T Gen : Type 0} (number : K → Option ℕ) (g : Mut F (P × (Bor (LinkBody K U) × Unit {0})) T) (key : P → ℕ × Gen) (f : F) (source : Arena Gen (LinkBody K U)) (old new : Seen Gen T) where
+  as_it_is : (es : List ((ℕ × Gen) × T)) → map (on_value itself) es ≡ es
+  as_it_is [] = refl
+  as_it_is (e ∷ es) = ap (λ rest. e ∷ rest) (as_it_is es)
+
+  pub copy_as_seen : IsCopyBy (IsCopyCall g itself) key f source old new → IsCopyBy (IsCopyCall g (seen_link number)) key f (seen_links number source) old new
+  copy_as_seen copy = record {
+    entries = subst (CopiesBy (IsCopyCall g (seen_link number)) key f (entries (seen_links number source))) (as_it_is new.entries)
+        (subst (λ es. CopiesBy (IsCopyCall g (seen_link number)) key f es (map (on_value itself) new.entries)) (seen_entries-all number source)
+        (copies_seen (IsCopyCall g itself) (IsCopyCall g (seen_link number)) (λ h. h) (seen_link number) itself
+        (λ v p u t w call. record { lent = call.lent; shows = ap (seen_link number) call.shows; called = call.called }) key f (entries source) new.entries copy.entries));
+    counter = copy.counter;
+    slots = copy.slots ∙ ap (λ n. option_map (λ (s : Slots). let t : Slots = record s { count = n; freed = source.freed } in t) old.slots) (sym (length-with_each (seen_link number) source));
+    maximum = copy.maximum;
+  }
+
+-- The links of a clone look like those of the source.
+module _ {F P K T Gen : Type 0} (number : K → Option ℕ) (is_clone : T → T → Type 0) (equal : (x y : T) → is_clone x y → y ≡ x) (key : P → ℕ × Gen) (f : F) (source : Arena Gen (LinkBody K T)) (old new : Arena Gen (LinkBody K T))
+    (made : CopiesBy (MakesLink number (λ (_ : F) (_ : P) u t (_ : F). is_clone u.value t)) key f (entries source) (entries new)) (has : HasSlotsOf source old new) where
+  pub links_cloned : (seen_links number new).slots ≡ (seen_links number source).slots
+  links_cloned = slots_alike (seen_link number) (seen_link number) 1 source.slots new.slots has.generations
+      (copies_alike (MakesLink number (λ (_ : F) (_ : P) u t (_ : F). is_clone u.value t)) (seen_link number) (seen_link number)
+      (λ v p u t w m. λ i. record { prev = (ap (λ (l : Interlinks). l.prev) m.interlinks) i; next = (ap (λ (l : Interlinks). l.next) m.interlinks) i; value = equal u.t t.t m.value i })
+      key f (entries source) (entries new) made)
+
+  pub is_clone_of : (first : Gen) (maximum : Option ℕ) → old ≡ new_arena first maximum → IsClone first maximum (seen_links number source) (seen_links number new)
+  is_clone_of first maximum begins = λ i. record {
+    slots = links_cloned i;
+    counter = (ap (λ (a : Arena Gen (LinkBody K T)). a.counter) has.state) i;
+    freed = (ap (λ (a : Arena Gen (LinkBody K T)). a.freed) has.state) i;
+    capacity = new.capacity;
+    stack_capacity = new.stack_capacity;
+    maximum = (ap (λ (a : Arena Gen (LinkBody K T)). a.maximum) has.state ∙ ap (λ (a : Arena Gen (LinkBody K T)). a.maximum) begins) i;
+    placed = (ap (λ (a : Arena Gen (LinkBody K T)). a.placed) has.state ∙ ap (λ (a : Arena Gen (LinkBody K T)). a.placed) begins) i;
+    touched = (ap (λ (a : Arena Gen (LinkBody K T)). a.touched) has.state ∙ ap (λ (a : Arena Gen (LinkBody K T)). a.touched) begins) i;
+  }
+
+  pub clone_agrees : Agrees (shown (seen_links number source)) → Agrees (shown (seen_links number new))
+  clone_agrees agrees = subst (λ (slots : List (Option (Gen × LinkSeen T))). Agrees (λ i. option_map interlinks_of (slot_at slots i))) (sym links_cloned) agrees
+
+abbrev err_of : ReallocationError → Result (Unit {0}) ReallocationError
+err_of e = Err e
+
+none_before : {X Y : Type 0} (f : X → Y) (xs : List X) → map f xs ≡ [] → xs ≡ []
+none_before f [] none = refl
+none_before f (x ∷ xs) none = absurd (let h = none in cc)
+
+-- where there are no slots, there is room for them, and no value is refused
+module _ {P K U Gen : Type 0} (number : K → Option ℕ) (may_refuse : P → LinkBody K U → Type 0) (key : P → ℕ × Gen) (source : Arena Gen (LinkBody K U)) where
+  none_among : {X : Type 0} (before after : List X) (x : X) → [] ≡ before ++ x ∷ after → ⊥
+  none_among [] after x same = cc
+  none_among (y ∷ before) after x same = cc
+
+  no_slots : (seen_links number source).slots ≡ [] → source.slots ≡ []
+  no_slots none = none_before (option_map (seen_pair number)) source.slots none
+
+  pub no_room_needed : {N : Type 0} (e : ReallocationError) (room : ℕ) → (seen_links number source).slots ≡ []
+      → (length source.slots ≤ room → (IsOk (err_of e) ⊎ HasRefusable may_refuse key (entries source)) × N) → ⊥
+  no_room_needed e room none within = by (within (let few = ap length (no_slots none) in omega (arith, few))).0 where
+    by : (IsOk (err_of e) ⊎ HasRefusable may_refuse key (entries source)) → ⊥
+    by (inl ok) = cc
+    by (inr refused) = none_among refused.before refused.after (key refused.pointer, refused.value) (sym (ap (entries_from 1) (no_slots none)) ∙ refused.stands)
+
+-- what holds after an answer, by two things that do
+pub on_ok_both : {X E A B C : Type 0} (r : Result X E) → (A → B → C) → OnOk r A → OnOk r B → OnOk r C
+on_ok_both (Ok x) both a b = both a b
+on_ok_both (Err e) both a b = tt
+
+-- what holds after an answer and after a refusal of two sorts
+pub either_way : {X E A B C D N : Type 0} (r : Result X E) → (A → B → C) → (D → C) → (N → C) → OnOk r A → OnOk r B → OnErr r (D ⊎ N) → C
+either_way (Ok x) done refused gave_up a b d = done a b
+either_way (Err e) done refused gave_up a b (inl d) = refused d
+either_way (Err e) done refused gave_up a b (inr n) = gave_up n

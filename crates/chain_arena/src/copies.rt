@@ -1,0 +1,142 @@
+// Copies of a chain arena.
+ghost use Rattle.std.specs.Prelude.{◌≡◌, ◌≤◌, ◌↔◌, [], length, IsOk, IfOk, OnOk, OnErr, Err};
+ghost use Rattle.arena_ptr.specs.SlotStack.{IsBeyond};
+ghost use Rattle.chain_laws.specs.Chains.{Agrees};
+ghost use Rattle.arena_base.specs.Arena.{HasRoom, IsRoom};
+ghost use Rattle.arena_base.specs.Copying.{IsCopyBy, IsCopyCall};
+ghost use Rattle.chain_arena.specs.ChainArena.{shown};
+ghost use Rattle.chain_arena.specs.Links.{seen_link};
+ghost use Rattle.chain_arena.specs.Copies.{IsLinkCopy, IsClone, IsCopyBelow};
+
+use crate::chain_arena::ChainArena;
+use crate::links::{LinkBody, LinkNoGen};
+use arena_base::{Arena, ArenaCloneFromWith, ArenaSlot, ArenaTrait, ValueMap};
+use arena_ptr::{AllocError, PackedOption, Ptr, PtrInx, ReallocationError, SlotStack};
+use std::alloc::Global;
+
+// Makes the links of a copy: each names the same neighbors, and has the closure's answer as its value.
+#[derive(Drop)]
+struct LinkMap<F> {
+    map: F,
+}
+
+impl<
+    P,
+    W: Copy,
+    I: PtrInx<Word = W>,
+    U,
+    T,
+    F: FnMut(P, &LinkBody<PackedOption<I, W>, U>) -> T + Drop,
+> ValueMap<P, LinkBody<PackedOption<I, W>, U>, LinkBody<PackedOption<I, W>, T>> for LinkMap<F> {
+    ghost use Rattle.arena_base.specs.Copying.{IsCopyCall};
+    ghost use Rattle.chain_arena.specs.Links.{seen_link};
+    ghost use Rattle.chain_arena.specs.Copies.{MakesLink};
+
+    ghost is_ready = { λ m. F.IsAlwaysCallable m.map };
+
+    ghost makes = { λ m p u t n. MakesLink I.packed_number (IsCopyCall F.FnMut (seen_link I.packed_number)) m.map p u t n.map };
+
+    ghost may_refuse = { λ _ _. ⊥ };
+
+    fn map_value(
+        &mut self,
+        p: P,
+        u: &LinkBody<PackedOption<I, W>, U>,
+    ) -> Result<LinkBody<PackedOption<I, W>, T>, AllocError> {
+        Ok(LinkBody::new(u.prev_next(), (self.map)(p, u)))
+    }
+}
+
+impl<P: Ptr, T: Drop, S: SlotStack<Item = ArenaSlot<P, LinkNoGen<P, T>>>> ChainArena<P, T, S> {
+    /// Becomes a copy of the source: its indexes, generations, counter, number of slots, freed list and interlinks, with
+    /// the closure's answers as values. The closure sees each link of the source once, by rising index. The links that
+    /// stood here are dropped. It grows only where the source has more slots than the capacity.
+    ///
+    /// `BeyondMaxCapacity`: the source has more slots than the maximum, which is tested first. `AllocError`: memory was
+    /// refused. After either nothing has changed, and the closure was not called.
+    ///
+    /// Carries `clone_from_with` of `triple_arena`.
+    pub fn clone_from_with<
+        U: Drop,
+        S1: SlotStack<Item = ArenaSlot<P, LinkNoGen<P, U>>>,
+        F: FnMut(P, &LinkNoGen<P, U>) -> T + Drop,
+    >(&mut self, source: &ChainArena<P, U, S1>, map: F) -> Result<(), ReallocationError>
+        requires { F.IsAlwaysCallable map }
+        ensures within { length source.now.slots ≤ self.old.capacity → IsOk result × (self.new.capacity ≡ self.old.capacity) }
+        ensures beyond { (result ≡ Err ReallocationError.BeyondMaxCapacity) ↔ IsBeyond self.old.maximum (length source.now.slots) }
+        ensures ok { OnOk result (HasRoom P.Inx.greatest (length source.now.slots) self.new) }
+        ensures copied { OnOk result (IsLinkCopy F.FnMut P.Inx.packed_number P.key map source.now self.old self.new) }
+        ensures never_less { self.old.capacity ≤ self.new.capacity }
+        ensures err { OnErr result (self.new ≡ self.old) }
+        ensures agreed { Agrees (shown source.now) }
+    {
+        self.arena.clone_from_by(&source.arena, LinkMap { map })
+    }
+
+    /// Makes any arena a copy: with the indexes, generations, counter, number of slots and freed list of this one, and the
+    /// closure's answers as values. The closure sees each link once, by rising index. What the arena held is dropped. It
+    /// grows only where there are more slots than its capacity.
+    ///
+    /// `BeyondMaxCapacity`: there are more slots than its maximum, which is tested first. `AllocError`: memory was
+    /// refused. After either nothing has changed, and the closure was not called.
+    ///
+    /// Carries `clone_to_arena` of `triple_arena`.
+    pub fn clone_to_arena<
+        U: Drop,
+        A: ArenaCloneFromWith<P, U>,
+        F: FnMut(P, &LinkNoGen<P, T>) -> U + Drop,
+    >(&self, arena: &mut A, map: F) -> Result<(), ReallocationError>
+        requires { F.IsAlwaysCallable map }
+        ensures within { length self.now.slots ≤ (A.seen arena.old).capacity → IsOk result × ((A.seen arena.new).capacity ≡ (A.seen arena.old).capacity) }
+        ensures beyond { (result ≡ Err ReallocationError.BeyondMaxCapacity) ↔ IsBeyond (A.seen arena.old).maximum (length self.now.slots) }
+        ensures ok { OnOk result (IsRoom P.Inx.greatest (A.seen arena.new).maximum (length self.now.slots) (A.seen arena.new).capacity) }
+        ensures copied { OnOk result (IsCopyBy (IsCopyCall F.FnMut (seen_link P.Inx.packed_number)) P.key map self.now (A.seen arena.old) (A.seen arena.new)) }
+        ensures never_less { (A.seen arena.old).capacity ≤ (A.seen arena.new).capacity }
+        ensures err { OnErr result (arena.new ≡ arena.old) }
+        ensures more { OnOk result (IsCopyBelow P.Inx.packed_number (A.copies _) self.now arena.old arena.new) }
+    {
+        arena.clone_from_with(&self.arena, map)
+    }
+}
+
+// Makes the links of a copy: each names the same neighbors, and has a clone as its value.
+#[derive(Drop)]
+struct LinkClones;
+
+impl<P: Ptr, T: Clone> ValueMap<P, LinkNoGen<P, T>, LinkNoGen<P, T>> for LinkClones {
+    ghost use Rattle.std.specs.Prelude.{⊤};
+    ghost use Rattle.chain_arena.specs.Copies.{MakesLink};
+
+    ghost is_ready = { λ _. ⊤ };
+
+    ghost makes = { MakesLink P.Inx.packed_number (λ _ _ u t _. T.is_clone u.value t) };
+
+    ghost may_refuse = { λ _ u. ¬ (T.is_infallible u.t) };
+
+    fn map_value(&mut self, _p: P, u: &LinkNoGen<P, T>) -> Result<LinkNoGen<P, T>, AllocError> {
+        let t = u.t.clone()?;
+        Ok(LinkBody::new(u.prev_next(), t))
+    }
+}
+
+impl<P: Ptr, T: Clone, S: SlotStack<Item = ArenaSlot<P, LinkNoGen<P, T>>>> ChainArena<P, T, S> {
+    /// A copy over a new stack that is made with the allocator: its indexes, generations, counter, freed list and
+    /// interlinks, and clones of its values, which are to equal them. A maximum is not carried over.
+    ///
+    /// `BeyondMaxCapacity`: there are more slots than the maximum that a new stack has, which is tested first.
+    /// `AllocError`: memory was refused, for the slots or by the clone of a value. After either nothing is left of the copy.
+    ///
+    /// Carries `clone` of `triple_arena`.
+    pub fn clone(&self, alloc: Global) -> Result<Self, ReallocationError>
+        requires clones_equal { (x y : T) → T.is_clone x y → y ≡ x }
+        ensures beyond { (result ≡ Err ReallocationError.BeyondMaxCapacity) ↔ IsBeyond S.initial_maximum (length self.now.slots) }
+        ensures copied { IfOk result (IsClone P.Gen.first S.initial_maximum self.now) }
+        ensures room { IfOk result (HasRoom P.Inx.greatest (length self.now.slots)) }
+        ensures no_room { self.now.slots ≡ [] → IfOk result (λ copy. copy.stack_capacity ≡ 0) × IsOk result }
+        ensures agreed { Agrees (shown self.now) }
+    {
+        let mut arena: Arena<P, LinkNoGen<P, T>, S> = Arena::new(alloc);
+        arena.clone_from_by(&self.arena, LinkClones)?;
+        Ok(ChainArena { arena })
+    }
+}

@@ -1,0 +1,97 @@
+// The links of pointers and indexes that are known to be valid.
+ghost use Rattle.std.specs.Prelude.{◌≡◌, IsSome, Some};
+ghost use Rattle.std.specs.Option.{option_map};
+ghost use Rattle.std.specs.Borrow.{Lends, sem};
+ghost use Rattle.arena_base.specs.Arena.{IsValid};
+ghost use Rattle.chain_arena.specs.ChainArena.{entry, with_value_at};
+
+use crate::chain_arena::ChainArena;
+use crate::links::LinkNoGen;
+use arena_base::{ArenaSlot, ArenaTrait};
+use arena_ptr::{Ptr, PtrInx, SlotStack};
+use std::ops::{Index, IndexMut};
+
+impl<P: Ptr, T: Drop, S: SlotStack<Item = ArenaSlot<P, LinkNoGen<P, T>>>> ChainArena<P, T, S> {
+    ghost use Rattle.chain_arena.specs.contracts.chain_arena.ChainArena.{the_row as chain_arena_row};
+
+    /// The value of the link at an index that is valid.
+    ///
+    /// Carries `get_inx_unwrap` of `triple_arena`'s chain arena.
+    pub fn get_inx_unwrap(&self, i: P::Inx) -> &T
+        requires { IsSome (entry self.now (P.Inx.number i)) }
+        ensures { option_map (λ e. e.1) (entry self.now (P.Inx.number i)) ≡ Some result.now }
+    {
+        match self.get_inx(i) {
+            Some((_, t)) => t,
+            None => unreachable!(),
+        }
+    }
+
+    /// The value of the link at an index that is valid, for writing.
+    ///
+    /// Carries `get_inx_mut_unwrap` of `triple_arena`'s chain arena.
+    pub fn get_inx_mut_unwrap(&mut self, i: P::Inx) -> &mut T
+        requires { IsSome (entry self.old (P.Inx.number i)) }
+        ensures* writes_back { sem 𝓛 (Lends
+            (chain_arena_row P.row T.row S.row P.Inx.row P.Gen.row P.Inx.Word.row
+            (record { key = P.key }) (record { eq = P.eq }) (record { cmp = P.cmp }) (record { partial_cmp = P.partial_cmp })
+            (record { hash_input = P.hash_input }) (record { debug_output = P.debug_output })
+            (record { number = P.Inx.number; packed_number = P.Inx.packed_number; greatest = P.Inx.greatest }) (record { eq = P.Inx.eq }) (record { cmp = P.Inx.cmp }) (record { partial_cmp = P.Inx.partial_cmp })
+            (record { hash_input = P.Inx.hash_input }) (record { debug_output = P.Inx.debug_output })
+            (record { eq = P.Inx.Word.eq }) (record { cmp = P.Inx.Word.cmp }) (record { partial_cmp = P.Inx.Word.partial_cmp }) (record { hash_input = P.Inx.Word.hash_input })
+            (record { first = P.Gen.first; following = P.Gen.following; wraps = P.Gen.wraps }) (record { eq = P.Gen.eq }) (record { cmp = P.Gen.cmp }) (record { partial_cmp = P.Gen.partial_cmp })
+            (record { hash_input = P.Gen.hash_input }) (record { debug_output = P.Gen.debug_output })
+            S.SlotStack)
+            T.row self.entry result (with_value_at self.old (P.Inx.number i))) }
+        ensures value { option_map (λ e. e.1) (entry self.old (P.Inx.number i)) ≡ Some result.now }
+    {
+        match self.get_inx_mut(i) {
+            Some(t) => t,
+            None => unreachable!(),
+        }
+    }
+}
+
+/// The value of a link by its pointer, which has to be valid.
+impl<P: Ptr, T: Drop, S: SlotStack<Item = ArenaSlot<P, LinkNoGen<P, T>>>> Index<P>
+    for ChainArena<P, T, S> {
+    ghost use Rattle.arena_base.specs.Arena.{IsValid};
+    ghost use Rattle.chain_arena.specs.ChainArena.{entry};
+
+    type Output = T;
+
+    ghost can_index = { λ a p. IsValid (entry a) (P.key p) };
+
+    ghost index_gives = { λ a p t. entry a (P.key p).0 ≡ Some ((P.key p).1, t) };
+
+    fn index(&self, p: P) -> &T {
+        self.get(p).unwrap()
+    }
+}
+
+/// .. for writing: a write changes that value alone.
+impl<P: Ptr, T: Drop, S: SlotStack<Item = ArenaSlot<P, LinkNoGen<P, T>>>> IndexMut<P>
+    for ChainArena<P, T, S> {
+    ghost use Rattle.chain_arena.specs.contracts.chain_arena.ChainArena.{the_row as chain_arena_row};
+
+    fn index_mut(&mut self, p: P) -> &mut T
+        requires { IsValid (entry self.old) (P.key p) }
+        ensures* writes_back { sem 𝓛 (Lends
+            (chain_arena_row P.row T.row S.row P.Inx.row P.Gen.row P.Inx.Word.row
+            (record { key = P.key }) (record { eq = P.eq }) (record { cmp = P.cmp }) (record { partial_cmp = P.partial_cmp })
+            (record { hash_input = P.hash_input }) (record { debug_output = P.debug_output })
+            (record { number = P.Inx.number; packed_number = P.Inx.packed_number; greatest = P.Inx.greatest }) (record { eq = P.Inx.eq }) (record { cmp = P.Inx.cmp }) (record { partial_cmp = P.Inx.partial_cmp })
+            (record { hash_input = P.Inx.hash_input }) (record { debug_output = P.Inx.debug_output })
+            (record { eq = P.Inx.Word.eq }) (record { cmp = P.Inx.Word.cmp }) (record { partial_cmp = P.Inx.Word.partial_cmp }) (record { hash_input = P.Inx.Word.hash_input })
+            (record { first = P.Gen.first; following = P.Gen.following; wraps = P.Gen.wraps }) (record { eq = P.Gen.eq }) (record { cmp = P.Gen.cmp }) (record { partial_cmp = P.Gen.partial_cmp })
+            (record { hash_input = P.Gen.hash_input }) (record { debug_output = P.Gen.debug_output })
+            S.SlotStack)
+            T.row self.entry result (with_value_at self.old (P.key p).0)) }
+        ensures value { entry self.old (P.key p).0 ≡ Some ((P.key p).1, result.now) }
+    {
+        match self.get_mut(p) {
+            Some(t) => t,
+            None => unreachable!(),
+        }
+    }
+}
