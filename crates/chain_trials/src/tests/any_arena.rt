@@ -1,7 +1,7 @@
 //! The rows that any arena of links meets, at the chain arena and at an arena that hands each call on.
 
 use super::wrapped::Wrapped;
-use super::{At, Chains, NONE, advancing, behind, calls, cutting, kinds, removal, rows};
+use super::{At, Chains, NONE, advancing, behind, calls, canonical, cutting, kinds, removal, rows};
 use arena_ptr::ToolPtr;
 use chain_arena::ChainArenaTrait;
 use std::alloc::Global;
@@ -20,6 +20,8 @@ fn check_all<A: ChainArenaTrait<ToolPtr, u32> + Drop>(
     kinds::check_kinds::<A>(rt, alloc)?;
     cutting::check_cutting::<A>(rt, alloc)?;
     advancing::check_advancing::<A>(rt, alloc);
+    canonical::check_interleaved::<A>(rt, alloc)?;
+    canonical::check_holes::<A>(rt, alloc)?;
     calls::check_calls::<A>(rt, alloc, after_none)
 }
 

@@ -1,20 +1,24 @@
 //! Chains laid out in place, one after another.
 
 use super::pointers::SmallPtr;
-use super::wrapped::Wrapped;
 use super::{At, Chains, NONE, Row, first, lone_links, numbers, rows_of, same, shows, tied_links};
 use arena_base::{ArenaTrait, Work};
-use arena_ptr::{Gen8, InvalidationOption, Ptr, ToolPtr};
+use arena_ptr::{Gen8, Gen32, InvalidationOption, Ptr, ToolPtr};
 use chain_arena::{ChainArena, ChainArenaTrait, LinkInsertKind};
 use std::alloc::Global;
 use std::process::Abort;
 use std::rt::HostRuntime;
 use std::test::Fail;
 
+// Takes one of the first links away.
+fn take<A: ChainArenaTrait<ToolPtr, u32>>(rt: &impl Abort, arena: &mut A, inx: u32) {
+    assert!(rt; arena.remove(first(rt, inx)).allow().is_some());
+}
+
 // A chain of 2, 4 and 1, of which 1 came last, and 3 alone.
-fn scattered(rt: &impl Abort, alloc: Global) -> Chains {
-    let mut arena: Chains = tied_links(rt, alloc, 4, &[(1, 3), (2, 4)]);
-    assert!(rt; arena.remove(first(rt, 1)).allow().is_some());
+fn scattered<A: ChainArenaTrait<ToolPtr, u32> + Drop>(rt: &impl Abort, alloc: Global) -> A {
+    let mut arena: A = tied_links(rt, alloc, 4, &[(1, 3), (2, 4)]);
+    take(rt, &mut arena, 1);
     let kind = LinkInsertKind::ChainEnd(first(rt, 4));
     assert!(rt; arena.insert_reallocating(kind, 5).is_ok());
     arena
@@ -24,10 +28,15 @@ fn scattered(rt: &impl Abort, alloc: Global) -> Chains {
 const INTERLEAVED: [At; 3] = [(1, 4), (2, 3), (3, 2)];
 
 // Lone links behind as many holes.
-fn behind_holes(rt: &impl Abort, alloc: Global, holes: u32, links: u32) -> Chains {
-    let mut arena: Chains = lone_links(rt, alloc, holes.saturating_add(links));
+fn behind_holes<A: ChainArenaTrait<ToolPtr, u32> + Drop>(
+    rt: &impl Abort,
+    alloc: Global,
+    holes: u32,
+    links: u32,
+) -> A {
+    let mut arena: A = lone_links(rt, alloc, holes.saturating_add(links));
     for k in 1..=holes {
-        assert!(rt; arena.remove(first(rt, k)).allow().is_some());
+        take(rt, &mut arena, k);
     }
     arena
 }
@@ -45,7 +54,7 @@ fn laid<A: ChainArenaTrait<ToolPtr, u32>>(
 
 #[test]
 fn scattered_chains_compressed(rt: HostRuntime) -> Result<(), Fail> {
-    let mut arena = scattered(&rt, rt.alloc());
+    let mut arena: Chains = scattered(&rt, rt.alloc());
     let (told, work) = arena.compress_canonical_counted(false);
     assert!(rt; told == InvalidationOption::Success(()) && work.placed == 4);
     let want = [
@@ -67,36 +76,42 @@ const LAID: [Row; 4] = [
     ((4, 3), 3, (3, 3), (3, 3)),
 ];
 
-#[test]
-fn a_linear_chain_and_a_cycle_compressed(rt: HostRuntime) -> Result<(), Fail> {
-    let mut arena: Chains = tied_links(&rt, rt.alloc(), 4, &INTERLEAVED);
-    laid(&rt, rt.alloc(), &mut arena, &LAID)?;
-    let mut arena: Wrapped<Chains> = tied_links(&rt, rt.alloc(), 4, &INTERLEAVED);
-    laid(&rt, rt.alloc(), &mut arena, &LAID)
+// A linear chain and a cycle, compressed in any arena of links.
+pub(super) fn check_interleaved<A: ChainArenaTrait<ToolPtr, u32> + Drop>(
+    rt: &impl Abort,
+    alloc: Global,
+) -> Result<(), Fail> {
+    let mut arena: A = tied_links(rt, alloc, 4, &INTERLEAVED);
+    laid(rt, alloc, &mut arena, &LAID)
 }
 
-#[test]
-fn holes_before_two_lone_links(rt: HostRuntime) -> Result<(), Fail> {
-    let mut arena = behind_holes(&rt, rt.alloc(), 4, 2);
+// Holes before two lone links, compressed twice in any arena of links: the second time no link moves.
+pub(super) fn check_holes<A: ChainArenaTrait<ToolPtr, u32> + Drop>(
+    rt: &impl Abort,
+    alloc: Global,
+) -> Result<(), Fail> {
+    let mut arena: A = behind_holes(rt, alloc, 4, 2);
     laid(
-        &rt,
-        rt.alloc(),
+        rt,
+        alloc,
         &mut arena,
         &[((1, 7), 5, NONE, NONE), ((2, 7), 6, NONE, NONE)],
     )?;
-    same(
-        &rt,
-        "placed",
-        arena.compress_canonical_counted(false).1.placed,
-        2,
-    );
-    shows(
-        &rt,
-        rt.alloc(),
-        "again",
-        &arena,
+    laid(
+        rt,
+        alloc,
+        &mut arena,
         &[((1, 8), 5, NONE, NONE), ((2, 8), 6, NONE, NONE)],
     )
+}
+
+#[test]
+fn both_lone_links_are_placed_each_time(rt: HostRuntime) {
+    let mut arena: Chains = behind_holes(&rt, rt.alloc(), 4, 2);
+    for _ in 0..2 {
+        let (_, work) = arena.compress_canonical_counted(false);
+        same(&rt, "placed", work.placed, 2);
+    }
 }
 
 #[test]
@@ -126,10 +141,10 @@ fn within_bound(work: Work, slots: u128, links: u128) -> bool {
 
 #[test]
 fn work_stays_within_its_bound(rt: HostRuntime) {
-    let mut arena = behind_holes(&rt, rt.alloc(), 100, 100);
+    let mut arena: Chains = behind_holes(&rt, rt.alloc(), 100, 100);
     let (_, work) = arena.compress_canonical_counted(false);
     assert!(rt; within_bound(work, 200, 100));
-    let mut arena = behind_holes(&rt, rt.alloc(), 100_000, 100_000);
+    let mut arena: Chains = behind_holes(&rt, rt.alloc(), 100_000, 100_000);
     let (_, work) = arena.compress_canonical_counted(true);
     assert!(rt; within_bound(work, 200_000, 100_000));
 }
@@ -153,99 +168,120 @@ fn a_compression_may_overflow(rt: HostRuntime) {
     }
 }
 
+// One of five arenas.
+fn arena_of<A: ChainArenaTrait<ToolPtr, u32> + Drop>(
+    rt: &impl Abort,
+    alloc: Global,
+    which: u32,
+) -> A {
+    match which {
+        0 => {
+            let mut arena: A = tied_links(rt, alloc, 4, &[(2, 2), (3, 4)]);
+            take(rt, &mut arena, 1);
+            arena
+        }
+        1 => scattered(rt, alloc),
+        2 => tied_links(rt, alloc, 4, &INTERLEAVED),
+        3 => tied_links(rt, alloc, 3, &[(3, 1)]),
+        _ => behind_holes(rt, alloc, 4, 2),
+    }
+}
+
 // The pointers that a link had and has.
 type Move = (At, At);
 
-// Lays the chains out, and looks whether the closure sees these moves, and the call that lists them answers them.
-fn moves_are(
-    rt: &impl Abort,
-    alloc: Global,
-    mut arena: Chains,
-    mut other: Chains,
-    want: &[Move],
-) -> Result<(), Fail> {
-    let mut moves = Vec::with_capacity(alloc, want.len())?;
+// The moves that the closure of a compression sees.
+fn moves_seen(rt: &impl Abort, alloc: Global, arena: &mut Chains) -> Result<Vec<Move>, Fail> {
+    let mut moves = Vec::with_capacity(alloc, arena.len())?;
     let mut full = false;
     let told = arena.compress_canonical_with(
         false,
         |p, q| full = moves.push((numbers(Some(p)), numbers(Some(q)))).is_err() || full,
     );
     assert!(rt; told == InvalidationOption::Success(()) && !full);
-    assert_eq!(rt; moves.as_slice(), want);
-    let (told, listed) = other.compress_canonical_moves(alloc, false)?;
-    let mut moves = Vec::with_capacity(alloc, want.len())?;
+    Ok(moves)
+}
+
+// The moves that the call answers that lists them.
+fn moves_listed(rt: &impl Abort, alloc: Global, arena: &mut Chains) -> Result<Vec<Move>, Fail> {
+    let (told, listed) = arena.compress_canonical_moves(alloc, false)?;
+    assert!(rt; told == InvalidationOption::Success(()));
+    let mut moves = Vec::with_capacity(alloc, listed.len())?;
     for (p, q) in listed {
         moves.push((numbers(Some(p)), numbers(Some(q))))?;
     }
-    assert!(rt; told == InvalidationOption::Success(()) && moves.as_slice() == want);
+    Ok(moves)
+}
+
+// Whether both tell these moves of one of the arenas.
+fn are_moved(rt: &impl Abort, alloc: Global, which: u32, want: &[Move]) -> Result<bool, Fail> {
+    let mut arena: Chains = arena_of(rt, alloc, which);
+    let seen = moves_seen(rt, alloc, &mut arena)?;
+    let mut arena: Chains = arena_of(rt, alloc, which);
+    let listed = moves_listed(rt, alloc, &mut arena)?;
+    Ok(seen.as_slice() == want && listed.as_slice() == want)
+}
+
+// The moves of scattered chains, of interleaved ones, and of a chain whose start is not its least index.
+const SCATTERED_MOVES: [Move; 4] = [
+    ((2, 2), (1, 4)),
+    ((4, 2), (2, 4)),
+    ((1, 3), (3, 4)),
+    ((3, 2), (4, 4)),
+];
+
+const INTERLEAVED_MOVES: [Move; 4] = [
+    ((1, 2), (1, 3)),
+    ((4, 2), (2, 3)),
+    ((2, 2), (3, 3)),
+    ((3, 2), (4, 3)),
+];
+
+const LEAST_INDEX_MOVES: [Move; 3] = [((3, 2), (1, 3)), ((1, 2), (2, 3)), ((2, 2), (3, 3))];
+
+#[test]
+fn each_move_is_told(rt: HostRuntime) -> Result<(), Fail> {
+    assert!(rt; are_moved(&rt, rt.alloc(), 1, &SCATTERED_MOVES)?);
+    assert!(rt; are_moved(&rt, rt.alloc(), 2, &INTERLEAVED_MOVES)?);
+    assert!(rt; are_moved(&rt, rt.alloc(), 3, &LEAST_INDEX_MOVES)?);
     Ok(())
 }
 
-#[test]
-fn pairs_of_scattered_chains(rt: HostRuntime) -> Result<(), Fail> {
-    let want = [
-        ((2, 2), (1, 4)),
-        ((4, 2), (2, 4)),
-        ((1, 3), (3, 4)),
-        ((3, 2), (4, 4)),
-    ];
-    let (arena, other) = (scattered(&rt, rt.alloc()), scattered(&rt, rt.alloc()));
-    moves_are(&rt, rt.alloc(), arena, other, &want)
+// What one of the arenas shows once it is compressed, and its counter.
+fn compressed(rt: &impl Abort, alloc: Global, which: u32) -> Result<(Vec<Row>, Gen32), Fail> {
+    let mut arena: Chains = arena_of(rt, alloc, which);
+    assert!(rt; arena.compress_canonical(false) == InvalidationOption::Success(()));
+    Ok((rows_of(rt, alloc, &arena)?, arena.generation()))
 }
 
-#[test]
-fn pairs_of_interleaved_chains(rt: HostRuntime) -> Result<(), Fail> {
-    let want = [
-        ((1, 2), (1, 3)),
-        ((4, 2), (2, 3)),
-        ((2, 2), (3, 3)),
-        ((3, 2), (4, 3)),
-    ];
-    let arena = tied_links(&rt, rt.alloc(), 4, &INTERLEAVED);
-    let other = tied_links(&rt, rt.alloc(), 4, &INTERLEAVED);
-    moves_are(&rt, rt.alloc(), arena, other, &want)
-}
-
-#[test]
-fn pairs_by_least_index(rt: HostRuntime) -> Result<(), Fail> {
-    let want = [((3, 2), (1, 3)), ((1, 2), (2, 3)), ((2, 2), (3, 3))];
-    let arena = tied_links(&rt, rt.alloc(), 3, &[(3, 1)]);
-    let other = tied_links(&rt, rt.alloc(), 3, &[(3, 1)]);
-    moves_are(&rt, rt.alloc(), arena, other, &want)
-}
-
-// One of four arenas.
-fn arena_of(rt: &impl Abort, alloc: Global, which: u32) -> Chains {
-    match which {
-        0 => {
-            let mut arena: Chains = tied_links(rt, alloc, 4, &[(2, 2), (3, 4)]);
-            assert!(rt; arena.remove(first(rt, 1)).allow().is_some());
-            arena
-        }
-        1 => scattered(rt, alloc),
-        2 => tied_links(rt, alloc, 4, &INTERLEAVED),
-        _ => behind_holes(rt, alloc, 4, 2),
-    }
+// What an arena shows into which it is transferred.
+fn transferred(
+    rt: &impl Abort,
+    alloc: Global,
+    which: u32,
+    generation: Gen32,
+) -> Result<Vec<Row>, Fail> {
+    let mut source: Chains = arena_of(rt, alloc, which);
+    let mut arena = Chains::new(alloc);
+    let carried = arena.transfer_canonical_reallocating(
+        generation,
+        &mut source,
+        |_, v, _| v.overflowing().0,
+    );
+    assert!(rt; carried.is_ok());
+    rows_of(rt, alloc, &arena)
 }
 
 // Whether a compression and a transfer of the same links lay them out alike.
 fn agree(rt: &impl Abort, alloc: Global, which: u32) -> Result<bool, Fail> {
-    let mut here = arena_of(rt, alloc, which);
-    let mut source = arena_of(rt, alloc, which);
-    let told = here.compress_canonical(false);
-    let mut there = Chains::new(alloc);
-    let carried = there.transfer_canonical_reallocating(
-        here.generation(),
-        &mut source,
-        |_, v, _| v.overflowing().0,
-    );
-    assert!(rt; told == InvalidationOption::Success(()) && carried.is_ok());
-    Ok(rows_of(rt, alloc, &here)?.as_slice() == rows_of(rt, alloc, &there)?.as_slice())
+    let (here, generation) = compressed(rt, alloc, which)?;
+    let there = transferred(rt, alloc, which, generation)?;
+    Ok(here.as_slice() == there.as_slice())
 }
 
 #[test]
 fn compression_and_transfer_agree(rt: HostRuntime) -> Result<(), Fail> {
-    for which in 0..4 {
+    for which in 0..5 {
         assert!(rt; agree(&rt, rt.alloc(), which)?);
     }
     Ok(())

@@ -1,0 +1,76 @@
+//! Plain arenas of links, of which those whose interlinks agree become chain arenas.
+
+use super::{At, Chains, NONE, add, first, same, shows};
+use arena_base::{Arena, ArenaTrait};
+use arena_ptr::{Inx32, ToolPtr};
+use chain_arena::{LinkBody, LinkNoGen, links_agree};
+use std::alloc::Global;
+use std::process::Abort;
+use std::test::Fail;
+
+type Plain = Arena<ToolPtr, LinkNoGen<ToolPtr, u32>>;
+
+// A plain arena of links that name these indexes, 0 for none, as the one before and the one after; the value is 7.
+fn plain(rt: &impl Abort, alloc: Global, links: &[At]) -> Plain {
+    let mut arena = Plain::new(alloc);
+    for (prev, next) in links {
+        let link = LinkBody::new((Inx32::new(*prev), Inx32::new(*next)), 7);
+        assert!(rt; arena.insert_reallocating(link).is_ok());
+    }
+    arena
+}
+
+// Interlinks, and whether they agree.
+const ROWS: [(&str, &[At], bool); 12] = [
+    ("no link", &[], true),
+    ("two in a row", &[(0, 2), (1, 0)], true),
+    ("a ring of one", &[(1, 1)], true),
+    ("a ring of two", &[(2, 2), (1, 1)], true),
+    ("a ring of three", &[(3, 2), (1, 3), (2, 1)], true),
+    ("a row and a ring", &[(0, 3), (2, 2), (1, 0)], true),
+    ("only a next", &[(0, 2), (0, 0)], false),
+    ("only a prev", &[(2, 0), (0, 0)], false),
+    ("half a ring of one", &[(0, 1)], false),
+    ("the other half", &[(1, 0)], false),
+    ("a next of two", &[(0, 3), (0, 3), (2, 0)], false),
+    ("no index", &[(0, 3)], false),
+];
+
+const REFUSAL: &str = "interlink transitivity does not hold";
+
+#[test]
+fn interlinks_that_agree_or_not(rt: HostRuntime) {
+    for (what, links, agree) in ROWS {
+        let arena = plain(&rt, rt.alloc(), links);
+        same(&rt, what, links_agree(&arena), agree);
+        let want = if agree { None } else { Some(REFUSAL) };
+        same(&rt, what, Chains::from_arena(arena).err(), want);
+    }
+}
+
+// A link that is gone is named by none: the indexes before are those of before.
+#[test]
+fn an_interlink_to_a_freed_index(rt: HostRuntime) {
+    let mut arena = plain(&rt, rt.alloc(), &[(0, 2), (1, 0)]);
+    assert!(rt; arena.remove(first(&rt, 2)).allow().is_some());
+    same(&rt, "the interlinks", links_agree(&arena), false);
+}
+
+// Indexes, generations and interlinks stay, and so do the counter and the freed list: the last freed is used first.
+#[test]
+fn what_is_accepted_stays(rt: HostRuntime) -> Result<(), Fail> {
+    let mut arena = plain(&rt, rt.alloc(), &[(0, 3), (0, 0), (1, 0), (0, 0), (5, 5)]);
+    assert!(rt; arena.remove(first(&rt, 4)).allow().is_some());
+    assert!(rt; arena.remove(first(&rt, 2)).allow().is_some());
+    let mut arena = Chains::from_arena(arena)?;
+    add(&rt, &mut arena, 8);
+    add(&rt, &mut arena, 9);
+    let want = [
+        ((1, 2), 7, NONE, (3, 2)),
+        ((2, 4), 8, NONE, NONE),
+        ((3, 2), 7, (1, 2), NONE),
+        ((4, 4), 9, NONE, NONE),
+        ((5, 2), 7, (5, 2), (5, 2)),
+    ];
+    shows(&rt, rt.alloc(), "the links", &arena, &want)
+}
