@@ -21,7 +21,7 @@ fn plain(rt: &impl Abort, alloc: Global, links: &[At]) -> Plain {
 }
 
 // Interlinks, and whether they agree.
-const ROWS: [(&str, &[At], bool); 12] = [
+const ROWS: [(&str, &[At], bool); 15] = [
     ("no link", &[], true),
     ("two in a row", &[(0, 2), (1, 0)], true),
     ("a ring of one", &[(1, 1)], true),
@@ -32,6 +32,9 @@ const ROWS: [(&str, &[At], bool); 12] = [
     ("only a prev", &[(2, 0), (0, 0)], false),
     ("half a ring of one", &[(0, 1)], false),
     ("the other half", &[(1, 0)], false),
+    ("a ring without a prev", &[(2, 2), (0, 1)], false),
+    ("a row into a ring", &[(0, 2), (3, 3), (2, 2)], false),
+    ("a ring into a row", &[(0, 2), (1, 3), (2, 2)], false),
     ("a next of two", &[(0, 3), (0, 3), (2, 0)], false),
     ("no index", &[(0, 3)], false),
 ];
