@@ -21,5 +21,5 @@ pub use arena::Arena;
 pub use compactor::{Compactor, SlotAccess, Work};
 pub use entry::ArenaInsertEntry;
 pub use iterators::{CapacityDrain, Iter};
-pub use slot::ArenaSlot;
+pub use slot::{ArenaSlot, inx_at};
 pub use traits::{Advancer, ArenaCloneFromWith, ArenaTrait, CompactArenaTrait, ValueMap};

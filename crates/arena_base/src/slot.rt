@@ -79,8 +79,8 @@ pub(crate) fn number_of<P: Ptr>(i: P::Inx) -> usize
     }
 }
 
-// The index at a position, from 0.
-pub(crate) fn inx_at<P: Ptr>(k: usize) -> P::Inx
+/// The index at a position, from 0: position k is index k + 1.
+pub fn inx_at<P: Ptr>(k: usize) -> P::Inx
     requires { k < P.Inx.greatest }
     ensures { P.Inx.number result ≡ k + 1 }
 {

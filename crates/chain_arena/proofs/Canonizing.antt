@@ -18,10 +18,10 @@ use Rattle.arena_base.specs.Entries.{entries_from, entries, found, index_of, see
 use Rattle.arena_base.specs.EntryLaws.{found-entries}
 use Rattle.arena_base.specs.Compressing.{counter_after_compression, values_in}
 use Rattle.arena_base.specs.Closing.{fronted, gathered}
-use Rattle.chain_arena.specs.ChainArena.{LinkSeen, on_value, value_in, interlinks_of, shown, seen, entry, values_of, ptr_at}
-use Rattle.chain_arena.specs.Layouts.{ShowsMoves, ShowsAll, AreLaidOut, IsCanonicalLayout}
-use Rattle.chain_arena.proofs.Inserting.{some_entry, values-count}
-use Rattle.chain_arena.proofs.Arranging.{count-standing}
+use Rattle.chain_links.specs.ChainArena.{LinkSeen, on_value, value_in, interlinks_of, shown, seen, entry, values_of, ptr_at}
+use Rattle.chain_layout.specs.Layouts.{ShowsMoves, ShowsAll, AreLaidOut, IsCanonicalLayout}
+use Rattle.chain_links.proofs.Inserting.{some_entry, values-count}
+use Rattle.chain_layout.proofs.Arranging.{count-standing}
 
 module _ {Gen T : Type 0} (g : Gen) where
   -- entries at the front of slots: their number, their indexes and their generation

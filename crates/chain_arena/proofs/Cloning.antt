@@ -9,12 +9,12 @@ use Rattle.chain_laws.specs.Chains.{Interlinks, Agrees}
 use Rattle.arena_base.specs.Arena.{Arena, slot_at, new_arena}
 use Rattle.arena_base.specs.Entries.{Seen, Slots, entries_from, entries}
 use Rattle.arena_base.specs.Copying.{Copied, Makes, CopiesBy, IsCopyBy, IsCopyCall, itself, HasRefusable, HasSlotsOf, generations}
-use Rattle.chain_arena.specs.declared.links.LinkBody.{LinkBody}
-use Rattle.chain_arena.specs.ChainArena.{LinkSeen, on_value, interlinks_in, interlinks_of, shown, values_of}
-use Rattle.chain_arena.specs.Links.{seen_link, seen_links, seen_pair, held_in}
+use Rattle.chain_links.specs.declared.links.LinkBody.{LinkBody}
+use Rattle.chain_links.specs.ChainArena.{LinkSeen, on_value, interlinks_in, interlinks_of, shown, values_of}
+use Rattle.chain_links.specs.Links.{seen_link, seen_links, seen_pair, held_in}
 use Rattle.chain_arena.specs.Copies.{MakesLink, IsClone}
-use Rattle.chain_arena.proofs.Mapping.{slot_at-map, length-with_each}
-use Rattle.chain_arena.proofs.Valuing.{seen_entries-all, held_entries-all}
+use Rattle.chain_links.proofs.Mapping.{slot_at-map, length-with_each}
+use Rattle.chain_layout.proofs.Valuing.{seen_entries-all, held_entries-all}
 
 -- a value that was made, where the value shown and the answer are looked at in some way
 abbrev made_as : {P U T W X : Type 0} → (U → W) → (T → X) → Copied P U T → Copied P W X

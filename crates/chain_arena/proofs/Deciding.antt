@@ -6,8 +6,8 @@ use Rattle.std.proofs.lemmas.Option.{none-some}
 use Rattle.chain_laws.specs.Chains.{Shown, Interlinks, IsValid, prev_of, next_of}
 use Rattle.chain_laws.specs.Insertions.{InsertKind, disconnected, single_link_cyclic, chain_end, chain_start, next_to, prev_to, at_interlink, bridge}
 use Rattle.arena_base.specs.Arena.{Arena}
-use Rattle.chain_arena.specs.ChainArena.{LinkSeen, shown, entry, values_of}
-use Rattle.chain_arena.specs.Kinds.{LinkName, HasName, MayInsert}
+use Rattle.chain_links.specs.ChainArena.{LinkSeen, shown, entry, values_of}
+use Rattle.chain_links.specs.Kinds.{LinkName, HasName, MayInsert}
 use Rattle.chain_arena.proofs.Lending.{valid_or_not}
 
 abbrev pub Stable : Type 0 → Type 0

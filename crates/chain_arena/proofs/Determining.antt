@@ -14,17 +14,17 @@ use Rattle.chain_laws.specs.Cuts.{cut}
 use Rattle.chain_laws.specs.Insertions.{InsertKind}
 use Rattle.chain_laws.proofs.Walking.{no_other_walk}
 use Rattle.arena_base.specs.Arena.{IsValid, entry_at, entry_count, with_capacity_of, renewed_at}
-use Rattle.chain_arena.specs.ChainArena.{LinkSeen, on_value, shown, entry, value_in, insert_as, relinked}
+use Rattle.chain_links.specs.ChainArena.{LinkSeen, on_value, shown, entry, value_in, insert_as, relinked}
 use Rattle.chain_arena.specs.Drains.{without_each}
-use Rattle.chain_arena.specs.Links.{seen_link, seen_pair}
+use Rattle.chain_links.specs.Links.{seen_link, seen_pair}
 use Rattle.chain_arena.specs.Steps.{Links, HasRoomFor, stays, grown, Refuses, Connects, BreaksPrev, BreaksNext, Exchanges, Reserves, DrainsChain, Tells, TellSame, ShowSame, kind_of, IsAdded, IsTaken, AreSameButTouched, InsertsGrowing, InsertsWithin, Step, Run, HasRoomAlready, RunIsDetermined}
 use Rattle.chain_arena.specs.declared.calls.Call.{Call}
 use Rattle.chain_arena.specs.declared.calls.Call.TheVariants as call
 use Rattle.chain_arena.specs.declared.calls.Reply.{Reply}
 use Rattle.chain_arena.specs.declared.calls.Reply.TheVariants as reply
-use Rattle.chain_arena.specs.declared.kinds.InsertKindBody.{InsertKindBody}
-use Rattle.chain_arena.specs.declared.links.LinkBody.{LinkBody}
-use Rattle.chain_arena.proofs.Mapping.{entry_at-with_each}
+use Rattle.chain_links.specs.declared.kinds.InsertKindBody.{InsertKindBody}
+use Rattle.chain_links.specs.declared.links.LinkBody.{LinkBody}
+use Rattle.chain_links.proofs.Mapping.{entry_at-with_each}
 use Rattle.chain_arena.proofs.Touching.{touch, compression_same, layout_same, run_touched}
 
 -- two that are one and the same

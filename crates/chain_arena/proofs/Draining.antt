@@ -12,15 +12,15 @@ use Rattle.chain_laws.proofs.Draining.{walk_from-walk, walk_from-none, walk_from
 use Rattle.arena_base.specs.Arena.{Arena, entry_at, remove_at}
 use Rattle.arena_base.specs.Arena.{IsValid as IsValidPtr}
 use Rattle.arena_base.proofs.Reading.{length-with_slot}
-use Rattle.chain_arena.specs.ChainArena.{LinkSeen, shown, on_value, value_in as held_value, interlinks_of, values_of, link_of, link_at, remove_link}
-use Rattle.chain_arena.specs.Insertions.{index_from}
-use Rattle.chain_arena.specs.Links.{seen_link}
+use Rattle.chain_links.specs.ChainArena.{LinkSeen, shown, on_value, value_in as held_value, interlinks_of, values_of, link_of, link_at, remove_link}
+use Rattle.chain_interlinks.specs.Insertions.{index_from}
+use Rattle.chain_links.specs.Links.{seen_link}
 use Rattle.chain_arena.specs.Drains.{walk_left, without_each, IsDrainStep, CountsUp}
-use Rattle.chain_arena.specs.declared.links.LinkBody.{LinkBody}
-use Rattle.chain_arena.proofs.Mapping.{entry_at-with_each}
-use Rattle.chain_arena.proofs.Seeing.{length-relinked}
-use Rattle.chain_arena.proofs.Inserting.{shown-within}
-use Rattle.chain_arena.proofs.Unlinking.{passes_over, shown-remove_link}
+use Rattle.chain_links.specs.declared.links.LinkBody.{LinkBody}
+use Rattle.chain_links.proofs.Mapping.{entry_at-with_each}
+use Rattle.chain_links.proofs.Seeing.{length-relinked}
+use Rattle.chain_links.proofs.Inserting.{shown-within}
+use Rattle.chain_interlinks.proofs.Unlinking.{passes_over, shown-remove_link}
 
 -- an answer of a value tells whether the counter overflowed
 pub is_overflow_result-made : {X : Type 0} (overflow : Bool) (x : X) → is_overflow_result (invalidation_result overflow (Some x)) ≡ overflow

@@ -11,9 +11,9 @@ use Rattle.chain_laws.proofs.Backing.{length_among}
 use Rattle.chain_laws.proofs.Passing.{has_walk, walk_valid, walk_once}
 use Rattle.chain_laws.proofs.Walking.{walk_passed}
 use Rattle.arena_base.specs.Arena.{Arena, entry_at, entry_count}
-use Rattle.chain_arena.specs.ChainArena.{LinkSeen, interlinks_of, shown, IsWalkOf}
-use Rattle.chain_arena.specs.Walkers.{links_at, links_ahead}
-use Rattle.chain_arena.proofs.Inserting.{shown-within, some_entry}
+use Rattle.chain_links.specs.ChainArena.{LinkSeen, interlinks_of, shown, IsWalkOf}
+use Rattle.chain_interlinks.specs.Walkers.{links_at, links_ahead}
+use Rattle.chain_links.proofs.Inserting.{shown-within, some_entry}
 
 -- the indexes of the entries, counted from k
 abbrev taken : {X : Type 0} → ℕ → List (Option X) → List ℕ

@@ -8,9 +8,9 @@ use Rattle.chain_laws.specs.Relays.{with_laid, end_before, end_after}
 use Rattle.chain_laws.proofs.Laying.{last_is_laid}
 use Rattle.arena_base.specs.Arena.{Arena, IsListed, slot_at, entry_count, filled, first_or_next, next_index, without_first}
 use Rattle.arena_base.specs.Entries.{entries, entries_from}
-use Rattle.chain_arena.specs.ChainArena.{LinkSeen, value_in, values_of, interlinks_of, shown, lone, insert_lone, insert_between}
-use Rattle.chain_arena.proofs.Mapping.{length-with_each}
-use Rattle.chain_arena.proofs.Seeing.{length-relinked}
+use Rattle.chain_links.specs.ChainArena.{LinkSeen, value_in, values_of, interlinks_of, shown, lone, insert_lone, insert_between}
+use Rattle.chain_links.proofs.Mapping.{length-with_each}
+use Rattle.chain_links.proofs.Seeing.{length-relinked}
 use Rattle.chain_arena.proofs.Telling.{count-seen, shown-insert_between, values_of-insert_between}
 
 module _ {Gen T : Type 0} where

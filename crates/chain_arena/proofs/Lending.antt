@@ -4,11 +4,11 @@ use Rattle.std.specs.Prelude.{IfSome, IsSome}
 use Rattle.std.specs.Option.{option_map, option_copied_mut}
 use denote.MutBor.{MutBor}
 use Rattle.arena_base.specs.Arena.{Arena, entry_at, IsValid}
-use Rattle.chain_arena.specs.declared.links.LinkBody.{LinkBody}
-use Rattle.chain_arena.specs.ChainArena.{on_value, values_of}
-use Rattle.chain_arena.specs.Links.{held_in, seen_links}
-use Rattle.chain_arena.proofs.Connecting.{value_at}
-use Rattle.chain_arena.proofs.Mapping.{IsValidPtr}
+use Rattle.chain_links.specs.declared.links.LinkBody.{LinkBody}
+use Rattle.chain_links.specs.ChainArena.{on_value, values_of}
+use Rattle.chain_links.specs.Links.{held_in, seen_links}
+use Rattle.chain_interlinks.proofs.Connecting.{value_at}
+use Rattle.chain_links.proofs.Mapping.{IsValidPtr}
 
 module _ {Gen K T : Type 0} (number : K → Option ℕ) where
   -- the value at an index is that of the link there

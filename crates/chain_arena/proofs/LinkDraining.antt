@@ -13,10 +13,10 @@ use Rattle.arena_base.specs.Entries.{Seen, entries, index_of, found, without, fi
 use Rattle.arena_base.specs.Entries.{removed as seen_removed}
 use Rattle.arena_base.specs.EntryLaws.{entries_rise, found-entries}
 use Rattle.arena_base.specs.Advancing.{from_index}
-use Rattle.chain_arena.specs.ChainArena.{LinkSeen, values_of, seen, remove_link}
+use Rattle.chain_links.specs.ChainArena.{LinkSeen, values_of, seen, remove_link}
 use Rattle.chain_arena.specs.Drains.{entries_left, without_each, IsLinkDrainStep}
 use Rattle.chain_arena.proofs.Draining.{is_overflow_result-made}
-use Rattle.chain_arena.proofs.Unlinking.{seen-removed}
+use Rattle.chain_interlinks.proofs.Unlinking.{seen-removed}
 
 -- what an answer that tells of an overflow holds
 value_in-made : {X : Type 0} (overflow : Bool) (x : X) → value_in (invalidation_option overflow x) ≡ x

@@ -11,10 +11,10 @@ use Rattle.arena_base.specs.Advancing.{from_index, ahead, look_after, IsLook}
 use Rattle.arena_base.specs.Compressing.{values_in}
 use Rattle.arena_base.specs.declared.look.Look.{Look}
 use Rattle.arena_base.specs.declared.look.Look.TheVariants.{Up}
-use Rattle.chain_arena.specs.ChainArena.{LinkSeen, on_value, with_each, with_value_in, with_value_at, values_of, shown, seen, entry}
+use Rattle.chain_links.specs.ChainArena.{LinkSeen, on_value, with_each, with_value_in, with_value_at, values_of, shown, seen, entry}
 use Rattle.chain_arena.specs.Recasting.{without_value, AreAllRecast, IsRecast, IsRecastAt}
 use Rattle.chain_arena.proofs.LinkDraining.{from_index-rises}
-use Rattle.chain_arena.proofs.Mapping.{map-with_slot, slot_at-map}
+use Rattle.chain_links.proofs.Mapping.{map-with_slot, slot_at-map}
 
 -- slots with what stands at an index put there again
 with_slot-own : {X : Type 0} (slots : List (Option X)) (n : ℕ) → with_slot slots n (slot_at slots n) ≡ slots

@@ -22,16 +22,16 @@ use Rattle.chain_laws.proofs.Draining.{walk_is_taken}
 use Rattle.arena_base.specs.Arena.{IsValid, IsRoom, HasRoom, entry_at, entry_count, next_index, with_capacity_of, renewed_at, overflows_after_clear}
 use Rattle.arena_base.specs.Compressing.{overflows_after_compression}
 use Rattle.arena_base.specs.Entries.{count, renewed, HasRoomLeft, NeedsBeyondMaximum}
-use Rattle.chain_arena.specs.ChainArena.{LinkSeen, on_value, shown, seen, entry, value_in, insert_as, link_at, relinked, CanConnect, CanExchange, IsJoin, IsCut, IsExchange, IsRemoval}
+use Rattle.chain_links.specs.ChainArena.{LinkSeen, on_value, shown, seen, entry, value_in, insert_as, link_at, relinked, CanConnect, CanExchange, IsJoin, IsCut, IsExchange, IsRemoval}
 use Rattle.chain_arena.specs.Drains.{walk_left, without_each}
-use Rattle.chain_arena.specs.Insertions.{IsInsertion}
-use Rattle.chain_arena.specs.Links.{seen_link}
+use Rattle.chain_interlinks.specs.Insertions.{IsInsertion}
+use Rattle.chain_links.specs.Links.{seen_link}
 use Rattle.chain_arena.specs.Steps.{Links, stays, grown, Connects, BreaksPrev, BreaksNext, Exchanges, IsDrained, Tells, kind_of, May, IsAdded, IsTaken, InsertsGrowing, InsertsWithin, Reserves}
-use Rattle.chain_arena.specs.declared.kinds.InsertKindBody.{InsertKindBody}
-use Rattle.chain_arena.specs.declared.links.LinkBody.{LinkBody}
+use Rattle.chain_links.specs.declared.kinds.InsertKindBody.{InsertKindBody}
+use Rattle.chain_links.specs.declared.links.LinkBody.{LinkBody}
 use Rattle.chain_arena.proofs.Deciding.{Stable}
 use Rattle.chain_arena.proofs.Draining.{shown-without_each, link_at-entry}
-use Rattle.chain_arena.proofs.Mapping.{entry_at-with_each}
+use Rattle.chain_links.proofs.Mapping.{entry_at-with_each}
 use Rattle.chain_arena.proofs.Telling.{count-seen}
 
 -- whether a call was done that is done where it can be

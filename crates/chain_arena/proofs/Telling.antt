@@ -8,11 +8,11 @@ use Rattle.chain_laws.proofs.Inserting.{inserted_inserts}
 use Rattle.arena_base.specs.Arena.{Arena, without_first, IsListed, entry_count, first_or_next, next_index, insert_next, with_capacity_of}
 use Rattle.arena_base.specs.Entries.{Slots, seen_of, count}
 use Rattle.arena_base.proofs.Seeing.{length-entries}
-use Rattle.chain_arena.specs.ChainArena.{LinkSeen, value_in, values_of, seen, entry, shown, lone, insert_lone, insert_between, insert_as}
-use Rattle.chain_arena.specs.Insertions.{IsInsertion, IsInsertionBetween}
-use Rattle.chain_arena.proofs.Mapping.{with_each-insert_next, length-with_each, listed-with_each, entry_count-with_each}
-use Rattle.chain_arena.proofs.Inserting.{shown-insert_lone, shown-next, inserted_at, length-filled}
-use Rattle.chain_arena.proofs.Relinking.{FitsLinks, FitsLinks-shown, FitsLinks-next_set, FitsLinks-prev_set, shown-relinked, values_of-relinked}
+use Rattle.chain_links.specs.ChainArena.{LinkSeen, value_in, values_of, seen, entry, shown, lone, insert_lone, insert_between, insert_as}
+use Rattle.chain_interlinks.specs.Insertions.{IsInsertion, IsInsertionBetween}
+use Rattle.chain_links.proofs.Mapping.{with_each-insert_next, length-with_each, listed-with_each, entry_count-with_each}
+use Rattle.chain_links.proofs.Inserting.{shown-insert_lone, shown-next, inserted_at, length-filled}
+use Rattle.chain_interlinks.proofs.Relinking.{FitsLinks, FitsLinks-shown, FitsLinks-next_set, FitsLinks-prev_set, shown-relinked, values_of-relinked}
 
 -- the gap of a kind that may be inserted
 pub gap_told : (interlinks : Shown) (kind : InsertKind ℕ) (q : ℕ) {u v : Option ℕ} → u ≡ link_before interlinks kind q → v ≡ link_after interlinks kind q

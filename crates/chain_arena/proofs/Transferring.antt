@@ -24,7 +24,7 @@ use Rattle.arena_base.specs.Arena.{Arena, IsListed, entry_count, next_index}
 use Rattle.arena_base.specs.Entries.{Seen, found, removed, RisesFrom}
 use Rattle.arena_base.specs.declared.look.Look.{Look}
 use Rattle.arena_base.specs.declared.look.Look.TheVariants.{Up}
-use Rattle.chain_arena.specs.ChainArena.{LinkSeen, shown, insert_between}
+use Rattle.chain_links.specs.ChainArena.{LinkSeen, shown, insert_between}
 use Rattle.chain_arena.specs.Drains.{after_times}
 use Rattle.chain_arena.specs.Transfers.{Carried, old_index, removed_each, AreEnds, IsNextChain, IsTransfer}
 use Rattle.chain_arena.proofs.Landing.{IsLanded, landing_begins, landing_goes_on, next_behind, gap_at_end, count_landed}

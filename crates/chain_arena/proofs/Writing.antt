@@ -5,13 +5,13 @@ use Rattle.std.specs.Option.{option_map}
 use Rattle.chain_laws.specs.Chains.{Agrees}
 use Rattle.arena_base.specs.Arena.{Arena, entry_at, with_slot, with_value, renewed_at, cleared}
 use Rattle.arena_base.specs.Entries.{seen_of, written, renewed, emptied}
-use Rattle.chain_arena.specs.declared.links.LinkBody.{LinkBody}
-use Rattle.chain_arena.specs.ChainArena.{on_value, LinkSeen, value_in, with_value_in, values_of, shown, with_value_at}
-use Rattle.chain_arena.specs.Links.{seen_link, seen_links, seen_pair}
-use Rattle.chain_arena.proofs.Mapping.{with_each-with_value, with_each-renewed_at, with_each-cleared}
+use Rattle.chain_links.specs.declared.links.LinkBody.{LinkBody}
+use Rattle.chain_links.specs.ChainArena.{on_value, LinkSeen, value_in, with_value_in, values_of, shown, with_value_at}
+use Rattle.chain_links.specs.Links.{seen_link, seen_links, seen_pair}
+use Rattle.chain_links.proofs.Mapping.{with_each-with_value, with_each-renewed_at, with_each-cleared}
 use Rattle.arena_base.proofs.Seeing.{seen_written, seen_renewed, seen_cleared}
-use Rattle.chain_arena.proofs.Seeing.{entry_at-seen_links}
-use Rattle.chain_arena.proofs.Unlinking.{shown-written, shown-renewed}
+use Rattle.chain_links.proofs.Seeing.{entry_at-seen_links}
+use Rattle.chain_interlinks.proofs.Unlinking.{shown-written, shown-renewed}
 
 module _ {Gen T : Type 0} where
   -- a link with another value is written

@@ -5,9 +5,9 @@ use Rattle.std.specs.Fn.{Mut}
 use Rattle.arena_base.specs.Arena.{Arena, new_arena}
 use Rattle.arena_base.specs.Entries.{entries}
 use Rattle.arena_base.specs.Copying.{CopiesBy, IsCopyCall, HasSlotsOf}
-use Rattle.chain_arena.specs.declared.links.LinkBody.{LinkBody}
-use Rattle.chain_arena.specs.ChainArena.{LinkSeen, interlinks_in, shown, values_of}
-use Rattle.chain_arena.specs.Links.{seen_link, seen_links}
+use Rattle.chain_links.specs.declared.links.LinkBody.{LinkBody}
+use Rattle.chain_links.specs.ChainArena.{LinkSeen, interlinks_in, shown, values_of}
+use Rattle.chain_links.specs.Links.{seen_link, seen_links}
 
 -- A link is made of another: it names the same neighbors, and its value is made of a pointer and that link, where it is
 -- told how each changes what makes the values.

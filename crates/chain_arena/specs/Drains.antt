@@ -6,10 +6,10 @@ use Rattle.chain_laws.specs.Walks.{walk_from}
 use Rattle.arena_base.specs.Arena.{Arena, entry_at}
 use Rattle.arena_base.specs.Entries.{entries}
 use Rattle.arena_base.specs.Advancing.{from_index}
-use Rattle.chain_arena.specs.ChainArena.{LinkSeen, shown, values_of, remove_link}
-use Rattle.chain_arena.specs.Insertions.{index_from}
-use Rattle.chain_arena.specs.Links.{seen_link}
-use Rattle.chain_arena.specs.declared.links.LinkBody.{LinkBody}
+use Rattle.chain_links.specs.ChainArena.{LinkSeen, shown, values_of, remove_link}
+use Rattle.chain_interlinks.specs.Insertions.{index_from}
+use Rattle.chain_links.specs.Links.{seen_link}
+use Rattle.chain_links.specs.declared.links.LinkBody.{LinkBody}
 
 -- a generation after so many increments
 abbrev pub after_times : {Gen : Type 0} → (Gen → Gen) → ℕ → Gen → Gen

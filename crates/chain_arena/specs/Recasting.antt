@@ -3,7 +3,7 @@ use Rattle.std.specs.Prelude.{◌≡◌, ℕ, List, [], ◌∷◌, ◌++◌, Som
 use Rattle.arena_base.specs.Arena.{Arena}
 use Rattle.arena_base.specs.Entries.{replaced}
 use Rattle.arena_base.specs.Compressing.{values_in}
-use Rattle.chain_arena.specs.ChainArena.{LinkSeen, new_link, with_each, with_value_at, shown, seen, entry}
+use Rattle.chain_links.specs.ChainArena.{LinkSeen, new_link, with_each, with_value_at, shown, seen, entry}
 
 -- a link without its value
 abbrev pub without_value : {T : Type 0} → LinkSeen T → LinkSeen (Unit {0})

@@ -18,18 +18,18 @@ use Rattle.chain_laws.specs.Walks.{IsWalk, TakesWalk}
 use Rattle.arena_base.specs.Arena.{Arena, IsValid, HasRoom, entry_at, entry_count, next_index, with_capacity_of, with_counter, renewed_at, cleared, overflows_after_clear}
 use Rattle.arena_base.specs.Compressing.{IsCompressed, values_in, overflows_after_compression}
 use Rattle.arena_base.specs.Entries.{entries}
-use Rattle.chain_arena.specs.ChainArena.{LinkSeen, shown, entry, values_of, seen, insert_as, CanConnect, CanExchange, IsJoin, IsCut, IsExchange, IsRemoval}
-use Rattle.chain_arena.specs.Compressions.{ClosesGaps}
+use Rattle.chain_links.specs.ChainArena.{LinkSeen, shown, entry, values_of, seen, insert_as, CanConnect, CanExchange, IsJoin, IsCut, IsExchange, IsRemoval}
+use Rattle.chain_layout.specs.Compressions.{ClosesGaps}
 use Rattle.chain_arena.specs.Drains.{without_each}
-use Rattle.chain_arena.specs.Kinds.{names_in, by_index, MayInsert}
-use Rattle.chain_arena.specs.Layouts.{IsCanonicalLayout}
-use Rattle.chain_arena.specs.Links.{seen_link, seen_pair}
+use Rattle.chain_links.specs.Kinds.{names_in, by_index, MayInsert}
+use Rattle.chain_layout.specs.Layouts.{IsCanonicalLayout}
+use Rattle.chain_links.specs.Links.{seen_link, seen_pair}
 use Rattle.chain_arena.specs.declared.calls.Call.{Call}
 use Rattle.chain_arena.specs.declared.calls.Call.TheVariants as call
 use Rattle.chain_arena.specs.declared.calls.Reply.{Reply}
 use Rattle.chain_arena.specs.declared.calls.Reply.TheVariants as reply
-use Rattle.chain_arena.specs.declared.kinds.InsertKindBody.{InsertKindBody}
-use Rattle.chain_arena.specs.declared.links.LinkBody.{LinkBody}
+use Rattle.chain_links.specs.declared.kinds.InsertKindBody.{InsertKindBody}
+use Rattle.chain_links.specs.declared.links.LinkBody.{LinkBody}
 
 -- the links of an arena
 abbrev pub Links : Type 0 → Type 0 → Type 0

@@ -12,8 +12,8 @@ use Rattle.arena_base.specs.Arena.{Arena}
 use Rattle.arena_base.specs.Entries.{Seen, entries, found, removed}
 use Rattle.arena_base.specs.declared.look.Look.{Look}
 use Rattle.arena_base.specs.declared.look.Look.TheVariants.{Up}
-use Rattle.chain_arena.specs.ChainArena.{LinkSeen, shown, values_of}
-use Rattle.chain_arena.specs.Layouts.{IsCanonicalLayout}
+use Rattle.chain_links.specs.ChainArena.{LinkSeen, shown, values_of}
+use Rattle.chain_layout.specs.Layouts.{IsCanonicalLayout}
 
 -- a link that was carried over: the pointer that it had, its value with whether its removal overflowed the counter, the
 -- pointer that it has, and the value that the closure answered for it

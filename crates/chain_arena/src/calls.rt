@@ -1,20 +1,19 @@
 // Calls on an arena of links as values, each with its reply, and lists of them.
 ghost use Rattle.std.specs.Prelude.{◌≡◌, min, length, IfOk, OnErr, MatchResult};
 ghost use Rattle.chain_laws.specs.Neighbors.{HasOneSetOfChains};
-ghost use Rattle.chain_arena.specs.ChainArena.{shown};
+ghost use Rattle.chain_links.specs.ChainArena.{shown};
 ghost use Rattle.chain_arena.specs.Drains.{walk_left, without_each};
 ghost use Rattle.chain_arena.specs.Steps.{InsertsGrowing, InsertsWithin, Reserves, DrainsChain, Step, Run, RunIsDetermined};
 
 use crate::chain_arena::ChainArena;
 use crate::chain_drains::ChainDrain;
 use crate::chain_traits::ChainArenaTrait;
-use crate::kinds::LinkInsertKind;
-use crate::links::LinkNoGen;
 use arena_base::{ArenaSlot, ArenaTrait};
 use arena_ptr::{
     AllocError, ChainInsertionError, InvalidationOption, InvalidationResult, Ptr,
     ReallocationError, SlotStack,
 };
+use chain_links::{LinkInsertKind, LinkNoGen};
 use std::alloc::Global;
 
 /// A call that may change an arena of links, with its arguments. Each is the call of the same name; `Insert` is

@@ -1,16 +1,11 @@
 // An advancer along one chain, which borrows no arena.
-ghost use Rattle.std.specs.Prelude.{◌≡◌, ℕ, suc, List, ◌∷◌, IfSome, IfNone, Some};
-ghost use Rattle.std.specs.Option.{option_map};
-ghost use Rattle.chain_laws.specs.Walks.{ahead};
-ghost use Rattle.arena_base.specs.Arena.{IsValid};
-ghost use Rattle.chain_arena.specs.ChainArena.{entry, shown};
-ghost use Rattle.chain_arena.specs.Links.{seen_links};
+ghost use Rattle.std.specs.Prelude.{◌≡◌, Some};
 
 use crate::chain_arena::ChainArena;
-use crate::chain_iterators::{going_back, going_on, look};
-use crate::links::LinkNoGen;
-use arena_base::{Advancer, Arena, ArenaSlot};
+use arena_base::{Advancer, ArenaSlot};
 use arena_ptr::{Ptr, SlotStack};
+use chain_interlinks::chain_iterators::step;
+use chain_links::LinkNoGen;
 
 /// Goes along one chain in walk order: from a link on to the end, and then from the link before it back to the start; a
 /// cyclic chain once round. Each call is handed the arena anew, which may have changed: an answer is always valid in it,
@@ -43,49 +38,14 @@ impl<P: Ptr> ChainPtrAdvancer<P> {
     }
 }
 
-// The link that a walker passes next, by its pointer, and where it goes from there.
-fn step<P: Ptr, T: Drop, S: SlotStack<Item = ArenaSlot<P, LinkNoGen<P, T>>>>(
-    arena: &Arena<P, LinkNoGen<P, T>, S>,
-    start: P::Inx,
-    forth: Option<P::Inx>,
-    back: Option<P::Inx>,
-) -> Option<(P, Option<P::Inx>, Option<P::Inx>)>
-    ensures valid { IfSome result (λ s. IsValid (entry (seen_links P.Inx.packed_number arena.now)) (P.key s.0)) }
-    ensures some { IfSome result (λ s. (left : ℕ) → ahead (suc left) (shown (seen_links P.Inx.packed_number arena.now)) (P.Inx.number start) (option_map P.Inx.number forth) (option_map P.Inx.number back)
-        ≡ (P.key s.0).0 ∷ ahead left (shown (seen_links P.Inx.packed_number arena.now)) (P.Inx.number start) (option_map P.Inx.number s.1) (option_map P.Inx.number s.2)) }
-    ensures none { IfNone result ((left i : ℕ) (rest : List ℕ) → ahead left (shown (seen_links P.Inx.packed_number arena.now)) (P.Inx.number start) (option_map P.Inx.number forth) (option_map P.Inx.number back) ≡ i ∷ rest
-        → entry (seen_links P.Inx.packed_number arena.now) i ≡ None) }
-{
-    match forth {
-        Some(i) => match look(arena, i) {
-            Some((p, link)) => {
-                let next = link.next();
-                Some((
-                    p,
-                    going_on::<P>(start, next),
-                    going_back::<P>(start, next, back),
-                ))
-            }
-            None => None,
-        },
-        None => match back {
-            Some(i) => match look(arena, i) {
-                Some((p, link)) => Some((p, None, link.prev())),
-                None => None,
-            },
-            None => None,
-        },
-    }
-}
-
 impl<P: Ptr, T: Drop, S: SlotStack<Item = ArenaSlot<P, LinkNoGen<P, T>>>> Advancer<
     ChainArena<P, T, S>,
 > for ChainPtrAdvancer<P> {
     ghost use Rattle.std.specs.Prelude.{◌≡◌};
     ghost use Rattle.std.specs.Option.{option_map};
-    ghost use Rattle.chain_arena.specs.ChainArena.{entry, shown};
-    ghost use Rattle.chain_arena.specs.Walkers.{walker_of, IsPassing};
-    ghost use Rattle.chain_arena.specs.ChainArenaLaws.{spent_stays};
+    ghost use Rattle.chain_links.specs.ChainArena.{entry, shown};
+    ghost use Rattle.chain_interlinks.specs.Walkers.{walker_of, IsPassing};
+    ghost use Rattle.chain_interlinks.specs.ChainArenaLaws.{spent_stays};
 
     type Item = P;
 

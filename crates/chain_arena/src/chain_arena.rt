@@ -7,25 +7,27 @@ ghost use Rattle.chain_laws.specs.Insertions.{IsGap};
 ghost use Rattle.arena_base.specs.Arena.{entry_count, next_index, with_counter, with_maximum, with_capacity_of, IsValid, IsListed, HasRoom};
 ghost use Rattle.arena_base.specs.Compressing.{overflows_after_compression};
 ghost use Rattle.arena_base.specs.Slots.{entry_of};
-ghost use Rattle.chain_arena.specs.ChainArena.{entry, seen, shown, insert_between, IsWalkOf};
-ghost use Rattle.chain_arena.specs.Kinds.{before_in, after_in, names_in, IsGapOf};
-ghost use Rattle.chain_arena.specs.Layouts.{IsCanonicalLayout, ShowsAll, ShowsLayout, AreAllMoves};
-ghost use Rattle.chain_arena.specs.Links.{seen_pair};
+ghost use Rattle.chain_links.specs.ChainArena.{entry, seen, shown, insert_between, IsWalkOf};
+ghost use Rattle.chain_links.specs.Kinds.{names_in};
+ghost use Rattle.chain_interlinks.specs.Gaps.{before_in, after_in, IsGapOf};
+ghost use Rattle.chain_layout.specs.Layouts.{IsCanonicalLayout, ShowsAll, ShowsLayout, AreAllMoves};
+ghost use Rattle.chain_links.specs.Links.{seen_pair};
 
-use crate::canonical::lay_out;
-use crate::chain_iterators::ChainIter;
-use crate::compress::begin_generation;
-use crate::gaps::{Gap, gap_of};
-use crate::interlinks::freed_are_free;
-use crate::kinds::{LinkInsertKind, by_names};
-use crate::links::LinkNoGen;
-use crate::placing::{link_in, tie};
-use crate::visiting::{Listing, Showing, Visitor};
+use crate::visiting::{Listing, Showing};
 use arena_base::{Arena, ArenaSlot, ArenaTrait, Work};
 use arena_ptr::{
     AllocError, HeapStack, InvalidationOption, LimitStack, MaxCapacityReductionError,
     NotWithinCapacityError, Ptr, ReallocationError, SetMaxCapacity, SlotStack,
 };
+use chain_interlinks::ChainIter;
+use chain_interlinks::gaps::{Gap, gap_of};
+use chain_interlinks::placing::{link_in, tie};
+use chain_layout::canonical::lay_out;
+use chain_layout::compress::begin_generation;
+use chain_layout::visiting::Visitor;
+use chain_links::facts::freed_are_free;
+use chain_links::kinds::by_names;
+use chain_links::{LinkInsertKind, LinkNoGen};
 use std::alloc::Global;
 use std::marker::Model;
 
@@ -46,11 +48,11 @@ impl<P: Ptr, T: Drop, S: SlotStack<Item = ArenaSlot<P, LinkNoGen<P, T>>>> Model
     for ChainArena<P, T, S> {
     ghost use Rattle.chain_laws.specs.Chains.{Agrees};
     ghost use Rattle.arena_base.specs.Arena.{Arena as State};
-    ghost use Rattle.chain_arena.specs.ChainArena.{LinkSeen, shown};
+    ghost use Rattle.chain_links.specs.ChainArena.{LinkSeen, shown};
 
     ghost Value = { State P.Gen (LinkSeen T) };
 
-    ghost use Rattle.chain_arena.specs.Links.{seen_links};
+    ghost use Rattle.chain_links.specs.Links.{seen_links};
 
     ghost view = { λ a. seen_links P.Inx.packed_number a.arena };
 

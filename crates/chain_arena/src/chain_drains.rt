@@ -7,16 +7,16 @@ ghost use Rattle.arena_ptr.specs.Invalidation.{value_in, is_overflow, invalidati
 ghost use Rattle.chain_laws.specs.Chains.{Agrees};
 ghost use Rattle.chain_laws.specs.Walks.{goes_on, IsWalk, TakesWalk};
 ghost use Rattle.arena_base.specs.Arena.{IsValid};
-ghost use Rattle.chain_arena.specs.ChainArena.{entry, shown};
-ghost use Rattle.chain_arena.specs.Insertions.{index_from};
+ghost use Rattle.chain_links.specs.ChainArena.{entry, shown};
+ghost use Rattle.chain_interlinks.specs.Insertions.{index_from};
 ghost use Rattle.chain_arena.specs.Drains.{walk_left, without_each, IsDrainStep, DrainSteps, CountsUp};
 
 use crate::chain_arena::ChainArena;
 use crate::chain_traits::ChainArenaTrait;
 use crate::insert_entry::number_or_zero;
-use crate::links::LinkNoGen;
 use arena_base::{ArenaSlot, ArenaTrait};
 use arena_ptr::{HeapStack, InvalidationOption, Ptr, PtrInx, SlotStack};
+use chain_links::LinkNoGen;
 
 /// The removal of a chain: an iterator that removes each link as it yields it, in walk order. A link comes with its
 /// pointer and with the interlinks that it has at its own removal. `GenerationOverflow`: the counter was at its

@@ -13,21 +13,20 @@ ghost use Rattle.arena_base.specs.Arena.{IsValid, IsRoom};
 ghost use Rattle.arena_base.specs.Entries.{count, index_of, HasRoomLeft, NeedsBeyondMaximum};
 ghost use Rattle.arena_base.specs.Entries.{removed as seen_removed};
 ghost use Rattle.arena_base.specs.Compressing.{overflows_after_compression};
-ghost use Rattle.chain_arena.specs.ChainArena.{link_at, on_value, CanConnect, CanExchange, IsLinkAt};
-ghost use Rattle.chain_arena.specs.Insertions.{IsInsertion};
-ghost use Rattle.chain_arena.specs.Kinds.{names_in, by_index, MayInsert};
-ghost use Rattle.chain_arena.specs.Layouts.{IsCanonicalLayout};
-ghost use Rattle.chain_arena.specs.Links.{seen_link, seen_lent};
+ghost use Rattle.chain_links.specs.ChainArena.{link_at, on_value, CanConnect, CanExchange, IsLinkAt};
+ghost use Rattle.chain_interlinks.specs.Insertions.{IsInsertion};
+ghost use Rattle.chain_links.specs.Kinds.{names_in, by_index, MayInsert};
+ghost use Rattle.chain_layout.specs.Layouts.{IsCanonicalLayout};
+ghost use Rattle.chain_links.specs.Links.{seen_link, seen_lent};
 ghost use Rattle.chain_laws.specs.Walks.{Walker, walker_at};
-ghost use Rattle.chain_arena.specs.Walkers.{IsPassing};
+ghost use Rattle.chain_interlinks.specs.Walkers.{IsPassing};
 
-use crate::kinds::LinkInsertKind;
-use crate::links::{Link, LinkNoGen};
 use arena_base::{Advancer, ArenaTrait};
 use arena_ptr::{
     ChainInsertionError, InvalidationOption, InvalidationResult, Ptr, PtrGen, PtrInx,
     ReallocationError,
 };
+use chain_links::{Link, LinkInsertKind, LinkNoGen};
 
 /// An arena whose entries are links, each in one linear or cyclic chain.
 ///

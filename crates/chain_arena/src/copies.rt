@@ -4,14 +4,14 @@ ghost use Rattle.arena_ptr.specs.SlotStack.{IsBeyond};
 ghost use Rattle.chain_laws.specs.Chains.{Agrees};
 ghost use Rattle.arena_base.specs.Arena.{HasRoom, IsRoom};
 ghost use Rattle.arena_base.specs.Copying.{IsCopyBy, IsCopyCall};
-ghost use Rattle.chain_arena.specs.ChainArena.{shown};
-ghost use Rattle.chain_arena.specs.Links.{seen_link};
+ghost use Rattle.chain_links.specs.ChainArena.{shown};
+ghost use Rattle.chain_links.specs.Links.{seen_link};
 ghost use Rattle.chain_arena.specs.Copies.{IsLinkCopy, IsClone, IsCopyBelow};
 
 use crate::chain_arena::ChainArena;
-use crate::links::{LinkBody, LinkNoGen};
 use arena_base::{Arena, ArenaCloneFromWith, ArenaSlot, ArenaTrait, ValueMap};
 use arena_ptr::{AllocError, PackedOption, Ptr, PtrInx, ReallocationError, SlotStack};
+use chain_links::{LinkBody, LinkNoGen};
 use std::alloc::Global;
 
 // Makes the links of a copy: each names the same neighbors, and has the closure's answer as its value.
@@ -29,7 +29,7 @@ impl<
     F: FnMut(P, &LinkBody<PackedOption<I, W>, U>) -> T + Drop,
 > ValueMap<P, LinkBody<PackedOption<I, W>, U>, LinkBody<PackedOption<I, W>, T>> for LinkMap<F> {
     ghost use Rattle.arena_base.specs.Copying.{IsCopyCall};
-    ghost use Rattle.chain_arena.specs.Links.{seen_link};
+    ghost use Rattle.chain_links.specs.Links.{seen_link};
     ghost use Rattle.chain_arena.specs.Copies.{MakesLink};
 
     ghost is_ready = { λ m. F.IsAlwaysCallable m.map };

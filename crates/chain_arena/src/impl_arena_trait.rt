@@ -6,17 +6,17 @@ ghost use Rattle.chain_laws.specs.Neighbors.{HasOneSetOfChains};
 ghost use Rattle.arena_ptr.specs.Numbers.{IsWithin};
 ghost use Rattle.arena_base.specs.Arena.{entry_count, HasRoom, IsListed};
 ghost use Rattle.arena_base.specs.Entries.{index_of, AreTheSlots};
-ghost use Rattle.chain_arena.specs.ChainArena.{seen, shown};
+ghost use Rattle.chain_links.specs.ChainArena.{seen, shown};
 
 use crate::chain_arena::ChainArena;
-use crate::compress::{begin_generation, gather};
-use crate::interlinks::take_out;
-use crate::links::{LinkBody, LinkNoGen, Vacant};
 use arena_base::{Advancer, Arena, ArenaSlot, ArenaTrait, CompactArenaTrait, PtrAdvancer};
 use arena_ptr::{
     AllocError, InvalidationOption, InvalidationResult, Ptr, PtrGen, PtrInx, ReallocationError,
     SlotStack,
 };
+use chain_interlinks::interlinks::take_out;
+use chain_layout::compress::{begin_generation, gather};
+use chain_links::{LinkBody, LinkNoGen, Vacant};
 use std::alloc::Global;
 
 impl<P: Ptr, T: Drop, S: SlotStack<Item = ArenaSlot<P, LinkNoGen<P, T>>>> ArenaTrait<P, T>
@@ -27,8 +27,8 @@ impl<P: Ptr, T: Drop, S: SlotStack<Item = ArenaSlot<P, LinkNoGen<P, T>>>> ArenaT
     ghost use Rattle.arena_base.specs.Entries.{seen_of, entries};
     ghost use Rattle.arena_base.specs.EntryLaws.{entries_rise, found-entries};
     ghost use Rattle.arena_base.specs.AdvancingLaws.{until_none};
-    ghost use Rattle.chain_arena.specs.ChainArena.{shown, values_of, with_value_at, IsRemoval};
-    ghost use Rattle.chain_arena.specs.Compressions.{ClosesGaps};
+    ghost use Rattle.chain_links.specs.ChainArena.{shown, values_of, with_value_at, IsRemoval};
+    ghost use Rattle.chain_layout.specs.Compressions.{ClosesGaps};
 
     type PtrAdvancer = PtrAdvancer<P>;
 
@@ -203,7 +203,7 @@ impl<P: Ptr, T: Drop, S: SlotStack<Item = ArenaSlot<P, LinkNoGen<P, T>>>> Advanc
     ghost use Rattle.arena_base.specs.Advancing.{IsLook};
     ghost use Rattle.arena_base.specs.AdvancingLaws.{nowhere_stays};
     ghost use Rattle.arena_base.specs.declared.look.Look.TheVariants.{Nowhere};
-    ghost use Rattle.chain_arena.specs.ChainArena.{values_of};
+    ghost use Rattle.chain_links.specs.ChainArena.{values_of};
 
     type Item = P;
 

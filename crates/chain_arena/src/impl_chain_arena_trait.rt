@@ -12,33 +12,35 @@ ghost use Rattle.arena_base.specs.Arena.{entry_count, next_index, with_capacity_
 ghost use Rattle.arena_base.specs.Entries.{count, HasRoomLeft, NeedsBeyondMaximum};
 ghost use Rattle.arena_base.specs.Entries.{removed as seen_removed};
 ghost use Rattle.arena_base.specs.Compressing.{overflows_after_compression};
-ghost use Rattle.chain_arena.specs.ChainArena.{shown as interlinks};
-ghost use Rattle.chain_arena.specs.ChainArena.{seen, entry, relinked, insert_as, remove_link, link_at, on_value, CanConnect, CanExchange, IsCut, IsExchange, IsLinkAt};
-ghost use Rattle.chain_arena.specs.Insertions.{IsInsertion};
-ghost use Rattle.chain_arena.specs.Kinds.{names_in, by_index, MayInsert};
-ghost use Rattle.chain_arena.specs.Layouts.{IsCanonicalLayout};
-ghost use Rattle.chain_arena.specs.Links.{seen_link, seen_lent};
+ghost use Rattle.chain_links.specs.ChainArena.{shown as interlinks};
+ghost use Rattle.chain_links.specs.ChainArena.{seen, entry, relinked, insert_as, remove_link, link_at, on_value, CanConnect, CanExchange, IsCut, IsExchange, IsLinkAt};
+ghost use Rattle.chain_interlinks.specs.Insertions.{IsInsertion};
+ghost use Rattle.chain_links.specs.Kinds.{names_in, by_index, MayInsert};
+ghost use Rattle.chain_layout.specs.Layouts.{IsCanonicalLayout};
+ghost use Rattle.chain_links.specs.Links.{seen_link, seen_lent};
 ghost use Rattle.chain_laws.specs.Walks.{walker_at};
-ghost use Rattle.chain_arena.specs.Walkers.{walker_of};
+ghost use Rattle.chain_interlinks.specs.Walkers.{walker_of};
 
 use crate::chain_advancer::ChainPtrAdvancer;
 use crate::chain_arena::ChainArena;
 use crate::chain_traits::ChainArenaTrait;
-use crate::gaps::{is_index, next_of as next_of_link, prev_of as prev_of_link};
-use crate::interlinks::{can_connect, insertion_error, link_twice, link_up, neighbor, take_out};
-use crate::kinds::{LinkInsertKind, Name};
-use crate::links::{Link, LinkNoGen};
 use arena_base::{Advancer, ArenaSlot, ArenaTrait};
 use arena_ptr::{
     ChainInsertionError, InvalidationOption, InvalidationResult, Ptr, PtrGen, PtrInx,
     ReallocationError, SlotStack,
 };
+use chain_interlinks::gaps::{is_index, next_of as next_of_link, prev_of as prev_of_link};
+use chain_interlinks::interlinks::{
+    can_connect, insertion_error, link_twice, link_up, neighbor, take_out,
+};
+use chain_links::kinds::Name;
+use chain_links::{Link, LinkInsertKind, LinkNoGen};
 
 impl<P: Ptr, T: Drop, S: SlotStack<Item = ArenaSlot<P, LinkNoGen<P, T>>>> ChainArenaTrait<P, T>
     for ChainArena<P, T, S> {
-    ghost use Rattle.chain_arena.specs.ChainArena.{shown};
-    ghost use Rattle.chain_arena.specs.ChainArenaLaws.{links_stand};
-    ghost use Rattle.chain_arena.specs.Walkers.{walker_of};
+    ghost use Rattle.chain_links.specs.ChainArena.{shown};
+    ghost use Rattle.chain_interlinks.specs.ChainArenaLaws.{links_stand};
+    ghost use Rattle.chain_interlinks.specs.Walkers.{walker_of};
 
     type ChainPtrAdvancer = ChainPtrAdvancer<P>;
 

@@ -3,12 +3,12 @@ ghost use Rattle.std.specs.Prelude.{◌≡◌, IsSome, Some};
 ghost use Rattle.std.specs.Option.{option_map};
 ghost use Rattle.std.specs.Borrow.{Lends, sem};
 ghost use Rattle.arena_base.specs.Arena.{IsValid};
-ghost use Rattle.chain_arena.specs.ChainArena.{entry, with_value_at};
+ghost use Rattle.chain_links.specs.ChainArena.{entry, with_value_at};
 
 use crate::chain_arena::ChainArena;
-use crate::links::LinkNoGen;
 use arena_base::{ArenaSlot, ArenaTrait};
 use arena_ptr::{Ptr, PtrInx, SlotStack};
+use chain_links::LinkNoGen;
 use std::ops::{Index, IndexMut};
 
 impl<P: Ptr, T: Drop, S: SlotStack<Item = ArenaSlot<P, LinkNoGen<P, T>>>> ChainArena<P, T, S> {
@@ -56,7 +56,7 @@ impl<P: Ptr, T: Drop, S: SlotStack<Item = ArenaSlot<P, LinkNoGen<P, T>>>> ChainA
 impl<P: Ptr, T: Drop, S: SlotStack<Item = ArenaSlot<P, LinkNoGen<P, T>>>> Index<P>
     for ChainArena<P, T, S> {
     ghost use Rattle.arena_base.specs.Arena.{IsValid};
-    ghost use Rattle.chain_arena.specs.ChainArena.{entry};
+    ghost use Rattle.chain_links.specs.ChainArena.{entry};
 
     type Output = T;
 

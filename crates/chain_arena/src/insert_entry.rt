@@ -6,18 +6,18 @@ ghost use Rattle.arena_ptr.specs.Numbers.{IsWithin};
 ghost use Rattle.arena_ptr.specs.SlotStack.{IsBeyond};
 ghost use Rattle.chain_laws.specs.Insertions.{IsGap, link_before, link_after};
 ghost use Rattle.arena_base.specs.Arena.{entry_count, next_index, with_capacity_of, HasRoom};
-ghost use Rattle.chain_arena.specs.ChainArena.{entry, seen, shown, insert_between};
-ghost use Rattle.chain_arena.specs.Insertions.{IsInsertionBetween, index_from};
-ghost use Rattle.chain_arena.specs.Kinds.{before_in, after_in, names_in, by_index, MayInsert};
+ghost use Rattle.chain_links.specs.ChainArena.{entry, seen, shown, insert_between};
+ghost use Rattle.chain_interlinks.specs.Insertions.{IsInsertionBetween, index_from};
+ghost use Rattle.chain_links.specs.Kinds.{names_in, by_index, MayInsert};
+ghost use Rattle.chain_interlinks.specs.Gaps.{before_in, after_in};
 
 use crate::chain_arena::ChainArena;
-use crate::gaps::Gap;
-use crate::interlinks::insertion_error;
-use crate::kinds::LinkInsertKind;
-use crate::links::LinkNoGen;
-use crate::placing::around;
 use arena_base::{ArenaSlot, ArenaTrait};
 use arena_ptr::{ChainInsertionError, HeapStack, Ptr, PtrInx, ReallocationError, SlotStack};
+use chain_interlinks::gaps::Gap;
+use chain_interlinks::interlinks::insertion_error;
+use chain_interlinks::placing::around;
+use chain_links::{LinkInsertKind, LinkNoGen};
 
 /// A place for a link among the others, whose pointer is known before its value. Dropping it changes nothing: no link
 /// comes, and the pointer is that of the next insertion. A growth that was made for it stays.

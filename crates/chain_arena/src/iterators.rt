@@ -2,13 +2,13 @@
 ghost use Rattle.std.specs.Prelude.{◌≡◌, ◌<◌, ◌^◌, length};
 ghost use Rattle.std.specs.Iterator.{YieldsFirstBy, item_count};
 ghost use Rattle.arena_base.specs.Entries.{entries};
-ghost use Rattle.chain_arena.specs.ChainArena.{values_of};
-ghost use Rattle.chain_arena.specs.Links.{seen_entries};
+ghost use Rattle.chain_links.specs.ChainArena.{values_of};
+ghost use Rattle.chain_links.specs.Links.{seen_entries};
 
 use crate::chain_arena::ChainArena;
-use crate::links::LinkNoGen;
 use arena_base::{Arena, ArenaSlot, ArenaTrait, CapacityDrain, Iter};
 use arena_ptr::{HeapStack, Ptr, PtrInx, SlotStack};
+use chain_links::LinkNoGen;
 use std::marker::Model;
 
 /// The pointers and values of the links of a chain arena, seen as the list of those that are left.
@@ -30,7 +30,7 @@ impl<'a, P: Ptr, T: Drop, S: SlotStack<Item = ArenaSlot<P, LinkNoGen<P, T>>>> Mo
 
     ghost Value = { List ((ℕ × P.Gen) × T) };
 
-    ghost use Rattle.chain_arena.specs.Links.{held_entries};
+    ghost use Rattle.chain_links.specs.Links.{held_entries};
 
     ghost view = { λ it. held_entries it.links };
 }
@@ -90,7 +90,7 @@ impl<P: Ptr, T: Drop, S: SlotStack<Item = ArenaSlot<P, LinkNoGen<P, T>>>> IntoIt
     for ChainArena<P, T, S> {
     ghost use Rattle.std.specs.Prelude.{◌≡◌, ◌<◌, ◌^◌, length};
     ghost use Rattle.arena_base.specs.Entries.{entries};
-    ghost use Rattle.chain_arena.specs.Links.{seen_entries};
+    ghost use Rattle.chain_links.specs.Links.{seen_entries};
 
     type Item = (P, LinkNoGen<P, T>);
 
@@ -116,7 +116,7 @@ where
 {
     ghost use Rattle.std.specs.Prelude.{◌≡◌, ◌<◌, ◌^◌, length};
     ghost use Rattle.arena_base.specs.Entries.{entries};
-    ghost use Rattle.chain_arena.specs.Links.{seen_entries};
+    ghost use Rattle.chain_links.specs.Links.{seen_entries};
 
     type Item = (P, &'a LinkNoGen<P, T>);
 

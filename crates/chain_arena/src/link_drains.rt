@@ -3,15 +3,15 @@ ghost use Rattle.std.specs.Prelude.{◌≡◌, [], length, map, IfNone, IfSome};
 ghost use Rattle.std.specs.Iterator.{item_count};
 ghost use Rattle.std.specs.Option.{option_map};
 ghost use Rattle.arena_base.specs.Entries.{entries, first_key, index_of};
-ghost use Rattle.chain_arena.specs.ChainArena.{values_of};
+ghost use Rattle.chain_links.specs.ChainArena.{values_of};
 ghost use Rattle.chain_arena.specs.Drains.{entries_left, without_each, IsLinkDrainStep, LinkDrainSteps, CountsUp};
 
 use crate::chain_arena::ChainArena;
 use crate::chain_drains::drained;
 use crate::insert_entry::number_or_zero;
-use crate::links::LinkNoGen;
 use arena_base::{Advancer, ArenaSlot, ArenaTrait};
 use arena_ptr::{HeapStack, InvalidationOption, Ptr, PtrInx, SlotStack};
+use chain_links::LinkNoGen;
 
 /// The removal of all links: an iterator that removes each link as it yields it, by rising index. A link comes as its
 /// pointer and its value. `GenerationOverflow`: the counter was at its greatest then, and is two now.

@@ -1,12 +1,12 @@
 // The values of a chain arena brought to new ones, by rising index.
 ghost use Rattle.arena_base.specs.Arena.{IsValid};
-ghost use Rattle.chain_arena.specs.ChainArena.{entry};
+ghost use Rattle.chain_links.specs.ChainArena.{entry};
 ghost use Rattle.chain_arena.specs.Recasting.{IsRecastAt};
 
 use crate::chain_arena::ChainArena;
-use crate::links::LinkNoGen;
 use arena_base::{Advancer, ArenaSlot, ArenaTrait};
 use arena_ptr::{Ptr, Recast, Recaster, SlotStack};
+use chain_links::LinkNoGen;
 
 // Recasts the value of a valid pointer.
 fn recast_at<

@@ -12,18 +12,18 @@ ghost use Rattle.chain_laws.specs.Relays.{end_before, end_after};
 ghost use Rattle.arena_base.specs.Arena.{HasRoom, IsListed, with_capacity_of, entry_count, next_index};
 ghost use Rattle.arena_base.specs.Entries.{count, removed, RisesFrom};
 ghost use Rattle.arena_base.specs.declared.look.Look.{Look};
-ghost use Rattle.chain_arena.specs.ChainArena.{shown, insert_between};
-ghost use Rattle.chain_arena.specs.Kinds.{before_in, after_in};
+ghost use Rattle.chain_links.specs.ChainArena.{shown, insert_between};
+ghost use Rattle.chain_interlinks.specs.Gaps.{before_in, after_in};
 ghost use Rattle.chain_arena.specs.Transfers.{LaysOutAlike, IsTransfer, IsNextChain, AreEnds};
 
 use crate::chain_arena::ChainArena;
 use crate::chain_drains::drained;
-use crate::chain_iterators::going_on as onward;
 use crate::chain_traits::ChainArenaTrait;
-use crate::gaps::Gap;
-use crate::links::LinkNoGen;
 use arena_base::{Advancer, ArenaSlot, ArenaTrait, CompactArenaTrait};
 use arena_ptr::{InvalidationOption, Ptr, PtrInx, ReallocationError, SlotStack};
+use chain_interlinks::chain_iterators::going_on as onward;
+use chain_interlinks::gaps::Gap;
+use chain_links::LinkNoGen;
 
 impl<P: Ptr, T: Drop, S: SlotStack<Item = ArenaSlot<P, LinkNoGen<P, T>>>> ChainArena<P, T, S> {
     /// Takes all links out of a source, lays its chains one after another from index 1 on, and leaves nothing else here.

@@ -1,20 +1,7 @@
-// What sees the links of an arena that get other pointers.
+// What is shown links that get other pointers: a closure, or a list.
 
 use arena_ptr::Ptr;
-
-// Sees links in turn, each by the pointer that it had and the one that it gets.
-pub(crate) trait Visitor<P: Ptr>: Drop {
-    // It may see a link now, and then another.
-    ghost is_ready: { Self → Type 0 };
-
-    // It has seen a link.
-    ghost sees: { Self → P → P → Self → Type 0 };
-
-    fn visit(&mut self, from: P, to: P)
-        requires { is_ready self.old }
-        ensures seen { sees self.old from to self.new }
-        ensures ready { is_ready self.new };
-}
+use chain_layout::visiting::Visitor;
 
 // Shows each link to a closure.
 #[derive(Drop)]
@@ -42,7 +29,7 @@ pub(crate) struct Listing<P> {
 
 impl<P: Ptr> Visitor<P> for Listing<P> {
     ghost use Rattle.std.specs.Prelude.{⊤};
-    ghost use Rattle.chain_arena.specs.Layouts.{IsListed};
+    ghost use Rattle.chain_layout.specs.Layouts.{IsListed};
 
     ghost is_ready = { λ v. ⊤ };
 

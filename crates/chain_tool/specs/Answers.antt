@@ -17,9 +17,9 @@ use Rattle.arena_ptr.specs.declared.invalidation.InvalidationResult.{Invalidatio
 use Rattle.arena_ptr.specs.declared.invalidation.InvalidationResult.TheVariants as result
 use Rattle.arena_ptr.specs.declared.tool_ptr.ToolPtr.{ToolPtr}
 use Rattle.arena_base.specs.Arena.{Arena, IsValid, entry_count}
-use Rattle.chain_arena.specs.ChainArena as chain
-use Rattle.chain_arena.specs.ChainArena.{LinkSeen, shown, seen, entry, IsWalkOf}
-use Rattle.chain_arena.specs.Layouts.{AreAllMoves}
+use Rattle.chain_links.specs.ChainArena as chain
+use Rattle.chain_links.specs.ChainArena.{LinkSeen, shown, seen, entry, IsWalkOf}
+use Rattle.chain_layout.specs.Layouts.{AreAllMoves}
 use Rattle.chain_arena.specs.Steps.{Step}
 use Rattle.chain_arena.specs.declared.calls.Call.TheVariants.{CompressCanonical}
 use Rattle.chain_arena.specs.declared.calls.Reply.{Reply}

@@ -1,6 +1,6 @@
 //! Commands, and the lines that write them.
 ghost use Rattle.std.specs.Prelude.{◌≡◌, bytes_eq, option_map};
-ghost use Rattle.chain_arena.specs.declared.kinds.InsertKindBody.TheVariants.{AtInterlink, AtInterlinkInx, Bridge, BridgeInx};
+ghost use Rattle.chain_links.specs.declared.kinds.InsertKindBody.TheVariants.{AtInterlink, AtInterlinkInx, Bridge, BridgeInx};
 ghost use Rattle.chain_tool.specs.Words.{words_of};
 ghost use Rattle.chain_tool.specs.Commands.{one_word, one_pointer, two_pointers, pointer_and_number, no_arguments, reset_word, by_either, removal, kind_alone, kind_beside, kind_between, kind_and_value, room_or_counter, renumbering, call_of, command_of, line_of};
 

@@ -1,6 +1,6 @@
 //! Runs of the program over readers and writers in memory.
 ghost use Rattle.std.specs.Prelude.{◌≡◌, ℕ, List, ◌∷◌, [], codes, true, Some, None, option_map};
-ghost use Rattle.chain_arena.specs.declared.kinds.InsertKindBody.TheVariants.{Disconnected, SingleLinkCyclic, ChainEnd, NextToInx, BridgeInx};
+ghost use Rattle.chain_links.specs.declared.kinds.InsertKindBody.TheVariants.{Disconnected, SingleLinkCyclic, ChainEnd, NextToInx, BridgeInx};
 ghost use Rattle.arena_ptr.specs.declared.index.inx32.Inx32.{Inx32};
 ghost use Rattle.arena_ptr.specs.declared.tool_ptr.ToolPtr.{ToolPtr};
 ghost use Rattle.chain_arena.specs.declared.calls.Call.TheVariants.{Insert, InsertWithin, Remove, RemoveInx, DrainChain, Compress, CompressCanonical, Reserve, IncGeneration};

@@ -10,7 +10,7 @@ use Rattle.chain_laws.proofs.Joining.{joined_connects}
 use Rattle.chain_laws.proofs.Unique.{chain_valid}
 use Rattle.arena_base.specs.Entries.{found, without, RisesFrom}
 use Rattle.chain_trials.specs.Behind.{Extends}
-use Rattle.chain_arena.specs.ChainArena.{IsInserted}
+use Rattle.chain_links.specs.ChainArena.{IsInserted}
 
 none_of : {X : Type 0} (o : Option X) → is_some o ≡ false → o ≡ None
 none_of None is = refl

@@ -1,2 +1,1 @@
-pub mod Advancers
 pub mod Behind

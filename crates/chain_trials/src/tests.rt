@@ -24,7 +24,6 @@ mod texts;
 mod tiny_ptr;
 mod transfers;
 mod walks;
-mod wrapped;
 
 use arena_base::{Advancer, ArenaSlot, ArenaTrait};
 use arena_ptr::{Gen32, Inx32, LimitedStack, Ptr, ToolPtr};

@@ -1,9 +1,9 @@
 //! The rows that any arena of links meets, at the chain arena and at an arena that hands each call on.
 
-use super::wrapped::Wrapped;
 use super::{At, Chains, NONE, advancing, behind, calls, canonical, cutting, kinds, removal, rows};
 use arena_ptr::ToolPtr;
 use chain_arena::ChainArenaTrait;
+use chain_wrapped::Wrapped;
 use std::alloc::Global;
 use std::process::Abort;
 use std::test::Fail;

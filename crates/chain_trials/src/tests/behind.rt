@@ -6,7 +6,7 @@ ghost use Rattle.chain_laws.specs.Neighbors.{HasOneSetOfChains};
 ghost use Rattle.chain_laws.specs.Operations.{joined, with_lone};
 ghost use Rattle.arena_base.specs.Arena.{IsValid};
 ghost use Rattle.chain_trials.specs.Behind.{Extends};
-ghost use Rattle.chain_arena.specs.ChainArena.{IsInserted};
+ghost use Rattle.chain_links.specs.ChainArena.{IsInserted};
 
 use super::{At, NONE, add, at, bare_link, first, link_of, number, numbers, same};
 use arena_base::ArenaTrait;

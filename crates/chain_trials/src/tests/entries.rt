@@ -3,8 +3,8 @@
 ghost use Rattle.std.specs.Prelude.{◌≡◌, ◌↔◌, IfOk, OnOk, OnErr, Err};
 ghost use Rattle.arena_ptr.specs.ToolPtr.{key_of};
 ghost use Rattle.arena_base.specs.Arena.{next_index, with_capacity_of};
-ghost use Rattle.chain_arena.specs.ChainArena.{entry, shown, insert_as};
-ghost use Rattle.chain_arena.specs.Kinds.{names_in, by_index, MayInsert};
+ghost use Rattle.chain_links.specs.ChainArena.{entry, shown, insert_as};
+ghost use Rattle.chain_links.specs.Kinds.{names_in, by_index, MayInsert};
 
 use super::{At, Chains, LimitedChains, NONE, add, at, numbers, same};
 use arena_base::ArenaTrait;

@@ -2,7 +2,7 @@
 
 ghost use Rattle.std.specs.Prelude.{◌≡◌};
 ghost use Rattle.arena_base.specs.Arena.{IsValid};
-ghost use Rattle.chain_arena.specs.ChainArena.{entry, with_value_at};
+ghost use Rattle.chain_links.specs.ChainArena.{entry, with_value_at};
 
 use super::{Chains, NONE, Row, first, index, same, shows, tied_links};
 use arena_base::{ArenaSlot, ArenaTrait};

@@ -1,7 +1,6 @@
 //! Chains carried over to another arena, and gaps closed.
 
 use super::pointers::{BarePtr, SmallPtr, WidePtr};
-use super::wrapped::Wrapped;
 use super::{
     At, Chains, LimitedChains, NONE, add, at, first, link_of, lone_links, number, numbers, same,
     shows, tied_links,
@@ -12,6 +11,7 @@ use arena_ptr::{
     SlotStack, ToolPtr,
 };
 use chain_arena::{ChainArena, ChainArenaTrait, LinkInsertKind, LinkNoGen};
+use chain_wrapped::Wrapped;
 use std::alloc::Global;
 use std::process::Abort;
 use std::rt::HostRuntime;

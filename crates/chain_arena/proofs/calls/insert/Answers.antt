@@ -1,5 +1,5 @@
 -- What an insertion that may grow answers is a step.
-use Rattle.chain_arena.specs.Kinds.{names_in}
+use Rattle.chain_links.specs.Kinds.{names_in}
 use Rattle.chain_arena.proofs.Deciding.{stable-insertion}
 use Rattle.chain_arena.proofs.Stepping.{inserts_growing}
 use Rattle.chain_arena.proofs.calls.insert.Goals as goal

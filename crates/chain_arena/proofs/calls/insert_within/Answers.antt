@@ -1,5 +1,5 @@
 -- What an insertion within the capacity answers is a step.
-use Rattle.chain_arena.specs.Kinds.{names_in}
+use Rattle.chain_links.specs.Kinds.{names_in}
 use Rattle.chain_arena.proofs.Deciding.{stable-insertion}
 use Rattle.chain_arena.proofs.Stepping.{inserts_within}
 use Rattle.chain_arena.proofs.calls.insert_within.Goals as goal

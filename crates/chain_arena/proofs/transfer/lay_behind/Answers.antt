@@ -1,6 +1,6 @@
 use Rattle.std.proofs.Common.{◌≡◌, ◌+◌, sym, ap₂, ◌∙◌, subst}
 use Rattle.arena_base.specs.Arena.{next_index}
-use Rattle.chain_arena.specs.ChainArena.{insert_between}
+use Rattle.chain_links.specs.ChainArena.{insert_between}
 use Rattle.chain_arena.specs.Transfers.{AreEnds}
 use Rattle.chain_arena.proofs.transfer.lay_behind.Goals as goal
 

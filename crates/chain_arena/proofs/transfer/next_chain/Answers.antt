@@ -2,7 +2,7 @@
 use Rattle.std.proofs.Common.{None, Some, sym, ap, ◌∙◌, subst}
 use Rattle.std.specs.Prelude.{is_some}
 use Rattle.chain_laws.specs.Starts.{IsStart}
-use Rattle.chain_arena.proofs.Relinking.{is_some-map}
+use Rattle.chain_interlinks.proofs.Relinking.{is_some-map}
 use Rattle.chain_arena.proofs.Sources.{next_is, none_is}
 use Rattle.chain_arena.proofs.transfer.next_chain.Goals as goal
 

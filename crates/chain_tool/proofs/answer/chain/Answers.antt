@@ -1,6 +1,6 @@
 use Rattle.std.proofs.Common.{◌≡◌, ◌∙◌, ◌++◌, ℕ, List, [], Result, Ok, Err, OnOk, ap, refl}
 use Rattle.arena_ptr.specs.declared.generation.gen32.Gen32.{Gen32}
-use Rattle.chain_arena.specs.ChainArena.{LinkSeen, IsWalkOf}
+use Rattle.chain_links.specs.ChainArena.{LinkSeen, IsWalkOf}
 use Rattle.chain_tool.specs.Answers.{Links, IsValidIn, Walks, walk, walk_text}
 use Rattle.chain_tool.proofs.answer.chain.Goals as goal
 

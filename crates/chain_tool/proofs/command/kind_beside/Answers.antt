@@ -1,6 +1,6 @@
 -- Each name's kind is the one of its row.
 use Rattle.std.proofs.Common.{◌∙◌, sym}
-use Rattle.chain_arena.specs.declared.kinds.InsertKindBody.TheVariants as kinds
+use Rattle.chain_links.specs.declared.kinds.InsertKindBody.TheVariants as kinds
 use Rattle.chain_tool.proofs.KindLemmas.{by_either-mapped}
 use Rattle.chain_tool.proofs.command.kind_beside.Goals as goal
 

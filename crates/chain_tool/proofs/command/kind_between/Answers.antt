@@ -1,6 +1,6 @@
 use Rattle.std.proofs.Common.{◌∙◌, sym}
 use Rattle.std.specs.Option.{option_zip}
-use Rattle.chain_arena.specs.declared.kinds.InsertKindBody.TheVariants.{Bridge, BridgeInx}
+use Rattle.chain_links.specs.declared.kinds.InsertKindBody.TheVariants.{Bridge, BridgeInx}
 use Rattle.chain_tool.specs.Commands.{by_either}
 use Rattle.chain_tool.proofs.command.kind_between.Goals as goal
 

@@ -1,7 +1,7 @@
 use Rattle.std.proofs.Common.{◌≡◌, ℕ, List, [], None, Some, ap, refl}
 use Rattle.std.specs.Prelude.{codes}
 use Rattle.std.specs.Option.{option_map, option_zip}
-use Rattle.chain_arena.specs.declared.kinds.InsertKindBody.TheVariants.{ChainEnd, NextToInx, BridgeInx}
+use Rattle.chain_links.specs.declared.kinds.InsertKindBody.TheVariants.{ChainEnd, NextToInx, BridgeInx}
 use Rattle.chain_arena.specs.declared.calls.Call.TheVariants.{Insert, InsertWithin, Remove, RemoveInx}
 use Rattle.chain_tool.specs.declared.command.Command.TheVariants.{Change}
 use Rattle.chain_tool.specs.Commands.{line_with, by_either}

@@ -1,7 +1,7 @@
 -- The links that are made look like those of the source.
 use Rattle.std.proofs.Common.{refl, ap, ◌∙◌, subst}
 use Rattle.chain_arena.specs.Copies.{IsClone}
-use Rattle.chain_arena.specs.Links.{seen_links}
+use Rattle.chain_links.specs.Links.{seen_links}
 use Rattle.chain_arena.proofs.Cloning.{clone_agrees, is_clone_of, no_room_needed}
 use Rattle.chain_arena.proofs.chain_arena.ChainArena.clone.Goals as goal
 

@@ -2,8 +2,8 @@
 use Rattle.std.proofs.Common.{sym, subst}
 use Rattle.chain_laws.specs.Chains.{Agrees}
 use Rattle.arena_base.specs.Copying.{IsCopyCall}
-use Rattle.chain_arena.specs.ChainArena.{shown}
-use Rattle.chain_arena.specs.Links.{seen_link, seen_links}
+use Rattle.chain_links.specs.ChainArena.{shown}
+use Rattle.chain_links.specs.Links.{seen_link, seen_links}
 use Rattle.chain_arena.proofs.Cloning.{agrees_copied, either_way, has_slots_seen, interlinks_copied, on_ok_both, values_copied}
 use Rattle.chain_arena.proofs.chain_arena.ChainArena.clone_from_with.Goals as goal
 

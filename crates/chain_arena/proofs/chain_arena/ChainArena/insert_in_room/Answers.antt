@@ -4,11 +4,11 @@ use Rattle.chain_laws.specs.Chains.{Agrees}
 use Rattle.chain_laws.specs.Insertions.{IsGap}
 use Rattle.chain_laws.proofs.InsertionPairs.{gap_between}
 use Rattle.arena_base.specs.Arena.{next_index}
-use Rattle.chain_arena.specs.Links.{seen_links}
-use Rattle.chain_arena.specs.Kinds.{before_in, after_in}
-use Rattle.chain_arena.specs.ChainArena.{shown, insert_between}
-use Rattle.chain_arena.proofs.Inserting.{listed-seen_links, shown-next, entry_count-seen_links}
-use Rattle.chain_arena.proofs.Putting.{placed_in_room}
+use Rattle.chain_links.specs.Links.{seen_links}
+use Rattle.chain_interlinks.specs.Gaps.{before_in, after_in}
+use Rattle.chain_links.specs.ChainArena.{shown, insert_between}
+use Rattle.chain_links.proofs.Inserting.{listed-seen_links, shown-next, entry_count-seen_links}
+use Rattle.chain_interlinks.proofs.Putting.{placed_in_room}
 use Rattle.chain_arena.proofs.Telling.{agrees-insert_between}
 use Rattle.chain_arena.proofs.chain_arena.ChainArena.insert_in_room.Given.{Over}
 use Rattle.chain_arena.proofs.chain_arena.ChainArena.insert_in_room.Goals.{After-tie}

@@ -1,10 +1,10 @@
 -- The walker passes the walk from the pointer's link.
 use Rattle.std.proofs.Common.{sym, ◌∙◌}
-use Rattle.chain_arena.specs.Links.{seen_links}
-use Rattle.chain_arena.specs.ChainArena.{IsWalkOf}
-use Rattle.chain_arena.proofs.Inserting.{entry_count-seen_links}
+use Rattle.chain_links.specs.Links.{seen_links}
+use Rattle.chain_links.specs.ChainArena.{IsWalkOf}
+use Rattle.chain_links.proofs.Inserting.{entry_count-seen_links}
 use Rattle.chain_arena.proofs.Iterating.{walker-walk, length-walk}
-use Rattle.chain_arena.proofs.Connecting.{prev_of-seen, same_valid, valid_at}
+use Rattle.chain_interlinks.proofs.Connecting.{prev_of-seen, same_valid, valid_at}
 use Rattle.chain_arena.proofs.chain_arena.ChainArena.iter_chain.Given.{Over}
 use Rattle.chain_arena.proofs.chain_arena.ChainArena.iter_chain.Goals.{After-new}
 use Rattle.chain_arena.proofs.chain_arena.ChainArena.iter_chain.Goals as goal

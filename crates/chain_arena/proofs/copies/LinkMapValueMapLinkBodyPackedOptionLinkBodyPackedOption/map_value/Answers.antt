@@ -1,8 +1,8 @@
 -- The link is made of the interlinks of the other and of the closure's answer.
 use Rattle.std.proofs.Common.{refl, ap, sym, ◌∙◌, subst}
 use Rattle.arena_base.specs.Copying.{IsCopyCall}
-use Rattle.chain_arena.specs.ChainArena.{interlinks_in, value_in}
-use Rattle.chain_arena.specs.Links.{seen_link}
+use Rattle.chain_links.specs.ChainArena.{interlinks_in, value_in}
+use Rattle.chain_links.specs.Links.{seen_link}
 use Rattle.chain_arena.proofs.copies.LinkMapValueMapLinkBodyPackedOptionLinkBodyPackedOption.map_value.Goals as goal
 
 pub returns-clause-made : goal.returns-clause-made

@@ -3,7 +3,7 @@ use Rattle.std.proofs.Common.{ap, sym, ◌∙◌}
 use Rattle.arena_ptr.specs.Invalidation.{invalidation_option}
 use Rattle.arena_base.specs.Arena.{overflows_after_clear}
 use Rattle.arena_base.proofs.Seeing.{length-entries}
-use Rattle.chain_arena.proofs.Inserting.{count-values}
+use Rattle.chain_links.proofs.Inserting.{count-values}
 use Rattle.chain_arena.proofs.Writing.{cleared-seen}
 use Rattle.chain_arena.proofs.impl_arena_trait.ChainArenaArenaTrait.clear.Goals as goal
 

@@ -1,9 +1,9 @@
 -- The value of the link that stands there.
 use Rattle.std.proofs.Common.{ap, ◌∙◌}
 use Rattle.std.specs.Option.{option_map}
-use Rattle.chain_arena.specs.ChainArena.{on_value}
-use Rattle.chain_arena.proofs.Connecting.{same_valid, value_at}
-use Rattle.chain_arena.specs.Links.{held_in}
+use Rattle.chain_links.specs.ChainArena.{on_value}
+use Rattle.chain_interlinks.proofs.Connecting.{same_valid, value_at}
+use Rattle.chain_links.specs.Links.{held_in}
 use Rattle.chain_arena.proofs.impl_arena_trait.ChainArenaArenaTrait.get.Goals as goal
 
 pub returns-in-Some-clause-some : goal.returns-in-Some-clause-some

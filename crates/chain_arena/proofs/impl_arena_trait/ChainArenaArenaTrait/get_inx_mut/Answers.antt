@@ -1,7 +1,7 @@
 -- The value of the link that was lent is written.
 use Rattle.std.proofs.Common.{refl, ap, sym, ◌∙◌}
 use Rattle.std.specs.Option.{option_map}
-use Rattle.chain_arena.specs.Links.{held_in, seen_links}
+use Rattle.chain_links.specs.Links.{held_in, seen_links}
 use Rattle.chain_arena.proofs.Lending.{value_there}
 use Rattle.chain_arena.proofs.Writing.{written-state, written-shown, written-agrees, written-seen}
 use Rattle.chain_arena.proofs.impl_arena_trait.ChainArenaArenaTrait.get_inx_mut.Goals as goal

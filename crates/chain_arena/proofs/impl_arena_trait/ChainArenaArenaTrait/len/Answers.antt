@@ -1,11 +1,11 @@
 -- The interlinks agree, so there is one set of chains.
 use Rattle.std.proofs.Common.{◌≤◌, sym, ◌∙◌, subst, arith}
 use Rattle.arena_base.specs.Arena.{HasRoom}
-use Rattle.chain_arena.specs.Links.{seen_links}
-use Rattle.chain_arena.specs.ChainArena.{values_of, shown}
-use Rattle.chain_arena.proofs.Seeing.{length-seen_links}
+use Rattle.chain_links.specs.Links.{seen_links}
+use Rattle.chain_links.specs.ChainArena.{values_of, shown}
+use Rattle.chain_links.proofs.Seeing.{length-seen_links}
 use Rattle.arena_base.proofs.Filling.{entries_within, they_fill}
-use Rattle.chain_arena.proofs.Inserting.{count-values, shown-within, length-values, listed-seen_links, listed-values}
+use Rattle.chain_links.proofs.Inserting.{count-values, shown-within, length-values, listed-seen_links, listed-values}
 use Rattle.chain_laws.proofs.Partitions.{one_set}
 use Rattle.chain_arena.proofs.impl_arena_trait.ChainArenaArenaTrait.len.Goals as goal
 

@@ -1,6 +1,6 @@
 -- The link goes, and its neighbours are linked.
 use Rattle.std.proofs.Common.{◌∙◌}
-use Rattle.chain_arena.proofs.Unlinking.{taken-agrees, taken-seen, taken-removal, taken-alone, valid_stands}
+use Rattle.chain_interlinks.proofs.Unlinking.{taken-agrees, taken-seen, taken-removal, taken-alone, valid_stands}
 use Rattle.chain_arena.proofs.impl_arena_trait.ChainArenaArenaTrait.remove.Goals as goal
 
 pub invariant_of-self : goal.invariant_of-self

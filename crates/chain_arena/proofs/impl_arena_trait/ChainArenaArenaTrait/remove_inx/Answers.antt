@@ -1,5 +1,5 @@
 -- The link goes, and its neighbours are linked.
-use Rattle.chain_arena.proofs.Unlinking.{taken-agrees, taken-seen, taken-removal}
+use Rattle.chain_interlinks.proofs.Unlinking.{taken-agrees, taken-seen, taken-removal}
 use Rattle.chain_arena.proofs.impl_arena_trait.ChainArenaArenaTrait.remove_inx.Goals as goal
 
 pub invariant_of-self : goal.invariant_of-self

@@ -5,8 +5,8 @@ use Rattle.chain_laws.specs.Cuts.{cut}
 use Rattle.chain_laws.specs.Neighbors.{AreNeighbors}
 use Rattle.arena_base.specs.Arena.{Arena}
 use Rattle.arena_base.specs.Entries.{seen_of}
-use Rattle.chain_arena.specs.Links.{seen_links}
-use Rattle.chain_arena.specs.ChainArena.{LinkSeen, relinked, shown}
+use Rattle.chain_links.specs.Links.{seen_links}
+use Rattle.chain_links.specs.ChainArena.{LinkSeen, relinked, shown}
 use Rattle.chain_arena.proofs.Cutting.{at_told, cut_values, cut_shows, agrees_cut, cut_told}
 use Rattle.chain_arena.proofs.impl_chain_arena_trait.ChainArenaChainArenaTrait.break_next.Given.{Over}
 use Rattle.chain_arena.proofs.impl_chain_arena_trait.ChainArenaChainArenaTrait.break_next.Goals.{After-link_twice}

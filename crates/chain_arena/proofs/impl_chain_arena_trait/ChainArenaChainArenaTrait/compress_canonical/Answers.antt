@@ -2,7 +2,7 @@
 use Rattle.std.proofs.Common.{sym, ap, ◌∙◌}
 use Rattle.arena_ptr.specs.Invalidation.{invalidation_option}
 use Rattle.arena_base.specs.Compressing.{overflows_after_compression}
-use Rattle.chain_arena.proofs.Inserting.{values-count}
+use Rattle.chain_links.proofs.Inserting.{values-count}
 use Rattle.chain_arena.proofs.impl_chain_arena_trait.ChainArenaChainArenaTrait.compress_canonical.Goals as goal
 
 pub returns-clause-overflow : goal.returns-clause-overflow

@@ -3,9 +3,9 @@ use Rattle.std.proofs.Common.{◌≡◌, ℕ, refl, ap, ap₂, ◌∙◌}
 use Rattle.chain_laws.specs.Operations.{joined}
 use Rattle.arena_base.specs.Arena.{entry_at}
 use Rattle.arena_base.specs.Entries.{seen_of}
-use Rattle.chain_arena.specs.Links.{seen_links}
-use Rattle.chain_arena.specs.ChainArena.{values_of, CanConnect, relinked, shown}
-use Rattle.chain_arena.proofs.Connecting.{shows, joined-values, joined-agrees, joined-pair, joined-chains}
+use Rattle.chain_links.specs.Links.{seen_links}
+use Rattle.chain_links.specs.ChainArena.{values_of, CanConnect, relinked, shown}
+use Rattle.chain_interlinks.proofs.Connecting.{shows, joined-values, joined-agrees, joined-pair, joined-chains}
 use Rattle.chain_arena.proofs.impl_chain_arena_trait.ChainArenaChainArenaTrait.connect.Given.{Over}
 use Rattle.chain_arena.proofs.impl_chain_arena_trait.ChainArenaChainArenaTrait.connect.Goals.{After-link_up}
 use Rattle.chain_arena.proofs.impl_chain_arena_trait.ChainArenaChainArenaTrait.connect.Goals as goal

@@ -2,9 +2,9 @@
 use Rattle.std.proofs.Common.{ap, ◌∙◌}
 use Rattle.std.specs.Option.{option_and_then}
 use Rattle.arena_base.specs.Arena.{entry_at}
-use Rattle.chain_arena.specs.Links.{seen_links}
-use Rattle.chain_arena.specs.ChainArena.{ptr_at, values_of}
-use Rattle.chain_arena.proofs.Connecting.{link_at_ptr, same_valid}
+use Rattle.chain_links.specs.Links.{seen_links}
+use Rattle.chain_links.specs.ChainArena.{ptr_at, values_of}
+use Rattle.chain_interlinks.proofs.Connecting.{link_at_ptr, same_valid}
 use Rattle.chain_arena.proofs.impl_chain_arena_trait.ChainArenaChainArenaTrait.get_link.Goals as goal
 
 pub returns-in-Some-clause-some : goal.returns-in-Some-clause-some

@@ -1,5 +1,5 @@
 -- The same pointers are valid.
-use Rattle.chain_arena.proofs.Connecting.{same_valid}
+use Rattle.chain_interlinks.proofs.Connecting.{same_valid}
 use Rattle.chain_arena.proofs.impl_chain_arena_trait.ChainArenaChainArenaTrait.get_link_no_gen.Goals as goal
 
 pub returns-clause-some : goal.returns-clause-some

@@ -2,8 +2,8 @@
 use Rattle.std.proofs.Common.{◌≡◌, refl, sym, ap, ap₂, ◌∙◌}
 use Rattle.std.proofs.lemmas.Bool.{false≢true}
 use Rattle.arena_base.specs.Arena.{next_index, with_capacity_of}
-use Rattle.chain_arena.specs.ChainArena.{shown, insert_between, insert_as}
-use Rattle.chain_arena.specs.Kinds.{names_in, by_index}
+use Rattle.chain_links.specs.ChainArena.{shown, insert_between, insert_as}
+use Rattle.chain_links.specs.Kinds.{names_in, by_index}
 use Rattle.chain_arena.proofs.Telling.{count-seen, gap_told, insertion_told}
 use Rattle.chain_arena.proofs.impl_chain_arena_trait.ChainArenaChainArenaTrait.insert_within_capacity.Given.{Over}
 use Rattle.chain_arena.proofs.impl_chain_arena_trait.ChainArenaChainArenaTrait.insert_within_capacity.Goals.{In-Ok}

@@ -1,5 +1,5 @@
 -- The link goes, and its neighbours are linked.
-use Rattle.chain_arena.proofs.Unlinking.{taken-agrees, taken-seen, taken-shown, taken-state, taken-chains, taken-pairs}
+use Rattle.chain_interlinks.proofs.Unlinking.{taken-agrees, taken-seen, taken-shown, taken-state, taken-chains, taken-pairs}
 use Rattle.chain_arena.proofs.impl_chain_arena_trait.ChainArenaChainArenaTrait.remove_inx_link_no_gen.Goals as goal
 
 pub invariant_of-self : goal.invariant_of-self

@@ -2,9 +2,9 @@
 use Rattle.std.proofs.Common.{ap, ◌∙◌}
 use Rattle.std.specs.Option.{option_map}
 use Rattle.arena_base.specs.Arena.{entry_at}
-use Rattle.chain_arena.specs.ChainArena.{values_of}
-use Rattle.chain_arena.specs.Links.{seen_link, seen_links}
-use Rattle.chain_arena.proofs.Unlinking.{taken-agrees, taken-seen, taken-shown, taken-state, taken-chains, taken-pairs, taken-link, valid_stands}
+use Rattle.chain_links.specs.ChainArena.{values_of}
+use Rattle.chain_links.specs.Links.{seen_link, seen_links}
+use Rattle.chain_interlinks.proofs.Unlinking.{taken-agrees, taken-seen, taken-shown, taken-state, taken-chains, taken-pairs, taken-link, valid_stands}
 use Rattle.chain_arena.proofs.impl_chain_arena_trait.ChainArenaChainArenaTrait.remove_link_no_gen.Goals as goal
 
 pub invariant_of-self : goal.invariant_of-self

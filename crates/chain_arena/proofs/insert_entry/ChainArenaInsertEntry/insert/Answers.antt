@@ -3,8 +3,8 @@ use Rattle.std.proofs.Common.{◌≡◌, arith, refl, ap, ap₂, ◌∙◌, sym,
 use Rattle.chain_laws.specs.Insertions.{IsGap}
 use Rattle.chain_laws.proofs.Gaps.{gap_had}
 use Rattle.arena_base.specs.Arena.{next_index, with_capacity_of}
-use Rattle.chain_arena.specs.ChainArena.{shown, insert_between}
-use Rattle.chain_arena.specs.Insertions.{index_from}
+use Rattle.chain_links.specs.ChainArena.{shown, insert_between}
+use Rattle.chain_interlinks.specs.Insertions.{index_from}
 use Rattle.chain_arena.proofs.Telling.{told_between}
 use Rattle.chain_arena.proofs.insert_entry.ChainArenaInsertEntry.insert.Given.{Over}
 use Rattle.chain_arena.proofs.insert_entry.ChainArenaInsertEntry.insert.Goals.{After-insert_in_room}

@@ -1,7 +1,7 @@
 -- The values up to where the advancer looks are recast.
 use Rattle.std.proofs.Common.{length}
 use Rattle.arena_base.specs.Advancing.{ahead}
-use Rattle.chain_arena.specs.ChainArena.{seen}
+use Rattle.chain_links.specs.ChainArena.{seen}
 use Rattle.chain_arena.proofs.Rewriting.{IsRecasting}
 use Rattle.chain_arena.proofs.recasting.ChainArenaRecast.recast.Given as goal
 

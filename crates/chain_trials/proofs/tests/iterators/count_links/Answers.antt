@@ -1,6 +1,6 @@
 -- At first all links are left.
 use Rattle.std.proofs.Common.{ap, subst, ◌∙◌, ◌<◌, ◌^◌, length, arith}
-use Rattle.chain_arena.proofs.Inserting.{values-count}
+use Rattle.chain_links.proofs.Inserting.{values-count}
 use Rattle.chain_trials.proofs.tests.iterators.count_links.Goals as goal
 
 pub loop-init : goal.loop-init

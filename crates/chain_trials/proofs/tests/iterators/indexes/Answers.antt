@@ -2,8 +2,8 @@
 use Rattle.std.proofs.Common.{ap, sym, ◌∙◌, map}
 use Rattle.std.proofs.lemmas.Simd.{map-map}
 use Rattle.arena_base.specs.Entries.{index_of}
-use Rattle.chain_arena.specs.ChainArena.{on_value}
-use Rattle.chain_arena.specs.Links.{seen_link}
+use Rattle.chain_links.specs.ChainArena.{on_value}
+use Rattle.chain_links.specs.Links.{seen_link}
 use Rattle.chain_trials.proofs.tests.iterators.indexes.Goals as goal
 
 pub loop-p-init : goal.loop-p-init

@@ -1,0 +1,32 @@
+// A chain arena made of an arena of links.
+ghost use Rattle.std.specs.Prelude.{◌≡◌, ◌↔◌, IsOk, IfOk, IfErr, codes};
+ghost use Rattle.chain_laws.specs.Chains.{Agrees};
+ghost use Rattle.chain_links.specs.ChainArena.{shown};
+ghost use Rattle.chain_links.specs.Links.{seen_links};
+
+use crate::chain_arena::ChainArena;
+use arena_base::{Arena, ArenaSlot};
+use arena_ptr::{Ptr, PtrInx, SlotStack};
+use chain_interlinks::links_agree;
+use chain_links::LinkNoGen;
+
+impl<P: Ptr, T: Drop, S: SlotStack<Item = ArenaSlot<P, LinkNoGen<P, T>>>> ChainArena<P, T, S> {
+    /// A chain arena of an arena of links, with the same indexes, generations, counter, slots, freed list and interlinks.
+    /// It takes time in proportion to the slots, and no memory.
+    ///
+    /// `interlink transitivity does not hold`: the interlinks do not agree, as `links_agree` says, and the arena is
+    /// dropped.
+    ///
+    /// Carries `from_arena` of `triple_arena`.
+    pub fn from_arena(arena: Arena<P, LinkNoGen<P, T>, S>) -> Result<Self, &'static str>
+        ensures decides { IsOk result ↔ Agrees (shown (seen_links P.Inx.packed_number arena)) }
+        ensures same { IfOk result (λ c. c ≡ seen_links P.Inx.packed_number arena) }
+        ensures refused { IfErr result (λ e. e.now ≡ codes "interlink transitivity does not hold") }
+    {
+        if links_agree(&arena) {
+            Ok(ChainArena { arena })
+        } else {
+            Err("interlink transitivity does not hold")
+        }
+    }
+}

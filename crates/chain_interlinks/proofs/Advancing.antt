@@ -1,0 +1,61 @@
+-- An advancer along a chain passes the link before it, or finds none there.
+use Rattle.std.proofs.Common.{◌≡◌, ℕ, zero, suc, List, ◌∷◌, Option, None, Some, refl, ap, ap₂, ◌∙◌, subst, IfSome, arith}
+use Rattle.std.specs.Prelude.{◌-◌}
+use Rattle.std.specs.Option.{option_map}
+use Rattle.chain_laws.specs.Chains.{Shown, first_or}
+use Rattle.chain_laws.specs.Walks.{Walker, ahead}
+use Rattle.arena_base.specs.Arena.{Arena, IsValid, entry_at}
+use Rattle.chain_links.specs.ChainArena.{LinkSeen, shown, entry, value_in, on_value}
+use Rattle.chain_interlinks.specs.Walkers.{index_and_entry, IsPassing}
+use Rattle.chain_links.proofs.Mapping.{entry_at-with_each}
+
+-- a look at an index that tells nothing tells that nothing stands there
+module _ {Gen T : Type 0} (i : ℕ) where
+  pub looked_none : (o : Option (Gen × LinkSeen T)) → None ≡ option_map (index_and_entry i) o → o ≡ None
+  looked_none None tells = refl
+  looked_none (Some e) tells = absurd (let h = tells in cc)
+
+module _ {Gen T : Type 0} (a : Arena Gen (LinkSeen T)) where
+  -- the pointer to a link that stands is valid
+  pub valid_there : (i : ℕ) (p : ℕ × Gen) (link : LinkSeen T) → entry_at a i ≡ Some (p.1, link) → p.0 ≡ i → IsValid (entry a) p
+  valid_there i p link stands at = record {
+    value = link.value;
+    stands = ap (entry a) at ∙ entry_at-with_each value_in a i ∙ ap (option_map (on_value value_in)) stands;
+  }
+
+  -- where no link stands before it
+  module _ (start i : ℕ) (none : entry_at a i ≡ None) where
+    no_entry : (j : ℕ) → Some i ≡ Some j → entry a j ≡ None
+    no_entry j same = subst (λ (o : Option ℕ). IfSome o (λ k. entry a k ≡ None)) same (entry_at-with_each value_in a i ∙ ap (option_map (on_value value_in)) none)
+
+    pub ends_forth : (back : Option ℕ) (left j : ℕ) (rest : List ℕ) → ahead left (shown a) start (Some i) back ≡ j ∷ rest → entry a j ≡ None
+    ends_forth back zero j rest passes = absurd (let h = passes in cc)
+    ends_forth back (suc left) j rest passes = no_entry j (ap (λ (l : List ℕ). first_or l None) passes)
+
+    pub ends_back : (left j : ℕ) (rest : List ℕ) → ahead left (shown a) start None (Some i) ≡ j ∷ rest → entry a j ≡ None
+    ends_back zero j rest passes = absurd (let h = passes in cc)
+    ends_back (suc left) j rest passes = no_entry j (ap (λ (l : List ℕ). first_or l None) passes)
+
+-- one call, by what its step told
+module _ {Gen T : Type 0} (entry : ℕ → Option (Gen × T)) (interlinks : Shown) (start : ℕ) (forth back : Option ℕ) where
+  pub is_passed : (left : ℕ) (p : ℕ × Gen) (forth_then back_then : Option ℕ) → (left ≡ 0 → ⊥) → IsValid entry p
+      → ((n : ℕ) → ahead (suc n) interlinks start forth back ≡ p.0 ∷ ahead n interlinks start forth_then back_then)
+      → IsPassing entry interlinks (record { left = left; start = start; forth = forth; back = back }) (Some p) (record { left = left - 1; start = start; forth = forth_then; back = back_then })
+  is_passed zero p forth_then back_then some valid passes = absurd (some refl)
+  is_passed (suc n) p forth_then back_then some valid passes =
+      let less : n ≡ suc n - 1 = omega arith in record {
+        passed = (valid, omega arith, subst (λ (m : ℕ). ahead (suc n) interlinks start forth back ≡ p.0 ∷ ahead m interlinks start forth_then back_then) less (passes n));
+        spent = tt;
+        end = tt;
+      }
+
+  pub is_ended : (left : ℕ) → ((n i : ℕ) (rest : List ℕ) → ahead n interlinks start forth back ≡ i ∷ rest → entry i ≡ None)
+      → IsPassing entry interlinks (record { left = left; start = start; forth = forth; back = back }) None (record { left = 0; start = start; forth = forth; back = back })
+  is_ended left ends = record { passed = tt; spent = refl; end = ends left }
+
+-- walkers with the same parts are the same
+pub same_walkers : {l m s t : ℕ} {f e b d : Option ℕ} → l ≡ m → s ≡ t → f ≡ e → b ≡ d
+    → ◌≡◌ {A = Walker} (record { left = l; start = s; forth = f; back = b }) (record { left = m; start = t; forth = e; back = d })
+same_walkers {l} {m} {s} {t} {f} {e} {b} {d} left start forth back =
+    ap₂ (λ (x y : ℕ). let w : Walker = record { left = x; start = y; forth = f; back = b } in w) left start
+    ∙ ap₂ (λ (x y : Option ℕ). let w : Walker = record { left = m; start = t; forth = x; back = y } in w) forth back

@@ -1,0 +1,7 @@
+pub mod Advancing
+pub mod Answered
+pub mod Connecting
+pub mod Naming
+pub mod Putting
+pub mod Relinking
+pub mod Unlinking

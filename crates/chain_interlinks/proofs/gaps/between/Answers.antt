@@ -1,0 +1,24 @@
+-- The gap between two neighbours.
+use Rattle.std.proofs.Common.{Some, refl, sym, ap, ◌∙◌}
+use Rattle.chain_links.specs.ChainArena.{shown, entry, interlinks_in}
+use Rattle.chain_links.specs.Links.{seen_links, seen_link}
+use Rattle.chain_links.specs.Kinds.{name_of}
+use Rattle.chain_interlinks.proofs.Naming.{may_come_between, found_valid}
+use Rattle.chain_interlinks.proofs.gaps.between.Goals as goal
+
+pub returns-then-is_some : goal.returns-then-is_some
+returns-then-is_some g c =
+    let seen = seen_links g.P.Inx.PtrInx.packed_number c.args.arena.now in
+    let name = name_of g.P.Ptr.key g.P.Inx.PtrInx.number in
+    let next = c.is_index.ensures.0 c.if-is_index.true in
+    let found = sym c.is_some.ensures ∙ c.if-is_some.true in
+    record {
+      some = (
+        λ _. may_come_between (entry seen) (shown seen) (name c.args.a) (name c.args.b) _ (c.in-Some.ensures.some.0 refl) (c.find-then-is_index.ensures.some.0 found) c.in-Some.ensures.link
+            (found_valid (shown seen) (name c.args.b).0 (λ link. interlinks_in (seen_link g.P.Inx.PtrInx.packed_number link.now)) c.find-then-is_index.result found c.find-then-is_index.ensures.link)
+            (sym c.next.ensures ∙ (next ∙ ap Some c.index_of.ensures)),
+        λ _. refl,
+      );
+      before = λ q. ap Some c.index_of-then-is_some.ensures;
+      after = λ q. ap Some c.index_of-then-is_some-2.ensures;
+    }

@@ -1,0 +1,5 @@
+pub mod Gaps
+pub mod Agreeing
+pub mod Insertions
+pub mod Walkers
+pub mod ChainArenaLaws

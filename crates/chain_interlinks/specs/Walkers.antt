@@ -1,0 +1,40 @@
+-- What a walker over a chain arena still yields.
+use Rattle.std.specs.Prelude.{◌≡◌, ℕ, suc, List, [], ◌∷◌, Option, None, Some, IfSome, IfNone}
+use Rattle.std.specs.Option.{option_map}
+use Rattle.std.specs.Borrow.{Bor}
+use Rattle.chain_laws.specs.Chains.{Shown}
+use Rattle.chain_laws.specs.Walks.{Walker, ahead, passes_ahead}
+use Rattle.chain_links.specs.declared.links.LinkBody.{LinkBody}
+use Rattle.arena_base.specs.Arena.{Arena, entry_at, IsValid}
+use Rattle.chain_links.specs.ChainArena.{LinkSeen, shown}
+use Rattle.chain_links.specs.Links.{seen_link}
+
+module _ {Gen T : Type 0} where
+  -- the links at these indexes, up to the first where none stands
+  abbrev pub links_at : Arena Gen (LinkSeen T) → List ℕ → List (ℕ × (Gen × LinkSeen T))
+  links_at a [] = []
+  links_at a (i ∷ indexes) = elim (entry_at a i) [ None ↦ [] | Some e ↦ (i, e) ∷ links_at a indexes ]
+
+  -- the links that a walker passes that began at `start`, has `forth` and `back` before it, and makes at most `left` steps
+  abbrev pub links_ahead : Arena Gen (LinkSeen T) → ℕ → ℕ → Option ℕ → Option ℕ → List (ℕ × (Gen × LinkSeen T))
+  links_ahead a left start forth back = links_at a (ahead left (shown a) start forth back)
+
+module _ {Gen T : Type 0} where
+  abbrev pub index_and_entry : ℕ → Gen × LinkSeen T → ℕ × (Gen × LinkSeen T)
+  index_and_entry i e = (i, e)
+
+module _ {P Gen K T : Type 0} where
+  -- a yielded pointer and link, as contracts see them
+  abbrev pub seen_item : (P → ℕ × Gen) → (K → Option ℕ) → P × Bor (LinkBody K T) → ℕ × (Gen × LinkSeen T)
+  seen_item key number item = ((key item.0).0, ((key item.0).1, seen_link number item.1.now))
+
+-- one call of an advancer along a chain: it passes the link that it has before it, where one stands there, and makes one
+-- step less from then on; or it passes nothing any more
+pub record IsPassing {Gen T : Type 0} (entry : ℕ → Option (Gen × T)) (interlinks : Shown) (old : Walker) (answer : Option (ℕ × Gen)) (new : Walker) : Type 0 where
+  pub passed : IfSome answer (λ p. IsValid entry p × (old.left ≡ suc new.left) × (passes_ahead interlinks old ≡ p.0 ∷ passes_ahead interlinks new))
+  pub spent : IfNone answer (new.left ≡ 0)
+  pub end : IfNone answer ((i : ℕ) (rest : List ℕ) → passes_ahead interlinks old ≡ i ∷ rest → entry i ≡ None)
+
+-- the walker of an advancer, where its indexes are numbers
+abbrev pub walker_of : {I : Type 0} → (I → ℕ) → ℕ → I → Option I → Option I → Walker
+walker_of number left start forth back = record { left = left; start = number start; forth = option_map number forth; back = option_map number back }

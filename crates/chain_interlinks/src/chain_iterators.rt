@@ -1,0 +1,179 @@
+ghost use Rattle.std.specs.Prelude.{◌≡◌, ℕ, suc, List, ◌∷◌, Some, None, IfSome, IfNone};
+ghost use Rattle.std.specs.Option.{option_map};
+ghost use Rattle.std.specs.Iterator.{YieldsFirstBy, item_count};
+ghost use Rattle.chain_laws.specs.Walks.{going_on, going_back, ahead};
+ghost use Rattle.arena_base.specs.Arena.{entry_at, IsValid};
+ghost use Rattle.chain_links.specs.ChainArena.{entry, shown};
+ghost use Rattle.chain_links.specs.Links.{seen_links};
+ghost use Rattle.chain_interlinks.specs.Walkers.{links_ahead, seen_item, index_and_entry};
+
+use arena_base::{Arena, ArenaSlot, ArenaTrait};
+use arena_ptr::{Ptr, SlotStack};
+use chain_links::LinkNoGen;
+use std::marker::Model;
+
+/// The links of one chain in walk order, each with its pointer: from a link on to the end, and then from the link
+/// before it back to the start; a cyclic chain once round.
+///
+/// Made by `ChainArena::iter_chain`. Stands for the `impl Iterator` of `triple_arena`'s `iter_chain`.
+#[derive(Drop)]
+pub struct ChainIter<'a, P: Ptr, T: Drop, S: SlotStack<Item = ArenaSlot<P, LinkNoGen<P, T>>>> {
+    arena: &'a Arena<P, LinkNoGen<P, T>, S>,
+    start: P::Inx,
+    forth: Option<P::Inx>,
+    back: Option<P::Inx>,
+
+    // No more steps than this.
+    left: usize,
+}
+
+impl<'a, P: Ptr, T: Drop, S: SlotStack<Item = ArenaSlot<P, LinkNoGen<P, T>>>> Model
+    for ChainIter<'a, P, T, S> {
+    ghost use Rattle.std.specs.Prelude.{ℕ, List};
+    ghost use Rattle.std.specs.Option.{option_map};
+    ghost use Rattle.chain_links.specs.ChainArena.{LinkSeen};
+
+    ghost Value = { List (ℕ × (P.Gen × LinkSeen T)) };
+
+    ghost use Rattle.chain_links.specs.Links.{seen_links};
+    ghost use Rattle.chain_interlinks.specs.Walkers.{links_ahead};
+
+    ghost view = { λ it. links_ahead (seen_links P.Inx.packed_number it.arena.now) it.left (P.Inx.number it.start)
+        (option_map P.Inx.number it.forth) (option_map P.Inx.number it.back) };
+}
+
+impl<'a, P: Ptr, T: Drop, S: SlotStack<Item = ArenaSlot<P, LinkNoGen<P, T>>>> ChainIter<
+    'a,
+    P,
+    T,
+    S,
+> {
+    /// A walker that stands before the link at `start`, behind which `back` stands.
+    pub fn new(
+        arena: &'a Arena<P, LinkNoGen<P, T>, S>,
+        start: P::Inx,
+        back: Option<P::Inx>,
+        left: usize,
+    ) -> Self
+        ensures { result ≡ links_ahead (seen_links P.Inx.packed_number arena.now) left (P.Inx.number start)
+            (Some (P.Inx.number start)) (option_map P.Inx.number back) }
+    {
+        ChainIter {
+            arena,
+            start,
+            forth: Some(start),
+            back,
+            left,
+        }
+    }
+}
+
+impl<'a, P: Ptr, T: Drop, S: SlotStack<Item = ArenaSlot<P, LinkNoGen<P, T>>>> Iterator
+    for ChainIter<'a, P, T, S> {
+    type Item = (P, &'a LinkNoGen<P, T>);
+
+    ghost next_gives = { YieldsFirstBy (seen_item P.key P.Inx.packed_number) (λ rest. rest) };
+
+    ghost remaining = { item_count (λ rest. rest) };
+
+    fn next(&mut self) -> Option<(P, &'a LinkNoGen<P, T>)> {
+        if self.left == 0 {
+            return None;
+        }
+        match self.forth {
+            Some(i) => match look(self.arena, i) {
+                Some((p, link)) => {
+                    self.left -= 1;
+                    self.back = going_back::<P>(self.start, link.next(), self.back);
+                    self.forth = going_on::<P>(self.start, link.next());
+                    Some((p, link))
+                }
+                None => None,
+            },
+            None => match self.back {
+                Some(i) => match look(self.arena, i) {
+                    Some((p, link)) => {
+                        self.left -= 1;
+                        self.back = link.prev();
+                        Some((p, link))
+                    }
+                    None => None,
+                },
+                None => None,
+            },
+        }
+    }
+}
+
+/// The pointer and the link at an index.
+pub fn look<P: Ptr, T: Drop, S: SlotStack<Item = ArenaSlot<P, LinkNoGen<P, T>>>>(
+    arena: &Arena<P, LinkNoGen<P, T>, S>,
+    i: P::Inx,
+) -> Option<(P, &LinkNoGen<P, T>)>
+    ensures link { option_map (seen_item P.key P.Inx.packed_number) result ≡ option_map (index_and_entry (P.Inx.number i)) (entry_at (seen_links P.Inx.packed_number arena.now) (P.Inx.number i)) }
+    ensures valid { IfSome result (λ item. IsValid (entry (seen_links P.Inx.packed_number arena.now)) (P.key item.0)) }
+{
+    match arena.get_inx(i) {
+        Some((generation, link)) => Some((P::_from_raw(i, generation), link)),
+        None => None,
+    }
+}
+
+/// Where a walker goes on to from a link: to the next one, unless it has come round.
+pub fn going_on<P: Ptr>(start: P::Inx, next: Option<P::Inx>) -> Option<P::Inx>
+    ensures { option_map P.Inx.number result ≡ going_on (P.Inx.number start) (option_map P.Inx.number next) }
+{
+    match next {
+        Some(k) => { if k == start { None } else { Some(k) } }
+        None => None,
+    }
+}
+
+/// Where it goes back to from the end of the chain: nowhere, where it has come round.
+pub fn going_back<P: Ptr>(
+    start: P::Inx,
+    next: Option<P::Inx>,
+    back: Option<P::Inx>,
+) -> Option<P::Inx>
+    ensures { option_map P.Inx.number result ≡ going_back (P.Inx.number start) (option_map P.Inx.number next) (option_map P.Inx.number back) }
+{
+    match next {
+        Some(k) => { if k == start { None } else { back } }
+        None => back,
+    }
+}
+
+/// The link that a walker passes next, by its pointer, and where it goes from there.
+pub fn step<P: Ptr, T: Drop, S: SlotStack<Item = ArenaSlot<P, LinkNoGen<P, T>>>>(
+    arena: &Arena<P, LinkNoGen<P, T>, S>,
+    start: P::Inx,
+    forth: Option<P::Inx>,
+    back: Option<P::Inx>,
+) -> Option<(P, Option<P::Inx>, Option<P::Inx>)>
+    ensures valid { IfSome result (λ s. IsValid (entry (seen_links P.Inx.packed_number arena.now)) (P.key s.0)) }
+    ensures some { IfSome result (λ s. (left : ℕ) → ahead (suc left) (shown (seen_links P.Inx.packed_number arena.now)) (P.Inx.number start) (option_map P.Inx.number forth) (option_map P.Inx.number back)
+        ≡ (P.key s.0).0 ∷ ahead left (shown (seen_links P.Inx.packed_number arena.now)) (P.Inx.number start) (option_map P.Inx.number s.1) (option_map P.Inx.number s.2)) }
+    ensures none { IfNone result ((left i : ℕ) (rest : List ℕ) → ahead left (shown (seen_links P.Inx.packed_number arena.now)) (P.Inx.number start) (option_map P.Inx.number forth) (option_map P.Inx.number back) ≡ i ∷ rest
+        → entry (seen_links P.Inx.packed_number arena.now) i ≡ None) }
+{
+    match forth {
+        Some(i) => match look(arena, i) {
+            Some((p, link)) => {
+                let next = link.next();
+                Some((
+                    p,
+                    going_on::<P>(start, next),
+                    going_back::<P>(start, next, back),
+                ))
+            }
+            None => None,
+        },
+        None => match back {
+            Some(i) => match look(arena, i) {
+                Some((p, link)) => Some((p, None, link.prev())),
+                None => None,
+            },
+            None => None,
+        },
+    }
+}

@@ -1,0 +1,152 @@
+// How a chain arena reads and writes interlinks in the arena that holds its links.
+ghost use Rattle.std.specs.Prelude.{◌≡◌, ◌↔◌, IsTrue, IsSome, Some, None};
+ghost use Rattle.std.specs.Option.{option_map, option_and_then};
+ghost use Rattle.arena_ptr.specs.Invalidation.{value_within, invalidation_result};
+ghost use Rattle.chain_laws.specs.Operations.{next_set, prev_set, linked};
+ghost use Rattle.arena_base.specs.Arena.{entry_at, IsListed};
+ghost use Rattle.chain_links.specs.ChainArena.{shown, relinked, remove_link, entry, CanConnect, ptr_at};
+ghost use Rattle.chain_links.specs.Links.{seen_links, seen_pair};
+
+use arena_base::{Arena, ArenaSlot, ArenaTrait};
+use arena_ptr::{
+    ChainInsertionError, InvalidationResult, Ptr, PtrInx, ReallocationError, SlotStack,
+};
+use chain_links::LinkNoGen;
+
+/// Whether q may come after p.
+pub fn can_connect<P: Ptr, T: Drop, S: SlotStack<Item = ArenaSlot<P, LinkNoGen<P, T>>>>(
+    arena: &Arena<P, LinkNoGen<P, T>, S>,
+    p: P,
+    q: P,
+) -> bool
+    ensures { IsTrue result ↔ CanConnect (entry (seen_links P.Inx.packed_number arena.now)) (shown (seen_links P.Inx.packed_number arena.now)) (P.key p) (P.key q) }
+{
+    match arena.get(p) {
+        Some(first) => match arena.get(q) {
+            Some(second) => first.next().is_none() && second.prev().is_none(),
+            None => false,
+        },
+        None => false,
+    }
+}
+
+/// The pointer of now to the link that an interlink names.
+pub fn neighbor<P: Ptr, T: Drop, S: SlotStack<Item = ArenaSlot<P, LinkNoGen<P, T>>>>(
+    arena: &Arena<P, LinkNoGen<P, T>, S>,
+    i: Option<P::Inx>,
+) -> Option<P>
+    ensures { option_map P.key result ≡ option_and_then (ptr_at (entry (seen_links P.Inx.packed_number arena.now))) (option_map P.Inx.number i) }
+{
+    match i {
+        Some(i) => match arena.get_inx(i) {
+            Some((generation, _)) => Some(P::_from_raw(i, generation)),
+            None => None,
+        },
+        None => None,
+    }
+}
+
+/// The link at i, if i is an index and a link stands there, names another as the one after it.
+pub fn set_next<P: Ptr, T: Drop, S: SlotStack<Item = ArenaSlot<P, LinkNoGen<P, T>>>>(
+    arena: &mut Arena<P, LinkNoGen<P, T>, S>,
+    i: Option<P::Inx>,
+    next: Option<P::Inx>,
+)
+    ensures { seen_links P.Inx.packed_number arena.new ≡ relinked (seen_links P.Inx.packed_number arena.old)
+        (next_set (shown (seen_links P.Inx.packed_number arena.old)) (option_map P.Inx.number i) (option_map P.Inx.number next)) }
+{
+    match i {
+        Some(i) => match arena.get_inx_mut(i) {
+            Some(link) => link.set_next(next),
+            None => {}
+        },
+        None => {}
+    }
+}
+
+/// The link at i, if i is an index and a link stands there, names another as the one before it.
+pub fn set_prev<P: Ptr, T: Drop, S: SlotStack<Item = ArenaSlot<P, LinkNoGen<P, T>>>>(
+    arena: &mut Arena<P, LinkNoGen<P, T>, S>,
+    i: Option<P::Inx>,
+    prev: Option<P::Inx>,
+)
+    ensures { seen_links P.Inx.packed_number arena.new ≡ relinked (seen_links P.Inx.packed_number arena.old)
+        (prev_set (shown (seen_links P.Inx.packed_number arena.old)) (option_map P.Inx.number i) (option_map P.Inx.number prev)) }
+{
+    match i {
+        Some(i) => match arena.get_inx_mut(i) {
+            Some(link) => link.set_prev(prev),
+            None => {}
+        },
+        None => {}
+    }
+}
+
+/// One link follows another, each where it is some index at which a link stands.
+pub fn link_up<P: Ptr, T: Drop, S: SlotStack<Item = ArenaSlot<P, LinkNoGen<P, T>>>>(
+    arena: &mut Arena<P, LinkNoGen<P, T>, S>,
+    prev: Option<P::Inx>,
+    next: Option<P::Inx>,
+)
+    ensures { seen_links P.Inx.packed_number arena.new ≡ relinked (seen_links P.Inx.packed_number arena.old)
+        (linked (shown (seen_links P.Inx.packed_number arena.old)) (option_map P.Inx.number prev) (option_map P.Inx.number next)) }
+{
+    set_next(arena, prev, next);
+    set_prev(arena, next, prev);
+}
+
+/// One link follows another, and then a third a fourth, each where it is some index at which a link stands.
+pub fn link_twice<P: Ptr, T: Drop, S: SlotStack<Item = ArenaSlot<P, LinkNoGen<P, T>>>>(
+    arena: &mut Arena<P, LinkNoGen<P, T>, S>,
+    first: (Option<P::Inx>, Option<P::Inx>),
+    second: (Option<P::Inx>, Option<P::Inx>),
+)
+    ensures { seen_links P.Inx.packed_number arena.new ≡ relinked (seen_links P.Inx.packed_number arena.old)
+        (linked (linked (shown (seen_links P.Inx.packed_number arena.old)) (option_map P.Inx.number first.0) (option_map P.Inx.number first.1))
+        (option_map P.Inx.number second.0) (option_map P.Inx.number second.1)) }
+{
+    link_up(arena, first.0, first.1);
+    link_up(arena, second.0, second.1);
+}
+
+/// Takes the link at an index out, and links those that it stood between.
+pub fn take_out<P: Ptr, T: Drop, S: SlotStack<Item = ArenaSlot<P, LinkNoGen<P, T>>>>(
+    arena: &mut Arena<P, LinkNoGen<P, T>, S>,
+    i: P::Inx,
+) -> InvalidationResult<(P::Gen, LinkNoGen<P, T>)>
+    ensures answer { option_map (seen_pair P.Inx.packed_number) (value_within result) ≡ entry_at (seen_links P.Inx.packed_number arena.old) (P.Inx.number i) }
+    ensures overflow { result ≡ invalidation_result (P.Gen.wraps arena.old.counter) (value_within result) }
+    ensures valid { IsSome (value_within result) → seen_links P.Inx.packed_number arena.new ≡ remove_link P.Gen.following (seen_links P.Inx.packed_number arena.old) (P.Inx.number i) }
+    ensures invalid { value_within result ≡ None → arena.new ≡ arena.old }
+{
+    let (entry, overflow) = arena.remove_inx(i).overflowing();
+    match entry {
+        Some((generation, link)) => {
+            link_up(arena, link.prev(), link.next());
+            invalidated(overflow, (generation, link))
+        }
+        None => InvalidationResult::InvalidPtr,
+    }
+}
+
+/// The answer of a removal that removed something.
+pub fn invalidated<T>(overflow: bool, t: T) -> InvalidationResult<T>
+    ensures { result ≡ invalidation_result overflow (Some t) }
+{
+    if overflow {
+        InvalidationResult::GenerationOverflow(t)
+    } else {
+        InvalidationResult::Success(t)
+    }
+}
+
+/// What a refused growth is to an insertion.
+pub fn insertion_error(refusal: ReallocationError) -> ChainInsertionError
+    ensures alloc { refusal ≡ ReallocationError.AllocError → result ≡ ChainInsertionError.AllocError }
+    ensures beyond { refusal ≡ ReallocationError.BeyondMaxCapacity → result ≡ ChainInsertionError.BeyondMaxCapacity }
+{
+    match refusal {
+        ReallocationError::AllocError => ChainInsertionError::AllocError,
+        ReallocationError::BeyondMaxCapacity => ChainInsertionError::BeyondMaxCapacity,
+    }
+}

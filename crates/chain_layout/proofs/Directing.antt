@@ -1,0 +1,37 @@
+-- A link that gets a destination: what the slots are then.
+use Rattle.std.proofs.Common.{◌≡◌, ℕ, Option, None, Some, refl, sym, ap, ◌∙◌, subst}
+use Rattle.std.specs.Option.{option_map}
+use Rattle.arena_base.specs.Arena.{slot_at, with_slot}
+use Rattle.arena_base.specs.Compacting.{Held, held_with_value}
+use Rattle.chain_links.specs.declared.links.LinkBody.{LinkBody}
+use Rattle.chain_layout.specs.Moving.{sent, sent_at}
+use Rattle.chain_layout.specs.Numbering.{IsNumberedAt}
+
+module _ {Gen K T : Type 0} where
+  -- a link that was written, with another destination alone
+  slot_sent : (l w : LinkBody K T) → w ≡ record l { destination = w.destination } → (o : Option (Gen × LinkBody K T)) → Some l ≡ option_map (λ (e : Gen × LinkBody K T). e.1) o
+      → option_map (λ (e : Gen × LinkBody K T). (e.0, w)) o ≡ option_map (sent w.destination) o
+  slot_sent l w rest None is = refl
+  slot_sent l w rest (Some e) is =
+      let same : l ≡ e.1 = cc in
+      ap (λ (k : LinkBody K T). let r : Option (Gen × LinkBody K T) = Some (e.0, k) in r) (rest ∙ ap (λ (k : LinkBody K T). let r : LinkBody K T = record k { destination = w.destination } in r) same)
+
+  -- .. among what is held
+  pub held_sent : (held new : Held Gen (LinkBody K T)) (i : ℕ) (l w : LinkBody K T) → Some l ≡ option_map (λ (e : Gen × LinkBody K T). e.1) (slot_at held.slots i)
+      → new ≡ held_with_value held i w → w ≡ record l { destination = w.destination } → new ≡ record held { slots = sent_at w.destination held.slots i }
+  held_sent held new i l w stands wrote rest =
+      wrote ∙ ap (λ (o : Option (Gen × LinkBody K T)). record held { slots = with_slot held.slots i o }) (slot_sent l w rest (slot_at held.slots i) stands)
+
+  -- a link that was looked at before it got a number
+  pub numbers_link : (number : K → Option ℕ) (i d : ℕ) (old looked new : Held Gen (LinkBody K T)) (l w : LinkBody K T) → looked ≡ old
+      → Some l ≡ option_map (λ (e : Gen × LinkBody K T). e.1) (slot_at looked.slots i) → new ≡ held_with_value looked i w
+      → number w.destination ≡ Some d → w ≡ record l { destination = w.destination } → IsNumberedAt number i d old new
+  numbers_link number i d old looked new l w same stands wrote is rest =
+      subst (λ (h : Held Gen (LinkBody K T)). IsNumberedAt number i d h new) same (record { destination = w.destination; is = is; held = held_sent looked new i l w stands wrote rest })
+
+  -- it is still there
+  pub still_there : (i : ℕ) (old looked : Held Gen (LinkBody K T)) (e : Gen × LinkBody K T) → looked ≡ old → Some e ≡ slot_at old.slots i
+      → None ≡ option_map (λ (x : Gen × LinkBody K T). x.1) (slot_at looked.slots i) → ⊥
+  still_there i old looked e same stands none =
+      let there : None ≡ Some e.1 = none ∙ (ap (λ (h : Held Gen (LinkBody K T)). option_map (λ (x : Gen × LinkBody K T). x.1) (slot_at h.slots i)) same ∙ sym (ap (option_map (λ (x : Gen × LinkBody K T). x.1)) stands)) in
+      cc

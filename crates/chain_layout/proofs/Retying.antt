@@ -1,0 +1,153 @@
+-- Links that name other indexes: one, and the round over all.
+use Rattle.std.proofs.Common.{◌≡◌, ℕ, zero, suc, ◌+◌, ◌*◌, ◌≤◌, ◌<◌, List, length, map, Option, None, Some, refl, sym, ap, ◌∙◌, arith}
+use Rattle.std.specs.Prelude.{count_by, is_some, take, ◌==◌, if◌then◌else◌}
+use Rattle.std.specs.Option.{option_map, option_and_then}
+use Rattle.std.proofs.Math.Decide.{ℕ_discrete}
+use Rattle.std.proofs.lemmas.List.{ext_get_or, length-map}
+use Rattle.std.proofs.lemmas.List.Sums.{sum_by_more, sum_by-take-le}
+use mathlib.Core.Path.{fun_ext}
+use Rattle.chain_laws.proofs.Agreement.{if_same, if_other}
+use Rattle.arena_base.specs.Arena.{slot_at, with_slot}
+use Rattle.arena_base.specs.Compacting.{Held, held_with_value}
+use Rattle.arena_base.proofs.Reading.{length-with_slot}
+use Rattle.chain_links.specs.declared.links.LinkBody.{LinkBody}
+use Rattle.chain_links.specs.ChainArena.{LinkSeen, on_value}
+use Rattle.chain_links.specs.Links.{seen_link, seen_pair}
+use Rattle.chain_layout.specs.Moving.{goal_of}
+use Rattle.chain_layout.specs.Numbering.{renamed_link, renamed_held, looks_at, seen_held, given, IsRenamedAt, AreRenamedTo}
+use Rattle.chain_layout.proofs.Counting.{one_if}
+use Rattle.chain_links.proofs.Mapping.{map-with_slot, slot_at-map}
+use Rattle.chain_links.proofs.Seeing.{slot_at-changed}
+
+-- a link that stands was written, but not where it is to go
+module _ {Gen K T : Type 0} (number : K → Option ℕ) (held new : Held Gen (LinkBody K T)) (i : ℕ) (l w : LinkBody K T)
+    (stands : Some l ≡ option_map (λ (e : Gen × LinkBody K T). e.1) (slot_at held.slots i)) (wrote : new ≡ held_with_value held i w) where
+  abbrev written : Option (Gen × LinkBody K T) → Option (Gen × LinkBody K T)
+  written o = option_map (λ (e : Gen × LinkBody K T). (e.0, w)) o
+
+  pub kept_given : number w.destination ≡ number l.destination → (j : ℕ) → given number new.slots j ≡ given number held.slots j
+  kept_given same j = ap (λ (h : Held Gen (LinkBody K T)). given number h.slots j) wrote ∙ by (ℕ_discrete j i)
+    where
+      at : (o : Option (Gen × LinkBody K T)) → Some l ≡ option_map (λ (e : Gen × LinkBody K T). e.1) o → option_and_then (goal_of number) (written o) ≡ option_and_then (goal_of number) o
+      at None is = refl
+      at (Some e) is =
+          let own : l ≡ e.1 = cc in
+          same ∙ ap (λ (k : LinkBody K T). number k.destination) own
+
+      by : Dec (j ≡ i) → given number (held_with_value held i w).slots j ≡ given number held.slots j
+      by (yes e) =
+          ap (option_and_then (goal_of number)) (slot_at-changed held.slots i j written refl ∙ if_same j i _ _ e)
+          ∙ at (slot_at held.slots j) (stands ∙ ap (λ (n : ℕ). option_map (λ (x : Gen × LinkBody K T). x.1) (slot_at held.slots n)) (sym e))
+      by (no differs) = ap (option_and_then (goal_of number)) (slot_at-changed held.slots i j written refl ∙ if_other j i _ _ differs)
+
+  module _ (to : ℕ → Option ℕ) (prev : number w.prev ≡ option_and_then to (number l.prev)) (next : number w.next ≡ option_and_then to (number l.next)) (value : w.t ≡ l.t) where
+    slot_renamed : (o : Option (Gen × LinkBody K T)) → Some l ≡ option_map (λ (e : Gen × LinkBody K T). e.1) o
+        → option_map (seen_pair number) (written o) ≡ option_map (on_value (renamed_link to)) (option_map (seen_pair number) o)
+    slot_renamed None is = refl
+    slot_renamed (Some e) is =
+        let own : l ≡ e.1 = cc in
+        let renamed : seen_link number w ≡ renamed_link to (seen_link number l) = λ j. record { prev = prev j; next = next j; value = value j } in
+        ap (λ (x : LinkSeen T). let r : Option (Gen × LinkSeen T) = Some (e.0, x) in r) (renamed ∙ ap (λ (k : LinkBody K T). renamed_link to (seen_link number k)) own)
+
+    seen_renamed : seen_held number new ≡ record (seen_held number held) {
+      slots = with_slot (seen_held number held).slots i (option_map (on_value (renamed_link to)) (slot_at (seen_held number held).slots i));
+    }
+    seen_renamed =
+        let slots =
+        map-with_slot (option_map (seen_pair number)) held.slots i (written (slot_at held.slots i))
+        ∙ ap (with_slot (seen_held number held).slots i) (slot_renamed (slot_at held.slots i) stands ∙ ap (option_map (on_value (renamed_link to))) (sym (slot_at-map (seen_pair number) held.slots i))) in
+        ap (λ (h : Held Gen (LinkBody K T)). seen_held number h) wrote ∙ (λ j. record (seen_held number held) { slots = slots j })
+
+-- the link at i was looked at, its neighbors were, and it was written
+pub renames_link : {Gen K T : Type 0} (number : K → Option ℕ) (i : ℕ) (old now new : Held Gen (LinkBody K T)) (e : Gen × LinkBody K T) (l m w : LinkBody K T) (before after : Option ℕ)
+    → now ≡ old → Some e ≡ slot_at old.slots i → Some l ≡ option_map (λ (x : Gen × LinkBody K T). x.1) (slot_at now.slots i) → new ≡ held_with_value now i w
+    → before ≡ option_and_then (given number old.slots) (number e.1.prev) → after ≡ option_and_then (given number old.slots) (number e.1.next)
+    → number m.prev ≡ before → m ≡ record l { prev = m.prev } → number w.next ≡ after → w ≡ record m { next = w.next } → IsRenamedAt number i old new
+renames_link {Gen} {K} {T} number i old now new e l m w before after same there stands wrote is_before is_after prev rest next left =
+    let stood : Some l ≡ option_map (λ (x : Gen × LinkBody K T). x.1) (slot_at old.slots i) = stands ∙ ap (λ (h : Held Gen (LinkBody K T)). option_map (λ (x : Gen × LinkBody K T). x.1) (slot_at h.slots i)) same in
+    let own : Some l ≡ Some e.1 = stood ∙ sym (ap (option_map (λ (x : Gen × LinkBody K T). x.1)) there) in
+    let is : e.1 ≡ l = cc in
+    let written : new ≡ held_with_value old i w = wrote ∙ ap (λ (h : Held Gen (LinkBody K T)). held_with_value h i w) same in
+    record {
+      seen = seen_renamed number old new i l w stood written (given number old.slots)
+          (ap (λ (k : LinkBody K T). number k.prev) left ∙ (prev ∙ (is_before ∙ ap (λ (k : LinkBody K T). option_and_then (given number old.slots) (number k.prev)) is)))
+          (next ∙ (is_after ∙ ap (λ (k : LinkBody K T). option_and_then (given number old.slots) (number k.next)) is))
+          (ap (λ (k : LinkBody K T). k.t) left ∙ ap (λ (k : LinkBody K T). k.t) rest);
+      kept = kept_given number old new i l w stood written (ap (λ (k : LinkBody K T). number k.destination) left ∙ ap (λ (k : LinkBody K T). number k.destination) rest);
+    }
+
+-- a link takes four looks
+pub four_looks : {X : Type 0} (o : Option X) (e : X) → Some e ≡ o → 4 ≤ looks_at o
+four_looks None e is = absurd (cc)
+four_looks (Some x) e is = omega arith
+
+module _ {Gen T : Type 0} (to : ℕ → Option ℕ) (old : List (Option (Gen × LinkSeen T))) where
+  abbrev renaming : Option (Gen × LinkSeen T) → Option (Gen × LinkSeen T)
+  renaming o = option_map (on_value (renamed_link to)) o
+
+  pub renaming_begins : AreRenamedTo to old old 0
+  renaming_begins = record { renamed = first; ahead = λ j past. refl; long = refl }
+    where
+      first : (j : ℕ) → j ≤ 0 → slot_at old j ≡ renaming (slot_at old j)
+      first zero low = refl
+      first (suc k) low = absurd (omega arith)
+
+  pub renaming_goes_on : (now next : List (Option (Gen × LinkSeen T))) (k i : ℕ) → i ≡ k + 1 → AreRenamedTo to old now k → next ≡ with_slot now i (renaming (slot_at now i)) → AreRenamedTo to old next (k + 1)
+  renaming_goes_on now next k i is was wrote = record {
+    renamed = λ j low. at j ∙ by j low (ℕ_discrete j i);
+    ahead = λ j past. at j ∙ (if_other j i _ _ (λ e. absurd (omega (arith, e, is, past))) ∙ was.ahead j (omega (arith, past)));
+    long = ap (λ (s : List (Option (Gen × LinkSeen T))). length s) wrote ∙ (length-with_slot now i (renaming (slot_at now i)) ∙ was.long);
+  }
+    where
+      at : (j : ℕ) → slot_at next j ≡ (if j == i then renaming (slot_at now j) else slot_at now j)
+      at j = ap (λ (s : List (Option (Gen × LinkSeen T))). slot_at s j) wrote ∙ slot_at-changed now i j renaming refl
+
+      by : (j : ℕ) → j ≤ k + 1 → Dec (j ≡ i) → (if j == i then renaming (slot_at now j) else slot_at now j) ≡ renaming (slot_at old j)
+      by j low (yes e) = if_same j i _ _ e ∙ ap renaming (was.ahead j (omega (arith, e, is)))
+      by j low (no differs) = if_other j i _ _ differs ∙ was.renamed j (omega arith)
+
+  pub renaming_ends : (now : List (Option (Gen × LinkSeen T))) → AreRenamedTo to old now (length old) → now ≡ map renaming old
+  renaming_ends now was =
+      ext_get_or None now (map renaming old) (was.long ∙ sym (length-map old renaming))
+      (λ k inside. was.renamed (suc k) (omega (arith, inside, was.long)) ∙ sym (slot_at-map (on_value (renamed_link to)) old (suc k)))
+
+-- .. and so for what is held
+pub all_renamed : {Gen T : Type 0} (to : ℕ → Option ℕ) (old now : Held Gen (LinkSeen T)) → AreRenamedTo to old.slots now.slots (length old.slots) → now.stack_capacity ≡ old.stack_capacity → now.maximum ≡ old.maximum
+    → now ≡ renamed_held to old
+all_renamed to old now was capacity maximum = let slots = renaming_ends to old.slots now.slots was in λ j. record { slots = slots j; stack_capacity = capacity j; maximum = maximum j }
+
+-- the destinations stay, so the links go on to be named by the same
+pub one_more_renamed : {Gen K T : Type 0} (number : K → Option ℕ) (old now next : Held Gen (LinkBody K T)) (k i : ℕ) → i ≡ k + 1 → ((j : ℕ) → given number now.slots j ≡ given number old.slots j)
+    → AreRenamedTo (given number old.slots) (seen_held number old).slots (seen_held number now).slots k → IsRenamedAt number i now next
+    → AreRenamedTo (given number old.slots) (seen_held number old).slots (seen_held number next).slots (k + 1)
+one_more_renamed {Gen} {K} {T} number old now next k i is kept was one =
+    renaming_goes_on (given number old.slots) (seen_held number old).slots (seen_held number now).slots (seen_held number next).slots k i is was
+    (ap (λ (h : Held Gen (LinkSeen T)). h.slots) one.seen
+    ∙ ap (λ (to : ℕ → Option ℕ). with_slot (seen_held number now).slots i (option_map (on_value (renamed_link to)) (slot_at (seen_held number now).slots i))) (fun_ext kept))
+
+-- how many looks it takes
+module _ {X Y : Type 0} (f : X → Y) (old now : List (Option X)) where
+  looks_seen : (o : Option X) → looks_at (option_map f o) ≡ looks_at o
+  looks_seen None = refl
+  looks_seen (Some x) = refl
+
+  looks_one : (o : Option X) → looks_at o ≡ 1 + 3 * one_if (is_some o)
+  looks_one None = refl
+  looks_one (Some x) = refl
+
+  pub looks_more : (k i : ℕ) → i ≡ k + 1 → k < length old → slot_at (map (option_map f) now) i ≡ slot_at (map (option_map f) old) i
+      → (k + 3 * count_by is_some (take k old)) + looks_at (slot_at now i) ≤ (k + 1) + 3 * count_by is_some (take (k + 1) old)
+  looks_more k i is inside same =
+      let at : suc k ≡ i = omega (arith, is) in
+      let looks : looks_at (slot_at now i) ≡ looks_at (slot_at old (suc k)) =
+      sym (looks_seen (slot_at now i)) ∙ (sym (ap (λ (o : Option Y). looks_at o) (slot_at-map f now i)) ∙ (ap (λ (o : Option Y). looks_at o) same
+      ∙ (ap (λ (o : Option Y). looks_at o) (slot_at-map f old i) ∙ (looks_seen (slot_at old i) ∙ ap (λ (n : ℕ). looks_at (slot_at old n)) (sym at))))) in
+      let one : looks_at (slot_at old (suc k)) ≡ 1 + 3 * one_if (is_some (slot_at old (suc k))) = looks_one (slot_at old (suc k)) in
+      let more : count_by is_some (take (k + 1) old) ≡ count_by is_some (take k old) + one_if (is_some (slot_at old (suc k))) = sum_by_more (λ (o : Option X). one_if (is_some o)) old k None inside in
+      omega arith
+
+-- at the end these are the looks for all
+pub looks_all : {X : Type 0} (xs : List (Option X)) (k : ℕ) → k ≤ length xs → k + 3 * count_by is_some (take k xs) ≤ length xs + 3 * count_by is_some xs
+looks_all {X} xs k inside =
+    let part : count_by is_some (take k xs) ≤ count_by is_some xs = sum_by-take-le (λ (o : Option X). one_if (is_some o)) xs k in
+    omega arith

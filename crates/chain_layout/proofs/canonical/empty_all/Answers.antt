@@ -1,0 +1,41 @@
+-- One more has no destination, and at the end none has.
+use Rattle.std.proofs.Common.{◌≡◌, length, refl, ap, ◌∙◌, arith}
+use Rattle.arena_base.specs.Closing.{with_totals}
+use Rattle.chain_layout.proofs.Emptying.{emptying_begins, emptying_goes_on, emptying_ends, touches_none, touches_more}
+use Rattle.chain_layout.proofs.Tallying.{counts_none, counts_then}
+use Rattle.chain_layout.proofs.canonical.empty_all.Goals as goal
+
+pub loop-k-init : goal.loop-k-init
+loop-k-init g c =
+    let old = c.args.compactor.now in
+    record {
+      same_reference = refl;
+      seen = refl;
+      empty = emptying_begins g.P.Inx.PtrInx.packed_number old.held.slots;
+      totals = touches_none old.arena.now;
+      counts = counts_none old.arena.now old.placed old.touched;
+    }
+
+pub loop-k-preserved : goal.loop-k-preserved
+loop-k-preserved g c =
+    let inv = c.loop-k.invariant in
+    let after = c.empty_at.ensures in
+    record {
+      same_reference = after.same_reference ∙ inv.same_reference;
+      seen = after.seen ∙ inv.seen;
+      empty = emptying_goes_on g.P.Inx.PtrInx.packed_number c.loop-k.compactor.held.slots c.empty_at.new.compactor.held.slots c.loop-k.k (g.P.Inx.PtrInx.number c.inx_at.result) c.inx_at.ensures
+          inv.empty after.empty after.others;
+      totals = touches_more c.args.compactor.now.arena.now c.loop-k.compactor.arena.now c.empty_at.new.compactor.arena.now c.loop-k.k inv.totals after.arena;
+      counts = counts_then _ _ _ _ _ _ _ _ _ inv.counts after.counts;
+    }
+
+pub returns-clause-empty : goal.returns-clause-empty
+returns-clause-empty g c =
+    let inv = c.loop-k.invariant in
+    let all : c.loop-k.k ≡ length c.args.compactor.now.held.slots = omega arith in
+    emptying_ends g.P.Inx.PtrInx.packed_number c.args.compactor.now.held c.loop-k.compactor.held inv.seen (λ j low. inv.empty j (omega (arith, low, all)))
+
+pub returns-clause-totals : goal.returns-clause-totals
+returns-clause-totals g c =
+    let all : c.loop-k.k ≡ length c.args.compactor.now.held.slots = omega arith in
+    c.loop-k.invariant.totals ∙ ap (with_totals c.args.compactor.now.arena.now 0) all

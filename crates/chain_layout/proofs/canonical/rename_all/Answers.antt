@@ -1,0 +1,64 @@
+-- One more is renamed, and at the end all are.
+use Rattle.std.proofs.Common.{◌≡◌, ◌<◌, ◌≤◌, length, refl, ap, ◌∙◌, subst, arith}
+use Rattle.std.specs.Option.{option_map}
+use Rattle.std.proofs.lemmas.List.{length-map}
+use Rattle.chain_links.specs.Links.{seen_pair}
+use Rattle.chain_layout.specs.Numbering.{seen_held, given, AreRenamedTo}
+use Rattle.chain_layout.proofs.HeldLinks.{work-none, work-more}
+use Rattle.chain_layout.proofs.Retying.{renaming_begins, one_more_renamed, all_renamed, looks_more, looks_all}
+use Rattle.chain_layout.proofs.Tallying.{counts_none, counts_then}
+use Rattle.chain_layout.proofs.canonical.rename_all.Goals as goal
+
+pub loop-k-init : goal.loop-k-init
+loop-k-init g c =
+    let packed_number = g.P.Inx.PtrInx.packed_number in
+    let old = c.args.compactor.now in
+    record {
+      same_reference = refl;
+      renamed = renaming_begins (given packed_number old.held.slots) (seen_held packed_number old.held).slots;
+      capacity = refl;
+      maximum = refl;
+      kept = λ j. refl;
+      work = work-none old.arena.now _;
+      counts = counts_none old.arena.now old.placed old.touched;
+    }
+
+pub loop-k-preserved : goal.loop-k-preserved
+loop-k-preserved g c =
+    let packed_number = g.P.Inx.PtrInx.packed_number in
+    let old = c.args.compactor.now in
+    let now = c.loop-k.compactor in
+    let next = c.rename_at.new.compactor in
+    let i = g.P.Inx.PtrInx.number c.inx_at.result in
+    let inv = c.loop-k.invariant in
+    let after = c.rename_at.ensures in
+    let inside : c.loop-k.k < length old.held.slots = omega arith in
+    record {
+      same_reference = after.same_reference ∙ inv.same_reference;
+      renamed = one_more_renamed packed_number old.held now.held next.held c.loop-k.k i c.inx_at.ensures inv.kept inv.renamed after.renamed;
+      capacity = ap (λ h. h.stack_capacity) after.renamed.seen ∙ inv.capacity;
+      maximum = ap (λ h. h.maximum) after.renamed.seen ∙ inv.maximum;
+      kept = λ j. after.renamed.kept j ∙ inv.kept j;
+      work = work-more inv.work after.work 0 _ refl
+          (looks_more (seen_pair packed_number) old.held.slots now.held.slots c.loop-k.k i c.inx_at.ensures inside (inv.renamed.ahead i (omega (arith, c.inx_at.ensures))));
+      counts = counts_then _ _ _ _ _ _ _ _ _ inv.counts after.counts;
+    }
+
+pub returns-clause-renamed : goal.returns-clause-renamed
+returns-clause-renamed g c =
+    let packed_number = g.P.Inx.PtrInx.packed_number in
+    let old = c.args.compactor.now.held in
+    let now = c.loop-k.compactor.held in
+    let inv = c.loop-k.invariant in
+    let all : c.loop-k.k ≡ length (seen_held packed_number old).slots = omega (arith, length-map old.slots (option_map (seen_pair packed_number))) in
+    all_renamed (given packed_number old.slots) (seen_held packed_number old) (seen_held packed_number now)
+    (subst (AreRenamedTo (given packed_number old.slots) (seen_held packed_number old).slots (seen_held packed_number now).slots) all inv.renamed) inv.capacity inv.maximum
+
+pub returns-clause-kept : goal.returns-clause-kept
+returns-clause-kept g c = c.loop-k.invariant.kept
+
+pub returns-clause-work : goal.returns-clause-work
+returns-clause-work g c =
+    let old = c.args.compactor.now in
+    let inside : c.loop-k.k ≤ length old.held.slots = omega arith in
+    work-more c.loop-k.invariant.work (work-none c.loop-k.compactor.arena.now 0) 0 _ refl (omega (arith, looks_all old.held.slots c.loop-k.k inside))

@@ -1,0 +1,66 @@
+-- One more slot is passed, and at the end all are.
+use Rattle.std.proofs.Common.{◌≡◌, length, refl, ◌∙◌, subst, arith}
+use Rattle.chain_layout.specs.Moving.{ArePassed, waiting, goal_of, Settles, IsWorkOn}
+use Rattle.chain_layout.proofs.Counting.{waiting-all}
+use Rattle.chain_layout.proofs.Settling.{settled_rests}
+use Rattle.chain_layout.proofs.Passing.{passing_begins, passing_goes_on, passing_ends, passing_leaves_none, work_on-begins, work_on-after, work_on-ends}
+use Rattle.chain_layout.proofs.Tallying.{counts_none, counts_then}
+use Rattle.chain_layout.proofs.moving.move_all.Goals as goal
+
+pub loop-k-init : goal.loop-k-init
+loop-k-init g c =
+    let packed_number = g.P.Inx.PtrInx.packed_number in
+    let old = c.args.compactor.now in
+    record {
+      same_reference = refl;
+      passed = passing_begins (goal_of packed_number) (Settles packed_number c.args.generation) (settled_rests packed_number c.args.generation) old.held.slots c.requires.can;
+      capacity = refl;
+      maximum = refl;
+      work = work_on-begins old.arena.now (waiting (goal_of packed_number) old.held.slots);
+      counts = counts_none old.arena.now old.placed old.touched;
+    }
+
+pub settle-requires-clause-within : goal.settle-requires-clause-within
+settle-requires-clause-within g c = c.loop-k.invariant.passed.within
+
+pub settle-requires-clause-index : goal.settle-requires-clause-index
+settle-requires-clause-index g c = omega (arith, c.loop-k.invariant.passed.length, c.inx_at.ensures)
+
+pub loop-k-preserved : goal.loop-k-preserved
+loop-k-preserved g c =
+    let packed_number = g.P.Inx.PtrInx.packed_number in
+    let inv = c.loop-k.invariant in
+    let after = c.settle.ensures in
+    let old = c.args.compactor.now in
+    let now = c.loop-k.compactor in
+    let next = c.settle.new.compactor in
+    record {
+      same_reference = after.same_reference ∙ inv.same_reference;
+      passed = passing_goes_on (goal_of packed_number) (Settles packed_number c.args.generation) (settled_rests packed_number c.args.generation) old.held.slots now.held.slots next.held.slots
+          c.loop-k.k (g.P.Inx.PtrInx.number c.inx_at.result) inv.passed c.inx_at.ensures after.settles after.none;
+      capacity = after.capacity ∙ inv.capacity;
+      maximum = after.maximum ∙ inv.maximum;
+      work = work_on-after old.arena.now now.arena.now next.arena.now _ _ _ _ _ inv.work after.work;
+      counts = counts_then _ _ _ _ _ _ _ _ _ inv.counts after.counts;
+    }
+
+pub returns-clause-moved : goal.returns-clause-moved
+returns-clause-moved g c =
+    let packed_number = g.P.Inx.PtrInx.packed_number in
+    let old = c.args.compactor.now.held.slots in
+    let now = c.loop-k.compactor.held.slots in
+    let all : c.loop-k.k ≡ length old = omega arith in
+    passing_ends (goal_of packed_number) (Settles packed_number c.args.generation) (settled_rests packed_number c.args.generation) old now
+    (subst (ArePassed (goal_of packed_number) (Settles packed_number c.args.generation) old now) all c.loop-k.invariant.passed)
+
+pub returns-clause-totals : goal.returns-clause-totals
+returns-clause-totals g c =
+    let packed_number = g.P.Inx.PtrInx.packed_number in
+    let old = c.args.compactor.now in
+    let now = c.loop-k.compactor in
+    let all : c.loop-k.k ≡ length old.held.slots = omega arith in
+    work_on-ends old.arena.now now.arena.now _ _ _ (length old.held.slots)
+    (subst (IsWorkOn old.arena.now now.arena.now (waiting (goal_of packed_number) old.held.slots) (waiting (goal_of packed_number) now.held.slots)) all c.loop-k.invariant.work)
+    (passing_leaves_none (goal_of packed_number) (Settles packed_number c.args.generation) (settled_rests packed_number c.args.generation) old.held.slots now.held.slots
+    (subst (ArePassed (goal_of packed_number) (Settles packed_number c.args.generation) old.held.slots now.held.slots) all c.loop-k.invariant.passed))
+    (waiting-all (goal_of packed_number) old.held.slots c.requires.can.each)

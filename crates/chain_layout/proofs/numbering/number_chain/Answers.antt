@@ -1,0 +1,79 @@
+-- The walk has room for one link more, and goes on.
+use Rattle.std.proofs.Common.{◌<◌, ℕ, List, length, Some, refl, sym, ap, ◌∙◌, subst, arith}
+use Rattle.std.specs.Option.{option_map}
+use Rattle.chain_laws.specs.Chains.{Chain}
+use Rattle.chain_layout.specs.Numbering.{CanNumber}
+use Rattle.chain_layout.proofs.Tallying.{counts_none, counts_then}
+use Rattle.chain_layout.proofs.Numbered.{IsWalking, length-seen, sent-seen, walk_begins, walk_ends, walk_room, walk_answers, walk_goes_on}
+use Rattle.chain_layout.proofs.numbering.number_chain.Goals.{In-Some}
+use Rattle.chain_layout.proofs.numbering.number_chain.Given.{Over}
+use Rattle.chain_layout.proofs.numbering.number_chain.Goals as goal
+
+-- the walk at its next link
+walk_at : (g : Over) (c : In-Some g) (done : List ℕ) (l : Chain) → CanNumber g.P.Inx.PtrInx.packed_number c.args.compactor.now.held.slots (g.P.Inx.PtrInx.number c.args.start) c.args.before done l
+    → IsWalking g.P.Inx.PtrInx.packed_number g.V.Visitor.sees g.P.Ptr.key c.args.generation c.args.visitor c.loop-on.visitor c.args.compactor.now.held.slots c.loop-on.compactor.held.slots
+    c.args.compactor.now.arena.now c.loop-on.compactor.arena.now c.loop-on.count (Some (g.P.Inx.PtrInx.number c.in-Some.i)) done l
+walk_at g c done l can =
+    subst (λ o. IsWalking g.P.Inx.PtrInx.packed_number g.V.Visitor.sees g.P.Ptr.key c.args.generation c.args.visitor c.loop-on.visitor c.args.compactor.now.held.slots c.loop-on.compactor.held.slots
+    c.args.compactor.now.arena.now c.loop-on.compactor.arena.now c.loop-on.count (option_map g.P.Inx.PtrInx.number o) done l)
+    c.in-Some.is (c.loop-on.invariant.walks done l can)
+
+-- there is room for it
+room_at : (g : Over) (c : In-Some g) → c.loop-on.count < length c.args.compactor.now.held.slots
+room_at g c =
+    let can = c.requires.can in
+    walk_room _ _ _ _ _ c.args.compactor.now.held _ _ _ can.0 can.1 can.2 _ c.loop-on.compactor.held _ _ _ (walk_at g c can.0 can.1 can.2)
+
+pub loop-on-init : goal.loop-on-init
+loop-on-init g c =
+    let now = c.args.compactor.now in
+    record {
+      ready = c.requires.ready;
+      same_reference = refl;
+      seen = refl;
+      walks = λ done l can. walk_begins g.P.Inx.PtrInx.packed_number g.V.Visitor.sees g.P.Ptr.key c.args.generation c.args.visitor now.held now.arena.now _ c.args.before done l can;
+      counts = counts_none now.arena.now now.placed now.touched;
+    }
+
+pub inx_at-destination-requires : goal.inx_at-destination-requires
+inx_at-destination-requires g c = omega (arith, room_at g c, c.requires.fits)
+
+pub unreachable-requires : goal.unreachable-requires
+unreachable-requires g c =
+    let next = (goal.at.unreachable-requires g c).In-Some in
+    let can = c.requires.can in
+    walk_answers _ _ _ _ _ c.args.compactor.now.held _ _ _ can.0 can.1 can.2 _ c.loop-on.compactor.held _ _ _ (walk_at g next can.0 can.1 can.2) c.loop-on.invariant.seen
+    (sym (ap (option_map (λ r. r.0)) c.in-None.is) ∙ c.number_at.ensures.generation)
+
+pub loop-on-smaller : goal.loop-on-smaller
+loop-on-smaller g c =
+    let next = (goal.at.loop-on-smaller g c).In-Some in
+    let number = g.P.Inx.PtrInx.packed_number in
+    let long = length-seen number c.number_at.new.compactor.held c.loop-on.compactor.held (sent-seen number _ _ c.loop-on.compactor.held c.number_at.new.compactor.held c.in-Some-number_at.ensures.numbered) in
+    let as_first = length-seen number c.loop-on.compactor.held c.args.compactor.now.held c.loop-on.invariant.seen in
+    omega (arith, room_at g next, long, as_first)
+
+pub loop-on-preserved : goal.loop-on-preserved
+loop-on-preserved g c =
+    let next = (goal.at.loop-on-preserved g c).In-Some in
+    let number = g.P.Inx.PtrInx.packed_number in
+    let at = c.loop-on.invariant in
+    let sent = c.in-Some-number_at.ensures in
+    record {
+      ready = c.visit.ensures.ready;
+      same_reference = sent.same_reference ∙ at.same_reference;
+      seen = sent-seen number _ _ c.loop-on.compactor.held c.number_at.new.compactor.held sent.numbered ∙ at.seen;
+      walks = λ done l can.
+          walk_goes_on _ _ _ _ _ c.args.compactor.now.held _ _ _ done l can _ c.loop-on.compactor.held _ _ _ (walk_at g next done l can) at.seen
+          _ c.number_at.new.compactor.held _ _ _ _ c._from_raw.result c._from_raw-in-Some-number_at.result _
+          sent.numbered c.inx_at-destination.ensures sent.work sent.generation sent.next c.on_unless_round-on.ensures
+          c._from_raw.ensures c._from_raw-in-Some-number_at.ensures c.visit.ensures.seen;
+      counts = counts_then _ _ _ _ _ _ _ _ _ at.counts sent.counts;
+    }
+
+pub returns-clause-numbered : goal.returns-clause-numbered
+returns-clause-numbered g c done l can =
+    walk_ends _ _ _ _ _ c.args.compactor.now.held _ _ _ done l can _ c.loop-on.compactor.held _ _
+    (subst (λ o. IsWalking g.P.Inx.PtrInx.packed_number g.V.Visitor.sees g.P.Ptr.key c.args.generation c.args.visitor c.loop-on.visitor c.args.compactor.now.held.slots c.loop-on.compactor.held.slots
+    c.args.compactor.now.arena.now c.loop-on.compactor.arena.now c.loop-on.count (option_map g.P.Inx.PtrInx.number o) done l)
+    c.in_default.is (c.loop-on.invariant.walks done l can))

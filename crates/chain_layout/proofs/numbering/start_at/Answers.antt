@@ -1,0 +1,91 @@
+-- One step back more, the start of a linear chain, and once round a cyclic one.
+use Rattle.std.proofs.Common.{◌≡◌, Bool, true, false, Some, refl, sym, ap, ◌∙◌, arith, of_calls}
+use Rattle.chain_laws.specs.Chains.{prev_of}
+use Rattle.chain_laws.proofs.Backing.{back_begins, back_goes_on, back_ends, back_comes_round}
+use Rattle.chain_layout.specs.HeldLinks.{shown_in}
+use Rattle.chain_layout.proofs.Backtracking.{looks_linear, looks_cyclic, back_within}
+use Rattle.chain_layout.proofs.HeldLinks.{work-none, work-touched, work-more}
+use Rattle.chain_layout.proofs.Tallying.{counts_none, counts_then}
+use Rattle.chain_layout.proofs.numbering.start_at.Goals as goal
+
+not_both : (b : Bool) → b ≡ true → b ≡ false → ⊥
+not_both b e f = cc
+
+pub loop-step-init : goal.loop-step-init
+loop-step-init g c =
+    let old = c.args.compactor.now in
+    record {
+      same_reference = refl;
+      held = refl;
+      back = back_begins (shown_in g.P.Inx.PtrInx.packed_number old.held.slots) (g.P.Inx.PtrInx.number c.args.i);
+      work = work-none old.arena.now 0;
+      counts = counts_none old.arena.now old.placed old.touched;
+    }
+
+pub returns-then-eq-clause-start : goal.returns-then-eq-clause-start
+returns-then-eq-clause-start g c =
+    let number = g.P.Inx.PtrInx.number in
+    let packed_number = g.P.Inx.PtrInx.packed_number in
+    let at = c.loop-step.invariant in
+    let told : c.eq.result ≡ g.P.Inx.PartialEq.eq c.in-Some.k c.args.i = search of_calls in
+    let same = (g.met.P.Inx.PtrInx.eq_is_same c.in-Some.k c.args.i).0 (sym told ∙ c.if-eq.true) in
+    back_comes_round (shown_in packed_number c.args.compactor.now.held.slots) (number c.args.i) c.loop-step.step (number c.loop-step.at) at.back
+    (sym (ap (λ h. prev_of (shown_in packed_number h.slots) (number c.loop-step.at)) at.held) ∙ (sym c.in-Some.ensures.answer ∙ ap (λ k. Some (number k)) same))
+
+pub returns-then-eq-clause-linear : goal.returns-then-eq-clause-linear
+returns-then-eq-clause-linear g c xs h m =
+    let number = g.P.Inx.PtrInx.number in
+    let at = c.loop-step.invariant in
+    let few = looks_linear (shown_in g.P.Inx.PtrInx.packed_number c.args.compactor.now.held.slots) (number c.args.i) c.loop-step.step (number c.loop-step.at) at.back xs h m in
+    work-more at.work (work-touched _ _ c.before_at.ensures.arena) 0 _ refl few
+
+pub returns-then-eq-clause-cyclic : goal.returns-then-eq-clause-cyclic
+returns-then-eq-clause-cyclic g c xs h =
+    let number = g.P.Inx.PtrInx.number in
+    let at = c.loop-step.invariant in
+    let few = looks_cyclic (shown_in g.P.Inx.PtrInx.packed_number c.args.compactor.now.held.slots) (number c.args.i) c.loop-step.step (number c.loop-step.at) at.back xs h in
+    work-more at.work (work-touched _ _ c.before_at.ensures.arena) 0 _ refl few
+
+pub returns-in-None-clause-start : goal.returns-in-None-clause-start
+returns-in-None-clause-start g c =
+    let number = g.P.Inx.PtrInx.number in
+    let packed_number = g.P.Inx.PtrInx.packed_number in
+    let at = c.loop-step.invariant in
+    back_ends (shown_in packed_number c.args.compactor.now.held.slots) (number c.args.i) c.loop-step.step (number c.loop-step.at) at.back
+    (sym (ap (λ h. prev_of (shown_in packed_number h.slots) (number c.loop-step.at)) at.held) ∙ sym c.in-None.ensures.answer)
+
+pub returns-in-None-clause-linear : goal.returns-in-None-clause-linear
+returns-in-None-clause-linear g c xs h m =
+    let number = g.P.Inx.PtrInx.number in
+    let at = c.loop-step.invariant in
+    let few = looks_linear (shown_in g.P.Inx.PtrInx.packed_number c.args.compactor.now.held.slots) (number c.args.i) c.loop-step.step (number c.loop-step.at) at.back xs h m in
+    work-more at.work (work-touched _ _ c.before_at.ensures.arena) 0 _ refl few
+
+pub returns-in-None-clause-cyclic : goal.returns-in-None-clause-cyclic
+returns-in-None-clause-cyclic g c xs h =
+    let number = g.P.Inx.PtrInx.number in
+    let at = c.loop-step.invariant in
+    let few = looks_cyclic (shown_in g.P.Inx.PtrInx.packed_number c.args.compactor.now.held.slots) (number c.args.i) c.loop-step.step (number c.loop-step.at) at.back xs h in
+    work-more at.work (work-touched _ _ c.before_at.ensures.arena) 0 _ refl few
+
+pub loop-step-preserved : goal.loop-step-preserved
+loop-step-preserved g c =
+    let number = g.P.Inx.PtrInx.number in
+    let packed_number = g.P.Inx.PtrInx.packed_number in
+    let at = c.loop-step.invariant in
+    let told : c.eq.result ≡ g.P.Inx.PartialEq.eq c.in-Some.k c.args.i = search of_calls in
+    record {
+      same_reference = c.before_at.ensures.same_reference ∙ at.same_reference;
+      held = c.before_at.ensures.held ∙ at.held;
+      back = back_goes_on (shown_in packed_number c.args.compactor.now.held.slots) (number c.args.i) c.loop-step.step (number c.loop-step.at) (number c.in-Some.k) at.back
+          (sym (ap (λ h. prev_of (shown_in packed_number h.slots) (number c.loop-step.at)) at.held) ∙ sym c.in-Some.ensures.answer)
+          (λ e. not_both _ ((g.met.P.Inx.PtrInx.eq_is_same c.in-Some.k c.args.i).1 (g.met.P.Inx.PtrInx.same_number c.in-Some.k c.args.i e)) (sym told ∙ c.if-eq.false));
+      work = work-more at.work (work-touched _ _ c.before_at.ensures.arena) 0 _ refl (omega arith);
+      counts = counts_then _ _ _ _ _ _ _ _ _ at.counts c.before_at.ensures.counts;
+    }
+
+pub unreachable-requires : goal.unreachable-requires
+unreachable-requires g c =
+    let number = g.P.Inx.PtrInx.number in
+    let few = back_within g.P.Inx.PtrInx.packed_number c.args.compactor.now.held.slots (number c.args.i) c.loop-step.step (number c.loop-step.at) c.requires.agree c.requires.valid c.loop-step.invariant.back in
+    omega (arith, few)

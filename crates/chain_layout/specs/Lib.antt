@@ -1,0 +1,6 @@
+pub mod Compressions
+pub mod HeldLinks
+pub mod Layouts
+pub mod Counts
+pub mod Moving
+pub mod Numbering

@@ -1,0 +1,8 @@
+//! Passes over a plain arena of links that give links other indexes: gaps closed, and chains laid out one after another.
+#![tactic(auto)]
+
+pub mod canonical;
+pub mod compress;
+mod moving;
+mod numbering;
+pub mod visiting;

@@ -1,0 +1,184 @@
+// Links numbered: the chains by their least index, each linear one from its start, each cyclic one from its least index.
+ghost use Rattle.std.specs.Prelude.{◌≡◌, ◌≤◌, ℕ, ◌+◌, ◌*◌, length, List, ◌∷◌, Option, None, Some, IfSome, OnSome, IfNone};
+ghost use Rattle.std.specs.Option.{option_map};
+ghost use Rattle.chain_laws.specs.Chains.{Chain, linear, cyclic, items, Has, IsChain, IsValid, Agrees, prev_of, next_of};
+ghost use Rattle.chain_laws.specs.Starts.{IsStart};
+ghost use Rattle.chain_laws.specs.Walks.{going_on};
+ghost use Rattle.arena_base.specs.Arena.{slot_at};
+ghost use Rattle.arena_base.specs.Compacting.{with_touch};
+ghost use Rattle.arena_base.specs.Closing.{with_totals};
+ghost use Rattle.chain_layout.specs.HeldLinks.{shown_in, IsWork};
+ghost use Rattle.chain_layout.specs.Counts.{CountsOn};
+ghost use Rattle.chain_layout.specs.Moving.{sent_at};
+ghost use Rattle.chain_layout.specs.Numbering.{seen_held, given, is_fresh, CanNumber, IsNumberedAt, IsChainNumbered, AreAllNumbered};
+
+use crate::visiting::Visitor;
+use arena_base::{ArenaSlot, Compactor, SlotAccess, inx_at};
+use arena_ptr::{Ptr, PtrInx, SlotStack};
+use chain_links::LinkNoGen;
+
+// Whether a link without a destination stands at an index.
+fn is_fresh_at<P: Ptr, T: Drop, S: SlotStack<Item = ArenaSlot<P, LinkNoGen<P, T>>>>(
+    compactor: &mut Compactor<'_, P, LinkNoGen<P, T>, S>,
+    i: P::Inx,
+) -> bool
+    ensures same_reference { compactor.new.arena.ghost_name ≡ compactor.old.arena.ghost_name }
+    ensures answer { result ≡ is_fresh P.Inx.packed_number (slot_at compactor.old.held.slots (P.Inx.number i)) }
+    ensures held { compactor.new.held ≡ compactor.old.held }
+    ensures arena { compactor.new.arena.now ≡ with_touch compactor.old.arena.now }
+    ensures counts { CountsOn compactor.old.arena.now compactor.new.arena.now compactor.old.placed compactor.old.touched compactor.new.placed compactor.new.touched }
+{
+    match compactor.peek(i) {
+        Some((_, link)) => link.destination().is_none(),
+        None => false,
+    }
+}
+
+// The index of the link before the one at an index.
+fn before_at<P: Ptr, T: Drop, S: SlotStack<Item = ArenaSlot<P, LinkNoGen<P, T>>>>(
+    compactor: &mut Compactor<'_, P, LinkNoGen<P, T>, S>,
+    i: P::Inx,
+) -> Option<P::Inx>
+    ensures same_reference { compactor.new.arena.ghost_name ≡ compactor.old.arena.ghost_name }
+    ensures answer { option_map P.Inx.number result ≡ prev_of (shown_in P.Inx.packed_number compactor.old.held.slots) (P.Inx.number i) }
+    ensures held { compactor.new.held ≡ compactor.old.held }
+    ensures arena { compactor.new.arena.now ≡ with_touch compactor.old.arena.now }
+    ensures counts { CountsOn compactor.old.arena.now compactor.new.arena.now compactor.old.placed compactor.old.touched compactor.new.placed compactor.new.touched }
+{
+    match compactor.peek(i) {
+        Some((_, link)) => link.prev(),
+        None => None,
+    }
+}
+
+// The link that the chain of one is written from: the start of a linear one, and itself in a cyclic one. There are no
+// more looks than links in the chain.
+fn start_at<P: Ptr, T: Drop, S: SlotStack<Item = ArenaSlot<P, LinkNoGen<P, T>>>>(
+    compactor: &mut Compactor<'_, P, LinkNoGen<P, T>, S>,
+    i: P::Inx,
+) -> P::Inx
+    requires agree { Agrees (shown_in P.Inx.packed_number compactor.old.held.slots) }
+    requires valid { IsValid (shown_in P.Inx.packed_number compactor.old.held.slots) (P.Inx.number i) }
+    ensures same_reference { compactor.new.arena.ghost_name ≡ compactor.old.arena.ghost_name }
+    ensures start { IsStart (shown_in P.Inx.packed_number compactor.old.held.slots) (P.Inx.number i) (P.Inx.number result) }
+    ensures held { compactor.new.held ≡ compactor.old.held }
+    ensures linear { (xs : List ℕ) → IsChain (shown_in P.Inx.packed_number compactor.old.held.slots) (linear xs) → Has xs (P.Inx.number i)
+        → IsWork compactor.old.arena.now compactor.new.arena.now 0 (length xs) }
+    ensures cyclic { (xs : List ℕ) → IsChain (shown_in P.Inx.packed_number compactor.old.held.slots) (cyclic (P.Inx.number i ∷ xs))
+        → IsWork compactor.old.arena.now compactor.new.arena.now 0 (length xs + 1) }
+    ensures counts { CountsOn compactor.old.arena.now compactor.new.arena.now compactor.old.placed compactor.old.touched compactor.new.placed compactor.new.touched }
+{
+    let mut at = i;
+    for step in 0..compactor.slots() {
+        match before_at(compactor, at) {
+            Some(k) => {
+                if k == i {
+                    return i;
+                }
+                at = k;
+            }
+            None => return at,
+        }
+    }
+    unreachable!()
+}
+
+// Gives the link at an index, if one stands there, a destination. Answers its generation and the index of the link after
+// it.
+fn number_at<P: Ptr, T: Drop, S: SlotStack<Item = ArenaSlot<P, LinkNoGen<P, T>>>>(
+    compactor: &mut Compactor<'_, P, LinkNoGen<P, T>, S>,
+    i: P::Inx,
+    destination: P::Inx,
+) -> Option<(P::Gen, Option<P::Inx>)>
+    ensures same_reference { compactor.new.arena.ghost_name ≡ compactor.old.arena.ghost_name }
+    ensures generation { option_map (λ r. r.0) result ≡ option_map (λ e. e.0) (slot_at compactor.old.held.slots (P.Inx.number i)) }
+    ensures next { IfSome result (λ r. option_map P.Inx.number r.1 ≡ next_of (shown_in P.Inx.packed_number compactor.old.held.slots) (P.Inx.number i)) }
+    ensures numbered { OnSome result (IsNumberedAt P.Inx.packed_number (P.Inx.number i) (P.Inx.number destination) compactor.old.held compactor.new.held) }
+    ensures none { IfNone result (compactor.new.held ≡ compactor.old.held) }
+    ensures work { IsWork compactor.old.arena.now compactor.new.arena.now 0 2 }
+    ensures counts { CountsOn compactor.old.arena.now compactor.new.arena.now compactor.old.placed compactor.old.touched compactor.new.placed compactor.new.touched }
+{
+    let (generation, next) = match compactor.peek(i) {
+        Some((generation, link)) => (*generation, link.next()),
+        None => return None,
+    };
+    if let Some(link) = compactor.value_mut(i) {
+        link.set_destination(Some(destination));
+    }
+    Some((generation, next))
+}
+
+// Where a walk goes on to, unless it has come round to its start.
+fn on_unless_round<I: PtrInx>(start: I, next: Option<I>) -> Option<I>
+    ensures { option_map I.number result ≡ going_on (I.number start) (option_map I.number next) }
+{
+    match next {
+        Some(k) => if k == start { None } else { Some(k) },
+        None => None,
+    }
+}
+
+// Numbers a chain from its start, where so many links were numbered before, and shows each link to the visitor, by the
+// pointer that it has and the one that it gets. Answers the visitor, and how many are numbered then.
+fn number_chain<P: Ptr, T: Drop, S: SlotStack<Item = ArenaSlot<P, LinkNoGen<P, T>>>, V: Visitor<P>>(
+    compactor: &mut Compactor<'_, P, LinkNoGen<P, T>, S>,
+    start: P::Inx,
+    before: usize,
+    generation: P::Gen,
+    mut visitor: V,
+) -> (V, usize)
+    requires ready { V.is_ready visitor }
+    requires fits { length compactor.old.held.slots ≤ P.Inx.greatest }
+    requires can { (done : List ℕ) × (c : Chain) × CanNumber P.Inx.packed_number compactor.old.held.slots (P.Inx.number start) before done c }
+    ensures same_reference { compactor.new.arena.ghost_name ≡ compactor.old.arena.ghost_name }
+    ensures ready { V.is_ready result.0 }
+    ensures seen { seen_held P.Inx.packed_number compactor.new.held ≡ seen_held P.Inx.packed_number compactor.old.held }
+    ensures numbered { (done : List ℕ) (c : Chain) → CanNumber P.Inx.packed_number compactor.old.held.slots (P.Inx.number start) before done c
+        → IsChainNumbered P.Inx.packed_number V.sees P.key generation visitor result.0 compactor.old.held.slots compactor.new.held.slots compactor.old.arena.now compactor.new.arena.now result.1 done c }
+    ensures counts { CountsOn compactor.old.arena.now compactor.new.arena.now compactor.old.placed compactor.old.touched compactor.new.placed compactor.new.touched }
+{
+    let mut count = before;
+    let mut on = Some(start);
+    while let Some(i) = on {
+        let destination = inx_at::<P>(count);
+        count += 1;
+        match number_at(compactor, i, destination) {
+            Some((was, next)) => {
+                visitor.visit(P::_from_raw(i, was), P::_from_raw(destination, generation));
+                on = on_unless_round::<P::Inx>(start, next);
+            }
+            None => unreachable!(),
+        }
+    }
+    (visitor, count)
+}
+
+/// Numbers all links: the chains by their least index, each linear one from its start, each cyclic one from its least
+/// index. Shows each link to the visitor, by the pointer that it has and the one that it gets, by rising destination.
+pub fn number_all<
+    P: Ptr,
+    T: Drop,
+    S: SlotStack<Item = ArenaSlot<P, LinkNoGen<P, T>>>,
+    V: Visitor<P>,
+>(compactor: &mut Compactor<'_, P, LinkNoGen<P, T>, S>, generation: P::Gen, mut visitor: V) -> V
+    requires ready { V.is_ready visitor }
+    requires fits { length compactor.old.held.slots ≤ P.Inx.greatest }
+    requires agree { Agrees (shown_in P.Inx.packed_number compactor.old.held.slots) }
+    requires empty { (j : ℕ) → given P.Inx.packed_number compactor.old.held.slots j ≡ None }
+    ensures same_reference { compactor.new.arena.ghost_name ≡ compactor.old.arena.ghost_name }
+    ensures seen { seen_held P.Inx.packed_number compactor.new.held ≡ seen_held P.Inx.packed_number compactor.old.held }
+    ensures numbered { AreAllNumbered P.Inx.packed_number V.sees P.key generation visitor result compactor.old.held.slots compactor.new.held.slots compactor.old.arena.now compactor.new.arena.now }
+    ensures counts { CountsOn compactor.old.arena.now compactor.new.arena.now compactor.old.placed compactor.old.touched compactor.new.placed compactor.new.touched }
+{
+    let mut count = 0;
+    for k in 0..compactor.slots() {
+        let i = inx_at::<P>(k);
+        if is_fresh_at(compactor, i) {
+            let start = start_at(compactor, i);
+            let (shown, numbered) = number_chain(compactor, start, count, generation, visitor);
+            visitor = shown;
+            count = numbered;
+        }
+    }
+    visitor
+}

@@ -1,0 +1,3 @@
+pub mod Inserting
+pub mod Mapping
+pub mod Seeing

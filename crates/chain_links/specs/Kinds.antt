@@ -1,0 +1,89 @@
+-- Kinds of insertion, as contracts see them: what they name, and what they ask.
+use Rattle.std.specs.Prelude.{ℕ, IsSome, Option, None, Some}
+use Rattle.chain_laws.specs.Chains.{Shown}
+use Rattle.chain_laws.specs.Insertions.{InsertKind, disconnected, single_link_cyclic, chain_end, chain_start, next_to, prev_to, at_interlink, bridge}
+use Rattle.chain_laws.specs.Insertions.{CanInsert}
+use Rattle.arena_base.specs.Arena.{IsValid}
+use Rattle.chain_links.specs.declared.kinds.InsertKindBody.{InsertKindBody}
+use Rattle.chain_links.specs.declared.kinds.InsertKindBody.TheVariants as kinds
+use Rattle.chain_links.specs.declared.kinds.NamedKind.{NamedKind}
+use Rattle.chain_links.specs.declared.kinds.NamedKind.TheVariants as named
+use Rattle.chain_links.specs.declared.kinds.Name.{Name}
+use Rattle.chain_links.specs.declared.kinds.Name.TheVariants.{Pointer, Index}
+
+-- what names a link: its index, and its generation where it is named by a pointer
+abbrev pub LinkName : Type 0 → Type 0
+LinkName Gen = ℕ × Option Gen
+
+-- the names in a kind
+module _ {P I Gen : Type 0} (key : P → ℕ × Gen) (number : I → ℕ) where
+  abbrev pub pointed : P → LinkName Gen
+  pointed p = ((key p).0, Some (key p).1)
+
+  abbrev pub indexed : I → LinkName Gen
+  indexed i = (number i, None)
+
+  abbrev pub names_in : InsertKindBody P I → InsertKind (LinkName Gen)
+  names_in kinds.Disconnected = disconnected
+  names_in kinds.SingleLinkCyclic = single_link_cyclic
+  names_in (kinds.ChainEnd p) = chain_end (pointed p)
+  names_in (kinds.ChainEndInx i) = chain_end (indexed i)
+  names_in (kinds.ChainStart p) = chain_start (pointed p)
+  names_in (kinds.ChainStartInx i) = chain_start (indexed i)
+  names_in (kinds.NextTo p) = next_to (pointed p)
+  names_in (kinds.NextToInx i) = next_to (indexed i)
+  names_in (kinds.PrevTo p) = prev_to (pointed p)
+  names_in (kinds.PrevToInx i) = prev_to (indexed i)
+  names_in (kinds.AtInterlink p q) = at_interlink (pointed p) (pointed q)
+  names_in (kinds.AtInterlinkInx i j) = at_interlink (indexed i) (indexed j)
+  names_in (kinds.Bridge p q) = bridge (pointed p) (pointed q)
+  names_in (kinds.BridgeInx i j) = bridge (indexed i) (indexed j)
+
+module _ {Gen : Type 0} where
+  -- the kind by indexes
+  abbrev pub by_index : InsertKind (LinkName Gen) → InsertKind ℕ
+  by_index disconnected = disconnected
+  by_index single_link_cyclic = single_link_cyclic
+  by_index (chain_end a) = chain_end a.0
+  by_index (chain_start b) = chain_start b.0
+  by_index (next_to a) = next_to a.0
+  by_index (prev_to b) = prev_to b.0
+  by_index (at_interlink a b) = at_interlink a.0 b.0
+  by_index (bridge a b) = bridge a.0 b.0
+
+module _ {Gen T : Type 0} (entry : ℕ → Option (Gen × T)) where
+  -- a link has the name: it stands at the index, with the generation where there is one
+  abbrev pub HasName : LinkName Gen → Type 0
+  HasName (i, None) = IsSome (entry i)
+  HasName (i, Some g) = IsValid entry (i, g)
+
+  -- all links that a kind names stand
+  abbrev pub HasNames : InsertKind (LinkName Gen) → Type 0
+  HasNames disconnected = Unit {0}
+  HasNames single_link_cyclic = Unit {0}
+  HasNames (chain_end a) = HasName a
+  HasNames (chain_start b) = HasName b
+  HasNames (next_to a) = HasName a
+  HasNames (prev_to b) = HasName b
+  HasNames (at_interlink a b) = HasName a × HasName b
+  HasNames (bridge a b) = HasName a × HasName b
+
+  -- a link of the kind may be inserted
+  abbrev pub MayInsert : Shown → InsertKind (LinkName Gen) → Type 0
+  MayInsert interlinks kind = HasNames kind × CanInsert interlinks (by_index kind)
+
+-- the code's own forms of names and kinds
+module _ {P I Gen : Type 0} (key : P → ℕ × Gen) (number : I → ℕ) where
+  abbrev pub name_of : Name P I → LinkName Gen
+  name_of (Pointer p) = pointed key number p
+  name_of (Index i) = indexed key number i
+
+  abbrev pub named_in : NamedKind (Name P I) → InsertKind (LinkName Gen)
+  named_in named.Disconnected = disconnected
+  named_in named.SingleLinkCyclic = single_link_cyclic
+  named_in (named.ChainEnd a) = chain_end (name_of a)
+  named_in (named.ChainStart b) = chain_start (name_of b)
+  named_in (named.NextTo a) = next_to (name_of a)
+  named_in (named.PrevTo b) = prev_to (name_of b)
+  named_in (named.AtInterlink a b) = at_interlink (name_of a) (name_of b)
+  named_in (named.Bridge a b) = bridge (name_of a) (name_of b)

@@ -1,0 +1,72 @@
+-- How links compare, by what contracts see of them: by the index before them, then by the one after them, then by their
+-- values, where none is below each index.
+use Rattle.std.specs.Prelude.{◌≡◌, ℕ, ◌⊎◌, ◌↔◌, ⊤, Bool, ◌&&◌, ◌==◌, ◌++◌, IsTrue, Option, None, Some}
+use Rattle.std.specs.Option.{option_eq, option_cmp}
+use Rattle.std.specs.declared.cmp.Ordering.{Ordering}
+use Rattle.std.specs.Ordering.{nat_cmp, ordering_then, partial_ordering_then}
+use Rattle.std.specs.Hash.{HashWrites}
+use Rattle.std.specs.Hash as fed
+use Rattle.std.specs.declared.cmp.Ordering.TheVariants.{Less, Equal}
+use Rattle.chain_links.specs.ChainArena.{LinkSeen}
+use Rattle.chain_links.specs.declared.links.LinkBody.{LinkBody}
+use Rattle.chain_links.specs.declared.links.Link.{Link}
+
+module _ {T : Type 0} where
+  abbrev pub neighbors_eq : LinkSeen T → LinkSeen T → Bool
+  neighbors_eq l m = option_eq ◌==◌ l.prev m.prev && option_eq ◌==◌ l.next m.next
+
+  abbrev pub neighbors_cmp : LinkSeen T → LinkSeen T → Ordering
+  neighbors_cmp l m = ordering_then (option_cmp nat_cmp l.prev m.prev) (option_cmp nat_cmp l.next m.next)
+
+  -- what `==` answers, where this is what it answers of their values
+  abbrev pub links_eq : (T → T → Bool) → LinkSeen T → LinkSeen T → Bool
+  links_eq eq l m = neighbors_eq l m && eq l.value m.value
+
+  -- .. `cmp`
+  abbrev pub links_cmp : (T → T → Ordering) → LinkSeen T → LinkSeen T → Ordering
+  links_cmp cmp l m = ordering_then (neighbors_cmp l m) (cmp l.value m.value)
+
+  -- .. and `partial_cmp`
+  abbrev pub links_partial_cmp : (T → T → Option Ordering) → LinkSeen T → LinkSeen T → Option Ordering
+  links_partial_cmp cmp l m = partial_ordering_then (Some (neighbors_cmp l m)) (cmp l.value m.value)
+
+  -- what a hash of a link writes, where this is what one of its value writes
+  abbrev pub link_writes : (T → HashWrites) → LinkSeen T → HashWrites
+  link_writes writes l = (fed.option fed.usize l.prev ++ fed.option fed.usize l.next) ++ writes l.value
+
+-- none is below each index or pointer, and of two of these this says which is below
+abbrev pub IsBelow : {X : Type 0} → (X → X → Type 0) → Option X → Option X → Type 0
+IsBelow below None None = ⊥
+IsBelow below None (Some n) = ⊤
+IsBelow below (Some m) None = ⊥
+IsBelow below (Some m) (Some n) = below m n
+
+-- what is before a link, what is after it, and its value
+pub record Parts (X T : Type 0) : Type 0 where
+  pub prev : Option X
+  pub next : Option X
+  pub value : T
+
+abbrev pub parts_seen : {K T : Type 0} → (K → Option ℕ) → LinkBody K T → Parts ℕ T
+parts_seen number l = record { prev = number l.prev; next = number l.next; value = l.t }
+
+abbrev pub parts_of : {P T : Type 0} → Link P T → Parts P T
+parts_of l = record { prev = l.prev; next = l.next; value = l.t }
+
+-- both have the same beside them, and their values are equal
+pub record AreEqual {X T : Type 0} (eq : T → T → Bool) (l m : Parts X T) : Type 0 where
+  pub prev : l.prev ≡ m.prev
+  pub next : l.next ≡ m.next
+  pub value : IsTrue (eq l.value m.value)
+
+-- l comes first: its prev is below, or that is the same and its next is below, or that is the same too and its value
+-- is below
+abbrev pub ComesFirst : {X T : Type 0} → (X → X → Type 0) → (T → T → Type 0) → Parts X T → Parts X T → Type 0
+ComesFirst below below_value l m =
+    IsBelow below l.prev m.prev ⊎ ((l.prev ≡ m.prev) × (IsBelow below l.next m.next ⊎ ((l.next ≡ m.next) × below_value l.value m.value)))
+
+-- links of these parts compare by what is before them, then by what is after them, then by their values
+pub record CompareByParts {L X T : Type 0} (parts : L → Parts X T) (below : X → X → Type 0) (eq : T → T → Bool) (cmp : T → T → Ordering) (eq_links : L → L → Bool) (cmp_links : L → L → Ordering) : Type 0 where
+  pub equal : (l m : L) → IsTrue (eq_links l m) ↔ AreEqual eq (parts l) (parts m)
+  pub less : (l m : L) → (cmp_links l m ≡ Less) ↔ ComesFirst below (λ s t. cmp s t ≡ Less) (parts l) (parts m)
+  pub agree : (l m : L) → (cmp_links l m ≡ Equal) ↔ IsTrue (eq_links l m)

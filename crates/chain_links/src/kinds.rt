@@ -1,0 +1,128 @@
+ghost use Rattle.std.specs.Prelude.{◌≡◌};
+ghost use Rattle.chain_links.specs.Kinds.{names_in, named_in, name_of};
+
+use arena_ptr::{Ptr, PtrInx};
+
+/// Where a new link comes, beside links that are named by pointers of a type `P` or by indexes of a type `I`.
+///
+/// A link that is named by a pointer has to be valid, one that is named by an index has to stand there, whatever its
+/// generation: in all else the two forms of a kind are the same.
+#[derive(Clone, Copy, Debug, PartialEq, Eq)]
+pub enum InsertKindBody<P, I> {
+    /// The new link is a linear chain of its own. This asks nothing.
+    Disconnected,
+    /// The new link is a cyclic chain of its own: it comes before and after itself. This asks nothing.
+    SingleLinkCyclic,
+    /// After the end of a linear chain: the link has no next one.
+    ChainEnd(P),
+    /// `ChainEnd` by index.
+    ChainEndInx(I),
+    /// Before the start of a linear chain: the link has no previous one.
+    ChainStart(P),
+    /// `ChainStart` by index.
+    ChainStartInx(I),
+    /// Directly after a link. At the end of a chain the new one is the end.
+    NextTo(P),
+    /// `NextTo` by index.
+    NextToInx(I),
+    /// Directly before a link. At the start of a chain the new one is the start.
+    PrevTo(P),
+    /// `PrevTo` by index.
+    PrevToInx(I),
+    /// Between two neighbours: `prev_to` is the link after `next_to`. A link that is a cyclic chain of its own is its
+    /// own neighbour.
+    AtInterlink {
+        /// The link before the new one.
+        next_to: P,
+        /// The link after the new one.
+        prev_to: P,
+    },
+    /// `AtInterlink` by index.
+    AtInterlinkInx {
+        /// The link before the new one.
+        next_to: I,
+        /// The link after the new one.
+        prev_to: I,
+    },
+    /// After the end of one linear chain and before the start of another, so that the two become one; of one chain's
+    /// own end and start, so that it becomes cyclic.
+    Bridge {
+        /// The end of a chain: a link without a next one.
+        end: P,
+        /// The start of a chain: a link without a previous one.
+        start: P,
+    },
+    /// `Bridge` by index.
+    BridgeInx {
+        /// The end of a chain: a link without a next one.
+        end: I,
+        /// The start of a chain: a link without a previous one.
+        start: I,
+    },
+}
+
+/// The kinds of insertion.
+///
+/// Carries `LinkInsertKind` of `triple_arena`.
+pub type LinkInsertKind<P> = InsertKindBody<P, <P as Ptr>::Inx>;
+
+/// What names a link: a pointer to it, or its index.
+#[derive(Clone, Copy)]
+pub enum Name<P, I> {
+    Pointer(P),
+    Index(I),
+}
+
+/// A kind of insertion by what names the links: the two forms of a kind are one.
+#[derive(Clone, Copy)]
+pub enum NamedKind<N> {
+    Disconnected,
+    SingleLinkCyclic,
+    ChainEnd(N),
+    ChainStart(N),
+    NextTo(N),
+    PrevTo(N),
+    AtInterlink(N, N),
+    Bridge(N, N),
+}
+
+/// The index of the link that is named.
+pub fn index_of<P: Ptr>(name: Name<P, P::Inx>) -> P::Inx
+    ensures { P.Inx.number result ≡ (name_of P.key P.Inx.number name).0 }
+{
+    match name {
+        Name::Pointer(p) => p.inx(),
+        Name::Index(i) => i,
+    }
+}
+
+/// The kind by names.
+pub fn by_names<P: Ptr>(kind: LinkInsertKind<P>) -> NamedKind<Name<P, P::Inx>>
+    ensures { named_in P.key P.Inx.number result ≡ names_in P.key P.Inx.number kind }
+{
+    match kind {
+        LinkInsertKind::Disconnected => NamedKind::Disconnected,
+        LinkInsertKind::SingleLinkCyclic => NamedKind::SingleLinkCyclic,
+        LinkInsertKind::ChainEnd(p) => NamedKind::ChainEnd(Name::Pointer(p)),
+        LinkInsertKind::ChainEndInx(i) => NamedKind::ChainEnd(Name::Index(i)),
+        LinkInsertKind::ChainStart(p) => NamedKind::ChainStart(Name::Pointer(p)),
+        LinkInsertKind::ChainStartInx(i) => NamedKind::ChainStart(Name::Index(i)),
+        LinkInsertKind::NextTo(p) => NamedKind::NextTo(Name::Pointer(p)),
+        LinkInsertKind::NextToInx(i) => NamedKind::NextTo(Name::Index(i)),
+        LinkInsertKind::PrevTo(p) => NamedKind::PrevTo(Name::Pointer(p)),
+        LinkInsertKind::PrevToInx(i) => NamedKind::PrevTo(Name::Index(i)),
+        LinkInsertKind::AtInterlink { next_to, prev_to } => {
+            NamedKind::AtInterlink(Name::Pointer(next_to), Name::Pointer(prev_to))
+        }
+        LinkInsertKind::AtInterlinkInx { next_to, prev_to } => {
+            NamedKind::AtInterlink(Name::Index(next_to), Name::Index(prev_to))
+        }
+        LinkInsertKind::Bridge { end, start } => NamedKind::Bridge(
+            Name::Pointer(end),
+            Name::Pointer(start),
+        ),
+        LinkInsertKind::BridgeInx { end, start } => {
+            NamedKind::Bridge(Name::Index(end), Name::Index(start))
+        }
+    }
+}

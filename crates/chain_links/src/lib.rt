@@ -1,0 +1,13 @@
+//! Links that name their neighbours by index, the kinds of insertion, and the words in which contracts speak of an arena of
+//! links.
+#![tactic(auto)]
+
+pub mod facts;
+pub mod kinds;
+mod link_order;
+pub mod links;
+mod texts;
+
+pub use kinds::{InsertKindBody, LinkInsertKind};
+pub use link_order::links_compare_by_neighbors;
+pub use links::{Interlink, Link, LinkBody, LinkNoGen, Vacant};

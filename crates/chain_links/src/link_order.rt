@@ -1,0 +1,112 @@
+// How links compare: by the indexes of their neighbours first, then by their values.
+ghost use Rattle.std.specs.Prelude.{◌≡◌, ◌<◌};
+ghost use Rattle.std.specs.Option.{option_map};
+ghost use Rattle.std.specs.declared.cmp.Ordering.TheVariants.{Less};
+ghost use Rattle.chain_links.specs.LinkOrder.{CompareByParts, parts_seen, parts_of};
+
+use crate::links::{Link, LinkBody, LinkNoGen};
+use arena_ptr::{PackedOption, Ptr, PtrInx};
+use std::cmp::Ordering;
+use std::hash::{Hash, Hasher};
+
+// The number of an index, if there is one.
+fn number_of<I: PtrInx>(i: Option<I>) -> Option<usize>
+    ensures { result ≡ option_map I.number i }
+{
+    match i {
+        Some(i) => i.try_into_usize(),
+        None => None,
+    }
+}
+
+impl<W: Copy, I: PtrInx<Word = W>, T> LinkBody<PackedOption<I, W>, T> {
+    // The numbers of both neighbours, by which links compare first.
+    fn numbers(&self) -> (Option<usize>, Option<usize>)
+        ensures { result ≡ (I.packed_number self.now.prev, I.packed_number self.now.next) }
+    {
+        let (prev, next) = self.prev_next();
+        (number_of(prev), number_of(next))
+    }
+}
+
+impl<W: Copy, I: PtrInx<Word = W>, T: PartialEq> PartialEq for LinkBody<PackedOption<I, W>, T> {
+    ghost use Rattle.chain_links.specs.Links.{seen_link};
+    ghost use Rattle.chain_links.specs.LinkOrder.{links_eq};
+    ghost use Rattle.chain_links.specs.LinkOrderLaws.{links_per};
+    ghost use Rattle.std.specs.Cmp.{on_per};
+
+    ghost eq = { λ l m. links_eq T.eq (seen_link I.packed_number l) (seen_link I.packed_number m) };
+
+    ghost laws = { on_per (seen_link I.packed_number) (links_per T.laws) };
+
+    fn eq(&self, other: &Self) -> bool {
+        self.numbers() == other.numbers() && self.t == other.t
+    }
+}
+
+impl<W: Copy, I: PtrInx<Word = W>, T: Eq> Eq for LinkBody<PackedOption<I, W>, T> {
+    ghost use Rattle.chain_links.specs.Links.{seen_link};
+    ghost use Rattle.chain_links.specs.LinkOrderLaws.{links_equiv};
+    ghost use Rattle.std.specs.Cmp.{on_equiv};
+
+    ghost laws = { on_equiv (seen_link I.packed_number) (links_equiv T.Eq.laws) };
+}
+
+impl<W: Copy, I: PtrInx<Word = W>, T: PartialOrd> PartialOrd for LinkBody<PackedOption<I, W>, T> {
+    ghost use Rattle.chain_links.specs.Links.{seen_link};
+    ghost use Rattle.chain_links.specs.LinkOrder.{links_partial_cmp};
+    ghost use Rattle.chain_links.specs.LinkOrderLaws.{links_po};
+    ghost use Rattle.std.specs.Cmp.{on_po};
+
+    ghost partial_cmp = { λ l m. links_partial_cmp T.partial_cmp (seen_link I.packed_number l) (seen_link I.packed_number m) };
+
+    ghost laws = { on_po (seen_link I.packed_number) (links_po T.PartialOrd.laws) };
+
+    fn partial_cmp(&self, other: &Self) -> Option<Ordering> {
+        let neighbors = self.numbers().cmp(&other.numbers());
+        Ordering::or_partial_cmp(Some(neighbors), &self.t, &other.t)
+    }
+}
+
+impl<W: Copy, I: PtrInx<Word = W>, T: Ord> Ord for LinkBody<PackedOption<I, W>, T> {
+    ghost use Rattle.chain_links.specs.Links.{seen_link};
+    ghost use Rattle.chain_links.specs.LinkOrder.{links_cmp};
+    ghost use Rattle.chain_links.specs.LinkOrderLaws.{links_total, links_cmp_partial, links_tie};
+    ghost use Rattle.std.specs.Cmp.{on_total};
+
+    ghost cmp = { λ l m. links_cmp T.cmp (seen_link I.packed_number l) (seen_link I.packed_number m) };
+
+    ghost total = { on_total (seen_link I.packed_number) (links_total T.total) };
+
+    ghost matches_partial_cmp = { λ l m. links_cmp_partial T.partial_cmp T.cmp T.matches_partial_cmp (seen_link I.packed_number l) (seen_link I.packed_number m) };
+
+    ghost matches_eq = { λ l m. links_tie T.eq T.cmp T.matches_eq (seen_link I.packed_number l) (seen_link I.packed_number m) };
+
+    fn cmp(&self, other: &Self) -> Ordering {
+        let neighbors = self.numbers().cmp(&other.numbers());
+        Ordering::or_cmp(neighbors, &self.t, &other.t)
+    }
+}
+
+impl<W: Copy, I: PtrInx<Word = W>, T: Hash> Hash for LinkBody<PackedOption<I, W>, T> {
+    ghost use Rattle.chain_links.specs.Links.{seen_link};
+    ghost use Rattle.chain_links.specs.LinkOrder.{link_writes};
+    ghost use Rattle.chain_links.specs.LinkOrderLaws.{links_alike};
+
+    ghost hash_input = { λ l. link_writes T.hash_input (seen_link I.packed_number l) };
+
+    ghost respects_eq = { λ l m. links_alike T.eq T.hash_input T.respects_eq (seen_link I.packed_number l) (seen_link I.packed_number m) };
+
+    fn hash<H: Hasher>(&self, state: &mut H) {
+        self.numbers().hash(state);
+        self.t.hash(state);
+    }
+}
+
+/// Links compare by the pair of their neighbours first, then by their values: equal are those with the same neighbours
+/// and equal values, and the order goes by the link before, then by the one after, then by the value, where none is
+/// below each index or pointer. Indexes go by their numbers, pointers by their own order.
+pub fn links_compare_by_neighbors<P: Ptr, T: Ord>()
+    ensures no_gen { CompareByParts (parts_seen P.Inx.packed_number) ◌<◌ T.eq T.cmp ⟦<LinkNoGen<P, T> as PartialEq>⟧.eq ⟦<LinkNoGen<P, T> as Ord>⟧.cmp }
+    ensures pointers { CompareByParts parts_of (λ p q. P.cmp p q ≡ Less) T.eq T.cmp ⟦<Link<P, T> as PartialEq>⟧.eq ⟦<Link<P, T> as Ord>⟧.cmp }
+{}

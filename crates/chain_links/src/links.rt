@@ -1,0 +1,237 @@
+ghost use Rattle.std.specs.Prelude.{◌≡◌, None};
+ghost use Rattle.std.specs.Option.{option_map};
+ghost use Rattle.chain_links.specs.Links.{seen_link, index_in};
+
+use arena_ptr::{PackedOption, Ptr, PtrInx, ToolPtr};
+use std::alloc::AllocError;
+
+/// A link with interlinks of a type `K`, each an optional index: the links before it and after it, and its value.
+#[derive(Copy)]
+pub struct LinkBody<K: Vacant, T> {
+    prev: K,
+    next: K,
+
+    // Where the link is to stand, while a compression moves the links.
+    destination: K,
+
+    /// The value.
+    pub t: T,
+}
+
+/// What holds an optional index, and so can hold none.
+pub trait Vacant: Copy {
+    /// No index.
+    fn vacant() -> Self;
+}
+
+impl<W: Copy, I: PtrInx<Word = W>> Vacant for PackedOption<I, W> {
+    fn vacant() -> Self {
+        I::pack(None)
+    }
+}
+
+// A clone has no destination.
+impl<K: Vacant, T: Clone> Clone for LinkBody<K, T> {
+    ghost use Rattle.std.specs.Prelude.{◌≡◌};
+
+    ghost is_clone = { λ l m. (m.prev ≡ l.prev) × (m.next ≡ l.next) × T.is_clone l.t m.t };
+
+    ghost is_infallible = { λ l. T.is_infallible l.t };
+
+    fn clone(&self) -> Result<Self, AllocError> {
+        Ok(LinkBody {
+            prev: self.prev,
+            next: self.next,
+            destination: K::vacant(),
+            t: self.t.clone()?,
+        })
+    }
+}
+
+/// An interlink without a generation: an optional index, packed in the width of an index.
+pub type Interlink<P> = PackedOption<<P as Ptr>::Inx, <<P as Ptr>::Inx as PtrInx>::Word>;
+
+/// A link whose interlinks have no generation.
+///
+/// Carries `LinkNoGen` of `triple_arena`.
+pub type LinkNoGen<P, T> = LinkBody<Interlink<P>, T>;
+
+// An interlink takes no more than its index, and so does a destination.
+const _: () = prove!(size_of::<LinkNoGen<ToolPtr, u32>>() == 16);
+
+impl<W: Copy, I: PtrInx<Word = W>, T> LinkBody<PackedOption<I, W>, T> {
+    /// The index of the link before this one in its chain. `None` at the start of the chain.
+    pub fn prev(&self) -> Option<I>
+        ensures { option_map I.number result ≡ (seen_link I.packed_number self.now).prev }
+    {
+        I::unpack(self.prev)
+    }
+
+    /// The index of the link after this one in its chain. `None` at the end of the chain.
+    pub fn next(&self) -> Option<I>
+        ensures { option_map I.number result ≡ (seen_link I.packed_number self.now).next }
+    {
+        I::unpack(self.next)
+    }
+
+    /// Both interlinks: `(self.prev(), self.next())`.
+    pub fn prev_next(&self) -> (Option<I>, Option<I>)
+        ensures prev { option_map I.number result.0 ≡ (seen_link I.packed_number self.now).prev }
+        ensures next { option_map I.number result.1 ≡ (seen_link I.packed_number self.now).next }
+    {
+        (self.prev(), self.next())
+    }
+
+    /// A link of its parts.
+    pub fn new(prev_next: (Option<I>, Option<I>), t: T) -> Self
+        ensures { seen_link I.packed_number result ≡ record { prev = option_map I.number prev_next.0; next = option_map I.number prev_next.1; value = t } }
+    {
+        LinkBody {
+            prev: I::pack(prev_next.0),
+            next: I::pack(prev_next.1),
+            destination: I::pack(None),
+            t,
+        }
+    }
+
+    /// The value, for reading.
+    pub fn value(&self) -> &T
+        ensures { result.now ≡ self.now.t }
+    {
+        &self.t
+    }
+
+    /// The link after this one becomes another.
+    pub fn set_next(&mut self, next: Option<I>)
+        ensures next { I.packed_number self.new.next ≡ option_map I.number next }
+        ensures rest { self.new ≡ record self.old { next = self.new.next } }
+    {
+        self.next = I::pack(next);
+    }
+
+    /// The link before this one becomes another.
+    pub fn set_prev(&mut self, prev: Option<I>)
+        ensures prev { I.packed_number self.new.prev ≡ option_map I.number prev }
+        ensures rest { self.new ≡ record self.old { prev = self.new.prev } }
+    {
+        self.prev = I::pack(prev);
+    }
+
+    /// Where the link is to stand, if that is set.
+    pub fn destination(&self) -> Option<I>
+        ensures { option_map I.number result ≡ I.packed_number self.now.destination }
+    {
+        I::unpack(self.destination)
+    }
+
+    /// The link is to stand elsewhere.
+    pub fn set_destination(&mut self, destination: Option<I>)
+        ensures destination { I.packed_number self.new.destination ≡ option_map I.number destination }
+        ensures rest { self.new ≡ record self.old { destination = self.new.destination } }
+    {
+        self.destination = I::pack(destination);
+    }
+
+    /// Where the link is to stand, if that is set, which then it is no more.
+    pub fn take_destination(&mut self) -> Option<I>
+        ensures answer { option_map I.number result ≡ I.packed_number self.old.destination }
+        ensures empty { I.packed_number self.new.destination ≡ None }
+        ensures rest { self.new ≡ record self.old { destination = self.new.destination } }
+    {
+        let destination = self.destination();
+        self.set_destination(None);
+        destination
+    }
+}
+
+/// A link whose interlinks are pointers, with the generations of the time of the look.
+///
+/// Carries `Link` of `triple_arena`.
+#[derive(Copy, PartialEq, Eq, PartialOrd, Ord, Hash)]
+pub struct Link<P, T> {
+    prev: Option<P>,
+    next: Option<P>,
+
+    /// The value.
+    pub t: T,
+}
+
+impl<P: Copy, T: Clone> Clone for Link<P, T> {
+    ghost use Rattle.std.specs.Prelude.{◌≡◌};
+
+    ghost is_clone = { λ l m. (m.prev ≡ l.prev) × (m.next ≡ l.next) × T.is_clone l.t m.t };
+
+    ghost is_infallible = { λ l. T.is_infallible l.t };
+
+    fn clone(&self) -> Result<Self, AllocError> {
+        Ok(Link {
+            prev: self.prev,
+            next: self.next,
+            t: self.t.clone()?,
+        })
+    }
+}
+
+impl<P: Copy, T> Link<P, T> {
+    /// The pointer to the link before this one in its chain. `None` at the start of the chain.
+    pub fn prev(&self) -> Option<P>
+        ensures { result ≡ self.now.prev }
+    {
+        self.prev
+    }
+
+    /// The pointer to the link after this one in its chain. `None` at the end of the chain.
+    pub fn next(&self) -> Option<P>
+        ensures { result ≡ self.now.next }
+    {
+        self.next
+    }
+
+    /// Both interlinks: `(self.prev(), self.next())`.
+    pub fn prev_next(&self) -> (Option<P>, Option<P>)
+        ensures { result ≡ (self.now.prev, self.now.next) }
+    {
+        (self.prev, self.next)
+    }
+
+    /// A link of its parts.
+    pub fn new(prev_next: (Option<P>, Option<P>), t: T) -> Self
+        ensures prev { result.prev ≡ prev_next.0 }
+        ensures next { result.next ≡ prev_next.1 }
+        ensures value { result.t ≡ t }
+    {
+        Link {
+            prev: prev_next.0,
+            next: prev_next.1,
+            t,
+        }
+    }
+}
+
+impl<P: Ptr, T> Link<P, T> {
+    /// The same link without the generations of its neighbours.
+    pub fn no_gen(self) -> LinkNoGen<P, T>
+        ensures { seen_link P.Inx.packed_number result ≡ record { prev = option_map (index_in P.key) self.prev; next = option_map (index_in P.key) self.next; value = self.t } }
+    {
+        LinkBody::new((index_of(self.prev), index_of(self.next)), self.t)
+    }
+
+    /// The same link without the generations of its neighbours, with its value by reference.
+    pub fn no_gen_ref(&self) -> LinkNoGen<P, &T>
+        ensures prev { (seen_link P.Inx.packed_number result).prev ≡ option_map (index_in P.key) self.now.prev }
+        ensures next { (seen_link P.Inx.packed_number result).next ≡ option_map (index_in P.key) self.now.next }
+        ensures value { result.t.now ≡ self.now.t }
+    {
+        LinkBody::new((index_of(self.prev), index_of(self.next)), &self.t)
+    }
+}
+
+/// The index of a pointer, if there is one.
+pub fn index_of<P: Ptr>(p: Option<P>) -> Option<P::Inx>
+    ensures { option_map P.Inx.number result ≡ option_map (index_in P.key) p }
+{
+    match p {
+        Some(p) => Some(p.inx()),
+        None => None,
+    }
+}
