@@ -12,8 +12,8 @@ use arena_ptr::{Ptr, PtrInx, SlotStack};
 use chain_links::LinkNoGen;
 use chain_links::facts::has_room;
 
-// The indexes that the link at an index names: of the link before it and of the one after it. No link stands there: none.
-fn neighbors_at<P: Ptr, T: Drop, S: SlotStack<Item = ArenaSlot<P, LinkNoGen<P, T>>>>(
+/// The indexes that the link at an index names: of the link before it and of the one after it. No link stands there: none.
+pub fn neighbors_at<P: Ptr, T: Drop, S: SlotStack<Item = ArenaSlot<P, LinkNoGen<P, T>>>>(
     arena: &Arena<P, LinkNoGen<P, T>, S>,
     i: P::Inx,
 ) -> (Option<P::Inx>, Option<P::Inx>)
@@ -26,8 +26,8 @@ fn neighbors_at<P: Ptr, T: Drop, S: SlotStack<Item = ArenaSlot<P, LinkNoGen<P, T
     }
 }
 
-// Whether the link that comes after the one at an index, if there is one, names it as the link before.
-fn agrees_forth<P: Ptr, T: Drop, S: SlotStack<Item = ArenaSlot<P, LinkNoGen<P, T>>>>(
+/// Whether the link that comes after the one at an index, if there is one, names it as the link before.
+pub fn agrees_forth<P: Ptr, T: Drop, S: SlotStack<Item = ArenaSlot<P, LinkNoGen<P, T>>>>(
     arena: &Arena<P, LinkNoGen<P, T>, S>,
     i: P::Inx,
 ) -> bool
@@ -52,8 +52,8 @@ fn agrees_back<P: Ptr, T: Drop, S: SlotStack<Item = ArenaSlot<P, LinkNoGen<P, T>
     }
 }
 
-// Whether the interlinks of the link at an index are answered.
-fn agrees_at<P: Ptr, T: Drop, S: SlotStack<Item = ArenaSlot<P, LinkNoGen<P, T>>>>(
+/// Whether the interlinks of the link at an index are answered.
+pub fn agrees_at<P: Ptr, T: Drop, S: SlotStack<Item = ArenaSlot<P, LinkNoGen<P, T>>>>(
     arena: &Arena<P, LinkNoGen<P, T>, S>,
     i: P::Inx,
 ) -> bool

@@ -39,8 +39,8 @@ fn empty_at<P: Ptr, T: Drop, S: SlotStack<Item = ArenaSlot<P, LinkNoGen<P, T>>>>
     }
 }
 
-// Takes all destinations away.
-fn empty_all<P: Ptr, T: Drop, S: SlotStack<Item = ArenaSlot<P, LinkNoGen<P, T>>>>(
+/// Takes all destinations away.
+pub fn empty_all<P: Ptr, T: Drop, S: SlotStack<Item = ArenaSlot<P, LinkNoGen<P, T>>>>(
     compactor: &mut Compactor<'_, P, LinkNoGen<P, T>, S>,
 )
     requires fits { length compactor.old.held.slots ≤ P.Inx.greatest }

@@ -1,0 +1,63 @@
+// Calls that read and write interlinks.
+ghost use Rattle.std.specs.Prelude.{◌≡◌, ◌↔◌, IsTrue, IsSome, None};
+ghost use Rattle.std.specs.Option.{option_map};
+ghost use Rattle.arena_ptr.specs.Invalidation.{value_within, invalidation_result};
+ghost use Rattle.arena_base.specs.Arena.{entry_at};
+ghost use Rattle.chain_laws.specs.Operations.{linked};
+ghost use Rattle.chain_links.specs.ChainArena.{shown, relinked, remove_link, entry};
+ghost use Rattle.chain_links.specs.Links.{seen_links, seen_pair};
+ghost use Rattle.chain_links.specs.Kinds.{named_in};
+ghost use Rattle.chain_interlinks.specs.Agreeing.{AgreesAt};
+ghost use Rattle.chain_interlinks.specs.Gaps.{IsGapOf};
+
+use arena_base::{Arena, ArenaSlot};
+use arena_ptr::{InvalidationResult, Ptr, PtrInx, SlotStack};
+use chain_interlinks::gaps::Gap;
+use chain_interlinks::{agreeing, gaps, interlinks};
+use chain_links::LinkNoGen;
+use chain_links::kinds::{Name, NamedKind};
+
+/// `chain_interlinks::interlinks::link_up`.
+pub fn link_up<P: Ptr, T: Drop, S: SlotStack<Item = ArenaSlot<P, LinkNoGen<P, T>>>>(
+    arena: &mut Arena<P, LinkNoGen<P, T>, S>,
+    prev: Option<P::Inx>,
+    next: Option<P::Inx>,
+)
+    ensures { seen_links P.Inx.packed_number arena.new ≡ relinked (seen_links P.Inx.packed_number arena.old)
+        (linked (shown (seen_links P.Inx.packed_number arena.old)) (option_map P.Inx.number prev) (option_map P.Inx.number next)) }
+{
+    interlinks::link_up(arena, prev, next);
+}
+
+/// `chain_interlinks::interlinks::take_out`.
+pub fn take_out<P: Ptr, T: Drop, S: SlotStack<Item = ArenaSlot<P, LinkNoGen<P, T>>>>(
+    arena: &mut Arena<P, LinkNoGen<P, T>, S>,
+    i: P::Inx,
+) -> InvalidationResult<(P::Gen, LinkNoGen<P, T>)>
+    ensures answer { option_map (seen_pair P.Inx.packed_number) (value_within result) ≡ entry_at (seen_links P.Inx.packed_number arena.old) (P.Inx.number i) }
+    ensures overflow { result ≡ invalidation_result (P.Gen.wraps arena.old.counter) (value_within result) }
+    ensures valid { IsSome (value_within result) → seen_links P.Inx.packed_number arena.new ≡ remove_link P.Gen.following (seen_links P.Inx.packed_number arena.old) (P.Inx.number i) }
+    ensures invalid { value_within result ≡ None → arena.new ≡ arena.old }
+{
+    interlinks::take_out(arena, i)
+}
+
+/// `chain_interlinks::agreeing::agrees_at`.
+pub fn agrees_at<P: Ptr, T: Drop, S: SlotStack<Item = ArenaSlot<P, LinkNoGen<P, T>>>>(
+    arena: &Arena<P, LinkNoGen<P, T>, S>,
+    i: P::Inx,
+) -> bool
+    ensures { IsTrue result ↔ AgreesAt (shown (seen_links P.Inx.packed_number arena.now)) (P.Inx.number i) }
+{
+    agreeing::agrees_at(arena, i)
+}
+
+/// `chain_interlinks::gaps::gap_of`.
+pub fn gap_of<P: Ptr, T: Drop, S: SlotStack<Item = ArenaSlot<P, LinkNoGen<P, T>>>>(
+    arena: &Arena<P, LinkNoGen<P, T>, S>,
+    kind: NamedKind<Name<P, P::Inx>>,
+) -> Option<Gap<P::Inx>>
+    ensures { IsGapOf P.Inx.number (entry (seen_links P.Inx.packed_number arena.now)) (shown (seen_links P.Inx.packed_number arena.now)) (named_in P.key P.Inx.number kind) result }
+{
+    gaps::gap_of(arena, kind)
+}
