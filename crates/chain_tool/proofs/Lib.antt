@@ -1,8 +1,0 @@
-pub mod AnswerLemmas
-pub mod Coming
-pub mod Ending
-pub mod Feeding
-pub mod KindLemmas
-pub mod Pointers
-pub mod SlowLemmas
-pub mod WordLemmas

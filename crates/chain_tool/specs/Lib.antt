@@ -1,6 +1,0 @@
-pub mod Answers
-pub mod Commands
-pub mod Progress
-pub mod Slow
-pub mod Transcripts
-pub mod Words

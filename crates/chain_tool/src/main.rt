@@ -1,19 +1,7 @@
 //! A program over a chain arena: lines of commands come in, and their answers go out.
 #![tactic(auto)]
 
-mod answer;
-mod command;
-mod run;
-#[cfg(test)]
-mod slow;
-#[cfg(test)]
-mod small_arenas;
-#[cfg(test)]
-mod tests;
-mod text;
-mod words;
-
-use run::{ToolError, run};
+use chain_lines::{ToolError, run};
 use std::io::{BufWriter, writer};
 use std::process::ExitCode;
 

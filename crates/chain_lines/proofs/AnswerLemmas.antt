@@ -1,0 +1,94 @@
+-- A step that was made is some answer's step, also where memory for the answer was refused.
+use Rattle.std.proofs.Common.{OnOk, ◌≡◌, ℕ, ◌⊎◌, List, [], ◌∷◌, ◌++◌, Result, Ok, Err, OnErr, refl, sym, ap, ◌∙◌, inl, inr, subst, Bool, cond, append_assoc, append-nil, true, false}
+use Rattle.std.proofs.lemmas.Bool.{false≢true}
+use Rattle.arena_ptr.specs.declared.generation.gen32.Gen32.{Gen32}
+use Rattle.chain_links.specs.ChainArena.{LinkSeen}
+use Rattle.chain_lines.specs.declared.command.Command.{Command}
+use Rattle.chain_lines.specs.declared.command.Line.{Line}
+use Rattle.chain_lines.specs.declared.command.Line.TheVariants.{Good}
+use Rattle.chain_lines.specs.Answers.{Links, Gives, AnswersLine, link_text, walk_text}
+
+-- a text that was cleared and pushed to
+pushed_is : (old v_text new : List ℕ) → old ≡ [] → new ≡ old ++ v_text → new ≡ v_text
+pushed_is old text new none is = is ∙ ap (λ b. b ++ text) none
+
+module _ {T E : Type 0} where
+  -- what is said of a text is said of the same text pushed to one that was cleared
+  pub answers_ok : (P : List ℕ → Links → Type 0) (new : Links) (before after text : List ℕ) (r : Result T E) → before ≡ [] → OnOk r (after ≡ before ++ text) → P text new → OnOk r (P after new)
+  answers_ok P new before after text (Ok x) none is answer = subst (λ t. P t new) (sym (pushed_is before text after none is)) answer
+  answers_ok P new before after text (Err e) none is answer = tt
+
+  -- .. and where it was not pushed, some text is answered
+  pub answers_err : (P : List ℕ → Links → Type 0) (new : Links) (text : List ℕ) (r : Result T E) → P text new → OnErr r ((words : List ℕ) × P words new)
+  answers_err P new text (Ok x) answer = tt
+  answers_err P new text (Err e) answer = (text, answer)
+
+  -- what a command's step leaves, a line's step leaves
+  pub line_err : (old new : Links) (line : Line) (command : Command) (r : Result T E) → Good command ≡ line → (new ≡ old) ⊎ ((words : List ℕ) × Gives old command words new)
+      → OnErr r ((new ≡ old) ⊎ ((words : List ℕ) × AnswersLine old line words new))
+  line_err old new line command (Ok x) is steps = tt
+  line_err old new line command (Err e) is steps =
+      elim steps [ inl same ↦ inl same | inr some ↦ inr (some.0 ++ 10 ∷ [], subst (λ l. AnswersLine old l (some.0 ++ 10 ∷ []) new) is (some.0, refl, some.1)) ]
+
+-- ---- the text of a walk
+
+abbrev pub Passed : Type 0
+Passed = ℕ × (Gen32 × LinkSeen ℕ)
+
+abbrev pub is_none : List Passed → Bool
+is_none [] = true
+is_none (e ∷ links) = false
+
+-- the links passed are in the text, and the others are left
+pub record IsWalked (before text : List ℕ) (first : Bool) (all left : List Passed) : Type 0 where
+  pub passed : List Passed
+  pub walk : all ≡ passed ++ left
+  pub written : text ≡ before ++ walk_text passed
+  pub start : first ≡ is_none passed
+
+pub walk_text-more : (passed : List Passed) (e : Passed) → walk_text (passed ++ e ∷ []) ≡ cond (is_none passed) (link_text e) (walk_text passed ++ 32 ∷ link_text e)
+walk_text-more [] e = refl
+walk_text-more (d ∷ []) e = refl
+walk_text-more (d ∷ f ∷ passed) e =
+    ap (λ l. link_text d ++ 32 ∷ l) (walk_text-more (f ∷ passed) e) ∙ sym (append_assoc (link_text d) (32 ∷ walk_text (f ∷ passed)) (32 ∷ link_text e))
+
+module _ (before text joined more : List ℕ) (first : Bool) (all left after : List Passed) (e : Passed)
+    (walked : IsWalked before text first all left) (next : left ≡ e ∷ after) (link : more ≡ joined ++ link_text e) where
+  passes : all ≡ (walked.passed ++ e ∷ []) ++ after
+  passes = walked.walk ∙ ap (λ l. walked.passed ++ l) next ∙ sym (append_assoc walked.passed (e ∷ []) after)
+
+  some_passed : false ≡ is_none (walked.passed ++ e ∷ [])
+  some_passed = by_list walked.passed
+    where
+      by_list : (passed : List Passed) → false ≡ is_none (passed ++ e ∷ [])
+      by_list [] = refl
+      by_list (d ∷ passed) = refl
+
+  -- the first link stands in the text as it is
+  pub IsWalked-first : first ≡ true → joined ≡ text → IsWalked before more false all after
+  IsWalked-first none_yet same = record {
+    passed = walked.passed ++ e ∷ [];
+    walk = passes;
+    written = by_list walked.passed (sym none_yet ∙ walked.start) walked.written;
+    start = some_passed;
+  }
+    where
+      by_list : (passed : List Passed) → true ≡ is_none passed → text ≡ before ++ walk_text passed → more ≡ before ++ walk_text (passed ++ e ∷ [])
+      by_list [] none written = link ∙ ap (λ l. l ++ link_text e) (same ∙ written ∙ append-nil before)
+      by_list (d ∷ passed) none written = absurd (false≢true (sym none))
+
+  -- .. each other one after a space
+  pub IsWalked-next : first ≡ false → joined ≡ text ++ 32 ∷ [] → IsWalked before more false all after
+  IsWalked-next later spaced = record {
+    passed = walked.passed ++ e ∷ [];
+    walk = passes;
+    written = by_list walked.passed (sym later ∙ walked.start) walked.written;
+    start = some_passed;
+  }
+    where
+      by_list : (passed : List Passed) → false ≡ is_none passed → text ≡ before ++ walk_text passed → more ≡ before ++ walk_text (passed ++ e ∷ [])
+      by_list [] some written = absurd (false≢true some)
+      by_list (d ∷ passed) some written =
+          link ∙ ap (λ l. l ++ link_text e) (spaced ∙ ap (λ l. l ++ 32 ∷ []) written)
+          ∙ append_assoc (before ++ walk_text (d ∷ passed)) (32 ∷ []) (link_text e) ∙ append_assoc before (walk_text (d ∷ passed)) (32 ∷ link_text e)
+          ∙ ap (λ l. before ++ l) (sym (walk_text-more (d ∷ passed) e))

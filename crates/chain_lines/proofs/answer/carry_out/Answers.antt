@@ -1,0 +1,30 @@
+use Rattle.std.proofs.Common.{◌⊎◌, inr, refl, OnOk, OnErr, Result, Ok, Err, List, ℕ}
+use Rattle.arena_ptr.specs.ToolPtr.{key_of}
+use Rattle.arena_ptr.specs.declared.tool_ptr.ToolPtr.{ToolPtr}
+use Rattle.chain_lines.specs.Answers.{Links, Gives, Shows, Walks}
+use Rattle.chain_lines.specs.declared.command.Command.TheVariants.{Show, Chain}
+use Rattle.chain_lines.proofs.answer.carry_out.Goals as goal
+
+shows_ok : {T E : Type 0} (old : Links) (p : ToolPtr) (text : List ℕ) (r : Result T E) → OnOk r (Shows old (key_of p) text) → OnOk r (Gives old (Show p) text old)
+shows_ok old p text (Ok x) shows = (shows, refl)
+shows_ok old p text (Err e) shows = tt
+
+walks_ok : {T E : Type 0} (old : Links) (p : ToolPtr) (text : List ℕ) (r : Result T E) → OnOk r (Walks old (key_of p) text) → OnOk r (Gives old (Chain p) text old)
+walks_ok old p text (Ok x) walks = (walks, refl)
+walks_ok old p text (Err e) walks = tt
+
+step_or : {T E : Type 0} (Same Steps : Type 0) (r : Result T E) → OnErr r Steps → OnErr r (Same ⊎ Steps)
+step_or Same Steps (Ok x) steps = tt
+step_or Same Steps (Err e) steps = inr steps
+
+pub returns-in-Show-clause-ok : goal.returns-in-Show-clause-ok
+returns-in-Show-clause-ok g c = rw c.in-Show.is (shows_ok _ c.in-Show.p _ c.show.result c.show.ensures)
+
+pub returns-in-Chain-clause-ok : goal.returns-in-Chain-clause-ok
+returns-in-Chain-clause-ok g c = rw c.in-Chain.is (walks_ok _ c.in-Chain.p _ c.chain.result c.chain.ensures)
+
+pub returns-in-Change-clause-err : goal.returns-in-Change-clause-err
+returns-in-Change-clause-err g c = rw c.in-Change.is (step_or _ _ c.change.result c.change.ensures.err)
+
+pub returns-clause-err : goal.returns-clause-err
+returns-clause-err g c = rw c.in-Moves.is c.moves.ensures.err

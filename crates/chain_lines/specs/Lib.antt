@@ -1,0 +1,5 @@
+pub mod Answers
+pub mod Commands
+pub mod Progress
+pub mod Transcripts
+pub mod Words

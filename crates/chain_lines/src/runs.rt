@@ -1,0 +1,202 @@
+//! A run: lines come in from a reader, and their answers go out to a writer.
+ghost use Rattle.std.specs.Prelude.{◌≡◌, ℕ, List, ◌∷◌, [], ◌++◌, OnOk, OnErr, IfErr, take, length, Option, None, IfOk, ◌<◌, ◌≤◌, vec_len};
+ghost use Rattle.std.specs.Io.KnownBytes.{Appends, Consumes, Keeps, IsAtEnd};
+ghost use Rattle.arena_ptr.specs.Generations.{two32};
+ghost use Rattle.arena_base.specs.Arena.{new_arena};
+ghost use Rattle.chain_lines.specs.Answers.{Links};
+ghost use Rattle.chain_lines.specs.Progress.{AnswersOne, Progress, Comes};
+ghost use Rattle.chain_lines.specs.Transcripts.{Ends};
+
+use crate::answer::answer;
+use arena_base::{ArenaSlot, ArenaTrait};
+use arena_ptr::{SlotStack, ToolPtr};
+use chain_arena::{ChainArena, LinkNoGen};
+use std::alloc::Global;
+use std::io::{ErrorKind, Read, Write};
+
+/// Why a run stopped before the end of its input.
+#[derive(Clone, Copy, Debug, PartialEq, Eq)]
+pub enum ToolError {
+    /// The reader failed.
+    Read,
+    /// The writer failed.
+    Write,
+    /// There is no memory for a line or an answer.
+    Memory,
+}
+
+/// Gives a text to a writer. A write that was interrupted is tried again.
+fn put<W: Write>(writer: &mut W, text: &[u8]) -> Result<(), ToolError>
+    ensures ok { OnOk result (Appends (W.contents writer.old) (W.contents writer.new) text.now) }
+    ensures err { OnErr result ((n : ℕ) × Appends (W.contents writer.old) (W.contents writer.new) (take n text.now)) }
+    ensures error { IfErr result (λ e. e ≡ ToolError.Write) }
+{
+    let mut written = 0;
+    for _ in 0..u64::MAX {
+        if written >= text.len() {
+            return Ok(());
+        }
+        let (_, rest) = text.split_at(written);
+        match writer.write(rest) {
+            Ok(0) => return Err(ToolError::Write),
+            Ok(n) => written += n,
+            Err(e) => {
+                if e.kind() != ErrorKind::Interrupted {
+                    return Err(ToolError::Write);
+                }
+            }
+        }
+    }
+    Err(ToolError::Write)
+}
+
+/// Carries out a line, and gives its answer to the writer.
+fn reply<W: Write, S: SlotStack<Item = ArenaSlot<ToolPtr, LinkNoGen<ToolPtr, u32>>>>(
+    arena: &mut ChainArena<ToolPtr, u32, S>,
+    line: &[u8],
+    text: &mut String,
+    writer: &mut W,
+) -> Result<(), ToolError>
+    ensures { AnswersOne result arena.old arena.new line.now (W.contents writer.old) (W.contents writer.new) }
+{
+    match answer(arena, line, text) {
+        Ok(()) => put(writer, text.as_bytes()),
+        Err(_) => Err(ToolError::Memory),
+    }
+}
+
+/// Keeps one more byte of an unfinished line, up to 201 bytes.
+fn keep(line: &mut Vec<u8>, byte: u8) -> Result<(), ToolError>
+    ensures ok { OnOk result ((rest : List ℕ) → line.old.items ≡ take 201 rest → line.new.items ≡ take 201 (rest ++ byte ∷ [])) }
+    ensures error { IfErr result (λ e. e ≡ ToolError.Memory) }
+{
+    if line.len() > 200 {
+        return Ok(());
+    }
+    match line.push(byte) {
+        Ok(()) => Ok(()),
+        Err(_) => Err(ToolError::Memory),
+    }
+}
+
+/// Answers the lines that a piece of the input ends, and keeps what it has of the next.
+fn feed<W: Write, S: SlotStack<Item = ArenaSlot<ToolPtr, LinkNoGen<ToolPtr, u32>>>>(
+    arena: &mut ChainArena<ToolPtr, u32, S>,
+    piece: &[u8],
+    line: &mut Vec<u8>,
+    text: &mut String,
+    writer: &mut W,
+) -> Result<(), ToolError>
+    ensures { (old : Links) (read : List ℕ) (held : Option (List ℕ)) →
+        Progress old read arena.old line.old.items held (W.contents writer.old) →
+        Comes result old (read ++ piece.now) arena.new line.new.items held (W.contents writer.new) }
+{
+    for byte in piece {
+        if *byte == b'\n' {
+            reply(arena, line, text, writer)?;
+            line.clear();
+        } else {
+            keep(line, *byte)?;
+        }
+    }
+    Ok(())
+}
+
+/// Flushes a writer.
+fn flush<W: Write>(writer: &mut W) -> Result<(), ToolError>
+    ensures kept { Keeps (W.contents writer.old) (W.contents writer.new) }
+    ensures error { IfErr result (λ e. e ≡ ToolError.Write) }
+{
+    match writer.flush() {
+        Ok(()) => Ok(()),
+        Err(_) => Err(ToolError::Write),
+    }
+}
+
+/// Reads a piece of the input: how many bytes came, none only at the end.
+fn read_piece<R: Read>(reader: &mut R, piece: &mut [u8]) -> Result<usize, ToolError>
+    ensures bound { IfOk result (λ n. n ≤ length piece.new) }
+    ensures bytes { IfOk result (λ n. Consumes (R.remaining reader.old) (R.remaining reader.new) (take n piece.new)) }
+    ensures end { IfOk result (λ n. n ≡ 0 → 0 < length piece.new → IsAtEnd (R.remaining reader.new)) }
+    ensures err { OnErr result (Keeps (R.remaining reader.old) (R.remaining reader.new)) }
+    ensures error { IfErr result (λ e. e ≡ ToolError.Read) }
+{
+    match reader.read(piece) {
+        Ok(n) => Ok(n),
+        Err(_) => Err(ToolError::Read),
+    }
+}
+
+/// Answers the last line, which no line feed ended.
+fn finish<W: Write, S: SlotStack<Item = ArenaSlot<ToolPtr, LinkNoGen<ToolPtr, u32>>>>(
+    arena: &mut ChainArena<ToolPtr, u32, S>,
+    line: &[u8],
+    text: &mut String,
+    writer: &mut W,
+) -> Result<(), ToolError>
+    ensures { AnswersOne result arena.old arena.new line.now (W.contents writer.old) (W.contents writer.new) }
+{
+    reply(arena, line, text, writer)?;
+    flush(writer)
+}
+
+/// Room for a piece of the input.
+fn room(alloc: Global) -> Result<Vec<u8>, ToolError>
+    ensures some { IfOk result (λ piece. 0 < vec_len piece) }
+    ensures error { IfErr result (λ e. e ≡ ToolError.Memory) }
+{
+    match vec![in alloc; 0u8; 65536] {
+        Ok(piece) => Ok(piece),
+        Err(_) => Err(ToolError::Memory),
+    }
+}
+
+/// Carries out the lines of a reader, piece by piece.
+fn run_pieces<R: Read, W: Write, S: SlotStack<Item = ArenaSlot<ToolPtr, LinkNoGen<ToolPtr, u32>>>>(
+    alloc: Global,
+    arena: &mut ChainArena<ToolPtr, u32, S>,
+    reader: &mut R,
+    writer: &mut W,
+    piece: &mut [u8],
+) -> Result<(), ToolError>
+    requires { 0 < length piece.old }
+    ensures { Ends result arena.old arena.new (R.remaining reader.old) (R.remaining reader.new) (W.contents writer.old) (W.contents writer.new) }
+{
+    let mut line = Vec::new(alloc);
+    let mut text = String::new(alloc);
+    for _ in 0..u64::MAX {
+        flush(writer)?;
+        let n = read_piece(reader, piece)?;
+        if n == 0 {
+            return finish(arena, &line, &mut text, writer);
+        }
+        feed(arena, &piece[..n], &mut line, &mut text, writer)?;
+    }
+    Err(ToolError::Read)
+}
+
+/// Carries out the lines of a reader on an arena, and gives their answers to a writer, which is flushed before each
+/// read.
+pub fn run_on<R: Read, W: Write, S: SlotStack<Item = ArenaSlot<ToolPtr, LinkNoGen<ToolPtr, u32>>>>(
+    alloc: Global,
+    arena: &mut ChainArena<ToolPtr, u32, S>,
+    reader: &mut R,
+    writer: &mut W,
+) -> Result<(), ToolError>
+    ensures { Ends result arena.old arena.new (R.remaining reader.old) (R.remaining reader.new) (W.contents writer.old) (W.contents writer.new) }
+{
+    let mut piece = room(alloc)?;
+    run_pieces(alloc, arena, reader, writer, &mut piece)
+}
+
+/// Carries out the lines of a reader on a new arena: empty, with the counter two, no room and no maximum.
+pub fn run<R: Read, W: Write>(
+    alloc: Global,
+    reader: &mut R,
+    writer: &mut W,
+) -> Result<(), ToolError>
+    ensures { (new : Links) × Ends result (new_arena two32 None) new (R.remaining reader.old) (R.remaining reader.new) (W.contents writer.old) (W.contents writer.new) }
+{
+    let mut arena: ChainArena<ToolPtr, u32> = ChainArena::new(alloc);
+    run_on(alloc, &mut arena, reader, writer)
+}

@@ -1,0 +1,677 @@
+//! Runs of the program over readers and writers in memory.
+ghost use Rattle.std.specs.Prelude.{◌≡◌, ℕ, List, ◌∷◌, [], codes, true, Some, None, option_map};
+ghost use Rattle.chain_links.specs.declared.kinds.InsertKindBody.TheVariants.{Disconnected, SingleLinkCyclic, ChainEnd, NextToInx, BridgeInx};
+ghost use Rattle.arena_ptr.specs.declared.index.inx32.Inx32.{Inx32};
+ghost use Rattle.arena_ptr.specs.declared.tool_ptr.ToolPtr.{ToolPtr};
+ghost use Rattle.chain_arena.specs.declared.calls.Call.TheVariants.{Insert, InsertWithin, Remove, RemoveInx, DrainChain, Compress, CompressCanonical, Reserve, IncGeneration};
+ghost use Rattle.chain_lines.specs.declared.command.Command.TheVariants.{Change, Len, Moves};
+ghost use Rattle.chain_lines.specs.declared.command.Line.TheVariants.{Blank, Bad, Good};
+ghost use Rattle.chain_lines.specs.Words.{lines_of, whole_lines, without_return, words_of, number_of, index_word, pointer_of};
+ghost use Rattle.chain_lines.specs.Commands.{line_of};
+ghost use Rattle.chain_lines.specs.Transcripts.{AreComplete};
+
+use arena_base::{ArenaSlot, ArenaTrait};
+use arena_ptr::{Gen32, LimitedStack, SetMaxCapacity, ToolPtr};
+use chain_arena::{ChainArena, ChainArenaTrait, LinkInsertKind, LinkNoGen};
+use chain_lines::{ToolError, run, run_on};
+use std::alloc::Global;
+use std::fmt::Debug;
+use std::io;
+use std::io::{ErrorKind, Read, Write};
+use std::process::Abort;
+
+/// The arena of a run.
+pub type Links = ChainArena<ToolPtr, u32>;
+
+/// An empty arena.
+fn empty(alloc: Global) -> Links {
+    Links::new(alloc)
+}
+
+/// An arena with a limit.
+type Limited = ChainArena<ToolPtr, u32, LimitedStack<ArenaSlot<ToolPtr, LinkNoGen<ToolPtr, u32>>>>;
+
+/// Looks whether a test got what it wants.
+pub fn same<T: PartialEq + Debug + Drop>(rt: &impl Abort, what: &str, got: T, want: T) {
+    assert_eq!(rt; got, want, "{what}");
+}
+
+/// Runs the program on bytes, and looks whether it reads them to their end and writes these.
+fn check(rt: &impl Abort, alloc: Global, what: &str, input: &[u8], output: &[u8]) {
+    let mut reader = input;
+    let mut written = Vec::new(alloc);
+    let result = run(alloc, &mut reader, &mut written);
+    same(rt, what, result, Ok(()));
+    same(rt, what, written.as_slice(), output);
+    same(rt, what, reader.len(), 0);
+}
+
+/// Runs the program on texts, and looks whether it writes these.
+fn check_texts(rt: &impl Abort, alloc: Global, rows: &[(&str, &str)]) {
+    for (input, output) in rows {
+        check(rt, alloc, input, input.as_bytes(), output.as_bytes());
+    }
+}
+
+/// Carries out a text on an arena, and looks whether the program writes these lines.
+fn check_on(rt: &impl Abort, alloc: Global, arena: &mut Links, input: &str, output: &str) {
+    let mut reader = input.as_bytes();
+    let mut written = Vec::new(alloc);
+    let result = run_on(alloc, arena, &mut reader, &mut written);
+    same(rt, input, result, Ok(()));
+    same(rt, input, written.as_slice(), output.as_bytes());
+}
+
+/// The definitions on small texts.
+fn definitions()
+    ensures lines { lines_of (97 ∷ 10 ∷ 10 ∷ 98 ∷ []) ≡ (97 ∷ []) ∷ [] ∷ (98 ∷ []) ∷ [] }
+    ensures no_line { lines_of [] ≡ [] ∷ [] }
+    ensures ended { lines_of (97 ∷ 10 ∷ []) ≡ (97 ∷ []) ∷ [] ∷ [] }
+    ensures whole { whole_lines (97 ∷ 10 ∷ 98 ∷ []) ≡ (97 ∷ []) ∷ [] }
+    ensures return_dropped { without_return (97 ∷ 13 ∷ 13 ∷ []) ≡ 97 ∷ 13 ∷ [] }
+    ensures return_within { without_return (13 ∷ 97 ∷ []) ≡ 13 ∷ 97 ∷ [] }
+    ensures words { words_of (codes "  add  7 ") ≡ codes "add" ∷ codes "7" ∷ [] }
+    ensures no_words { words_of (codes "   ") ≡ [] }
+    ensures number { number_of (codes "007") ≡ Some 7 }
+    ensures greatest { number_of (codes "4294967295") ≡ Some 4294967295 }
+    ensures too_great { number_of (codes "4294967296") ≡ None }
+    ensures too_long { number_of (codes "00000000007") ≡ None }
+    ensures no_digit { number_of (codes "7x") ≡ None }
+    ensures no_number { number_of [] ≡ None }
+    ensures index { option_map (λ p. p.inx.number) (pointer_of (codes "12.3")) ≡ Some 12 }
+    ensures generation { option_map (λ p. p.generation.number) (pointer_of (codes "12.3")) ≡ Some 3 }
+    ensures index_zero { pointer_of (codes "0.3") ≡ None }
+    ensures generation_zero { pointer_of (codes "12.0") ≡ None }
+    ensures two_dots { pointer_of (codes "1.2.3") ≡ None }
+    ensures len { line_of (codes " len ") ≡ Good Len }
+    ensures add { line_of (codes "add alone 7") ≡ Good (Change (Insert Disconnected 7)) }
+    ensures add_within { line_of (codes "addwithin ring 7") ≡ Good (Change (InsertWithin SingleLinkCyclic 7)) }
+    ensures by_pointer { (p : ToolPtr) → pointer_of (codes "1.2") ≡ Some p → line_of (codes "add end 1.2 7") ≡ Good (Change (Insert (ChainEnd p) 7)) }
+    ensures by_index { (i : Inx32) → index_word (codes "1") ≡ Some i → line_of (codes "addwithin after 1 7") ≡ Good (Change (InsertWithin (NextToInx i) 7)) }
+    ensures by_indexes { (i j : Inx32) → index_word (codes "3") ≡ Some i → index_word (codes "1") ≡ Some j → line_of (codes "add bridge 3 1 7") ≡ Good (Change (Insert (BridgeInx i j) 7)) }
+    ensures remove_pointer { (p : ToolPtr) → pointer_of (codes "1.2") ≡ Some p → line_of (codes "remove 1.2") ≡ Good (Change (Remove p)) }
+    ensures remove_index { (i : Inx32) → index_word (codes "1") ≡ Some i → line_of (codes "remove 1") ≡ Good (Change (RemoveInx i)) }
+    ensures mixed_forms { line_of (codes "add between 1.2 1 5") ≡ Bad }
+    ensures drain { (p : ToolPtr) → pointer_of (codes "1.2") ≡ Some p → line_of (codes "drain 1.2 3") ≡ Good (Change (DrainChain p 3)) }
+    ensures drain_alone { line_of (codes "drain") ≡ Bad }
+    ensures compress { line_of (codes "compress reset") ≡ Good (Change (Compress true)) }
+    ensures canonical { line_of (codes "canonical reset") ≡ Good (Change (CompressCanonical true)) }
+    ensures moves { line_of (codes "moves reset") ≡ Good (Moves true) }
+    ensures reserve { line_of (codes "reserve 9") ≡ Good (Change (Reserve 9)) }
+    ensures incgen { line_of (codes "incgen") ≡ Good (Change IncGeneration) }
+    ensures setgen_zero { line_of (codes "setgen 0") ≡ Bad }
+    ensures blank { line_of (codes " ") ≡ Blank }
+    ensures unfinished { (lines : List (List ℕ)) → AreComplete (codes "add alone 2") (Some (codes "5")) lines → lines ≡ [] }
+    ensures finished { AreComplete (codes "add alone 2") (Some []) (codes "add alone 2" ∷ []) }
+{}
+
+#[test]
+fn small_texts() {
+    definitions();
+}
+
+#[test]
+fn two_lone_links_connected(rt: HostRuntime) {
+    let input = "add alone 10\nadd alone 20\nconnect 1.2 2.2\nchain 1.2\n";
+    let output = "at 1.2\nat 2.2\nok\n1.2:10 2.2:20\n";
+    check_texts(&rt, rt.alloc(), &[(input, output)]);
+}
+
+#[test]
+fn first_table(rt: HostRuntime) {
+    let input =
+        "add alone 1\nconnect 1.2 1.2\nshow 1.2\nconnect 1.2 1.2\nadd end 1.2 2\nadd alone 2\nadd alone 3\n\
+        connect 2.2 3.2\nconnect 3.2 2.2\nchain 3.2\nlen\nbreaknext 3.2\n";
+    let output = "at 1.2\nok\nprev 1.2 next 1.2 value 1\nnone\nrefused link\nat 2.2\nat 3.2\n\
+        ok\nok\n3.2:3 2.2:2\ncount 3\nok\n";
+    check_texts(&rt, rt.alloc(), &[(input, output)]);
+}
+
+#[test]
+fn lines_and_words(rt: HostRuntime) {
+    const ROWS: [(&str, &str); 19] = [
+        ("", ""),
+        ("\n\n \n", ""),
+        ("\r\n  \r\n", ""),
+        ("len", "count 0\n"),
+        ("len\r", "count 0\n"),
+        ("len\n", "count 0\n"),
+        ("  len  \n", "count 0\n"),
+        ("add  alone   007\r\n", "at 1.2\n"),
+        ("len\r\r\n", "bad line\n"),
+        ("len\t\n", "bad line\n"),
+        ("LEN\n", "bad line\n"),
+        ("le\n", "bad line\n"),
+        ("len 1\n", "bad line\n"),
+        ("add alone\n", "bad line\n"),
+        ("add alone 1 2\n", "bad line\n"),
+        ("connect 1.2\n", "bad line\n"),
+        ("connect 1.2 1.2 1.2\n", "bad line\n"),
+        ("hello\nlen\n", "bad line\ncount 0\n"),
+        ("remove 1.2 1.2\nclear\n", "bad line\nok\n"),
+    ];
+    check_texts(&rt, rt.alloc(), &ROWS);
+}
+
+#[test]
+fn kinds_and_values(rt: HostRuntime) {
+    const ROWS: [(&str, &str); 20] = [
+        ("add end 0.2 5\n", "bad line\n"),
+        ("add end 0 5\n", "bad line\n"),
+        ("add between 1.2 1 5\n", "bad line\n"),
+        ("add bridge 1 1.2 5\n", "bad line\n"),
+        ("add ring\n", "bad line\n"),
+        ("add ring 1 2\n", "bad line\n"),
+        ("add end 1.2\n", "bad line\n"),
+        ("add end 1.2 2.2 5\n", "bad line\n"),
+        ("add between 1.2 5\n", "bad line\n"),
+        ("add between 1 2 3 5\n", "bad line\n"),
+        ("add sideways 1.2 3\n", "bad line\n"),
+        ("add alone 1.2\n", "bad line\n"),
+        ("add 3\n", "bad line\n"),
+        ("add\n", "bad line\n"),
+        ("addwithin 3\n", "bad line\n"),
+        ("addwithin alone 1 2\n", "bad line\n"),
+        ("addwithin alone 1\n", "refused capacity\n"),
+        ("addwithin end 1 1\n", "refused link\n"),
+        ("add after 1 1\n", "refused link\n"),
+        ("add before 4294967295.2 1\n", "refused link\n"),
+    ];
+    check_texts(&rt, rt.alloc(), &ROWS);
+}
+
+#[test]
+fn kinds_table(rt: HostRuntime) {
+    let input =
+        "add alone 1\nadd between 1.2 1.2 5\nadd bridge 1.2 1.2 2\nadd before 1 3\nadd between 3 1 4\n\
+        chain 2.2\nadd ring 6\nadd after 5.2 7\nshow 5.2\nadd start 5 8\naddwithin end 5.2 9\n";
+    let output =
+        "at 1.2\nrefused link\nat 2.2\nat 3.2\nat 4.2\n2.2:2 3.2:3 4.2:4 1.2:1\nat 5.2\nat 6.2\n\
+        prev 6.2 next 6.2 value 6\nrefused link\nrefused link\n";
+    check_texts(&rt, rt.alloc(), &[(input, output)]);
+}
+
+#[test]
+fn a_chain_grown_joined_and_drained(rt: HostRuntime) {
+    let input =
+        "add alone 1\nadd alone 2\nconnect 1.2 2.2\nadd end 1.2 9\nadd end 2.2 4\nadd between 2.2 3.2 3\n\
+        add alone 5\nadd end 5.2 6\nadd end 6.2 7\nconnect 3.2 5.2\nchain 1.2\nremove 3.2\nchain 1.2\n\
+        drain 5.2 0\nlen\nadd alone 8\n";
+    let output = "at 1.2\nat 2.2\nok\nrefused link\nat 3.2\nat 4.2\nat 5.2\nat 6.2\nat 7.2\nok\n\
+        1.2:1 2.2:2 4.2:3 3.2:4 5.2:5 6.2:6 7.2:7\nvalue 4\n1.2:1 2.2:2 4.2:3 5.2:5 6.2:6 7.2:7\n\
+        count 0\ncount 0\nat 1.9\n";
+    check_texts(&rt, rt.alloc(), &[(input, output)]);
+}
+
+#[test]
+fn each_kind_by_pointer_and_by_index(rt: HostRuntime) {
+    let by_pointer =
+        "add alone 1\nadd end 1.2 2\nadd start 1.2 3\nadd after 3.2 4\nadd before 2.2 5\nadd between 1.2 5.2 6\n\
+        add bridge 2.2 3.2 7\nadd ring 8\nchain 3.2\nchain 8.2\n";
+    let by_index =
+        "add alone 1\nadd end 1 2\nadd start 1 3\nadd after 3 4\nadd before 2 5\nadd between 1 5 6\n\
+        add bridge 2 3 7\nadd ring 8\nchain 3.2\nchain 8.2\n";
+    let output = "at 1.2\nat 2.2\nat 3.2\nat 4.2\nat 5.2\nat 6.2\nat 7.2\nat 8.2\n\
+        3.2:3 4.2:4 1.2:1 6.2:6 5.2:5 2.2:2 7.2:7\n8.2:8\n";
+    check_texts(&rt, rt.alloc(), &[(by_pointer, output), (by_index, output)]);
+}
+
+#[test]
+fn numbers_and_pointers(rt: HostRuntime) {
+    const ROWS: [(&str, &str); 21] = [
+        (
+            "add alone 4294967295\nshow 1.2\n",
+            "at 1.2\nprev - next - value 4294967295\n",
+        ),
+        ("add alone 4294967296\n", "bad line\n"),
+        ("add alone 0000000007\nchain 1.2\n", "at 1.2\n1.2:7\n"),
+        ("add alone 00000000007\n", "bad line\n"),
+        ("add alone -1\n", "bad line\n"),
+        ("add alone +1\n", "bad line\n"),
+        ("add alone 1x\n", "bad line\n"),
+        ("show 0.2\n", "bad line\n"),
+        ("show 1.0\n", "bad line\n"),
+        ("show 1.1\n", "none\n"),
+        ("chain 1.2\n", "none\n"),
+        ("drain 9.9 1\n", "none\n"),
+        ("connect 1.2 1.2\n", "none\n"),
+        ("show 4294967295.4294967295\n", "none\n"),
+        ("show 4294967296.2\n", "bad line\n"),
+        ("show 1\n", "bad line\n"),
+        ("show 1.\n", "bad line\n"),
+        ("show .2\n", "bad line\n"),
+        ("show .\n", "bad line\n"),
+        ("show 1.2.3\n", "bad line\n"),
+        (
+            "add alone 5\nshow 01.002\n",
+            "at 1.2\nprev - next - value 5\n",
+        ),
+    ];
+    check_texts(&rt, rt.alloc(), &ROWS);
+}
+
+/// A command, enough spaces to fill a line of this length, and what ends the line.
+fn filled(rt: &impl Abort, alloc: Global, command: &str, len: usize, end: &str) -> String {
+    format!(in alloc; "{command:len$}{end}").expect(rt, "memory")
+}
+
+/// What a row is about, a command, the length that spaces fill its line to, what ends the line, and what the program
+/// writes.
+type FilledLine<'a> = (&'a str, &'a str, usize, &'a str, &'a str);
+
+/// Runs the program on a filled line, and looks whether it writes this.
+fn check_filled(rt: &impl Abort, alloc: Global, line: &FilledLine<'_>) {
+    let (what, command, len, end, output) = line;
+    let input = filled(rt, alloc, command, *len, end);
+    same(rt, what, input.len().saturating_sub(end.len()), *len);
+    check(rt, alloc, what, input.as_bytes(), output.as_bytes());
+}
+
+/// Filled lines of up to 200 bytes, and longer ones.
+const FILLED_LINES: [FilledLine<'static>; 9] = [
+    ("200 bytes", "len", 200, "", "count 0\n"),
+    ("201 bytes", "len", 201, "", "bad line\n"),
+    ("200 bytes with a return", "len", 199, "\r\n", "count 0\n"),
+    ("201 bytes with a return", "len", 200, "\r\n", "bad line\n"),
+    (
+        "200 bytes and a line",
+        "len",
+        200,
+        "\nlen\n",
+        "count 0\ncount 0\n",
+    ),
+    ("200 spaces", "", 200, "\n", ""),
+    ("201 spaces", "", 201, "\n", "bad line\n"),
+    ("70000 spaces", "", 70000, "\nlen\n", "bad line\ncount 0\n"),
+    (
+        "lines of every sort, one of them 201 spaces",
+        "add end 0.2 5\nadd  alone   007\r\n\nadd between 1.2 1 5\n",
+        254,
+        "\nremove 4294967296.2\nremove 1\nchain 1.2\nlen",
+        "bad line\nat 1.2\nbad line\nbad line\nbad line\nvalue 7\nnone\ncount 0\n",
+    ),
+];
+
+#[test]
+fn lines_of_200_bytes_and_more(rt: HostRuntime) {
+    for line in &FILLED_LINES {
+        check_filled(&rt, rt.alloc(), line);
+    }
+}
+
+/// Gives its bytes, a few at a time, then fails once, and has later ones for who reads on.
+#[derive(Drop)]
+struct FailingReader<'a> {
+    left: &'a [u8],
+    later: &'a [u8],
+    step: usize,
+    fails_with: Option<ErrorKind>,
+}
+
+impl Read for FailingReader<'_> {
+    fn read(&mut self, buf: &mut [u8]) -> io::Result<usize> {
+        let n = self.step.min(buf.len()).min(self.left.len());
+        if n == 0 {
+            if let Some(kind) = self.fails_with.take() {
+                self.left = self.later;
+                return Err(io::Error::from(kind));
+            }
+        }
+        let (now, next) = self.left.split_at(n);
+        buf[..n].copy_from_slice(now);
+        self.left = next;
+        Ok(n)
+    }
+}
+
+/// Runs the program on a reader that fails once, in its third line, and looks at what it did before, and whether it read
+/// on.
+fn check_reader(rt: &impl Abort, alloc: Global, kind: ErrorKind, step: usize) {
+    let later = "5\nlen\n".as_bytes();
+    let mut reader = FailingReader {
+        left: "add alone 1\nlen\nadd alone 2".as_bytes(),
+        later,
+        step,
+        fails_with: Some(kind),
+    };
+    let mut written = Vec::new(alloc);
+    let mut arena = empty(alloc);
+    let result = run_on(alloc, &mut arena, &mut reader, &mut written);
+    same(rt, "the reader fails", result, Err(ToolError::Read));
+    let lines = "at 1.2\ncount 1\n".as_bytes();
+    same(rt, "whole lines are answered", written.as_slice(), lines);
+    same(rt, "the unfinished line is not carried out", arena.len(), 1);
+    same(rt, "nothing more is read", reader.left, later);
+}
+
+#[test]
+fn a_reader_that_fails_once(rt: HostRuntime) {
+    for kind in [
+        ErrorKind::Other,
+        ErrorKind::Interrupted,
+        ErrorKind::UnexpectedEof,
+    ] {
+        for step in [1, 2, 7, 100] {
+            check_reader(&rt, rt.alloc(), kind, step);
+        }
+    }
+}
+
+/// Takes a few bytes at a time, up to a limit, then fails once, and has room again for who writes on. So do its flushes.
+/// Each second write is interrupted.
+#[derive(Drop)]
+struct FailingWriter {
+    held: Vec<u8>,
+    step: usize,
+    room: usize,
+    is_interrupted: bool,
+    fails_with: Option<ErrorKind>,
+    flushes: usize,
+}
+
+impl Write for FailingWriter {
+    fn write(&mut self, buf: &[u8]) -> io::Result<usize> {
+        self.is_interrupted = !self.is_interrupted;
+        if self.is_interrupted {
+            return Err(io::Error::from(ErrorKind::Interrupted));
+        }
+        let n = self.step.min(buf.len()).min(self.room);
+        if n == 0 {
+            self.room = 1000;
+            return match self.fails_with {
+                Some(kind) => Err(io::Error::from(kind)),
+                None => Ok(0),
+            };
+        }
+        let (now, _) = buf.split_at(n);
+        self.held.extend_from_slice(now)?;
+        self.room -= n;
+        Ok(n)
+    }
+
+    fn flush(&mut self) -> io::Result<()> {
+        if self.flushes == 0 {
+            self.flushes = 1000;
+            return Err(io::Error::from(ErrorKind::Other));
+        }
+        self.flushes -= 1;
+        Ok(())
+    }
+}
+
+fn failing_writer(
+    alloc: Global,
+    step: usize,
+    room: usize,
+    fails_with: Option<ErrorKind>,
+) -> FailingWriter {
+    FailingWriter {
+        held: Vec::new(alloc),
+        step,
+        room,
+        is_interrupted: false,
+        fails_with,
+        flushes: 1000,
+    }
+}
+
+/// Runs the program on a writer that fails once, when it has no room, and looks at what it did before, and whether it
+/// wrote on.
+fn check_writer(
+    rt: &impl Abort,
+    alloc: Global,
+    fails_with: Option<ErrorKind>,
+    step: usize,
+    room: usize,
+) {
+    let mut reader = "add alone 1\nadd alone 2\nadd alone 3\n".as_bytes();
+    let output = "at 1.2\nat 2.2\nat 3.2\n".as_bytes();
+    let mut writer = failing_writer(alloc, step, room, fails_with);
+    let mut arena = empty(alloc);
+    let result = run_on(alloc, &mut arena, &mut reader, &mut writer);
+    same(rt, "the writer fails", result, Err(ToolError::Write));
+    let taken = &output[..room.min(output.len())];
+    let held = writer.held.as_slice();
+    same(rt, "it has what it took before", held, taken);
+    same(
+        rt,
+        "the line of the last answer is carried out",
+        arena.len(),
+        room / 7 + 1,
+    );
+}
+
+#[test]
+fn a_writer_that_fails_once(rt: HostRuntime) {
+    for fails_with in [None, Some(ErrorKind::Other), Some(ErrorKind::WriteZero)] {
+        for step in [1, 3, 100] {
+            for room in 0..21 {
+                check_writer(&rt, rt.alloc(), fails_with, step, room);
+            }
+        }
+    }
+}
+
+#[test]
+fn a_writer_that_is_interrupted(rt: HostRuntime) {
+    let mut reader = "add alone 1\nlen\n".as_bytes();
+    let mut writer = failing_writer(rt.alloc(), 1, 1000, None);
+    let result = run(rt.alloc(), &mut reader, &mut writer);
+    same(&rt, "it tries again", result, Ok(()));
+    let lines = "at 1.2\ncount 1\n".as_bytes();
+    same(&rt, "all lines come", writer.held.as_slice(), lines);
+}
+
+/// Runs the program on a writer of which one flush fails, and looks at what it wrote before, and whether it wrote on.
+fn check_flush(rt: &impl Abort, alloc: Global, flushes: usize, output: &str) {
+    let mut reader = "add alone 1\n".as_bytes();
+    let mut writer = failing_writer(alloc, 100, 1000, None);
+    writer.flushes = flushes;
+    let result = run(alloc, &mut reader, &mut writer);
+    same(rt, "the flush fails", result, Err(ToolError::Write));
+    same(
+        rt,
+        "lines before it",
+        writer.held.as_slice(),
+        output.as_bytes(),
+    );
+}
+
+#[test]
+fn a_flush_that_fails(rt: HostRuntime) {
+    for (flushes, output) in [(0, ""), (1, "at 1.2\n"), (2, "at 1.2\n")] {
+        check_flush(&rt, rt.alloc(), flushes, output);
+    }
+}
+
+#[test]
+fn a_given_arena(rt: HostRuntime) {
+    let mut arena = empty(rt.alloc());
+    let added = arena.insert_reallocating(LinkInsertKind::Disconnected, 5);
+    same(&rt, "added", added.is_ok(), true);
+    let input = "add alone 6\nconnect 2.2 1.2\n";
+    check_on(&rt, rt.alloc(), &mut arena, input, "at 2.2\nok\n");
+    check_on(&rt, rt.alloc(), &mut arena, "chain 2.2", "2.2:6 1.2:5\n");
+}
+
+#[test]
+fn removal_table(rt: HostRuntime) {
+    let input =
+        "add alone 1\nadd alone 2\nconnect 1.2 2.2\nconnect 2.2 1.2\nremove 2.2\nshow 1.2\nadd alone 9\n\
+        len\nremove 2.2\nremove 1.2 \nremove 1\nremove\n";
+    let output = "at 1.2\nat 2.2\nok\nok\nvalue 2\nprev 1.2 next 1.2 value 1\nat 2.3\n\
+        count 2\nnone\nvalue 1\nnone\nbad line\n";
+    check_texts(&rt, rt.alloc(), &[(input, output)]);
+}
+
+#[test]
+fn cutting_table(rt: HostRuntime) {
+    let input =
+        "add alone 1\nadd end 1 2\nadd end 2 3\nadd end 3 4\nexchange 1.2 2.2\nchain 1.2\nexchange 1.2 2.2\n\
+        chain 1.2\nbreaknext 2.2\nbreakprev 1.2\nexchange 4.2 1.2\ninvalidate 3.2\nshow 4.2\n\
+        drain 4.2 1\nlen\nadd alone 9\ndrain 1.2 9\nclear\nadd alone 1\n";
+    let output =
+        "at 1.2\nat 2.2\nat 3.2\nat 4.2\nok\n1.2:1 3.2:3 4.2:4\nok\n1.2:1 2.2:2 3.2:3 4.2:4\nok\nnone\nnone\n\
+        at 3.3\nprev 3.3 next - value 4\ncount 1\ncount 2\nat 3.5\ncount 2\nok\nat 1.8\n";
+    check_texts(&rt, rt.alloc(), &[(input, output)]);
+}
+
+#[test]
+fn compression_table(rt: HostRuntime) {
+    let input =
+        "add alone 1\nadd alone 2\nadd end 2.2 3\nremove 1.2\ncompress keep\nchain 1.4\ncompress reset\n\
+        chain 2.2\nsetgen 4294967295\ncompress reset\nsetgen 4294967295\ncompress keep\nchain 1.2\n\
+        clear\ncompress keep\nadd alone 4\n";
+    let output =
+        "at 1.2\nat 2.2\nat 3.2\nvalue 1\nok\n1.4:2 2.4:3\nok\n2.2:3 1.2:2\nok\nok\nok\nok overflow\n\
+        1.2:2 2.2:3\nok\nok\nat 1.3\n";
+    check_texts(&rt, rt.alloc(), &[(input, output)]);
+}
+
+#[test]
+fn canonical_table(rt: HostRuntime) {
+    let input =
+        "add alone 1\nadd alone 2\nadd end 1.2 3\nadd end 2.2 4\nremove 1.2\nadd end 4.2 5\ncanonical keep\n\
+        chain 1.4\nshow 4.4\ncanonical reset\nchain 2.2\nsetgen 4294967295\ncanonical keep\n";
+    let output =
+        "at 1.2\nat 2.2\nat 3.2\nat 4.2\nvalue 1\nat 1.3\nok\n1.4:2 2.4:4 3.4:5\nprev - next - value 3\n\
+        ok\n2.2:4 3.2:5 1.2:2\nok\nok overflow\n";
+    check_texts(&rt, rt.alloc(), &[(input, output)]);
+}
+
+#[test]
+fn moves_table(rt: HostRuntime) {
+    let input =
+        "add alone 5\nadd alone 6\nadd start 1.2 7\nmoves keep\nmoves reset\nclear\nmoves keep\nmoves\n\
+        add alone 8\nsetgen 4294967295\nmoves keep\n";
+    let output =
+        "at 1.2\nat 2.2\nat 3.2\nmoved 3 3.2>1.3 1.2>2.3 2.2>3.3\nmoved 3 1.3>1.2 2.3>2.2 3.3>3.2\nok\nmoved 0\n\
+        bad line\nat 1.3\nok\nmoved 1 1.3>1.2 overflow\n";
+    check_texts(&rt, rt.alloc(), &[(input, output)]);
+}
+
+#[test]
+fn overflow_table(rt: HostRuntime) {
+    let input =
+        "add alone 1\nsetgen 4294967295\nadd end 1.2 2\nshow 1.2\ninvalidate 1.2\nincgen\nremove 2.4294967295\n\
+        setgen 0\nreserve 0\nreserve 9\nreserve 4294967296\n";
+    let output =
+        "at 1.2\nok\nat 2.4294967295\nprev - next 2.4294967295 value 1\nat 1.2 overflow\nok\nvalue 2\n\
+        bad line\nok\nok\nbad line\n";
+    check_texts(&rt, rt.alloc(), &[(input, output)]);
+}
+
+#[test]
+fn removed_by_index(rt: HostRuntime) {
+    let input =
+        "add alone 1\nadd end 1.2 2\nremove 1\nremove 1\nremove 1.2\nshow 2.2\nclear\nclear\nadd alone 3\n";
+    let output = "at 1.2\nat 2.2\nvalue 1\nnone\nnone\nprev - next - value 2\nok\nok\nat 1.4\n";
+    check_texts(&rt, rt.alloc(), &[(input, output)]);
+}
+
+#[test]
+fn malformed_steps(rt: HostRuntime) {
+    const ROWS: [(&str, &str); 23] = [
+        ("reserve\n", "bad line\n"),
+        ("reserve x\n", "bad line\n"),
+        ("setgen\n", "bad line\n"),
+        ("setgen 4294967296\n", "bad line\n"),
+        ("incgen 1\n", "bad line\n"),
+        ("reserve 1 2\n", "bad line\n"),
+        ("breaknext 1\n", "bad line\n"),
+        ("breakprev\n", "bad line\n"),
+        ("exchange 1.2\n", "bad line\n"),
+        ("exchange 1.2 1\n", "bad line\n"),
+        ("invalidate 1\n", "bad line\n"),
+        ("drain 1.2\n", "bad line\n"),
+        ("drain 1 2\n", "bad line\n"),
+        ("drain 1.2 x\n", "bad line\n"),
+        ("drain 1.2 4294967296\n", "bad line\n"),
+        ("drain 1.2 1 1\n", "bad line\n"),
+        ("clear 1\n", "bad line\n"),
+        ("compress\n", "bad line\n"),
+        ("compress x\n", "bad line\n"),
+        ("compress keep keep\n", "bad line\n"),
+        ("remove 4294967296\n", "bad line\n"),
+        ("remove 0\n", "bad line\n"),
+        ("remove 1 2\n", "bad line\n"),
+    ];
+    check_texts(&rt, rt.alloc(), &ROWS);
+}
+
+/// Carries out a text on an arena with a limit, and looks whether the program writes these lines.
+fn check_limited(rt: &impl Abort, alloc: Global, arena: &mut Limited, input: &str, output: &str) {
+    let mut reader = input.as_bytes();
+    let mut written = Vec::new(alloc);
+    let result = run_on(alloc, arena, &mut reader, &mut written);
+    same(rt, input, result, Ok(()));
+    same(rt, input, written.as_slice(), output.as_bytes());
+}
+
+#[test]
+fn a_limited_arena(rt: HostRuntime) {
+    let mut arena = Limited::new(rt.alloc());
+    same(&rt, "a limit", arena.set_max_capacity(2), Ok(()));
+    let input = "add alone 1\nadd alone 2\nadd alone 3\nremove 1.2\nadd alone 3\nlen\n";
+    let output = "at 1.2\nat 2.2\nrefused limit\nvalue 1\nat 1.3\ncount 2\n";
+    check_limited(&rt, rt.alloc(), &mut arena, input, output);
+}
+
+#[test]
+fn limited_run(rt: HostRuntime) {
+    let mut arena = Limited::new(rt.alloc());
+    same(&rt, "a limit", arena.set_max_capacity(2), Ok(()));
+    same(&rt, "room", arena.reallocate_min_capacity(2), Ok(()));
+    let input =
+        "addwithin alone 1\naddwithin alone 2\naddwithin alone 3\nadd alone 3\nadd end 9.9 3\nremove 1.2\n\
+        addwithin alone 3\n";
+    let output = "at 1.2\nat 2.2\nrefused capacity\nrefused limit\nrefused link\nvalue 1\nat 1.3\n";
+    check_limited(&rt, rt.alloc(), &mut arena, input, output);
+}
+
+/// The greatest generation.
+fn greatest(rt: &impl Abort) -> Gen32 {
+    Gen32::new(4294967295).expect(rt, "a generation")
+}
+
+#[test]
+fn a_removal_that_overflows(rt: HostRuntime) {
+    let mut arena = empty(rt.alloc());
+    arena.set_generation(greatest(&rt));
+    let input = "add alone 5\nremove 1.4294967295\nadd alone 6\n";
+    let output = "at 1.4294967295\nvalue 5 overflow\nat 1.2\n";
+    check_on(&rt, rt.alloc(), &mut arena, input, output);
+}
+
+/// Carries out a text on two linked links, where the counter is at its greatest, and looks whether the program writes
+/// these lines.
+fn check_at_greatest(rt: &impl Abort, alloc: Global, input: &str, output: &str) {
+    let mut arena = empty(alloc);
+    let links = "add alone 5\nadd end 1.2 6\n";
+    check_on(rt, alloc, &mut arena, links, "at 1.2\nat 2.2\n");
+    arena.set_generation(greatest(rt));
+    check_on(rt, alloc, &mut arena, input, output);
+}
+
+#[test]
+fn steps_that_overflow(rt: HostRuntime) {
+    const ROWS: [(&str, &str); 5] = [
+        (
+            "invalidate 2.2\nshow 1.2\n",
+            "at 2.2 overflow\nprev - next 2.2 value 5\n",
+        ),
+        ("remove 1\nlen\n", "value 5 overflow\ncount 1\n"),
+        (
+            "drain 1.2 1\nlen\nadd alone 7\n",
+            "count 1\ncount 0\nat 2.3\n",
+        ),
+        ("clear\nclear\nadd alone 7\n", "ok overflow\nok\nat 1.2\n"),
+        (
+            "compress keep\ncompress keep\nchain 1.3\n",
+            "ok overflow\nok\n1.3:5 2.3:6\n",
+        ),
+    ];
+    for (input, output) in &ROWS {
+        check_at_greatest(&rt, rt.alloc(), input, output);
+    }
+}
