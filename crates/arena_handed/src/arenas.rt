@@ -1,17 +1,13 @@
 // Calls of an arena, and of its compactor.
 ghost use Rattle.std.specs.Prelude.{◌≡◌, ◌≤◌, ◌<◌, ◌↔◌, IsTrue, IsSome, IfSome, IsOk, IsErr, OnErr, Err, Some, None, length};
 ghost use Rattle.std.specs.Option.{option_map};
-ghost use Rattle.arena_ptr.specs.Invalidation.{value_within, invalidation_result, invalidation_option};
+ghost use Rattle.arena_ptr.specs.Invalidation.{value_within, invalidation_result};
 ghost use Rattle.arena_ptr.specs.SlotStack.{IsBeyond};
-ghost use Rattle.arena_base.specs.Arena.{entry_at, IsValid, remove_at, cleared, overflows_after_clear, with_capacity_of, HasRoom, slot_at};
+ghost use Rattle.arena_base.specs.Arena.{entry_at, IsValid, remove_at, with_capacity_of, slot_at};
 ghost use Rattle.arena_base.specs.Compacting.{placed};
-ghost use Rattle.arena_base.specs.Compressing.{IsCompressed, VisitsAll, overflows_after_compression};
-ghost use Rattle.arena_base.specs.Entries.{seen_of, entries};
 
 use arena_base::{Arena, ArenaSlot, ArenaTrait, Compactor, SlotAccess};
-use arena_ptr::{
-    InvalidationOption, InvalidationResult, Ptr, PtrGen, PtrInx, ReallocationError, SlotStack,
-};
+use arena_ptr::{InvalidationResult, Ptr, PtrGen, PtrInx, ReallocationError, SlotStack};
 
 /// `ArenaTrait::get` of `Arena`.
 pub fn get<P: Ptr, T: Drop, S: SlotStack<Item = ArenaSlot<P, T>>>(
@@ -37,16 +33,6 @@ pub fn remove<P: Ptr, T: Drop, S: SlotStack<Item = ArenaSlot<P, T>>>(
     arena.remove(p)
 }
 
-/// `ArenaTrait::clear` of `Arena`.
-pub fn clear<P: Ptr, T: Drop, S: SlotStack<Item = ArenaSlot<P, T>>>(
-    arena: &mut Arena<P, T, S>,
-) -> InvalidationOption<()>
-    ensures overflow { result ≡ invalidation_option (overflows_after_clear P.Gen.wraps (length (entries arena.old)) arena.old.counter) tt }
-    ensures after { arena.new ≡ cleared P.Gen.following arena.old }
-{
-    arena.clear()
-}
-
 /// `ArenaTrait::reallocate_min_capacity` of `Arena`.
 pub fn reallocate_min_capacity<P: Ptr, T: Drop, S: SlotStack<Item = ArenaSlot<P, T>>>(
     arena: &mut Arena<P, T, S>,
@@ -59,21 +45,6 @@ pub fn reallocate_min_capacity<P: Ptr, T: Drop, S: SlotStack<Item = ArenaSlot<P,
     ensures after { arena.new ≡ with_capacity_of arena.old arena.new }
 {
     arena.reallocate_min_capacity(n)
-}
-
-/// `ArenaTrait::compress_with` of `Arena`.
-pub fn compress_with<
-    P: Ptr,
-    T: Drop,
-    S: SlotStack<Item = ArenaSlot<P, T>>,
-    F: FnMut(P, &mut T, P) + Drop,
->(arena: &mut Arena<P, T, S>, reset: bool, map: F) -> InvalidationOption<()>
-    requires { F.IsAlwaysCallable map }
-    ensures compressed { IsCompressed P.Gen.first P.Gen.following reset (seen_of arena.old) (seen_of arena.new) }
-    ensures visits { VisitsAll F.FnMut P.key map (seen_of arena.old).entries (seen_of arena.new).entries }
-    ensures overflow { result ≡ invalidation_option (overflows_after_compression P.Gen.wraps reset (length (seen_of arena.old).entries) arena.old.counter) tt }
-{
-    arena.compress_with(reset, map)
 }
 
 /// `Compactor::place`.

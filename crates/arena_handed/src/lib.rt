@@ -5,5 +5,5 @@
 mod arenas;
 mod numbers;
 
-pub use arenas::{clear, compress_with, get, place, reallocate_min_capacity, remove};
-pub use numbers::{generational_inc, reserve_to, try_from_usize};
+pub use arenas::{get, place, reallocate_min_capacity, remove};
+pub use numbers::generational_inc;

@@ -1,35 +1,18 @@
 // Calls of the chain arena that no trait has, or whose contract there says more than the trait's.
-ghost use Rattle.std.specs.Prelude.{◌≡◌, ◌≤◌, ◌<◌, ◌+◌, ◌↔◌, IsOk, IsSome, IfNone, OnSome, OnOk, OnErr, Err, None, MatchResult};
+ghost use Rattle.std.specs.Prelude.{◌≡◌, ◌≤◌, ◌<◌, ◌+◌, ◌↔◌, IsOk, IsSome, IfNone, OnSome, OnOk, OnErr, Err};
 ghost use Rattle.arena_ptr.specs.SlotStack.{IsBeyond};
-ghost use Rattle.arena_ptr.specs.Invalidation.{value_within, invalidation_option};
-ghost use Rattle.chain_laws.specs.Neighbors.{HasOneSetOfChains};
-ghost use Rattle.arena_base.specs.Arena.{IsValid, HasRoom, entry_count, renewed_at};
+ghost use Rattle.arena_ptr.specs.Invalidation.{invalidation_option};
+ghost use Rattle.arena_base.specs.Arena.{IsValid, HasRoom, entry_count};
 ghost use Rattle.arena_base.specs.Entries.{count};
 ghost use Rattle.arena_base.specs.Compressing.{overflows_after_compression};
 ghost use Rattle.chain_links.specs.ChainArena.{entry, seen, shown};
 ghost use Rattle.chain_layout.specs.Layouts.{IsCanonicalLayout};
 ghost use Rattle.chain_arena.specs.Drains.{walk_left, without_each};
-ghost use Rattle.chain_arena.specs.Steps.{Run};
 ghost use Rattle.chain_arena.specs.Transfers.{IsTransfer};
 
 use arena_base::{ArenaSlot, ArenaTrait, CompactArenaTrait, Work};
-use arena_ptr::{
-    AllocError, InvalidationOption, InvalidationResult, Ptr, PtrInx, ReallocationError, SlotStack,
-};
-use chain_arena::{Call, ChainArena, ChainArenaTrait, LinkNoGen, Reply};
-use std::alloc::Global;
-
-/// `ArenaTrait::invalidate` of `ChainArena`: the link gets the next generation, and stays in its chain.
-pub fn invalidate<P: Ptr, T: Drop, S: SlotStack<Item = ArenaSlot<P, LinkNoGen<P, T>>>>(
-    arena: &mut ChainArena<P, T, S>,
-    p: P,
-) -> InvalidationResult<P>
-    ensures valid { IsValid (entry arena.old) (P.key p) → IsSome (value_within result) }
-    ensures renewed { IsValid (entry arena.old) (P.key p) → (arena.new ≡ renewed_at P.Gen.following arena.old (P.key p).0) × (shown arena.new ≡ shown arena.old) }
-    ensures invalid { ¬ IsValid (entry arena.old) (P.key p) → (value_within result ≡ None) × (arena.new ≡ arena.old) }
-{
-    arena.invalidate(p)
-}
+use arena_ptr::{InvalidationOption, Ptr, PtrInx, ReallocationError, SlotStack};
+use chain_arena::{ChainArena, ChainArenaTrait, LinkNoGen};
 
 /// `ChainArena::drain_chain`, dropped at once: removes all links of a pointer's chain. `None`: the pointer is not valid, and
 /// nothing has changed.
@@ -88,17 +71,4 @@ pub fn transfer_canonical_reallocating<
     ensures err { OnErr result ((target.new ≡ target.old) × (source.new ≡ source.old)) }
 {
     target.transfer_canonical_reallocating(new_generation, source, map)
-}
-
-/// `chain_arena::run_calls`.
-pub fn run_calls<P: Ptr, T: Drop, S: SlotStack<Item = ArenaSlot<P, LinkNoGen<P, T>>>>(
-    alloc: Global,
-    arena: &mut ChainArena<P, T, S>,
-    calls: Vec<Call<P, T>>,
-) -> Result<Vec<Reply<P, T>>, AllocError>
-    ensures ends { HasOneSetOfChains (shown arena.new) × MatchResult result
-        (λ replies. Run P.key P.Inx.number P.Inx.packed_number P.Inx.greatest P.Gen.first P.Gen.following P.Gen.wraps arena.old calls.items replies.items arena.new)
-        (λ refused. arena.new ≡ arena.old) }
-{
-    chain_arena::run_calls(alloc, arena, calls)
 }

@@ -6,8 +6,5 @@
 mod calls;
 mod wrapped;
 
-pub use calls::{
-    compress_canonical_counted, invalidate, remove_chain, run_calls,
-    transfer_canonical_reallocating,
-};
+pub use calls::{compress_canonical_counted, remove_chain, transfer_canonical_reallocating};
 pub use wrapped::{Wrapped, WrappedAdvancer, WrappedWalk};
