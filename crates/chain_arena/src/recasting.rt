@@ -8,7 +8,7 @@ use arena_base::{Advancer, ArenaSlot, ArenaTrait};
 use arena_ptr::{Ptr, Recast, Recaster, SlotStack};
 use chain_links::LinkNoGen;
 
-// Recasts the value of a valid pointer.
+// Recasts the value of a pointer, where it is valid.
 fn recast_at<
     P: Ptr,
     I,
@@ -16,12 +16,11 @@ fn recast_at<
     S: SlotStack<Item = ArenaSlot<P, LinkNoGen<P, T>>>,
     R: Recaster<Item = I>,
 >(arena: &mut ChainArena<P, T, S>, p: P, recaster: &R) -> Result<(), I>
-    requires { IsValid (entry arena.old) (P.key p) }
-    ensures { IsRecastAt (T.recast_by (R.recasts recaster.now)) arena.old arena.new (P.key p) result }
+    ensures { IsValid (entry arena.old) (P.key p) → IsRecastAt (T.recast_by (R.recasts recaster.now)) arena.old arena.new (P.key p) result }
 {
     match arena.get_mut(p) {
         Some(t) => t.recast(recaster),
-        None => unreachable!(),
+        None => Ok(()),
     }
 }
 

@@ -3,8 +3,8 @@ use Rattle.std.proofs.Common.{ap}
 use Rattle.arena_base.specs.Entries.{Seen}
 use Rattle.chain_arena.proofs.recasting.recast_at.Goals as goal
 
-pub returns : goal.returns
-returns g c =
+pub returns-in-Some : goal.returns-in-Some
+returns-in-Some g c = λ valid.
     let held = rw c.in-Some.is at (c.get_mut.follows.holds c.recast.new.self) in
     record {
       was = c.in-Some.t.now;
