@@ -3,3 +3,4 @@ pub mod Transfers
 pub mod Copies
 pub mod Steps
 pub mod Recasting
+pub mod Growths

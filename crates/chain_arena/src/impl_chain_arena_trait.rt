@@ -17,6 +17,7 @@ ghost use Rattle.chain_links.specs.ChainArena.{seen, entry, relinked, insert_as,
 ghost use Rattle.chain_interlinks.specs.Insertions.{IsInsertion};
 ghost use Rattle.chain_links.specs.Kinds.{names_in, by_index, MayInsert};
 ghost use Rattle.chain_layout.specs.Layouts.{IsCanonicalLayout};
+ghost use Rattle.chain_arena.specs.Growths.{growth_of};
 ghost use Rattle.chain_links.specs.Links.{seen_link, seen_lent};
 ghost use Rattle.chain_laws.specs.Walks.{walker_at};
 ghost use Rattle.chain_interlinks.specs.Walkers.{walker_of};
@@ -134,13 +135,7 @@ impl<P: Ptr, T: Drop, S: SlotStack<Item = ArenaSlot<P, LinkNoGen<P, T>>>> ChainA
         ensures state_in_room { entry_count self.old < self.old.capacity → self.new ≡ insert_as self.old (by_index (names_in P.key P.Inx.number kind)) t }
         ensures state_grown { OnOk result (HasRoom P.Inx.greatest (entry_count self.old + 1) self.new) }
     {
-        match self.gap_for(kind) {
-            Some(gap) => match self.insert_growing(gap, t) {
-                Ok(p) => Ok(p),
-                Err(refusal) => Err(refusal),
-            },
-            None => unreachable!(),
-        }
+        growth_of(self.insert_reallocating(kind, t))
     }
 
     fn are_neighbors(&self, p: P, q: P) -> bool
@@ -298,6 +293,17 @@ impl<P: Ptr, T: Drop, S: SlotStack<Item = ArenaSlot<P, LinkNoGen<P, T>>>> ChainA
         ensures stack_capacity { self.new.stack_capacity ≡ self.old.stack_capacity }
     {
         self.compress_canonical_with(reset, |_p: P, _q: P| {})
+    }
+}
+
+// What the growth answers that an insertion asked for, whose links were as its kind asks.
+fn growth_of<P: Drop>(inserted: Result<P, ChainInsertionError>) -> Result<P, ReallocationError>
+    ensures { result ≡ growth_of inserted }
+{
+    match inserted {
+        Ok(p) => Ok(p),
+        Err(ChainInsertionError::BeyondMaxCapacity) => Err(ReallocationError::BeyondMaxCapacity),
+        Err(_) => Err(ReallocationError::AllocError),
     }
 }
 

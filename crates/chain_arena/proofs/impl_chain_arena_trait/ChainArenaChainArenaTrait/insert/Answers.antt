@@ -1,67 +1,36 @@
--- A link of the kind comes into its gap, after a growth where there was no room.
-use Rattle.std.proofs.Common.{◌≡◌, refl, sym, ap, ap₂, ◌∙◌, subst}
-use Rattle.std.specs.Prelude.{◌<◌, ◌+◌}
-use Rattle.arena_ptr.specs.SlotStack.{IsBeyond}
-use Rattle.std.proofs.lemmas.Bool.{false≢true}
-use Rattle.arena_base.specs.Arena.{next_index, with_capacity_of, entry_count, IsRoom}
-use Rattle.chain_links.specs.ChainArena.{shown, insert_between, insert_as}
-use Rattle.chain_links.specs.Kinds.{names_in, by_index}
-use Rattle.chain_arena.proofs.Telling.{count-seen, gap_told, insertion_told}
-use Rattle.chain_arena.proofs.impl_chain_arena_trait.ChainArenaChainArenaTrait.insert.Given.{Over}
-use Rattle.chain_arena.proofs.impl_chain_arena_trait.ChainArenaChainArenaTrait.insert.Goals.{In-Ok}
+-- An insertion of a kind whose links are as it asks answers as its growth does.
+use Rattle.chain_arena.proofs.Outcomes.{growth-if_ok, growth-on_ok, growth-on_err, growth-is_ok, growth-is_err, growth-beyond}
 use Rattle.chain_arena.proofs.impl_chain_arena_trait.ChainArenaChainArenaTrait.insert.Goals as goal
 
--- the state after it
-state : (g : Over) (c : In-Ok g) → c.insert_growing.new.self ≡ with_capacity_of (insert_as c.args.self.now (by_index (names_in g.P.Ptr.key g.P.Inx.PtrInx.number c.args.kind)) c.args.t) c.insert_growing.new.self
-state g c =
-    let q = next_index c.args.self.now in
-    c.in-Ok.ensures.ok ∙ ap₂ (λ u v. with_capacity_of (insert_between c.args.self.now c.args.t u v) c.insert_growing.new.self) (c.in-Some.ensures.gap.before q) (c.in-Some.ensures.gap.after q)
+pub returns-clause-inserted : goal.returns-clause-inserted
+returns-clause-inserted g c = rw c.growth_of.ensures (growth-if_ok _ c.insert_reallocating.result c.insert_reallocating.ensures.inserted)
 
--- .. and where there was room
-in_room : (g : Over) (c : In-Ok g) → entry_count c.args.self.now < c.args.self.now.capacity → c.insert_growing.new.self ≡ insert_as c.args.self.now (by_index (names_in g.P.Ptr.key g.P.Inx.PtrInx.number c.args.kind)) c.args.t
-in_room g c room =
-    let q = next_index c.args.self.now in
-    (c.in-Ok.ensures.room room).1 ∙ ap₂ (insert_between c.args.self.now c.args.t) (c.in-Some.ensures.gap.before q) (c.in-Some.ensures.gap.after q)
+pub returns-clause-place : goal.returns-clause-place
+returns-clause-place g c = rw c.growth_of.ensures (growth-if_ok _ c.insert_reallocating.result c.insert_reallocating.ensures.place)
 
-pub returns-in-Ok-clause-state : goal.returns-in-Ok-clause-state
-returns-in-Ok-clause-state g c = state g c
+pub returns-clause-grown : goal.returns-clause-grown
+returns-clause-grown g c = rw c.growth_of.ensures (growth-on_ok _ c.insert_reallocating.result c.insert_reallocating.ensures.grown)
 
-pub returns-in-Ok-clause-state_in_room : goal.returns-in-Ok-clause-state_in_room
-returns-in-Ok-clause-state_in_room g c = λ room. in_room g c room
+pub returns-clause-state : goal.returns-clause-state
+returns-clause-state g c = rw c.growth_of.ensures (growth-on_ok _ c.insert_reallocating.result c.insert_reallocating.ensures.state)
 
-pub returns-in-Ok-clause-inserted : goal.returns-in-Ok-clause-inserted
-returns-in-Ok-clause-inserted g c =
-    insertion_told c.args.self.now c.args.t c.in-Ok.ensures.listed c.insert_growing.new.self (by_index (names_in g.P.Ptr.key g.P.Inx.PtrInx.number c.args.kind)) (state g c)
-    (g.P.Ptr.key c.in-Ok.p) c.in-Ok.ensures.ptr c.in-Ok.ensures.agreed (c.in-Some.ensures.gap.some.0 refl).1
+pub returns-clause-state_grown : goal.returns-clause-state_grown
+returns-clause-state_grown g c = rw c.growth_of.ensures (growth-on_ok _ c.insert_reallocating.result c.insert_reallocating.ensures.state_grown)
 
-pub returns-in-Ok-clause-room : goal.returns-in-Ok-clause-room
-returns-in-Ok-clause-room g c = λ room. (refl, ap (λ x. x.capacity) (in_room g c (subst (λ n. n < c.args.self.now.capacity) (count-seen c.args.self.now) room)))
+pub returns-clause-err : goal.returns-clause-err
+returns-clause-err g c = rw c.growth_of.ensures (growth-on_err _ c.insert_reallocating.result c.insert_reallocating.ensures.err)
 
-pub returns-in-Err-clause-room : goal.returns-in-Err-clause-room
-returns-in-Err-clause-room g c = λ room. absurd (false≢true (c.in-Err.ensures.room (subst (λ n. n < c.args.self.now.capacity) (count-seen c.args.self.now) room)).0)
+pub returns-clause-room : goal.returns-clause-room
+returns-clause-room g c = rw c.growth_of.ensures (λ room. let told = c.insert_reallocating.ensures.room c.requires room in (growth-is_ok c.insert_reallocating.result told.0, told.1))
 
-pub returns-in-Ok-clause-grown : goal.returns-in-Ok-clause-grown
-returns-in-Ok-clause-grown g c =
-    let b = c.insert_growing.new.self in
-    subst (λ n. IsRoom g.P.Inx.PtrInx.greatest b.maximum (n + 1) b.capacity) (sym (count-seen c.args.self.now)) c.in-Ok.ensures.grown.0
+pub returns-clause-beyond : goal.returns-clause-beyond
+returns-clause-beyond g c = rw c.growth_of.ensures (growth-beyond c.insert_reallocating.result c.requires c.insert_reallocating.ensures.beyond)
 
-pub returns-in-Ok-clause-greatest : goal.returns-in-Ok-clause-greatest
-returns-in-Ok-clause-greatest g c = λ full. c.in-Ok.ensures.greatest (sym (count-seen c.args.self.now) ∙ full)
+pub returns-clause-greatest : goal.returns-clause-greatest
+returns-clause-greatest g c = rw c.growth_of.ensures (λ full. growth-is_err c.insert_reallocating.result (c.insert_reallocating.ensures.greatest full))
 
-pub returns-in-Ok-clause-beyond : goal.returns-in-Ok-clause-beyond
-returns-in-Ok-clause-beyond g c = (
-  λ h. absurd (let k = h in cc),
-  λ full. let refused = c.in-Ok.ensures.beyond.1 (sym (count-seen c.args.self.now) ∙ full.0, subst (λ n. IsBeyond c.args.self.now.maximum (n + 1)) (count-seen c.args.self.now) full.1) in absurd (cc),
-)
+pub returns-clause-state_in_room : goal.returns-clause-state_in_room
+returns-clause-state_in_room g c = c.insert_reallocating.ensures.state_in_room c.requires
 
-pub returns-in-Err-clause-beyond : goal.returns-in-Err-clause-beyond
-returns-in-Err-clause-beyond g c =
-    let a = c.args.self.now in (
-      λ h. let full = c.in-Err.ensures.beyond.0 h in (count-seen a ∙ full.0, subst (λ n. IsBeyond a.maximum (n + 1)) (sym (count-seen a)) full.1),
-      λ full. c.in-Err.ensures.beyond.1 (sym (count-seen a) ∙ full.0, subst (λ n. IsBeyond a.maximum (n + 1)) (count-seen a) full.1),
-    )
-
-pub insert_growing-requires : goal.insert_growing-requires
-insert_growing-requires g c =
-    let a = c.args.self.now in
-    gap_told (shown a) (by_index (names_in g.P.Ptr.key g.P.Inx.PtrInx.number c.args.kind)) (next_index a) (c.in-Some.ensures.gap.before (next_index a)) (c.in-Some.ensures.gap.after (next_index a)) c.in-Some.ensures.agree (c.in-Some.ensures.gap.some.0 refl).1
+pub returns-clause-agreed : goal.returns-clause-agreed
+returns-clause-agreed g c = c.insert_reallocating.ensures.agreed
