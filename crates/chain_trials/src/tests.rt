@@ -2,6 +2,7 @@ mod advancing;
 mod agreeing;
 mod any_arena;
 mod behind;
+mod by_name;
 mod canonical;
 mod copies;
 mod drains;

@@ -153,7 +153,7 @@ pub(super) fn kind(rt: &impl Abort, kind: Kind) -> LinkInsertKind<ToolPtr> {
 }
 
 // The value that another takes the place of.
-fn overwritten(slot: Option<&mut u32>, value: u32) -> Option<u32> {
+pub(super) fn overwritten(slot: Option<&mut u32>, value: u32) -> Option<u32> {
     match slot {
         Some(t) => Some(mem::replace(t, value)),
         None => None,

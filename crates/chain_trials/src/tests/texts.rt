@@ -10,7 +10,7 @@ use std::fmt;
 use std::fmt::{Debug, Display};
 use std::process::Abort;
 
-type Words = ChainArena<ToolPtr, &'static str>;
+type Words = ChainArena<ToolPtr, String>;
 
 // A value that tells what of a format reaches it: an alternate mark by `#`, and anything else by `!`.
 #[derive(Clone, Copy)]
@@ -70,6 +70,18 @@ fn wide_reads<T: Debug + Display>(
     same(rt, "by display, in a width", text.as_str(), display);
 }
 
+// Adds a link of a text.
+fn put_word(
+    rt: &impl Abort,
+    alloc: Global,
+    arena: &mut Words,
+    kind: LinkInsertKind<ToolPtr>,
+    text: &str,
+) -> ToolPtr {
+    let word = String::from_str(alloc, text).expect(rt, "memory");
+    put(rt, arena, kind, word)
+}
+
 // Adds a link.
 fn put<P: Ptr, T: Drop>(
     rt: &impl Abort,
@@ -86,8 +98,8 @@ fn an_arena_without_links_and_one_with_two(rt: HostRuntime) {
     let alloc = rt.alloc();
     let mut arena: Words = ChainArena::new(alloc);
     debug_reads(&rt, alloc, &arena, "{}", "{}");
-    let a = put(&rt, &mut arena, LinkInsertKind::Disconnected, "A");
-    let b = put(&rt, &mut arena, LinkInsertKind::Disconnected, "B");
+    let a = put_word(&rt, alloc, &mut arena, LinkInsertKind::Disconnected, "A");
+    let b = put_word(&rt, alloc, &mut arena, LinkInsertKind::Disconnected, "B");
     same(&rt, "tied", arena.connect(a, b), Some(()));
     debug_reads(
         &rt,
@@ -102,12 +114,12 @@ fn an_arena_without_links_and_one_with_two(rt: HostRuntime) {
 fn scattered_chains_have_a_line_each(rt: HostRuntime) {
     let alloc = rt.alloc();
     let mut arena: Words = ChainArena::new(alloc);
-    let x = put(&rt, &mut arena, LinkInsertKind::Disconnected, "X");
-    let a = put(&rt, &mut arena, LinkInsertKind::Disconnected, "A");
-    put(&rt, &mut arena, LinkInsertKind::ChainEnd(x), "Y");
-    let b = put(&rt, &mut arena, LinkInsertKind::ChainEnd(a), "B");
+    let x = put_word(&rt, alloc, &mut arena, LinkInsertKind::Disconnected, "X");
+    let a = put_word(&rt, alloc, &mut arena, LinkInsertKind::Disconnected, "A");
+    put_word(&rt, alloc, &mut arena, LinkInsertKind::ChainEnd(x), "Y");
+    let b = put_word(&rt, alloc, &mut arena, LinkInsertKind::ChainEnd(a), "B");
     let _ = arena.remove(x);
-    put(&rt, &mut arena, LinkInsertKind::ChainEnd(b), "C");
+    put_word(&rt, alloc, &mut arena, LinkInsertKind::ChainEnd(b), "C");
     debug_reads(
         &rt,
         alloc,
@@ -191,12 +203,19 @@ fn pointers_without_a_generation_show_none(rt: HostRuntime) {
 
 #[test]
 fn generations_are_hexadecimal(rt: HostRuntime) {
-    let mut arena: Words = ChainArena::new(rt.alloc());
+    let alloc = rt.alloc();
+    let mut arena: Words = ChainArena::new(alloc);
     arena.set_generation(generation(&rt, 26));
-    put(&rt, &mut arena, LinkInsertKind::SingleLinkCyclic, "A");
+    put_word(
+        &rt,
+        alloc,
+        &mut arena,
+        LinkInsertKind::SingleLinkCyclic,
+        "A",
+    );
     debug_reads(
         &rt,
-        rt.alloc(),
+        alloc,
         &arena,
         "{P0[1](1a): {1, 1} \"A\"}",
         "{\n    P0[1](1a): {1, 1} \"A\",\n}",
