@@ -25,7 +25,7 @@ mod tiny_ptr;
 mod transfers;
 
 use arena_base::{Advancer, ArenaSlot};
-use arena_ptr::{Gen32, Inx32, LimitedStack, Ptr, ToolPtr};
+use arena_ptr::{Gen32, Inx32, LimitedStack, Ptr, SlotStack, ToolPtr};
 use chain_arena::{ChainArena, ChainArenaTrait, LinkInsertKind, LinkNoGen};
 use std::alloc::Global;
 use std::fmt::Debug;
@@ -96,9 +96,14 @@ fn number(i: Option<Inx32>) -> u32 {
     }
 }
 
-// Adds a lone link.
-fn add<P: Ptr, A: ChainArenaTrait<P, u32>>(rt: &impl Abort, arena: &mut A, t: u32) -> P {
-    let added = arena.insert_reallocating(LinkInsertKind::Disconnected, t);
+// Adds a link.
+fn put<P: Ptr, T: Drop, S: SlotStack<Item = ArenaSlot<P, LinkNoGen<P, T>>>>(
+    rt: &impl Abort,
+    arena: &mut ChainArena<P, T, S>,
+    kind: LinkInsertKind<P>,
+    t: T,
+) -> P {
+    let added = arena.insert_reallocating(kind, t);
     added.expect(rt, "room for a link")
 }
 
@@ -111,7 +116,8 @@ fn tied_links<A: ChainArenaTrait<ToolPtr, u32> + Drop>(
 ) -> A {
     let mut arena = A::new(alloc);
     for k in 1..=count {
-        add(rt, &mut arena, k);
+        let added = arena.insert_reallocating(LinkInsertKind::Disconnected, k);
+        assert!(rt; added.is_ok());
     }
     for (i, j) in pairs {
         let tied = arena.connect(at(rt, (*i, 2)), at(rt, (*j, 2)));
@@ -154,5 +160,24 @@ fn shows<A: ChainArenaTrait<ToolPtr, u32>>(
     want: &[Row],
 ) {
     let rows = rows_of(rt, alloc, arena);
+    assert_eq!(rt; rows.as_slice(), want, "{what}");
+}
+
+// The same at chain arenas without a limit and with one: a place that hands a generic body an arena is dear to prove, and
+// here there is one for each.
+fn chains(rt: &impl Abort, alloc: Global, count: u32, pairs: &[At]) -> Chains {
+    tied_links(rt, alloc, count, pairs)
+}
+
+fn limited_chains(rt: &impl Abort, alloc: Global, count: u32, pairs: &[At]) -> LimitedChains {
+    tied_links(rt, alloc, count, pairs)
+}
+
+fn chain_rows(rt: &impl Abort, alloc: Global, arena: &Chains) -> Vec<Row> {
+    rows_of(rt, alloc, arena)
+}
+
+fn chains_show(rt: &impl Abort, alloc: Global, what: &str, arena: &Chains, want: &[Row]) {
+    let rows = chain_rows(rt, alloc, arena);
     assert_eq!(rt; rows.as_slice(), want, "{what}");
 }

@@ -1,6 +1,7 @@
 //! Plain arenas of links, of which those whose interlinks agree become chain arenas.
 
-use super::scripts::{Do, Kind, Line, plays};
+use super::own::runs;
+use super::scripts::{Do, Kind, Line};
 use super::{At, Chains, NONE, at, same};
 use arena_base::{Arena, ArenaTrait};
 use arena_ptr::{Inx32, ToolPtr};
@@ -86,5 +87,5 @@ fn what_is_accepted_stays(rt: HostRuntime) {
         same(&rt, "gone", gone.is_some(), true);
     }
     let mut arena = Chains::from_arena(arena).expect(&rt, "interlinks that agree");
-    plays(&rt, rt.alloc(), "the links", &mut arena, &ACCEPTED);
+    runs(&rt, rt.alloc(), "the links", &mut arena, &ACCEPTED);
 }

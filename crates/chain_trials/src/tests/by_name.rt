@@ -1,15 +1,14 @@
 //! Calls of the traits by their names at the chain arena, which the other tests make through the traits.
 
-use super::advancing::met;
 use super::rows::THREE;
 use super::scripts::overwritten;
-use super::{Chains, NONE, at, index, reads, same, tied_links};
-use arena_base::ArenaTrait;
+use super::{at, chains, index, reads, same};
+use arena_base::{Advancer, ArenaTrait};
 use chain_arena::{ChainArenaTrait, LinkInsertKind};
 
 #[test]
 fn looks_by_name(rt: HostRuntime) {
-    let arena: Chains = tied_links(&rt, rt.alloc(), 3, &THREE);
+    let arena = chains(&rt, rt.alloc(), 3, &THREE);
     let (p, i) = (at(&rt, (2, 2)), index(&rt, 2));
     let ends = (arena.find_first_inx_ptr(), arena.find_last_inx_ptr());
     reads(
@@ -24,22 +23,20 @@ fn looks_by_name(rt: HostRuntime) {
     reads(&rt, rt.alloc(), "links", links, want);
     let told = (arena.is_empty(), arena.are_neighbors_inx(i, index(&rt, 3)));
     same(&rt, "told", told, (false, true));
-    let all = [(1, 2), (2, 2), (3, 2), NONE, NONE];
-    same(&rt, "all", met(arena.advancer(), &arena, 4), all);
-    let back = [(2, 2), (1, 2), NONE, NONE, NONE];
-    same(
-        &rt,
-        "back",
-        met(arena.advancer_inx(i, true), &arena, 3),
-        back,
+    let (mut all, mut back) = (arena.advancer(), arena.advancer_inx(i, true));
+    let mut along = arena.advancer_chain(p);
+    let met = (
+        all.advance(&arena),
+        back.advance(&arena),
+        along.advance(&arena),
     );
-    let along = [(2, 2), (3, 2), (1, 2), NONE, NONE];
-    same(&rt, "along", met(arena.advancer_chain(p), &arena, 4), along);
+    let want = "(Some(P0[1](2)), Some(P0[2](2)), Some(P0[2](2)))";
+    reads(&rt, rt.alloc(), "met", met, want);
 }
 
 #[test]
 fn changes_by_name(rt: HostRuntime) {
-    let mut arena: Chains = tied_links(&rt, rt.alloc(), 3, &THREE);
+    let mut arena = chains(&rt, rt.alloc(), 3, &THREE);
     let (p, q, r) = (at(&rt, (1, 2)), at(&rt, (2, 2)), at(&rt, (3, 2)));
     let cut = (arena.break_prev(q), arena.break_next(q));
     same(&rt, "cut", cut, (Some(()), Some(())));
@@ -58,7 +55,7 @@ fn changes_by_name(rt: HostRuntime) {
 
 #[test]
 fn values_by_name(rt: HostRuntime) {
-    let mut arena: Chains = tied_links(&rt, rt.alloc(), 2, &[]);
+    let mut arena = chains(&rt, rt.alloc(), 2, &[]);
     let gone = arena.remove(at(&rt, (1, 2))).allow();
     same(&rt, "gone", gone, Some(1));
     let added = arena.insert_within_capacity(LinkInsertKind::Disconnected, 3);

@@ -1,13 +1,13 @@
 //! Chains laid out in place, one after another, and the same links transferred.
 
-use super::own::runs;
+use super::own::{run, runs};
 use super::pointers::SmallPtr;
 use super::rows::{BEHIND_A_HOLE, BEHIND_HOLES, BY_LEAST_INDEX, INTERLEAVED, SCATTERED};
-use super::scripts::{Do, Line, Script, played};
-use super::{Chains, NONE, add, at, rows_of, same, tied_links};
+use super::scripts::{Do, Line, Script};
+use super::{Chains, NONE, at, chain_rows, chains, put, same};
 use arena_base::ArenaTrait;
 use arena_ptr::{AllocError, Gen8, InvalidationOption, Ptr, ToolPtr};
-use chain_arena::{ChainArena, ChainArenaTrait};
+use chain_arena::{ChainArena, ChainArenaTrait, LinkInsertKind};
 use std::alloc::Global;
 use std::process::Abort;
 
@@ -133,7 +133,7 @@ const LAYOUTS: [(Script, &[Line]); 10] = [
 #[test]
 fn layouts_and_moves(rt: HostRuntime) {
     for (script, lines) in LAYOUTS {
-        let mut arena: Chains = played(&rt, rt.alloc(), script);
+        let mut arena = run(&rt, rt.alloc(), script);
         runs(&rt, rt.alloc(), script.0, &mut arena, lines);
     }
 }
@@ -141,7 +141,7 @@ fn layouts_and_moves(rt: HostRuntime) {
 // Compresses so many lone links behind as many holes, and tells whether the work stays within its bound, and places each
 // link once.
 fn within_bound(rt: &impl Abort, alloc: Global, count: u32, reset: bool) -> bool {
-    let mut arena: Chains = tied_links(rt, alloc, count.saturating_mul(2), &[]);
+    let mut arena = chains(rt, alloc, count.saturating_mul(2), &[]);
     for k in 1..=count {
         arena.remove(at(rt, (k, 2)));
     }
@@ -167,7 +167,7 @@ fn a_compression_may_overflow(rt: HostRuntime) {
     let greatest = Gen8::new(255).expect(&rt, "a generation");
     arena.set_generation(greatest);
     for t in 1..=2 {
-        add(&rt, &mut arena, t);
+        put(&rt, &mut arena, LinkInsertKind::Disconnected, t);
     }
     let told = arena.compress_canonical(false);
     same(
@@ -184,9 +184,9 @@ fn a_compression_may_overflow(rt: HostRuntime) {
 
 // Whether a compression and a transfer of the same links lay them out alike.
 fn agree(rt: &impl Abort, alloc: Global, script: Script) -> bool {
-    let mut here: Chains = played(rt, alloc, script);
+    let mut here = run(rt, alloc, script);
     let told = here.compress_canonical(false);
-    let mut source: Chains = played(rt, alloc, script);
+    let mut source = run(rt, alloc, script);
     let mut there = Chains::new(alloc);
     let carried = there.transfer_canonical_reallocating(
         here.generation(),
@@ -195,7 +195,7 @@ fn agree(rt: &impl Abort, alloc: Global, script: Script) -> bool {
     );
     told == InvalidationOption::Success(())
         && carried.is_ok()
-        && rows_of(rt, alloc, &here).as_slice() == rows_of(rt, alloc, &there).as_slice()
+        && chain_rows(rt, alloc, &here).as_slice() == chain_rows(rt, alloc, &there).as_slice()
 }
 
 #[test]

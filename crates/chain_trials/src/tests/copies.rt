@@ -1,8 +1,9 @@
 //! Copies of chain arenas: what they have, what their closures saw, and when one is refused.
 
+use super::own::{runs, runs_limited};
 use super::rows::THREE;
-use super::scripts::{Do, Kind, Line, plays};
-use super::{Chains, LimitedChains, NONE, Row, at, reads, same, shows, tied_links};
+use super::scripts::{Do, Kind, Line};
+use super::{Chains, NONE, Row, at, chains, limited_chains, reads, same};
 use arena_base::{Arena, ArenaSlot, ArenaTrait};
 use arena_ptr::{
     InvalidationResult, LimitedStack, ReallocationError, SetMaxCapacity, SlotStack, ToolPtr,
@@ -25,8 +26,8 @@ const BOTH: [Line; 2] = [
 
 // A chain of the links 1, 2 and 3, of which the second is removed.
 fn with_a_hole(rt: &impl Abort, alloc: Global) -> Chains {
-    let mut arena: Chains = tied_links(rt, alloc, 3, &THREE);
-    plays(rt, alloc, "a hole", &mut arena, &HOLE);
+    let mut arena = chains(rt, alloc, 3, &THREE);
+    runs(rt, alloc, "a hole", &mut arena, &HOLE);
     arena
 }
 
@@ -34,21 +35,23 @@ fn with_a_hole(rt: &impl Abort, alloc: Global) -> Chains {
 fn a_clone_has_the_links_and_the_freed_list(rt: HostRuntime) {
     let mut arena = with_a_hole(&rt, rt.alloc());
     let mut copy = arena.clone(rt.alloc()).expect(&rt, "memory");
-    plays(&rt, rt.alloc(), "the clone", &mut copy, &BOTH);
-    plays(&rt, rt.alloc(), "the original", &mut arena, &BOTH);
+    runs(&rt, rt.alloc(), "the clone", &mut copy, &BOTH);
+    runs(&rt, rt.alloc(), "the original", &mut arena, &BOTH);
 }
+
+// Two links, the first after the second.
+const TIED: [Line; 1] = [Line::Shows(&[((1, 2), 1, (2, 2), NONE), ((2, 2), 2, NONE, (1, 2))])];
 
 // A maximum is not carried over.
 #[test]
 fn a_clone_begins_with_a_new_stack(rt: HostRuntime) {
-    let mut arena: LimitedChains = tied_links(&rt, rt.alloc(), 2, &[(2, 1)]);
+    let mut arena = limited_chains(&rt, rt.alloc(), 2, &[(2, 1)]);
     let most = arena.capacity();
     same(&rt, "a maximum", arena.set_max_capacity(most), Ok(()));
-    let copy = arena.clone(rt.alloc()).expect(&rt, "memory");
+    let mut copy = arena.clone(rt.alloc()).expect(&rt, "memory");
     let most_of_both = (arena.max_capacity(), copy.max_capacity());
     same(&rt, "the maximum", most_of_both, (Some(most), None));
-    let links = [((1, 2), 1, (2, 2), NONE), ((2, 2), 2, NONE, (1, 2))];
-    shows(&rt, rt.alloc(), "the links", &copy, &links);
+    runs_limited(&rt, rt.alloc(), "the links", &mut copy, &TIED);
 }
 
 // A value whose clone is refused, where it is 2.
@@ -141,12 +144,12 @@ const COPY: [Line; 2] = [
 #[test]
 fn a_copy_over_another_arena(rt: HostRuntime) {
     let ring = [(1, 1), (2, 2)];
-    let mut target: Chains = tied_links(&rt, rt.alloc(), 2, &ring);
+    let mut target = chains(&rt, rt.alloc(), 2, &ring);
     copied(&rt, rt.alloc(), &mut target, COPIED);
-    plays(&rt, rt.alloc(), "the copy", &mut target, &COPY);
-    let mut target: LimitedChains = tied_links(&rt, rt.alloc(), 2, &ring);
+    runs(&rt, rt.alloc(), "the copy", &mut target, &COPY);
+    let mut target = limited_chains(&rt, rt.alloc(), 2, &ring);
     copied(&rt, rt.alloc(), &mut target, COPIED);
-    plays(&rt, rt.alloc(), "the copy", &mut target, &COPY);
+    runs_limited(&rt, rt.alloc(), "the copy", &mut target, &COPY);
 }
 
 #[test]
@@ -161,13 +164,15 @@ fn a_copy_to_a_plain_arena(rt: HostRuntime) {
     same(&rt, "the next", next, Ok(at(&rt, (2, 3))));
 }
 
+// The link that a refused copy leaves.
+const AS_BEFORE: [Line; 1] = [Line::Shows(&[((1, 2), 1, NONE, NONE)])];
+
 #[test]
 fn copies_beyond_the_maximum(rt: HostRuntime) {
-    let mut target: LimitedChains = tied_links(&rt, rt.alloc(), 1, &[]);
+    let mut target = limited_chains(&rt, rt.alloc(), 1, &[]);
     same(&rt, "a maximum", target.set_max_capacity(2), Ok(()));
     copied(&rt, rt.alloc(), &mut target, REFUSED);
-    let as_before = [((1, 2), 1, NONE, NONE)];
-    shows(&rt, rt.alloc(), "the target", &target, &as_before);
+    runs_limited(&rt, rt.alloc(), "the target", &mut target, &AS_BEFORE);
     let mut target: Arena<ToolPtr, u32, LimitedStack<ArenaSlot<ToolPtr, u32>>> = Arena::new(
         rt.alloc(),
     );

@@ -6,7 +6,8 @@ ghost use Rattle.arena_base.specs.Arena.{next_index, with_capacity_of};
 ghost use Rattle.chain_links.specs.ChainArena.{entry, shown, insert_as};
 ghost use Rattle.chain_links.specs.Kinds.{names_in, by_index, MayInsert};
 
-use super::scripts::{Do, Kind as KindRow, Line, plays};
+use super::own::runs_limited;
+use super::scripts::{Do, Kind as KindRow, Line};
 use super::{Chains, LimitedChains, at, same};
 use arena_base::ArenaTrait;
 use arena_ptr::{
@@ -134,7 +135,7 @@ const FULL_STILL: [Line; 3] = [
 fn refusals_in_their_order(rt: HostRuntime) {
     let mut arena = LimitedChains::new(rt.alloc());
     same(&rt, "a maximum", arena.set_max_capacity(2), Ok(()));
-    plays(&rt, rt.alloc(), "a maximum of two", &mut arena, &FULL);
+    runs_limited(&rt, rt.alloc(), "a maximum of two", &mut arena, &FULL);
     let beyond = Some(ChainInsertionError::BeyondMaxCapacity);
     let full = Some(ChainInsertionError::NotWithinCapacity);
     let refused = place_refusals(&mut arena, LinkInsertKind::Disconnected);
@@ -149,5 +150,5 @@ fn refusals_in_their_order(rt: HostRuntime) {
     );
     let less = arena.set_max_capacity(1);
     same(&rt, "less", less, Err(MaxCapacityReductionError));
-    plays(&rt, rt.alloc(), "full still", &mut arena, &FULL_STILL);
+    runs_limited(&rt, rt.alloc(), "full still", &mut arena, &FULL_STILL);
 }

@@ -1,7 +1,7 @@
 //! The greatest index, the greatest generation, a maximum, and pointers without generations.
 
 use super::pointers::{BarePtr, SmallPtr};
-use super::{add, reads, same};
+use super::{put, reads, same};
 use arena_base::{ArenaSlot, ArenaTrait};
 use arena_ptr::{
     ChainInsertionError, Gen8, InvalidationOption, InvalidationResult, Inx8, LimitStack,
@@ -21,7 +21,7 @@ type Shared = ArenaSlot<BarePtr, LinkNoGen<BarePtr, Rc<u8>>>;
 fn filled(rt: &impl Abort, alloc: Global, count: u32) -> Bare {
     let mut arena = Bare::new(alloc);
     for k in 1..=count {
-        add(rt, &mut arena, k);
+        put(rt, &mut arena, LinkInsertKind::Disconnected, k);
     }
     arena
 }
@@ -75,7 +75,12 @@ fn links_without_generations(rt: HostRuntime) {
     let gone = (arena.remove(b), arena.get_link(b).is_none());
     same(&rt, "gone", gone, (InvalidationResult::Success(2), true));
     reads(&rt, rt.alloc(), "alone", &arena, "{Bare[1]: {1, 1} 1}");
-    same(&rt, "again", add(&rt, &mut arena, 9), b);
+    same(
+        &rt,
+        "again",
+        put(&rt, &mut arena, LinkInsertKind::Disconnected, 9),
+        b,
+    );
     let link = arena.get_link(b);
     reads(
         &rt,
@@ -89,8 +94,8 @@ fn links_without_generations(rt: HostRuntime) {
 #[test]
 fn a_generation_type_of_255(rt: HostRuntime) {
     let mut arena: ChainArena<SmallPtr, u32> = ChainArena::new(rt.alloc());
-    let p = add(&rt, &mut arena, 1);
-    add(&rt, &mut arena, 2);
+    let p = put(&rt, &mut arena, LinkInsertKind::Disconnected, 1);
+    put(&rt, &mut arena, LinkInsertKind::Disconnected, 2);
     let greatest = Gen8::new(255).expect(&rt, "a generation");
     arena.set_generation(greatest);
     same(&rt, "the greatest", arena.generation(), greatest);

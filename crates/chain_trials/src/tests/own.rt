@@ -9,7 +9,7 @@ use super::entries::{forget, give_up, insert_asked, insert_by_any_entry, insert_
 use super::indexing::{value_at, value_at_index, write_at, write_at_index};
 use super::iterators::{counts, links, links_by_reference, links_used_up, values, walk};
 use super::scripts::{Do, Line, Script, answer, kind, plays};
-use super::{Chains, at, generation, index, same, text, tied_links};
+use super::{Chains, LimitedChains, at, chains, chains_show, generation, index, same, text};
 use arena_base::{Advancer, PtrAdvancer};
 use arena_ptr::{SlotStack, ToolPtr};
 use std::alloc::Global;
@@ -80,15 +80,33 @@ pub(super) fn runs(rt: &impl Abort, alloc: Global, what: &str, arena: &mut Chain
                 let got = own_answer(rt, alloc, arena, call);
                 same(rt, what, got.as_str(), want);
             }
-            shown => plays(rt, alloc, what, arena, &[shown]),
+            Line::Shows(want) => chains_show(rt, alloc, what, arena, want),
         }
     }
 }
 
+// The arena of a script after its lines.
+pub(super) fn run(rt: &impl Abort, alloc: Global, script: Script) -> Chains {
+    let (what, count, pairs, lines) = script;
+    let mut arena = chains(rt, alloc, count, pairs);
+    runs(rt, alloc, what, &mut arena, lines);
+    arena
+}
+
 // Each script on a new arena.
 pub(super) fn run_all(rt: &impl Abort, alloc: Global, table: &[Script]) {
-    for (what, count, pairs, lines) in table {
-        let mut arena: Chains = tied_links(rt, alloc, *count, pairs);
-        runs(rt, alloc, what, &mut arena, lines);
+    for script in table {
+        run(rt, alloc, *script);
     }
+}
+
+// Each line of one with a limit.
+pub(super) fn runs_limited(
+    rt: &impl Abort,
+    alloc: Global,
+    what: &str,
+    arena: &mut LimitedChains,
+    lines: &[Line],
+) {
+    plays(rt, alloc, what, arena, lines);
 }

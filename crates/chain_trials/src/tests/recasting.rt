@@ -1,7 +1,7 @@
 //! Values recast in their places, by rising index, up to one that refuses.
 ghost use Rattle.std.specs.Prelude.{◌≡◌, OnErr, Err};
 
-use super::{At, at, reads, same};
+use super::{At, at, put, reads, same};
 use arena_base::ArenaTrait;
 use arena_ptr::{Recast, Recaster, ToolPtr};
 use chain_arena::{ChainArena, ChainArenaTrait, LinkInsertKind};
@@ -51,11 +51,7 @@ fn lone_numbers(rt: &impl Abort, alloc: Global, items: &[u32]) -> Numbers {
             item: *item,
             tries: 0,
         };
-        assert!(rt;
-            arena
-                .insert_reallocating(LinkInsertKind::Disconnected, number)
-                .is_ok()
-        );
+        put(rt, &mut arena, LinkInsertKind::Disconnected, number);
     }
     arena
 }

@@ -1,7 +1,7 @@
 //! The texts of links and of arenas of links.
 
 use super::pointers::BarePtr;
-use super::{at, generation, index, same};
+use super::{at, generation, index, put, same};
 use arena_base::ArenaTrait;
 use arena_ptr::{Ptr, ToolPtr};
 use chain_arena::{ChainArena, ChainArenaTrait, Link, LinkInsertKind, LinkNoGen};
@@ -80,17 +80,6 @@ fn put_word(
 ) -> ToolPtr {
     let word = String::from_str(alloc, text).expect(rt, "memory");
     put(rt, arena, kind, word)
-}
-
-// Adds a link.
-fn put<P: Ptr, T: Drop>(
-    rt: &impl Abort,
-    arena: &mut ChainArena<P, T>,
-    kind: LinkInsertKind<P>,
-    t: T,
-) -> P {
-    let added = arena.insert_reallocating(kind, t);
-    added.expect(rt, "room for a link")
 }
 
 #[test]

@@ -1,7 +1,7 @@
 //! An arena whose pointers have two indexes and no generation.
 
 use super::pointers::TinyPtr;
-use super::{add, reads, same};
+use super::{put, reads, same};
 use arena_base::ArenaTrait;
 use arena_ptr::ChainInsertionError;
 use chain_arena::{Call, ChainArena, ChainArenaTrait, LinkInsertKind, Reply, apply};
@@ -11,10 +11,10 @@ use chain_arena::{Call, ChainArena, ChainArenaTrait, LinkInsertKind, Reply, appl
 fn refuses_a_third_index(rt: HostRuntime) {
     let mut arena: ChainArena<TinyPtr, u32> = ChainArena::new(rt.alloc());
     same(&rt, "none", arena.len(), 0);
-    let (p, q) = (add(&rt, &mut arena, 1), add(&rt, &mut arena, 2));
+    let kind = LinkInsertKind::Disconnected;
+    let (p, q) = (put(&rt, &mut arena, kind, 1), put(&rt, &mut arena, kind, 2));
     let tied = (arena.connect(p, q), arena.connect(q, p));
     same(&rt, "tied", tied, (Some(()), Some(())));
-    let kind = LinkInsertKind::Disconnected;
     let refused = arena.insert_reallocating(kind, 3);
     same(
         &rt,

@@ -1,10 +1,12 @@
 //! Chains carried over to another arena.
 
+use super::own::runs_limited;
 use super::pointers::{BarePtr, SmallPtr, WidePtr};
 use super::rows::{BY_LEAST_INDEX, INTERLEAVED, SCATTERED};
-use super::scripts::{Script, played};
+use super::scripts::{Line, Script, played};
 use super::{
-    Chains, LimitedChains, NONE, Row, add, at, generation, reads, row_of, same, shows, tied_links,
+    Chains, LimitedChains, NONE, Row, chain_rows, chains, chains_show, generation, limited_chains,
+    put, reads, same,
 };
 use arena_base::{ArenaSlot, ArenaTrait, CompactArenaTrait};
 use arena_ptr::{Gen8, LimitedStack, Ptr, ReallocationError, SetMaxCapacity, SlotStack, ToolPtr};
@@ -96,10 +98,10 @@ fn check_transfer<A: ChainArenaTrait<ToolPtr, u32> + CompactArenaTrait<ToolPtr, 
 ) {
     let (script, now, want, rows, counter) = transfer;
     let mut source: A = played(rt, alloc, script);
-    let mut target: Chains = tied_links(rt, alloc, 2, &[]);
+    let mut target = chains(rt, alloc, 2, &[]);
     let told = carry(rt, alloc, &mut source, generation(rt, now), &mut target);
     reads(rt, alloc, script.0, told, want);
-    shows(rt, alloc, script.0, &target, rows);
+    chains_show(rt, alloc, script.0, &target, rows);
     same(rt, "counter", target.generation().get(), now);
     let left = (source.len(), source.singular_generation());
     same(rt, "the source", left, (0, Some(generation(rt, counter))));
@@ -115,11 +117,13 @@ fn transfers_out_of_any_arena(rt: HostRuntime) {
 }
 
 // An arena with a maximum of two, which two links fill.
+const FULL: [Line; 1] = [Line::Shows(&[((1, 2), 1, NONE, (2, 2)), ((2, 2), 2, (1, 2), NONE)])];
+
 #[test]
 fn a_transfer_beyond_the_maximum(rt: HostRuntime) {
-    let mut target: LimitedChains = tied_links(&rt, rt.alloc(), 2, &[(1, 2)]);
+    let mut target = limited_chains(&rt, rt.alloc(), 2, &[(1, 2)]);
     same(&rt, "a maximum", target.set_max_capacity(2), Ok(()));
-    let mut source: Chains = tied_links(&rt, rt.alloc(), 3, &[(3, 1)]);
+    let mut source = chains(&rt, rt.alloc(), 3, &[(3, 1)]);
     let seven = generation(&rt, 7);
     let told = carry(&rt, rt.alloc(), &mut source, seven, &mut target);
     reads(
@@ -129,14 +133,13 @@ fn a_transfer_beyond_the_maximum(rt: HostRuntime) {
         told,
         "(Err(BeyondMaxCapacity), [])",
     );
-    let there = [((1, 2), 1, NONE, (2, 2)), ((2, 2), 2, (1, 2), NONE)];
-    shows(&rt, rt.alloc(), "the target", &target, &there);
+    runs_limited(&rt, rt.alloc(), "the target", &mut target, &FULL);
     let here = [
         ((1, 2), 1, (3, 2), NONE),
         ((2, 2), 2, NONE, NONE),
         ((3, 2), 3, NONE, (1, 2)),
     ];
-    shows(&rt, rt.alloc(), "the source", &source, &here);
+    chains_show(&rt, rt.alloc(), "the source", &source, &here);
     same(&rt, "counter", target.generation(), source.generation());
 }
 
@@ -144,13 +147,14 @@ fn a_transfer_beyond_the_maximum(rt: HostRuntime) {
 type Slot = ArenaSlot<BarePtr, LinkNoGen<BarePtr, u32>>;
 
 // Whether these are so many lone links, each with its index as its value.
-fn are_lone(rt: &impl Abort, arena: &Chains, count: u32) -> bool {
+fn are_lone(rt: &impl Abort, alloc: Global, arena: &Chains, count: u32) -> bool {
+    let mut k = 0u32;
     let mut lone = true;
-    for k in 1..=count {
-        let row = row_of(rt, arena, at(rt, (k, 2)));
+    for row in chain_rows(rt, alloc, arena) {
+        k = k.saturating_add(1);
         lone = lone && row == ((k, 2), k, NONE, NONE);
     }
-    lone && arena.len() == count as usize
+    lone && k == count
 }
 
 // The index type is tested before the maximum, and nothing grows.
@@ -159,10 +163,9 @@ fn check_beyond_the_index_type<S: SlotStack<Item = Slot>>(
     alloc: Global,
     target: &mut ChainArena<BarePtr, u32, S>,
 ) {
-    let added = target.insert_reallocating(LinkInsertKind::SingleLinkCyclic, 5);
-    let p = added.expect(rt, "room for a link");
+    let p = put(rt, target, LinkInsertKind::SingleLinkCyclic, 5);
     let room = (target.capacity(), target.max_capacity());
-    let mut source: Chains = tied_links(rt, alloc, 256, &[]);
+    let mut source = chains(rt, alloc, 256, &[]);
     let told = carry(rt, alloc, &mut source, (), target);
     reads(rt, alloc, "told", told, "(Err(AllocError), [])");
     same(rt, "room", (target.capacity(), target.max_capacity()), room);
@@ -172,7 +175,7 @@ fn check_beyond_the_index_type<S: SlotStack<Item = Slot>>(
         target.are_neighbors(p, p),
     );
     same(rt, "the target", link, (1, Some(5), true));
-    same(rt, "the source", are_lone(rt, &source, 256), true);
+    same(rt, "the source", are_lone(rt, alloc, &source, 256), true);
     same(rt, "counter", source.generation().get(), 2);
 }
 
@@ -190,7 +193,7 @@ fn a_transfer_over_the_greatest_generation(rt: HostRuntime) {
     let mut source: ChainArena<SmallPtr, u32> = ChainArena::new(rt.alloc());
     source.set_generation(Gen8::new(254).expect(&rt, "a generation"));
     for t in 1..=2 {
-        add(&rt, &mut source, t);
+        put(&rt, &mut source, LinkInsertKind::Disconnected, t);
     }
     let mut target = Chains::new(rt.alloc());
     let two = generation(&rt, 2);
@@ -212,10 +215,9 @@ type Wide = ChainArena<WidePtr, u32, LimitedStack<ArenaSlot<WidePtr, LinkNoGen<W
 #[test]
 fn a_transfer_of_wide_indexes(rt: HostRuntime) {
     let mut source = Wide::new(rt.alloc());
-    let a = add(&rt, &mut source, 1);
-    add(&rt, &mut source, 2);
-    let c = source.insert_reallocating(LinkInsertKind::ChainStart(a), 3);
-    same(&rt, "a start", c.is_ok(), true);
+    let a = put(&rt, &mut source, LinkInsertKind::Disconnected, 1);
+    put(&rt, &mut source, LinkInsertKind::Disconnected, 2);
+    put(&rt, &mut source, LinkInsertKind::ChainStart(a), 3);
     let mut target = Chains::new(rt.alloc());
     let seven = generation(&rt, 7);
     let told = carry(&rt, rt.alloc(), &mut source, seven, &mut target);
@@ -225,7 +227,7 @@ fn a_transfer_of_wide_indexes(rt: HostRuntime) {
         (Pair { inx: Inx64 { number: 2 }, generation: Gen32 { number: 2 } }, 2, false, P0[3](7))])";
     reads(&rt, rt.alloc(), "told", told, want);
     let (_, _, _, rows, counter) = LEAST_INDEX;
-    shows(&rt, rt.alloc(), "the target", &target, rows);
+    chains_show(&rt, rt.alloc(), "the target", &target, rows);
     let left = (source.len(), source.generation().get());
     same(&rt, "the source", left, (0, counter));
 }
@@ -234,10 +236,8 @@ fn a_transfer_of_wide_indexes(rt: HostRuntime) {
 #[test]
 fn a_transfer_without_generations(rt: HostRuntime) {
     let mut source: ChainArena<BarePtr, u32> = ChainArena::new(rt.alloc());
-    let a = add(&rt, &mut source, 1);
-    same(&rt, "a ring", source.connect(a, a), Some(()));
-    let b = source.insert_reallocating(LinkInsertKind::NextTo(a), 2);
-    same(&rt, "two", b.is_ok(), true);
+    let a = put(&rt, &mut source, LinkInsertKind::SingleLinkCyclic, 1);
+    put(&rt, &mut source, LinkInsertKind::NextTo(a), 2);
     let mut target = Chains::new(rt.alloc());
     let three = generation(&rt, 3);
     let told = carry(&rt, rt.alloc(), &mut source, three, &mut target);
@@ -246,6 +246,6 @@ fn a_transfer_without_generations(rt: HostRuntime) {
         (Pair { inx: Inx8 { number: 2 }, generation: () }, 2, false, P0[2](3))])";
     reads(&rt, rt.alloc(), "told", told, want);
     let ring = [((1, 3), 11, (2, 3), (2, 3)), ((2, 3), 22, (1, 3), (1, 3))];
-    shows(&rt, rt.alloc(), "the target", &target, &ring);
+    chains_show(&rt, rt.alloc(), "the target", &target, &ring);
     same(&rt, "the source", source.len(), 0);
 }
