@@ -10,13 +10,22 @@ use chain_wrapped::Wrapped;
 use std::alloc::Global;
 use std::process::Abort;
 
-// Each script on a new arena.
+// Each script of a table on a new arena.
+fn check_table<A: ChainArenaTrait<ToolPtr, u32> + Drop>(
+    rt: &impl Abort,
+    alloc: Global,
+    table: &[Script],
+) {
+    for script in table {
+        let _: A = played(rt, alloc, *script);
+    }
+}
+
+// .. of all tables.
 fn check_scripts<A: ChainArenaTrait<ToolPtr, u32> + Drop>(rt: &impl Abort, alloc: Global) {
     let tables: [&[Script]; 5] = [&CONNECTIONS, &REMOVALS, &KINDS, &CUTS, &LOOKS];
     for table in tables {
-        for script in table {
-            let _: A = played(rt, alloc, *script);
-        }
+        check_table::<A>(rt, alloc, table);
     }
     for (script, lines) in LAYOUTS {
         let mut arena: A = played(rt, alloc, script);
