@@ -2,36 +2,34 @@ mod advancing;
 mod agreeing;
 mod any_arena;
 mod behind;
-mod calls;
+mod by_name;
 mod canonical;
 mod copies;
-mod cutting;
 mod drains;
 mod entries;
 mod example;
 mod indexing;
 mod iterators;
-mod kinds;
 mod limits;
 mod link_order;
 mod machine;
+mod own;
+mod own_rows;
 mod pointers;
 mod recasting;
-mod removal;
 mod rows;
+mod scripts;
 mod sizes;
 mod texts;
 mod tiny_ptr;
 mod transfers;
-mod walks;
 
-use arena_base::{Advancer, ArenaSlot, ArenaTrait};
-use arena_ptr::{Gen32, Inx32, LimitedStack, Ptr, ToolPtr};
+use arena_base::{Advancer, ArenaSlot};
+use arena_ptr::{Gen32, Inx32, LimitedStack, Ptr, SlotStack, ToolPtr};
 use chain_arena::{ChainArena, ChainArenaTrait, LinkInsertKind, LinkNoGen};
 use std::alloc::Global;
 use std::fmt::Debug;
 use std::process::Abort;
-use std::test::Fail;
 
 // Links over std's memory without a limit and with one.
 type Chains = ChainArena<ToolPtr, u32>;
@@ -56,20 +54,30 @@ fn same<T: PartialEq + Debug + Drop>(rt: &impl Abort, what: &str, got: T, want: 
     assert_eq!(rt; got, want, "{what}");
 }
 
-// The pointer of an index and a generation.
-fn at(rt: &impl Abort, inx: u32, generation: u32) -> ToolPtr {
-    let generation = Gen32::new(generation).expect(rt, "a generation");
-    ToolPtr::_from_raw(index(rt, inx), generation)
+// An answer as `Debug` writes it.
+fn text<T: Debug + Drop>(rt: &impl Abort, alloc: Global, answer: T) -> String {
+    format!(in alloc; "{answer:?}").expect(rt, "memory")
 }
 
-// The pointer of one of the first links, by its index.
-fn first(rt: &impl Abort, inx: u32) -> ToolPtr {
-    at(rt, inx, 2)
+// Looks whether `Debug` writes this of an answer.
+fn reads<T: Debug + Drop>(rt: &impl Abort, alloc: Global, what: &str, answer: T, want: &str) {
+    let got = text(rt, alloc, answer);
+    assert_eq!(rt; got.as_str(), want, "{what}");
+}
+
+// A generation.
+fn generation(rt: &impl Abort, n: u32) -> Gen32 {
+    Gen32::new(n).expect(rt, "a generation")
 }
 
 // An index.
 fn index(rt: &impl Abort, inx: u32) -> Inx32 {
     Inx32::new(inx).expect(rt, "an index")
+}
+
+// The pointer of an index and a generation.
+fn at(rt: &impl Abort, p: At) -> ToolPtr {
+    ToolPtr::_from_raw(index(rt, p.0), generation(rt, p.1))
 }
 
 // The two numbers of a pointer.
@@ -88,71 +96,43 @@ fn number(i: Option<Inx32>) -> u32 {
     }
 }
 
-// Adds a lone link.
-fn add<A: ChainArenaTrait<ToolPtr, u32>>(rt: &impl Abort, arena: &mut A, t: u32) -> ToolPtr {
-    let added = arena.insert_reallocating(LinkInsertKind::Disconnected, t);
+// Adds a link.
+fn put<P: Ptr, T: Drop, S: SlotStack<Item = ArenaSlot<P, LinkNoGen<P, T>>>>(
+    rt: &impl Abort,
+    arena: &mut ChainArena<P, T, S>,
+    kind: LinkInsertKind<P>,
+    t: T,
+) -> P {
+    let added = arena.insert_reallocating(kind, t);
     added.expect(rt, "room for a link")
 }
 
-// An arena of lone links, each with its index as its value.
-fn lone_links<A: ChainArenaTrait<ToolPtr, u32> + Drop>(
-    rt: &impl Abort,
-    alloc: Global,
-    count: u32,
-) -> A {
-    let mut arena = A::new(alloc);
-    for k in 1..=count {
-        add(rt, &mut arena, k);
-    }
-    arena
-}
-
-// Makes, of each pair of first links, the second the one after the first.
-fn tie<A: ChainArenaTrait<ToolPtr, u32>>(rt: &impl Abort, arena: &mut A, pairs: &[At]) {
-    for (i, j) in pairs {
-        let tied = arena.connect(first(rt, *i), first(rt, *j));
-        assert!(rt; tied.is_some());
-    }
-}
-
-// An arena of lone links of which some are tied.
+// An arena of lone links, each with its index as its value, of which each pair is tied, the second after the first.
 fn tied_links<A: ChainArenaTrait<ToolPtr, u32> + Drop>(
     rt: &impl Abort,
     alloc: Global,
     count: u32,
     pairs: &[At],
 ) -> A {
-    let mut arena = lone_links(rt, alloc, count);
-    tie(rt, &mut arena, pairs);
+    let mut arena = A::new(alloc);
+    for k in 1..=count {
+        let added = arena.insert_reallocating(LinkInsertKind::Disconnected, k);
+        assert!(rt; added.is_ok());
+    }
+    for (i, j) in pairs {
+        let tied = arena.connect(at(rt, (*i, 2)), at(rt, (*j, 2)));
+        assert!(rt; tied.is_some());
+    }
     arena
-}
-
-// The link of a valid pointer: the pointers to its neighbors, and its value.
-fn link_of<A: ChainArenaTrait<ToolPtr, u32>>(
-    rt: &impl Abort,
-    arena: &A,
-    p: ToolPtr,
-) -> (At, At, u32) {
-    let link = arena.get_link(p).expect(rt, "a valid pointer");
-    (numbers(link.prev()), numbers(link.next()), *link.t)
-}
-
-// The link of a valid pointer: the indexes of its neighbors, and its value.
-fn bare_link<A: ChainArenaTrait<ToolPtr, u32>>(
-    rt: &impl Abort,
-    arena: &A,
-    p: ToolPtr,
-) -> (u32, u32, u32) {
-    let link = arena.get_link_no_gen(p).expect(rt, "a valid pointer");
-    (number(link.prev()), number(link.next()), link.t)
 }
 
 // What the arena shows of the link of a valid pointer, by both calls that show it.
 fn row_of<A: ChainArenaTrait<ToolPtr, u32>>(rt: &impl Abort, arena: &A, p: ToolPtr) -> Row {
-    let (prev, next, t) = link_of(rt, arena, p);
-    let bare = bare_link(rt, arena, p);
-    assert!(rt; bare == (prev.0, next.0, t));
-    (numbers(Some(p)), t, prev, next)
+    let link = arena.get_link(p).expect(rt, "a valid pointer");
+    let (prev, next) = (numbers(link.prev()), numbers(link.next()));
+    let bare = arena.get_link_no_gen(p).expect(rt, "a valid pointer");
+    assert!(rt; (number(bare.prev()), number(bare.next()), bare.t) == (prev.0, next.0, *link.t));
+    (numbers(Some(p)), bare.t, prev, next)
 }
 
 // All links of an arena, by rising index.
@@ -160,15 +140,15 @@ fn rows_of<A: ChainArenaTrait<ToolPtr, u32>>(
     rt: &impl Abort,
     alloc: Global,
     arena: &A,
-) -> Result<Vec<Row>, Fail> {
+) -> Vec<Row> {
     let mut rows = Vec::new(alloc);
     let mut all = arena.advancer();
     for _ in 0..arena.len() {
         let p = all.advance(arena).expect(rt, "as many pointers as links");
-        rows.push(row_of(rt, arena, p))?;
+        rows.push(row_of(rt, arena, p)).expect(rt, "memory");
     }
     assert!(rt; all.advance(arena).is_none());
-    Ok(rows)
+    rows
 }
 
 // Looks whether these are all links of the arena, by rising index.
@@ -178,8 +158,26 @@ fn shows<A: ChainArenaTrait<ToolPtr, u32>>(
     what: &str,
     arena: &A,
     want: &[Row],
-) -> Result<(), Fail> {
-    let rows = rows_of(rt, alloc, arena)?;
+) {
+    let rows = rows_of(rt, alloc, arena);
     assert_eq!(rt; rows.as_slice(), want, "{what}");
-    Ok(())
+}
+
+// The same at chain arenas without a limit and with one: a place that hands a generic body an arena is dear to prove, and
+// here there is one for each.
+fn chains(rt: &impl Abort, alloc: Global, count: u32, pairs: &[At]) -> Chains {
+    tied_links(rt, alloc, count, pairs)
+}
+
+fn limited_chains(rt: &impl Abort, alloc: Global, count: u32, pairs: &[At]) -> LimitedChains {
+    tied_links(rt, alloc, count, pairs)
+}
+
+fn chain_rows(rt: &impl Abort, alloc: Global, arena: &Chains) -> Vec<Row> {
+    rows_of(rt, alloc, arena)
+}
+
+fn chains_show(rt: &impl Abort, alloc: Global, what: &str, arena: &Chains, want: &[Row]) {
+    let rows = chain_rows(rt, alloc, arena);
+    assert_eq!(rt; rows.as_slice(), want, "{what}");
 }

@@ -1,12 +1,13 @@
 //! Plain arenas of links, of which those whose interlinks agree become chain arenas.
 
-use super::{At, Chains, NONE, add, first, same, shows};
+use super::own::runs;
+use super::scripts::{Do, Kind, Line};
+use super::{At, Chains, NONE, at, same};
 use arena_base::{Arena, ArenaTrait};
 use arena_ptr::{Inx32, ToolPtr};
 use chain_arena::{LinkBody, LinkNoGen, links_agree};
 use std::alloc::Global;
 use std::process::Abort;
-use std::test::Fail;
 
 type Plain = Arena<ToolPtr, LinkNoGen<ToolPtr, u32>>;
 
@@ -55,25 +56,36 @@ fn interlinks_that_agree_or_not(rt: HostRuntime) {
 #[test]
 fn an_interlink_to_a_freed_index(rt: HostRuntime) {
     let mut arena = plain(&rt, rt.alloc(), &[(0, 2), (1, 0)]);
-    assert!(rt; arena.remove(first(&rt, 2)).allow().is_some());
+    same(
+        &rt,
+        "gone",
+        arena.remove(at(&rt, (2, 2))).allow().is_some(),
+        true,
+    );
     same(&rt, "the interlinks", links_agree(&arena), false);
 }
 
-// Indexes, generations and interlinks stay, and so do the counter and the freed list: the last freed is used first.
-#[test]
-fn what_is_accepted_stays(rt: HostRuntime) -> Result<(), Fail> {
-    let mut arena = plain(&rt, rt.alloc(), &[(0, 3), (0, 0), (1, 0), (0, 0), (5, 5)]);
-    assert!(rt; arena.remove(first(&rt, 4)).allow().is_some());
-    assert!(rt; arena.remove(first(&rt, 2)).allow().is_some());
-    let mut arena = Chains::from_arena(arena)?;
-    add(&rt, &mut arena, 8);
-    add(&rt, &mut arena, 9);
-    let want = [
+// The last freed index is used first, and nothing else has changed.
+const ACCEPTED: [Line; 3] = [
+    Line::Says(Do::Insert(Kind::Disconnected, 8), "Ok(P0[2](4))"),
+    Line::Says(Do::Insert(Kind::Disconnected, 9), "Ok(P0[4](4))"),
+    Line::Shows(&[
         ((1, 2), 7, NONE, (3, 2)),
         ((2, 4), 8, NONE, NONE),
         ((3, 2), 7, (1, 2), NONE),
         ((4, 4), 9, NONE, NONE),
         ((5, 2), 7, (5, 2), (5, 2)),
-    ];
-    shows(&rt, rt.alloc(), "the links", &arena, &want)
+    ]),
+];
+
+// Indexes, generations and interlinks stay, and so do the counter and the freed list.
+#[test]
+fn what_is_accepted_stays(rt: HostRuntime) {
+    let mut arena = plain(&rt, rt.alloc(), &[(0, 3), (0, 0), (1, 0), (0, 0), (5, 5)]);
+    for k in [4, 2] {
+        let gone = arena.remove(at(&rt, (k, 2))).allow();
+        same(&rt, "gone", gone.is_some(), true);
+    }
+    let mut arena = Chains::from_arena(arena).expect(&rt, "interlinks that agree");
+    runs(&rt, rt.alloc(), "the links", &mut arena, &ACCEPTED);
 }

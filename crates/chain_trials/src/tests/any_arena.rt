@@ -1,36 +1,60 @@
 //! The rows that any arena of links meets, at the chain arena and at an arena that hands each call on.
 
-use super::{At, Chains, NONE, advancing, behind, calls, canonical, cutting, kinds, removal, rows};
+use super::advancing::{check_changes, met};
+use super::rows::{CONNECTIONS, CUTS, KINDS, LAYOUTS, LOOKS, REMOVALS};
+use super::scripts::{Line, Script, played, plays};
+use super::{At, Chains, NONE, same, tied_links};
 use arena_ptr::ToolPtr;
 use chain_arena::ChainArenaTrait;
 use chain_wrapped::Wrapped;
 use std::alloc::Global;
 use std::process::Abort;
-use std::test::Fail;
 
-// Each row that is known of an arena of links by its traits alone, and what its advancers answer after `None`.
+// Each script of a table on a new arena.
+fn check_table<A: ChainArenaTrait<ToolPtr, u32> + Drop>(
+    rt: &impl Abort,
+    alloc: Global,
+    table: &[Script],
+) {
+    for script in table {
+        let _: A = played(rt, alloc, *script);
+    }
+}
+
+// .. of all tables.
+fn check_scripts<A: ChainArenaTrait<ToolPtr, u32> + Drop>(rt: &impl Abort, alloc: Global) {
+    let tables: [&[Script]; 5] = [&CONNECTIONS, &REMOVALS, &KINDS, &CUTS, &LOOKS];
+    for table in tables {
+        check_table::<A>(rt, alloc, table);
+    }
+    for (script, lines) in LAYOUTS {
+        let mut arena: A = played(rt, alloc, script);
+        plays(rt, alloc, script.0, &mut arena, lines);
+    }
+}
+
+// Room at birth, an arena that changes under an advancer, and what an advancer answers after its first `None`.
 fn check_all<A: ChainArenaTrait<ToolPtr, u32> + Drop>(
     rt: &impl Abort,
     alloc: Global,
     after_none: At,
-) -> Result<(), Fail> {
-    behind::check_new::<A>(rt, alloc);
-    rows::check_rows::<A>(rt, alloc)?;
-    removal::check_removals::<A>(rt, alloc)?;
-    kinds::check_kinds::<A>(rt, alloc)?;
-    cutting::check_cutting::<A>(rt, alloc)?;
-    advancing::check_advancing::<A>(rt, alloc);
-    canonical::check_interleaved::<A>(rt, alloc)?;
-    canonical::check_holes::<A>(rt, alloc)?;
-    calls::check_calls::<A>(rt, alloc, after_none)
+) {
+    check_scripts::<A>(rt, alloc);
+    check_changes::<A>(rt, alloc);
+    let born = A::with_min_capacity(alloc, 3).expect(rt, "memory");
+    let room = (born.is_empty(), born.capacity() >= 3);
+    same(rt, "room at birth", room, (true, true));
+    let arena: A = tied_links(rt, alloc, 2, &[(1, 2)]);
+    let want = [(1, 2), (2, 2), NONE, after_none, NONE];
+    same(rt, "all", met(arena.advancer(), &arena, 4), want);
 }
 
 #[test]
-fn a_chain_arena(rt: HostRuntime) -> Result<(), Fail> {
-    check_all::<Chains>(&rt, rt.alloc(), NONE)
+fn a_chain_arena(rt: HostRuntime) {
+    check_all::<Chains>(&rt, rt.alloc(), NONE);
 }
 
 #[test]
-fn an_arena_that_hands_each_call_on(rt: HostRuntime) -> Result<(), Fail> {
-    check_all::<Wrapped<Chains>>(&rt, rt.alloc(), (1, 2))
+fn an_arena_that_hands_each_call_on(rt: HostRuntime) {
+    check_all::<Wrapped<Chains>>(&rt, rt.alloc(), (1, 2));
 }

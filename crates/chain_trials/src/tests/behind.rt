@@ -4,19 +4,16 @@ ghost use Rattle.std.specs.Prelude.{◌≡◌, ◌↔◌, ℕ, IsSome, IfSome, I
 ghost use Rattle.chain_laws.specs.Chains.{next_of};
 ghost use Rattle.chain_laws.specs.Neighbors.{HasOneSetOfChains};
 ghost use Rattle.chain_laws.specs.Operations.{joined, with_lone};
+ghost use Rattle.chain_laws.specs.Removals.{removed};
 ghost use Rattle.arena_base.specs.Arena.{IsValid};
 ghost use Rattle.chain_trials.specs.Behind.{Extends};
 ghost use Rattle.chain_links.specs.ChainArena.{IsInserted};
 
-use super::{At, NONE, add, at, bare_link, first, link_of, number, numbers, same};
-use arena_base::ArenaTrait;
-use arena_ptr::{ChainInsertionError, Ptr, ToolPtr};
+use arena_ptr::{ChainInsertionError, Ptr, PtrInx};
 use chain_arena::{ChainArenaTrait, LinkInsertKind};
-use std::alloc::Global;
-use std::process::Abort;
 
 // The number of links of any arena: each stands in one chain, and no two sets of chains say what the arena shows.
-fn count_of_links<P: Ptr, T: Drop, A: ChainArenaTrait<P, T>>(arena: &A) -> usize
+pub(super) fn count_of_links<P: Ptr, T: Drop, A: ChainArenaTrait<P, T>>(arena: &A) -> usize
     ensures count { result ≡ length (A.seen arena.now).entries }
     ensures chains { HasOneSetOfChains (A.interlinks arena.now) }
 {
@@ -26,7 +23,7 @@ fn count_of_links<P: Ptr, T: Drop, A: ChainArenaTrait<P, T>>(arena: &A) -> usize
 
 // Adds a link behind the end of a chain and answers its pointer. `None`: the pointer is not valid or its link has a next
 // one, and what stood before stands as it did.
-fn add_behind<P: Ptr, T: Drop, A: ChainArenaTrait<P, T>>(
+pub(super) fn add_behind<P: Ptr, T: Drop, A: ChainArenaTrait<P, T>>(
     arena: &mut A,
     p: P,
     t: T,
@@ -49,58 +46,15 @@ fn add_behind<P: Ptr, T: Drop, A: ChainArenaTrait<P, T>>(
     Ok(None)
 }
 
-// Adds a link behind another, and answers its index and generation.
-fn behind<A: ChainArenaTrait<ToolPtr, u32>>(
-    rt: &impl Abort,
+// Takes a link out of any arena of links, and answers the index of the one after it.
+pub(super) fn take_next<P: Ptr, T: Drop, A: ChainArenaTrait<P, T>>(
     arena: &mut A,
-    p: ToolPtr,
-    t: u32,
-) -> At {
-    let added = add_behind(arena, p, t).expect(rt, "room for a link");
-    numbers(added)
-}
-
-// Three links in a row, of which the second goes and another is added: the same happens in any arena of links.
-fn check_row<A: ChainArenaTrait<ToolPtr, u32>>(rt: &impl Abort, arena: &mut A) {
-    let a = add(rt, arena, 10);
-    same(rt, "the first", numbers(Some(a)), (1, 2));
-    same(rt, "behind 1", behind(rt, arena, a, 20), (2, 2));
-    let b = first(rt, 2);
-    same(rt, "behind 2", behind(rt, arena, b, 30), (3, 2));
-    same(
-        rt,
-        "the second",
-        link_of(rt, arena, b),
-        ((1, 2), (3, 2), 20),
-    );
-    same(rt, "1 has a next link", behind(rt, arena, a, 40), NONE);
-    same(rt, "three", arena.len(), 3);
-    check_gone(rt, arena, b);
-}
-
-// The second link goes, and one comes behind the third at its index.
-fn check_gone<A: ChainArenaTrait<ToolPtr, u32>>(rt: &impl Abort, arena: &mut A, b: ToolPtr) {
-    let gone = arena
-        .remove_link_no_gen(b)
-        .allow()
-        .expect(rt, "a valid pointer");
-    let between = (number(gone.prev()), number(gone.next()));
-    same(rt, "between 1 and 3", between, (1, 3));
-    same(rt, "2 is gone", behind(rt, arena, b, 50), NONE);
-    let c = first(rt, 3);
-    same(rt, "behind 3", behind(rt, arena, c, 60), (2, 4));
-    same(rt, "the third", bare_link(rt, arena, c), (1, 2, 30));
-    same(
-        rt,
-        "its value",
-        bare_link(rt, arena, at(rt, 2, 4)),
-        (3, 0, 60),
-    );
-}
-
-// The row in a new arena.
-pub(super) fn check_new<A: ChainArenaTrait<ToolPtr, u32> + Drop>(rt: &impl Abort, alloc: Global) {
-    let mut arena = A::new(alloc);
-    check_row(rt, &mut arena);
-    same(rt, "three again", count_of_links(&arena), 3);
+    i: P::Inx,
+) -> Option<P::Inx>
+    ensures { IsSome (A.entry arena.old (P.Inx.number i)) → A.interlinks arena.new ≡ removed (A.interlinks arena.old) (P.Inx.number i) }
+{
+    match arena.remove_inx_link_no_gen(i).allow() {
+        Some((_, link)) => link.next(),
+        None => None,
+    }
 }

@@ -1,22 +1,21 @@
 //! The example of the README.
 
-use super::walks::{add, walk_from};
+use super::iterators::walk;
+use super::{put, reads};
 use arena_base::ArenaTrait;
 use arena_ptr::{InvalidationResult, ToolPtr};
 use chain_arena::{ChainArena, ChainArenaTrait, LinkInsertKind};
-use std::test::Fail;
 
 #[test]
-fn a_queue_with_three_links(rt: HostRuntime) -> Result<(), Fail> {
+fn a_queue_with_three_links(rt: HostRuntime) {
     let mut arena: ChainArena<ToolPtr, u32> = ChainArena::new(rt.alloc());
-    let a = add(&rt, &mut arena, 10);
+    let a = put(&rt, &mut arena, LinkInsertKind::Disconnected, 10);
     let c = arena.insert_reallocating(LinkInsertKind::ChainEnd(a), 30);
     let b = arena.insert_reallocating(LinkInsertKind::NextTo(a), 20);
     let (b, c) = (b.expect(&rt, "after a"), c.expect(&rt, "the end"));
-    let walk = walk_from(&rt, rt.alloc(), &arena, a)?;
-    let three = [((1, 2), 10), ((3, 2), 20), ((2, 2), 30)];
-    assert_eq!(rt; walk.as_slice(), three.as_slice());
+    let three = "Some([(P0[1](2), 10), (P0[3](2), 20), (P0[2](2), 30)])";
+    let walked = walk(&rt, rt.alloc(), &arena, a);
+    reads(&rt, rt.alloc(), "a walk", walked, three);
     assert!(rt; arena.remove(b) == InvalidationResult::Success(20) && !arena.contains(b));
     assert!(rt; arena.are_neighbors(a, c));
-    Ok(())
 }

@@ -4,18 +4,10 @@ ghost use Rattle.std.specs.Prelude.{◌≡◌};
 ghost use Rattle.arena_base.specs.Arena.{IsValid};
 ghost use Rattle.chain_links.specs.ChainArena.{entry, with_value_at};
 
-use super::{Chains, NONE, Row, first, index, same, shows, tied_links};
+use super::Chains;
 use arena_base::{ArenaSlot, ArenaTrait};
-use arena_ptr::{Ptr, SlotStack};
+use arena_ptr::{Inx32, Ptr, SlotStack, ToolPtr};
 use chain_arena::{ChainArena, LinkNoGen};
-use std::test::Fail;
-
-// What is left of the links 1, 2 and 3 in a row after writes to the second and the third.
-const WRITTEN: [Row; 3] = [
-    ((1, 2), 1, NONE, (2, 2)),
-    ((2, 2), 20, (1, 2), (3, 2)),
-    ((3, 2), 30, (2, 2), NONE),
-];
 
 // Writes a value. Nothing else changes.
 fn write<P: Ptr, T: Drop, S: SlotStack<Item = ArenaSlot<P, LinkNoGen<P, T>>>>(
@@ -29,15 +21,36 @@ fn write<P: Ptr, T: Drop, S: SlotStack<Item = ArenaSlot<P, LinkNoGen<P, T>>>>(
     arena[p] = t;
 }
 
-#[test]
-fn indexing_gives_values_and_writes_them(rt: HostRuntime) -> Result<(), Fail> {
-    let mut arena: Chains = tied_links(&rt, rt.alloc(), 3, &[(1, 2), (2, 3)]);
-    let (second, third) = (first(&rt, 2), index(&rt, 3));
-    assert!(rt; arena.contains(second));
-    same(&rt, "by a pointer", arena[second], 2);
-    write(&mut arena, second, 20);
-    assert!(rt; arena.get_inx(third).is_some());
-    same(&rt, "by an index", *arena.get_inx_unwrap(third), 3);
-    *arena.get_inx_mut_unwrap(third) = 30;
-    shows(&rt, rt.alloc(), "after the writes", &arena, &WRITTEN)
+// The value of a pointer, and of an index, where it is valid.
+pub(super) fn value_at(arena: &Chains, p: ToolPtr) -> Option<u32> {
+    if arena.contains(p) {
+        Some(arena[p])
+    } else {
+        None
+    }
+}
+
+pub(super) fn value_at_index(arena: &Chains, i: Inx32) -> Option<u32> {
+    if arena.get_inx(i).is_some() {
+        Some(*arena.get_inx_unwrap(i))
+    } else {
+        None
+    }
+}
+
+// Writes one, and tells whether it is valid.
+pub(super) fn write_at(arena: &mut Chains, p: ToolPtr, t: u32) -> bool {
+    if !arena.contains(p) {
+        return false;
+    }
+    write(arena, p, t);
+    true
+}
+
+pub(super) fn write_at_index(arena: &mut Chains, i: Inx32, t: u32) -> bool {
+    if arena.get_inx(i).is_none() {
+        return false;
+    }
+    *arena.get_inx_mut_unwrap(i) = t;
+    true
 }

@@ -1,7 +1,7 @@
 //! Which links are equal, and which comes first.
 
-use super::tiny_ptr::{TinyInx, TinyPtr};
-use super::{at, index, same};
+use super::pointers::{TinyInx, TinyPtr};
+use super::{at, same};
 use arena_ptr::{Inx32, PtrInx, ToolPtr};
 use chain_arena::{Link, LinkNoGen};
 use std::cmp::Ordering;
@@ -24,22 +24,30 @@ const RISING: [Parts; 8] = [
     (256, 0, 0),
 ];
 
-fn bare(rt: &impl Abort, parts: Parts) -> LinkNoGen<ToolPtr, u32> {
+// The index of a number, none for 0.
+fn inx(n: u32) -> Option<Inx32> {
+    Inx32::new(n)
+}
+
+fn bare(parts: Parts) -> LinkNoGen<ToolPtr, u32> {
     let (prev, next, t) = parts;
-    LinkNoGen::<ToolPtr, u32>::new((inx(rt, prev), inx(rt, next)), t)
+    LinkNoGen::<ToolPtr, u32>::new((inx(prev), inx(next)), t)
 }
 
-fn inx(rt: &impl Abort, n: u32) -> Option<Inx32> {
-    if n == 0 { None } else { Some(index(rt, n)) }
-}
-
+// .. with pointers, as those of an arena, of which the first links have generation two.
 fn with_pointers(rt: &impl Abort, parts: Parts) -> Link<ToolPtr, u32> {
     let (prev, next, t) = parts;
-    Link::new((first_or_none(rt, prev), first_or_none(rt, next)), t)
-}
-
-fn first_or_none(rt: &impl Abort, n: u32) -> Option<ToolPtr> {
-    if n == 0 { None } else { Some(at(rt, n, 2)) }
+    let prev = if prev == 0 {
+        None
+    } else {
+        Some(at(rt, (prev, 2)))
+    };
+    let next = if next == 0 {
+        None
+    } else {
+        Some(at(rt, (next, 2)))
+    };
+    Link::new((prev, next), t)
 }
 
 // The first is below the second, by each way to compare.
@@ -58,31 +66,28 @@ fn hash_of<T: Hash>(t: &T) -> u64 {
     state.finish()
 }
 
+// Each is below the next, and equal to one of the same parts.
 #[test]
 fn links_go_by_their_neighbors_then_by_their_values(rt: HostRuntime) {
-    for k in 1..RISING.len() {
-        let (low, high) = (RISING[k - 1], RISING[k]);
-        assert!(rt; is_below(&bare(&rt, low), &bare(&rt, high)));
-        assert!(rt; is_below(&with_pointers(&rt, low), &with_pointers(&rt, high)));
-    }
-}
-
-#[test]
-fn links_of_the_same_parts_are_equal(rt: HostRuntime) {
+    let mut last: Option<Parts> = None;
     for parts in RISING {
-        assert!(rt; is_same(&bare(&rt, parts), &bare(&rt, parts)));
-        assert!(rt; is_same(&with_pointers(&rt, parts), &with_pointers(&rt, parts)));
+        let (link, other) = (bare(parts), with_pointers(&rt, parts));
+        if let Some(low) = last {
+            assert!(rt; is_below(&bare(low), &link) && is_below(&with_pointers(&rt, low), &other));
+        }
+        assert!(rt; is_same(&link, &bare(parts)) && is_same(&other, &with_pointers(&rt, parts)));
+        last = Some(parts);
     }
 }
 
 #[test]
 fn the_generation_of_a_neighbor_counts_until_it_is_taken_off(rt: HostRuntime) {
-    let old = Link::new((Some(at(&rt, 1, 2)), None), 7);
-    let new = Link::new((Some(at(&rt, 1, 3)), None), 7);
+    let old = Link::new((Some(at(&rt, (1, 2))), None), 7);
+    let new = Link::new((Some(at(&rt, (1, 3))), None), 7);
     assert!(rt; is_below(&old, &new));
     assert!(rt; is_same(&old.no_gen_ref(), &new.no_gen_ref()));
     assert!(rt; is_same(&old.no_gen(), &new.no_gen()));
-    same(&rt, "parts", old.no_gen().prev_next(), (inx(&rt, 1), None));
+    same(&rt, "parts", old.no_gen().prev_next(), (inx(1), None));
     same(&rt, "value", *new.no_gen_ref().t, 7);
 }
 
@@ -97,7 +102,7 @@ fn none_is_below_each_index_whatever_it_is_packed_in(rt: HostRuntime) {
 
 #[test]
 fn a_value_without_an_order_has_none_in_a_link(rt: HostRuntime) {
-    let link = |next: u32, t: f64| LinkNoGen::<ToolPtr, f64>::new((None, inx(&rt, next)), t);
+    let link = |next: u32, t: f64| LinkNoGen::<ToolPtr, f64>::new((None, inx(next)), t);
     let nan = 0.0 / 0.0;
     same(&rt, "alone", link(0, nan).partial_cmp(&link(0, 1.0)), None);
     let decided = link(0, nan).partial_cmp(&link(1, nan));
@@ -107,7 +112,7 @@ fn a_value_without_an_order_has_none_in_a_link(rt: HostRuntime) {
 #[test]
 fn a_clone_is_equal(rt: HostRuntime) -> Result<(), Fail> {
     let text = String::from_str(rt.alloc(), "A")?;
-    let link = LinkNoGen::<ToolPtr, String>::new((inx(&rt, 1), inx(&rt, 2)), text);
+    let link = LinkNoGen::<ToolPtr, String>::new((inx(1), inx(2)), text);
     assert!(rt; is_same(&link, &link.clone()?));
     Ok(())
 }

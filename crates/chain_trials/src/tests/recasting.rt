@@ -1,13 +1,12 @@
 //! Values recast in their places, by rising index, up to one that refuses.
 ghost use Rattle.std.specs.Prelude.{◌≡◌, OnErr, Err};
 
-use super::{At, first, number, numbers, same};
+use super::{At, at, put, reads, same};
 use arena_base::ArenaTrait;
 use arena_ptr::{Recast, Recaster, ToolPtr};
 use chain_arena::{ChainArena, ChainArenaTrait, LinkInsertKind};
 use std::alloc::Global;
 use std::process::Abort;
-use std::test::Fail;
 
 // Adds ten to each number but two, which it refuses with itself.
 struct AddTen;
@@ -52,82 +51,72 @@ fn lone_numbers(rt: &impl Abort, alloc: Global, items: &[u32]) -> Numbers {
             item: *item,
             tries: 0,
         };
-        assert!(rt;
-            arena
-                .insert_reallocating(LinkInsertKind::Disconnected, number)
-                .is_ok()
-        );
+        put(rt, &mut arena, LinkInsertKind::Disconnected, number);
     }
     arena
 }
 
 // The values before, the answer, and the values after, each with how often it was to be recast.
-type Case = ([u32; 3], Result<(), u32>, [At; 3]);
+type Case = (&'static [u32], Result<(), u32>, &'static [At]);
 
-const CASES: [Case; 5] = [
-    ([1, 2, 3], Err(2), [(11, 1), (2, 1), (3, 0)]),
-    ([2, 1, 3], Err(2), [(2, 1), (1, 0), (3, 0)]),
-    ([1, 3, 2], Err(2), [(11, 1), (13, 1), (2, 1)]),
-    ([1, 2, 2], Err(2), [(11, 1), (2, 1), (2, 0)]),
-    ([1, 3, 5], Ok(()), [(11, 1), (13, 1), (15, 1)]),
+const CASES: [Case; 6] = [
+    (&[1, 2, 3], Err(2), &[(11, 1), (2, 1), (3, 0)]),
+    (&[2, 1, 3], Err(2), &[(2, 1), (1, 0), (3, 0)]),
+    (&[1, 3, 2], Err(2), &[(11, 1), (13, 1), (2, 1)]),
+    (&[1, 2, 2], Err(2), &[(11, 1), (2, 1), (2, 0)]),
+    (&[1, 3, 5], Ok(()), &[(11, 1), (13, 1), (15, 1)]),
+    (&[], Ok(()), &[]),
 ];
 
 // Recasts these values, and looks whether that is the answer, and these the values then.
-fn check_case(rt: &impl Abort, alloc: Global, case: Case) -> Result<(), Fail> {
+fn check_case(rt: &impl Abort, alloc: Global, case: Case) {
     let (items, want, after) = case;
-    let mut arena = lone_numbers(rt, alloc, &items);
+    let mut arena = lone_numbers(rt, alloc, items);
     same(rt, "the answer", arena.recast(&AddTen), want);
     let mut values = Vec::new(alloc);
     for (_, number) in arena.iter() {
-        values.push((number.item, number.tries))?;
+        let value = (number.item, number.tries);
+        values.push(value).expect(rt, "memory");
     }
-    assert_eq!(rt; values.as_slice(), after.as_slice());
-    Ok(())
+    same(rt, "the values", values.as_slice(), after);
 }
 
 #[test]
-fn recasters_that_refuse_and_that_do_not(rt: HostRuntime) -> Result<(), Fail> {
+fn recasters_that_refuse_and_that_do_not(rt: HostRuntime) {
     for case in CASES {
-        check_case(&rt, rt.alloc(), case)?;
+        check_case(&rt, rt.alloc(), case);
     }
-    Ok(())
-}
-
-#[test]
-fn nothing_to_recast(rt: HostRuntime) {
-    let mut arena = Numbers::new(rt.alloc());
-    same(&rt, "the answer", arena.recast(&AddTen), Ok(()));
 }
 
 // Links tied in part, of which one is gone.
 fn tied_numbers(rt: &impl Abort, alloc: Global) -> Numbers {
     let mut arena = lone_numbers(rt, alloc, &[1, 9, 2, 3]);
-    assert!(rt; arena.remove(first(rt, 2)).allow().is_some());
-    assert!(rt; arena.connect(first(rt, 4), first(rt, 1)).is_some());
-    assert!(rt; arena.connect(first(rt, 3), first(rt, 3)).is_some());
+    let gone = arena.remove(at(rt, (2, 2))).allow().is_some();
+    let first = arena.connect(at(rt, (4, 2)), at(rt, (1, 2)));
+    let second = arena.connect(at(rt, (3, 2)), at(rt, (3, 2)));
+    same(
+        rt,
+        "tied",
+        (gone, first, second),
+        (true, Some(()), Some(())),
+    );
     arena
 }
 
 // Pointers, interlinks and the counter stay, and by rising index the value before the refused one alone is a new one,
 // though it comes last in its chain.
 #[test]
-fn a_refused_recast_leaves_the_links(rt: HostRuntime) -> Result<(), Fail> {
+fn a_refused_recast_leaves_the_links(rt: HostRuntime) {
     let mut arena = tied_numbers(&rt, rt.alloc());
     same(&rt, "the answer", arena.recast(&AddTen), Err(2));
     let mut links = Vec::new(rt.alloc());
     for (p, link) in &arena {
-        links.push((
-            numbers(Some(p)),
-            (number(link.prev()), number(link.next())),
-            link.t.item,
-        ))?;
+        let row = (p, link.prev_next(), link.t.item);
+        links.push(row).expect(&rt, "memory");
     }
-    let want = [
-        ((1, 2), (4, 0), 11),
-        ((3, 2), (3, 3), 2),
-        ((4, 2), (0, 1), 3),
-    ];
-    assert_eq!(rt; links.as_slice(), want.as_slice());
+    let want = "[(P0[1](2), (Some(Inx32 { number: 4 }), None), 11), \
+        (P0[3](2), (Some(Inx32 { number: 3 }), Some(Inx32 { number: 3 })), 2), \
+        (P0[4](2), (None, Some(Inx32 { number: 1 })), 3)]";
+    reads(&rt, rt.alloc(), "the links", links, want);
     same(&rt, "counter", arena.generation().get(), 3);
-    Ok(())
 }

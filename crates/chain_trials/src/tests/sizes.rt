@@ -1,10 +1,10 @@
-//! How many bytes a slot takes, and that links may be copied where their values may.
+//! How many bytes a slot takes, that links may be copied where their values may, and what they are made of.
 ghost use Rattle.std.specs.Prelude.{◌≡◌};
 
-use super::same;
+use super::{at, index, same};
 use arena_base::ArenaSlot;
 use arena_ptr::{Ptr, ToolPtr};
-use chain_arena::LinkNoGen;
+use chain_arena::{Link, LinkNoGen};
 
 // A slot of links: the tag, the generation, the two interlinks, the destination and the value, four bytes each.
 fn slot_size() -> usize
@@ -22,19 +22,15 @@ fn twice<P: Ptr, T: Copy>(link: LinkNoGen<P, T>) -> (LinkNoGen<P, T>, LinkNoGen<
 }
 
 #[test]
-fn slots_hold_interlinks_in_the_width_of_an_index(rt: HostRuntime) {
+fn links_show_their_parts_and_are_copied(rt: HostRuntime) {
     same(&rt, "bytes", slot_size(), 24);
-}
-
-#[test]
-fn links_are_copied(rt: HostRuntime) {
-    let i = ToolPtr::invalid().inx();
-    let (link, again) = twice::<ToolPtr, u8>(LinkNoGen::<ToolPtr, u8>::new((Some(i), None), 7));
-    let parts = (link.prev_next(), link.t, again.prev_next(), again.t);
-    same(
-        &rt,
-        "parts",
-        parts,
-        ((Some(i), None), 7, (Some(i), None), 7),
-    );
+    let (i, j) = (Some(index(&rt, 5)), Some(index(&rt, 9)));
+    let (link, again) = twice::<ToolPtr, u8>(LinkNoGen::<ToolPtr, u8>::new((i, j), 7));
+    let parts = (link.prev(), link.next(), link.prev_next(), link.t);
+    same(&rt, "without generations", parts, (i, j, (i, j), 7));
+    same(&rt, "copied", (again.prev_next(), again.t), ((i, j), 7));
+    let (p, q) = (Some(at(&rt, (5, 2))), Some(at(&rt, (9, 2))));
+    let link = Link::new((p, q), 'a');
+    let parts = (link.prev(), link.next(), link.prev_next(), link.t);
+    same(&rt, "with generations", parts, (p, q, (p, q), 'a'));
 }

@@ -1,9 +1,9 @@
 //! The texts of links and of arenas of links.
 
 use super::pointers::BarePtr;
-use super::{at, index, same};
+use super::{at, generation, index, put, same};
 use arena_base::ArenaTrait;
-use arena_ptr::{Gen32, Ptr, ToolPtr};
+use arena_ptr::{Ptr, ToolPtr};
 use chain_arena::{ChainArena, ChainArenaTrait, Link, LinkInsertKind, LinkNoGen};
 use std::alloc::Global;
 use std::fmt;
@@ -70,11 +70,6 @@ fn wide_reads<T: Debug + Display>(
     same(rt, "by display, in a width", text.as_str(), display);
 }
 
-// A text as a value.
-fn word(rt: &impl Abort, alloc: Global, text: &str) -> String {
-    String::from_str(alloc, text).expect(rt, "memory")
-}
-
 // Adds a link of a text.
 fn put_word(
     rt: &impl Abort,
@@ -83,18 +78,8 @@ fn put_word(
     kind: LinkInsertKind<ToolPtr>,
     text: &str,
 ) -> ToolPtr {
-    put(rt, arena, kind, word(rt, alloc, text))
-}
-
-// Adds a link.
-fn put<P: Ptr, T: Drop>(
-    rt: &impl Abort,
-    arena: &mut ChainArena<P, T>,
-    kind: LinkInsertKind<P>,
-    t: T,
-) -> P {
-    let added = arena.insert_reallocating(kind, t);
-    added.expect(rt, "room for a link")
+    let word = String::from_str(alloc, text).expect(rt, "memory");
+    put(rt, arena, kind, word)
 }
 
 #[test]
@@ -104,7 +89,7 @@ fn an_arena_without_links_and_one_with_two(rt: HostRuntime) {
     debug_reads(&rt, alloc, &arena, "{}", "{}");
     let a = put_word(&rt, alloc, &mut arena, LinkInsertKind::Disconnected, "A");
     let b = put_word(&rt, alloc, &mut arena, LinkInsertKind::Disconnected, "B");
-    assert!(rt; arena.connect(a, b).is_some());
+    same(&rt, "tied", arena.connect(a, b), Some(()));
     debug_reads(
         &rt,
         alloc,
@@ -124,66 +109,81 @@ fn scattered_chains_have_a_line_each(rt: HostRuntime) {
     let b = put_word(&rt, alloc, &mut arena, LinkInsertKind::ChainEnd(a), "B");
     let _ = arena.remove(x);
     put_word(&rt, alloc, &mut arena, LinkInsertKind::ChainEnd(b), "C");
-    let text = format!(in alloc; "{arena:#?}").expect(&rt, "memory");
-    let want = "{
+    debug_reads(
+        &rt,
+        alloc,
+        &arena,
+        "{P0[1](3): {4, (end)} \"C\", P0[2](2): {(start), 4} \"A\", P0[3](2): {(start), (end)} \"Y\", \
+        P0[4](2): {2, 1} \"B\"}",
+        "{
     P0[1](3): {4, (end)} \"C\",
     P0[2](2): {(start), 4} \"A\",
     P0[3](2): {(start), (end)} \"Y\",
     P0[4](2): {2, 1} \"B\",
-}";
-    same(&rt, "six lines", text.as_str(), want);
+}",
+    );
+}
+
+// Both forms, which for these values are the same.
+fn link_reads<T: Debug + Display>(
+    rt: &impl Abort,
+    alloc: Global,
+    link: &T,
+    debug: &str,
+    display: &str,
+) {
+    debug_reads(rt, alloc, link, debug, debug);
+    display_reads(rt, alloc, link, display, display);
 }
 
 #[test]
 fn links_show_indexes_in_hexadecimal(rt: HostRuntime) {
     let alloc = rt.alloc();
     let end = LinkNoGen::<ToolPtr, u32>::new((Some(index(&rt, 10)), None), 7);
-    display_reads(&rt, alloc, &end, "{a, (end)} 7", "{a, (end)} 7");
-    debug_reads(&rt, alloc, &end, "{a, (end)} 7", "{a, (end)} 7");
-    let beside = (Some(at(&rt, 26, 11)), Some(at(&rt, 0xabcdef, 3)));
-    let between = Link::new(beside, word(&rt, alloc, "B"));
-    debug_reads(
-        &rt,
-        alloc,
-        &between,
-        "{1a, abcdef} \"B\"",
-        "{1a, abcdef} \"B\"",
-    );
-    display_reads(&rt, alloc, &between, "{1a, abcdef} B", "{1a, abcdef} B");
-    let bare = between.no_gen();
-    debug_reads(
-        &rt,
-        alloc,
-        &bare,
-        "{1a, abcdef} \"B\"",
-        "{1a, abcdef} \"B\"",
-    );
+    link_reads(&rt, alloc, &end, "{a, (end)} 7", "{a, (end)} 7");
+    let beside = (Some(at(&rt, (26, 11))), Some(at(&rt, (0xabcdef, 3))));
+    let between = Link::new(beside, "B");
+    let (debug, display) = ("{1a, abcdef} \"B\"", "{1a, abcdef} B");
+    link_reads(&rt, alloc, &between, debug, display);
+    link_reads(&rt, alloc, &between.no_gen(), debug, display);
+}
+
+// What reaches the value of a link: the alternate mark alone.
+fn teller_reads<T: Debug + Display>(rt: &impl Abort, alloc: Global, link: &T, texts: [&str; 4]) {
+    let [debug, sharp, display, sharp_display] = texts;
+    debug_reads(rt, alloc, link, debug, sharp);
+    display_reads(rt, alloc, link, display, sharp_display);
+    wide_reads(rt, alloc, link, debug, display);
 }
 
 #[test]
 fn only_the_alternate_mark_reaches_the_value_of_a_link(rt: HostRuntime) {
-    let alloc = rt.alloc();
     let lone = LinkNoGen::<ToolPtr, Teller>::new((None, None), Teller);
-    let (debug, display) = ("{(start), (end)} debug", "{(start), (end)} display");
-    debug_reads(&rt, alloc, &lone, debug, "{(start), (end)} debug#");
-    display_reads(&rt, alloc, &lone, display, "{(start), (end)} display#");
-    wide_reads(&rt, alloc, &lone, debug, display);
-    let first: Link<ToolPtr, Teller> = Link::new((None, Some(at(&rt, 1, 2))), Teller);
-    let (debug, display) = ("{(start), 1} debug", "{(start), 1} display");
-    debug_reads(&rt, alloc, &first, debug, "{(start), 1} debug#");
-    display_reads(&rt, alloc, &first, display, "{(start), 1} display#");
-    wide_reads(&rt, alloc, &first, debug, display);
+    let texts = [
+        "{(start), (end)} debug",
+        "{(start), (end)} debug#",
+        "{(start), (end)} display",
+        "{(start), (end)} display#",
+    ];
+    teller_reads(&rt, rt.alloc(), &lone, texts);
+    let first: Link<ToolPtr, Teller> = Link::new((None, Some(at(&rt, (1, 2)))), Teller);
+    let texts = [
+        "{(start), 1} debug",
+        "{(start), 1} debug#",
+        "{(start), 1} display",
+        "{(start), 1} display#",
+    ];
+    teller_reads(&rt, rt.alloc(), &first, texts);
 }
 
 #[test]
 fn pointers_without_a_generation_show_none(rt: HostRuntime) {
-    let alloc = rt.alloc();
-    let mut arena: ChainArena<BarePtr, Teller> = ChainArena::new(alloc);
+    let mut arena: ChainArena<BarePtr, Teller> = ChainArena::new(rt.alloc());
     let first = put(&rt, &mut arena, LinkInsertKind::Disconnected, Teller);
     put(&rt, &mut arena, LinkInsertKind::ChainEnd(first), Teller);
     debug_reads(
         &rt,
-        alloc,
+        rt.alloc(),
         &arena,
         "{Bare[1]: {(start), 2} debug, Bare[2]: {1, (end)} debug}",
         "{\n    Bare[1]: {(start), 2} debug#,\n    Bare[2]: {1, (end)} debug#,\n}",
@@ -194,7 +194,7 @@ fn pointers_without_a_generation_show_none(rt: HostRuntime) {
 fn generations_are_hexadecimal(rt: HostRuntime) {
     let alloc = rt.alloc();
     let mut arena: Words = ChainArena::new(alloc);
-    arena.set_generation(Gen32::new(26).expect(&rt, "a generation"));
+    arena.set_generation(generation(&rt, 26));
     put_word(
         &rt,
         alloc,

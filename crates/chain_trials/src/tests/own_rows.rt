@@ -1,0 +1,367 @@
+//! What a chain arena's own calls answer, and what they leave.
+
+use super::own::run_all;
+use super::rows::{FOUR, THREE};
+use super::scripts::{Do, Kind, Line, Script};
+use super::{At, NONE, Row};
+
+// Links tied crosswise: 3, 1, 4 and 2 in a row.
+const CROSSED: [At; 3] = [(4, 2), (3, 1), (1, 4)];
+
+// A ring of three.
+const ROUND: [At; 3] = [(1, 2), (2, 3), (3, 1)];
+
+// What is left of four in a row and a lone link without the second, and without the first.
+const WITHOUT_TWO: [Row; 4] = [
+    ((1, 2), 1, NONE, (3, 2)),
+    ((3, 2), 3, (1, 2), (4, 2)),
+    ((4, 2), 4, (3, 2), NONE),
+    ((5, 2), 5, NONE, NONE),
+];
+
+const WITHOUT_ONE: [Row; 4] = [
+    ((2, 2), 2, NONE, (3, 2)),
+    ((3, 2), 3, (2, 2), (4, 2)),
+    ((4, 2), 4, (3, 2), NONE),
+    ((5, 2), 5, NONE, NONE),
+];
+
+// The two links that are left of three in a row without the second.
+const TWO_LEFT: &str = "[(P0[1](2), {(start), 3} 1), (P0[3](2), {1, (end)} 3)]";
+
+// Walks: from a link on to the end, and then from the link before it back to the start; once round a ring.
+const WALKS: [Script; 6] = [
+    (
+        "a linear chain",
+        4,
+        &CROSSED,
+        &[
+            Line::Says(
+                Do::Walk((1, 2)),
+                "Some([(P0[1](2), 1), (P0[4](2), 4), (P0[2](2), 2), (P0[3](2), 3)])",
+            ),
+            Line::Says(
+                Do::Walk((2, 2)),
+                "Some([(P0[2](2), 2), (P0[4](2), 4), (P0[1](2), 1), (P0[3](2), 3)])",
+            ),
+        ],
+    ),
+    (
+        "a ring of three",
+        4,
+        &ROUND,
+        &[Line::Says(
+            Do::Walk((2, 2)),
+            "Some([(P0[2](2), 2), (P0[3](2), 3), (P0[1](2), 1)])",
+        )],
+    ),
+    (
+        "a ring of one, and one of two",
+        4,
+        &[(1, 1), (2, 3), (3, 2)],
+        &[
+            Line::Says(Do::Walk((1, 2)), "Some([(P0[1](2), 1)])"),
+            Line::Says(Do::Walk((3, 2)), "Some([(P0[3](2), 3), (P0[2](2), 2)])"),
+        ],
+    ),
+    (
+        "no walk from another generation or an index beyond the last",
+        1,
+        &[],
+        &[
+            Line::Says(Do::Walk((1, 1)), "None"),
+            Line::Says(Do::Walk((1, 3)), "None"),
+            Line::Says(Do::Walk((2, 2)), "None"),
+            Line::Says(Do::AdvanceEmpty, "None"),
+        ],
+    ),
+    (
+        "the second of four links in a row goes",
+        4,
+        &FOUR,
+        &[
+            Line::Says(Do::Remove((2, 2)), "Success(2)"),
+            Line::Says(Do::Remove((2, 2)), "InvalidPtr"),
+            Line::Says(
+                Do::Walk((1, 2)),
+                "Some([(P0[1](2), 1), (P0[3](2), 3), (P0[4](2), 4)])",
+            ),
+        ],
+    ),
+    (
+        "the slots and the counter",
+        2,
+        &[(1, 2), (2, 1)],
+        &[
+            Line::Says(Do::Slots, "2"),
+            Line::Says(Do::Generation, "2"),
+            Line::Says(Do::Counter, "Some(Gen32 { number: 2 })"),
+            Line::Says(Do::Clear, "Success(())"),
+            Line::Says(Do::Slots, "0"),
+            Line::Says(Do::Generation, "3"),
+        ],
+    ),
+];
+
+// Loops over all links, and values by what is known to be valid.
+const LOOPS: [Script; 4] = [
+    (
+        "values, of a chain of two whose second is gone and a lone link",
+        3,
+        &[(1, 2)],
+        &[
+            Line::Says(Do::Remove((2, 2)), "Success(2)"),
+            Line::Says(Do::Values, "[(P0[1](2), 1), (P0[3](2), 3)]"),
+        ],
+    ),
+    (
+        "links, of three in a row whose second is gone",
+        3,
+        &THREE,
+        &[
+            Line::Says(Do::Remove((2, 2)), "Success(2)"),
+            Line::Says(Do::Links, TWO_LEFT),
+            Line::Says(Do::LinksByReference, TWO_LEFT),
+            Line::Says(
+                Do::Counts,
+                "(2, Ok([Inx32 { number: 1 }, Inx32 { number: 3 }]))",
+            ),
+            Line::Says(Do::LinksUsedUp, TWO_LEFT),
+            Line::Says(Do::IsEmpty, "true"),
+        ],
+    ),
+    (
+        "no links",
+        0,
+        &[],
+        &[
+            Line::Says(Do::Values, "[]"),
+            Line::Says(Do::Links, "[]"),
+            Line::Says(Do::LinksByReference, "[]"),
+            Line::Says(Do::LinksUsedUp, "[]"),
+        ],
+    ),
+    (
+        "values of valid pointers and indexes",
+        3,
+        &THREE,
+        &[
+            Line::Says(Do::Value((2, 2)), "Some(2)"),
+            Line::Says(Do::WriteValue((2, 2), 20), "true"),
+            Line::Says(Do::ValueInx(3), "Some(3)"),
+            Line::Says(Do::WriteValueInx(3, 30), "true"),
+            Line::Shows(&[
+                ((1, 2), 1, NONE, (2, 2)),
+                ((2, 2), 20, (1, 2), (3, 2)),
+                ((3, 2), 30, (2, 2), NONE),
+            ]),
+        ],
+    ),
+];
+
+// Chains drained: wholly, and up to a first link.
+const CHAIN_DRAINS: [Script; 6] = [
+    (
+        "a linear chain drained from its start",
+        3,
+        &THREE,
+        &[
+            Line::Says(
+                Do::DrainChain((1, 2)),
+                "Some([Success((P0[1](2), {(start), 2} 1)), Success((P0[2](2), {(start), 3} 2)), \
+                Success((P0[3](2), {(start), (end)} 3))])",
+            ),
+            Line::Says(Do::IsEmpty, "true"),
+            Line::Says(Do::Generation, "5"),
+        ],
+    ),
+    (
+        "a linear chain drained from its middle",
+        3,
+        &THREE,
+        &[
+            Line::Says(
+                Do::DrainChain((2, 2)),
+                "Some([Success((P0[2](2), {1, 3} 2)), Success((P0[3](2), {1, (end)} 3)), \
+                Success((P0[1](2), {(start), (end)} 1))])",
+            ),
+            Line::Says(Do::IsEmpty, "true"),
+            Line::Says(Do::Generation, "5"),
+        ],
+    ),
+    (
+        "a cycle drained",
+        3,
+        &ROUND,
+        &[
+            Line::Says(
+                Do::DrainChain((1, 2)),
+                "Some([Success((P0[1](2), {3, 2} 1)), Success((P0[2](2), {3, 3} 2)), \
+                Success((P0[3](2), {3, 3} 3))])",
+            ),
+            Line::Says(Do::IsEmpty, "true"),
+            Line::Says(Do::Generation, "5"),
+        ],
+    ),
+    (
+        "no drain of an invalid pointer",
+        1,
+        &[],
+        &[
+            Line::Says(Do::DrainChain((2, 2)), "None"),
+            Line::Says(Do::RemoveChain((2, 2)), "false"),
+            Line::Shows(&[((1, 2), 1, NONE, NONE)]),
+            Line::Says(Do::RemoveChain((1, 2)), "true"),
+            Line::Says(Do::IsEmpty, "true"),
+        ],
+    ),
+    (
+        "a dropped drain takes the rest",
+        5,
+        &FOUR,
+        &[
+            Line::Says(
+                Do::DrainChainOne((2, 2)),
+                "Some(Success((P0[2](2), {1, 3} 2)))",
+            ),
+            Line::Says(Do::Generation, "6"),
+            Line::Shows(&[((5, 2), 5, NONE, NONE)]),
+        ],
+    ),
+    (
+        "a forgotten drain leaves the rest",
+        5,
+        &FOUR,
+        &[
+            Line::Says(
+                Do::ForgetChainDrain((2, 2)),
+                "Some(Success((P0[2](2), {1, 3} 2)))",
+            ),
+            Line::Shows(&WITHOUT_TWO),
+        ],
+    ),
+];
+
+// All links drained.
+const DRAINS: [Script; 4] = [
+    (
+        "all links drained by rising index",
+        4,
+        &[(4, 1), (1, 3)],
+        &[
+            Line::Says(Do::Remove((2, 2)), "Success(2)"),
+            Line::Says(
+                Do::Drain,
+                "[Success((P0[1](2), 1)), Success((P0[3](2), 3)), Success((P0[4](2), 4))]",
+            ),
+            Line::Says(Do::IsEmpty, "true"),
+            Line::Says(Do::Generation, "6"),
+        ],
+    ),
+    (
+        "a dropped drain of all takes the rest",
+        5,
+        &FOUR,
+        &[
+            Line::Says(Do::DrainOne, "Some(Success((P0[1](2), 1)))"),
+            Line::Says(Do::IsEmpty, "true"),
+            Line::Says(Do::Slots, "5"),
+            Line::Says(Do::Insert(Kind::Disconnected, 6), "Ok(P0[5](7))"),
+            Line::Says(Do::RemoveOneAndAll, "()"),
+            Line::Says(Do::IsEmpty, "true"),
+        ],
+    ),
+    (
+        "a forgotten drain of all leaves whole chains",
+        5,
+        &FOUR,
+        &[
+            Line::Says(Do::ForgetDrain, "Some(Success((P0[1](2), 1)))"),
+            Line::Shows(&WITHOUT_ONE),
+        ],
+    ),
+    (
+        "drains tell an overflow",
+        3,
+        &[(1, 2)],
+        &[
+            Line::Says(Do::SetGeneration(u32::MAX), "()"),
+            Line::Says(Do::DrainOne, "Some(GenerationOverflow((P0[1](2), 1)))"),
+            Line::Says(Do::Generation, "4"),
+            Line::Says(Do::RemoveAll, "()"),
+            Line::Says(Do::IsEmpty, "true"),
+        ],
+    ),
+];
+
+// Places for links, and the first link of a new arena by each call that takes any kind.
+const PLACES: [Script; 6] = [
+    (
+        "a place that is given up is there again, and a link comes to it",
+        0,
+        &[],
+        &[
+            Line::Says(Do::GiveUp(Kind::Disconnected), "Ok(P0[1](2))"),
+            Line::Says(Do::Len, "0"),
+            Line::Says(Do::Generation, "2"),
+            Line::Says(Do::Get((1, 2)), "None"),
+            Line::Says(Do::InsertByEntry(Kind::Disconnected, 7), "Ok(P0[1](2))"),
+            Line::Says(Do::Len, "1"),
+            Line::Says(Do::Generation, "2"),
+            Line::Says(Do::Get((1, 2)), "Some(7)"),
+        ],
+    ),
+    (
+        "a place that is forgotten leaves what one that is dropped leaves",
+        0,
+        &[],
+        &[
+            Line::Says(Do::Forget(Kind::Disconnected), "None"),
+            Line::Says(Do::Len, "0"),
+            Line::Says(Do::Generation, "2"),
+            Line::Says(Do::Get((1, 2)), "None"),
+            Line::Says(Do::Insert(Kind::Disconnected, 7), "Ok(P0[1](2))"),
+        ],
+    ),
+    (
+        "the first link, asked before",
+        0,
+        &[],
+        &[Line::Says(Do::InsertAsked(Kind::Disconnected, 1), "Some(Ok(P0[1](2)))")],
+    ),
+    (
+        "the first link",
+        0,
+        &[],
+        &[Line::Says(Do::Insert(Kind::Disconnected, 1), "Ok(P0[1](2))")],
+    ),
+    (
+        "the first link in a place, asked before",
+        0,
+        &[],
+        &[Line::Says(
+            Do::InsertByAnyEntry(Kind::Disconnected, 1),
+            "Some(Ok(P0[1](2)))",
+        )],
+    ),
+    (
+        "the first link in a place",
+        0,
+        &[],
+        &[Line::Says(Do::InsertByEntry(Kind::Disconnected, 1), "Ok(P0[1](2))")],
+    ),
+];
+
+#[test]
+fn walks_loops_and_places(rt: HostRuntime) {
+    for table in [&WALKS[..], &LOOPS[..], &PLACES[..]] {
+        run_all(&rt, rt.alloc(), table);
+    }
+}
+
+#[test]
+fn drains_used_dropped_and_forgotten(rt: HostRuntime) {
+    for table in [&CHAIN_DRAINS[..], &DRAINS[..]] {
+        run_all(&rt, rt.alloc(), table);
+    }
+}
