@@ -1,5 +1,5 @@
 // Calls that read and write interlinks.
-ghost use Rattle.std.specs.Prelude.{◌≡◌, ◌↔◌, IsTrue, IsSome, None};
+ghost use Rattle.std.specs.Prelude.{◌≡◌, IsSome, None};
 ghost use Rattle.std.specs.Option.{option_map};
 ghost use Rattle.arena_ptr.specs.Invalidation.{value_within, invalidation_result};
 ghost use Rattle.arena_base.specs.Arena.{entry_at};
@@ -7,13 +7,12 @@ ghost use Rattle.chain_laws.specs.Operations.{linked};
 ghost use Rattle.chain_links.specs.ChainArena.{shown, relinked, remove_link, entry};
 ghost use Rattle.chain_links.specs.Links.{seen_links, seen_pair};
 ghost use Rattle.chain_links.specs.Kinds.{named_in};
-ghost use Rattle.chain_interlinks.specs.Agreeing.{AgreesAt};
 ghost use Rattle.chain_interlinks.specs.Gaps.{IsGapOf};
 
 use arena_base::{Arena, ArenaSlot};
 use arena_ptr::{InvalidationResult, Ptr, PtrInx, SlotStack};
 use chain_interlinks::gaps::Gap;
-use chain_interlinks::{agreeing, gaps, interlinks};
+use chain_interlinks::{gaps, interlinks};
 use chain_links::LinkNoGen;
 use chain_links::kinds::{Name, NamedKind};
 
@@ -40,16 +39,6 @@ pub fn take_out<P: Ptr, T: Drop, S: SlotStack<Item = ArenaSlot<P, LinkNoGen<P, T
     ensures invalid { value_within result ≡ None → arena.new ≡ arena.old }
 {
     interlinks::take_out(arena, i)
-}
-
-/// `chain_interlinks::agreeing::agrees_at`.
-pub fn agrees_at<P: Ptr, T: Drop, S: SlotStack<Item = ArenaSlot<P, LinkNoGen<P, T>>>>(
-    arena: &Arena<P, LinkNoGen<P, T>, S>,
-    i: P::Inx,
-) -> bool
-    ensures { IsTrue result ↔ AgreesAt (shown (seen_links P.Inx.packed_number arena.now)) (P.Inx.number i) }
-{
-    agreeing::agrees_at(arena, i)
 }
 
 /// `chain_interlinks::gaps::gap_of`.

@@ -1,0 +1,34 @@
+// Calls of the trait of arenas of links.
+ghost use Rattle.std.specs.Prelude.{◌≡◌, ◌↔◌, length, IsSome, IfSome, OnSome, IfNone};
+ghost use Rattle.arena_ptr.specs.Invalidation.{invalidation_option};
+ghost use Rattle.arena_base.specs.Compressing.{overflows_after_compression};
+ghost use Rattle.chain_laws.specs.Chains.{Agrees};
+ghost use Rattle.chain_laws.specs.Operations.{joined};
+ghost use Rattle.chain_links.specs.ChainArena.{CanConnect};
+ghost use Rattle.chain_layout.specs.Layouts.{IsCanonicalLayout};
+
+use arena_ptr::{InvalidationOption, Ptr, PtrGen, PtrInx};
+use chain_arena::ChainArenaTrait;
+
+/// `ChainArenaTrait::connect`.
+pub fn connect<P: Ptr, T: Drop, A: ChainArenaTrait<P, T>>(arena: &mut A, p: P, q: P) -> Option<()>
+    ensures some { IsSome result ↔ CanConnect (A.entry arena.old) (A.interlinks arena.old) (P.key p) (P.key q) }
+    ensures joined { OnSome result (A.interlinks arena.new ≡ joined (A.interlinks arena.old) (P.key p).0 (P.key q).0) }
+    ensures seen { OnSome result (A.seen arena.new ≡ A.seen arena.old) }
+    ensures none { IfNone result (arena.new ≡ arena.old) }
+    ensures agreed { Agrees (A.interlinks arena.old) }
+{
+    arena.connect(p, q)
+}
+
+/// `ChainArenaTrait::compress_canonical`.
+pub fn compress_canonical<P: Ptr, T: Drop, A: ChainArenaTrait<P, T>>(
+    arena: &mut A,
+    reset: bool,
+) -> InvalidationOption<()>
+    ensures canonical { IsCanonicalLayout P.Gen.first P.Gen.following reset (A.seen arena.old) (A.interlinks arena.old) (A.seen arena.new) (A.interlinks arena.new) }
+    ensures overflow { IfSome (A.seen arena.old).counter (λ g. result ≡ invalidation_option (overflows_after_compression P.Gen.wraps reset (length (A.seen arena.old).entries) g) tt) }
+    ensures agreed { Agrees (A.interlinks arena.old) }
+{
+    arena.compress_canonical(reset)
+}
