@@ -15,7 +15,6 @@ pub struct ToolPtr {
 }
 
 impl Ptr for ToolPtr {
-    ghost use Rattle.std.proofs.Common.{rules};
     ghost use Rattle.arena_ptr.specs.Generations.{number_of_gen32};
     ghost use Rattle.arena_ptr.specs.ToolPtr.{key_of, same_tool_ptr, eq_is_same};
 

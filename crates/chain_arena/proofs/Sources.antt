@@ -7,7 +7,7 @@ use Rattle.std.proofs.lemmas.List.Elements.{recursion_from_All}
 use Rattle.std.proofs.lemmas.Bool.{eqb-true, eq-eqb}
 use Rattle.arena_ptr.specs.Numbers.{IsWithin}
 use Rattle.chain_laws.specs.Chains as chains
-use Rattle.chain_laws.specs.Chains.{Shown, Interlinks, Agrees, Has, prev_of}
+use Rattle.chain_laws.specs.Chains.{Shown, Interlinks, Agrees, Has}
 use Rattle.chain_laws.specs.Starts.{IsBack}
 use Rattle.chain_laws.proofs.Backing.{back_is_short}
 use Rattle.arena_base.specs.Entries.{found, first_key, index_of, RisesFrom}

@@ -13,9 +13,6 @@ is_answered named naming i j look answer names looked test = (
 )
 
 module _ (shown : Shown) where
-  pub agrees_each : Agrees shown → (i : ℕ) → AgreesAt shown i
-  agrees_each agrees i = record { forth = λ j. (agrees.both i j).0; back = λ j. (agrees.both j i).1 }
-
   -- where no link stands there is nothing to answer
   nothing_there : (i : ℕ) → shown i ≡ None → AgreesAt shown i
   nothing_there i none = record {

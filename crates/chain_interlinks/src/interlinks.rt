@@ -3,7 +3,7 @@ ghost use Rattle.std.specs.Prelude.{◌≡◌, ◌↔◌, IsTrue, IsSome, Some, 
 ghost use Rattle.std.specs.Option.{option_map, option_and_then};
 ghost use Rattle.arena_ptr.specs.Invalidation.{value_within, invalidation_result};
 ghost use Rattle.chain_laws.specs.Operations.{next_set, prev_set, linked};
-ghost use Rattle.arena_base.specs.Arena.{entry_at, IsListed};
+ghost use Rattle.arena_base.specs.Arena.{entry_at};
 ghost use Rattle.chain_links.specs.ChainArena.{shown, relinked, remove_link, entry, CanConnect, ptr_at};
 ghost use Rattle.chain_links.specs.Links.{seen_links, seen_pair};
 

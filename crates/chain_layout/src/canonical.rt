@@ -10,7 +10,6 @@ ghost use Rattle.chain_links.specs.Links.{seen_links};
 ghost use Rattle.chain_layout.specs.HeldLinks.{IsWork};
 ghost use Rattle.chain_layout.specs.Counts.{CountsOn};
 ghost use Rattle.chain_layout.specs.Layouts.{AreLaidOut};
-ghost use Rattle.chain_layout.specs.Moving.{goal_of};
 ghost use Rattle.chain_layout.specs.Numbering.{seen_held, renamed_held, given, looks_at, IsRenamedAt};
 
 use crate::moving::move_all;

@@ -7,7 +7,7 @@ ghost use Rattle.chain_laws.specs.Operations.{next_set, prev_set};
 ghost use Rattle.chain_laws.specs.Renamings.{IsRenaming};
 ghost use Rattle.chain_laws.specs.Arrangements.{place_in};
 ghost use Rattle.chain_laws.specs.Moves.{moved_index, moved, CanMove};
-ghost use Rattle.arena_base.specs.Arena.{slot_at, with_counter, HasRoom};
+ghost use Rattle.arena_base.specs.Arena.{slot_at, with_counter};
 ghost use Rattle.arena_base.specs.Entries.{entries, entries_from};
 ghost use Rattle.arena_base.specs.Compacting.{placed, with_touch};
 ghost use Rattle.arena_base.specs.Compressing.{VisitsAll, counter_after_compression, overflows_after_compression};

@@ -1,15 +1,13 @@
 // Links numbered: the chains by their least index, each linear one from its start, each cyclic one from its least index.
-ghost use Rattle.std.specs.Prelude.{◌≡◌, ◌≤◌, ℕ, ◌+◌, ◌*◌, length, List, ◌∷◌, Option, None, Some, IfSome, OnSome, IfNone};
+ghost use Rattle.std.specs.Prelude.{◌≡◌, ◌≤◌, ℕ, ◌+◌, ◌*◌, length, List, ◌∷◌, None, Some, IfSome, OnSome, IfNone};
 ghost use Rattle.std.specs.Option.{option_map};
-ghost use Rattle.chain_laws.specs.Chains.{Chain, linear, cyclic, items, Has, IsChain, IsValid, Agrees, prev_of, next_of};
+ghost use Rattle.chain_laws.specs.Chains.{Chain, linear, cyclic, Has, IsChain, IsValid, Agrees, prev_of, next_of};
 ghost use Rattle.chain_laws.specs.Starts.{IsStart};
 ghost use Rattle.chain_laws.specs.Walks.{going_on};
 ghost use Rattle.arena_base.specs.Arena.{slot_at};
 ghost use Rattle.arena_base.specs.Compacting.{with_touch};
-ghost use Rattle.arena_base.specs.Closing.{with_totals};
 ghost use Rattle.chain_layout.specs.HeldLinks.{shown_in, IsWork};
 ghost use Rattle.chain_layout.specs.Counts.{CountsOn};
-ghost use Rattle.chain_layout.specs.Moving.{sent_at};
 ghost use Rattle.chain_layout.specs.Numbering.{seen_held, given, is_fresh, CanNumber, IsNumberedAt, IsChainNumbered, AreAllNumbered};
 
 use crate::visiting::Visitor;

@@ -1,13 +1,10 @@
 -- An advancer along a chain answers the walk, in any arena of links that stays.
-use Rattle.std.proofs.Common.{◌≡◌, ℕ, ◌≤◌, List, [], ◌∷◌, ◌++◌, length, map, Option, None, Some, refl, sym, ap, ◌∙◌, subst, inl, inr}
-use Rattle.std.specs.Prelude.{is_some, cond, All, ◌==◌, Bool, true, false}
-use Rattle.std.specs.List.{AllByRecursion}
+use Rattle.std.proofs.Common.{◌≡◌, ℕ, ◌≤◌, List, [], ◌∷◌, ◌++◌, length, map, Option, None, Some, refl, sym, ap, ◌∙◌, subst, inl}
+use Rattle.std.specs.Prelude.{is_some, All}
 use Rattle.std.proofs.lemmas.List.{length-map, append-nil}
-use Rattle.std.proofs.lemmas.List.Elements.{recursion_from_All}
-use Rattle.std.proofs.lemmas.Bool.{eqb-true}
 use Rattle.arena_ptr.specs.Numbers.{IsWithin}
 use Rattle.chain_laws.specs.Chains as chains
-use Rattle.chain_laws.specs.Chains.{Shown, Interlinks, Agrees, Has, prev_of}
+use Rattle.chain_laws.specs.Chains.{Shown, Agrees, prev_of}
 use Rattle.chain_laws.specs.Walks.{IsWalk, ahead}
 use Rattle.chain_laws.proofs.Members.{Has-right}
 use Rattle.chain_laws.proofs.Passing.{has_walk, walk_valid, walk_once}

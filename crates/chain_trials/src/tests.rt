@@ -1,31 +1,21 @@
 mod advancing;
-mod agreeing;
 mod any_arena;
 mod behind;
-mod by_name;
 mod canonical;
-mod copies;
 mod drains;
 mod entries;
 mod example;
 mod indexing;
 mod iterators;
-mod limits;
-mod link_order;
 mod machine;
 mod own;
 mod own_rows;
-mod pointers;
-mod recasting;
 mod rows;
 mod scripts;
-mod sizes;
-mod texts;
-mod tiny_ptr;
 mod transfers;
 
 use arena_base::{Advancer, ArenaSlot};
-use arena_ptr::{Gen32, Inx32, LimitedStack, Ptr, SlotStack, ToolPtr};
+use arena_ptr::{Gen32, Inx32, LimitedStack, Ptr, ToolPtr};
 use chain_arena::{ChainArena, ChainArenaTrait, LinkInsertKind, LinkNoGen};
 use std::alloc::Global;
 use std::fmt::Debug;
@@ -96,17 +86,6 @@ fn number(i: Option<Inx32>) -> u32 {
     }
 }
 
-// Adds a link.
-fn put<P: Ptr, T: Drop, S: SlotStack<Item = ArenaSlot<P, LinkNoGen<P, T>>>>(
-    rt: &impl Abort,
-    arena: &mut ChainArena<P, T, S>,
-    kind: LinkInsertKind<P>,
-    t: T,
-) -> P {
-    let added = arena.insert_reallocating(kind, t);
-    added.expect(rt, "room for a link")
-}
-
 // An arena of lone links, each with its index as its value, of which each pair is tied, the second after the first.
 fn tied_links<A: ChainArenaTrait<ToolPtr, u32> + Drop>(
     rt: &impl Abort,
@@ -160,16 +139,12 @@ fn shows<A: ChainArenaTrait<ToolPtr, u32>>(
     want: &[Row],
 ) {
     let rows = rows_of(rt, alloc, arena);
-    assert_eq!(rt; rows.as_slice(), want, "{what}");
+    assert!(rt; rows.as_slice() == want, "{what}");
 }
 
-// The same at chain arenas without a limit and with one: a place that hands a generic body an arena is dear to prove, and
-// here there is one for each.
+// The same at chain arenas without a limit: a place that hands a generic body an arena is dear to prove, and here there is
+// one for each.
 fn chains(rt: &impl Abort, alloc: Global, count: u32, pairs: &[At]) -> Chains {
-    tied_links(rt, alloc, count, pairs)
-}
-
-fn limited_chains(rt: &impl Abort, alloc: Global, count: u32, pairs: &[At]) -> LimitedChains {
     tied_links(rt, alloc, count, pairs)
 }
 
@@ -179,5 +154,5 @@ fn chain_rows(rt: &impl Abort, alloc: Global, arena: &Chains) -> Vec<Row> {
 
 fn chains_show(rt: &impl Abort, alloc: Global, what: &str, arena: &Chains, want: &[Row]) {
     let rows = chain_rows(rt, alloc, arena);
-    assert_eq!(rt; rows.as_slice(), want, "{what}");
+    assert!(rt; rows.as_slice() == want, "{what}");
 }

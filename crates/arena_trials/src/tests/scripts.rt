@@ -9,7 +9,7 @@ use std::mem;
 use std::process::Abort;
 
 // A call on an arena. A pointer is its index and its generation.
-#[derive(Clone, Copy, Debug)]
+#[derive(Clone, Copy)]
 pub(super) enum Call {
     // Looks of the trait.
     Len,
@@ -334,7 +334,7 @@ pub(super) fn asks<A: ArenaTrait<SmallPtr, u32>>(
 ) {
     for (call, want) in rows {
         let got = trait_answer(rt, alloc, arena, *call);
-        assert_eq!(rt; got.as_str(), *want, "{call:?}");
+        assert_eq!(rt; got.as_str(), *want);
     }
 }
 
@@ -347,7 +347,7 @@ pub(super) fn runs<S: SlotStack<Item = Slots>>(
 ) {
     for (call, want) in rows {
         let got = answer_to(rt, alloc, arena, *call);
-        assert_eq!(rt; got.as_str(), *want, "{call:?}");
+        assert_eq!(rt; got.as_str(), *want);
     }
 }
 

@@ -1,5 +1,5 @@
 // Slot stacks through their bounds: filled, refused, edited, limited.
-ghost use Rattle.std.specs.Prelude.{◌≡◌, ◌+◌, ◌<◌, ◌≤◌, ◌↔◌, [], ◌∷◌, ◌++◌, length, IsErr, IsOk, OnOk, OnErr, OnSome, IfNone, Err, Some, slice_get, slice_set};
+ghost use Rattle.std.specs.Prelude.{◌≡◌, ◌+◌, ◌<◌, ◌↔◌, [], ◌∷◌, ◌++◌, length, IsErr, IsOk, OnOk, OnErr, OnSome, IfNone, Err, Some, slice_get, slice_set};
 ghost use Rattle.std.specs.Borrow.{Lends, sem};
 ghost use Rattle.arena_ptr.specs.SlotStack.{IsBeyond};
 

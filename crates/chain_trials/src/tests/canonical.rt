@@ -1,13 +1,12 @@
 //! Chains laid out in place, one after another, and the same links transferred.
 
 use super::own::{run, runs};
-use super::pointers::SmallPtr;
 use super::rows::{BEHIND_A_HOLE, BEHIND_HOLES, BY_LEAST_INDEX, INTERLEAVED, SCATTERED};
 use super::scripts::{Do, Line, Script};
-use super::{Chains, NONE, at, chain_rows, chains, put, same};
+use super::{Chains, NONE, at, chain_rows, chains, same};
 use arena_base::ArenaTrait;
-use arena_ptr::{AllocError, Gen8, InvalidationOption, Ptr, ToolPtr};
-use chain_arena::{ChainArena, ChainArenaTrait, LinkInsertKind};
+use arena_ptr::{AllocError, InvalidationOption, ToolPtr};
+use chain_arena::ChainArenaTrait;
 use std::alloc::Global;
 use std::process::Abort;
 
@@ -159,27 +158,6 @@ fn work_stays_within_its_bound(rt: HostRuntime) {
     let few = within_bound(&rt, rt.alloc(), 100, false);
     let many = within_bound(&rt, rt.alloc(), 100_000, true);
     same(&rt, "within", (few, many), (true, true));
-}
-
-#[test]
-fn a_compression_may_overflow(rt: HostRuntime) {
-    let mut arena: ChainArena<SmallPtr, u32> = ChainArena::new(rt.alloc());
-    let greatest = Gen8::new(255).expect(&rt, "a generation");
-    arena.set_generation(greatest);
-    for t in 1..=2 {
-        put(&rt, &mut arena, LinkInsertKind::Disconnected, t);
-    }
-    let told = arena.compress_canonical(false);
-    same(
-        &rt,
-        "told",
-        told,
-        InvalidationOption::GenerationOverflow(()),
-    );
-    same(&rt, "counter", arena.generation().get(), 2);
-    for (p, _) in &arena {
-        same(&rt, "generation", p.generation().get(), 2);
-    }
 }
 
 // Whether a compression and a transfer of the same links lay them out alike.

@@ -1,7 +1,7 @@
 //! The example of the README.
 
 use super::iterators::walk;
-use super::{put, reads};
+use super::reads;
 use arena_base::ArenaTrait;
 use arena_ptr::{InvalidationResult, ToolPtr};
 use chain_arena::{ChainArena, ChainArenaTrait, LinkInsertKind};
@@ -9,7 +9,8 @@ use chain_arena::{ChainArena, ChainArenaTrait, LinkInsertKind};
 #[test]
 fn a_queue_with_three_links(rt: HostRuntime) {
     let mut arena: ChainArena<ToolPtr, u32> = ChainArena::new(rt.alloc());
-    let a = put(&rt, &mut arena, LinkInsertKind::Disconnected, 10);
+    let a = arena.insert_reallocating(LinkInsertKind::Disconnected, 10);
+    let a = a.expect(&rt, "the first");
     let c = arena.insert_reallocating(LinkInsertKind::ChainEnd(a), 30);
     let b = arena.insert_reallocating(LinkInsertKind::NextTo(a), 20);
     let (b, c) = (b.expect(&rt, "after a"), c.expect(&rt, "the end"));

@@ -126,6 +126,27 @@ fn counts_on(rt: &impl Abort, arena: &mut ChainArena<SmallPtr, u32>, greatest: G
     same(rt, "two", arena.generation().get(), 2);
 }
 
+#[test]
+fn a_compression_may_overflow(rt: HostRuntime) {
+    let mut arena: ChainArena<SmallPtr, u32> = ChainArena::new(rt.alloc());
+    let greatest = Gen8::new(255).expect(&rt, "a generation");
+    arena.set_generation(greatest);
+    for t in 1..=2 {
+        put(&rt, &mut arena, LinkInsertKind::Disconnected, t);
+    }
+    let told = arena.compress_canonical(false);
+    same(
+        &rt,
+        "told",
+        told,
+        InvalidationOption::GenerationOverflow(()),
+    );
+    same(&rt, "counter", arena.generation().get(), 2);
+    for (p, _) in &arena {
+        same(&rt, "generation", p.generation().get(), 2);
+    }
+}
+
 // Hands 300 values to an arena with a maximum, and tells how many it holds and how many there are.
 fn handed<S: LimitStack<Item = Shared>>(
     rt: &impl Abort,

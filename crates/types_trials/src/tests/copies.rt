@@ -1,12 +1,12 @@
 //! Copies of chain arenas: what they have, what their closures saw, and when one is refused.
 
-use super::own::{runs, runs_limited};
-use super::rows::THREE;
-use super::scripts::{Do, Kind, Line};
-use super::{Chains, NONE, Row, at, chains, limited_chains, reads, same};
+use super::{
+    Chains, LimitedChains, NONE, Row, Slot, at, reads, same, shows, shows_and_goes_on, tied_links,
+};
 use arena_base::{Arena, ArenaSlot, ArenaTrait};
 use arena_ptr::{
-    InvalidationResult, LimitedStack, ReallocationError, SetMaxCapacity, SlotStack, ToolPtr,
+    HeapStack, InvalidationResult, LimitedStack, ReallocationError, SetMaxCapacity, SlotStack,
+    ToolPtr,
 };
 use chain_arena::{ChainArena, ChainArenaTrait, LinkInsertKind, LinkNoGen};
 use std::alloc::{AllocError, Global};
@@ -15,43 +15,36 @@ use std::process::Abort;
 // What is left of a row of three whose second is gone.
 const TWO_LINKS: [Row; 2] = [((1, 2), 1, NONE, (3, 2)), ((3, 2), 3, (1, 2), NONE)];
 
-// The second goes.
-const HOLE: [Line; 1] = [Line::Says(Do::Remove((2, 2)), "Success(2)")];
-
-// A clone and its original show the same, and go on alike, each by itself.
-const BOTH: [Line; 2] = [
-    Line::Shows(&TWO_LINKS),
-    Line::Says(Do::Insert(Kind::Disconnected, 9), "Ok(P0[2](3))"),
-];
-
 // A chain of the links 1, 2 and 3, of which the second is removed.
 fn with_a_hole(rt: &impl Abort, alloc: Global) -> Chains {
-    let mut arena = chains(rt, alloc, 3, &THREE);
-    runs(rt, alloc, "a hole", &mut arena, &HOLE);
+    let mut arena = tied_links(rt, alloc, 3, &[(1, 2), (2, 3)]);
+    let gone = arena.remove(at(rt, (2, 2)));
+    same(rt, "a hole", gone, InvalidationResult::Success(2));
     arena
 }
 
+// A clone and its original show the same, and go on alike, each by itself.
 #[test]
 fn a_clone_has_the_links_and_the_freed_list(rt: HostRuntime) {
     let mut arena = with_a_hole(&rt, rt.alloc());
     let mut copy = arena.clone(rt.alloc()).expect(&rt, "memory");
-    runs(&rt, rt.alloc(), "the clone", &mut copy, &BOTH);
-    runs(&rt, rt.alloc(), "the original", &mut arena, &BOTH);
+    shows_and_goes_on(&rt, rt.alloc(), &mut copy, &TWO_LINKS, (2, 3));
+    shows_and_goes_on(&rt, rt.alloc(), &mut arena, &TWO_LINKS, (2, 3));
 }
 
 // Two links, the first after the second.
-const TIED: [Line; 1] = [Line::Shows(&[((1, 2), 1, (2, 2), NONE), ((2, 2), 2, NONE, (1, 2))])];
+const TIED: [Row; 2] = [((1, 2), 1, (2, 2), NONE), ((2, 2), 2, NONE, (1, 2))];
 
 // A maximum is not carried over.
 #[test]
 fn a_clone_begins_with_a_new_stack(rt: HostRuntime) {
-    let mut arena = limited_chains(&rt, rt.alloc(), 2, &[(2, 1)]);
+    let mut arena: LimitedChains = tied_links(&rt, rt.alloc(), 2, &[(2, 1)]);
     let most = arena.capacity();
     same(&rt, "a maximum", arena.set_max_capacity(most), Ok(()));
-    let mut copy = arena.clone(rt.alloc()).expect(&rt, "memory");
+    let copy = arena.clone(rt.alloc()).expect(&rt, "memory");
     let most_of_both = (arena.max_capacity(), copy.max_capacity());
     same(&rt, "the maximum", most_of_both, (Some(most), None));
-    runs_limited(&rt, rt.alloc(), "the links", &mut copy, &TIED);
+    shows(&rt, rt.alloc(), "the links", &copy, &TIED);
 }
 
 // A value whose clone is refused, where it is 2.
@@ -95,7 +88,7 @@ fn a_clone_of_a_value_is_refused(rt: HostRuntime) {
 
 // Copies the links 1 and 3 with a hole between them, and tells what the closure saw. It answers ten times the number of its
 // call with the value added.
-fn copied<S: SlotStack<Item = ArenaSlot<ToolPtr, LinkNoGen<ToolPtr, u32>>>>(
+fn copied<S: SlotStack<Item = Slot>>(
     rt: &impl Abort,
     alloc: Global,
     target: &mut ChainArena<ToolPtr, u32, S>,
@@ -136,20 +129,19 @@ const COPIED: &str = "(Ok(()), [(P0[1](2), {(start), 3} 1), (P0[3](2), {1, (end)
 const REFUSED: &str = "(Err(BeyondMaxCapacity), [])";
 
 // The copy, which goes on as the original does.
-const COPY: [Line; 2] = [
-    Line::Shows(&[((1, 2), 11, NONE, (3, 2)), ((3, 2), 23, (1, 2), NONE)]),
-    Line::Says(Do::Insert(Kind::Disconnected, 9), "Ok(P0[2](3))"),
-];
+const COPY: [Row; 2] = [((1, 2), 11, NONE, (3, 2)), ((3, 2), 23, (1, 2), NONE)];
+
+// A copy over two rings of one.
+fn check_copy<S: SlotStack<Item = Slot>>(rt: &impl Abort, alloc: Global) {
+    let mut target = tied_links::<S>(rt, alloc, 2, &[(1, 1), (2, 2)]);
+    copied(rt, alloc, &mut target, COPIED);
+    shows_and_goes_on(rt, alloc, &mut target, &COPY, (2, 3));
+}
 
 #[test]
 fn a_copy_over_another_arena(rt: HostRuntime) {
-    let ring = [(1, 1), (2, 2)];
-    let mut target = chains(&rt, rt.alloc(), 2, &ring);
-    copied(&rt, rt.alloc(), &mut target, COPIED);
-    runs(&rt, rt.alloc(), "the copy", &mut target, &COPY);
-    let mut target = limited_chains(&rt, rt.alloc(), 2, &ring);
-    copied(&rt, rt.alloc(), &mut target, COPIED);
-    runs_limited(&rt, rt.alloc(), "the copy", &mut target, &COPY);
+    check_copy::<HeapStack<Slot>>(&rt, rt.alloc());
+    check_copy::<LimitedStack<Slot>>(&rt, rt.alloc());
 }
 
 #[test]
@@ -165,14 +157,14 @@ fn a_copy_to_a_plain_arena(rt: HostRuntime) {
 }
 
 // The link that a refused copy leaves.
-const AS_BEFORE: [Line; 1] = [Line::Shows(&[((1, 2), 1, NONE, NONE)])];
+const AS_BEFORE: [Row; 1] = [((1, 2), 1, NONE, NONE)];
 
 #[test]
 fn copies_beyond_the_maximum(rt: HostRuntime) {
-    let mut target = limited_chains(&rt, rt.alloc(), 1, &[]);
+    let mut target: LimitedChains = tied_links(&rt, rt.alloc(), 1, &[]);
     same(&rt, "a maximum", target.set_max_capacity(2), Ok(()));
     copied(&rt, rt.alloc(), &mut target, REFUSED);
-    runs_limited(&rt, rt.alloc(), "the target", &mut target, &AS_BEFORE);
+    shows(&rt, rt.alloc(), "the target", &target, &AS_BEFORE);
     let mut target: Arena<ToolPtr, u32, LimitedStack<ArenaSlot<ToolPtr, u32>>> = Arena::new(
         rt.alloc(),
     );
