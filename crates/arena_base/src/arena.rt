@@ -12,7 +12,7 @@ ghost use Rattle.arena_base.specs.Arena.{entry_at, entry_count, next_index, inse
 use crate::held::HeldSlots;
 use crate::listing::{relist, trim};
 use crate::look::Look;
-use crate::slot::{ArenaSlot, fill, position_of, regenerate_at, vacate_at};
+use crate::slot::{ArenaSlot, fill, inx_at, position_of, regenerate_at, vacate_at};
 use crate::tally::Tally;
 use arena_ptr::{
     HeapStack, InvalidationOption, InvalidationResult, LimitStack, MaxCapacityReductionError,
@@ -175,13 +175,8 @@ impl<P: Ptr, T: Drop, S: SlotStack<Item = ArenaSlot<P, T>>> Arena<P, T, S> {
         ensures after { self.new ≡ with_capacity_of self.old self.new }
         ensures never_less { self.old.capacity ≤ self.new.capacity }
     {
-        if let Some(most) = self.slots.max_capacity()
-            && most < n
-        {
-            return Err(ReallocationError::BeyondMaxCapacity);
-        }
         if n > P::Inx::greatest() {
-            return Err(ReallocationError::AllocError);
+            return Err(refusal(self.slots.max_capacity(), n));
         }
         self.slots.reserve_to(n)
     }
@@ -192,10 +187,9 @@ impl<P: Ptr, T: Drop, S: SlotStack<Item = ArenaSlot<P, T>>> Arena<P, T, S> {
         ensures fits { IsSome result → k + 2 < 2 ^ 64 }
     {
         match self.slots.get(k) {
-            Some(ArenaSlot::Allocated(generation, _)) => match P::Inx::try_from_usize(k + 1) {
-                Some(i) => Some(P::_from_raw(i, *generation)),
-                None => unreachable!(),
-            },
+            Some(ArenaSlot::Allocated(generation, _)) => {
+                Some(P::_from_raw(inx_at::<P>(k), *generation))
+            }
             Some(ArenaSlot::Free(_)) => None,
             None => None,
         }
@@ -244,13 +238,11 @@ impl<P: Ptr, T: Drop, S: SlotStack<Item = ArenaSlot<P, T>>> Arena<P, T, S> {
         requires { entry_count self.now < self.now.capacity }
         ensures { P.key result ≡ (next_index self.now, self.now.counter) }
     {
-        match self.first_free {
-            Some(i) => P::_from_raw(i, self.counter),
-            None => match P::Inx::try_from_usize(self.slots.len() + 1) {
-                Some(i) => P::_from_raw(i, self.counter),
-                None => unreachable!(),
-            },
-        }
+        let i = match self.first_free {
+            Some(i) => i,
+            None => inx_at::<P>(self.slots.len()),
+        };
+        P::_from_raw(i, self.counter)
     }
 
     // Takes out the entry at an index, if one stands there, and increments the counter.
@@ -343,6 +335,16 @@ impl<P: Ptr, T: Drop, S: SlotStack<Item = ArenaSlot<P, T>>> Arena<P, T, S> {
         self.len += 1;
         self.placed = self.placed.one_more();
         p
+    }
+}
+
+// Why a growth to so many entries is refused, more than there are indexes.
+fn refusal(maximum: Option<usize>, n: usize) -> ReallocationError
+    ensures { (result ≡ ReallocationError.BeyondMaxCapacity) ↔ IsBeyond maximum n }
+{
+    match maximum {
+        Some(most) if most < n => ReallocationError::BeyondMaxCapacity,
+        _ => ReallocationError::AllocError,
     }
 }
 

@@ -63,10 +63,7 @@ impl<P: Ptr, T> ArenaSlot<P, T> {
 pub(crate) fn position_of<P: Ptr>(i: P::Inx) -> usize
     ensures { result + 1 ≡ P.Inx.number i }
 {
-    match i.try_into_usize() {
-        Some(n) => n - 1,
-        None => unreachable!(),
-    }
+    number_of::<P>(i) - 1
 }
 
 // The number of an index.
@@ -150,18 +147,17 @@ pub(crate) fn regenerate_at<P: Ptr, T: Drop, S: SlotStack<Item = ArenaSlot<P, T>
     }
 }
 
-// Whether the slot at a position is free.
+// Whether no entry stands at a position.
 pub(crate) fn is_free_at<P: Ptr, T: Drop, S: SlotStack<Item = ArenaSlot<P, T>>>(
     slots: &S,
     k: usize,
 ) -> bool
-    requires { k < length (S.items slots.now) }
     ensures { result ≡ is_none (entry_in (slice_get (S.items slots.now) k)) }
 {
     match slots.get(k) {
         Some(ArenaSlot::Allocated(_, _)) => false,
         Some(ArenaSlot::Free(_)) => true,
-        None => unreachable!(),
+        None => true,
     }
 }
 
