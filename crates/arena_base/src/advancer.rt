@@ -46,7 +46,7 @@ impl<P> PtrAdvancer<P> {
 
 impl<P: Ptr, T: Drop, S: SlotStack<Item = ArenaSlot<P, T>>> Advancer<Arena<P, T, S>>
     for PtrAdvancer<P> {
-    ghost use Rattle.std.specs.Prelude.{◌≡◌, refl};
+    ghost use Rattle.std.specs.Prelude.{◌≡◌};
     ghost use Rattle.std.specs.Option.{option_map};
     ghost use Rattle.arena_base.specs.Entries.{entries};
     ghost use Rattle.arena_base.specs.Advancing.{IsLook};

@@ -1,5 +1,5 @@
 // The compactor: it holds the slots of an arena while entries are moved.
-ghost use Rattle.std.specs.Prelude.{◌≡◌, ◌≤◌, ◌<◌, ◌+◌, ⊤, ℕ, OnSome, IsSome, length, List, Option};
+ghost use Rattle.std.specs.Prelude.{◌≡◌, ◌≤◌, ◌<◌, ⊤, OnSome, IsSome, length};
 ghost use Rattle.std.specs.Option.{option_map, option_copied_mut};
 ghost use Rattle.std.specs.Borrow.{LendsSo, follows_so, sem};
 ghost use mathlib.Core.Option.{none};

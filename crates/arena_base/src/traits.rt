@@ -1,5 +1,5 @@
 // What arenas share, so that code may be generic over them.
-ghost use Rattle.std.specs.Prelude.{◌≡◌, ℕ, ◌<◌, ◌≤◌, ◌+◌, ◌^◌, ◌↔◌, ⊤, List, [], length, All, IsTrue, IsSome, IfSome, OnSome, IsOk, IfOk, IsErr, OnOk, OnErr, Some, None, Option, if◌then◌else◌};
+ghost use Rattle.std.specs.Prelude.{◌≡◌, ℕ, ◌<◌, ◌≤◌, ◌+◌, ◌^◌, ◌↔◌, ⊤, [], length, All, IsTrue, IsSome, IfSome, OnSome, IsOk, IfOk, IsErr, OnOk, OnErr, Some, None, Option, if◌then◌else◌};
 ghost use Rattle.std.specs.Option.{option_map, option_copied_mut};
 ghost use Rattle.std.specs.Borrow.{LendsSo, sem};
 ghost use Rattle.arena_ptr.specs.Numbers.{IsWithin};
