@@ -1,6 +1,6 @@
 //! Plain arenas of links, of which those whose interlinks agree become chain arenas.
 
-use super::{At, Chains, NONE, Row, at, same, shows_and_goes_on};
+use super::{At, Chains, NONE, Row, at, same, shows, shows_and_goes_on};
 use arena_base::{Arena, ArenaTrait};
 use arena_ptr::{Inx32, ToolPtr};
 use chain_arena::{LinkBody, LinkNoGen, links_agree};
@@ -78,6 +78,15 @@ const ONE_MORE: [Row; 4] = [
     ((5, 2), 7, (5, 2), (5, 2)),
 ];
 
+// .. and the other one next.
+const TWO_MORE: [Row; 5] = [
+    ((1, 2), 7, NONE, (3, 2)),
+    ((2, 4), 9, NONE, NONE),
+    ((3, 2), 7, (1, 2), NONE),
+    ((4, 4), 9, NONE, NONE),
+    ((5, 2), 7, (5, 2), (5, 2)),
+];
+
 // Indexes, generations and interlinks stay, and so do the counter and the freed list.
 #[test]
 fn what_is_accepted_stays(rt: HostRuntime) {
@@ -89,4 +98,5 @@ fn what_is_accepted_stays(rt: HostRuntime) {
     let mut arena = Chains::from_arena(arena).expect(&rt, "interlinks that agree");
     shows_and_goes_on(&rt, rt.alloc(), &mut arena, &LEFT, (2, 4));
     shows_and_goes_on(&rt, rt.alloc(), &mut arena, &ONE_MORE, (4, 4));
+    shows(&rt, rt.alloc(), "all links", &arena, &TWO_MORE);
 }

@@ -2,13 +2,10 @@
 
 use super::pointers::{BarePtr, SmallPtr, WidePtr};
 use super::{
-    At, Chains, LimitedChains, NONE, Row, Slot, generation, put, reads, rows_of, same, shows,
-    tied_links,
+    Chains, LimitedChains, NONE, Row, generation, put, reads, rows_of, same, shows, tied_links,
 };
 use arena_base::{ArenaSlot, ArenaTrait};
-use arena_ptr::{
-    Gen8, HeapStack, LimitedStack, Ptr, ReallocationError, SetMaxCapacity, SlotStack, ToolPtr,
-};
+use arena_ptr::{Gen8, LimitedStack, Ptr, ReallocationError, SetMaxCapacity, SlotStack, ToolPtr};
 use chain_arena::{ChainArena, ChainArenaTrait, LinkInsertKind, LinkNoGen};
 use std::alloc::Global;
 use std::process::Abort;
@@ -157,6 +154,7 @@ fn check_least_index<P: Ptr, S: SlotStack<Item = ArenaSlot<P, LinkNoGen<P, u32>>
     rt: &impl Abort,
     alloc: Global,
     want: &str,
+    counter: P::Gen,
 ) {
     let mut source: ChainArena<P, u32, S> = ChainArena::new(alloc);
     let a = put(rt, &mut source, LinkInsertKind::Disconnected, 1);
@@ -168,6 +166,7 @@ fn check_least_index<P: Ptr, S: SlotStack<Item = ArenaSlot<P, LinkNoGen<P, u32>>
         ((3, 7), 32, NONE, NONE),
     ];
     carried(rt, alloc, &mut source, 7, want, &rows);
+    same(rt, "counter", source.generation(), counter);
 }
 
 #[test]
@@ -176,14 +175,19 @@ fn a_transfer_of_wide_indexes(rt: HostRuntime) {
         (Pair { inx: Inx64 { number: 3 }, generation: Gen32 { number: 2 } }, 3, false, P0[1](7)), \
         (Pair { inx: Inx64 { number: 1 }, generation: Gen32 { number: 2 } }, 1, false, P0[2](7)), \
         (Pair { inx: Inx64 { number: 2 }, generation: Gen32 { number: 2 } }, 2, false, P0[3](7))])";
-    check_least_index::<WidePtr, LimitedStack<WideSlot>>(&rt, rt.alloc(), want);
+    let five = generation(&rt, 5);
+    check_least_index::<WidePtr, LimitedStack<WideSlot>>(&rt, rt.alloc(), want, five);
 }
 
+// A ring of two without generations.
 #[test]
 fn a_transfer_without_generations(rt: HostRuntime) {
+    let mut source: ChainArena<BarePtr, u32> = ChainArena::new(rt.alloc());
+    let a = put(&rt, &mut source, LinkInsertKind::SingleLinkCyclic, 1);
+    put(&rt, &mut source, LinkInsertKind::NextTo(a), 2);
     let want = "(Ok(()), [\
-        (Pair { inx: Inx8 { number: 3 }, generation: () }, 3, false, P0[1](7)), \
-        (Pair { inx: Inx8 { number: 1 }, generation: () }, 1, false, P0[2](7)), \
-        (Pair { inx: Inx8 { number: 2 }, generation: () }, 2, false, P0[3](7))])";
-    check_least_index::<BarePtr, HeapStack<BareSlot>>(&rt, rt.alloc(), want);
+        (Pair { inx: Inx8 { number: 1 }, generation: () }, 1, false, P0[1](3)), \
+        (Pair { inx: Inx8 { number: 2 }, generation: () }, 2, false, P0[2](3))])";
+    let ring = [((1, 3), 11, (2, 3), (2, 3)), ((2, 3), 22, (1, 3), (1, 3))];
+    carried(&rt, rt.alloc(), &mut source, 3, want, &ring);
 }
