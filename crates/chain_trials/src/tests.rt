@@ -14,21 +14,20 @@ mod rows;
 mod scripts;
 mod transfers;
 
-use arena_base::{Advancer, ArenaSlot};
-use arena_ptr::{Gen32, Inx32, LimitedStack, Ptr, ToolPtr};
+use arena_base::{Advancer, ArenaSlot, ArenaTrait};
+use arena_ptr::{Gen32, Inx32, LimitedStack, Ptr, SlotStack, ToolPtr};
 use chain_arena::{ChainArena, ChainArenaTrait, LinkInsertKind, LinkNoGen};
 use std::alloc::Global;
 use std::fmt::Debug;
 use std::process::Abort;
 
+// A slot of a link of a number.
+type Slot = ArenaSlot<ToolPtr, LinkNoGen<ToolPtr, u32>>;
+
 // Links over std's memory without a limit and with one.
 type Chains = ChainArena<ToolPtr, u32>;
 
-type LimitedChains = ChainArena<
-    ToolPtr,
-    u32,
-    LimitedStack<ArenaSlot<ToolPtr, LinkNoGen<ToolPtr, u32>>>,
->;
+type LimitedChains = ChainArena<ToolPtr, u32, LimitedStack<Slot>>;
 
 // A pointer as two numbers, its index and its generation; (0, 0) stands for none.
 type At = (u32, u32);
@@ -142,17 +141,51 @@ fn shows<A: ChainArenaTrait<ToolPtr, u32>>(
     assert!(rt; rows.as_slice() == want, "{what}");
 }
 
-// The same at chain arenas without a limit: a place that hands a generic body an arena is dear to prove, and here there is
-// one for each.
-fn chains(rt: &impl Abort, alloc: Global, count: u32, pairs: &[At]) -> Chains {
-    tied_links(rt, alloc, count, pairs)
+// The same at chain arenas, by their own calls: a place that hands one to a body that is generic in the arena is dear to
+// prove.
+fn chains<S: SlotStack<Item = Slot>>(
+    rt: &impl Abort,
+    alloc: Global,
+    count: u32,
+    pairs: &[At],
+) -> ChainArena<ToolPtr, u32, S> {
+    let mut arena: ChainArena<ToolPtr, u32, S> = ChainArena::new(alloc);
+    for k in 1..=count {
+        let added = arena.insert_reallocating(LinkInsertKind::Disconnected, k);
+        assert!(rt; added.is_ok());
+    }
+    for (i, j) in pairs {
+        let tied = arena.connect(at(rt, (*i, 2)), at(rt, (*j, 2)));
+        assert!(rt; tied.is_some());
+    }
+    arena
 }
 
-fn chain_rows(rt: &impl Abort, alloc: Global, arena: &Chains) -> Vec<Row> {
-    rows_of(rt, alloc, arena)
+fn chain_rows<S: SlotStack<Item = Slot>>(
+    rt: &impl Abort,
+    alloc: Global,
+    arena: &ChainArena<ToolPtr, u32, S>,
+) -> Vec<Row> {
+    let mut rows = Vec::new(alloc);
+    for (p, bare) in arena {
+        let link = arena.get_link(p).expect(rt, "a valid pointer");
+        let (prev, next) = (numbers(link.prev()), numbers(link.next()));
+        assert!(rt;
+            (number(bare.prev()), number(bare.next()), bare.t) == (prev.0, next.0, *link.t)
+        );
+        rows.push((numbers(Some(p)), bare.t, prev, next))
+            .expect(rt, "memory");
+    }
+    rows
 }
 
-fn chains_show(rt: &impl Abort, alloc: Global, what: &str, arena: &Chains, want: &[Row]) {
+fn chains_show<S: SlotStack<Item = Slot>>(
+    rt: &impl Abort,
+    alloc: Global,
+    what: &str,
+    arena: &ChainArena<ToolPtr, u32, S>,
+    want: &[Row],
+) {
     let rows = chain_rows(rt, alloc, arena);
     assert!(rt; rows.as_slice() == want, "{what}");
 }

@@ -3,7 +3,9 @@
 use super::advancing::{check_changes, met};
 use super::rows::{CONNECTIONS, CUTS, KINDS, LAYOUTS, LOOKS, REMOVALS};
 use super::scripts::{Line, Script, played, plays};
+use super::transfers::check_transfers;
 use super::{At, Chains, NONE, same, tied_links};
+use arena_base::CompactArenaTrait;
 use arena_ptr::ToolPtr;
 use chain_arena::ChainArenaTrait;
 use chain_wrapped::Wrapped;
@@ -33,14 +35,16 @@ fn check_scripts<A: ChainArenaTrait<ToolPtr, u32> + Drop>(rt: &impl Abort, alloc
     }
 }
 
-// Room at birth, an arena that changes under an advancer, and what an advancer answers after its first `None`.
-fn check_all<A: ChainArenaTrait<ToolPtr, u32> + Drop>(
+// Room at birth, an arena that changes under an advancer, what is carried over to another arena, and what an advancer answers
+// after its first `None`.
+fn check_all<A: ChainArenaTrait<ToolPtr, u32> + CompactArenaTrait<ToolPtr, u32> + Drop>(
     rt: &impl Abort,
     alloc: Global,
     after_none: At,
 ) {
     check_scripts::<A>(rt, alloc);
     check_changes::<A>(rt, alloc);
+    check_transfers::<A>(rt, alloc);
     let born = A::with_min_capacity(alloc, 3).expect(rt, "memory");
     let room = (born.is_empty(), born.capacity() >= 3);
     same(rt, "room at birth", room, (true, true));

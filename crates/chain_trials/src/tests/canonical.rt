@@ -140,7 +140,7 @@ fn layouts_and_moves(rt: HostRuntime) {
 // Compresses so many lone links behind as many holes, and tells whether the work stays within its bound, and places each
 // link once.
 fn within_bound(rt: &impl Abort, alloc: Global, count: u32, reset: bool) -> bool {
-    let mut arena = chains(rt, alloc, count.saturating_mul(2), &[]);
+    let mut arena: Chains = chains(rt, alloc, count.saturating_mul(2), &[]);
     for k in 1..=count {
         arena.remove(at(rt, (k, 2)));
     }

@@ -6,8 +6,8 @@ ghost use Rattle.arena_base.specs.Arena.{next_index, with_capacity_of};
 ghost use Rattle.chain_links.specs.ChainArena.{entry, shown, insert_as};
 ghost use Rattle.chain_links.specs.Kinds.{names_in, by_index, MayInsert};
 
-use super::own::runs_limited;
-use super::scripts::{Do, Kind as KindRow, Line};
+use super::own::runs_over;
+use super::scripts::{Do, Kind as KindRow};
 use super::{Chains, LimitedChains, at, same};
 use arena_base::ArenaTrait;
 use arena_ptr::{
@@ -101,33 +101,33 @@ fn place_refusals(arena: &mut LimitedChains, kind: Kind) -> [Option<ChainInserti
 }
 
 // Two links fill an arena with a maximum of two.
-const FULL: [Line; 7] = [
-    Line::Says(Do::Insert(KindRow::Disconnected, 1), "Ok(P0[1](2))"),
-    Line::Says(Do::Insert(KindRow::Disconnected, 2), "Ok(P0[2](2))"),
-    Line::Says(
+const FULL: [(Do, &str); 7] = [
+    (Do::Insert(KindRow::Disconnected, 1), "Ok(P0[1](2))"),
+    (Do::Insert(KindRow::Disconnected, 2), "Ok(P0[2](2))"),
+    (
         Do::Insert(KindRow::Disconnected, 3),
         "Err(BeyondMaxCapacity)",
     ),
-    Line::Says(
+    (
         Do::InsertWithin(KindRow::Disconnected, 3),
         "Err(NotWithinCapacity)",
     ),
-    Line::Says(
+    (
         Do::Insert(KindRow::ChainEnd((9, 9)), 3),
         "Err(FailedLinkRequirement)",
     ),
-    Line::Says(
+    (
         Do::InsertWithin(KindRow::ChainEnd((9, 9)), 3),
         "Err(FailedLinkRequirement)",
     ),
-    Line::Says(Do::Reserve(3), "Err(BeyondMaxCapacity)"),
+    (Do::Reserve(3), "Err(BeyondMaxCapacity)"),
 ];
 
 // .. and do still.
-const FULL_STILL: [Line; 3] = [
-    Line::Says(Do::Len, "2"),
-    Line::Says(Do::HasRoom(3), "false"),
-    Line::Says(Do::Maximum, "Some(2)"),
+const FULL_STILL: [(Do, &str); 3] = [
+    (Do::Len, "2"),
+    (Do::HasRoom(3), "false"),
+    (Do::Maximum, "Some(2)"),
 ];
 
 // What a kind asks is tested before the room, and nothing changes.
@@ -135,7 +135,7 @@ const FULL_STILL: [Line; 3] = [
 fn refusals_in_their_order(rt: HostRuntime) {
     let mut arena = LimitedChains::new(rt.alloc());
     same(&rt, "a maximum", arena.set_max_capacity(2), Ok(()));
-    runs_limited(&rt, rt.alloc(), "a maximum of two", &mut arena, &FULL);
+    runs_over(&rt, rt.alloc(), "a maximum of two", &mut arena, &FULL);
     let beyond = Some(ChainInsertionError::BeyondMaxCapacity);
     let full = Some(ChainInsertionError::NotWithinCapacity);
     let refused = place_refusals(&mut arena, LinkInsertKind::Disconnected);
@@ -150,5 +150,5 @@ fn refusals_in_their_order(rt: HostRuntime) {
     );
     let less = arena.set_max_capacity(1);
     same(&rt, "less", less, Err(MaxCapacityReductionError));
-    runs_limited(&rt, rt.alloc(), "full still", &mut arena, &FULL_STILL);
+    runs_over(&rt, rt.alloc(), "full still", &mut arena, &FULL_STILL);
 }

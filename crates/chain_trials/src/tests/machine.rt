@@ -2,10 +2,10 @@
 
 use super::rows::{ONE_CYCLE, TWO_CYCLES};
 use super::scripts::{Do, Kind, Line, kind};
-use super::{Chains, LimitedChains, NONE, at, generation, index, same, shows, text};
-use arena_base::{ArenaSlot, ArenaTrait};
+use super::{Chains, LimitedChains, NONE, Slot, at, chains_show, generation, index, same, text};
+use arena_base::ArenaTrait;
 use arena_ptr::{SetMaxCapacity, SlotStack, ToolPtr};
-use chain_arena::{Call, ChainArena, LinkNoGen, Reply, run_calls};
+use chain_arena::{Call, ChainArena, Reply, run_calls};
 use std::alloc::Global;
 use std::process::Abort;
 
@@ -73,7 +73,7 @@ fn told(rt: &impl Abort, alloc: Global, reply: Reply<ToolPtr, u32>) -> String {
 }
 
 // Makes the calls of lines as one list, and looks whether these are their replies, and that the links then.
-fn replies<S: SlotStack<Item = ArenaSlot<ToolPtr, LinkNoGen<ToolPtr, u32>>>>(
+fn replies<S: SlotStack<Item = Slot>>(
     rt: &impl Abort,
     alloc: Global,
     arena: &mut ChainArena<ToolPtr, u32, S>,
@@ -89,7 +89,7 @@ fn replies<S: SlotStack<Item = ArenaSlot<ToolPtr, LinkNoGen<ToolPtr, u32>>>>(
                 let reply = replies.next().expect(rt, "a reply");
                 same(rt, what, told(rt, alloc, reply).as_str(), want);
             }
-            Line::Shows(want) => shows(rt, alloc, what, arena, want),
+            Line::Shows(want) => chains_show(rt, alloc, what, arena, want),
         }
     }
     same(rt, what, replies.next().is_none(), true);

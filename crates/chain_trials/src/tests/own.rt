@@ -8,10 +8,11 @@ use super::drains::{
 use super::entries::{forget, give_up, insert_asked, insert_by_any_entry, insert_by_entry};
 use super::indexing::{value_at, value_at_index, write_at, write_at_index};
 use super::iterators::{counts, links, links_by_reference, links_used_up, values, walk};
-use super::scripts::{Do, Line, Script, answer, kind, plays};
-use super::{Chains, LimitedChains, at, chains, chains_show, generation, index, same, text};
+use super::scripts::{Do, Line, Script, answer, kind};
+use super::{Chains, Slot, at, chains, chains_show, generation, index, same, text};
 use arena_base::{Advancer, PtrAdvancer};
 use arena_ptr::{SlotStack, ToolPtr};
+use chain_arena::ChainArena;
 use std::alloc::Global;
 use std::process::Abort;
 
@@ -68,8 +69,18 @@ fn drain_answer(rt: &impl Abort, alloc: Global, arena: &mut Chains, call: Do) ->
         Do::InsertByEntry(k, t) => text(rt, alloc, insert_by_entry(arena, kind(rt, k), t)),
         Do::InsertByAnyEntry(k, t) => text(rt, alloc, insert_by_any_entry(arena, kind(rt, k), t)),
         Do::InsertAsked(k, t) => text(rt, alloc, insert_asked(arena, kind(rt, k), t)),
-        other => answer(rt, alloc, arena, other),
+        other => trait_answer(rt, alloc, arena, other),
     }
+}
+
+// .. to a call of the traits, in the one place that hands such a body an arena.
+fn trait_answer<S: SlotStack<Item = Slot>>(
+    rt: &impl Abort,
+    alloc: Global,
+    arena: &mut ChainArena<ToolPtr, u32, S>,
+    call: Do,
+) -> String {
+    answer(rt, alloc, arena, call)
 }
 
 // Each line says its text, or shows its links.
@@ -88,7 +99,7 @@ pub(super) fn runs(rt: &impl Abort, alloc: Global, what: &str, arena: &mut Chain
 // The arena of a script after its lines.
 pub(super) fn run(rt: &impl Abort, alloc: Global, script: Script) -> Chains {
     let (what, count, pairs, lines) = script;
-    let mut arena = chains(rt, alloc, count, pairs);
+    let mut arena: Chains = chains(rt, alloc, count, pairs);
     runs(rt, alloc, what, &mut arena, lines);
     arena
 }
@@ -100,13 +111,16 @@ pub(super) fn run_all(rt: &impl Abort, alloc: Global, table: &[Script]) {
     }
 }
 
-// Each line of one with a limit.
-pub(super) fn runs_limited(
+// Each line, of calls of the traits, of one with any stack.
+pub(super) fn runs_over<S: SlotStack<Item = Slot>>(
     rt: &impl Abort,
     alloc: Global,
     what: &str,
-    arena: &mut LimitedChains,
-    lines: &[Line],
+    arena: &mut ChainArena<ToolPtr, u32, S>,
+    lines: &[(Do, &str)],
 ) {
-    plays(rt, alloc, what, arena, lines);
+    for (call, want) in lines {
+        let got = trait_answer(rt, alloc, arena, *call);
+        same(rt, what, got.as_str(), *want);
+    }
 }

@@ -6,7 +6,6 @@ use super::{Chains, NONE, Row, chains, chains_show, generation, reads, same};
 use arena_base::{ArenaTrait, CompactArenaTrait};
 use arena_ptr::{Gen32, ReallocationError, ToolPtr};
 use chain_arena::ChainArenaTrait;
-use chain_wrapped::Wrapped;
 use std::alloc::Global;
 use std::process::Abort;
 
@@ -36,21 +35,19 @@ fn carry<A: ChainArenaTrait<ToolPtr, u32> + CompactArenaTrait<ToolPtr, u32>>(
 // The links before, the generation of now, what is told, the links then, and the counter of the source.
 type Transfer = (Script, u32, &'static str, &'static [Row], u32);
 
-// A chain of 3 and 1, and a lone link between them.
-const LEAST_INDEX: Transfer = (
-    BY_LEAST_INDEX,
-    7,
-    "(Ok(()), [(P0[3](2), 3, false, P0[1](7)), (P0[1](2), 1, false, P0[2](7)), (P0[2](2), 2, false, P0[3](7))])",
-    &[
-        ((1, 7), 13, NONE, (2, 7)),
-        ((2, 7), 21, (1, 7), NONE),
-        ((3, 7), 32, NONE, NONE),
-    ],
-    5,
-);
-
+// A chain of 3 and 1, and a lone link between them; and others.
 const TRANSFERS: [Transfer; 4] = [
-    LEAST_INDEX,
+    (
+        BY_LEAST_INDEX,
+        7,
+        "(Ok(()), [(P0[3](2), 3, false, P0[1](7)), (P0[1](2), 1, false, P0[2](7)), (P0[2](2), 2, false, P0[3](7))])",
+        &[
+            ((1, 7), 13, NONE, (2, 7)),
+            ((2, 7), 21, (1, 7), NONE),
+            ((3, 7), 32, NONE, NONE),
+        ],
+        5,
+    ),
     (
         SCATTERED,
         4,
@@ -88,7 +85,7 @@ fn check_transfer<A: ChainArenaTrait<ToolPtr, u32> + CompactArenaTrait<ToolPtr, 
 ) {
     let (script, now, want, rows, counter) = transfer;
     let mut source: A = played(rt, alloc, script);
-    let mut target = chains(rt, alloc, 2, &[]);
+    let mut target: Chains = chains(rt, alloc, 2, &[]);
     let told = carry(rt, alloc, &mut source, generation(rt, now), &mut target);
     reads(rt, alloc, script.0, told, want);
     chains_show(rt, alloc, script.0, &target, rows);
@@ -97,10 +94,11 @@ fn check_transfer<A: ChainArenaTrait<ToolPtr, u32> + CompactArenaTrait<ToolPtr, 
     same(rt, "the source", left, (0, Some(generation(rt, counter))));
 }
 
-#[test]
-fn transfers_out_of_any_arena(rt: HostRuntime) {
+// Each transfer, out of any arena.
+pub(super) fn check_transfers<
+    A: ChainArenaTrait<ToolPtr, u32> + CompactArenaTrait<ToolPtr, u32> + Drop,
+>(rt: &impl Abort, alloc: Global) {
     for transfer in TRANSFERS {
-        check_transfer::<Chains>(&rt, rt.alloc(), transfer);
+        check_transfer::<A>(rt, alloc, transfer);
     }
-    check_transfer::<Wrapped<Chains>>(&rt, rt.alloc(), LEAST_INDEX);
 }
