@@ -4,17 +4,13 @@ ghost use Rattle.std.specs.Option.{option_map};
 ghost use Rattle.arena_ptr.specs.Invalidation.{value_within, invalidation_result};
 ghost use Rattle.arena_base.specs.Arena.{entry_at};
 ghost use Rattle.chain_laws.specs.Operations.{linked};
-ghost use Rattle.chain_links.specs.ChainArena.{shown, relinked, remove_link, entry};
+ghost use Rattle.chain_links.specs.ChainArena.{shown, relinked, remove_link};
 ghost use Rattle.chain_links.specs.Links.{seen_links, seen_pair};
-ghost use Rattle.chain_links.specs.Kinds.{named_in};
-ghost use Rattle.chain_interlinks.specs.Gaps.{IsGapOf};
 
 use arena_base::{Arena, ArenaSlot};
 use arena_ptr::{InvalidationResult, Ptr, PtrInx, SlotStack};
-use chain_interlinks::gaps::Gap;
-use chain_interlinks::{gaps, interlinks};
+use chain_interlinks::interlinks;
 use chain_links::LinkNoGen;
-use chain_links::kinds::{Name, NamedKind};
 
 /// `chain_interlinks::interlinks::link_up`.
 pub fn link_up<P: Ptr, T: Drop, S: SlotStack<Item = ArenaSlot<P, LinkNoGen<P, T>>>>(
@@ -39,14 +35,4 @@ pub fn take_out<P: Ptr, T: Drop, S: SlotStack<Item = ArenaSlot<P, LinkNoGen<P, T
     ensures invalid { value_within result ≡ None → arena.new ≡ arena.old }
 {
     interlinks::take_out(arena, i)
-}
-
-/// `chain_interlinks::gaps::gap_of`.
-pub fn gap_of<P: Ptr, T: Drop, S: SlotStack<Item = ArenaSlot<P, LinkNoGen<P, T>>>>(
-    arena: &Arena<P, LinkNoGen<P, T>, S>,
-    kind: NamedKind<Name<P, P::Inx>>,
-) -> Option<Gap<P::Inx>>
-    ensures { IsGapOf P.Inx.number (entry (seen_links P.Inx.packed_number arena.now)) (shown (seen_links P.Inx.packed_number arena.now)) (named_in P.key P.Inx.number kind) result }
-{
-    gaps::gap_of(arena, kind)
 }
