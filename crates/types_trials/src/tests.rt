@@ -4,9 +4,9 @@ mod limits;
 mod link_order;
 mod pointers;
 mod recasting;
+mod scripts;
 mod sizes;
 mod texts;
-mod tiny_ptr;
 mod transfers;
 
 use arena_base::{ArenaSlot, ArenaTrait};
@@ -38,9 +38,14 @@ fn same<T: PartialEq + Debug + Drop>(rt: &impl Abort, what: &str, got: T, want: 
     assert_eq!(rt; got, want, "{what}");
 }
 
+// An answer as `Debug` writes it.
+fn text<T: Debug + Drop>(rt: &impl Abort, alloc: Global, answer: T) -> String {
+    format!(in alloc; "{answer:?}").expect(rt, "memory")
+}
+
 // Looks whether `Debug` writes this of an answer.
 fn reads<T: Debug + Drop>(rt: &impl Abort, alloc: Global, what: &str, answer: T, want: &str) {
-    let got = format!(in alloc; "{answer:?}").expect(rt, "memory");
+    let got = text(rt, alloc, answer);
     same(rt, what, got.as_str(), want);
 }
 

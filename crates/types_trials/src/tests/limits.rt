@@ -1,151 +1,158 @@
 //! The greatest index, the greatest generation, a maximum, and pointers without generations.
 
-use super::pointers::{BarePtr, SmallPtr};
-use super::{put, reads, same};
+use super::pointers::{BarePtr, SmallPtr, TinyPtr};
+use super::same;
+use super::scripts::{Do, plays};
 use arena_base::{ArenaSlot, ArenaTrait};
-use arena_ptr::{
-    ChainInsertionError, Gen8, InvalidationOption, InvalidationResult, Inx8, LimitStack,
-    LimitedStack, Ptr, ReallocationError, SetMaxCapacity,
-};
+use arena_ptr::{Gen8, LimitStack, LimitedStack, SetMaxCapacity};
 use chain_arena::{ChainArena, ChainArenaTrait, LinkInsertKind, LinkNoGen};
 use std::alloc::Global;
 use std::process::Abort;
 use std::rc::Rc;
 
-type Bare = ChainArena<BarePtr, u32>;
+// A row: a call and the text of its answer.
+type Said = (Do, &'static str);
 
-// A slot for a link with one of several equal values, each of which tells how many of them there are.
-type Shared = ArenaSlot<BarePtr, LinkNoGen<BarePtr, Rc<u8>>>;
+// 255 links fill an index of 8 bits.
+const FULL: [Said; 5] = [
+    (Do::PutMany(255), "255"),
+    (Do::Room, "(255, 255)"),
+    (Do::Put(256), "Err(AllocError)"),
+    (Do::Reserve(256), "Err(AllocError)"),
+    (Do::Room, "(255, 255)"),
+];
 
-// An arena of so many links, the values from 1 on.
-fn filled(rt: &impl Abort, alloc: Global, count: u32) -> Bare {
-    let mut arena = Bare::new(alloc);
-    for k in 1..=count {
-        put(rt, &mut arena, LinkInsertKind::Disconnected, k);
-    }
-    arena
-}
+// Room up to the greatest index is to be had, though in proportion it would be more.
+const ROOM: [Said; 2] = [(Do::Reserve(255), "Ok(())"), (Do::Room, "(0, 255)")];
 
-// The length and the capacity.
-fn room(arena: &Bare) -> (usize, usize) {
-    (arena.len(), arena.capacity())
-}
+const MORE_ROOM: [Said; 3] = [
+    (Do::PutMany(1), "1"),
+    (Do::Reserve(255), "Ok(())"),
+    (Do::Room, "(1, 255)"),
+];
+
+// A ring of two loses a link, and the pointer to a new link at the freed index equals that of the lost one.
+const WITHOUT_GENERATIONS: [Said; 11] = [
+    (
+        Do::Put(1),
+        "Ok(Pair { inx: Inx8 { number: 1 }, generation: () })",
+    ),
+    (
+        Do::Put(2),
+        "Ok(Pair { inx: Inx8 { number: 2 }, generation: () })",
+    ),
+    (Do::Connect(0, 1), "Some(())"),
+    (Do::Connect(1, 0), "Some(())"),
+    (Do::All, "{Bare[1]: {2, 2} 1, Bare[2]: {1, 1} 2}"),
+    (Do::Remove(1), "Success(2)"),
+    (Do::Link(1), "None"),
+    (Do::All, "{Bare[1]: {1, 1} 1}"),
+    (
+        Do::Put(9),
+        "Ok(Pair { inx: Inx8 { number: 2 }, generation: () })",
+    ),
+    (Do::Link(1), "Some({(start), (end)} 9)"),
+    (Do::All, "{Bare[1]: {1, 1} 1, Bare[2]: {(start), (end)} 9}"),
+];
 
 #[test]
 fn an_index_type_of_255(rt: HostRuntime) {
-    let mut arena = filled(&rt, rt.alloc(), 255);
-    same(&rt, "full", room(&arena), (255, 255));
-    let refused = arena.insert_reallocating(LinkInsertKind::Disconnected, 256);
-    same(
-        &rt,
-        "refused",
-        refused,
-        Err(ChainInsertionError::AllocError),
-    );
-    let refused = arena.reallocate_min_capacity(256);
-    same(&rt, "no room", refused, Err(ReallocationError::AllocError));
-    same(&rt, "as before", room(&arena), (255, 255));
-}
-
-// Room up to the greatest index is to be had, though in proportion it would be more.
-#[test]
-fn room_up_to_the_greatest_index(rt: HostRuntime) {
+    for rows in [
+        &FULL[..],
+        &ROOM[..],
+        &MORE_ROOM[..],
+        &WITHOUT_GENERATIONS[..],
+    ] {
+        let arena: ChainArena<BarePtr, u32> = ChainArena::new(rt.alloc());
+        plays(&rt, rt.alloc(), arena, (), rows);
+    }
     for n in [200, 255] {
-        let born = Bare::with_min_capacity(rt.alloc(), n);
+        let born: Result<ChainArena<BarePtr, u32>, _> = ChainArena::with_min_capacity(
+            rt.alloc(),
+            n,
+        );
         same(&rt, "at birth", born.is_ok(), true);
     }
-    for (count, want) in [(0, (0, 255)), (1, (1, 255))] {
-        let mut arena = filled(&rt, rt.alloc(), count);
-        let grown = arena.reallocate_min_capacity(255);
-        same(&rt, "grown", grown, Ok(()));
-        same(&rt, "later", room(&arena), want);
-    }
 }
 
-// A ring of two loses a link, and the pointer to a new link at the freed index equals that of the lost one.
-#[test]
-fn links_without_generations(rt: HostRuntime) {
-    let mut arena = filled(&rt, rt.alloc(), 2);
-    let a = BarePtr::_from_raw(Inx8::new(1).expect(&rt, "an index"), ());
-    let b = BarePtr::_from_raw(Inx8::new(2).expect(&rt, "an index"), ());
-    let tied = (arena.connect(a, b), arena.connect(b, a));
-    same(&rt, "tied", tied, (Some(()), Some(())));
-    let ring = "{Bare[1]: {2, 2} 1, Bare[2]: {1, 1} 2}";
-    reads(&rt, rt.alloc(), "a ring", &arena, ring);
-    let gone = (arena.remove(b), arena.get_link(b).is_none());
-    same(&rt, "gone", gone, (InvalidationResult::Success(2), true));
-    reads(&rt, rt.alloc(), "alone", &arena, "{Bare[1]: {1, 1} 1}");
-    same(
-        &rt,
-        "again",
-        put(&rt, &mut arena, LinkInsertKind::Disconnected, 9),
-        b,
-    );
-    let link = arena.get_link(b);
-    reads(
-        &rt,
-        rt.alloc(),
-        "not tied",
-        link,
-        "Some({(start), (end)} 9)",
-    );
-}
+// The counter overflows by a removal, and once more by a clear; a clear of no links leaves it.
+const GENERATIONS: [Said; 12] = [
+    (
+        Do::Put(1),
+        "Ok(Pair { inx: Inx8 { number: 1 }, generation: Gen8 { number: 2 } })",
+    ),
+    (
+        Do::Put(2),
+        "Ok(Pair { inx: Inx8 { number: 2 }, generation: Gen8 { number: 2 } })",
+    ),
+    (Do::SetCounter, "()"),
+    (Do::Counter, "Gen8 { number: 255 }"),
+    (Do::Remove(0), "GenerationOverflow(1)"),
+    (Do::Counter, "Gen8 { number: 2 }"),
+    (Do::Increment, "Success(())"),
+    (Do::Counter, "Gen8 { number: 3 }"),
+    (Do::SetCounter, "()"),
+    (Do::Clear, "GenerationOverflow(())"),
+    (Do::Clear, "Success(())"),
+    (Do::Counter, "Gen8 { number: 2 }"),
+];
+
+// .. and by a compression, after which each link has the counter.
+const COMPRESSED: [Said; 6] = [
+    (Do::SetCounter, "()"),
+    (
+        Do::Put(1),
+        "Ok(Pair { inx: Inx8 { number: 1 }, generation: Gen8 { number: 255 } })",
+    ),
+    (
+        Do::Put(2),
+        "Ok(Pair { inx: Inx8 { number: 2 }, generation: Gen8 { number: 255 } })",
+    ),
+    (Do::Canonical(false), "GenerationOverflow(())"),
+    (Do::Counter, "Gen8 { number: 2 }"),
+    (
+        Do::All,
+        "{Bare[1](2): {(start), (end)} 1, Bare[2](2): {(start), (end)} 2}",
+    ),
+];
 
 #[test]
 fn a_generation_type_of_255(rt: HostRuntime) {
-    let mut arena: ChainArena<SmallPtr, u32> = ChainArena::new(rt.alloc());
-    let p = put(&rt, &mut arena, LinkInsertKind::Disconnected, 1);
-    put(&rt, &mut arena, LinkInsertKind::Disconnected, 2);
     let greatest = Gen8::new(255).expect(&rt, "a generation");
-    arena.set_generation(greatest);
-    same(&rt, "the greatest", arena.generation(), greatest);
-    let gone = arena.remove(p);
-    same(
-        &rt,
-        "overflow",
-        gone,
-        InvalidationResult::GenerationOverflow(1),
-    );
-    same(&rt, "again two", arena.generation().get(), 2);
-    counts_on(&rt, &mut arena, greatest);
+    for rows in [&GENERATIONS[..], &COMPRESSED[..]] {
+        let arena: ChainArena<SmallPtr, u32> = ChainArena::new(rt.alloc());
+        plays(&rt, rt.alloc(), arena, greatest, rows);
+    }
 }
 
-// From two on, and once more over the greatest generation, by a clear.
-fn counts_on(rt: &impl Abort, arena: &mut ChainArena<SmallPtr, u32>, greatest: Gen8) {
-    let fine = InvalidationOption::Success(());
-    same(rt, "counted", arena.inc_generation(), fine);
-    same(rt, "three", arena.generation().get(), 3);
-    arena.set_generation(greatest);
-    let cleared = (arena.clear(), arena.clear());
-    same(
-        rt,
-        "cleared",
-        cleared,
-        (InvalidationOption::GenerationOverflow(()), fine),
-    );
-    same(rt, "two", arena.generation().get(), 2);
-}
+// Two links stand, are tied to a ring, and a third one is refused for want of an index, by the call and as a value.
+const TWO_INDEXES: [Said; 10] = [
+    (Do::Room, "(0, 0)"),
+    (
+        Do::Put(1),
+        "Ok(Pair { inx: TinyInx { is_two: false }, generation: () })",
+    ),
+    (
+        Do::Put(2),
+        "Ok(Pair { inx: TinyInx { is_two: true }, generation: () })",
+    ),
+    (Do::Connect(0, 1), "Some(())"),
+    (Do::Connect(1, 0), "Some(())"),
+    (Do::Put(3), "Err(AllocError)"),
+    (Do::PutAsValue(3), "Some(Err(AllocError))"),
+    (Do::All, "{Bare[1]: {2, 2} 1, Bare[2]: {1, 1} 2}"),
+    (Do::Link(0), "Some({2, 2} 1)"),
+    (Do::Link(1), "Some({1, 1} 2)"),
+];
 
 #[test]
-fn a_compression_may_overflow(rt: HostRuntime) {
-    let mut arena: ChainArena<SmallPtr, u32> = ChainArena::new(rt.alloc());
-    let greatest = Gen8::new(255).expect(&rt, "a generation");
-    arena.set_generation(greatest);
-    for t in 1..=2 {
-        put(&rt, &mut arena, LinkInsertKind::Disconnected, t);
-    }
-    let told = arena.compress_canonical(false);
-    same(
-        &rt,
-        "told",
-        told,
-        InvalidationOption::GenerationOverflow(()),
-    );
-    same(&rt, "counter", arena.generation().get(), 2);
-    for (p, _) in &arena {
-        same(&rt, "generation", p.generation().get(), 2);
-    }
+fn an_index_type_of_two(rt: HostRuntime) {
+    let arena: ChainArena<TinyPtr, u32> = ChainArena::new(rt.alloc());
+    plays(&rt, rt.alloc(), arena, (), &TWO_INDEXES);
 }
+
+// A slot for a link with one of several equal values, each of which tells how many of them there are.
+type Shared = ArenaSlot<BarePtr, LinkNoGen<BarePtr, Rc<u8>>>;
 
 // Hands 300 values to an arena with a maximum, and tells how many it holds and how many there are.
 fn handed<S: LimitStack<Item = Shared>>(

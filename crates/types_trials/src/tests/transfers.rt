@@ -2,11 +2,11 @@
 
 use super::pointers::{BarePtr, SmallPtr, WidePtr};
 use super::{
-    Chains, LimitedChains, NONE, Row, generation, put, reads, rows_of, same, shows, tied_links,
+    Chains, LimitedChains, NONE, Row, generation, put, reads, same, shows, text, tied_links,
 };
 use arena_base::{ArenaSlot, ArenaTrait};
-use arena_ptr::{Gen8, LimitedStack, Ptr, ReallocationError, SetMaxCapacity, SlotStack, ToolPtr};
-use chain_arena::{ChainArena, ChainArenaTrait, LinkInsertKind, LinkNoGen};
+use arena_ptr::{Gen8, LimitedStack, Ptr, PtrGen, ReallocationError, SetMaxCapacity, SlotStack};
+use chain_arena::{ChainArena, LinkInsertKind, LinkNoGen};
 use std::alloc::Global;
 use std::process::Abort;
 
@@ -38,7 +38,7 @@ fn carry<
     (answer, seen)
 }
 
-// .. of an arena of other pointers to a new one, and tells what was seen and how many links are left.
+// .. of an arena of other pointers to a new one, and tells what was seen, that no link is left, and the counter that is.
 fn carried<P: Ptr, S: SlotStack<Item = ArenaSlot<P, LinkNoGen<P, u32>>>>(
     rt: &impl Abort,
     alloc: Global,
@@ -46,54 +46,81 @@ fn carried<P: Ptr, S: SlotStack<Item = ArenaSlot<P, LinkNoGen<P, u32>>>>(
     now: u32,
     want: &str,
     rows: &[Row],
+    counter: P::Gen,
 ) {
     let mut target = Chains::new(alloc);
     let told = carry(rt, alloc, source, generation(rt, now), &mut target);
     reads(rt, alloc, "told", told, want);
     shows(rt, alloc, "the target", &target, rows);
-    same(rt, "the source", source.len(), 0);
+    same(
+        rt,
+        "the source",
+        (source.len(), source.generation()),
+        (0, counter),
+    );
 }
 
-// An arena with a maximum of two, which two links fill.
-const FULL: [Row; 2] = [((1, 2), 1, NONE, (2, 2)), ((2, 2), 2, (1, 2), NONE)];
+// All that an arena shows: its links, its counter and its room.
+fn shown<P: Ptr, S: SlotStack<Item = ArenaSlot<P, LinkNoGen<P, u32>>>>(
+    rt: &impl Abort,
+    alloc: Global,
+    arena: &ChainArena<P, u32, S>,
+) -> String {
+    let room = (arena.capacity(), arena.max_capacity());
+    text(rt, alloc, (arena, arena.generation(), room))
+}
 
+// A transfer that is refused: the closure sees nothing, and both arenas show what they did.
+fn refused<
+    P: Ptr,
+    Q: Ptr,
+    R: SlotStack<Item = ArenaSlot<P, LinkNoGen<P, u32>>>,
+    S: SlotStack<Item = ArenaSlot<Q, LinkNoGen<Q, u32>>>,
+>(
+    rt: &impl Abort,
+    alloc: Global,
+    source: &mut ChainArena<P, u32, R>,
+    generation: Q::Gen,
+    target: &mut ChainArena<Q, u32, S>,
+    want: &str,
+) {
+    let there = shown(rt, alloc, source);
+    let here = shown(rt, alloc, target);
+    let told = carry(rt, alloc, source, generation, target);
+    reads(rt, alloc, "told", told, want);
+    same(
+        rt,
+        "the source",
+        shown(rt, alloc, source).as_str(),
+        there.as_str(),
+    );
+    same(
+        rt,
+        "the target",
+        shown(rt, alloc, target).as_str(),
+        here.as_str(),
+    );
+}
+
+// Two links fill an arena with a maximum of two.
 #[test]
 fn a_transfer_beyond_the_maximum(rt: HostRuntime) {
     let mut target: LimitedChains = tied_links(&rt, rt.alloc(), 2, &[(1, 2)]);
     same(&rt, "a maximum", target.set_max_capacity(2), Ok(()));
     let mut source: Chains = tied_links(&rt, rt.alloc(), 3, &[(3, 1)]);
-    let seven = generation(&rt, 7);
-    let told = carry(&rt, rt.alloc(), &mut source, seven, &mut target);
-    reads(
+    let want = "(Err(BeyondMaxCapacity), [])";
+    refused(
         &rt,
         rt.alloc(),
-        "told",
-        told,
-        "(Err(BeyondMaxCapacity), [])",
+        &mut source,
+        generation(&rt, 7),
+        &mut target,
+        want,
     );
-    shows(&rt, rt.alloc(), "the target", &target, &FULL);
-    let here = [
-        ((1, 2), 1, (3, 2), NONE),
-        ((2, 2), 2, NONE, NONE),
-        ((3, 2), 3, NONE, (1, 2)),
-    ];
-    shows(&rt, rt.alloc(), "the source", &source, &here);
-    same(&rt, "counter", target.generation(), source.generation());
 }
 
 // Links with indexes of 8 bits.
 type BareSlot = ArenaSlot<BarePtr, LinkNoGen<BarePtr, u32>>;
-
-// Whether these are so many lone links, each with its index as its value.
-fn are_lone(rt: &impl Abort, alloc: Global, arena: &Chains, count: u32) -> bool {
-    let mut k = 0u32;
-    let mut lone = true;
-    for row in rows_of(rt, alloc, arena) {
-        k = k.saturating_add(1);
-        lone = lone && row == ((k, 2), k, NONE, NONE);
-    }
-    lone && k == count
-}
 
 // The index type is tested before the maximum, and nothing grows.
 fn check_beyond_the_index_type<S: SlotStack<Item = BareSlot>>(
@@ -101,20 +128,9 @@ fn check_beyond_the_index_type<S: SlotStack<Item = BareSlot>>(
     alloc: Global,
     target: &mut ChainArena<BarePtr, u32, S>,
 ) {
-    let p = put(rt, target, LinkInsertKind::SingleLinkCyclic, 5);
-    let room = (target.capacity(), target.max_capacity());
+    put(rt, target, LinkInsertKind::SingleLinkCyclic, 5);
     let mut source: Chains = tied_links(rt, alloc, 256, &[]);
-    let told = carry(rt, alloc, &mut source, (), target);
-    reads(rt, alloc, "told", told, "(Err(AllocError), [])");
-    same(rt, "room", (target.capacity(), target.max_capacity()), room);
-    let link = (
-        target.len(),
-        target.get(p).copied(),
-        target.are_neighbors(p, p),
-    );
-    same(rt, "the target", link, (1, Some(5), true));
-    same(rt, "the source", are_lone(rt, alloc, &source, 256), true);
-    same(rt, "counter", source.generation().get(), 2);
+    refused(rt, alloc, &mut source, (), target, "(Err(AllocError), [])");
 }
 
 #[test]
@@ -126,24 +142,26 @@ fn a_transfer_beyond_the_index_type(rt: HostRuntime) {
     check_beyond_the_index_type(&rt, rt.alloc(), &mut target);
 }
 
+// Two lone links of a generation, at which the counter stands.
+fn two_of<P: Ptr>(rt: &impl Abort, alloc: Global, counter: P::Gen) -> ChainArena<P, u32> {
+    let mut arena: ChainArena<P, u32> = ChainArena::new(alloc);
+    arena.set_generation(counter);
+    for t in 1..=2 {
+        put(rt, &mut arena, LinkInsertKind::Disconnected, t);
+    }
+    arena
+}
+
+// The second removal overflows the counter.
 #[test]
 fn a_transfer_over_the_greatest_generation(rt: HostRuntime) {
-    let mut source: ChainArena<SmallPtr, u32> = ChainArena::new(rt.alloc());
-    source.set_generation(Gen8::new(254).expect(&rt, "a generation"));
-    for t in 1..=2 {
-        put(&rt, &mut source, LinkInsertKind::Disconnected, t);
-    }
-    let mut target = Chains::new(rt.alloc());
-    let two = generation(&rt, 2);
-    let (answer, seen) = carry(&rt, rt.alloc(), &mut source, two, &mut target);
-    same(&rt, "the answer", answer, Ok(()));
-    let mut told = Vec::new(rt.alloc());
-    for (_, t, overflow, q) in seen {
-        told.push((t, overflow, q)).expect(&rt, "memory");
-    }
-    let want = "[(1, false, P0[1](2)), (2, true, P0[2](2))]";
-    reads(&rt, rt.alloc(), "told", told, want);
-    same(&rt, "two", source.generation().get(), 2);
+    let last_but_one = Gen8::new(254).expect(&rt, "a generation");
+    let mut source = two_of::<SmallPtr>(&rt, rt.alloc(), last_but_one);
+    let want = "(Ok(()), [\
+        (Pair { inx: Inx8 { number: 1 }, generation: Gen8 { number: 254 } }, 1, false, P0[1](2)), \
+        (Pair { inx: Inx8 { number: 2 }, generation: Gen8 { number: 254 } }, 2, true, P0[2](2))])";
+    let lone = [((1, 2), 11, NONE, NONE), ((2, 2), 22, NONE, NONE)];
+    carried(&rt, rt.alloc(), &mut source, 2, want, &lone, Gen8::two());
 }
 
 // Wide indexes over a limited stack.
@@ -165,8 +183,7 @@ fn check_least_index<P: Ptr, S: SlotStack<Item = ArenaSlot<P, LinkNoGen<P, u32>>
         ((2, 7), 21, (1, 7), NONE),
         ((3, 7), 32, NONE, NONE),
     ];
-    carried(rt, alloc, &mut source, 7, want, &rows);
-    same(rt, "counter", source.generation(), counter);
+    carried(rt, alloc, &mut source, 7, want, &rows, counter);
 }
 
 #[test]
@@ -189,5 +206,5 @@ fn a_transfer_without_generations(rt: HostRuntime) {
         (Pair { inx: Inx8 { number: 1 }, generation: () }, 1, false, P0[1](3)), \
         (Pair { inx: Inx8 { number: 2 }, generation: () }, 2, false, P0[2](3))])";
     let ring = [((1, 3), 11, (2, 3), (2, 3)), ((2, 3), 22, (1, 3), (1, 3))];
-    carried(&rt, rt.alloc(), &mut source, 3, want, &ring);
+    carried(&rt, rt.alloc(), &mut source, 3, want, &ring, ());
 }
