@@ -1,12 +1,12 @@
 mod answers;
 mod calls;
-mod compactors;
 mod compressions;
 mod copies;
 mod entries;
 mod generic;
 mod limits;
 mod numbers;
+mod own;
 mod pointers;
 mod recasters;
 mod rows;

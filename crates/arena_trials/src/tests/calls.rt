@@ -1,18 +1,22 @@
 // Each call once over both stacks: those of the trait through the trait, and the arena's own.
+use crate::tests::compressions::{check_compactors, check_compressions};
+use crate::tests::copies::check_copy;
 use crate::tests::pointers::SmallPtr;
-use crate::tests::scripts::{Call, asks, runs};
+use crate::tests::rows::check_nexts;
+use crate::tests::scripts::{Answers, Call, asks, plays};
 use crate::tests::tools::{Slots, same};
 use arena_base::{Arena, ArenaTrait};
-use arena_ptr::{HeapStack, LimitedStack, SlotStack};
+use arena_ptr::LimitedStack;
 use std::alloc::Global;
 use std::process::Abort;
 
 // The births of the trait.
-fn check_births<A: ArenaTrait<SmallPtr, u32> + Drop>(rt: &impl Abort, alloc: Global) {
+pub(super) fn check_births<A: ArenaTrait<SmallPtr, u32> + Drop>(rt: &impl Abort, alloc: Global) {
     let mut arena = A::new(alloc);
     asks(
         rt,
         alloc,
+        "a new arena",
         &mut arena,
         &[
             (Call::IsEmpty, "true"),
@@ -25,21 +29,27 @@ fn check_births<A: ArenaTrait<SmallPtr, u32> + Drop>(rt: &impl Abort, alloc: Glo
     asks(
         rt,
         alloc,
+        "with room",
         &mut arena,
         &[(Call::IsEmpty, "true"), (Call::HasRoom(3), "true")],
     );
-    for (n, want) in [(200, true), (255, true), (256, false)] {
+    for (n, want) in [(2, true), (200, true), (255, true), (256, false)] {
         let born = A::with_min_capacity(alloc, n);
         same(rt, "up to the greatest index", born.is_ok(), want);
     }
 }
 
 // The calls of the trait, over the entries 10, 20 and 30 at 1, 2 and 3, which are removed.
-fn check_trait<A: ArenaTrait<SmallPtr, u32>>(rt: &impl Abort, alloc: Global, arena: &mut A) {
+pub(super) fn check_trait<A: ArenaTrait<SmallPtr, u32>>(
+    rt: &impl Abort,
+    alloc: Global,
+    arena: &mut A,
+) {
     let capacity = arena.capacity();
     asks(
         rt,
         alloc,
+        "the trait",
         arena,
         &[
             (Call::First, "Some(1.2)"),
@@ -79,45 +89,56 @@ fn check_trait<A: ArenaTrait<SmallPtr, u32>>(rt: &impl Abort, alloc: Global, are
         ],
     );
     same(rt, "the capacity", arena.capacity(), capacity);
-    asks(rt, alloc, arena, &[(Call::Reserve(capacity), "Ok(())")]);
+    let again = arena.reallocate_min_capacity(capacity);
+    same(rt, "room again", again, Ok(()));
     same(rt, "the capacity still", arena.capacity(), capacity);
 }
 
 // Each call on an arena, which at last is taken apart.
-fn check_each<S: SlotStack<Item = Slots>>(rt: &impl Abort, alloc: Global) {
-    let mut arena: Arena<SmallPtr, u32, S> = Arena::new(alloc);
-    runs(
+fn check_each<A: Answers + Drop>(rt: &impl Abort, alloc: Global) {
+    plays::<A>(
         rt,
         alloc,
-        &mut arena,
-        &[
-            (Call::Reserve(3), "Ok(())"),
-            (Call::Insert(10), "Ok(1.2)"),
-            (Call::InsertWithin(20), "Ok(2.2)"),
-            (Call::Enter(30), "Ok(3.2)"),
-            (Call::Get(2, 2), "Some(20)"),
-            (Call::Get(3, 2), "Some(30)"),
-            (Call::Slots, "3"),
-            (Call::Entries, "[(1.2, 10), (2.2, 20), (3.2, 30)]"),
-            (Call::Generation, "2"),
-            (Call::IncGeneration, "Success(())"),
-            (Call::Generation, "3"),
-            (Call::SetGeneration(2), "()"),
-            (Call::Generation, "2"),
-        ],
+        &[(
+            "each call",
+            &[
+                (Call::Reserve(3), "Ok(())"),
+                (Call::Insert(10), "Ok(1.2)"),
+                (Call::InsertWithin(20), "Ok(2.2)"),
+                (Call::Enter(30), "Ok(3.2)"),
+                (Call::Get(2, 2), "Some(20)"),
+                (Call::Get(3, 2), "Some(30)"),
+                (Call::Slots, "3"),
+                (Call::Entries, "[(1.2, 10), (2.2, 20), (3.2, 30)]"),
+                (Call::Generation, "2"),
+                (Call::IncGeneration, "Success(())"),
+                (Call::Generation, "3"),
+                (Call::SetGeneration(2), "()"),
+                (Call::Generation, "2"),
+                (Call::EachOfTheTrait, "()"),
+                (Call::Insert(5), "Ok(1.6)"),
+                (Call::Drain, "[(1.6, 5)]"),
+                (Call::Births, "()"),
+            ],
+        )],
     );
-    check_trait(rt, alloc, &mut arena);
-    runs(
-        rt,
-        alloc,
-        &mut arena,
-        &[(Call::Insert(5), "Ok(1.6)"), (Call::Drain, "[(1.6, 5)]")],
-    );
-    check_births::<Arena<SmallPtr, u32, S>>(rt, alloc);
+}
+
+// Each script on an arena of this type.
+fn check_scripts<A: Answers + Drop>(rt: &impl Abort, alloc: Global) {
+    check_each::<A>(rt, alloc);
+    check_nexts::<A>(rt, alloc);
+    check_compactors::<A>(rt, alloc);
+    check_compressions::<A>(rt, alloc);
+    check_copy::<A>(rt, alloc);
 }
 
 #[test]
-fn each_call_over_both_stacks(rt: HostRuntime) {
-    check_each::<HeapStack<Slots>>(&rt, rt.alloc());
-    check_each::<LimitedStack<Slots>>(&rt, rt.alloc());
+fn each_script_over_the_heap_stack(rt: HostRuntime) {
+    check_scripts::<Arena<SmallPtr, u32>>(&rt, rt.alloc());
+}
+
+#[test]
+fn each_script_over_a_limited_stack(rt: HostRuntime) {
+    check_scripts::<Arena<SmallPtr, u32, LimitedStack<Slots>>>(&rt, rt.alloc());
 }

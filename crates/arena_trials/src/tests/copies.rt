@@ -2,12 +2,12 @@
 ghost use Rattle.std.specs.Prelude.{◌≡◌, length, IfOk};
 ghost use Rattle.arena_base.specs.Entries.{entries};
 
+use crate::tests::own::{Own, insert_many};
 use crate::tests::pointers::SmallPtr;
-use crate::tests::tools::{Slots, at, same};
-use arena_base::{Arena, ArenaCloneFromWith, ArenaSlot, ArenaTrait};
-use arena_ptr::{
-    HeapStack, InvalidationResult, LimitedStack, Ptr, ReallocationError, SetMaxCapacity, SlotStack,
-};
+use crate::tests::scripts::{Answers, Call, plays};
+use crate::tests::tools::{at, same};
+use arena_base::{Arena, ArenaCloneFromWith, ArenaSlot};
+use arena_ptr::{InvalidationResult, Ptr, ReallocationError, SlotStack};
 use std::alloc::Global;
 use std::process::Abort;
 
@@ -28,69 +28,52 @@ fn count_copied<
 }
 
 // The entries 1, 2 and 3, of which the second is removed.
-fn with_a_hole(rt: &impl Abort, alloc: Global) -> Arena<SmallPtr, u32> {
-    let mut arena: Arena<SmallPtr, u32> = Arena::new(alloc);
-    for k in 1..4u32 {
-        same(rt, "room", arena.insert_reallocating(k).is_ok(), true);
-    }
+fn with_a_hole<A: Own<SmallPtr, u32>>(rt: &impl Abort, alloc: Global) -> A {
+    let mut arena = A::new(alloc);
+    same(rt, "room", insert_many(&mut arena, 1, 3), 3);
     let gone = arena.remove(at(rt, 2, 2));
     same(rt, "a hole", gone, InvalidationResult::Success(2));
     arena
 }
 
-// The copy has the indexes, generations and freed list, and what it held is gone.
-fn check_copy<S: SlotStack<Item = Slots>>(rt: &impl Abort, alloc: Global) {
-    let source = with_a_hole(rt, alloc);
-    let mut copy: Arena<SmallPtr, u32, S> = Arena::new(alloc);
-    for k in 0..9u32 {
-        same(rt, "held", copy.insert_reallocating(k).is_ok(), true);
-    }
+// Makes an arena a copy, with ten times each value and which call of the closure it was: how many entries there are, and
+// how many calls there were.
+fn copied<A: ArenaCloneFromWith<SmallPtr, u32>>(
+    arena: &mut A,
+    source: &Arena<SmallPtr, u32>,
+) -> (Result<usize, ReallocationError>, u32) {
     let mut calls = 0u32;
-    let answer = count_copied(&mut copy, &source, |_p: SmallPtr, t: &u32| {
+    let answer = count_copied(arena, source, |_p: SmallPtr, t: &u32| {
         calls = calls.saturating_add(1);
         t.saturating_mul(10).saturating_add(calls)
     });
-    same(rt, "the answer", answer, Ok(2));
-    same(rt, "the calls", calls, 2);
-    same(rt, "the first", copy.get(at(rt, 1, 2)).copied(), Some(11));
-    same(rt, "the third", copy.get(at(rt, 3, 2)).copied(), Some(32));
-    same(rt, "the hole", copy.get(at(rt, 2, 2)).copied(), None);
-    let next = copy.insert_reallocating(7).ok();
-    same(rt, "the next", next, Some(at(rt, 2, 3)));
+    (answer, calls)
 }
 
-#[test]
-fn a_copy_keeps_the_freed_list(rt: HostRuntime) {
-    check_copy::<HeapStack<Slots>>(&rt, rt.alloc());
-    check_copy::<LimitedStack<Slots>>(&rt, rt.alloc());
+pub(super) fn copied_hole<A: ArenaCloneFromWith<SmallPtr, u32>>(
+    rt: &impl Abort,
+    alloc: Global,
+    arena: &mut A,
+) -> (Result<usize, ReallocationError>, u32) {
+    let source: Arena<SmallPtr, u32> = with_a_hole(rt, alloc);
+    copied(arena, &source)
 }
 
-// The source has three slots, one of them free, and there may be two.
-#[test]
-fn a_copy_beyond_the_maximum(rt: HostRuntime) {
-    let source = with_a_hole(&rt, rt.alloc());
-    let mut target: Arena<SmallPtr, u32, LimitedStack<Slots>> = Arena::new(rt.alloc());
-    same(&rt, "a maximum", target.set_max_capacity(2), Ok(()));
-    let held = target.insert_reallocating(5).ok();
-    same(&rt, "an entry", held, Some(at(&rt, 1, 2)));
-    let mut calls = 0u32;
-    let answer = target.clone_from_with(&source, |_p: SmallPtr, t: &u32| {
-        calls = calls.saturating_add(1);
-        *t
-    });
-    same(
-        &rt,
-        "the answer",
-        answer,
-        Err(ReallocationError::BeyondMaxCapacity),
+// The copy has the indexes, generations and freed list, and what it held is gone.
+pub(super) fn check_copy<A: Answers + Drop>(rt: &impl Abort, alloc: Global) {
+    plays::<A>(
+        rt,
+        alloc,
+        &[(
+            "a copy keeps the freed list",
+            &[
+                (Call::InsertMany(9), "9"),
+                (Call::CopyHole, "(Ok(2), 2)"),
+                (Call::Get(1, 2), "Some(11)"),
+                (Call::Get(3, 2), "Some(32)"),
+                (Call::Get(2, 2), "None"),
+                (Call::Insert(7), "Ok(2.3)"),
+            ],
+        )],
     );
-    same(&rt, "the calls", calls, 0);
-    same(
-        &rt,
-        "the entry",
-        target.get(at(&rt, 1, 2)).copied(),
-        Some(5),
-    );
-    let next = target.insert_reallocating(6).ok();
-    same(&rt, "the next", next, Some(at(&rt, 2, 2)));
 }

@@ -2,6 +2,7 @@
 ghost use Rattle.std.specs.Prelude.{◌≡◌, OnOk, IfOk, [], map};
 ghost use Rattle.arena_trials.specs.Taking.{keyed};
 
+use crate::tests::own::{Own, insert_many};
 use crate::tests::pointers::BarePtr;
 use crate::tests::tools::same;
 use arena_base::{Advancer, Arena, ArenaTrait};
@@ -29,27 +30,26 @@ pub(super) fn take_all<P: Ptr, T: Drop, A: ArenaTrait<P, T>>(
 }
 
 // Adds an entry at the only index, and removes it.
-fn reuse<P: Ptr>(rt: &impl Abort, arena: &mut Arena<P, u32>, value: u32) {
-    let p = arena.insert_reallocating(value).ok().expect(rt, "an entry");
+fn reuse<P: Ptr, A: Own<P, u32>>(rt: &impl Abort, arena: &mut A, value: u32) {
+    let p = arena.add(value).ok().expect(rt, "an entry");
     same(rt, "the pointer", p, P::invalid());
     let answer = arena.remove(p);
     same(rt, "the value", answer, InvalidationResult::Success(value));
 }
 
-fn check_taking<P: Ptr>(rt: &impl Abort, alloc: Global, mut arena: Arena<P, u32>) {
+// An index is used again under the same pointer, and five entries are taken out.
+fn check_reuse<P: Ptr, A: Own<P, u32> + Drop>(rt: &impl Abort, alloc: Global) {
+    let mut arena = A::new(alloc);
+    for k in 0..300u32 {
+        reuse(rt, &mut arena, k);
+    }
+    same(rt, "room", insert_many(&mut arena, 0, 5), 5);
     let taken = take_all(alloc, &mut arena).expect(rt, "memory");
     same(rt, "taken", (taken.len(), arena.is_empty()), (5, true));
 }
 
-// Pointers to indexes alone: an index is used again under the same pointer, and the entries are taken out.
+// Pointers to indexes alone.
 #[test]
 fn pointers_without_generations(rt: HostRuntime) {
-    let mut arena: Arena<BarePtr, u32> = Arena::new(rt.alloc());
-    for k in 0..300u32 {
-        reuse(&rt, &mut arena, k);
-    }
-    for k in 0..5u32 {
-        same(&rt, "room", arena.insert_reallocating(k).is_ok(), true);
-    }
-    check_taking(&rt, rt.alloc(), arena);
+    check_reuse::<BarePtr, Arena<BarePtr, u32>>(&rt, rt.alloc());
 }

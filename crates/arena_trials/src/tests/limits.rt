@@ -1,9 +1,9 @@
-// The greatest index, the greatest generation and a maximum.
+// Arenas with a maximum.
 use crate::tests::pointers::SmallPtr;
-use crate::tests::scripts::{Call, plays, runs};
+use crate::tests::scripts::{Answers, Call, runs};
 use crate::tests::tools::{Slots, same};
 use arena_base::{Arena, ArenaSlot, ArenaTrait};
-use arena_ptr::{HeapStack, LimitStack, LimitedStack, MaxCapacityReductionError, SetMaxCapacity};
+use arena_ptr::{LimitStack, LimitedStack, MaxCapacityReductionError, SetMaxCapacity};
 use std::alloc::Global;
 use std::process::Abort;
 use std::rc::Rc;
@@ -12,12 +12,14 @@ use std::rc::Rc;
 type Shared = ArenaSlot<SmallPtr, Rc<u8>>;
 
 // An arena that may have two slots.
-fn check_maximum<S: LimitStack<Item = Slots>>(rt: &impl Abort, alloc: Global) {
-    let mut arena: Arena<SmallPtr, u32, S> = Arena::new(alloc);
-    same(rt, "a maximum", arena.set_max_capacity(2), Ok(()));
+fn check_maximum<A: Answers + SetMaxCapacity + Drop>(rt: &impl Abort, alloc: Global) {
+    let mut arena = A::fresh(alloc);
+    let name = "a maximum of two";
+    same(rt, name, arena.set_max_capacity(2), Ok(()));
     runs(
         rt,
         alloc,
+        name,
         &mut arena,
         &[
             (Call::Insert(1), "Ok(1.2)"),
@@ -31,6 +33,7 @@ fn check_maximum<S: LimitStack<Item = Slots>>(rt: &impl Abort, alloc: Global) {
     runs(
         rt,
         alloc,
+        name,
         &mut arena,
         &[
             (Call::Len, "2"),
@@ -40,65 +43,33 @@ fn check_maximum<S: LimitStack<Item = Slots>>(rt: &impl Abort, alloc: Global) {
     );
 }
 
-#[test]
-fn an_index_type_of_255(rt: HostRuntime) {
-    plays::<HeapStack<Slots>>(
-        &rt,
-        rt.alloc(),
+// The source has three slots, one of them free, and there may be two.
+fn check_refused_copy<A: Answers + SetMaxCapacity + Drop>(rt: &impl Abort, alloc: Global) {
+    let mut target = A::fresh(alloc);
+    same(rt, "a maximum", target.set_max_capacity(2), Ok(()));
+    runs(
+        rt,
+        alloc,
+        "a copy beyond the maximum",
+        &mut target,
         &[
-            (Call::InsertMany(255), "255"),
-            (Call::Len, "255"),
-            (Call::Capacity, "255"),
-            (Call::Insert(255), "Err(AllocError)"),
-            (Call::InsertWithin(255), "Err(NotWithinCapacityError)"),
-            (Call::Enter(255), "Err(NotWithinCapacityError)"),
-            (Call::Reserve(256), "Err(AllocError)"),
-            (Call::Len, "255"),
+            (Call::Insert(5), "Ok(1.2)"),
+            (Call::CopyHole, "(Err(BeyondMaxCapacity), 0)"),
+            (Call::Get(1, 2), "Some(5)"),
+            (Call::Insert(6), "Ok(2.2)"),
         ],
     );
 }
 
-// Room up to the greatest index is to be had, though in proportion it would be more. A new arena follows each drain.
-#[test]
-fn room_up_to_the_greatest_index(rt: HostRuntime) {
-    plays::<HeapStack<Slots>>(
-        &rt,
-        rt.alloc(),
-        &[
-            (Call::Reserve(255), "Ok(())"),
-            (Call::Capacity, "255"),
-            (Call::Drain, "[]"),
-            (Call::Insert(10), "Ok(1.2)"),
-            (Call::Reserve(255), "Ok(())"),
-            (Call::Capacity, "255"),
-            (Call::Drain, "[(1.2, 10)]"),
-            (Call::Reserve(200), "Ok(())"),
-            (Call::Reserve(201), "Ok(())"),
-            (Call::HasRoom(201), "true"),
-        ],
-    );
-}
-
-#[test]
-fn a_generation_type_of_255(rt: HostRuntime) {
-    plays::<HeapStack<Slots>>(
-        &rt,
-        rt.alloc(),
-        &[
-            (Call::Insert(7), "Ok(1.2)"),
-            (Call::SetGeneration(255), "()"),
-            (Call::Remove(1, 2), "GenerationOverflow(7)"),
-            (Call::Generation, "2"),
-            (Call::Remove(1, 2), "InvalidPtr"),
-            (Call::Clear, "Success(())"),
-            (Call::Generation, "2"),
-        ],
-    );
+// An arena with a maximum is filled, and refuses to become a copy.
+fn check_limited<A: Answers + SetMaxCapacity + Drop>(rt: &impl Abort, alloc: Global) {
+    check_maximum::<A>(rt, alloc);
+    check_refused_copy::<A>(rt, alloc);
 }
 
 #[test]
 fn a_maximum_of_two(rt: HostRuntime) {
-    check_maximum::<LimitedStack<Slots>>(&rt, rt.alloc());
+    check_limited::<Arena<SmallPtr, u32, LimitedStack<Slots>>>(&rt, rt.alloc());
 }
 
 // One more of a value.

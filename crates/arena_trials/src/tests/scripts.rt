@@ -1,9 +1,13 @@
 // Calls of arenas as rows of tables, each with the text of its answer.
+use crate::tests::calls::{check_births, check_trait};
+use crate::tests::copies::copied_hole;
+use crate::tests::entries::{dropped_place, enter};
 use crate::tests::generic::take_all;
+use crate::tests::own::{Own, insert_many};
 use crate::tests::pointers::SmallPtr;
 use crate::tests::tools::{Slots, at, gen8, inx8, same, text};
-use arena_base::{Advancer, Arena, ArenaTrait, Compactor, SlotAccess, Work};
-use arena_ptr::{Gen8, InvalidationOption, Inx8, NotWithinCapacityError, Ptr, SlotStack};
+use arena_base::{Advancer, Arena, ArenaCloneFromWith, ArenaTrait, Compactor, SlotAccess, Work};
+use arena_ptr::{Gen8, InvalidationOption, Inx8, Ptr, SlotStack};
 use std::alloc::Global;
 use std::mem;
 use std::process::Abort;
@@ -36,15 +40,19 @@ pub(super) enum Call {
     Remove(u8, u8),
     RemoveInx(u8),
     Clear,
-    // A compression, and one by a closure that adds the number of its call to each value: its answer, and what it saw.
+    // A compression, and one by a closure that adds the number of its call to each value, or writes it over each value:
+    // its answer, and what it saw.
     Compress(bool),
     CompressWith(bool),
+    NumberValues(bool),
     Reserve(usize),
     // Calls of the arena itself.
     Insert(u32),
     InsertMany(u32),
     InsertWithin(u32),
     Enter(u32),
+    // A place for an entry that is dropped by a call, or where its scope ends: its pointer.
+    DropPlace(bool),
     Generation,
     SetGeneration(u8),
     IncGeneration,
@@ -58,6 +66,12 @@ pub(super) enum Call {
     Rewrite(u8, u8, u32),
     DropCompactor,
     ForgetCompactor,
+    // A copy of the entries 1, 2 and 3, of which the second is removed, by a closure that adds the number of its call to
+    // ten times each value: how many entries there are, and how many calls there were.
+    CopyHole,
+    // Calls of the trait in a row: the births, and those on an arena with the entries 10, 20 and 30 at 1, 2 and 3.
+    Births,
+    EachOfTheTrait,
 }
 
 // What an arena holds, as its indexes show it.
@@ -109,19 +123,21 @@ fn thrice<C, A: Advancer<C, Item = SmallPtr>>(
     ]
 }
 
-// Compresses an arena, adds to each value which call of the closure it was, and lists what the closure saw.
+// Compresses an arena, adds to each value which call of the closure it was, or writes that alone, and lists what the
+// closure saw.
 fn compressed<A: ArenaTrait<SmallPtr, u32>>(
     rt: &impl Abort,
     alloc: Global,
     arena: &mut A,
     reset: bool,
+    adds: bool,
 ) -> (InvalidationOption<()>, Vec<(SmallPtr, u32, SmallPtr)>) {
     let mut seen = Vec::new(alloc);
     let mut calls = 0u32;
     let answer = arena.compress_with(reset, |from: SmallPtr, t: &mut u32, to: SmallPtr| {
         seen.push((from, *t, to)).expect(rt, "memory");
         calls = calls.saturating_add(1);
-        *t = t.saturating_add(calls);
+        *t = if adds { t.saturating_add(calls) } else { calls };
     });
     (answer, seen)
 }
@@ -173,36 +189,29 @@ fn trait_answer<A: ArenaTrait<SmallPtr, u32>>(
         }
         Call::Clear => text(rt, alloc, arena.clear()),
         Call::Compress(reset) => text(rt, alloc, arena.compress(reset)),
-        Call::CompressWith(reset) => text(rt, alloc, compressed(rt, alloc, arena, reset)),
+        Call::CompressWith(reset) => text(rt, alloc, compressed(rt, alloc, arena, reset, true)),
+        Call::NumberValues(reset) => text(rt, alloc, compressed(rt, alloc, arena, reset, false)),
         Call::Reserve(n) => text(rt, alloc, arena.reallocate_min_capacity(n)),
         Call::TakeAll => text(rt, alloc, take_all(alloc, arena)),
         _ => text(rt, alloc, "no call of the trait"),
     }
 }
 
-// Adds as many entries, the values from 0 on, and counts those that were added.
-fn insert_many<S: SlotStack<Item = Slots>>(arena: &mut Arena<SmallPtr, u32, S>, n: u32) -> u32 {
-    let mut added = 0u32;
-    for k in 0..n {
-        if arena.insert_reallocating(k).is_ok() {
-            added = added.saturating_add(1);
-        }
-    }
-    added
-}
-
-// Adds an entry whose pointer is known before.
-fn enter<S: SlotStack<Item = Slots>>(
-    arena: &mut Arena<SmallPtr, u32, S>,
-    value: u32,
-) -> Result<SmallPtr, NotWithinCapacityError> {
-    match arena.entry_insert_within_capacity() {
-        Ok(entry) => {
-            let p = entry.ptr();
-            entry.insert(value);
-            Ok(p)
-        }
-        Err(error) => Err(error),
+// The answer to an insertion, to a copy, or to a call of the trait.
+fn own_answer<A: Own<SmallPtr, u32> + ArenaCloneFromWith<SmallPtr, u32> + Drop>(
+    rt: &impl Abort,
+    alloc: Global,
+    arena: &mut A,
+    call: Call,
+) -> String {
+    match call {
+        Call::Insert(value) => text(rt, alloc, arena.add(value)),
+        Call::InsertMany(n) => text(rt, alloc, insert_many(arena, 0, n)),
+        Call::InsertWithin(value) => text(rt, alloc, arena.add_within(value)),
+        Call::CopyHole => text(rt, alloc, copied_hole(rt, alloc, arena)),
+        Call::Births => text(rt, alloc, check_births::<A>(rt, alloc)),
+        Call::EachOfTheTrait => text(rt, alloc, check_trait(rt, alloc, arena)),
+        other => trait_answer(rt, alloc, arena, other),
     }
 }
 
@@ -263,18 +272,28 @@ fn moved<S: SlotStack<Item = Slots>>(
     (slots, done, compactor.finish())
 }
 
-// The value that a compactor shows.
-fn peeked<S: SlotStack<Item = Slots>>(
-    compactor: &mut Compactor<'_, SmallPtr, u32, S>,
-    i: Inx8,
-) -> Option<u32> {
+// The value that a compactor shows at an index.
+fn peeked<C: SlotAccess<SmallPtr, u32>>(compactor: &mut C, i: Inx8) -> Option<u32> {
     match compactor.peek(i) {
         Some((_, t)) => Some(*t),
         None => None,
     }
 }
 
-// The values that a compactor shows at two indexes, that which it overwrites at the first, and what was counted.
+// The values that a compactor shows at two indexes, and that which it overwrites at the first.
+fn shown<C: SlotAccess<SmallPtr, u32>>(
+    compactor: &mut C,
+    i: Inx8,
+    other: Inx8,
+    value: u32,
+) -> [Option<u32>; 3] {
+    let first = peeked(compactor, i);
+    let beside = peeked(compactor, other);
+    let was = overwritten(compactor.value_mut(i), value);
+    [first, beside, was]
+}
+
+// What a compactor shows and overwrites, and what was counted.
 fn rewritten<S: SlotStack<Item = Slots>>(
     arena: &mut Arena<SmallPtr, u32, S>,
     i: Inx8,
@@ -282,46 +301,50 @@ fn rewritten<S: SlotStack<Item = Slots>>(
     value: u32,
 ) -> ([Option<u32>; 3], Work) {
     let mut compactor = arena.compactor();
-    let shown = peeked(&mut compactor, i);
-    let beside = peeked(&mut compactor, other);
-    let was = overwritten(compactor.value_mut(i), value);
-    ([shown, beside, was], compactor.finish())
+    let values = shown(&mut compactor, i, other, value);
+    (values, compactor.finish())
 }
 
-fn answer_to<S: SlotStack<Item = Slots>>(
-    rt: &impl Abort,
-    alloc: Global,
-    arena: &mut Arena<SmallPtr, u32, S>,
-    call: Call,
-) -> String {
-    match call {
-        Call::Insert(value) => text(rt, alloc, arena.insert_reallocating(value)),
-        Call::InsertMany(n) => text(rt, alloc, insert_many(arena, n)),
-        Call::InsertWithin(value) => text(rt, alloc, arena.insert_within_capacity(value)),
-        Call::Enter(value) => text(rt, alloc, enter(arena, value)),
-        Call::Generation => text(rt, alloc, arena.generation().get()),
-        Call::SetGeneration(g) => text(rt, alloc, arena.set_generation(gen8(rt, g))),
-        Call::IncGeneration => text(rt, alloc, arena.inc_generation()),
-        Call::Slots => text(rt, alloc, arena.backing().len()),
-        Call::Entries => text(rt, alloc, iterated(rt, alloc, arena)),
-        Call::Drain => text(rt, alloc, drained(rt, alloc, arena)),
-        Call::Move(from, to, g) => {
-            text(
-                rt,
-                alloc,
-                moved(arena, inx8(rt, from), inx8(rt, to), gen8(rt, g)),
-            )
+// An arena that answers calls.
+pub(super) trait Answers {
+    fn fresh(alloc: Global) -> Self;
+
+    fn answer(&mut self, rt: &impl Abort, alloc: Global, call: Call) -> String;
+}
+
+impl<S: SlotStack<Item = Slots>> Answers for Arena<SmallPtr, u32, S> {
+    fn fresh(alloc: Global) -> Self {
+        Arena::new(alloc)
+    }
+
+    fn answer(&mut self, rt: &impl Abort, alloc: Global, call: Call) -> String {
+        match call {
+            Call::Enter(value) => text(rt, alloc, enter(self, value)),
+            Call::DropPlace(by_hand) => text(rt, alloc, dropped_place(self, by_hand)),
+            Call::Generation => text(rt, alloc, self.generation().get()),
+            Call::SetGeneration(g) => text(rt, alloc, self.set_generation(gen8(rt, g))),
+            Call::IncGeneration => text(rt, alloc, self.inc_generation()),
+            Call::Slots => text(rt, alloc, self.backing().len()),
+            Call::Entries => text(rt, alloc, iterated(rt, alloc, self)),
+            Call::Drain => text(rt, alloc, drained(rt, alloc, self)),
+            Call::Move(from, to, g) => {
+                text(
+                    rt,
+                    alloc,
+                    moved(self, inx8(rt, from), inx8(rt, to), gen8(rt, g)),
+                )
+            }
+            Call::Rewrite(i, other, value) => {
+                text(
+                    rt,
+                    alloc,
+                    rewritten(self, inx8(rt, i), inx8(rt, other), value),
+                )
+            }
+            Call::DropCompactor => text(rt, alloc, drop(self.compactor())),
+            Call::ForgetCompactor => text(rt, alloc, mem::forget(self.compactor())),
+            other => own_answer(rt, alloc, self, other),
         }
-        Call::Rewrite(i, other, value) => {
-            text(
-                rt,
-                alloc,
-                rewritten(arena, inx8(rt, i), inx8(rt, other), value),
-            )
-        }
-        Call::DropCompactor => text(rt, alloc, drop(arena.compactor())),
-        Call::ForgetCompactor => text(rt, alloc, mem::forget(arena.compactor())),
-        other => trait_answer(rt, alloc, arena, other),
     }
 }
 
@@ -329,34 +352,38 @@ fn answer_to<S: SlotStack<Item = Slots>>(
 pub(super) fn asks<A: ArenaTrait<SmallPtr, u32>>(
     rt: &impl Abort,
     alloc: Global,
+    name: &str,
     arena: &mut A,
     rows: &[(Call, &str)],
 ) {
     for (call, want) in rows {
         let got = trait_answer(rt, alloc, arena, *call);
-        assert_eq!(rt; got.as_str(), *want);
+        same(rt, name, got.as_str(), *want);
     }
 }
 
 // Each call answers its text.
-pub(super) fn runs<S: SlotStack<Item = Slots>>(
+pub(super) fn runs<A: Answers>(
     rt: &impl Abort,
     alloc: Global,
-    arena: &mut Arena<SmallPtr, u32, S>,
+    name: &str,
+    arena: &mut A,
     rows: &[(Call, &str)],
 ) {
     for (call, want) in rows {
-        let got = answer_to(rt, alloc, arena, *call);
-        assert_eq!(rt; got.as_str(), *want);
+        let got = arena.answer(rt, alloc, *call);
+        same(rt, name, got.as_str(), *want);
     }
 }
 
-// Each call on a new arena answers its text.
-pub(super) fn plays<S: SlotStack<Item = Slots>>(
+// Of each script, each call answers its text. It begins with a new arena.
+pub(super) fn plays<A: Answers + Drop>(
     rt: &impl Abort,
     alloc: Global,
-    rows: &[(Call, &str)],
+    scripts: &[(&str, &[(Call, &str)])],
 ) {
-    let mut arena: Arena<SmallPtr, u32, S> = Arena::new(alloc);
-    runs(rt, alloc, &mut arena, rows);
+    for (name, rows) in scripts {
+        let mut arena = A::fresh(alloc);
+        runs(rt, alloc, name, &mut arena, rows);
+    }
 }

@@ -413,7 +413,8 @@ fn check_owners<S: SlotStack<Item = Vec<i32>>>(rt: &impl Abort, alloc: Global) {
     }
     assert!(rt; stack.len() == 4);
     stack.truncate(2);
-    same(rt, "the second", stack.get(1).map(|v| v.len()), Some(2));
+    let second = stack.get(1).expect(rt, "the second").len();
+    same(rt, "the second", second, 2);
     let empty = Vec::new(stack.allocator());
     let was = replace(&mut stack, 0, empty);
     same(rt, "one was there", was.is_some(), true);
