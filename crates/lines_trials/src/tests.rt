@@ -11,7 +11,7 @@ ghost use Rattle.chain_lines.specs.Commands.{line_of};
 ghost use Rattle.chain_lines.specs.Transcripts.{AreComplete};
 
 use arena_base::{ArenaSlot, ArenaTrait};
-use arena_ptr::{Gen32, LimitedStack, SetMaxCapacity, ToolPtr};
+use arena_ptr::{Gen32, LimitedStack, SetMaxCapacity, SlotStack, ToolPtr};
 use chain_arena::{ChainArena, ChainArenaTrait, LinkInsertKind, LinkNoGen};
 use chain_lines::{ToolError, run, run_on};
 use std::alloc::Global;
@@ -54,7 +54,13 @@ fn check_texts(rt: &impl Abort, alloc: Global, rows: &[(&str, &str)]) {
 }
 
 /// Carries out a text on an arena, and looks whether the program writes these lines.
-fn check_on(rt: &impl Abort, alloc: Global, arena: &mut Links, input: &str, output: &str) {
+fn check_on<S: SlotStack<Item = ArenaSlot<ToolPtr, LinkNoGen<ToolPtr, u32>>>>(
+    rt: &impl Abort,
+    alloc: Global,
+    arena: &mut ChainArena<ToolPtr, u32, S>,
+    input: &str,
+    output: &str,
+) {
     let mut reader = input.as_bytes();
     let mut written = Vec::new(alloc);
     let result = run_on(alloc, arena, &mut reader, &mut written);
@@ -110,145 +116,123 @@ fn small_texts() {
     definitions();
 }
 
-#[test]
-fn two_lone_links_connected(rt: HostRuntime) {
-    let input = "add alone 10\nadd alone 20\nconnect 1.2 2.2\nchain 1.2\n";
-    let output = "at 1.2\nat 2.2\nok\n1.2:10 2.2:20\n";
-    check_texts(&rt, rt.alloc(), &[(input, output)]);
-}
+const TWO_LONE_LINKS_CONNECTED: (&str, &str) = (
+    "add alone 10\nadd alone 20\nconnect 1.2 2.2\nchain 1.2\n",
+    "at 1.2\nat 2.2\nok\n1.2:10 2.2:20\n",
+);
 
-#[test]
-fn first_table(rt: HostRuntime) {
-    let input =
-        "add alone 1\nconnect 1.2 1.2\nshow 1.2\nconnect 1.2 1.2\nadd end 1.2 2\nadd alone 2\nadd alone 3\n\
-        connect 2.2 3.2\nconnect 3.2 2.2\nchain 3.2\nlen\nbreaknext 3.2\n";
-    let output = "at 1.2\nok\nprev 1.2 next 1.2 value 1\nnone\nrefused link\nat 2.2\nat 3.2\n\
-        ok\nok\n3.2:3 2.2:2\ncount 3\nok\n";
-    check_texts(&rt, rt.alloc(), &[(input, output)]);
-}
+const FIRST_TABLE: (&str, &str) = (
+    "add alone 1\nconnect 1.2 1.2\nshow 1.2\nconnect 1.2 1.2\nadd end 1.2 2\nadd alone 2\nadd alone 3\n\
+        connect 2.2 3.2\nconnect 3.2 2.2\nchain 3.2\nlen\nbreaknext 3.2\n",
+    "at 1.2\nok\nprev 1.2 next 1.2 value 1\nnone\nrefused link\nat 2.2\nat 3.2\n\
+        ok\nok\n3.2:3 2.2:2\ncount 3\nok\n",
+);
 
-#[test]
-fn lines_and_words(rt: HostRuntime) {
-    const ROWS: [(&str, &str); 19] = [
-        ("", ""),
-        ("\n\n \n", ""),
-        ("\r\n  \r\n", ""),
-        ("len", "count 0\n"),
-        ("len\r", "count 0\n"),
-        ("len\n", "count 0\n"),
-        ("  len  \n", "count 0\n"),
-        ("add  alone   007\r\n", "at 1.2\n"),
-        ("len\r\r\n", "bad line\n"),
-        ("len\t\n", "bad line\n"),
-        ("LEN\n", "bad line\n"),
-        ("le\n", "bad line\n"),
-        ("len 1\n", "bad line\n"),
-        ("add alone\n", "bad line\n"),
-        ("add alone 1 2\n", "bad line\n"),
-        ("connect 1.2\n", "bad line\n"),
-        ("connect 1.2 1.2 1.2\n", "bad line\n"),
-        ("hello\nlen\n", "bad line\ncount 0\n"),
-        ("remove 1.2 1.2\nclear\n", "bad line\nok\n"),
-    ];
-    check_texts(&rt, rt.alloc(), &ROWS);
-}
+const LINES_AND_WORDS: [(&str, &str); 19] = [
+    ("", ""),
+    ("\n\n \n", ""),
+    ("\r\n  \r\n", ""),
+    ("len", "count 0\n"),
+    ("len\r", "count 0\n"),
+    ("len\n", "count 0\n"),
+    ("  len  \n", "count 0\n"),
+    ("add  alone   007\r\n", "at 1.2\n"),
+    ("len\r\r\n", "bad line\n"),
+    ("len\t\n", "bad line\n"),
+    ("LEN\n", "bad line\n"),
+    ("le\n", "bad line\n"),
+    ("len 1\n", "bad line\n"),
+    ("add alone\n", "bad line\n"),
+    ("add alone 1 2\n", "bad line\n"),
+    ("connect 1.2\n", "bad line\n"),
+    ("connect 1.2 1.2 1.2\n", "bad line\n"),
+    ("hello\nlen\n", "bad line\ncount 0\n"),
+    ("remove 1.2 1.2\nclear\n", "bad line\nok\n"),
+];
 
-#[test]
-fn kinds_and_values(rt: HostRuntime) {
-    const ROWS: [(&str, &str); 20] = [
-        ("add end 0.2 5\n", "bad line\n"),
-        ("add end 0 5\n", "bad line\n"),
-        ("add between 1.2 1 5\n", "bad line\n"),
-        ("add bridge 1 1.2 5\n", "bad line\n"),
-        ("add ring\n", "bad line\n"),
-        ("add ring 1 2\n", "bad line\n"),
-        ("add end 1.2\n", "bad line\n"),
-        ("add end 1.2 2.2 5\n", "bad line\n"),
-        ("add between 1.2 5\n", "bad line\n"),
-        ("add between 1 2 3 5\n", "bad line\n"),
-        ("add sideways 1.2 3\n", "bad line\n"),
-        ("add alone 1.2\n", "bad line\n"),
-        ("add 3\n", "bad line\n"),
-        ("add\n", "bad line\n"),
-        ("addwithin 3\n", "bad line\n"),
-        ("addwithin alone 1 2\n", "bad line\n"),
-        ("addwithin alone 1\n", "refused capacity\n"),
-        ("addwithin end 1 1\n", "refused link\n"),
-        ("add after 1 1\n", "refused link\n"),
-        ("add before 4294967295.2 1\n", "refused link\n"),
-    ];
-    check_texts(&rt, rt.alloc(), &ROWS);
-}
+const KINDS_AND_VALUES: [(&str, &str); 20] = [
+    ("add end 0.2 5\n", "bad line\n"),
+    ("add end 0 5\n", "bad line\n"),
+    ("add between 1.2 1 5\n", "bad line\n"),
+    ("add bridge 1 1.2 5\n", "bad line\n"),
+    ("add ring\n", "bad line\n"),
+    ("add ring 1 2\n", "bad line\n"),
+    ("add end 1.2\n", "bad line\n"),
+    ("add end 1.2 2.2 5\n", "bad line\n"),
+    ("add between 1.2 5\n", "bad line\n"),
+    ("add between 1 2 3 5\n", "bad line\n"),
+    ("add sideways 1.2 3\n", "bad line\n"),
+    ("add alone 1.2\n", "bad line\n"),
+    ("add 3\n", "bad line\n"),
+    ("add\n", "bad line\n"),
+    ("addwithin 3\n", "bad line\n"),
+    ("addwithin alone 1 2\n", "bad line\n"),
+    ("addwithin alone 1\n", "refused capacity\n"),
+    ("addwithin end 1 1\n", "refused link\n"),
+    ("add after 1 1\n", "refused link\n"),
+    ("add before 4294967295.2 1\n", "refused link\n"),
+];
 
-#[test]
-fn kinds_table(rt: HostRuntime) {
-    let input =
-        "add alone 1\nadd between 1.2 1.2 5\nadd bridge 1.2 1.2 2\nadd before 1 3\nadd between 3 1 4\n\
-        chain 2.2\nadd ring 6\nadd after 5.2 7\nshow 5.2\nadd start 5 8\naddwithin end 5.2 9\n";
-    let output =
-        "at 1.2\nrefused link\nat 2.2\nat 3.2\nat 4.2\n2.2:2 3.2:3 4.2:4 1.2:1\nat 5.2\nat 6.2\n\
-        prev 6.2 next 6.2 value 6\nrefused link\nrefused link\n";
-    check_texts(&rt, rt.alloc(), &[(input, output)]);
-}
+const KINDS_TABLE: (&str, &str) = (
+    "add alone 1\nadd between 1.2 1.2 5\nadd bridge 1.2 1.2 2\nadd before 1 3\nadd between 3 1 4\n\
+        chain 2.2\nadd ring 6\nadd after 5.2 7\nshow 5.2\nadd start 5 8\naddwithin end 5.2 9\n",
+    "at 1.2\nrefused link\nat 2.2\nat 3.2\nat 4.2\n2.2:2 3.2:3 4.2:4 1.2:1\nat 5.2\nat 6.2\n\
+        prev 6.2 next 6.2 value 6\nrefused link\nrefused link\n",
+);
 
-#[test]
-fn a_chain_grown_joined_and_drained(rt: HostRuntime) {
-    let input =
-        "add alone 1\nadd alone 2\nconnect 1.2 2.2\nadd end 1.2 9\nadd end 2.2 4\nadd between 2.2 3.2 3\n\
+const A_CHAIN_GROWN_JOINED_AND_DRAINED: (&str, &str) = (
+    "add alone 1\nadd alone 2\nconnect 1.2 2.2\nadd end 1.2 9\nadd end 2.2 4\nadd between 2.2 3.2 3\n\
         add alone 5\nadd end 5.2 6\nadd end 6.2 7\nconnect 3.2 5.2\nchain 1.2\nremove 3.2\nchain 1.2\n\
-        drain 5.2 0\nlen\nadd alone 8\n";
-    let output = "at 1.2\nat 2.2\nok\nrefused link\nat 3.2\nat 4.2\nat 5.2\nat 6.2\nat 7.2\nok\n\
+        drain 5.2 0\nlen\nadd alone 8\n",
+    "at 1.2\nat 2.2\nok\nrefused link\nat 3.2\nat 4.2\nat 5.2\nat 6.2\nat 7.2\nok\n\
         1.2:1 2.2:2 4.2:3 3.2:4 5.2:5 6.2:6 7.2:7\nvalue 4\n1.2:1 2.2:2 4.2:3 5.2:5 6.2:6 7.2:7\n\
-        count 0\ncount 0\nat 1.9\n";
-    check_texts(&rt, rt.alloc(), &[(input, output)]);
-}
+        count 0\ncount 0\nat 1.9\n",
+);
 
-#[test]
-fn each_kind_by_pointer_and_by_index(rt: HostRuntime) {
-    let by_pointer =
-        "add alone 1\nadd end 1.2 2\nadd start 1.2 3\nadd after 3.2 4\nadd before 2.2 5\nadd between 1.2 5.2 6\n\
-        add bridge 2.2 3.2 7\nadd ring 8\nchain 3.2\nchain 8.2\n";
-    let by_index =
-        "add alone 1\nadd end 1 2\nadd start 1 3\nadd after 3 4\nadd before 2 5\nadd between 1 5 6\n\
-        add bridge 2 3 7\nadd ring 8\nchain 3.2\nchain 8.2\n";
-    let output = "at 1.2\nat 2.2\nat 3.2\nat 4.2\nat 5.2\nat 6.2\nat 7.2\nat 8.2\n\
+const EACH_KIND: &str = "at 1.2\nat 2.2\nat 3.2\nat 4.2\nat 5.2\nat 6.2\nat 7.2\nat 8.2\n\
         3.2:3 4.2:4 1.2:1 6.2:6 5.2:5 2.2:2 7.2:7\n8.2:8\n";
-    check_texts(&rt, rt.alloc(), &[(by_pointer, output), (by_index, output)]);
-}
 
-#[test]
-fn numbers_and_pointers(rt: HostRuntime) {
-    const ROWS: [(&str, &str); 21] = [
-        (
-            "add alone 4294967295\nshow 1.2\n",
-            "at 1.2\nprev - next - value 4294967295\n",
-        ),
-        ("add alone 4294967296\n", "bad line\n"),
-        ("add alone 0000000007\nchain 1.2\n", "at 1.2\n1.2:7\n"),
-        ("add alone 00000000007\n", "bad line\n"),
-        ("add alone -1\n", "bad line\n"),
-        ("add alone +1\n", "bad line\n"),
-        ("add alone 1x\n", "bad line\n"),
-        ("show 0.2\n", "bad line\n"),
-        ("show 1.0\n", "bad line\n"),
-        ("show 1.1\n", "none\n"),
-        ("chain 1.2\n", "none\n"),
-        ("drain 9.9 1\n", "none\n"),
-        ("connect 1.2 1.2\n", "none\n"),
-        ("show 4294967295.4294967295\n", "none\n"),
-        ("show 4294967296.2\n", "bad line\n"),
-        ("show 1\n", "bad line\n"),
-        ("show 1.\n", "bad line\n"),
-        ("show .2\n", "bad line\n"),
-        ("show .\n", "bad line\n"),
-        ("show 1.2.3\n", "bad line\n"),
-        (
-            "add alone 5\nshow 01.002\n",
-            "at 1.2\nprev - next - value 5\n",
-        ),
-    ];
-    check_texts(&rt, rt.alloc(), &ROWS);
-}
+const EACH_KIND_BY_POINTER: (&str, &str) = (
+    "add alone 1\nadd end 1.2 2\nadd start 1.2 3\nadd after 3.2 4\nadd before 2.2 5\nadd between 1.2 5.2 6\n\
+        add bridge 2.2 3.2 7\nadd ring 8\nchain 3.2\nchain 8.2\n",
+    EACH_KIND,
+);
+
+const EACH_KIND_BY_INDEX: (&str, &str) = (
+    "add alone 1\nadd end 1 2\nadd start 1 3\nadd after 3 4\nadd before 2 5\nadd between 1 5 6\n\
+        add bridge 2 3 7\nadd ring 8\nchain 3.2\nchain 8.2\n",
+    EACH_KIND,
+);
+
+const NUMBERS_AND_POINTERS: [(&str, &str); 21] = [
+    (
+        "add alone 4294967295\nshow 1.2\n",
+        "at 1.2\nprev - next - value 4294967295\n",
+    ),
+    ("add alone 4294967296\n", "bad line\n"),
+    ("add alone 0000000007\nchain 1.2\n", "at 1.2\n1.2:7\n"),
+    ("add alone 00000000007\n", "bad line\n"),
+    ("add alone -1\n", "bad line\n"),
+    ("add alone +1\n", "bad line\n"),
+    ("add alone 1x\n", "bad line\n"),
+    ("show 0.2\n", "bad line\n"),
+    ("show 1.0\n", "bad line\n"),
+    ("show 1.1\n", "none\n"),
+    ("chain 1.2\n", "none\n"),
+    ("drain 9.9 1\n", "none\n"),
+    ("connect 1.2 1.2\n", "none\n"),
+    ("show 4294967295.4294967295\n", "none\n"),
+    ("show 4294967296.2\n", "bad line\n"),
+    ("show 1\n", "bad line\n"),
+    ("show 1.\n", "bad line\n"),
+    ("show .2\n", "bad line\n"),
+    ("show .\n", "bad line\n"),
+    ("show 1.2.3\n", "bad line\n"),
+    (
+        "add alone 5\nshow 01.002\n",
+        "at 1.2\nprev - next - value 5\n",
+    ),
+];
 
 /// A command, enough spaces to fill a line of this length, and what ends the line.
 fn filled(rt: &impl Abort, alloc: Global, command: &str, len: usize, end: &str) -> String {
@@ -494,119 +478,80 @@ fn a_given_arena(rt: HostRuntime) {
     check_on(&rt, rt.alloc(), &mut arena, "chain 2.2", "2.2:6 1.2:5\n");
 }
 
-#[test]
-fn removal_table(rt: HostRuntime) {
-    let input =
-        "add alone 1\nadd alone 2\nconnect 1.2 2.2\nconnect 2.2 1.2\nremove 2.2\nshow 1.2\nadd alone 9\n\
-        len\nremove 2.2\nremove 1.2 \nremove 1\nremove\n";
-    let output = "at 1.2\nat 2.2\nok\nok\nvalue 2\nprev 1.2 next 1.2 value 1\nat 2.3\n\
-        count 2\nnone\nvalue 1\nnone\nbad line\n";
-    check_texts(&rt, rt.alloc(), &[(input, output)]);
-}
+const REMOVAL_TABLE: (&str, &str) = (
+    "add alone 1\nadd alone 2\nconnect 1.2 2.2\nconnect 2.2 1.2\nremove 2.2\nshow 1.2\nadd alone 9\n\
+        len\nremove 2.2\nremove 1.2 \nremove 1\nremove\n",
+    "at 1.2\nat 2.2\nok\nok\nvalue 2\nprev 1.2 next 1.2 value 1\nat 2.3\n\
+        count 2\nnone\nvalue 1\nnone\nbad line\n",
+);
 
-#[test]
-fn cutting_table(rt: HostRuntime) {
-    let input =
-        "add alone 1\nadd end 1 2\nadd end 2 3\nadd end 3 4\nexchange 1.2 2.2\nchain 1.2\nexchange 1.2 2.2\n\
+const CUTTING_TABLE: (&str, &str) = (
+    "add alone 1\nadd end 1 2\nadd end 2 3\nadd end 3 4\nexchange 1.2 2.2\nchain 1.2\nexchange 1.2 2.2\n\
         chain 1.2\nbreaknext 2.2\nbreakprev 1.2\nexchange 4.2 1.2\ninvalidate 3.2\nshow 4.2\n\
-        drain 4.2 1\nlen\nadd alone 9\ndrain 1.2 9\nclear\nadd alone 1\n";
-    let output =
-        "at 1.2\nat 2.2\nat 3.2\nat 4.2\nok\n1.2:1 3.2:3 4.2:4\nok\n1.2:1 2.2:2 3.2:3 4.2:4\nok\nnone\nnone\n\
-        at 3.3\nprev 3.3 next - value 4\ncount 1\ncount 2\nat 3.5\ncount 2\nok\nat 1.8\n";
-    check_texts(&rt, rt.alloc(), &[(input, output)]);
-}
+        drain 4.2 1\nlen\nadd alone 9\ndrain 1.2 9\nclear\nadd alone 1\n",
+    "at 1.2\nat 2.2\nat 3.2\nat 4.2\nok\n1.2:1 3.2:3 4.2:4\nok\n1.2:1 2.2:2 3.2:3 4.2:4\nok\nnone\nnone\n\
+        at 3.3\nprev 3.3 next - value 4\ncount 1\ncount 2\nat 3.5\ncount 2\nok\nat 1.8\n",
+);
 
-#[test]
-fn compression_table(rt: HostRuntime) {
-    let input =
-        "add alone 1\nadd alone 2\nadd end 2.2 3\nremove 1.2\ncompress keep\nchain 1.4\ncompress reset\n\
+const COMPRESSION_TABLE: (&str, &str) = (
+    "add alone 1\nadd alone 2\nadd end 2.2 3\nremove 1.2\ncompress keep\nchain 1.4\ncompress reset\n\
         chain 2.2\nsetgen 4294967295\ncompress reset\nsetgen 4294967295\ncompress keep\nchain 1.2\n\
-        clear\ncompress keep\nadd alone 4\n";
-    let output =
-        "at 1.2\nat 2.2\nat 3.2\nvalue 1\nok\n1.4:2 2.4:3\nok\n2.2:3 1.2:2\nok\nok\nok\nok overflow\n\
-        1.2:2 2.2:3\nok\nok\nat 1.3\n";
-    check_texts(&rt, rt.alloc(), &[(input, output)]);
-}
+        clear\ncompress keep\nadd alone 4\n",
+    "at 1.2\nat 2.2\nat 3.2\nvalue 1\nok\n1.4:2 2.4:3\nok\n2.2:3 1.2:2\nok\nok\nok\nok overflow\n\
+        1.2:2 2.2:3\nok\nok\nat 1.3\n",
+);
 
-#[test]
-fn canonical_table(rt: HostRuntime) {
-    let input =
-        "add alone 1\nadd alone 2\nadd end 1.2 3\nadd end 2.2 4\nremove 1.2\nadd end 4.2 5\ncanonical keep\n\
-        chain 1.4\nshow 4.4\ncanonical reset\nchain 2.2\nsetgen 4294967295\ncanonical keep\n";
-    let output =
-        "at 1.2\nat 2.2\nat 3.2\nat 4.2\nvalue 1\nat 1.3\nok\n1.4:2 2.4:4 3.4:5\nprev - next - value 3\n\
-        ok\n2.2:4 3.2:5 1.2:2\nok\nok overflow\n";
-    check_texts(&rt, rt.alloc(), &[(input, output)]);
-}
+const CANONICAL_TABLE: (&str, &str) = (
+    "add alone 1\nadd alone 2\nadd end 1.2 3\nadd end 2.2 4\nremove 1.2\nadd end 4.2 5\ncanonical keep\n\
+        chain 1.4\nshow 4.4\ncanonical reset\nchain 2.2\nsetgen 4294967295\ncanonical keep\n",
+    "at 1.2\nat 2.2\nat 3.2\nat 4.2\nvalue 1\nat 1.3\nok\n1.4:2 2.4:4 3.4:5\nprev - next - value 3\n\
+        ok\n2.2:4 3.2:5 1.2:2\nok\nok overflow\n",
+);
 
-#[test]
-fn moves_table(rt: HostRuntime) {
-    let input =
-        "add alone 5\nadd alone 6\nadd start 1.2 7\nmoves keep\nmoves reset\nclear\nmoves keep\nmoves\n\
-        add alone 8\nsetgen 4294967295\nmoves keep\n";
-    let output =
-        "at 1.2\nat 2.2\nat 3.2\nmoved 3 3.2>1.3 1.2>2.3 2.2>3.3\nmoved 3 1.3>1.2 2.3>2.2 3.3>3.2\nok\nmoved 0\n\
-        bad line\nat 1.3\nok\nmoved 1 1.3>1.2 overflow\n";
-    check_texts(&rt, rt.alloc(), &[(input, output)]);
-}
+const MOVES_TABLE: (&str, &str) = (
+    "add alone 5\nadd alone 6\nadd start 1.2 7\nmoves keep\nmoves reset\nclear\nmoves keep\nmoves\n\
+        add alone 8\nsetgen 4294967295\nmoves keep\n",
+    "at 1.2\nat 2.2\nat 3.2\nmoved 3 3.2>1.3 1.2>2.3 2.2>3.3\nmoved 3 1.3>1.2 2.3>2.2 3.3>3.2\nok\nmoved 0\n\
+        bad line\nat 1.3\nok\nmoved 1 1.3>1.2 overflow\n",
+);
 
-#[test]
-fn overflow_table(rt: HostRuntime) {
-    let input =
-        "add alone 1\nsetgen 4294967295\nadd end 1.2 2\nshow 1.2\ninvalidate 1.2\nincgen\nremove 2.4294967295\n\
-        setgen 0\nreserve 0\nreserve 9\nreserve 4294967296\n";
-    let output =
-        "at 1.2\nok\nat 2.4294967295\nprev - next 2.4294967295 value 1\nat 1.2 overflow\nok\nvalue 2\n\
-        bad line\nok\nok\nbad line\n";
-    check_texts(&rt, rt.alloc(), &[(input, output)]);
-}
+const OVERFLOW_TABLE: (&str, &str) = (
+    "add alone 1\nsetgen 4294967295\nadd end 1.2 2\nshow 1.2\ninvalidate 1.2\nincgen\nremove 2.4294967295\n\
+        setgen 0\nreserve 0\nreserve 9\nreserve 4294967296\n",
+    "at 1.2\nok\nat 2.4294967295\nprev - next 2.4294967295 value 1\nat 1.2 overflow\nok\nvalue 2\n\
+        bad line\nok\nok\nbad line\n",
+);
 
-#[test]
-fn removed_by_index(rt: HostRuntime) {
-    let input =
-        "add alone 1\nadd end 1.2 2\nremove 1\nremove 1\nremove 1.2\nshow 2.2\nclear\nclear\nadd alone 3\n";
-    let output = "at 1.2\nat 2.2\nvalue 1\nnone\nnone\nprev - next - value 2\nok\nok\nat 1.4\n";
-    check_texts(&rt, rt.alloc(), &[(input, output)]);
-}
+const REMOVED_BY_INDEX: (&str, &str) = (
+    "add alone 1\nadd end 1.2 2\nremove 1\nremove 1\nremove 1.2\nshow 2.2\nclear\nclear\nadd alone 3\n",
+    "at 1.2\nat 2.2\nvalue 1\nnone\nnone\nprev - next - value 2\nok\nok\nat 1.4\n",
+);
 
-#[test]
-fn malformed_steps(rt: HostRuntime) {
-    const ROWS: [(&str, &str); 23] = [
-        ("reserve\n", "bad line\n"),
-        ("reserve x\n", "bad line\n"),
-        ("setgen\n", "bad line\n"),
-        ("setgen 4294967296\n", "bad line\n"),
-        ("incgen 1\n", "bad line\n"),
-        ("reserve 1 2\n", "bad line\n"),
-        ("breaknext 1\n", "bad line\n"),
-        ("breakprev\n", "bad line\n"),
-        ("exchange 1.2\n", "bad line\n"),
-        ("exchange 1.2 1\n", "bad line\n"),
-        ("invalidate 1\n", "bad line\n"),
-        ("drain 1.2\n", "bad line\n"),
-        ("drain 1 2\n", "bad line\n"),
-        ("drain 1.2 x\n", "bad line\n"),
-        ("drain 1.2 4294967296\n", "bad line\n"),
-        ("drain 1.2 1 1\n", "bad line\n"),
-        ("clear 1\n", "bad line\n"),
-        ("compress\n", "bad line\n"),
-        ("compress x\n", "bad line\n"),
-        ("compress keep keep\n", "bad line\n"),
-        ("remove 4294967296\n", "bad line\n"),
-        ("remove 0\n", "bad line\n"),
-        ("remove 1 2\n", "bad line\n"),
-    ];
-    check_texts(&rt, rt.alloc(), &ROWS);
-}
-
-/// Carries out a text on an arena with a limit, and looks whether the program writes these lines.
-fn check_limited(rt: &impl Abort, alloc: Global, arena: &mut Limited, input: &str, output: &str) {
-    let mut reader = input.as_bytes();
-    let mut written = Vec::new(alloc);
-    let result = run_on(alloc, arena, &mut reader, &mut written);
-    same(rt, input, result, Ok(()));
-    same(rt, input, written.as_slice(), output.as_bytes());
-}
+const MALFORMED_STEPS: [(&str, &str); 23] = [
+    ("reserve\n", "bad line\n"),
+    ("reserve x\n", "bad line\n"),
+    ("setgen\n", "bad line\n"),
+    ("setgen 4294967296\n", "bad line\n"),
+    ("incgen 1\n", "bad line\n"),
+    ("reserve 1 2\n", "bad line\n"),
+    ("breaknext 1\n", "bad line\n"),
+    ("breakprev\n", "bad line\n"),
+    ("exchange 1.2\n", "bad line\n"),
+    ("exchange 1.2 1\n", "bad line\n"),
+    ("invalidate 1\n", "bad line\n"),
+    ("drain 1.2\n", "bad line\n"),
+    ("drain 1 2\n", "bad line\n"),
+    ("drain 1.2 x\n", "bad line\n"),
+    ("drain 1.2 4294967296\n", "bad line\n"),
+    ("drain 1.2 1 1\n", "bad line\n"),
+    ("clear 1\n", "bad line\n"),
+    ("compress\n", "bad line\n"),
+    ("compress x\n", "bad line\n"),
+    ("compress keep keep\n", "bad line\n"),
+    ("remove 4294967296\n", "bad line\n"),
+    ("remove 0\n", "bad line\n"),
+    ("remove 1 2\n", "bad line\n"),
+];
 
 #[test]
 fn a_limited_arena(rt: HostRuntime) {
@@ -614,7 +559,7 @@ fn a_limited_arena(rt: HostRuntime) {
     same(&rt, "a limit", arena.set_max_capacity(2), Ok(()));
     let input = "add alone 1\nadd alone 2\nadd alone 3\nremove 1.2\nadd alone 3\nlen\n";
     let output = "at 1.2\nat 2.2\nrefused limit\nvalue 1\nat 1.3\ncount 2\n";
-    check_limited(&rt, rt.alloc(), &mut arena, input, output);
+    check_on(&rt, rt.alloc(), &mut arena, input, output);
 }
 
 #[test]
@@ -626,7 +571,7 @@ fn limited_run(rt: HostRuntime) {
         "addwithin alone 1\naddwithin alone 2\naddwithin alone 3\nadd alone 3\nadd end 9.9 3\nremove 1.2\n\
         addwithin alone 3\n";
     let output = "at 1.2\nat 2.2\nrefused capacity\nrefused limit\nrefused link\nvalue 1\nat 1.3\n";
-    check_limited(&rt, rt.alloc(), &mut arena, input, output);
+    check_on(&rt, rt.alloc(), &mut arena, input, output);
 }
 
 /// The greatest generation.
@@ -673,5 +618,36 @@ fn steps_that_overflow(rt: HostRuntime) {
     ];
     for (input, output) in &ROWS {
         check_at_greatest(&rt, rt.alloc(), input, output);
+    }
+}
+
+/// Whole runs, each a text and what the program writes.
+const RUNS: [(&str, &str); 13] = [
+    TWO_LONE_LINKS_CONNECTED,
+    FIRST_TABLE,
+    KINDS_TABLE,
+    A_CHAIN_GROWN_JOINED_AND_DRAINED,
+    REMOVAL_TABLE,
+    CUTTING_TABLE,
+    COMPRESSION_TABLE,
+    CANONICAL_TABLE,
+    MOVES_TABLE,
+    OVERFLOW_TABLE,
+    REMOVED_BY_INDEX,
+    EACH_KIND_BY_POINTER,
+    EACH_KIND_BY_INDEX,
+];
+
+#[test]
+fn texts_and_what_is_written(rt: HostRuntime) {
+    let tables: [&[(&str, &str)]; 5] = [
+        &RUNS,
+        &LINES_AND_WORDS,
+        &KINDS_AND_VALUES,
+        &NUMBERS_AND_POINTERS,
+        &MALFORMED_STEPS,
+    ];
+    for table in tables {
+        check_texts(&rt, rt.alloc(), table);
     }
 }

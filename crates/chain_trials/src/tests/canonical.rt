@@ -1,42 +1,44 @@
 //! Chains laid out in place, one after another, and the same links transferred.
 
-use super::own::{run, runs};
 use super::rows::{BEHIND_A_HOLE, BEHIND_HOLES, BY_LEAST_INDEX, INTERLEAVED, SCATTERED};
-use super::scripts::{Do, Line, Script};
-use super::{Chains, NONE, at, chain_rows, chains, same};
+use super::scripts::{Answers, Do, Line, Script, played, plays_on};
+use super::{Chains, NONE, Numbered, Slot, at, lone_links, same};
 use arena_base::ArenaTrait;
-use arena_ptr::{AllocError, InvalidationOption, ToolPtr};
-use chain_arena::ChainArenaTrait;
+use arena_ptr::{AllocError, InvalidationOption, Ptr, SlotStack, ToolPtr};
+use chain_arena::{ChainArena, ChainArenaTrait};
 use std::alloc::Global;
 use std::process::Abort;
 
 // Compresses, and tells how many links were placed.
-pub(super) fn placed(arena: &mut Chains, reset: bool) -> (InvalidationOption<()>, u128) {
+pub(super) fn placed<P: Ptr, S: SlotStack<Item = Slot<P>>>(
+    arena: &mut ChainArena<P, u32, S>,
+    reset: bool,
+) -> (InvalidationOption<()>, u128) {
     let (told, work) = arena.compress_canonical_counted(reset);
     (told, work.placed)
 }
 
 // The pointers that each link had and has.
-type Moves = Vec<(ToolPtr, ToolPtr)>;
+type Moves<P> = Vec<(P, P)>;
 
 // The moves that the closure of a compression sees.
-pub(super) fn moves_seen(
+pub(super) fn moves_seen<P: Ptr, S: SlotStack<Item = Slot<P>>>(
     rt: &impl Abort,
     alloc: Global,
-    arena: &mut Chains,
+    arena: &mut ChainArena<P, u32, S>,
     reset: bool,
-) -> (InvalidationOption<()>, Moves) {
+) -> (InvalidationOption<()>, Moves<P>) {
     let mut moves = Vec::new(alloc);
     let told = arena.compress_canonical_with(reset, |p, q| moves.push((p, q)).expect(rt, "memory"));
     (told, moves)
 }
 
 // The moves that the call answers that lists them.
-pub(super) fn moves_listed(
+pub(super) fn moves_listed<P: Ptr, S: SlotStack<Item = Slot<P>>>(
     alloc: Global,
-    arena: &mut Chains,
+    arena: &mut ChainArena<P, u32, S>,
     reset: bool,
-) -> Result<(InvalidationOption<()>, Moves), AllocError> {
+) -> Result<(InvalidationOption<()>, Moves<P>), AllocError> {
     arena.compress_canonical_moves(alloc, reset)
 }
 
@@ -131,16 +133,13 @@ const LAYOUTS: [(Script, &[Line]); 10] = [
 
 #[test]
 fn layouts_and_moves(rt: HostRuntime) {
-    for (script, lines) in LAYOUTS {
-        let mut arena = run(&rt, rt.alloc(), script);
-        runs(&rt, rt.alloc(), script.0, &mut arena, lines);
-    }
+    plays_on::<Chains>(&rt, rt.alloc(), &LAYOUTS);
 }
 
 // Compresses so many lone links behind as many holes, and tells whether the work stays within its bound, and places each
 // link once.
-fn within_bound(rt: &impl Abort, alloc: Global, count: u32, reset: bool) -> bool {
-    let mut arena: Chains = chains(rt, alloc, count.saturating_mul(2), &[]);
+fn within_bound<P: Numbered>(rt: &impl Abort, alloc: Global, count: u32, reset: bool) -> bool {
+    let mut arena: ChainArena<P, u32> = lone_links(rt, alloc, count.saturating_mul(2));
     for k in 1..=count {
         arena.remove(at(rt, (k, 2)));
     }
@@ -155,37 +154,31 @@ fn within_bound(rt: &impl Abort, alloc: Global, count: u32, reset: bool) -> bool
 
 #[test]
 fn work_stays_within_its_bound(rt: HostRuntime) {
-    let few = within_bound(&rt, rt.alloc(), 100, false);
-    let many = within_bound(&rt, rt.alloc(), 100_000, true);
+    let few = within_bound::<ToolPtr>(&rt, rt.alloc(), 100, false);
+    let many = within_bound::<ToolPtr>(&rt, rt.alloc(), 100_000, true);
     same(&rt, "within", (few, many), (true, true));
 }
 
-// Whether a compression and a transfer of the same links lay them out alike.
-fn agree(rt: &impl Abort, alloc: Global, script: Script) -> bool {
-    let mut here = run(rt, alloc, script);
-    let told = here.compress_canonical(false);
-    let mut source = run(rt, alloc, script);
-    let mut there = Chains::new(alloc);
-    let carried = there.transfer_canonical_reallocating(
-        here.generation(),
-        &mut source,
-        |_, v, _| v.overflowing().0,
-    );
-    told == InvalidationOption::Success(())
-        && carried.is_ok()
-        && chain_rows(rt, alloc, &here).as_slice() == chain_rows(rt, alloc, &there).as_slice()
+// A compression and a transfer of the same links, with the generation of then, lay them out alike.
+fn agree<A: Answers + Drop>(rt: &impl Abort, alloc: Global, script: Script, now: u32) {
+    let mut here: A = played(rt, alloc, script);
+    let mut source: A = played(rt, alloc, script);
+    let told = here.answer(rt, alloc, Do::Canonical(false));
+    same(rt, script.0, told.as_str(), "Success(())");
+    let laid = here.answer(rt, alloc, Do::All);
+    let carried = source.answer(rt, alloc, Do::CarryKept(now));
+    same(rt, script.0, carried.as_str(), laid.as_str());
 }
 
 #[test]
 fn compression_and_transfer_agree(rt: HostRuntime) {
-    for script in [
-        BEHIND_A_HOLE,
-        SCATTERED,
-        INTERLEAVED,
-        BY_LEAST_INDEX,
-        BEHIND_HOLES,
+    for (script, now) in [
+        (BEHIND_A_HOLE, 4),
+        (SCATTERED, 4),
+        (INTERLEAVED, 3),
+        (BY_LEAST_INDEX, 3),
+        (BEHIND_HOLES, 7),
     ] {
-        let (what, _, _, _) = script;
-        same(&rt, what, agree(&rt, rt.alloc(), script), true);
+        agree::<Chains>(&rt, rt.alloc(), script, now);
     }
 }

@@ -6,18 +6,18 @@ ghost use Rattle.arena_base.specs.Entries.{entries};
 ghost use Rattle.chain_links.specs.ChainArena.{entry, values_of};
 ghost use Rattle.chain_arena.specs.Drains.{walk_left, without_each, CountsUp};
 
-use super::Chains;
+use super::Slot;
 use arena_base::ArenaSlot;
-use arena_ptr::{InvalidationOption, Ptr, SlotStack, ToolPtr};
+use arena_ptr::{InvalidationOption, Ptr, SlotStack};
 use chain_arena::{ChainArena, LinkNoGen};
 use std::alloc::Global;
 use std::mem::forget;
 use std::process::Abort;
 
 // What a drain of a chain yields, and one of all links.
-type Gone = InvalidationOption<(ToolPtr, LinkNoGen<ToolPtr, u32>)>;
+type Gone<P> = InvalidationOption<(P, LinkNoGen<P, u32>)>;
 
-type ValueGone = InvalidationOption<(ToolPtr, u32)>;
+type ValueGone<P> = InvalidationOption<(P, u32)>;
 
 // Removes a pointer's chain, in any chain arena, and tells whether there was one.
 pub(super) fn remove_chain<P: Ptr, T: Drop, S: SlotStack<Item = ArenaSlot<P, LinkNoGen<P, T>>>>(
@@ -61,12 +61,12 @@ pub(super) fn remove_one_and_all<
 }
 
 // All that a drain of a chain yields.
-pub(super) fn drained_chain(
+pub(super) fn drained_chain<P: Ptr, S: SlotStack<Item = Slot<P>>>(
     rt: &impl Abort,
     alloc: Global,
-    arena: &mut Chains,
-    p: ToolPtr,
-) -> Option<Vec<Gone>> {
+    arena: &mut ChainArena<P, u32, S>,
+    p: P,
+) -> Option<Vec<Gone<P>>> {
     let mut all = Vec::new(alloc);
     let Some(drain) = arena.drain_chain(p) else {
         return None;
@@ -78,7 +78,10 @@ pub(super) fn drained_chain(
 }
 
 // The first link that it yields, whereupon it is dropped.
-pub(super) fn takes_one_of_chain(arena: &mut Chains, p: ToolPtr) -> Option<Gone> {
+pub(super) fn takes_one_of_chain<P: Ptr, S: SlotStack<Item = Slot<P>>>(
+    arena: &mut ChainArena<P, u32, S>,
+    p: P,
+) -> Option<Gone<P>> {
     match arena.drain_chain(p) {
         Some(mut drain) => drain.next(),
         None => None,
@@ -86,7 +89,10 @@ pub(super) fn takes_one_of_chain(arena: &mut Chains, p: ToolPtr) -> Option<Gone>
 }
 
 // .. or forgotten.
-pub(super) fn forgets_chain_drain(arena: &mut Chains, p: ToolPtr) -> Option<Gone> {
+pub(super) fn forgets_chain_drain<P: Ptr, S: SlotStack<Item = Slot<P>>>(
+    arena: &mut ChainArena<P, u32, S>,
+    p: P,
+) -> Option<Gone<P>> {
     match arena.drain_chain(p) {
         Some(mut drain) => {
             let gone = drain.next();
@@ -98,7 +104,11 @@ pub(super) fn forgets_chain_drain(arena: &mut Chains, p: ToolPtr) -> Option<Gone
 }
 
 // All that a drain of all links yields.
-pub(super) fn drained(rt: &impl Abort, alloc: Global, arena: &mut Chains) -> Vec<ValueGone> {
+pub(super) fn drained<P: Ptr, S: SlotStack<Item = Slot<P>>>(
+    rt: &impl Abort,
+    alloc: Global,
+    arena: &mut ChainArena<P, u32, S>,
+) -> Vec<ValueGone<P>> {
     let mut all = Vec::new(alloc);
     for gone in arena.drain() {
         all.push(gone).expect(rt, "memory");
@@ -107,12 +117,16 @@ pub(super) fn drained(rt: &impl Abort, alloc: Global, arena: &mut Chains) -> Vec
 }
 
 // The first link that it yields, whereupon it is dropped.
-pub(super) fn takes_one(arena: &mut Chains) -> Option<ValueGone> {
+pub(super) fn takes_one<P: Ptr, S: SlotStack<Item = Slot<P>>>(
+    arena: &mut ChainArena<P, u32, S>,
+) -> Option<ValueGone<P>> {
     arena.drain().next()
 }
 
 // .. or forgotten.
-pub(super) fn forgets_drain(arena: &mut Chains) -> Option<ValueGone> {
+pub(super) fn forgets_drain<P: Ptr, S: SlotStack<Item = Slot<P>>>(
+    arena: &mut ChainArena<P, u32, S>,
+) -> Option<ValueGone<P>> {
     let mut drain = arena.drain();
     let gone = drain.next();
     forget(drain);

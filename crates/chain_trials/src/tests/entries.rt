@@ -1,33 +1,30 @@
 //! Places for links: used, given up and forgotten.
 
 ghost use Rattle.std.specs.Prelude.{◌≡◌, ◌↔◌, IfOk, OnOk, OnErr, Err};
-ghost use Rattle.arena_ptr.specs.ToolPtr.{key_of};
 ghost use Rattle.arena_base.specs.Arena.{next_index, with_capacity_of};
 ghost use Rattle.chain_links.specs.ChainArena.{entry, shown, insert_as};
 ghost use Rattle.chain_links.specs.Kinds.{names_in, by_index, MayInsert};
 
-use super::own::runs_over;
-use super::scripts::{Do, Kind as KindRow};
-use super::{Chains, LimitedChains, at, same};
+use super::scripts::{Do, Kind, Line, plays};
+use super::{LimitedChains, Slot, at, same};
 use arena_base::ArenaTrait;
 use arena_ptr::{
-    ChainInsertionError, MaxCapacityReductionError, ReallocationError, SetMaxCapacity, ToolPtr,
+    ChainInsertionError, MaxCapacityReductionError, Ptr, ReallocationError, SetMaxCapacity,
+    SlotStack,
 };
-use chain_arena::{ChainArenaTrait, LinkInsertKind};
+use chain_arena::{ChainArena, ChainArenaTrait, LinkInsertKind};
 use std::mem;
 
-type Kind = LinkInsertKind<ToolPtr>;
-
 // A link in a place that was made for it, which is what an insertion in one call is.
-pub(super) fn insert_by_entry(
-    arena: &mut Chains,
-    kind: Kind,
+pub(super) fn insert_by_entry<P: Ptr, S: SlotStack<Item = Slot<P>>>(
+    arena: &mut ChainArena<P, u32, S>,
+    kind: LinkInsertKind<P>,
     t: u32,
-) -> Result<ToolPtr, ChainInsertionError>
-    ensures place { IfOk result (λ p. key_of p ≡ (next_index arena.old, arena.old.counter)) }
-    ensures state { OnOk result (arena.new ≡ with_capacity_of (insert_as arena.old (by_index (names_in key_of (λ i. i.number) kind)) t) arena.new) }
+) -> Result<P, ChainInsertionError>
+    ensures place { IfOk result (λ p. P.key p ≡ (next_index arena.old, arena.old.counter)) }
+    ensures state { OnOk result (arena.new ≡ with_capacity_of (insert_as arena.old (by_index (names_in P.key P.Inx.number kind)) t) arena.new) }
     ensures err { OnErr result (arena.new ≡ arena.old) }
-    ensures link { (result ≡ Err ChainInsertionError.FailedLinkRequirement) ↔ ¬ MayInsert (entry arena.old) (shown arena.old) (names_in key_of (λ i. i.number) kind) }
+    ensures link { (result ≡ Err ChainInsertionError.FailedLinkRequirement) ↔ ¬ MayInsert (entry arena.old) (shown arena.old) (names_in P.key P.Inx.number kind) }
 {
     let entry = arena.entry_insert_reallocating(kind)?;
     let p = entry.ptr();
@@ -36,8 +33,11 @@ pub(super) fn insert_by_entry(
 }
 
 // The pointer of a place that is given up.
-pub(super) fn give_up(arena: &mut Chains, kind: Kind) -> Result<ToolPtr, ChainInsertionError>
-    ensures place { IfOk result (λ p. key_of p ≡ (next_index arena.old, arena.old.counter)) }
+pub(super) fn give_up<P: Ptr, S: SlotStack<Item = Slot<P>>>(
+    arena: &mut ChainArena<P, u32, S>,
+    kind: LinkInsertKind<P>,
+) -> Result<P, ChainInsertionError>
+    ensures place { IfOk result (λ p. P.key p ≡ (next_index arena.old, arena.old.counter)) }
     ensures same { arena.new ≡ with_capacity_of arena.old arena.new }
 {
     let entry = arena.entry_insert_reallocating(kind)?;
@@ -45,11 +45,11 @@ pub(super) fn give_up(arena: &mut Chains, kind: Kind) -> Result<ToolPtr, ChainIn
 }
 
 // A place for a link of a kind that may be inserted, and the link in it. `None`: it may not be.
-pub(super) fn insert_by_any_entry(
-    arena: &mut Chains,
-    kind: Kind,
+pub(super) fn insert_by_any_entry<P: Ptr, S: SlotStack<Item = Slot<P>>>(
+    arena: &mut ChainArena<P, u32, S>,
+    kind: LinkInsertKind<P>,
     t: u32,
-) -> Option<Result<ToolPtr, ReallocationError>> {
+) -> Option<Result<P, ReallocationError>> {
     if !arena.can_insert(kind) {
         return None;
     }
@@ -64,11 +64,11 @@ pub(super) fn insert_by_any_entry(
 }
 
 // The insertion of one. `None`: it may not be inserted.
-pub(super) fn insert_asked(
-    arena: &mut Chains,
-    kind: Kind,
+pub(super) fn insert_asked<P: Ptr, S: SlotStack<Item = Slot<P>>>(
+    arena: &mut ChainArena<P, u32, S>,
+    kind: LinkInsertKind<P>,
     t: u32,
-) -> Option<Result<ToolPtr, ReallocationError>> {
+) -> Option<Result<P, ReallocationError>> {
     if arena.can_insert(kind) {
         Some(arena.insert(kind, t))
     } else {
@@ -77,7 +77,10 @@ pub(super) fn insert_asked(
 }
 
 // A place is forgotten.
-pub(super) fn forget(arena: &mut Chains, kind: Kind) -> Option<ChainInsertionError> {
+pub(super) fn forget<P: Ptr, S: SlotStack<Item = Slot<P>>>(
+    arena: &mut ChainArena<P, u32, S>,
+    kind: LinkInsertKind<P>,
+) -> Option<ChainInsertionError> {
     match arena.entry_insert_reallocating(kind) {
         Ok(entry) => {
             mem::forget(entry);
@@ -88,7 +91,10 @@ pub(super) fn forget(arena: &mut Chains, kind: Kind) -> Option<ChainInsertionErr
 }
 
 // How a place for a link of a kind is refused, by growth and within the capacity.
-fn place_refusals(arena: &mut LimitedChains, kind: Kind) -> [Option<ChainInsertionError>; 2] {
+fn place_refusals<P: Ptr, S: SlotStack<Item = Slot<P>>>(
+    arena: &mut ChainArena<P, u32, S>,
+    kind: LinkInsertKind<P>,
+) -> [Option<ChainInsertionError>; 2] {
     let growing = match arena.entry_insert_reallocating(kind) {
         Ok(_) => None,
         Err(refusal) => Some(refusal),
@@ -101,33 +107,30 @@ fn place_refusals(arena: &mut LimitedChains, kind: Kind) -> [Option<ChainInserti
 }
 
 // Two links fill an arena with a maximum of two.
-const FULL: [(Do, &str); 7] = [
-    (Do::Insert(KindRow::Disconnected, 1), "Ok(P0[1](2))"),
-    (Do::Insert(KindRow::Disconnected, 2), "Ok(P0[2](2))"),
-    (
-        Do::Insert(KindRow::Disconnected, 3),
-        "Err(BeyondMaxCapacity)",
-    ),
-    (
-        Do::InsertWithin(KindRow::Disconnected, 3),
+const FULL: [Line; 7] = [
+    Line::Says(Do::Insert(Kind::Disconnected, 1), "Ok(P0[1](2))"),
+    Line::Says(Do::Insert(Kind::Disconnected, 2), "Ok(P0[2](2))"),
+    Line::Says(Do::Insert(Kind::Disconnected, 3), "Err(BeyondMaxCapacity)"),
+    Line::Says(
+        Do::InsertWithin(Kind::Disconnected, 3),
         "Err(NotWithinCapacity)",
     ),
-    (
-        Do::Insert(KindRow::ChainEnd((9, 9)), 3),
+    Line::Says(
+        Do::Insert(Kind::ChainEnd((9, 9)), 3),
         "Err(FailedLinkRequirement)",
     ),
-    (
-        Do::InsertWithin(KindRow::ChainEnd((9, 9)), 3),
+    Line::Says(
+        Do::InsertWithin(Kind::ChainEnd((9, 9)), 3),
         "Err(FailedLinkRequirement)",
     ),
-    (Do::Reserve(3), "Err(BeyondMaxCapacity)"),
+    Line::Says(Do::Reserve(3), "Err(BeyondMaxCapacity)"),
 ];
 
 // .. and do still.
-const FULL_STILL: [(Do, &str); 3] = [
-    (Do::Len, "2"),
-    (Do::HasRoom(3), "false"),
-    (Do::Maximum, "Some(2)"),
+const FULL_STILL: [Line; 3] = [
+    Line::Says(Do::Len, "2"),
+    Line::Says(Do::HasRoom(3), "false"),
+    Line::Says(Do::Maximum, "Some(2)"),
 ];
 
 // What a kind asks is tested before the room, and nothing changes.
@@ -135,7 +138,7 @@ const FULL_STILL: [(Do, &str); 3] = [
 fn refusals_in_their_order(rt: HostRuntime) {
     let mut arena = LimitedChains::new(rt.alloc());
     same(&rt, "a maximum", arena.set_max_capacity(2), Ok(()));
-    runs_over(&rt, rt.alloc(), "a maximum of two", &mut arena, &FULL);
+    plays(&rt, rt.alloc(), "a maximum of two", &mut arena, &FULL);
     let beyond = Some(ChainInsertionError::BeyondMaxCapacity);
     let full = Some(ChainInsertionError::NotWithinCapacity);
     let refused = place_refusals(&mut arena, LinkInsertKind::Disconnected);
@@ -150,5 +153,5 @@ fn refusals_in_their_order(rt: HostRuntime) {
     );
     let less = arena.set_max_capacity(1);
     same(&rt, "less", less, Err(MaxCapacityReductionError));
-    runs_over(&rt, rt.alloc(), "full still", &mut arena, &FULL_STILL);
+    plays(&rt, rt.alloc(), "full still", &mut arena, &FULL_STILL);
 }

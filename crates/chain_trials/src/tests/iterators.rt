@@ -4,16 +4,16 @@ ghost use Rattle.std.specs.Prelude.{◌≡◌, IfOk, map};
 ghost use Rattle.arena_base.specs.Arena.{entry_count};
 ghost use Rattle.arena_base.specs.Entries.{entries, index_of};
 
-use super::Chains;
+use super::Slot;
 use arena_base::{ArenaSlot, ArenaTrait};
-use arena_ptr::{Inx32, Ptr, SlotStack, ToolPtr};
+use arena_ptr::{Ptr, SlotStack};
 use chain_arena::{ChainArena, LinkNoGen};
 use std::alloc::{AllocError, Global};
 use std::mem;
 use std::process::Abort;
 
 // A link as an iterator yields it.
-type Yielded = (ToolPtr, LinkNoGen<ToolPtr, u32>);
+type Yielded<P> = (P, LinkNoGen<P, u32>);
 
 // How many links there are, counted one by one.
 fn count_links<P: Ptr, T: Drop, S: SlotStack<Item = ArenaSlot<P, LinkNoGen<P, T>>>>(
@@ -43,12 +43,19 @@ fn indexes<P: Ptr, T: Drop, S: SlotStack<Item = ArenaSlot<P, LinkNoGen<P, T>>>>(
 }
 
 // Both.
-pub(super) fn counts(alloc: Global, arena: &Chains) -> (usize, Result<Vec<Inx32>, AllocError>) {
+pub(super) fn counts<P: Ptr, S: SlotStack<Item = Slot<P>>>(
+    alloc: Global,
+    arena: &ChainArena<P, u32, S>,
+) -> (usize, Result<Vec<P::Inx>, AllocError>) {
     (count_links(arena), indexes(alloc, arena))
 }
 
 // Each value with its pointer.
-pub(super) fn values(rt: &impl Abort, alloc: Global, arena: &Chains) -> Vec<(ToolPtr, u32)> {
+pub(super) fn values<P: Ptr, S: SlotStack<Item = Slot<P>>>(
+    rt: &impl Abort,
+    alloc: Global,
+    arena: &ChainArena<P, u32, S>,
+) -> Vec<(P, u32)> {
     let mut all = Vec::new(alloc);
     for (p, t) in arena.iter() {
         all.push((p, *t)).expect(rt, "memory");
@@ -57,7 +64,11 @@ pub(super) fn values(rt: &impl Abort, alloc: Global, arena: &Chains) -> Vec<(Too
 }
 
 // Each link with its interlinks, by the call, over the arena itself, and of one that is used up, which leaves a new one.
-pub(super) fn links(rt: &impl Abort, alloc: Global, arena: &Chains) -> Vec<Yielded> {
+pub(super) fn links<P: Ptr, S: SlotStack<Item = Slot<P>>>(
+    rt: &impl Abort,
+    alloc: Global,
+    arena: &ChainArena<P, u32, S>,
+) -> Vec<Yielded<P>> {
     let mut all = Vec::new(alloc);
     for (p, link) in arena.iter_link_no_gen() {
         all.push((p, *link)).expect(rt, "memory");
@@ -65,7 +76,11 @@ pub(super) fn links(rt: &impl Abort, alloc: Global, arena: &Chains) -> Vec<Yield
     all
 }
 
-pub(super) fn links_by_reference(rt: &impl Abort, alloc: Global, arena: &Chains) -> Vec<Yielded> {
+pub(super) fn links_by_reference<P: Ptr, S: SlotStack<Item = Slot<P>>>(
+    rt: &impl Abort,
+    alloc: Global,
+    arena: &ChainArena<P, u32, S>,
+) -> Vec<Yielded<P>> {
     let mut all = Vec::new(alloc);
     for (p, link) in arena {
         all.push((p, *link)).expect(rt, "memory");
@@ -73,21 +88,25 @@ pub(super) fn links_by_reference(rt: &impl Abort, alloc: Global, arena: &Chains)
     all
 }
 
-pub(super) fn links_used_up(rt: &impl Abort, alloc: Global, arena: &mut Chains) -> Vec<Yielded> {
+pub(super) fn links_used_up<P: Ptr, S: SlotStack<Item = Slot<P>>>(
+    rt: &impl Abort,
+    alloc: Global,
+    arena: &mut ChainArena<P, u32, S>,
+) -> Vec<Yielded<P>> {
     let mut all = Vec::new(alloc);
-    for link in mem::replace(arena, Chains::new(alloc)) {
+    for link in mem::replace(arena, ChainArena::new(alloc)) {
         all.push(link).expect(rt, "memory");
     }
     all
 }
 
 // The links that a walk from a pointer yields, each by its pointer, which is that of now, and its value.
-pub(super) fn walk(
+pub(super) fn walk<P: Ptr, S: SlotStack<Item = Slot<P>>>(
     rt: &impl Abort,
     alloc: Global,
-    arena: &Chains,
-    p: ToolPtr,
-) -> Option<Vec<(ToolPtr, u32)>> {
+    arena: &ChainArena<P, u32, S>,
+    p: P,
+) -> Option<Vec<(P, u32)>> {
     let mut all = Vec::new(alloc);
     let Some(links) = arena.iter_chain(p) else {
         return None;

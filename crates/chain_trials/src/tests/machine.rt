@@ -1,16 +1,16 @@
 //! Lists of calls, and the replies to them.
 
 use super::rows::{ONE_CYCLE, TWO_CYCLES};
-use super::scripts::{Do, Kind, Line, kind};
-use super::{Chains, LimitedChains, NONE, Slot, at, chains_show, generation, index, same, text};
+use super::scripts::{Do, Kind, Line, kind, plays};
+use super::{Chains, LimitedChains, NONE, Numbered, Slot, at, index, same, text};
 use arena_base::ArenaTrait;
-use arena_ptr::{SetMaxCapacity, SlotStack, ToolPtr};
-use chain_arena::{Call, ChainArena, Reply, run_calls};
+use arena_ptr::{Ptr, SetMaxCapacity, SlotStack};
+use chain_arena::{Call, ChainArena, LinkInsertKind, Reply, apply, run_calls};
 use std::alloc::Global;
 use std::process::Abort;
 
 // The call of a row. `None`: lists of calls have no such call.
-fn call(rt: &impl Abort, row: Do) -> Option<Call<ToolPtr, u32>> {
+fn call<P: Numbered>(rt: &impl Abort, row: Do) -> Option<Call<P, u32>> {
     Some(match row {
         Do::Insert(k, t) => Call::Insert {
             kind: kind(rt, k),
@@ -32,21 +32,21 @@ fn call(rt: &impl Abort, row: Do) -> Option<Call<ToolPtr, u32>> {
 }
 
 // .. of one on more than two links.
-fn whole_call(rt: &impl Abort, row: Do) -> Option<Call<ToolPtr, u32>> {
+fn whole_call<P: Numbered>(rt: &impl Abort, row: Do) -> Option<Call<P, u32>> {
     match row {
         Do::DrainTaking(p, take) => Some(Call::DrainChain { p: at(rt, p), take }),
         Do::Clear => Some(Call::Clear),
         Do::Compress(reset) => Some(Call::Compress(reset)),
         Do::Canonical(reset) => Some(Call::CompressCanonical(reset)),
         Do::Reserve(n) => Some(Call::Reserve(n)),
-        Do::SetGeneration(g) => Some(Call::SetGeneration(generation(rt, g))),
+        Do::SetGeneration(g) => Some(Call::SetGeneration(P::generation_of(rt, g))),
         Do::IncGeneration => Some(Call::IncGeneration),
         _ => None,
     }
 }
 
 // The calls of lines.
-fn calls_of(rt: &impl Abort, alloc: Global, lines: &[Line]) -> Vec<Call<ToolPtr, u32>> {
+fn calls_of<P: Numbered>(rt: &impl Abort, alloc: Global, lines: &[Line]) -> Vec<Call<P, u32>> {
     let mut calls = Vec::new(alloc);
     for line in lines {
         if let Line::Says(row, _) = *line {
@@ -58,7 +58,7 @@ fn calls_of(rt: &impl Abort, alloc: Global, lines: &[Line]) -> Vec<Call<ToolPtr,
 }
 
 // What a reply answers.
-fn told(rt: &impl Abort, alloc: Global, reply: Reply<ToolPtr, u32>) -> String {
+fn told<P: Ptr>(rt: &impl Abort, alloc: Global, reply: Reply<P, u32>) -> String {
     match reply {
         Reply::Inserted(answer) => text(rt, alloc, answer),
         Reply::Done(done) => text(rt, alloc, done),
@@ -72,11 +72,22 @@ fn told(rt: &impl Abort, alloc: Global, reply: Reply<ToolPtr, u32>) -> String {
     }
 }
 
-// Makes the calls of lines as one list, and looks whether these are their replies, and that the links then.
-fn replies<S: SlotStack<Item = Slot>>(
+// The reply to an insertion as a value.
+pub(super) fn applied<P: Ptr, S: SlotStack<Item = Slot<P>>>(
     rt: &impl Abort,
     alloc: Global,
-    arena: &mut ChainArena<ToolPtr, u32, S>,
+    arena: &mut ChainArena<P, u32, S>,
+    kind: LinkInsertKind<P>,
+    t: u32,
+) -> String {
+    told(rt, alloc, apply(arena, Call::Insert { kind, t }))
+}
+
+// Makes the calls of lines as one list, and looks whether these are their replies, and that the links then.
+fn replies<P: Numbered, S: SlotStack<Item = Slot<P>>>(
+    rt: &impl Abort,
+    alloc: Global,
+    arena: &mut ChainArena<P, u32, S>,
     list: List,
 ) {
     let (what, lines) = list;
@@ -89,7 +100,7 @@ fn replies<S: SlotStack<Item = Slot>>(
                 let reply = replies.next().expect(rt, "a reply");
                 same(rt, what, told(rt, alloc, reply).as_str(), want);
             }
-            Line::Shows(want) => chains_show(rt, alloc, what, arena, want),
+            Line::Shows(_) => plays(rt, alloc, what, arena, &[*line]),
         }
     }
     same(rt, what, replies.next().is_none(), true);

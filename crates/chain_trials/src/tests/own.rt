@@ -1,6 +1,7 @@
 //! The calls that a chain arena has of its own, as rows of tables.
 
 use super::canonical::{moves_listed, moves_seen, placed};
+use super::copies::{cloned, copied_over, copied_to_plain};
 use super::drains::{
     drained, drained_chain, forgets_chain_drain, forgets_drain, remove_all, remove_chain,
     remove_one_and_all, takes_one, takes_one_of_chain,
@@ -8,25 +9,30 @@ use super::drains::{
 use super::entries::{forget, give_up, insert_asked, insert_by_any_entry, insert_by_entry};
 use super::indexing::{value_at, value_at_index, write_at, write_at_index};
 use super::iterators::{counts, links, links_by_reference, links_used_up, values, walk};
-use super::scripts::{Do, Line, Script, answer, kind};
-use super::{Chains, Slot, at, chains, chains_show, generation, index, same, text};
-use arena_base::{Advancer, PtrAdvancer};
-use arena_ptr::{SlotStack, ToolPtr};
+use super::machine::applied;
+use super::scripts::{Answers, Do, answer, kind};
+use super::transfers::carried_in;
+use super::{Numbered, Slot, at, index, text};
+use arena_base::ArenaTrait;
+use arena_ptr::SlotStack;
 use chain_arena::ChainArena;
 use std::alloc::Global;
 use std::process::Abort;
 
 // The answer to a call of the arena's own: to one on the counter and the slots, ...
-pub(super) fn own_answer(rt: &impl Abort, alloc: Global, arena: &mut Chains, call: Do) -> String {
+fn own_answer<P: Numbered, S: SlotStack<Item = Slot<P>>>(
+    rt: &impl Abort,
+    alloc: Global,
+    arena: &mut ChainArena<P, u32, S>,
+    call: Do,
+) -> String {
     match call {
-        Do::Generation => text(rt, alloc, arena.generation().get()),
-        Do::SetGeneration(g) => text(rt, alloc, arena.set_generation(generation(rt, g))),
+        Do::Generation => text(rt, alloc, P::number_of(arena.generation())),
+        Do::SetGeneration(g) => text(rt, alloc, arena.set_generation(P::generation_of(rt, g))),
         Do::IncGeneration => text(rt, alloc, arena.inc_generation()),
         Do::Slots => text(rt, alloc, arena.backing().len()),
-        Do::AdvanceEmpty => {
-            let mut spent = <PtrAdvancer<ToolPtr> as Advancer<Chains>>::empty();
-            text(rt, alloc, spent.advance(arena))
-        }
+        Do::Debug => text(rt, alloc, &*arena),
+        Do::Apply(k, t) => applied(rt, alloc, arena, kind(rt, k), t),
         Do::Value(p) => text(rt, alloc, value_at(arena, at(rt, p))),
         Do::ValueInx(i) => text(rt, alloc, value_at_index(arena, index(rt, i))),
         Do::WriteValue(p, t) => text(rt, alloc, write_at(arena, at(rt, p), t)),
@@ -36,7 +42,12 @@ pub(super) fn own_answer(rt: &impl Abort, alloc: Global, arena: &mut Chains, cal
 }
 
 // .. to a walk or a loop over all links, ...
-fn iterator_answer(rt: &impl Abort, alloc: Global, arena: &mut Chains, call: Do) -> String {
+fn iterator_answer<P: Numbered, S: SlotStack<Item = Slot<P>>>(
+    rt: &impl Abort,
+    alloc: Global,
+    arena: &mut ChainArena<P, u32, S>,
+    call: Do,
+) -> String {
     match call {
         Do::Walk(p) => text(rt, alloc, walk(rt, alloc, arena, at(rt, p))),
         Do::Values => text(rt, alloc, values(rt, alloc, arena)),
@@ -48,12 +59,21 @@ fn iterator_answer(rt: &impl Abort, alloc: Global, arena: &mut Chains, call: Do)
         Do::Counted(reset) => text(rt, alloc, arena.compress_canonical_counted(reset)),
         Do::MovesSeen(reset) => text(rt, alloc, moves_seen(rt, alloc, arena, reset)),
         Do::MovesListed(reset) => text(rt, alloc, moves_listed(alloc, arena, reset)),
+        Do::Clone => cloned(rt, alloc, arena),
+        Do::CopyOver => copied_over(rt, alloc, arena),
+        Do::CopyToPlain => copied_to_plain(rt, alloc, arena),
+        Do::CarryIn(n) => carried_in(rt, alloc, arena, n),
         other => drain_answer(rt, alloc, arena, other),
     }
 }
 
 // .. to a drain, or a place for a link.
-fn drain_answer(rt: &impl Abort, alloc: Global, arena: &mut Chains, call: Do) -> String {
+fn drain_answer<P: Numbered, S: SlotStack<Item = Slot<P>>>(
+    rt: &impl Abort,
+    alloc: Global,
+    arena: &mut ChainArena<P, u32, S>,
+    call: Do,
+) -> String {
     match call {
         Do::DrainChain(p) => text(rt, alloc, drained_chain(rt, alloc, arena, at(rt, p))),
         Do::DrainChainOne(p) => text(rt, alloc, takes_one_of_chain(arena, at(rt, p))),
@@ -74,53 +94,21 @@ fn drain_answer(rt: &impl Abort, alloc: Global, arena: &mut Chains, call: Do) ->
 }
 
 // .. to a call of the traits, in the one place that hands such a body an arena.
-fn trait_answer<S: SlotStack<Item = Slot>>(
+fn trait_answer<P: Numbered, S: SlotStack<Item = Slot<P>>>(
     rt: &impl Abort,
     alloc: Global,
-    arena: &mut ChainArena<ToolPtr, u32, S>,
+    arena: &mut ChainArena<P, u32, S>,
     call: Do,
 ) -> String {
     answer(rt, alloc, arena, call)
 }
 
-// Each line says its text, or shows its links.
-pub(super) fn runs(rt: &impl Abort, alloc: Global, what: &str, arena: &mut Chains, lines: &[Line]) {
-    for line in lines {
-        match *line {
-            Line::Says(call, want) => {
-                let got = own_answer(rt, alloc, arena, call);
-                same(rt, what, got.as_str(), want);
-            }
-            Line::Shows(want) => chains_show(rt, alloc, what, arena, want),
-        }
+impl<P: Numbered, S: SlotStack<Item = Slot<P>>> Answers for ChainArena<P, u32, S> {
+    fn fresh(alloc: Global) -> Self {
+        ChainArena::new(alloc)
     }
-}
 
-// The arena of a script after its lines.
-pub(super) fn run(rt: &impl Abort, alloc: Global, script: Script) -> Chains {
-    let (what, count, pairs, lines) = script;
-    let mut arena: Chains = chains(rt, alloc, count, pairs);
-    runs(rt, alloc, what, &mut arena, lines);
-    arena
-}
-
-// Each script on a new arena.
-pub(super) fn run_all(rt: &impl Abort, alloc: Global, table: &[Script]) {
-    for script in table {
-        run(rt, alloc, *script);
-    }
-}
-
-// Each line, of calls of the traits, of one with any stack.
-pub(super) fn runs_over<S: SlotStack<Item = Slot>>(
-    rt: &impl Abort,
-    alloc: Global,
-    what: &str,
-    arena: &mut ChainArena<ToolPtr, u32, S>,
-    lines: &[(Do, &str)],
-) {
-    for (call, want) in lines {
-        let got = trait_answer(rt, alloc, arena, *call);
-        same(rt, what, got.as_str(), *want);
+    fn answer(&mut self, rt: &impl Abort, alloc: Global, call: Do) -> String {
+        own_answer(rt, alloc, self, call)
     }
 }

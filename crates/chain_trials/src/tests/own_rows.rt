@@ -1,9 +1,8 @@
 //! What a chain arena's own calls answer, and what they leave.
 
-use super::own::run_all;
 use super::rows::{FOUR, THREE};
-use super::scripts::{Do, Kind, Line, Script};
-use super::{At, NONE, Row};
+use super::scripts::{Do, Kind, Line, Script, plays_all};
+use super::{At, Chains, NONE, Row};
 
 // Links tied crosswise: 3, 1, 4 and 2 in a row.
 const CROSSED: [At; 3] = [(4, 2), (3, 1), (1, 4)];
@@ -355,13 +354,13 @@ const PLACES: [Script; 6] = [
 #[test]
 fn walks_loops_and_places(rt: HostRuntime) {
     for table in [&WALKS[..], &LOOPS[..], &PLACES[..]] {
-        run_all(&rt, rt.alloc(), table);
+        plays_all::<Chains>(&rt, rt.alloc(), table);
     }
 }
 
 #[test]
 fn drains_used_dropped_and_forgotten(rt: HostRuntime) {
     for table in [&CHAIN_DRAINS[..], &DRAINS[..]] {
-        run_all(&rt, rt.alloc(), table);
+        plays_all::<Chains>(&rt, rt.alloc(), table);
     }
 }

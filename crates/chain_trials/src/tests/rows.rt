@@ -567,7 +567,7 @@ pub(super) const LOOKS: [Script; 5] = [
         &[
             Line::Says(Do::Remove((2, 2)), "Success(2)"),
             Line::Says(Do::Ends, "(Some(P0[1](2)), Some(P0[3](2)))"),
-            Line::Says(Do::Advance, "[(1, 2), (3, 2), (0, 0), (0, 0), (0, 0)]"),
+            Line::Says(Do::Advance(3), "[(1, 2), (3, 2), (0, 0), (0, 0), (0, 0)]"),
             Line::Says(
                 Do::AdvanceFrom(2, false),
                 "[(3, 2), (0, 0), (0, 0), (0, 0), (0, 0)]",
@@ -593,3 +593,33 @@ pub(super) const LOOKS: [Script; 5] = [
         ],
     ),
 ];
+
+// Room at birth, and what advancers along chains answer over arenas that change.
+pub(super) const ADVANCERS: [Script; 1] = [(
+    "a link that is gone ends a walk, and so does the number of steps",
+    0,
+    &[],
+    &[
+        Line::Says(Do::Birth(3), "(true, true)"),
+        Line::Says(
+            Do::Changes,
+            "((1, 2), [[(0, 0), (0, 0), (0, 0), (0, 0), (0, 0)], \
+                [(1, 2), (0, 0), (0, 0), (0, 0), (0, 0)], [(3, 2), (2, 2), (0, 0), (0, 0), (0, 0)]])",
+        ),
+    ],
+)];
+
+// What an advancer answers after its first `None`: no more, or all once again.
+pub(super) const NONE_THEN_NONE: Script = (
+    "nothing after the last",
+    2,
+    &[(1, 2)],
+    &[Line::Says(Do::Advance(4), "[(1, 2), (2, 2), (0, 0), (0, 0), (0, 0)]")],
+);
+
+pub(super) const NONE_THEN_AGAIN: Script = (
+    "the first one again after the last",
+    2,
+    &[(1, 2)],
+    &[Line::Says(Do::Advance(4), "[(1, 2), (2, 2), (0, 0), (1, 2), (0, 0)]")],
+);

@@ -1,10 +1,11 @@
 //! Calls on arenas of links as rows of tables, each with the text of its answer.
 
-use super::advancing::{met, walk_along};
+use super::advancing::{changes_met, met, walk_along};
 use super::behind::{add_behind, count_of_links, take_next};
-use super::{At, Row, at, index, shows, text, tied_links};
-use arena_base::ArenaTrait;
-use arena_ptr::{InvalidationOption, ToolPtr};
+use super::transfers::{carried_kept, carried_out};
+use super::{At, Numbered, Row, at, index, rows_of, same, text};
+use arena_base::{Advancer, ArenaTrait, CompactArenaTrait};
+use arena_ptr::{InvalidationOption, Ptr};
 use chain_arena::{ChainArenaTrait, InsertKindBody, LinkInsertKind};
 use std::alloc::Global;
 use std::mem;
@@ -16,7 +17,8 @@ pub(super) type Kind = InsertKindBody<At, u32>;
 // A call on an arena of links. A pointer is its index and its generation.
 #[derive(Clone, Copy)]
 pub(super) enum Do {
-    // Looks of the trait of arenas. An advancer answers three times, and one from an index on twice.
+    // Looks of the trait of arenas. An advancer answers so many times, and one from an index on twice. Whether an arena
+    // that is born with room is empty, and has the room. The length and the capacity.
     Len,
     IsEmpty,
     HasRoom(usize),
@@ -26,8 +28,11 @@ pub(super) enum Do {
     Get(At),
     GetInx(u32),
     Ends,
-    Advance,
+    Advance(u32),
+    Birth(usize),
+    Room,
     AdvanceFrom(u32, bool),
+    AdvanceEmpty,
     // Looks of the trait of arenas of links: an advancer along a chain answers five times, or to its end.
     CanInsert(Kind),
     Neighbors(At, At),
@@ -38,8 +43,12 @@ pub(super) enum Do {
     Along(At),
     AlongAll(At),
     CountOfLinks,
+    // All links, and what advancers answer over arenas that change.
+    All,
+    Changes,
     // Changes of links.
     Insert(Kind, u32),
+    InsertMany(u32),
     InsertWithin(Kind, u32),
     Connect(At, At),
     BreakPrev(At),
@@ -61,14 +70,19 @@ pub(super) enum Do {
     Reserve(usize),
     Compress(bool),
     CompressWith(bool),
+    // All links carried over to an arena of two links of other pointers, with a generation; and to a new one, the values as
+    // they are.
+    CarryOut(u32),
+    CarryKept(u32),
     // Calls of lists of calls alone.
     DrainTaking(At, usize),
-    // Calls of the chain arena alone.
+    // Calls of the chain arena alone. An insertion as a value. The text of the arena.
+    Apply(Kind, u32),
+    Debug,
     Generation,
     SetGeneration(u32),
     IncGeneration,
     Slots,
-    AdvanceEmpty,
     Value(At),
     ValueInx(u32),
     WriteValue(At, u32),
@@ -95,6 +109,12 @@ pub(super) enum Do {
     InsertByEntry(Kind, u32),
     InsertByAnyEntry(Kind, u32),
     InsertAsked(Kind, u32),
+    // Copies: a clone, and what comes next in it; a copy over the arena of the links 1 and 3 of three in a row without the
+    // second; one of this arena to a plain one. Three links of tool pointers carried over to this arena, which is refused.
+    Clone,
+    CopyOver,
+    CopyToPlain,
+    CarryIn(u32),
     // Canonical compressions: how many links were placed, all work, and the moves by a closure and by a list.
     Placed(bool),
     Counted(bool),
@@ -113,7 +133,7 @@ pub(super) enum Line {
 pub(super) type Script = (&'static str, u32, &'static [At], &'static [Line]);
 
 // A kind that names links by indexes.
-fn kind_by_index(rt: &impl Abort, kind: Kind) -> LinkInsertKind<ToolPtr> {
+fn kind_by_index<P: Ptr>(rt: &impl Abort, kind: Kind) -> LinkInsertKind<P> {
     match kind {
         Kind::ChainEndInx(i) => LinkInsertKind::ChainEndInx(index(rt, i)),
         Kind::ChainStartInx(i) => LinkInsertKind::ChainStartInx(index(rt, i)),
@@ -132,7 +152,7 @@ fn kind_by_index(rt: &impl Abort, kind: Kind) -> LinkInsertKind<ToolPtr> {
 }
 
 // A kind of the arena.
-pub(super) fn kind(rt: &impl Abort, kind: Kind) -> LinkInsertKind<ToolPtr> {
+pub(super) fn kind<P: Numbered>(rt: &impl Abort, kind: Kind) -> LinkInsertKind<P> {
     match kind {
         Kind::Disconnected => LinkInsertKind::Disconnected,
         Kind::SingleLinkCyclic => LinkInsertKind::SingleLinkCyclic,
@@ -160,23 +180,47 @@ pub(super) fn overwritten(slot: Option<&mut u32>, value: u32) -> Option<u32> {
     }
 }
 
+// Whether an arena that is born with room for so many links is empty, and has the room.
+fn born<P: Ptr, A: ChainArenaTrait<P, u32> + Drop>(
+    rt: &impl Abort,
+    alloc: Global,
+    n: usize,
+) -> (bool, bool) {
+    let born = A::with_min_capacity(alloc, n).expect(rt, "memory");
+    (born.is_empty(), born.capacity() >= n)
+}
+
+// Adds so many lone links, the values from 1 on, and counts those that are added.
+fn insert_many<P: Ptr, A: ChainArenaTrait<P, u32>>(arena: &mut A, count: u32) -> u32 {
+    let mut added = 0u32;
+    for k in 1..=count {
+        if arena
+            .insert_reallocating(LinkInsertKind::Disconnected, k)
+            .is_ok()
+        {
+            added = added.saturating_add(1);
+        }
+    }
+    added
+}
+
 // Clears an arena, and tells whether its capacity stays.
-fn cleared<A: ArenaTrait<ToolPtr, u32>>(arena: &mut A) -> (InvalidationOption<()>, bool) {
+fn cleared<P: Ptr, A: ArenaTrait<P, u32>>(arena: &mut A) -> (InvalidationOption<()>, bool) {
     let capacity = arena.capacity();
     let answer = arena.clear();
     (answer, arena.capacity() == capacity)
 }
 
 // Closes the gaps, adds ten times the number of its call to each value, and lists what the closure saw.
-fn compressed<A: ArenaTrait<ToolPtr, u32>>(
+fn compressed<P: Ptr, A: ArenaTrait<P, u32>>(
     rt: &impl Abort,
     alloc: Global,
     arena: &mut A,
     reset: bool,
-) -> (InvalidationOption<()>, Vec<(ToolPtr, u32, ToolPtr)>) {
+) -> (InvalidationOption<()>, Vec<(P, u32, P)>) {
     let mut seen = Vec::new(alloc);
     let mut calls = 0u32;
-    let answer = arena.compress_with(reset, |p: ToolPtr, t: &mut u32, q: ToolPtr| {
+    let answer = arena.compress_with(reset, |p: P, t: &mut u32, q: P| {
         seen.push((p, *t, q)).expect(rt, "memory");
         calls = calls.saturating_add(10);
         *t = t.saturating_add(calls);
@@ -185,7 +229,7 @@ fn compressed<A: ArenaTrait<ToolPtr, u32>>(
 }
 
 // .. to a look at values, ...
-fn look<A: ChainArenaTrait<ToolPtr, u32>>(
+fn look<P: Numbered, A: ChainArenaTrait<P, u32> + Drop>(
     rt: &impl Abort,
     alloc: Global,
     arena: &A,
@@ -204,17 +248,21 @@ fn look<A: ChainArenaTrait<ToolPtr, u32>>(
             let ends = (arena.find_first_inx_ptr(), arena.find_last_inx_ptr());
             text(rt, alloc, ends)
         }
-        Do::Advance => text(rt, alloc, met(arena.advancer(), arena, 3)),
+        Do::Advance(n) => text(rt, alloc, met(rt, arena.advancer(), arena, n)),
         Do::AdvanceFrom(i, reverse) => {
             let advancer = arena.advancer_inx(index(rt, i), reverse);
-            text(rt, alloc, met(advancer, arena, 2))
+            text(rt, alloc, met(rt, advancer, arena, 2))
         }
+        Do::AdvanceEmpty => text(rt, alloc, A::PtrAdvancer::empty().advance(arena)),
+        Do::Birth(n) => text(rt, alloc, born::<P, A>(rt, alloc, n)),
+        Do::Room => text(rt, alloc, (arena.len(), arena.capacity())),
+        Do::Changes => text(rt, alloc, changes_met::<P, A>(rt, alloc)),
         other => look_at_links(rt, alloc, arena, other),
     }
 }
 
 // .. and to a look at links.
-fn look_at_links<A: ChainArenaTrait<ToolPtr, u32>>(
+fn look_at_links<P: Numbered, A: ChainArenaTrait<P, u32>>(
     rt: &impl Abort,
     alloc: Global,
     arena: &A,
@@ -230,15 +278,19 @@ fn look_at_links<A: ChainArenaTrait<ToolPtr, u32>>(
         Do::Link(p) => text(rt, alloc, arena.get_link(at(rt, p))),
         Do::LinkNoGen(p) => text(rt, alloc, arena.get_link_no_gen(at(rt, p))),
         Do::LinkNoGenInx(i) => text(rt, alloc, arena.get_inx_link_no_gen(index(rt, i))),
-        Do::Along(p) => text(rt, alloc, met(arena.advancer_chain(at(rt, p)), arena, 5)),
+        Do::Along(p) => {
+            let along = arena.advancer_chain(at(rt, p));
+            text(rt, alloc, met(rt, along, arena, 5))
+        }
         Do::AlongAll(p) => text(rt, alloc, walk_along(alloc, arena, at(rt, p))),
         Do::CountOfLinks => text(rt, alloc, count_of_links(arena)),
+        Do::All => text(rt, alloc, rows_of(rt, alloc, arena)),
         _ => text(rt, alloc, "no call of the traits"),
     }
 }
 
 // The answer to a call of the traits: to a change of links, ...
-pub(super) fn answer<A: ChainArenaTrait<ToolPtr, u32>>(
+pub(super) fn answer<P: Numbered, A: ChainArenaTrait<P, u32> + CompactArenaTrait<P, u32> + Drop>(
     rt: &impl Abort,
     alloc: Global,
     arena: &mut A,
@@ -246,6 +298,7 @@ pub(super) fn answer<A: ChainArenaTrait<ToolPtr, u32>>(
 ) -> String {
     match call {
         Do::Insert(k, t) => text(rt, alloc, arena.insert_reallocating(kind(rt, k), t)),
+        Do::InsertMany(n) => text(rt, alloc, insert_many(arena, n)),
         Do::InsertWithin(k, t) => text(rt, alloc, arena.insert_within_capacity(kind(rt, k), t)),
         Do::Connect(p, q) => text(rt, alloc, arena.connect(at(rt, p), at(rt, q))),
         Do::BreakPrev(p) => text(rt, alloc, arena.break_prev(at(rt, p))),
@@ -256,12 +309,14 @@ pub(super) fn answer<A: ChainArenaTrait<ToolPtr, u32>>(
         Do::Canonical(reset) => text(rt, alloc, arena.compress_canonical(reset)),
         Do::AddBehind(p, t) => text(rt, alloc, add_behind(arena, at(rt, p), t)),
         Do::TakeNext(i) => text(rt, alloc, take_next(arena, index(rt, i))),
+        Do::CarryOut(g) => carried_out(rt, alloc, arena, g),
+        Do::CarryKept(g) => carried_kept(rt, alloc, arena, g),
         other => change(rt, alloc, arena, other),
     }
 }
 
 // .. to a change of any arena, ...
-fn change<A: ChainArenaTrait<ToolPtr, u32>>(
+fn change<P: Numbered, A: ChainArenaTrait<P, u32> + Drop>(
     rt: &impl Abort,
     alloc: Global,
     arena: &mut A,
@@ -282,8 +337,26 @@ fn change<A: ChainArenaTrait<ToolPtr, u32>>(
     }
 }
 
+// An arena of links that answers calls.
+pub(super) trait Answers {
+    fn fresh(alloc: Global) -> Self;
+
+    fn answer(&mut self, rt: &impl Abort, alloc: Global, call: Do) -> String;
+}
+
+// Adds lone links, each with its index as its value, and ties each pair, the second after the first.
+fn begins<A: Answers>(rt: &impl Abort, alloc: Global, arena: &mut A, count: u32, pairs: &[At]) {
+    for k in 1..=count {
+        arena.answer(rt, alloc, Do::Insert(Kind::Disconnected, k));
+    }
+    for (i, j) in pairs {
+        let tied = arena.answer(rt, alloc, Do::Connect((*i, 2), (*j, 2)));
+        same(rt, "tied", tied.as_str(), "Some(())");
+    }
+}
+
 // Each line says its text, or shows its links.
-pub(super) fn plays<A: ChainArenaTrait<ToolPtr, u32>>(
+pub(super) fn plays<A: Answers>(
     rt: &impl Abort,
     alloc: Global,
     what: &str,
@@ -293,22 +366,41 @@ pub(super) fn plays<A: ChainArenaTrait<ToolPtr, u32>>(
     for line in lines {
         match *line {
             Line::Says(call, want) => {
-                let got = answer(rt, alloc, arena, call);
-                assert_eq!(rt; got.as_str(), want, "{what}");
+                let got = arena.answer(rt, alloc, call);
+                same(rt, what, got.as_str(), want);
             }
-            Line::Shows(want) => shows(rt, alloc, what, arena, want),
+            Line::Shows(want) => {
+                let got = arena.answer(rt, alloc, Do::All);
+                same(rt, what, got.as_str(), text(rt, alloc, want).as_str());
+            }
         }
     }
 }
 
 // The arena of a script after its lines.
-pub(super) fn played<A: ChainArenaTrait<ToolPtr, u32> + Drop>(
-    rt: &impl Abort,
-    alloc: Global,
-    script: Script,
-) -> A {
+pub(super) fn played<A: Answers>(rt: &impl Abort, alloc: Global, script: Script) -> A {
     let (what, count, pairs, lines) = script;
-    let mut arena: A = tied_links(rt, alloc, count, pairs);
+    let mut arena = A::fresh(alloc);
+    begins(rt, alloc, &mut arena, count, pairs);
     plays(rt, alloc, what, &mut arena, lines);
     arena
+}
+
+// Each script on a new arena.
+pub(super) fn plays_all<A: Answers + Drop>(rt: &impl Abort, alloc: Global, table: &[Script]) {
+    for script in table {
+        let _: A = played(rt, alloc, *script);
+    }
+}
+
+// Each script on a new arena, and lines that follow on it.
+pub(super) fn plays_on<A: Answers + Drop>(
+    rt: &impl Abort,
+    alloc: Global,
+    table: &[(Script, &[Line])],
+) {
+    for (script, lines) in table {
+        let mut arena: A = played(rt, alloc, *script);
+        plays(rt, alloc, script.0, &mut arena, lines);
+    }
 }

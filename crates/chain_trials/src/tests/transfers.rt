@@ -1,26 +1,34 @@
 //! Chains carried over to another arena.
 
+use super::pointers::{BarePtr, SmallPtr, WidePtr};
 use super::rows::{BY_LEAST_INDEX, INTERLEAVED, SCATTERED};
-use super::scripts::{Script, played};
-use super::{Chains, NONE, Row, chains, chains_show, generation, reads, same};
+use super::scripts::{Do, Kind, Line, Script, plays, plays_all};
+use super::{
+    Chains, Counted, LimitedChains, Numbered, Row, Slot, at, limited, lone_links, numbers, text,
+};
 use arena_base::{ArenaTrait, CompactArenaTrait};
-use arena_ptr::{Gen32, ReallocationError, ToolPtr};
-use chain_arena::ChainArenaTrait;
+use arena_ptr::{Gen32, LimitedStack, Ptr, ReallocationError, SlotStack};
+use chain_arena::{ChainArena, ChainArenaTrait};
 use std::alloc::Global;
 use std::process::Abort;
 
 // What a closure saw in a call: the pointer before, the value, whether its removal overflowed, and the pointer now.
-type Seen = Vec<(ToolPtr, u32, bool, ToolPtr)>;
+type Seen<P, Q> = Vec<(P, u32, bool, Q)>;
 
 // Carries all links of a source over, adds ten times the number of the closure's call to each value, and lists what the
 // closure saw.
-fn carry<A: ChainArenaTrait<ToolPtr, u32> + CompactArenaTrait<ToolPtr, u32>>(
+fn carry<
+    P: Ptr,
+    Q: Ptr,
+    A: ChainArenaTrait<P, u32> + CompactArenaTrait<P, u32>,
+    S: SlotStack<Item = Slot<Q>>,
+>(
     rt: &impl Abort,
     alloc: Global,
     source: &mut A,
-    generation: Gen32,
-    target: &mut Chains,
-) -> (Result<(), ReallocationError>, Seen) {
+    generation: Q::Gen,
+    target: &mut ChainArena<Q, u32, S>,
+) -> (Result<(), ReallocationError>, Seen<P, Q>) {
     let mut seen = Vec::new(alloc);
     let mut calls = 0u32;
     let answer = target.transfer_canonical_reallocating(generation, source, |p, value, q| {
@@ -32,73 +40,230 @@ fn carry<A: ChainArenaTrait<ToolPtr, u32> + CompactArenaTrait<ToolPtr, u32>>(
     (answer, seen)
 }
 
-// The links before, the generation of now, what is told, the links then, and the counter of the source.
-type Transfer = (Script, u32, &'static str, &'static [Row], u32);
+// All links of a chain arena, by rising index.
+pub(super) fn chain_rows<P: Numbered, S: SlotStack<Item = Slot<P>>>(
+    rt: &impl Abort,
+    alloc: Global,
+    arena: &ChainArena<P, u32, S>,
+) -> Vec<Row> {
+    let mut rows = Vec::new(alloc);
+    for (p, _) in arena {
+        let link = arena.get_link(p).expect(rt, "a valid pointer");
+        let (prev, next) = (numbers(rt, link.prev()), numbers(rt, link.next()));
+        rows.push((numbers(rt, Some(p)), *link.t, prev, next))
+            .expect(rt, "memory");
+    }
+    rows
+}
+
+// Carries all links of a source over to an arena of tool pointers that holds two links. Tells the answer, what the closure saw,
+// the links there then, and the counter.
+pub(super) fn carried_out<P: Ptr, A: ChainArenaTrait<P, u32> + CompactArenaTrait<P, u32>>(
+    rt: &impl Abort,
+    alloc: Global,
+    source: &mut A,
+    now: u32,
+) -> String {
+    let mut target: Chains = lone_links(rt, alloc, 2);
+    let told = carry(rt, alloc, source, Gen32::of(rt, now), &mut target);
+    let rows = chain_rows(rt, alloc, &target);
+    let counter = target.generation().number();
+    text(rt, alloc, (told, rows, counter))
+}
+
+// Carries all links of a source over to a new arena, the values as they are, and tells the links there then.
+pub(super) fn carried_kept<P: Numbered, A: ChainArenaTrait<P, u32> + CompactArenaTrait<P, u32>>(
+    rt: &impl Abort,
+    alloc: Global,
+    source: &mut A,
+    now: u32,
+) -> String {
+    let mut target: ChainArena<P, u32> = ChainArena::new(alloc);
+    let now = P::generation_of(rt, now);
+    let answer = target.transfer_canonical_reallocating(now, source, |_, v, _| v.overflowing().0);
+    assert!(rt; answer.is_ok());
+    text(rt, alloc, chain_rows(rt, alloc, &target))
+}
+
+// All that an arena shows: its links, its counter and its room.
+type Shown = (Vec<Row>, u32, usize, Option<usize>);
+
+fn shown<P: Numbered, S: SlotStack<Item = Slot<P>>>(
+    rt: &impl Abort,
+    alloc: Global,
+    arena: &ChainArena<P, u32, S>,
+) -> Shown {
+    let rows = chain_rows(rt, alloc, arena);
+    let counter = P::number_of(arena.generation());
+    (rows, counter, arena.capacity(), arena.max_capacity())
+}
+
+// Whether two arenas show the same.
+fn is_same(one: Shown, other: Shown) -> bool {
+    one.0.as_slice() == other.0.as_slice() && (one.1, one.2, one.3) == (other.1, other.2, other.3)
+}
+
+// Carries so many links of tool pointers over to an arena, of which the first comes after the third. Tells the answer, what the
+// closure saw, and whether both arenas show what they did.
+pub(super) fn carried_in<P: Numbered, S: SlotStack<Item = Slot<P>>>(
+    rt: &impl Abort,
+    alloc: Global,
+    target: &mut ChainArena<P, u32, S>,
+    count: u32,
+) -> String {
+    let mut source: Chains = lone_links(rt, alloc, count);
+    assert!(rt; source.connect(at(rt, (3, 2)), at(rt, (1, 2))).is_some());
+    let (there, here) = (shown(rt, alloc, &source), shown(rt, alloc, target));
+    let told = carry(rt, alloc, &mut source, P::generation_of(rt, 7), target);
+    let stays = is_same(there, shown(rt, alloc, &source));
+    let rests = is_same(here, shown(rt, alloc, target));
+    text(rt, alloc, (told, stays && rests))
+}
 
 // A chain of 3 and 1, and a lone link between them; and others.
-const TRANSFERS: [Transfer; 4] = [
+pub(super) const TRANSFERS: [(Script, &[Line]); 4] = [
     (
         BY_LEAST_INDEX,
-        7,
-        "(Ok(()), [(P0[3](2), 3, false, P0[1](7)), (P0[1](2), 1, false, P0[2](7)), (P0[2](2), 2, false, P0[3](7))])",
         &[
-            ((1, 7), 13, NONE, (2, 7)),
-            ((2, 7), 21, (1, 7), NONE),
-            ((3, 7), 32, NONE, NONE),
+            Line::Says(
+                Do::CarryOut(7),
+                "((Ok(()), [(P0[3](2), 3, false, P0[1](7)), (P0[1](2), 1, false, P0[2](7)), (P0[2](2), 2, false, P0[3](7))]), \
+                [((1, 7), 13, (0, 0), (2, 7)), ((2, 7), 21, (1, 7), (0, 0)), ((3, 7), 32, (0, 0), (0, 0))], 7)",
+            ),
+            Line::Says(Do::Len, "0"),
+            Line::Says(Do::Counter, "Some(Gen32 { number: 5 })"),
         ],
-        5,
     ),
     (
         SCATTERED,
-        4,
-        "(Ok(()), [(P0[2](2), 2, false, P0[1](4)), (P0[4](2), 4, false, P0[2](4)), (P0[1](3), 5, false, P0[3](4)), \
-        (P0[3](2), 3, false, P0[4](4))])",
         &[
-            ((1, 4), 12, NONE, (2, 4)),
-            ((2, 4), 24, (1, 4), (3, 4)),
-            ((3, 4), 35, (2, 4), NONE),
-            ((4, 4), 43, NONE, NONE),
+            Line::Says(
+                Do::CarryOut(4),
+                "((Ok(()), [(P0[2](2), 2, false, P0[1](4)), (P0[4](2), 4, false, P0[2](4)), (P0[1](3), 5, false, P0[3](4)), \
+                (P0[3](2), 3, false, P0[4](4))]), \
+                [((1, 4), 12, (0, 0), (2, 4)), ((2, 4), 24, (1, 4), (3, 4)), ((3, 4), 35, (2, 4), (0, 0)), \
+                ((4, 4), 43, (0, 0), (0, 0))], 4)",
+            ),
+            Line::Says(Do::Len, "0"),
+            Line::Says(Do::Counter, "Some(Gen32 { number: 7 })"),
         ],
-        7,
     ),
     (
         INTERLEAVED,
-        2,
-        "(Ok(()), [(P0[1](2), 1, false, P0[1](2)), (P0[4](2), 4, false, P0[2](2)), (P0[2](2), 2, false, P0[3](2)), \
-        (P0[3](2), 3, false, P0[4](2))])",
         &[
-            ((1, 2), 11, NONE, (2, 2)),
-            ((2, 2), 24, (1, 2), NONE),
-            ((3, 2), 32, (4, 2), (4, 2)),
-            ((4, 2), 43, (3, 2), (3, 2)),
+            Line::Says(
+                Do::CarryOut(2),
+                "((Ok(()), [(P0[1](2), 1, false, P0[1](2)), (P0[4](2), 4, false, P0[2](2)), (P0[2](2), 2, false, P0[3](2)), \
+                (P0[3](2), 3, false, P0[4](2))]), \
+                [((1, 2), 11, (0, 0), (2, 2)), ((2, 2), 24, (1, 2), (0, 0)), ((3, 2), 32, (4, 2), (4, 2)), \
+                ((4, 2), 43, (3, 2), (3, 2))], 2)",
+            ),
+            Line::Says(Do::Len, "0"),
+            Line::Says(Do::Counter, "Some(Gen32 { number: 6 })"),
         ],
-        6,
     ),
-    (("an empty source", 0, &[], &[]), 9, "(Ok(()), [])", &[], 2),
+    (
+        ("an empty source", 0, &[], &[]),
+        &[
+            Line::Says(Do::CarryOut(9), "((Ok(()), []), [], 9)"),
+            Line::Says(Do::Len, "0"),
+            Line::Says(Do::Counter, "Some(Gen32 { number: 2 })"),
+        ],
+    ),
 ];
 
-// Carries all links over to an arena that holds two, and looks at both.
-fn check_transfer<A: ChainArenaTrait<ToolPtr, u32> + CompactArenaTrait<ToolPtr, u32> + Drop>(
-    rt: &impl Abort,
-    alloc: Global,
-    transfer: Transfer,
-) {
-    let (script, now, want, rows, counter) = transfer;
-    let mut source: A = played(rt, alloc, script);
-    let mut target: Chains = chains(rt, alloc, 2, &[]);
-    let told = carry(rt, alloc, &mut source, generation(rt, now), &mut target);
-    reads(rt, alloc, script.0, told, want);
-    chains_show(rt, alloc, script.0, &target, rows);
-    same(rt, "counter", target.generation().get(), now);
-    let left = (source.len(), source.singular_generation());
-    same(rt, "the source", left, (0, Some(generation(rt, counter))));
+// A full arena with a maximum of two links, and one of 8 bits of index, before and after a maximum of two: the index type is
+// tested before the maximum, and nothing grows.
+const REFUSED: [(&str, &[Line]); 2] = [
+    (
+        "beyond the maximum",
+        &[Line::Says(Do::CarryIn(3), "((Err(BeyondMaxCapacity), []), true)")],
+    ),
+    (
+        "beyond the index type",
+        &[
+            Line::Says(
+                Do::Insert(Kind::SingleLinkCyclic, 5),
+                "Ok(Pair { inx: Inx8 { number: 1 }, generation: () })",
+            ),
+            Line::Says(Do::CarryIn(256), "((Err(AllocError), []), true)"),
+        ],
+    ),
+];
+
+#[test]
+fn refused_transfers(rt: HostRuntime) {
+    let [(beyond, lines), (type_too_small, rows)] = REFUSED;
+    let mut full: LimitedChains = limited(&rt, rt.alloc(), 2, 2);
+    plays(&rt, rt.alloc(), beyond, &mut full, lines);
+    let mut bare: ChainArena<BarePtr, u32> = ChainArena::new(rt.alloc());
+    plays(&rt, rt.alloc(), type_too_small, &mut bare, rows);
+    let mut bare: ChainArena<BarePtr, u32, LimitedStack<Slot<BarePtr>>> = limited(
+        &rt,
+        rt.alloc(),
+        2,
+        0,
+    );
+    plays(&rt, rt.alloc(), type_too_small, &mut bare, rows);
 }
 
-// Each transfer, out of any arena.
-pub(super) fn check_transfers<
-    A: ChainArenaTrait<ToolPtr, u32> + CompactArenaTrait<ToolPtr, u32> + Drop,
->(rt: &impl Abort, alloc: Global) {
-    for transfer in TRANSFERS {
-        check_transfer::<A>(rt, alloc, transfer);
-    }
+// The second removal overflows the counter.
+const AT_THE_GREATEST_GENERATION: Script = (
+    "the greatest generation",
+    0,
+    &[],
+    &[
+        Line::Says(Do::SetGeneration(254), "()"),
+        Line::Says(Do::InsertMany(2), "2"),
+        Line::Says(
+            Do::CarryOut(2),
+            "((Ok(()), [(Pair { inx: Inx8 { number: 1 }, generation: Gen8 { number: 254 } }, 1, false, P0[1](2)), \
+            (Pair { inx: Inx8 { number: 2 }, generation: Gen8 { number: 254 } }, 2, true, P0[2](2))]), \
+            [((1, 2), 11, (0, 0), (0, 0)), ((2, 2), 22, (0, 0), (0, 0))], 2)",
+        ),
+        Line::Says(Do::Len, "0"),
+        Line::Says(Do::Generation, "2"),
+    ],
+);
+
+// A chain of 3 and 1, and a lone link between them.
+const WIDE: Script = (
+    "wide indexes",
+    3,
+    &[(3, 1)],
+    &[
+        Line::Says(
+            Do::CarryOut(7),
+            "((Ok(()), [(Pair { inx: Inx64 { number: 3 }, generation: Gen32 { number: 2 } }, 3, false, P0[1](7)), \
+            (Pair { inx: Inx64 { number: 1 }, generation: Gen32 { number: 2 } }, 1, false, P0[2](7)), \
+            (Pair { inx: Inx64 { number: 2 }, generation: Gen32 { number: 2 } }, 2, false, P0[3](7))]), \
+            [((1, 7), 13, (0, 0), (2, 7)), ((2, 7), 21, (1, 7), (0, 0)), ((3, 7), 32, (0, 0), (0, 0))], 7)",
+        ),
+        Line::Says(Do::Len, "0"),
+        Line::Says(Do::Generation, "5"),
+    ],
+);
+
+// A ring of two.
+const WITHOUT_GENERATIONS: Script = (
+    "no generations",
+    2,
+    &[(1, 2), (2, 1)],
+    &[
+        Line::Says(
+            Do::CarryOut(3),
+            "((Ok(()), [(Pair { inx: Inx8 { number: 1 }, generation: () }, 1, false, P0[1](3)), \
+            (Pair { inx: Inx8 { number: 2 }, generation: () }, 2, false, P0[2](3))]), \
+            [((1, 3), 11, (2, 3), (2, 3)), ((2, 3), 22, (1, 3), (1, 3))], 3)",
+        ),
+        Line::Says(Do::Len, "0"),
+        Line::Says(Do::Counter, "Some(())"),
+    ],
+);
+
+#[test]
+fn transfers_of_other_pointers(rt: HostRuntime) {
+    plays_all::<ChainArena<SmallPtr, u32>>(&rt, rt.alloc(), &[AT_THE_GREATEST_GENERATION]);
+    plays_all::<ChainArena<WidePtr, u32, LimitedStack<Slot<WidePtr>>>>(&rt, rt.alloc(), &[WIDE]);
+    plays_all::<ChainArena<BarePtr, u32>>(&rt, rt.alloc(), &[WITHOUT_GENERATIONS]);
 }

@@ -1,6 +1,7 @@
 //! Plain arenas of links, of which those whose interlinks agree become chain arenas.
 
-use super::{At, Chains, NONE, Row, at, same, shows, shows_and_goes_on};
+use super::scripts::{Do, Kind, Line, plays};
+use super::{At, Chains, NONE, at, same};
 use arena_base::{Arena, ArenaTrait};
 use arena_ptr::{Inx32, ToolPtr};
 use chain_arena::{LinkBody, LinkNoGen, links_agree};
@@ -63,28 +64,29 @@ fn an_interlink_to_a_freed_index(rt: HostRuntime) {
     same(&rt, "the interlinks", links_agree(&arena), false);
 }
 
-// A row of two and a ring of one, between which two links are gone.
-const LEFT: [Row; 3] = [
-    ((1, 2), 7, NONE, (3, 2)),
-    ((3, 2), 7, (1, 2), NONE),
-    ((5, 2), 7, (5, 2), (5, 2)),
-];
-
-// .. of which the last freed index is used first.
-const ONE_MORE: [Row; 4] = [
-    ((1, 2), 7, NONE, (3, 2)),
-    ((2, 4), 9, NONE, NONE),
-    ((3, 2), 7, (1, 2), NONE),
-    ((5, 2), 7, (5, 2), (5, 2)),
-];
-
-// .. and the other one next.
-const TWO_MORE: [Row; 5] = [
-    ((1, 2), 7, NONE, (3, 2)),
-    ((2, 4), 9, NONE, NONE),
-    ((3, 2), 7, (1, 2), NONE),
-    ((4, 4), 9, NONE, NONE),
-    ((5, 2), 7, (5, 2), (5, 2)),
+// A row of two and a ring of one, between which two links are gone, of which the last freed index is used first, and the other
+// one next.
+const ACCEPTED: [Line; 5] = [
+    Line::Shows(&[
+        ((1, 2), 7, NONE, (3, 2)),
+        ((3, 2), 7, (1, 2), NONE),
+        ((5, 2), 7, (5, 2), (5, 2)),
+    ]),
+    Line::Says(Do::Insert(Kind::Disconnected, 9), "Ok(P0[2](4))"),
+    Line::Shows(&[
+        ((1, 2), 7, NONE, (3, 2)),
+        ((2, 4), 9, NONE, NONE),
+        ((3, 2), 7, (1, 2), NONE),
+        ((5, 2), 7, (5, 2), (5, 2)),
+    ]),
+    Line::Says(Do::Insert(Kind::Disconnected, 9), "Ok(P0[4](4))"),
+    Line::Shows(&[
+        ((1, 2), 7, NONE, (3, 2)),
+        ((2, 4), 9, NONE, NONE),
+        ((3, 2), 7, (1, 2), NONE),
+        ((4, 4), 9, NONE, NONE),
+        ((5, 2), 7, (5, 2), (5, 2)),
+    ]),
 ];
 
 // Indexes, generations and interlinks stay, and so do the counter and the freed list.
@@ -96,7 +98,5 @@ fn what_is_accepted_stays(rt: HostRuntime) {
         same(&rt, "gone", gone.is_some(), true);
     }
     let mut arena = Chains::from_arena(arena).expect(&rt, "interlinks that agree");
-    shows_and_goes_on(&rt, rt.alloc(), &mut arena, &LEFT, (2, 4));
-    shows_and_goes_on(&rt, rt.alloc(), &mut arena, &ONE_MORE, (4, 4));
-    shows(&rt, rt.alloc(), "all links", &arena, &TWO_MORE);
+    plays(&rt, rt.alloc(), "accepted", &mut arena, &ACCEPTED);
 }

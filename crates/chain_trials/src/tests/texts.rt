@@ -1,16 +1,15 @@
 //! The texts of links and of arenas of links.
 
 use super::pointers::BarePtr;
-use super::{at, generation, index, put, same};
-use arena_base::ArenaTrait;
-use arena_ptr::{Ptr, ToolPtr};
-use chain_arena::{ChainArena, ChainArenaTrait, Link, LinkInsertKind, LinkNoGen};
+use super::scripts::Kind;
+use super::steps::{Step, after};
+use super::{at, index, same};
+use arena_ptr::{Inx32, ToolPtr};
+use chain_arena::{Link, LinkNoGen};
 use std::alloc::Global;
 use std::fmt;
 use std::fmt::{Debug, Display};
 use std::process::Abort;
-
-type Words = ChainArena<ToolPtr, String>;
 
 // A value that tells what of a format reaches it: an alternate mark by `#`, and anything else by `!`.
 #[derive(Clone, Copy)]
@@ -70,49 +69,42 @@ fn wide_reads<T: Debug + Display>(
     same(rt, "by display, in a width", text.as_str(), display);
 }
 
-// Adds a link of a text.
-fn put_word(
-    rt: &impl Abort,
-    alloc: Global,
-    arena: &mut Words,
-    kind: LinkInsertKind<ToolPtr>,
-    text: &str,
-) -> ToolPtr {
-    let word = String::from_str(alloc, text).expect(rt, "memory");
-    put(rt, arena, kind, word)
+// Steps with words as values.
+fn with_words(rt: &impl Abort, alloc: Global, steps: &[Step<&str>]) -> Vec<Step<String>> {
+    let mut owned = Vec::new(alloc);
+    for step in steps {
+        let step = match step {
+            Step::Add(kind, word) => {
+                Step::Add(*kind, String::from_str(alloc, word).expect(rt, "memory"))
+            }
+            Step::Remove(p) => Step::Remove(*p),
+            Step::Count(g) => Step::Count(*g),
+        };
+        owned.push(step).expect(rt, "memory");
+    }
+    owned
 }
 
-#[test]
-fn an_arena_without_links_and_one_with_two(rt: HostRuntime) {
-    let alloc = rt.alloc();
-    let mut arena: Words = ChainArena::new(alloc);
-    debug_reads(&rt, alloc, &arena, "{}", "{}");
-    let a = put_word(&rt, alloc, &mut arena, LinkInsertKind::Disconnected, "A");
-    let b = put_word(&rt, alloc, &mut arena, LinkInsertKind::Disconnected, "B");
-    same(&rt, "tied", arena.connect(a, b), Some(()));
-    debug_reads(
-        &rt,
-        alloc,
-        &arena,
+// Arenas of words, and their texts: no link, two, scattered chains with a line for each link, and a generation in hexadecimal.
+const WORDS: [(&[Step<&str>], &str, &str); 4] = [
+    (&[], "{}", "{}"),
+    (
+        &[
+            Step::Add(Kind::Disconnected, "A"),
+            Step::Add(Kind::ChainEnd((1, 2)), "B"),
+        ],
         "{P0[1](2): {(start), 2} \"A\", P0[2](2): {1, (end)} \"B\"}",
         "{\n    P0[1](2): {(start), 2} \"A\",\n    P0[2](2): {1, (end)} \"B\",\n}",
-    );
-}
-
-#[test]
-fn scattered_chains_have_a_line_each(rt: HostRuntime) {
-    let alloc = rt.alloc();
-    let mut arena: Words = ChainArena::new(alloc);
-    let x = put_word(&rt, alloc, &mut arena, LinkInsertKind::Disconnected, "X");
-    let a = put_word(&rt, alloc, &mut arena, LinkInsertKind::Disconnected, "A");
-    put_word(&rt, alloc, &mut arena, LinkInsertKind::ChainEnd(x), "Y");
-    let b = put_word(&rt, alloc, &mut arena, LinkInsertKind::ChainEnd(a), "B");
-    let _ = arena.remove(x);
-    put_word(&rt, alloc, &mut arena, LinkInsertKind::ChainEnd(b), "C");
-    debug_reads(
-        &rt,
-        alloc,
-        &arena,
+    ),
+    (
+        &[
+            Step::Add(Kind::Disconnected, "X"),
+            Step::Add(Kind::Disconnected, "A"),
+            Step::Add(Kind::ChainEnd((1, 2)), "Y"),
+            Step::Add(Kind::ChainEnd((2, 2)), "B"),
+            Step::Remove((1, 2)),
+            Step::Add(Kind::ChainEnd((4, 2)), "C"),
+        ],
         "{P0[1](3): {4, (end)} \"C\", P0[2](2): {(start), 4} \"A\", P0[3](2): {(start), (end)} \"Y\", \
         P0[4](2): {2, 1} \"B\"}",
         "{
@@ -121,7 +113,21 @@ fn scattered_chains_have_a_line_each(rt: HostRuntime) {
     P0[3](2): {(start), (end)} \"Y\",
     P0[4](2): {2, 1} \"B\",
 }",
-    );
+    ),
+    (
+        &[Step::Count(26), Step::Add(Kind::SingleLinkCyclic, "A")],
+        "{P0[1](1a): {1, 1} \"A\"}",
+        "{\n    P0[1](1a): {1, 1} \"A\",\n}",
+    ),
+];
+
+#[test]
+fn arenas_of_words(rt: HostRuntime) {
+    for (steps, plain, sharp) in WORDS {
+        let words = with_words(&rt, rt.alloc(), steps);
+        let arena = after::<ToolPtr, String>(&rt, rt.alloc(), words);
+        debug_reads(&rt, rt.alloc(), &arena, plain, sharp);
+    }
 }
 
 // Both forms, which for these values are the same.
@@ -139,9 +145,12 @@ fn link_reads<T: Debug + Display>(
 #[test]
 fn links_show_indexes_in_hexadecimal(rt: HostRuntime) {
     let alloc = rt.alloc();
-    let end = LinkNoGen::<ToolPtr, u32>::new((Some(index(&rt, 10)), None), 7);
+    let end = LinkNoGen::<ToolPtr, u32>::new((Some(index::<Inx32>(&rt, 10)), None), 7);
     link_reads(&rt, alloc, &end, "{a, (end)} 7", "{a, (end)} 7");
-    let beside = (Some(at(&rt, (26, 11))), Some(at(&rt, (0xabcdef, 3))));
+    let beside = (
+        Some(at::<ToolPtr>(&rt, (26, 11))),
+        Some(at::<ToolPtr>(&rt, (0xabcdef, 3))),
+    );
     let between = Link::new(beside, "B");
     let (debug, display) = ("{1a, abcdef} \"B\"", "{1a, abcdef} B");
     link_reads(&rt, alloc, &between, debug, display);
@@ -166,7 +175,7 @@ fn only_the_alternate_mark_reaches_the_value_of_a_link(rt: HostRuntime) {
         "{(start), (end)} display#",
     ];
     teller_reads(&rt, rt.alloc(), &lone, texts);
-    let first: Link<ToolPtr, Teller> = Link::new((None, Some(at(&rt, (1, 2)))), Teller);
+    let first: Link<ToolPtr, Teller> = Link::new((None, Some(at::<ToolPtr>(&rt, (1, 2)))), Teller);
     let texts = [
         "{(start), 1} debug",
         "{(start), 1} debug#",
@@ -178,35 +187,15 @@ fn only_the_alternate_mark_reaches_the_value_of_a_link(rt: HostRuntime) {
 
 #[test]
 fn pointers_without_a_generation_show_none(rt: HostRuntime) {
-    let mut arena: ChainArena<BarePtr, Teller> = ChainArena::new(rt.alloc());
-    let first = put(&rt, &mut arena, LinkInsertKind::Disconnected, Teller);
-    put(&rt, &mut arena, LinkInsertKind::ChainEnd(first), Teller);
+    let first = Step::Add(Kind::Disconnected, Teller);
+    let second = Step::Add(Kind::ChainEnd((1, 0)), Teller);
+    let steps = Vec::from_array(rt.alloc(), [first, second]).expect(&rt, "memory");
+    let arena = after::<BarePtr, Teller>(&rt, rt.alloc(), steps);
     debug_reads(
         &rt,
         rt.alloc(),
         &arena,
         "{Bare[1]: {(start), 2} debug, Bare[2]: {1, (end)} debug}",
         "{\n    Bare[1]: {(start), 2} debug#,\n    Bare[2]: {1, (end)} debug#,\n}",
-    );
-}
-
-#[test]
-fn generations_are_hexadecimal(rt: HostRuntime) {
-    let alloc = rt.alloc();
-    let mut arena: Words = ChainArena::new(alloc);
-    arena.set_generation(generation(&rt, 26));
-    put_word(
-        &rt,
-        alloc,
-        &mut arena,
-        LinkInsertKind::SingleLinkCyclic,
-        "A",
-    );
-    debug_reads(
-        &rt,
-        alloc,
-        &arena,
-        "{P0[1](1a): {1, 1} \"A\"}",
-        "{\n    P0[1](1a): {1, 1} \"A\",\n}",
     );
 }

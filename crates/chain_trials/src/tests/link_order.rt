@@ -82,8 +82,8 @@ fn links_go_by_their_neighbors_then_by_their_values(rt: HostRuntime) {
 
 #[test]
 fn the_generation_of_a_neighbor_counts_until_it_is_taken_off(rt: HostRuntime) {
-    let old = Link::new((Some(at(&rt, (1, 2))), None), 7);
-    let new = Link::new((Some(at(&rt, (1, 3))), None), 7);
+    let old = Link::new((Some(at::<ToolPtr>(&rt, (1, 2))), None), 7);
+    let new = Link::new((Some(at::<ToolPtr>(&rt, (1, 3))), None), 7);
     assert!(rt; is_below(&old, &new));
     assert!(rt; is_same(&old.no_gen_ref(), &new.no_gen_ref()));
     assert!(rt; is_same(&old.no_gen(), &new.no_gen()));

@@ -3,7 +3,7 @@ ghost use Rattle.std.specs.Prelude.{◌≡◌};
 
 use super::{at, index, same};
 use arena_base::ArenaSlot;
-use arena_ptr::{Ptr, ToolPtr};
+use arena_ptr::{Inx32, Ptr, ToolPtr};
 use chain_arena::{Link, LinkNoGen};
 
 // A slot of links: the tag, the generation, the two interlinks, the destination and the value, four bytes each.
@@ -24,12 +24,15 @@ fn twice<P: Ptr, T: Copy>(link: LinkNoGen<P, T>) -> (LinkNoGen<P, T>, LinkNoGen<
 #[test]
 fn links_show_their_parts_and_are_copied(rt: HostRuntime) {
     same(&rt, "bytes", slot_size(), 24);
-    let (i, j) = (Some(index(&rt, 5)), Some(index(&rt, 9)));
+    let (i, j) = (Some(index::<Inx32>(&rt, 5)), Some(index::<Inx32>(&rt, 9)));
     let (link, again) = twice::<ToolPtr, u8>(LinkNoGen::<ToolPtr, u8>::new((i, j), 7));
     let parts = (link.prev(), link.next(), link.prev_next(), link.t);
     same(&rt, "without generations", parts, (i, j, (i, j), 7));
     same(&rt, "copied", (again.prev_next(), again.t), ((i, j), 7));
-    let (p, q) = (Some(at(&rt, (5, 2))), Some(at(&rt, (9, 2))));
+    let (p, q) = (
+        Some(at::<ToolPtr>(&rt, (5, 2))),
+        Some(at::<ToolPtr>(&rt, (9, 2))),
+    );
     let link = Link::new((p, q), 'a');
     let parts = (link.prev(), link.next(), link.prev_next(), link.t);
     same(&rt, "with generations", parts, (p, q, (p, q), 'a'));

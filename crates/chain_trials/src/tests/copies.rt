@@ -1,0 +1,212 @@
+//! Copies of chain arenas: what they have, what their closures saw, and when one is refused.
+
+use super::scripts::{Do, Kind, Line, Script, plays, plays_on};
+use super::transfers::chain_rows;
+use super::{
+    Chains, LimitedChains, NONE, Numbered, Slot, at, limited, lone_links, put, same, text,
+};
+use arena_base::{Arena, ArenaSlot, ArenaTrait};
+use arena_ptr::{LimitedStack, Ptr, ReallocationError, SetMaxCapacity, SlotStack, ToolPtr};
+use chain_arena::{ChainArena, ChainArenaTrait, LinkInsertKind, LinkNoGen};
+use std::alloc::{AllocError, Global};
+use std::fmt::Debug;
+use std::process::Abort;
+
+// The links of a clone, the pointer of the next one there, and the maximum.
+pub(super) fn cloned<P: Numbered, S: SlotStack<Item = Slot<P>>>(
+    rt: &impl Abort,
+    alloc: Global,
+    arena: &ChainArena<P, u32, S>,
+) -> String {
+    let mut copy = arena.clone(alloc).expect(rt, "memory");
+    let rows = chain_rows(rt, alloc, &copy);
+    let next = copy.insert_reallocating(LinkInsertKind::Disconnected, 9);
+    text(rt, alloc, (rows, next, copy.max_capacity()))
+}
+
+// A chain of the links 1, 2 and 3, of which the second is removed.
+fn with_a_hole<P: Numbered>(rt: &impl Abort, alloc: Global) -> ChainArena<P, u32> {
+    let mut arena: ChainArena<P, u32> = lone_links(rt, alloc, 3);
+    for (i, j) in [(1, 2), (2, 3)] {
+        let tied = arena.connect(at(rt, (i, 2)), at(rt, (j, 2)));
+        assert!(rt; tied.is_some());
+    }
+    arena.remove(at(rt, (2, 2)));
+    arena
+}
+
+// What a closure saw of a copied link.
+type Seen<P> = Vec<(P, LinkNoGen<P, u32>)>;
+
+// Copies the links 1 and 3 with a hole between them, and tells what the closure saw. It answers ten times the number of its
+// call with the value added.
+pub(super) fn copied_over<P: Numbered, S: SlotStack<Item = Slot<P>>>(
+    rt: &impl Abort,
+    alloc: Global,
+    target: &mut ChainArena<P, u32, S>,
+) -> String {
+    let source = with_a_hole(rt, alloc);
+    let mut seen = Vec::new(alloc);
+    let mut calls = 0u32;
+    let answer = target.clone_from_with(&source, |p, link: &LinkNoGen<P, u32>| {
+        seen.push((p, *link)).expect(rt, "memory");
+        calls = calls.saturating_add(10);
+        link.t.saturating_add(calls)
+    });
+    text(rt, alloc, (answer, seen))
+}
+
+// .. an arena to a plain one.
+fn copied_plain<P: Ptr, R: SlotStack<Item = Slot<P>>, S: SlotStack<Item = ArenaSlot<P, u32>>>(
+    rt: &impl Abort,
+    alloc: Global,
+    source: &ChainArena<P, u32, R>,
+    target: &mut Arena<P, u32, S>,
+) -> (Result<(), ReallocationError>, Seen<P>) {
+    let mut seen = Vec::new(alloc);
+    let mut calls = 0u32;
+    let answer = source.clone_to_arena(target, |p, link: &LinkNoGen<P, u32>| {
+        seen.push((p, *link)).expect(rt, "memory");
+        calls = calls.saturating_add(10);
+        link.t.saturating_add(calls)
+    });
+    (answer, seen)
+}
+
+// .. to a new one, and tells its entries, and the pointer of the next one there.
+pub(super) fn copied_to_plain<P: Ptr, S: SlotStack<Item = Slot<P>>>(
+    rt: &impl Abort,
+    alloc: Global,
+    source: &ChainArena<P, u32, S>,
+) -> String {
+    let mut target: Arena<P, u32> = Arena::new(alloc);
+    let told = copied_plain(rt, alloc, source, &mut target);
+    let mut entries = Vec::new(alloc);
+    for (p, t) in &target {
+        entries.push((p, *t)).expect(rt, "memory");
+    }
+    let next = target.insert_reallocating(9);
+    text(rt, alloc, (told, entries, next))
+}
+
+// A row of three whose second is gone.
+const HOLE: Script = (
+    "a row of three without the second",
+    3,
+    &[(1, 2), (2, 3)],
+    &[Line::Says(Do::Remove((2, 2)), "Success(2)")],
+);
+
+const COPIES: [(Script, &[Line]); 3] = [
+    (
+        HOLE,
+        &[
+            Line::Says(
+                Do::Clone,
+                "([((1, 2), 1, (0, 0), (3, 2)), ((3, 2), 3, (1, 2), (0, 0))], Ok(P0[2](3)), None)",
+            ),
+            Line::Shows(&[((1, 2), 1, NONE, (3, 2)), ((3, 2), 3, (1, 2), NONE)]),
+            Line::Says(Do::Insert(Kind::Disconnected, 9), "Ok(P0[2](3))"),
+        ],
+    ),
+    (
+        HOLE,
+        &[Line::Says(
+            Do::CopyToPlain,
+            "((Ok(()), [(P0[1](2), {(start), 3} 1), (P0[3](2), {1, (end)} 3)]), \
+                [(P0[1](2), 11), (P0[3](2), 23)], Ok(P0[2](3)))",
+        )],
+    ),
+    (
+        ("over two rings of one", 2, &[(1, 1), (2, 2)], &[]),
+        &[
+            Line::Says(
+                Do::CopyOver,
+                "(Ok(()), [(P0[1](2), {(start), 3} 1), (P0[3](2), {1, (end)} 3)])",
+            ),
+            Line::Shows(&[((1, 2), 11, NONE, (3, 2)), ((3, 2), 23, (1, 2), NONE)]),
+            Line::Says(Do::Insert(Kind::Disconnected, 9), "Ok(P0[2](3))"),
+        ],
+    ),
+];
+
+#[test]
+fn copies_over_both_stacks(rt: HostRuntime) {
+    plays_on::<Chains>(&rt, rt.alloc(), &COPIES);
+    plays_on::<LimitedChains>(&rt, rt.alloc(), &COPIES);
+}
+
+// A maximum is not carried over, and a copy of three slots is refused where there may be two.
+const IN_TWO_SLOTS: [Line; 5] = [
+    Line::Says(Do::Maximum, "Some(2)"),
+    Line::Says(
+        Do::Clone,
+        "([((1, 2), 1, (0, 0), (0, 0))], Ok(P0[2](2)), None)",
+    ),
+    Line::Says(Do::CopyOver, "(Err(BeyondMaxCapacity), [])"),
+    Line::Shows(&[((1, 2), 1, NONE, NONE)]),
+    Line::Says(Do::Maximum, "Some(2)"),
+];
+
+#[test]
+fn copies_beyond_the_maximum(rt: HostRuntime) {
+    let mut arena: LimitedChains = limited(&rt, rt.alloc(), 2, 1);
+    plays(&rt, rt.alloc(), "two slots", &mut arena, &IN_TWO_SLOTS);
+    let mut target: Arena<ToolPtr, u32, LimitedStack<ArenaSlot<ToolPtr, u32>>> = Arena::new(
+        rt.alloc(),
+    );
+    same(&rt, "a maximum", target.set_max_capacity(2), Ok(()));
+    let source = with_a_hole(&rt, rt.alloc());
+    let told = copied_plain(&rt, rt.alloc(), &source, &mut target);
+    same(
+        &rt,
+        "told",
+        told.0,
+        Err(ReallocationError::BeyondMaxCapacity),
+    );
+    same(&rt, "seen", told.1.len(), 0);
+    let next = target.insert_reallocating(6);
+    same(&rt, "the target", next, Ok(at(&rt, (1, 2))));
+}
+
+// A value whose clone is refused, where it is 2.
+#[derive(Debug, PartialEq, Drop)]
+struct Refusing(u32);
+
+impl Clone for Refusing {
+    ghost use Rattle.std.specs.Prelude.{◌≡◌};
+
+    ghost is_clone = { λ x y. y ≡ x };
+
+    fn clone(&self) -> Result<Refusing, AllocError> {
+        if self.0 == 2 {
+            return Err(AllocError);
+        }
+        Ok(Refusing(self.0))
+    }
+}
+
+// An arena of two values, of which the second refuses: how its clone is refused, the second value, which is removed, and the
+// first link and the length of the clone then.
+fn cloned_once_more<P: Ptr, T: Clone + Debug + Drop>(
+    rt: &impl Abort,
+    alloc: Global,
+    first: T,
+    second: T,
+) -> String {
+    let mut arena: ChainArena<P, T> = ChainArena::new(alloc);
+    let p = put(rt, &mut arena, LinkInsertKind::Disconnected, first);
+    let q = put(rt, &mut arena, LinkInsertKind::Disconnected, second);
+    let refused = arena.clone(alloc).err();
+    let second = arena.remove(q);
+    let copy = arena.clone(alloc).expect(rt, "memory");
+    let told = (refused, second, copy.get_link_no_gen(p), copy.len());
+    text(rt, alloc, told)
+}
+
+#[test]
+fn a_clone_of_a_value_is_refused(rt: HostRuntime) {
+    let told = cloned_once_more::<ToolPtr, Refusing>(&rt, rt.alloc(), Refusing(1), Refusing(2));
+    let want = "(Some(AllocError), Success(Refusing(2)), Some({(start), (end)} Refusing(1)), 1)";
+    same(&rt, "nothing is lost", told.as_str(), want);
+}

@@ -1,0 +1,186 @@
+//! The greatest index, the greatest generation, a maximum, and pointers without generations.
+
+use super::pointers::{BarePtr, SmallPtr, TinyPtr};
+use super::same;
+use super::scripts::{Do, Kind, Line, Script, plays_all};
+use arena_base::{ArenaSlot, ArenaTrait};
+use arena_ptr::{LimitStack, LimitedStack, SetMaxCapacity};
+use chain_arena::{ChainArena, ChainArenaTrait, LinkInsertKind, LinkNoGen};
+use std::alloc::Global;
+use std::process::Abort;
+use std::rc::Rc;
+
+// A lone link.
+const LONE: Kind = Kind::Disconnected;
+
+const FIRST: &str = "Ok(Pair { inx: Inx8 { number: 1 }, generation: () })";
+
+const SECOND: &str = "Ok(Pair { inx: Inx8 { number: 2 }, generation: () })";
+
+// An index of 8 bits.
+const INDEXES: [Script; 4] = [
+    (
+        "255 links fill it",
+        0,
+        &[],
+        &[
+            Line::Says(Do::InsertMany(255), "255"),
+            Line::Says(Do::Room, "(255, 255)"),
+            Line::Says(Do::Insert(LONE, 256), "Err(AllocError)"),
+            Line::Says(Do::Reserve(256), "Err(AllocError)"),
+            Line::Says(Do::Room, "(255, 255)"),
+        ],
+    ),
+    (
+        "room up to the greatest index is to be had, though in proportion it would be more, and at birth",
+        0,
+        &[],
+        &[
+            Line::Says(Do::Reserve(255), "Ok(())"),
+            Line::Says(Do::Room, "(0, 255)"),
+            Line::Says(Do::Birth(200), "(true, true)"),
+            Line::Says(Do::Birth(255), "(true, true)"),
+        ],
+    ),
+    (
+        ".. beside a link",
+        1,
+        &[],
+        &[
+            Line::Says(Do::Reserve(255), "Ok(())"),
+            Line::Says(Do::Room, "(1, 255)"),
+        ],
+    ),
+    (
+        "a ring of two loses a link, and the pointer to a new one at the freed index equals that of the lost one",
+        0,
+        &[],
+        &[
+            Line::Says(Do::Insert(LONE, 1), FIRST),
+            Line::Says(Do::Insert(LONE, 2), SECOND),
+            Line::Says(Do::Connect((1, 0), (2, 0)), "Some(())"),
+            Line::Says(Do::Connect((2, 0), (1, 0)), "Some(())"),
+            Line::Says(Do::Debug, "{Bare[1]: {2, 2} 1, Bare[2]: {1, 1} 2}"),
+            Line::Says(Do::Remove((2, 0)), "Success(2)"),
+            Line::Says(Do::Link((2, 0)), "None"),
+            Line::Says(Do::Debug, "{Bare[1]: {1, 1} 1}"),
+            Line::Says(Do::Insert(LONE, 9), SECOND),
+            Line::Says(Do::Link((2, 0)), "Some({(start), (end)} 9)"),
+            Line::Says(
+                Do::Debug,
+                "{Bare[1]: {1, 1} 1, Bare[2]: {(start), (end)} 9}",
+            ),
+        ],
+    ),
+];
+
+// A generation of 8 bits.
+const GENERATIONS: [Script; 2] = [
+    (
+        "the counter overflows by a removal, and once more by a clear; a clear of no links leaves it",
+        0,
+        &[],
+        &[
+            Line::Says(
+                Do::Insert(LONE, 1),
+                "Ok(Pair { inx: Inx8 { number: 1 }, generation: Gen8 { number: 2 } })",
+            ),
+            Line::Says(
+                Do::Insert(LONE, 2),
+                "Ok(Pair { inx: Inx8 { number: 2 }, generation: Gen8 { number: 2 } })",
+            ),
+            Line::Says(Do::SetGeneration(255), "()"),
+            Line::Says(Do::Generation, "255"),
+            Line::Says(Do::Remove((1, 2)), "GenerationOverflow(1)"),
+            Line::Says(Do::Generation, "2"),
+            Line::Says(Do::IncGeneration, "Success(())"),
+            Line::Says(Do::Generation, "3"),
+            Line::Says(Do::SetGeneration(255), "()"),
+            Line::Says(Do::Clear, "GenerationOverflow(())"),
+            Line::Says(Do::Clear, "Success(())"),
+            Line::Says(Do::Generation, "2"),
+        ],
+    ),
+    (
+        ".. and by a compression, after which each link has the counter",
+        0,
+        &[],
+        &[
+            Line::Says(Do::SetGeneration(255), "()"),
+            Line::Says(
+                Do::Insert(LONE, 1),
+                "Ok(Pair { inx: Inx8 { number: 1 }, generation: Gen8 { number: 255 } })",
+            ),
+            Line::Says(
+                Do::Insert(LONE, 2),
+                "Ok(Pair { inx: Inx8 { number: 2 }, generation: Gen8 { number: 255 } })",
+            ),
+            Line::Says(Do::Canonical(false), "GenerationOverflow(())"),
+            Line::Says(Do::Generation, "2"),
+            Line::Says(
+                Do::Debug,
+                "{Bare[1](2): {(start), (end)} 1, Bare[2](2): {(start), (end)} 2}",
+            ),
+        ],
+    ),
+];
+
+// An index of one bit.
+const TWO_INDEXES: [Script; 1] = [(
+    "two links stand, are tied to a ring, and a third one is refused for want of an index, by the call and as a value",
+    0,
+    &[],
+    &[
+        Line::Says(Do::Room, "(0, 0)"),
+        Line::Says(
+            Do::Insert(LONE, 1),
+            "Ok(Pair { inx: TinyInx { is_two: false }, generation: () })",
+        ),
+        Line::Says(
+            Do::Insert(LONE, 2),
+            "Ok(Pair { inx: TinyInx { is_two: true }, generation: () })",
+        ),
+        Line::Says(Do::Connect((1, 0), (2, 0)), "Some(())"),
+        Line::Says(Do::Connect((2, 0), (1, 0)), "Some(())"),
+        Line::Says(Do::Insert(LONE, 3), "Err(AllocError)"),
+        Line::Says(Do::Apply(LONE, 3), "Err(AllocError)"),
+        Line::Says(Do::Debug, "{Bare[1]: {2, 2} 1, Bare[2]: {1, 1} 2}"),
+        Line::Says(Do::Link((1, 0)), "Some({2, 2} 1)"),
+        Line::Says(Do::Link((2, 0)), "Some({1, 1} 2)"),
+    ],
+)];
+
+#[test]
+fn small_indexes_and_generations(rt: HostRuntime) {
+    plays_all::<ChainArena<BarePtr, u32>>(&rt, rt.alloc(), &INDEXES);
+    plays_all::<ChainArena<SmallPtr, u32>>(&rt, rt.alloc(), &GENERATIONS);
+    plays_all::<ChainArena<TinyPtr, u32>>(&rt, rt.alloc(), &TWO_INDEXES);
+}
+
+// A slot for a link with one of several equal values, each of which tells how many of them there are.
+type Shared = ArenaSlot<BarePtr, LinkNoGen<BarePtr, Rc<u8>>>;
+
+// Hands 300 values to an arena with a maximum, and tells how many it holds and how many there are.
+fn handed<S: LimitStack<Item = Shared>>(
+    rt: &impl Abort,
+    alloc: Global,
+    most: usize,
+) -> (usize, usize) {
+    let value = Rc::new(alloc, 5).ok().expect(rt, "memory");
+    let mut arena: ChainArena<BarePtr, Rc<u8>, S> = ChainArena::new(alloc);
+    assert!(rt; arena.set_max_capacity(most).is_ok());
+    for _ in 0..300 {
+        let one = value.clone().expect(rt, "one more");
+        let _ = arena.insert_reallocating(LinkInsertKind::Disconnected, one);
+    }
+    (arena.len(), Rc::strong_count(&value))
+}
+
+// A value that an insertion refuses is dropped: there are those in the arena, and the one that they are shared from.
+#[test]
+fn refused_values_are_dropped(rt: HostRuntime) {
+    for (most, want) in [(2, (2, 3)), (1000, (255, 256))] {
+        let values = handed::<LimitedStack<Shared>>(&rt, rt.alloc(), most);
+        same(&rt, "values", values, want);
+    }
+}

@@ -1,0 +1,119 @@
+//! Values recast in their places, by rising index, up to one that refuses.
+ghost use Rattle.std.specs.Prelude.{◌≡◌, OnErr, Err};
+
+use super::scripts::Kind;
+use super::steps::{Step, after};
+use super::{Numbered, same, text};
+use arena_ptr::{Recast, Recaster, ToolPtr};
+use std::alloc::Global;
+use std::process::Abort;
+
+// Adds ten to each number but two, which it refuses with itself.
+struct AddTen;
+
+impl Recaster for AddTen {
+    type Item = u32;
+
+    ghost recasts = { λ _ old new answer. OnErr answer ((answer ≡ Err old) × (new ≡ old)) };
+
+    fn recast_item(&self, item: &mut u32) -> Result<(), u32> {
+        if *item == 2 {
+            return Err(2);
+        }
+        *item = item.saturating_add(10);
+        Ok(())
+    }
+}
+
+// A number, and how often it was to be recast. No value can be cloned.
+#[derive(Debug, Drop)]
+struct Number(u32, u32);
+
+impl Recast<u32> for Number {
+    ghost recast_by = { λ recasts old new answer. recasts old.0 new.0 answer };
+
+    fn recast<R: Recaster<Item = u32>>(&mut self, recaster: &R) -> Result<(), u32> {
+        self.1 = self.1.saturating_add(1);
+        recaster.recast_item(&mut self.0)
+    }
+}
+
+// Links with numbers that were not to be recast yet.
+fn numbers(rt: &impl Abort, alloc: Global, links: &[(Kind, u32)]) -> Vec<Step<Number>> {
+    let mut steps = Vec::new(alloc);
+    for (kind, item) in links {
+        let step = Step::Add(*kind, Number(*item, 0));
+        steps.push(step).expect(rt, "memory");
+    }
+    steps
+}
+
+// Lone links with numbers, and what is told: the answer, the arena then and its counter. A refused recast leaves pointers,
+// interlinks and the counter, and by rising index the values before the refused one alone are new ones.
+const LONE: [([u32; 3], &str); 5] = [
+    (
+        [1, 2, 3],
+        "(Err(2), {P0[1](2): {(start), (end)} Number(11, 1), P0[2](2): {(start), (end)} Number(2, 1), \
+            P0[3](2): {(start), (end)} Number(3, 0)}, Gen32 { number: 2 })",
+    ),
+    (
+        [2, 1, 3],
+        "(Err(2), {P0[1](2): {(start), (end)} Number(2, 1), P0[2](2): {(start), (end)} Number(1, 0), \
+            P0[3](2): {(start), (end)} Number(3, 0)}, Gen32 { number: 2 })",
+    ),
+    (
+        [1, 3, 2],
+        "(Err(2), {P0[1](2): {(start), (end)} Number(11, 1), P0[2](2): {(start), (end)} Number(13, 1), \
+            P0[3](2): {(start), (end)} Number(2, 1)}, Gen32 { number: 2 })",
+    ),
+    (
+        [1, 2, 2],
+        "(Err(2), {P0[1](2): {(start), (end)} Number(11, 1), P0[2](2): {(start), (end)} Number(2, 1), \
+            P0[3](2): {(start), (end)} Number(2, 0)}, Gen32 { number: 2 })",
+    ),
+    (
+        [1, 3, 5],
+        "(Ok(()), {P0[1](2): {(start), (end)} Number(11, 1), P0[2](2): {(start), (end)} Number(13, 1), \
+            P0[3](2): {(start), (end)} Number(15, 1)}, Gen32 { number: 2 })",
+    ),
+];
+
+// A row of 4 and 1 and a ring of 3, between which a link is gone: the refused value comes last in its chain.
+const TIED: [(Kind, u32); 4] = [
+    (Kind::Disconnected, 1),
+    (Kind::Disconnected, 9),
+    (Kind::SingleLinkCyclic, 2),
+    (Kind::ChainStart((1, 2)), 3),
+];
+
+const TIED_THEN: &str =
+    "(Err(2), {P0[1](2): {4, (end)} Number(11, 1), P0[3](2): {3, 3} Number(2, 1), \
+    P0[4](2): {(start), 1} Number(3, 0)}, Gen32 { number: 3 })";
+
+// Recasts an arena, and tells the answer, the arena then and its counter.
+fn recast<P: Numbered>(rt: &impl Abort, alloc: Global, steps: Vec<Step<Number>>) -> String {
+    let mut arena = after::<P, Number>(rt, alloc, steps);
+    let answer = arena.recast(&AddTen);
+    text(rt, alloc, (answer, &arena, arena.generation()))
+}
+
+#[test]
+fn recasters_that_refuse_and_that_do_not(rt: HostRuntime) {
+    for (items, want) in LONE {
+        let links = items.map(|item: u32| (Kind::Disconnected, item));
+        let steps = numbers(&rt, rt.alloc(), &links);
+        let told = recast::<ToolPtr>(&rt, rt.alloc(), steps);
+        same(&rt, "lone links", told.as_str(), want);
+    }
+    let none = recast::<ToolPtr>(&rt, rt.alloc(), Vec::new(rt.alloc()));
+    same(
+        &rt,
+        "no links",
+        none.as_str(),
+        "(Ok(()), {}, Gen32 { number: 2 })",
+    );
+    let mut steps = numbers(&rt, rt.alloc(), &TIED);
+    steps.push(Step::Remove((2, 2))).expect(&rt, "memory");
+    let told = recast::<ToolPtr>(&rt, rt.alloc(), steps);
+    same(&rt, "tied links", told.as_str(), TIED_THEN);
+}

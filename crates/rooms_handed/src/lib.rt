@@ -1,0 +1,9 @@
+//! Calls of the rooms below `chain_arena`, each handed on under the contract that it has there. What such a contract refuses is
+//! shown here, where little is proved: each edit of `must-fail/` puts a wrong body in the place of a call.
+#![tactic(auto)]
+
+mod layouts;
+mod links;
+
+pub use layouts::lay_out;
+pub use links::{link_up, take_out};
