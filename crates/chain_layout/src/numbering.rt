@@ -79,8 +79,9 @@ fn number_at<P: Ptr, T: Drop, S: SlotStack<Item = ArenaSlot<P, LinkNoGen<P, T>>>
     ensures work { IsWork compactor.old.arena.now compactor.new.arena.now 0 2 }
     ensures counts { CountsOn compactor.old.arena.now compactor.new.arena.now compactor.old.placed compactor.old.touched compactor.new.placed compactor.new.touched }
 {
-    let (generation, next) = match compactor.peek(i) {
-        Some((generation, link)) => (*generation, link.next()),
+    let (was, _, next, _) = look_at(compactor, i);
+    let generation = match was {
+        Some(generation) => generation,
         None => return None,
     };
     if let Some(link) = compactor.value_mut(i) {

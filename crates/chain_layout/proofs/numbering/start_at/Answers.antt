@@ -23,51 +23,40 @@ loop-step-init g c =
       counts = counts_none old.arena.now old.placed old.touched;
     }
 
-pub returns-then-eq-clause-start : goal.returns-then-eq-clause-start
-returns-then-eq-clause-start g c =
+pub returns-then-eq : goal.returns-then-eq
+returns-then-eq g c =
     let number = g.P.Inx.PtrInx.number in
-    let packed_number = g.P.Inx.PtrInx.packed_number in
     let at = c.loop-step.invariant in
+    let look = c.look_at-before.ensures in
+    let shown = shown_in g.P.Inx.PtrInx.packed_number c.args.compactor.now.held.slots in
+    let came = ap (λ h. prev_of (shown_in g.P.Inx.PtrInx.packed_number h.slots) (number c.loop-step.at)) at.held in
     let told : c.eq.result ≡ g.P.Inx.PartialEq.eq c.in-Some.k c.args.i = search of_calls in
     let same = (g.met.P.Inx.PtrInx.eq_is_same c.in-Some.k c.args.i).0 (sym told ∙ c.if-eq.true) in
-    back_comes_round (shown_in packed_number c.args.compactor.now.held.slots) (number c.args.i) c.loop-step.step (number c.loop-step.at) at.back
-    (sym (ap (λ h. prev_of (shown_in packed_number h.slots) (number c.loop-step.at)) at.held) ∙ (sym c.look_at-before.ensures.prev ∙ ap (option_map number) c.in-Some.is ∙ ap (λ k. Some (number k)) same))
+    record {
+      same_reference = look.looked.same_reference ∙ at.same_reference;
+      start = back_comes_round shown (number c.args.i) c.loop-step.step (number c.loop-step.at) at.back
+          (sym came ∙ (sym look.prev ∙ ap (option_map number) c.in-Some.is ∙ ap (λ k. Some (number k)) same));
+      held = look.looked.held ∙ at.held;
+      linear = λ xs h m. work-more at.work (work-touched _ _ look.looked.arena) 0 _ refl (looks_linear shown (number c.args.i) c.loop-step.step (number c.loop-step.at) at.back xs h m);
+      cyclic = λ xs h. work-more at.work (work-touched _ _ look.looked.arena) 0 _ refl (looks_cyclic shown (number c.args.i) c.loop-step.step (number c.loop-step.at) at.back xs h);
+      counts = counts_then _ _ _ _ _ _ _ _ _ at.counts look.looked.counts;
+    }
 
-pub returns-then-eq-clause-linear : goal.returns-then-eq-clause-linear
-returns-then-eq-clause-linear g c xs h m =
+pub returns-in-None : goal.returns-in-None
+returns-in-None g c =
     let number = g.P.Inx.PtrInx.number in
     let at = c.loop-step.invariant in
-    let few = looks_linear (shown_in g.P.Inx.PtrInx.packed_number c.args.compactor.now.held.slots) (number c.args.i) c.loop-step.step (number c.loop-step.at) at.back xs h m in
-    work-more at.work (work-touched _ _ c.look_at-before.ensures.looked.arena) 0 _ refl few
-
-pub returns-then-eq-clause-cyclic : goal.returns-then-eq-clause-cyclic
-returns-then-eq-clause-cyclic g c xs h =
-    let number = g.P.Inx.PtrInx.number in
-    let at = c.loop-step.invariant in
-    let few = looks_cyclic (shown_in g.P.Inx.PtrInx.packed_number c.args.compactor.now.held.slots) (number c.args.i) c.loop-step.step (number c.loop-step.at) at.back xs h in
-    work-more at.work (work-touched _ _ c.look_at-before.ensures.looked.arena) 0 _ refl few
-
-pub returns-in-None-clause-start : goal.returns-in-None-clause-start
-returns-in-None-clause-start g c =
-    let number = g.P.Inx.PtrInx.number in
-    let packed_number = g.P.Inx.PtrInx.packed_number in
-    let at = c.loop-step.invariant in
-    back_ends (shown_in packed_number c.args.compactor.now.held.slots) (number c.args.i) c.loop-step.step (number c.loop-step.at) at.back
-    (sym (ap (λ h. prev_of (shown_in packed_number h.slots) (number c.loop-step.at)) at.held) ∙ sym c.look_at-before.ensures.prev ∙ ap (option_map number) c.in-None.is)
-
-pub returns-in-None-clause-linear : goal.returns-in-None-clause-linear
-returns-in-None-clause-linear g c xs h m =
-    let number = g.P.Inx.PtrInx.number in
-    let at = c.loop-step.invariant in
-    let few = looks_linear (shown_in g.P.Inx.PtrInx.packed_number c.args.compactor.now.held.slots) (number c.args.i) c.loop-step.step (number c.loop-step.at) at.back xs h m in
-    work-more at.work (work-touched _ _ c.look_at-before.ensures.looked.arena) 0 _ refl few
-
-pub returns-in-None-clause-cyclic : goal.returns-in-None-clause-cyclic
-returns-in-None-clause-cyclic g c xs h =
-    let number = g.P.Inx.PtrInx.number in
-    let at = c.loop-step.invariant in
-    let few = looks_cyclic (shown_in g.P.Inx.PtrInx.packed_number c.args.compactor.now.held.slots) (number c.args.i) c.loop-step.step (number c.loop-step.at) at.back xs h in
-    work-more at.work (work-touched _ _ c.look_at-before.ensures.looked.arena) 0 _ refl few
+    let look = c.look_at-before.ensures in
+    let shown = shown_in g.P.Inx.PtrInx.packed_number c.args.compactor.now.held.slots in
+    let came = ap (λ h. prev_of (shown_in g.P.Inx.PtrInx.packed_number h.slots) (number c.loop-step.at)) at.held in
+    record {
+      same_reference = look.looked.same_reference ∙ at.same_reference;
+      start = back_ends shown (number c.args.i) c.loop-step.step (number c.loop-step.at) at.back (sym came ∙ (sym look.prev ∙ ap (option_map number) c.in-None.is));
+      held = look.looked.held ∙ at.held;
+      linear = λ xs h m. work-more at.work (work-touched _ _ look.looked.arena) 0 _ refl (looks_linear shown (number c.args.i) c.loop-step.step (number c.loop-step.at) at.back xs h m);
+      cyclic = λ xs h. work-more at.work (work-touched _ _ look.looked.arena) 0 _ refl (looks_cyclic shown (number c.args.i) c.loop-step.step (number c.loop-step.at) at.back xs h);
+      counts = counts_then _ _ _ _ _ _ _ _ _ at.counts look.looked.counts;
+    }
 
 pub loop-step-preserved : goal.loop-step-preserved
 loop-step-preserved g c =
