@@ -3,6 +3,7 @@ use Rattle.std.proofs.Common.{refl, sym, ap, ◌∙◌, arith}
 use Rattle.std.specs.Option.{option_copied_mut, option_map, option_and_then}
 use Rattle.arena_base.specs.Arena.{slot_at}
 use Rattle.chain_layout.specs.Numbering.{given}
+use Rattle.chain_layout.proofs.Directing.{still_there}
 use Rattle.chain_layout.proofs.Retying.{renames_link, four_looks}
 use Rattle.chain_layout.proofs.HeldLinks.{work-touched, work-more}
 use Rattle.chain_layout.proofs.Tallying.{counts_touch, counts_then}
@@ -32,3 +33,9 @@ returns-in-Some-value_mut g c =
       counts = counts_then _ _ _ _ _ _ _ _ _ (counts_touch _ _ _ _ _ _ looked.1.1 looked.1.2 looked.1.3)
           (counts_then _ _ _ _ _ _ _ _ _ first.counts (counts_then _ _ _ _ _ _ _ _ _ second.counts (counts_touch _ _ _ _ _ _ lent.1.1 lent.1.2 lent.1.3)));
     }
+
+pub returns-in_default : goal.returns-in_default
+returns-in_default g c =
+    let old = c.args.compactor.now.held in
+    let same = c.destination_of-next.ensures.held ∙ (c.destination_of-prev.ensures.held ∙ c.peek.follows.holds-at-none.0) in
+    absurd (still_there (g.P.Inx.PtrInx.number c.args.i) old _ _ _ same refl (ap (option_map (λ e. e.0)) c.in-Some.ensures.value) (sym (ap option_copied_mut c.in_default.is) ∙ c.value_mut.ensures.value))

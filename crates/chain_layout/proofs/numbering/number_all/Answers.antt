@@ -63,5 +63,12 @@ loop-k-preserved g c =
       })
     ]
 
-pub returns-clause-numbered : goal.returns-clause-numbered
-returns-clause-numbered g c = order_ends _ _ _ _ _ _ _ _ c.loop-k.compactor.held _ _ _ c.loop-k.invariant.order (omega arith)
+pub returns : goal.returns
+returns g c =
+    let at = c.loop-k.invariant in
+    record {
+      same_reference = at.same_reference;
+      seen = at.order.seen;
+      numbered = order_ends _ _ _ _ _ _ _ _ c.loop-k.compactor.held _ _ _ at.order (omega arith);
+      counts = at.counts;
+    }
