@@ -1,5 +1,5 @@
 -- A link that gets a destination: what the slots are then.
-use Rattle.std.proofs.Common.{◌≡◌, ℕ, Option, None, Some, refl, sym, ap, ◌∙◌, subst}
+use Rattle.std.proofs.Common.{◌≡◌, ℕ, Option, None, Some, refl, ap, ◌∙◌, subst}
 use Rattle.std.specs.Option.{option_map}
 use Rattle.arena_base.specs.Arena.{slot_at, with_slot}
 use Rattle.arena_base.specs.Compacting.{Held, held_with_value}
@@ -30,8 +30,11 @@ module _ {Gen K T : Type 0} where
       subst (λ (h : Held Gen (LinkBody K T)). IsNumberedAt number i d h new) same (record { destination = w.destination; is = is; held = held_sent looked new i l w stands wrote rest })
 
   -- it is still there
-  pub still_there : (i : ℕ) (old looked : Held Gen (LinkBody K T)) (e : Gen × LinkBody K T) → looked ≡ old → Some e ≡ slot_at old.slots i
+  pub still_there : (i : ℕ) (old looked : Held Gen (LinkBody K T)) (r : Option Gen) (g : Gen) → looked ≡ old → r ≡ Some g → r ≡ option_map (λ (x : Gen × LinkBody K T). x.0) (slot_at old.slots i)
       → None ≡ option_map (λ (x : Gen × LinkBody K T). x.1) (slot_at looked.slots i) → ⊥
-  still_there i old looked e same stands none =
-      let there : None ≡ Some e.1 = none ∙ (ap (λ (h : Held Gen (LinkBody K T)). option_map (λ (x : Gen × LinkBody K T). x.1) (slot_at h.slots i)) same ∙ sym (ap (option_map (λ (x : Gen × LinkBody K T). x.1)) stands)) in
-      cc
+  still_there i old looked r g same is stands none =
+      by (slot_at old.slots i) stands (none ∙ ap (λ (h : Held Gen (LinkBody K T)). option_map (λ (x : Gen × LinkBody K T). x.1) (slot_at h.slots i)) same)
+    where
+      by : (o : Option (Gen × LinkBody K T)) → r ≡ option_map (λ (x : Gen × LinkBody K T). x.0) o → None ≡ option_map (λ (x : Gen × LinkBody K T). x.1) o → ⊥
+      by None there empty = cc
+      by (Some e) there empty = cc

@@ -17,3 +17,4 @@ pub mod Retying
 pub mod Emptying
 pub mod Arranging
 pub mod Layouts
+pub mod Looks

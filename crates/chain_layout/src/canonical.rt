@@ -12,6 +12,7 @@ ghost use Rattle.chain_layout.specs.Counts.{CountsOn};
 ghost use Rattle.chain_layout.specs.Layouts.{AreLaidOut};
 ghost use Rattle.chain_layout.specs.Numbering.{seen_held, renamed_held, given, looks_at, IsRenamedAt};
 
+use crate::looking::look_at;
 use crate::moving::move_all;
 use crate::numbering::number_all;
 use crate::visiting::Visitor;
@@ -65,8 +66,11 @@ fn destination_of<P: Ptr, T: Drop, S: SlotStack<Item = ArenaSlot<P, LinkNoGen<P,
     ensures work { IsWork compactor.old.arena.now compactor.new.arena.now 0 1 }
     ensures counts { CountsOn compactor.old.arena.now compactor.new.arena.now compactor.old.placed compactor.old.touched compactor.new.placed compactor.new.touched }
 {
-    match compactor.peek(named?) {
-        Some((_, link)) => link.destination(),
+    match named {
+        Some(i) => {
+            let (_, _, _, destination) = look_at(compactor, i);
+            destination
+        }
         None => None,
     }
 }

@@ -3,6 +3,7 @@
 
 pub mod canonical;
 pub mod compress;
+mod looking;
 mod moving;
 mod numbering;
 pub mod visiting;

@@ -1,15 +1,16 @@
 // Links numbered: the chains by their least index, each linear one from its start, each cyclic one from its least index.
 ghost use Rattle.std.specs.Prelude.{◌≡◌, ◌≤◌, ℕ, ◌+◌, ◌*◌, length, List, ◌∷◌, None, Some, IfSome, OnSome, IfNone};
 ghost use Rattle.std.specs.Option.{option_map};
-ghost use Rattle.chain_laws.specs.Chains.{Chain, linear, cyclic, Has, IsChain, IsValid, Agrees, prev_of, next_of};
+ghost use Rattle.chain_laws.specs.Chains.{Chain, linear, cyclic, Has, IsChain, IsValid, Agrees, next_of};
 ghost use Rattle.chain_laws.specs.Starts.{IsStart};
 ghost use Rattle.chain_laws.specs.Walks.{going_on};
 ghost use Rattle.arena_base.specs.Arena.{slot_at};
-ghost use Rattle.arena_base.specs.Compacting.{with_touch};
 ghost use Rattle.chain_layout.specs.HeldLinks.{shown_in, IsWork};
 ghost use Rattle.chain_layout.specs.Counts.{CountsOn};
+ghost use Rattle.chain_layout.specs.Looks.{HasLooked};
 ghost use Rattle.chain_layout.specs.Numbering.{seen_held, given, is_fresh, CanNumber, IsNumberedAt, IsChainNumbered, AreAllNumbered};
 
+use crate::looking::look_at;
 use crate::visiting::Visitor;
 use arena_base::{ArenaSlot, Compactor, SlotAccess, inx_at};
 use arena_ptr::{Ptr, PtrInx, SlotStack};
@@ -20,32 +21,13 @@ fn is_fresh_at<P: Ptr, T: Drop, S: SlotStack<Item = ArenaSlot<P, LinkNoGen<P, T>
     compactor: &mut Compactor<'_, P, LinkNoGen<P, T>, S>,
     i: P::Inx,
 ) -> bool
-    ensures same_reference { compactor.new.arena.ghost_name ≡ compactor.old.arena.ghost_name }
+    ensures looked { HasLooked compactor.old compactor.new }
     ensures answer { result ≡ is_fresh P.Inx.packed_number (slot_at compactor.old.held.slots (P.Inx.number i)) }
-    ensures held { compactor.new.held ≡ compactor.old.held }
-    ensures arena { compactor.new.arena.now ≡ with_touch compactor.old.arena.now }
-    ensures counts { CountsOn compactor.old.arena.now compactor.new.arena.now compactor.old.placed compactor.old.touched compactor.new.placed compactor.new.touched }
 {
-    match compactor.peek(i) {
-        Some((_, link)) => link.destination().is_none(),
+    let (was, _, _, destination) = look_at(compactor, i);
+    match was {
+        Some(_) => destination.is_none(),
         None => false,
-    }
-}
-
-// The index of the link before the one at an index.
-fn before_at<P: Ptr, T: Drop, S: SlotStack<Item = ArenaSlot<P, LinkNoGen<P, T>>>>(
-    compactor: &mut Compactor<'_, P, LinkNoGen<P, T>, S>,
-    i: P::Inx,
-) -> Option<P::Inx>
-    ensures same_reference { compactor.new.arena.ghost_name ≡ compactor.old.arena.ghost_name }
-    ensures answer { option_map P.Inx.number result ≡ prev_of (shown_in P.Inx.packed_number compactor.old.held.slots) (P.Inx.number i) }
-    ensures held { compactor.new.held ≡ compactor.old.held }
-    ensures arena { compactor.new.arena.now ≡ with_touch compactor.old.arena.now }
-    ensures counts { CountsOn compactor.old.arena.now compactor.new.arena.now compactor.old.placed compactor.old.touched compactor.new.placed compactor.new.touched }
-{
-    match compactor.peek(i) {
-        Some((_, link)) => link.prev(),
-        None => None,
     }
 }
 
@@ -68,7 +50,8 @@ fn start_at<P: Ptr, T: Drop, S: SlotStack<Item = ArenaSlot<P, LinkNoGen<P, T>>>>
 {
     let mut at = i;
     for step in 0..compactor.slots() {
-        match before_at(compactor, at) {
+        let (_, before, _, _) = look_at(compactor, at);
+        match before {
             Some(k) => {
                 if k == i {
                     return i;
@@ -96,8 +79,9 @@ fn number_at<P: Ptr, T: Drop, S: SlotStack<Item = ArenaSlot<P, LinkNoGen<P, T>>>
     ensures work { IsWork compactor.old.arena.now compactor.new.arena.now 0 2 }
     ensures counts { CountsOn compactor.old.arena.now compactor.new.arena.now compactor.old.placed compactor.old.touched compactor.new.placed compactor.new.touched }
 {
-    let (generation, next) = match compactor.peek(i) {
-        Some((generation, link)) => (*generation, link.next()),
+    let (was, _, next, _) = look_at(compactor, i);
+    let generation = match was {
+        Some(generation) => generation,
         None => return None,
     };
     if let Some(link) = compactor.value_mut(i) {

@@ -29,13 +29,15 @@ loop-k-preserved g c =
       counts = counts_then _ _ _ _ _ _ _ _ _ inv.counts after.counts;
     }
 
-pub returns-clause-empty : goal.returns-clause-empty
-returns-clause-empty g c =
+pub returns : goal.returns
+returns g c =
+    let old = c.args.compactor.now in
     let inv = c.loop-k.invariant in
-    let all : c.loop-k.k ≡ length c.args.compactor.now.held.slots = omega arith in
-    emptying_ends g.P.Inx.PtrInx.packed_number c.args.compactor.now.held c.loop-k.compactor.held inv.seen (λ j low. inv.empty j (omega (arith, low, all)))
-
-pub returns-clause-totals : goal.returns-clause-totals
-returns-clause-totals g c =
-    let all : c.loop-k.k ≡ length c.args.compactor.now.held.slots = omega arith in
-    c.loop-k.invariant.totals ∙ ap (with_totals c.args.compactor.now.arena.now 0) all
+    let all : c.loop-k.k ≡ length old.held.slots = omega arith in
+    record {
+      same_reference = inv.same_reference;
+      seen = inv.seen;
+      empty = emptying_ends g.P.Inx.PtrInx.packed_number old.held c.loop-k.compactor.held inv.seen (λ j low. inv.empty j (omega (arith, low, all)));
+      totals = inv.totals ∙ ap (with_totals old.arena.now 0) all;
+      counts = inv.counts;
+    }

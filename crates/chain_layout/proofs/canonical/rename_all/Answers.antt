@@ -44,21 +44,19 @@ loop-k-preserved g c =
       counts = counts_then _ _ _ _ _ _ _ _ _ inv.counts after.counts;
     }
 
-pub returns-clause-renamed : goal.returns-clause-renamed
-returns-clause-renamed g c =
+pub returns : goal.returns
+returns g c =
     let packed_number = g.P.Inx.PtrInx.packed_number in
-    let old = c.args.compactor.now.held in
-    let now = c.loop-k.compactor.held in
-    let inv = c.loop-k.invariant in
-    let all : c.loop-k.k ≡ length (seen_held packed_number old).slots = omega (arith, length-map old.slots (option_map (seen_pair packed_number))) in
-    all_renamed (given packed_number old.slots) (seen_held packed_number old) (seen_held packed_number now)
-    (subst (AreRenamedTo (given packed_number old.slots) (seen_held packed_number old).slots (seen_held packed_number now).slots) all inv.renamed) inv.capacity inv.maximum
-
-pub returns-clause-kept : goal.returns-clause-kept
-returns-clause-kept g c = c.loop-k.invariant.kept
-
-pub returns-clause-work : goal.returns-clause-work
-returns-clause-work g c =
     let old = c.args.compactor.now in
+    let now = c.loop-k.compactor in
+    let inv = c.loop-k.invariant in
     let inside : c.loop-k.k ≤ length old.held.slots = omega arith in
-    work-more c.loop-k.invariant.work (work-none c.loop-k.compactor.arena.now 0) 0 _ refl (omega (arith, looks_all old.held.slots c.loop-k.k inside))
+    let all : c.loop-k.k ≡ length (seen_held packed_number old.held).slots = omega (arith, length-map old.held.slots (option_map (seen_pair packed_number))) in
+    record {
+      same_reference = inv.same_reference;
+      renamed = all_renamed (given packed_number old.held.slots) (seen_held packed_number old.held) (seen_held packed_number now.held)
+          (subst (AreRenamedTo (given packed_number old.held.slots) (seen_held packed_number old.held).slots (seen_held packed_number now.held).slots) all inv.renamed) inv.capacity inv.maximum;
+      kept = inv.kept;
+      work = work-more inv.work (work-none now.arena.now 0) 0 _ refl (omega (arith, looks_all old.held.slots c.loop-k.k inside));
+      counts = inv.counts;
+    }

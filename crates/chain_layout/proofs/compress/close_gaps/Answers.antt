@@ -88,28 +88,19 @@ loop-k-preserved g c =
           })
     ]
 
-pub returns-clause-closed : goal.returns-clause-closed
-returns-clause-closed g c =
+pub returns : goal.returns
+returns g c =
     let old = c.args.compactor.now in
-    closing_closes g.F.FnMut g.P.Ptr.key c.args.generation c.args.map (slot_values old.held.slots) c.loop-k.k c.loop-k.count c.loop-k.map (slot_values c.loop-k.compactor.held.slots) c.loop-k.invariant.closing
-    (omega (arith, length-map old.held.slots (option_map (on_value held_in))))
-    (held_values old.held) (held_values c.loop-k.compactor.held) refl refl c.loop-k.invariant.capacity c.loop-k.invariant.maximum
-
-pub returns-clause-visits : goal.returns-clause-visits
-returns-clause-visits g c =
-    let old = c.args.compactor.now in
-    closing_visits g.F.FnMut g.P.Ptr.key c.args.generation c.args.map (slot_values old.held.slots) c.loop-k.k c.loop-k.count c.loop-k.map (slot_values c.loop-k.compactor.held.slots) c.loop-k.invariant.closing
-    (omega (arith, length-map old.held.slots (option_map (on_value held_in))))
-
-pub returns-clause-renamed : goal.returns-clause-renamed
-returns-clause-renamed g c =
-    let old = c.args.compactor.now.held.slots in
-    coming_ends g.P.Inx.PtrInx.packed_number old c.requires.agree c.loop-k.compactor.held.slots c.loop-k.k c.loop-k.count c.loop-k.invariant.coming (omega arith) (slots-within _ old)
-
-pub returns-clause-work : goal.returns-clause-work
-returns-clause-work g c =
-    let old = c.args.compactor.now in
+    let now = c.loop-k.compactor in
+    let inv = c.loop-k.invariant in
     let all : c.loop-k.k ≡ length old.held.slots = omega arith in
-    let count = closing_counts g.F.FnMut g.P.Ptr.key c.args.generation c.args.map (slot_values old.held.slots) c.loop-k.k c.loop-k.count c.loop-k.map (slot_values c.loop-k.compactor.held.slots) c.loop-k.invariant.closing
-    (omega (arith, length-map old.held.slots (option_map (on_value held_in)))) in
-    subst₂ (IsWork old.arena.now c.loop-k.compactor.arena.now) count (λ i. all i + 3 * count i) c.loop-k.invariant.work
+    let ended : c.loop-k.k ≡ length (slot_values old.held.slots) = omega (arith, length-map old.held.slots (option_map (on_value held_in))) in
+    let count = closing_counts g.F.FnMut g.P.Ptr.key c.args.generation c.args.map (slot_values old.held.slots) c.loop-k.k c.loop-k.count c.loop-k.map (slot_values now.held.slots) inv.closing ended in
+    record {
+      same_reference = inv.same_reference;
+      closed = closing_closes g.F.FnMut g.P.Ptr.key c.args.generation c.args.map (slot_values old.held.slots) c.loop-k.k c.loop-k.count c.loop-k.map (slot_values now.held.slots) inv.closing
+          ended (held_values old.held) (held_values now.held) refl refl inv.capacity inv.maximum;
+      visits = closing_visits g.F.FnMut g.P.Ptr.key c.args.generation c.args.map (slot_values old.held.slots) c.loop-k.k c.loop-k.count c.loop-k.map (slot_values now.held.slots) inv.closing ended;
+      renamed = coming_ends g.P.Inx.PtrInx.packed_number old.held.slots c.requires.agree now.held.slots c.loop-k.k c.loop-k.count inv.coming (omega arith) (slots-within _ old.held.slots);
+      work = subst₂ (IsWork old.arena.now now.arena.now) count (λ i. all i + 3 * count i) inv.work;
+    }

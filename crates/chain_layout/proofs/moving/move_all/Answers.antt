@@ -44,23 +44,23 @@ loop-k-preserved g c =
       counts = counts_then _ _ _ _ _ _ _ _ _ inv.counts after.counts;
     }
 
-pub returns-clause-moved : goal.returns-clause-moved
-returns-clause-moved g c =
-    let packed_number = g.P.Inx.PtrInx.packed_number in
-    let old = c.args.compactor.now.held.slots in
-    let now = c.loop-k.compactor.held.slots in
-    let all : c.loop-k.k ≡ length old = omega arith in
-    passing_ends (goal_of packed_number) (Settles packed_number c.args.generation) (settled_rests packed_number c.args.generation) old now
-    (subst (ArePassed (goal_of packed_number) (Settles packed_number c.args.generation) old now) all c.loop-k.invariant.passed)
-
-pub returns-clause-totals : goal.returns-clause-totals
-returns-clause-totals g c =
-    let packed_number = g.P.Inx.PtrInx.packed_number in
+pub returns : goal.returns
+returns g c =
     let old = c.args.compactor.now in
-    let now = c.loop-k.compactor in
     let all : c.loop-k.k ≡ length old.held.slots = omega arith in
-    work_on-ends old.arena.now now.arena.now _ _ _ (length old.held.slots)
-    (subst (IsWorkOn old.arena.now now.arena.now (waiting (goal_of packed_number) old.held.slots) (waiting (goal_of packed_number) now.held.slots)) all c.loop-k.invariant.work)
-    (passing_leaves_none (goal_of packed_number) (Settles packed_number c.args.generation) (settled_rests packed_number c.args.generation) old.held.slots now.held.slots
-    (subst (ArePassed (goal_of packed_number) (Settles packed_number c.args.generation) old.held.slots now.held.slots) all c.loop-k.invariant.passed))
-    (waiting-all (goal_of packed_number) old.held.slots c.requires.can.each)
+    let goes = goal_of g.P.Inx.PtrInx.packed_number in
+    let settles = Settles g.P.Inx.PtrInx.packed_number c.args.generation in
+    let rests = settled_rests g.P.Inx.PtrInx.packed_number c.args.generation in
+    let now = c.loop-k.compactor in
+    let inv = c.loop-k.invariant in
+    let passed = subst (ArePassed goes settles old.held.slots now.held.slots) all inv.passed in
+    record {
+      same_reference = inv.same_reference;
+      moved = passing_ends goes settles rests old.held.slots now.held.slots passed;
+      length = inv.passed.length;
+      capacity = inv.capacity;
+      maximum = inv.maximum;
+      totals = work_on-ends old.arena.now now.arena.now _ _ _ (length old.held.slots) (subst (IsWorkOn old.arena.now now.arena.now (waiting goes old.held.slots) (waiting goes now.held.slots)) all inv.work)
+          (passing_leaves_none goes settles rests old.held.slots now.held.slots passed) (waiting-all goes old.held.slots c.requires.can.each);
+      counts = inv.counts;
+    }

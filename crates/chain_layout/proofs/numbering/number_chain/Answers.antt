@@ -71,9 +71,17 @@ loop-on-preserved g c =
       counts = counts_then _ _ _ _ _ _ _ _ _ at.counts sent.counts;
     }
 
-pub returns-clause-numbered : goal.returns-clause-numbered
-returns-clause-numbered g c done l can =
-    walk_ends _ _ _ _ _ c.args.compactor.now.held _ _ _ done l can _ c.loop-on.compactor.held _ _
-    (subst (λ o. IsWalking g.P.Inx.PtrInx.packed_number g.V.Visitor.sees g.P.Ptr.key c.args.generation c.args.visitor c.loop-on.visitor c.args.compactor.now.held.slots c.loop-on.compactor.held.slots
-    c.args.compactor.now.arena.now c.loop-on.compactor.arena.now c.loop-on.count (option_map g.P.Inx.PtrInx.number o) done l)
-    c.in_default.is (c.loop-on.invariant.walks done l can))
+pub returns : goal.returns
+returns g c =
+    let at = c.loop-on.invariant in
+    record {
+      ready = at.ready;
+      same_reference = at.same_reference;
+      seen = at.seen;
+      numbered = λ done l can.
+          walk_ends _ _ _ _ _ c.args.compactor.now.held _ _ _ done l can _ c.loop-on.compactor.held _ _
+          (subst (λ o. IsWalking g.P.Inx.PtrInx.packed_number g.V.Visitor.sees g.P.Ptr.key c.args.generation c.args.visitor c.loop-on.visitor c.args.compactor.now.held.slots c.loop-on.compactor.held.slots
+          c.args.compactor.now.arena.now c.loop-on.compactor.arena.now c.loop-on.count (option_map g.P.Inx.PtrInx.number o) done l)
+          c.in_default.is (at.walks done l can));
+      counts = at.counts;
+    }

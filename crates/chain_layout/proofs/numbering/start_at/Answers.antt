@@ -1,5 +1,6 @@
 -- One step back more, the start of a linear chain, and once round a cyclic one.
 use Rattle.std.proofs.Common.{◌≡◌, Bool, true, false, Some, refl, sym, ap, ◌∙◌, arith, of_calls}
+use Rattle.std.specs.Option.{option_map}
 use Rattle.chain_laws.specs.Chains.{prev_of}
 use Rattle.chain_laws.proofs.Backing.{back_begins, back_goes_on, back_ends, back_comes_round}
 use Rattle.chain_layout.specs.HeldLinks.{shown_in}
@@ -22,51 +23,40 @@ loop-step-init g c =
       counts = counts_none old.arena.now old.placed old.touched;
     }
 
-pub returns-then-eq-clause-start : goal.returns-then-eq-clause-start
-returns-then-eq-clause-start g c =
+pub returns-then-eq : goal.returns-then-eq
+returns-then-eq g c =
     let number = g.P.Inx.PtrInx.number in
-    let packed_number = g.P.Inx.PtrInx.packed_number in
     let at = c.loop-step.invariant in
+    let look = c.look_at-before.ensures in
+    let shown = shown_in g.P.Inx.PtrInx.packed_number c.args.compactor.now.held.slots in
+    let came = ap (λ h. prev_of (shown_in g.P.Inx.PtrInx.packed_number h.slots) (number c.loop-step.at)) at.held in
     let told : c.eq.result ≡ g.P.Inx.PartialEq.eq c.in-Some.k c.args.i = search of_calls in
     let same = (g.met.P.Inx.PtrInx.eq_is_same c.in-Some.k c.args.i).0 (sym told ∙ c.if-eq.true) in
-    back_comes_round (shown_in packed_number c.args.compactor.now.held.slots) (number c.args.i) c.loop-step.step (number c.loop-step.at) at.back
-    (sym (ap (λ h. prev_of (shown_in packed_number h.slots) (number c.loop-step.at)) at.held) ∙ (sym c.in-Some.ensures.answer ∙ ap (λ k. Some (number k)) same))
+    record {
+      same_reference = look.looked.same_reference ∙ at.same_reference;
+      start = back_comes_round shown (number c.args.i) c.loop-step.step (number c.loop-step.at) at.back
+          (sym came ∙ (sym look.prev ∙ ap (option_map number) c.in-Some.is ∙ ap (λ k. Some (number k)) same));
+      held = look.looked.held ∙ at.held;
+      linear = λ xs h m. work-more at.work (work-touched _ _ look.looked.arena) 0 _ refl (looks_linear shown (number c.args.i) c.loop-step.step (number c.loop-step.at) at.back xs h m);
+      cyclic = λ xs h. work-more at.work (work-touched _ _ look.looked.arena) 0 _ refl (looks_cyclic shown (number c.args.i) c.loop-step.step (number c.loop-step.at) at.back xs h);
+      counts = counts_then _ _ _ _ _ _ _ _ _ at.counts look.looked.counts;
+    }
 
-pub returns-then-eq-clause-linear : goal.returns-then-eq-clause-linear
-returns-then-eq-clause-linear g c xs h m =
+pub returns-in-None : goal.returns-in-None
+returns-in-None g c =
     let number = g.P.Inx.PtrInx.number in
     let at = c.loop-step.invariant in
-    let few = looks_linear (shown_in g.P.Inx.PtrInx.packed_number c.args.compactor.now.held.slots) (number c.args.i) c.loop-step.step (number c.loop-step.at) at.back xs h m in
-    work-more at.work (work-touched _ _ c.before_at.ensures.arena) 0 _ refl few
-
-pub returns-then-eq-clause-cyclic : goal.returns-then-eq-clause-cyclic
-returns-then-eq-clause-cyclic g c xs h =
-    let number = g.P.Inx.PtrInx.number in
-    let at = c.loop-step.invariant in
-    let few = looks_cyclic (shown_in g.P.Inx.PtrInx.packed_number c.args.compactor.now.held.slots) (number c.args.i) c.loop-step.step (number c.loop-step.at) at.back xs h in
-    work-more at.work (work-touched _ _ c.before_at.ensures.arena) 0 _ refl few
-
-pub returns-in-None-clause-start : goal.returns-in-None-clause-start
-returns-in-None-clause-start g c =
-    let number = g.P.Inx.PtrInx.number in
-    let packed_number = g.P.Inx.PtrInx.packed_number in
-    let at = c.loop-step.invariant in
-    back_ends (shown_in packed_number c.args.compactor.now.held.slots) (number c.args.i) c.loop-step.step (number c.loop-step.at) at.back
-    (sym (ap (λ h. prev_of (shown_in packed_number h.slots) (number c.loop-step.at)) at.held) ∙ sym c.in-None.ensures.answer)
-
-pub returns-in-None-clause-linear : goal.returns-in-None-clause-linear
-returns-in-None-clause-linear g c xs h m =
-    let number = g.P.Inx.PtrInx.number in
-    let at = c.loop-step.invariant in
-    let few = looks_linear (shown_in g.P.Inx.PtrInx.packed_number c.args.compactor.now.held.slots) (number c.args.i) c.loop-step.step (number c.loop-step.at) at.back xs h m in
-    work-more at.work (work-touched _ _ c.before_at.ensures.arena) 0 _ refl few
-
-pub returns-in-None-clause-cyclic : goal.returns-in-None-clause-cyclic
-returns-in-None-clause-cyclic g c xs h =
-    let number = g.P.Inx.PtrInx.number in
-    let at = c.loop-step.invariant in
-    let few = looks_cyclic (shown_in g.P.Inx.PtrInx.packed_number c.args.compactor.now.held.slots) (number c.args.i) c.loop-step.step (number c.loop-step.at) at.back xs h in
-    work-more at.work (work-touched _ _ c.before_at.ensures.arena) 0 _ refl few
+    let look = c.look_at-before.ensures in
+    let shown = shown_in g.P.Inx.PtrInx.packed_number c.args.compactor.now.held.slots in
+    let came = ap (λ h. prev_of (shown_in g.P.Inx.PtrInx.packed_number h.slots) (number c.loop-step.at)) at.held in
+    record {
+      same_reference = look.looked.same_reference ∙ at.same_reference;
+      start = back_ends shown (number c.args.i) c.loop-step.step (number c.loop-step.at) at.back (sym came ∙ (sym look.prev ∙ ap (option_map number) c.in-None.is));
+      held = look.looked.held ∙ at.held;
+      linear = λ xs h m. work-more at.work (work-touched _ _ look.looked.arena) 0 _ refl (looks_linear shown (number c.args.i) c.loop-step.step (number c.loop-step.at) at.back xs h m);
+      cyclic = λ xs h. work-more at.work (work-touched _ _ look.looked.arena) 0 _ refl (looks_cyclic shown (number c.args.i) c.loop-step.step (number c.loop-step.at) at.back xs h);
+      counts = counts_then _ _ _ _ _ _ _ _ _ at.counts look.looked.counts;
+    }
 
 pub loop-step-preserved : goal.loop-step-preserved
 loop-step-preserved g c =
@@ -75,13 +65,13 @@ loop-step-preserved g c =
     let at = c.loop-step.invariant in
     let told : c.eq.result ≡ g.P.Inx.PartialEq.eq c.in-Some.k c.args.i = search of_calls in
     record {
-      same_reference = c.before_at.ensures.same_reference ∙ at.same_reference;
-      held = c.before_at.ensures.held ∙ at.held;
+      same_reference = c.look_at-before.ensures.looked.same_reference ∙ at.same_reference;
+      held = c.look_at-before.ensures.looked.held ∙ at.held;
       back = back_goes_on (shown_in packed_number c.args.compactor.now.held.slots) (number c.args.i) c.loop-step.step (number c.loop-step.at) (number c.in-Some.k) at.back
-          (sym (ap (λ h. prev_of (shown_in packed_number h.slots) (number c.loop-step.at)) at.held) ∙ sym c.in-Some.ensures.answer)
+          (sym (ap (λ h. prev_of (shown_in packed_number h.slots) (number c.loop-step.at)) at.held) ∙ sym c.look_at-before.ensures.prev ∙ ap (option_map number) c.in-Some.is)
           (λ e. not_both _ ((g.met.P.Inx.PtrInx.eq_is_same c.in-Some.k c.args.i).1 (g.met.P.Inx.PtrInx.same_number c.in-Some.k c.args.i e)) (sym told ∙ c.if-eq.false));
-      work = work-more at.work (work-touched _ _ c.before_at.ensures.arena) 0 _ refl (omega arith);
-      counts = counts_then _ _ _ _ _ _ _ _ _ at.counts c.before_at.ensures.counts;
+      work = work-more at.work (work-touched _ _ c.look_at-before.ensures.looked.arena) 0 _ refl (omega arith);
+      counts = counts_then _ _ _ _ _ _ _ _ _ at.counts c.look_at-before.ensures.looked.counts;
     }
 
 pub unreachable-requires : goal.unreachable-requires

@@ -1,0 +1,20 @@
+-- One look: what is answered is read off the entry.
+use Rattle.std.proofs.Common.{◌∙◌}
+use Rattle.chain_layout.proofs.Looks.{has_looked, entry_shown, nothing_shown}
+use Rattle.chain_layout.proofs.looking.look_at.Goals as goal
+
+pub returns-in-Some : goal.returns-in-Some
+returns-in-Some g c =
+    let shown = entry_shown g.P.Inx.PtrInx.packed_number _ _ c.in-Some.ensures.value in
+    record {
+      looked = has_looked _ _ c.peek.follows.holds-at-none;
+      generation = shown.0;
+      prev = c.prev.ensures ∙ shown.1;
+      next = c.next.ensures ∙ shown.2;
+      destination = c.destination.ensures ∙ shown.3;
+    }
+
+pub returns-in-None : goal.returns-in-None
+returns-in-None g c =
+    let shown = nothing_shown g.P.Inx.PtrInx.packed_number _ c.in-None.ensures.value in
+    record { looked = has_looked _ _ c.peek.follows.holds-at-none; generation = shown.0; prev = shown.1; next = shown.2; destination = shown.3 }

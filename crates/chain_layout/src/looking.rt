@@ -1,0 +1,35 @@
+// Looks at one slot, which leave no borrow of it.
+ghost use Rattle.std.specs.Prelude.{◌≡◌};
+ghost use Rattle.std.specs.Option.{option_map};
+ghost use Rattle.chain_laws.specs.Chains.{prev_of, next_of};
+ghost use Rattle.arena_base.specs.Arena.{slot_at};
+ghost use Rattle.chain_layout.specs.HeldLinks.{shown_in};
+ghost use Rattle.chain_layout.specs.Looks.{HasLooked};
+ghost use Rattle.chain_layout.specs.Numbering.{given};
+
+use arena_base::{ArenaSlot, Compactor, SlotAccess};
+use arena_ptr::{Ptr, PtrInx, SlotStack};
+use chain_links::LinkNoGen;
+
+// Of the link at an index, if one stands there: its generation, the indexes of the links before and after it, and its
+// destination.
+pub(crate) fn look_at<P: Ptr, T: Drop, S: SlotStack<Item = ArenaSlot<P, LinkNoGen<P, T>>>>(
+    compactor: &mut Compactor<'_, P, LinkNoGen<P, T>, S>,
+    i: P::Inx,
+) -> (
+    Option<P::Gen>,
+    Option<P::Inx>,
+    Option<P::Inx>,
+    Option<P::Inx>,
+)
+    ensures looked { HasLooked compactor.old compactor.new }
+    ensures generation { result.0 ≡ option_map (λ e. e.0) (slot_at compactor.old.held.slots (P.Inx.number i)) }
+    ensures prev { option_map P.Inx.number result.1 ≡ prev_of (shown_in P.Inx.packed_number compactor.old.held.slots) (P.Inx.number i) }
+    ensures next { option_map P.Inx.number result.2 ≡ next_of (shown_in P.Inx.packed_number compactor.old.held.slots) (P.Inx.number i) }
+    ensures destination { option_map P.Inx.number result.3 ≡ given P.Inx.packed_number compactor.old.held.slots (P.Inx.number i) }
+{
+    match compactor.peek(i) {
+        Some((was, link)) => (Some(*was), link.prev(), link.next(), link.destination()),
+        None => (None, None, None, None),
+    }
+}
