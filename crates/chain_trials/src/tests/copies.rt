@@ -9,7 +9,6 @@ use arena_base::{Arena, ArenaSlot, ArenaTrait};
 use arena_ptr::{LimitedStack, Ptr, ReallocationError, SetMaxCapacity, SlotStack, ToolPtr};
 use chain_arena::{ChainArena, ChainArenaTrait, LinkInsertKind, LinkNoGen};
 use std::alloc::{AllocError, Global};
-use std::fmt::Debug;
 use std::process::Abort;
 
 // The links of a clone, the pointer of the next one there, and the maximum.
@@ -188,15 +187,10 @@ impl Clone for Refusing {
 
 // An arena of two values, of which the second refuses: how its clone is refused, the second value, which is removed, and the
 // first link and the length of the clone then.
-fn cloned_once_more<P: Ptr, T: Clone + Debug + Drop>(
-    rt: &impl Abort,
-    alloc: Global,
-    first: T,
-    second: T,
-) -> String {
-    let mut arena: ChainArena<P, T> = ChainArena::new(alloc);
-    let p = put(rt, &mut arena, LinkInsertKind::Disconnected, first);
-    let q = put(rt, &mut arena, LinkInsertKind::Disconnected, second);
+fn cloned_once_more<P: Ptr>(rt: &impl Abort, alloc: Global) -> String {
+    let mut arena: ChainArena<P, Refusing> = ChainArena::new(alloc);
+    let p = put(rt, &mut arena, LinkInsertKind::Disconnected, Refusing(1));
+    let q = put(rt, &mut arena, LinkInsertKind::Disconnected, Refusing(2));
     let refused = arena.clone(alloc).err();
     let second = arena.remove(q);
     let copy = arena.clone(alloc).expect(rt, "memory");
@@ -206,7 +200,7 @@ fn cloned_once_more<P: Ptr, T: Clone + Debug + Drop>(
 
 #[test]
 fn a_clone_of_a_value_is_refused(rt: HostRuntime) {
-    let told = cloned_once_more::<ToolPtr, Refusing>(&rt, rt.alloc(), Refusing(1), Refusing(2));
+    let told = cloned_once_more::<ToolPtr>(&rt, rt.alloc());
     let want = "(Some(AllocError), Success(Refusing(2)), Some({(start), (end)} Refusing(1)), 1)";
     same(&rt, "nothing is lost", told.as_str(), want);
 }
