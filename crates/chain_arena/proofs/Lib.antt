@@ -21,3 +21,4 @@ pub mod Touching
 pub mod Within
 pub mod Writing
 pub mod Canonizing
+pub mod Placing

@@ -4,3 +4,4 @@ pub mod Copies
 pub mod Steps
 pub mod Recasting
 pub mod Growths
+pub mod Places

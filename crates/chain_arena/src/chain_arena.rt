@@ -1,31 +1,27 @@
-ghost use Rattle.std.specs.Prelude.{◌≡◌, ◌<◌, ◌≤◌, ◌+◌, ◌↔◌, length, map, min, IsSome, IfSome, IsOk, IfOk, OnOk, IsErr, OnErr, Err};
-ghost use Rattle.arena_ptr.specs.SlotStack.{IsBeyond};
+ghost use Rattle.std.specs.Prelude.{◌≡◌, ◌≤◌, ◌+◌, ◌↔◌, length, map, min, IsSome, IfSome, IfOk, OnOk, OnErr};
 ghost use Rattle.chain_laws.specs.Chains.{Agrees};
 ghost use Rattle.std.specs.Option.{option_map};
 ghost use Rattle.arena_ptr.specs.Invalidation.{invalidation_option};
-ghost use Rattle.chain_laws.specs.Insertions.{IsGap};
-ghost use Rattle.arena_base.specs.Arena.{entry_count, next_index, with_counter, with_maximum, with_capacity_of, IsValid, IsListed, HasRoom};
+ghost use Rattle.arena_base.specs.Arena.{entry_count, with_counter, with_maximum, IsValid};
 ghost use Rattle.arena_base.specs.Compressing.{overflows_after_compression};
 ghost use Rattle.arena_base.specs.Slots.{entry_of};
-ghost use Rattle.chain_links.specs.ChainArena.{entry, seen, shown, insert_between, IsWalkOf};
+ghost use Rattle.chain_links.specs.ChainArena.{entry, seen, shown, IsWalkOf};
 ghost use Rattle.chain_links.specs.Kinds.{names_in};
-ghost use Rattle.chain_interlinks.specs.Gaps.{before_in, after_in, IsGapOf};
+ghost use Rattle.chain_interlinks.specs.Gaps.{IsGapOf};
 ghost use Rattle.chain_layout.specs.Layouts.{IsCanonicalLayout, ShowsAll, ShowsLayout, AreAllMoves};
 ghost use Rattle.chain_links.specs.Links.{seen_pair};
 
 use crate::visiting::{Listing, Showing};
 use arena_base::{Arena, ArenaSlot, ArenaTrait, Work};
 use arena_ptr::{
-    AllocError, HeapStack, InvalidationOption, LimitStack, MaxCapacityReductionError,
-    NotWithinCapacityError, Ptr, ReallocationError, SetMaxCapacity, SlotStack,
+    AllocError, HeapStack, InvalidationOption, LimitStack, MaxCapacityReductionError, Ptr,
+    SetMaxCapacity, SlotStack,
 };
 use chain_interlinks::ChainIter;
 use chain_interlinks::gaps::{Gap, gap_of};
-use chain_interlinks::placing::{link_in, tie};
 use chain_layout::canonical::lay_out;
 use chain_layout::compress::begin_generation;
 use chain_layout::visiting::Visitor;
-use chain_links::facts::freed_are_free;
 use chain_links::kinds::by_names;
 use chain_links::{LinkInsertKind, LinkNoGen};
 use std::alloc::Global;
@@ -78,53 +74,6 @@ impl<P: Ptr, T: Drop, S: SlotStack<Item = ArenaSlot<P, LinkNoGen<P, T>>>> ChainA
         ensures agree { Agrees (shown self.now) }
     {
         gap_of(&self.arena, by_names(kind))
-    }
-
-    // Adds a link in a gap, within the capacity.
-    pub(crate) fn insert_in_room(
-        &mut self,
-        gap: Gap<P::Inx>,
-        t: T,
-    ) -> Result<P, NotWithinCapacityError>
-        requires { IsGap (shown self.old) (next_index self.old) (before_in P.Inx.number gap (next_index self.old)) (after_in P.Inx.number gap (next_index self.old)) }
-        ensures refused { IsErr result ↔ (entry_count self.old ≡ self.old.capacity) }
-        ensures ptr { IfOk result (λ p. P.key p ≡ (next_index self.old, self.old.counter)) }
-        ensures ok { OnOk result (self.new ≡ insert_between self.old t (before_in P.Inx.number gap (next_index self.old)) (after_in P.Inx.number gap (next_index self.old))) }
-        ensures err { OnErr result (self.new ≡ self.old) }
-        ensures listed { IsListed self.old }
-        ensures agreed { Agrees (shown self.old) }
-    {
-        freed_are_free(&self.arena);
-        match self.arena.insert_within_capacity(link_in::<P, T>(gap, t)) {
-            Ok(p) => {
-                tie(&mut self.arena, gap, p);
-                Ok(p)
-            }
-            Err(refusal) => Err(refusal),
-        }
-    }
-
-    // Adds a link in a gap, in a full arena after a growth.
-    pub(crate) fn insert_growing(&mut self, gap: Gap<P::Inx>, t: T) -> Result<P, ReallocationError>
-        requires { IsGap (shown self.old) (next_index self.old) (before_in P.Inx.number gap (next_index self.old)) (after_in P.Inx.number gap (next_index self.old)) }
-        ensures ptr { IfOk result (λ p. P.key p ≡ (next_index self.old, self.old.counter)) }
-        ensures ok { OnOk result (self.new ≡ with_capacity_of (insert_between self.old t (before_in P.Inx.number gap (next_index self.old)) (after_in P.Inx.number gap (next_index self.old))) self.new) }
-        ensures grown { OnOk result (HasRoom P.Inx.greatest (entry_count self.old + 1) self.new) }
-        ensures err { OnErr result (self.new ≡ self.old) }
-        ensures room { entry_count self.old < self.old.capacity → IsOk result × (self.new ≡ insert_between self.old t (before_in P.Inx.number gap (next_index self.old)) (after_in P.Inx.number gap (next_index self.old))) }
-        ensures beyond { (result ≡ Err ReallocationError.BeyondMaxCapacity) ↔ ((entry_count self.old ≡ self.old.capacity) × IsBeyond self.old.maximum (entry_count self.old + 1)) }
-        ensures greatest { entry_count self.old ≡ P.Inx.greatest → IsErr result }
-        ensures listed { IsListed self.old }
-        ensures agreed { Agrees (shown self.old) }
-    {
-        freed_are_free(&self.arena);
-        match self.arena.insert_reallocating(link_in::<P, T>(gap, t)) {
-            Ok(p) => {
-                tie(&mut self.arena, gap, p);
-                Ok(p)
-            }
-            Err(refusal) => Err(refusal),
-        }
     }
 
     /// The counter: the generation of the next link.

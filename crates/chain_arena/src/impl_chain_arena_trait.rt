@@ -31,9 +31,7 @@ use arena_ptr::{
     ReallocationError, SlotStack,
 };
 use chain_interlinks::gaps::{is_index, next_of as next_of_link, prev_of as prev_of_link};
-use chain_interlinks::interlinks::{
-    can_connect, insertion_error, link_twice, link_up, neighbor, take_out,
-};
+use chain_interlinks::interlinks::{can_connect, link_twice, link_up, neighbor, take_out};
 use chain_links::kinds::Name;
 use chain_links::{Link, LinkInsertKind, LinkNoGen};
 
@@ -84,13 +82,8 @@ impl<P: Ptr, T: Drop, S: SlotStack<Item = ArenaSlot<P, LinkNoGen<P, T>>>> ChainA
         ensures place { IfOk result (λ p. (P.key p).0 ≡ next_index self.old) }
         ensures state { OnOk result (self.new ≡ insert_as self.old (by_index (names_in P.key P.Inx.number kind)) t) }
     {
-        match self.gap_for(kind) {
-            Some(gap) => match self.insert_in_room(gap, t) {
-                Ok(p) => Ok(p),
-                Err(_) => Err(ChainInsertionError::NotWithinCapacity),
-            },
-            None => Err(ChainInsertionError::FailedLinkRequirement),
-        }
+        let asked = self.gap_within(kind);
+        self.put_in(asked, t)
     }
 
     fn insert_reallocating(
@@ -112,13 +105,8 @@ impl<P: Ptr, T: Drop, S: SlotStack<Item = ArenaSlot<P, LinkNoGen<P, T>>>> ChainA
         ensures state_in_room { MayInsert (entry self.old) (interlinks self.old) (names_in P.key P.Inx.number kind) → entry_count self.old < self.old.capacity → self.new ≡ insert_as self.old (by_index (names_in P.key P.Inx.number kind)) t }
         ensures state_grown { OnOk result (HasRoom P.Inx.greatest (entry_count self.old + 1) self.new) }
     {
-        match self.gap_for(kind) {
-            Some(gap) => match self.insert_growing(gap, t) {
-                Ok(p) => Ok(p),
-                Err(refusal) => Err(insertion_error(refusal)),
-            },
-            None => Err(ChainInsertionError::FailedLinkRequirement),
-        }
+        let asked = self.gap_growing(kind);
+        self.put_in(asked, t)
     }
 
     fn insert(&mut self, kind: LinkInsertKind<P>, t: T) -> Result<P, ReallocationError>

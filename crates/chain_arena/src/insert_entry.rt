@@ -1,5 +1,5 @@
 // An insertion of a link that is made ready before its value.
-ghost use Rattle.std.specs.Prelude.{◌≡◌, ◌≢◌, ◌↔◌, ◌<◌, ◌≤◌, ◌+◌, ◌⊎◌, IsErr, IfOk, IfErr, OnOk, OnErr, IsOk, IsOkAnd, Err};
+ghost use Rattle.std.specs.Prelude.{◌≡◌, ◌≢◌, ◌↔◌, ◌<◌, ◌≤◌, ◌+◌, ◌⊎◌, IsErr, IfOk, IfErr, IsOkAnd, Err};
 ghost use Rattle.std.specs.Borrow.{RestsIfErr, sem};
 ghost use Rattle.std.specs.Option.{option_map};
 ghost use Rattle.arena_ptr.specs.Numbers.{IsWithin};
@@ -15,7 +15,6 @@ use crate::chain_arena::ChainArena;
 use arena_base::{ArenaSlot, ArenaTrait};
 use arena_ptr::{ChainInsertionError, HeapStack, Ptr, PtrInx, ReallocationError, SlotStack};
 use chain_interlinks::gaps::Gap;
-use chain_interlinks::interlinks::insertion_error;
 use chain_interlinks::placing::around;
 use chain_links::{LinkInsertKind, LinkNoGen};
 
@@ -93,15 +92,8 @@ impl<P: Ptr, T: Drop, S: SlotStack<Item = ArenaSlot<P, LinkNoGen<P, T>>>> ChainA
         ensures prev { IfOk result (λ e. index_from e.prev ≡ link_before (shown self.old) (by_index (names_in P.key P.Inx.number kind)) (next_index self.old)) }
         ensures next { IfOk result (λ e. index_from e.next ≡ link_after (shown self.old) (by_index (names_in P.key P.Inx.number kind)) (next_index self.old)) }
     {
-        match self.gap_for(kind) {
-            Some(gap) => {
-                if self.len() == self.capacity() {
-                    return Err(ChainInsertionError::NotWithinCapacity);
-                }
-                Ok(self.entry_in(gap))
-            }
-            None => Err(ChainInsertionError::FailedLinkRequirement),
-        }
+        let gap = self.gap_within(kind)?;
+        Ok(self.entry_in(gap))
     }
 
     /// A place for a link of a kind. A full arena grows first, and the growth stays, whether the place is used or not.
@@ -135,13 +127,8 @@ impl<P: Ptr, T: Drop, S: SlotStack<Item = ArenaSlot<P, LinkNoGen<P, T>>>> ChainA
         ensures prev { IfOk result (λ e. index_from e.prev ≡ link_before (shown self.old) (by_index (names_in P.key P.Inx.number kind)) (next_index self.old)) }
         ensures next { IfOk result (λ e. index_from e.next ≡ link_after (shown self.old) (by_index (names_in P.key P.Inx.number kind)) (next_index self.old)) }
     {
-        match self.gap_for(kind) {
-            Some(gap) => match self.make_room() {
-                Ok(()) => Ok(self.entry_in(gap)),
-                Err(refusal) => Err(insertion_error(refusal)),
-            },
-            None => Err(ChainInsertionError::FailedLinkRequirement),
-        }
+        let gap = self.gap_growing(kind)?;
+        Ok(self.entry_in(gap))
     }
 
     /// A place for a link of a kind that may be inserted (`can_insert`), as `entry_insert_reallocating` gives it.
@@ -194,22 +181,6 @@ impl<P: Ptr, T: Drop, S: SlotStack<Item = ArenaSlot<P, LinkNoGen<P, T>>>> ChainA
         }
     }
 
-    // Grows a full arena to room for one link more.
-    fn make_room(&mut self) -> Result<(), ReallocationError>
-        ensures room { entry_count self.old < self.old.capacity → IsOk result × (self.new ≡ self.old) }
-        ensures beyond { (result ≡ Err ReallocationError.BeyondMaxCapacity) ↔ ((entry_count self.old ≡ self.old.capacity) × IsBeyond self.old.maximum (entry_count self.old + 1)) }
-        ensures greatest { entry_count self.old ≡ P.Inx.greatest → IsErr result }
-        ensures ok { OnOk result (HasRoom P.Inx.greatest (entry_count self.old + 1) self.new) }
-        ensures err { OnErr result (self.new ≡ self.old) }
-        ensures after { self.new ≡ with_capacity_of self.old self.new }
-    {
-        let n = self.len() + 1;
-        self.reallocate_min_capacity(n)?;
-        // The room is as in every arena.
-        self.len();
-        Ok(())
-    }
-
     // The entry of a gap, where there is room.
     fn entry_in(&mut self, gap: Gap<P::Inx>) -> ChainArenaInsertEntry<'_, P, T, S>
         requires room { entry_count self.old < self.old.capacity }
@@ -253,7 +224,7 @@ impl<'a, P: Ptr, T: Drop, S: SlotStack<Item = ArenaSlot<P, LinkNoGen<P, T>>>> Ch
     {
         let (prev, next) = (self.prev, self.next);
         let gap = Gap::Between(index_or_none(prev), index_or_none(next));
-        let _ = self.arena.insert_in_room(gap, t);
+        self.arena.put(gap, t);
         let ChainArenaInsertEntry {
             arena: _,
             inx: _,

@@ -14,6 +14,7 @@ mod indexing;
 mod insert_entry;
 mod iterators;
 mod link_drains;
+mod places;
 mod recasting;
 mod texts;
 mod transfer;

@@ -309,23 +309,6 @@ fn with_end<I: PtrInx>(ends: Option<(I, I)>, i: I) -> Option<(I, I)>
     }
 }
 
-// Adds a link in a gap, where there is room.
-fn lay<P: Ptr, T: Drop, S: SlotStack<Item = ArenaSlot<P, LinkNoGen<P, T>>>>(
-    target: &mut ChainArena<P, T, S>,
-    gap: Gap<P::Inx>,
-    t: T,
-)
-    requires gap { IsGap (shown target.old) (next_index target.old) (before_in P.Inx.number gap (next_index target.old)) (after_in P.Inx.number gap (next_index target.old)) }
-    requires room { entry_count target.old < target.old.capacity }
-    ensures state { target.new ≡ insert_between target.old t (before_in P.Inx.number gap (next_index target.old)) (after_in P.Inx.number gap (next_index target.old)) }
-    ensures listed { IsListed target.old }
-{
-    match target.insert_in_room(gap, t) {
-        Ok(_) => {}
-        Err(_) => unreachable!(),
-    }
-}
-
 // Adds a link behind the last of a chain of which these are the ends, where there is room, at the index of a pointer.
 // Answers the ends with it.
 fn lay_behind<P: Ptr, T: Drop, S: SlotStack<Item = ArenaSlot<P, LinkNoGen<P, T>>>>(
@@ -344,7 +327,7 @@ fn lay_behind<P: Ptr, T: Drop, S: SlotStack<Item = ArenaSlot<P, LinkNoGen<P, T>>
         × AreEnds P.Inx.number result (m + 1) (next_index target.old + 1) }
     ensures listed { IsListed target.old }
 {
-    lay(target, gap_behind(ring, ends), t);
+    target.put(gap_behind(ring, ends), t);
     with_end(ends, to.inx())
 }
 

@@ -1,70 +1,60 @@
 -- A link of the kind comes into its gap, after a growth where there was no room.
-use Rattle.std.proofs.Common.{◌≡◌, refl, sym, ap, ap₂, ◌∙◌, subst}
-use Rattle.std.specs.Prelude.{◌<◌, ◌+◌}
-use Rattle.arena_ptr.specs.SlotStack.{IsBeyond}
-use Rattle.std.proofs.lemmas.Bool.{false≢true}
-use Rattle.arena_base.specs.Arena.{next_index, with_capacity_of, entry_count, IsRoom}
-use Rattle.chain_links.specs.ChainArena.{shown, insert_between, insert_as}
-use Rattle.chain_links.specs.Kinds.{names_in, by_index}
-use Rattle.chain_arena.proofs.Outcomes.{beyond-err}
-use Rattle.chain_arena.proofs.Telling.{count-seen, gap_told, insertion_told}
+use Rattle.chain_arena.proofs.Placing.{TellsGrowing, tells_growing, growing_fits, growing_room}
 use Rattle.chain_arena.proofs.impl_chain_arena_trait.ChainArenaChainArenaTrait.insert_reallocating.Given.{Over}
-use Rattle.chain_arena.proofs.impl_chain_arena_trait.ChainArenaChainArenaTrait.insert_reallocating.Goals.{In-Ok}
+use Rattle.chain_arena.proofs.impl_chain_arena_trait.ChainArenaChainArenaTrait.insert_reallocating.Goals.{After-put_in}
 use Rattle.chain_arena.proofs.impl_chain_arena_trait.ChainArenaChainArenaTrait.insert_reallocating.Goals as goal
 
--- the state after it
-state : (g : Over) (c : In-Ok g) → c.insert_growing.new.self ≡ with_capacity_of (insert_as c.args.self.now (by_index (names_in g.P.Ptr.key g.P.Inx.PtrInx.number c.args.kind)) c.args.t) c.insert_growing.new.self
-state g c =
-    let q = next_index c.args.self.now in
-    c.in-Ok.ensures.ok ∙ ap₂ (λ u v. with_capacity_of (insert_between c.args.self.now c.args.t u v) c.insert_growing.new.self) (c.in-Some.ensures.gap.before q) (c.in-Some.ensures.gap.after q)
+pub put_in-requires : goal.put_in-requires
+put_in-requires g c =
+    let key = g.P.Ptr.key in
+    let number = g.P.Inx.PtrInx.number in
+    let greatest = g.P.Inx.PtrInx.greatest in
+    let asked = c.gap_growing-asked in record {
+      gap = growing_fits key number greatest c.args.self.now asked.new.self c.args.kind asked.result asked.ensures.agreed asked.ensures.place;
+      room = growing_room key number greatest c.args.self.now asked.new.self c.args.kind asked.result asked.ensures.place;
+    }
 
--- .. and where there was room
-in_room : (g : Over) (c : In-Ok g) → entry_count c.args.self.now < c.args.self.now.capacity → c.insert_growing.new.self ≡ insert_as c.args.self.now (by_index (names_in g.P.Ptr.key g.P.Inx.PtrInx.number c.args.kind)) c.args.t
-in_room g c room =
-    let q = next_index c.args.self.now in
-    (c.in-Ok.ensures.room room).1 ∙ ap₂ (insert_between c.args.self.now c.args.t) (c.in-Some.ensures.gap.before q) (c.in-Some.ensures.gap.after q)
+told : (g : Over) (c : After-put_in g) → TellsGrowing g.P.Ptr.key g.P.Inx.PtrInx.number c.args.self.now c.args.kind c.args.t c.put_in.new.self g.P.Inx.PtrInx.greatest c.put_in.result
+told g c =
+    let asked = c.gap_growing-asked in
+    tells_growing g.P.Ptr.key g.P.Inx.PtrInx.number c.args.self.now c.args.kind c.args.t c.put_in.new.self asked.new.self g.P.Inx.PtrInx.greatest asked.ensures.agreed asked.result c.put_in.result
+    asked.ensures.place c.put_in.ensures
 
-pub returns-in-Ok-clause-state : goal.returns-in-Ok-clause-state
-returns-in-Ok-clause-state g c = state g c
+pub returns-clause-inserted : goal.returns-clause-inserted
+returns-clause-inserted g c = (told g c).inserted
 
-pub returns-in-Ok-clause-state_in_room : goal.returns-in-Ok-clause-state_in_room
-returns-in-Ok-clause-state_in_room g c = λ may room. in_room g c room
+pub returns-clause-err : goal.returns-clause-err
+returns-clause-err g c = (told g c).err
 
-pub returns-in-Ok-clause-inserted : goal.returns-in-Ok-clause-inserted
-returns-in-Ok-clause-inserted g c =
-    insertion_told c.args.self.now c.args.t c.in-Ok.ensures.listed c.insert_growing.new.self (by_index (names_in g.P.Ptr.key g.P.Inx.PtrInx.number c.args.kind)) (state g c)
-    (g.P.Ptr.key c.in-Ok.p) c.in-Ok.ensures.ptr c.in-Ok.ensures.agreed (c.in-Some.ensures.gap.some.0 refl).1
+pub returns-clause-link : goal.returns-clause-link
+returns-clause-link g c = (told g c).link
 
-pub returns-in-Ok-clause-room : goal.returns-in-Ok-clause-room
-returns-in-Ok-clause-room g c = λ may room. (refl, ap (λ x. x.capacity) (in_room g c (subst (λ n. n < c.args.self.now.capacity) (count-seen c.args.self.now) room)))
+pub returns-clause-error : goal.returns-clause-error
+returns-clause-error g c = (told g c).error
 
-pub returns-in-Err-clause-room : goal.returns-in-Err-clause-room
-returns-in-Err-clause-room g c = λ may room. absurd (false≢true (c.in-Err.ensures.room (subst (λ n. n < c.args.self.now.capacity) (count-seen c.args.self.now) room)).0)
+pub returns-clause-room : goal.returns-clause-room
+returns-clause-room g c = (told g c).room
 
-pub returns-in-Ok-clause-grown : goal.returns-in-Ok-clause-grown
-returns-in-Ok-clause-grown g c =
-    let b = c.insert_growing.new.self in
-    subst (λ n. IsRoom g.P.Inx.PtrInx.greatest b.maximum (n + 1) b.capacity) (sym (count-seen c.args.self.now)) c.in-Ok.ensures.grown.0
+pub returns-clause-grown : goal.returns-clause-grown
+returns-clause-grown g c = (told g c).grown
 
-pub returns-in-Ok-clause-greatest : goal.returns-in-Ok-clause-greatest
-returns-in-Ok-clause-greatest g c = λ full. c.in-Ok.ensures.greatest (sym (count-seen c.args.self.now) ∙ full)
+pub returns-clause-beyond : goal.returns-clause-beyond
+returns-clause-beyond g c = (told g c).beyond
 
-pub returns-in-Ok-clause-beyond : goal.returns-in-Ok-clause-beyond
-returns-in-Ok-clause-beyond g c = (
-  λ h. absurd (let k = h in cc),
-  λ h. let refused = c.in-Ok.ensures.beyond.1 (sym (count-seen c.args.self.now) ∙ h.1.0, subst (λ n. IsBeyond c.args.self.now.maximum (n + 1)) (count-seen c.args.self.now) h.1.1) in absurd (cc),
-)
+pub returns-clause-greatest : goal.returns-clause-greatest
+returns-clause-greatest g c = (told g c).at_greatest
 
-pub returns-in-Err-clause-beyond : goal.returns-in-Err-clause-beyond
-returns-in-Err-clause-beyond g c =
-    let a = c.args.self.now in
-    let told = beyond-err a.maximum a.capacity _ _ (count-seen a) c.in-Err.refusal _ c.insertion_error.ensures.alloc c.insertion_error.ensures.beyond c.in-Err.ensures.beyond in
-    (λ is. (c.in-Some.ensures.gap.some.0 refl, told.0 is), λ h. told.1 h.1)
+pub returns-clause-place : goal.returns-clause-place
+returns-clause-place g c = (told g c).place
 
-pub returns-in-None-clause-agreed : goal.returns-in-None-clause-agreed
-returns-in-None-clause-agreed g c = c.in-None.ensures.agree
+pub returns-clause-state : goal.returns-clause-state
+returns-clause-state g c = (told g c).state
 
-pub insert_growing-requires : goal.insert_growing-requires
-insert_growing-requires g c =
-    let a = c.args.self.now in
-    gap_told (shown a) (by_index (names_in g.P.Ptr.key g.P.Inx.PtrInx.number c.args.kind)) (next_index a) (c.in-Some.ensures.gap.before (next_index a)) (c.in-Some.ensures.gap.after (next_index a)) c.in-Some.ensures.agree (c.in-Some.ensures.gap.some.0 refl).1
+pub returns-clause-state_in_room : goal.returns-clause-state_in_room
+returns-clause-state_in_room g c = (told g c).state_in_room
+
+pub returns-clause-state_grown : goal.returns-clause-state_grown
+returns-clause-state_grown g c = (told g c).state_grown
+
+pub returns-clause-agreed : goal.returns-clause-agreed
+returns-clause-agreed g c = c.gap_growing-asked.ensures.agreed

@@ -1,40 +1,45 @@
 -- A link of the kind comes into its gap.
-use Rattle.std.proofs.Common.{◌≡◌, refl, sym, ap, ap₂, ◌∙◌}
-use Rattle.std.proofs.lemmas.Bool.{false≢true}
-use Rattle.arena_base.specs.Arena.{next_index, with_capacity_of}
-use Rattle.chain_links.specs.ChainArena.{shown, insert_between, insert_as}
-use Rattle.chain_links.specs.Kinds.{names_in, by_index}
-use Rattle.chain_arena.proofs.Telling.{count-seen, gap_told, insertion_told}
+use Rattle.chain_arena.proofs.Placing.{TellsWithin, tells_within, within_fits, within_room}
 use Rattle.chain_arena.proofs.impl_chain_arena_trait.ChainArenaChainArenaTrait.insert_within_capacity.Given.{Over}
-use Rattle.chain_arena.proofs.impl_chain_arena_trait.ChainArenaChainArenaTrait.insert_within_capacity.Goals.{In-Ok}
+use Rattle.chain_arena.proofs.impl_chain_arena_trait.ChainArenaChainArenaTrait.insert_within_capacity.Goals.{After-put_in}
 use Rattle.chain_arena.proofs.impl_chain_arena_trait.ChainArenaChainArenaTrait.insert_within_capacity.Goals as goal
 
--- the state after it
-state : (g : Over) (c : In-Ok g) → c.insert_in_room.new.self ≡ insert_as c.args.self.now (by_index (names_in g.P.Ptr.key g.P.Inx.PtrInx.number c.args.kind)) c.args.t
-state g c =
-    let q = next_index c.args.self.now in
-    c.in-Ok.ensures.ok ∙ ap₂ (insert_between c.args.self.now c.args.t) (c.in-Some.ensures.gap.before q) (c.in-Some.ensures.gap.after q)
+pub put_in-requires : goal.put_in-requires
+put_in-requires g c =
+    let number = g.P.Inx.PtrInx.number in
+    let asked = c.gap_within-asked in record {
+      gap = within_fits g.P.Ptr.key number c.args.self.now c.args.kind asked.result asked.ensures.agree asked.ensures.place;
+      room = within_room g.P.Ptr.key number c.args.self.now c.args.kind asked.result asked.ensures.place;
+    }
 
-pub returns-in-Ok-clause-state : goal.returns-in-Ok-clause-state
-returns-in-Ok-clause-state g c = state g c
+told : (g : Over) (c : After-put_in g) → TellsWithin g.P.Ptr.key g.P.Inx.PtrInx.number c.args.self.now c.args.kind c.args.t c.put_in.new.self c.put_in.result
+told g c =
+    let asked = c.gap_within-asked in
+    tells_within g.P.Ptr.key g.P.Inx.PtrInx.number c.args.self.now c.args.kind c.args.t c.put_in.new.self asked.ensures.agree asked.result c.put_in.result asked.ensures.place c.put_in.ensures
 
-pub returns-in-Ok-clause-inserted : goal.returns-in-Ok-clause-inserted
-returns-in-Ok-clause-inserted g c =
-    let kind = (by_index (names_in g.P.Ptr.key g.P.Inx.PtrInx.number c.args.kind)) in
-    insertion_told c.args.self.now c.args.t c.in-Ok.ensures.listed c.insert_in_room.new.self kind
-    (state g c ∙ ap (with_capacity_of (insert_as c.args.self.now kind c.args.t)) (sym (state g c)))
-    (g.P.Ptr.key c.in-Ok.p) c.in-Ok.ensures.ptr c.in-Ok.ensures.agreed (c.in-Some.ensures.gap.some.0 refl).1
+pub returns-clause-inserted : goal.returns-clause-inserted
+returns-clause-inserted g c = (told g c).inserted
 
-pub returns-in-Ok-clause-full : goal.returns-in-Ok-clause-full
-returns-in-Ok-clause-full g c = (λ h. absurd (let k = h in cc), λ full. absurd (false≢true (c.in-Ok.ensures.refused.1 (sym (count-seen c.args.self.now) ∙ full.1))))
+pub returns-clause-capacity : goal.returns-clause-capacity
+returns-clause-capacity g c = (told g c).capacity
 
-pub returns-in-Err-clause-full : goal.returns-in-Err-clause-full
-returns-in-Err-clause-full g c = (λ _. (c.in-Some.ensures.gap.some.0 refl, count-seen c.args.self.now ∙ c.in-Err.ensures.refused.0 refl), λ _. refl)
+pub returns-clause-err : goal.returns-clause-err
+returns-clause-err g c = (told g c).err
 
-pub returns-in-None-clause-agreed : goal.returns-in-None-clause-agreed
-returns-in-None-clause-agreed g c = c.in-None.ensures.agree
+pub returns-clause-link : goal.returns-clause-link
+returns-clause-link g c = (told g c).link
 
-pub insert_in_room-requires : goal.insert_in_room-requires
-insert_in_room-requires g c =
-    let a = c.args.self.now in
-    gap_told (shown a) (by_index (names_in g.P.Ptr.key g.P.Inx.PtrInx.number c.args.kind)) (next_index a) (c.in-Some.ensures.gap.before (next_index a)) (c.in-Some.ensures.gap.after (next_index a)) c.in-Some.ensures.agree (c.in-Some.ensures.gap.some.0 refl).1
+pub returns-clause-full : goal.returns-clause-full
+returns-clause-full g c = (told g c).full
+
+pub returns-clause-error : goal.returns-clause-error
+returns-clause-error g c = (told g c).error
+
+pub returns-clause-place : goal.returns-clause-place
+returns-clause-place g c = (told g c).place
+
+pub returns-clause-state : goal.returns-clause-state
+returns-clause-state g c = (told g c).state
+
+pub returns-clause-agreed : goal.returns-clause-agreed
+returns-clause-agreed g c = c.gap_within-asked.ensures.agree

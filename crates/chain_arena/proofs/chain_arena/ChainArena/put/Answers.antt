@@ -1,5 +1,5 @@
 -- The link comes into the gap, and the interlinks still agree.
-use Rattle.std.proofs.Common.{◌≡◌, sym, ap, ◌∙◌, subst}
+use Rattle.std.proofs.Common.{◌≡◌, sym, ap, subst}
 use Rattle.chain_laws.specs.Chains.{Agrees}
 use Rattle.chain_laws.specs.Insertions.{IsGap}
 use Rattle.chain_laws.proofs.InsertionPairs.{gap_between}
@@ -7,17 +7,18 @@ use Rattle.arena_base.specs.Arena.{next_index}
 use Rattle.chain_links.specs.Links.{seen_links}
 use Rattle.chain_interlinks.specs.Gaps.{before_in, after_in}
 use Rattle.chain_links.specs.ChainArena.{shown, insert_between}
-use Rattle.chain_links.proofs.Inserting.{listed-seen_links, shown-next, entry_count-seen_links}
+use Rattle.chain_links.proofs.Inserting.{listed-seen_links, shown-next}
 use Rattle.chain_interlinks.proofs.Putting.{placed_in_room}
+use Rattle.chain_arena.proofs.Placing.{next_seen}
 use Rattle.chain_arena.proofs.Telling.{agrees-insert_between}
-use Rattle.chain_arena.proofs.chain_arena.ChainArena.insert_in_room.Given.{Over}
-use Rattle.chain_arena.proofs.chain_arena.ChainArena.insert_in_room.Goals.{After-tie}
-use Rattle.chain_arena.proofs.chain_arena.ChainArena.insert_in_room.Goals as goal
+use Rattle.chain_arena.proofs.chain_arena.ChainArena.put.Given.{Over}
+use Rattle.chain_arena.proofs.chain_arena.ChainArena.put.Goals.{After-tie}
+use Rattle.chain_arena.proofs.chain_arena.ChainArena.put.Goals as goal
 
 -- the gap, in the links that the arena holds
 gap : (g : Over) (c : After-tie g) → let s = seen_links g.P.Inx.PtrInx.packed_number c.self.inside.arena in
     IsGap (shown s) (next_index s) (before_in g.P.Inx.PtrInx.number c.args.gap (next_index s)) (after_in g.P.Inx.PtrInx.number c.args.gap (next_index s))
-gap g c = rw (← c.self.view_is) at c.requires
+gap g c = rw (← c.self.view_is) at c.requires.gap
 
 -- what stands then
 inserted : (g : Over) (c : After-tie g) → let s = seen_links g.P.Inx.PtrInx.packed_number c.self.inside.arena in let d = seen_links g.P.Inx.PtrInx.packed_number c.tie.new.arena in
@@ -30,7 +31,7 @@ inserted g c =
     let q = next_index s in
     placed_in_room packed number a c.insert_within_capacity.new.self (seen_links packed c.tie.new.arena) c.args.gap c.args.t c.link_in.result c.freed_are_free.ensures c.link_in.ensures
     (gap_between (shown s) q (before_in number c.args.gap q) (after_in number c.args.gap q) c.self.invariant (shown-next s (listed-seen_links packed a c.freed_are_free.ensures).free) (gap g c)).forth.itself
-    (g.P.Ptr.key c.in-Ok.p).0 (ap (λ p. p.0) c.in-Ok.ensures.ptr) c.tie.ensures c.in-Ok.ensures.ok
+    (g.P.Ptr.key c.in-Ok.p).0 (ap (λ p. p.0) {y = (next_index a, a.counter)} c.in-Ok.ensures.ptr) c.tie.ensures c.in-Ok.ensures.ok
 
 pub invariant_of-self : goal.invariant_of-self
 invariant_of-self g c =
@@ -40,16 +41,13 @@ invariant_of-self g c =
     (agrees-insert_between s c.args.t (listed-seen_links g.P.Inx.PtrInx.packed_number c.self.inside.arena c.freed_are_free.ensures)
     (before_in g.P.Inx.PtrInx.number c.args.gap q) (after_in g.P.Inx.PtrInx.number c.args.gap q) c.self.invariant (gap g c))
 
-pub returns-in-Ok-clause-ok : goal.returns-in-Ok-clause-ok
-returns-in-Ok-clause-ok g c = rw (← c.self.view_is) (inserted g c)
-
-pub returns-in-Ok-clause-listed : goal.returns-in-Ok-clause-listed
-returns-in-Ok-clause-listed g c = rw (← c.self.view_is) (listed-seen_links g.P.Inx.PtrInx.packed_number c.self.inside.arena c.freed_are_free.ensures)
-
-pub returns-in-Err-clause-listed : goal.returns-in-Err-clause-listed
-returns-in-Err-clause-listed g c = rw (← c.self.view_is) (listed-seen_links g.P.Inx.PtrInx.packed_number c.self.inside.arena c.freed_are_free.ensures)
-
-pub returns-in-Ok-clause-refused : goal.returns-in-Ok-clause-refused
-returns-in-Ok-clause-refused g c =
-    let same = entry_count-seen_links g.P.Inx.PtrInx.packed_number c.self.inside.arena in
-    rw (← c.self.view_is) (λ h. same ∙ c.in-Ok.ensures.refused.0 h, λ full. c.in-Ok.ensures.refused.1 (sym same ∙ full))
+pub returns : goal.returns
+returns g c =
+    let a = c.self.inside.arena in
+    let packed = g.P.Inx.PtrInx.packed_number in
+    rw (← c.self.view_is) (record {
+      pointer = next_seen packed a (g.P.Ptr.key c.in-Ok.p) c.in-Ok.ensures.ptr;
+      state = inserted g c;
+      listed = listed-seen_links packed a c.freed_are_free.ensures;
+      agreed = c.self.invariant;
+    })

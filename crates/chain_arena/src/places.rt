@@ -1,0 +1,109 @@
+// The place of a new link, which is a gap with room for one link more, and how a link comes there.
+ghost use Rattle.std.specs.Prelude.{◌≡◌, ◌<◌};
+ghost use Rattle.std.specs.Result.{ForOk};
+ghost use Rattle.chain_laws.specs.Chains.{Agrees};
+ghost use Rattle.chain_laws.specs.Insertions.{IsGap};
+ghost use Rattle.arena_base.specs.Arena.{entry_count, next_index};
+ghost use Rattle.chain_links.specs.ChainArena.{shown};
+ghost use Rattle.chain_interlinks.specs.Gaps.{before_in, after_in};
+ghost use Rattle.chain_arena.specs.Places.{GrowsByOne, gap_after, PlacesGrowing, PlacesWithin, IsPut, Puts};
+
+use crate::chain_arena::ChainArena;
+use arena_base::{ArenaSlot, ArenaTrait};
+use arena_ptr::{ChainInsertionError, Ptr, ReallocationError, SlotStack};
+use chain_interlinks::gaps::Gap;
+use chain_interlinks::placing::{link_in, tie};
+use chain_links::facts::freed_are_free;
+use chain_links::{LinkInsertKind, LinkNoGen};
+
+impl<P: Ptr, T: Drop, S: SlotStack<Item = ArenaSlot<P, LinkNoGen<P, T>>>> ChainArena<P, T, S> {
+    // Grows a full arena to room for one link more.
+    pub(crate) fn make_room(&mut self) -> Result<(), ReallocationError>
+        ensures { GrowsByOne P.Inx.greatest self.old result self.new }
+    {
+        let n = self.len() + 1;
+        let grown = self.reallocate_min_capacity(n);
+        // The room is as in every arena.
+        self.len();
+        grown
+    }
+
+    // The gap of a kind, within the capacity.
+    pub(crate) fn gap_within(
+        &self,
+        kind: LinkInsertKind<P>,
+    ) -> Result<Gap<P::Inx>, ChainInsertionError>
+        ensures place { PlacesWithin P.key P.Inx.number self.now kind result }
+        ensures agree { Agrees (shown self.now) }
+    {
+        match self.gap_for(kind) {
+            Some(gap) => {
+                if self.len() == self.capacity() {
+                    return Err(ChainInsertionError::NotWithinCapacity);
+                }
+                Ok(gap)
+            }
+            None => Err(ChainInsertionError::FailedLinkRequirement),
+        }
+    }
+
+    // The gap of a kind. A full arena grows first.
+    pub(crate) fn gap_growing(
+        &mut self,
+        kind: LinkInsertKind<P>,
+    ) -> Result<Gap<P::Inx>, ChainInsertionError>
+        ensures place { PlacesGrowing P.key P.Inx.number P.Inx.greatest self.old kind result self.new }
+        ensures agreed { Agrees (shown self.old) }
+    {
+        match self.gap_for(kind) {
+            Some(gap) => after_growth(gap, self.make_room()),
+            None => Err(ChainInsertionError::FailedLinkRequirement),
+        }
+    }
+
+    // Adds a link in a gap, where there is room.
+    pub(crate) fn put(&mut self, gap: Gap<P::Inx>, t: T) -> P
+        requires gap { IsGap (shown self.old) (next_index self.old) (before_in P.Inx.number gap (next_index self.old)) (after_in P.Inx.number gap (next_index self.old)) }
+        requires room { entry_count self.old < self.old.capacity }
+        ensures { IsPut P.key P.Inx.number self.old gap t result self.new }
+    {
+        freed_are_free(&self.arena);
+        match self.arena.insert_within_capacity(link_in::<P, T>(gap, t)) {
+            Ok(p) => {
+                tie(&mut self.arena, gap, p);
+                p
+            }
+            Err(_) => unreachable!(),
+        }
+    }
+
+    // Adds a link in the gap that was answered, where there is room, if one was.
+    pub(crate) fn put_in(
+        &mut self,
+        asked: Result<Gap<P::Inx>, ChainInsertionError>,
+        t: T,
+    ) -> Result<P, ChainInsertionError>
+        requires gap { ForOk asked (λ gap. IsGap (shown self.old) (next_index self.old) (before_in P.Inx.number gap (next_index self.old)) (after_in P.Inx.number gap (next_index self.old))) }
+        requires room { ForOk asked (λ gap. entry_count self.old < self.old.capacity) }
+        ensures { Puts P.key P.Inx.number self.old asked t result self.new }
+    {
+        match asked {
+            Ok(gap) => Ok(self.put(gap, t)),
+            Err(why) => Err(why),
+        }
+    }
+}
+
+// The gap of a kind, after a growth that was asked for it.
+fn after_growth<I: Drop>(
+    gap: Gap<I>,
+    grown: Result<(), ReallocationError>,
+) -> Result<Gap<I>, ChainInsertionError>
+    ensures { result ≡ gap_after gap grown }
+{
+    match grown {
+        Ok(()) => Ok(gap),
+        Err(ReallocationError::BeyondMaxCapacity) => Err(ChainInsertionError::BeyondMaxCapacity),
+        Err(ReallocationError::AllocError) => Err(ChainInsertionError::AllocError),
+    }
+}
