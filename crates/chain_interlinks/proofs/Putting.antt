@@ -8,7 +8,7 @@ use Rattle.chain_laws.proofs.Standing.{link}
 use Rattle.chain_laws.proofs.InsertionWrites.{with_link, inserted_by_writes, ringed_by_writes}
 use Rattle.chain_links.specs.declared.links.LinkBody.{LinkBody}
 use Rattle.chain_links.specs.Links.{seen_link, seen_links}
-use Rattle.arena_base.specs.Arena.{Arena, entry_at, next_index, insert_next, with_capacity_of, IsListed}
+use Rattle.arena_base.specs.Arena.{Arena, entry_at, next_index, insert_next, IsListed}
 use Rattle.chain_interlinks.specs.declared.gaps.Gap.{Gap}
 use Rattle.chain_interlinks.specs.declared.gaps.Gap.TheVariants.{Itself, Between}
 use Rattle.chain_interlinks.specs.Gaps.{before_in, after_in, named_before, named_after}
@@ -92,8 +92,3 @@ module _ {Gen K T I : Type 0} (packed : K → Option ℕ) (number : I → ℕ) (
 
   pub placed_in_room : b ≡ insert_next a link → d ≡ in_gap
   placed_in_room is = tied_next ∙ (ap (λ (x : Arena Gen (LinkBody K T)). tied_at_next (seen_links packed x)) is ∙ named_next)
-
-  pub placed_growing : b ≡ with_capacity_of (insert_next a link) b → d ≡ with_capacity_of in_gap d
-  placed_growing is =
-      tied_next ∙ (ap (λ (x : Arena Gen (LinkBody K T)). tied_at_next (seen_links packed x)) is
-      ∙ (ap (λ (x : Arena Gen (LinkSeen T)). with_capacity_of x (seen_links packed b)) named_next ∙ ap (with_capacity_of in_gap) (sym tied_next)))

@@ -165,7 +165,7 @@ fn agree<A: Answers + Drop>(rt: &impl Abort, alloc: Global, script: Script, now:
     let mut source: A = played(rt, alloc, script);
     let told = here.answer(rt, alloc, Do::Canonical(false));
     same(rt, script.0, told.as_str(), "Success(())");
-    let laid = here.answer(rt, alloc, Do::All);
+    let laid = here.answer(rt, alloc, Do::Debug);
     let carried = source.answer(rt, alloc, Do::CarryKept(now));
     same(rt, script.0, carried.as_str(), laid.as_str());
 }

@@ -1,7 +1,6 @@
 //! Copies of chain arenas: what they have, what their closures saw, and when one is refused.
 
 use super::scripts::{Do, Kind, Line, Script, plays, plays_on};
-use super::transfers::chain_rows;
 use super::{
     Chains, LimitedChains, NONE, Numbered, Slot, at, limited, lone_links, put, same, text,
 };
@@ -11,16 +10,15 @@ use chain_arena::{ChainArena, ChainArenaTrait, LinkInsertKind, LinkNoGen};
 use std::alloc::{AllocError, Global};
 use std::process::Abort;
 
-// The links of a clone, the pointer of the next one there, and the maximum.
+// The pointer of the next link in a clone, all links there then, and the maximum.
 pub(super) fn cloned<P: Numbered, S: SlotStack<Item = Slot<P>>>(
     rt: &impl Abort,
     alloc: Global,
     arena: &ChainArena<P, u32, S>,
 ) -> String {
     let mut copy = arena.clone(alloc).expect(rt, "memory");
-    let rows = chain_rows(rt, alloc, &copy);
     let next = copy.insert_reallocating(LinkInsertKind::Disconnected, 9);
-    text(rt, alloc, (rows, next, copy.max_capacity()))
+    text(rt, alloc, (next, &copy, copy.max_capacity()))
 }
 
 // A chain of the links 1, 2 and 3, of which the second is removed.
@@ -72,7 +70,7 @@ fn copied_plain<P: Ptr, R: SlotStack<Item = Slot<P>>, S: SlotStack<Item = ArenaS
     (answer, seen)
 }
 
-// .. to a new one, and tells its entries, and the pointer of the next one there.
+// .. to a new one, and tells the pointer of the next entry there, and all entries then.
 pub(super) fn copied_to_plain<P: Ptr, S: SlotStack<Item = Slot<P>>>(
     rt: &impl Abort,
     alloc: Global,
@@ -80,12 +78,9 @@ pub(super) fn copied_to_plain<P: Ptr, S: SlotStack<Item = Slot<P>>>(
 ) -> String {
     let mut target: Arena<P, u32> = Arena::new(alloc);
     let told = copied_plain(rt, alloc, source, &mut target);
-    let mut entries = Vec::new(alloc);
-    for (p, t) in &target {
-        entries.push((p, *t)).expect(rt, "memory");
-    }
     let next = target.insert_reallocating(9);
-    text(rt, alloc, (told, entries, next))
+    let entries: Vec<(P, &u32)> = (&target).into_iter().collect(alloc).expect(rt, "memory");
+    text(rt, alloc, (told, next, entries))
 }
 
 // A row of three whose second is gone.
@@ -102,7 +97,7 @@ const COPIES: [(Script, &[Line]); 3] = [
         &[
             Line::Says(
                 Do::Clone,
-                "([((1, 2), 1, (0, 0), (3, 2)), ((3, 2), 3, (1, 2), (0, 0))], Ok(P0[2](3)), None)",
+                "(Ok(P0[2](3)), {P0[1](2): {(start), 3} 1, P0[2](3): {(start), (end)} 9, P0[3](2): {1, (end)} 3}, None)",
             ),
             Line::Shows(&[((1, 2), 1, NONE, (3, 2)), ((3, 2), 3, (1, 2), NONE)]),
             Line::Says(Do::Insert(Kind::Disconnected, 9), "Ok(P0[2](3))"),
@@ -113,7 +108,7 @@ const COPIES: [(Script, &[Line]); 3] = [
         &[Line::Says(
             Do::CopyToPlain,
             "((Ok(()), [(P0[1](2), {(start), 3} 1), (P0[3](2), {1, (end)} 3)]), \
-                [(P0[1](2), 11), (P0[3](2), 23)], Ok(P0[2](3)))",
+                Ok(P0[2](3)), [(P0[1](2), 11), (P0[2](3), 9), (P0[3](2), 23)])",
         )],
     ),
     (
@@ -140,7 +135,7 @@ const IN_TWO_SLOTS: [Line; 5] = [
     Line::Says(Do::Maximum, "Some(2)"),
     Line::Says(
         Do::Clone,
-        "([((1, 2), 1, (0, 0), (0, 0))], Ok(P0[2](2)), None)",
+        "(Ok(P0[2](2)), {P0[1](2): {(start), (end)} 1, P0[2](2): {(start), (end)} 9}, None)",
     ),
     Line::Says(Do::CopyOver, "(Err(BeyondMaxCapacity), [])"),
     Line::Shows(&[((1, 2), 1, NONE, NONE)]),

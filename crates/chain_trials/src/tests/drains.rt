@@ -6,7 +6,7 @@ ghost use Rattle.arena_base.specs.Entries.{entries};
 ghost use Rattle.chain_links.specs.ChainArena.{entry, values_of};
 ghost use Rattle.chain_arena.specs.Drains.{walk_left, without_each, CountsUp};
 
-use super::Slot;
+use super::{Slot, text};
 use arena_base::ArenaSlot;
 use arena_ptr::{InvalidationOption, Ptr, SlotStack};
 use chain_arena::{ChainArena, LinkNoGen};
@@ -66,41 +66,28 @@ pub(super) fn drained_chain<P: Ptr, S: SlotStack<Item = Slot<P>>>(
     alloc: Global,
     arena: &mut ChainArena<P, u32, S>,
     p: P,
-) -> Option<Vec<Gone<P>>> {
-    let mut all = Vec::new(alloc);
-    let Some(drain) = arena.drain_chain(p) else {
-        return None;
-    };
-    for gone in drain {
-        all.push(gone).expect(rt, "memory");
+) -> String {
+    match arena.drain_chain(p) {
+        Some(links) => {
+            let all: Vec<Gone<P>> = links.collect(alloc).expect(rt, "memory");
+            text(rt, alloc, all)
+        }
+        None => text(rt, alloc, None::<u32>),
     }
-    Some(all)
 }
 
-// The first link that it yields, whereupon it is dropped.
+// The first link that it yields, whereupon it is dropped or forgotten.
 pub(super) fn takes_one_of_chain<P: Ptr, S: SlotStack<Item = Slot<P>>>(
     arena: &mut ChainArena<P, u32, S>,
     p: P,
+    is_forgotten: bool,
 ) -> Option<Gone<P>> {
-    match arena.drain_chain(p) {
-        Some(mut drain) => drain.next(),
-        None => None,
+    let mut drain = arena.drain_chain(p)?;
+    let gone = drain.next();
+    if is_forgotten {
+        forget(drain);
     }
-}
-
-// .. or forgotten.
-pub(super) fn forgets_chain_drain<P: Ptr, S: SlotStack<Item = Slot<P>>>(
-    arena: &mut ChainArena<P, u32, S>,
-    p: P,
-) -> Option<Gone<P>> {
-    match arena.drain_chain(p) {
-        Some(mut drain) => {
-            let gone = drain.next();
-            forget(drain);
-            gone
-        }
-        None => None,
-    }
+    gone
 }
 
 // All that a drain of all links yields.
@@ -108,27 +95,20 @@ pub(super) fn drained<P: Ptr, S: SlotStack<Item = Slot<P>>>(
     rt: &impl Abort,
     alloc: Global,
     arena: &mut ChainArena<P, u32, S>,
-) -> Vec<ValueGone<P>> {
-    let mut all = Vec::new(alloc);
-    for gone in arena.drain() {
-        all.push(gone).expect(rt, "memory");
-    }
-    all
+) -> String {
+    let all: Vec<ValueGone<P>> = arena.drain().collect(alloc).expect(rt, "memory");
+    text(rt, alloc, all)
 }
 
-// The first link that it yields, whereupon it is dropped.
+// The first link that it yields, whereupon it is dropped or forgotten.
 pub(super) fn takes_one<P: Ptr, S: SlotStack<Item = Slot<P>>>(
     arena: &mut ChainArena<P, u32, S>,
-) -> Option<ValueGone<P>> {
-    arena.drain().next()
-}
-
-// .. or forgotten.
-pub(super) fn forgets_drain<P: Ptr, S: SlotStack<Item = Slot<P>>>(
-    arena: &mut ChainArena<P, u32, S>,
+    is_forgotten: bool,
 ) -> Option<ValueGone<P>> {
     let mut drain = arena.drain();
     let gone = drain.next();
-    forget(drain);
+    if is_forgotten {
+        forget(drain);
+    }
     gone
 }

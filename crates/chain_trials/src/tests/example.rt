@@ -1,7 +1,7 @@
 //! The example of the README.
 
 use super::iterators::walk;
-use super::{same, text};
+use super::same;
 use arena_base::ArenaTrait;
 use arena_ptr::{InvalidationResult, ToolPtr};
 use chain_arena::{ChainArena, ChainArenaTrait, LinkInsertKind};
@@ -14,9 +14,9 @@ fn a_queue_with_three_links(rt: HostRuntime) {
     let c = arena.insert_reallocating(LinkInsertKind::ChainEnd(a), 30);
     let b = arena.insert_reallocating(LinkInsertKind::NextTo(a), 20);
     let (b, c) = (b.expect(&rt, "after a"), c.expect(&rt, "the end"));
-    let three = "Some([(P0[1](2), 10), (P0[3](2), 20), (P0[2](2), 30)])";
+    let three = "[(P0[1](2), {(start), 3} 10), (P0[3](2), {1, 2} 20), (P0[2](2), {3, (end)} 30)]";
     let walked = walk(&rt, rt.alloc(), &arena, a);
-    same(&rt, "a walk", text(&rt, rt.alloc(), walked).as_str(), three);
+    same(&rt, "a walk", walked.as_str(), three);
     assert!(rt; arena.remove(b) == InvalidationResult::Success(20) && !arena.contains(b));
     assert!(rt; arena.are_neighbors(a, c));
 }

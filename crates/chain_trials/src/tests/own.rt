@@ -3,8 +3,8 @@
 use super::canonical::{moves_listed, moves_seen, placed};
 use super::copies::{cloned, copied_over, copied_to_plain};
 use super::drains::{
-    drained, drained_chain, forgets_chain_drain, forgets_drain, remove_all, remove_chain,
-    remove_one_and_all, takes_one, takes_one_of_chain,
+    drained, drained_chain, remove_all, remove_chain, remove_one_and_all, takes_one,
+    takes_one_of_chain,
 };
 use super::entries::{forget, give_up, insert_asked, insert_by_any_entry, insert_by_entry};
 use super::indexing::{value_at, value_at_index, write_at, write_at_index};
@@ -49,11 +49,11 @@ fn iterator_answer<P: Numbered, S: SlotStack<Item = Slot<P>>>(
     call: Do,
 ) -> String {
     match call {
-        Do::Walk(p) => text(rt, alloc, walk(rt, alloc, arena, at(rt, p))),
-        Do::Values => text(rt, alloc, values(rt, alloc, arena)),
-        Do::Links => text(rt, alloc, links(rt, alloc, arena)),
-        Do::LinksByReference => text(rt, alloc, links_by_reference(rt, alloc, arena)),
-        Do::LinksUsedUp => text(rt, alloc, links_used_up(rt, alloc, arena)),
+        Do::Walk(p) => walk(rt, alloc, arena, at(rt, p)),
+        Do::Values => values(rt, alloc, arena),
+        Do::Links => links(rt, alloc, arena),
+        Do::LinksByReference => links_by_reference(rt, alloc, arena),
+        Do::LinksUsedUp => links_used_up(rt, alloc, arena),
         Do::Counts => text(rt, alloc, counts(alloc, arena)),
         Do::Placed(reset) => text(rt, alloc, placed(arena, reset)),
         Do::Counted(reset) => text(rt, alloc, arena.compress_canonical_counted(reset)),
@@ -75,13 +75,13 @@ fn drain_answer<P: Numbered, S: SlotStack<Item = Slot<P>>>(
     call: Do,
 ) -> String {
     match call {
-        Do::DrainChain(p) => text(rt, alloc, drained_chain(rt, alloc, arena, at(rt, p))),
-        Do::DrainChainOne(p) => text(rt, alloc, takes_one_of_chain(arena, at(rt, p))),
-        Do::ForgetChainDrain(p) => text(rt, alloc, forgets_chain_drain(arena, at(rt, p))),
+        Do::DrainChain(p) => drained_chain(rt, alloc, arena, at(rt, p)),
+        Do::DrainChainOne(p) => text(rt, alloc, takes_one_of_chain(arena, at(rt, p), false)),
+        Do::ForgetChainDrain(p) => text(rt, alloc, takes_one_of_chain(arena, at(rt, p), true)),
         Do::RemoveChain(p) => text(rt, alloc, remove_chain(arena, at(rt, p))),
-        Do::Drain => text(rt, alloc, drained(rt, alloc, arena)),
-        Do::DrainOne => text(rt, alloc, takes_one(arena)),
-        Do::ForgetDrain => text(rt, alloc, forgets_drain(arena)),
+        Do::Drain => drained(rt, alloc, arena),
+        Do::DrainOne => text(rt, alloc, takes_one(arena, false)),
+        Do::ForgetDrain => text(rt, alloc, takes_one(arena, true)),
         Do::RemoveAll => text(rt, alloc, remove_all(arena)),
         Do::RemoveOneAndAll => text(rt, alloc, remove_one_and_all(arena)),
         Do::GiveUp(k) => text(rt, alloc, give_up(arena, kind(rt, k))),

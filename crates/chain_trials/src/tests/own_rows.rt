@@ -37,11 +37,11 @@ const WALKS: [Script; 6] = [
         &[
             Line::Says(
                 Do::Walk((1, 2)),
-                "Some([(P0[1](2), 1), (P0[4](2), 4), (P0[2](2), 2), (P0[3](2), 3)])",
+                "[(P0[1](2), {3, 4} 1), (P0[4](2), {1, 2} 4), (P0[2](2), {4, (end)} 2), (P0[3](2), {(start), 1} 3)]",
             ),
             Line::Says(
                 Do::Walk((2, 2)),
-                "Some([(P0[2](2), 2), (P0[4](2), 4), (P0[1](2), 1), (P0[3](2), 3)])",
+                "[(P0[2](2), {4, (end)} 2), (P0[4](2), {1, 2} 4), (P0[1](2), {3, 4} 1), (P0[3](2), {(start), 1} 3)]",
             ),
         ],
     ),
@@ -51,7 +51,7 @@ const WALKS: [Script; 6] = [
         &ROUND,
         &[Line::Says(
             Do::Walk((2, 2)),
-            "Some([(P0[2](2), 2), (P0[3](2), 3), (P0[1](2), 1)])",
+            "[(P0[2](2), {1, 3} 2), (P0[3](2), {2, 1} 3), (P0[1](2), {3, 2} 1)]",
         )],
     ),
     (
@@ -59,8 +59,11 @@ const WALKS: [Script; 6] = [
         4,
         &[(1, 1), (2, 3), (3, 2)],
         &[
-            Line::Says(Do::Walk((1, 2)), "Some([(P0[1](2), 1)])"),
-            Line::Says(Do::Walk((3, 2)), "Some([(P0[3](2), 3), (P0[2](2), 2)])"),
+            Line::Says(Do::Walk((1, 2)), "[(P0[1](2), {1, 1} 1)]"),
+            Line::Says(
+                Do::Walk((3, 2)),
+                "[(P0[3](2), {2, 2} 3), (P0[2](2), {3, 3} 2)]",
+            ),
         ],
     ),
     (
@@ -83,7 +86,7 @@ const WALKS: [Script; 6] = [
             Line::Says(Do::Remove((2, 2)), "InvalidPtr"),
             Line::Says(
                 Do::Walk((1, 2)),
-                "Some([(P0[1](2), 1), (P0[3](2), 3), (P0[4](2), 4)])",
+                "[(P0[1](2), {(start), 3} 1), (P0[3](2), {1, 4} 3), (P0[4](2), {3, (end)} 4)]",
             ),
         ],
     ),
@@ -167,8 +170,8 @@ const CHAIN_DRAINS: [Script; 6] = [
         &[
             Line::Says(
                 Do::DrainChain((1, 2)),
-                "Some([Success((P0[1](2), {(start), 2} 1)), Success((P0[2](2), {(start), 3} 2)), \
-                Success((P0[3](2), {(start), (end)} 3))])",
+                "[Success((P0[1](2), {(start), 2} 1)), Success((P0[2](2), {(start), 3} 2)), \
+                Success((P0[3](2), {(start), (end)} 3))]",
             ),
             Line::Says(Do::IsEmpty, "true"),
             Line::Says(Do::Generation, "5"),
@@ -181,8 +184,8 @@ const CHAIN_DRAINS: [Script; 6] = [
         &[
             Line::Says(
                 Do::DrainChain((2, 2)),
-                "Some([Success((P0[2](2), {1, 3} 2)), Success((P0[3](2), {1, (end)} 3)), \
-                Success((P0[1](2), {(start), (end)} 1))])",
+                "[Success((P0[2](2), {1, 3} 2)), Success((P0[3](2), {1, (end)} 3)), \
+                Success((P0[1](2), {(start), (end)} 1))]",
             ),
             Line::Says(Do::IsEmpty, "true"),
             Line::Says(Do::Generation, "5"),
@@ -195,8 +198,8 @@ const CHAIN_DRAINS: [Script; 6] = [
         &[
             Line::Says(
                 Do::DrainChain((1, 2)),
-                "Some([Success((P0[1](2), {3, 2} 1)), Success((P0[2](2), {3, 3} 2)), \
-                Success((P0[3](2), {3, 3} 3))])",
+                "[Success((P0[1](2), {3, 2} 1)), Success((P0[2](2), {3, 3} 2)), \
+                Success((P0[3](2), {3, 3} 3))]",
             ),
             Line::Says(Do::IsEmpty, "true"),
             Line::Says(Do::Generation, "5"),

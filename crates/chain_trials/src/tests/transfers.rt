@@ -3,9 +3,7 @@
 use super::pointers::{BarePtr, SmallPtr, WidePtr};
 use super::rows::{BY_LEAST_INDEX, INTERLEAVED, SCATTERED};
 use super::scripts::{Do, Kind, Line, Script, plays, plays_all};
-use super::{
-    Chains, Counted, LimitedChains, Numbered, Row, Slot, at, limited, lone_links, numbers, text,
-};
+use super::{Chains, Counted, LimitedChains, Numbered, Slot, at, limited, lone_links, text};
 use arena_base::{ArenaTrait, CompactArenaTrait};
 use arena_ptr::{Gen32, LimitedStack, Ptr, ReallocationError, SlotStack};
 use chain_arena::{ChainArena, ChainArenaTrait};
@@ -40,22 +38,6 @@ fn carry<
     (answer, seen)
 }
 
-// All links of a chain arena, by rising index.
-pub(super) fn chain_rows<P: Numbered, S: SlotStack<Item = Slot<P>>>(
-    rt: &impl Abort,
-    alloc: Global,
-    arena: &ChainArena<P, u32, S>,
-) -> Vec<Row> {
-    let mut rows = Vec::new(alloc);
-    for (p, _) in arena {
-        let link = arena.get_link(p).expect(rt, "a valid pointer");
-        let (prev, next) = (numbers(rt, link.prev()), numbers(rt, link.next()));
-        rows.push((numbers(rt, Some(p)), *link.t, prev, next))
-            .expect(rt, "memory");
-    }
-    rows
-}
-
 // Carries all links of a source over to an arena of tool pointers that holds two links. Tells the answer, what the closure saw,
 // the links there then, and the counter.
 pub(super) fn carried_out<P: Ptr, A: ChainArenaTrait<P, u32> + CompactArenaTrait<P, u32>>(
@@ -66,9 +48,8 @@ pub(super) fn carried_out<P: Ptr, A: ChainArenaTrait<P, u32> + CompactArenaTrait
 ) -> String {
     let mut target: Chains = lone_links(rt, alloc, 2);
     let told = carry(rt, alloc, source, Gen32::of(rt, now), &mut target);
-    let rows = chain_rows(rt, alloc, &target);
     let counter = target.generation().number();
-    text(rt, alloc, (told, rows, counter))
+    text(rt, alloc, (told, &target, counter))
 }
 
 // Carries all links of a source over to a new arena, the values as they are, and tells the links there then.
@@ -82,25 +63,21 @@ pub(super) fn carried_kept<P: Numbered, A: ChainArenaTrait<P, u32> + CompactAren
     let now = P::generation_of(rt, now);
     let answer = target.transfer_canonical_reallocating(now, source, |_, v, _| v.overflowing().0);
     assert!(rt; answer.is_ok());
-    text(rt, alloc, chain_rows(rt, alloc, &target))
+    text(rt, alloc, &target)
 }
 
 // All that an arena shows: its links, its counter and its room.
-type Shown = (Vec<Row>, u32, usize, Option<usize>);
-
-fn shown<P: Numbered, S: SlotStack<Item = Slot<P>>>(
+fn shown<P: Ptr, S: SlotStack<Item = Slot<P>>>(
     rt: &impl Abort,
     alloc: Global,
     arena: &ChainArena<P, u32, S>,
-) -> Shown {
-    let rows = chain_rows(rt, alloc, arena);
-    let counter = P::number_of(arena.generation());
-    (rows, counter, arena.capacity(), arena.max_capacity())
-}
-
-// Whether two arenas show the same.
-fn is_same(one: Shown, other: Shown) -> bool {
-    one.0.as_slice() == other.0.as_slice() && (one.1, one.2, one.3) == (other.1, other.2, other.3)
+) -> String {
+    let counter = arena.generation();
+    text(
+        rt,
+        alloc,
+        (arena, counter, arena.capacity(), arena.max_capacity()),
+    )
 }
 
 // Carries so many links of tool pointers over to an arena, of which the first comes after the third. Tells the answer, what the
@@ -115,8 +92,8 @@ pub(super) fn carried_in<P: Numbered, S: SlotStack<Item = Slot<P>>>(
     assert!(rt; source.connect(at(rt, (3, 2)), at(rt, (1, 2))).is_some());
     let (there, here) = (shown(rt, alloc, &source), shown(rt, alloc, target));
     let told = carry(rt, alloc, &mut source, P::generation_of(rt, 7), target);
-    let stays = is_same(there, shown(rt, alloc, &source));
-    let rests = is_same(here, shown(rt, alloc, target));
+    let stays = there.as_str() == shown(rt, alloc, &source).as_str();
+    let rests = here.as_str() == shown(rt, alloc, target).as_str();
     text(rt, alloc, (told, stays && rests))
 }
 
@@ -128,7 +105,7 @@ pub(super) const TRANSFERS: [(Script, &[Line]); 4] = [
             Line::Says(
                 Do::CarryOut(7),
                 "((Ok(()), [(P0[3](2), 3, false, P0[1](7)), (P0[1](2), 1, false, P0[2](7)), (P0[2](2), 2, false, P0[3](7))]), \
-                [((1, 7), 13, (0, 0), (2, 7)), ((2, 7), 21, (1, 7), (0, 0)), ((3, 7), 32, (0, 0), (0, 0))], 7)",
+                {P0[1](7): {(start), 2} 13, P0[2](7): {1, (end)} 21, P0[3](7): {(start), (end)} 32}, 7)",
             ),
             Line::Says(Do::Len, "0"),
             Line::Says(Do::Counter, "Some(Gen32 { number: 5 })"),
@@ -141,8 +118,7 @@ pub(super) const TRANSFERS: [(Script, &[Line]); 4] = [
                 Do::CarryOut(4),
                 "((Ok(()), [(P0[2](2), 2, false, P0[1](4)), (P0[4](2), 4, false, P0[2](4)), (P0[1](3), 5, false, P0[3](4)), \
                 (P0[3](2), 3, false, P0[4](4))]), \
-                [((1, 4), 12, (0, 0), (2, 4)), ((2, 4), 24, (1, 4), (3, 4)), ((3, 4), 35, (2, 4), (0, 0)), \
-                ((4, 4), 43, (0, 0), (0, 0))], 4)",
+                {P0[1](4): {(start), 2} 12, P0[2](4): {1, 3} 24, P0[3](4): {2, (end)} 35, P0[4](4): {(start), (end)} 43}, 4)",
             ),
             Line::Says(Do::Len, "0"),
             Line::Says(Do::Counter, "Some(Gen32 { number: 7 })"),
@@ -155,8 +131,7 @@ pub(super) const TRANSFERS: [(Script, &[Line]); 4] = [
                 Do::CarryOut(2),
                 "((Ok(()), [(P0[1](2), 1, false, P0[1](2)), (P0[4](2), 4, false, P0[2](2)), (P0[2](2), 2, false, P0[3](2)), \
                 (P0[3](2), 3, false, P0[4](2))]), \
-                [((1, 2), 11, (0, 0), (2, 2)), ((2, 2), 24, (1, 2), (0, 0)), ((3, 2), 32, (4, 2), (4, 2)), \
-                ((4, 2), 43, (3, 2), (3, 2))], 2)",
+                {P0[1](2): {(start), 2} 11, P0[2](2): {1, (end)} 24, P0[3](2): {4, 4} 32, P0[4](2): {3, 3} 43}, 2)",
             ),
             Line::Says(Do::Len, "0"),
             Line::Says(Do::Counter, "Some(Gen32 { number: 6 })"),
@@ -165,7 +140,7 @@ pub(super) const TRANSFERS: [(Script, &[Line]); 4] = [
     (
         ("an empty source", 0, &[], &[]),
         &[
-            Line::Says(Do::CarryOut(9), "((Ok(()), []), [], 9)"),
+            Line::Says(Do::CarryOut(9), "((Ok(()), []), {}, 9)"),
             Line::Says(Do::Len, "0"),
             Line::Says(Do::Counter, "Some(Gen32 { number: 2 })"),
         ],
@@ -219,7 +194,7 @@ const AT_THE_GREATEST_GENERATION: Script = (
             Do::CarryOut(2),
             "((Ok(()), [(Pair { inx: Inx8 { number: 1 }, generation: Gen8 { number: 254 } }, 1, false, P0[1](2)), \
             (Pair { inx: Inx8 { number: 2 }, generation: Gen8 { number: 254 } }, 2, true, P0[2](2))]), \
-            [((1, 2), 11, (0, 0), (0, 0)), ((2, 2), 22, (0, 0), (0, 0))], 2)",
+            {P0[1](2): {(start), (end)} 11, P0[2](2): {(start), (end)} 22}, 2)",
         ),
         Line::Says(Do::Len, "0"),
         Line::Says(Do::Generation, "2"),
@@ -237,7 +212,7 @@ const WIDE: Script = (
             "((Ok(()), [(Pair { inx: Inx64 { number: 3 }, generation: Gen32 { number: 2 } }, 3, false, P0[1](7)), \
             (Pair { inx: Inx64 { number: 1 }, generation: Gen32 { number: 2 } }, 1, false, P0[2](7)), \
             (Pair { inx: Inx64 { number: 2 }, generation: Gen32 { number: 2 } }, 2, false, P0[3](7))]), \
-            [((1, 7), 13, (0, 0), (2, 7)), ((2, 7), 21, (1, 7), (0, 0)), ((3, 7), 32, (0, 0), (0, 0))], 7)",
+            {P0[1](7): {(start), 2} 13, P0[2](7): {1, (end)} 21, P0[3](7): {(start), (end)} 32}, 7)",
         ),
         Line::Says(Do::Len, "0"),
         Line::Says(Do::Generation, "5"),
@@ -254,7 +229,7 @@ const WITHOUT_GENERATIONS: Script = (
             Do::CarryOut(3),
             "((Ok(()), [(Pair { inx: Inx8 { number: 1 }, generation: () }, 1, false, P0[1](3)), \
             (Pair { inx: Inx8 { number: 2 }, generation: () }, 2, false, P0[2](3))]), \
-            [((1, 3), 11, (2, 3), (2, 3)), ((2, 3), 22, (1, 3), (1, 3))], 3)",
+            {P0[1](3): {2, 2} 11, P0[2](3): {1, 1} 22}, 3)",
         ),
         Line::Says(Do::Len, "0"),
         Line::Says(Do::Counter, "Some(())"),
