@@ -14,10 +14,6 @@ use Rattle.chain_links.specs.declared.kinds.InsertKindBody.{InsertKindBody}
 use Rattle.chain_interlinks.specs.Gaps.{before_in, after_in}
 use Rattle.chain_interlinks.specs.declared.gaps.Gap.{Gap}
 
--- the links of an arena
-abbrev pub Links : Type 0 → Type 0 → Type 0
-Links Gen T = Arena Gen (LinkSeen T)
-
 module _ {Gen T : Type 0} where
   -- an arena with room for one link more, which a full one has after a growth
   pub record HasGrown (greatest : ℕ) (old new : Links Gen T) : Type 0 where
@@ -38,20 +34,14 @@ module _ {Gen T : Type 0} where
   GrowsByOne greatest old (Ok done) new = HasGrown greatest old new
   GrowsByOne greatest old (Err why) new = RefusesOneMore old why × (new ≡ old)
 
--- the gap of a kind, after a growth that was asked for it
-abbrev pub gap_after : {I : Type 0} → Gap I → Result Unit ReallocationError → Result (Gap I) ChainInsertionError
-gap_after gap (Ok done) = Ok gap
-gap_after gap (Err refused.BeyondMaxCapacity) = Err failed.BeyondMaxCapacity
-gap_after gap (Err refused.AllocError) = Err failed.AllocError
+-- how an insertion is refused where a growth is
+pub refusal_of : ReallocationError → ChainInsertionError
+refusal_of refused.BeyondMaxCapacity = failed.BeyondMaxCapacity
+refusal_of refused.AllocError = failed.AllocError
 
-module _ {P I Gen : Type 0} (key : P → ℕ × Gen) (number : I → ℕ) where
-  -- a kind by the indexes that it names
-  abbrev pub kind_of : InsertKindBody P I → InsertKind ℕ
-  kind_of kind = by_index (names_in key number kind)
-
-  -- a link of the kind may be inserted
-  abbrev pub May : {T : Type 0} → Links Gen T → InsertKindBody P I → Type 0
-  May old kind = MayInsert (entry old) (shown old) (names_in key number kind)
+-- a gap, unless a growth was refused
+abbrev pub gap_unless_refused : {I : Type 0} → Gap I → Result Unit ReallocationError → Result (Gap I) ChainInsertionError
+gap_unless_refused gap grown = map_result (λ done. gap) refusal_of grown
 
 module _ {P I Gen T : Type 0} (key : P → ℕ × Gen) (number : I → ℕ) where
   -- a gap is that of a kind

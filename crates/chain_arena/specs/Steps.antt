@@ -15,13 +15,13 @@ use Rattle.arena_ptr.specs.declared.invalidation.InvalidationResult.TheVariants.
 use Rattle.chain_laws.specs.Chains.{prev_of, next_of}
 use Rattle.chain_laws.specs.Insertions.{InsertKind, link_before, link_after, InsertsPairs, Inserts}
 use Rattle.chain_laws.specs.Walks.{IsWalk, TakesWalk}
-use Rattle.arena_base.specs.Arena.{IsValid, HasRoom, entry_at, entry_count, next_index, with_capacity_of, with_counter, renewed_at, cleared, overflows_after_clear}
+use Rattle.arena_base.specs.Arena.{Arena, IsValid, HasRoom, entry_at, entry_count, next_index, with_capacity_of, with_counter, renewed_at, cleared, overflows_after_clear}
 use Rattle.arena_base.specs.Compressing.{IsCompressed, values_in, overflows_after_compression}
 use Rattle.arena_base.specs.Entries.{entries}
-use Rattle.chain_links.specs.ChainArena.{shown, entry, values_of, seen, insert_as, CanConnect, CanExchange, IsJoin, IsCut, IsExchange, IsRemoval}
+use Rattle.chain_links.specs.ChainArena.{LinkSeen, shown, entry, values_of, seen, insert_as, CanConnect, CanExchange, IsJoin, IsCut, IsExchange, IsRemoval}
 use Rattle.chain_layout.specs.Compressions.{ClosesGaps}
 use Rattle.chain_arena.specs.Drains.{without_each}
-use Rattle.chain_arena.specs.Places.{Links, kind_of, May}
+use Rattle.chain_links.specs.Kinds.{names_in, by_index, MayInsert}
 use Rattle.chain_layout.specs.Layouts.{IsCanonicalLayout}
 use Rattle.chain_links.specs.Links.{seen_link, seen_pair}
 use Rattle.chain_arena.specs.declared.calls.Call.{Call}
@@ -30,6 +30,10 @@ use Rattle.chain_arena.specs.declared.calls.Reply.{Reply}
 use Rattle.chain_arena.specs.declared.calls.Reply.TheVariants as reply
 use Rattle.chain_links.specs.declared.kinds.InsertKindBody.{InsertKindBody}
 use Rattle.chain_links.specs.declared.links.LinkBody.{LinkBody}
+
+-- the links of an arena
+abbrev pub Links : Type 0 → Type 0 → Type 0
+Links Gen T = Arena Gen (LinkSeen T)
 
 module _ {Gen T : Type 0} where
   -- room for n: where there was enough it stays as it is, and else the arena has grown to it, up to the greatest index
@@ -106,6 +110,15 @@ TellSame see InvalidPtr InvalidPtr = ⊤
 TellSame see (Success x) (Success y) = see x ≡ see y
 TellSame see (GenerationOverflow x) (GenerationOverflow y) = see x ≡ see y
 TellSame see answer other = ⊥
+
+module _ {P I Gen : Type 0} (key : P → ℕ × Gen) (number : I → ℕ) where
+  -- a kind by the indexes that it names
+  abbrev pub kind_of : InsertKindBody P I → InsertKind ℕ
+  kind_of kind = by_index (names_in key number kind)
+
+  -- a link of the kind may be inserted
+  abbrev pub May : {T : Type 0} → Links Gen T → InsertKindBody P I → Type 0
+  May old kind = MayInsert (entry old) (shown old) (names_in key number kind)
 
 module _ {P Gen T : Type 0} (key : P → ℕ × Gen) where
   -- a new link of a kind
