@@ -1,3 +1,1 @@
-mod Along
-mod Behind
 mod Places

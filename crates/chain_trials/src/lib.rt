@@ -1,4 +1,4 @@
-//! The tests of the libraries of chains, and a second arena of links for generic code: one that hands each call on.
+//! The tests of what a chain arena has of its own, and of lists of calls.
 #![tactic(auto)]
 
 #[cfg(test)]

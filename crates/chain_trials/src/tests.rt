@@ -1,7 +1,4 @@
-mod advancing;
 mod agreeing;
-mod any_arena;
-mod behind;
 mod canonical;
 mod copies;
 mod drains;
@@ -9,109 +6,31 @@ mod entries;
 mod example;
 mod indexing;
 mod iterators;
-mod limits;
-mod link_order;
 mod machine;
 mod own;
 mod own_rows;
-mod pointers;
 mod recasting;
-mod rows;
 mod scripts;
-mod sizes;
 mod steps;
 mod texts;
-mod transfers;
 
-use self::pointers::Pair;
-use arena_base::{Advancer, ArenaSlot, ArenaTrait};
-use arena_ptr::{
-    Gen8, Gen32, LimitedStack, Ptr, PtrGen, PtrInx, SetMaxCapacity, SlotStack, ToolPtr,
-};
+use arena_base::{ArenaSlot, ArenaTrait};
+use arena_ptr::{Gen32, Inx32, LimitedStack, Ptr, SetMaxCapacity, ToolPtr};
 use chain_arena::{ChainArena, ChainArenaTrait, LinkInsertKind, LinkNoGen};
 use std::alloc::Global;
 use std::fmt::Debug;
 use std::process::Abort;
 
 // A slot of a link of a number.
-type Slot<P> = ArenaSlot<P, LinkNoGen<P, u32>>;
+type Slot = ArenaSlot<ToolPtr, LinkNoGen<ToolPtr, u32>>;
 
 // Links over std's memory without a limit and with one.
 type Chains = ChainArena<ToolPtr, u32>;
 
-type LimitedChains = ChainArena<ToolPtr, u32, LimitedStack<Slot<ToolPtr>>>;
+type LimitedChains = ChainArena<ToolPtr, u32, LimitedStack<Slot>>;
 
-// A pointer as two numbers, its index and its generation; (0, 0) stands for none.
+// A pointer as two numbers, its index and its generation.
 type At = (u32, u32);
-
-// What an arena shows of a link: its pointer, its value, and the pointers to the links before and after it.
-type Row = (At, u32, At, At);
-
-// No neighbor.
-const NONE: At = (0, 0);
-
-// A pointer whose generations are numbers, so that a table can name it.
-trait Numbered: Ptr {
-    fn generation_of(rt: &impl Abort, n: u32) -> Self::Gen;
-
-    fn number_of(generation: Self::Gen) -> u32;
-}
-
-// A type of generations that are numbers.
-trait Counted: PtrGen {
-    fn of(rt: &impl Abort, n: u32) -> Self;
-
-    fn number(self) -> u32;
-}
-
-impl Counted for Gen8 {
-    fn of(rt: &impl Abort, n: u32) -> Gen8 {
-        let n = u8::try_from(n).ok().expect(rt, "a number of a byte");
-        Gen8::new(n).expect(rt, "a generation")
-    }
-
-    fn number(self) -> u32 {
-        u32::from(self.get())
-    }
-}
-
-impl Counted for Gen32 {
-    fn of(rt: &impl Abort, n: u32) -> Gen32 {
-        Gen32::new(n).expect(rt, "a generation")
-    }
-
-    fn number(self) -> u32 {
-        self.get()
-    }
-}
-
-impl Counted for () {
-    fn of(_: &impl Abort, _: u32) {}
-
-    fn number(self) -> u32 {
-        0
-    }
-}
-
-impl Numbered for ToolPtr {
-    fn generation_of(rt: &impl Abort, n: u32) -> Gen32 {
-        Gen32::of(rt, n)
-    }
-
-    fn number_of(generation: Gen32) -> u32 {
-        generation.number()
-    }
-}
-
-impl<I: PtrInx, G: Counted> Numbered for Pair<I, G> {
-    fn generation_of(rt: &impl Abort, n: u32) -> G {
-        G::of(rt, n)
-    }
-
-    fn number_of(generation: G) -> u32 {
-        generation.number()
-    }
-}
 
 // Looks whether a test got what it wants.
 fn same<T: PartialEq + Debug + Drop>(rt: &impl Abort, what: &str, got: T, want: T) {
@@ -124,117 +43,43 @@ fn text<T: Debug + Drop>(rt: &impl Abort, alloc: Global, answer: T) -> String {
 }
 
 // An index.
-fn index<I: PtrInx>(rt: &impl Abort, inx: u32) -> I {
-    I::try_from_usize(inx as usize).expect(rt, "an index")
+fn index(rt: &impl Abort, i: u32) -> Inx32 {
+    Inx32::new(i).expect(rt, "an index")
+}
+
+// A generation.
+fn generation(rt: &impl Abort, n: u32) -> Gen32 {
+    Gen32::new(n).expect(rt, "a generation")
 }
 
 // The pointer of an index and a generation.
-fn at<P: Numbered>(rt: &impl Abort, p: At) -> P {
-    P::_from_raw(index(rt, p.0), P::generation_of(rt, p.1))
+fn at(rt: &impl Abort, p: At) -> ToolPtr {
+    ToolPtr::_from_raw(index(rt, p.0), generation(rt, p.1))
 }
 
-// The number of an index.
-fn number<I: PtrInx>(rt: &impl Abort, i: I) -> u32 {
-    let number = i.try_into_usize().expect(rt, "a small index");
-    u32::try_from(number).ok().expect(rt, "a small index")
-}
-
-// The two numbers of a pointer.
-fn numbers<P: Numbered>(rt: &impl Abort, p: Option<P>) -> At {
-    match p {
-        Some(p) => (number(rt, p.inx()), P::number_of(p.generation())),
-        None => NONE,
-    }
-}
-
-// Adds a link to a chain arena.
-fn put<P: Ptr, T: Drop, S: SlotStack<Item = ArenaSlot<P, LinkNoGen<P, T>>>>(
+// Adds a link.
+fn put<T: Drop>(
     rt: &impl Abort,
-    arena: &mut ChainArena<P, T, S>,
-    kind: LinkInsertKind<P>,
+    arena: &mut ChainArena<ToolPtr, T>,
+    kind: LinkInsertKind<ToolPtr>,
     t: T,
-) -> P {
+) -> ToolPtr {
     let added = arena.insert_reallocating(kind, t);
     added.expect(rt, "room for a link")
 }
 
-// A chain arena of so many lone links, each with its index as its value.
-fn lone_links<P: Ptr, S: SlotStack<Item = Slot<P>>>(
-    rt: &impl Abort,
-    alloc: Global,
-    count: u32,
-) -> ChainArena<P, u32, S> {
-    let mut arena: ChainArena<P, u32, S> = ChainArena::new(alloc);
+// So many lone links, each with its index as its value.
+fn lone_links(rt: &impl Abort, alloc: Global, count: u32) -> Chains {
+    let mut arena = Chains::new(alloc);
     for k in 1..=count {
         put(rt, &mut arena, LinkInsertKind::Disconnected, k);
     }
     arena
 }
 
-// One with a maximum, of so many lone links.
-fn limited<P: Ptr>(
-    rt: &impl Abort,
-    alloc: Global,
-    most: usize,
-    count: u32,
-) -> ChainArena<P, u32, LimitedStack<Slot<P>>> {
-    let mut arena: ChainArena<P, u32, LimitedStack<Slot<P>>> = ChainArena::new(alloc);
+// An arena with a maximum.
+fn limited(rt: &impl Abort, alloc: Global, most: usize) -> LimitedChains {
+    let mut arena = LimitedChains::new(alloc);
     assert!(rt; arena.set_max_capacity(most).is_ok());
-    for k in 1..=count {
-        put(rt, &mut arena, LinkInsertKind::Disconnected, k);
-    }
     arena
-}
-
-// Any arena of lone links, of which each pair is tied, the second after the first.
-fn tied_links<P: Numbered, A: ChainArenaTrait<P, u32> + Drop>(
-    rt: &impl Abort,
-    alloc: Global,
-    count: u32,
-    pairs: &[At],
-) -> A {
-    let mut arena = A::new(alloc);
-    for k in 1..=count {
-        let added = arena.insert_reallocating(LinkInsertKind::Disconnected, k);
-        assert!(rt; added.is_ok());
-    }
-    for (i, j) in pairs {
-        let tied = arena.connect(at(rt, (*i, 2)), at(rt, (*j, 2)));
-        assert!(rt; tied.is_some());
-    }
-    arena
-}
-
-// The index of a pointer.
-fn inx_of<P: Ptr>(p: Option<P>) -> Option<P::Inx> {
-    match p {
-        Some(p) => Some(p.inx()),
-        None => None,
-    }
-}
-
-// What the arena shows of the link of a valid pointer, by both calls that show it.
-fn row_of<P: Numbered, A: ChainArenaTrait<P, u32>>(rt: &impl Abort, arena: &A, p: P) -> Row {
-    let link = arena.get_link(p).expect(rt, "a valid pointer");
-    let (prev, next) = (numbers(rt, link.prev()), numbers(rt, link.next()));
-    let bare = arena.get_link_no_gen(p).expect(rt, "a valid pointer");
-    let beside = (inx_of(link.prev()), inx_of(link.next()), *link.t);
-    assert!(rt; (bare.prev(), bare.next(), bare.t) == beside);
-    (numbers(rt, Some(p)), bare.t, prev, next)
-}
-
-// All links of an arena, by rising index.
-fn rows_of<P: Numbered, A: ChainArenaTrait<P, u32>>(
-    rt: &impl Abort,
-    alloc: Global,
-    arena: &A,
-) -> Vec<Row> {
-    let mut rows = Vec::new(alloc);
-    let mut all = arena.advancer();
-    for _ in 0..arena.len() {
-        let p = all.advance(arena).expect(rt, "as many pointers as links");
-        rows.push(row_of(rt, arena, p)).expect(rt, "memory");
-    }
-    assert!(rt; all.advance(arena).is_none());
-    rows
 }

@@ -1,7 +1,7 @@
 //! Plain arenas of links, of which those whose interlinks agree become chain arenas.
 
 use super::scripts::{Do, Kind, Line, plays};
-use super::{At, Chains, NONE, at, same};
+use super::{At, Chains, at, same};
 use arena_base::{Arena, ArenaTrait};
 use arena_ptr::{Inx32, ToolPtr};
 use chain_arena::{LinkBody, LinkNoGen, links_agree};
@@ -67,26 +67,20 @@ fn an_interlink_to_a_freed_index(rt: HostRuntime) {
 // A row of two and a ring of one, between which two links are gone, of which the last freed index is used first, and the other
 // one next.
 const ACCEPTED: [Line; 5] = [
-    Line::Shows(&[
-        ((1, 2), 7, NONE, (3, 2)),
-        ((3, 2), 7, (1, 2), NONE),
-        ((5, 2), 7, (5, 2), (5, 2)),
-    ]),
-    Line::Says(Do::Insert(Kind::Disconnected, 9), "Ok(P0[2](4))"),
-    Line::Shows(&[
-        ((1, 2), 7, NONE, (3, 2)),
-        ((2, 4), 9, NONE, NONE),
-        ((3, 2), 7, (1, 2), NONE),
-        ((5, 2), 7, (5, 2), (5, 2)),
-    ]),
-    Line::Says(Do::Insert(Kind::Disconnected, 9), "Ok(P0[4](4))"),
-    Line::Shows(&[
-        ((1, 2), 7, NONE, (3, 2)),
-        ((2, 4), 9, NONE, NONE),
-        ((3, 2), 7, (1, 2), NONE),
-        ((4, 4), 9, NONE, NONE),
-        ((5, 2), 7, (5, 2), (5, 2)),
-    ]),
+    (
+        Do::Debug,
+        "{P0[1](2): {(start), 3} 7, P0[3](2): {1, (end)} 7, P0[5](2): {5, 5} 7}",
+    ),
+    (Do::Insert(Kind::Disconnected, 9), "Ok(P0[2](4))"),
+    (
+        Do::Debug,
+        "{P0[1](2): {(start), 3} 7, P0[2](4): {(start), (end)} 9, P0[3](2): {1, (end)} 7, P0[5](2): {5, 5} 7}",
+    ),
+    (Do::Insert(Kind::Disconnected, 9), "Ok(P0[4](4))"),
+    (
+        Do::Debug,
+        "{P0[1](2): {(start), 3} 7, P0[2](4): {(start), (end)} 9, P0[3](2): {1, (end)} 7, P0[4](4): {(start), (end)} 9, P0[5](2): {5, 5} 7}",
+    ),
 ];
 
 // Indexes, generations and interlinks stay, and so do the counter and the freed list.

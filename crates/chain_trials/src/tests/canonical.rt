@@ -1,72 +1,112 @@
 //! Chains laid out in place, one after another, and the same links transferred.
 
-use super::rows::{BEHIND_A_HOLE, BEHIND_HOLES, BY_LEAST_INDEX, INTERLEAVED, SCATTERED};
-use super::scripts::{Answers, Do, Line, Script, played, plays_on};
-use super::{Chains, NONE, Numbered, Slot, at, lone_links, same};
+use super::scripts::{Answers, Do, Kind, Line, Script, played, plays_on};
+use super::{Chains, at, generation, lone_links, same, text};
 use arena_base::ArenaTrait;
-use arena_ptr::{AllocError, InvalidationOption, Ptr, SlotStack, ToolPtr};
-use chain_arena::{ChainArena, ChainArenaTrait};
+use arena_ptr::{AllocError, InvalidationOption, ToolPtr};
+use chain_arena::ChainArenaTrait;
 use std::alloc::Global;
 use std::process::Abort;
 
 // Compresses, and tells how many links were placed.
-pub(super) fn placed<P: Ptr, S: SlotStack<Item = Slot<P>>>(
-    arena: &mut ChainArena<P, u32, S>,
-    reset: bool,
-) -> (InvalidationOption<()>, u128) {
+pub(super) fn placed(arena: &mut Chains, reset: bool) -> (InvalidationOption<()>, u128) {
     let (told, work) = arena.compress_canonical_counted(reset);
     (told, work.placed)
 }
 
 // The pointers that each link had and has.
-type Moves<P> = Vec<(P, P)>;
+type Moves = Vec<(ToolPtr, ToolPtr)>;
 
 // The moves that the closure of a compression sees.
-pub(super) fn moves_seen<P: Ptr, S: SlotStack<Item = Slot<P>>>(
+pub(super) fn moves_seen(
     rt: &impl Abort,
     alloc: Global,
-    arena: &mut ChainArena<P, u32, S>,
+    arena: &mut Chains,
     reset: bool,
-) -> (InvalidationOption<()>, Moves<P>) {
+) -> (InvalidationOption<()>, Moves) {
     let mut moves = Vec::new(alloc);
     let told = arena.compress_canonical_with(reset, |p, q| moves.push((p, q)).expect(rt, "memory"));
     (told, moves)
 }
 
 // The moves that the call answers that lists them.
-pub(super) fn moves_listed<P: Ptr, S: SlotStack<Item = Slot<P>>>(
+pub(super) fn moves_listed(
     alloc: Global,
-    arena: &mut ChainArena<P, u32, S>,
+    arena: &mut Chains,
     reset: bool,
-) -> Result<(InvalidationOption<()>, Moves<P>), AllocError> {
+) -> Result<(InvalidationOption<()>, Moves), AllocError> {
     arena.compress_canonical_moves(alloc, reset)
 }
+
+// A chain of 2, 4 and 1, of which 1 came last, and 3 alone.
+const SCATTERED: Script = (
+    "scattered chains",
+    4,
+    &[(1, 3), (2, 4)],
+    &[
+        (Do::Remove((1, 2)), "Success(1)"),
+        (Do::Insert(Kind::ChainEnd((4, 2)), 5), "Ok(P0[1](3))"),
+    ],
+);
+
+// A linear chain of 1 and 4, and a cycle of 2 and 3.
+const INTERLEAVED: Script = (
+    "a linear chain and a cycle",
+    4,
+    &[(1, 4), (2, 3), (3, 2)],
+    &[],
+);
+
+// Two lone links behind four holes.
+const BEHIND_HOLES: Script = (
+    "lone links behind holes",
+    6,
+    &[],
+    &[
+        (Do::Remove((1, 2)), "Success(1)"),
+        (Do::Remove((2, 2)), "Success(2)"),
+        (Do::Remove((3, 2)), "Success(3)"),
+        (Do::Remove((4, 2)), "Success(4)"),
+    ],
+);
+
+// A chain whose start is not its least index, and a lone link.
+const BY_LEAST_INDEX: Script = ("a chain of 3 and 1", 3, &[(3, 1)], &[]);
+
+// A ring of one and a chain of two behind a hole.
+const BEHIND_A_HOLE: Script = (
+    "a ring and a chain behind a hole",
+    0,
+    &[],
+    &[
+        (Do::Insert(Kind::Disconnected, 1), "Ok(P0[1](2))"),
+        (Do::Insert(Kind::SingleLinkCyclic, 2), "Ok(P0[2](2))"),
+        (Do::Insert(Kind::Disconnected, 3), "Ok(P0[3](2))"),
+        (Do::Insert(Kind::ChainEnd((3, 2)), 4), "Ok(P0[4](2))"),
+        (Do::Remove((1, 2)), "Success(1)"),
+    ],
+);
 
 // Scripts, and what follows on them.
 const LAYOUTS: [(Script, &[Line]); 10] = [
     (
         BEHIND_A_HOLE,
-        &[
-            Line::Says(Do::Compress(false), "Success(())"),
-            Line::Says(Do::Slots, "3"),
-        ],
+        &[(Do::Compress(false), "Success(())"), (Do::Slots, "3")],
     ),
     (
         SCATTERED,
         &[
-            Line::Says(Do::Placed(false), "(Success(()), 4)"),
-            Line::Shows(&[
-                ((1, 4), 2, NONE, (2, 4)),
-                ((2, 4), 4, (1, 4), (3, 4)),
-                ((3, 4), 5, (2, 4), NONE),
-                ((4, 4), 3, NONE, NONE),
-            ]),
-            Line::Says(Do::Generation, "4"),
+            (Do::Placed(false), "(Success(()), 4)"),
+            (
+                Do::Debug,
+                "{P0[1](4): {(start), 2} 2, P0[2](4): {1, 3} 4, P0[3](4): {2, (end)} 5, P0[4](4): {(start), (end)} 3}",
+            ),
+            (Do::Generation, "4"),
         ],
     ),
     (
         SCATTERED,
-        &[Line::Says(
+        &[(
             Do::MovesSeen(false),
             "(Success(()), [(P0[2](2), P0[1](4)), (P0[4](2), P0[2](4)), (P0[1](3), P0[3](4)), \
                 (P0[3](2), P0[4](4))])",
@@ -74,7 +114,7 @@ const LAYOUTS: [(Script, &[Line]); 10] = [
     ),
     (
         SCATTERED,
-        &[Line::Says(
+        &[(
             Do::MovesListed(false),
             "Ok((Success(()), [(P0[2](2), P0[1](4)), (P0[4](2), P0[2](4)), (P0[1](3), P0[3](4)), \
                 (P0[3](2), P0[4](4))]))",
@@ -82,7 +122,7 @@ const LAYOUTS: [(Script, &[Line]); 10] = [
     ),
     (
         INTERLEAVED,
-        &[Line::Says(
+        &[(
             Do::MovesSeen(false),
             "(Success(()), [(P0[1](2), P0[1](3)), (P0[4](2), P0[2](3)), (P0[2](2), P0[3](3)), \
                 (P0[3](2), P0[4](3))])",
@@ -90,7 +130,7 @@ const LAYOUTS: [(Script, &[Line]); 10] = [
     ),
     (
         INTERLEAVED,
-        &[Line::Says(
+        &[(
             Do::MovesListed(false),
             "Ok((Success(()), [(P0[1](2), P0[1](3)), (P0[4](2), P0[2](3)), (P0[2](2), P0[3](3)), \
                 (P0[3](2), P0[4](3))]))",
@@ -98,14 +138,14 @@ const LAYOUTS: [(Script, &[Line]); 10] = [
     ),
     (
         BY_LEAST_INDEX,
-        &[Line::Says(
+        &[(
             Do::MovesSeen(false),
             "(Success(()), [(P0[3](2), P0[1](3)), (P0[1](2), P0[2](3)), (P0[2](2), P0[3](3))])",
         )],
     ),
     (
         BY_LEAST_INDEX,
-        &[Line::Says(
+        &[(
             Do::MovesListed(false),
             "Ok((Success(()), [(P0[3](2), P0[1](3)), (P0[1](2), P0[2](3)), (P0[2](2), P0[3](3))]))",
         )],
@@ -113,20 +153,20 @@ const LAYOUTS: [(Script, &[Line]); 10] = [
     (
         BEHIND_HOLES,
         &[
-            Line::Says(Do::Placed(false), "(Success(()), 2)"),
-            Line::Says(Do::Placed(false), "(Success(()), 2)"),
+            (Do::Placed(false), "(Success(()), 2)"),
+            (Do::Placed(false), "(Success(()), 2)"),
         ],
     ),
     (
         ("an empty arena", 0, &[], &[]),
         &[
-            Line::Says(
+            (
                 Do::Counted(false),
                 "(Success(()), Work { placed: 0, touched: 0 })",
             ),
-            Line::Says(Do::Canonical(false), "Success(())"),
-            Line::Says(Do::IsEmpty, "true"),
-            Line::Says(Do::Generation, "2"),
+            (Do::Canonical(false), "Success(())"),
+            (Do::IsEmpty, "true"),
+            (Do::Generation, "2"),
         ],
     ),
 ];
@@ -138,8 +178,8 @@ fn layouts_and_moves(rt: HostRuntime) {
 
 // Compresses so many lone links behind as many holes, and tells whether the work stays within its bound, and places each
 // link once.
-fn within_bound<P: Numbered>(rt: &impl Abort, alloc: Global, count: u32, reset: bool) -> bool {
-    let mut arena: ChainArena<P, u32> = lone_links(rt, alloc, count.saturating_mul(2));
+fn within_bound(rt: &impl Abort, alloc: Global, count: u32, reset: bool) -> bool {
+    let mut arena: Chains = lone_links(rt, alloc, count.saturating_mul(2));
     for k in 1..=count {
         arena.remove(at(rt, (k, 2)));
     }
@@ -154,20 +194,34 @@ fn within_bound<P: Numbered>(rt: &impl Abort, alloc: Global, count: u32, reset: 
 
 #[test]
 fn work_stays_within_its_bound(rt: HostRuntime) {
-    let few = within_bound::<ToolPtr>(&rt, rt.alloc(), 100, false);
-    let many = within_bound::<ToolPtr>(&rt, rt.alloc(), 100_000, true);
+    let few = within_bound(&rt, rt.alloc(), 100, false);
+    let many = within_bound(&rt, rt.alloc(), 100_000, true);
     same(&rt, "within", (few, many), (true, true));
 }
 
+// Carries all links of an arena over to a new one, the values as they are, with the generation of then, and tells the links
+// there then.
+fn carried(rt: &impl Abort, alloc: Global, source: &mut Chains, now: u32) -> String {
+    let mut target = Chains::new(alloc);
+    let now = generation(rt, now);
+    let answer = target.transfer_canonical_reallocating(now, source, |_, v, _| v.overflowing().0);
+    assert!(rt; answer.is_ok());
+    text(rt, alloc, &target)
+}
+
 // A compression and a transfer of the same links, with the generation of then, lay them out alike.
-fn agree<A: Answers + Drop>(rt: &impl Abort, alloc: Global, script: Script, now: u32) {
-    let mut here: A = played(rt, alloc, script);
-    let mut source: A = played(rt, alloc, script);
+fn agree(rt: &impl Abort, alloc: Global, script: Script, now: u32) {
+    let mut here: Chains = played(rt, alloc, script);
+    let mut source: Chains = played(rt, alloc, script);
     let told = here.answer(rt, alloc, Do::Canonical(false));
     same(rt, script.0, told.as_str(), "Success(())");
-    let laid = here.answer(rt, alloc, Do::Debug);
-    let carried = source.answer(rt, alloc, Do::CarryKept(now));
-    same(rt, script.0, carried.as_str(), laid.as_str());
+    let carried = carried(rt, alloc, &mut source, now);
+    same(
+        rt,
+        script.0,
+        carried.as_str(),
+        text(rt, alloc, &here).as_str(),
+    );
 }
 
 #[test]
@@ -179,6 +233,6 @@ fn compression_and_transfer_agree(rt: HostRuntime) {
         (BY_LEAST_INDEX, 3),
         (BEHIND_HOLES, 7),
     ] {
-        agree::<Chains>(&rt, rt.alloc(), script, now);
+        agree(&rt, rt.alloc(), script, now);
     }
 }

@@ -1,20 +1,18 @@
 //! Copies of chain arenas: what they have, what their closures saw, and when one is refused.
 
 use super::scripts::{Do, Kind, Line, Script, plays, plays_on};
-use super::{
-    Chains, LimitedChains, NONE, Numbered, Slot, at, limited, lone_links, put, same, text,
-};
+use super::{Chains, LimitedChains, Slot, at, limited, lone_links, put, same, text};
 use arena_base::{Arena, ArenaSlot, ArenaTrait};
-use arena_ptr::{LimitedStack, Ptr, ReallocationError, SetMaxCapacity, SlotStack, ToolPtr};
+use arena_ptr::{LimitedStack, ReallocationError, SetMaxCapacity, SlotStack, ToolPtr};
 use chain_arena::{ChainArena, ChainArenaTrait, LinkInsertKind, LinkNoGen};
 use std::alloc::{AllocError, Global};
 use std::process::Abort;
 
 // The pointer of the next link in a clone, all links there then, and the maximum.
-pub(super) fn cloned<P: Numbered, S: SlotStack<Item = Slot<P>>>(
+pub(super) fn cloned<S: SlotStack<Item = Slot>>(
     rt: &impl Abort,
     alloc: Global,
-    arena: &ChainArena<P, u32, S>,
+    arena: &ChainArena<ToolPtr, u32, S>,
 ) -> String {
     let mut copy = arena.clone(alloc).expect(rt, "memory");
     let next = copy.insert_reallocating(LinkInsertKind::Disconnected, 9);
@@ -22,8 +20,8 @@ pub(super) fn cloned<P: Numbered, S: SlotStack<Item = Slot<P>>>(
 }
 
 // A chain of the links 1, 2 and 3, of which the second is removed.
-fn with_a_hole<P: Numbered>(rt: &impl Abort, alloc: Global) -> ChainArena<P, u32> {
-    let mut arena: ChainArena<P, u32> = lone_links(rt, alloc, 3);
+fn with_a_hole(rt: &impl Abort, alloc: Global) -> Chains {
+    let mut arena: Chains = lone_links(rt, alloc, 3);
     for (i, j) in [(1, 2), (2, 3)] {
         let tied = arena.connect(at(rt, (i, 2)), at(rt, (j, 2)));
         assert!(rt; tied.is_some());
@@ -33,19 +31,19 @@ fn with_a_hole<P: Numbered>(rt: &impl Abort, alloc: Global) -> ChainArena<P, u32
 }
 
 // What a closure saw of a copied link.
-type Seen<P> = Vec<(P, LinkNoGen<P, u32>)>;
+type Seen = Vec<(ToolPtr, LinkNoGen<ToolPtr, u32>)>;
 
 // Copies the links 1 and 3 with a hole between them, and tells what the closure saw. It answers ten times the number of its
 // call with the value added.
-pub(super) fn copied_over<P: Numbered, S: SlotStack<Item = Slot<P>>>(
+pub(super) fn copied_over<S: SlotStack<Item = Slot>>(
     rt: &impl Abort,
     alloc: Global,
-    target: &mut ChainArena<P, u32, S>,
+    target: &mut ChainArena<ToolPtr, u32, S>,
 ) -> String {
     let source = with_a_hole(rt, alloc);
     let mut seen = Vec::new(alloc);
     let mut calls = 0u32;
-    let answer = target.clone_from_with(&source, |p, link: &LinkNoGen<P, u32>| {
+    let answer = target.clone_from_with(&source, |p, link: &LinkNoGen<ToolPtr, u32>| {
         seen.push((p, *link)).expect(rt, "memory");
         calls = calls.saturating_add(10);
         link.t.saturating_add(calls)
@@ -54,15 +52,15 @@ pub(super) fn copied_over<P: Numbered, S: SlotStack<Item = Slot<P>>>(
 }
 
 // .. an arena to a plain one.
-fn copied_plain<P: Ptr, R: SlotStack<Item = Slot<P>>, S: SlotStack<Item = ArenaSlot<P, u32>>>(
+fn copied_plain<R: SlotStack<Item = Slot>, S: SlotStack<Item = ArenaSlot<ToolPtr, u32>>>(
     rt: &impl Abort,
     alloc: Global,
-    source: &ChainArena<P, u32, R>,
-    target: &mut Arena<P, u32, S>,
-) -> (Result<(), ReallocationError>, Seen<P>) {
+    source: &ChainArena<ToolPtr, u32, R>,
+    target: &mut Arena<ToolPtr, u32, S>,
+) -> (Result<(), ReallocationError>, Seen) {
     let mut seen = Vec::new(alloc);
     let mut calls = 0u32;
-    let answer = source.clone_to_arena(target, |p, link: &LinkNoGen<P, u32>| {
+    let answer = source.clone_to_arena(target, |p, link: &LinkNoGen<ToolPtr, u32>| {
         seen.push((p, *link)).expect(rt, "memory");
         calls = calls.saturating_add(10);
         link.t.saturating_add(calls)
@@ -71,15 +69,15 @@ fn copied_plain<P: Ptr, R: SlotStack<Item = Slot<P>>, S: SlotStack<Item = ArenaS
 }
 
 // .. to a new one, and tells the pointer of the next entry there, and all entries then.
-pub(super) fn copied_to_plain<P: Ptr, S: SlotStack<Item = Slot<P>>>(
+pub(super) fn copied_to_plain<S: SlotStack<Item = Slot>>(
     rt: &impl Abort,
     alloc: Global,
-    source: &ChainArena<P, u32, S>,
+    source: &ChainArena<ToolPtr, u32, S>,
 ) -> String {
-    let mut target: Arena<P, u32> = Arena::new(alloc);
+    let mut target: Arena<ToolPtr, u32> = Arena::new(alloc);
     let told = copied_plain(rt, alloc, source, &mut target);
     let next = target.insert_reallocating(9);
-    let entries: Vec<(P, &u32)> = (&target).into_iter().collect(alloc).expect(rt, "memory");
+    let entries: Vec<(ToolPtr, &u32)> = (&target).into_iter().collect(alloc).expect(rt, "memory");
     text(rt, alloc, (told, next, entries))
 }
 
@@ -88,24 +86,27 @@ const HOLE: Script = (
     "a row of three without the second",
     3,
     &[(1, 2), (2, 3)],
-    &[Line::Says(Do::Remove((2, 2)), "Success(2)")],
+    &[(Do::Remove((2, 2)), "Success(2)")],
 );
 
 const COPIES: [(Script, &[Line]); 3] = [
     (
         HOLE,
         &[
-            Line::Says(
+            (
                 Do::Clone,
                 "(Ok(P0[2](3)), {P0[1](2): {(start), 3} 1, P0[2](3): {(start), (end)} 9, P0[3](2): {1, (end)} 3}, None)",
             ),
-            Line::Shows(&[((1, 2), 1, NONE, (3, 2)), ((3, 2), 3, (1, 2), NONE)]),
-            Line::Says(Do::Insert(Kind::Disconnected, 9), "Ok(P0[2](3))"),
+            (
+                Do::Debug,
+                "{P0[1](2): {(start), 3} 1, P0[3](2): {1, (end)} 3}",
+            ),
+            (Do::Insert(Kind::Disconnected, 9), "Ok(P0[2](3))"),
         ],
     ),
     (
         HOLE,
-        &[Line::Says(
+        &[(
             Do::CopyToPlain,
             "((Ok(()), [(P0[1](2), {(start), 3} 1), (P0[3](2), {1, (end)} 3)]), \
                 Ok(P0[2](3)), [(P0[1](2), 11), (P0[2](3), 9), (P0[3](2), 23)])",
@@ -114,12 +115,15 @@ const COPIES: [(Script, &[Line]); 3] = [
     (
         ("over two rings of one", 2, &[(1, 1), (2, 2)], &[]),
         &[
-            Line::Says(
+            (
                 Do::CopyOver,
                 "(Ok(()), [(P0[1](2), {(start), 3} 1), (P0[3](2), {1, (end)} 3)])",
             ),
-            Line::Shows(&[((1, 2), 11, NONE, (3, 2)), ((3, 2), 23, (1, 2), NONE)]),
-            Line::Says(Do::Insert(Kind::Disconnected, 9), "Ok(P0[2](3))"),
+            (
+                Do::Debug,
+                "{P0[1](2): {(start), 3} 11, P0[3](2): {1, (end)} 23}",
+            ),
+            (Do::Insert(Kind::Disconnected, 9), "Ok(P0[2](3))"),
         ],
     ),
 ];
@@ -131,20 +135,21 @@ fn copies_over_both_stacks(rt: HostRuntime) {
 }
 
 // A maximum is not carried over, and a copy of three slots is refused where there may be two.
-const IN_TWO_SLOTS: [Line; 5] = [
-    Line::Says(Do::Maximum, "Some(2)"),
-    Line::Says(
+const IN_TWO_SLOTS: [Line; 6] = [
+    (Do::Insert(Kind::Disconnected, 1), "Ok(P0[1](2))"),
+    (Do::Maximum, "Some(2)"),
+    (
         Do::Clone,
         "(Ok(P0[2](2)), {P0[1](2): {(start), (end)} 1, P0[2](2): {(start), (end)} 9}, None)",
     ),
-    Line::Says(Do::CopyOver, "(Err(BeyondMaxCapacity), [])"),
-    Line::Shows(&[((1, 2), 1, NONE, NONE)]),
-    Line::Says(Do::Maximum, "Some(2)"),
+    (Do::CopyOver, "(Err(BeyondMaxCapacity), [])"),
+    (Do::Debug, "{P0[1](2): {(start), (end)} 1}"),
+    (Do::Maximum, "Some(2)"),
 ];
 
 #[test]
 fn copies_beyond_the_maximum(rt: HostRuntime) {
-    let mut arena: LimitedChains = limited(&rt, rt.alloc(), 2, 1);
+    let mut arena = limited(&rt, rt.alloc(), 2);
     plays(&rt, rt.alloc(), "two slots", &mut arena, &IN_TWO_SLOTS);
     let mut target: Arena<ToolPtr, u32, LimitedStack<ArenaSlot<ToolPtr, u32>>> = Arena::new(
         rt.alloc(),
@@ -182,8 +187,8 @@ impl Clone for Refusing {
 
 // An arena of two values, of which the second refuses: how its clone is refused, the second value, which is removed, and the
 // first link and the length of the clone then.
-fn cloned_once_more<P: Ptr>(rt: &impl Abort, alloc: Global) -> String {
-    let mut arena: ChainArena<P, Refusing> = ChainArena::new(alloc);
+fn cloned_once_more(rt: &impl Abort, alloc: Global) -> String {
+    let mut arena: ChainArena<ToolPtr, Refusing> = ChainArena::new(alloc);
     let p = put(rt, &mut arena, LinkInsertKind::Disconnected, Refusing(1));
     let q = put(rt, &mut arena, LinkInsertKind::Disconnected, Refusing(2));
     let refused = arena.clone(alloc).err();
@@ -195,7 +200,7 @@ fn cloned_once_more<P: Ptr>(rt: &impl Abort, alloc: Global) -> String {
 
 #[test]
 fn a_clone_of_a_value_is_refused(rt: HostRuntime) {
-    let told = cloned_once_more::<ToolPtr>(&rt, rt.alloc());
+    let told = cloned_once_more(&rt, rt.alloc());
     let want = "(Some(AllocError), Success(Refusing(2)), Some({(start), (end)} Refusing(1)), 1)";
     same(&rt, "nothing is lost", told.as_str(), want);
 }

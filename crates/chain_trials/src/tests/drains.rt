@@ -6,18 +6,18 @@ ghost use Rattle.arena_base.specs.Entries.{entries};
 ghost use Rattle.chain_links.specs.ChainArena.{entry, values_of};
 ghost use Rattle.chain_arena.specs.Drains.{walk_left, without_each, CountsUp};
 
-use super::{Slot, text};
+use super::{Chains, text};
 use arena_base::ArenaSlot;
-use arena_ptr::{InvalidationOption, Ptr, SlotStack};
+use arena_ptr::{InvalidationOption, Ptr, SlotStack, ToolPtr};
 use chain_arena::{ChainArena, LinkNoGen};
 use std::alloc::Global;
 use std::mem::forget;
 use std::process::Abort;
 
 // What a drain of a chain yields, and one of all links.
-type Gone<P> = InvalidationOption<(P, LinkNoGen<P, u32>)>;
+type Gone = InvalidationOption<(ToolPtr, LinkNoGen<ToolPtr, u32>)>;
 
-type ValueGone<P> = InvalidationOption<(P, u32)>;
+type ValueGone = InvalidationOption<(ToolPtr, u32)>;
 
 // Removes a pointer's chain, in any chain arena, and tells whether there was one.
 pub(super) fn remove_chain<P: Ptr, T: Drop, S: SlotStack<Item = ArenaSlot<P, LinkNoGen<P, T>>>>(
@@ -61,15 +61,15 @@ pub(super) fn remove_one_and_all<
 }
 
 // All that a drain of a chain yields.
-pub(super) fn drained_chain<P: Ptr, S: SlotStack<Item = Slot<P>>>(
+pub(super) fn drained_chain(
     rt: &impl Abort,
     alloc: Global,
-    arena: &mut ChainArena<P, u32, S>,
-    p: P,
+    arena: &mut Chains,
+    p: ToolPtr,
 ) -> String {
     match arena.drain_chain(p) {
         Some(links) => {
-            let all: Vec<Gone<P>> = links.collect(alloc).expect(rt, "memory");
+            let all: Vec<Gone> = links.collect(alloc).expect(rt, "memory");
             text(rt, alloc, all)
         }
         None => text(rt, alloc, None::<u32>),
@@ -77,11 +77,11 @@ pub(super) fn drained_chain<P: Ptr, S: SlotStack<Item = Slot<P>>>(
 }
 
 // The first link that it yields, whereupon it is dropped or forgotten.
-pub(super) fn takes_one_of_chain<P: Ptr, S: SlotStack<Item = Slot<P>>>(
-    arena: &mut ChainArena<P, u32, S>,
-    p: P,
+pub(super) fn takes_one_of_chain(
+    arena: &mut Chains,
+    p: ToolPtr,
     is_forgotten: bool,
-) -> Option<Gone<P>> {
+) -> Option<Gone> {
     let mut drain = arena.drain_chain(p)?;
     let gone = drain.next();
     if is_forgotten {
@@ -91,20 +91,13 @@ pub(super) fn takes_one_of_chain<P: Ptr, S: SlotStack<Item = Slot<P>>>(
 }
 
 // All that a drain of all links yields.
-pub(super) fn drained<P: Ptr, S: SlotStack<Item = Slot<P>>>(
-    rt: &impl Abort,
-    alloc: Global,
-    arena: &mut ChainArena<P, u32, S>,
-) -> String {
-    let all: Vec<ValueGone<P>> = arena.drain().collect(alloc).expect(rt, "memory");
+pub(super) fn drained(rt: &impl Abort, alloc: Global, arena: &mut Chains) -> String {
+    let all: Vec<ValueGone> = arena.drain().collect(alloc).expect(rt, "memory");
     text(rt, alloc, all)
 }
 
 // The first link that it yields, whereupon it is dropped or forgotten.
-pub(super) fn takes_one<P: Ptr, S: SlotStack<Item = Slot<P>>>(
-    arena: &mut ChainArena<P, u32, S>,
-    is_forgotten: bool,
-) -> Option<ValueGone<P>> {
+pub(super) fn takes_one(arena: &mut Chains, is_forgotten: bool) -> Option<ValueGone> {
     let mut drain = arena.drain();
     let gone = drain.next();
     if is_forgotten {

@@ -6,17 +6,17 @@ ghost use Rattle.chain_links.specs.ChainArena.{entry, shown, insert_as};
 ghost use Rattle.chain_links.specs.Kinds.{names_in, by_index, MayInsert};
 
 use super::scripts::{Do, Kind, Line, plays};
-use super::{LimitedChains, Slot, at, same};
-use arena_base::ArenaTrait;
+use super::{Chains, LimitedChains, at, limited, same};
+use arena_base::{ArenaSlot, ArenaTrait};
 use arena_ptr::{
     ChainInsertionError, MaxCapacityReductionError, Ptr, ReallocationError, SetMaxCapacity,
-    SlotStack,
+    SlotStack, ToolPtr,
 };
-use chain_arena::{ChainArena, ChainArenaTrait, LinkInsertKind};
+use chain_arena::{ChainArena, ChainArenaTrait, LinkInsertKind, LinkNoGen};
 use std::mem;
 
 // A link in a place that was made for it, which is what an insertion in one call is.
-pub(super) fn insert_by_entry<P: Ptr, S: SlotStack<Item = Slot<P>>>(
+pub(super) fn insert_by_entry<P: Ptr, S: SlotStack<Item = ArenaSlot<P, LinkNoGen<P, u32>>>>(
     arena: &mut ChainArena<P, u32, S>,
     kind: LinkInsertKind<P>,
     t: u32,
@@ -33,7 +33,7 @@ pub(super) fn insert_by_entry<P: Ptr, S: SlotStack<Item = Slot<P>>>(
 }
 
 // The pointer of a place that is given up.
-pub(super) fn give_up<P: Ptr, S: SlotStack<Item = Slot<P>>>(
+pub(super) fn give_up<P: Ptr, S: SlotStack<Item = ArenaSlot<P, LinkNoGen<P, u32>>>>(
     arena: &mut ChainArena<P, u32, S>,
     kind: LinkInsertKind<P>,
 ) -> Result<P, ChainInsertionError>
@@ -45,11 +45,11 @@ pub(super) fn give_up<P: Ptr, S: SlotStack<Item = Slot<P>>>(
 }
 
 // A place for a link of a kind that may be inserted, and the link in it. `None`: it may not be.
-pub(super) fn insert_by_any_entry<P: Ptr, S: SlotStack<Item = Slot<P>>>(
-    arena: &mut ChainArena<P, u32, S>,
-    kind: LinkInsertKind<P>,
+pub(super) fn insert_by_any_entry(
+    arena: &mut Chains,
+    kind: LinkInsertKind<ToolPtr>,
     t: u32,
-) -> Option<Result<P, ReallocationError>> {
+) -> Option<Result<ToolPtr, ReallocationError>> {
     if !arena.can_insert(kind) {
         return None;
     }
@@ -64,11 +64,11 @@ pub(super) fn insert_by_any_entry<P: Ptr, S: SlotStack<Item = Slot<P>>>(
 }
 
 // The insertion of one. `None`: it may not be inserted.
-pub(super) fn insert_asked<P: Ptr, S: SlotStack<Item = Slot<P>>>(
-    arena: &mut ChainArena<P, u32, S>,
-    kind: LinkInsertKind<P>,
+pub(super) fn insert_asked(
+    arena: &mut Chains,
+    kind: LinkInsertKind<ToolPtr>,
     t: u32,
-) -> Option<Result<P, ReallocationError>> {
+) -> Option<Result<ToolPtr, ReallocationError>> {
     if arena.can_insert(kind) {
         Some(arena.insert(kind, t))
     } else {
@@ -77,9 +77,9 @@ pub(super) fn insert_asked<P: Ptr, S: SlotStack<Item = Slot<P>>>(
 }
 
 // A place is forgotten.
-pub(super) fn forget<P: Ptr, S: SlotStack<Item = Slot<P>>>(
-    arena: &mut ChainArena<P, u32, S>,
-    kind: LinkInsertKind<P>,
+pub(super) fn forget(
+    arena: &mut Chains,
+    kind: LinkInsertKind<ToolPtr>,
 ) -> Option<ChainInsertionError> {
     match arena.entry_insert_reallocating(kind) {
         Ok(entry) => {
@@ -91,9 +91,9 @@ pub(super) fn forget<P: Ptr, S: SlotStack<Item = Slot<P>>>(
 }
 
 // How a place for a link of a kind is refused, by growth and within the capacity.
-fn place_refusals<P: Ptr, S: SlotStack<Item = Slot<P>>>(
-    arena: &mut ChainArena<P, u32, S>,
-    kind: LinkInsertKind<P>,
+fn place_refusals(
+    arena: &mut LimitedChains,
+    kind: LinkInsertKind<ToolPtr>,
 ) -> [Option<ChainInsertionError>; 2] {
     let growing = match arena.entry_insert_reallocating(kind) {
         Ok(_) => None,
@@ -108,36 +108,35 @@ fn place_refusals<P: Ptr, S: SlotStack<Item = Slot<P>>>(
 
 // Two links fill an arena with a maximum of two.
 const FULL: [Line; 7] = [
-    Line::Says(Do::Insert(Kind::Disconnected, 1), "Ok(P0[1](2))"),
-    Line::Says(Do::Insert(Kind::Disconnected, 2), "Ok(P0[2](2))"),
-    Line::Says(Do::Insert(Kind::Disconnected, 3), "Err(BeyondMaxCapacity)"),
-    Line::Says(
+    (Do::Insert(Kind::Disconnected, 1), "Ok(P0[1](2))"),
+    (Do::Insert(Kind::Disconnected, 2), "Ok(P0[2](2))"),
+    (Do::Insert(Kind::Disconnected, 3), "Err(BeyondMaxCapacity)"),
+    (
         Do::InsertWithin(Kind::Disconnected, 3),
         "Err(NotWithinCapacity)",
     ),
-    Line::Says(
+    (
         Do::Insert(Kind::ChainEnd((9, 9)), 3),
         "Err(FailedLinkRequirement)",
     ),
-    Line::Says(
+    (
         Do::InsertWithin(Kind::ChainEnd((9, 9)), 3),
         "Err(FailedLinkRequirement)",
     ),
-    Line::Says(Do::Reserve(3), "Err(BeyondMaxCapacity)"),
+    (Do::Reserve(3), "Err(BeyondMaxCapacity)"),
 ];
 
 // .. and do still.
 const FULL_STILL: [Line; 3] = [
-    Line::Says(Do::Len, "2"),
-    Line::Says(Do::HasRoom(3), "false"),
-    Line::Says(Do::Maximum, "Some(2)"),
+    (Do::Len, "2"),
+    (Do::HasRoom(3), "false"),
+    (Do::Maximum, "Some(2)"),
 ];
 
 // What a kind asks is tested before the room, and nothing changes.
 #[test]
 fn refusals_in_their_order(rt: HostRuntime) {
-    let mut arena = LimitedChains::new(rt.alloc());
-    same(&rt, "a maximum", arena.set_max_capacity(2), Ok(()));
+    let mut arena = limited(&rt, rt.alloc(), 2);
     plays(&rt, rt.alloc(), "a maximum of two", &mut arena, &FULL);
     let beyond = Some(ChainInsertionError::BeyondMaxCapacity);
     let full = Some(ChainInsertionError::NotWithinCapacity);

@@ -4,9 +4,9 @@ ghost use Rattle.std.specs.Prelude.{◌≡◌};
 ghost use Rattle.arena_base.specs.Arena.{IsValid};
 ghost use Rattle.chain_links.specs.ChainArena.{entry, with_value_at};
 
-use super::Slot;
+use super::Chains;
 use arena_base::{ArenaSlot, ArenaTrait};
-use arena_ptr::{Ptr, SlotStack};
+use arena_ptr::{Inx32, Ptr, SlotStack, ToolPtr};
 use chain_arena::{ChainArena, LinkNoGen};
 
 // Writes a value. Nothing else changes.
@@ -22,10 +22,7 @@ fn write<P: Ptr, T: Drop, S: SlotStack<Item = ArenaSlot<P, LinkNoGen<P, T>>>>(
 }
 
 // The value of a pointer, and of an index, where it is valid.
-pub(super) fn value_at<P: Ptr, S: SlotStack<Item = Slot<P>>>(
-    arena: &ChainArena<P, u32, S>,
-    p: P,
-) -> Option<u32> {
+pub(super) fn value_at(arena: &Chains, p: ToolPtr) -> Option<u32> {
     if arena.contains(p) {
         Some(arena[p])
     } else {
@@ -33,10 +30,7 @@ pub(super) fn value_at<P: Ptr, S: SlotStack<Item = Slot<P>>>(
     }
 }
 
-pub(super) fn value_at_index<P: Ptr, S: SlotStack<Item = Slot<P>>>(
-    arena: &ChainArena<P, u32, S>,
-    i: P::Inx,
-) -> Option<u32> {
+pub(super) fn value_at_index(arena: &Chains, i: Inx32) -> Option<u32> {
     if arena.get_inx(i).is_some() {
         Some(*arena.get_inx_unwrap(i))
     } else {
@@ -45,11 +39,7 @@ pub(super) fn value_at_index<P: Ptr, S: SlotStack<Item = Slot<P>>>(
 }
 
 // Writes one, and tells whether it is valid.
-pub(super) fn write_at<P: Ptr, S: SlotStack<Item = Slot<P>>>(
-    arena: &mut ChainArena<P, u32, S>,
-    p: P,
-    t: u32,
-) -> bool {
+pub(super) fn write_at(arena: &mut Chains, p: ToolPtr, t: u32) -> bool {
     if !arena.contains(p) {
         return false;
     }
@@ -57,11 +47,7 @@ pub(super) fn write_at<P: Ptr, S: SlotStack<Item = Slot<P>>>(
     true
 }
 
-pub(super) fn write_at_index<P: Ptr, S: SlotStack<Item = Slot<P>>>(
-    arena: &mut ChainArena<P, u32, S>,
-    i: P::Inx,
-    t: u32,
-) -> bool {
+pub(super) fn write_at_index(arena: &mut Chains, i: Inx32, t: u32) -> bool {
     if arena.get_inx(i).is_none() {
         return false;
     }

@@ -4,9 +4,9 @@ ghost use Rattle.std.specs.Prelude.{◌≡◌, IfOk, map};
 ghost use Rattle.arena_base.specs.Arena.{entry_count};
 ghost use Rattle.arena_base.specs.Entries.{entries, index_of};
 
-use super::{Slot, text};
+use super::{Chains, text};
 use arena_base::{ArenaSlot, ArenaTrait};
-use arena_ptr::{Ptr, SlotStack};
+use arena_ptr::{Inx32, Ptr, SlotStack, ToolPtr};
 use chain_arena::{ChainArena, LinkNoGen};
 use std::alloc::{AllocError, Global};
 use std::mem;
@@ -40,64 +40,42 @@ fn indexes<P: Ptr, T: Drop, S: SlotStack<Item = ArenaSlot<P, LinkNoGen<P, T>>>>(
 }
 
 // Both.
-pub(super) fn counts<P: Ptr, S: SlotStack<Item = Slot<P>>>(
-    alloc: Global,
-    arena: &ChainArena<P, u32, S>,
-) -> (usize, Result<Vec<P::Inx>, AllocError>) {
+pub(super) fn counts(alloc: Global, arena: &Chains) -> (usize, Result<Vec<Inx32>, AllocError>) {
     (count_links(arena), indexes(alloc, arena))
 }
 
 // Each value with its pointer.
-pub(super) fn values<P: Ptr, S: SlotStack<Item = Slot<P>>>(
-    rt: &impl Abort,
-    alloc: Global,
-    arena: &ChainArena<P, u32, S>,
-) -> String {
-    let all: Vec<(P, &u32)> = arena.iter().collect(alloc).expect(rt, "memory");
+pub(super) fn values(rt: &impl Abort, alloc: Global, arena: &Chains) -> String {
+    let all: Vec<(ToolPtr, &u32)> = arena.iter().collect(alloc).expect(rt, "memory");
     text(rt, alloc, all)
 }
 
 // Each link with its interlinks, by the call, over the arena itself, and of one that is used up, which leaves a new one.
-pub(super) fn links<P: Ptr, S: SlotStack<Item = Slot<P>>>(
-    rt: &impl Abort,
-    alloc: Global,
-    arena: &ChainArena<P, u32, S>,
-) -> String {
+pub(super) fn links(rt: &impl Abort, alloc: Global, arena: &Chains) -> String {
     let links = arena.iter_link_no_gen();
-    let all: Vec<(P, &LinkNoGen<P, u32>)> = links.collect(alloc).expect(rt, "memory");
+    let all: Vec<(ToolPtr, &LinkNoGen<ToolPtr, u32>)> = links.collect(alloc).expect(rt, "memory");
     text(rt, alloc, all)
 }
 
-pub(super) fn links_by_reference<P: Ptr, S: SlotStack<Item = Slot<P>>>(
-    rt: &impl Abort,
-    alloc: Global,
-    arena: &ChainArena<P, u32, S>,
-) -> String {
+pub(super) fn links_by_reference(rt: &impl Abort, alloc: Global, arena: &Chains) -> String {
     let links = arena.into_iter();
-    let all: Vec<(P, &LinkNoGen<P, u32>)> = links.collect(alloc).expect(rt, "memory");
+    let all: Vec<(ToolPtr, &LinkNoGen<ToolPtr, u32>)> = links.collect(alloc).expect(rt, "memory");
     text(rt, alloc, all)
 }
 
-pub(super) fn links_used_up<P: Ptr, S: SlotStack<Item = Slot<P>>>(
-    rt: &impl Abort,
-    alloc: Global,
-    arena: &mut ChainArena<P, u32, S>,
-) -> String {
+pub(super) fn links_used_up(rt: &impl Abort, alloc: Global, arena: &mut Chains) -> String {
     let links = mem::replace(arena, ChainArena::new(alloc)).into_iter();
-    let all: Vec<(P, LinkNoGen<P, u32>)> = links.collect(alloc).expect(rt, "memory");
+    let all: Vec<(ToolPtr, LinkNoGen<ToolPtr, u32>)> = links.collect(alloc).expect(rt, "memory");
     text(rt, alloc, all)
 }
 
 // The links that a walk from a pointer yields, each with its pointer, which is that of now.
-pub(super) fn walk<P: Ptr, S: SlotStack<Item = Slot<P>>>(
-    rt: &impl Abort,
-    alloc: Global,
-    arena: &ChainArena<P, u32, S>,
-    p: P,
-) -> String {
+pub(super) fn walk(rt: &impl Abort, alloc: Global, arena: &Chains, p: ToolPtr) -> String {
     match arena.iter_chain(p) {
         Some(links) => {
-            let all: Vec<(P, &LinkNoGen<P, u32>)> = links.collect(alloc).expect(rt, "memory");
+            let all: Vec<(ToolPtr, &LinkNoGen<ToolPtr, u32>)> = links
+                .collect(alloc)
+                .expect(rt, "memory");
             text(rt, alloc, all)
         }
         None => text(rt, alloc, None::<u32>),

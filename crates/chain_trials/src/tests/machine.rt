@@ -1,16 +1,26 @@
 //! Lists of calls, and the replies to them.
 
-use super::rows::{ONE_CYCLE, TWO_CYCLES};
-use super::scripts::{Do, Kind, Line, kind, plays};
-use super::{Chains, LimitedChains, NONE, Numbered, Slot, at, index, same, text};
+use super::scripts::{Do, Kind, Line, look};
+use super::{Chains, Slot, at, generation, index, limited, same, text};
 use arena_base::ArenaTrait;
-use arena_ptr::{Ptr, SetMaxCapacity, SlotStack};
-use chain_arena::{Call, ChainArena, LinkInsertKind, Reply, apply, run_calls};
+use arena_ptr::{SlotStack, ToolPtr};
+use chain_arena::{Call, ChainArena, LinkInsertKind, Reply, run_calls};
 use std::alloc::Global;
 use std::process::Abort;
 
+// A kind of the arena.
+pub(super) fn kind(rt: &impl Abort, kind: Kind) -> LinkInsertKind<ToolPtr> {
+    match kind {
+        Kind::Disconnected => LinkInsertKind::Disconnected,
+        Kind::SingleLinkCyclic => LinkInsertKind::SingleLinkCyclic,
+        Kind::ChainEnd(p) => LinkInsertKind::ChainEnd(at(rt, p)),
+        Kind::ChainStart(p) => LinkInsertKind::ChainStart(at(rt, p)),
+        Kind::NextTo(p) => LinkInsertKind::NextTo(at(rt, p)),
+    }
+}
+
 // The call of a row. `None`: lists of calls have no such call.
-fn call<P: Numbered>(rt: &impl Abort, row: Do) -> Option<Call<P, u32>> {
+pub(super) fn call(rt: &impl Abort, row: Do) -> Option<Call<ToolPtr, u32>> {
     Some(match row {
         Do::Insert(k, t) => Call::Insert {
             kind: kind(rt, k),
@@ -32,25 +42,24 @@ fn call<P: Numbered>(rt: &impl Abort, row: Do) -> Option<Call<P, u32>> {
 }
 
 // .. of one on more than two links.
-fn whole_call<P: Numbered>(rt: &impl Abort, row: Do) -> Option<Call<P, u32>> {
+fn whole_call(rt: &impl Abort, row: Do) -> Option<Call<ToolPtr, u32>> {
     match row {
         Do::DrainTaking(p, take) => Some(Call::DrainChain { p: at(rt, p), take }),
         Do::Clear => Some(Call::Clear),
         Do::Compress(reset) => Some(Call::Compress(reset)),
         Do::Canonical(reset) => Some(Call::CompressCanonical(reset)),
         Do::Reserve(n) => Some(Call::Reserve(n)),
-        Do::SetGeneration(g) => Some(Call::SetGeneration(P::generation_of(rt, g))),
+        Do::SetGeneration(g) => Some(Call::SetGeneration(generation(rt, g))),
         Do::IncGeneration => Some(Call::IncGeneration),
         _ => None,
     }
 }
 
 // The calls of lines.
-fn calls_of<P: Numbered>(rt: &impl Abort, alloc: Global, lines: &[Line]) -> Vec<Call<P, u32>> {
+fn calls_of(rt: &impl Abort, alloc: Global, lines: &[Line]) -> Vec<Call<ToolPtr, u32>> {
     let mut calls = Vec::new(alloc);
     for line in lines {
-        if let Line::Says(row, _) = *line {
-            let made = call(rt, row).expect(rt, "a call of lists of calls");
+        if let Some(made) = call(rt, line.0) {
             calls.push(made).expect(rt, "memory");
         }
     }
@@ -58,7 +67,7 @@ fn calls_of<P: Numbered>(rt: &impl Abort, alloc: Global, lines: &[Line]) -> Vec<
 }
 
 // What a reply answers.
-fn told<P: Ptr>(rt: &impl Abort, alloc: Global, reply: Reply<P, u32>) -> String {
+pub(super) fn told(rt: &impl Abort, alloc: Global, reply: Reply<ToolPtr, u32>) -> String {
     match reply {
         Reply::Inserted(answer) => text(rt, alloc, answer),
         Reply::Done(done) => text(rt, alloc, done),
@@ -72,36 +81,24 @@ fn told<P: Ptr>(rt: &impl Abort, alloc: Global, reply: Reply<P, u32>) -> String 
     }
 }
 
-// The reply to an insertion as a value.
-pub(super) fn applied<P: Ptr, S: SlotStack<Item = Slot<P>>>(
+// Makes the calls of lines as one list, and looks whether these are their replies. The lines that are no calls of lists tell
+// what the arena shows then.
+fn replies<S: SlotStack<Item = Slot>>(
     rt: &impl Abort,
     alloc: Global,
-    arena: &mut ChainArena<P, u32, S>,
-    kind: LinkInsertKind<P>,
-    t: u32,
-) -> String {
-    told(rt, alloc, apply(arena, Call::Insert { kind, t }))
-}
-
-// Makes the calls of lines as one list, and looks whether these are their replies, and that the links then.
-fn replies<P: Numbered, S: SlotStack<Item = Slot<P>>>(
-    rt: &impl Abort,
-    alloc: Global,
-    arena: &mut ChainArena<P, u32, S>,
+    arena: &mut ChainArena<ToolPtr, u32, S>,
     list: List,
 ) {
     let (what, lines) = list;
     let calls = calls_of(rt, alloc, lines);
     let made = run_calls(alloc, arena, calls);
     let mut replies = made.expect(rt, "memory for the replies").into_iter();
-    for line in lines {
-        match *line {
-            Line::Says(_, want) => {
-                let reply = replies.next().expect(rt, "a reply");
-                same(rt, what, told(rt, alloc, reply).as_str(), want);
-            }
-            Line::Shows(_) => plays(rt, alloc, what, arena, &[*line]),
-        }
+    for (row, want) in lines {
+        let got = match replies.next() {
+            Some(reply) => told(rt, alloc, reply),
+            None => look(rt, alloc, arena, *row),
+        };
+        same(rt, what, got.as_str(), *want);
     }
     same(rt, what, replies.next().is_none(), true);
 }
@@ -113,12 +110,12 @@ type List = (&'static str, &'static [Line]);
 const CYCLE: List = (
     "a cycle of six",
     &[
-        Line::Says(Do::Insert(Kind::SingleLinkCyclic, 1), "Ok(P0[1](2))"),
-        Line::Says(Do::Insert(Kind::NextTo((1, 2)), 2), "Ok(P0[2](2))"),
-        Line::Says(Do::Insert(Kind::NextTo((2, 2)), 3), "Ok(P0[3](2))"),
-        Line::Says(Do::Insert(Kind::NextTo((3, 2)), 4), "Ok(P0[4](2))"),
-        Line::Says(Do::Insert(Kind::NextTo((4, 2)), 5), "Ok(P0[5](2))"),
-        Line::Says(Do::Insert(Kind::NextTo((5, 2)), 6), "Ok(P0[6](2))"),
+        (Do::Insert(Kind::SingleLinkCyclic, 1), "Ok(P0[1](2))"),
+        (Do::Insert(Kind::NextTo((1, 2)), 2), "Ok(P0[2](2))"),
+        (Do::Insert(Kind::NextTo((2, 2)), 3), "Ok(P0[3](2))"),
+        (Do::Insert(Kind::NextTo((3, 2)), 4), "Ok(P0[4](2))"),
+        (Do::Insert(Kind::NextTo((4, 2)), 5), "Ok(P0[5](2))"),
+        (Do::Insert(Kind::NextTo((5, 2)), 6), "Ok(P0[6](2))"),
     ],
 );
 
@@ -127,83 +124,85 @@ const LISTS: [List; 4] = [
     (
         "a run of calls",
         &[
-            Line::Says(Do::Insert(Kind::Disconnected, 10), "Ok(P0[1](2))"),
-            Line::Says(Do::Insert(Kind::ChainEnd((1, 2)), 20), "Ok(P0[2](2))"),
-            Line::Says(Do::Connect((2, 2), (1, 2)), "true"),
-            Line::Says(Do::DrainTaking((2, 2), 1), "Some(1)"),
-            Line::Says(Do::RemoveLinkInx(1), "InvalidPtr"),
-            Line::Says(Do::Clear, "Success(())"),
-            Line::Says(Do::Insert(Kind::Disconnected, 30), "Ok(P0[1](4))"),
+            (Do::Insert(Kind::Disconnected, 10), "Ok(P0[1](2))"),
+            (Do::Insert(Kind::ChainEnd((1, 2)), 20), "Ok(P0[2](2))"),
+            (Do::Connect((2, 2), (1, 2)), "true"),
+            (Do::DrainTaking((2, 2), 1), "Some(1)"),
+            (Do::RemoveLinkInx(1), "InvalidPtr"),
+            (Do::Clear, "Success(())"),
+            (Do::Insert(Kind::Disconnected, 30), "Ok(P0[1](4))"),
         ],
     ),
     (
         "a cycle of one and a chain of two come to the indexes from 1 on, in the order of their indexes",
         &[
-            Line::Says(Do::Insert(Kind::Disconnected, 10), "Ok(P0[1](2))"),
-            Line::Says(Do::Insert(Kind::SingleLinkCyclic, 20), "Ok(P0[2](2))"),
-            Line::Says(Do::Insert(Kind::Disconnected, 30), "Ok(P0[3](2))"),
-            Line::Says(Do::Insert(Kind::ChainEnd((3, 2)), 40), "Ok(P0[4](2))"),
-            Line::Says(Do::RemoveLink((1, 2)), "Success({(start), (end)} 10)"),
-            Line::Says(Do::Compress(false), "Success(())"),
-            Line::Shows(&[
-                ((1, 4), 20, (1, 4), (1, 4)),
-                ((2, 4), 30, NONE, (3, 4)),
-                ((3, 4), 40, (2, 4), NONE),
-            ]),
+            (Do::Insert(Kind::Disconnected, 10), "Ok(P0[1](2))"),
+            (Do::Insert(Kind::SingleLinkCyclic, 20), "Ok(P0[2](2))"),
+            (Do::Insert(Kind::Disconnected, 30), "Ok(P0[3](2))"),
+            (Do::Insert(Kind::ChainEnd((3, 2)), 40), "Ok(P0[4](2))"),
+            (Do::RemoveLink((1, 2)), "Success({(start), (end)} 10)"),
+            (Do::Compress(false), "Success(())"),
+            (
+                Do::Debug,
+                "{P0[1](4): {1, 1} 20, P0[2](4): {(start), 3} 30, P0[3](4): {2, (end)} 40}",
+            ),
         ],
     ),
     (
         "holes before two lone links",
         &[
-            Line::Says(Do::Insert(Kind::Disconnected, 1), "Ok(P0[1](2))"),
-            Line::Says(Do::Insert(Kind::Disconnected, 2), "Ok(P0[2](2))"),
-            Line::Says(Do::Insert(Kind::Disconnected, 3), "Ok(P0[3](2))"),
-            Line::Says(Do::Insert(Kind::Disconnected, 4), "Ok(P0[4](2))"),
-            Line::Says(Do::Insert(Kind::Disconnected, 5), "Ok(P0[5](2))"),
-            Line::Says(Do::Insert(Kind::Disconnected, 6), "Ok(P0[6](2))"),
-            Line::Says(Do::RemoveLink((1, 2)), "Success({(start), (end)} 1)"),
-            Line::Says(Do::RemoveLink((2, 2)), "Success({(start), (end)} 2)"),
-            Line::Says(Do::RemoveLink((3, 2)), "Success({(start), (end)} 3)"),
-            Line::Says(Do::RemoveLink((4, 2)), "Success({(start), (end)} 4)"),
-            Line::Says(Do::Canonical(false), "Success(())"),
-            Line::Says(Do::Canonical(false), "Success(())"),
-            Line::Shows(&[((1, 8), 5, NONE, NONE), ((2, 8), 6, NONE, NONE)]),
+            (Do::Insert(Kind::Disconnected, 1), "Ok(P0[1](2))"),
+            (Do::Insert(Kind::Disconnected, 2), "Ok(P0[2](2))"),
+            (Do::Insert(Kind::Disconnected, 3), "Ok(P0[3](2))"),
+            (Do::Insert(Kind::Disconnected, 4), "Ok(P0[4](2))"),
+            (Do::Insert(Kind::Disconnected, 5), "Ok(P0[5](2))"),
+            (Do::Insert(Kind::Disconnected, 6), "Ok(P0[6](2))"),
+            (Do::RemoveLink((1, 2)), "Success({(start), (end)} 1)"),
+            (Do::RemoveLink((2, 2)), "Success({(start), (end)} 2)"),
+            (Do::RemoveLink((3, 2)), "Success({(start), (end)} 3)"),
+            (Do::RemoveLink((4, 2)), "Success({(start), (end)} 4)"),
+            (Do::Canonical(false), "Success(())"),
+            (Do::Canonical(false), "Success(())"),
+            (
+                Do::Debug,
+                "{P0[1](8): {(start), (end)} 5, P0[2](8): {(start), (end)} 6}",
+            ),
         ],
     ),
     (
         "each call that overflows, at the greatest generation; and room above the greatest index",
         &[
-            Line::Says(Do::SetGeneration(u32::MAX), "()"),
-            Line::Says(Do::IncGeneration, "GenerationOverflow(())"),
-            Line::Says(Do::IncGeneration, "Success(())"),
-            Line::Says(Do::SetGeneration(u32::MAX), "()"),
-            Line::Says(Do::Insert(Kind::Disconnected, 50), "Ok(P0[1](ffffffff))"),
-            Line::Says(
+            (Do::SetGeneration(u32::MAX), "()"),
+            (Do::IncGeneration, "GenerationOverflow(())"),
+            (Do::IncGeneration, "Success(())"),
+            (Do::SetGeneration(u32::MAX), "()"),
+            (Do::Insert(Kind::Disconnected, 50), "Ok(P0[1](ffffffff))"),
+            (
                 Do::Invalidate((1, u32::MAX)),
                 "GenerationOverflow(P0[1](2))",
             ),
-            Line::Says(Do::SetGeneration(u32::MAX), "()"),
-            Line::Says(
+            (Do::SetGeneration(u32::MAX), "()"),
+            (
                 Do::RemoveLink((1, 2)),
                 "GenerationOverflow({(start), (end)} 50)",
             ),
-            Line::Says(Do::SetGeneration(u32::MAX), "()"),
-            Line::Says(Do::Insert(Kind::Disconnected, 60), "Ok(P0[1](ffffffff))"),
-            Line::Says(
+            (Do::SetGeneration(u32::MAX), "()"),
+            (Do::Insert(Kind::Disconnected, 60), "Ok(P0[1](ffffffff))"),
+            (
                 Do::RemoveLinkInx(1),
                 "GenerationOverflow((Gen32 { number: 4294967295 }, {(start), (end)} 60))",
             ),
-            Line::Says(Do::Insert(Kind::Disconnected, 70), "Ok(P0[1](2))"),
-            Line::Says(Do::SetGeneration(u32::MAX), "()"),
-            Line::Says(Do::Compress(true), "Success(())"),
-            Line::Says(Do::SetGeneration(u32::MAX), "()"),
-            Line::Says(Do::Compress(false), "GenerationOverflow(())"),
-            Line::Says(Do::SetGeneration(u32::MAX), "()"),
-            Line::Says(Do::Clear, "GenerationOverflow(())"),
-            Line::Says(Do::SetGeneration(u32::MAX), "()"),
-            Line::Says(Do::Compress(false), "Success(())"),
-            Line::Says(Do::Clear, "Success(())"),
-            Line::Says(Do::Reserve(1 << 40), "Err(AllocError)"),
+            (Do::Insert(Kind::Disconnected, 70), "Ok(P0[1](2))"),
+            (Do::SetGeneration(u32::MAX), "()"),
+            (Do::Compress(true), "Success(())"),
+            (Do::SetGeneration(u32::MAX), "()"),
+            (Do::Compress(false), "GenerationOverflow(())"),
+            (Do::SetGeneration(u32::MAX), "()"),
+            (Do::Clear, "GenerationOverflow(())"),
+            (Do::SetGeneration(u32::MAX), "()"),
+            (Do::Compress(false), "Success(())"),
+            (Do::Clear, "Success(())"),
+            (Do::Reserve(1 << 40), "Err(AllocError)"),
         ],
     ),
 ];
@@ -212,16 +211,22 @@ const LISTS: [List; 4] = [
 const SPLIT: List = (
     "two cycles",
     &[
-        Line::Says(Do::Exchange((2, 2), (5, 2)), "true"),
-        Line::Shows(&TWO_CYCLES),
+        (Do::Exchange((2, 2), (5, 2)), "true"),
+        (
+            Do::Debug,
+            "{P0[1](2): {6, 2} 1, P0[2](2): {1, 6} 2, P0[3](2): {5, 4} 3, P0[4](2): {3, 5} 4, P0[5](2): {4, 3} 5, P0[6](2): {2, 1} 6}",
+        ),
     ],
 );
 
 const MERGED: List = (
     "one cycle",
     &[
-        Line::Says(Do::Exchange((2, 2), (5, 2)), "true"),
-        Line::Shows(&ONE_CYCLE),
+        (Do::Exchange((2, 2), (5, 2)), "true"),
+        (
+            Do::Debug,
+            "{P0[1](2): {6, 2} 1, P0[2](2): {1, 3} 2, P0[3](2): {2, 4} 3, P0[4](2): {3, 5} 4, P0[5](2): {4, 6} 5, P0[6](2): {5, 1} 6}",
+        ),
     ],
 );
 
@@ -230,46 +235,46 @@ const MERGED: List = (
 const EVERY_REPLY: List = (
     "a maximum of three",
     &[
-        Line::Says(Do::Insert(Kind::Disconnected, 10), "Ok(P0[1](2))"),
-        Line::Says(
+        (Do::Insert(Kind::Disconnected, 10), "Ok(P0[1](2))"),
+        (
             Do::Insert(Kind::ChainEnd((3, 2)), 11),
             "Err(FailedLinkRequirement)",
         ),
-        Line::Says(Do::Insert(Kind::ChainEnd((1, 2)), 20), "Ok(P0[2](2))"),
-        Line::Says(Do::Reserve(3), "Ok(())"),
-        Line::Says(Do::Reserve(4), "Err(BeyondMaxCapacity)"),
-        Line::Says(
+        (Do::Insert(Kind::ChainEnd((1, 2)), 20), "Ok(P0[2](2))"),
+        (Do::Reserve(3), "Ok(())"),
+        (Do::Reserve(4), "Err(BeyondMaxCapacity)"),
+        (
             Do::InsertWithin(Kind::ChainEnd((3, 2)), 30),
             "Err(FailedLinkRequirement)",
         ),
-        Line::Says(Do::InsertWithin(Kind::Disconnected, 30), "Ok(P0[3](2))"),
-        Line::Says(
+        (Do::InsertWithin(Kind::Disconnected, 30), "Ok(P0[3](2))"),
+        (
             Do::InsertWithin(Kind::Disconnected, 40),
             "Err(NotWithinCapacity)",
         ),
-        Line::Says(Do::Insert(Kind::Disconnected, 40), "Err(BeyondMaxCapacity)"),
-        Line::Says(Do::Connect((2, 2), (3, 2)), "true"),
-        Line::Says(Do::Connect((2, 2), (3, 2)), "false"),
-        Line::Says(Do::Exchange((1, 2), (2, 2)), "true"),
-        Line::Says(Do::Exchange((3, 2), (1, 2)), "false"),
-        Line::Says(Do::BreakNext((2, 2)), "true"),
-        Line::Says(Do::BreakNext((2, 2)), "false"),
-        Line::Says(Do::BreakPrev((3, 2)), "true"),
-        Line::Says(Do::BreakPrev((3, 2)), "false"),
-        Line::Says(Do::Invalidate((1, 2)), "Success(P0[1](3))"),
-        Line::Says(Do::Invalidate((1, 2)), "InvalidPtr"),
-        Line::Says(Do::RemoveLink((2, 2)), "Success({(start), (end)} 20)"),
-        Line::Says(Do::RemoveLink((2, 2)), "InvalidPtr"),
-        Line::Says(
+        (Do::Insert(Kind::Disconnected, 40), "Err(BeyondMaxCapacity)"),
+        (Do::Connect((2, 2), (3, 2)), "true"),
+        (Do::Connect((2, 2), (3, 2)), "false"),
+        (Do::Exchange((1, 2), (2, 2)), "true"),
+        (Do::Exchange((3, 2), (1, 2)), "false"),
+        (Do::BreakNext((2, 2)), "true"),
+        (Do::BreakNext((2, 2)), "false"),
+        (Do::BreakPrev((3, 2)), "true"),
+        (Do::BreakPrev((3, 2)), "false"),
+        (Do::Invalidate((1, 2)), "Success(P0[1](3))"),
+        (Do::Invalidate((1, 2)), "InvalidPtr"),
+        (Do::RemoveLink((2, 2)), "Success({(start), (end)} 20)"),
+        (Do::RemoveLink((2, 2)), "InvalidPtr"),
+        (
             Do::RemoveLinkInx(3),
             "Success((Gen32 { number: 2 }, {(start), (end)} 30))",
         ),
-        Line::Says(Do::RemoveLinkInx(3), "InvalidPtr"),
-        Line::Says(Do::Compress(false), "Success(())"),
-        Line::Says(Do::DrainTaking((1, 3), 5), "None"),
-        Line::Says(Do::Compress(true), "Success(())"),
-        Line::Says(Do::DrainTaking((1, 2), 5), "Some(1)"),
-        Line::Says(Do::Clear, "Success(())"),
+        (Do::RemoveLinkInx(3), "InvalidPtr"),
+        (Do::Compress(false), "Success(())"),
+        (Do::DrainTaking((1, 3), 5), "None"),
+        (Do::Compress(true), "Success(())"),
+        (Do::DrainTaking((1, 2), 5), "Some(1)"),
+        (Do::Clear, "Success(())"),
     ],
 );
 
@@ -287,7 +292,6 @@ fn lists_of_calls_with_their_replies(rt: HostRuntime) {
 
 #[test]
 fn every_call_with_its_replies(rt: HostRuntime) {
-    let mut arena = LimitedChains::new(rt.alloc());
-    same(&rt, "a maximum", arena.set_max_capacity(3), Ok(()));
+    let mut arena = limited(&rt, rt.alloc(), 3);
     replies(&rt, rt.alloc(), &mut arena, EVERY_REPLY);
 }

@@ -1,7 +1,6 @@
 //! The calls that a chain arena has of its own, as rows of tables.
 
 use super::canonical::{moves_listed, moves_seen, placed};
-use super::copies::{cloned, copied_over, copied_to_plain};
 use super::drains::{
     drained, drained_chain, remove_all, remove_chain, remove_one_and_all, takes_one,
     takes_one_of_chain,
@@ -9,46 +8,20 @@ use super::drains::{
 use super::entries::{forget, give_up, insert_asked, insert_by_any_entry, insert_by_entry};
 use super::indexing::{value_at, value_at_index, write_at, write_at_index};
 use super::iterators::{counts, links, links_by_reference, links_used_up, values, walk};
-use super::machine::applied;
-use super::scripts::{Answers, Do, answer, kind};
-use super::transfers::carried_in;
-use super::{Numbered, Slot, at, index, text};
+use super::machine::kind;
+use super::scripts::{Answers, Do, answer};
+use super::{Chains, LimitedChains, at, index, text};
 use arena_base::ArenaTrait;
-use arena_ptr::SlotStack;
-use chain_arena::ChainArena;
 use std::alloc::Global;
 use std::process::Abort;
 
-// The answer to a call of the arena's own: to one on the counter and the slots, ...
-fn own_answer<P: Numbered, S: SlotStack<Item = Slot<P>>>(
-    rt: &impl Abort,
-    alloc: Global,
-    arena: &mut ChainArena<P, u32, S>,
-    call: Do,
-) -> String {
-    match call {
-        Do::Generation => text(rt, alloc, P::number_of(arena.generation())),
-        Do::SetGeneration(g) => text(rt, alloc, arena.set_generation(P::generation_of(rt, g))),
-        Do::IncGeneration => text(rt, alloc, arena.inc_generation()),
-        Do::Slots => text(rt, alloc, arena.backing().len()),
-        Do::Debug => text(rt, alloc, &*arena),
-        Do::Apply(k, t) => applied(rt, alloc, arena, kind(rt, k), t),
+// The answer to a call of the arena's own: to one on a value, a walk, or a loop over all links, ...
+fn own_answer(rt: &impl Abort, alloc: Global, arena: &mut Chains, row: Do) -> String {
+    match row {
         Do::Value(p) => text(rt, alloc, value_at(arena, at(rt, p))),
         Do::ValueInx(i) => text(rt, alloc, value_at_index(arena, index(rt, i))),
         Do::WriteValue(p, t) => text(rt, alloc, write_at(arena, at(rt, p), t)),
         Do::WriteValueInx(i, t) => text(rt, alloc, write_at_index(arena, index(rt, i), t)),
-        other => iterator_answer(rt, alloc, arena, other),
-    }
-}
-
-// .. to a walk or a loop over all links, ...
-fn iterator_answer<P: Numbered, S: SlotStack<Item = Slot<P>>>(
-    rt: &impl Abort,
-    alloc: Global,
-    arena: &mut ChainArena<P, u32, S>,
-    call: Do,
-) -> String {
-    match call {
         Do::Walk(p) => walk(rt, alloc, arena, at(rt, p)),
         Do::Values => values(rt, alloc, arena),
         Do::Links => links(rt, alloc, arena),
@@ -59,22 +32,13 @@ fn iterator_answer<P: Numbered, S: SlotStack<Item = Slot<P>>>(
         Do::Counted(reset) => text(rt, alloc, arena.compress_canonical_counted(reset)),
         Do::MovesSeen(reset) => text(rt, alloc, moves_seen(rt, alloc, arena, reset)),
         Do::MovesListed(reset) => text(rt, alloc, moves_listed(alloc, arena, reset)),
-        Do::Clone => cloned(rt, alloc, arena),
-        Do::CopyOver => copied_over(rt, alloc, arena),
-        Do::CopyToPlain => copied_to_plain(rt, alloc, arena),
-        Do::CarryIn(n) => carried_in(rt, alloc, arena, n),
         other => drain_answer(rt, alloc, arena, other),
     }
 }
 
 // .. to a drain, or a place for a link.
-fn drain_answer<P: Numbered, S: SlotStack<Item = Slot<P>>>(
-    rt: &impl Abort,
-    alloc: Global,
-    arena: &mut ChainArena<P, u32, S>,
-    call: Do,
-) -> String {
-    match call {
+fn drain_answer(rt: &impl Abort, alloc: Global, arena: &mut Chains, row: Do) -> String {
+    match row {
         Do::DrainChain(p) => drained_chain(rt, alloc, arena, at(rt, p)),
         Do::DrainChainOne(p) => text(rt, alloc, takes_one_of_chain(arena, at(rt, p), false)),
         Do::ForgetChainDrain(p) => text(rt, alloc, takes_one_of_chain(arena, at(rt, p), true)),
@@ -89,26 +53,26 @@ fn drain_answer<P: Numbered, S: SlotStack<Item = Slot<P>>>(
         Do::InsertByEntry(k, t) => text(rt, alloc, insert_by_entry(arena, kind(rt, k), t)),
         Do::InsertByAnyEntry(k, t) => text(rt, alloc, insert_by_any_entry(arena, kind(rt, k), t)),
         Do::InsertAsked(k, t) => text(rt, alloc, insert_asked(arena, kind(rt, k), t)),
-        other => trait_answer(rt, alloc, arena, other),
+        other => answer(rt, alloc, arena, other),
     }
 }
 
-// .. to a call of the traits, in the one place that hands such a body an arena.
-fn trait_answer<P: Numbered, S: SlotStack<Item = Slot<P>>>(
-    rt: &impl Abort,
-    alloc: Global,
-    arena: &mut ChainArena<P, u32, S>,
-    call: Do,
-) -> String {
-    answer(rt, alloc, arena, call)
-}
-
-impl<P: Numbered, S: SlotStack<Item = Slot<P>>> Answers for ChainArena<P, u32, S> {
+impl Answers for Chains {
     fn fresh(alloc: Global) -> Self {
-        ChainArena::new(alloc)
+        Chains::new(alloc)
     }
 
-    fn answer(&mut self, rt: &impl Abort, alloc: Global, call: Do) -> String {
-        own_answer(rt, alloc, self, call)
+    fn answer(&mut self, rt: &impl Abort, alloc: Global, row: Do) -> String {
+        own_answer(rt, alloc, self, row)
+    }
+}
+
+impl Answers for LimitedChains {
+    fn fresh(alloc: Global) -> Self {
+        LimitedChains::new(alloc)
+    }
+
+    fn answer(&mut self, rt: &impl Abort, alloc: Global, row: Do) -> String {
+        answer(rt, alloc, self, row)
     }
 }

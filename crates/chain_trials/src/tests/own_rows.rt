@@ -1,29 +1,18 @@
 //! What a chain arena's own calls answer, and what they leave.
 
-use super::rows::{FOUR, THREE};
-use super::scripts::{Do, Kind, Line, Script, plays_all};
-use super::{At, Chains, NONE, Row};
+use super::scripts::{Do, Kind, Script, plays_all};
+use super::{At, Chains};
+
+// Links in a row.
+const THREE: [At; 2] = [(1, 2), (2, 3)];
+
+const FOUR: [At; 3] = [(1, 2), (2, 3), (3, 4)];
 
 // Links tied crosswise: 3, 1, 4 and 2 in a row.
 const CROSSED: [At; 3] = [(4, 2), (3, 1), (1, 4)];
 
 // A ring of three.
 const ROUND: [At; 3] = [(1, 2), (2, 3), (3, 1)];
-
-// What is left of four in a row and a lone link without the second, and without the first.
-const WITHOUT_TWO: [Row; 4] = [
-    ((1, 2), 1, NONE, (3, 2)),
-    ((3, 2), 3, (1, 2), (4, 2)),
-    ((4, 2), 4, (3, 2), NONE),
-    ((5, 2), 5, NONE, NONE),
-];
-
-const WITHOUT_ONE: [Row; 4] = [
-    ((2, 2), 2, NONE, (3, 2)),
-    ((3, 2), 3, (2, 2), (4, 2)),
-    ((4, 2), 4, (3, 2), NONE),
-    ((5, 2), 5, NONE, NONE),
-];
 
 // The two links that are left of three in a row without the second.
 const TWO_LEFT: &str = "[(P0[1](2), {(start), 3} 1), (P0[3](2), {1, (end)} 3)]";
@@ -35,11 +24,11 @@ const WALKS: [Script; 6] = [
         4,
         &CROSSED,
         &[
-            Line::Says(
+            (
                 Do::Walk((1, 2)),
                 "[(P0[1](2), {3, 4} 1), (P0[4](2), {1, 2} 4), (P0[2](2), {4, (end)} 2), (P0[3](2), {(start), 1} 3)]",
             ),
-            Line::Says(
+            (
                 Do::Walk((2, 2)),
                 "[(P0[2](2), {4, (end)} 2), (P0[4](2), {1, 2} 4), (P0[1](2), {3, 4} 1), (P0[3](2), {(start), 1} 3)]",
             ),
@@ -49,7 +38,7 @@ const WALKS: [Script; 6] = [
         "a ring of three",
         4,
         &ROUND,
-        &[Line::Says(
+        &[(
             Do::Walk((2, 2)),
             "[(P0[2](2), {1, 3} 2), (P0[3](2), {2, 1} 3), (P0[1](2), {3, 2} 1)]",
         )],
@@ -59,8 +48,8 @@ const WALKS: [Script; 6] = [
         4,
         &[(1, 1), (2, 3), (3, 2)],
         &[
-            Line::Says(Do::Walk((1, 2)), "[(P0[1](2), {1, 1} 1)]"),
-            Line::Says(
+            (Do::Walk((1, 2)), "[(P0[1](2), {1, 1} 1)]"),
+            (
                 Do::Walk((3, 2)),
                 "[(P0[3](2), {2, 2} 3), (P0[2](2), {3, 3} 2)]",
             ),
@@ -71,10 +60,9 @@ const WALKS: [Script; 6] = [
         1,
         &[],
         &[
-            Line::Says(Do::Walk((1, 1)), "None"),
-            Line::Says(Do::Walk((1, 3)), "None"),
-            Line::Says(Do::Walk((2, 2)), "None"),
-            Line::Says(Do::AdvanceEmpty, "None"),
+            (Do::Walk((1, 1)), "None"),
+            (Do::Walk((1, 3)), "None"),
+            (Do::Walk((2, 2)), "None"),
         ],
     ),
     (
@@ -82,9 +70,9 @@ const WALKS: [Script; 6] = [
         4,
         &FOUR,
         &[
-            Line::Says(Do::Remove((2, 2)), "Success(2)"),
-            Line::Says(Do::Remove((2, 2)), "InvalidPtr"),
-            Line::Says(
+            (Do::Remove((2, 2)), "Success(2)"),
+            (Do::Remove((2, 2)), "InvalidPtr"),
+            (
                 Do::Walk((1, 2)),
                 "[(P0[1](2), {(start), 3} 1), (P0[3](2), {1, 4} 3), (P0[4](2), {3, (end)} 4)]",
             ),
@@ -95,12 +83,12 @@ const WALKS: [Script; 6] = [
         2,
         &[(1, 2), (2, 1)],
         &[
-            Line::Says(Do::Slots, "2"),
-            Line::Says(Do::Generation, "2"),
-            Line::Says(Do::Counter, "Some(Gen32 { number: 2 })"),
-            Line::Says(Do::Clear, "Success(())"),
-            Line::Says(Do::Slots, "0"),
-            Line::Says(Do::Generation, "3"),
+            (Do::Slots, "2"),
+            (Do::Generation, "2"),
+            (Do::Counter, "Some(Gen32 { number: 2 })"),
+            (Do::Clear, "Success(())"),
+            (Do::Slots, "0"),
+            (Do::Generation, "3"),
         ],
     ),
 ];
@@ -112,8 +100,8 @@ const LOOPS: [Script; 4] = [
         3,
         &[(1, 2)],
         &[
-            Line::Says(Do::Remove((2, 2)), "Success(2)"),
-            Line::Says(Do::Values, "[(P0[1](2), 1), (P0[3](2), 3)]"),
+            (Do::Remove((2, 2)), "Success(2)"),
+            (Do::Values, "[(P0[1](2), 1), (P0[3](2), 3)]"),
         ],
     ),
     (
@@ -121,15 +109,15 @@ const LOOPS: [Script; 4] = [
         3,
         &THREE,
         &[
-            Line::Says(Do::Remove((2, 2)), "Success(2)"),
-            Line::Says(Do::Links, TWO_LEFT),
-            Line::Says(Do::LinksByReference, TWO_LEFT),
-            Line::Says(
+            (Do::Remove((2, 2)), "Success(2)"),
+            (Do::Links, TWO_LEFT),
+            (Do::LinksByReference, TWO_LEFT),
+            (
                 Do::Counts,
                 "(2, Ok([Inx32 { number: 1 }, Inx32 { number: 3 }]))",
             ),
-            Line::Says(Do::LinksUsedUp, TWO_LEFT),
-            Line::Says(Do::IsEmpty, "true"),
+            (Do::LinksUsedUp, TWO_LEFT),
+            (Do::IsEmpty, "true"),
         ],
     ),
     (
@@ -137,10 +125,10 @@ const LOOPS: [Script; 4] = [
         0,
         &[],
         &[
-            Line::Says(Do::Values, "[]"),
-            Line::Says(Do::Links, "[]"),
-            Line::Says(Do::LinksByReference, "[]"),
-            Line::Says(Do::LinksUsedUp, "[]"),
+            (Do::Values, "[]"),
+            (Do::Links, "[]"),
+            (Do::LinksByReference, "[]"),
+            (Do::LinksUsedUp, "[]"),
         ],
     ),
     (
@@ -148,15 +136,14 @@ const LOOPS: [Script; 4] = [
         3,
         &THREE,
         &[
-            Line::Says(Do::Value((2, 2)), "Some(2)"),
-            Line::Says(Do::WriteValue((2, 2), 20), "true"),
-            Line::Says(Do::ValueInx(3), "Some(3)"),
-            Line::Says(Do::WriteValueInx(3, 30), "true"),
-            Line::Shows(&[
-                ((1, 2), 1, NONE, (2, 2)),
-                ((2, 2), 20, (1, 2), (3, 2)),
-                ((3, 2), 30, (2, 2), NONE),
-            ]),
+            (Do::Value((2, 2)), "Some(2)"),
+            (Do::WriteValue((2, 2), 20), "true"),
+            (Do::ValueInx(3), "Some(3)"),
+            (Do::WriteValueInx(3, 30), "true"),
+            (
+                Do::Debug,
+                "{P0[1](2): {(start), 2} 1, P0[2](2): {1, 3} 20, P0[3](2): {2, (end)} 30}",
+            ),
         ],
     ),
 ];
@@ -168,13 +155,13 @@ const CHAIN_DRAINS: [Script; 6] = [
         3,
         &THREE,
         &[
-            Line::Says(
+            (
                 Do::DrainChain((1, 2)),
                 "[Success((P0[1](2), {(start), 2} 1)), Success((P0[2](2), {(start), 3} 2)), \
                 Success((P0[3](2), {(start), (end)} 3))]",
             ),
-            Line::Says(Do::IsEmpty, "true"),
-            Line::Says(Do::Generation, "5"),
+            (Do::IsEmpty, "true"),
+            (Do::Generation, "5"),
         ],
     ),
     (
@@ -182,13 +169,13 @@ const CHAIN_DRAINS: [Script; 6] = [
         3,
         &THREE,
         &[
-            Line::Says(
+            (
                 Do::DrainChain((2, 2)),
                 "[Success((P0[2](2), {1, 3} 2)), Success((P0[3](2), {1, (end)} 3)), \
                 Success((P0[1](2), {(start), (end)} 1))]",
             ),
-            Line::Says(Do::IsEmpty, "true"),
-            Line::Says(Do::Generation, "5"),
+            (Do::IsEmpty, "true"),
+            (Do::Generation, "5"),
         ],
     ),
     (
@@ -196,13 +183,13 @@ const CHAIN_DRAINS: [Script; 6] = [
         3,
         &ROUND,
         &[
-            Line::Says(
+            (
                 Do::DrainChain((1, 2)),
                 "[Success((P0[1](2), {3, 2} 1)), Success((P0[2](2), {3, 3} 2)), \
                 Success((P0[3](2), {3, 3} 3))]",
             ),
-            Line::Says(Do::IsEmpty, "true"),
-            Line::Says(Do::Generation, "5"),
+            (Do::IsEmpty, "true"),
+            (Do::Generation, "5"),
         ],
     ),
     (
@@ -210,11 +197,11 @@ const CHAIN_DRAINS: [Script; 6] = [
         1,
         &[],
         &[
-            Line::Says(Do::DrainChain((2, 2)), "None"),
-            Line::Says(Do::RemoveChain((2, 2)), "false"),
-            Line::Shows(&[((1, 2), 1, NONE, NONE)]),
-            Line::Says(Do::RemoveChain((1, 2)), "true"),
-            Line::Says(Do::IsEmpty, "true"),
+            (Do::DrainChain((2, 2)), "None"),
+            (Do::RemoveChain((2, 2)), "false"),
+            (Do::Debug, "{P0[1](2): {(start), (end)} 1}"),
+            (Do::RemoveChain((1, 2)), "true"),
+            (Do::IsEmpty, "true"),
         ],
     ),
     (
@@ -222,12 +209,12 @@ const CHAIN_DRAINS: [Script; 6] = [
         5,
         &FOUR,
         &[
-            Line::Says(
+            (
                 Do::DrainChainOne((2, 2)),
                 "Some(Success((P0[2](2), {1, 3} 2)))",
             ),
-            Line::Says(Do::Generation, "6"),
-            Line::Shows(&[((5, 2), 5, NONE, NONE)]),
+            (Do::Generation, "6"),
+            (Do::Debug, "{P0[5](2): {(start), (end)} 5}"),
         ],
     ),
     (
@@ -235,11 +222,14 @@ const CHAIN_DRAINS: [Script; 6] = [
         5,
         &FOUR,
         &[
-            Line::Says(
+            (
                 Do::ForgetChainDrain((2, 2)),
                 "Some(Success((P0[2](2), {1, 3} 2)))",
             ),
-            Line::Shows(&WITHOUT_TWO),
+            (
+                Do::Debug,
+                "{P0[1](2): {(start), 3} 1, P0[3](2): {1, 4} 3, P0[4](2): {3, (end)} 4, P0[5](2): {(start), (end)} 5}",
+            ),
         ],
     ),
 ];
@@ -251,13 +241,13 @@ const DRAINS: [Script; 4] = [
         4,
         &[(4, 1), (1, 3)],
         &[
-            Line::Says(Do::Remove((2, 2)), "Success(2)"),
-            Line::Says(
+            (Do::Remove((2, 2)), "Success(2)"),
+            (
                 Do::Drain,
                 "[Success((P0[1](2), 1)), Success((P0[3](2), 3)), Success((P0[4](2), 4))]",
             ),
-            Line::Says(Do::IsEmpty, "true"),
-            Line::Says(Do::Generation, "6"),
+            (Do::IsEmpty, "true"),
+            (Do::Generation, "6"),
         ],
     ),
     (
@@ -265,12 +255,12 @@ const DRAINS: [Script; 4] = [
         5,
         &FOUR,
         &[
-            Line::Says(Do::DrainOne, "Some(Success((P0[1](2), 1)))"),
-            Line::Says(Do::IsEmpty, "true"),
-            Line::Says(Do::Slots, "5"),
-            Line::Says(Do::Insert(Kind::Disconnected, 6), "Ok(P0[5](7))"),
-            Line::Says(Do::RemoveOneAndAll, "()"),
-            Line::Says(Do::IsEmpty, "true"),
+            (Do::DrainOne, "Some(Success((P0[1](2), 1)))"),
+            (Do::IsEmpty, "true"),
+            (Do::Slots, "5"),
+            (Do::Insert(Kind::Disconnected, 6), "Ok(P0[5](7))"),
+            (Do::RemoveOneAndAll, "()"),
+            (Do::IsEmpty, "true"),
         ],
     ),
     (
@@ -278,8 +268,11 @@ const DRAINS: [Script; 4] = [
         5,
         &FOUR,
         &[
-            Line::Says(Do::ForgetDrain, "Some(Success((P0[1](2), 1)))"),
-            Line::Shows(&WITHOUT_ONE),
+            (Do::ForgetDrain, "Some(Success((P0[1](2), 1)))"),
+            (
+                Do::Debug,
+                "{P0[2](2): {(start), 3} 2, P0[3](2): {2, 4} 3, P0[4](2): {3, (end)} 4, P0[5](2): {(start), (end)} 5}",
+            ),
         ],
     ),
     (
@@ -287,11 +280,11 @@ const DRAINS: [Script; 4] = [
         3,
         &[(1, 2)],
         &[
-            Line::Says(Do::SetGeneration(u32::MAX), "()"),
-            Line::Says(Do::DrainOne, "Some(GenerationOverflow((P0[1](2), 1)))"),
-            Line::Says(Do::Generation, "4"),
-            Line::Says(Do::RemoveAll, "()"),
-            Line::Says(Do::IsEmpty, "true"),
+            (Do::SetGeneration(u32::MAX), "()"),
+            (Do::DrainOne, "Some(GenerationOverflow((P0[1](2), 1)))"),
+            (Do::Generation, "4"),
+            (Do::RemoveAll, "()"),
+            (Do::IsEmpty, "true"),
         ],
     ),
 ];
@@ -303,14 +296,14 @@ const PLACES: [Script; 6] = [
         0,
         &[],
         &[
-            Line::Says(Do::GiveUp(Kind::Disconnected), "Ok(P0[1](2))"),
-            Line::Says(Do::Len, "0"),
-            Line::Says(Do::Generation, "2"),
-            Line::Says(Do::Get((1, 2)), "None"),
-            Line::Says(Do::InsertByEntry(Kind::Disconnected, 7), "Ok(P0[1](2))"),
-            Line::Says(Do::Len, "1"),
-            Line::Says(Do::Generation, "2"),
-            Line::Says(Do::Get((1, 2)), "Some(7)"),
+            (Do::GiveUp(Kind::Disconnected), "Ok(P0[1](2))"),
+            (Do::Len, "0"),
+            (Do::Generation, "2"),
+            (Do::Get((1, 2)), "None"),
+            (Do::InsertByEntry(Kind::Disconnected, 7), "Ok(P0[1](2))"),
+            (Do::Len, "1"),
+            (Do::Generation, "2"),
+            (Do::Get((1, 2)), "Some(7)"),
         ],
     ),
     (
@@ -318,30 +311,30 @@ const PLACES: [Script; 6] = [
         0,
         &[],
         &[
-            Line::Says(Do::Forget(Kind::Disconnected), "None"),
-            Line::Says(Do::Len, "0"),
-            Line::Says(Do::Generation, "2"),
-            Line::Says(Do::Get((1, 2)), "None"),
-            Line::Says(Do::Insert(Kind::Disconnected, 7), "Ok(P0[1](2))"),
+            (Do::Forget(Kind::Disconnected), "None"),
+            (Do::Len, "0"),
+            (Do::Generation, "2"),
+            (Do::Get((1, 2)), "None"),
+            (Do::Insert(Kind::Disconnected, 7), "Ok(P0[1](2))"),
         ],
     ),
     (
         "the first link, asked before",
         0,
         &[],
-        &[Line::Says(Do::InsertAsked(Kind::Disconnected, 1), "Some(Ok(P0[1](2)))")],
+        &[(Do::InsertAsked(Kind::Disconnected, 1), "Some(Ok(P0[1](2)))")],
     ),
     (
         "the first link",
         0,
         &[],
-        &[Line::Says(Do::Insert(Kind::Disconnected, 1), "Ok(P0[1](2))")],
+        &[(Do::Insert(Kind::Disconnected, 1), "Ok(P0[1](2))")],
     ),
     (
         "the first link in a place, asked before",
         0,
         &[],
-        &[Line::Says(
+        &[(
             Do::InsertByAnyEntry(Kind::Disconnected, 1),
             "Some(Ok(P0[1](2)))",
         )],
@@ -350,7 +343,7 @@ const PLACES: [Script; 6] = [
         "the first link in a place",
         0,
         &[],
-        &[Line::Says(Do::InsertByEntry(Kind::Disconnected, 1), "Ok(P0[1](2))")],
+        &[(Do::InsertByEntry(Kind::Disconnected, 1), "Ok(P0[1](2))")],
     ),
 ];
 

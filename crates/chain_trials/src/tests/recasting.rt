@@ -3,7 +3,7 @@ ghost use Rattle.std.specs.Prelude.{◌≡◌, OnErr, Err};
 
 use super::scripts::Kind;
 use super::steps::{Step, after};
-use super::{Numbered, same, text};
+use super::{same, text};
 use arena_ptr::{Recast, Recaster, ToolPtr};
 use std::alloc::Global;
 use std::process::Abort;
@@ -91,8 +91,8 @@ const TIED_THEN: &str =
     P0[4](2): {(start), 1} Number(3, 0)}, Gen32 { number: 3 })";
 
 // Recasts an arena, and tells the answer, the arena then and its counter.
-fn recast<P: Numbered>(rt: &impl Abort, alloc: Global, steps: Vec<Step<Number>>) -> String {
-    let mut arena = after::<P, Number>(rt, alloc, steps);
+fn recast(rt: &impl Abort, alloc: Global, steps: Vec<Step<Number>>) -> String {
+    let mut arena = after(rt, alloc, steps);
     let answer = arena.recast(&AddTen);
     text(rt, alloc, (answer, &arena, arena.generation()))
 }
@@ -102,10 +102,10 @@ fn recasters_that_refuse_and_that_do_not(rt: HostRuntime) {
     for (items, want) in LONE {
         let links = items.map(|item: u32| (Kind::Disconnected, item));
         let steps = numbers(&rt, rt.alloc(), &links);
-        let told = recast::<ToolPtr>(&rt, rt.alloc(), steps);
+        let told = recast(&rt, rt.alloc(), steps);
         same(&rt, "lone links", told.as_str(), want);
     }
-    let none = recast::<ToolPtr>(&rt, rt.alloc(), Vec::new(rt.alloc()));
+    let none = recast(&rt, rt.alloc(), Vec::new(rt.alloc()));
     same(
         &rt,
         "no links",
@@ -114,6 +114,6 @@ fn recasters_that_refuse_and_that_do_not(rt: HostRuntime) {
     );
     let mut steps = numbers(&rt, rt.alloc(), &TIED);
     steps.push(Step::Remove((2, 2))).expect(&rt, "memory");
-    let told = recast::<ToolPtr>(&rt, rt.alloc(), steps);
+    let told = recast(&rt, rt.alloc(), steps);
     same(&rt, "tied links", told.as_str(), TIED_THEN);
 }

@@ -1,54 +1,29 @@
-//! Calls on arenas of links as rows of tables, each with the text of its answer.
+//! Calls on chain arenas as rows of tables, each with the text of its answer.
 
-use super::advancing::{changes_met, met, walk_along};
-use super::behind::{add_behind, count_of_links, take_next};
-use super::transfers::{carried_kept, carried_out};
-use super::{At, Numbered, Row, at, index, rows_of, same, text};
-use arena_base::{Advancer, ArenaTrait, CompactArenaTrait};
-use arena_ptr::{InvalidationOption, Ptr};
-use chain_arena::{ChainArenaTrait, InsertKindBody, LinkInsertKind};
+use super::copies::{cloned, copied_over, copied_to_plain};
+use super::machine::{call, told};
+use super::{At, Slot, at, same, text};
+use arena_base::ArenaTrait;
+use arena_ptr::{SlotStack, ToolPtr};
+use chain_arena::{ChainArena, apply};
 use std::alloc::Global;
-use std::mem;
 use std::process::Abort;
 
-// Where a new link comes, by pointers that are an index and a generation, or by indexes.
-pub(super) type Kind = InsertKindBody<At, u32>;
+// Where a new link comes, by pointers that are an index and a generation.
+#[derive(Clone, Copy)]
+pub(super) enum Kind {
+    Disconnected,
+    SingleLinkCyclic,
+    ChainEnd(At),
+    ChainStart(At),
+    NextTo(At),
+}
 
-// A call on an arena of links. A pointer is its index and its generation.
+// A call on a chain arena. A pointer is its index and its generation.
 #[derive(Clone, Copy)]
 pub(super) enum Do {
-    // Looks of the trait of arenas. An advancer answers so many times, and one from an index on twice. Whether an arena
-    // that is born with room is empty, and has the room. The length and the capacity.
-    Len,
-    IsEmpty,
-    HasRoom(usize),
-    Maximum,
-    Counter,
-    Contains(At),
-    Get(At),
-    GetInx(u32),
-    Ends,
-    Advance(u32),
-    Birth(usize),
-    Room,
-    AdvanceFrom(u32, bool),
-    AdvanceEmpty,
-    // Looks of the trait of arenas of links: an advancer along a chain answers five times, or to its end.
-    CanInsert(Kind),
-    Neighbors(At, At),
-    NeighborsInx(u32, u32),
-    Link(At),
-    LinkNoGen(At),
-    LinkNoGenInx(u32),
-    Along(At),
-    AlongAll(At),
-    CountOfLinks,
-    // All links, and what advancers answer over arenas that change.
-    All,
-    Changes,
-    // Changes of links.
+    // Calls of lists of calls.
     Insert(Kind, u32),
-    InsertMany(u32),
     InsertWithin(Kind, u32),
     Connect(At, At),
     BreakPrev(At),
@@ -56,33 +31,31 @@ pub(super) enum Do {
     Exchange(At, At),
     RemoveLink(At),
     RemoveLinkInx(u32),
-    Canonical(bool),
-    AddBehind(At, u32),
-    TakeNext(u32),
-    // Changes of any arena: a clear tells whether the capacity stays, a compression what its closure saw.
-    Write(At, u32),
-    WriteInx(u32, u32),
-    Remove(At),
-    RemoveInx(u32),
     Invalidate(At),
-    Clear,
-    ClearInRoom,
-    Reserve(usize),
-    Compress(bool),
-    CompressWith(bool),
-    // All links carried over to an arena of two links of other pointers, with a generation; and to a new one, the values as
-    // they are.
-    CarryOut(u32),
-    CarryKept(u32),
-    // Calls of lists of calls alone.
     DrainTaking(At, usize),
-    // Calls of the chain arena alone. An insertion as a value. The text of the arena.
-    Apply(Kind, u32),
-    Debug,
-    Generation,
+    Clear,
+    Compress(bool),
+    Canonical(bool),
+    Reserve(usize),
     SetGeneration(u32),
     IncGeneration,
+    // The text of the arena, and other looks.
+    Debug,
+    Len,
+    IsEmpty,
+    HasRoom(usize),
+    Maximum,
+    Counter,
+    Generation,
     Slots,
+    Get(At),
+    Remove(At),
+    // Copies: a clone, and what comes next in it; a copy over the arena of the links 1 and 3 of three in a row without the
+    // second; one of this arena to a plain one.
+    Clone,
+    CopyOver,
+    CopyToPlain,
+    // Values by what is valid, walks, and loops over all links.
     Value(At),
     ValueInx(u32),
     WriteValue(At, u32),
@@ -109,12 +82,6 @@ pub(super) enum Do {
     InsertByEntry(Kind, u32),
     InsertByAnyEntry(Kind, u32),
     InsertAsked(Kind, u32),
-    // Copies: a clone, and what comes next in it; a copy over the arena of the links 1 and 3 of three in a row without the
-    // second; one of this arena to a plain one. Three links of tool pointers carried over to this arena, which is refused.
-    Clone,
-    CopyOver,
-    CopyToPlain,
-    CarryIn(u32),
     // Canonical compressions: how many links were placed, all work, and the moves by a closure and by a list.
     Placed(bool),
     Counted(bool),
@@ -122,226 +89,55 @@ pub(super) enum Do {
     MovesListed(bool),
 }
 
-// A call and the text of its answer, or all links that the arena shows.
-#[derive(Clone, Copy)]
-pub(super) enum Line {
-    Says(Do, &'static str),
-    Shows(&'static [Row]),
-}
+// A call and the text of its answer.
+pub(super) type Line = (Do, &'static str);
 
 // What the lines are about, how many lone links there are at first, which of them are tied, and what follows.
 pub(super) type Script = (&'static str, u32, &'static [At], &'static [Line]);
 
-// A kind that names links by indexes.
-fn kind_by_index<P: Ptr>(rt: &impl Abort, kind: Kind) -> LinkInsertKind<P> {
-    match kind {
-        Kind::ChainEndInx(i) => LinkInsertKind::ChainEndInx(index(rt, i)),
-        Kind::ChainStartInx(i) => LinkInsertKind::ChainStartInx(index(rt, i)),
-        Kind::NextToInx(i) => LinkInsertKind::NextToInx(index(rt, i)),
-        Kind::PrevToInx(i) => LinkInsertKind::PrevToInx(index(rt, i)),
-        Kind::AtInterlinkInx { next_to, prev_to } => LinkInsertKind::AtInterlinkInx {
-            next_to: index(rt, next_to),
-            prev_to: index(rt, prev_to),
-        },
-        Kind::BridgeInx { end, start } => LinkInsertKind::BridgeInx {
-            end: index(rt, end),
-            start: index(rt, start),
-        },
-        _ => LinkInsertKind::Disconnected,
-    }
-}
-
-// A kind of the arena.
-pub(super) fn kind<P: Numbered>(rt: &impl Abort, kind: Kind) -> LinkInsertKind<P> {
-    match kind {
-        Kind::Disconnected => LinkInsertKind::Disconnected,
-        Kind::SingleLinkCyclic => LinkInsertKind::SingleLinkCyclic,
-        Kind::ChainEnd(p) => LinkInsertKind::ChainEnd(at(rt, p)),
-        Kind::ChainStart(p) => LinkInsertKind::ChainStart(at(rt, p)),
-        Kind::NextTo(p) => LinkInsertKind::NextTo(at(rt, p)),
-        Kind::PrevTo(p) => LinkInsertKind::PrevTo(at(rt, p)),
-        Kind::AtInterlink { next_to, prev_to } => LinkInsertKind::AtInterlink {
-            next_to: at(rt, next_to),
-            prev_to: at(rt, prev_to),
-        },
-        Kind::Bridge { end, start } => LinkInsertKind::Bridge {
-            end: at(rt, end),
-            start: at(rt, start),
-        },
-        by_index => kind_by_index(rt, by_index),
-    }
-}
-
-// The value that another takes the place of.
-pub(super) fn overwritten(slot: Option<&mut u32>, value: u32) -> Option<u32> {
-    match slot {
-        Some(t) => Some(mem::replace(t, value)),
-        None => None,
-    }
-}
-
-// Whether an arena that is born with room for so many links is empty, and has the room.
-fn born<P: Ptr, A: ChainArenaTrait<P, u32> + Drop>(
+// The answer to a call on an arena over any stack: its reply, where it is one of lists of calls, ...
+pub(super) fn answer<S: SlotStack<Item = Slot>>(
     rt: &impl Abort,
     alloc: Global,
-    n: usize,
-) -> (bool, bool) {
-    let born = A::with_min_capacity(alloc, n).expect(rt, "memory");
-    (born.is_empty(), born.capacity() >= n)
-}
-
-// Adds so many lone links, the values from 1 on, and counts those that are added.
-fn insert_many<P: Ptr, A: ChainArenaTrait<P, u32>>(arena: &mut A, count: u32) -> u32 {
-    let mut added = 0u32;
-    for k in 1..=count {
-        if arena
-            .insert_reallocating(LinkInsertKind::Disconnected, k)
-            .is_ok()
-        {
-            added = added.saturating_add(1);
-        }
-    }
-    added
-}
-
-// Clears an arena, and tells whether its capacity stays.
-fn cleared<P: Ptr, A: ArenaTrait<P, u32>>(arena: &mut A) -> (InvalidationOption<()>, bool) {
-    let capacity = arena.capacity();
-    let answer = arena.clear();
-    (answer, arena.capacity() == capacity)
-}
-
-// Closes the gaps, adds ten times the number of its call to each value, and lists what the closure saw.
-fn compressed<P: Ptr, A: ArenaTrait<P, u32>>(
-    rt: &impl Abort,
-    alloc: Global,
-    arena: &mut A,
-    reset: bool,
-) -> (InvalidationOption<()>, Vec<(P, u32, P)>) {
-    let mut seen = Vec::new(alloc);
-    let mut calls = 0u32;
-    let answer = arena.compress_with(reset, |p: P, t: &mut u32, q: P| {
-        seen.push((p, *t, q)).expect(rt, "memory");
-        calls = calls.saturating_add(10);
-        *t = t.saturating_add(calls);
-    });
-    (answer, seen)
-}
-
-// .. to a look at values, ...
-fn look<P: Numbered, A: ChainArenaTrait<P, u32> + Drop>(
-    rt: &impl Abort,
-    alloc: Global,
-    arena: &A,
-    call: Do,
+    arena: &mut ChainArena<ToolPtr, u32, S>,
+    row: Do,
 ) -> String {
-    match call {
+    match call(rt, row) {
+        Some(call) => told(rt, alloc, apply(arena, call)),
+        None => look(rt, alloc, arena, row),
+    }
+}
+
+// .. and what the arena shows, or a copy of it.
+pub(super) fn look<S: SlotStack<Item = Slot>>(
+    rt: &impl Abort,
+    alloc: Global,
+    arena: &mut ChainArena<ToolPtr, u32, S>,
+    row: Do,
+) -> String {
+    match row {
+        Do::Debug => text(rt, alloc, &*arena),
         Do::Len => text(rt, alloc, arena.len()),
         Do::IsEmpty => text(rt, alloc, arena.is_empty()),
         Do::HasRoom(n) => text(rt, alloc, arena.capacity() >= n),
         Do::Maximum => text(rt, alloc, arena.max_capacity()),
         Do::Counter => text(rt, alloc, arena.singular_generation()),
-        Do::Contains(p) => text(rt, alloc, arena.contains(at(rt, p))),
+        Do::Generation => text(rt, alloc, arena.generation().get()),
+        Do::Slots => text(rt, alloc, arena.backing().len()),
         Do::Get(p) => text(rt, alloc, arena.get(at(rt, p))),
-        Do::GetInx(i) => text(rt, alloc, arena.get_inx(index(rt, i))),
-        Do::Ends => {
-            let ends = (arena.find_first_inx_ptr(), arena.find_last_inx_ptr());
-            text(rt, alloc, ends)
-        }
-        Do::Advance(n) => text(rt, alloc, met(rt, arena.advancer(), arena, n)),
-        Do::AdvanceFrom(i, reverse) => {
-            let advancer = arena.advancer_inx(index(rt, i), reverse);
-            text(rt, alloc, met(rt, advancer, arena, 2))
-        }
-        Do::AdvanceEmpty => text(rt, alloc, A::PtrAdvancer::empty().advance(arena)),
-        Do::Birth(n) => text(rt, alloc, born::<P, A>(rt, alloc, n)),
-        Do::Room => text(rt, alloc, (arena.len(), arena.capacity())),
-        Do::Changes => text(rt, alloc, changes_met::<P, A>(rt, alloc)),
-        other => look_at_links(rt, alloc, arena, other),
-    }
-}
-
-// .. and to a look at links.
-fn look_at_links<P: Numbered, A: ChainArenaTrait<P, u32>>(
-    rt: &impl Abort,
-    alloc: Global,
-    arena: &A,
-    call: Do,
-) -> String {
-    match call {
-        Do::CanInsert(k) => text(rt, alloc, arena.can_insert(kind(rt, k))),
-        Do::Neighbors(p, q) => text(rt, alloc, arena.are_neighbors(at(rt, p), at(rt, q))),
-        Do::NeighborsInx(i, j) => {
-            let (i, j) = (index(rt, i), index(rt, j));
-            text(rt, alloc, arena.are_neighbors_inx(i, j))
-        }
-        Do::Link(p) => text(rt, alloc, arena.get_link(at(rt, p))),
-        Do::LinkNoGen(p) => text(rt, alloc, arena.get_link_no_gen(at(rt, p))),
-        Do::LinkNoGenInx(i) => text(rt, alloc, arena.get_inx_link_no_gen(index(rt, i))),
-        Do::Along(p) => {
-            let along = arena.advancer_chain(at(rt, p));
-            text(rt, alloc, met(rt, along, arena, 5))
-        }
-        Do::AlongAll(p) => text(rt, alloc, walk_along(alloc, arena, at(rt, p))),
-        Do::CountOfLinks => text(rt, alloc, count_of_links(arena)),
-        Do::All => text(rt, alloc, rows_of(rt, alloc, arena)),
-        _ => text(rt, alloc, "no call of the traits"),
-    }
-}
-
-// The answer to a call of the traits: to a change of links, ...
-pub(super) fn answer<P: Numbered, A: ChainArenaTrait<P, u32> + CompactArenaTrait<P, u32> + Drop>(
-    rt: &impl Abort,
-    alloc: Global,
-    arena: &mut A,
-    call: Do,
-) -> String {
-    match call {
-        Do::Insert(k, t) => text(rt, alloc, arena.insert_reallocating(kind(rt, k), t)),
-        Do::InsertMany(n) => text(rt, alloc, insert_many(arena, n)),
-        Do::InsertWithin(k, t) => text(rt, alloc, arena.insert_within_capacity(kind(rt, k), t)),
-        Do::Connect(p, q) => text(rt, alloc, arena.connect(at(rt, p), at(rt, q))),
-        Do::BreakPrev(p) => text(rt, alloc, arena.break_prev(at(rt, p))),
-        Do::BreakNext(p) => text(rt, alloc, arena.break_next(at(rt, p))),
-        Do::Exchange(p, q) => text(rt, alloc, arena.exchange_next(at(rt, p), at(rt, q))),
-        Do::RemoveLink(p) => text(rt, alloc, arena.remove_link_no_gen(at(rt, p))),
-        Do::RemoveLinkInx(i) => text(rt, alloc, arena.remove_inx_link_no_gen(index(rt, i))),
-        Do::Canonical(reset) => text(rt, alloc, arena.compress_canonical(reset)),
-        Do::AddBehind(p, t) => text(rt, alloc, add_behind(arena, at(rt, p), t)),
-        Do::TakeNext(i) => text(rt, alloc, take_next(arena, index(rt, i))),
-        Do::CarryOut(g) => carried_out(rt, alloc, arena, g),
-        Do::CarryKept(g) => carried_kept(rt, alloc, arena, g),
-        other => change(rt, alloc, arena, other),
-    }
-}
-
-// .. to a change of any arena, ...
-fn change<P: Numbered, A: ChainArenaTrait<P, u32> + Drop>(
-    rt: &impl Abort,
-    alloc: Global,
-    arena: &mut A,
-    call: Do,
-) -> String {
-    match call {
-        Do::Write(p, t) => text(rt, alloc, overwritten(arena.get_mut(at(rt, p)), t)),
-        Do::WriteInx(i, t) => text(rt, alloc, overwritten(arena.get_inx_mut(index(rt, i)), t)),
         Do::Remove(p) => text(rt, alloc, arena.remove(at(rt, p))),
-        Do::RemoveInx(i) => text(rt, alloc, arena.remove_inx(index(rt, i))),
-        Do::Invalidate(p) => text(rt, alloc, arena.invalidate(at(rt, p))),
-        Do::Clear => text(rt, alloc, arena.clear()),
-        Do::ClearInRoom => text(rt, alloc, cleared(arena)),
-        Do::Reserve(n) => text(rt, alloc, arena.reallocate_min_capacity(n)),
-        Do::Compress(reset) => text(rt, alloc, arena.compress(reset)),
-        Do::CompressWith(reset) => text(rt, alloc, compressed(rt, alloc, arena, reset)),
-        other => look(rt, alloc, arena, other),
+        Do::Clone => cloned(rt, alloc, arena),
+        Do::CopyOver => copied_over(rt, alloc, arena),
+        Do::CopyToPlain => copied_to_plain(rt, alloc, arena),
+        _ => text(rt, alloc, "no call of any stack"),
     }
 }
 
-// An arena of links that answers calls.
+// A chain arena that answers calls.
 pub(super) trait Answers {
     fn fresh(alloc: Global) -> Self;
 
-    fn answer(&mut self, rt: &impl Abort, alloc: Global, call: Do) -> String;
+    fn answer(&mut self, rt: &impl Abort, alloc: Global, row: Do) -> String;
 }
 
 // Adds lone links, each with its index as its value, and ties each pair, the second after the first.
@@ -351,11 +147,11 @@ fn begins<A: Answers>(rt: &impl Abort, alloc: Global, arena: &mut A, count: u32,
     }
     for (i, j) in pairs {
         let tied = arena.answer(rt, alloc, Do::Connect((*i, 2), (*j, 2)));
-        same(rt, "tied", tied.as_str(), "Some(())");
+        same(rt, "tied", tied.as_str(), "true");
     }
 }
 
-// Each line says its text, or shows its links.
+// Each line says its text.
 pub(super) fn plays<A: Answers>(
     rt: &impl Abort,
     alloc: Global,
@@ -363,17 +159,9 @@ pub(super) fn plays<A: Answers>(
     arena: &mut A,
     lines: &[Line],
 ) {
-    for line in lines {
-        match *line {
-            Line::Says(call, want) => {
-                let got = arena.answer(rt, alloc, call);
-                same(rt, what, got.as_str(), want);
-            }
-            Line::Shows(want) => {
-                let got = arena.answer(rt, alloc, Do::All);
-                same(rt, what, got.as_str(), text(rt, alloc, want).as_str());
-            }
-        }
+    for (row, want) in lines {
+        let got = arena.answer(rt, alloc, *row);
+        same(rt, what, got.as_str(), *want);
     }
 }
 

@@ -1,8 +1,10 @@
 //! Arenas of values of any type, made by steps.
 
-use super::scripts::{Kind, kind};
-use super::{At, Numbered, at, put};
+use super::machine::kind;
+use super::scripts::Kind;
+use super::{At, at, generation, put};
 use arena_base::ArenaTrait;
+use arena_ptr::ToolPtr;
 use chain_arena::ChainArena;
 use std::alloc::Global;
 use std::process::Abort;
@@ -16,12 +18,12 @@ pub(super) enum Step<T> {
 }
 
 // The arena after some steps.
-pub(super) fn after<P: Numbered, T: Drop>(
+pub(super) fn after<T: Drop>(
     rt: &impl Abort,
     alloc: Global,
     steps: Vec<Step<T>>,
-) -> ChainArena<P, T> {
-    let mut arena: ChainArena<P, T> = ChainArena::new(alloc);
+) -> ChainArena<ToolPtr, T> {
+    let mut arena: ChainArena<ToolPtr, T> = ChainArena::new(alloc);
     for step in steps {
         match step {
             Step::Add(k, t) => {
@@ -30,7 +32,7 @@ pub(super) fn after<P: Numbered, T: Drop>(
             Step::Remove(p) => {
                 arena.remove(at(rt, p));
             }
-            Step::Count(g) => arena.set_generation(P::generation_of(rt, g)),
+            Step::Count(g) => arena.set_generation(generation(rt, g)),
         }
     }
     arena

@@ -1,7 +1,7 @@
 -- The interlinks agree, and each link's index is one of the pointers' type.
 use Rattle.chain_laws.proofs.Partitions.{one_set}
 use Rattle.chain_arena.proofs.Within.{interlinks_within}
-use Rattle.chain_trials.proofs.tests.behind.count_of_links.Goals as goal
+use Rattle.trait_trials.proofs.tests.behind.count_of_links.Goals as goal
 
 pub returns-clause-chains : goal.returns-clause-chains
 returns-clause-chains g c =

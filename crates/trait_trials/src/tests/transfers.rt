@@ -52,20 +52,6 @@ pub(super) fn carried_out<P: Ptr, A: ChainArenaTrait<P, u32> + CompactArenaTrait
     text(rt, alloc, (told, &target, counter))
 }
 
-// Carries all links of a source over to a new arena, the values as they are, and tells the links there then.
-pub(super) fn carried_kept<P: Numbered, A: ChainArenaTrait<P, u32> + CompactArenaTrait<P, u32>>(
-    rt: &impl Abort,
-    alloc: Global,
-    source: &mut A,
-    now: u32,
-) -> String {
-    let mut target: ChainArena<P, u32> = ChainArena::new(alloc);
-    let now = P::generation_of(rt, now);
-    let answer = target.transfer_canonical_reallocating(now, source, |_, v, _| v.overflowing().0);
-    assert!(rt; answer.is_ok());
-    text(rt, alloc, &target)
-}
-
 // All that an arena shows: its links, its counter and its room.
 fn shown<P: Ptr, S: SlotStack<Item = Slot<P>>>(
     rt: &impl Abort,

@@ -601,6 +601,7 @@ pub(super) const ADVANCERS: [Script; 1] = [(
     &[],
     &[
         Line::Says(Do::Birth(3), "(true, true)"),
+        Line::Says(Do::AdvanceEmpty, "None"),
         Line::Says(
             Do::Changes,
             "((1, 2), [[(0, 0), (0, 0), (0, 0), (0, 0), (0, 0)], \

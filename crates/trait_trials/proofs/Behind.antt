@@ -9,7 +9,7 @@ use Rattle.chain_laws.proofs.Alone.{with_lone_adds}
 use Rattle.chain_laws.proofs.Joining.{joined_connects}
 use Rattle.chain_laws.proofs.Unique.{chain_valid}
 use Rattle.arena_base.specs.Entries.{found, without, RisesFrom}
-use Rattle.chain_trials.specs.Behind.{Extends}
+use Rattle.trait_trials.specs.Behind.{Extends}
 use Rattle.chain_links.specs.ChainArena.{IsInserted}
 
 none_of : {X : Type 0} (o : Option X) → is_some o ≡ false → o ≡ None

@@ -2,8 +2,8 @@
 use Rattle.std.proofs.Common.{sym, ap, ◌∙◌, subst}
 use Rattle.chain_laws.specs.Walks.{IsWalk, passes_ahead}
 use Rattle.chain_arena.proofs.Sources.{entry_valid}
-use Rattle.chain_trials.proofs.Along.{walk_ahead, walk_whole}
-use Rattle.chain_trials.proofs.tests.advancing.walk_along.Goals as goal
+use Rattle.trait_trials.proofs.Along.{walk_ahead, walk_whole}
+use Rattle.trait_trials.proofs.tests.advancing.walk_along.Goals as goal
 
 pub returns : goal.returns
 returns g c =

@@ -6,8 +6,8 @@ use Rattle.arena_base.specs.Arena.{IsValid}
 use Rattle.arena_base.specs.Entries.{without}
 use Rattle.chain_laws.proofs.RemovalPairs.{removed_of_lone}
 use Rattle.chain_laws.proofs.InsertionWrites.{alone_by_writes}
-use Rattle.chain_trials.proofs.Behind.{taken_back, not_shown, extends, some_holds}
-use Rattle.chain_trials.proofs.tests.behind.add_behind.Goals as goal
+use Rattle.trait_trials.proofs.Behind.{taken_back, not_shown, extends, some_holds}
+use Rattle.trait_trials.proofs.tests.behind.add_behind.Goals as goal
 
 none_holds : {X Q : Type 0} (o : Option X) → is_some o ≡ false → IfNone o Q → Q
 none_holds None none q = q

@@ -1,7 +1,7 @@
 -- What was passed and what is ahead are what was ahead.
 use Rattle.std.proofs.Common.{◌≡◌, ◌++◌, map}
 use Rattle.chain_laws.specs.Walks.{passes_ahead}
-use Rattle.chain_trials.proofs.tests.advancing.walk_along.Given as goal
+use Rattle.trait_trials.proofs.tests.advancing.walk_along.Given as goal
 
 abbrev pub invariant-loop-q : goal.invariant-loop-q
 invariant-loop-q g l =

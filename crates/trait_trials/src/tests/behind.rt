@@ -6,7 +6,7 @@ ghost use Rattle.chain_laws.specs.Neighbors.{HasOneSetOfChains};
 ghost use Rattle.chain_laws.specs.Operations.{joined, with_lone};
 ghost use Rattle.chain_laws.specs.Removals.{removed};
 ghost use Rattle.arena_base.specs.Arena.{IsValid};
-ghost use Rattle.chain_trials.specs.Behind.{Extends};
+ghost use Rattle.trait_trials.specs.Behind.{Extends};
 ghost use Rattle.chain_links.specs.ChainArena.{IsInserted};
 
 use arena_ptr::{ChainInsertionError, Ptr, PtrInx};

@@ -1,0 +1,2 @@
+mod Along
+mod Behind

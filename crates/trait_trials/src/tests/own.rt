@@ -1,0 +1,62 @@
+//! The few calls that a chain arena has of its own and that rows at any pointer make.
+
+use super::scripts::{Answers, Do, answer, kind};
+use super::transfers::carried_in;
+use super::{Numbered, Slot, text};
+use arena_base::ArenaTrait;
+use arena_ptr::{Ptr, SlotStack};
+use chain_arena::{Call, ChainArena, LinkInsertKind, Reply, apply};
+use std::alloc::Global;
+use std::process::Abort;
+
+// The reply to an insertion as a value.
+fn applied<P: Ptr, S: SlotStack<Item = Slot<P>>>(
+    rt: &impl Abort,
+    alloc: Global,
+    arena: &mut ChainArena<P, u32, S>,
+    kind: LinkInsertKind<P>,
+    t: u32,
+) -> String {
+    match apply(arena, Call::Insert { kind, t }) {
+        Reply::Inserted(answer) => text(rt, alloc, answer),
+        _ => text(rt, alloc, "another reply"),
+    }
+}
+
+// The answer to a call of the arena's own, ...
+fn own_answer<P: Numbered, S: SlotStack<Item = Slot<P>>>(
+    rt: &impl Abort,
+    alloc: Global,
+    arena: &mut ChainArena<P, u32, S>,
+    call: Do,
+) -> String {
+    match call {
+        Do::Generation => text(rt, alloc, P::number_of(arena.generation())),
+        Do::SetGeneration(g) => text(rt, alloc, arena.set_generation(P::generation_of(rt, g))),
+        Do::IncGeneration => text(rt, alloc, arena.inc_generation()),
+        Do::Debug => text(rt, alloc, &*arena),
+        Do::Apply(k, t) => applied(rt, alloc, arena, kind(rt, k), t),
+        Do::CarryIn(n) => carried_in(rt, alloc, arena, n),
+        other => trait_answer(rt, alloc, arena, other),
+    }
+}
+
+// .. to a call of the traits, in the one place that hands such a body an arena.
+fn trait_answer<P: Numbered, S: SlotStack<Item = Slot<P>>>(
+    rt: &impl Abort,
+    alloc: Global,
+    arena: &mut ChainArena<P, u32, S>,
+    call: Do,
+) -> String {
+    answer(rt, alloc, arena, call)
+}
+
+impl<P: Numbered, S: SlotStack<Item = Slot<P>>> Answers for ChainArena<P, u32, S> {
+    fn fresh(alloc: Global) -> Self {
+        ChainArena::new(alloc)
+    }
+
+    fn answer(&mut self, rt: &impl Abort, alloc: Global, call: Do) -> String {
+        own_answer(rt, alloc, self, call)
+    }
+}

@@ -1,0 +1,138 @@
+//! The texts of links and of arenas of links.
+
+use super::pointers::BarePtr;
+use super::{at, index, put, same};
+use arena_base::ArenaTrait;
+use arena_ptr::{Inx32, ToolPtr};
+use chain_arena::{ChainArena, Link, LinkInsertKind, LinkNoGen};
+use std::alloc::Global;
+use std::fmt;
+use std::fmt::{Debug, Display};
+use std::process::Abort;
+
+// A value that tells what of a format reaches it: an alternate mark by `#`, and anything else by `!`.
+#[derive(Clone, Copy)]
+struct Teller;
+
+// Writes a word, and what of the format reaches it.
+fn tell<W: fmt::Write>(f: &mut fmt::Formatter<W>, word: &str) -> fmt::Result {
+    f.write_str(word)?;
+    if f.alternate() {
+        f.write_str("#")?;
+    }
+    if f.width().is_some() || f.precision().is_some() || f.sign_plus() {
+        f.write_str("!")?;
+    }
+    Ok(())
+}
+
+impl fmt::Debug for Teller {
+    fn fmt<W: fmt::Write>(&self, f: &mut fmt::Formatter<W>) -> fmt::Result {
+        tell(f, "debug")
+    }
+}
+
+impl fmt::Display for Teller {
+    fn fmt<W: fmt::Write>(&self, f: &mut fmt::Formatter<W>) -> fmt::Result {
+        tell(f, "display")
+    }
+}
+
+// Looks at the text by `Debug`, plain and in the alternate form.
+fn debug_reads<T: Debug>(rt: &impl Abort, alloc: Global, item: &T, plain: &str, sharp: &str) {
+    let text = format!(in alloc; "{item:?}").expect(rt, "memory");
+    same(rt, "by debug", text.as_str(), plain);
+    let text = format!(in alloc; "{item:#?}").expect(rt, "memory");
+    same(rt, "by debug, alternate", text.as_str(), sharp);
+}
+
+// .. by `Display`.
+fn display_reads<T: Display>(rt: &impl Abort, alloc: Global, item: &T, plain: &str, sharp: &str) {
+    let text = format!(in alloc; "{item}").expect(rt, "memory");
+    same(rt, "by display", text.as_str(), plain);
+    let text = format!(in alloc; "{item:#}").expect(rt, "memory");
+    same(rt, "by display, alternate", text.as_str(), sharp);
+}
+
+// .. both in a width, with a sign and a precision.
+fn wide_reads<T: Debug + Display>(
+    rt: &impl Abort,
+    alloc: Global,
+    item: &T,
+    debug: &str,
+    display: &str,
+) {
+    let text = format!(in alloc; "{item:>+40.3?}").expect(rt, "memory");
+    same(rt, "by debug, in a width", text.as_str(), debug);
+    let text = format!(in alloc; "{item:>+40.3}").expect(rt, "memory");
+    same(rt, "by display, in a width", text.as_str(), display);
+}
+
+// Both forms, which for these values are the same.
+fn link_reads<T: Debug + Display>(
+    rt: &impl Abort,
+    alloc: Global,
+    link: &T,
+    debug: &str,
+    display: &str,
+) {
+    debug_reads(rt, alloc, link, debug, debug);
+    display_reads(rt, alloc, link, display, display);
+}
+
+#[test]
+fn links_show_indexes_in_hexadecimal(rt: HostRuntime) {
+    let alloc = rt.alloc();
+    let end = LinkNoGen::<ToolPtr, u32>::new((Some(index::<Inx32>(&rt, 10)), None), 7);
+    link_reads(&rt, alloc, &end, "{a, (end)} 7", "{a, (end)} 7");
+    let beside = (
+        Some(at::<ToolPtr>(&rt, (26, 11))),
+        Some(at::<ToolPtr>(&rt, (0xabcdef, 3))),
+    );
+    let between = Link::new(beside, "B");
+    let (debug, display) = ("{1a, abcdef} \"B\"", "{1a, abcdef} B");
+    link_reads(&rt, alloc, &between, debug, display);
+    link_reads(&rt, alloc, &between.no_gen(), debug, display);
+}
+
+// What reaches the value of a link: the alternate mark alone.
+fn teller_reads<T: Debug + Display>(rt: &impl Abort, alloc: Global, link: &T, texts: [&str; 4]) {
+    let [debug, sharp, display, sharp_display] = texts;
+    debug_reads(rt, alloc, link, debug, sharp);
+    display_reads(rt, alloc, link, display, sharp_display);
+    wide_reads(rt, alloc, link, debug, display);
+}
+
+#[test]
+fn only_the_alternate_mark_reaches_the_value_of_a_link(rt: HostRuntime) {
+    let lone = LinkNoGen::<ToolPtr, Teller>::new((None, None), Teller);
+    let texts = [
+        "{(start), (end)} debug",
+        "{(start), (end)} debug#",
+        "{(start), (end)} display",
+        "{(start), (end)} display#",
+    ];
+    teller_reads(&rt, rt.alloc(), &lone, texts);
+    let first: Link<ToolPtr, Teller> = Link::new((None, Some(at::<ToolPtr>(&rt, (1, 2)))), Teller);
+    let texts = [
+        "{(start), 1} debug",
+        "{(start), 1} debug#",
+        "{(start), 1} display",
+        "{(start), 1} display#",
+    ];
+    teller_reads(&rt, rt.alloc(), &first, texts);
+}
+
+#[test]
+fn pointers_without_a_generation_show_none(rt: HostRuntime) {
+    let mut arena: ChainArena<BarePtr, Teller> = ChainArena::new(rt.alloc());
+    let p = put(&rt, &mut arena, LinkInsertKind::Disconnected, Teller);
+    put(&rt, &mut arena, LinkInsertKind::ChainEnd(p), Teller);
+    debug_reads(
+        &rt,
+        rt.alloc(),
+        &arena,
+        "{Bare[1]: {(start), 2} debug, Bare[2]: {1, (end)} debug}",
+        "{\n    Bare[1]: {(start), 2} debug#,\n    Bare[2]: {1, (end)} debug#,\n}",
+    );
+}
