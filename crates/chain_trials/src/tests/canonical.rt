@@ -1,7 +1,7 @@
-//! Chains laid out in place, one after another, and the same links transferred.
+//! Chains laid out in place, one after another.
 
-use super::scripts::{Answers, Do, Kind, Line, Script, played, plays_on};
-use super::{Chains, at, generation, lone_links, same, text};
+use super::scripts::{Do, Kind, Line, Script, plays_on};
+use super::{Chains, at, lone_links, same};
 use arena_base::ArenaTrait;
 use arena_ptr::{AllocError, InvalidationOption, ToolPtr};
 use chain_arena::ChainArenaTrait;
@@ -197,42 +197,4 @@ fn work_stays_within_its_bound(rt: HostRuntime) {
     let few = within_bound(&rt, rt.alloc(), 100, false);
     let many = within_bound(&rt, rt.alloc(), 100_000, true);
     same(&rt, "within", (few, many), (true, true));
-}
-
-// Carries all links of an arena over to a new one, the values as they are, with the generation of then, and tells the links
-// there then.
-fn carried(rt: &impl Abort, alloc: Global, source: &mut Chains, now: u32) -> String {
-    let mut target = Chains::new(alloc);
-    let now = generation(rt, now);
-    let answer = target.transfer_canonical_reallocating(now, source, |_, v, _| v.overflowing().0);
-    assert!(rt; answer.is_ok());
-    text(rt, alloc, &target)
-}
-
-// A compression and a transfer of the same links, with the generation of then, lay them out alike.
-fn agree(rt: &impl Abort, alloc: Global, script: Script, now: u32) {
-    let mut here: Chains = played(rt, alloc, script);
-    let mut source: Chains = played(rt, alloc, script);
-    let told = here.answer(rt, alloc, Do::Canonical(false));
-    same(rt, script.0, told.as_str(), "Success(())");
-    let carried = carried(rt, alloc, &mut source, now);
-    same(
-        rt,
-        script.0,
-        carried.as_str(),
-        text(rt, alloc, &here).as_str(),
-    );
-}
-
-#[test]
-fn compression_and_transfer_agree(rt: HostRuntime) {
-    for (script, now) in [
-        (BEHIND_A_HOLE, 4),
-        (SCATTERED, 4),
-        (INTERLEAVED, 3),
-        (BY_LEAST_INDEX, 3),
-        (BEHIND_HOLES, 7),
-    ] {
-        agree(&rt, rt.alloc(), script, now);
-    }
 }

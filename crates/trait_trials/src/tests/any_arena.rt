@@ -4,7 +4,7 @@ use super::rows::{
     ADVANCERS, CONNECTIONS, CUTS, KINDS, LAYOUTS, LOOKS, NONE_THEN_AGAIN, NONE_THEN_NONE, REMOVALS,
 };
 use super::scripts::{Answers, Do, Script, answer, plays_all, plays_on};
-use super::transfers::TRANSFERS;
+use super::transfers::{REFUSED, TRANSFERS};
 use super::{Chains, Numbered, Slot};
 use arena_base::ArenaTrait;
 use arena_ptr::SlotStack;
@@ -25,13 +25,14 @@ impl<P: Numbered, S: SlotStack<Item = Slot<P>>> Answers for Wrapped<ChainArena<P
 
 // The scripts of all tables, and what an advancer answers after its first `None`.
 fn check_all<A: Answers + Drop>(rt: &impl Abort, alloc: Global, after_none: Script) {
-    let tables: [&[Script]; 7] = [
+    let tables: [&[Script]; 8] = [
         &CONNECTIONS,
         &REMOVALS,
         &KINDS,
         &CUTS,
         &LOOKS,
         &ADVANCERS,
+        &REFUSED,
         &[after_none],
     ];
     for table in tables {

@@ -1,7 +1,6 @@
 //! The few calls that a chain arena has of its own and that rows at any pointer make.
 
 use super::scripts::{Answers, Do, answer, kind};
-use super::transfers::carried_in;
 use super::{Numbered, Slot, text};
 use arena_base::ArenaTrait;
 use arena_ptr::{Ptr, SlotStack};
@@ -36,7 +35,6 @@ fn own_answer<P: Numbered, S: SlotStack<Item = Slot<P>>>(
         Do::IncGeneration => text(rt, alloc, arena.inc_generation()),
         Do::Debug => text(rt, alloc, &*arena),
         Do::Apply(k, t) => applied(rt, alloc, arena, kind(rt, k), t),
-        Do::CarryIn(n) => carried_in(rt, alloc, arena, n),
         other => trait_answer(rt, alloc, arena, other),
     }
 }

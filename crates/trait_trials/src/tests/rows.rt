@@ -127,7 +127,41 @@ pub(super) const GAP_CLOSED: [Line; 3] = [
 ];
 
 // Scripts, and lines that follow on them.
-pub(super) const LAYOUTS: [(Script, &[Line]); 3] = [
+pub(super) const LAYOUTS: [(Script, &[Line]); 6] = [
+    (
+        BEHIND_A_HOLE,
+        &[
+            Line::Says(Do::Canonical(false), "Success(())"),
+            Line::Shows(&[
+                ((1, 4), 2, (1, 4), (1, 4)),
+                ((2, 4), 3, NONE, (3, 4)),
+                ((3, 4), 4, (2, 4), NONE),
+            ]),
+        ],
+    ),
+    (
+        SCATTERED,
+        &[
+            Line::Says(Do::Canonical(false), "Success(())"),
+            Line::Shows(&[
+                ((1, 4), 2, NONE, (2, 4)),
+                ((2, 4), 4, (1, 4), (3, 4)),
+                ((3, 4), 5, (2, 4), NONE),
+                ((4, 4), 3, NONE, NONE),
+            ]),
+        ],
+    ),
+    (
+        BY_LEAST_INDEX,
+        &[
+            Line::Says(Do::Canonical(false), "Success(())"),
+            Line::Shows(&[
+                ((1, 3), 3, NONE, (2, 3)),
+                ((2, 3), 1, (1, 3), NONE),
+                ((3, 3), 2, NONE, NONE),
+            ]),
+        ],
+    ),
     (
         INTERLEAVED,
         &[

@@ -2,7 +2,7 @@
 
 use super::advancing::{changes_met, met, walk_along};
 use super::behind::{add_behind, count_of_links, take_next};
-use super::transfers::carried_out;
+use super::transfers::{carried_out, carried_to_bare, carried_to_full};
 use super::{At, Numbered, Row, at, index, rows_of, same, text};
 use arena_base::{Advancer, ArenaTrait, CompactArenaTrait};
 use arena_ptr::{InvalidationOption, Ptr};
@@ -70,16 +70,17 @@ pub(super) enum Do {
     Reserve(usize),
     Compress(bool),
     CompressWith(bool),
-    // All links carried over to an arena of two links of other pointers, with a generation.
+    // All links carried over to an arena of two links of other pointers, with a generation; and to arenas that refuse them, one
+    // of them with a maximum.
     CarryOut(u32),
-    // Calls of the chain arena alone. An insertion as a value. The text of the arena. Links of tool pointers carried over to
-    // this arena, which is refused.
+    CarryToFull,
+    CarryToBare(usize),
+    // Calls of the chain arena alone. An insertion as a value. The text of the arena.
     Apply(Kind, u32),
     Debug,
     Generation,
     SetGeneration(u32),
     IncGeneration,
-    CarryIn(u32),
 }
 
 // A call and the text of its answer, or all links that the arena shows.
@@ -270,6 +271,8 @@ pub(super) fn answer<P: Numbered, A: ChainArenaTrait<P, u32> + CompactArenaTrait
         Do::AddBehind(p, t) => text(rt, alloc, add_behind(arena, at(rt, p), t)),
         Do::TakeNext(i) => text(rt, alloc, take_next(arena, index(rt, i))),
         Do::CarryOut(g) => carried_out(rt, alloc, arena, g),
+        Do::CarryToFull => carried_to_full(rt, alloc, arena),
+        Do::CarryToBare(most) => carried_to_bare(rt, alloc, arena, most),
         other => change(rt, alloc, arena, other),
     }
 }

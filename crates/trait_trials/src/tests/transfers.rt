@@ -1,12 +1,12 @@
 //! Chains carried over to another arena.
 
 use super::pointers::{BarePtr, SmallPtr, WidePtr};
-use super::rows::{BY_LEAST_INDEX, INTERLEAVED, SCATTERED};
-use super::scripts::{Do, Kind, Line, Script, plays, plays_all};
-use super::{Chains, Counted, LimitedChains, Numbered, Slot, at, limited, lone_links, text};
+use super::rows::{BEHIND_A_HOLE, BEHIND_HOLES, BY_LEAST_INDEX, INTERLEAVED, SCATTERED};
+use super::scripts::{Do, Line, Script, plays_all};
+use super::{Chains, Counted, LimitedChains, NONE, Numbered, Slot, limited, lone_links, put, text};
 use arena_base::{ArenaTrait, CompactArenaTrait};
 use arena_ptr::{Gen32, LimitedStack, Ptr, ReallocationError, SlotStack};
-use chain_arena::{ChainArena, ChainArenaTrait};
+use chain_arena::{ChainArena, ChainArenaTrait, LinkInsertKind};
 use std::alloc::Global;
 use std::process::Abort;
 
@@ -52,7 +52,7 @@ pub(super) fn carried_out<P: Ptr, A: ChainArenaTrait<P, u32> + CompactArenaTrait
     text(rt, alloc, (told, &target, counter))
 }
 
-// All that an arena shows: its links, its counter and its room.
+// All that a chain arena shows: its links, its counter and its room.
 fn shown<P: Ptr, S: SlotStack<Item = Slot<P>>>(
     rt: &impl Abort,
     alloc: Global,
@@ -66,25 +66,80 @@ fn shown<P: Ptr, S: SlotStack<Item = Slot<P>>>(
     )
 }
 
-// Carries so many links of tool pointers over to an arena, of which the first comes after the third. Tells the answer, what the
-// closure saw, and whether both arenas show what they did.
-pub(super) fn carried_in<P: Numbered, S: SlotStack<Item = Slot<P>>>(
-    rt: &impl Abort,
-    alloc: Global,
-    target: &mut ChainArena<P, u32, S>,
-    count: u32,
-) -> String {
-    let mut source: Chains = lone_links(rt, alloc, count);
-    assert!(rt; source.connect(at(rt, (3, 2)), at(rt, (1, 2))).is_some());
-    let (there, here) = (shown(rt, alloc, &source), shown(rt, alloc, target));
-    let told = carry(rt, alloc, &mut source, P::generation_of(rt, 7), target);
-    let stays = there.as_str() == shown(rt, alloc, &source).as_str();
-    let rests = here.as_str() == shown(rt, alloc, target).as_str();
-    text(rt, alloc, (told, stays && rests))
+// Carries all links of a source over to an arena that refuses them. Tells the answer, what the closure saw, and whether the arena
+// shows what it did, and the source has the room that it had.
+fn refused<
+    P: Ptr,
+    Q: Numbered,
+    A: ChainArenaTrait<P, u32> + CompactArenaTrait<P, u32>,
+    S: SlotStack<Item = Slot<Q>>,
+>(rt: &impl Abort, alloc: Global, source: &mut A, target: &mut ChainArena<Q, u32, S>) -> String {
+    let (room, before) = (source.capacity(), shown(rt, alloc, target));
+    let told = carry(rt, alloc, source, Q::generation_of(rt, 7), target);
+    let stays = before.as_str() == shown(rt, alloc, target).as_str();
+    text(rt, alloc, (told, stays && source.capacity() == room))
 }
 
-// A chain of 3 and 1, and a lone link between them; and others.
-pub(super) const TRANSFERS: [(Script, &[Line]); 4] = [
+// .. to a full one with a maximum of two links.
+pub(super) fn carried_to_full<P: Ptr, A: ChainArenaTrait<P, u32> + CompactArenaTrait<P, u32>>(
+    rt: &impl Abort,
+    alloc: Global,
+    source: &mut A,
+) -> String {
+    let mut target: LimitedChains = limited(rt, alloc, 2, 2);
+    refused(rt, alloc, source, &mut target)
+}
+
+// .. to one of 8 bits of index, with a ring in it and a maximum of as many links, or of two.
+pub(super) fn carried_to_bare<P: Ptr, A: ChainArenaTrait<P, u32> + CompactArenaTrait<P, u32>>(
+    rt: &impl Abort,
+    alloc: Global,
+    source: &mut A,
+    most: usize,
+) -> String {
+    let mut target: ChainArena<BarePtr, u32, LimitedStack<Slot<BarePtr>>> = limited(
+        rt, alloc, most, 0,
+    );
+    put(rt, &mut target, LinkInsertKind::SingleLinkCyclic, 5);
+    refused(rt, alloc, source, &mut target)
+}
+
+// A chain of 3 and 1, and a lone link between them; and others. Some have the generation that a compression of the same links gives
+// them, which lays them out alike.
+pub(super) const TRANSFERS: [(Script, &[Line]); 8] = [
+    (
+        BEHIND_A_HOLE,
+        &[Line::Says(
+            Do::CarryOut(4),
+            "((Ok(()), [(P0[2](2), 2, false, P0[1](4)), (P0[3](2), 3, false, P0[2](4)), (P0[4](2), 4, false, P0[3](4))]), \
+            {P0[1](4): {1, 1} 12, P0[2](4): {(start), 3} 23, P0[3](4): {2, (end)} 34}, 4)",
+        )],
+    ),
+    (
+        INTERLEAVED,
+        &[Line::Says(
+            Do::CarryOut(3),
+            "((Ok(()), [(P0[1](2), 1, false, P0[1](3)), (P0[4](2), 4, false, P0[2](3)), (P0[2](2), 2, false, P0[3](3)), \
+            (P0[3](2), 3, false, P0[4](3))]), \
+            {P0[1](3): {(start), 2} 11, P0[2](3): {1, (end)} 24, P0[3](3): {4, 4} 32, P0[4](3): {3, 3} 43}, 3)",
+        )],
+    ),
+    (
+        BY_LEAST_INDEX,
+        &[Line::Says(
+            Do::CarryOut(3),
+            "((Ok(()), [(P0[3](2), 3, false, P0[1](3)), (P0[1](2), 1, false, P0[2](3)), (P0[2](2), 2, false, P0[3](3))]), \
+            {P0[1](3): {(start), 2} 13, P0[2](3): {1, (end)} 21, P0[3](3): {(start), (end)} 32}, 3)",
+        )],
+    ),
+    (
+        BEHIND_HOLES,
+        &[Line::Says(
+            Do::CarryOut(7),
+            "((Ok(()), [(P0[5](2), 5, false, P0[1](7)), (P0[6](2), 6, false, P0[2](7))]), \
+            {P0[1](7): {(start), (end)} 15, P0[2](7): {(start), (end)} 26}, 7)",
+        )],
+    ),
     (
         BY_LEAST_INDEX,
         &[
@@ -133,40 +188,39 @@ pub(super) const TRANSFERS: [(Script, &[Line]); 4] = [
     ),
 ];
 
-// A full arena with a maximum of two links, and one of 8 bits of index, before and after a maximum of two: the index type is
-// tested before the maximum, and nothing grows.
-const REFUSED: [(&str, &[Line]); 2] = [
+// Refused transfers, of a chain of 3 and 1 and other links: the index type is tested before the maximum, nothing grows, and the
+// source keeps its links, its counter and its room.
+pub(super) const REFUSED: [Script; 2] = [
     (
         "beyond the maximum",
-        &[Line::Says(Do::CarryIn(3), "((Err(BeyondMaxCapacity), []), true)")],
+        3,
+        &[(3, 1)],
+        &[
+            Line::Says(Do::CarryToFull, "((Err(BeyondMaxCapacity), []), true)"),
+            Line::Shows(&[
+                ((1, 2), 1, (3, 2), NONE),
+                ((2, 2), 2, NONE, NONE),
+                ((3, 2), 3, NONE, (1, 2)),
+            ]),
+            Line::Says(Do::Counter, "Some(Gen32 { number: 2 })"),
+        ],
     ),
     (
         "beyond the index type",
+        256,
+        &[(3, 1)],
         &[
+            Line::Says(Do::CarryToBare(300), "((Err(AllocError), []), true)"),
+            Line::Says(Do::CarryToBare(2), "((Err(AllocError), []), true)"),
+            Line::Says(Do::Len, "256"),
             Line::Says(
-                Do::Insert(Kind::SingleLinkCyclic, 5),
-                "Ok(Pair { inx: Inx8 { number: 1 }, generation: () })",
+                Do::Along((3, 2)),
+                "[(3, 2), (1, 2), (0, 0), (0, 0), (0, 0)]",
             ),
-            Line::Says(Do::CarryIn(256), "((Err(AllocError), []), true)"),
+            Line::Says(Do::Counter, "Some(Gen32 { number: 2 })"),
         ],
     ),
 ];
-
-#[test]
-fn refused_transfers(rt: HostRuntime) {
-    let [(beyond, lines), (type_too_small, rows)] = REFUSED;
-    let mut full: LimitedChains = limited(&rt, rt.alloc(), 2, 2);
-    plays(&rt, rt.alloc(), beyond, &mut full, lines);
-    let mut bare: ChainArena<BarePtr, u32> = ChainArena::new(rt.alloc());
-    plays(&rt, rt.alloc(), type_too_small, &mut bare, rows);
-    let mut bare: ChainArena<BarePtr, u32, LimitedStack<Slot<BarePtr>>> = limited(
-        &rt,
-        rt.alloc(),
-        2,
-        0,
-    );
-    plays(&rt, rt.alloc(), type_too_small, &mut bare, rows);
-}
 
 // The second removal overflows the counter.
 const AT_THE_GREATEST_GENERATION: Script = (
