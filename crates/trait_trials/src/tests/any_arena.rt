@@ -5,21 +5,34 @@ use super::rows::{
 };
 use super::scripts::{Answers, Do, Script, answer, plays_all, plays_on};
 use super::transfers::{REFUSED, TRANSFERS};
-use super::{Chains, Numbered, Slot};
-use arena_base::ArenaTrait;
-use arena_ptr::SlotStack;
-use chain_arena::ChainArena;
+use super::{Chains, Numbered};
+use arena_base::{ArenaTrait, CompactArenaTrait};
+use arena_ptr::ToolPtr;
+use chain_arena::ChainArenaTrait;
 use chain_wrapped::Wrapped;
 use std::alloc::Global;
+use std::marker::PhantomData;
 use std::process::Abort;
 
-impl<P: Numbered, S: SlotStack<Item = Slot<P>>> Answers for Wrapped<ChainArena<P, u32, S>> {
+// An arena that hands each call on to another, and the type of its pointers.
+#[derive(Drop)]
+struct HandsOn<P, A> {
+    arena: Wrapped<A>,
+    pointer: PhantomData<P>,
+}
+
+impl<P: Numbered, A: ChainArenaTrait<P, u32> + CompactArenaTrait<P, u32> + Drop> Answers
+    for HandsOn<P, A>
+{
     fn fresh(alloc: Global) -> Self {
-        Wrapped::new(alloc)
+        HandsOn {
+            arena: Wrapped::<A>::new(alloc),
+            pointer: PhantomData,
+        }
     }
 
     fn answer(&mut self, rt: &impl Abort, alloc: Global, call: Do) -> String {
-        answer(rt, alloc, self, call)
+        answer(rt, alloc, &mut self.arena, call)
     }
 }
 
@@ -49,5 +62,5 @@ fn a_chain_arena(rt: HostRuntime) {
 
 #[test]
 fn an_arena_that_hands_each_call_on(rt: HostRuntime) {
-    check_all::<Wrapped<Chains>>(&rt, rt.alloc(), NONE_THEN_AGAIN);
+    check_all::<HandsOn<ToolPtr, Chains>>(&rt, rt.alloc(), NONE_THEN_AGAIN);
 }
