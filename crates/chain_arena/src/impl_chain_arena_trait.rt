@@ -83,7 +83,7 @@ impl<P: Ptr, T: Drop, S: SlotStack<Item = ArenaSlot<P, LinkNoGen<P, T>>>> ChainA
         ensures state { OnOk result (self.new ≡ insert_as self.old (by_index (names_in P.key P.Inx.number kind)) t) }
     {
         let asked = self.gap_within(kind);
-        self.put_in(asked, t)
+        self.insert_at(asked, t)
     }
 
     fn insert_reallocating(
@@ -106,7 +106,7 @@ impl<P: Ptr, T: Drop, S: SlotStack<Item = ArenaSlot<P, LinkNoGen<P, T>>>> ChainA
         ensures state_grown { OnOk result (HasRoom P.Inx.greatest (entry_count self.old + 1) self.new) }
     {
         let asked = self.gap_growing(kind);
-        self.put_in(asked, t)
+        self.insert_at(asked, t)
     }
 
     fn insert(&mut self, kind: LinkInsertKind<P>, t: T) -> Result<P, ReallocationError>

@@ -224,7 +224,7 @@ impl<'a, P: Ptr, T: Drop, S: SlotStack<Item = ArenaSlot<P, LinkNoGen<P, T>>>> Ch
     {
         let (prev, next) = (self.prev, self.next);
         let gap = Gap::Between(index_or_none(prev), index_or_none(next));
-        self.arena.put(gap, t);
+        self.arena.insert_in_gap(gap, t);
         let ChainArenaInsertEntry {
             arena: _,
             inx: _,

@@ -327,7 +327,7 @@ fn lay_behind<P: Ptr, T: Drop, S: SlotStack<Item = ArenaSlot<P, LinkNoGen<P, T>>
         × AreEnds P.Inx.number result (m + 1) (next_index target.old + 1) }
     ensures listed { IsListed target.old }
 {
-    target.put(gap_behind(ring, ends), t);
+    target.insert_in_gap(gap_behind(ring, ends), t);
     with_end(ends, to.inx())
 }
 
