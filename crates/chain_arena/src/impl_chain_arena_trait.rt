@@ -31,7 +31,7 @@ use arena_ptr::{
     ReallocationError, SlotStack,
 };
 use chain_interlinks::gaps::{is_index, next_of as next_of_link, prev_of as prev_of_link};
-use chain_interlinks::interlinks::{can_connect, link_twice, link_up, neighbor, take_out};
+use chain_interlinks::interlinks::{can_connect, link_twice, link_up, neighbor};
 use chain_links::kinds::Name;
 use chain_links::{Link, LinkInsertKind, LinkNoGen};
 
@@ -254,7 +254,7 @@ impl<P: Ptr, T: Drop, S: SlotStack<Item = ArenaSlot<P, LinkNoGen<P, T>>>> ChainA
         ensures pairs { IsValid (entry self.old) (P.key p) → RemovesPairs (interlinks self.old) (interlinks self.new) (P.key p).0 }
     {
         if self.contains(p) {
-            link_alone(take_out(&mut self.arena, p.inx()))
+            link_alone(self.unlink(p.inx()))
         } else {
             InvalidationResult::InvalidPtr
         }
@@ -267,11 +267,12 @@ impl<P: Ptr, T: Drop, S: SlotStack<Item = ArenaSlot<P, LinkNoGen<P, T>>>> ChainA
             (seen self.new ≡ seen_removed P.Gen.following (seen self.old) (P.Inx.number i)) × (interlinks self.new ≡ removed (interlinks self.old) (P.Inx.number i)) }
         ensures invalid { entry self.old (P.Inx.number i) ≡ None → self.new ≡ self.old }
         ensures agreed { Agrees (interlinks self.old) }
+        let _ = &self.arena;
         ensures state { IsSome (entry self.old (P.Inx.number i)) → self.new ≡ remove_link P.Gen.following self.old (P.Inx.number i) }
         ensures chains { IsSome (entry self.old (P.Inx.number i)) → Removes (interlinks self.old) (interlinks self.new) (P.Inx.number i) }
         ensures pairs { IsSome (entry self.old (P.Inx.number i)) → RemovesPairs (interlinks self.old) (interlinks self.new) (P.Inx.number i) }
     {
-        take_out(&mut self.arena, i)
+        self.unlink(i)
     }
 
     fn compress_canonical(&mut self, reset: bool) -> InvalidationOption<()>
