@@ -205,9 +205,13 @@ impl<P: Ptr, T: Drop, S: SlotStack<Item = ArenaSlot<P, LinkNoGen<P, T>>>> ChainA
         ensures agreed { Agrees (interlinks self.old) }
         ensures state { OnSome result (IfSome (prev_of (interlinks self.old) (P.key p).0) (λ a. IsCut self.old self.new a (P.key p).0)) }
     {
-        let before = prev_of_link(&self.arena, Name::Pointer(p))?;
-        link_twice(&mut self.arena, (Some(before), None), (None, Some(p.inx())));
-        Some(())
+        match prev_of_link(&self.arena, Name::Pointer(p)) {
+            Some(before) => {
+                link_twice(&mut self.arena, (Some(before), None), (None, Some(p.inx())));
+                Some(())
+            }
+            None => None,
+        }
     }
 
     fn break_next(&mut self, p: P) -> Option<()>
@@ -218,9 +222,13 @@ impl<P: Ptr, T: Drop, S: SlotStack<Item = ArenaSlot<P, LinkNoGen<P, T>>>> ChainA
         ensures agreed { Agrees (interlinks self.old) }
         ensures state { OnSome result (IfSome (next_of (interlinks self.old) (P.key p).0) (λ b. IsCut self.old self.new (P.key p).0 b)) }
     {
-        let after = next_of_link(&self.arena, Name::Pointer(p))?;
-        link_twice(&mut self.arena, (Some(p.inx()), None), (None, Some(after)));
-        Some(())
+        match next_of_link(&self.arena, Name::Pointer(p)) {
+            Some(after) => {
+                link_twice(&mut self.arena, (Some(p.inx()), None), (None, Some(after)));
+                Some(())
+            }
+            None => None,
+        }
     }
 
     fn exchange_next(&mut self, p: P, q: P) -> Option<()>
@@ -231,15 +239,21 @@ impl<P: Ptr, T: Drop, S: SlotStack<Item = ArenaSlot<P, LinkNoGen<P, T>>>> ChainA
         ensures agreed { Agrees (interlinks self.old) }
         ensures state { OnSome result (IsExchange self.old self.new (P.key p).0 (P.key q).0) }
     {
-        let after_p = next_of_link(&self.arena, Name::Pointer(p))?;
-        let after_q = next_of_link(&self.arena, Name::Pointer(q))?;
-        let (i, j) = (p.inx(), q.inx());
-        link_twice(
-            &mut self.arena,
-            (Some(i), Some(after_q)),
-            (Some(j), Some(after_p)),
-        );
-        Some(())
+        match next_of_link(&self.arena, Name::Pointer(p)) {
+            Some(after_p) => match next_of_link(&self.arena, Name::Pointer(q)) {
+                Some(after_q) => {
+                    let (i, j) = (p.inx(), q.inx());
+                    link_twice(
+                        &mut self.arena,
+                        (Some(i), Some(after_q)),
+                        (Some(j), Some(after_p)),
+                    );
+                    Some(())
+                }
+                None => None,
+            },
+            None => None,
+        }
     }
 
     fn remove_link_no_gen(&mut self, p: P) -> InvalidationResult<LinkNoGen<P, T>>
@@ -253,6 +267,7 @@ impl<P: Ptr, T: Drop, S: SlotStack<Item = ArenaSlot<P, LinkNoGen<P, T>>>> ChainA
         ensures chains { IsValid (entry self.old) (P.key p) → Removes (interlinks self.old) (interlinks self.new) (P.key p).0 }
         ensures pairs { IsValid (entry self.old) (P.key p) → RemovesPairs (interlinks self.old) (interlinks self.new) (P.key p).0 }
     {
+        let _ = &self.arena;
         if self.contains(p) {
             link_alone(self.unlink(p.inx()))
         } else {
@@ -267,7 +282,6 @@ impl<P: Ptr, T: Drop, S: SlotStack<Item = ArenaSlot<P, LinkNoGen<P, T>>>> ChainA
             (seen self.new ≡ seen_removed P.Gen.following (seen self.old) (P.Inx.number i)) × (interlinks self.new ≡ removed (interlinks self.old) (P.Inx.number i)) }
         ensures invalid { entry self.old (P.Inx.number i) ≡ None → self.new ≡ self.old }
         ensures agreed { Agrees (interlinks self.old) }
-        let _ = &self.arena;
         ensures state { IsSome (entry self.old (P.Inx.number i)) → self.new ≡ remove_link P.Gen.following self.old (P.Inx.number i) }
         ensures chains { IsSome (entry self.old (P.Inx.number i)) → Removes (interlinks self.old) (interlinks self.new) (P.Inx.number i) }
         ensures pairs { IsSome (entry self.old (P.Inx.number i)) → RemovesPairs (interlinks self.old) (interlinks self.new) (P.Inx.number i) }

@@ -54,11 +54,15 @@ impl<P: Ptr, T: Drop, S: SlotStack<Item = ArenaSlot<P, LinkNoGen<P, T>>>> ChainA
         ensures beyond { (result ≡ Err ReallocationError.BeyondMaxCapacity) ↔ ((count (A.seen source.old) ≤ P.Inx.greatest) × IsBeyond self.old.maximum (count (A.seen source.old))) }
         ensures err { OnErr result ((self.new ≡ self.old) × (source.new ≡ source.old)) }
     {
-        self.make_room_for(source.len())?;
-        self.clear();
-        self.set_generation(new_generation);
-        carry_all(self, source, map);
-        Ok(())
+        match self.make_room_for(source.len()) {
+            Ok(()) => {
+                self.clear();
+                self.set_generation(new_generation);
+                carry_all(self, source, map);
+                Ok(())
+            }
+            Err(why) => Err(why),
+        }
     }
 
     // Grows to room for so many links, where there is less. The greatest index is tested before the maximum.
