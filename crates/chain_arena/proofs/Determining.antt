@@ -17,8 +17,7 @@ use Rattle.arena_base.specs.Arena.{IsValid, entry_at, entry_count, with_capacity
 use Rattle.chain_links.specs.ChainArena.{LinkSeen, on_value, shown, entry, value_in, insert_as, relinked}
 use Rattle.chain_arena.specs.Drains.{without_each}
 use Rattle.chain_links.specs.Links.{seen_link, seen_pair}
-use Rattle.chain_arena.specs.Places.{Links, kind_of}
-use Rattle.chain_arena.specs.Steps.{HasRoomFor, stays, grown, Refuses, Connects, BreaksPrev, BreaksNext, Exchanges, Reserves, DrainsChain, Tells, TellSame, ShowSame, IsAdded, IsTaken, AreSameButTouched, InsertsGrowing, InsertsWithin, Step, Run, HasRoomAlready, RunIsDetermined}
+use Rattle.chain_arena.specs.Steps.{Links, kind_of, HasRoomFor, stays, grown, Refuses, Connects, BreaksPrev, BreaksNext, Exchanges, Reserves, DrainsChain, Tells, TellSame, ShowSame, IsAdded, IsTaken, AreSameButTouched, InsertsGrowing, InsertsWithin, Step, Run, HasRoomAlready, RunIsDetermined}
 use Rattle.chain_arena.specs.declared.calls.Call.{Call}
 use Rattle.chain_arena.specs.declared.calls.Call.TheVariants as call
 use Rattle.chain_arena.specs.declared.calls.Reply.{Reply}

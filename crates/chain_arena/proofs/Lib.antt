@@ -16,6 +16,7 @@ pub mod Outcomes
 pub mod Rewriting
 pub mod Running
 pub mod Stepping
+pub mod Taking
 pub mod Telling
 pub mod Touching
 pub mod Within

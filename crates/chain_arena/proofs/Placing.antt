@@ -21,7 +21,8 @@ use Rattle.chain_links.specs.declared.kinds.InsertKindBody.{InsertKindBody}
 use Rattle.chain_interlinks.specs.Gaps.{before_in, after_in, IsGapOf}
 use Rattle.chain_interlinks.specs.Insertions.{IsInsertion}
 use Rattle.chain_interlinks.specs.declared.gaps.Gap.{Gap}
-use Rattle.chain_arena.specs.Places.{Links, HasGrown, GrowsByOne, gap_after, kind_of, May, IsPlace, PlacesWithin, PlacesGrowing, IsPut, Puts}
+use Rattle.chain_arena.specs.Places.{HasGrown, GrowsByOne, gap_unless_refused, IsPlace, PlacesWithin, PlacesGrowing, IsInsertedIn, InsertsAt}
+use Rattle.chain_arena.specs.Steps.{Links, kind_of, May}
 use Rattle.chain_arena.proofs.Telling.{count-seen, gap_told, insertion_told}
 
 -- what is not above a number that is within a maximum is not beyond it
@@ -65,13 +66,13 @@ module _ {P I Gen T : Type 0} (key : P → ℕ × Gen) (number : I → ℕ) wher
   no_place old kind is may = false≢true (is.some.1 may)
 
   place_grows : (greatest : ℕ) (old new : Links Gen T) (kind : InsertKindBody P I) (gap : Gap I) (grown : Result Unit ReallocationError) → IsPlace key number old kind gap
-      → GrowsByOne greatest old grown new → PlacesGrowing key number greatest old kind (gap_after gap grown) new
+      → GrowsByOne greatest old grown new → PlacesGrowing key number greatest old kind (gap_unless_refused gap grown) new
   place_grows greatest old new kind gap (Ok done) place grows = (place, grows)
   place_grows greatest old new kind gap (Err refused.BeyondMaxCapacity) place grows = (place.may, grows.0, grows.1)
   place_grows greatest old new kind gap (Err refused.AllocError) place grows = (place.may, grows.0, grows.1)
 
   pub places_growing : (greatest : ℕ) (old new : Links Gen T) (kind : InsertKindBody P I) (gap : Gap I) (grown : Result Unit ReallocationError) (answer : Result (Gap I) ChainInsertionError)
-      → answer ≡ gap_after gap grown → IsGapOf number (entry old) (shown old) (names_in key number kind) (Some gap) → GrowsByOne greatest old grown new → PlacesGrowing key number greatest old kind answer new
+      → answer ≡ gap_unless_refused gap grown → IsGapOf number (entry old) (shown old) (names_in key number kind) (Some gap) → GrowsByOne greatest old grown new → PlacesGrowing key number greatest old kind answer new
   places_growing greatest old new kind gap grown answer is given grows =
       subst (λ (r : Result (Gap I) ChainInsertionError). PlacesGrowing key number greatest old kind r new) (sym is) (place_grows greatest old new kind gap grown (is_place old kind gap given) grows)
 
@@ -98,8 +99,8 @@ module _ {P I Gen T : Type 0} (key : P → ℕ × Gen) (number : I → ℕ) wher
   within_room old kind asked told gap is = (subst (PlacesWithin key number old kind) is told).1
 
   -- a link in a gap stands between the links that the gap names
-  pub put_between : (old new : Links Gen T) (gap : Gap I) (t : T) (p : P) (u v : Option ℕ) → IsPut key number old gap t p new → before_in number gap (next_index old) ≡ u → after_in number gap (next_index old) ≡ v → new ≡ insert_between old t u v
-  put_between old new gap t p u v put before after = put.state ∙ ap₂ (insert_between old t) before after
+  pub inserted_between : (old new : Links Gen T) (gap : Gap I) (t : T) (p : P) (u v : Option ℕ) → IsInsertedIn key number old gap t p new → before_in number gap (next_index old) ≡ u → after_in number gap (next_index old) ≡ v → new ≡ insert_between old t u v
+  inserted_between old new gap t p u v insertion before after = insertion.state ∙ ap₂ (insert_between old t) before after
 
   pub growing_fits : (greatest : ℕ) (old new : Links Gen T) (kind : InsertKindBody P I) (asked : Result (Gap I) ChainInsertionError) → Agrees (shown old) → PlacesGrowing key number greatest old kind asked new → ForOk asked (FitsIn new)
   growing_fits greatest old new kind asked agrees told gap is =
@@ -147,8 +148,8 @@ module _ {P I Gen T : Type 0} (key : P → ℕ × Gen) (number : I → ℕ) (old
     pub state_grown : OnOk r (HasRoom greatest (entry_count old + 1) new)
 
   -- the state after a link came to the place of its kind
-  put_at : (gap : Gap I) (p : P) → IsPlace key number old kind gap → IsPut key number old gap t p new → new ≡ insert_as old by t
-  put_at gap p place put = put_between key number old new gap t p _ _ put place.before place.after
+  inserted_at : (gap : Gap I) (p : P) → IsPlace key number old kind gap → IsInsertedIn key number old gap t p new → new ≡ insert_as old by t
+  inserted_at gap p place insertion = inserted_between key number old new gap t p _ _ insertion place.before place.after
 
   not_within : (why : ChainInsertionError) → PlacesWithin key number old kind (Err why) → new ≡ old → TellsWithin (Err why)
   not_within failed.FailedLinkRequirement lacks same = record {
@@ -174,33 +175,33 @@ module _ {P I Gen T : Type 0} (key : P → ℕ × Gen) (number : I → ℕ) (old
   not_within failed.BeyondMaxCapacity never same = absurd never
   not_within failed.AllocError never same = absurd never
 
-  pub tells_within : (agrees : Agrees (shown old)) (asked : Result (Gap I) ChainInsertionError) (r : Result P ChainInsertionError) → PlacesWithin key number old kind asked → Puts key number old asked t r new → TellsWithin r
-  tells_within agrees (Ok gap) (Ok p) placed put =
-      let state = put_at gap p placed.0 put in record {
-        inserted = insertion_told old t put.listed new by (state ∙ ap (with_capacity_of (insert_as old by t)) (sym state)) (key p) put.pointer agrees placed.0.may.1;
+  pub tells_within : (agrees : Agrees (shown old)) (asked : Result (Gap I) ChainInsertionError) (r : Result P ChainInsertionError) → PlacesWithin key number old kind asked → InsertsAt key number old asked t r new → TellsWithin r
+  tells_within agrees (Ok gap) (Ok p) placed insertion =
+      let state = inserted_at gap p placed.0 insertion in record {
+        inserted = insertion_told old t insertion.listed new by (state ∙ ap (with_capacity_of (insert_as old by t)) (sym state)) (key p) insertion.pointer agrees placed.0.may.1;
         capacity = ap (λ (a : Links Gen T). a.capacity) state;
         err = tt;
         link = ((λ is. absurd (let h = is in cc)), λ lacks. absurd (lacks placed.0.may));
         full = ((λ is. absurd (let h = is in cc)), λ h. let room = placed.1 in let equal = h.1 in let same = count-seen old in absurd (omega (arith, room, equal, same)));
         error = tt;
-        place = ap (λ (x : ℕ × Gen). x.0) put.pointer;
+        place = ap (λ (x : ℕ × Gen). x.0) insertion.pointer;
         state = state;
       }
-  tells_within agrees (Ok gap) (Err e) placed put = absurd put
-  tells_within agrees (Err why) (Ok p) placed put = absurd put
-  tells_within agrees (Err why) (Err e) placed put = subst (λ (x : ChainInsertionError). TellsWithin (Err x)) (sym put.0) (not_within why placed put.1)
+  tells_within agrees (Ok gap) (Err e) placed insertion = absurd insertion
+  tells_within agrees (Err why) (Ok p) placed insertion = absurd insertion
+  tells_within agrees (Err why) (Err e) placed insertion = subst (λ (x : ChainInsertionError). TellsWithin (Err x)) (sym insertion.0) (not_within why placed insertion.1)
 
   -- the same after a growth
   module _ (mid : Links Gen T) where
-    put_grown : (greatest : ℕ) (gap : Gap I) (p : P) → IsPlace key number old kind gap → HasGrown greatest old mid → IsPut key number mid gap t p new → new ≡ with_capacity_of (insert_as old by t) mid
-    put_grown greatest gap p place grown put =
-        put.state
+    inserted_grown : (greatest : ℕ) (gap : Gap I) (p : P) → IsPlace key number old kind gap → HasGrown greatest old mid → IsInsertedIn key number mid gap t p new → new ≡ with_capacity_of (insert_as old by t) mid
+    inserted_grown greatest gap p place grown insertion =
+        insertion.state
         ∙ ap (λ (a : Links Gen T). insert_between a t (before_in number gap (next_index a)) (after_in number gap (next_index a))) grown.state
         ∙ ap₂ (λ (u v : Option ℕ). with_capacity_of (insert_between old t u v) mid) place.before place.after
 
-    put_in_room : (greatest : ℕ) (gap : Gap I) (p : P) → IsPlace key number old kind gap → HasGrown greatest old mid → IsPut key number mid gap t p new → entry_count old < old.capacity → new ≡ insert_as old by t
-    put_in_room greatest gap p place grown put room =
-        put.state
+    inserted_in_room : (greatest : ℕ) (gap : Gap I) (p : P) → IsPlace key number old kind gap → HasGrown greatest old mid → IsInsertedIn key number mid gap t p new → entry_count old < old.capacity → new ≡ insert_as old by t
+    inserted_in_room greatest gap p place grown insertion room =
+        insertion.state
         ∙ ap (λ (a : Links Gen T). insert_between a t (before_in number gap (next_index a)) (after_in number gap (next_index a))) (grown.stays room)
         ∙ ap₂ (insert_between old t) place.before place.after
 
@@ -254,25 +255,25 @@ module _ {P I Gen T : Type 0} (key : P → ℕ × Gen) (number : I → ℕ) (old
     }
     not_growing greatest failed.NotWithinCapacity told same = absurd told
 
-    pub tells_growing : (greatest : ℕ) (agrees : Agrees (shown old)) (asked : Result (Gap I) ChainInsertionError) (r : Result P ChainInsertionError) → PlacesGrowing key number greatest old kind asked mid → Puts key number mid asked t r new
+    pub tells_growing : (greatest : ℕ) (agrees : Agrees (shown old)) (asked : Result (Gap I) ChainInsertionError) (r : Result P ChainInsertionError) → PlacesGrowing key number greatest old kind asked mid → InsertsAt key number mid asked t r new
         → TellsGrowing greatest r
-    tells_growing greatest agrees (Ok gap) (Ok p) placed put =
+    tells_growing greatest agrees (Ok gap) (Ok p) placed insertion =
         let place = placed.0 in
         let grown = placed.1 in
-        let is = put_grown greatest gap p place grown put in
+        let is = inserted_grown greatest gap p place grown insertion in
         let state : new ≡ with_capacity_of (insert_as old by t) new = is ∙ ap (with_capacity_of (insert_as old by t)) (sym is) in
-        let pointer : key p ≡ (next_index old, old.counter) = put.pointer ∙ ap (λ (a : Links Gen T). (next_index a, a.counter)) grown.state in
+        let pointer : key p ≡ (next_index old, old.counter) = insertion.pointer ∙ ap (λ (a : Links Gen T). (next_index a, a.counter)) grown.state in
         let room : HasRoom greatest (entry_count old + 1) new =
         subst (λ (a : Links Gen T). HasRoom greatest (entry_count old + 1) a) (sym is) (subst (λ (a : Links Gen T). HasRoom greatest (entry_count old + 1) a) grown.state grown.room) in
         let counted = count-seen old in
         let roomy : IsRoom greatest old.maximum (entry_count old + 1) mid.capacity = (subst (λ (a : Links Gen T). HasRoom greatest (entry_count old + 1) a) grown.state grown.room).0 in
         let fits = roomy.fits in
         let most = roomy.at_most_greatest in record {
-          inserted = insertion_told old t (listed_before greatest grown put.listed) new by state (key p) pointer agrees place.may.1;
+          inserted = insertion_told old t (listed_before greatest grown insertion.listed) new by state (key p) pointer agrees place.may.1;
           err = tt;
           link = ((λ h. absurd (let k = h in cc)), λ lacks. absurd (lacks place.may));
           error = tt;
-          room = λ may left. (refl, ap (λ (a : Links Gen T). a.capacity) (put_in_room greatest gap p place grown put (subst (λ (n : ℕ). n < old.capacity) counted left)));
+          room = λ may left. (refl, ap (λ (a : Links Gen T). a.capacity) (inserted_in_room greatest gap p place grown insertion (subst (λ (n : ℕ). n < old.capacity) counted left)));
           grown = subst (λ (n : ℕ). IsRoom greatest new.maximum (n + 1) new.capacity) (sym counted) room.0;
           beyond = (
             (λ h. absurd (let k = h in cc)),
@@ -281,9 +282,9 @@ module _ {P I Gen T : Type 0} (key : P → ℕ × Gen) (number : I → ℕ) (old
           at_greatest = λ full. absurd (omega (arith, full, counted, fits, most));
           place = ap (λ (x : ℕ × Gen). x.0) pointer;
           state = state;
-          state_in_room = λ may less. put_in_room greatest gap p place grown put less;
+          state_in_room = λ may less. inserted_in_room greatest gap p place grown insertion less;
           state_grown = room;
         }
-    tells_growing greatest agrees (Ok gap) (Err e) placed put = absurd put
-    tells_growing greatest agrees (Err why) (Ok p) placed put = absurd put
-    tells_growing greatest agrees (Err why) (Err e) placed put = subst (λ (x : ChainInsertionError). TellsGrowing greatest (Err x)) (sym put.0) (not_growing greatest why placed put.1)
+    tells_growing greatest agrees (Ok gap) (Err e) placed insertion = absurd insertion
+    tells_growing greatest agrees (Err why) (Ok p) placed insertion = absurd insertion
+    tells_growing greatest agrees (Err why) (Err e) placed insertion = subst (λ (x : ChainInsertionError). TellsGrowing greatest (Err x)) (sym insertion.0) (not_growing greatest why placed insertion.1)

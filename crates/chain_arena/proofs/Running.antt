@@ -1,8 +1,7 @@
 -- Calls made one after another are a run of the chain machine.
 use Rattle.std.proofs.Common.{◌≡◌, ℕ, Bool, List, [], ◌∷◌, ◌++◌, length, Option, refl, sym, ap, ◌∙◌, subst, arith, append_assoc, append-nil}
 use Rattle.arena_ptr.specs.declared.packed_option.PackedOption.{PackedOption}
-use Rattle.chain_arena.specs.Places.{Links}
-use Rattle.chain_arena.specs.Steps.{Step, Run}
+use Rattle.chain_arena.specs.Steps.{Links, Step, Run}
 use Rattle.chain_arena.specs.declared.calls.Call.{Call}
 use Rattle.chain_arena.specs.declared.calls.Reply.{Reply}
 

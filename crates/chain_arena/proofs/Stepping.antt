@@ -26,8 +26,7 @@ use Rattle.chain_links.specs.ChainArena.{LinkSeen, on_value, shown, seen, entry,
 use Rattle.chain_arena.specs.Drains.{walk_left, without_each}
 use Rattle.chain_interlinks.specs.Insertions.{IsInsertion}
 use Rattle.chain_links.specs.Links.{seen_link}
-use Rattle.chain_arena.specs.Places.{Links, kind_of, May}
-use Rattle.chain_arena.specs.Steps.{stays, grown, Connects, BreaksPrev, BreaksNext, Exchanges, IsDrained, Tells, IsAdded, IsTaken, InsertsGrowing, InsertsWithin, Reserves}
+use Rattle.chain_arena.specs.Steps.{Links, kind_of, May, stays, grown, Connects, BreaksPrev, BreaksNext, Exchanges, IsDrained, Tells, IsAdded, IsTaken, InsertsGrowing, InsertsWithin, Reserves}
 use Rattle.chain_links.specs.declared.kinds.InsertKindBody.{InsertKindBody}
 use Rattle.chain_links.specs.declared.links.LinkBody.{LinkBody}
 use Rattle.chain_arena.proofs.Deciding.{Stable}

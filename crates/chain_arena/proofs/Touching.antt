@@ -21,8 +21,7 @@ use Rattle.arena_base.specs.Entries.{Slots, entries, index_of, found}
 use Rattle.arena_base.specs.EntryLaws.{found-entries}
 use Rattle.chain_links.specs.ChainArena.{shown, seen, entry, value_in, values_of, link_of, remove_link, IsJoin, IsCut, IsExchange, IsRemoval}
 use Rattle.chain_arena.specs.Drains.{without_each}
-use Rattle.chain_arena.specs.Places.{Links}
-use Rattle.chain_arena.specs.Steps.{HasRoomFor, stays, grown, Connects, BreaksPrev, BreaksNext, Exchanges, Reserves, DrainsChain, IsCompression, IsCanonicalCompression, AreSameButTouched, Tells, InsertsGrowing, InsertsWithin, Step, Run}
+use Rattle.chain_arena.specs.Steps.{Links, HasRoomFor, stays, grown, Connects, BreaksPrev, BreaksNext, Exchanges, Reserves, DrainsChain, IsCompression, IsCanonicalCompression, AreSameButTouched, Tells, InsertsGrowing, InsertsWithin, Step, Run}
 use Rattle.chain_arena.specs.declared.calls.Call.{Call}
 use Rattle.chain_arena.specs.declared.calls.Call.TheVariants as call
 use Rattle.chain_arena.specs.declared.calls.Reply.{Reply}

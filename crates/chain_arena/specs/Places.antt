@@ -1,18 +1,19 @@
 -- The place of a new link of a kind, which is a gap with room for one link more, and what becomes of a link there.
 use Rattle.std.specs.Prelude.{◌≡◌, ℕ, ◌+◌, ◌<◌, Result, Ok, Err}
+use Rattle.std.specs.Result.{result_map_both}
 use Rattle.arena_ptr.specs.SlotStack.{IsBeyond}
 use Rattle.arena_ptr.specs.declared.errors.ChainInsertionError.{ChainInsertionError}
 use Rattle.arena_ptr.specs.declared.errors.ChainInsertionError.TheVariants as failed
 use Rattle.arena_ptr.specs.declared.errors.ReallocationError.{ReallocationError}
 use Rattle.arena_ptr.specs.declared.errors.ReallocationError.TheVariants as refused
 use Rattle.chain_laws.specs.Chains.{Agrees}
-use Rattle.chain_laws.specs.Insertions.{InsertKind, link_before, link_after}
-use Rattle.arena_base.specs.Arena.{Arena, HasRoom, IsListed, entry_count, next_index, with_capacity_of}
-use Rattle.chain_links.specs.ChainArena.{LinkSeen, shown, entry, insert_between}
-use Rattle.chain_links.specs.Kinds.{names_in, by_index, MayInsert}
+use Rattle.chain_laws.specs.Insertions.{link_before, link_after}
+use Rattle.arena_base.specs.Arena.{HasRoom, IsListed, entry_count, next_index, with_capacity_of}
+use Rattle.chain_links.specs.ChainArena.{shown, insert_between}
 use Rattle.chain_links.specs.declared.kinds.InsertKindBody.{InsertKindBody}
 use Rattle.chain_interlinks.specs.Gaps.{before_in, after_in}
 use Rattle.chain_interlinks.specs.declared.gaps.Gap.{Gap}
+use Rattle.chain_arena.specs.Steps.{Links, kind_of, May}
 
 module _ {Gen T : Type 0} where
   -- an arena with room for one link more, which a full one has after a growth
@@ -35,13 +36,13 @@ module _ {Gen T : Type 0} where
   GrowsByOne greatest old (Err why) new = RefusesOneMore old why × (new ≡ old)
 
 -- how an insertion is refused where a growth is
-pub refusal_of : ReallocationError → ChainInsertionError
+abbrev pub refusal_of : ReallocationError → ChainInsertionError
 refusal_of refused.BeyondMaxCapacity = failed.BeyondMaxCapacity
 refusal_of refused.AllocError = failed.AllocError
 
 -- a gap, unless a growth was refused
 abbrev pub gap_unless_refused : {I : Type 0} → Gap I → Result Unit ReallocationError → Result (Gap I) ChainInsertionError
-gap_unless_refused gap grown = map_result (λ done. gap) refusal_of grown
+gap_unless_refused gap grown = result_map_both (λ done. gap) refusal_of grown
 
 module _ {P I Gen T : Type 0} (key : P → ℕ × Gen) (number : I → ℕ) where
   -- a gap is that of a kind
@@ -70,7 +71,7 @@ module _ {P I Gen T : Type 0} (key : P → ℕ × Gen) (number : I → ℕ) wher
   PlacesGrowing greatest old kind (Err failed.NotWithinCapacity) new = ⊥
 
   -- a link came into a gap
-  pub record IsPut (old : Links Gen T) (gap : Gap I) (t : T) (p : P) (new : Links Gen T) : Type 0 where
+  pub record IsInsertedIn (old : Links Gen T) (gap : Gap I) (t : T) (p : P) (new : Links Gen T) : Type 0 where
     -- its pointer is that of the next insertion
     pub pointer : key p ≡ (next_index old, old.counter)
     -- it stands between the links of the gap
@@ -80,8 +81,8 @@ module _ {P I Gen T : Type 0} (key : P → ℕ × Gen) (number : I → ℕ) wher
     pub agreed : Agrees (shown old)
 
   -- a link came into the gap that was answered, or nothing did where none was
-  abbrev pub Puts : Links Gen T → Result (Gap I) ChainInsertionError → T → Result P ChainInsertionError → Links Gen T → Type 0
-  Puts old (Ok gap) t (Ok p) new = IsPut old gap t p new
-  Puts old (Ok gap) t (Err why) new = ⊥
-  Puts old (Err why) t (Ok p) new = ⊥
-  Puts old (Err why) t (Err answered) new = (answered ≡ why) × (new ≡ old)
+  abbrev pub InsertsAt : Links Gen T → Result (Gap I) ChainInsertionError → T → Result P ChainInsertionError → Links Gen T → Type 0
+  InsertsAt old (Ok gap) t (Ok p) new = IsInsertedIn old gap t p new
+  InsertsAt old (Ok gap) t (Err why) new = ⊥
+  InsertsAt old (Err why) t (Ok p) new = ⊥
+  InsertsAt old (Err why) t (Err answered) new = (answered ≡ why) × (new ≡ old)

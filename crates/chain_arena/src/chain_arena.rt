@@ -1,11 +1,11 @@
-ghost use Rattle.std.specs.Prelude.{◌≡◌, ◌≤◌, ◌+◌, ◌↔◌, length, map, min, IsSome, IfSome, IfOk, OnOk, OnErr};
+ghost use Rattle.std.specs.Prelude.{◌≡◌, ◌≤◌, ◌+◌, ◌↔◌, length, map, min, IsSome, IfSome, IfOk, OnOk, OnErr, None};
 ghost use Rattle.chain_laws.specs.Chains.{Agrees};
 ghost use Rattle.std.specs.Option.{option_map};
-ghost use Rattle.arena_ptr.specs.Invalidation.{invalidation_option};
-ghost use Rattle.arena_base.specs.Arena.{entry_count, with_counter, with_maximum, IsValid};
+ghost use Rattle.arena_ptr.specs.Invalidation.{value_within, invalidation_option, invalidation_result};
+ghost use Rattle.arena_base.specs.Arena.{entry_at, entry_count, with_counter, with_maximum, IsValid};
 ghost use Rattle.arena_base.specs.Compressing.{overflows_after_compression};
 ghost use Rattle.arena_base.specs.Slots.{entry_of};
-ghost use Rattle.chain_links.specs.ChainArena.{entry, seen, shown, IsWalkOf};
+ghost use Rattle.chain_links.specs.ChainArena.{entry, seen, shown, IsRemoval, IsWalkOf};
 ghost use Rattle.chain_links.specs.Kinds.{names_in};
 ghost use Rattle.chain_interlinks.specs.Gaps.{IsGapOf};
 ghost use Rattle.chain_layout.specs.Layouts.{IsCanonicalLayout, ShowsAll, ShowsLayout, AreAllMoves};
@@ -14,11 +14,12 @@ ghost use Rattle.chain_links.specs.Links.{seen_pair};
 use crate::visiting::{Listing, Showing};
 use arena_base::{Arena, ArenaSlot, ArenaTrait, Work};
 use arena_ptr::{
-    AllocError, HeapStack, InvalidationOption, LimitStack, MaxCapacityReductionError, Ptr,
-    SetMaxCapacity, SlotStack,
+    AllocError, HeapStack, InvalidationOption, InvalidationResult, LimitStack,
+    MaxCapacityReductionError, Ptr, SetMaxCapacity, SlotStack,
 };
 use chain_interlinks::ChainIter;
 use chain_interlinks::gaps::{Gap, gap_of};
+use chain_interlinks::interlinks::take_out;
 use chain_layout::canonical::lay_out;
 use chain_layout::compress::begin_generation;
 use chain_layout::visiting::Visitor;
@@ -74,6 +75,17 @@ impl<P: Ptr, T: Drop, S: SlotStack<Item = ArenaSlot<P, LinkNoGen<P, T>>>> ChainA
         ensures agree { Agrees (shown self.now) }
     {
         gap_of(&self.arena, by_names(kind))
+    }
+
+    // Takes the link at an index out, as each removal does.
+    pub(crate) fn unlink(&mut self, i: P::Inx) -> InvalidationResult<(P::Gen, LinkNoGen<P, T>)>
+        ensures answer { option_map (seen_pair P.Inx.packed_number) (value_within result) ≡ entry_at self.old (P.Inx.number i) }
+        ensures overflow { result ≡ invalidation_result (P.Gen.wraps self.old.counter) (value_within result) }
+        ensures removal { IsSome (value_within result) → IsRemoval P.Gen.following self.old (P.Inx.number i) self.new }
+        ensures invalid { value_within result ≡ None → self.new ≡ self.old }
+        ensures agreed { Agrees (shown self.old) }
+    {
+        take_out(&mut self.arena, i)
     }
 
     /// The counter: the generation of the next link.

@@ -136,7 +136,9 @@ impl<P: Ptr, T: Clone, S: SlotStack<Item = ArenaSlot<P, LinkNoGen<P, T>>>> Chain
         ensures agreed { Agrees (shown self.now) }
     {
         let mut arena: Arena<P, LinkNoGen<P, T>, S> = Arena::new(alloc);
-        arena.clone_from_by(&self.arena, LinkClones)?;
-        Ok(ChainArena { arena })
+        match arena.clone_from_by(&self.arena, LinkClones) {
+            Ok(()) => Ok(ChainArena { arena }),
+            Err(why) => Err(why),
+        }
     }
 }

@@ -14,7 +14,6 @@ use arena_ptr::{
     AllocError, InvalidationOption, InvalidationResult, Ptr, PtrGen, PtrInx, ReallocationError,
     SlotStack,
 };
-use chain_interlinks::interlinks::take_out;
 use chain_layout::compress::{begin_generation, gather};
 use chain_links::{LinkBody, LinkNoGen, Vacant};
 use std::alloc::Global;
@@ -165,14 +164,14 @@ impl<P: Ptr, T: Drop, S: SlotStack<Item = ArenaSlot<P, LinkNoGen<P, T>>>> ArenaT
 
     fn remove(&mut self, p: P) -> InvalidationResult<T> {
         if self.contains(p) {
-            value_alone(take_out(&mut self.arena, p.inx()))
+            value_alone(self.unlink(p.inx()))
         } else {
             InvalidationResult::InvalidPtr
         }
     }
 
     fn remove_inx(&mut self, i: P::Inx) -> InvalidationResult<(P::Gen, T)> {
-        value_with_generation(take_out(&mut self.arena, i))
+        value_with_generation(self.unlink(i))
     }
 
     fn clear(&mut self) -> InvalidationOption<()> {

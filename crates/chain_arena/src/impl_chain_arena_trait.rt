@@ -31,7 +31,7 @@ use arena_ptr::{
     ReallocationError, SlotStack,
 };
 use chain_interlinks::gaps::{is_index, next_of as next_of_link, prev_of as prev_of_link};
-use chain_interlinks::interlinks::{can_connect, link_twice, link_up, neighbor, take_out};
+use chain_interlinks::interlinks::{can_connect, link_twice, link_up, neighbor};
 use chain_links::kinds::Name;
 use chain_links::{Link, LinkInsertKind, LinkNoGen};
 
@@ -83,7 +83,7 @@ impl<P: Ptr, T: Drop, S: SlotStack<Item = ArenaSlot<P, LinkNoGen<P, T>>>> ChainA
         ensures state { OnOk result (self.new ≡ insert_as self.old (by_index (names_in P.key P.Inx.number kind)) t) }
     {
         let asked = self.gap_within(kind);
-        self.put_in(asked, t)
+        self.insert_at(asked, t)
     }
 
     fn insert_reallocating(
@@ -106,7 +106,7 @@ impl<P: Ptr, T: Drop, S: SlotStack<Item = ArenaSlot<P, LinkNoGen<P, T>>>> ChainA
         ensures state_grown { OnOk result (HasRoom P.Inx.greatest (entry_count self.old + 1) self.new) }
     {
         let asked = self.gap_growing(kind);
-        self.put_in(asked, t)
+        self.insert_at(asked, t)
     }
 
     fn insert(&mut self, kind: LinkInsertKind<P>, t: T) -> Result<P, ReallocationError>
@@ -205,9 +205,13 @@ impl<P: Ptr, T: Drop, S: SlotStack<Item = ArenaSlot<P, LinkNoGen<P, T>>>> ChainA
         ensures agreed { Agrees (interlinks self.old) }
         ensures state { OnSome result (IfSome (prev_of (interlinks self.old) (P.key p).0) (λ a. IsCut self.old self.new a (P.key p).0)) }
     {
-        let before = prev_of_link(&self.arena, Name::Pointer(p))?;
-        link_twice(&mut self.arena, (Some(before), None), (None, Some(p.inx())));
-        Some(())
+        match prev_of_link(&self.arena, Name::Pointer(p)) {
+            Some(before) => {
+                link_twice(&mut self.arena, (Some(before), None), (None, Some(p.inx())));
+                Some(())
+            }
+            None => None,
+        }
     }
 
     fn break_next(&mut self, p: P) -> Option<()>
@@ -218,9 +222,13 @@ impl<P: Ptr, T: Drop, S: SlotStack<Item = ArenaSlot<P, LinkNoGen<P, T>>>> ChainA
         ensures agreed { Agrees (interlinks self.old) }
         ensures state { OnSome result (IfSome (next_of (interlinks self.old) (P.key p).0) (λ b. IsCut self.old self.new (P.key p).0 b)) }
     {
-        let after = next_of_link(&self.arena, Name::Pointer(p))?;
-        link_twice(&mut self.arena, (Some(p.inx()), None), (None, Some(after)));
-        Some(())
+        match next_of_link(&self.arena, Name::Pointer(p)) {
+            Some(after) => {
+                link_twice(&mut self.arena, (Some(p.inx()), None), (None, Some(after)));
+                Some(())
+            }
+            None => None,
+        }
     }
 
     fn exchange_next(&mut self, p: P, q: P) -> Option<()>
@@ -231,15 +239,21 @@ impl<P: Ptr, T: Drop, S: SlotStack<Item = ArenaSlot<P, LinkNoGen<P, T>>>> ChainA
         ensures agreed { Agrees (interlinks self.old) }
         ensures state { OnSome result (IsExchange self.old self.new (P.key p).0 (P.key q).0) }
     {
-        let after_p = next_of_link(&self.arena, Name::Pointer(p))?;
-        let after_q = next_of_link(&self.arena, Name::Pointer(q))?;
-        let (i, j) = (p.inx(), q.inx());
-        link_twice(
-            &mut self.arena,
-            (Some(i), Some(after_q)),
-            (Some(j), Some(after_p)),
-        );
-        Some(())
+        match next_of_link(&self.arena, Name::Pointer(p)) {
+            Some(after_p) => match next_of_link(&self.arena, Name::Pointer(q)) {
+                Some(after_q) => {
+                    let (i, j) = (p.inx(), q.inx());
+                    link_twice(
+                        &mut self.arena,
+                        (Some(i), Some(after_q)),
+                        (Some(j), Some(after_p)),
+                    );
+                    Some(())
+                }
+                None => None,
+            },
+            None => None,
+        }
     }
 
     fn remove_link_no_gen(&mut self, p: P) -> InvalidationResult<LinkNoGen<P, T>>
@@ -253,8 +267,9 @@ impl<P: Ptr, T: Drop, S: SlotStack<Item = ArenaSlot<P, LinkNoGen<P, T>>>> ChainA
         ensures chains { IsValid (entry self.old) (P.key p) → Removes (interlinks self.old) (interlinks self.new) (P.key p).0 }
         ensures pairs { IsValid (entry self.old) (P.key p) → RemovesPairs (interlinks self.old) (interlinks self.new) (P.key p).0 }
     {
+        let _ = &self.arena;
         if self.contains(p) {
-            link_alone(take_out(&mut self.arena, p.inx()))
+            link_alone(self.unlink(p.inx()))
         } else {
             InvalidationResult::InvalidPtr
         }
@@ -271,7 +286,7 @@ impl<P: Ptr, T: Drop, S: SlotStack<Item = ArenaSlot<P, LinkNoGen<P, T>>>> ChainA
         ensures chains { IsSome (entry self.old (P.Inx.number i)) → Removes (interlinks self.old) (interlinks self.new) (P.Inx.number i) }
         ensures pairs { IsSome (entry self.old (P.Inx.number i)) → RemovesPairs (interlinks self.old) (interlinks self.new) (P.Inx.number i) }
     {
-        take_out(&mut self.arena, i)
+        self.unlink(i)
     }
 
     fn compress_canonical(&mut self, reset: bool) -> InvalidationOption<()>

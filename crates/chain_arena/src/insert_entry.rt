@@ -92,8 +92,10 @@ impl<P: Ptr, T: Drop, S: SlotStack<Item = ArenaSlot<P, LinkNoGen<P, T>>>> ChainA
         ensures prev { IfOk result (λ e. index_from e.prev ≡ link_before (shown self.old) (by_index (names_in P.key P.Inx.number kind)) (next_index self.old)) }
         ensures next { IfOk result (λ e. index_from e.next ≡ link_after (shown self.old) (by_index (names_in P.key P.Inx.number kind)) (next_index self.old)) }
     {
-        let gap = self.gap_within(kind)?;
-        Ok(self.entry_in(gap))
+        match self.gap_within(kind) {
+            Ok(gap) => Ok(self.entry_in(gap)),
+            Err(why) => Err(why),
+        }
     }
 
     /// A place for a link of a kind. A full arena grows first, and the growth stays, whether the place is used or not.
@@ -127,8 +129,10 @@ impl<P: Ptr, T: Drop, S: SlotStack<Item = ArenaSlot<P, LinkNoGen<P, T>>>> ChainA
         ensures prev { IfOk result (λ e. index_from e.prev ≡ link_before (shown self.old) (by_index (names_in P.key P.Inx.number kind)) (next_index self.old)) }
         ensures next { IfOk result (λ e. index_from e.next ≡ link_after (shown self.old) (by_index (names_in P.key P.Inx.number kind)) (next_index self.old)) }
     {
-        let gap = self.gap_growing(kind)?;
-        Ok(self.entry_in(gap))
+        match self.gap_growing(kind) {
+            Ok(gap) => Ok(self.entry_in(gap)),
+            Err(why) => Err(why),
+        }
     }
 
     /// A place for a link of a kind that may be inserted (`can_insert`), as `entry_insert_reallocating` gives it.
@@ -161,10 +165,10 @@ impl<P: Ptr, T: Drop, S: SlotStack<Item = ArenaSlot<P, LinkNoGen<P, T>>>> ChainA
         ensures next { IfOk result (λ e. index_from e.next ≡ link_after (shown self.old) (by_index (names_in P.key P.Inx.number kind)) (next_index self.old)) }
     {
         match self.gap_for(kind) {
-            Some(gap) => {
-                self.make_room()?;
-                Ok(self.entry_in(gap))
-            }
+            Some(gap) => match self.make_room() {
+                Ok(()) => Ok(self.entry_in(gap)),
+                Err(why) => Err(why),
+            },
             None => unreachable!(),
         }
     }
@@ -224,7 +228,7 @@ impl<'a, P: Ptr, T: Drop, S: SlotStack<Item = ArenaSlot<P, LinkNoGen<P, T>>>> Ch
     {
         let (prev, next) = (self.prev, self.next);
         let gap = Gap::Between(index_or_none(prev), index_or_none(next));
-        self.arena.put(gap, t);
+        self.arena.insert_in_gap(gap, t);
         let ChainArenaInsertEntry {
             arena: _,
             inx: _,

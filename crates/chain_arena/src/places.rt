@@ -6,7 +6,7 @@ ghost use Rattle.chain_laws.specs.Insertions.{IsGap};
 ghost use Rattle.arena_base.specs.Arena.{entry_count, next_index};
 ghost use Rattle.chain_links.specs.ChainArena.{shown};
 ghost use Rattle.chain_interlinks.specs.Gaps.{before_in, after_in};
-ghost use Rattle.chain_arena.specs.Places.{GrowsByOne, gap_after, PlacesGrowing, PlacesWithin, IsPut, Puts};
+ghost use Rattle.chain_arena.specs.Places.{GrowsByOne, gap_unless_refused, refusal_of, PlacesGrowing, PlacesWithin, IsInsertedIn, InsertsAt};
 
 use crate::chain_arena::ChainArena;
 use arena_base::{ArenaSlot, ArenaTrait};
@@ -56,16 +56,16 @@ impl<P: Ptr, T: Drop, S: SlotStack<Item = ArenaSlot<P, LinkNoGen<P, T>>>> ChainA
         ensures agreed { Agrees (shown self.old) }
     {
         match self.gap_for(kind) {
-            Some(gap) => after_growth(gap, self.make_room()),
+            Some(gap) => gap_unless_refused(gap, self.make_room()),
             None => Err(ChainInsertionError::FailedLinkRequirement),
         }
     }
 
     // Adds a link in a gap, where there is room.
-    pub(crate) fn put(&mut self, gap: Gap<P::Inx>, t: T) -> P
+    pub(crate) fn insert_in_gap(&mut self, gap: Gap<P::Inx>, t: T) -> P
         requires gap { IsGap (shown self.old) (next_index self.old) (before_in P.Inx.number gap (next_index self.old)) (after_in P.Inx.number gap (next_index self.old)) }
         requires room { entry_count self.old < self.old.capacity }
-        ensures { IsPut P.key P.Inx.number self.old gap t result self.new }
+        ensures { IsInsertedIn P.key P.Inx.number self.old gap t result self.new }
     {
         freed_are_free(&self.arena);
         match self.arena.insert_within_capacity(link_in::<P, T>(gap, t)) {
@@ -78,32 +78,41 @@ impl<P: Ptr, T: Drop, S: SlotStack<Item = ArenaSlot<P, LinkNoGen<P, T>>>> ChainA
     }
 
     // Adds a link in the gap that was answered, where there is room, if one was.
-    pub(crate) fn put_in(
+    pub(crate) fn insert_at(
         &mut self,
         asked: Result<Gap<P::Inx>, ChainInsertionError>,
         t: T,
     ) -> Result<P, ChainInsertionError>
         requires gap { ForOk asked (λ gap. IsGap (shown self.old) (next_index self.old) (before_in P.Inx.number gap (next_index self.old)) (after_in P.Inx.number gap (next_index self.old))) }
         requires room { ForOk asked (λ gap. entry_count self.old < self.old.capacity) }
-        ensures { Puts P.key P.Inx.number self.old asked t result self.new }
+        ensures { InsertsAt P.key P.Inx.number self.old asked t result self.new }
     {
         match asked {
-            Ok(gap) => Ok(self.put(gap, t)),
+            Ok(gap) => Ok(self.insert_in_gap(gap, t)),
             Err(why) => Err(why),
         }
     }
 }
 
-// The gap of a kind, after a growth that was asked for it.
-fn after_growth<I: Drop>(
+// The gap, unless a growth was refused that was asked for it.
+fn gap_unless_refused<I: Drop>(
     gap: Gap<I>,
     grown: Result<(), ReallocationError>,
 ) -> Result<Gap<I>, ChainInsertionError>
-    ensures { result ≡ gap_after gap grown }
+    ensures { result ≡ gap_unless_refused gap grown }
 {
     match grown {
         Ok(()) => Ok(gap),
-        Err(ReallocationError::BeyondMaxCapacity) => Err(ChainInsertionError::BeyondMaxCapacity),
-        Err(ReallocationError::AllocError) => Err(ChainInsertionError::AllocError),
+        Err(why) => Err(refusal_of(why)),
+    }
+}
+
+// How an insertion is refused where a growth is.
+fn refusal_of(why: ReallocationError) -> ChainInsertionError
+    ensures { result ≡ refusal_of why }
+{
+    match why {
+        ReallocationError::BeyondMaxCapacity => ChainInsertionError::BeyondMaxCapacity,
+        ReallocationError::AllocError => ChainInsertionError::AllocError,
     }
 }

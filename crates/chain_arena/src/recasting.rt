@@ -37,7 +37,10 @@ impl<P: Ptr, I, T: Recast<I> + Drop, S: SlotStack<Item = ArenaSlot<P, LinkNoGen<
     fn recast<R: Recaster<Item = I>>(&mut self, recaster: &R) -> Result<(), I> {
         let mut all = self.advancer();
         while let Some(p) = all.advance(&*self) {
-            recast_at(self, p, recaster)?;
+            match recast_at(self, p, recaster) {
+                Ok(()) => {}
+                Err(refusal) => return Err(refusal),
+            }
         }
         Ok(())
     }

@@ -54,11 +54,15 @@ impl<P: Ptr, T: Drop, S: SlotStack<Item = ArenaSlot<P, LinkNoGen<P, T>>>> ChainA
         ensures beyond { (result ≡ Err ReallocationError.BeyondMaxCapacity) ↔ ((count (A.seen source.old) ≤ P.Inx.greatest) × IsBeyond self.old.maximum (count (A.seen source.old))) }
         ensures err { OnErr result ((self.new ≡ self.old) × (source.new ≡ source.old)) }
     {
-        self.make_room_for(source.len())?;
-        self.clear();
-        self.set_generation(new_generation);
-        carry_all(self, source, map);
-        Ok(())
+        match self.make_room_for(source.len()) {
+            Ok(()) => {
+                self.clear();
+                self.set_generation(new_generation);
+                carry_all(self, source, map);
+                Ok(())
+            }
+            Err(why) => Err(why),
+        }
     }
 
     // Grows to room for so many links, where there is less. The greatest index is tested before the maximum.
@@ -327,7 +331,7 @@ fn lay_behind<P: Ptr, T: Drop, S: SlotStack<Item = ArenaSlot<P, LinkNoGen<P, T>>
         × AreEnds P.Inx.number result (m + 1) (next_index target.old + 1) }
     ensures listed { IsListed target.old }
 {
-    target.put(gap_behind(ring, ends), t);
+    target.insert_in_gap(gap_behind(ring, ends), t);
     with_end(ends, to.inx())
 }
 

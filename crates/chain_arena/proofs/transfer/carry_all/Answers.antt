@@ -97,12 +97,10 @@ loop-k-preserved g c =
           (subst (λ n. AreEnds g.P.Inx.PtrInx.number c.lay_behind-ends.result (length it.taken + 1) (n + 1)) (the_place g at) laid.1);
     }
 
-pub returns-clause-transferred : goal.returns-clause-transferred
-returns-clause-transferred g c =
-    carries_all _ _ _ _ _ _ _ _ _ _ _ _ _ _ _ _ _ _ (stands g c.loop-k.source) _ c.loop-k.invariant.carrying c.requires.freed (omega (arith, c.loop-k-test.false, c.len-k-end.ensures.count))
-
-pub returns-clause-capacity : goal.returns-clause-capacity
-returns-clause-capacity g c = ap (λ (a : Arena _ _). a.capacity) c.loop-k.invariant.carrying.landed.state
-
-pub returns-clause-stack_capacity : goal.returns-clause-stack_capacity
-returns-clause-stack_capacity g c = ap (λ (a : Arena _ _). a.stack_capacity) c.loop-k.invariant.carrying.landed.state
+pub returns : goal.returns
+returns g c =
+    let carrying = c.loop-k.invariant.carrying in record {
+      transferred = carries_all _ _ _ _ _ _ _ _ _ _ _ _ _ _ _ _ _ _ (stands g c.loop-k.source) _ carrying c.requires.freed (omega (arith, c.loop-k-test.false, c.len-k-end.ensures.count));
+      capacity = ap (λ (a : Arena _ _). a.capacity) carrying.landed.state;
+      stack_capacity = ap (λ (a : Arena _ _). a.stack_capacity) carrying.landed.state;
+    }

@@ -5,18 +5,18 @@ use Rattle.chain_links.specs.Links.{seen_links}
 use Rattle.chain_arena.proofs.Cloning.{clone_agrees, is_clone_of, no_room_needed}
 use Rattle.chain_arena.proofs.chain_arena.ChainArena.clone.Goals as goal
 
-pub returns-in_err-clone_from_by-clause-no_room : goal.returns-in_err-clone_from_by-clause-no_room
-returns-in_err-clone_from_by-clause-no_room g c none =
-    absurd (no_room_needed g.P.Inx.PtrInx.packed_number _ g.P.Ptr.key c.self.inside.arena c.in_err-clone_from_by.field-0.0 c.new-arena.result.capacity (ap (λ a. a.slots) c.self.view_is ∙ none) c.in_err-clone_from_by.ensures.within)
+pub returns-in-Err-clause-no_room : goal.returns-in-Err-clause-no_room
+returns-in-Err-clause-no_room g c none =
+    absurd (no_room_needed g.P.Inx.PtrInx.packed_number _ g.P.Ptr.key c.self.inside.arena c.in-Err.why c.new-arena.result.capacity (ap (λ a. a.slots) c.self.view_is ∙ none) c.in-Err.ensures.within)
 
 pub invariant_of-result : goal.invariant_of-result
 invariant_of-result g c =
-    let told = c.in_ok-clone_from_by.ensures in
+    let told = c.in-Ok.ensures in
     clone_agrees g.P.Inx.PtrInx.packed_number g.T.Clone.is_clone c.requires.clones_equal g.P.Ptr.key _ c.self.inside.arena c.new-arena.result c.clone_from_by.new.self told.copied told.slots c.self.invariant
 
-pub returns-clause-copied : goal.returns-clause-copied
-returns-clause-copied g c =
+pub returns-in-Ok-clause-copied : goal.returns-in-Ok-clause-copied
+returns-in-Ok-clause-copied g c =
     let number = g.P.Inx.PtrInx.packed_number in
-    let told = c.in_ok-clone_from_by.ensures in
+    let told = c.in-Ok.ensures in
     subst (λ a. IsClone g.P.Gen.PtrGen.first g.S.SlotStack.initial_maximum a (seen_links number c.clone_from_by.new.self)) c.self.view_is
     (is_clone_of number g.T.Clone.is_clone c.requires.clones_equal g.P.Ptr.key _ c.self.inside.arena c.new-arena.result c.clone_from_by.new.self told.copied told.slots g.P.Gen.PtrGen.first g.S.SlotStack.initial_maximum (c.new-arena.ensures.more.1 refl))

@@ -1,5 +1,5 @@
 -- The links are laid out, each with the counter, which was set before.
-use Rattle.std.proofs.Common.{length, refl, ap, sym, ◌∙◌}
+use Rattle.std.proofs.Common.{◌+◌, length, refl, ap, sym, ◌∙◌}
 use Rattle.arena_ptr.specs.Invalidation.{invalidation_option}
 use Rattle.arena_base.specs.Entries.{entries}
 use Rattle.arena_base.specs.Compressing.{overflows_after_compression}
@@ -15,27 +15,24 @@ invariant_of-self g c =
     laid_agree g.V.Visitor.sees g.P.Ptr.key c.args.visitor c.lay_out-visitor.result.0 _ (seen c.self.inside.arena) (seen c.begin_generation-overflow.new.arena) (seen c.lay_out-visitor.new.arena)
     (ap seen c.begin_generation-overflow.ensures.after) c.lay_out-visitor.ensures.laid c.self.invariant
 
-pub returns-clause-canonical : goal.returns-clause-canonical
-returns-clause-canonical g c =
-    let seen = seen_links g.P.Inx.PtrInx.packed_number in
+pub returns : goal.returns
+returns g c =
+    let number = g.P.Inx.PtrInx.packed_number in
     let a = c.self.inside.arena in
-    rw (← c.self.view_is) (laid_canonical g.V.Visitor.sees g.P.Ptr.key c.args.visitor c.lay_out-visitor.result.0 _ (seen a) (seen c.begin_generation-overflow.new.arena) (seen c.lay_out-visitor.new.arena)
-    (ap seen c.begin_generation-overflow.ensures.after) c.lay_out-visitor.ensures.laid g.P.Gen.PtrGen.first g.P.Gen.PtrGen.following c.args.reset (length (entries a)) refl (length-entries a ∙ sym (count-values g.P.Inx.PtrInx.packed_number a)))
-
-pub returns-clause-shows : goal.returns-clause-shows
-returns-clause-shows g c =
-    let seen = seen_links g.P.Inx.PtrInx.packed_number in
-    rw (← c.self.view_is) (laid_shown g.V.Visitor.sees g.P.Ptr.key c.args.visitor c.lay_out-visitor.result.0 _ (seen c.self.inside.arena) (seen c.begin_generation-overflow.new.arena) (seen c.lay_out-visitor.new.arena)
-    (ap seen c.begin_generation-overflow.ensures.after) c.lay_out-visitor.ensures.laid)
-
-pub returns-clause-overflow : goal.returns-clause-overflow
-returns-clause-overflow g c =
-    let a = c.self.inside.arena in
-    rw (← c.self.view_is) (c.begin_generation-overflow.ensures.overflow
-    ∙ ap (λ n. invalidation_option (overflows_after_compression g.P.Gen.PtrGen.wraps c.args.reset n a.counter) tt) (length-entries a ∙ sym (entry_count-seen_links g.P.Inx.PtrInx.packed_number a)))
-
-pub returns-clause-stack_capacity : goal.returns-clause-stack_capacity
-returns-clause-stack_capacity g c =
-    let seen = seen_links g.P.Inx.PtrInx.packed_number in
-    rw (← c.self.view_is) (laid_stack_capacity g.V.Visitor.sees g.P.Ptr.key c.args.visitor c.lay_out-visitor.result.0 _ (seen c.self.inside.arena) (seen c.begin_generation-overflow.new.arena) (seen c.lay_out-visitor.new.arena)
-    (ap seen c.begin_generation-overflow.ensures.after) c.lay_out-visitor.ensures.laid)
+    let old = seen_links number a in
+    let mid = seen_links number c.begin_generation-overflow.new.arena in
+    let new = seen_links number c.lay_out-visitor.new.arena in
+    let begun = ap (seen_links number) c.begin_generation-overflow.ensures.after in
+    let made = c.lay_out-visitor.ensures in
+    let sees = g.V.Visitor.sees in
+    let key = g.P.Ptr.key in
+    let to = c.lay_out-visitor.result.0 in
+    rw (← c.self.view_is) (record {
+      canonical = laid_canonical sees key c.args.visitor to _ old mid new begun made.laid g.P.Gen.PtrGen.first g.P.Gen.PtrGen.following c.args.reset (length (entries a)) refl (length-entries a ∙ sym (count-values number a));
+      stack_capacity = laid_stack_capacity sees key c.args.visitor to _ old mid new begun made.laid;
+      shows = laid_shown sees key c.args.visitor to _ old mid new begun made.laid;
+      overflow = c.begin_generation-overflow.ensures.overflow ∙ ap (λ n. invalidation_option (overflows_after_compression g.P.Gen.PtrGen.wraps c.args.reset n a.counter) tt) (length-entries a ∙ sym (entry_count-seen_links number a));
+      placed = made.placed ∙ ap (λ x. x.placed + c.lay_out-visitor.result.1.placed) c.begin_generation-overflow.ensures.after;
+      touched = made.touched ∙ ap (λ x. x.touched + c.lay_out-visitor.result.1.touched) c.begin_generation-overflow.ensures.after;
+      agreed = c.self.invariant;
+    })

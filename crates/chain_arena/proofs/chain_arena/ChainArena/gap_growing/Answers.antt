@@ -3,10 +3,13 @@ use Rattle.std.proofs.Common.{refl}
 use Rattle.chain_arena.proofs.Placing.{no_place, places_growing}
 use Rattle.chain_arena.proofs.chain_arena.ChainArena.gap_growing.Goals as goal
 
-pub returns-in-Some-clause-place : goal.returns-in-Some-clause-place
-returns-in-Some-clause-place g c =
-    places_growing g.P.Ptr.key g.P.Inx.PtrInx.number g.P.Inx.PtrInx.greatest c.args.self.now c.make_room.new.self c.args.kind c.in-Some.gap c.make_room.result c.after_growth.result
-    c.after_growth.ensures c.in-Some.ensures.gap c.make_room.ensures
+pub returns-in-Some : goal.returns-in-Some
+returns-in-Some g c = record {
+  place =
+      places_growing g.P.Ptr.key g.P.Inx.PtrInx.number g.P.Inx.PtrInx.greatest c.args.self.now c.make_room.new.self c.args.kind c.in-Some.gap c.make_room.result c.gap_unless_refused.result
+      c.gap_unless_refused.ensures c.in-Some.ensures.gap c.make_room.ensures;
+  agreed = c.in-Some.ensures.agree;
+}
 
-pub returns-in-None-clause-place : goal.returns-in-None-clause-place
-returns-in-None-clause-place g c = (no_place g.P.Ptr.key g.P.Inx.PtrInx.number c.args.self.now c.args.kind c.in-None.ensures.gap, refl)
+pub returns-in-None : goal.returns-in-None
+returns-in-None g c = record { place = (no_place g.P.Ptr.key g.P.Inx.PtrInx.number c.args.self.now c.args.kind c.in-None.ensures.gap, refl); agreed = c.in-None.ensures.agree }

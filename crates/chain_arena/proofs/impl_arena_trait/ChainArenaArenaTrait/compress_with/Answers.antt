@@ -15,27 +15,18 @@ invariant_of-self g c =
     links_agree g.F.FnMut g.P.Ptr.key c.args.map _ (seen c.self.inside.arena) (seen c.begin_generation-overflow.new.arena) (seen c.gather.new.arena)
     (ap seen c.begin_generation-overflow.ensures.after) c.gather.ensures c.self.invariant
 
-pub returns-clause-compressed : goal.returns-clause-compressed
-returns-clause-compressed g c =
-    let seen = seen_links g.P.Inx.PtrInx.packed_number in
+pub returns : goal.returns
+returns g c =
+    let number = g.P.Inx.PtrInx.packed_number in
     let a = c.self.inside.arena in
-    rw (← c.self.view_is) (links_compressed g.F.FnMut g.P.Ptr.key c.args.map _ (seen a) (seen c.begin_generation-overflow.new.arena) (seen c.gather.new.arena)
-    (ap seen c.begin_generation-overflow.ensures.after) c.gather.ensures g.P.Gen.PtrGen.first g.P.Gen.PtrGen.following c.args.reset (length (entries a)) refl (length-entries a ∙ sym (count-values g.P.Inx.PtrInx.packed_number a)))
-
-pub returns-clause-visits : goal.returns-clause-visits
-returns-clause-visits g c =
-    let seen = seen_links g.P.Inx.PtrInx.packed_number in
-    rw (← c.self.view_is) (links_visited g.F.FnMut g.P.Ptr.key c.args.map _ (seen c.self.inside.arena) (seen c.begin_generation-overflow.new.arena) (seen c.gather.new.arena)
-    (ap seen c.begin_generation-overflow.ensures.after) c.gather.ensures)
-
-pub returns-clause-overflow : goal.returns-clause-overflow
-returns-clause-overflow g c =
-    let a = c.self.inside.arena in
-    rw (← c.self.view_is) (c.begin_generation-overflow.ensures.overflow
-    ∙ ap (λ n. invalidation_option (overflows_after_compression g.P.Gen.PtrGen.wraps c.args.reset n a.counter) tt) (length-entries a ∙ sym (count-values g.P.Inx.PtrInx.packed_number a)))
-
-pub returns-clause-more : goal.returns-clause-more
-returns-clause-more g c =
-    let seen = seen_links g.P.Inx.PtrInx.packed_number in
-    rw (← c.self.view_is) (gaps_closed g.F.FnMut g.P.Ptr.key c.args.map _ (seen c.self.inside.arena) (seen c.begin_generation-overflow.new.arena) (seen c.gather.new.arena)
-    (ap seen c.begin_generation-overflow.ensures.after) c.gather.ensures)
+    let old = seen_links number a in
+    let mid = seen_links number c.begin_generation-overflow.new.arena in
+    let new = seen_links number c.gather.new.arena in
+    let begun = ap (seen_links number) c.begin_generation-overflow.ensures.after in
+    let counted = length-entries a ∙ sym (count-values number a) in
+    rw (← c.self.view_is) (record {
+      compressed = links_compressed g.F.FnMut g.P.Ptr.key c.args.map _ old mid new begun c.gather.ensures g.P.Gen.PtrGen.first g.P.Gen.PtrGen.following c.args.reset (length (entries a)) refl counted;
+      visits = links_visited g.F.FnMut g.P.Ptr.key c.args.map _ old mid new begun c.gather.ensures;
+      overflow = c.begin_generation-overflow.ensures.overflow ∙ ap (λ n. invalidation_option (overflows_after_compression g.P.Gen.PtrGen.wraps c.args.reset n a.counter) tt) counted;
+      more = gaps_closed g.F.FnMut g.P.Ptr.key c.args.map _ old mid new begun c.gather.ensures;
+    })

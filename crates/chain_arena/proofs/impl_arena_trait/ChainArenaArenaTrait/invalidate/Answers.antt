@@ -17,17 +17,18 @@ invariant_of-self g c =
     (λ invalid. subst (λ a. Agrees (shown (seen_links g.P.Inx.PtrInx.packed_number a))) (sym (c.invalidate.ensures.invalid invalid).1) c.self.invariant)
     (valid_or_not _ g.met.P.Gen.PtrGen.eq_is_same c.self.inside.arena p)
 
-pub returns-clause-valid : goal.returns-clause-valid
-returns-clause-valid g c = rw (← c.self.view_is) (λ valid.
-    let stands = (same_valid g.P.Inx.PtrInx.packed_number c.self.inside.arena (g.P.Ptr.key c.args.p)).1 valid in
-    renewed-told g.P.Inx.PtrInx.packed_number g.P.Gen.PtrGen.following c.self.inside.arena _ _ (c.invalidate.ensures.more stands) _ g.P.Ptr.key (value_within c.invalidate.result) (c.invalidate.ensures.valid stands) (c.invalidate.ensures.counter.1))
-
-pub returns-clause-invalid : goal.returns-clause-invalid
-returns-clause-invalid g c = rw (← c.self.view_is) (λ invalid.
-    let told = c.invalidate.ensures.invalid (λ valid. invalid ((same_valid g.P.Inx.PtrInx.packed_number c.self.inside.arena (g.P.Ptr.key c.args.p)).0 valid)) in
-    (told.0, ap (seen_links g.P.Inx.PtrInx.packed_number) told.1))
-
-pub returns-clause-more : goal.returns-clause-more
-returns-clause-more g c = rw (← c.self.view_is) (λ valid.
-    let stands = (same_valid g.P.Inx.PtrInx.packed_number c.self.inside.arena (g.P.Ptr.key c.args.p)).1 valid in
-    (renewed-state g.P.Inx.PtrInx.packed_number g.P.Gen.PtrGen.following c.self.inside.arena _ _ (c.invalidate.ensures.more stands), renewed-shown g.P.Inx.PtrInx.packed_number g.P.Gen.PtrGen.following c.self.inside.arena _ _ (c.invalidate.ensures.more stands)))
+pub returns : goal.returns
+returns g c =
+    let number = g.P.Inx.PtrInx.packed_number in
+    let following = g.P.Gen.PtrGen.following in
+    let a = c.self.inside.arena in
+    let made = c.invalidate.ensures in
+    let same = same_valid number a (g.P.Ptr.key c.args.p) in
+    rw (← c.self.view_is) (record {
+      valid = λ valid.
+          let stands = same.1 valid in
+          renewed-told number following a _ _ (made.more stands) _ g.P.Ptr.key (value_within c.invalidate.result) (made.valid stands) made.counter.1;
+      counter = made.counter;
+      invalid = λ invalid. let told = made.invalid (λ valid. invalid (same.0 valid)) in (told.0, ap (seen_links number) told.1);
+      more = λ valid. let stands = same.1 valid in (renewed-state number following a _ _ (made.more stands), renewed-shown number following a _ _ (made.more stands));
+    })

@@ -5,33 +5,26 @@ use Rattle.chain_links.specs.Links.{seen_links}
 use Rattle.chain_links.specs.ChainArena.{values_of, shown}
 use Rattle.chain_links.proofs.Seeing.{length-seen_links}
 use Rattle.arena_base.proofs.Filling.{entries_within, they_fill}
-use Rattle.chain_links.proofs.Inserting.{count-values, shown-within, length-values, listed-seen_links, listed-values}
+use Rattle.chain_links.proofs.Inserting.{count-values, entry_count-seen_links, shown-within, length-values, listed-seen_links, listed-values}
 use Rattle.chain_laws.proofs.Partitions.{one_set}
 use Rattle.chain_arena.proofs.impl_arena_trait.ChainArenaArenaTrait.len.Goals as goal
 
-pub returns-clause-count : goal.returns-clause-count
-returns-clause-count g c = rw (← c.self.view_is) (c.len.ensures.entries ∙ sym (count-values g.P.Inx.PtrInx.packed_number c.self.inside.arena))
-
-pub returns-clause-chains : goal.returns-clause-chains
-returns-clause-chains g c = rw (← c.self.view_is) (one_set (shown (seen_links g.P.Inx.PtrInx.packed_number c.self.inside.arena)) _ c.self.invariant (shown-within (seen_links g.P.Inx.PtrInx.packed_number c.self.inside.arena)))
-
-pub returns-clause-indexes : goal.returns-clause-indexes
-returns-clause-indexes g c =
+pub returns : goal.returns
+returns g c =
     let number = g.P.Inx.PtrInx.packed_number in
+    let greatest = g.P.Inx.PtrInx.greatest in
     let a = c.self.inside.arena in
-    rw (← c.self.view_is) (entries_within (values_of (seen_links number a)).slots g.P.Inx.PtrInx.greatest
-    (subst (λ n. n ≤ g.P.Inx.PtrInx.greatest) (sym (length-values number a)) (omega (arith, c.len.ensures.room.0.fits, c.len.ensures.room.0.at_most_greatest))))
-
-pub returns-clause-filled : goal.returns-clause-filled
-returns-clause-filled g c =
-    let number = g.P.Inx.PtrInx.packed_number in
-    let a = c.self.inside.arena in
-    rw (← c.self.view_is) (they_fill (values_of (seen_links number a)) (listed-values number a c.len.ensures.listed) a.placed a.touched)
-
-pub returns-clause-listed : goal.returns-clause-listed
-returns-clause-listed g c = rw (← c.self.view_is) (listed-seen_links g.P.Inx.PtrInx.packed_number c.self.inside.arena c.len.ensures.listed)
-
-pub returns-clause-room : goal.returns-clause-room
-returns-clause-room g c =
-    let a = c.self.inside.arena in
-    rw (← c.self.view_is) (subst (λ n. HasRoom g.P.Inx.PtrInx.greatest n (seen_links g.P.Inx.PtrInx.packed_number a)) (sym (length-seen_links g.P.Inx.PtrInx.packed_number a)) c.len.ensures.room)
+    let links = seen_links number a in
+    let told = c.len.ensures in
+    let counted = told.entries ∙ sym (count-values number a) in
+    rw (← c.self.view_is) (record {
+      count = counted;
+      fits = told.fits;
+      one_more = told.one_more;
+      indexes = entries_within (values_of links).slots greatest (subst (λ n. n ≤ greatest) (sym (length-values number a)) (omega (arith, told.room.0.fits, told.room.0.at_most_greatest)));
+      filled = they_fill (values_of links) (listed-values number a told.listed) a.placed a.touched;
+      links = told.entries ∙ sym (entry_count-seen_links number a);
+      chains = one_set (shown links) _ c.self.invariant (shown-within links);
+      listed = listed-seen_links number a told.listed;
+      room = subst (λ n. HasRoom greatest n links) (sym (length-seen_links number a)) told.room;
+    })

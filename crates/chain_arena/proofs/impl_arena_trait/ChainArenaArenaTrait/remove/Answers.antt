@@ -1,16 +1,27 @@
 -- The link goes, and its neighbours are linked.
 use Rattle.std.proofs.Common.{◌∙◌}
-use Rattle.chain_interlinks.proofs.Unlinking.{taken-agrees, taken-seen, taken-removal, taken-alone, valid_stands}
+use Rattle.arena_ptr.specs.Invalidation.{value_within}
+use Rattle.chain_arena.proofs.Taking.{removal_at, same_overflow, seen_at, value_alone_told}
 use Rattle.chain_arena.proofs.impl_arena_trait.ChainArenaArenaTrait.remove.Goals as goal
 
-pub invariant_of-self : goal.invariant_of-self
-invariant_of-self g c = taken-agrees g.P.Inx.PtrInx.packed_number g.P.Gen.PtrGen.following c.self.inside.arena c.take_out.new.arena _ _ c.take_out.ensures.answer c.take_out.ensures.valid c.take_out.ensures.invalid c.self.invariant
-
-pub returns-then-contains-clause-valid : goal.returns-then-contains-clause-valid
-returns-then-contains-clause-valid g c = rw (← c.inx.ensures, ← c.self.view_is) (λ valid.
-    (c.value_alone.ensures.value ∙ taken-alone g.P.Inx.PtrInx.packed_number g.P.Gen.PtrGen.following c.self.inside.arena c.take_out.new.arena _ _ c.take_out.ensures.answer c.take_out.ensures.valid c.take_out.ensures.invalid, taken-seen g.P.Inx.PtrInx.packed_number g.P.Gen.PtrGen.following c.self.inside.arena c.take_out.new.arena _ _ c.take_out.ensures.answer c.take_out.ensures.valid c.take_out.ensures.invalid (valid_stands g.P.Inx.PtrInx.packed_number g.P.Gen.PtrGen.following c.self.inside.arena c.take_out.new.arena _ _ c.take_out.ensures.answer c.take_out.ensures.valid c.take_out.ensures.invalid (g.P.Ptr.key c.args.p) c.inx.ensures valid)))
-
-pub returns-then-contains-clause-more : goal.returns-then-contains-clause-more
-returns-then-contains-clause-more g c = rw (← c.inx.ensures, ← c.self.view_is) (λ valid.
-    let stands = valid_stands g.P.Inx.PtrInx.packed_number g.P.Gen.PtrGen.following c.self.inside.arena c.take_out.new.arena _ _ c.take_out.ensures.answer c.take_out.ensures.valid c.take_out.ensures.invalid (g.P.Ptr.key c.args.p) c.inx.ensures valid in
-    taken-removal g.P.Inx.PtrInx.packed_number g.P.Gen.PtrGen.following c.self.inside.arena c.take_out.new.arena _ _ c.take_out.ensures.answer c.take_out.ensures.valid c.take_out.ensures.invalid stands c.self.invariant)
+pub returns-then-contains : goal.returns-then-contains
+returns-then-contains g c =
+    let packed = g.P.Inx.PtrInx.packed_number in
+    let following = g.P.Gen.PtrGen.following in
+    let a = c.args.self.now in
+    let b = c.unlink.new.self in
+    let p = g.P.Ptr.key c.args.p in
+    let i = g.P.Inx.PtrInx.number c.inx.result in
+    let taken = value_within c.unlink.result in
+    let made = c.unlink.ensures in
+    let alone = c.value_alone.ensures in
+    let stood = c.contains.ensures.0 c.if-contains.true in
+    rw (← c.inx.ensures) (record {
+      valid = λ _. (
+        alone.value ∙ value_alone_told packed following a b i taken made.answer,
+        seen_at packed following a b i taken made.answer made.removal p c.inx.ensures stood,
+      );
+      overflow = same_overflow (λ e. e.1.t) (g.P.Gen.PtrGen.wraps a.counter) c.unlink.result c.value_alone.result alone.value alone.overflow made.overflow;
+      invalid = λ invalid. absurd (invalid stood);
+      more = λ _. removal_at packed following a b i taken made.answer made.removal p c.inx.ensures stood;
+    })

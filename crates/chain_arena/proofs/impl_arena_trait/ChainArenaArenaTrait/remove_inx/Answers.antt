@@ -1,12 +1,22 @@
 -- The link goes, and its neighbours are linked.
-use Rattle.chain_interlinks.proofs.Unlinking.{taken-agrees, taken-seen, taken-removal}
+use Rattle.std.proofs.Common.{◌∙◌}
+use Rattle.arena_ptr.specs.Invalidation.{value_within}
+use Rattle.chain_arena.proofs.Taking.{none_taken, removal_there, same_overflow, seen_there, value_told}
 use Rattle.chain_arena.proofs.impl_arena_trait.ChainArenaArenaTrait.remove_inx.Goals as goal
 
-pub invariant_of-self : goal.invariant_of-self
-invariant_of-self g c = taken-agrees g.P.Inx.PtrInx.packed_number g.P.Gen.PtrGen.following c.self.inside.arena c.take_out.new.arena _ _ c.take_out.ensures.answer c.take_out.ensures.valid c.take_out.ensures.invalid c.self.invariant
-
-pub returns-clause-valid : goal.returns-clause-valid
-returns-clause-valid g c = rw (← c.self.view_is) (λ stands. taken-seen g.P.Inx.PtrInx.packed_number g.P.Gen.PtrGen.following c.self.inside.arena c.take_out.new.arena _ _ c.take_out.ensures.answer c.take_out.ensures.valid c.take_out.ensures.invalid stands)
-
-pub returns-clause-more : goal.returns-clause-more
-returns-clause-more g c = rw (← c.self.view_is) (λ stands. taken-removal g.P.Inx.PtrInx.packed_number g.P.Gen.PtrGen.following c.self.inside.arena c.take_out.new.arena _ _ c.take_out.ensures.answer c.take_out.ensures.valid c.take_out.ensures.invalid stands c.self.invariant)
+pub returns : goal.returns
+returns g c =
+    let packed = g.P.Inx.PtrInx.packed_number in
+    let following = g.P.Gen.PtrGen.following in
+    let a = c.args.self.now in
+    let b = c.unlink.new.self in
+    let i = g.P.Inx.PtrInx.number c.args.i in
+    let taken = value_within c.unlink.result in
+    let made = c.unlink.ensures in
+    let told = c.value_with_generation.ensures in record {
+      answer = told.value ∙ value_told packed following a b i taken made.answer;
+      overflow = same_overflow (λ e. (e.0, e.1.t)) (g.P.Gen.PtrGen.wraps a.counter) c.unlink.result c.value_with_generation.result told.value told.overflow made.overflow;
+      valid = λ stands. seen_there packed following a b i taken made.answer made.removal stands;
+      invalid = λ none. made.invalid (none_taken packed following a b i taken made.answer none);
+      more = λ stands. removal_there packed following a b i taken made.answer made.removal stands;
+    }

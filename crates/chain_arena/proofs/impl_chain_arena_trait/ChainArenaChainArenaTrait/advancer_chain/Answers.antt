@@ -10,22 +10,22 @@ use Rattle.chain_links.proofs.Inserting.{entry_count-seen_links}
 use Rattle.chain_arena.proofs.Telling.{count-seen}
 use Rattle.chain_arena.proofs.impl_chain_arena_trait.ChainArenaChainArenaTrait.advancer_chain.Goals as goal
 
-pub returns-in-Some-clause-valid : goal.returns-in-Some-clause-valid
-returns-in-Some-clause-valid g c =
+pub returns-in-Some : goal.returns-in-Some
+returns-in-Some g c =
     let packed = g.P.Inx.PtrInx.packed_number in
     let number = g.P.Inx.PtrInx.number in
     let a = c.self.inside.arena in
     let p = g.P.Ptr.key c.args.p in
-    rw (← c.self.view_is) (λ _. same_walkers
-    (c.new.ensures.left ∙ (c.len.ensures.entries ∙ (sym (entry_count-seen_links packed a) ∙ sym (count-seen (seen_links packed a)))))
-    (ap number c.new.ensures.start ∙ c.inx.ensures)
-    (ap (option_map number) c.new.ensures.forth ∙ ap Some c.inx.ensures)
-    (ap (option_map number) c.new.ensures.back ∙ (c.prev.ensures ∙ sym (prev_of-seen packed a p c.in-Some.link.now c.in-Some.ensures.value))))
-
-pub returns-in-Some-clause-invalid : goal.returns-in-Some-clause-invalid
-returns-in-Some-clause-invalid g c =
-    let same = same_valid g.P.Inx.PtrInx.packed_number c.self.inside.arena (g.P.Ptr.key c.args.p) in
-    rw (← c.self.view_is) (λ invalid. absurd (invalid (same.0 (c.in-Some.ensures.some.0 refl))))
+    let made = c.new.ensures in
+    rw (← c.self.view_is) (record {
+      valid = λ _. same_walkers
+          (made.left ∙ (c.len.ensures.entries ∙ (sym (entry_count-seen_links packed a) ∙ sym (count-seen (seen_links packed a)))))
+          (ap number made.start ∙ c.inx.ensures)
+          (ap (option_map number) made.forth ∙ ap Some c.inx.ensures)
+          (ap (option_map number) made.back ∙ (c.prev.ensures ∙ sym (prev_of-seen packed a p c.in-Some.link.now c.in-Some.ensures.value)));
+      invalid = λ invalid. absurd (invalid ((same_valid packed a p).0 (c.in-Some.ensures.some.0 refl)));
+      agree = c.self.invariant;
+    })
 
 pub returns-in-None-clause-valid : goal.returns-in-None-clause-valid
 returns-in-None-clause-valid g c =

@@ -1,5 +1,7 @@
 -- Two writes cut the links apart, and the laws of cuts say the rest.
 use Rattle.std.proofs.Common.{◌≡◌, ℕ, Some, refl, ap, sym, ◌∙◌}
+use Rattle.std.specs.Prelude.{is_some}
+use Rattle.std.proofs.lemmas.Bool.{false≢true}
 use Rattle.chain_laws.specs.Chains.{next_of}
 use Rattle.chain_laws.specs.Cuts.{cut}
 use Rattle.chain_laws.specs.Neighbors.{AreNeighbors}
@@ -20,24 +22,42 @@ abbrev cut_links : (g : Over) → After-link_twice g → Arena g.row.P-Gen.Denot
 cut_links g c = seen_links g.P.Inx.PtrInx.packed_number c.link_twice.new.arena
 
 -- the link beside
-told : (g : Over) (c : After-link_twice g) → next_of (shown (links g c)) (g.P.Ptr.key c.args.p).0 ≡ Some (g.P.Inx.PtrInx.number c.in_ok-after.after)
-told g c = sym (c.in_ok-after.ensures.named (c.in_ok-after.ensures.some refl))
+told : (g : Over) (c : After-link_twice g) → next_of (shown (links g c)) (g.P.Ptr.key c.args.p).0 ≡ Some (g.P.Inx.PtrInx.number c.in-Some.after)
+told g c = sym (c.in-Some.ensures.named (c.in-Some.ensures.some refl))
 
-pair : (g : Over) (c : After-link_twice g) → AreNeighbors (shown (links g c)) (g.P.Ptr.key c.args.p).0 (g.P.Inx.PtrInx.number c.in_ok-after.after)
+pair : (g : Over) (c : After-link_twice g) → AreNeighbors (shown (links g c)) (g.P.Ptr.key c.args.p).0 (g.P.Inx.PtrInx.number c.in-Some.after)
 pair g c = told g c
 
 -- what is written is the cut
-is_cut : (g : Over) (c : After-link_twice g) → cut_links g c ≡ relinked (links g c) (cut (shown (links g c)) (g.P.Ptr.key c.args.p).0 (g.P.Inx.PtrInx.number c.in_ok-after.after))
-is_cut g c = c.link_twice.ensures ∙ ap (λ (i : ℕ). relinked (links g c) (cut (shown (links g c)) i (g.P.Inx.PtrInx.number c.in_ok-after.after))) c.inx.ensures
+is_cut : (g : Over) (c : After-link_twice g) → cut_links g c ≡ relinked (links g c) (cut (shown (links g c)) (g.P.Ptr.key c.args.p).0 (g.P.Inx.PtrInx.number c.in-Some.after))
+is_cut g c = c.link_twice.ensures ∙ ap (λ (i : ℕ). relinked (links g c) (cut (shown (links g c)) i (g.P.Inx.PtrInx.number c.in-Some.after))) c.inx.ensures
 
 pub invariant_of-self : goal.invariant_of-self
 invariant_of-self g c = agrees_cut (links g c) (cut_links g c) _ _ (is_cut g c) c.self.invariant (pair g c)
 
-pub returns-clause-cut : goal.returns-clause-cut
-returns-clause-cut g c = rw (← c.self.view_is) (at_told _ _ _ (told g c) (cut_shows (links g c) (cut_links g c) _ _ (is_cut g c)))
+pub returns-in-Some : goal.returns-in-Some
+returns-in-Some g c =
+    let a = links g c in
+    let b = cut_links g c in
+    let i = (g.P.Ptr.key c.args.p).0 in
+    let j = (g.P.Inx.PtrInx.number c.in-Some.after) in
+    let at = told g c in
+    let is = is_cut g c in
+    rw (← c.self.view_is) (record {
+      some = (λ _. (c.in-Some.ensures.some refl, ap is_some at), λ _. refl);
+      cut = at_told _ _ _ at (cut_shows a b i j is);
+      seen = ap (λ x. seen_of x) (cut_values a b i j is);
+      none = tt;
+      agreed = c.self.invariant;
+      state = at_told _ _ _ at (cut_told a b i j is (pair g c));
+    })
 
-pub returns-clause-seen : goal.returns-clause-seen
-returns-clause-seen g c = rw (← c.self.view_is) (ap (λ a. seen_of a) (cut_values (links g c) (cut_links g c) _ _ (is_cut g c)))
-
-pub returns-clause-state : goal.returns-clause-state
-returns-clause-state g c = rw (← c.self.view_is) (at_told _ _ _ (told g c) (cut_told (links g c) (cut_links g c) _ _ (is_cut g c) (pair g c)))
+pub returns-in-None : goal.returns-in-None
+returns-in-None g c = rw (← c.self.view_is) (record {
+  some = ((λ no. absurd (false≢true no)), λ can. absurd (false≢true (ap is_some (c.in-None.ensures.named can.0) ∙ can.1)));
+  cut = tt;
+  seen = tt;
+  none = refl;
+  agreed = c.self.invariant;
+  state = tt;
+})

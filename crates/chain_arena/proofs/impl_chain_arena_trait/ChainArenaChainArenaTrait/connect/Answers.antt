@@ -23,20 +23,21 @@ can g c = c.can_connect.ensures.0 c.if-not-can_connect.false
 pub invariant_of-self : goal.invariant_of-self
 invariant_of-self g c = joined-agrees _ _ _ _ (can g c) (is_joined g c) c.self.invariant
 
-pub returns-clause-some : goal.returns-clause-some
-returns-clause-some g c = rw (← c.self.view_is) (λ _. can g c, λ _. refl)
-
-pub returns-clause-state : goal.returns-clause-state
-returns-clause-state g c = rw (← c.self.view_is) (is_joined g c)
-
-pub returns-clause-pair : goal.returns-clause-pair
-returns-clause-pair g c = rw (← c.self.view_is) (joined-pair _ _ _ _ (can g c) (is_joined g c))
-
-pub returns-clause-chains : goal.returns-clause-chains
-returns-clause-chains g c = rw (← c.self.view_is) (joined-chains _ _ _ _ (can g c) (is_joined g c))
-
-pub returns-clause-joined : goal.returns-clause-joined
-returns-clause-joined g c = rw (← c.self.view_is) (shows _ _ _ _ (can g c) (is_joined g c))
-
-pub returns-clause-seen : goal.returns-clause-seen
-returns-clause-seen g c = rw (← c.self.view_is) (ap (λ a. seen_of a) (joined-values _ _ _ _ (can g c) (is_joined g c)))
+pub returns : goal.returns
+returns g c =
+    let a = seen_links g.P.Inx.PtrInx.packed_number c.self.inside.arena in
+    let b = seen_links g.P.Inx.PtrInx.packed_number c.link_up.new.arena in
+    let p = g.P.Ptr.key c.args.p in
+    let q = g.P.Ptr.key c.args.q in
+    let may = can g c in
+    let is = is_joined g c in
+    rw (← c.self.view_is) (record {
+      some = (λ _. may, λ _. refl);
+      joined = shows a b p q may is;
+      seen = ap (λ x. seen_of x) (joined-values a b p q may is);
+      none = tt;
+      agreed = c.self.invariant;
+      state = is;
+      pair = joined-pair a b p q may is;
+      chains = joined-chains a b p q may is;
+    })

@@ -1,5 +1,7 @@
 -- Two links are made anew, and the laws of exchanges say the rest.
 use Rattle.std.proofs.Common.{◌≡◌, ℕ, Option, Some, refl, ap, ap₂, sym, ◌∙◌}
+use Rattle.std.specs.Prelude.{is_some}
+use Rattle.std.proofs.lemmas.Bool.{false≢true}
 use Rattle.chain_laws.specs.Chains.{IsValid, next_of}
 use Rattle.chain_laws.specs.Exchanges.{exchanged}
 use Rattle.chain_laws.specs.Operations.{linked}
@@ -21,11 +23,11 @@ abbrev exchanged_links : (g : Over) → After-link_twice g → Arena g.row.P-Gen
 exchanged_links g c = seen_links g.P.Inx.PtrInx.packed_number c.link_twice.new.arena
 
 -- the links after the two
-after_p : (g : Over) (c : After-link_twice g) → Some (g.P.Inx.PtrInx.number c.in_ok-after_p.after_p) ≡ next_of (shown (links g c)) (g.P.Ptr.key c.args.p).0
-after_p g c = c.in_ok-after_p.ensures.named (c.in_ok-after_p.ensures.some refl)
+after_p : (g : Over) (c : After-link_twice g) → Some (g.P.Inx.PtrInx.number c.in-Some.after_p) ≡ next_of (shown (links g c)) (g.P.Ptr.key c.args.p).0
+after_p g c = c.in-Some.ensures.named (c.in-Some.ensures.some refl)
 
-after_q : (g : Over) (c : After-link_twice g) → Some (g.P.Inx.PtrInx.number c.in_ok-after_q.after_q) ≡ next_of (shown (links g c)) (g.P.Ptr.key c.args.q).0
-after_q g c = c.in_ok-after_q.ensures.named (c.in_ok-after_q.ensures.some refl)
+after_q : (g : Over) (c : After-link_twice g) → Some (g.P.Inx.PtrInx.number c.in-Some-next_of_link.after_q) ≡ next_of (shown (links g c)) (g.P.Ptr.key c.args.q).0
+after_q g c = c.in-Some-next_of_link.ensures.named (c.in-Some-next_of_link.ensures.some refl)
 
 valid_p : (g : Over) (c : After-link_twice g) → IsValid (shown (links g c)) (g.P.Ptr.key c.args.p).0
 valid_p g c = next_valid (shown (links g c)) _ _ (sym (after_p g c))
@@ -38,17 +40,47 @@ is_exchanged : (g : Over) (c : After-link_twice g) → exchanged_links g c ≡ r
 is_exchanged g c =
     let s = links g c in
     c.link_twice.ensures
-    ∙ (ap₂ (λ (i j : ℕ). relinked s (linked (linked (shown s) (Some i) (Some (g.P.Inx.PtrInx.number c.in_ok-after_q.after_q))) (Some j) (Some (g.P.Inx.PtrInx.number c.in_ok-after_p.after_p)))) c.inx-i.ensures c.inx-j.ensures
+    ∙ (ap₂ (λ (i j : ℕ). relinked s (linked (linked (shown s) (Some i) (Some (g.P.Inx.PtrInx.number c.in-Some-next_of_link.after_q))) (Some j) (Some (g.P.Inx.PtrInx.number c.in-Some.after_p)))) c.inx-i.ensures c.inx-j.ensures
     ∙ ap₂ (λ (a b : Option ℕ). relinked s (linked (linked (shown s) (Some (g.P.Ptr.key c.args.p).0) b) (Some (g.P.Ptr.key c.args.q).0) a)) (after_p g c) (after_q g c))
 
 pub invariant_of-self : goal.invariant_of-self
 invariant_of-self g c = agrees_exchange (links g c) (exchanged_links g c) _ _ (is_exchanged g c) c.self.invariant (valid_p g c) (valid_q g c)
 
-pub returns-clause-exchanged : goal.returns-clause-exchanged
-returns-clause-exchanged g c = rw (← c.self.view_is) (exchange_shows (links g c) (exchanged_links g c) _ _ (is_exchanged g c))
+pub returns-in-Some-next_of_link : goal.returns-in-Some-next_of_link
+returns-in-Some-next_of_link g c =
+    let a = links g c in
+    let b = exchanged_links g c in
+    let i = (g.P.Ptr.key c.args.p).0 in
+    let j = (g.P.Ptr.key c.args.q).0 in
+    let is = is_exchanged g c in
+    rw (← c.self.view_is) (record {
+      some = (
+        λ _. record { first_valid = c.in-Some.ensures.some refl; second_valid = c.in-Some-next_of_link.ensures.some refl; first_next = ap is_some (sym (after_p g c)); second_next = ap is_some (sym (after_q g c)) },
+        λ _. refl,
+      );
+      exchanged = exchange_shows a b i j is;
+      seen = ap (λ x. seen_of x) (exchange_values a b i j is);
+      none = tt;
+      agreed = c.self.invariant;
+      state = exchange_told a b i j is c.self.invariant (valid_p g c) (valid_q g c);
+    })
 
-pub returns-clause-seen : goal.returns-clause-seen
-returns-clause-seen g c = rw (← c.self.view_is) (ap (λ a. seen_of a) (exchange_values (links g c) (exchanged_links g c) _ _ (is_exchanged g c)))
+pub returns-in-None-next_of_link : goal.returns-in-None-next_of_link
+returns-in-None-next_of_link g c = rw (← c.self.view_is) (record {
+  some = ((λ no. absurd (false≢true no)), λ can. absurd (false≢true (ap is_some (c.in-None-next_of_link.ensures.named can.second_valid) ∙ can.second_next)));
+  exchanged = tt;
+  seen = tt;
+  none = refl;
+  agreed = c.self.invariant;
+  state = tt;
+})
 
-pub returns-clause-state : goal.returns-clause-state
-returns-clause-state g c = rw (← c.self.view_is) (exchange_told (links g c) (exchanged_links g c) _ _ (is_exchanged g c) c.self.invariant (valid_p g c) (valid_q g c))
+pub returns-in-None : goal.returns-in-None
+returns-in-None g c = rw (← c.self.view_is) (record {
+  some = ((λ no. absurd (false≢true no)), λ can. absurd (false≢true (ap is_some (c.in-None.ensures.named can.first_valid) ∙ can.first_next)));
+  exchanged = tt;
+  seen = tt;
+  none = refl;
+  agreed = c.self.invariant;
+  state = tt;
+})

@@ -1,18 +1,24 @@
 -- The link goes, and its neighbours are linked.
-use Rattle.chain_interlinks.proofs.Unlinking.{taken-agrees, taken-seen, taken-shown, taken-state, taken-chains, taken-pairs}
+use Rattle.arena_ptr.specs.Invalidation.{value_within}
+use Rattle.chain_arena.proofs.Taking.{link_told, none_taken, removal_there, seen_there}
 use Rattle.chain_arena.proofs.impl_chain_arena_trait.ChainArenaChainArenaTrait.remove_inx_link_no_gen.Goals as goal
 
-pub invariant_of-self : goal.invariant_of-self
-invariant_of-self g c = taken-agrees g.P.Inx.PtrInx.packed_number g.P.Gen.PtrGen.following c.self.inside.arena c.take_out.new.arena _ _ c.take_out.ensures.answer c.take_out.ensures.valid c.take_out.ensures.invalid c.self.invariant
-
-pub returns-clause-valid : goal.returns-clause-valid
-returns-clause-valid g c = rw (← c.self.view_is) (λ stands. (taken-seen g.P.Inx.PtrInx.packed_number g.P.Gen.PtrGen.following c.self.inside.arena c.take_out.new.arena _ _ c.take_out.ensures.answer c.take_out.ensures.valid c.take_out.ensures.invalid stands, taken-shown g.P.Inx.PtrInx.packed_number g.P.Gen.PtrGen.following c.self.inside.arena c.take_out.new.arena _ _ c.take_out.ensures.answer c.take_out.ensures.valid c.take_out.ensures.invalid stands))
-
-pub returns-clause-state : goal.returns-clause-state
-returns-clause-state g c = rw (← c.self.view_is) (λ stands. taken-state g.P.Inx.PtrInx.packed_number g.P.Gen.PtrGen.following c.self.inside.arena c.take_out.new.arena _ _ c.take_out.ensures.answer c.take_out.ensures.valid c.take_out.ensures.invalid stands)
-
-pub returns-clause-chains : goal.returns-clause-chains
-returns-clause-chains g c = rw (← c.self.view_is) (λ stands. taken-chains g.P.Inx.PtrInx.packed_number g.P.Gen.PtrGen.following c.self.inside.arena c.take_out.new.arena _ _ c.take_out.ensures.answer c.take_out.ensures.valid c.take_out.ensures.invalid stands c.self.invariant)
-
-pub returns-clause-pairs : goal.returns-clause-pairs
-returns-clause-pairs g c = rw (← c.self.view_is) (λ stands. taken-pairs g.P.Inx.PtrInx.packed_number g.P.Gen.PtrGen.following c.self.inside.arena c.take_out.new.arena _ _ c.take_out.ensures.answer c.take_out.ensures.valid c.take_out.ensures.invalid stands c.self.invariant)
+pub returns : goal.returns
+returns g c =
+    let packed = g.P.Inx.PtrInx.packed_number in
+    let following = g.P.Gen.PtrGen.following in
+    let a = c.args.self.now in
+    let b = c.unlink.new.self in
+    let i = g.P.Inx.PtrInx.number c.args.i in
+    let taken = value_within c.unlink.result in
+    let made = c.unlink.ensures in
+    let removal = removal_there packed following a b i taken made.answer made.removal in record {
+      answer = link_told packed following a b i taken made.answer;
+      overflow = made.overflow;
+      valid = λ stands. (seen_there packed following a b i taken made.answer made.removal stands, (removal stands).shows);
+      invalid = λ none. made.invalid (none_taken packed following a b i taken made.answer none);
+      agreed = made.agreed;
+      state = λ stands. (removal stands).state;
+      chains = λ stands. (removal stands).chains;
+      pairs = λ stands. (removal stands).pairs;
+    }

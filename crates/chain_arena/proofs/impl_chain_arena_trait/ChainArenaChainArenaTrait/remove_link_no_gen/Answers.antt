@@ -1,27 +1,51 @@
 -- The link goes, and its neighbours are linked.
-use Rattle.std.proofs.Common.{ap, ◌∙◌}
+use Rattle.std.proofs.Common.{refl, sym, ap, ◌∙◌, subst}
+use Rattle.std.proofs.lemmas.Bool.{false≢true}
 use Rattle.std.specs.Option.{option_map}
-use Rattle.arena_base.specs.Arena.{entry_at}
-use Rattle.chain_links.specs.ChainArena.{values_of}
-use Rattle.chain_links.specs.Links.{seen_link, seen_links}
-use Rattle.chain_interlinks.proofs.Unlinking.{taken-agrees, taken-seen, taken-shown, taken-state, taken-chains, taken-pairs, taken-link, valid_stands}
+use Rattle.arena_ptr.specs.Invalidation.{value_within}
+use Rattle.chain_laws.specs.Chains.{Agrees}
+use Rattle.arena_base.specs.Arena.{IsValid}
+use Rattle.chain_links.specs.ChainArena.{entry, shown}
+use Rattle.chain_links.specs.Links.{seen_link}
+use Rattle.chain_arena.proofs.Taking.{link_alone_told, removal_at, same_overflow, seen_at}
 use Rattle.chain_arena.proofs.impl_chain_arena_trait.ChainArenaChainArenaTrait.remove_link_no_gen.Goals as goal
 
-pub invariant_of-self : goal.invariant_of-self
-invariant_of-self g c = taken-agrees g.P.Inx.PtrInx.packed_number g.P.Gen.PtrGen.following c.self.inside.arena c.take_out.new.arena _ _ c.take_out.ensures.answer c.take_out.ensures.valid c.take_out.ensures.invalid c.self.invariant
+pub returns-then-contains : goal.returns-then-contains
+returns-then-contains g c =
+    let packed = g.P.Inx.PtrInx.packed_number in
+    let following = g.P.Gen.PtrGen.following in
+    let a = c.args.self.now in
+    let b = c.unlink.new.self in
+    let p = g.P.Ptr.key c.args.p in
+    let i = g.P.Inx.PtrInx.number c.inx.result in
+    let taken = value_within c.unlink.result in
+    let made = c.unlink.ensures in
+    let alone = c.link_alone.ensures in
+    let stood = c.contains.ensures.0 c.if-contains.true in
+    let removal = removal_at packed following a b i taken made.answer made.removal p c.inx.ensures stood in
+    rw (← c.inx.ensures) (record {
+      valid = λ _. (
+        ap (option_map (λ link. (p.1, seen_link packed link))) alone.value
+            ∙ link_alone_told packed following a b i taken made.answer p.1 stood.value (ap (entry a) c.inx.ensures ∙ stood.stands),
+        seen_at packed following a b i taken made.answer made.removal p c.inx.ensures stood,
+        removal.shows,
+      );
+      overflow = same_overflow (λ e. e.1) (g.P.Gen.PtrGen.wraps a.counter) c.unlink.result c.link_alone.result alone.value alone.overflow made.overflow;
+      invalid = λ invalid. absurd (invalid stood);
+      agreed = made.agreed;
+      state = λ _. removal.state;
+      chains = λ _. removal.chains;
+      pairs = λ _. removal.pairs;
+    })
 
-pub returns-then-contains-clause-valid : goal.returns-then-contains-clause-valid
-returns-then-contains-clause-valid g c = rw (← c.inx.ensures, ← c.self.view_is) (λ valid. (
-  ap (option_map (λ link. ((g.P.Ptr.key c.args.p).1, seen_link g.P.Inx.PtrInx.packed_number link))) c.link_alone.ensures.value ∙ taken-link g.P.Inx.PtrInx.packed_number g.P.Gen.PtrGen.following c.self.inside.arena c.take_out.new.arena _ _ c.take_out.ensures.answer c.take_out.ensures.valid c.take_out.ensures.invalid _ _ (ap (entry_at (values_of (seen_links g.P.Inx.PtrInx.packed_number c.self.inside.arena))) c.inx.ensures ∙ valid.stands),
-  taken-seen g.P.Inx.PtrInx.packed_number g.P.Gen.PtrGen.following c.self.inside.arena c.take_out.new.arena _ _ c.take_out.ensures.answer c.take_out.ensures.valid c.take_out.ensures.invalid (valid_stands g.P.Inx.PtrInx.packed_number g.P.Gen.PtrGen.following c.self.inside.arena c.take_out.new.arena _ _ c.take_out.ensures.answer c.take_out.ensures.valid c.take_out.ensures.invalid (g.P.Ptr.key c.args.p) c.inx.ensures valid),
-  taken-shown g.P.Inx.PtrInx.packed_number g.P.Gen.PtrGen.following c.self.inside.arena c.take_out.new.arena _ _ c.take_out.ensures.answer c.take_out.ensures.valid c.take_out.ensures.invalid (valid_stands g.P.Inx.PtrInx.packed_number g.P.Gen.PtrGen.following c.self.inside.arena c.take_out.new.arena _ _ c.take_out.ensures.answer c.take_out.ensures.valid c.take_out.ensures.invalid (g.P.Ptr.key c.args.p) c.inx.ensures valid),
-))
-
-pub returns-then-contains-clause-state : goal.returns-then-contains-clause-state
-returns-then-contains-clause-state g c = rw (← c.inx.ensures, ← c.self.view_is) (λ valid. taken-state g.P.Inx.PtrInx.packed_number g.P.Gen.PtrGen.following c.self.inside.arena c.take_out.new.arena _ _ c.take_out.ensures.answer c.take_out.ensures.valid c.take_out.ensures.invalid (valid_stands g.P.Inx.PtrInx.packed_number g.P.Gen.PtrGen.following c.self.inside.arena c.take_out.new.arena _ _ c.take_out.ensures.answer c.take_out.ensures.valid c.take_out.ensures.invalid (g.P.Ptr.key c.args.p) c.inx.ensures valid))
-
-pub returns-then-contains-clause-chains : goal.returns-then-contains-clause-chains
-returns-then-contains-clause-chains g c = rw (← c.inx.ensures, ← c.self.view_is) (λ valid. taken-chains g.P.Inx.PtrInx.packed_number g.P.Gen.PtrGen.following c.self.inside.arena c.take_out.new.arena _ _ c.take_out.ensures.answer c.take_out.ensures.valid c.take_out.ensures.invalid (valid_stands g.P.Inx.PtrInx.packed_number g.P.Gen.PtrGen.following c.self.inside.arena c.take_out.new.arena _ _ c.take_out.ensures.answer c.take_out.ensures.valid c.take_out.ensures.invalid (g.P.Ptr.key c.args.p) c.inx.ensures valid) c.self.invariant)
-
-pub returns-then-contains-clause-pairs : goal.returns-then-contains-clause-pairs
-returns-then-contains-clause-pairs g c = rw (← c.inx.ensures, ← c.self.view_is) (λ valid. taken-pairs g.P.Inx.PtrInx.packed_number g.P.Gen.PtrGen.following c.self.inside.arena c.take_out.new.arena _ _ c.take_out.ensures.answer c.take_out.ensures.valid c.take_out.ensures.invalid (valid_stands g.P.Inx.PtrInx.packed_number g.P.Gen.PtrGen.following c.self.inside.arena c.take_out.new.arena _ _ c.take_out.ensures.answer c.take_out.ensures.valid c.take_out.ensures.invalid (g.P.Ptr.key c.args.p) c.inx.ensures valid) c.self.invariant)
+pub returns-else-contains : goal.returns-else-contains
+returns-else-contains g c =
+    let no : IsValid (entry c.args.self.now) (g.P.Ptr.key c.args.p) → ⊥ = (λ valid. false≢true (sym c.if-contains.false ∙ c.contains.ensures.1 valid)) in record {
+      valid = λ valid. absurd (no valid);
+      overflow = refl;
+      invalid = λ _. (refl, refl);
+      agreed = subst (λ a. Agrees (shown a)) c.self.view_is c.self.invariant;
+      state = λ valid. absurd (no valid);
+      chains = λ valid. absurd (no valid);
+      pairs = λ valid. absurd (no valid);
+    }

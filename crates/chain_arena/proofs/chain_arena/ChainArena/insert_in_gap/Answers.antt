@@ -11,9 +11,9 @@ use Rattle.chain_links.proofs.Inserting.{listed-seen_links, shown-next}
 use Rattle.chain_interlinks.proofs.Putting.{placed_in_room}
 use Rattle.chain_arena.proofs.Placing.{next_seen}
 use Rattle.chain_arena.proofs.Telling.{agrees-insert_between}
-use Rattle.chain_arena.proofs.chain_arena.ChainArena.put.Given.{Over}
-use Rattle.chain_arena.proofs.chain_arena.ChainArena.put.Goals.{After-tie}
-use Rattle.chain_arena.proofs.chain_arena.ChainArena.put.Goals as goal
+use Rattle.chain_arena.proofs.chain_arena.ChainArena.insert_in_gap.Given.{Over}
+use Rattle.chain_arena.proofs.chain_arena.ChainArena.insert_in_gap.Goals.{After-tie}
+use Rattle.chain_arena.proofs.chain_arena.ChainArena.insert_in_gap.Goals as goal
 
 -- the gap, in the links that the arena holds
 gap : (g : Over) (c : After-tie g) → let s = seen_links g.P.Inx.PtrInx.packed_number c.self.inside.arena in
