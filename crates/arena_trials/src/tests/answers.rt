@@ -3,15 +3,27 @@ use crate::tests::tools::same;
 use arena_ptr::{AllocError, InvalidationOption, InvalidationResult};
 use std::alloc;
 
+fn is_above_three(n: i32) -> bool {
+    n > 3
+}
+
 // The value, the value with the overflow, and the answer to whether the value is above three.
 fn each_of_option(answer: InvalidationOption<i32>) -> (i32, (i32, bool), InvalidationOption<bool>) {
-    (answer.allow(), answer.overflowing(), answer.map(|n| n > 3))
+    (
+        answer.allow(),
+        answer.overflowing(),
+        answer.map(is_above_three),
+    )
 }
 
 fn each_of_result(
-    answer: InvalidationResult<u8>,
-) -> (Option<u8>, (Option<u8>, bool), InvalidationResult<bool>) {
-    (answer.allow(), answer.overflowing(), answer.map(|n| n > 3))
+    answer: InvalidationResult<i32>,
+) -> (Option<i32>, (Option<i32>, bool), InvalidationResult<bool>) {
+    (
+        answer.allow(),
+        answer.overflowing(),
+        answer.map(is_above_three),
+    )
 }
 
 #[test]

@@ -1,57 +1,54 @@
 // Each call once over both stacks: those of the trait through the trait, and the arena's own.
-use crate::tests::compressions::{check_compactors, check_compressions};
-use crate::tests::copies::check_copy;
+use crate::tests::compressions::{COMPACTORS, COMPRESSIONS};
+use crate::tests::copies::COPY;
 use crate::tests::pointers::SmallPtr;
-use crate::tests::rows::check_nexts;
-use crate::tests::scripts::{Answers, Call, asks, plays};
-use crate::tests::tools::{Slots, same};
-use arena_base::{Arena, ArenaTrait};
+use crate::tests::rows::NEXTS;
+use crate::tests::scripts::{Answers, Call, Script, plays};
+use crate::tests::tools::Slot;
+use arena_base::Arena;
 use arena_ptr::LimitedStack;
 use std::alloc::Global;
 use std::process::Abort;
 
-// The births of the trait.
-pub(super) fn check_births<A: ArenaTrait<SmallPtr, u32> + Drop>(rt: &impl Abort, alloc: Global) {
-    let mut arena = A::new(alloc);
-    asks(
-        rt,
-        alloc,
+const EACH: [Script; 3] = [
+    (
+        "the births of the trait",
+        &[
+            (Call::Born(3), "Some((true, true))"),
+            (Call::Born(2), "Some((true, true))"),
+            (Call::Born(200), "Some((true, true))"),
+            // Up to the greatest index.
+            (Call::Born(255), "Some((true, true))"),
+            (Call::Born(256), "None"),
+        ],
+    ),
+    (
         "a new arena",
-        &mut arena,
         &[
             (Call::IsEmpty, "true"),
             (Call::Reserve(4), "Ok(())"),
             (Call::HasRoom(4), "true"),
             (Call::Maximum, "None"),
         ],
-    );
-    let mut arena = A::with_min_capacity(alloc, 3).expect(rt, "memory");
-    asks(
-        rt,
-        alloc,
-        "with room",
-        &mut arena,
-        &[(Call::IsEmpty, "true"), (Call::HasRoom(3), "true")],
-    );
-    for (n, want) in [(2, true), (200, true), (255, true), (256, false)] {
-        let born = A::with_min_capacity(alloc, n);
-        same(rt, "up to the greatest index", born.is_ok(), want);
-    }
-}
-
-// The calls of the trait, over the entries 10, 20 and 30 at 1, 2 and 3, which are removed.
-pub(super) fn check_trait<A: ArenaTrait<SmallPtr, u32>>(
-    rt: &impl Abort,
-    alloc: Global,
-    arena: &mut A,
-) {
-    let capacity = arena.capacity();
-    asks(
-        rt,
-        alloc,
-        "the trait",
-        arena,
+    ),
+    (
+        "each call",
         &[
+            (Call::Reserve(3), "Ok(())"),
+            (Call::Insert(10), "Ok(1.2)"),
+            (Call::InsertWithin(20), "Ok(2.2)"),
+            (Call::Enter(30), "Ok(3.2)"),
+            (Call::Get(2, 2), "Some(20)"),
+            (Call::Get(3, 2), "Some(30)"),
+            (Call::Slots, "3"),
+            (Call::Entries, "[(1.2, 10), (2.2, 20), (3.2, 30)]"),
+            (Call::Generation, "2"),
+            (Call::IncGeneration, "Success(())"),
+            (Call::Generation, "3"),
+            (Call::SetGeneration(2), "()"),
+            (Call::Generation, "2"),
+            // Those of the trait, over the entries 10, 20 and 30 at 1, 2 and 3, which are removed.
+            (Call::Capacity, "3"),
             (Call::First, "Some(1.2)"),
             (Call::Last, "Some(3.2)"),
             (Call::Len, "3"),
@@ -70,7 +67,7 @@ pub(super) fn check_trait<A: ArenaTrait<SmallPtr, u32>>(
             (Call::Advance, "Some(1.2)"),
             (
                 Call::AdvanceFrom(3, true),
-                "[Some(3.2), Some(2.2), Some(1.2)]",
+                "(Some(3.2), Some(2.2), Some(1.2))",
             ),
             (Call::AdvanceEmpty, "None"),
             (Call::Invalidate(1, 2), "Success(1.3)"),
@@ -86,51 +83,21 @@ pub(super) fn check_trait<A: ArenaTrait<SmallPtr, u32>>(
             (Call::Clear, "Success(())"),
             (Call::Len, "0"),
             (Call::Counter, "Some(6)"),
+            (Call::Capacity, "3"),
+            (Call::Reserve(3), "Ok(())"),
+            (Call::Capacity, "3"),
+            (Call::Insert(5), "Ok(1.6)"),
+            (Call::Drain, "[(1.6, 5)]"),
         ],
-    );
-    same(rt, "the capacity", arena.capacity(), capacity);
-    let again = arena.reallocate_min_capacity(capacity);
-    same(rt, "room again", again, Ok(()));
-    same(rt, "the capacity still", arena.capacity(), capacity);
-}
-
-// Each call on an arena, which at last is taken apart.
-fn check_each<A: Answers + Drop>(rt: &impl Abort, alloc: Global) {
-    plays::<A>(
-        rt,
-        alloc,
-        &[(
-            "each call",
-            &[
-                (Call::Reserve(3), "Ok(())"),
-                (Call::Insert(10), "Ok(1.2)"),
-                (Call::InsertWithin(20), "Ok(2.2)"),
-                (Call::Enter(30), "Ok(3.2)"),
-                (Call::Get(2, 2), "Some(20)"),
-                (Call::Get(3, 2), "Some(30)"),
-                (Call::Slots, "3"),
-                (Call::Entries, "[(1.2, 10), (2.2, 20), (3.2, 30)]"),
-                (Call::Generation, "2"),
-                (Call::IncGeneration, "Success(())"),
-                (Call::Generation, "3"),
-                (Call::SetGeneration(2), "()"),
-                (Call::Generation, "2"),
-                (Call::EachOfTheTrait, "()"),
-                (Call::Insert(5), "Ok(1.6)"),
-                (Call::Drain, "[(1.6, 5)]"),
-                (Call::Births, "()"),
-            ],
-        )],
-    );
-}
+    ),
+];
 
 // Each script on an arena of this type.
 fn check_scripts<A: Answers + Drop>(rt: &impl Abort, alloc: Global) {
-    check_each::<A>(rt, alloc);
-    check_nexts::<A>(rt, alloc);
-    check_compactors::<A>(rt, alloc);
-    check_compressions::<A>(rt, alloc);
-    check_copy::<A>(rt, alloc);
+    let tables: [&[Script]; 5] = [&EACH, &NEXTS, &COMPACTORS, &COMPRESSIONS, &COPY];
+    for table in tables {
+        plays::<A>(rt, alloc, table);
+    }
 }
 
 #[test]
@@ -140,5 +107,5 @@ fn each_script_over_the_heap_stack(rt: HostRuntime) {
 
 #[test]
 fn each_script_over_a_limited_stack(rt: HostRuntime) {
-    check_scripts::<Arena<SmallPtr, u32, LimitedStack<Slots>>>(&rt, rt.alloc());
+    check_scripts::<Arena<SmallPtr, u32, LimitedStack<Slot<SmallPtr>>>>(&rt, rt.alloc());
 }

@@ -1,182 +1,168 @@
 // What a compactor and a compression move, show, count and leave.
-use crate::tests::scripts::{Answers, Call, plays};
-use std::alloc::Global;
-use std::process::Abort;
+use crate::tests::scripts::{Call, Script};
 
-pub(super) fn check_compactors<A: Answers + Drop>(rt: &impl Abort, alloc: Global) {
-    plays::<A>(
-        rt,
-        alloc,
+pub(super) const COMPACTORS: [Script; 4] = [
+    (
+        "the compactor closes a hole",
         &[
+            (Call::Insert(10), "Ok(1.2)"),
+            (Call::Insert(20), "Ok(2.2)"),
+            (Call::Insert(30), "Ok(3.2)"),
+            (Call::Remove(1, 2), "Success(10)"),
             (
-                "the compactor closes a hole",
-                &[
-                    (Call::Insert(10), "Ok(1.2)"),
-                    (Call::Insert(20), "Ok(2.2)"),
-                    (Call::Insert(30), "Ok(3.2)"),
-                    (Call::Remove(1, 2), "Success(10)"),
-                    (
-                        Call::Move(3, 1, 3),
-                        "(3, true, Work { placed: 1, touched: 1 })",
-                    ),
-                    (Call::Held, "[(1.3, 30), (2.2, 20)]"),
-                    (Call::Get(1, 3), "Some(30)"),
-                    (Call::Get(2, 2), "Some(20)"),
-                    (Call::Insert(40), "Ok(3.3)"),
-                ],
+                Call::Move(3, 1, 3),
+                "(3, true, Work { placed: 1, touched: 1 })",
             ),
-            (
-                "a compactor is dropped",
-                &[
-                    (Call::Insert(10), "Ok(1.2)"),
-                    (Call::Insert(20), "Ok(2.2)"),
-                    (Call::Insert(30), "Ok(3.2)"),
-                    (Call::Remove(1, 2), "Success(10)"),
-                    (Call::Remove(2, 2), "Success(20)"),
-                    (Call::DropCompactor, "()"),
-                    (Call::Insert(40), "Ok(1.4)"),
-                    (Call::Insert(50), "Ok(2.4)"),
-                ],
-            ),
-            (
-                "a compactor is forgotten",
-                &[
-                    (Call::Insert(10), "Ok(1.2)"),
-                    (Call::Insert(20), "Ok(2.2)"),
-                    (Call::Insert(30), "Ok(3.2)"),
-                    (Call::Remove(1, 2), "Success(10)"),
-                    (Call::Remove(2, 2), "Success(20)"),
-                    (Call::ForgetCompactor, "()"),
-                    (Call::Len, "0"),
-                    (Call::Generation, "4"),
-                    (Call::Insert(60), "Ok(1.4)"),
-                ],
-            ),
-            // A compactor shows each entry and lends its value, and counts each such look.
-            (
-                "a value written through a compactor",
-                &[
-                    (Call::Insert(10), "Ok(1.2)"),
-                    (
-                        Call::Rewrite(1, 2, 11),
-                        "([Some(10), None, Some(10)], Work { placed: 0, touched: 3 })",
-                    ),
-                    (Call::Get(1, 2), "Some(11)"),
-                    (Call::AdvanceEmpty, "None"),
-                ],
-            ),
+            (Call::Held, "[(1.3, 30), (2.2, 20)]"),
+            (Call::Get(1, 3), "Some(30)"),
+            (Call::Get(2, 2), "Some(20)"),
+            (Call::Insert(40), "Ok(3.3)"),
         ],
-    );
-}
+    ),
+    (
+        "a compactor is dropped",
+        &[
+            (Call::Insert(10), "Ok(1.2)"),
+            (Call::Insert(20), "Ok(2.2)"),
+            (Call::Insert(30), "Ok(3.2)"),
+            (Call::Remove(1, 2), "Success(10)"),
+            (Call::Remove(2, 2), "Success(20)"),
+            (Call::DropCompactor, "()"),
+            (Call::Insert(40), "Ok(1.4)"),
+            (Call::Insert(50), "Ok(2.4)"),
+        ],
+    ),
+    (
+        "a compactor is forgotten",
+        &[
+            (Call::Insert(10), "Ok(1.2)"),
+            (Call::Insert(20), "Ok(2.2)"),
+            (Call::Insert(30), "Ok(3.2)"),
+            (Call::Remove(1, 2), "Success(10)"),
+            (Call::Remove(2, 2), "Success(20)"),
+            (Call::ForgetCompactor, "()"),
+            (Call::Len, "0"),
+            (Call::Generation, "4"),
+            (Call::Insert(60), "Ok(1.4)"),
+        ],
+    ),
+    // A compactor shows each entry and lends its value, and counts each such look.
+    (
+        "a value written through a compactor",
+        &[
+            (Call::Insert(10), "Ok(1.2)"),
+            (
+                Call::Rewrite(1, 2, 11),
+                "([Some(10), None, Some(10)], Work { placed: 0, touched: 3 })",
+            ),
+            (Call::Get(1, 2), "Some(11)"),
+            (Call::AdvanceEmpty, "None"),
+        ],
+    ),
+];
 
-pub(super) fn check_compressions<A: Answers + Drop>(rt: &impl Abort, alloc: Global) {
-    plays::<A>(
-        rt,
-        alloc,
+pub(super) const COMPRESSIONS: [Script; 6] = [
+    // Each entry gets the counter, the next index is behind them, and the old pointers are not valid.
+    (
+        "a hole is closed",
         &[
-            // Each entry gets the counter, the next index is behind them, and the old pointers are not valid.
+            (Call::Insert(10), "Ok(1.2)"),
+            (Call::Insert(20), "Ok(2.2)"),
+            (Call::Insert(30), "Ok(3.2)"),
+            (Call::Remove(2, 2), "Success(20)"),
             (
-                "a hole is closed",
-                &[
-                    (Call::Insert(10), "Ok(1.2)"),
-                    (Call::Insert(20), "Ok(2.2)"),
-                    (Call::Insert(30), "Ok(3.2)"),
-                    (Call::Remove(2, 2), "Success(20)"),
-                    (
-                        Call::CompressWith(false),
-                        "(Success(()), [(1.2, 10, 1.4), (3.2, 30, 2.4)])",
-                    ),
-                    (Call::Held, "[(1.4, 11), (2.4, 32)]"),
-                    (Call::Slots, "2"),
-                    (Call::Get(1, 2), "None"),
-                    (Call::Insert(40), "Ok(3.4)"),
-                ],
+                Call::CompressWith(false),
+                "(Success(()), [(1.2, 10, 1.4), (3.2, 30, 2.4)])",
             ),
-            (
-                "a reset begins the generations anew",
-                &[
-                    (Call::Insert(10), "Ok(1.2)"),
-                    (Call::Insert(20), "Ok(2.2)"),
-                    (Call::Remove(1, 2), "Success(10)"),
-                    (Call::Insert(30), "Ok(1.3)"),
-                    (Call::Invalidate(2, 2), "Success(2.4)"),
-                    (
-                        Call::CompressWith(true),
-                        "(Success(()), [(1.3, 30, 1.2), (2.4, 20, 2.2)])",
-                    ),
-                    (Call::Generation, "2"),
-                    (Call::Held, "[(1.2, 31), (2.2, 22)]"),
-                    (Call::SetGeneration(255), "()"),
-                    (Call::Compress(true), "Success(())"),
-                    (Call::Generation, "2"),
-                    (Call::Held, "[(1.2, 31), (2.2, 22)]"),
-                ],
-            ),
-            (
-                "an empty arena is compressed",
-                &[
-                    (Call::SetGeneration(255), "()"),
-                    (Call::Compress(false), "Success(())"),
-                    (Call::Generation, "255"),
-                    (Call::CompressWith(false), "(Success(()), [])"),
-                    (Call::Generation, "255"),
-                    (Call::Compress(true), "Success(())"),
-                    (Call::Generation, "2"),
-                    (Call::Insert(10), "Ok(1.2)"),
-                    (Call::Remove(1, 2), "Success(10)"),
-                    (Call::Compress(false), "Success(())"),
-                    (Call::Generation, "3"),
-                    (Call::Slots, "0"),
-                ],
-            ),
-            (
-                "the greatest generation is compressed",
-                &[
-                    (Call::SetGeneration(254), "()"),
-                    (Call::Insert(10), "Ok(1.254)"),
-                    (Call::Insert(20), "Ok(2.254)"),
-                    (Call::Remove(1, 254), "Success(10)"),
-                    (Call::Compress(false), "GenerationOverflow(())"),
-                    (Call::Generation, "2"),
-                    (Call::Held, "[(1.2, 20)]"),
-                ],
-            ),
-            // Values are seen by rising index, each once, and are as the closure left them.
-            (
-                "each value is seen and written once",
-                &[
-                    (Call::InsertMany(6), "6"),
-                    (Call::Remove(4, 2), "Success(3)"),
-                    (Call::Remove(1, 2), "Success(0)"),
-                    (Call::Remove(3, 2), "Success(2)"),
-                    (
-                        Call::CompressWith(false),
-                        "(Success(()), [(2.2, 1, 1.6), (5.2, 4, 2.6), (6.2, 5, 3.6)])",
-                    ),
-                    (Call::Entries, "[(1.6, 2), (2.6, 6), (3.6, 8)]"),
-                    (Call::InsertMany(300), "252"),
-                    (Call::Remove(1, 6), "Success(2)"),
-                    (Call::Compress(false), "Success(())"),
-                    (Call::Len, "254"),
-                    (Call::Get(1, 8), "Some(6)"),
-                    (Call::Get(254, 8), "Some(251)"),
-                    (Call::Insert(7), "Ok(255.8)"),
-                ],
-            ),
-            (
-                "a closure numbers the values",
-                &[
-                    (Call::Insert(7), "Ok(1.2)"),
-                    (Call::Insert(8), "Ok(2.2)"),
-                    (Call::Insert(9), "Ok(3.2)"),
-                    (
-                        Call::NumberValues(false),
-                        "(Success(()), [(1.2, 7, 1.3), (2.2, 8, 2.3), (3.2, 9, 3.3)])",
-                    ),
-                    (Call::Compress(true), "Success(())"),
-                    (Call::Entries, "[(1.2, 1), (2.2, 2), (3.2, 3)]"),
-                ],
-            ),
+            (Call::Held, "[(1.4, 11), (2.4, 32)]"),
+            (Call::Slots, "2"),
+            (Call::Get(1, 2), "None"),
+            (Call::Insert(40), "Ok(3.4)"),
         ],
-    );
-}
+    ),
+    (
+        "a reset begins the generations anew",
+        &[
+            (Call::Insert(10), "Ok(1.2)"),
+            (Call::Insert(20), "Ok(2.2)"),
+            (Call::Remove(1, 2), "Success(10)"),
+            (Call::Insert(30), "Ok(1.3)"),
+            (Call::Invalidate(2, 2), "Success(2.4)"),
+            (
+                Call::CompressWith(true),
+                "(Success(()), [(1.3, 30, 1.2), (2.4, 20, 2.2)])",
+            ),
+            (Call::Generation, "2"),
+            (Call::Held, "[(1.2, 31), (2.2, 22)]"),
+            (Call::SetGeneration(255), "()"),
+            (Call::Compress(true), "Success(())"),
+            (Call::Generation, "2"),
+            (Call::Held, "[(1.2, 31), (2.2, 22)]"),
+        ],
+    ),
+    (
+        "an empty arena is compressed",
+        &[
+            (Call::SetGeneration(255), "()"),
+            (Call::Compress(false), "Success(())"),
+            (Call::Generation, "255"),
+            (Call::CompressWith(false), "(Success(()), [])"),
+            (Call::Generation, "255"),
+            (Call::Compress(true), "Success(())"),
+            (Call::Generation, "2"),
+            (Call::Insert(10), "Ok(1.2)"),
+            (Call::Remove(1, 2), "Success(10)"),
+            (Call::Compress(false), "Success(())"),
+            (Call::Generation, "3"),
+            (Call::Slots, "0"),
+        ],
+    ),
+    (
+        "the greatest generation is compressed",
+        &[
+            (Call::SetGeneration(254), "()"),
+            (Call::Insert(10), "Ok(1.254)"),
+            (Call::Insert(20), "Ok(2.254)"),
+            (Call::Remove(1, 254), "Success(10)"),
+            (Call::Compress(false), "GenerationOverflow(())"),
+            (Call::Generation, "2"),
+            (Call::Held, "[(1.2, 20)]"),
+        ],
+    ),
+    // Values are seen by rising index, each once, and are as the closure left them.
+    (
+        "each value is seen and written once",
+        &[
+            (Call::InsertMany(6), "6"),
+            (Call::Remove(4, 2), "Success(3)"),
+            (Call::Remove(1, 2), "Success(0)"),
+            (Call::Remove(3, 2), "Success(2)"),
+            (
+                Call::CompressWith(false),
+                "(Success(()), [(2.2, 1, 1.6), (5.2, 4, 2.6), (6.2, 5, 3.6)])",
+            ),
+            (Call::Entries, "[(1.6, 2), (2.6, 6), (3.6, 8)]"),
+            (Call::InsertMany(300), "252"),
+            (Call::Remove(1, 6), "Success(2)"),
+            (Call::Compress(false), "Success(())"),
+            (Call::Len, "254"),
+            (Call::Get(1, 8), "Some(6)"),
+            (Call::Get(254, 8), "Some(251)"),
+            (Call::Insert(7), "Ok(255.8)"),
+        ],
+    ),
+    (
+        "a closure numbers the values",
+        &[
+            (Call::Insert(7), "Ok(1.2)"),
+            (Call::Insert(8), "Ok(2.2)"),
+            (Call::Insert(9), "Ok(3.2)"),
+            (
+                Call::NumberValues(false),
+                "(Success(()), [(1.2, 7, 1.3), (2.2, 8, 2.3), (3.2, 9, 3.3)])",
+            ),
+            (Call::Compress(true), "Success(())"),
+            (Call::Entries, "[(1.2, 1), (2.2, 2), (3.2, 3)]"),
+        ],
+    ),
+];

@@ -1,16 +1,14 @@
 // A place for an entry, which is filled, or gets none.
 ghost use Rattle.std.specs.Prelude.{◌≡◌};
 
-use crate::tests::pointers::SmallPtr;
-use crate::tests::tools::Slots;
-use arena_base::Arena;
-use arena_ptr::{NotWithinCapacityError, SlotStack};
+use arena_base::{Arena, ArenaSlot};
+use arena_ptr::{NotWithinCapacityError, Ptr, SlotStack};
 
 // Adds an entry whose pointer is known before.
-pub(super) fn enter<S: SlotStack<Item = Slots>>(
-    arena: &mut Arena<SmallPtr, u32, S>,
-    value: u32,
-) -> Result<SmallPtr, NotWithinCapacityError> {
+pub(super) fn enter<P: Ptr, T: Drop, S: SlotStack<Item = ArenaSlot<P, T>>>(
+    arena: &mut Arena<P, T, S>,
+    value: T,
+) -> Result<P, NotWithinCapacityError> {
     match arena.entry_insert_within_capacity() {
         Ok(entry) => {
             let p = entry.ptr();
@@ -22,10 +20,10 @@ pub(super) fn enter<S: SlotStack<Item = Slots>>(
 }
 
 // The pointer of a place that is dropped by a call, or where its scope ends.
-pub(super) fn dropped_place<S: SlotStack<Item = Slots>>(
-    arena: &mut Arena<SmallPtr, u32, S>,
+pub(super) fn dropped_place<P: Ptr, T: Drop, S: SlotStack<Item = ArenaSlot<P, T>>>(
+    arena: &mut Arena<P, T, S>,
     by_hand: bool,
-) -> Option<SmallPtr>
+) -> Option<P>
     ensures { arena.new ≡ arena.old }
 {
     match arena.entry_insert_within_capacity() {

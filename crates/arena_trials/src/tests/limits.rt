@@ -1,15 +1,17 @@
 // Arenas with a maximum.
 use crate::tests::pointers::SmallPtr;
 use crate::tests::scripts::{Answers, Call, runs};
-use crate::tests::tools::{Slots, same};
+use crate::tests::tools::{Slot, same};
 use arena_base::{Arena, ArenaSlot, ArenaTrait};
-use arena_ptr::{LimitStack, LimitedStack, MaxCapacityReductionError, SetMaxCapacity};
+use arena_ptr::{
+    LimitStack, LimitedStack, MaxCapacityReductionError, Ptr, SetMaxCapacity, SlotStack,
+};
 use std::alloc::Global;
 use std::process::Abort;
 use std::rc::Rc;
 
 // A slot for one of several equal values, each of which tells how many of them there are.
-type Shared = ArenaSlot<SmallPtr, Rc<u8>>;
+type Shared<P> = ArenaSlot<P, Rc<u8>>;
 
 // An arena that may have two slots.
 fn check_maximum<A: Answers + SetMaxCapacity + Drop>(rt: &impl Abort, alloc: Global) {
@@ -69,7 +71,7 @@ fn check_limited<A: Answers + SetMaxCapacity + Drop>(rt: &impl Abort, alloc: Glo
 
 #[test]
 fn a_maximum_of_two(rt: HostRuntime) {
-    check_limited::<Arena<SmallPtr, u32, LimitedStack<Slots>>>(&rt, rt.alloc());
+    check_limited::<Arena<SmallPtr, u32, LimitedStack<Slot<SmallPtr>>>>(&rt, rt.alloc());
 }
 
 // One more of a value.
@@ -77,18 +79,27 @@ fn share(rt: &impl Abort, value: &Rc<u8>) -> Rc<u8> {
     value.clone().expect(rt, "one more")
 }
 
+// Hands a value to each insertion of an arena, which drops it where it refuses it.
+fn hand<P: Ptr, T: Drop, S: SlotStack<Item = ArenaSlot<P, T>>>(
+    arena: &mut Arena<P, T, S>,
+    first: T,
+    second: T,
+) {
+    let _ = arena.insert_within_capacity(first);
+    let _ = arena.insert_reallocating(second);
+}
+
 // Hands 600 values to an arena with a maximum, and tells how many it holds and how many there are.
-fn handed<S: LimitStack<Item = Shared>>(
+fn handed<P: Ptr, S: LimitStack<Item = Shared<P>>>(
     rt: &impl Abort,
     alloc: Global,
     most: usize,
 ) -> (usize, usize) {
     let value = Rc::new(alloc, 5).ok().expect(rt, "memory");
-    let mut arena: Arena<SmallPtr, Rc<u8>, S> = Arena::new(alloc);
+    let mut arena: Arena<P, Rc<u8>, S> = Arena::new(alloc);
     assert!(rt; arena.set_max_capacity(most).is_ok());
     for _ in 0..300 {
-        let _ = arena.insert_within_capacity(share(rt, &value));
-        let _ = arena.insert_reallocating(share(rt, &value));
+        hand(&mut arena, share(rt, &value), share(rt, &value));
     }
     (arena.len(), Rc::strong_count(&value))
 }
@@ -97,7 +108,7 @@ fn handed<S: LimitStack<Item = Shared>>(
 #[test]
 fn refused_values_are_dropped(rt: HostRuntime) {
     for (most, want) in [(2, (2, 3)), (1000, (255, 256))] {
-        let values = handed::<LimitedStack<Shared>>(&rt, rt.alloc(), most);
+        let values = handed::<SmallPtr, LimitedStack<Shared<SmallPtr>>>(&rt, rt.alloc(), most);
         same(&rt, "values", values, want);
     }
 }

@@ -12,14 +12,20 @@ fn number_again<I: PtrInx>(n: usize) -> Option<usize>
     ensures variant { IsSome result ↔ ((1 ≤ n) × (n ≤ I.greatest)) }
     ensures value { IfSome result (λ m. m ≡ n) }
 {
-    I::try_from_usize(n)?.try_into_usize()
+    match I::try_from_usize(n) {
+        Some(i) => i.try_into_usize(),
+        None => None,
+    }
 }
 
 // The index that the number of an index makes.
 fn index_again<I: PtrInx>(i: I) -> Option<I>
     ensures { result ≡ Some i }
 {
-    I::try_from_usize(i.try_into_usize()?)
+    match i.try_into_usize() {
+        Some(n) => I::try_from_usize(n),
+        None => None,
+    }
 }
 
 fn is_same_index<I: PtrInx>(i: I, j: I) -> bool
@@ -76,35 +82,32 @@ const ONES: Widths = (1, 1, 1);
 
 const GREATEST: Widths = (255, 4_294_967_295, 18_446_744_073_709_551_615);
 
-fn made_indexes((a, b, c): Widths) -> (Option<u8>, Option<u32>, Option<u64>) {
+// The numbers of the indexes and of the generations that numbers make.
+fn made(rt: &impl Abort, (a, b, c): Widths) -> (Widths, Widths) {
     (
-        Inx8::new(a).map(Inx8::get),
-        Inx32::new(b).map(Inx32::get),
-        Inx64::new(c).map(Inx64::get),
+        (inx8(rt, a).get(), inx32(rt, b).get(), inx64(rt, c).get()),
+        (gen8(rt, a).get(), gen32(rt, b).get(), gen64(rt, c).get()),
     )
 }
 
-fn made_generations((a, b, c): Widths) -> (Option<u8>, Option<u32>, Option<u64>) {
-    (
-        Gen8::new(a).map(Gen8::get),
-        Gen32::new(b).map(Gen32::get),
-        Gen64::new(c).map(Gen64::get),
-    )
+// Whether an index is the one that its number makes, and no other one, and is as before once packed, as is none.
+fn is_well<I: PtrInx>(i: I, other: I) -> bool {
+    index_again(i) == Some(i)
+        && is_same_index(i, i)
+        && !is_same_index(i, other)
+        && unpacked_again(Some(i)) == Some(i)
+        && unpacked_again::<I>(None).is_none()
+        && packs_alike(Some(i), Some(i))
+        && !packs_alike(Some(i), None)
 }
 
-// Whether indexes of each width are the ones that their numbers make.
-fn are_made_again(rt: &impl Abort, (a, b, c): Widths) -> bool {
-    let (i, j, k) = (inx8(rt, a), inx32(rt, b), inx64(rt, c));
-    index_again(i) == Some(i) && index_again(j) == Some(j) && index_again(k) == Some(k)
-}
-
-// Whether two indexes of each width are the same.
-fn same_indexes(rt: &impl Abort, (a, b, c): Widths, (d, e, f): Widths) -> (bool, bool, bool) {
-    (
-        is_same_index(inx8(rt, a), inx8(rt, d)),
-        is_same_index(inx32(rt, b), inx32(rt, e)),
-        is_same_index(inx64(rt, c), inx64(rt, f)),
-    )
+// Whether indexes of each width are.
+fn are_well(rt: &impl Abort, (a, b, c): Widths, (d, e, f): Widths) -> [bool; 3] {
+    [
+        is_well(inx8(rt, a), inx8(rt, d)),
+        is_well(inx32(rt, b), inx32(rt, e)),
+        is_well(inx64(rt, c), inx64(rt, f)),
+    ]
 }
 
 // The next generations, and whether each overflowed.
@@ -113,6 +116,29 @@ fn incremented(rt: &impl Abort, (a, b, c): Widths) -> (Widths, (bool, bool, bool
     let (h, over_there) = gen32(rt, b).generational_inc();
     let (k, over_last) = gen64(rt, c).generational_inc();
     ((g.get(), h.get(), k.get()), (over, over_there, over_last))
+}
+
+// The first generations, and the second after each.
+fn first_and_later() -> (Widths, Widths) {
+    let (g, h, k) = (Gen8::two(), Gen32::two(), Gen64::two());
+    (
+        (g.get(), h.get(), k.get()),
+        (
+            second_after(g).get(),
+            second_after(h).get(),
+            second_after(k).get(),
+        ),
+    )
+}
+
+// Whether the second generation after the last is the third, and a first one is a one or the second after it.
+fn same_generations(rt: &impl Abort) -> [bool; 3] {
+    let first = Gen32::two();
+    [
+        is_same_generation(second_after(gen64(rt, u64::MAX)), gen64(rt, 3)),
+        is_same_generation(Gen8::two(), gen8(rt, 1)),
+        is_same_generation(first, second_after(first)),
+    ]
 }
 
 fn tool_ptr(rt: &impl Abort, inx: u32, generation: u32) -> ToolPtr {
@@ -154,65 +180,32 @@ fn indexes_go_from_one_to_their_greatest(rt: HostRuntime) {
 }
 
 #[test]
-fn indexes_are_made_of_every_number_but_zero(rt: HostRuntime) {
-    same(&rt, "zero", made_indexes((0, 0, 0)), (None, None, None));
-    for (a, b, c) in [ONES, GREATEST] {
-        same(
-            &rt,
-            "an index",
-            made_indexes((a, b, c)),
-            (Some(a), Some(b), Some(c)),
-        );
+fn every_number_but_zero_makes_an_index_and_a_generation(rt: HostRuntime) {
+    let indexes = (Inx8::new(0), Inx32::new(0), Inx64::new(0));
+    same(&rt, "no index", indexes, (None, None, None));
+    let generations = (Gen8::new(0), Gen32::new(0), Gen64::new(0));
+    same(&rt, "no generation", generations, (None, None, None));
+    for numbers in [ONES, GREATEST] {
+        same(&rt, "made", made(&rt, numbers), (numbers, numbers));
     }
 }
 
 #[test]
 fn an_index_is_its_number(rt: HostRuntime) {
-    let some = (7, 70_000, u64::MAX);
-    same(&rt, "made again", are_made_again(&rt, some), true);
-    same(
-        &rt,
-        "the same",
-        same_indexes(&rt, some, some),
-        (true, true, true),
-    );
-    same(
-        &rt,
-        "others",
-        same_indexes(&rt, some, (200, 4_464, 1)),
-        (false, false, false),
-    );
-    same(&rt, "in order", inx8(&rt, 7) < inx8(&rt, 200), true);
-}
-
-// Whether optional indexes of each width, none and some, are as before once packed, and some is not packed as none.
-fn pack_well(rt: &impl Abort, (a, b, c): Widths) -> bool {
-    packs_well(inx8(rt, a)) && packs_well(inx32(rt, b)) && packs_well(inx64(rt, c))
-}
-
-fn packs_well<I: PtrInx>(i: I) -> bool {
-    unpacked_again(Some(i)) == Some(i)
-        && unpacked_again::<I>(None).is_none()
-        && packs_alike(Some(i), Some(i))
-        && !packs_alike(Some(i), None)
-}
-
-#[test]
-fn an_optional_index_is_packed_and_unpacked(rt: HostRuntime) {
-    for numbers in [ONES, GREATEST] {
-        same(&rt, "packed", pack_well(&rt, numbers), true);
+    for (numbers, others) in [
+        (ONES, GREATEST),
+        (GREATEST, ONES),
+        ((7, 70_000, u64::MAX), (200, 4_464, 1)),
+    ] {
+        same(&rt, "well", are_well(&rt, numbers, others), [true; 3]);
     }
+    same(&rt, "in order", inx8(&rt, 7) < inx8(&rt, 200), true);
 }
 
 #[test]
 fn generations_count_from_two_and_wrap(rt: HostRuntime) {
-    let first = (Gen8::two(), Gen32::two(), Gen64::two());
-    same(
-        &rt,
-        "first",
-        (first.0.get(), first.1.get(), first.2.get()),
-        (2, 2, 2),
-    );
+    let counted = ((2, 2, 2), (4, 4, 4));
+    same(&rt, "first and later", first_and_later(), counted);
     for (numbers, want) in [
         (
             (254, u32::MAX - 1, u64::MAX - 1),
@@ -222,50 +215,16 @@ fn generations_count_from_two_and_wrap(rt: HostRuntime) {
     ] {
         same(&rt, "the next", incremented(&rt, numbers), want);
     }
-}
-
-#[test]
-fn the_second_generation_after_another(rt: HostRuntime) {
-    let (g, h, k) = (
-        second_after(Gen8::two()),
-        second_after(Gen32::two()),
-        second_after(Gen64::two()),
-    );
-    same(&rt, "after two", (g.get(), h.get(), k.get()), (4, 4, 4));
-    let wrapped = second_after(gen64(&rt, u64::MAX));
-    same(&rt, "after the last", wrapped.get(), 3);
-    for (got, want) in [
-        (is_same_generation(wrapped, gen64(&rt, 3)), true),
-        (is_same_generation(Gen8::two(), gen8(&rt, 1)), false),
-        (is_same_generation(Gen32::two(), h), false),
-    ] {
-        same(&rt, "the same", got, want);
-    }
-}
-
-#[test]
-fn generations_are_made_of_every_number_but_zero(rt: HostRuntime) {
-    same(&rt, "zero", made_generations((0, 0, 0)), (None, None, None));
-    for (a, b, c) in [ONES, GREATEST] {
-        same(
-            &rt,
-            "a generation",
-            made_generations((a, b, c)),
-            (Some(a), Some(b), Some(c)),
-        );
-    }
+    let are_same = [true, false, false];
+    same(&rt, "the same", same_generations(&rt), are_same);
 }
 
 #[test]
 fn the_empty_generation_never_overflows(rt: HostRuntime) {
     <() as PtrGen>::two();
     same(&rt, "the next", ().generational_inc(), ((), false));
-    same(
-        &rt,
-        "the same",
-        is_same_generation((), second_after(())),
-        true,
-    );
+    let is_same = is_same_generation((), second_after(()));
+    same(&rt, "the same", is_same, true);
 }
 
 #[test]
@@ -286,24 +245,19 @@ fn a_pointer_is_its_two_parts(rt: HostRuntime) {
 
 #[test]
 fn a_pointer_may_be_an_index_alone(rt: HostRuntime) {
-    let bare = BarePtr::_from_raw(inx8(&rt, 9), ());
-    same(&rt, "made again", pointer_again(bare), bare);
-    same(&rt, "made of", is_made_of(bare, inx8(&rt, 9), ()), true);
-    same(
-        &rt,
-        "not made of",
-        is_made_of(BarePtr::invalid(), inx8(&rt, 9), ()),
-        false,
-    );
+    let nine = inx8(&rt, 9);
+    let bare = BarePtr::_from_raw(nine, ());
+    let looks = [
+        pointer_again(bare) == bare,
+        is_made_of(bare, nine, ()),
+        is_made_of(BarePtr::invalid(), nine, ()),
+    ];
+    same(&rt, "made again and made of", looks, [true, true, false]);
 }
 
 #[test]
 fn pointers_are_in_order_by_index_first(rt: HostRuntime) {
-    let (old, new, other) = (
-        tool_ptr(&rt, 1, 8),
-        tool_ptr(&rt, 1, 9),
-        tool_ptr(&rt, 2, 8),
-    );
-    same(&rt, "by index", new < other, true);
-    same(&rt, "by generation", old < new, true);
+    let new = tool_ptr(&rt, 1, 9);
+    let order = [new < tool_ptr(&rt, 2, 8), tool_ptr(&rt, 1, 8) < new];
+    same(&rt, "by index and by generation", order, [true; 2]);
 }

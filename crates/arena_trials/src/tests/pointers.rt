@@ -1,44 +1,79 @@
-// Pointer types of the tests.
-use arena_ptr::{Gen8, Inx8, Ptr};
+// Pointer types of the tests: 8 bits of index, with a generation of any type.
+use arena_ptr::{Gen8, Inx8, Ptr, PtrGen};
 use std::fmt;
+use std::process::Abort;
 
-// A pointer of 8 bits of index and 8 bits of generation.
-#[derive(Clone, Copy, PartialEq, Eq, PartialOrd, Ord, Hash)]
-pub(super) struct SmallPtr {
-    inx: Inx8,
-    generation: Gen8,
+// A type of generations that are numbers.
+pub(super) trait Counted: PtrGen {
+    fn of(rt: &impl Abort, n: u8) -> Self;
+
+    fn number(self) -> u8;
 }
 
-impl Ptr for SmallPtr {
+impl Counted for Gen8 {
+    fn of(rt: &impl Abort, n: u8) -> Gen8 {
+        Gen8::new(n).expect(rt, "a generation")
+    }
+
+    fn number(self) -> u8 {
+        self.get()
+    }
+}
+
+impl Counted for () {
+    fn of(_: &impl Abort, _: u8) {}
+
+    fn number(self) -> u8 {
+        0
+    }
+}
+
+// A pointer whose generations are numbers, so that a table can name it.
+pub(super) trait Numbered: Ptr {
+    fn generation_of(rt: &impl Abort, n: u8) -> Self::Gen;
+
+    fn number_of(generation: Self::Gen) -> u8;
+}
+
+#[derive(Clone, Copy, PartialEq, Eq, PartialOrd, Ord, Hash)]
+pub(super) struct Small<G> {
+    inx: Inx8,
+    generation: G,
+}
+
+// 8 bits of generation, and an index alone.
+pub(super) type SmallPtr = Small<Gen8>;
+
+pub(super) type BarePtr = Small<()>;
+
+impl<G: Counted> Ptr for Small<G> {
     ghost use Rattle.std.proofs.Common.{ap, rules};
     ghost use Rattle.std.specs.Prelude.{◌≡◌, ℕ, ◌==◌, true};
     ghost use Rattle.arena_ptr.specs.Indexes.{number_of_inx8, same_inx8, eq_is_same_inx8};
-    ghost use Rattle.arena_ptr.specs.Generations.{number_of_gen8, eq_is_same_gen8};
-    ghost use Rattle.arena_ptr.specs.declared.generation.gen8.Gen8.{Gen8};
 
     type Inx = Inx8;
 
-    type Gen = Gen8;
+    type Gen = G;
 
     ghost key = { λ p. (number_of_inx8 p.inx, p.generation) };
 
     ghost index_within = { λ p. p.inx.in_range };
 
     ghost same_key = { λ p q e.
-        let inx : p.inx ≡ q.inx = same_inx8 p.inx q.inx (ap (λ (k : ℕ × Gen8). k.0) e) in
-        let generation : p.generation ≡ q.generation = ap (λ (k : ℕ × Gen8). k.1) e in
+        let inx : p.inx ≡ q.inx = same_inx8 p.inx q.inx (ap (λ (k : ℕ × G). k.0) e) in
+        let generation : p.generation ≡ q.generation = ap (λ (k : ℕ × G). k.1) e in
         λ i. record { inx = inx i; generation = generation i } };
 
     ghost eq_is_same = { λ p q. (
       λ t.
           let first : (number_of_inx8 p.inx == number_of_inx8 q.inx) ≡ true = Prim.search rules in
-          let second : (number_of_gen8 p.generation == number_of_gen8 q.generation) ≡ true = Prim.search rules in
+          let second : G.eq p.generation q.generation ≡ true = Prim.search rules in
           let inx : p.inx ≡ q.inx = (eq_is_same_inx8 p.inx q.inx).0 first in
-          let generation : p.generation ≡ q.generation = (eq_is_same_gen8 p.generation q.generation).0 second in
+          let generation : p.generation ≡ q.generation = (G.eq_is_same p.generation q.generation).0 second in
           λ i. record { inx = inx i; generation = generation i },
       λ e.
           let first : (number_of_inx8 p.inx == number_of_inx8 q.inx) ≡ true = (eq_is_same_inx8 p.inx q.inx).1 (ap (λ (r : _). r.inx) e) in
-          let second : (number_of_gen8 p.generation == number_of_gen8 q.generation) ≡ true = (eq_is_same_gen8 p.generation q.generation).1 (ap (λ (r : _). r.generation) e) in
+          let second : G.eq p.generation q.generation ≡ true = (G.eq_is_same p.generation q.generation).1 (ap (λ (r : _). r.generation) e) in
           Prim.search rules,
     ) };
 
@@ -47,9 +82,9 @@ impl Ptr for SmallPtr {
     }
 
     fn invalid() -> Self {
-        SmallPtr {
+        Small {
             inx: Inx8::new(1).unwrap(),
-            generation: Gen8::new(1).unwrap(),
+            generation: G::two(),
         }
     }
 
@@ -57,62 +92,28 @@ impl Ptr for SmallPtr {
         self.inx
     }
 
-    fn generation(self) -> Gen8 {
+    fn generation(self) -> G {
         self.generation
     }
 
-    fn _from_raw(inx: Inx8, generation: Gen8) -> Self {
-        SmallPtr { inx, generation }
+    fn _from_raw(inx: Inx8, generation: G) -> Self {
+        Small { inx, generation }
     }
 }
 
-impl fmt::Debug for SmallPtr {
+impl<G: Counted> Numbered for Small<G> {
+    fn generation_of(rt: &impl Abort, n: u8) -> G {
+        G::of(rt, n)
+    }
+
+    fn number_of(generation: G) -> u8 {
+        generation.number()
+    }
+}
+
+impl<G: Counted> fmt::Debug for Small<G> {
     // The index and the generation, as `1.2`.
     fn fmt<W: fmt::Write>(&self, f: &mut fmt::Formatter<W>) -> fmt::Result {
-        write!(f, "{}.{}", self.inx.get(), self.generation.get())
-    }
-}
-
-// A pointer to an index alone.
-#[derive(Clone, Copy, Debug, PartialEq, Eq, PartialOrd, Ord, Hash)]
-pub(super) struct BarePtr {
-    inx: Inx8,
-}
-
-impl Ptr for BarePtr {
-    ghost use Rattle.std.proofs.Common.{ap};
-    ghost use Rattle.std.specs.Prelude.{◌≡◌, ℕ};
-    ghost use Rattle.arena_ptr.specs.Indexes.{number_of_inx8, same_inx8, eq_is_same_inx8};
-
-    type Inx = Inx8;
-
-    type Gen = ();
-
-    ghost key = { λ p. (number_of_inx8 p.inx, tt) };
-
-    ghost index_within = { λ p. p.inx.in_range };
-
-    ghost same_key = { λ p q e. let same : p.inx ≡ q.inx = same_inx8 p.inx q.inx (ap (λ (k : ℕ × Unit {0}). k.0) e) in λ i. record { inx = same i } };
-
-    ghost eq_is_same = { λ p q. (λ t. let same : p.inx ≡ q.inx = (eq_is_same_inx8 p.inx q.inx).0 t in λ i. record { inx = same i }, λ e. (eq_is_same_inx8 p.inx q.inx).1 (ap (λ (r : _). r.inx) e)) };
-
-    fn name() -> &'static str {
-        "Bare"
-    }
-
-    fn invalid() -> Self {
-        BarePtr {
-            inx: Inx8::new(1).unwrap(),
-        }
-    }
-
-    fn inx(self) -> Inx8 {
-        self.inx
-    }
-
-    fn generation(self) {}
-
-    fn _from_raw(inx: Inx8, _generation: ()) -> Self {
-        BarePtr { inx }
+        write!(f, "{}.{}", self.inx.get(), self.generation.number())
     }
 }

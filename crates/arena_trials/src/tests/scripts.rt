@@ -1,13 +1,9 @@
 // Calls of arenas as rows of tables, each with the text of its answer.
-use crate::tests::calls::{check_births, check_trait};
-use crate::tests::copies::copied_hole;
-use crate::tests::entries::{dropped_place, enter};
 use crate::tests::generic::take_all;
-use crate::tests::own::{Own, insert_many};
-use crate::tests::pointers::SmallPtr;
-use crate::tests::tools::{Slots, at, gen8, inx8, same, text};
-use arena_base::{Advancer, Arena, ArenaCloneFromWith, ArenaTrait, Compactor, SlotAccess, Work};
-use arena_ptr::{Gen8, InvalidationOption, Inx8, Ptr, SlotStack};
+use crate::tests::pointers::Numbered;
+use crate::tests::tools::{at, index, same, text};
+use arena_base::{Advancer, ArenaTrait};
+use arena_ptr::{InvalidationOption, Ptr};
 use std::alloc::Global;
 use std::mem;
 use std::process::Abort;
@@ -15,6 +11,8 @@ use std::process::Abort;
 // A call on an arena. A pointer is its index and its generation.
 #[derive(Clone, Copy)]
 pub(super) enum Call {
+    // Whether an arena that is born with room for so many entries is empty, and has the room.
+    Born(usize),
     // Looks of the trait.
     Len,
     IsEmpty,
@@ -69,72 +67,73 @@ pub(super) enum Call {
     // A copy of the entries 1, 2 and 3, of which the second is removed, by a closure that adds the number of its call to
     // ten times each value: how many entries there are, and how many calls there were.
     CopyHole,
-    // Calls of the trait in a row: the births, and those on an arena with the entries 10, 20 and 30 at 1, 2 and 3.
-    Births,
-    EachOfTheTrait,
 }
 
+// A name, and calls with the texts of their answers.
+pub(super) type Script = (&'static str, &'static [(Call, &'static str)]);
+
 // What an arena holds, as its indexes show it.
-fn listed<A: ArenaTrait<SmallPtr, u32>>(
+fn listed<P: Ptr, A: ArenaTrait<P, u32>>(
     rt: &impl Abort,
     alloc: Global,
     arena: &A,
-) -> Vec<(SmallPtr, u32)> {
+) -> Vec<(P, u32)> {
     let mut entries = Vec::new(alloc);
     for n in 1..=u8::MAX {
-        if let Some((generation, t)) = arena.get_inx(inx8(rt, n)) {
-            let p = SmallPtr::_from_raw(inx8(rt, n), generation);
+        if let Some((generation, t)) = arena.get_inx(index(rt, n)) {
+            let p = P::_from_raw(index(rt, n), generation);
             entries.push((p, *t)).expect(rt, "memory");
         }
     }
     entries
 }
 
-fn number(generation: Gen8) -> u8 {
-    generation.get()
+// The generation of an entry as a number, and its value.
+fn numbered<P: Numbered, T: Drop>(entry: Option<(P::Gen, T)>) -> Option<(u8, T)> {
+    match entry {
+        Some((generation, t)) => Some((P::number_of(generation), t)),
+        None => None,
+    }
 }
 
-// The generation and the value of an entry.
-fn numbers((generation, t): (Gen8, u32)) -> (u8, u32) {
-    (generation.get(), t)
-}
-
-fn shared_numbers((generation, t): (Gen8, &u32)) -> (u8, u32) {
-    (generation.get(), *t)
+fn number_of<P: Numbered>(generation: Option<P::Gen>) -> Option<u8> {
+    match generation {
+        Some(generation) => Some(P::number_of(generation)),
+        None => None,
+    }
 }
 
 // Writes a value over another, which it answers.
-fn overwritten(slot: Option<&mut u32>, value: u32) -> Option<u32> {
+pub(super) fn overwritten(slot: Option<&mut u32>, value: u32) -> Option<u32> {
     match slot {
         Some(t) => Some(mem::replace(t, value)),
         None => None,
     }
 }
 
+type Three<P> = (Option<P>, Option<P>, Option<P>);
+
 // The first three answers of an advancer.
-fn thrice<C, A: Advancer<C, Item = SmallPtr>>(
-    mut advancer: A,
-    collection: &C,
-) -> [Option<SmallPtr>; 3] {
-    [
+fn thrice<P: Ptr, C, A: Advancer<C, Item = P>>(mut advancer: A, collection: &C) -> Three<P> {
+    (
         advancer.advance(collection),
         advancer.advance(collection),
         advancer.advance(collection),
-    ]
+    )
 }
 
 // Compresses an arena, adds to each value which call of the closure it was, or writes that alone, and lists what the
 // closure saw.
-fn compressed<A: ArenaTrait<SmallPtr, u32>>(
+fn compressed<P: Ptr, A: ArenaTrait<P, u32>>(
     rt: &impl Abort,
     alloc: Global,
     arena: &mut A,
     reset: bool,
     adds: bool,
-) -> (InvalidationOption<()>, Vec<(SmallPtr, u32, SmallPtr)>) {
+) -> (InvalidationOption<()>, Vec<(P, u32, P)>) {
     let mut seen = Vec::new(alloc);
     let mut calls = 0u32;
-    let answer = arena.compress_with(reset, |from: SmallPtr, t: &mut u32, to: SmallPtr| {
+    let answer = arena.compress_with(reset, |from: P, t: &mut u32, to: P| {
         seen.push((from, *t, to)).expect(rt, "memory");
         calls = calls.saturating_add(1);
         *t = if adds { t.saturating_add(calls) } else { calls };
@@ -142,12 +141,24 @@ fn compressed<A: ArenaTrait<SmallPtr, u32>>(
     (answer, seen)
 }
 
-// The answer to a call of the trait.
-fn trait_answer<A: ArenaTrait<SmallPtr, u32>>(
+// The pointer that a call names, as two numbers. Of an index alone, and where it names none, the generation is two.
+fn named(call: Call) -> (u8, u8) {
+    match call {
+        Call::Contains(i, g) | Call::Get(i, g) | Call::Write(i, g, _) => (i, g),
+        Call::Invalidate(i, g) | Call::Remove(i, g) => (i, g),
+        Call::GetInx(i) | Call::AdvanceFrom(i, _) => (i, 2),
+        Call::WriteInx(i, _) | Call::RemoveInx(i) => (i, 2),
+        _ => (1, 2),
+    }
+}
+
+// The answer to a look of the trait, ...
+fn look_answer<P: Numbered, A: ArenaTrait<P, u32>>(
     rt: &impl Abort,
     alloc: Global,
-    arena: &mut A,
+    arena: &A,
     call: Call,
+    p: P,
 ) -> String {
     match call {
         Call::Len => text(rt, alloc, arena.len()),
@@ -155,37 +166,49 @@ fn trait_answer<A: ArenaTrait<SmallPtr, u32>>(
         Call::Capacity => text(rt, alloc, arena.capacity()),
         Call::HasRoom(n) => text(rt, alloc, arena.capacity() >= n),
         Call::Maximum => text(rt, alloc, arena.max_capacity()),
-        Call::Counter => text(rt, alloc, arena.singular_generation().map(number)),
-        Call::Contains(i, g) => text(rt, alloc, arena.contains(at(rt, i, g))),
-        Call::Get(i, g) => text(rt, alloc, arena.get(at(rt, i, g))),
-        Call::GetInx(i) => text(rt, alloc, arena.get_inx(inx8(rt, i)).map(shared_numbers)),
+        Call::Counter => text(rt, alloc, number_of::<P>(arena.singular_generation())),
+        Call::Contains(..) => text(rt, alloc, arena.contains(p)),
+        Call::Get(..) => text(rt, alloc, arena.get(p)),
+        Call::GetInx(_) => text(rt, alloc, numbered::<P, &u32>(arena.get_inx(p.inx()))),
         Call::First => text(rt, alloc, arena.find_first_inx_ptr()),
         Call::Last => text(rt, alloc, arena.find_last_inx_ptr()),
         Call::Advance => text(rt, alloc, arena.advancer().advance(arena)),
-        Call::AdvanceFrom(i, rev) => {
-            let advancer = arena.advancer_inx(inx8(rt, i), rev);
-            text(rt, alloc, thrice(advancer, arena))
+        Call::AdvanceFrom(_, rev) => {
+            text(rt, alloc, thrice(arena.advancer_inx(p.inx(), rev), arena))
         }
         Call::AdvanceEmpty => text(rt, alloc, A::PtrAdvancer::empty().advance(arena)),
         Call::Held => text(rt, alloc, listed(rt, alloc, arena)),
-        Call::Write(i, g, value) => {
-            text(rt, alloc, overwritten(arena.get_mut(at(rt, i, g)), value))
+        _ => text(rt, alloc, "no call of the trait"),
+    }
+}
+
+// Whether an arena that is born with room for so many entries is empty, and has the room.
+fn born<P: Ptr, A: ArenaTrait<P, u32> + Drop>(alloc: Global, n: usize) -> Option<(bool, bool)> {
+    match A::with_min_capacity(alloc, n) {
+        Ok(arena) => Some((arena.is_empty(), arena.capacity() >= n)),
+        Err(_) => None,
+    }
+}
+
+// .. or to a change, ...
+fn change_answer<P: Numbered, A: ArenaTrait<P, u32> + Drop>(
+    rt: &impl Abort,
+    alloc: Global,
+    arena: &mut A,
+    call: Call,
+    p: P,
+) -> String {
+    match call {
+        Call::Born(n) => text(rt, alloc, born::<P, A>(alloc, n)),
+        Call::Write(_, _, value) => text(rt, alloc, overwritten(arena.get_mut(p), value)),
+        Call::WriteInx(_, value) => {
+            text(rt, alloc, overwritten(arena.get_inx_mut(p.inx()), value))
         }
-        Call::WriteInx(i, value) => {
-            text(
-                rt,
-                alloc,
-                overwritten(arena.get_inx_mut(inx8(rt, i)), value),
-            )
-        }
-        Call::Invalidate(i, g) => text(rt, alloc, arena.invalidate(at(rt, i, g))),
-        Call::Remove(i, g) => text(rt, alloc, arena.remove(at(rt, i, g))),
-        Call::RemoveInx(i) => {
-            text(
-                rt,
-                alloc,
-                arena.remove_inx(inx8(rt, i)).allow().map(numbers),
-            )
+        Call::Invalidate(..) => text(rt, alloc, arena.invalidate(p)),
+        Call::Remove(..) => text(rt, alloc, arena.remove(p)),
+        Call::RemoveInx(_) => {
+            let removed = arena.remove_inx(p.inx()).allow();
+            text(rt, alloc, numbered::<P, u32>(removed))
         }
         Call::Clear => text(rt, alloc, arena.clear()),
         Call::Compress(reset) => text(rt, alloc, arena.compress(reset)),
@@ -193,116 +216,19 @@ fn trait_answer<A: ArenaTrait<SmallPtr, u32>>(
         Call::NumberValues(reset) => text(rt, alloc, compressed(rt, alloc, arena, reset, false)),
         Call::Reserve(n) => text(rt, alloc, arena.reallocate_min_capacity(n)),
         Call::TakeAll => text(rt, alloc, take_all(alloc, arena)),
-        _ => text(rt, alloc, "no call of the trait"),
+        other => look_answer(rt, alloc, arena, other, p),
     }
 }
 
-// The answer to an insertion, to a copy, or to a call of the trait.
-fn own_answer<A: Own<SmallPtr, u32> + ArenaCloneFromWith<SmallPtr, u32> + Drop>(
+// .. the pointer of which is named.
+pub(super) fn trait_answer<P: Numbered, A: ArenaTrait<P, u32> + Drop>(
     rt: &impl Abort,
     alloc: Global,
     arena: &mut A,
     call: Call,
 ) -> String {
-    match call {
-        Call::Insert(value) => text(rt, alloc, arena.add(value)),
-        Call::InsertMany(n) => text(rt, alloc, insert_many(arena, 0, n)),
-        Call::InsertWithin(value) => text(rt, alloc, arena.add_within(value)),
-        Call::CopyHole => text(rt, alloc, copied_hole(rt, alloc, arena)),
-        Call::Births => text(rt, alloc, check_births::<A>(rt, alloc)),
-        Call::EachOfTheTrait => text(rt, alloc, check_trait(rt, alloc, arena)),
-        other => trait_answer(rt, alloc, arena, other),
-    }
-}
-
-// What an arena holds, as its iterator goes over it.
-fn iterated<S: SlotStack<Item = Slots>>(
-    rt: &impl Abort,
-    alloc: Global,
-    arena: &Arena<SmallPtr, u32, S>,
-) -> Vec<(SmallPtr, u32)> {
-    let mut entries = Vec::new(alloc);
-    for (p, t) in arena {
-        entries.push((p, *t)).expect(rt, "memory");
-    }
-    entries
-}
-
-// What is taken out of an arena that is used up. A new one is left.
-fn drained<S: SlotStack<Item = Slots>>(
-    rt: &impl Abort,
-    alloc: Global,
-    arena: &mut Arena<SmallPtr, u32, S>,
-) -> Vec<(SmallPtr, u32)> {
-    let mut entries = Vec::new(alloc);
-    for entry in mem::replace(arena, Arena::new(alloc)) {
-        entries.push(entry).expect(rt, "memory");
-    }
-    entries
-}
-
-// Moves an entry within the slots, and tells whether one stands there.
-fn moves<S: SlotStack<Item = Slots>>(
-    compactor: &mut Compactor<'_, SmallPtr, u32, S>,
-    from: Inx8,
-    to: Inx8,
-    generation: Gen8,
-) -> bool {
-    let count = compactor.slots();
-    if from.get() as usize > count || to.get() as usize > count {
-        return false;
-    }
-    if compactor.peek(from).is_none() {
-        return false;
-    }
-    compactor.place(from, to, generation);
-    true
-}
-
-// The number of slots, whether an entry was moved, and what was counted.
-fn moved<S: SlotStack<Item = Slots>>(
-    arena: &mut Arena<SmallPtr, u32, S>,
-    from: Inx8,
-    to: Inx8,
-    generation: Gen8,
-) -> (usize, bool, Work) {
-    let mut compactor = arena.compactor();
-    let slots = compactor.slots();
-    let done = moves(&mut compactor, from, to, generation);
-    (slots, done, compactor.finish())
-}
-
-// The value that a compactor shows at an index.
-fn peeked<C: SlotAccess<SmallPtr, u32>>(compactor: &mut C, i: Inx8) -> Option<u32> {
-    match compactor.peek(i) {
-        Some((_, t)) => Some(*t),
-        None => None,
-    }
-}
-
-// The values that a compactor shows at two indexes, and that which it overwrites at the first.
-fn shown<C: SlotAccess<SmallPtr, u32>>(
-    compactor: &mut C,
-    i: Inx8,
-    other: Inx8,
-    value: u32,
-) -> [Option<u32>; 3] {
-    let first = peeked(compactor, i);
-    let beside = peeked(compactor, other);
-    let was = overwritten(compactor.value_mut(i), value);
-    [first, beside, was]
-}
-
-// What a compactor shows and overwrites, and what was counted.
-fn rewritten<S: SlotStack<Item = Slots>>(
-    arena: &mut Arena<SmallPtr, u32, S>,
-    i: Inx8,
-    other: Inx8,
-    value: u32,
-) -> ([Option<u32>; 3], Work) {
-    let mut compactor = arena.compactor();
-    let values = shown(&mut compactor, i, other, value);
-    (values, compactor.finish())
+    let (i, g) = named(call);
+    change_answer(rt, alloc, arena, call, at(rt, i, g))
 }
 
 // An arena that answers calls.
@@ -310,56 +236,6 @@ pub(super) trait Answers {
     fn fresh(alloc: Global) -> Self;
 
     fn answer(&mut self, rt: &impl Abort, alloc: Global, call: Call) -> String;
-}
-
-impl<S: SlotStack<Item = Slots>> Answers for Arena<SmallPtr, u32, S> {
-    fn fresh(alloc: Global) -> Self {
-        Arena::new(alloc)
-    }
-
-    fn answer(&mut self, rt: &impl Abort, alloc: Global, call: Call) -> String {
-        match call {
-            Call::Enter(value) => text(rt, alloc, enter(self, value)),
-            Call::DropPlace(by_hand) => text(rt, alloc, dropped_place(self, by_hand)),
-            Call::Generation => text(rt, alloc, self.generation().get()),
-            Call::SetGeneration(g) => text(rt, alloc, self.set_generation(gen8(rt, g))),
-            Call::IncGeneration => text(rt, alloc, self.inc_generation()),
-            Call::Slots => text(rt, alloc, self.backing().len()),
-            Call::Entries => text(rt, alloc, iterated(rt, alloc, self)),
-            Call::Drain => text(rt, alloc, drained(rt, alloc, self)),
-            Call::Move(from, to, g) => {
-                text(
-                    rt,
-                    alloc,
-                    moved(self, inx8(rt, from), inx8(rt, to), gen8(rt, g)),
-                )
-            }
-            Call::Rewrite(i, other, value) => {
-                text(
-                    rt,
-                    alloc,
-                    rewritten(self, inx8(rt, i), inx8(rt, other), value),
-                )
-            }
-            Call::DropCompactor => text(rt, alloc, drop(self.compactor())),
-            Call::ForgetCompactor => text(rt, alloc, mem::forget(self.compactor())),
-            other => own_answer(rt, alloc, self, other),
-        }
-    }
-}
-
-// Each call of the trait answers its text.
-pub(super) fn asks<A: ArenaTrait<SmallPtr, u32>>(
-    rt: &impl Abort,
-    alloc: Global,
-    name: &str,
-    arena: &mut A,
-    rows: &[(Call, &str)],
-) {
-    for (call, want) in rows {
-        let got = trait_answer(rt, alloc, arena, *call);
-        same(rt, name, got.as_str(), *want);
-    }
 }
 
 // Each call answers its text.
@@ -377,11 +253,7 @@ pub(super) fn runs<A: Answers>(
 }
 
 // Of each script, each call answers its text. It begins with a new arena.
-pub(super) fn plays<A: Answers + Drop>(
-    rt: &impl Abort,
-    alloc: Global,
-    scripts: &[(&str, &[(Call, &str)])],
-) {
+pub(super) fn plays<A: Answers + Drop>(rt: &impl Abort, alloc: Global, scripts: &[Script]) {
     for (name, rows) in scripts {
         let mut arena = A::fresh(alloc);
         runs(rt, alloc, name, &mut arena, rows);

@@ -1,6 +1,5 @@
 // Slot stacks through their bounds: filled, refused, edited, limited.
 ghost use Rattle.std.specs.Prelude.{◌≡◌, ◌+◌, ◌<◌, ◌↔◌, [], ◌∷◌, ◌++◌, length, IsErr, IsOk, OnOk, OnErr, OnSome, IfNone, Err, Some, slice_get, slice_set};
-ghost use Rattle.std.specs.Borrow.{Lends, sem};
 ghost use Rattle.arena_ptr.specs.SlotStack.{IsBeyond};
 
 use crate::tests::tools::{same, text};
@@ -39,18 +38,6 @@ fn replace<E: Drop, S: SlotStack<Item = E>>(stack: &mut S, i: usize, item: E) ->
     match stack.get_mut(i) {
         Some(slot) => Some(mem::replace(slot, item)),
         None => None,
-    }
-}
-
-// The slot at a position within the length, for writing.
-fn slot_mut<E: Drop, S: SlotStack<Item = E>>(stack: &mut S, i: usize) -> &mut E
-    requires { i < length (S.items stack.old) }
-    ensures* lends { sem 𝓛 (Lends S.row E.row stack.entry result (S.with_item stack.old i)) }
-    ensures value { slice_get (S.items stack.old) i ≡ Some result.now }
-{
-    match stack.get_mut(i) {
-        Some(slot) => slot,
-        None => unreachable!(),
     }
 }
 
@@ -176,21 +163,10 @@ impl<S: LimitStack> LimitStack for Rationed<S> {
 // A call on a stack of numbers.
 #[derive(Clone, Copy)]
 enum Call {
-    // Pushes the numbers from 0 on, as many.
+    // Pushes the numbers from 0 on, at most as many, until one is refused.
     Fill(u32),
     Push(u32),
     Reserve(usize),
-    Limit(usize),
-}
-
-// What a call answers.
-#[derive(Clone, Copy, Debug)]
-enum Answer {
-    Done,
-    Grown,
-    NoMemory,
-    BeyondMaximum,
-    BelowCapacity,
 }
 
 // The length, the capacity and the maximum.
@@ -208,50 +184,60 @@ fn held<S: SlotStack<Item = u32>>(rt: &impl Abort, alloc: Global, stack: &S) -> 
     items
 }
 
-// Appends the numbers from 0 on, `n` of them, and counts the growths.
-fn fill<S: SlotStack<Item = u32>>(rt: &impl Abort, stack: &mut S, n: u32) -> u64 {
+// Appends the numbers from 0 on, at most `n` of them, until one is refused, and counts the growths.
+fn fill<S: SlotStack<Item = u32>>(stack: &mut S, n: u32) -> u64 {
     let mut growths = 0u64;
     for k in 0..n {
-        if push(stack, k).ok().expect(rt, "room") {
-            growths = growths.saturating_add(1);
+        match push(stack, k) {
+            Ok(true) => growths = growths.saturating_add(1),
+            Ok(false) => {}
+            Err(_) => break,
         }
     }
     growths
 }
 
-fn answer_to<S: LimitStack<Item = u32>>(rt: &impl Abort, stack: &mut S, call: Call) -> Answer {
+// Whether the stack grew, or why it did not.
+fn answer_to<S: SlotStack<Item = u32>>(
+    stack: &mut S,
+    call: Call,
+) -> Result<bool, ReallocationError> {
     match call {
-        Call::Fill(n) => {
-            fill(rt, stack, n);
-            Answer::Done
+        Call::Fill(n) => Ok(fill(stack, n) > 0),
+        Call::Push(item) => push(stack, item),
+        Call::Reserve(n) => {
+            let capacity = stack.capacity();
+            match stack.reserve_to(n) {
+                Ok(()) => Ok(stack.capacity() > capacity),
+                Err(error) => Err(error),
+            }
         }
-        Call::Push(item) => match push(stack, item) {
-            Ok(true) => Answer::Grown,
-            Ok(false) => Answer::Done,
-            Err(ReallocationError::AllocError) => Answer::NoMemory,
-            Err(ReallocationError::BeyondMaxCapacity) => Answer::BeyondMaximum,
-        },
-        Call::Reserve(n) => match stack.reserve_to(n) {
-            Ok(()) => Answer::Done,
-            Err(ReallocationError::AllocError) => Answer::NoMemory,
-            Err(ReallocationError::BeyondMaxCapacity) => Answer::BeyondMaximum,
-        },
-        Call::Limit(n) => match limit(stack, n) {
-            Ok(()) => Answer::Done,
-            Err(MaxCapacityReductionError) => Answer::BelowCapacity,
-        },
     }
 }
 
 // Each call answers, and leaves the length, the capacity, the maximum and the items, as its text tells.
-fn runs<S: LimitStack<Item = u32>>(
+fn runs<S: SlotStack<Item = u32>>(
     rt: &impl Abort,
     alloc: Global,
     stack: &mut S,
     rows: &[(Call, &str)],
 ) {
     for (call, want) in rows {
-        let answer = answer_to(rt, stack, *call);
+        let answer = answer_to(stack, *call);
+        let after = text(rt, alloc, (answer, shape(stack), held(rt, alloc, stack)));
+        same(rt, want, after.as_str(), *want);
+    }
+}
+
+// Each maximum is set or refused, and leaves as much as its text tells.
+fn limits<S: LimitStack<Item = u32>>(
+    rt: &impl Abort,
+    alloc: Global,
+    stack: &mut S,
+    rows: &[(usize, &str)],
+) {
+    for (most, want) in rows {
+        let answer = limit(stack, *most);
         let after = text(rt, alloc, (answer, shape(stack), held(rt, alloc, stack)));
         same(rt, want, after.as_str(), *want);
     }
@@ -262,128 +248,125 @@ fn edit<S: SlotStack<Item = u32>>(rt: &impl Abort, stack: &mut S) {
     assert!(rt; stack.len() == 1000);
     stack.swap(0, 999);
     stack.swap(2, 2);
-    *slot_mut(stack, 3) = 80;
+    replace(stack, 3, 80);
     stack.truncate(4);
     stack.truncate(4);
 }
 
-// A stack of a thousand numbers, read at its end and beyond.
-fn check_ends<S: SlotStack<Item = u32>>(rt: &impl Abort, alloc: Global) {
-    let mut stack = S::new(alloc);
-    fill(rt, &mut stack, 1000);
-    let last = (stack.get(999).copied(), stack.get(1000).copied());
-    same(rt, "the last", last, (Some(999), None));
-    same(rt, "none beyond", stack.get_mut(1000).is_none(), true);
-}
-
-// A stack that is filled, read and edited.
+// A stack that is filled, read at its end and beyond, and edited.
 fn check_edits<S: SlotStack<Item = u32>>(rt: &impl Abort, alloc: Global) {
     let mut stack = S::new(alloc);
-    same(rt, "new", shape(&stack), (0, 0, None));
-    same(rt, "nothing", stack.get(0).copied(), None);
+    let new = (shape(&stack), stack.get(0).copied());
+    same(rt, "new", new, ((0, 0, None), None));
     // Each growth at least doubles the capacity: 1, 2, 4, .. 1024.
-    same(rt, "few growths", fill(rt, &mut stack, 1000) <= 11, true);
+    same(rt, "few growths", fill(&mut stack, 1000) <= 11, true);
     let capacity = stack.capacity();
-    for (i, was) in [(1, Some(1)), (1000, None)] {
-        same(rt, "replaced", replace(&mut stack, i, 70), was);
-    }
+    let last = [stack.get(999).copied(), stack.get(1000).copied()];
+    let was = [replace(&mut stack, 1, 70), replace(&mut stack, 1000, 70)];
+    let both = ([Some(999), None], [Some(1), None]);
+    same(rt, "the last and the replaced", (last, was), both);
     edit(rt, &mut stack);
-    same(
-        rt,
-        "left",
-        held(rt, alloc, &stack).as_slice(),
-        [999, 70, 2, 80].as_slice(),
-    );
-    same(rt, "as much room", shape(&stack), (4, capacity, None));
+    let left = held(rt, alloc, &stack);
+    same(rt, "left", left.as_slice(), [999, 70, 2, 80].as_slice());
+    let room = shape(&stack);
     stack.truncate(0);
-    same(rt, "emptied", shape(&stack), (0, capacity, None));
+    let kept = ((4, capacity, None), (0, capacity, None));
+    same(rt, "as much room", (room, shape(&stack)), kept);
 }
 
 // A growth that goes far beyond twice the capacity.
-fn check_far_growth<S: SlotStack<Item = u32>>(rt: &impl Abort, alloc: Global) {
-    let mut stack = S::new(alloc);
-    fill(rt, &mut stack, 1);
-    same(rt, "room for one", shape(&stack), (1, 1, None));
-    let grown = stack.reserve_to(100).is_ok() && stack.capacity() >= 100;
-    same(rt, "room for a hundred", (grown, stack.len()), (true, 1));
-}
+const FAR_GROWTH: [(Call, &str); 2] = [
+    (Call::Fill(1), "(Ok(true), (1, 1, None), [0])"),
+    (Call::Reserve(100), "(Ok(true), (1, 100, None), [0])"),
+];
 
 // A reservation that no block can hold changes nothing.
-fn check_refused_memory<S: SlotStack<Item = u32>>(rt: &impl Abort, alloc: Global, stack: &mut S) {
-    fill(rt, stack, 3);
-    let before = shape(stack);
-    let refused = stack.reserve_to(usize::MAX);
-    same(rt, "refused", refused, Err(ReallocationError::AllocError));
-    same(rt, "unchanged", shape(stack), before);
-    same(
-        rt,
-        "held still",
-        held(rt, alloc, stack).as_slice(),
-        [0, 1, 2].as_slice(),
-    );
-    let grown = stack.reserve_to(5).is_ok() && stack.capacity() >= 5;
-    same(rt, "grown", (grown, stack.len()), (true, 3));
-}
+const REFUSED_MEMORY: [(Call, &str); 3] = [
+    (Call::Fill(3), "(Ok(true), (3, 4, None), [0, 1, 2])"),
+    (
+        Call::Reserve(usize::MAX),
+        "(Err(AllocError), (3, 4, None), [0, 1, 2])",
+    ),
+    (Call::Reserve(5), "(Ok(true), (3, 8, None), [0, 1, 2])"),
+];
 
-// A stack with a maximum, which is tested before memory is asked for.
+// .. nor does it under the greatest maximum.
+const WIDE: [(Call, &str); 3] = [
+    (
+        Call::Fill(3),
+        "(Ok(true), (3, 4, Some(18446744073709551615)), [0, 1, 2])",
+    ),
+    (
+        Call::Reserve(usize::MAX),
+        "(Err(AllocError), (3, 4, Some(18446744073709551615)), [0, 1, 2])",
+    ),
+    (
+        Call::Reserve(5),
+        "(Ok(true), (3, 8, Some(18446744073709551615)), [0, 1, 2])",
+    ),
+];
+
+// A maximum of five is tested before memory is asked for, ...
+const UP_TO_FIVE: [(Call, &str); 5] = [
+    (
+        Call::Fill(5),
+        "(Ok(true), (5, 5, Some(5)), [0, 1, 2, 3, 4])",
+    ),
+    (
+        Call::Reserve(6),
+        "(Err(BeyondMaxCapacity), (5, 5, Some(5)), [0, 1, 2, 3, 4])",
+    ),
+    (
+        Call::Reserve(usize::MAX),
+        "(Err(BeyondMaxCapacity), (5, 5, Some(5)), [0, 1, 2, 3, 4])",
+    ),
+    (
+        Call::Push(5),
+        "(Err(BeyondMaxCapacity), (5, 5, Some(5)), [0, 1, 2, 3, 4])",
+    ),
+    (
+        Call::Reserve(5),
+        "(Ok(false), (5, 5, Some(5)), [0, 1, 2, 3, 4])",
+    ),
+];
+
+// .. is not set below the capacity, ...
+const NOT_BELOW: [(usize, &str); 3] = [
+    (
+        4,
+        "(Err(MaxCapacityReductionError), (5, 5, Some(5)), [0, 1, 2, 3, 4])",
+    ),
+    (5, "(Ok(()), (5, 5, Some(5)), [0, 1, 2, 3, 4])"),
+    (7, "(Ok(()), (5, 5, Some(7)), [0, 1, 2, 3, 4])"),
+];
+
+// .. and gives room for two more where it is seven.
+const UP_TO_SEVEN: [(Call, &str); 3] = [
+    (
+        Call::Push(5),
+        "(Ok(true), (6, 7, Some(7)), [0, 1, 2, 3, 4, 5])",
+    ),
+    (
+        Call::Push(6),
+        "(Ok(false), (7, 7, Some(7)), [0, 1, 2, 3, 4, 5, 6])",
+    ),
+    (
+        Call::Push(7),
+        "(Err(BeyondMaxCapacity), (7, 7, Some(7)), [0, 1, 2, 3, 4, 5, 6])",
+    ),
+];
+
+// A stack with a maximum, which is raised.
 fn check_maximum<S: LimitStack<Item = u32>>(rt: &impl Abort, alloc: Global, stack: &mut S) {
-    runs(
-        rt,
-        alloc,
-        stack,
-        &[
-            (Call::Limit(5), "(Done, (0, 0, Some(5)), [])"),
-            (Call::Fill(5), "(Done, (5, 5, Some(5)), [0, 1, 2, 3, 4])"),
-            (
-                Call::Reserve(6),
-                "(BeyondMaximum, (5, 5, Some(5)), [0, 1, 2, 3, 4])",
-            ),
-            (
-                Call::Reserve(usize::MAX),
-                "(BeyondMaximum, (5, 5, Some(5)), [0, 1, 2, 3, 4])",
-            ),
-            (
-                Call::Push(5),
-                "(BeyondMaximum, (5, 5, Some(5)), [0, 1, 2, 3, 4])",
-            ),
-            (Call::Reserve(5), "(Done, (5, 5, Some(5)), [0, 1, 2, 3, 4])"),
-            (
-                Call::Limit(4),
-                "(BelowCapacity, (5, 5, Some(5)), [0, 1, 2, 3, 4])",
-            ),
-            (Call::Limit(5), "(Done, (5, 5, Some(5)), [0, 1, 2, 3, 4])"),
-            (Call::Limit(7), "(Done, (5, 5, Some(7)), [0, 1, 2, 3, 4])"),
-            (
-                Call::Push(5),
-                "(Grown, (6, 7, Some(7)), [0, 1, 2, 3, 4, 5])",
-            ),
-            (
-                Call::Push(6),
-                "(Done, (7, 7, Some(7)), [0, 1, 2, 3, 4, 5, 6])",
-            ),
-            (
-                Call::Push(7),
-                "(BeyondMaximum, (7, 7, Some(7)), [0, 1, 2, 3, 4, 5, 6])",
-            ),
-            (
-                Call::Limit(100),
-                "(Done, (7, 7, Some(100)), [0, 1, 2, 3, 4, 5, 6])",
-            ),
-            (
-                Call::Reserve(100),
-                "(Done, (7, 100, Some(100)), [0, 1, 2, 3, 4, 5, 6])",
-            ),
-        ],
-    );
-}
-
-// Appends the numbers from 0 on, at most a hundred, until one is refused.
-fn push_until_refused<S: SlotStack<Item = u32>>(stack: &mut S) {
-    for k in 0..100 {
-        if push(stack, k).is_err() {
-            break;
-        }
-    }
+    let none = [(5, "(Ok(()), (0, 0, Some(5)), [])")];
+    limits(rt, alloc, stack, &none);
+    runs(rt, alloc, stack, &UP_TO_FIVE);
+    limits(rt, alloc, stack, &NOT_BELOW);
+    runs(rt, alloc, stack, &UP_TO_SEVEN);
+    let items = "(Ok(()), (7, 7, Some(100)), [0, 1, 2, 3, 4, 5, 6])";
+    limits(rt, alloc, stack, &[(100, items)]);
+    let room = "(Ok(true), (7, 100, Some(100)), [0, 1, 2, 3, 4, 5, 6])";
+    runs(rt, alloc, stack, &[(Call::Reserve(100), room)]);
 }
 
 // Capacities 0, 1, 2 and 4, each of them used up before the refusal.
@@ -398,7 +381,7 @@ fn check_growths<S: SlotStack<Item = u32>>(rt: &impl Abort, alloc: Global) {
             inner: S::new(alloc),
             ration,
         };
-        push_until_refused(&mut stack);
+        fill(&mut stack, 100);
         let left = text(rt, alloc, (shape(&stack), held(rt, alloc, &stack)));
         same(rt, want, left.as_str(), want);
     }
@@ -429,25 +412,28 @@ fn check_limits<S: LimitStack<Item = u32>>(rt: &impl Abort, alloc: Global) {
     };
     check_maximum(rt, alloc, &mut rationed);
     let mut wide = S::new(alloc);
-    same(rt, "a maximum", limit(&mut wide, usize::MAX), Ok(()));
-    check_refused_memory(rt, alloc, &mut wide);
-    runs(
+    let greatest = [(
+        usize::MAX,
+        "(Ok(()), (0, 0, Some(18446744073709551615)), [])",
+    )];
+    limits(rt, alloc, &mut wide, &greatest);
+    runs(rt, alloc, &mut wide, &WIDE);
+    let mut never = S::new(alloc);
+    limits(
         rt,
         alloc,
-        &mut S::new(alloc),
-        &[
-            (Call::Limit(0), "(Done, (0, 0, Some(0)), [])"),
-            (Call::Push(1), "(BeyondMaximum, (0, 0, Some(0)), [])"),
-        ],
+        &mut never,
+        &[(0, "(Ok(()), (0, 0, Some(0)), [])")],
     );
+    let refused = "(Err(BeyondMaxCapacity), (0, 0, Some(0)), [])";
+    runs(rt, alloc, &mut never, &[(Call::Push(1), refused)]);
 }
 
 // A stack that holds a list.
 fn check_list<S: SlotStack<Item = u32>>(rt: &impl Abort, alloc: Global) {
     check_edits::<S>(rt, alloc);
-    check_ends::<S>(rt, alloc);
-    check_far_growth::<S>(rt, alloc);
-    check_refused_memory(rt, alloc, &mut S::new(alloc));
+    runs(rt, alloc, &mut S::new(alloc), &FAR_GROWTH);
+    runs(rt, alloc, &mut S::new(alloc), &REFUSED_MEMORY);
 }
 
 #[test]

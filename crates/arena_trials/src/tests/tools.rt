@@ -1,12 +1,12 @@
 // What the tests share: one comparison, texts of answers, and what has to be there.
-use crate::tests::pointers::SmallPtr;
+use crate::tests::pointers::Numbered;
 use arena_base::ArenaSlot;
-use arena_ptr::{Gen8, Gen32, Gen64, Inx8, Inx32, Inx64, Ptr};
+use arena_ptr::{Gen8, Gen32, Gen64, Inx8, Inx32, Inx64, PtrInx};
 use std::alloc::Global;
 use std::fmt::Debug;
 use std::process::Abort;
 
-pub(super) type Slots = ArenaSlot<SmallPtr, u32>;
+pub(super) type Slot<P> = ArenaSlot<P, u32>;
 
 pub(super) fn same<T: PartialEq + Debug + Drop>(rt: &impl Abort, what: &str, got: T, want: T) {
     assert_eq!(rt; got, want, "{what}");
@@ -41,7 +41,12 @@ pub(super) fn gen64(rt: &impl Abort, n: u64) -> Gen64 {
     Gen64::new(n).expect(rt, "a generation")
 }
 
+// An index of any type.
+pub(super) fn index<I: PtrInx>(rt: &impl Abort, n: u8) -> I {
+    I::try_from_usize(n as usize).expect(rt, "an index")
+}
+
 // The pointer of two numbers.
-pub(super) fn at(rt: &impl Abort, inx: u8, generation: u8) -> SmallPtr {
-    SmallPtr::_from_raw(inx8(rt, inx), gen8(rt, generation))
+pub(super) fn at<P: Numbered>(rt: &impl Abort, inx: u8, generation: u8) -> P {
+    P::_from_raw(index(rt, inx), P::generation_of(rt, generation))
 }
