@@ -22,8 +22,7 @@ struct HandsOn<P, A> {
 }
 
 impl<P: Numbered, A: ChainArenaTrait<P, u32> + CompactArenaTrait<P, u32> + Drop> Answers
-    for HandsOn<P, A>
-{
+    for HandsOn<P, A> {
     fn fresh(alloc: Global) -> Self {
         HandsOn {
             arena: Wrapped::<A>::new(alloc),
