@@ -96,6 +96,7 @@ fn numbered<P: Numbered, T: Drop>(entry: Option<(P::Gen, T)>) -> Option<(u8, T)>
     }
 }
 
+// A generation as a number, where there is one.
 fn number_of<P: Numbered>(generation: Option<P::Gen>) -> Option<u8> {
     match generation {
         Some(generation) => Some(P::number_of(generation)),
@@ -111,6 +112,7 @@ pub(super) fn overwritten(slot: Option<&mut u32>, value: u32) -> Option<u32> {
     }
 }
 
+// Three answers of an advancer.
 type Three<P> = (Option<P>, Option<P>, Option<P>);
 
 // The first three answers of an advancer.
