@@ -35,7 +35,7 @@ pub(super) fn copied_hole<P: Numbered, S: SlotStack<Item = Slot<P>>>(
     alloc: Global,
     arena: &mut Arena<P, u32, S>,
 ) -> (Result<usize, ReallocationError>, u32) {
-    let source: Arena<P, u32, S> = with_a_hole(rt, alloc);
+    let source: Arena<P, u32> = with_a_hole(rt, alloc);
     let mut calls = 0u32;
     let copied = arena.clone_from_with(&source, |_p: P, t: &u32| {
         calls = calls.saturating_add(1);

@@ -3,7 +3,7 @@ use crate::tests::generic::take_all;
 use crate::tests::pointers::Numbered;
 use crate::tests::tools::{at, index, same, text};
 use arena_base::{Advancer, ArenaTrait};
-use arena_ptr::{InvalidationOption, Ptr};
+use arena_ptr::{InvalidationOption, Ptr, ReallocationError};
 use std::alloc::Global;
 use std::mem;
 use std::process::Abort;
@@ -38,6 +38,8 @@ pub(super) enum Call {
     Remove(u8, u8),
     RemoveInx(u8),
     Clear,
+    // A clear, after which there is asked for as much room as there was: both answers, and whether the capacity stays.
+    ClearInRoom,
     // A compression, and one by a closure that adds the number of its call to each value, or writes it over each value:
     // its answer, and what it saw.
     Compress(bool),
@@ -192,6 +194,16 @@ fn born<P: Ptr, A: ArenaTrait<P, u32> + Drop>(alloc: Global, n: usize) -> Option
     }
 }
 
+// Clears an arena, and asks for as much room as there was. Tells both answers, and whether the capacity stays.
+fn cleared<P: Ptr, A: ArenaTrait<P, u32>>(
+    arena: &mut A,
+) -> (InvalidationOption<()>, Result<(), ReallocationError>, bool) {
+    let capacity = arena.capacity();
+    let answer = arena.clear();
+    let again = arena.reallocate_min_capacity(capacity);
+    (answer, again, arena.capacity() == capacity)
+}
+
 // .. or to a change, ...
 fn change_answer<P: Numbered, A: ArenaTrait<P, u32> + Drop>(
     rt: &impl Abort,
@@ -213,6 +225,7 @@ fn change_answer<P: Numbered, A: ArenaTrait<P, u32> + Drop>(
             text(rt, alloc, numbered::<P, u32>(removed))
         }
         Call::Clear => text(rt, alloc, arena.clear()),
+        Call::ClearInRoom => text(rt, alloc, cleared(arena)),
         Call::Compress(reset) => text(rt, alloc, arena.compress(reset)),
         Call::CompressWith(reset) => text(rt, alloc, compressed(rt, alloc, arena, reset, true)),
         Call::NumberValues(reset) => text(rt, alloc, compressed(rt, alloc, arena, reset, false)),

@@ -1,5 +1,6 @@
 // Slot stacks through their bounds: filled, refused, edited, limited.
 ghost use Rattle.std.specs.Prelude.{◌≡◌, ◌+◌, ◌<◌, ◌↔◌, [], ◌∷◌, ◌++◌, length, IsErr, IsOk, OnOk, OnErr, OnSome, IfNone, Err, Some, slice_get, slice_set};
+ghost use Rattle.std.specs.Borrow.{Lends, sem};
 ghost use Rattle.arena_ptr.specs.SlotStack.{IsBeyond};
 
 use crate::tests::tools::{same, text};
@@ -38,6 +39,18 @@ fn replace<E: Drop, S: SlotStack<Item = E>>(stack: &mut S, i: usize, item: E) ->
     match stack.get_mut(i) {
         Some(slot) => Some(mem::replace(slot, item)),
         None => None,
+    }
+}
+
+// The slot at a position within the length, for writing.
+fn slot_mut<E: Drop, S: SlotStack<Item = E>>(stack: &mut S, i: usize) -> &mut E
+    requires { i < length (S.items stack.old) }
+    ensures* lends { sem 𝓛 (Lends S.row E.row stack.entry result (S.with_item stack.old i)) }
+    ensures value { slice_get (S.items stack.old) i ≡ Some result.now }
+{
+    match stack.get_mut(i) {
+        Some(slot) => slot,
+        None => unreachable!(),
     }
 }
 
@@ -248,7 +261,7 @@ fn edit<S: SlotStack<Item = u32>>(rt: &impl Abort, stack: &mut S) {
     assert!(rt; stack.len() == 1000);
     stack.swap(0, 999);
     stack.swap(2, 2);
-    replace(stack, 3, 80);
+    *slot_mut(stack, 3) = 80;
     stack.truncate(4);
     stack.truncate(4);
 }
@@ -275,36 +288,26 @@ fn check_edits<S: SlotStack<Item = u32>>(rt: &impl Abort, alloc: Global) {
 }
 
 // A growth that goes far beyond twice the capacity.
-const FAR_GROWTH: [(Call, &str); 2] = [
-    (Call::Fill(1), "(Ok(true), (1, 1, None), [0])"),
-    (Call::Reserve(100), "(Ok(true), (1, 100, None), [0])"),
-];
+fn check_far_growth<S: SlotStack<Item = u32>>(rt: &impl Abort, alloc: Global) {
+    let mut stack = S::new(alloc);
+    fill(&mut stack, 1);
+    same(rt, "room for one", shape(&stack), (1, 1, None));
+    let grown = stack.reserve_to(100).is_ok() && stack.capacity() >= 100;
+    same(rt, "room for a hundred", (grown, stack.len()), (true, 1));
+}
 
 // A reservation that no block can hold changes nothing.
-const REFUSED_MEMORY: [(Call, &str); 3] = [
-    (Call::Fill(3), "(Ok(true), (3, 4, None), [0, 1, 2])"),
-    (
-        Call::Reserve(usize::MAX),
-        "(Err(AllocError), (3, 4, None), [0, 1, 2])",
-    ),
-    (Call::Reserve(5), "(Ok(true), (3, 8, None), [0, 1, 2])"),
-];
-
-// .. nor does it under the greatest maximum.
-const WIDE: [(Call, &str); 3] = [
-    (
-        Call::Fill(3),
-        "(Ok(true), (3, 4, Some(18446744073709551615)), [0, 1, 2])",
-    ),
-    (
-        Call::Reserve(usize::MAX),
-        "(Err(AllocError), (3, 4, Some(18446744073709551615)), [0, 1, 2])",
-    ),
-    (
-        Call::Reserve(5),
-        "(Ok(true), (3, 8, Some(18446744073709551615)), [0, 1, 2])",
-    ),
-];
+fn check_refused_memory<S: SlotStack<Item = u32>>(rt: &impl Abort, alloc: Global, stack: &mut S) {
+    fill(stack, 3);
+    let before = shape(stack);
+    let refused = stack.reserve_to(usize::MAX);
+    same(rt, "refused", refused, Err(ReallocationError::AllocError));
+    same(rt, "unchanged", shape(stack), before);
+    let left = held(rt, alloc, stack);
+    same(rt, "held still", left.as_slice(), [0, 1, 2].as_slice());
+    let grown = stack.reserve_to(5).is_ok() && stack.capacity() >= 5;
+    same(rt, "grown", (grown, stack.len()), (true, 3));
+}
 
 // A maximum of five is tested before memory is asked for, ...
 const UP_TO_FIVE: [(Call, &str); 5] = [
@@ -417,7 +420,7 @@ fn check_limits<S: LimitStack<Item = u32>>(rt: &impl Abort, alloc: Global) {
         "(Ok(()), (0, 0, Some(18446744073709551615)), [])",
     )];
     limits(rt, alloc, &mut wide, &greatest);
-    runs(rt, alloc, &mut wide, &WIDE);
+    check_refused_memory(rt, alloc, &mut wide);
     let mut never = S::new(alloc);
     limits(
         rt,
@@ -432,8 +435,8 @@ fn check_limits<S: LimitStack<Item = u32>>(rt: &impl Abort, alloc: Global) {
 // A stack that holds a list.
 fn check_list<S: SlotStack<Item = u32>>(rt: &impl Abort, alloc: Global) {
     check_edits::<S>(rt, alloc);
-    runs(rt, alloc, &mut S::new(alloc), &FAR_GROWTH);
-    runs(rt, alloc, &mut S::new(alloc), &REFUSED_MEMORY);
+    check_far_growth::<S>(rt, alloc);
+    check_refused_memory(rt, alloc, &mut S::new(alloc));
 }
 
 #[test]
