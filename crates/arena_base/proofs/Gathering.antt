@@ -23,7 +23,7 @@ module _ {Gen T : Type 0} (g : Gen) where
   trimmed-closed (v ∷ values) n = ap (λ (es : List (Option (Gen × T))). Some (g, v) ∷ es) (trimmed-closed values n)
 
   -- what closed slots show: their number, no free ones, and each entry with its index and generation
-  length-slots : (values : List T) → length (fronted g values []) ≡ length values
+  pub length-slots : (values : List T) → length (fronted g values []) ≡ length values
   length-slots [] = refl
   length-slots (v ∷ values) = ap suc (length-slots values)
 
@@ -31,14 +31,14 @@ module _ {Gen T : Type 0} (g : Gen) where
   none_free [] i = refl
   none_free (v ∷ values) i = none_free values (suc i)
 
-  indexes-fronted : (values : List T) (i : ℕ) → map index_of (entries_from i (fronted g values [])) ≡ range_with_len i (length values)
+  pub indexes-fronted : (values : List T) (i : ℕ) → map index_of (entries_from i (fronted g values [])) ≡ range_with_len i (length values)
   indexes-fronted [] i = refl
   indexes-fronted (v ∷ values) i = ap (λ ns. i ∷ ns) (indexes-fronted values (suc i) ∙ ap (λ n. range_with_len n (length values)) (next i))
     where
       next : (n : ℕ) → suc n ≡ n + 1
       next n = omega arith
 
-  generations-fronted : (values : List T) (i : ℕ) → All (λ (e : (ℕ × Gen) × T). e.0.1 ≡ g) (entries_from i (fronted g values []))
+  pub generations-fronted : (values : List T) (i : ℕ) → All (λ (e : (ℕ × Gen) × T). e.0.1 ≡ g) (entries_from i (fronted g values []))
   generations-fronted [] i = All-nil _
   generations-fronted (v ∷ values) i = All-cons (λ (e : (ℕ × Gen) × T). e.0.1 ≡ g) ((i, g), v) (entries_from (suc i) (fronted g values [])) refl (generations-fronted values (suc i))
 

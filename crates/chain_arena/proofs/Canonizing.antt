@@ -2,8 +2,6 @@
 use Rattle.std.proofs.Common.{◌≡◌, ℕ, suc, ◌+◌, Bool, List, [], ◌∷◌, length, map, Option, Some, refl, ap, sym, ◌∙◌, subst, arith}
 use Rattle.std.specs.Option.{option_map}
 use Rattle.std.specs.List.{range_with_len}
-use Rattle.std.specs.Prelude.{All}
-use Rattle.std.proofs.lemmas.List.Elements.{All-nil, All-cons}
 use Rattle.std.proofs.lemmas.List.{length-map}
 use mathlib.Core.Path.{fun_ext}
 use Rattle.chain_laws.specs.Chains.{Shown, Agrees, AreChains}
@@ -14,31 +12,15 @@ use Rattle.chain_laws.proofs.Neighboring.{chains_from_pairs}
 use Rattle.chain_laws.proofs.Runs.{canonical_arranges, lays_chains_in_runs}
 use Rattle.chain_laws.proofs.LeastIndex.{least_index_order_is_canonical}
 use Rattle.arena_base.specs.Arena.{Arena, slot_at, with_counter}
-use Rattle.arena_base.specs.Entries.{entries_from, entries, found, index_of, seen_of}
+use Rattle.arena_base.specs.Entries.{entries_from, entries, found, seen_of}
 use Rattle.arena_base.specs.EntryLaws.{found-entries}
 use Rattle.arena_base.specs.Compressing.{counter_after_compression, values_in}
 use Rattle.arena_base.specs.Closing.{fronted, gathered}
+use Rattle.arena_base.proofs.Gathering.{length-slots, indexes-fronted, generations-fronted}
 use Rattle.chain_links.specs.ChainArena.{LinkSeen, on_value, value_in, interlinks_of, shown, seen, entry, values_of, ptr_at}
 use Rattle.chain_layout.specs.Layouts.{ShowsMoves, ShowsAll, AreLaidOut, IsCanonicalLayout}
 use Rattle.chain_links.proofs.Inserting.{some_entry, values-count}
 use Rattle.chain_layout.proofs.Arranging.{count-standing}
-
-module _ {Gen T : Type 0} (g : Gen) where
-  -- entries at the front of slots: their number, their indexes and their generation
-  length-slots : (values : List T) → length (fronted g values []) ≡ length values
-  length-slots [] = refl
-  length-slots (v ∷ values) = ap suc (length-slots values)
-
-  indexes-fronted : (values : List T) (i : ℕ) → map index_of (entries_from i (fronted g values [])) ≡ range_with_len i (length values)
-  indexes-fronted [] i = refl
-  indexes-fronted (v ∷ values) i = ap (λ ns. i ∷ ns) (indexes-fronted values (suc i) ∙ ap (λ n. range_with_len n (length values)) (next i))
-    where
-      next : (n : ℕ) → suc n ≡ n + 1
-      next n = omega arith
-
-  generations-fronted : (values : List T) (i : ℕ) → All (λ (e : (ℕ × Gen) × T). e.0.1 ≡ g) (entries_from i (fronted g values []))
-  generations-fronted [] i = All-nil _
-  generations-fronted (v ∷ values) i = All-cons (λ (e : (ℕ × Gen) × T). e.0.1 ≡ g) ((i, g), v) (entries_from (suc i) (fronted g values [])) refl (generations-fronted values (suc i))
 
 -- the values of entries that stand at the front
 values-fronted : {Gen T : Type 0} (g : Gen) (values : List T) (i : ℕ) → values_in (entries_from i (fronted g values [])) ≡ values

@@ -11,7 +11,8 @@ use Rattle.arena_base.specs.Entries.{entries, entries_from}
 use Rattle.chain_links.specs.ChainArena.{LinkSeen, value_in, values_of, interlinks_of, shown, lone, insert_lone, insert_between}
 use Rattle.chain_links.proofs.Mapping.{length-with_each}
 use Rattle.chain_links.proofs.Seeing.{length-relinked}
-use Rattle.chain_arena.proofs.Telling.{count-seen, shown-insert_between, values_of-insert_between}
+use Rattle.chain_links.proofs.Inserting.{values-count}
+use Rattle.chain_arena.proofs.Telling.{shown-insert_between, values_of-insert_between}
 
 module _ {Gen T : Type 0} where
   -- entries behind others
@@ -62,7 +63,7 @@ module _ {Gen T : Type 0} where
 
     -- there are as many links as have come
     pub count_landed : entry_count now ≡ length values
-    count_landed = sym (count-seen now) ∙ ap length landed.entered
+    count_landed = sym (values-count now) ∙ ap length landed.entered
 
     module _ (long : length values ≡ length (all_items done) + length xs) where
       at_end : next_index now ≡ length (all_items done) + length xs + 1

@@ -16,14 +16,14 @@ use Rattle.chain_links.specs.ChainArena.{shown, seen, entry, insert_between, ins
 use Rattle.chain_links.specs.Kinds.{names_in}
 use Rattle.chain_links.specs.Links.{seen_links}
 use Rattle.chain_links.specs.declared.links.LinkBody.{LinkBody}
-use Rattle.chain_links.proofs.Inserting.{next_index-seen_links}
+use Rattle.chain_links.proofs.Inserting.{next_index-seen_links, values-count}
 use Rattle.chain_links.specs.declared.kinds.InsertKindBody.{InsertKindBody}
 use Rattle.chain_interlinks.specs.Gaps.{before_in, after_in, IsGapOf}
 use Rattle.chain_interlinks.specs.Insertions.{IsInsertion}
 use Rattle.chain_interlinks.specs.declared.gaps.Gap.{Gap}
 use Rattle.chain_arena.specs.Places.{HasGrown, GrowsByOne, gap_unless_refused, IsPlace, PlacesWithin, PlacesGrowing, IsInsertedIn, InsertsAt}
 use Rattle.chain_arena.specs.Steps.{Links, kind_of, May}
-use Rattle.chain_arena.proofs.Telling.{count-seen, gap_told, insertion_told}
+use Rattle.chain_arena.proofs.Telling.{gap_told, insertion_told}
 
 -- what is not above a number that is within a maximum is not beyond it
 not_beyond : (maximum : Option ℕ) (n m : ℕ) → n ≤ m → IsWithinMaximum maximum m → IsBeyond maximum n → ⊥
@@ -167,7 +167,7 @@ module _ {P I Gen T : Type 0} (key : P → ℕ × Gen) (number : I → ℕ) (old
     capacity = ap (λ (a : Links Gen T). a.capacity) same;
     err = same;
     link = ((λ is. absurd (let h = is in cc)), λ lacks. absurd (lacks full.0));
-    full = ((λ _. (full.0, count-seen old ∙ full.1)), λ _. refl);
+    full = ((λ _. (full.0, values-count old ∙ full.1)), λ _. refl);
     error = inr refl;
     place = tt;
     state = tt;
@@ -182,7 +182,7 @@ module _ {P I Gen T : Type 0} (key : P → ℕ × Gen) (number : I → ℕ) (old
         capacity = ap (λ (a : Links Gen T). a.capacity) state;
         err = tt;
         link = ((λ is. absurd (let h = is in cc)), λ lacks. absurd (lacks placed.0.may));
-        full = ((λ is. absurd (let h = is in cc)), λ h. let room = placed.1 in let equal = h.1 in let same = count-seen old in absurd (omega (arith, room, equal, same)));
+        full = ((λ is. absurd (let h = is in cc)), λ h. let room = placed.1 in let equal = h.1 in let same = values-count old in absurd (omega (arith, room, equal, same)));
         error = tt;
         place = ap (λ (x : ℕ × Gen). x.0) insertion.pointer;
         state = state;
@@ -225,7 +225,7 @@ module _ {P I Gen T : Type 0} (key : P → ℕ × Gen) (number : I → ℕ) (old
       state_in_room = λ may room. absurd (told.0 may);
       state_grown = tt;
     }
-    not_growing greatest failed.BeyondMaxCapacity told same = let full = told.1.0 in let counted = count-seen old in record {
+    not_growing greatest failed.BeyondMaxCapacity told same = let full = told.1.0 in let counted = values-count old in record {
       inserted = tt;
       err = same ∙ told.2;
       link = ((λ is. absurd (let h = is in cc)), λ lacks. absurd (lacks told.0));
@@ -239,7 +239,7 @@ module _ {P I Gen T : Type 0} (key : P → ℕ × Gen) (number : I → ℕ) (old
       state_in_room = λ may room. absurd (omega (arith, room, full));
       state_grown = tt;
     }
-    not_growing greatest failed.AllocError told same = let full = told.1.0 in let counted = count-seen old in record {
+    not_growing greatest failed.AllocError told same = let full = told.1.0 in let counted = values-count old in record {
       inserted = tt;
       err = same ∙ told.2;
       link = ((λ is. absurd (let h = is in cc)), λ lacks. absurd (lacks told.0));
@@ -265,7 +265,7 @@ module _ {P I Gen T : Type 0} (key : P → ℕ × Gen) (number : I → ℕ) (old
         let pointer : key p ≡ (next_index old, old.counter) = insertion.pointer ∙ ap (λ (a : Links Gen T). (next_index a, a.counter)) grown.state in
         let room : HasRoom greatest (entry_count old + 1) new =
         subst (λ (a : Links Gen T). HasRoom greatest (entry_count old + 1) a) (sym is) (subst (λ (a : Links Gen T). HasRoom greatest (entry_count old + 1) a) grown.state grown.room) in
-        let counted = count-seen old in
+        let counted = values-count old in
         let roomy : IsRoom greatest old.maximum (entry_count old + 1) mid.capacity = (subst (λ (a : Links Gen T). HasRoom greatest (entry_count old + 1) a) grown.state grown.room).0 in
         let fits = roomy.fits in
         let most = roomy.at_most_greatest in record {

@@ -23,6 +23,7 @@ use Rattle.arena_base.specs.Arena.{IsValid, IsRoom, HasRoom, entry_at, entry_cou
 use Rattle.arena_base.specs.Compressing.{overflows_after_compression}
 use Rattle.arena_base.specs.Entries.{count, renewed, HasRoomLeft, NeedsBeyondMaximum}
 use Rattle.chain_links.specs.ChainArena.{LinkSeen, on_value, shown, seen, entry, value_in, insert_as, link_at, relinked, CanConnect, CanExchange, IsJoin, IsCut, IsExchange, IsRemoval}
+use Rattle.chain_links.proofs.Inserting.{values-count}
 use Rattle.chain_arena.specs.Drains.{walk_left, without_each}
 use Rattle.chain_interlinks.specs.Insertions.{IsInsertion}
 use Rattle.chain_links.specs.Links.{seen_link}
@@ -32,7 +33,6 @@ use Rattle.chain_links.specs.declared.links.LinkBody.{LinkBody}
 use Rattle.chain_arena.proofs.Deciding.{Stable}
 use Rattle.chain_arena.proofs.Draining.{shown-without_each, link_at-entry}
 use Rattle.chain_links.proofs.Mapping.{entry_at-with_each}
-use Rattle.chain_arena.proofs.Telling.{count-seen}
 
 -- whether a call was done that is done where it can be
 done_is : (P : Bool → Type 0) {Can Done Same : Type 0} → (Can → Done → P true) → ((Can → ⊥) → Same → P false) → (r : Option Unit) → IsSome r ↔ Can → OnSome r Done → IfNone r Same → P (is_some r)
@@ -153,7 +153,7 @@ module _ {P I Gen T : Type 0} (key : P → ℕ × Gen) (number : I → ℕ) (old
 
   -- in an arena that is not left room, one more is above the capacity
   is_full : (more : Type 0) → (HasRoomLeft (seen old) → IsTrue false × more) → old.capacity < entry_count old + 1
-  is_full more room = let none : HasRoomLeft (seen old) → ⊥ = (λ left. false≢true (room left).0) in omega (arith, none, count-seen old)
+  is_full more room = let none : HasRoomLeft (seen old) → ⊥ = (λ left. false≢true (room left).0) in omega (arith, none, values-count old)
 
   -- an insertion that may grow
   pub inserts_growing : (greatest : ℕ) (r : Result P ChainInsertionError) (more : Type 0) → Inserted r → OnErr r (new ≡ old) → (r ≡ Err failed.FailedLinkRequirement) ↔ (May key number old kind → ⊥)
@@ -176,12 +176,12 @@ module _ {P I Gen T : Type 0} (key : P → ℕ × Gen) (number : I → ℕ) (old
       let can = may (Err failed.AllocError) link (λ failed. cc) in
       let full = is_full more (room can) in (
         can,
-        (full, λ past. let failed = beyond.1 (can, (omega (arith, counted, fits, full, count-seen old), subst (λ n. IsBeyond old.maximum (n + 1)) (sym (count-seen old)) past)) in absurd (cc)),
+        (full, λ past. let failed = beyond.1 (can, (omega (arith, counted, fits, full, values-count old), subst (λ n. IsBeyond old.maximum (n + 1)) (sym (values-count old)) past)) in absurd (cc)),
         same,
       )
   inserts_growing greatest (Err failed.BeyondMaxCapacity) more inserted same link error room beyond place state in_room has_room =
       let past = beyond.0 refl in
-      (past.0, (is_full more (room past.0), subst (λ n. IsBeyond old.maximum (n + 1)) (count-seen old) past.1.1), same)
+      (past.0, (is_full more (room past.0), subst (λ n. IsBeyond old.maximum (n + 1)) (values-count old) past.1.1), same)
 
   -- .. and one within the capacity
   pub inserts_within : (r : Result P ChainInsertionError) → Inserted r → OnErr r (new ≡ old) → (r ≡ Err failed.FailedLinkRequirement) ↔ (May key number old kind → ⊥)
@@ -191,13 +191,13 @@ module _ {P I Gen T : Type 0} (key : P → ℕ × Gen) (number : I → ℕ) (old
       let can = may (Ok p) link (λ failed. cc) in
       let room : count (seen old) ≡ old.capacity → ⊥ = (λ equal. let failed = full.1 (can, equal) in absurd (cc)) in (
         can,
-        omega (arith, counted, fits, room, count-seen old),
+        omega (arith, counted, fits, room, values-count old),
         added p inserted place (state ∙ sym (ap₂ (λ n m. record (insert_as old by t) { capacity = n; stack_capacity = m }) (ap (λ (a : Links Gen T). a.capacity) state) (ap (λ (a : Links Gen T). a.stack_capacity) state))),
         state,
       )
   inserts_within (Err failed.FailedLinkRequirement) inserted same link full error place state = (link.0 refl, same)
   inserts_within (Err failed.NotWithinCapacity) inserted same link full error place state =
-      let equal = (full.0 refl).1 in ((full.0 refl).0, omega (arith, equal, count-seen old), same)
+      let equal = (full.0 refl).1 in ((full.0 refl).0, omega (arith, equal, values-count old), same)
   inserts_within (Err failed.AllocError) inserted same link full error place state = ⊎_elim (λ is. let h = is in absurd (cc)) (λ is. let h = is in absurd (cc)) error
   inserts_within (Err failed.BeyondMaxCapacity) inserted same link full error place state = ⊎_elim (λ is. let h = is in absurd (cc)) (λ is. let h = is in absurd (cc)) error
 
@@ -259,9 +259,9 @@ module _ {P Gen T : Type 0} (key : P → ℕ × Gen) (following : Gen → Gen) (
   -- a clear
   pub clears_all : (r : InvalidationOption Unit) → r ≡ invalidation_option (overflows_after_clear wraps (length (seen old).entries) old.counter) tt
       → r ≡ invalidation_option (overflows_after_clear wraps (entry_count old) old.counter) tt
-  clears_all r told = told ∙ ap (λ n. invalidation_option (overflows_after_clear wraps n old.counter) tt) (count-seen old)
+  clears_all r told = told ∙ ap (λ n. invalidation_option (overflows_after_clear wraps n old.counter) tt) (values-count old)
 
 -- a compression
 pub compresses : {Gen T : Type 0} (wraps : Gen → Bool) (old : Links Gen T) (reset : Bool) (r : InvalidationOption Unit) → r ≡ invalidation_option (overflows_after_compression wraps reset (length (seen old).entries) old.counter) tt
     → r ≡ invalidation_option (overflows_after_compression wraps reset (entry_count old) old.counter) tt
-compresses wraps old reset r told = told ∙ ap (λ n. invalidation_option (overflows_after_compression wraps reset n old.counter) tt) (count-seen old)
+compresses wraps old reset r told = told ∙ ap (λ n. invalidation_option (overflows_after_compression wraps reset n old.counter) tt) (values-count old)

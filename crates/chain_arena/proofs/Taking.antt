@@ -1,5 +1,5 @@
 -- A link was taken out at an index: what the removals tell of it.
-use Rattle.std.proofs.Common.{◌≡◌, ℕ, Bool, true, false, Option, None, Some, refl, ap, sym, ◌∙◌}
+use Rattle.std.proofs.Common.{◌≡◌, ℕ, Bool, true, false, Option, None, Some, refl, ap, sym, ◌∙◌, subst}
 use Rattle.std.specs.Prelude.{is_some}
 use Rattle.std.specs.Option.{option_map}
 use Rattle.arena_ptr.specs.Invalidation.{value_within, is_overflow_result, invalidation_result}
@@ -13,7 +13,7 @@ use Rattle.chain_links.specs.Links.{held_in, seen_link, seen_pair}
 use Rattle.chain_links.specs.declared.links.LinkBody.{LinkBody}
 use Rattle.chain_links.proofs.Mapping.{entry_at-with_each, generation_is}
 use Rattle.chain_interlinks.proofs.Relinking.{is_some-map}
-use Rattle.chain_interlinks.proofs.Unlinking.{passes_over, removed-chains, removed-pairs, seen-removed}
+use Rattle.chain_interlinks.proofs.Unlinking.{passes_over, removed-agrees, removed-chains, removed-pairs, seen-removed}
 use Rattle.chain_arena.specs.Steps.{Links}
 use Rattle.chain_arena.proofs.Draining.{link_at-entry}
 
@@ -29,6 +29,11 @@ same_overflow f false (Success x) (Success y) value overflow told = refl
 same_overflow f true (Success x) (Success y) value overflow told = absurd (let h = told in cc)
 same_overflow f false (GenerationOverflow x) (GenerationOverflow y) value overflow told = absurd (let h = told in cc)
 same_overflow f true (GenerationOverflow x) (GenerationOverflow y) value overflow told = refl
+
+-- a removal leaves the interlinks in agreement, whether a link stood there or not
+pub agreed_after : {Gen T K : Type 0} (following : Gen → Gen) (a b : Links Gen T) (n : ℕ) (taken : Option K) → (is_some taken ≡ true → b ≡ remove_link following a n) → (taken ≡ None → b ≡ a) → Agrees (shown a) → Agrees (shown b)
+agreed_after following a b n None valid invalid agrees = subst (λ x. Agrees (shown x)) (sym (invalid refl)) agrees
+agreed_after following a b n (Some e) valid invalid agrees = removed-agrees following a b n (valid refl) agrees
 
 -- what is shown after a removal, by the state
 pub removal_of : {Gen T : Type 0} (following : Gen → Gen) (a b : Links Gen T) (n : ℕ) → Agrees (shown a) → b ≡ remove_link following a n → IsRemoval following a n b

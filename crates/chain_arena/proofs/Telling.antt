@@ -5,12 +5,11 @@ use Rattle.chain_laws.specs.Operations.{with_lone, linked}
 use Rattle.chain_laws.specs.Insertions.{InsertKind, CanInsert, IsGap, link_before, link_after, inserted, InsertsPairs, Inserts}
 use Rattle.chain_laws.proofs.InsertionPairs.{kind_gap, inserted_agrees, inserted_in_pairs}
 use Rattle.chain_laws.proofs.Inserting.{inserted_inserts}
-use Rattle.arena_base.specs.Arena.{Arena, without_first, IsListed, entry_count, first_or_next, next_index, insert_next, with_capacity_of}
+use Rattle.arena_base.specs.Arena.{Arena, without_first, IsListed, first_or_next, next_index, insert_next, with_capacity_of}
 use Rattle.arena_base.specs.Entries.{Slots, seen_of, count}
-use Rattle.arena_base.proofs.Seeing.{length-entries}
 use Rattle.chain_links.specs.ChainArena.{LinkSeen, value_in, values_of, seen, entry, shown, lone, insert_lone, insert_between, insert_as}
 use Rattle.chain_interlinks.specs.Insertions.{IsInsertion, IsInsertionBetween}
-use Rattle.chain_links.proofs.Mapping.{with_each-insert_next, length-with_each, listed-with_each, entry_count-with_each}
+use Rattle.chain_links.proofs.Mapping.{with_each-insert_next, length-with_each, listed-with_each}
 use Rattle.chain_links.proofs.Inserting.{shown-insert_lone, shown-next, inserted_at, length-filled}
 use Rattle.chain_interlinks.proofs.Relinking.{FitsLinks, FitsLinks-shown, FitsLinks-next_set, FitsLinks-prev_set, shown-relinked, values_of-relinked}
 
@@ -18,10 +17,6 @@ use Rattle.chain_interlinks.proofs.Relinking.{FitsLinks, FitsLinks-shown, FitsLi
 pub gap_told : (interlinks : Shown) (kind : InsertKind ℕ) (q : ℕ) {u v : Option ℕ} → u ≡ link_before interlinks kind q → v ≡ link_after interlinks kind q
     → Agrees interlinks → CanInsert interlinks kind → IsGap interlinks q u v
 gap_told interlinks kind q before after agrees can = subst₂ (IsGap interlinks q) (sym before) (sym after) (kind_gap interlinks kind q agrees can)
-
--- as many entries are seen as there are
-pub count-seen : {Gen T : Type 0} (a : Arena Gen (LinkSeen T)) → count (seen a) ≡ entry_count a
-count-seen a = length-entries (values_of a) ∙ entry_count-with_each value_in a
 
 module _ {Gen T : Type 0} (a : Arena Gen (LinkSeen T)) (t : T) (listed : IsListed a) where
   fits_between : (u v : Option ℕ) → FitsLinks (inserted (shown a) (next_index a) u v) (insert_lone a t)

@@ -1,5 +1,5 @@
 -- Lemmas on the join of two links.
-use Rattle.std.proofs.Common.{◌≡◌, ◌↔◌, ℕ, Bool, true, false, Option, None, Some, refl, ap, ap₂, sym, ◌∙◌, subst}
+use Rattle.std.proofs.Common.{◌≡◌, ◌↔◌, ℕ, Bool, true, false, Option, None, Some, refl, ap, sym, ◌∙◌, subst}
 use Rattle.std.specs.Prelude.{is_some, not, IsTrue}
 use Rattle.std.specs.Option.{option_map, option_and_then}
 use Rattle.chain_laws.specs.Chains.{Shown, Agrees, IsValid, prev_of, next_of, prev_in, next_in}
@@ -8,7 +8,7 @@ use Rattle.chain_laws.proofs.Joining.{joined_agrees, joined_adds_a_pair, joined_
 use Rattle.chain_links.specs.declared.links.LinkBody.{LinkBody}
 use Rattle.chain_links.specs.Links.{seen_link, seen_pair, seen_links}
 use Rattle.arena_base.specs.Arena.{Arena, entry_at}
-use Rattle.chain_links.specs.ChainArena.{on_value, LinkSeen, value_in, shown, values_of, relinked, interlinks_of, CanConnect, IsLinkAt, ptr_at, link_at, link_of}
+use Rattle.chain_links.specs.ChainArena.{on_value, LinkSeen, value_in, shown, values_of, relinked, interlinks_of, CanConnect, IsLinkAt, ptr_at}
 use Rattle.chain_links.proofs.Mapping.{IsValidPtr, entry_at-with_each, IsValidPtr-with_each}
 use Rattle.chain_links.proofs.Seeing.{entry_at-seen_links}
 use Rattle.chain_interlinks.proofs.Relinking.{shown-relinked, values_of-relinked, FitsLinks-linked}
@@ -117,10 +117,3 @@ module _ {Gen K T : Type 0} (number : K → Option ℕ) where
     before = before ∙ ap (option_and_then (ptr_at (entry_at (values_of (seen_links number a))))) (sym (prev_of-seen number a p link stands));
     after = after ∙ ap (option_and_then (ptr_at (entry_at (values_of (seen_links number a))))) (sym (next_of-seen number a p link stands));
   }
-
-  -- the link that is told at an index by its entry and its interlinks
-  pub link_at-seen : (a : Arena Gen (LinkBody K T)) (i : ℕ) → link_at (entry_at (values_of (seen_links number a))) (shown (seen_links number a)) i ≡ option_map (seen_pair number) (entry_at a i)
-  link_at-seen a i = ap₂ link_of (value_at a i) (ap (option_map interlinks_of) (entry_at-seen_links number a i)) ∙ whole (entry_at a i) where
-    whole : (o : Option (Gen × LinkBody K T)) → link_of (option_map (on_value (λ l. l.t)) o) (option_map interlinks_of (option_map (seen_pair number) o)) ≡ option_map (seen_pair number) o
-    whole None = refl
-    whole (Some e) = refl

@@ -4,38 +4,12 @@ use Rattle.std.specs.Prelude.{slice_index_or}
 use Rattle.std.specs.Option.{option_map}
 use Rattle.std.proofs.lemmas.List.{length-map}
 use Rattle.chain_laws.specs.Chains.{Has, HasNoRepetition}
-use Rattle.chain_laws.specs.Renamings.{AreImages}
-use Rattle.chain_laws.specs.Arrangements.{place_from, place_in}
-use Rattle.chain_laws.proofs.Members.{length_bound}
-use Rattle.chain_laws.proofs.Images.{image_of, images-once}
-use Rattle.chain_laws.proofs.Placing.{place-same, place-other, place-within, place-has, has-place, places_are_apart}
+use Rattle.chain_laws.specs.Arrangements.{place_from}
+use Rattle.chain_laws.proofs.Backing.{length_among}
+use Rattle.chain_laws.proofs.Placing.{place-same, place-other, place-has}
 use Rattle.arena_base.specs.Arena.{Arena, slot_at, entry_count}
 use Rattle.arena_base.specs.Entries.{entries_from, index_of}
 use Rattle.arena_base.proofs.Seeing.{length-entries}
-
--- the places of some items in a list that has them
-places_of : (ys xs : List ℕ) → ((i : ℕ) → Has xs i → Has ys i) → (zs : List ℕ) × AreImages (place_in ys) xs zs × (length zs ≡ length xs)
-places_of ys [] all = ([], tt, refl)
-places_of ys (x ∷ xs) all =
-    let here = has-place 1 ys x (all x (inl refl)) in
-    let rest = places_of ys xs (λ i h. all i (inr h)) in
-    (here.0 ∷ rest.0, (here.1, rest.1), ap suc rest.2)
-
--- a list without repetition is no longer than one that has all its items
-pub no_longer : (xs ys : List ℕ) → HasNoRepetition xs → ((i : ℕ) → Has xs i → Has ys i) → length xs ≤ length ys
-no_longer xs ys once all = omega (arith, few, zs.2)
-  where
-    zs : (zs : List ℕ) × AreImages (place_in ys) xs zs × (length zs ≡ length xs)
-    zs = places_of ys xs all
-
-    within : (k : ℕ) → Has zs.0 k → (1 ≤ k) × (k ≤ length ys)
-    within k h =
-        let from = image_of (place_in ys) xs zs.0 k zs.1 h in
-        let place = place-within 1 ys from.0 k from.2 in
-        (place.0, omega (arith, place.1))
-
-    few : length zs.0 ≤ length ys
-    few = length_bound zs.0 (length ys) (images-once (place_in ys) xs zs.0 (places_are_apart ys) zs.1 once) within
 
 module _ {Gen X : Type 0} where
   -- the indexes of the entries in slots rise
@@ -70,11 +44,11 @@ module _ {Gen X : Type 0} where
   count-standing a indexes once each all = omega (arith, length-entries a, length-map (entries_from 1 a.slots) index_of, most, least)
     where
       most : length (map index_of (entries_from 1 a.slots)) ≤ length indexes
-      most = no_longer (map index_of (entries_from 1 a.slots)) indexes (indexes-once a.slots 1)
+      most = length_among (map index_of (entries_from 1 a.slots)) indexes (indexes-once a.slots 1)
           (λ i h. let w = indexes-stand a.slots 1 i h in let at : suc w.0 ≡ i = omega (arith, w.2) in each i w.1 (sym (ap (slot_at a.slots) at) ∙ w.3))
 
       least : length indexes ≤ length (map index_of (entries_from 1 a.slots))
-      least = no_longer indexes (map index_of (entries_from 1 a.slots)) once (λ i h. let w = all i h in by i w.0 w.1)
+      least = length_among indexes (map index_of (entries_from 1 a.slots)) once (λ i h. let w = all i h in by i w.0 w.1)
         where
           by : (i : ℕ) (e : Gen × X) → slot_at a.slots i ≡ Some e → Has (map index_of (entries_from 1 a.slots)) i
           by zero e is = absurd (let h = is in cc)

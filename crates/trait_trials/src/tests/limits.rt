@@ -1,8 +1,9 @@
-//! The greatest index, the greatest generation, a maximum, and pointers without generations.
+//! Other pointers: the greatest index, the greatest generation, wide indexes, no generations; and a maximum.
 
-use super::pointers::{BarePtr, SmallPtr, TinyPtr};
-use super::same;
+use super::pointers::{BarePtr, SmallPtr, TinyPtr, WidePtr};
 use super::scripts::{Do, Kind, Line, Script, plays_all};
+use super::transfers::{AT_THE_GREATEST_GENERATION, WIDE, WITHOUT_GENERATIONS};
+use super::{Slot, same};
 use arena_base::{ArenaSlot, ArenaTrait};
 use arena_ptr::{LimitStack, LimitedStack, SetMaxCapacity};
 use chain_arena::{ChainArena, ChainArenaTrait, LinkInsertKind, LinkNoGen};
@@ -18,7 +19,7 @@ const FIRST: &str = "Ok(Pair { inx: Inx8 { number: 1 }, generation: () })";
 const SECOND: &str = "Ok(Pair { inx: Inx8 { number: 2 }, generation: () })";
 
 // An index of 8 bits.
-const INDEXES: [Script; 4] = [
+const INDEXES: [Script; 5] = [
     (
         "255 links fill it",
         0,
@@ -72,10 +73,11 @@ const INDEXES: [Script; 4] = [
             ),
         ],
     ),
+    WITHOUT_GENERATIONS,
 ];
 
 // A generation of 8 bits.
-const GENERATIONS: [Script; 2] = [
+const GENERATIONS: [Script; 3] = [
     (
         "the counter overflows by a removal, and once more by a clear; a clear of no links leaves it",
         0,
@@ -123,6 +125,7 @@ const GENERATIONS: [Script; 2] = [
             ),
         ],
     ),
+    AT_THE_GREATEST_GENERATION,
 ];
 
 // An index of one bit.
@@ -150,11 +153,13 @@ const TWO_INDEXES: [Script; 1] = [(
     ],
 )];
 
+// Each arena is handed to the body of the scripts once, since that is what costs.
 #[test]
-fn small_indexes_and_generations(rt: HostRuntime) {
+fn other_pointers(rt: HostRuntime) {
     plays_all::<ChainArena<BarePtr, u32>>(&rt, rt.alloc(), &INDEXES);
     plays_all::<ChainArena<SmallPtr, u32>>(&rt, rt.alloc(), &GENERATIONS);
     plays_all::<ChainArena<TinyPtr, u32>>(&rt, rt.alloc(), &TWO_INDEXES);
+    plays_all::<ChainArena<WidePtr, u32, LimitedStack<Slot<WidePtr>>>>(&rt, rt.alloc(), &[WIDE]);
 }
 
 // A slot for a link with one of several equal values, each of which tells how many of them there are.

@@ -1,8 +1,8 @@
 //! Chains carried over to another arena.
 
-use super::pointers::{BarePtr, SmallPtr, WidePtr};
+use super::pointers::BarePtr;
 use super::rows::{BEHIND_A_HOLE, BEHIND_HOLES, BY_LEAST_INDEX, INTERLEAVED, SCATTERED};
-use super::scripts::{Do, Line, Script, plays_all};
+use super::scripts::{Do, Line, Script};
 use super::{Chains, Counted, LimitedChains, NONE, Numbered, Slot, limited, lone_links, put, text};
 use arena_base::{ArenaTrait, CompactArenaTrait};
 use arena_ptr::{Gen32, LimitedStack, Ptr, ReallocationError, SlotStack};
@@ -223,7 +223,7 @@ pub(super) const REFUSED: [Script; 2] = [
 ];
 
 // The second removal overflows the counter.
-const AT_THE_GREATEST_GENERATION: Script = (
+pub(super) const AT_THE_GREATEST_GENERATION: Script = (
     "the greatest generation",
     0,
     &[],
@@ -242,7 +242,7 @@ const AT_THE_GREATEST_GENERATION: Script = (
 );
 
 // A chain of 3 and 1, and a lone link between them.
-const WIDE: Script = (
+pub(super) const WIDE: Script = (
     "wide indexes",
     3,
     &[(3, 1)],
@@ -260,7 +260,7 @@ const WIDE: Script = (
 );
 
 // A ring of two.
-const WITHOUT_GENERATIONS: Script = (
+pub(super) const WITHOUT_GENERATIONS: Script = (
     "no generations",
     2,
     &[(1, 2), (2, 1)],
@@ -275,10 +275,3 @@ const WITHOUT_GENERATIONS: Script = (
         Line::Says(Do::Counter, "Some(())"),
     ],
 );
-
-#[test]
-fn transfers_of_other_pointers(rt: HostRuntime) {
-    plays_all::<ChainArena<SmallPtr, u32>>(&rt, rt.alloc(), &[AT_THE_GREATEST_GENERATION]);
-    plays_all::<ChainArena<WidePtr, u32, LimitedStack<Slot<WidePtr>>>>(&rt, rt.alloc(), &[WIDE]);
-    plays_all::<ChainArena<BarePtr, u32>>(&rt, rt.alloc(), &[WITHOUT_GENERATIONS]);
-}

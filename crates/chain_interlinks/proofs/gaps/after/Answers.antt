@@ -1,10 +1,11 @@
 -- The gap after a link.
 use Rattle.std.proofs.Common.{Some, refl, sym, ap, ◌∙◌}
+use Rattle.std.proofs.lemmas.Bool.{false≢true}
 use Rattle.chain_laws.specs.Chains.{next_in}
 use Rattle.chain_links.specs.ChainArena.{shown, entry}
 use Rattle.chain_links.specs.Links.{seen_links}
 use Rattle.chain_links.specs.Kinds.{name_of}
-use Rattle.chain_interlinks.proofs.Naming.{may_come_after}
+use Rattle.chain_interlinks.proofs.Naming.{may_come_after, no_gap}
 use Rattle.chain_interlinks.proofs.gaps.after.Goals as goal
 
 pub returns-in-Some : goal.returns-in-Some
@@ -15,3 +16,8 @@ returns-in-Some g c =
       before = λ q. ap Some c.index_of.ensures;
       after = λ q. c.next.ensures ∙ sym (ap next_in c.in-Some.ensures.link);
     }
+
+pub returns-in-None : goal.returns-in-None
+returns-in-None g c =
+    let seen = seen_links g.P.Inx.PtrInx.packed_number c.args.arena.now in
+    no_gap g.P.Inx.PtrInx.number (entry seen) (shown seen) _ (λ may. false≢true (c.in-None.ensures.some.1 may.0))

@@ -1,9 +1,10 @@
 -- The gap between two neighbours.
 use Rattle.std.proofs.Common.{Some, refl, sym, ap, ◌∙◌}
+use Rattle.std.proofs.lemmas.Bool.{false≢true}
 use Rattle.chain_links.specs.ChainArena.{shown, entry, interlinks_in}
 use Rattle.chain_links.specs.Links.{seen_links, seen_link}
 use Rattle.chain_links.specs.Kinds.{name_of}
-use Rattle.chain_interlinks.proofs.Naming.{may_come_between, found_valid}
+use Rattle.chain_interlinks.proofs.Naming.{may_come_between, found_valid, no_gap}
 use Rattle.chain_interlinks.proofs.gaps.between.Goals as goal
 
 pub returns-then-is_some : goal.returns-then-is_some
@@ -22,3 +23,8 @@ returns-then-is_some g c =
       before = λ q. ap Some c.index_of-then-is_some.ensures;
       after = λ q. ap Some c.index_of-then-is_some-2.ensures;
     }
+
+pub returns-in-None : goal.returns-in-None
+returns-in-None g c =
+    let seen = seen_links g.P.Inx.PtrInx.packed_number c.args.arena.now in
+    no_gap g.P.Inx.PtrInx.number (entry seen) (shown seen) _ (λ may. false≢true (c.in-None.ensures.some.1 may.0.0))

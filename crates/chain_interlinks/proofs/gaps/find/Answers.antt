@@ -9,31 +9,37 @@ use Rattle.chain_interlinks.proofs.Connecting.{same_valid}
 use Rattle.chain_interlinks.proofs.Naming.{if_some, stands-seen, shows-seen, nothing-seen}
 use Rattle.chain_interlinks.proofs.gaps.find.Goals as goal
 
-pub returns-in-Pointer-clause-some : goal.returns-in-Pointer-clause-some
-returns-in-Pointer-clause-some g c =
+pub returns-in-Pointer : goal.returns-in-Pointer
+returns-in-Pointer g c =
     let a = c.args.arena.now in
-    let same = same_valid g.P.Inx.PtrInx.packed_number a (g.P.Ptr.key c.in-Pointer.p) in
-    subst (λ n. IsSome c.get.result ↔ HasName (entry (seen_links g.P.Inx.PtrInx.packed_number a)) (name_of g.P.Ptr.key g.P.Inx.PtrInx.number n)) (sym c.in-Pointer.is)
-    (λ h. same.0 (c.get.ensures.some.0 h), λ valid. c.get.ensures.some.1 (same.1 valid))
+    let packed = g.P.Inx.PtrInx.packed_number in
+    let same = same_valid packed a (g.P.Ptr.key c.in-Pointer.p) in
+    record {
+      some = subst (λ n. IsSome c.get.result ↔ HasName (entry (seen_links packed a)) (name_of g.P.Ptr.key g.P.Inx.PtrInx.number n)) (sym c.in-Pointer.is)
+          (λ h. same.0 (c.get.ensures.some.0 h), λ valid. c.get.ensures.some.1 (same.1 valid));
+      link = rw c.in-Pointer.is (if_some c.get.result (λ link stands. shows-seen packed a (g.P.Ptr.key c.in-Pointer.p).0 (g.P.Ptr.key c.in-Pointer.p).1 link.now stands) c.get.ensures.value);
+    }
 
-pub returns-in-Pointer-clause-link : goal.returns-in-Pointer-clause-link
-returns-in-Pointer-clause-link g c =
-    rw c.in-Pointer.is (if_some c.get.result (λ link stands. shows-seen g.P.Inx.PtrInx.packed_number c.args.arena.now (g.P.Ptr.key c.in-Pointer.p).0 (g.P.Ptr.key c.in-Pointer.p).1 link.now stands) c.get.ensures.value)
-
-pub returns-in-Some-clause-some : goal.returns-in-Some-clause-some
-returns-in-Some-clause-some g c =
+pub returns-in-Some : goal.returns-in-Some
+returns-in-Some g c =
     let a = c.args.arena.now in
-    let stands = stands-seen g.P.Inx.PtrInx.packed_number a (g.P.Inx.PtrInx.number c.in-Index.i) _ _ (sym c.in-Some.ensures) in
-    (λ _. subst (λ n. HasName (entry (seen_links g.P.Inx.PtrInx.packed_number a)) (name_of g.P.Ptr.key g.P.Inx.PtrInx.number n)) (sym c.in-Index.is) (ap is_some stands), λ _. refl)
+    let packed = g.P.Inx.PtrInx.packed_number in
+    let i = g.P.Inx.PtrInx.number c.in-Index.i in
+    let stands = sym c.in-Some.ensures in
+    record {
+      some = (λ _. subst (λ n. HasName (entry (seen_links packed a)) (name_of g.P.Ptr.key g.P.Inx.PtrInx.number n)) (sym c.in-Index.is) (ap is_some (stands-seen packed a i _ _ stands)), λ _. refl);
+      link = rw c.in-Index.is (shows-seen packed a i _ _ stands);
+    }
 
-pub returns-in-Some-clause-link : goal.returns-in-Some-clause-link
-returns-in-Some-clause-link g c =
-    rw c.in-Index.is (shows-seen g.P.Inx.PtrInx.packed_number c.args.arena.now (g.P.Inx.PtrInx.number c.in-Index.i) _ _ (sym c.in-Some.ensures))
-
-pub returns-in-None-clause-some : goal.returns-in-None-clause-some
-returns-in-None-clause-some g c =
+pub returns-in-None : goal.returns-in-None
+returns-in-None g c =
     let a = c.args.arena.now in
-    let none = nothing-seen g.P.Inx.PtrInx.packed_number a (g.P.Inx.PtrInx.number c.in-Index.i) (sym c.in-None.ensures) in (
-      λ h. absurd (false≢true h),
-      λ h. absurd (false≢true (sym (ap is_some none) ∙ subst (λ n. HasName (entry (seen_links g.P.Inx.PtrInx.packed_number a)) (name_of g.P.Ptr.key g.P.Inx.PtrInx.number n)) c.in-Index.is h)),
-    )
+    let packed = g.P.Inx.PtrInx.packed_number in
+    let none = nothing-seen packed a (g.P.Inx.PtrInx.number c.in-Index.i) (sym c.in-None.ensures) in
+    record {
+      some = (
+        λ h. absurd (false≢true h),
+        λ h. absurd (false≢true (sym (ap is_some none) ∙ subst (λ n. HasName (entry (seen_links packed a)) (name_of g.P.Ptr.key g.P.Inx.PtrInx.number n)) c.in-Index.is h)),
+      );
+      link = tt;
+    }

@@ -1,5 +1,5 @@
 -- The entry at the index, under its pointer of now.
-use Rattle.std.proofs.Common.{of_calls, ◌≡◌, Some, sym, ap, ◌∙◌}
+use Rattle.std.proofs.Common.{of_calls, ◌≡◌, Some, refl, sym, ap, ◌∙◌}
 use Rattle.chain_interlinks.proofs.Connecting.{ptr_at-some, ptr_at-none}
 use Rattle.chain_interlinks.proofs.interlinks.neighbor.Goals as goal
 
@@ -16,3 +16,6 @@ returns-in-None-get_inx g c =
     let number = g.P.Inx.PtrInx.number in
     let packed_number = g.P.Inx.PtrInx.packed_number in
     rw c.in-Some.is (sym (ptr_at-none packed_number c.args.arena.now (number c.in-Some.i) (sym c.in-None-get_inx.ensures)))
+
+pub returns-in-None : goal.returns-in-None
+returns-in-None g c = rw c.in-None.is refl

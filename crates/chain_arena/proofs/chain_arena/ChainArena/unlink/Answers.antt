@@ -1,14 +1,14 @@
 -- The link goes, and its neighbours are linked.
 use Rattle.std.proofs.Common.{ap}
 use Rattle.chain_links.specs.Links.{seen_links}
-use Rattle.chain_interlinks.proofs.Unlinking.{taken-agrees}
-use Rattle.chain_arena.proofs.Taking.{removal_of}
+use Rattle.chain_arena.proofs.Taking.{agreed_after, removal_of}
 use Rattle.chain_arena.proofs.chain_arena.ChainArena.unlink.Goals as goal
 
 pub invariant_of-self : goal.invariant_of-self
 invariant_of-self g c =
+    let packed = g.P.Inx.PtrInx.packed_number in
     let made = c.take_out.ensures in
-    taken-agrees g.P.Inx.PtrInx.packed_number g.P.Gen.PtrGen.following c.self.inside.arena c.take_out.new.arena _ _ made.answer made.valid made.invalid c.self.invariant
+    agreed_after g.P.Gen.PtrGen.following (seen_links packed c.self.inside.arena) (seen_links packed c.take_out.new.arena) _ _ made.valid (λ none. ap (seen_links packed) (made.invalid none)) c.self.invariant
 
 pub returns : goal.returns
 returns g c =

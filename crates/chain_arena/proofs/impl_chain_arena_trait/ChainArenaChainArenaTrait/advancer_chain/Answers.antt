@@ -7,7 +7,6 @@ use Rattle.chain_links.specs.Links.{seen_links}
 use Rattle.chain_interlinks.proofs.Advancing.{same_walkers}
 use Rattle.chain_interlinks.proofs.Connecting.{prev_of-seen, same_valid}
 use Rattle.chain_links.proofs.Inserting.{entry_count-seen_links}
-use Rattle.chain_arena.proofs.Telling.{count-seen}
 use Rattle.chain_arena.proofs.impl_chain_arena_trait.ChainArenaChainArenaTrait.advancer_chain.Goals as goal
 
 pub returns-in-Some : goal.returns-in-Some
@@ -19,7 +18,7 @@ returns-in-Some g c =
     let made = c.new.ensures in
     rw (← c.self.view_is) (record {
       valid = λ _. same_walkers
-          (made.left ∙ (c.len.ensures.entries ∙ (sym (entry_count-seen_links packed a) ∙ sym (count-seen (seen_links packed a)))))
+          (made.left ∙ (c.len.ensures.entries ∙ (sym (entry_count-seen_links packed a) ∙ sym (values-count (seen_links packed a)))))
           (ap number made.start ∙ c.inx.ensures)
           (ap (option_map number) made.forth ∙ ap Some c.inx.ensures)
           (ap (option_map number) made.back ∙ (c.prev.ensures ∙ sym (prev_of-seen packed a p c.in-Some.link.now c.in-Some.ensures.value)));
