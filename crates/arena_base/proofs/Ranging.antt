@@ -14,20 +14,6 @@ first_of None rest = rest
 first_of (Some p) rest = Some p
 
 module _ {Gen T : Type 0} where
-  -- the first key from a position on is that of the slot there, or else the first one behind it
-  pub first_key-drop : (slots : List (Option (Gen × T))) (i k : ℕ) → k < length slots
-      → first_key (entries_from i (drop k slots)) ≡ first_of (option_map (key_at i) (slice_index_or slots k None)) (first_key (entries_from (suc i) (drop (suc k) slots)))
-  first_key-drop [] i k below = absurd (omega (arith, below))
-  first_key-drop (None ∷ slots) i zero below = refl
-  first_key-drop (Some e ∷ slots) i zero below = refl
-  first_key-drop (s ∷ slots) i (suc k) below = first_key-drop slots i k (omega (arith, below))
-
-  pub drop-all : (slots : List (Option (Gen × T))) (i k : ℕ) → length slots ≤ k → entries_from i (drop k slots) ≡ []
-  drop-all [] i zero past = refl
-  drop-all [] i (suc k) past = refl
-  drop-all (s ∷ slots) i zero past = absurd (omega (arith, past))
-  drop-all (s ∷ slots) i (suc k) past = drop-all slots i k (omega (arith, past))
-
   -- the entries of one slot more
   abbrev pub entry_list : ℕ → Option (Gen × T) → List ((ℕ × Gen) × T)
   entry_list i None = []

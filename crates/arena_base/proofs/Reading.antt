@@ -26,11 +26,6 @@ module _ {X : Type 0} where
   slice_set-itself (y ∷ xs) zero x is = let e : y ≡ x = cc in ap (λ z. z ∷ xs) (sym e)
   slice_set-itself (y ∷ xs) (suc k) x is = ap (λ zs. y ∷ zs) (slice_set-itself xs k x is)
 
-  pub slice_get-append : (xs ys : List X) (k : ℕ) (x : X) → slice_get xs k ≡ Some x → slice_get (xs ++ ys) k ≡ Some x
-  slice_get-append [] ys k x is = cc
-  slice_get-append (z ∷ xs) ys zero x is = is
-  slice_get-append (z ∷ xs) ys (suc k) x is = slice_get-append xs ys k x is
-
   -- what stands behind a list that got one more is in the list or is the one
   pub slice_get-push : (xs : List X) (x y : X) (k : ℕ) → slice_get (xs ++ x ∷ []) k ≡ Some y → (slice_get xs k ≡ Some y) ⊎ (x ≡ y)
   slice_get-push [] x y zero is = inr cc
@@ -46,10 +41,6 @@ module _ {X : Type 0} where
   pub item_at-set-other : (xs : List X) (k n : ℕ) (x : X) → (suc k ≡ n → ⊥) → item_at (slice_set xs k x) n ≡ item_at xs n
   item_at-set-other xs k zero x other = refl
   item_at-set-other xs k (suc m) x other = slice_get-set-other xs k m x (λ e. other (ap suc e))
-
-  pub item_at-append : (xs ys : List X) (n : ℕ) (x : X) → item_at xs n ≡ Some x → item_at (xs ++ ys) n ≡ Some x
-  item_at-append xs ys zero x is = cc
-  item_at-append xs ys (suc k) x is = slice_get-append xs ys k x is
 
   pub item_at-push : (xs : List X) (x y : X) (n : ℕ) → item_at (xs ++ x ∷ []) n ≡ Some y → (item_at xs n ≡ Some y) ⊎ (x ≡ y)
   item_at-push xs x y zero is = inl is

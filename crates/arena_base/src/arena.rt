@@ -138,8 +138,10 @@ impl<P: Ptr, T: Drop, S: SlotStack<Item = ArenaSlot<P, T>>> Arena<P, T, S> {
             ((entry_count self.old ≡ self.old.capacity) × IsBeyond self.old.maximum (entry_count self.old + 1)) }
         ensures greatest { entry_count self.old ≡ P.Inx.greatest → IsErr result }
     {
-        self.make_room()?;
-        Ok(self.insert_here(t))
+        match self.make_room() {
+            Ok(()) => Ok(self.insert_here(t)),
+            Err(e) => Err(e),
+        }
     }
 
     // Grows a full arena to room for one entry more.
@@ -343,8 +345,14 @@ fn refusal(maximum: Option<usize>, n: usize) -> ReallocationError
     ensures { (result ≡ ReallocationError.BeyondMaxCapacity) ↔ IsBeyond maximum n }
 {
     match maximum {
-        Some(most) if most < n => ReallocationError::BeyondMaxCapacity,
-        _ => ReallocationError::AllocError,
+        Some(most) => {
+            if most < n {
+                ReallocationError::BeyondMaxCapacity
+            } else {
+                ReallocationError::AllocError
+            }
+        }
+        None => ReallocationError::AllocError,
     }
 }
 

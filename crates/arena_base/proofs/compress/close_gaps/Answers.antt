@@ -74,17 +74,16 @@ loop-k-preserved g c =
           })
     ]
 
-pub returns-clause-closed : goal.returns-clause-closed
-returns-clause-closed g c =
-    closing_closes g.F.FnMut g.P.Ptr.key c.args.generation c.args.map c.args.compactor.now.held.slots c.loop-k.k c.loop-k.count c.loop-k.map c.loop-k.compactor.held.slots c.loop-k.invariant.closing (omega arith)
-    c.args.compactor.now.held c.loop-k.compactor.held refl refl c.loop-k.invariant.capacity c.loop-k.invariant.maximum
-
-pub returns-clause-visits : goal.returns-clause-visits
-returns-clause-visits g c =
-    closing_visits g.F.FnMut g.P.Ptr.key c.args.generation c.args.map c.args.compactor.now.held.slots c.loop-k.k c.loop-k.count c.loop-k.map c.loop-k.compactor.held.slots c.loop-k.invariant.closing (omega arith)
-
-pub returns-clause-totals : goal.returns-clause-totals
-returns-clause-totals g c =
-    let all : c.loop-k.k ≡ length c.args.compactor.now.held.slots = omega arith in
-    let count = closing_counts g.F.FnMut g.P.Ptr.key c.args.generation c.args.map c.args.compactor.now.held.slots c.loop-k.k c.loop-k.count c.loop-k.map c.loop-k.compactor.held.slots c.loop-k.invariant.closing all in
-    c.loop-k.invariant.totals ∙ (λ i. with_totals c.args.compactor.now.arena.now (count i) (all i + count i))
+pub returns : goal.returns
+returns g c =
+    let at = c.loop-k.invariant in
+    let old = c.args.compactor.now in
+    let now = c.loop-k.compactor.held in
+    let all : c.loop-k.k ≡ length old.held.slots = omega arith in
+    let count = closing_counts g.F.FnMut g.P.Ptr.key c.args.generation c.args.map old.held.slots c.loop-k.k c.loop-k.count c.loop-k.map now.slots at.closing all in
+    record {
+      same_reference = at.same_reference;
+      closed = closing_closes g.F.FnMut g.P.Ptr.key c.args.generation c.args.map old.held.slots c.loop-k.k c.loop-k.count c.loop-k.map now.slots at.closing all old.held now refl refl at.capacity at.maximum;
+      visits = closing_visits g.F.FnMut g.P.Ptr.key c.args.generation c.args.map old.held.slots c.loop-k.k c.loop-k.count c.loop-k.map now.slots at.closing all;
+      totals = at.totals ∙ (λ i. with_totals old.arena.now (count i) (all i + count i));
+    }

@@ -31,25 +31,27 @@ invariant_of-self g c =
     let some = some_taken number c.self.invariant c.position_of.result _ _ is in
     rw c.in-Some.ensures.some (closed number (vacated number c.self.invariant c.position_of.result c.args.i _ _ (c.self.inside.len - 1) c.position_of.ensures is (omega (arith, some))))
 
-pub returns-in-Some-clause-answer : goal.returns-in-Some-clause-answer
-returns-in-Some-clause-answer g c = rw (the_entry g (goal.at.returns-in-Some-clause-answer g c).In-Some, ← c.self.view_is, ← c.generational_inc-generation.ensures.overflow) c.outcome.ensures
-
-pub returns-in-Some-clause-some : goal.returns-in-Some-clause-some
-returns-in-Some-clause-some g c =
+pub returns-in-Some : goal.returns-in-Some
+returns-in-Some g c =
     let number = g.P.Inx.PtrInx.number in
     let items = g.S.SlotStack.items c.self.inside.slots in
-    let is = stood g (goal.at.returns-in-Some-clause-some g c).In-Some in
+    let at = (goal.at.returns-in-Some g c).In-Some in
+    let is = stood g at in
     let some = some_taken number c.self.invariant c.position_of.result _ _ is in
     let sound = vacated number c.self.invariant c.position_of.result c.args.i _ _ (c.self.inside.len - 1) c.position_of.ensures is (omega (arith, some)) in
-    λ _. rw (← c.self.view_is, c.one_more-self-inside.ensures, c.generational_inc-generation.ensures.next, c.in-Some.ensures.some, c.vacate_at.ensures.capacity, c.vacate_at.ensures.maximum, walked_all number sound)
-    (seen_vacated items _ c.self.inside.counter g.P.Inx.PtrInx.greatest (g.S.SlotStack.capacity c.self.inside.slots) (g.S.SlotStack.maximum c.self.inside.slots) c.self.inside.placed.count c.self.inside.touched.count
-    g.P.Gen.PtrGen.following c.position_of.result (number c.args.i) c.self.inside.first_free c.position_of.ensures)
+    record {
+      answer = rw (the_entry g at, ← c.self.view_is, ← c.generational_inc-generation.ensures.overflow) c.outcome.ensures;
+      some = λ _. rw (← c.self.view_is, c.one_more-self-inside.ensures, c.generational_inc-generation.ensures.next, c.in-Some.ensures.some, c.vacate_at.ensures.capacity, c.vacate_at.ensures.maximum, walked_all number sound)
+          (seen_vacated items _ c.self.inside.counter g.P.Inx.PtrInx.greatest (g.S.SlotStack.capacity c.self.inside.slots) (g.S.SlotStack.maximum c.self.inside.slots) c.self.inside.placed.count c.self.inside.touched.count
+          g.P.Gen.PtrGen.following c.position_of.result (number c.args.i) c.self.inside.first_free c.position_of.ensures);
+      none = λ none. let both = sym (the_entry g at) ∙ none in cc;
+    }
 
-pub returns-in-Some-clause-none : goal.returns-in-Some-clause-none
-returns-in-Some-clause-none g c = λ none. let both = sym (the_entry g (goal.at.returns-in-Some-clause-none g c).In-Some) ∙ none in cc
-
-pub returns-in-None-clause-answer : goal.returns-in-None-clause-answer
-returns-in-None-clause-answer g c = rw (no_entry g (goal.at.returns-in-None-clause-answer g c).In-None)
-
-pub returns-in-None-clause-some : goal.returns-in-None-clause-some
-returns-in-None-clause-some g c = λ some. let both : true ≡ false = sym some ∙ ap is_some (no_entry g (goal.at.returns-in-None-clause-some g c).In-None) in cc
+pub returns-in-None : goal.returns-in-None
+returns-in-None g c =
+    let missing = no_entry g (goal.at.returns-in-None g c).In-None in
+    record {
+      answer = rw missing;
+      some = λ some. let both : true ≡ false = sym some ∙ ap is_some missing in cc;
+      none = λ _. rw (c.in-None.ensures.none, c.vacate_at.ensures.capacity, c.vacate_at.ensures.maximum) c.self.view_is;
+    }
