@@ -4,7 +4,7 @@ use Rattle.std.specs.Prelude.{IsSome, true, false, count_by, is_some, cond, slic
 use Rattle.std.proofs.lemmas.List.{length-set}
 use Rattle.std.proofs.lemmas.List.Sums.{sum_by-cons}
 use Rattle.arena_base.specs.Arena.{slot_at, with_slot}
-use Rattle.arena_base.specs.Slots.{item_at, entry_of, entry_in, allocated_slot, with_generation_in, with_generation_at, freed_slot}
+use Rattle.arena_base.specs.Slots.{item_at, entry_of, entry_in, allocated_slot, free_slot, with_generation_in, with_generation_at, freed_slot}
 use Rattle.arena_base.specs.declared.slot.ArenaSlot.{ArenaSlot}
 use Rattle.arena_base.specs.declared.slot.ArenaSlot.TheVariants.{Allocated, Free}
 
@@ -37,6 +37,9 @@ module _ {X : Type 0} where
   slice_get-below [] k x is = cc
   slice_get-below (z ∷ xs) zero x is = omega arith
   slice_get-below (z ∷ xs) (suc k) x is = let below = slice_get-below xs k x is in omega (arith, below)
+
+  pub slice_got-below : (xs : List X) (k : ℕ) (x : X) → Some x ≡ slice_get xs k → k < length xs
+  slice_got-below xs k x is = slice_get-below xs k x (sym is)
 
   pub item_at-set-other : (xs : List X) (k n : ℕ) (x : X) → (suc k ≡ n → ⊥) → item_at (slice_set xs k x) n ≡ item_at xs n
   item_at-set-other xs k zero x other = refl
@@ -116,6 +119,11 @@ module _ {P T Inx Gen Word : Type 0} where
   pub freed_slot-free : (slot : ArenaSlot P T Inx Gen Word) (next : Option Inx) → entry_of slot ≡ None → freed_slot slot next ≡ slot
   freed_slot-free (Allocated g t) next is = cc
   freed_slot-free (Free other) next is = refl
+
+  -- and one with an entry is freed
+  pub freed_slot-taken : (slot : ArenaSlot P T Inx Gen Word) (next : Option Inx) (e : Gen × T) → entry_of slot ≡ Some e → freed_slot slot next ≡ free_slot next
+  freed_slot-taken (Allocated g t) next e is = refl
+  freed_slot-taken (Free other) next e is = cc
 
   pub allocated-entry : (slot : ArenaSlot P T Inx Gen Word) (e : Gen × T) → entry_of slot ≡ Some e → slot ≡ allocated_slot e.0 e.1
   allocated-entry (Allocated g t) e is = ap (λ (o : Option (Gen × T)). slot_with o) is

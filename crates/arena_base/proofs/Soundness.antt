@@ -147,6 +147,16 @@ module _ {P T Inx Gen Word : Type 0} (number : Inx → ℕ) where
       )
   filled_next {slots = slots} {ns = n ∷ ns} g t s room = let some : None ≡ Some s.linked.0 = s.linked.2 in cc
 
+  none_listed : (slots : List (ArenaSlot P T Inx Gen Word)) (n : ℕ) (next : Option Inx) → slots ≡ [] → item_at slots n ≡ Some (free_slot next) → ⊥
+  none_listed slots zero next empty is = cc
+  none_listed [] (suc k) next empty is = cc
+  none_listed (s ∷ slots) (suc k) next empty is = cc
+
+  -- no slots are sound
+  pub none_sound : (slots : List (ArenaSlot P T Inx Gen Word)) (greatest : ℕ) → slots ≡ [] → IsSound number slots greatest 0 None (freed_of number slots None)
+  none_sound [] greatest is = record { linked = refl; apart = tt; covers = λ n next free. absurd (none_listed [] n next refl free); counted = refl; total = refl; fits = omega arith }
+  none_sound (s ∷ slots) greatest is = cc
+
   -- the next insertion takes the slot that was freed last
   pub first_freed : {slots : List (ArenaSlot P T Inx Gen Word)} {greatest len : ℕ} {ns : List ℕ} (i : Inx) → IsSound number slots greatest len (Some i) ns → (count : ℕ) → number i ≡ first_or_next ns count
   first_freed {ns = []} i s count = let none : Some i ≡ None = s.linked in cc

@@ -1,13 +1,13 @@
 -- What each step on slots makes of the arena that contracts see.
-use Rattle.std.proofs.Common.{◌≡◌, ℕ, ◌+◌, List, [], ◌∷◌, ◌++◌, map, Option, Some, refl, ap, sym, ◌∙◌}
-use Rattle.std.specs.Prelude.{slice_get, slice_set}
+use Rattle.std.proofs.Common.{◌≡◌, ℕ, ◌+◌, ◌-◌, List, [], ◌∷◌, ◌++◌, map, Option, None, Some, refl, ap, sym, ◌∙◌, arith}
+use Rattle.std.specs.Prelude.{slice_get, slice_set, count_by, is_some}
 use Rattle.std.proofs.lemmas.List.{map-set}
-use Rattle.arena_base.specs.Arena.{Arena, slot_at, with_slot, insert_next, remove_at, with_value, renewed_at}
+use Rattle.arena_base.specs.Arena.{Arena, slot_at, with_slot, insert_next, remove_at, with_value, renewed_at, cleared, counter_after_clear}
 use Rattle.std.specs.Option.{option_map}
 use Rattle.arena_base.specs.Slots.{entry_of, entry_in, with_value_in, allocated_slot, free_slot, arena_of, freed_of, IsSound}
 use Rattle.arena_base.specs.declared.slot.ArenaSlot.{ArenaSlot}
 use Rattle.arena_base.specs.declared.slot.ArenaSlot.TheVariants.{Allocated, Free}
-use Rattle.arena_base.proofs.Soundness.{lent, walked_all}
+use Rattle.arena_base.proofs.Soundness.{lent, walked_all, vacated, some_taken}
 use Rattle.arena_base.proofs.Reading.{map-push, slot_at-map, with_slot-position}
 
 pub entry_of-written : {P T Inx Gen Word : Type 0} (slot : ArenaSlot P T Inx Gen Word) (w : T) → entry_of (with_value_in slot w) ≡ option_map (λ (e : Gen × T). (e.0, w)) (entry_of slot)
@@ -67,3 +67,19 @@ module _ {P T Inx Gen Word : Type 0} (number : Inx → ℕ) where
   lent_view {slots = slots} {greatest = greatest} {head = head} s counter capacity maximum placed touched k n slot w items room most at is written same_room same_most =
       rw (written, same_room, same_most, walked_all number (lent number k slot w s is))
       (seen_lent slots (freed_of number slots head) counter greatest capacity maximum placed touched k n slot w at is)
+
+  -- the arena after an entry was taken out
+  pub vacated_view : {slots : List (ArenaSlot P T Inx Gen Word)} {greatest len : ℕ} {head : Option Inx} → IsSound number slots greatest len head (freed_of number slots head)
+      → (counter after : Gen) (capacity room : ℕ) (maximum most : Option ℕ) (placed total touched : ℕ) (following : Gen → Gen) (k : ℕ) (i : Inx) (g : Gen) (t : T) (items : List (ArenaSlot P T Inx Gen Word))
+      → k + 1 ≡ number i → slice_get slots k ≡ Some (allocated_slot g t) → items ≡ slice_set slots k (free_slot head) → room ≡ capacity → most ≡ maximum → after ≡ following counter → total ≡ placed + 1
+      → arena_of items (freed_of number items (Some i)) after greatest room most total touched ≡ remove_at following (arena_of slots (freed_of number slots head) counter greatest capacity maximum placed touched) (number i)
+  vacated_view {slots = slots} {greatest = greatest} {len = len} {head = head} s counter after capacity room maximum most placed total touched following k i g t items at is written same_room same_most same_after same_total =
+      let some = some_taken number s k g t is in
+      rw (written, same_room, same_most, same_after, same_total, walked_all number (vacated number s k i g t (len - 1) at is (omega (arith, some))))
+      (seen_vacated slots (freed_of number slots head) counter greatest capacity maximum placed touched following k (number i) head at)
+
+  -- the arena after its slots were dropped
+  pub cleared_view : (slots items : List (ArenaSlot P T Inx Gen Word)) (ns : List ℕ) (counter after : Gen) (greatest capacity room : ℕ) (maximum most : Option ℕ) (placed touched len : ℕ) (following : Gen → Gen)
+      → items ≡ [] → room ≡ capacity → most ≡ maximum → len ≡ count_by is_some (map entry_of slots) → after ≡ counter_after_clear following len counter
+      → arena_of items (freed_of number items None) after greatest room most placed touched ≡ cleared following (arena_of slots ns counter greatest capacity maximum placed touched)
+  cleared_view slots items ns counter after greatest capacity room maximum most placed touched len following none same_room same_most counted same_after = rw (none, same_room, same_most, same_after, counted)

@@ -154,10 +154,11 @@ impl<P: Ptr, T: Drop, S: SlotStack<Item = ArenaSlot<P, T>>> Arena<P, T, S> {
         ensures err { OnErr result (self.new ≡ self.old) }
         ensures after { self.new ≡ with_capacity_of self.old self.new }
     {
-        if !self.is_full() {
-            return Ok(());
+        if self.is_full() {
+            self.grow_to(self.len + 1)
+        } else {
+            Ok(())
         }
-        self.grow_to(self.len + 1)
     }
 
     // Whether there are as many entries as the capacity.
@@ -184,7 +185,8 @@ impl<P: Ptr, T: Drop, S: SlotStack<Item = ArenaSlot<P, T>>> Arena<P, T, S> {
     }
 
     // The pointer of the entry at a position, from 0, if one stands there.
-    pub(crate) fn ptr_at(&self, k: usize) -> Option<P>
+    fn ptr_at(&self, k: usize) -> Option<P>
+        requires { k < P.Inx.greatest }
         ensures key { option_map P.key result ≡ option_map (key_at (k + 1)) (slice_index_or self.now.slots k None) }
         ensures fits { IsSome result → k + 2 < 2 ^ 64 }
     {
@@ -242,7 +244,8 @@ impl<P: Ptr, T: Drop, S: SlotStack<Item = ArenaSlot<P, T>>> Arena<P, T, S> {
     {
         let i = match self.first_free {
             Some(i) => i,
-            None => inx_at::<P>(self.slots.len()),
+            // There are as many slots as entries.
+            None => inx_at::<P>(self.len),
         };
         P::_from_raw(i, self.counter)
     }

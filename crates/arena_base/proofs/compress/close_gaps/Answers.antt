@@ -1,5 +1,5 @@
 -- Each entry comes to the end of the front, and is seen there.
-use Rattle.std.proofs.Common.{◌≡◌, ◌+◌, length, refl, sym, ap, ◌∙◌, arith, of_calls}
+use Rattle.std.proofs.Common.{◌≡◌, ◌+◌, ◌≤◌, length, refl, sym, ap, ◌∙◌, arith, of_calls}
 use Rattle.arena_base.specs.Closing.{with_totals}
 use Rattle.std.specs.Option.{option_copied_mut}
 use Rattle.arena_base.specs.Arena.{slot_at}
@@ -11,6 +11,7 @@ pub loop-k-init : goal.loop-k-init
 loop-k-init g c =
     let old = c.args.compactor.now in
     record {
+      few = omega arith;
       callable = c.requires.callable;
       same_reference = refl;
       capacity = refl;
@@ -18,9 +19,6 @@ loop-k-init g c =
       closing = closing_begins g.F.FnMut g.P.Ptr.key c.args.generation c.args.map old.held.slots;
       totals = totals_begin old.arena.now;
     }
-
-pub inx_at-to-requires : goal.inx_at-to-requires
-inx_at-to-requires g c = omega (arith, c.requires.fits, c.loop-k.invariant.closing.passed)
 
 pub close_gap-requires-clause-from : goal.close_gap-requires-clause-from
 close_gap-requires-clause-from g c =
@@ -45,11 +43,13 @@ loop-k-preserved g c =
     let number = g.P.Inx.PtrInx.number in
     let at = c.loop-k.invariant in
     let old = c.args.compactor.now in
+    let few : c.loop-k.count + 1 ≤ c.loop-k.k + 1 = omega (arith, at.few) in
     elim c.match-close_gap.branch [
       | in-Some+in-Some-value_mut w ↦
           let lent = rw w.in-Some-value_mut.is at (w.value_mut.follows.holds w.map.new.arg3) in
           let placed = w.in-Some.ensures.some in
           rw (w.compactor-is, w.map-is, w.count-is) (record {
+            few = few;
             callable = search of_calls;
             same_reference = lent.1.0 ∙ (c.close_gap.ensures.same_reference ∙ at.same_reference);
             capacity = ap (λ h. h.stack_capacity) lent.0 ∙ (ap (λ h. h.stack_capacity) placed.0 ∙ at.capacity);
@@ -64,6 +64,7 @@ loop-k-preserved g c =
       | in_default w ↦
           let kept = w.in_default.ensures.none in
           rw (w.compactor-is, w.map-is, w.count-is, kept.0) (record {
+            few = omega (arith, few);
             callable = at.callable;
             same_reference = c.close_gap.ensures.same_reference ∙ at.same_reference;
             capacity = at.capacity;
