@@ -1,6 +1,7 @@
 -- The entry comes where room was made.
-use Rattle.std.proofs.Common.{◌≡◌, ◌+◌, Result, Err, false, true, refl, sym, ap, ◌∙◌, subst}
-use Rattle.arena_base.specs.Arena.{entry_count, next_index, insert_next, with_capacity_of, HasRoom}
+use Rattle.std.proofs.Common.{◌≡◌, ◌+◌, Result, Err, false, true, refl, sym, ap, ◌∙◌}
+use Rattle.arena_base.specs.Arena.{entry_count, next_index, insert_next}
+use Rattle.arena_base.proofs.Viewing.{inserted_grown, room_grown}
 use Rattle.arena_base.proofs.arena.Arena.insert_reallocating.Goals as goal
 
 -- the same is refused, whatever else would be answered
@@ -12,11 +13,10 @@ returns-in-Ok g c =
     let old = c.args.self.now in
     let after = c.in-Ok.ensures.after in
     let made = c.insert_here.ensures in
-    let shown = made.after ∙ ap (λ a. insert_next a c.args.t) after in
     record {
       ptr = made.ptr ∙ ap (λ a. (next_index a, a.counter)) after;
-      ok = shown ∙ ap (with_capacity_of (insert_next old c.args.t)) (sym made.after);
-      grown = subst (HasRoom g.P.Inx.PtrInx.greatest (entry_count old + 1)) (sym made.after) c.in-Ok.ensures.ok;
+      ok = inserted_grown old _ _ c.args.t after made.after;
+      grown = room_grown old _ _ c.args.t after made.after g.P.Inx.PtrInx.greatest (entry_count old + 1) c.in-Ok.ensures.ok;
       err = tt;
       room = λ few. (refl, made.after ∙ ap (λ a. insert_next a c.args.t) (c.in-Ok.ensures.room few).1);
       beyond = (λ is. cc, λ both. let never = c.in-Ok.ensures.beyond.1 both in cc);
