@@ -4,7 +4,7 @@ use Rattle.std.proofs.Common.{◌≡◌, ℕ, zero, suc, ◌+◌, ◌<◌, ◌�
 use Rattle.std.specs.Prelude.{slice_index_or, All, min}
 use Rattle.std.proofs.lemmas.List.Elements.{All-nil, All-cons}
 use Rattle.arena_ptr.specs.Numbers.{IsWithin}
-use Rattle.arena_ptr.specs.SlotStack.{IsBeyond, IsWithinMaximum}
+use Rattle.arena_ptr.specs.SlotStack.{IsWithinMaximum}
 use Rattle.arena_base.specs.Arena.{Arena, Has, IsApart, IsListed, IsRoom}
 use Rattle.arena_base.specs.Entries.{entries_from, entries, index_of, AreTheSlots}
 
@@ -39,11 +39,6 @@ room_for greatest n capacity maximum fits most within = record {
   below : (m : Option ℕ) → IsWithinMaximum m capacity → IsWithinMaximum m (min capacity greatest)
   below None within = within
   below (Some most) within = search rules
-
--- what fits is not beyond the maximum
-pub not_beyond : (maximum : Option ℕ) (n capacity : ℕ) → IsWithinMaximum maximum capacity → n ≤ capacity → IsBeyond maximum n → ⊥
-not_beyond None n capacity within fits beyond = beyond
-not_beyond (Some most) n capacity within fits beyond = omega (arith, within, fits, beyond)
 
 module _ {Gen T : Type 0} where
   abbrev indexes : ℕ → List (Option (Gen × T)) → List ℕ

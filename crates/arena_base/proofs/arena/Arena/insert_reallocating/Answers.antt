@@ -1,5 +1,5 @@
 -- The entry comes where room was made.
-use Rattle.std.proofs.Common.{◌≡◌, ◌+◌, Result, Err, false, true, refl, sym, ap, ◌∙◌}
+use Rattle.std.proofs.Common.{◌≡◌, ◌+◌, Result, Err, false, true, refl, ap, ◌∙◌}
 use Rattle.arena_base.specs.Arena.{entry_count, next_index, insert_next}
 use Rattle.arena_base.proofs.Viewing.{inserted_grown, room_grown}
 use Rattle.arena_base.proofs.arena.Arena.insert_reallocating.Goals as goal

@@ -1,5 +1,5 @@
 -- What grows is the room.
-use Rattle.std.proofs.Common.{refl, ap, arith}
+use Rattle.std.proofs.Common.{ap, arith}
 use Rattle.arena_base.specs.Entries.{seen_of}
 use Rattle.arena_base.proofs.Copying.{on_ok}
 use Rattle.arena_base.proofs.arena_trait.ArenaArenaTrait.reallocate_min_capacity.Goals as goal
