@@ -1,13 +1,13 @@
 -- Slots that are copied one by one: the values made so far, and the slots that are still to come.
-use Rattle.std.proofs.Common.{◌≡◌, ℕ, zero, suc, ◌+◌, ◌≤◌, List, [], ◌∷◌, ◌++◌, map, length, length-append, drop, Option, None, Some, Result, Ok, Err, OnOk, OnErr, refl, ap, sym, ◌∙◌, subst, append_assoc, arith}
+use Rattle.std.proofs.Common.{◌≡◌, true, false, IsErr, ℕ, zero, suc, ◌+◌, ◌≤◌, List, [], ◌∷◌, ◌++◌, map, length, length-append, drop, Option, None, Some, Result, Ok, Err, OnOk, OnErr, refl, ap, sym, ◌∙◌, subst, append_assoc, arith}
 use Rattle.std.specs.Prelude.{slice_get, min}
 use Rattle.std.specs.List.{FoldsTo}
 use Rattle.std.proofs.lemmas.List.{append-nil, map-append, length-map, drop_all}
 use Rattle.std.proofs.lemmas.Fn.{FoldsTo-push}
-use Rattle.arena_base.specs.Arena.{Arena, with_capacity_of}
+use Rattle.arena_base.specs.Arena.{Arena, IsRoom, with_capacity_of}
 use Rattle.arena_base.specs.Entries.{entries_from, entries, seen_of}
 use Rattle.arena_base.specs.Slots.{entry_of, allocated_slot, free_slot, without_value, without_values, freed_of, arena_of, IsSound}
-use Rattle.arena_base.specs.Copying.{Copied, Makes, CopiesBy, HasRefusable, IsCopyBy, HasSlotsOf, generations}
+use Rattle.arena_base.specs.Copying.{Copied, Makes, CopiesBy, HasRefusable, IsCopyBy, HasSlotsOf, IsGivenUp, generations}
 use Rattle.arena_base.specs.declared.slot.ArenaSlot.{ArenaSlot}
 use Rattle.arena_base.proofs.Reading.{map-push}
 use Rattle.arena_base.proofs.Soundness.{walked_all}
@@ -140,26 +140,47 @@ module _ {F P U T Inx Gen Word : Type 0} (makes : F → P → U → T → F → 
 module _ {P T U Inx Gen Word : Type 0} (number : Inx → ℕ) (a : List (ArenaSlot P U Inx Gen Word)) (b : List (ArenaSlot P T Inx Gen Word)) (alike : without_values b ≡ without_values a) (greatest len : ℕ) (head : Option Inx) where
   -- an arena that got slots like the source's, its freed list and its counter
   pub has_slots_of : IsSound number a greatest len head (freed_of number a head)
-      → (source : Arena Gen U) (old mid : Arena Gen T) (counter before : Gen) (ns : List ℕ) (slots : List (ArenaSlot P T Inx Gen Word)) (room capacity : ℕ) (limit maximum : Option ℕ) (p t placed touched n : ℕ)
+      → (source : Arena Gen U) (old mid : Arena Gen T) (counter before : Gen) (ns : List ℕ) (slots : List (ArenaSlot P T Inx Gen Word)) (room capacity has : ℕ) (limit maximum most : Option ℕ) (p t placed touched n : ℕ) → has ≡ capacity → most ≡ maximum
       → arena_of a (freed_of number a head) counter greatest room limit p t ≡ source → arena_of slots ns before greatest capacity maximum placed touched ≡ mid
       → mid ≡ with_capacity_of old mid → n ≡ length a → (n ≤ old.capacity → mid ≡ old)
-      → HasSlotsOf source old (arena_of b (freed_of number b head) counter greatest capacity maximum placed touched)
-  has_slots_of sound source old mid counter before ns slots room capacity limit maximum p t placed touched n is_source is_mid after count within =
+      → HasSlotsOf source old (arena_of b (freed_of number b head) counter greatest has most placed touched)
+  has_slots_of sound source old mid counter before ns slots room capacity has limit maximum most p t placed touched n same_capacity same_maximum is_source is_mid after count within =
       let same = is_mid ∙ after in
       record {
         state = λ i. record {
           slots = map entry_of b;
           counter = (ap (λ (s : Arena Gen U). s.counter) is_source) i;
           freed = (walked_all number (sound_too number alike sound) ∙ ap (λ (s : Arena Gen U). s.freed) is_source) i;
-          capacity = min capacity greatest;
-          stack_capacity = capacity;
-          maximum = (ap (λ (s : Arena Gen T). s.maximum) same) i;
+          capacity = min has greatest;
+          stack_capacity = has;
+          maximum = (same_maximum ∙ ap (λ (s : Arena Gen T). s.maximum) same) i;
           placed = (ap (λ (s : Arena Gen T). s.placed) same) i;
           touched = (ap (λ (s : Arena Gen T). s.touched) same) i;
         };
         generations = same_generations a b alike ∙ ap (λ (s : Arena Gen U). generations s.slots) is_source;
-        room = λ few. ap (λ (s : Arena Gen T). s.stack_capacity) is_mid ∙ ap (λ (s : Arena Gen T). s.stack_capacity) (within (omega (arith, few, count, length-map a entry_of, ap (λ (s : Arena Gen U). length s.slots) is_source)));
+        room = λ few. same_capacity ∙ (ap (λ (s : Arena Gen T). s.stack_capacity) is_mid ∙ ap (λ (s : Arena Gen T). s.stack_capacity) (within (omega (arith, few, count, length-map a entry_of, ap (λ (s : Arena Gen U). length s.slots) is_source))));
       }
+
+-- an arena that has lost its slots on the way
+pub given_up : {P T Inx Gen Word : Type 0} (number : Inx → ℕ) (items slots : List (ArenaSlot P T Inx Gen Word)) (ns : List ℕ) (counter : Gen) (greatest room capacity : ℕ) (most maximum : Option ℕ) (placed touched : ℕ) (old mid : Arena Gen T)
+    → items ≡ [] → room ≡ capacity → most ≡ maximum → arena_of slots ns counter greatest capacity maximum placed touched ≡ mid → mid ≡ with_capacity_of old mid
+    → IsGivenUp old (arena_of items (freed_of number items None) counter greatest room most placed touched)
+given_up {T = T} {Gen = Gen} number items slots ns counter greatest room capacity most maximum placed touched old mid empty same_room same_most is_mid after =
+    let same = is_mid ∙ after in
+    rw empty (λ i. record {
+      slots = [];
+      counter = (ap (λ (s : Arena Gen T). s.counter) same) i;
+      freed = [];
+      capacity = min room greatest;
+      stack_capacity = room;
+      maximum = (same_most ∙ ap (λ (s : Arena Gen T). s.maximum) same) i;
+      placed = (ap (λ (s : Arena Gen T). s.placed) same) i;
+      touched = (ap (λ (s : Arena Gen T). s.touched) same) i;
+    })
+
+-- room for so many, in other words
+pub same_room : {greatest n m capacity room : ℕ} {maximum most : Option ℕ} → n ≡ m → room ≡ capacity → most ≡ maximum → IsRoom greatest maximum n capacity → IsRoom greatest most m room
+same_room count same_capacity same_maximum r = rw (← count, same_capacity, same_maximum) r
 
 -- what generic code sees of it
 pub copy_seen : {F P T U Gen : Type 0} (makes : F → P → U → T → F → Type 0) (key : P → ℕ × Gen) (f : F) (source : Arena Gen U) (old new : Arena Gen T)
@@ -199,7 +220,21 @@ pub on_ok_both : {X E A B C : Type 0} (r : Result X E) → (A → B → C) → O
 on_ok_both (Ok x) both a b = both a b
 on_ok_both (Err e) both a b = tt
 
+-- what holds of an answer, by a thing that does
+pub on_ok : {X E A B : Type 0} (r : Result X E) → (A → B) → OnOk r A → OnOk r B
+on_ok (Ok x) f a = f a
+on_ok (Err e) f a = tt
+
+pub on_err : {X E A B : Type 0} (r : Result X E) → (A → B) → OnErr r A → OnErr r B
+on_err (Ok x) f a = tt
+on_err (Err e) f a = f a
+
 -- what holds anyhow holds at a refusal
 pub on_err_anyhow : {X E A : Type 0} (r : Result X E) → A → OnErr r A
 on_err_anyhow (Ok x) a = tt
 on_err_anyhow (Err e) a = a
+
+-- nothing is asked of a success there
+pub on_ok_refused : {X E : Type 0} (A : Type 0) (r : Result X E) → IsErr r → OnOk r A
+on_ok_refused A (Ok x) refused = let never : false ≡ true = refused in cc
+on_ok_refused A (Err e) refused = tt

@@ -15,13 +15,23 @@ first_of (Some p) rest = Some p
 
 module _ {Gen T : Type 0} where
   -- the first key from a position on is that of the slot there, or else the first one behind it
-  pub first_key-drop : (slots : List (Option (Gen × T))) (i k : ℕ) → k < length slots
+  first_key-drop : (slots : List (Option (Gen × T))) (i k : ℕ) → k < length slots
       → first_key (entries_from i (drop k slots)) ≡ first_of (option_map (key_at i) (slice_index_or slots k None)) (first_key (entries_from (suc i) (drop (suc k) slots)))
   first_key-drop [] i k below = absurd (omega (arith, below))
   first_key-drop (None ∷ slots) i zero below = refl
   first_key-drop (Some e ∷ slots) i zero below = refl
   first_key-drop (s ∷ slots) i (suc k) below = first_key-drop slots i k (omega (arith, below))
 
+  -- one step of a search up
+  pub first_key-step : (slots : List (Option (Gen × T))) (k : ℕ) (o : Option (ℕ × Gen)) → k < length slots → o ≡ option_map (key_at (k + 1)) (slice_index_or slots k None)
+      → first_key (entries_from (k + 1) (drop k slots)) ≡ first_of o (first_key (entries_from (k + 1 + 1) (drop (k + 1) slots)))
+  first_key-step slots k o below is =
+      let next : suc k ≡ k + 1 = omega arith in
+      let index : suc (k + 1) ≡ k + 1 + 1 = omega arith in
+      first_key-drop slots (k + 1) k below
+      ∙ (ap (λ p. first_of p (first_key (entries_from (suc (k + 1)) (drop (suc k) slots)))) (sym is) ∙ (λ i. first_of o (first_key (entries_from (index i) (drop (next i) slots)))))
+
+  -- nothing stands behind the slots
   pub drop-all : (slots : List (Option (Gen × T))) (i k : ℕ) → length slots ≤ k → entries_from i (drop k slots) ≡ []
   drop-all [] i zero past = refl
   drop-all [] i (suc k) past = refl
@@ -94,6 +104,11 @@ module _ {Gen T : Type 0} where
       let next : suc k ≡ n = omega (arith, at) in
       ap (λ m. last_key (entries_from 1 (take m slots))) (sym next)
       ∙ (last_key-take slots k (k + 1) below (omega arith) ∙ ap (λ p. first_of p (last_key (entries_from 1 (take k slots)))) (sym is))
+
+  -- the key of an entry has the index that it was looked at
+  pub index_of_key : (key : ℕ × Gen) (i : ℕ) (o : Option (Gen × T)) → Some key ≡ option_map (key_at i) o → key.0 ≡ i
+  index_of_key key i None is = cc
+  index_of_key key i (Some e) is = let same : key ≡ (i, e.0) = cc in ap (λ (k : ℕ × Gen). k.0) same
 
   -- what lies ahead by rising index begins at a position
   pub ahead_up : (slots : List (Option (Gen × T))) (from k : ℕ) → k ≡ from - 1 → entries_from (k + 1) (drop k slots) ≡ from_index from (entries_from 1 slots)

@@ -4,7 +4,7 @@ use Rattle.std.specs.Prelude.{IsSome, true, false, count_by, is_some, cond, slic
 use Rattle.std.proofs.lemmas.List.{length-set}
 use Rattle.std.proofs.lemmas.List.Sums.{sum_by-cons}
 use Rattle.arena_base.specs.Arena.{slot_at, with_slot}
-use Rattle.arena_base.specs.Slots.{item_at, entry_of, entry_in, allocated_slot, with_generation_in, with_generation_at, freed_slot}
+use Rattle.arena_base.specs.Slots.{item_at, entry_of, entry_in, allocated_slot, free_slot, with_generation_in, with_generation_at, freed_slot}
 use Rattle.arena_base.specs.declared.slot.ArenaSlot.{ArenaSlot}
 use Rattle.arena_base.specs.declared.slot.ArenaSlot.TheVariants.{Allocated, Free}
 
@@ -26,11 +26,6 @@ module _ {X : Type 0} where
   slice_set-itself (y ∷ xs) zero x is = let e : y ≡ x = cc in ap (λ z. z ∷ xs) (sym e)
   slice_set-itself (y ∷ xs) (suc k) x is = ap (λ zs. y ∷ zs) (slice_set-itself xs k x is)
 
-  pub slice_get-append : (xs ys : List X) (k : ℕ) (x : X) → slice_get xs k ≡ Some x → slice_get (xs ++ ys) k ≡ Some x
-  slice_get-append [] ys k x is = cc
-  slice_get-append (z ∷ xs) ys zero x is = is
-  slice_get-append (z ∷ xs) ys (suc k) x is = slice_get-append xs ys k x is
-
   -- what stands behind a list that got one more is in the list or is the one
   pub slice_get-push : (xs : List X) (x y : X) (k : ℕ) → slice_get (xs ++ x ∷ []) k ≡ Some y → (slice_get xs k ≡ Some y) ⊎ (x ≡ y)
   slice_get-push [] x y zero is = inr cc
@@ -43,13 +38,12 @@ module _ {X : Type 0} where
   slice_get-below (z ∷ xs) zero x is = omega arith
   slice_get-below (z ∷ xs) (suc k) x is = let below = slice_get-below xs k x is in omega (arith, below)
 
+  pub slice_got-below : (xs : List X) (k : ℕ) (x : X) → Some x ≡ slice_get xs k → k < length xs
+  slice_got-below xs k x is = slice_get-below xs k x (sym is)
+
   pub item_at-set-other : (xs : List X) (k n : ℕ) (x : X) → (suc k ≡ n → ⊥) → item_at (slice_set xs k x) n ≡ item_at xs n
   item_at-set-other xs k zero x other = refl
   item_at-set-other xs k (suc m) x other = slice_get-set-other xs k m x (λ e. other (ap suc e))
-
-  pub item_at-append : (xs ys : List X) (n : ℕ) (x : X) → item_at xs n ≡ Some x → item_at (xs ++ ys) n ≡ Some x
-  item_at-append xs ys zero x is = cc
-  item_at-append xs ys (suc k) x is = slice_get-append xs ys k x is
 
   pub item_at-push : (xs : List X) (x y : X) (n : ℕ) → item_at (xs ++ x ∷ []) n ≡ Some y → (item_at xs n ≡ Some y) ⊎ (x ≡ y)
   item_at-push xs x y zero is = inl is
@@ -125,6 +119,11 @@ module _ {P T Inx Gen Word : Type 0} where
   pub freed_slot-free : (slot : ArenaSlot P T Inx Gen Word) (next : Option Inx) → entry_of slot ≡ None → freed_slot slot next ≡ slot
   freed_slot-free (Allocated g t) next is = cc
   freed_slot-free (Free other) next is = refl
+
+  -- and one with an entry is freed
+  pub freed_slot-taken : (slot : ArenaSlot P T Inx Gen Word) (next : Option Inx) (e : Gen × T) → entry_of slot ≡ Some e → freed_slot slot next ≡ free_slot next
+  freed_slot-taken (Allocated g t) next e is = refl
+  freed_slot-taken (Free other) next e is = cc
 
   pub allocated-entry : (slot : ArenaSlot P T Inx Gen Word) (e : Gen × T) → entry_of slot ≡ Some e → slot ≡ allocated_slot e.0 e.1
   allocated-entry (Allocated g t) e is = ap (λ (o : Option (Gen × T)). slot_with o) is

@@ -10,7 +10,7 @@ use Rattle.arena_base.specs.Entries.{Seen, entries_from, entries, seen_of, witho
 use Rattle.arena_base.proofs.Reading.{length-with_slot}
 
 module _ {Gen T : Type 0} where
-  length-entries_from : (i : ℕ) (slots : List (Option (Gen × T))) → length (entries_from i slots) ≡ count_by is_some slots
+  pub length-entries_from : (i : ℕ) (slots : List (Option (Gen × T))) → length (entries_from i slots) ≡ count_by is_some slots
   length-entries_from i [] = refl
   length-entries_from i (None ∷ slots) = length-entries_from (suc i) slots ∙ omega (arith, sum_by-cons (λ (o : Option (Gen × T)). cond (is_some o) 1 0) None slots)
   length-entries_from i (Some e ∷ slots) =

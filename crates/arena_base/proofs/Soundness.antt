@@ -3,11 +3,11 @@ use Rattle.std.proofs.Common.{◌≡◌, ℕ, zero, suc, ◌+◌, ◌<◌, ◌�
 use Rattle.std.specs.Prelude.{slice_get, slice_set}
 use Rattle.std.proofs.lemmas.List.{length-set}
 use Rattle.std.proofs.lemmas.Bool.{cases_eq}
-use Rattle.arena_base.specs.Arena.{Has, without_first}
+use Rattle.arena_base.specs.Arena.{Has, first_or_next, without_first}
 use Rattle.arena_base.specs.Slots.{item_at, with_value_in, next_of, allocated_slot, free_slot, freed_from, freed_of, IsFreeList, IsSound}
 use Rattle.arena_base.specs.declared.slot.ArenaSlot.{ArenaSlot}
 use Rattle.arena_base.specs.declared.slot.ArenaSlot.TheVariants.{Allocated, Free}
-use Rattle.arena_base.proofs.Reading.{slice_get-set-same, slice_set-itself, item_at-set-other, item_at-append, item_at-push, at_position, taken_count-set, taken_count-push}
+use Rattle.arena_base.proofs.Reading.{slice_get-set-same, slice_set-itself, item_at-set-other, item_at-push, at_position, taken_count-set, taken_count-push}
 
 module _ {P T Inx Gen Word : Type 0} where
   -- a taken slot is not free
@@ -30,10 +30,6 @@ module _ {P T Inx Gen Word : Type 0} (number : Inx → ℕ) where
   IsFreeList-set slots k slot [] head out l = l
   IsFreeList-set slots k slot (n ∷ ns) head out l =
       (l.0, l.1, l.2, l.3, item_at-set-other slots k n slot (λ e. out (inl (sym e))) ∙ l.4, IsFreeList-set slots k slot ns l.1 (λ h. out (inr h)) l.5)
-
-  pub IsFreeList-push : (slots : List (ArenaSlot P T Inx Gen Word)) (slot : ArenaSlot P T Inx Gen Word) (ns : List ℕ) (head : Option Inx) → IsFreeList number slots ns head → IsFreeList number (slots ++ slot ∷ []) ns head
-  IsFreeList-push slots slot [] head l = l
-  IsFreeList-push slots slot (n ∷ ns) head l = (l.0, l.1, l.2, l.3, item_at-append slots (slot ∷ []) n (free_slot l.1) l.4, IsFreeList-push slots slot ns l.1 l.5)
 
   -- the walk along the freed list finds it
   pub walked : (slots : List (ArenaSlot P T Inx Gen Word)) (ns : List ℕ) (most : ℕ) (head : Option Inx) → IsFreeList number slots ns head → length ns ≤ most → freed_from number slots most head ≡ ns
@@ -150,6 +146,29 @@ module _ {P T Inx Gen Word : Type 0} (number : Inx → ℕ) where
         refl,
       )
   filled_next {slots = slots} {ns = n ∷ ns} g t s room = let some : None ≡ Some s.linked.0 = s.linked.2 in cc
+
+  none_listed : (slots : List (ArenaSlot P T Inx Gen Word)) (n : ℕ) (next : Option Inx) → slots ≡ [] → item_at slots n ≡ Some (free_slot next) → ⊥
+  none_listed slots zero next empty is = cc
+  none_listed [] (suc k) next empty is = cc
+  none_listed (s ∷ slots) (suc k) next empty is = cc
+
+  -- no slots are sound
+  pub none_sound : (slots : List (ArenaSlot P T Inx Gen Word)) (greatest : ℕ) → slots ≡ [] → IsSound number slots greatest 0 None (freed_of number slots None)
+  none_sound [] greatest is = record { linked = refl; apart = tt; covers = λ n next free. absurd (none_listed [] n next refl free); counted = refl; total = refl; fits = omega arith }
+  none_sound (s ∷ slots) greatest is = cc
+
+  -- the next insertion takes the slot that was freed last
+  pub first_freed : {slots : List (ArenaSlot P T Inx Gen Word)} {greatest len : ℕ} {ns : List ℕ} (i : Inx) → IsSound number slots greatest len (Some i) ns → (count : ℕ) → number i ≡ first_or_next ns count
+  first_freed {ns = []} i s count = let none : Some i ≡ None = s.linked in cc
+  first_freed {ns = n ∷ ns} i s count =
+      let first : Some i ≡ Some s.linked.0 = s.linked.2 in
+      let same : i ≡ s.linked.0 = cc in
+      ap number same ∙ s.linked.3
+
+  -- or else a new one
+  pub first_new : {slots : List (ArenaSlot P T Inx Gen Word)} {greatest len : ℕ} {ns : List ℕ} → IsSound number slots greatest len None ns → (count : ℕ) → count + 1 ≡ first_or_next ns count
+  first_new {ns = []} s count = refl
+  first_new {ns = n ∷ ns} s count = let some : None ≡ Some s.linked.0 = s.linked.2 in cc
 
   -- where no slot is freed there are as many entries as slots
   pub none_freed : {slots : List (ArenaSlot P T Inx Gen Word)} {greatest len : ℕ} {ns : List ℕ} → IsSound number slots greatest len None ns → len ≡ length slots

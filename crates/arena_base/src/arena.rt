@@ -138,8 +138,10 @@ impl<P: Ptr, T: Drop, S: SlotStack<Item = ArenaSlot<P, T>>> Arena<P, T, S> {
             ((entry_count self.old ≡ self.old.capacity) × IsBeyond self.old.maximum (entry_count self.old + 1)) }
         ensures greatest { entry_count self.old ≡ P.Inx.greatest → IsErr result }
     {
-        self.make_room()?;
-        Ok(self.insert_here(t))
+        match self.make_room() {
+            Ok(()) => Ok(self.insert_here(t)),
+            Err(e) => Err(e),
+        }
     }
 
     // Grows a full arena to room for one entry more.
@@ -152,10 +154,11 @@ impl<P: Ptr, T: Drop, S: SlotStack<Item = ArenaSlot<P, T>>> Arena<P, T, S> {
         ensures err { OnErr result (self.new ≡ self.old) }
         ensures after { self.new ≡ with_capacity_of self.old self.new }
     {
-        if !self.is_full() {
-            return Ok(());
+        if self.is_full() {
+            self.grow_to(self.len + 1)
+        } else {
+            Ok(())
         }
-        self.grow_to(self.len + 1)
     }
 
     // Whether there are as many entries as the capacity.
@@ -182,7 +185,8 @@ impl<P: Ptr, T: Drop, S: SlotStack<Item = ArenaSlot<P, T>>> Arena<P, T, S> {
     }
 
     // The pointer of the entry at a position, from 0, if one stands there.
-    pub(crate) fn ptr_at(&self, k: usize) -> Option<P>
+    fn ptr_at(&self, k: usize) -> Option<P>
+        requires { k < P.Inx.greatest }
         ensures key { option_map P.key result ≡ option_map (key_at (k + 1)) (slice_index_or self.now.slots k None) }
         ensures fits { IsSome result → k + 2 < 2 ^ 64 }
     {
@@ -240,7 +244,8 @@ impl<P: Ptr, T: Drop, S: SlotStack<Item = ArenaSlot<P, T>>> Arena<P, T, S> {
     {
         let i = match self.first_free {
             Some(i) => i,
-            None => inx_at::<P>(self.slots.len()),
+            // There are as many slots as entries.
+            None => inx_at::<P>(self.len),
         };
         P::_from_raw(i, self.counter)
     }
@@ -343,8 +348,14 @@ fn refusal(maximum: Option<usize>, n: usize) -> ReallocationError
     ensures { (result ≡ ReallocationError.BeyondMaxCapacity) ↔ IsBeyond maximum n }
 {
     match maximum {
-        Some(most) if most < n => ReallocationError::BeyondMaxCapacity,
-        _ => ReallocationError::AllocError,
+        Some(most) => {
+            if most < n {
+                ReallocationError::BeyondMaxCapacity
+            } else {
+                ReallocationError::AllocError
+            }
+        }
+        None => ReallocationError::AllocError,
     }
 }
 

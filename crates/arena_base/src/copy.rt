@@ -89,21 +89,25 @@ impl<P: Ptr, T: Drop, S: SlotStack<Item = ArenaSlot<P, T>>> Arena<P, T, S> {
         ensures never_less { self.old.capacity ≤ self.new.capacity }
         ensures err { OnErr result ((self.new ≡ self.old) ⊎ (HasRefusable M.may_refuse P.key (entries source.now) × IsGivenUp self.old self.new)) }
     {
-        self.reallocate_min_capacity(source.slots.len())?;
-        self.slots.truncate(0);
-        match copy_slots(&mut self.slots, &source.slots, values) {
+        match self.reallocate_min_capacity(source.slots.len()) {
             Ok(()) => {
-                self.len = source.len;
-                self.first_free = source.first_free;
-                self.counter = source.counter;
-                Ok(())
-            }
-            Err(_) => {
                 self.slots.truncate(0);
-                self.len = 0;
-                self.first_free = None;
-                Err(ReallocationError::AllocError)
+                match copy_slots(&mut self.slots, &source.slots, values) {
+                    Ok(()) => {
+                        self.len = source.len;
+                        self.first_free = source.first_free;
+                        self.counter = source.counter;
+                        Ok(())
+                    }
+                    Err(_) => {
+                        self.slots.truncate(0);
+                        self.len = 0;
+                        self.first_free = None;
+                        Err(ReallocationError::AllocError)
+                    }
+                }
             }
+            Err(e) => Err(e),
         }
     }
 }

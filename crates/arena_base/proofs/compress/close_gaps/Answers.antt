@@ -1,5 +1,5 @@
 -- Each entry comes to the end of the front, and is seen there.
-use Rattle.std.proofs.Common.{◌≡◌, ◌+◌, length, refl, sym, ap, ◌∙◌, arith, of_calls}
+use Rattle.std.proofs.Common.{◌≡◌, ◌+◌, ◌≤◌, length, refl, sym, ap, ◌∙◌, arith, of_calls}
 use Rattle.arena_base.specs.Closing.{with_totals}
 use Rattle.std.specs.Option.{option_copied_mut}
 use Rattle.arena_base.specs.Arena.{slot_at}
@@ -11,6 +11,7 @@ pub loop-k-init : goal.loop-k-init
 loop-k-init g c =
     let old = c.args.compactor.now in
     record {
+      few = omega arith;
       callable = c.requires.callable;
       same_reference = refl;
       capacity = refl;
@@ -18,9 +19,6 @@ loop-k-init g c =
       closing = closing_begins g.F.FnMut g.P.Ptr.key c.args.generation c.args.map old.held.slots;
       totals = totals_begin old.arena.now;
     }
-
-pub inx_at-to-requires : goal.inx_at-to-requires
-inx_at-to-requires g c = omega (arith, c.requires.fits, c.loop-k.invariant.closing.passed)
 
 pub close_gap-requires-clause-from : goal.close_gap-requires-clause-from
 close_gap-requires-clause-from g c =
@@ -45,11 +43,13 @@ loop-k-preserved g c =
     let number = g.P.Inx.PtrInx.number in
     let at = c.loop-k.invariant in
     let old = c.args.compactor.now in
+    let few : c.loop-k.count + 1 ≤ c.loop-k.k + 1 = omega (arith, at.few) in
     elim c.match-close_gap.branch [
       | in-Some+in-Some-value_mut w ↦
           let lent = rw w.in-Some-value_mut.is at (w.value_mut.follows.holds w.map.new.arg3) in
           let placed = w.in-Some.ensures.some in
           rw (w.compactor-is, w.map-is, w.count-is) (record {
+            few = few;
             callable = search of_calls;
             same_reference = lent.1.0 ∙ (c.close_gap.ensures.same_reference ∙ at.same_reference);
             capacity = ap (λ h. h.stack_capacity) lent.0 ∙ (ap (λ h. h.stack_capacity) placed.0 ∙ at.capacity);
@@ -64,6 +64,7 @@ loop-k-preserved g c =
       | in_default w ↦
           let kept = w.in_default.ensures.none in
           rw (w.compactor-is, w.map-is, w.count-is, kept.0) (record {
+            few = omega (arith, few);
             callable = at.callable;
             same_reference = c.close_gap.ensures.same_reference ∙ at.same_reference;
             capacity = at.capacity;
@@ -74,17 +75,16 @@ loop-k-preserved g c =
           })
     ]
 
-pub returns-clause-closed : goal.returns-clause-closed
-returns-clause-closed g c =
-    closing_closes g.F.FnMut g.P.Ptr.key c.args.generation c.args.map c.args.compactor.now.held.slots c.loop-k.k c.loop-k.count c.loop-k.map c.loop-k.compactor.held.slots c.loop-k.invariant.closing (omega arith)
-    c.args.compactor.now.held c.loop-k.compactor.held refl refl c.loop-k.invariant.capacity c.loop-k.invariant.maximum
-
-pub returns-clause-visits : goal.returns-clause-visits
-returns-clause-visits g c =
-    closing_visits g.F.FnMut g.P.Ptr.key c.args.generation c.args.map c.args.compactor.now.held.slots c.loop-k.k c.loop-k.count c.loop-k.map c.loop-k.compactor.held.slots c.loop-k.invariant.closing (omega arith)
-
-pub returns-clause-totals : goal.returns-clause-totals
-returns-clause-totals g c =
-    let all : c.loop-k.k ≡ length c.args.compactor.now.held.slots = omega arith in
-    let count = closing_counts g.F.FnMut g.P.Ptr.key c.args.generation c.args.map c.args.compactor.now.held.slots c.loop-k.k c.loop-k.count c.loop-k.map c.loop-k.compactor.held.slots c.loop-k.invariant.closing all in
-    c.loop-k.invariant.totals ∙ (λ i. with_totals c.args.compactor.now.arena.now (count i) (all i + count i))
+pub returns : goal.returns
+returns g c =
+    let at = c.loop-k.invariant in
+    let old = c.args.compactor.now in
+    let now = c.loop-k.compactor.held in
+    let all : c.loop-k.k ≡ length old.held.slots = omega arith in
+    let count = closing_counts g.F.FnMut g.P.Ptr.key c.args.generation c.args.map old.held.slots c.loop-k.k c.loop-k.count c.loop-k.map now.slots at.closing all in
+    record {
+      same_reference = at.same_reference;
+      closed = closing_closes g.F.FnMut g.P.Ptr.key c.args.generation c.args.map old.held.slots c.loop-k.k c.loop-k.count c.loop-k.map now.slots at.closing all old.held now refl refl at.capacity at.maximum;
+      visits = closing_visits g.F.FnMut g.P.Ptr.key c.args.generation c.args.map old.held.slots c.loop-k.k c.loop-k.count c.loop-k.map now.slots at.closing all;
+      totals = at.totals ∙ (λ i. with_totals old.arena.now (count i) (all i + count i));
+    }

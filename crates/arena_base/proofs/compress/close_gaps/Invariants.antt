@@ -1,5 +1,5 @@
 -- The slots up to k are closed, and each was looked at once.
-use Rattle.std.proofs.Common.{◌≡◌, ◌+◌}
+use Rattle.std.proofs.Common.{◌≡◌, ◌≤◌, ◌+◌}
 use denote.Param.Always.{always_mut}
 use Rattle.arena_base.specs.Closing.{with_totals}
 use Rattle.arena_base.proofs.Closing.{IsClosing}
@@ -7,6 +7,7 @@ use Rattle.arena_base.proofs.compress.close_gaps.Given as goal
 
 abbrev pub invariant-loop-k : goal.invariant-loop-k
 invariant-loop-k g l = record {
+  few : l.count ≤ l.k;
   callable : always_mut g.F.FnMut l.map;
   same_reference : l.compactor.arena.ghost_name ≡ l.fn.compactor.arena.ghost_name;
   capacity : l.compactor.held.stack_capacity ≡ l.fn.compactor.held.stack_capacity;

@@ -1,6 +1,6 @@
 -- Each slot is copied behind the others.
 use Rattle.std.proofs.Common.{refl, sym, ap, ◌∙◌, Some, arith}
-use Rattle.arena_base.proofs.Copying.{copying_begins, copying_frees, copying_answers, copied_alike, copied_all, copying_refused, on_err_anyhow}
+use Rattle.arena_base.proofs.Copying.{copying_begins, copying_frees, copying_answers, copied_alike, copied_all, copying_refused, on_err_anyhow, on_ok_refused}
 use Rattle.arena_base.proofs.copy.copy_slots.Goals.{in-Allocated+in_ok-t-in-Allocated, in-Free}
 use Rattle.arena_base.proofs.copy.copy_slots.Goals as goal
 
@@ -35,17 +35,28 @@ loop-k-preserved g c =
       })
     ]
 
-pub returns-clause-alike : goal.returns-clause-alike
-returns-clause-alike g c =
-    copied_alike g.M.ValueMap.makes g.P.Ptr.key c.args.values (g.S1.SlotStack.items c.args.source.now) c.loop-k.k c.loop-k.values (g.S.SlotStack.items c.loop-k.slots) c.loop-k.invariant.copying (omega arith)
-
-pub returns-clause-copies : goal.returns-clause-copies
-returns-clause-copies g c =
-    copied_all g.M.ValueMap.makes g.P.Ptr.key c.args.values (g.S1.SlotStack.items c.args.source.now) c.loop-k.k c.loop-k.values (g.S.SlotStack.items c.loop-k.slots) c.loop-k.invariant.copying (omega arith)
-
-pub returns-in_err-t-in-Allocated-clause-refused : goal.returns-in_err-t-in-Allocated-clause-refused
-returns-in_err-t-in-Allocated-clause-refused g c =
+pub returns : goal.returns
+returns g c =
+    let at = c.loop-k.invariant in
     let old = g.S1.SlotStack.items c.args.source.now in
-    on_err_anyhow c.from_residual.result
-    (copying_refused g.M.ValueMap.makes g.P.Ptr.key c.args.values old c.loop-k.k c.loop-k.values (g.S.SlotStack.items c.loop-k.slots) c.loop-k.invariant.copying c.in-Allocated.generation c.in-Allocated.u c._from_raw.result g.M.ValueMap.may_refuse
-    (sym c.in-Some.ensures ∙ ap (λ s. Some s) c.in-Allocated.is) (c._from_raw.ensures ∙ ap (λ n. (n, c.in-Allocated.generation)) c.inx_at.ensures) c.in_err-t-in-Allocated.ensures.refused)
+    let slots = g.S.SlotStack.items c.loop-k.slots in
+    record {
+      alike = copied_alike g.M.ValueMap.makes g.P.Ptr.key c.args.values old c.loop-k.k c.loop-k.values slots at.copying (omega arith);
+      copies = copied_all g.M.ValueMap.makes g.P.Ptr.key c.args.values old c.loop-k.k c.loop-k.values slots at.copying (omega arith);
+      capacity = at.room;
+      maximum = at.most;
+      refused = tt;
+    }
+
+pub returns-in_err-t-in-Allocated : goal.returns-in_err-t-in-Allocated
+returns-in_err-t-in-Allocated g c =
+    let at = c.loop-k.invariant in
+    record {
+      alike = on_ok_refused _ c.from_residual.result c.from_residual.ensures.0;
+      copies = on_ok_refused _ c.from_residual.result c.from_residual.ensures.0;
+      capacity = at.room;
+      maximum = at.most;
+      refused = on_err_anyhow c.from_residual.result
+          (copying_refused g.M.ValueMap.makes g.P.Ptr.key c.args.values (g.S1.SlotStack.items c.args.source.now) c.loop-k.k c.loop-k.values (g.S.SlotStack.items c.loop-k.slots) at.copying c.in-Allocated.generation c.in-Allocated.u c._from_raw.result g.M.ValueMap.may_refuse
+          (sym c.in-Some.ensures ∙ ap (λ s. Some s) c.in-Allocated.is) (c._from_raw.ensures ∙ ap (λ n. (n, c.in-Allocated.generation)) c.inx_at.ensures) c.in_err-t-in-Allocated.ensures.refused);
+    }

@@ -29,8 +29,13 @@ loop-k-preserved g c =
       listing = listing_takes g.P.Inx.PtrInx.number at.listing k (omega arith) (omega (arith, at.few, at.long)) (sym c.is_free_at.ensures ∙ c.if-is_free_at.false);
     }
 
-pub returns-clause-sound : goal.returns-clause-sound
-returns-clause-sound g c =
+pub returns : goal.returns
+returns g c =
     let at = c.loop-k.invariant in
     let none : c.loop-k.k ≡ 0 = omega arith in
-    listing_ends g.P.Inx.PtrInx.number (rw none at at.listing) (omega (arith, at.long, c.requires))
+    record {
+      entries = at.listing.same;
+      sound = listing_ends g.P.Inx.PtrInx.number (rw none at at.listing) (omega (arith, at.long, c.requires));
+      capacity = at.room;
+      maximum = at.most;
+    }

@@ -1,20 +1,76 @@
 -- The slots are like those of the source, so that they have its freed list.
-use Rattle.arena_base.proofs.Soundness.{closed}
+use Rattle.std.proofs.Common.{◌≡◌, length, min, false, true, refl, sym, ap, ◌∙◌, arith, inl, inr}
+use Rattle.std.proofs.lemmas.List.{length-map}
+use Rattle.arena_base.specs.Slots.{entry_of}
+use Rattle.arena_base.proofs.Soundness.{closed, none_sound}
 use Rattle.arena_base.proofs.Alike.{sound_too}
-use Rattle.arena_base.proofs.Copying.{has_slots_of}
+use Rattle.arena_base.proofs.Copying.{has_slots_of, given_up, same_room}
 use Rattle.arena_base.proofs.arena.Arena.clone_from_by.Goals as goal
 
 pub invariant_of-self : goal.invariant_of-self
 invariant_of-self g c =
     let number = g.P.Inx.PtrInx.number in
-    closed number (sound_too number c.in-Ok.ensures.alike c.source.invariant)
+    closed number (sound_too number c.in-Ok-copy_slots.ensures.alike c.source.invariant)
 
-pub returns-in-Ok-clause-slots : goal.returns-in-Ok-clause-slots
-returns-in-Ok-clause-slots g c =
+pub invariant_of-self-in-Err-copy_slots : goal.invariant_of-self-in-Err-copy_slots
+invariant_of-self-in-Err-copy_slots g c = none_sound g.P.Inx.PtrInx.number _ g.P.Inx.PtrInx.greatest c.truncate-in-Err-copy_slots.ensures.items
+
+pub returns-in-Ok-copy_slots : goal.returns-in-Ok-copy_slots
+returns-in-Ok-copy_slots g c =
+    let greatest = g.P.Inx.PtrInx.greatest in
     let source = c.source.inside in
     let self = c.self.inside in
-    let grown = c.in_ok-reallocate_min_capacity.ensures in
-    rw (c.copy_slots.ensures.capacity, c.copy_slots.ensures.maximum, c.truncate.ensures.capacity, c.truncate.ensures.maximum)
-    (has_slots_of g.P.Inx.PtrInx.number (g.S1.SlotStack.items source.slots) (g.S.SlotStack.items c.copy_slots.new.slots) c.in-Ok.ensures.alike g.P.Inx.PtrInx.greatest source.len source.first_free c.source.invariant
-    c.args.source.now c.args.self.now c.reallocate_min_capacity.new.self source.counter self.counter _ (g.S.SlotStack.items self.slots) (g.S1.SlotStack.capacity source.slots) (g.S.SlotStack.capacity self.slots) (g.S1.SlotStack.maximum source.slots) (g.S.SlotStack.maximum self.slots)
-    source.placed.count source.touched.count self.placed.count self.touched.count c.len.result c.source.view_is c.self.view_is grown.more c.len.ensures (λ few. (grown.within few).1))
+    let grown = c.in-Ok.ensures in
+    let count : c.len.result ≡ length c.args.source.now.slots = c.len.ensures ∙ (sym (length-map (g.S1.SlotStack.items source.slots) entry_of) ∙ ap (λ a. length a.slots) c.source.view_is) in
+    let stays : g.S.SlotStack.capacity c.copy_slots.new.slots ≡ g.S.SlotStack.capacity self.slots = c.copy_slots.ensures.capacity ∙ c.truncate.ensures.capacity in
+    let limit : g.S.SlotStack.maximum c.copy_slots.new.slots ≡ g.S.SlotStack.maximum self.slots = c.copy_slots.ensures.maximum ∙ c.truncate.ensures.maximum in
+    let room : min (g.S.SlotStack.capacity c.copy_slots.new.slots) greatest ≡ c.reallocate_min_capacity.new.self.capacity = ap (λ n. min n greatest) stays ∙ ap (λ a. a.capacity) c.self.view_is in
+    record {
+      within = λ few. (inl refl, room ∙ ap (λ a. a.capacity) (grown.within (omega (arith, few, count))).1);
+      beyond = (λ is. cc, λ beyond. let never = grown.beyond.1 (rw count beyond) in cc);
+      ok = (same_room count room (limit ∙ ap (λ a. a.maximum) c.self.view_is) grown.ok, refl);
+      copied = rw (← c.source.view_is) c.in-Ok-copy_slots.ensures.copies;
+      slots = has_slots_of g.P.Inx.PtrInx.number (g.S1.SlotStack.items source.slots) (g.S.SlotStack.items c.copy_slots.new.slots) c.in-Ok-copy_slots.ensures.alike greatest source.len source.first_free c.source.invariant
+          c.args.source.now c.args.self.now c.reallocate_min_capacity.new.self source.counter self.counter _ (g.S.SlotStack.items self.slots) (g.S1.SlotStack.capacity source.slots) (g.S.SlotStack.capacity self.slots) (g.S.SlotStack.capacity c.copy_slots.new.slots) (g.S1.SlotStack.maximum source.slots) (g.S.SlotStack.maximum self.slots) (g.S.SlotStack.maximum c.copy_slots.new.slots)
+          source.placed.count source.touched.count self.placed.count self.touched.count c.len.result stays limit c.source.view_is c.self.view_is grown.more c.len.ensures (λ few. (grown.within few).1);
+      never_less = omega (arith, room, grown.never_less);
+      err = tt;
+    }
+
+pub returns-in-Err-copy_slots : goal.returns-in-Err-copy_slots
+returns-in-Err-copy_slots g c =
+    let greatest = g.P.Inx.PtrInx.greatest in
+    let source = c.source.inside in
+    let self = c.self.inside in
+    let grown = c.in-Ok.ensures in
+    let count : c.len.result ≡ length c.args.source.now.slots = c.len.ensures ∙ (sym (length-map (g.S1.SlotStack.items source.slots) entry_of) ∙ ap (λ a. length a.slots) c.source.view_is) in
+    let stays : g.S.SlotStack.capacity c.truncate-in-Err-copy_slots.new.self ≡ g.S.SlotStack.capacity self.slots = c.truncate-in-Err-copy_slots.ensures.capacity ∙ (c.copy_slots.ensures.capacity ∙ c.truncate.ensures.capacity) in
+    let limit : g.S.SlotStack.maximum c.truncate-in-Err-copy_slots.new.self ≡ g.S.SlotStack.maximum self.slots = c.truncate-in-Err-copy_slots.ensures.maximum ∙ (c.copy_slots.ensures.maximum ∙ c.truncate.ensures.maximum) in
+    let room : min (g.S.SlotStack.capacity c.truncate-in-Err-copy_slots.new.self) greatest ≡ c.reallocate_min_capacity.new.self.capacity = ap (λ n. min n greatest) stays ∙ ap (λ a. a.capacity) c.self.view_is in
+    record {
+      within = λ few. (inr (rw (← c.source.view_is) c.in-Err-copy_slots.ensures.refused), room ∙ ap (λ a. a.capacity) (grown.within (omega (arith, few, count))).1);
+      beyond = (λ is. cc, λ beyond. let never = grown.beyond.1 (rw count beyond) in cc);
+      ok = tt;
+      copied = tt;
+      slots = tt;
+      never_less = omega (arith, room, grown.never_less);
+      err = inr (
+        rw (← c.source.view_is) c.in-Err-copy_slots.ensures.refused,
+        given_up g.P.Inx.PtrInx.number (g.S.SlotStack.items c.truncate-in-Err-copy_slots.new.self) (g.S.SlotStack.items self.slots) _ self.counter greatest (g.S.SlotStack.capacity c.truncate-in-Err-copy_slots.new.self) (g.S.SlotStack.capacity self.slots) (g.S.SlotStack.maximum c.truncate-in-Err-copy_slots.new.self) (g.S.SlotStack.maximum self.slots)
+            self.placed.count self.touched.count c.args.self.now c.reallocate_min_capacity.new.self c.truncate-in-Err-copy_slots.ensures.items stays limit c.self.view_is grown.more,
+      );
+    }
+
+pub returns-in-Err : goal.returns-in-Err
+returns-in-Err g c =
+    let refused = c.in-Err.ensures in
+    let count : c.len.result ≡ length c.args.source.now.slots = c.len.ensures ∙ (sym (length-map (g.S1.SlotStack.items c.source.inside.slots) entry_of) ∙ ap (λ a. length a.slots) c.source.view_is) in
+    record {
+      within = λ few. let never : false ≡ true = (refused.within (omega (arith, few, count))).0 in cc;
+      beyond = rw (← count) refused.beyond;
+      ok = tt;
+      copied = tt;
+      slots = tt;
+      never_less = refused.never_less;
+      err = inl refused.err;
+    }

@@ -1,15 +1,25 @@
 -- Nothing is left.
-use Rattle.arena_base.specs.Slots.{arena_of, freed_of}
+use Rattle.std.proofs.Common.{ap, ◌∙◌}
+use Rattle.arena_base.specs.Arena.{cleared}
+use Rattle.arena_base.specs.Slots.{freed_of}
+use Rattle.arena_base.specs.Entries.{seen_of}
 use Rattle.arena_base.proofs.Seeing.{length-entries, seen_cleared}
+use Rattle.arena_base.proofs.Soundness.{none_sound}
+use Rattle.arena_base.proofs.Viewing.{cleared_view}
 use Rattle.arena_base.proofs.arena_trait.ArenaArenaTrait.clear.Goals as goal
 
-pub returns-clause-overflow : goal.returns-clause-overflow
-returns-clause-overflow g c =
-    rw (length-entries c.args.self.now, ← c.self.view_is, ← c.self.invariant.counted, ← c.after_clear-generation.ensures.overflow) c.invalidated.ensures
+pub invariant_of-self : goal.invariant_of-self
+invariant_of-self g c = none_sound g.P.Inx.PtrInx.number _ g.P.Inx.PtrInx.greatest c.truncate.ensures.items
 
-pub returns-clause-after : goal.returns-clause-after
-returns-clause-after g c =
+pub returns : goal.returns
+returns g c =
+    let following = g.P.Gen.PtrGen.following in
     let inside = c.self.inside in
-    let items = g.S.SlotStack.items inside.slots in
-    rw (← c.self.view_is, c.truncate.ensures.items, c.truncate.ensures.capacity, c.truncate.ensures.maximum, c.after_clear-generation.ensures.next, c.self.invariant.counted)
-    (seen_cleared g.P.Gen.PtrGen.following (arena_of items (freed_of g.P.Inx.PtrInx.number items inside.first_free) inside.counter g.P.Inx.PtrInx.greatest (g.S.SlotStack.capacity inside.slots) (g.S.SlotStack.maximum inside.slots) inside.placed.count inside.touched.count))
+    let made = c.after_clear-generation.ensures in
+    let after = cleared_view g.P.Inx.PtrInx.number (g.S.SlotStack.items inside.slots) (g.S.SlotStack.items c.truncate.new.self) (freed_of g.P.Inx.PtrInx.number (g.S.SlotStack.items inside.slots) inside.first_free) inside.counter c.after_clear-generation.result.0 g.P.Inx.PtrInx.greatest (g.S.SlotStack.capacity inside.slots) (g.S.SlotStack.capacity c.truncate.new.self) (g.S.SlotStack.maximum inside.slots) (g.S.SlotStack.maximum c.truncate.new.self) inside.placed.count inside.touched.count
+    inside.len following c.truncate.ensures.items c.truncate.ensures.capacity c.truncate.ensures.maximum c.self.invariant.counted made.next ∙ ap (cleared following) c.self.view_is in
+    record {
+      overflow = rw (length-entries c.args.self.now, ← c.self.view_is, ← c.self.invariant.counted, ← made.overflow) c.invalidated.ensures;
+      after = ap seen_of after ∙ seen_cleared following c.args.self.now;
+      more = after;
+    }

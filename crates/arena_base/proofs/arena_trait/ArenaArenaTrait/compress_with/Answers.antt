@@ -5,21 +5,17 @@ use Rattle.arena_base.specs.Compressing.{counter_after_compression, overflows_af
 use Rattle.arena_base.proofs.Gathering.{compressing, compressing_visits}
 use Rattle.arena_base.proofs.arena_trait.ArenaArenaTrait.compress_with.Goals as goal
 
-pub returns-clause-compressed : goal.returns-clause-compressed
-returns-clause-compressed g c =
+pub returns : goal.returns
+returns g c =
     let first = g.P.Gen.PtrGen.first in
     let following = g.P.Gen.PtrGen.following in
-    compressing g.F.FnMut g.P.Ptr.key c.args.map c.after_compression-generation.result.0 c.args.self.now c.set_generation.new.self c.gather.new.self c.set_generation.ensures c.gather.ensures
-    first following c.args.reset c.len.result (c.after_compression-generation.ensures.next ∙ ap (counter_after_compression first following c.args.reset c.len.result) c.generation.ensures) c.len.ensures.count
-
-pub returns-clause-visits : goal.returns-clause-visits
-returns-clause-visits g c =
-    compressing_visits g.F.FnMut g.P.Ptr.key c.args.map c.after_compression-generation.result.0 c.args.self.now c.set_generation.new.self c.gather.new.self c.set_generation.ensures c.gather.ensures
-
-pub returns-clause-overflow : goal.returns-clause-overflow
-returns-clause-overflow g c =
-    c.invalidated.ensures ∙ (ap (λ b. invalidation_option b tt) c.after_compression-generation.ensures.overflow
-    ∙ (λ i. invalidation_option (overflows_after_compression g.P.Gen.PtrGen.wraps c.args.reset (c.len.ensures.count i) (c.generation.ensures i)) tt))
-
-pub returns-clause-more : goal.returns-clause-more
-returns-clause-more g c = ap (λ a. a.stack_capacity) c.gather.ensures.arena ∙ ap (λ a. a.stack_capacity) c.set_generation.ensures
+    let generation = c.after_compression-generation.result.0 in
+    let mid = c.set_generation.new.self in
+    record {
+      compressed = compressing g.F.FnMut g.P.Ptr.key c.args.map generation c.args.self.now mid c.gather.new.self c.set_generation.ensures c.gather.ensures
+          first following c.args.reset c.len.result (c.after_compression-generation.ensures.next ∙ ap (counter_after_compression first following c.args.reset c.len.result) c.generation.ensures) c.len.ensures.count;
+      visits = compressing_visits g.F.FnMut g.P.Ptr.key c.args.map generation c.args.self.now mid c.gather.new.self c.set_generation.ensures c.gather.ensures;
+      overflow = c.invalidated.ensures ∙ (ap (λ b. invalidation_option b tt) c.after_compression-generation.ensures.overflow
+          ∙ (λ i. invalidation_option (overflows_after_compression g.P.Gen.PtrGen.wraps c.args.reset (c.len.ensures.count i) (c.generation.ensures i)) tt));
+      more = ap (λ a. a.stack_capacity) c.gather.ensures.arena ∙ ap (λ a. a.stack_capacity) c.set_generation.ensures;
+    }

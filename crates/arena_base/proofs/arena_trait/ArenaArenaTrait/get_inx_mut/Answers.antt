@@ -2,12 +2,12 @@
 use Rattle.std.proofs.Common.{refl, sym, ◌∙◌, ap}
 use Rattle.std.specs.Option.{option_map}
 use Rattle.arena_base.specs.Arena.{with_value}
-use Rattle.arena_base.specs.Slots.{entry_in, with_value_in, arena_of, freed_of}
+use Rattle.arena_base.specs.Slots.{entry_in, with_value_in}
 use Rattle.arena_base.specs.Entries.{seen_of}
 use Rattle.arena_base.proofs.Reading.{slot_at-map, slice_set-itself}
 use Rattle.arena_base.proofs.Soundness.{lent, closed}
 use Rattle.arena_base.proofs.Seeing.{seen_written}
-use Rattle.arena_base.proofs.Viewing.{lent_view}
+use Rattle.arena_base.proofs.Viewing.{lent_view, kept_view}
 use Rattle.arena_ptr.proofs.Options.{on_some}
 use Rattle.arena_base.proofs.arena_trait.ArenaArenaTrait.get_inx_mut.Goals as goal
 
@@ -41,8 +41,9 @@ returns-in-Some g c =
             at is (g.met.S.SlotStack.items_written slots k (with_value_in slot w)) (g.met.S.SlotStack.capacity_written slots k (with_value_in slot w)) (g.met.S.SlotStack.maximum_written slots k (with_value_in slot w))
             ∙ ap (λ a. with_value a n w) c.self.view_is in
             on_some c.value_mut.result (ap seen_of written ∙ seen_written c.args.self.now n w, written)),
-        rw (← c.self.view_is, g.met.S.SlotStack.items_written slots k slot, g.met.S.SlotStack.capacity_written slots k slot, g.met.S.SlotStack.maximum_written slots k slot)
-            (ap (λ xs. arena_of xs (freed_of number xs c.self.inside.first_free) c.self.inside.counter g.P.Inx.PtrInx.greatest (g.S.SlotStack.capacity slots) (g.S.SlotStack.maximum slots) c.self.inside.placed.count c.self.inside.touched.count) (slice_set-itself items k slot is)),
+        kept_view number items (g.S.SlotStack.items (g.S.SlotStack.with_item slots k slot)) c.self.inside.first_free c.self.inside.counter g.P.Inx.PtrInx.greatest (g.S.SlotStack.capacity slots) (g.S.SlotStack.capacity (g.S.SlotStack.with_item slots k slot)) (g.S.SlotStack.maximum slots) (g.S.SlotStack.maximum (g.S.SlotStack.with_item slots k slot))
+            c.self.inside.placed.count c.self.inside.touched.count k slot is (g.met.S.SlotStack.items_written slots k slot) (g.met.S.SlotStack.capacity_written slots k slot) (g.met.S.SlotStack.maximum_written slots k slot)
+            ∙ c.self.view_is,
       ),
       record { writes_back = tt; value = c.value_mut.ensures.value ∙ rw (← c.self.view_is) (ap (option_map (λ e. e.1)) (sym (slot_at-map items k n at ∙ ap entry_in is))) },
     )

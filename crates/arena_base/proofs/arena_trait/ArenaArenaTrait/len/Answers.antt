@@ -4,34 +4,29 @@ use Rattle.std.proofs.lemmas.List.{length-map}
 use Rattle.arena_base.specs.Slots.{entry_of}
 use Rattle.arena_base.proofs.FreeSlots.{listed}
 use Rattle.arena_base.proofs.Filling.{entries_within, they_fill, room_for}
-use Rattle.arena_base.proofs.Seeing.{length-entries}
+use Rattle.arena_base.proofs.Seeing.{length-entries_from}
 use Rattle.arena_base.proofs.arena_trait.ArenaArenaTrait.len.Goals as goal
 
-pub returns-clause-count : goal.returns-clause-count
-returns-clause-count g c = rw (length-entries c.args.self.now, ← c.self.view_is) c.self.invariant.counted
-
-pub returns-clause-listed : goal.returns-clause-listed
-returns-clause-listed g c =
-    let slots = c.self.inside.slots in
-    rw (← c.self.view_is) (listed g.P.Inx.PtrInx.number c.self.invariant c.self.inside.counter (g.S.SlotStack.capacity slots) (g.S.SlotStack.maximum slots) c.self.inside.placed.count c.self.inside.touched.count)
-
-pub returns-clause-indexes : goal.returns-clause-indexes
-returns-clause-indexes g c =
-    let items = g.S.SlotStack.items c.self.inside.slots in
-    rw (← c.self.view_is) (entries_within (map entry_of items) g.P.Inx.PtrInx.greatest (omega (arith, c.self.invariant.fits, length-map items entry_of)))
-
-pub returns-clause-filled : goal.returns-clause-filled
-returns-clause-filled g c =
-    let slots = c.self.inside.slots in
-    rw (← c.self.view_is) (they_fill _ (listed g.P.Inx.PtrInx.number c.self.invariant c.self.inside.counter (g.S.SlotStack.capacity slots) (g.S.SlotStack.maximum slots) c.self.inside.placed.count c.self.inside.touched.count) _ _)
-
-pub returns-clause-room : goal.returns-clause-room
-returns-clause-room g c =
-    let slots = c.self.inside.slots in
-    let many = length-map (g.S.SlotStack.items slots) entry_of in
-    let within : length (g.S.SlotStack.items slots) ≤ g.S.SlotStack.capacity slots = g.met.S.SlotStack.has_room slots in
-    rw (← c.self.view_is) (
-      room_for g.P.Inx.PtrInx.greatest _ (g.S.SlotStack.capacity slots) (g.S.SlotStack.maximum slots)
-          (omega (arith, many, within)) (omega (arith, many, c.self.invariant.fits)) (g.met.S.SlotStack.within_maximum slots),
-      refl,
-    )
+pub returns : goal.returns
+returns g c =
+    let number = g.P.Inx.PtrInx.number in
+    let greatest = g.P.Inx.PtrInx.greatest in
+    let inside = c.self.inside in
+    let slots = inside.slots in
+    let items = g.S.SlotStack.items slots in
+    let capacity = g.S.SlotStack.capacity slots in
+    let sound = c.self.invariant in
+    let many = length-map items entry_of in
+    let within : length items ≤ capacity = g.met.S.SlotStack.has_room slots in
+    let are_listed = listed number sound inside.counter capacity (g.S.SlotStack.maximum slots) inside.placed.count inside.touched.count in
+    let all = map entry_of items in
+    rw (← c.self.view_is) (record {
+      count = rw (length-entries_from 1 all) sound.counted;
+      fits = omega (arith, sound.total, sound.fits, within);
+      one_more = omega (arith, sound.total, within, g.met.S.SlotStack.room_fits slots);
+      indexes = entries_within all greatest (omega (arith, sound.fits, many));
+      filled = they_fill _ are_listed _ _;
+      entries = sound.counted;
+      listed = are_listed;
+      room = (room_for greatest _ capacity (g.S.SlotStack.maximum slots) (omega (arith, many, within)) (omega (arith, many, sound.fits)) (g.met.S.SlotStack.within_maximum slots), refl);
+    })

@@ -1,0 +1,20 @@
+-- What grows is the room.
+use Rattle.std.proofs.Common.{ap, arith}
+use Rattle.arena_base.specs.Entries.{seen_of}
+use Rattle.arena_base.proofs.Copying.{on_ok}
+use Rattle.arena_base.proofs.arena_trait.ArenaArenaTrait.reallocate_min_capacity.Goals as goal
+
+pub returns : goal.returns
+returns g c =
+    let made = c.grow_to.ensures in
+    let room = ap (λ a. a.capacity) c.self.view_is in
+    record {
+      within = λ few. absurd (omega (arith, few, room, c.capacity.ensures, c.greatest.ensures.value, c.min.ensures));
+      beyond = made.beyond;
+      greatest = made.greatest;
+      ok = on_ok c.grow_to.result (λ has. has.0) made.ok;
+      err = made.err;
+      after = ap seen_of made.after;
+      never_less = made.never_less;
+      more = made.after;
+    }

@@ -1,0 +1,18 @@
+-- The slot is written, and its index made.
+use Rattle.std.proofs.Common.{◌≡◌, None, Some, ◌∙◌, arith}
+use Rattle.arena_base.proofs.FreeSlots.{there}
+use Rattle.arena_base.proofs.slot.list_at.Goals as goal
+
+pub unreachable-requires : goal.unreachable-requires
+unreachable-requires g c =
+    let slot = there (g.S.SlotStack.items c.args.slots.now) c.args.k c.requires.in_bounds in
+    let both : None ≡ Some slot.0 = c.in-None.ensures.value ∙ slot.1 in cc
+
+pub returns : goal.returns
+returns g c = record {
+  index = c.try_from_usize.ensures.value;
+  some = c.try_from_usize.ensures.variant.1 (omega arith, omega (arith, c.requires.fits));
+  items = g.met.S.SlotStack.items_written c.args.slots.now c.args.k _;
+  capacity = g.met.S.SlotStack.capacity_written c.args.slots.now c.args.k _;
+  maximum = g.met.S.SlotStack.maximum_written c.args.slots.now c.args.k _;
+}
