@@ -49,6 +49,18 @@ module _ {Gen K T : Type 0} (number : K → Option ℕ) (held new : Held Gen (Li
       by (yes e) = here j e
       by (no differs) = at j ∙ (ap (option_and_then (goal_of number)) (if_other j i _ _ differs) ∙ none)
 
+-- where no link stands, nothing is taken away
+module _ {Gen K T : Type 0} (number : K → Option ℕ) (held new : Held Gen (LinkBody K T)) where
+  pub given_none : (i : ℕ) → new ≡ held → None ≡ option_map (λ (e : Gen × LinkBody K T). e.1) (slot_at held.slots i) → given number new.slots i ≡ None
+  given_none i same none = ap (λ (h : Held Gen (LinkBody K T)). given number h.slots i) same ∙ by (slot_at held.slots i) none
+    where
+      by : (o : Option (Gen × LinkBody K T)) → None ≡ option_map (λ (e : Gen × LinkBody K T). e.1) o → option_and_then (goal_of number) o ≡ None
+      by None is = refl
+      by (Some e) is = cc
+
+  pub others_none : new ≡ held → (j : ℕ) → given number held.slots j ≡ None → given number new.slots j ≡ None
+  others_none same j none = ap (λ (h : Held Gen (LinkBody K T)). given number h.slots j) same ∙ none
+
 -- the round over all
 module _ {Gen K T : Type 0} (number : K → Option ℕ) where
   -- no link stands at index 0

@@ -18,3 +18,5 @@ pub mod Emptying
 pub mod Arranging
 pub mod Layouts
 pub mod Looks
+pub mod Naming
+pub mod Beginning

@@ -15,7 +15,7 @@ use Rattle.chain_links.specs.ChainArena.{LinkSeen, on_value}
 use Rattle.chain_links.specs.Links.{seen_link, seen_pair}
 use Rattle.chain_layout.specs.Moving.{goal_of}
 use Rattle.chain_layout.specs.Numbering.{renamed_link, renamed_held, looks_at, seen_held, given, IsRenamedAt, AreRenamedTo}
-use Rattle.chain_layout.proofs.Counting.{one_if}
+use Rattle.chain_layout.proofs.Counting.{one_if, with_slot-own}
 use Rattle.chain_links.proofs.Mapping.{map-with_slot, slot_at-map}
 use Rattle.chain_links.proofs.Seeing.{slot_at-changed}
 
@@ -75,6 +75,27 @@ renames_link {Gen} {K} {T} number i old now new e l m w before after same there 
           (ap (λ (k : LinkBody K T). k.t) left ∙ ap (λ (k : LinkBody K T). k.t) rest);
       kept = kept_given number old new i l w stood written (ap (λ (k : LinkBody K T). number k.destination) left ∙ ap (λ (k : LinkBody K T). number k.destination) rest);
     }
+
+-- no link stands at i
+pub renames_none : {Gen K T : Type 0} (number : K → Option ℕ) (i : ℕ) (old new : Held Gen (LinkBody K T)) → new ≡ old → None ≡ slot_at old.slots i → IsRenamedAt number i old new
+renames_none {Gen} {K} {T} number i old new same none = record {
+  seen = ap (λ (h : Held Gen (LinkBody K T)). seen_held number h) same ∙ (λ j. record (seen_held number old) { slots = slots j });
+  kept = λ j. ap (λ (h : Held Gen (LinkBody K T)). given number h.slots j) same;
+}
+  where
+    rename : Option (Gen × LinkSeen T) → Option (Gen × LinkSeen T)
+    rename o = option_map (on_value (renamed_link (given number old.slots))) o
+
+    nothing : slot_at (seen_held number old).slots i ≡ None
+    nothing = slot_at-map (seen_pair number) old.slots i ∙ ap (option_map (seen_pair number)) (sym none)
+
+    slots : (seen_held number old).slots ≡ with_slot (seen_held number old).slots i (rename (slot_at (seen_held number old).slots i))
+    slots = sym (with_slot-own (seen_held number old).slots i) ∙ ap (with_slot (seen_held number old).slots i) (nothing ∙ sym (ap rename nothing))
+
+-- a look at a slot is one at least
+pub one_look : {X : Type 0} (o : Option X) → 1 + 0 ≤ looks_at o
+one_look None = omega arith
+one_look (Some x) = omega arith
 
 -- a link takes four looks
 pub four_looks : {X : Type 0} (o : Option X) (e : X) → Some e ≡ o → 4 ≤ looks_at o

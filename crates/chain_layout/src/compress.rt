@@ -27,7 +27,7 @@ fn index_now<I: PtrInx>(named: Option<I>, from: I, to: I) -> Option<I>
     ensures { option_map I.number result ≡ option_map (moved_index (I.number from) (I.number to)) (option_map I.number named) }
 {
     match named {
-        Some(k) => Some(if k == from { to } else { k }),
+        Some(k) => if k == from { Some(to) } else { Some(k) },
         None => None,
     }
 }

@@ -1,7 +1,8 @@
 -- The link that was lent lost its destination.
 use Rattle.std.proofs.Common.{sym, ap, ◌∙◌}
 use Rattle.std.specs.Option.{option_copied_mut}
-use Rattle.chain_layout.proofs.Emptying.{seen_emptied, given_emptied, others_emptied}
+use Rattle.chain_layout.specs.Numbering.{seen_held}
+use Rattle.chain_layout.proofs.Emptying.{seen_emptied, given_emptied, others_emptied, given_none, others_none}
 use Rattle.chain_layout.proofs.Tallying.{counts_touch}
 use Rattle.chain_layout.proofs.canonical.empty_at.Goals as goal
 
@@ -24,5 +25,16 @@ returns-in-Some g c =
       counts = counts_touch _ _ _ _ _ _ lent.1.1 lent.1.2 lent.1.3;
     }
 
-pub returns-in-None-clause-counts : goal.returns-in-None-clause-counts
-returns-in-None-clause-counts g c = let h = c.value_mut.follows.holds-at-none in counts_touch _ _ _ _ _ _ h.1.1 h.1.2 h.1.3
+pub returns-in-None : goal.returns-in-None
+returns-in-None g c =
+    let packed = g.P.Inx.PtrInx.packed_number in
+    let held = c.args.compactor.now.held in
+    let kept = c.value_mut.follows.holds-at-none in
+    record {
+      same_reference = kept.1.0;
+      seen = ap (seen_held packed) kept.0;
+      empty = given_none packed held _ (g.P.Inx.PtrInx.number c.args.i) kept.0 (sym (ap option_copied_mut c.in-None.is) ∙ c.value_mut.ensures.value);
+      others = others_none packed held _ kept.0;
+      arena = kept.1.1;
+      counts = counts_touch _ _ _ _ _ _ kept.1.1 kept.1.2 kept.1.3;
+    }

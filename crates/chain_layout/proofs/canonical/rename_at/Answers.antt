@@ -4,13 +4,21 @@ use Rattle.std.specs.Option.{option_copied_mut, option_map, option_and_then}
 use Rattle.arena_base.specs.Arena.{slot_at}
 use Rattle.chain_layout.specs.Numbering.{given}
 use Rattle.chain_layout.proofs.Directing.{still_there}
-use Rattle.chain_layout.proofs.Retying.{renames_link, four_looks}
-use Rattle.chain_layout.proofs.HeldLinks.{work-touched, work-more}
+use Rattle.chain_layout.proofs.Retying.{renames_link, renames_none, one_look, four_looks}
+use Rattle.chain_layout.proofs.HeldLinks.{work-none, work-touched, work-more}
 use Rattle.chain_layout.proofs.Tallying.{counts_touch, counts_then}
 use Rattle.chain_layout.proofs.canonical.rename_at.Goals as goal
 
-pub returns-in-None-clause-counts : goal.returns-in-None-clause-counts
-returns-in-None-clause-counts g c = let h = c.peek.follows.holds-at-none in counts_touch _ _ _ _ _ _ h.1.1 h.1.2 h.1.3
+pub returns-in-None : goal.returns-in-None
+returns-in-None g c =
+    let old = c.args.compactor.now in
+    let looked = c.peek.follows.holds-at-none in
+    record {
+      same_reference = looked.1.0;
+      renamed = renames_none g.P.Inx.PtrInx.packed_number (g.P.Inx.PtrInx.number c.args.i) old.held _ looked.0 c.in-None.ensures.value;
+      work = work-more (work-touched old.arena.now _ looked.1.1) (work-none _ 0) 0 _ refl (one_look (slot_at old.held.slots (g.P.Inx.PtrInx.number c.args.i)));
+      counts = counts_touch _ _ _ _ _ _ looked.1.1 looked.1.2 looked.1.3;
+    }
 
 pub returns-in-Some-value_mut : goal.returns-in-Some-value_mut
 returns-in-Some-value_mut g c =

@@ -25,3 +25,15 @@ returns g c =
       work = work-moved looked.1.1 c.place.ensures.arena next.work prev.work;
       none = tt;
     }
+
+pub returns-in-None : goal.returns-in-None
+returns-in-None g c =
+    let looked = c.peek.follows.holds-at-none in
+    record {
+      same_reference = looked.1.0;
+      answer = ap (option_map (λ e. e.0)) c.in-None.ensures.value;
+      values = tt;
+      moves = tt;
+      work = tt;
+      none = (looked.0, looked.1.1);
+    }

@@ -2,7 +2,7 @@
 use Rattle.std.proofs.Common.{refl, sym, ap, ◌∙◌, arith}
 use Rattle.std.specs.Option.{option_copied_mut}
 use Rattle.chain_layout.proofs.Directing.{numbers_link, still_there}
-use Rattle.chain_layout.proofs.HeldLinks.{work-touched, work-more}
+use Rattle.chain_layout.proofs.HeldLinks.{work-none, work-touched, work-more}
 use Rattle.chain_layout.proofs.Tallying.{counts_touch, counts_then}
 use Rattle.chain_layout.proofs.numbering.number_at.Goals as goal
 use Rattle.chain_layout.proofs.numbering.number_at.Goals.{in-Some-value_mut, in_default}
@@ -27,3 +27,16 @@ returns g c =
           })
       | in_default w ↦ absurd (still_there i old.held _ _ _ look.looked.held c.in-Some.is look.generation (sym (ap option_copied_mut w.in_default.is) ∙ c.value_mut.ensures.value))
     ]
+
+pub returns-in-None : goal.returns-in-None
+returns-in-None g c =
+    let look = c.look_at-was.ensures in
+    record {
+      same_reference = look.looked.same_reference;
+      generation = sym c.in-None.is ∙ look.generation;
+      next = tt;
+      numbered = tt;
+      none = look.looked.held;
+      work = work-more (work-touched _ _ look.looked.arena) (work-none _ 1) 0 2 refl (omega arith);
+      counts = look.looked.counts;
+    }
