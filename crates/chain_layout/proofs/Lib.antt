@@ -20,3 +20,5 @@ pub mod Layouts
 pub mod Looks
 pub mod Naming
 pub mod Beginning
+pub mod Lending
+pub mod Bringing

@@ -126,16 +126,18 @@ fn close_gaps<
     for k in 0..compactor.slots() {
         let from = inx_at::<P>(k);
         let to = inx_at::<P>(count);
-        if let Some(was) = move_link(compactor, from, to, generation) {
-            count += 1;
-            match compactor.value_mut(to) {
-                Some(link) => map(
-                    P::_from_raw(from, was),
-                    &mut link.t,
-                    P::_from_raw(to, generation),
-                ),
-                None => unreachable!(),
-            }
+        let was = match move_link(compactor, from, to, generation) {
+            Some(was) => was,
+            None => continue,
+        };
+        count += 1;
+        match compactor.value_mut(to) {
+            Some(link) => map(
+                P::_from_raw(from, was),
+                &mut link.t,
+                P::_from_raw(to, generation),
+            ),
+            None => unreachable!(),
         }
     }
 }

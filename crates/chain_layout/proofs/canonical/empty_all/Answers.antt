@@ -1,7 +1,7 @@
 -- One more has no destination, and at the end none has.
 use Rattle.std.proofs.Common.{◌≡◌, length, refl, ap, ◌∙◌, arith}
 use Rattle.arena_base.specs.Closing.{with_totals}
-use Rattle.chain_layout.proofs.Emptying.{emptying_begins, emptying_goes_on, emptying_ends, touches_none, touches_more}
+use Rattle.chain_layout.proofs.Emptying.{emptied, emptying_begins, emptying_goes_on, emptying_ends, touches_none, touches_more}
 use Rattle.chain_layout.proofs.Tallying.{counts_none, counts_then}
 use Rattle.chain_layout.proofs.canonical.empty_all.Goals as goal
 
@@ -19,13 +19,14 @@ loop-k-init g c =
 pub loop-k-preserved : goal.loop-k-preserved
 loop-k-preserved g c =
     let inv = c.loop-k.invariant in
-    let after = c.empty_at.ensures in
+    let after = c.direct_at.ensures in
+    let told = emptied g.P.Inx.PtrInx.packed_number (g.P.Inx.PtrInx.number c.inx_at.result) c.loop-k.compactor.held c.direct_at.new.compactor.held after.directed in
     record {
       same_reference = after.same_reference ∙ inv.same_reference;
-      seen = after.seen ∙ inv.seen;
-      empty = emptying_goes_on g.P.Inx.PtrInx.packed_number c.loop-k.compactor.held.slots c.empty_at.new.compactor.held.slots c.loop-k.k (g.P.Inx.PtrInx.number c.inx_at.result) c.inx_at.ensures
-          inv.empty after.empty after.others;
-      totals = touches_more c.args.compactor.now.arena.now c.loop-k.compactor.arena.now c.empty_at.new.compactor.arena.now c.loop-k.k inv.totals after.arena;
+      seen = told.0 ∙ inv.seen;
+      empty = emptying_goes_on g.P.Inx.PtrInx.packed_number c.loop-k.compactor.held.slots c.direct_at.new.compactor.held.slots c.loop-k.k (g.P.Inx.PtrInx.number c.inx_at.result) c.inx_at.ensures
+          inv.empty told.1 told.2;
+      totals = touches_more c.args.compactor.now.arena.now c.loop-k.compactor.arena.now c.direct_at.new.compactor.arena.now c.loop-k.k inv.totals after.arena;
       counts = counts_then _ _ _ _ _ _ _ _ _ inv.counts after.counts;
     }
 

@@ -1,5 +1,5 @@
 -- One step back more, the start of a linear chain, and once round a cyclic one.
-use Rattle.std.proofs.Common.{◌≡◌, Bool, true, false, Some, refl, sym, ap, ◌∙◌, arith, of_calls}
+use Rattle.std.proofs.Common.{◌≡◌, Bool, true, false, Some, refl, sym, ap, ◌∙◌, arith}
 use Rattle.std.specs.Option.{option_map}
 use Rattle.chain_laws.specs.Chains.{prev_of}
 use Rattle.chain_laws.proofs.Backing.{back_begins, back_goes_on, back_ends, back_comes_round}
@@ -30,7 +30,7 @@ returns-then-eq g c =
     let look = c.look_at-before.ensures in
     let shown = shown_in g.P.Inx.PtrInx.packed_number c.args.compactor.now.held.slots in
     let came = ap (λ h. prev_of (shown_in g.P.Inx.PtrInx.packed_number h.slots) (number c.loop-step.at)) at.held in
-    let told : c.eq.result ≡ g.P.Inx.PartialEq.eq c.in-Some.k c.args.i = search of_calls in
+    let told = c.eq.ensures in
     let same = (g.met.P.Inx.PtrInx.eq_is_same c.in-Some.k c.args.i).0 (sym told ∙ c.if-eq.true) in
     record {
       same_reference = look.looked.same_reference ∙ at.same_reference;
@@ -63,7 +63,7 @@ loop-step-preserved g c =
     let number = g.P.Inx.PtrInx.number in
     let packed_number = g.P.Inx.PtrInx.packed_number in
     let at = c.loop-step.invariant in
-    let told : c.eq.result ≡ g.P.Inx.PartialEq.eq c.in-Some.k c.args.i = search of_calls in
+    let told = c.eq.ensures in
     record {
       same_reference = c.look_at-before.ensures.looked.same_reference ∙ at.same_reference;
       held = c.look_at-before.ensures.looked.held ∙ at.held;
