@@ -11,7 +11,7 @@ use Rattle.chain_laws.specs.Moves.{moved, CanMove}
 use Rattle.arena_base.specs.Arena.{Arena, slot_at}
 use Rattle.arena_base.specs.Entries.{entries_from}
 use Rattle.arena_base.specs.Compacting.{Held, placed, held_with_value, with_touch}
-use Rattle.arena_base.specs.Compressing.{Visit, IsVisit, VisitsAll}
+use Rattle.arena_base.specs.Compressing.{IsVisit, VisitsAll}
 use Rattle.arena_base.specs.Closing.{AreClosed}
 use Rattle.arena_base.proofs.Closing.{IsClosing, none_there, brought_stands, closing_frees, closing_brings, closing_visits, closing_counts, closing_closes, next_slot}
 use Rattle.chain_links.specs.declared.links.LinkBody.{LinkBody}

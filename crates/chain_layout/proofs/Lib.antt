@@ -22,3 +22,4 @@ pub mod Naming
 pub mod Beginning
 pub mod Lending
 pub mod Bringing
+pub mod Telling

@@ -1,5 +1,5 @@
 -- The walk has room for one link more, and goes on.
-use Rattle.std.proofs.Common.{◌≡◌, ◌<◌, ℕ, List, length, Some, refl, sym, ap, ◌∙◌, subst, arith}
+use Rattle.std.proofs.Common.{◌≡◌, ◌<◌, ℕ, List, length, Some, refl, sym, ◌∙◌, subst, arith}
 use Rattle.std.specs.Option.{option_map}
 use Rattle.chain_laws.specs.Chains.{Chain}
 use Rattle.chain_layout.specs.Numbering.{CanNumber, IsNumberedAt}
