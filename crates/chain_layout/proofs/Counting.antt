@@ -82,3 +82,7 @@ module _ {E : Type 0} (goal : E → Option ℕ) where
 -- one more than an index counts fits a word
 pub count_fits : (n i greatest : ℕ) → i ≡ n + 1 → i ≤ greatest → greatest < 2 ^ 64 → n + 1 < 2 ^ 64
 count_fits n i greatest is most fits = omega (arith, is, most, fits)
+
+-- a count that has come to the end
+pub at_end : (k end all : ℕ) → end ≡ all → k ≤ end → end ≤ k → k ≡ all
+at_end k end all is high low = omega (arith, is, high, low)

@@ -7,7 +7,7 @@ use Rattle.arena_base.specs.Arena.{slot_at}
 use Rattle.arena_base.specs.Compacting.{held_with_value, with_touch, one_more}
 use Rattle.arena_base.specs.declared.compactor.Compactor.{Compactor}
 use Rattle.chain_layout.specs.Counts.{CountsOn}
-use Rattle.chain_layout.proofs.Tallying.{counts_touch}
+use Rattle.chain_layout.proofs.Tallying.{counts_touch, counts_then}
 
 module _ {P T S Inx Gen Word : Type 0} (old new : Compactor P T S Inx Gen Word) (i : ℕ) where
   -- the value l that stood at i was written over by w
@@ -54,3 +54,21 @@ module _ {P T S Inx Gen Word : Type 0} (old new : Compactor P T S Inx Gen Word) 
     arena = kept.1.1;
     counts = counts_touch old.arena.now new.arena.now old.placed new.placed old.touched new.touched kept.1.1 kept.1.2 kept.1.3;
   }
+
+-- one call upon another
+module _ {P T S Inx Gen Word : Type 0} (a b c : Compactor P T S Inx Gen Word) where
+  pub same_then : b.arena.ghost_name ≡ a.arena.ghost_name → c.arena.ghost_name ≡ b.arena.ghost_name → c.arena.ghost_name ≡ a.arena.ghost_name
+  same_then one two = two ∙ one
+
+  pub counts_on : CountsOn a.arena.now b.arena.now a.placed a.touched b.placed b.touched → CountsOn b.arena.now c.arena.now b.placed b.touched c.placed c.touched
+      → CountsOn a.arena.now c.arena.now a.placed a.touched c.placed c.touched
+  counts_on one two = counts_then a.arena.now b.arena.now c.arena.now a.placed b.placed c.placed a.touched b.touched c.touched one two
+
+  pub held_then : b.held ≡ a.held → c.held ≡ b.held → c.held ≡ a.held
+  held_then one two = two ∙ one
+
+  pub capacity_then : b.held.stack_capacity ≡ a.held.stack_capacity → c.held.stack_capacity ≡ b.held.stack_capacity → c.held.stack_capacity ≡ a.held.stack_capacity
+  capacity_then one two = two ∙ one
+
+  pub maximum_then : b.held.maximum ≡ a.held.maximum → c.held.maximum ≡ b.held.maximum → c.held.maximum ≡ a.held.maximum
+  maximum_then one two = two ∙ one

@@ -1,8 +1,9 @@
 -- A look at one slot.
-use Rattle.std.proofs.Common.{◌≡◌, ℕ, Bool, true, false, Option, None, Some, refl, ap}
+use Rattle.std.proofs.Common.{◌≡◌, ℕ, Bool, true, false, Option, None, Some, refl, sym, ap, ◌∙◌}
 use Rattle.std.specs.Prelude.{is_none, is_some, not}
 use Rattle.std.specs.Option.{option_map, option_and_then}
-use Rattle.arena_base.specs.Compacting.{with_touch, one_more}
+use Rattle.arena_base.specs.Arena.{slot_at}
+use Rattle.arena_base.specs.Compacting.{Held, with_touch, one_more}
 use Rattle.arena_base.specs.declared.compactor.Compactor.{Compactor}
 use Rattle.chain_laws.specs.Chains.{prev_in, next_in}
 use Rattle.chain_links.specs.declared.links.LinkBody.{LinkBody}
@@ -54,3 +55,10 @@ module _ {Gen K T : Type 0} (packed : K → Option ℕ) where
   pub none_fresh : (o : Option (Gen × LinkBody K T)) (r : Option Gen) → r ≡ None → r ≡ option_map (λ (x : Gen × LinkBody K T). x.0) o → false ≡ is_fresh packed o
   none_fresh None r is stands = refl
   none_fresh (Some e) r is stands = cc
+
+  -- what the answer of a look tells
+  pub told_fresh : (held : Held Gen (LinkBody K T)) (i : ℕ) (b : Bool) → b ≡ is_fresh packed (slot_at held.slots i) → b ≡ true → is_fresh packed (slot_at held.slots i) ≡ true
+  told_fresh held i b is on = sym is ∙ on
+
+  pub told_stale : (held : Held Gen (LinkBody K T)) (i : ℕ) (b : Bool) → b ≡ is_fresh packed (slot_at held.slots i) → b ≡ false → is_fresh packed (slot_at held.slots i) ≡ false
+  told_stale held i b is off = sym is ∙ off

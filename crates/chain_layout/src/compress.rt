@@ -161,5 +161,5 @@ pub fn gather<
     let generation = arena.generation();
     let mut compactor = arena.compactor();
     close_gaps(&mut compactor, generation, map);
-    drop(compactor);
+    compactor.finish();
 }

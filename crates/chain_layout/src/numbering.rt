@@ -131,12 +131,13 @@ pub fn number_all<
     let mut count = 0;
     for k in 0..compactor.slots() {
         let i = inx_at::<P>(k);
-        if is_fresh_at(compactor, i) {
-            let start = start_at(compactor, i);
-            let (shown, numbered) = number_chain(compactor, start, count, generation, visitor);
-            visitor = shown;
-            count = numbered;
+        if !is_fresh_at(compactor, i) {
+            continue;
         }
+        let start = start_at(compactor, i);
+        let (shown, numbered) = number_chain(compactor, start, count, generation, visitor);
+        visitor = shown;
+        count = numbered;
     }
     visitor
 }
