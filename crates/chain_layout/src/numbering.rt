@@ -4,32 +4,15 @@ ghost use Rattle.std.specs.Option.{option_map};
 ghost use Rattle.chain_laws.specs.Chains.{Chain, linear, cyclic, Has, IsChain, IsValid, Agrees};
 ghost use Rattle.chain_laws.specs.Starts.{IsStart};
 ghost use Rattle.chain_laws.specs.Walks.{going_on};
-ghost use Rattle.arena_base.specs.Arena.{slot_at};
 ghost use Rattle.chain_layout.specs.HeldLinks.{shown_in, IsWork};
 ghost use Rattle.chain_layout.specs.Counts.{CountsOn};
-ghost use Rattle.chain_layout.specs.Looks.{HasLooked};
-ghost use Rattle.chain_layout.specs.Numbering.{seen_held, given, is_fresh, CanNumber, IsChainNumbered, AreAllNumbered};
+ghost use Rattle.chain_layout.specs.Numbering.{seen_held, given, CanNumber, IsChainNumbered, AreAllNumbered};
 
 use crate::looking::{direct_at, look_at};
 use crate::visiting::Visitor;
 use arena_base::{ArenaSlot, Compactor, inx_at};
 use arena_ptr::{Ptr, PtrInx, SlotStack};
 use chain_links::LinkNoGen;
-
-// Whether a link without a destination stands at an index.
-fn is_fresh_at<P: Ptr, T: Drop, S: SlotStack<Item = ArenaSlot<P, LinkNoGen<P, T>>>>(
-    compactor: &mut Compactor<'_, P, LinkNoGen<P, T>, S>,
-    i: P::Inx,
-) -> bool
-    ensures looked { HasLooked compactor.old compactor.new }
-    ensures answer { result ≡ is_fresh P.Inx.packed_number (slot_at compactor.old.held.slots (P.Inx.number i)) }
-{
-    let (was, _, _, destination) = look_at(compactor, i);
-    match was {
-        Some(_) => destination.is_none(),
-        None => false,
-    }
-}
 
 // The link that the chain of one is written from: the start of a linear one, and itself in a cyclic one. There are no
 // more looks than links in the chain.
@@ -131,8 +114,14 @@ pub fn number_all<
     let mut count = 0;
     for k in 0..compactor.slots() {
         let i = inx_at::<P>(k);
-        if !is_fresh_at(compactor, i) {
-            continue;
+        let (was, _, _, destination) = look_at(compactor, i);
+        match was {
+            Some(_) => {}
+            None => continue,
+        }
+        match destination {
+            Some(_) => continue,
+            None => {}
         }
         let start = start_at(compactor, i);
         let (shown, numbered) = number_chain(compactor, start, count, generation, visitor);

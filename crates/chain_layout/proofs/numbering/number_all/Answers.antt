@@ -1,9 +1,10 @@
 -- The next chain is numbered, or none begins here.
 use Rattle.std.proofs.Common.{length, refl}
+use Rattle.arena_base.specs.Arena.{slot_at}
 use Rattle.chain_layout.proofs.Counting.{at_end}
 use Rattle.chain_layout.proofs.HeldLinks.{work-touched}
 use Rattle.chain_layout.proofs.Lending.{same_then, counts_on}
-use Rattle.chain_layout.proofs.Looks.{told_fresh, told_stale}
+use Rattle.chain_layout.proofs.Looks.{told_fresh, told_directed, told_none}
 use Rattle.chain_layout.proofs.Numbered.{fits_seen}
 use Rattle.chain_layout.proofs.Ordering.{order_begins, order_ends, order_skips, order_agrees, order_valid, order_can, order_goes_on}
 use Rattle.chain_layout.proofs.Tallying.{counts_none}
@@ -23,63 +24,79 @@ pub start_at-start-requires-clause-agree : goal.start_at-start-requires-clause-a
 start_at-start-requires-clause-agree g c =
     let old = c.args.compactor.now in
     let now = c.loop-k.compactor in
-    let look = c.is_fresh_at.ensures in
+    let look = c.look_at-was.ensures in
     order_agrees g.P.Inx.PtrInx.packed_number g.V.Visitor.sees g.P.Ptr.key c.args.generation c.args.visitor old.held old.arena.now c.loop-k.visitor now.held now.arena.now c.loop-k.count c.loop-k.k
-    c.loop-k.invariant.order (g.P.Inx.PtrInx.number c.inx_at-i.result) c.inx_at-i.ensures (told_fresh g.P.Inx.PtrInx.packed_number now.held (g.P.Inx.PtrInx.number c.inx_at-i.result) c.is_fresh_at.result look.answer c.if-not-is_fresh_at.false)
-    c.is_fresh_at.new.compactor.held look.looked.held c.requires.agree
+    c.loop-k.invariant.order (g.P.Inx.PtrInx.number c.inx_at-i.result) c.inx_at-i.ensures (told_fresh g.P.Inx.PtrInx.packed_number g.P.Inx.PtrInx.number (slot_at now.held.slots (g.P.Inx.PtrInx.number c.inx_at-i.result)) c.look_at-was.result.0 c.in-Some.field-0 c.look_at-was.result.3 c.in-Some.is look.generation look.destination c.in-None-destination.is)
+    c.look_at-was.new.compactor.held look.looked.held c.requires.agree
 
 pub start_at-start-requires-clause-valid : goal.start_at-start-requires-clause-valid
 start_at-start-requires-clause-valid g c =
     let old = c.args.compactor.now in
     let now = c.loop-k.compactor in
-    let look = c.is_fresh_at.ensures in
+    let look = c.look_at-was.ensures in
     order_valid g.P.Inx.PtrInx.packed_number g.V.Visitor.sees g.P.Ptr.key c.args.generation c.args.visitor old.held old.arena.now c.loop-k.visitor now.held now.arena.now c.loop-k.count c.loop-k.k
-    c.loop-k.invariant.order (g.P.Inx.PtrInx.number c.inx_at-i.result) c.inx_at-i.ensures (told_fresh g.P.Inx.PtrInx.packed_number now.held (g.P.Inx.PtrInx.number c.inx_at-i.result) c.is_fresh_at.result look.answer c.if-not-is_fresh_at.false)
-    c.is_fresh_at.new.compactor.held look.looked.held
+    c.loop-k.invariant.order (g.P.Inx.PtrInx.number c.inx_at-i.result) c.inx_at-i.ensures (told_fresh g.P.Inx.PtrInx.packed_number g.P.Inx.PtrInx.number (slot_at now.held.slots (g.P.Inx.PtrInx.number c.inx_at-i.result)) c.look_at-was.result.0 c.in-Some.field-0 c.look_at-was.result.3 c.in-Some.is look.generation look.destination c.in-None-destination.is)
+    c.look_at-was.new.compactor.held look.looked.held
 
 pub number_chain-shown-requires-clause-ready : goal.number_chain-shown-requires-clause-ready
 number_chain-shown-requires-clause-ready g c = c.loop-k.invariant.ready
 
 pub number_chain-shown-requires-clause-fits : goal.number_chain-shown-requires-clause-fits
 number_chain-shown-requires-clause-fits g c =
-    fits_seen g.P.Inx.PtrInx.packed_number c.args.compactor.now.held c.loop-k.compactor.held c.is_fresh_at.new.compactor.held c.start_at-start.new.compactor.held g.P.Inx.PtrInx.greatest
-    c.loop-k.invariant.order.seen c.is_fresh_at.ensures.looked.held c.start_at-start.ensures.held c.requires.fits
+    fits_seen g.P.Inx.PtrInx.packed_number c.args.compactor.now.held c.loop-k.compactor.held c.look_at-was.new.compactor.held c.start_at-start.new.compactor.held g.P.Inx.PtrInx.greatest
+    c.loop-k.invariant.order.seen c.look_at-was.ensures.looked.held c.start_at-start.ensures.held c.requires.fits
 
 pub number_chain-shown-requires-clause-can : goal.number_chain-shown-requires-clause-can
 number_chain-shown-requires-clause-can g c =
     let old = c.args.compactor.now in
     let now = c.loop-k.compactor in
-    let look = c.is_fresh_at.ensures in
+    let look = c.look_at-was.ensures in
     let start = c.start_at-start.ensures in
     order_can g.P.Inx.PtrInx.packed_number g.V.Visitor.sees g.P.Ptr.key c.args.generation c.args.visitor old.held old.arena.now c.loop-k.visitor now.held now.arena.now c.loop-k.count c.loop-k.k
-    c.loop-k.invariant.order (g.P.Inx.PtrInx.number c.inx_at-i.result) c.inx_at-i.ensures (told_fresh g.P.Inx.PtrInx.packed_number now.held (g.P.Inx.PtrInx.number c.inx_at-i.result) c.is_fresh_at.result look.answer c.if-not-is_fresh_at.false)
-    c.is_fresh_at.new.compactor.held look.looked.held c.start_at-start.new.compactor.held start.held (g.P.Inx.PtrInx.number c.start_at-start.result) start.start
+    c.loop-k.invariant.order (g.P.Inx.PtrInx.number c.inx_at-i.result) c.inx_at-i.ensures (told_fresh g.P.Inx.PtrInx.packed_number g.P.Inx.PtrInx.number (slot_at now.held.slots (g.P.Inx.PtrInx.number c.inx_at-i.result)) c.look_at-was.result.0 c.in-Some.field-0 c.look_at-was.result.3 c.in-Some.is look.generation look.destination c.in-None-destination.is)
+    c.look_at-was.new.compactor.held look.looked.held c.start_at-start.new.compactor.held start.held (g.P.Inx.PtrInx.number c.start_at-start.result) start.start
 
-pub loop-k-preserved-then-not-is_fresh_at : goal.loop-k-preserved-then-not-is_fresh_at
-loop-k-preserved-then-not-is_fresh_at g c =
+pub loop-k-preserved-in-None : goal.loop-k-preserved-in-None
+loop-k-preserved-in-None g c =
     let at = c.loop-k.invariant in
-    let look = c.is_fresh_at.ensures in
+    let look = c.look_at-was.ensures in
     let old = c.args.compactor.now in
     let now = c.loop-k.compactor in
-    let mid = c.is_fresh_at.new.compactor in
+    let mid = c.look_at-was.new.compactor in
     record {
       ready = at.ready;
       same_reference = same_then old now mid at.same_reference look.looked.same_reference;
       order = order_skips g.P.Inx.PtrInx.packed_number g.V.Visitor.sees g.P.Ptr.key c.args.generation c.args.visitor old.held old.arena.now c.loop-k.visitor now.held now.arena.now c.loop-k.count c.loop-k.k
           at.order (g.P.Inx.PtrInx.number c.inx_at-i.result) c.inx_at-i.ensures mid.held mid.arena.now look.looked.held
-          (told_stale g.P.Inx.PtrInx.packed_number now.held (g.P.Inx.PtrInx.number c.inx_at-i.result) c.is_fresh_at.result look.answer c.if-not-is_fresh_at.true) (work-touched now.arena.now mid.arena.now look.looked.arena);
+          (told_none g.P.Inx.PtrInx.packed_number (slot_at now.held.slots (g.P.Inx.PtrInx.number c.inx_at-i.result)) c.look_at-was.result.0 c.in-None.is look.generation) (work-touched now.arena.now mid.arena.now look.looked.arena);
+      counts = counts_on old now mid at.counts look.looked.counts;
+    }
+
+pub loop-k-preserved-in-Some-destination : goal.loop-k-preserved-in-Some-destination
+loop-k-preserved-in-Some-destination g c =
+    let at = c.loop-k.invariant in
+    let look = c.look_at-was.ensures in
+    let old = c.args.compactor.now in
+    let now = c.loop-k.compactor in
+    let mid = c.look_at-was.new.compactor in
+    record {
+      ready = at.ready;
+      same_reference = same_then old now mid at.same_reference look.looked.same_reference;
+      order = order_skips g.P.Inx.PtrInx.packed_number g.V.Visitor.sees g.P.Ptr.key c.args.generation c.args.visitor old.held old.arena.now c.loop-k.visitor now.held now.arena.now c.loop-k.count c.loop-k.k
+          at.order (g.P.Inx.PtrInx.number c.inx_at-i.result) c.inx_at-i.ensures mid.held mid.arena.now look.looked.held
+          (told_directed g.P.Inx.PtrInx.packed_number g.P.Inx.PtrInx.number (slot_at now.held.slots (g.P.Inx.PtrInx.number c.inx_at-i.result)) c.look_at-was.result.0 c.in-Some.field-0 c.look_at-was.result.3 c.in-Some-destination.field-0 c.in-Some.is look.generation look.destination c.in-Some-destination.is) (work-touched now.arena.now mid.arena.now look.looked.arena);
       counts = counts_on old now mid at.counts look.looked.counts;
     }
 
 pub loop-k-preserved : goal.loop-k-preserved
 loop-k-preserved g c =
     let at = c.loop-k.invariant in
-    let look = c.is_fresh_at.ensures in
+    let look = c.look_at-was.ensures in
     let start = c.start_at-start.ensures in
     let chain = c.number_chain-shown.ensures in
     let old = c.args.compactor.now in
     let now = c.loop-k.compactor in
-    let mid = c.is_fresh_at.new.compactor in
+    let mid = c.look_at-was.new.compactor in
     let stood = c.start_at-start.new.compactor in
     let new = c.number_chain-shown.new.compactor in
     record {
@@ -87,7 +104,7 @@ loop-k-preserved g c =
       same_reference = same_then old now new at.same_reference (same_then now mid new look.looked.same_reference (same_then mid stood new start.same_reference chain.same_reference));
       order = order_goes_on g.P.Inx.PtrInx.packed_number g.V.Visitor.sees g.P.Ptr.key c.args.generation c.args.visitor old.held old.arena.now c.loop-k.visitor now.held now.arena.now c.loop-k.count c.loop-k.k
           at.order (g.P.Inx.PtrInx.number c.inx_at-i.result) c.inx_at-i.ensures
-          (told_fresh g.P.Inx.PtrInx.packed_number now.held (g.P.Inx.PtrInx.number c.inx_at-i.result) c.is_fresh_at.result look.answer c.if-not-is_fresh_at.false)
+          (told_fresh g.P.Inx.PtrInx.packed_number g.P.Inx.PtrInx.number (slot_at now.held.slots (g.P.Inx.PtrInx.number c.inx_at-i.result)) c.look_at-was.result.0 c.in-Some.field-0 c.look_at-was.result.3 c.in-Some.is look.generation look.destination c.in-None-destination.is)
           mid.held look.looked.held stood.held start.held (g.P.Inx.PtrInx.number c.start_at-start.result) start.start mid.arena.now stood.arena.now new.arena.now
           c.number_chain-shown.result.0 new.held c.number_chain-shown.result.1
           (work-touched now.arena.now mid.arena.now look.looked.arena) start.linear start.cyclic chain.seen chain.numbered;
