@@ -11,7 +11,7 @@ use Rattle.arena_base.specs.Closing.{with_totals}
 use Rattle.chain_links.specs.declared.links.LinkBody.{LinkBody}
 use Rattle.chain_links.specs.Links.{seen_link, seen_pair}
 use Rattle.chain_layout.specs.Moving.{goal_of}
-use Rattle.chain_layout.specs.Numbering.{seen_held, given}
+use Rattle.chain_layout.specs.Numbering.{seen_held, given, IsDirectedAt}
 use Rattle.chain_layout.proofs.Counting.{stands-within}
 use Rattle.chain_layout.proofs.HeldLinks.{kept_map}
 use Rattle.chain_links.proofs.Seeing.{slot_at-changed}
@@ -20,7 +20,7 @@ use Rattle.chain_links.proofs.Seeing.{slot_at-changed}
 module _ {Gen K T : Type 0} (number : K → Option ℕ) (held new : Held Gen (LinkBody K T)) (i : ℕ) (l w : LinkBody K T)
     (stands : Some l ≡ option_map (λ (e : Gen × LinkBody K T). e.1) (slot_at held.slots i)) (wrote : new ≡ held_with_value held i w)
     (empty : number w.destination ≡ None) (rest : w ≡ record l { destination = w.destination }) where
-  pub seen_emptied : seen_held number new ≡ seen_held number held
+  seen_emptied : seen_held number new ≡ seen_held number held
   seen_emptied =
       let same : seen_link number w ≡ seen_link number l = ap (seen_link number) rest in
       let slots = kept_map (seen_pair number) held.slots i l w stands (λ g j. (g, same j)) in
@@ -39,15 +39,45 @@ module _ {Gen K T : Type 0} (number : K → Option ℕ) (held new : Held Gen (Li
   here : (j : ℕ) → j ≡ i → given number new.slots j ≡ None
   here j e = at j ∙ (ap (option_and_then (goal_of number)) (if_same j i _ _ e) ∙ no_goal (slot_at held.slots j))
 
-  pub given_emptied : given number new.slots i ≡ None
+  given_emptied : given number new.slots i ≡ None
   given_emptied = here i refl
 
-  pub others_emptied : (j : ℕ) → given number held.slots j ≡ None → given number new.slots j ≡ None
+  others_emptied : (j : ℕ) → given number held.slots j ≡ None → given number new.slots j ≡ None
   others_emptied j none = by (ℕ_discrete j i)
     where
       by : Dec (j ≡ i) → given number new.slots j ≡ None
       by (yes e) = here j e
       by (no differs) = at j ∙ (ap (option_and_then (goal_of number)) (if_other j i _ _ differs) ∙ none)
+
+-- the link at an index has no destination any more, if one stands there
+module _ {Gen K T : Type 0} (number : K → Option ℕ) (i : ℕ) (held new : Held Gen (LinkBody K T)) (directed : IsDirectedAt number i None held new) where
+  -- a link stands there, or none
+  told : (l : LinkBody K T) → Some l ≡ option_map (λ (e : Gen × LinkBody K T). e.1) (slot_at held.slots i)
+      → (seen_held number new ≡ seen_held number held) × (given number new.slots i ≡ None) × ((j : ℕ) → given number held.slots j ≡ None → given number new.slots j ≡ None)
+  told l stands =
+      let w = directed.there l stands in (
+        seen_emptied number held new i l w.0 stands w.3 w.1 w.2,
+        given_emptied number held new i l w.0 stands w.3 w.1 w.2,
+        others_emptied number held new i l w.0 stands w.3 w.1 w.2,
+      )
+
+  untold : (o : Option (Gen × LinkBody K T)) → None ≡ option_map (λ (e : Gen × LinkBody K T). e.1) o → option_and_then (goal_of number) o ≡ None
+  untold None is = refl
+  untold (Some e) is = cc
+
+  pub emptied : (seen_held number new ≡ seen_held number held) × (given number new.slots i ≡ None) × ((j : ℕ) → given number held.slots j ≡ None → given number new.slots j ≡ None)
+  emptied = by (slot_at held.slots i) refl
+    where
+      by : (o : Option (Gen × LinkBody K T)) → slot_at held.slots i ≡ o
+          → (seen_held number new ≡ seen_held number held) × (given number new.slots i ≡ None) × ((j : ℕ) → given number held.slots j ≡ None → given number new.slots j ≡ None)
+      by (Some e) is = told e.1 (sym (ap (option_map (λ (e : Gen × LinkBody K T). e.1)) is))
+      by None is =
+          let none : None ≡ option_map (λ (e : Gen × LinkBody K T). e.1) (slot_at held.slots i) = sym (ap (option_map (λ (e : Gen × LinkBody K T). e.1)) is) in
+          let same : new ≡ held = directed.none none in (
+            ap (λ (h : Held Gen (LinkBody K T)). seen_held number h) same,
+            ap (λ (h : Held Gen (LinkBody K T)). given number h.slots i) same ∙ untold (slot_at held.slots i) none,
+            λ j was. ap (λ (h : Held Gen (LinkBody K T)). given number h.slots j) same ∙ was,
+          )
 
 -- the round over all
 module _ {Gen K T : Type 0} (number : K → Option ℕ) where

@@ -1,11 +1,11 @@
 -- What a write, a placement and a look make of the links that a compactor holds.
-use Rattle.std.proofs.Common.{◌≡◌, ◌≢◌, ℕ, zero, suc, ◌+◌, ◌≤◌, ◌⊎◌, inl, inr, List, length, map, Option, None, Some, refl, ap, ap₂, sym, ◌∙◌, arith}
-use Rattle.std.specs.Prelude.{◌==◌, if◌then◌else◌}
+use Rattle.std.proofs.Common.{◌≡◌, ◌≢◌, ℕ, zero, suc, ◌+◌, ◌≤◌, ◌⊎◌, inl, inr, List, length, map, true, Option, None, Some, refl, ap, ap₂, sym, ◌∙◌, arith}
+use Rattle.std.specs.Prelude.{is_some, ◌==◌, if◌then◌else◌}
 use Rattle.std.specs.Option.{option_map}
 use Rattle.std.proofs.Math.Decide.{ℕ_discrete}
 use Rattle.std.proofs.Math.Seq.{map-set_same}
 use mathlib.Core.Path.{fun_ext}
-use Rattle.chain_laws.specs.Chains.{Shown, Interlinks, Agrees, prev_in, next_in, prev_of, next_of}
+use Rattle.chain_laws.specs.Chains.{Shown, Interlinks, Agrees, prev_of, next_of}
 use Rattle.chain_laws.specs.Operations.{next_set, prev_set, with_next, with_prev}
 use Rattle.chain_laws.specs.Moves.{moved_index, moved, put, CanMove}
 use Rattle.chain_laws.proofs.Agreement.{if_same, if_other, one_some}
@@ -184,27 +184,29 @@ module _ {Gen K T : Type 0} (number : K → Option ℕ) (old looked brought told
       second ∙ (first ∙ (ap (λ (h : Held Gen (LinkBody K T)). held_values h) (is_brought ∙ ap (λ (h : Held Gen (LinkBody K T)). placed h from to generation) is_looked)
       ∙ values-placed old from to generation))
 
-  -- the link shows what its interlinks are
-  shows_prev : (e : Gen × LinkBody K T) → Some e ≡ slot_at old.slots from → prev_of (shown_in number old.slots) from ≡ number e.1.prev
-  shows_prev e stands = sym (ap (λ o. prev_in (option_map (interlinks_seen number) o)) stands)
-
-  shows_next : (e : Gen × LinkBody K T) → Some e ≡ slot_at old.slots from → next_of (shown_in number old.slots) from ≡ number e.1.next
-  shows_next e stands = sym (ap (λ o. next_in (option_map (interlinks_seen number) o)) stands)
-
-  pub move-shown : (e : Gen × LinkBody K T) (before after prev next : Option ℕ) → Some e ≡ slot_at old.slots from → 1 ≤ from → from ≤ length old.slots → 1 ≤ to → to ≤ length old.slots
-      → prev ≡ number e.1.prev → next ≡ number e.1.next → before ≡ option_map (moved_index from to) prev → after ≡ option_map (moved_index from to) next
+  pub move-shown : (before after prev next : Option ℕ) → 1 ≤ from → from ≤ length old.slots → 1 ≤ to → to ≤ length old.slots
+      → prev ≡ prev_of (shown_in number old.slots) from → next ≡ next_of (shown_in number old.slots) from → before ≡ option_map (moved_index from to) prev → after ≡ option_map (moved_index from to) next
       → shown_in number told.slots ≡ next_set (shown_in number brought.slots) before (Some to) → shown_in number new.slots ≡ prev_set (shown_in number told.slots) after (Some to)
       → Agrees (shown_in number old.slots) → CanMove (shown_in number old.slots) from to → shown_in number new.slots ≡ moved (shown_in number old.slots) from to
-  move-shown e before after prev next stands first within first_to within_to is_prev is_next is_before is_after first_told second_told agrees can =
+  move-shown before after prev next first within first_to within_to is_prev is_next is_before is_after first_told second_told agrees can =
       let shown : Shown = shown_in number old.slots in
       let is_put : shown_in number brought.slots ≡ put shown from to =
       ap (λ (h : Held Gen (LinkBody K T)). shown_in number h.slots) (is_brought ∙ ap (λ (h : Held Gen (LinkBody K T)). placed h from to generation) is_looked)
       ∙ shown-placed old from to generation number first within first_to within_to can.free in
-      let names_before : before ≡ option_map (moved_index from to) (prev_of shown from) = is_before ∙ ap (option_map (moved_index from to)) (is_prev ∙ sym (shows_prev e stands)) in
-      let names_after : after ≡ option_map (moved_index from to) (next_of shown from) = is_after ∙ ap (option_map (moved_index from to)) (is_next ∙ sym (shows_next e stands)) in
+      let names_before : before ≡ option_map (moved_index from to) (prev_of shown from) = is_before ∙ ap (option_map (moved_index from to)) is_prev in
+      let names_after : after ≡ option_map (moved_index from to) (next_of shown from) = is_after ∙ ap (option_map (moved_index from to)) is_next in
       second_told
       ∙ (ap₂ (λ (m : Shown) (o : Option ℕ). prev_set m o (Some to)) (first_told ∙ ap₂ (λ (m : Shown) (o : Option ℕ). next_set m o (Some to)) is_put names_before) names_after
       ∙ neighbors_tell_a_move shown from to agrees can)
+
+-- what a look has seen is there
+pub entry-seen : {Gen X : Type 0} (old looked : Held Gen X) (n : ℕ) (r : Option Gen) (was : Gen) → looked ≡ old → r ≡ Some was → r ≡ option_map (λ (e : Gen × X). e.0) (slot_at old.slots n)
+    → is_some (slot_at looked.slots n) ≡ true
+entry-seen {Gen} {X} old looked n r was same some told = ap (λ (h : Held Gen X). is_some (slot_at h.slots n)) same ∙ by (slot_at old.slots n) (sym some ∙ told)
+  where
+    by : (o : Option (Gen × X)) → Some was ≡ option_map (λ (e : Gen × X). e.0) o → is_some o ≡ true
+    by None is = absurd (let both = is in cc)
+    by (Some e) is = refl
 
 -- ---- the work
 
@@ -253,3 +255,7 @@ module _ {Gen T : Type 0} where
   pub work-moved : {a b c d e : Arena Gen T} → b ≡ with_touch a → c ≡ with_placement b → IsWork c d 0 1 → IsWork d e 0 1 → IsWork a e 1 3
   work-moved {a} {b} {c} looked placed first second =
       work-more (work-more (work-more (work-touched a b looked) (work-placed b c placed) 1 1 refl (omega arith)) first 1 2 refl (omega arith)) second 1 3 refl (omega arith)
+
+  -- two touches
+  pub work-twice : (a b c : Arena Gen T) → b ≡ with_touch a → c ≡ with_touch b → IsWork a c 0 2
+  work-twice a b c one two = work-more (work-touched a b one) (work-touched b c two) 0 2 refl (omega arith)

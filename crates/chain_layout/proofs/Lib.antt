@@ -18,3 +18,8 @@ pub mod Emptying
 pub mod Arranging
 pub mod Layouts
 pub mod Looks
+pub mod Naming
+pub mod Beginning
+pub mod Lending
+pub mod Bringing
+pub mod Telling

@@ -1,5 +1,5 @@
 -- A look at one slot.
-use Rattle.std.proofs.Common.{◌≡◌, ℕ, Bool, true, false, Option, None, Some, refl, ap}
+use Rattle.std.proofs.Common.{◌≡◌, ℕ, Bool, true, false, Option, None, Some, refl, sym, ap}
 use Rattle.std.specs.Prelude.{is_none, is_some, not}
 use Rattle.std.specs.Option.{option_map, option_and_then}
 use Rattle.arena_base.specs.Compacting.{with_touch, one_more}
@@ -43,7 +43,7 @@ module _ {Gen K T : Type 0} (packed : K → Option ℕ) where
   )
 
   -- whether a fresh link stands in a slot, by what a look at it answers
-  pub fresh_there : {I : Type 0} (number : I → ℕ) (o : Option (Gen × LinkBody K T)) (r : Option Gen) (g : Gen) (d : Option I) (b : Bool) → r ≡ Some g
+  fresh_there : {I : Type 0} (number : I → ℕ) (o : Option (Gen × LinkBody K T)) (r : Option Gen) (g : Gen) (d : Option I) (b : Bool) → r ≡ Some g
       → r ≡ option_map (λ (x : Gen × LinkBody K T). x.0) o → option_map number d ≡ option_and_then (goal_of packed) o → is_some d ≡ not b → b ≡ is_fresh packed o
   fresh_there number None r g d b is stands to none = cc
   fresh_there number (Some e) r g None true is stands to none = ap is_none to
@@ -51,6 +51,20 @@ module _ {Gen K T : Type 0} (packed : K → Option ℕ) where
   fresh_there number (Some e) r g (Some x) true is stands to none = cc
   fresh_there number (Some e) r g (Some x) false is stands to none = ap is_none to
 
-  pub none_fresh : (o : Option (Gen × LinkBody K T)) (r : Option Gen) → r ≡ None → r ≡ option_map (λ (x : Gen × LinkBody K T). x.0) o → false ≡ is_fresh packed o
+  none_fresh : (o : Option (Gen × LinkBody K T)) (r : Option Gen) → r ≡ None → r ≡ option_map (λ (x : Gen × LinkBody K T). x.0) o → false ≡ is_fresh packed o
   none_fresh None r is stands = refl
   none_fresh (Some e) r is stands = cc
+
+  -- what a look tells: a fresh link ..
+  pub told_fresh : {I : Type 0} (number : I → ℕ) (o : Option (Gen × LinkBody K T)) (r : Option Gen) (g : Gen) (d : Option I) → r ≡ Some g → r ≡ option_map (λ (x : Gen × LinkBody K T). x.0) o
+      → option_map number d ≡ option_and_then (goal_of packed) o → d ≡ None → is_fresh packed o ≡ true
+  told_fresh number o r g d is stands to none = sym (fresh_there number o r g d true is stands to (ap is_some none))
+
+  -- .. one that has a destination ..
+  pub told_directed : {I : Type 0} (number : I → ℕ) (o : Option (Gen × LinkBody K T)) (r : Option Gen) (g : Gen) (d : Option I) (i : I) → r ≡ Some g → r ≡ option_map (λ (x : Gen × LinkBody K T). x.0) o
+      → option_map number d ≡ option_and_then (goal_of packed) o → d ≡ Some i → is_fresh packed o ≡ false
+  told_directed number o r g d i is stands to some = sym (fresh_there number o r g d false is stands to (ap is_some some))
+
+  -- .. or none
+  pub told_none : (o : Option (Gen × LinkBody K T)) (r : Option Gen) → r ≡ None → r ≡ option_map (λ (x : Gen × LinkBody K T). x.0) o → is_fresh packed o ≡ false
+  told_none o r is stands = sym (none_fresh o r is stands)

@@ -117,6 +117,12 @@ module _ {Gen K T : Type 0} (number : K → Option ℕ) where
     pub length-seen : length a.slots ≡ length b.slots
     length-seen = sym (length-map a.slots (option_map (seen_pair number))) ∙ (ap (λ (h : Held Gen (LinkSeen T)). length h.slots) same ∙ length-map b.slots (option_map (seen_pair number)))
 
+  -- .. which fit where they did, through looks
+  pub fits_seen : (old now mid stood : Held Gen (LinkBody K T)) (greatest : ℕ) → seen_held number now ≡ seen_held number old → mid ≡ now → stood ≡ mid → length old.slots ≤ greatest → length stood.slots ≤ greatest
+  fits_seen old now mid stood greatest seen look walked fits =
+      let long : length stood.slots ≡ length old.slots = ap (λ (h : Held Gen (LinkBody K T)). length h.slots) (walked ∙ look) ∙ length-seen now old seen in
+      omega (arith, long, fits)
+
   seen-sent : (k : K) (s : Option (Gen × LinkBody K T)) → option_map (seen_pair number) (option_map (sent k) s) ≡ option_map (seen_pair number) s
   seen-sent k None = refl
   seen-sent k (Some e) = refl

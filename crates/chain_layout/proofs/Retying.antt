@@ -7,15 +7,18 @@ use Rattle.std.proofs.lemmas.List.{ext_get_or, length-map}
 use Rattle.std.proofs.lemmas.List.Sums.{sum_by_more, sum_by-take-le}
 use mathlib.Core.Path.{fun_ext}
 use Rattle.chain_laws.proofs.Agreement.{if_same, if_other}
-use Rattle.arena_base.specs.Arena.{slot_at, with_slot}
-use Rattle.arena_base.specs.Compacting.{Held, held_with_value}
+use Rattle.chain_laws.specs.Chains.{prev_in, next_in, prev_of, next_of}
+use Rattle.arena_base.specs.Arena.{Arena, slot_at, with_slot}
+use Rattle.arena_base.specs.Compacting.{Held, held_with_value, with_touch}
 use Rattle.arena_base.proofs.Reading.{length-with_slot}
 use Rattle.chain_links.specs.declared.links.LinkBody.{LinkBody}
 use Rattle.chain_links.specs.ChainArena.{LinkSeen, on_value}
 use Rattle.chain_links.specs.Links.{seen_link, seen_pair}
+use Rattle.chain_layout.specs.HeldLinks.{interlinks_seen, shown_in, IsWork}
 use Rattle.chain_layout.specs.Moving.{goal_of}
 use Rattle.chain_layout.specs.Numbering.{renamed_link, renamed_held, looks_at, seen_held, given, IsRenamedAt, AreRenamedTo}
-use Rattle.chain_layout.proofs.Counting.{one_if}
+use Rattle.chain_layout.proofs.Counting.{one_if, with_slot-own}
+use Rattle.chain_layout.proofs.HeldLinks.{work-none, work-touched, work-more}
 use Rattle.chain_links.proofs.Mapping.{map-with_slot, slot_at-map}
 use Rattle.chain_links.proofs.Seeing.{slot_at-changed}
 
@@ -59,7 +62,7 @@ module _ {Gen K T : Type 0} (number : K → Option ℕ) (held new : Held Gen (Li
         ap (λ (h : Held Gen (LinkBody K T)). seen_held number h) wrote ∙ (λ j. record (seen_held number held) { slots = slots j })
 
 -- the link at i was looked at, its neighbors were, and it was written
-pub renames_link : {Gen K T : Type 0} (number : K → Option ℕ) (i : ℕ) (old now new : Held Gen (LinkBody K T)) (e : Gen × LinkBody K T) (l m w : LinkBody K T) (before after : Option ℕ)
+renames_link : {Gen K T : Type 0} (number : K → Option ℕ) (i : ℕ) (old now new : Held Gen (LinkBody K T)) (e : Gen × LinkBody K T) (l m w : LinkBody K T) (before after : Option ℕ)
     → now ≡ old → Some e ≡ slot_at old.slots i → Some l ≡ option_map (λ (x : Gen × LinkBody K T). x.1) (slot_at now.slots i) → new ≡ held_with_value now i w
     → before ≡ option_and_then (given number old.slots) (number e.1.prev) → after ≡ option_and_then (given number old.slots) (number e.1.next)
     → number m.prev ≡ before → m ≡ record l { prev = m.prev } → number w.next ≡ after → w ≡ record m { next = w.next } → IsRenamedAt number i old new
@@ -76,10 +79,68 @@ renames_link {Gen} {K} {T} number i old now new e l m w before after same there 
       kept = kept_given number old new i l w stood written (ap (λ (k : LinkBody K T). number k.destination) left ∙ ap (λ (k : LinkBody K T). number k.destination) rest);
     }
 
+-- the link at i was looked at, its neighbors were, and it was written, step by step
+pub renames_looked : {Gen K T : Type 0} (number : K → Option ℕ) (i : ℕ) (old looked one two new : Held Gen (LinkBody K T)) (r : Option Gen) (was : Gen) (prev next before after : Option ℕ) (l m w : LinkBody K T)
+    → looked ≡ old → one ≡ looked → two ≡ one → r ≡ Some was → r ≡ option_map (λ (e : Gen × LinkBody K T). e.0) (slot_at old.slots i)
+    → prev ≡ prev_of (shown_in number old.slots) i → next ≡ next_of (shown_in number old.slots) i
+    → before ≡ option_and_then (given number looked.slots) prev → after ≡ option_and_then (given number one.slots) next
+    → Some l ≡ option_map (λ (x : Gen × LinkBody K T). x.1) (slot_at two.slots i) → new ≡ held_with_value two i w
+    → number m.prev ≡ before → m ≡ record l { prev = m.prev } → number w.next ≡ after → w ≡ record m { next = w.next } → IsRenamedAt number i old new
+renames_looked {Gen} {K} {T} number i old looked one two new r was prev next before after l m w at_first at_one at_two some stood is_prev is_next is_before is_after stands wrote sets rest sets_next rest_next =
+    by (slot_at old.slots i) refl (sym some ∙ stood)
+  where
+    by : (o : Option (Gen × LinkBody K T)) → slot_at old.slots i ≡ o → Some was ≡ option_map (λ (e : Gen × LinkBody K T). e.0) o → IsRenamedAt number i old new
+    by None is none = absurd (let both = none in cc)
+    by (Some e) is none =
+        let own_prev : prev ≡ number e.1.prev = is_prev ∙ ap (λ (o : Option (Gen × LinkBody K T)). prev_in (option_map (interlinks_seen number) o)) is in
+        let own_next : next ≡ number e.1.next = is_next ∙ ap (λ (o : Option (Gen × LinkBody K T)). next_in (option_map (interlinks_seen number) o)) is in
+        renames_link number i old two new e l m w before after (at_two ∙ (at_one ∙ at_first)) (sym is) stands wrote
+        (is_before ∙ (ap (λ (h : Held Gen (LinkBody K T)). option_and_then (given number h.slots) prev) at_first ∙ ap (option_and_then (given number old.slots)) own_prev))
+        (is_after ∙ (ap (λ (h : Held Gen (LinkBody K T)). option_and_then (given number h.slots) next) (at_one ∙ at_first) ∙ ap (option_and_then (given number old.slots)) own_next))
+        sets rest sets_next rest_next
+
+-- no link stands at i
+renames_none : {Gen K T : Type 0} (number : K → Option ℕ) (i : ℕ) (old new : Held Gen (LinkBody K T)) → new ≡ old → None ≡ slot_at old.slots i → IsRenamedAt number i old new
+renames_none {Gen} {K} {T} number i old new same none = record {
+  seen = ap (λ (h : Held Gen (LinkBody K T)). seen_held number h) same ∙ (λ j. record (seen_held number old) { slots = slots j });
+  kept = λ j. ap (λ (h : Held Gen (LinkBody K T)). given number h.slots j) same;
+}
+  where
+    rename : Option (Gen × LinkSeen T) → Option (Gen × LinkSeen T)
+    rename o = option_map (on_value (renamed_link (given number old.slots))) o
+
+    nothing : slot_at (seen_held number old).slots i ≡ None
+    nothing = slot_at-map (seen_pair number) old.slots i ∙ ap (option_map (seen_pair number)) (sym none)
+
+    slots : (seen_held number old).slots ≡ with_slot (seen_held number old).slots i (rename (slot_at (seen_held number old).slots i))
+    slots = sym (with_slot-own (seen_held number old).slots i) ∙ ap (with_slot (seen_held number old).slots i) (nothing ∙ sym (ap rename nothing))
+
+-- .. as a look told
+pub renames_nothing : {Gen K T : Type 0} (number : K → Option ℕ) (i : ℕ) (old new : Held Gen (LinkBody K T)) (r : Option Gen) → new ≡ old → r ≡ None
+    → r ≡ option_map (λ (e : Gen × LinkBody K T). e.0) (slot_at old.slots i) → IsRenamedAt number i old new
+renames_nothing {Gen} {K} {T} number i old new r same none stood = renames_none number i old new same (by (slot_at old.slots i) (sym none ∙ stood))
+  where
+    by : (o : Option (Gen × LinkBody K T)) → None ≡ option_map (λ (e : Gen × LinkBody K T). e.0) o → None ≡ o
+    by None is = refl
+    by (Some e) is = absurd (let both = is in cc)
+
+-- a look at a slot is one at least
+one_look : {X : Type 0} (o : Option X) → 1 + 0 ≤ looks_at o
+one_look None = omega arith
+one_look (Some x) = omega arith
+
 -- a link takes four looks
-pub four_looks : {X : Type 0} (o : Option X) (e : X) → Some e ≡ o → 4 ≤ looks_at o
-four_looks None e is = absurd (cc)
-four_looks (Some x) e is = omega arith
+four_looks : {X G : Type 0} (o : Option X) (f : X → G) (r : Option G) (g : G) → r ≡ Some g → r ≡ option_map f o → 3 + 1 ≤ looks_at o
+four_looks None f r g some told = absurd (let both = sym some ∙ told in cc)
+four_looks (Some x) f r g some told = omega arith
+
+module _ {Gen T X G : Type 0} (o : Option X) (f : X → G) (r : Option G) (old looked : Arena Gen T) (look : looked ≡ with_touch old) where
+  pub work_none : IsWork old looked 0 (looks_at o)
+  work_none = work-more (work-touched old looked look) (work-none looked 0) 0 (looks_at o) refl (one_look o)
+
+  pub work_four : (one two new : Arena Gen T) (g : G) → r ≡ Some g → r ≡ option_map f o → IsWork looked one 0 1 → IsWork one two 0 1 → new ≡ with_touch two → IsWork old new 0 (looks_at o)
+  work_four one two new g some told first second write =
+      work-more (work-more (work-more (work-touched old looked look) first 0 2 refl (omega arith)) second 0 3 refl (omega arith)) (work-touched two new write) 0 (looks_at o) refl (four_looks o f r g some told)
 
 module _ {Gen T : Type 0} (to : ℕ → Option ℕ) (old : List (Option (Gen × LinkSeen T))) where
   abbrev renaming : Option (Gen × LinkSeen T) → Option (Gen × LinkSeen T)

@@ -1,7 +1,8 @@
 -- Links in the slots that a compactor holds: their values, their interlinks, and the work that is counted.
-use Rattle.std.specs.Prelude.{◌≡◌, ℕ, ◌≤◌, List, map, Option}
+use Rattle.std.specs.Prelude.{◌≡◌, ℕ, ◌≤◌, Bool, true, false, List, map, Option}
 use Rattle.std.specs.Option.{option_map}
 use Rattle.chain_laws.specs.Chains.{Shown, Interlinks}
+use Rattle.chain_laws.specs.Operations.{next_set, prev_set}
 use Rattle.arena_base.specs.Arena.{Arena, slot_at}
 use Rattle.arena_base.specs.Entries.{entries_from, index_of}
 use Rattle.arena_base.specs.Compacting.{Held}
@@ -26,6 +27,11 @@ module _ {Gen K T : Type 0} where
   -- what the slots show at each index
   abbrev pub shown_in : (K → Option ℕ) → List (Option (Gen × LinkBody K T)) → Shown
   shown_in number slots i = option_map (interlinks_seen number) (slot_at slots i)
+
+-- what is shown once the link at an index, if there is one, names another as the one before it, or as the one after it
+abbrev pub told : Bool → Shown → Option ℕ → Option ℕ → Shown
+told true shown i named = prev_set shown i named
+told false shown i named = next_set shown i named
 
 -- the indexes of the entries in slots, by rising index
 abbrev pub indexes_in : {Gen T : Type 0} → List (Option (Gen × T)) → List ℕ

@@ -4,7 +4,7 @@ use Rattle.std.specs.Option.{option_map, option_and_then}
 use Rattle.chain_laws.specs.Chains.{Chain, items, Has, IsChain, first_or}
 use Rattle.chain_laws.specs.Arrangements.{place_in, IsLeastIndexOrder}
 use Rattle.arena_base.specs.Arena.{Arena, slot_at, with_slot}
-use Rattle.arena_base.specs.Compacting.{Held}
+use Rattle.arena_base.specs.Compacting.{Held, held_with_value}
 use Rattle.chain_links.specs.ChainArena.{LinkSeen, on_value, ptr_at}
 use Rattle.chain_links.specs.Links.{seen_pair}
 use Rattle.chain_layout.specs.HeldLinks.{shown_in, IsWork}
@@ -55,6 +55,12 @@ module _ {Gen K T : Type 0} (number : K → Option ℕ) where
     pub destination : K
     pub is : number destination ≡ Some d
     pub held : new ≡ record old { slots = sent_at destination old.slots i }
+
+  -- the link at i, if one stands there, got another destination or none, and nothing else has changed
+  pub record IsDirectedAt (i : ℕ) (goes : Option ℕ) (old new : Held Gen (LinkBody K T)) : Type 0 where
+    pub there : (l : LinkBody K T) → Some l ≡ option_map (λ e. e.1) (slot_at old.slots i)
+        → (w : LinkBody K T) × (number w.destination ≡ goes) × (w ≡ record l { destination = w.destination }) × (new ≡ held_with_value old i w)
+    pub none : None ≡ option_map (λ e. e.1) (slot_at old.slots i) → new ≡ old
 
   -- the link at i names the destinations of its neighbors, and nothing else has changed
   pub record IsRenamedAt (i : ℕ) (old new : Held Gen (LinkBody K T)) : Type 0 where

@@ -3,7 +3,6 @@ ghost use Rattle.std.specs.Prelude.{◌≡◌, ◌≤◌, ◌+◌, ◌*◌, ℕ,
 ghost use Rattle.std.specs.Option.{option_map, option_and_then};
 ghost use Rattle.chain_laws.specs.Chains.{Agrees};
 ghost use Rattle.arena_base.specs.Arena.{slot_at};
-ghost use Rattle.arena_base.specs.Compacting.{with_touch};
 ghost use Rattle.arena_base.specs.Closing.{with_totals};
 ghost use Rattle.chain_links.specs.ChainArena.{shown};
 ghost use Rattle.chain_links.specs.Links.{seen_links};
@@ -12,7 +11,7 @@ ghost use Rattle.chain_layout.specs.Counts.{CountsOn};
 ghost use Rattle.chain_layout.specs.Layouts.{AreLaidOut};
 ghost use Rattle.chain_layout.specs.Numbering.{seen_held, renamed_held, given, looks_at, IsRenamedAt};
 
-use crate::looking::look_at;
+use crate::looking::{direct_at, look_at};
 use crate::moving::move_all;
 use crate::numbering::number_all;
 use crate::visiting::Visitor;
@@ -20,24 +19,6 @@ use arena_base::{Arena, ArenaSlot, Compactor, SlotAccess, Work, inx_at};
 use arena_ptr::{Ptr, PtrInx, SlotStack};
 use chain_links::LinkNoGen;
 use chain_links::facts::has_room;
-
-// Takes away the destination of the link at an index, if one stands there.
-fn empty_at<P: Ptr, T: Drop, S: SlotStack<Item = ArenaSlot<P, LinkNoGen<P, T>>>>(
-    compactor: &mut Compactor<'_, P, LinkNoGen<P, T>, S>,
-    i: P::Inx,
-)
-    ensures same_reference { compactor.new.arena.ghost_name ≡ compactor.old.arena.ghost_name }
-    ensures seen { seen_held P.Inx.packed_number compactor.new.held ≡ seen_held P.Inx.packed_number compactor.old.held }
-    ensures empty { given P.Inx.packed_number compactor.new.held.slots (P.Inx.number i) ≡ None }
-    ensures others { (j : ℕ) → given P.Inx.packed_number compactor.old.held.slots j ≡ None → given P.Inx.packed_number compactor.new.held.slots j ≡ None }
-    ensures arena { compactor.new.arena.now ≡ with_touch compactor.old.arena.now }
-    ensures counts { CountsOn compactor.old.arena.now compactor.new.arena.now compactor.old.placed compactor.old.touched compactor.new.placed compactor.new.touched }
-{
-    match compactor.value_mut(i) {
-        Some(link) => link.set_destination(None),
-        None => {}
-    }
-}
 
 /// Takes all destinations away.
 pub fn empty_all<P: Ptr, T: Drop, S: SlotStack<Item = ArenaSlot<P, LinkNoGen<P, T>>>>(
@@ -51,7 +32,7 @@ pub fn empty_all<P: Ptr, T: Drop, S: SlotStack<Item = ArenaSlot<P, LinkNoGen<P, 
     ensures counts { CountsOn compactor.old.arena.now compactor.new.arena.now compactor.old.placed compactor.old.touched compactor.new.placed compactor.new.touched }
 {
     for k in 0..compactor.slots() {
-        empty_at(compactor, inx_at::<P>(k));
+        direct_at(compactor, inx_at::<P>(k), None);
     }
 }
 
@@ -85,15 +66,19 @@ fn rename_at<P: Ptr, T: Drop, S: SlotStack<Item = ArenaSlot<P, LinkNoGen<P, T>>>
     ensures work { IsWork compactor.old.arena.now compactor.new.arena.now 0 (looks_at (slot_at compactor.old.held.slots (P.Inx.number i))) }
     ensures counts { CountsOn compactor.old.arena.now compactor.new.arena.now compactor.old.placed compactor.old.touched compactor.new.placed compactor.new.touched }
 {
-    let (prev, next) = match compactor.peek(i) {
-        Some((_, link)) => link.prev_next(),
+    let (was, prev, next, _) = look_at(compactor, i);
+    match was {
+        Some(_) => {}
         None => return,
-    };
+    }
     let prev = destination_of(compactor, prev);
     let next = destination_of(compactor, next);
-    if let Some(link) = compactor.value_mut(i) {
-        link.set_prev(prev);
-        link.set_next(next);
+    match compactor.value_mut(i) {
+        Some(link) => {
+            link.set_prev(prev);
+            link.set_next(next);
+        }
+        None => {}
     }
 }
 

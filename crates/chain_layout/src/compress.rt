@@ -3,7 +3,6 @@ ghost use Rattle.std.specs.Prelude.{◌≡◌, ◌≤◌, ◌<◌, ◌+◌, ◌*
 ghost use Rattle.std.specs.Option.{option_map};
 ghost use Rattle.arena_ptr.specs.Invalidation.{invalidation_option};
 ghost use Rattle.chain_laws.specs.Chains.{Agrees};
-ghost use Rattle.chain_laws.specs.Operations.{next_set, prev_set};
 ghost use Rattle.chain_laws.specs.Renamings.{IsRenaming};
 ghost use Rattle.chain_laws.specs.Arrangements.{place_in};
 ghost use Rattle.chain_laws.specs.Moves.{moved_index, moved, CanMove};
@@ -14,9 +13,10 @@ ghost use Rattle.arena_base.specs.Compressing.{VisitsAll, counter_after_compress
 ghost use Rattle.arena_base.specs.Closing.{AreClosed};
 ghost use Rattle.chain_links.specs.ChainArena.{shown};
 ghost use Rattle.chain_links.specs.Links.{seen_links};
-ghost use Rattle.chain_layout.specs.HeldLinks.{held_values, shown_in, indexes_in, IsWork};
+ghost use Rattle.chain_layout.specs.HeldLinks.{held_values, shown_in, told, indexes_in, IsWork};
 ghost use Rattle.chain_layout.specs.Compressions.{AreGathered};
 
+use crate::looking::look_at;
 use arena_base::{Arena, ArenaSlot, ArenaTrait, Compactor, SlotAccess, inx_at};
 use arena_ptr::{InvalidationOption, Ptr, PtrGen, PtrInx, SlotStack};
 use chain_links::LinkNoGen;
@@ -27,47 +27,31 @@ fn index_now<I: PtrInx>(named: Option<I>, from: I, to: I) -> Option<I>
     ensures { option_map I.number result ≡ option_map (moved_index (I.number from) (I.number to)) (option_map I.number named) }
 {
     match named {
-        Some(k) => Some(if k == from { to } else { k }),
+        Some(k) => if k == from { Some(to) } else { Some(k) },
         None => None,
     }
 }
 
-// The link at i, if i is an index and a link stands there, names another as the one after it.
-fn tell_next<P: Ptr, T: Drop, S: SlotStack<Item = ArenaSlot<P, LinkNoGen<P, T>>>>(
+// The link at i, if i is an index and a link stands there, names another as the one before it, or as the one after it.
+fn tell<P: Ptr, T: Drop, S: SlotStack<Item = ArenaSlot<P, LinkNoGen<P, T>>>>(
     compactor: &mut Compactor<'_, P, LinkNoGen<P, T>, S>,
     i: Option<P::Inx>,
-    next: P::Inx,
+    before: bool,
+    named: P::Inx,
 )
     ensures same_reference { compactor.new.arena.ghost_name ≡ compactor.old.arena.ghost_name }
     ensures values { held_values compactor.new.held ≡ held_values compactor.old.held }
     ensures shows { shown_in P.Inx.packed_number compactor.new.held.slots
-        ≡ next_set (shown_in P.Inx.packed_number compactor.old.held.slots) (option_map P.Inx.number i) (Some (P.Inx.number next)) }
+        ≡ told before (shown_in P.Inx.packed_number compactor.old.held.slots) (option_map P.Inx.number i) (Some (P.Inx.number named)) }
     ensures work { IsWork compactor.old.arena.now compactor.new.arena.now 0 1 }
 {
     match i {
         Some(i) => match compactor.value_mut(i) {
-            Some(link) => link.set_next(Some(next)),
-            None => {}
-        },
-        None => {}
-    }
-}
-
-// The link at i, if i is an index and a link stands there, names another as the one before it.
-fn tell_prev<P: Ptr, T: Drop, S: SlotStack<Item = ArenaSlot<P, LinkNoGen<P, T>>>>(
-    compactor: &mut Compactor<'_, P, LinkNoGen<P, T>, S>,
-    i: Option<P::Inx>,
-    prev: P::Inx,
-)
-    ensures same_reference { compactor.new.arena.ghost_name ≡ compactor.old.arena.ghost_name }
-    ensures values { held_values compactor.new.held ≡ held_values compactor.old.held }
-    ensures shows { shown_in P.Inx.packed_number compactor.new.held.slots
-        ≡ prev_set (shown_in P.Inx.packed_number compactor.old.held.slots) (option_map P.Inx.number i) (Some (P.Inx.number prev)) }
-    ensures work { IsWork compactor.old.arena.now compactor.new.arena.now 0 1 }
-{
-    match i {
-        Some(i) => match compactor.value_mut(i) {
-            Some(link) => link.set_prev(Some(prev)),
+            Some(link) => if before {
+                link.set_prev(Some(named));
+            } else {
+                link.set_next(Some(named));
+            },
             None => {}
         },
         None => {}
@@ -93,13 +77,14 @@ fn move_link<P: Ptr, T: Drop, S: SlotStack<Item = ArenaSlot<P, LinkNoGen<P, T>>>
     ensures work { OnSome result (IsWork compactor.old.arena.now compactor.new.arena.now 1 3) }
     ensures none { IfNone result ((compactor.new.held ≡ compactor.old.held) × (compactor.new.arena.now ≡ with_touch compactor.old.arena.now)) }
 {
-    let (was, prev, next) = match compactor.peek(from) {
-        Some((was, link)) => (*was, link.prev(), link.next()),
+    let (was, prev, next, _) = look_at(compactor, from);
+    let was = match was {
+        Some(was) => was,
         None => return None,
     };
     compactor.place(from, to, generation);
-    tell_next(compactor, index_now(prev, from, to), to);
-    tell_prev(compactor, index_now(next, from, to), to);
+    tell(compactor, index_now(prev, from, to), false, to);
+    tell(compactor, index_now(next, from, to), true, to);
     Some(was)
 }
 
@@ -126,16 +111,18 @@ fn close_gaps<
     for k in 0..compactor.slots() {
         let from = inx_at::<P>(k);
         let to = inx_at::<P>(count);
-        if let Some(was) = move_link(compactor, from, to, generation) {
-            count += 1;
-            match compactor.value_mut(to) {
-                Some(link) => map(
-                    P::_from_raw(from, was),
-                    &mut link.t,
-                    P::_from_raw(to, generation),
-                ),
-                None => unreachable!(),
-            }
+        let was = match move_link(compactor, from, to, generation) {
+            Some(was) => was,
+            None => continue,
+        };
+        count += 1;
+        match compactor.value_mut(to) {
+            Some(link) => map(
+                P::_from_raw(from, was),
+                &mut link.t,
+                P::_from_raw(to, generation),
+            ),
+            None => unreachable!(),
         }
     }
 }
@@ -174,5 +161,5 @@ pub fn gather<
     let generation = arena.generation();
     let mut compactor = arena.compactor();
     close_gaps(&mut compactor, generation, map);
-    drop(compactor);
+    compactor.finish();
 }

@@ -1,11 +1,13 @@
-// Looks at one slot, which leave no borrow of it.
+// Looks and writes at one slot, which leave no borrow of it.
 ghost use Rattle.std.specs.Prelude.{◌≡◌};
 ghost use Rattle.std.specs.Option.{option_map};
 ghost use Rattle.chain_laws.specs.Chains.{prev_of, next_of};
 ghost use Rattle.arena_base.specs.Arena.{slot_at};
+ghost use Rattle.arena_base.specs.Compacting.{with_touch};
+ghost use Rattle.chain_layout.specs.Counts.{CountsOn};
 ghost use Rattle.chain_layout.specs.HeldLinks.{shown_in};
 ghost use Rattle.chain_layout.specs.Looks.{HasLooked};
-ghost use Rattle.chain_layout.specs.Numbering.{given};
+ghost use Rattle.chain_layout.specs.Numbering.{given, IsDirectedAt};
 
 use arena_base::{ArenaSlot, Compactor, SlotAccess};
 use arena_ptr::{Ptr, PtrInx, SlotStack};
@@ -31,5 +33,22 @@ pub(crate) fn look_at<P: Ptr, T: Drop, S: SlotStack<Item = ArenaSlot<P, LinkNoGe
     match compactor.peek(i) {
         Some((was, link)) => (Some(*was), link.prev(), link.next(), link.destination()),
         None => (None, None, None, None),
+    }
+}
+
+// The link at an index, if one stands there, gets another destination, or none.
+pub(crate) fn direct_at<P: Ptr, T: Drop, S: SlotStack<Item = ArenaSlot<P, LinkNoGen<P, T>>>>(
+    compactor: &mut Compactor<'_, P, LinkNoGen<P, T>, S>,
+    i: P::Inx,
+    destination: Option<P::Inx>,
+)
+    ensures same_reference { compactor.new.arena.ghost_name ≡ compactor.old.arena.ghost_name }
+    ensures directed { IsDirectedAt P.Inx.packed_number (P.Inx.number i) (option_map P.Inx.number destination) compactor.old.held compactor.new.held }
+    ensures arena { compactor.new.arena.now ≡ with_touch compactor.old.arena.now }
+    ensures counts { CountsOn compactor.old.arena.now compactor.new.arena.now compactor.old.placed compactor.old.touched compactor.new.placed compactor.new.touched }
+{
+    match compactor.value_mut(i) {
+        Some(link) => link.set_destination(destination),
+        None => {}
     }
 }

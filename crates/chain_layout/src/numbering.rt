@@ -1,35 +1,18 @@
 // Links numbered: the chains by their least index, each linear one from its start, each cyclic one from its least index.
-ghost use Rattle.std.specs.Prelude.{◌≡◌, ◌≤◌, ℕ, ◌+◌, ◌*◌, length, List, ◌∷◌, None, Some, IfSome, OnSome, IfNone};
+ghost use Rattle.std.specs.Prelude.{◌≡◌, ◌≤◌, ℕ, ◌+◌, ◌*◌, length, List, ◌∷◌, None};
 ghost use Rattle.std.specs.Option.{option_map};
-ghost use Rattle.chain_laws.specs.Chains.{Chain, linear, cyclic, Has, IsChain, IsValid, Agrees, next_of};
+ghost use Rattle.chain_laws.specs.Chains.{Chain, linear, cyclic, Has, IsChain, IsValid, Agrees};
 ghost use Rattle.chain_laws.specs.Starts.{IsStart};
 ghost use Rattle.chain_laws.specs.Walks.{going_on};
-ghost use Rattle.arena_base.specs.Arena.{slot_at};
 ghost use Rattle.chain_layout.specs.HeldLinks.{shown_in, IsWork};
 ghost use Rattle.chain_layout.specs.Counts.{CountsOn};
-ghost use Rattle.chain_layout.specs.Looks.{HasLooked};
-ghost use Rattle.chain_layout.specs.Numbering.{seen_held, given, is_fresh, CanNumber, IsNumberedAt, IsChainNumbered, AreAllNumbered};
+ghost use Rattle.chain_layout.specs.Numbering.{seen_held, given, CanNumber, IsChainNumbered, AreAllNumbered};
 
-use crate::looking::look_at;
+use crate::looking::{direct_at, look_at};
 use crate::visiting::Visitor;
-use arena_base::{ArenaSlot, Compactor, SlotAccess, inx_at};
+use arena_base::{ArenaSlot, Compactor, inx_at};
 use arena_ptr::{Ptr, PtrInx, SlotStack};
 use chain_links::LinkNoGen;
-
-// Whether a link without a destination stands at an index.
-fn is_fresh_at<P: Ptr, T: Drop, S: SlotStack<Item = ArenaSlot<P, LinkNoGen<P, T>>>>(
-    compactor: &mut Compactor<'_, P, LinkNoGen<P, T>, S>,
-    i: P::Inx,
-) -> bool
-    ensures looked { HasLooked compactor.old compactor.new }
-    ensures answer { result ≡ is_fresh P.Inx.packed_number (slot_at compactor.old.held.slots (P.Inx.number i)) }
-{
-    let (was, _, _, destination) = look_at(compactor, i);
-    match was {
-        Some(_) => destination.is_none(),
-        None => false,
-    }
-}
 
 // The link that the chain of one is written from: the start of a linear one, and itself in a cyclic one. There are no
 // more looks than links in the chain.
@@ -62,32 +45,6 @@ fn start_at<P: Ptr, T: Drop, S: SlotStack<Item = ArenaSlot<P, LinkNoGen<P, T>>>>
         }
     }
     unreachable!()
-}
-
-// Gives the link at an index, if one stands there, a destination. Answers its generation and the index of the link after
-// it.
-fn number_at<P: Ptr, T: Drop, S: SlotStack<Item = ArenaSlot<P, LinkNoGen<P, T>>>>(
-    compactor: &mut Compactor<'_, P, LinkNoGen<P, T>, S>,
-    i: P::Inx,
-    destination: P::Inx,
-) -> Option<(P::Gen, Option<P::Inx>)>
-    ensures same_reference { compactor.new.arena.ghost_name ≡ compactor.old.arena.ghost_name }
-    ensures generation { option_map (λ r. r.0) result ≡ option_map (λ e. e.0) (slot_at compactor.old.held.slots (P.Inx.number i)) }
-    ensures next { IfSome result (λ r. option_map P.Inx.number r.1 ≡ next_of (shown_in P.Inx.packed_number compactor.old.held.slots) (P.Inx.number i)) }
-    ensures numbered { OnSome result (IsNumberedAt P.Inx.packed_number (P.Inx.number i) (P.Inx.number destination) compactor.old.held compactor.new.held) }
-    ensures none { IfNone result (compactor.new.held ≡ compactor.old.held) }
-    ensures work { IsWork compactor.old.arena.now compactor.new.arena.now 0 2 }
-    ensures counts { CountsOn compactor.old.arena.now compactor.new.arena.now compactor.old.placed compactor.old.touched compactor.new.placed compactor.new.touched }
-{
-    let (was, _, next, _) = look_at(compactor, i);
-    let generation = match was {
-        Some(generation) => generation,
-        None => return None,
-    };
-    if let Some(link) = compactor.value_mut(i) {
-        link.set_destination(Some(destination));
-    }
-    Some((generation, next))
 }
 
 // Where a walk goes on to, unless it has come round to its start.
@@ -124,8 +81,10 @@ fn number_chain<P: Ptr, T: Drop, S: SlotStack<Item = ArenaSlot<P, LinkNoGen<P, T
     while let Some(i) = on {
         let destination = inx_at::<P>(count);
         count += 1;
-        match number_at(compactor, i, destination) {
-            Some((was, next)) => {
+        let (was, _, next, _) = look_at(compactor, i);
+        direct_at(compactor, i, Some(destination));
+        match was {
+            Some(was) => {
                 visitor.visit(P::_from_raw(i, was), P::_from_raw(destination, generation));
                 on = on_unless_round::<P::Inx>(start, next);
             }
@@ -155,12 +114,19 @@ pub fn number_all<
     let mut count = 0;
     for k in 0..compactor.slots() {
         let i = inx_at::<P>(k);
-        if is_fresh_at(compactor, i) {
-            let start = start_at(compactor, i);
-            let (shown, numbered) = number_chain(compactor, start, count, generation, visitor);
-            visitor = shown;
-            count = numbered;
+        let (was, _, _, destination) = look_at(compactor, i);
+        match was {
+            Some(_) => {}
+            None => continue,
         }
+        match destination {
+            Some(_) => continue,
+            None => {}
+        }
+        let start = start_at(compactor, i);
+        let (shown, numbered) = number_chain(compactor, start, count, generation, visitor);
+        visitor = shown;
+        count = numbered;
     }
     visitor
 }

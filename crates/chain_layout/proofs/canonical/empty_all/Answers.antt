@@ -1,16 +1,18 @@
 -- One more has no destination, and at the end none has.
 use Rattle.std.proofs.Common.{◌≡◌, length, refl, ap, ◌∙◌, arith}
 use Rattle.arena_base.specs.Closing.{with_totals}
-use Rattle.chain_layout.proofs.Emptying.{emptying_begins, emptying_goes_on, emptying_ends, touches_none, touches_more}
-use Rattle.chain_layout.proofs.Tallying.{counts_none, counts_then}
+use Rattle.chain_layout.specs.Numbering.{seen_held}
+use Rattle.chain_layout.proofs.Emptying.{emptied, emptying_begins, emptying_goes_on, emptying_ends, touches_none, touches_more}
+use Rattle.chain_layout.proofs.Lending.{same_then, counts_on}
+use Rattle.chain_layout.proofs.Tallying.{counts_none}
 use Rattle.chain_layout.proofs.canonical.empty_all.Goals as goal
 
 pub loop-k-init : goal.loop-k-init
 loop-k-init g c =
     let old = c.args.compactor.now in
     record {
-      same_reference = refl;
-      seen = refl;
+      same_reference = refl {a = old.arena.ghost_name};
+      seen = refl {a = seen_held g.P.Inx.PtrInx.packed_number old.held};
       empty = emptying_begins g.P.Inx.PtrInx.packed_number old.held.slots;
       totals = touches_none old.arena.now;
       counts = counts_none old.arena.now old.placed old.touched;
@@ -19,14 +21,18 @@ loop-k-init g c =
 pub loop-k-preserved : goal.loop-k-preserved
 loop-k-preserved g c =
     let inv = c.loop-k.invariant in
-    let after = c.empty_at.ensures in
+    let after = c.direct_at.ensures in
+    let old = c.args.compactor.now in
+    let now = c.loop-k.compactor in
+    let next = c.direct_at.new.compactor in
+    let told = emptied g.P.Inx.PtrInx.packed_number (g.P.Inx.PtrInx.number c.inx_at.result) c.loop-k.compactor.held c.direct_at.new.compactor.held after.directed in
     record {
-      same_reference = after.same_reference ∙ inv.same_reference;
-      seen = after.seen ∙ inv.seen;
-      empty = emptying_goes_on g.P.Inx.PtrInx.packed_number c.loop-k.compactor.held.slots c.empty_at.new.compactor.held.slots c.loop-k.k (g.P.Inx.PtrInx.number c.inx_at.result) c.inx_at.ensures
-          inv.empty after.empty after.others;
-      totals = touches_more c.args.compactor.now.arena.now c.loop-k.compactor.arena.now c.empty_at.new.compactor.arena.now c.loop-k.k inv.totals after.arena;
-      counts = counts_then _ _ _ _ _ _ _ _ _ inv.counts after.counts;
+      same_reference = same_then old now next inv.same_reference after.same_reference;
+      seen = told.0 ∙ inv.seen;
+      empty = emptying_goes_on g.P.Inx.PtrInx.packed_number c.loop-k.compactor.held.slots c.direct_at.new.compactor.held.slots c.loop-k.k (g.P.Inx.PtrInx.number c.inx_at.result) c.inx_at.ensures
+          inv.empty told.1 told.2;
+      totals = touches_more c.args.compactor.now.arena.now c.loop-k.compactor.arena.now c.direct_at.new.compactor.arena.now c.loop-k.k inv.totals after.arena;
+      counts = counts_on old now next inv.counts after.counts;
     }
 
 pub returns : goal.returns

@@ -1,12 +1,13 @@
 -- One more is renamed, and at the end all are.
-use Rattle.std.proofs.Common.{◌≡◌, ◌<◌, ◌≤◌, length, refl, ap, ◌∙◌, subst, arith}
+use Rattle.std.proofs.Common.{◌≡◌, ◌<◌, ◌≤◌, length, refl, ◌∙◌, subst, arith}
 use Rattle.std.specs.Option.{option_map}
 use Rattle.std.proofs.lemmas.List.{length-map}
 use Rattle.chain_links.specs.Links.{seen_pair}
 use Rattle.chain_layout.specs.Numbering.{seen_held, given, AreRenamedTo}
 use Rattle.chain_layout.proofs.HeldLinks.{work-none, work-more}
 use Rattle.chain_layout.proofs.Retying.{renaming_begins, one_more_renamed, all_renamed, looks_more, looks_all}
-use Rattle.chain_layout.proofs.Tallying.{counts_none, counts_then}
+use Rattle.chain_layout.proofs.Lending.{same_then, counts_on, capacity_then, maximum_then}
+use Rattle.chain_layout.proofs.Tallying.{counts_none}
 use Rattle.chain_layout.proofs.canonical.rename_all.Goals as goal
 
 pub loop-k-init : goal.loop-k-init
@@ -34,14 +35,14 @@ loop-k-preserved g c =
     let after = c.rename_at.ensures in
     let inside : c.loop-k.k < length old.held.slots = omega arith in
     record {
-      same_reference = after.same_reference ∙ inv.same_reference;
+      same_reference = same_then old now next inv.same_reference after.same_reference;
       renamed = one_more_renamed packed_number old.held now.held next.held c.loop-k.k i c.inx_at.ensures inv.kept inv.renamed after.renamed;
-      capacity = ap (λ h. h.stack_capacity) after.renamed.seen ∙ inv.capacity;
-      maximum = ap (λ h. h.maximum) after.renamed.seen ∙ inv.maximum;
+      capacity = capacity_then old now next inv.capacity (λ j. (after.renamed.seen j).stack_capacity);
+      maximum = maximum_then old now next inv.maximum (λ j. (after.renamed.seen j).maximum);
       kept = λ j. after.renamed.kept j ∙ inv.kept j;
       work = work-more inv.work after.work 0 _ refl
           (looks_more (seen_pair packed_number) old.held.slots now.held.slots c.loop-k.k i c.inx_at.ensures inside (inv.renamed.ahead i (omega (arith, c.inx_at.ensures))));
-      counts = counts_then _ _ _ _ _ _ _ _ _ inv.counts after.counts;
+      counts = counts_on old now next inv.counts after.counts;
     }
 
 pub returns : goal.returns

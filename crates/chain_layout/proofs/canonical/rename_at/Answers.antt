@@ -1,41 +1,61 @@
 -- A look at the link, one at each neighbor that it names, and the link is written.
-use Rattle.std.proofs.Common.{refl, sym, ap, ◌∙◌, arith}
-use Rattle.std.specs.Option.{option_copied_mut, option_map, option_and_then}
+use Rattle.std.proofs.Common.{◌∙◌}
+use Rattle.std.specs.Option.{option_map}
 use Rattle.arena_base.specs.Arena.{slot_at}
-use Rattle.chain_layout.specs.Numbering.{given}
 use Rattle.chain_layout.proofs.Directing.{still_there}
-use Rattle.chain_layout.proofs.Retying.{renames_link, four_looks}
-use Rattle.chain_layout.proofs.HeldLinks.{work-touched, work-more}
-use Rattle.chain_layout.proofs.Tallying.{counts_touch, counts_then}
+use Rattle.chain_layout.proofs.Lending.{lent, lent_none}
+use Rattle.chain_layout.proofs.Retying.{renames_looked, renames_nothing, work_none, work_four}
+use Rattle.chain_layout.proofs.Tallying.{counts_four}
 use Rattle.chain_layout.proofs.canonical.rename_at.Goals as goal
 
-pub returns-in-None-clause-counts : goal.returns-in-None-clause-counts
-returns-in-None-clause-counts g c = let h = c.peek.follows.holds-at-none in counts_touch _ _ _ _ _ _ h.1.1 h.1.2 h.1.3
+pub returns-in-None : goal.returns-in-None
+returns-in-None g c =
+    let i = g.P.Inx.PtrInx.number c.args.i in
+    let old = c.args.compactor.now in
+    let new = c.look_at-was.new.compactor in
+    let look = c.look_at-was.ensures in
+    let was = c.look_at-was.result.0 in
+    record {
+      same_reference = look.looked.same_reference;
+      renamed = renames_nothing g.P.Inx.PtrInx.packed_number i old.held new.held was look.looked.held c.in-None.is look.generation;
+      work = work_none (slot_at old.held.slots i) (λ e. e.0) was old.arena.now new.arena.now look.looked.arena;
+      counts = look.looked.counts;
+    }
 
 pub returns-in-Some-value_mut : goal.returns-in-Some-value_mut
 returns-in-Some-value_mut g c =
     let number = g.P.Inx.PtrInx.number in
-    let packed_number = g.P.Inx.PtrInx.packed_number in
+    let i = number c.args.i in
     let old = c.args.compactor.now in
-    let looked = c.peek.follows.holds-at-none in
-    let lent = rw c.in-Some-value_mut.is at (c.value_mut.follows.holds c.set_next.new.self) in
+    let looked = c.look_at-was.new.compactor in
+    let one = c.destination_of-prev.new.compactor in
+    let two = c.destination_of-next.new.compactor in
+    let link = c.in-Some-value_mut.link.now in
+    let mid = c.set_prev.new.self in
+    let left = c.set_next.new.self in
+    let new = c.value_mut.follows.lender left in
+    let look = c.look_at-was.ensures in
     let first = c.destination_of-prev.ensures in
     let second = c.destination_of-next.ensures in
-    let four = four_looks (slot_at old.held.slots (number c.args.i)) _ c.in-Some.ensures.value in
+    let was = c.look_at-was.result.0 in
+    let wrote = lent two new i c.value_mut.result c.in-Some-value_mut.link left c.in-Some-value_mut.is c.value_mut.ensures.value (c.value_mut.follows.holds left) in
     record {
-      same_reference = lent.1.0 ∙ (second.same_reference ∙ (first.same_reference ∙ looked.1.0));
-      renamed = renames_link packed_number (number c.args.i) old.held c.destination_of-next.new.compactor.held _ _ c.in-Some-value_mut.link.now c.set_prev.new.self c.set_next.new.self _ _
-          (second.held ∙ (first.held ∙ looked.0)) c.in-Some.ensures.value (sym (ap option_copied_mut c.in-Some-value_mut.is) ∙ c.value_mut.ensures.value) lent.0
-          (first.answer ∙ (ap (λ h. option_and_then (given packed_number h.slots) (option_map number c.prev_next.result.0)) looked.0 ∙ ap (option_and_then (given packed_number old.held.slots)) c.prev_next.ensures.prev))
-          (second.answer ∙ (ap (λ h. option_and_then (given packed_number h.slots) (option_map number c.prev_next.result.1)) (first.held ∙ looked.0) ∙ ap (option_and_then (given packed_number old.held.slots)) c.prev_next.ensures.next))
+      same_reference = wrote.same_reference ∙ (second.same_reference ∙ (first.same_reference ∙ look.looked.same_reference));
+      renamed = renames_looked g.P.Inx.PtrInx.packed_number i old.held looked.held one.held two.held new.held was c.in-Some.field-0
+          (option_map number c.look_at-was.result.1) (option_map number c.look_at-was.result.2) (option_map number c.destination_of-prev.result) (option_map number c.destination_of-next.result)
+          link mid left look.looked.held first.held second.held c.in-Some.is look.generation look.prev look.next first.answer second.answer wrote.stands wrote.held
           c.set_prev.ensures.prev c.set_prev.ensures.rest c.set_next.ensures.next c.set_next.ensures.rest;
-      work = work-more (work-more (work-more (work-touched old.arena.now _ looked.1.1) first.work 0 2 refl (omega arith)) second.work 0 3 refl (omega arith)) (work-touched _ _ lent.1.1) 0 _ refl four;
-      counts = counts_then _ _ _ _ _ _ _ _ _ (counts_touch _ _ _ _ _ _ looked.1.1 looked.1.2 looked.1.3)
-          (counts_then _ _ _ _ _ _ _ _ _ first.counts (counts_then _ _ _ _ _ _ _ _ _ second.counts (counts_touch _ _ _ _ _ _ lent.1.1 lent.1.2 lent.1.3)));
+      work = work_four (slot_at old.held.slots i) (λ e. e.0) was old.arena.now looked.arena.now look.looked.arena one.arena.now two.arena.now new.arena.now c.in-Some.field-0 c.in-Some.is look.generation
+          first.work second.work wrote.arena;
+      counts = counts_four old.arena.now looked.arena.now one.arena.now two.arena.now new.arena.now old.placed looked.placed one.placed two.placed new.placed
+          old.touched looked.touched one.touched two.touched new.touched look.looked.counts first.counts second.counts wrote.counts;
     }
 
-pub returns-in_default : goal.returns-in_default
-returns-in_default g c =
-    let old = c.args.compactor.now.held in
-    let same = c.destination_of-next.ensures.held ∙ (c.destination_of-prev.ensures.held ∙ c.peek.follows.holds-at-none.0) in
-    absurd (still_there (g.P.Inx.PtrInx.number c.args.i) old _ _ _ same refl (ap (option_map (λ e. e.0)) c.in-Some.ensures.value) (sym (ap option_copied_mut c.in_default.is) ∙ c.value_mut.ensures.value))
+pub returns-in-None-value_mut : goal.returns-in-None-value_mut
+returns-in-None-value_mut g c =
+    let i = g.P.Inx.PtrInx.number c.args.i in
+    let old = c.args.compactor.now in
+    let two = c.destination_of-next.new.compactor in
+    let look = c.look_at-was.ensures in
+    absurd (still_there i old.held two.held c.look_at-was.result.0 c.in-Some.field-0 (c.destination_of-next.ensures.held ∙ (c.destination_of-prev.ensures.held ∙ look.looked.held)) c.in-Some.is look.generation
+    (lent_none two c.value_mut.follows.lender-at-none i c.value_mut.result c.in-None-value_mut.is c.value_mut.ensures.value c.value_mut.follows.holds-at-none).none)

@@ -1,10 +1,11 @@
 -- One more slot is passed, and at the end all are.
-use Rattle.std.proofs.Common.{◌≡◌, length, refl, ◌∙◌, subst, arith}
+use Rattle.std.proofs.Common.{◌≡◌, length, refl, subst, arith}
 use Rattle.chain_layout.specs.Moving.{ArePassed, waiting, goal_of, Settles, IsWorkOn}
 use Rattle.chain_layout.proofs.Counting.{waiting-all}
 use Rattle.chain_layout.proofs.Settling.{settled_rests}
 use Rattle.chain_layout.proofs.Passing.{passing_begins, passing_goes_on, passing_ends, passing_leaves_none, work_on-begins, work_on-after, work_on-ends}
-use Rattle.chain_layout.proofs.Tallying.{counts_none, counts_then}
+use Rattle.chain_layout.proofs.Lending.{same_then, counts_on, capacity_then, maximum_then}
+use Rattle.chain_layout.proofs.Tallying.{counts_none}
 use Rattle.chain_layout.proofs.moving.move_all.Goals as goal
 
 pub loop-k-init : goal.loop-k-init
@@ -35,13 +36,14 @@ loop-k-preserved g c =
     let now = c.loop-k.compactor in
     let next = c.settle.new.compactor in
     record {
-      same_reference = after.same_reference ∙ inv.same_reference;
+      same_reference = same_then old now next inv.same_reference after.same_reference;
       passed = passing_goes_on (goal_of packed_number) (Settles packed_number c.args.generation) (settled_rests packed_number c.args.generation) old.held.slots now.held.slots next.held.slots
           c.loop-k.k (g.P.Inx.PtrInx.number c.inx_at.result) inv.passed c.inx_at.ensures after.settles after.none;
-      capacity = after.capacity ∙ inv.capacity;
-      maximum = after.maximum ∙ inv.maximum;
-      work = work_on-after old.arena.now now.arena.now next.arena.now _ _ _ _ _ inv.work after.work;
-      counts = counts_then _ _ _ _ _ _ _ _ _ inv.counts after.counts;
+      capacity = capacity_then old now next inv.capacity after.capacity;
+      maximum = maximum_then old now next inv.maximum after.maximum;
+      work = work_on-after old.arena.now now.arena.now next.arena.now (waiting (goal_of packed_number) old.held.slots) (waiting (goal_of packed_number) now.held.slots)
+          (waiting (goal_of packed_number) next.held.slots) c.loop-k.k 1 inv.work after.work;
+      counts = counts_on old now next inv.counts after.counts;
     }
 
 pub returns : goal.returns

@@ -6,7 +6,8 @@ use Rattle.arena_base.specs.Arena.{slot_at}
 use Rattle.chain_layout.specs.Moving.{IsSettling, waiting, goal_of, Settles, IsWorkOn}
 use Rattle.chain_layout.proofs.Settling.{settling_begins, from_within, to_within, entry_there, one_less_after, settles_after, capacity_after, maximum_after, none_waits}
 use Rattle.chain_layout.proofs.Passing.{work_on-begins, work_on-more, work_on-looked}
-use Rattle.chain_layout.proofs.Tallying.{counts_none, counts_then, counts_place}
+use Rattle.chain_layout.proofs.Lending.{same_then, counts_on, capacity_then, maximum_then}
+use Rattle.chain_layout.proofs.Tallying.{counts_none, counts_place}
 use Rattle.chain_layout.proofs.moving.settle.Goals as goal
 
 pub loop-to-init : goal.loop-to-init
@@ -50,18 +51,20 @@ loop-to-preserved g c =
     let d = g.P.Inx.PtrInx.number c.in-Some.to in
     let inv = c.loop-to.invariant in
     let made = c.in-Some.ensures in
+    let old = c.args.compactor.now in
     let before = c.loop-to.compactor in
     let taken = c.take_at.new.compactor in
     let after = c.place.new.self in
     let within = inv.settles.within c.requires.within in
     record {
-      same_reference = c.place.ensures.same_reference ∙ (made.same_reference ∙ inv.same_reference);
+      same_reference = same_then old before after inv.same_reference (same_then before taken after made.same_reference c.place.ensures.same_reference);
       settles = settles_after packed_number c.args.generation i d before.held taken.held after.held made.answer made.taken within c.place.ensures.held c.args.compactor.now.held.slots inv.settles;
-      capacity = capacity_after packed_number c.args.generation i d before.held taken.held after.held made.answer made.taken within c.place.ensures.held ∙ inv.capacity;
-      maximum = maximum_after packed_number c.args.generation i d before.held taken.held after.held made.answer made.taken within c.place.ensures.held ∙ inv.maximum;
-      work = work_on-more c.args.compactor.now.arena.now before.arena.now taken.arena.now after.arena.now _ _ _ 0 inv.work made.arena c.place.ensures.arena
+      capacity = capacity_then old before after inv.capacity (capacity_after packed_number c.args.generation i d before.held taken.held after.held made.answer made.taken within c.place.ensures.held);
+      maximum = maximum_then old before after inv.maximum (maximum_after packed_number c.args.generation i d before.held taken.held after.held made.answer made.taken within c.place.ensures.held);
+      work = work_on-more old.arena.now before.arena.now taken.arena.now after.arena.now (waiting (goal_of packed_number) old.held.slots) (waiting (goal_of packed_number) before.held.slots)
+          (waiting (goal_of packed_number) after.held.slots) 0 inv.work made.arena c.place.ensures.arena
           (one_less_after packed_number c.args.generation i d before.held taken.held after.held made.answer made.taken within c.place.ensures.held);
-      counts = counts_then _ _ _ _ _ _ _ _ _ inv.counts (counts_then _ _ _ _ _ _ _ _ _ made.counts (counts_place _ _ _ _ _ _ c.place.ensures.arena c.place.ensures.placed c.place.ensures.touched));
+      counts = counts_on old before after inv.counts (counts_on before taken after made.counts (counts_place taken.arena.now after.arena.now taken.placed after.placed taken.touched after.touched c.place.ensures.arena c.place.ensures.placed c.place.ensures.touched));
     }
 
 pub returns : goal.returns
@@ -75,13 +78,13 @@ returns g c =
     let kept : after.held ≡ before.held = subst (λ o. IfNone o (after.held ≡ before.held)) c.in_default.is c.take_at.ensures.none in
     let slots = ap (λ h. h.slots) kept in
     record {
-      same_reference = c.take_at.ensures.same_reference ∙ inv.same_reference;
+      same_reference = same_then old before after inv.same_reference c.take_at.ensures.same_reference;
       settles = subst (IsSettling (goal_of packed_number) (Settles packed_number c.args.generation) (number c.args.i) old.held.slots) (sym slots) inv.settles;
       none = none_waits (goal_of packed_number) after.held.slots (number c.args.i)
           (ap (option_map number) (sym c.in_default.is) ∙ (c.take_at.ensures.answer ∙ ap (λ h. option_and_then (goal_of packed_number) (slot_at h.slots (number c.args.i))) (sym kept)));
-      capacity = ap (λ h. h.stack_capacity) kept ∙ inv.capacity;
-      maximum = ap (λ h. h.maximum) kept ∙ inv.maximum;
+      capacity = capacity_then old before after inv.capacity (λ j. (kept j).stack_capacity);
+      maximum = maximum_then old before after inv.maximum (λ j. (kept j).maximum);
       work = subst (λ s. IsWorkOn old.arena.now after.arena.now (waiting (goal_of packed_number) old.held.slots) (waiting (goal_of packed_number) s) 1) (sym slots)
-          (work_on-looked old.arena.now before.arena.now after.arena.now _ _ 0 inv.work c.take_at.ensures.arena);
-      counts = counts_then _ _ _ _ _ _ _ _ _ inv.counts c.take_at.ensures.counts;
+          (work_on-looked old.arena.now before.arena.now after.arena.now (waiting (goal_of packed_number) old.held.slots) (waiting (goal_of packed_number) before.held.slots) 0 inv.work c.take_at.ensures.arena);
+      counts = counts_on old before after inv.counts c.take_at.ensures.counts;
     }

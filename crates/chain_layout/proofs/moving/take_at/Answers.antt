@@ -1,39 +1,40 @@
 -- The link that was lent lost its destination, and where none stands nothing has changed.
-use Rattle.std.proofs.Common.{sym, ap, ◌∙◌}
-use Rattle.std.specs.Option.{option_copied_mut}
+use Rattle.std.specs.Option.{option_map}
 use Rattle.arena_base.specs.Arena.{slot_at}
+use Rattle.chain_layout.proofs.Lending.{lent, lent_none}
 use Rattle.chain_layout.proofs.Settling.{takes, takes_none, tells_goal, tells_no_goal}
-use Rattle.chain_layout.proofs.Tallying.{counts_touch}
 use Rattle.chain_layout.proofs.moving.take_at.Goals as goal
 
 pub returns-in-Some : goal.returns-in-Some
 returns-in-Some g c =
     let packed = g.P.Inx.PtrInx.packed_number in
-    let i = g.P.Inx.PtrInx.number c.args.i in
-    let held = c.args.compactor.now.held in
+    let number = g.P.Inx.PtrInx.number in
+    let i = number c.args.i in
+    let old = c.args.compactor.now in
     let link = c.in-Some.link.now in
     let left = c.take_destination.new.self in
-    let result = c.take_destination.result in
-    let lent = rw c.in-Some.is at (c.value_mut.follows.holds left) in
-    let stands = sym (ap option_copied_mut c.in-Some.is) ∙ c.value_mut.ensures.value in
+    let new = c.value_mut.follows.lender left in
     let takes_it = c.take_destination.ensures in
+    let wrote = lent old new i c.value_mut.result c.in-Some.link left c.in-Some.is c.value_mut.ensures.value (c.value_mut.follows.holds left) in
     record {
-      same_reference = lent.1.0;
-      answer = tells_goal packed (slot_at held.slots i) link _ stands takes_it.answer;
-      taken = takes packed held _ i link left stands lent.0 takes_it.empty takes_it.rest result;
-      none = takes_none packed held _ i link left stands lent.0 takes_it.empty takes_it.rest g.P.Inx.PtrInx.number g.met.P.Inx.PtrInx.same_packed result takes_it.answer;
-      arena = lent.1.1;
-      counts = counts_touch _ _ _ _ _ _ lent.1.1 lent.1.2 lent.1.3;
+      same_reference = wrote.same_reference;
+      answer = tells_goal packed (slot_at old.held.slots i) link (option_map number c.take_destination.result) wrote.stands takes_it.answer;
+      taken = takes packed old.held new.held i link left wrote.stands wrote.held takes_it.empty takes_it.rest c.take_destination.result;
+      none = takes_none packed old.held new.held i link left wrote.stands wrote.held takes_it.empty takes_it.rest number g.met.P.Inx.PtrInx.same_packed c.take_destination.result takes_it.answer;
+      arena = wrote.arena;
+      counts = wrote.counts;
     }
 
 pub returns-in-None : goal.returns-in-None
 returns-in-None g c =
-    let kept = c.value_mut.follows.holds-at-none in
+    let i = g.P.Inx.PtrInx.number c.args.i in
+    let old = c.args.compactor.now in
+    let kept = lent_none old c.value_mut.follows.lender-at-none i c.value_mut.result c.in-None.is c.value_mut.ensures.value c.value_mut.follows.holds-at-none in
     record {
-      same_reference = kept.1.0;
-      answer = tells_no_goal g.P.Inx.PtrInx.packed_number (slot_at c.args.compactor.now.held.slots (g.P.Inx.PtrInx.number c.args.i)) (sym (ap option_copied_mut c.in-None.is) ∙ c.value_mut.ensures.value);
+      same_reference = kept.same_reference;
+      answer = tells_no_goal g.P.Inx.PtrInx.packed_number (slot_at old.held.slots i) kept.none;
       taken = tt;
-      none = kept.0;
-      arena = kept.1.1;
-      counts = counts_touch _ _ _ _ _ _ kept.1.1 kept.1.2 kept.1.3;
+      none = kept.held;
+      arena = kept.arena;
+      counts = kept.counts;
     }

@@ -1,10 +1,13 @@
 -- The next chain is numbered, or none begins here.
-use Rattle.std.proofs.Common.{length, refl, sym, ap, ◌∙◌, arith}
+use Rattle.std.proofs.Common.{length, refl}
+use Rattle.arena_base.specs.Arena.{slot_at}
+use Rattle.chain_layout.proofs.Counting.{at_end}
 use Rattle.chain_layout.proofs.HeldLinks.{work-touched}
-use Rattle.chain_layout.proofs.Tallying.{counts_none, counts_then}
-use Rattle.chain_layout.proofs.Numbered.{length-seen}
+use Rattle.chain_layout.proofs.Lending.{same_then, counts_on}
+use Rattle.chain_layout.proofs.Looks.{told_fresh, told_directed, told_none}
+use Rattle.chain_layout.proofs.Numbered.{fits_seen}
 use Rattle.chain_layout.proofs.Ordering.{order_begins, order_ends, order_skips, order_agrees, order_valid, order_can, order_goes_on}
-use Rattle.chain_layout.proofs.numbering.number_all.Goals.{then-is_fresh_at, else-is_fresh_at}
+use Rattle.chain_layout.proofs.Tallying.{counts_none}
 use Rattle.chain_layout.proofs.numbering.number_all.Goals as goal
 
 pub loop-k-init : goal.loop-k-init
@@ -12,63 +15,111 @@ loop-k-init g c =
     let now = c.args.compactor.now in
     record {
       ready = c.requires.ready;
-      same_reference = refl;
+      same_reference = refl {a = now.arena.ghost_name};
       order = order_begins g.P.Inx.PtrInx.packed_number g.V.Visitor.sees g.P.Ptr.key c.args.generation c.args.visitor now.held now.arena.now c.requires.agree c.requires.empty;
       counts = counts_none now.arena.now now.placed now.touched;
     }
 
 pub start_at-start-requires-clause-agree : goal.start_at-start-requires-clause-agree
 start_at-start-requires-clause-agree g c =
-    order_agrees _ _ _ _ _ _ _ _ c.loop-k.compactor.held _ _ _ c.loop-k.invariant.order _ c.inx_at-i.ensures (sym c.is_fresh_at.ensures.answer ∙ c.if-is_fresh_at.true)
-    c.is_fresh_at.new.compactor.held c.is_fresh_at.ensures.looked.held c.requires.agree
+    let old = c.args.compactor.now in
+    let now = c.loop-k.compactor in
+    let look = c.look_at-was.ensures in
+    order_agrees g.P.Inx.PtrInx.packed_number g.V.Visitor.sees g.P.Ptr.key c.args.generation c.args.visitor old.held old.arena.now c.loop-k.visitor now.held now.arena.now c.loop-k.count c.loop-k.k
+    c.loop-k.invariant.order (g.P.Inx.PtrInx.number c.inx_at-i.result) c.inx_at-i.ensures (told_fresh g.P.Inx.PtrInx.packed_number g.P.Inx.PtrInx.number (slot_at now.held.slots (g.P.Inx.PtrInx.number c.inx_at-i.result)) c.look_at-was.result.0 c.in-Some.field-0 c.look_at-was.result.3 c.in-Some.is look.generation look.destination c.in-None-destination.is)
+    c.look_at-was.new.compactor.held look.looked.held c.requires.agree
 
 pub start_at-start-requires-clause-valid : goal.start_at-start-requires-clause-valid
 start_at-start-requires-clause-valid g c =
-    order_valid _ _ _ _ _ _ _ _ c.loop-k.compactor.held _ _ _ c.loop-k.invariant.order _ c.inx_at-i.ensures (sym c.is_fresh_at.ensures.answer ∙ c.if-is_fresh_at.true)
-    c.is_fresh_at.new.compactor.held c.is_fresh_at.ensures.looked.held
+    let old = c.args.compactor.now in
+    let now = c.loop-k.compactor in
+    let look = c.look_at-was.ensures in
+    order_valid g.P.Inx.PtrInx.packed_number g.V.Visitor.sees g.P.Ptr.key c.args.generation c.args.visitor old.held old.arena.now c.loop-k.visitor now.held now.arena.now c.loop-k.count c.loop-k.k
+    c.loop-k.invariant.order (g.P.Inx.PtrInx.number c.inx_at-i.result) c.inx_at-i.ensures (told_fresh g.P.Inx.PtrInx.packed_number g.P.Inx.PtrInx.number (slot_at now.held.slots (g.P.Inx.PtrInx.number c.inx_at-i.result)) c.look_at-was.result.0 c.in-Some.field-0 c.look_at-was.result.3 c.in-Some.is look.generation look.destination c.in-None-destination.is)
+    c.look_at-was.new.compactor.held look.looked.held
+
+pub number_chain-shown-requires-clause-ready : goal.number_chain-shown-requires-clause-ready
+number_chain-shown-requires-clause-ready g c = c.loop-k.invariant.ready
 
 pub number_chain-shown-requires-clause-fits : goal.number_chain-shown-requires-clause-fits
 number_chain-shown-requires-clause-fits g c =
-    let same = ap (λ h. length h.slots) c.start_at-start.ensures.held ∙ ap (λ h. length h.slots) c.is_fresh_at.ensures.looked.held in
-    let long = length-seen g.P.Inx.PtrInx.packed_number c.loop-k.compactor.held c.args.compactor.now.held c.loop-k.invariant.order.seen in
-    omega (arith, same, long, c.requires.fits)
+    fits_seen g.P.Inx.PtrInx.packed_number c.args.compactor.now.held c.loop-k.compactor.held c.look_at-was.new.compactor.held c.start_at-start.new.compactor.held g.P.Inx.PtrInx.greatest
+    c.loop-k.invariant.order.seen c.look_at-was.ensures.looked.held c.start_at-start.ensures.held c.requires.fits
 
 pub number_chain-shown-requires-clause-can : goal.number_chain-shown-requires-clause-can
 number_chain-shown-requires-clause-can g c =
-    order_can _ _ _ _ _ _ _ _ c.loop-k.compactor.held _ _ _ c.loop-k.invariant.order _ c.inx_at-i.ensures (sym c.is_fresh_at.ensures.answer ∙ c.if-is_fresh_at.true)
-    c.is_fresh_at.new.compactor.held c.is_fresh_at.ensures.looked.held c.start_at-start.new.compactor.held c.start_at-start.ensures.held _ c.start_at-start.ensures.start
+    let old = c.args.compactor.now in
+    let now = c.loop-k.compactor in
+    let look = c.look_at-was.ensures in
+    let start = c.start_at-start.ensures in
+    order_can g.P.Inx.PtrInx.packed_number g.V.Visitor.sees g.P.Ptr.key c.args.generation c.args.visitor old.held old.arena.now c.loop-k.visitor now.held now.arena.now c.loop-k.count c.loop-k.k
+    c.loop-k.invariant.order (g.P.Inx.PtrInx.number c.inx_at-i.result) c.inx_at-i.ensures (told_fresh g.P.Inx.PtrInx.packed_number g.P.Inx.PtrInx.number (slot_at now.held.slots (g.P.Inx.PtrInx.number c.inx_at-i.result)) c.look_at-was.result.0 c.in-Some.field-0 c.look_at-was.result.3 c.in-Some.is look.generation look.destination c.in-None-destination.is)
+    c.look_at-was.new.compactor.held look.looked.held c.start_at-start.new.compactor.held start.held (g.P.Inx.PtrInx.number c.start_at-start.result) start.start
+
+pub loop-k-preserved-in-None : goal.loop-k-preserved-in-None
+loop-k-preserved-in-None g c =
+    let at = c.loop-k.invariant in
+    let look = c.look_at-was.ensures in
+    let old = c.args.compactor.now in
+    let now = c.loop-k.compactor in
+    let mid = c.look_at-was.new.compactor in
+    record {
+      ready = at.ready;
+      same_reference = same_then old now mid at.same_reference look.looked.same_reference;
+      order = order_skips g.P.Inx.PtrInx.packed_number g.V.Visitor.sees g.P.Ptr.key c.args.generation c.args.visitor old.held old.arena.now c.loop-k.visitor now.held now.arena.now c.loop-k.count c.loop-k.k
+          at.order (g.P.Inx.PtrInx.number c.inx_at-i.result) c.inx_at-i.ensures mid.held mid.arena.now look.looked.held
+          (told_none g.P.Inx.PtrInx.packed_number (slot_at now.held.slots (g.P.Inx.PtrInx.number c.inx_at-i.result)) c.look_at-was.result.0 c.in-None.is look.generation) (work-touched now.arena.now mid.arena.now look.looked.arena);
+      counts = counts_on old now mid at.counts look.looked.counts;
+    }
+
+pub loop-k-preserved-in-Some-destination : goal.loop-k-preserved-in-Some-destination
+loop-k-preserved-in-Some-destination g c =
+    let at = c.loop-k.invariant in
+    let look = c.look_at-was.ensures in
+    let old = c.args.compactor.now in
+    let now = c.loop-k.compactor in
+    let mid = c.look_at-was.new.compactor in
+    record {
+      ready = at.ready;
+      same_reference = same_then old now mid at.same_reference look.looked.same_reference;
+      order = order_skips g.P.Inx.PtrInx.packed_number g.V.Visitor.sees g.P.Ptr.key c.args.generation c.args.visitor old.held old.arena.now c.loop-k.visitor now.held now.arena.now c.loop-k.count c.loop-k.k
+          at.order (g.P.Inx.PtrInx.number c.inx_at-i.result) c.inx_at-i.ensures mid.held mid.arena.now look.looked.held
+          (told_directed g.P.Inx.PtrInx.packed_number g.P.Inx.PtrInx.number (slot_at now.held.slots (g.P.Inx.PtrInx.number c.inx_at-i.result)) c.look_at-was.result.0 c.in-Some.field-0 c.look_at-was.result.3 c.in-Some-destination.field-0 c.in-Some.is look.generation look.destination c.in-Some-destination.is) (work-touched now.arena.now mid.arena.now look.looked.arena);
+      counts = counts_on old now mid at.counts look.looked.counts;
+    }
 
 pub loop-k-preserved : goal.loop-k-preserved
 loop-k-preserved g c =
     let at = c.loop-k.invariant in
-    let look = c.is_fresh_at.ensures in
-    elim c.if-is_fresh_at.branch [
-      | then-is_fresh_at w ↦
-          let start = w.start_at-start.ensures in
-          let chain = w.number_chain-shown.ensures in
-          rw (w.compactor-is, w.visitor-is, w.count-is) (record {
-            ready = chain.ready;
-            same_reference = chain.same_reference ∙ (start.same_reference ∙ (look.looked.same_reference ∙ at.same_reference));
-            order = order_goes_on _ _ _ _ _ _ _ _ c.loop-k.compactor.held _ _ _ at.order _ c.inx_at-i.ensures (sym look.answer ∙ w.if-is_fresh_at.true)
-                c.is_fresh_at.new.compactor.held look.looked.held w.start_at-start.new.compactor.held start.held _ start.start _ _ _ _ _ _
-                (work-touched _ _ look.looked.arena) start.linear start.cyclic chain.seen chain.numbered;
-            counts = counts_then _ _ _ _ _ _ _ _ _ (counts_then _ _ _ _ _ _ _ _ _ (counts_then _ _ _ _ _ _ _ _ _ at.counts look.looked.counts) start.counts) chain.counts;
-          })
-      | else-is_fresh_at w ↦ rw (w.compactor-is, w.visitor-is, w.count-is) (record {
-        ready = at.ready;
-        same_reference = look.looked.same_reference ∙ at.same_reference;
-        order = order_skips _ _ _ _ _ _ _ _ c.loop-k.compactor.held _ _ _ at.order _ c.inx_at-i.ensures
-            c.is_fresh_at.new.compactor.held _ look.looked.held (sym look.answer ∙ w.if-is_fresh_at.false) (work-touched _ _ look.looked.arena);
-        counts = counts_then _ _ _ _ _ _ _ _ _ at.counts look.looked.counts;
-      })
-    ]
+    let look = c.look_at-was.ensures in
+    let start = c.start_at-start.ensures in
+    let chain = c.number_chain-shown.ensures in
+    let old = c.args.compactor.now in
+    let now = c.loop-k.compactor in
+    let mid = c.look_at-was.new.compactor in
+    let stood = c.start_at-start.new.compactor in
+    let new = c.number_chain-shown.new.compactor in
+    record {
+      ready = chain.ready;
+      same_reference = same_then old now new at.same_reference (same_then now mid new look.looked.same_reference (same_then mid stood new start.same_reference chain.same_reference));
+      order = order_goes_on g.P.Inx.PtrInx.packed_number g.V.Visitor.sees g.P.Ptr.key c.args.generation c.args.visitor old.held old.arena.now c.loop-k.visitor now.held now.arena.now c.loop-k.count c.loop-k.k
+          at.order (g.P.Inx.PtrInx.number c.inx_at-i.result) c.inx_at-i.ensures
+          (told_fresh g.P.Inx.PtrInx.packed_number g.P.Inx.PtrInx.number (slot_at now.held.slots (g.P.Inx.PtrInx.number c.inx_at-i.result)) c.look_at-was.result.0 c.in-Some.field-0 c.look_at-was.result.3 c.in-Some.is look.generation look.destination c.in-None-destination.is)
+          mid.held look.looked.held stood.held start.held (g.P.Inx.PtrInx.number c.start_at-start.result) start.start mid.arena.now stood.arena.now new.arena.now
+          c.number_chain-shown.result.0 new.held c.number_chain-shown.result.1
+          (work-touched now.arena.now mid.arena.now look.looked.arena) start.linear start.cyclic chain.seen chain.numbered;
+      counts = counts_on old now new at.counts (counts_on now mid new look.looked.counts (counts_on mid stood new start.counts chain.counts));
+    }
 
 pub returns : goal.returns
 returns g c =
     let at = c.loop-k.invariant in
+    let old = c.args.compactor.now in
+    let now = c.loop-k.compactor in
     record {
       same_reference = at.same_reference;
       seen = at.order.seen;
-      numbered = order_ends _ _ _ _ _ _ _ _ c.loop-k.compactor.held _ _ _ at.order (omega arith);
+      numbered = order_ends g.P.Inx.PtrInx.packed_number g.V.Visitor.sees g.P.Ptr.key c.args.generation c.args.visitor old.held old.arena.now c.loop-k.visitor now.held now.arena.now c.loop-k.count c.loop-k.k
+          at.order (at_end c.loop-k.k c.slots-k-end.result (length old.held.slots) c.slots-k-end.ensures c.loop-k.auto.k-end c.loop-k-test.false);
       counts = at.counts;
     }

@@ -1,12 +1,13 @@
 -- One step back more, the start of a linear chain, and once round a cyclic one.
-use Rattle.std.proofs.Common.{◌≡◌, Bool, true, false, Some, refl, sym, ap, ◌∙◌, arith, of_calls}
+use Rattle.std.proofs.Common.{◌≡◌, Bool, true, false, Some, refl, sym, ap, ◌∙◌, arith}
 use Rattle.std.specs.Option.{option_map}
 use Rattle.chain_laws.specs.Chains.{prev_of}
 use Rattle.chain_laws.proofs.Backing.{back_begins, back_goes_on, back_ends, back_comes_round}
 use Rattle.chain_layout.specs.HeldLinks.{shown_in}
 use Rattle.chain_layout.proofs.Backtracking.{looks_linear, looks_cyclic, back_within}
 use Rattle.chain_layout.proofs.HeldLinks.{work-none, work-touched, work-more}
-use Rattle.chain_layout.proofs.Tallying.{counts_none, counts_then}
+use Rattle.chain_layout.proofs.Lending.{same_then, held_then, counts_on}
+use Rattle.chain_layout.proofs.Tallying.{counts_none}
 use Rattle.chain_layout.proofs.numbering.start_at.Goals as goal
 
 not_both : (b : Bool) → b ≡ true → b ≡ false → ⊥
@@ -28,18 +29,21 @@ returns-then-eq g c =
     let number = g.P.Inx.PtrInx.number in
     let at = c.loop-step.invariant in
     let look = c.look_at-before.ensures in
+    let old = c.args.compactor.now in
+    let now = c.loop-step.compactor in
+    let new = c.look_at-before.new.compactor in
     let shown = shown_in g.P.Inx.PtrInx.packed_number c.args.compactor.now.held.slots in
     let came = ap (λ h. prev_of (shown_in g.P.Inx.PtrInx.packed_number h.slots) (number c.loop-step.at)) at.held in
-    let told : c.eq.result ≡ g.P.Inx.PartialEq.eq c.in-Some.k c.args.i = search of_calls in
+    let told = c.eq.ensures in
     let same = (g.met.P.Inx.PtrInx.eq_is_same c.in-Some.k c.args.i).0 (sym told ∙ c.if-eq.true) in
     record {
-      same_reference = look.looked.same_reference ∙ at.same_reference;
+      same_reference = same_then old now new at.same_reference look.looked.same_reference;
       start = back_comes_round shown (number c.args.i) c.loop-step.step (number c.loop-step.at) at.back
           (sym came ∙ (sym look.prev ∙ ap (option_map number) c.in-Some.is ∙ ap (λ k. Some (number k)) same));
-      held = look.looked.held ∙ at.held;
-      linear = λ xs h m. work-more at.work (work-touched _ _ look.looked.arena) 0 _ refl (looks_linear shown (number c.args.i) c.loop-step.step (number c.loop-step.at) at.back xs h m);
-      cyclic = λ xs h. work-more at.work (work-touched _ _ look.looked.arena) 0 _ refl (looks_cyclic shown (number c.args.i) c.loop-step.step (number c.loop-step.at) at.back xs h);
-      counts = counts_then _ _ _ _ _ _ _ _ _ at.counts look.looked.counts;
+      held = held_then old now new at.held look.looked.held;
+      linear = λ xs h m. work-more at.work (work-touched now.arena.now new.arena.now look.looked.arena) 0 _ refl (looks_linear shown (number c.args.i) c.loop-step.step (number c.loop-step.at) at.back xs h m);
+      cyclic = λ xs h. work-more at.work (work-touched now.arena.now new.arena.now look.looked.arena) 0 _ refl (looks_cyclic shown (number c.args.i) c.loop-step.step (number c.loop-step.at) at.back xs h);
+      counts = counts_on old now new at.counts look.looked.counts;
     }
 
 pub returns-in-None : goal.returns-in-None
@@ -47,15 +51,18 @@ returns-in-None g c =
     let number = g.P.Inx.PtrInx.number in
     let at = c.loop-step.invariant in
     let look = c.look_at-before.ensures in
+    let old = c.args.compactor.now in
+    let now = c.loop-step.compactor in
+    let new = c.look_at-before.new.compactor in
     let shown = shown_in g.P.Inx.PtrInx.packed_number c.args.compactor.now.held.slots in
     let came = ap (λ h. prev_of (shown_in g.P.Inx.PtrInx.packed_number h.slots) (number c.loop-step.at)) at.held in
     record {
-      same_reference = look.looked.same_reference ∙ at.same_reference;
+      same_reference = same_then old now new at.same_reference look.looked.same_reference;
       start = back_ends shown (number c.args.i) c.loop-step.step (number c.loop-step.at) at.back (sym came ∙ (sym look.prev ∙ ap (option_map number) c.in-None.is));
-      held = look.looked.held ∙ at.held;
-      linear = λ xs h m. work-more at.work (work-touched _ _ look.looked.arena) 0 _ refl (looks_linear shown (number c.args.i) c.loop-step.step (number c.loop-step.at) at.back xs h m);
-      cyclic = λ xs h. work-more at.work (work-touched _ _ look.looked.arena) 0 _ refl (looks_cyclic shown (number c.args.i) c.loop-step.step (number c.loop-step.at) at.back xs h);
-      counts = counts_then _ _ _ _ _ _ _ _ _ at.counts look.looked.counts;
+      held = held_then old now new at.held look.looked.held;
+      linear = λ xs h m. work-more at.work (work-touched now.arena.now new.arena.now look.looked.arena) 0 _ refl (looks_linear shown (number c.args.i) c.loop-step.step (number c.loop-step.at) at.back xs h m);
+      cyclic = λ xs h. work-more at.work (work-touched now.arena.now new.arena.now look.looked.arena) 0 _ refl (looks_cyclic shown (number c.args.i) c.loop-step.step (number c.loop-step.at) at.back xs h);
+      counts = counts_on old now new at.counts look.looked.counts;
     }
 
 pub loop-step-preserved : goal.loop-step-preserved
@@ -63,15 +70,19 @@ loop-step-preserved g c =
     let number = g.P.Inx.PtrInx.number in
     let packed_number = g.P.Inx.PtrInx.packed_number in
     let at = c.loop-step.invariant in
-    let told : c.eq.result ≡ g.P.Inx.PartialEq.eq c.in-Some.k c.args.i = search of_calls in
+    let look = c.look_at-before.ensures in
+    let old = c.args.compactor.now in
+    let now = c.loop-step.compactor in
+    let new = c.look_at-before.new.compactor in
+    let told = c.eq.ensures in
     record {
-      same_reference = c.look_at-before.ensures.looked.same_reference ∙ at.same_reference;
-      held = c.look_at-before.ensures.looked.held ∙ at.held;
+      same_reference = same_then old now new at.same_reference look.looked.same_reference;
+      held = held_then old now new at.held look.looked.held;
       back = back_goes_on (shown_in packed_number c.args.compactor.now.held.slots) (number c.args.i) c.loop-step.step (number c.loop-step.at) (number c.in-Some.k) at.back
           (sym (ap (λ h. prev_of (shown_in packed_number h.slots) (number c.loop-step.at)) at.held) ∙ sym c.look_at-before.ensures.prev ∙ ap (option_map number) c.in-Some.is)
           (λ e. not_both _ ((g.met.P.Inx.PtrInx.eq_is_same c.in-Some.k c.args.i).1 (g.met.P.Inx.PtrInx.same_number c.in-Some.k c.args.i e)) (sym told ∙ c.if-eq.false));
-      work = work-more at.work (work-touched _ _ c.look_at-before.ensures.looked.arena) 0 _ refl (omega arith);
-      counts = counts_then _ _ _ _ _ _ _ _ _ at.counts c.look_at-before.ensures.looked.counts;
+      work = work-more at.work (work-touched now.arena.now new.arena.now look.looked.arena) 0 _ refl (omega arith);
+      counts = counts_on old now new at.counts look.looked.counts;
     }
 
 pub unreachable-requires : goal.unreachable-requires
