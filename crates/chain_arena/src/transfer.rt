@@ -133,9 +133,7 @@ fn carry_all<
 fn agree<Q: Ptr, U: Drop, A: ChainArenaTrait<Q, U>>(source: &A)
     ensures { Agrees (A.interlinks source.now) }
 {
-    if let Some(q) = source.find_first_inx_ptr() {
-        source.get_inx_link_no_gen(q.inx());
-    }
+    source.get_inx_link_no_gen(Q::invalid().inx());
 }
 
 // The index of the link before the one at an index.
