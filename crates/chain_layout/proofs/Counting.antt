@@ -1,5 +1,5 @@
 -- Slots that are written: what stands where, and how many entries wait.
-use Rattle.std.proofs.Common.{◌≡◌, ◌≢◌, ℕ, zero, suc, ◌+◌, ◌^◌, ◌<◌, ◌≤◌, List, [], ◌∷◌, length, Bool, cond, Option, None, Some, refl, sym, ap, ap₂, ◌∙◌, arith}
+use Rattle.std.proofs.Common.{◌≡◌, ◌≢◌, ℕ, zero, suc, ◌+◌, ◌≤◌, List, [], ◌∷◌, length, Bool, cond, Option, None, Some, refl, sym, ap, ap₂, ◌∙◌, arith}
 use Rattle.std.specs.Prelude.{count_by, is_some}
 use Rattle.std.specs.Option.{option_map}
 use Rattle.std.proofs.lemmas.List.{set-get_or}
@@ -78,10 +78,6 @@ module _ {E : Type 0} (goal : E → Option ℕ) where
       let rest : waiting goal xs ≡ count_by is_some xs = waiting-all xs (λ i e s. all (suc i) e (stands-behind x xs i e s)) in
       let first : mark goal x ≡ one_if (is_some x) = mark-all x (λ e s. all 1 e s) in
       sum_by-cons (mark goal) x xs ∙ (ap₂ (λ (a b : ℕ). a + b) first rest ∙ sym (sum_by-cons (λ (y : Option E). one_if (is_some y)) x xs))
-
--- one more than an index counts fits a word
-pub count_fits : (n i greatest : ℕ) → i ≡ n + 1 → i ≤ greatest → greatest < 2 ^ 64 → n + 1 < 2 ^ 64
-count_fits n i greatest is most fits = omega (arith, is, most, fits)
 
 -- a count that has come to the end
 pub at_end : (k end all : ℕ) → end ≡ all → k ≤ end → end ≤ k → k ≡ all

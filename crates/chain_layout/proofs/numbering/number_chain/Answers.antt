@@ -3,7 +3,6 @@ use Rattle.std.proofs.Common.{◌≡◌, ◌<◌, ℕ, List, length, Some, refl,
 use Rattle.std.specs.Option.{option_map}
 use Rattle.chain_laws.specs.Chains.{Chain}
 use Rattle.chain_layout.specs.Numbering.{CanNumber, IsNumberedAt}
-use Rattle.chain_layout.proofs.Counting.{count_fits}
 use Rattle.chain_layout.proofs.Directing.{numbered_there}
 use Rattle.chain_layout.proofs.HeldLinks.{work-twice}
 use Rattle.chain_layout.proofs.Lending.{same_then, counts_on}
@@ -103,11 +102,3 @@ returns g c =
           c.in_default.is (at.walks done l can));
       counts = at.counts;
     }
-
-pub overflow_add-count : goal.overflow_add-count
-overflow_add-count g c =
-    let to = c.inx_at-destination.result in
-    record { fits = count_fits c.loop-on.count (g.P.Inx.PtrInx.number to) g.P.Inx.PtrInx.greatest c.inx_at-destination.ensures (g.met.P.Inx.PtrInx.at_most_greatest to) g.met.P.Inx.PtrInx.greatest_fits }
-
-pub visit-requires : goal.visit-requires
-visit-requires g c = c.loop-on.invariant.ready
