@@ -347,16 +347,12 @@ const PLACES: [Script; 6] = [
     ),
 ];
 
-#[test]
-fn walks_loops_and_places(rt: HostRuntime) {
-    for table in [&WALKS[..], &LOOPS[..], &PLACES[..]] {
-        plays_all::<Chains>(&rt, rt.alloc(), table);
-    }
-}
+// All tables are one constant, since a reference that a body makes costs its proof more than what it does with it.
+const TABLES: [&[Script]; 5] = [&WALKS, &LOOPS, &PLACES, &CHAIN_DRAINS, &DRAINS];
 
 #[test]
-fn drains_used_dropped_and_forgotten(rt: HostRuntime) {
-    for table in [&CHAIN_DRAINS[..], &DRAINS[..]] {
+fn walks_loops_places_and_drains(rt: HostRuntime) {
+    for table in TABLES {
         plays_all::<Chains>(&rt, rt.alloc(), table);
     }
 }

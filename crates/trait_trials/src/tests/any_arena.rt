@@ -3,7 +3,7 @@
 use super::rows::{
     ADVANCERS, CONNECTIONS, CUTS, KINDS, LAYOUTS, LOOKS, NONE_THEN_AGAIN, NONE_THEN_NONE, REMOVALS,
 };
-use super::scripts::{Answers, Do, Script, answer, plays_all, plays_on};
+use super::scripts::{Answers, Do, Line, Script, answer, played, plays_all, plays_on};
 use super::transfers::{REFUSED, TRANSFERS};
 use super::{Chains, Numbered};
 use arena_base::{ArenaTrait, CompactArenaTrait};
@@ -35,23 +35,30 @@ impl<P: Numbered, A: ChainArenaTrait<P, u32> + CompactArenaTrait<P, u32> + Drop>
     }
 }
 
+// The tables of scripts that each run on a new arena. They are one constant, since each reference that a body makes costs
+// its proof more than all that it does with it.
+const TABLES: [&[Script]; 7] = [
+    &CONNECTIONS,
+    &REMOVALS,
+    &KINDS,
+    &CUTS,
+    &LOOKS,
+    &ADVANCERS,
+    &REFUSED,
+];
+
+// Tables of scripts, each with the lines that follow on its arena.
+const TABLES_ON: [&[(Script, &[Line])]; 2] = [&LAYOUTS, &TRANSFERS];
+
 // The scripts of all tables, and what an advancer answers after its first `None`.
 fn check_all<A: Answers + Drop>(rt: &impl Abort, alloc: Global, after_none: Script) {
-    let tables: [&[Script]; 8] = [
-        &CONNECTIONS,
-        &REMOVALS,
-        &KINDS,
-        &CUTS,
-        &LOOKS,
-        &ADVANCERS,
-        &REFUSED,
-        &[after_none],
-    ];
-    for table in tables {
+    for table in TABLES {
         plays_all::<A>(rt, alloc, table);
     }
-    plays_on::<A>(rt, alloc, &LAYOUTS);
-    plays_on::<A>(rt, alloc, &TRANSFERS);
+    let _: A = played(rt, alloc, after_none);
+    for table in TABLES_ON {
+        plays_on::<A>(rt, alloc, table);
+    }
 }
 
 #[test]
