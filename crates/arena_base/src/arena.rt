@@ -359,8 +359,8 @@ fn refusal(maximum: Option<usize>, n: usize) -> ReallocationError
     }
 }
 
-// The answer of a call that invalidated an entry, or gave out what it was.
-pub(crate) fn outcome<T>(overflow: bool, t: T) -> InvalidationResult<T>
+/// The answer of a call that invalidated an entry, or gave out what it was.
+pub fn outcome<T>(overflow: bool, t: T) -> InvalidationResult<T>
     ensures { result ≡ invalidation_result overflow (Some t) }
 {
     if overflow {
@@ -370,8 +370,8 @@ pub(crate) fn outcome<T>(overflow: bool, t: T) -> InvalidationResult<T>
     }
 }
 
-// The answer of a call that invalidates.
-pub(crate) fn invalidated<T>(overflow: bool, t: T) -> InvalidationOption<T>
+/// The answer of a call that invalidates.
+pub fn invalidated<T>(overflow: bool, t: T) -> InvalidationOption<T>
     ensures { result ≡ invalidation_option overflow t }
 {
     if overflow {

@@ -17,7 +17,7 @@ mod tally;
 mod traits;
 
 pub use advancer::PtrAdvancer;
-pub use arena::Arena;
+pub use arena::{Arena, invalidated, outcome};
 pub use compactor::{Compactor, SlotAccess, Work};
 pub use entry::ArenaInsertEntry;
 pub use iterators::{CapacityDrain, Iter};

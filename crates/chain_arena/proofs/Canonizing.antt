@@ -18,7 +18,8 @@ use Rattle.arena_base.specs.Compressing.{counter_after_compression, values_in}
 use Rattle.arena_base.specs.Closing.{fronted, gathered}
 use Rattle.arena_base.proofs.Gathering.{length-slots, indexes-fronted, generations-fronted}
 use Rattle.chain_links.specs.ChainArena.{LinkSeen, on_value, value_in, interlinks_of, shown, seen, entry, values_of, ptr_at}
-use Rattle.chain_layout.specs.Layouts.{ShowsMoves, ShowsAll, AreLaidOut, IsCanonicalLayout}
+use Rattle.chain_layout.specs.Layouts.{ShowsMoves, ShowsAll, AreLaidOut}
+use Rattle.chain_links.specs.CanonicalLayouts.{IsCanonicalLayout}
 use Rattle.chain_links.proofs.Inserting.{some_entry, values-count}
 use Rattle.chain_layout.proofs.Arranging.{count-standing}
 

@@ -18,7 +18,8 @@ use Rattle.arena_base.specs.Entries.{Seen, found, without, removed, RisesFrom}
 use Rattle.arena_base.specs.declared.look.Look.{Look}
 use Rattle.arena_base.specs.declared.look.Look.TheVariants.{Up}
 use Rattle.chain_arena.specs.Drains.{after_times}
-use Rattle.chain_arena.specs.Transfers.{removed_each, IsNextChain}
+use Rattle.chain_arena.specs.Transfers.{removed_each}
+use Rattle.chain_traits.specs.Sources.{IsNextChain}
 
 -- the chains behind the first are in order too
 tail_in_order : (c : Chain) (rest : List Chain) → IsInOrder (c ∷ rest) → IsInOrder rest

@@ -13,7 +13,7 @@ use Rattle.arena_base.specs.Arena.{Arena, entry_at, remove_at}
 use Rattle.arena_base.specs.Arena.{IsValid as IsValidPtr}
 use Rattle.arena_base.proofs.Reading.{length-with_slot}
 use Rattle.chain_links.specs.ChainArena.{LinkSeen, shown, on_value, value_in as held_value, interlinks_of, values_of, link_of, link_at, remove_link}
-use Rattle.chain_interlinks.specs.Insertions.{index_from}
+use Rattle.chain_links.specs.Insertions.{index_from}
 use Rattle.chain_links.specs.Links.{seen_link}
 use Rattle.chain_arena.specs.Drains.{walk_left, without_each, IsDrainStep, CountsUp}
 use Rattle.chain_links.specs.declared.links.LinkBody.{LinkBody}

@@ -12,7 +12,7 @@ use Rattle.chain_laws.proofs.Passing.{has_walk, walk_valid, walk_once}
 use Rattle.chain_laws.proofs.Walking.{walk_passed}
 use Rattle.arena_base.specs.Arena.{Arena, entry_at, entry_count}
 use Rattle.chain_links.specs.ChainArena.{LinkSeen, interlinks_of, shown, IsWalkOf}
-use Rattle.chain_interlinks.specs.Walkers.{links_at, links_ahead}
+use Rattle.chain_links.specs.Walkers.{links_at, links_ahead}
 use Rattle.chain_links.proofs.Inserting.{shown-within, some_entry}
 
 -- the indexes of the entries, counted from k

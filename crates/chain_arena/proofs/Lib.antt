@@ -5,7 +5,6 @@ pub mod Deciding
 pub mod Determining
 pub mod Draining
 pub mod Iterating
-pub mod Sources
 pub mod Landing
 pub mod Departing
 pub mod Calling

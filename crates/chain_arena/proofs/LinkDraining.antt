@@ -2,7 +2,7 @@
 use Rattle.std.proofs.Common.{◌≡◌, ℕ, zero, suc, ◌≤◌, ◌<◌, arith, Bool, true, false, List, [], ◌∷◌, map, length, Option, None, Some, refl, ap, sym, ◌∙◌}
 use Rattle.std.specs.Prelude.{cond, leb, ◌==◌, All}
 use Rattle.std.specs.Option.{option_map}
-use Rattle.std.proofs.lemmas.Bool.{leb-true, leb-false, le-leb, lt-leb, eq-eqb, ne_eqb}
+use Rattle.std.proofs.lemmas.Bool.{leb-true, leb-false, lt-leb, eq-eqb, ne_eqb}
 use Rattle.std.proofs.lemmas.List.Elements.{All-head, All-tail}
 use Rattle.arena_ptr.specs.Numbers.{IsWithin}
 use Rattle.arena_ptr.specs.Invalidation.{value_in, is_overflow, value_within, is_overflow_result, invalidation_result, invalidation_option}
@@ -14,6 +14,7 @@ use Rattle.arena_base.specs.Entries.{removed as seen_removed}
 use Rattle.arena_base.specs.EntryLaws.{entries_rise, found-entries}
 use Rattle.arena_base.specs.Advancing.{from_index}
 use Rattle.chain_links.specs.ChainArena.{LinkSeen, values_of, seen, remove_link}
+use Rattle.chain_traits.proofs.AnyArena.{from_index-rises}
 use Rattle.chain_arena.specs.Drains.{entries_left, without_each, IsLinkDrainStep}
 use Rattle.chain_arena.proofs.Draining.{is_overflow_result-made}
 use Rattle.chain_interlinks.proofs.Unlinking.{seen-removed}
@@ -28,11 +29,6 @@ is_overflow-made true x = refl
 is_overflow-made false x = refl
 
 module _ {Gen T : Type 0} where
-  -- entries that rise from an index on stand there
-  pub from_index-rises : (i j : ℕ) (es : List ((ℕ × Gen) × T)) → i ≤ j → RisesFrom j es → from_index i es ≡ es
-  from_index-rises i j [] below rises = refl
-  from_index-rises i j (e ∷ es) below rises = ap (λ b. cond b (e ∷ es) (from_index i es)) (le-leb i e.0.0 (omega (arith, below, rises.0)))
-
   -- no entry stands behind the greatest index
   from_index-beyond : (greatest i : ℕ) (es : List ((ℕ × Gen) × T)) → greatest < i → All (λ e. IsWithin greatest (index_of e)) es → from_index i es ≡ []
   from_index-beyond greatest i [] beyond within = refl

@@ -13,7 +13,7 @@ use Rattle.arena_base.specs.declared.look.Look.{Look}
 use Rattle.arena_base.specs.declared.look.Look.TheVariants.{Up}
 use Rattle.chain_links.specs.ChainArena.{LinkSeen, on_value, with_each, with_value_in, with_value_at, values_of, shown, seen, entry}
 use Rattle.chain_arena.specs.Recasting.{without_value, AreAllRecast, IsRecast, IsRecastAt}
-use Rattle.chain_arena.proofs.LinkDraining.{from_index-rises}
+use Rattle.chain_traits.proofs.AnyArena.{from_index-rises}
 use Rattle.chain_links.proofs.Mapping.{map-with_slot, slot_at-map}
 
 -- slots with what stands at an index put there again

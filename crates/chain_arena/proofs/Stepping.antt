@@ -25,7 +25,7 @@ use Rattle.arena_base.specs.Entries.{count, renewed, HasRoomLeft, NeedsBeyondMax
 use Rattle.chain_links.specs.ChainArena.{LinkSeen, on_value, shown, seen, entry, value_in, insert_as, link_at, relinked, CanConnect, CanExchange, IsJoin, IsCut, IsExchange, IsRemoval}
 use Rattle.chain_links.proofs.Inserting.{values-count}
 use Rattle.chain_arena.specs.Drains.{walk_left, without_each}
-use Rattle.chain_interlinks.specs.Insertions.{IsInsertion}
+use Rattle.chain_links.specs.Insertions.{IsInsertion}
 use Rattle.chain_links.specs.Links.{seen_link}
 use Rattle.chain_arena.specs.Steps.{Links, kind_of, May, stays, grown, Connects, BreaksPrev, BreaksNext, Exchanges, IsDrained, Tells, IsAdded, IsTaken, InsertsGrowing, InsertsWithin, Reserves}
 use Rattle.chain_links.specs.declared.kinds.InsertKindBody.{InsertKindBody}

@@ -8,7 +8,7 @@ use Rattle.chain_laws.proofs.Inserting.{inserted_inserts}
 use Rattle.arena_base.specs.Arena.{Arena, without_first, IsListed, first_or_next, next_index, insert_next, with_capacity_of}
 use Rattle.arena_base.specs.Entries.{Slots, seen_of, count}
 use Rattle.chain_links.specs.ChainArena.{LinkSeen, value_in, values_of, seen, entry, shown, lone, insert_lone, insert_between, insert_as}
-use Rattle.chain_interlinks.specs.Insertions.{IsInsertion, IsInsertionBetween}
+use Rattle.chain_links.specs.Insertions.{IsInsertion, IsInsertionBetween}
 use Rattle.chain_links.proofs.Mapping.{with_each-insert_next, length-with_each, listed-with_each}
 use Rattle.chain_links.proofs.Inserting.{shown-insert_lone, shown-next, inserted_at, length-filled}
 use Rattle.chain_interlinks.proofs.Relinking.{FitsLinks, FitsLinks-shown, FitsLinks-next_set, FitsLinks-prev_set, shown-relinked, values_of-relinked}

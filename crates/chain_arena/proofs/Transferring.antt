@@ -26,7 +26,8 @@ use Rattle.arena_base.specs.declared.look.Look.{Look}
 use Rattle.arena_base.specs.declared.look.Look.TheVariants.{Up}
 use Rattle.chain_links.specs.ChainArena.{LinkSeen, shown, insert_between}
 use Rattle.chain_arena.specs.Drains.{after_times}
-use Rattle.chain_arena.specs.Transfers.{Carried, old_index, removed_each, AreEnds, IsNextChain, IsTransfer}
+use Rattle.chain_arena.specs.Transfers.{Carried, old_index, removed_each, AreEnds, IsTransfer}
+use Rattle.chain_traits.specs.Sources.{IsNextChain}
 use Rattle.chain_arena.proofs.Landing.{IsLanded, landing_begins, landing_goes_on, next_behind, gap_at_end, count_landed}
 use Rattle.chain_arena.proofs.Departing.{IsDeparting, StandsFound, rises_up, entries_left, departs_next, departs_on, first_found, all_departed, found-removed_each, counter-removed_each}
 use Rattle.chain_arena.proofs.Calling.{AreCalled, calls_begin, calls_go_on}

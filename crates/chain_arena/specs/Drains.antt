@@ -7,7 +7,7 @@ use Rattle.arena_base.specs.Arena.{Arena, entry_at}
 use Rattle.arena_base.specs.Entries.{entries}
 use Rattle.arena_base.specs.Advancing.{from_index}
 use Rattle.chain_links.specs.ChainArena.{LinkSeen, shown, values_of, remove_link}
-use Rattle.chain_interlinks.specs.Insertions.{index_from}
+use Rattle.chain_links.specs.Insertions.{index_from}
 use Rattle.chain_links.specs.Links.{seen_link}
 use Rattle.chain_links.specs.declared.links.LinkBody.{LinkBody}
 

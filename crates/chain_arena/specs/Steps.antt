@@ -22,7 +22,7 @@ use Rattle.chain_links.specs.ChainArena.{LinkSeen, shown, entry, values_of, seen
 use Rattle.chain_layout.specs.Compressions.{ClosesGaps}
 use Rattle.chain_arena.specs.Drains.{without_each}
 use Rattle.chain_links.specs.Kinds.{names_in, by_index, MayInsert}
-use Rattle.chain_layout.specs.Layouts.{IsCanonicalLayout}
+use Rattle.chain_links.specs.CanonicalLayouts.{IsCanonicalLayout}
 use Rattle.chain_links.specs.Links.{seen_link, seen_pair}
 use Rattle.chain_arena.specs.declared.calls.Call.{Call}
 use Rattle.chain_arena.specs.declared.calls.Call.TheVariants as call

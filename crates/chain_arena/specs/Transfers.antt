@@ -1,19 +1,16 @@
 -- A transfer: the links of another arena come, in the least-index order of its chains, to the indexes from 1 on.
-use Rattle.std.specs.Prelude.{◌≡◌, ℕ, zero, suc, ◌+◌, ◌≤◌, Bool, is_some, List, [], ◌∷◌, map, length, All, Option, None, Some, IsSome, IfSome}
+use Rattle.std.specs.Prelude.{◌≡◌, ℕ, zero, suc, ◌+◌, ◌≤◌, Bool, List, [], ◌∷◌, map, length, All, Option, None, Some, IfSome}
 use Rattle.std.specs.Fn.{Mut, Called}
 use Rattle.std.specs.List.{FoldsTo, range_with_len}
 use Rattle.arena_ptr.specs.Invalidation.{value_in, is_overflow}
 use Rattle.arena_ptr.specs.declared.invalidation.InvalidationOption.{InvalidationOption}
-use Rattle.chain_laws.specs.Chains.{Shown, prev_of}
-use Rattle.chain_laws.specs.Starts.{IsStart}
+use Rattle.chain_laws.specs.Chains.{Shown}
 use Rattle.chain_laws.specs.Renamings.{IsRenaming}
 use Rattle.chain_laws.specs.Arrangements.{place_in, IsLeastIndexOrder}
 use Rattle.arena_base.specs.Arena.{Arena}
 use Rattle.arena_base.specs.Entries.{Seen, entries, found, removed}
-use Rattle.arena_base.specs.declared.look.Look.{Look}
-use Rattle.arena_base.specs.declared.look.Look.TheVariants.{Up}
 use Rattle.chain_links.specs.ChainArena.{LinkSeen, shown, values_of}
-use Rattle.chain_layout.specs.Layouts.{IsCanonicalLayout}
+use Rattle.chain_links.specs.CanonicalLayouts.{IsCanonicalLayout}
 
 -- a link that was carried over: the pointer that it had, its value with whether its removal overflowed the counter, the
 -- pointer that it has, and the value that the closure answered for it
@@ -79,13 +76,3 @@ LaysOutAlike {Q} {P} {G} {Gen} {U} {T} {F} key new_key first following wraps cal
 abbrev pub AreEnds : {I : Type 0} → (I → ℕ) → Option (I × I) → ℕ → ℕ → Type 0
 AreEnds number None m q = m ≡ 0
 AreEnds number (Some ends) m q = (1 ≤ m) × (number ends.0 + m ≡ q) × (number ends.1 + 1 ≡ q)
-
--- the chain of the link of least index is found, where the links are seen and show these interlinks: the link that it is
--- written from, and whether it is cyclic; an advancer that looked from an index on looks behind that link
-pub record IsNextChain {Gen T : Type 0} (source : Seen Gen T) (interlinks : Shown) (here : ℕ) (ring : Bool) (after : Look) : Type 0 where
-  pub least : ℕ
-  pub stands : IsSome (found least source.entries)
-  pub none_below : (j : ℕ) → IsSome (found j source.entries) → least ≤ j
-  pub start : IsStart interlinks least here
-  pub cyclic : ring ≡ is_some (prev_of interlinks here)
-  pub looks : after ≡ Up (least + 1)

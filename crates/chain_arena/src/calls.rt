@@ -7,13 +7,13 @@ ghost use Rattle.chain_arena.specs.Steps.{InsertsGrowing, InsertsWithin, Reserve
 
 use crate::chain_arena::ChainArena;
 use crate::chain_drains::ChainDrain;
-use crate::chain_traits::ChainArenaTrait;
 use arena_base::{ArenaSlot, ArenaTrait};
 use arena_ptr::{
     AllocError, ChainInsertionError, InvalidationOption, InvalidationResult, Ptr,
     ReallocationError, SlotStack,
 };
 use chain_links::{LinkInsertKind, LinkNoGen};
+use chain_traits::ChainArenaTrait;
 use std::alloc::Global;
 
 /// A call that may change an arena of links, with its arguments. Each is the call of the same name; `Insert` is

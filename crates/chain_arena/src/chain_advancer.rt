@@ -44,7 +44,7 @@ impl<P: Ptr, T: Drop, S: SlotStack<Item = ArenaSlot<P, LinkNoGen<P, T>>>> Advanc
     ghost use Rattle.std.specs.Prelude.{◌≡◌};
     ghost use Rattle.std.specs.Option.{option_map};
     ghost use Rattle.chain_links.specs.ChainArena.{entry, shown};
-    ghost use Rattle.chain_interlinks.specs.Walkers.{walker_of, IsPassing};
+    ghost use Rattle.chain_links.specs.Walkers.{walker_of, IsPassing};
     ghost use Rattle.chain_interlinks.specs.ChainArenaLaws.{spent_stays};
 
     type Item = P;

@@ -8,7 +8,8 @@ ghost use Rattle.arena_base.specs.Slots.{entry_of};
 ghost use Rattle.chain_links.specs.ChainArena.{entry, seen, shown, IsRemoval, IsWalkOf};
 ghost use Rattle.chain_links.specs.Kinds.{names_in};
 ghost use Rattle.chain_interlinks.specs.Gaps.{IsGapOf};
-ghost use Rattle.chain_layout.specs.Layouts.{IsCanonicalLayout, ShowsAll, ShowsLayout, AreAllMoves};
+ghost use Rattle.chain_layout.specs.Layouts.{ShowsAll, ShowsLayout, AreAllMoves};
+ghost use Rattle.chain_links.specs.CanonicalLayouts.{IsCanonicalLayout};
 ghost use Rattle.chain_links.specs.Links.{seen_pair};
 
 use crate::visiting::{Listing, Showing};

@@ -3,20 +3,20 @@ ghost use Rattle.std.specs.Prelude.{◌≡◌, ◌↔◌, [], length, IsSome, If
 ghost use Rattle.std.specs.Borrow.{RestsIfNone, sem};
 ghost use Rattle.std.specs.Option.{option_map};
 ghost use Rattle.std.specs.Iterator.{item_count};
-ghost use Rattle.arena_ptr.specs.Invalidation.{value_in, is_overflow, invalidation_option};
+ghost use Rattle.arena_ptr.specs.Invalidation.{value_in, is_overflow};
 ghost use Rattle.chain_laws.specs.Chains.{Agrees};
 ghost use Rattle.chain_laws.specs.Walks.{goes_on, IsWalk, TakesWalk};
 ghost use Rattle.arena_base.specs.Arena.{IsValid};
 ghost use Rattle.chain_links.specs.ChainArena.{entry, shown};
-ghost use Rattle.chain_interlinks.specs.Insertions.{index_from};
+ghost use Rattle.chain_links.specs.Insertions.{index_from};
 ghost use Rattle.chain_arena.specs.Drains.{walk_left, without_each, IsDrainStep, DrainSteps, CountsUp};
 
 use crate::chain_arena::ChainArena;
-use crate::chain_traits::ChainArenaTrait;
 use crate::insert_entry::number_or_zero;
-use arena_base::{ArenaSlot, ArenaTrait};
+use arena_base::{ArenaSlot, ArenaTrait, invalidated};
 use arena_ptr::{HeapStack, InvalidationOption, Ptr, PtrInx, SlotStack};
 use chain_links::LinkNoGen;
+use chain_traits::ChainArenaTrait;
 
 /// The removal of a chain: an iterator that removes each link as it yields it, in walk order. A link comes with its
 /// pointer and with the interlinks that it has at its own removal. `GenerationOverflow`: the counter was at its
@@ -126,18 +126,7 @@ fn yielded<P: Ptr, T>(
     let (generation, link) = entry;
     let next = goes_on_to(i, link.prev(), link.next());
     let p = P::_from_raw(i, generation);
-    (number_or_zero(next), drained(overflow, (p, link)))
-}
-
-// A removed link, where it is told whether the counter overflowed.
-pub(crate) fn drained<T>(overflow: bool, t: T) -> InvalidationOption<T>
-    ensures { result ≡ invalidation_option overflow t }
-{
-    if overflow {
-        InvalidationOption::GenerationOverflow(t)
-    } else {
-        InvalidationOption::Success(t)
-    }
+    (number_or_zero(next), invalidated(overflow, (p, link)))
 }
 
 // Where a walk goes on whose first link is removed: to the link after it, or else to the one before it.

@@ -14,17 +14,16 @@ ghost use Rattle.arena_base.specs.Entries.{removed as seen_removed};
 ghost use Rattle.arena_base.specs.Compressing.{overflows_after_compression};
 ghost use Rattle.chain_links.specs.ChainArena.{shown as interlinks};
 ghost use Rattle.chain_links.specs.ChainArena.{seen, entry, relinked, insert_as, remove_link, link_at, on_value, CanConnect, CanExchange, IsCut, IsExchange, IsLinkAt};
-ghost use Rattle.chain_interlinks.specs.Insertions.{IsInsertion};
+ghost use Rattle.chain_links.specs.Insertions.{IsInsertion};
 ghost use Rattle.chain_links.specs.Kinds.{names_in, by_index, MayInsert};
-ghost use Rattle.chain_layout.specs.Layouts.{IsCanonicalLayout};
+ghost use Rattle.chain_links.specs.CanonicalLayouts.{IsCanonicalLayout};
 ghost use Rattle.chain_arena.specs.Growths.{growth_of};
 ghost use Rattle.chain_links.specs.Links.{seen_link, seen_lent};
 ghost use Rattle.chain_laws.specs.Walks.{walker_at};
-ghost use Rattle.chain_interlinks.specs.Walkers.{walker_of};
+ghost use Rattle.chain_links.specs.Walkers.{walker_of};
 
 use crate::chain_advancer::ChainPtrAdvancer;
 use crate::chain_arena::ChainArena;
-use crate::chain_traits::ChainArenaTrait;
 use arena_base::{Advancer, ArenaSlot, ArenaTrait};
 use arena_ptr::{
     ChainInsertionError, InvalidationOption, InvalidationResult, Ptr, PtrGen, PtrInx,
@@ -34,12 +33,13 @@ use chain_interlinks::gaps::{is_index, next_of as next_of_link, prev_of as prev_
 use chain_interlinks::interlinks::{can_connect, link_twice, link_up, neighbor};
 use chain_links::kinds::Name;
 use chain_links::{Link, LinkInsertKind, LinkNoGen};
+use chain_traits::ChainArenaTrait;
 
 impl<P: Ptr, T: Drop, S: SlotStack<Item = ArenaSlot<P, LinkNoGen<P, T>>>> ChainArenaTrait<P, T>
     for ChainArena<P, T, S> {
     ghost use Rattle.chain_links.specs.ChainArena.{shown};
     ghost use Rattle.chain_interlinks.specs.ChainArenaLaws.{links_stand};
-    ghost use Rattle.chain_interlinks.specs.Walkers.{walker_of};
+    ghost use Rattle.chain_links.specs.Walkers.{walker_of};
 
     type ChainPtrAdvancer = ChainPtrAdvancer<P>;
 

@@ -7,7 +7,7 @@ ghost use Rattle.arena_ptr.specs.SlotStack.{IsBeyond};
 ghost use Rattle.chain_laws.specs.Insertions.{IsGap, link_before, link_after};
 ghost use Rattle.arena_base.specs.Arena.{entry_count, next_index, with_capacity_of, HasRoom};
 ghost use Rattle.chain_links.specs.ChainArena.{entry, seen, shown, insert_between};
-ghost use Rattle.chain_interlinks.specs.Insertions.{IsInsertionBetween, index_from};
+ghost use Rattle.chain_links.specs.Insertions.{IsInsertionBetween, index_from};
 ghost use Rattle.chain_links.specs.Kinds.{names_in, by_index, MayInsert};
 ghost use Rattle.chain_interlinks.specs.Gaps.{before_in, after_in};
 

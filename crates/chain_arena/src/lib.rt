@@ -5,7 +5,6 @@ mod calls;
 mod chain_advancer;
 mod chain_arena;
 mod chain_drains;
-mod chain_traits;
 mod copies;
 mod from_arena;
 mod impl_arena_trait;

@@ -7,9 +7,8 @@ ghost use Rattle.chain_links.specs.ChainArena.{values_of};
 ghost use Rattle.chain_arena.specs.Drains.{entries_left, without_each, IsLinkDrainStep, LinkDrainSteps, CountsUp};
 
 use crate::chain_arena::ChainArena;
-use crate::chain_drains::drained;
 use crate::insert_entry::number_or_zero;
-use arena_base::{Advancer, ArenaSlot, ArenaTrait};
+use arena_base::{Advancer, ArenaSlot, ArenaTrait, invalidated};
 use arena_ptr::{HeapStack, InvalidationOption, Ptr, PtrInx, SlotStack};
 use chain_links::LinkNoGen;
 
@@ -64,7 +63,7 @@ impl<P: Ptr, T: Drop, S: SlotStack<Item = ArenaSlot<P, LinkNoGen<P, T>>>> ChainA
             Some(p) => {
                 let (value, overflow) = self.remove(p).overflowing();
                 match value {
-                    Some(t) => Some((number_or_zero(Some(p.inx())), drained(overflow, (p, t)))),
+                    Some(t) => Some((number_or_zero(Some(p.inx())), invalidated(overflow, (p, t)))),
                     None => unreachable!(),
                 }
             }

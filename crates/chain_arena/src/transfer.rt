@@ -1,29 +1,21 @@
 // The transfer of all links of another arena, chain by chain.
-ghost use Rattle.std.specs.Prelude.{◌≡◌, ◌≢◌, ◌↔◌, ◌≤◌, ◌<◌, ◌+◌, ℕ, [], IsSome, IfSome, IfNone, IsOk, OnOk, OnErr, Err, None, Some};
-ghost use Rattle.std.specs.Option.{option_map};
+ghost use Rattle.std.specs.Prelude.{◌≡◌, ◌↔◌, ◌≤◌, ◌<◌, ◌+◌, ℕ, [], IsOk, OnOk, OnErr, Err, None, Some};
 ghost use Rattle.arena_ptr.specs.SlotStack.{IsBeyond};
-ghost use Rattle.arena_ptr.specs.Invalidation.{value_in, is_overflow};
-ghost use Rattle.chain_laws.specs.Chains.{Agrees, prev_of, next_of};
 ghost use Rattle.chain_laws.specs.Insertions.{IsGap};
-ghost use Rattle.chain_laws.specs.Removals.{removed as passed_over};
-ghost use Rattle.chain_laws.specs.Walks.{going_on};
-ghost use Rattle.chain_laws.specs.Starts.{IsStart};
 ghost use Rattle.chain_laws.specs.Relays.{end_before, end_after};
 ghost use Rattle.arena_base.specs.Arena.{HasRoom, IsListed, with_capacity_of, entry_count, next_index};
-ghost use Rattle.arena_base.specs.Entries.{count, removed, RisesFrom};
-ghost use Rattle.arena_base.specs.declared.look.Look.{Look};
+ghost use Rattle.arena_base.specs.Entries.{count};
 ghost use Rattle.chain_links.specs.ChainArena.{shown, insert_between};
 ghost use Rattle.chain_interlinks.specs.Gaps.{before_in, after_in};
-ghost use Rattle.chain_arena.specs.Transfers.{LaysOutAlike, IsTransfer, IsNextChain, AreEnds};
+ghost use Rattle.chain_arena.specs.Transfers.{LaysOutAlike, IsTransfer, AreEnds};
 
 use crate::chain_arena::ChainArena;
-use crate::chain_drains::drained;
-use crate::chain_traits::ChainArenaTrait;
 use arena_base::{Advancer, ArenaSlot, ArenaTrait, CompactArenaTrait};
 use arena_ptr::{InvalidationOption, Ptr, PtrInx, ReallocationError, SlotStack};
-use chain_interlinks::chain_iterators::going_on as onward;
 use chain_interlinks::gaps::Gap;
 use chain_links::LinkNoGen;
+use chain_traits::ChainArenaTrait;
+use chain_traits::sources::{agree, take_next};
 
 impl<P: Ptr, T: Drop, S: SlotStack<Item = ArenaSlot<P, LinkNoGen<P, T>>>> ChainArena<P, T, S> {
     /// Takes all links out of a source, lays its chains one after another from index 1 on, and leaves nothing else here.
@@ -126,149 +118,6 @@ fn carry_all<
         ends = lay_behind(target, cyclic, laid, to, t);
         ring = cyclic;
         on = next;
-    }
-}
-
-// The interlinks of an arena of links agree. Of one without links no call but this tells it.
-fn agree<Q: Ptr, U: Drop, A: ChainArenaTrait<Q, U>>(source: &A)
-    ensures { Agrees (A.interlinks source.now) }
-{
-    source.get_inx_link_no_gen(Q::invalid().inx());
-}
-
-// The index of the link before the one at an index.
-fn before<Q: Ptr, U: Drop, A: ChainArenaTrait<Q, U>>(source: &A, i: Q::Inx) -> Option<Q::Inx>
-    ensures { option_map Q.Inx.number result ≡ prev_of (A.interlinks source.now) (Q.Inx.number i) }
-{
-    match source.get_inx_link_no_gen(i) {
-        Some((_, link)) => link.prev(),
-        None => None,
-    }
-}
-
-// The link that the chain of one is written from: the start of a linear one, and itself in a cyclic one.
-fn start_of<Q: Ptr, U: Drop, A: ChainArenaTrait<Q, U>>(source: &A, i: Q::Inx) -> Q::Inx
-    requires agree { Agrees (A.interlinks source.now) }
-    requires some { IsSome (A.entry source.now (Q.Inx.number i)) }
-    ensures start { IsStart (A.interlinks source.now) (Q.Inx.number i) (Q.Inx.number result) }
-    ensures some { IsSome (A.entry source.now (Q.Inx.number result)) }
-{
-    let mut at = i;
-    for step in 0..source.len() {
-        match before(source, at) {
-            Some(k) => {
-                if k == i {
-                    return i;
-                }
-                at = k;
-            }
-            None => return at,
-        }
-    }
-    unreachable!()
-}
-
-// The next chain of a source: the link that it is written from, and whether it is cyclic.
-fn next_chain<Q: Ptr, U: Drop, A: ChainArenaTrait<Q, U>>(
-    source: &A,
-    advancer: &mut A::PtrAdvancer,
-) -> (Q::Inx, bool)
-    requires agree { Agrees (A.interlinks source.now) }
-    requires low { (from : ℕ) × (A.looks advancer.old ≡ Look.Up from) × RisesFrom from (A.seen source.now).entries }
-    requires some { (A.seen source.now).entries ≢ [] }
-    ensures next { IsNextChain (A.seen source.now) (A.interlinks source.now) (Q.Inx.number result.0) result.1 (A.looks advancer.new) }
-    ensures some { IsSome (A.entry source.now (Q.Inx.number result.0)) }
-{
-    match advancer.advance(source) {
-        Some(q) => {
-            let start = start_of(source, q.inx());
-            (start, before(source, start).is_some())
-        }
-        None => unreachable!(),
-    }
-}
-
-// The next link to take: the one that a chain goes on to, or else that which the next chain is written from; with whether
-// its chain is cyclic, and the ends of what is laid of it.
-fn next_link<Q: Ptr, U: Drop, A: ChainArenaTrait<Q, U>, I: Copy + Drop>(
-    source: &A,
-    advancer: &mut A::PtrAdvancer,
-    on: Option<Q::Inx>,
-    ring: bool,
-    ends: Option<(I, I)>,
-) -> (Q::Inx, bool, Option<(I, I)>)
-    requires agree { Agrees (A.interlinks source.now) }
-    requires low { on ≡ None → (from : ℕ) × (A.looks advancer.old ≡ Look.Up from) × RisesFrom from (A.seen source.now).entries }
-    requires some { on ≡ None → (A.seen source.now).entries ≢ [] }
-    requires stands { IfSome on (λ i. IsSome (A.entry source.now (Q.Inx.number i))) }
-    ensures goes_on { IfSome on (λ i. (result ≡ (i, ring, ends)) × (A.looks advancer.new ≡ A.looks advancer.old)) }
-    ensures begins { IfNone on (IsNextChain (A.seen source.now) (A.interlinks source.now) (Q.Inx.number result.0) result.1 (A.looks advancer.new) × (result.2 ≡ None)) }
-    ensures some { IsSome (A.entry source.now (Q.Inx.number result.0)) }
-{
-    match on {
-        Some(i) => (i, ring, ends),
-        None => {
-            let (start, ring) = next_chain(source, advancer);
-            (start, ring, None)
-        }
-    }
-}
-
-// Takes the next link out: the one that a chain goes on to, or else that which the next chain is written from. Answers its
-// pointer, its value, where it is told whether the counter overflowed, the index of the link after it, unless that is
-// itself, whether its chain is cyclic, and the ends of what is laid of it.
-fn take_next<Q: Ptr, U: Drop, A: ChainArenaTrait<Q, U>, I: Copy + Drop>(
-    source: &mut A,
-    advancer: &mut A::PtrAdvancer,
-    on: Option<Q::Inx>,
-    ring: bool,
-    ends: Option<(I, I)>,
-) -> (
-    Q,
-    InvalidationOption<U>,
-    Option<Q::Inx>,
-    bool,
-    Option<(I, I)>,
-)
-    requires agree { Agrees (A.interlinks source.old) }
-    requires low { on ≡ None → (from : ℕ) × (A.looks advancer.old ≡ Look.Up from) × RisesFrom from (A.seen source.old).entries }
-    requires some { on ≡ None → (A.seen source.old).entries ≢ [] }
-    requires stands { IfSome on (λ i. IsSome (A.entry source.old (Q.Inx.number i))) }
-    ensures goes_on { IfSome on (λ i. ((Q.key result.0).0 ≡ Q.Inx.number i) × (result.3 ≡ ring) × (result.4 ≡ ends) × (A.looks advancer.new ≡ A.looks advancer.old)) }
-    ensures begins { IfNone on (IsNextChain (A.seen source.old) (A.interlinks source.old) (Q.key result.0).0 result.3 (A.looks advancer.new) × (result.4 ≡ None)) }
-    ensures stood { A.entry source.old (Q.key result.0).0 ≡ Some ((Q.key result.0).1, value_in result.1) }
-    ensures overflow { IfSome (A.seen source.old).counter (λ g. is_overflow result.1 ≡ Q.Gen.wraps g) }
-    ensures next { option_map Q.Inx.number result.2 ≡ going_on (Q.key result.0).0 (next_of (A.interlinks source.old) (Q.key result.0).0) }
-    ensures seen { A.seen source.new ≡ removed Q.Gen.following (A.seen source.old) (Q.key result.0).0 }
-    ensures links { A.interlinks source.new ≡ passed_over (A.interlinks source.old) (Q.key result.0).0 }
-{
-    let (i, cyclic, laid) = next_link::<Q, U, A, I>(source, advancer, on, ring, ends);
-    let (q, value, next) = take_link(source, i);
-    (q, value, next, cyclic, laid)
-}
-
-// Takes the link at an index out, and answers its pointer, its value, where it is told whether the counter overflowed, and
-// the index of the link after it, unless that is itself.
-fn take_link<Q: Ptr, U: Drop, A: ChainArenaTrait<Q, U>>(
-    source: &mut A,
-    i: Q::Inx,
-) -> (Q, InvalidationOption<U>, Option<Q::Inx>)
-    requires { IsSome (A.entry source.old (Q.Inx.number i)) }
-    ensures stood { A.entry source.old (Q.Inx.number i) ≡ Some ((Q.key result.0).1, value_in result.1) }
-    ensures index { (Q.key result.0).0 ≡ Q.Inx.number i }
-    ensures overflow { IfSome (A.seen source.old).counter (λ g. is_overflow result.1 ≡ Q.Gen.wraps g) }
-    ensures next { option_map Q.Inx.number result.2 ≡ going_on (Q.Inx.number i) (next_of (A.interlinks source.old) (Q.Inx.number i)) }
-    ensures seen { A.seen source.new ≡ removed Q.Gen.following (A.seen source.old) (Q.Inx.number i) }
-    ensures links { A.interlinks source.new ≡ passed_over (A.interlinks source.old) (Q.Inx.number i) }
-    ensures agreed { Agrees (A.interlinks source.old) }
-{
-    let (entry, overflow) = source.remove_inx_link_no_gen(i).overflowing();
-    match entry {
-        Some((generation, link)) => {
-            let next = onward::<Q>(i, link.next());
-            (Q::_from_raw(i, generation), drained(overflow, link.t), next)
-        }
-        None => unreachable!(),
     }
 }
 

@@ -6,7 +6,7 @@ ghost use Rattle.arena_base.specs.Arena.{IsValid, HasRoom, entry_count};
 ghost use Rattle.arena_base.specs.Entries.{count};
 ghost use Rattle.arena_base.specs.Compressing.{overflows_after_compression};
 ghost use Rattle.chain_links.specs.ChainArena.{entry, seen, shown};
-ghost use Rattle.chain_layout.specs.Layouts.{IsCanonicalLayout};
+ghost use Rattle.chain_links.specs.CanonicalLayouts.{IsCanonicalLayout};
 ghost use Rattle.chain_arena.specs.Drains.{walk_left, without_each};
 ghost use Rattle.chain_arena.specs.Transfers.{IsTransfer};
 

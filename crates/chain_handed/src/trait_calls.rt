@@ -5,7 +5,7 @@ ghost use Rattle.arena_base.specs.Compressing.{overflows_after_compression};
 ghost use Rattle.chain_laws.specs.Chains.{Agrees};
 ghost use Rattle.chain_laws.specs.Operations.{joined};
 ghost use Rattle.chain_links.specs.ChainArena.{CanConnect};
-ghost use Rattle.chain_layout.specs.Layouts.{IsCanonicalLayout};
+ghost use Rattle.chain_links.specs.CanonicalLayouts.{IsCanonicalLayout};
 
 use arena_ptr::{InvalidationOption, Ptr, PtrGen, PtrInx};
 use chain_arena::ChainArenaTrait;

@@ -6,7 +6,7 @@ use Rattle.chain_laws.specs.Chains.{Shown, first_or}
 use Rattle.chain_laws.specs.Walks.{Walker, ahead}
 use Rattle.arena_base.specs.Arena.{Arena, IsValid, entry_at}
 use Rattle.chain_links.specs.ChainArena.{LinkSeen, shown, entry, value_in, on_value}
-use Rattle.chain_interlinks.specs.Walkers.{index_and_entry, IsPassing}
+use Rattle.chain_links.specs.Walkers.{index_and_entry, IsPassing}
 use Rattle.chain_links.proofs.Mapping.{entry_at-with_each}
 
 -- a look at an index that tells nothing tells that nothing stands there

@@ -15,7 +15,8 @@ use Rattle.chain_interlinks.specs.Gaps.{before_in, after_in, named_before, named
 use Rattle.chain_links.specs.ChainArena.{LinkSeen, lone, new_link, named_by, insert_lone, insert_between, shown, relink, relinked, interlinks_of}
 use Rattle.chain_links.proofs.Seeing.{is_relinked}
 use Rattle.chain_links.proofs.Inserting.{AreFree, slot_at-filled, length-filled, shown-insert_lone, listed-seen_links, seen_links-insert_next, next_index-seen_links}
-use Rattle.chain_interlinks.proofs.Relinking.{is_some-map, relink-own, FitsLinks, FitsLinks-shown, FitsLinks-next_set, shown-relinked, relinked-again}
+use Rattle.chain_interlinks.proofs.Relinking.{relink-own, FitsLinks, FitsLinks-shown, FitsLinks-next_set, shown-relinked, relinked-again}
+use Rattle.chain_links.proofs.Mapping.{is_some-map}
 
 module _ {Gen T : Type 0} where
   -- two writes make u and v name q

@@ -12,12 +12,8 @@ use Rattle.chain_links.specs.declared.links.LinkBody.{LinkBody}
 use Rattle.chain_links.specs.Links.{seen_link, seen_pair, seen_links}
 use Rattle.arena_base.specs.Arena.{Arena, entry_at, with_value}
 use Rattle.chain_links.specs.ChainArena.{on_value, value_in, values_of, LinkSeen, shown, relink, relinked, interlinks_of, interlinks_in, with_interlinks}
-use Rattle.chain_links.proofs.Mapping.{entry_at-with_each, length-with_each}
+use Rattle.chain_links.proofs.Mapping.{is_some-map, entry_at-with_each, length-with_each}
 use Rattle.chain_links.proofs.Seeing.{is_relinked, entry_at-relinked, entry_at-with_value, entry_at-seen_links, length-with_value, length-seen_links, length-relinked, no_entry}
-
-pub is_some-map : {X Y : Type 0} (f : X → Y) (o : Option X) → is_some (option_map f o) ≡ is_some o
-is_some-map f None = refl
-is_some-map f (Some x) = refl
 
 is_some-if : (b : Bool) (change : Interlinks → Interlinks) (l : Option Interlinks) → is_some (if b then option_map change l else l) ≡ is_some l
 is_some-if true change l = is_some-map change l

@@ -5,7 +5,7 @@ use Rattle.std.proofs.Common.{refl, sym, ◌∙◌}
 use Rattle.chain_laws.specs.Chains.{Shown}
 use Rattle.chain_laws.specs.Walks.{Walker}
 use Rattle.arena_base.specs.Arena.{Arena, entry_at}
-use Rattle.chain_interlinks.specs.Walkers.{IsPassing}
+use Rattle.chain_links.specs.Walkers.{IsPassing}
 use Rattle.chain_links.specs.ChainArena.{LinkSeen, shown, values_of, on_value, value_in, interlinks_of}
 
 module _ {Gen T : Type 0} where

@@ -1,15 +1,16 @@
 ghost use Rattle.std.specs.Prelude.{◌≡◌, ℕ, suc, List, ◌∷◌, Some, None, IfSome, IfNone};
 ghost use Rattle.std.specs.Option.{option_map};
 ghost use Rattle.std.specs.Iterator.{YieldsFirstBy, item_count};
-ghost use Rattle.chain_laws.specs.Walks.{going_on, going_back, ahead};
+ghost use Rattle.chain_laws.specs.Walks.{ahead};
 ghost use Rattle.arena_base.specs.Arena.{entry_at, IsValid};
 ghost use Rattle.chain_links.specs.ChainArena.{entry, shown};
 ghost use Rattle.chain_links.specs.Links.{seen_links};
-ghost use Rattle.chain_interlinks.specs.Walkers.{links_ahead, seen_item, index_and_entry};
+ghost use Rattle.chain_links.specs.Walkers.{links_ahead, seen_item, index_and_entry};
 
 use arena_base::{Arena, ArenaSlot, ArenaTrait};
 use arena_ptr::{Ptr, SlotStack};
 use chain_links::LinkNoGen;
+use chain_links::walks::{going_back, going_on};
 use std::marker::Model;
 
 /// The links of one chain in walk order, each with its pointer: from a link on to the end, and then from the link
@@ -36,7 +37,7 @@ impl<'a, P: Ptr, T: Drop, S: SlotStack<Item = ArenaSlot<P, LinkNoGen<P, T>>>> Mo
     ghost Value = { List (ℕ × (P.Gen × LinkSeen T)) };
 
     ghost use Rattle.chain_links.specs.Links.{seen_links};
-    ghost use Rattle.chain_interlinks.specs.Walkers.{links_ahead};
+    ghost use Rattle.chain_links.specs.Walkers.{links_ahead};
 
     ghost view = { λ it. links_ahead (seen_links P.Inx.packed_number it.arena.now) it.left (P.Inx.number it.start)
         (option_map P.Inx.number it.forth) (option_map P.Inx.number it.back) };
@@ -84,8 +85,8 @@ impl<'a, P: Ptr, T: Drop, S: SlotStack<Item = ArenaSlot<P, LinkNoGen<P, T>>>> It
             Some(i) => match look(self.arena, i) {
                 Some((p, link)) => {
                     self.left -= 1;
-                    self.back = going_back::<P>(self.start, link.next(), self.back);
-                    self.forth = going_on::<P>(self.start, link.next());
+                    self.back = going_back(self.start, link.next(), self.back);
+                    self.forth = going_on(self.start, link.next());
                     Some((p, link))
                 }
                 None => None,
@@ -119,30 +120,6 @@ pub fn look<P: Ptr, T: Drop, S: SlotStack<Item = ArenaSlot<P, LinkNoGen<P, T>>>>
     }
 }
 
-/// Where a walker goes on to from a link: to the next one, unless it has come round.
-pub fn going_on<P: Ptr>(start: P::Inx, next: Option<P::Inx>) -> Option<P::Inx>
-    ensures { option_map P.Inx.number result ≡ going_on (P.Inx.number start) (option_map P.Inx.number next) }
-{
-    match next {
-        Some(k) => { if k == start { None } else { Some(k) } }
-        None => None,
-    }
-}
-
-/// Where it goes back to from the end of the chain: nowhere, where it has come round.
-pub fn going_back<P: Ptr>(
-    start: P::Inx,
-    next: Option<P::Inx>,
-    back: Option<P::Inx>,
-) -> Option<P::Inx>
-    ensures { option_map P.Inx.number result ≡ going_back (P.Inx.number start) (option_map P.Inx.number next) (option_map P.Inx.number back) }
-{
-    match next {
-        Some(k) => { if k == start { None } else { back } }
-        None => back,
-    }
-}
-
 /// The link that a walker passes next, by its pointer, and where it goes from there.
 pub fn step<P: Ptr, T: Drop, S: SlotStack<Item = ArenaSlot<P, LinkNoGen<P, T>>>>(
     arena: &Arena<P, LinkNoGen<P, T>, S>,
@@ -160,11 +137,7 @@ pub fn step<P: Ptr, T: Drop, S: SlotStack<Item = ArenaSlot<P, LinkNoGen<P, T>>>>
         Some(i) => match look(arena, i) {
             Some((p, link)) => {
                 let next = link.next();
-                Some((
-                    p,
-                    going_on::<P>(start, next),
-                    going_back::<P>(start, next, back),
-                ))
+                Some((p, going_on(start, next), going_back(start, next, back)))
             }
             None => None,
         },

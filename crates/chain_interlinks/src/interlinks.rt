@@ -7,7 +7,7 @@ ghost use Rattle.arena_base.specs.Arena.{entry_at};
 ghost use Rattle.chain_links.specs.ChainArena.{shown, relinked, remove_link, entry, CanConnect, ptr_at};
 ghost use Rattle.chain_links.specs.Links.{seen_links, seen_pair};
 
-use arena_base::{Arena, ArenaSlot, ArenaTrait};
+use arena_base::{Arena, ArenaSlot, ArenaTrait, outcome};
 use arena_ptr::{
     ChainInsertionError, InvalidationResult, Ptr, PtrInx, ReallocationError, SlotStack,
 };
@@ -123,20 +123,9 @@ pub fn take_out<P: Ptr, T: Drop, S: SlotStack<Item = ArenaSlot<P, LinkNoGen<P, T
     match entry {
         Some((generation, link)) => {
             link_up(arena, link.prev(), link.next());
-            invalidated(overflow, (generation, link))
+            outcome(overflow, (generation, link))
         }
         None => InvalidationResult::InvalidPtr,
-    }
-}
-
-/// The answer of a removal that removed something.
-pub fn invalidated<T>(overflow: bool, t: T) -> InvalidationResult<T>
-    ensures { result ≡ invalidation_result overflow (Some t) }
-{
-    if overflow {
-        InvalidationResult::GenerationOverflow(t)
-    } else {
-        InvalidationResult::Success(t)
     }
 }
 

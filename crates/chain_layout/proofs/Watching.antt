@@ -11,7 +11,8 @@ use Rattle.chain_laws.proofs.Partitions.{no_others}
 use Rattle.arena_base.specs.Entries.{Seen, found, index_of}
 use Rattle.arena_base.specs.Compressing.{values_in}
 use Rattle.chain_links.specs.ChainArena.{ptr_at}
-use Rattle.chain_layout.specs.Layouts.{IsListed, ShowsAll, ShowsLayout, AreAllMoves, IsCanonicalLayout}
+use Rattle.chain_layout.specs.Layouts.{IsListed, ShowsAll, ShowsLayout, AreAllMoves}
+use Rattle.chain_links.specs.CanonicalLayouts.{IsCanonicalLayout}
 
 module _ {P : Type 0} where
   -- a push where there is room

@@ -1,24 +1,16 @@
 -- A canonical compression: each chain comes to one run of indexes, the chains one after another.
-use Rattle.std.specs.Prelude.{◌≡◌, ℕ, ◌+◌, ◌*◌, ◌≤◌, ◌<◌, Bool, List, [], ◌∷◌, ◌++◌, Vec, vec_len, vec_capacity, map, length, All, Option, None, Some, IfSome}
+use Rattle.std.specs.Prelude.{◌≡◌, ℕ, ◌+◌, ◌*◌, ◌≤◌, ◌<◌, List, [], ◌∷◌, ◌++◌, Vec, vec_len, vec_capacity, map, length, Option, Some}
 use Rattle.std.specs.Option.{option_map}
 use Rattle.std.specs.declared.alloc.Global.{Global}
 use Rattle.std.specs.Fn.{Mut, Called}
 use Rattle.std.specs.List.{FoldsTo, range_with_len}
-use Rattle.chain_laws.specs.Chains.{Shown, AreChains}
+use Rattle.chain_laws.specs.Chains.{Shown}
 use Rattle.chain_laws.specs.Renamings.{IsRenaming}
-use Rattle.chain_laws.specs.Arrangements.{place_in, in_runs, IsLeastIndexOrder}
+use Rattle.chain_laws.specs.Arrangements.{place_in, IsLeastIndexOrder}
 use Rattle.arena_base.specs.Arena.{Arena}
-use Rattle.arena_base.specs.Entries.{Seen, Slots, found, index_of}
+use Rattle.arena_base.specs.Entries.{Seen, found}
 use Rattle.arena_base.specs.Closing.{gathered}
-use Rattle.arena_base.specs.Compressing.{counter_after_compression, values_in}
 use Rattle.chain_links.specs.ChainArena.{LinkSeen, shown, entry, values_of, ptr_at}
-
--- so many links are in exactly as many slots, none is freed, each was placed once, and there were at most four times as many
--- touches as slots and twelve times as many as links
-abbrev pub AreLaid : ℕ → Option Slots → Option Slots → Type 0
-AreLaid count None new = new ≡ None
-AreLaid count (Some old) new = (touches : ℕ) × (touches ≤ 4 * old.count + 12 * count)
-    × (new ≡ Some (record { count = count; freed = []; placed = old.placed + count; touched = old.touched + touches }))
 
 -- What sees links that get other pointers, in turn, each by the one that it had and the one that it gets.
 module _ {F P Gen : Type 0} (g : F → P → P → F → Type 0) (key : P → ℕ × Gen) where
@@ -66,22 +58,3 @@ pub record ShowsLayout {F P Gen T : Type 0} (g : Mut F (P × (P × Unit {0})) (U
 -- a pair is listed behind others, where there is room
 pub record IsListed {P : Type 0} (old : Vec (P × P) Global) (from to : P) (new : Vec (P × P) Global) : Type 0 where
   pub listed : vec_len old < vec_capacity old → (new.items ≡ old.items ++ (from, to) ∷ []) × (vec_len new ≡ vec_len old + 1) × (vec_capacity old ≤ vec_capacity new)
-
--- All links are carried by one bijection onto the indexes from 1 to their number, each chain to one run in `next` order, a
--- linear one from its start. Each link keeps its value and its neighbors, and has the counter as its generation.
-pub record IsCanonicalLayout {Gen T : Type 0} (first : Gen) (following : Gen → Gen) (reset : Bool) (old : Seen Gen T) (links : Shown) (new : Seen Gen T) (new_links : Shown) : Type 0 where
-  -- the links in the order in which they lie then: the chains by their least index, each linear one from its start, each
-  -- cyclic one from its least index
-  pub indexes : List ℕ
-  pub order : IsLeastIndexOrder links indexes
-  -- the k-th of them comes to index k, and names the new indexes of its neighbors ..
-  pub renamed : IsRenaming (place_in indexes) links new_links
-  -- .. so that the chains lie in runs, one after another
-  pub runs : AreChains new_links (in_runs 1 order.chains)
-  pub keys : map index_of new.entries ≡ range_with_len 1 (length old.entries)
-  pub values : map (λ t. Some t) (values_in new.entries) ≡ map (λ i. option_map (λ e. e.1) (found i old.entries)) indexes
-  pub counter : new.counter ≡ option_map (counter_after_compression first following reset (length old.entries)) old.counter
-  pub generations : IfSome new.counter (λ g. All (λ e. e.0.1 ≡ g) new.entries)
-  pub slots : AreLaid (length old.entries) old.slots new.slots
-  pub capacity : new.capacity ≡ old.capacity
-  pub maximum : new.maximum ≡ old.maximum

@@ -1,9 +1,7 @@
 // Links numbered: the chains by their least index, each linear one from its start, each cyclic one from its least index.
-ghost use Rattle.std.specs.Prelude.{◌≡◌, ◌≤◌, ℕ, ◌+◌, ◌*◌, length, List, ◌∷◌, None};
-ghost use Rattle.std.specs.Option.{option_map};
+ghost use Rattle.std.specs.Prelude.{◌≡◌, ◌≤◌, ℕ, ◌+◌, length, List, ◌∷◌, None};
 ghost use Rattle.chain_laws.specs.Chains.{Chain, linear, cyclic, Has, IsChain, IsValid, Agrees};
 ghost use Rattle.chain_laws.specs.Starts.{IsStart};
-ghost use Rattle.chain_laws.specs.Walks.{going_on};
 ghost use Rattle.chain_layout.specs.HeldLinks.{shown_in, IsWork};
 ghost use Rattle.chain_layout.specs.Counts.{CountsOn};
 ghost use Rattle.chain_layout.specs.Numbering.{seen_held, given, CanNumber, IsChainNumbered, AreAllNumbered};
@@ -13,6 +11,7 @@ use crate::visiting::Visitor;
 use arena_base::{ArenaSlot, Compactor, inx_at};
 use arena_ptr::{Ptr, PtrInx, SlotStack};
 use chain_links::LinkNoGen;
+use chain_links::walks::going_on;
 
 // The link that the chain of one is written from: the start of a linear one, and itself in a cyclic one. There are no
 // more looks than links in the chain.
@@ -47,16 +46,6 @@ fn start_at<P: Ptr, T: Drop, S: SlotStack<Item = ArenaSlot<P, LinkNoGen<P, T>>>>
     unreachable!()
 }
 
-// Where a walk goes on to, unless it has come round to its start.
-fn on_unless_round<I: PtrInx>(start: I, next: Option<I>) -> Option<I>
-    ensures { option_map I.number result ≡ going_on (I.number start) (option_map I.number next) }
-{
-    match next {
-        Some(k) => if k == start { None } else { Some(k) },
-        None => None,
-    }
-}
-
 // Numbers a chain from its start, where so many links were numbered before, and shows each link to the visitor, by the
 // pointer that it has and the one that it gets. Answers the visitor, and how many are numbered then.
 fn number_chain<P: Ptr, T: Drop, S: SlotStack<Item = ArenaSlot<P, LinkNoGen<P, T>>>, V: Visitor<P>>(
@@ -86,7 +75,7 @@ fn number_chain<P: Ptr, T: Drop, S: SlotStack<Item = ArenaSlot<P, LinkNoGen<P, T
         match was {
             Some(was) => {
                 visitor.visit(P::_from_raw(i, was), P::_from_raw(destination, generation));
-                on = on_unless_round::<P::Inx>(start, next);
+                on = going_on(start, next);
             }
             None => unreachable!(),
         }

@@ -4,3 +4,6 @@ pub mod LinkOrder
 pub mod LinkOrderLaws
 pub mod Texts
 pub mod Kinds
+pub mod Insertions
+pub mod Walkers
+pub mod CanonicalLayouts

@@ -7,6 +7,7 @@ pub mod kinds;
 mod link_order;
 pub mod links;
 mod texts;
+pub mod walks;
 
 pub use kinds::{InsertKindBody, LinkInsertKind};
 pub use link_order::links_compare_by_neighbors;

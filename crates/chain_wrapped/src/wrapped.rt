@@ -5,7 +5,8 @@ use arena_base::{Advancer, ArenaTrait, CompactArenaTrait};
 use arena_ptr::{
     AllocError, ChainInsertionError, InvalidationOption, InvalidationResult, Ptr, ReallocationError,
 };
-use chain_arena::{ChainArenaTrait, Link, LinkInsertKind, LinkNoGen};
+use chain_links::{Link, LinkInsertKind, LinkNoGen};
+use chain_traits::ChainArenaTrait;
 use std::alloc::Global;
 
 /// An arena around an arena.
@@ -223,7 +224,7 @@ impl<P: Ptr, T: Drop, A: ChainArenaTrait<P, T>> ChainArenaTrait<P, T> for Wrappe
     ghost use Rattle.chain_laws.specs.Chains.{Agrees};
     ghost use Rattle.arena_base.specs.Arena.{IsRoom};
     ghost use Rattle.arena_base.specs.Entries.{count, HasRoomLeft, NeedsBeyondMaximum};
-    ghost use Rattle.chain_interlinks.specs.Insertions.{IsInsertion};
+    ghost use Rattle.chain_links.specs.Insertions.{IsInsertion};
     ghost use Rattle.chain_links.specs.Kinds.{names_in, by_index, MayInsert};
 
     type ChainPtrAdvancer = WrappedWalk<A::ChainPtrAdvancer>;

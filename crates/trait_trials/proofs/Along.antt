@@ -11,7 +11,7 @@ use Rattle.chain_laws.proofs.Passing.{has_walk, walk_valid, walk_once}
 use Rattle.chain_laws.proofs.Walking.{walk_passed}
 use Rattle.arena_base.specs.Entries.{found, index_of}
 use Rattle.chain_laws.proofs.Backing.{length_among}
-use Rattle.chain_arena.proofs.Sources.{valid_some, valid_has, links_within}
+use Rattle.chain_traits.proofs.AnyArena.{valid_some, valid_has, links_within}
 
 module _ {Gen T : Type 0} (interlinks : Shown) (entry : ℕ → Option (Gen × T)) (es : List ((ℕ × Gen) × T)) (stands : (i : ℕ) → is_some (interlinks i) ≡ is_some (entry i))
     (looked : (i : ℕ) → found i es ≡ entry i) where

@@ -5,7 +5,7 @@ use Rattle.arena_base.specs.Arena.{IsValid}
 use Rattle.chain_links.specs.ChainArena.{entry}
 use Rattle.chain_links.specs.Links.{seen_link, seen_links, seen_pair}
 use Rattle.chain_links.proofs.Seeing.{entry_at-seen_links}
-use Rattle.chain_interlinks.specs.Walkers.{index_and_entry}
+use Rattle.chain_links.specs.Walkers.{index_and_entry}
 use Rattle.chain_interlinks.proofs.Advancing.{valid_there}
 use Rattle.chain_interlinks.proofs.chain_iterators.look.Goals as goal
 

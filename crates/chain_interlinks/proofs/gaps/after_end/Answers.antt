@@ -2,7 +2,7 @@
 use Rattle.std.proofs.Common.{Some, refl, sym, ap, ◌∙◌}
 use Rattle.std.specs.Prelude.{is_some, not}
 use Rattle.std.proofs.lemmas.Bool.{false≢true}
-use Rattle.chain_interlinks.proofs.Relinking.{is_some-map}
+use Rattle.chain_links.proofs.Mapping.{is_some-map}
 use Rattle.chain_interlinks.proofs.Connecting.{is_none}
 use Rattle.chain_links.specs.ChainArena.{shown, entry}
 use Rattle.chain_links.specs.Links.{seen_links}

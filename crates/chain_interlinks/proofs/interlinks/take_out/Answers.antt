@@ -23,12 +23,12 @@ returns-in-Some g c =
     let link = c.in-Some.link in
     let taken = sym (ap (λ x. x.0) c.overflowing-entry.ensures) ∙ c.in-Some.is in
     let stands : entry_at a n ≡ Some (c.in-Some.generation, link) = sym c.remove_inx.ensures.answer ∙ taken in
-    let found : value_within c.invalidated.result ≡ Some (c.in-Some.generation, link) = search (of_calls, value_within-made) in
+    let found : value_within c.outcome.result ≡ Some (c.in-Some.generation, link) = search (of_calls, value_within-made) in
     let named_prev : option_map number c.prev.result ≡ packed link.prev = search of_calls in
     let named_next : option_map number c.next.result ≡ packed link.next = search of_calls in
     record {
       answer = ap (option_map (seen_pair packed)) found ∙ sym (entry_at-seen_links packed a n ∙ ap (option_map (seen_pair packed)) stands);
-      overflow = same_flag (wraps a.counter) _ _ _ c.remove_inx.result c.invalidated.result taken c.remove_inx.ensures.overflow (ap (λ x. x.1) c.overflowing-entry.ensures) c.invalidated.ensures;
+      overflow = same_flag (wraps a.counter) _ _ _ c.remove_inx.result c.outcome.result taken c.remove_inx.ensures.overflow (ap (λ x. x.1) c.overflowing-entry.ensures) c.outcome.ensures;
       valid = λ _. removal_by_steps g.P.Gen.PtrGen.following (seen_links packed a) (seen_links packed c.remove_inx.new.self) (seen_links packed c.link_up.new.arena) n
           (option_map number c.prev.result) (option_map number c.next.result)
           (ap (seen_links packed) (c.remove_inx.ensures.more (ap is_some stands)) ∙ with_each-remove_at (seen_link packed) g.P.Gen.PtrGen.following a n)

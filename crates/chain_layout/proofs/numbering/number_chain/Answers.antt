@@ -80,10 +80,10 @@ loop-on-preserved g c =
       seen = sent-seen number (g.P.Inx.PtrInx.number c.in-Some.i) (g.P.Inx.PtrInx.number c.inx_at-destination.result) now.held new.held sent ∙ at.seen;
       walks = λ done l can.
           walk_goes_on g.P.Inx.PtrInx.packed_number g.V.Visitor.sees g.P.Ptr.key c.args.generation c.args.visitor c.args.compactor.now.held c.args.compactor.now.arena.now (g.P.Inx.PtrInx.number c.args.start) c.args.before done l can c.loop-on.visitor c.loop-on.compactor.held c.loop-on.compactor.arena.now c.loop-on.count (g.P.Inx.PtrInx.number c.in-Some.i) (walk_at g next done l can) at.seen
-          (g.P.Inx.PtrInx.number c.inx_at-destination.result) new.held new.arena.now c.in-Some-was.was (option_map g.P.Inx.PtrInx.number c.look_at-was.result.2) (option_map g.P.Inx.PtrInx.number c.on_unless_round-on.result)
+          (g.P.Inx.PtrInx.number c.inx_at-destination.result) new.held new.arena.now c.in-Some-was.was (option_map g.P.Inx.PtrInx.number c.look_at-was.result.2) (option_map g.P.Inx.PtrInx.number c.going_on-on.result)
           c._from_raw.result c._from_raw-in-Some-was.result c.visit.new.self
           sent c.inx_at-destination.ensures (work-twice now.arena.now c.look_at-was.new.compactor.arena.now new.arena.now look.looked.arena directs.arena)
-          (sym c.in-Some-was.is ∙ look.generation) look.next c.on_unless_round-on.ensures
+          (sym c.in-Some-was.is ∙ look.generation) look.next c.going_on-on.ensures
           c._from_raw.ensures c._from_raw-in-Some-was.ensures c.visit.ensures.seen;
       counts = counts_on c.args.compactor.now now new at.counts (counts_on now c.look_at-was.new.compactor new look.looked.counts directs.counts);
     }

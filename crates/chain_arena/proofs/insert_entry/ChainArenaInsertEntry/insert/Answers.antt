@@ -4,7 +4,7 @@ use Rattle.chain_laws.specs.Insertions.{IsGap}
 use Rattle.chain_laws.proofs.Gaps.{gap_had}
 use Rattle.arena_base.specs.Arena.{next_index, with_capacity_of}
 use Rattle.chain_links.specs.ChainArena.{shown, insert_between}
-use Rattle.chain_interlinks.specs.Insertions.{index_from}
+use Rattle.chain_links.specs.Insertions.{index_from}
 use Rattle.chain_arena.proofs.Placing.{inserted_between}
 use Rattle.chain_arena.proofs.Telling.{told_between}
 use Rattle.chain_arena.proofs.insert_entry.ChainArenaInsertEntry.insert.Goals as goal

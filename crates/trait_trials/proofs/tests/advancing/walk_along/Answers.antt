@@ -1,7 +1,7 @@
 -- What was passed is the walk, of which nothing is left.
 use Rattle.std.proofs.Common.{sym, ap, ◌∙◌, subst}
 use Rattle.chain_laws.specs.Walks.{IsWalk, passes_ahead}
-use Rattle.chain_arena.proofs.Sources.{entry_valid}
+use Rattle.chain_traits.proofs.AnyArena.{entry_valid}
 use Rattle.trait_trials.proofs.Along.{walk_ahead, walk_whole}
 use Rattle.trait_trials.proofs.tests.advancing.walk_along.Goals as goal
 

@@ -14,12 +14,12 @@ ghost use Rattle.arena_base.specs.Entries.{count, index_of, HasRoomLeft, NeedsBe
 ghost use Rattle.arena_base.specs.Entries.{removed as seen_removed};
 ghost use Rattle.arena_base.specs.Compressing.{overflows_after_compression};
 ghost use Rattle.chain_links.specs.ChainArena.{link_at, on_value, CanConnect, CanExchange, IsLinkAt};
-ghost use Rattle.chain_interlinks.specs.Insertions.{IsInsertion};
+ghost use Rattle.chain_links.specs.Insertions.{IsInsertion};
 ghost use Rattle.chain_links.specs.Kinds.{names_in, by_index, MayInsert};
-ghost use Rattle.chain_layout.specs.Layouts.{IsCanonicalLayout};
+ghost use Rattle.chain_links.specs.CanonicalLayouts.{IsCanonicalLayout};
 ghost use Rattle.chain_links.specs.Links.{seen_link, seen_lent};
 ghost use Rattle.chain_laws.specs.Walks.{Walker, walker_at};
-ghost use Rattle.chain_interlinks.specs.Walkers.{IsPassing};
+ghost use Rattle.chain_links.specs.Walkers.{IsPassing};
 
 use arena_base::{Advancer, ArenaTrait};
 use arena_ptr::{

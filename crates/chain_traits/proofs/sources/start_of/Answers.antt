@@ -2,8 +2,8 @@
 use Rattle.std.proofs.Common.{◌≡◌, Bool, true, false, Some, sym, ap, ◌∙◌, arith, of_calls}
 use Rattle.chain_laws.proofs.Backing.{back_begins, back_goes_on, back_ends, back_comes_round}
 use Rattle.chain_laws.proofs.Standing.{next_valid}
-use Rattle.chain_arena.proofs.Sources.{few_back, valid_some}
-use Rattle.chain_arena.proofs.transfer.start_of.Goals as goal
+use Rattle.chain_traits.proofs.AnyArena.{few_back, valid_some}
+use Rattle.chain_traits.proofs.sources.start_of.Goals as goal
 
 not_both : (b : Bool) → b ≡ true → b ≡ false → ⊥
 not_both b e f = cc

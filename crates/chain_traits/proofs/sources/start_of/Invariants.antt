@@ -1,7 +1,7 @@
 -- So many steps back.
 use Rattle.std.specs.Prelude.{IsSome}
 use Rattle.chain_laws.specs.Starts.{IsBack}
-use Rattle.chain_arena.proofs.transfer.start_of.Given as goal
+use Rattle.chain_traits.proofs.sources.start_of.Given as goal
 
 abbrev pub invariant-loop-step : goal.invariant-loop-step
 invariant-loop-step g l = record {

@@ -2,9 +2,9 @@
 use Rattle.std.proofs.Common.{None, Some, sym, ap, ◌∙◌, subst}
 use Rattle.std.specs.Prelude.{is_some}
 use Rattle.chain_laws.specs.Starts.{IsStart}
-use Rattle.chain_interlinks.proofs.Relinking.{is_some-map}
-use Rattle.chain_arena.proofs.Sources.{next_is, none_is}
-use Rattle.chain_arena.proofs.transfer.next_chain.Goals as goal
+use Rattle.chain_links.proofs.Mapping.{is_some-map}
+use Rattle.chain_traits.proofs.AnyArena.{next_is, none_is}
+use Rattle.chain_traits.proofs.sources.next_chain.Goals as goal
 
 pub start_of-start-requires-clause-some : goal.start_of-start-requires-clause-some
 start_of-start-requires-clause-some g c =

@@ -4,19 +4,23 @@ use Rattle.std.specs.Prelude.{is_some, cond, All, ◌==◌}
 use Rattle.std.specs.List.{AllByRecursion}
 use Rattle.std.proofs.lemmas.List.{length-map}
 use Rattle.std.proofs.lemmas.List.Elements.{recursion_from_All}
-use Rattle.std.proofs.lemmas.Bool.{eqb-true, eq-eqb}
+use Rattle.std.proofs.lemmas.Bool.{eqb-true, eq-eqb, le-leb}
 use Rattle.arena_ptr.specs.Numbers.{IsWithin}
 use Rattle.chain_laws.specs.Chains as chains
 use Rattle.chain_laws.specs.Chains.{Shown, Interlinks, Agrees, Has}
 use Rattle.chain_laws.specs.Starts.{IsBack}
 use Rattle.chain_laws.proofs.Backing.{back_is_short}
 use Rattle.arena_base.specs.Entries.{found, first_key, index_of, RisesFrom}
-use Rattle.arena_base.specs.Advancing.{IsLookUntilNone}
+use Rattle.arena_base.specs.Advancing.{from_index, IsLookUntilNone}
 use Rattle.arena_base.specs.declared.look.Look.{Look}
 use Rattle.arena_base.specs.declared.look.Look.TheVariants.{Up}
-use Rattle.chain_arena.proofs.LinkDraining.{from_index-rises}
 
 module _ {Gen T : Type 0} where
+  -- entries that rise from an index on stand there
+  pub from_index-rises : (i j : ℕ) (es : List ((ℕ × Gen) × T)) → i ≤ j → RisesFrom j es → from_index i es ≡ es
+  from_index-rises i j [] below rises = refl
+  from_index-rises i j (e ∷ es) below rises = ap (λ b. cond b (e ∷ es) (from_index i es)) (le-leb i e.0.0 (omega (arith, below, rises.0)))
+
   -- what is found among entries is one of them
   pub found_has : (i : ℕ) (es : List ((ℕ × Gen) × T)) → is_some (found i es) ≡ true → Has (map index_of es) i
   found_has i [] some = absurd (let h = some in cc)

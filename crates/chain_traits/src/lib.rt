@@ -1,0 +1,7 @@
+//! What is asked of any arena of links, and how its chains are taken out, whatever it is.
+#![tactic(auto)]
+
+mod chain_traits;
+pub mod sources;
+
+pub use chain_traits::ChainArenaTrait;
