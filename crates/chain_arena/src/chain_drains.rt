@@ -16,6 +16,7 @@ use crate::insert_entry::number_or_zero;
 use arena_base::{ArenaSlot, ArenaTrait, invalidated};
 use arena_ptr::{HeapStack, InvalidationOption, Ptr, PtrInx, SlotStack};
 use chain_links::LinkNoGen;
+use chain_links::walks::going_on;
 use chain_traits::ChainArenaTrait;
 
 /// The removal of a chain: an iterator that removes each link as it yields it, in walk order. A link comes with its
@@ -133,12 +134,9 @@ fn yielded<P: Ptr, T>(
 fn goes_on_to<I: PtrInx>(i: I, prev: Option<I>, next: Option<I>) -> Option<I>
     ensures { option_map I.number result ≡ goes_on (I.number i) (option_map I.number prev) (option_map I.number next) }
 {
-    match next {
-        Some(k) if k != i => Some(k),
-        _ => match prev {
-            Some(k) if k != i => Some(k),
-            _ => None,
-        },
+    match going_on(i, next) {
+        Some(k) => Some(k),
+        None => going_on(i, prev),
     }
 }
 
