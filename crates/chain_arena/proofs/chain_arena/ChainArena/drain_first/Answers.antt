@@ -13,5 +13,5 @@ pub returns-in-Some-value-clause-some : goal.returns-in-Some-value-clause-some
 returns-in-Some-value-clause-some g c =
     let index : c.number_or_zero.result ≡ (g.P.Ptr.key c.in-Some.p).0 = index_from-is c.number_or_zero.result _ c.number_or_zero.ensures.index ∙ c.inx.ensures in
     drained_first g.P.Ptr.key g.P.Gen.PtrGen.following g.P.Gen.PtrGen.wraps c.args.self.now c.remove.new.self c.args.at c.number_or_zero.result c.in-Some.p c.in-Some.ensures c.remove.result c.remove.ensures.valid
-    c.in-Some-value.t c.overflowing-value.result.1 c.drained.result c.remove.ensures.overflow (λ valid. (c.remove.ensures.more valid).state)
-    (sym (ap (λ x. x.0) c.overflowing-value.ensures) ∙ c.in-Some-value.is) (ap (λ x. x.1) c.overflowing-value.ensures) c.drained.ensures index
+    c.in-Some-value.t c.overflowing-value.result.1 c.invalidated.result c.remove.ensures.overflow (λ valid. (c.remove.ensures.more valid).state)
+    (sym (ap (λ x. x.0) c.overflowing-value.ensures) ∙ c.in-Some-value.is) (ap (λ x. x.1) c.overflowing-value.ensures) c.invalidated.ensures index
