@@ -1,6 +1,7 @@
 //! Places for links: used, given up and forgotten.
 
 ghost use Rattle.std.specs.Prelude.{◌≡◌, ◌↔◌, IfOk, OnOk, OnErr, Err};
+ghost use Rattle.arena_ptr.specs.ToolPtr.{key_of};
 ghost use Rattle.arena_base.specs.Arena.{next_index, with_capacity_of};
 ghost use Rattle.chain_links.specs.ChainArena.{entry, shown, insert_as};
 ghost use Rattle.chain_links.specs.Kinds.{names_in, by_index, MayInsert};
@@ -33,11 +34,11 @@ pub(super) fn insert_by_entry<P: Ptr, S: SlotStack<Item = ArenaSlot<P, LinkNoGen
 }
 
 // The pointer of a place that is given up.
-pub(super) fn give_up<P: Ptr, S: SlotStack<Item = ArenaSlot<P, LinkNoGen<P, u32>>>>(
-    arena: &mut ChainArena<P, u32, S>,
-    kind: LinkInsertKind<P>,
-) -> Result<P, ChainInsertionError>
-    ensures place { IfOk result (λ p. P.key p ≡ (next_index arena.old, arena.old.counter)) }
+pub(super) fn give_up(
+    arena: &mut Chains,
+    kind: LinkInsertKind<ToolPtr>,
+) -> Result<ToolPtr, ChainInsertionError>
+    ensures place { IfOk result (λ p. key_of p ≡ (next_index arena.old, arena.old.counter)) }
     ensures same { arena.new ≡ with_capacity_of arena.old arena.new }
 {
     let entry = arena.entry_insert_reallocating(kind)?;

@@ -1,22 +1,18 @@
 //! Values by pointers and indexes that are valid.
 
 ghost use Rattle.std.specs.Prelude.{◌≡◌};
+ghost use Rattle.arena_ptr.specs.ToolPtr.{key_of};
 ghost use Rattle.arena_base.specs.Arena.{IsValid};
 ghost use Rattle.chain_links.specs.ChainArena.{entry, with_value_at};
 
 use super::Chains;
-use arena_base::{ArenaSlot, ArenaTrait};
-use arena_ptr::{Inx32, Ptr, SlotStack, ToolPtr};
-use chain_arena::{ChainArena, LinkNoGen};
+use arena_base::ArenaTrait;
+use arena_ptr::{Inx32, ToolPtr};
 
 // Writes a value. Nothing else changes.
-fn write<P: Ptr, T: Drop, S: SlotStack<Item = ArenaSlot<P, LinkNoGen<P, T>>>>(
-    arena: &mut ChainArena<P, T, S>,
-    p: P,
-    t: T,
-)
-    requires { IsValid (entry arena.old) (P.key p) }
-    ensures { arena.new ≡ with_value_at arena.old (P.key p).0 t }
+fn write(arena: &mut Chains, p: ToolPtr, t: u32)
+    requires { IsValid (entry arena.old) (key_of p) }
+    ensures { arena.new ≡ with_value_at arena.old (key_of p).0 t }
 {
     arena[p] = t;
 }
