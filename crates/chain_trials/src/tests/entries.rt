@@ -1,6 +1,7 @@
 //! Places for links: used, given up and forgotten.
 
 ghost use Rattle.std.specs.Prelude.{◌≡◌, ◌↔◌, IfOk, OnOk, OnErr, Err};
+ghost use Rattle.arena_ptr.specs.Indexes.{number_of_inx32};
 ghost use Rattle.arena_ptr.specs.ToolPtr.{key_of};
 ghost use Rattle.arena_base.specs.Arena.{next_index, with_capacity_of};
 ghost use Rattle.chain_links.specs.ChainArena.{entry, shown, insert_as};
@@ -8,24 +9,23 @@ ghost use Rattle.chain_links.specs.Kinds.{names_in, by_index, MayInsert};
 
 use super::scripts::{Do, Kind, Line, plays};
 use super::{Chains, LimitedChains, at, limited, same};
-use arena_base::{ArenaSlot, ArenaTrait};
+use arena_base::ArenaTrait;
 use arena_ptr::{
-    ChainInsertionError, MaxCapacityReductionError, Ptr, ReallocationError, SetMaxCapacity,
-    SlotStack, ToolPtr,
+    ChainInsertionError, MaxCapacityReductionError, ReallocationError, SetMaxCapacity, ToolPtr,
 };
-use chain_arena::{ChainArena, ChainArenaTrait, LinkInsertKind, LinkNoGen};
+use chain_arena::{ChainArenaTrait, LinkInsertKind};
 use std::mem;
 
 // A link in a place that was made for it, which is what an insertion in one call is.
-pub(super) fn insert_by_entry<P: Ptr, S: SlotStack<Item = ArenaSlot<P, LinkNoGen<P, u32>>>>(
-    arena: &mut ChainArena<P, u32, S>,
-    kind: LinkInsertKind<P>,
+pub(super) fn insert_by_entry(
+    arena: &mut Chains,
+    kind: LinkInsertKind<ToolPtr>,
     t: u32,
-) -> Result<P, ChainInsertionError>
-    ensures place { IfOk result (λ p. P.key p ≡ (next_index arena.old, arena.old.counter)) }
-    ensures state { OnOk result (arena.new ≡ with_capacity_of (insert_as arena.old (by_index (names_in P.key P.Inx.number kind)) t) arena.new) }
+) -> Result<ToolPtr, ChainInsertionError>
+    ensures place { IfOk result (λ p. key_of p ≡ (next_index arena.old, arena.old.counter)) }
+    ensures state { OnOk result (arena.new ≡ with_capacity_of (insert_as arena.old (by_index (names_in key_of number_of_inx32 kind)) t) arena.new) }
     ensures err { OnErr result (arena.new ≡ arena.old) }
-    ensures link { (result ≡ Err ChainInsertionError.FailedLinkRequirement) ↔ ¬ MayInsert (entry arena.old) (shown arena.old) (names_in P.key P.Inx.number kind) }
+    ensures link { (result ≡ Err ChainInsertionError.FailedLinkRequirement) ↔ ¬ MayInsert (entry arena.old) (shown arena.old) (names_in key_of number_of_inx32 kind) }
 {
     let entry = arena.entry_insert_reallocating(kind)?;
     let p = entry.ptr();

@@ -1,12 +1,13 @@
-//! The iterators over all links and along chains, and what generic code shows of them.
+//! The iterators over all links and along chains, and what a loop shows of them.
 
 ghost use Rattle.std.specs.Prelude.{◌≡◌, IfOk, map};
+ghost use Rattle.arena_ptr.specs.Indexes.{number_of_inx32};
 ghost use Rattle.arena_base.specs.Arena.{entry_count};
 ghost use Rattle.arena_base.specs.Entries.{entries, index_of};
 
 use super::{Chains, Slot, text};
-use arena_base::{ArenaSlot, ArenaTrait, Iter};
-use arena_ptr::{HeapStack, Inx32, Ptr, SlotStack, ToolPtr};
+use arena_base::{ArenaTrait, Iter};
+use arena_ptr::{HeapStack, Inx32, Ptr, ToolPtr};
 use chain_arena::{ChainArena, LinkNoGen};
 use std::alloc::{AllocError, Global};
 use std::mem;
@@ -16,9 +17,7 @@ use std::process::Abort;
 type Links<'a> = Iter<'a, ToolPtr, LinkNoGen<ToolPtr, u32>, HeapStack<Slot>>;
 
 // How many links there are, counted one by one.
-fn count_links<P: Ptr, T: Drop, S: SlotStack<Item = ArenaSlot<P, LinkNoGen<P, T>>>>(
-    arena: &ChainArena<P, T, S>,
-) -> usize
+fn count_links(arena: &Chains) -> usize
     ensures { result ≡ entry_count arena.now }
 {
     let mut count = 0;
@@ -29,11 +28,8 @@ fn count_links<P: Ptr, T: Drop, S: SlotStack<Item = ArenaSlot<P, LinkNoGen<P, T>
 }
 
 // The indexes of all links.
-fn indexes<P: Ptr, T: Drop, S: SlotStack<Item = ArenaSlot<P, LinkNoGen<P, T>>>>(
-    alloc: Global,
-    arena: &ChainArena<P, T, S>,
-) -> Result<Vec<P::Inx>, AllocError>
-    ensures { IfOk result (λ all. map P.Inx.number all.items ≡ map index_of (entries arena.now)) }
+fn indexes(alloc: Global, arena: &Chains) -> Result<Vec<Inx32>, AllocError>
+    ensures { IfOk result (λ all. map number_of_inx32 all.items ≡ map index_of (entries arena.now)) }
 {
     let mut all = Vec::new(alloc);
     for (p, _) in arena {

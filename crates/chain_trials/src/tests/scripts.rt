@@ -181,14 +181,16 @@ pub(super) fn plays_all<A: Answers + Drop>(rt: &impl Abort, alloc: Global, table
     }
 }
 
-// Each script on a new arena, and lines that follow on it.
+// Each script on a new arena, and lines that follow on it; for each such list of lines anew.
 pub(super) fn plays_on<A: Answers + Drop>(
     rt: &impl Abort,
     alloc: Global,
-    table: &[(Script, &[Line])],
+    table: &[(Script, &[&[Line]])],
 ) {
-    for (script, lines) in table {
-        let mut arena: A = played(rt, alloc, *script);
-        plays(rt, alloc, script.0, &mut arena, lines);
+    for (script, lists) in table {
+        for lines in *lists {
+            let mut arena: A = played(rt, alloc, *script);
+            plays(rt, alloc, script.0, &mut arena, lines);
+        }
     }
 }
