@@ -2,15 +2,20 @@
 
 use super::scripts::{Do, Kind, Line, Script, plays_on};
 use super::{Chains, at, lone_links, same};
-use arena_base::ArenaTrait;
+use arena_base::{ArenaTrait, Work};
 use arena_ptr::{AllocError, InvalidationOption, ToolPtr};
 use chain_arena::ChainArenaTrait;
 use std::alloc::Global;
 use std::process::Abort;
 
-// Compresses, and tells how many links were placed.
+// Compresses, and tells the work.
+pub(super) fn counted(arena: &mut Chains, reset: bool) -> (InvalidationOption<()>, Work) {
+    arena.compress_canonical_counted(reset)
+}
+
+// .. how many links were placed.
 pub(super) fn placed(arena: &mut Chains, reset: bool) -> (InvalidationOption<()>, u128) {
-    let (told, work) = arena.compress_canonical_counted(reset);
+    let (told, work) = counted(arena, reset);
     (told, work.placed)
 }
 
@@ -178,7 +183,7 @@ fn within_bound(rt: &impl Abort, alloc: Global, count: u32, reset: bool) -> bool
         arena.remove(at(rt, (k, 2)));
     }
     let links = u128::from(count);
-    let (_, work) = arena.compress_canonical_counted(reset);
+    let (_, work) = counted(&mut arena, reset);
     let slots = links.saturating_mul(2);
     let bound = slots
         .saturating_mul(4)

@@ -1,8 +1,8 @@
 //! Copies of chain arenas: what they have, what their closures saw, and when one is refused.
 
-use super::scripts::{Do, Kind, Line, Script, plays, plays_on};
+use super::scripts::{Do, Kind, Line, Script, plays_all, plays_on};
 use super::steps::{Step, after};
-use super::{Chains, LimitedChains, Slot, at, limited, same, text};
+use super::{Chains, LimitedChains, Slot, at, same, text};
 use arena_base::{Arena, ArenaSlot, ArenaTrait};
 use arena_ptr::{LimitedStack, ReallocationError, SetMaxCapacity, SlotStack, ToolPtr};
 use chain_arena::{ChainArena, ChainArenaTrait, LinkInsertKind, LinkNoGen};
@@ -149,22 +149,27 @@ fn copied_to_two(rt: &impl Abort, alloc: Global) -> String {
 }
 
 // A maximum is not carried over, and a copy of three slots is refused where there may be two.
-const IN_TWO_SLOTS: [Line; 6] = [
-    (Do::Insert(Kind::Disconnected, 1), "Ok(P0[1](2))"),
-    (Do::Maximum, "Some(2)"),
-    (
-        Do::Clone,
-        "(Ok(P0[2](2)), {P0[1](2): {(start), (end)} 1, P0[2](2): {(start), (end)} 9}, None)",
-    ),
-    (Do::CopyOver, "(Err(BeyondMaxCapacity), [])"),
-    (Do::Debug, "{P0[1](2): {(start), (end)} 1}"),
-    (Do::Maximum, "Some(2)"),
-];
+const IN_TWO_SLOTS: [Script; 1] = [(
+    "two slots",
+    0,
+    &[],
+    &[
+        (Do::SetMaximum(2), "Ok(())"),
+        (Do::Insert(Kind::Disconnected, 1), "Ok(P0[1](2))"),
+        (Do::Maximum, "Some(2)"),
+        (
+            Do::Clone,
+            "(Ok(P0[2](2)), {P0[1](2): {(start), (end)} 1, P0[2](2): {(start), (end)} 9}, None)",
+        ),
+        (Do::CopyOver, "(Err(BeyondMaxCapacity), [])"),
+        (Do::Debug, "{P0[1](2): {(start), (end)} 1}"),
+        (Do::Maximum, "Some(2)"),
+    ],
+)];
 
 #[test]
 fn copies_beyond_the_maximum(rt: HostRuntime) {
-    let mut arena = limited(&rt, rt.alloc(), 2);
-    plays(&rt, rt.alloc(), "two slots", &mut arena, &IN_TWO_SLOTS);
+    plays_all::<LimitedChains>(&rt, rt.alloc(), &IN_TWO_SLOTS);
     let told = copied_to_two(&rt, rt.alloc());
     let want = "(Ok(()), (Err(BeyondMaxCapacity), []), Ok(P0[1](2)))";
     same(

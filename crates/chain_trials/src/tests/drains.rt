@@ -1,6 +1,6 @@
 //! Chains, and all links, that are removed one after another.
 
-ghost use Rattle.std.specs.Prelude.{◌≡◌, ◌↔◌, [], length, IsTrue};
+ghost use Rattle.std.specs.Prelude.{◌≡◌, ◌↔◌, [], length, IsTrue, false};
 ghost use Rattle.arena_ptr.specs.Generations.{after32};
 ghost use Rattle.arena_ptr.specs.ToolPtr.{key_of};
 ghost use Rattle.arena_base.specs.Arena.{IsValid};
@@ -43,15 +43,6 @@ pub(super) fn remove_all(arena: &mut Chains)
     drop(arena.drain());
 }
 
-// The same where one link was taken before.
-pub(super) fn remove_one_and_all(arena: &mut Chains)
-    ensures none { entries (values_of arena.new) ≡ [] }
-{
-    let mut drain = arena.drain();
-    let _ = drain.next();
-    drop(drain);
-}
-
 // All that a drain of a chain yields.
 pub(super) fn drained_chain(
     rt: &impl Abort,
@@ -88,12 +79,21 @@ pub(super) fn drained(rt: &impl Abort, alloc: Global, arena: &mut Chains) -> Str
     text(rt, alloc, all)
 }
 
-// The first link that it yields, whereupon it is dropped or forgotten.
-pub(super) fn takes_one(arena: &mut Chains, is_forgotten: bool) -> Option<ValueGone> {
+// The first link that it yields, whereupon it is dropped or forgotten. None is left if it is dropped.
+pub(super) fn takes_one(arena: &mut Chains, is_forgotten: bool) -> Option<ValueGone>
+    ensures none { is_forgotten ≡ false → entries (values_of arena.new) ≡ [] }
+{
     let mut drain = arena.drain();
     let gone = drain.next();
     if is_forgotten {
         forget(drain);
     }
     gone
+}
+
+// Removes all links, where one was taken before.
+pub(super) fn remove_one_and_all(arena: &mut Chains)
+    ensures none { entries (values_of arena.new) ≡ [] }
+{
+    takes_one(arena, false);
 }

@@ -7,12 +7,10 @@ ghost use Rattle.arena_base.specs.Arena.{next_index, with_capacity_of};
 ghost use Rattle.chain_links.specs.ChainArena.{entry, shown, insert_as};
 ghost use Rattle.chain_links.specs.Kinds.{names_in, by_index, MayInsert};
 
-use super::scripts::{Do, Kind, Line, plays};
-use super::{Chains, LimitedChains, at, limited, same};
+use super::scripts::{Do, Kind, Script, plays_all};
+use super::{Chains, LimitedChains};
 use arena_base::ArenaTrait;
-use arena_ptr::{
-    ChainInsertionError, MaxCapacityReductionError, ReallocationError, SetMaxCapacity, ToolPtr,
-};
+use arena_ptr::{ChainInsertionError, ReallocationError, ToolPtr};
 use chain_arena::{ChainArenaTrait, LinkInsertKind};
 use std::mem;
 
@@ -92,7 +90,7 @@ pub(super) fn forget(
 }
 
 // How a place for a link of a kind is refused, by growth and within the capacity.
-fn place_refusals(
+pub(super) fn place_refusals(
     arena: &mut LimitedChains,
     kind: LinkInsertKind<ToolPtr>,
 ) -> [Option<ChainInsertionError>; 2] {
@@ -107,51 +105,46 @@ fn place_refusals(
     [growing, within]
 }
 
-// Two links fill an arena with a maximum of two.
-const FULL: [Line; 7] = [
-    (Do::Insert(Kind::Disconnected, 1), "Ok(P0[1](2))"),
-    (Do::Insert(Kind::Disconnected, 2), "Ok(P0[2](2))"),
-    (Do::Insert(Kind::Disconnected, 3), "Err(BeyondMaxCapacity)"),
-    (
-        Do::InsertWithin(Kind::Disconnected, 3),
-        "Err(NotWithinCapacity)",
-    ),
-    (
-        Do::Insert(Kind::ChainEnd((9, 9)), 3),
-        "Err(FailedLinkRequirement)",
-    ),
-    (
-        Do::InsertWithin(Kind::ChainEnd((9, 9)), 3),
-        "Err(FailedLinkRequirement)",
-    ),
-    (Do::Reserve(3), "Err(BeyondMaxCapacity)"),
-];
-
-// .. and do still.
-const FULL_STILL: [Line; 3] = [
-    (Do::Len, "2"),
-    (Do::HasRoom(3), "false"),
-    (Do::Maximum, "Some(2)"),
-];
+// Two links fill an arena with a maximum of two, and do still when calls were refused.
+const FULL: [Script; 1] = [(
+    "a maximum of two",
+    0,
+    &[],
+    &[
+        (Do::SetMaximum(2), "Ok(())"),
+        (Do::Insert(Kind::Disconnected, 1), "Ok(P0[1](2))"),
+        (Do::Insert(Kind::Disconnected, 2), "Ok(P0[2](2))"),
+        (Do::Insert(Kind::Disconnected, 3), "Err(BeyondMaxCapacity)"),
+        (
+            Do::InsertWithin(Kind::Disconnected, 3),
+            "Err(NotWithinCapacity)",
+        ),
+        (
+            Do::Insert(Kind::ChainEnd((9, 9)), 3),
+            "Err(FailedLinkRequirement)",
+        ),
+        (
+            Do::InsertWithin(Kind::ChainEnd((9, 9)), 3),
+            "Err(FailedLinkRequirement)",
+        ),
+        (Do::Reserve(3), "Err(BeyondMaxCapacity)"),
+        (
+            Do::PlaceRefusals(Kind::Disconnected),
+            "[Some(BeyondMaxCapacity), Some(NotWithinCapacity)]",
+        ),
+        (
+            Do::PlaceRefusals(Kind::ChainEnd((9, 9))),
+            "[Some(FailedLinkRequirement), Some(FailedLinkRequirement)]",
+        ),
+        (Do::SetMaximum(1), "Err(MaxCapacityReductionError)"),
+        (Do::Len, "2"),
+        (Do::HasRoom(3), "false"),
+        (Do::Maximum, "Some(2)"),
+    ],
+)];
 
 // What a kind asks is tested before the room, and nothing changes.
 #[test]
 fn refusals_in_their_order(rt: HostRuntime) {
-    let mut arena = limited(&rt, rt.alloc(), 2);
-    plays(&rt, rt.alloc(), "a maximum of two", &mut arena, &FULL);
-    let beyond = Some(ChainInsertionError::BeyondMaxCapacity);
-    let full = Some(ChainInsertionError::NotWithinCapacity);
-    let refused = place_refusals(&mut arena, LinkInsertKind::Disconnected);
-    same(&rt, "room", refused, [beyond, full]);
-    let link = Some(ChainInsertionError::FailedLinkRequirement);
-    let behind = LinkInsertKind::ChainEnd(at(&rt, (9, 9)));
-    same(
-        &rt,
-        "link",
-        place_refusals(&mut arena, behind),
-        [link, link],
-    );
-    let less = arena.set_max_capacity(1);
-    same(&rt, "less", less, Err(MaxCapacityReductionError));
-    plays(&rt, rt.alloc(), "full still", &mut arena, &FULL_STILL);
+    plays_all::<LimitedChains>(&rt, rt.alloc(), &FULL);
 }

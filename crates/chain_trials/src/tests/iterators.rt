@@ -5,10 +5,11 @@ ghost use Rattle.arena_ptr.specs.Indexes.{number_of_inx32};
 ghost use Rattle.arena_base.specs.Arena.{entry_count};
 ghost use Rattle.arena_base.specs.Entries.{entries, index_of};
 
+use super::scripts::Answers;
 use super::{Chains, Slot, text};
-use arena_base::{ArenaTrait, Iter};
+use arena_base::Iter;
 use arena_ptr::{HeapStack, Inx32, Ptr, ToolPtr};
-use chain_arena::{ChainArena, LinkNoGen};
+use chain_arena::LinkNoGen;
 use std::alloc::{AllocError, Global};
 use std::mem;
 use std::process::Abort;
@@ -65,7 +66,7 @@ pub(super) fn links_by_reference(rt: &impl Abort, alloc: Global, arena: &Chains)
 }
 
 pub(super) fn links_used_up(rt: &impl Abort, alloc: Global, arena: &mut Chains) -> String {
-    let links = mem::replace(arena, ChainArena::new(alloc)).into_iter();
+    let links = mem::replace(arena, Chains::fresh(alloc)).into_iter();
     let all: Vec<(ToolPtr, LinkNoGen<ToolPtr, u32>)> = links.collect(alloc).expect(rt, "memory");
     text(rt, alloc, all)
 }

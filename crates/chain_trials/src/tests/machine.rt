@@ -1,8 +1,7 @@
 //! Lists of calls, and the replies to them.
 
-use super::scripts::{Do, Kind, Line, look};
+use super::scripts::{Answers, Do, Kind, Line, look};
 use super::{Chains, Slot, at, generation, index, limited, same, text};
-use arena_base::ArenaTrait;
 use arena_ptr::{SlotStack, ToolPtr};
 use chain_arena::{Call, ChainArena, LinkInsertKind, Reply, run_calls};
 use std::alloc::Global;
@@ -282,7 +281,7 @@ const EVERY_REPLY: List = (
 #[test]
 fn lists_of_calls_with_their_replies(rt: HostRuntime) {
     for lists in LISTS {
-        let mut arena = Chains::new(rt.alloc());
+        let mut arena = Chains::fresh(rt.alloc());
         for list in lists {
             replies(&rt, rt.alloc(), &mut arena, *list);
         }

@@ -55,6 +55,9 @@ pub(super) enum Do {
     Clone,
     CopyOver,
     CopyToPlain,
+    // Of an arena with a limited stack: its maximum set, and how places for a link are refused.
+    SetMaximum(usize),
+    PlaceRefusals(Kind),
     // Values by what is valid, walks, and loops over all links.
     Value(At),
     ValueInx(u32),
