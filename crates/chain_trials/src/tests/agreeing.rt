@@ -45,13 +45,18 @@ const ROWS: [(&str, &[At], bool); 15] = [
 
 const REFUSAL: &str = "interlink transitivity does not hold";
 
+// Looks whether interlinks agree, and whether their arena is refused otherwise.
+fn agree_or_not(rt: &impl Abort, what: &str, arena: Plain, agree: bool) {
+    same(rt, what, links_agree(&arena), agree);
+    let want = if agree { None } else { Some(REFUSAL) };
+    same(rt, what, Chains::from_arena(arena).err(), want);
+}
+
 #[test]
 fn interlinks_that_agree_or_not(rt: HostRuntime) {
     for (what, links, agree) in ROWS {
         let arena = plain(&rt, rt.alloc(), links, &[]);
-        same(&rt, what, links_agree(&arena), agree);
-        let want = if agree { None } else { Some(REFUSAL) };
-        same(&rt, what, Chains::from_arena(arena).err(), want);
+        agree_or_not(&rt, what, arena, agree);
     }
 }
 
@@ -59,7 +64,7 @@ fn interlinks_that_agree_or_not(rt: HostRuntime) {
 #[test]
 fn an_interlink_to_a_freed_index(rt: HostRuntime) {
     let arena = plain(&rt, rt.alloc(), &[(0, 2), (1, 0)], &[2]);
-    same(&rt, "the interlinks", links_agree(&arena), false);
+    agree_or_not(&rt, "the interlinks", arena, false);
 }
 
 // A row of two and a ring of one, between which two links are gone, of which the last freed index is used first, and the other

@@ -9,14 +9,6 @@ use super::Chains;
 use arena_base::ArenaTrait;
 use arena_ptr::{Inx32, ToolPtr};
 
-// Writes a value. Nothing else changes.
-fn write(arena: &mut Chains, p: ToolPtr, t: u32)
-    requires { IsValid (entry arena.old) (key_of p) }
-    ensures { arena.new ≡ with_value_at arena.old (key_of p).0 t }
-{
-    arena[p] = t;
-}
-
 // The value of a pointer, and of an index, where it is valid.
 pub(super) fn value_at(arena: &Chains, p: ToolPtr) -> Option<u32> {
     if arena.contains(p) {
@@ -34,12 +26,14 @@ pub(super) fn value_at_index(arena: &Chains, i: Inx32) -> Option<u32> {
     }
 }
 
-// Writes one, and tells whether it is valid.
-pub(super) fn write_at(arena: &mut Chains, p: ToolPtr, t: u32) -> bool {
+// Writes one, and tells whether it is valid. Nothing else changes.
+pub(super) fn write_at(arena: &mut Chains, p: ToolPtr, t: u32) -> bool
+    ensures { IsValid (entry arena.old) (key_of p) → arena.new ≡ with_value_at arena.old (key_of p).0 t }
+{
     if !arena.contains(p) {
         return false;
     }
-    write(arena, p, t);
+    arena[p] = t;
     true
 }
 
