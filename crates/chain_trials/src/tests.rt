@@ -14,9 +14,10 @@ mod scripts;
 mod steps;
 mod texts;
 
-use arena_base::{ArenaSlot, ArenaTrait};
+use arena_base::ArenaSlot;
 use arena_ptr::{Gen32, Inx32, LimitedStack, Ptr, SetMaxCapacity, ToolPtr};
 use chain_arena::{ChainArena, ChainArenaTrait, LinkInsertKind, LinkNoGen};
+use scripts::Answers;
 use std::alloc::Global;
 use std::fmt::Debug;
 use std::process::Abort;
@@ -70,7 +71,7 @@ fn put<T: Drop>(
 
 // So many lone links, each with its index as its value.
 fn lone_links(rt: &impl Abort, alloc: Global, count: u32) -> Chains {
-    let mut arena = Chains::new(alloc);
+    let mut arena = Chains::fresh(alloc);
     for k in 1..=count {
         put(rt, &mut arena, LinkInsertKind::Disconnected, k);
     }
@@ -79,7 +80,7 @@ fn lone_links(rt: &impl Abort, alloc: Global, count: u32) -> Chains {
 
 // An arena with a maximum.
 fn limited(rt: &impl Abort, alloc: Global, most: usize) -> LimitedChains {
-    let mut arena = LimitedChains::new(alloc);
+    let mut arena = LimitedChains::fresh(alloc);
     assert!(rt; arena.set_max_capacity(most).is_ok());
     arena
 }

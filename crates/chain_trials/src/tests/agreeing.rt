@@ -10,12 +10,16 @@ use std::process::Abort;
 
 type Plain = Arena<ToolPtr, LinkNoGen<ToolPtr, u32>>;
 
-// A plain arena of links that name these indexes, 0 for none, as the one before and the one after; the value is 7.
-fn plain(rt: &impl Abort, alloc: Global, links: &[At]) -> Plain {
+// A plain arena of links that name these indexes, 0 for none, as the one before and the one after; the value is 7. Some are
+// gone again.
+fn plain(rt: &impl Abort, alloc: Global, links: &[At], gone: &[u32]) -> Plain {
     let mut arena = Plain::new(alloc);
     for (prev, next) in links {
         let link = LinkBody::new((Inx32::new(*prev), Inx32::new(*next)), 7);
         assert!(rt; arena.insert_reallocating(link).is_ok());
+    }
+    for k in gone {
+        assert!(rt; arena.remove(at(rt, (*k, 2))).allow().is_some());
     }
     arena
 }
@@ -41,27 +45,26 @@ const ROWS: [(&str, &[At], bool); 15] = [
 
 const REFUSAL: &str = "interlink transitivity does not hold";
 
+// Looks whether interlinks agree, and whether their arena is refused otherwise.
+fn agree_or_not(rt: &impl Abort, what: &str, arena: Plain, agree: bool) {
+    same(rt, what, links_agree(&arena), agree);
+    let want = if agree { None } else { Some(REFUSAL) };
+    same(rt, what, Chains::from_arena(arena).err(), want);
+}
+
 #[test]
 fn interlinks_that_agree_or_not(rt: HostRuntime) {
     for (what, links, agree) in ROWS {
-        let arena = plain(&rt, rt.alloc(), links);
-        same(&rt, what, links_agree(&arena), agree);
-        let want = if agree { None } else { Some(REFUSAL) };
-        same(&rt, what, Chains::from_arena(arena).err(), want);
+        let arena = plain(&rt, rt.alloc(), links, &[]);
+        agree_or_not(&rt, what, arena, agree);
     }
 }
 
 // A link that is gone is named by none: the indexes before are those of before.
 #[test]
 fn an_interlink_to_a_freed_index(rt: HostRuntime) {
-    let mut arena = plain(&rt, rt.alloc(), &[(0, 2), (1, 0)]);
-    same(
-        &rt,
-        "gone",
-        arena.remove(at(&rt, (2, 2))).allow().is_some(),
-        true,
-    );
-    same(&rt, "the interlinks", links_agree(&arena), false);
+    let arena = plain(&rt, rt.alloc(), &[(0, 2), (1, 0)], &[2]);
+    agree_or_not(&rt, "the interlinks", arena, false);
 }
 
 // A row of two and a ring of one, between which two links are gone, of which the last freed index is used first, and the other
@@ -86,11 +89,8 @@ const ACCEPTED: [Line; 5] = [
 // Indexes, generations and interlinks stay, and so do the counter and the freed list.
 #[test]
 fn what_is_accepted_stays(rt: HostRuntime) {
-    let mut arena = plain(&rt, rt.alloc(), &[(0, 3), (0, 0), (1, 0), (0, 0), (5, 5)]);
-    for k in [4, 2] {
-        let gone = arena.remove(at(&rt, (k, 2))).allow();
-        same(&rt, "gone", gone.is_some(), true);
-    }
+    let links = [(0, 3), (0, 0), (1, 0), (0, 0), (5, 5)];
+    let arena = plain(&rt, rt.alloc(), &links, &[4, 2]);
     let mut arena = Chains::from_arena(arena).expect(&rt, "interlinks that agree");
     plays(&rt, rt.alloc(), "accepted", &mut arena, &ACCEPTED);
 }

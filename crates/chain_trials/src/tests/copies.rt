@@ -1,7 +1,8 @@
 //! Copies of chain arenas: what they have, what their closures saw, and when one is refused.
 
-use super::scripts::{Do, Kind, Line, Script, plays, plays_on};
-use super::{Chains, LimitedChains, Slot, at, limited, lone_links, put, same, text};
+use super::scripts::{Do, Kind, Line, Script, plays_all, plays_on};
+use super::steps::{Step, after};
+use super::{Chains, LimitedChains, Slot, at, same, text};
 use arena_base::{Arena, ArenaSlot, ArenaTrait};
 use arena_ptr::{LimitedStack, ReallocationError, SetMaxCapacity, SlotStack, ToolPtr};
 use chain_arena::{ChainArena, ChainArenaTrait, LinkInsertKind, LinkNoGen};
@@ -21,13 +22,17 @@ pub(super) fn cloned<S: SlotStack<Item = Slot>>(
 
 // A chain of the links 1, 2 and 3, of which the second is removed.
 fn with_a_hole(rt: &impl Abort, alloc: Global) -> Chains {
-    let mut arena: Chains = lone_links(rt, alloc, 3);
-    for (i, j) in [(1, 2), (2, 3)] {
-        let tied = arena.connect(at(rt, (i, 2)), at(rt, (j, 2)));
-        assert!(rt; tied.is_some());
-    }
-    arena.remove(at(rt, (2, 2)));
-    arena
+    let steps = [
+        Step::Add(Kind::Disconnected, 1),
+        Step::Add(Kind::ChainEnd((1, 2)), 2),
+        Step::Add(Kind::ChainEnd((2, 2)), 3),
+        Step::Remove((2, 2)),
+    ];
+    after(
+        rt,
+        alloc,
+        Vec::from_array(alloc, steps).expect(rt, "memory"),
+    )
 }
 
 // What a closure saw of a copied link.
@@ -89,32 +94,31 @@ const HOLE: Script = (
     &[(Do::Remove((2, 2)), "Success(2)")],
 );
 
-const COPIES: [(Script, &[Line]); 3] = [
+const COPIES: [(Script, &[&[Line]]); 2] = [
     (
         HOLE,
         &[
-            (
-                Do::Clone,
-                "(Ok(P0[2](3)), {P0[1](2): {(start), 3} 1, P0[2](3): {(start), (end)} 9, P0[3](2): {1, (end)} 3}, None)",
-            ),
-            (
-                Do::Debug,
-                "{P0[1](2): {(start), 3} 1, P0[3](2): {1, (end)} 3}",
-            ),
-            (Do::Insert(Kind::Disconnected, 9), "Ok(P0[2](3))"),
+            &[
+                (
+                    Do::Clone,
+                    "(Ok(P0[2](3)), {P0[1](2): {(start), 3} 1, P0[2](3): {(start), (end)} 9, P0[3](2): {1, (end)} 3}, None)",
+                ),
+                (
+                    Do::Debug,
+                    "{P0[1](2): {(start), 3} 1, P0[3](2): {1, (end)} 3}",
+                ),
+                (Do::Insert(Kind::Disconnected, 9), "Ok(P0[2](3))"),
+            ],
+            &[(
+                Do::CopyToPlain,
+                "((Ok(()), [(P0[1](2), {(start), 3} 1), (P0[3](2), {1, (end)} 3)]), \
+                Ok(P0[2](3)), [(P0[1](2), 11), (P0[2](3), 9), (P0[3](2), 23)])",
+            )],
         ],
     ),
     (
-        HOLE,
-        &[(
-            Do::CopyToPlain,
-            "((Ok(()), [(P0[1](2), {(start), 3} 1), (P0[3](2), {1, (end)} 3)]), \
-                Ok(P0[2](3)), [(P0[1](2), 11), (P0[2](3), 9), (P0[3](2), 23)])",
-        )],
-    ),
-    (
         ("over two rings of one", 2, &[(1, 1), (2, 2)], &[]),
-        &[
+        &[&[
             (
                 Do::CopyOver,
                 "(Ok(()), [(P0[1](2), {(start), 3} 1), (P0[3](2), {1, (end)} 3)])",
@@ -124,7 +128,7 @@ const COPIES: [(Script, &[Line]); 3] = [
                 "{P0[1](2): {(start), 3} 11, P0[3](2): {1, (end)} 23}",
             ),
             (Do::Insert(Kind::Disconnected, 9), "Ok(P0[2](3))"),
-        ],
+        ]],
     ),
 ];
 
@@ -134,38 +138,46 @@ fn copies_over_both_stacks(rt: HostRuntime) {
     plays_on::<LimitedChains>(&rt, rt.alloc(), &COPIES);
 }
 
+// The links 1 and 3 copied to a plain arena with a maximum of two: whether it has that maximum, what is told, and the pointer
+// of the next entry there.
+fn copied_to_two(rt: &impl Abort, alloc: Global) -> String {
+    let mut target: Arena<ToolPtr, u32, LimitedStack<ArenaSlot<ToolPtr, u32>>> = Arena::new(alloc);
+    let limit = target.set_max_capacity(2);
+    let source = with_a_hole(rt, alloc);
+    let told = copied_plain(rt, alloc, &source, &mut target);
+    text(rt, alloc, (limit, told, target.insert_reallocating(6)))
+}
+
 // A maximum is not carried over, and a copy of three slots is refused where there may be two.
-const IN_TWO_SLOTS: [Line; 6] = [
-    (Do::Insert(Kind::Disconnected, 1), "Ok(P0[1](2))"),
-    (Do::Maximum, "Some(2)"),
-    (
-        Do::Clone,
-        "(Ok(P0[2](2)), {P0[1](2): {(start), (end)} 1, P0[2](2): {(start), (end)} 9}, None)",
-    ),
-    (Do::CopyOver, "(Err(BeyondMaxCapacity), [])"),
-    (Do::Debug, "{P0[1](2): {(start), (end)} 1}"),
-    (Do::Maximum, "Some(2)"),
-];
+const IN_TWO_SLOTS: [Script; 1] = [(
+    "two slots",
+    0,
+    &[],
+    &[
+        (Do::SetMaximum(2), "Ok(())"),
+        (Do::Insert(Kind::Disconnected, 1), "Ok(P0[1](2))"),
+        (Do::Maximum, "Some(2)"),
+        (
+            Do::Clone,
+            "(Ok(P0[2](2)), {P0[1](2): {(start), (end)} 1, P0[2](2): {(start), (end)} 9}, None)",
+        ),
+        (Do::CopyOver, "(Err(BeyondMaxCapacity), [])"),
+        (Do::Debug, "{P0[1](2): {(start), (end)} 1}"),
+        (Do::Maximum, "Some(2)"),
+    ],
+)];
 
 #[test]
 fn copies_beyond_the_maximum(rt: HostRuntime) {
-    let mut arena = limited(&rt, rt.alloc(), 2);
-    plays(&rt, rt.alloc(), "two slots", &mut arena, &IN_TWO_SLOTS);
-    let mut target: Arena<ToolPtr, u32, LimitedStack<ArenaSlot<ToolPtr, u32>>> = Arena::new(
-        rt.alloc(),
-    );
-    same(&rt, "a maximum", target.set_max_capacity(2), Ok(()));
-    let source = with_a_hole(&rt, rt.alloc());
-    let told = copied_plain(&rt, rt.alloc(), &source, &mut target);
+    plays_all::<LimitedChains>(&rt, rt.alloc(), &IN_TWO_SLOTS);
+    let told = copied_to_two(&rt, rt.alloc());
+    let want = "(Ok(()), (Err(BeyondMaxCapacity), []), Ok(P0[1](2)))";
     same(
         &rt,
-        "told",
-        told.0,
-        Err(ReallocationError::BeyondMaxCapacity),
+        "a maximum, what is told, the target",
+        told.as_str(),
+        want,
     );
-    same(&rt, "seen", told.1.len(), 0);
-    let next = target.insert_reallocating(6);
-    same(&rt, "the target", next, Ok(at(&rt, (1, 2))));
 }
 
 // A value whose clone is refused, where it is 2.
@@ -188,13 +200,21 @@ impl Clone for Refusing {
 // An arena of two values, of which the second refuses: how its clone is refused, the second value, which is removed, and the
 // first link and the length of the clone then.
 fn cloned_once_more(rt: &impl Abort, alloc: Global) -> String {
-    let mut arena: ChainArena<ToolPtr, Refusing> = ChainArena::new(alloc);
-    let p = put(rt, &mut arena, LinkInsertKind::Disconnected, Refusing(1));
-    let q = put(rt, &mut arena, LinkInsertKind::Disconnected, Refusing(2));
+    let steps = [
+        Step::Add(Kind::Disconnected, Refusing(1)),
+        Step::Add(Kind::Disconnected, Refusing(2)),
+    ];
+    let steps = Vec::from_array(alloc, steps).expect(rt, "memory");
+    let mut arena = after(rt, alloc, steps);
     let refused = arena.clone(alloc).err();
-    let second = arena.remove(q);
+    let second = arena.remove(at(rt, (2, 2)));
     let copy = arena.clone(alloc).expect(rt, "memory");
-    let told = (refused, second, copy.get_link_no_gen(p), copy.len());
+    let told = (
+        refused,
+        second,
+        copy.get_link_no_gen(at(rt, (1, 2))),
+        copy.len(),
+    );
     text(rt, alloc, told)
 }
 

@@ -1,15 +1,16 @@
 //! Chains, and all links, that are removed one after another.
 
-ghost use Rattle.std.specs.Prelude.{◌≡◌, ◌↔◌, [], length, IsTrue};
+ghost use Rattle.std.specs.Prelude.{◌≡◌, ◌↔◌, [], length, IsTrue, false};
+ghost use Rattle.arena_ptr.specs.Generations.{after32};
+ghost use Rattle.arena_ptr.specs.ToolPtr.{key_of};
 ghost use Rattle.arena_base.specs.Arena.{IsValid};
 ghost use Rattle.arena_base.specs.Entries.{entries};
 ghost use Rattle.chain_links.specs.ChainArena.{entry, values_of};
 ghost use Rattle.chain_arena.specs.Drains.{walk_left, without_each, CountsUp};
 
 use super::{Chains, text};
-use arena_base::ArenaSlot;
-use arena_ptr::{InvalidationOption, Ptr, SlotStack, ToolPtr};
-use chain_arena::{ChainArena, LinkNoGen};
+use arena_ptr::{InvalidationOption, ToolPtr};
+use chain_arena::LinkNoGen;
 use std::alloc::Global;
 use std::mem::forget;
 use std::process::Abort;
@@ -19,14 +20,11 @@ type Gone = InvalidationOption<(ToolPtr, LinkNoGen<ToolPtr, u32>)>;
 
 type ValueGone = InvalidationOption<(ToolPtr, u32)>;
 
-// Removes a pointer's chain, in any chain arena, and tells whether there was one.
-pub(super) fn remove_chain<P: Ptr, T: Drop, S: SlotStack<Item = ArenaSlot<P, LinkNoGen<P, T>>>>(
-    arena: &mut ChainArena<P, T, S>,
-    p: P,
-) -> bool
-    ensures some { IsTrue result ↔ IsValid (entry arena.old) (P.key p) }
-    ensures valid { IsValid (entry arena.old) (P.key p) → arena.new ≡ without_each P.Gen.following arena.old (walk_left arena.old (P.key p).0) }
-    ensures invalid { ¬ IsValid (entry arena.old) (P.key p) → arena.new ≡ arena.old }
+// Removes a pointer's chain, and tells whether there was one.
+pub(super) fn remove_chain(arena: &mut Chains, p: ToolPtr) -> bool
+    ensures some { IsTrue result ↔ IsValid (entry arena.old) (key_of p) }
+    ensures valid { IsValid (entry arena.old) (key_of p) → arena.new ≡ without_each after32 arena.old (walk_left arena.old (key_of p).0) }
+    ensures invalid { ¬ IsValid (entry arena.old) (key_of p) → arena.new ≡ arena.old }
 {
     match arena.drain_chain(p) {
         Some(drain) => {
@@ -37,27 +35,12 @@ pub(super) fn remove_chain<P: Ptr, T: Drop, S: SlotStack<Item = ArenaSlot<P, Lin
     }
 }
 
-// Removes all links, of any chain arena: none is left, and the counter goes up once for each.
-pub(super) fn remove_all<P: Ptr, T: Drop, S: SlotStack<Item = ArenaSlot<P, LinkNoGen<P, T>>>>(
-    arena: &mut ChainArena<P, T, S>,
-)
+// Removes all links: none is left, and the counter goes up once for each.
+pub(super) fn remove_all(arena: &mut Chains)
     ensures none { entries (values_of arena.new) ≡ [] }
-    ensures counts { CountsUp P.Gen.following (length (entries (values_of arena.old))) arena.old arena.new }
+    ensures counts { CountsUp after32 (length (entries (values_of arena.old))) arena.old arena.new }
 {
     drop(arena.drain());
-}
-
-// The same where one link was taken before.
-pub(super) fn remove_one_and_all<
-    P: Ptr,
-    T: Drop,
-    S: SlotStack<Item = ArenaSlot<P, LinkNoGen<P, T>>>,
->(arena: &mut ChainArena<P, T, S>)
-    ensures none { entries (values_of arena.new) ≡ [] }
-{
-    let mut drain = arena.drain();
-    let _ = drain.next();
-    drop(drain);
 }
 
 // All that a drain of a chain yields.
@@ -96,12 +79,21 @@ pub(super) fn drained(rt: &impl Abort, alloc: Global, arena: &mut Chains) -> Str
     text(rt, alloc, all)
 }
 
-// The first link that it yields, whereupon it is dropped or forgotten.
-pub(super) fn takes_one(arena: &mut Chains, is_forgotten: bool) -> Option<ValueGone> {
+// The first link that it yields, whereupon it is dropped or forgotten. None is left if it is dropped.
+pub(super) fn takes_one(arena: &mut Chains, is_forgotten: bool) -> Option<ValueGone>
+    ensures none { is_forgotten ≡ false → entries (values_of arena.new) ≡ [] }
+{
     let mut drain = arena.drain();
     let gone = drain.next();
     if is_forgotten {
         forget(drain);
     }
     gone
+}
+
+// Removes all links, where one was taken before.
+pub(super) fn remove_one_and_all(arena: &mut Chains)
+    ensures none { entries (values_of arena.new) ≡ [] }
+{
+    takes_one(arena, false);
 }

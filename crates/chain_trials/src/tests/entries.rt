@@ -1,30 +1,29 @@
 //! Places for links: used, given up and forgotten.
 
 ghost use Rattle.std.specs.Prelude.{◌≡◌, ◌↔◌, IfOk, OnOk, OnErr, Err};
+ghost use Rattle.arena_ptr.specs.Indexes.{number_of_inx32};
+ghost use Rattle.arena_ptr.specs.ToolPtr.{key_of};
 ghost use Rattle.arena_base.specs.Arena.{next_index, with_capacity_of};
 ghost use Rattle.chain_links.specs.ChainArena.{entry, shown, insert_as};
 ghost use Rattle.chain_links.specs.Kinds.{names_in, by_index, MayInsert};
 
-use super::scripts::{Do, Kind, Line, plays};
-use super::{Chains, LimitedChains, at, limited, same};
-use arena_base::{ArenaSlot, ArenaTrait};
-use arena_ptr::{
-    ChainInsertionError, MaxCapacityReductionError, Ptr, ReallocationError, SetMaxCapacity,
-    SlotStack, ToolPtr,
-};
-use chain_arena::{ChainArena, ChainArenaTrait, LinkInsertKind, LinkNoGen};
+use super::scripts::{Do, Kind, Script, plays_all};
+use super::{Chains, LimitedChains};
+use arena_base::ArenaTrait;
+use arena_ptr::{ChainInsertionError, ReallocationError, ToolPtr};
+use chain_arena::{ChainArenaTrait, LinkInsertKind};
 use std::mem;
 
 // A link in a place that was made for it, which is what an insertion in one call is.
-pub(super) fn insert_by_entry<P: Ptr, S: SlotStack<Item = ArenaSlot<P, LinkNoGen<P, u32>>>>(
-    arena: &mut ChainArena<P, u32, S>,
-    kind: LinkInsertKind<P>,
+pub(super) fn insert_by_entry(
+    arena: &mut Chains,
+    kind: LinkInsertKind<ToolPtr>,
     t: u32,
-) -> Result<P, ChainInsertionError>
-    ensures place { IfOk result (λ p. P.key p ≡ (next_index arena.old, arena.old.counter)) }
-    ensures state { OnOk result (arena.new ≡ with_capacity_of (insert_as arena.old (by_index (names_in P.key P.Inx.number kind)) t) arena.new) }
+) -> Result<ToolPtr, ChainInsertionError>
+    ensures place { IfOk result (λ p. key_of p ≡ (next_index arena.old, arena.old.counter)) }
+    ensures state { OnOk result (arena.new ≡ with_capacity_of (insert_as arena.old (by_index (names_in key_of number_of_inx32 kind)) t) arena.new) }
     ensures err { OnErr result (arena.new ≡ arena.old) }
-    ensures link { (result ≡ Err ChainInsertionError.FailedLinkRequirement) ↔ ¬ MayInsert (entry arena.old) (shown arena.old) (names_in P.key P.Inx.number kind) }
+    ensures link { (result ≡ Err ChainInsertionError.FailedLinkRequirement) ↔ ¬ MayInsert (entry arena.old) (shown arena.old) (names_in key_of number_of_inx32 kind) }
 {
     let entry = arena.entry_insert_reallocating(kind)?;
     let p = entry.ptr();
@@ -33,11 +32,11 @@ pub(super) fn insert_by_entry<P: Ptr, S: SlotStack<Item = ArenaSlot<P, LinkNoGen
 }
 
 // The pointer of a place that is given up.
-pub(super) fn give_up<P: Ptr, S: SlotStack<Item = ArenaSlot<P, LinkNoGen<P, u32>>>>(
-    arena: &mut ChainArena<P, u32, S>,
-    kind: LinkInsertKind<P>,
-) -> Result<P, ChainInsertionError>
-    ensures place { IfOk result (λ p. P.key p ≡ (next_index arena.old, arena.old.counter)) }
+pub(super) fn give_up(
+    arena: &mut Chains,
+    kind: LinkInsertKind<ToolPtr>,
+) -> Result<ToolPtr, ChainInsertionError>
+    ensures place { IfOk result (λ p. key_of p ≡ (next_index arena.old, arena.old.counter)) }
     ensures same { arena.new ≡ with_capacity_of arena.old arena.new }
 {
     let entry = arena.entry_insert_reallocating(kind)?;
@@ -91,7 +90,7 @@ pub(super) fn forget(
 }
 
 // How a place for a link of a kind is refused, by growth and within the capacity.
-fn place_refusals(
+pub(super) fn place_refusals(
     arena: &mut LimitedChains,
     kind: LinkInsertKind<ToolPtr>,
 ) -> [Option<ChainInsertionError>; 2] {
@@ -106,51 +105,46 @@ fn place_refusals(
     [growing, within]
 }
 
-// Two links fill an arena with a maximum of two.
-const FULL: [Line; 7] = [
-    (Do::Insert(Kind::Disconnected, 1), "Ok(P0[1](2))"),
-    (Do::Insert(Kind::Disconnected, 2), "Ok(P0[2](2))"),
-    (Do::Insert(Kind::Disconnected, 3), "Err(BeyondMaxCapacity)"),
-    (
-        Do::InsertWithin(Kind::Disconnected, 3),
-        "Err(NotWithinCapacity)",
-    ),
-    (
-        Do::Insert(Kind::ChainEnd((9, 9)), 3),
-        "Err(FailedLinkRequirement)",
-    ),
-    (
-        Do::InsertWithin(Kind::ChainEnd((9, 9)), 3),
-        "Err(FailedLinkRequirement)",
-    ),
-    (Do::Reserve(3), "Err(BeyondMaxCapacity)"),
-];
-
-// .. and do still.
-const FULL_STILL: [Line; 3] = [
-    (Do::Len, "2"),
-    (Do::HasRoom(3), "false"),
-    (Do::Maximum, "Some(2)"),
-];
+// Two links fill an arena with a maximum of two, and do still when calls were refused.
+const FULL: [Script; 1] = [(
+    "a maximum of two",
+    0,
+    &[],
+    &[
+        (Do::SetMaximum(2), "Ok(())"),
+        (Do::Insert(Kind::Disconnected, 1), "Ok(P0[1](2))"),
+        (Do::Insert(Kind::Disconnected, 2), "Ok(P0[2](2))"),
+        (Do::Insert(Kind::Disconnected, 3), "Err(BeyondMaxCapacity)"),
+        (
+            Do::InsertWithin(Kind::Disconnected, 3),
+            "Err(NotWithinCapacity)",
+        ),
+        (
+            Do::Insert(Kind::ChainEnd((9, 9)), 3),
+            "Err(FailedLinkRequirement)",
+        ),
+        (
+            Do::InsertWithin(Kind::ChainEnd((9, 9)), 3),
+            "Err(FailedLinkRequirement)",
+        ),
+        (Do::Reserve(3), "Err(BeyondMaxCapacity)"),
+        (
+            Do::PlaceRefusals(Kind::Disconnected),
+            "[Some(BeyondMaxCapacity), Some(NotWithinCapacity)]",
+        ),
+        (
+            Do::PlaceRefusals(Kind::ChainEnd((9, 9))),
+            "[Some(FailedLinkRequirement), Some(FailedLinkRequirement)]",
+        ),
+        (Do::SetMaximum(1), "Err(MaxCapacityReductionError)"),
+        (Do::Len, "2"),
+        (Do::HasRoom(3), "false"),
+        (Do::Maximum, "Some(2)"),
+    ],
+)];
 
 // What a kind asks is tested before the room, and nothing changes.
 #[test]
 fn refusals_in_their_order(rt: HostRuntime) {
-    let mut arena = limited(&rt, rt.alloc(), 2);
-    plays(&rt, rt.alloc(), "a maximum of two", &mut arena, &FULL);
-    let beyond = Some(ChainInsertionError::BeyondMaxCapacity);
-    let full = Some(ChainInsertionError::NotWithinCapacity);
-    let refused = place_refusals(&mut arena, LinkInsertKind::Disconnected);
-    same(&rt, "room", refused, [beyond, full]);
-    let link = Some(ChainInsertionError::FailedLinkRequirement);
-    let behind = LinkInsertKind::ChainEnd(at(&rt, (9, 9)));
-    same(
-        &rt,
-        "link",
-        place_refusals(&mut arena, behind),
-        [link, link],
-    );
-    let less = arena.set_max_capacity(1);
-    same(&rt, "less", less, Err(MaxCapacityReductionError));
-    plays(&rt, rt.alloc(), "full still", &mut arena, &FULL_STILL);
+    plays_all::<LimitedChains>(&rt, rt.alloc(), &FULL);
 }

@@ -1,25 +1,13 @@
 //! Values by pointers and indexes that are valid.
 
 ghost use Rattle.std.specs.Prelude.{◌≡◌};
+ghost use Rattle.arena_ptr.specs.ToolPtr.{key_of};
 ghost use Rattle.arena_base.specs.Arena.{IsValid};
 ghost use Rattle.chain_links.specs.ChainArena.{entry, with_value_at};
 
 use super::Chains;
-use arena_base::{ArenaSlot, ArenaTrait};
-use arena_ptr::{Inx32, Ptr, SlotStack, ToolPtr};
-use chain_arena::{ChainArena, LinkNoGen};
-
-// Writes a value. Nothing else changes.
-fn write<P: Ptr, T: Drop, S: SlotStack<Item = ArenaSlot<P, LinkNoGen<P, T>>>>(
-    arena: &mut ChainArena<P, T, S>,
-    p: P,
-    t: T,
-)
-    requires { IsValid (entry arena.old) (P.key p) }
-    ensures { arena.new ≡ with_value_at arena.old (P.key p).0 t }
-{
-    arena[p] = t;
-}
+use arena_base::ArenaTrait;
+use arena_ptr::{Inx32, ToolPtr};
 
 // The value of a pointer, and of an index, where it is valid.
 pub(super) fn value_at(arena: &Chains, p: ToolPtr) -> Option<u32> {
@@ -38,12 +26,14 @@ pub(super) fn value_at_index(arena: &Chains, i: Inx32) -> Option<u32> {
     }
 }
 
-// Writes one, and tells whether it is valid.
-pub(super) fn write_at(arena: &mut Chains, p: ToolPtr, t: u32) -> bool {
+// Writes one, and tells whether it is valid. Nothing else changes.
+pub(super) fn write_at(arena: &mut Chains, p: ToolPtr, t: u32) -> bool
+    ensures { IsValid (entry arena.old) (key_of p) → arena.new ≡ with_value_at arena.old (key_of p).0 t }
+{
     if !arena.contains(p) {
         return false;
     }
-    write(arena, p, t);
+    arena[p] = t;
     true
 }
 

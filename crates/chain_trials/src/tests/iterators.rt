@@ -1,21 +1,24 @@
-//! The iterators over all links and along chains, and what generic code shows of them.
+//! The iterators over all links and along chains, and what a loop shows of them.
 
 ghost use Rattle.std.specs.Prelude.{◌≡◌, IfOk, map};
+ghost use Rattle.arena_ptr.specs.Indexes.{number_of_inx32};
 ghost use Rattle.arena_base.specs.Arena.{entry_count};
 ghost use Rattle.arena_base.specs.Entries.{entries, index_of};
 
-use super::{Chains, text};
-use arena_base::{ArenaSlot, ArenaTrait};
-use arena_ptr::{Inx32, Ptr, SlotStack, ToolPtr};
-use chain_arena::{ChainArena, LinkNoGen};
+use super::scripts::Answers;
+use super::{Chains, Slot, text};
+use arena_base::Iter;
+use arena_ptr::{HeapStack, Inx32, Ptr, ToolPtr};
+use chain_arena::LinkNoGen;
 use std::alloc::{AllocError, Global};
 use std::mem;
 use std::process::Abort;
 
+// All links of an arena, one after another.
+type Links<'a> = Iter<'a, ToolPtr, LinkNoGen<ToolPtr, u32>, HeapStack<Slot>>;
+
 // How many links there are, counted one by one.
-fn count_links<P: Ptr, T: Drop, S: SlotStack<Item = ArenaSlot<P, LinkNoGen<P, T>>>>(
-    arena: &ChainArena<P, T, S>,
-) -> usize
+fn count_links(arena: &Chains) -> usize
     ensures { result ≡ entry_count arena.now }
 {
     let mut count = 0;
@@ -26,11 +29,8 @@ fn count_links<P: Ptr, T: Drop, S: SlotStack<Item = ArenaSlot<P, LinkNoGen<P, T>
 }
 
 // The indexes of all links.
-fn indexes<P: Ptr, T: Drop, S: SlotStack<Item = ArenaSlot<P, LinkNoGen<P, T>>>>(
-    alloc: Global,
-    arena: &ChainArena<P, T, S>,
-) -> Result<Vec<P::Inx>, AllocError>
-    ensures { IfOk result (λ all. map P.Inx.number all.items ≡ map index_of (entries arena.now)) }
+fn indexes(alloc: Global, arena: &Chains) -> Result<Vec<Inx32>, AllocError>
+    ensures { IfOk result (λ all. map number_of_inx32 all.items ≡ map index_of (entries arena.now)) }
 {
     let mut all = Vec::new(alloc);
     for (p, _) in arena {
@@ -50,21 +50,23 @@ pub(super) fn values(rt: &impl Abort, alloc: Global, arena: &Chains) -> String {
     text(rt, alloc, all)
 }
 
-// Each link with its interlinks, by the call, over the arena itself, and of one that is used up, which leaves a new one.
-pub(super) fn links(rt: &impl Abort, alloc: Global, arena: &Chains) -> String {
-    let links = arena.iter_link_no_gen();
+// All that an iterator over links yields.
+fn listed(rt: &impl Abort, alloc: Global, links: Links<'_>) -> String {
     let all: Vec<(ToolPtr, &LinkNoGen<ToolPtr, u32>)> = links.collect(alloc).expect(rt, "memory");
     text(rt, alloc, all)
+}
+
+// Each link with its interlinks, by the call, over the arena itself, and of one that is used up, which leaves a new one.
+pub(super) fn links(rt: &impl Abort, alloc: Global, arena: &Chains) -> String {
+    listed(rt, alloc, arena.iter_link_no_gen())
 }
 
 pub(super) fn links_by_reference(rt: &impl Abort, alloc: Global, arena: &Chains) -> String {
-    let links = arena.into_iter();
-    let all: Vec<(ToolPtr, &LinkNoGen<ToolPtr, u32>)> = links.collect(alloc).expect(rt, "memory");
-    text(rt, alloc, all)
+    listed(rt, alloc, arena.into_iter())
 }
 
 pub(super) fn links_used_up(rt: &impl Abort, alloc: Global, arena: &mut Chains) -> String {
-    let links = mem::replace(arena, ChainArena::new(alloc)).into_iter();
+    let links = mem::replace(arena, Chains::fresh(alloc)).into_iter();
     let all: Vec<(ToolPtr, LinkNoGen<ToolPtr, u32>)> = links.collect(alloc).expect(rt, "memory");
     text(rt, alloc, all)
 }

@@ -1,8 +1,7 @@
 //! Lists of calls, and the replies to them.
 
-use super::scripts::{Do, Kind, Line, look};
+use super::scripts::{Answers, Do, Kind, Line, look};
 use super::{Chains, Slot, at, generation, index, limited, same, text};
-use arena_base::ArenaTrait;
 use arena_ptr::{SlotStack, ToolPtr};
 use chain_arena::{Call, ChainArena, LinkInsertKind, Reply, run_calls};
 use std::alloc::Global;
@@ -119,9 +118,9 @@ const CYCLE: List = (
     ],
 );
 
-// Lists of calls, each on a new arena.
-const LISTS: [List; 4] = [
-    (
+// Lists of calls, each row on a new arena. The last one is the cycle, of which an exchange makes two, and another one again.
+const LISTS: [&[List]; 5] = [
+    &[(
         "a run of calls",
         &[
             (Do::Insert(Kind::Disconnected, 10), "Ok(P0[1](2))"),
@@ -132,8 +131,8 @@ const LISTS: [List; 4] = [
             (Do::Clear, "Success(())"),
             (Do::Insert(Kind::Disconnected, 30), "Ok(P0[1](4))"),
         ],
-    ),
-    (
+    )],
+    &[(
         "a cycle of one and a chain of two come to the indexes from 1 on, in the order of their indexes",
         &[
             (Do::Insert(Kind::Disconnected, 10), "Ok(P0[1](2))"),
@@ -147,8 +146,8 @@ const LISTS: [List; 4] = [
                 "{P0[1](4): {1, 1} 20, P0[2](4): {(start), 3} 30, P0[3](4): {2, (end)} 40}",
             ),
         ],
-    ),
-    (
+    )],
+    &[(
         "holes before two lone links",
         &[
             (Do::Insert(Kind::Disconnected, 1), "Ok(P0[1](2))"),
@@ -168,8 +167,8 @@ const LISTS: [List; 4] = [
                 "{P0[1](8): {(start), (end)} 5, P0[2](8): {(start), (end)} 6}",
             ),
         ],
-    ),
-    (
+    )],
+    &[(
         "each call that overflows, at the greatest generation; and room above the greatest index",
         &[
             (Do::SetGeneration(u32::MAX), "()"),
@@ -204,10 +203,11 @@ const LISTS: [List; 4] = [
             (Do::Clear, "Success(())"),
             (Do::Reserve(1 << 40), "Err(AllocError)"),
         ],
-    ),
+    )],
+    &[CYCLE, SPLIT, MERGED],
 ];
 
-// Further lists on one arena, the cycle: an exchange makes two of it, and another one again.
+// Further lists on the cycle.
 const SPLIT: List = (
     "two cycles",
     &[
@@ -280,13 +280,11 @@ const EVERY_REPLY: List = (
 
 #[test]
 fn lists_of_calls_with_their_replies(rt: HostRuntime) {
-    for list in LISTS {
-        let mut arena = Chains::new(rt.alloc());
-        replies(&rt, rt.alloc(), &mut arena, list);
-    }
-    let mut arena = Chains::new(rt.alloc());
-    for list in [CYCLE, SPLIT, MERGED] {
-        replies(&rt, rt.alloc(), &mut arena, list);
+    for lists in LISTS {
+        let mut arena = Chains::fresh(rt.alloc());
+        for list in lists {
+            replies(&rt, rt.alloc(), &mut arena, *list);
+        }
     }
 }
 

@@ -1,17 +1,20 @@
 //! The calls that a chain arena has of its own, as rows of tables.
 
-use super::canonical::{moves_listed, moves_seen, placed};
+use super::canonical::{counted, moves_listed, moves_seen, placed};
 use super::drains::{
     drained, drained_chain, remove_all, remove_chain, remove_one_and_all, takes_one,
     takes_one_of_chain,
 };
-use super::entries::{forget, give_up, insert_asked, insert_by_any_entry, insert_by_entry};
+use super::entries::{
+    forget, give_up, insert_asked, insert_by_any_entry, insert_by_entry, place_refusals,
+};
 use super::indexing::{value_at, value_at_index, write_at, write_at_index};
 use super::iterators::{counts, links, links_by_reference, links_used_up, values, walk};
 use super::machine::kind;
 use super::scripts::{Answers, Do, answer};
 use super::{Chains, LimitedChains, at, index, text};
 use arena_base::ArenaTrait;
+use arena_ptr::SetMaxCapacity;
 use std::alloc::Global;
 use std::process::Abort;
 
@@ -29,7 +32,7 @@ fn own_answer(rt: &impl Abort, alloc: Global, arena: &mut Chains, row: Do) -> St
         Do::LinksUsedUp => links_used_up(rt, alloc, arena),
         Do::Counts => text(rt, alloc, counts(alloc, arena)),
         Do::Placed(reset) => text(rt, alloc, placed(arena, reset)),
-        Do::Counted(reset) => text(rt, alloc, arena.compress_canonical_counted(reset)),
+        Do::Counted(reset) => text(rt, alloc, counted(arena, reset)),
         Do::MovesSeen(reset) => text(rt, alloc, moves_seen(rt, alloc, arena, reset)),
         Do::MovesListed(reset) => text(rt, alloc, moves_listed(alloc, arena, reset)),
         other => drain_answer(rt, alloc, arena, other),
@@ -73,6 +76,10 @@ impl Answers for LimitedChains {
     }
 
     fn answer(&mut self, rt: &impl Abort, alloc: Global, row: Do) -> String {
-        answer(rt, alloc, self, row)
+        match row {
+            Do::SetMaximum(n) => text(rt, alloc, self.set_max_capacity(n)),
+            Do::PlaceRefusals(k) => text(rt, alloc, place_refusals(self, kind(rt, k))),
+            other => answer(rt, alloc, self, other),
+        }
     }
 }

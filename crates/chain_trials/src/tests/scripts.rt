@@ -55,6 +55,9 @@ pub(super) enum Do {
     Clone,
     CopyOver,
     CopyToPlain,
+    // Of an arena with a limited stack: its maximum set, and how places for a link are refused.
+    SetMaximum(usize),
+    PlaceRefusals(Kind),
     // Values by what is valid, walks, and loops over all links.
     Value(At),
     ValueInx(u32),
@@ -181,14 +184,16 @@ pub(super) fn plays_all<A: Answers + Drop>(rt: &impl Abort, alloc: Global, table
     }
 }
 
-// Each script on a new arena, and lines that follow on it.
+// Each script on a new arena, and lines that follow on it; for each such list of lines anew.
 pub(super) fn plays_on<A: Answers + Drop>(
     rt: &impl Abort,
     alloc: Global,
-    table: &[(Script, &[Line])],
+    table: &[(Script, &[&[Line]])],
 ) {
-    for (script, lines) in table {
-        let mut arena: A = played(rt, alloc, *script);
-        plays(rt, alloc, script.0, &mut arena, lines);
+    for (script, lists) in table {
+        for lines in *lists {
+            let mut arena: A = played(rt, alloc, *script);
+            plays(rt, alloc, script.0, &mut arena, lines);
+        }
     }
 }
