@@ -1,42 +1,65 @@
 //! The rows that any arena of links meets, at the chain arena and at an arena that hands each call on.
 
+use super::own::trait_answer;
 use super::rows::{
     ADVANCERS, CONNECTIONS, CUTS, KINDS, LAYOUTS, LOOKS, NONE_THEN_AGAIN, NONE_THEN_NONE, REMOVALS,
 };
 use super::scripts::{Answers, Do, Line, Script, answer, played, plays_all, plays_on};
 use super::transfers::{REFUSED, TRANSFERS};
-use super::{Chains, Numbered};
+use super::{Chains, Numbered, Slot};
 use arena_base::{ArenaTrait, CompactArenaTrait};
-use arena_ptr::ToolPtr;
-use chain_arena::ChainArenaTrait;
+use arena_ptr::SlotStack;
+use chain_arena::{ChainArena, ChainArenaTrait};
 use chain_wrapped::Wrapped;
 use std::alloc::Global;
-use std::marker::PhantomData;
 use std::process::Abort;
 
-// An arena that hands each call on to another, and the type of its pointers.
+// An arena that hands each call on to another, which comes with the first call, and an arena of the same type that stays empty.
 #[derive(Drop)]
-struct HandsOn<P, A> {
-    arena: Wrapped<A>,
-    pointer: PhantomData<P>,
+struct HandsOn<A> {
+    handing: Option<Wrapped<A>>,
+    empty: A,
 }
 
-impl<P: Numbered, A: ChainArenaTrait<P, u32> + CompactArenaTrait<P, u32> + Drop> Answers
-    for HandsOn<P, A> {
+impl<P: Numbered, S: SlotStack<Item = Slot<P>>> Answers for HandsOn<ChainArena<P, u32, S>> {
     fn fresh(alloc: Global) -> Self {
         HandsOn {
-            arena: Wrapped::<A>::new(alloc),
-            pointer: PhantomData,
+            handing: None,
+            empty: ChainArena::new(alloc),
         }
     }
 
     fn answer(&mut self, rt: &impl Abort, alloc: Global, call: Do) -> String {
-        answer(rt, alloc, &mut self.arena, call)
+        trait_answer(rt, alloc, &mut self.empty, &mut self.handing, true, call)
     }
 }
 
-// The tables of scripts that each run on a new arena. They are one constant, since each reference that a body makes costs
-// its proof more than all that it does with it.
+// The answer of an arena, or of one that hands each call on to such an arena.
+pub(super) fn either_answer<
+    P: Numbered,
+    A: ChainArenaTrait<P, u32> + CompactArenaTrait<P, u32> + Drop,
+>(
+    rt: &impl Abort,
+    alloc: Global,
+    arena: &mut A,
+    handing: &mut Option<Wrapped<A>>,
+    hands_on: bool,
+    call: Do,
+) -> String {
+    if !hands_on {
+        return answer(rt, alloc, arena, call);
+    }
+    let mut other = match handing.take() {
+        Some(other) => other,
+        None => Wrapped::<A>::new(alloc),
+    };
+    let told = answer(rt, alloc, &mut other, call);
+    *handing = Some(other);
+    told
+}
+
+// The tables of scripts that each run on a new arena. A body pays for each row of what it names, and for each step
+// that it makes beside, so it does nothing but name them once.
 const TABLES: [&[Script]; 7] = [
     &CONNECTIONS,
     &REMOVALS,
@@ -50,15 +73,35 @@ const TABLES: [&[Script]; 7] = [
 // Tables of scripts, each with the lines that follow on its arena.
 const TABLES_ON: [&[(Script, &[Line])]; 2] = [&LAYOUTS, &TRANSFERS];
 
-// The scripts of all tables, and what an advancer answers after its first `None`.
-fn check_all<A: Answers + Drop>(rt: &impl Abort, alloc: Global, after_none: Script) {
-    for table in TABLES {
+fn plays_each<A: Answers + Drop>(rt: &impl Abort, alloc: Global, tables: &[&[Script]]) {
+    for table in tables {
         plays_all::<A>(rt, alloc, table);
     }
-    let _: A = played(rt, alloc, after_none);
-    for table in TABLES_ON {
+}
+
+fn plays_each_on<A: Answers + Drop>(
+    rt: &impl Abort,
+    alloc: Global,
+    tables: &[&[(Script, &[Line])]],
+) {
+    for table in tables {
         plays_on::<A>(rt, alloc, table);
     }
+}
+
+fn plays_tables<A: Answers + Drop>(rt: &impl Abort, alloc: Global) {
+    plays_each::<A>(rt, alloc, &TABLES);
+}
+
+fn plays_tables_on<A: Answers + Drop>(rt: &impl Abort, alloc: Global) {
+    plays_each_on::<A>(rt, alloc, &TABLES_ON);
+}
+
+// The scripts of all tables, and what an advancer answers after its first `None`.
+fn check_all<A: Answers + Drop>(rt: &impl Abort, alloc: Global, after_none: Script) {
+    plays_tables::<A>(rt, alloc);
+    let _: A = played(rt, alloc, after_none);
+    plays_tables_on::<A>(rt, alloc);
 }
 
 #[test]
@@ -68,5 +111,5 @@ fn a_chain_arena(rt: HostRuntime) {
 
 #[test]
 fn an_arena_that_hands_each_call_on(rt: HostRuntime) {
-    check_all::<HandsOn<ToolPtr, Chains>>(&rt, rt.alloc(), NONE_THEN_AGAIN);
+    check_all::<HandsOn<Chains>>(&rt, rt.alloc(), NONE_THEN_AGAIN);
 }
