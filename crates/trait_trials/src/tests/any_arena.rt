@@ -58,8 +58,8 @@ pub(super) fn either_answer<
     told
 }
 
-// The tables of scripts that each run on a new arena. A body pays for each row of what it names, and for each step
-// that it makes beside, so it does nothing but name them once.
+// The tables of scripts that each run on a new arena. They are one constant, since each reference that a body makes costs
+// its proof more than all that it does with it.
 const TABLES: [&[Script]; 7] = [
     &CONNECTIONS,
     &REMOVALS,
@@ -73,35 +73,15 @@ const TABLES: [&[Script]; 7] = [
 // Tables of scripts, each with the lines that follow on its arena.
 const TABLES_ON: [&[(Script, &[Line])]; 2] = [&LAYOUTS, &TRANSFERS];
 
-fn plays_each<A: Answers + Drop>(rt: &impl Abort, alloc: Global, tables: &[&[Script]]) {
-    for table in tables {
-        plays_all::<A>(rt, alloc, table);
-    }
-}
-
-fn plays_each_on<A: Answers + Drop>(
-    rt: &impl Abort,
-    alloc: Global,
-    tables: &[&[(Script, &[Line])]],
-) {
-    for table in tables {
-        plays_on::<A>(rt, alloc, table);
-    }
-}
-
-fn plays_tables<A: Answers + Drop>(rt: &impl Abort, alloc: Global) {
-    plays_each::<A>(rt, alloc, &TABLES);
-}
-
-fn plays_tables_on<A: Answers + Drop>(rt: &impl Abort, alloc: Global) {
-    plays_each_on::<A>(rt, alloc, &TABLES_ON);
-}
-
 // The scripts of all tables, and what an advancer answers after its first `None`.
 fn check_all<A: Answers + Drop>(rt: &impl Abort, alloc: Global, after_none: Script) {
-    plays_tables::<A>(rt, alloc);
+    for table in TABLES {
+        plays_all::<A>(rt, alloc, table);
+    }
     let _: A = played(rt, alloc, after_none);
-    plays_tables_on::<A>(rt, alloc);
+    for table in TABLES_ON {
+        plays_on::<A>(rt, alloc, table);
+    }
 }
 
 #[test]

@@ -29,6 +29,7 @@ fn own_answer<P: Numbered, S: SlotStack<Item = Slot<P>>>(
     rt: &impl Abort,
     alloc: Global,
     arena: &mut ChainArena<P, u32, S>,
+    handing: &mut Option<Wrapped<ChainArena<P, u32, S>>>,
     call: Do,
 ) -> String {
     match call {
@@ -37,7 +38,7 @@ fn own_answer<P: Numbered, S: SlotStack<Item = Slot<P>>>(
         Do::IncGeneration => text(rt, alloc, arena.inc_generation()),
         Do::Debug => text(rt, alloc, &*arena),
         Do::Apply(k, t) => applied(rt, alloc, arena, kind(rt, k), t),
-        other => trait_answer(rt, alloc, arena, &mut None, false, other),
+        other => trait_answer(rt, alloc, arena, handing, false, other),
     }
 }
 
@@ -60,6 +61,6 @@ impl<P: Numbered, S: SlotStack<Item = Slot<P>>> Answers for ChainArena<P, u32, S
     }
 
     fn answer(&mut self, rt: &impl Abort, alloc: Global, call: Do) -> String {
-        own_answer(rt, alloc, self, call)
+        own_answer(rt, alloc, self, &mut None, call)
     }
 }
