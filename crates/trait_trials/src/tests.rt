@@ -12,7 +12,6 @@ mod texts;
 mod transfers;
 
 use self::pointers::Pair;
-use self::scripts::insert_many;
 use arena_base::{Advancer, ArenaSlot, ArenaTrait};
 use arena_ptr::{Gen8, Gen32, LimitStack, Ptr, PtrGen, PtrInx, SetMaxCapacity, SlotStack, ToolPtr};
 use chain_arena::{ChainArena, ChainArenaTrait, LinkInsertKind, LinkNoGen};
@@ -162,7 +161,10 @@ fn tied_links<P: Numbered, A: ChainArenaTrait<P, u32> + Drop>(
     pairs: &[At],
 ) -> A {
     let mut arena = A::new(alloc);
-    assert!(rt; insert_many(&mut arena, count) == count);
+    for k in 1..=count {
+        let added = arena.insert_reallocating(LinkInsertKind::Disconnected, k);
+        assert!(rt; added.is_ok());
+    }
     for (i, j) in pairs {
         let tied = arena.connect(at(rt, (*i, 2)), at(rt, (*j, 2)));
         assert!(rt; tied.is_some());

@@ -1,12 +1,10 @@
 //! The few calls that a chain arena has of its own and that rows at any pointer make.
 
-use super::any_arena::either_answer;
-use super::scripts::{Answers, Do, kind};
+use super::scripts::{Answers, Do, answer, kind};
 use super::{Numbered, Slot, text};
 use arena_base::ArenaTrait;
 use arena_ptr::{Ptr, SlotStack};
 use chain_arena::{Call, ChainArena, LinkInsertKind, Reply, apply};
-use chain_wrapped::Wrapped;
 use std::alloc::Global;
 use std::process::Abort;
 
@@ -29,7 +27,6 @@ fn own_answer<P: Numbered, S: SlotStack<Item = Slot<P>>>(
     rt: &impl Abort,
     alloc: Global,
     arena: &mut ChainArena<P, u32, S>,
-    handing: &mut Option<Wrapped<ChainArena<P, u32, S>>>,
     call: Do,
 ) -> String {
     match call {
@@ -38,21 +35,18 @@ fn own_answer<P: Numbered, S: SlotStack<Item = Slot<P>>>(
         Do::IncGeneration => text(rt, alloc, arena.inc_generation()),
         Do::Debug => text(rt, alloc, &*arena),
         Do::Apply(k, t) => applied(rt, alloc, arena, kind(rt, k), t),
-        other => trait_answer(rt, alloc, arena, handing, false, other),
+        other => trait_answer(rt, alloc, arena, other),
     }
 }
 
-// .. to a call of the traits, of the arena or of one that hands each call on to such an arena, in the one place that hands such
-// bodies an arena.
-pub(super) fn trait_answer<P: Numbered, S: SlotStack<Item = Slot<P>>>(
+// .. to a call of the traits, in the one place that hands such a body an arena.
+fn trait_answer<P: Numbered, S: SlotStack<Item = Slot<P>>>(
     rt: &impl Abort,
     alloc: Global,
     arena: &mut ChainArena<P, u32, S>,
-    handing: &mut Option<Wrapped<ChainArena<P, u32, S>>>,
-    hands_on: bool,
     call: Do,
 ) -> String {
-    either_answer(rt, alloc, arena, handing, hands_on, call)
+    answer(rt, alloc, arena, call)
 }
 
 impl<P: Numbered, S: SlotStack<Item = Slot<P>>> Answers for ChainArena<P, u32, S> {
@@ -61,6 +55,6 @@ impl<P: Numbered, S: SlotStack<Item = Slot<P>>> Answers for ChainArena<P, u32, S
     }
 
     fn answer(&mut self, rt: &impl Abort, alloc: Global, call: Do) -> String {
-        own_answer(rt, alloc, self, &mut None, call)
+        own_answer(rt, alloc, self, call)
     }
 }

@@ -152,7 +152,7 @@ fn born<P: Ptr, A: ChainArenaTrait<P, u32> + Drop>(
 }
 
 // Adds so many lone links, the values from 1 on, and counts those that are added.
-pub(super) fn insert_many<P: Ptr, A: ChainArenaTrait<P, u32>>(arena: &mut A, count: u32) -> u32 {
+fn insert_many<P: Ptr, A: ChainArenaTrait<P, u32>>(arena: &mut A, count: u32) -> u32 {
     let mut added = 0u32;
     for k in 1..=count {
         if arena
