@@ -13,9 +13,7 @@ mod transfers;
 
 use self::pointers::Pair;
 use arena_base::{Advancer, ArenaSlot, ArenaTrait};
-use arena_ptr::{
-    Gen8, Gen32, LimitedStack, Ptr, PtrGen, PtrInx, SetMaxCapacity, SlotStack, ToolPtr,
-};
+use arena_ptr::{Gen8, Gen32, LimitStack, Ptr, PtrGen, PtrInx, SetMaxCapacity, SlotStack, ToolPtr};
 use chain_arena::{ChainArena, ChainArenaTrait, LinkInsertKind, LinkNoGen};
 use std::alloc::Global;
 use std::fmt::Debug;
@@ -24,10 +22,8 @@ use std::process::Abort;
 // A slot of a link of a number.
 type Slot<P> = ArenaSlot<P, LinkNoGen<P, u32>>;
 
-// Links over std's memory without a limit and with one.
+// Links over std's memory without a limit.
 type Chains = ChainArena<ToolPtr, u32>;
-
-type LimitedChains = ChainArena<ToolPtr, u32, LimitedStack<Slot<ToolPtr>>>;
 
 // A pointer as two numbers, its index and its generation; (0, 0) stands for none.
 type At = (u32, u32);
@@ -146,31 +142,14 @@ fn put<P: Ptr, T: Drop, S: SlotStack<Item = ArenaSlot<P, LinkNoGen<P, T>>>>(
     added.expect(rt, "room for a link")
 }
 
-// A chain arena of so many lone links, each with its index as its value.
-fn lone_links<P: Ptr, S: SlotStack<Item = Slot<P>>>(
-    rt: &impl Abort,
-    alloc: Global,
-    count: u32,
-) -> ChainArena<P, u32, S> {
-    let mut arena: ChainArena<P, u32, S> = ChainArena::new(alloc);
-    for k in 1..=count {
-        put(rt, &mut arena, LinkInsertKind::Disconnected, k);
-    }
-    arena
-}
-
-// One with a maximum, of so many lone links.
-fn limited<P: Ptr>(
+// A chain arena with a maximum.
+fn limited<P: Ptr, T: Drop, S: LimitStack<Item = ArenaSlot<P, LinkNoGen<P, T>>>>(
     rt: &impl Abort,
     alloc: Global,
     most: usize,
-    count: u32,
-) -> ChainArena<P, u32, LimitedStack<Slot<P>>> {
-    let mut arena: ChainArena<P, u32, LimitedStack<Slot<P>>> = ChainArena::new(alloc);
+) -> ChainArena<P, T, S> {
+    let mut arena: ChainArena<P, T, S> = ChainArena::new(alloc);
     assert!(rt; arena.set_max_capacity(most).is_ok());
-    for k in 1..=count {
-        put(rt, &mut arena, LinkInsertKind::Disconnected, k);
-    }
     arena
 }
 
@@ -204,11 +183,15 @@ fn inx_of<P: Ptr>(p: Option<P>) -> Option<P::Inx> {
 // What the arena shows of the link of a valid pointer, by both calls that show it.
 fn row_of<P: Numbered, A: ChainArenaTrait<P, u32>>(rt: &impl Abort, arena: &A, p: P) -> Row {
     let link = arena.get_link(p).expect(rt, "a valid pointer");
-    let (prev, next) = (numbers(rt, link.prev()), numbers(rt, link.next()));
+    let (prev, next) = link.prev_next();
     let bare = arena.get_link_no_gen(p).expect(rt, "a valid pointer");
-    let beside = (inx_of(link.prev()), inx_of(link.next()), *link.t);
-    assert!(rt; (bare.prev(), bare.next(), bare.t) == beside);
-    (numbers(rt, Some(p)), bare.t, prev, next)
+    assert!(rt; (bare.prev_next(), bare.t) == ((inx_of(prev), inx_of(next)), *link.t));
+    (
+        numbers(rt, Some(p)),
+        bare.t,
+        numbers(rt, prev),
+        numbers(rt, next),
+    )
 }
 
 // All links of an arena, by rising index.

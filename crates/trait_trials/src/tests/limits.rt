@@ -1,11 +1,11 @@
 //! Other pointers: the greatest index, the greatest generation, wide indexes, no generations; and a maximum.
 
-use super::pointers::{BarePtr, SmallPtr, TinyPtr, WidePtr};
+use super::pointers::{BarePtr, Pair, SmallPtr, TinyInx, TinyPtr, WidePtr};
 use super::scripts::{Do, Kind, Line, Script, plays_all};
 use super::transfers::{AT_THE_GREATEST_GENERATION, WIDE, WITHOUT_GENERATIONS};
-use super::{Slot, same};
+use super::{Counted, Slot, limited, same};
 use arena_base::{ArenaSlot, ArenaTrait};
-use arena_ptr::{LimitStack, LimitedStack, SetMaxCapacity};
+use arena_ptr::{Gen8, Gen32, HeapStack, Inx8, Inx64, LimitStack, LimitedStack, PtrInx, SlotStack};
 use chain_arena::{ChainArena, ChainArenaTrait, LinkInsertKind, LinkNoGen};
 use std::alloc::Global;
 use std::process::Abort;
@@ -153,13 +153,23 @@ const TWO_INDEXES: [Script; 1] = [(
     ],
 )];
 
+// The scripts at a pointer of an index and a generation.
+fn plays_at<I: PtrInx, G: Counted, S: SlotStack<Item = Slot<Pair<I, G>>>>(
+    rt: &impl Abort,
+    alloc: Global,
+    table: &[Script],
+) {
+    plays_all::<ChainArena<Pair<I, G>, u32, S>>(rt, alloc, table);
+}
+
 // Each arena is handed to the body of the scripts once, since that is what costs.
 #[test]
 fn other_pointers(rt: HostRuntime) {
-    plays_all::<ChainArena<BarePtr, u32>>(&rt, rt.alloc(), &INDEXES);
-    plays_all::<ChainArena<SmallPtr, u32>>(&rt, rt.alloc(), &GENERATIONS);
-    plays_all::<ChainArena<TinyPtr, u32>>(&rt, rt.alloc(), &TWO_INDEXES);
-    plays_all::<ChainArena<WidePtr, u32, LimitedStack<Slot<WidePtr>>>>(&rt, rt.alloc(), &[WIDE]);
+    let alloc = rt.alloc();
+    plays_at::<Inx8, (), HeapStack<Slot<BarePtr>>>(&rt, alloc, &INDEXES);
+    plays_at::<Inx8, Gen8, HeapStack<Slot<SmallPtr>>>(&rt, alloc, &GENERATIONS);
+    plays_at::<TinyInx, (), HeapStack<Slot<TinyPtr>>>(&rt, alloc, &TWO_INDEXES);
+    plays_at::<Inx64, Gen32, LimitedStack<Slot<WidePtr>>>(&rt, alloc, &[WIDE]);
 }
 
 // A slot for a link with one of several equal values, each of which tells how many of them there are.
@@ -172,8 +182,7 @@ fn handed<S: LimitStack<Item = Shared>>(
     most: usize,
 ) -> (usize, usize) {
     let value = Rc::new(alloc, 5).ok().expect(rt, "memory");
-    let mut arena: ChainArena<BarePtr, Rc<u8>, S> = ChainArena::new(alloc);
-    assert!(rt; arena.set_max_capacity(most).is_ok());
+    let mut arena: ChainArena<BarePtr, Rc<u8>, S> = limited(rt, alloc, most);
     for _ in 0..300 {
         let one = value.clone().expect(rt, "one more");
         let _ = arena.insert_reallocating(LinkInsertKind::Disconnected, one);

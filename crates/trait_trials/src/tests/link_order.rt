@@ -7,7 +7,6 @@ use chain_arena::{Link, LinkNoGen};
 use std::cmp::Ordering;
 use std::hash::{DefaultHasher, Hash, Hasher};
 use std::process::Abort;
-use std::test::Fail;
 
 // A link by the indexes of its neighbors, 0 for none, and its value.
 type Parts = (u32, u32, u32);
@@ -110,9 +109,9 @@ fn a_value_without_an_order_has_none_in_a_link(rt: HostRuntime) {
 }
 
 #[test]
-fn a_clone_is_equal(rt: HostRuntime) -> Result<(), Fail> {
-    let text = String::from_str(rt.alloc(), "A")?;
+fn a_clone_is_equal(rt: HostRuntime) {
+    let text = String::from_str(rt.alloc(), "A").expect(&rt, "memory");
     let link = LinkNoGen::<ToolPtr, String>::new((inx(1), inx(2)), text);
-    assert!(rt; is_same(&link, &link.clone()?));
-    Ok(())
+    let other = link.clone().expect(&rt, "memory");
+    assert!(rt; is_same(&link, &other));
 }

@@ -2,8 +2,8 @@
 
 use super::pointers::BarePtr;
 use super::{at, index, put, same};
-use arena_base::ArenaTrait;
-use arena_ptr::{Inx32, ToolPtr};
+use arena_base::{ArenaSlot, ArenaTrait};
+use arena_ptr::{HeapStack, Inx32, Ptr, SlotStack, ToolPtr};
 use chain_arena::{ChainArena, Link, LinkInsertKind, LinkNoGen};
 use std::alloc::Global;
 use std::fmt;
@@ -123,15 +123,26 @@ fn only_the_alternate_mark_reaches_the_value_of_a_link(rt: HostRuntime) {
     teller_reads(&rt, rt.alloc(), &first, texts);
 }
 
+// The texts of an arena of a chain of two links.
+fn chain_reads<P: Ptr, T: Copy + Debug + Drop, S: SlotStack<Item = ArenaSlot<P, LinkNoGen<P, T>>>>(
+    rt: &impl Abort,
+    alloc: Global,
+    value: T,
+    plain: &str,
+    sharp: &str,
+) {
+    let mut arena: ChainArena<P, T, S> = ChainArena::new(alloc);
+    let p = put(rt, &mut arena, LinkInsertKind::Disconnected, value);
+    put(rt, &mut arena, LinkInsertKind::ChainEnd(p), value);
+    debug_reads(rt, alloc, &arena, plain, sharp);
+}
+
 #[test]
 fn pointers_without_a_generation_show_none(rt: HostRuntime) {
-    let mut arena: ChainArena<BarePtr, Teller> = ChainArena::new(rt.alloc());
-    let p = put(&rt, &mut arena, LinkInsertKind::Disconnected, Teller);
-    put(&rt, &mut arena, LinkInsertKind::ChainEnd(p), Teller);
-    debug_reads(
+    chain_reads::<BarePtr, Teller, HeapStack<ArenaSlot<BarePtr, LinkNoGen<BarePtr, Teller>>>>(
         &rt,
         rt.alloc(),
-        &arena,
+        Teller,
         "{Bare[1]: {(start), 2} debug, Bare[2]: {1, (end)} debug}",
         "{\n    Bare[1]: {(start), 2} debug#,\n    Bare[2]: {1, (end)} debug#,\n}",
     );

@@ -3,18 +3,34 @@
 use super::pointers::BarePtr;
 use super::rows::{BEHIND_A_HOLE, BEHIND_HOLES, BY_LEAST_INDEX, INTERLEAVED, SCATTERED};
 use super::scripts::{Do, Line, Script};
-use super::{Chains, Counted, LimitedChains, NONE, Numbered, Slot, limited, lone_links, put, text};
+use super::{Chains, Counted, NONE, Numbered, Slot, limited, put, text};
 use arena_base::{ArenaTrait, CompactArenaTrait};
-use arena_ptr::{Gen32, LimitedStack, Ptr, ReallocationError, SlotStack};
+use arena_ptr::{Gen32, LimitStack, LimitedStack, Ptr, SlotStack, ToolPtr};
 use chain_arena::{ChainArena, ChainArenaTrait, LinkInsertKind};
 use std::alloc::Global;
 use std::process::Abort;
 
-// What a closure saw in a call: the pointer before, the value, whether its removal overflowed, and the pointer now.
-type Seen<P, Q> = Vec<(P, u32, bool, Q)>;
+// Adds links of a kind.
+fn add_links<P: Ptr, S: SlotStack<Item = Slot<P>>>(
+    rt: &impl Abort,
+    arena: &mut ChainArena<P, u32, S>,
+    kind: LinkInsertKind<P>,
+    values: &[u32],
+) {
+    for value in values {
+        put(rt, arena, kind, *value);
+    }
+}
 
-// Carries all links of a source over, adds ten times the number of the closure's call to each value, and lists what the
-// closure saw.
+// Two lone links.
+fn two_links(rt: &impl Abort, alloc: Global) -> Chains {
+    let mut arena: Chains = ChainArena::new(alloc);
+    add_links(rt, &mut arena, LinkInsertKind::Disconnected, &[1, 2]);
+    arena
+}
+
+// Carries all links of a source over, and adds ten times the number of the closure's call to each value. Tells the answer and what
+// the closure saw in each call: the pointer before, the value, whether its removal overflowed, and the pointer now.
 fn carry<
     P: Ptr,
     Q: Ptr,
@@ -26,8 +42,8 @@ fn carry<
     source: &mut A,
     generation: Q::Gen,
     target: &mut ChainArena<Q, u32, S>,
-) -> (Result<(), ReallocationError>, Seen<P, Q>) {
-    let mut seen = Vec::new(alloc);
+) -> String {
+    let mut seen: Vec<(P, u32, bool, Q)> = Vec::new(alloc);
     let mut calls = 0u32;
     let answer = target.transfer_canonical_reallocating(generation, source, |p, value, q| {
         let (t, overflow) = value.overflowing();
@@ -35,7 +51,13 @@ fn carry<
         calls = calls.saturating_add(10);
         t.saturating_add(calls)
     });
-    (answer, seen)
+    text(rt, alloc, (answer, seen))
+}
+
+// What was told of a transfer, the links there now, and the counter.
+fn arrival(rt: &impl Abort, alloc: Global, told: String, target: &Chains) -> String {
+    let counter = target.generation().number();
+    format!(in alloc; "({told}, {target:?}, {counter})").expect(rt, "memory")
 }
 
 // Carries all links of a source over to an arena of tool pointers that holds two links. Tells the answer, what the closure saw,
@@ -46,10 +68,9 @@ pub(super) fn carried_out<P: Ptr, A: ChainArenaTrait<P, u32> + CompactArenaTrait
     source: &mut A,
     now: u32,
 ) -> String {
-    let mut target: Chains = lone_links(rt, alloc, 2);
+    let mut target = two_links(rt, alloc);
     let told = carry(rt, alloc, source, Gen32::of(rt, now), &mut target);
-    let counter = target.generation().number();
-    text(rt, alloc, (told, &target, counter))
+    arrival(rt, alloc, told, &target)
 }
 
 // All that a chain arena shows: its links, its counter and its room.
@@ -66,18 +87,40 @@ fn shown<P: Ptr, S: SlotStack<Item = Slot<P>>>(
     )
 }
 
-// Carries all links of a source over to an arena that refuses them. Tells the answer, what the closure saw, and whether the arena
-// shows what it did, and the source has the room that it had.
+// What was told of a transfer, and whether the texts of before and after are the same, and the rooms.
+fn refusal(
+    rt: &impl Abort,
+    alloc: Global,
+    told: String,
+    texts: (String, String),
+    rooms: (usize, usize),
+) -> String {
+    let stays = texts.0.as_str() == texts.1.as_str() && rooms.0 == rooms.1;
+    format!(in alloc; "({told}, {stays})").expect(rt, "memory")
+}
+
+// Carries all links of a source over to an arena of some links and with a maximum that refuses them. Tells the answer, what the
+// closure saw, and whether the arena shows what it did, and the source has the room that it had.
 fn refused<
     P: Ptr,
     Q: Numbered,
     A: ChainArenaTrait<P, u32> + CompactArenaTrait<P, u32>,
-    S: SlotStack<Item = Slot<Q>>,
->(rt: &impl Abort, alloc: Global, source: &mut A, target: &mut ChainArena<Q, u32, S>) -> String {
-    let (room, before) = (source.capacity(), shown(rt, alloc, target));
-    let told = carry(rt, alloc, source, Q::generation_of(rt, 7), target);
-    let stays = before.as_str() == shown(rt, alloc, target).as_str();
-    text(rt, alloc, (told, stays && source.capacity() == room))
+    S: LimitStack<Item = Slot<Q>>,
+>(
+    rt: &impl Abort,
+    alloc: Global,
+    source: &mut A,
+    most: usize,
+    kind: LinkInsertKind<Q>,
+    values: &[u32],
+) -> String {
+    let mut target: ChainArena<Q, u32, S> = limited(rt, alloc, most);
+    add_links(rt, &mut target, kind, values);
+    let room = source.capacity();
+    let before = shown(rt, alloc, &target);
+    let told = carry(rt, alloc, source, Q::generation_of(rt, 7), &mut target);
+    let after = shown(rt, alloc, &target);
+    refusal(rt, alloc, told, (before, after), (room, source.capacity()))
 }
 
 // .. to a full one with a maximum of two links.
@@ -86,8 +129,14 @@ pub(super) fn carried_to_full<P: Ptr, A: ChainArenaTrait<P, u32> + CompactArenaT
     alloc: Global,
     source: &mut A,
 ) -> String {
-    let mut target: LimitedChains = limited(rt, alloc, 2, 2);
-    refused(rt, alloc, source, &mut target)
+    refused::<P, ToolPtr, A, LimitedStack<Slot<ToolPtr>>>(
+        rt,
+        alloc,
+        source,
+        2,
+        LinkInsertKind::Disconnected,
+        &[1, 2],
+    )
 }
 
 // .. to one of 8 bits of index, with a ring in it and a maximum of as many links, or of two.
@@ -97,11 +146,14 @@ pub(super) fn carried_to_bare<P: Ptr, A: ChainArenaTrait<P, u32> + CompactArenaT
     source: &mut A,
     most: usize,
 ) -> String {
-    let mut target: ChainArena<BarePtr, u32, LimitedStack<Slot<BarePtr>>> = limited(
-        rt, alloc, most, 0,
-    );
-    put(rt, &mut target, LinkInsertKind::SingleLinkCyclic, 5);
-    refused(rt, alloc, source, &mut target)
+    refused::<P, BarePtr, A, LimitedStack<Slot<BarePtr>>>(
+        rt,
+        alloc,
+        source,
+        most,
+        LinkInsertKind::SingleLinkCyclic,
+        &[5],
+    )
 }
 
 // A chain of 3 and 1, and a lone link between them; and others. Some have the generation that a compression of the same links gives
