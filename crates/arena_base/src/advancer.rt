@@ -5,7 +5,7 @@ use crate::arena::Arena;
 use crate::look::Look;
 use crate::slot::{ArenaSlot, number_of};
 use crate::traits::Advancer;
-use arena_ptr::{Ptr, SlotStack};
+use arena_ptr::{PtrKey, SlotStack};
 use std::marker::PhantomData;
 
 /// Goes over the valid pointers of an arena by rising or falling index. Once it has answered `None` it answers nothing
@@ -44,7 +44,7 @@ impl<P> PtrAdvancer<P> {
     }
 }
 
-impl<P: Ptr, T: Drop, S: SlotStack<Item = ArenaSlot<P, T>>> Advancer<Arena<P, T, S>>
+impl<P: PtrKey, T: Drop, S: SlotStack<Item = ArenaSlot<P, T>>> Advancer<Arena<P, T, S>>
     for PtrAdvancer<P> {
     ghost use Rattle.std.specs.Prelude.{◌≡◌};
     ghost use Rattle.std.specs.Option.{option_map};

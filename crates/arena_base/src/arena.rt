@@ -16,7 +16,7 @@ use crate::slot::{ArenaSlot, fill, inx_at, position_of, regenerate_at, vacate_at
 use crate::tally::Tally;
 use arena_ptr::{
     HeapStack, InvalidationOption, InvalidationResult, LimitStack, MaxCapacityReductionError,
-    NotWithinCapacityError, Ptr, PtrGen, PtrInx, ReallocationError, SetMaxCapacity, SlotStack,
+    NotWithinCapacityError, PtrKey, GenKey, InxKey, ReallocationError, SetMaxCapacity, SlotStack,
 };
 use std::marker::Model;
 use std::mem;
@@ -30,7 +30,7 @@ use std::mem;
 /// Carries `Arena` of `triple_arena`.
 #[derive(Drop)]
 pub struct Arena<
-    P: Ptr,
+    P: PtrKey,
     T: Drop,
     S: SlotStack<Item = ArenaSlot<P, T>> = HeapStack<ArenaSlot<P, T>>,
 > {
@@ -44,7 +44,7 @@ pub struct Arena<
     pub(crate) touched: Tally,
 }
 
-impl<P: Ptr, T: Drop, S: SlotStack<Item = ArenaSlot<P, T>>> Model for Arena<P, T, S> {
+impl<P: PtrKey, T: Drop, S: SlotStack<Item = ArenaSlot<P, T>>> Model for Arena<P, T, S> {
     ghost use Rattle.arena_base.specs.Arena.{Arena as State};
 
     ghost Value = { State P.Gen T };
@@ -57,7 +57,7 @@ impl<P: Ptr, T: Drop, S: SlotStack<Item = ArenaSlot<P, T>>> Model for Arena<P, T
     ghost invariant = { λ a. IsSound P.Inx.number (S.items a.slots) P.Inx.greatest a.len a.first_free (freed_of P.Inx.number (S.items a.slots) a.first_free) };
 }
 
-impl<P: Ptr, T: Drop, S: SlotStack<Item = ArenaSlot<P, T>>> Arena<P, T, S> {
+impl<P: PtrKey, T: Drop, S: SlotStack<Item = ArenaSlot<P, T>>> Arena<P, T, S> {
     // An arena over an empty stack.
     pub(crate) fn over(slots: S) -> Self
         requires { S.items slots ≡ [] }
@@ -381,7 +381,7 @@ pub fn invalidated<T>(overflow: bool, t: T) -> InvalidationOption<T>
     }
 }
 
-impl<P: Ptr, T: Drop, S: LimitStack<Item = ArenaSlot<P, T>>> SetMaxCapacity for Arena<P, T, S> {
+impl<P: PtrKey, T: Drop, S: LimitStack<Item = ArenaSlot<P, T>>> SetMaxCapacity for Arena<P, T, S> {
     ghost stack_capacity = { λ a. a.stack_capacity };
 
     ghost limits = { λ a n b. b ≡ with_maximum a n };

@@ -12,12 +12,12 @@ use crate::arena::{Arena, invalidated, outcome};
 use crate::slot::{ArenaSlot, number_of, position_of};
 use crate::traits::{ArenaTrait, CompactArenaTrait};
 use arena_ptr::{
-    AllocError, InvalidationOption, InvalidationResult, Ptr, PtrGen, PtrInx, ReallocationError,
+    AllocError, InvalidationOption, InvalidationResult, PtrKey, GenKey, InxKey, ReallocationError,
     SlotStack,
 };
 use std::alloc::Global;
 
-impl<P: Ptr, T: Drop, S: SlotStack<Item = ArenaSlot<P, T>>> ArenaTrait<P, T> for Arena<P, T, S> {
+impl<P: PtrKey, T: Drop, S: SlotStack<Item = ArenaSlot<P, T>>> ArenaTrait<P, T> for Arena<P, T, S> {
     ghost use Rattle.std.specs.Prelude.{◌≡◌};
     ghost use Rattle.arena_base.specs.Arena.{entry_at, new_arena, with_capacity_of, with_value, renewed_at, remove_at, cleared};
     ghost use Rattle.std.specs.Option.{option_map};
@@ -202,7 +202,7 @@ impl<P: Ptr, T: Drop, S: SlotStack<Item = ArenaSlot<P, T>>> ArenaTrait<P, T> for
     }
 }
 
-impl<P: Ptr, T: Drop, S: SlotStack<Item = ArenaSlot<P, T>>> CompactArenaTrait<P, T>
+impl<P: PtrKey, T: Drop, S: SlotStack<Item = ArenaSlot<P, T>>> CompactArenaTrait<P, T>
     for Arena<P, T, S> {}
 
 // The answer of a removal without the generation.
@@ -218,7 +218,7 @@ fn value_alone<G: Drop, T>(removed: InvalidationResult<(G, T)>) -> InvalidationR
 }
 
 // The counter after so many entries were cleared, and whether it overflowed.
-fn after_clear<G: PtrGen>(counter: G, count: usize) -> (G, bool)
+fn after_clear<G: GenKey>(counter: G, count: usize) -> (G, bool)
     ensures next { result.0 ≡ counter_after_clear G.following count counter }
     ensures overflow { result.1 ≡ overflows_after_clear G.wraps count counter }
 {
@@ -230,7 +230,7 @@ fn after_clear<G: PtrGen>(counter: G, count: usize) -> (G, bool)
 }
 
 // The counter after a compression of so many entries, and whether it overflowed.
-pub(crate) fn after_compression<G: PtrGen>(counter: G, count: usize, reset: bool) -> (G, bool)
+pub(crate) fn after_compression<G: GenKey>(counter: G, count: usize, reset: bool) -> (G, bool)
     ensures next { result.0 ≡ counter_after_compression G.first G.following reset count counter }
     ensures overflow { result.1 ≡ overflows_after_compression G.wraps reset count counter }
 {

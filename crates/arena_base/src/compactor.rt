@@ -9,7 +9,7 @@ ghost use Rattle.arena_base.specs.Compacting.{Held, seen_parts, placed, held_wit
 use crate::arena::Arena;
 use crate::held::{HeldSlots, LendsValue};
 use crate::slot::ArenaSlot;
-use arena_ptr::{HeapStack, Ptr, SlotStack};
+use arena_ptr::{HeapStack, PtrKey, SlotStack};
 
 /// What a compactor did: how many entries it placed, and how many slots it was asked for. Each count stays at 2^128 - 1
 /// once it is there.
@@ -23,7 +23,7 @@ pub struct Work {
 /// is empty, over a new stack. None of its calls takes memory or changes the counter.
 pub struct Compactor<
     'a,
-    P: Ptr,
+    P: PtrKey,
     T: Drop,
     S: SlotStack<Item = ArenaSlot<P, T>> = HeapStack<ArenaSlot<P, T>>,
 > {
@@ -33,7 +33,7 @@ pub struct Compactor<
     touched: u128,
 }
 
-impl<P: Ptr, T: Drop, S: SlotStack<Item = ArenaSlot<P, T>>> Arena<P, T, S> {
+impl<P: PtrKey, T: Drop, S: SlotStack<Item = ArenaSlot<P, T>>> Arena<P, T, S> {
     /// Takes the slots out, for moving entries.
     pub fn compactor(&mut self) -> Compactor<'_, P, T, S>
         ensures same_reference { result.arena.ghost_name ≡ self.entry.ghost_name }
@@ -53,7 +53,7 @@ impl<P: Ptr, T: Drop, S: SlotStack<Item = ArenaSlot<P, T>>> Arena<P, T, S> {
     }
 }
 
-impl<'a, P: Ptr, T: Drop, S: SlotStack<Item = ArenaSlot<P, T>>> Compactor<'a, P, T, S> {
+impl<'a, P: PtrKey, T: Drop, S: SlotStack<Item = ArenaSlot<P, T>>> Compactor<'a, P, T, S> {
     /// How many slots there are. No call but `finish` and the drop changes it.
     pub fn slots(&self) -> usize
         ensures { result ≡ length self.now.held.slots }
@@ -95,7 +95,7 @@ impl<'a, P: Ptr, T: Drop, S: SlotStack<Item = ArenaSlot<P, T>>> Compactor<'a, P,
     }
 }
 
-impl<'a, P: Ptr, T: Drop, S: SlotStack<Item = ArenaSlot<P, T>>> Drop for Compactor<'a, P, T, S> {
+impl<'a, P: PtrKey, T: Drop, S: SlotStack<Item = ArenaSlot<P, T>>> Drop for Compactor<'a, P, T, S> {
     fn drop(self)
         ensures { self.exit.0.now ≡ returned P.Inx.greatest self.entry.arena.now self.entry.held }
     {
@@ -110,7 +110,7 @@ impl<'a, P: Ptr, T: Drop, S: SlotStack<Item = ArenaSlot<P, T>>> Drop for Compact
 }
 
 /// The looks into the slots that a compactor holds.
-pub trait SlotAccess<P: Ptr, T: Drop> {
+pub trait SlotAccess<P: PtrKey, T: Drop> {
     ghost held: { Self → Held P.Gen T };
 
     // The second is the first after one touch, but for what it holds.
@@ -129,7 +129,7 @@ pub trait SlotAccess<P: Ptr, T: Drop> {
         ensures value { option_copied_mut result ≡ option_map (λ e. e.1) (slot_at (held self.old).slots (P.Inx.number i)) };
 }
 
-impl<'a, P: Ptr, T: Drop, S: SlotStack<Item = ArenaSlot<P, T>>> SlotAccess<P, T>
+impl<'a, P: PtrKey, T: Drop, S: SlotStack<Item = ArenaSlot<P, T>>> SlotAccess<P, T>
     for Compactor<'a, P, T, S> {
     ghost use Rattle.std.specs.Prelude.{◌≡◌};
     ghost use Rattle.arena_base.specs.Compacting.{with_touch, one_more};

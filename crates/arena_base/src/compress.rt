@@ -10,11 +10,11 @@ ghost use Rattle.arena_base.specs.Closing.{AreClosed, IsGathered, with_totals};
 use crate::arena::Arena;
 use crate::compactor::{Compactor, SlotAccess};
 use crate::slot::{ArenaSlot, inx_at};
-use arena_ptr::{Ptr, SlotStack};
+use arena_ptr::{PtrKey, SlotStack};
 
 // Brings the entry at an index to another, where one stands there, and gives it a generation. Answers the generation
 // that it had.
-fn close_gap<P: Ptr, T: Drop, S: SlotStack<Item = ArenaSlot<P, T>>>(
+fn close_gap<P: PtrKey, T: Drop, S: SlotStack<Item = ArenaSlot<P, T>>>(
     compactor: &mut Compactor<'_, P, T, S>,
     from: P::Inx,
     to: P::Inx,
@@ -39,7 +39,7 @@ fn close_gap<P: Ptr, T: Drop, S: SlotStack<Item = ArenaSlot<P, T>>>(
 // Brings each entry to the first index that is free, by rising index, gives it the generation, and shows it to the
 // closure: with the pointer that it had, its value, for writing, and the pointer that it has. Each slot is looked at
 // once, and each value lent once.
-fn close_gaps<P: Ptr, T: Drop, S: SlotStack<Item = ArenaSlot<P, T>>, F: FnMut(P, &mut T, P) + Drop>(
+fn close_gaps<P: PtrKey, T: Drop, S: SlotStack<Item = ArenaSlot<P, T>>, F: FnMut(P, &mut T, P) + Drop>(
     compactor: &mut Compactor<'_, P, T, S>,
     generation: P::Gen,
     mut map: F,
@@ -66,7 +66,7 @@ fn close_gaps<P: Ptr, T: Drop, S: SlotStack<Item = ArenaSlot<P, T>>, F: FnMut(P,
     }
 }
 
-impl<P: Ptr, T: Drop, S: SlotStack<Item = ArenaSlot<P, T>>> Arena<P, T, S> {
+impl<P: PtrKey, T: Drop, S: SlotStack<Item = ArenaSlot<P, T>>> Arena<P, T, S> {
     // Brings the entries together, gives each the counter as its generation, and shows each to the closure. The slots are
     // exactly the entries then.
     pub(crate) fn gather<F: FnMut(P, &mut T, P) + Drop>(&mut self, map: F)

@@ -9,7 +9,7 @@ ghost use Rattle.arena_base.specs.Copying.{CopiesBy, HasRefusable, HasSlotsOf, I
 use crate::arena::Arena;
 use crate::slot::{ArenaSlot, inx_at};
 use crate::traits::{ArenaCloneFromWith, ArenaTrait, ValueMap};
-use arena_ptr::{AllocError, Ptr, ReallocationError, SlotStack};
+use arena_ptr::{AllocError, PtrKey, ReallocationError, SlotStack};
 
 // Makes the values of a copy by a closure.
 #[derive(Drop)]
@@ -34,7 +34,7 @@ impl<P, U, T, F: FnMut(P, &U) -> T + Drop> ValueMap<P, U, T> for Answering<F> {
 // Appends a copy of each slot to an empty stack: a free one names the same next, and an entry has the same generation,
 // and a value that the map makes. It is shown each entry once, by rising index, up to the first value that is refused.
 fn copy_slots<
-    P: Ptr,
+    P: PtrKey,
     T: Drop,
     U: Drop,
     S: SlotStack<Item = ArenaSlot<P, T>>,
@@ -67,7 +67,7 @@ fn copy_slots<
     Ok(())
 }
 
-impl<P: Ptr, T: Drop, S: SlotStack<Item = ArenaSlot<P, T>>> Arena<P, T, S> {
+impl<P: PtrKey, T: Drop, S: SlotStack<Item = ArenaSlot<P, T>>> Arena<P, T, S> {
     /// Becomes a copy of the source: its indexes, generations, counter, number of slots and freed list, with values that
     /// the map makes. It is shown each entry of the source once, by rising index. What the arena held is dropped. It grows
     /// only where the source has more slots than its capacity.
@@ -112,7 +112,7 @@ impl<P: Ptr, T: Drop, S: SlotStack<Item = ArenaSlot<P, T>>> Arena<P, T, S> {
     }
 }
 
-impl<P: Ptr, T: Drop, S: SlotStack<Item = ArenaSlot<P, T>>> ArenaCloneFromWith<P, T>
+impl<P: PtrKey, T: Drop, S: SlotStack<Item = ArenaSlot<P, T>>> ArenaCloneFromWith<P, T>
     for Arena<P, T, S> {
     ghost use Rattle.arena_base.specs.Copying.{HasSlotsOf};
 

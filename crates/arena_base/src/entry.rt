@@ -5,14 +5,14 @@ ghost use Rattle.arena_base.specs.Arena.{entry_count, next_index, insert_next};
 
 use crate::arena::Arena;
 use crate::slot::ArenaSlot;
-use arena_ptr::{HeapStack, NotWithinCapacityError, Ptr, SlotStack};
+use arena_ptr::{HeapStack, NotWithinCapacityError, PtrKey, SlotStack};
 
 /// A place for an entry, whose pointer is known before its value. Dropping it changes nothing.
 ///
 /// Carries `ArenaInsertEntry` of `triple_arena`.
 pub struct ArenaInsertEntry<
     'a,
-    P: Ptr,
+    P: PtrKey,
     T: Drop,
     S: SlotStack<Item = ArenaSlot<P, T>> = HeapStack<ArenaSlot<P, T>>,
 > {
@@ -20,7 +20,7 @@ pub struct ArenaInsertEntry<
     ghost room: { entry_count arena.now < arena.now.capacity },
 }
 
-impl<P: Ptr, T: Drop, S: SlotStack<Item = ArenaSlot<P, T>>> Arena<P, T, S> {
+impl<P: PtrKey, T: Drop, S: SlotStack<Item = ArenaSlot<P, T>>> Arena<P, T, S> {
     ghost use Rattle.arena_base.specs.contracts.arena.Arena.{the_row as arena_row};
 
     /// A place for an entry within the capacity.
@@ -31,14 +31,9 @@ impl<P: Ptr, T: Drop, S: SlotStack<Item = ArenaSlot<P, T>>> Arena<P, T, S> {
     ) -> Result<ArenaInsertEntry<'_, P, T, S>, NotWithinCapacityError>
         ensures* unchanged_at_err { sem 𝓛 (RestsIfErr
             (arena_row P.row T.row S.row P.Inx.row P.Gen.row P.Inx.Word.row
-            (record { key = P.key }) (record { eq = P.eq }) (record { cmp = P.cmp }) (record { partial_cmp = P.partial_cmp })
-            (record { hash_input = P.hash_input }) (record { debug_output = P.debug_output })
-            (record { number = P.Inx.number; packed_number = P.Inx.packed_number; greatest = P.Inx.greatest }) (record { eq = P.Inx.eq }) (record { cmp = P.Inx.cmp }) (record { partial_cmp = P.Inx.partial_cmp })
-            (record { hash_input = P.Inx.hash_input }) (record { debug_output = P.Inx.debug_output })
-            (record { eq = P.Inx.Word.eq }) (record { cmp = P.Inx.Word.cmp }) (record { partial_cmp = P.Inx.Word.partial_cmp }) (record { hash_input = P.Inx.Word.hash_input })
-            (record { first = P.Gen.first; following = P.Gen.following; wraps = P.Gen.wraps }) (record { eq = P.Gen.eq }) (record { cmp = P.Gen.cmp }) (record { partial_cmp = P.Gen.partial_cmp })
-            (record { hash_input = P.Gen.hash_input }) (record { debug_output = P.Gen.debug_output })
-            S.SlotStack)
+            (record { key = P.key }) (record { eq = P.eq })
+            (record { number = P.Inx.number; packed_number = P.Inx.packed_number; greatest = P.Inx.greatest }) (record { eq = P.Inx.eq })
+            (record { first = P.Gen.first; following = P.Gen.following; wraps = P.Gen.wraps }) (record { eq = P.Gen.eq }) S.SlotStack)
             self.entry (λ e. e.arena.ghost_name) result (λ n. n ≡ self.old)) }
         ensures refused { IsErr result ↔ (entry_count self.old ≡ self.old.capacity) }
         ensures same_reference { IfOk result (λ e. e.arena.ghost_name ≡ self.entry.ghost_name) }
@@ -51,7 +46,7 @@ impl<P: Ptr, T: Drop, S: SlotStack<Item = ArenaSlot<P, T>>> Arena<P, T, S> {
     }
 }
 
-impl<'a, P: Ptr, T: Drop, S: SlotStack<Item = ArenaSlot<P, T>>> ArenaInsertEntry<'a, P, T, S> {
+impl<'a, P: PtrKey, T: Drop, S: SlotStack<Item = ArenaSlot<P, T>>> ArenaInsertEntry<'a, P, T, S> {
     /// The pointer that the entry gets.
     pub fn ptr(&self) -> P
         ensures { P.key result ≡ (next_index self.now.arena.now, self.now.arena.now.counter) }
@@ -68,7 +63,7 @@ impl<'a, P: Ptr, T: Drop, S: SlotStack<Item = ArenaSlot<P, T>>> ArenaInsertEntry
     }
 }
 
-impl<'a, P: Ptr, T: Drop, S: SlotStack<Item = ArenaSlot<P, T>>> Drop
+impl<'a, P: PtrKey, T: Drop, S: SlotStack<Item = ArenaSlot<P, T>>> Drop
     for ArenaInsertEntry<'a, P, T, S> {
     fn drop(self)
         ensures { self.exit.0.now ≡ self.entry.arena.now }

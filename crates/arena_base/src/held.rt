@@ -6,15 +6,15 @@ ghost use Rattle.arena_base.specs.Arena.{slot_at};
 ghost use Rattle.arena_base.specs.Compacting.{Held, seen_parts, placed, held_with_value};
 
 use crate::slot::{ArenaSlot, position_of, regenerate_at};
-use arena_ptr::{Ptr, SlotStack};
+use arena_ptr::{PtrKey, SlotStack};
 use std::marker::Model;
 
 #[derive(Drop)]
-pub(crate) struct HeldSlots<P: Ptr, T: Drop, S: SlotStack<Item = ArenaSlot<P, T>>> {
+pub(crate) struct HeldSlots<P: PtrKey, T: Drop, S: SlotStack<Item = ArenaSlot<P, T>>> {
     pub(crate) slots: S,
 }
 
-impl<P: Ptr, T: Drop, S: SlotStack<Item = ArenaSlot<P, T>>> Model for HeldSlots<P, T, S> {
+impl<P: PtrKey, T: Drop, S: SlotStack<Item = ArenaSlot<P, T>>> Model for HeldSlots<P, T, S> {
     ghost use Rattle.std.specs.Prelude.{◌≤◌, length};
     ghost use Rattle.arena_base.specs.Compacting.{Held};
 
@@ -27,7 +27,7 @@ impl<P: Ptr, T: Drop, S: SlotStack<Item = ArenaSlot<P, T>>> Model for HeldSlots<
     ghost invariant = { λ h. length (S.items h.slots) ≤ P.Inx.greatest };
 }
 
-impl<P: Ptr, T: Drop, S: SlotStack<Item = ArenaSlot<P, T>>> HeldSlots<P, T, S> {
+impl<P: PtrKey, T: Drop, S: SlotStack<Item = ArenaSlot<P, T>>> HeldSlots<P, T, S> {
     // How many slots there are.
     pub(crate) fn len(&self) -> usize
         ensures { result ≡ length self.now.slots }
@@ -59,7 +59,7 @@ impl<P: Ptr, T: Drop, S: SlotStack<Item = ArenaSlot<P, T>>> HeldSlots<P, T, S> {
 }
 
 // What the held slots lend.
-pub(crate) trait LendsValue<P: Ptr, T: Drop> {
+pub(crate) trait LendsValue<P: PtrKey, T: Drop> {
     ghost lent: { Self → Held P.Gen T };
 
     // The value at an index, for writing.
@@ -69,7 +69,7 @@ pub(crate) trait LendsValue<P: Ptr, T: Drop> {
         ensures value { option_copied_mut result ≡ option_map (λ e. e.1) (slot_at (lent self.old).slots (P.Inx.number i)) };
 }
 
-impl<P: Ptr, T: Drop, S: SlotStack<Item = ArenaSlot<P, T>>> LendsValue<P, T>
+impl<P: PtrKey, T: Drop, S: SlotStack<Item = ArenaSlot<P, T>>> LendsValue<P, T>
     for HeldSlots<P, T, S> {
     ghost lent = { λ h. h };
 

@@ -7,10 +7,10 @@ ghost use Rattle.std.specs.Iterator.{YieldsFirstBy, item_count};
 use crate::arena::Arena;
 use crate::slot::{ArenaSlot, number_of};
 use crate::traits::ArenaTrait;
-use arena_ptr::{HeapStack, InvalidationResult, Ptr, SlotStack};
+use arena_ptr::{HeapStack, InvalidationResult, PtrKey, SlotStack};
 use std::marker::Model;
 
-impl<P: Ptr, T: Drop, S: SlotStack<Item = ArenaSlot<P, T>>> Arena<P, T, S> {
+impl<P: PtrKey, T: Drop, S: SlotStack<Item = ArenaSlot<P, T>>> Arena<P, T, S> {
     // The first entry from a position on, with the position behind it.
     fn next_from(&self, from: usize) -> Option<(usize, P, &T)>
         ensures none { IfNone result (entries_from (from + 1) (drop from self.now.slots) ≡ []) }
@@ -57,7 +57,7 @@ pub(crate) fn value_of<T>(outcome: InvalidationResult<T>) -> Option<T>
 #[derive(Drop)]
 pub struct Iter<
     'a,
-    P: Ptr,
+    P: PtrKey,
     T: Drop,
     S: SlotStack<Item = ArenaSlot<P, T>> = HeapStack<ArenaSlot<P, T>>,
 > {
@@ -66,7 +66,7 @@ pub struct Iter<
     next: usize,
 }
 
-impl<'a, P: Ptr, T: Drop, S: SlotStack<Item = ArenaSlot<P, T>>> Model for Iter<'a, P, T, S> {
+impl<'a, P: PtrKey, T: Drop, S: SlotStack<Item = ArenaSlot<P, T>>> Model for Iter<'a, P, T, S> {
     ghost use Rattle.std.specs.Prelude.{ℕ, List, ◌+◌, drop};
 
     ghost Value = { List ((ℕ × P.Gen) × T) };
@@ -76,7 +76,7 @@ impl<'a, P: Ptr, T: Drop, S: SlotStack<Item = ArenaSlot<P, T>>> Model for Iter<'
     ghost view = { λ it. entries_from (it.next + 1) (drop it.next it.arena.now.slots) };
 }
 
-impl<'a, P: Ptr, T: Drop, S: SlotStack<Item = ArenaSlot<P, T>>> Iterator for Iter<'a, P, T, S> {
+impl<'a, P: PtrKey, T: Drop, S: SlotStack<Item = ArenaSlot<P, T>>> Iterator for Iter<'a, P, T, S> {
     type Item = (P, &'a T);
 
     ghost next_gives = { YieldsFirstBy (λ item. (P.key item.0, item.1.now)) (λ rest. rest) };
@@ -99,7 +99,7 @@ impl<'a, P: Ptr, T: Drop, S: SlotStack<Item = ArenaSlot<P, T>>> Iterator for Ite
 /// Carries `CapacityDrain` of `triple_arena`.
 #[derive(Drop)]
 pub struct CapacityDrain<
-    P: Ptr,
+    P: PtrKey,
     T: Drop,
     S: SlotStack<Item = ArenaSlot<P, T>> = HeapStack<ArenaSlot<P, T>>,
 > {
@@ -108,7 +108,7 @@ pub struct CapacityDrain<
     next: usize,
 }
 
-impl<P: Ptr, T: Drop, S: SlotStack<Item = ArenaSlot<P, T>>> Model for CapacityDrain<P, T, S> {
+impl<P: PtrKey, T: Drop, S: SlotStack<Item = ArenaSlot<P, T>>> Model for CapacityDrain<P, T, S> {
     ghost use Rattle.std.specs.Prelude.{ℕ, List, ◌+◌, drop};
 
     ghost Value = { List ((ℕ × P.Gen) × T) };
@@ -118,7 +118,7 @@ impl<P: Ptr, T: Drop, S: SlotStack<Item = ArenaSlot<P, T>>> Model for CapacityDr
     ghost view = { λ it. entries_from (it.next + 1) (drop it.next it.arena.slots) };
 }
 
-impl<P: Ptr, T: Drop, S: SlotStack<Item = ArenaSlot<P, T>>> Iterator for CapacityDrain<P, T, S> {
+impl<P: PtrKey, T: Drop, S: SlotStack<Item = ArenaSlot<P, T>>> Iterator for CapacityDrain<P, T, S> {
     type Item = (P, T);
 
     ghost next_gives = { YieldsFirstBy (λ item. (P.key item.0, item.1)) (λ rest. rest) };
@@ -136,7 +136,7 @@ impl<P: Ptr, T: Drop, S: SlotStack<Item = ArenaSlot<P, T>>> Iterator for Capacit
     }
 }
 
-impl<P: Ptr, T: Drop, S: SlotStack<Item = ArenaSlot<P, T>>> IntoIterator for Arena<P, T, S> {
+impl<P: PtrKey, T: Drop, S: SlotStack<Item = ArenaSlot<P, T>>> IntoIterator for Arena<P, T, S> {
     ghost use Rattle.std.specs.Prelude.{◌≡◌};
     ghost use Rattle.arena_base.specs.Entries.{entries};
 
@@ -154,7 +154,7 @@ impl<P: Ptr, T: Drop, S: SlotStack<Item = ArenaSlot<P, T>>> IntoIterator for Are
     }
 }
 
-impl<'a, P: Ptr, T: Drop, S: SlotStack<Item = ArenaSlot<P, T>>> IntoIterator
+impl<'a, P: PtrKey, T: Drop, S: SlotStack<Item = ArenaSlot<P, T>>> IntoIterator
     for &'a Arena<P, T, S> {
     ghost use Rattle.std.specs.Prelude.{◌≡◌};
     ghost use Rattle.arena_base.specs.Entries.{entries};

@@ -4,10 +4,10 @@ ghost use Rattle.arena_base.specs.Slots.{entry_of, IsSound};
 ghost use Rattle.arena_base.specs.Compacting.{trimmed, free_from};
 
 use crate::slot::{ArenaSlot, is_free_at, list_at};
-use arena_ptr::{Ptr, PtrInx, SlotStack};
+use arena_ptr::{PtrKey, InxKey, SlotStack};
 
 // Cuts off the free slots at the end.
-pub(crate) fn trim<P: Ptr, T: Drop, S: SlotStack<Item = ArenaSlot<P, T>>>(slots: &mut S)
+pub(crate) fn trim<P: PtrKey, T: Drop, S: SlotStack<Item = ArenaSlot<P, T>>>(slots: &mut S)
     ensures items { map entry_of (S.items slots.new) ≡ trimmed (map entry_of (S.items slots.old)) }
     ensures length { length (S.items slots.new) ≤ length (S.items slots.old) }
     ensures capacity { S.capacity slots.new ≡ S.capacity slots.old }
@@ -21,7 +21,7 @@ pub(crate) fn trim<P: Ptr, T: Drop, S: SlotStack<Item = ArenaSlot<P, T>>>(slots:
 }
 
 // Lists the free slots, the least index first. Answers the number of entries and the first free index.
-pub(crate) fn relist<P: Ptr, T: Drop, S: SlotStack<Item = ArenaSlot<P, T>>>(
+pub(crate) fn relist<P: PtrKey, T: Drop, S: SlotStack<Item = ArenaSlot<P, T>>>(
     slots: &mut S,
 ) -> (usize, Option<P::Inx>)
     requires { length (S.items slots.old) ≤ P.Inx.greatest }

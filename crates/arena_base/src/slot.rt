@@ -4,21 +4,21 @@ ghost use Rattle.std.specs.Option.{option_map, option_copied_mut};
 ghost use Rattle.std.specs.Borrow.{LendsIf, sem};
 ghost use Rattle.arena_base.specs.Slots.{entry_of, entry_in, with_value_in, with_generation_in, with_generation_at, IsFree, free_slot, allocated_slot, freed_slot};
 
-use arena_ptr::{Ptr, PtrInx, SlotStack};
+use arena_ptr::{PtrKey, InxKey, SlotStack};
 use std::mem;
 
 /// One slot of an arena: an entry with its generation, or a free one, which names the slot that was freed before it.
 ///
 /// Carries the slots of `triple_arena`'s backings.
 #[derive(Drop)]
-pub enum ArenaSlot<P: Ptr, T> {
+pub enum ArenaSlot<P: PtrKey, T> {
     /// The generation and the value of the entry.
     Allocated(P::Gen, T),
     /// The next freed index, if there is one.
     Free(Option<P::Inx>),
 }
 
-impl<P: Ptr, T> ArenaSlot<P, T> {
+impl<P: PtrKey, T> ArenaSlot<P, T> {
     ghost use Rattle.arena_base.specs.contracts.slot.ArenaSlot.{the_row};
 
     // The value of an entry, for writing.
@@ -60,14 +60,14 @@ impl<P: Ptr, T> ArenaSlot<P, T> {
 }
 
 // The position of an index in the list of slots, from 0.
-pub(crate) fn position_of<P: Ptr>(i: P::Inx) -> usize
+pub(crate) fn position_of<P: PtrKey>(i: P::Inx) -> usize
     ensures { result + 1 ≡ P.Inx.number i }
 {
     number_of::<P>(i) - 1
 }
 
 // The number of an index.
-pub(crate) fn number_of<P: Ptr>(i: P::Inx) -> usize
+pub(crate) fn number_of<P: PtrKey>(i: P::Inx) -> usize
     ensures { result ≡ P.Inx.number i }
 {
     match i.try_into_usize() {
@@ -77,7 +77,7 @@ pub(crate) fn number_of<P: Ptr>(i: P::Inx) -> usize
 }
 
 /// The index at a position, from 0: position k is index k + 1.
-pub fn inx_at<P: Ptr>(k: usize) -> P::Inx
+pub fn inx_at<P: PtrKey>(k: usize) -> P::Inx
     requires { k < P.Inx.greatest }
     ensures { P.Inx.number result ≡ k + 1 }
 {
@@ -88,7 +88,7 @@ pub fn inx_at<P: Ptr>(k: usize) -> P::Inx
 }
 
 // Writes an entry into a free slot, and answers the next freed index that it named.
-pub(crate) fn fill<P: Ptr, T: Drop, S: SlotStack<Item = ArenaSlot<P, T>>>(
+pub(crate) fn fill<P: PtrKey, T: Drop, S: SlotStack<Item = ArenaSlot<P, T>>>(
     slots: &mut S,
     k: usize,
     generation: P::Gen,
@@ -114,7 +114,7 @@ pub(crate) fn fill<P: Ptr, T: Drop, S: SlotStack<Item = ArenaSlot<P, T>>>(
 }
 
 // Takes the entry at a position out, if one stands there, and leaves its slot free before the next freed one.
-pub(crate) fn vacate_at<P: Ptr, T: Drop, S: SlotStack<Item = ArenaSlot<P, T>>>(
+pub(crate) fn vacate_at<P: PtrKey, T: Drop, S: SlotStack<Item = ArenaSlot<P, T>>>(
     slots: &mut S,
     k: usize,
     next: Option<P::Inx>,
@@ -132,7 +132,7 @@ pub(crate) fn vacate_at<P: Ptr, T: Drop, S: SlotStack<Item = ArenaSlot<P, T>>>(
 }
 
 // Gives the entry at a position another generation, if one stands there, and tells whether one does.
-pub(crate) fn regenerate_at<P: Ptr, T: Drop, S: SlotStack<Item = ArenaSlot<P, T>>>(
+pub(crate) fn regenerate_at<P: PtrKey, T: Drop, S: SlotStack<Item = ArenaSlot<P, T>>>(
     slots: &mut S,
     k: usize,
     generation: P::Gen,
@@ -148,7 +148,7 @@ pub(crate) fn regenerate_at<P: Ptr, T: Drop, S: SlotStack<Item = ArenaSlot<P, T>
 }
 
 // Whether no entry stands at a position.
-pub(crate) fn is_free_at<P: Ptr, T: Drop, S: SlotStack<Item = ArenaSlot<P, T>>>(
+pub(crate) fn is_free_at<P: PtrKey, T: Drop, S: SlotStack<Item = ArenaSlot<P, T>>>(
     slots: &S,
     k: usize,
 ) -> bool
@@ -162,7 +162,7 @@ pub(crate) fn is_free_at<P: Ptr, T: Drop, S: SlotStack<Item = ArenaSlot<P, T>>>(
 }
 
 // Puts a free slot before the freed list, and answers its index.
-pub(crate) fn list_at<P: Ptr, T: Drop, S: SlotStack<Item = ArenaSlot<P, T>>>(
+pub(crate) fn list_at<P: PtrKey, T: Drop, S: SlotStack<Item = ArenaSlot<P, T>>>(
     slots: &mut S,
     k: usize,
     next: Option<P::Inx>,

@@ -15,7 +15,7 @@ ghost use Rattle.arena_base.specs.declared.look.Look.{Look};
 use crate::arena::Arena;
 use crate::slot::ArenaSlot;
 use arena_ptr::{
-    AllocError, InvalidationOption, InvalidationResult, Ptr, PtrGen, PtrInx, ReallocationError,
+    AllocError, InvalidationOption, InvalidationResult, PtrKey, GenKey, InxKey, ReallocationError,
     SlotStack,
 };
 use std::alloc::Global;
@@ -48,7 +48,7 @@ pub trait Advancer<C>: Drop {
 ///
 /// Carries `ArenaTrait` of `triple_arena`. The generation that upstream answers beside a `&mut` is left to the calls
 /// that read.
-pub trait ArenaTrait<P: Ptr, T: Drop> {
+pub trait ArenaTrait<P: PtrKey, T: Drop> {
     /// An advancer over the pointers of the arena, by rising or falling index.
     type PtrAdvancer: Advancer<Self, Item = P>;
 
@@ -259,7 +259,7 @@ pub trait ArenaTrait<P: Ptr, T: Drop> {
 /// An arena whose capacity grows with its entries alone, and not with their indexes.
 ///
 /// Carries `CompactArenaTrait` of `triple_arena`, a mark without functions.
-pub trait CompactArenaTrait<P: Ptr, T: Drop>: ArenaTrait<P, T> {}
+pub trait CompactArenaTrait<P: PtrKey, T: Drop>: ArenaTrait<P, T> {}
 
 /// Makes the values of a copy of an arena, one after another.
 ///
@@ -288,7 +288,7 @@ pub trait ValueMap<P, U, T>: Drop {
 /// An arena that can become a copy of an `Arena`, with values that a closure makes of the values there.
 ///
 /// Carries `ArenaCloneFromWith` of `triple_arena`.
-pub trait ArenaCloneFromWith<P: Ptr, T: Drop>: ArenaTrait<P, T> {
+pub trait ArenaCloneFromWith<P: PtrKey, T: Drop>: ArenaTrait<P, T> {
     ghost use Rattle.arena_base.specs.Arena.{Arena as State};
 
     // What more is known than what is seen, where the second arena became the third as a copy of the first.

@@ -9,7 +9,7 @@ use crate::chain_arena::ChainArena;
 use crate::chain_drains::ChainDrain;
 use arena_base::{ArenaSlot, ArenaTrait};
 use arena_ptr::{
-    AllocError, ChainInsertionError, InvalidationOption, InvalidationResult, Ptr,
+    AllocError, ChainInsertionError, InvalidationOption, InvalidationResult, PtrKey,
     ReallocationError, SlotStack,
 };
 use chain_links::{LinkInsertKind, LinkNoGen};
@@ -19,7 +19,7 @@ use std::alloc::Global;
 /// A call that may change an arena of links, with its arguments. Each is the call of the same name; `Insert` is
 /// `insert_reallocating`, `InsertWithin` is `insert_within_capacity`, and `Remove` and `RemoveInx` answer the link.
 #[derive(Drop)]
-pub enum Call<P: Ptr, T> {
+pub enum Call<P: PtrKey, T> {
     /// Adds a link of a kind. A full arena grows first.
     Insert { kind: LinkInsertKind<P>, t: T },
     /// Adds a link of a kind within the capacity.
@@ -56,7 +56,7 @@ pub enum Call<P: Ptr, T> {
 
 /// What a call answers.
 #[derive(Drop)]
-pub enum Reply<P: Ptr, T> {
+pub enum Reply<P: PtrKey, T> {
     /// Of an insertion: the pointer of the new link, or why there is none.
     Inserted(Result<P, ChainInsertionError>),
     /// Of `Connect`, `BreakPrev`, `BreakNext` and `ExchangeNext`: whether it was done.
@@ -78,7 +78,7 @@ pub enum Reply<P: Ptr, T> {
 }
 
 /// Makes one call, and answers its reply.
-pub fn apply<P: Ptr, T: Drop, S: SlotStack<Item = ArenaSlot<P, LinkNoGen<P, T>>>>(
+pub fn apply<P: PtrKey, T: Drop, S: SlotStack<Item = ArenaSlot<P, LinkNoGen<P, T>>>>(
     arena: &mut ChainArena<P, T, S>,
     call: Call<P, T>,
 ) -> Reply<P, T>
@@ -108,7 +108,7 @@ pub fn apply<P: Ptr, T: Drop, S: SlotStack<Item = ArenaSlot<P, LinkNoGen<P, T>>>
 }
 
 // Adds a link of a kind. A full arena grows first.
-fn insert<P: Ptr, T: Drop, S: SlotStack<Item = ArenaSlot<P, LinkNoGen<P, T>>>>(
+fn insert<P: PtrKey, T: Drop, S: SlotStack<Item = ArenaSlot<P, LinkNoGen<P, T>>>>(
     arena: &mut ChainArena<P, T, S>,
     kind: LinkInsertKind<P>,
     t: T,
@@ -121,7 +121,7 @@ fn insert<P: Ptr, T: Drop, S: SlotStack<Item = ArenaSlot<P, LinkNoGen<P, T>>>>(
 }
 
 // Adds a link of a kind within the capacity.
-fn insert_within<P: Ptr, T: Drop, S: SlotStack<Item = ArenaSlot<P, LinkNoGen<P, T>>>>(
+fn insert_within<P: PtrKey, T: Drop, S: SlotStack<Item = ArenaSlot<P, LinkNoGen<P, T>>>>(
     arena: &mut ChainArena<P, T, S>,
     kind: LinkInsertKind<P>,
     t: T,
@@ -134,7 +134,7 @@ fn insert_within<P: Ptr, T: Drop, S: SlotStack<Item = ArenaSlot<P, LinkNoGen<P, 
 }
 
 // Grows to room for so many links.
-fn reserve<P: Ptr, T: Drop, S: SlotStack<Item = ArenaSlot<P, LinkNoGen<P, T>>>>(
+fn reserve<P: PtrKey, T: Drop, S: SlotStack<Item = ArenaSlot<P, LinkNoGen<P, T>>>>(
     arena: &mut ChainArena<P, T, S>,
     n: usize,
 ) -> Result<(), ReallocationError>
@@ -147,7 +147,7 @@ fn reserve<P: Ptr, T: Drop, S: SlotStack<Item = ArenaSlot<P, LinkNoGen<P, T>>>>(
 }
 
 // Removes a pointer's chain, and answers how many of its links were taken one by one. `None`: the pointer is not valid.
-fn drain<P: Ptr, T: Drop, S: SlotStack<Item = ArenaSlot<P, LinkNoGen<P, T>>>>(
+fn drain<P: PtrKey, T: Drop, S: SlotStack<Item = ArenaSlot<P, LinkNoGen<P, T>>>>(
     arena: &mut ChainArena<P, T, S>,
     p: P,
     take: usize,
@@ -165,7 +165,7 @@ fn drain<P: Ptr, T: Drop, S: SlotStack<Item = ArenaSlot<P, LinkNoGen<P, T>>>>(
 }
 
 // Takes so many links of a chain at most, and answers how many it took.
-fn take_links<P: Ptr, T: Drop, S: SlotStack<Item = ArenaSlot<P, LinkNoGen<P, T>>>>(
+fn take_links<P: PtrKey, T: Drop, S: SlotStack<Item = ArenaSlot<P, LinkNoGen<P, T>>>>(
     links: &mut ChainDrain<'_, P, T, S>,
     take: usize,
 ) -> usize
@@ -188,7 +188,7 @@ fn take_links<P: Ptr, T: Drop, S: SlotStack<Item = ArenaSlot<P, LinkNoGen<P, T>>
 /// tells so, and the later calls are made.
 ///
 /// `AllocError`: memory for the replies was refused, before any call: nothing has changed.
-pub fn run_calls<P: Ptr, T: Drop, S: SlotStack<Item = ArenaSlot<P, LinkNoGen<P, T>>>>(
+pub fn run_calls<P: PtrKey, T: Drop, S: SlotStack<Item = ArenaSlot<P, LinkNoGen<P, T>>>>(
     alloc: Global,
     arena: &mut ChainArena<P, T, S>,
     calls: Vec<Call<P, T>>,
@@ -204,7 +204,7 @@ pub fn run_calls<P: Ptr, T: Drop, S: SlotStack<Item = ArenaSlot<P, LinkNoGen<P, 
 }
 
 // Makes calls in their order, and answers their replies.
-fn replies_to<P: Ptr, T: Drop, S: SlotStack<Item = ArenaSlot<P, LinkNoGen<P, T>>>>(
+fn replies_to<P: PtrKey, T: Drop, S: SlotStack<Item = ArenaSlot<P, LinkNoGen<P, T>>>>(
     alloc: Global,
     arena: &mut ChainArena<P, T, S>,
     calls: Vec<Call<P, T>>,
@@ -225,6 +225,6 @@ fn replies_to<P: Ptr, T: Drop, S: SlotStack<Item = ArenaSlot<P, LinkNoGen<P, T>>
 
 /// But for growth and memory, an arena and a list of calls determine the replies, and the arena after them but for how
 /// many slots were touched: a run of the machine says no less than the calls do.
-pub fn runs_are_determined<P: Ptr, T: Drop>()
+pub fn runs_are_determined<P: PtrKey, T: Drop>()
     ensures { RunIsDetermined P.key P.Inx.number P.Inx.packed_number P.Inx.greatest P.Gen.first P.Gen.following P.Gen.wraps T }
 {}

@@ -3,7 +3,7 @@ ghost use Rattle.std.specs.Prelude.{◌≡◌, Some};
 
 use crate::chain_arena::ChainArena;
 use arena_base::{Advancer, ArenaSlot};
-use arena_ptr::{Ptr, SlotStack};
+use arena_ptr::{PtrKey, SlotStack};
 use chain_interlinks::chain_iterators::step;
 use chain_links::LinkNoGen;
 
@@ -13,7 +13,7 @@ use chain_links::LinkNoGen;
 ///
 /// Made by `ChainArenaTrait::advancer_chain`. Carries `ChainPtrAdvancer` of `triple_arena`.
 #[derive(Drop)]
-pub struct ChainPtrAdvancer<P: Ptr> {
+pub struct ChainPtrAdvancer<P: PtrKey> {
     // No more answers than this.
     left: usize,
     start: P::Inx,
@@ -21,7 +21,7 @@ pub struct ChainPtrAdvancer<P: Ptr> {
     back: Option<P::Inx>,
 }
 
-impl<P: Ptr> ChainPtrAdvancer<P> {
+impl<P: PtrKey> ChainPtrAdvancer<P> {
     // An advancer that stands before the link at `start`, behind which `back` stands.
     pub(crate) fn new(left: usize, start: P::Inx, back: Option<P::Inx>) -> Self
         ensures left { result.left ≡ left }
@@ -38,7 +38,7 @@ impl<P: Ptr> ChainPtrAdvancer<P> {
     }
 }
 
-impl<P: Ptr, T: Drop, S: SlotStack<Item = ArenaSlot<P, LinkNoGen<P, T>>>> Advancer<
+impl<P: PtrKey, T: Drop, S: SlotStack<Item = ArenaSlot<P, LinkNoGen<P, T>>>> Advancer<
     ChainArena<P, T, S>,
 > for ChainPtrAdvancer<P> {
     ghost use Rattle.std.specs.Prelude.{◌≡◌};

@@ -16,7 +16,7 @@ use crate::visiting::{Listing, Showing};
 use arena_base::{Arena, ArenaSlot, ArenaTrait, Work};
 use arena_ptr::{
     AllocError, HeapStack, InvalidationOption, InvalidationResult, LimitStack,
-    MaxCapacityReductionError, Ptr, SetMaxCapacity, SlotStack,
+    MaxCapacityReductionError, PtrKey, SetMaxCapacity, SlotStack,
 };
 use chain_interlinks::ChainIter;
 use chain_interlinks::gaps::{Gap, gap_of};
@@ -35,14 +35,14 @@ use std::marker::Model;
 /// in exactly one chain is a law of the crate `chain_laws`.
 #[derive(Drop)]
 pub struct ChainArena<
-    P: Ptr,
+    P: PtrKey,
     T: Drop,
     S: SlotStack<Item = ArenaSlot<P, LinkNoGen<P, T>>> = HeapStack<ArenaSlot<P, LinkNoGen<P, T>>>,
 > {
     pub(crate) arena: Arena<P, LinkNoGen<P, T>, S>,
 }
 
-impl<P: Ptr, T: Drop, S: SlotStack<Item = ArenaSlot<P, LinkNoGen<P, T>>>> Model
+impl<P: PtrKey, T: Drop, S: SlotStack<Item = ArenaSlot<P, LinkNoGen<P, T>>>> Model
     for ChainArena<P, T, S> {
     ghost use Rattle.chain_laws.specs.Chains.{Agrees};
     ghost use Rattle.arena_base.specs.Arena.{Arena as State};
@@ -57,7 +57,7 @@ impl<P: Ptr, T: Drop, S: SlotStack<Item = ArenaSlot<P, LinkNoGen<P, T>>>> Model
     ghost invariant = { λ a. Agrees (shown (seen_links P.Inx.packed_number a.arena)) };
 }
 
-impl<P: Ptr, T: Drop, S: SlotStack<Item = ArenaSlot<P, LinkNoGen<P, T>>>> ChainArena<P, T, S> {
+impl<P: PtrKey, T: Drop, S: SlotStack<Item = ArenaSlot<P, LinkNoGen<P, T>>>> ChainArena<P, T, S> {
     /// The links of a pointer's chain in walk order, each once. `None`: the pointer is not valid.
     pub fn iter_chain(&self, p: P) -> Option<ChainIter<'_, P, T, S>>
         ensures some { IsSome result ↔ IsValid (entry self.now) (P.key p) }
@@ -206,7 +206,7 @@ impl<P: Ptr, T: Drop, S: SlotStack<Item = ArenaSlot<P, LinkNoGen<P, T>>>> ChainA
     }
 }
 
-impl<P: Ptr, T: Drop, S: LimitStack<Item = ArenaSlot<P, LinkNoGen<P, T>>>> SetMaxCapacity
+impl<P: PtrKey, T: Drop, S: LimitStack<Item = ArenaSlot<P, LinkNoGen<P, T>>>> SetMaxCapacity
     for ChainArena<P, T, S> {
     ghost stack_capacity = { λ a. a.stack_capacity };
 

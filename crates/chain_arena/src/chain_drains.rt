@@ -14,7 +14,7 @@ ghost use Rattle.chain_arena.specs.Drains.{walk_left, without_each, IsDrainStep,
 use crate::chain_arena::ChainArena;
 use crate::insert_entry::number_or_zero;
 use arena_base::{ArenaSlot, ArenaTrait, invalidated};
-use arena_ptr::{HeapStack, InvalidationOption, Ptr, PtrInx, SlotStack};
+use arena_ptr::{HeapStack, InvalidationOption, PtrKey, InxKey, SlotStack};
 use chain_links::LinkNoGen;
 use chain_links::walks::going_on;
 use chain_traits::ChainArenaTrait;
@@ -28,7 +28,7 @@ use chain_traits::ChainArenaTrait;
 /// Carries `ChainDrain` of `triple_arena`.
 pub struct ChainDrain<
     'a,
-    P: Ptr,
+    P: PtrKey,
     T: Drop,
     S: SlotStack<Item = ArenaSlot<P, LinkNoGen<P, T>>> = HeapStack<ArenaSlot<P, LinkNoGen<P, T>>>,
 > {
@@ -37,7 +37,7 @@ pub struct ChainDrain<
     at: usize,
 }
 
-impl<P: Ptr, T: Drop, S: SlotStack<Item = ArenaSlot<P, LinkNoGen<P, T>>>> ChainArena<P, T, S> {
+impl<P: PtrKey, T: Drop, S: SlotStack<Item = ArenaSlot<P, LinkNoGen<P, T>>>> ChainArena<P, T, S> {
     ghost use Rattle.chain_arena.specs.contracts.chain_arena.ChainArena.{the_row as chain_arena_row};
 
     /// The removal of a pointer's chain, in walk order from its link. `None`: the pointer is not valid, and nothing has
@@ -47,14 +47,9 @@ impl<P: Ptr, T: Drop, S: SlotStack<Item = ArenaSlot<P, LinkNoGen<P, T>>>> ChainA
     pub fn drain_chain(&mut self, p: P) -> Option<ChainDrain<'_, P, T, S>>
         ensures* unchanged_at_none { sem 𝓛 (RestsIfNone
             (chain_arena_row P.row T.row S.row P.Inx.row P.Gen.row P.Inx.Word.row
-            (record { key = P.key }) (record { eq = P.eq }) (record { cmp = P.cmp }) (record { partial_cmp = P.partial_cmp })
-            (record { hash_input = P.hash_input }) (record { debug_output = P.debug_output })
-            (record { number = P.Inx.number; packed_number = P.Inx.packed_number; greatest = P.Inx.greatest }) (record { eq = P.Inx.eq }) (record { cmp = P.Inx.cmp }) (record { partial_cmp = P.Inx.partial_cmp })
-            (record { hash_input = P.Inx.hash_input }) (record { debug_output = P.Inx.debug_output })
-            (record { eq = P.Inx.Word.eq }) (record { cmp = P.Inx.Word.cmp }) (record { partial_cmp = P.Inx.Word.partial_cmp }) (record { hash_input = P.Inx.Word.hash_input })
-            (record { first = P.Gen.first; following = P.Gen.following; wraps = P.Gen.wraps }) (record { eq = P.Gen.eq }) (record { cmp = P.Gen.cmp }) (record { partial_cmp = P.Gen.partial_cmp })
-            (record { hash_input = P.Gen.hash_input }) (record { debug_output = P.Gen.debug_output })
-            S.SlotStack)
+            (record { key = P.key }) (record { eq = P.eq })
+            (record { number = P.Inx.number; packed_number = P.Inx.packed_number; greatest = P.Inx.greatest }) (record { eq = P.Inx.eq })
+            (record { first = P.Gen.first; following = P.Gen.following; wraps = P.Gen.wraps }) (record { eq = P.Gen.eq }) S.SlotStack)
             self.entry (λ d. d.arena.ghost_name) result (λ n. n ≡ self.old)) }
         ensures some { IsSome result ↔ IsValid (entry self.old) (P.key p) }
         ensures same_reference { IfSome result (λ d. d.arena.ghost_name ≡ self.entry.ghost_name) }
@@ -114,7 +109,7 @@ impl<P: Ptr, T: Drop, S: SlotStack<Item = ArenaSlot<P, LinkNoGen<P, T>>>> ChainA
 }
 
 // What a drain yields of an entry that was taken out of an index, behind the number of the link that the walk goes on to.
-fn yielded<P: Ptr, T>(
+fn yielded<P: PtrKey, T>(
     i: P::Inx,
     entry: (P::Gen, LinkNoGen<P, T>),
     overflow: bool,
@@ -131,7 +126,7 @@ fn yielded<P: Ptr, T>(
 }
 
 // Where a walk goes on whose first link is removed: to the link after it, or else to the one before it.
-fn goes_on_to<I: PtrInx>(i: I, prev: Option<I>, next: Option<I>) -> Option<I>
+fn goes_on_to<I: InxKey>(i: I, prev: Option<I>, next: Option<I>) -> Option<I>
     ensures { option_map I.number result ≡ goes_on (I.number i) (option_map I.number prev) (option_map I.number next) }
 {
     match going_on(i, next) {
@@ -140,7 +135,7 @@ fn goes_on_to<I: PtrInx>(i: I, prev: Option<I>, next: Option<I>) -> Option<I>
     }
 }
 
-impl<'a, P: Ptr, T: Drop, S: SlotStack<Item = ArenaSlot<P, LinkNoGen<P, T>>>> Iterator
+impl<'a, P: PtrKey, T: Drop, S: SlotStack<Item = ArenaSlot<P, LinkNoGen<P, T>>>> Iterator
     for ChainDrain<'a, P, T, S> {
     type Item = InvalidationOption<(P, LinkNoGen<P, T>)>;
 
@@ -160,7 +155,7 @@ impl<'a, P: Ptr, T: Drop, S: SlotStack<Item = ArenaSlot<P, LinkNoGen<P, T>>>> It
     }
 }
 
-impl<'a, P: Ptr, T: Drop, S: SlotStack<Item = ArenaSlot<P, LinkNoGen<P, T>>>> Drop
+impl<'a, P: PtrKey, T: Drop, S: SlotStack<Item = ArenaSlot<P, LinkNoGen<P, T>>>> Drop
     for ChainDrain<'a, P, T, S> {
     fn drop(self)
         ensures state { self.exit.0.now ≡ without_each P.Gen.following self.entry.arena.now (walk_left self.entry.arena.now self.entry.at) }

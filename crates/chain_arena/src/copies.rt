@@ -10,7 +10,7 @@ ghost use Rattle.chain_arena.specs.Copies.{IsLinkCopy, IsClone, IsCopyBelow};
 
 use crate::chain_arena::ChainArena;
 use arena_base::{Arena, ArenaCloneFromWith, ArenaSlot, ArenaTrait, ValueMap};
-use arena_ptr::{AllocError, PackedOption, Ptr, PtrInx, ReallocationError, SlotStack};
+use arena_ptr::{AllocError, PackedOption, PtrKey, InxKey, ReallocationError, SlotStack};
 use chain_links::{LinkBody, LinkNoGen};
 use std::alloc::Global;
 
@@ -23,7 +23,7 @@ struct LinkMap<F> {
 impl<
     P,
     W: Copy,
-    I: PtrInx<Word = W>,
+    I: InxKey<Word = W>,
     U,
     T,
     F: FnMut(P, &LinkBody<PackedOption<I, W>, U>) -> T + Drop,
@@ -47,7 +47,7 @@ impl<
     }
 }
 
-impl<P: Ptr, T: Drop, S: SlotStack<Item = ArenaSlot<P, LinkNoGen<P, T>>>> ChainArena<P, T, S> {
+impl<P: PtrKey, T: Drop, S: SlotStack<Item = ArenaSlot<P, LinkNoGen<P, T>>>> ChainArena<P, T, S> {
     /// Becomes a copy of the source: its indexes, generations, counter, number of slots, freed list and interlinks, with
     /// the closure's answers as values. The closure sees each link of the source once, by rising index. The links that
     /// stood here are dropped. It grows only where the source has more slots than the capacity.
@@ -103,7 +103,7 @@ impl<P: Ptr, T: Drop, S: SlotStack<Item = ArenaSlot<P, LinkNoGen<P, T>>>> ChainA
 #[derive(Drop)]
 struct LinkClones;
 
-impl<P: Ptr, T: Clone> ValueMap<P, LinkNoGen<P, T>, LinkNoGen<P, T>> for LinkClones {
+impl<P: PtrKey, T: Clone> ValueMap<P, LinkNoGen<P, T>, LinkNoGen<P, T>> for LinkClones {
     ghost use Rattle.std.specs.Prelude.{⊤};
     ghost use Rattle.chain_arena.specs.Copies.{MakesLink};
 
@@ -119,7 +119,7 @@ impl<P: Ptr, T: Clone> ValueMap<P, LinkNoGen<P, T>, LinkNoGen<P, T>> for LinkClo
     }
 }
 
-impl<P: Ptr, T: Clone, S: SlotStack<Item = ArenaSlot<P, LinkNoGen<P, T>>>> ChainArena<P, T, S> {
+impl<P: PtrKey, T: Clone, S: SlotStack<Item = ArenaSlot<P, LinkNoGen<P, T>>>> ChainArena<P, T, S> {
     /// A copy over a new stack that is made with the allocator: its indexes, generations, counter, freed list and
     /// interlinks, and clones of its values, which are to equal them. A maximum is not carried over.
     ///

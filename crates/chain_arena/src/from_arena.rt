@@ -6,11 +6,11 @@ ghost use Rattle.chain_links.specs.Links.{seen_links};
 
 use crate::chain_arena::ChainArena;
 use arena_base::{Arena, ArenaSlot};
-use arena_ptr::{Ptr, PtrInx, SlotStack};
+use arena_ptr::{PtrKey, InxKey, SlotStack};
 use chain_interlinks::links_agree;
 use chain_links::LinkNoGen;
 
-impl<P: Ptr, T: Drop, S: SlotStack<Item = ArenaSlot<P, LinkNoGen<P, T>>>> ChainArena<P, T, S> {
+impl<P: PtrKey, T: Drop, S: SlotStack<Item = ArenaSlot<P, LinkNoGen<P, T>>>> ChainArena<P, T, S> {
     /// A chain arena of an arena of links, with the same indexes, generations, counter, slots, freed list and interlinks.
     /// It takes time in proportion to the slots, and no memory.
     ///

@@ -11,14 +11,14 @@ ghost use Rattle.chain_links.specs.ChainArena.{seen, shown};
 use crate::chain_arena::ChainArena;
 use arena_base::{Advancer, Arena, ArenaSlot, ArenaTrait, CompactArenaTrait, PtrAdvancer};
 use arena_ptr::{
-    AllocError, InvalidationOption, InvalidationResult, Ptr, PtrGen, PtrInx, ReallocationError,
+    AllocError, InvalidationOption, InvalidationResult, PtrKey, GenKey, InxKey, ReallocationError,
     SlotStack,
 };
 use chain_layout::compress::{begin_generation, gather};
 use chain_links::{LinkBody, LinkNoGen, Vacant};
 use std::alloc::Global;
 
-impl<P: Ptr, T: Drop, S: SlotStack<Item = ArenaSlot<P, LinkNoGen<P, T>>>> ArenaTrait<P, T>
+impl<P: PtrKey, T: Drop, S: SlotStack<Item = ArenaSlot<P, LinkNoGen<P, T>>>> ArenaTrait<P, T>
     for ChainArena<P, T, S> {
     ghost use Rattle.std.specs.Prelude.{◌≡◌};
     ghost use Rattle.arena_base.specs.Arena.{entry_at, new_arena, with_capacity_of, renewed_at, cleared};
@@ -190,10 +190,10 @@ impl<P: Ptr, T: Drop, S: SlotStack<Item = ArenaSlot<P, LinkNoGen<P, T>>>> ArenaT
     }
 }
 
-impl<P: Ptr, T: Drop, S: SlotStack<Item = ArenaSlot<P, LinkNoGen<P, T>>>> CompactArenaTrait<P, T>
+impl<P: PtrKey, T: Drop, S: SlotStack<Item = ArenaSlot<P, LinkNoGen<P, T>>>> CompactArenaTrait<P, T>
     for ChainArena<P, T, S> {}
 
-impl<P: Ptr, T: Drop, S: SlotStack<Item = ArenaSlot<P, LinkNoGen<P, T>>>> Advancer<
+impl<P: PtrKey, T: Drop, S: SlotStack<Item = ArenaSlot<P, LinkNoGen<P, T>>>> Advancer<
     ChainArena<P, T, S>,
 > for PtrAdvancer<P> {
     ghost use Rattle.std.specs.Prelude.{◌≡◌};

@@ -26,7 +26,7 @@ use crate::chain_advancer::ChainPtrAdvancer;
 use crate::chain_arena::ChainArena;
 use arena_base::{Advancer, ArenaSlot, ArenaTrait};
 use arena_ptr::{
-    ChainInsertionError, InvalidationOption, InvalidationResult, Ptr, PtrGen, PtrInx,
+    ChainInsertionError, InvalidationOption, InvalidationResult, PtrKey, GenKey, InxKey,
     ReallocationError, SlotStack,
 };
 use chain_interlinks::gaps::{is_index, next_of as next_of_link, prev_of as prev_of_link};
@@ -35,7 +35,7 @@ use chain_links::kinds::Name;
 use chain_links::{Link, LinkInsertKind, LinkNoGen};
 use chain_traits::ChainArenaTrait;
 
-impl<P: Ptr, T: Drop, S: SlotStack<Item = ArenaSlot<P, LinkNoGen<P, T>>>> ChainArenaTrait<P, T>
+impl<P: PtrKey, T: Drop, S: SlotStack<Item = ArenaSlot<P, LinkNoGen<P, T>>>> ChainArenaTrait<P, T>
     for ChainArena<P, T, S> {
     ghost use Rattle.chain_links.specs.ChainArena.{shown};
     ghost use Rattle.chain_interlinks.specs.ChainArenaLaws.{links_stand};

@@ -7,11 +7,11 @@ ghost use Rattle.chain_links.specs.ChainArena.{entry, with_value_at};
 
 use crate::chain_arena::ChainArena;
 use arena_base::{ArenaSlot, ArenaTrait};
-use arena_ptr::{Ptr, PtrInx, SlotStack};
+use arena_ptr::{PtrKey, InxKey, SlotStack};
 use chain_links::LinkNoGen;
 use std::ops::{Index, IndexMut};
 
-impl<P: Ptr, T: Drop, S: SlotStack<Item = ArenaSlot<P, LinkNoGen<P, T>>>> ChainArena<P, T, S> {
+impl<P: PtrKey, T: Drop, S: SlotStack<Item = ArenaSlot<P, LinkNoGen<P, T>>>> ChainArena<P, T, S> {
     ghost use Rattle.chain_arena.specs.contracts.chain_arena.ChainArena.{the_row as chain_arena_row};
 
     /// The value of the link at an index that is valid.
@@ -34,14 +34,9 @@ impl<P: Ptr, T: Drop, S: SlotStack<Item = ArenaSlot<P, LinkNoGen<P, T>>>> ChainA
         requires { IsSome (entry self.old (P.Inx.number i)) }
         ensures* writes_back { sem 𝓛 (Lends
             (chain_arena_row P.row T.row S.row P.Inx.row P.Gen.row P.Inx.Word.row
-            (record { key = P.key }) (record { eq = P.eq }) (record { cmp = P.cmp }) (record { partial_cmp = P.partial_cmp })
-            (record { hash_input = P.hash_input }) (record { debug_output = P.debug_output })
-            (record { number = P.Inx.number; packed_number = P.Inx.packed_number; greatest = P.Inx.greatest }) (record { eq = P.Inx.eq }) (record { cmp = P.Inx.cmp }) (record { partial_cmp = P.Inx.partial_cmp })
-            (record { hash_input = P.Inx.hash_input }) (record { debug_output = P.Inx.debug_output })
-            (record { eq = P.Inx.Word.eq }) (record { cmp = P.Inx.Word.cmp }) (record { partial_cmp = P.Inx.Word.partial_cmp }) (record { hash_input = P.Inx.Word.hash_input })
-            (record { first = P.Gen.first; following = P.Gen.following; wraps = P.Gen.wraps }) (record { eq = P.Gen.eq }) (record { cmp = P.Gen.cmp }) (record { partial_cmp = P.Gen.partial_cmp })
-            (record { hash_input = P.Gen.hash_input }) (record { debug_output = P.Gen.debug_output })
-            S.SlotStack)
+            (record { key = P.key }) (record { eq = P.eq })
+            (record { number = P.Inx.number; packed_number = P.Inx.packed_number; greatest = P.Inx.greatest }) (record { eq = P.Inx.eq })
+            (record { first = P.Gen.first; following = P.Gen.following; wraps = P.Gen.wraps }) (record { eq = P.Gen.eq }) S.SlotStack)
             T.row self.entry result (with_value_at self.old (P.Inx.number i))) }
         ensures value { option_map (λ e. e.1) (entry self.old (P.Inx.number i)) ≡ Some result.now }
     {
@@ -53,7 +48,7 @@ impl<P: Ptr, T: Drop, S: SlotStack<Item = ArenaSlot<P, LinkNoGen<P, T>>>> ChainA
 }
 
 /// The value of a link by its pointer, which has to be valid.
-impl<P: Ptr, T: Drop, S: SlotStack<Item = ArenaSlot<P, LinkNoGen<P, T>>>> Index<P>
+impl<P: PtrKey, T: Drop, S: SlotStack<Item = ArenaSlot<P, LinkNoGen<P, T>>>> Index<P>
     for ChainArena<P, T, S> {
     ghost use Rattle.arena_base.specs.Arena.{IsValid};
     ghost use Rattle.chain_links.specs.ChainArena.{entry};
@@ -70,7 +65,7 @@ impl<P: Ptr, T: Drop, S: SlotStack<Item = ArenaSlot<P, LinkNoGen<P, T>>>> Index<
 }
 
 /// .. for writing: a write changes that value alone.
-impl<P: Ptr, T: Drop, S: SlotStack<Item = ArenaSlot<P, LinkNoGen<P, T>>>> IndexMut<P>
+impl<P: PtrKey, T: Drop, S: SlotStack<Item = ArenaSlot<P, LinkNoGen<P, T>>>> IndexMut<P>
     for ChainArena<P, T, S> {
     ghost use Rattle.chain_arena.specs.contracts.chain_arena.ChainArena.{the_row as chain_arena_row};
 
@@ -78,14 +73,9 @@ impl<P: Ptr, T: Drop, S: SlotStack<Item = ArenaSlot<P, LinkNoGen<P, T>>>> IndexM
         requires { IsValid (entry self.old) (P.key p) }
         ensures* writes_back { sem 𝓛 (Lends
             (chain_arena_row P.row T.row S.row P.Inx.row P.Gen.row P.Inx.Word.row
-            (record { key = P.key }) (record { eq = P.eq }) (record { cmp = P.cmp }) (record { partial_cmp = P.partial_cmp })
-            (record { hash_input = P.hash_input }) (record { debug_output = P.debug_output })
-            (record { number = P.Inx.number; packed_number = P.Inx.packed_number; greatest = P.Inx.greatest }) (record { eq = P.Inx.eq }) (record { cmp = P.Inx.cmp }) (record { partial_cmp = P.Inx.partial_cmp })
-            (record { hash_input = P.Inx.hash_input }) (record { debug_output = P.Inx.debug_output })
-            (record { eq = P.Inx.Word.eq }) (record { cmp = P.Inx.Word.cmp }) (record { partial_cmp = P.Inx.Word.partial_cmp }) (record { hash_input = P.Inx.Word.hash_input })
-            (record { first = P.Gen.first; following = P.Gen.following; wraps = P.Gen.wraps }) (record { eq = P.Gen.eq }) (record { cmp = P.Gen.cmp }) (record { partial_cmp = P.Gen.partial_cmp })
-            (record { hash_input = P.Gen.hash_input }) (record { debug_output = P.Gen.debug_output })
-            S.SlotStack)
+            (record { key = P.key }) (record { eq = P.eq })
+            (record { number = P.Inx.number; packed_number = P.Inx.packed_number; greatest = P.Inx.greatest }) (record { eq = P.Inx.eq })
+            (record { first = P.Gen.first; following = P.Gen.following; wraps = P.Gen.wraps }) (record { eq = P.Gen.eq }) S.SlotStack)
             T.row self.entry result (with_value_at self.old (P.key p).0)) }
         ensures value { entry self.old (P.key p).0 ≡ Some ((P.key p).1, result.now) }
     {

@@ -13,7 +13,7 @@ ghost use Rattle.chain_interlinks.specs.Gaps.{before_in, after_in};
 
 use crate::chain_arena::ChainArena;
 use arena_base::{ArenaSlot, ArenaTrait};
-use arena_ptr::{ChainInsertionError, HeapStack, Ptr, PtrInx, ReallocationError, SlotStack};
+use arena_ptr::{ChainInsertionError, HeapStack, PtrKey, InxKey, ReallocationError, SlotStack};
 use chain_interlinks::gaps::Gap;
 use chain_interlinks::placing::around;
 use chain_links::{LinkInsertKind, LinkNoGen};
@@ -24,7 +24,7 @@ use chain_links::{LinkInsertKind, LinkNoGen};
 /// Carries `ChainArenaInsertEntry` of `triple_arena`.
 pub struct ChainArenaInsertEntry<
     'a,
-    P: Ptr,
+    P: PtrKey,
     T: Drop,
     S: SlotStack<Item = ArenaSlot<P, LinkNoGen<P, T>>> = HeapStack<ArenaSlot<P, LinkNoGen<P, T>>>,
 > {
@@ -41,7 +41,7 @@ pub struct ChainArenaInsertEntry<
 }
 
 // An optional index as a number, 0 for none.
-pub(crate) fn number_or_zero<I: PtrInx>(i: Option<I>) -> usize
+pub(crate) fn number_or_zero<I: InxKey>(i: Option<I>) -> usize
     ensures index { index_from result ≡ option_map I.number i }
     ensures within { result ≤ I.greatest }
 {
@@ -55,14 +55,14 @@ pub(crate) fn number_or_zero<I: PtrInx>(i: Option<I>) -> usize
 }
 
 // .. and back.
-fn index_or_none<I: PtrInx>(n: usize) -> Option<I>
+fn index_or_none<I: InxKey>(n: usize) -> Option<I>
     requires { n ≤ I.greatest }
     ensures { option_map I.number result ≡ index_from n }
 {
     I::try_from_usize(n)
 }
 
-impl<P: Ptr, T: Drop, S: SlotStack<Item = ArenaSlot<P, LinkNoGen<P, T>>>> ChainArena<P, T, S> {
+impl<P: PtrKey, T: Drop, S: SlotStack<Item = ArenaSlot<P, LinkNoGen<P, T>>>> ChainArena<P, T, S> {
     ghost use Rattle.chain_arena.specs.contracts.chain_arena.ChainArena.{the_row as chain_arena_row};
 
     /// A place for a link of a kind within the capacity. It takes no memory.
@@ -75,14 +75,9 @@ impl<P: Ptr, T: Drop, S: SlotStack<Item = ArenaSlot<P, LinkNoGen<P, T>>>> ChainA
     ) -> Result<ChainArenaInsertEntry<'_, P, T, S>, ChainInsertionError>
         ensures* unchanged_at_err { sem 𝓛 (RestsIfErr
             (chain_arena_row P.row T.row S.row P.Inx.row P.Gen.row P.Inx.Word.row
-            (record { key = P.key }) (record { eq = P.eq }) (record { cmp = P.cmp }) (record { partial_cmp = P.partial_cmp })
-            (record { hash_input = P.hash_input }) (record { debug_output = P.debug_output })
-            (record { number = P.Inx.number; packed_number = P.Inx.packed_number; greatest = P.Inx.greatest }) (record { eq = P.Inx.eq }) (record { cmp = P.Inx.cmp }) (record { partial_cmp = P.Inx.partial_cmp })
-            (record { hash_input = P.Inx.hash_input }) (record { debug_output = P.Inx.debug_output })
-            (record { eq = P.Inx.Word.eq }) (record { cmp = P.Inx.Word.cmp }) (record { partial_cmp = P.Inx.Word.partial_cmp }) (record { hash_input = P.Inx.Word.hash_input })
-            (record { first = P.Gen.first; following = P.Gen.following; wraps = P.Gen.wraps }) (record { eq = P.Gen.eq }) (record { cmp = P.Gen.cmp }) (record { partial_cmp = P.Gen.partial_cmp })
-            (record { hash_input = P.Gen.hash_input }) (record { debug_output = P.Gen.debug_output })
-            S.SlotStack)
+            (record { key = P.key }) (record { eq = P.eq })
+            (record { number = P.Inx.number; packed_number = P.Inx.packed_number; greatest = P.Inx.greatest }) (record { eq = P.Inx.eq })
+            (record { first = P.Gen.first; following = P.Gen.following; wraps = P.Gen.wraps }) (record { eq = P.Gen.eq }) S.SlotStack)
             self.entry (λ e. e.arena.ghost_name) result (λ n. n ≡ self.old)) }
         ensures link { (result ≡ Err ChainInsertionError.FailedLinkRequirement) ↔ ¬ MayInsert (entry self.old) (shown self.old) (names_in P.key P.Inx.number kind) }
         ensures full { (result ≡ Err ChainInsertionError.NotWithinCapacity) ↔ (MayInsert (entry self.old) (shown self.old) (names_in P.key P.Inx.number kind) × (entry_count self.old ≡ self.old.capacity)) }
@@ -109,14 +104,9 @@ impl<P: Ptr, T: Drop, S: SlotStack<Item = ArenaSlot<P, LinkNoGen<P, T>>>> ChainA
     ) -> Result<ChainArenaInsertEntry<'_, P, T, S>, ChainInsertionError>
         ensures* unchanged_at_err { sem 𝓛 (RestsIfErr
             (chain_arena_row P.row T.row S.row P.Inx.row P.Gen.row P.Inx.Word.row
-            (record { key = P.key }) (record { eq = P.eq }) (record { cmp = P.cmp }) (record { partial_cmp = P.partial_cmp })
-            (record { hash_input = P.hash_input }) (record { debug_output = P.debug_output })
-            (record { number = P.Inx.number; packed_number = P.Inx.packed_number; greatest = P.Inx.greatest }) (record { eq = P.Inx.eq }) (record { cmp = P.Inx.cmp }) (record { partial_cmp = P.Inx.partial_cmp })
-            (record { hash_input = P.Inx.hash_input }) (record { debug_output = P.Inx.debug_output })
-            (record { eq = P.Inx.Word.eq }) (record { cmp = P.Inx.Word.cmp }) (record { partial_cmp = P.Inx.Word.partial_cmp }) (record { hash_input = P.Inx.Word.hash_input })
-            (record { first = P.Gen.first; following = P.Gen.following; wraps = P.Gen.wraps }) (record { eq = P.Gen.eq }) (record { cmp = P.Gen.cmp }) (record { partial_cmp = P.Gen.partial_cmp })
-            (record { hash_input = P.Gen.hash_input }) (record { debug_output = P.Gen.debug_output })
-            S.SlotStack)
+            (record { key = P.key }) (record { eq = P.eq })
+            (record { number = P.Inx.number; packed_number = P.Inx.packed_number; greatest = P.Inx.greatest }) (record { eq = P.Inx.eq })
+            (record { first = P.Gen.first; following = P.Gen.following; wraps = P.Gen.wraps }) (record { eq = P.Gen.eq }) S.SlotStack)
             self.entry (λ e. e.arena.ghost_name) result (λ n. n ≡ self.old)) }
         ensures link { (result ≡ Err ChainInsertionError.FailedLinkRequirement) ↔ ¬ MayInsert (entry self.old) (shown self.old) (names_in P.key P.Inx.number kind) }
         ensures error { IfErr result (λ e. e ≢ ChainInsertionError.NotWithinCapacity) }
@@ -146,14 +136,9 @@ impl<P: Ptr, T: Drop, S: SlotStack<Item = ArenaSlot<P, LinkNoGen<P, T>>>> ChainA
         requires { MayInsert (entry self.old) (shown self.old) (names_in P.key P.Inx.number kind) }
         ensures* unchanged_at_err { sem 𝓛 (RestsIfErr
             (chain_arena_row P.row T.row S.row P.Inx.row P.Gen.row P.Inx.Word.row
-            (record { key = P.key }) (record { eq = P.eq }) (record { cmp = P.cmp }) (record { partial_cmp = P.partial_cmp })
-            (record { hash_input = P.hash_input }) (record { debug_output = P.debug_output })
-            (record { number = P.Inx.number; packed_number = P.Inx.packed_number; greatest = P.Inx.greatest }) (record { eq = P.Inx.eq }) (record { cmp = P.Inx.cmp }) (record { partial_cmp = P.Inx.partial_cmp })
-            (record { hash_input = P.Inx.hash_input }) (record { debug_output = P.Inx.debug_output })
-            (record { eq = P.Inx.Word.eq }) (record { cmp = P.Inx.Word.cmp }) (record { partial_cmp = P.Inx.Word.partial_cmp }) (record { hash_input = P.Inx.Word.hash_input })
-            (record { first = P.Gen.first; following = P.Gen.following; wraps = P.Gen.wraps }) (record { eq = P.Gen.eq }) (record { cmp = P.Gen.cmp }) (record { partial_cmp = P.Gen.partial_cmp })
-            (record { hash_input = P.Gen.hash_input }) (record { debug_output = P.Gen.debug_output })
-            S.SlotStack)
+            (record { key = P.key }) (record { eq = P.eq })
+            (record { number = P.Inx.number; packed_number = P.Inx.packed_number; greatest = P.Inx.greatest }) (record { eq = P.Inx.eq })
+            (record { first = P.Gen.first; following = P.Gen.following; wraps = P.Gen.wraps }) (record { eq = P.Gen.eq }) S.SlotStack)
             self.entry (λ e. e.arena.ghost_name) result (λ n. n ≡ self.old)) }
         ensures room { entry_count self.old < self.old.capacity → IsOkAnd result (λ e. e.arena.now ≡ self.old) }
         ensures grown { IfOk result (λ e. HasRoom P.Inx.greatest (entry_count self.old + 1) e.arena.now) }
@@ -205,7 +190,7 @@ impl<P: Ptr, T: Drop, S: SlotStack<Item = ArenaSlot<P, LinkNoGen<P, T>>>> ChainA
     }
 }
 
-impl<'a, P: Ptr, T: Drop, S: SlotStack<Item = ArenaSlot<P, LinkNoGen<P, T>>>> ChainArenaInsertEntry<
+impl<'a, P: PtrKey, T: Drop, S: SlotStack<Item = ArenaSlot<P, LinkNoGen<P, T>>>> ChainArenaInsertEntry<
     'a,
     P,
     T,
@@ -238,7 +223,7 @@ impl<'a, P: Ptr, T: Drop, S: SlotStack<Item = ArenaSlot<P, LinkNoGen<P, T>>>> Ch
     }
 }
 
-impl<'a, P: Ptr, T: Drop, S: SlotStack<Item = ArenaSlot<P, LinkNoGen<P, T>>>> Drop
+impl<'a, P: PtrKey, T: Drop, S: SlotStack<Item = ArenaSlot<P, LinkNoGen<P, T>>>> Drop
     for ChainArenaInsertEntry<'a, P, T, S> {
     fn drop(self)
         ensures { self.exit.0.now ≡ self.entry.arena.now }

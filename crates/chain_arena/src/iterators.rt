@@ -7,7 +7,7 @@ ghost use Rattle.chain_links.specs.Links.{seen_entries};
 
 use crate::chain_arena::ChainArena;
 use arena_base::{Arena, ArenaSlot, ArenaTrait, CapacityDrain, Iter};
-use arena_ptr::{HeapStack, Ptr, PtrInx, SlotStack};
+use arena_ptr::{HeapStack, PtrKey, InxKey, SlotStack};
 use chain_links::LinkNoGen;
 use std::marker::Model;
 
@@ -17,14 +17,14 @@ use std::marker::Model;
 #[derive(Drop)]
 pub struct ValIter<
     'a,
-    P: Ptr,
+    P: PtrKey,
     T: Drop,
     S: SlotStack<Item = ArenaSlot<P, LinkNoGen<P, T>>> = HeapStack<ArenaSlot<P, LinkNoGen<P, T>>>,
 > {
     links: Iter<'a, P, LinkNoGen<P, T>, S>,
 }
 
-impl<'a, P: Ptr, T: Drop, S: SlotStack<Item = ArenaSlot<P, LinkNoGen<P, T>>>> Model
+impl<'a, P: PtrKey, T: Drop, S: SlotStack<Item = ArenaSlot<P, LinkNoGen<P, T>>>> Model
     for ValIter<'a, P, T, S> {
     ghost use Rattle.std.specs.Prelude.{ℕ, List};
 
@@ -35,7 +35,7 @@ impl<'a, P: Ptr, T: Drop, S: SlotStack<Item = ArenaSlot<P, LinkNoGen<P, T>>>> Mo
     ghost view = { λ it. held_entries it.links };
 }
 
-impl<'a, P: Ptr, T: Drop, S: SlotStack<Item = ArenaSlot<P, LinkNoGen<P, T>>>> Iterator
+impl<'a, P: PtrKey, T: Drop, S: SlotStack<Item = ArenaSlot<P, LinkNoGen<P, T>>>> Iterator
     for ValIter<'a, P, T, S> {
     type Item = (P, &'a T);
 
@@ -51,7 +51,7 @@ impl<'a, P: Ptr, T: Drop, S: SlotStack<Item = ArenaSlot<P, LinkNoGen<P, T>>>> It
     }
 }
 
-impl<P: Ptr, T: Drop, S: SlotStack<Item = ArenaSlot<P, LinkNoGen<P, T>>>> ChainArena<P, T, S> {
+impl<P: PtrKey, T: Drop, S: SlotStack<Item = ArenaSlot<P, LinkNoGen<P, T>>>> ChainArena<P, T, S> {
     /// The values of all links by rising index, each with its pointer.
     ///
     /// Carries `iter` of `triple_arena`'s chain arena.
@@ -76,7 +76,7 @@ impl<P: Ptr, T: Drop, S: SlotStack<Item = ArenaSlot<P, LinkNoGen<P, T>>>> ChainA
 }
 
 // All links of an arena. No more of them stand there than can be counted.
-fn links_of<P: Ptr, T: Drop, S: SlotStack<Item = ArenaSlot<P, LinkNoGen<P, T>>>>(
+fn links_of<P: PtrKey, T: Drop, S: SlotStack<Item = ArenaSlot<P, LinkNoGen<P, T>>>>(
     arena: &Arena<P, LinkNoGen<P, T>, S>,
 ) -> Iter<'_, P, LinkNoGen<P, T>, S>
     ensures links { result ≡ entries arena.now }
@@ -86,7 +86,7 @@ fn links_of<P: Ptr, T: Drop, S: SlotStack<Item = ArenaSlot<P, LinkNoGen<P, T>>>>
     arena.into_iter()
 }
 
-impl<P: Ptr, T: Drop, S: SlotStack<Item = ArenaSlot<P, LinkNoGen<P, T>>>> IntoIterator
+impl<P: PtrKey, T: Drop, S: SlotStack<Item = ArenaSlot<P, LinkNoGen<P, T>>>> IntoIterator
     for ChainArena<P, T, S> {
     ghost use Rattle.std.specs.Prelude.{◌≡◌, ◌<◌, ◌^◌, length};
     ghost use Rattle.arena_base.specs.Entries.{entries};
@@ -108,11 +108,11 @@ impl<P: Ptr, T: Drop, S: SlotStack<Item = ArenaSlot<P, LinkNoGen<P, T>>>> IntoIt
 }
 
 // That an index and its word live as long follows from `&'a ChainArena<P, T, S>`, but the check does not see it.
-impl<'a, P: Ptr, T: Drop, S: SlotStack<Item = ArenaSlot<P, LinkNoGen<P, T>>>> IntoIterator
+impl<'a, P: PtrKey, T: Drop, S: SlotStack<Item = ArenaSlot<P, LinkNoGen<P, T>>>> IntoIterator
     for &'a ChainArena<P, T, S>
 where
     P::Inx: 'a,
-    <P::Inx as PtrInx>::Word: 'a,
+    <P::Inx as InxKey>::Word: 'a,
 {
     ghost use Rattle.std.specs.Prelude.{◌≡◌, ◌<◌, ◌^◌, length};
     ghost use Rattle.arena_base.specs.Entries.{entries};

@@ -9,7 +9,7 @@ ghost use Rattle.chain_arena.specs.Drains.{entries_left, without_each, IsLinkDra
 use crate::chain_arena::ChainArena;
 use crate::insert_entry::number_or_zero;
 use arena_base::{Advancer, ArenaSlot, ArenaTrait, invalidated};
-use arena_ptr::{HeapStack, InvalidationOption, Ptr, PtrInx, SlotStack};
+use arena_ptr::{HeapStack, InvalidationOption, PtrKey, InxKey, SlotStack};
 use chain_links::LinkNoGen;
 
 /// The removal of all links: an iterator that removes each link as it yields it, by rising index. A link comes as its
@@ -20,7 +20,7 @@ use chain_links::LinkNoGen;
 /// Carries the iterator of `drain` of `triple_arena`'s chain arena.
 pub struct LinkDrain<
     'a,
-    P: Ptr,
+    P: PtrKey,
     T: Drop,
     S: SlotStack<Item = ArenaSlot<P, LinkNoGen<P, T>>> = HeapStack<ArenaSlot<P, LinkNoGen<P, T>>>,
 > {
@@ -29,7 +29,7 @@ pub struct LinkDrain<
     at: usize,
 }
 
-impl<P: Ptr, T: Drop, S: SlotStack<Item = ArenaSlot<P, LinkNoGen<P, T>>>> ChainArena<P, T, S> {
+impl<P: PtrKey, T: Drop, S: SlotStack<Item = ArenaSlot<P, LinkNoGen<P, T>>>> ChainArena<P, T, S> {
     /// The removal of all links, by rising index.
     ///
     /// Carries `drain` of `triple_arena`'s chain arena.
@@ -85,7 +85,7 @@ impl<P: Ptr, T: Drop, S: SlotStack<Item = ArenaSlot<P, LinkNoGen<P, T>>>> ChainA
     }
 }
 
-impl<'a, P: Ptr, T: Drop, S: SlotStack<Item = ArenaSlot<P, LinkNoGen<P, T>>>> Iterator
+impl<'a, P: PtrKey, T: Drop, S: SlotStack<Item = ArenaSlot<P, LinkNoGen<P, T>>>> Iterator
     for LinkDrain<'a, P, T, S> {
     type Item = InvalidationOption<(P, T)>;
 
@@ -105,7 +105,7 @@ impl<'a, P: Ptr, T: Drop, S: SlotStack<Item = ArenaSlot<P, LinkNoGen<P, T>>>> It
     }
 }
 
-impl<'a, P: Ptr, T: Drop, S: SlotStack<Item = ArenaSlot<P, LinkNoGen<P, T>>>> Drop
+impl<'a, P: PtrKey, T: Drop, S: SlotStack<Item = ArenaSlot<P, LinkNoGen<P, T>>>> Drop
     for LinkDrain<'a, P, T, S> {
     fn drop(self)
         ensures state { self.exit.0.now ≡ without_each P.Gen.following self.entry.arena.now (map index_of (entries_left self.entry.arena.now self.entry.at)) }

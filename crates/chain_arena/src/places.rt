@@ -10,13 +10,13 @@ ghost use Rattle.chain_arena.specs.Places.{GrowsByOne, gap_unless_refused, refus
 
 use crate::chain_arena::ChainArena;
 use arena_base::{ArenaSlot, ArenaTrait};
-use arena_ptr::{ChainInsertionError, Ptr, ReallocationError, SlotStack};
+use arena_ptr::{ChainInsertionError, PtrKey, ReallocationError, SlotStack};
 use chain_interlinks::gaps::Gap;
 use chain_interlinks::placing::{link_in, tie};
 use chain_links::facts::freed_are_free;
 use chain_links::{LinkInsertKind, LinkNoGen};
 
-impl<P: Ptr, T: Drop, S: SlotStack<Item = ArenaSlot<P, LinkNoGen<P, T>>>> ChainArena<P, T, S> {
+impl<P: PtrKey, T: Drop, S: SlotStack<Item = ArenaSlot<P, LinkNoGen<P, T>>>> ChainArena<P, T, S> {
     // Grows a full arena to room for one link more.
     pub(crate) fn make_room(&mut self) -> Result<(), ReallocationError>
         ensures { GrowsByOne P.Inx.greatest self.old result self.new }

@@ -5,12 +5,12 @@ ghost use Rattle.chain_arena.specs.Recasting.{IsRecastAt};
 
 use crate::chain_arena::ChainArena;
 use arena_base::{Advancer, ArenaSlot, ArenaTrait};
-use arena_ptr::{Ptr, Recast, Recaster, SlotStack};
+use arena_ptr::{PtrKey, Recast, Recaster, SlotStack};
 use chain_links::LinkNoGen;
 
 // Recasts the value of a pointer, where it is valid.
 fn recast_at<
-    P: Ptr,
+    P: PtrKey,
     I,
     T: Recast<I> + Drop,
     S: SlotStack<Item = ArenaSlot<P, LinkNoGen<P, T>>>,
@@ -24,7 +24,7 @@ fn recast_at<
     }
 }
 
-impl<P: Ptr, I, T: Recast<I> + Drop, S: SlotStack<Item = ArenaSlot<P, LinkNoGen<P, T>>>> Recast<I>
+impl<P: PtrKey, I, T: Recast<I> + Drop, S: SlotStack<Item = ArenaSlot<P, LinkNoGen<P, T>>>> Recast<I>
     for ChainArena<P, T, S> {
     ghost use Rattle.chain_arena.specs.Recasting.{IsRecast};
 

@@ -11,13 +11,13 @@ ghost use Rattle.chain_arena.specs.Transfers.{LaysOutAlike, IsTransfer, AreEnds}
 
 use crate::chain_arena::ChainArena;
 use arena_base::{Advancer, ArenaSlot, ArenaTrait, CompactArenaTrait};
-use arena_ptr::{InvalidationOption, Ptr, PtrInx, ReallocationError, SlotStack};
+use arena_ptr::{InvalidationOption, PtrKey, InxKey, ReallocationError, SlotStack};
 use chain_interlinks::gaps::Gap;
 use chain_links::LinkNoGen;
 use chain_traits::ChainArenaTrait;
 use chain_traits::sources::{agree, take_next};
 
-impl<P: Ptr, T: Drop, S: SlotStack<Item = ArenaSlot<P, LinkNoGen<P, T>>>> ChainArena<P, T, S> {
+impl<P: PtrKey, T: Drop, S: SlotStack<Item = ArenaSlot<P, LinkNoGen<P, T>>>> ChainArena<P, T, S> {
     /// Takes all links out of a source, lays its chains one after another from index 1 on, and leaves nothing else here.
     ///
     /// The chains are taken in the order of their least indexes, a linear one from its start, a cyclic one from its least
@@ -33,7 +33,7 @@ impl<P: Ptr, T: Drop, S: SlotStack<Item = ArenaSlot<P, LinkNoGen<P, T>>>> ChainA
     ///
     /// Carries `transfer_canonical_reallocating` of `triple_arena`.
     pub fn transfer_canonical_reallocating<
-        Q: Ptr,
+        Q: PtrKey,
         U: Drop,
         A: ChainArenaTrait<Q, U> + CompactArenaTrait<Q, U>,
         F: FnMut(Q, InvalidationOption<U>, P) -> T + Drop,
@@ -82,10 +82,10 @@ impl<P: Ptr, T: Drop, S: SlotStack<Item = ArenaSlot<P, LinkNoGen<P, T>>>> ChainA
 
 // Takes all links out of a source, which has no more than there is room for, and lays its chains one after another.
 fn carry_all<
-    P: Ptr,
+    P: PtrKey,
     T: Drop,
     S: SlotStack<Item = ArenaSlot<P, LinkNoGen<P, T>>>,
-    Q: Ptr,
+    Q: PtrKey,
     U: Drop,
     A: ChainArenaTrait<Q, U> + CompactArenaTrait<Q, U>,
     F: FnMut(Q, InvalidationOption<U>, P) -> T + Drop,
@@ -122,7 +122,7 @@ fn carry_all<
 }
 
 // The pointer of an index that is given by its number.
-fn pointer_at<P: Ptr>(index: usize, generation: P::Gen) -> P
+fn pointer_at<P: PtrKey>(index: usize, generation: P::Gen) -> P
     requires positive { 1 ≤ index }
     requires greatest { index ≤ P.Inx.greatest }
     ensures { P.key result ≡ (index, generation) }
@@ -134,7 +134,7 @@ fn pointer_at<P: Ptr>(index: usize, generation: P::Gen) -> P
 }
 
 // Where a new link comes at the end of a chain: behind its last, and in a ring before its first.
-fn gap_behind<I: PtrInx>(ring: bool, ends: Option<(I, I)>) -> Gap<I>
+fn gap_behind<I: InxKey>(ring: bool, ends: Option<(I, I)>) -> Gap<I>
     ensures before { (m q : ℕ) → AreEnds I.number ends m q → before_in I.number result q ≡ end_before ring m q }
     ensures after { (m q : ℕ) → AreEnds I.number ends m q → after_in I.number result q ≡ end_after ring m q }
 {
@@ -151,7 +151,7 @@ fn gap_behind<I: PtrInx>(ring: bool, ends: Option<(I, I)>) -> Gap<I>
 }
 
 // The ends of a chain with one more at its end.
-fn with_end<I: PtrInx>(ends: Option<(I, I)>, i: I) -> Option<(I, I)>
+fn with_end<I: InxKey>(ends: Option<(I, I)>, i: I) -> Option<(I, I)>
     ensures { (m : ℕ) → AreEnds I.number ends m (I.number i) → AreEnds I.number result (m + 1) (I.number i + 1) }
 {
     match ends {
@@ -162,7 +162,7 @@ fn with_end<I: PtrInx>(ends: Option<(I, I)>, i: I) -> Option<(I, I)>
 
 // Adds a link behind the last of a chain of which these are the ends, where there is room, at the index of a pointer.
 // Answers the ends with it.
-fn lay_behind<P: Ptr, T: Drop, S: SlotStack<Item = ArenaSlot<P, LinkNoGen<P, T>>>>(
+fn lay_behind<P: PtrKey, T: Drop, S: SlotStack<Item = ArenaSlot<P, LinkNoGen<P, T>>>>(
     target: &mut ChainArena<P, T, S>,
     ring: bool,
     ends: Option<(P::Inx, P::Inx)>,
@@ -185,9 +185,9 @@ fn lay_behind<P: Ptr, T: Drop, S: SlotStack<Item = ArenaSlot<P, LinkNoGen<P, T>>
 /// A compression and a transfer of the same links lay them out alike: each comes to the same index, and names the same
 /// neighbours.
 pub fn compression_and_transfer_agree<
-    P: Ptr,
+    P: PtrKey,
     T: Drop,
-    Q: Ptr,
+    Q: PtrKey,
     U: Drop,
     F: FnMut(Q, InvalidationOption<U>, P) -> T + Drop,
 >()

@@ -1,6 +1,6 @@
 // What is shown links that get other pointers: a closure, or a list.
 
-use arena_ptr::Ptr;
+use arena_ptr::PtrKey;
 use chain_layout::visiting::Visitor;
 
 // Shows each link to a closure.
@@ -9,7 +9,7 @@ pub(crate) struct Showing<F> {
     pub(crate) map: F,
 }
 
-impl<P: Ptr, F: FnMut(P, P) + Drop> Visitor<P> for Showing<F> {
+impl<P: PtrKey, F: FnMut(P, P) + Drop> Visitor<P> for Showing<F> {
     ghost use Rattle.std.specs.Fn.{Called};
 
     ghost is_ready = { λ v. F.IsAlwaysCallable v.map };
@@ -27,7 +27,7 @@ pub(crate) struct Listing<P> {
     pub(crate) moves: Vec<(P, P)>,
 }
 
-impl<P: Ptr> Visitor<P> for Listing<P> {
+impl<P: PtrKey> Visitor<P> for Listing<P> {
     ghost use Rattle.std.specs.Prelude.{⊤};
     ghost use Rattle.chain_layout.specs.Layouts.{IsListed};
 

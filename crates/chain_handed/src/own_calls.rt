@@ -11,12 +11,12 @@ ghost use Rattle.chain_arena.specs.Drains.{walk_left, without_each};
 ghost use Rattle.chain_arena.specs.Transfers.{IsTransfer};
 
 use arena_base::{ArenaSlot, ArenaTrait, CompactArenaTrait, Work};
-use arena_ptr::{InvalidationOption, Ptr, PtrInx, ReallocationError, SlotStack};
+use arena_ptr::{InvalidationOption, PtrKey, InxKey, ReallocationError, SlotStack};
 use chain_arena::{ChainArena, ChainArenaTrait, LinkNoGen};
 
 /// `ChainArena::drain_chain`, dropped at once: removes all links of a pointer's chain. `None`: the pointer is not valid, and
 /// nothing has changed.
-pub fn remove_chain<P: Ptr, T: Drop, S: SlotStack<Item = ArenaSlot<P, LinkNoGen<P, T>>>>(
+pub fn remove_chain<P: PtrKey, T: Drop, S: SlotStack<Item = ArenaSlot<P, LinkNoGen<P, T>>>>(
     arena: &mut ChainArena<P, T, S>,
     p: P,
 ) -> Option<()>
@@ -35,7 +35,7 @@ pub fn remove_chain<P: Ptr, T: Drop, S: SlotStack<Item = ArenaSlot<P, LinkNoGen<
 
 /// `ChainArena::compress_canonical_counted`.
 pub fn compress_canonical_counted<
-    P: Ptr,
+    P: PtrKey,
     T: Drop,
     S: SlotStack<Item = ArenaSlot<P, LinkNoGen<P, T>>>,
 >(arena: &mut ChainArena<P, T, S>, reset: bool) -> (InvalidationOption<()>, Work)
@@ -49,10 +49,10 @@ pub fn compress_canonical_counted<
 
 /// `ChainArena::transfer_canonical_reallocating`.
 pub fn transfer_canonical_reallocating<
-    P: Ptr,
+    P: PtrKey,
     T: Drop,
     S: SlotStack<Item = ArenaSlot<P, LinkNoGen<P, T>>>,
-    Q: Ptr,
+    Q: PtrKey,
     U: Drop,
     A: ChainArenaTrait<Q, U> + CompactArenaTrait<Q, U>,
     F: FnMut(Q, InvalidationOption<U>, P) -> T + Drop,

@@ -7,11 +7,11 @@ ghost use Rattle.chain_laws.specs.Operations.{joined};
 ghost use Rattle.chain_links.specs.ChainArena.{CanConnect};
 ghost use Rattle.chain_links.specs.CanonicalLayouts.{IsCanonicalLayout};
 
-use arena_ptr::{InvalidationOption, Ptr, PtrGen, PtrInx};
+use arena_ptr::{InvalidationOption, PtrKey, GenKey, InxKey};
 use chain_arena::ChainArenaTrait;
 
 /// `ChainArenaTrait::connect`.
-pub fn connect<P: Ptr, T: Drop, A: ChainArenaTrait<P, T>>(arena: &mut A, p: P, q: P) -> Option<()>
+pub fn connect<P: PtrKey, T: Drop, A: ChainArenaTrait<P, T>>(arena: &mut A, p: P, q: P) -> Option<()>
     ensures some { IsSome result ↔ CanConnect (A.entry arena.old) (A.interlinks arena.old) (P.key p) (P.key q) }
     ensures joined { OnSome result (A.interlinks arena.new ≡ joined (A.interlinks arena.old) (P.key p).0 (P.key q).0) }
     ensures seen { OnSome result (A.seen arena.new ≡ A.seen arena.old) }
@@ -22,7 +22,7 @@ pub fn connect<P: Ptr, T: Drop, A: ChainArenaTrait<P, T>>(arena: &mut A, p: P, q
 }
 
 /// `ChainArenaTrait::compress_canonical`.
-pub fn compress_canonical<P: Ptr, T: Drop, A: ChainArenaTrait<P, T>>(
+pub fn compress_canonical<P: PtrKey, T: Drop, A: ChainArenaTrait<P, T>>(
     arena: &mut A,
     reset: bool,
 ) -> InvalidationOption<()>

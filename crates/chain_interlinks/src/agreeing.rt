@@ -8,12 +8,12 @@ ghost use Rattle.chain_links.specs.Links.{seen_links};
 
 use crate::gaps::is_index;
 use arena_base::{Arena, ArenaSlot, ArenaTrait, inx_at};
-use arena_ptr::{Ptr, PtrInx, SlotStack};
+use arena_ptr::{PtrKey, InxKey, SlotStack};
 use chain_links::LinkNoGen;
 use chain_links::facts::has_room;
 
 /// The indexes that the link at an index names: of the link before it and of the one after it. No link stands there: none.
-pub fn neighbors_at<P: Ptr, T: Drop, S: SlotStack<Item = ArenaSlot<P, LinkNoGen<P, T>>>>(
+pub fn neighbors_at<P: PtrKey, T: Drop, S: SlotStack<Item = ArenaSlot<P, LinkNoGen<P, T>>>>(
     arena: &Arena<P, LinkNoGen<P, T>, S>,
     i: P::Inx,
 ) -> (Option<P::Inx>, Option<P::Inx>)
@@ -27,7 +27,7 @@ pub fn neighbors_at<P: Ptr, T: Drop, S: SlotStack<Item = ArenaSlot<P, LinkNoGen<
 }
 
 /// Whether the link that comes after the one at an index, if there is one, names it as the link before.
-pub fn agrees_forth<P: Ptr, T: Drop, S: SlotStack<Item = ArenaSlot<P, LinkNoGen<P, T>>>>(
+pub fn agrees_forth<P: PtrKey, T: Drop, S: SlotStack<Item = ArenaSlot<P, LinkNoGen<P, T>>>>(
     arena: &Arena<P, LinkNoGen<P, T>, S>,
     i: P::Inx,
 ) -> bool
@@ -40,7 +40,7 @@ pub fn agrees_forth<P: Ptr, T: Drop, S: SlotStack<Item = ArenaSlot<P, LinkNoGen<
 }
 
 // Whether the link that comes before the one at an index, if there is one, names it as the link after.
-fn agrees_back<P: Ptr, T: Drop, S: SlotStack<Item = ArenaSlot<P, LinkNoGen<P, T>>>>(
+fn agrees_back<P: PtrKey, T: Drop, S: SlotStack<Item = ArenaSlot<P, LinkNoGen<P, T>>>>(
     arena: &Arena<P, LinkNoGen<P, T>, S>,
     i: P::Inx,
 ) -> bool
@@ -53,7 +53,7 @@ fn agrees_back<P: Ptr, T: Drop, S: SlotStack<Item = ArenaSlot<P, LinkNoGen<P, T>
 }
 
 /// Whether the interlinks of the link at an index are answered.
-pub fn agrees_at<P: Ptr, T: Drop, S: SlotStack<Item = ArenaSlot<P, LinkNoGen<P, T>>>>(
+pub fn agrees_at<P: PtrKey, T: Drop, S: SlotStack<Item = ArenaSlot<P, LinkNoGen<P, T>>>>(
     arena: &Arena<P, LinkNoGen<P, T>, S>,
     i: P::Inx,
 ) -> bool
@@ -66,7 +66,7 @@ pub fn agrees_at<P: Ptr, T: Drop, S: SlotStack<Item = ArenaSlot<P, LinkNoGen<P, 
 /// valid index. It takes time in proportion to the slots.
 ///
 /// It stands in place of `_check_interlinks` of `triple_arena`, which is hidden there.
-pub fn links_agree<P: Ptr, T: Drop, S: SlotStack<Item = ArenaSlot<P, LinkNoGen<P, T>>>>(
+pub fn links_agree<P: PtrKey, T: Drop, S: SlotStack<Item = ArenaSlot<P, LinkNoGen<P, T>>>>(
     arena: &Arena<P, LinkNoGen<P, T>, S>,
 ) -> bool
     ensures { IsTrue result ↔ Agrees (shown (seen_links P.Inx.packed_number arena.now)) }

@@ -8,7 +8,7 @@ ghost use Rattle.chain_links.specs.Links.{seen_links};
 ghost use Rattle.chain_links.specs.Walkers.{links_ahead, seen_item, index_and_entry};
 
 use arena_base::{Arena, ArenaSlot, ArenaTrait};
-use arena_ptr::{Ptr, SlotStack};
+use arena_ptr::{PtrKey, SlotStack};
 use chain_links::LinkNoGen;
 use chain_links::walks::{going_back, going_on};
 use std::marker::Model;
@@ -18,7 +18,7 @@ use std::marker::Model;
 ///
 /// Made by `ChainArena::iter_chain`. Stands for the `impl Iterator` of `triple_arena`'s `iter_chain`.
 #[derive(Drop)]
-pub struct ChainIter<'a, P: Ptr, T: Drop, S: SlotStack<Item = ArenaSlot<P, LinkNoGen<P, T>>>> {
+pub struct ChainIter<'a, P: PtrKey, T: Drop, S: SlotStack<Item = ArenaSlot<P, LinkNoGen<P, T>>>> {
     arena: &'a Arena<P, LinkNoGen<P, T>, S>,
     start: P::Inx,
     forth: Option<P::Inx>,
@@ -28,7 +28,7 @@ pub struct ChainIter<'a, P: Ptr, T: Drop, S: SlotStack<Item = ArenaSlot<P, LinkN
     left: usize,
 }
 
-impl<'a, P: Ptr, T: Drop, S: SlotStack<Item = ArenaSlot<P, LinkNoGen<P, T>>>> Model
+impl<'a, P: PtrKey, T: Drop, S: SlotStack<Item = ArenaSlot<P, LinkNoGen<P, T>>>> Model
     for ChainIter<'a, P, T, S> {
     ghost use Rattle.std.specs.Prelude.{ℕ, List};
     ghost use Rattle.std.specs.Option.{option_map};
@@ -43,7 +43,7 @@ impl<'a, P: Ptr, T: Drop, S: SlotStack<Item = ArenaSlot<P, LinkNoGen<P, T>>>> Mo
         (option_map P.Inx.number it.forth) (option_map P.Inx.number it.back) };
 }
 
-impl<'a, P: Ptr, T: Drop, S: SlotStack<Item = ArenaSlot<P, LinkNoGen<P, T>>>> ChainIter<
+impl<'a, P: PtrKey, T: Drop, S: SlotStack<Item = ArenaSlot<P, LinkNoGen<P, T>>>> ChainIter<
     'a,
     P,
     T,
@@ -69,7 +69,7 @@ impl<'a, P: Ptr, T: Drop, S: SlotStack<Item = ArenaSlot<P, LinkNoGen<P, T>>>> Ch
     }
 }
 
-impl<'a, P: Ptr, T: Drop, S: SlotStack<Item = ArenaSlot<P, LinkNoGen<P, T>>>> Iterator
+impl<'a, P: PtrKey, T: Drop, S: SlotStack<Item = ArenaSlot<P, LinkNoGen<P, T>>>> Iterator
     for ChainIter<'a, P, T, S> {
     type Item = (P, &'a LinkNoGen<P, T>);
 
@@ -107,7 +107,7 @@ impl<'a, P: Ptr, T: Drop, S: SlotStack<Item = ArenaSlot<P, LinkNoGen<P, T>>>> It
 }
 
 /// The pointer and the link at an index.
-pub fn look<P: Ptr, T: Drop, S: SlotStack<Item = ArenaSlot<P, LinkNoGen<P, T>>>>(
+pub fn look<P: PtrKey, T: Drop, S: SlotStack<Item = ArenaSlot<P, LinkNoGen<P, T>>>>(
     arena: &Arena<P, LinkNoGen<P, T>, S>,
     i: P::Inx,
 ) -> Option<(P, &LinkNoGen<P, T>)>
@@ -121,7 +121,7 @@ pub fn look<P: Ptr, T: Drop, S: SlotStack<Item = ArenaSlot<P, LinkNoGen<P, T>>>>
 }
 
 /// The link that a walker passes next, by its pointer, and where it goes from there.
-pub fn step<P: Ptr, T: Drop, S: SlotStack<Item = ArenaSlot<P, LinkNoGen<P, T>>>>(
+pub fn step<P: PtrKey, T: Drop, S: SlotStack<Item = ArenaSlot<P, LinkNoGen<P, T>>>>(
     arena: &Arena<P, LinkNoGen<P, T>, S>,
     start: P::Inx,
     forth: Option<P::Inx>,

@@ -9,7 +9,7 @@ ghost use Rattle.chain_links.specs.Kinds.{HasName, name_of, named_in};
 ghost use Rattle.chain_interlinks.specs.Gaps.{IsGapOf};
 
 use arena_base::{Arena, ArenaSlot, ArenaTrait};
-use arena_ptr::{Ptr, PtrInx, SlotStack};
+use arena_ptr::{PtrKey, InxKey, SlotStack};
 use chain_links::LinkNoGen;
 use chain_links::kinds::{Name, NamedKind, index_of};
 
@@ -21,7 +21,7 @@ pub enum Gap<I> {
 }
 
 // The link that has a name.
-fn find<P: Ptr, T: Drop, S: SlotStack<Item = ArenaSlot<P, LinkNoGen<P, T>>>>(
+fn find<P: PtrKey, T: Drop, S: SlotStack<Item = ArenaSlot<P, LinkNoGen<P, T>>>>(
     arena: &Arena<P, LinkNoGen<P, T>, S>,
     name: Name<P, P::Inx>,
 ) -> Option<&LinkNoGen<P, T>>
@@ -38,7 +38,7 @@ fn find<P: Ptr, T: Drop, S: SlotStack<Item = ArenaSlot<P, LinkNoGen<P, T>>>>(
 }
 
 /// The index of the link after the one that has a name.
-pub fn next_of<P: Ptr, T: Drop, S: SlotStack<Item = ArenaSlot<P, LinkNoGen<P, T>>>>(
+pub fn next_of<P: PtrKey, T: Drop, S: SlotStack<Item = ArenaSlot<P, LinkNoGen<P, T>>>>(
     arena: &Arena<P, LinkNoGen<P, T>, S>,
     name: Name<P, P::Inx>,
 ) -> Option<P::Inx>
@@ -52,7 +52,7 @@ pub fn next_of<P: Ptr, T: Drop, S: SlotStack<Item = ArenaSlot<P, LinkNoGen<P, T>
 }
 
 /// The index of the link before the one that has a name.
-pub fn prev_of<P: Ptr, T: Drop, S: SlotStack<Item = ArenaSlot<P, LinkNoGen<P, T>>>>(
+pub fn prev_of<P: PtrKey, T: Drop, S: SlotStack<Item = ArenaSlot<P, LinkNoGen<P, T>>>>(
     arena: &Arena<P, LinkNoGen<P, T>, S>,
     name: Name<P, P::Inx>,
 ) -> Option<P::Inx>
@@ -66,7 +66,7 @@ pub fn prev_of<P: Ptr, T: Drop, S: SlotStack<Item = ArenaSlot<P, LinkNoGen<P, T>
 }
 
 /// Whether an optional index is this one.
-pub fn is_index<I: PtrInx>(i: Option<I>, j: I) -> bool
+pub fn is_index<I: InxKey>(i: Option<I>, j: I) -> bool
     ensures { IsTrue result ↔ (option_map I.number i ≡ Some (I.number j)) }
 {
     match i {
@@ -76,7 +76,7 @@ pub fn is_index<I: PtrInx>(i: Option<I>, j: I) -> bool
 }
 
 // After the end of a chain.
-fn after_end<P: Ptr, T: Drop, S: SlotStack<Item = ArenaSlot<P, LinkNoGen<P, T>>>>(
+fn after_end<P: PtrKey, T: Drop, S: SlotStack<Item = ArenaSlot<P, LinkNoGen<P, T>>>>(
     arena: &Arena<P, LinkNoGen<P, T>, S>,
     a: Name<P, P::Inx>,
 ) -> Option<Gap<P::Inx>>
@@ -95,7 +95,7 @@ fn after_end<P: Ptr, T: Drop, S: SlotStack<Item = ArenaSlot<P, LinkNoGen<P, T>>>
 }
 
 // Before the start of a chain.
-fn before_start<P: Ptr, T: Drop, S: SlotStack<Item = ArenaSlot<P, LinkNoGen<P, T>>>>(
+fn before_start<P: PtrKey, T: Drop, S: SlotStack<Item = ArenaSlot<P, LinkNoGen<P, T>>>>(
     arena: &Arena<P, LinkNoGen<P, T>, S>,
     b: Name<P, P::Inx>,
 ) -> Option<Gap<P::Inx>>
@@ -114,7 +114,7 @@ fn before_start<P: Ptr, T: Drop, S: SlotStack<Item = ArenaSlot<P, LinkNoGen<P, T
 }
 
 // After a link.
-fn after<P: Ptr, T: Drop, S: SlotStack<Item = ArenaSlot<P, LinkNoGen<P, T>>>>(
+fn after<P: PtrKey, T: Drop, S: SlotStack<Item = ArenaSlot<P, LinkNoGen<P, T>>>>(
     arena: &Arena<P, LinkNoGen<P, T>, S>,
     a: Name<P, P::Inx>,
 ) -> Option<Gap<P::Inx>>
@@ -127,7 +127,7 @@ fn after<P: Ptr, T: Drop, S: SlotStack<Item = ArenaSlot<P, LinkNoGen<P, T>>>>(
 }
 
 // Before a link.
-fn before<P: Ptr, T: Drop, S: SlotStack<Item = ArenaSlot<P, LinkNoGen<P, T>>>>(
+fn before<P: PtrKey, T: Drop, S: SlotStack<Item = ArenaSlot<P, LinkNoGen<P, T>>>>(
     arena: &Arena<P, LinkNoGen<P, T>, S>,
     b: Name<P, P::Inx>,
 ) -> Option<Gap<P::Inx>>
@@ -140,7 +140,7 @@ fn before<P: Ptr, T: Drop, S: SlotStack<Item = ArenaSlot<P, LinkNoGen<P, T>>>>(
 }
 
 // Between two neighbors.
-fn between<P: Ptr, T: Drop, S: SlotStack<Item = ArenaSlot<P, LinkNoGen<P, T>>>>(
+fn between<P: PtrKey, T: Drop, S: SlotStack<Item = ArenaSlot<P, LinkNoGen<P, T>>>>(
     arena: &Arena<P, LinkNoGen<P, T>, S>,
     a: Name<P, P::Inx>,
     b: Name<P, P::Inx>,
@@ -160,7 +160,7 @@ fn between<P: Ptr, T: Drop, S: SlotStack<Item = ArenaSlot<P, LinkNoGen<P, T>>>>(
 }
 
 // After the end of a chain and before the start of one.
-fn bridging<P: Ptr, T: Drop, S: SlotStack<Item = ArenaSlot<P, LinkNoGen<P, T>>>>(
+fn bridging<P: PtrKey, T: Drop, S: SlotStack<Item = ArenaSlot<P, LinkNoGen<P, T>>>>(
     arena: &Arena<P, LinkNoGen<P, T>, S>,
     a: Name<P, P::Inx>,
     b: Name<P, P::Inx>,
@@ -175,7 +175,7 @@ fn bridging<P: Ptr, T: Drop, S: SlotStack<Item = ArenaSlot<P, LinkNoGen<P, T>>>>
 }
 
 /// The gap of a kind. `None`: what the kind asks is not met.
-pub fn gap_of<P: Ptr, T: Drop, S: SlotStack<Item = ArenaSlot<P, LinkNoGen<P, T>>>>(
+pub fn gap_of<P: PtrKey, T: Drop, S: SlotStack<Item = ArenaSlot<P, LinkNoGen<P, T>>>>(
     arena: &Arena<P, LinkNoGen<P, T>, S>,
     kind: NamedKind<Name<P, P::Inx>>,
 ) -> Option<Gap<P::Inx>>

@@ -9,12 +9,12 @@ ghost use Rattle.chain_links.specs.Links.{seen_links, seen_pair};
 
 use arena_base::{Arena, ArenaSlot, ArenaTrait, outcome};
 use arena_ptr::{
-    ChainInsertionError, InvalidationResult, Ptr, PtrInx, ReallocationError, SlotStack,
+    ChainInsertionError, InvalidationResult, PtrKey, InxKey, ReallocationError, SlotStack,
 };
 use chain_links::LinkNoGen;
 
 /// Whether q may come after p.
-pub fn can_connect<P: Ptr, T: Drop, S: SlotStack<Item = ArenaSlot<P, LinkNoGen<P, T>>>>(
+pub fn can_connect<P: PtrKey, T: Drop, S: SlotStack<Item = ArenaSlot<P, LinkNoGen<P, T>>>>(
     arena: &Arena<P, LinkNoGen<P, T>, S>,
     p: P,
     q: P,
@@ -31,7 +31,7 @@ pub fn can_connect<P: Ptr, T: Drop, S: SlotStack<Item = ArenaSlot<P, LinkNoGen<P
 }
 
 /// The pointer of now to the link that an interlink names.
-pub fn neighbor<P: Ptr, T: Drop, S: SlotStack<Item = ArenaSlot<P, LinkNoGen<P, T>>>>(
+pub fn neighbor<P: PtrKey, T: Drop, S: SlotStack<Item = ArenaSlot<P, LinkNoGen<P, T>>>>(
     arena: &Arena<P, LinkNoGen<P, T>, S>,
     i: Option<P::Inx>,
 ) -> Option<P>
@@ -47,7 +47,7 @@ pub fn neighbor<P: Ptr, T: Drop, S: SlotStack<Item = ArenaSlot<P, LinkNoGen<P, T
 }
 
 /// The link at i, if i is an index and a link stands there, names another as the one after it.
-pub fn set_next<P: Ptr, T: Drop, S: SlotStack<Item = ArenaSlot<P, LinkNoGen<P, T>>>>(
+pub fn set_next<P: PtrKey, T: Drop, S: SlotStack<Item = ArenaSlot<P, LinkNoGen<P, T>>>>(
     arena: &mut Arena<P, LinkNoGen<P, T>, S>,
     i: Option<P::Inx>,
     next: Option<P::Inx>,
@@ -65,7 +65,7 @@ pub fn set_next<P: Ptr, T: Drop, S: SlotStack<Item = ArenaSlot<P, LinkNoGen<P, T
 }
 
 /// The link at i, if i is an index and a link stands there, names another as the one before it.
-pub fn set_prev<P: Ptr, T: Drop, S: SlotStack<Item = ArenaSlot<P, LinkNoGen<P, T>>>>(
+pub fn set_prev<P: PtrKey, T: Drop, S: SlotStack<Item = ArenaSlot<P, LinkNoGen<P, T>>>>(
     arena: &mut Arena<P, LinkNoGen<P, T>, S>,
     i: Option<P::Inx>,
     prev: Option<P::Inx>,
@@ -83,7 +83,7 @@ pub fn set_prev<P: Ptr, T: Drop, S: SlotStack<Item = ArenaSlot<P, LinkNoGen<P, T
 }
 
 /// One link follows another, each where it is some index at which a link stands.
-pub fn link_up<P: Ptr, T: Drop, S: SlotStack<Item = ArenaSlot<P, LinkNoGen<P, T>>>>(
+pub fn link_up<P: PtrKey, T: Drop, S: SlotStack<Item = ArenaSlot<P, LinkNoGen<P, T>>>>(
     arena: &mut Arena<P, LinkNoGen<P, T>, S>,
     prev: Option<P::Inx>,
     next: Option<P::Inx>,
@@ -96,7 +96,7 @@ pub fn link_up<P: Ptr, T: Drop, S: SlotStack<Item = ArenaSlot<P, LinkNoGen<P, T>
 }
 
 /// One link follows another, and then a third a fourth, each where it is some index at which a link stands.
-pub fn link_twice<P: Ptr, T: Drop, S: SlotStack<Item = ArenaSlot<P, LinkNoGen<P, T>>>>(
+pub fn link_twice<P: PtrKey, T: Drop, S: SlotStack<Item = ArenaSlot<P, LinkNoGen<P, T>>>>(
     arena: &mut Arena<P, LinkNoGen<P, T>, S>,
     first: (Option<P::Inx>, Option<P::Inx>),
     second: (Option<P::Inx>, Option<P::Inx>),
@@ -110,7 +110,7 @@ pub fn link_twice<P: Ptr, T: Drop, S: SlotStack<Item = ArenaSlot<P, LinkNoGen<P,
 }
 
 /// Takes the link at an index out, and links those that it stood between.
-pub fn take_out<P: Ptr, T: Drop, S: SlotStack<Item = ArenaSlot<P, LinkNoGen<P, T>>>>(
+pub fn take_out<P: PtrKey, T: Drop, S: SlotStack<Item = ArenaSlot<P, LinkNoGen<P, T>>>>(
     arena: &mut Arena<P, LinkNoGen<P, T>, S>,
     i: P::Inx,
 ) -> InvalidationResult<(P::Gen, LinkNoGen<P, T>)>

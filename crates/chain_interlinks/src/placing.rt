@@ -8,11 +8,11 @@ ghost use Rattle.chain_interlinks.specs.Gaps.{before_in, after_in, named_before,
 use crate::gaps::Gap;
 use crate::interlinks::{set_next, set_prev};
 use arena_base::{Arena, ArenaSlot};
-use arena_ptr::{Ptr, PtrInx, SlotStack};
+use arena_ptr::{PtrKey, InxKey, SlotStack};
 use chain_links::{LinkBody, LinkNoGen};
 
 /// The new link of a gap. Where it is its own neighbor it names none yet, since its index is not known.
-pub fn link_in<P: Ptr, T>(gap: Gap<P::Inx>, t: T) -> LinkNoGen<P, T>
+pub fn link_in<P: PtrKey, T>(gap: Gap<P::Inx>, t: T) -> LinkNoGen<P, T>
     ensures { seen_link P.Inx.packed_number result ≡ new_link t (named_before P.Inx.number gap) (named_after P.Inx.number gap) }
 {
     match gap {
@@ -22,7 +22,7 @@ pub fn link_in<P: Ptr, T>(gap: Gap<P::Inx>, t: T) -> LinkNoGen<P, T>
 }
 
 /// The links beside a new one at an index.
-pub fn around<I: PtrInx>(gap: Gap<I>, i: I) -> (Option<I>, Option<I>)
+pub fn around<I: InxKey>(gap: Gap<I>, i: I) -> (Option<I>, Option<I>)
     ensures before { option_map I.number result.0 ≡ before_in I.number gap (I.number i) }
     ensures after { option_map I.number result.1 ≡ after_in I.number gap (I.number i) }
 {
@@ -33,7 +33,7 @@ pub fn around<I: PtrInx>(gap: Gap<I>, i: I) -> (Option<I>, Option<I>)
 }
 
 /// The links of a gap name the new one.
-pub fn tie<P: Ptr, T: Drop, S: SlotStack<Item = ArenaSlot<P, LinkNoGen<P, T>>>>(
+pub fn tie<P: PtrKey, T: Drop, S: SlotStack<Item = ArenaSlot<P, LinkNoGen<P, T>>>>(
     arena: &mut Arena<P, LinkNoGen<P, T>, S>,
     gap: Gap<P::Inx>,
     p: P,

@@ -1,8 +1,7 @@
--- Where a named link stands once one has moved, and where a walk goes on to.
+-- Where a named link stands once one has moved.
 use Rattle.std.proofs.Common.{◌≡◌, ℕ, Bool, true, false, Option, None, Some, sym, ap, ◌∙◌}
 use Rattle.std.specs.Option.{option_map}
 use Rattle.chain_laws.specs.Moves.{moved_index}
-use Rattle.chain_laws.specs.Walks.{going_on}
 use Rattle.chain_laws.proofs.Agreement.{if_same, if_other}
 
 -- two that a test tells apart
@@ -24,20 +23,7 @@ module _ {I : Type 0} (number : I → ℕ) (same_number : (i j : I) → number i
       let at : moved_index (number from) (number to) (number k) ≡ number k = if_other (number k) (number from) (number to) (number k) (λ e. differs (same_number k from e)) in
       sym (ap (λ (o : Option I). option_map (moved_index (number from) (number to)) (option_map number o)) is ∙ ap (λ (n : ℕ). Some n) at)
 
-  pub comes_round : (start : I) → k ≡ start → None ≡ going_on (number start) (option_map number named)
-  comes_round start same =
-      let at : going_on (number start) (Some (number k)) ≡ None = if_same (number k) (number start) None (Some (number k)) (ap number same) in
-      sym (ap (λ (o : Option I). going_on (number start) (option_map number o)) is ∙ at)
-
-  pub goes_on : (start : I) → (k ≡ start → ⊥) → Some (number k) ≡ going_on (number start) (option_map number named)
-  goes_on start differs =
-      let at : going_on (number start) (Some (number k)) ≡ Some (number k) = if_other (number k) (number start) None (Some (number k)) (λ e. differs (same_number k start e)) in
-      sym (ap (λ (o : Option I). going_on (number start) (option_map number o)) is ∙ at)
-
 -- where none is named
 module _ {I : Type 0} (number : I → ℕ) (named : Option I) (is : named ≡ None) where
   pub none_moved : (from to : I) → None ≡ option_map (moved_index (number from) (number to)) (option_map number named)
   none_moved from to = sym (ap (λ (o : Option I). option_map (moved_index (number from) (number to)) (option_map number o)) is)
-
-  pub none_follows : (start : I) → None ≡ going_on (number start) (option_map number named)
-  none_follows start = sym (ap (λ (o : Option I). going_on (number start) (option_map number o)) is)

@@ -16,12 +16,12 @@ use crate::moving::move_all;
 use crate::numbering::number_all;
 use crate::visiting::Visitor;
 use arena_base::{Arena, ArenaSlot, Compactor, SlotAccess, Work, inx_at};
-use arena_ptr::{Ptr, PtrInx, SlotStack};
+use arena_ptr::{PtrKey, InxKey, SlotStack};
 use chain_links::LinkNoGen;
 use chain_links::facts::has_room;
 
 /// Takes all destinations away.
-pub fn empty_all<P: Ptr, T: Drop, S: SlotStack<Item = ArenaSlot<P, LinkNoGen<P, T>>>>(
+pub fn empty_all<P: PtrKey, T: Drop, S: SlotStack<Item = ArenaSlot<P, LinkNoGen<P, T>>>>(
     compactor: &mut Compactor<'_, P, LinkNoGen<P, T>, S>,
 )
     requires fits { length compactor.old.held.slots ≤ P.Inx.greatest }
@@ -37,7 +37,7 @@ pub fn empty_all<P: Ptr, T: Drop, S: SlotStack<Item = ArenaSlot<P, LinkNoGen<P, 
 }
 
 // The destination of the link that an interlink names.
-fn destination_of<P: Ptr, T: Drop, S: SlotStack<Item = ArenaSlot<P, LinkNoGen<P, T>>>>(
+fn destination_of<P: PtrKey, T: Drop, S: SlotStack<Item = ArenaSlot<P, LinkNoGen<P, T>>>>(
     compactor: &mut Compactor<'_, P, LinkNoGen<P, T>, S>,
     named: Option<P::Inx>,
 ) -> Option<P::Inx>
@@ -57,7 +57,7 @@ fn destination_of<P: Ptr, T: Drop, S: SlotStack<Item = ArenaSlot<P, LinkNoGen<P,
 }
 
 // The link at an index, if one stands there, names the destinations of its neighbors.
-fn rename_at<P: Ptr, T: Drop, S: SlotStack<Item = ArenaSlot<P, LinkNoGen<P, T>>>>(
+fn rename_at<P: PtrKey, T: Drop, S: SlotStack<Item = ArenaSlot<P, LinkNoGen<P, T>>>>(
     compactor: &mut Compactor<'_, P, LinkNoGen<P, T>, S>,
     i: P::Inx,
 )
@@ -83,7 +83,7 @@ fn rename_at<P: Ptr, T: Drop, S: SlotStack<Item = ArenaSlot<P, LinkNoGen<P, T>>>
 }
 
 // Each link names the destinations of its neighbors.
-fn rename_all<P: Ptr, T: Drop, S: SlotStack<Item = ArenaSlot<P, LinkNoGen<P, T>>>>(
+fn rename_all<P: PtrKey, T: Drop, S: SlotStack<Item = ArenaSlot<P, LinkNoGen<P, T>>>>(
     compactor: &mut Compactor<'_, P, LinkNoGen<P, T>, S>,
 )
     requires fits { length compactor.old.held.slots ≤ P.Inx.greatest }
@@ -101,7 +101,7 @@ fn rename_all<P: Ptr, T: Drop, S: SlotStack<Item = ArenaSlot<P, LinkNoGen<P, T>>
 /// Lays the links out: each gets its destination, names those of its neighbors, and moves there, with the counter as its
 /// generation. The visitor sees each, by the pointer that it had and the one that it has. The slots are exactly the links
 /// then.
-pub fn lay_out<P: Ptr, T: Drop, S: SlotStack<Item = ArenaSlot<P, LinkNoGen<P, T>>>, V: Visitor<P>>(
+pub fn lay_out<P: PtrKey, T: Drop, S: SlotStack<Item = ArenaSlot<P, LinkNoGen<P, T>>>, V: Visitor<P>>(
     arena: &mut Arena<P, LinkNoGen<P, T>, S>,
     visitor: V,
 ) -> (V, Work)

@@ -18,12 +18,12 @@ ghost use Rattle.chain_layout.specs.Compressions.{AreGathered};
 
 use crate::looking::look_at;
 use arena_base::{Arena, ArenaSlot, ArenaTrait, Compactor, SlotAccess, inx_at};
-use arena_ptr::{InvalidationOption, Ptr, PtrGen, PtrInx, SlotStack};
+use arena_ptr::{InvalidationOption, PtrKey, GenKey, InxKey, SlotStack};
 use chain_links::LinkNoGen;
 use chain_links::facts::has_room;
 
 /// Where the link that an interlink names stands, once the one at `from` has come to `to`.
-fn index_now<I: PtrInx>(named: Option<I>, from: I, to: I) -> Option<I>
+fn index_now<I: InxKey>(named: Option<I>, from: I, to: I) -> Option<I>
     ensures { option_map I.number result ≡ option_map (moved_index (I.number from) (I.number to)) (option_map I.number named) }
 {
     match named {
@@ -33,7 +33,7 @@ fn index_now<I: PtrInx>(named: Option<I>, from: I, to: I) -> Option<I>
 }
 
 // The link at i, if i is an index and a link stands there, names another as the one before it, or as the one after it.
-fn tell<P: Ptr, T: Drop, S: SlotStack<Item = ArenaSlot<P, LinkNoGen<P, T>>>>(
+fn tell<P: PtrKey, T: Drop, S: SlotStack<Item = ArenaSlot<P, LinkNoGen<P, T>>>>(
     compactor: &mut Compactor<'_, P, LinkNoGen<P, T>, S>,
     i: Option<P::Inx>,
     before: bool,
@@ -60,7 +60,7 @@ fn tell<P: Ptr, T: Drop, S: SlotStack<Item = ArenaSlot<P, LinkNoGen<P, T>>>>(
 
 // Brings the link at an index to another, where one stands there, gives it a generation, and tells its neighbors.
 // Answers the generation that it had.
-fn move_link<P: Ptr, T: Drop, S: SlotStack<Item = ArenaSlot<P, LinkNoGen<P, T>>>>(
+fn move_link<P: PtrKey, T: Drop, S: SlotStack<Item = ArenaSlot<P, LinkNoGen<P, T>>>>(
     compactor: &mut Compactor<'_, P, LinkNoGen<P, T>, S>,
     from: P::Inx,
     to: P::Inx,
@@ -91,7 +91,7 @@ fn move_link<P: Ptr, T: Drop, S: SlotStack<Item = ArenaSlot<P, LinkNoGen<P, T>>>
 // Brings each link to the first index that is free, by rising index, gives it the generation, tells its neighbors, and
 // shows it to the closure: with the pointer that it had, its value, for writing, and the pointer that it has.
 fn close_gaps<
-    P: Ptr,
+    P: PtrKey,
     T: Drop,
     S: SlotStack<Item = ArenaSlot<P, LinkNoGen<P, T>>>,
     F: FnMut(P, &mut T, P) + Drop,
@@ -128,7 +128,7 @@ fn close_gaps<
 }
 
 /// Sets the counter for a compression: anew with a reset, and else incremented where there are links.
-pub fn begin_generation<P: Ptr, T: Drop, S: SlotStack<Item = ArenaSlot<P, T>>>(
+pub fn begin_generation<P: PtrKey, T: Drop, S: SlotStack<Item = ArenaSlot<P, T>>>(
     arena: &mut Arena<P, T, S>,
     reset: bool,
 ) -> InvalidationOption<()>
@@ -148,7 +148,7 @@ pub fn begin_generation<P: Ptr, T: Drop, S: SlotStack<Item = ArenaSlot<P, T>>>(
 /// Brings the links together, gives each the counter as its generation, tells the neighbors, and shows each value to the
 /// closure. The slots are exactly the links then.
 pub fn gather<
-    P: Ptr,
+    P: PtrKey,
     T: Drop,
     S: SlotStack<Item = ArenaSlot<P, LinkNoGen<P, T>>>,
     F: FnMut(P, &mut T, P) + Drop,

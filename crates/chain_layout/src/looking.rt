@@ -10,12 +10,12 @@ ghost use Rattle.chain_layout.specs.Looks.{HasLooked};
 ghost use Rattle.chain_layout.specs.Numbering.{given, IsDirectedAt};
 
 use arena_base::{ArenaSlot, Compactor, SlotAccess};
-use arena_ptr::{Ptr, PtrInx, SlotStack};
+use arena_ptr::{PtrKey, InxKey, SlotStack};
 use chain_links::LinkNoGen;
 
 // Of the link at an index, if one stands there: its generation, the indexes of the links before and after it, and its
 // destination.
-pub(crate) fn look_at<P: Ptr, T: Drop, S: SlotStack<Item = ArenaSlot<P, LinkNoGen<P, T>>>>(
+pub(crate) fn look_at<P: PtrKey, T: Drop, S: SlotStack<Item = ArenaSlot<P, LinkNoGen<P, T>>>>(
     compactor: &mut Compactor<'_, P, LinkNoGen<P, T>, S>,
     i: P::Inx,
 ) -> (
@@ -37,7 +37,7 @@ pub(crate) fn look_at<P: Ptr, T: Drop, S: SlotStack<Item = ArenaSlot<P, LinkNoGe
 }
 
 // The link at an index, if one stands there, gets another destination, or none.
-pub(crate) fn direct_at<P: Ptr, T: Drop, S: SlotStack<Item = ArenaSlot<P, LinkNoGen<P, T>>>>(
+pub(crate) fn direct_at<P: PtrKey, T: Drop, S: SlotStack<Item = ArenaSlot<P, LinkNoGen<P, T>>>>(
     compactor: &mut Compactor<'_, P, LinkNoGen<P, T>, S>,
     i: P::Inx,
     destination: Option<P::Inx>,

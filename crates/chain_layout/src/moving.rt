@@ -8,11 +8,11 @@ ghost use Rattle.chain_layout.specs.Counts.{CountsOn};
 ghost use Rattle.chain_layout.specs.Moving.{Waits, WaitsWithin, IsSettling, HaveMoved, CanMoveAll, waiting, goal_of, Settles, IsTakenOut, IsWorkOn};
 
 use arena_base::{ArenaSlot, Compactor, SlotAccess, inx_at};
-use arena_ptr::{Ptr, PtrInx, SlotStack};
+use arena_ptr::{PtrKey, InxKey, SlotStack};
 use chain_links::LinkNoGen;
 
 // Takes the destination of the link at an index out, where a link stands there that has one.
-fn take_at<P: Ptr, T: Drop, S: SlotStack<Item = ArenaSlot<P, LinkNoGen<P, T>>>>(
+fn take_at<P: PtrKey, T: Drop, S: SlotStack<Item = ArenaSlot<P, LinkNoGen<P, T>>>>(
     compactor: &mut Compactor<'_, P, LinkNoGen<P, T>, S>,
     i: P::Inx,
 ) -> Option<P::Inx>
@@ -31,7 +31,7 @@ fn take_at<P: Ptr, T: Drop, S: SlotStack<Item = ArenaSlot<P, LinkNoGen<P, T>>>>(
 
 // Brings the link at an index to its destination, and then the one that stood there to its own, until none that has
 // one stands at the index.
-fn settle<P: Ptr, T: Drop, S: SlotStack<Item = ArenaSlot<P, LinkNoGen<P, T>>>>(
+fn settle<P: PtrKey, T: Drop, S: SlotStack<Item = ArenaSlot<P, LinkNoGen<P, T>>>>(
     compactor: &mut Compactor<'_, P, LinkNoGen<P, T>, S>,
     i: P::Inx,
     generation: P::Gen,
@@ -53,7 +53,7 @@ fn settle<P: Ptr, T: Drop, S: SlotStack<Item = ArenaSlot<P, LinkNoGen<P, T>>>>(
 }
 
 /// Moves each link to its destination, and gives it the generation. Each is placed once.
-pub fn move_all<P: Ptr, T: Drop, S: SlotStack<Item = ArenaSlot<P, LinkNoGen<P, T>>>>(
+pub fn move_all<P: PtrKey, T: Drop, S: SlotStack<Item = ArenaSlot<P, LinkNoGen<P, T>>>>(
     compactor: &mut Compactor<'_, P, LinkNoGen<P, T>, S>,
     generation: P::Gen,
 )

@@ -9,13 +9,13 @@ ghost use Rattle.chain_layout.specs.Numbering.{seen_held, given, CanNumber, IsCh
 use crate::looking::{direct_at, look_at};
 use crate::visiting::Visitor;
 use arena_base::{ArenaSlot, Compactor, inx_at};
-use arena_ptr::{Ptr, PtrInx, SlotStack};
+use arena_ptr::{PtrKey, InxKey, SlotStack};
 use chain_links::LinkNoGen;
 use chain_links::walks::going_on;
 
 // The link that the chain of one is written from: the start of a linear one, and itself in a cyclic one. There are no
 // more looks than links in the chain.
-fn start_at<P: Ptr, T: Drop, S: SlotStack<Item = ArenaSlot<P, LinkNoGen<P, T>>>>(
+fn start_at<P: PtrKey, T: Drop, S: SlotStack<Item = ArenaSlot<P, LinkNoGen<P, T>>>>(
     compactor: &mut Compactor<'_, P, LinkNoGen<P, T>, S>,
     i: P::Inx,
 ) -> P::Inx
@@ -48,7 +48,7 @@ fn start_at<P: Ptr, T: Drop, S: SlotStack<Item = ArenaSlot<P, LinkNoGen<P, T>>>>
 
 // Numbers a chain from its start, where so many links were numbered before, and shows each link to the visitor, by the
 // pointer that it has and the one that it gets. Answers the visitor, and how many are numbered then.
-fn number_chain<P: Ptr, T: Drop, S: SlotStack<Item = ArenaSlot<P, LinkNoGen<P, T>>>, V: Visitor<P>>(
+fn number_chain<P: PtrKey, T: Drop, S: SlotStack<Item = ArenaSlot<P, LinkNoGen<P, T>>>, V: Visitor<P>>(
     compactor: &mut Compactor<'_, P, LinkNoGen<P, T>, S>,
     start: P::Inx,
     before: usize,
@@ -86,7 +86,7 @@ fn number_chain<P: Ptr, T: Drop, S: SlotStack<Item = ArenaSlot<P, LinkNoGen<P, T
 /// Numbers all links: the chains by their least index, each linear one from its start, each cyclic one from its least
 /// index. Shows each link to the visitor, by the pointer that it has and the one that it gets, by rising destination.
 pub fn number_all<
-    P: Ptr,
+    P: PtrKey,
     T: Drop,
     S: SlotStack<Item = ArenaSlot<P, LinkNoGen<P, T>>>,
     V: Visitor<P>,

@@ -1,9 +1,9 @@
 // What sees the links of an arena that get other pointers.
 
-use arena_ptr::Ptr;
+use arena_ptr::PtrKey;
 
 /// Sees links in turn, each by the pointer that it had and the one that it gets.
-pub trait Visitor<P: Ptr>: Drop {
+pub trait Visitor<P: PtrKey>: Drop {
     // It may see a link now, and then another.
     ghost is_ready: { Self → Type 0 };
 

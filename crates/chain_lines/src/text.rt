@@ -6,7 +6,7 @@ ghost use Rattle.std.specs.List.{concat};
 
 use arena_base::ArenaSlot;
 use arena_ptr::{
-    ChainInsertionError, Gen32, InvalidationOption, InvalidationResult, Ptr, ReallocationError,
+    ChainInsertionError, Gen32, InvalidationOption, InvalidationResult, PtrKey, ReallocationError,
     SlotStack, ToolPtr,
 };
 use chain_arena::{ChainIter, LinkNoGen, Reply};

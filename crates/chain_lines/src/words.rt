@@ -3,7 +3,7 @@ ghost use Rattle.std.specs.Prelude.{◌≡◌, ◌==◌, ◌∷◌, [], IfSome, 
 ghost use Rattle.std.specs.List.{before_first, after_first};
 ghost use Rattle.chain_lines.specs.Words.{without_return, words_of, number_of, index_word, generation_word, pointer_of};
 
-use arena_ptr::{Gen32, Inx32, Ptr, ToolPtr};
+use arena_ptr::{Gen32, Inx32, PtrKey, ToolPtr};
 
 /// The line without one carriage return at its end.
 pub fn without_return(line: &[u8]) -> &[u8]

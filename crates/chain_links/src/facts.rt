@@ -3,17 +3,17 @@ ghost use Rattle.std.specs.Prelude.{length};
 ghost use Rattle.arena_base.specs.Arena.{HasRoom, IsListed};
 
 use arena_base::{Arena, ArenaSlot, ArenaTrait};
-use arena_ptr::{Ptr, PtrInx, SlotStack};
+use arena_ptr::{PtrKey, InxKey, SlotStack};
 
 /// The capacity is the lesser of the stack's and the greatest index.
-pub fn has_room<P: Ptr, T: Drop, S: SlotStack<Item = ArenaSlot<P, T>>>(arena: &Arena<P, T, S>)
+pub fn has_room<P: PtrKey, T: Drop, S: SlotStack<Item = ArenaSlot<P, T>>>(arena: &Arena<P, T, S>)
     ensures { HasRoom P.Inx.greatest (length arena.now.slots) arena.now }
 {
     arena.len();
 }
 
 /// The freed list holds each free slot once, so the next insertion writes over none.
-pub fn freed_are_free<P: Ptr, T: Drop, S: SlotStack<Item = ArenaSlot<P, T>>>(arena: &Arena<P, T, S>)
+pub fn freed_are_free<P: PtrKey, T: Drop, S: SlotStack<Item = ArenaSlot<P, T>>>(arena: &Arena<P, T, S>)
     ensures { IsListed arena.now }
 {
     arena.len();

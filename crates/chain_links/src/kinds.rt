@@ -1,7 +1,7 @@
 ghost use Rattle.std.specs.Prelude.{◌≡◌};
 ghost use Rattle.chain_links.specs.Kinds.{names_in, named_in, name_of};
 
-use arena_ptr::{Ptr, PtrInx};
+use arena_ptr::{PtrKey, InxKey};
 
 /// Where a new link comes, beside links that are named by pointers of a type `P` or by indexes of a type `I`.
 ///
@@ -64,7 +64,7 @@ pub enum InsertKindBody<P, I> {
 /// The kinds of insertion.
 ///
 /// Carries `LinkInsertKind` of `triple_arena`.
-pub type LinkInsertKind<P> = InsertKindBody<P, <P as Ptr>::Inx>;
+pub type LinkInsertKind<P> = InsertKindBody<P, <P as PtrKey>::Inx>;
 
 /// What names a link: a pointer to it, or its index.
 #[derive(Clone, Copy)]
@@ -87,7 +87,7 @@ pub enum NamedKind<N> {
 }
 
 /// The index of the link that is named.
-pub fn index_of<P: Ptr>(name: Name<P, P::Inx>) -> P::Inx
+pub fn index_of<P: PtrKey>(name: Name<P, P::Inx>) -> P::Inx
     ensures { P.Inx.number result ≡ (name_of P.key P.Inx.number name).0 }
 {
     match name {
@@ -97,7 +97,7 @@ pub fn index_of<P: Ptr>(name: Name<P, P::Inx>) -> P::Inx
 }
 
 /// The kind by names.
-pub fn by_names<P: Ptr>(kind: LinkInsertKind<P>) -> NamedKind<Name<P, P::Inx>>
+pub fn by_names<P: PtrKey>(kind: LinkInsertKind<P>) -> NamedKind<Name<P, P::Inx>>
     ensures { named_in P.key P.Inx.number result ≡ names_in P.key P.Inx.number kind }
 {
     match kind {

@@ -2,7 +2,7 @@ ghost use Rattle.std.specs.Prelude.{◌≡◌, None};
 ghost use Rattle.std.specs.Option.{option_map};
 ghost use Rattle.chain_links.specs.Links.{seen_link, index_in};
 
-use arena_ptr::{PackedOption, Ptr, PtrInx, ToolPtr};
+use arena_ptr::{PackedOption, PtrKey, InxKey, ToolPtr};
 use std::alloc::AllocError;
 
 /// A link with interlinks of a type `K`, each an optional index: the links before it and after it, and its value.
@@ -24,7 +24,7 @@ pub trait Vacant: Copy {
     fn vacant() -> Self;
 }
 
-impl<W: Copy, I: PtrInx<Word = W>> Vacant for PackedOption<I, W> {
+impl<W: Copy, I: InxKey<Word = W>> Vacant for PackedOption<I, W> {
     fn vacant() -> Self {
         I::pack(None)
     }
@@ -49,7 +49,7 @@ impl<K: Vacant, T: Clone> Clone for LinkBody<K, T> {
 }
 
 /// An interlink without a generation: an optional index, packed in the width of an index.
-pub type Interlink<P> = PackedOption<<P as Ptr>::Inx, <<P as Ptr>::Inx as PtrInx>::Word>;
+pub type Interlink<P> = PackedOption<<P as PtrKey>::Inx, <<P as PtrKey>::Inx as InxKey>::Word>;
 
 /// A link whose interlinks have no generation.
 ///
@@ -59,7 +59,7 @@ pub type LinkNoGen<P, T> = LinkBody<Interlink<P>, T>;
 // An interlink takes no more than its index, and so does a destination.
 const _: () = prove!(size_of::<LinkNoGen<ToolPtr, u32>>() == 16);
 
-impl<W: Copy, I: PtrInx<Word = W>, T> LinkBody<PackedOption<I, W>, T> {
+impl<W: Copy, I: InxKey<Word = W>, T> LinkBody<PackedOption<I, W>, T> {
     /// The index of the link before this one in its chain. `None` at the start of the chain.
     pub fn prev(&self) -> Option<I>
         ensures { option_map I.number result ≡ (seen_link I.packed_number self.now).prev }
@@ -208,7 +208,7 @@ impl<P: Copy, T> Link<P, T> {
     }
 }
 
-impl<P: Ptr, T> Link<P, T> {
+impl<P: PtrKey, T> Link<P, T> {
     /// The same link without the generations of its neighbours.
     pub fn no_gen(self) -> LinkNoGen<P, T>
         ensures { seen_link P.Inx.packed_number result ≡ record { prev = option_map (index_in P.key) self.prev; next = option_map (index_in P.key) self.next; value = self.t } }
@@ -227,7 +227,7 @@ impl<P: Ptr, T> Link<P, T> {
 }
 
 /// The index of a pointer, if there is one.
-pub fn index_of<P: Ptr>(p: Option<P>) -> Option<P::Inx>
+pub fn index_of<P: PtrKey>(p: Option<P>) -> Option<P::Inx>
     ensures { option_map P.Inx.number result ≡ option_map (index_in P.key) p }
 {
     match p {

@@ -3,10 +3,10 @@ ghost use Rattle.std.specs.Prelude.{◌≡◌};
 ghost use Rattle.std.specs.Option.{option_map};
 ghost use Rattle.chain_laws.specs.Walks.{going_on as goes_on, going_back as goes_back};
 
-use arena_ptr::PtrInx;
+use arena_ptr::InxKey;
 
 /// Where a walk goes on to from a link: to the next one, unless it has come round to its start.
-pub fn going_on<I: PtrInx>(start: I, next: Option<I>) -> Option<I>
+pub fn going_on<I: InxKey>(start: I, next: Option<I>) -> Option<I>
     ensures { option_map I.number result ≡ goes_on (I.number start) (option_map I.number next) }
 {
     match next {
@@ -16,7 +16,7 @@ pub fn going_on<I: PtrInx>(start: I, next: Option<I>) -> Option<I>
 }
 
 /// Where it goes back to from the end of the chain: nowhere, where it has come round.
-pub fn going_back<I: PtrInx>(start: I, next: Option<I>, back: Option<I>) -> Option<I>
+pub fn going_back<I: InxKey>(start: I, next: Option<I>, back: Option<I>) -> Option<I>
     ensures { option_map I.number result ≡ goes_back (I.number start) (option_map I.number next) (option_map I.number back) }
 {
     match next {

@@ -23,7 +23,7 @@ ghost use Rattle.chain_links.specs.Walkers.{IsPassing};
 
 use arena_base::{Advancer, ArenaTrait};
 use arena_ptr::{
-    ChainInsertionError, InvalidationOption, InvalidationResult, Ptr, PtrGen, PtrInx,
+    ChainInsertionError, InvalidationOption, InvalidationResult, PtrKey, GenKey, InxKey,
     ReallocationError,
 };
 use chain_links::{Link, LinkInsertKind, LinkNoGen};
@@ -34,7 +34,7 @@ use chain_links::{Link, LinkInsertKind, LinkNoGen};
 /// compression renames the links of all chains, and no other of them changes a chain but `clear`, which leaves none.
 ///
 /// Carries `ChainArenaTrait` of `triple_arena`.
-pub trait ChainArenaTrait<P: Ptr, T: Drop>: ArenaTrait<P, T> {
+pub trait ChainArenaTrait<P: PtrKey, T: Drop>: ArenaTrait<P, T> {
     /// An advancer along one chain.
     type ChainPtrAdvancer: Advancer<Self, Item = P>;
 

@@ -12,18 +12,18 @@ ghost use Rattle.chain_traits.specs.Sources.{IsNextChain};
 
 use crate::chain_traits::ChainArenaTrait;
 use arena_base::{Advancer, invalidated};
-use arena_ptr::{InvalidationOption, Ptr};
+use arena_ptr::{InvalidationOption, PtrKey};
 use chain_links::walks::going_on;
 
 /// The interlinks of an arena of links agree. Of one without links no call but this tells it.
-pub fn agree<Q: Ptr, U: Drop, A: ChainArenaTrait<Q, U>>(source: &A)
+pub fn agree<Q: PtrKey, U: Drop, A: ChainArenaTrait<Q, U>>(source: &A)
     ensures { Agrees (A.interlinks source.now) }
 {
     source.get_inx_link_no_gen(Q::invalid().inx());
 }
 
 // The index of the link before the one at an index.
-fn before<Q: Ptr, U: Drop, A: ChainArenaTrait<Q, U>>(source: &A, i: Q::Inx) -> Option<Q::Inx>
+fn before<Q: PtrKey, U: Drop, A: ChainArenaTrait<Q, U>>(source: &A, i: Q::Inx) -> Option<Q::Inx>
     ensures { option_map Q.Inx.number result ≡ prev_of (A.interlinks source.now) (Q.Inx.number i) }
 {
     match source.get_inx_link_no_gen(i) {
@@ -33,7 +33,7 @@ fn before<Q: Ptr, U: Drop, A: ChainArenaTrait<Q, U>>(source: &A, i: Q::Inx) -> O
 }
 
 // The link that the chain of one is written from: the start of a linear one, and itself in a cyclic one.
-fn start_of<Q: Ptr, U: Drop, A: ChainArenaTrait<Q, U>>(source: &A, i: Q::Inx) -> Q::Inx
+fn start_of<Q: PtrKey, U: Drop, A: ChainArenaTrait<Q, U>>(source: &A, i: Q::Inx) -> Q::Inx
     requires agree { Agrees (A.interlinks source.now) }
     requires some { IsSome (A.entry source.now (Q.Inx.number i)) }
     ensures start { IsStart (A.interlinks source.now) (Q.Inx.number i) (Q.Inx.number result) }
@@ -55,7 +55,7 @@ fn start_of<Q: Ptr, U: Drop, A: ChainArenaTrait<Q, U>>(source: &A, i: Q::Inx) ->
 }
 
 // The next chain of a source: the link that it is written from, and whether it is cyclic.
-fn next_chain<Q: Ptr, U: Drop, A: ChainArenaTrait<Q, U>>(
+fn next_chain<Q: PtrKey, U: Drop, A: ChainArenaTrait<Q, U>>(
     source: &A,
     advancer: &mut A::PtrAdvancer,
 ) -> (Q::Inx, bool)
@@ -76,7 +76,7 @@ fn next_chain<Q: Ptr, U: Drop, A: ChainArenaTrait<Q, U>>(
 
 // The next link to take: the one that a chain goes on to, or else that which the next chain is written from; with whether
 // its chain is cyclic, and the ends of what is laid of it.
-fn next_link<Q: Ptr, U: Drop, A: ChainArenaTrait<Q, U>, I: Copy + Drop>(
+fn next_link<Q: PtrKey, U: Drop, A: ChainArenaTrait<Q, U>, I: Copy + Drop>(
     source: &A,
     advancer: &mut A::PtrAdvancer,
     on: Option<Q::Inx>,
@@ -103,7 +103,7 @@ fn next_link<Q: Ptr, U: Drop, A: ChainArenaTrait<Q, U>, I: Copy + Drop>(
 /// Takes the next link out: the one that a chain goes on to, or else that which the next chain is written from. Answers its
 /// pointer, its value, where it is told whether the counter overflowed, the index of the link after it, unless that is
 /// itself, whether its chain is cyclic, and the ends of what is laid of it.
-pub fn take_next<Q: Ptr, U: Drop, A: ChainArenaTrait<Q, U>, I: Copy + Drop>(
+pub fn take_next<Q: PtrKey, U: Drop, A: ChainArenaTrait<Q, U>, I: Copy + Drop>(
     source: &mut A,
     advancer: &mut A::PtrAdvancer,
     on: Option<Q::Inx>,
@@ -135,7 +135,7 @@ pub fn take_next<Q: Ptr, U: Drop, A: ChainArenaTrait<Q, U>, I: Copy + Drop>(
 
 // Takes the link at an index out, and answers its pointer, its value, where it is told whether the counter overflowed, and
 // the index of the link after it, unless that is itself.
-fn take_link<Q: Ptr, U: Drop, A: ChainArenaTrait<Q, U>>(
+fn take_link<Q: PtrKey, U: Drop, A: ChainArenaTrait<Q, U>>(
     source: &mut A,
     i: Q::Inx,
 ) -> (Q, InvalidationOption<U>, Option<Q::Inx>)

@@ -3,7 +3,7 @@
 
 use arena_base::{Advancer, ArenaTrait, CompactArenaTrait};
 use arena_ptr::{
-    AllocError, ChainInsertionError, InvalidationOption, InvalidationResult, Ptr, ReallocationError,
+    AllocError, ChainInsertionError, InvalidationOption, InvalidationResult, PtrKey, ReallocationError,
 };
 use chain_links::{Link, LinkInsertKind, LinkNoGen};
 use chain_traits::ChainArenaTrait;
@@ -81,7 +81,7 @@ impl<A, V: Advancer<A>> Advancer<Wrapped<A>> for WrappedWalk<V> {
     }
 }
 
-impl<P: Ptr, T: Drop, A: ArenaTrait<P, T>> ArenaTrait<P, T> for Wrapped<A> {
+impl<P: PtrKey, T: Drop, A: ArenaTrait<P, T>> ArenaTrait<P, T> for Wrapped<A> {
     ghost use Rattle.chain_wrapped.specs.Advancers.{until_none};
 
     type PtrAdvancer = WrappedAdvancer<A::PtrAdvancer>;
@@ -217,9 +217,9 @@ impl<P: Ptr, T: Drop, A: ArenaTrait<P, T>> ArenaTrait<P, T> for Wrapped<A> {
     }
 }
 
-impl<P: Ptr, T: Drop, A: CompactArenaTrait<P, T>> CompactArenaTrait<P, T> for Wrapped<A> {}
+impl<P: PtrKey, T: Drop, A: CompactArenaTrait<P, T>> CompactArenaTrait<P, T> for Wrapped<A> {}
 
-impl<P: Ptr, T: Drop, A: ChainArenaTrait<P, T>> ChainArenaTrait<P, T> for Wrapped<A> {
+impl<P: PtrKey, T: Drop, A: ChainArenaTrait<P, T>> ChainArenaTrait<P, T> for Wrapped<A> {
     ghost use Rattle.std.specs.Prelude.{◌≡◌, ◌≢◌, ◌↔◌, ◌⊎◌, ◌+◌, IsTrue, IsOk, IfOk, OnOk, IsErr, IfErr, OnErr, Err};
     ghost use Rattle.chain_laws.specs.Chains.{Agrees};
     ghost use Rattle.arena_base.specs.Arena.{IsRoom};

@@ -6,13 +6,13 @@ ghost use Rattle.chain_links.specs.Links.{seen_links};
 ghost use Rattle.chain_layout.specs.Layouts.{AreLaidOut};
 
 use arena_base::{Arena, ArenaSlot, Work};
-use arena_ptr::{Ptr, PtrInx, SlotStack};
+use arena_ptr::{PtrKey, InxKey, SlotStack};
 use chain_layout::canonical;
 use chain_layout::visiting::Visitor;
 use chain_links::LinkNoGen;
 
 /// `chain_layout::canonical::lay_out`.
-pub fn lay_out<P: Ptr, T: Drop, S: SlotStack<Item = ArenaSlot<P, LinkNoGen<P, T>>>, V: Visitor<P>>(
+pub fn lay_out<P: PtrKey, T: Drop, S: SlotStack<Item = ArenaSlot<P, LinkNoGen<P, T>>>, V: Visitor<P>>(
     arena: &mut Arena<P, LinkNoGen<P, T>, S>,
     visitor: V,
 ) -> (V, Work)

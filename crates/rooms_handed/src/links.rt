@@ -8,12 +8,12 @@ ghost use Rattle.chain_links.specs.ChainArena.{shown, relinked, remove_link};
 ghost use Rattle.chain_links.specs.Links.{seen_links, seen_pair};
 
 use arena_base::{Arena, ArenaSlot};
-use arena_ptr::{InvalidationResult, Ptr, PtrInx, SlotStack};
+use arena_ptr::{InvalidationResult, PtrKey, InxKey, SlotStack};
 use chain_interlinks::interlinks;
 use chain_links::LinkNoGen;
 
 /// `chain_interlinks::interlinks::link_up`.
-pub fn link_up<P: Ptr, T: Drop, S: SlotStack<Item = ArenaSlot<P, LinkNoGen<P, T>>>>(
+pub fn link_up<P: PtrKey, T: Drop, S: SlotStack<Item = ArenaSlot<P, LinkNoGen<P, T>>>>(
     arena: &mut Arena<P, LinkNoGen<P, T>, S>,
     prev: Option<P::Inx>,
     next: Option<P::Inx>,
@@ -25,7 +25,7 @@ pub fn link_up<P: Ptr, T: Drop, S: SlotStack<Item = ArenaSlot<P, LinkNoGen<P, T>
 }
 
 /// `chain_interlinks::interlinks::take_out`.
-pub fn take_out<P: Ptr, T: Drop, S: SlotStack<Item = ArenaSlot<P, LinkNoGen<P, T>>>>(
+pub fn take_out<P: PtrKey, T: Drop, S: SlotStack<Item = ArenaSlot<P, LinkNoGen<P, T>>>>(
     arena: &mut Arena<P, LinkNoGen<P, T>, S>,
     i: P::Inx,
 ) -> InvalidationResult<(P::Gen, LinkNoGen<P, T>)>

@@ -16,31 +16,31 @@ loop-k-init g c =
       same_reference = refl;
       capacity = refl;
       maximum = refl;
-      closing = closing_begins g.F.FnMut g.P.Ptr.key c.args.generation c.args.map old.held.slots;
+      closing = closing_begins g.F.FnMut g.P.PtrKey.key c.args.generation c.args.map old.held.slots;
       totals = totals_begin old.arena.now;
     }
 
 pub close_gap-requires-clause-from : goal.close_gap-requires-clause-from
 close_gap-requires-clause-from g c =
-    let long = closing_length g.F.FnMut g.P.Ptr.key c.args.generation c.args.map c.args.compactor.now.held.slots c.loop-k.k c.loop-k.count c.loop-k.map c.loop-k.compactor.held.slots c.loop-k.invariant.closing (omega arith) in
+    let long = closing_length g.F.FnMut g.P.PtrKey.key c.args.generation c.args.map c.args.compactor.now.held.slots c.loop-k.k c.loop-k.count c.loop-k.map c.loop-k.compactor.held.slots c.loop-k.invariant.closing (omega arith) in
     omega (arith, long, c.inx_at-from.ensures)
 
 pub close_gap-requires-clause-to : goal.close_gap-requires-clause-to
 close_gap-requires-clause-to g c =
-    let long = closing_length g.F.FnMut g.P.Ptr.key c.args.generation c.args.map c.args.compactor.now.held.slots c.loop-k.k c.loop-k.count c.loop-k.map c.loop-k.compactor.held.slots c.loop-k.invariant.closing (omega arith) in
+    let long = closing_length g.F.FnMut g.P.PtrKey.key c.args.generation c.args.map c.args.compactor.now.held.slots c.loop-k.k c.loop-k.count c.loop-k.map c.loop-k.compactor.held.slots c.loop-k.invariant.closing (omega arith) in
     omega (arith, long, c.inx_at-to.ensures, c.loop-k.invariant.closing.passed)
 
 pub unreachable-requires : goal.unreachable-requires
 unreachable-requires g c =
-    let number = g.P.Inx.PtrInx.number in
+    let number = g.P.Inx.InxKey.number in
     let old = c.args.compactor.now.held.slots in
-    brought_stands g.F.FnMut g.P.Ptr.key c.args.generation c.args.map old c.loop-k.k c.loop-k.count c.loop-k.map c.loop-k.compactor.held.slots c.loop-k.invariant.closing (omega arith)
+    brought_stands g.F.FnMut g.P.PtrKey.key c.args.generation c.args.map old c.loop-k.k c.loop-k.count c.loop-k.map c.loop-k.compactor.held.slots c.loop-k.invariant.closing (omega arith)
     (number c.inx_at-from.result) (number c.inx_at-to.result) c.in-Some.was c.close_gap.new.compactor.held.slots c.inx_at-from.ensures c.inx_at-to.ensures c.in-Some.ensures.answer (ap (λ h. h.slots) c.in-Some.ensures.some.0)
     (sym (ap option_copied_mut c.in-None.is) ∙ c.value_mut.ensures.value)
 
 pub loop-k-preserved : goal.loop-k-preserved
 loop-k-preserved g c =
-    let number = g.P.Inx.PtrInx.number in
+    let number = g.P.Inx.InxKey.number in
     let at = c.loop-k.invariant in
     let old = c.args.compactor.now in
     let few : c.loop-k.count + 1 ≤ c.loop-k.k + 1 = omega (arith, at.few) in
@@ -54,7 +54,7 @@ loop-k-preserved g c =
             same_reference = lent.1.0 ∙ (c.close_gap.ensures.same_reference ∙ at.same_reference);
             capacity = ap (λ h. h.stack_capacity) lent.0 ∙ (ap (λ h. h.stack_capacity) placed.0 ∙ at.capacity);
             maximum = ap (λ h. h.maximum) lent.0 ∙ (ap (λ h. h.maximum) placed.0 ∙ at.maximum);
-            closing = closing_brings g.F.FnMut g.P.Ptr.key c.args.generation c.args.map old.held.slots c.loop-k.k c.loop-k.count c.loop-k.map c.loop-k.compactor.held.slots at.closing (omega arith)
+            closing = closing_brings g.F.FnMut g.P.PtrKey.key c.args.generation c.args.map old.held.slots c.loop-k.k c.loop-k.count c.loop-k.map c.loop-k.compactor.held.slots at.closing (omega arith)
                 (number c.inx_at-from.result) (number c.inx_at-to.result) w.in-Some.was c.close_gap.new.compactor.held.slots c.inx_at-from.ensures c.inx_at-to.ensures w.in-Some.ensures.answer (ap (λ h. h.slots) placed.0)
                 (record { from = w._from_raw.result; shown = w.in-Some-value_mut.t.now; to = w._from_raw-in-Some-value_mut.result; left = w.map.new.arg3 }) w.map.new.self _
                 (sym (ap option_copied_mut w.in-Some-value_mut.is) ∙ w.value_mut.ensures.value) (ap (λ h. h.slots) lent.0) w._from_raw.ensures w._from_raw-in-Some-value_mut.ensures
@@ -69,7 +69,7 @@ loop-k-preserved g c =
             same_reference = c.close_gap.ensures.same_reference ∙ at.same_reference;
             capacity = at.capacity;
             maximum = at.maximum;
-            closing = closing_frees g.F.FnMut g.P.Ptr.key c.args.generation c.args.map old.held.slots c.loop-k.k c.loop-k.count c.loop-k.map c.loop-k.compactor.held.slots at.closing (omega arith)
+            closing = closing_frees g.F.FnMut g.P.PtrKey.key c.args.generation c.args.map old.held.slots c.loop-k.k c.loop-k.count c.loop-k.map c.loop-k.compactor.held.slots at.closing (omega arith)
                 (number c.inx_at-from.result) c.inx_at-from.ensures (none_there (slot_at c.loop-k.compactor.held.slots (number c.inx_at-from.result)) (sym w.in_default.is ∙ c.close_gap.ensures.answer));
             totals = totals_looked old.arena.now c.loop-k.compactor.arena.now c.close_gap.new.compactor.arena.now c.loop-k.k c.loop-k.count at.totals kept.1;
           })
@@ -81,10 +81,10 @@ returns g c =
     let old = c.args.compactor.now in
     let now = c.loop-k.compactor.held in
     let all : c.loop-k.k ≡ length old.held.slots = omega arith in
-    let count = closing_counts g.F.FnMut g.P.Ptr.key c.args.generation c.args.map old.held.slots c.loop-k.k c.loop-k.count c.loop-k.map now.slots at.closing all in
+    let count = closing_counts g.F.FnMut g.P.PtrKey.key c.args.generation c.args.map old.held.slots c.loop-k.k c.loop-k.count c.loop-k.map now.slots at.closing all in
     record {
       same_reference = at.same_reference;
-      closed = closing_closes g.F.FnMut g.P.Ptr.key c.args.generation c.args.map old.held.slots c.loop-k.k c.loop-k.count c.loop-k.map now.slots at.closing all old.held now refl refl at.capacity at.maximum;
-      visits = closing_visits g.F.FnMut g.P.Ptr.key c.args.generation c.args.map old.held.slots c.loop-k.k c.loop-k.count c.loop-k.map now.slots at.closing all;
+      closed = closing_closes g.F.FnMut g.P.PtrKey.key c.args.generation c.args.map old.held.slots c.loop-k.k c.loop-k.count c.loop-k.map now.slots at.closing all old.held now refl refl at.capacity at.maximum;
+      visits = closing_visits g.F.FnMut g.P.PtrKey.key c.args.generation c.args.map old.held.slots c.loop-k.k c.loop-k.count c.loop-k.map now.slots at.closing all;
       totals = at.totals ∙ (λ i. with_totals old.arena.now (count i) (all i + count i));
     }

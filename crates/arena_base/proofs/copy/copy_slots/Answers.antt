@@ -9,7 +9,7 @@ loop-k-init g c = record {
   ready = c.requires.ready;
   room = refl;
   most = refl;
-  copying = copying_begins g.M.ValueMap.makes g.P.Ptr.key c.args.values (g.S1.SlotStack.items c.args.source.now) (g.S.SlotStack.items c.args.slots.now) c.requires.empty;
+  copying = copying_begins g.M.ValueMap.makes g.P.PtrKey.key c.args.values (g.S1.SlotStack.items c.args.source.now) (g.S.SlotStack.items c.args.slots.now) c.requires.empty;
 }
 
 pub loop-k-preserved : goal.loop-k-preserved
@@ -22,7 +22,7 @@ loop-k-preserved g c =
         ready = w.in_ok-t-in-Allocated.ensures.ready;
         room = w.push_within.ensures.capacity ∙ at.room;
         most = w.push_within.ensures.maximum ∙ at.most;
-        copying = copying_answers g.M.ValueMap.makes g.P.Ptr.key c.args.values old c.loop-k.k c.loop-k.values slots at.copying w.in-Allocated.generation w.in-Allocated.u
+        copying = copying_answers g.M.ValueMap.makes g.P.PtrKey.key c.args.values old c.loop-k.k c.loop-k.values slots at.copying w.in-Allocated.generation w.in-Allocated.u
             (record { pointer = w._from_raw.result; shown = w.in-Allocated.u; answer = w.in_ok-t-in-Allocated.t }) w.map_value.new.self _
             (sym c.in-Some.ensures ∙ ap (λ s. Some s) w.in-Allocated.is) refl (w._from_raw.ensures ∙ ap (λ n. (n, w.in-Allocated.generation)) w.inx_at.ensures) w.in_ok-t-in-Allocated.ensures.made w.push_within.ensures.items;
       })
@@ -30,7 +30,7 @@ loop-k-preserved g c =
         ready = at.ready;
         room = w.push_within-in-Free.ensures.capacity ∙ at.room;
         most = w.push_within-in-Free.ensures.maximum ∙ at.most;
-        copying = copying_frees g.M.ValueMap.makes g.P.Ptr.key c.args.values old c.loop-k.k c.loop-k.values slots at.copying w.in-Free.next _
+        copying = copying_frees g.M.ValueMap.makes g.P.PtrKey.key c.args.values old c.loop-k.k c.loop-k.values slots at.copying w.in-Free.next _
             (sym c.in-Some.ensures ∙ ap (λ s. Some s) w.in-Free.is) w.push_within-in-Free.ensures.items;
       })
     ]
@@ -41,8 +41,8 @@ returns g c =
     let old = g.S1.SlotStack.items c.args.source.now in
     let slots = g.S.SlotStack.items c.loop-k.slots in
     record {
-      alike = copied_alike g.M.ValueMap.makes g.P.Ptr.key c.args.values old c.loop-k.k c.loop-k.values slots at.copying (omega arith);
-      copies = copied_all g.M.ValueMap.makes g.P.Ptr.key c.args.values old c.loop-k.k c.loop-k.values slots at.copying (omega arith);
+      alike = copied_alike g.M.ValueMap.makes g.P.PtrKey.key c.args.values old c.loop-k.k c.loop-k.values slots at.copying (omega arith);
+      copies = copied_all g.M.ValueMap.makes g.P.PtrKey.key c.args.values old c.loop-k.k c.loop-k.values slots at.copying (omega arith);
       capacity = at.room;
       maximum = at.most;
       refused = tt;
@@ -57,6 +57,6 @@ returns-in_err-t-in-Allocated g c =
       capacity = at.room;
       maximum = at.most;
       refused = on_err_anyhow c.from_residual.result
-          (copying_refused g.M.ValueMap.makes g.P.Ptr.key c.args.values (g.S1.SlotStack.items c.args.source.now) c.loop-k.k c.loop-k.values (g.S.SlotStack.items c.loop-k.slots) at.copying c.in-Allocated.generation c.in-Allocated.u c._from_raw.result g.M.ValueMap.may_refuse
+          (copying_refused g.M.ValueMap.makes g.P.PtrKey.key c.args.values (g.S1.SlotStack.items c.args.source.now) c.loop-k.k c.loop-k.values (g.S.SlotStack.items c.loop-k.slots) at.copying c.in-Allocated.generation c.in-Allocated.u c._from_raw.result g.M.ValueMap.may_refuse
           (sym c.in-Some.ensures ∙ ap (λ s. Some s) c.in-Allocated.is) (c._from_raw.ensures ∙ ap (λ n. (n, c.in-Allocated.generation)) c.inx_at.ensures) c.in_err-t-in-Allocated.ensures.refused);
     }

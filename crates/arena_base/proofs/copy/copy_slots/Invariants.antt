@@ -8,5 +8,5 @@ invariant-loop-k g l = record {
   ready : g.M.ValueMap.is_ready l.values;
   room : g.S.SlotStack.capacity l.slots ≡ g.S.SlotStack.capacity l.fn.slots;
   most : g.S.SlotStack.maximum l.slots ≡ g.S.SlotStack.maximum l.fn.slots;
-  copying : IsCopying g.M.ValueMap.makes g.P.Ptr.key l.fn.values (g.S1.SlotStack.items l.fn.source) l.k l.values (g.S.SlotStack.items l.slots);
+  copying : IsCopying g.M.ValueMap.makes g.P.PtrKey.key l.fn.values (g.S1.SlotStack.items l.fn.source) l.k l.values (g.S.SlotStack.items l.slots);
 }

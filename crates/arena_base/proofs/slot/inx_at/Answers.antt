@@ -3,7 +3,7 @@ use Rattle.std.proofs.Common.{arith}
 use Rattle.arena_base.proofs.slot.inx_at.Goals as goal
 
 pub overflow_add-k : goal.overflow_add-k
-overflow_add-k g c = omega (arith, g.met.P.Inx.PtrInx.greatest_fits)
+overflow_add-k g c = omega (arith, g.met.P.Inx.InxKey.greatest_fits)
 
 pub unreachable-requires : goal.unreachable-requires
 unreachable-requires g c = let made = c.in-None.ensures.variant.1 (omega arith, omega arith) in cc

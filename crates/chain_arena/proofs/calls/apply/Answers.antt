@@ -16,37 +16,37 @@ pub returns-in-Connect : goal.returns-in-Connect
 returns-in-Connect g c =
     let made = c.connect.ensures in
     rw c.in-Connect.is (record {
-      step = (c.is_some.result, refl, joins c.args.arena.now c.connect.new.self (g.P.Ptr.key c.in-Connect.p) (g.P.Ptr.key c.in-Connect.q) c.connect.result c.is_some.result made.some made.state made.joined made.pair made.chains made.none c.is_some.ensures);
+      step = (c.is_some.result, refl, joins c.args.arena.now c.connect.new.self (g.P.PtrKey.key c.in-Connect.p) (g.P.PtrKey.key c.in-Connect.q) c.connect.result c.is_some.result made.some made.state made.joined made.pair made.chains made.none c.is_some.ensures);
     })
 
 pub returns-in-BreakPrev : goal.returns-in-BreakPrev
 returns-in-BreakPrev g c =
     let made = c.break_prev.ensures in
-    rw c.in-BreakPrev.is (record { step = (c.is_some-in-BreakPrev.result, refl, breaks_prev c.args.arena.now c.break_prev.new.self (g.P.Ptr.key c.in-BreakPrev.p) c.break_prev.result c.is_some-in-BreakPrev.result made.some made.state made.none c.is_some-in-BreakPrev.ensures) })
+    rw c.in-BreakPrev.is (record { step = (c.is_some-in-BreakPrev.result, refl, breaks_prev c.args.arena.now c.break_prev.new.self (g.P.PtrKey.key c.in-BreakPrev.p) c.break_prev.result c.is_some-in-BreakPrev.result made.some made.state made.none c.is_some-in-BreakPrev.ensures) })
 
 pub returns-in-BreakNext : goal.returns-in-BreakNext
 returns-in-BreakNext g c =
     let made = c.break_next.ensures in
-    rw c.in-BreakNext.is (record { step = (c.is_some-in-BreakNext.result, refl, breaks_next c.args.arena.now c.break_next.new.self (g.P.Ptr.key c.in-BreakNext.p) c.break_next.result c.is_some-in-BreakNext.result made.some made.state made.none c.is_some-in-BreakNext.ensures) })
+    rw c.in-BreakNext.is (record { step = (c.is_some-in-BreakNext.result, refl, breaks_next c.args.arena.now c.break_next.new.self (g.P.PtrKey.key c.in-BreakNext.p) c.break_next.result c.is_some-in-BreakNext.result made.some made.state made.none c.is_some-in-BreakNext.ensures) })
 
 pub returns-in-ExchangeNext : goal.returns-in-ExchangeNext
 returns-in-ExchangeNext g c =
     let made = c.exchange_next.ensures in
     rw c.in-ExchangeNext.is (record {
-      step = (c.is_some-in-ExchangeNext.result, refl, exchanges c.args.arena.now c.exchange_next.new.self (g.P.Ptr.key c.in-ExchangeNext.p) (g.P.Ptr.key c.in-ExchangeNext.q) c.exchange_next.result c.is_some-in-ExchangeNext.result made.some made.state made.none c.is_some-in-ExchangeNext.ensures);
+      step = (c.is_some-in-ExchangeNext.result, refl, exchanges c.args.arena.now c.exchange_next.new.self (g.P.PtrKey.key c.in-ExchangeNext.p) (g.P.PtrKey.key c.in-ExchangeNext.q) c.exchange_next.result c.is_some-in-ExchangeNext.result made.some made.state made.none c.is_some-in-ExchangeNext.ensures);
     })
 
 pub returns-in-Remove : goal.returns-in-Remove
 returns-in-Remove g c =
     let old = c.args.arena.now in
     let made = c.remove_link_no_gen.ensures in
-    let p = g.P.Ptr.key c.in-Remove.p in
+    let p = g.P.PtrKey.key c.in-Remove.p in
     rw c.in-Remove.is (record {
       step = (
         c.remove_link_no_gen.result,
         refl,
-        removes_link g.P.Inx.PtrInx.packed_number g.P.Gen.PtrGen.following g.P.Gen.PtrGen.wraps old c.remove_link_no_gen.new.self p c.remove_link_no_gen.result
-            (valid_or_not _ g.met.P.Gen.PtrGen.eq_is_same (values_of old) p) (λ valid. (made.valid valid).0) (λ valid. record { state = made.state valid; shows = (made.valid valid).2; chains = made.chains valid; pairs = made.pairs valid })
+        removes_link g.P.Inx.InxKey.packed_number g.P.Gen.GenKey.following g.P.Gen.GenKey.wraps old c.remove_link_no_gen.new.self p c.remove_link_no_gen.result
+            (valid_or_not _ g.met.P.Gen.GenKey.eq_is_same (values_of old) p) (λ valid. (made.valid valid).0) (λ valid. record { state = made.state valid; shows = (made.valid valid).2; chains = made.chains valid; pairs = made.pairs valid })
             made.overflow made.invalid,
       );
     })
@@ -58,7 +58,7 @@ returns-in-RemoveInx g c =
       step = (
         c.remove_inx_link_no_gen.result,
         refl,
-        removes_inx g.P.Inx.PtrInx.packed_number g.P.Gen.PtrGen.following g.P.Gen.PtrGen.wraps c.args.arena.now c.remove_inx_link_no_gen.new.self (g.P.Inx.PtrInx.number c.in-RemoveInx.i)
+        removes_inx g.P.Inx.InxKey.packed_number g.P.Gen.GenKey.following g.P.Gen.GenKey.wraps c.args.arena.now c.remove_inx_link_no_gen.new.self (g.P.Inx.InxKey.number c.in-RemoveInx.i)
             c.remove_inx_link_no_gen.result made.answer (λ stands. record { state = made.state stands; shows = (made.valid stands).1; chains = made.chains stands; pairs = made.pairs stands }) made.overflow made.invalid,
       );
     })
@@ -67,12 +67,12 @@ pub returns-in-Invalidate : goal.returns-in-Invalidate
 returns-in-Invalidate g c =
     let old = c.args.arena.now in
     let made = c.invalidate.ensures in
-    let p = g.P.Ptr.key c.in-Invalidate.p in
+    let p = g.P.PtrKey.key c.in-Invalidate.p in
     rw c.in-Invalidate.is (record {
       step = (
         c.invalidate.result,
         refl,
-        renews_link g.P.Ptr.key g.P.Gen.PtrGen.following g.P.Gen.PtrGen.wraps old c.invalidate.new.self p c.invalidate.result (valid_or_not _ g.met.P.Gen.PtrGen.eq_is_same (values_of old) p)
+        renews_link g.P.PtrKey.key g.P.Gen.GenKey.following g.P.Gen.GenKey.wraps old c.invalidate.new.self p c.invalidate.result (valid_or_not _ g.met.P.Gen.GenKey.eq_is_same (values_of old) p)
             made.valid made.counter made.invalid made.more,
       );
     })
@@ -83,7 +83,7 @@ returns-in-DrainChain g c = rw c.in-DrainChain.is (record { step = (c.drain.resu
 pub returns-in-Clear : goal.returns-in-Clear
 returns-in-Clear g c =
     rw c.in-Clear.is (record {
-      step = (ap (λ r. reply.Counted r) (clears_all g.P.Ptr.key g.P.Gen.PtrGen.following g.P.Gen.PtrGen.wraps c.args.arena.now c.clear.new.self c.clear.result c.clear.ensures.overflow), c.clear.ensures.more);
+      step = (ap (λ r. reply.Counted r) (clears_all g.P.PtrKey.key g.P.Gen.GenKey.following g.P.Gen.GenKey.wraps c.args.arena.now c.clear.new.self c.clear.result c.clear.ensures.overflow), c.clear.ensures.more);
     })
 
 pub returns-in-Reserve : goal.returns-in-Reserve
@@ -94,7 +94,7 @@ returns-in-Compress g c =
     let made = c.compress.ensures in
     rw c.in-Compress.is (record {
       step = (
-        ap (λ r. reply.Counted r) (compresses g.P.Gen.PtrGen.wraps c.args.arena.now c.in-Compress.reset c.compress.result made.overflow),
+        ap (λ r. reply.Counted r) (compresses g.P.Gen.GenKey.wraps c.args.arena.now c.in-Compress.reset c.compress.result made.overflow),
         record { seen = made.compressed; values = made.values; links = made.more },
       );
     })
@@ -104,7 +104,7 @@ returns-in-CompressCanonical g c =
     let made = c.compress_canonical.ensures in
     rw c.in-CompressCanonical.is (record {
       step = (
-        ap (λ r. reply.Counted r) (compresses g.P.Gen.PtrGen.wraps c.args.arena.now c.in-CompressCanonical.reset c.compress_canonical.result made.overflow),
+        ap (λ r. reply.Counted r) (compresses g.P.Gen.GenKey.wraps c.args.arena.now c.in-CompressCanonical.reset c.compress_canonical.result made.overflow),
         record { layout = made.canonical; stack_capacity = made.stack_capacity },
       );
     })

@@ -6,5 +6,5 @@ use Rattle.chain_arena.proofs.calls.drain.Goals as goal
 pub returns-in-Some : goal.returns-in-Some
 returns-in-Some g c =
     let links = c.in-Some.ensures in
-    drained_is g.P.Gen.PtrGen.following c.args.arena.now c.in-Some.links.arena.now _ (g.P.Ptr.key c.args.p) c.in-Some.links.at c.args.take _ links.arena links.at (links.some.0 refl) links.walk c.take_links-count.ensures.count
+    drained_is g.P.Gen.GenKey.following c.args.arena.now c.in-Some.links.arena.now _ (g.P.PtrKey.key c.args.p) c.in-Some.links.at c.args.take _ links.arena links.at (links.some.0 refl) links.walk c.take_links-count.ensures.count
     (search rules ∙ c.drop.ensures.state ∙ c.take_links-count.ensures.state)

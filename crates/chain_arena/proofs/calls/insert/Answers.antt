@@ -8,6 +8,6 @@ pub returns : goal.returns
 returns g c =
     let old = c.args.arena.now in
     let made = c.insert_reallocating.ensures in
-    inserts_growing g.P.Ptr.key g.P.Inx.PtrInx.number old c.insert_reallocating.new.self c.args.kind c.args.t
-    (stable-insertion _ g.met.P.Gen.PtrGen.eq_is_same old (names_in g.P.Ptr.key g.P.Inx.PtrInx.number c.args.kind)) c.len.result c.len.ensures.count c.len.ensures.fits
-    g.P.Inx.PtrInx.greatest c.insert_reallocating.result _ made.inserted made.err made.link made.error made.room made.beyond made.place made.state made.state_in_room made.state_grown
+    inserts_growing g.P.PtrKey.key g.P.Inx.InxKey.number old c.insert_reallocating.new.self c.args.kind c.args.t
+    (stable-insertion _ g.met.P.Gen.GenKey.eq_is_same old (names_in g.P.PtrKey.key g.P.Inx.InxKey.number c.args.kind)) c.len.result c.len.ensures.count c.len.ensures.fits
+    g.P.Inx.InxKey.greatest c.insert_reallocating.result _ made.inserted made.err made.link made.error made.room made.beyond made.place made.state made.state_in_room made.state_grown

@@ -8,6 +8,6 @@ pub returns : goal.returns
 returns g c =
     let old = c.args.arena.now in
     let made = c.insert_within_capacity.ensures in
-    inserts_within g.P.Ptr.key g.P.Inx.PtrInx.number old c.insert_within_capacity.new.self c.args.kind c.args.t
-    (stable-insertion _ g.met.P.Gen.PtrGen.eq_is_same old (names_in g.P.Ptr.key g.P.Inx.PtrInx.number c.args.kind)) c.len.result c.len.ensures.count c.len.ensures.fits
+    inserts_within g.P.PtrKey.key g.P.Inx.InxKey.number old c.insert_within_capacity.new.self c.args.kind c.args.t
+    (stable-insertion _ g.met.P.Gen.GenKey.eq_is_same old (names_in g.P.PtrKey.key g.P.Inx.InxKey.number c.args.kind)) c.len.result c.len.ensures.count c.len.ensures.fits
     c.insert_within_capacity.result made.inserted made.err made.link made.full made.error made.place made.state

@@ -9,7 +9,7 @@ loop-call-init g c =
     let none = c.in_ok-replies.ensures.len in
     let room = c.in_ok-replies.ensures.capacity in
     let counted = c.len.ensures in (
-      under_way_first g.P.Ptr.key g.P.Inx.PtrInx.number g.P.Inx.PtrInx.packed_number g.P.Inx.PtrInx.greatest g.P.Gen.PtrGen.first g.P.Gen.PtrGen.following g.P.Gen.PtrGen.wraps _ _ _ _ gives.0 c.in_ok-replies.ensures.items,
+      under_way_first g.P.PtrKey.key g.P.Inx.InxKey.number g.P.Inx.InxKey.packed_number g.P.Inx.InxKey.greatest g.P.Gen.GenKey.first g.P.Gen.GenKey.following g.P.Gen.GenKey.wraps _ _ _ _ gives.0 c.in_ok-replies.ensures.items,
       omega (arith, gives.1, none, room, counted),
     )
 
@@ -19,11 +19,11 @@ loop-call-preserved g c =
     let more = c.in-Ok.ensures.len in
     let room = c.in-Ok.ensures.capacity in
     let before = c.loop-call.invariant.1 in (
-      under_way_more g.P.Ptr.key g.P.Inx.PtrInx.number g.P.Inx.PtrInx.packed_number g.P.Inx.PtrInx.greatest g.P.Gen.PtrGen.first g.P.Gen.PtrGen.following g.P.Gen.PtrGen.wraps _ _ _ _ _ _ _ _ _ _ c.loop-call.invariant.0 steps.0 c.apply-reply.ensures.step c.in-Ok.ensures.items,
+      under_way_more g.P.PtrKey.key g.P.Inx.InxKey.number g.P.Inx.InxKey.packed_number g.P.Inx.InxKey.greatest g.P.Gen.GenKey.first g.P.Gen.GenKey.following g.P.Gen.GenKey.wraps _ _ _ _ _ _ _ _ _ _ c.loop-call.invariant.0 steps.0 c.apply-reply.ensures.step c.in-Ok.ensures.items,
       omega (arith, steps.1, more, room, before),
     )
 
 pub returns-clause-run : goal.returns-clause-run
 returns-clause-run g c =
-    under_way_last g.P.Ptr.key g.P.Inx.PtrInx.number g.P.Inx.PtrInx.packed_number g.P.Inx.PtrInx.greatest g.P.Gen.PtrGen.first g.P.Gen.PtrGen.following g.P.Gen.PtrGen.wraps _ _ _ _ _ c.loop-call.invariant.0
+    under_way_last g.P.PtrKey.key g.P.Inx.InxKey.number g.P.Inx.InxKey.packed_number g.P.Inx.InxKey.greatest g.P.Gen.GenKey.first g.P.Gen.GenKey.following g.P.Gen.GenKey.wraps _ _ _ _ _ c.loop-call.invariant.0
     (sym c.loop-call.call-iterator.rest.ok.0 ∙ c.in-None.ensures.steps.0)

@@ -6,5 +6,5 @@ use Rattle.chain_arena.proofs.calls.replies_to.Given as goal
 
 abbrev pub invariant-loop-call : goal.invariant-loop-call
 invariant-loop-call g l =
-    IsUnderWay g.P.Ptr.key g.P.Inx.PtrInx.number g.P.Inx.PtrInx.packed_number g.P.Inx.PtrInx.greatest g.P.Gen.PtrGen.first g.P.Gen.PtrGen.following g.P.Gen.PtrGen.wraps l.fn.arena l.arena l.fn.calls.items (into_iter_items l.call-iterator) l.replies.items
+    IsUnderWay g.P.PtrKey.key g.P.Inx.InxKey.number g.P.Inx.InxKey.packed_number g.P.Inx.InxKey.greatest g.P.Gen.GenKey.first g.P.Gen.GenKey.following g.P.Gen.GenKey.wraps l.fn.arena l.arena l.fn.calls.items (into_iter_items l.call-iterator) l.replies.items
     × (vec_len l.replies + into_iter_len l.call-iterator ≤ vec_capacity l.replies)

@@ -5,4 +5,4 @@ use Rattle.chain_arena.proofs.calls.reserve.Goals as goal
 pub returns : goal.returns
 returns g c =
     let made = c.reallocate_min_capacity-grown.ensures in
-    reserves g.P.Inx.PtrInx.greatest c.args.n c.args.arena.now c.reallocate_min_capacity-grown.new.self c.reallocate_min_capacity-grown.result made.within made.beyond made.ok made.err made.more.0 c.len.ensures.room
+    reserves g.P.Inx.InxKey.greatest c.args.n c.args.arena.now c.reallocate_min_capacity-grown.new.self c.reallocate_min_capacity-grown.result made.within made.beyond made.ok made.err made.more.0 c.len.ensures.room

@@ -3,4 +3,4 @@ use Rattle.chain_arena.proofs.Determining.{run_same}
 use Rattle.chain_arena.proofs.calls.runs_are_determined.Goals as goal
 
 pub returns : goal.returns
-returns g c = run_same g.P.Ptr.key g.P.Inx.PtrInx.number g.P.Inx.PtrInx.packed_number g.P.Inx.PtrInx.greatest g.P.Gen.PtrGen.first g.P.Gen.PtrGen.following g.P.Gen.PtrGen.wraps g.met.P.Ptr.same_key
+returns g c = run_same g.P.PtrKey.key g.P.Inx.InxKey.number g.P.Inx.InxKey.packed_number g.P.Inx.InxKey.greatest g.P.Gen.GenKey.first g.P.Gen.GenKey.following g.P.Gen.GenKey.wraps g.met.P.PtrKey.same_key

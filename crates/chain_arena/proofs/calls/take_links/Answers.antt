@@ -11,6 +11,6 @@ loop-count-preserved g c =
     record {
       within = omega arith;
       counted = omega (arith, longer, counted);
-      state = without_each-step g.P.Ptr.key g.P.Inx.PtrInx.packed_number g.P.Gen.PtrGen.following g.P.Gen.PtrGen.wraps _ _ _ _ _ step ∙ c.loop-count.invariant.state;
+      state = without_each-step g.P.PtrKey.key g.P.Inx.InxKey.packed_number g.P.Gen.GenKey.following g.P.Gen.GenKey.wraps _ _ _ _ _ step ∙ c.loop-count.invariant.state;
       same_reference = c.in-Some.ensures.steps.0 ∙ c.loop-count.invariant.same_reference;
     }

@@ -7,6 +7,6 @@ abbrev pub invariant-loop-count : goal.invariant-loop-count
 invariant-loop-count g l = record {
   within : l.count ≤ l.take;
   counted : l.count + length (walk_left l.links.arena.now l.links.at) ≡ length (walk_left l.fn.links.arena.now l.fn.links.at);
-  state : without_each g.P.Gen.PtrGen.following l.links.arena.now (walk_left l.links.arena.now l.links.at) ≡ without_each g.P.Gen.PtrGen.following l.fn.links.arena.now (walk_left l.fn.links.arena.now l.fn.links.at);
+  state : without_each g.P.Gen.GenKey.following l.links.arena.now (walk_left l.links.arena.now l.links.at) ≡ without_each g.P.Gen.GenKey.following l.fn.links.arena.now (walk_left l.fn.links.arena.now l.fn.links.at);
   same_reference : l.links.arena.ghost_name ≡ l.fn.links.arena.ghost_name;
 }

@@ -16,19 +16,19 @@ stands : (g : Over) (a : g.row.A.Denot) (i : ℕ) → is_some (g.A.ChainArenaTra
 stands g a i = g.met.A.ChainArenaTrait.stand a i ∙ ap is_some (sym (g.met.A.ArenaTrait.looked_up a i))
 
 -- the same of an entry at an index
-stands_entry : (g : Over) (a : g.row.A.Denot) (on : Option g.row.Q-Inx.Denot) → IfSome on (λ j. is_some (found (g.Q.Inx.PtrInx.number j) (g.A.ArenaTrait.seen a).entries) ≡ true)
-    → IfSome on (λ j. is_some (g.A.ArenaTrait.entry a (g.Q.Inx.PtrInx.number j)) ≡ true)
+stands_entry : (g : Over) (a : g.row.A.Denot) (on : Option g.row.Q-Inx.Denot) → IfSome on (λ j. is_some (found (g.Q.Inx.InxKey.number j) (g.A.ArenaTrait.seen a).entries) ≡ true)
+    → IfSome on (λ j. is_some (g.A.ArenaTrait.entry a (g.Q.Inx.InxKey.number j)) ≡ true)
 stands_entry g a None there = tt
-stands_entry g a (Some j) there = ap is_some (sym (g.met.A.ArenaTrait.looked_up a (g.Q.Inx.PtrInx.number j))) ∙ there
+stands_entry g a (Some j) there = ap is_some (sym (g.met.A.ArenaTrait.looked_up a (g.Q.Inx.InxKey.number j))) ∙ there
 
 pub loop-k-init : goal.loop-k-init
 loop-k-init g c =
     let source = c.args.source.now in
     record {
       callable = c.requires.callable;
-      carrying = carrying_begins g.Q.Ptr.key g.P.Ptr.key g.Q.Gen.PtrGen.following g.Q.Gen.PtrGen.wraps g.F.FnMut g.P.Inx.PtrInx.number (g.A.ArenaTrait.seen source) (g.A.ChainArenaTrait.interlinks source) c.args.map c.args.target.now
-          g.Q.Inx.PtrInx.greatest (g.A.ArenaTrait.looks c.advancer-advancer.result) _ c.agree.ensures
-          (links_within (g.A.ChainArenaTrait.interlinks source) (g.A.ArenaTrait.entry source) (g.A.ArenaTrait.seen source).entries (g.met.A.ChainArenaTrait.stand source) (g.met.A.ArenaTrait.looked_up source) g.Q.Inx.PtrInx.greatest c.len-k-end.ensures.indexes)
+      carrying = carrying_begins g.Q.PtrKey.key g.P.PtrKey.key g.Q.Gen.GenKey.following g.Q.Gen.GenKey.wraps g.F.FnMut g.P.Inx.InxKey.number (g.A.ArenaTrait.seen source) (g.A.ChainArenaTrait.interlinks source) c.args.map c.args.target.now
+          g.Q.Inx.InxKey.greatest (g.A.ArenaTrait.looks c.advancer-advancer.result) _ c.agree.ensures
+          (links_within (g.A.ChainArenaTrait.interlinks source) (g.A.ArenaTrait.entry source) (g.A.ArenaTrait.seen source).entries (g.met.A.ChainArenaTrait.stand source) (g.met.A.ArenaTrait.looked_up source) g.Q.Inx.InxKey.greatest c.len-k-end.ensures.indexes)
           c.requires.slots c.advancer-advancer.ensures;
     }
 
@@ -37,22 +37,22 @@ take_next-q-requires-clause-agree g c = agrees_left _ _ _ _ _ _ _ _ _ _ _ _ _ _ 
 
 pub take_next-q-requires-clause-low : goal.take_next-q-requires-clause-low
 take_next-q-requires-clause-low g c none =
-    looks_up _ _ _ _ _ _ _ _ _ _ _ _ _ _ _ _ _ _ (stands g c.loop-k.source) _ (ap (option_map g.Q.Inx.PtrInx.number) none) c.loop-k.invariant.carrying (g.met.A.ArenaTrait.rises c.loop-k.source)
+    looks_up _ _ _ _ _ _ _ _ _ _ _ _ _ _ _ _ _ _ (stands g c.loop-k.source) _ (ap (option_map g.Q.Inx.InxKey.number) none) c.loop-k.invariant.carrying (g.met.A.ArenaTrait.rises c.loop-k.source)
 
 pub take_next-q-requires-clause-some : goal.take_next-q-requires-clause-some
 take_next-q-requires-clause-some g c none =
     some_left _ _ _ _ _ _ _ _ _ _ _ _ _ _ _ _ _ _ (stands g c.loop-k.source) _ c.loop-k.invariant.carrying (omega (arith, c.loop-k-test.true, c.len-k-end.ensures.count))
 
 pub take_next-q-requires-clause-stands : goal.take_next-q-requires-clause-stands
-take_next-q-requires-clause-stands g c = stands_entry g c.loop-k.source c.loop-k.on (stands_on _ _ _ _ _ _ _ _ _ _ _ _ _ _ _ _ _ _ (stands g c.loop-k.source) g.Q.Inx.PtrInx.number c.loop-k.on c.loop-k.invariant.carrying)
+take_next-q-requires-clause-stands g c = stands_entry g c.loop-k.source c.loop-k.on (stands_on _ _ _ _ _ _ _ _ _ _ _ _ _ _ _ _ _ _ (stands g c.loop-k.source) g.Q.Inx.InxKey.number c.loop-k.on c.loop-k.invariant.carrying)
 
 -- the link that was taken
-carrying_it : (g : Over) (c : After-take_next-q g) → IsCarrying g.Q.Ptr.key g.P.Ptr.key g.Q.Gen.PtrGen.following g.Q.Gen.PtrGen.wraps g.F.FnMut g.P.Inx.PtrInx.number
+carrying_it : (g : Over) (c : After-take_next-q g) → IsCarrying g.Q.PtrKey.key g.P.PtrKey.key g.Q.Gen.GenKey.following g.Q.Gen.GenKey.wraps g.F.FnMut g.P.Inx.InxKey.number
     (g.A.ArenaTrait.seen c.args.source.now) (g.A.ChainArenaTrait.interlinks c.args.source.now) c.args.map c.args.target.now
     c.loop-k.k (g.A.ArenaTrait.seen c.loop-k.source) (g.A.ChainArenaTrait.interlinks c.loop-k.source) (g.A.ArenaTrait.looks c.take_next-q.new.advancer)
-    (Some (g.Q.Ptr.key c.take_next-q.result.0).0) c.take_next-q.result.3 c.take_next-q.result.4 c.loop-k.map c.loop-k.target
+    (Some (g.Q.PtrKey.key c.take_next-q.result.0).0) c.take_next-q.result.3 c.take_next-q.result.4 c.loop-k.map c.loop-k.target
 carrying_it g c =
-    carries_next_link _ _ _ _ _ _ _ _ _ _ _ _ _ _ _ _ _ _ (stands g c.loop-k.source) g.Q.Inx.PtrInx.number c.loop-k.on _ _ _ _ c.loop-k.invariant.carrying c.take_next-q.ensures.goes_on c.take_next-q.ensures.begins
+    carries_next_link _ _ _ _ _ _ _ _ _ _ _ _ _ _ _ _ _ _ (stands g c.loop-k.source) g.Q.Inx.InxKey.number c.loop-k.on _ _ _ _ c.loop-k.invariant.carrying c.take_next-q.ensures.goes_on c.take_next-q.ensures.begins
 
 pub map-t-requires : goal.map-t-requires
 map-t-requires g c = search of_calls
@@ -87,14 +87,14 @@ loop-k-preserved g c =
     let it = carrying_it g at in
     let bounds = bounds_at _ _ _ _ _ _ _ _ _ _ _ _ _ _ _ _ _ _ (stands g at.loop-k.source) _ it at.requires.freed in
     let laid = c.lay_behind-ends.ensures.laid (length it.taken) bounds in
-    let stood = g.met.A.ArenaTrait.looked_up c.loop-k.source (g.Q.Ptr.key c.take_next-q.result.0).0 ∙ c.take_next-q.ensures.stood in
+    let stood = g.met.A.ArenaTrait.looked_up c.loop-k.source (g.Q.PtrKey.key c.take_next-q.result.0).0 ∙ c.take_next-q.ensures.stood in
     record {
       callable = search of_calls;
       carrying = carries_link _ _ _ _ _ _ _ _ _ _ _ _ _ _ _ _ _ _ (stands g at.loop-k.source) _ it at.requires.freed c.lay_behind-ends.ensures.listed
           c.take_next-q.result.0 c.take_next-q.result.1 c.pointer_at-to.result c.map-t.result _ stood refl
           (c.pointer_at-to.ensures ∙ ap (λ n. (c.loop-k.k + 1, n)) c.generation-generation.ensures) c.map-t.ensures
           (agrees_left _ _ _ _ _ _ _ _ _ _ _ _ _ _ _ _ _ _ (stands g at.loop-k.source) _ it) _ _ _ _ _ c.take_next-q.ensures.overflow c.take_next-q.ensures.next c.take_next-q.ensures.seen c.take_next-q.ensures.links laid.0
-          (subst (λ n. AreEnds g.P.Inx.PtrInx.number c.lay_behind-ends.result (length it.taken + 1) (n + 1)) (the_place g at) laid.1);
+          (subst (λ n. AreEnds g.P.Inx.InxKey.number c.lay_behind-ends.result (length it.taken + 1) (n + 1)) (the_place g at) laid.1);
     }
 
 pub returns : goal.returns

@@ -7,10 +7,10 @@ use Rattle.chain_arena.proofs.transfer.lay_behind.Goals as goal
 
 pub returns-clause-laid : goal.returns-clause-laid
 returns-clause-laid g c m ends =
-    let number = g.P.Inx.PtrInx.number in
+    let number = g.P.Inx.InxKey.number in
     let q = next_index c.args.target.now in
     let at : number c.inx.result ≡ q = c.inx.ensures ∙ c.requires.index in (
-      inserted_between g.P.Ptr.key number c.args.target.now c.insert_in_gap.new.self c.gap_behind.result c.args.t c.insert_in_gap.result (end_before c.args.ring m q) (end_after c.args.ring m q) c.insert_in_gap.ensures
+      inserted_between g.P.PtrKey.key number c.args.target.now c.insert_in_gap.new.self c.gap_behind.result c.args.t c.insert_in_gap.result (end_before c.args.ring m q) (end_after c.args.ring m q) c.insert_in_gap.ensures
           (c.gap_behind.ensures.before m q ends) (c.gap_behind.ensures.after m q ends),
       subst (λ n. AreEnds number c.with_end.result (m + 1) (n + 1)) at (c.with_end.ensures m (subst (AreEnds number c.args.ends m) (sym at) ends)),
     )

@@ -9,7 +9,7 @@ use Rattle.chain_interlinks.proofs.agreeing.agrees_back.Goals as goal
 
 pub returns-in-Some : goal.returns-in-Some
 returns-in-Some g c =
-    let number = g.P.Inx.PtrInx.number in
-    let links = shown (seen_links g.P.Inx.PtrInx.packed_number c.args.arena.now) in
+    let number = g.P.Inx.InxKey.number in
+    let links = shown (seen_links g.P.Inx.InxKey.packed_number c.args.arena.now) in
     is_answered (prev_of links) (next_of links) (number c.args.i) (number c.in-Some.j) _ c.is_index.result
     (sym (ap (option_map number) c.in-Some.is) ∙ c.neighbors_at.ensures.prev) c.neighbors_at-in-Some.ensures.next c.is_index.ensures

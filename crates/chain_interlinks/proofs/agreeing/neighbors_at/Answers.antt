@@ -7,9 +7,9 @@ use Rattle.chain_interlinks.proofs.agreeing.neighbors_at.Goals as goal
 
 pub returns-in-Some : goal.returns-in-Some
 returns-in-Some g c =
-    let packed = g.P.Inx.PtrInx.packed_number in
+    let packed = g.P.Inx.InxKey.packed_number in
     let a = c.args.arena.now in
-    let i = g.P.Inx.PtrInx.number c.args.i in
+    let i = g.P.Inx.InxKey.number c.args.i in
     let stands = sym c.in-Some.ensures in
     record {
       prev = c.prev_next.ensures.prev ∙ sym (prev_of-seen packed a (i, _) _ stands);
@@ -18,5 +18,5 @@ returns-in-Some g c =
 
 pub returns-in-None : goal.returns-in-None
 returns-in-None g c =
-    let none = shows_nothing g.P.Inx.PtrInx.packed_number c.args.arena.now (g.P.Inx.PtrInx.number c.args.i) (sym c.in-None.ensures) in
+    let none = shows_nothing g.P.Inx.InxKey.packed_number c.args.arena.now (g.P.Inx.InxKey.number c.args.i) (sym c.in-None.ensures) in
     record { prev = sym (ap prev_in none); next = sym (ap next_in none) }

@@ -11,17 +11,17 @@ use Rattle.chain_interlinks.proofs.chain_iterators.look.Goals as goal
 
 pub returns-in-Some-clause-valid : goal.returns-in-Some-clause-valid
 returns-in-Some-clause-valid g c =
-    let packed = g.P.Inx.PtrInx.packed_number in
-    let i = g.P.Inx.PtrInx.number c.args.i in
-    let named : g.P.Ptr.key c._from_raw.result ≡ (i, c.in-Some.generation) = search of_calls in
+    let packed = g.P.Inx.InxKey.packed_number in
+    let i = g.P.Inx.InxKey.number c.args.i in
+    let named : g.P.PtrKey.key c._from_raw.result ≡ (i, c.in-Some.generation) = search of_calls in
     subst (IsValid (entry (seen_links packed c.args.arena.now))) (sym named)
     (valid_there (seen_links packed c.args.arena.now) i (i, c.in-Some.generation) (seen_link packed c.in-Some.link.now)
     (entry_at-seen_links packed c.args.arena.now i ∙ ap (option_map (seen_pair packed)) (sym c.in-Some.ensures)) refl)
 
 pub returns-in-None : goal.returns-in-None
 returns-in-None g c =
-    let packed = g.P.Inx.PtrInx.packed_number in
-    let i = g.P.Inx.PtrInx.number c.args.i in
+    let packed = g.P.Inx.InxKey.packed_number in
+    let i = g.P.Inx.InxKey.number c.args.i in
     record {
       link = sym (ap (option_map (index_and_entry i)) (entry_at-seen_links packed c.args.arena.now i ∙ ap (option_map (seen_pair packed)) (sym c.in-None.ensures)));
       valid = tt;

@@ -9,8 +9,8 @@ use Rattle.chain_interlinks.proofs.chain_iterators.step.Goals as goal
 
 pub returns-in-None-look : goal.returns-in-None-look
 returns-in-None-look g c =
-    let number = g.P.Inx.PtrInx.number in
-    let a = seen_links g.P.Inx.PtrInx.packed_number c.args.arena.now in
+    let number = g.P.Inx.InxKey.number in
+    let a = seen_links g.P.Inx.InxKey.packed_number c.args.arena.now in
     record {
       valid = tt;
       some = tt;
@@ -20,8 +20,8 @@ returns-in-None-look g c =
 
 pub returns-in-None-look-2 : goal.returns-in-None-look-2
 returns-in-None-look-2 g c =
-    let number = g.P.Inx.PtrInx.number in
-    let a = seen_links g.P.Inx.PtrInx.packed_number c.args.arena.now in
+    let number = g.P.Inx.InxKey.number in
+    let a = seen_links g.P.Inx.InxKey.packed_number c.args.arena.now in
     record {
       valid = tt;
       some = tt;

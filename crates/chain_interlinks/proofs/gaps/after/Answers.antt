@@ -10,14 +10,14 @@ use Rattle.chain_interlinks.proofs.gaps.after.Goals as goal
 
 pub returns-in-Some : goal.returns-in-Some
 returns-in-Some g c =
-    let seen = seen_links g.P.Inx.PtrInx.packed_number c.args.arena.now in
+    let seen = seen_links g.P.Inx.InxKey.packed_number c.args.arena.now in
     record {
-      some = (λ _. may_come_after (entry seen) (shown seen) (name_of g.P.Ptr.key g.P.Inx.PtrInx.number c.args.a) _ (c.in-Some.ensures.some.0 refl) c.in-Some.ensures.link, λ _. refl);
+      some = (λ _. may_come_after (entry seen) (shown seen) (name_of g.P.PtrKey.key g.P.Inx.InxKey.number c.args.a) _ (c.in-Some.ensures.some.0 refl) c.in-Some.ensures.link, λ _. refl);
       before = λ q. ap Some c.index_of.ensures;
       after = λ q. c.next.ensures ∙ sym (ap next_in c.in-Some.ensures.link);
     }
 
 pub returns-in-None : goal.returns-in-None
 returns-in-None g c =
-    let seen = seen_links g.P.Inx.PtrInx.packed_number c.args.arena.now in
-    no_gap g.P.Inx.PtrInx.number (entry seen) (shown seen) _ (λ may. false≢true (c.in-None.ensures.some.1 may.0))
+    let seen = seen_links g.P.Inx.InxKey.packed_number c.args.arena.now in
+    no_gap g.P.Inx.InxKey.number (entry seen) (shown seen) _ (λ may. false≢true (c.in-None.ensures.some.1 may.0))

@@ -13,9 +13,9 @@ use Rattle.chain_interlinks.proofs.gaps.after_end.Goals as goal
 pub returns-then-is_none : goal.returns-then-is_none
 returns-then-is_none g c =
     let none = is_none _ (sym (ap is_some c.next.ensures) ∙ (is_some-map _ c.next.result ∙ (c.is_none.ensures ∙ ap not c.if-is_none.true))) in
-    let seen = seen_links g.P.Inx.PtrInx.packed_number c.args.arena.now in
+    let seen = seen_links g.P.Inx.InxKey.packed_number c.args.arena.now in
     record {
-      some = (λ _. may_follow (entry seen) (shown seen) (name_of g.P.Ptr.key g.P.Inx.PtrInx.number c.args.a) _ (c.in-Some.ensures.some.0 refl) c.in-Some.ensures.link none, λ _. refl);
+      some = (λ _. may_follow (entry seen) (shown seen) (name_of g.P.PtrKey.key g.P.Inx.InxKey.number c.args.a) _ (c.in-Some.ensures.some.0 refl) c.in-Some.ensures.link none, λ _. refl);
       before = λ q. ap Some c.index_of.ensures;
       after = λ q. refl;
     }
@@ -23,11 +23,11 @@ returns-then-is_none g c =
 pub returns-else-is_none : goal.returns-else-is_none
 returns-else-is_none g c =
     let some = sym (ap is_some c.next.ensures) ∙ (is_some-map _ c.next.result ∙ (c.is_none.ensures ∙ ap not c.if-is_none.false)) in
-    let seen = seen_links g.P.Inx.PtrInx.packed_number c.args.arena.now in
-    no_gap g.P.Inx.PtrInx.number (entry seen) (shown seen) _
-    (not_an_end (entry seen) (shown seen) (name_of g.P.Ptr.key g.P.Inx.PtrInx.number c.args.a) _ (c.in-Some.ensures.some.0 refl) c.in-Some.ensures.link some)
+    let seen = seen_links g.P.Inx.InxKey.packed_number c.args.arena.now in
+    no_gap g.P.Inx.InxKey.number (entry seen) (shown seen) _
+    (not_an_end (entry seen) (shown seen) (name_of g.P.PtrKey.key g.P.Inx.InxKey.number c.args.a) _ (c.in-Some.ensures.some.0 refl) c.in-Some.ensures.link some)
 
 pub returns-in-None : goal.returns-in-None
 returns-in-None g c =
-    let seen = seen_links g.P.Inx.PtrInx.packed_number c.args.arena.now in
-    no_gap g.P.Inx.PtrInx.number (entry seen) (shown seen) _ (λ may. false≢true (c.in-None.ensures.some.1 may.0))
+    let seen = seen_links g.P.Inx.InxKey.packed_number c.args.arena.now in
+    no_gap g.P.Inx.InxKey.number (entry seen) (shown seen) _ (λ may. false≢true (c.in-None.ensures.some.1 may.0))

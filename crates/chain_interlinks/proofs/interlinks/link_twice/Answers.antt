@@ -6,7 +6,7 @@ use Rattle.chain_interlinks.proofs.interlinks.link_twice.Goals as goal
 
 pub returns : goal.returns
 returns g c =
-    let number = g.P.Inx.PtrInx.number in
-    let packed_number = g.P.Inx.PtrInx.packed_number in
+    let number = g.P.Inx.InxKey.number in
+    let packed_number = g.P.Inx.InxKey.packed_number in
     linked_twice (seen_links packed_number c.args.arena.now) (seen_links packed_number c.link_up.new.arena) (seen_links packed_number c.link_up-2.new.arena)
     (option_map number c.args.first.0) (option_map number c.args.first.1) (option_map number c.args.second.0) (option_map number c.args.second.1) c.link_up.ensures c.link_up-2.ensures

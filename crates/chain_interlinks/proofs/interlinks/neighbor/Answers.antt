@@ -5,16 +5,16 @@ use Rattle.chain_interlinks.proofs.interlinks.neighbor.Goals as goal
 
 pub returns-in-Some-get_inx : goal.returns-in-Some-get_inx
 returns-in-Some-get_inx g c =
-    let number = g.P.Inx.PtrInx.number in
-    let packed_number = g.P.Inx.PtrInx.packed_number in
+    let number = g.P.Inx.InxKey.number in
+    let packed_number = g.P.Inx.InxKey.packed_number in
     let at = ptr_at-some packed_number c.args.arena.now (number c.in-Some.i) c.in-Some-get_inx.generation c.in-Some-get_inx.field-0-1.now (sym c.in-Some-get_inx.ensures) in
-    let named : g.P.Ptr.key c._from_raw.result ≡ (number c.in-Some.i, c.in-Some-get_inx.generation) = search of_calls in
+    let named : g.P.PtrKey.key c._from_raw.result ≡ (number c.in-Some.i, c.in-Some-get_inx.generation) = search of_calls in
     rw c.in-Some.is (ap Some named ∙ sym at)
 
 pub returns-in-None-get_inx : goal.returns-in-None-get_inx
 returns-in-None-get_inx g c =
-    let number = g.P.Inx.PtrInx.number in
-    let packed_number = g.P.Inx.PtrInx.packed_number in
+    let number = g.P.Inx.InxKey.number in
+    let packed_number = g.P.Inx.InxKey.packed_number in
     rw c.in-Some.is (sym (ptr_at-none packed_number c.args.arena.now (number c.in-Some.i) (sym c.in-None-get_inx.ensures)))
 
 pub returns-in-None : goal.returns-in-None

@@ -12,8 +12,8 @@ use Rattle.chain_interlinks.proofs.interlinks.set_next.Goals as goal
 
 pub returns-in-Some-get_inx_mut : goal.returns-in-Some-get_inx_mut
 returns-in-Some-get_inx_mut g c =
-    let number = g.P.Inx.PtrInx.number in
-    let packed_number = g.P.Inx.PtrInx.packed_number in
+    let number = g.P.Inx.InxKey.number in
+    let packed_number = g.P.Inx.InxKey.packed_number in
     let a = c.args.arena.now in
     let n = number c.in-Some.i in
     let packed : PackedOption g.row.P-Inx.Denot g.row.P-Inx-Word.Denot = c.set_next.new.self.next in
@@ -27,11 +27,11 @@ returns-in-Some-get_inx_mut g c =
 
 pub returns-in-None-get_inx_mut : goal.returns-in-None-get_inx_mut
 returns-in-None-get_inx_mut g c =
-    let number = g.P.Inx.PtrInx.number in
-    let packed_number = g.P.Inx.PtrInx.packed_number in
+    let number = g.P.Inx.InxKey.number in
+    let packed_number = g.P.Inx.InxKey.packed_number in
     rw c.in-Some.is (ap (seen_links packed_number) c.get_inx_mut.follows.holds-at-none
     ∙ seen_links-no_write packed_number c.args.arena.now (number c.in-Some.i) (with_next (option_map number c.args.next)) _
     (sym c.get_inx_mut.ensures.value ∙ ap option_copied_mut c.in-None-get_inx_mut.is) (λ i. refl))
 
 pub returns-in-None : goal.returns-in-None
-returns-in-None g c = rw c.in-None.is (relinked-own (seen_links g.P.Inx.PtrInx.packed_number c.args.arena.now))
+returns-in-None g c = rw c.in-None.is (relinked-own (seen_links g.P.Inx.InxKey.packed_number c.args.arena.now))

@@ -15,9 +15,9 @@ use Rattle.chain_interlinks.proofs.interlinks.take_out.Goals as goal
 
 pub returns-in-Some : goal.returns-in-Some
 returns-in-Some g c =
-    let number = g.P.Inx.PtrInx.number in
-    let packed = g.P.Inx.PtrInx.packed_number in
-    let wraps = g.P.Gen.PtrGen.wraps in
+    let number = g.P.Inx.InxKey.number in
+    let packed = g.P.Inx.InxKey.packed_number in
+    let wraps = g.P.Gen.GenKey.wraps in
     let a = c.args.arena.now in
     let n = number c.args.i in
     let link = c.in-Some.link in
@@ -29,9 +29,9 @@ returns-in-Some g c =
     record {
       answer = ap (option_map (seen_pair packed)) found ∙ sym (entry_at-seen_links packed a n ∙ ap (option_map (seen_pair packed)) stands);
       overflow = same_flag (wraps a.counter) _ _ _ c.remove_inx.result c.outcome.result taken c.remove_inx.ensures.overflow (ap (λ x. x.1) c.overflowing-entry.ensures) c.outcome.ensures;
-      valid = λ _. removal_by_steps g.P.Gen.PtrGen.following (seen_links packed a) (seen_links packed c.remove_inx.new.self) (seen_links packed c.link_up.new.arena) n
+      valid = λ _. removal_by_steps g.P.Gen.GenKey.following (seen_links packed a) (seen_links packed c.remove_inx.new.self) (seen_links packed c.link_up.new.arena) n
           (option_map number c.prev.result) (option_map number c.next.result)
-          (ap (seen_links packed) (c.remove_inx.ensures.more (ap is_some stands)) ∙ with_each-remove_at (seen_link packed) g.P.Gen.PtrGen.following a n)
+          (ap (seen_links packed) (c.remove_inx.ensures.more (ap is_some stands)) ∙ with_each-remove_at (seen_link packed) g.P.Gen.GenKey.following a n)
           c.link_up.ensures
           (named_prev ∙ sym (prev_of-seen packed a (n, c.in-Some.generation) link stands))
           (named_next ∙ sym (next_of-seen packed a (n, c.in-Some.generation) link stands));
@@ -40,9 +40,9 @@ returns-in-Some g c =
 
 pub returns-in-None : goal.returns-in-None
 returns-in-None g c =
-    let packed = g.P.Inx.PtrInx.packed_number in
+    let packed = g.P.Inx.InxKey.packed_number in
     let a = c.args.arena.now in
-    let n = g.P.Inx.PtrInx.number c.args.i in
+    let n = g.P.Inx.InxKey.number c.args.i in
     let none : entry_at a n ≡ None = sym c.remove_inx.ensures.answer ∙ (sym (ap (λ x. x.0) c.overflowing-entry.ensures) ∙ c.in-None.is) in
     record {
       answer = sym (entry_at-seen_links packed a n ∙ ap (option_map (seen_pair packed)) none);

@@ -12,7 +12,7 @@ returns-in-Some g c =
     let old = c.args.compactor.now in
     record {
       same_reference = look.looked.same_reference;
-      answer = look.destination ∙ ap (λ o. option_and_then (given g.P.Inx.PtrInx.packed_number old.held.slots) (option_map g.P.Inx.PtrInx.number o)) (sym c.in-Some.is);
+      answer = look.destination ∙ ap (λ o. option_and_then (given g.P.Inx.InxKey.packed_number old.held.slots) (option_map g.P.Inx.InxKey.number o)) (sym c.in-Some.is);
       held = look.looked.held;
       work = work-touched old.arena.now _ look.looked.arena;
       counts = look.looked.counts;
@@ -23,7 +23,7 @@ returns-in-None g c =
     let old = c.args.compactor.now in
     record {
       same_reference = refl;
-      answer = ap (λ o. option_and_then (given g.P.Inx.PtrInx.packed_number old.held.slots) (option_map g.P.Inx.PtrInx.number o)) (sym c.in-None.is);
+      answer = ap (λ o. option_and_then (given g.P.Inx.InxKey.packed_number old.held.slots) (option_map g.P.Inx.InxKey.number o)) (sym c.in-None.is);
       held = refl;
       work = work-none old.arena.now 1;
       counts = counts_none old.arena.now old.placed old.touched;

@@ -12,8 +12,8 @@ loop-k-init g c =
     let old = c.args.compactor.now in
     record {
       same_reference = refl {a = old.arena.ghost_name};
-      seen = refl {a = seen_held g.P.Inx.PtrInx.packed_number old.held};
-      empty = emptying_begins g.P.Inx.PtrInx.packed_number old.held.slots;
+      seen = refl {a = seen_held g.P.Inx.InxKey.packed_number old.held};
+      empty = emptying_begins g.P.Inx.InxKey.packed_number old.held.slots;
       totals = touches_none old.arena.now;
       counts = counts_none old.arena.now old.placed old.touched;
     }
@@ -25,11 +25,11 @@ loop-k-preserved g c =
     let old = c.args.compactor.now in
     let now = c.loop-k.compactor in
     let next = c.direct_at.new.compactor in
-    let told = emptied g.P.Inx.PtrInx.packed_number (g.P.Inx.PtrInx.number c.inx_at.result) c.loop-k.compactor.held c.direct_at.new.compactor.held after.directed in
+    let told = emptied g.P.Inx.InxKey.packed_number (g.P.Inx.InxKey.number c.inx_at.result) c.loop-k.compactor.held c.direct_at.new.compactor.held after.directed in
     record {
       same_reference = same_then old now next inv.same_reference after.same_reference;
       seen = told.0 ∙ inv.seen;
-      empty = emptying_goes_on g.P.Inx.PtrInx.packed_number c.loop-k.compactor.held.slots c.direct_at.new.compactor.held.slots c.loop-k.k (g.P.Inx.PtrInx.number c.inx_at.result) c.inx_at.ensures
+      empty = emptying_goes_on g.P.Inx.InxKey.packed_number c.loop-k.compactor.held.slots c.direct_at.new.compactor.held.slots c.loop-k.k (g.P.Inx.InxKey.number c.inx_at.result) c.inx_at.ensures
           inv.empty told.1 told.2;
       totals = touches_more c.args.compactor.now.arena.now c.loop-k.compactor.arena.now c.direct_at.new.compactor.arena.now c.loop-k.k inv.totals after.arena;
       counts = counts_on old now next inv.counts after.counts;
@@ -43,7 +43,7 @@ returns g c =
     record {
       same_reference = inv.same_reference;
       seen = inv.seen;
-      empty = emptying_ends g.P.Inx.PtrInx.packed_number old.held c.loop-k.compactor.held inv.seen (λ j low. inv.empty j (omega (arith, low, all)));
+      empty = emptying_ends g.P.Inx.InxKey.packed_number old.held c.loop-k.compactor.held inv.seen (λ j low. inv.empty j (omega (arith, low, all)));
       totals = inv.totals ∙ ap (with_totals old.arena.now 0) all;
       counts = inv.counts;
     }

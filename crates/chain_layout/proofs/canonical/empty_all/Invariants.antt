@@ -7,7 +7,7 @@ use Rattle.chain_layout.proofs.canonical.empty_all.Given as goal
 
 abbrev pub invariant-loop-k : goal.invariant-loop-k
 invariant-loop-k g l =
-    let packed_number = g.P.Inx.PtrInx.packed_number in
+    let packed_number = g.P.Inx.InxKey.packed_number in
     record {
       same_reference : l.compactor.arena.ghost_name ≡ l.fn.compactor.arena.ghost_name;
       seen : seen_held packed_number l.compactor.held ≡ seen_held packed_number l.fn.compactor.held;

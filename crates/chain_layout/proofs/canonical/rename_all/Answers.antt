@@ -12,7 +12,7 @@ use Rattle.chain_layout.proofs.canonical.rename_all.Goals as goal
 
 pub loop-k-init : goal.loop-k-init
 loop-k-init g c =
-    let packed_number = g.P.Inx.PtrInx.packed_number in
+    let packed_number = g.P.Inx.InxKey.packed_number in
     let old = c.args.compactor.now in
     record {
       same_reference = refl;
@@ -26,11 +26,11 @@ loop-k-init g c =
 
 pub loop-k-preserved : goal.loop-k-preserved
 loop-k-preserved g c =
-    let packed_number = g.P.Inx.PtrInx.packed_number in
+    let packed_number = g.P.Inx.InxKey.packed_number in
     let old = c.args.compactor.now in
     let now = c.loop-k.compactor in
     let next = c.rename_at.new.compactor in
-    let i = g.P.Inx.PtrInx.number c.inx_at.result in
+    let i = g.P.Inx.InxKey.number c.inx_at.result in
     let inv = c.loop-k.invariant in
     let after = c.rename_at.ensures in
     let inside : c.loop-k.k < length old.held.slots = omega arith in
@@ -47,7 +47,7 @@ loop-k-preserved g c =
 
 pub returns : goal.returns
 returns g c =
-    let packed_number = g.P.Inx.PtrInx.packed_number in
+    let packed_number = g.P.Inx.InxKey.packed_number in
     let old = c.args.compactor.now in
     let now = c.loop-k.compactor in
     let inv = c.loop-k.invariant in

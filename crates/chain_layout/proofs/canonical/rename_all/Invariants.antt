@@ -8,7 +8,7 @@ use Rattle.chain_layout.proofs.canonical.rename_all.Given as goal
 
 abbrev pub invariant-loop-k : goal.invariant-loop-k
 invariant-loop-k g l =
-    let packed_number = g.P.Inx.PtrInx.packed_number in
+    let packed_number = g.P.Inx.InxKey.packed_number in
     record {
       same_reference : l.compactor.arena.ghost_name ≡ l.fn.compactor.arena.ghost_name;
       renamed : AreRenamedTo (given packed_number l.fn.compactor.held.slots) (seen_held packed_number l.fn.compactor.held).slots (seen_held packed_number l.compactor.held).slots l.k;

@@ -10,21 +10,21 @@ use Rattle.chain_layout.proofs.canonical.rename_at.Goals as goal
 
 pub returns-in-None : goal.returns-in-None
 returns-in-None g c =
-    let i = g.P.Inx.PtrInx.number c.args.i in
+    let i = g.P.Inx.InxKey.number c.args.i in
     let old = c.args.compactor.now in
     let new = c.look_at-was.new.compactor in
     let look = c.look_at-was.ensures in
     let was = c.look_at-was.result.0 in
     record {
       same_reference = look.looked.same_reference;
-      renamed = renames_nothing g.P.Inx.PtrInx.packed_number i old.held new.held was look.looked.held c.in-None.is look.generation;
+      renamed = renames_nothing g.P.Inx.InxKey.packed_number i old.held new.held was look.looked.held c.in-None.is look.generation;
       work = work_none (slot_at old.held.slots i) (λ e. e.0) was old.arena.now new.arena.now look.looked.arena;
       counts = look.looked.counts;
     }
 
 pub returns-in-Some-value_mut : goal.returns-in-Some-value_mut
 returns-in-Some-value_mut g c =
-    let number = g.P.Inx.PtrInx.number in
+    let number = g.P.Inx.InxKey.number in
     let i = number c.args.i in
     let old = c.args.compactor.now in
     let looked = c.look_at-was.new.compactor in
@@ -41,7 +41,7 @@ returns-in-Some-value_mut g c =
     let wrote = lent two new i c.value_mut.result c.in-Some-value_mut.link left c.in-Some-value_mut.is c.value_mut.ensures.value (c.value_mut.follows.holds left) in
     record {
       same_reference = wrote.same_reference ∙ (second.same_reference ∙ (first.same_reference ∙ look.looked.same_reference));
-      renamed = renames_looked g.P.Inx.PtrInx.packed_number i old.held looked.held one.held two.held new.held was c.in-Some.field-0
+      renamed = renames_looked g.P.Inx.InxKey.packed_number i old.held looked.held one.held two.held new.held was c.in-Some.field-0
           (option_map number c.look_at-was.result.1) (option_map number c.look_at-was.result.2) (option_map number c.destination_of-prev.result) (option_map number c.destination_of-next.result)
           link mid left look.looked.held first.held second.held c.in-Some.is look.generation look.prev look.next first.answer second.answer wrote.stands wrote.held
           c.set_prev.ensures.prev c.set_prev.ensures.rest c.set_next.ensures.next c.set_next.ensures.rest;
@@ -53,7 +53,7 @@ returns-in-Some-value_mut g c =
 
 pub returns-in-None-value_mut : goal.returns-in-None-value_mut
 returns-in-None-value_mut g c =
-    let i = g.P.Inx.PtrInx.number c.args.i in
+    let i = g.P.Inx.InxKey.number c.args.i in
     let old = c.args.compactor.now in
     let two = c.destination_of-next.new.compactor in
     let look = c.look_at-was.ensures in

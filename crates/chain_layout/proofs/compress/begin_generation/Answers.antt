@@ -9,8 +9,8 @@ returns-then-reset g c =
     let old = c.args.arena.now in
     let counts = length (entries old) in
     record {
-      after = anew g.P.Gen.PtrGen.first g.P.Gen.PtrGen.following g.P.Gen.PtrGen.wraps old c.set_generation.new.self c.args.reset counts 0 c.two.result c.if-reset.true c.two.ensures c.set_generation.ensures;
-      overflow = anew_tells g.P.Gen.PtrGen.first g.P.Gen.PtrGen.following g.P.Gen.PtrGen.wraps old old c.args.reset counts 0 (tt {0}) c.if-reset.true;
+      after = anew g.P.Gen.GenKey.first g.P.Gen.GenKey.following g.P.Gen.GenKey.wraps old c.set_generation.new.self c.args.reset counts 0 c.two.result c.if-reset.true c.two.ensures c.set_generation.ensures;
+      overflow = anew_tells g.P.Gen.GenKey.first g.P.Gen.GenKey.following g.P.Gen.GenKey.wraps old old c.args.reset counts 0 (tt {0}) c.if-reset.true;
     }
 
 pub returns-then-len-eq0 : goal.returns-then-len-eq0
@@ -18,8 +18,8 @@ returns-then-len-eq0 g c =
     let old = c.args.arena.now in
     let counts = length (entries old) in
     record {
-      after = stays g.P.Gen.PtrGen.first g.P.Gen.PtrGen.following g.P.Gen.PtrGen.wraps old old c.args.reset counts c.len.result c.if-reset.false c.len.ensures.count c.if-len-eq0.true;
-      overflow = stays_tells g.P.Gen.PtrGen.first g.P.Gen.PtrGen.following g.P.Gen.PtrGen.wraps old old c.args.reset counts c.len.result c.if-reset.false c.len.ensures.count c.if-len-eq0.true (tt {0});
+      after = stays g.P.Gen.GenKey.first g.P.Gen.GenKey.following g.P.Gen.GenKey.wraps old old c.args.reset counts c.len.result c.if-reset.false c.len.ensures.count c.if-len-eq0.true;
+      overflow = stays_tells g.P.Gen.GenKey.first g.P.Gen.GenKey.following g.P.Gen.GenKey.wraps old old c.args.reset counts c.len.result c.if-reset.false c.len.ensures.count c.if-len-eq0.true (tt {0});
     }
 
 pub returns : goal.returns
@@ -28,6 +28,6 @@ returns g c =
     let counts = length (entries old) in
     let next = c.inc_generation.ensures in
     record {
-      after = goes_on g.P.Gen.PtrGen.first g.P.Gen.PtrGen.following g.P.Gen.PtrGen.wraps old c.inc_generation.new.self c.args.reset counts c.len.result c.if-reset.false c.len.ensures.count c.if-len-eq0.false next.after;
-      overflow = goes_on_tells g.P.Gen.PtrGen.first g.P.Gen.PtrGen.following g.P.Gen.PtrGen.wraps old old c.args.reset counts c.len.result c.if-reset.false c.len.ensures.count c.if-len-eq0.false (tt {0}) c.inc_generation.result next.overflow;
+      after = goes_on g.P.Gen.GenKey.first g.P.Gen.GenKey.following g.P.Gen.GenKey.wraps old c.inc_generation.new.self c.args.reset counts c.len.result c.if-reset.false c.len.ensures.count c.if-len-eq0.false next.after;
+      overflow = goes_on_tells g.P.Gen.GenKey.first g.P.Gen.GenKey.following g.P.Gen.GenKey.wraps old old c.args.reset counts c.len.result c.if-reset.false c.len.ensures.count c.if-len-eq0.false (tt {0}) c.inc_generation.result next.overflow;
     }

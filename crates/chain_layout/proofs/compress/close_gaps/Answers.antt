@@ -11,14 +11,14 @@ use Rattle.chain_layout.proofs.compress.close_gaps.Goals as goal
 
 pub loop-k-init : goal.loop-k-init
 loop-k-init g c =
-    let number = g.P.Inx.PtrInx.packed_number in
+    let number = g.P.Inx.InxKey.packed_number in
     let old = c.args.compactor.now in
     record {
       callable = c.requires.callable;
       same_reference = refl;
       capacity = refl;
       maximum = refl;
-      closing = closing_begins g.F.FnMut g.P.Ptr.key c.args.generation c.args.map (slot_values old.held.slots);
+      closing = closing_begins g.F.FnMut g.P.PtrKey.key c.args.generation c.args.map (slot_values old.held.slots);
       coming = coming_begins number old.held.slots c.requires.agree (slots-within (interlinks_seen number) old.held.slots);
       work = work-none old.arena.now 0;
     }
@@ -26,21 +26,21 @@ loop-k-init g c =
 pub unreachable-requires : goal.unreachable-requires
 unreachable-requires g c =
     let mid = c.move_link.new.compactor.held in
-    stands_there g.F.FnMut g.P.Ptr.key c.args.generation g.P.Inx.PtrInx.packed_number c.args.map c.loop-k.map c.args.compactor.now.held c.loop-k.compactor.held c.requires.agree c.loop-k.k c.loop-k.count
-    c.loop-k.invariant.closing c.loop-k.invariant.coming c.slots-k-end.result c.slots-k-end.ensures c.loop-k-test.true (g.P.Inx.PtrInx.number c.inx_at-from.result) c.inx_at-from.ensures (g.P.Inx.PtrInx.number c.inx_at-to.result) c.inx_at-to.ensures c.in-Some.was
+    stands_there g.F.FnMut g.P.PtrKey.key c.args.generation g.P.Inx.InxKey.packed_number c.args.map c.loop-k.map c.args.compactor.now.held c.loop-k.compactor.held c.requires.agree c.loop-k.k c.loop-k.count
+    c.loop-k.invariant.closing c.loop-k.invariant.coming c.slots-k-end.result c.slots-k-end.ensures c.loop-k-test.true (g.P.Inx.InxKey.number c.inx_at-from.result) c.inx_at-from.ensures (g.P.Inx.InxKey.number c.inx_at-to.result) c.inx_at-to.ensures c.in-Some.was
     c.in-Some.ensures.answer mid c.in-Some.ensures.values
-    (lent_none c.move_link.new.compactor c.value_mut.follows.lender-at-none (g.P.Inx.PtrInx.number c.inx_at-to.result) c.value_mut.result c.in-None-value_mut.is c.value_mut.ensures.value c.value_mut.follows.holds-at-none).none
+    (lent_none c.move_link.new.compactor c.value_mut.follows.lender-at-none (g.P.Inx.InxKey.number c.inx_at-to.result) c.value_mut.result c.in-None-value_mut.is c.value_mut.ensures.value c.value_mut.follows.holds-at-none).none
 
 pub loop-k-preserved-in-None : goal.loop-k-preserved-in-None
 loop-k-preserved-in-None g c =
-    let key = g.P.Ptr.key in
-    let number = g.P.Inx.PtrInx.packed_number in
+    let key = g.P.PtrKey.key in
+    let number = g.P.Inx.InxKey.packed_number in
     let at = c.loop-k.invariant in
     let old = c.args.compactor.now in
     let now = c.loop-k.compactor in
     let mid = c.move_link.new.compactor in
     let made = c.move_link.ensures in
-    let from = g.P.Inx.PtrInx.number c.inx_at-from.result in
+    let from = g.P.Inx.InxKey.number c.inx_at-from.result in
     record {
       callable = at.callable;
       same_reference = made.same_reference ∙ at.same_reference;
@@ -57,8 +57,8 @@ loop-k-preserved-in-None g c =
 
 pub loop-k-preserved : goal.loop-k-preserved
 loop-k-preserved g c =
-    let key = g.P.Ptr.key in
-    let number = g.P.Inx.PtrInx.packed_number in
+    let key = g.P.PtrKey.key in
+    let number = g.P.Inx.InxKey.packed_number in
     let at = c.loop-k.invariant in
     let old = c.args.compactor.now in
     let now = c.loop-k.compactor in
@@ -67,8 +67,8 @@ loop-k-preserved g c =
     let value = c.map.new.arg3 in
     let left = record link { t = value } in
     let new = c.value_mut.follows.lender left in
-    let from = g.P.Inx.PtrInx.number c.inx_at-from.result in
-    let to = g.P.Inx.PtrInx.number c.inx_at-to.result in
+    let from = g.P.Inx.InxKey.number c.inx_at-from.result in
+    let to = g.P.Inx.InxKey.number c.inx_at-to.result in
     let moves = c.in-Some.ensures in
     let wrote = lent mid new to c.value_mut.result c.in-Some-value_mut.link left c.in-Some-value_mut.is c.value_mut.ensures.value (c.value_mut.follows.holds left) in
     record {
@@ -89,8 +89,8 @@ loop-k-preserved g c =
 
 pub returns : goal.returns
 returns g c =
-    let key = g.P.Ptr.key in
-    let number = g.P.Inx.PtrInx.packed_number in
+    let key = g.P.PtrKey.key in
+    let number = g.P.Inx.InxKey.packed_number in
     let old = c.args.compactor.now in
     let now = c.loop-k.compactor in
     let inv = c.loop-k.invariant in

@@ -12,7 +12,7 @@ invariant-loop-k g l = record {
   same_reference : l.compactor.arena.ghost_name ≡ l.fn.compactor.arena.ghost_name;
   capacity : l.compactor.held.stack_capacity ≡ l.fn.compactor.held.stack_capacity;
   maximum : l.compactor.held.maximum ≡ l.fn.compactor.held.maximum;
-  closing : IsClosing g.F.FnMut g.P.Ptr.key l.generation l.fn.map (slot_values l.fn.compactor.held.slots) l.k l.count l.map (slot_values l.compactor.held.slots);
-  coming : AreComing g.P.Inx.PtrInx.packed_number l.fn.compactor.held.slots l.compactor.held.slots l.k l.count;
+  closing : IsClosing g.F.FnMut g.P.PtrKey.key l.generation l.fn.map (slot_values l.fn.compactor.held.slots) l.k l.count l.map (slot_values l.compactor.held.slots);
+  coming : AreComing g.P.Inx.InxKey.packed_number l.fn.compactor.held.slots l.compactor.held.slots l.k l.count;
   work : IsWork l.fn.compactor.arena.now l.compactor.arena.now l.count (l.k + 3 * l.count);
 }

@@ -4,14 +4,14 @@ use Rattle.chain_layout.proofs.compress.index_now.Goals as goal
 
 pub returns-then-eq : goal.returns-then-eq
 returns-then-eq g c =
-    let is = g.met.I.PtrInx.eq_is_same c.in-Some.k c.args.from in
-    named_moved g.I.PtrInx.number g.met.I.PtrInx.same_number c.in-Some.k c.args.named c.in-Some.is c.args.from c.args.to (is.0 (found c.eq.result (g.I.PartialEq.eq c.in-Some.k c.args.from) c.eq.ensures c.if-eq.true))
+    let is = g.met.I.InxKey.eq_is_same c.in-Some.k c.args.from in
+    named_moved g.I.InxKey.number g.met.I.InxKey.same_number c.in-Some.k c.args.named c.in-Some.is c.args.from c.args.to (is.0 (found c.eq.result (g.I.PartialEq.eq c.in-Some.k c.args.from) c.eq.ensures c.if-eq.true))
 
 pub returns-else-eq : goal.returns-else-eq
 returns-else-eq g c =
-    let is = g.met.I.PtrInx.eq_is_same c.in-Some.k c.args.from in
-    named_stays g.I.PtrInx.number g.met.I.PtrInx.same_number c.in-Some.k c.args.named c.in-Some.is c.args.from c.args.to
+    let is = g.met.I.InxKey.eq_is_same c.in-Some.k c.args.from in
+    named_stays g.I.InxKey.number g.met.I.InxKey.same_number c.in-Some.k c.args.named c.in-Some.is c.args.from c.args.to
     (λ e. differ c.eq.result (g.I.PartialEq.eq c.in-Some.k c.args.from) c.eq.ensures c.if-eq.false (is.1 e))
 
 pub returns-in-None : goal.returns-in-None
-returns-in-None g c = none_moved g.I.PtrInx.number c.args.named c.in-None.is c.args.from c.args.to
+returns-in-None g c = none_moved g.I.InxKey.number c.args.named c.in-None.is c.args.from c.args.to

@@ -7,12 +7,12 @@ use Rattle.chain_layout.proofs.compress.move_link.Goals as goal
 pub place-requires-clause-entry : goal.place-requires-clause-entry
 place-requires-clause-entry g c =
     let look = c.look_at-was.ensures in
-    entry-seen c.args.compactor.now.held c.look_at-was.new.compactor.held (g.P.Inx.PtrInx.number c.args.from) c.look_at-was.result.0 c.in-Some.was look.looked.held c.in-Some.is look.generation
+    entry-seen c.args.compactor.now.held c.look_at-was.new.compactor.held (g.P.Inx.InxKey.number c.args.from) c.look_at-was.result.0 c.in-Some.was look.looked.held c.in-Some.is look.generation
 
 pub returns : goal.returns
 returns g c =
-    let number = g.P.Inx.PtrInx.number in
-    let packed_number = g.P.Inx.PtrInx.packed_number in
+    let number = g.P.Inx.InxKey.number in
+    let packed_number = g.P.Inx.InxKey.packed_number in
     let from = number c.args.from in
     let to = number c.args.to in
     let old = c.args.compactor.now.held in
@@ -30,7 +30,7 @@ returns g c =
       values = move-values packed_number old looked brought told new from to c.args.generation look.looked.held places.held next.values prev.values;
       moves = move-shown packed_number old looked brought told new from to c.args.generation look.looked.held places.held
           (option_map number c.index_now.result) (option_map number c.index_now-2.result) (option_map number c.look_at-was.result.1) (option_map number c.look_at-was.result.2)
-          (g.met.P.Inx.PtrInx.at_least_one c.args.from) c.requires.from (g.met.P.Inx.PtrInx.at_least_one c.args.to) c.requires.to
+          (g.met.P.Inx.InxKey.at_least_one c.args.from) c.requires.from (g.met.P.Inx.InxKey.at_least_one c.args.to) c.requires.to
           look.prev look.next c.index_now.ensures c.index_now-2.ensures next.shows prev.shows;
       work = work-moved look.looked.arena places.arena next.work prev.work;
       none = tt;

@@ -8,8 +8,8 @@ use Rattle.chain_layout.proofs.compress.tell.Goals as goal
 
 pub returns-then-before : goal.returns-then-before
 returns-then-before g c =
-    let number = g.P.Inx.PtrInx.number in
-    let packed = g.P.Inx.PtrInx.packed_number in
+    let number = g.P.Inx.InxKey.number in
+    let packed = g.P.Inx.InxKey.packed_number in
     let i = number c.in-Some.i in
     let old = c.args.compactor.now in
     let goes = Some (number c.args.named) in
@@ -26,8 +26,8 @@ returns-then-before g c =
 
 pub returns-else-before : goal.returns-else-before
 returns-else-before g c =
-    let number = g.P.Inx.PtrInx.number in
-    let packed = g.P.Inx.PtrInx.packed_number in
+    let number = g.P.Inx.InxKey.number in
+    let packed = g.P.Inx.InxKey.packed_number in
     let i = number c.in-Some.i in
     let old = c.args.compactor.now in
     let goes = Some (number c.args.named) in
@@ -44,8 +44,8 @@ returns-else-before g c =
 
 pub returns-in-None-value_mut : goal.returns-in-None-value_mut
 returns-in-None-value_mut g c =
-    let number = g.P.Inx.PtrInx.number in
-    let packed = g.P.Inx.PtrInx.packed_number in
+    let number = g.P.Inx.InxKey.number in
+    let packed = g.P.Inx.InxKey.packed_number in
     let i = number c.in-Some.i in
     let old = c.args.compactor.now in
     let new = c.value_mut.follows.lender-at-none in
@@ -59,11 +59,11 @@ returns-in-None-value_mut g c =
 
 pub returns-in-None : goal.returns-in-None
 returns-in-None g c =
-    let number = g.P.Inx.PtrInx.number in
+    let number = g.P.Inx.InxKey.number in
     let old = c.args.compactor.now in
     record {
       same_reference = refl;
       values = refl;
-      shows = tells_none number (shown_in g.P.Inx.PtrInx.packed_number old.held.slots) c.args.before c.args.i (Some (number c.args.named)) c.in-None.is;
+      shows = tells_none number (shown_in g.P.Inx.InxKey.packed_number old.held.slots) c.args.before c.args.i (Some (number c.args.named)) c.in-None.is;
       work = work-none old.arena.now 1;
     }

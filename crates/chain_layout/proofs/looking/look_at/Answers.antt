@@ -6,7 +6,7 @@ use Rattle.chain_layout.proofs.looking.look_at.Goals as goal
 
 pub returns-in-Some : goal.returns-in-Some
 returns-in-Some g c =
-    let shown = entry_shown g.P.Inx.PtrInx.packed_number (c.in-Some.was.now, c.in-Some.link.now) (slot_at c.args.compactor.now.held.slots (g.P.Inx.PtrInx.number c.args.i)) c.in-Some.ensures.value in
+    let shown = entry_shown g.P.Inx.InxKey.packed_number (c.in-Some.was.now, c.in-Some.link.now) (slot_at c.args.compactor.now.held.slots (g.P.Inx.InxKey.number c.args.i)) c.in-Some.ensures.value in
     record {
       looked = has_looked c.args.compactor.now c.peek.follows.lender-at-none c.peek.follows.holds-at-none;
       generation = shown.0;
@@ -17,5 +17,5 @@ returns-in-Some g c =
 
 pub returns-in-None : goal.returns-in-None
 returns-in-None g c =
-    let shown = nothing_shown g.P.Inx.PtrInx.packed_number (slot_at c.args.compactor.now.held.slots (g.P.Inx.PtrInx.number c.args.i)) c.in-None.ensures.value in
+    let shown = nothing_shown g.P.Inx.InxKey.packed_number (slot_at c.args.compactor.now.held.slots (g.P.Inx.InxKey.number c.args.i)) c.in-None.ensures.value in
     record { looked = has_looked c.args.compactor.now c.peek.follows.lender-at-none c.peek.follows.holds-at-none; generation = shown.0; prev = shown.1; next = shown.2; destination = shown.3 }

@@ -10,7 +10,7 @@ use Rattle.chain_layout.proofs.moving.move_all.Goals as goal
 
 pub loop-k-init : goal.loop-k-init
 loop-k-init g c =
-    let packed_number = g.P.Inx.PtrInx.packed_number in
+    let packed_number = g.P.Inx.InxKey.packed_number in
     let old = c.args.compactor.now in
     record {
       same_reference = refl;
@@ -29,7 +29,7 @@ settle-requires-clause-index g c = omega (arith, c.loop-k.invariant.passed.lengt
 
 pub loop-k-preserved : goal.loop-k-preserved
 loop-k-preserved g c =
-    let packed_number = g.P.Inx.PtrInx.packed_number in
+    let packed_number = g.P.Inx.InxKey.packed_number in
     let inv = c.loop-k.invariant in
     let after = c.settle.ensures in
     let old = c.args.compactor.now in
@@ -38,7 +38,7 @@ loop-k-preserved g c =
     record {
       same_reference = same_then old now next inv.same_reference after.same_reference;
       passed = passing_goes_on (goal_of packed_number) (Settles packed_number c.args.generation) (settled_rests packed_number c.args.generation) old.held.slots now.held.slots next.held.slots
-          c.loop-k.k (g.P.Inx.PtrInx.number c.inx_at.result) inv.passed c.inx_at.ensures after.settles after.none;
+          c.loop-k.k (g.P.Inx.InxKey.number c.inx_at.result) inv.passed c.inx_at.ensures after.settles after.none;
       capacity = capacity_then old now next inv.capacity after.capacity;
       maximum = maximum_then old now next inv.maximum after.maximum;
       work = work_on-after old.arena.now now.arena.now next.arena.now (waiting (goal_of packed_number) old.held.slots) (waiting (goal_of packed_number) now.held.slots)
@@ -50,9 +50,9 @@ pub returns : goal.returns
 returns g c =
     let old = c.args.compactor.now in
     let all : c.loop-k.k ≡ length old.held.slots = omega arith in
-    let goes = goal_of g.P.Inx.PtrInx.packed_number in
-    let settles = Settles g.P.Inx.PtrInx.packed_number c.args.generation in
-    let rests = settled_rests g.P.Inx.PtrInx.packed_number c.args.generation in
+    let goes = goal_of g.P.Inx.InxKey.packed_number in
+    let settles = Settles g.P.Inx.InxKey.packed_number c.args.generation in
+    let rests = settled_rests g.P.Inx.InxKey.packed_number c.args.generation in
     let now = c.loop-k.compactor in
     let inv = c.loop-k.invariant in
     let passed = subst (ArePassed goes settles old.held.slots now.held.slots) all inv.passed in

@@ -6,7 +6,7 @@ use Rattle.chain_layout.proofs.moving.move_all.Given as goal
 
 abbrev pub invariant-loop-k : goal.invariant-loop-k
 invariant-loop-k g l =
-    let packed_number = g.P.Inx.PtrInx.packed_number in
+    let packed_number = g.P.Inx.InxKey.packed_number in
     record {
       same_reference : l.compactor.arena.ghost_name ≡ l.fn.compactor.arena.ghost_name;
       passed : ArePassed (goal_of packed_number) (Settles packed_number l.generation) l.fn.compactor.held.slots l.compactor.held.slots l.k;

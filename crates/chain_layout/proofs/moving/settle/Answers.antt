@@ -12,11 +12,11 @@ use Rattle.chain_layout.proofs.moving.settle.Goals as goal
 
 pub loop-to-init : goal.loop-to-init
 loop-to-init g c =
-    let packed_number = g.P.Inx.PtrInx.packed_number in
+    let packed_number = g.P.Inx.InxKey.packed_number in
     let old = c.args.compactor.now in
     record {
       same_reference = refl;
-      settles = settling_begins (goal_of packed_number) (Settles packed_number c.args.generation) (g.P.Inx.PtrInx.number c.args.i) old.held.slots;
+      settles = settling_begins (goal_of packed_number) (Settles packed_number c.args.generation) (g.P.Inx.InxKey.number c.args.i) old.held.slots;
       capacity = refl;
       maximum = refl;
       work = work_on-begins old.arena.now (waiting (goal_of packed_number) old.held.slots);
@@ -25,30 +25,30 @@ loop-to-init g c =
 
 pub place-requires-clause-from : goal.place-requires-clause-from
 place-requires-clause-from g c =
-    from_within g.P.Inx.PtrInx.packed_number c.args.generation (g.P.Inx.PtrInx.number c.args.i) (g.P.Inx.PtrInx.number c.in-Some.to) c.loop-to.compactor.held c.take_at.new.compactor.held c.take_at.new.compactor.held
+    from_within g.P.Inx.InxKey.packed_number c.args.generation (g.P.Inx.InxKey.number c.args.i) (g.P.Inx.InxKey.number c.in-Some.to) c.loop-to.compactor.held c.take_at.new.compactor.held c.take_at.new.compactor.held
     c.in-Some.ensures.answer c.in-Some.ensures.taken (c.loop-to.invariant.settles.within c.requires.within)
 
 pub place-requires-clause-to : goal.place-requires-clause-to
 place-requires-clause-to g c =
-    to_within g.P.Inx.PtrInx.packed_number c.args.generation (g.P.Inx.PtrInx.number c.args.i) (g.P.Inx.PtrInx.number c.in-Some.to) c.loop-to.compactor.held c.take_at.new.compactor.held c.take_at.new.compactor.held
+    to_within g.P.Inx.InxKey.packed_number c.args.generation (g.P.Inx.InxKey.number c.args.i) (g.P.Inx.InxKey.number c.in-Some.to) c.loop-to.compactor.held c.take_at.new.compactor.held c.take_at.new.compactor.held
     c.in-Some.ensures.answer c.in-Some.ensures.taken (c.loop-to.invariant.settles.within c.requires.within)
 
 pub place-requires-clause-entry : goal.place-requires-clause-entry
 place-requires-clause-entry g c =
-    entry_there g.P.Inx.PtrInx.packed_number c.args.generation (g.P.Inx.PtrInx.number c.args.i) (g.P.Inx.PtrInx.number c.in-Some.to) c.loop-to.compactor.held c.take_at.new.compactor.held c.take_at.new.compactor.held
+    entry_there g.P.Inx.InxKey.packed_number c.args.generation (g.P.Inx.InxKey.number c.args.i) (g.P.Inx.InxKey.number c.in-Some.to) c.loop-to.compactor.held c.take_at.new.compactor.held c.take_at.new.compactor.held
     c.in-Some.ensures.answer c.in-Some.ensures.taken (c.loop-to.invariant.settles.within c.requires.within)
 
 pub loop-to-smaller : goal.loop-to-smaller
 loop-to-smaller g c =
-    let less = one_less_after g.P.Inx.PtrInx.packed_number c.args.generation (g.P.Inx.PtrInx.number c.args.i) (g.P.Inx.PtrInx.number c.in-Some.to) c.loop-to.compactor.held c.take_at.new.compactor.held c.place.new.self.held
+    let less = one_less_after g.P.Inx.InxKey.packed_number c.args.generation (g.P.Inx.InxKey.number c.args.i) (g.P.Inx.InxKey.number c.in-Some.to) c.loop-to.compactor.held c.take_at.new.compactor.held c.place.new.self.held
     c.in-Some.ensures.answer c.in-Some.ensures.taken (c.loop-to.invariant.settles.within c.requires.within) c.place.ensures.held in
     omega (arith, less)
 
 pub loop-to-preserved : goal.loop-to-preserved
 loop-to-preserved g c =
-    let packed_number = g.P.Inx.PtrInx.packed_number in
-    let i = g.P.Inx.PtrInx.number c.args.i in
-    let d = g.P.Inx.PtrInx.number c.in-Some.to in
+    let packed_number = g.P.Inx.InxKey.packed_number in
+    let i = g.P.Inx.InxKey.number c.args.i in
+    let d = g.P.Inx.InxKey.number c.in-Some.to in
     let inv = c.loop-to.invariant in
     let made = c.in-Some.ensures in
     let old = c.args.compactor.now in
@@ -69,8 +69,8 @@ loop-to-preserved g c =
 
 pub returns : goal.returns
 returns g c =
-    let packed_number = g.P.Inx.PtrInx.packed_number in
-    let number = g.P.Inx.PtrInx.number in
+    let packed_number = g.P.Inx.InxKey.packed_number in
+    let number = g.P.Inx.InxKey.number in
     let old = c.args.compactor.now in
     let before = c.loop-to.compactor in
     let after = c.take_at.new.compactor in

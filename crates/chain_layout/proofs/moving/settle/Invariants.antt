@@ -6,10 +6,10 @@ use Rattle.chain_layout.proofs.moving.settle.Given as goal
 
 abbrev pub invariant-loop-to : goal.invariant-loop-to
 invariant-loop-to g l =
-    let packed_number = g.P.Inx.PtrInx.packed_number in
+    let packed_number = g.P.Inx.InxKey.packed_number in
     record {
       same_reference : l.compactor.arena.ghost_name ≡ l.fn.compactor.arena.ghost_name;
-      settles : IsSettling (goal_of packed_number) (Settles packed_number l.generation) (g.P.Inx.PtrInx.number l.i) l.fn.compactor.held.slots l.compactor.held.slots;
+      settles : IsSettling (goal_of packed_number) (Settles packed_number l.generation) (g.P.Inx.InxKey.number l.i) l.fn.compactor.held.slots l.compactor.held.slots;
       capacity : l.compactor.held.stack_capacity ≡ l.fn.compactor.held.stack_capacity;
       maximum : l.compactor.held.maximum ≡ l.fn.compactor.held.maximum;
       work : IsWorkOn l.fn.compactor.arena.now l.compactor.arena.now (waiting (goal_of packed_number) l.fn.compactor.held.slots) (waiting (goal_of packed_number) l.compactor.held.slots) 0;
@@ -17,4 +17,4 @@ invariant-loop-to g l =
     }
 
 abbrev pub decreases-loop-to : goal.decreases-loop-to
-decreases-loop-to g l = waiting (goal_of g.P.Inx.PtrInx.packed_number) l.compactor.held.slots
+decreases-loop-to g l = waiting (goal_of g.P.Inx.InxKey.packed_number) l.compactor.held.slots

@@ -16,7 +16,7 @@ loop-k-init g c =
     record {
       ready = c.requires.ready;
       same_reference = refl {a = now.arena.ghost_name};
-      order = order_begins g.P.Inx.PtrInx.packed_number g.V.Visitor.sees g.P.Ptr.key c.args.generation c.args.visitor now.held now.arena.now c.requires.agree c.requires.empty;
+      order = order_begins g.P.Inx.InxKey.packed_number g.V.Visitor.sees g.P.PtrKey.key c.args.generation c.args.visitor now.held now.arena.now c.requires.agree c.requires.empty;
       counts = counts_none now.arena.now now.placed now.touched;
     }
 
@@ -25,8 +25,8 @@ start_at-start-requires-clause-agree g c =
     let old = c.args.compactor.now in
     let now = c.loop-k.compactor in
     let look = c.look_at-was.ensures in
-    order_agrees g.P.Inx.PtrInx.packed_number g.V.Visitor.sees g.P.Ptr.key c.args.generation c.args.visitor old.held old.arena.now c.loop-k.visitor now.held now.arena.now c.loop-k.count c.loop-k.k
-    c.loop-k.invariant.order (g.P.Inx.PtrInx.number c.inx_at-i.result) c.inx_at-i.ensures (told_fresh g.P.Inx.PtrInx.packed_number g.P.Inx.PtrInx.number (slot_at now.held.slots (g.P.Inx.PtrInx.number c.inx_at-i.result)) c.look_at-was.result.0 c.in-Some.field-0 c.look_at-was.result.3 c.in-Some.is look.generation look.destination c.in-None-destination.is)
+    order_agrees g.P.Inx.InxKey.packed_number g.V.Visitor.sees g.P.PtrKey.key c.args.generation c.args.visitor old.held old.arena.now c.loop-k.visitor now.held now.arena.now c.loop-k.count c.loop-k.k
+    c.loop-k.invariant.order (g.P.Inx.InxKey.number c.inx_at-i.result) c.inx_at-i.ensures (told_fresh g.P.Inx.InxKey.packed_number g.P.Inx.InxKey.number (slot_at now.held.slots (g.P.Inx.InxKey.number c.inx_at-i.result)) c.look_at-was.result.0 c.in-Some.field-0 c.look_at-was.result.3 c.in-Some.is look.generation look.destination c.in-None-destination.is)
     c.look_at-was.new.compactor.held look.looked.held c.requires.agree
 
 pub start_at-start-requires-clause-valid : goal.start_at-start-requires-clause-valid
@@ -34,8 +34,8 @@ start_at-start-requires-clause-valid g c =
     let old = c.args.compactor.now in
     let now = c.loop-k.compactor in
     let look = c.look_at-was.ensures in
-    order_valid g.P.Inx.PtrInx.packed_number g.V.Visitor.sees g.P.Ptr.key c.args.generation c.args.visitor old.held old.arena.now c.loop-k.visitor now.held now.arena.now c.loop-k.count c.loop-k.k
-    c.loop-k.invariant.order (g.P.Inx.PtrInx.number c.inx_at-i.result) c.inx_at-i.ensures (told_fresh g.P.Inx.PtrInx.packed_number g.P.Inx.PtrInx.number (slot_at now.held.slots (g.P.Inx.PtrInx.number c.inx_at-i.result)) c.look_at-was.result.0 c.in-Some.field-0 c.look_at-was.result.3 c.in-Some.is look.generation look.destination c.in-None-destination.is)
+    order_valid g.P.Inx.InxKey.packed_number g.V.Visitor.sees g.P.PtrKey.key c.args.generation c.args.visitor old.held old.arena.now c.loop-k.visitor now.held now.arena.now c.loop-k.count c.loop-k.k
+    c.loop-k.invariant.order (g.P.Inx.InxKey.number c.inx_at-i.result) c.inx_at-i.ensures (told_fresh g.P.Inx.InxKey.packed_number g.P.Inx.InxKey.number (slot_at now.held.slots (g.P.Inx.InxKey.number c.inx_at-i.result)) c.look_at-was.result.0 c.in-Some.field-0 c.look_at-was.result.3 c.in-Some.is look.generation look.destination c.in-None-destination.is)
     c.look_at-was.new.compactor.held look.looked.held
 
 pub number_chain-shown-requires-clause-ready : goal.number_chain-shown-requires-clause-ready
@@ -43,7 +43,7 @@ number_chain-shown-requires-clause-ready g c = c.loop-k.invariant.ready
 
 pub number_chain-shown-requires-clause-fits : goal.number_chain-shown-requires-clause-fits
 number_chain-shown-requires-clause-fits g c =
-    fits_seen g.P.Inx.PtrInx.packed_number c.args.compactor.now.held c.loop-k.compactor.held c.look_at-was.new.compactor.held c.start_at-start.new.compactor.held g.P.Inx.PtrInx.greatest
+    fits_seen g.P.Inx.InxKey.packed_number c.args.compactor.now.held c.loop-k.compactor.held c.look_at-was.new.compactor.held c.start_at-start.new.compactor.held g.P.Inx.InxKey.greatest
     c.loop-k.invariant.order.seen c.look_at-was.ensures.looked.held c.start_at-start.ensures.held c.requires.fits
 
 pub number_chain-shown-requires-clause-can : goal.number_chain-shown-requires-clause-can
@@ -52,9 +52,9 @@ number_chain-shown-requires-clause-can g c =
     let now = c.loop-k.compactor in
     let look = c.look_at-was.ensures in
     let start = c.start_at-start.ensures in
-    order_can g.P.Inx.PtrInx.packed_number g.V.Visitor.sees g.P.Ptr.key c.args.generation c.args.visitor old.held old.arena.now c.loop-k.visitor now.held now.arena.now c.loop-k.count c.loop-k.k
-    c.loop-k.invariant.order (g.P.Inx.PtrInx.number c.inx_at-i.result) c.inx_at-i.ensures (told_fresh g.P.Inx.PtrInx.packed_number g.P.Inx.PtrInx.number (slot_at now.held.slots (g.P.Inx.PtrInx.number c.inx_at-i.result)) c.look_at-was.result.0 c.in-Some.field-0 c.look_at-was.result.3 c.in-Some.is look.generation look.destination c.in-None-destination.is)
-    c.look_at-was.new.compactor.held look.looked.held c.start_at-start.new.compactor.held start.held (g.P.Inx.PtrInx.number c.start_at-start.result) start.start
+    order_can g.P.Inx.InxKey.packed_number g.V.Visitor.sees g.P.PtrKey.key c.args.generation c.args.visitor old.held old.arena.now c.loop-k.visitor now.held now.arena.now c.loop-k.count c.loop-k.k
+    c.loop-k.invariant.order (g.P.Inx.InxKey.number c.inx_at-i.result) c.inx_at-i.ensures (told_fresh g.P.Inx.InxKey.packed_number g.P.Inx.InxKey.number (slot_at now.held.slots (g.P.Inx.InxKey.number c.inx_at-i.result)) c.look_at-was.result.0 c.in-Some.field-0 c.look_at-was.result.3 c.in-Some.is look.generation look.destination c.in-None-destination.is)
+    c.look_at-was.new.compactor.held look.looked.held c.start_at-start.new.compactor.held start.held (g.P.Inx.InxKey.number c.start_at-start.result) start.start
 
 pub loop-k-preserved-in-None : goal.loop-k-preserved-in-None
 loop-k-preserved-in-None g c =
@@ -66,9 +66,9 @@ loop-k-preserved-in-None g c =
     record {
       ready = at.ready;
       same_reference = same_then old now mid at.same_reference look.looked.same_reference;
-      order = order_skips g.P.Inx.PtrInx.packed_number g.V.Visitor.sees g.P.Ptr.key c.args.generation c.args.visitor old.held old.arena.now c.loop-k.visitor now.held now.arena.now c.loop-k.count c.loop-k.k
-          at.order (g.P.Inx.PtrInx.number c.inx_at-i.result) c.inx_at-i.ensures mid.held mid.arena.now look.looked.held
-          (told_none g.P.Inx.PtrInx.packed_number (slot_at now.held.slots (g.P.Inx.PtrInx.number c.inx_at-i.result)) c.look_at-was.result.0 c.in-None.is look.generation) (work-touched now.arena.now mid.arena.now look.looked.arena);
+      order = order_skips g.P.Inx.InxKey.packed_number g.V.Visitor.sees g.P.PtrKey.key c.args.generation c.args.visitor old.held old.arena.now c.loop-k.visitor now.held now.arena.now c.loop-k.count c.loop-k.k
+          at.order (g.P.Inx.InxKey.number c.inx_at-i.result) c.inx_at-i.ensures mid.held mid.arena.now look.looked.held
+          (told_none g.P.Inx.InxKey.packed_number (slot_at now.held.slots (g.P.Inx.InxKey.number c.inx_at-i.result)) c.look_at-was.result.0 c.in-None.is look.generation) (work-touched now.arena.now mid.arena.now look.looked.arena);
       counts = counts_on old now mid at.counts look.looked.counts;
     }
 
@@ -82,9 +82,9 @@ loop-k-preserved-in-Some-destination g c =
     record {
       ready = at.ready;
       same_reference = same_then old now mid at.same_reference look.looked.same_reference;
-      order = order_skips g.P.Inx.PtrInx.packed_number g.V.Visitor.sees g.P.Ptr.key c.args.generation c.args.visitor old.held old.arena.now c.loop-k.visitor now.held now.arena.now c.loop-k.count c.loop-k.k
-          at.order (g.P.Inx.PtrInx.number c.inx_at-i.result) c.inx_at-i.ensures mid.held mid.arena.now look.looked.held
-          (told_directed g.P.Inx.PtrInx.packed_number g.P.Inx.PtrInx.number (slot_at now.held.slots (g.P.Inx.PtrInx.number c.inx_at-i.result)) c.look_at-was.result.0 c.in-Some.field-0 c.look_at-was.result.3 c.in-Some-destination.field-0 c.in-Some.is look.generation look.destination c.in-Some-destination.is) (work-touched now.arena.now mid.arena.now look.looked.arena);
+      order = order_skips g.P.Inx.InxKey.packed_number g.V.Visitor.sees g.P.PtrKey.key c.args.generation c.args.visitor old.held old.arena.now c.loop-k.visitor now.held now.arena.now c.loop-k.count c.loop-k.k
+          at.order (g.P.Inx.InxKey.number c.inx_at-i.result) c.inx_at-i.ensures mid.held mid.arena.now look.looked.held
+          (told_directed g.P.Inx.InxKey.packed_number g.P.Inx.InxKey.number (slot_at now.held.slots (g.P.Inx.InxKey.number c.inx_at-i.result)) c.look_at-was.result.0 c.in-Some.field-0 c.look_at-was.result.3 c.in-Some-destination.field-0 c.in-Some.is look.generation look.destination c.in-Some-destination.is) (work-touched now.arena.now mid.arena.now look.looked.arena);
       counts = counts_on old now mid at.counts look.looked.counts;
     }
 
@@ -102,10 +102,10 @@ loop-k-preserved g c =
     record {
       ready = chain.ready;
       same_reference = same_then old now new at.same_reference (same_then now mid new look.looked.same_reference (same_then mid stood new start.same_reference chain.same_reference));
-      order = order_goes_on g.P.Inx.PtrInx.packed_number g.V.Visitor.sees g.P.Ptr.key c.args.generation c.args.visitor old.held old.arena.now c.loop-k.visitor now.held now.arena.now c.loop-k.count c.loop-k.k
-          at.order (g.P.Inx.PtrInx.number c.inx_at-i.result) c.inx_at-i.ensures
-          (told_fresh g.P.Inx.PtrInx.packed_number g.P.Inx.PtrInx.number (slot_at now.held.slots (g.P.Inx.PtrInx.number c.inx_at-i.result)) c.look_at-was.result.0 c.in-Some.field-0 c.look_at-was.result.3 c.in-Some.is look.generation look.destination c.in-None-destination.is)
-          mid.held look.looked.held stood.held start.held (g.P.Inx.PtrInx.number c.start_at-start.result) start.start mid.arena.now stood.arena.now new.arena.now
+      order = order_goes_on g.P.Inx.InxKey.packed_number g.V.Visitor.sees g.P.PtrKey.key c.args.generation c.args.visitor old.held old.arena.now c.loop-k.visitor now.held now.arena.now c.loop-k.count c.loop-k.k
+          at.order (g.P.Inx.InxKey.number c.inx_at-i.result) c.inx_at-i.ensures
+          (told_fresh g.P.Inx.InxKey.packed_number g.P.Inx.InxKey.number (slot_at now.held.slots (g.P.Inx.InxKey.number c.inx_at-i.result)) c.look_at-was.result.0 c.in-Some.field-0 c.look_at-was.result.3 c.in-Some.is look.generation look.destination c.in-None-destination.is)
+          mid.held look.looked.held stood.held start.held (g.P.Inx.InxKey.number c.start_at-start.result) start.start mid.arena.now stood.arena.now new.arena.now
           c.number_chain-shown.result.0 new.held c.number_chain-shown.result.1
           (work-touched now.arena.now mid.arena.now look.looked.arena) start.linear start.cyclic chain.seen chain.numbered;
       counts = counts_on old now new at.counts (counts_on now mid new look.looked.counts (counts_on mid stood new start.counts chain.counts));
@@ -119,7 +119,7 @@ returns g c =
     record {
       same_reference = at.same_reference;
       seen = at.order.seen;
-      numbered = order_ends g.P.Inx.PtrInx.packed_number g.V.Visitor.sees g.P.Ptr.key c.args.generation c.args.visitor old.held old.arena.now c.loop-k.visitor now.held now.arena.now c.loop-k.count c.loop-k.k
+      numbered = order_ends g.P.Inx.InxKey.packed_number g.V.Visitor.sees g.P.PtrKey.key c.args.generation c.args.visitor old.held old.arena.now c.loop-k.visitor now.held now.arena.now c.loop-k.count c.loop-k.k
           at.order (at_end c.loop-k.k c.slots-k-end.result (length old.held.slots) c.slots-k-end.ensures c.loop-k.auto.k-end c.loop-k-test.false);
       counts = at.counts;
     }

@@ -9,14 +9,14 @@ use Rattle.chain_layout.proofs.numbering.number_chain.Given as goal
 
 abbrev pub invariant-loop-on : goal.invariant-loop-on
 invariant-loop-on g l =
-    let number = g.P.Inx.PtrInx.packed_number in
+    let number = g.P.Inx.InxKey.packed_number in
     record {
       ready : g.V.Visitor.is_ready l.visitor;
       same_reference : l.compactor.arena.ghost_name ≡ l.fn.compactor.arena.ghost_name;
       seen : seen_held number l.compactor.held ≡ seen_held number l.fn.compactor.held;
-      walks : (done : List ℕ) (c : Chain) → CanNumber number l.fn.compactor.held.slots (g.P.Inx.PtrInx.number l.fn.start) l.fn.before done c
-          → IsWalking number g.V.Visitor.sees g.P.Ptr.key l.fn.generation l.fn.visitor l.visitor l.fn.compactor.held.slots l.compactor.held.slots l.fn.compactor.arena.now l.compactor.arena.now
-          l.count (option_map g.P.Inx.PtrInx.number l.on) done c;
+      walks : (done : List ℕ) (c : Chain) → CanNumber number l.fn.compactor.held.slots (g.P.Inx.InxKey.number l.fn.start) l.fn.before done c
+          → IsWalking number g.V.Visitor.sees g.P.PtrKey.key l.fn.generation l.fn.visitor l.visitor l.fn.compactor.held.slots l.compactor.held.slots l.fn.compactor.arena.now l.compactor.arena.now
+          l.count (option_map g.P.Inx.InxKey.number l.on) done c;
       counts : CountsOn l.fn.compactor.arena.now l.compactor.arena.now l.fn.compactor.placed l.fn.compactor.touched l.compactor.placed l.compactor.touched;
     }
 

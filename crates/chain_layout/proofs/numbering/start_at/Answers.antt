@@ -19,23 +19,23 @@ loop-step-init g c =
     record {
       same_reference = refl;
       held = refl;
-      back = back_begins (shown_in g.P.Inx.PtrInx.packed_number old.held.slots) (g.P.Inx.PtrInx.number c.args.i);
+      back = back_begins (shown_in g.P.Inx.InxKey.packed_number old.held.slots) (g.P.Inx.InxKey.number c.args.i);
       work = work-none old.arena.now 0;
       counts = counts_none old.arena.now old.placed old.touched;
     }
 
 pub returns-then-eq : goal.returns-then-eq
 returns-then-eq g c =
-    let number = g.P.Inx.PtrInx.number in
+    let number = g.P.Inx.InxKey.number in
     let at = c.loop-step.invariant in
     let look = c.look_at-before.ensures in
     let old = c.args.compactor.now in
     let now = c.loop-step.compactor in
     let new = c.look_at-before.new.compactor in
-    let shown = shown_in g.P.Inx.PtrInx.packed_number c.args.compactor.now.held.slots in
-    let came = ap (λ h. prev_of (shown_in g.P.Inx.PtrInx.packed_number h.slots) (number c.loop-step.at)) at.held in
+    let shown = shown_in g.P.Inx.InxKey.packed_number c.args.compactor.now.held.slots in
+    let came = ap (λ h. prev_of (shown_in g.P.Inx.InxKey.packed_number h.slots) (number c.loop-step.at)) at.held in
     let told = c.eq.ensures in
-    let same = (g.met.P.Inx.PtrInx.eq_is_same c.in-Some.k c.args.i).0 (sym told ∙ c.if-eq.true) in
+    let same = (g.met.P.Inx.InxKey.eq_is_same c.in-Some.k c.args.i).0 (sym told ∙ c.if-eq.true) in
     record {
       same_reference = same_then old now new at.same_reference look.looked.same_reference;
       start = back_comes_round shown (number c.args.i) c.loop-step.step (number c.loop-step.at) at.back
@@ -48,14 +48,14 @@ returns-then-eq g c =
 
 pub returns-in-None : goal.returns-in-None
 returns-in-None g c =
-    let number = g.P.Inx.PtrInx.number in
+    let number = g.P.Inx.InxKey.number in
     let at = c.loop-step.invariant in
     let look = c.look_at-before.ensures in
     let old = c.args.compactor.now in
     let now = c.loop-step.compactor in
     let new = c.look_at-before.new.compactor in
-    let shown = shown_in g.P.Inx.PtrInx.packed_number c.args.compactor.now.held.slots in
-    let came = ap (λ h. prev_of (shown_in g.P.Inx.PtrInx.packed_number h.slots) (number c.loop-step.at)) at.held in
+    let shown = shown_in g.P.Inx.InxKey.packed_number c.args.compactor.now.held.slots in
+    let came = ap (λ h. prev_of (shown_in g.P.Inx.InxKey.packed_number h.slots) (number c.loop-step.at)) at.held in
     record {
       same_reference = same_then old now new at.same_reference look.looked.same_reference;
       start = back_ends shown (number c.args.i) c.loop-step.step (number c.loop-step.at) at.back (sym came ∙ (sym look.prev ∙ ap (option_map number) c.in-None.is));
@@ -67,8 +67,8 @@ returns-in-None g c =
 
 pub loop-step-preserved : goal.loop-step-preserved
 loop-step-preserved g c =
-    let number = g.P.Inx.PtrInx.number in
-    let packed_number = g.P.Inx.PtrInx.packed_number in
+    let number = g.P.Inx.InxKey.number in
+    let packed_number = g.P.Inx.InxKey.packed_number in
     let at = c.loop-step.invariant in
     let look = c.look_at-before.ensures in
     let old = c.args.compactor.now in
@@ -80,13 +80,13 @@ loop-step-preserved g c =
       held = held_then old now new at.held look.looked.held;
       back = back_goes_on (shown_in packed_number c.args.compactor.now.held.slots) (number c.args.i) c.loop-step.step (number c.loop-step.at) (number c.in-Some.k) at.back
           (sym (ap (λ h. prev_of (shown_in packed_number h.slots) (number c.loop-step.at)) at.held) ∙ sym c.look_at-before.ensures.prev ∙ ap (option_map number) c.in-Some.is)
-          (λ e. not_both _ ((g.met.P.Inx.PtrInx.eq_is_same c.in-Some.k c.args.i).1 (g.met.P.Inx.PtrInx.same_number c.in-Some.k c.args.i e)) (sym told ∙ c.if-eq.false));
+          (λ e. not_both _ ((g.met.P.Inx.InxKey.eq_is_same c.in-Some.k c.args.i).1 (g.met.P.Inx.InxKey.same_number c.in-Some.k c.args.i e)) (sym told ∙ c.if-eq.false));
       work = work-more at.work (work-touched now.arena.now new.arena.now look.looked.arena) 0 _ refl (omega arith);
       counts = counts_on old now new at.counts look.looked.counts;
     }
 
 pub unreachable-requires : goal.unreachable-requires
 unreachable-requires g c =
-    let number = g.P.Inx.PtrInx.number in
-    let few = back_within g.P.Inx.PtrInx.packed_number c.args.compactor.now.held.slots (number c.args.i) c.loop-step.step (number c.loop-step.at) c.requires.agree c.requires.valid c.loop-step.invariant.back in
+    let number = g.P.Inx.InxKey.number in
+    let few = back_within g.P.Inx.InxKey.packed_number c.args.compactor.now.held.slots (number c.args.i) c.loop-step.step (number c.loop-step.at) c.requires.agree c.requires.valid c.loop-step.invariant.back in
     omega (arith, few)

@@ -9,39 +9,39 @@ not_both : (b : Bool) → b ≡ true → b ≡ false → ⊥
 not_both b e f = cc
 
 pub loop-step-init : goal.loop-step-init
-loop-step-init g c = record { back = back_begins (g.A.ChainArenaTrait.interlinks c.args.source.now) (g.Q.Inx.PtrInx.number c.args.i); some = c.requires.some }
+loop-step-init g c = record { back = back_begins (g.A.ChainArenaTrait.interlinks c.args.source.now) (g.Q.Inx.InxKey.number c.args.i); some = c.requires.some }
 
 pub returns-then-eq-clause-start : goal.returns-then-eq-clause-start
 returns-then-eq-clause-start g c =
-    let number = g.Q.Inx.PtrInx.number in
+    let number = g.Q.Inx.InxKey.number in
     let told : c.eq.result ≡ g.Q.Inx.PartialEq.eq c.in-Some.k c.args.i = search of_calls in
-    let same = (g.met.Q.Inx.PtrInx.eq_is_same c.in-Some.k c.args.i).0 (sym told ∙ c.if-eq.true) in
+    let same = (g.met.Q.Inx.InxKey.eq_is_same c.in-Some.k c.args.i).0 (sym told ∙ c.if-eq.true) in
     back_comes_round (g.A.ChainArenaTrait.interlinks c.args.source.now) (number c.args.i) c.loop-step.step (number c.loop-step.at) c.loop-step.invariant.back
     (sym c.in-Some.ensures ∙ ap (λ k. Some (number k)) same)
 
 pub returns-in-None-clause-start : goal.returns-in-None-clause-start
 returns-in-None-clause-start g c =
-    let number = g.Q.Inx.PtrInx.number in
+    let number = g.Q.Inx.InxKey.number in
     back_ends (g.A.ChainArenaTrait.interlinks c.args.source.now) (number c.args.i) c.loop-step.step (number c.loop-step.at) c.loop-step.invariant.back (sym c.in-None.ensures)
 
 pub loop-step-preserved : goal.loop-step-preserved
 loop-step-preserved g c =
-    let number = g.Q.Inx.PtrInx.number in
+    let number = g.Q.Inx.InxKey.number in
     let source = c.args.source.now in
     let links = g.A.ChainArenaTrait.interlinks source in
     let told : c.eq.result ≡ g.Q.Inx.PartialEq.eq c.in-Some.k c.args.i = search of_calls in
     let before = sym c.in-Some.ensures in
     record {
       back = back_goes_on links (number c.args.i) c.loop-step.step (number c.loop-step.at) (number c.in-Some.k) c.loop-step.invariant.back before
-          (λ e. not_both _ ((g.met.Q.Inx.PtrInx.eq_is_same c.in-Some.k c.args.i).1 (g.met.Q.Inx.PtrInx.same_number c.in-Some.k c.args.i e)) (sym told ∙ c.if-eq.false));
+          (λ e. not_both _ ((g.met.Q.Inx.InxKey.eq_is_same c.in-Some.k c.args.i).1 (g.met.Q.Inx.InxKey.same_number c.in-Some.k c.args.i e)) (sym told ∙ c.if-eq.false));
       some = valid_some links (g.A.ArenaTrait.entry source) (g.A.ArenaTrait.seen source).entries (g.met.A.ChainArenaTrait.stand source) (g.met.A.ArenaTrait.looked_up source) (number c.in-Some.k)
           (next_valid links (number c.in-Some.k) (number c.loop-step.at) ((c.requires.agree.both (number c.in-Some.k) (number c.loop-step.at)).1 before));
     }
 
 pub unreachable-requires : goal.unreachable-requires
 unreachable-requires g c =
-    let number = g.Q.Inx.PtrInx.number in
+    let number = g.Q.Inx.InxKey.number in
     let source = c.args.source.now in
     let few = few_back (g.A.ChainArenaTrait.interlinks source) (g.A.ArenaTrait.entry source) (g.A.ArenaTrait.seen source).entries (g.met.A.ChainArenaTrait.stand source) (g.met.A.ArenaTrait.looked_up source)
-    g.Q.Inx.PtrInx.greatest c.len-step-end.ensures.indexes (number c.args.i) c.loop-step.step (number c.loop-step.at) c.requires.agree c.requires.some c.loop-step.invariant.back in
+    g.Q.Inx.InxKey.greatest c.len-step-end.ensures.indexes (number c.args.i) c.loop-step.step (number c.loop-step.at) c.requires.agree c.requires.some c.loop-step.invariant.back in
     omega (arith, few, c.len-step-end.ensures.count)

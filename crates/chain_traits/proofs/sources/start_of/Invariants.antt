@@ -5,6 +5,6 @@ use Rattle.chain_traits.proofs.sources.start_of.Given as goal
 
 abbrev pub invariant-loop-step : goal.invariant-loop-step
 invariant-loop-step g l = record {
-  back : IsBack (g.A.ChainArenaTrait.interlinks l.source) (g.Q.Inx.PtrInx.number l.i) l.step (g.Q.Inx.PtrInx.number l.at);
-  some : IsSome (g.A.ArenaTrait.entry l.source (g.Q.Inx.PtrInx.number l.at));
+  back : IsBack (g.A.ChainArenaTrait.interlinks l.source) (g.Q.Inx.InxKey.number l.i) l.step (g.Q.Inx.InxKey.number l.at);
+  some : IsSome (g.A.ArenaTrait.entry l.source (g.Q.Inx.InxKey.number l.at));
 }

@@ -9,15 +9,15 @@ use Rattle.arena_base.proofs.arena.Arena.clone_from_by.Goals as goal
 
 pub invariant_of-self : goal.invariant_of-self
 invariant_of-self g c =
-    let number = g.P.Inx.PtrInx.number in
+    let number = g.P.Inx.InxKey.number in
     closed number (sound_too number c.in-Ok-copy_slots.ensures.alike c.source.invariant)
 
 pub invariant_of-self-in-Err-copy_slots : goal.invariant_of-self-in-Err-copy_slots
-invariant_of-self-in-Err-copy_slots g c = none_sound g.P.Inx.PtrInx.number _ g.P.Inx.PtrInx.greatest c.truncate-in-Err-copy_slots.ensures.items
+invariant_of-self-in-Err-copy_slots g c = none_sound g.P.Inx.InxKey.number _ g.P.Inx.InxKey.greatest c.truncate-in-Err-copy_slots.ensures.items
 
 pub returns-in-Ok-copy_slots : goal.returns-in-Ok-copy_slots
 returns-in-Ok-copy_slots g c =
-    let greatest = g.P.Inx.PtrInx.greatest in
+    let greatest = g.P.Inx.InxKey.greatest in
     let source = c.source.inside in
     let self = c.self.inside in
     let grown = c.in-Ok.ensures in
@@ -30,7 +30,7 @@ returns-in-Ok-copy_slots g c =
       beyond = (λ is. cc, λ beyond. let never = grown.beyond.1 (rw count beyond) in cc);
       ok = (same_room count room (limit ∙ ap (λ a. a.maximum) c.self.view_is) grown.ok, refl);
       copied = rw (← c.source.view_is) c.in-Ok-copy_slots.ensures.copies;
-      slots = has_slots_of g.P.Inx.PtrInx.number (g.S1.SlotStack.items source.slots) (g.S.SlotStack.items c.copy_slots.new.slots) c.in-Ok-copy_slots.ensures.alike greatest source.len source.first_free c.source.invariant
+      slots = has_slots_of g.P.Inx.InxKey.number (g.S1.SlotStack.items source.slots) (g.S.SlotStack.items c.copy_slots.new.slots) c.in-Ok-copy_slots.ensures.alike greatest source.len source.first_free c.source.invariant
           c.args.source.now c.args.self.now c.reallocate_min_capacity.new.self source.counter self.counter _ (g.S.SlotStack.items self.slots) (g.S1.SlotStack.capacity source.slots) (g.S.SlotStack.capacity self.slots) (g.S.SlotStack.capacity c.copy_slots.new.slots) (g.S1.SlotStack.maximum source.slots) (g.S.SlotStack.maximum self.slots) (g.S.SlotStack.maximum c.copy_slots.new.slots)
           source.placed.count source.touched.count self.placed.count self.touched.count c.len.result stays limit c.source.view_is c.self.view_is grown.more c.len.ensures (λ few. (grown.within few).1);
       never_less = omega (arith, room, grown.never_less);
@@ -39,7 +39,7 @@ returns-in-Ok-copy_slots g c =
 
 pub returns-in-Err-copy_slots : goal.returns-in-Err-copy_slots
 returns-in-Err-copy_slots g c =
-    let greatest = g.P.Inx.PtrInx.greatest in
+    let greatest = g.P.Inx.InxKey.greatest in
     let source = c.source.inside in
     let self = c.self.inside in
     let grown = c.in-Ok.ensures in
@@ -56,7 +56,7 @@ returns-in-Err-copy_slots g c =
       never_less = omega (arith, room, grown.never_less);
       err = inr (
         rw (← c.source.view_is) c.in-Err-copy_slots.ensures.refused,
-        given_up g.P.Inx.PtrInx.number (g.S.SlotStack.items c.truncate-in-Err-copy_slots.new.self) (g.S.SlotStack.items self.slots) _ self.counter greatest (g.S.SlotStack.capacity c.truncate-in-Err-copy_slots.new.self) (g.S.SlotStack.capacity self.slots) (g.S.SlotStack.maximum c.truncate-in-Err-copy_slots.new.self) (g.S.SlotStack.maximum self.slots)
+        given_up g.P.Inx.InxKey.number (g.S.SlotStack.items c.truncate-in-Err-copy_slots.new.self) (g.S.SlotStack.items self.slots) _ self.counter greatest (g.S.SlotStack.capacity c.truncate-in-Err-copy_slots.new.self) (g.S.SlotStack.capacity self.slots) (g.S.SlotStack.maximum c.truncate-in-Err-copy_slots.new.self) (g.S.SlotStack.maximum self.slots)
             self.placed.count self.touched.count c.args.self.now c.reallocate_min_capacity.new.self c.truncate-in-Err-copy_slots.ensures.items stays limit c.self.view_is grown.more,
       );
     }

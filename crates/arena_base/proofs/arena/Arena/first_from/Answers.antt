@@ -18,8 +18,8 @@ returns-in-Some g c =
     let below : k < length slots = omega (arith, long, length-map (g.S.SlotStack.items c.self.inside.slots) entry_of) in
     let key = c.in-Some.ensures.key in
     record {
-      key = sym (first_key-step slots k (Some (g.P.Ptr.key c.in-Some.p)) below key) ∙ c.loop-k.invariant;
-      fits = omega (arith, c.in-Some.ensures.fits refl, index_of_key (g.P.Ptr.key c.in-Some.p) (k + 1) (slice_index_or slots k None) key);
+      key = sym (first_key-step slots k (Some (g.P.PtrKey.key c.in-Some.p)) below key) ∙ c.loop-k.invariant;
+      fits = omega (arith, c.in-Some.ensures.fits refl, index_of_key (g.P.PtrKey.key c.in-Some.p) (k + 1) (slice_index_or slots k None) key);
     }
 
 pub loop-k-preserved : goal.loop-k-preserved

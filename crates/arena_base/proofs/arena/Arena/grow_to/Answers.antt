@@ -7,7 +7,7 @@ use Rattle.arena_base.proofs.arena.Arena.grow_to.Goals as goal
 
 pub returns : goal.returns
 returns g c =
-    let greatest = g.P.Inx.PtrInx.greatest in
+    let greatest = g.P.Inx.InxKey.greatest in
     let inside = c.self.inside in
     let items = g.S.SlotStack.items inside.slots in
     let new = c.reserve_to.new.self in
@@ -16,7 +16,7 @@ returns g c =
       beyond = grown.beyond;
       greatest = λ above. absurd (omega (arith, above, c.greatest.ensures.value));
       ok = on_ok c.reserve_to.result (λ fits. (room_for greatest c.args.n (g.S.SlotStack.capacity new) (g.S.SlotStack.maximum inside.slots) fits (omega (arith, c.greatest.ensures.value)) (rw (← grown.maximum) (g.met.S.SlotStack.within_maximum new)), refl)) grown.grown;
-      err = on_err c.reserve_to.result (ap (λ room. arena_of items (freed_of g.P.Inx.PtrInx.number items inside.first_free) inside.counter greatest room (g.S.SlotStack.maximum inside.slots) inside.placed.count inside.touched.count)) grown.refused;
+      err = on_err c.reserve_to.result (ap (λ room. arena_of items (freed_of g.P.Inx.InxKey.number items inside.first_free) inside.counter greatest room (g.S.SlotStack.maximum inside.slots) inside.placed.count inside.touched.count)) grown.refused;
       after = refl;
       never_less = omega (arith, grown.never_less);
     })

@@ -7,12 +7,12 @@ use Rattle.arena_base.proofs.arena.Arena.insert_here.Goals as goal
 
 pub invariant_of-self : goal.invariant_of-self
 invariant_of-self g c =
-    let number = g.P.Inx.PtrInx.number in
+    let number = g.P.Inx.InxKey.number in
     let inside = c.self.inside in
     let capacity = g.S.SlotStack.capacity inside.slots in
     let maximum = g.S.SlotStack.maximum inside.slots in
     let room = rw (← c.self.view_is) at c.requires in
-    let less : inside.len < g.P.Inx.PtrInx.greatest = omega (arith, room, c.self.invariant.counted) in
+    let less : inside.len < g.P.Inx.InxKey.greatest = omega (arith, room, c.self.invariant.counted) in
     elim c.match-self.branch [
       | in-Some w ↦ rw w.self-inside-is
           (filled_freed_view number c.self.invariant inside.counter capacity _ maximum _ inside.placed.count _ inside.touched.count w.position_of.result w.in-Some.i w.fill-self-inside.result c.args.t (g.S.SlotStack.items w.fill-self-inside.new.slots)
@@ -24,12 +24,12 @@ invariant_of-self g c =
 
 pub returns-clause-after : goal.returns-clause-after
 returns-clause-after g c =
-    let number = g.P.Inx.PtrInx.number in
+    let number = g.P.Inx.InxKey.number in
     let inside = c.self.inside in
     let capacity = g.S.SlotStack.capacity inside.slots in
     let maximum = g.S.SlotStack.maximum inside.slots in
     let room = rw (← c.self.view_is) at c.requires in
-    let less : inside.len < g.P.Inx.PtrInx.greatest = omega (arith, room, c.self.invariant.counted) in
+    let less : inside.len < g.P.Inx.InxKey.greatest = omega (arith, room, c.self.invariant.counted) in
     let seen = ap (λ a. insert_next a c.args.t) c.self.view_is in
     elim c.match-self.branch [
       | in-Some w ↦ rw w.self-inside-is

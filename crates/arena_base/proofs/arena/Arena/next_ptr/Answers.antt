@@ -8,7 +8,7 @@ use Rattle.arena_base.proofs.arena.Arena.next_ptr.Goals as goal
 
 pub returns : goal.returns
 returns g c =
-    let number = g.P.Inx.PtrInx.number in
+    let number = g.P.Inx.InxKey.number in
     let items = g.S.SlotStack.items c.self.inside.slots in
     rw (← c.self.view_is) (c._from_raw.ensures ∙ ap (λ n. (n, c.self.inside.counter)) (elim c.match-self.branch [
       | in-Some w ↦ rw w.i-is (rw w.in-Some.is (first_freed number w.in-Some.i (rw w.in-Some.is at c.self.invariant) _))

@@ -9,14 +9,14 @@ use Rattle.arena_base.proofs.arena.Arena.take_from.Goals as goal
 
 pub unreachable-requires : goal.unreachable-requires
 unreachable-requires g c =
-    let n = g.P.Inx.PtrInx.number c.inx.result in
-    let held = c.value_of.ensures ∙ (ap value_within c.take_at.ensures.answer ∙ value_within-made (g.P.Gen.PtrGen.wraps c.args.self.now.counter) (entry_at c.args.self.now n)) in
-    next_stands c.args.self.now.slots c.args.from n (g.P.Ptr.key c.in-Some.p) c.in-Some.ensures.key (sym c.in-None-value_of.is ∙ held) c.inx.ensures
+    let n = g.P.Inx.InxKey.number c.inx.result in
+    let held = c.value_of.ensures ∙ (ap value_within c.take_at.ensures.answer ∙ value_within-made (g.P.Gen.GenKey.wraps c.args.self.now.counter) (entry_at c.args.self.now n)) in
+    next_stands c.args.self.now.slots c.args.from n (g.P.PtrKey.key c.in-Some.p) c.in-Some.ensures.key (sym c.in-None-value_of.is ∙ held) c.inx.ensures
 
 pub returns-in-Some-value_of-clause-some : goal.returns-in-Some-value_of-clause-some
 returns-in-Some-value_of-clause-some g c =
-    let n = g.P.Inx.PtrInx.number c.inx.result in
-    let held = c.value_of.ensures ∙ (ap value_within c.take_at.ensures.answer ∙ value_within-made (g.P.Gen.PtrGen.wraps c.args.self.now.counter) (entry_at c.args.self.now n)) in
+    let n = g.P.Inx.InxKey.number c.inx.result in
+    let held = c.value_of.ensures ∙ (ap value_within c.take_at.ensures.answer ∙ value_within-made (g.P.Gen.GenKey.wraps c.args.self.now.counter) (entry_at c.args.self.now n)) in
     let looked = sym c.in-Some-value_of.is ∙ held in
-    next_taken c.args.self.now.slots c.take_at.new.self.slots c.args.from n c.number_of.result (g.P.Ptr.key c.in-Some.p) (c.in-Some-value_of.field-0-0, c.in-Some-value_of.t)
+    next_taken c.args.self.now.slots c.take_at.new.self.slots c.args.from n c.number_of.result (g.P.PtrKey.key c.in-Some.p) (c.in-Some-value_of.field-0-0, c.in-Some-value_of.t)
     c.in-Some.ensures.key looked c.inx.ensures (c.number_of.ensures ∙ c.inx-in-Some-value_of.ensures) (ap (λ a. a.slots) (c.take_at.ensures.some (sym (ap is_some looked))))

@@ -9,14 +9,14 @@ use Rattle.arena_base.proofs.Viewing.{cleared_view}
 use Rattle.arena_base.proofs.arena_trait.ArenaArenaTrait.clear.Goals as goal
 
 pub invariant_of-self : goal.invariant_of-self
-invariant_of-self g c = none_sound g.P.Inx.PtrInx.number _ g.P.Inx.PtrInx.greatest c.truncate.ensures.items
+invariant_of-self g c = none_sound g.P.Inx.InxKey.number _ g.P.Inx.InxKey.greatest c.truncate.ensures.items
 
 pub returns : goal.returns
 returns g c =
-    let following = g.P.Gen.PtrGen.following in
+    let following = g.P.Gen.GenKey.following in
     let inside = c.self.inside in
     let made = c.after_clear-generation.ensures in
-    let after = cleared_view g.P.Inx.PtrInx.number (g.S.SlotStack.items inside.slots) (g.S.SlotStack.items c.truncate.new.self) (freed_of g.P.Inx.PtrInx.number (g.S.SlotStack.items inside.slots) inside.first_free) inside.counter c.after_clear-generation.result.0 g.P.Inx.PtrInx.greatest (g.S.SlotStack.capacity inside.slots) (g.S.SlotStack.capacity c.truncate.new.self) (g.S.SlotStack.maximum inside.slots) (g.S.SlotStack.maximum c.truncate.new.self) inside.placed.count inside.touched.count
+    let after = cleared_view g.P.Inx.InxKey.number (g.S.SlotStack.items inside.slots) (g.S.SlotStack.items c.truncate.new.self) (freed_of g.P.Inx.InxKey.number (g.S.SlotStack.items inside.slots) inside.first_free) inside.counter c.after_clear-generation.result.0 g.P.Inx.InxKey.greatest (g.S.SlotStack.capacity inside.slots) (g.S.SlotStack.capacity c.truncate.new.self) (g.S.SlotStack.maximum inside.slots) (g.S.SlotStack.maximum c.truncate.new.self) inside.placed.count inside.touched.count
     inside.len following c.truncate.ensures.items c.truncate.ensures.capacity c.truncate.ensures.maximum c.self.invariant.counted made.next ∙ ap (cleared following) c.self.view_is in
     record {
       overflow = rw (length-entries c.args.self.now, ← c.self.view_is, ← c.self.invariant.counted, ← made.overflow) c.invalidated.ensures;

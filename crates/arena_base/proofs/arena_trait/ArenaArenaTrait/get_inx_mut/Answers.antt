@@ -13,7 +13,7 @@ use Rattle.arena_base.proofs.arena_trait.ArenaArenaTrait.get_inx_mut.Goals as go
 
 pub invariant_of-self-lent : goal.invariant_of-self-lent
 invariant_of-self-lent g c o =
-    let number = g.P.Inx.PtrInx.number in
+    let number = g.P.Inx.InxKey.number in
     let slots = c.self.inside.slots in
     let items = g.S.SlotStack.items slots in
     let k = c.position_of.result in
@@ -25,7 +25,7 @@ invariant_of-self-lent g c o =
 
 pub returns-in-Some : goal.returns-in-Some
 returns-in-Some g c =
-    let number = g.P.Inx.PtrInx.number in
+    let number = g.P.Inx.InxKey.number in
     let slots = c.self.inside.slots in
     let items = g.S.SlotStack.items slots in
     let k = c.position_of.result in
@@ -41,7 +41,7 @@ returns-in-Some g c =
             at is (g.met.S.SlotStack.items_written slots k (with_value_in slot w)) (g.met.S.SlotStack.capacity_written slots k (with_value_in slot w)) (g.met.S.SlotStack.maximum_written slots k (with_value_in slot w))
             ∙ ap (λ a. with_value a n w) c.self.view_is in
             on_some c.value_mut.result (ap seen_of written ∙ seen_written c.args.self.now n w, written)),
-        kept_view number items (g.S.SlotStack.items (g.S.SlotStack.with_item slots k slot)) c.self.inside.first_free c.self.inside.counter g.P.Inx.PtrInx.greatest (g.S.SlotStack.capacity slots) (g.S.SlotStack.capacity (g.S.SlotStack.with_item slots k slot)) (g.S.SlotStack.maximum slots) (g.S.SlotStack.maximum (g.S.SlotStack.with_item slots k slot))
+        kept_view number items (g.S.SlotStack.items (g.S.SlotStack.with_item slots k slot)) c.self.inside.first_free c.self.inside.counter g.P.Inx.InxKey.greatest (g.S.SlotStack.capacity slots) (g.S.SlotStack.capacity (g.S.SlotStack.with_item slots k slot)) (g.S.SlotStack.maximum slots) (g.S.SlotStack.maximum (g.S.SlotStack.with_item slots k slot))
             c.self.inside.placed.count c.self.inside.touched.count k slot is (g.met.S.SlotStack.items_written slots k slot) (g.met.S.SlotStack.capacity_written slots k slot) (g.met.S.SlotStack.maximum_written slots k slot)
             ∙ c.self.view_is,
       ),
@@ -50,7 +50,7 @@ returns-in-Some g c =
 
 pub returns-in-None : goal.returns-in-None
 returns-in-None g c =
-    let number = g.P.Inx.PtrInx.number in
+    let number = g.P.Inx.InxKey.number in
     let items = g.S.SlotStack.items c.self.inside.slots in (
       (refl, (λ w. tt), c.self.view_is),
       record { writes_back = tt; value = rw (← c.self.view_is, slot_at-map items c.position_of.result (number c.args.i) c.position_of.ensures, ← c.in-None.ensures.value) },

@@ -9,8 +9,8 @@ use Rattle.arena_base.proofs.arena_trait.ArenaArenaTrait.len.Goals as goal
 
 pub returns : goal.returns
 returns g c =
-    let number = g.P.Inx.PtrInx.number in
-    let greatest = g.P.Inx.PtrInx.greatest in
+    let number = g.P.Inx.InxKey.number in
+    let greatest = g.P.Inx.InxKey.greatest in
     let inside = c.self.inside in
     let slots = inside.slots in
     let items = g.S.SlotStack.items slots in

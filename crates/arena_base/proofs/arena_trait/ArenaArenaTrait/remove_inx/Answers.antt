@@ -5,4 +5,4 @@ use Rattle.arena_base.proofs.Seeing.{seen_removed}
 use Rattle.arena_base.proofs.arena_trait.ArenaArenaTrait.remove_inx.Goals as goal
 
 pub returns-clause-valid : goal.returns-clause-valid
-returns-clause-valid g c = λ some. ap seen_of (c.take_at.ensures.some some) ∙ seen_removed g.P.Gen.PtrGen.following c.args.self.now (g.P.Inx.PtrInx.number c.args.i)
+returns-clause-valid g c = λ some. ap seen_of (c.take_at.ensures.some some) ∙ seen_removed g.P.Gen.GenKey.following c.args.self.now (g.P.Inx.InxKey.number c.args.i)

@@ -6,5 +6,5 @@ use Rattle.arena_base.proofs.copy.ArenaArenaCloneFromWith.clone_from_with.Goals 
 pub returns-clause-copied : goal.returns-clause-copied
 returns-clause-copied g c =
     let calls = IsCopyCall g.F.FnMut itself in
-    on_ok_both c.clone_from_by.result (λ made has. copy_seen calls g.P.Ptr.key c.args.map c.args.source.now c.args.self.now c.clone_from_by.new.self has (made_by calls (λ m. m.map) g.P.Ptr.key _ _ _ made))
+    on_ok_both c.clone_from_by.result (λ made has. copy_seen calls g.P.PtrKey.key c.args.map c.args.source.now c.args.self.now c.clone_from_by.new.self has (made_by calls (λ m. m.map) g.P.PtrKey.key _ _ _ made))
     c.clone_from_by.ensures.copied c.clone_from_by.ensures.slots

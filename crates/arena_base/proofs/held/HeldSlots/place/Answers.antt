@@ -15,7 +15,7 @@ invariant_of-self g c =
 
 pub returns : goal.returns
 returns g c =
-    let number = g.P.Inx.PtrInx.number in
+    let number = g.P.Inx.InxKey.number in
     let slots = c.self.inside.slots in
     let items = g.S.SlotStack.items slots in
     let long = ap (λ h. length h.slots) c.self.view_is in

@@ -13,7 +13,7 @@ returns-in-Some g c =
     let slots = c.self.inside.slots in
     let items = g.S.SlotStack.items slots in
     let k = c.position_of.result in
-    let n = g.P.Inx.PtrInx.number c.args.i in
+    let n = g.P.Inx.InxKey.number c.args.i in
     let slot = c.in-Some.slot.now in
     let is = sym c.in-Some.ensures.value in
     let at = c.position_of.ensures in (
@@ -33,5 +33,5 @@ pub returns-in-None : goal.returns-in-None
 returns-in-None g c =
     let items = g.S.SlotStack.items c.self.inside.slots in (
       (refl, (λ w. tt), c.self.view_is),
-      record { writes_back = tt; value = rw (← c.self.view_is, slot_at-map items c.position_of.result (g.P.Inx.PtrInx.number c.args.i) c.position_of.ensures, ← c.in-None.ensures.value) },
+      record { writes_back = tt; value = rw (← c.self.view_is, slot_at-map items c.position_of.result (g.P.Inx.InxKey.number c.args.i) c.position_of.ensures, ← c.in-None.ensures.value) },
     )

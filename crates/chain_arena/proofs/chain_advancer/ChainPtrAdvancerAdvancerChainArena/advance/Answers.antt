@@ -7,14 +7,14 @@ use Rattle.chain_arena.proofs.chain_advancer.ChainPtrAdvancerAdvancerChainArena.
 
 pub returns-in-Some : goal.returns-in-Some
 returns-in-Some g c =
-    let number = g.P.Inx.PtrInx.number in
-    let a = seen_links g.P.Inx.PtrInx.packed_number c.collection.inside.arena in
+    let number = g.P.Inx.InxKey.number in
+    let a = seen_links g.P.Inx.InxKey.packed_number c.collection.inside.arena in
     let now = c.args.self.now in
     rw (← c.collection.view_is) (is_passed (entry a) (shown a) (number now.start) (option_map number now.forth) (option_map number now.back) now.left _ _ _ c.if-self-eq0.false c.in-Some.ensures.valid c.in-Some.ensures.some)
 
 pub returns-in-None : goal.returns-in-None
 returns-in-None g c =
-    let number = g.P.Inx.PtrInx.number in
-    let a = seen_links g.P.Inx.PtrInx.packed_number c.collection.inside.arena in
+    let number = g.P.Inx.InxKey.number in
+    let a = seen_links g.P.Inx.InxKey.packed_number c.collection.inside.arena in
     let now = c.args.self.now in
     rw (← c.collection.view_is) (is_ended (entry a) (shown a) (number now.start) (option_map number now.forth) (option_map number now.back) now.left c.in-None.ensures.none)

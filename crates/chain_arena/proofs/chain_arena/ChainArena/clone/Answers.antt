@@ -7,16 +7,16 @@ use Rattle.chain_arena.proofs.chain_arena.ChainArena.clone.Goals as goal
 
 pub returns-in-Err-clause-no_room : goal.returns-in-Err-clause-no_room
 returns-in-Err-clause-no_room g c none =
-    absurd (no_room_needed g.P.Inx.PtrInx.packed_number _ g.P.Ptr.key c.self.inside.arena c.in-Err.why c.new-arena.result.capacity (ap (λ a. a.slots) c.self.view_is ∙ none) c.in-Err.ensures.within)
+    absurd (no_room_needed g.P.Inx.InxKey.packed_number _ g.P.PtrKey.key c.self.inside.arena c.in-Err.why c.new-arena.result.capacity (ap (λ a. a.slots) c.self.view_is ∙ none) c.in-Err.ensures.within)
 
 pub invariant_of-result : goal.invariant_of-result
 invariant_of-result g c =
     let told = c.in-Ok.ensures in
-    clone_agrees g.P.Inx.PtrInx.packed_number g.T.Clone.is_clone c.requires.clones_equal g.P.Ptr.key _ c.self.inside.arena c.new-arena.result c.clone_from_by.new.self told.copied told.slots c.self.invariant
+    clone_agrees g.P.Inx.InxKey.packed_number g.T.Clone.is_clone c.requires.clones_equal g.P.PtrKey.key _ c.self.inside.arena c.new-arena.result c.clone_from_by.new.self told.copied told.slots c.self.invariant
 
 pub returns-in-Ok-clause-copied : goal.returns-in-Ok-clause-copied
 returns-in-Ok-clause-copied g c =
-    let number = g.P.Inx.PtrInx.packed_number in
+    let number = g.P.Inx.InxKey.packed_number in
     let told = c.in-Ok.ensures in
-    subst (λ a. IsClone g.P.Gen.PtrGen.first g.S.SlotStack.initial_maximum a (seen_links number c.clone_from_by.new.self)) c.self.view_is
-    (is_clone_of number g.T.Clone.is_clone c.requires.clones_equal g.P.Ptr.key _ c.self.inside.arena c.new-arena.result c.clone_from_by.new.self told.copied told.slots g.P.Gen.PtrGen.first g.S.SlotStack.initial_maximum (c.new-arena.ensures.more.1 refl))
+    subst (λ a. IsClone g.P.Gen.GenKey.first g.S.SlotStack.initial_maximum a (seen_links number c.clone_from_by.new.self)) c.self.view_is
+    (is_clone_of number g.T.Clone.is_clone c.requires.clones_equal g.P.PtrKey.key _ c.self.inside.arena c.new-arena.result c.clone_from_by.new.self told.copied told.slots g.P.Gen.GenKey.first g.S.SlotStack.initial_maximum (c.new-arena.ensures.more.1 refl))

@@ -6,7 +6,7 @@ use Rattle.chain_arena.proofs.chain_arena.ChainArena.clone_to_arena.Goals as goa
 pub returns-clause-copied : goal.returns-clause-copied
 returns-clause-copied g c =
     rw (← c.self.view_is)
-    (on_ok_weaker c.clone_from_with.result (copy_as_seen g.P.Inx.PtrInx.packed_number g.F.FnMut g.P.Ptr.key c.args.map c.self.inside.arena _ _) c.clone_from_with.ensures.copied)
+    (on_ok_weaker c.clone_from_with.result (copy_as_seen g.P.Inx.InxKey.packed_number g.F.FnMut g.P.PtrKey.key c.args.map c.self.inside.arena _ _) c.clone_from_with.ensures.copied)
 
 pub returns-clause-more : goal.returns-clause-more
 returns-clause-more g c =

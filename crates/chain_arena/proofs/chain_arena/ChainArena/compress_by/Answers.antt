@@ -11,13 +11,13 @@ use Rattle.chain_arena.proofs.chain_arena.ChainArena.compress_by.Goals as goal
 
 pub invariant_of-self : goal.invariant_of-self
 invariant_of-self g c =
-    let seen = seen_links g.P.Inx.PtrInx.packed_number in
-    laid_agree g.V.Visitor.sees g.P.Ptr.key c.args.visitor c.lay_out-visitor.result.0 _ (seen c.self.inside.arena) (seen c.begin_generation-overflow.new.arena) (seen c.lay_out-visitor.new.arena)
+    let seen = seen_links g.P.Inx.InxKey.packed_number in
+    laid_agree g.V.Visitor.sees g.P.PtrKey.key c.args.visitor c.lay_out-visitor.result.0 _ (seen c.self.inside.arena) (seen c.begin_generation-overflow.new.arena) (seen c.lay_out-visitor.new.arena)
     (ap seen c.begin_generation-overflow.ensures.after) c.lay_out-visitor.ensures.laid c.self.invariant
 
 pub returns : goal.returns
 returns g c =
-    let number = g.P.Inx.PtrInx.packed_number in
+    let number = g.P.Inx.InxKey.packed_number in
     let a = c.self.inside.arena in
     let old = seen_links number a in
     let mid = seen_links number c.begin_generation-overflow.new.arena in
@@ -25,13 +25,13 @@ returns g c =
     let begun = ap (seen_links number) c.begin_generation-overflow.ensures.after in
     let made = c.lay_out-visitor.ensures in
     let sees = g.V.Visitor.sees in
-    let key = g.P.Ptr.key in
+    let key = g.P.PtrKey.key in
     let to = c.lay_out-visitor.result.0 in
     rw (← c.self.view_is) (record {
-      canonical = laid_canonical sees key c.args.visitor to _ old mid new begun made.laid g.P.Gen.PtrGen.first g.P.Gen.PtrGen.following c.args.reset (length (entries a)) refl (length-entries a ∙ sym (count-values number a));
+      canonical = laid_canonical sees key c.args.visitor to _ old mid new begun made.laid g.P.Gen.GenKey.first g.P.Gen.GenKey.following c.args.reset (length (entries a)) refl (length-entries a ∙ sym (count-values number a));
       stack_capacity = laid_stack_capacity sees key c.args.visitor to _ old mid new begun made.laid;
       shows = laid_shown sees key c.args.visitor to _ old mid new begun made.laid;
-      overflow = c.begin_generation-overflow.ensures.overflow ∙ ap (λ n. invalidation_option (overflows_after_compression g.P.Gen.PtrGen.wraps c.args.reset n a.counter) tt) (length-entries a ∙ sym (entry_count-seen_links number a));
+      overflow = c.begin_generation-overflow.ensures.overflow ∙ ap (λ n. invalidation_option (overflows_after_compression g.P.Gen.GenKey.wraps c.args.reset n a.counter) tt) (length-entries a ∙ sym (entry_count-seen_links number a));
       placed = made.placed ∙ ap (λ x. x.placed + c.lay_out-visitor.result.1.placed) c.begin_generation-overflow.ensures.after;
       touched = made.touched ∙ ap (λ x. x.touched + c.lay_out-visitor.result.1.touched) c.begin_generation-overflow.ensures.after;
       agreed = c.self.invariant;

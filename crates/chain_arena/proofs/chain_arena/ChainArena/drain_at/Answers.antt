@@ -5,13 +5,13 @@ use Rattle.chain_arena.proofs.chain_arena.ChainArena.drain_at.Goals as goal
 
 pub returns-in-Some-entry : goal.returns-in-Some-entry
 returns-in-Some-entry g c =
-    let number = g.P.Inx.PtrInx.number in
-    let packed = g.P.Inx.PtrInx.packed_number in
+    let number = g.P.Inx.InxKey.number in
+    let packed = g.P.Inx.InxKey.packed_number in
     let removal = c.remove_inx_link_no_gen.ensures in
     let yields = c.yielded.ensures in record {
       none = tt;
       some =
-          drained_step g.P.Ptr.key packed g.P.Gen.PtrGen.following g.P.Gen.PtrGen.wraps c.args.self.now c.remove_inx_link_no_gen.new.self c.args.at (number c.in-Some.i) c.yielded.result.0
+          drained_step g.P.PtrKey.key packed g.P.Gen.GenKey.following g.P.Gen.GenKey.wraps c.args.self.now c.remove_inx_link_no_gen.new.self c.args.at (number c.in-Some.i) c.yielded.result.0
           c.remove_inx_link_no_gen.result c.in-Some.ensures.some removal.agreed removal.answer c.in-Some-entry.entry c.overflowing-entry.result.1 c.yielded.result.1
           removal.overflow removal.state (sym (ap (λ x. x.0) c.overflowing-entry.ensures) ∙ c.in-Some-entry.is) (ap (λ x. x.1) c.overflowing-entry.ensures)
           yields.ptr yields.link yields.overflow yields.next;
@@ -22,7 +22,7 @@ pub returns-in-None-entry : goal.returns-in-None-entry
 returns-in-None-entry g c =
     let removal = c.remove_inx_link_no_gen.ensures in record {
       none =
-          drained_none g.P.Ptr.key g.P.Inx.PtrInx.packed_number g.P.Gen.PtrGen.following g.P.Gen.PtrGen.wraps c.args.self.now c.remove_inx_link_no_gen.new.self c.args.at (g.P.Inx.PtrInx.number c.in-Some.i) c.args.at
+          drained_none g.P.PtrKey.key g.P.Inx.InxKey.packed_number g.P.Gen.GenKey.following g.P.Gen.GenKey.wraps c.args.self.now c.remove_inx_link_no_gen.new.self c.args.at (g.P.Inx.InxKey.number c.in-Some.i) c.args.at
           c.remove_inx_link_no_gen.result c.in-Some.ensures.some removal.agreed removal.answer (sym (ap (λ x. x.0) c.overflowing-entry.ensures) ∙ c.in-None-entry.is) removal.invalid;
       some = tt;
       agreed = removal.agreed;

@@ -12,20 +12,20 @@ pub loop-next-init : goal.loop-next-init
 loop-next-init g c = refl
 
 pub loop-next-smaller-in-Some : goal.loop-next-smaller-in-Some
-loop-next-smaller-in-Some g c = entries_left-step g.P.Ptr.key g.P.Gen.PtrGen.following g.P.Gen.PtrGen.wraps _ _ _ _ _ c.in-Some.ensures.some
+loop-next-smaller-in-Some g c = entries_left-step g.P.PtrKey.key g.P.Gen.GenKey.following g.P.Gen.GenKey.wraps _ _ _ _ _ c.in-Some.ensures.some
 
 pub loop-next-preserved-in-Some : goal.loop-next-preserved-in-Some
-loop-next-preserved-in-Some g c = without_each-first g.P.Ptr.key g.P.Gen.PtrGen.following g.P.Gen.PtrGen.wraps _ _ _ _ _ c.in-Some.ensures.some ∙ c.loop-next.invariant
+loop-next-preserved-in-Some g c = without_each-first g.P.PtrKey.key g.P.Gen.GenKey.following g.P.Gen.GenKey.wraps _ _ _ _ _ c.in-Some.ensures.some ∙ c.loop-next.invariant
 
 pub loop-next-smaller-in-Some-2 : goal.loop-next-smaller-in-Some-2
-loop-next-smaller-in-Some-2 g c = entries_left-step g.P.Ptr.key g.P.Gen.PtrGen.following g.P.Gen.PtrGen.wraps _ _ _ _ _ c.in-Some.ensures.some
+loop-next-smaller-in-Some-2 g c = entries_left-step g.P.PtrKey.key g.P.Gen.GenKey.following g.P.Gen.GenKey.wraps _ _ _ _ _ c.in-Some.ensures.some
 
 pub loop-next-preserved-in-Some-2 : goal.loop-next-preserved-in-Some-2
-loop-next-preserved-in-Some-2 g c = without_each-first g.P.Ptr.key g.P.Gen.PtrGen.following g.P.Gen.PtrGen.wraps _ _ _ _ _ c.in-Some.ensures.some ∙ c.loop-next.invariant
+loop-next-preserved-in-Some-2 g c = without_each-first g.P.PtrKey.key g.P.Gen.GenKey.following g.P.Gen.GenKey.wraps _ _ _ _ _ c.in-Some.ensures.some ∙ c.loop-next.invariant
 
 pub returns : goal.returns
 returns g c =
-    let following = g.P.Gen.PtrGen.following in
+    let following = g.P.Gen.GenKey.following in
     let old = c.args.self.now in
     let new = c.drain_first.new.self in
     let left = entries_left old c.args.from in

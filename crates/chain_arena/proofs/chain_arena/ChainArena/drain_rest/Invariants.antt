@@ -6,8 +6,8 @@ use Rattle.chain_arena.proofs.chain_arena.ChainArena.drain_rest.Given as goal
 
 abbrev pub invariant-loop-next : goal.invariant-loop-next
 invariant-loop-next g l =
-    without_each g.P.Gen.PtrGen.following l.self (map index_of (entries_left l.self l.at))
-    ≡ without_each g.P.Gen.PtrGen.following l.fn.self (map index_of (entries_left l.fn.self l.fn.from))
+    without_each g.P.Gen.GenKey.following l.self (map index_of (entries_left l.self l.at))
+    ≡ without_each g.P.Gen.GenKey.following l.fn.self (map index_of (entries_left l.fn.self l.fn.from))
 
 abbrev pub decreases-loop-next : goal.decreases-loop-next
 decreases-loop-next g l = length (entries_left l.self l.at)

@@ -6,10 +6,10 @@ use Rattle.chain_arena.proofs.chain_arena.ChainArena.gap_growing.Goals as goal
 pub returns-in-Some : goal.returns-in-Some
 returns-in-Some g c = record {
   place =
-      places_growing g.P.Ptr.key g.P.Inx.PtrInx.number g.P.Inx.PtrInx.greatest c.args.self.now c.make_room.new.self c.args.kind c.in-Some.gap c.make_room.result c.gap_unless_refused.result
+      places_growing g.P.PtrKey.key g.P.Inx.InxKey.number g.P.Inx.InxKey.greatest c.args.self.now c.make_room.new.self c.args.kind c.in-Some.gap c.make_room.result c.gap_unless_refused.result
       c.gap_unless_refused.ensures c.in-Some.ensures.gap c.make_room.ensures;
   agreed = c.in-Some.ensures.agree;
 }
 
 pub returns-in-None : goal.returns-in-None
-returns-in-None g c = record { place = (no_place g.P.Ptr.key g.P.Inx.PtrInx.number c.args.self.now c.args.kind c.in-None.ensures.gap, refl); agreed = c.in-None.ensures.agree }
+returns-in-None g c = record { place = (no_place g.P.PtrKey.key g.P.Inx.InxKey.number c.args.self.now c.args.kind c.in-None.ensures.gap, refl); agreed = c.in-None.ensures.agree }

@@ -4,15 +4,15 @@ use Rattle.chain_arena.proofs.chain_arena.ChainArena.gap_within.Goals as goal
 
 pub returns-then-len-capacity : goal.returns-then-len-capacity
 returns-then-len-capacity g c = record {
-  place = places_full g.P.Ptr.key g.P.Inx.PtrInx.number c.args.self.now c.args.kind c.in-Some.gap c.len.result c.capacity.result c.in-Some.ensures.gap c.len.ensures.links c.capacity.ensures.value c.if-len-capacity.true;
+  place = places_full g.P.PtrKey.key g.P.Inx.InxKey.number c.args.self.now c.args.kind c.in-Some.gap c.len.result c.capacity.result c.in-Some.ensures.gap c.len.ensures.links c.capacity.ensures.value c.if-len-capacity.true;
   agree = c.in-Some.ensures.agree;
 }
 
 pub returns-else-len-capacity : goal.returns-else-len-capacity
 returns-else-len-capacity g c = record {
-  place = places_in_room g.P.Ptr.key g.P.Inx.PtrInx.number c.args.self.now c.args.kind c.in-Some.gap c.len.result c.capacity.result c.in-Some.ensures.gap c.len.ensures.links c.capacity.ensures.value c.len.ensures.fits c.if-len-capacity.false;
+  place = places_in_room g.P.PtrKey.key g.P.Inx.InxKey.number c.args.self.now c.args.kind c.in-Some.gap c.len.result c.capacity.result c.in-Some.ensures.gap c.len.ensures.links c.capacity.ensures.value c.len.ensures.fits c.if-len-capacity.false;
   agree = c.in-Some.ensures.agree;
 }
 
 pub returns-in-None : goal.returns-in-None
-returns-in-None g c = record { place = no_place g.P.Ptr.key g.P.Inx.PtrInx.number c.args.self.now c.args.kind c.in-None.ensures.gap; agree = c.in-None.ensures.agree }
+returns-in-None g c = record { place = no_place g.P.PtrKey.key g.P.Inx.InxKey.number c.args.self.now c.args.kind c.in-None.ensures.gap; agree = c.in-None.ensures.agree }

@@ -16,37 +16,37 @@ use Rattle.chain_arena.proofs.chain_arena.ChainArena.insert_in_gap.Goals.{After-
 use Rattle.chain_arena.proofs.chain_arena.ChainArena.insert_in_gap.Goals as goal
 
 -- the gap, in the links that the arena holds
-gap : (g : Over) (c : After-tie g) → let s = seen_links g.P.Inx.PtrInx.packed_number c.self.inside.arena in
-    IsGap (shown s) (next_index s) (before_in g.P.Inx.PtrInx.number c.args.gap (next_index s)) (after_in g.P.Inx.PtrInx.number c.args.gap (next_index s))
+gap : (g : Over) (c : After-tie g) → let s = seen_links g.P.Inx.InxKey.packed_number c.self.inside.arena in
+    IsGap (shown s) (next_index s) (before_in g.P.Inx.InxKey.number c.args.gap (next_index s)) (after_in g.P.Inx.InxKey.number c.args.gap (next_index s))
 gap g c = rw (← c.self.view_is) at c.requires.gap
 
 -- what stands then
-inserted : (g : Over) (c : After-tie g) → let s = seen_links g.P.Inx.PtrInx.packed_number c.self.inside.arena in let d = seen_links g.P.Inx.PtrInx.packed_number c.tie.new.arena in
-    d ≡ insert_between s c.args.t (before_in g.P.Inx.PtrInx.number c.args.gap (next_index s)) (after_in g.P.Inx.PtrInx.number c.args.gap (next_index s))
+inserted : (g : Over) (c : After-tie g) → let s = seen_links g.P.Inx.InxKey.packed_number c.self.inside.arena in let d = seen_links g.P.Inx.InxKey.packed_number c.tie.new.arena in
+    d ≡ insert_between s c.args.t (before_in g.P.Inx.InxKey.number c.args.gap (next_index s)) (after_in g.P.Inx.InxKey.number c.args.gap (next_index s))
 inserted g c =
-    let packed = g.P.Inx.PtrInx.packed_number in
-    let number = g.P.Inx.PtrInx.number in
+    let packed = g.P.Inx.InxKey.packed_number in
+    let number = g.P.Inx.InxKey.number in
     let a = c.self.inside.arena in
     let s = seen_links packed a in
     let q = next_index s in
     placed_in_room packed number a c.insert_within_capacity.new.self (seen_links packed c.tie.new.arena) c.args.gap c.args.t c.link_in.result c.freed_are_free.ensures c.link_in.ensures
     (gap_between (shown s) q (before_in number c.args.gap q) (after_in number c.args.gap q) c.self.invariant (shown-next s (listed-seen_links packed a c.freed_are_free.ensures).free) (gap g c)).forth.itself
-    (g.P.Ptr.key c.in-Ok.p).0 (ap (λ p. p.0) {y = (next_index a, a.counter)} c.in-Ok.ensures.ptr) c.tie.ensures c.in-Ok.ensures.ok
+    (g.P.PtrKey.key c.in-Ok.p).0 (ap (λ p. p.0) {y = (next_index a, a.counter)} c.in-Ok.ensures.ptr) c.tie.ensures c.in-Ok.ensures.ok
 
 pub invariant_of-self : goal.invariant_of-self
 invariant_of-self g c =
-    let s = seen_links g.P.Inx.PtrInx.packed_number c.self.inside.arena in
+    let s = seen_links g.P.Inx.InxKey.packed_number c.self.inside.arena in
     let q = next_index s in
     subst Agrees (sym (ap (λ a. shown a) (inserted g c)))
-    (agrees-insert_between s c.args.t (listed-seen_links g.P.Inx.PtrInx.packed_number c.self.inside.arena c.freed_are_free.ensures)
-    (before_in g.P.Inx.PtrInx.number c.args.gap q) (after_in g.P.Inx.PtrInx.number c.args.gap q) c.self.invariant (gap g c))
+    (agrees-insert_between s c.args.t (listed-seen_links g.P.Inx.InxKey.packed_number c.self.inside.arena c.freed_are_free.ensures)
+    (before_in g.P.Inx.InxKey.number c.args.gap q) (after_in g.P.Inx.InxKey.number c.args.gap q) c.self.invariant (gap g c))
 
 pub returns : goal.returns
 returns g c =
     let a = c.self.inside.arena in
-    let packed = g.P.Inx.PtrInx.packed_number in
+    let packed = g.P.Inx.InxKey.packed_number in
     rw (← c.self.view_is) (record {
-      pointer = next_seen packed a (g.P.Ptr.key c.in-Ok.p) c.in-Ok.ensures.ptr;
+      pointer = next_seen packed a (g.P.PtrKey.key c.in-Ok.p) c.in-Ok.ensures.ptr;
       state = inserted g c;
       listed = listed-seen_links packed a c.freed_are_free.ensures;
       agreed = c.self.invariant;

@@ -9,10 +9,10 @@ use Rattle.chain_arena.proofs.chain_arena.ChainArena.iter_chain.Goals as goal
 
 pub returns-in-Some : goal.returns-in-Some
 returns-in-Some g c =
-    let number = g.P.Inx.PtrInx.packed_number in
+    let number = g.P.Inx.InxKey.packed_number in
     let a = c.self.inside.arena in
     let links = seen_links number a in
-    let p = g.P.Ptr.key c.args.p in
+    let p = g.P.PtrKey.key c.args.p in
     let at = c.in-Some.ensures.value in
     let walk : IsWalkOf links p.0 c.new.result =
     walker-walk links p.0 _ _ _ _ c.new.ensures (c.len.ensures.entries ∙ sym (entry_count-seen_links number a)) c.inx.ensures (c.prev.ensures ∙ sym (prev_of-seen number a p c.in-Some.link.now at)) c.self.invariant (valid_at number a p c.in-Some.link.now at) in
@@ -24,5 +24,5 @@ returns-in-Some g c =
 
 pub returns-in-None : goal.returns-in-None
 returns-in-None g c =
-    let same = same_valid g.P.Inx.PtrInx.packed_number c.self.inside.arena (g.P.Ptr.key c.args.p) in
+    let same = same_valid g.P.Inx.InxKey.packed_number c.self.inside.arena (g.P.PtrKey.key c.args.p) in
     rw (← c.self.view_is) (record { some = (λ h. same.0 (c.in-None.ensures.some.0 h), λ valid. c.in-None.ensures.some.1 (same.1 valid)); walk = tt; count = tt })

@@ -6,5 +6,5 @@ use Rattle.chain_arena.proofs.chain_arena.ChainArena.iter_link_no_gen.Goals as g
 
 pub returns-clause-links : goal.returns-clause-links
 returns-clause-links g c =
-    let number = g.P.Inx.PtrInx.packed_number in
+    let number = g.P.Inx.InxKey.packed_number in
     rw (← c.self.view_is) (ap (seen_entries number) c.links_of.ensures.links ∙ seen_entries-all number c.self.inside.arena)

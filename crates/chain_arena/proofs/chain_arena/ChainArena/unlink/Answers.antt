@@ -6,19 +6,19 @@ use Rattle.chain_arena.proofs.chain_arena.ChainArena.unlink.Goals as goal
 
 pub invariant_of-self : goal.invariant_of-self
 invariant_of-self g c =
-    let packed = g.P.Inx.PtrInx.packed_number in
+    let packed = g.P.Inx.InxKey.packed_number in
     let made = c.take_out.ensures in
-    agreed_after g.P.Gen.PtrGen.following (seen_links packed c.self.inside.arena) (seen_links packed c.take_out.new.arena) _ _ made.valid (λ none. ap (seen_links packed) (made.invalid none)) c.self.invariant
+    agreed_after g.P.Gen.GenKey.following (seen_links packed c.self.inside.arena) (seen_links packed c.take_out.new.arena) _ _ made.valid (λ none. ap (seen_links packed) (made.invalid none)) c.self.invariant
 
 pub returns : goal.returns
 returns g c =
-    let packed = g.P.Inx.PtrInx.packed_number in
+    let packed = g.P.Inx.InxKey.packed_number in
     let a = c.self.inside.arena in
     let made = c.take_out.ensures in
     rw (← c.self.view_is) (record {
       answer = made.answer;
       overflow = made.overflow;
-      removal = λ some. removal_of g.P.Gen.PtrGen.following (seen_links packed a) (seen_links packed c.take_out.new.arena) (g.P.Inx.PtrInx.number c.args.i) c.self.invariant (made.valid some);
+      removal = λ some. removal_of g.P.Gen.GenKey.following (seen_links packed a) (seen_links packed c.take_out.new.arena) (g.P.Inx.InxKey.number c.args.i) c.self.invariant (made.valid some);
       invalid = λ none. ap (seen_links packed) (made.invalid none);
       agreed = c.self.invariant;
     })

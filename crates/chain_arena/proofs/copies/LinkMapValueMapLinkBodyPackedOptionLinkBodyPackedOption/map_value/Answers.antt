@@ -7,7 +7,7 @@ use Rattle.chain_arena.proofs.copies.LinkMapValueMapLinkBodyPackedOptionLinkBody
 
 pub returns-clause-made : goal.returns-clause-made
 returns-clause-made g c =
-    let number = g.I.PtrInx.packed_number in
+    let number = g.I.InxKey.packed_number in
     let calls = IsCopyCall g.F.FnMut (seen_link number) in
     record {
       interlinks = ap interlinks_in c.new.ensures ∙ (λ i. record { prev = c.prev_next.ensures.prev i; next = c.prev_next.ensures.next i });

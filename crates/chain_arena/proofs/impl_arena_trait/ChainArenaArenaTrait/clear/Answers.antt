@@ -9,7 +9,7 @@ use Rattle.chain_arena.proofs.impl_arena_trait.ChainArenaArenaTrait.clear.Goals 
 
 pub returns-clause-overflow : goal.returns-clause-overflow
 returns-clause-overflow g c = rw (← c.self.view_is) (c.clear.ensures.overflow
-    ∙ ap (λ n. invalidation_option (overflows_after_clear g.P.Gen.PtrGen.wraps n c.self.inside.arena.counter) tt) (length-entries c.self.inside.arena ∙ sym (count-values g.P.Inx.PtrInx.packed_number c.self.inside.arena)))
+    ∙ ap (λ n. invalidation_option (overflows_after_clear g.P.Gen.GenKey.wraps n c.self.inside.arena.counter) tt) (length-entries c.self.inside.arena ∙ sym (count-values g.P.Inx.InxKey.packed_number c.self.inside.arena)))
 
 pub returns-clause-after : goal.returns-clause-after
-returns-clause-after g c = rw (← c.self.view_is) (cleared-seen g.P.Inx.PtrInx.packed_number g.P.Gen.PtrGen.following c.self.inside.arena _ c.clear.ensures.more)
+returns-clause-after g c = rw (← c.self.view_is) (cleared-seen g.P.Inx.InxKey.packed_number g.P.Gen.GenKey.following c.self.inside.arena _ c.clear.ensures.more)

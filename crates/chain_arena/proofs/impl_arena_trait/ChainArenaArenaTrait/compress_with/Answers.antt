@@ -11,13 +11,13 @@ use Rattle.chain_arena.proofs.impl_arena_trait.ChainArenaArenaTrait.compress_wit
 
 pub invariant_of-self : goal.invariant_of-self
 invariant_of-self g c =
-    let seen = seen_links g.P.Inx.PtrInx.packed_number in
-    links_agree g.F.FnMut g.P.Ptr.key c.args.map _ (seen c.self.inside.arena) (seen c.begin_generation-overflow.new.arena) (seen c.gather.new.arena)
+    let seen = seen_links g.P.Inx.InxKey.packed_number in
+    links_agree g.F.FnMut g.P.PtrKey.key c.args.map _ (seen c.self.inside.arena) (seen c.begin_generation-overflow.new.arena) (seen c.gather.new.arena)
     (ap seen c.begin_generation-overflow.ensures.after) c.gather.ensures c.self.invariant
 
 pub returns : goal.returns
 returns g c =
-    let number = g.P.Inx.PtrInx.packed_number in
+    let number = g.P.Inx.InxKey.packed_number in
     let a = c.self.inside.arena in
     let old = seen_links number a in
     let mid = seen_links number c.begin_generation-overflow.new.arena in
@@ -25,8 +25,8 @@ returns g c =
     let begun = ap (seen_links number) c.begin_generation-overflow.ensures.after in
     let counted = length-entries a ∙ sym (count-values number a) in
     rw (← c.self.view_is) (record {
-      compressed = links_compressed g.F.FnMut g.P.Ptr.key c.args.map _ old mid new begun c.gather.ensures g.P.Gen.PtrGen.first g.P.Gen.PtrGen.following c.args.reset (length (entries a)) refl counted;
-      visits = links_visited g.F.FnMut g.P.Ptr.key c.args.map _ old mid new begun c.gather.ensures;
-      overflow = c.begin_generation-overflow.ensures.overflow ∙ ap (λ n. invalidation_option (overflows_after_compression g.P.Gen.PtrGen.wraps c.args.reset n a.counter) tt) counted;
-      more = gaps_closed g.F.FnMut g.P.Ptr.key c.args.map _ old mid new begun c.gather.ensures;
+      compressed = links_compressed g.F.FnMut g.P.PtrKey.key c.args.map _ old mid new begun c.gather.ensures g.P.Gen.GenKey.first g.P.Gen.GenKey.following c.args.reset (length (entries a)) refl counted;
+      visits = links_visited g.F.FnMut g.P.PtrKey.key c.args.map _ old mid new begun c.gather.ensures;
+      overflow = c.begin_generation-overflow.ensures.overflow ∙ ap (λ n. invalidation_option (overflows_after_compression g.P.Gen.GenKey.wraps c.args.reset n a.counter) tt) counted;
+      more = gaps_closed g.F.FnMut g.P.PtrKey.key c.args.map _ old mid new begun c.gather.ensures;
     })

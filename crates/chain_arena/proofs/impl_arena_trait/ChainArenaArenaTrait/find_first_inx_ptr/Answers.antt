@@ -7,4 +7,4 @@ use Rattle.chain_arena.proofs.impl_arena_trait.ChainArenaArenaTrait.find_first_i
 
 pub returns : goal.returns
 returns g c = rw (← c.self.view_is) (c.find_first_inx_ptr.ensures
-    ∙ (sym (first-with_each held_in c.self.inside.arena) ∙ ap (λ v. first_key (entries v)) (values_of-seen_links g.P.Inx.PtrInx.packed_number c.self.inside.arena)))
+    ∙ (sym (first-with_each held_in c.self.inside.arena) ∙ ap (λ v. first_key (entries v)) (values_of-seen_links g.P.Inx.InxKey.packed_number c.self.inside.arena)))

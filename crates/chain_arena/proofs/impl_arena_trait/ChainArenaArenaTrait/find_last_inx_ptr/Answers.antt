@@ -7,4 +7,4 @@ use Rattle.chain_arena.proofs.impl_arena_trait.ChainArenaArenaTrait.find_last_in
 
 pub returns : goal.returns
 returns g c = rw (← c.self.view_is) (c.find_last_inx_ptr.ensures
-    ∙ (sym (last-with_each held_in c.self.inside.arena) ∙ ap (λ v. last_key (entries v)) (values_of-seen_links g.P.Inx.PtrInx.packed_number c.self.inside.arena)))
+    ∙ (sym (last-with_each held_in c.self.inside.arena) ∙ ap (λ v. last_key (entries v)) (values_of-seen_links g.P.Inx.InxKey.packed_number c.self.inside.arena)))

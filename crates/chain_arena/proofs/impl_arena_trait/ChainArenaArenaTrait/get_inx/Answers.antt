@@ -8,8 +8,8 @@ use Rattle.chain_arena.proofs.impl_arena_trait.ChainArenaArenaTrait.get_inx.Goal
 
 pub returns-in-Some : goal.returns-in-Some
 returns-in-Some g c =
-    let at = value_at g.P.Inx.PtrInx.packed_number c.self.inside.arena (g.P.Inx.PtrInx.number c.args.i) ∙ ap (option_map (on_value held_in)) (sym c.in-Some.ensures) in
+    let at = value_at g.P.Inx.InxKey.packed_number c.self.inside.arena (g.P.Inx.InxKey.number c.args.i) ∙ ap (option_map (on_value held_in)) (sym c.in-Some.ensures) in
     rw (← c.self.view_is, at) (search of_calls)
 
 pub returns-in-None : goal.returns-in-None
-returns-in-None g c = rw (← c.self.view_is) (sym (value_at g.P.Inx.PtrInx.packed_number c.self.inside.arena (g.P.Inx.PtrInx.number c.args.i) ∙ ap (option_map (on_value held_in)) (sym c.in-None.ensures)))
+returns-in-None g c = rw (← c.self.view_is) (sym (value_at g.P.Inx.InxKey.packed_number c.self.inside.arena (g.P.Inx.InxKey.number c.args.i) ∙ ap (option_map (on_value held_in)) (sym c.in-None.ensures)))

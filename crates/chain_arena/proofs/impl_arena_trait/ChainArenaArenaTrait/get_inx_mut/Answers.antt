@@ -9,25 +9,25 @@ use Rattle.chain_arena.proofs.impl_arena_trait.ChainArenaArenaTrait.get_inx_mut.
 pub invariant_of-self-lent : goal.invariant_of-self-lent
 invariant_of-self-lent g c w =
     let held = rw c.in-Some.is at (c.get_inx_mut.follows.holds (record c.in-Some.link.now { t = w })) in
-    written-agrees g.P.Inx.PtrInx.packed_number c.self.inside.arena _ (g.P.Inx.PtrInx.number c.args.i) c.in-Some.link.now w (sym c.in-Some.ensures.value) held.1 c.self.invariant
+    written-agrees g.P.Inx.InxKey.packed_number c.self.inside.arena _ (g.P.Inx.InxKey.number c.args.i) c.in-Some.link.now w (sym c.in-Some.ensures.value) held.1 c.self.invariant
 
 pub returns-in-Some : goal.returns-in-Some
 returns-in-Some g c =
     let a = c.self.inside.arena in
-    let n = g.P.Inx.PtrInx.number c.args.i in
+    let n = g.P.Inx.InxKey.number c.args.i in
     let l = c.in-Some.link.now in (
       (
         refl,
         (λ w.
             let held = rw c.in-Some.is at (c.get_inx_mut.follows.holds (record l { t = w })) in
             rw (← c.self.view_is) (
-              written-seen g.P.Inx.PtrInx.packed_number a _ n l w (sym c.in-Some.ensures.value) held.1,
-              (written-state g.P.Inx.PtrInx.packed_number a _ n l w (sym c.in-Some.ensures.value) held.1, written-shown g.P.Inx.PtrInx.packed_number a _ n l w (sym c.in-Some.ensures.value) held.1),
+              written-seen g.P.Inx.InxKey.packed_number a _ n l w (sym c.in-Some.ensures.value) held.1,
+              (written-state g.P.Inx.InxKey.packed_number a _ n l w (sym c.in-Some.ensures.value) held.1, written-shown g.P.Inx.InxKey.packed_number a _ n l w (sym c.in-Some.ensures.value) held.1),
             )),
         refl,
       ),
-      record { writes_back = tt; value = rw (← c.self.view_is) (sym (value_there g.P.Inx.PtrInx.packed_number a n ∙ ap (option_map held_in) (sym c.in-Some.ensures.value))) },
+      record { writes_back = tt; value = rw (← c.self.view_is) (sym (value_there g.P.Inx.InxKey.packed_number a n ∙ ap (option_map held_in) (sym c.in-Some.ensures.value))) },
     )
 
 pub returns-in-None : goal.returns-in-None
-returns-in-None g c = ((refl, (λ w. tt), ap (seen_links g.P.Inx.PtrInx.packed_number) c.get_inx_mut.follows.holds-at-none ∙ c.self.view_is), record { writes_back = tt; value = rw (← c.self.view_is) (sym (value_there g.P.Inx.PtrInx.packed_number c.self.inside.arena (g.P.Inx.PtrInx.number c.args.i) ∙ ap (option_map held_in) (sym c.in-None.ensures.value))) })
+returns-in-None g c = ((refl, (λ w. tt), ap (seen_links g.P.Inx.InxKey.packed_number) c.get_inx_mut.follows.holds-at-none ∙ c.self.view_is), record { writes_back = tt; value = rw (← c.self.view_is) (sym (value_there g.P.Inx.InxKey.packed_number c.self.inside.arena (g.P.Inx.InxKey.number c.args.i) ∙ ap (option_map held_in) (sym c.in-None.ensures.value))) })

@@ -11,23 +11,23 @@ use Rattle.chain_arena.proofs.impl_arena_trait.ChainArenaArenaTrait.invalidate.G
 
 pub invariant_of-self : goal.invariant_of-self
 invariant_of-self g c =
-    let p = g.P.Ptr.key c.args.p in
+    let p = g.P.PtrKey.key c.args.p in
     ⊎_elim
-    (λ valid. subst Agrees (sym (renewed-shown g.P.Inx.PtrInx.packed_number g.P.Gen.PtrGen.following c.self.inside.arena _ _ (c.invalidate.ensures.more valid))) c.self.invariant)
-    (λ invalid. subst (λ a. Agrees (shown (seen_links g.P.Inx.PtrInx.packed_number a))) (sym (c.invalidate.ensures.invalid invalid).1) c.self.invariant)
-    (valid_or_not _ g.met.P.Gen.PtrGen.eq_is_same c.self.inside.arena p)
+    (λ valid. subst Agrees (sym (renewed-shown g.P.Inx.InxKey.packed_number g.P.Gen.GenKey.following c.self.inside.arena _ _ (c.invalidate.ensures.more valid))) c.self.invariant)
+    (λ invalid. subst (λ a. Agrees (shown (seen_links g.P.Inx.InxKey.packed_number a))) (sym (c.invalidate.ensures.invalid invalid).1) c.self.invariant)
+    (valid_or_not _ g.met.P.Gen.GenKey.eq_is_same c.self.inside.arena p)
 
 pub returns : goal.returns
 returns g c =
-    let number = g.P.Inx.PtrInx.packed_number in
-    let following = g.P.Gen.PtrGen.following in
+    let number = g.P.Inx.InxKey.packed_number in
+    let following = g.P.Gen.GenKey.following in
     let a = c.self.inside.arena in
     let made = c.invalidate.ensures in
-    let same = same_valid number a (g.P.Ptr.key c.args.p) in
+    let same = same_valid number a (g.P.PtrKey.key c.args.p) in
     rw (← c.self.view_is) (record {
       valid = λ valid.
           let stands = same.1 valid in
-          renewed-told number following a _ _ (made.more stands) _ g.P.Ptr.key (value_within c.invalidate.result) (made.valid stands) made.counter.1;
+          renewed-told number following a _ _ (made.more stands) _ g.P.PtrKey.key (value_within c.invalidate.result) (made.valid stands) made.counter.1;
       counter = made.counter;
       invalid = λ invalid. let told = made.invalid (λ valid. invalid (same.0 valid)) in (told.0, ap (seen_links number) told.1);
       more = λ valid. let stands = same.1 valid in (renewed-state number following a _ _ (made.more stands), renewed-shown number following a _ _ (made.more stands));

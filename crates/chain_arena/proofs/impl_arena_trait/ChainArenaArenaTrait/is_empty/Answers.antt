@@ -9,5 +9,5 @@ use Rattle.chain_arena.proofs.impl_arena_trait.ChainArenaArenaTrait.is_empty.Goa
 pub returns : goal.returns
 returns g c =
     let same = empty-with_each held_in c.self.inside.arena in
-    rw (← c.self.view_is) (subst (λ v. IsTrue c.is_empty.result ↔ (entries v ≡ [])) (values_of-seen_links g.P.Inx.PtrInx.packed_number c.self.inside.arena)
+    rw (← c.self.view_is) (subst (λ v. IsTrue c.is_empty.result ↔ (entries v ≡ [])) (values_of-seen_links g.P.Inx.InxKey.packed_number c.self.inside.arena)
     (λ h. same.0 (c.is_empty.ensures.0 h), λ h. c.is_empty.ensures.1 (same.1 h)))

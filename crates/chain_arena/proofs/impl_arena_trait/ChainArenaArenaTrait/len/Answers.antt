@@ -11,8 +11,8 @@ use Rattle.chain_arena.proofs.impl_arena_trait.ChainArenaArenaTrait.len.Goals as
 
 pub returns : goal.returns
 returns g c =
-    let number = g.P.Inx.PtrInx.packed_number in
-    let greatest = g.P.Inx.PtrInx.greatest in
+    let number = g.P.Inx.InxKey.packed_number in
+    let greatest = g.P.Inx.InxKey.greatest in
     let a = c.self.inside.arena in
     let links = seen_links number a in
     let told = c.len.ensures in

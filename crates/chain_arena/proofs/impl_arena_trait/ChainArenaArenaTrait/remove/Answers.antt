@@ -6,12 +6,12 @@ use Rattle.chain_arena.proofs.impl_arena_trait.ChainArenaArenaTrait.remove.Goals
 
 pub returns-then-contains : goal.returns-then-contains
 returns-then-contains g c =
-    let packed = g.P.Inx.PtrInx.packed_number in
-    let following = g.P.Gen.PtrGen.following in
+    let packed = g.P.Inx.InxKey.packed_number in
+    let following = g.P.Gen.GenKey.following in
     let a = c.args.self.now in
     let b = c.unlink.new.self in
-    let p = g.P.Ptr.key c.args.p in
-    let i = g.P.Inx.PtrInx.number c.inx.result in
+    let p = g.P.PtrKey.key c.args.p in
+    let i = g.P.Inx.InxKey.number c.inx.result in
     let taken = value_within c.unlink.result in
     let made = c.unlink.ensures in
     let alone = c.value_alone.ensures in
@@ -21,7 +21,7 @@ returns-then-contains g c =
         alone.value ∙ value_alone_told packed following a b i taken made.answer,
         seen_at packed following a b i taken made.answer made.removal p c.inx.ensures stood,
       );
-      overflow = same_overflow (λ e. e.1.t) (g.P.Gen.PtrGen.wraps a.counter) c.unlink.result c.value_alone.result alone.value alone.overflow made.overflow;
+      overflow = same_overflow (λ e. e.1.t) (g.P.Gen.GenKey.wraps a.counter) c.unlink.result c.value_alone.result alone.value alone.overflow made.overflow;
       invalid = λ invalid. absurd (invalid stood);
       more = λ _. removal_at packed following a b i taken made.answer made.removal p c.inx.ensures stood;
     })

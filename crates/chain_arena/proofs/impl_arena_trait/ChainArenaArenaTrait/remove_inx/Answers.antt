@@ -6,16 +6,16 @@ use Rattle.chain_arena.proofs.impl_arena_trait.ChainArenaArenaTrait.remove_inx.G
 
 pub returns : goal.returns
 returns g c =
-    let packed = g.P.Inx.PtrInx.packed_number in
-    let following = g.P.Gen.PtrGen.following in
+    let packed = g.P.Inx.InxKey.packed_number in
+    let following = g.P.Gen.GenKey.following in
     let a = c.args.self.now in
     let b = c.unlink.new.self in
-    let i = g.P.Inx.PtrInx.number c.args.i in
+    let i = g.P.Inx.InxKey.number c.args.i in
     let taken = value_within c.unlink.result in
     let made = c.unlink.ensures in
     let told = c.value_with_generation.ensures in record {
       answer = told.value ∙ value_told packed following a b i taken made.answer;
-      overflow = same_overflow (λ e. (e.0, e.1.t)) (g.P.Gen.PtrGen.wraps a.counter) c.unlink.result c.value_with_generation.result told.value told.overflow made.overflow;
+      overflow = same_overflow (λ e. (e.0, e.1.t)) (g.P.Gen.GenKey.wraps a.counter) c.unlink.result c.value_with_generation.result told.value told.overflow made.overflow;
       valid = λ stands. seen_there packed following a b i taken made.answer made.removal stands;
       invalid = λ none. made.invalid (none_taken packed following a b i taken made.answer none);
       more = λ stands. removal_there packed following a b i taken made.answer made.removal stands;

@@ -8,5 +8,5 @@ use Rattle.chain_layout.proofs.Valuing.{look-with_each, values_of-seen_links}
 use Rattle.chain_arena.proofs.impl_arena_trait.PtrAdvancerAdvancerChainArena.advance.Goals as goal
 
 pub returns : goal.returns
-returns g c = rw (← c.collection.view_is) (subst (λ v. IsLook (entries v) c.args.self.now.look (option_map g.P.Ptr.key c.advance.result) c.advance.new.self.look)
-    (values_of-seen_links g.P.Inx.PtrInx.packed_number c.collection.inside.arena) (look-with_each held_in c.collection.inside.arena _ _ _ c.advance.ensures))
+returns g c = rw (← c.collection.view_is) (subst (λ v. IsLook (entries v) c.args.self.now.look (option_map g.P.PtrKey.key c.advance.result) c.advance.new.self.look)
+    (values_of-seen_links g.P.Inx.InxKey.packed_number c.collection.inside.arena) (look-with_each held_in c.collection.inside.arena _ _ _ c.advance.ensures))

@@ -11,10 +11,10 @@ use Rattle.chain_arena.proofs.impl_chain_arena_trait.ChainArenaChainArenaTrait.a
 
 pub returns-in-Some : goal.returns-in-Some
 returns-in-Some g c =
-    let packed = g.P.Inx.PtrInx.packed_number in
-    let number = g.P.Inx.PtrInx.number in
+    let packed = g.P.Inx.InxKey.packed_number in
+    let number = g.P.Inx.InxKey.number in
     let a = c.self.inside.arena in
-    let p = g.P.Ptr.key c.args.p in
+    let p = g.P.PtrKey.key c.args.p in
     let made = c.new.ensures in
     rw (← c.self.view_is) (record {
       valid = λ _. same_walkers
@@ -28,5 +28,5 @@ returns-in-Some g c =
 
 pub returns-in-None-clause-valid : goal.returns-in-None-clause-valid
 returns-in-None-clause-valid g c =
-    let same = same_valid g.P.Inx.PtrInx.packed_number c.self.inside.arena (g.P.Ptr.key c.args.p) in
+    let same = same_valid g.P.Inx.InxKey.packed_number c.self.inside.arena (g.P.PtrKey.key c.args.p) in
     rw (← c.self.view_is) (λ valid. absurd (false≢true (c.in-None.ensures.some.1 (same.1 valid))))

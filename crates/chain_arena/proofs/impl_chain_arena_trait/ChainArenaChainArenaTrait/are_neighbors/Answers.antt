@@ -11,9 +11,9 @@ use Rattle.chain_arena.proofs.impl_chain_arena_trait.ChainArenaChainArenaTrait.a
 use Rattle.chain_arena.proofs.impl_chain_arena_trait.ChainArenaChainArenaTrait.are_neighbors.Goals as goal
 
 -- in the links that the arena holds
-tells : (g : Over) (c : After-is_index g) → let s = seen_links g.P.Inx.PtrInx.packed_number c.self.inside.arena in
-    IsValid (entry s) (g.P.Ptr.key c.args.q) → IsTrue c.is_index.result
-    ↔ (IsValid (entry s) (g.P.Ptr.key c.args.p) × IsValid (entry s) (g.P.Ptr.key c.args.q) × AreNeighbors (shown s) (g.P.Ptr.key c.args.p).0 (g.P.Ptr.key c.args.q).0)
+tells : (g : Over) (c : After-is_index g) → let s = seen_links g.P.Inx.InxKey.packed_number c.self.inside.arena in
+    IsValid (entry s) (g.P.PtrKey.key c.args.q) → IsTrue c.is_index.result
+    ↔ (IsValid (entry s) (g.P.PtrKey.key c.args.p) × IsValid (entry s) (g.P.PtrKey.key c.args.q) × AreNeighbors (shown s) (g.P.PtrKey.key c.args.p).0 (g.P.PtrKey.key c.args.q).0)
 tells g c valid = (
   λ yes. let named = c.is_index.ensures.0 yes in let stands = c.next_of.ensures.some (sym (is_some-map _ c.next_of.result) ∙ ap is_some named) in
       (stands, valid, sym (c.next_of.ensures.named stands) ∙ (named ∙ ap Some c.inx.ensures)),

@@ -16,21 +16,21 @@ use Rattle.chain_arena.proofs.impl_chain_arena_trait.ChainArenaChainArenaTrait.b
 
 -- the links before the cut, and after it
 abbrev links : (g : Over) → After-link_twice g → Arena g.row.P-Gen.Denot (LinkSeen g.row.T.Denot)
-links g c = seen_links g.P.Inx.PtrInx.packed_number c.self.inside.arena
+links g c = seen_links g.P.Inx.InxKey.packed_number c.self.inside.arena
 
 abbrev cut_links : (g : Over) → After-link_twice g → Arena g.row.P-Gen.Denot (LinkSeen g.row.T.Denot)
-cut_links g c = seen_links g.P.Inx.PtrInx.packed_number c.link_twice.new.arena
+cut_links g c = seen_links g.P.Inx.InxKey.packed_number c.link_twice.new.arena
 
 -- the link beside
-told : (g : Over) (c : After-link_twice g) → prev_of (shown (links g c)) (g.P.Ptr.key c.args.p).0 ≡ Some (g.P.Inx.PtrInx.number c.in-Some.before)
+told : (g : Over) (c : After-link_twice g) → prev_of (shown (links g c)) (g.P.PtrKey.key c.args.p).0 ≡ Some (g.P.Inx.InxKey.number c.in-Some.before)
 told g c = sym (c.in-Some.ensures.named (c.in-Some.ensures.some refl))
 
-pair : (g : Over) (c : After-link_twice g) → AreNeighbors (shown (links g c)) (g.P.Inx.PtrInx.number c.in-Some.before) (g.P.Ptr.key c.args.p).0
-pair g c = (c.self.invariant.both (g.P.Inx.PtrInx.number c.in-Some.before) (g.P.Ptr.key c.args.p).0).1 (told g c)
+pair : (g : Over) (c : After-link_twice g) → AreNeighbors (shown (links g c)) (g.P.Inx.InxKey.number c.in-Some.before) (g.P.PtrKey.key c.args.p).0
+pair g c = (c.self.invariant.both (g.P.Inx.InxKey.number c.in-Some.before) (g.P.PtrKey.key c.args.p).0).1 (told g c)
 
 -- what is written is the cut
-is_cut : (g : Over) (c : After-link_twice g) → cut_links g c ≡ relinked (links g c) (cut (shown (links g c)) (g.P.Inx.PtrInx.number c.in-Some.before) (g.P.Ptr.key c.args.p).0)
-is_cut g c = c.link_twice.ensures ∙ ap (λ (i : ℕ). relinked (links g c) (cut (shown (links g c)) (g.P.Inx.PtrInx.number c.in-Some.before) i)) c.inx.ensures
+is_cut : (g : Over) (c : After-link_twice g) → cut_links g c ≡ relinked (links g c) (cut (shown (links g c)) (g.P.Inx.InxKey.number c.in-Some.before) (g.P.PtrKey.key c.args.p).0)
+is_cut g c = c.link_twice.ensures ∙ ap (λ (i : ℕ). relinked (links g c) (cut (shown (links g c)) (g.P.Inx.InxKey.number c.in-Some.before) i)) c.inx.ensures
 
 pub invariant_of-self : goal.invariant_of-self
 invariant_of-self g c = agrees_cut (links g c) (cut_links g c) _ _ (is_cut g c) c.self.invariant (pair g c)
@@ -39,8 +39,8 @@ pub returns-in-Some : goal.returns-in-Some
 returns-in-Some g c =
     let a = links g c in
     let b = cut_links g c in
-    let i = (g.P.Inx.PtrInx.number c.in-Some.before) in
-    let j = (g.P.Ptr.key c.args.p).0 in
+    let i = (g.P.Inx.InxKey.number c.in-Some.before) in
+    let j = (g.P.PtrKey.key c.args.p).0 in
     let at = told g c in
     let is = is_cut g c in
     rw (← c.self.view_is) (record {

@@ -8,4 +8,4 @@ use Rattle.chain_arena.proofs.impl_chain_arena_trait.ChainArenaChainArenaTrait.c
 pub returns-clause-overflow : goal.returns-clause-overflow
 returns-clause-overflow g c =
     let a = c.args.self.now in
-    c.compress_canonical_with.ensures.overflow ∙ ap (λ n. invalidation_option (overflows_after_compression g.P.Gen.PtrGen.wraps c.args.reset n a.counter) tt) (sym (values-count a))
+    c.compress_canonical_with.ensures.overflow ∙ ap (λ n. invalidation_option (overflows_after_compression g.P.Gen.GenKey.wraps c.args.reset n a.counter) tt) (sym (values-count a))

@@ -17,31 +17,31 @@ use Rattle.chain_arena.proofs.impl_chain_arena_trait.ChainArenaChainArenaTrait.e
 
 -- the links before the exchange, and after it
 abbrev links : (g : Over) → After-link_twice g → Arena g.row.P-Gen.Denot (LinkSeen g.row.T.Denot)
-links g c = seen_links g.P.Inx.PtrInx.packed_number c.self.inside.arena
+links g c = seen_links g.P.Inx.InxKey.packed_number c.self.inside.arena
 
 abbrev exchanged_links : (g : Over) → After-link_twice g → Arena g.row.P-Gen.Denot (LinkSeen g.row.T.Denot)
-exchanged_links g c = seen_links g.P.Inx.PtrInx.packed_number c.link_twice.new.arena
+exchanged_links g c = seen_links g.P.Inx.InxKey.packed_number c.link_twice.new.arena
 
 -- the links after the two
-after_p : (g : Over) (c : After-link_twice g) → Some (g.P.Inx.PtrInx.number c.in-Some.after_p) ≡ next_of (shown (links g c)) (g.P.Ptr.key c.args.p).0
+after_p : (g : Over) (c : After-link_twice g) → Some (g.P.Inx.InxKey.number c.in-Some.after_p) ≡ next_of (shown (links g c)) (g.P.PtrKey.key c.args.p).0
 after_p g c = c.in-Some.ensures.named (c.in-Some.ensures.some refl)
 
-after_q : (g : Over) (c : After-link_twice g) → Some (g.P.Inx.PtrInx.number c.in-Some-next_of_link.after_q) ≡ next_of (shown (links g c)) (g.P.Ptr.key c.args.q).0
+after_q : (g : Over) (c : After-link_twice g) → Some (g.P.Inx.InxKey.number c.in-Some-next_of_link.after_q) ≡ next_of (shown (links g c)) (g.P.PtrKey.key c.args.q).0
 after_q g c = c.in-Some-next_of_link.ensures.named (c.in-Some-next_of_link.ensures.some refl)
 
-valid_p : (g : Over) (c : After-link_twice g) → IsValid (shown (links g c)) (g.P.Ptr.key c.args.p).0
+valid_p : (g : Over) (c : After-link_twice g) → IsValid (shown (links g c)) (g.P.PtrKey.key c.args.p).0
 valid_p g c = next_valid (shown (links g c)) _ _ (sym (after_p g c))
 
-valid_q : (g : Over) (c : After-link_twice g) → IsValid (shown (links g c)) (g.P.Ptr.key c.args.q).0
+valid_q : (g : Over) (c : After-link_twice g) → IsValid (shown (links g c)) (g.P.PtrKey.key c.args.q).0
 valid_q g c = next_valid (shown (links g c)) _ _ (sym (after_q g c))
 
 -- what is written is the exchange
-is_exchanged : (g : Over) (c : After-link_twice g) → exchanged_links g c ≡ relinked (links g c) (exchanged (shown (links g c)) (g.P.Ptr.key c.args.p).0 (g.P.Ptr.key c.args.q).0)
+is_exchanged : (g : Over) (c : After-link_twice g) → exchanged_links g c ≡ relinked (links g c) (exchanged (shown (links g c)) (g.P.PtrKey.key c.args.p).0 (g.P.PtrKey.key c.args.q).0)
 is_exchanged g c =
     let s = links g c in
     c.link_twice.ensures
-    ∙ (ap₂ (λ (i j : ℕ). relinked s (linked (linked (shown s) (Some i) (Some (g.P.Inx.PtrInx.number c.in-Some-next_of_link.after_q))) (Some j) (Some (g.P.Inx.PtrInx.number c.in-Some.after_p)))) c.inx-i.ensures c.inx-j.ensures
-    ∙ ap₂ (λ (a b : Option ℕ). relinked s (linked (linked (shown s) (Some (g.P.Ptr.key c.args.p).0) b) (Some (g.P.Ptr.key c.args.q).0) a)) (after_p g c) (after_q g c))
+    ∙ (ap₂ (λ (i j : ℕ). relinked s (linked (linked (shown s) (Some i) (Some (g.P.Inx.InxKey.number c.in-Some-next_of_link.after_q))) (Some j) (Some (g.P.Inx.InxKey.number c.in-Some.after_p)))) c.inx-i.ensures c.inx-j.ensures
+    ∙ ap₂ (λ (a b : Option ℕ). relinked s (linked (linked (shown s) (Some (g.P.PtrKey.key c.args.p).0) b) (Some (g.P.PtrKey.key c.args.q).0) a)) (after_p g c) (after_q g c))
 
 pub invariant_of-self : goal.invariant_of-self
 invariant_of-self g c = agrees_exchange (links g c) (exchanged_links g c) _ _ (is_exchanged g c) c.self.invariant (valid_p g c) (valid_q g c)
@@ -50,8 +50,8 @@ pub returns-in-Some-next_of_link : goal.returns-in-Some-next_of_link
 returns-in-Some-next_of_link g c =
     let a = links g c in
     let b = exchanged_links g c in
-    let i = (g.P.Ptr.key c.args.p).0 in
-    let j = (g.P.Ptr.key c.args.q).0 in
+    let i = (g.P.PtrKey.key c.args.p).0 in
+    let j = (g.P.PtrKey.key c.args.q).0 in
     let is = is_exchanged g c in
     rw (← c.self.view_is) (record {
       some = (

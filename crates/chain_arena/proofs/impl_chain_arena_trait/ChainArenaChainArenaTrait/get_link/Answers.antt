@@ -9,9 +9,9 @@ use Rattle.chain_arena.proofs.impl_chain_arena_trait.ChainArenaChainArenaTrait.g
 
 pub returns-in-Some : goal.returns-in-Some
 returns-in-Some g c =
-    let number = g.P.Inx.PtrInx.packed_number in
+    let number = g.P.Inx.InxKey.packed_number in
     let a = c.self.inside.arena in
-    let p = g.P.Ptr.key c.args.p in
+    let p = g.P.PtrKey.key c.args.p in
     let same = same_valid number a p in
     let ptr_of = option_and_then (ptr_at (entry_at (values_of (seen_links number a)))) in
     rw (← c.self.view_is) (record {
@@ -23,5 +23,5 @@ returns-in-Some g c =
 
 pub returns-in-None : goal.returns-in-None
 returns-in-None g c =
-    let same = same_valid g.P.Inx.PtrInx.packed_number c.self.inside.arena (g.P.Ptr.key c.args.p) in
+    let same = same_valid g.P.Inx.InxKey.packed_number c.self.inside.arena (g.P.PtrKey.key c.args.p) in
     rw (← c.self.view_is) (record { some = (λ h. same.0 (c.in-None.ensures.some.0 h), λ valid. c.in-None.ensures.some.1 (same.1 valid)); link = tt; agree = c.self.invariant })

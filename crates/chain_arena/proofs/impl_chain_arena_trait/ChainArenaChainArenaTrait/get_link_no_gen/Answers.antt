@@ -4,5 +4,5 @@ use Rattle.chain_arena.proofs.impl_chain_arena_trait.ChainArenaChainArenaTrait.g
 
 pub returns-clause-some : goal.returns-clause-some
 returns-clause-some g c =
-    let same = same_valid g.P.Inx.PtrInx.packed_number c.self.inside.arena (g.P.Ptr.key c.args.p) in
+    let same = same_valid g.P.Inx.InxKey.packed_number c.self.inside.arena (g.P.PtrKey.key c.args.p) in
     rw (← c.self.view_is) (λ h. same.0 (c.get.ensures.some.0 h), λ valid. c.get.ensures.some.1 (same.1 valid))

@@ -6,18 +6,18 @@ use Rattle.chain_arena.proofs.impl_chain_arena_trait.ChainArenaChainArenaTrait.i
 
 pub insert_at-requires : goal.insert_at-requires
 insert_at-requires g c =
-    let key = g.P.Ptr.key in
-    let number = g.P.Inx.PtrInx.number in
-    let greatest = g.P.Inx.PtrInx.greatest in
+    let key = g.P.PtrKey.key in
+    let number = g.P.Inx.InxKey.number in
+    let greatest = g.P.Inx.InxKey.greatest in
     let asked = c.gap_growing-asked in record {
       gap = growing_fits key number greatest c.args.self.now asked.new.self c.args.kind asked.result asked.ensures.agreed asked.ensures.place;
       room = growing_room key number greatest c.args.self.now asked.new.self c.args.kind asked.result asked.ensures.place;
     }
 
-told : (g : Over) (c : After-insert_at g) → TellsGrowing g.P.Ptr.key g.P.Inx.PtrInx.number c.args.self.now c.args.kind c.args.t c.insert_at.new.self g.P.Inx.PtrInx.greatest c.insert_at.result
+told : (g : Over) (c : After-insert_at g) → TellsGrowing g.P.PtrKey.key g.P.Inx.InxKey.number c.args.self.now c.args.kind c.args.t c.insert_at.new.self g.P.Inx.InxKey.greatest c.insert_at.result
 told g c =
     let asked = c.gap_growing-asked in
-    tells_growing g.P.Ptr.key g.P.Inx.PtrInx.number c.args.self.now c.args.kind c.args.t c.insert_at.new.self asked.new.self g.P.Inx.PtrInx.greatest asked.ensures.agreed asked.result c.insert_at.result
+    tells_growing g.P.PtrKey.key g.P.Inx.InxKey.number c.args.self.now c.args.kind c.args.t c.insert_at.new.self asked.new.self g.P.Inx.InxKey.greatest asked.ensures.agreed asked.result c.insert_at.result
     asked.ensures.place c.insert_at.ensures
 
 pub returns : goal.returns

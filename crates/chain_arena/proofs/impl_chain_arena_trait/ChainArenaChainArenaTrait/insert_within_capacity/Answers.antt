@@ -6,16 +6,16 @@ use Rattle.chain_arena.proofs.impl_chain_arena_trait.ChainArenaChainArenaTrait.i
 
 pub insert_at-requires : goal.insert_at-requires
 insert_at-requires g c =
-    let number = g.P.Inx.PtrInx.number in
+    let number = g.P.Inx.InxKey.number in
     let asked = c.gap_within-asked in record {
-      gap = within_fits g.P.Ptr.key number c.args.self.now c.args.kind asked.result asked.ensures.agree asked.ensures.place;
-      room = within_room g.P.Ptr.key number c.args.self.now c.args.kind asked.result asked.ensures.place;
+      gap = within_fits g.P.PtrKey.key number c.args.self.now c.args.kind asked.result asked.ensures.agree asked.ensures.place;
+      room = within_room g.P.PtrKey.key number c.args.self.now c.args.kind asked.result asked.ensures.place;
     }
 
-told : (g : Over) (c : After-insert_at g) → TellsWithin g.P.Ptr.key g.P.Inx.PtrInx.number c.args.self.now c.args.kind c.args.t c.insert_at.new.self c.insert_at.result
+told : (g : Over) (c : After-insert_at g) → TellsWithin g.P.PtrKey.key g.P.Inx.InxKey.number c.args.self.now c.args.kind c.args.t c.insert_at.new.self c.insert_at.result
 told g c =
     let asked = c.gap_within-asked in
-    tells_within g.P.Ptr.key g.P.Inx.PtrInx.number c.args.self.now c.args.kind c.args.t c.insert_at.new.self asked.ensures.agree asked.result c.insert_at.result asked.ensures.place c.insert_at.ensures
+    tells_within g.P.PtrKey.key g.P.Inx.InxKey.number c.args.self.now c.args.kind c.args.t c.insert_at.new.self asked.ensures.agree asked.result c.insert_at.result asked.ensures.place c.insert_at.ensures
 
 pub returns : goal.returns
 returns g c =

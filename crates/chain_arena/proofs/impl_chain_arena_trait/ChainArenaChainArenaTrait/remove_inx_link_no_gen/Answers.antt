@@ -5,11 +5,11 @@ use Rattle.chain_arena.proofs.impl_chain_arena_trait.ChainArenaChainArenaTrait.r
 
 pub returns : goal.returns
 returns g c =
-    let packed = g.P.Inx.PtrInx.packed_number in
-    let following = g.P.Gen.PtrGen.following in
+    let packed = g.P.Inx.InxKey.packed_number in
+    let following = g.P.Gen.GenKey.following in
     let a = c.args.self.now in
     let b = c.unlink.new.self in
-    let i = g.P.Inx.PtrInx.number c.args.i in
+    let i = g.P.Inx.InxKey.number c.args.i in
     let taken = value_within c.unlink.result in
     let made = c.unlink.ensures in
     let removal = removal_there packed following a b i taken made.answer made.removal in record {

@@ -12,12 +12,12 @@ use Rattle.chain_arena.proofs.impl_chain_arena_trait.ChainArenaChainArenaTrait.r
 
 pub returns-then-contains : goal.returns-then-contains
 returns-then-contains g c =
-    let packed = g.P.Inx.PtrInx.packed_number in
-    let following = g.P.Gen.PtrGen.following in
+    let packed = g.P.Inx.InxKey.packed_number in
+    let following = g.P.Gen.GenKey.following in
     let a = c.args.self.now in
     let b = c.unlink.new.self in
-    let p = g.P.Ptr.key c.args.p in
-    let i = g.P.Inx.PtrInx.number c.inx.result in
+    let p = g.P.PtrKey.key c.args.p in
+    let i = g.P.Inx.InxKey.number c.inx.result in
     let taken = value_within c.unlink.result in
     let made = c.unlink.ensures in
     let alone = c.link_alone.ensures in
@@ -30,7 +30,7 @@ returns-then-contains g c =
         seen_at packed following a b i taken made.answer made.removal p c.inx.ensures stood,
         removal.shows,
       );
-      overflow = same_overflow (λ e. e.1) (g.P.Gen.PtrGen.wraps a.counter) c.unlink.result c.link_alone.result alone.value alone.overflow made.overflow;
+      overflow = same_overflow (λ e. e.1) (g.P.Gen.GenKey.wraps a.counter) c.unlink.result c.link_alone.result alone.value alone.overflow made.overflow;
       invalid = λ invalid. absurd (invalid stood);
       agreed = made.agreed;
       state = λ _. removal.state;
@@ -40,7 +40,7 @@ returns-then-contains g c =
 
 pub returns-else-contains : goal.returns-else-contains
 returns-else-contains g c =
-    let no : IsValid (entry c.args.self.now) (g.P.Ptr.key c.args.p) → ⊥ = (λ valid. false≢true (sym c.if-contains.false ∙ c.contains.ensures.1 valid)) in record {
+    let no : IsValid (entry c.args.self.now) (g.P.PtrKey.key c.args.p) → ⊥ = (λ valid. false≢true (sym c.if-contains.false ∙ c.contains.ensures.1 valid)) in record {
       valid = λ valid. absurd (no valid);
       overflow = refl;
       invalid = λ _. (refl, refl);

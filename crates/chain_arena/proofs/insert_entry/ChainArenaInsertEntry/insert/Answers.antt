@@ -21,7 +21,7 @@ returns g c =
     let u = index_from c.args.self.prev in
     let v = index_from c.args.self.next in
     let made = c.insert_in_gap.ensures in
-    let state = inserted_between g.P.Ptr.key g.P.Inx.PtrInx.number a c.insert_in_gap.new.self _ c.args.t c.insert_in_gap.result u v made c.index_or_none.ensures c.index_or_none-2.ensures in record {
+    let state = inserted_between g.P.PtrKey.key g.P.Inx.InxKey.number a c.insert_in_gap.new.self _ c.args.t c.insert_in_gap.result u v made c.index_or_none.ensures c.index_or_none-2.ensures in record {
       state = state;
       inserted = told_between a c.args.t made.listed c.insert_in_gap.new.self u v (state ∙ ap (with_capacity_of (insert_between a c.args.t u v)) (sym state))
           (next_index a, a.counter) refl made.agreed (gap_had (shown a) (next_index a) u v c.args.self.fits);

@@ -6,7 +6,7 @@ use Rattle.chain_arena.proofs.iterators.ChainArenaIntoIterator.into_iter.Goals a
 
 pub returns : goal.returns
 returns g c =
-    let number = g.P.Inx.PtrInx.packed_number in
+    let number = g.P.Inx.InxKey.packed_number in
     record {
       into_iter_gives = (
         rw (← c.self.view_is) (ap (seen_entries number) c.into_iter.ensures.into_iter_gives ∙ seen_entries-all number c.self.inside.arena),
