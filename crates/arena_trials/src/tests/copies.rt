@@ -4,12 +4,12 @@ use crate::tests::pointers::Numbered;
 use crate::tests::scripts::{Call, Script};
 use crate::tests::tools::{Slot, at, same};
 use arena_base::{Arena, ArenaCloneFromWith, ArenaSlot, ArenaTrait};
-use arena_ptr::{InvalidationResult, Ptr, ReallocationError, SlotStack};
+use arena_ptr::{InvalidationResult, PtrKey, ReallocationError, SlotStack};
 use std::alloc::Global;
 use std::process::Abort;
 
 // Removes an entry.
-fn removed<P: Ptr, T: Drop, S: SlotStack<Item = ArenaSlot<P, T>>>(
+fn removed<P: PtrKey, T: Drop, S: SlotStack<Item = ArenaSlot<P, T>>>(
     arena: &mut Arena<P, T, S>,
     p: P,
 ) -> InvalidationResult<T> {

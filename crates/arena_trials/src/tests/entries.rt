@@ -2,10 +2,10 @@
 ghost use Rattle.std.specs.Prelude.{◌≡◌};
 
 use arena_base::{Arena, ArenaSlot};
-use arena_ptr::{NotWithinCapacityError, Ptr, SlotStack};
+use arena_ptr::{NotWithinCapacityError, PtrKey, SlotStack};
 
 // Adds an entry whose pointer is known before.
-pub(super) fn enter<P: Ptr, T: Drop, S: SlotStack<Item = ArenaSlot<P, T>>>(
+pub(super) fn enter<P: PtrKey, T: Drop, S: SlotStack<Item = ArenaSlot<P, T>>>(
     arena: &mut Arena<P, T, S>,
     value: T,
 ) -> Result<P, NotWithinCapacityError> {
@@ -20,7 +20,7 @@ pub(super) fn enter<P: Ptr, T: Drop, S: SlotStack<Item = ArenaSlot<P, T>>>(
 }
 
 // The pointer of a place that is dropped by a call, or where its scope ends.
-pub(super) fn dropped_place<P: Ptr, T: Drop, S: SlotStack<Item = ArenaSlot<P, T>>>(
+pub(super) fn dropped_place<P: PtrKey, T: Drop, S: SlotStack<Item = ArenaSlot<P, T>>>(
     arena: &mut Arena<P, T, S>,
     by_hand: bool,
 ) -> Option<P>

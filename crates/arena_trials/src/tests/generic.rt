@@ -3,11 +3,11 @@ ghost use Rattle.std.specs.Prelude.{◌≡◌, OnOk, IfOk, [], map};
 ghost use Rattle.arena_trials.specs.Taking.{keyed};
 
 use arena_base::{Advancer, ArenaTrait};
-use arena_ptr::Ptr;
+use arena_ptr::PtrKey;
 use std::alloc::{AllocError, Global};
 
 // Takes all entries out by an advancer, and answers them by rising index.
-pub(super) fn take_all<P: Ptr, T: Drop, A: ArenaTrait<P, T>>(
+pub(super) fn take_all<P: PtrKey, T: Drop, A: ArenaTrait<P, T>>(
     alloc: Global,
     arena: &mut A,
 ) -> Result<Vec<(P, T)>, AllocError>

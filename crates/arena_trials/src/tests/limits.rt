@@ -4,7 +4,7 @@ use crate::tests::scripts::{Answers, Call, runs};
 use crate::tests::tools::{Slot, same};
 use arena_base::{Arena, ArenaSlot, ArenaTrait};
 use arena_ptr::{
-    LimitStack, LimitedStack, MaxCapacityReductionError, Ptr, SetMaxCapacity, SlotStack,
+    LimitStack, LimitedStack, MaxCapacityReductionError, PtrKey, SetMaxCapacity, SlotStack,
 };
 use std::alloc::Global;
 use std::process::Abort;
@@ -80,7 +80,7 @@ fn share(rt: &impl Abort, value: &Rc<u8>) -> Rc<u8> {
 }
 
 // Hands a value to each insertion of an arena, which drops it where it refuses it.
-fn hand<P: Ptr, T: Drop, S: SlotStack<Item = ArenaSlot<P, T>>>(
+fn hand<P: PtrKey, T: Drop, S: SlotStack<Item = ArenaSlot<P, T>>>(
     arena: &mut Arena<P, T, S>,
     first: T,
     second: T,
@@ -90,7 +90,7 @@ fn hand<P: Ptr, T: Drop, S: SlotStack<Item = ArenaSlot<P, T>>>(
 }
 
 // Hands 600 values to an arena with a maximum, and tells how many it holds and how many there are.
-fn handed<P: Ptr, S: LimitStack<Item = Shared<P>>>(
+fn handed<P: PtrKey, S: LimitStack<Item = Shared<P>>>(
     rt: &impl Abort,
     alloc: Global,
     most: usize,

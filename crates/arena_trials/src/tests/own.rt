@@ -5,13 +5,14 @@ use crate::tests::pointers::Numbered;
 use crate::tests::scripts::{Answers, Call, overwritten, trait_answer};
 use crate::tests::tools::{Slot, index, text};
 use arena_base::{Arena, ArenaSlot, ArenaTrait, Compactor, SlotAccess, Work};
-use arena_ptr::{Ptr, PtrInx, SlotStack};
+use arena_ptr::{InxKey, PtrKey, SlotStack};
 use std::alloc::Global;
+use std::fmt::Debug;
 use std::mem;
 use std::process::Abort;
 
 // Adds an entry, where there is room for it.
-pub(super) fn add<P: Ptr, T: Drop, S: SlotStack<Item = ArenaSlot<P, T>>>(
+pub(super) fn add<P: PtrKey, T: Drop, S: SlotStack<Item = ArenaSlot<P, T>>>(
     arena: &mut Arena<P, T, S>,
     t: T,
 ) -> bool {
@@ -19,7 +20,7 @@ pub(super) fn add<P: Ptr, T: Drop, S: SlotStack<Item = ArenaSlot<P, T>>>(
 }
 
 // Adds as many entries, the values from `first` on, and counts those that were added.
-pub(super) fn insert_many<P: Ptr, S: SlotStack<Item = Slot<P>>>(
+pub(super) fn insert_many<P: PtrKey, S: SlotStack<Item = Slot<P>>>(
     arena: &mut Arena<P, u32, S>,
     first: u32,
     n: u32,
@@ -34,7 +35,7 @@ pub(super) fn insert_many<P: Ptr, S: SlotStack<Item = Slot<P>>>(
 }
 
 // What an arena holds, as its iterator goes over it.
-fn iterated<P: Ptr, S: SlotStack<Item = Slot<P>>>(
+fn iterated<P: PtrKey + Debug, S: SlotStack<Item = Slot<P>>>(
     rt: &impl Abort,
     alloc: Global,
     arena: &Arena<P, u32, S>,
@@ -44,7 +45,7 @@ fn iterated<P: Ptr, S: SlotStack<Item = Slot<P>>>(
 }
 
 // What is taken out of an arena that is used up. A new one is left.
-fn drained<P: Ptr, S: SlotStack<Item = Slot<P>>>(
+fn drained<P: PtrKey + Debug, S: SlotStack<Item = Slot<P>>>(
     rt: &impl Abort,
     alloc: Global,
     arena: &mut Arena<P, u32, S>,
@@ -55,7 +56,7 @@ fn drained<P: Ptr, S: SlotStack<Item = Slot<P>>>(
 }
 
 // Moves an entry within the slots, and tells whether one stands there.
-fn moves<P: Ptr, T: Drop, S: SlotStack<Item = ArenaSlot<P, T>>>(
+fn moves<P: PtrKey, T: Drop, S: SlotStack<Item = ArenaSlot<P, T>>>(
     compactor: &mut Compactor<'_, P, T, S>,
     from: P::Inx,
     to: P::Inx,
@@ -74,7 +75,7 @@ fn moves<P: Ptr, T: Drop, S: SlotStack<Item = ArenaSlot<P, T>>>(
 }
 
 // The number of slots, whether an entry was moved, and what was counted.
-fn moved<P: Ptr, T: Drop, S: SlotStack<Item = ArenaSlot<P, T>>>(
+fn moved<P: PtrKey, T: Drop, S: SlotStack<Item = ArenaSlot<P, T>>>(
     arena: &mut Arena<P, T, S>,
     from: P::Inx,
     to: P::Inx,
@@ -87,7 +88,7 @@ fn moved<P: Ptr, T: Drop, S: SlotStack<Item = ArenaSlot<P, T>>>(
 }
 
 // The value that a compactor shows at an index.
-fn peeked<P: Ptr, S: SlotStack<Item = Slot<P>>>(
+fn peeked<P: PtrKey, S: SlotStack<Item = Slot<P>>>(
     compactor: &mut Compactor<'_, P, u32, S>,
     i: P::Inx,
 ) -> Option<u32> {
@@ -98,7 +99,7 @@ fn peeked<P: Ptr, S: SlotStack<Item = Slot<P>>>(
 }
 
 // The values that a compactor shows at two indexes, and that which it overwrites at the first.
-fn shown<P: Ptr, S: SlotStack<Item = Slot<P>>>(
+fn shown<P: PtrKey, S: SlotStack<Item = Slot<P>>>(
     compactor: &mut Compactor<'_, P, u32, S>,
     i: P::Inx,
     other: P::Inx,
@@ -111,7 +112,7 @@ fn shown<P: Ptr, S: SlotStack<Item = Slot<P>>>(
 }
 
 // What a compactor shows and overwrites, and what was counted.
-fn rewritten<P: Ptr, S: SlotStack<Item = Slot<P>>>(
+fn rewritten<P: PtrKey, S: SlotStack<Item = Slot<P>>>(
     arena: &mut Arena<P, u32, S>,
     i: P::Inx,
     other: P::Inx,

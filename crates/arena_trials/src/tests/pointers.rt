@@ -1,6 +1,7 @@
 // Pointer types of the tests: 8 bits of index, with a generation of any type.
-use arena_ptr::{Gen8, Inx8, Ptr, PtrGen};
+use arena_ptr::{Gen8, Inx8, Ptr, PtrGen, PtrKey};
 use std::fmt;
+use std::fmt::Debug;
 use std::process::Abort;
 
 // A type of generations that are numbers.
@@ -29,7 +30,7 @@ impl Counted for () {
 }
 
 // A pointer whose generations are numbers, so that a table can name it.
-pub(super) trait Numbered: Ptr {
+pub(super) trait Numbered: PtrKey + Debug {
     fn generation_of(rt: &impl Abort, n: u8) -> Self::Gen;
 
     fn number_of(generation: Self::Gen) -> u8;

@@ -3,7 +3,7 @@ use crate::tests::generic::take_all;
 use crate::tests::pointers::Numbered;
 use crate::tests::tools::{at, index, same, text};
 use arena_base::{Advancer, ArenaTrait};
-use arena_ptr::{InvalidationOption, Ptr, ReallocationError};
+use arena_ptr::{InvalidationOption, PtrKey, ReallocationError};
 use std::alloc::Global;
 use std::mem;
 use std::process::Abort;
@@ -75,7 +75,7 @@ pub(super) enum Call {
 pub(super) type Script = (&'static str, &'static [(Call, &'static str)]);
 
 // What an arena holds, as its indexes show it.
-fn listed<P: Ptr, A: ArenaTrait<P, u32>>(
+fn listed<P: PtrKey, A: ArenaTrait<P, u32>>(
     rt: &impl Abort,
     alloc: Global,
     arena: &A,
@@ -118,7 +118,7 @@ pub(super) fn overwritten(slot: Option<&mut u32>, value: u32) -> Option<u32> {
 type Three<P> = (Option<P>, Option<P>, Option<P>);
 
 // The first three answers of an advancer.
-fn thrice<P: Ptr, C, A: Advancer<C, Item = P>>(mut advancer: A, collection: &C) -> Three<P> {
+fn thrice<P: PtrKey, C, A: Advancer<C, Item = P>>(mut advancer: A, collection: &C) -> Three<P> {
     (
         advancer.advance(collection),
         advancer.advance(collection),
@@ -128,7 +128,7 @@ fn thrice<P: Ptr, C, A: Advancer<C, Item = P>>(mut advancer: A, collection: &C) 
 
 // Compresses an arena, adds to each value which call of the closure it was, or writes that alone, and lists what the
 // closure saw.
-fn compressed<P: Ptr, A: ArenaTrait<P, u32>>(
+fn compressed<P: PtrKey, A: ArenaTrait<P, u32>>(
     rt: &impl Abort,
     alloc: Global,
     arena: &mut A,
@@ -187,7 +187,7 @@ fn look_answer<P: Numbered, A: ArenaTrait<P, u32>>(
 }
 
 // Whether an arena that is born with room for so many entries is empty, and has the room.
-fn born<P: Ptr, A: ArenaTrait<P, u32> + Drop>(alloc: Global, n: usize) -> Option<(bool, bool)> {
+fn born<P: PtrKey, A: ArenaTrait<P, u32> + Drop>(alloc: Global, n: usize) -> Option<(bool, bool)> {
     match A::with_min_capacity(alloc, n) {
         Ok(arena) => Some((arena.is_empty(), arena.capacity() >= n)),
         Err(_) => None,
@@ -195,7 +195,7 @@ fn born<P: Ptr, A: ArenaTrait<P, u32> + Drop>(alloc: Global, n: usize) -> Option
 }
 
 // Clears an arena, and asks for as much room as there was. Tells both answers, and whether the capacity stays.
-fn cleared<P: Ptr, A: ArenaTrait<P, u32>>(
+fn cleared<P: PtrKey, A: ArenaTrait<P, u32>>(
     arena: &mut A,
 ) -> (InvalidationOption<()>, Result<(), ReallocationError>, bool) {
     let capacity = arena.capacity();

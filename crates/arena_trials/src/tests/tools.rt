@@ -1,7 +1,7 @@
 // What the tests share: one comparison, texts of answers, and what has to be there.
 use crate::tests::pointers::Numbered;
 use arena_base::ArenaSlot;
-use arena_ptr::{Gen8, Gen32, Gen64, Inx8, Inx32, Inx64, PtrInx};
+use arena_ptr::{Gen8, Gen32, Gen64, Inx8, Inx32, Inx64, InxKey};
 use std::alloc::Global;
 use std::fmt::Debug;
 use std::process::Abort;
@@ -42,7 +42,7 @@ pub(super) fn gen64(rt: &impl Abort, n: u64) -> Gen64 {
 }
 
 // An index of any type.
-pub(super) fn index<I: PtrInx>(rt: &impl Abort, n: u8) -> I {
+pub(super) fn index<I: InxKey>(rt: &impl Abort, n: u8) -> I {
     I::try_from_usize(n as usize).expect(rt, "an index")
 }
 

@@ -10,7 +10,7 @@ invariant-loop-p g l = record {
   from : ℕ;
   looks : g.A.ArenaTrait.looks l.advancer ≡ Up from;
   rises : RisesFrom from (g.A.ArenaTrait.seen l.arena).entries;
-  all : map (keyed g.P.Ptr.key) l.taken.items ++ (g.A.ArenaTrait.seen l.arena).entries ≡ (g.A.ArenaTrait.seen l.fn.arena).entries;
+  all : map (keyed g.P.PtrKey.key) l.taken.items ++ (g.A.ArenaTrait.seen l.arena).entries ≡ (g.A.ArenaTrait.seen l.fn.arena).entries;
 }
 
 abbrev pub decreases-loop-p : goal.decreases-loop-p
