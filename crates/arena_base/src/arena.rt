@@ -15,8 +15,9 @@ use crate::look::Look;
 use crate::slot::{ArenaSlot, fill, inx_at, position_of, regenerate_at, vacate_at};
 use crate::tally::Tally;
 use arena_ptr::{
-    HeapStack, InvalidationOption, InvalidationResult, LimitStack, MaxCapacityReductionError,
-    NotWithinCapacityError, PtrKey, GenKey, InxKey, ReallocationError, SetMaxCapacity, SlotStack,
+    GenKey, HeapStack, InvalidationOption, InvalidationResult, InxKey, LimitStack,
+    MaxCapacityReductionError, NotWithinCapacityError, PtrKey, ReallocationError, SetMaxCapacity,
+    SlotStack,
 };
 use std::marker::Model;
 use std::mem;

@@ -12,7 +12,7 @@ use crate::arena::{Arena, invalidated, outcome};
 use crate::slot::{ArenaSlot, number_of, position_of};
 use crate::traits::{ArenaTrait, CompactArenaTrait};
 use arena_ptr::{
-    AllocError, InvalidationOption, InvalidationResult, PtrKey, GenKey, InxKey, ReallocationError,
+    AllocError, GenKey, InvalidationOption, InvalidationResult, InxKey, PtrKey, ReallocationError,
     SlotStack,
 };
 use std::alloc::Global;

@@ -39,11 +39,12 @@ fn close_gap<P: PtrKey, T: Drop, S: SlotStack<Item = ArenaSlot<P, T>>>(
 // Brings each entry to the first index that is free, by rising index, gives it the generation, and shows it to the
 // closure: with the pointer that it had, its value, for writing, and the pointer that it has. Each slot is looked at
 // once, and each value lent once.
-fn close_gaps<P: PtrKey, T: Drop, S: SlotStack<Item = ArenaSlot<P, T>>, F: FnMut(P, &mut T, P) + Drop>(
-    compactor: &mut Compactor<'_, P, T, S>,
-    generation: P::Gen,
-    mut map: F,
-)
+fn close_gaps<
+    P: PtrKey,
+    T: Drop,
+    S: SlotStack<Item = ArenaSlot<P, T>>,
+    F: FnMut(P, &mut T, P) + Drop,
+>(compactor: &mut Compactor<'_, P, T, S>, generation: P::Gen, mut map: F)
     requires callable { F.IsAlwaysCallable map }
     requires fits { length compactor.old.held.slots ≤ P.Inx.greatest }
     ensures same_reference { compactor.new.arena.ghost_name ≡ compactor.old.arena.ghost_name }

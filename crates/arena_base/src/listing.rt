@@ -4,7 +4,7 @@ ghost use Rattle.arena_base.specs.Slots.{entry_of, IsSound};
 ghost use Rattle.arena_base.specs.Compacting.{trimmed, free_from};
 
 use crate::slot::{ArenaSlot, is_free_at, list_at};
-use arena_ptr::{PtrKey, InxKey, SlotStack};
+use arena_ptr::{InxKey, PtrKey, SlotStack};
 
 // Cuts off the free slots at the end.
 pub(crate) fn trim<P: PtrKey, T: Drop, S: SlotStack<Item = ArenaSlot<P, T>>>(slots: &mut S)

@@ -15,7 +15,7 @@ ghost use Rattle.arena_base.specs.declared.look.Look.{Look};
 use crate::arena::Arena;
 use crate::slot::ArenaSlot;
 use arena_ptr::{
-    AllocError, InvalidationOption, InvalidationResult, PtrKey, GenKey, InxKey, ReallocationError,
+    AllocError, GenKey, InvalidationOption, InvalidationResult, InxKey, PtrKey, ReallocationError,
     SlotStack,
 };
 use std::alloc::Global;

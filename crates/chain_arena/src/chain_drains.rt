@@ -14,7 +14,7 @@ ghost use Rattle.chain_arena.specs.Drains.{walk_left, without_each, IsDrainStep,
 use crate::chain_arena::ChainArena;
 use crate::insert_entry::number_or_zero;
 use arena_base::{ArenaSlot, ArenaTrait, invalidated};
-use arena_ptr::{HeapStack, InvalidationOption, PtrKey, InxKey, SlotStack};
+use arena_ptr::{HeapStack, InvalidationOption, InxKey, PtrKey, SlotStack};
 use chain_links::LinkNoGen;
 use chain_links::walks::going_on;
 use chain_traits::ChainArenaTrait;

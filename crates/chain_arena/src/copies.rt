@@ -10,7 +10,7 @@ ghost use Rattle.chain_arena.specs.Copies.{IsLinkCopy, IsClone, IsCopyBelow};
 
 use crate::chain_arena::ChainArena;
 use arena_base::{Arena, ArenaCloneFromWith, ArenaSlot, ArenaTrait, ValueMap};
-use arena_ptr::{AllocError, PackedOption, PtrKey, InxKey, ReallocationError, SlotStack};
+use arena_ptr::{AllocError, InxKey, PackedOption, PtrKey, ReallocationError, SlotStack};
 use chain_links::{LinkBody, LinkNoGen};
 use std::alloc::Global;
 

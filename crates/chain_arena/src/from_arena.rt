@@ -6,7 +6,7 @@ ghost use Rattle.chain_links.specs.Links.{seen_links};
 
 use crate::chain_arena::ChainArena;
 use arena_base::{Arena, ArenaSlot};
-use arena_ptr::{PtrKey, InxKey, SlotStack};
+use arena_ptr::{InxKey, PtrKey, SlotStack};
 use chain_interlinks::links_agree;
 use chain_links::LinkNoGen;
 

@@ -11,7 +11,7 @@ ghost use Rattle.chain_links.specs.ChainArena.{seen, shown};
 use crate::chain_arena::ChainArena;
 use arena_base::{Advancer, Arena, ArenaSlot, ArenaTrait, CompactArenaTrait, PtrAdvancer};
 use arena_ptr::{
-    AllocError, InvalidationOption, InvalidationResult, PtrKey, GenKey, InxKey, ReallocationError,
+    AllocError, GenKey, InvalidationOption, InvalidationResult, InxKey, PtrKey, ReallocationError,
     SlotStack,
 };
 use chain_layout::compress::{begin_generation, gather};

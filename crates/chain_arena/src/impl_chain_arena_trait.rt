@@ -26,7 +26,7 @@ use crate::chain_advancer::ChainPtrAdvancer;
 use crate::chain_arena::ChainArena;
 use arena_base::{Advancer, ArenaSlot, ArenaTrait};
 use arena_ptr::{
-    ChainInsertionError, InvalidationOption, InvalidationResult, PtrKey, GenKey, InxKey,
+    ChainInsertionError, GenKey, InvalidationOption, InvalidationResult, InxKey, PtrKey,
     ReallocationError, SlotStack,
 };
 use chain_interlinks::gaps::{is_index, next_of as next_of_link, prev_of as prev_of_link};

@@ -7,7 +7,7 @@ ghost use Rattle.chain_links.specs.ChainArena.{entry, with_value_at};
 
 use crate::chain_arena::ChainArena;
 use arena_base::{ArenaSlot, ArenaTrait};
-use arena_ptr::{PtrKey, InxKey, SlotStack};
+use arena_ptr::{InxKey, PtrKey, SlotStack};
 use chain_links::LinkNoGen;
 use std::ops::{Index, IndexMut};
 

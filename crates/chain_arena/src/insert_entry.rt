@@ -13,7 +13,7 @@ ghost use Rattle.chain_interlinks.specs.Gaps.{before_in, after_in};
 
 use crate::chain_arena::ChainArena;
 use arena_base::{ArenaSlot, ArenaTrait};
-use arena_ptr::{ChainInsertionError, HeapStack, PtrKey, InxKey, ReallocationError, SlotStack};
+use arena_ptr::{ChainInsertionError, HeapStack, InxKey, PtrKey, ReallocationError, SlotStack};
 use chain_interlinks::gaps::Gap;
 use chain_interlinks::placing::around;
 use chain_links::{LinkInsertKind, LinkNoGen};
@@ -190,12 +190,12 @@ impl<P: PtrKey, T: Drop, S: SlotStack<Item = ArenaSlot<P, LinkNoGen<P, T>>>> Cha
     }
 }
 
-impl<'a, P: PtrKey, T: Drop, S: SlotStack<Item = ArenaSlot<P, LinkNoGen<P, T>>>> ChainArenaInsertEntry<
+impl<
     'a,
-    P,
-    T,
-    S,
-> {
+    P: PtrKey,
+    T: Drop,
+    S: SlotStack<Item = ArenaSlot<P, LinkNoGen<P, T>>>,
+> ChainArenaInsertEntry<'a, P, T, S> {
     /// The pointer that the link gets.
     pub fn ptr(&self) -> P
         ensures { P.key result ≡ (next_index self.now.arena.now, self.now.arena.now.counter) }

@@ -7,7 +7,7 @@ ghost use Rattle.chain_links.specs.Links.{seen_entries};
 
 use crate::chain_arena::ChainArena;
 use arena_base::{Arena, ArenaSlot, ArenaTrait, CapacityDrain, Iter};
-use arena_ptr::{HeapStack, PtrKey, InxKey, SlotStack};
+use arena_ptr::{HeapStack, InxKey, PtrKey, SlotStack};
 use chain_links::LinkNoGen;
 use std::marker::Model;
 

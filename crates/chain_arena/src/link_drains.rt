@@ -9,7 +9,7 @@ ghost use Rattle.chain_arena.specs.Drains.{entries_left, without_each, IsLinkDra
 use crate::chain_arena::ChainArena;
 use crate::insert_entry::number_or_zero;
 use arena_base::{Advancer, ArenaSlot, ArenaTrait, invalidated};
-use arena_ptr::{HeapStack, InvalidationOption, PtrKey, InxKey, SlotStack};
+use arena_ptr::{HeapStack, InvalidationOption, InxKey, PtrKey, SlotStack};
 use chain_links::LinkNoGen;
 
 /// The removal of all links: an iterator that removes each link as it yields it, by rising index. A link comes as its

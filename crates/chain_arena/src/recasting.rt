@@ -24,8 +24,9 @@ fn recast_at<
     }
 }
 
-impl<P: PtrKey, I, T: Recast<I> + Drop, S: SlotStack<Item = ArenaSlot<P, LinkNoGen<P, T>>>> Recast<I>
-    for ChainArena<P, T, S> {
+impl<P: PtrKey, I, T: Recast<I> + Drop, S: SlotStack<Item = ArenaSlot<P, LinkNoGen<P, T>>>> Recast<
+    I,
+> for ChainArena<P, T, S> {
     ghost use Rattle.chain_arena.specs.Recasting.{IsRecast};
 
     ghost recast_by = { λ recasts old new answer. IsRecast (T.recast_by recasts) old new answer };

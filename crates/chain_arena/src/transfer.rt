@@ -11,7 +11,7 @@ ghost use Rattle.chain_arena.specs.Transfers.{LaysOutAlike, IsTransfer, AreEnds}
 
 use crate::chain_arena::ChainArena;
 use arena_base::{Advancer, ArenaSlot, ArenaTrait, CompactArenaTrait};
-use arena_ptr::{InvalidationOption, PtrKey, InxKey, ReallocationError, SlotStack};
+use arena_ptr::{InvalidationOption, InxKey, PtrKey, ReallocationError, SlotStack};
 use chain_interlinks::gaps::Gap;
 use chain_links::LinkNoGen;
 use chain_traits::ChainArenaTrait;

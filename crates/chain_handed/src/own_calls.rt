@@ -11,7 +11,7 @@ ghost use Rattle.chain_arena.specs.Drains.{walk_left, without_each};
 ghost use Rattle.chain_arena.specs.Transfers.{IsTransfer};
 
 use arena_base::{ArenaSlot, ArenaTrait, CompactArenaTrait, Work};
-use arena_ptr::{InvalidationOption, PtrKey, InxKey, ReallocationError, SlotStack};
+use arena_ptr::{InvalidationOption, InxKey, PtrKey, ReallocationError, SlotStack};
 use chain_arena::{ChainArena, ChainArenaTrait, LinkNoGen};
 
 /// `ChainArena::drain_chain`, dropped at once: removes all links of a pointer's chain. `None`: the pointer is not valid, and

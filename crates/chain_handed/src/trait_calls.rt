@@ -7,11 +7,15 @@ ghost use Rattle.chain_laws.specs.Operations.{joined};
 ghost use Rattle.chain_links.specs.ChainArena.{CanConnect};
 ghost use Rattle.chain_links.specs.CanonicalLayouts.{IsCanonicalLayout};
 
-use arena_ptr::{InvalidationOption, PtrKey, GenKey, InxKey};
+use arena_ptr::{GenKey, InvalidationOption, InxKey, PtrKey};
 use chain_arena::ChainArenaTrait;
 
 /// `ChainArenaTrait::connect`.
-pub fn connect<P: PtrKey, T: Drop, A: ChainArenaTrait<P, T>>(arena: &mut A, p: P, q: P) -> Option<()>
+pub fn connect<P: PtrKey, T: Drop, A: ChainArenaTrait<P, T>>(
+    arena: &mut A,
+    p: P,
+    q: P,
+) -> Option<()>
     ensures some { IsSome result ↔ CanConnect (A.entry arena.old) (A.interlinks arena.old) (P.key p) (P.key q) }
     ensures joined { OnSome result (A.interlinks arena.new ≡ joined (A.interlinks arena.old) (P.key p).0 (P.key q).0) }
     ensures seen { OnSome result (A.seen arena.new ≡ A.seen arena.old) }

@@ -8,7 +8,7 @@ ghost use Rattle.chain_links.specs.Links.{seen_links};
 
 use crate::gaps::is_index;
 use arena_base::{Arena, ArenaSlot, ArenaTrait, inx_at};
-use arena_ptr::{PtrKey, InxKey, SlotStack};
+use arena_ptr::{InxKey, PtrKey, SlotStack};
 use chain_links::LinkNoGen;
 use chain_links::facts::has_room;
 

@@ -9,7 +9,7 @@ ghost use Rattle.chain_links.specs.Kinds.{HasName, name_of, named_in};
 ghost use Rattle.chain_interlinks.specs.Gaps.{IsGapOf};
 
 use arena_base::{Arena, ArenaSlot, ArenaTrait};
-use arena_ptr::{PtrKey, InxKey, SlotStack};
+use arena_ptr::{InxKey, PtrKey, SlotStack};
 use chain_links::LinkNoGen;
 use chain_links::kinds::{Name, NamedKind, index_of};
 

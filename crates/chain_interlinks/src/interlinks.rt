@@ -9,7 +9,7 @@ ghost use Rattle.chain_links.specs.Links.{seen_links, seen_pair};
 
 use arena_base::{Arena, ArenaSlot, ArenaTrait, outcome};
 use arena_ptr::{
-    ChainInsertionError, InvalidationResult, PtrKey, InxKey, ReallocationError, SlotStack,
+    ChainInsertionError, InvalidationResult, InxKey, PtrKey, ReallocationError, SlotStack,
 };
 use chain_links::LinkNoGen;
 

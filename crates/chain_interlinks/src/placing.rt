@@ -8,7 +8,7 @@ ghost use Rattle.chain_interlinks.specs.Gaps.{before_in, after_in, named_before,
 use crate::gaps::Gap;
 use crate::interlinks::{set_next, set_prev};
 use arena_base::{Arena, ArenaSlot};
-use arena_ptr::{PtrKey, InxKey, SlotStack};
+use arena_ptr::{InxKey, PtrKey, SlotStack};
 use chain_links::{LinkBody, LinkNoGen};
 
 /// The new link of a gap. Where it is its own neighbor it names none yet, since its index is not known.

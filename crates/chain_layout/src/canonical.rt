@@ -16,7 +16,7 @@ use crate::moving::move_all;
 use crate::numbering::number_all;
 use crate::visiting::Visitor;
 use arena_base::{Arena, ArenaSlot, Compactor, SlotAccess, Work, inx_at};
-use arena_ptr::{PtrKey, InxKey, SlotStack};
+use arena_ptr::{InxKey, PtrKey, SlotStack};
 use chain_links::LinkNoGen;
 use chain_links::facts::has_room;
 
@@ -101,10 +101,12 @@ fn rename_all<P: PtrKey, T: Drop, S: SlotStack<Item = ArenaSlot<P, LinkNoGen<P, 
 /// Lays the links out: each gets its destination, names those of its neighbors, and moves there, with the counter as its
 /// generation. The visitor sees each, by the pointer that it had and the one that it has. The slots are exactly the links
 /// then.
-pub fn lay_out<P: PtrKey, T: Drop, S: SlotStack<Item = ArenaSlot<P, LinkNoGen<P, T>>>, V: Visitor<P>>(
-    arena: &mut Arena<P, LinkNoGen<P, T>, S>,
-    visitor: V,
-) -> (V, Work)
+pub fn lay_out<
+    P: PtrKey,
+    T: Drop,
+    S: SlotStack<Item = ArenaSlot<P, LinkNoGen<P, T>>>,
+    V: Visitor<P>,
+>(arena: &mut Arena<P, LinkNoGen<P, T>, S>, visitor: V) -> (V, Work)
     requires ready { V.is_ready visitor }
     requires agree { Agrees (shown (seen_links P.Inx.packed_number arena.old)) }
     ensures laid { AreLaidOut V.sees P.key visitor result.0 (seen_links P.Inx.packed_number arena.old) (seen_links P.Inx.packed_number arena.new) }

@@ -18,7 +18,7 @@ ghost use Rattle.chain_layout.specs.Compressions.{AreGathered};
 
 use crate::looking::look_at;
 use arena_base::{Arena, ArenaSlot, ArenaTrait, Compactor, SlotAccess, inx_at};
-use arena_ptr::{InvalidationOption, PtrKey, GenKey, InxKey, SlotStack};
+use arena_ptr::{GenKey, InvalidationOption, InxKey, PtrKey, SlotStack};
 use chain_links::LinkNoGen;
 use chain_links::facts::has_room;
 

@@ -10,7 +10,7 @@ ghost use Rattle.chain_layout.specs.Looks.{HasLooked};
 ghost use Rattle.chain_layout.specs.Numbering.{given, IsDirectedAt};
 
 use arena_base::{ArenaSlot, Compactor, SlotAccess};
-use arena_ptr::{PtrKey, InxKey, SlotStack};
+use arena_ptr::{InxKey, PtrKey, SlotStack};
 use chain_links::LinkNoGen;
 
 // Of the link at an index, if one stands there: its generation, the indexes of the links before and after it, and its

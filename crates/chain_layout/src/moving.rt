@@ -8,7 +8,7 @@ ghost use Rattle.chain_layout.specs.Counts.{CountsOn};
 ghost use Rattle.chain_layout.specs.Moving.{Waits, WaitsWithin, IsSettling, HaveMoved, CanMoveAll, waiting, goal_of, Settles, IsTakenOut, IsWorkOn};
 
 use arena_base::{ArenaSlot, Compactor, SlotAccess, inx_at};
-use arena_ptr::{PtrKey, InxKey, SlotStack};
+use arena_ptr::{InxKey, PtrKey, SlotStack};
 use chain_links::LinkNoGen;
 
 // Takes the destination of the link at an index out, where a link stands there that has one.

@@ -9,7 +9,7 @@ ghost use Rattle.chain_layout.specs.Numbering.{seen_held, given, CanNumber, IsCh
 use crate::looking::{direct_at, look_at};
 use crate::visiting::Visitor;
 use arena_base::{ArenaSlot, Compactor, inx_at};
-use arena_ptr::{PtrKey, InxKey, SlotStack};
+use arena_ptr::{InxKey, PtrKey, SlotStack};
 use chain_links::LinkNoGen;
 use chain_links::walks::going_on;
 
@@ -48,7 +48,12 @@ fn start_at<P: PtrKey, T: Drop, S: SlotStack<Item = ArenaSlot<P, LinkNoGen<P, T>
 
 // Numbers a chain from its start, where so many links were numbered before, and shows each link to the visitor, by the
 // pointer that it has and the one that it gets. Answers the visitor, and how many are numbered then.
-fn number_chain<P: PtrKey, T: Drop, S: SlotStack<Item = ArenaSlot<P, LinkNoGen<P, T>>>, V: Visitor<P>>(
+fn number_chain<
+    P: PtrKey,
+    T: Drop,
+    S: SlotStack<Item = ArenaSlot<P, LinkNoGen<P, T>>>,
+    V: Visitor<P>,
+>(
     compactor: &mut Compactor<'_, P, LinkNoGen<P, T>, S>,
     start: P::Inx,
     before: usize,

@@ -1,7 +1,7 @@
 ghost use Rattle.std.specs.Prelude.{◌≡◌};
 ghost use Rattle.chain_links.specs.Kinds.{names_in, named_in, name_of};
 
-use arena_ptr::{PtrKey, InxKey};
+use arena_ptr::{InxKey, PtrKey};
 
 /// Where a new link comes, beside links that are named by pointers of a type `P` or by indexes of a type `I`.
 ///

@@ -2,7 +2,7 @@ ghost use Rattle.std.specs.Prelude.{◌≡◌, None};
 ghost use Rattle.std.specs.Option.{option_map};
 ghost use Rattle.chain_links.specs.Links.{seen_link, index_in};
 
-use arena_ptr::{PackedOption, PtrKey, InxKey, ToolPtr};
+use arena_ptr::{InxKey, PackedOption, PtrKey, ToolPtr};
 use std::alloc::AllocError;
 
 /// A link with interlinks of a type `K`, each an optional index: the links before it and after it, and its value.

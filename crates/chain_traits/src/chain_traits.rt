@@ -23,7 +23,7 @@ ghost use Rattle.chain_links.specs.Walkers.{IsPassing};
 
 use arena_base::{Advancer, ArenaTrait};
 use arena_ptr::{
-    ChainInsertionError, InvalidationOption, InvalidationResult, PtrKey, GenKey, InxKey,
+    ChainInsertionError, GenKey, InvalidationOption, InvalidationResult, InxKey, PtrKey,
     ReallocationError,
 };
 use chain_links::{Link, LinkInsertKind, LinkNoGen};

@@ -3,7 +3,8 @@
 
 use arena_base::{Advancer, ArenaTrait, CompactArenaTrait};
 use arena_ptr::{
-    AllocError, ChainInsertionError, InvalidationOption, InvalidationResult, PtrKey, ReallocationError,
+    AllocError, ChainInsertionError, InvalidationOption, InvalidationResult, PtrKey,
+    ReallocationError,
 };
 use chain_links::{Link, LinkInsertKind, LinkNoGen};
 use chain_traits::ChainArenaTrait;

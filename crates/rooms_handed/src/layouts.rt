@@ -6,16 +6,18 @@ ghost use Rattle.chain_links.specs.Links.{seen_links};
 ghost use Rattle.chain_layout.specs.Layouts.{AreLaidOut};
 
 use arena_base::{Arena, ArenaSlot, Work};
-use arena_ptr::{PtrKey, InxKey, SlotStack};
+use arena_ptr::{InxKey, PtrKey, SlotStack};
 use chain_layout::canonical;
 use chain_layout::visiting::Visitor;
 use chain_links::LinkNoGen;
 
 /// `chain_layout::canonical::lay_out`.
-pub fn lay_out<P: PtrKey, T: Drop, S: SlotStack<Item = ArenaSlot<P, LinkNoGen<P, T>>>, V: Visitor<P>>(
-    arena: &mut Arena<P, LinkNoGen<P, T>, S>,
-    visitor: V,
-) -> (V, Work)
+pub fn lay_out<
+    P: PtrKey,
+    T: Drop,
+    S: SlotStack<Item = ArenaSlot<P, LinkNoGen<P, T>>>,
+    V: Visitor<P>,
+>(arena: &mut Arena<P, LinkNoGen<P, T>, S>, visitor: V) -> (V, Work)
     requires ready { V.is_ready visitor }
     requires agree { Agrees (shown (seen_links P.Inx.packed_number arena.old)) }
     ensures laid { AreLaidOut V.sees P.key visitor result.0 (seen_links P.Inx.packed_number arena.old) (seen_links P.Inx.packed_number arena.new) }

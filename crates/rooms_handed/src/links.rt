@@ -8,7 +8,7 @@ ghost use Rattle.chain_links.specs.ChainArena.{shown, relinked, remove_link};
 ghost use Rattle.chain_links.specs.Links.{seen_links, seen_pair};
 
 use arena_base::{Arena, ArenaSlot};
-use arena_ptr::{InvalidationResult, PtrKey, InxKey, SlotStack};
+use arena_ptr::{InvalidationResult, InxKey, PtrKey, SlotStack};
 use chain_interlinks::interlinks;
 use chain_links::LinkNoGen;
 

@@ -13,7 +13,9 @@ mod transfers;
 
 use self::pointers::Pair;
 use arena_base::{Advancer, ArenaSlot, ArenaTrait};
-use arena_ptr::{Gen8, Gen32, LimitStack, Ptr, PtrGen, PtrInx, SetMaxCapacity, SlotStack, ToolPtr};
+use arena_ptr::{
+    Gen8, Gen32, InxKey, LimitStack, PtrGen, PtrInx, PtrKey, SetMaxCapacity, SlotStack, ToolPtr,
+};
 use chain_arena::{ChainArena, ChainArenaTrait, LinkInsertKind, LinkNoGen};
 use std::alloc::Global;
 use std::fmt::Debug;
@@ -35,7 +37,7 @@ type Row = (At, u32, At, At);
 const NONE: At = (0, 0);
 
 // A pointer whose generations are numbers, so that a table can name it.
-trait Numbered: Ptr {
+trait Numbered: PtrKey + Debug {
     fn generation_of(rt: &impl Abort, n: u32) -> Self::Gen;
 
     fn number_of(generation: Self::Gen) -> u32;
@@ -108,7 +110,7 @@ fn text<T: Debug + Drop>(rt: &impl Abort, alloc: Global, answer: T) -> String {
 }
 
 // An index.
-fn index<I: PtrInx>(rt: &impl Abort, inx: u32) -> I {
+fn index<I: InxKey>(rt: &impl Abort, inx: u32) -> I {
     I::try_from_usize(inx as usize).expect(rt, "an index")
 }
 
@@ -118,7 +120,7 @@ fn at<P: Numbered>(rt: &impl Abort, p: At) -> P {
 }
 
 // The number of an index.
-fn number<I: PtrInx>(rt: &impl Abort, i: I) -> u32 {
+fn number<I: InxKey>(rt: &impl Abort, i: I) -> u32 {
     let number = i.try_into_usize().expect(rt, "a small index");
     u32::try_from(number).ok().expect(rt, "a small index")
 }
@@ -132,7 +134,7 @@ fn numbers<P: Numbered>(rt: &impl Abort, p: Option<P>) -> At {
 }
 
 // Adds a link to a chain arena.
-fn put<P: Ptr, T: Drop, S: SlotStack<Item = ArenaSlot<P, LinkNoGen<P, T>>>>(
+fn put<P: PtrKey, T: Drop, S: SlotStack<Item = ArenaSlot<P, LinkNoGen<P, T>>>>(
     rt: &impl Abort,
     arena: &mut ChainArena<P, T, S>,
     kind: LinkInsertKind<P>,
@@ -143,7 +145,7 @@ fn put<P: Ptr, T: Drop, S: SlotStack<Item = ArenaSlot<P, LinkNoGen<P, T>>>>(
 }
 
 // A chain arena with a maximum.
-fn limited<P: Ptr, T: Drop, S: LimitStack<Item = ArenaSlot<P, LinkNoGen<P, T>>>>(
+fn limited<P: PtrKey, T: Drop, S: LimitStack<Item = ArenaSlot<P, LinkNoGen<P, T>>>>(
     rt: &impl Abort,
     alloc: Global,
     most: usize,
@@ -173,7 +175,7 @@ fn tied_links<P: Numbered, A: ChainArenaTrait<P, u32> + Drop>(
 }
 
 // The index of a pointer.
-fn inx_of<P: Ptr>(p: Option<P>) -> Option<P::Inx> {
+fn inx_of<P: PtrKey>(p: Option<P>) -> Option<P::Inx> {
     match p {
         Some(p) => Some(p.inx()),
         None => None,

@@ -6,13 +6,13 @@ ghost use Rattle.arena_base.specs.Arena.{IsValid};
 
 use super::{At, NONE, Numbered, at, numbers, tied_links};
 use arena_base::Advancer;
-use arena_ptr::Ptr;
+use arena_ptr::PtrKey;
 use chain_arena::ChainArenaTrait;
 use std::alloc::{AllocError, Global};
 use std::process::Abort;
 
 // The pointers that an advancer along the chain of p answers over an arena that stays: the walk.
-pub(super) fn walk_along<P: Ptr, T: Drop, A: ChainArenaTrait<P, T>>(
+pub(super) fn walk_along<P: PtrKey, T: Drop, A: ChainArenaTrait<P, T>>(
     alloc: Global,
     arena: &A,
     p: P,

@@ -9,11 +9,11 @@ ghost use Rattle.arena_base.specs.Arena.{IsValid};
 ghost use Rattle.trait_trials.specs.Behind.{Extends};
 ghost use Rattle.chain_links.specs.ChainArena.{IsInserted};
 
-use arena_ptr::{ChainInsertionError, Ptr, PtrInx};
+use arena_ptr::{ChainInsertionError, InxKey, PtrKey};
 use chain_arena::{ChainArenaTrait, LinkInsertKind};
 
 // The number of links of any arena: each stands in one chain, and no two sets of chains say what the arena shows.
-pub(super) fn count_of_links<P: Ptr, T: Drop, A: ChainArenaTrait<P, T>>(arena: &A) -> usize
+pub(super) fn count_of_links<P: PtrKey, T: Drop, A: ChainArenaTrait<P, T>>(arena: &A) -> usize
     ensures count { result ≡ length (A.seen arena.now).entries }
     ensures chains { HasOneSetOfChains (A.interlinks arena.now) }
 {
@@ -23,7 +23,7 @@ pub(super) fn count_of_links<P: Ptr, T: Drop, A: ChainArenaTrait<P, T>>(arena: &
 
 // Adds a link behind the end of a chain and answers its pointer. `None`: the pointer is not valid or its link has a next
 // one, and what stood before stands as it did.
-pub(super) fn add_behind<P: Ptr, T: Drop, A: ChainArenaTrait<P, T>>(
+pub(super) fn add_behind<P: PtrKey, T: Drop, A: ChainArenaTrait<P, T>>(
     arena: &mut A,
     p: P,
     t: T,
@@ -47,7 +47,7 @@ pub(super) fn add_behind<P: Ptr, T: Drop, A: ChainArenaTrait<P, T>>(
 }
 
 // Takes a link out of any arena of links, and answers the index of the one after it.
-pub(super) fn take_next<P: Ptr, T: Drop, A: ChainArenaTrait<P, T>>(
+pub(super) fn take_next<P: PtrKey, T: Drop, A: ChainArenaTrait<P, T>>(
     arena: &mut A,
     i: P::Inx,
 ) -> Option<P::Inx>

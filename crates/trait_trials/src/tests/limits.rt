@@ -3,7 +3,7 @@
 use super::pointers::{BarePtr, Pair, SmallPtr, TinyInx, TinyPtr, WidePtr};
 use super::scripts::{Do, Kind, Line, Script, plays_all};
 use super::transfers::{AT_THE_GREATEST_GENERATION, WIDE, WITHOUT_GENERATIONS};
-use super::{Counted, Slot, limited, same};
+use super::{Counted, NONE, Row, Slot, limited, same};
 use arena_base::{ArenaSlot, ArenaTrait};
 use arena_ptr::{Gen8, Gen32, HeapStack, Inx8, Inx64, LimitStack, LimitedStack, PtrInx, SlotStack};
 use chain_arena::{ChainArena, ChainArenaTrait, LinkInsertKind, LinkNoGen};
@@ -17,6 +17,9 @@ const LONE: Kind = Kind::Disconnected;
 const FIRST: &str = "Ok(Pair { inx: Inx8 { number: 1 }, generation: () })";
 
 const SECOND: &str = "Ok(Pair { inx: Inx8 { number: 2 }, generation: () })";
+
+// A ring of two without generations.
+const BARE_RING: [Row; 2] = [((1, 0), 1, (2, 0), (2, 0)), ((2, 0), 2, (1, 0), (1, 0))];
 
 // An index of 8 bits.
 const INDEXES: [Script; 5] = [
@@ -61,16 +64,13 @@ const INDEXES: [Script; 5] = [
             Line::Says(Do::Insert(LONE, 2), SECOND),
             Line::Says(Do::Connect((1, 0), (2, 0)), "Some(())"),
             Line::Says(Do::Connect((2, 0), (1, 0)), "Some(())"),
-            Line::Says(Do::Debug, "{Bare[1]: {2, 2} 1, Bare[2]: {1, 1} 2}"),
+            Line::Shows(&BARE_RING),
             Line::Says(Do::Remove((2, 0)), "Success(2)"),
             Line::Says(Do::Link((2, 0)), "None"),
-            Line::Says(Do::Debug, "{Bare[1]: {1, 1} 1}"),
+            Line::Shows(&[((1, 0), 1, (1, 0), (1, 0))]),
             Line::Says(Do::Insert(LONE, 9), SECOND),
-            Line::Says(Do::Link((2, 0)), "Some({(start), (end)} 9)"),
-            Line::Says(
-                Do::Debug,
-                "{Bare[1]: {1, 1} 1, Bare[2]: {(start), (end)} 9}",
-            ),
+            Line::Says(Do::Link((2, 0)), "Some(((0, 0), (0, 0), 9))"),
+            Line::Shows(&[((1, 0), 1, (1, 0), (1, 0)), ((2, 0), 9, NONE, NONE)]),
         ],
     ),
     WITHOUT_GENERATIONS,
@@ -119,10 +119,7 @@ const GENERATIONS: [Script; 3] = [
             ),
             Line::Says(Do::Canonical(false), "GenerationOverflow(())"),
             Line::Says(Do::Generation, "2"),
-            Line::Says(
-                Do::Debug,
-                "{Bare[1](2): {(start), (end)} 1, Bare[2](2): {(start), (end)} 2}",
-            ),
+            Line::Shows(&[((1, 2), 1, NONE, NONE), ((2, 2), 2, NONE, NONE)]),
         ],
     ),
     AT_THE_GREATEST_GENERATION,
@@ -147,9 +144,9 @@ const TWO_INDEXES: [Script; 1] = [(
         Line::Says(Do::Connect((2, 0), (1, 0)), "Some(())"),
         Line::Says(Do::Insert(LONE, 3), "Err(AllocError)"),
         Line::Says(Do::Apply(LONE, 3), "Err(AllocError)"),
-        Line::Says(Do::Debug, "{Bare[1]: {2, 2} 1, Bare[2]: {1, 1} 2}"),
-        Line::Says(Do::Link((1, 0)), "Some({2, 2} 1)"),
-        Line::Says(Do::Link((2, 0)), "Some({1, 1} 2)"),
+        Line::Shows(&BARE_RING),
+        Line::Says(Do::Link((1, 0)), "Some(((2, 0), (2, 0), 1))"),
+        Line::Says(Do::Link((2, 0)), "Some(((1, 0), (1, 0), 2))"),
     ],
 )];
 

@@ -3,13 +3,13 @@
 use super::scripts::{Answers, Do, answer, kind};
 use super::{Numbered, Slot, text};
 use arena_base::ArenaTrait;
-use arena_ptr::{Ptr, SlotStack};
+use arena_ptr::SlotStack;
 use chain_arena::{Call, ChainArena, LinkInsertKind, Reply, apply};
 use std::alloc::Global;
 use std::process::Abort;
 
 // The reply to an insertion as a value.
-fn applied<P: Ptr, S: SlotStack<Item = Slot<P>>>(
+fn applied<P: Numbered, S: SlotStack<Item = Slot<P>>>(
     rt: &impl Abort,
     alloc: Global,
     arena: &mut ChainArena<P, u32, S>,
@@ -33,7 +33,6 @@ fn own_answer<P: Numbered, S: SlotStack<Item = Slot<P>>>(
         Do::Generation => text(rt, alloc, P::number_of(arena.generation())),
         Do::SetGeneration(g) => text(rt, alloc, arena.set_generation(P::generation_of(rt, g))),
         Do::IncGeneration => text(rt, alloc, arena.inc_generation()),
-        Do::Debug => text(rt, alloc, &*arena),
         Do::Apply(k, t) => applied(rt, alloc, arena, kind(rt, k), t),
         other => trait_answer(rt, alloc, arena, other),
     }

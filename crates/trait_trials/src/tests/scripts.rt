@@ -3,10 +3,10 @@
 use super::advancing::{changes_met, met, walk_along};
 use super::behind::{add_behind, count_of_links, take_next};
 use super::transfers::{carried_out, carried_to_bare, carried_to_full};
-use super::{At, Numbered, Row, at, index, rows_of, same, text};
+use super::{At, Numbered, Row, at, index, number, numbers, rows_of, same, text};
 use arena_base::{Advancer, ArenaTrait, CompactArenaTrait};
-use arena_ptr::{InvalidationOption, Ptr};
-use chain_arena::{ChainArenaTrait, InsertKindBody, LinkInsertKind};
+use arena_ptr::{InvalidationOption, InvalidationResult, InxKey, PtrKey};
+use chain_arena::{ChainArenaTrait, InsertKindBody, Link, LinkInsertKind, LinkNoGen};
 use std::alloc::Global;
 use std::mem;
 use std::process::Abort;
@@ -55,7 +55,6 @@ pub(super) enum Do {
     BreakNext(At),
     Exchange(At, At),
     RemoveLink(At),
-    RemoveLinkInx(u32),
     Canonical(bool),
     AddBehind(At, u32),
     TakeNext(u32),
@@ -68,16 +67,14 @@ pub(super) enum Do {
     Clear,
     ClearInRoom,
     Reserve(usize),
-    Compress(bool),
     CompressWith(bool),
     // All links carried over to an arena of two links of other pointers, with a generation; and to arenas that refuse them, one
     // of them with a maximum.
     CarryOut(u32),
     CarryToFull,
     CarryToBare(usize),
-    // Calls of the chain arena alone. An insertion as a value. The text of the arena.
+    // Calls of the chain arena alone. An insertion as a value.
     Apply(Kind, u32),
-    Debug,
     Generation,
     SetGeneration(u32),
     IncGeneration,
@@ -94,7 +91,7 @@ pub(super) enum Line {
 pub(super) type Script = (&'static str, u32, &'static [At], &'static [Line]);
 
 // A kind that names links by indexes.
-fn kind_by_index<P: Ptr>(rt: &impl Abort, kind: Kind) -> LinkInsertKind<P> {
+fn kind_by_index<P: PtrKey>(rt: &impl Abort, kind: Kind) -> LinkInsertKind<P> {
     match kind {
         Kind::ChainEndInx(i) => LinkInsertKind::ChainEndInx(index(rt, i)),
         Kind::ChainStartInx(i) => LinkInsertKind::ChainStartInx(index(rt, i)),
@@ -142,7 +139,7 @@ pub(super) fn overwritten(slot: Option<&mut u32>, value: u32) -> Option<u32> {
 }
 
 // Whether an arena that is born with room for so many links is empty, and has the room.
-fn born<P: Ptr, A: ChainArenaTrait<P, u32> + Drop>(
+fn born<P: PtrKey, A: ChainArenaTrait<P, u32> + Drop>(
     rt: &impl Abort,
     alloc: Global,
     n: usize,
@@ -152,7 +149,7 @@ fn born<P: Ptr, A: ChainArenaTrait<P, u32> + Drop>(
 }
 
 // Adds so many lone links, the values from 1 on, and counts those that are added.
-fn insert_many<P: Ptr, A: ChainArenaTrait<P, u32>>(arena: &mut A, count: u32) -> u32 {
+fn insert_many<P: PtrKey, A: ChainArenaTrait<P, u32>>(arena: &mut A, count: u32) -> u32 {
     let mut added = 0u32;
     for k in 1..=count {
         if arena
@@ -166,14 +163,14 @@ fn insert_many<P: Ptr, A: ChainArenaTrait<P, u32>>(arena: &mut A, count: u32) ->
 }
 
 // Clears an arena, and tells whether its capacity stays.
-fn cleared<P: Ptr, A: ArenaTrait<P, u32>>(arena: &mut A) -> (InvalidationOption<()>, bool) {
+fn cleared<P: PtrKey, A: ArenaTrait<P, u32>>(arena: &mut A) -> (InvalidationOption<()>, bool) {
     let capacity = arena.capacity();
     let answer = arena.clear();
     (answer, arena.capacity() == capacity)
 }
 
 // Closes the gaps, adds ten times the number of its call to each value, and lists what the closure saw.
-fn compressed<P: Ptr, A: ArenaTrait<P, u32>>(
+fn compressed<P: PtrKey, A: ArenaTrait<P, u32>>(
     rt: &impl Abort,
     alloc: Global,
     arena: &mut A,
@@ -189,6 +186,64 @@ fn compressed<P: Ptr, A: ArenaTrait<P, u32>>(
     (answer, seen)
 }
 
+// A generation as a number, where there is one.
+fn counted<P: Numbered>(generation: Option<P::Gen>) -> Option<u32> {
+    match generation {
+        Some(generation) => Some(P::number_of(generation)),
+        None => None,
+    }
+}
+
+// The generation of an entry as a number, and its value.
+fn standing<P: Numbered, T: Drop>(entry: Option<(P::Gen, T)>) -> Option<(u32, T)> {
+    match entry {
+        Some((generation, t)) => Some((P::number_of(generation), t)),
+        None => None,
+    }
+}
+
+// An index as a number, 0 for none.
+fn index_told<I: InxKey>(rt: &impl Abort, i: Option<I>) -> u32 {
+    match i {
+        Some(i) => number(rt, i),
+        None => 0,
+    }
+}
+
+// A link by the indexes of the links before it and after it, and its value.
+fn bare<P: PtrKey>(rt: &impl Abort, link: &LinkNoGen<P, u32>) -> (u32, u32, u32) {
+    let (prev, next) = link.prev_next();
+    (index_told(rt, prev), index_told(rt, next), link.t)
+}
+
+// .. by pointers to these.
+fn with_pointers<P: Numbered>(
+    rt: &impl Abort,
+    link: Option<Link<P, &u32>>,
+) -> Option<(At, At, u32)> {
+    match link {
+        Some(link) => {
+            let (prev, next) = link.prev_next();
+            Some((numbers(rt, prev), numbers(rt, next), *link.t))
+        }
+        None => None,
+    }
+}
+
+// .. of a removal.
+fn removed<P: PtrKey>(
+    rt: &impl Abort,
+    answer: InvalidationResult<LinkNoGen<P, u32>>,
+) -> InvalidationResult<(u32, u32, u32)> {
+    match answer {
+        InvalidationResult::Success(link) => InvalidationResult::Success(bare::<P>(rt, &link)),
+        InvalidationResult::GenerationOverflow(link) => {
+            InvalidationResult::GenerationOverflow(bare::<P>(rt, &link))
+        }
+        InvalidationResult::InvalidPtr => InvalidationResult::InvalidPtr,
+    }
+}
+
 // .. to a look at values, ...
 fn look<P: Numbered, A: ChainArenaTrait<P, u32> + Drop>(
     rt: &impl Abort,
@@ -201,10 +256,10 @@ fn look<P: Numbered, A: ChainArenaTrait<P, u32> + Drop>(
         Do::IsEmpty => text(rt, alloc, arena.is_empty()),
         Do::HasRoom(n) => text(rt, alloc, arena.capacity() >= n),
         Do::Maximum => text(rt, alloc, arena.max_capacity()),
-        Do::Counter => text(rt, alloc, arena.singular_generation()),
+        Do::Counter => text(rt, alloc, counted::<P>(arena.singular_generation())),
         Do::Contains(p) => text(rt, alloc, arena.contains(at(rt, p))),
         Do::Get(p) => text(rt, alloc, arena.get(at(rt, p))),
-        Do::GetInx(i) => text(rt, alloc, arena.get_inx(index(rt, i))),
+        Do::GetInx(i) => text(rt, alloc, standing::<P, &u32>(arena.get_inx(index(rt, i)))),
         Do::Ends => {
             let ends = (arena.find_first_inx_ptr(), arena.find_last_inx_ptr());
             text(rt, alloc, ends)
@@ -236,9 +291,12 @@ fn look_at_links<P: Numbered, A: ChainArenaTrait<P, u32>>(
             let (i, j) = (index(rt, i), index(rt, j));
             text(rt, alloc, arena.are_neighbors_inx(i, j))
         }
-        Do::Link(p) => text(rt, alloc, arena.get_link(at(rt, p))),
-        Do::LinkNoGen(p) => text(rt, alloc, arena.get_link_no_gen(at(rt, p))),
-        Do::LinkNoGenInx(i) => text(rt, alloc, arena.get_inx_link_no_gen(index(rt, i))),
+        Do::Link(p) => text(rt, alloc, with_pointers(rt, arena.get_link(at(rt, p)))),
+        Do::LinkNoGen(p) => text(rt, alloc, arena.get_link_no_gen(at(rt, p)).is_some()),
+        Do::LinkNoGenInx(i) => {
+            let (generation, link) = arena.get_inx_link_no_gen(index(rt, i)).expect(rt, "a link");
+            text(rt, alloc, (P::number_of(generation), bare::<P>(rt, link)))
+        }
         Do::Along(p) => {
             let along = arena.advancer_chain(at(rt, p));
             text(rt, alloc, met(rt, along, arena, 5))
@@ -265,11 +323,14 @@ pub(super) fn answer<P: Numbered, A: ChainArenaTrait<P, u32> + CompactArenaTrait
         Do::BreakPrev(p) => text(rt, alloc, arena.break_prev(at(rt, p))),
         Do::BreakNext(p) => text(rt, alloc, arena.break_next(at(rt, p))),
         Do::Exchange(p, q) => text(rt, alloc, arena.exchange_next(at(rt, p), at(rt, q))),
-        Do::RemoveLink(p) => text(rt, alloc, arena.remove_link_no_gen(at(rt, p))),
-        Do::RemoveLinkInx(i) => text(rt, alloc, arena.remove_inx_link_no_gen(index(rt, i))),
+        Do::RemoveLink(p) => text(
+            rt,
+            alloc,
+            removed::<P>(rt, arena.remove_link_no_gen(at(rt, p))),
+        ),
         Do::Canonical(reset) => text(rt, alloc, arena.compress_canonical(reset)),
         Do::AddBehind(p, t) => text(rt, alloc, add_behind(arena, at(rt, p), t)),
-        Do::TakeNext(i) => text(rt, alloc, take_next(arena, index(rt, i))),
+        Do::TakeNext(i) => text(rt, alloc, index_told(rt, take_next(arena, index(rt, i)))),
         Do::CarryOut(g) => carried_out(rt, alloc, arena, g),
         Do::CarryToFull => carried_to_full(rt, alloc, arena),
         Do::CarryToBare(most) => carried_to_bare(rt, alloc, arena, most),
@@ -288,12 +349,14 @@ fn change<P: Numbered, A: ChainArenaTrait<P, u32> + Drop>(
         Do::Write(p, t) => text(rt, alloc, overwritten(arena.get_mut(at(rt, p)), t)),
         Do::WriteInx(i, t) => text(rt, alloc, overwritten(arena.get_inx_mut(index(rt, i)), t)),
         Do::Remove(p) => text(rt, alloc, arena.remove(at(rt, p))),
-        Do::RemoveInx(i) => text(rt, alloc, arena.remove_inx(index(rt, i))),
+        Do::RemoveInx(i) => {
+            let removed = arena.remove_inx(index(rt, i)).allow();
+            text(rt, alloc, standing::<P, u32>(removed))
+        }
         Do::Invalidate(p) => text(rt, alloc, arena.invalidate(at(rt, p))),
         Do::Clear => text(rt, alloc, arena.clear()),
         Do::ClearInRoom => text(rt, alloc, cleared(arena)),
         Do::Reserve(n) => text(rt, alloc, arena.reallocate_min_capacity(n)),
-        Do::Compress(reset) => text(rt, alloc, arena.compress(reset)),
         Do::CompressWith(reset) => text(rt, alloc, compressed(rt, alloc, arena, reset)),
         other => look(rt, alloc, arena, other),
     }

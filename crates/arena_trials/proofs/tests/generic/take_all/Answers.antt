@@ -33,7 +33,7 @@ step : (g : Over) (c : In-Some-allow g) → Some (g.P.PtrKey.key c.in-Some.p) �
     × RisesFrom ((g.P.PtrKey.key c.in-Some.p).0 + 1) (g.A.ArenaTrait.seen c.remove_inx.new.self).entries
     × (length (g.A.ArenaTrait.seen c.loop-p.arena).entries ≡ suc (length (g.A.ArenaTrait.seen c.remove_inx.new.self).entries))
 step g c met =
-    let n = g.P.Inx.PtrInx.number c.inx.result in
+    let n = g.P.Inx.InxKey.number c.inx.result in
     let stands = sym c.in-Some-allow.is ∙ (c.allow.ensures ∙ c.remove_inx.ensures.answer) in
     taken_more g.P.PtrKey.key c.loop-p.taken.items c.in-Some.p c.in-Some-allow.t (g.A.ArenaTrait.seen c.loop-p.arena).entries (g.A.ArenaTrait.seen c.remove_inx.new.self).entries (g.A.ArenaTrait.seen c.args.arena.now).entries
     n c.loop-p.invariant.from c.loop-p.invariant.rises met c.inx.ensures c.in-Some-allow.field-0-0 (stands ∙ sym (g.met.A.ArenaTrait.looked_up c.loop-p.arena n))
@@ -47,7 +47,7 @@ nothing g arena before after from looks rises given =
 
 pub unreachable-requires : goal.unreachable-requires
 unreachable-requires g c =
-    let n = g.P.Inx.PtrInx.number c.inx.result in
+    let n = g.P.Inx.InxKey.number c.inx.result in
     finds_it (g.A.ArenaTrait.seen c.loop-p.arena).entries c.loop-p.invariant.from n (g.P.PtrKey.key c.in-Some.p) c.loop-p.invariant.rises (first g (goal.at.unreachable-requires g c).In-Some) c.inx.ensures
     (sym c.in_default-allow.is ∙ (c.allow.ensures ∙ (c.remove_inx.ensures.answer ∙ sym (g.met.A.ArenaTrait.looked_up c.loop-p.arena n))))
 

@@ -13,8 +13,8 @@ returns g c =
     let es = (g.A.ArenaTrait.seen a).entries in
     let stands = g.met.A.ChainArenaTrait.stand a in
     let looked = g.met.A.ArenaTrait.looked_up a in
-    let i = (g.P.Ptr.key c.args.p).0 in
+    let i = (g.P.PtrKey.key c.args.p).0 in
     λ valid. walk_whole links entry es stands looked i _ (passes_ahead links (g.A.ChainArenaTrait.walker c.loop-q.along))
     (subst (IsWalk links i) (sym (c.loop-q.invariant ∙ ap (passes_ahead links) (c.advancer_chain-along.ensures.valid valid)))
-    (walk_ahead links entry es stands looked g.P.Inx.PtrInx.greatest i c.advancer_chain-along.ensures.agree c.len.ensures.indexes (entry_valid links entry es stands looked i _ valid.stands)))
+    (walk_ahead links entry es stands looked g.P.Inx.InxKey.greatest i c.advancer_chain-along.ensures.agree c.len.ensures.indexes (entry_valid links entry es stands looked i _ valid.stands)))
     (g.met.A.ChainArenaTrait.passes c.loop-q.along c.advance.new.self a _ c.in_default.ensures).end

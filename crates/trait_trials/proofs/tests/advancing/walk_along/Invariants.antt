@@ -5,7 +5,7 @@ use Rattle.trait_trials.proofs.tests.advancing.walk_along.Given as goal
 
 abbrev pub invariant-loop-q : goal.invariant-loop-q
 invariant-loop-q g l =
-    map (λ q. (g.P.Ptr.key q).0) l.all.items ++ passes_ahead (g.A.ChainArenaTrait.interlinks l.arena) (g.A.ChainArenaTrait.walker l.along)
+    map (λ q. (g.P.PtrKey.key q).0) l.all.items ++ passes_ahead (g.A.ChainArenaTrait.interlinks l.arena) (g.A.ChainArenaTrait.walker l.along)
     ≡ passes_ahead (g.A.ChainArenaTrait.interlinks l.arena) (g.A.ChainArenaTrait.walker l.initial.along)
 
 abbrev pub decreases-loop-q : goal.decreases-loop-q

@@ -18,7 +18,7 @@ returns-clause-none g c =
     let old = c.args.arena.now in
     let mid = c.insert_reallocating.new.self in
     let new = c.remove_link_no_gen.new.self in
-    let q = g.P.Ptr.key c.in_ok-q.q in
+    let q = g.P.PtrKey.key c.in_ok-q.q in
     let inserted = c.in_ok-q.ensures.inserted.entries in
     let same : c.connect.new.self ≡ mid = none_holds c.connect.result (sym c.is_some.ensures ∙ c.if-is_some.false) c.connect.ensures.none in
     let valid : IsValid (g.A.ArenaTrait.entry c.connect.new.self) q = subst (λ a. IsValid (g.A.ArenaTrait.entry a) q) (sym same) (record { value = c.args.t; stands = inserted.stands }) in
@@ -33,7 +33,7 @@ pub returns-then-is_some-clause-chains : goal.returns-then-is_some-clause-chains
 returns-then-is_some-clause-chains g c =
     let old = c.args.arena.now in
     let mid = c.insert_reallocating.new.self in
-    let q = g.P.Ptr.key c.in_ok-q.q in
-    extends (g.A.ChainArenaTrait.interlinks old) (g.A.ChainArenaTrait.interlinks mid) (g.A.ChainArenaTrait.interlinks c.connect.new.self) (g.P.Ptr.key c.args.p).0 q.0
+    let q = g.P.PtrKey.key c.in_ok-q.q in
+    extends (g.A.ChainArenaTrait.interlinks old) (g.A.ChainArenaTrait.interlinks mid) (g.A.ChainArenaTrait.interlinks c.connect.new.self) (g.P.PtrKey.key c.args.p).0 q.0
     (not_shown (g.A.ArenaTrait.entry old) (g.A.ArenaTrait.entry mid) q c.args.t c.in_ok-q.ensures.inserted.entries (g.A.ChainArenaTrait.interlinks old) (g.met.A.ChainArenaTrait.stand old q.0))
     (c.in_ok-q.ensures.inserted.shows ∙ alone_by_writes (g.A.ChainArenaTrait.interlinks old) q.0) (some_holds c.connect.result (sym c.is_some.ensures ∙ c.if-is_some.true) c.connect.ensures.joined)
