@@ -1,8 +1,7 @@
 -- An optional index in a word with a number to spare.
-use Rattle.std.specs.Prelude.{◌≡◌, ℕ, ◌==◌, ◌↔◌, Option, None, Some, zero, suc, true, refl, if◌then◌else◌}
+use Rattle.std.specs.Prelude.{◌≡◌, ℕ, ◌==◌, Option, None, Some, zero, suc, refl, if◌then◌else◌}
 use Rattle.std.proofs.Common.{ap, rules}
 use Rattle.arena_ptr.specs.declared.packed_option.PackedOption.{PackedOption}
-use Rattle.arena_ptr.specs.Numbers.{eq_is_same}
 
 -- a word is the number of the index, and 0 is none
 abbrev pub zero_is_none : {I : Type 0} → PackedOption I ℕ → Option ℕ
@@ -15,6 +14,3 @@ same_zero_is_none {I} o p e = ap (λ n. let q : PackedOption I ℕ = record { wo
   same zero (suc n) is = search rules
   same (suc m) zero is = search rules
   same (suc m) (suc n) is = search rules
-
-pub eq_is_same_number : (v w : ℕ) → ((v == w) ≡ true) ↔ (v ≡ w)
-eq_is_same_number = eq_is_same (λ n. n) (λ v w e. e)

@@ -17,12 +17,11 @@ use std::hash::Hash;
 ///
 /// ```text
 /// ghost use Rattle.std.specs.Option.{option_map};
-/// ghost use Rattle.arena_ptr.specs.Packed.{zero_is_none, same_zero_is_none, eq_is_same_number};
+/// ghost use Rattle.arena_ptr.specs.Packed.{zero_is_none, same_zero_is_none};
 ///
 /// type Word = u32;
 /// ghost packed_number = { zero_is_none };
 /// ghost same_packed = { same_zero_is_none };
-/// ghost word_eq_is_same = { eq_is_same_number };
 ///
 /// fn pack(i: Option<Self>) -> PackedOption<Self, u32>
 ///     ensures { zero_is_none result ≡ option_map number_of_inx32 i }
@@ -51,7 +50,6 @@ use std::hash::Hash;
 /// type Word = Option<Self>;
 /// ghost packed_number = { λ o. option_map number o.word };
 /// ghost same_packed = { Prim.search rules };
-/// ghost word_eq_is_same = { Prim.search rules };
 ///
 /// fn pack(i: Option<Self>) -> PackedOption<Self, Option<Self>>
 ///     ensures { result.word ≡ i }
@@ -71,7 +69,7 @@ use std::hash::Hash;
 pub trait PtrInx: Copy + Eq + Ord + Hash + Debug {
     /// What an optional index is kept in: as narrow as the index where it has a number to spare, as 0 is,
     /// else `Option<Self>`.
-    type Word: Copy + Eq + Ord + Hash;
+    type Word: Copy;
 
     // The number of an index, from 1 to the greatest. Contracts name indexes by it.
     ghost number: { Self → ℕ };
@@ -118,8 +116,6 @@ pub trait PtrInx: Copy + Eq + Ord + Hash + Debug {
     ghost eq_is_same: { (i j : Self) → (Self.eq i j ≡ true) ↔ (i ≡ j) };
 
     ghost same_packed: { (o p : PackedOption Self Self.Word) → packed_number o ≡ packed_number p → o ≡ p };
-
-    ghost word_eq_is_same: { (v w : Self.Word) → (Self.Word.eq v w ≡ true) ↔ (v ≡ w) };
 }
 
 /// A generation, which tells the entries that stood at one index apart.

@@ -1,8 +1,7 @@
 // Calls of the chain arena that no trait has, or whose contract there says more than the trait's.
-ghost use Rattle.std.specs.Prelude.{◌≡◌, ◌≤◌, ◌<◌, ◌+◌, ◌↔◌, IsOk, IsSome, IfNone, OnSome, OnOk, OnErr, Err};
-ghost use Rattle.arena_ptr.specs.SlotStack.{IsBeyond};
+ghost use Rattle.std.specs.Prelude.{◌≡◌, ◌≤◌, ◌+◌, ◌↔◌, IsOk, IsSome, IfNone, OnSome, OnOk, OnErr};
 ghost use Rattle.arena_ptr.specs.Invalidation.{invalidation_option};
-ghost use Rattle.arena_base.specs.Arena.{IsValid, HasRoom, entry_count};
+ghost use Rattle.arena_base.specs.Arena.{IsValid, entry_count};
 ghost use Rattle.arena_base.specs.Entries.{count};
 ghost use Rattle.arena_base.specs.Compressing.{overflows_after_compression};
 ghost use Rattle.chain_links.specs.ChainArena.{entry, seen, shown};
@@ -47,7 +46,7 @@ pub fn compress_canonical_counted<
     arena.compress_canonical_counted(reset)
 }
 
-/// `ChainArena::transfer_canonical_reallocating`.
+/// `ChainArena::transfer_canonical_reallocating`, under the clauses that say what becomes of both arenas, and when it is not refused.
 pub fn transfer_canonical_reallocating<
     P: PtrKey,
     T: Drop,
@@ -64,10 +63,7 @@ pub fn transfer_canonical_reallocating<
 ) -> Result<(), ReallocationError>
     requires { F.IsAlwaysCallable map }
     ensures transferred { OnOk result (IsTransfer Q.key P.key Q.Gen.following Q.Gen.wraps F.FnMut new_generation map (A.seen source.old) (A.interlinks source.old) (A.seen source.new) target.old target.new) }
-    ensures room { OnOk result (HasRoom P.Inx.greatest (count (A.seen source.old)) target.new) }
     ensures within { count (A.seen source.old) ≤ target.old.capacity → IsOk result × (target.new.capacity ≡ target.old.capacity) × (target.new.stack_capacity ≡ target.old.stack_capacity) }
-    ensures greatest { P.Inx.greatest < count (A.seen source.old) → result ≡ Err ReallocationError.AllocError }
-    ensures beyond { (result ≡ Err ReallocationError.BeyondMaxCapacity) ↔ ((count (A.seen source.old) ≤ P.Inx.greatest) × IsBeyond target.old.maximum (count (A.seen source.old))) }
     ensures err { OnErr result ((target.new ≡ target.old) × (source.new ≡ source.old)) }
 {
     target.transfer_canonical_reallocating(new_generation, source, map)

@@ -41,7 +41,7 @@ impl Inx32 {
 impl PtrInx for Inx32 {
     ghost use Rattle.std.specs.Option.{option_map};
     ghost use Rattle.std.proofs.Common.{lit<};
-    ghost use Rattle.arena_ptr.specs.Packed.{zero_is_none, same_zero_is_none, eq_is_same_number};
+    ghost use Rattle.arena_ptr.specs.Packed.{zero_is_none, same_zero_is_none};
     ghost use Rattle.arena_ptr.specs.Indexes.{number_of_inx32, same_inx32, eq_is_same_inx32};
 
     type Word = u32;
@@ -63,8 +63,6 @@ impl PtrInx for Inx32 {
     ghost eq_is_same = { eq_is_same_inx32 };
 
     ghost same_packed = { same_zero_is_none };
-
-    ghost word_eq_is_same = { eq_is_same_number };
 
     fn greatest() -> usize {
         u32::MAX as usize

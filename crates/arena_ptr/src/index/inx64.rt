@@ -41,7 +41,7 @@ impl Inx64 {
 impl PtrInx for Inx64 {
     ghost use Rattle.std.specs.Option.{option_map};
     ghost use Rattle.std.proofs.Common.{lit<};
-    ghost use Rattle.arena_ptr.specs.Packed.{zero_is_none, same_zero_is_none, eq_is_same_number};
+    ghost use Rattle.arena_ptr.specs.Packed.{zero_is_none, same_zero_is_none};
     ghost use Rattle.arena_ptr.specs.Indexes.{number_of_inx64, same_inx64, eq_is_same_inx64};
 
     type Word = u64;
@@ -63,8 +63,6 @@ impl PtrInx for Inx64 {
     ghost eq_is_same = { eq_is_same_inx64 };
 
     ghost same_packed = { same_zero_is_none };
-
-    ghost word_eq_is_same = { eq_is_same_number };
 
     fn greatest() -> usize {
         usize::MAX

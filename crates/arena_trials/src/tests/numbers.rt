@@ -42,9 +42,7 @@ fn unpacked_again<I: PtrInx>(i: Option<I>) -> Option<I>
 }
 
 // Whether two optional indexes are the same once packed.
-fn packs_alike<I: PtrInx>(i: Option<I>, j: Option<I>) -> bool
-    ensures { IsTrue result ↔ (option_map I.number i ≡ option_map I.number j) }
-{
+fn packs_alike<W: Copy + PartialEq, I: PtrInx<Word = W>>(i: Option<I>, j: Option<I>) -> bool {
     I::pack(i) == I::pack(j)
 }
 
@@ -91,7 +89,7 @@ fn made(rt: &impl Abort, (a, b, c): Widths) -> (Widths, Widths) {
 }
 
 // Whether an index is the one that its number makes, and no other one, and is as before once packed, as is none.
-fn is_well<I: PtrInx>(i: I, other: I) -> bool {
+fn is_well<W: Copy + PartialEq, I: PtrInx<Word = W>>(i: I, other: I) -> bool {
     index_again(i) == Some(i)
         && is_same_index(i, i)
         && !is_same_index(i, other)

@@ -106,8 +106,6 @@ impl PtrInx for TinyInx {
 
     ghost same_packed = { Prim.search rules };
 
-    ghost word_eq_is_same = { Prim.search rules };
-
     fn greatest() -> usize {
         2
     }
