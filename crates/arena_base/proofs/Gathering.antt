@@ -115,7 +115,9 @@ module _ {F P T Gen : Type 0} (g : Mut F (P × (MutBor T × (P × Unit {0}))) (U
         subst (λ (a : Arena Gen T). IsCompressed first following reset (seen_of old) (seen_of a)) (sym is_new) (record {
           indexes = indexes-fronted counter values 1 ∙ ap (range_with_len 1) counted;
           counter = ap (λ (h : Gen). Some h) (is_counter ∙ ap (λ n. counter_after_compression first following reset n old.counter) is_count);
+          generation = counter;
           generations = generations-fronted counter values 1;
+          is_counter = refl;
           slots = (
             length old.slots + length values,
             omega (arith, counted, few_entries old),

@@ -54,8 +54,10 @@ module _ {Gen T : Type 0} where
   pub record IsCompressed (first : Gen) (following : Gen → Gen) (reset : Bool) (old new : Seen Gen T) : Type 0 where
     pub indexes : map index_of new.entries ≡ range_with_len 1 (length old.entries)
     pub counter : new.counter ≡ option_map (counter_after_compression first following reset (length old.entries)) old.counter
-    -- each entry has the counter as its generation
-    pub generations : IfSome new.counter (λ g. All (λ e. e.0.1 ≡ g) new.entries)
+    -- all entries have one generation, which is the counter where that is told
+    pub generation : Gen
+    pub generations : All (λ e. e.0.1 ≡ generation) new.entries
+    pub is_counter : IfSome new.counter (λ g. g ≡ generation)
     pub slots : AreCompacted (length old.entries) old.slots new.slots
     pub capacity : new.capacity ≡ old.capacity
     pub maximum : new.maximum ≡ old.maximum

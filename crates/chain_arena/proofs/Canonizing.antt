@@ -87,7 +87,9 @@ module _ {F P T Gen : Type 0} (g : F → P → P → F → Type 0) (key : P → 
         values = ap (λ (ts : List T). map (λ t. Some t) ts) (values-fronted counter laid.values 1)
             ∙ (laid.stood ∙ ap (λ (given : ℕ → Option (Gen × T)). map (λ i. option_map (λ (e : Gen × T). e.1) (given i)) laid.indexes) entry_found);
         counter = ap (λ (h : Gen). Some h) (is_counter ∙ ap (λ n. counter_after_compression first following reset n old.counter) is_count);
+        generation = counter;
         generations = generations-fronted counter laid.values 1;
+        is_counter = refl;
         slots = (
           laid.touches,
           omega (arith, laid.few, indexes_counted, length-map old.slots (option_map (on_value value_in)), ap (λ (a : Arena Gen (LinkSeen T)). length a.slots) is_mid),

@@ -36,7 +36,9 @@ module _ {F P T Gen : Type 0} (g : Mut F (P × (MutBor T × (P × Unit {0}))) (U
       subst (λ (a : Arena Gen T). IsCompressed first following reset (seen_of (values_of old)) (seen_of a)) (sym gathering.arena) (record {
         indexes = like.indexes;
         counter = like.counter;
+        generation = like.generation;
         generations = like.generations;
+        is_counter = like.is_counter;
         slots = (
           gathering.touches,
           subst (λ (n : ℕ). gathering.touches ≤ 4 * n) long gathering.few,

@@ -98,6 +98,9 @@ module _ {Gen T : Type 0} where
           let values : entry a i ≡ entry b i = sym (found-entries (values_of a) i) ∙ (ap (found i) links ∙ found-entries (values_of b) i) in
           sym (link_at-entry a i) ∙ (ap₂ link_of values (ap (λ (s : Shown). s i) interlinks) ∙ link_at-entry b i)
 
+  of_counter : (g counter : Gen) (es : List ((ℕ × Gen) × T)) → g ≡ counter → All (HasGeneration g) es → All (HasGeneration counter) es
+  of_counter g counter es same all = subst (λ (h : Gen). All (HasGeneration h) es) same all
+
   module _ (first : Gen) (following : Gen → Gen) (reset : Bool) (old a b : Links Gen T) where
     -- a compression is determined but for touches
     pub compression_same : IsCompression first following reset old a → IsCompression first following reset old b → AreSameButTouched a b
@@ -106,7 +109,7 @@ module _ {Gen T : Type 0} where
         let counter : a.counter ≡ b.counter = cc in
         same_told_alike a b (length (seen old).entries) (old.placed + length (seen old).entries) _ _
         (same_entries b.counter (entries (values_of a)) (entries (values_of b)) (one.seen.indexes ∙ sym two.seen.indexes) (one.values ∙ sym two.values)
-        (subst (λ (g : Gen). All (HasGeneration g) (entries (values_of a))) counter one.seen.generations) two.seen.generations)
+        (of_counter one.seen.generation b.counter (entries (values_of a)) (sym one.seen.is_counter ∙ counter) one.seen.generations) (of_counter two.seen.generation b.counter (entries (values_of b)) (sym two.seen.is_counter) two.seen.generations))
         (renaming_is_determined _ (shown old) (shown a) (shown b) one.links.renamed two.links.renamed) one.seen.slots.2 two.seen.slots.2 counter
         (one.seen.capacity ∙ sym two.seen.capacity) (one.links.stack_capacity ∙ sym two.links.stack_capacity) (one.seen.maximum ∙ sym two.seen.maximum)
 
@@ -122,7 +125,7 @@ module _ {Gen T : Type 0} where
         (x.values ∙ (ap (λ (is : List ℕ). map (λ i. option_map (λ (e : Gen × T). e.1) (found i (seen old).entries)) is) order ∙ sym y.values)) in
         same_told_alike a b (length (seen old).entries) (old.placed + length (seen old).entries) _ _
         (same_entries b.counter (entries (values_of a)) (entries (values_of b)) (x.keys ∙ sym y.keys) values
-        (subst (λ (g : Gen). All (HasGeneration g) (entries (values_of a))) counter x.generations) y.generations)
+        (of_counter x.generation b.counter (entries (values_of a)) (sym x.is_counter ∙ counter) x.generations) (of_counter y.generation b.counter (entries (values_of b)) (sym y.is_counter) y.generations))
         (renaming_is_determined _ (shown old) (shown a) (shown b) (subst (λ (is : List ℕ). IsRenaming (place_in is) (shown old) (shown a)) order x.renamed) y.renamed) x.slots.2 y.slots.2 counter
         (x.capacity ∙ sym y.capacity) (one.stack_capacity ∙ sym two.stack_capacity) (x.maximum ∙ sym y.maximum)
 
@@ -183,7 +186,9 @@ module _ (n : ℕ) where
           seen = record {
             indexes = made.seen.indexes;
             counter = made.seen.counter;
+            generation = made.seen.generation;
             generations = made.seen.generations;
+            is_counter = made.seen.is_counter;
             slots = (0, omega arith, ap (option_map (λ (s : Slots). let t : Slots = record s { touched = n } in t)) made.seen.slots.2 ∙ ap counted none);
             capacity = made.seen.capacity;
             maximum = made.seen.maximum;
@@ -206,7 +211,9 @@ module _ (n : ℕ) where
             keys = made.layout.keys;
             values = made.layout.values;
             counter = made.layout.counter;
+            generation = made.layout.generation;
             generations = made.layout.generations;
+            is_counter = made.layout.is_counter;
             slots = (0, omega arith, ap (option_map (λ (s : Slots). let t : Slots = record s { touched = n } in t)) made.layout.slots.2 ∙ ap counted none);
             capacity = made.layout.capacity;
             maximum = made.layout.maximum;

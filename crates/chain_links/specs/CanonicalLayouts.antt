@@ -16,7 +16,8 @@ AreLaid count (Some old) new = (touches : ℕ) × (touches ≤ 4 * old.count + 1
     × (new ≡ Some (record { count = count; freed = []; placed = old.placed + count; touched = old.touched + touches }))
 
 -- All links are carried by one bijection onto the indexes from 1 to their number, each chain to one run in `next` order, a
--- linear one from its start. Each link keeps its value and its neighbors, and has the counter as its generation.
+-- linear one from its start. Each link keeps its value and its neighbors. All have one generation, which is the counter where
+-- that is told.
 pub record IsCanonicalLayout {Gen T : Type 0} (first : Gen) (following : Gen → Gen) (reset : Bool) (old : Seen Gen T) (links : Shown) (new : Seen Gen T) (new_links : Shown) : Type 0 where
   -- the links in the order in which they lie then: the chains by their least index, each linear one from its start, each
   -- cyclic one from its least index
@@ -29,7 +30,9 @@ pub record IsCanonicalLayout {Gen T : Type 0} (first : Gen) (following : Gen →
   pub keys : map index_of new.entries ≡ range_with_len 1 (length old.entries)
   pub values : map (λ t. Some t) (values_in new.entries) ≡ map (λ i. option_map (λ e. e.1) (found i old.entries)) indexes
   pub counter : new.counter ≡ option_map (counter_after_compression first following reset (length old.entries)) old.counter
-  pub generations : IfSome new.counter (λ g. All (λ e. e.0.1 ≡ g) new.entries)
+  pub generation : Gen
+  pub generations : All (λ e. e.0.1 ≡ generation) new.entries
+  pub is_counter : IfSome new.counter (λ g. g ≡ generation)
   pub slots : AreLaid (length old.entries) old.slots new.slots
   pub capacity : new.capacity ≡ old.capacity
   pub maximum : new.maximum ≡ old.maximum
