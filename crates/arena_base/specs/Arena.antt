@@ -138,9 +138,10 @@ module _ {Gen T : Type 0} where
   abbrev pub with_capacity_of : Arena Gen T → Arena Gen T → Arena Gen T
   with_capacity_of a b = record a { capacity = b.capacity; stack_capacity = b.stack_capacity }
 
-  -- there is room for n entries, and the capacity is the lesser of the stack's and the greatest index
+  -- there is room for n entries; the capacity is the lesser of the stack's and the greatest index, and the stack's is within
+  -- the maximum too
   abbrev pub HasRoom : ℕ → ℕ → Arena Gen T → Type 0
-  HasRoom greatest n a = IsRoom greatest a.maximum n a.capacity × (a.capacity ≡ min a.stack_capacity greatest)
+  HasRoom greatest n a = IsRoom greatest a.maximum n a.capacity × (a.capacity ≡ min a.stack_capacity greatest) × IsWithinMaximum a.maximum a.stack_capacity
 
   -- each free slot stands in the freed list exactly once, and nothing else does
   pub record IsListed (a : Arena Gen T) : Type 0 where

@@ -25,8 +25,8 @@ use std::mem;
 /// An arena: entries under indexes from 1 on, each with a generation, in a stack of slots.
 ///
 /// A freed index is used again, the last freed first; else the next index is the number of slots plus one. The one
-/// counter of generations begins at two; an insertion gives it to its entry, and a removal increments it. Insertion,
-/// look-up and removal take constant time, but where an insertion grows.
+/// counter of generations begins at two; an insertion gives it to its entry, and a removal increments it. No
+/// clause tells time: as they are written, insertion, look-up and removal take constant time, but where an insertion grows.
 ///
 /// Carries `Arena` of `triple_arena`.
 #[derive(Drop)]
@@ -125,7 +125,7 @@ impl<P: PtrKey, T: Drop, S: SlotStack<Item = ArenaSlot<P, T>>> Arena<P, T, S> {
     }
 
     /// Adds an entry at the next index, with the counter as its generation, and answers its pointer. An arena with as
-    /// many entries as its capacity grows first, in proportion to its slots.
+    /// many entries as its capacity grows first, as far as its stack goes.
     ///
     /// `BeyondMaxCapacity`: the growth needed goes beyond the maximum, which is tested first. `AllocError`: it goes
     /// beyond the greatest index, or memory was refused. After either nothing has changed, and the value is dropped.

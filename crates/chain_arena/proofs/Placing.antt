@@ -1,5 +1,5 @@
 -- What follows of the place of a new link, and of what came there.
-use Rattle.std.proofs.Common.{◌≡◌, ◌≢◌, ◌↔◌, ◌⊎◌, inl, inr, ℕ, ◌+◌, ◌<◌, ◌≤◌, Option, None, Some, Result, Ok, Err, OnOk, OnErr, IsErr, refl, sym, ap, ap₂, ◌∙◌, subst, arith, min}
+use Rattle.std.proofs.Common.{◌≡◌, length, ◌≢◌, ◌↔◌, ◌⊎◌, inl, inr, ℕ, ◌+◌, ◌<◌, ◌≤◌, Option, None, Some, Result, Ok, Err, OnOk, OnErr, IsErr, refl, sym, ap, ap₂, ◌∙◌, subst, arith, min}
 use Rattle.std.specs.Prelude.{IsOk, IfOk, IfErr}
 use Rattle.std.specs.Result.{ForOk}
 use Rattle.std.proofs.lemmas.Bool.{false≢true}
@@ -34,10 +34,10 @@ module _ {Gen T : Type 0} where
   -- a growth to room for as many links as there are, and one more
   pub grows_by_one : (greatest m : ℕ) (old new : Links Gen T) (r : Result Unit ReallocationError) → m ≡ entry_count old → m ≤ old.capacity
       → (m + 1 ≤ old.capacity → IsOk r × (new ≡ old)) → (r ≡ Err refused.BeyondMaxCapacity) ↔ IsBeyond old.maximum (m + 1)
-      → OnOk r (IsRoom greatest new.maximum (m + 1) new.capacity) → OnErr r (new ≡ old) → new ≡ with_capacity_of old new → new.capacity ≡ min new.stack_capacity greatest
+      → OnOk r (IsRoom greatest new.maximum (m + 1) new.capacity) → OnErr r (new ≡ old) → new ≡ with_capacity_of old new → HasRoom greatest (length new.slots) new
       → GrowsByOne greatest old r new
-  grows_by_one greatest m old new (Ok done) same fits within beyond ok err state capacity = record {
-    room = subst (λ (k : ℕ). HasRoom greatest (k + 1) new) same (ok, capacity);
+  grows_by_one greatest m old new (Ok done) same fits within beyond ok err state room = record {
+    room = subst (λ (k : ℕ). HasRoom greatest (k + 1) new) same (ok, room.1, room.2);
     state = state;
     stays = λ less. (within (omega (arith, less, same))).1;
   }
@@ -123,6 +123,7 @@ module _ {P I Gen T : Type 0} (key : P → ℕ × Gen) (number : I → ℕ) (old
 
   -- what an insertion within the capacity tells
   pub record TellsWithin (r : Result P ChainInsertionError) : Type 0 where
+    pub may : OnOk r (May key number old kind)
     pub inserted : Inserted r
     pub capacity : (seen new).capacity ≡ (seen old).capacity
     pub err : OnErr r (new ≡ old)
@@ -134,6 +135,7 @@ module _ {P I Gen T : Type 0} (key : P → ℕ × Gen) (number : I → ℕ) (old
 
   -- .. and where a full arena grows
   pub record TellsGrowing (greatest : ℕ) (r : Result P ChainInsertionError) : Type 0 where
+    pub may : OnOk r (May key number old kind)
     pub inserted : Inserted r
     pub err : OnErr r (new ≡ old)
     pub link : (r ≡ Err failed.FailedLinkRequirement) ↔ (May key number old kind → ⊥)
@@ -153,6 +155,7 @@ module _ {P I Gen T : Type 0} (key : P → ℕ × Gen) (number : I → ℕ) (old
 
   not_within : (why : ChainInsertionError) → PlacesWithin key number old kind (Err why) → new ≡ old → TellsWithin (Err why)
   not_within failed.FailedLinkRequirement lacks same = record {
+    may = tt;
     inserted = tt;
     capacity = ap (λ (a : Links Gen T). a.capacity) same;
     err = same;
@@ -163,6 +166,7 @@ module _ {P I Gen T : Type 0} (key : P → ℕ × Gen) (number : I → ℕ) (old
     state = tt;
   }
   not_within failed.NotWithinCapacity full same = record {
+    may = tt;
     inserted = tt;
     capacity = ap (λ (a : Links Gen T). a.capacity) same;
     err = same;
@@ -178,6 +182,7 @@ module _ {P I Gen T : Type 0} (key : P → ℕ × Gen) (number : I → ℕ) (old
   pub tells_within : (agrees : Agrees (shown old)) (asked : Result (Gap I) ChainInsertionError) (r : Result P ChainInsertionError) → PlacesWithin key number old kind asked → InsertsAt key number old asked t r new → TellsWithin r
   tells_within agrees (Ok gap) (Ok p) placed insertion =
       let state = inserted_at gap p placed.0 insertion in record {
+        may = placed.0.may;
         inserted = insertion_told old t insertion.listed new by (state ∙ ap (with_capacity_of (insert_as old by t)) (sym state)) (key p) insertion.pointer agrees placed.0.may.1;
         capacity = ap (λ (a : Links Gen T). a.capacity) state;
         err = tt;
@@ -212,6 +217,7 @@ module _ {P I Gen T : Type 0} (key : P → ℕ × Gen) (number : I → ℕ) (old
 
     not_growing : (greatest : ℕ) (why : ChainInsertionError) → PlacesGrowing key number greatest old kind (Err why) mid → new ≡ mid → TellsGrowing greatest (Err why)
     not_growing greatest failed.FailedLinkRequirement told same = record {
+      may = tt;
       inserted = tt;
       err = same ∙ told.1;
       link = ((λ _. told.0), λ _. refl);
@@ -226,6 +232,7 @@ module _ {P I Gen T : Type 0} (key : P → ℕ × Gen) (number : I → ℕ) (old
       state_grown = tt;
     }
     not_growing greatest failed.BeyondMaxCapacity told same = let full = told.1.0 in let counted = values-count old in record {
+      may = tt;
       inserted = tt;
       err = same ∙ told.2;
       link = ((λ is. absurd (let h = is in cc)), λ lacks. absurd (lacks told.0));
@@ -240,6 +247,7 @@ module _ {P I Gen T : Type 0} (key : P → ℕ × Gen) (number : I → ℕ) (old
       state_grown = tt;
     }
     not_growing greatest failed.AllocError told same = let full = told.1.0 in let counted = values-count old in record {
+      may = tt;
       inserted = tt;
       err = same ∙ told.2;
       link = ((λ is. absurd (let h = is in cc)), λ lacks. absurd (lacks told.0));
@@ -269,6 +277,7 @@ module _ {P I Gen T : Type 0} (key : P → ℕ × Gen) (number : I → ℕ) (old
         let roomy : IsRoom greatest old.maximum (entry_count old + 1) mid.capacity = (subst (λ (a : Links Gen T). HasRoom greatest (entry_count old + 1) a) grown.state grown.room).0 in
         let fits = roomy.fits in
         let most = roomy.at_most_greatest in record {
+          may = place.may;
           inserted = insertion_told old t (listed_before greatest grown insertion.listed) new by state (key p) pointer agrees place.may.1;
           err = tt;
           link = ((λ h. absurd (let k = h in cc)), λ lacks. absurd (lacks place.may));

@@ -121,7 +121,7 @@ module _ {Gen T : Type 0} where
   pub reserves : (greatest n : ℕ) (old new : Links Gen T) (r : Result Unit ReallocationError) → (n ≤ old.capacity → IsOk r × (new ≡ old)) → (r ≡ Err refused.BeyondMaxCapacity) ↔ IsBeyond old.maximum n
       → OnOk r (IsRoom greatest new.maximum n new.capacity) → OnErr r (new ≡ old) → new ≡ with_capacity_of old new → HasRoom greatest (length new.slots) new → Reserves greatest old n r new
   reserves greatest n old new (Ok done) within beyond ok err state room =
-      (state, ⊎_elim (λ less. grown less (ok, room.1)) (λ enough. stays enough (ap (λ (a : Links Gen T). a.capacity) (within enough).1) (ap (λ (a : Links Gen T). a.stack_capacity) (within enough).1)) (cases_lt old.capacity n))
+      (state, ⊎_elim (λ less. grown less (ok, room.1, room.2)) (λ enough. stays enough (ap (λ (a : Links Gen T). a.capacity) (within enough).1) (ap (λ (a : Links Gen T). a.stack_capacity) (within enough).1)) (cases_lt old.capacity n))
   reserves greatest n old new (Err refused.BeyondMaxCapacity) within beyond ok err state room = ((lacking, beyond.0 refl), err)
     where
       lacking : old.capacity < n

@@ -4,60 +4,60 @@ use Rattle.std.proofs.lemmas.List.{length-map}
 use Rattle.arena_base.specs.Slots.{entry_of}
 use Rattle.arena_base.proofs.Soundness.{closed, none_sound}
 use Rattle.arena_base.proofs.Alike.{sound_too}
-use Rattle.arena_base.proofs.Copying.{has_slots_of, given_up, same_room}
+use Rattle.arena_base.proofs.Copying.{has_slots_of, given_up, on_err_is, on_ok_is, same_room}
 use Rattle.arena_base.proofs.arena.Arena.clone_from_by.Goals as goal
 
 pub invariant_of-self : goal.invariant_of-self
 invariant_of-self g c =
     let number = g.P.Inx.InxKey.number in
-    closed number (sound_too number c.in-Ok-copy_slots.ensures.alike c.source.invariant)
+    closed number (sound_too number (on_ok_is c.copy_slots-copied.result.0 _ c.in-Ok-copied.is c.copy_slots-copied.ensures.alike) c.source.invariant)
 
-pub invariant_of-self-in-Err-copy_slots : goal.invariant_of-self-in-Err-copy_slots
-invariant_of-self-in-Err-copy_slots g c = none_sound g.P.Inx.InxKey.number _ g.P.Inx.InxKey.greatest c.truncate-in-Err-copy_slots.ensures.items
+pub invariant_of-self-in-Err-copied : goal.invariant_of-self-in-Err-copied
+invariant_of-self-in-Err-copied g c = none_sound g.P.Inx.InxKey.number _ g.P.Inx.InxKey.greatest c.truncate-in-Err-copied.ensures.items
 
-pub returns-in-Ok-copy_slots : goal.returns-in-Ok-copy_slots
-returns-in-Ok-copy_slots g c =
+pub returns-in-Ok-copied : goal.returns-in-Ok-copied
+returns-in-Ok-copied g c =
     let greatest = g.P.Inx.InxKey.greatest in
     let source = c.source.inside in
     let self = c.self.inside in
     let grown = c.in-Ok.ensures in
     let count : c.len.result ≡ length c.args.source.now.slots = c.len.ensures ∙ (sym (length-map (g.S1.SlotStack.items source.slots) entry_of) ∙ ap (λ a. length a.slots) c.source.view_is) in
-    let stays : g.S.SlotStack.capacity c.copy_slots.new.slots ≡ g.S.SlotStack.capacity self.slots = c.copy_slots.ensures.capacity ∙ c.truncate.ensures.capacity in
-    let limit : g.S.SlotStack.maximum c.copy_slots.new.slots ≡ g.S.SlotStack.maximum self.slots = c.copy_slots.ensures.maximum ∙ c.truncate.ensures.maximum in
-    let room : min (g.S.SlotStack.capacity c.copy_slots.new.slots) greatest ≡ c.reallocate_min_capacity.new.self.capacity = ap (λ n. min n greatest) stays ∙ ap (λ a. a.capacity) c.self.view_is in
+    let stays : g.S.SlotStack.capacity c.copy_slots-copied.new.slots ≡ g.S.SlotStack.capacity self.slots = c.copy_slots-copied.ensures.capacity ∙ c.truncate.ensures.capacity in
+    let limit : g.S.SlotStack.maximum c.copy_slots-copied.new.slots ≡ g.S.SlotStack.maximum self.slots = c.copy_slots-copied.ensures.maximum ∙ c.truncate.ensures.maximum in
+    let room : min (g.S.SlotStack.capacity c.copy_slots-copied.new.slots) greatest ≡ c.reallocate_min_capacity.new.self.capacity = ap (λ n. min n greatest) stays ∙ ap (λ a. a.capacity) c.self.view_is in
     record {
       within = λ few. (inl refl, room ∙ ap (λ a. a.capacity) (grown.within (omega (arith, few, count))).1);
       beyond = (λ is. cc, λ beyond. let never = grown.beyond.1 (rw count beyond) in cc);
-      ok = (same_room count room (limit ∙ ap (λ a. a.maximum) c.self.view_is) grown.ok, refl);
-      copied = rw (← c.source.view_is) c.in-Ok-copy_slots.ensures.copies;
-      slots = has_slots_of g.P.Inx.InxKey.number (g.S1.SlotStack.items source.slots) (g.S.SlotStack.items c.copy_slots.new.slots) c.in-Ok-copy_slots.ensures.alike greatest source.len source.first_free c.source.invariant
-          c.args.source.now c.args.self.now c.reallocate_min_capacity.new.self source.counter self.counter _ (g.S.SlotStack.items self.slots) (g.S1.SlotStack.capacity source.slots) (g.S.SlotStack.capacity self.slots) (g.S.SlotStack.capacity c.copy_slots.new.slots) (g.S1.SlotStack.maximum source.slots) (g.S.SlotStack.maximum self.slots) (g.S.SlotStack.maximum c.copy_slots.new.slots)
+      ok = (same_room count room (limit ∙ ap (λ a. a.maximum) c.self.view_is) grown.ok, refl, g.met.S.SlotStack.within_maximum c.copy_slots-copied.new.slots);
+      copied = rw (← c.source.view_is) (on_ok_is c.copy_slots-copied.result.0 _ c.in-Ok-copied.is c.copy_slots-copied.ensures.copies);
+      slots = has_slots_of g.P.Inx.InxKey.number (g.S1.SlotStack.items source.slots) (g.S.SlotStack.items c.copy_slots-copied.new.slots) (on_ok_is c.copy_slots-copied.result.0 _ c.in-Ok-copied.is c.copy_slots-copied.ensures.alike) greatest source.len source.first_free c.source.invariant
+          c.args.source.now c.args.self.now c.reallocate_min_capacity.new.self source.counter self.counter _ (g.S.SlotStack.items self.slots) (g.S1.SlotStack.capacity source.slots) (g.S.SlotStack.capacity self.slots) (g.S.SlotStack.capacity c.copy_slots-copied.new.slots) (g.S1.SlotStack.maximum source.slots) (g.S.SlotStack.maximum self.slots) (g.S.SlotStack.maximum c.copy_slots-copied.new.slots)
           source.placed.count source.touched.count self.placed.count self.touched.count c.len.result stays limit c.source.view_is c.self.view_is grown.more c.len.ensures (λ few. (grown.within few).1);
       never_less = omega (arith, room, grown.never_less);
       err = tt;
     }
 
-pub returns-in-Err-copy_slots : goal.returns-in-Err-copy_slots
-returns-in-Err-copy_slots g c =
+pub returns-in-Err-copied : goal.returns-in-Err-copied
+returns-in-Err-copied g c =
     let greatest = g.P.Inx.InxKey.greatest in
     let source = c.source.inside in
     let self = c.self.inside in
     let grown = c.in-Ok.ensures in
     let count : c.len.result ≡ length c.args.source.now.slots = c.len.ensures ∙ (sym (length-map (g.S1.SlotStack.items source.slots) entry_of) ∙ ap (λ a. length a.slots) c.source.view_is) in
-    let stays : g.S.SlotStack.capacity c.truncate-in-Err-copy_slots.new.self ≡ g.S.SlotStack.capacity self.slots = c.truncate-in-Err-copy_slots.ensures.capacity ∙ (c.copy_slots.ensures.capacity ∙ c.truncate.ensures.capacity) in
-    let limit : g.S.SlotStack.maximum c.truncate-in-Err-copy_slots.new.self ≡ g.S.SlotStack.maximum self.slots = c.truncate-in-Err-copy_slots.ensures.maximum ∙ (c.copy_slots.ensures.maximum ∙ c.truncate.ensures.maximum) in
-    let room : min (g.S.SlotStack.capacity c.truncate-in-Err-copy_slots.new.self) greatest ≡ c.reallocate_min_capacity.new.self.capacity = ap (λ n. min n greatest) stays ∙ ap (λ a. a.capacity) c.self.view_is in
+    let stays : g.S.SlotStack.capacity c.truncate-in-Err-copied.new.self ≡ g.S.SlotStack.capacity self.slots = c.truncate-in-Err-copied.ensures.capacity ∙ (c.copy_slots-copied.ensures.capacity ∙ c.truncate.ensures.capacity) in
+    let limit : g.S.SlotStack.maximum c.truncate-in-Err-copied.new.self ≡ g.S.SlotStack.maximum self.slots = c.truncate-in-Err-copied.ensures.maximum ∙ (c.copy_slots-copied.ensures.maximum ∙ c.truncate.ensures.maximum) in
+    let room : min (g.S.SlotStack.capacity c.truncate-in-Err-copied.new.self) greatest ≡ c.reallocate_min_capacity.new.self.capacity = ap (λ n. min n greatest) stays ∙ ap (λ a. a.capacity) c.self.view_is in
     record {
-      within = λ few. (inr (rw (← c.source.view_is) c.in-Err-copy_slots.ensures.refused), room ∙ ap (λ a. a.capacity) (grown.within (omega (arith, few, count))).1);
+      within = λ few. (inr (rw (← c.source.view_is) (on_err_is c.copy_slots-copied.result.0 _ c.in-Err-copied.is c.copy_slots-copied.ensures.refused)), room ∙ ap (λ a. a.capacity) (grown.within (omega (arith, few, count))).1);
       beyond = (λ is. cc, λ beyond. let never = grown.beyond.1 (rw count beyond) in cc);
       ok = tt;
       copied = tt;
       slots = tt;
       never_less = omega (arith, room, grown.never_less);
       err = inr (
-        rw (← c.source.view_is) c.in-Err-copy_slots.ensures.refused,
-        given_up g.P.Inx.InxKey.number (g.S.SlotStack.items c.truncate-in-Err-copy_slots.new.self) (g.S.SlotStack.items self.slots) _ self.counter greatest (g.S.SlotStack.capacity c.truncate-in-Err-copy_slots.new.self) (g.S.SlotStack.capacity self.slots) (g.S.SlotStack.maximum c.truncate-in-Err-copy_slots.new.self) (g.S.SlotStack.maximum self.slots)
-            self.placed.count self.touched.count c.args.self.now c.reallocate_min_capacity.new.self c.truncate-in-Err-copy_slots.ensures.items stays limit c.self.view_is grown.more,
+        rw (← c.source.view_is) (on_err_is c.copy_slots-copied.result.0 _ c.in-Err-copied.is c.copy_slots-copied.ensures.refused),
+        given_up g.P.Inx.InxKey.number (g.S.SlotStack.items c.truncate-in-Err-copied.new.self) (g.S.SlotStack.items self.slots) _ self.counter greatest (g.S.SlotStack.capacity c.truncate-in-Err-copied.new.self) (g.S.SlotStack.capacity self.slots) (g.S.SlotStack.maximum c.truncate-in-Err-copied.new.self) (g.S.SlotStack.maximum self.slots)
+            self.placed.count self.touched.count c.args.self.now c.reallocate_min_capacity.new.self c.truncate-in-Err-copied.ensures.items stays limit c.self.view_is grown.more,
       );
     }
 
@@ -72,5 +72,5 @@ returns-in-Err g c =
       copied = tt;
       slots = tt;
       never_less = refused.never_less;
-      err = inl refused.err;
+      err = inl (refused.err, refl);
     }

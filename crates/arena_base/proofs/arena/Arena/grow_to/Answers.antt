@@ -1,5 +1,6 @@
 -- The stack grows, or has told why it does not.
 use Rattle.std.proofs.Common.{refl, ap, arith}
+use Rattle.arena_ptr.specs.SlotStack.{IsWithinMaximum}
 use Rattle.arena_base.specs.Slots.{arena_of, freed_of}
 use Rattle.arena_base.proofs.Copying.{on_ok, on_err}
 use Rattle.arena_base.proofs.Filling.{room_for}
@@ -12,10 +13,11 @@ returns g c =
     let items = g.S.SlotStack.items inside.slots in
     let new = c.reserve_to.new.self in
     let grown = c.reserve_to.ensures in
+    let within : IsWithinMaximum (g.S.SlotStack.maximum inside.slots) (g.S.SlotStack.capacity new) = rw (← grown.maximum) (g.met.S.SlotStack.within_maximum new) in
     rw (← c.self.view_is, grown.items, grown.maximum) (record {
       beyond = grown.beyond;
       greatest = λ above. absurd (omega (arith, above, c.greatest.ensures.value));
-      ok = on_ok c.reserve_to.result (λ fits. (room_for greatest c.args.n (g.S.SlotStack.capacity new) (g.S.SlotStack.maximum inside.slots) fits (omega (arith, c.greatest.ensures.value)) (rw (← grown.maximum) (g.met.S.SlotStack.within_maximum new)), refl)) grown.grown;
+      ok = on_ok c.reserve_to.result (λ fits. (room_for greatest c.args.n (g.S.SlotStack.capacity new) (g.S.SlotStack.maximum inside.slots) fits (omega (arith, c.greatest.ensures.value)) within, refl, within)) grown.grown;
       err = on_err c.reserve_to.result (ap (λ room. arena_of items (freed_of g.P.Inx.InxKey.number items inside.first_free) inside.counter greatest room (g.S.SlotStack.maximum inside.slots) inside.placed.count inside.touched.count)) grown.refused;
       after = refl;
       never_less = omega (arith, grown.never_less);

@@ -12,7 +12,7 @@ returns-else-is_full g c =
       room = λ _. (refl, refl);
       beyond = (λ is. cc, λ both. absurd (not_full both.0));
       greatest = λ most. absurd (omega (arith, less, most, room.0.at_most_greatest));
-      ok = (record { fits = omega (arith, less); at_most_greatest = room.0.at_most_greatest; within_maximum = room.0.within_maximum }, room.1);
+      ok = (record { fits = omega (arith, less); at_most_greatest = room.0.at_most_greatest; within_maximum = room.0.within_maximum }, room.1, room.2);
       err = tt;
       after = refl;
     }
