@@ -1,13 +1,13 @@
 -- Slots that are copied one by one: the values made so far, and the slots that are still to come.
-use Rattle.std.proofs.Common.{◌≡◌, true, false, IsErr, ℕ, zero, suc, ◌+◌, ◌≤◌, List, [], ◌∷◌, ◌++◌, map, length, length-append, drop, Option, None, Some, Result, Ok, Err, OnOk, OnErr, refl, ap, sym, ◌∙◌, subst, append_assoc, arith}
+use Rattle.std.proofs.Common.{◌≡◌, ℕ, zero, suc, ◌+◌, ◌≤◌, List, [], ◌∷◌, ◌++◌, map, length, length-append, drop, Option, None, Some, Result, Ok, Err, OnOk, OnErr, ◌⊎◌, inl, inr, refl, ap, sym, ◌∙◌, subst, append_assoc, arith}
 use Rattle.std.specs.Prelude.{slice_get, min}
 use Rattle.std.specs.List.{FoldsTo}
 use Rattle.std.proofs.lemmas.List.{append-nil, map-append, length-map, drop_all}
 use Rattle.std.proofs.lemmas.Fn.{FoldsTo-push}
 use Rattle.arena_base.specs.Arena.{Arena, IsRoom, with_capacity_of}
-use Rattle.arena_base.specs.Entries.{entries_from, entries, seen_of}
+use Rattle.arena_base.specs.Entries.{Seen, entries_from, entries, seen_of}
 use Rattle.arena_base.specs.Slots.{entry_of, allocated_slot, free_slot, without_value, without_values, freed_of, arena_of, IsSound}
-use Rattle.arena_base.specs.Copying.{Copied, Makes, CopiesBy, HasRefusable, IsCopyBy, HasSlotsOf, IsGivenUp, generations}
+use Rattle.arena_base.specs.Copying.{Copied, Makes, CopiesBy, HasRefusable, IsCopyBy, HasSlotsOf, IsGivenUp, IsLeftEmpty, generations}
 use Rattle.arena_base.specs.declared.slot.ArenaSlot.{ArenaSlot}
 use Rattle.arena_base.proofs.Reading.{map-push}
 use Rattle.arena_base.proofs.Soundness.{walked_all}
@@ -128,10 +128,9 @@ module _ {F P U T Inx Gen Word : Type 0} (makes : F → P → U → T → F → 
       pub copied_alike : without_values slots ≡ without_values old
       copied_alike = sym (append-nil (without_values slots)) ∙ (ap (λ s. without_values slots ++ without_values s) (sym nothing_left) ∙ c.alike)
 
-      pub copied_all : CopiesBy makes key first (entries_from 1 (map entry_of old)) (entries_from 1 (map entry_of slots))
+      pub copied_all : CopiesBy makes key first (entries_from 1 (map entry_of old)) (entries_from 1 (map entry_of slots)) f
       copied_all = record {
         made = c.calls;
-        last = f;
         in_turn = c.in_turn;
         before = sym (append-nil (map (before_call key) c.calls)) ∙ (ap (λ s. map (before_call key) c.calls ++ entries_from (suc k) (map entry_of s)) (sym nothing_left) ∙ c.before);
         after = c.after;
@@ -183,9 +182,9 @@ pub same_room : {greatest n m capacity room : ℕ} {maximum most : Option ℕ} �
 same_room count same_capacity same_maximum r = rw (← count, same_capacity, same_maximum) r
 
 -- what generic code sees of it
-pub copy_seen : {F P T U Gen : Type 0} (makes : F → P → U → T → F → Type 0) (key : P → ℕ × Gen) (f : F) (source : Arena Gen U) (old new : Arena Gen T)
-    → HasSlotsOf source old new → CopiesBy makes key f (entries source) (entries new) → IsCopyBy makes key f source (seen_of old) (seen_of new)
-copy_seen {T = T} {Gen = Gen} makes key f source old new has made =
+pub copy_seen : {F P T U Gen : Type 0} (makes : F → P → U → T → F → Type 0) (key : P → ℕ × Gen) (f last : F) (source : Arena Gen U) (old new : Arena Gen T)
+    → HasSlotsOf source old new → CopiesBy makes key f (entries source) (entries new) last → IsCopyBy makes key f source (seen_of old) (seen_of new) last
+copy_seen {T = T} {Gen = Gen} makes key f last source old new has made =
     let counted : length new.slots ≡ length source.slots = sym (length-map new.slots _) ∙ (ap length has.generations ∙ length-map source.slots _) in
     record {
       entries = made;
@@ -199,20 +198,30 @@ copy_seen {T = T} {Gen = Gen} makes key f source old new has made =
       maximum = ap (λ (s : Arena Gen T). s.maximum) has.state;
     }
 
--- a part of what makes the values has made them, where it is told how each changes that part
-module _ {V F P U T : Type 0} (makes : F → P → U → T → F → Type 0) (see : V → F) where
-  folds_seen : (made : List (Copied P U T)) (f last : V) → FoldsTo (Makes (λ v p u t w. makes (see v) p u t (see w))) f made last → FoldsTo (Makes makes) (see f) made (see last)
+-- what makes the values, looked at in part, has made them
+module _ {V F P U T : Type 0} (makes : V → P → U → T → V → Type 0) (others : F → P → U → T → F → Type 0) (see : V → F)
+    (step : (v : V) (p : P) (u : U) (t : T) (w : V) → makes v p u t w → others (see v) p u t (see w)) where
+  folds_seen : (made : List (Copied P U T)) (f last : V) → FoldsTo (Makes makes) f made last → FoldsTo (Makes others) (see f) made (see last)
   folds_seen [] f last folds = ap see folds
-  folds_seen (c ∷ made) f last folds = (see folds.0, folds.1, folds_seen made folds.0 last folds.2)
+  folds_seen (c ∷ made) f last folds = (see folds.0, step f c.pointer c.shown c.answer folds.0 folds.1, folds_seen made folds.0 last folds.2)
 
-  pub made_by : {Gen : Type 0} (key : P → ℕ × Gen) (f : V) (source : List ((ℕ × Gen) × U)) (copy : List ((ℕ × Gen) × T))
-      → CopiesBy (λ v p u t w. makes (see v) p u t (see w)) key f source copy → CopiesBy makes key (see f) source copy
-  made_by key f source copy c = record {
+  pub made_by : {Gen : Type 0} (key : P → ℕ × Gen) (f last : V) (source : List ((ℕ × Gen) × U)) (copy : List ((ℕ × Gen) × T))
+      → CopiesBy makes key f source copy last → CopiesBy others key (see f) source copy (see last)
+  made_by key f last source copy c = record {
     made = c.made;
-    last = see c.last;
-    in_turn = folds_seen c.made f c.last c.in_turn;
+    in_turn = folds_seen c.made f last c.in_turn;
     before = c.before;
     after = c.after;
+  }
+
+  -- .. of an arena
+  pub copy_by : {Gen : Type 0} (key : P → ℕ × Gen) (f last : V) (source : Arena Gen U) (old new : Seen Gen T)
+      → IsCopyBy makes key f source old new last → IsCopyBy others key (see f) source old new (see last)
+  copy_by key f last source old new copy = record {
+    entries = made_by key f last (entries source) new.entries copy.entries;
+    counter = copy.counter;
+    slots = copy.slots;
+    maximum = copy.maximum;
   }
 
 -- what holds of an answer, by two things that do
@@ -229,12 +238,33 @@ pub on_err : {X E A B : Type 0} (r : Result X E) → (A → B) → OnErr r A →
 on_err (Ok x) f a = tt
 on_err (Err e) f a = f a
 
--- what holds anyhow holds at a refusal
-pub on_err_anyhow : {X E A : Type 0} (r : Result X E) → A → OnErr r A
-on_err_anyhow (Ok x) a = tt
-on_err_anyhow (Err e) a = a
+-- a refusal of two sorts, by what each sort says
+pub on_err_either : {X E A B C D : Type 0} (r : Result X E) → (A → C) → (B → D) → OnErr r (A ⊎ B) → OnErr r (C ⊎ D)
+on_err_either (Ok x) first second d = tt
+on_err_either (Err e) first second (inl a) = inl (first a)
+on_err_either (Err e) first second (inr b) = inr (second b)
 
--- nothing is asked of a success there
-pub on_ok_refused : {X E : Type 0} (A : Type 0) (r : Result X E) → IsErr r → OnOk r A
-on_ok_refused A (Ok x) refused = let never : false ≡ true = refused in cc
-on_ok_refused A (Err e) refused = tt
+pub on_err_by : {X E A B C : Type 0} (r : Result X E) → (A → C) → (B → C) → OnErr r (A ⊎ B) → OnErr r C
+on_err_by (Ok x) first second d = tt
+on_err_by (Err e) first second (inl a) = first a
+on_err_by (Err e) first second (inr b) = second b
+
+-- one of two, where the other is told in other words, or never comes
+pub either_as : {A B C N : Type 0} → (B → C) → (A ⊎ B) × N → (A ⊎ C) × N
+either_as other (inl a, n) = (inl a, n)
+either_as other (inr b, n) = (inr (other b), n)
+
+pub surely : {A B N : Type 0} → (B → ⊥) → (A ⊎ B) × N → A × N
+surely never (inl a, n) = (a, n)
+surely never (inr b, n) = absurd (never b)
+
+-- what generic code sees of an arena that has lost its slots
+pub given_up_seen : {Gen T : Type 0} (old new : Arena Gen T) → IsGivenUp old new → IsLeftEmpty (seen_of old) (seen_of new)
+given_up_seen old new is = ap seen_of is
+
+-- what holds of an answer, where the answer is known
+pub on_ok_is : {X E A : Type 0} (r : Result X E) (x : X) → r ≡ Ok x → OnOk r A → A
+on_ok_is {A = A} r x is holds = subst (λ q. OnOk q A) is holds
+
+pub on_err_is : {X E A : Type 0} (r : Result X E) (e : E) → r ≡ Err e → OnErr r A → A
+on_err_is {A = A} r e is holds = subst (λ q. OnErr q A) is holds

@@ -1,6 +1,6 @@
 mod Alike
 pub mod Closing
-mod Copying
+pub mod Copying
 pub mod Filling
 mod FreeSlots
 pub mod Gathering

@@ -18,10 +18,10 @@ module _ {F P U T : Type 0} (makes : F → P → U → T → F → Type 0) where
   abbrev pub Makes : F → Copied P U T → F → Type 0
   Makes f made next = makes f made.pointer made.shown made.answer next
 
-  -- it is shown each entry of the source once, in the order of the entries, and answers the values of the copy
-  pub record CopiesBy {Gen : Type 0} (key : P → ℕ × Gen) (f : F) (source : List ((ℕ × Gen) × U)) (copy : List ((ℕ × Gen) × T)) : Type 0 where
+  -- it is shown each entry of the source once, in the order of the entries, and answers the values of the copy. So it came
+  -- to be what it is last
+  pub record CopiesBy {Gen : Type 0} (key : P → ℕ × Gen) (f : F) (source : List ((ℕ × Gen) × U)) (copy : List ((ℕ × Gen) × T)) (last : F) : Type 0 where
     pub made : List (Copied P U T)
-    pub last : F
     pub in_turn : FoldsTo Makes f made last
     pub before : map (λ c. (key c.pointer, c.shown)) made ≡ source
     pub after : map (λ c. (key c.pointer, c.answer)) made ≡ copy
@@ -50,16 +50,16 @@ module _ {V : Type 0} where
 abbrev pub with_slots_of : {Gen U : Type 0} → Arena Gen U → Slots → Slots
 with_slots_of source slots = record slots { count = length source.slots; freed = source.freed }
 
--- an arena that has become a copy, as generic code sees it
-pub record IsCopyBy {F P U T Gen : Type 0} (makes : F → P → U → T → F → Type 0) (key : P → ℕ × Gen) (f : F) (source : Arena Gen U) (old new : Seen Gen T) : Type 0 where
-  pub entries : CopiesBy makes key f (entries source) new.entries
+-- an arena that has become a copy, as generic code sees it, by what made the values
+pub record IsCopyBy {F P U T Gen : Type 0} (makes : F → P → U → T → F → Type 0) (key : P → ℕ × Gen) (f : F) (source : Arena Gen U) (old new : Seen Gen T) (last : F) : Type 0 where
+  pub entries : CopiesBy makes key f (entries source) new.entries last
   pub counter : new.counter ≡ option_map (λ _. source.counter) old.counter
   pub slots : new.slots ≡ option_map (with_slots_of source) old.slots
   pub maximum : new.maximum ≡ old.maximum
 
 -- .. where a closure makes the values
 abbrev pub IsCopy : {F P U T Gen : Type 0} → Mut F (P × (Bor U × Unit {0})) T → (P → ℕ × Gen) → F → Arena Gen U → Seen Gen T → Seen Gen T → Type 0
-IsCopy g key = IsCopyBy (IsCopyCall g itself) key
+IsCopy {F = F} g key f source old new = (last : F) × IsCopyBy (IsCopyCall g itself) key f source old new last
 
 -- the generation in each slot, where an entry stands there
 abbrev pub generations : {Gen T : Type 0} → List (Option (Gen × T)) → List (Option Gen)
@@ -75,3 +75,10 @@ pub record HasSlotsOf {Gen U T : Type 0} (source : Arena Gen U) (old new : Arena
 -- the arena that was to become a copy, when a value could not be made: nothing but its counter and its room is left
 abbrev pub IsGivenUp : {Gen T : Type 0} → Arena Gen T → Arena Gen T → Type 0
 IsGivenUp old new = new ≡ record (with_capacity_of old new) { slots = []; freed = [] }
+
+-- .. as generic code sees it
+abbrev pub without_slots : Slots → Slots
+without_slots slots = record slots { count = 0; freed = [] }
+
+abbrev pub IsLeftEmpty : {Gen T : Type 0} → Seen Gen T → Seen Gen T → Type 0
+IsLeftEmpty old new = new ≡ record old { entries = []; slots = option_map without_slots old.slots; capacity = new.capacity }

@@ -11,10 +11,11 @@ use crate::slot::{ArenaSlot, inx_at};
 use crate::traits::{ArenaCloneFromWith, ArenaTrait, ValueMap};
 use arena_ptr::{AllocError, PtrKey, ReallocationError, SlotStack};
 
-// Makes the values of a copy by a closure.
+/// Makes the values of a copy by a closure, which sees the pointer and the value of each entry.
 #[derive(Drop)]
-struct Answering<F> {
-    map: F,
+pub struct Answering<F> {
+    /// The closure.
+    pub map: F,
 }
 
 impl<P, U, T, F: FnMut(P, &U) -> T + Drop> ValueMap<P, U, T> for Answering<F> {
@@ -32,7 +33,8 @@ impl<P, U, T, F: FnMut(P, &U) -> T + Drop> ValueMap<P, U, T> for Answering<F> {
 }
 
 // Appends a copy of each slot to an empty stack: a free one names the same next, and an entry has the same generation,
-// and a value that the map makes. It is shown each entry once, by rising index, up to the first value that is refused.
+// and a value that the map makes. It is shown each entry once, by rising index, up to the first value that is refused, and
+// handed back.
 fn copy_slots<
     P: PtrKey,
     T: Drop,
@@ -40,16 +42,16 @@ fn copy_slots<
     S: SlotStack<Item = ArenaSlot<P, T>>,
     S1: SlotStack<Item = ArenaSlot<P, U>>,
     M: ValueMap<P, U, T>,
->(slots: &mut S, source: &S1, mut values: M) -> Result<(), AllocError>
+>(slots: &mut S, source: &S1, mut values: M) -> (Result<(), AllocError>, M)
     requires ready { M.is_ready values }
     requires empty { S.items slots.old ≡ [] }
     requires room { length (S1.items source.now) ≤ S.capacity slots.old }
     requires fits { length (S1.items source.now) ≤ P.Inx.greatest }
-    ensures alike { OnOk result (without_values (S.items slots.new) ≡ without_values (S1.items source.now)) }
-    ensures copies { OnOk result (CopiesBy M.makes P.key values (entries_from 1 (map entry_of (S1.items source.now))) (entries_from 1 (map entry_of (S.items slots.new)))) }
+    ensures alike { OnOk result.0 (without_values (S.items slots.new) ≡ without_values (S1.items source.now)) }
+    ensures copies { OnOk result.0 (CopiesBy M.makes P.key values (entries_from 1 (map entry_of (S1.items source.now))) (entries_from 1 (map entry_of (S.items slots.new))) result.1) }
     ensures capacity { S.capacity slots.new ≡ S.capacity slots.old }
     ensures maximum { S.maximum slots.new ≡ S.maximum slots.old }
-    ensures refused { OnErr result (HasRefusable M.may_refuse P.key (entries_from 1 (map entry_of (S1.items source.now)))) }
+    ensures refused { OnErr result.0 (HasRefusable M.may_refuse P.key (entries_from 1 (map entry_of (S1.items source.now)))) }
 {
     for k in 0..source.len() {
         let slot = match source.get(k) {
@@ -58,56 +60,61 @@ fn copy_slots<
         };
         match slot {
             ArenaSlot::Allocated(generation, u) => {
-                let t = values.map_value(P::_from_raw(inx_at::<P>(k), *generation), u)?;
-                slots.push_within(ArenaSlot::Allocated(*generation, t));
+                match values.map_value(P::_from_raw(inx_at::<P>(k), *generation), u) {
+                    Ok(t) => slots.push_within(ArenaSlot::Allocated(*generation, t)),
+                    Err(e) => return (Err(e), values),
+                }
             }
             ArenaSlot::Free(next) => slots.push_within(ArenaSlot::Free(*next)),
         }
     }
-    Ok(())
+    (Ok(()), values)
 }
 
 impl<P: PtrKey, T: Drop, S: SlotStack<Item = ArenaSlot<P, T>>> Arena<P, T, S> {
     /// Becomes a copy of the source: its indexes, generations, counter, number of slots and freed list, with values that
-    /// the map makes. It is shown each entry of the source once, by rising index. What the arena held is dropped. It grows
-    /// only where the source has more slots than its capacity.
+    /// the map makes. It is shown each entry of the source once, by rising index, and handed back. What the arena held is
+    /// dropped. It grows only where the source has more slots than its capacity.
     ///
     /// `BeyondMaxCapacity`: the source has more slots than the maximum, which is tested first. `AllocError`: memory was
-    /// refused. After either nothing has changed, and the map made no value; but where the memory was refused for a value,
-    /// the arena is left without entries and slots.
+    /// refused. After either nothing has changed, and the map was shown nothing; but where the memory was refused for a
+    /// value, the arena is left without entries and slots.
     pub fn clone_from_by<U: Drop, S1: SlotStack<Item = ArenaSlot<P, U>>, M: ValueMap<P, U, T>>(
         &mut self,
         source: &Arena<P, U, S1>,
         values: M,
-    ) -> Result<(), ReallocationError>
+    ) -> (Result<(), ReallocationError>, M)
         requires { M.is_ready values }
-        ensures within { length source.now.slots ≤ self.old.capacity → (IsOk result ⊎ HasRefusable M.may_refuse P.key (entries source.now)) × (self.new.capacity ≡ self.old.capacity) }
-        ensures beyond { (result ≡ Err ReallocationError.BeyondMaxCapacity) ↔ IsBeyond self.old.maximum (length source.now.slots) }
-        ensures ok { OnOk result (HasRoom P.Inx.greatest (length source.now.slots) self.new) }
-        ensures copied { OnOk result (CopiesBy M.makes P.key values (entries source.now) (entries self.new)) }
-        ensures slots { OnOk result (HasSlotsOf source.now self.old self.new) }
+        ensures within { length source.now.slots ≤ self.old.capacity →
+            (IsOk result.0 ⊎ HasRefusable M.may_refuse P.key (entries source.now)) × (self.new.capacity ≡ self.old.capacity) }
+        ensures beyond { (result.0 ≡ Err ReallocationError.BeyondMaxCapacity) ↔ IsBeyond self.old.maximum (length source.now.slots) }
+        ensures ok { OnOk result.0 (HasRoom P.Inx.greatest (length source.now.slots) self.new) }
+        ensures copied { OnOk result.0 (CopiesBy M.makes P.key values (entries source.now) (entries self.new) result.1) }
+        ensures slots { OnOk result.0 (HasSlotsOf source.now self.old self.new) }
         ensures never_less { self.old.capacity ≤ self.new.capacity }
-        ensures err { OnErr result ((self.new ≡ self.old) ⊎ (HasRefusable M.may_refuse P.key (entries source.now) × IsGivenUp self.old self.new)) }
+        ensures err { OnErr result.0 (((self.new ≡ self.old) × (result.1 ≡ values))
+            ⊎ (HasRefusable M.may_refuse P.key (entries source.now) × IsGivenUp self.old self.new)) }
     {
         match self.reallocate_min_capacity(source.slots.len()) {
             Ok(()) => {
                 self.slots.truncate(0);
-                match copy_slots(&mut self.slots, &source.slots, values) {
+                let (copied, values) = copy_slots(&mut self.slots, &source.slots, values);
+                match copied {
                     Ok(()) => {
                         self.len = source.len;
                         self.first_free = source.first_free;
                         self.counter = source.counter;
-                        Ok(())
+                        (Ok(()), values)
                     }
                     Err(_) => {
                         self.slots.truncate(0);
                         self.len = 0;
                         self.first_free = None;
-                        Err(ReallocationError::AllocError)
+                        (Err(ReallocationError::AllocError), values)
                     }
                 }
             }
-            Err(e) => Err(e),
+            Err(e) => (Err(e), values),
         }
     }
 }
@@ -118,11 +125,11 @@ impl<P: PtrKey, T: Drop, S: SlotStack<Item = ArenaSlot<P, T>>> ArenaCloneFromWit
 
     ghost copies = { λ _ source old new. HasSlotsOf source old new };
 
-    fn clone_from_with<U: Drop, S1: SlotStack<Item = ArenaSlot<P, U>>, F: FnMut(P, &U) -> T + Drop>(
+    fn clone_from_by<U: Drop, S1: SlotStack<Item = ArenaSlot<P, U>>, M: ValueMap<P, U, T>>(
         &mut self,
         source: &Arena<P, U, S1>,
-        map: F,
-    ) -> Result<(), ReallocationError> {
-        self.clone_from_by(source, Answering { map })
+        values: M,
+    ) -> (Result<(), ReallocationError>, M) {
+        Arena::clone_from_by(self, source, values)
     }
 }

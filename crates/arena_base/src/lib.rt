@@ -19,6 +19,7 @@ mod traits;
 pub use advancer::PtrAdvancer;
 pub use arena::{Arena, invalidated, outcome};
 pub use compactor::{Compactor, SlotAccess, Work};
+pub use copy::Answering;
 pub use entry::ArenaInsertEntry;
 pub use iterators::{CapacityDrain, Iter};
 pub use slot::{ArenaSlot, inx_at};

@@ -1,5 +1,5 @@
 // What arenas share, so that code may be generic over them.
-ghost use Rattle.std.specs.Prelude.{◌≡◌, ℕ, ◌<◌, ◌≤◌, ◌+◌, ◌^◌, ◌↔◌, ⊤, [], length, All, IsTrue, IsSome, IfSome, OnSome, IsOk, IfOk, IsErr, OnOk, OnErr, Some, None, Option, if◌then◌else◌};
+ghost use Rattle.std.specs.Prelude.{◌≡◌, ℕ, ◌<◌, ◌≤◌, ◌+◌, ◌^◌, ◌↔◌, ◌⊎◌, ⊤, [], length, All, IsTrue, IsSome, IfSome, OnSome, IsOk, IfOk, IsErr, OnOk, OnErr, Some, None, Option, if◌then◌else◌};
 ghost use Rattle.std.specs.Option.{option_map, option_copied_mut};
 ghost use Rattle.std.specs.Borrow.{LendsSo, sem};
 ghost use Rattle.arena_ptr.specs.Numbers.{IsWithin};
@@ -8,11 +8,13 @@ ghost use Rattle.arena_ptr.specs.Invalidation.{value_within, invalidation_result
 ghost use Rattle.arena_base.specs.Arena.{IsRoom, IsValid, seen_entry, overflows_after_clear};
 ghost use Rattle.arena_base.specs.Entries.{Seen, AreTheSlots, index_of, IsNew, found, RisesFrom, first_key, last_key, removed, renewed, written, emptied, with_capacity};
 ghost use Rattle.arena_base.specs.Advancing.{IsLookUntilNone};
-ghost use Rattle.arena_base.specs.Copying.{IsCopy};
+ghost use Rattle.arena_base.specs.Entries.{entries};
+ghost use Rattle.arena_base.specs.Copying.{IsCopy, IsCopyBy, HasRefusable, IsLeftEmpty};
 ghost use Rattle.arena_base.specs.Compressing.{IsCompressed, VisitsAll, overflows_after_compression, values_in};
 ghost use Rattle.arena_base.specs.declared.look.Look.{Look};
 
 use crate::arena::Arena;
+use crate::copy::Answering;
 use crate::slot::ArenaSlot;
 use arena_ptr::{
     AllocError, GenKey, InvalidationOption, InvalidationResult, InxKey, PtrKey, ReallocationError,
@@ -222,8 +224,8 @@ pub trait ArenaTrait<P: PtrKey, T: Drop> {
     /// Closes the gaps: the entry of the k-th least index comes to index k. The closure sees each entry once, in that
     /// order: the pointer that it had, its value, for writing, and the pointer that it has. With `reset` the counter becomes
     /// two; else it is incremented once where there are entries. Each entry gets the counter as its generation. The slots
-    /// are exactly the entries then, and none is freed; the capacity stays. It takes no memory, and time in proportion to
-    /// the slots.
+    /// are exactly the entries then, and none is freed; the capacity stays. It takes no memory.
+    /// No clause tells its time: as it is written, that is in proportion to the slots.
     ///
     /// `GenerationOverflow`: the counter was at its greatest, and is two now.
     fn compress_with<F: FnMut(P, &mut T, P) + Drop>(
@@ -285,7 +287,7 @@ pub trait ValueMap<P, U, T>: Drop {
         ensures refused { OnErr result (may_refuse p u.now) };
 }
 
-/// An arena that can become a copy of an `Arena`, with values that a closure makes of the values there.
+/// An arena that can become a copy of an `Arena`, with values that are made of the values there.
 ///
 /// Carries `ArenaCloneFromWith` of `triple_arena`.
 pub trait ArenaCloneFromWith<P: PtrKey, T: Drop>: ArenaTrait<P, T> {
@@ -294,13 +296,35 @@ pub trait ArenaCloneFromWith<P: PtrKey, T: Drop>: ArenaTrait<P, T> {
     // What more is known than what is seen, where the second arena became the third as a copy of the first.
     ghost copies: { (U : Type 0) → State P.Gen U → Self → Self → Type 0 } = { λ _ _ _ _. ⊤ };
 
-    /// Becomes a copy of the source: its indexes, generations, counter, number of slots and freed list, with the
-    /// closure's answers as values. The closure sees each entry of the source once, by rising index. What the arena held is
+    /// Becomes a copy of the source: its indexes, generations, counter, number of slots and freed list, with values that
+    /// the map makes. It is shown each entry of the source once, by rising index, and handed back. What the arena held is
     /// dropped. It grows only where the source has more slots than its capacity.
     ///
     /// `BeyondMaxCapacity`: the source has more slots than the maximum, which is tested first. `AllocError`: memory was
-    /// refused. After either nothing has changed, and the closure was not called.
-    fn clone_from_with<U: Drop, S1: SlotStack<Item = ArenaSlot<P, U>>, F: FnMut(P, &U) -> T + Drop>(
+    /// refused. After either nothing has changed, and the map was shown nothing; but where the memory was refused for a
+    /// value, the arena is left without entries and slots.
+    fn clone_from_by<U: Drop, S1: SlotStack<Item = ArenaSlot<P, U>>, M: ValueMap<P, U, T>>(
+        &mut self,
+        source: &Arena<P, U, S1>,
+        values: M,
+    ) -> (Result<(), ReallocationError>, M)
+        requires { M.is_ready values }
+        ensures within { length source.now.slots ≤ (Self.seen self.old).capacity →
+            (IsOk result.0 ⊎ HasRefusable M.may_refuse P.key (entries source.now)) × ((Self.seen self.new).capacity ≡ (Self.seen self.old).capacity) }
+        ensures beyond { (result.0 ≡ Err ReallocationError.BeyondMaxCapacity) ↔ IsBeyond (Self.seen self.old).maximum (length source.now.slots) }
+        ensures ok { OnOk result.0 (IsRoom P.Inx.greatest (Self.seen self.new).maximum (length source.now.slots) (Self.seen self.new).capacity) }
+        ensures copied { OnOk result.0 (IsCopyBy M.makes P.key values source.now (Self.seen self.old) (Self.seen self.new) result.1) }
+        ensures never_less { (Self.seen self.old).capacity ≤ (Self.seen self.new).capacity }
+        ensures err { OnErr result.0 (((self.new ≡ self.old) × (result.1 ≡ values))
+            ⊎ (HasRefusable M.may_refuse P.key (entries source.now) × IsLeftEmpty (Self.seen self.old) (Self.seen self.new))) }
+        ensures more { OnOk result.0 (copies U source.now self.old self.new) };
+
+    /// Becomes a copy of the source, as by `clone_from_by`, with the closure's answers as values. The closure sees each
+    /// entry of the source by rising index.
+    ///
+    /// `BeyondMaxCapacity`: the source has more slots than the maximum, which is tested first. `AllocError`: memory was
+    /// refused. After either nothing has changed.
+    final fn clone_from_with<U: Drop, S1: SlotStack<Item = ArenaSlot<P, U>>, F: FnMut(P, &U) -> T + Drop>(
         &mut self,
         source: &Arena<P, U, S1>,
         map: F,
@@ -312,5 +336,9 @@ pub trait ArenaCloneFromWith<P: PtrKey, T: Drop>: ArenaTrait<P, T> {
         ensures copied { OnOk result (IsCopy F.FnMut P.key map source.now (Self.seen self.old) (Self.seen self.new)) }
         ensures never_less { (Self.seen self.old).capacity ≤ (Self.seen self.new).capacity }
         ensures err { OnErr result (self.new ≡ self.old) }
-        ensures more { OnOk result (copies U source.now self.old self.new) };
+        ensures more { OnOk result (copies U source.now self.old self.new) }
+    {
+        let (done, _) = self.clone_from_by(source, Answering { map });
+        done
+    }
 }

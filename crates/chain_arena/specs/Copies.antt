@@ -15,14 +15,28 @@ pub record MakesLink {F P K U T : Type 0} (number : K → Option ℕ) (makes : F
   pub interlinks : interlinks_in (seen_link number t) ≡ interlinks_in (seen_link number u)
   pub value : makes f p (seen_link number u) t.t next
 
--- a chain arena has become a copy of another, with the answers of a closure as values
-pub record IsLinkCopy {F P K U T Gen : Type 0} (g : Mut F (P × (Bor (LinkBody K U) × Unit {0})) T) (number : K → Option ℕ) (key : P → ℕ × Gen) (f : F) (source : Arena Gen (LinkSeen U)) (old new : Arena Gen (LinkSeen T)) : Type 0 where
+-- what makes values of what it is shown, told by what that looks like
+pub record MakesOf {F P V U T : Type 0} (look : V → U) (makes : F → P → V → T → F → Type 0) (f : F) (p : P) (u : U) (t : T) (next : F) : Type 0 where
+  pub shown : V
+  pub looks : look shown ≡ u
+  pub made : makes f p shown t next
+
+-- .. and which of them may be refused
+abbrev pub RefusesOf : {P V U : Type 0} → (V → U) → (P → V → Type 0) → P → U → Type 0
+RefusesOf {V = V} look may_refuse p u = (shown : V) × (look shown ≡ u) × may_refuse p shown
+
+-- a chain arena has become a copy of another, with values that were made of its links
+pub record IsLinkCopyBy {F P U T Gen : Type 0} (makes : F → P → LinkSeen U → T → F → Type 0) (key : P → ℕ × Gen) (f : F) (source : Arena Gen (LinkSeen U)) (old new : Arena Gen (LinkSeen T)) (last : F) : Type 0 where
   -- the slots are those of the source but for the values, the counter and the freed list are the same ..
   pub slots : HasSlotsOf source old new
   -- .. and each link names the same neighbors
   pub shows : shown new ≡ shown source
-  -- the closure sees each link of the source once, by rising index, and answers the values
-  pub values : CopiesBy (IsCopyCall g (seen_link number)) key f (entries source) (entries (values_of new))
+  -- what makes the values was shown each link of the source once, by rising index, and so came to be what it is last
+  pub values : CopiesBy makes key f (entries source) (entries (values_of new)) last
+
+-- .. that a closure answered
+abbrev pub IsLinkCopy : {F P K U T Gen : Type 0} → Mut F (P × (Bor (LinkBody K U) × Unit {0})) T → (K → Option ℕ) → (P → ℕ × Gen) → F → Arena Gen (LinkSeen U) → Arena Gen (LinkSeen T) → Arena Gen (LinkSeen T) → Type 0
+IsLinkCopy {F = F} g number key f source old new = (last : F) × IsLinkCopyBy (IsCopyCall g (seen_link number)) key f source old new last
 
 -- a new arena that has the links, the counter and the freed list of another, with room of its own
 abbrev pub IsClone : {Gen T : Type 0} → Gen → Option ℕ → Arena Gen (LinkSeen T) → Arena Gen (LinkSeen T) → Type 0

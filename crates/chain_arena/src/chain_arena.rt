@@ -111,8 +111,12 @@ impl<P: PtrKey, T: Drop, S: SlotStack<Item = ArenaSlot<P, LinkNoGen<P, T>>>> Cha
         self.arena.inc_generation()
     }
 
-    // Sets the counter, and lays the links out. Answers whether the counter overflowed, the visitor, and the work.
-    fn compress_by<V: Visitor<P>>(
+    /// Lays the chains one after another from index 1 on, as `compress_canonical` does, and shows each link to the
+    /// visitor, once, by rising new index: by the pointer that it had, and the one that it has then. Answers whether the
+    /// counter overflowed, the visitor, which has seen the links and nothing else, and the work. It takes no memory.
+    ///
+    /// `GenerationOverflow`: the counter was at its greatest, and is two now.
+    pub fn compress_canonical_by<V: Visitor<P>>(
         &mut self,
         reset: bool,
         visitor: V,
@@ -131,9 +135,8 @@ impl<P: PtrKey, T: Drop, S: SlotStack<Item = ArenaSlot<P, LinkNoGen<P, T>>>> Cha
         (overflow, visitor, work)
     }
 
-    /// Lays the chains one after another from index 1 on, in the order of their least indexes, as `compress_canonical`
-    /// does, and shows each link to the closure, once, by rising new index: by the pointer that it had, and the one that it
-    /// has. It takes no memory.
+    /// Lays the chains one after another from index 1 on, as by `compress_canonical_by`, and shows each link to the closure,
+    /// by rising new index: by the pointer that it had, and the one that it has then. It takes no memory.
     ///
     /// `GenerationOverflow`: the counter was at its greatest, and is two now.
     pub fn compress_canonical_with<F: FnMut(P, P) + Drop>(
@@ -148,7 +151,7 @@ impl<P: PtrKey, T: Drop, S: SlotStack<Item = ArenaSlot<P, LinkNoGen<P, T>>>> Cha
         ensures overflow { result ≡ invalidation_option (overflows_after_compression P.Gen.wraps reset (entry_count self.old) self.old.counter) tt }
         ensures agreed { Agrees (shown self.old) }
     {
-        let (overflow, _, _) = self.compress_by(reset, Showing { map });
+        let (overflow, _, _) = self.compress_canonical_by(reset, Showing { map });
         overflow
     }
 
@@ -170,7 +173,7 @@ impl<P: PtrKey, T: Drop, S: SlotStack<Item = ArenaSlot<P, LinkNoGen<P, T>>>> Cha
         ensures agreed { Agrees (shown self.old) }
     {
         let moves = Vec::with_capacity(alloc, self.len())?;
-        let (overflow, listing, _) = self.compress_by(reset, Listing { moves });
+        let (overflow, listing, _) = self.compress_canonical_by(reset, Listing { moves });
         Ok((overflow, listing.moves))
     }
 
@@ -186,7 +189,7 @@ impl<P: PtrKey, T: Drop, S: SlotStack<Item = ArenaSlot<P, LinkNoGen<P, T>>>> Cha
         ensures touched { self.new.touched ≡ self.old.touched + result.1.touched }
         ensures agreed { Agrees (shown self.old) }
     {
-        let (overflow, _, work) = self.compress_by(
+        let (overflow, _, work) = self.compress_canonical_by(
             reset,
             Showing {
                 map: |_p: P, _q: P| {},

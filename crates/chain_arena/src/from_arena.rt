@@ -12,7 +12,7 @@ use chain_links::LinkNoGen;
 
 impl<P: PtrKey, T: Drop, S: SlotStack<Item = ArenaSlot<P, LinkNoGen<P, T>>>> ChainArena<P, T, S> {
     /// A chain arena of an arena of links, with the same indexes, generations, counter, slots, freed list and interlinks.
-    /// It takes time in proportion to the slots, and no memory.
+    /// It takes no memory. No clause tells its time: as it is written, that is in proportion to the slots.
     ///
     /// `interlink transitivity does not hold`: the interlinks do not agree, as `links_agree` says, and the arena is
     /// dropped.

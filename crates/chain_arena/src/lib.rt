@@ -27,8 +27,10 @@ pub use chain_interlinks::{ChainIter, links_agree};
 pub use chain_links::{
     InsertKindBody, Link, LinkBody, LinkInsertKind, LinkNoGen, links_compare_by_neighbors,
 };
+pub use chain_layout::visiting::Visitor;
 pub use chain_traits::ChainArenaTrait;
 pub use insert_entry::ChainArenaInsertEntry;
 pub use iterators::ValIter;
 pub use link_drains::LinkDrain;
 pub use transfer::compression_and_transfer_agree;
+pub use visiting::Showing;

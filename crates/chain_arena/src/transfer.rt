@@ -24,8 +24,8 @@ impl<P: PtrKey, T: Drop, S: SlotStack<Item = ArenaSlot<P, LinkNoGen<P, T>>>> Cha
     /// index; the k-th link comes to index k, with the generation `new_generation`, which is the counter then. The
     /// closure sees each link once, in that order: the pointer that it had, its value, where it is told whether its
     /// removal overflowed the counter of the source, and the pointer that it has; its answer is the value. Where the
-    /// source has as many links as the capacity or fewer, no memory is taken. It takes time in proportion to the slots
-    /// of the source.
+    /// source has as many links as the capacity or fewer, no memory is taken. No clause tells its
+    /// time: as it is written, that is in proportion to the slots of the source.
     ///
     /// `AllocError`: the source has more links than the greatest index, which is tested first, or memory was refused,
     /// which comes last. `BeyondMaxCapacity`: it has more links than the maximum. After either nothing has changed in

@@ -3,10 +3,11 @@
 use arena_ptr::PtrKey;
 use chain_layout::visiting::Visitor;
 
-// Shows each link to a closure.
+/// Shows each link to a closure.
 #[derive(Drop)]
-pub(crate) struct Showing<F> {
-    pub(crate) map: F,
+pub struct Showing<F> {
+    /// The closure.
+    pub map: F,
 }
 
 impl<P: PtrKey, F: FnMut(P, P) + Drop> Visitor<P> for Showing<F> {

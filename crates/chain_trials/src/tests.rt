@@ -4,6 +4,7 @@ mod copies;
 mod drains;
 mod entries;
 mod example;
+mod handed_back;
 mod indexing;
 mod iterators;
 mod machine;

@@ -1,7 +1,7 @@
 -- Each slot is copied behind the others.
 use Rattle.std.proofs.Common.{refl, sym, ap, ◌∙◌, Some, arith}
-use Rattle.arena_base.proofs.Copying.{copying_begins, copying_frees, copying_answers, copied_alike, copied_all, copying_refused, on_err_anyhow, on_ok_refused}
-use Rattle.arena_base.proofs.copy.copy_slots.Goals.{in-Allocated+in_ok-t-in-Allocated, in-Free}
+use Rattle.arena_base.proofs.Copying.{copying_begins, copying_frees, copying_answers, copied_alike, copied_all, copying_refused}
+use Rattle.arena_base.proofs.copy.copy_slots.Goals.{in-Allocated+in-Ok, in-Free}
 use Rattle.arena_base.proofs.copy.copy_slots.Goals as goal
 
 pub loop-k-init : goal.loop-k-init
@@ -18,13 +18,13 @@ loop-k-preserved g c =
     let old = g.S1.SlotStack.items c.args.source.now in
     let slots = g.S.SlotStack.items c.loop-k.slots in
     elim c.match-slot.branch [
-      | in-Allocated+in_ok-t-in-Allocated w ↦ rw (w.slots-is, w.values-is) (record {
-        ready = w.in_ok-t-in-Allocated.ensures.ready;
+      | in-Allocated+in-Ok w ↦ rw (w.slots-is, w.values-is) (record {
+        ready = w.in-Ok.ensures.ready;
         room = w.push_within.ensures.capacity ∙ at.room;
         most = w.push_within.ensures.maximum ∙ at.most;
         copying = copying_answers g.M.ValueMap.makes g.P.PtrKey.key c.args.values old c.loop-k.k c.loop-k.values slots at.copying w.in-Allocated.generation w.in-Allocated.u
-            (record { pointer = w._from_raw.result; shown = w.in-Allocated.u; answer = w.in_ok-t-in-Allocated.t }) w.map_value.new.self _
-            (sym c.in-Some.ensures ∙ ap (λ s. Some s) w.in-Allocated.is) refl (w._from_raw.ensures ∙ ap (λ n. (n, w.in-Allocated.generation)) w.inx_at.ensures) w.in_ok-t-in-Allocated.ensures.made w.push_within.ensures.items;
+            (record { pointer = w._from_raw.result; shown = w.in-Allocated.u; answer = w.in-Ok.t }) w.map_value.new.self _
+            (sym c.in-Some.ensures ∙ ap (λ s. Some s) w.in-Allocated.is) refl (w._from_raw.ensures ∙ ap (λ n. (n, w.in-Allocated.generation)) w.inx_at.ensures) w.in-Ok.ensures.made w.push_within.ensures.items;
       })
       | in-Free w ↦ rw (w.slots-is, w.values-is) (record {
         ready = at.ready;
@@ -48,15 +48,15 @@ returns g c =
       refused = tt;
     }
 
-pub returns-in_err-t-in-Allocated : goal.returns-in_err-t-in-Allocated
-returns-in_err-t-in-Allocated g c =
+pub returns-in-Err : goal.returns-in-Err
+returns-in-Err g c =
     let at = c.loop-k.invariant in
     record {
-      alike = on_ok_refused _ c.from_residual.result c.from_residual.ensures.0;
-      copies = on_ok_refused _ c.from_residual.result c.from_residual.ensures.0;
+      alike = tt;
+      copies = tt;
       capacity = at.room;
       maximum = at.most;
-      refused = on_err_anyhow c.from_residual.result
-          (copying_refused g.M.ValueMap.makes g.P.PtrKey.key c.args.values (g.S1.SlotStack.items c.args.source.now) c.loop-k.k c.loop-k.values (g.S.SlotStack.items c.loop-k.slots) at.copying c.in-Allocated.generation c.in-Allocated.u c._from_raw.result g.M.ValueMap.may_refuse
-          (sym c.in-Some.ensures ∙ ap (λ s. Some s) c.in-Allocated.is) (c._from_raw.ensures ∙ ap (λ n. (n, c.in-Allocated.generation)) c.inx_at.ensures) c.in_err-t-in-Allocated.ensures.refused);
+      refused =
+          copying_refused g.M.ValueMap.makes g.P.PtrKey.key c.args.values (g.S1.SlotStack.items c.args.source.now) c.loop-k.k c.loop-k.values (g.S.SlotStack.items c.loop-k.slots) at.copying c.in-Allocated.generation c.in-Allocated.u c._from_raw.result g.M.ValueMap.may_refuse
+          (sym c.in-Some.ensures ∙ ap (λ s. Some s) c.in-Allocated.is) (c._from_raw.ensures ∙ ap (λ n. (n, c.in-Allocated.generation)) c.inx_at.ensures) c.in-Err.ensures.refused;
     }

@@ -1,5 +1,6 @@
 -- The links that are made look like those of the source.
 use Rattle.std.proofs.Common.{refl, ap, ◌∙◌, subst}
+use Rattle.arena_base.proofs.Copying.{on_ok_is}
 use Rattle.chain_arena.specs.Copies.{IsClone}
 use Rattle.chain_links.specs.Links.{seen_links}
 use Rattle.chain_arena.proofs.Cloning.{clone_agrees, is_clone_of, no_room_needed}
@@ -7,16 +8,19 @@ use Rattle.chain_arena.proofs.chain_arena.ChainArena.clone.Goals as goal
 
 pub returns-in-Err-clause-no_room : goal.returns-in-Err-clause-no_room
 returns-in-Err-clause-no_room g c none =
-    absurd (no_room_needed g.P.Inx.InxKey.packed_number _ g.P.PtrKey.key c.self.inside.arena c.in-Err.why c.new-arena.result.capacity (ap (λ a. a.slots) c.self.view_is ∙ none) c.in-Err.ensures.within)
+    let made = c.clone_from_by-done in
+    absurd (no_room_needed g.P.Inx.InxKey.packed_number _ g.P.PtrKey.key c.self.inside.arena made.result.0 c.in-Err.why c.new-arena.result.capacity c.in-Err.is (ap (λ a. a.slots) c.self.view_is ∙ none) made.ensures.within)
 
 pub invariant_of-result : goal.invariant_of-result
 invariant_of-result g c =
-    let told = c.in-Ok.ensures in
-    clone_agrees g.P.Inx.InxKey.packed_number g.T.Clone.is_clone c.requires.clones_equal g.P.PtrKey.key _ c.self.inside.arena c.new-arena.result c.clone_from_by.new.self told.copied told.slots c.self.invariant
+    let made = c.clone_from_by-done in
+    clone_agrees g.P.Inx.InxKey.packed_number g.T.Clone.is_clone c.requires.clones_equal g.P.PtrKey.key _ made.result.1 c.self.inside.arena c.new-arena.result made.new.self
+    (on_ok_is made.result.0 _ c.in-Ok.is made.ensures.copied) (on_ok_is made.result.0 _ c.in-Ok.is made.ensures.slots) c.self.invariant
 
 pub returns-in-Ok-clause-copied : goal.returns-in-Ok-clause-copied
 returns-in-Ok-clause-copied g c =
     let number = g.P.Inx.InxKey.packed_number in
-    let told = c.in-Ok.ensures in
-    subst (λ a. IsClone g.P.Gen.GenKey.first g.S.SlotStack.initial_maximum a (seen_links number c.clone_from_by.new.self)) c.self.view_is
-    (is_clone_of number g.T.Clone.is_clone c.requires.clones_equal g.P.PtrKey.key _ c.self.inside.arena c.new-arena.result c.clone_from_by.new.self told.copied told.slots g.P.Gen.GenKey.first g.S.SlotStack.initial_maximum (c.new-arena.ensures.more.1 refl))
+    let made = c.clone_from_by-done in
+    subst (λ a. IsClone g.P.Gen.GenKey.first g.S.SlotStack.initial_maximum a (seen_links number made.new.self)) c.self.view_is
+    (is_clone_of number g.T.Clone.is_clone c.requires.clones_equal g.P.PtrKey.key _ made.result.1 c.self.inside.arena c.new-arena.result made.new.self
+    (on_ok_is made.result.0 _ c.in-Ok.is made.ensures.copied) (on_ok_is made.result.0 _ c.in-Ok.is made.ensures.slots) g.P.Gen.GenKey.first g.S.SlotStack.initial_maximum (c.new-arena.ensures.more.1 refl))

@@ -1,33 +1,17 @@
--- The links that are made of those of the source name the same neighbors.
-use Rattle.std.proofs.Common.{sym, subst}
-use Rattle.chain_laws.specs.Chains.{Agrees}
-use Rattle.arena_base.specs.Copying.{IsCopyCall}
-use Rattle.chain_links.specs.ChainArena.{shown}
-use Rattle.chain_links.specs.Links.{seen_link, seen_links}
-use Rattle.chain_arena.proofs.Cloning.{agrees_copied, either_way, has_slots_seen, interlinks_copied, on_ok_both, values_copied}
+-- What the map of the closure has made, the closure has answered.
+use Rattle.arena_base.proofs.Copying.{on_err_by, surely}
+use Rattle.std.proofs.lemmas.Result.{on_ok_weaker}
+use Rattle.chain_links.specs.Links.{seen_link}
+use Rattle.chain_arena.proofs.Cloning.{called_copies}
 use Rattle.chain_arena.proofs.chain_arena.ChainArena.clone_from_with.Goals as goal
 
-pub invariant_of-self : goal.invariant_of-self
-invariant_of-self g c =
-    let number = g.P.Inx.InxKey.packed_number in
-    let calls = IsCopyCall g.F.FnMut (seen_link number) in
-    let source = c.source.inside.arena in
-    let old = c.self.inside.arena in
-    let new = c.clone_from_by.new.self in
-    let told = c.clone_from_by.ensures in
-    either_way c.clone_from_by.result (λ made has. agrees_copied number calls (λ m. m.map) g.P.PtrKey.key _ source old new made has c.source.invariant)
-    (λ same. subst (λ a. Agrees (shown (seen_links number a))) (sym same) c.self.invariant) (λ never. absurd never.0.refusable) told.copied told.slots told.err
+pub returns-clause-within : goal.returns-clause-within
+returns-clause-within g c few = surely (λ never. never.refusable.2) (c.clone_from_by-done.ensures.within few)
 
 pub returns-clause-copied : goal.returns-clause-copied
 returns-clause-copied g c =
-    let number = g.P.Inx.InxKey.packed_number in
-    let calls = IsCopyCall g.F.FnMut (seen_link number) in
-    let source = c.source.inside.arena in
-    let old = c.self.inside.arena in
-    let new = c.clone_from_by.new.self in
-    rw (← c.source.view_is, ← c.self.view_is)
-    (on_ok_both c.clone_from_by.result (λ made has. record {
-      slots = has_slots_seen number source old new has;
-      shows = interlinks_copied number calls (λ m. m.map) g.P.PtrKey.key _ source old new made has;
-      values = values_copied number calls (λ m. m.map) g.P.PtrKey.key _ source old new made has;
-    }) c.clone_from_by.ensures.copied c.clone_from_by.ensures.slots)
+    let called = c.clone_from_by-done in
+    on_ok_weaker called.result.0 (λ made. (called.result.1.map, called_copies g.F.FnMut (λ m. m.map) (seen_link g.P.Inx.InxKey.packed_number) g.P.PtrKey.key _ called.result.1 c.args.source.now c.args.self.now called.new.self made)) called.ensures.copied
+
+pub returns-clause-err : goal.returns-clause-err
+returns-clause-err g c = on_err_by c.clone_from_by-done.result.0 (λ same. same.0) (λ never. absurd never.0.refusable.2) c.clone_from_by-done.ensures.err

@@ -1,13 +1,17 @@
--- The arena of links is copied, and its links are as contracts see them.
+-- What the map of the closure has made, the closure has answered.
 use Rattle.std.proofs.lemmas.Result.{on_ok_weaker}
-use Rattle.chain_arena.proofs.Cloning.{copy_as_seen}
+use Rattle.arena_base.proofs.Copying.{on_err_by, surely}
+use Rattle.chain_links.specs.Links.{seen_link}
+use Rattle.chain_arena.proofs.Cloning.{called_copy}
 use Rattle.chain_arena.proofs.chain_arena.ChainArena.clone_to_arena.Goals as goal
+
+pub returns-clause-within : goal.returns-clause-within
+returns-clause-within g c few = surely (λ never. never.refusable.2) (c.clone_to_arena_by-done.ensures.within few)
 
 pub returns-clause-copied : goal.returns-clause-copied
 returns-clause-copied g c =
-    rw (← c.self.view_is)
-    (on_ok_weaker c.clone_from_with.result (copy_as_seen g.P.Inx.InxKey.packed_number g.F.FnMut g.P.PtrKey.key c.args.map c.self.inside.arena _ _) c.clone_from_with.ensures.copied)
+    let called = c.clone_to_arena_by-done in
+    on_ok_weaker called.result.0 (λ made. (called.result.1.map, called_copy g.F.FnMut (λ m. m.map) (seen_link g.P.Inx.InxKey.packed_number) g.P.PtrKey.key _ called.result.1 c.args.self.now _ _ made)) called.ensures.copied
 
-pub returns-clause-more : goal.returns-clause-more
-returns-clause-more g c =
-    on_ok_weaker c.clone_from_with.result (λ copied. record { links = c.self.inside.arena; seen = c.self.view_is; copied = copied }) c.clone_from_with.ensures.more
+pub returns-clause-err : goal.returns-clause-err
+returns-clause-err g c = on_err_by c.clone_to_arena_by-done.result.0 (λ same. same.0) (λ never. absurd never.0.refusable.2) c.clone_to_arena_by-done.ensures.err

@@ -9,6 +9,6 @@ returns-in_err-moves-clause-agreed g c = let all = c.len.ensures.chains in agree
 
 pub returns-clause-moves : goal.returns-clause-moves
 returns-clause-moves g c =
-    let made = c.compress_by-overflow.ensures in
+    let made = c.compress_canonical_by-overflow.ensures in
     let new = c.in_ok-moves.ensures in
     listed_all g.P.PtrKey.key _ _ _ _ _ (λ v. v.moves) _ _ _ _ _ made.canonical made.shows new.items new.len (omega (arith, new.capacity, c.len.ensures.count))

@@ -3,4 +3,4 @@ use Rattle.chain_layout.proofs.Watching.{shown_to}
 use Rattle.chain_arena.proofs.chain_arena.ChainArena.compress_canonical_with.Goals as goal
 
 pub returns-clause-shows : goal.returns-clause-shows
-returns-clause-shows g c = shown_to g.P.PtrKey.key _ _ _ _ _ g.F.FnMut (λ v. v.map) c.compress_by-overflow.ensures.shows
+returns-clause-shows g c = shown_to g.P.PtrKey.key _ _ _ _ _ g.F.FnMut (λ v. v.map) c.compress_canonical_by-overflow.ensures.shows

@@ -7,7 +7,7 @@ use Rattle.arena_base.proofs.Seeing.{length-entries}
 use Rattle.chain_links.specs.Links.{seen_links}
 use Rattle.chain_arena.proofs.Canonizing.{laid_agree, laid_canonical, laid_stack_capacity, laid_shown}
 use Rattle.chain_links.proofs.Inserting.{count-values, entry_count-seen_links}
-use Rattle.chain_arena.proofs.chain_arena.ChainArena.compress_by.Goals as goal
+use Rattle.chain_arena.proofs.chain_arena.ChainArena.compress_canonical_by.Goals as goal
 
 pub invariant_of-self : goal.invariant_of-self
 invariant_of-self g c =

@@ -1,0 +1,45 @@
+-- The links that are made of those of the source name the same neighbors.
+use Rattle.std.proofs.Common.{◌≤◌, ap, subst, sym}
+use Rattle.chain_laws.specs.Chains.{Agrees}
+use Rattle.arena_base.proofs.Copying.{either_as, on_err_either}
+use Rattle.chain_links.specs.ChainArena.{shown}
+use Rattle.chain_links.specs.Links.{seen_link, seen_links}
+use Rattle.chain_links.proofs.Mapping.{length-with_each}
+use Rattle.chain_arena.specs.Copies.{MakesOf}
+use Rattle.chain_arena.proofs.Cloning.{agrees_copied, either_way, given_up_agrees, link_copied, on_ok_both, refusable_seen}
+use Rattle.chain_arena.proofs.chain_arena.ChainArena.clone_from_by.Goals as goal
+
+pub invariant_of-self : goal.invariant_of-self
+invariant_of-self g c =
+    let number = g.P.Inx.InxKey.packed_number in
+    let source = c.source.inside.arena in
+    let old = c.self.inside.arena in
+    let called = c.clone_from_by-done in
+    let new = called.new.self in
+    either_way called.result.0 (λ made has. agrees_copied number (MakesOf (seen_link number) g.M.ValueMap.makes) (λ m. m.values) g.P.PtrKey.key _ called.result.1 source old new made has c.source.invariant)
+    (λ same. subst (λ a. Agrees (shown (seen_links number a))) (sym same.0) c.self.invariant)
+    (λ gave_up. given_up_agrees (seen_links number old) (seen_links number new) (ap (seen_links number) gave_up.1)) called.ensures.copied called.ensures.slots called.ensures.err
+
+pub returns-clause-within : goal.returns-clause-within
+returns-clause-within g c =
+    let number = g.P.Inx.InxKey.packed_number in
+    let source = c.source.inside.arena in
+    rw (← c.source.view_is, ← c.self.view_is)
+    (λ few. either_as (refusable_seen number g.M.ValueMap.may_refuse g.P.PtrKey.key source)
+    (c.clone_from_by-done.ensures.within (subst (λ n. n ≤ c.self.inside.arena.capacity) (length-with_each (seen_link number) source) few)))
+
+pub returns-clause-copied : goal.returns-clause-copied
+returns-clause-copied g c =
+    let number = g.P.Inx.InxKey.packed_number in
+    let called = c.clone_from_by-done in
+    rw (← c.source.view_is, ← c.self.view_is)
+    (on_ok_both called.result.0 (link_copied number (MakesOf (seen_link number) g.M.ValueMap.makes) (λ m. m.values) g.P.PtrKey.key _ called.result.1 c.source.inside.arena c.self.inside.arena called.new.self)
+    called.ensures.copied called.ensures.slots)
+
+pub returns-clause-err : goal.returns-clause-err
+returns-clause-err g c =
+    let number = g.P.Inx.InxKey.packed_number in
+    let called = c.clone_from_by-done in
+    rw (← c.source.view_is, ← c.self.view_is)
+    (on_err_either called.result.0 (λ same. (ap (seen_links number) same.0, ap (λ m. m.values) same.1))
+    (λ gave_up. (refusable_seen number g.M.ValueMap.may_refuse g.P.PtrKey.key c.source.inside.arena gave_up.0, ap (seen_links number) gave_up.1)) called.ensures.err)

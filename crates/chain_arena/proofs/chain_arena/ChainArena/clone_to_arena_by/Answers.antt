@@ -1,0 +1,33 @@
+-- The arena of links is copied, and its links are as contracts see them.
+use Rattle.std.proofs.Common.{◌≤◌, subst}
+use Rattle.std.proofs.lemmas.Result.{on_ok_weaker}
+use Rattle.arena_base.proofs.Copying.{either_as, on_err_either}
+use Rattle.chain_links.specs.Links.{seen_link}
+use Rattle.chain_links.proofs.Mapping.{length-with_each}
+use Rattle.chain_arena.proofs.Cloning.{copy_as_seen, refusable_seen}
+use Rattle.chain_arena.proofs.chain_arena.ChainArena.clone_to_arena_by.Goals as goal
+
+pub returns-clause-within : goal.returns-clause-within
+returns-clause-within g c =
+    let number = g.P.Inx.InxKey.packed_number in
+    let links = c.self.inside.arena in
+    rw (← c.self.view_is)
+    (λ few. either_as (refusable_seen number g.M.ValueMap.may_refuse g.P.PtrKey.key links)
+    (c.clone_from_by.ensures.within (subst (λ n. n ≤ (g.A.ArenaTrait.seen c.args.arena.now).capacity) (length-with_each (seen_link number) links) few)))
+
+pub returns-clause-copied : goal.returns-clause-copied
+returns-clause-copied g c =
+    let called = c.clone_from_by in
+    rw (← c.self.view_is)
+    (on_ok_weaker called.result.0 (copy_as_seen g.P.Inx.InxKey.packed_number g.M.ValueMap.makes g.P.PtrKey.key c.args.values called.result.1 c.self.inside.arena _ _) called.ensures.copied)
+
+pub returns-clause-err : goal.returns-clause-err
+returns-clause-err g c =
+    let called = c.clone_from_by in
+    rw (← c.self.view_is)
+    (on_err_either called.result.0 (λ same. same)
+    (λ gave_up. (refusable_seen g.P.Inx.InxKey.packed_number g.M.ValueMap.may_refuse g.P.PtrKey.key c.self.inside.arena gave_up.0, gave_up.1)) called.ensures.err)
+
+pub returns-clause-more : goal.returns-clause-more
+returns-clause-more g c =
+    on_ok_weaker c.clone_from_by.result.0 (λ copied. record { links = c.self.inside.arena; seen = c.self.view_is; copied = copied }) c.clone_from_by.ensures.more

@@ -1,0 +1,124 @@
+//! What sees links or makes values, handed back as it came to be.
+
+use super::{Slot, at, limited, lone_links, same, text};
+use arena_base::{Arena, ArenaTrait, ValueMap};
+use arena_ptr::{AllocError, SlotStack, ToolPtr};
+use chain_arena::{ChainArena, LinkNoGen, Visitor};
+use std::alloc::Global;
+use std::process::Abort;
+
+// Counts the links that it sees, and keeps the last of them by its two pointers.
+#[derive(Debug, Drop)]
+struct Kept {
+    count: u32,
+    last: Option<(ToolPtr, ToolPtr)>,
+}
+
+impl Visitor<ToolPtr> for Kept {
+    ghost use Rattle.std.specs.Prelude.{◌≡◌, ⊤, Some};
+
+    ghost is_ready = { λ _. ⊤ };
+
+    ghost sees = { λ _ p q w. w.last ≡ Some (p, q) };
+
+    fn visit(&mut self, from: ToolPtr, to: ToolPtr) {
+        self.count = self.count.saturating_add(1);
+        self.last = Some((from, to));
+    }
+}
+
+// Makes each value one more, and counts them. It refuses the value 3.
+#[derive(Debug, Drop)]
+struct Counting {
+    calls: u32,
+}
+
+impl ValueMap<ToolPtr, LinkNoGen<ToolPtr, u32>, u32> for Counting {
+    ghost use Rattle.std.specs.Prelude.{◌≡◌, ⊤};
+
+    ghost is_ready = { λ _. ⊤ };
+
+    ghost makes = { λ _ _ _ _ _. ⊤ };
+
+    ghost may_refuse = { λ _ u. u.t ≡ 3 };
+
+    fn map_value(&mut self, _p: ToolPtr, u: &LinkNoGen<ToolPtr, u32>) -> Result<u32, AllocError> {
+        self.calls = self.calls.saturating_add(1);
+        if u.t == 3 {
+            return Err(AllocError);
+        }
+        Ok(u.t.saturating_add(1))
+    }
+}
+
+// What a canonical compression of the links 2 and 3 tells, what has seen them, and how many links were placed.
+fn last_kept(rt: &impl Abort, alloc: Global) -> String {
+    let mut arena = lone_links(rt, alloc, 3);
+    arena.remove(at(rt, (1, 2)));
+    let begun = Kept {
+        count: 0,
+        last: None,
+    };
+    let (told, visitor, work) = arena.compress_canonical_by(false, begun);
+    text(rt, alloc, (told, visitor, work.placed))
+}
+
+// Makes an arena a copy of so many lone links: the answer, what made the values, and the arena then.
+fn counted_over<S: SlotStack<Item = Slot>>(
+    rt: &impl Abort,
+    alloc: Global,
+    count: u32,
+    target: &mut ChainArena<ToolPtr, u32, S>,
+) -> String {
+    let source = lone_links(rt, alloc, count);
+    let (answer, map) = target.clone_from_by(&source, Counting { calls: 0 });
+    text(rt, alloc, (answer, map, &*target))
+}
+
+// .. a plain one: the same, and how many entries it has then.
+fn counted_to_plain(rt: &impl Abort, alloc: Global, count: u32) -> String {
+    let mut target: Arena<ToolPtr, u32> = Arena::new(alloc);
+    let source = lone_links(rt, alloc, count);
+    let (answer, map) = source.clone_to_arena_by(&mut target, Counting { calls: 0 });
+    text(rt, alloc, (answer, map, target.len()))
+}
+
+#[test]
+fn visitors_are_handed_back(rt: HostRuntime) {
+    let told = last_kept(&rt, rt.alloc());
+    let want = "(Success(()), Kept { count: 2, last: Some((P0[3](2), P0[2](4))) }, 2)";
+    same(&rt, "two links", told.as_str(), want);
+}
+
+// So many links, copied over one link and to a plain arena.
+const COUNTED: [(u32, &str, &str); 2] = [
+    (
+        2,
+        "(Ok(()), Counting { calls: 2 }, {P0[1](2): {(start), (end)} 2, P0[2](2): {(start), (end)} 3})",
+        "(Ok(()), Counting { calls: 2 }, 2)",
+    ),
+    (
+        3,
+        "(Err(AllocError), Counting { calls: 3 }, {})",
+        "(Err(AllocError), Counting { calls: 3 }, 0)",
+    ),
+];
+
+#[test]
+fn maps_are_handed_back(rt: HostRuntime) {
+    for (count, want, plain) in COUNTED {
+        let mut target = lone_links(&rt, rt.alloc(), 1);
+        let told = counted_over(&rt, rt.alloc(), count, &mut target);
+        same(&rt, "over one link", told.as_str(), want);
+        let told = counted_to_plain(&rt, rt.alloc(), count);
+        same(&rt, "to a plain arena", told.as_str(), plain);
+    }
+}
+
+#[test]
+fn a_map_is_shown_nothing_beyond_the_maximum(rt: HostRuntime) {
+    let mut target = limited(&rt, rt.alloc(), 1);
+    let told = counted_over(&rt, rt.alloc(), 2, &mut target);
+    let want = "(Err(BeyondMaxCapacity), Counting { calls: 0 }, {})";
+    same(&rt, "one slot at most", told.as_str(), want);
+}
