@@ -1,11 +1,11 @@
 -- What generic code sees after each call of an arena.
-use Rattle.std.proofs.Common.{◌≡◌, ℕ, zero, suc, ◌+◌, ◌<◌, Bool, true, false, cond, List, [], ◌∷◌, length, Option, None, Some, refl, ap, sym, ◌∙◌, arith}
+use Rattle.std.proofs.Common.{◌≡◌, ℕ, zero, suc, ◌+◌, ◌<◌, ◌≤◌, Bool, true, false, cond, List, [], ◌∷◌, ◌++◌, length, Option, None, Some, inl, refl, ap, sym, ◌∙◌, arith}
 use Rattle.std.specs.Prelude.{is_some, count_by, slice_index_or, slice_set}
 use Rattle.std.specs.Option.{option_map}
 use Rattle.std.proofs.lemmas.Bool.{eq-eqb, ne_eqb}
-use Rattle.std.proofs.lemmas.List.Sums.{sum_by-cons}
+use Rattle.std.proofs.lemmas.List.Sums.{sum_by-cons, sum_by-set}
 use Rattle.arena_ptr.specs.Invalidation.{value_within, invalidation_result}
-use Rattle.arena_base.specs.Arena.{Arena, entry_count, slot_at, with_slot, remove_at, renewed_at, with_value, cleared, counter_after_clear}
+use Rattle.arena_base.specs.Arena.{Arena, Has, filled, entry_count, slot_at, with_slot, remove_at, renewed_at, with_value, cleared, counter_after_clear}
 use Rattle.arena_base.specs.Entries.{Seen, entries_from, entries, seen_of, without, replaced, removed, renewed, written, emptied}
 use Rattle.arena_base.proofs.Reading.{length-with_slot}
 
@@ -15,6 +15,19 @@ module _ {Gen T : Type 0} where
   length-entries_from i (None ∷ slots) = length-entries_from (suc i) slots ∙ omega (arith, sum_by-cons (λ (o : Option (Gen × T)). cond (is_some o) 1 0) None slots)
   length-entries_from i (Some e ∷ slots) =
       ap suc (length-entries_from (suc i) slots) ∙ omega (arith, sum_by-cons (λ (o : Option (Gen × T)). cond (is_some o) 1 0) (Some e) slots)
+
+  -- an entry more is counted where one comes to a free slot, or behind the others
+  count-push : (slots : List (Option (Gen × T))) (e : Gen × T) → count_by is_some (slots ++ Some e ∷ []) ≡ count_by is_some slots + 1
+  count-push [] e = omega (arith, sum_by-cons (λ (o : Option (Gen × T)). cond (is_some o) 1 0) (Some e) [])
+  count-push (s ∷ slots) e = omega (arith, sum_by-cons (λ (o : Option (Gen × T)). cond (is_some o) 1 0) s slots, sum_by-cons (λ (o : Option (Gen × T)). cond (is_some o) 1 0) s (slots ++ Some e ∷ []), count-push slots e)
+
+  pub count-filled : (freed : List ℕ) (slots : List (Option (Gen × T))) (e : Gen × T) → ((i : ℕ) → Has i freed → (slot_at slots i ≡ None) × (1 ≤ i) × (i ≤ length slots))
+      → count_by is_some (filled freed slots e) ≡ count_by is_some slots + 1
+  count-filled [] slots e free = count-push slots e
+  count-filled (zero ∷ freed) slots e free = absurd (omega (arith, (free zero (inl refl)).1))
+  count-filled (suc k ∷ freed) slots e free =
+      let at = free (suc k) (inl refl) in
+      omega (arith, sum_by-set (λ (o : Option (Gen × T)). cond (is_some o) 1 0) slots k (Some e) None (omega (arith, at.2)), ap {B = ℕ} (λ (o : Option (Gen × T)). cond (is_some o) 1 0) at.0)
 
   -- there are as many entries as are counted
   pub length-entries : (a : Arena Gen T) → length (entries a) ≡ entry_count a

@@ -1,12 +1,13 @@
 -- What an insertion of a kind tells of a chain arena, from its state.
-use Rattle.std.proofs.Common.{◌≡◌, ℕ, ◌+◌, Option, None, Some, refl, ap, sym, ◌∙◌, subst, subst₂}
+use Rattle.std.proofs.Common.{◌≡◌, ℕ, ◌+◌, length, Option, None, Some, refl, ap, sym, ◌∙◌, subst, subst₂}
 use Rattle.chain_laws.specs.Chains.{Shown, Agrees}
 use Rattle.chain_laws.specs.Operations.{with_lone, linked}
 use Rattle.chain_laws.specs.Insertions.{InsertKind, CanInsert, IsGap, link_before, link_after, inserted, InsertsPairs, Inserts}
 use Rattle.chain_laws.proofs.InsertionPairs.{kind_gap, inserted_agrees, inserted_in_pairs}
 use Rattle.chain_laws.proofs.Inserting.{inserted_inserts}
 use Rattle.arena_base.specs.Arena.{Arena, without_first, IsListed, first_or_next, next_index, insert_next, with_capacity_of}
-use Rattle.arena_base.specs.Entries.{Slots, seen_of, count}
+use Rattle.arena_base.specs.Entries.{Slots, seen_of, entries, count}
+use Rattle.arena_base.proofs.Seeing.{length-entries, count-filled}
 use Rattle.chain_links.specs.ChainArena.{LinkSeen, value_in, values_of, seen, entry, shown, lone, insert_lone, insert_between, insert_as}
 use Rattle.chain_links.specs.Insertions.{IsInsertion, IsInsertionBetween}
 use Rattle.chain_links.proofs.Mapping.{with_each-insert_next, length-with_each, listed-with_each}
@@ -51,6 +52,14 @@ module _ {Gen T : Type 0} (a : Arena Gen (LinkSeen T)) (t : T) (listed : IsListe
     told_values = ap (λ (x : Arena Gen (LinkSeen T)). values_of x) is
         ∙ ap (λ (x : Arena Gen T). with_capacity_of x (values_of b)) (values_of-insert_between u v)
 
+    -- there is one link more
+    told_more : count (seen b) ≡ count (seen a) + 1
+    told_more =
+        ap (λ (x : Arena Gen T). length (entries x)) told_values
+        ∙ (length-entries (insert_next (values_of a) t)
+        ∙ (count-filled a.freed (values_of a).slots (a.counter, t) (listed-with_each value_in a listed).free
+        ∙ ap (λ (n : ℕ). n + 1) (sym (length-entries (values_of a)))))
+
     -- what an insertion between two links is, by the state alone
     pub told_between : (p : ℕ × Gen) → p ≡ (next_index a, a.counter) → Agrees (shown a) → IsGap (shown a) (next_index a) u v
         → IsInsertionBetween u v (seen a) (seen b) (entry a) (entry b) (shown a) (shown b) p t
@@ -62,6 +71,7 @@ module _ {Gen T : Type 0} (a : Arena Gen (LinkSeen T)) (t : T) (listed : IsListe
           shows = told_shows;
           pairs = subst (λ (m : Shown). InsertsPairs (shown a) m q u v) (sym told_shows) (inserted_in_pairs (shown a) q u v agrees free gap);
           chains = subst (λ (m : Shown). Inserts (shown a) m q u v) (sym told_shows) (inserted_inserts (shown a) q u v free);
+          more = told_more;
           generation = refl;
           index = sym next_index-values_of;
           slots = ap (λ (x : Arena Gen T). (seen_of x).slots) told_values

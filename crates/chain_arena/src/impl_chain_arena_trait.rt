@@ -3,8 +3,8 @@ ghost use Rattle.std.specs.Prelude.{◌≡◌, ◌≢◌, ◌↔◌, ◌<◌, �
 ghost use Rattle.std.specs.Option.{option_map};
 ghost use Rattle.arena_ptr.specs.Invalidation.{value_within, is_overflow_result, invalidation_option, invalidation_result};
 ghost use Rattle.chain_laws.specs.Chains.{Agrees, prev_of, next_of};
-ghost use Rattle.chain_laws.specs.Cuts.{cut};
-ghost use Rattle.chain_laws.specs.Exchanges.{exchanged};
+ghost use Rattle.chain_laws.specs.Cuts.{cut, Cuts};
+ghost use Rattle.chain_laws.specs.Exchanges.{exchanged, Exchanges};
 ghost use Rattle.chain_laws.specs.Neighbors.{AreNeighbors};
 ghost use Rattle.chain_laws.specs.Operations.{joined, Connects, AddsPair};
 ghost use Rattle.chain_laws.specs.Removals.{removed, Removes, RemovesPairs};
@@ -72,6 +72,7 @@ impl<P: PtrKey, T: Drop, S: SlotStack<Item = ArenaSlot<P, LinkNoGen<P, T>>>> Cha
         kind: LinkInsertKind<P>,
         t: T,
     ) -> Result<P, ChainInsertionError>
+        ensures may { OnOk result (MayInsert (entry self.old) (interlinks self.old) (names_in P.key P.Inx.number kind)) }
         ensures inserted { IfOk result (λ p. IsInsertion (by_index (names_in P.key P.Inx.number kind)) (seen self.old) (seen self.new) (entry self.old) (entry self.new) (interlinks self.old) (interlinks self.new) (P.key p) t) }
         ensures agreed { Agrees (interlinks self.old) }
         ensures capacity { (seen self.new).capacity ≡ (seen self.old).capacity }
@@ -91,6 +92,7 @@ impl<P: PtrKey, T: Drop, S: SlotStack<Item = ArenaSlot<P, LinkNoGen<P, T>>>> Cha
         kind: LinkInsertKind<P>,
         t: T,
     ) -> Result<P, ChainInsertionError>
+        ensures may { OnOk result (MayInsert (entry self.old) (interlinks self.old) (names_in P.key P.Inx.number kind)) }
         ensures inserted { IfOk result (λ p. IsInsertion (by_index (names_in P.key P.Inx.number kind)) (seen self.old) (seen self.new) (entry self.old) (entry self.new) (interlinks self.old) (interlinks self.new) (P.key p) t) }
         ensures agreed { Agrees (interlinks self.old) }
         ensures err { OnErr result (self.new ≡ self.old) }
@@ -200,6 +202,7 @@ impl<P: PtrKey, T: Drop, S: SlotStack<Item = ArenaSlot<P, LinkNoGen<P, T>>>> Cha
     fn break_prev(&mut self, p: P) -> Option<()>
         ensures some { IsSome result ↔ (IsValid (entry self.old) (P.key p) × IsSome (prev_of (interlinks self.old) (P.key p).0)) }
         ensures cut { OnSome result (IfSome (prev_of (interlinks self.old) (P.key p).0) (λ a. interlinks self.new ≡ cut (interlinks self.old) a (P.key p).0)) }
+        ensures chains { OnSome result (IfSome (prev_of (interlinks self.old) (P.key p).0) (λ a. Cuts (interlinks self.old) (interlinks self.new) a (P.key p).0)) }
         ensures seen { OnSome result (seen self.new ≡ seen self.old) }
         ensures none { IfNone result (self.new ≡ self.old) }
         ensures agreed { Agrees (interlinks self.old) }
@@ -217,6 +220,7 @@ impl<P: PtrKey, T: Drop, S: SlotStack<Item = ArenaSlot<P, LinkNoGen<P, T>>>> Cha
     fn break_next(&mut self, p: P) -> Option<()>
         ensures some { IsSome result ↔ (IsValid (entry self.old) (P.key p) × IsSome (next_of (interlinks self.old) (P.key p).0)) }
         ensures cut { OnSome result (IfSome (next_of (interlinks self.old) (P.key p).0) (λ b. interlinks self.new ≡ cut (interlinks self.old) (P.key p).0 b)) }
+        ensures chains { OnSome result (IfSome (next_of (interlinks self.old) (P.key p).0) (λ b. Cuts (interlinks self.old) (interlinks self.new) (P.key p).0 b)) }
         ensures seen { OnSome result (seen self.new ≡ seen self.old) }
         ensures none { IfNone result (self.new ≡ self.old) }
         ensures agreed { Agrees (interlinks self.old) }
@@ -234,6 +238,7 @@ impl<P: PtrKey, T: Drop, S: SlotStack<Item = ArenaSlot<P, LinkNoGen<P, T>>>> Cha
     fn exchange_next(&mut self, p: P, q: P) -> Option<()>
         ensures some { IsSome result ↔ CanExchange (entry self.old) (interlinks self.old) (P.key p) (P.key q) }
         ensures exchanged { OnSome result (interlinks self.new ≡ exchanged (interlinks self.old) (P.key p).0 (P.key q).0) }
+        ensures chains { OnSome result (Exchanges (interlinks self.old) (interlinks self.new) (P.key p).0 (P.key q).0) }
         ensures seen { OnSome result (seen self.new ≡ seen self.old) }
         ensures none { IfNone result (self.new ≡ self.old) }
         ensures agreed { Agrees (interlinks self.old) }

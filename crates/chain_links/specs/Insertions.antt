@@ -1,5 +1,5 @@
 -- What an insertion makes of an arena of links, whatever its kind.
-use Rattle.std.specs.Prelude.{◌≡◌, ℕ, zero, suc, IfSome, Option, None, Some}
+use Rattle.std.specs.Prelude.{◌≡◌, ℕ, zero, suc, ◌+◌, length, IfSome, Option, None, Some}
 use Rattle.std.specs.Option.{option_map}
 use Rattle.chain_laws.specs.Chains.{Shown}
 use Rattle.chain_laws.specs.Insertions.{InsertKind, link_before, link_after, inserted, InsertsPairs, Inserts}
@@ -17,7 +17,8 @@ pub record IsInsertionBetween {Gen T : Type 0} (u v : Option ℕ) (old new : See
   pub shows : changed ≡ inserted interlinks p.0 u v
   pub pairs : InsertsPairs interlinks changed p.0 u v
   pub chains : Inserts interlinks changed p.0 u v
-  -- the new link has the counter as its generation, and the next slot, where these are told; the counter stays
+  -- there is one more; it has the counter as its generation, and the next slot, where these are told; the counter stays
+  pub more : length new.entries ≡ length old.entries + 1
   pub generation : IfSome old.counter (λ g. p.1 ≡ g)
   pub index : IfSome old.slots (λ slots. p.0 ≡ next_slot slots)
   pub slots : new.slots ≡ option_map with_next_filled old.slots

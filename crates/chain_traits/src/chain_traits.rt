@@ -2,11 +2,11 @@ ghost use Rattle.std.specs.Prelude.{◌≡◌, ◌≢◌, ◌↔◌, ◌<◌, �
 ghost use Rattle.std.specs.Option.{option_map};
 ghost use Rattle.arena_ptr.specs.Invalidation.{value_within, invalidation_option, invalidation_result};
 ghost use Rattle.chain_laws.specs.Chains.{Shown, Agrees, prev_of, next_of};
-ghost use Rattle.chain_laws.specs.Cuts.{cut};
-ghost use Rattle.chain_laws.specs.Exchanges.{exchanged};
+ghost use Rattle.chain_laws.specs.Cuts.{cut, Cuts};
+ghost use Rattle.chain_laws.specs.Exchanges.{exchanged, Exchanges};
 ghost use Rattle.chain_laws.specs.Neighbors.{AreNeighbors};
-ghost use Rattle.chain_laws.specs.Operations.{joined};
-ghost use Rattle.chain_laws.specs.Removals.{removed};
+ghost use Rattle.chain_laws.specs.Operations.{joined, Connects};
+ghost use Rattle.chain_laws.specs.Removals.{removed, Removes};
 ghost use Rattle.chain_laws.specs.Renamings.{IsRenaming};
 ghost use Rattle.chain_laws.specs.Arrangements.{place_in};
 ghost use Rattle.arena_base.specs.Arena.{IsValid, IsRoom};
@@ -58,6 +58,7 @@ pub trait ChainArenaTrait<P: PtrKey, T: Drop>: ArenaTrait<P, T> {
         kind: LinkInsertKind<P>,
         t: T,
     ) -> Result<P, ChainInsertionError>
+        ensures may { OnOk result (MayInsert (Self.entry self.old) (interlinks self.old) (names_in P.key P.Inx.number kind)) }
         ensures inserted { IfOk result (λ p. IsInsertion (by_index (names_in P.key P.Inx.number kind)) (Self.seen self.old) (Self.seen self.new) (Self.entry self.old) (Self.entry self.new) (interlinks self.old) (interlinks self.new) (P.key p) t) }
         ensures agreed { Agrees (interlinks self.old) }
         ensures capacity { (Self.seen self.new).capacity ≡ (Self.seen self.old).capacity }
@@ -76,6 +77,7 @@ pub trait ChainArenaTrait<P: PtrKey, T: Drop>: ArenaTrait<P, T> {
         kind: LinkInsertKind<P>,
         t: T,
     ) -> Result<P, ChainInsertionError>
+        ensures may { OnOk result (MayInsert (Self.entry self.old) (interlinks self.old) (names_in P.key P.Inx.number kind)) }
         ensures inserted { IfOk result (λ p. IsInsertion (by_index (names_in P.key P.Inx.number kind)) (Self.seen self.old) (Self.seen self.new) (Self.entry self.old) (Self.entry self.new) (interlinks self.old) (interlinks self.new) (P.key p) t) }
         ensures agreed { Agrees (interlinks self.old) }
         ensures err { OnErr result (self.new ≡ self.old) }
@@ -139,6 +141,7 @@ pub trait ChainArenaTrait<P: PtrKey, T: Drop>: ArenaTrait<P, T> {
     fn connect(&mut self, p: P, q: P) -> Option<()>
         ensures some { IsSome result ↔ CanConnect (Self.entry self.old) (interlinks self.old) (P.key p) (P.key q) }
         ensures joined { OnSome result (interlinks self.new ≡ joined (interlinks self.old) (P.key p).0 (P.key q).0) }
+        ensures chains { OnSome result (Connects (interlinks self.old) (interlinks self.new) (P.key p).0 (P.key q).0) }
         ensures seen { OnSome result (Self.seen self.new ≡ Self.seen self.old) }
         ensures none { IfNone result (self.new ≡ self.old) }
         ensures agreed { Agrees (interlinks self.old) };
@@ -148,6 +151,7 @@ pub trait ChainArenaTrait<P: PtrKey, T: Drop>: ArenaTrait<P, T> {
     fn break_prev(&mut self, p: P) -> Option<()>
         ensures some { IsSome result ↔ (IsValid (Self.entry self.old) (P.key p) × IsSome (prev_of (interlinks self.old) (P.key p).0)) }
         ensures cut { OnSome result (IfSome (prev_of (interlinks self.old) (P.key p).0) (λ a. interlinks self.new ≡ cut (interlinks self.old) a (P.key p).0)) }
+        ensures chains { OnSome result (IfSome (prev_of (interlinks self.old) (P.key p).0) (λ a. Cuts (interlinks self.old) (interlinks self.new) a (P.key p).0)) }
         ensures seen { OnSome result (Self.seen self.new ≡ Self.seen self.old) }
         ensures none { IfNone result (self.new ≡ self.old) }
         ensures agreed { Agrees (interlinks self.old) };
@@ -157,6 +161,7 @@ pub trait ChainArenaTrait<P: PtrKey, T: Drop>: ArenaTrait<P, T> {
     fn break_next(&mut self, p: P) -> Option<()>
         ensures some { IsSome result ↔ (IsValid (Self.entry self.old) (P.key p) × IsSome (next_of (interlinks self.old) (P.key p).0)) }
         ensures cut { OnSome result (IfSome (next_of (interlinks self.old) (P.key p).0) (λ b. interlinks self.new ≡ cut (interlinks self.old) (P.key p).0 b)) }
+        ensures chains { OnSome result (IfSome (next_of (interlinks self.old) (P.key p).0) (λ b. Cuts (interlinks self.old) (interlinks self.new) (P.key p).0 b)) }
         ensures seen { OnSome result (Self.seen self.new ≡ Self.seen self.old) }
         ensures none { IfNone result (self.new ≡ self.old) }
         ensures agreed { Agrees (interlinks self.old) };
@@ -167,6 +172,7 @@ pub trait ChainArenaTrait<P: PtrKey, T: Drop>: ArenaTrait<P, T> {
     fn exchange_next(&mut self, p: P, q: P) -> Option<()>
         ensures some { IsSome result ↔ CanExchange (Self.entry self.old) (interlinks self.old) (P.key p) (P.key q) }
         ensures exchanged { OnSome result (interlinks self.new ≡ exchanged (interlinks self.old) (P.key p).0 (P.key q).0) }
+        ensures chains { OnSome result (Exchanges (interlinks self.old) (interlinks self.new) (P.key p).0 (P.key q).0) }
         ensures seen { OnSome result (Self.seen self.new ≡ Self.seen self.old) }
         ensures none { IfNone result (self.new ≡ self.old) }
         ensures agreed { Agrees (interlinks self.old) };
@@ -180,6 +186,7 @@ pub trait ChainArenaTrait<P: PtrKey, T: Drop>: ArenaTrait<P, T> {
         ensures valid { IsValid (Self.entry self.old) (P.key p) →
             (option_map (λ link. ((P.key p).1, seen_link P.Inx.packed_number link)) (value_within result) ≡ link_at (Self.entry self.old) (interlinks self.old) (P.key p).0)
             × (Self.seen self.new ≡ seen_removed P.Gen.following (Self.seen self.old) (P.key p).0) × (interlinks self.new ≡ removed (interlinks self.old) (P.key p).0) }
+        ensures chains { IsValid (Self.entry self.old) (P.key p) → Removes (interlinks self.old) (interlinks self.new) (P.key p).0 }
         ensures overflow { IfSome (Self.seen self.old).counter (λ g. result ≡ invalidation_result (P.Gen.wraps g) (value_within result)) }
         ensures invalid { ¬ IsValid (Self.entry self.old) (P.key p) → (value_within result ≡ None) × (self.new ≡ self.old) }
         ensures agreed { Agrees (interlinks self.old) };
@@ -194,6 +201,7 @@ pub trait ChainArenaTrait<P: PtrKey, T: Drop>: ArenaTrait<P, T> {
         ensures overflow { IfSome (Self.seen self.old).counter (λ g. result ≡ invalidation_result (P.Gen.wraps g) (value_within result)) }
         ensures valid { IsSome (Self.entry self.old (P.Inx.number i)) →
             (Self.seen self.new ≡ seen_removed P.Gen.following (Self.seen self.old) (P.Inx.number i)) × (interlinks self.new ≡ removed (interlinks self.old) (P.Inx.number i)) }
+        ensures chains { IsSome (Self.entry self.old (P.Inx.number i)) → Removes (interlinks self.old) (interlinks self.new) (P.Inx.number i) }
         ensures invalid { Self.entry self.old (P.Inx.number i) ≡ None → self.new ≡ self.old }
         ensures agreed { Agrees (interlinks self.old) };
 

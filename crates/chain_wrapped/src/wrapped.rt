@@ -259,6 +259,7 @@ impl<P: PtrKey, T: Drop, A: ChainArenaTrait<P, T>> ChainArenaTrait<P, T> for Wra
         kind: LinkInsertKind<P>,
         t: T,
     ) -> Result<P, ChainInsertionError>
+        ensures may { OnOk result (MayInsert (A.entry self.old.inner) (A.interlinks self.old.inner) (names_in P.key P.Inx.number kind)) }
         ensures inserted { IfOk result (λ p. IsInsertion (by_index (names_in P.key P.Inx.number kind)) (A.seen self.old.inner) (A.seen self.new.inner) (A.entry self.old.inner) (A.entry self.new.inner) (A.interlinks self.old.inner) (A.interlinks self.new.inner) (P.key p) t) }
         ensures agreed { Agrees (A.interlinks self.old.inner) }
         ensures capacity { (A.seen self.new.inner).capacity ≡ (A.seen self.old.inner).capacity }
@@ -275,6 +276,7 @@ impl<P: PtrKey, T: Drop, A: ChainArenaTrait<P, T>> ChainArenaTrait<P, T> for Wra
         kind: LinkInsertKind<P>,
         t: T,
     ) -> Result<P, ChainInsertionError>
+        ensures may { OnOk result (MayInsert (A.entry self.old.inner) (A.interlinks self.old.inner) (names_in P.key P.Inx.number kind)) }
         ensures inserted { IfOk result (λ p. IsInsertion (by_index (names_in P.key P.Inx.number kind)) (A.seen self.old.inner) (A.seen self.new.inner) (A.entry self.old.inner) (A.entry self.new.inner) (A.interlinks self.old.inner) (A.interlinks self.new.inner) (P.key p) t) }
         ensures agreed { Agrees (A.interlinks self.old.inner) }
         ensures err { OnErr result (self.new ≡ self.old) }

@@ -2,15 +2,16 @@
 use Rattle.std.proofs.Common.{◌≡◌, ◌≢◌, ℕ, suc, ◌<◌, List, [], ◌∷◌, ◌++◌, Option, None, Some, refl, ap, sym, ◌∙◌, subst, arith, ⊎_elim}
 use Rattle.std.specs.Prelude.{◌==◌, cond, is_some, true, false, OnSome}
 use Rattle.std.proofs.lemmas.Bool.{cases_eq}
-use Rattle.chain_laws.specs.Chains.{Shown, Chain, linear, items, Has, IsChain}
+use Rattle.chain_laws.specs.Chains.{Shown, Chain, linear, items, Has, IsChain, prev_in, prev_of, next_of}
 use Rattle.chain_laws.specs.Operations.{joined, with_lone}
 use Rattle.chain_laws.proofs.Agreement.{if_same, if_other}
-use Rattle.chain_laws.proofs.Alone.{with_lone_adds}
+use Rattle.chain_laws.proofs.Alone.{with_lone_adds, next_of-with_lone, prev_of-with_lone}
 use Rattle.chain_laws.proofs.Joining.{joined_connects}
 use Rattle.chain_laws.proofs.Unique.{chain_valid}
+use Rattle.arena_base.specs.Arena.{IsValid}
 use Rattle.arena_base.specs.Entries.{found, without, RisesFrom}
 use Rattle.trait_trials.specs.Behind.{Extends}
-use Rattle.chain_links.specs.ChainArena.{IsInserted}
+use Rattle.chain_links.specs.ChainArena.{IsInserted, CanConnect}
 
 none_of : {X : Type 0} (o : Option X) → is_some o ≡ false → o ≡ None
 none_of None is = refl
@@ -53,6 +54,18 @@ module _ {Gen T : Type 0} (old mid : ℕ → Option (Gen × T)) (q : ℕ × Gen)
   -- nothing was shown where it went
   pub not_shown : (interlinks : Shown) → is_some (interlinks q.0) ≡ is_some (old q.0) → interlinks q.0 ≡ None
   not_shown interlinks stands = none_of (interlinks q.0) (stands ∙ ap is_some inserted.free)
+
+  -- it can be joined behind a link that names none after it
+  pub joinable : (interlinks changed : Shown) → interlinks q.0 ≡ None → changed ≡ with_lone interlinks q.0 → (p : ℕ × Gen) → IsValid old p → next_of interlinks p.0 ≡ None
+      → CanConnect mid changed p q
+  joinable interlinks changed none alone p valid end =
+      let other : p.0 ≢ q.0 = λ same. let both = sym valid.stands ∙ (ap old same ∙ inserted.free) in absurd (cc) in
+      record {
+        first_valid = record { value = valid.value; stands = inserted.rest p.0 other ∙ valid.stands };
+        second_valid = record { value = t; stands = inserted.stands };
+        no_next = ap (λ (s : Shown). next_of s p.0) alone ∙ (next_of-with_lone interlinks q.0 none p.0 ∙ end);
+        no_prev = ap (λ (s : Shown). prev_of s q.0) alone ∙ (prev_of-with_lone interlinks q.0 none q.0 ∙ ap prev_in none);
+      }
 
 -- a link that was added alone and joined makes the chain longer
 pub extends : (old mid new : Shown) (p q : ℕ) → old q ≡ None → mid ≡ with_lone old q → new ≡ joined mid p q → Extends old new p q

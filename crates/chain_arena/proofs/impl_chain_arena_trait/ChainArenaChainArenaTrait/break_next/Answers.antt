@@ -46,6 +46,7 @@ returns-in-Some g c =
     rw (← c.self.view_is) (record {
       some = (λ _. (c.in-Some.ensures.some refl, ap is_some at), λ _. refl);
       cut = at_told _ _ _ at (cut_shows a b i j is);
+      chains = at_told _ _ _ at (cut_told a b i j is (pair g c)).chains;
       seen = ap (λ x. seen_of x) (cut_values a b i j is);
       none = tt;
       agreed = c.self.invariant;
@@ -56,6 +57,7 @@ pub returns-in-None : goal.returns-in-None
 returns-in-None g c = rw (← c.self.view_is) (record {
   some = ((λ no. absurd (false≢true no)), λ can. absurd (false≢true (ap is_some (c.in-None.ensures.named can.0) ∙ can.1)));
   cut = tt;
+  chains = tt;
   seen = tt;
   none = refl;
   agreed = c.self.invariant;

@@ -59,6 +59,7 @@ returns-in-Some-next_of_link g c =
         λ _. refl,
       );
       exchanged = exchange_shows a b i j is;
+      chains = (exchange_told a b i j is c.self.invariant (valid_p g c) (valid_q g c)).chains;
       seen = ap (λ x. seen_of x) (exchange_values a b i j is);
       none = tt;
       agreed = c.self.invariant;
@@ -69,6 +70,7 @@ pub returns-in-None-next_of_link : goal.returns-in-None-next_of_link
 returns-in-None-next_of_link g c = rw (← c.self.view_is) (record {
   some = ((λ no. absurd (false≢true no)), λ can. absurd (false≢true (ap is_some (c.in-None-next_of_link.ensures.named can.second_valid) ∙ can.second_next)));
   exchanged = tt;
+  chains = tt;
   seen = tt;
   none = refl;
   agreed = c.self.invariant;
@@ -79,6 +81,7 @@ pub returns-in-None : goal.returns-in-None
 returns-in-None g c = rw (← c.self.view_is) (record {
   some = ((λ no. absurd (false≢true no)), λ can. absurd (false≢true (ap is_some (c.in-None.ensures.named can.first_valid) ∙ can.first_next)));
   exchanged = tt;
+  chains = tt;
   seen = tt;
   none = refl;
   agreed = c.self.invariant;

@@ -23,6 +23,7 @@ told g c =
 pub returns : goal.returns
 returns g c =
     let t = told g c in record {
+      may = t.may;
       inserted = t.inserted;
       agreed = c.gap_growing-asked.ensures.agreed;
       err = t.err;

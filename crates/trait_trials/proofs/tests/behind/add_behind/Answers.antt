@@ -1,17 +1,32 @@
 -- The new link is joined, or else taken out again.
 use Rattle.std.proofs.Common.{◌≡◌, false, Option, None, Some, ap, sym, ◌∙◌, subst}
 use Rattle.std.specs.Prelude.{is_some, IfNone}
+use Rattle.std.proofs.lemmas.Bool.{false≢true}
 use Rattle.chain_laws.specs.Removals.{removed}
 use Rattle.arena_base.specs.Arena.{IsValid}
 use Rattle.arena_base.specs.Entries.{without}
 use Rattle.chain_laws.proofs.RemovalPairs.{removed_of_lone}
 use Rattle.chain_laws.proofs.InsertionWrites.{alone_by_writes}
-use Rattle.trait_trials.proofs.Behind.{taken_back, not_shown, extends, some_holds}
+use Rattle.trait_trials.proofs.Behind.{taken_back, not_shown, joinable, extends, some_holds}
 use Rattle.trait_trials.proofs.tests.behind.add_behind.Goals as goal
 
 none_holds : {X Q : Type 0} (o : Option X) → is_some o ≡ false → IfNone o Q → Q
 none_holds None none q = q
 none_holds (Some x) none q = absurd (let h = none in cc)
+
+pub returns-clause-some : goal.returns-clause-some
+returns-clause-some g c = (
+  λ no. absurd (false≢true no),
+  λ end.
+      let old = c.args.arena.now in
+      let mid = c.insert_reallocating.new.self in
+      let links = g.A.ChainArenaTrait.interlinks old in
+      let q = g.P.PtrKey.key c.in_ok-q.q in
+      let inserted = c.in_ok-q.ensures.inserted in
+      let none = not_shown (g.A.ArenaTrait.entry old) (g.A.ArenaTrait.entry mid) q c.args.t inserted.entries links (g.met.A.ChainArenaTrait.stand old q.0) in
+      let can = joinable (g.A.ArenaTrait.entry old) (g.A.ArenaTrait.entry mid) q c.args.t inserted.entries links (g.A.ChainArenaTrait.interlinks mid) none (inserted.shows ∙ alone_by_writes links q.0) (g.P.PtrKey.key c.args.p) end.0 end.1 in
+      absurd (false≢true (sym (sym c.is_some.ensures ∙ c.if-is_some.false) ∙ c.connect.ensures.some.1 can)),
+)
 
 pub returns-clause-none : goal.returns-clause-none
 returns-clause-none g c =
