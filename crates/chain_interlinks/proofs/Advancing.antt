@@ -2,8 +2,8 @@
 use Rattle.std.proofs.Common.{◌≡◌, ℕ, zero, suc, List, ◌∷◌, Option, None, Some, refl, ap, ap₂, ◌∙◌, subst, IfSome, arith}
 use Rattle.std.specs.Prelude.{◌-◌}
 use Rattle.std.specs.Option.{option_map}
-use Rattle.chain_laws.specs.Chains.{Shown, first_or}
-use Rattle.chain_laws.specs.Walks.{Walker, ahead}
+use Rattle.chain_laws.specs.Chains.{Shown}
+use Rattle.chain_laws.specs.Walks.{Walker, next_step}
 use Rattle.arena_base.specs.Arena.{Arena, IsValid, entry_at}
 use Rattle.chain_links.specs.ChainArena.{LinkSeen, shown, entry, value_in, on_value}
 use Rattle.chain_links.specs.Walkers.{index_and_entry, IsPassing}
@@ -25,31 +25,35 @@ module _ {Gen T : Type 0} (a : Arena Gen (LinkSeen T)) where
 
   -- where no link stands before it
   module _ (start i : ℕ) (none : entry_at a i ≡ None) where
-    no_entry : (j : ℕ) → Some i ≡ Some j → entry a j ≡ None
-    no_entry j same = subst (λ (o : Option ℕ). IfSome o (λ k. entry a k ≡ None)) same (entry_at-with_each value_in a i ∙ ap (option_map (on_value value_in)) none)
+    no_entry : entry a i ≡ None
+    no_entry = entry_at-with_each value_in a i ∙ ap (option_map (on_value value_in)) none
 
-    pub ends_forth : (back : Option ℕ) (left j : ℕ) (rest : List ℕ) → ahead left (shown a) start (Some i) back ≡ j ∷ rest → entry a j ≡ None
-    ends_forth back zero j rest passes = absurd (let h = passes in cc)
-    ends_forth back (suc left) j rest passes = no_entry j (ap (λ (l : List ℕ). first_or l None) passes)
+    pub ends_forth : (back : Option ℕ) (left : ℕ) → IfSome (next_step left (shown a) start (Some i) back) (λ step. entry a step.0 ≡ None)
+    ends_forth back zero = tt
+    ends_forth back (suc left) = no_entry
 
-    pub ends_back : (left j : ℕ) (rest : List ℕ) → ahead left (shown a) start None (Some i) ≡ j ∷ rest → entry a j ≡ None
-    ends_back zero j rest passes = absurd (let h = passes in cc)
-    ends_back (suc left) j rest passes = no_entry j (ap (λ (l : List ℕ). first_or l None) passes)
+    pub ends_back : (left : ℕ) → IfSome (next_step left (shown a) start None (Some i)) (λ step. entry a step.0 ≡ None)
+    ends_back zero = tt
+    ends_back (suc left) = no_entry
+
+  pub ends_nowhere : (start left : ℕ) → IfSome (next_step left (shown a) start None None) (λ step. entry a step.0 ≡ None)
+  ends_nowhere start zero = tt
+  ends_nowhere start (suc left) = tt
 
 -- one call, by what its step told
 module _ {Gen T : Type 0} (entry : ℕ → Option (Gen × T)) (interlinks : Shown) (start : ℕ) (forth back : Option ℕ) where
   pub is_passed : (left : ℕ) (p : ℕ × Gen) (forth_then back_then : Option ℕ) → (left ≡ 0 → ⊥) → IsValid entry p
-      → ((n : ℕ) → ahead (suc n) interlinks start forth back ≡ p.0 ∷ ahead n interlinks start forth_then back_then)
+      → ((n : ℕ) → next_step (suc n) interlinks start forth back ≡ Some (p.0, record { left = n; start = start; forth = forth_then; back = back_then }))
       → IsPassing entry interlinks (record { left = left; start = start; forth = forth; back = back }) (Some p) (record { left = left - 1; start = start; forth = forth_then; back = back_then })
-  is_passed zero p forth_then back_then some valid passes = absurd (some refl)
-  is_passed (suc n) p forth_then back_then some valid passes =
+  is_passed zero p forth_then back_then some valid steps = absurd (some refl)
+  is_passed (suc n) p forth_then back_then some valid steps =
       let less : n ≡ suc n - 1 = omega arith in record {
-        passed = (valid, omega arith, subst (λ (m : ℕ). ahead (suc n) interlinks start forth back ≡ p.0 ∷ ahead m interlinks start forth_then back_then) less (passes n));
+        passed = (valid, subst (λ (m : ℕ). next_step (suc n) interlinks start forth back ≡ Some (p.0, record { left = m; start = start; forth = forth_then; back = back_then })) less (steps n));
         spent = tt;
         end = tt;
       }
 
-  pub is_ended : (left : ℕ) → ((n i : ℕ) (rest : List ℕ) → ahead n interlinks start forth back ≡ i ∷ rest → entry i ≡ None)
+  pub is_ended : (left : ℕ) → ((n : ℕ) → IfSome (next_step n interlinks start forth back) (λ step. entry step.0 ≡ None))
       → IsPassing entry interlinks (record { left = left; start = start; forth = forth; back = back }) None (record { left = 0; start = start; forth = forth; back = back })
   is_ended left ends = record { passed = tt; spent = refl; end = ends left }
 

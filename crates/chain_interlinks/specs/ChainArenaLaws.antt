@@ -1,9 +1,9 @@
 -- A link stands where an entry stands, and an advancer that has no step left passes nothing.
 use Rattle.std.specs.Prelude.{◌≡◌, ℕ, zero, suc, List, [], ◌∷◌, map, Option, None, Some, is_some, slice_index_or}
 use Rattle.std.specs.Option.{option_map}
-use Rattle.std.proofs.Common.{refl, sym, ◌∙◌}
+use Rattle.std.proofs.Common.{refl, subst}
 use Rattle.chain_laws.specs.Chains.{Shown}
-use Rattle.chain_laws.specs.Walks.{Walker}
+use Rattle.chain_laws.specs.Walks.{Walker, next_step}
 use Rattle.arena_base.specs.Arena.{Arena, entry_at}
 use Rattle.chain_links.specs.Walkers.{IsPassing}
 use Rattle.chain_links.specs.ChainArena.{LinkSeen, shown, values_of, on_value, value_in, interlinks_of}
@@ -23,4 +23,4 @@ module _ {Gen T : Type 0} where
 module _ {P Gen T : Type 0} (key : P → ℕ × Gen) (entry : ℕ → Option (Gen × T)) (interlinks : Shown) {old new : Walker} where
   pub spent_stays : (answer : Option P) → old.left ≡ 0 → IsPassing entry interlinks old (option_map key answer) new → (answer ≡ None) × (new.left ≡ 0)
   spent_stays None none passing = (refl, passing.spent)
-  spent_stays (Some p) none passing = absurd (let more = passing.passed.1 in let both = sym none ∙ more in cc)
+  spent_stays (Some p) none passing = absurd (let step = subst (λ n. next_step n interlinks old.start old.forth old.back ≡ Some ((key p).0, new)) none passing.passed.1 in cc)

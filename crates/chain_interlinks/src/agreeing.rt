@@ -63,7 +63,7 @@ pub fn agrees_at<P: PtrKey, T: Drop, S: SlotStack<Item = ArenaSlot<P, LinkNoGen<
 }
 
 /// Whether the interlinks agree: a link comes after another exactly if that comes before it. So each interlink names a
-/// valid index. It takes time in proportion to the slots.
+/// valid index. No clause tells its time: as it is written, that is in proportion to the slots.
 ///
 /// It stands in place of `_check_interlinks` of `triple_arena`, which is hidden there.
 pub fn links_agree<P: PtrKey, T: Drop, S: SlotStack<Item = ArenaSlot<P, LinkNoGen<P, T>>>>(

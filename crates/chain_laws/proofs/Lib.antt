@@ -12,6 +12,7 @@ pub mod Gluing
 pub mod Joining
 pub mod Alone
 pub mod Walking
+pub mod Stepping
 pub mod Passing
 pub mod Skipping
 pub mod RemovalPairs

@@ -41,6 +41,27 @@ passes_ahead shown w = ahead w.left shown w.start w.forth w.back
 abbrev pub walker_at : Shown → ℕ → ℕ → Walker
 walker_at shown left i = record { left = left; start = i; forth = Some i; back = prev_of shown i }
 
+-- the next step of a walker that makes so many at most: the link that it passes, and the walker after it, which began where it
+-- began, and goes from that link on, forth or back
+abbrev pub next_step : ℕ → Shown → ℕ → Option ℕ → Option ℕ → Option (ℕ × Walker)
+next_step zero shown start forth back = None
+next_step (suc left) shown start (Some j) back =
+    Some (j, record { left = left; start = start; forth = going_on start (next_of shown j); back = going_back start (next_of shown j) back })
+next_step (suc left) shown start None (Some k) = Some (k, record { left = left; start = start; forth = None; back = prev_of shown k })
+next_step (suc left) shown start None None = None
+
+abbrev pub step_of : Shown → Walker → Option (ℕ × Walker)
+step_of shown w = next_step w.left shown w.start w.forth w.back
+
+-- the link of a step, and what the walker passes after it
+abbrev pub passed_by : Shown → Option (ℕ × Walker) → List ℕ
+passed_by shown None = []
+passed_by shown (Some step) = step.0 ∷ passes_ahead shown step.1
+
+-- what a walker passes is the link of its next step, and what it passes after it
+abbrev pub StepsPass : Type 0
+StepsPass = (shown : Shown) (w : Walker) → passes_ahead shown w ≡ passed_by shown (step_of shown w)
+
 -- a walker passes the walk
 abbrev pub WalksAhead : Type 0
 WalksAhead = (shown : Shown) (slots i : ℕ) → Agrees shown → IsWithin shown slots → IsValid shown i

@@ -1,10 +1,15 @@
 //! Walks: that a walker passes the walk from any link, and what the walk is.
 
-ghost use Rattle.chain_laws.specs.Walks.{WalksAhead, HasNoOtherWalk, PassesEachOnce, PassesTheChain, RemovalLeavesTheWalk, WalkIsTaken};
+ghost use Rattle.chain_laws.specs.Walks.{WalksAhead, StepsPass, HasNoOtherWalk, PassesEachOnce, PassesTheChain, RemovalLeavesTheWalk, WalkIsTaken};
 
 /// From any link, a walker that follows `next` to the end and then `prev` from its start, or comes round, passes a walk.
 pub fn walker_passes_the_walk()
     ensures { WalksAhead }
+{}
+
+/// What a walker passes is what its steps pass, one after another.
+pub fn walker_goes_by_steps()
+    ensures { StepsPass }
 {}
 
 /// There is one walk from a link.

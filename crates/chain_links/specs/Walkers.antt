@@ -1,9 +1,9 @@
 -- What a walker over a chain arena still yields.
-use Rattle.std.specs.Prelude.{◌≡◌, ℕ, suc, List, [], ◌∷◌, Option, None, Some, IfSome, IfNone}
+use Rattle.std.specs.Prelude.{◌≡◌, ℕ, List, [], ◌∷◌, Option, None, Some, IfSome, IfNone}
 use Rattle.std.specs.Option.{option_map}
 use Rattle.std.specs.Borrow.{Bor}
 use Rattle.chain_laws.specs.Chains.{Shown}
-use Rattle.chain_laws.specs.Walks.{Walker, ahead, passes_ahead}
+use Rattle.chain_laws.specs.Walks.{Walker, ahead, step_of}
 use Rattle.chain_links.specs.declared.links.LinkBody.{LinkBody}
 use Rattle.arena_base.specs.Arena.{Arena, entry_at, IsValid}
 use Rattle.chain_links.specs.ChainArena.{LinkSeen, shown}
@@ -28,12 +28,12 @@ module _ {P Gen K T : Type 0} where
   abbrev pub seen_item : (P → ℕ × Gen) → (K → Option ℕ) → P × Bor (LinkBody K T) → ℕ × (Gen × LinkSeen T)
   seen_item key number item = ((key item.0).0, ((key item.0).1, seen_link number item.1.now))
 
--- one call of an advancer along a chain: it passes the link that it has before it, where one stands there, and makes one
--- step less from then on; or it passes nothing any more
+-- one call of an advancer along a chain: where a link stands at its next step, it passes that and takes the step, in the arena of
+-- the call; and else it passes nothing any more
 pub record IsPassing {Gen T : Type 0} (entry : ℕ → Option (Gen × T)) (interlinks : Shown) (old : Walker) (answer : Option (ℕ × Gen)) (new : Walker) : Type 0 where
-  pub passed : IfSome answer (λ p. IsValid entry p × (old.left ≡ suc new.left) × (passes_ahead interlinks old ≡ p.0 ∷ passes_ahead interlinks new))
+  pub passed : IfSome answer (λ p. IsValid entry p × (step_of interlinks old ≡ Some (p.0, new)))
   pub spent : IfNone answer (new.left ≡ 0)
-  pub end : IfNone answer ((i : ℕ) (rest : List ℕ) → passes_ahead interlinks old ≡ i ∷ rest → entry i ≡ None)
+  pub end : IfNone answer (IfSome (step_of interlinks old) (λ step. entry step.0 ≡ None))
 
 -- the walker of an advancer, where its indexes are numbers
 abbrev pub walker_of : {I : Type 0} → (I → ℕ) → ℕ → I → Option I → Option I → Walker

@@ -1,6 +1,7 @@
 -- What was passed is the walk, of which nothing is left.
-use Rattle.std.proofs.Common.{sym, ap, ◌∙◌, subst}
+use Rattle.std.proofs.Common.{◌≡◌, None, sym, ap, ◌∙◌, subst}
 use Rattle.chain_laws.specs.Walks.{IsWalk, passes_ahead}
+use Rattle.chain_laws.proofs.Stepping.{first_ahead}
 use Rattle.chain_traits.proofs.AnyArena.{entry_valid}
 use Rattle.trait_trials.proofs.Along.{walk_ahead, walk_whole}
 use Rattle.trait_trials.proofs.tests.advancing.walk_along.Goals as goal
@@ -17,4 +18,4 @@ returns g c =
     λ valid. walk_whole links entry es stands looked i _ (passes_ahead links (g.A.ChainArenaTrait.walker c.loop-q.along))
     (subst (IsWalk links i) (sym (c.loop-q.invariant ∙ ap (passes_ahead links) (c.advancer_chain-along.ensures.valid valid)))
     (walk_ahead links entry es stands looked g.P.Inx.InxKey.greatest i c.advancer_chain-along.ensures.agree c.len.ensures.indexes (entry_valid links entry es stands looked i _ valid.stands)))
-    (g.met.A.ChainArenaTrait.passes c.loop-q.along c.advance.new.self a _ c.in_default.ensures).end
+    (first_ahead links (g.A.ChainArenaTrait.walker c.loop-q.along) (λ k. entry k ≡ None) (g.met.A.ChainArenaTrait.passes c.loop-q.along c.advance.new.self a _ c.in_default.ensures).end)

@@ -1,0 +1,5 @@
+use Rattle.chain_laws.proofs.Stepping.{steps_pass}
+use Rattle.chain_laws.proofs.walks.walker_goes_by_steps.Goals as goal
+
+pub returns : goal.returns
+returns c = steps_pass
