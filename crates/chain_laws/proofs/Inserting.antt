@@ -196,7 +196,7 @@ inserted_ring shown q =
     (Has-filled (q ∷ []) q (inl refl), once, Stands-ringed (appended shown q (Some q)) (Some q) (q ∷ []) (Some q) once closed)
 
 -- an index that a chain does not have, or none, is apart from its items
-HasIndex-apart : (c : Chain) (u : Option ℕ) → (HasIndex c u → ⊥) → IsApart u (items c)
+pub HasIndex-apart : (c : Chain) (u : Option ℕ) → (HasIndex c u → ⊥) → IsApart u (items c)
 HasIndex-apart c None none k e h = cc
 HasIndex-apart c (Some i) none k e h = IsApart-Some i (items c) none k e h
 

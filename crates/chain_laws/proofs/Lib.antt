@@ -51,3 +51,6 @@ pub mod Moving
 pub mod Closing
 pub mod LeastIndex
 pub mod RenamingRows
+pub mod Listing
+pub mod Belonging
+pub mod Staying

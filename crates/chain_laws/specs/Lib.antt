@@ -11,3 +11,5 @@ pub mod Arrangements
 pub mod Moves
 pub mod Starts
 pub mod Relays
+pub mod Members
+pub mod Others

@@ -5,7 +5,9 @@
 pub mod cutting;
 pub mod exchange;
 pub mod insertion;
+pub mod membership;
 pub mod operations;
+pub mod others;
 pub mod partition;
 pub mod relaying;
 pub mod removal;
