@@ -54,3 +54,4 @@ pub mod RenamingRows
 pub mod Listing
 pub mod Belonging
 pub mod Staying
+pub mod MemberRows

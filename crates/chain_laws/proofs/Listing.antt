@@ -1,6 +1,6 @@
 -- Laws of what lists have, both ways.
-use Rattle.std.proofs.Common.{◌≡◌, ◌≢◌, ℕ, ◌⊎◌, inl, inr, ⊎_elim, List, [], ◌∷◌, ◌++◌, sym, subst}
-use Rattle.chain_laws.specs.Chains.{Has, HasNoRepetition}
+use Rattle.std.proofs.Common.{ℕ, ◌⊎◌, inl, inr, ⊎_elim, List, [], ◌∷◌, sym, subst}
+use Rattle.chain_laws.specs.Chains.{Has}
 use Rattle.chain_laws.specs.Members.{HasInJoin, HasInTurn, HasInMiddle, HasIsWritten, HasIsFilled, OnceInJoin, OnceInTurn, OnceInMiddle}
 use Rattle.chain_laws.proofs.Members.{Has-left, Has-right, Has-parts, Has-middle, Has-turned, Has-written, Has-filled, filled-Has}
 use Rattle.chain_laws.proofs.Members.{HasNoRepetition-left, HasNoRepetition-right, HasNoRepetition-apart, HasNoRepetition-append, HasNoRepetition-turned}

@@ -1,12 +1,11 @@
 -- Chains that a change leaves alone: since what stands beside a link of a chain stands in it too, it is enough that they lack one of two neighbours.
-use Rattle.std.proofs.Common.{◌≡◌, ℕ, inl, inr, ⊎_elim, List, [], ◌∷◌, Option, None, Some, refl, sym, subst}
+use Rattle.std.proofs.Common.{◌≡◌, ℕ, inl, inr, ⊎_elim, Option, None, Some, refl, sym, subst}
 use Rattle.chain_laws.specs.Chains.{Shown, Chain, linear, cyclic, items, Has, IsChain, Agrees, first_or, last_or, prev_of, next_of}
-use Rattle.chain_laws.specs.Neighbors.{AreNeighbors}
 use Rattle.chain_laws.specs.Operations.{joined}
-use Rattle.chain_laws.specs.Cuts.{cut, Cuts}
-use Rattle.chain_laws.specs.Removals.{without, removed}
+use Rattle.chain_laws.specs.Cuts.{cut}
+use Rattle.chain_laws.specs.Removals.{without}
 use Rattle.chain_laws.specs.Insertions.{InsertKind, disconnected, single_link_cyclic, chain_end, chain_start, next_to, prev_to, at_interlink, bridge}
-use Rattle.chain_laws.specs.Insertions.{HasIndex, Inserts, InsertsPairs, link_before, link_after, inserted}
+use Rattle.chain_laws.specs.Insertions.{HasIndex, InsertsPairs, link_before, link_after, inserted}
 use Rattle.chain_laws.specs.Others.{Lacks, named, SameLinksKeepAChain, InsertionKeepsOthers, InsertionMakesNoOthers, LoneKeepsEach, CutKeepsOthers, JoinMakesNoOthers, RemovalMakesNoOthers}
 use Rattle.chain_laws.proofs.Standing.{Stands-frame}
 use Rattle.chain_laws.proofs.Gluing.{IsChain-linked}

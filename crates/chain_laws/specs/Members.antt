@@ -27,10 +27,20 @@ abbrev pub PlacesInALine : Type 0
 PlacesInALine = (shown : Shown) (x y : List ℕ) (i : ℕ) → IsChain shown (linear (x ++ i ∷ y))
     → shown i ≡ Some (record { prev = last_or x None; next = first_or y None })
 
--- .. and in a cyclic one what is written there, else what comes round
+-- .. and in a cyclic one what is written there, else what comes round ..
 abbrev pub PlacesInARing : Type 0
 PlacesInARing = (shown : Shown) (x y : List ℕ) (i : ℕ) → IsChain shown (cyclic (x ++ i ∷ y))
     → shown i ≡ Some (record { prev = last_or x (last_or y (Some i)); next = first_or y (first_or x (Some i)) })
+
+-- .. so of a linear chain the end alone names none after it, and the start alone none before it ..
+abbrev pub LinesEnd : Type 0
+LinesEnd = (shown : Shown) (xs : List ℕ) (i : ℕ) → IsChain shown (linear xs) → Has xs i
+    → ((next_of shown i ≡ None) ↔ (last_or xs None ≡ Some i)) × ((prev_of shown i ≡ None) ↔ (first_or xs None ≡ Some i))
+
+-- .. and of a cyclic one each link names one of its links after it, and one before it
+abbrev pub RingsGoRound : Type 0
+RingsGoRound = (shown : Shown) (xs : List ℕ) (i : ℕ) → IsChain shown (cyclic xs) → Has xs i
+    → ((j : ℕ) × (next_of shown i ≡ Some j) × Has xs j) × ((j : ℕ) × (prev_of shown i ≡ Some j) × Has xs j)
 
 -- a chain that has one of two neighbours has the other
 abbrev pub NeighborsStandTogether : Type 0

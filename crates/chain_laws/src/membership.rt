@@ -1,7 +1,7 @@
 //! What stands in a chain and in a list, for code that is built on chains.
 
-ghost use Rattle.chain_laws.specs.Members.{MembersAreLinks, FreeIsInNoChain, MembersStandOnce, MembersNameNeighbors, PlacesInALine, PlacesInARing};
-ghost use Rattle.chain_laws.specs.Members.{NeighborsStandTogether, ChainsShareEach, TurnsHaveTheSame, HasInAll};
+ghost use Rattle.chain_laws.specs.Members.{MembersAreLinks, FreeIsInNoChain, MembersStandOnce, MembersNameNeighbors};
+ghost use Rattle.chain_laws.specs.Members.{PlacesInALine, PlacesInARing, LinesEnd, RingsGoRound, NeighborsStandTogether, ChainsShareEach, TurnsHaveTheSame, HasInAll};
 ghost use Rattle.chain_laws.specs.Members.{HasInJoin, HasInTurn, HasInMiddle, HasIsWritten, HasIsDecided, HasIsFilled};
 ghost use Rattle.chain_laws.specs.Members.{OnceInJoin, OnceInTurn, OnceInMiddle, OnceAtOnePlace, OnceIsNoLonger};
 
@@ -18,6 +18,8 @@ pub fn members_name_neighbors()
     ensures neighbors { MembersNameNeighbors }
     ensures in_line { PlacesInALine }
     ensures in_ring { PlacesInARing }
+    ensures line_ends { LinesEnd }
+    ensures ring_goes_round { RingsGoRound }
 {}
 
 /// What stands beside a link of a chain stands in that chain, and chains that share a link share each.

@@ -1,5 +1,5 @@
 -- By its place in the list.
-use Rattle.chain_laws.proofs.Belonging.{members_name_neighbors, places_in_a_line, places_in_a_ring}
+use Rattle.chain_laws.proofs.Belonging.{members_name_neighbors, places_in_a_line, places_in_a_ring, lines_end, rings_go_round}
 use Rattle.chain_laws.proofs.membership.members_name_neighbors.Goals as goal
 
 pub returns-clause-neighbors : goal.returns-clause-neighbors
@@ -10,3 +10,9 @@ returns-clause-in_line c = places_in_a_line
 
 pub returns-clause-in_ring : goal.returns-clause-in_ring
 returns-clause-in_ring c = places_in_a_ring
+
+pub returns-clause-line_ends : goal.returns-clause-line_ends
+returns-clause-line_ends c = lines_end
+
+pub returns-clause-ring_goes_round : goal.returns-clause-ring_goes_round
+returns-clause-ring_goes_round c = rings_go_round
