@@ -11,15 +11,19 @@ use Rattle.chain_laws.proofs.Gathering.{Has-all_items, chain_at}
 use Rattle.chain_laws.proofs.InsertionPairs.{free_invalid}
 use Rattle.chain_laws.proofs.Neighboring.{chain_next, chain_prev, chain_shows}
 
+-- the items of a chain show interlinks
 pub members_are_links : MembersAreLinks
 members_are_links shown c i is has = chain_valid shown c i is has
 
+-- .. and a free index shows none
 pub free_is_in_no_chain : FreeIsInNoChain
 free_is_in_no_chain shown c q free is has = free_invalid shown q free (chain_valid shown c q is has)
 
+-- an item of a chain shows what stands beside its place
 pub members_name_neighbors : MembersNameNeighbors
 members_name_neighbors shown c i j is has = (chain_next shown c i j is has, chain_prev shown c i j is has)
 
+-- the place of an item, in a linear chain
 pub places_in_a_line : PlacesInALine
 places_in_a_line shown x y i is = chain_shows shown (linear (x ++ i ∷ y)) x y i is refl
 
@@ -51,6 +55,7 @@ some_first : (xs : List ℕ) (after : ℕ) → (j : ℕ) × (first_or xs (Some a
 some_first [] after = (after, refl)
 some_first (x ∷ xs) after = (x, refl)
 
+-- the place of an item, in a cyclic chain, has something on both sides
 pub rings_go_round : RingsGoRound
 rings_go_round shown xs i is has =
     let closed = chain_closed shown (cyclic xs) is in
@@ -62,14 +67,17 @@ rings_go_round shown xs i is has =
     let prev = cyclic_prev_some shown xs i is has in
     ((after.0, next, closed.forth i after.0 has next), (prev.0, prev.1, closed.back i prev.0 has prev.1))
 
+-- the items of a chain are closed, and agreement turns the pair round
 pub neighbors_stand_together : NeighborsStandTogether
 neighbors_stand_together shown c a b agrees pair is =
     let closed = chain_closed shown c is in
     (λ has. closed.forth a b has pair, λ has. closed.back b a has ((agrees.both a b).0 pair))
 
+-- of two chains that share an index each has what the other has
 pub chains_share_each : ChainsShareEach
 chains_share_each shown c other i j is also has too = (chains_share shown c other i j is also has too, chains_share shown other c i j also is too has)
 
+-- two parts have the same in either order
 pub turns_have_the_same : TurnsHaveTheSame
 turns_have_the_same (linear xs) (linear ys) i same = (subst (λ (zs : List ℕ). Has zs i) same, subst (λ (zs : List ℕ). Has zs i) (sym same))
 turns_have_the_same (linear xs) (cyclic ys) i same = absurd same
@@ -79,5 +87,6 @@ turns_have_the_same (cyclic xs) (cyclic ys) i same = (
   λ has. subst (λ (zs : List ℕ). Has zs i) (sym same.2) (Has-turned same.1 same.0 i (subst (λ (zs : List ℕ). Has zs i) same.3 has)),
 )
 
+-- the items of all chains, looked for and found in one
 pub has_in_all : HasInAll
 has_in_all chains i = (chain_at chains i, λ w. Has-all_items chains w.0 i w.1 w.2)

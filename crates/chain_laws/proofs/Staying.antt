@@ -17,6 +17,7 @@ use Rattle.chain_laws.proofs.InsertionPairs.{inserted_agrees, inserted_in_pairs}
 use Rattle.chain_laws.proofs.Inserting.{HasIndex-apart, inserted_inserts}
 use Rattle.chain_laws.proofs.Belonging.{free_is_in_no_chain, neighbors_stand_together}
 
+-- a list that stands depends on what its own items show alone
 pub same_links_keep_a_chain : SameLinksKeepAChain
 same_links_keep_a_chain old new (linear xs) same is = (is.0, is.1, Stands-frame old new None xs None (λ i has. sym (same i has)) is.2)
 same_links_keep_a_chain old new (cyclic xs) same is = (is.0, is.1, Stands-frame old new (last_or xs None) xs (first_or xs None) (λ i has. sym (same i has)) is.2)
@@ -49,6 +50,7 @@ lacks_beside shown (prev_to b) q c agrees is off lacks = (lacks_prev shown c b a
 lacks_beside shown (at_interlink a b) q c agrees is off lacks = (lacks.0, lacks.1.0)
 lacks_beside shown (bridge a b) q c agrees is off lacks = (lacks.0, lacks.1.0)
 
+-- .. so it stays where the new link comes
 pub insertion_keeps_others : InsertionKeepsOthers
 insertion_keeps_others old new kind q agrees free inserts c lacks is =
     let off = free_is_in_no_chain old c q free is in
@@ -74,9 +76,11 @@ insertion_makes_no_others shown q u v agrees free gap c off is =
     after None at_v has = has
     after (Some j) at_v has = off ((neighbors_stand_together (inserted shown q u v) c q j agree ((inserts.pairs q j).1 (inr (inr (refl, at_v)))) is).1 has)
 
+-- a chain has no free index
 pub lone_keeps_each : LoneKeepsEach
 lone_keeps_each old new q free adds c is = (adds.rest c (free_is_in_no_chain old c q free is)).0 is
 
+-- a chain that lacks one of two neighbours lacks both
 pub cut_keeps_others : CutKeepsOthers
 cut_keeps_others old new a b agrees pair cuts c lacks is =
     let both = neighbors_stand_together old c a b agrees pair is in
@@ -89,6 +93,7 @@ join_makes_no_others shown a b agrees ends c lacks is =
     subst (λ (s : Shown). IsChain s c) restored.1
     (cut_keeps_others (joined shown a b) (cut (joined shown a b) a b) a b (joined_agrees shown a b agrees ends) restored.0 (cut_cuts (joined shown a b) a b) c lacks is)
 
+-- a chain without the links that are tied together shows what it showed without the removed one, which it lacks
 pub removal_makes_no_others : RemovalMakesNoOthers
 removal_makes_no_others shown i c no_prev no_next is =
     let left = (IsChain-linked (without shown i) (prev_of shown i) (next_of shown i) c (HasIndex-apart c (prev_of shown i) no_prev) (HasIndex-apart c (next_of shown i) no_next)).1 is in
