@@ -1,12 +1,13 @@
 -- A step that was made is some answer's step, also where memory for the answer was refused.
-use Rattle.std.proofs.Common.{OnOk, ◌≡◌, ℕ, ◌⊎◌, List, [], ◌∷◌, ◌++◌, Result, Ok, Err, OnErr, refl, sym, ap, ◌∙◌, inl, inr, subst, Bool, cond, append_assoc, append-nil, true, false}
+use Rattle.std.proofs.Common.{OnOk, ◌≡◌, ℕ, ◌⊎◌, List, [], ◌∷◌, ◌++◌, Result, Ok, Err, OnErr, IsOk, refl, sym, ap, ◌∙◌, inl, inr, subst, Bool, cond, append_assoc, append-nil, true, false}
 use Rattle.std.proofs.lemmas.Bool.{false≢true}
 use Rattle.arena_ptr.specs.declared.generation.gen32.Gen32.{Gen32}
 use Rattle.chain_links.specs.ChainArena.{LinkSeen}
 use Rattle.chain_lines.specs.declared.command.Command.{Command}
+use Rattle.chain_lines.specs.declared.command.Command.TheVariants.{Change, Show, Chain, Len, Moves}
 use Rattle.chain_lines.specs.declared.command.Line.{Line}
 use Rattle.chain_lines.specs.declared.command.Line.TheVariants.{Good}
-use Rattle.chain_lines.specs.Answers.{Links, Gives, AnswersLine, link_text, walk_text}
+use Rattle.chain_lines.specs.Answers.{Links, Gives, LeavesStep, link_text, walk_text}
 
 -- a text that was cleared and pushed to
 pushed_is : (old v_text new : List ℕ) → old ≡ [] → new ≡ old ++ v_text → new ≡ v_text
@@ -23,12 +24,21 @@ module _ {T E : Type 0} where
   answers_err P new text (Ok x) answer = tt
   answers_err P new text (Err e) answer = (text, answer)
 
-  -- what a command's step leaves, a line's step leaves
-  pub line_err : (old new : Links) (line : Line) (command : Command) (r : Result T E) → Good command ≡ line → (new ≡ old) ⊎ ((words : List ℕ) × Gives old command words new)
-      → OnErr r ((new ≡ old) ⊎ ((words : List ℕ) × AnswersLine old line words new))
+  -- where a call of a line leaves its step, the line does
+  pub line_err : (old new : Links) (line : Line) (command : Command) (r : Result T E) → Good command ≡ line → (new ≡ old) ⊎ LeavesStep old (Good command) new
+      → OnErr r ((new ≡ old) ⊎ LeavesStep old line new)
   line_err old new line command (Ok x) is steps = tt
-  line_err old new line command (Err e) is steps =
-      elim steps [ inl same ↦ inl same | inr some ↦ inr (some.0 ++ 10 ∷ [], subst (λ l. AnswersLine old l (some.0 ++ 10 ∷ []) new) is (some.0, refl, some.1)) ]
+  line_err old new line command (Err e) is steps = subst (λ l. (new ≡ old) ⊎ LeavesStep old l new) is steps
+
+  -- where an answer gets no line feed, its line is a call, or has changed nothing
+  pub unended_err : (old new : Links) (line : Line) (command : Command) (words : List ℕ) (r : Result T E) → Good command ≡ line → Gives old command words new
+      → ((reset : Bool) → command ≡ Moves reset → IsOk r) → OnErr r ((new ≡ old) ⊎ LeavesStep old line new)
+  unended_err old new line command words (Ok x) is gives ends = tt
+  unended_err old new line (Change call) words (Err e) is gives ends = inr (call, words, sym is, gives)
+  unended_err old new line (Show p) words (Err e) is gives ends = inl gives.1
+  unended_err old new line (Chain p) words (Err e) is gives ends = inl gives.1
+  unended_err old new line Len words (Err e) is gives ends = inl gives.1
+  unended_err old new line (Moves reset) words (Err e) is gives ends = absurd (let no = ends reset refl in cc)
 
 -- ---- the text of a walk
 

@@ -6,7 +6,7 @@ use Rattle.chain_lines.specs.declared.runs.ToolError.{ToolError}
 use Rattle.chain_lines.specs.declared.runs.ToolError.TheVariants as errors
 use Rattle.chain_lines.specs.Words.{lines_of, whole_lines}
 use Rattle.chain_lines.specs.Commands.{line_of}
-use Rattle.chain_lines.specs.Answers.{Links, AnswersLine}
+use Rattle.chain_lines.specs.Answers.{Links, AnswersLine, LeavesStep}
 use Rattle.chain_lines.specs.Transcripts.{Answers, IsCutShort, within, IsGivenUp, before, after}
 use Rattle.chain_lines.specs.Progress.{AnswersOne, Progress, Comes}
 use Rattle.chain_lines.proofs.Feeding.{line_of-take, lines_of-end, whole_lines-end, whole_lines-more, cut-on}
@@ -30,6 +30,10 @@ Answers-more old mid new (first ∷ lines) line text more answers next = (
 pub of_kept : (old new : Links) (kept rest text : List ℕ) → kept ≡ take 201 rest → AnswersLine old (line_of kept) text new → AnswersLine old (line_of rest) text new
 of_kept old new kept rest text keeps answers = subst (λ l. AnswersLine old l text new) (ap line_of keeps ∙ line_of-take rest) answers
 
+-- .. and the step that it leaves is that of the line
+pub step_of_kept : (old new : Links) (kept rest : List ℕ) → kept ≡ take 201 rest → LeavesStep old (line_of kept) new → LeavesStep old (line_of rest) new
+step_of_kept old new kept rest keeps step = subst (λ l. LeavesStep old l new) (ap line_of keeps ∙ line_of-take rest) step
+
 module _ (old mid new : Links) (read kept : List ℕ) (held held_mid held_after : Option (List ℕ)) (come : Progress old read mid kept held held_mid) where
   ended : (more : List ℕ) → lines_of (read ++ 10 ∷ more) ≡ come.lines ++ come.rest ∷ lines_of more
   ended more = lines_of-end read more ∙ ap (λ l. l ++ lines_of more) come.cut ∙ append_assoc come.lines (come.rest ∷ []) (lines_of more)
@@ -48,9 +52,9 @@ module _ (old mid new : Links) (read kept : List ℕ) (held held_mid held_after 
   whole : (more : List ℕ) → whole_lines (read ++ 10 ∷ more) ≡ come.lines ++ come.rest ∷ whole_lines more
   whole more = whole_lines-end read more come.lines come.rest come.cut
 
-  given_up : (more : List ℕ) → (new ≡ mid) ⊎ ((text : List ℕ) × AnswersLine mid (line_of kept) text new) → IsGivenUp old new (come.lines ++ come.rest ∷ whole_lines more) come.text
+  given_up : (more : List ℕ) → (new ≡ mid) ⊎ LeavesStep mid (line_of kept) new → IsGivenUp old new (come.lines ++ come.rest ∷ whole_lines more) come.text
   given_up more (inl same) = before come.lines (come.rest ∷ whole_lines more) come.text (subst (λ m. Answers old come.lines come.text m) (sym same) come.answers)
-  given_up more (inr some) = after come.lines (whole_lines more) come.rest mid come.text some.0 come.answers (of_kept mid new kept come.rest some.0 come.keeps some.1)
+  given_up more (inr step) = after come.lines (whole_lines more) come.rest mid come.text come.answers (step_of_kept mid new kept come.rest come.keeps step)
 
   pub Comes-stopped : (A B : Type 0) (error : ToolError) (more kept_after : List ℕ) → AnswersOne {A = A} (Err error) mid new kept held_mid held_after
       → Comes {A = B} (Err error) old (read ++ 10 ∷ more) new kept_after held held_after

@@ -6,11 +6,11 @@ use Rattle.chain_lines.specs.declared.runs.ToolError.{ToolError}
 use Rattle.chain_lines.specs.declared.runs.ToolError.TheVariants as errors
 use Rattle.chain_lines.specs.Words.{all_but_last, lines_of, whole_lines}
 use Rattle.chain_lines.specs.Commands.{line_of}
-use Rattle.chain_lines.specs.Answers.{Links, AnswersLine}
+use Rattle.chain_lines.specs.Answers.{Links, AnswersLine, LeavesStep}
 use Rattle.chain_lines.specs.Transcripts.{Answers, by_line_feed, by_the_end, IsCutShort, between, within, IsGivenUp, before, after, Ends}
 use Rattle.chain_lines.specs.Progress.{AnswersOne, Progress, Comes}
 use Rattle.chain_lines.proofs.Feeding.{all_but_last-append}
-use Rattle.chain_lines.proofs.Coming.{Answers-more, of_kept}
+use Rattle.chain_lines.proofs.Coming.{Answers-more, of_kept, step_of_kept}
 
 -- the run has come on by what was read so far
 pub record HasRead (old new : Links) (kept : List ℕ) (left left_after held held_after : Option (List ℕ)) : Type 0 where
@@ -104,9 +104,10 @@ module _ (old now : Links) (kept : List ℕ) (left left_now held held_now : Opti
       last : (text : List ℕ) → AnswersLine now (line_of line) text new → AnswersLine now (line_of has.come.rest) text new
       last text answers = of_kept now new kept has.come.rest text has.come.keeps (subst (λ l. AnswersLine now (line_of l) text new) same answers)
 
-      given_up : (new ≡ now) ⊎ ((text : List ℕ) × AnswersLine now (line_of line) text new) → IsGivenUp old new (has.come.lines ++ has.come.rest ∷ []) has.come.text
+      given_up : (new ≡ now) ⊎ LeavesStep now (line_of line) new → IsGivenUp old new (has.come.lines ++ has.come.rest ∷ []) has.come.text
       given_up (inl stays) = before has.come.lines (has.come.rest ∷ []) has.come.text (subst (λ m. Answers old has.come.lines has.come.text m) (sym stays) has.come.answers)
-      given_up (inr some) = after has.come.lines [] has.come.rest now has.come.text some.0 has.come.answers (last some.0 some.1)
+      given_up (inr step) = after has.come.lines [] has.come.rest now has.come.text has.come.answers
+          (step_of_kept now new kept has.come.rest has.come.keeps (subst (λ l. LeavesStep now (line_of l) new) same step))
 
       by_result : (r : Result B ToolError) → AnswersOne r now new line held_now held_after → Ends r old new left left_after held held_after
       by_result (Ok x) answered = record {

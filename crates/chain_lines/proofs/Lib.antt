@@ -4,4 +4,5 @@ pub mod Ending
 pub mod Feeding
 pub mod KindLemmas
 pub mod Pointers
+pub mod Rooms
 pub mod WordLemmas

@@ -1,6 +1,8 @@
 -- What the program answers to a line, and the arena after it.
-use Rattle.std.specs.Prelude.{◌≡◌, ℕ, List, ◌∷◌, [], ◌++◌, map, length, codes, decimal, Bool, true, false, Option, None, Some, Ok, Err}
+use Rattle.std.specs.Prelude.{◌≡◌, ℕ, ◌+◌, ◌≤◌, List, ◌∷◌, [], ◌++◌, map, length, codes, decimal, String, string_bytes, Bool, true, false, Option, None, Some, Ok, Err}
 use Rattle.std.specs.List.{join_with_byte, concat}
+use Rattle.std.specs.String.{string_capacity}
+use Rattle.std.specs.declared.alloc.Global.{Global}
 use Rattle.arena_ptr.specs.Generations.{number_of_gen32, two32, after32, is_greatest32}
 use Rattle.arena_ptr.specs.Indexes.{number_of_inx32}
 use Rattle.arena_ptr.specs.Packed.{zero_is_none}
@@ -141,6 +143,10 @@ overflow_text (option.GenerationOverflow done) = codes " overflow"
 abbrev pub moves_text : List (ToolPtr × ToolPtr) → InvalidationOption Unit → List ℕ
 moves_text moves told = codes "moved " ++ decimal (length moves) ++ concat (map move_text moves) ++ overflow_text told
 
+-- a text has room for more bytes
+abbrev pub HasRoomFor : String Global → List ℕ → Type 0
+HasRoomFor text more = length (string_bytes text) + length more ≤ string_capacity text
+
 -- the chains are laid one after another by a step of the chain machine, and each link's old and new pointer is told, by
 -- rising new index
 pub record TellsMoves (old : Links) (reset : Bool) (text : List ℕ) (new : Links) : Type 0 where
@@ -163,3 +169,7 @@ abbrev pub AnswersLine : Links → Line → List ℕ → Links → Type 0
 AnswersLine old Blank text new = (text ≡ []) × (new ≡ old)
 AnswersLine old Bad text new = (text ≡ codes "bad line" ++ 10 ∷ []) × (new ≡ old)
 AnswersLine old (Good command) text new = (words : List ℕ) × (text ≡ words ++ 10 ∷ []) × Gives old command words new
+
+-- a line is a call, and leaves its step
+abbrev pub LeavesStep : Links → Line → Links → Type 0
+LeavesStep old line new = (call : LinkCall) × (text : List ℕ) × (line ≡ Good (Change call)) × Changes old call text new

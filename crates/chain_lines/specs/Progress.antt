@@ -5,15 +5,15 @@ use Rattle.chain_lines.specs.declared.runs.ToolError.{ToolError}
 use Rattle.chain_lines.specs.declared.runs.ToolError.TheVariants as errors
 use Rattle.chain_lines.specs.Words.{lines_of, whole_lines}
 use Rattle.chain_lines.specs.Commands.{line_of}
-use Rattle.chain_lines.specs.Answers.{Links, AnswersLine}
+use Rattle.chain_lines.specs.Answers.{Links, AnswersLine, LeavesStep}
 use Rattle.chain_lines.specs.Transcripts.{Answers, IsCutShort, IsGivenUp}
 
--- a line answered: the answer is written, or a front of it, or nothing for want of memory
+-- a line answered: the answer is written, or a front of it, or nothing for want of memory, where a call alone leaves its step
 abbrev pub AnswersOne : {A : Type 0} → Result A ToolError → Links → Links → List ℕ → Option (List ℕ) → Option (List ℕ) → Type 0
 AnswersOne (Ok x) old new line held held_after = (text : List ℕ) × AnswersLine old (line_of line) text new × Appends held held_after text
 AnswersOne (Err errors.Read) old new line held held_after = ⊥
 AnswersOne (Err errors.Write) old new line held held_after = (front : List ℕ) × (rest : List ℕ) × AnswersLine old (line_of line) (front ++ rest) new × Appends held held_after front
-AnswersOne (Err errors.Memory) old new line held held_after = Keeps held held_after × ((new ≡ old) ⊎ ((text : List ℕ) × AnswersLine old (line_of line) text new))
+AnswersOne (Err errors.Memory) old new line held held_after = Keeps held held_after × ((new ≡ old) ⊎ LeavesStep old (line_of line) new)
 
 -- Of what was read, the whole lines are answered, and of the rest enough is kept to tell what line it becomes:
 -- of a line of more than 200 bytes no more than 201.

@@ -5,7 +5,7 @@ use Rattle.chain_lines.specs.declared.runs.ToolError.{ToolError}
 use Rattle.chain_lines.specs.declared.runs.ToolError.TheVariants as errors
 use Rattle.chain_lines.specs.Words.{lines_of, whole_lines}
 use Rattle.chain_lines.specs.Commands.{line_of}
-use Rattle.chain_lines.specs.Answers.{Links, AnswersLine}
+use Rattle.chain_lines.specs.Answers.{Links, AnswersLine, LeavesStep}
 
 -- the answers to lines, one after another, and the arena after them
 abbrev pub Answers : Links → List (List ℕ) → List ℕ → Links → Type 0
@@ -52,11 +52,11 @@ pub record StopsWriting (old new : Links) (left left_after held held_after : Opt
   pub writes : Appends held held_after text
   pub answers : IsCutShort old new lines text
 
--- the answers to some first lines; the next line has left its step, or not
+-- the answers to some first lines; the next line, if it is a call, has left its step, or not
 pub data IsGivenUp (old new : Links) : List (List ℕ) → List ℕ → Type 0 where
   before : (answered others : List (List ℕ)) (text : List ℕ) → Answers old answered text new → IsGivenUp old new (answered ++ others) text
-  after : (answered others : List (List ℕ)) (line : List ℕ) (mid : Links) (text lost : List ℕ)
-      → Answers old answered text mid → AnswersLine mid (line_of line) lost new → IsGivenUp old new (answered ++ line ∷ others) text
+  after : (answered others : List (List ℕ)) (line : List ℕ) (mid : Links) (text : List ℕ)
+      → Answers old answered text mid → LeavesStep mid (line_of line) new → IsGivenUp old new (answered ++ line ∷ others) text
 
 -- A run without memory for a line or an answer: of the complete lines some first ones are answered.
 pub record StopsForMemory (old new : Links) (left left_after held held_after : Option (List ℕ)) : Type 0 where

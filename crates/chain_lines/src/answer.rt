@@ -1,25 +1,26 @@
 //! The answers to lines: each command is one step of the arena or one lookup.
-ghost use Rattle.std.specs.Prelude.{◌≡◌, ℕ, List, ◌⊎◌, OnOk, OnErr, string_bytes};
+ghost use Rattle.std.specs.Prelude.{◌≡◌, ℕ, List, ◌⊎◌, Bool, OnOk, OnErr, codes, string_bytes};
 ghost use Rattle.arena_ptr.specs.ToolPtr.{key_of};
 ghost use Rattle.chain_lines.specs.Commands.{line_of};
-ghost use Rattle.chain_lines.specs.Answers.{Changes, Shows, Walks, TellsMoves, Gives, AnswersLine};
+ghost use Rattle.chain_lines.specs.Answers.{Changes, Shows, Walks, TellsMoves, Gives, AnswersLine, LeavesStep, HasRoomFor};
 
 use crate::command::{Command, Line, parse};
-use crate::text::{push_link, push_moves, push_reply, push_walk};
+use crate::text::{push_link, push_reply, push_walk};
+use crate::told::{room_for_moves, write_moves};
 use arena_base::{ArenaSlot, ArenaTrait};
 use arena_ptr::{SlotStack, ToolPtr};
 use chain_arena::{Call, ChainArena, ChainArenaTrait, LinkNoGen, apply};
 use std::alloc::AllocError;
 
-/// Carries out a line, and makes its answer in `text`. An `Err` is memory for the answer: the line may be carried out
-/// then, or not.
+/// Carries out a line, and makes its answer in `text`. An `Err` is memory for the answer: the step of a call may be made
+/// then, and that of no other line.
 pub fn answer<S: SlotStack<Item = ArenaSlot<ToolPtr, LinkNoGen<ToolPtr, u32>>>>(
     arena: &mut ChainArena<ToolPtr, u32, S>,
     line: &[u8],
     text: &mut String,
 ) -> Result<(), AllocError>
     ensures ok { OnOk result (AnswersLine arena.old (line_of line.now) (string_bytes text.new) arena.new) }
-    ensures err { OnErr result ((arena.new ≡ arena.old) ⊎ ((words : List ℕ) × AnswersLine arena.old (line_of line.now) words arena.new)) }
+    ensures err { OnErr result ((arena.new ≡ arena.old) ⊎ LeavesStep arena.old (line_of line.now) arena.new) }
 {
     text.clear();
     match parse(line) {
@@ -32,14 +33,15 @@ pub fn answer<S: SlotStack<Item = ArenaSlot<ToolPtr, LinkNoGen<ToolPtr, u32>>>>(
     }
 }
 
-/// Carries out a command, and makes its answer in `text`.
+/// Carries out a command, and makes its answer in `text`. After `moves F` there is room for a line feed.
 fn carry_out<S: SlotStack<Item = ArenaSlot<ToolPtr, LinkNoGen<ToolPtr, u32>>>>(
     arena: &mut ChainArena<ToolPtr, u32, S>,
     command: Command,
     text: &mut String,
 ) -> Result<(), AllocError>
     ensures ok { OnOk result (Gives arena.old command (string_bytes text.new) arena.new) }
-    ensures err { OnErr result ((arena.new ≡ arena.old) ⊎ ((words : List ℕ) × Gives arena.old command words arena.new)) }
+    ensures room { OnOk result ((reset : Bool) → command ≡ Command.Moves reset → HasRoomFor text.new (codes "\n")) }
+    ensures err { OnErr result ((arena.new ≡ arena.old) ⊎ LeavesStep arena.old (Line.Good command) arena.new) }
 {
     match command {
         Command::Change(call) => change(arena, call, text),
@@ -97,24 +99,23 @@ fn chain<S: SlotStack<Item = ArenaSlot<ToolPtr, LinkNoGen<ToolPtr, u32>>>>(
     }
 }
 
-/// The answer to `moves F`. The room for it is taken first.
+/// The answer to `moves F`. The room for it and its line feed is taken first, and nothing later asks for memory.
 fn moves<S: SlotStack<Item = ArenaSlot<ToolPtr, LinkNoGen<ToolPtr, u32>>>>(
     arena: &mut ChainArena<ToolPtr, u32, S>,
     reset: bool,
     text: &mut String,
 ) -> Result<(), AllocError>
     ensures ok { OnOk result (TellsMoves arena.old reset (string_bytes text.new) arena.new) }
-    ensures err { OnErr result ((arena.new ≡ arena.old) ⊎ ((words : List ℕ) × TellsMoves arena.old reset words arena.new)) }
+    ensures room { OnOk result (HasRoomFor text.new (codes "\n")) }
+    ensures err { OnErr result (arena.new ≡ arena.old) }
 {
     text.clear();
     text.reserve(room_for_moves(arena.len()))?;
     match arena.compress_canonical_moves(*text.allocator(), reset) {
-        Ok((told, moves)) => push_moves(text, moves.as_slice(), told),
+        Ok((told, moves)) => {
+            write_moves(text, moves.as_slice(), told);
+            Ok(())
+        }
         Err(_) => Err(AllocError),
     }
-}
-
-/// The greatest length of the answer to `moves F`: up to 26 bytes around, and up to 44 for each link.
-fn room_for_moves(links: usize) -> usize {
-    links.saturating_mul(44).saturating_add(26)
 }

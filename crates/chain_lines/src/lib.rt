@@ -6,6 +6,7 @@ mod answer;
 pub mod command;
 mod runs;
 mod text;
+mod told;
 mod words;
 
 pub use runs::{ToolError, run, run_on};

@@ -1,8 +1,7 @@
 //! The texts of answers.
-ghost use Rattle.std.specs.Prelude.{◌≡◌, ◌++◌, OnOk, string_bytes, option_map, map};
+ghost use Rattle.std.specs.Prelude.{◌≡◌, ◌++◌, OnOk, string_bytes, option_map};
 ghost use Rattle.arena_ptr.specs.ToolPtr.{key_of};
-ghost use Rattle.chain_lines.specs.Answers.{pointer_text, at_text, value_text, told_text, counted_text, refusal_text, growth_refusal_text, reply_text, neighbor_text, show_text, passed_text, walk_text, move_text, moves_text, overflow_text};
-ghost use Rattle.std.specs.List.{concat};
+ghost use Rattle.chain_lines.specs.Answers.{pointer_text, at_text, value_text, told_text, counted_text, refusal_text, growth_refusal_text, reply_text, neighbor_text, show_text, passed_text, walk_text};
 
 use arena_base::ArenaSlot;
 use arena_ptr::{
@@ -148,51 +147,6 @@ fn counted(answer: InvalidationOption<()>) -> &'static str
         InvalidationOption::Success(()) => "ok",
         InvalidationOption::GenerationOverflow(()) => "ok overflow",
     }
-}
-
-/// At the end of an answer, whether the counter has overflowed.
-fn overflow(told: InvalidationOption<()>) -> &'static str
-    ensures { result.now ≡ overflow_text told }
-{
-    match told {
-        InvalidationOption::Success(()) => "",
-        InvalidationOption::GenerationOverflow(()) => " overflow",
-    }
-}
-
-/// Adds the old and the new pointer of a link to a text.
-fn push_move(text: &mut String, from: ToolPtr, to: ToolPtr) -> Result<(), AllocError>
-    ensures { OnOk result (string_bytes text.new ≡ string_bytes text.old ++ move_text (from, to)) }
-{
-    text.push_str(" ")?;
-    push_pointer(text, from)?;
-    text.push_str(">")?;
-    push_pointer(text, to)
-}
-
-/// Adds the old and the new pointers of links to a text.
-fn push_each(text: &mut String, moves: &[(ToolPtr, ToolPtr)]) -> Result<(), AllocError>
-    ensures { OnOk result (string_bytes text.new ≡ string_bytes text.old ++ concat (map move_text moves.now)) }
-{
-    let mut rest = moves;
-    while let Some((link, others)) = rest.split_first() {
-        push_move(text, link.0, link.1)?;
-        rest = others;
-    }
-    Ok(())
-}
-
-/// Adds to a text how many links got other pointers, which, and whether the counter has overflowed.
-pub fn push_moves(
-    text: &mut String,
-    moves: &[(ToolPtr, ToolPtr)],
-    told: InvalidationOption<()>,
-) -> Result<(), AllocError>
-    ensures { OnOk result (string_bytes text.new ≡ string_bytes text.old ++ moves_text moves.now told) }
-{
-    write!(text, "moved {}", moves.len())?;
-    push_each(text, moves)?;
-    text.push_str(overflow(told))
 }
 
 /// Adds a link of a walk to a text: its pointer and its value.

@@ -1,5 +1,5 @@
-use Rattle.std.proofs.Common.{inr}
-use Rattle.chain_lines.proofs.AnswerLemmas.{line_err}
+use Rattle.std.proofs.Common.{rules}
+use Rattle.chain_lines.proofs.AnswerLemmas.{line_err, unended_err}
 use Rattle.chain_lines.proofs.answer.answer.Goals as goal
 
 pub returns-in_err-carry_out-in-Good-clause-err : goal.returns-in_err-carry_out-in-Good-clause-err
@@ -8,4 +8,4 @@ returns-in_err-carry_out-in-Good-clause-err g c =
 
 pub returns-in_ok-carry_out-in-Good-clause-err : goal.returns-in_ok-carry_out-in-Good-clause-err
 returns-in_ok-carry_out-in-Good-clause-err g c =
-    line_err _ _ _ c.in-Good.command c.push_str-in-Good.result c.in-Good.ensures (inr (_, c.in_ok-carry_out-in-Good.ensures.ok))
+    unended_err _ _ _ c.in-Good.command _ c.push_str-in-Good.result c.in-Good.ensures c.in_ok-carry_out-in-Good.ensures.ok (λ reset is. let room = c.in_ok-carry_out-in-Good.ensures.room reset is in search (rules, c.push_str-in-Good.ensures.succeeds, room))

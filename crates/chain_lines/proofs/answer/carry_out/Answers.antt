@@ -1,8 +1,10 @@
-use Rattle.std.proofs.Common.{◌⊎◌, inr, refl, OnOk, OnErr, Result, Ok, Err, List, ℕ}
+use Rattle.std.proofs.Common.{◌≡◌, ◌⊎◌, inr, refl, OnOk, OnErr, Result, Ok, Err, List, ℕ}
 use Rattle.arena_ptr.specs.ToolPtr.{key_of}
 use Rattle.arena_ptr.specs.declared.tool_ptr.ToolPtr.{ToolPtr}
-use Rattle.chain_lines.specs.Answers.{Links, Gives, Shows, Walks}
-use Rattle.chain_lines.specs.declared.command.Command.TheVariants.{Show, Chain}
+use Rattle.chain_lines.specs.Answers.{Links, Changes, Gives, LeavesStep, Shows, Walks}
+use Rattle.chain_lines.specs.Commands.{LinkCall}
+use Rattle.chain_lines.specs.declared.command.Command.TheVariants.{Change, Show, Chain}
+use Rattle.chain_lines.specs.declared.command.Line.TheVariants.{Good}
 use Rattle.chain_lines.proofs.answer.carry_out.Goals as goal
 
 shows_ok : {T E : Type 0} (old : Links) (p : ToolPtr) (text : List ℕ) (r : Result T E) → OnOk r (Shows old (key_of p) text) → OnOk r (Gives old (Show p) text old)
@@ -13,9 +15,10 @@ walks_ok : {T E : Type 0} (old : Links) (p : ToolPtr) (text : List ℕ) (r : Res
 walks_ok old p text (Ok x) walks = (walks, refl)
 walks_ok old p text (Err e) walks = tt
 
-step_or : {T E : Type 0} (Same Steps : Type 0) (r : Result T E) → OnErr r Steps → OnErr r (Same ⊎ Steps)
-step_or Same Steps (Ok x) steps = tt
-step_or Same Steps (Err e) steps = inr steps
+step_or : {T E : Type 0} (old new : Links) (call : LinkCall) (r : Result T E) → OnErr r ((words : List ℕ) × Changes old call words new)
+    → OnErr r ((new ≡ old) ⊎ LeavesStep old (Good (Change call)) new)
+step_or old new call (Ok x) steps = tt
+step_or old new call (Err e) steps = inr (call, steps.0, refl, steps.1)
 
 pub returns-in-Show-clause-ok : goal.returns-in-Show-clause-ok
 returns-in-Show-clause-ok g c = rw c.in-Show.is (shows_ok _ c.in-Show.p _ c.show.result c.show.ensures)
@@ -24,7 +27,4 @@ pub returns-in-Chain-clause-ok : goal.returns-in-Chain-clause-ok
 returns-in-Chain-clause-ok g c = rw c.in-Chain.is (walks_ok _ c.in-Chain.p _ c.chain.result c.chain.ensures)
 
 pub returns-in-Change-clause-err : goal.returns-in-Change-clause-err
-returns-in-Change-clause-err g c = rw c.in-Change.is (step_or _ _ c.change.result c.change.ensures.err)
-
-pub returns-clause-err : goal.returns-clause-err
-returns-clause-err g c = rw c.in-Moves.is c.moves.ensures.err
+returns-in-Change-clause-err g c = rw c.in-Change.is (step_or _ _ c.in-Change.call c.change.result c.change.ensures.err)

@@ -1,33 +1,47 @@
--- The pairs that the compression answers are told after its step.
-use Rattle.std.proofs.Common.{◌⊎◌, ◌∙◌, Result, Ok, Err, OnErr, refl, ap, inr, string_bytes}
+-- The pairs that the compression answers are told after its step, in the room that was taken before it.
+use Rattle.std.proofs.Common.{◌≡◌, ◌∙◌, ◌++◌, ◌+◌, ◌<◌, ◌≤◌, List, ℕ, [], sym, ap, length, arith, string_bytes, length-append}
+use Rattle.arena_ptr.specs.Generations.{two32, after32}
+use Rattle.arena_ptr.specs.ToolPtr.{key_of}
 use Rattle.chain_arena.specs.declared.calls.Reply.TheVariants.{Counted}
-use Rattle.chain_lines.specs.Answers.{TellsMoves, moves_text}
-use Rattle.chain_lines.proofs.AnswerLemmas.{answers_ok, answers_err}
+use Rattle.chain_lines.specs.Answers.{moves_text}
+use Rattle.chain_lines.proofs.Rooms.{moves_count}
 use Rattle.chain_lines.proofs.answer.moves.Goals as goal
 
--- what is said of an answer that was not written out holds of a step that was made
-made_or : {T E : Type 0} (Same Made : Type 0) (r : Result T E) → OnErr r Made → OnErr r (Same ⊎ Made)
-made_or Same Made (Ok x) made = tt
-made_or Same Made (Err e) made = inr made
+-- what was empty takes what fits ..
+fits_into : (before added : List ℕ) (n len room : ℕ) → before ≡ [] → length added < n → len + n ≤ room → length before + length added ≤ room
+fits_into before added n len room none less fits = omega (arith, ap length none, less, fits)
+
+-- .. and for one byte more
+room_after : (before text added : List ℕ) (n len room room_now : ℕ) → before ≡ [] → text ≡ before ++ added → length added < n → len + n ≤ room → room ≤ room_now → length text + 1 ≤ room_now
+room_after before text added n len room room_now none is less fits more =
+    omega (arith, ap length none, ap length is, length-append before added, less, fits, more)
+
+pub room_for_moves-requires : goal.room_for_moves-requires
+room_for_moves-requires g c = let len = c.len.ensures in omega (arith, len.fits, len.room.1)
+
+pub write_moves-requires : goal.write_moves-requires
+write_moves-requires g c =
+    let made = c.in-Ok.ensures in
+    let as_many = moves_count key_of two32 after32 c.args.reset _ _ _ _ _ c.in-Ok.moves.items made.canonical made.moves in
+    let less = c.room_for_moves.ensures c.as_slice.result.now c.in-Ok.told (ap length c.as_slice.ensures.value ∙ (as_many ∙ sym c.len.ensures.count)) in
+    fits_into (string_bytes c.reserve.new.self) (moves_text c.as_slice.result.now c.in-Ok.told) _ _ _ (c.reserve.ensures.bytes ∙ c.clear.ensures.bytes) less c.in_ok-reserve.ensures.ok
 
 pub returns-in-Ok-clause-ok : goal.returns-in-Ok-clause-ok
 returns-in-Ok-clause-ok g c =
     let made = c.in-Ok.ensures in
-    answers_ok (TellsMoves c.args.arena.now c.args.reset) c.compress_canonical_moves.new.self (string_bytes c.reserve.new.self) (string_bytes c.push_moves.new.text) (moves_text c.as_slice.result.now c.in-Ok.told) c.push_moves.result (c.reserve.ensures.bytes ∙ c.clear.ensures.bytes) c.push_moves.ensures (record {
+    let none : string_bytes c.reserve.new.self ≡ [] = c.reserve.ensures.bytes ∙ c.clear.ensures.bytes in
+    record {
       told = c.in-Ok.told;
       moves = c.in-Ok.moves.items;
       step = (ap Counted made.overflow, record { layout = made.canonical; stack_capacity = made.stack_capacity });
       all = made.moves;
-      words = ap (λ items. moves_text items c.in-Ok.told) c.as_slice.ensures.value;
-    })
+      words = c.write_moves.ensures.bytes ∙ (ap (λ b. b ++ moves_text c.as_slice.result.now c.in-Ok.told) none ∙ ap (λ items. moves_text items c.in-Ok.told) c.as_slice.ensures.value);
+    }
 
-pub returns-in-Ok-clause-err : goal.returns-in-Ok-clause-err
-returns-in-Ok-clause-err g c =
+pub returns-in-Ok-clause-room : goal.returns-in-Ok-clause-room
+returns-in-Ok-clause-room g c =
     let made = c.in-Ok.ensures in
-    made_or _ _ c.push_moves.result (answers_err (TellsMoves c.args.arena.now c.args.reset) c.compress_canonical_moves.new.self (moves_text c.in-Ok.moves.items c.in-Ok.told) c.push_moves.result (record {
-      told = c.in-Ok.told;
-      moves = c.in-Ok.moves.items;
-      step = (ap Counted made.overflow, record { layout = made.canonical; stack_capacity = made.stack_capacity });
-      all = made.moves;
-      words = refl;
-    }))
+    let as_many = moves_count key_of two32 after32 c.args.reset _ _ _ _ _ c.in-Ok.moves.items made.canonical made.moves in
+    let less = c.room_for_moves.ensures c.as_slice.result.now c.in-Ok.told (ap length c.as_slice.ensures.value ∙ (as_many ∙ sym c.len.ensures.count)) in
+    room_after (string_bytes c.reserve.new.self) _ _ _ _ _ _ (c.reserve.ensures.bytes ∙ c.clear.ensures.bytes) c.write_moves.ensures.bytes less c.in_ok-reserve.ensures.ok
+    c.write_moves.ensures.capacity
