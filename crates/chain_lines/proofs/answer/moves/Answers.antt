@@ -26,22 +26,20 @@ write_moves-requires g c =
     let less = c.room_for_moves.ensures c.as_slice.result.now c.in-Ok.told (ap length c.as_slice.ensures.value ∙ (as_many ∙ sym c.len.ensures.count)) in
     fits_into (string_bytes c.reserve.new.self) (moves_text c.as_slice.result.now c.in-Ok.told) _ _ _ (c.reserve.ensures.bytes ∙ c.clear.ensures.bytes) less c.in_ok-reserve.ensures.ok
 
-pub returns-in-Ok-clause-ok : goal.returns-in-Ok-clause-ok
-returns-in-Ok-clause-ok g c =
+pub returns-in-Ok : goal.returns-in-Ok
+returns-in-Ok g c =
     let made = c.in-Ok.ensures in
     let none : string_bytes c.reserve.new.self ≡ [] = c.reserve.ensures.bytes ∙ c.clear.ensures.bytes in
-    record {
-      told = c.in-Ok.told;
-      moves = c.in-Ok.moves.items;
-      step = (ap Counted made.overflow, record { layout = made.canonical; stack_capacity = made.stack_capacity });
-      all = made.moves;
-      words = c.write_moves.ensures.bytes ∙ (ap (λ b. b ++ moves_text c.as_slice.result.now c.in-Ok.told) none ∙ ap (λ items. moves_text items c.in-Ok.told) c.as_slice.ensures.value);
-    }
-
-pub returns-in-Ok-clause-room : goal.returns-in-Ok-clause-room
-returns-in-Ok-clause-room g c =
-    let made = c.in-Ok.ensures in
     let as_many = moves_count key_of two32 after32 c.args.reset _ _ _ _ _ c.in-Ok.moves.items made.canonical made.moves in
     let less = c.room_for_moves.ensures c.as_slice.result.now c.in-Ok.told (ap length c.as_slice.ensures.value ∙ (as_many ∙ sym c.len.ensures.count)) in
-    room_after (string_bytes c.reserve.new.self) _ _ _ _ _ _ (c.reserve.ensures.bytes ∙ c.clear.ensures.bytes) c.write_moves.ensures.bytes less c.in_ok-reserve.ensures.ok
-    c.write_moves.ensures.capacity
+    record {
+      ok = record {
+        told = c.in-Ok.told;
+        moves = c.in-Ok.moves.items;
+        step = (ap Counted made.overflow, record { layout = made.canonical; stack_capacity = made.stack_capacity });
+        all = made.moves;
+        words = c.write_moves.ensures.bytes ∙ (ap (λ b. b ++ moves_text c.as_slice.result.now c.in-Ok.told) none ∙ ap (λ items. moves_text items c.in-Ok.told) c.as_slice.ensures.value);
+      };
+      room = room_after (string_bytes c.reserve.new.self) _ _ _ _ _ _ none c.write_moves.ensures.bytes less c.in_ok-reserve.ensures.ok c.write_moves.ensures.capacity;
+      err = tt;
+    }
