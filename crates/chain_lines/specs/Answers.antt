@@ -143,9 +143,9 @@ overflow_text (option.GenerationOverflow done) = codes " overflow"
 abbrev pub moves_text : List (ToolPtr × ToolPtr) → InvalidationOption Unit → List ℕ
 moves_text moves told = codes "moved " ++ decimal (length moves) ++ concat (map move_text moves) ++ overflow_text told
 
--- a text has room for more bytes
-abbrev pub HasRoomFor : String Global → List ℕ → Type 0
-HasRoomFor text more = length (string_bytes text) + length more ≤ string_capacity text
+-- a text takes more bytes within the room that it has
+abbrev pub CanTake : String Global → List ℕ → Type 0
+CanTake text more = length (string_bytes text) + length more ≤ string_capacity text
 
 -- the chains are laid one after another by a step of the chain machine, and each link's old and new pointer is told, by
 -- rising new index

@@ -2,7 +2,7 @@
 ghost use Rattle.std.specs.Prelude.{◌≡◌, ℕ, List, ◌⊎◌, Bool, OnOk, OnErr, codes, string_bytes};
 ghost use Rattle.arena_ptr.specs.ToolPtr.{key_of};
 ghost use Rattle.chain_lines.specs.Commands.{line_of};
-ghost use Rattle.chain_lines.specs.Answers.{Changes, Shows, Walks, TellsMoves, Gives, AnswersLine, LeavesStep, HasRoomFor};
+ghost use Rattle.chain_lines.specs.Answers.{Changes, Shows, Walks, TellsMoves, Gives, AnswersLine, LeavesStep, CanTake};
 
 use crate::command::{Command, Line, parse};
 use crate::text::{push_link, push_reply, push_walk};
@@ -40,7 +40,7 @@ fn carry_out<S: SlotStack<Item = ArenaSlot<ToolPtr, LinkNoGen<ToolPtr, u32>>>>(
     text: &mut String,
 ) -> Result<(), AllocError>
     ensures ok { OnOk result (Gives arena.old command (string_bytes text.new) arena.new) }
-    ensures room { OnOk result ((reset : Bool) → command ≡ Command.Moves reset → HasRoomFor text.new (codes "\n")) }
+    ensures room { OnOk result ((reset : Bool) → command ≡ Command.Moves reset → CanTake text.new (codes "\n")) }
     ensures err { OnErr result ((arena.new ≡ arena.old) ⊎ LeavesStep arena.old (Line.Good command) arena.new) }
 {
     match command {
@@ -106,7 +106,7 @@ fn moves<S: SlotStack<Item = ArenaSlot<ToolPtr, LinkNoGen<ToolPtr, u32>>>>(
     text: &mut String,
 ) -> Result<(), AllocError>
     ensures ok { OnOk result (TellsMoves arena.old reset (string_bytes text.new) arena.new) }
-    ensures room { OnOk result (HasRoomFor text.new (codes "\n")) }
+    ensures room { OnOk result (CanTake text.new (codes "\n")) }
     ensures err { OnErr result (arena.new ≡ arena.old) }
 {
     text.clear();
