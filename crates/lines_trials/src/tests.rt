@@ -478,6 +478,24 @@ fn a_given_arena(rt: HostRuntime) {
     check_on(&rt, rt.alloc(), &mut arena, "chain 2.2", "2.2:6 1.2:5\n");
 }
 
+/// Carries out `moves` on an arena of one link, where memory may be refused (`tools/faults` refuses each request in turn):
+/// it is answered, or the link keeps its pointer and nothing is written.
+#[test]
+fn moves_or_nothing(rt: HostRuntime) {
+    let mut arena = empty(rt.alloc());
+    let added = arena.insert_reallocating(LinkInsertKind::Disconnected, 5);
+    let p = added.expect(&rt, "room for a link");
+    let mut written = Vec::with_capacity(rt.alloc(), 100).expect(&rt, "room for the answer");
+    let mut reader = "moves keep\n".as_bytes();
+    let result = run_on(rt.alloc(), &mut arena, &mut reader, &mut written);
+    let (answer, is_kept) = match result {
+        Ok(()) => ("moved 1 1.2>1.3\n", false),
+        Err(_) => ("", true),
+    };
+    same(&rt, "its answer", written.as_slice(), answer.as_bytes());
+    same(&rt, "its pointer", arena.contains(p), is_kept);
+}
+
 const REMOVAL_TABLE: (&str, &str) = (
     "add alone 1\nadd alone 2\nconnect 1.2 2.2\nconnect 2.2 1.2\nremove 2.2\nshow 1.2\nadd alone 9\n\
         len\nremove 2.2\nremove 1.2 \nremove 1\nremove\n",
