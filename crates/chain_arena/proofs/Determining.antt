@@ -1,5 +1,7 @@
--- But for growth and memory, a state and a list of calls determine the replies, and the state after them but for touches.
-use Rattle.std.proofs.Common.{◌≡◌, ℕ, ◌+◌, ◌<◌, ◌≤◌, Bool, true, false, List, [], ◌∷◌, length, min, Option, None, Some, Result, Ok, Err, refl, sym, ap, ap₂, ◌∙◌, subst, arith}
+-- But for memory and how far a growth goes, a state and a list of calls determine the replies, and the state after them but
+-- for touches.
+use Rattle.std.proofs.Common.{◌≡◌, ◌⊎◌, inl, inr, ⊎_elim, ℕ, ◌+◌, ◌<◌, ◌≤◌, Bool, true, false, List, [], ◌∷◌, length, min, Option, None, Some, Result, Ok, Err, refl, sym, ap, ap₂, ◌∙◌, subst, arith}
+use Rattle.std.specs.List.{AllZip}
 use Rattle.std.specs.Option.{option_map}
 use Rattle.std.proofs.lemmas.Bool.{false≢true}
 use Rattle.std.proofs.lemmas.Option.{none-some}
@@ -13,11 +15,12 @@ use Rattle.arena_ptr.specs.declared.packed_option.PackedOption.{PackedOption}
 use Rattle.chain_laws.specs.Cuts.{cut}
 use Rattle.chain_laws.specs.Insertions.{InsertKind}
 use Rattle.chain_laws.proofs.Walking.{no_other_walk}
+use Rattle.arena_ptr.specs.SlotStack.{IsWithinMaximum}
 use Rattle.arena_base.specs.Arena.{IsValid, entry_at, entry_count, with_capacity_of, renewed_at}
 use Rattle.chain_links.specs.ChainArena.{LinkSeen, on_value, shown, entry, value_in, insert_as, relinked}
 use Rattle.chain_arena.specs.Drains.{without_each}
 use Rattle.chain_links.specs.Links.{seen_link, seen_pair}
-use Rattle.chain_arena.specs.Steps.{Links, kind_of, HasRoomFor, stays, grown, Refuses, Connects, BreaksPrev, BreaksNext, Exchanges, Reserves, DrainsChain, Tells, TellSame, ShowSame, IsAdded, IsTaken, AreSameButTouched, InsertsGrowing, InsertsWithin, Step, Run, HasRoomAlready, RunIsDetermined}
+use Rattle.chain_arena.specs.Steps.{Links, kind_of, HasRoomFor, stays, grown, Refuses, Connects, BreaksPrev, BreaksNext, Exchanges, Reserves, DrainsChain, Tells, TellSame, ShowSame, IsAdded, IsTaken, AreSameButTouched, InsertsGrowing, InsertsWithin, Step, Run, HasRoomAlready, AreSameButRoom, HaveSameRoom, refused_memory, RunIsDetermined, StepIsDetermined, RunInSameRoom, RunIsDeterminedByRoom}
 use Rattle.chain_arena.specs.declared.calls.Call.{Call}
 use Rattle.chain_arena.specs.declared.calls.Call.TheVariants as call
 use Rattle.chain_arena.specs.declared.calls.Reply.{Reply}
@@ -25,7 +28,8 @@ use Rattle.chain_arena.specs.declared.calls.Reply.TheVariants as reply
 use Rattle.chain_links.specs.declared.kinds.InsertKindBody.{InsertKindBody}
 use Rattle.chain_links.specs.declared.links.LinkBody.{LinkBody}
 use Rattle.chain_links.proofs.Mapping.{entry_at-with_each}
-use Rattle.chain_arena.proofs.Touching.{touch, compression_same, layout_same, run_touched}
+use Rattle.chain_arena.proofs.Placing.{not_beyond}
+use Rattle.chain_arena.proofs.Touching.{touch, compression_same, layout_same, step_touched, run_touched}
 
 -- two that are one and the same
 same : {A : Type 0} {x a b : A} → a ≡ x → b ≡ x → a ≡ b
@@ -40,16 +44,12 @@ same_but_touched {Gen} {T} a b is = is ∙ ap (λ (n : ℕ). touch n b) (sym (ap
 
 module _ {Gen T : Type 0} where
   -- where there is room already it stays
-  room_stays : (greatest n : ℕ) (old new : Links Gen T) → n ≤ old.capacity → HasRoomFor greatest n old new → (new.capacity ≡ old.capacity) × (new.stack_capacity ≡ old.stack_capacity)
+  room_stays : (greatest n : ℕ) (old new : Links Gen T) → n ≤ old.capacity → HasRoomFor greatest n old new → HaveSameRoom new old
   room_stays greatest n old new enough (stays within capacity stack_capacity) = (capacity, stack_capacity)
   room_stays greatest n old new enough (grown less room) = absurd (omega (arith, enough, less))
 
-  -- so that it makes no difference
-  same_in_room : (greatest n : ℕ) (old base a b : Links Gen T) → n ≤ old.capacity → HasRoomFor greatest n old a → HasRoomFor greatest n old b → a ≡ with_capacity_of base a → b ≡ with_capacity_of base b → a ≡ b
-  same_in_room greatest n old base a b enough one two is_a is_b =
-      let room_a = room_stays greatest n old a enough one in
-      let room_b = room_stays greatest n old b enough two in
-      is_a ∙ (ap₂ (λ c d. record base { capacity = c; stack_capacity = d }) (same room_a.0 room_b.0) (same room_a.1 room_b.1) ∙ sym is_b)
+  room_kept : (old new : Links Gen T) → new ≡ old → HaveSameRoom new old
+  room_kept old new is = (ap (λ (a : Links Gen T). a.capacity) is, ap (λ (a : Links Gen T). a.stack_capacity) is)
 
   connects_same : (old a b : Links Gen T) (p q : ℕ × Gen) (r s : Bool) → Connects old p q r a → Connects old p q s b → Same r s a b
   connects_same old a b p q false false one two = (refl, same one.1 two.1)
@@ -89,18 +89,39 @@ module _ {Gen T : Type 0} where
       let walks = no_other_walk (shown old) p.0 one.walk two.walk one.is_walk two.is_walk in
       (ap Some (one.counted ∙ (ap (λ (w : List ℕ). min take (length w)) walks ∙ sym two.counted)), one.state ∙ (ap (without_each following old) walks ∙ sym two.state))
 
-  reserves_same : (greatest : ℕ) (old a b : Links Gen T) (n : ℕ) (r s : Result Unit ReallocationError) → n ≤ old.capacity → Reserves greatest old n r a → Reserves greatest old n s b → Same r s a b
-  reserves_same greatest old a b n (Ok u) (Ok v) enough one two = (refl, same_in_room greatest n old old a b enough one.1 two.1 one.0 two.0)
-  reserves_same greatest old a b n (Err why) s enough one two = absurd (lacks why one.0)
-    where
-      lacks : (why : ReallocationError) → Refuses n old why → ⊥
-      lacks refused.BeyondMaxCapacity less = omega (arith, enough, less.0)
-      lacks refused.AllocError less = omega (arith, enough, less.0)
-  reserves_same greatest old a b n (Ok u) (Err why) enough one two = absurd (lacks why two.0)
-    where
-      lacks : (why : ReallocationError) → Refuses n old why → ⊥
-      lacks refused.BeyondMaxCapacity less = omega (arith, enough, less.0)
-      lacks refused.AllocError less = omega (arith, enough, less.0)
+  -- what is the same is so but for room
+  same_but_room : (a b : Links Gen T) → AreSameButTouched a b → AreSameButRoom a b
+  same_but_room a b is =
+      let capacity = sym (ap (λ (x : Links Gen T). x.capacity) is) in
+      let stack_capacity = sym (ap (λ (x : Links Gen T). x.stack_capacity) is) in
+      is ∙ ap₂ (λ (c d : ℕ). touch a.touched (record b { capacity = c; stack_capacity = d })) capacity stack_capacity
+
+  -- .. and the other way round where the room is the same
+  same_with_room : (a b : Links Gen T) → HaveSameRoom a b → AreSameButRoom a b → AreSameButTouched a b
+  same_with_room a b room is = is ∙ ap₂ (λ (c d : ℕ). touch a.touched (record b { capacity = c; stack_capacity = d })) room.0 room.1
+
+  -- two are the same but for room that come of one, but for room
+  both_but_room : (base a b : Links Gen T) → a ≡ with_capacity_of base a → b ≡ with_capacity_of base b → AreSameButRoom a b
+  both_but_room base a b is_a is_b = same_but_touched a (with_capacity_of b a) (is_a ∙ sym (ap (λ (x : Links Gen T). with_capacity_of x a) is_b))
+
+  -- .. or are one
+  kept_both : (old a b : Links Gen T) → a ≡ old → b ≡ old → AreSameButRoom a b
+  kept_both old a b is_a is_b = same_but_room a b (same_but_touched a b (same is_a is_b))
+
+  -- room that was made is within the maximum
+  made_within : (greatest n : ℕ) (old base new : Links Gen T) → base.maximum ≡ old.maximum → new ≡ with_capacity_of base new → HasRoomFor greatest n old new
+      → Refuses n old refused.BeyondMaxCapacity → ⊥
+  made_within greatest n old base new maximum is (stays within capacity stack_capacity) past = omega (arith, within, past.0)
+  made_within greatest n old base new maximum is (grown less room) past =
+      let most : new.maximum ≡ old.maximum = ap (λ (x : Links Gen T). x.maximum) is ∙ maximum in
+      not_beyond old.maximum n new.capacity room.0.fits (subst (λ (o : Option ℕ). IsWithinMaximum o new.capacity) most room.0.within_maximum) past.1
+
+  -- .. and more than there was
+  made_more : (greatest n : ℕ) (old new other : Links Gen T) → HasRoomFor greatest n old new → Refuses n old refused.AllocError → other ≡ old → HaveSameRoom new other → ⊥
+  made_more greatest n old new other (stays within capacity stack_capacity) lacks is room = omega (arith, within, lacks.0)
+  made_more greatest n old new other (grown less roomy) lacks is room =
+      let kept = ap (λ (x : Links Gen T). x.capacity) is in
+      omega (arith, kept, roomy.0.fits, room.0, less)
 
 -- what is told is told once
 tells_same : {X Y S : Type 0} {No : Type 0} (see : X → Y) (Done : X → S → Type 0) (overflow : Bool) (old a b : S) (r s : InvalidationResult X) → ((x : X) (c : S) → Done x c → No → ⊥)
@@ -166,20 +187,6 @@ module _ {P T I Gen W : Type 0} (key : P → ℕ × Gen) (number : I → ℕ) (p
   same_pointer : (old a b : Links Gen T) (kind : InsertKind ℕ) (t : T) (p q : P) → IsAdded key old kind t p a → IsAdded key old kind t q b → p ≡ q
   same_pointer old a b kind t p q one two = same_key p q (same one.pointer two.pointer)
 
-  inserts_same : (old a b : Links Gen T) (kind : InsertKindBody P I) (t : T) (r s : Result P ChainInsertionError) → entry_count old < old.capacity
-      → InsertsGrowing key number greatest old kind t r a → InsertsGrowing key number greatest old kind t s b → Same r s a b
-  inserts_same old a b kind t (Ok p) (Ok q) room one two =
-      (ap Ok (same_pointer old a b (kind_of key number kind) t p q one.1 two.1), same_in_room greatest (entry_count old + 1) old (insert_as old (kind_of key number kind) t) a b (omega (arith, room)) one.2 two.2 one.1.state two.1.state)
-  inserts_same old a b kind t (Ok p) (Err failed.FailedLinkRequirement) room one two = absurd (two.0 one.0)
-  inserts_same old a b kind t (Err failed.FailedLinkRequirement) (Ok q) room one two = absurd (one.0 two.0)
-  inserts_same old a b kind t (Err failed.FailedLinkRequirement) (Err failed.FailedLinkRequirement) room one two = (refl, same one.1 two.1)
-  inserts_same old a b kind t (Err failed.BeyondMaxCapacity) s room one two = absurd (omega (arith, room, one.1.0))
-  inserts_same old a b kind t (Err failed.AllocError) s room one two = absurd (omega (arith, room, one.1.0))
-  inserts_same old a b kind t (Err failed.NotWithinCapacity) s room one two = absurd one
-  inserts_same old a b kind t r (Err failed.BeyondMaxCapacity) room one two = absurd (omega (arith, room, two.1.0))
-  inserts_same old a b kind t r (Err failed.AllocError) room one two = absurd (omega (arith, room, two.1.0))
-  inserts_same old a b kind t r (Err failed.NotWithinCapacity) room one two = absurd two
-
   inserts_within_same : (old a b : Links Gen T) (kind : InsertKindBody P I) (t : T) (r s : Result P ChainInsertionError)
       → InsertsWithin key number old kind t r a → InsertsWithin key number old kind t s b → Same r s a b
   inserts_within_same old a b kind t (Ok p) (Ok q) one two = (ap Ok (same_pointer old a b (kind_of key number kind) t p q one.2 two.2), same one.3 two.3)
@@ -200,9 +207,72 @@ module _ {P T I Gen W : Type 0} (key : P → ℕ × Gen) (number : I → ℕ) (p
   answered_same : {A : Type 0} (told : A → Reply P T I Gen W) (r s : Reply P T I Gen W) (x y : A) (a b : Links Gen T) → r ≡ told x → s ≡ told y → Same x y a b → SameButTouched r s a b
   answered_same told r s x y a b is_r is_s both = (shows_same r s (is_r ∙ (ap told both.0 ∙ sym is_s)), same_but_touched a b both.1)
 
+  -- two replies show the same and the arenas are the same but for room; or memory is refused to one of them alone, and so
+  -- the room is not the same
+  abbrev AlikeOrApart : Reply P T I Gen W → Reply P T I Gen W → Links Gen T → Links Gen T → Type 0
+  AlikeOrApart r s a b = (ShowSame packed r s × AreSameButRoom a b) ⊎ ((refused_memory r ≡ refused_memory s → ⊥) × (HaveSameRoom a b → ⊥))
+
+  inserts_apart : (old a b : Links Gen T) (kind : InsertKindBody P I) (t : T) (r s : Result P ChainInsertionError)
+      → InsertsGrowing key number greatest old kind t r a → InsertsGrowing key number greatest old kind t s b → AlikeOrApart (reply.Inserted r) (reply.Inserted s) a b
+  inserts_apart old a b kind t (Ok p) (Ok q) one two = inl (
+    ap (λ (x : P). reply.Inserted (Ok x)) (same_pointer old a b (kind_of key number kind) t p q one.1 two.1),
+    both_but_room (insert_as old (kind_of key number kind) t) a b one.1.state two.1.state,
+  )
+  inserts_apart old a b kind t (Ok p) (Err failed.FailedLinkRequirement) one two = absurd (two.0 one.0)
+  inserts_apart old a b kind t (Ok p) (Err failed.BeyondMaxCapacity) one two = absurd (made_within greatest (entry_count old + 1) old (insert_as old (kind_of key number kind) t) a refl one.1.state one.2 two.1)
+  inserts_apart old a b kind t (Ok p) (Err failed.AllocError) one two = inr ((λ alike. false≢true alike), made_more greatest (entry_count old + 1) old a b one.2 two.1 two.2)
+  inserts_apart old a b kind t (Err failed.FailedLinkRequirement) (Ok q) one two = absurd (one.0 two.0)
+  inserts_apart old a b kind t (Err failed.FailedLinkRequirement) (Err failed.FailedLinkRequirement) one two = inl (refl, kept_both old a b one.1 two.1)
+  inserts_apart old a b kind t (Err failed.FailedLinkRequirement) (Err failed.BeyondMaxCapacity) one two = absurd (one.0 two.0)
+  inserts_apart old a b kind t (Err failed.FailedLinkRequirement) (Err failed.AllocError) one two = absurd (one.0 two.0)
+  inserts_apart old a b kind t (Err failed.BeyondMaxCapacity) (Ok q) one two = absurd (made_within greatest (entry_count old + 1) old (insert_as old (kind_of key number kind) t) b refl two.1.state two.2 one.1)
+  inserts_apart old a b kind t (Err failed.BeyondMaxCapacity) (Err failed.FailedLinkRequirement) one two = absurd (two.0 one.0)
+  inserts_apart old a b kind t (Err failed.BeyondMaxCapacity) (Err failed.BeyondMaxCapacity) one two = inl (refl, kept_both old a b one.2 two.2)
+  inserts_apart old a b kind t (Err failed.BeyondMaxCapacity) (Err failed.AllocError) one two = absurd (two.1.1 one.1.1)
+  inserts_apart old a b kind t (Err failed.AllocError) (Ok q) one two =
+      inr ((λ alike. false≢true (sym alike)), λ room. made_more greatest (entry_count old + 1) old b a two.2 one.1 one.2 (sym room.0, sym room.1))
+  inserts_apart old a b kind t (Err failed.AllocError) (Err failed.FailedLinkRequirement) one two = absurd (two.0 one.0)
+  inserts_apart old a b kind t (Err failed.AllocError) (Err failed.BeyondMaxCapacity) one two = absurd (one.1.1 two.1.1)
+  inserts_apart old a b kind t (Err failed.AllocError) (Err failed.AllocError) one two = inl (refl, kept_both old a b one.2 two.2)
+  inserts_apart old a b kind t (Err failed.NotWithinCapacity) s one two = absurd one
+  inserts_apart old a b kind t r (Err failed.NotWithinCapacity) one two = absurd two
+
+  reserves_apart : (old a b : Links Gen T) (n : ℕ) (r s : Result Unit ReallocationError) → Reserves greatest old n r a → Reserves greatest old n s b → AlikeOrApart (reply.Reserved r) (reply.Reserved s) a b
+  reserves_apart old a b n (Ok u) (Ok v) one two = inl (refl, both_but_room old a b one.0 two.0)
+  reserves_apart old a b n (Ok u) (Err refused.BeyondMaxCapacity) one two = absurd (made_within greatest n old old a refl one.0 one.1 two.0)
+  reserves_apart old a b n (Ok u) (Err refused.AllocError) one two = inr ((λ alike. false≢true alike), made_more greatest n old a b one.1 two.0 two.1)
+  reserves_apart old a b n (Err refused.BeyondMaxCapacity) (Ok v) one two = absurd (made_within greatest n old old b refl two.0 two.1 one.0)
+  reserves_apart old a b n (Err refused.BeyondMaxCapacity) (Err refused.BeyondMaxCapacity) one two = inl (refl, kept_both old a b one.1 two.1)
+  reserves_apart old a b n (Err refused.BeyondMaxCapacity) (Err refused.AllocError) one two = absurd (two.0.1 one.0.1)
+  reserves_apart old a b n (Err refused.AllocError) (Ok v) one two = inr ((λ alike. false≢true (sym alike)), λ room. made_more greatest n old b a two.1 one.0 one.1 (sym room.0, sym room.1))
+  reserves_apart old a b n (Err refused.AllocError) (Err refused.BeyondMaxCapacity) one two = absurd (one.0.1 two.0.1)
+  reserves_apart old a b n (Err refused.AllocError) (Err refused.AllocError) one two = inl (refl, kept_both old a b one.1 two.1)
+
+  answered_apart : {A : Type 0} (told : A → Reply P T I Gen W) (r s : Reply P T I Gen W) (x y : A) (a b : Links Gen T) → r ≡ told x → s ≡ told y → AlikeOrApart (told x) (told y) a b → AlikeOrApart r s a b
+  answered_apart told r s x y a b is_r is_s both = subst (λ q. AlikeOrApart q s a b) (sym is_r) (subst (λ q. AlikeOrApart (told x) q a b) (sym is_s) both)
+
+  -- .. and where they have the same room, all is
+  in_one_room : (r s : Reply P T I Gen W) (a b : Links Gen T) → HaveSameRoom a b → AlikeOrApart r s a b → SameButTouched r s a b
+  in_one_room r s a b room both = ⊎_elim (λ alike. (alike.0, same_with_room a b room alike.1)) (λ apart. absurd (apart.1 room)) both
+
+  -- there was room already, and it is as it was
+  inserts_in_room : (old new : Links Gen T) (kind : InsertKindBody P I) (t : T) (r : Result P ChainInsertionError) → entry_count old < old.capacity → InsertsGrowing key number greatest old kind t r new → HaveSameRoom new old
+  inserts_in_room old new kind t (Ok p) room step = room_stays greatest (entry_count old + 1) old new (omega (arith, room)) step.2
+  inserts_in_room old new kind t (Err failed.FailedLinkRequirement) room step = room_kept old new step.1
+  inserts_in_room old new kind t (Err failed.BeyondMaxCapacity) room step = room_kept old new step.2
+  inserts_in_room old new kind t (Err failed.AllocError) room step = room_kept old new step.2
+  inserts_in_room old new kind t (Err failed.NotWithinCapacity) room step = absurd step
+
+  reserves_in_room : (old new : Links Gen T) (n : ℕ) (r : Result Unit ReallocationError) → n ≤ old.capacity → Reserves greatest old n r new → HaveSameRoom new old
+  reserves_in_room old new n (Ok done) room step = room_stays greatest n old new room step.1
+  reserves_in_room old new n (Err why) room step = room_kept old new step.1
+
   step_same : (old : Links Gen T) (c : Call P T I Gen W) (r s : Reply P T I Gen W) (a b : Links Gen T) → HasRoomAlready key number packed greatest first following wraps old c
       → Step key number packed greatest first following wraps old c r a → Step key number packed greatest first following wraps old c s b → SameButTouched r s a b
-  step_same old (call.Insert kind t) r s a b room one two = answered_same reply.Inserted r s one.0 two.0 a b one.1 two.1 (inserts_same old a b kind t one.0 two.0 room one.2 two.2)
+  step_same old (call.Insert kind t) r s a b room one two =
+      let left = inserts_in_room old a kind t one.0 room one.2 in
+      let right = inserts_in_room old b kind t two.0 room two.2 in
+      in_one_room r s a b (same left.0 right.0, same left.1 right.1) (answered_apart reply.Inserted r s one.0 two.0 a b one.1 two.1 (inserts_apart old a b kind t one.0 two.0 one.2 two.2))
   step_same old (call.InsertWithin kind t) r s a b room one two = answered_same reply.Inserted r s one.0 two.0 a b one.1 two.1 (inserts_within_same old a b kind t one.0 two.0 one.2 two.2)
   step_same old (call.Connect p q) r s a b room one two = answered_same reply.Done r s one.0 two.0 a b one.1 two.1 (connects_same old a b (key p) (key q) one.0 two.0 one.2 two.2)
   step_same old (call.BreakPrev p) r s a b room one two = answered_same reply.Done r s one.0 two.0 a b one.1 two.1 (breaks_prev_same old a b (key p) one.0 two.0 one.2 two.2)
@@ -226,7 +296,10 @@ module _ {P T I Gen W : Type 0} (key : P → ℕ × Gen) (number : I → ℕ) (p
   step_same old call.Clear r s a b room one two = (shows_same r s (same one.0 two.0), same_but_touched a b (same one.1 two.1))
   step_same old (call.Compress reset) r s a b room one two = (shows_same r s (same one.0 two.0), compression_same first following reset old a b one.1 two.1)
   step_same old (call.CompressCanonical reset) r s a b room one two = (shows_same r s (same one.0 two.0), layout_same first following reset old a b one.1 two.1)
-  step_same old (call.Reserve n) r s a b room one two = answered_same reply.Reserved r s one.0 two.0 a b one.1 two.1 (reserves_same greatest old a b n one.0 two.0 room one.2 two.2)
+  step_same old (call.Reserve n) r s a b room one two =
+      let left = reserves_in_room old a n one.0 room one.2 in
+      let right = reserves_in_room old b n two.0 room two.2 in
+      in_one_room r s a b (same left.0 right.0, same left.1 right.1) (answered_apart reply.Reserved r s one.0 two.0 a b one.1 two.1 (reserves_apart old a b n one.0 two.0 one.2 two.2))
   step_same old (call.SetGeneration g) r s a b room one two = (shows_same r s (same one.0 two.0), same_but_touched a b (same one.1 two.1))
   step_same old call.IncGeneration r s a b room one two = (shows_same r s (same one.0 two.0), same_but_touched a b (same one.1 two.1))
 
@@ -243,3 +316,30 @@ module _ {P T I Gen W : Type 0} (key : P → ℕ × Gen) (number : I → ℕ) (p
       (run_touched touches key number packed greatest first following wraps two.0 other calls others two.2) in
       let rest = run_same one.0 calls replies others new (touch touches other) one.3 beside in
       ((step.0, rest.0), rest.1)
+
+  -- two steps are alike, or memory is refused to one alone
+  step_apart : (old : Links Gen T) (c : Call P T I Gen W) (r s : Reply P T I Gen W) (a b : Links Gen T) → Step key number packed greatest first following wraps old c r a
+      → Step key number packed greatest first following wraps old c s b → AlikeOrApart r s a b
+  step_apart old (call.Insert kind t) r s a b one two = answered_apart reply.Inserted r s one.0 two.0 a b one.1 two.1 (inserts_apart old a b kind t one.0 two.0 one.2 two.2)
+  step_apart old (call.Reserve n) r s a b one two = answered_apart reply.Reserved r s one.0 two.0 a b one.1 two.1 (reserves_apart old a b n one.0 two.0 one.2 two.2)
+  step_apart old c r s a b one two = let both = step_same old c r s a b tt one two in inl (both.0, same_but_room a b both.1)
+
+  pub step_alike : StepIsDetermined key number packed greatest first following wraps T
+  step_alike old c r s new other one two alike = ⊎_elim (λ both. both) (λ apart. absurd (apart.0 alike)) (step_apart old c r s new other one two)
+
+  -- a run that begins with other touches, too
+  run_beside : (old before : Links Gen T) (calls : List (Call P T I Gen W)) (replies others : List (Reply P T I Gen W)) (new other : Links Gen T) → AreSameButTouched old before
+      → RunInSameRoom key number packed greatest first following wraps old before calls replies others new other → AllZip (ShowSame packed) replies others × AreSameButTouched new other
+  run_beside old before [] [] [] new other is runs = (tt, runs.0 ∙ (is ∙ ap₂ (λ (n : ℕ) (x : Links Gen T). touch n x) (ap (λ (x : Links Gen T). x.touched) (sym runs.0)) (sym runs.1)))
+  run_beside old before (c ∷ calls) (r ∷ replies) (s ∷ others) new other is runs =
+      let touches = old.touched in
+      let between : Links Gen T = touch touches runs.1 in
+      let beside = subst (λ (a : Links Gen T). Step key number packed greatest first following wraps a c s between) (sym is)
+      (step_touched touches key number packed greatest first following wraps before runs.1 c s runs.3) in
+      let step = in_one_room r s runs.0 between runs.4 (step_apart old c r s runs.0 between runs.2 beside) in
+      let rest = run_beside runs.0 runs.1 calls replies others new other step.1 runs.5 in
+      ((step.0, rest.0), rest.1)
+  run_beside old before calls replies others new other is runs = absurd runs
+
+  pub run_in_room : RunIsDeterminedByRoom key number packed greatest first following wraps T
+  run_in_room old calls replies others new other = run_beside old old calls replies others new other refl

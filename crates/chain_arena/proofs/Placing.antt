@@ -26,7 +26,7 @@ use Rattle.chain_arena.specs.Steps.{Links, kind_of, May}
 use Rattle.chain_arena.proofs.Telling.{gap_told, insertion_told}
 
 -- what is not above a number that is within a maximum is not beyond it
-not_beyond : (maximum : Option ℕ) (n m : ℕ) → n ≤ m → IsWithinMaximum maximum m → IsBeyond maximum n → ⊥
+pub not_beyond : (maximum : Option ℕ) (n m : ℕ) → n ≤ m → IsWithinMaximum maximum m → IsBeyond maximum n → ⊥
 not_beyond None n m less within beyond = beyond
 not_beyond (Some most) n m less within beyond = omega (arith, less, within, beyond)
 

@@ -262,7 +262,7 @@ module _ (n : ℕ) where
     )
 
   module _ {P T I Gen W : Type 0} (key : P → ℕ × Gen) (number : I → ℕ) (packed : PackedOption I W → Option ℕ) (greatest : ℕ) (first : Gen) (following : Gen → Gen) (wraps : Gen → Bool) where
-    step_touched : (old new : Links Gen T) (c : Call P T I Gen W) (r : Reply P T I Gen W) → Step key number packed greatest first following wraps old c r new
+    pub step_touched : (old new : Links Gen T) (c : Call P T I Gen W) (r : Reply P T I Gen W) → Step key number packed greatest first following wraps old c r new
         → Step key number packed greatest first following wraps (touch old) c r (touch new)
     step_touched old new (call.Insert kind t) r step = (step.0, step.1, inserts_touched key number old new kind t greatest step.0 step.2)
     step_touched old new (call.InsertWithin kind t) r step = (step.0, step.1, inserts_within_touched key number old new kind t step.0 step.2)

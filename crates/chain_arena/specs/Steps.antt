@@ -98,6 +98,14 @@ module _ {Gen T : Type 0} where
   abbrev pub AreSameButTouched : Links Gen T → Links Gen T → Type 0
   AreSameButTouched a b = a ≡ record b { touched = a.touched }
 
+  -- .. and for room
+  abbrev pub AreSameButRoom : Links Gen T → Links Gen T → Type 0
+  AreSameButRoom a b = AreSameButTouched a (with_capacity_of b a)
+
+  -- two arenas with the same room
+  abbrev pub HaveSameRoom : Links Gen T → Links Gen T → Type 0
+  HaveSameRoom a b = (a.capacity ≡ b.capacity) × (a.stack_capacity ≡ b.stack_capacity)
+
 -- an answer where something may be invalid: it is told whether the counter overflowed
 abbrev pub Tells : {X : Type 0} → Type 0 → Bool → (X → Type 0) → InvalidationResult X → Type 0
 Tells invalid overflow done InvalidPtr = invalid
@@ -208,6 +216,12 @@ ShowSame packed (reply.Removed answer) (reply.Removed other) = TellSame (seen_li
 ShowSame packed (reply.RemovedInx answer) (reply.RemovedInx other) = TellSame (seen_pair packed) answer other
 ShowSame packed r s = r ≡ s
 
+-- whether a reply is a refusal of memory
+abbrev pub refused_memory : {P T I Gen W : Type 0} → Reply P T I Gen W → Bool
+refused_memory (reply.Inserted (Err failed.AllocError)) = true
+refused_memory (reply.Reserved (Err refused.AllocError)) = true
+refused_memory r = false
+
 module _ {P I Gen W : Type 0} (key : P → ℕ × Gen) (number : I → ℕ) (packed : PackedOption I W → Option ℕ) (greatest : ℕ) (first : Gen) (following : Gen → Gen) (wraps : Gen → Bool) where
   -- But for growth and memory a state and a list of calls determine the replies, and the state after them but for how many
   -- slots were touched, which a compression alone leaves open.
@@ -215,3 +229,23 @@ module _ {P I Gen W : Type 0} (key : P → ℕ × Gen) (number : I → ℕ) (pac
   RunIsDetermined T = (old : Links Gen T) (calls : List (Call P T I Gen W)) (replies others : List (Reply P T I Gen W)) (new other : Links Gen T)
       → RunInRoom key number packed greatest first following wraps old calls replies new → Run key number packed greatest first following wraps old calls others other
       → AllZip (ShowSame packed) replies others × AreSameButTouched new other
+
+  -- Where memory is refused to both or to neither, a state and a call determine the reply, and the state after it but for
+  -- room and touches.
+  abbrev pub StepIsDetermined : Type 0 → Type 0
+  StepIsDetermined T = (old : Links Gen T) (c : Call P T I Gen W) (r s : Reply P T I Gen W) (new other : Links Gen T)
+      → Step key number packed greatest first following wraps old c r new → Step key number packed greatest first following wraps old c s other
+      → refused_memory r ≡ refused_memory s → ShowSame packed r s × AreSameButRoom new other
+
+  -- two runs of the same calls, that have the same room after each step
+  abbrev pub RunInSameRoom : {T : Type 0} → Links Gen T → Links Gen T → List (Call P T I Gen W) → List (Reply P T I Gen W) → List (Reply P T I Gen W) → Links Gen T → Links Gen T → Type 0
+  RunInSameRoom old before [] [] [] new other = (new ≡ old) × (other ≡ before)
+  RunInSameRoom {T} old before (c ∷ calls) (r ∷ replies) (s ∷ others) new other = (between : Links Gen T) × (beside : Links Gen T)
+      × Step key number packed greatest first following wraps old c r between × Step key number packed greatest first following wraps before c s beside
+      × HaveSameRoom between beside × RunInSameRoom between beside calls replies others new other
+  RunInSameRoom old before calls replies others new other = ⊥
+
+  -- So it is the room after each step alone that they leave open, and how many slots were touched.
+  abbrev pub RunIsDeterminedByRoom : Type 0 → Type 0
+  RunIsDeterminedByRoom T = (old : Links Gen T) (calls : List (Call P T I Gen W)) (replies others : List (Reply P T I Gen W)) (new other : Links Gen T)
+      → RunInSameRoom old old calls replies others new other → AllZip (ShowSame packed) replies others × AreSameButTouched new other

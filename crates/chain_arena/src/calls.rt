@@ -3,7 +3,7 @@ ghost use Rattle.std.specs.Prelude.{◌≡◌, min, length, IfOk, OnErr, MatchRe
 ghost use Rattle.chain_laws.specs.Neighbors.{HasOneSetOfChains};
 ghost use Rattle.chain_links.specs.ChainArena.{shown};
 ghost use Rattle.chain_arena.specs.Drains.{walk_left, without_each};
-ghost use Rattle.chain_arena.specs.Steps.{InsertsGrowing, InsertsWithin, Reserves, DrainsChain, Step, Run, RunIsDetermined};
+ghost use Rattle.chain_arena.specs.Steps.{InsertsGrowing, InsertsWithin, Reserves, DrainsChain, Step, Run, RunIsDetermined, StepIsDetermined, RunIsDeterminedByRoom};
 
 use crate::chain_arena::ChainArena;
 use crate::chain_drains::ChainDrain;
@@ -223,8 +223,12 @@ fn replies_to<P: PtrKey, T: Drop, S: SlotStack<Item = ArenaSlot<P, LinkNoGen<P, 
     Ok(replies)
 }
 
-/// But for growth and memory, an arena and a list of calls determine the replies, and the arena after them but for how
-/// many slots were touched: a run of the machine says no less than the calls do.
+/// A run of the machine says no less than the calls do. Without growth, an arena and a list of calls determine the replies,
+/// and the arena after them but for how many slots were touched (`in_room`). With it, where memory is refused to both or to
+/// neither, an arena and a call determine the reply, and the arena but for room and touches (`step`); and where the room
+/// after each call is the same, lists of calls answer the same, and leave the same but for touches (`by_room`).
 pub fn runs_are_determined<P: PtrKey, T: Drop>()
-    ensures { RunIsDetermined P.key P.Inx.number P.Inx.packed_number P.Inx.greatest P.Gen.first P.Gen.following P.Gen.wraps T }
+    ensures in_room { RunIsDetermined P.key P.Inx.number P.Inx.packed_number P.Inx.greatest P.Gen.first P.Gen.following P.Gen.wraps T }
+    ensures step { StepIsDetermined P.key P.Inx.number P.Inx.packed_number P.Inx.greatest P.Gen.first P.Gen.following P.Gen.wraps T }
+    ensures by_room { RunIsDeterminedByRoom P.key P.Inx.number P.Inx.packed_number P.Inx.greatest P.Gen.first P.Gen.following P.Gen.wraps T }
 {}
