@@ -5,6 +5,7 @@ use Rattle.std.specs.List.{AllZip}
 use Rattle.std.specs.Option.{option_map}
 use Rattle.std.proofs.lemmas.Bool.{false≢true}
 use Rattle.std.proofs.lemmas.Option.{none-some}
+use Rattle.arena_ptr.specs.SlotStack.{IsWithinMaximum}
 use Rattle.arena_ptr.specs.declared.errors.ChainInsertionError.{ChainInsertionError}
 use Rattle.arena_ptr.specs.declared.errors.ChainInsertionError.TheVariants as failed
 use Rattle.arena_ptr.specs.declared.errors.ReallocationError.{ReallocationError}
@@ -15,12 +16,11 @@ use Rattle.arena_ptr.specs.declared.packed_option.PackedOption.{PackedOption}
 use Rattle.chain_laws.specs.Cuts.{cut}
 use Rattle.chain_laws.specs.Insertions.{InsertKind}
 use Rattle.chain_laws.proofs.Walking.{no_other_walk}
-use Rattle.arena_ptr.specs.SlotStack.{IsWithinMaximum}
 use Rattle.arena_base.specs.Arena.{IsValid, entry_at, entry_count, with_capacity_of, renewed_at}
 use Rattle.chain_links.specs.ChainArena.{LinkSeen, on_value, shown, entry, value_in, insert_as, relinked}
 use Rattle.chain_arena.specs.Drains.{without_each}
 use Rattle.chain_links.specs.Links.{seen_link, seen_pair}
-use Rattle.chain_arena.specs.Steps.{Links, kind_of, HasRoomFor, stays, grown, Refuses, Connects, BreaksPrev, BreaksNext, Exchanges, Reserves, DrainsChain, Tells, TellSame, ShowSame, IsAdded, IsTaken, AreSameButTouched, InsertsGrowing, InsertsWithin, Step, Run, HasRoomAlready, AreSameButRoom, HaveSameRoom, refused_memory, RunIsDetermined, StepIsDetermined, RunInSameRoom, RunIsDeterminedByRoom}
+use Rattle.chain_arena.specs.Steps.{Links, kind_of, HasRoomFor, stays, grown, Refuses, Connects, BreaksPrev, BreaksNext, Exchanges, Reserves, DrainsChain, Tells, TellSame, ShowSame, IsAdded, IsTaken, AreSameButTouched, InsertsGrowing, InsertsWithin, Step, Run, HasRoomAlready, AreSameButRoom, HaveSameRoom, refused_memory, room_asked, RunIsDetermined, StepIsDetermined, RunInSameRoom, RunIsDeterminedByRoom}
 use Rattle.chain_arena.specs.declared.calls.Call.{Call}
 use Rattle.chain_arena.specs.declared.calls.Call.TheVariants as call
 use Rattle.chain_arena.specs.declared.calls.Reply.{Reply}
@@ -116,6 +116,11 @@ module _ {Gen T : Type 0} where
       let most : new.maximum ≡ old.maximum = ap (λ (x : Links Gen T). x.maximum) is ∙ maximum in
       not_beyond old.maximum n new.capacity room.0.fits (subst (λ (o : Option ℕ). IsWithinMaximum o new.capacity) most room.0.within_maximum) past.1
 
+  -- .. and up to the greatest index
+  made_up_to : (greatest n : ℕ) (old new : Links Gen T) → HasRoomFor greatest n old new → Refuses n old refused.AllocError → n ≤ greatest
+  made_up_to greatest n old new (stays within capacity stack_capacity) lacks = absurd (omega (arith, within, lacks.0))
+  made_up_to greatest n old new (grown less roomy) lacks = omega (arith, roomy.0.fits, roomy.0.at_most_greatest)
+
   -- .. and more than there was
   made_more : (greatest n : ℕ) (old new other : Links Gen T) → HasRoomFor greatest n old new → Refuses n old refused.AllocError → other ≡ old → HaveSameRoom new other → ⊥
   made_more greatest n old new other (stays within capacity stack_capacity) lacks is room = omega (arith, within, lacks.0)
@@ -207,20 +212,21 @@ module _ {P T I Gen W : Type 0} (key : P → ℕ × Gen) (number : I → ℕ) (p
   answered_same : {A : Type 0} (told : A → Reply P T I Gen W) (r s : Reply P T I Gen W) (x y : A) (a b : Links Gen T) → r ≡ told x → s ≡ told y → Same x y a b → SameButTouched r s a b
   answered_same told r s x y a b is_r is_s both = (shows_same r s (is_r ∙ (ap told both.0 ∙ sym is_s)), same_but_touched a b both.1)
 
-  -- two replies show the same and the arenas are the same but for room; or memory is refused to one of them alone, and so
-  -- the room is not the same
-  abbrev AlikeOrApart : Reply P T I Gen W → Reply P T I Gen W → Links Gen T → Links Gen T → Type 0
-  AlikeOrApart r s a b = (ShowSame packed r s × AreSameButRoom a b) ⊎ ((refused_memory r ≡ refused_memory s → ⊥) × (HaveSameRoom a b → ⊥))
+  -- two replies show the same and the arenas are the same but for room; or memory for n links, up to the greatest index, is
+  -- refused to one of them alone, and so the room is not the same
+  abbrev AlikeOrApart : ℕ → Reply P T I Gen W → Reply P T I Gen W → Links Gen T → Links Gen T → Type 0
+  AlikeOrApart n r s a b = (ShowSame packed r s × AreSameButRoom a b) ⊎ ((n ≤ greatest) × (refused_memory r ≡ refused_memory s → ⊥) × (HaveSameRoom a b → ⊥))
 
   inserts_apart : (old a b : Links Gen T) (kind : InsertKindBody P I) (t : T) (r s : Result P ChainInsertionError)
-      → InsertsGrowing key number greatest old kind t r a → InsertsGrowing key number greatest old kind t s b → AlikeOrApart (reply.Inserted r) (reply.Inserted s) a b
+      → InsertsGrowing key number greatest old kind t r a → InsertsGrowing key number greatest old kind t s b → AlikeOrApart (entry_count old + 1) (reply.Inserted r) (reply.Inserted s) a b
   inserts_apart old a b kind t (Ok p) (Ok q) one two = inl (
     ap (λ (x : P). reply.Inserted (Ok x)) (same_pointer old a b (kind_of key number kind) t p q one.1 two.1),
     both_but_room (insert_as old (kind_of key number kind) t) a b one.1.state two.1.state,
   )
   inserts_apart old a b kind t (Ok p) (Err failed.FailedLinkRequirement) one two = absurd (two.0 one.0)
   inserts_apart old a b kind t (Ok p) (Err failed.BeyondMaxCapacity) one two = absurd (made_within greatest (entry_count old + 1) old (insert_as old (kind_of key number kind) t) a refl one.1.state one.2 two.1)
-  inserts_apart old a b kind t (Ok p) (Err failed.AllocError) one two = inr ((λ alike. false≢true alike), made_more greatest (entry_count old + 1) old a b one.2 two.1 two.2)
+  inserts_apart old a b kind t (Ok p) (Err failed.AllocError) one two =
+      inr (made_up_to greatest (entry_count old + 1) old a one.2 two.1, (λ alike. false≢true alike), made_more greatest (entry_count old + 1) old a b one.2 two.1 two.2)
   inserts_apart old a b kind t (Err failed.FailedLinkRequirement) (Ok q) one two = absurd (one.0 two.0)
   inserts_apart old a b kind t (Err failed.FailedLinkRequirement) (Err failed.FailedLinkRequirement) one two = inl (refl, kept_both old a b one.1 two.1)
   inserts_apart old a b kind t (Err failed.FailedLinkRequirement) (Err failed.BeyondMaxCapacity) one two = absurd (one.0 two.0)
@@ -230,30 +236,30 @@ module _ {P T I Gen W : Type 0} (key : P → ℕ × Gen) (number : I → ℕ) (p
   inserts_apart old a b kind t (Err failed.BeyondMaxCapacity) (Err failed.BeyondMaxCapacity) one two = inl (refl, kept_both old a b one.2 two.2)
   inserts_apart old a b kind t (Err failed.BeyondMaxCapacity) (Err failed.AllocError) one two = absurd (two.1.1 one.1.1)
   inserts_apart old a b kind t (Err failed.AllocError) (Ok q) one two =
-      inr ((λ alike. false≢true (sym alike)), λ room. made_more greatest (entry_count old + 1) old b a two.2 one.1 one.2 (sym room.0, sym room.1))
+      inr (made_up_to greatest (entry_count old + 1) old b two.2 one.1, (λ alike. false≢true (sym alike)), λ room. made_more greatest (entry_count old + 1) old b a two.2 one.1 one.2 (sym room.0, sym room.1))
   inserts_apart old a b kind t (Err failed.AllocError) (Err failed.FailedLinkRequirement) one two = absurd (two.0 one.0)
   inserts_apart old a b kind t (Err failed.AllocError) (Err failed.BeyondMaxCapacity) one two = absurd (one.1.1 two.1.1)
   inserts_apart old a b kind t (Err failed.AllocError) (Err failed.AllocError) one two = inl (refl, kept_both old a b one.2 two.2)
   inserts_apart old a b kind t (Err failed.NotWithinCapacity) s one two = absurd one
   inserts_apart old a b kind t r (Err failed.NotWithinCapacity) one two = absurd two
 
-  reserves_apart : (old a b : Links Gen T) (n : ℕ) (r s : Result Unit ReallocationError) → Reserves greatest old n r a → Reserves greatest old n s b → AlikeOrApart (reply.Reserved r) (reply.Reserved s) a b
+  reserves_apart : (old a b : Links Gen T) (n : ℕ) (r s : Result Unit ReallocationError) → Reserves greatest old n r a → Reserves greatest old n s b → AlikeOrApart n (reply.Reserved r) (reply.Reserved s) a b
   reserves_apart old a b n (Ok u) (Ok v) one two = inl (refl, both_but_room old a b one.0 two.0)
   reserves_apart old a b n (Ok u) (Err refused.BeyondMaxCapacity) one two = absurd (made_within greatest n old old a refl one.0 one.1 two.0)
-  reserves_apart old a b n (Ok u) (Err refused.AllocError) one two = inr ((λ alike. false≢true alike), made_more greatest n old a b one.1 two.0 two.1)
+  reserves_apart old a b n (Ok u) (Err refused.AllocError) one two = inr (made_up_to greatest n old a one.1 two.0, (λ alike. false≢true alike), made_more greatest n old a b one.1 two.0 two.1)
   reserves_apart old a b n (Err refused.BeyondMaxCapacity) (Ok v) one two = absurd (made_within greatest n old old b refl two.0 two.1 one.0)
   reserves_apart old a b n (Err refused.BeyondMaxCapacity) (Err refused.BeyondMaxCapacity) one two = inl (refl, kept_both old a b one.1 two.1)
   reserves_apart old a b n (Err refused.BeyondMaxCapacity) (Err refused.AllocError) one two = absurd (two.0.1 one.0.1)
-  reserves_apart old a b n (Err refused.AllocError) (Ok v) one two = inr ((λ alike. false≢true (sym alike)), λ room. made_more greatest n old b a two.1 one.0 one.1 (sym room.0, sym room.1))
+  reserves_apart old a b n (Err refused.AllocError) (Ok v) one two = inr (made_up_to greatest n old b two.1 one.0, (λ alike. false≢true (sym alike)), λ room. made_more greatest n old b a two.1 one.0 one.1 (sym room.0, sym room.1))
   reserves_apart old a b n (Err refused.AllocError) (Err refused.BeyondMaxCapacity) one two = absurd (one.0.1 two.0.1)
   reserves_apart old a b n (Err refused.AllocError) (Err refused.AllocError) one two = inl (refl, kept_both old a b one.1 two.1)
 
-  answered_apart : {A : Type 0} (told : A → Reply P T I Gen W) (r s : Reply P T I Gen W) (x y : A) (a b : Links Gen T) → r ≡ told x → s ≡ told y → AlikeOrApart (told x) (told y) a b → AlikeOrApart r s a b
-  answered_apart told r s x y a b is_r is_s both = subst (λ q. AlikeOrApart q s a b) (sym is_r) (subst (λ q. AlikeOrApart (told x) q a b) (sym is_s) both)
+  answered_apart : {A : Type 0} (n : ℕ) (told : A → Reply P T I Gen W) (r s : Reply P T I Gen W) (x y : A) (a b : Links Gen T) → r ≡ told x → s ≡ told y → AlikeOrApart n (told x) (told y) a b → AlikeOrApart n r s a b
+  answered_apart n told r s x y a b is_r is_s both = subst (λ q. AlikeOrApart n q s a b) (sym is_r) (subst (λ q. AlikeOrApart n (told x) q a b) (sym is_s) both)
 
   -- .. and where they have the same room, all is
-  in_one_room : (r s : Reply P T I Gen W) (a b : Links Gen T) → HaveSameRoom a b → AlikeOrApart r s a b → SameButTouched r s a b
-  in_one_room r s a b room both = ⊎_elim (λ alike. (alike.0, same_with_room a b room alike.1)) (λ apart. absurd (apart.1 room)) both
+  in_one_room : (n : ℕ) (r s : Reply P T I Gen W) (a b : Links Gen T) → HaveSameRoom a b → AlikeOrApart n r s a b → SameButTouched r s a b
+  in_one_room n r s a b room both = ⊎_elim (λ alike. (alike.0, same_with_room a b room alike.1)) (λ apart. absurd (apart.2 room)) both
 
   -- there was room already, and it is as it was
   inserts_in_room : (old new : Links Gen T) (kind : InsertKindBody P I) (t : T) (r : Result P ChainInsertionError) → entry_count old < old.capacity → InsertsGrowing key number greatest old kind t r new → HaveSameRoom new old
@@ -272,7 +278,7 @@ module _ {P T I Gen W : Type 0} (key : P → ℕ × Gen) (number : I → ℕ) (p
   step_same old (call.Insert kind t) r s a b room one two =
       let left = inserts_in_room old a kind t one.0 room one.2 in
       let right = inserts_in_room old b kind t two.0 room two.2 in
-      in_one_room r s a b (same left.0 right.0, same left.1 right.1) (answered_apart reply.Inserted r s one.0 two.0 a b one.1 two.1 (inserts_apart old a b kind t one.0 two.0 one.2 two.2))
+      in_one_room (entry_count old + 1) r s a b (same left.0 right.0, same left.1 right.1) (answered_apart (entry_count old + 1) reply.Inserted r s one.0 two.0 a b one.1 two.1 (inserts_apart old a b kind t one.0 two.0 one.2 two.2))
   step_same old (call.InsertWithin kind t) r s a b room one two = answered_same reply.Inserted r s one.0 two.0 a b one.1 two.1 (inserts_within_same old a b kind t one.0 two.0 one.2 two.2)
   step_same old (call.Connect p q) r s a b room one two = answered_same reply.Done r s one.0 two.0 a b one.1 two.1 (connects_same old a b (key p) (key q) one.0 two.0 one.2 two.2)
   step_same old (call.BreakPrev p) r s a b room one two = answered_same reply.Done r s one.0 two.0 a b one.1 two.1 (breaks_prev_same old a b (key p) one.0 two.0 one.2 two.2)
@@ -299,7 +305,7 @@ module _ {P T I Gen W : Type 0} (key : P → ℕ × Gen) (number : I → ℕ) (p
   step_same old (call.Reserve n) r s a b room one two =
       let left = reserves_in_room old a n one.0 room one.2 in
       let right = reserves_in_room old b n two.0 room two.2 in
-      in_one_room r s a b (same left.0 right.0, same left.1 right.1) (answered_apart reply.Reserved r s one.0 two.0 a b one.1 two.1 (reserves_apart old a b n one.0 two.0 one.2 two.2))
+      in_one_room n r s a b (same left.0 right.0, same left.1 right.1) (answered_apart n reply.Reserved r s one.0 two.0 a b one.1 two.1 (reserves_apart old a b n one.0 two.0 one.2 two.2))
   step_same old (call.SetGeneration g) r s a b room one two = (shows_same r s (same one.0 two.0), same_but_touched a b (same one.1 two.1))
   step_same old call.IncGeneration r s a b room one two = (shows_same r s (same one.0 two.0), same_but_touched a b (same one.1 two.1))
 
@@ -319,13 +325,13 @@ module _ {P T I Gen W : Type 0} (key : P → ℕ × Gen) (number : I → ℕ) (p
 
   -- two steps are alike, or memory is refused to one alone
   step_apart : (old : Links Gen T) (c : Call P T I Gen W) (r s : Reply P T I Gen W) (a b : Links Gen T) → Step key number packed greatest first following wraps old c r a
-      → Step key number packed greatest first following wraps old c s b → AlikeOrApart r s a b
-  step_apart old (call.Insert kind t) r s a b one two = answered_apart reply.Inserted r s one.0 two.0 a b one.1 two.1 (inserts_apart old a b kind t one.0 two.0 one.2 two.2)
-  step_apart old (call.Reserve n) r s a b one two = answered_apart reply.Reserved r s one.0 two.0 a b one.1 two.1 (reserves_apart old a b n one.0 two.0 one.2 two.2)
+      → Step key number packed greatest first following wraps old c s b → AlikeOrApart (room_asked key number packed greatest first following wraps old c) r s a b
+  step_apart old (call.Insert kind t) r s a b one two = answered_apart (entry_count old + 1) reply.Inserted r s one.0 two.0 a b one.1 two.1 (inserts_apart old a b kind t one.0 two.0 one.2 two.2)
+  step_apart old (call.Reserve n) r s a b one two = answered_apart n reply.Reserved r s one.0 two.0 a b one.1 two.1 (reserves_apart old a b n one.0 two.0 one.2 two.2)
   step_apart old c r s a b one two = let both = step_same old c r s a b tt one two in inl (both.0, same_but_room a b both.1)
 
   pub step_alike : StepIsDetermined key number packed greatest first following wraps T
-  step_alike old c r s new other one two alike = ⊎_elim (λ both. both) (λ apart. absurd (apart.0 alike)) (step_apart old c r s new other one two)
+  step_alike old c r s new other one two alike = ⊎_elim (λ both. both) (λ apart. absurd (apart.1 (alike apart.0))) (step_apart old c r s new other one two)
 
   -- a run that begins with other touches, too
   run_beside : (old before : Links Gen T) (calls : List (Call P T I Gen W)) (replies others : List (Reply P T I Gen W)) (new other : Links Gen T) → AreSameButTouched old before
@@ -336,7 +342,7 @@ module _ {P T I Gen W : Type 0} (key : P → ℕ × Gen) (number : I → ℕ) (p
       let between : Links Gen T = touch touches runs.1 in
       let beside = subst (λ (a : Links Gen T). Step key number packed greatest first following wraps a c s between) (sym is)
       (step_touched touches key number packed greatest first following wraps before runs.1 c s runs.3) in
-      let step = in_one_room r s runs.0 between runs.4 (step_apart old c r s runs.0 between runs.2 beside) in
+      let step = in_one_room _ r s runs.0 between runs.4 (step_apart old c r s runs.0 between runs.2 beside) in
       let rest = run_beside runs.0 runs.1 calls replies others new other step.1 runs.5 in
       ((step.0, rest.0), rest.1)
   run_beside old before calls replies others new other is runs = absurd runs

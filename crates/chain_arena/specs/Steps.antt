@@ -198,6 +198,12 @@ module _ {P T I Gen W : Type 0} (key : P → ℕ × Gen) (number : I → ℕ) (p
   HasRoomAlready old (call.Reserve n) = n ≤ old.capacity
   HasRoomAlready old call = ⊤
 
+  -- how many links a call asks room for
+  abbrev pub room_asked : Links Gen T → Call P T I Gen W → ℕ
+  room_asked old (call.Insert kind t) = entry_count old + 1
+  room_asked old (call.Reserve n) = n
+  room_asked old call = 0
+
   -- steps one after another, one reply a call
   abbrev pub Run : Links Gen T → List (Call P T I Gen W) → List (Reply P T I Gen W) → Links Gen T → Type 0
   Run old [] [] new = new ≡ old
@@ -216,7 +222,7 @@ ShowSame packed (reply.Removed answer) (reply.Removed other) = TellSame (seen_li
 ShowSame packed (reply.RemovedInx answer) (reply.RemovedInx other) = TellSame (seen_pair packed) answer other
 ShowSame packed r s = r ≡ s
 
--- whether a reply is a refusal of memory
+-- whether a reply is a refusal of memory, or of an index above the greatest
 abbrev pub refused_memory : {P T I Gen W : Type 0} → Reply P T I Gen W → Bool
 refused_memory (reply.Inserted (Err failed.AllocError)) = true
 refused_memory (reply.Reserved (Err refused.AllocError)) = true
@@ -231,11 +237,11 @@ module _ {P I Gen W : Type 0} (key : P → ℕ × Gen) (number : I → ℕ) (pac
       → AllZip (ShowSame packed) replies others × AreSameButTouched new other
 
   -- Where memory is refused to both or to neither, a state and a call determine the reply, and the state after it but for
-  -- room and touches.
+  -- room and touches. Above the greatest index it is refused to both.
   abbrev pub StepIsDetermined : Type 0 → Type 0
   StepIsDetermined T = (old : Links Gen T) (c : Call P T I Gen W) (r s : Reply P T I Gen W) (new other : Links Gen T)
       → Step key number packed greatest first following wraps old c r new → Step key number packed greatest first following wraps old c s other
-      → refused_memory r ≡ refused_memory s → ShowSame packed r s × AreSameButRoom new other
+      → (room_asked key number packed greatest first following wraps old c ≤ greatest → refused_memory r ≡ refused_memory s) → ShowSame packed r s × AreSameButRoom new other
 
   -- two runs of the same calls, that have the same room after each step
   abbrev pub RunInSameRoom : {T : Type 0} → Links Gen T → Links Gen T → List (Call P T I Gen W) → List (Reply P T I Gen W) → List (Reply P T I Gen W) → Links Gen T → Links Gen T → Type 0
