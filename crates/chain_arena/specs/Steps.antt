@@ -237,13 +237,13 @@ module _ {P I Gen W : Type 0} (key : P → ℕ × Gen) (number : I → ℕ) (pac
       → AllZip (ShowSame packed) replies others × AreSameButTouched new other
 
   -- Where memory is refused to both or to neither, a state and a call determine the reply, and the state after it but for
-  -- room and touches. Above the greatest index it is refused to both.
+  -- room and touches. Where more links are asked for than the greatest index, they do so in any case.
   abbrev pub StepIsDetermined : Type 0 → Type 0
   StepIsDetermined T = (old : Links Gen T) (c : Call P T I Gen W) (r s : Reply P T I Gen W) (new other : Links Gen T)
       → Step key number packed greatest first following wraps old c r new → Step key number packed greatest first following wraps old c s other
       → (room_asked key number packed greatest first following wraps old c ≤ greatest → refused_memory r ≡ refused_memory s) → ShowSame packed r s × AreSameButRoom new other
 
-  -- two runs of the same calls, that have the same room after each step
+  -- two runs of the same calls, from two arenas, that have the same room after each step
   abbrev pub RunInSameRoom : {T : Type 0} → Links Gen T → Links Gen T → List (Call P T I Gen W) → List (Reply P T I Gen W) → List (Reply P T I Gen W) → Links Gen T → Links Gen T → Type 0
   RunInSameRoom old before [] [] [] new other = (new ≡ old) × (other ≡ before)
   RunInSameRoom {T} old before (c ∷ calls) (r ∷ replies) (s ∷ others) new other = (between : Links Gen T) × (beside : Links Gen T)
@@ -251,7 +251,8 @@ module _ {P I Gen W : Type 0} (key : P → ℕ × Gen) (number : I → ℕ) (pac
       × HaveSameRoom between beside × RunInSameRoom between beside calls replies others new other
   RunInSameRoom old before calls replies others new other = ⊥
 
-  -- So it is the room after each step alone that they leave open, and how many slots were touched.
+  -- Two such runs from one state answer the same, and end the same but for how many slots were touched: no more is left open
+  -- than that and the room after each step.
   abbrev pub RunIsDeterminedByRoom : Type 0 → Type 0
   RunIsDeterminedByRoom T = (old : Links Gen T) (calls : List (Call P T I Gen W)) (replies others : List (Reply P T I Gen W)) (new other : Links Gen T)
       → RunInSameRoom old old calls replies others new other → AllZip (ShowSame packed) replies others × AreSameButTouched new other

@@ -226,7 +226,8 @@ fn replies_to<P: PtrKey, T: Drop, S: SlotStack<Item = ArenaSlot<P, LinkNoGen<P, 
 /// A run of the machine says no less than the calls do. An arena and a list of calls that need no growth determine the
 /// replies, and the arena after them but for how many slots were touched (`in_room`). So they do with growth, where each
 /// call leaves the same room (`by_room`). And where memory is refused to both or to neither, an arena and a call determine
-/// the reply, and the arena but for room and touches; above the greatest index it is refused to both (`step`).
+/// the reply, and the arena but for room and touches (`step`); where more links are asked for than the greatest index, they
+/// do so in any case.
 pub fn runs_are_determined<P: PtrKey, T: Drop>()
     ensures in_room { RunIsDetermined P.key P.Inx.number P.Inx.packed_number P.Inx.greatest P.Gen.first P.Gen.following P.Gen.wraps T }
     ensures step { StepIsDetermined P.key P.Inx.number P.Inx.packed_number P.Inx.greatest P.Gen.first P.Gen.following P.Gen.wraps T }
