@@ -20,7 +20,7 @@ use Rattle.arena_base.specs.Arena.{IsValid, entry_at, entry_count, with_capacity
 use Rattle.chain_links.specs.ChainArena.{LinkSeen, on_value, shown, entry, value_in, insert_as, relinked}
 use Rattle.chain_arena.specs.Drains.{without_each}
 use Rattle.chain_links.specs.Links.{seen_link, seen_pair}
-use Rattle.chain_arena.specs.Steps.{Links, kind_of, HasRoomFor, stays, grown, Refuses, Connects, BreaksPrev, BreaksNext, Exchanges, Reserves, DrainsChain, Tells, TellSame, ShowSame, IsAdded, IsTaken, AreSameButTouched, InsertsGrowing, InsertsWithin, Step, Run, HasRoomAlready, AreSameButRoom, HaveSameRoom, refused_memory, room_asked, RunIsDetermined, StepIsDetermined, RunInSameRoom, RunIsDeterminedByRoom}
+use Rattle.chain_arena.specs.Steps.{Links, kind_of, HasRoomFor, stays, grown, Refuses, Connects, BreaksPrev, BreaksNext, Exchanges, Reserves, DrainsChain, Tells, TellSame, ShowSame, IsAdded, IsTaken, AreSameButTouched, InsertsGrowing, InsertsWithin, Step, Run, HasRoomAlready, AreSameButRoomAndTouched, HaveSameRoom, refused_memory, room_asked, RunIsDetermined, StepIsDetermined, RunInSameRoom, RunIsDeterminedByRoom}
 use Rattle.chain_arena.specs.declared.calls.Call.{Call}
 use Rattle.chain_arena.specs.declared.calls.Call.TheVariants as call
 use Rattle.chain_arena.specs.declared.calls.Reply.{Reply}
@@ -90,22 +90,22 @@ module _ {Gen T : Type 0} where
       (ap Some (one.counted ∙ (ap (λ (w : List ℕ). min take (length w)) walks ∙ sym two.counted)), one.state ∙ (ap (without_each following old) walks ∙ sym two.state))
 
   -- what is the same is so but for room
-  same_but_room : (a b : Links Gen T) → AreSameButTouched a b → AreSameButRoom a b
+  same_but_room : (a b : Links Gen T) → AreSameButTouched a b → AreSameButRoomAndTouched a b
   same_but_room a b is =
       let capacity = sym (ap (λ (x : Links Gen T). x.capacity) is) in
       let stack_capacity = sym (ap (λ (x : Links Gen T). x.stack_capacity) is) in
       is ∙ ap₂ (λ (c d : ℕ). touch a.touched (record b { capacity = c; stack_capacity = d })) capacity stack_capacity
 
   -- .. and the other way round where the room is the same
-  same_with_room : (a b : Links Gen T) → HaveSameRoom a b → AreSameButRoom a b → AreSameButTouched a b
+  same_with_room : (a b : Links Gen T) → HaveSameRoom a b → AreSameButRoomAndTouched a b → AreSameButTouched a b
   same_with_room a b room is = is ∙ ap₂ (λ (c d : ℕ). touch a.touched (record b { capacity = c; stack_capacity = d })) room.0 room.1
 
   -- two are the same but for room that come of one, but for room
-  both_but_room : (base a b : Links Gen T) → a ≡ with_capacity_of base a → b ≡ with_capacity_of base b → AreSameButRoom a b
+  both_but_room : (base a b : Links Gen T) → a ≡ with_capacity_of base a → b ≡ with_capacity_of base b → AreSameButRoomAndTouched a b
   both_but_room base a b is_a is_b = same_but_touched a (with_capacity_of b a) (is_a ∙ sym (ap (λ (x : Links Gen T). with_capacity_of x a) is_b))
 
   -- .. or are one
-  kept_both : (old a b : Links Gen T) → a ≡ old → b ≡ old → AreSameButRoom a b
+  kept_both : (old a b : Links Gen T) → a ≡ old → b ≡ old → AreSameButRoomAndTouched a b
   kept_both old a b is_a is_b = same_but_room a b (same_but_touched a b (same is_a is_b))
 
   -- room that was made is within the maximum
@@ -215,7 +215,7 @@ module _ {P T I Gen W : Type 0} (key : P → ℕ × Gen) (number : I → ℕ) (p
   -- two replies show the same and the arenas are the same but for room; or memory for n links, up to the greatest index, is
   -- refused to one of them alone, and so the room is not the same
   abbrev AlikeOrApart : ℕ → Reply P T I Gen W → Reply P T I Gen W → Links Gen T → Links Gen T → Type 0
-  AlikeOrApart n r s a b = (ShowSame packed r s × AreSameButRoom a b) ⊎ ((n ≤ greatest) × (refused_memory r ≡ refused_memory s → ⊥) × (HaveSameRoom a b → ⊥))
+  AlikeOrApart n r s a b = (ShowSame packed r s × AreSameButRoomAndTouched a b) ⊎ ((n ≤ greatest) × (refused_memory r ≡ refused_memory s → ⊥) × (HaveSameRoom a b → ⊥))
 
   inserts_apart : (old a b : Links Gen T) (kind : InsertKindBody P I) (t : T) (r s : Result P ChainInsertionError)
       → InsertsGrowing key number greatest old kind t r a → InsertsGrowing key number greatest old kind t s b → AlikeOrApart (entry_count old + 1) (reply.Inserted r) (reply.Inserted s) a b

@@ -99,8 +99,8 @@ module _ {Gen T : Type 0} where
   AreSameButTouched a b = a ≡ record b { touched = a.touched }
 
   -- .. and for room
-  abbrev pub AreSameButRoom : Links Gen T → Links Gen T → Type 0
-  AreSameButRoom a b = AreSameButTouched a (with_capacity_of b a)
+  abbrev pub AreSameButRoomAndTouched : Links Gen T → Links Gen T → Type 0
+  AreSameButRoomAndTouched a b = AreSameButTouched a (with_capacity_of b a)
 
   -- two arenas with the same room
   abbrev pub HaveSameRoom : Links Gen T → Links Gen T → Type 0
@@ -241,7 +241,7 @@ module _ {P I Gen W : Type 0} (key : P → ℕ × Gen) (number : I → ℕ) (pac
   abbrev pub StepIsDetermined : Type 0 → Type 0
   StepIsDetermined T = (old : Links Gen T) (c : Call P T I Gen W) (r s : Reply P T I Gen W) (new other : Links Gen T)
       → Step key number packed greatest first following wraps old c r new → Step key number packed greatest first following wraps old c s other
-      → (room_asked key number packed greatest first following wraps old c ≤ greatest → refused_memory r ≡ refused_memory s) → ShowSame packed r s × AreSameButRoom new other
+      → (room_asked key number packed greatest first following wraps old c ≤ greatest → refused_memory r ≡ refused_memory s) → ShowSame packed r s × AreSameButRoomAndTouched new other
 
   -- two runs of the same calls, from two arenas, that have the same room after each step
   abbrev pub RunInSameRoom : {T : Type 0} → Links Gen T → Links Gen T → List (Call P T I Gen W) → List (Reply P T I Gen W) → List (Reply P T I Gen W) → Links Gen T → Links Gen T → Type 0
