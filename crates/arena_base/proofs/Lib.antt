@@ -2,6 +2,7 @@ mod Alike
 pub mod Closing
 pub mod Copying
 pub mod Filling
+pub mod Finding
 mod FreeSlots
 pub mod Gathering
 mod Holding

@@ -1,44 +1,21 @@
 -- A link that is added behind another, in any arena of links, or taken out again.
-use Rattle.std.proofs.Common.{◌≡◌, ◌≢◌, ℕ, suc, ◌<◌, List, [], ◌∷◌, ◌++◌, Option, None, Some, refl, ap, sym, ◌∙◌, subst, arith, ⊎_elim}
-use Rattle.std.specs.Prelude.{◌==◌, cond, is_some, true, false, OnSome}
+use Rattle.std.proofs.Common.{◌≡◌, ◌≢◌, ℕ, List, [], ◌∷◌, ◌++◌, Option, None, Some, refl, ap, sym, ◌∙◌, subst, ⊎_elim}
+use Rattle.std.specs.Prelude.{is_some, true, false, OnSome}
 use Rattle.std.proofs.lemmas.Bool.{cases_eq}
 use Rattle.chain_laws.specs.Chains.{Shown, Chain, linear, items, Has, IsChain, prev_in, prev_of, next_of}
 use Rattle.chain_laws.specs.Operations.{joined, with_lone}
-use Rattle.chain_laws.proofs.Agreement.{if_same, if_other}
 use Rattle.chain_laws.proofs.Alone.{with_lone_adds, next_of-with_lone, prev_of-with_lone}
 use Rattle.chain_laws.proofs.Joining.{joined_connects}
 use Rattle.chain_laws.proofs.Unique.{chain_valid}
 use Rattle.arena_base.specs.Arena.{IsValid}
 use Rattle.arena_base.specs.Entries.{found, without, RisesFrom}
+use Rattle.arena_base.proofs.Finding.{found-gone, found-kept}
 use Rattle.trait_trials.specs.Behind.{Extends}
 use Rattle.chain_links.specs.ChainArena.{IsInserted, CanConnect}
 
 none_of : {X : Type 0} (o : Option X) → is_some o ≡ false → o ≡ None
 none_of None is = refl
 none_of (Some x) is = absurd (let h = is in cc)
-
-module _ {Gen T : Type 0} where
-  -- an index below the entries finds none
-  found-low : (i j : ℕ) (es : List ((ℕ × Gen) × T)) → i < j → RisesFrom j es → found i es ≡ None
-  found-low i j [] below rises = refl
-  found-low i j (e ∷ es) below rises = if_other e.0.0 i (Some (e.0.1, e.1)) (found i es) (λ is. absurd (omega (arith, is, below, rises.0)))
-      ∙ found-low i (suc e.0.0) es (omega (arith, below, rises.0)) rises.1
-
-  -- a removed index finds nothing, and every other one what it did
-  found-gone : (n j : ℕ) (es : List ((ℕ × Gen) × T)) → RisesFrom j es → found n (without n es) ≡ None
-  found-gone n j [] rises = refl
-  found-gone n j (e ∷ es) rises = ⊎_elim
-      (λ is. ap (found n) (if_same e.0.0 n es (e ∷ without n es) is) ∙ found-low n (suc e.0.0) es (omega (arith, is)) rises.1)
-      (λ other. ap (found n) (if_other e.0.0 n es (e ∷ without n es) other)
-      ∙ (if_other e.0.0 n (Some (e.0.1, e.1)) (found n (without n es)) other ∙ found-gone n (suc e.0.0) es rises.1))
-      (cases_eq e.0.0 n)
-
-  found-kept : (i n : ℕ) (es : List ((ℕ × Gen) × T)) → i ≢ n → found i (without n es) ≡ found i es
-  found-kept i n [] other = refl
-  found-kept i n (e ∷ es) other = ⊎_elim
-      (λ is. ap (found i) (if_same e.0.0 n es (e ∷ without n es) is) ∙ sym (if_other e.0.0 i (Some (e.0.1, e.1)) (found i es) (λ same. other (sym same ∙ is))))
-      (λ differs. ap (found i) (if_other e.0.0 n es (e ∷ without n es) differs) ∙ ap (cond (e.0.0 == i) (Some (e.0.1, e.1))) (found-kept i n es other))
-      (cases_eq e.0.0 n)
 
 module _ {Gen T : Type 0} (old mid : ℕ → Option (Gen × T)) (q : ℕ × Gen) (t : T) (inserted : IsInserted old mid q t) where
   -- what was inserted and taken out again leaves what was there

@@ -1,0 +1,19 @@
+-- What stands at an index is found among the entries.
+use Rattle.std.proofs.Common.{ap, sym, ◌∙◌}
+use Rattle.arena_base.specs.Entries.{found}
+use Rattle.arena_base.proofs.Finding.{found-gone, found-kept}
+use Rattle.arena_base.proofs.entry_laws.entries_tell_what_stands.Goals as goal
+
+pub returns-clause-same : goal.returns-clause-same
+returns-clause-same g c a b i is =
+    let looked = g.met.A.ArenaTrait.looked_up in
+    sym (looked b i) ∙ (ap (found i) is ∙ looked a i)
+
+pub returns-clause-gone : goal.returns-clause-gone
+returns-clause-gone g c a b i is =
+    sym (g.met.A.ArenaTrait.looked_up b i) ∙ (ap (found i) is ∙ found-gone i 1 (g.A.ArenaTrait.seen a).entries (g.met.A.ArenaTrait.rises a))
+
+pub returns-clause-kept : goal.returns-clause-kept
+returns-clause-kept g c a b i j is other =
+    let looked = g.met.A.ArenaTrait.looked_up in
+    sym (looked b j) ∙ (ap (found j) is ∙ (found-kept j i (g.A.ArenaTrait.seen a).entries other ∙ looked a j))
