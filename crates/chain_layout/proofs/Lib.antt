@@ -23,3 +23,4 @@ pub mod Beginning
 pub mod Lending
 pub mod Bringing
 pub mod Telling
+pub mod Pointing

@@ -5,3 +5,4 @@ pub mod Looks
 pub mod Counts
 pub mod Moving
 pub mod Numbering
+pub mod PointerMoves
