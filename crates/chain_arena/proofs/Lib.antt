@@ -22,3 +22,4 @@ pub mod Within
 pub mod Writing
 pub mod Canonizing
 pub mod Placing
+pub mod Pointing

@@ -5,3 +5,4 @@ pub mod Steps
 pub mod Recasting
 pub mod Growths
 pub mod Places
+pub mod PointerTransfers

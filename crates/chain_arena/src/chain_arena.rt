@@ -9,6 +9,7 @@ ghost use Rattle.chain_links.specs.ChainArena.{entry, seen, shown, IsRemoval, Is
 ghost use Rattle.chain_links.specs.Kinds.{names_in};
 ghost use Rattle.chain_interlinks.specs.Gaps.{IsGapOf};
 ghost use Rattle.chain_layout.specs.Layouts.{ShowsAll, ShowsLayout, AreAllMoves};
+ghost use Rattle.chain_layout.specs.PointerMoves.{ArePointerMoves};
 ghost use Rattle.chain_links.specs.CanonicalLayouts.{IsCanonicalLayout};
 ghost use Rattle.chain_links.specs.Links.{seen_pair};
 
@@ -155,8 +156,9 @@ impl<P: PtrKey, T: Drop, S: SlotStack<Item = ArenaSlot<P, LinkNoGen<P, T>>>> Cha
         overflow
     }
 
-    /// `compress_canonical`, which answers the pointers that each link had and has, by rising new index. The room for them
-    /// is taken first.
+    /// `compress_canonical`, which answers the pointers that each link had and has, by rising new index: its value has moved
+    /// from the one, which was valid, to the other, which is, and no others were or are valid. The room for them is taken
+    /// first.
     ///
     /// `AllocError`: memory for the pointers was refused, and nothing has changed. `GenerationOverflow`: the counter was at
     /// its greatest, and is two now.
@@ -168,6 +170,7 @@ impl<P: PtrKey, T: Drop, S: SlotStack<Item = ArenaSlot<P, LinkNoGen<P, T>>>> Cha
         ensures canonical { OnOk result (IsCanonicalLayout P.Gen.first P.Gen.following reset (seen self.old) (shown self.old) (seen self.new) (shown self.new)) }
         ensures stack_capacity { self.new.stack_capacity ≡ self.old.stack_capacity }
         ensures moves { IfOk result (λ r. AreAllMoves P.key (seen self.old) (shown self.old) self.new.counter r.1.items) }
+        ensures by_pointer { IfOk result (λ r. ArePointerMoves P.key (entry self.old) (entry self.new) r.1.items) }
         ensures overflow { IfOk result (λ r. r.0 ≡ invalidation_option (overflows_after_compression P.Gen.wraps reset (entry_count self.old) self.old.counter) tt) }
         ensures err { OnErr result (self.new ≡ self.old) }
         ensures agreed { Agrees (shown self.old) }

@@ -24,13 +24,15 @@ pub use chain_advancer::ChainPtrAdvancer;
 pub use chain_arena::ChainArena;
 pub use chain_drains::ChainDrain;
 pub use chain_interlinks::{ChainIter, links_agree};
+pub use chain_layout::visiting::Visitor;
 pub use chain_links::{
     InsertKindBody, Link, LinkBody, LinkInsertKind, LinkNoGen, links_compare_by_neighbors,
 };
-pub use chain_layout::visiting::Visitor;
 pub use chain_traits::ChainArenaTrait;
 pub use insert_entry::ChainArenaInsertEntry;
 pub use iterators::ValIter;
 pub use link_drains::LinkDrain;
-pub use transfer::compression_and_transfer_agree;
+pub use transfer::{
+    compression_and_transfer_agree, compression_moves_pointers, transfer_moves_pointers,
+};
 pub use visiting::Showing;

@@ -7,7 +7,9 @@ ghost use Rattle.arena_base.specs.Arena.{HasRoom, IsListed, with_capacity_of, en
 ghost use Rattle.arena_base.specs.Entries.{count};
 ghost use Rattle.chain_links.specs.ChainArena.{shown, insert_between};
 ghost use Rattle.chain_interlinks.specs.Gaps.{before_in, after_in};
+ghost use Rattle.chain_layout.specs.PointerMoves.{CompressionMovesPointers};
 ghost use Rattle.chain_arena.specs.Transfers.{LaysOutAlike, IsTransfer, AreEnds};
+ghost use Rattle.chain_arena.specs.PointerTransfers.{TransferMovesPointers};
 
 use crate::chain_arena::ChainArena;
 use arena_base::{Advancer, ArenaSlot, ArenaTrait, CompactArenaTrait};
@@ -192,4 +194,22 @@ pub fn compression_and_transfer_agree<
     F: FnMut(Q, InvalidationOption<U>, P) -> T + Drop,
 >()
     ensures { LaysOutAlike Q.key P.key Q.Gen.first Q.Gen.following Q.Gen.wraps F.FnMut }
+{}
+
+/// A canonical compression moves each value from a pointer that was valid to one that is, and no other pointer was or is
+/// valid. It says so of any arena of links, and of the pointers that all links had and have.
+pub fn compression_moves_pointers<P: PtrKey, T: Drop>()
+    ensures { CompressionMovesPointers T P.key P.Gen.first P.Gen.following }
+{}
+
+/// A transfer moves each link from a pointer that was valid in the source, with the value that the closure was told, to
+/// one that is valid in the target, with its answer; no other pointer was valid there, or is valid here.
+pub fn transfer_moves_pointers<
+    P: PtrKey,
+    T: Drop,
+    Q: PtrKey,
+    U: Drop,
+    F: FnMut(Q, InvalidationOption<U>, P) -> T + Drop,
+>()
+    ensures { TransferMovesPointers Q.key P.key Q.Gen.following Q.Gen.wraps F.FnMut }
 {}
