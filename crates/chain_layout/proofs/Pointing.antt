@@ -17,7 +17,7 @@ use Rattle.arena_base.specs.Entries.{found, index_of, RisesFrom}
 use Rattle.arena_base.specs.Compressing.{values_in}
 use Rattle.chain_links.specs.ChainArena.{ptr_at}
 use Rattle.chain_links.proofs.Mapping.{generation_is}
-use Rattle.chain_layout.specs.PointerMoves.{AreMoved, StandsWhere, CompressionMovesPointers}
+use Rattle.chain_layout.specs.PointerMoves.{AreMoved, StandsWhere, CompressionMovesPointers, CompressionHasMoves}
 
 module _ {Gen T : Type 0} where
   -- entries at the indexes of a run rise
@@ -181,3 +181,28 @@ compression_moves_pointers {P} {Gen} {T} key first following reset old new links
         all.to
         ∙ (ap (λ n. map (λ k. (k, layout.generation)) (range_with_len 1 n)) long
         ∙ sym (keys-run layout.generation (range_with_len 1 (length old.entries)) new.entries layout.keys (recursion_from_All _ new.entries layout.generations)))
+
+module _ {Gen T : Type 0} (entry : ℕ → Option (Gen × T)) where
+  what_stands : (o : Option (Gen × T)) → is_some o ≡ true → (e : Gen × T) × (o ≡ Some e)
+  what_stands None some = absurd (let h = some in cc)
+  what_stands (Some e) some = (e, refl)
+
+  -- the pointers at some indexes, where something stands at each, and those of a run
+  pairs_of : (g : Gen) (n : ℕ) (indexes : List ℕ) → ((i : ℕ) → Has indexes i → is_some (entry i) ≡ true)
+      → (moves : List ((ℕ × Gen) × (ℕ × Gen))) × (map (λ (m : (ℕ × Gen) × (ℕ × Gen)). Some m.0) moves ≡ map (ptr_at entry) indexes)
+      × (map (λ (m : (ℕ × Gen) × (ℕ × Gen)). m.1) moves ≡ map (λ k. (k, g)) (range_with_len n (length indexes)))
+  pairs_of g n [] there = ([], refl, refl)
+  pairs_of g n (i ∷ indexes) there =
+      let rest = pairs_of g (n + 1) indexes (λ j has. there j (inr has)) in
+      let here = what_stands (entry i) (there i (inl refl)) in (
+        ((i, here.0.0), (n, g)) ∷ rest.0,
+        ap₂ (λ (p : Option (ℕ × Gen)) (ps : List (Option (ℕ × Gen))). p ∷ ps) (sym (ap (option_map (λ (e : Gen × T). (i, e.0))) here.1)) rest.1,
+        ap (λ (ps : List (ℕ × Gen)). (n, g) ∷ ps) rest.2,
+      )
+
+-- a canonical compression has moves
+pub compression_has_moves : {Gen T : Type 0} (first : Gen) (following : Gen → Gen) → CompressionHasMoves T first following
+compression_has_moves {Gen} {T} first following reset old new links new_links before looked stand layout =
+    let pairs = pairs_of (λ i. found i old.entries) layout.generation 1 layout.indexes
+    (λ i has. ap is_some (looked i) ∙ (sym (stand i) ∙ ap is_some ((layout.order.are.partition.valid i).1 (subst (λ (is : List ℕ). Has is i) layout.order.items has)).shows)) in
+    (pairs.0, record { indexes = layout.indexes; order = layout.order; from = pairs.1; to = pairs.2 })
