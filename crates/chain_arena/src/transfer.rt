@@ -7,7 +7,7 @@ ghost use Rattle.arena_base.specs.Arena.{HasRoom, IsListed, with_capacity_of, en
 ghost use Rattle.arena_base.specs.Entries.{count};
 ghost use Rattle.chain_links.specs.ChainArena.{shown, insert_between};
 ghost use Rattle.chain_interlinks.specs.Gaps.{before_in, after_in};
-ghost use Rattle.chain_layout.specs.PointerMoves.{CompressionMovesPointers};
+ghost use Rattle.chain_layout.specs.PointerMoves.{CompressionMovesPointers, CompressionHasMoves};
 ghost use Rattle.chain_arena.specs.Transfers.{LaysOutAlike, IsTransfer, AreEnds};
 ghost use Rattle.chain_arena.specs.PointerTransfers.{TransferMovesPointers};
 
@@ -197,9 +197,11 @@ pub fn compression_and_transfer_agree<
 {}
 
 /// A canonical compression moves each value from a pointer that was valid to one that is, and no other pointer was or is
-/// valid. It says so of any arena of links, and of the pointers that all links had and have.
+/// valid. It says so of any arena of links, and of the pointers that all links had and have, whether a call tells them
+/// or not.
 pub fn compression_moves_pointers<P: PtrKey, T: Drop>()
-    ensures { CompressionMovesPointers T P.key P.Gen.first P.Gen.following }
+    ensures moves { CompressionMovesPointers T P.key P.Gen.first P.Gen.following }
+    ensures untold { CompressionHasMoves T P.Gen.first P.Gen.following }
 {}
 
 /// A transfer moves each link from a pointer that was valid in the source, with the value that the closure was told, to

@@ -17,6 +17,7 @@ use Rattle.arena_base.specs.Entries.{found, index_of, RisesFrom}
 use Rattle.arena_base.specs.Compressing.{values_in}
 use Rattle.chain_links.specs.ChainArena.{ptr_at}
 use Rattle.chain_links.proofs.Mapping.{generation_is}
+use Rattle.chain_layout.specs.Layouts.{AreAllMoves}
 use Rattle.chain_layout.specs.PointerMoves.{AreMoved, StandsWhere, CompressionMovesPointers, CompressionHasMoves}
 
 module _ {Gen T : Type 0} where
@@ -202,7 +203,14 @@ module _ {Gen T : Type 0} (entry : ℕ → Option (Gen × T)) where
 
 -- a canonical compression has moves
 pub compression_has_moves : {Gen T : Type 0} (first : Gen) (following : Gen → Gen) → CompressionHasMoves T first following
-compression_has_moves {Gen} {T} first following reset old new links new_links before looked stand layout =
-    let pairs = pairs_of (λ i. found i old.entries) layout.generation 1 layout.indexes
-    (λ i has. ap is_some (looked i) ∙ (sym (stand i) ∙ ap is_some ((layout.order.are.partition.valid i).1 (subst (λ (is : List ℕ). Has is i) layout.order.items has)).shows)) in
-    (pairs.0, record { indexes = layout.indexes; order = layout.order; from = pairs.1; to = pairs.2 })
+compression_has_moves {Gen} {T} first following reset old new links new_links before after looked_before looked_after stand layout =
+    (pairs.0, all, compression_moves_pointers (λ (p : ℕ × Gen). p) first following reset old new links new_links before after pairs.0 looked_before looked_after stand layout all)
+  where
+    pairs : (moves : List ((ℕ × Gen) × (ℕ × Gen))) × (map (λ (m : (ℕ × Gen) × (ℕ × Gen)). Some m.0) moves ≡ map (ptr_at (λ i. found i old.entries)) layout.indexes)
+        × (map (λ (m : (ℕ × Gen) × (ℕ × Gen)). m.1) moves ≡ map (λ k. (k, layout.generation)) (range_with_len 1 (length layout.indexes)))
+    pairs =
+        pairs_of (λ i. found i old.entries) layout.generation 1 layout.indexes
+        (λ i has. ap is_some (looked_before i) ∙ (sym (stand i) ∙ ap is_some ((layout.order.are.partition.valid i).1 (subst (λ (is : List ℕ). Has is i) layout.order.items has)).shows))
+
+    all : AreAllMoves (λ (p : ℕ × Gen). p) old links layout.generation pairs.0
+    all = record { indexes = layout.indexes; order = layout.order; from = pairs.1; to = pairs.2 }

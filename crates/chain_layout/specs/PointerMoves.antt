@@ -42,6 +42,6 @@ CompressionMovesPointers {P} {Gen} T key first following =
 -- .. and there are such pointers, also where they are not told
 abbrev pub CompressionHasMoves : {Gen : Type 0} → Type 0 → Gen → (Gen → Gen) → Type 0
 CompressionHasMoves {Gen} T first following =
-    (reset : Bool) (old new : Seen Gen T) (links new_links : Shown) (before : ℕ → Option (Gen × T)) → LooksUp old before → StandsWhere links before
-    → (layout : IsCanonicalLayout first following reset old links new new_links)
-    → (moves : List ((ℕ × Gen) × (ℕ × Gen))) × AreAllMoves (λ p. p) old links layout.generation moves
+    (reset : Bool) (old new : Seen Gen T) (links new_links : Shown) (before after : ℕ → Option (Gen × T))
+    → LooksUp old before → LooksUp new after → StandsWhere links before → (layout : IsCanonicalLayout first following reset old links new new_links)
+    → (moves : List ((ℕ × Gen) × (ℕ × Gen))) × AreAllMoves (λ p. p) old links layout.generation moves × ArePointerMoves (λ p. p) before after moves
