@@ -1,10 +1,12 @@
-// Arenas with a maximum.
+// Arenas with a maximum, and what becomes of values and growths that are refused.
 use crate::tests::pointers::SmallPtr;
-use crate::tests::scripts::{Answers, Call, runs};
+use crate::tests::scripts::{Answers, Call, Script, plays, runs};
+use crate::tests::stacks::Rationed;
 use crate::tests::tools::{Slot, same};
 use arena_base::{Arena, ArenaSlot, ArenaTrait};
 use arena_ptr::{
-    LimitStack, LimitedStack, MaxCapacityReductionError, PtrKey, SetMaxCapacity, SlotStack,
+    HeapStack, LimitStack, LimitedStack, MaxCapacityReductionError, PtrKey, SetMaxCapacity,
+    SlotStack,
 };
 use std::alloc::Global;
 use std::process::Abort;
@@ -111,4 +113,30 @@ fn refused_values_are_dropped(rt: HostRuntime) {
         let values = handed::<SmallPtr, LimitedStack<Shared<SmallPtr>>>(&rt, rt.alloc(), most);
         same(&rt, "values", values, want);
     }
+}
+
+// The first request for memory is refused, and so is every other one after it: a call that is refused has asked once.
+const EVERY_OTHER: [Script; 1] = [(
+    "every other request is refused",
+    &[
+        (Call::Insert(1), "Err(AllocError)"),
+        (Call::Insert(1), "Ok(1.2)"),
+        (Call::Insert(2), "Err(AllocError)"),
+        (Call::Insert(2), "Ok(2.2)"),
+        (Call::Reserve(3), "Err(AllocError)"),
+        (Call::Reserve(3), "Ok(())"),
+        (Call::CopyHole, "(Ok(2), 2)"),
+        (Call::Reserve(9), "Err(AllocError)"),
+        (Call::Capacity, "4"),
+        (Call::Born(3), "None"),
+    ],
+)];
+
+#[test]
+fn refused_memory_is_not_asked_for_again(rt: HostRuntime) {
+    plays::<Arena<SmallPtr, u32, Rationed<HeapStack<Slot<SmallPtr>>>>>(
+        &rt,
+        rt.alloc(),
+        &EVERY_OTHER,
+    );
 }

@@ -63,9 +63,9 @@ fn limit<S: LimitStack>(stack: &mut S, n: usize) -> Result<(), MaxCapacityReduct
     stack.set_max_capacity(n)
 }
 
-// A stack over another that refuses to grow once its ration is used up.
+// A stack over another that grows as often as its ration, then refuses once, and has a ration of one after that.
 #[derive(Drop)]
-struct Rationed<S> {
+pub(super) struct Rationed<S> {
     inner: S,
     ration: u32,
 }
@@ -128,6 +128,7 @@ impl<S: SlotStack> SlotStack for Rationed<S> {
             return Err(ReallocationError::BeyondMaxCapacity);
         }
         if self.ration == 0 {
+            self.ration = 1;
             return Err(ReallocationError::AllocError);
         }
         self.ration -= 1;

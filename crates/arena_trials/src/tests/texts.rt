@@ -1,6 +1,6 @@
 // The texts of indexes, generations and pointers.
-use crate::tests::tools::{gen8, gen32, gen64, inx8, inx32, inx64, same};
-use arena_ptr::{Gen32, Ptr, PtrGen, PtrInx, ToolPtr};
+use crate::tests::tools::{gen8, gen32, gen64, inx8, inx32, inx64, same, text};
+use arena_ptr::{Gen32, Inx8, Ptr, PtrGen, PtrInx, ToolPtr};
 use std::alloc::Global;
 use std::fmt;
 use std::process::Abort;
@@ -43,4 +43,13 @@ fn the_text_of_a_pointer_has_its_name(rt: HostRuntime) {
     let name = ToolPtr::name();
     let texts = format!(in rt.alloc(); "{name} {p:?} {p:#?}").expect(&rt, "memory");
     same(&rt, "the texts", texts.as_str(), "P0 P0[1a](b) P0[1a](b)");
+}
+
+// An optional index in a word is written as the optional index that it means.
+#[test]
+fn the_text_of_a_packed_index_is_that_of_the_index(rt: HostRuntime) {
+    let packed = (Inx8::pack(None), Inx8::pack(Some(inx8(&rt, 3))));
+    let texts = text(&rt, rt.alloc(), packed);
+    let want = "(None, Some(Inx8 { number: 3 }))";
+    same(&rt, "none and an index", texts.as_str(), want);
 }
