@@ -14,6 +14,7 @@ mod recasting;
 mod scripts;
 mod steps;
 mod texts;
+mod values;
 
 use arena_base::ArenaSlot;
 use arena_ptr::{Gen32, Inx32, LimitedStack, Ptr, SetMaxCapacity, ToolPtr};

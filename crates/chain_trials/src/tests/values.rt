@@ -1,0 +1,143 @@
+//! Values that tell how many of them there are, or how often they were cloned: none is lost, and none is cloned twice.
+
+use super::{at, put, same};
+use arena_base::{Arena, ArenaTrait};
+use arena_ptr::{Inx32, ToolPtr};
+use chain_arena::{Call, ChainArena, LinkBody, LinkInsertKind, LinkNoGen, apply};
+use std::alloc::{AllocError, Global};
+use std::cell::Cell;
+use std::marker::Model;
+use std::process::Abort;
+use std::rc::Rc;
+
+// One of several equal values, each of which tells how many of them there are.
+fn shared(rt: &impl Abort, alloc: Global) -> Rc<u8> {
+    Rc::new(alloc, 5).ok().expect(rt, "memory")
+}
+
+// One more of them.
+fn one_more(rt: &impl Abort, value: &Rc<u8>) -> Rc<u8> {
+    value.clone().expect(rt, "one more")
+}
+
+// A chain of three values, and a lone link.
+fn chain_and_lone(rt: &impl Abort, alloc: Global, value: &Rc<u8>) -> ChainArena<ToolPtr, Rc<u8>> {
+    let mut arena = ChainArena::new(alloc);
+    let mut kind = LinkInsertKind::Disconnected;
+    for _ in 0..3 {
+        kind = LinkInsertKind::ChainEnd(put(rt, &mut arena, kind, one_more(rt, value)));
+    }
+    put(
+        rt,
+        &mut arena,
+        LinkInsertKind::Disconnected,
+        one_more(rt, value),
+    );
+    arena
+}
+
+// Drains the chain by a call as a value, which takes so many links one by one. Tells how many links are left, and how many
+// values there are.
+fn left_by_a_drain(rt: &impl Abort, alloc: Global, take: usize) -> (usize, usize) {
+    let value = shared(rt, alloc);
+    let mut arena = chain_and_lone(rt, alloc, &value);
+    let p = at(rt, (1, 2));
+    drop(apply(&mut arena, Call::DrainChain { p, take }));
+    (arena.len(), Rc::strong_count(&value))
+}
+
+// There are the value of the lone link, and the one that they are shared from.
+#[test]
+fn drained_values_are_dropped(rt: HostRuntime) {
+    for take in [0, 1, 5] {
+        let left = left_by_a_drain(&rt, rt.alloc(), take);
+        same(&rt, "links and values", left, (1, 2));
+    }
+}
+
+// A plain arena of two links, of which the first names this index as the one after it.
+fn plain_pair(
+    rt: &impl Abort,
+    alloc: Global,
+    value: &Rc<u8>,
+    next: u32,
+) -> Arena<ToolPtr, LinkNoGen<ToolPtr, Rc<u8>>> {
+    let mut arena = Arena::new(alloc);
+    for next in [next, 0] {
+        let link = LinkBody::new((None, Inx32::new(next)), one_more(rt, value));
+        assert!(rt; arena.insert_reallocating(link).is_ok());
+    }
+    arena
+}
+
+// Whether a plain arena of two links is refused, and how many values there are then.
+fn left_by_a_refusal(rt: &impl Abort, alloc: Global, next: u32) -> (bool, usize) {
+    let value = shared(rt, alloc);
+    let made = ChainArena::from_arena(plain_pair(rt, alloc, &value, next));
+    (made.is_err(), Rc::strong_count(&value))
+}
+
+// Of an arena that is refused, no value is left.
+#[test]
+fn a_refused_arena_is_dropped_with_its_values(rt: HostRuntime) {
+    for (next, want) in [(2, (true, 1)), (0, (false, 3))] {
+        let left = left_by_a_refusal(&rt, rt.alloc(), next);
+        same(&rt, "refused, and values", left, want);
+    }
+}
+
+// A value that counts how often it was cloned, with its clones. Contracts see no count, so all such values are equal.
+#[derive(Drop)]
+struct Counted {
+    clones: Rc<Cell<u32>>,
+}
+
+impl Model for Counted {
+    ghost use Rattle.std.specs.Prelude.{⊤};
+
+    ghost Value = { ⊤ };
+
+    ghost view = { λ _. tt };
+}
+
+impl Clone for Counted {
+    ghost use Rattle.std.specs.Prelude.{◌≡◌};
+
+    ghost is_clone = { λ x y. y ≡ x };
+
+    fn clone(&self) -> Result<Counted, AllocError> {
+        let clones = self.clones.clone()?;
+        clones.set(clones.get().saturating_add(1));
+        Ok(Counted { clones })
+    }
+}
+
+// Three links, of which the second is removed.
+fn counted_with_a_hole(
+    rt: &impl Abort,
+    alloc: Global,
+    clones: &Rc<Cell<u32>>,
+) -> ChainArena<ToolPtr, Counted> {
+    let mut arena = ChainArena::new(alloc);
+    for _ in 0..3 {
+        let clones = clones.clone().expect(rt, "one more");
+        put(
+            rt,
+            &mut arena,
+            LinkInsertKind::Disconnected,
+            Counted { clones },
+        );
+    }
+    arena.remove(at(rt, (2, 2)));
+    arena
+}
+
+#[test]
+fn a_clone_clones_each_value_once(rt: HostRuntime) {
+    let clones = Rc::new(rt.alloc(), Cell::new(0)).ok();
+    let clones = clones.expect(&rt, "memory");
+    let arena = counted_with_a_hole(&rt, rt.alloc(), &clones);
+    let copy = arena.clone(rt.alloc()).expect(&rt, "memory");
+    let count = (copy.len(), clones.get());
+    same(&rt, "links and clones", count, (2, 2));
+}
