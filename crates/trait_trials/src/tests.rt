@@ -8,6 +8,7 @@ mod pointers;
 mod rows;
 mod scripts;
 mod sizes;
+mod sparing;
 mod texts;
 mod transfers;
 

@@ -1,7 +1,8 @@
-//! Other pointers: the greatest index, the greatest generation, wide indexes, no generations; and a maximum.
+//! Other pointers: the greatest index, the greatest generation, wide indexes, no generations; a maximum; and memory that is refused.
 
 use super::pointers::{BarePtr, Pair, SmallPtr, TinyInx, TinyPtr, WidePtr};
 use super::scripts::{Do, Kind, Line, Script, plays_all};
+use super::sparing::Sparing;
 use super::transfers::{AT_THE_GREATEST_GENERATION, WIDE, WITHOUT_GENERATIONS};
 use super::{Counted, NONE, Row, Slot, limited, same};
 use arena_base::{ArenaSlot, ArenaTrait};
@@ -194,4 +195,26 @@ fn refused_values_are_dropped(rt: HostRuntime) {
         let values = handed::<LimitedStack<Shared>>(&rt, rt.alloc(), most);
         same(&rt, "values", values, want);
     }
+}
+
+// The first request for memory is refused, and so is every other one after it: a call that is refused has asked once.
+const EVERY_OTHER: [Script; 1] = [(
+    "every other request is refused",
+    0,
+    &[],
+    &[
+        Line::Says(Do::Insert(LONE, 1), "Err(AllocError)"),
+        Line::Says(Do::Insert(LONE, 1), FIRST),
+        Line::Says(Do::Apply(LONE, 2), "Err(AllocError)"),
+        Line::Says(Do::Insert(LONE, 2), SECOND),
+        Line::Says(Do::Reserve(9), "Err(AllocError)"),
+        Line::Says(Do::Room, "(2, 2)"),
+        Line::Says(Do::Reserve(9), "Ok(())"),
+        Line::Says(Do::Room, "(2, 9)"),
+    ],
+)];
+
+#[test]
+fn refused_memory_is_not_asked_for_again(rt: HostRuntime) {
+    plays_at::<Inx8, (), Sparing<HeapStack<Slot<BarePtr>>>>(&rt, rt.alloc(), &EVERY_OTHER);
 }

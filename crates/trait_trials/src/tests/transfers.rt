@@ -3,7 +3,7 @@
 use super::pointers::BarePtr;
 use super::rows::{BEHIND_A_HOLE, BEHIND_HOLES, BY_LEAST_INDEX, INTERLEAVED, SCATTERED};
 use super::scripts::{Do, Line, Script};
-use super::{Chains, Counted, NONE, Numbered, Slot, limited, put, text};
+use super::{Chains, Counted, NONE, Numbered, Slot, limited, put, same, text};
 use arena_base::{ArenaTrait, CompactArenaTrait};
 use arena_ptr::{Gen32, LimitStack, LimitedStack, Ptr, PtrKey, SlotStack, ToolPtr};
 use chain_arena::{ChainArena, ChainArenaTrait, LinkInsertKind};
@@ -55,8 +55,9 @@ fn carry<
     text(rt, alloc, (answer, seen))
 }
 
-// What was told of a transfer, the links there now, and the counter.
+// What was told of a transfer, the links there now, and the counter. Of room for so few links there is little.
 fn arrival(rt: &impl Abort, alloc: Global, told: String, target: &Chains) -> String {
+    same(rt, "little room", target.capacity() <= 64, true);
     let counter = target.generation().number();
     format!(in alloc; "({told}, {target:?}, {counter})").expect(rt, "memory")
 }
