@@ -324,11 +324,11 @@ pub trait ArenaCloneFromWith<P: PtrKey, T: Drop>: ArenaTrait<P, T> {
     ///
     /// `BeyondMaxCapacity`: the source has more slots than the maximum, which is tested first. `AllocError`: memory was
     /// refused. After either nothing has changed.
-    final fn clone_from_with<U: Drop, S1: SlotStack<Item = ArenaSlot<P, U>>, F: FnMut(P, &U) -> T + Drop>(
-        &mut self,
-        source: &Arena<P, U, S1>,
-        map: F,
-    ) -> Result<(), ReallocationError>
+    final fn clone_from_with<
+        U: Drop,
+        S1: SlotStack<Item = ArenaSlot<P, U>>,
+        F: FnMut(P, &U) -> T + Drop,
+    >(&mut self, source: &Arena<P, U, S1>, map: F) -> Result<(), ReallocationError>
         requires { F.IsAlwaysCallable map }
         ensures within { length source.now.slots ≤ (Self.seen self.old).capacity → IsOk result × ((Self.seen self.new).capacity ≡ (Self.seen self.old).capacity) }
         ensures beyond { (result ≡ Err ReallocationError.BeyondMaxCapacity) ↔ IsBeyond (Self.seen self.old).maximum (length source.now.slots) }

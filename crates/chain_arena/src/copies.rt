@@ -62,11 +62,7 @@ impl<P: PtrKey, T: Drop, S: SlotStack<Item = ArenaSlot<P, LinkNoGen<P, T>>>> Cha
         U: Drop,
         S1: SlotStack<Item = ArenaSlot<P, LinkNoGen<P, U>>>,
         M: ValueMap<P, LinkNoGen<P, U>, T>,
-    >(
-        &mut self,
-        source: &ChainArena<P, U, S1>,
-        values: M,
-    ) -> (Result<(), ReallocationError>, M)
+    >(&mut self, source: &ChainArena<P, U, S1>, values: M) -> (Result<(), ReallocationError>, M)
         requires { M.is_ready values }
         ensures within { length source.now.slots ≤ self.old.capacity →
             (IsOk result.0 ⊎ HasRefusable (RefusesOf (seen_link P.Inx.packed_number) M.may_refuse) P.key (entries source.now)) × (self.new.capacity ≡ self.old.capacity) }
@@ -78,9 +74,7 @@ impl<P: PtrKey, T: Drop, S: SlotStack<Item = ArenaSlot<P, LinkNoGen<P, T>>>> Cha
             ⊎ (HasRefusable (RefusesOf (seen_link P.Inx.packed_number) M.may_refuse) P.key (entries source.now) × IsGivenUp self.old self.new)) }
         ensures agreed { Agrees (shown source.now) }
     {
-        let (done, links) = self
-            .arena
-            .clone_from_by(&source.arena, LinkMap { values });
+        let (done, links) = self.arena.clone_from_by(&source.arena, LinkMap { values });
         (done, links.values)
     }
 
