@@ -7,3 +7,4 @@ pub mod Kinds
 pub mod Insertions
 pub mod Walkers
 pub mod CanonicalLayouts
+pub mod Calls

@@ -10,12 +10,11 @@ ghost use Rattle.chain_laws.specs.Removals.{removed, Removes};
 ghost use Rattle.chain_laws.specs.Renamings.{IsRenaming};
 ghost use Rattle.chain_laws.specs.Arrangements.{place_in};
 ghost use Rattle.arena_base.specs.Arena.{IsValid, IsRoom};
-ghost use Rattle.arena_base.specs.Entries.{count, index_of, HasRoomLeft, NeedsBeyondMaximum};
-ghost use Rattle.arena_base.specs.Entries.{removed as seen_removed};
+ghost use Rattle.arena_base.specs.Entries.{count, index_of, NeedsBeyondMaximum};
 ghost use Rattle.arena_base.specs.Compressing.{overflows_after_compression};
 ghost use Rattle.chain_links.specs.ChainArena.{link_at, on_value, CanConnect, CanExchange, IsLinkAt};
-ghost use Rattle.chain_links.specs.Insertions.{IsInsertion};
-ghost use Rattle.chain_links.specs.Kinds.{names_in, by_index, MayInsert};
+ghost use Rattle.chain_links.specs.Calls.{GainsLink, IsFull, LosesLink, SucceedsInRoom, YieldsLink};
+ghost use Rattle.chain_links.specs.Kinds.{names_in, MayInsert};
 ghost use Rattle.chain_links.specs.CanonicalLayouts.{IsCanonicalLayout};
 ghost use Rattle.chain_links.specs.Links.{seen_link, seen_lent};
 ghost use Rattle.chain_laws.specs.Walks.{Walker, walker_at};
@@ -59,12 +58,12 @@ pub trait ChainArenaTrait<P: PtrKey, T: Drop>: ArenaTrait<P, T> {
         t: T,
     ) -> Result<P, ChainInsertionError>
         ensures may { OnOk result (MayInsert (Self.entry self.old) (interlinks self.old) (names_in P.key P.Inx.number kind)) }
-        ensures inserted { IfOk result (λ p. IsInsertion (by_index (names_in P.key P.Inx.number kind)) (Self.seen self.old) (Self.seen self.new) (Self.entry self.old) (Self.entry self.new) (interlinks self.old) (interlinks self.new) (P.key p) t) }
+        ensures inserted { IfOk result (λ p. GainsLink Self.seen Self.entry interlinks (names_in P.key P.Inx.number kind) t self.old (P.key p) self.new) }
         ensures agreed { Agrees (interlinks self.old) }
         ensures capacity { (Self.seen self.new).capacity ≡ (Self.seen self.old).capacity }
         ensures err { OnErr result (self.new ≡ self.old) }
         ensures link { (result ≡ Err ChainInsertionError.FailedLinkRequirement) ↔ ¬ MayInsert (Self.entry self.old) (interlinks self.old) (names_in P.key P.Inx.number kind) }
-        ensures full { (result ≡ Err ChainInsertionError.NotWithinCapacity) ↔ (MayInsert (Self.entry self.old) (interlinks self.old) (names_in P.key P.Inx.number kind) × (count (Self.seen self.old) ≡ (Self.seen self.old).capacity)) }
+        ensures full { (result ≡ Err ChainInsertionError.NotWithinCapacity) ↔ (MayInsert (Self.entry self.old) (interlinks self.old) (names_in P.key P.Inx.number kind) × IsFull (Self.seen self.old)) }
         ensures error { IfErr result (λ e. (e ≡ ChainInsertionError.FailedLinkRequirement) ⊎ (e ≡ ChainInsertionError.NotWithinCapacity)) };
 
     /// Adds a link of a kind and answers its pointer, which has the counter as its generation. A full arena grows first.
@@ -78,12 +77,12 @@ pub trait ChainArenaTrait<P: PtrKey, T: Drop>: ArenaTrait<P, T> {
         t: T,
     ) -> Result<P, ChainInsertionError>
         ensures may { OnOk result (MayInsert (Self.entry self.old) (interlinks self.old) (names_in P.key P.Inx.number kind)) }
-        ensures inserted { IfOk result (λ p. IsInsertion (by_index (names_in P.key P.Inx.number kind)) (Self.seen self.old) (Self.seen self.new) (Self.entry self.old) (Self.entry self.new) (interlinks self.old) (interlinks self.new) (P.key p) t) }
+        ensures inserted { IfOk result (λ p. GainsLink Self.seen Self.entry interlinks (names_in P.key P.Inx.number kind) t self.old (P.key p) self.new) }
         ensures agreed { Agrees (interlinks self.old) }
         ensures err { OnErr result (self.new ≡ self.old) }
         ensures link { (result ≡ Err ChainInsertionError.FailedLinkRequirement) ↔ ¬ MayInsert (Self.entry self.old) (interlinks self.old) (names_in P.key P.Inx.number kind) }
         ensures error { IfErr result (λ e. e ≢ ChainInsertionError.NotWithinCapacity) }
-        ensures room { MayInsert (Self.entry self.old) (interlinks self.old) (names_in P.key P.Inx.number kind) → HasRoomLeft (Self.seen self.old) → IsOk result × ((Self.seen self.new).capacity ≡ (Self.seen self.old).capacity) }
+        ensures room { MayInsert (Self.entry self.old) (interlinks self.old) (names_in P.key P.Inx.number kind) → SucceedsInRoom (Self.seen self.old) result (Self.seen self.new) }
         ensures grown { OnOk result (IsRoom P.Inx.greatest (Self.seen self.new).maximum (count (Self.seen self.old) + 1) (Self.seen self.new).capacity) }
         ensures beyond { (result ≡ Err ChainInsertionError.BeyondMaxCapacity) ↔ (MayInsert (Self.entry self.old) (interlinks self.old) (names_in P.key P.Inx.number kind) × NeedsBeyondMaximum (Self.seen self.old)) }
         ensures greatest { count (Self.seen self.old) ≡ P.Inx.greatest → IsErr result };
@@ -94,10 +93,10 @@ pub trait ChainArenaTrait<P: PtrKey, T: Drop>: ArenaTrait<P, T> {
     /// beyond the greatest index, or memory was refused. After either nothing has changed, and the value is dropped.
     fn insert(&mut self, kind: LinkInsertKind<P>, t: T) -> Result<P, ReallocationError>
         requires { MayInsert (Self.entry self.old) (interlinks self.old) (names_in P.key P.Inx.number kind) }
-        ensures inserted { IfOk result (λ p. IsInsertion (by_index (names_in P.key P.Inx.number kind)) (Self.seen self.old) (Self.seen self.new) (Self.entry self.old) (Self.entry self.new) (interlinks self.old) (interlinks self.new) (P.key p) t) }
+        ensures inserted { IfOk result (λ p. GainsLink Self.seen Self.entry interlinks (names_in P.key P.Inx.number kind) t self.old (P.key p) self.new) }
         ensures agreed { Agrees (interlinks self.old) }
         ensures err { OnErr result (self.new ≡ self.old) }
-        ensures room { HasRoomLeft (Self.seen self.old) → IsOk result × ((Self.seen self.new).capacity ≡ (Self.seen self.old).capacity) }
+        ensures room { SucceedsInRoom (Self.seen self.old) result (Self.seen self.new) }
         ensures grown { OnOk result (IsRoom P.Inx.greatest (Self.seen self.new).maximum (count (Self.seen self.old) + 1) (Self.seen self.new).capacity) }
         ensures beyond { (result ≡ Err ReallocationError.BeyondMaxCapacity) ↔ NeedsBeyondMaximum (Self.seen self.old) }
         ensures greatest { count (Self.seen self.old) ≡ P.Inx.greatest → IsErr result };
@@ -183,9 +182,7 @@ pub trait ChainArenaTrait<P: PtrKey, T: Drop>: ArenaTrait<P, T> {
     /// `InvalidPtr`: the pointer is not valid, and nothing has changed. `GenerationOverflow`: the counter was at its
     /// greatest, and is two now.
     fn remove_link_no_gen(&mut self, p: P) -> InvalidationResult<LinkNoGen<P, T>>
-        ensures valid { IsValid (Self.entry self.old) (P.key p) →
-            (option_map (λ link. ((P.key p).1, seen_link P.Inx.packed_number link)) (value_within result) ≡ link_at (Self.entry self.old) (interlinks self.old) (P.key p).0)
-            × (Self.seen self.new ≡ seen_removed P.Gen.following (Self.seen self.old) (P.key p).0) × (interlinks self.new ≡ removed (interlinks self.old) (P.key p).0) }
+        ensures valid { IsValid (Self.entry self.old) (P.key p) → YieldsLink Self.seen Self.entry interlinks P.Inx.packed_number P.Gen.following (P.key p) self.old (value_within result) self.new }
         ensures chains { IsValid (Self.entry self.old) (P.key p) → Removes (interlinks self.old) (interlinks self.new) (P.key p).0 }
         ensures overflow { IfSome (Self.seen self.old).counter (λ g. result ≡ invalidation_result (P.Gen.wraps g) (value_within result)) }
         ensures invalid { ¬ IsValid (Self.entry self.old) (P.key p) → (value_within result ≡ None) × (self.new ≡ self.old) }
@@ -199,8 +196,7 @@ pub trait ChainArenaTrait<P: PtrKey, T: Drop>: ArenaTrait<P, T> {
     fn remove_inx_link_no_gen(&mut self, i: P::Inx) -> InvalidationResult<(P::Gen, LinkNoGen<P, T>)>
         ensures answer { option_map (on_value (seen_link P.Inx.packed_number)) (value_within result) ≡ link_at (Self.entry self.old) (interlinks self.old) (P.Inx.number i) }
         ensures overflow { IfSome (Self.seen self.old).counter (λ g. result ≡ invalidation_result (P.Gen.wraps g) (value_within result)) }
-        ensures valid { IsSome (Self.entry self.old (P.Inx.number i)) →
-            (Self.seen self.new ≡ seen_removed P.Gen.following (Self.seen self.old) (P.Inx.number i)) × (interlinks self.new ≡ removed (interlinks self.old) (P.Inx.number i)) }
+        ensures valid { IsSome (Self.entry self.old (P.Inx.number i)) → LosesLink Self.seen interlinks P.Gen.following (P.Inx.number i) self.old self.new }
         ensures chains { IsSome (Self.entry self.old (P.Inx.number i)) → Removes (interlinks self.old) (interlinks self.new) (P.Inx.number i) }
         ensures invalid { Self.entry self.old (P.Inx.number i) ≡ None → self.new ≡ self.old }
         ensures agreed { Agrees (interlinks self.old) };

@@ -222,11 +222,12 @@ impl<P: PtrKey, T: Drop, A: CompactArenaTrait<P, T>> CompactArenaTrait<P, T> for
 
 impl<P: PtrKey, T: Drop, A: ChainArenaTrait<P, T>> ChainArenaTrait<P, T> for Wrapped<A> {
     ghost use Rattle.std.specs.Prelude.{◌≡◌, ◌≢◌, ◌↔◌, ◌⊎◌, ◌+◌, IsTrue, IsOk, IfOk, OnOk, IsErr, IfErr, OnErr, Err};
+    ghost use Rattle.arena_ptr.specs.declared.errors.ChainInsertionError.TheVariants as failed;
     ghost use Rattle.chain_laws.specs.Chains.{Agrees};
     ghost use Rattle.arena_base.specs.Arena.{IsRoom};
-    ghost use Rattle.arena_base.specs.Entries.{count, HasRoomLeft, NeedsBeyondMaximum};
-    ghost use Rattle.chain_links.specs.Insertions.{IsInsertion};
-    ghost use Rattle.chain_links.specs.Kinds.{names_in, by_index, MayInsert};
+    ghost use Rattle.arena_base.specs.Entries.{count, NeedsBeyondMaximum};
+    ghost use Rattle.chain_links.specs.Calls.{GainsLink, IsFull, SucceedsInRoom};
+    ghost use Rattle.chain_links.specs.Kinds.{names_in, MayInsert};
 
     type ChainPtrAdvancer = WrappedWalk<A::ChainPtrAdvancer>;
 
@@ -260,12 +261,12 @@ impl<P: PtrKey, T: Drop, A: ChainArenaTrait<P, T>> ChainArenaTrait<P, T> for Wra
         t: T,
     ) -> Result<P, ChainInsertionError>
         ensures may { OnOk result (MayInsert (A.entry self.old.inner) (A.interlinks self.old.inner) (names_in P.key P.Inx.number kind)) }
-        ensures inserted { IfOk result (λ p. IsInsertion (by_index (names_in P.key P.Inx.number kind)) (A.seen self.old.inner) (A.seen self.new.inner) (A.entry self.old.inner) (A.entry self.new.inner) (A.interlinks self.old.inner) (A.interlinks self.new.inner) (P.key p) t) }
+        ensures inserted { IfOk result (λ p. GainsLink A.seen A.entry A.interlinks (names_in P.key P.Inx.number kind) t self.old.inner (P.key p) self.new.inner) }
         ensures agreed { Agrees (A.interlinks self.old.inner) }
         ensures capacity { (A.seen self.new.inner).capacity ≡ (A.seen self.old.inner).capacity }
         ensures err { OnErr result (self.new ≡ self.old) }
         ensures link { (result ≡ Err ChainInsertionError.FailedLinkRequirement) ↔ ¬ MayInsert (A.entry self.old.inner) (A.interlinks self.old.inner) (names_in P.key P.Inx.number kind) }
-        ensures full { (result ≡ Err ChainInsertionError.NotWithinCapacity) ↔ (MayInsert (A.entry self.old.inner) (A.interlinks self.old.inner) (names_in P.key P.Inx.number kind) × (count (A.seen self.old.inner) ≡ (A.seen self.old.inner).capacity)) }
+        ensures full { (result ≡ Err ChainInsertionError.NotWithinCapacity) ↔ (MayInsert (A.entry self.old.inner) (A.interlinks self.old.inner) (names_in P.key P.Inx.number kind) × IsFull (A.seen self.old.inner)) }
         ensures error { IfErr result (λ e. (e ≡ ChainInsertionError.FailedLinkRequirement) ⊎ (e ≡ ChainInsertionError.NotWithinCapacity)) }
     {
         self.inner.insert_within_capacity(kind, t)
@@ -277,14 +278,14 @@ impl<P: PtrKey, T: Drop, A: ChainArenaTrait<P, T>> ChainArenaTrait<P, T> for Wra
         t: T,
     ) -> Result<P, ChainInsertionError>
         ensures may { OnOk result (MayInsert (A.entry self.old.inner) (A.interlinks self.old.inner) (names_in P.key P.Inx.number kind)) }
-        ensures inserted { IfOk result (λ p. IsInsertion (by_index (names_in P.key P.Inx.number kind)) (A.seen self.old.inner) (A.seen self.new.inner) (A.entry self.old.inner) (A.entry self.new.inner) (A.interlinks self.old.inner) (A.interlinks self.new.inner) (P.key p) t) }
+        ensures inserted { IfOk result (λ p. GainsLink A.seen A.entry A.interlinks (names_in P.key P.Inx.number kind) t self.old.inner (P.key p) self.new.inner) }
         ensures agreed { Agrees (A.interlinks self.old.inner) }
         ensures err { OnErr result (self.new ≡ self.old) }
         ensures link { (result ≡ Err ChainInsertionError.FailedLinkRequirement) ↔ ¬ MayInsert (A.entry self.old.inner) (A.interlinks self.old.inner) (names_in P.key P.Inx.number kind) }
         ensures error { IfErr result (λ e. e ≢ ChainInsertionError.NotWithinCapacity) }
-        ensures room { MayInsert (A.entry self.old.inner) (A.interlinks self.old.inner) (names_in P.key P.Inx.number kind) → HasRoomLeft (A.seen self.old.inner) → IsOk result × ((A.seen self.new.inner).capacity ≡ (A.seen self.old.inner).capacity) }
+        ensures room { MayInsert (A.entry self.old.inner) (A.interlinks self.old.inner) (names_in P.key P.Inx.number kind) → SucceedsInRoom (A.seen self.old.inner) result (A.seen self.new.inner) }
         ensures grown { OnOk result (IsRoom P.Inx.greatest (A.seen self.new.inner).maximum (count (A.seen self.old.inner) + 1) (A.seen self.new.inner).capacity) }
-        ensures beyond { (result ≡ Err ChainInsertionError.BeyondMaxCapacity) ↔ (MayInsert (A.entry self.old.inner) (A.interlinks self.old.inner) (names_in P.key P.Inx.number kind) × NeedsBeyondMaximum (A.seen self.old.inner)) }
+        ensures beyond { (result ≡ Err failed.BeyondMaxCapacity) ↔ (MayInsert (A.entry self.old.inner) (A.interlinks self.old.inner) (names_in P.key P.Inx.number kind) × NeedsBeyondMaximum (A.seen self.old.inner)) }
         ensures greatest { count (A.seen self.old.inner) ≡ P.Inx.greatest → IsErr result }
     {
         self.inner.insert_reallocating(kind, t)
@@ -292,10 +293,10 @@ impl<P: PtrKey, T: Drop, A: ChainArenaTrait<P, T>> ChainArenaTrait<P, T> for Wra
 
     fn insert(&mut self, kind: LinkInsertKind<P>, t: T) -> Result<P, ReallocationError>
         requires { MayInsert (A.entry self.old.inner) (A.interlinks self.old.inner) (names_in P.key P.Inx.number kind) }
-        ensures inserted { IfOk result (λ p. IsInsertion (by_index (names_in P.key P.Inx.number kind)) (A.seen self.old.inner) (A.seen self.new.inner) (A.entry self.old.inner) (A.entry self.new.inner) (A.interlinks self.old.inner) (A.interlinks self.new.inner) (P.key p) t) }
+        ensures inserted { IfOk result (λ p. GainsLink A.seen A.entry A.interlinks (names_in P.key P.Inx.number kind) t self.old.inner (P.key p) self.new.inner) }
         ensures agreed { Agrees (A.interlinks self.old.inner) }
         ensures err { OnErr result (self.new ≡ self.old) }
-        ensures room { HasRoomLeft (A.seen self.old.inner) → IsOk result × ((A.seen self.new.inner).capacity ≡ (A.seen self.old.inner).capacity) }
+        ensures room { SucceedsInRoom (A.seen self.old.inner) result (A.seen self.new.inner) }
         ensures grown { OnOk result (IsRoom P.Inx.greatest (A.seen self.new.inner).maximum (count (A.seen self.old.inner) + 1) (A.seen self.new.inner).capacity) }
         ensures beyond { (result ≡ Err ReallocationError.BeyondMaxCapacity) ↔ NeedsBeyondMaximum (A.seen self.old.inner) }
         ensures greatest { count (A.seen self.old.inner) ≡ P.Inx.greatest → IsErr result }
