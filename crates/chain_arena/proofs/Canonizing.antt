@@ -17,7 +17,7 @@ use Rattle.arena_base.specs.EntryLaws.{found-entries}
 use Rattle.arena_base.specs.Compressing.{counter_after_compression, values_in}
 use Rattle.arena_base.specs.Closing.{fronted, gathered}
 use Rattle.arena_base.proofs.Gathering.{length-slots, indexes-fronted, generations-fronted}
-use Rattle.chain_links.specs.ChainArena.{LinkSeen, on_value, value_in, interlinks_of, shown, seen, entry, values_of, ptr_at}
+use Rattle.chain_links.specs.ChainArena.{LinkSeen, on_value, link_value, interlinks_of, shown, seen, entry, values_of, ptr_at}
 use Rattle.chain_layout.specs.Layouts.{ShowsMoves, ShowsAll, AreLaidOut}
 use Rattle.chain_links.specs.CanonicalLayouts.{IsCanonicalLayout}
 use Rattle.chain_links.proofs.Inserting.{some_entry, values-count}
@@ -92,7 +92,7 @@ module _ {F P T Gen : Type 0} (g : F → P → P → F → Type 0) (key : P → 
         is_counter = refl;
         slots = (
           laid.touches,
-          omega (arith, laid.few, indexes_counted, length-map old.slots (option_map (on_value value_in)), ap (λ (a : Arena Gen (LinkSeen T)). length a.slots) is_mid),
+          omega (arith, laid.few, indexes_counted, length-map old.slots (option_map (on_value link_value)), ap (λ (a : Arena Gen (LinkSeen T)). length a.slots) is_mid),
           λ i. Some (record {
             count = (length-slots counter laid.values ∙ values_counted) i;
             freed = [];

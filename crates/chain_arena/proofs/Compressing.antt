@@ -13,7 +13,7 @@ use Rattle.arena_base.specs.Entries.{Slots, entries, index_of, seen_of}
 use Rattle.arena_base.specs.Compressing.{IsCompressed, VisitsAll, counter_after_compression}
 use Rattle.arena_base.specs.Closing.{IsGathered, gathered}
 use Rattle.arena_base.proofs.Gathering.{compressing}
-use Rattle.chain_links.specs.ChainArena.{LinkSeen, on_value, value_in, shown, values_of}
+use Rattle.chain_links.specs.ChainArena.{LinkSeen, on_value, link_value, shown, values_of}
 use Rattle.chain_layout.specs.Compressions.{ClosesGaps, AreGathered}
 
 module _ {F P T Gen : Type 0} (g : Mut F (P × (MutBor T × (P × Unit {0}))) (Unit {0} × (MutBor T × Unit {0}))) (key : P → ℕ × Gen) (f : F)
@@ -32,7 +32,7 @@ module _ {F P T Gen : Type 0} (g : Mut F (P × (MutBor T × (P × Unit {0}))) (U
   links_compressed first following reset count is_counter is_count =
       let like =
       compressing g key f counter (values_of old) (values_of mid) (gathered (values_of mid) gathering.values) (ap (λ (a : Arena Gen (LinkSeen T)). values_of a) is_mid) like_gathered first following reset count is_counter is_count in
-      let long : length mid.slots ≡ length (values_of old).slots = ap (λ (a : Arena Gen (LinkSeen T)). length a.slots) is_mid ∙ sym (length-map old.slots (option_map (on_value value_in))) in
+      let long : length mid.slots ≡ length (values_of old).slots = ap (λ (a : Arena Gen (LinkSeen T)). length a.slots) is_mid ∙ sym (length-map old.slots (option_map (on_value link_value))) in
       subst (λ (a : Arena Gen T). IsCompressed first following reset (seen_of (values_of old)) (seen_of a)) (sym gathering.arena) (record {
         indexes = like.indexes;
         counter = like.counter;

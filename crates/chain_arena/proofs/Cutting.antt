@@ -1,6 +1,6 @@
 -- What a cut and an exchange tell of a chain arena, from its state.
 use Rattle.std.proofs.Common.{◌≡◌, ℕ, Option, None, Some, ap, sym, ◌∙◌, subst, IfSome}
-use Rattle.chain_laws.specs.Chains.{Shown, Agrees, IsValid, next_of}
+use Rattle.chain_laws.specs.Chains.{Shown, Agrees, HasLink, next_of}
 use Rattle.chain_laws.specs.Neighbors.{AreNeighbors}
 use Rattle.chain_laws.specs.Operations.{linked}
 use Rattle.chain_laws.specs.Cuts.{cut, Cuts, TakesPair}
@@ -50,10 +50,10 @@ module _ {Gen T : Type 0} (a b : Arena Gen (LinkSeen T)) where
     pub exchange_values : values_of b ≡ values_of a
     exchange_values = values_twice (Some p) (next_of (shown a) q) (Some q) (next_of (shown a) p) is
 
-    pub agrees_exchange : Agrees (shown a) → IsValid (shown a) p → IsValid (shown a) q → Agrees (shown b)
+    pub agrees_exchange : Agrees (shown a) → HasLink (shown a) p → HasLink (shown a) q → Agrees (shown b)
     agrees_exchange agrees first second = subst Agrees (sym exchange_shows) (exchanged_agrees (shown a) p q agrees first second)
 
-    pub exchange_told : Agrees (shown a) → IsValid (shown a) p → IsValid (shown a) q → IsExchange a b p q
+    pub exchange_told : Agrees (shown a) → HasLink (shown a) p → HasLink (shown a) q → IsExchange a b p q
     exchange_told agrees first second = record {
       state = is;
       shows = exchange_shows;

@@ -3,7 +3,7 @@ use Rattle.std.proofs.Common.{◌≡◌, ◌↔◌, ◌⊎◌, inl, inr, ℕ, Bo
 use Rattle.std.specs.Prelude.{IsSome}
 use Rattle.std.proofs.lemmas.Bool.{cases_eq, false≢true}
 use Rattle.std.proofs.lemmas.Option.{none-some}
-use Rattle.chain_laws.specs.Chains.{Shown, Interlinks, IsValid, prev_of, next_of}
+use Rattle.chain_laws.specs.Chains.{Shown, Interlinks, HasLink, prev_of, next_of}
 use Rattle.chain_laws.specs.Insertions.{InsertKind, disconnected, single_link_cyclic, chain_end, chain_start, next_to, prev_to, at_interlink, bridge}
 use Rattle.arena_base.specs.Arena.{Arena}
 use Rattle.chain_links.specs.ChainArena.{LinkSeen, shown, entry, values_of}
@@ -31,7 +31,7 @@ stable-some : (o : Option ℕ) (j : ℕ) → Stable (o ≡ Some j)
 stable-some None j given = absurd (given (λ is. none-some j is))
 stable-some (Some i) j given = ⊎_elim (λ same. ap Some same) (λ other. absurd (given (λ is. other (ap (index_or i) is)))) (cases_eq i j)
 
-stable-valid : (interlinks : Shown) (i : ℕ) (o : Option Interlinks) → interlinks i ≡ o → Stable (IsValid interlinks i)
+stable-valid : (interlinks : Shown) (i : ℕ) (o : Option Interlinks) → interlinks i ≡ o → Stable (HasLink interlinks i)
 stable-valid interlinks i None is given = absurd (given (λ valid. none-some _ (sym is ∙ valid.shows)))
 stable-valid interlinks i (Some l) is given = record { link = l; shows = is }
 
@@ -48,7 +48,7 @@ module _ {Gen T : Type 0} (eq : Gen → Gen → Bool) (law : (g h : Gen) → (eq
   stable-name : (name : LinkName Gen) → Stable (HasName (entry a) name)
   stable-name name given = ⊎_elim (λ has. has) (λ no. absurd (given no)) (named_or_not name)
 
-  stable-link : (i : ℕ) → Stable (IsValid (shown a) i)
+  stable-link : (i : ℕ) → Stable (HasLink (shown a) i)
   stable-link i = stable-valid (shown a) i (shown a i) refl
 
   -- a link may be inserted, if it is not so that it may not

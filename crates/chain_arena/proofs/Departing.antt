@@ -4,7 +4,7 @@ use Rattle.std.specs.Prelude.{is_some, cond, ◌==◌}
 use Rattle.std.specs.Option.{option_map}
 use Rattle.std.proofs.lemmas.Bool.{eqb-true}
 use Rattle.std.proofs.Math.Decide.{ℕ_discrete}
-use Rattle.chain_laws.specs.Chains.{Shown, Interlinks, Chain, items, Has, IsValid, IsInOrder, Agrees, AreChains, first_or, next_of}
+use Rattle.chain_laws.specs.Chains.{Shown, Interlinks, Chain, items, Has, HasLink, IsInOrder, Agrees, AreChains, first_or, next_of}
 use Rattle.chain_laws.specs.Removals.{removed as passed_over}
 use Rattle.chain_laws.specs.Walks.{going_on}
 use Rattle.chain_laws.specs.Starts.{chain_of}
@@ -13,12 +13,12 @@ use Rattle.chain_laws.proofs.Agreement.{if_same, if_other}
 use Rattle.chain_laws.proofs.Members.{filled-Has}
 use Rattle.chain_laws.proofs.Unique.{chain_valid, chain_filled}
 use Rattle.chain_laws.proofs.Leaving.{items_of, least_is_next, first_is_taken}
-use Rattle.chain_laws.proofs.RemovalPairs.{IsValid-removed}
+use Rattle.chain_laws.proofs.RemovalPairs.{HasLink-removed}
 use Rattle.arena_base.specs.Entries.{Seen, found, without, removed, RisesFrom}
 use Rattle.arena_base.specs.declared.look.Look.{Look}
 use Rattle.arena_base.specs.declared.look.Look.TheVariants.{Up}
 use Rattle.chain_arena.specs.Drains.{after_times}
-use Rattle.chain_arena.specs.Transfers.{removed_each}
+use Rattle.chain_arena.specs.Transfers.{entries_removed}
 use Rattle.chain_traits.specs.Sources.{IsNextChain}
 
 -- the chains behind the first are in order too
@@ -52,22 +52,22 @@ module _ {Gen T : Type 0} where
   abbrev pub StandsFound : Shown → Seen Gen T → Type 0
   StandsFound links seen = (i : ℕ) → is_some (links i) ≡ is_some (found i seen.entries)
 
-  found_valid : (links : Shown) (seen : Seen Gen T) → StandsFound links seen → (i : ℕ) → is_some (found i seen.entries) ≡ true → IsValid links i
+  found_valid : (links : Shown) (seen : Seen Gen T) → StandsFound links seen → (i : ℕ) → is_some (found i seen.entries) ≡ true → HasLink links i
   found_valid links seen stands i there = by (links i) refl (stands i ∙ there) where
-    by : (o : Option Interlinks) → links i ≡ o → is_some (links i) ≡ true → IsValid links i
+    by : (o : Option Interlinks) → links i ≡ o → is_some (links i) ≡ true → HasLink links i
     by None is some = absurd (let none = ap is_some is in let both = sym some ∙ none in cc)
     by (Some link) is some = record { link = link; shows = is }
 
-  valid_found : (links : Shown) (seen : Seen Gen T) → StandsFound links seen → (i : ℕ) → IsValid links i → is_some (found i seen.entries) ≡ true
+  valid_found : (links : Shown) (seen : Seen Gen T) → StandsFound links seen → (i : ℕ) → HasLink links i → is_some (found i seen.entries) ≡ true
   valid_found links seen stands i valid = sym (stands i) ∙ ap is_some valid.shows
 
 module _ {Gen T : Type 0} (following : Gen → Gen) where
-  removed_each-append : (s : Seen Gen T) (xs : List ℕ) (i : ℕ) → removed_each following s (xs ++ i ∷ []) ≡ removed following (removed_each following s xs) i
+  removed_each-append : (s : Seen Gen T) (xs : List ℕ) (i : ℕ) → entries_removed following s (xs ++ i ∷ []) ≡ removed following (entries_removed following s xs) i
   removed_each-append s [] i = refl
   removed_each-append s (x ∷ xs) i = removed_each-append (removed following s x) xs i
 
   -- the counter goes up once for each
-  pub counter-removed_each : (s : Seen Gen T) (xs : List ℕ) → (removed_each following s xs).counter ≡ option_map (after_times following (length xs)) s.counter
+  pub counter-removed_each : (s : Seen Gen T) (xs : List ℕ) → (entries_removed following s xs).counter ≡ option_map (after_times following (length xs)) s.counter
   counter-removed_each s [] = own s.counter
     where
       own : (o : Option Gen) → o ≡ option_map (after_times following 0) o
@@ -80,7 +80,7 @@ module _ {Gen T : Type 0} (following : Gen → Gen) where
       once (Some g) = refl
 
   -- what was not removed is found as before
-  pub found-removed_each : (s : Seen Gen T) (xs : List ℕ) (i : ℕ) → (Has xs i → ⊥) → found i (removed_each following s xs).entries ≡ found i s.entries
+  pub found-removed_each : (s : Seen Gen T) (xs : List ℕ) (i : ℕ) → (Has xs i → ⊥) → found i (entries_removed following s xs).entries ≡ found i s.entries
   found-removed_each s [] i none = refl
   found-removed_each s (x ∷ xs) i none =
       found-removed_each (removed following s x) xs i (λ h. none (inr h)) ∙ found-without i x s.entries (λ same. none (inl (sym same)))
@@ -90,11 +90,11 @@ module _ {Gen T : Type 0} (following : Gen → Gen) where
   pub record IsDeparting (source seen : Seen Gen T) (links : Shown) (looks : Look) (ring : Bool) (left : List ℕ) (rest : List Chain) (taken : List ℕ) : Type 0 where
     pub chains : AreChains links (with_left ring left rest)
     pub order : IsInOrder rest
-    pub same : seen ≡ removed_each following source taken
+    pub same : seen ≡ entries_removed following source taken
     pub size : length seen.entries + length taken ≡ length source.entries
     pub from : ℕ
     pub up : looks ≡ Up from
-    pub low : (j : ℕ) → IsValid links j → (from ≤ j) ⊎ Has left j
+    pub low : (j : ℕ) → HasLink links j → (from ≤ j) ⊎ Has left j
 
   module _ (source seen : Seen Gen T) (links : Shown) (looks : Look) (ring : Bool) (rest : List Chain) (taken : List ℕ) (stands : StandsFound links seen) where
     -- where no chain is left in part, the entries rise from where the advancer looks
@@ -151,7 +151,7 @@ module _ {Gen T : Type 0} (following : Gen → Gen) where
               size = omega (arith, d.size, ap (λ (s : Seen Gen T). length s.entries) is, length-without i seen.entries first_found, length-append taken (i ∷ []));
               from = d.from;
               up = d.up;
-              low = λ j v. let u = (IsValid-removed links i j).0 (subst (λ (m : Shown). IsValid m j) passed v) in stays j u.1 (d.low j u.0);
+              low = λ j v. let u = (HasLink-removed links i j).0 (subst (λ (m : Shown). HasLink m j) passed v) in stays j u.1 (d.low j u.0);
             },
             w.1,
           )

@@ -17,7 +17,7 @@ use Rattle.chain_laws.specs.Cuts.{cut}
 use Rattle.chain_laws.specs.Insertions.{InsertKind}
 use Rattle.chain_laws.proofs.Walking.{no_other_walk}
 use Rattle.arena_base.specs.Arena.{IsValid, entry_at, entry_count, with_capacity_of, renewed_at}
-use Rattle.chain_links.specs.ChainArena.{LinkSeen, on_value, shown, entry, value_in, insert_as, relinked}
+use Rattle.chain_links.specs.ChainArena.{LinkSeen, on_value, shown, entry, link_value, insert_as, relinked}
 use Rattle.chain_arena.specs.Drains.{without_each}
 use Rattle.chain_links.specs.Links.{seen_link, seen_pair}
 use Rattle.chain_arena.specs.Steps.{Links, kind_of, HasRoomFor, stays, grown, Refuses, Connects, BreaksPrev, BreaksNext, Exchanges, Reserves, DrainsChain, Tells, TellSame, ShowSame, IsAdded, IsTaken, AreSameButTouched, InsertsGrowing, InsertsWithin, Step, Run, HasRoomAlready, AreSameButRoomAndTouched, HaveSameRoom, refused_memory, room_asked, RunIsDetermined, StepIsDetermined, RunInSameRoom, RunIsDeterminedByRoom}
@@ -187,7 +187,7 @@ module _ {P T I Gen W : Type 0} (key : P → ℕ × Gen) (number : I → ℕ) (p
       pair
 
   stands : (old : Links Gen T) (n : ℕ) (g : Gen) (k : LinkBody (PackedOption I W) T) → entry_at old n ≡ Some (g, seen_link packed k) → entry old n ≡ Some (g, k.t)
-  stands old n g k is = entry_at-with_each value_in old n ∙ ap (option_map (on_value value_in)) is
+  stands old n g k is = entry_at-with_each link_value old n ∙ ap (option_map (on_value link_value)) is
 
   same_pointer : (old a b : Links Gen T) (kind : InsertKind ℕ) (t : T) (p q : P) → IsAdded key old kind t p a → IsAdded key old kind t q b → p ≡ q
   same_pointer old a b kind t p q one two = same_key p q (same one.pointer two.pointer)

@@ -5,14 +5,14 @@ use Rattle.std.specs.Option.{option_map}
 use Rattle.arena_ptr.specs.Invalidation.{value_in, is_overflow, value_within, is_overflow_result, invalidation_result}
 use Rattle.arena_ptr.specs.declared.invalidation.InvalidationOption.{InvalidationOption}
 use Rattle.arena_ptr.specs.declared.invalidation.InvalidationResult.{InvalidationResult}
-use Rattle.chain_laws.specs.Chains.{Shown, Agrees, IsValid, prev_in, next_in}
+use Rattle.chain_laws.specs.Chains.{Shown, Agrees, HasLink, prev_in, next_in}
 use Rattle.chain_laws.specs.Removals.{removed}
 use Rattle.chain_laws.specs.Walks.{IsWalk, goes_on, goes_on_to, walk_from, removed_each, TakesWalk}
 use Rattle.chain_laws.proofs.Draining.{walk_from-walk, walk_from-none, walk_from-next, walk_is_taken}
 use Rattle.arena_base.specs.Arena.{Arena, entry_at, remove_at}
-use Rattle.arena_base.specs.Arena.{IsValid as IsValidPtr}
+use Rattle.arena_base.specs.Arena.{HasLink as IsValidPtr}
 use Rattle.arena_base.proofs.Reading.{length-with_slot}
-use Rattle.chain_links.specs.ChainArena.{LinkSeen, shown, on_value, value_in as held_value, interlinks_of, values_of, link_of, link_at, remove_link}
+use Rattle.chain_links.specs.ChainArena.{LinkSeen, shown, on_value, link_value as held_value, interlinks_of, values_of, link_of, link_at, remove_link}
 use Rattle.chain_links.specs.Insertions.{index_from}
 use Rattle.chain_links.specs.Links.{seen_link}
 use Rattle.chain_arena.specs.Drains.{walk_left, without_each, IsDrainStep, CountsUp}
@@ -49,7 +49,7 @@ module _ {Gen T : Type 0} where
   index_from-stands a zero e stands = absurd (cc)
   index_from-stands a (suc k) e stands = refl
 
-  stands-valid : (a : Arena Gen (LinkSeen T)) (i : ℕ) (e : Gen × LinkSeen T) → entry_at a i ≡ Some e → IsValid (shown a) i
+  stands-valid : (a : Arena Gen (LinkSeen T)) (i : ℕ) (e : Gen × LinkSeen T) → entry_at a i ≡ Some e → HasLink (shown a) i
   stands-valid a i e stands = record { link = interlinks_of e; shows = ap (option_map interlinks_of) stands }
 
   -- the walk from a link that stands ..

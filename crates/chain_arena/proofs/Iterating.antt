@@ -5,7 +5,7 @@ use Rattle.std.specs.List.{AllByRecursion}
 use Rattle.std.proofs.lemmas.List.{length-map}
 use Rattle.std.proofs.lemmas.List.Sums.{sum_by-cons}
 use Rattle.std.proofs.lemmas.List.Elements.{All-from_recursion}
-use Rattle.chain_laws.specs.Chains.{Agrees, IsValid, Has, HasNoRepetition, prev_of}
+use Rattle.chain_laws.specs.Chains.{Agrees, HasLink, Has, HasNoRepetition, prev_of}
 use Rattle.chain_laws.specs.Walks.{IsWalk}
 use Rattle.chain_laws.proofs.Backing.{length_among}
 use Rattle.chain_laws.proofs.Passing.{has_walk, walk_valid, walk_once}
@@ -35,9 +35,9 @@ Has-taken k x (suc j) (Some f ∷ slots) e at stands = inr (Has-taken (suc k) x 
 
 module _ {Gen T : Type 0} where
   -- different valid indexes are no more than the entries
-  pub length-le_entries : (a : Arena Gen (LinkSeen T)) (xs : List ℕ) → HasNoRepetition xs → ((x : ℕ) → Has xs x → IsValid (shown a) x) → length xs ≤ entry_count a
+  pub length-le_entries : (a : Arena Gen (LinkSeen T)) (xs : List ℕ) → HasNoRepetition xs → ((x : ℕ) → Has xs x → HasLink (shown a) x) → length xs ≤ entry_count a
   length-le_entries a xs once valid = subst (λ n. length xs ≤ n) (length-taken 1 a.slots) (length_among xs (taken 1 a.slots) once (λ x has. place x (valid x has))) where
-    place : (x : ℕ) → IsValid (shown a) x → Has (taken 1 a.slots) x
+    place : (x : ℕ) → HasLink (shown a) x → Has (taken 1 a.slots) x
     place zero valid_at = absurd (let h = valid_at.shows in cc)
     place (suc j) valid_at = let entry = some_entry interlinks_of (slice_index_or a.slots j None) valid_at.link valid_at.shows in Has-taken 1 (suc j) j a.slots entry.0 (omega arith) entry.1
 
@@ -45,7 +45,7 @@ module _ {Gen T : Type 0} where
   links_at-entry a i indexes e stands = ap (λ (o : Option (Gen × LinkSeen T)). let links : List (ℕ × (Gen × LinkSeen T)) = elim o [ None ↦ [] | Some f ↦ (i, f) ∷ links_at a indexes ] in links) stands
 
   -- the links at valid indexes stand at them
-  index-links_at : (a : Arena Gen (LinkSeen T)) (indexes : List ℕ) → ((j : ℕ) → Has indexes j → IsValid (shown a) j) → map (λ (e : ℕ × (Gen × LinkSeen T)). e.0) (links_at a indexes) ≡ indexes
+  index-links_at : (a : Arena Gen (LinkSeen T)) (indexes : List ℕ) → ((j : ℕ) → Has indexes j → HasLink (shown a) j) → map (λ (e : ℕ × (Gen × LinkSeen T)). e.0) (links_at a indexes) ≡ indexes
   index-links_at a [] valid = refl
   index-links_at a (i ∷ indexes) valid =
       let here = valid i (inl refl) in
@@ -64,7 +64,7 @@ module _ {Gen T : Type 0} where
     by rest (Some e) stands = (stands, rest)
 
   -- a walker that stands before a valid link passes its walk
-  pub links_ahead-walk : (a : Arena Gen (LinkSeen T)) (i : ℕ) → Agrees (shown a) → IsValid (shown a) i → IsWalkOf a i (links_ahead a (entry_count a) i (Some i) (prev_of (shown a) i))
+  pub links_ahead-walk : (a : Arena Gen (LinkSeen T)) (i : ℕ) → Agrees (shown a) → HasLink (shown a) i → IsWalkOf a i (links_ahead a (entry_count a) i (Some i) (prev_of (shown a) i))
   links_ahead-walk a i agrees valid =
       let walk = has_walk (shown a) (length a.slots) i agrees (shown-within a) valid in
       let each = walk_valid (shown a) i walk.0 walk.1 in
@@ -81,7 +81,7 @@ module _ {Gen T : Type 0} where
 
   -- the same of a walker whose parts are known by equations
   pub walker-walk : (a : Arena Gen (LinkSeen T)) (i left start : ℕ) (back : Option ℕ) (links : List (ℕ × (Gen × LinkSeen T))) → links ≡ links_ahead a left start (Some start) back
-      → left ≡ entry_count a → start ≡ i → back ≡ prev_of (shown a) i → Agrees (shown a) → IsValid (shown a) i → IsWalkOf a i links
+      → left ≡ entry_count a → start ≡ i → back ≡ prev_of (shown a) i → Agrees (shown a) → HasLink (shown a) i → IsWalkOf a i links
   walker-walk a i left start back links are same_left same_start same_back agrees valid =
       subst (IsWalkOf a i) (sym (are
       ∙ (ap (λ n. links_ahead a n start (Some start) back) same_left

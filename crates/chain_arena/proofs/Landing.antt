@@ -8,7 +8,7 @@ use Rattle.chain_laws.specs.Relays.{with_laid, end_before, end_after}
 use Rattle.chain_laws.proofs.Laying.{last_is_laid}
 use Rattle.arena_base.specs.Arena.{Arena, IsListed, slot_at, entry_count, filled, first_or_next, next_index, without_first}
 use Rattle.arena_base.specs.Entries.{entries, entries_from}
-use Rattle.chain_links.specs.ChainArena.{LinkSeen, value_in, values_of, interlinks_of, shown, lone, insert_lone, insert_between}
+use Rattle.chain_links.specs.ChainArena.{LinkSeen, link_value, values_of, interlinks_of, shown, lone, insert_lone, insert_between}
 use Rattle.chain_links.proofs.Mapping.{length-with_each}
 use Rattle.chain_links.proofs.Seeing.{length-relinked}
 use Rattle.chain_links.proofs.Inserting.{values-count}
@@ -86,7 +86,7 @@ module _ {Gen T : Type 0} where
             ∙ (ap (λ (f : List ℕ). entries_from 1 (filled f (values_of now).slots (now.counter, t))) now_unfreed
             ∙ (entries_from-append 1 (values_of now).slots (now.counter, t)
             ∙ ap₂ (λ (es : List ((ℕ × Gen) × T)) (p : ℕ × Gen). es ++ (p, t) ∷ []) landed.entered
-            (ap₂ (λ (n : ℕ) (g : Gen). (n, g)) (let e : 1 + length (values_of now).slots ≡ length values + 1 = omega (arith, length-with_each value_in now, landed.slots) in e) (ap (λ (a : Arena Gen (LinkSeen T)). a.counter) landed.state))))
+            (ap₂ (λ (n : ℕ) (g : Gen). (n, g)) (let e : 1 + length (values_of now).slots ≡ length values + 1 = omega (arith, length-with_each link_value now, landed.slots) in e) (ap (λ (a : Arena Gen (LinkSeen T)). a.counter) landed.state))))
 
         slots_there : length there.slots ≡ length (values ++ ((length values + 1, start.counter), t) ∷ [])
         slots_there =

@@ -4,12 +4,12 @@ use Rattle.std.specs.Prelude.{is_some}
 use Rattle.std.specs.Fn.{Mut}
 use Rattle.std.specs.List.{AllByRecursion}
 use Rattle.std.proofs.lemmas.List.Elements.{recursion_from_All}
-use Rattle.arena_ptr.specs.Invalidation.{value_in as value_told}
+use Rattle.arena_ptr.specs.Invalidation.{link_value as value_told}
 use Rattle.arena_ptr.specs.declared.invalidation.InvalidationOption.{InvalidationOption}
 use Rattle.arena_base.specs.Arena.{Arena, slot_at, IsValid}
 use Rattle.arena_base.specs.Entries.{entries, found}
 use Rattle.arena_base.specs.EntryLaws.{entries_rise, found-entries}
-use Rattle.chain_links.specs.ChainArena.{LinkSeen, on_value, value_in, interlinks_of, shown, seen, entry, values_of}
+use Rattle.chain_links.specs.ChainArena.{LinkSeen, on_value, link_value, interlinks_of, shown, seen, entry, values_of}
 use Rattle.chain_links.specs.CanonicalLayouts.{IsCanonicalLayout}
 use Rattle.chain_links.proofs.Mapping.{is_some-map, entry_at-with_each}
 use Rattle.chain_layout.specs.Layouts.{AreAllMoves}
@@ -21,7 +21,7 @@ use Rattle.chain_arena.specs.PointerTransfers.{IsAnswered, TransferMovesPointers
 module _ {P Gen T : Type 0} (key : P → ℕ × Gen) (first : Gen) (following : Gen → Gen) (reset : Bool) (old new : Arena Gen (LinkSeen T)) (moves : List (P × P)) where
   -- a link stands where an entry stands
   links_stand : StandsWhere (shown old) (entry old)
-  links_stand i = is_some-map interlinks_of (slot_at old.slots i) ∙ sym (ap is_some (entry_at-with_each value_in old i) ∙ is_some-map (on_value value_in) (slot_at old.slots i))
+  links_stand i = is_some-map interlinks_of (slot_at old.slots i) ∙ sym (ap is_some (entry_at-with_each link_value old i) ∙ is_some-map (on_value link_value) (slot_at old.slots i))
 
   -- the pointers that all links had and have are moves
   pub arena_moves_pointers : IsCanonicalLayout first following reset (seen old) (shown old) (seen new) (shown new) → AreAllMoves key (seen old) (shown old) new.counter moves → ArePointerMoves key (entry old) (entry new) moves

@@ -11,8 +11,8 @@ use Rattle.arena_base.specs.Advancing.{from_index, ahead, look_after, IsLook}
 use Rattle.arena_base.specs.Compressing.{values_in}
 use Rattle.arena_base.specs.declared.look.Look.{Look}
 use Rattle.arena_base.specs.declared.look.Look.TheVariants.{Up}
-use Rattle.chain_links.specs.ChainArena.{LinkSeen, on_value, with_each, with_value_in, with_value_at, values_of, shown, seen, entry}
-use Rattle.chain_arena.specs.Recasting.{without_value, AreAllRecast, IsRecast, IsRecastAt}
+use Rattle.chain_links.specs.ChainArena.{LinkSeen, on_value, with_each, with_link_value, with_value_at, values_of, shown, seen, entry}
+use Rattle.chain_arena.specs.Recasting.{link_without_value, AreAllRecast, IsRecast, IsRecastAt}
 use Rattle.chain_traits.proofs.AnyArena.{from_index-rises}
 use Rattle.chain_links.proofs.Mapping.{map-with_slot, slot_at-map}
 
@@ -28,15 +28,15 @@ with_slot-own {X} slots (suc k) = by slots k where
 module _ {Gen T : Type 0} where
   -- an entry without its value
   abbrev bare : Option (Gen × LinkSeen T) → Option (Gen × LinkSeen (Unit {0}))
-  bare o = option_map (on_value without_value) o
+  bare o = option_map (on_value link_without_value) o
 
   -- of a link whose value is written all but the value stays
-  pub value-written : (a : Arena Gen (LinkSeen T)) (i : ℕ) (t : T) → with_each without_value (with_value_at a i t) ≡ with_each without_value a
-  value-written a i t = ap (λ (slots : List (Option (Gen × LinkSeen (Unit {0})))). let b : Arena Gen (LinkSeen (Unit {0})) = record (with_each without_value a) { slots = slots } in b)
-      (map-with_slot bare a.slots i (option_map (on_value (with_value_in t)) (entry_at a i))
-      ∙ (ap (with_slot (map bare a.slots) i) (by (entry_at a i) ∙ sym (slot_at-map (on_value without_value) a.slots i)) ∙ with_slot-own (map bare a.slots) i))
+  pub value-written : (a : Arena Gen (LinkSeen T)) (i : ℕ) (t : T) → with_each link_without_value (with_value_at a i t) ≡ with_each link_without_value a
+  value-written a i t = ap (λ (slots : List (Option (Gen × LinkSeen (Unit {0})))). let b : Arena Gen (LinkSeen (Unit {0})) = record (with_each link_without_value a) { slots = slots } in b)
+      (map-with_slot bare a.slots i (option_map (on_value (with_link_value t)) (entry_at a i))
+      ∙ (ap (with_slot (map bare a.slots) i) (by (entry_at a i) ∙ sym (slot_at-map (on_value link_without_value) a.slots i)) ∙ with_slot-own (map bare a.slots) i))
     where
-      by : (o : Option (Gen × LinkSeen T)) → option_map (on_value without_value) (option_map (on_value (with_value_in t)) o) ≡ option_map (on_value without_value) o
+      by : (o : Option (Gen × LinkSeen T)) → option_map (on_value link_without_value) (option_map (on_value (with_link_value t)) o) ≡ option_map (on_value link_without_value) o
       by None = refl
       by (Some e) = refl
 
@@ -96,7 +96,7 @@ module _ {T I : Type 0} (recasts : T → T → Result (Unit {0}) I → Type 0) w
       pub all : AreAllRecast recasts were (values_in front)
       pub looks : look ≡ Up from
       pub ahead : from_index from (seen now).entries ≡ left
-      pub rest : with_each without_value now ≡ with_each without_value old
+      pub rest : with_each link_without_value now ≡ with_each link_without_value old
       pub shows : shown now ≡ shown old
 
     pub recasting_begins : (old : Arena Gen (LinkSeen T)) (look : Look) → look ≡ Up 1 → IsRecasting old old look
@@ -170,8 +170,8 @@ module _ {T I : Type 0} (recasts : T → T → Result (Unit {0}) I → Type 0) w
           entries_then : (seen new).entries ≡ at.front ++ (p, is.is) ∷ next.later
           entries_then = is.entries ∙ (ap (replaced p.0 (λ (x : Gen × T). (x.0, is.is))) entries_are ∙ replaced-behind is.is at.front (p, next.value) next.later 1 rises)
 
-          rest_then : with_each without_value new ≡ with_each without_value old
-          rest_then = ap (with_each without_value) is.state ∙ (value-written now p.0 is.is ∙ at.rest)
+          rest_then : with_each link_without_value new ≡ with_each link_without_value old
+          rest_then = ap (with_each link_without_value) is.state ∙ (value-written now p.0 is.is ∙ at.rest)
 
           olds_then : values_in (seen old).entries ≡ at.were ++ is.was ∷ values_in next.later
           olds_then = at.olds ∙ (ap (λ (l : List ((ℕ × Gen) × T)). at.were ++ values_in l) next.is ∙ ap (λ t. at.were ++ t ∷ values_in next.later) (sym was_value))

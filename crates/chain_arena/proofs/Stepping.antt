@@ -22,7 +22,7 @@ use Rattle.chain_laws.proofs.Draining.{walk_is_taken}
 use Rattle.arena_base.specs.Arena.{IsValid, IsRoom, HasRoom, entry_at, entry_count, next_index, with_capacity_of, renewed_at, overflows_after_clear}
 use Rattle.arena_base.specs.Compressing.{overflows_after_compression}
 use Rattle.arena_base.specs.Entries.{count, renewed, HasRoomLeft, NeedsBeyondMaximum}
-use Rattle.chain_links.specs.ChainArena.{LinkSeen, on_value, shown, seen, entry, value_in, insert_as, link_at, relinked, CanConnect, CanExchange, IsJoin, IsCut, IsExchange, IsRemoval}
+use Rattle.chain_links.specs.ChainArena.{LinkSeen, on_value, shown, seen, entry, link_value, insert_as, link_at, relinked, CanConnect, CanExchange, IsJoin, IsCut, IsExchange, IsRemoval}
 use Rattle.chain_links.proofs.Inserting.{values-count}
 use Rattle.chain_arena.specs.Drains.{walk_left, without_each}
 use Rattle.chain_links.specs.Insertions.{IsInsertion}
@@ -204,9 +204,9 @@ module _ {P I Gen T : Type 0} (key : P → ℕ × Gen) (number : I → ℕ) (old
 module _ {K Gen T : Type 0} (packed : K → Option ℕ) (following : Gen → Gen) (wraps : Gen → Bool) (old new : Links Gen T) where
   -- where a value stands a link does
   some_link : (i : ℕ) (e : Gen × T) → entry old i ≡ Some e → is_some (entry_at old i) ≡ true
-  some_link i e stands = by (entry_at old i) (sym (entry_at-with_each value_in old i) ∙ stands)
+  some_link i e stands = by (entry_at old i) (sym (entry_at-with_each link_value old i) ∙ stands)
     where
-      by : (o : Option (Gen × LinkSeen T)) → option_map (on_value value_in) o ≡ Some e → is_some o ≡ true
+      by : (o : Option (Gen × LinkSeen T)) → option_map (on_value link_value) o ≡ Some e → is_some o ≡ true
       by None is = absurd (none-some e is)
       by (Some f) is = refl
 
@@ -237,8 +237,8 @@ module _ {K Gen T : Type 0} (packed : K → Option ℕ) (following : Gen → Gen
       stood : (o : Option (Gen × LinkBody K T)) → value_within r ≡ o → entry_at old i ≡ option_map (on_value (seen_link packed)) o
       stood o is = sym (link_at-entry old i) ∙ (sym told ∙ ap (option_map (on_value (seen_link packed))) is)
 
-      held : (o : Option (Gen × LinkBody K T)) → value_within r ≡ o → entry old i ≡ option_map (on_value value_in) (option_map (on_value (seen_link packed)) o)
-      held o is = entry_at-with_each value_in old i ∙ ap (option_map (on_value value_in)) (stood o is)
+      held : (o : Option (Gen × LinkBody K T)) → value_within r ≡ o → entry old i ≡ option_map (on_value link_value) (option_map (on_value (seen_link packed)) o)
+      held o is = entry_at-with_each link_value old i ∙ ap (option_map (on_value link_value)) (stood o is)
 
       by : (o : Option (Gen × LinkBody K T)) → value_within r ≡ o → Tells ((entry old i ≡ None) × (new ≡ old)) (wraps old.counter) (λ e. IsTaken packed following old i e.0 e.1 new) r
       by None is = tells {Can = ⊥} (λ e. IsTaken packed following old i e.0 e.1 new) (wraps old.counter) r (inr (λ no. no)) overflow (λ no. absurd no) (λ no. absurd no) (λ no. (is, (held None is, invalid (held None is))))

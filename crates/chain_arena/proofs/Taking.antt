@@ -8,7 +8,7 @@ use Rattle.arena_ptr.specs.declared.invalidation.InvalidationResult.TheVariants.
 use Rattle.chain_laws.specs.Chains.{Agrees}
 use Rattle.arena_base.specs.Arena.{IsValid, entry_at}
 use Rattle.arena_base.specs.Entries.{removed as seen_removed}
-use Rattle.chain_links.specs.ChainArena.{LinkSeen, on_value, shown, seen, entry, value_in, link_at, remove_link, IsRemoval}
+use Rattle.chain_links.specs.ChainArena.{LinkSeen, on_value, shown, seen, entry, link_value, link_at, remove_link, IsRemoval}
 use Rattle.chain_links.specs.Links.{held_in, seen_link, seen_pair}
 use Rattle.chain_links.specs.declared.links.LinkBody.{LinkBody}
 use Rattle.chain_links.proofs.Mapping.{entry_at-with_each, generation_is}
@@ -47,8 +47,8 @@ removal_of following a b n agrees state = record {
 module _ {Gen K T : Type 0} (packed : K → Option ℕ) (following : Gen → Gen) (a b : Links Gen T) (n : ℕ) (taken : Option (Gen × LinkBody K T))
     (answer : option_map (seen_pair packed) taken ≡ entry_at a n) where
   value : option_map (on_value held_in) taken ≡ entry a n
-  value = twice taken ∙ (ap (option_map (on_value value_in)) answer ∙ sym (entry_at-with_each value_in a n)) where
-    twice : (o : Option (Gen × LinkBody K T)) → option_map (on_value held_in) o ≡ option_map (on_value value_in) (option_map (seen_pair packed) o)
+  value = twice taken ∙ (ap (option_map (on_value link_value)) answer ∙ sym (entry_at-with_each link_value a n)) where
+    twice : (o : Option (Gen × LinkBody K T)) → option_map (on_value held_in) o ≡ option_map (on_value link_value) (option_map (seen_pair packed) o)
     twice None = refl
     twice (Some e) = refl
 

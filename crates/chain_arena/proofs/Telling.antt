@@ -8,7 +8,7 @@ use Rattle.chain_laws.proofs.Inserting.{inserted_inserts}
 use Rattle.arena_base.specs.Arena.{Arena, without_first, IsListed, first_or_next, next_index, insert_next, with_capacity_of}
 use Rattle.arena_base.specs.Entries.{Slots, seen_of, entries, count}
 use Rattle.arena_base.proofs.Seeing.{length-entries, count-filled}
-use Rattle.chain_links.specs.ChainArena.{LinkSeen, value_in, values_of, seen, entry, shown, lone, insert_lone, insert_between, insert_as}
+use Rattle.chain_links.specs.ChainArena.{LinkSeen, link_value, values_of, seen, entry, shown, lone, insert_lone, insert_between, insert_as}
 use Rattle.chain_links.specs.Insertions.{IsInsertion, IsInsertionBetween}
 use Rattle.chain_links.proofs.Mapping.{with_each-insert_next, length-with_each, listed-with_each}
 use Rattle.chain_links.proofs.Inserting.{shown-insert_lone, shown-next, inserted_at, length-filled}
@@ -35,14 +35,14 @@ module _ {Gen T : Type 0} (a : Arena Gen (LinkSeen T)) (t : T) (listed : IsListe
   -- .. and its values
   pub values_of-insert_between : (u v : Option ℕ) → values_of (insert_between a t u v) ≡ insert_next (values_of a) t
   values_of-insert_between u v =
-      values_of-relinked (insert_lone a t) (inserted (shown a) (next_index a) u v) (fits_between u v) ∙ with_each-insert_next value_in a (lone t)
+      values_of-relinked (insert_lone a t) (inserted (shown a) (next_index a) u v) (fits_between u v) ∙ with_each-insert_next link_value a (lone t)
 
   pub agrees-insert_between : (u v : Option ℕ) → Agrees (shown a) → IsGap (shown a) (next_index a) u v → Agrees (shown (insert_between a t u v))
   agrees-insert_between u v agrees gap =
       subst Agrees (sym (shown-insert_between u v)) (inserted_agrees (shown a) (next_index a) u v agrees (shown-next a listed.free) gap)
 
   next_index-values_of : next_index (values_of a) ≡ next_index a
-  next_index-values_of = ap (first_or_next a.freed) (length-with_each value_in a)
+  next_index-values_of = ap (first_or_next a.freed) (length-with_each link_value a)
 
   module _ (b : Arena Gen (LinkSeen T)) (u v : Option ℕ) (is : b ≡ with_capacity_of (insert_between a t u v) b) where
     told_shows : shown b ≡ inserted (shown a) (next_index a) u v
@@ -57,7 +57,7 @@ module _ {Gen T : Type 0} (a : Arena Gen (LinkSeen T)) (t : T) (listed : IsListe
     told_more =
         ap (λ (x : Arena Gen T). length (entries x)) told_values
         ∙ (length-entries (insert_next (values_of a) t)
-        ∙ (count-filled a.freed (values_of a).slots (a.counter, t) (listed-with_each value_in a listed).free
+        ∙ (count-filled a.freed (values_of a).slots (a.counter, t) (listed-with_each link_value a listed).free
         ∙ ap (λ (n : ℕ). n + 1) (sym (length-entries (values_of a)))))
 
     -- what an insertion between two links is, by the state alone
@@ -67,7 +67,7 @@ module _ {Gen T : Type 0} (a : Arena Gen (LinkSeen T)) (t : T) (listed : IsListe
         let q = next_index a in
         let free : shown a q ≡ None = shown-next a listed.free in
         subst (λ (x : ℕ × Gen). IsInsertionBetween u v (seen a) (seen b) (entry a) (entry b) (shown a) (shown b) x t) (sym at) (record {
-          entries = inserted_at (values_of a) (values_of b) t (q, a.counter) (listed-with_each value_in a listed).free told_values (ap (λ (n : ℕ). (n, a.counter)) (sym next_index-values_of));
+          entries = inserted_at (values_of a) (values_of b) t (q, a.counter) (listed-with_each link_value a listed).free told_values (ap (λ (n : ℕ). (n, a.counter)) (sym next_index-values_of));
           shows = told_shows;
           pairs = subst (λ (m : Shown). InsertsPairs (shown a) m q u v) (sym told_shows) (inserted_in_pairs (shown a) q u v agrees free gap);
           chains = subst (λ (m : Shown). Inserts (shown a) m q u v) (sym told_shows) (inserted_inserts (shown a) q u v free);

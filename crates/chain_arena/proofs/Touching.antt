@@ -19,7 +19,7 @@ use Rattle.arena_base.specs.Arena.{entry_at}
 use Rattle.arena_base.specs.Compressing.{values_in}
 use Rattle.arena_base.specs.Entries.{Slots, entries, index_of, found}
 use Rattle.arena_base.specs.EntryLaws.{found-entries}
-use Rattle.chain_links.specs.ChainArena.{shown, seen, entry, value_in, values_of, link_of, remove_link, IsJoin, IsCut, IsExchange, IsRemoval}
+use Rattle.chain_links.specs.ChainArena.{shown, seen, entry, link_value, values_of, link_of, remove_link, IsJoin, IsCut, IsExchange, IsRemoval}
 use Rattle.chain_arena.specs.Drains.{without_each}
 use Rattle.chain_arena.specs.Steps.{Links, HasRoomFor, stays, grown, Connects, BreaksPrev, BreaksNext, Exchanges, Reserves, DrainsChain, IsCompression, IsCanonicalCompression, AreSameButTouched, Tells, InsertsGrowing, InsertsWithin, Step, Run}
 use Rattle.chain_arena.specs.declared.calls.Call.{Call}
@@ -67,7 +67,7 @@ module _ {Gen T : Type 0} where
       → (length new.slots ≡ count) × (new.freed ≡ []) × (new.placed ≡ placed)
   slots_told new count placed touched told =
       let left : Slots = record { count = length (values_of new).slots; freed = new.freed; placed = new.placed; touched = new.touched } in (
-        sym (length-with_each value_in new) ∙ ap (λ (o : Option Slots). (slots_or left o).count) told,
+        sym (length-with_each link_value new) ∙ ap (λ (o : Option Slots). (slots_or left o).count) told,
         ap (λ (o : Option Slots). (slots_or left o).freed) told,
         ap (λ (o : Option Slots). (slots_or left o).placed) told,
       )

@@ -6,7 +6,7 @@ use Rattle.std.specs.Fn.{Mut, Called}
 use Rattle.std.proofs.lemmas.List.{length-map, map-append}
 use Rattle.arena_ptr.specs.Invalidation.{value_in, is_overflow}
 use Rattle.arena_ptr.specs.declared.invalidation.InvalidationOption.{InvalidationOption}
-use Rattle.chain_laws.specs.Chains.{Shown, Chain, all_items, Has, HasNoRepetition, IsWithin, Agrees, AreChains, first_or, next_of}
+use Rattle.chain_laws.specs.Chains.{Shown, Chain, all_items, Has, HasNoRepetition, HasLinksWithin, Agrees, AreChains, first_or, next_of}
 use Rattle.chain_laws.specs.Neighbors.{AreTheChains}
 use Rattle.chain_laws.specs.Insertions.{IsGap}
 use Rattle.chain_laws.specs.Removals.{removed as passed_over}
@@ -26,7 +26,7 @@ use Rattle.arena_base.specs.declared.look.Look.{Look}
 use Rattle.arena_base.specs.declared.look.Look.TheVariants.{Up}
 use Rattle.chain_links.specs.ChainArena.{LinkSeen, shown, insert_between}
 use Rattle.chain_arena.specs.Drains.{after_times}
-use Rattle.chain_arena.specs.Transfers.{Carried, old_index, removed_each, AreEnds, IsTransfer}
+use Rattle.chain_arena.specs.Transfers.{Carried, old_index, entries_removed, AreEnds, IsTransfer}
 use Rattle.chain_traits.specs.Sources.{IsNextChain}
 use Rattle.chain_arena.proofs.Landing.{IsLanded, landing_begins, landing_goes_on, next_behind, gap_at_end, count_landed}
 use Rattle.chain_arena.proofs.Departing.{IsDeparting, StandsFound, rises_up, entries_left, departs_next, departs_on, first_found, all_departed, found-removed_each, counter-removed_each}
@@ -68,7 +68,7 @@ module _ {Q P G Gen I U T F : Type 0} (key : Q → ℕ × G) (new_key : P → �
     pub bounds : AreEnds number ends (length taken) (k + 1)
 
   -- nothing is carried yet
-  pub carrying_begins : (greatest : ℕ) (looks : Look) (ring : Bool) → Agrees interlinks → IsWithin interlinks greatest → start.slots ≡ [] → looks ≡ Up 1
+  pub carrying_begins : (greatest : ℕ) (looks : Look) (ring : Bool) → Agrees interlinks → HasLinksWithin interlinks greatest → start.slots ≡ [] → looks ≡ Up 1
       → IsCarrying 0 source interlinks looks None ring None first start
   carrying_begins greatest looks ring agrees within none up =
       let all = the_chains interlinks greatest agrees within in
@@ -310,7 +310,7 @@ module _ {Q P G Gen I U T F : Type 0} (key : Q → ℕ × G) (new_key : P → �
           values = c.landed.entered;
           slots = c.landed.slots ∙ length-map c.carried (λ (d : Carried Q P U T). (new_key d.to, d.answer));
           state = state_of c;
-          removals = c.departing.same ∙ ap (removed_each following source) (sym c.called.ordered);
+          removals = c.departing.same ∙ ap (entries_removed following source) (sym c.called.ordered);
           empty = gone.0;
         }
       where

@@ -5,7 +5,7 @@ use Rattle.std.proofs.lemmas.Bool.{eqb-true}
 use Rattle.std.proofs.lemmas.List.Elements.{All-head, All-tail}
 use Rattle.arena_ptr.specs.Numbers as numbers
 use Rattle.arena_base.specs.Entries.{found, index_of}
-use Rattle.chain_laws.specs.Chains.{Shown, IsWithin}
+use Rattle.chain_laws.specs.Chains.{Shown, HasLinksWithin}
 
 module _ {Gen T : Type 0} (greatest : ℕ) where
   -- at the first entry's index, or further on
@@ -22,7 +22,7 @@ module _ {Gen T : Type 0} (greatest : ℕ) where
 
   -- so is that of a link, which stands where an entry does
   pub interlinks_within : (es : List ((ℕ × Gen) × T)) (entry : ℕ → Option (Gen × T)) (interlinks : Shown) → All (λ e. numbers.IsWithin greatest (index_of e)) es
-      → ((i : ℕ) → found i es ≡ entry i) → ((i : ℕ) → is_some (interlinks i) ≡ is_some (entry i)) → IsWithin interlinks greatest
+      → ((i : ℕ) → found i es ≡ entry i) → ((i : ℕ) → is_some (interlinks i) ≡ is_some (entry i)) → HasLinksWithin interlinks greatest
   interlinks_within es entry interlinks all looked_up stand = record {
     within = λ i valid. found_within es i all (ap is_some (looked_up i) ∙ (sym (stand i) ∙ ap is_some valid.shows));
   }

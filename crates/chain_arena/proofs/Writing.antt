@@ -6,7 +6,7 @@ use Rattle.chain_laws.specs.Chains.{Agrees}
 use Rattle.arena_base.specs.Arena.{Arena, entry_at, with_slot, with_value, renewed_at, cleared}
 use Rattle.arena_base.specs.Entries.{seen_of, written, renewed, emptied}
 use Rattle.chain_links.specs.declared.links.LinkBody.{LinkBody}
-use Rattle.chain_links.specs.ChainArena.{on_value, LinkSeen, value_in, with_value_in, values_of, shown, with_value_at}
+use Rattle.chain_links.specs.ChainArena.{on_value, LinkSeen, link_value, with_link_value, values_of, shown, with_value_at}
 use Rattle.chain_links.specs.Links.{seen_link, seen_links, seen_pair}
 use Rattle.chain_links.proofs.Mapping.{with_each-with_value, with_each-renewed_at, with_each-cleared}
 use Rattle.arena_base.proofs.Seeing.{seen_written, seen_renewed, seen_cleared}
@@ -16,15 +16,15 @@ use Rattle.chain_interlinks.proofs.Unlinking.{shown-written, shown-renewed}
 module _ {Gen T : Type 0} where
   -- a link with another value is written
   value-written : (a : Arena Gen (LinkSeen T)) (n : ℕ) (l : LinkSeen T) (w : T) → option_map (λ (e : Gen × LinkSeen T). e.1) (entry_at a n) ≡ Some l
-      → with_value a n (with_value_in w l) ≡ with_value_at a n w
+      → with_value a n (with_link_value w l) ≡ with_value_at a n w
   value-written a n l w stands = ap (λ (o : Option (Gen × LinkSeen T)). let b : Arena Gen (LinkSeen T) = record a { slots = with_slot a.slots n o } in b) (by (entry_at a n) stands) where
-    by : (o : Option (Gen × LinkSeen T)) → option_map (λ (e : Gen × LinkSeen T). e.1) o ≡ Some l → option_map (λ (e : Gen × LinkSeen T). (e.0, with_value_in w l)) o ≡ option_map (on_value (with_value_in w)) o
+    by : (o : Option (Gen × LinkSeen T)) → option_map (λ (e : Gen × LinkSeen T). e.1) o ≡ Some l → option_map (λ (e : Gen × LinkSeen T). (e.0, with_link_value w l)) o ≡ option_map (on_value (with_link_value w)) o
     by None is = refl
-    by (Some e) is = ap (λ (k : LinkSeen T). let o : Option (Gen × LinkSeen T) = Some (e.0, with_value_in w k) in o) (sym (let h = is in let same : e.1 ≡ l = cc in same))
+    by (Some e) is = ap (λ (k : LinkSeen T). let o : Option (Gen × LinkSeen T) = Some (e.0, with_link_value w k) in o) (sym (let h = is in let same : e.1 ≡ l = cc in same))
 
   values_of-with_value_at : (a : Arena Gen (LinkSeen T)) (n : ℕ) (l : LinkSeen T) (w : T) → option_map (λ (e : Gen × LinkSeen T). e.1) (entry_at a n) ≡ Some l
       → values_of (with_value_at a n w) ≡ with_value (values_of a) n w
-  values_of-with_value_at a n l w stands = ap (λ (x : Arena Gen (LinkSeen T)). values_of x) (sym (value-written a n l w stands)) ∙ with_each-with_value value_in a n (with_value_in w l)
+  values_of-with_value_at a n l w stands = ap (λ (x : Arena Gen (LinkSeen T)). values_of x) (sym (value-written a n l w stands)) ∙ with_each-with_value link_value a n (with_link_value w l)
 
 module _ {Gen K T : Type 0} (number : K → Option ℕ) (a b : Arena Gen (LinkBody K T)) (n : ℕ) (l : LinkBody K T) (w : T)
     (stands : option_map (λ (e : Gen × LinkBody K T). e.1) (entry_at a n) ≡ Some l) (wrote : b ≡ with_value a n (record l { t = w })) where
@@ -57,7 +57,7 @@ module _ {Gen K T : Type 0} (number : K → Option ℕ) (following : Gen → Gen
 
   pub renewed-seen : seen_of (values_of (seen_links number b)) ≡ renewed (seen_of (values_of (seen_links number a))) (n, following a.counter)
   renewed-seen = ap (λ (x : Arena Gen (LinkSeen T)). seen_of (values_of x)) renewed-state
-      ∙ (ap (λ (x : Arena Gen T). seen_of x) (with_each-renewed_at value_in following (seen_links number a) n) ∙ seen_renewed following (values_of (seen_links number a)) n)
+      ∙ (ap (λ (x : Arena Gen T). seen_of x) (with_each-renewed_at link_value following (seen_links number a) n) ∙ seen_renewed following (values_of (seen_links number a)) n)
 
   -- the new pointer tells the new generation
   pub renewed-told : {Q : Type 0} (X : Q → Type 0) (key : Q → ℕ × Gen) (o : Option Q) → IfSome o (λ q. ((key q).0 ≡ n) × X q) × IsSome o → IfSome o (λ q. (key q).1 ≡ following a.counter)
@@ -71,4 +71,4 @@ module _ {Gen K T : Type 0} (number : K → Option ℕ) (following : Gen → Gen
   pub cleared-seen : seen_of (values_of (seen_links number b)) ≡ emptied following (seen_of (values_of (seen_links number a)))
   cleared-seen = ap (λ (x : Arena Gen (LinkBody K T)). seen_of (values_of (seen_links number x))) is
       ∙ (ap (λ (x : Arena Gen (LinkSeen T)). seen_of (values_of x)) (with_each-cleared (seen_link number) following a)
-      ∙ (ap (λ (x : Arena Gen T). seen_of x) (with_each-cleared value_in following (seen_links number a)) ∙ seen_cleared following (values_of (seen_links number a))))
+      ∙ (ap (λ (x : Arena Gen T). seen_of x) (with_each-cleared link_value following (seen_links number a)) ∙ seen_cleared following (values_of (seen_links number a))))

@@ -6,8 +6,8 @@ use Rattle.arena_base.specs.Compressing.{values_in}
 use Rattle.chain_links.specs.ChainArena.{LinkSeen, new_link, with_each, with_value_at, shown, seen, entry}
 
 -- a link without its value
-abbrev pub without_value : {T : Type 0} → LinkSeen T → LinkSeen (Unit {0})
-without_value link = new_link tt link.prev link.next
+abbrev pub link_without_value : {T : Type 0} → LinkSeen T → LinkSeen (Unit {0})
+link_without_value link = new_link tt link.prev link.next
 
 -- what recasts a value, from what it was to what it is, with the answer
 module _ {T I : Type 0} (recasts : T → T → Result (Unit {0}) I → Type 0) where
@@ -38,7 +38,7 @@ module _ {T I : Type 0} (recasts : T → T → Result (Unit {0}) I → Type 0) w
   module _ {Gen : Type 0} where
     -- the values are recast by rising index. Generations and interlinks stay, and all else of the state
     pub record IsRecast (old new : Arena Gen (LinkSeen T)) (answer : Result (Unit {0}) I) : Type 0 where
-      pub rest : with_each without_value new ≡ with_each without_value old
+      pub rest : with_each link_without_value new ≡ with_each link_without_value old
       pub shows : shown new ≡ shown old
       pub values : AreRecast (values_in (seen old).entries) (values_in (seen new).entries) answer
 

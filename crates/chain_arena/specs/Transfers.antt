@@ -26,9 +26,9 @@ overflows following wraps zero g = []
 overflows following wraps (suc n) g = wraps g ∷ overflows following wraps n (following g)
 
 -- what is seen after the removal of the entries at these indexes, one after another
-abbrev pub removed_each : {Gen T : Type 0} → (Gen → Gen) → Seen Gen T → List ℕ → Seen Gen T
-removed_each following s [] = s
-removed_each following s (i ∷ rest) = removed_each following (removed following s i) rest
+abbrev pub entries_removed : {Gen T : Type 0} → (Gen → Gen) → Seen Gen T → List ℕ → Seen Gen T
+entries_removed following s [] = s
+entries_removed following s (i ∷ rest) = entries_removed following (removed following s i) rest
 
 -- the index that a link had
 abbrev pub old_index : {Q P G U T : Type 0} → (Q → ℕ × G) → Carried Q P U T → ℕ
@@ -61,7 +61,7 @@ module _ {Q P G Gen U T F : Type 0} (key : Q → ℕ × G) (new_key : P → ℕ 
       placed = old.placed + length carried;
     }
     -- the source is empty: each of its links was removed, in that order
-    pub removals : source_after ≡ removed_each following source (map (old_index key) carried)
+    pub removals : source_after ≡ entries_removed following source (map (old_index key) carried)
     pub empty : source_after.entries ≡ []
 
 -- A compression and a transfer of the same links lay them out alike: each comes to the same index, and names the same

@@ -30,11 +30,11 @@ pub(crate) struct Listing<P> {
 
 impl<P: PtrKey> Visitor<P> for Listing<P> {
     ghost use Rattle.std.specs.Prelude.{⊤};
-    ghost use Rattle.chain_layout.specs.Layouts.{IsListed};
+    ghost use Rattle.chain_layout.specs.Layouts.{IsPairListed};
 
     ghost is_ready = { λ v. ⊤ };
 
-    ghost sees = { λ v p q w. IsListed v.moves p q w.moves };
+    ghost sees = { λ v p q w. IsPairListed v.moves p q w.moves };
 
     fn visit(&mut self, from: P, to: P) {
         // There is room.

@@ -5,7 +5,7 @@ use Rattle.std.specs.Option.{option_map}
 use Rattle.chain_laws.specs.Chains.{Shown}
 use Rattle.chain_laws.specs.Walks.{Walker, next_step}
 use Rattle.arena_base.specs.Arena.{Arena, IsValid, entry_at}
-use Rattle.chain_links.specs.ChainArena.{LinkSeen, shown, entry, value_in, on_value}
+use Rattle.chain_links.specs.ChainArena.{LinkSeen, shown, entry, link_value, on_value}
 use Rattle.chain_links.specs.Walkers.{index_and_entry, IsPassing}
 use Rattle.chain_links.proofs.Mapping.{entry_at-with_each}
 
@@ -20,13 +20,13 @@ module _ {Gen T : Type 0} (a : Arena Gen (LinkSeen T)) where
   pub valid_there : (i : ℕ) (p : ℕ × Gen) (link : LinkSeen T) → entry_at a i ≡ Some (p.1, link) → p.0 ≡ i → IsValid (entry a) p
   valid_there i p link stands at = record {
     value = link.value;
-    stands = ap (entry a) at ∙ entry_at-with_each value_in a i ∙ ap (option_map (on_value value_in)) stands;
+    stands = ap (entry a) at ∙ entry_at-with_each link_value a i ∙ ap (option_map (on_value link_value)) stands;
   }
 
   -- where no link stands before it
   module _ (start i : ℕ) (none : entry_at a i ≡ None) where
     no_entry : entry a i ≡ None
-    no_entry = entry_at-with_each value_in a i ∙ ap (option_map (on_value value_in)) none
+    no_entry = entry_at-with_each link_value a i ∙ ap (option_map (on_value link_value)) none
 
     pub ends_forth : (back : Option ℕ) (left : ℕ) → IfSome (next_step left (shown a) start (Some i) back) (λ step. entry a step.0 ≡ None)
     ends_forth back zero = tt

@@ -1,7 +1,7 @@
 -- Interlinks that are answered, index by index, agree.
 use Rattle.std.proofs.Common.{◌≡◌, ◌↔◌, ℕ, zero, suc, ◌+◌, ◌≤◌, ◌<◌, Bool, Option, None, Some, refl, sym, ap, ◌∙◌, subst, arith}
 use Rattle.std.specs.Prelude.{IsTrue}
-use Rattle.chain_laws.specs.Chains.{Shown, Interlinks, Agrees, IsWithin, prev_in, next_in}
+use Rattle.chain_laws.specs.Chains.{Shown, Interlinks, Agrees, HasLinksWithin, prev_in, next_in}
 use Rattle.chain_interlinks.specs.Agreeing.{AgreesAt}
 
 -- a look at the one index that an interlink names tells whether that interlink is answered
@@ -21,7 +21,7 @@ module _ (shown : Shown) where
   }
 
   -- all links stand within so many slots, so no more has to be looked at
-  pub agrees_all : (slots : ℕ) → IsWithin shown slots → ((k : ℕ) → k < slots → AgreesAt shown (k + 1)) → Agrees shown
+  pub agrees_all : (slots : ℕ) → HasLinksWithin shown slots → ((k : ℕ) → k < slots → AgreesAt shown (k + 1)) → Agrees shown
   agrees_all slots within each = record { both = λ i j. ((at i).forth j, (at j).back i) } where
     there : (i : ℕ) → (1 ≤ i) × (i ≤ slots) → AgreesAt shown i
     there zero inside = absurd (omega (arith, inside.0))

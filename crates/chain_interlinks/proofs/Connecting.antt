@@ -2,13 +2,13 @@
 use Rattle.std.proofs.Common.{◌≡◌, ◌↔◌, ℕ, Bool, true, false, Option, None, Some, refl, ap, sym, ◌∙◌, subst}
 use Rattle.std.specs.Prelude.{is_some, not, IsTrue}
 use Rattle.std.specs.Option.{option_map, option_and_then}
-use Rattle.chain_laws.specs.Chains.{Shown, Agrees, IsValid, prev_of, next_of, prev_in, next_in}
+use Rattle.chain_laws.specs.Chains.{Shown, Agrees, HasLink, prev_of, next_of, prev_in, next_in}
 use Rattle.chain_laws.specs.Operations.{AddsPair, Connects, joined, AreEndAndStart}
 use Rattle.chain_laws.proofs.Joining.{joined_agrees, joined_adds_a_pair, joined_connects}
 use Rattle.chain_links.specs.declared.links.LinkBody.{LinkBody}
 use Rattle.chain_links.specs.Links.{seen_link, seen_pair, seen_links}
 use Rattle.arena_base.specs.Arena.{Arena, entry_at}
-use Rattle.chain_links.specs.ChainArena.{on_value, LinkSeen, value_in, shown, values_of, relinked, interlinks_of, CanConnect, IsLinkAt, ptr_at}
+use Rattle.chain_links.specs.ChainArena.{on_value, LinkSeen, link_value, shown, values_of, relinked, interlinks_of, CanConnect, IsLinkAt, ptr_at}
 use Rattle.chain_links.proofs.Mapping.{IsValidPtr, entry_at-with_each, IsValidPtr-with_each}
 use Rattle.chain_links.proofs.Seeing.{entry_at-seen_links}
 use Rattle.chain_interlinks.proofs.Relinking.{shown-relinked, values_of-relinked, FitsLinks-linked}
@@ -33,14 +33,14 @@ module _ {Gen K T : Type 0} (number : K → Option ℕ) where
   pub same_valid : (a : Arena Gen (LinkBody K T)) (p : ℕ × Gen) → IsValidPtr a p ↔ IsValidPtr (values_of (seen_links number a)) p
   same_valid a p =
       let first = IsValidPtr-with_each (seen_link number) a p in
-      let second = IsValidPtr-with_each value_in (seen_links number a) p in
+      let second = IsValidPtr-with_each link_value (seen_links number a) p in
       (λ valid. second.0 (first.0 valid), λ valid. first.1 (second.1 valid))
 
   valid-seen : (a : Arena Gen (LinkBody K T)) (p : ℕ × Gen) (link : LinkBody K T) → entry_at a p.0 ≡ Some (p.1, link) → IsValidPtr (values_of (seen_links number a)) p
   valid-seen a p link stands = (same_valid a p).0 (record { value = link; stands = stands })
 
   -- a link stands at the index of a valid pointer
-  pub valid_at : (a : Arena Gen (LinkBody K T)) (p : ℕ × Gen) (link : LinkBody K T) → entry_at a p.0 ≡ Some (p.1, link) → IsValid (shown (seen_links number a)) p.0
+  pub valid_at : (a : Arena Gen (LinkBody K T)) (p : ℕ × Gen) (link : LinkBody K T) → entry_at a p.0 ≡ Some (p.1, link) → HasLink (shown (seen_links number a)) p.0
   valid_at a p link stands = record { link = interlinks_of (p.1, seen_link number link); shows = ap (option_map interlinks_of) (entry_at-seen_links number a p.0 ∙ ap (option_map (seen_pair number)) stands) }
 
   -- two links may be joined exactly if the first has no next and the second no prev
@@ -61,8 +61,8 @@ module _ {Gen K T : Type 0} (number : K → Option ℕ) where
   not_valid a p invalid valid = invalid ((same_valid a p).1 valid)
 
 module _ {Gen T : Type 0} where
-  valid_shown : (a : Arena Gen (LinkSeen T)) (p : ℕ × Gen) → IsValidPtr (values_of a) p → IsValid (shown a) p.0
-  valid_shown a p valid = let link = (IsValidPtr-with_each value_in a p).1 valid in
+  valid_shown : (a : Arena Gen (LinkSeen T)) (p : ℕ × Gen) → IsValidPtr (values_of a) p → HasLink (shown a) p.0
+  valid_shown a p valid = let link = (IsValidPtr-with_each link_value a p).1 valid in
       record { link = interlinks_of (p.1, link.value); shows = ap (option_map interlinks_of) link.stands }
 
   end_and_start : (a : Arena Gen (LinkSeen T)) (p q : ℕ × Gen) → CanConnect (entry_at (values_of a)) (shown a) p q → AreEndAndStart (shown a) p.0 q.0
@@ -95,8 +95,8 @@ module _ {Gen T : Type 0} where
 module _ {Gen K T : Type 0} (number : K → Option ℕ) where
   -- the value of a link that stands
   pub value_at : (a : Arena Gen (LinkBody K T)) (i : ℕ) → entry_at (values_of (seen_links number a)) i ≡ option_map (on_value (λ l. l.t)) (entry_at a i)
-  value_at a i = entry_at-with_each value_in (seen_links number a) i ∙ (ap (option_map (on_value value_in)) (entry_at-seen_links number a i) ∙ twice (entry_at a i)) where
-    twice : (o : Option (Gen × LinkBody K T)) → option_map (on_value value_in) (option_map (seen_pair number) o) ≡ option_map (on_value (λ l. l.t)) o
+  value_at a i = entry_at-with_each link_value (seen_links number a) i ∙ (ap (option_map (on_value link_value)) (entry_at-seen_links number a i) ∙ twice (entry_at a i)) where
+    twice : (o : Option (Gen × LinkBody K T)) → option_map (on_value link_value) (option_map (seen_pair number) o) ≡ option_map (on_value (λ l. l.t)) o
     twice None = refl
     twice (Some e) = refl
 

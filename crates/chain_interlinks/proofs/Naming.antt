@@ -3,7 +3,7 @@ use Rattle.std.proofs.Common.{◌≡◌, ℕ, true, Option, None, Some, ap, sym,
 use Rattle.std.specs.Prelude.{is_some, IfSome}
 use Rattle.std.specs.Option.{option_map}
 use Rattle.std.proofs.lemmas.Bool.{false≢true}
-use Rattle.chain_laws.specs.Chains.{Shown, Interlinks, IsValid, next_in, prev_in}
+use Rattle.chain_laws.specs.Chains.{Shown, Interlinks, HasLink, next_in, prev_in}
 use Rattle.chain_laws.specs.Insertions.{InsertKind, chain_end, chain_start, next_to, prev_to, at_interlink}
 use Rattle.chain_links.specs.declared.links.LinkBody.{LinkBody}
 use Rattle.chain_links.specs.Links.{seen_link, seen_pair, seen_links}
@@ -59,11 +59,11 @@ pub no_gap : {I Gen T : Type 0} (number : I → ℕ) (entry : ℕ → Option (Ge
 no_gap number entry interlinks kind never = record { some = (λ is. absurd (false≢true is), λ may. absurd (never may)); before = tt; after = tt }
 
 -- a link that was found is valid
-pub found_valid : {A : Type 0} (interlinks : Shown) (i : ℕ) (f : A → Interlinks) (o : Option A) → is_some o ≡ true → IfSome o (λ x. interlinks i ≡ Some (f x)) → IsValid interlinks i
+pub found_valid : {A : Type 0} (interlinks : Shown) (i : ℕ) (f : A → Interlinks) (o : Option A) → is_some o ≡ true → IfSome o (λ x. interlinks i ≡ Some (f x)) → HasLink interlinks i
 found_valid interlinks i f None some shows = cc
 found_valid interlinks i f (Some x) some shows = record { link = f x; shows = shows }
 
 -- two links that stand, the one before the other
 pub may_come_between : {Gen T : Type 0} (at : ℕ → Option (Gen × T)) (interlinks : Shown) (a b : LinkName Gen) (l : Interlinks) → HasName at a → HasName at b
-    → interlinks a.0 ≡ Some l → IsValid interlinks b.0 → l.next ≡ Some b.0 → MayInsert at interlinks (at_interlink a b)
+    → interlinks a.0 ≡ Some l → HasLink interlinks b.0 → l.next ≡ Some b.0 → MayInsert at interlinks (at_interlink a b)
 may_come_between at interlinks a b l has_a has_b shows valid next = ((has_a, has_b), (record { link = l; shows = shows }, valid, ap next_in shows ∙ next))

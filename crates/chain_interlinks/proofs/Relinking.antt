@@ -11,7 +11,7 @@ use Rattle.chain_laws.proofs.Agreement.{if_same, if_other, one_some}
 use Rattle.chain_links.specs.declared.links.LinkBody.{LinkBody}
 use Rattle.chain_links.specs.Links.{seen_link, seen_pair, seen_links}
 use Rattle.arena_base.specs.Arena.{Arena, entry_at, with_value}
-use Rattle.chain_links.specs.ChainArena.{on_value, value_in, values_of, LinkSeen, shown, relink, relinked, interlinks_of, interlinks_in, with_interlinks}
+use Rattle.chain_links.specs.ChainArena.{on_value, link_value, values_of, LinkSeen, shown, relink, relinked, interlinks_of, interlinks_in, with_interlinks}
 use Rattle.chain_links.proofs.Mapping.{is_some-map, entry_at-with_each, length-with_each}
 use Rattle.chain_links.proofs.Seeing.{is_relinked, entry_at-relinked, entry_at-with_value, entry_at-seen_links, length-with_value, length-seen_links, length-relinked, no_entry}
 
@@ -66,7 +66,7 @@ module _ {Gen T : Type 0} where
   FitsLinks-prev_set a interlinks None v fits i = fits i
   FitsLinks-prev_set a interlinks (Some u) v fits i = is_some-if (i == u) (with_prev v) (interlinks i) ∙ fits i
 
-  value-relink : (l : Option Interlinks) (o : Option (Gen × LinkSeen T)) → is_some l ≡ is_some o → option_map (on_value value_in) (relink l o) ≡ option_map (on_value value_in) o
+  value-relink : (l : Option Interlinks) (o : Option (Gen × LinkSeen T)) → is_some l ≡ is_some o → option_map (on_value link_value) (relink l o) ≡ option_map (on_value link_value) o
   value-relink l None same = refl
   value-relink None (Some e) same = absurd (let h = same in cc)
   value-relink (Some l) (Some e) same = refl
@@ -76,10 +76,10 @@ module _ {Gen T : Type 0} where
   values_of-relinked a interlinks fits =
       ap (λ (slots : List (Option (Gen × T))). let b : Arena Gen T = record (values_of a) { slots = slots } in b)
       (ext_get_or None (values_of (relinked a interlinks)).slots (values_of a).slots
-      (length-with_each value_in (relinked a interlinks) ∙ (length-relinked a interlinks ∙ sym (length-with_each value_in a)))
-      (λ k inside. entry_at-with_each value_in (relinked a interlinks) (suc k)
-      ∙ (ap (option_map (on_value value_in)) (entry_at-relinked a interlinks (suc k))
-      ∙ (value-relink (interlinks (suc k)) (entry_at a (suc k)) (fits (suc k)) ∙ sym (entry_at-with_each value_in a (suc k))))))
+      (length-with_each link_value (relinked a interlinks) ∙ (length-relinked a interlinks ∙ sym (length-with_each link_value a)))
+      (λ k inside. entry_at-with_each link_value (relinked a interlinks) (suc k)
+      ∙ (ap (option_map (on_value link_value)) (entry_at-relinked a interlinks (suc k))
+      ∙ (value-relink (interlinks (suc k)) (entry_at a (suc k)) (fits (suc k)) ∙ sym (entry_at-with_each link_value a (suc k))))))
 
   pub FitsLinks-linked : (a : Arena Gen (LinkSeen T)) (u v : Option ℕ) → FitsLinks (linked (shown a) u v) a
   FitsLinks-linked a u v = FitsLinks-prev_set a (next_set (shown a) u v) v u (FitsLinks-next_set a (shown a) u v (FitsLinks-shown a))

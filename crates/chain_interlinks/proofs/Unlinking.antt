@@ -9,13 +9,13 @@ use Rattle.arena_ptr.specs.declared.invalidation.InvalidationResult.TheVariants.
 use Rattle.arena_base.proofs.Seeing.{value_within-made}
 use Rattle.chain_laws.specs.Chains.{Shown, Agrees, prev_of, next_of}
 use Rattle.chain_laws.specs.Operations.{linked}
-use Rattle.chain_laws.specs.Removals.{without, removed, Removes, RemovesPairs}
+use Rattle.chain_laws.specs.Removals.{vacated, removed, Removes, RemovesPairs}
 use Rattle.chain_laws.proofs.RemovalPairs.{removed_agrees, removed_in_pairs}
 use Rattle.chain_laws.proofs.Removing.{removed_removes}
 use Rattle.arena_base.specs.Arena.{Arena, entry_at, remove_at, renewed_at}
 use Rattle.arena_base.specs.Entries.{seen_of}
 use Rattle.arena_base.specs.Entries.{removed as seen_removed}
-use Rattle.chain_links.specs.ChainArena.{on_value, LinkSeen, value_in, with_value_in, shown, relinked, interlinks_of, values_of, with_value_at, remove_link}
+use Rattle.chain_links.specs.ChainArena.{on_value, LinkSeen, link_value, with_link_value, shown, relinked, interlinks_of, values_of, with_value_at, remove_link}
 use Rattle.arena_base.proofs.Seeing as seeing
 use Rattle.chain_links.proofs.Inserting.{map-if}
 use Rattle.chain_links.proofs.Mapping.{with_each-remove_at}
@@ -30,10 +30,10 @@ module _ {Gen T : Type 0} where
   -- a write of a value ..
   pub shown-written : (a b : Arena Gen (LinkSeen T)) (i : ℕ) (t : T) → b ≡ with_value_at a i t → shown b ≡ shown a
   shown-written a b i t written = ap (λ (x : Arena Gen (LinkSeen T)). shown x) written ∙ fun_ext (λ j.
-      ap (option_map interlinks_of) (slot_at-changed a.slots i j (option_map (on_value (with_value_in t))) refl)
+      ap (option_map interlinks_of) (slot_at-changed a.slots i j (option_map (on_value (with_link_value t))) refl)
       ∙ (map-if (j == i) _ _ ∙ same_if (j == i) _ _ (kept (entry_at a j))))
     where
-      kept : (o : Option (Gen × LinkSeen T)) → option_map interlinks_of (option_map (on_value (with_value_in t)) o) ≡ option_map interlinks_of o
+      kept : (o : Option (Gen × LinkSeen T)) → option_map interlinks_of (option_map (on_value (with_link_value t)) o) ≡ option_map interlinks_of o
       kept None = refl
       kept (Some e) = refl
 
@@ -48,7 +48,7 @@ module _ {Gen T : Type 0} where
       kept (Some e) = refl
 
   -- a slot that is freed shows nothing
-  pub shown-remove_at : (following : Gen → Gen) (a : Arena Gen (LinkSeen T)) (i : ℕ) → shown (remove_at following a i) ≡ without (shown a) i
+  pub shown-remove_at : (following : Gen → Gen) (a : Arena Gen (LinkSeen T)) (i : ℕ) → shown (remove_at following a i) ≡ vacated (shown a) i
   shown-remove_at following a i = fun_ext (λ j. ap (option_map interlinks_of) (slot_at-changed a.slots i j (λ _. None) refl) ∙ map-if (j == i) None (entry_at a j))
 
   fits-removed : (following : Gen → Gen) (a : Arena Gen (LinkSeen T)) (i : ℕ) → FitsLinks (removed (shown a) i) (remove_at following a i)
@@ -79,7 +79,7 @@ module _ {Gen T : Type 0} where
 
   -- the values but that at the index stay
   pub values_of-remove_link : (following : Gen → Gen) (a : Arena Gen (LinkSeen T)) (i : ℕ) → values_of (remove_link following a i) ≡ remove_at following (values_of a) i
-  values_of-remove_link following a i = values_of-relinked (remove_at following a i) (removed (shown a) i) (fits-removed following a i) ∙ with_each-remove_at value_in following a i
+  values_of-remove_link following a i = values_of-relinked (remove_at following a i) (removed (shown a) i) (fits-removed following a i) ∙ with_each-remove_at link_value following a i
 
   pub seen-removed : (following : Gen → Gen) (a b : Arena Gen (LinkSeen T)) (i : ℕ) → b ≡ remove_link following a i → seen_of (values_of b) ≡ seen_removed following (seen_of (values_of a)) i
   seen-removed following a b i gone =
@@ -92,7 +92,7 @@ module _ {Gen T : Type 0} where
       joined
       ∙ (ap (λ (x : Arena Gen (LinkSeen T)). relinked x (linked (shown x) u v)) taken
       ∙ (ap (λ (s : Shown). relinked (remove_at following a i) (linked s u v)) (shown-remove_at following a i)
-      ∙ ap₂ (λ (s t : Option ℕ). relinked (remove_at following a i) (linked (without (shown a) i) s t)) before after))
+      ∙ ap₂ (λ (s t : Option ℕ). relinked (remove_at following a i) (linked (vacated (shown a) i) s t)) before after))
 
 -- what was taken out, in the answer of the removal and in another one with the same flag
 pub same_flag : {X Y : Type 0} (wraps flag : Bool) (x : X) (y : Y) (r : InvalidationResult X) (s : InvalidationResult Y) → value_within r ≡ Some x → r ≡ invalidation_result wraps (value_within r)

@@ -6,11 +6,11 @@ use Rattle.chain_laws.specs.Chains.{Shown}
 use Rattle.chain_laws.specs.Walks.{Walker, next_step}
 use Rattle.arena_base.specs.Arena.{Arena, entry_at}
 use Rattle.chain_links.specs.Walkers.{IsPassing}
-use Rattle.chain_links.specs.ChainArena.{LinkSeen, shown, values_of, on_value, value_in, interlinks_of}
+use Rattle.chain_links.specs.ChainArena.{LinkSeen, shown, values_of, on_value, link_value, interlinks_of}
 
 module _ {Gen T : Type 0} where
   stand_in : (slots : List (Option (Gen × LinkSeen T))) (k : ℕ)
-      → is_some (option_map interlinks_of (slice_index_or slots k None)) ≡ is_some (slice_index_or (map (option_map (on_value value_in)) slots) k None)
+      → is_some (option_map interlinks_of (slice_index_or slots k None)) ≡ is_some (slice_index_or (map (option_map (on_value link_value)) slots) k None)
   stand_in [] k = refl
   stand_in (None ∷ slots) zero = refl
   stand_in (Some e ∷ slots) zero = refl

@@ -4,16 +4,16 @@ use Rattle.std.proofs.Common.{sym, ap, ◌∙◌, subst, ⊎_elim, eq-eqb, ne_eq
 use Rattle.std.proofs.lemmas.Bool.{cases_eq}
 
 -- what f names, g names back
-abbrev pub Answers : (ℕ → Option ℕ) → (ℕ → Option ℕ) → Type 0
-Answers f g = (i j : ℕ) → f i ≡ Some j → g j ≡ Some i
+abbrev pub NamesBack : (ℕ → Option ℕ) → (ℕ → Option ℕ) → Type 0
+NamesBack f g = (i j : ℕ) → f i ≡ Some j → g j ≡ Some i
 
 -- f and g undo each other
 abbrev pub Undoes : (ℕ → Option ℕ) → (ℕ → Option ℕ) → Type 0
 Undoes f g = (i j : ℕ) → (f i ≡ Some j) ↔ (g j ≡ Some i)
 
 -- f, but o at i
-abbrev pub put : (ℕ → Option ℕ) → ℕ → Option ℕ → ℕ → Option ℕ
-put f i o j = if j == i then o else f j
+abbrev pub altered : (ℕ → Option ℕ) → ℕ → Option ℕ → ℕ → Option ℕ
+altered f i o j = if j == i then o else f j
 
 -- a choice by a test of equal numbers
 pub if_same : {A : Type 0} (i j : ℕ) (x y : A) → i ≡ j → (if i == j then x else y) ≡ x
@@ -24,12 +24,12 @@ pub if_other : {A : Type 0} (i j : ℕ) (x y : A) → i ≢ j → (if i == j the
 if_other i j x y ne = ap (λ t. if t then x else y) (ne_eqb i j ne)
 
 -- the changed place
-pub put-same : (f : ℕ → Option ℕ) (i : ℕ) (o : Option ℕ) (j : ℕ) → j ≡ i → put f i o j ≡ o
-put-same f i o j e = if_same j i o (f j) e
+pub altered-same : (f : ℕ → Option ℕ) (i : ℕ) (o : Option ℕ) (j : ℕ) → j ≡ i → altered f i o j ≡ o
+altered-same f i o j e = if_same j i o (f j) e
 
 -- any other place
-pub put-other : (f : ℕ → Option ℕ) (i : ℕ) (o : Option ℕ) (j : ℕ) → j ≢ i → put f i o j ≡ f j
-put-other f i o j ne = if_other j i o (f j) ne
+pub altered-other : (f : ℕ → Option ℕ) (i : ℕ) (o : Option ℕ) (j : ℕ) → j ≢ i → altered f i o j ≡ f j
+altered-other f i o j ne = if_other j i o (f j) ne
 
 -- what some function names is not nothing
 pub not_both_ways : {A : Type 0} (o : Option A) (x : A) → o ≡ None → o ≡ Some x → ⊥
@@ -40,42 +40,42 @@ pub one_some : {A : Type 0} {x y : A} → Some x ≡ Some y → x ≡ y
 one_some e = cc
 
 -- a new pair (a, b), of which b had none before it
-pub join_answers : (f g : ℕ → Option ℕ) (a b : ℕ) → Answers f g → g b ≡ None → Answers (put f a (Some b)) (put g b (Some a))
+pub join_answers : (f g : ℕ → Option ℕ) (a b : ℕ) → NamesBack f g → g b ≡ None → NamesBack (altered f a (Some b)) (altered g b (Some a))
 join_answers f g a b each free i j e =
     ⊎_elim
-    (λ s. let same : j ≡ b = one_some (sym e ∙ put-same f a (Some b) i s) in put-same g b (Some a) j same ∙ ap Some (sym s))
+    (λ s. let same : j ≡ b = one_some (sym e ∙ altered-same f a (Some b) i s) in altered-same g b (Some a) j same ∙ ap Some (sym s))
     (λ ne.
-    let back : g j ≡ Some i = each i j (sym (put-other f a (Some b) i ne) ∙ e) in
+    let back : g j ≡ Some i = each i j (sym (altered-other f a (Some b) i ne) ∙ e) in
     let apart : j ≢ b = λ s. not_both_ways (g b) i free (subst (λ k. g k ≡ Some i) s back) in
-    put-other g b (Some a) j apart ∙ back)
+    altered-other g b (Some a) j apart ∙ back)
     (cases_eq i a)
 
 -- a pair taken out, of which a had b after it
-pub cut_answers : (f g : ℕ → Option ℕ) (a b : ℕ) → Answers f g → Answers g f → f a ≡ Some b → Answers (put f a None) (put g b None)
+pub cut_answers : (f g : ℕ → Option ℕ) (a b : ℕ) → NamesBack f g → NamesBack g f → f a ≡ Some b → NamesBack (altered f a None) (altered g b None)
 cut_answers f g a b each back pair i j e =
     ⊎_elim
-    (λ s. absurd (not_both_ways (put f a None i) j (put-same f a None i s) e))
+    (λ s. absurd (not_both_ways (altered f a None i) j (altered-same f a None i s) e))
     (λ ne.
-    let here : f i ≡ Some j = sym (put-other f a None i ne) ∙ e in
+    let here : f i ≡ Some j = sym (altered-other f a None i ne) ∙ e in
     let apart : j ≢ b = λ s. ne (one_some (sym (each i b (subst (λ k. f i ≡ Some k) s here)) ∙ each a b pair)) in
-    put-other g b None j apart ∙ each i j here)
+    altered-other g b None j apart ∙ each i j here)
     (cases_eq i a)
 
 -- the two directions as one
-pub undoes_both : (f g : ℕ → Option ℕ) → Answers f g → Answers g f → Undoes f g
+pub undoes_both : (f g : ℕ → Option ℕ) → NamesBack f g → NamesBack g f → Undoes f g
 undoes_both f g there back i j = (there i j, back j i)
 
 -- a join of what has none after it and what has none before it
-pub join_undoes : (f g : ℕ → Option ℕ) (a b : ℕ) → Undoes f g → f a ≡ None → g b ≡ None → Undoes (put f a (Some b)) (put g b (Some a))
+pub join_undoes : (f g : ℕ → Option ℕ) (a b : ℕ) → Undoes f g → f a ≡ None → g b ≡ None → Undoes (altered f a (Some b)) (altered g b (Some a))
 join_undoes f g a b each none_after none_before =
-    undoes_both (put f a (Some b)) (put g b (Some a))
+    undoes_both (altered f a (Some b)) (altered g b (Some a))
     (join_answers f g a b (λ i j. (each i j).0) none_before)
     (join_answers g f b a (λ i j. (each j i).1) none_after)
 
 -- a cut of a pair
-pub cut_undoes : (f g : ℕ → Option ℕ) (a b : ℕ) → Undoes f g → f a ≡ Some b → Undoes (put f a None) (put g b None)
+pub cut_undoes : (f g : ℕ → Option ℕ) (a b : ℕ) → Undoes f g → f a ≡ Some b → Undoes (altered f a None) (altered g b None)
 cut_undoes f g a b each pair =
-    undoes_both (put f a None) (put g b None)
+    undoes_both (altered f a None) (altered g b None)
     (cut_answers f g a b (λ i j. (each i j).0) (λ i j. (each j i).1) pair)
     (cut_answers g f b a (λ i j. (each j i).1) (λ i j. (each i j).0) ((each a b).0 pair))
 

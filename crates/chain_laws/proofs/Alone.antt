@@ -2,11 +2,11 @@
 use Rattle.std.specs.Prelude.{◌≡◌, ◌≢◌, ◌↔◌, ℕ, ◌⊎◌, List, Option, None, Some}
 use Rattle.std.proofs.Common.{sym, refl, ap, ◌∙◌, subst, inl, inr, ⊎_elim}
 use Rattle.std.proofs.lemmas.Bool.{cases_eq}
-use Rattle.chain_laws.specs.Chains.{Shown, Chain, linear, cyclic, items, IsChain, IsValid, Agrees, Has, Stands, prev_in, next_in, prev_of, next_of, first_or, last_or}
+use Rattle.chain_laws.specs.Chains.{Shown, Chain, linear, cyclic, items, IsChain, HasLink, Agrees, Has, Stands, prev_in, next_in, prev_of, next_of, first_or, last_or}
 use Rattle.chain_laws.specs.Operations.{with_lone, AddsLone}
 use Rattle.chain_laws.proofs.Agreement.{if_same, if_other}
-use Rattle.chain_laws.proofs.Standing.{link, Stands-frame}
-use Rattle.chain_laws.proofs.Linking.{IsValid-same}
+use Rattle.chain_laws.proofs.Standing.{link, Stands-frame, IsChain-frame}
+use Rattle.chain_laws.proofs.Linking.{HasLink-same}
 
 -- the new link names no other
 pub with_lone-at : (shown : Shown) (q j : ℕ) → j ≡ q → with_lone shown q j ≡ Some (link None None)
@@ -41,37 +41,35 @@ with_lone_agrees shown q free agrees =
     }
 
 -- the items of a list without q show what they showed
-without : (shown : Shown) (q : ℕ) (xs : List ℕ) → (Has xs q → ⊥) → (i : ℕ) → Has xs i → with_lone shown q i ≡ shown i
-without shown q xs none i h = with_lone-off shown q i (λ e. none (subst (Has xs) e h))
+shows_same : (shown : Shown) (q : ℕ) (xs : List ℕ) → (Has xs q → ⊥) → (i : ℕ) → Has xs i → with_lone shown q i ≡ shown i
+shows_same shown q xs none i h = with_lone-off shown q i (λ e. none (subst (Has xs) e h))
 
--- a list without q stands before exactly if it stands after
+-- a list without q stands before exactly if it stands after ..
 pub Stands-with_lone : (shown : Shown) (q : ℕ) (before : Option ℕ) (xs : List ℕ) (after : Option ℕ) → (Has xs q → ⊥)
     → Stands shown before xs after ↔ Stands (with_lone shown q) before xs after
 Stands-with_lone shown q before xs after none = (
-  Stands-frame shown (with_lone shown q) before xs after (λ i h. sym (without shown q xs none i h)),
-  Stands-frame (with_lone shown q) shown before xs after (without shown q xs none),
+  Stands-frame shown (with_lone shown q) before xs after (λ i h. sym (shows_same shown q xs none i h)),
+  Stands-frame (with_lone shown q) shown before xs after (shows_same shown q xs none),
 )
 
--- a chain without q is one before exactly if it is one after
+-- .. and a chain without q is one before exactly if it is one after
 pub IsChain-with_lone : (shown : Shown) (q : ℕ) (c : Chain) → (Has (items c) q → ⊥) → IsChain shown c ↔ IsChain (with_lone shown q) c
-IsChain-with_lone shown q (linear xs) none =
-    let stands = Stands-with_lone shown q None xs None none in
-    (λ c. (c.0, c.1, stands.0 c.2), λ c. (c.0, c.1, stands.1 c.2))
-IsChain-with_lone shown q (cyclic xs) none =
-    let stands = Stands-with_lone shown q (last_or xs None) xs (first_or xs None) none in
-    (λ c. (c.0, c.1, stands.0 c.2), λ c. (c.0, c.1, stands.1 c.2))
+IsChain-with_lone shown q c none = (
+  IsChain-frame shown (with_lone shown q) c (λ i h. sym (shows_same shown q (items c) none i h)),
+  IsChain-frame (with_lone shown q) shown c (shows_same shown q (items c) none),
+)
 
 -- the new link is valid, and no other
-pub IsValid-with_lone : (shown : Shown) (q i : ℕ) → IsValid (with_lone shown q) i ↔ (IsValid shown i ⊎ (i ≡ q))
-IsValid-with_lone shown q i = (
+pub HasLink-with_lone : (shown : Shown) (q i : ℕ) → HasLink (with_lone shown q) i ↔ (HasLink shown i ⊎ (i ≡ q))
+HasLink-with_lone shown q i = (
   λ h. ⊎_elim
-      (λ e. let r : IsValid shown i ⊎ (i ≡ q) = inr e in r)
-      (λ ne. inl ((IsValid-same (with_lone shown q) shown i (with_lone-off shown q i ne)).0 h))
+      (λ e. let r : HasLink shown i ⊎ (i ≡ q) = inr e in r)
+      (λ ne. inl ((HasLink-same (with_lone shown q) shown i (with_lone-off shown q i ne)).0 h))
       (cases_eq i q),
   λ h. ⊎_elim
       (λ v. ⊎_elim
       (λ e. record { link = link None None; shows = with_lone-at shown q i e })
-      (λ ne. (IsValid-same (with_lone shown q) shown i (with_lone-off shown q i ne)).1 v)
+      (λ ne. (HasLink-same (with_lone shown q) shown i (with_lone-off shown q i ne)).1 v)
       (cases_eq i q))
       (λ e. record { link = link None None; shows = with_lone-at shown q i e })
       h,
@@ -84,5 +82,5 @@ with_lone_adds shown q free =
       alone = (λ e. cc, (λ h. h, tt), (with_lone-at shown q q refl, tt));
       rest = IsChain-with_lone shown q;
       pairs = λ i j. (λ e. sym (next_of-with_lone shown q free i) ∙ e, λ e. next_of-with_lone shown q free i ∙ e);
-      links = IsValid-with_lone shown q;
+      links = HasLink-with_lone shown q;
     }

@@ -3,24 +3,20 @@ use Rattle.std.proofs.Common.{◌≡◌, ◌≢◌, ℕ, suc, ◌+◌, ◌<◌, 
 use Rattle.chain_laws.specs.Chains.{Shown, Chain, linear, cyclic, items, Has, HasNoRepetition, IsChain, first_or, last_or, prev_in, prev_of}
 use Rattle.chain_laws.specs.Neighbors.{StandsIn}
 use Rattle.chain_laws.specs.Starts.{IsBack, WalkBackBegins, WalkBackGoesOn, WalkBackEnds, WalkBackComesRound, WalkBackIsShort}
-use Rattle.chain_laws.proofs.Members.{Has-left, Has-right, Has-parts, Has-written, HasNoRepetition-apart, last_or-append}
+use Rattle.chain_laws.proofs.Members.{Has-left, Has-right, Has-parts, Has-written, HasNoRepetition-apart, last_or-append, last_apart}
 use Rattle.chain_laws.proofs.Standing.{Stands-at}
 use Rattle.chain_laws.proofs.Unique.{chain_valid, chain_once}
 use Rattle.chain_laws.proofs.Partitions.{chain_of_each}
 use Rattle.chain_laws.proofs.Turning.{turned_to}
 
 -- a list is empty, or has a last item
-pub data Ends : List ℕ → Type 0 where
-  is_empty : Ends []
-  ends_in : (xs : List ℕ) (x : ℕ) → Ends (xs ++ x ∷ [])
+pub data IsEmptyOrEnds : List ℕ → Type 0 where
+  is_empty : IsEmptyOrEnds []
+  ends_in : (xs : List ℕ) (x : ℕ) → IsEmptyOrEnds (xs ++ x ∷ [])
 
-pub ending : (xs : List ℕ) → Ends xs
+pub ending : (xs : List ℕ) → IsEmptyOrEnds xs
 ending [] = is_empty
-ending (x ∷ xs) = longer (ending xs)
-  where
-    longer : {ys : List ℕ} → Ends ys → Ends (x ∷ ys)
-    longer is_empty = ends_in [] x
-    longer (ends_in ys y) = ends_in (x ∷ ys) y
+ending (x ∷ xs) = let l = last_apart x xs in subst IsEmptyOrEnds (sym l.2) (ends_in l.0 l.1)
 
 -- what stands behind others in a linear chain shows the last of them as the link before it ..
 prev_linear : (shown : Shown) (before : List ℕ) (here : ℕ) (after : List ℕ) → IsChain shown (linear (before ++ here ∷ after)) → prev_of shown here ≡ last_or before None
@@ -76,11 +72,11 @@ module _ (shown : Shown) (i steps here : ℕ) (back : IsBack shown i steps here)
       prev_cyclic shown i at.before at.after here (subst (λ (ys : List ℕ). IsChain shown (cyclic (i ∷ ys))) at.parts h) at.first
 
 -- nothing comes before: so nothing is left before the walker in a linear chain, and the chain is not cyclic
-nothing_before : (before : List ℕ) → Ends before → last_or before None ≡ None → before ≡ []
+nothing_before : (before : List ℕ) → IsEmptyOrEnds before → last_or before None ≡ None → before ≡ []
 nothing_before _ is_empty e = refl
 nothing_before _ (ends_in ys y) e = let l : last_or (ys ++ y ∷ []) None ≡ Some y = last_or-append ys (y ∷ []) None in absurd (cc)
 
-something_before : (before : List ℕ) (i : ℕ) → Ends before → last_or before (Some i) ≡ None → ⊥
+something_before : (before : List ℕ) (i : ℕ) → IsEmptyOrEnds before → last_or before (Some i) ≡ None → ⊥
 something_before _ i is_empty e = cc
 something_before _ i (ends_in ys y) e = let l : last_or (ys ++ y ∷ []) (Some i) ≡ Some y = last_or-append ys (y ∷ []) (Some i) in cc
 
@@ -99,7 +95,7 @@ back_ends shown i steps here back none = record { in_linear = from_start; in_cyc
         something_before at.before i (ending at.before) (sym (before_cyclic shown i steps here back xs h) ∙ none)
 
 -- where i comes before the walker, the chain is not linear
-comes_before : (i here : ℕ) (before after : List ℕ) → Ends before → HasNoRepetition (before ++ here ∷ after) → Has (here ∷ after) i → last_or before None ≡ Some i → ⊥
+comes_before : (i here : ℕ) (before after : List ℕ) → IsEmptyOrEnds before → HasNoRepetition (before ++ here ∷ after) → Has (here ∷ after) i → last_or before None ≡ Some i → ⊥
 comes_before i here _ after is_empty once has e = cc
 comes_before i here _ after (ends_in ys y) once has e =
     let l : last_or (ys ++ y ∷ []) None ≡ Some y = last_or-append ys (y ∷ []) None in
@@ -115,7 +111,7 @@ back_comes_round shown i steps here back e = record { in_linear = λ xs h m. abs
         comes_before i here at.before at.after (ending at.before) (subst HasNoRepetition at.parts h.1) at.has (sym (before_linear shown i steps here back xs h m) ∙ e)
 
 -- one step back in a linear chain ..
-step_linear : (i steps here k : ℕ) (before after : List ℕ) → Ends before → last_or before None ≡ Some k → steps ≤ length after → Has (here ∷ after) i → (xs : List ℕ) → xs ≡ before ++ here ∷ after
+step_linear : (i steps here k : ℕ) (before after : List ℕ) → IsEmptyOrEnds before → last_or before None ≡ Some k → steps ≤ length after → Has (here ∷ after) i → (xs : List ℕ) → xs ≡ before ++ here ∷ after
     → (b : List ℕ) × (a : List ℕ) × (xs ≡ b ++ k ∷ a) × Has (k ∷ a) i × (steps + 1 ≤ length a)
 step_linear i steps here k _ after is_empty l few has xs parts = absurd (cc)
 step_linear i steps here k _ after (ends_in ys y) l few has xs parts =
@@ -124,7 +120,7 @@ step_linear i steps here k _ after (ends_in ys y) l few has xs parts =
     (ys, here ∷ after, parts ∙ (append_assoc ys (y ∷ []) (here ∷ after) ∙ ap (λ (z : ℕ). ys ++ z ∷ here ∷ after) same), inr has, omega arith)
 
 -- .. and in a cyclic one
-step_cyclic : (i steps k : ℕ) (before after : List ℕ) → Ends before → k ≢ i → last_or before (Some i) ≡ Some k → steps ≤ length after → (xs : List ℕ) → xs ≡ before ++ after
+step_cyclic : (i steps k : ℕ) (before after : List ℕ) → IsEmptyOrEnds before → k ≢ i → last_or before (Some i) ≡ Some k → steps ≤ length after → (xs : List ℕ) → xs ≡ before ++ after
     → (b : List ℕ) × (a : List ℕ) × (xs ≡ b ++ a) × (first_or a (Some i) ≡ Some k) × (steps + 1 ≤ length a)
 step_cyclic i steps k _ after is_empty ne l few xs parts = let same : k ≡ i = cc in absurd (ne same)
 step_cyclic i steps k _ after (ends_in ys y) ne l few xs parts =

@@ -12,7 +12,7 @@ pub record Puts (f h : ℕ → Option ℕ) (q : ℕ) (u v : Option ℕ) : Type 0
   pub off : (j : ℕ) → j ≢ q → u ≢ Some j → h j ≡ f j
 
 -- q may come between u and v: f names nothing at q, and nothing but v at u
-pub record IsRoom (f : ℕ → Option ℕ) (q : ℕ) (u v : Option ℕ) : Type 0 where
+pub record IsOpenPlace (f : ℕ → Option ℕ) (q : ℕ) (u v : Option ℕ) : Type 0 where
   pub free : f q ≡ None
   pub only : (i j : ℕ) → u ≡ Some i → f i ≡ Some j → v ≡ Some j
   pub itself : u ≡ Some q → v ≡ Some q
@@ -22,7 +22,7 @@ abbrev pub IsPairAround : (ℕ → Option ℕ) → ℕ → Option ℕ → Option
 IsPairAround f q u v i j = ((f i ≡ Some j) × ((u ≡ Some i) × (v ≡ Some j) → ⊥)) ⊎ ((u ≡ Some i) × (j ≡ q)) ⊎ ((i ≡ q) × (v ≡ Some j))
 
 -- the pairs of what puts q between u and v
-pub puts_pairs : (f h : ℕ → Option ℕ) (q : ℕ) (u v : Option ℕ) → IsRoom f q u v → Puts f h q u v
+pub puts_pairs : (f h : ℕ → Option ℕ) (q : ℕ) (u v : Option ℕ) → IsOpenPlace f q u v → Puts f h q u v
     → (i j : ℕ) → (h i ≡ Some j) ↔ IsPairAround f q u v i j
 puts_pairs f h q u v room puts i j = (λ e. by e (cases_eq i q) (names_or_not u i), λ p. back p (cases_eq i q))
   where
@@ -45,7 +45,7 @@ pair_around_back f g q u v i j each (inr (inl p)) = inr (inr (p.1, p.0))
 pair_around_back f g q u v i j each (inr (inr p)) = inr (inl (p.1, p.0))
 
 -- functions that undo each other do so with q between u and v
-pub puts_undo : (f g h k : ℕ → Option ℕ) (q : ℕ) (u v : Option ℕ) → Undoes f g → IsRoom f q u v → IsRoom g q v u
+pub puts_undo : (f g h k : ℕ → Option ℕ) (q : ℕ) (u v : Option ℕ) → Undoes f g → IsOpenPlace f q u v → IsOpenPlace g q v u
     → Puts f h q u v → Puts g k q v u → Undoes h k
 puts_undo f g h k q u v each room_after room_before forth back i j =
     let after = puts_pairs f h q u v room_after forth i j in

@@ -2,7 +2,7 @@
 use Rattle.std.proofs.Common.{◌≡◌, ◌↔◌, ℕ, inl, inr, List, [], ◌∷◌, Option, None, Some, refl, sym, ap, ◌∙◌, subst, ap₂}
 use Rattle.std.specs.Option.{option_and_then}
 use mathlib.Core.Path.{fun_ext}
-use Rattle.chain_laws.specs.Chains.{Shown, Interlinks, Chain, linear, cyclic, items, all_items, Has, IsValid, Agrees, IsChain, AreChains, Stands, first_or, last_or, prev_in, next_in, prev_of, next_of}
+use Rattle.chain_laws.specs.Chains.{Shown, Interlinks, Chain, linear, cyclic, items, all_items, Has, HasLink, Agrees, IsChain, AreChains, Stands, first_or, last_or, prev_in, next_in, prev_of, next_of}
 use Rattle.chain_laws.specs.Neighbors.{AreNeighbors}
 use Rattle.chain_laws.specs.Renamings.{IsRenaming, AreImages, IsImage, AreImagesOf, RenamingAgrees, RenamingCarriesPairs, RenamingCarriesChains, RenamingCarriesAll, RenamingIsDetermined}
 use Rattle.chain_laws.specs.Moves.{RenamingsCompose}
@@ -12,23 +12,23 @@ use Rattle.chain_laws.proofs.Images.{comes_from, images-first, images-last, imag
 
 module _ (to : ℕ → Option ℕ) (old new : Shown) (renaming : IsRenaming to old new) where
   -- what a link shows at its new index
-  pub shows_renamed : (i k : ℕ) → IsValid old i → to i ≡ Some k → new k ≡ Some (link (option_and_then to (prev_of old i)) (option_and_then to (next_of old i)))
+  pub shows_renamed : (i k : ℕ) → HasLink old i → to i ≡ Some k → new k ≡ Some (link (option_and_then to (prev_of old i)) (option_and_then to (next_of old i)))
   shows_renamed i k valid e = renaming.carries i k (prev_of old i) (next_of old i) (shows_both old i (prev_of old i) (next_of old i) valid refl refl) e
 
   -- a link stands at its new index
-  pub valid_renamed : (i k : ℕ) → IsValid old i → to i ≡ Some k → IsValid new k
+  pub valid_renamed : (i k : ℕ) → HasLink old i → to i ≡ Some k → HasLink new k
   valid_renamed i k valid e = shows_valid new k _ (shows_renamed i k valid e)
 
   -- what it names there as the one after it ..
-  next_renamed : (i k : ℕ) → IsValid old i → to i ≡ Some k → next_of new k ≡ option_and_then to (next_of old i)
+  next_renamed : (i k : ℕ) → HasLink old i → to i ≡ Some k → next_of new k ≡ option_and_then to (next_of old i)
   next_renamed i k valid e = ap next_in (shows_renamed i k valid e)
 
   -- .. and as the one before it
-  prev_renamed : (i k : ℕ) → IsValid old i → to i ≡ Some k → prev_of new k ≡ option_and_then to (prev_of old i)
+  prev_renamed : (i k : ℕ) → HasLink old i → to i ≡ Some k → prev_of new k ≡ option_and_then to (prev_of old i)
   prev_renamed i k valid e = ap prev_in (shows_renamed i k valid e)
 
   -- neighbors are neighbors at their new indexes, and no others are
-  pairs_renamed : (i j k m : ℕ) → IsValid old i → to i ≡ Some k → to j ≡ Some m → AreNeighbors old i j ↔ AreNeighbors new k m
+  pairs_renamed : (i j k m : ℕ) → HasLink old i → to i ≡ Some k → to j ≡ Some m → AreNeighbors old i j ↔ AreNeighbors new k m
   pairs_renamed i j k m valid e f = (there, back)
     where
       there : next_of old i ≡ Some j → next_of new k ≡ Some m
@@ -100,7 +100,7 @@ renaming_carries_all to old new chains others renaming are images = record {
 }
 
 -- two arenas that show the same where a link stands in either show the same
-pub same_shown : (left right : Shown) → ((k : ℕ) → IsValid left k → left k ≡ right k) → ((k : ℕ) → IsValid right k → left k ≡ right k) → left ≡ right
+pub same_shown : (left right : Shown) → ((k : ℕ) → HasLink left k → left k ≡ right k) → ((k : ℕ) → HasLink right k → left k ≡ right k) → left ≡ right
 same_shown left right in_left in_right = fun_ext (λ k. by k (left k) refl (right k) refl)
   where
     by : (k : ℕ) (o : Option Interlinks) → left k ≡ o → (p : Option Interlinks) → right k ≡ p → left k ≡ right k
@@ -116,7 +116,7 @@ renaming-same to by old new same renaming = subst (λ (f : ℕ → Option ℕ). 
 pub renaming_is_determined : RenamingIsDetermined
 renaming_is_determined to old new other one also = same_shown new other (λ k valid. shown_by k (one.onto k valid)) (λ k valid. shown_by k (also.onto k valid))
   where
-    shown_by : (k : ℕ) → (i : ℕ) × IsValid old i × (to i ≡ Some k) → new k ≡ other k
+    shown_by : (k : ℕ) → (i : ℕ) × HasLink old i × (to i ≡ Some k) → new k ≡ other k
     shown_by k i = shows_renamed to old new one i.0 k i.1 i.2 ∙ sym (shows_renamed to old other also i.0 k i.1 i.2)
 
 -- one renaming after another is a renaming

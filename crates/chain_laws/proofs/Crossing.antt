@@ -9,7 +9,7 @@ use Rattle.chain_laws.proofs.Members.{Has-left, Has-parts, Has-middle, Has-writt
 use Rattle.chain_laws.proofs.Unique.{chain_valid}
 use Rattle.chain_laws.proofs.Turning.{turned, turned_to, one_ring}
 use Rattle.chain_laws.proofs.Exists.{ChainOf, chain_of, has_chain}
-use Rattle.chain_laws.proofs.Determined.{Settles, settled}
+use Rattle.chain_laws.proofs.Determined.{NamesChains, settled}
 use Rattle.chain_laws.proofs.Exchanging.{exchanged_exchanges}
 
 -- the links after p and after q are exchanged, as a word for the new arena
@@ -18,10 +18,10 @@ Crosses old p q new = Exchanges old new p q
 
 -- the chains of p and of q wherever they are
 abbrev Crossed : Shown → ℕ → ℕ → Type 0
-Crossed old p q = Settles (Crosses old p q) p q
+Crossed old p q = NamesChains (Crosses old p q) p q
 
 -- what settles the chains of two indexes settles them in either order
-settles_mutually : (Holds : Shown → Type 0) (a b : ℕ) → Settles Holds a b → Settles Holds b a
+settles_mutually : (Holds : Shown → Type 0) (a b : ℕ) → NamesChains Holds a b → NamesChains Holds b a
 settles_mutually Holds a b settles =
     record {
       left = settles.right;
@@ -34,7 +34,7 @@ settles_mutually Holds a b settles =
 
 -- one linear chain, a before b
 taken_out_settles : (old : Shown) (Holds : Shown → Type 0) (a b : ℕ) → ((new : Shown) → Holds new → ExchangesInOrder old new a b)
-    → (x m y : List ℕ) → IsChain old (linear (x ++ a ∷ m ++ b ∷ y)) → Settles Holds a b
+    → (x m y : List ℕ) → IsChain old (linear (x ++ a ∷ m ++ b ∷ y)) → NamesChains Holds a b
 taken_out_settles old Holds a b in_order x m y chain =
     record {
       left = linear (x ++ a ∷ y);
@@ -47,7 +47,7 @@ taken_out_settles old Holds a b in_order x m y chain =
 
 -- a in a linear chain, b in a cyclic one
 taken_in_settles : (old : Shown) (Holds : Shown → Type 0) (a b : ℕ) → ((new : Shown) → Holds new → ExchangesInOrder old new a b)
-    → (xs ys : List ℕ) → IsChain old (linear xs) → IsChain old (cyclic ys) → Has xs a → Has ys b → Settles Holds a b
+    → (xs ys : List ℕ) → IsChain old (linear xs) → IsChain old (cyclic ys) → Has xs a → Has ys b → NamesChains Holds a b
 taken_in_settles old Holds a b in_order xs ys left right has_a has_b =
     let w = Has-written xs a has_a in
     let t = turned_to old ys b right has_b in

@@ -2,7 +2,7 @@
 use Rattle.std.specs.Prelude.{◌≡◌, ℕ, ◌⊎◌, List, [], ◌∷◌, ◌++◌, Option, None, Some}
 use Rattle.std.proofs.Common.{sym, refl, ap, ◌∙◌, subst, inl, inr}
 use mathlib.Core.Path.{fun_ext}
-use Rattle.chain_laws.specs.Chains.{Shown, Interlinks, Chain, linear, cyclic, items, IsChain, IsValid, IsWithin, Agrees, Has, Stands, prev_of, next_of, first_or, last_or}
+use Rattle.chain_laws.specs.Chains.{Shown, Interlinks, Chain, linear, cyclic, items, IsChain, HasLink, HasLinksWithin, Agrees, Has, Stands, prev_of, next_of, first_or, last_or}
 use Rattle.chain_laws.specs.Operations.{joined, with_lone, Connects, AddsLone, KeepsChainsWithout, HaveSameChains, ChainsDecide, PairsDecide, JoinIsDetermined, LoneIsDetermined}
 use Rattle.chain_laws.proofs.Neighboring.{same_named}
 use Rattle.chain_laws.proofs.Members.{Has-left, Has-middle, Has-written, Has-or_not, last_or-filled, last_or-append}
@@ -43,7 +43,7 @@ chain_elsewhere left right (cyclic (x ∷ xs)) (cyclic ys) i c d there h k =
         subst (λ (zs : List ℕ). IsChain right (cyclic (x ∷ zs))) (sym (one_cyclic left x xs (after ++ before) c here)) that
 
 -- what holds of an arena says which chains have a and b in it
-pub record Settles (Holds : Shown → Type 0) (a b : ℕ) : Type 0 where
+pub record NamesChains (Holds : Shown → Type 0) (a b : ℕ) : Type 0 where
   pub left : Chain
   pub right : Chain
   pub has_a : Has (items left) a
@@ -53,7 +53,7 @@ pub record Settles (Holds : Shown → Type 0) (a b : ℕ) : Type 0 where
 
 -- two arenas of which it holds have the same chains, where each chain with neither stays
 pub settled : (old one other : Shown) (Holds : Shown → Type 0) (a b : ℕ) → ((new : Shown) → Holds new → KeepsChainsWithout old new a b)
-    → Settles Holds a b → Holds one → Holds other → HaveSameChains one other
+    → NamesChains Holds a b → Holds one → Holds other → HaveSameChains one other
 settled old one other Holds a b keeps settles m n c = (alike one other m n, alike other one n m)
   where
     alike : (left right : Shown) → Holds left → Holds right → IsChain left c → IsChain right c
@@ -102,14 +102,14 @@ start_chain shown b (chain_of (cyclic xs) chain has) start =
 
 -- the chain of a and b wherever they are connected
 connected : (old : Shown) (a b : ℕ) (x y : List ℕ) → IsChain old (linear (x ++ a ∷ [])) → IsChain old (linear (b ∷ y))
-    → Settles (λ (new : Shown). Connects old new a b) a b
+    → NamesChains (λ (new : Shown). Connects old new a b) a b
 connected old a b x y left right = by (Has-or_not (x ++ a ∷ []) b)
   where
     in_one : (d : Chain) → Has (items d) a → Has (items d) b → ((new : Shown) → Connects old new a b → IsChain new d)
-        → Settles (λ (new : Shown). Connects old new a b) a b
+        → NamesChains (λ (new : Shown). Connects old new a b) a b
     in_one d has_a has_b stands = record { left = d; right = d; has_a = has_a; has_b = has_b; left_stands = stands; right_stands = stands }
 
-    by : Has (x ++ a ∷ []) b ⊎ (Has (x ++ a ∷ []) b → ⊥) → Settles (λ (new : Shown). Connects old new a b) a b
+    by : Has (x ++ a ∷ []) b ⊎ (Has (x ++ a ∷ []) b → ⊥) → NamesChains (λ (new : Shown). Connects old new a b) a b
     by (inl h) =
         let same : x ++ a ∷ [] ≡ b ∷ y = one_linear old (x ++ a ∷ []) (b ∷ y) b left right h (inl refl) in
         in_one (cyclic (x ++ a ∷ [])) (Has-middle x [] a) h
@@ -141,7 +141,7 @@ lone_is_determined old new q free adds c =
     (added_alike old new (with_lone old q) q adds lone c, added_alike old (with_lone old q) new q lone adds c)
 
 -- a valid index shows the same in an arena that has its chains
-shows_alike : (left right : Shown) (slots : ℕ) → Agrees left → IsWithin left slots → HaveSameChains left right → (i : ℕ) → IsValid left i → left i ≡ right i
+shows_alike : (left right : Shown) (slots : ℕ) → Agrees left → HasLinksWithin left slots → HaveSameChains left right → (i : ℕ) → HasLink left i → left i ≡ right i
 shows_alike left right slots agrees within same i valid = by (has_chain left slots agrees within i valid)
   where
     by : ChainOf left i → left i ≡ right i
@@ -167,7 +167,7 @@ pairs_decide left right agrees_left agrees_right links pairs = fun_ext (λ i. by
     prev_same i = same_named (prev_of left i) (prev_of right i)
         (λ j. (λ e. (agrees_right.both j i).0 ((pairs j i).0 ((agrees_left.both j i).1 e)), λ e. (agrees_left.both j i).0 ((pairs j i).1 ((agrees_right.both j i).1 e))))
 
-    valid_same : (i : ℕ) → IsValid left i → left i ≡ right i
+    valid_same : (i : ℕ) → HasLink left i → left i ≡ right i
     valid_same i valid =
         shows_both left i (prev_of right i) (next_of right i) valid (prev_same i) (next_same i)
         ∙ sym (shows_both right i (prev_of right i) (next_of right i) ((links i).0 valid) refl refl)

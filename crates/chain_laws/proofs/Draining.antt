@@ -3,15 +3,15 @@ use Rattle.std.specs.Prelude.{◌≡◌, ◌≢◌, ℕ, List, [], ◌∷◌, �
 use Rattle.std.specs.Option.{option_or}
 use Rattle.std.proofs.Common.{sym, refl, ap, ap₂, ◌∙◌, subst, inl, inr, ⊎_elim, append-nil}
 use mathlib.Core.List.{reverse_aux}
-use Rattle.chain_laws.specs.Chains.{Shown, Interlinks, Chain, linear, cyclic, items, IsChain, IsValid, IsWithin, Agrees, Has, prev_in, next_in, prev_of, next_of, first_or, last_or}
-use Rattle.chain_laws.specs.Removals.{removed, without}
-use Rattle.chain_laws.specs.Walks.{IsWalk, there_and_back, round, ahead, going_on, goes_on_to, walk_from, removed_each, RemovalLeavesTheWalk, TakesWalk, WalkIsTaken}
-use Rattle.chain_laws.proofs.Members.{Has-left, Has-filled, Has-middle, HasNoRepetition-right, HasNoRepetition-apart, last_or-append}
+use Rattle.chain_laws.specs.Chains.{Shown, Interlinks, Chain, linear, cyclic, items, IsChain, HasLink, HasLinksWithin, Agrees, Has, prev_in, next_in, prev_of, next_of, first_or, last_or}
+use Rattle.chain_laws.specs.Removals.{removed, vacated}
+use Rattle.chain_laws.specs.Walks.{IsWalk, there_and_back, round, walk_ahead, going_on, goes_on_to, walk_from, removed_each, RemovalLeavesTheWalk, TakesWalk, WalkIsTaken}
+use Rattle.chain_laws.proofs.Members.{Has-left, Has-filled, Has-middle, HasNoRepetition-right, HasNoRepetition-apart, last_or-append, last_apart}
 use Rattle.chain_laws.proofs.Standing.{link, Stands-right, Stands-frame}
 use Rattle.chain_laws.proofs.Agreement.{if_same, one_some, not_both_ways}
 use Rattle.chain_laws.proofs.Linking.{linked-off}
 use Rattle.chain_laws.proofs.Unique.{chain_closed, chain_valid}
-use Rattle.chain_laws.proofs.RemovalPairs.{without-off, removed-at, removed_agrees, IsValid-removed}
+use Rattle.chain_laws.proofs.RemovalPairs.{vacated-off, removed-at, removed_agrees, HasLink-removed}
 use Rattle.chain_laws.proofs.Removing.{removed_from_linear, removed_first_of_cyclic}
 use Rattle.chain_laws.proofs.Walking.{going_on-other, no_other_walk}
 use Rattle.chain_laws.proofs.Passing.{walk_chain, walk_once, walk_starts, walk_valid, walks_ahead}
@@ -21,14 +21,7 @@ abbrev rest_of : List ℕ → List ℕ
 rest_of [] = []
 rest_of (x ∷ xs) = xs
 
--- a list with an item has a last one
-last_apart : (x : ℕ) (xs : List ℕ) → (before : List ℕ) × (k : ℕ) × (x ∷ xs ≡ before ++ k ∷ [])
-last_apart x [] = ([], x, refl)
-last_apart x (y ∷ ys) =
-    let l = last_apart y ys in
-    (x ∷ l.0, l.1, ap (λ (zs : List ℕ). x ∷ zs) l.2)
-
--- .. which comes first the other way round
+-- the last item comes first the other way round
 last_reversed : (xs : List ℕ) (k : ℕ) (zs : List ℕ) → reverse_aux (xs ++ k ∷ []) zs ≡ k ∷ reverse_aux xs zs
 last_reversed [] k zs = refl
 last_reversed (x ∷ xs) k zs = last_reversed xs k (x ∷ zs)
@@ -100,10 +93,10 @@ shows_rest shown i walk is_walk j none =
     let own = walk_chain shown i walk is_walk in
     let closed = chain_closed shown own.0 own.1 in
     let here : Has (items own.0) i = (own.2 i).0 (walk_starts shown i walk is_walk) in
-    linked-off (without shown i) (prev_of shown i) (next_of shown i) j
+    linked-off (vacated shown i) (prev_of shown i) (next_of shown i) j
     (λ k named same. none ((own.2 j).1 (closed.back i j here (named ∙ ap (λ (n : ℕ). Some n) (sym same)))))
     (λ k named same. none ((own.2 j).1 (closed.forth i j here (named ∙ ap (λ (n : ℕ). Some n) (sym same)))))
-    ∙ without-off shown i j (λ same. none (subst (Has walk) (sym same) (walk_starts shown i walk is_walk)))
+    ∙ vacated-off shown i j (λ same. none (subst (Has walk) (sym same) (walk_starts shown i walk is_walk)))
 
 -- a link of a walk goes, and any other stays
 record Goes (old new : Shown) (walk : List ℕ) : Type 0 where
@@ -153,17 +146,17 @@ walk_is_taken shown i walk is_walk =
     (subst (λ (w : List ℕ). Goes shown (removed_each shown w) w) (sym e) (goes shown i (rest_of walk) (subst (IsWalk shown i) e is_walk)))
 
 -- the walk of a valid link ..
-pub walk_from-walk : (slots : ℕ) (shown : Shown) (i : ℕ) → Agrees shown → IsWithin shown slots → IsValid shown i → IsWalk shown i (walk_from slots shown (Some i))
+pub walk_from-walk : (slots : ℕ) (shown : Shown) (i : ℕ) → Agrees shown → HasLinksWithin shown slots → HasLink shown i → IsWalk shown i (walk_from slots shown (Some i))
 walk_from-walk slots shown i agrees within valid =
-    subst (IsWalk shown i) (sym (ap (λ (b : Bool). if b then ahead slots shown i (Some i) (prev_of shown i) else []) (ap (is_some {T = Interlinks}) valid.shows)))
+    subst (IsWalk shown i) (sym (ap (λ (b : Bool). if b then walk_ahead slots shown i (Some i) (prev_of shown i) else []) (ap (is_some {T = Interlinks}) valid.shows)))
     (walks_ahead shown slots i agrees within valid)
 
 -- .. and of none
 pub walk_from-none : (slots : ℕ) (shown : Shown) (i : ℕ) → shown i ≡ None → walk_from slots shown (Some i) ≡ []
-walk_from-none slots shown i none = ap (λ (b : Bool). if b then ahead slots shown i (Some i) (prev_of shown i) else []) (ap (is_some {T = Interlinks}) none)
+walk_from-none slots shown i none = ap (λ (b : Bool). if b then walk_ahead slots shown i (Some i) (prev_of shown i) else []) (ap (is_some {T = Interlinks}) none)
 
 -- a walk is that from its first link
-walk_from-rest : (slots : ℕ) (shown : Shown) (o : Option ℕ) (rest : List ℕ) → Agrees shown → IsWithin shown slots → first_or rest None ≡ o → ((k : ℕ) → first_or rest None ≡ Some k → IsWalk shown k rest)
+walk_from-rest : (slots : ℕ) (shown : Shown) (o : Option ℕ) (rest : List ℕ) → Agrees shown → HasLinksWithin shown slots → first_or rest None ≡ o → ((k : ℕ) → first_or rest None ≡ Some k → IsWalk shown k rest)
     → rest ≡ walk_from slots shown o
 walk_from-rest slots shown o [] agrees within first walk = ap (walk_from slots shown) first
 walk_from-rest slots shown o (k ∷ rest) agrees within first walk =
@@ -172,12 +165,12 @@ walk_from-rest slots shown o (k ∷ rest) agrees within first walk =
     ∙ ap (walk_from slots shown) first
 
 -- a walk whose first link is removed goes on
-pub walk_from-next : (slots : ℕ) (shown : Shown) (i : ℕ) → Agrees shown → IsWithin shown slots → IsValid shown i
+pub walk_from-next : (slots : ℕ) (shown : Shown) (i : ℕ) → Agrees shown → HasLinksWithin shown slots → HasLink shown i
     → walk_from slots shown (Some i) ≡ i ∷ walk_from slots (removed shown i) (goes_on_to shown i)
 walk_from-next slots shown i agrees within valid =
     let walk = walk_from slots shown (Some i) in
     let is_walk = walk_from-walk slots shown i agrees within valid in
     let left = leaves shown i walk is_walk in
-    let still : IsWithin (removed shown i) slots = record { within = λ j v. within.within j ((IsValid-removed shown i j).0 v).0 } in
+    let still : HasLinksWithin (removed shown i) slots = record { within = λ j v. within.within j ((HasLink-removed shown i j).0 v).0 } in
     walk_written shown i walk is_walk
     ∙ ap (λ (zs : List ℕ). i ∷ zs) (walk_from-rest slots (removed shown i) (goes_on_to shown i) (rest_of walk) (removed_agrees shown i agrees) still left.first left.walk)

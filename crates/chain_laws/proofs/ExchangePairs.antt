@@ -2,14 +2,14 @@
 use Rattle.std.specs.Prelude.{◌≡◌, ◌≢◌, ◌↔◌, ℕ, ◌⊎◌, Option, Some}
 use Rattle.std.proofs.Common.{sym, refl, ap, ◌∙◌, inl, inr}
 use Rattle.std.proofs.lemmas.Bool.{cases_eq}
-use Rattle.chain_laws.specs.Chains.{Shown, IsValid, Agrees, prev_of, next_of}
+use Rattle.chain_laws.specs.Chains.{Shown, HasLink, Agrees, prev_of, next_of}
 use Rattle.chain_laws.specs.Neighbors.{AreNeighbors}
 use Rattle.chain_laws.specs.Operations.{linked}
 use Rattle.chain_laws.specs.Exchanges.{exchanged, ExchangeAgrees, ExchangeInPairs, ExchangeIsDeterminedByPairs}
 use Rattle.chain_laws.specs.Exchanges.{ExchangeTwiceRestores, ExchangeWithItselfKeeps, ExchangeIsMutual}
-use Rattle.chain_laws.proofs.Agreement.{put, put-same, put-other}
+use Rattle.chain_laws.proofs.Agreement.{altered, altered-same, altered-other}
 use Rattle.chain_laws.proofs.Standing.{prev_valid}
-use Rattle.chain_laws.proofs.Linking.{IsValidAt, IsValidAt-Some, put_at, next_of-linked, prev_of-linked, IsValid-linked}
+use Rattle.chain_laws.proofs.Linking.{IsValidAt, IsValidAt-Some, put_at, next_of-linked, prev_of-linked, HasLink-linked}
 use Rattle.chain_laws.proofs.Skipping.{names_or_not}
 use Rattle.chain_laws.proofs.InsertionPairs.{put_at-same, put_at-other}
 use Rattle.chain_laws.proofs.Determined.{pairs_decide}
@@ -20,7 +20,7 @@ use Rattle.chain_laws.proofs.Swapping.{swapped-mutual, swapped_in-mutual, swappe
 pub record AreExchanged (old new : Shown) (p q : ℕ) : Type 0 where
   pub forth : (i : ℕ) → next_of new i ≡ next_of old (swapped p q i)
   pub back : (i : ℕ) → prev_of new i ≡ swapped_in p q (prev_of old i)
-  pub links : (i : ℕ) → IsValid new i ↔ IsValid old i
+  pub links : (i : ℕ) → HasLink new i ↔ HasLink old i
 
 -- so it has the other way round
 pub are_exchanged_back : (old new : Shown) (p q : ℕ) → AreExchanged old new p q → AreExchanged new old p q
@@ -41,14 +41,14 @@ are_exchanged_mutually old new p q are =
     }
 
 -- an exchange exchanges them
-pub exchanged_are : (shown : Shown) (p q : ℕ) → Agrees shown → IsValid shown p → IsValid shown q → AreExchanged shown (exchanged shown p q) p q
+pub exchanged_are : (shown : Shown) (p q : ℕ) → Agrees shown → HasLink shown p → HasLink shown q → AreExchanged shown (exchanged shown p q) p q
 exchanged_are shown p q agrees valid_p valid_q =
     record {
       forth = λ i. outer_next i ∙ next_by i (cases_eq i q) (cases_eq i p);
       back = λ i. outer_prev i ∙ prev_by i (names_or_not a i) (names_or_not b i);
       links = λ i.
-          let outer = IsValid-linked half (Some q) a i in
-          let inner = IsValid-linked shown (Some p) b i in
+          let outer = HasLink-linked half (Some q) a i in
+          let inner = HasLink-linked shown (Some p) b i in
           (λ v. inner.0 (outer.0 v), λ v. outer.1 (inner.1 v));
     }
   where
@@ -64,22 +64,22 @@ exchanged_are shown p q agrees valid_p valid_q =
     named_valid : (k : ℕ) → IsValidAt shown (next_of shown k)
     named_valid k i e = prev_valid shown i k ((agrees.both k i).0 e)
 
-    outer_next : (i : ℕ) → next_of (exchanged shown p q) i ≡ put (next_of half) q a i
-    outer_next i = next_of-linked half (Some q) a i (IsValidAt-Some half q ((IsValid-linked shown (Some p) b q).1 valid_q))
+    outer_next : (i : ℕ) → next_of (exchanged shown p q) i ≡ altered (next_of half) q a i
+    outer_next i = next_of-linked half (Some q) a i (IsValidAt-Some half q ((HasLink-linked shown (Some p) b q).1 valid_q))
 
-    inner_next : (i : ℕ) → next_of half i ≡ put (next_of shown) p b i
+    inner_next : (i : ℕ) → next_of half i ≡ altered (next_of shown) p b i
     inner_next i = next_of-linked shown (Some p) b i (IsValidAt-Some shown p valid_p)
 
-    next_by : (i : ℕ) → (i ≡ q) ⊎ (i ≢ q) → (i ≡ p) ⊎ (i ≢ p) → put (next_of half) q a i ≡ next_of shown (swapped p q i)
-    next_by i (inl e) _ = put-same (next_of half) q a i e ∙ ap (next_of shown) (sym (swapped-second p q i e))
+    next_by : (i : ℕ) → (i ≡ q) ⊎ (i ≢ q) → (i ≡ p) ⊎ (i ≢ p) → altered (next_of half) q a i ≡ next_of shown (swapped p q i)
+    next_by i (inl e) _ = altered-same (next_of half) q a i e ∙ ap (next_of shown) (sym (swapped-second p q i e))
     next_by i (inr not_q) (inl e) =
-        put-other (next_of half) q a i not_q ∙ inner_next i ∙ put-same (next_of shown) p b i e ∙ ap (next_of shown) (sym (swapped-first p q i e))
+        altered-other (next_of half) q a i not_q ∙ inner_next i ∙ altered-same (next_of shown) p b i e ∙ ap (next_of shown) (sym (swapped-first p q i e))
     next_by i (inr not_q) (inr not_p) =
-        put-other (next_of half) q a i not_q ∙ inner_next i ∙ put-other (next_of shown) p b i not_p
+        altered-other (next_of half) q a i not_q ∙ inner_next i ∙ altered-other (next_of shown) p b i not_p
         ∙ ap (next_of shown) (sym (swapped-other p q i not_p not_q))
 
     outer_prev : (i : ℕ) → prev_of (exchanged shown p q) i ≡ put_at (prev_of half) a (Some q) i
-    outer_prev i = prev_of-linked half (Some q) a i (λ k e. (IsValid-linked shown (Some p) b k).1 (named_valid p k e))
+    outer_prev i = prev_of-linked half (Some q) a i (λ k e. (HasLink-linked shown (Some p) b k).1 (named_valid p k e))
 
     inner_prev : (i : ℕ) → prev_of half i ≡ put_at (prev_of shown) b (Some p) i
     inner_prev i = prev_of-linked shown (Some p) b i (named_valid q)
@@ -143,7 +143,7 @@ exchange_is_determined_by_pairs old new p q agrees agrees_new valid_p valid_q ex
     (λ i j. (λ e. (that.pairs i j).1 ((exchanges.pairs i j).0 e), λ e. (exchanges.pairs i j).1 ((that.pairs i j).0 e)))
 
 -- two arenas that agree, with the same links and with the same after each index, show the same
-same_after : (left right : Shown) → Agrees left → Agrees right → ((i : ℕ) → IsValid left i ↔ IsValid right i)
+same_after : (left right : Shown) → Agrees left → Agrees right → ((i : ℕ) → HasLink left i ↔ HasLink right i)
     → ((i : ℕ) → next_of left i ≡ next_of right i) → left ≡ right
 same_after left right agrees_left agrees_right links same =
     pairs_decide left right agrees_left agrees_right links (λ i j. (λ e. sym (same i) ∙ e, λ e. same i ∙ e))

@@ -1,7 +1,7 @@
 -- An arena whose interlinks agree has chains: one from each index, and so a list of all.
 use Rattle.std.proofs.Common.{◌≡◌, ◌≢◌, ℕ, zero, suc, ◌+◌, ◌<◌, ◌≤◌, ◌⊎◌, inl, inr, ⊎_elim, List, [], ◌∷◌, ◌++◌, length, Option, None, Some, refl, sym, ap, ◌∙◌, subst, length-append, arith}
 use Rattle.std.proofs.Math.Decide.{ℕ_discrete}
-use Rattle.chain_laws.specs.Chains.{Shown, Interlinks, IsValid, IsWithin, Agrees, Has, HasNoRepetition, Chain, linear, cyclic, items, last_or, prev_in, prev_of, next_of, Stands, IsChain, HasChain, all_items, IsWritten, Rises, AreChains, IsInOrder}
+use Rattle.chain_laws.specs.Chains.{Shown, Interlinks, HasLink, HasLinksWithin, Agrees, Has, HasNoRepetition, Chain, linear, cyclic, items, last_or, prev_in, prev_of, next_of, Stands, IsChain, HasChain, all_items, IsWritten, Rises, AreChains, IsInOrder}
 use Rattle.chain_laws.proofs.Members.{Has-left, Has-right, Has-parts, Has-filled, Has-or_not, HasNoRepetition-append, last_or-filled, length_bound}
 use Rattle.chain_laws.proofs.Standing.{link, shows_valid, shows_both, next_valid, prev_valid, Stands-append, Stands-valid, Stands-last, apart_no_repetition, last_no_repetition}
 use Rattle.chain_laws.proofs.Unique.{chain_valid, chain_once, chains_share, Has-at_most}
@@ -21,9 +21,9 @@ data Beginning (shown : Shown) (k : ℕ) : Type 0 where
 pub data ChainOf (shown : Shown) (k : ℕ) : Type 0 where
   chain_of : (c : Chain) → IsChain shown c → Has (items c) k → ChainOf shown k
 
-module _ (shown : Shown) (slots : ℕ) (agrees : Agrees shown) (within : IsWithin shown slots) where
+module _ (shown : Shown) (slots : ℕ) (agrees : Agrees shown) (within : HasLinksWithin shown slots) where
   -- a list without repetition of valid indexes has no room beyond the slots
-  room : (xs : List ℕ) → HasNoRepetition xs → ((i : ℕ) → Has xs i → IsValid shown i) → slots < length xs → ⊥
+  room : (xs : List ℕ) → HasNoRepetition xs → ((i : ℕ) → Has xs i → HasLink shown i) → slots < length xs → ⊥
   room xs once valid more =
       let bound : length xs ≤ slots = length_bound xs slots once (λ i h. within.within i (valid i h)) in
       omega arith
@@ -45,7 +45,7 @@ module _ (shown : Shown) (slots : ℕ) (agrees : Agrees shown) (within : IsWithi
       named : prev_of shown j ≡ last_or (k ∷ xs) before
       named = names_last before k xs j s
 
-      valid : IsValid shown j
+      valid : HasLink shown j
       valid = let last = last_or-filled (k ∷ xs) k (inl refl) in prev_valid shown j last.0 (named ∙ last.1 before)
 
       longer : slots < left + length (k ∷ xs ++ j ∷ [])
@@ -68,7 +68,7 @@ module _ (shown : Shown) (slots : ℕ) (agrees : Agrees shown) (within : IsWithi
       by_next (Some m) n on = by_test m n (ℕ_discrete m k) on
 
   -- on from a valid index
-  on_from : (k : ℕ) → IsValid shown k → Ending shown (prev_of shown k) k
+  on_from : (k : ℕ) → HasLink shown k → Ending shown (prev_of shown k) k
   on_from k valid = by_next (next_of shown k) refl
     where
       stands : (after : Option ℕ) → next_of shown k ≡ after → Stands shown (prev_of shown k) (k ∷ []) after
@@ -96,7 +96,7 @@ module _ (shown : Shown) (slots : ℕ) (agrees : Agrees shown) (within : IsWithi
       before = shows_both shown j (prev_of shown j) (Some x) (next_valid shown j x on) refl on
 
   -- each valid index stands in a chain
-  pub has_chain : (k : ℕ) → IsValid shown k → ChainOf shown k
+  pub has_chain : (k : ℕ) → HasLink shown k → ChainOf shown k
   has_chain k valid = by_ending (on_from k valid)
     where
       by_beginning : Beginning shown k → ChainOf shown k
@@ -130,12 +130,12 @@ module _ (shown : Shown) (slots : ℕ) (agrees : Agrees shown) (within : IsWithi
     written : (c : Chain) → HasChain chains c → IsWritten c
     once : HasNoRepetition (all_items chains)
     apart : (i : ℕ) → Has (all_items chains) i → Has (all_items done) i → ⊥
-    all : (i : ℕ) → IsValid shown i → Has (all_items done) i ⊎ Has (all_items chains) i
+    all : (i : ℕ) → HasLink shown i → Has (all_items done) i ⊎ Has (all_items chains) i
     rises : Rises chains
 
   -- one more chain before the others
   with_chain : (k : ℕ) (done : List Chain) (c : Chain) → IsChain shown c → Has (items c) k → IsWritten c
-      → ((i : ℕ) → IsValid shown i → i < k → Has (all_items done) i) → ((y : ℕ) → Has (items c) y → Has (all_items done) y → ⊥)
+      → ((i : ℕ) → HasLink shown i → i < k → Has (all_items done) i) → ((y : ℕ) → Has (items c) y → Has (all_items done) y → ⊥)
       → Others (c ∷ done) → Others done
   with_chain k done c h m w below apart more = record {
     chains = c ∷ more.chains;
@@ -171,7 +171,7 @@ module _ (shown : Shown) (slots : ℕ) (agrees : Agrees shown) (within : IsWithi
 
   -- the chains of the indexes from k on that are not among those done
   others : (left k : ℕ) (done : List Chain) → k + left ≡ suc slots → ((c : Chain) → HasChain done c → IsChain shown c)
-      → ((i : ℕ) → IsValid shown i → i < k → Has (all_items done) i) → Others done
+      → ((i : ℕ) → HasLink shown i → i < k → Has (all_items done) i) → Others done
   others zero k done e each below = record {
     chains = [];
     each = λ c n. absurd n;
@@ -192,11 +192,11 @@ module _ (shown : Shown) (slots : ℕ) (agrees : Agrees shown) (within : IsWithi
       each_more c h d (inl f) = subst (IsChain shown) f h
       each_more c h d (inr n) = each d n
 
-      split : (P : ℕ → Type 0) → ((i : ℕ) → IsValid shown i → i < k → P i) → (IsValid shown k → P k) → (i : ℕ) → IsValid shown i → i < suc k → P i
+      split : (P : ℕ → Type 0) → ((i : ℕ) → HasLink shown i → i < k → P i) → (HasLink shown k → P k) → (i : ℕ) → HasLink shown i → i < suc k → P i
       split P low here i v l = by_test (ℕ_discrete i k)
         where
           by_test : Dec (i ≡ k) → P i
-          by_test (yes f) = subst P (sym f) (here (subst (IsValid shown) f v))
+          by_test (yes f) = subst P (sym f) (here (subst (HasLink shown) f v))
           by_test (no d) = low i v (omega arith)
 
       done_apart : (Has (all_items done) k → ⊥) → (c : Chain) → IsChain shown c → Has (items c) k → (y : ℕ) → Has (items c) y → Has (all_items done) y → ⊥
@@ -205,7 +205,7 @@ module _ (shown : Shown) (slots : ℕ) (agrees : Agrees shown) (within : IsWithi
           new (Has-all_items done d.0 k d.1 (chains_share shown c d.0 y k h (each d.0 d.1) n d.2 m))
 
       by_written : (Has (all_items done) k → ⊥) → WrittenFrom k
-          → ((c : Chain) → IsChain shown c → ((i : ℕ) → IsValid shown i → i < suc k → Has (all_items (c ∷ done)) i) → Others (c ∷ done)) → Others done
+          → ((c : Chain) → IsChain shown c → ((i : ℕ) → HasLink shown i → i < suc k → Has (all_items (c ∷ done)) i) → Others (c ∷ done)) → Others done
       by_written new (written_from c h m w) more =
           with_chain k done c h m w below (done_apart new c h m)
           (more c h (split (Has (items c ++ all_items done)) (λ i v l. Has-right (items c) (all_items done) i (below i v l)) (λ v. Has-left (items c) (all_items done) k m)))
@@ -215,16 +215,16 @@ module _ (shown : Shown) (slots : ℕ) (agrees : Agrees shown) (within : IsWithi
           let early : (y < k) → ⊥ = λ (l : y < k). done_apart new c h m y n (below y (chain_valid shown c y h n) l) in
           omega arith
 
-      by_done : IsValid shown k → Has (all_items done) k ⊎ (Has (all_items done) k → ⊥)
-          → (((i : ℕ) → IsValid shown i → i < suc k → Has (all_items done) i) → Others done)
-          → ((c : Chain) → IsChain shown c → ((i : ℕ) → IsValid shown i → i < suc k → Has (all_items (c ∷ done)) i) → Others (c ∷ done)) → Others done
+      by_done : HasLink shown k → Has (all_items done) k ⊎ (Has (all_items done) k → ⊥)
+          → (((i : ℕ) → HasLink shown i → i < suc k → Has (all_items done) i) → Others done)
+          → ((c : Chain) → IsChain shown c → ((i : ℕ) → HasLink shown i → i < suc k → Has (all_items (c ∷ done)) i) → Others (c ∷ done)) → Others done
       by_done v (inl h) same more = same (split (Has (all_items done)) below (λ w. h))
       by_done v (inr new) same more = by_written new (from_least k (has_chain k v) (least new)) more
 
       by_valid : (o : Option Interlinks) → shown k ≡ o
-          → (((i : ℕ) → IsValid shown i → i < suc k → Has (all_items done) i) → Others done)
-          → ((c : Chain) → IsChain shown c → ((i : ℕ) → IsValid shown i → i < suc k → Has (all_items (c ∷ done)) i) → Others (c ∷ done)) → Others done
-      by_valid None is same more = same (split (Has (all_items done)) below (λ (v : IsValid shown k). let f = v.shows in absurd (cc)))
+          → (((i : ℕ) → HasLink shown i → i < suc k → Has (all_items done) i) → Others done)
+          → ((c : Chain) → IsChain shown c → ((i : ℕ) → HasLink shown i → i < suc k → Has (all_items (c ∷ done)) i) → Others (c ∷ done)) → Others done
+      by_valid None is same more = same (split (Has (all_items done)) below (λ (v : HasLink shown k). let f = v.shows in absurd (cc)))
       by_valid (Some l) is same more = by_done (shows_valid shown k l is) (Has-or_not (all_items done) k) same more
 
   -- the arena has chains, in order
@@ -236,5 +236,5 @@ module _ (shown : Shown) (slots : ℕ) (agrees : Agrees shown) (within : IsWithi
         record { written = all.written; rises = all.rises },
       )
     where
-      none_before : (i : ℕ) → IsValid shown i → i < 1 → ⊥
+      none_before : (i : ℕ) → HasLink shown i → i < 1 → ⊥
       none_before i v l = let w = within.within i v in let low : 1 ≤ i = w.0 in omega arith

@@ -2,12 +2,12 @@
 use Rattle.std.proofs.Common.{◌≡◌, ℕ, inl, inr, Option, None, Some, refl, sym, ap, ◌∙◌}
 use Rattle.std.proofs.Math.Decide.{ℕ_discrete}
 use Rattle.std.proofs.Math.Logic.{∥∥₁_elim}
-use Rattle.chain_laws.specs.Chains.{Shown, Interlinks, IsValid, prev_of, next_of}
+use Rattle.chain_laws.specs.Chains.{Shown, Interlinks, HasLink, prev_of, next_of}
 use Rattle.chain_laws.specs.Operations.{AreEndAndStart}
 use Rattle.chain_laws.specs.Insertions.{IsGap}
 
 -- where it cannot be that no link stands, one does; and so with the want of an index
-stands_had : (shown : Shown) (i : ℕ) (link : Option Interlinks) → shown i ≡ link → ((IsValid shown i → ⊥) → ⊥) → IsValid shown i
+stands_had : (shown : Shown) (i : ℕ) (link : Option Interlinks) → shown i ≡ link → ((HasLink shown i → ⊥) → ⊥) → HasLink shown i
 stands_had shown i None none some = absurd (some (λ v. let no = sym none ∙ v.shows in cc))
 stands_had shown i (Some l) is some = record { link = l; shows = is }
 

@@ -1,6 +1,6 @@
 -- Lists of chains: which chain an index stands in.
 use Rattle.std.proofs.Common.{◌≡◌, ℕ, ◌⊎◌, inl, inr, List, [], ◌∷◌, refl, sym, ◌∙◌, subst}
-use Rattle.chain_laws.specs.Chains.{Shown, IsValid, Has, HasNoRepetition, Chain, items, HasChain, all_items, IsChain}
+use Rattle.chain_laws.specs.Chains.{Shown, HasLink, Has, HasNoRepetition, Chain, items, HasChain, all_items, IsChain}
 use Rattle.chain_laws.proofs.Members.{Has-left, Has-right, Has-parts, HasNoRepetition-left, HasNoRepetition-right, HasNoRepetition-apart}
 use Rattle.chain_laws.proofs.Unique.{chain_valid}
 
@@ -39,7 +39,7 @@ once_chain (b ∷ chains) c d i once (inr m) (inr n) h k =
     once_chain chains c d i (HasNoRepetition-right (items b) (all_items chains) once) m n h k
 
 -- what stands in the chains of an arena is valid
-pub all_items_valid : (shown : Shown) (chains : List Chain) (i : ℕ) → ((c : Chain) → HasChain chains c → IsChain shown c) → Has (all_items chains) i → IsValid shown i
+pub all_items_valid : (shown : Shown) (chains : List Chain) (i : ℕ) → ((c : Chain) → HasChain chains c → IsChain shown c) → Has (all_items chains) i → HasLink shown i
 all_items_valid shown chains i each h =
     let w = chain_at chains i h in
     chain_valid shown w.0 i (each w.0 w.1) w.2

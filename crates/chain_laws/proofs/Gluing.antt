@@ -4,37 +4,36 @@ use Rattle.std.proofs.Common.{sym, ◌∙◌, subst, inl, inr, ⊎_elim}
 use Rattle.chain_laws.specs.Chains.{Shown, Chain, linear, cyclic, items, IsChain, Has, HasNoRepetition, Stands, first_or, last_or}
 use Rattle.chain_laws.specs.Operations.{prev_set, next_set, linked}
 use Rattle.chain_laws.proofs.Members.{last_or-Has}
-use Rattle.chain_laws.proofs.Standing.{Stands-frame, Stands-append}
+use Rattle.chain_laws.proofs.Standing.{Stands-frame, IsChain-frame, Stands-append}
 use Rattle.chain_laws.proofs.Linking.{IsOff, next_set-off, prev_set-off, linked-off, next_set-at, prev_set-at}
 use Rattle.chain_laws.proofs.Agreement.{one_some}
 
 -- the index, where it is one, is not among the items
-abbrev pub IsApart : Option ℕ → List ℕ → Type 0
-IsApart u xs = (i : ℕ) → u ≡ Some i → Has xs i → ⊥
+abbrev pub IsOutside : Option ℕ → List ℕ → Type 0
+IsOutside u xs = (i : ℕ) → u ≡ Some i → Has xs i → ⊥
 
 -- so no item is that index
-IsOff-item : (u : Option ℕ) (xs : List ℕ) (j : ℕ) → IsApart u xs → Has xs j → IsOff u j
+IsOff-item : (u : Option ℕ) (xs : List ℕ) (j : ℕ) → IsOutside u xs → Has xs j → IsOff u j
 IsOff-item u xs j apart h i named e = apart i named (subst (Has xs) e h)
 
 -- a list that does not have u stands as it stood, whatever comes after u
-pub Stands-next_set : (shown : Shown) (u v before : Option ℕ) (xs : List ℕ) (after : Option ℕ) → IsApart u xs → Stands shown before xs after → Stands (next_set shown u v) before xs after
+pub Stands-next_set : (shown : Shown) (u v before : Option ℕ) (xs : List ℕ) (after : Option ℕ) → IsOutside u xs → Stands shown before xs after → Stands (next_set shown u v) before xs after
 Stands-next_set shown u v before xs after apart stands =
     Stands-frame shown (next_set shown u v) before xs after (λ i h. sym (next_set-off shown u v i (IsOff-item u xs i apart h))) stands
 
 -- .. or before it
-pub Stands-prev_set : (shown : Shown) (u v before : Option ℕ) (xs : List ℕ) (after : Option ℕ) → IsApart u xs → Stands shown before xs after → Stands (prev_set shown u v) before xs after
+pub Stands-prev_set : (shown : Shown) (u v before : Option ℕ) (xs : List ℕ) (after : Option ℕ) → IsOutside u xs → Stands shown before xs after → Stands (prev_set shown u v) before xs after
 Stands-prev_set shown u v before xs after apart stands =
     Stands-frame shown (prev_set shown u v) before xs after (λ i h. sym (prev_set-off shown u v i (IsOff-item u xs i apart h))) stands
 
--- a list that has neither u nor v stands as it stood once v comes after u
-pub Stands-linked : (shown : Shown) (u v before : Option ℕ) (xs : List ℕ) (after : Option ℕ) → IsApart u xs → IsApart v xs → Stands shown before xs after → Stands (linked shown u v) before xs after
-Stands-linked shown u v before xs after apart_u apart_v stands =
-    Stands-frame shown (linked shown u v) before xs after (λ i h. sym (linked-off shown u v i (IsOff-item u xs i apart_u h) (IsOff-item v xs i apart_v h))) stands
+-- the items of a list that has neither u nor v show what they showed, once v comes after u ..
+linked-outside : (shown : Shown) (u v : Option ℕ) (xs : List ℕ) → IsOutside u xs → IsOutside v xs → (i : ℕ) → Has xs i → linked shown u v i ≡ shown i
+linked-outside shown u v xs apart_u apart_v i h = linked-off shown u v i (IsOff-item u xs i apart_u h) (IsOff-item v xs i apart_v h)
 
--- .. and stood as it stands
-pub Stands-unlinked : (shown : Shown) (u v before : Option ℕ) (xs : List ℕ) (after : Option ℕ) → IsApart u xs → IsApart v xs → Stands (linked shown u v) before xs after → Stands shown before xs after
-Stands-unlinked shown u v before xs after apart_u apart_v stands =
-    Stands-frame (linked shown u v) shown before xs after (λ i h. linked-off shown u v i (IsOff-item u xs i apart_u h) (IsOff-item v xs i apart_v h)) stands
+-- .. so it stands as it stood
+pub Stands-linked : (shown : Shown) (u v before : Option ℕ) (xs : List ℕ) (after : Option ℕ) → IsOutside u xs → IsOutside v xs → Stands shown before xs after → Stands (linked shown u v) before xs after
+Stands-linked shown u v before xs after apart_u apart_v stands =
+    Stands-frame shown (linked shown u v) before xs after (λ i h. sym (linked-outside shown u v xs apart_u apart_v i h)) stands
 
 -- an item that stands before others is not the last one
 last_beyond : (x y : ℕ) (ys : List ℕ) → (Has (y ∷ ys) x → ⊥) → IsOff (last_or ys (Some y)) x
@@ -61,7 +60,7 @@ Stands-prev_of_first shown u before (x ∷ xs) after once stands =
 
 -- two lists stand as one once the first item of the second comes after the last of the first
 pub Stands-glued : (shown : Shown) (before : Option ℕ) (xs : List ℕ) (xs_after ys_before : Option ℕ) (ys : List ℕ) (after : Option ℕ)
-    → HasNoRepetition xs → HasNoRepetition ys → IsApart (last_or xs before) ys → IsApart (first_or ys after) xs
+    → HasNoRepetition xs → HasNoRepetition ys → IsOutside (last_or xs before) ys → IsOutside (first_or ys after) xs
     → Stands shown before xs xs_after → Stands shown ys_before ys after
     → Stands (linked shown (last_or xs before) (first_or ys after)) before (xs ++ ys) after
 Stands-glued shown before xs xs_after ys_before ys after xs_once ys_once last_apart first_apart xs_stands ys_stands =
@@ -80,12 +79,12 @@ Stands-ringed shown before (x ∷ xs) after once stands =
     Stands-prev_of_first (next_set shown u (Some x)) u before (x ∷ xs) (Some x) once (Stands-next_of_last shown (Some x) before (x ∷ xs) after once stands)
 
 -- a chain that has neither u nor v is one before exactly if it is one after
-pub IsChain-linked : (shown : Shown) (u v : Option ℕ) (c : Chain) → IsApart u (items c) → IsApart v (items c) → IsChain shown c ↔ IsChain (linked shown u v) c
-IsChain-linked shown u v (linear xs) apart_u apart_v =
-    (λ c. (c.0, c.1, Stands-linked shown u v None xs None apart_u apart_v c.2), λ c. (c.0, c.1, Stands-unlinked shown u v None xs None apart_u apart_v c.2))
-IsChain-linked shown u v (cyclic xs) apart_u apart_v =
-    (λ c. (c.0, c.1, Stands-linked shown u v (last_or xs None) xs (first_or xs None) apart_u apart_v c.2), λ c. (c.0, c.1, Stands-unlinked shown u v (last_or xs None) xs (first_or xs None) apart_u apart_v c.2))
+pub IsChain-linked : (shown : Shown) (u v : Option ℕ) (c : Chain) → IsOutside u (items c) → IsOutside v (items c) → IsChain shown c ↔ IsChain (linked shown u v) c
+IsChain-linked shown u v c apart_u apart_v = (
+  IsChain-frame shown (linked shown u v) c (λ i h. sym (linked-outside shown u v (items c) apart_u apart_v i h)),
+  IsChain-frame (linked shown u v) shown c (linked-outside shown u v (items c) apart_u apart_v),
+)
 
 -- an index that is named as some index is apart from what does not have it
-pub IsApart-Some : (i : ℕ) (xs : List ℕ) → (Has xs i → ⊥) → IsApart (Some i) xs
-IsApart-Some i xs none k e h = none (subst (Has xs) (sym (one_some e)) h)
+pub IsOutside-Some : (i : ℕ) (xs : List ℕ) → (Has xs i → ⊥) → IsOutside (Some i) xs
+IsOutside-Some i xs none k e h = none (subst (Has xs) (sym (one_some e)) h)

@@ -10,16 +10,16 @@ use Rattle.chain_laws.proofs.Members.{HasNoRepetition-left, HasNoRepetition-righ
 use Rattle.chain_laws.proofs.Standing.{Stands-left, Stands-right, Stands-at, Stands-last, shows_next, shows_prev}
 use Rattle.chain_laws.proofs.Unique.{chain_closed, chain_valid, reaches_first}
 use Rattle.chain_laws.proofs.Turning.{turned}
-use Rattle.chain_laws.proofs.Gluing.{IsApart, IsApart-Some, Stands-linked, Stands-glued, Stands-ringed, IsChain-linked}
+use Rattle.chain_laws.proofs.Gluing.{IsOutside, IsOutside-Some, Stands-linked, Stands-glued, Stands-ringed, IsChain-linked}
 use Rattle.chain_laws.proofs.Alone.{with_lone-at, Stands-with_lone, with_lone_adds}
-use Rattle.chain_laws.proofs.InsertionPairs.{free_invalid, appended, IsValid-inserted}
+use Rattle.chain_laws.proofs.InsertionPairs.{free_invalid, appended, HasLink-inserted}
 
 -- the last of a list, where there is one, is not in another with which it shares nothing ..
-last_apart : (xs ys : List ℕ) → ((k : ℕ) → Has xs k → Has ys k → ⊥) → IsApart (last_or xs None) ys
+last_apart : (xs ys : List ℕ) → ((k : ℕ) → Has xs k → Has ys k → ⊥) → IsOutside (last_or xs None) ys
 last_apart xs ys apart k named h = ⊎_elim (λ g. apart k g h) (λ e. absurd (cc)) (last_or-Has xs None k named)
 
 -- .. and its first is not in the other
-first_apart : (xs ys : List ℕ) → ((k : ℕ) → Has xs k → Has ys k → ⊥) → IsApart (first_or ys None) xs
+first_apart : (xs ys : List ℕ) → ((k : ℕ) → Has xs k → Has ys k → ⊥) → IsOutside (first_or ys None) xs
 first_apart xs ys apart k named h = ⊎_elim (λ g. apart k h g) (λ e. absurd (cc)) (first_or-Has ys None k named)
 
 -- a list shares nothing with an index that it does not have
@@ -37,8 +37,8 @@ Stands-appended : (shown : Shown) (q : ℕ) (before : Option ℕ) (xs : List ℕ
 Stands-appended shown q before xs after ends once none stands =
     subst (λ (u : Option ℕ). Stands (appended shown q u) before (xs ++ q ∷ []) None) ends
     (Stands-glued (with_lone shown q) before xs after None (q ∷ []) None once (λ h. h, tt)
-    (subst (λ (u : Option ℕ). IsApart u (q ∷ [])) (sym ends) (last_apart xs (q ∷ []) (one_apart xs q none)))
-    (IsApart-Some q xs none)
+    (subst (λ (u : Option ℕ). IsOutside u (q ∷ [])) (sym ends) (last_apart xs (q ∷ []) (one_apart xs q none)))
+    (IsOutside-Some q xs none)
     ((Stands-with_lone shown q before xs after none).0 stands)
     (with_lone-at shown q q refl, tt))
 
@@ -53,7 +53,7 @@ inserted_between shown q xs xs_after ys_before ys once none xs_stands ys_stands 
     let ys_once : HasNoRepetition ys = HasNoRepetition-right xs ys once in
     let left : Stands (appended shown q u) None longer None = Stands-appended shown q None xs xs_after refl (HasNoRepetition-left xs ys once) not_left xs_stands in
     let right : Stands (appended shown q u) ys_before ys None =
-    Stands-linked (with_lone shown q) u (Some q) ys_before ys None (last_apart xs ys apart) (IsApart-Some q ys not_right)
+    Stands-linked (with_lone shown q) u (Some q) ys_before ys None (last_apart xs ys apart) (IsOutside-Some q ys not_right)
     ((Stands-with_lone shown q ys_before ys None not_right).0 ys_stands) in
     let glued : Stands (linked (appended shown q u) (last_or longer None) (first_or ys None)) None (longer ++ ys) None =
     Stands-glued (appended shown q u) None longer None ys_before ys None xs_once ys_once
@@ -196,17 +196,17 @@ inserted_ring shown q =
     (Has-filled (q ∷ []) q (inl refl), once, Stands-ringed (appended shown q (Some q)) (Some q) (q ∷ []) (Some q) once closed)
 
 -- an index that a chain does not have, or none, is apart from its items
-pub HasIndex-apart : (c : Chain) (u : Option ℕ) → (HasIndex c u → ⊥) → IsApart u (items c)
+pub HasIndex-apart : (c : Chain) (u : Option ℕ) → (HasIndex c u → ⊥) → IsOutside u (items c)
 HasIndex-apart c None none k e h = cc
-HasIndex-apart c (Some i) none k e h = IsApart-Some i (items c) none k e h
+HasIndex-apart c (Some i) none k e h = IsOutside-Some i (items c) none k e h
 
 -- a chain with none of the indexes stays
 inserted_rest : (shown : Shown) (q : ℕ) (u v : Option ℕ) → shown q ≡ None → (c : Chain)
     → (Has (items c) q → ⊥) → (HasIndex c u → ⊥) → (HasIndex c v → ⊥) → IsChain shown c ↔ IsChain (inserted shown q u v) c
 inserted_rest shown q u v free c none_q none_u none_v =
     let alone = (with_lone_adds shown q free).rest c none_q in
-    let inner = IsChain-linked (with_lone shown q) u (Some q) c (HasIndex-apart c u none_u) (IsApart-Some q (items c) none_q) in
-    let outer = IsChain-linked (appended shown q u) (Some q) v c (IsApart-Some q (items c) none_q) (HasIndex-apart c v none_v) in
+    let inner = IsChain-linked (with_lone shown q) u (Some q) c (HasIndex-apart c u none_u) (IsOutside-Some q (items c) none_q) in
+    let outer = IsChain-linked (appended shown q u) (Some q) v c (IsOutside-Some q (items c) none_q) (HasIndex-apart c v none_v) in
     (λ h. outer.0 (inner.0 (alone.0 h)), λ h. alone.1 (inner.1 (outer.1 h)))
 
 -- an insertion inserts the new link between the two
@@ -226,7 +226,7 @@ inserted_inserts shown q u v free =
       two = λ a b at_u at_v x y left right none. moved at_u at_v (linear ((x ++ a ∷ q ∷ []) ++ b ∷ y)) (inserted_two shown a b q x y free left right none);
       one = λ a b at_u at_v xs chain starts ends. moved at_u at_v (cyclic (xs ++ q ∷ [])) (inserted_one shown a b q xs free chain starts ends);
       rest = inserted_rest shown q u v free;
-      links = IsValid-inserted shown q u v;
+      links = HasLink-inserted shown q u v;
     }
   where
     moved : {s t : Option ℕ} → u ≡ s → v ≡ t → (c : Chain) → IsChain (inserted shown q s t) c → IsChain (inserted shown q u v) c

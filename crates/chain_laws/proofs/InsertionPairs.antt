@@ -1,30 +1,30 @@
 -- What an insertion does to the interlinks: the new link comes between two, and they still agree.
 use Rattle.std.specs.Prelude.{◌≡◌, ◌≢◌, ◌↔◌, ℕ, ◌⊎◌, Option, None, Some}
 use Rattle.std.proofs.Common.{sym, refl, ap, ◌∙◌, inl, inr, ⊎_elim}
-use Rattle.chain_laws.specs.Chains.{Shown, IsValid, Agrees, prev_in, next_in, prev_of, next_of}
+use Rattle.chain_laws.specs.Chains.{Shown, HasLink, Agrees, prev_in, next_in, prev_of, next_of}
 use Rattle.chain_laws.specs.Operations.{linked, with_lone}
 use Rattle.chain_laws.specs.Insertions.{disconnected, single_link_cyclic, chain_end, chain_start, next_to, prev_to, at_interlink, bridge}
 use Rattle.chain_laws.specs.Insertions.{inserted, IsGap, KindGivesAGap, InsertionAgrees, InsertionInPairs, InsertionIsDeterminedByPairs}
-use Rattle.chain_laws.proofs.Agreement.{put, put-same, put-other, one_some, not_both_ways}
+use Rattle.chain_laws.proofs.Agreement.{altered, altered-same, altered-other, one_some, not_both_ways}
 use Rattle.chain_laws.proofs.Standing.{next_valid, prev_valid}
-use Rattle.chain_laws.proofs.Linking.{IsValidAt, IsValidAt-Some, put_at, next_of-linked, prev_of-linked, IsValid-linked}
-use Rattle.chain_laws.proofs.Alone.{next_of-with_lone, prev_of-with_lone, IsValid-with_lone}
+use Rattle.chain_laws.proofs.Linking.{IsValidAt, IsValidAt-Some, put_at, next_of-linked, prev_of-linked, HasLink-linked}
+use Rattle.chain_laws.proofs.Alone.{next_of-with_lone, prev_of-with_lone, HasLink-with_lone}
 use Rattle.chain_laws.proofs.Skipping.{names_or_not}
-use Rattle.chain_laws.proofs.Between.{Puts, IsRoom, puts_pairs, puts_undo}
+use Rattle.chain_laws.proofs.Between.{Puts, IsOpenPlace, puts_pairs, puts_undo}
 use Rattle.chain_laws.proofs.Determined.{pairs_decide}
 
 -- the place of a change at an index, where it is one ..
 pub put_at-same : (f : ℕ → Option ℕ) (u o : Option ℕ) (j : ℕ) → u ≡ Some j → put_at f u o j ≡ o
 put_at-same f None o j e = absurd (cc)
-put_at-same f (Some i) o j e = put-same f i o j (sym (one_some e))
+put_at-same f (Some i) o j e = altered-same f i o j (sym (one_some e))
 
 -- .. and any other place
 pub put_at-other : (f : ℕ → Option ℕ) (u o : Option ℕ) (j : ℕ) → u ≢ Some j → put_at f u o j ≡ f j
 put_at-other f None o j ne = refl
-put_at-other f (Some i) o j ne = put-other f i o j (λ e. ne (ap Some (sym e)))
+put_at-other f (Some i) o j ne = altered-other f i o j (λ e. ne (ap Some (sym e)))
 
 -- where no link stands, none is valid
-pub free_invalid : (shown : Shown) (q : ℕ) → shown q ≡ None → IsValid shown q → ⊥
+pub free_invalid : (shown : Shown) (q : ℕ) → shown q ≡ None → HasLink shown q → ⊥
 free_invalid shown q free valid = let shows = sym free ∙ valid.shows in cc
 
 -- a new link at q comes after u
@@ -32,43 +32,43 @@ abbrev pub appended : Shown → ℕ → Option ℕ → Shown
 appended shown q u = linked (with_lone shown q) u (Some q)
 
 -- it is valid, and no other ..
-pub IsValid-appended : (shown : Shown) (q : ℕ) (u : Option ℕ) (i : ℕ) → IsValid (appended shown q u) i ↔ (IsValid shown i ⊎ (i ≡ q))
-IsValid-appended shown q u i =
-    let outer = IsValid-linked (with_lone shown q) u (Some q) i in
-    let inner = IsValid-with_lone shown q i in
+pub HasLink-appended : (shown : Shown) (q : ℕ) (u : Option ℕ) (i : ℕ) → HasLink (appended shown q u) i ↔ (HasLink shown i ⊎ (i ≡ q))
+HasLink-appended shown q u i =
+    let outer = HasLink-linked (with_lone shown q) u (Some q) i in
+    let inner = HasLink-with_lone shown q i in
     (λ v. inner.0 (outer.0 v), λ v. outer.1 (inner.1 v))
 
 -- .. also once it comes before v
-pub IsValid-inserted : (shown : Shown) (q : ℕ) (u v : Option ℕ) (i : ℕ) → IsValid (inserted shown q u v) i ↔ (IsValid shown i ⊎ (i ≡ q))
-IsValid-inserted shown q u v i =
-    let outer = IsValid-linked (appended shown q u) (Some q) v i in
-    let inner = IsValid-appended shown q u i in
+pub HasLink-inserted : (shown : Shown) (q : ℕ) (u v : Option ℕ) (i : ℕ) → HasLink (inserted shown q u v) i ↔ (HasLink shown i ⊎ (i ≡ q))
+HasLink-inserted shown q u v i =
+    let outer = HasLink-linked (appended shown q u) (Some q) v i in
+    let inner = HasLink-appended shown q u i in
     (λ w. inner.0 (outer.0 w), λ w. outer.1 (inner.1 w))
 
 -- there is room for a new link at q between u and v
 pub record IsBetween (shown : Shown) (q : ℕ) (u v : Option ℕ) : Type 0 where
-  pub valid_before : (i : ℕ) → u ≡ Some i → IsValid shown i ⊎ (i ≡ q)
-  pub valid_after : (i : ℕ) → v ≡ Some i → IsValid shown i ⊎ (i ≡ q)
-  pub forth : IsRoom (next_of shown) q u v
-  pub back : IsRoom (prev_of shown) q v u
+  pub valid_before : (i : ℕ) → u ≡ Some i → HasLink shown i ⊎ (i ≡ q)
+  pub valid_after : (i : ℕ) → v ≡ Some i → HasLink shown i ⊎ (i ≡ q)
+  pub forth : IsOpenPlace (next_of shown) q u v
+  pub back : IsOpenPlace (prev_of shown) q v u
 
 -- what comes after each index has q between u and v
 pub next_puts : (shown : Shown) (q : ℕ) (u v : Option ℕ) → shown q ≡ None → IsBetween shown q u v
     → Puts (next_of shown) (next_of (inserted shown q u v)) q u v
 next_puts shown q u v free between =
     record {
-      here = outer q ∙ put-same (next_of (appended shown q u)) q v q refl;
-      named = λ j ne at_u. outer j ∙ put-other (next_of (appended shown q u)) q v j ne ∙ inner j
+      here = outer q ∙ altered-same (next_of (appended shown q u)) q v q refl;
+      named = λ j ne at_u. outer j ∙ altered-other (next_of (appended shown q u)) q v j ne ∙ inner j
           ∙ put_at-same (next_of (with_lone shown q)) u (Some q) j at_u;
-      off = λ j ne not_u. outer j ∙ put-other (next_of (appended shown q u)) q v j ne ∙ inner j
+      off = λ j ne not_u. outer j ∙ altered-other (next_of (appended shown q u)) q v j ne ∙ inner j
           ∙ put_at-other (next_of (with_lone shown q)) u (Some q) j not_u ∙ next_of-with_lone shown q free j;
     }
   where
-    outer : (j : ℕ) → next_of (inserted shown q u v) j ≡ put (next_of (appended shown q u)) q v j
-    outer j = next_of-linked (appended shown q u) (Some q) v j (IsValidAt-Some (appended shown q u) q ((IsValid-appended shown q u q).1 (inr refl)))
+    outer : (j : ℕ) → next_of (inserted shown q u v) j ≡ altered (next_of (appended shown q u)) q v j
+    outer j = next_of-linked (appended shown q u) (Some q) v j (IsValidAt-Some (appended shown q u) q ((HasLink-appended shown q u q).1 (inr refl)))
 
     inner : (j : ℕ) → next_of (appended shown q u) j ≡ put_at (next_of (with_lone shown q)) u (Some q) j
-    inner j = next_of-linked (with_lone shown q) u (Some q) j (λ i e. (IsValid-with_lone shown q i).1 (between.valid_before i e))
+    inner j = next_of-linked (with_lone shown q) u (Some q) j (λ i e. (HasLink-with_lone shown q i).1 (between.valid_before i e))
 
 -- .. and so has what comes before each
 pub prev_puts : (shown : Shown) (q : ℕ) (u v : Option ℕ) → shown q ≡ None → IsBetween shown q u v
@@ -77,18 +77,18 @@ prev_puts shown q u v free between =
     record {
       here = outer q ∙ ⊎_elim
           (λ at_v. put_at-same (prev_of (appended shown q u)) v (Some q) q at_v ∙ sym (between.back.itself at_v))
-          (λ not_v. put_at-other (prev_of (appended shown q u)) v (Some q) q not_v ∙ inner q ∙ put-same (prev_of (with_lone shown q)) q u q refl)
+          (λ not_v. put_at-other (prev_of (appended shown q u)) v (Some q) q not_v ∙ inner q ∙ altered-same (prev_of (with_lone shown q)) q u q refl)
           (names_or_not v q);
       named = λ j ne at_v. outer j ∙ put_at-same (prev_of (appended shown q u)) v (Some q) j at_v;
       off = λ j ne not_v. outer j ∙ put_at-other (prev_of (appended shown q u)) v (Some q) j not_v ∙ inner j
-          ∙ put-other (prev_of (with_lone shown q)) q u j ne ∙ prev_of-with_lone shown q free j;
+          ∙ altered-other (prev_of (with_lone shown q)) q u j ne ∙ prev_of-with_lone shown q free j;
     }
   where
     outer : (j : ℕ) → prev_of (inserted shown q u v) j ≡ put_at (prev_of (appended shown q u)) v (Some q) j
-    outer j = prev_of-linked (appended shown q u) (Some q) v j (λ i e. (IsValid-appended shown q u i).1 (between.valid_after i e))
+    outer j = prev_of-linked (appended shown q u) (Some q) v j (λ i e. (HasLink-appended shown q u i).1 (between.valid_after i e))
 
-    inner : (j : ℕ) → prev_of (appended shown q u) j ≡ put (prev_of (with_lone shown q)) q u j
-    inner j = prev_of-linked (with_lone shown q) u (Some q) j (IsValidAt-Some (with_lone shown q) q ((IsValid-with_lone shown q q).1 (inr refl)))
+    inner : (j : ℕ) → prev_of (appended shown q u) j ≡ altered (prev_of (with_lone shown q)) q u j
+    inner j = prev_of-linked (with_lone shown q) u (Some q) j (IsValidAt-Some (with_lone shown q) q ((HasLink-with_lone shown q q).1 (inr refl)))
 
 -- there is room between what is not q, if what the one names can only be the other
 room_between : (shown : Shown) (q : ℕ) (u v : Option ℕ) → shown q ≡ None → IsValidAt shown u → IsValidAt shown v
@@ -162,7 +162,7 @@ inserted_in_pairs shown q u v agrees free gap =
     let between = gap_between shown q u v agrees free gap in
     record {
       pairs = puts_pairs (next_of shown) (next_of (inserted shown q u v)) q u v between.forth (next_puts shown q u v free between);
-      links = IsValid-inserted shown q u v;
+      links = HasLink-inserted shown q u v;
     }
 
 -- what inserts by pairs, and agrees, is the insertion
@@ -174,11 +174,11 @@ insertion_is_determined_by_pairs old new q u v agrees agrees_new free gap insert
     (λ i j. (λ e. (that.pairs i j).1 ((inserts.pairs i j).0 e), λ e. (inserts.pairs i j).1 ((that.pairs i j).0 e)))
 
 -- after a link, and before one, there is a gap
-gap_after : (shown : Shown) (a q : ℕ) (v : Option ℕ) → IsValid shown a → next_of shown a ≡ v → IsGap shown q (Some a) v
+pub gap_after : (shown : Shown) (a q : ℕ) (v : Option ℕ) → HasLink shown a → next_of shown a ≡ v → IsGap shown q (Some a) v
 gap_after shown a q None valid is = (valid, is)
 gap_after shown a q (Some b) valid is = inl is
 
-gap_before : (shown : Shown) (b q : ℕ) (u : Option ℕ) → Agrees shown → IsValid shown b → prev_of shown b ≡ u → IsGap shown q u (Some b)
+pub gap_before : (shown : Shown) (b q : ℕ) (u : Option ℕ) → Agrees shown → HasLink shown b → prev_of shown b ≡ u → IsGap shown q u (Some b)
 gap_before shown b q None agrees valid is = (valid, is)
 gap_before shown b q (Some a) agrees valid is = inl ((agrees.both a b).1 is)
 

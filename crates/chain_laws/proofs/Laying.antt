@@ -1,7 +1,7 @@
 -- A new link at the end of the last of some runs.
 use Rattle.std.proofs.Common.{◌≡◌, ℕ, suc, ◌+◌, ◌-◌, ◌<◌, ◌≤◌, ◌⊎◌, inl, inr, Bool, true, false, if◌then◌else◌, List, [], ◌∷◌, ◌++◌, length, Option, None, Some, refl, sym, ap, ap₂, ◌∙◌, subst, length-append, append_assoc, append-nil, arith}
 use Rattle.std.specs.List.{range_with_len}
-use Rattle.chain_laws.specs.Chains.{Shown, Chain, linear, cyclic, items, all_items, HasChain, Has, HasNoRepetition, IsChain, IsValid, AreChains, first_or, last_or, next_in, next_of}
+use Rattle.chain_laws.specs.Chains.{Shown, Chain, linear, cyclic, items, all_items, HasChain, Has, HasNoRepetition, IsChain, HasLink, AreChains, first_or, last_or, next_in, next_of}
 use Rattle.chain_laws.specs.Insertions.{inserted, IsGap, Inserts, HasIndex}
 use Rattle.chain_laws.specs.Arrangements.{in_runs}
 use Rattle.chain_laws.specs.Starts.{chain_of}
@@ -68,7 +68,7 @@ filled_laid done ring (y ∷ xs) x =
 
 -- the last link of a run shows what comes after it
 last_next : (shown : Shown) (ring : Bool) (k n : ℕ) → IsChain shown (chain_of ring (range_with_len k (n + 1)))
-    → IsValid shown (k + n) × (next_of shown (k + n) ≡ (if ring then Some k else None))
+    → HasLink shown (k + n) × (next_of shown (k + n) ≡ (if ring then Some k else None))
 last_next shown false k n h =
     let s = Stands-at shown None (range_with_len k n) [] None (k + n) (subst (λ (zs : List ℕ). IsChain shown (linear zs)) (range_last k n) h).2 in
     (shows_valid shown (k + n) _ s, ap next_in s)
@@ -130,9 +130,9 @@ next_end shown ring k n q is h = by ring (last_next shown ring k n own_run) own_
     written : (r : Bool) → IsChain shown (chain_of r (range_with_len k (n + 1))) → IsChain shown (chain_of r (range_with_len k n ++ (q - 1) ∷ []))
     written r own = subst (λ (zs : List ℕ). IsChain shown (chain_of r zs)) (range_last k n ∙ ap (λ (z : ℕ). range_with_len k n ++ z ∷ []) (sym last)) own
 
-    by : (r : Bool) → IsValid shown (k + n) × (next_of shown (k + n) ≡ (if r then Some k else None)) → IsChain shown (chain_of r (range_with_len k (n + 1))) → IsEnd shown r k (suc n) q
+    by : (r : Bool) → HasLink shown (k + n) × (next_of shown (k + n) ≡ (if r then Some k else None)) → IsChain shown (chain_of r (range_with_len k (n + 1))) → IsEnd shown r k (suc n) q
     by false (valid, next) own = record {
-      gap = (subst (IsValid shown) (sym last) valid, ap (next_of shown) last ∙ next);
+      gap = (subst (HasLink shown) (sym last) valid, ap (next_of shown) last ∙ next);
       longer = λ new ins. longer_run new false k n (q - 1) q last after ((ins.after (q - 1) refl (sym (ap (next_of shown) last ∙ next)) (range_with_len k n) []).0 (written false own));
       low = λ c below. ((λ m. above c below (q - 1) (omega arith) m), (λ m. m));
     }
@@ -149,7 +149,7 @@ module _ (shown : Shown) (done : List Chain) (ring : Bool) (xs : List ℕ) (x q 
   laid : all_items (in_runs 1 (with_laid done ring xs)) ≡ range_with_len 1 (length (all_items done) + length xs)
   laid = items_in_runs 1 (with_laid done ring xs) ∙ ap (range_with_len 1) (laid-length done ring xs)
 
-  before_q : (i : ℕ) → IsValid shown i → (1 ≤ i) × (i < q)
+  before_q : (i : ℕ) → HasLink shown i → (1 ≤ i) × (i < q)
   before_q i v = let w = Has-range 1 (length (all_items done) + length xs) i (subst (λ (zs : List ℕ). Has zs i) laid (are.all i v)) in (w.0, omega (arith, w.1, is))
 
   free : shown q ≡ None
@@ -195,13 +195,13 @@ module _ (shown : Shown) (done : List Chain) (ring : Bool) (xs : List ℕ) (x q 
       by (inr (inl e)) = subst (IsChain new) e ((end xs refl).longer new ins)
       by (inr (inr m)) = absurd m
 
-  all : (i : ℕ) → IsValid new i → Has (all_items (in_runs 1 (with_laid done ring (xs ++ x ∷ [])))) i
+  all : (i : ℕ) → HasLink new i → Has (all_items (in_runs 1 (with_laid done ring (xs ++ x ∷ [])))) i
   all i v = subst (λ (zs : List ℕ). Has zs i) (sym now_laid) (by ((ins.links i).0 v))
     where
       now_laid : all_items (in_runs 1 (with_laid done ring (xs ++ x ∷ []))) ≡ range_with_len 1 q
       now_laid = items_in_runs 1 (with_laid done ring (xs ++ x ∷ [])) ∙ ap (range_with_len 1) (laid-length done ring (xs ++ x ∷ []) ∙ (let e : length (xs ++ x ∷ []) ≡ length xs + 1 = length-append xs (x ∷ []) in omega arith))
 
-      by : IsValid shown i ⊎ (i ≡ q) → Has (range_with_len 1 q) i
+      by : HasLink shown i ⊎ (i ≡ q) → Has (range_with_len 1 q) i
       by (inl w) = let b = before_q i w in range-Has 1 q i b.0 (omega (arith, b.1))
       by (inr e) = range-Has 1 q i (omega arith) (omega arith)
 

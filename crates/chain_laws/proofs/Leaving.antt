@@ -1,7 +1,7 @@
 -- The next chain in order, and what is left of it once its first link is removed.
 use Rattle.std.proofs.Common.{◌≡◌, ◌≢◌, ℕ, ◌≤◌, ◌⊎◌, inl, inr, Bool, true, false, List, [], ◌∷◌, ◌++◌, Option, None, Some, refl, sym, ap, ◌∙◌, subst, arith}
 use Rattle.std.specs.Prelude.{is_some}
-use Rattle.chain_laws.specs.Chains.{Shown, Chain, linear, cyclic, items, all_items, HasChain, Has, HasNoRepetition, IsChain, IsValid, IsWritten, first_or, prev_in, next_in, prev_of, next_of}
+use Rattle.chain_laws.specs.Chains.{Shown, Chain, linear, cyclic, items, all_items, HasChain, Has, HasNoRepetition, IsChain, HasLink, IsWritten, first_or, prev_in, next_in, prev_of, next_of}
 use Rattle.chain_laws.specs.Removals.{removed}
 use Rattle.chain_laws.specs.Walks.{going_on}
 use Rattle.chain_laws.specs.Starts.{IsStart, chain_of, LeastIsNext}
@@ -11,7 +11,7 @@ use Rattle.chain_laws.proofs.Unique.{chain_valid, written_least}
 use Rattle.chain_laws.proofs.Gathering.{Has-all_items}
 use Rattle.chain_laws.proofs.Agreement.{if_same}
 use Rattle.chain_laws.proofs.Walking.{going_on-other}
-use Rattle.chain_laws.proofs.RemovalPairs.{IsValid-removed}
+use Rattle.chain_laws.proofs.RemovalPairs.{HasLink-removed}
 use Rattle.chain_laws.proofs.Removing.{removed_from_linear, removed_first_of_cyclic, removed_rest}
 
 -- a chain that is written from here, by whether a link comes before this one
@@ -34,7 +34,7 @@ module _ (shown : Shown) (here : ℕ) where
       (xs, ap (λ (z : ℕ). cyclic (z ∷ xs)) (sym e) ∙ sym (ap (λ (o : Option ℕ). chain_of (is_some o) (here ∷ xs)) some), ap (λ (z : ℕ). z ∷ xs) (sym e))
 
   -- the chain of the least index of all, written from its start
-  from_start : (c : Chain) (i : ℕ) → IsChain shown c → IsWritten c → Has (items c) i → ((j : ℕ) → IsValid shown j → i ≤ j) → IsStart shown i here
+  from_start : (c : Chain) (i : ℕ) → IsChain shown c → IsWritten c → Has (items c) i → ((j : ℕ) → HasLink shown j → i ≤ j) → IsStart shown i here
       → (ys : List ℕ) × (c ≡ chain_of (is_some (prev_of shown here)) (here ∷ ys)) × (items c ≡ here ∷ ys)
   from_start (linear xs) i h w m least start = linear_first xs h (start.in_linear xs h m)
   from_start (cyclic []) i h w m least start = absurd m
@@ -103,7 +103,7 @@ first_is_taken shown ring x xs rest agrees are = (record { each = each xs refl; 
     among j ne (inl same) = absurd (ne (sym same))
     among j ne (inr h) = h
 
-    all : (j : ℕ) → IsValid (removed shown x) j → Has (all_items (with_left ring xs rest)) j
+    all : (j : ℕ) → HasLink (removed shown x) j → Has (all_items (with_left ring xs rest)) j
     all j v =
-        let w = (IsValid-removed shown x j).0 v in
+        let w = (HasLink-removed shown x j).0 v in
         subst (λ (zs : List ℕ). Has zs j) (sym (items_left ring xs rest)) (among j w.1 (subst (λ (zs : List ℕ). Has zs j) written (are.all j w.0)))

@@ -1,7 +1,7 @@
 -- The chains after an insertion are that of the new link and those that stay: what inserts leaves no choice.
 use Rattle.std.specs.Prelude.{◌≡◌, ℕ, ◌⊎◌, List, [], ◌∷◌, ◌++◌, Option, None, Some}
 use Rattle.std.proofs.Common.{sym, refl, ap, ◌∙◌, subst, inl, inr, ⊎_elim}
-use Rattle.chain_laws.specs.Chains.{Shown, Chain, linear, cyclic, items, IsChain, IsWithin, Agrees, Has, prev_of, next_of, first_or}
+use Rattle.chain_laws.specs.Chains.{Shown, Chain, linear, cyclic, items, IsChain, HasLinksWithin, Agrees, Has, prev_of, next_of, first_or}
 use Rattle.chain_laws.specs.Insertions.{inserted, IsGap, HasIndex, Inserts, InsertionIsDetermined}
 use Rattle.chain_laws.proofs.Agreement.{one_some}
 use Rattle.chain_laws.proofs.Members.{Has-left, Has-right, Has-middle, Has-written, Has-or_not, last_or-append}
@@ -109,7 +109,7 @@ lengthened_bridge old a b q x y left right = by (Has-or_not (x ++ a ∷ []) b)
         }
 
 -- in any gap
-lengthened : (old : Shown) (slots q : ℕ) (u v : Option ℕ) → Agrees old → IsWithin old slots → IsGap old q u v → Lengthened old q u v
+lengthened : (old : Shown) (slots q : ℕ) (u v : Option ℕ) → Agrees old → HasLinksWithin old slots → IsGap old q u v → Lengthened old q u v
 lengthened old slots q None None agrees within gap =
     record {
       chain = linear (q ∷ []);

@@ -3,9 +3,9 @@ use Rattle.std.specs.Prelude.{◌≡◌, ◌≢◌, ◌↔◌, ℕ, ◌==◌, if
 use Rattle.std.specs.Option.{option_map}
 use Rattle.std.proofs.Common.{sym, refl, ap, ◌∙◌, subst, ⊎_elim}
 use Rattle.std.proofs.lemmas.Bool.{cases_eq}
-use Rattle.chain_laws.specs.Chains.{Shown, Interlinks, prev_in, next_in, prev_of, next_of, IsValid}
+use Rattle.chain_laws.specs.Chains.{Shown, Interlinks, prev_in, next_in, prev_of, next_of, HasLink}
 use Rattle.chain_laws.specs.Operations.{with_prev, with_next, prev_set, next_set, linked}
-use Rattle.chain_laws.proofs.Agreement.{put, if_same, if_other, put-same, put-other, one_some}
+use Rattle.chain_laws.proofs.Agreement.{altered, if_same, if_other, altered-same, altered-other, one_some}
 
 -- the index, where it is one, is not j
 abbrev pub IsOff : Option ℕ → ℕ → Type 0
@@ -13,16 +13,16 @@ IsOff u j = (i : ℕ) → u ≡ Some i → j ≢ i
 
 -- the index, where it is one, is valid
 abbrev pub IsValidAt : Shown → Option ℕ → Type 0
-IsValidAt shown u = (i : ℕ) → u ≡ Some i → IsValid shown i
+IsValidAt shown u = (i : ℕ) → u ≡ Some i → HasLink shown i
 
 -- a valid index, as some index
-pub IsValidAt-Some : (shown : Shown) (i : ℕ) → IsValid shown i → IsValidAt shown (Some i)
-IsValidAt-Some shown i valid k e = subst (IsValid shown) (one_some e) valid
+pub IsValidAt-Some : (shown : Shown) (i : ℕ) → HasLink shown i → IsValidAt shown (Some i)
+IsValidAt-Some shown i valid k e = subst (HasLink shown) (one_some e) valid
 
 -- what a function names, but o at u
 abbrev pub put_at : (ℕ → Option ℕ) → Option ℕ → Option ℕ → ℕ → Option ℕ
 put_at f None o j = f j
-put_at f (Some i) o j = put f i o j
+put_at f (Some i) o j = altered f i o j
 
 -- another index shows what it showed, after a write of `next` ..
 pub next_set-off : (shown : Shown) (u v : Option ℕ) (j : ℕ) → IsOff u j → next_set shown u v j ≡ shown j
@@ -77,8 +77,8 @@ pub next_of-next_set : (shown : Shown) (u v : Option ℕ) (j : ℕ) → IsValidA
 next_of-next_set shown None v j valid = refl
 next_of-next_set shown (Some i) v j valid = ⊎_elim
     (λ e. let at_i = valid i refl in
-    subst (λ k. next_of (next_set shown (Some i) v) k ≡ v) (sym e) (ap next_in (next_set-at shown i v at_i.link at_i.shows)) ∙ sym (put-same (next_of shown) i v j e))
-    (λ ne. ap next_in (if_other j i _ _ ne) ∙ sym (put-other (next_of shown) i v j ne))
+    subst (λ k. next_of (next_set shown (Some i) v) k ≡ v) (sym e) (ap next_in (next_set-at shown i v at_i.link at_i.shows)) ∙ sym (altered-same (next_of shown) i v j e))
+    (λ ne. ap next_in (if_other j i _ _ ne) ∙ sym (altered-other (next_of shown) i v j ne))
     (cases_eq j i)
 
 -- .. and of `prev`
@@ -86,45 +86,45 @@ pub prev_of-prev_set : (shown : Shown) (u v : Option ℕ) (j : ℕ) → IsValidA
 prev_of-prev_set shown None v j valid = refl
 prev_of-prev_set shown (Some i) v j valid = ⊎_elim
     (λ e. let at_i = valid i refl in
-    subst (λ k. prev_of (prev_set shown (Some i) v) k ≡ v) (sym e) (ap prev_in (prev_set-at shown i v at_i.link at_i.shows)) ∙ sym (put-same (prev_of shown) i v j e))
-    (λ ne. ap prev_in (if_other j i _ _ ne) ∙ sym (put-other (prev_of shown) i v j ne))
+    subst (λ k. prev_of (prev_set shown (Some i) v) k ≡ v) (sym e) (ap prev_in (prev_set-at shown i v at_i.link at_i.shows)) ∙ sym (altered-same (prev_of shown) i v j e))
+    (λ ne. ap prev_in (if_other j i _ _ ne) ∙ sym (altered-other (prev_of shown) i v j ne))
     (cases_eq j i)
 
 -- indexes that show the same are valid alike
-pub IsValid-same : (left right : Shown) (j : ℕ) → left j ≡ right j → IsValid left j ↔ IsValid right j
-IsValid-same left right j e =
+pub HasLink-same : (left right : Shown) (j : ℕ) → left j ≡ right j → HasLink left j ↔ HasLink right j
+HasLink-same left right j e =
     (λ h. record { link = h.link; shows = sym e ∙ h.shows }, λ h. record { link = h.link; shows = e ∙ h.shows })
 
 -- a link that is changed is a link
-pub IsValid-changed : (left right : Shown) (change : Interlinks → Interlinks) (j : ℕ) → left j ≡ option_map change (right j) → IsValid left j ↔ IsValid right j
-IsValid-changed left right change j e =
+pub HasLink-changed : (left right : Shown) (change : Interlinks → Interlinks) (j : ℕ) → left j ≡ option_map change (right j) → HasLink left j ↔ HasLink right j
+HasLink-changed left right change j e =
     (λ h. by (right j) refl (sym e ∙ h.shows), λ h. record { link = change h.link; shows = e ∙ ap (option_map change) h.shows })
   where
-    by : {link : Interlinks} (o : Option Interlinks) → right j ≡ o → option_map change o ≡ Some link → IsValid right j
+    by : {link : Interlinks} (o : Option Interlinks) → right j ≡ o → option_map change o ≡ Some link → HasLink right j
     by None shows h = absurd (cc)
     by (Some l) shows h = record { link = l; shows = shows }
 
 -- a write of `next` leaves no index invalid and makes none valid
-pub IsValid-next_set : (shown : Shown) (u v : Option ℕ) (j : ℕ) → IsValid (next_set shown u v) j ↔ IsValid shown j
-IsValid-next_set shown None v j = (λ h. h, λ h. h)
-IsValid-next_set shown (Some i) v j = ⊎_elim
-    (λ e. IsValid-changed (next_set shown (Some i) v) shown (with_next v) j (if_same j i _ _ e))
-    (λ ne. IsValid-same (next_set shown (Some i) v) shown j (if_other j i _ _ ne))
+pub HasLink-next_set : (shown : Shown) (u v : Option ℕ) (j : ℕ) → HasLink (next_set shown u v) j ↔ HasLink shown j
+HasLink-next_set shown None v j = (λ h. h, λ h. h)
+HasLink-next_set shown (Some i) v j = ⊎_elim
+    (λ e. HasLink-changed (next_set shown (Some i) v) shown (with_next v) j (if_same j i _ _ e))
+    (λ ne. HasLink-same (next_set shown (Some i) v) shown j (if_other j i _ _ ne))
     (cases_eq j i)
 
 -- nor does one of `prev`
-pub IsValid-prev_set : (shown : Shown) (u v : Option ℕ) (j : ℕ) → IsValid (prev_set shown u v) j ↔ IsValid shown j
-IsValid-prev_set shown None v j = (λ h. h, λ h. h)
-IsValid-prev_set shown (Some i) v j = ⊎_elim
-    (λ e. IsValid-changed (prev_set shown (Some i) v) shown (with_prev v) j (if_same j i _ _ e))
-    (λ ne. IsValid-same (prev_set shown (Some i) v) shown j (if_other j i _ _ ne))
+pub HasLink-prev_set : (shown : Shown) (u v : Option ℕ) (j : ℕ) → HasLink (prev_set shown u v) j ↔ HasLink shown j
+HasLink-prev_set shown None v j = (λ h. h, λ h. h)
+HasLink-prev_set shown (Some i) v j = ⊎_elim
+    (λ e. HasLink-changed (prev_set shown (Some i) v) shown (with_prev v) j (if_same j i _ _ e))
+    (λ ne. HasLink-same (prev_set shown (Some i) v) shown j (if_other j i _ _ ne))
     (cases_eq j i)
 
 -- nor does linking
-pub IsValid-linked : (shown : Shown) (u v : Option ℕ) (j : ℕ) → IsValid (linked shown u v) j ↔ IsValid shown j
-IsValid-linked shown u v j =
-    let outer = IsValid-prev_set (next_set shown u v) v u j in
-    let inner = IsValid-next_set shown u v j in
+pub HasLink-linked : (shown : Shown) (u v : Option ℕ) (j : ℕ) → HasLink (linked shown u v) j ↔ HasLink shown j
+HasLink-linked shown u v j =
+    let outer = HasLink-prev_set (next_set shown u v) v u j in
+    let inner = HasLink-next_set shown u v j in
     (λ h. inner.0 (outer.0 h), λ h. outer.1 (inner.1 h))
 
 -- what comes after each index once v comes after u
@@ -134,7 +134,7 @@ next_of-linked shown u v j valid = next_of-prev_set (next_set shown u v) v u j �
 -- .. and what comes before each
 pub prev_of-linked : (shown : Shown) (u v : Option ℕ) (j : ℕ) → IsValidAt shown v → prev_of (linked shown u v) j ≡ put_at (prev_of shown) v u j
 prev_of-linked shown u v j valid =
-    prev_of-prev_set (next_set shown u v) v u j (λ i e. (IsValid-next_set shown u v i).1 (valid i e)) ∙ same v
+    prev_of-prev_set (next_set shown u v) v u j (λ i e. (HasLink-next_set shown u v i).1 (valid i e)) ∙ same v
   where
     same : (w : Option ℕ) → put_at (prev_of (next_set shown u v)) w u j ≡ put_at (prev_of shown) w u j
     same None = prev_of-next_set shown u v j

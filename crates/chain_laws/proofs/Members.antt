@@ -181,3 +181,10 @@ length_bound xs n once within =
 
     below : (q : ℕ) → list_any (eqb q) (0 ∷ xs) ≡ true → q < suc n
     below q e = below_of q (any_Has (0 ∷ xs) q e)
+
+-- a list with an item has a last one
+pub last_apart : (x : ℕ) (xs : List ℕ) → (before : List ℕ) × (k : ℕ) × (x ∷ xs ≡ before ++ k ∷ [])
+last_apart x [] = ([], x, refl)
+last_apart x (y ∷ ys) =
+    let l = last_apart y ys in
+    (x ∷ l.0, l.1, ap (λ (zs : List ℕ). x ∷ zs) l.2)

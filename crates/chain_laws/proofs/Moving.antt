@@ -2,13 +2,13 @@
 use Rattle.std.proofs.Common.{◌≡◌, ◌≢◌, ◌↔◌, ℕ, ◌⊎◌, inl, inr, Option, None, Some, refl, sym, ap, ap₂, ◌∙◌, subst}
 use Rattle.std.specs.Option.{option_map, option_and_then}
 use Rattle.std.proofs.Math.Decide.{ℕ_discrete}
-use Rattle.chain_laws.specs.Chains.{Shown, Interlinks, IsValid, Agrees, prev_in, next_in, prev_of, next_of}
+use Rattle.chain_laws.specs.Chains.{Shown, Interlinks, HasLink, Agrees, prev_in, next_in, prev_of, next_of}
 use Rattle.chain_laws.specs.Operations.{next_set, prev_set}
 use Rattle.chain_laws.specs.Renamings.{IsRenaming}
 use Rattle.chain_laws.specs.Moves.{moved_index, with_moved, moved, put, CanMove, moving, MoveRenames, NeighborsTellAMove}
 use Rattle.chain_laws.proofs.Standing.{link, shows_both, shows_valid, next_valid, prev_valid}
-use Rattle.chain_laws.proofs.Agreement.{if_same, if_other, put-same, put-other, one_some, not_both_ways}
-use Rattle.chain_laws.proofs.Linking.{IsValidAt, put_at, prev_of-next_set, next_of-prev_set, next_of-next_set, prev_of-prev_set, IsValid-next_set, IsValid-prev_set, IsValid-changed}
+use Rattle.chain_laws.proofs.Agreement.{if_same, if_other, altered-same, altered-other, one_some, not_both_ways}
+use Rattle.chain_laws.proofs.Linking.{IsValidAt, put_at, prev_of-next_set, next_of-prev_set, next_of-next_set, prev_of-prev_set, HasLink-next_set, HasLink-prev_set, HasLink-changed}
 use Rattle.chain_laws.proofs.Carrying.{same_shown}
 
 -- the index that moves ..
@@ -20,22 +20,22 @@ pub moved_index-other : (i k j : ℕ) → j ≢ i → moved_index i k j ≡ j
 moved_index-other i k j differs = if_other j i k j differs
 
 -- a link that is sent to n goes there
-pub sent-valid : (shown : Shown) (j n : ℕ) → IsValid shown j → option_map (λ _. n) (shown j) ≡ Some n
+pub sent-valid : (shown : Shown) (j n : ℕ) → HasLink shown j → option_map (λ _. n) (shown j) ≡ Some n
 sent-valid shown j n valid = ap (option_map (λ _. n)) valid.shows
 
 -- what goes anywhere is a link
-pub sent-from : (shown : Shown) (j n m : ℕ) → option_map (λ _. n) (shown j) ≡ Some m → IsValid shown j × (n ≡ m)
+pub sent-from : (shown : Shown) (j n m : ℕ) → option_map (λ _. n) (shown j) ≡ Some m → HasLink shown j × (n ≡ m)
 sent-from shown j n m e = by (shown j) refl e
   where
-    by : (o : Option Interlinks) → shown j ≡ o → option_map (λ _. n) o ≡ Some m → IsValid shown j × (n ≡ m)
+    by : (o : Option Interlinks) → shown j ≡ o → option_map (λ _. n) o ≡ Some m → HasLink shown j × (n ≡ m)
     by None is goes = absurd (cc)
     by (Some l) is goes = (shows_valid shown j l is, one_some goes)
 
 -- what stands at an index after a move stood at the index before it
-put_from : (shown : Shown) (i k m : ℕ) → IsValid (put shown i k) m → (j : ℕ) × IsValid shown j × (moved_index i k j ≡ m)
+put_from : (shown : Shown) (i k m : ℕ) → HasLink (put shown i k) m → (j : ℕ) × HasLink shown j × (moved_index i k j ≡ m)
 put_from shown i k m valid = by (ℕ_discrete m k) (ℕ_discrete m i)
   where
-    by : Dec (m ≡ k) → Dec (m ≡ i) → (j : ℕ) × IsValid shown j × (moved_index i k j ≡ m)
+    by : Dec (m ≡ k) → Dec (m ≡ i) → (j : ℕ) × HasLink shown j × (moved_index i k j ≡ m)
     by (yes e) rest = (i, shows_valid shown i valid.link (sym (if_same m k _ _ e) ∙ valid.shows), moved_index-same i k i refl ∙ sym e)
     by (no c) (yes e) = absurd (not_both_ways (put shown i k m) valid.link (if_other m k _ _ c ∙ if_same m i _ _ e) valid.shows)
     by (no c) (no d) = (m, shows_valid shown m valid.link (sym (if_other m k _ _ c ∙ if_other m i _ _ d) ∙ valid.shows), moved_index-other i k m d)
@@ -50,7 +50,7 @@ prev_named shown j agrees q e = next_valid shown q j ((agrees.both q j).1 e)
 
 module _ (shown : Shown) (i k : ℕ) (agrees : Agrees shown) (can : CanMove shown i k) where
   -- no other link stands where the link goes
-  goes_elsewhere : (j : ℕ) → IsValid shown j → j ≢ i → j ≢ k
+  goes_elsewhere : (j : ℕ) → HasLink shown j → j ≢ i → j ≢ k
   goes_elsewhere j valid differs e = by can.free
     where
       by : (k ≡ i) ⊎ (shown k ≡ None) → ⊥
@@ -58,7 +58,7 @@ module _ (shown : Shown) (i k : ℕ) (agrees : Agrees shown) (can : CanMove show
       by (inr none) = not_both_ways (shown j) valid.link (ap shown e ∙ none) valid.shows
 
   -- no two links come to one index
-  index_apart : (a b : ℕ) → IsValid shown a → IsValid shown b → moved_index i k a ≡ moved_index i k b → a ≡ b
+  index_apart : (a b : ℕ) → HasLink shown a → HasLink shown b → moved_index i k a ≡ moved_index i k b → a ≡ b
   index_apart a b valid also e = by (ℕ_discrete a i) (ℕ_discrete b i)
     where
       by : Dec (a ≡ i) → Dec (b ≡ i) → a ≡ b
@@ -68,7 +68,7 @@ module _ (shown : Shown) (i k : ℕ) (agrees : Agrees shown) (can : CanMove show
       by (no c) (no d) = sym (moved_index-other i k a c) ∙ (e ∙ moved_index-other i k b d)
 
   -- whatever stood at the index of a link stands at its new index
-  put_to : (other : Shown) (j : ℕ) → IsValid shown j → put other i k (moved_index i k j) ≡ other j
+  put_to : (other : Shown) (j : ℕ) → HasLink shown j → put other i k (moved_index i k j) ≡ other j
   put_to other j valid = by (ℕ_discrete j i)
     where
       by : Dec (j ≡ i) → put other i k (moved_index i k j) ≡ other j
@@ -90,10 +90,10 @@ module _ (shown : Shown) (i k : ℕ) (agrees : Agrees shown) (can : CanMove show
       put_to (λ m. option_map (with_moved i k) (shown m)) j (shows_valid shown j (link u v) shows) ∙ ap (option_map (with_moved i k)) shows
 
   -- what stands after the move, stood before it
-  moved_from : (m : ℕ) → IsValid (moved shown i k) m → (j : ℕ) × IsValid shown j × (moved_index i k j ≡ m)
+  moved_from : (m : ℕ) → HasLink (moved shown i k) m → (j : ℕ) × HasLink shown j × (moved_index i k j ≡ m)
   moved_from m valid =
       let j = put_from (λ (a : ℕ). option_map (with_moved i k) (shown a)) i k m (record { link = valid.link; shows = valid.shows }) in
-      (j.0, (IsValid-changed (λ (a : ℕ). option_map (with_moved i k) (shown a)) shown (with_moved i k) j.0 refl).0 j.1, j.2)
+      (j.0, (HasLink-changed (λ (a : ℕ). option_map (with_moved i k) (shown a)) shown (with_moved i k) j.0 refl).0 j.1, j.2)
 
   -- a move is a renaming
   is_renaming : IsRenaming (moving shown i k) shown (moved shown i k)
@@ -125,17 +125,17 @@ module _ (shown : Shown) (i k : ℕ) (agrees : Agrees shown) (can : CanMove show
   named_as_before (Some q) differs = ap Some (moved_index-other i k q (λ e. differs (ap Some e)))
 
   -- where o is the one link that names i, and it is told k, each link names the new index of what it named
-  told : (names now : ℕ → Option ℕ) (o : Option ℕ) (j : ℕ) → ((q : ℕ) → (o ≡ Some q) ↔ (names q ≡ Some i)) → IsValidAt shown o → IsValid shown j
+  told : (names now : ℕ → Option ℕ) (o : Option ℕ) (j : ℕ) → ((q : ℕ) → (o ≡ Some q) ↔ (names q ≡ Some i)) → IsValidAt shown o → HasLink shown j
       → now (moved_index i k j) ≡ names j → put_at now (option_map (moved_index i k) o) (Some k) (moved_index i k j) ≡ option_map (moved_index i k) (names j)
   told names now None j only valid here as_before = as_before ∙ sym (named_as_before (names j) (λ e. absurd (not_both_ways None j refl ((only j).1 e))))
   told names now (Some q) j only valid here as_before = by (ℕ_discrete j q)
     where
       by : Dec (j ≡ q) → put_at now (Some (moved_index i k q)) (Some k) (moved_index i k j) ≡ option_map (moved_index i k) (names j)
       by (yes e) =
-          put-same now (moved_index i k q) (Some k) (moved_index i k j) (ap (moved_index i k) e)
+          altered-same now (moved_index i k q) (Some k) (moved_index i k j) (ap (moved_index i k) e)
           ∙ (sym (ap Some (moved_index-same i k i refl)) ∙ sym (ap (option_map (moved_index i k)) ((only j).0 (ap Some (sym e)))))
       by (no differs) =
-          put-other now (moved_index i k q) (Some k) (moved_index i k j) (λ e. differs (index_apart j q here (valid q refl) e))
+          altered-other now (moved_index i k q) (Some k) (moved_index i k j) (λ e. differs (index_apart j q here (valid q refl) e))
           ∙ (as_before ∙ sym (named_as_before (names j) (λ e. differs (sym (one_some ((only j).1 e))))))
 
   -- the arena once the link before i is told ..
@@ -147,21 +147,21 @@ module _ (shown : Shown) (i k : ℕ) (agrees : Agrees shown) (can : CanMove show
   both_told = prev_set next_told (option_map (moved_index i k) (next_of shown i)) (Some k)
 
   -- what stands then
-  told_valid : (m : ℕ) → IsValid both_told m ↔ IsValid (put shown i k) m
+  told_valid : (m : ℕ) → HasLink both_told m ↔ HasLink (put shown i k) m
   told_valid m =
-      let after = IsValid-prev_set next_told (option_map (moved_index i k) (next_of shown i)) (Some k) m in
-      let before = IsValid-next_set (put shown i k) (option_map (moved_index i k) (prev_of shown i)) (Some k) m in
+      let after = HasLink-prev_set next_told (option_map (moved_index i k) (next_of shown i)) (Some k) m in
+      let before = HasLink-next_set (put shown i k) (option_map (moved_index i k) (prev_of shown i)) (Some k) m in
       (λ v. before.0 (after.0 v), λ v. after.1 (before.1 v))
 
   -- what each link names then as the one after it ..
-  told_next : (j : ℕ) → IsValid shown j → next_of both_told (moved_index i k j) ≡ option_map (moved_index i k) (next_of shown j)
+  told_next : (j : ℕ) → HasLink shown j → next_of both_told (moved_index i k j) ≡ option_map (moved_index i k) (next_of shown j)
   told_next j valid =
       next_of-prev_set next_told (option_map (moved_index i k) (next_of shown i)) (Some k) (moved_index i k j)
       ∙ (next_of-next_set (put shown i k) (option_map (moved_index i k) (prev_of shown i)) (Some k) (moved_index i k j) (neighbor_stands (prev_of shown i) (prev_named shown i agrees))
       ∙ told (next_of shown) (next_of (put shown i k)) (prev_of shown i) j (λ q. ((agrees.both q i).1, (agrees.both q i).0)) (prev_named shown i agrees) valid (ap next_in (put_to shown j valid)))
 
   -- .. and as the one before it
-  told_prev : (j : ℕ) → IsValid shown j → prev_of both_told (moved_index i k j) ≡ option_map (moved_index i k) (prev_of shown j)
+  told_prev : (j : ℕ) → HasLink shown j → prev_of both_told (moved_index i k j) ≡ option_map (moved_index i k) (prev_of shown j)
   told_prev j valid =
       prev_of-prev_set next_told (option_map (moved_index i k) (next_of shown i)) (Some k) (moved_index i k j) after_stands
       ∙ told (prev_of shown) (prev_of next_told) (next_of shown i) j (agrees.both i) (next_named shown i agrees) valid
@@ -169,10 +169,10 @@ module _ (shown : Shown) (i k : ℕ) (agrees : Agrees shown) (can : CanMove show
     where
       after_stands : IsValidAt next_told (option_map (moved_index i k) (next_of shown i))
       after_stands m e =
-          (IsValid-next_set (put shown i k) (option_map (moved_index i k) (prev_of shown i)) (Some k) m).1 (neighbor_stands (next_of shown i) (next_named shown i agrees) m e)
+          (HasLink-next_set (put shown i k) (option_map (moved_index i k) (prev_of shown i)) (Some k) m).1 (neighbor_stands (next_of shown i) (next_named shown i agrees) m e)
 
   -- each link shows then what it shows after the move
-  told_shows : (j : ℕ) → IsValid shown j → both_told (moved_index i k j) ≡ moved shown i k (moved_index i k j)
+  told_shows : (j : ℕ) → HasLink shown j → both_told (moved_index i k j) ≡ moved shown i k (moved_index i k j)
   told_shows j valid =
       let stands = shows_valid (put shown i k) (moved_index i k j) valid.link (put_to shown j valid ∙ valid.shows) in
       shows_both both_told (moved_index i k j) _ _ ((told_valid (moved_index i k j)).1 stands) (told_prev j valid) (told_next j valid)
@@ -182,7 +182,7 @@ module _ (shown : Shown) (i k : ℕ) (agrees : Agrees shown) (can : CanMove show
   is_told : both_told ≡ moved shown i k
   is_told = same_shown both_told (moved shown i k) (λ m v. at m (put_from shown i k m ((told_valid m).0 v))) (λ m v. at m (moved_from m v))
     where
-      at : (m : ℕ) → (j : ℕ) × IsValid shown j × (moved_index i k j ≡ m) → both_told m ≡ moved shown i k m
+      at : (m : ℕ) → (j : ℕ) × HasLink shown j × (moved_index i k j ≡ m) → both_told m ≡ moved shown i k m
       at m j = subst (λ (a : ℕ). both_told a ≡ moved shown i k a) j.2 (told_shows j.0 j.1)
 
 -- a move to a free index is a renaming

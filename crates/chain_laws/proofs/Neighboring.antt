@@ -2,7 +2,8 @@
 use Rattle.std.proofs.Common.{◌≡◌, ◌≢◌, ◌↔◌, ℕ, inl, inr, ⊎_elim, List, [], ◌∷◌, ◌++◌, Option, None, Some, refl, sym, ap, ◌∙◌, subst, append_assoc}
 use Rattle.chain_laws.specs.Chains.{Shown, Agrees, Has, HasNoRepetition, Chain, linear, cyclic, items, first_or, last_or, prev_in, next_in, prev_of, next_of, Stands, IsChain, HasChain, AreChains}
 use Rattle.chain_laws.specs.Neighbors.{IsBeside, AreNeighborsIn, Partition, HasInterlinks}
-use Rattle.chain_laws.proofs.Members.{Has-right, Has-middle, Has-written, HasNoRepetition-right, first_or-Has, last_or-Has, last_or-append, written_once}
+use Rattle.chain_laws.proofs.Members.{Has-right, Has-middle, Has-written, HasNoRepetition-right, first_or-Has, last_or-Has, last_or-append, last_apart, written_once}
+use Rattle.chain_laws.proofs.Agreement.{one_some}
 use Rattle.chain_laws.proofs.Standing.{link, shows_both, next_valid, prev_valid, Stands-at, Stands-each}
 use Rattle.chain_laws.proofs.Unique.{chain_once, chain_filled}
 use Rattle.chain_laws.proofs.Gathering.{Has-all_items, chain_at, once_each, once_chain, all_items_valid}
@@ -32,10 +33,10 @@ stands_chain shown (cyclic xs) filled once s = (filled, once, s)
 -- a list with a last item ends in it
 pub last_or-written : (xs : List ℕ) (a : ℕ) → last_or xs None ≡ Some a → (before : List ℕ) × (xs ≡ before ++ a ∷ [])
 last_or-written [] a e = absurd (cc)
-last_or-written (x ∷ []) a e = let same : x ≡ a = cc in ([], ap (λ (z : ℕ). z ∷ []) same)
-last_or-written (x ∷ y ∷ ys) a e =
-    let w = last_or-written (y ∷ ys) a e in
-    (x ∷ w.0, ap (λ (zs : List ℕ). x ∷ zs) w.1)
+last_or-written (x ∷ xs) a e =
+    let l = last_apart x xs in
+    let named : last_or (x ∷ xs) None ≡ Some l.1 = ap (λ (zs : List ℕ). last_or zs None) l.2 ∙ last_or-append l.0 (l.1 ∷ []) None in
+    (l.0, l.2 ∙ ap (λ (k : ℕ). l.0 ++ k ∷ []) (one_some (sym named ∙ e)))
 
 -- the first of what is after i stands beside it
 pub beside_next : (xs before after : List ℕ) (i j : ℕ) → xs ≡ before ++ i ∷ after → first_or after None ≡ Some j → IsBeside xs i j

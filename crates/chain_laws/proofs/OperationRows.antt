@@ -3,7 +3,7 @@ use Rattle.std.specs.Prelude.{◌≡◌, [], ◌∷◌, None, Some}
 use Rattle.std.proofs.Common.{refl, inl, inr, arith}
 use Rattle.chain_laws.specs.Chains.{Shown, IsChain, linear, cyclic, prev_of}
 use Rattle.chain_laws.specs.Operations.{joined, linked, with_lone}
-use Rattle.chain_laws.specs.Walks.{IsWalk, there_and_back, round, ahead}
+use Rattle.chain_laws.specs.Walks.{IsWalk, there_and_back, round, walk_ahead}
 use Rattle.chain_laws.proofs.Standing.{link, first_no_repetition}
 
 -- nothing stands anywhere
@@ -75,27 +75,27 @@ ring_as_a_chain : IsChain ring (cyclic (2 ∷ 3 ∷ 1 ∷ []))
 ring_as_a_chain = (λ e. cc, (λ h. elim h [ inl e ↦ absurd (omega arith) | inr k ↦ elim k [ inl e ↦ absurd (omega arith) | inr n ↦ n ] ], (λ h. elim h [ inl e ↦ absurd (omega arith) | inr n ↦ n ], (λ h. h, tt))), (refl, (refl, (refl, tt))))
 
 -- a walker in a linear chain from its second link: on, and then back
-walker_from_second : ahead 4 four 2 (Some 2) (prev_of four 2) ≡ 2 ∷ 9 ∷ 7 ∷ 4 ∷ []
+walker_from_second : walk_ahead 4 four 2 (Some 2) (prev_of four 2) ≡ 2 ∷ 9 ∷ 7 ∷ 4 ∷ []
 walker_from_second = refl
 
 -- .. from its third link, back in two steps
-walker_from_third : ahead 4 four 9 (Some 9) (prev_of four 9) ≡ 9 ∷ 7 ∷ 2 ∷ 4 ∷ []
+walker_from_third : walk_ahead 4 four 9 (Some 9) (prev_of four 9) ≡ 9 ∷ 7 ∷ 2 ∷ 4 ∷ []
 walker_from_third = refl
 
 -- .. from its end
-walker_from_end : ahead 9 four 7 (Some 7) (prev_of four 7) ≡ 7 ∷ 9 ∷ 2 ∷ 4 ∷ []
+walker_from_end : walk_ahead 9 four 7 (Some 7) (prev_of four 7) ≡ 7 ∷ 9 ∷ 2 ∷ 4 ∷ []
 walker_from_end = refl
 
 -- a walker in a cyclic chain comes round and does not go back
-walker_in_a_cycle : ahead 3 ring 2 (Some 2) (prev_of ring 2) ≡ 2 ∷ 3 ∷ 1 ∷ []
+walker_in_a_cycle : walk_ahead 3 ring 2 (Some 2) (prev_of ring 2) ≡ 2 ∷ 3 ∷ 1 ∷ []
 walker_in_a_cycle = refl
 
 -- .. though it had steps left
-walker_in_a_cycle_at_ease : ahead 9 ring 2 (Some 2) (prev_of ring 2) ≡ 2 ∷ 3 ∷ 1 ∷ []
+walker_in_a_cycle_at_ease : walk_ahead 9 ring 2 (Some 2) (prev_of ring 2) ≡ 2 ∷ 3 ∷ 1 ∷ []
 walker_in_a_cycle_at_ease = refl
 
 -- a walker at a link that is tied to itself
-walker_in_a_cycle_of_one : ahead 3 (joined two_lone 1 1) 1 (Some 1) (prev_of (joined two_lone 1 1) 1) ≡ 1 ∷ []
+walker_in_a_cycle_of_one : walk_ahead 3 (joined two_lone 1 1) 1 (Some 1) (prev_of (joined two_lone 1 1) 1) ≡ 1 ∷ []
 walker_in_a_cycle_of_one = refl
 
 -- the walk from the second link of a linear chain 4 2 9 7

@@ -12,8 +12,8 @@ use Rattle.chain_laws.proofs.Standing.{Stands-left, Stands-right, Stands-at, sho
 use Rattle.chain_laws.proofs.Unique.{chain_closed}
 use Rattle.chain_laws.proofs.Turning.{turned_to}
 use Rattle.chain_laws.proofs.Exists.{ChainOf, chain_of, has_chain}
-use Rattle.chain_laws.proofs.Gluing.{IsApart, IsApart-Some, Stands-next_set, Stands-prev_set, Stands-next_of_last, Stands-prev_of_first, IsChain-linked}
-use Rattle.chain_laws.proofs.Determined.{Settles, settled}
+use Rattle.chain_laws.proofs.Gluing.{IsOutside, IsOutside-Some, Stands-next_set, Stands-prev_set, Stands-next_of_last, Stands-prev_of_first, IsChain-linked}
+use Rattle.chain_laws.proofs.Determined.{NamesChains, settled}
 
 -- the two parts of a linear list that is cut after its left part
 parts_stand : (shown : Shown) (a b : ℕ) (xs y : List ℕ) → xs ≢ [] → last_or xs None ≡ Some a → HasNoRepetition (xs ++ b ∷ y) → Stands shown None (xs ++ b ∷ y) None
@@ -26,8 +26,8 @@ parts_stand shown a b xs y filled ends once stands =
     subst (λ (o : Option ℕ). Stands (next_set shown o None) None xs None) ends
     (Stands-next_of_last shown None None xs (Some b) xs_once (Stands-left shown None xs (b ∷ y) None stands)) in
     let right : Stands ended (last_or xs None) (b ∷ y) None =
-    Stands-next_set shown (Some a) None (last_or xs None) (b ∷ y) None (IsApart-Some a (b ∷ y) a_apart) (Stands-right shown None xs (b ∷ y) None stands) in (
-      (filled, xs_once, Stands-prev_set ended (Some b) None None xs None (IsApart-Some b xs b_apart) left),
+    Stands-next_set shown (Some a) None (last_or xs None) (b ∷ y) None (IsOutside-Some a (b ∷ y) a_apart) (Stands-right shown None xs (b ∷ y) None stands) in (
+      (filled, xs_once, Stands-prev_set ended (Some b) None None xs None (IsOutside-Some b xs b_apart) left),
       (Has-filled (b ∷ y) b (inl refl), ys_once, Stands-prev_of_first ended None (last_or xs None) (b ∷ y) None ys_once right),
     )
   where
@@ -59,14 +59,14 @@ cut_one shown a b (x ∷ xs) chain starts ends =
     )
 
 -- no index is apart from any list
-nowhere_apart : (xs : List ℕ) → IsApart None xs
+nowhere_apart : (xs : List ℕ) → IsOutside None xs
 nowhere_apart xs k e h = cc
 
 -- a chain with neither index stays
 cut_rest : (shown : Shown) (a b : ℕ) (c : Chain) → (Has (items c) a → ⊥) → (Has (items c) b → ⊥) → IsChain shown c ↔ IsChain (cut shown a b) c
 cut_rest shown a b c none_a none_b =
-    let inner = IsChain-linked shown (Some a) None c (IsApart-Some a (items c) none_a) (nowhere_apart (items c)) in
-    let outer = IsChain-linked (linked shown (Some a) None) None (Some b) c (nowhere_apart (items c)) (IsApart-Some b (items c) none_b) in
+    let inner = IsChain-linked shown (Some a) None c (IsOutside-Some a (items c) none_a) (nowhere_apart (items c)) in
+    let outer = IsChain-linked (linked shown (Some a) None) None (Some b) c (nowhere_apart (items c)) (IsOutside-Some b (items c) none_b) in
     (λ h. outer.0 (inner.0 h), λ h. inner.1 (outer.1 h))
 
 -- a cut cuts the chain of its pair
@@ -75,7 +75,7 @@ cut_cuts shown a b = record { two = cut_two shown a b; one = cut_one shown a b; 
 
 -- the chains of a and of b wherever they are cut apart
 abbrev Parted : Shown → ℕ → ℕ → Type 0
-Parted old a b = Settles (λ (new : Shown). Cuts old new a b) a b
+Parted old a b = NamesChains (λ (new : Shown). Cuts old new a b) a b
 
 -- a cyclic chain that is written from b, of which a is the last
 parted_ring : (old : Shown) (a b : ℕ) (rest : List ℕ) → IsChain old (cyclic (b ∷ rest)) → prev_of old b ≡ Some a → Has (b ∷ rest) a → Parted old a b

@@ -1,6 +1,6 @@
 -- The chains of an arena: that there is one list of them in order, and no other; and one chain of each index.
 use Rattle.std.proofs.Common.{◌≡◌, ◌↔◌, ℕ, ◌<◌, ◌⊎◌, inl, inr, ⊎_elim, List, [], ◌∷◌, refl, sym, subst, arith}
-use Rattle.chain_laws.specs.Chains.{Shown, IsValid, IsWithin, Agrees, Has, HasNoRepetition, Chain, items, IsChain, HasChain, all_items, AreChains, IsWritten, Rises}
+use Rattle.chain_laws.specs.Chains.{Shown, HasLink, HasLinksWithin, Agrees, Has, HasNoRepetition, Chain, items, IsChain, HasChain, all_items, AreChains, IsWritten, Rises}
 use Rattle.chain_laws.specs.Neighbors.{AreTheChains, StandsIn, AreWritten, AreSameButTurned, HasOneSetOfChains}
 use Rattle.chain_laws.proofs.Members.{Has-left, Has-right, Has-parts, filled-Has, HasNoRepetition-right, HasNoRepetition-apart}
 use Rattle.chain_laws.proofs.Unique.{chain_valid, chain_filled, one_chain}
@@ -10,7 +10,7 @@ use Rattle.chain_laws.proofs.Exists.{has_chains}
 use Rattle.chain_laws.proofs.Neighboring.{partitions, interlinks, chains_from_pairs}
 
 -- the chains that an arena has, by its neighbour pairs
-pub the_chains : (shown : Shown) (slots : ℕ) → Agrees shown → IsWithin shown slots → (chains : List Chain) × AreTheChains shown chains
+pub the_chains : (shown : Shown) (slots : ℕ) → Agrees shown → HasLinksWithin shown slots → (chains : List Chain) × AreTheChains shown chains
 the_chains shown slots agrees within =
     let all = has_chains shown slots agrees within in
     (all.0, record { partition = partitions shown all.0 all.1; interlinks = interlinks shown all.0 all.1; order = all.2 })
@@ -122,7 +122,7 @@ same_turned shown chains others are also c m =
     (at.0, at.1, one_turned shown x.0 c at.0 (are.each c m) (also.each at.0 at.1) x.1 at.2)
 
 -- each valid index stands in a chain
-pub chain_of_each : (shown : Shown) (slots i : ℕ) → Agrees shown → IsWithin shown slots → IsValid shown i → (c : Chain) × StandsIn shown i c
+pub chain_of_each : (shown : Shown) (slots i : ℕ) → Agrees shown → HasLinksWithin shown slots → HasLink shown i → (c : Chain) × StandsIn shown i c
 chain_of_each shown slots i agrees within valid =
     let all = has_chains shown slots agrees within in
     let at = chain_at all.0 i (all.1.all i valid) in
@@ -133,7 +133,7 @@ pub no_other_of_each : (shown : Shown) (i : ℕ) (c other : Chain) → StandsIn 
 no_other_of_each shown i c other s t = one_chain shown c other i s.chain t.chain s.written t.written s.has t.has
 
 -- an arena whose interlinks agree has one set of chains
-pub one_set : (shown : Shown) (slots : ℕ) → Agrees shown → IsWithin shown slots → HasOneSetOfChains shown
+pub one_set : (shown : Shown) (slots : ℕ) → Agrees shown → HasLinksWithin shown slots → HasOneSetOfChains shown
 one_set shown slots agrees within =
     let is = the_chains shown slots agrees within in
     record { chains = is.0; are = is.1; only = λ others are. no_others shown others is.0 are is.1 }

@@ -2,7 +2,7 @@
 use Rattle.std.specs.Prelude.{◌↔◌, ℕ, ◌≤◌, ◌⊎◌, List, [], ◌∷◌, ◌++◌, reverse, length}
 use Rattle.std.proofs.Common.{sym, refl, subst, inl, inr, ⊎_elim}
 use mathlib.Core.List.{reverse_aux}
-use Rattle.chain_laws.specs.Chains.{Shown, Chain, linear, cyclic, items, IsChain, IsValid, IsWithin, Agrees, Has, HasNoRepetition}
+use Rattle.chain_laws.specs.Chains.{Shown, Chain, linear, cyclic, items, IsChain, HasLink, HasLinksWithin, Agrees, Has, HasNoRepetition}
 use Rattle.chain_laws.specs.Walks.{IsWalk, there_and_back, round, WalksAhead, PassesTheChain}
 use Rattle.chain_laws.proofs.Members.{Has-left, Has-right, Has-parts, Has-written, HasNoRepetition-left, HasNoRepetition-right, HasNoRepetition-apart, HasNoRepetition-append, length_bound}
 use Rattle.chain_laws.proofs.Unique.{chain_valid, chains_share}
@@ -75,13 +75,13 @@ walk_has shown i walk c is_walk chain has j =
     )
 
 -- the links of a walk are valid
-pub walk_valid : (shown : Shown) (i : ℕ) (walk : List ℕ) → IsWalk shown i walk → (j : ℕ) → Has walk j → IsValid shown j
+pub walk_valid : (shown : Shown) (i : ℕ) (walk : List ℕ) → IsWalk shown i walk → (j : ℕ) → Has walk j → HasLink shown j
 walk_valid shown i walk is_walk j h =
     let own = walk_chain shown i walk is_walk in
     chain_valid shown own.0 j own.1 ((own.2 j).0 h)
 
 -- a walk is no longer than there are slots
-pub walk_bound : (shown : Shown) (slots i : ℕ) (walk : List ℕ) → IsWithin shown slots → IsWalk shown i walk → length walk ≤ slots
+pub walk_bound : (shown : Shown) (slots i : ℕ) (walk : List ℕ) → HasLinksWithin shown slots → IsWalk shown i walk → length walk ≤ slots
 walk_bound shown slots i walk within is_walk =
     length_bound walk slots (walk_once shown i walk is_walk) (λ j h. within.within j (walk_valid shown i walk is_walk j h))
 
@@ -95,7 +95,7 @@ walk_of_chain shown i (cyclic xs) chain has =
     (i ∷ t.0, round t.0 t.1)
 
 -- from each valid index there is a walk
-pub has_walk : (shown : Shown) (slots i : ℕ) → Agrees shown → IsWithin shown slots → IsValid shown i → (walk : List ℕ) × IsWalk shown i walk
+pub has_walk : (shown : Shown) (slots i : ℕ) → Agrees shown → HasLinksWithin shown slots → HasLink shown i → (walk : List ℕ) × IsWalk shown i walk
 has_walk shown slots i agrees within valid = by (has_chain shown slots agrees within i valid)
   where
     by : ChainOf shown i → (walk : List ℕ) × IsWalk shown i walk

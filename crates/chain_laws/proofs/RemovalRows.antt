@@ -3,7 +3,7 @@ use Rattle.std.specs.Prelude.{◌≡◌, ℕ, [], ◌∷◌, Option, None, Some}
 use Rattle.std.proofs.Common.{refl}
 use Rattle.chain_laws.specs.Chains.{Shown, linear, cyclic}
 use Rattle.chain_laws.specs.Operations.{prev_set, next_set, linked, joined, with_lone}
-use Rattle.chain_laws.specs.Removals.{without, removed, list_without, chain_without}
+use Rattle.chain_laws.specs.Removals.{vacated, removed, list_without, chain_without}
 use Rattle.chain_laws.proofs.Standing.{link}
 
 -- nothing stands anywhere
@@ -31,7 +31,7 @@ abbrev ring_of_one : Shown
 ring_of_one = joined lone 2 2
 
 -- the two writes of a removal are one linking
-linked_in_two_writes : (shown : Shown) (q : ℕ) (u v : Option ℕ) → prev_set (next_set (without shown q) u v) v u ≡ linked (without shown q) u v
+linked_in_two_writes : (shown : Shown) (q : ℕ) (u v : Option ℕ) → prev_set (next_set (vacated shown q) u v) v u ≡ linked (vacated shown q) u v
 linked_in_two_writes shown q u v = refl
 
 -- out of the middle: the one before it

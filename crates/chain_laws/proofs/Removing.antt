@@ -3,27 +3,26 @@ use Rattle.std.specs.Prelude.{◌≡◌, ◌≢◌, ℕ, List, [], ◌∷◌, �
 use Rattle.std.proofs.Common.{sym, refl, ap, subst, subst₂, inl, inr, ⊎_elim}
 use Rattle.chain_laws.specs.Chains.{Shown, Chain, linear, cyclic, items, IsChain, Agrees, Has, HasNoRepetition, Stands, prev_in, next_in, prev_of, next_of, first_or, last_or}
 use Rattle.chain_laws.specs.Operations.{linked}
-use Rattle.chain_laws.specs.Removals.{without, removed, Removes}
+use Rattle.chain_laws.specs.Removals.{vacated, removed, Removes}
 use Rattle.chain_laws.proofs.Members.{Has-turned, Has-filled, filled-Has, first_or-Has, last_or-Has, HasNoRepetition-left, HasNoRepetition-right, HasNoRepetition-apart, HasNoRepetition-append}
-use Rattle.chain_laws.proofs.Standing.{Stands-frame, Stands-left, Stands-right}
+use Rattle.chain_laws.proofs.Standing.{Stands-frame, IsChain-frame, Stands-left, Stands-right}
 use Rattle.chain_laws.proofs.Unique.{chain_closed}
 use Rattle.chain_laws.proofs.Turning.{turned}
-use Rattle.chain_laws.proofs.Gluing.{IsApart, Stands-glued, Stands-ringed, IsChain-linked}
-use Rattle.chain_laws.proofs.RemovalPairs.{without-off, IsValid-removed, removed_unnamed}
+use Rattle.chain_laws.proofs.Gluing.{IsOutside, Stands-glued, Stands-ringed, IsChain-linked}
+use Rattle.chain_laws.proofs.RemovalPairs.{vacated-off, HasLink-removed, removed_unnamed}
 
 -- the items of a list without q show what they showed
-shows_without : (shown : Shown) (q : ℕ) (xs : List ℕ) → (Has xs q → ⊥) → (i : ℕ) → Has xs i → shown i ≡ without shown q i
-shows_without shown q xs none i h = sym (without-off shown q i (λ e. none (subst (Has xs) e h)))
+shows_without : (shown : Shown) (q : ℕ) (xs : List ℕ) → (Has xs q → ⊥) → (i : ℕ) → Has xs i → shown i ≡ vacated shown q i
+shows_without shown q xs none i h = sym (vacated-off shown q i (λ e. none (subst (Has xs) e h)))
 
 -- a list without q stands as it stood, once nothing stands at q
-pub Stands-without : (shown : Shown) (q : ℕ) (before : Option ℕ) (xs : List ℕ) (after : Option ℕ) → (Has xs q → ⊥)
-    → Stands shown before xs after → Stands (without shown q) before xs after
-Stands-without shown q before xs after none stands = Stands-frame shown (without shown q) before xs after (shows_without shown q xs none) stands
+pub Stands-vacated : (shown : Shown) (q : ℕ) (before : Option ℕ) (xs : List ℕ) (after : Option ℕ) → (Has xs q → ⊥)
+    → Stands shown before xs after → Stands (vacated shown q) before xs after
+Stands-vacated shown q before xs after none stands = Stands-frame shown (vacated shown q) before xs after (shows_without shown q xs none) stands
 
 -- so does a chain without q
-pub IsChain-without : (shown : Shown) (q : ℕ) (c : Chain) → (Has (items c) q → ⊥) → IsChain shown c → IsChain (without shown q) c
-IsChain-without shown q (linear xs) none c = (c.0, c.1, Stands-without shown q None xs None none c.2)
-IsChain-without shown q (cyclic xs) none c = (c.0, c.1, Stands-without shown q (last_or xs None) xs (first_or xs None) none c.2)
+pub IsChain-vacated : (shown : Shown) (q : ℕ) (c : Chain) → (Has (items c) q → ⊥) → IsChain shown c → IsChain (vacated shown q) c
+IsChain-vacated shown q c none = IsChain-frame shown (vacated shown q) c (shows_without shown q (items c) none)
 
 -- of a list around i, the parts share nothing
 parts_apart : (x y : List ℕ) (i : ℕ) → HasNoRepetition (x ++ i ∷ y) → (k : ℕ) → Has x k → Has y k → ⊥
@@ -35,30 +34,30 @@ removed_from_linear shown i x y chain filled =
     let x_once : HasNoRepetition x = HasNoRepetition-left x (i ∷ y) chain.1 in
     let rest_once : HasNoRepetition (i ∷ y) = HasNoRepetition-right x (i ∷ y) chain.1 in
     let right : Stands shown (last_or x None) (i ∷ y) None = Stands-right shown None x (i ∷ y) None chain.2 in
-    let glued : Stands (linked (without shown i) (last_or x None) (first_or y None)) None (x ++ y) None =
-    Stands-glued (without shown i) None x (Some i) (Some i) y None x_once rest_once.1 last_apart first_apart
-    (Stands-without shown i None x (Some i) (λ h. HasNoRepetition-apart x (i ∷ y) i chain.1 h (inl refl)) (Stands-left shown None x (i ∷ y) None chain.2))
-    (Stands-without shown i (Some i) y None rest_once.0 right.1) in (
+    let glued : Stands (linked (vacated shown i) (last_or x None) (first_or y None)) None (x ++ y) None =
+    Stands-glued (vacated shown i) None x (Some i) (Some i) y None x_once rest_once.1 last_apart first_apart
+    (Stands-vacated shown i None x (Some i) (λ h. HasNoRepetition-apart x (i ∷ y) i chain.1 h (inl refl)) (Stands-left shown None x (i ∷ y) None chain.2))
+    (Stands-vacated shown i (Some i) y None rest_once.0 right.1) in (
       filled,
       HasNoRepetition-append x y x_once rest_once.1 (parts_apart x y i chain.1),
-      subst₂ (λ u v. Stands (linked (without shown i) u v) None (x ++ y) None) (sym (ap prev_in right.0)) (sym (ap next_in right.0)) glued,
+      subst₂ (λ u v. Stands (linked (vacated shown i) u v) None (x ++ y) None) (sym (ap prev_in right.0)) (sym (ap next_in right.0)) glued,
     )
   where
-    last_apart : IsApart (last_or x None) y
+    last_apart : IsOutside (last_or x None) y
     last_apart k named g = ⊎_elim (λ h. parts_apart x y i chain.1 k h g) (λ e. absurd (cc)) (last_or-Has x None k named)
 
-    first_apart : IsApart (first_or y None) x
+    first_apart : IsOutside (first_or y None) x
     first_apart k named h = ⊎_elim (λ g. parts_apart x y i chain.1 k h g) (λ e. absurd (cc)) (first_or-Has y None k named)
 
 -- the first index leaves a cyclic chain
 pub removed_first_of_cyclic : (shown : Shown) (i : ℕ) (y : List ℕ) → IsChain shown (cyclic (i ∷ y)) → y ≢ [] → IsChain (removed shown i) (cyclic y)
 removed_first_of_cyclic shown i [] chain filled = absurd (filled refl)
 removed_first_of_cyclic shown i (k ∷ y) chain filled =
-    let ringed : Stands (linked (without shown i) (last_or y (Some k)) (Some k)) (last_or y (Some k)) (k ∷ y) (Some k) =
-    Stands-ringed (without shown i) (Some i) (k ∷ y) (Some i) chain.1.1 (Stands-without shown i (Some i) (k ∷ y) (Some i) chain.1.0 chain.2.1) in (
+    let ringed : Stands (linked (vacated shown i) (last_or y (Some k)) (Some k)) (last_or y (Some k)) (k ∷ y) (Some k) =
+    Stands-ringed (vacated shown i) (Some i) (k ∷ y) (Some i) chain.1.1 (Stands-vacated shown i (Some i) (k ∷ y) (Some i) chain.1.0 chain.2.1) in (
       filled,
       chain.1.1,
-      subst₂ (λ u v. Stands (linked (without shown i) u v) (last_or y (Some k)) (k ∷ y) (Some k)) (sym (ap prev_in chain.2.0)) (sym (ap next_in chain.2.0)) ringed,
+      subst₂ (λ u v. Stands (linked (vacated shown i) u v) (last_or y (Some k)) (k ∷ y) (Some k)) (sym (ap prev_in chain.2.0)) (sym (ap next_in chain.2.0)) ringed,
     )
 
 -- the two parts in the other order are not empty either
@@ -76,9 +75,9 @@ removed_from_cyclic shown i x y chain filled =
 pub removed_rest : (shown : Shown) (i : ℕ) → Agrees shown → (c : Chain) → (Has (items c) i → ⊥) → IsChain shown c → IsChain (removed shown i) c
 removed_rest shown i agrees c none chain =
     let closed = chain_closed shown c chain in
-    let before_apart : IsApart (prev_of shown i) (items c) = λ k named h. none (closed.forth k i h ((agrees.both k i).1 named)) in
-    let after_apart : IsApart (next_of shown i) (items c) = λ k named h. none (closed.back k i h ((agrees.both i k).0 named)) in
-    (IsChain-linked (without shown i) (prev_of shown i) (next_of shown i) c before_apart after_apart).0 (IsChain-without shown i c none chain)
+    let before_apart : IsOutside (prev_of shown i) (items c) = λ k named h. none (closed.forth k i h ((agrees.both k i).1 named)) in
+    let after_apart : IsOutside (next_of shown i) (items c) = λ k named h. none (closed.back k i h ((agrees.both i k).0 named)) in
+    (IsChain-linked (vacated shown i) (prev_of shown i) (next_of shown i) c before_apart after_apart).0 (IsChain-vacated shown i c none chain)
 
 -- a removal removes the index from its chain
 pub removed_removes : (shown : Shown) (i : ℕ) → Agrees shown → Removes shown (removed shown i) i
@@ -87,6 +86,6 @@ removed_removes shown i agrees =
       from_linear = removed_from_linear shown i;
       from_cyclic = removed_from_cyclic shown i;
       rest = removed_rest shown i agrees;
-      links = IsValid-removed shown i;
+      links = HasLink-removed shown i;
       unnamed = removed_unnamed shown i agrees;
     }

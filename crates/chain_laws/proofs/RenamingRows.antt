@@ -6,7 +6,7 @@ use Rattle.std.proofs.Common.{refl}
 use Rattle.chain_laws.specs.Chains.{Shown, linear, cyclic, all_items, prev_of, next_of}
 use Rattle.chain_laws.specs.Operations.{prev_set, next_set, joined, with_lone}
 use Rattle.chain_laws.specs.Arrangements.{place_in, in_runs}
-use Rattle.chain_laws.specs.Moves.{moved_index, moved, put, gathered}
+use Rattle.chain_laws.specs.Moves.{moved_index, moved, put, gathered_place}
 use Rattle.chain_laws.proofs.Standing.{link}
 
 -- nothing stands anywhere
@@ -122,19 +122,19 @@ moves_nowhere = refl
 -- ---- gaps that close
 
 -- while nothing up to 2 stands, the links of the chain 3 4 stand where they stood
-none_gone : gathered pair [] 2 3 ≡ Some 3
+none_gone : gathered_place pair [] 2 3 ≡ Some 3
 none_gone = refl
 
 -- .. then 3 stands at 1
-one_gone : gathered pair (3 ∷ []) 3 3 ≡ Some 1
+one_gone : gathered_place pair (3 ∷ []) 3 3 ≡ Some 1
 one_gone = refl
 
 -- .. while 4 stands where it stood
-one_waits : gathered pair (3 ∷ []) 3 4 ≡ Some 4
+one_waits : gathered_place pair (3 ∷ []) 3 4 ≡ Some 4
 one_waits = refl
 
 -- .. then 4 stands at 2
-both_gone : gathered pair (3 ∷ 4 ∷ []) 4 4 ≡ Some 2
+both_gone : gathered_place pair (3 ∷ 4 ∷ []) 4 4 ≡ Some 2
 both_gone = refl
 
 -- the chain as it stands then, from its start

@@ -1,7 +1,7 @@
 -- What an insertion next to a link does to the interlinks is undone where the new link is removed.
 use Rattle.std.specs.Prelude.{◌≡◌, ◌≢◌, ℕ, ◌⊎◌, Option, None, Some}
 use Rattle.std.proofs.Common.{sym, refl, ap, ◌∙◌, subst, inl, inr, ⊎_elim}
-use Rattle.chain_laws.specs.Chains.{Shown, IsValid, Agrees, prev_of, next_of}
+use Rattle.chain_laws.specs.Chains.{Shown, HasLink, Agrees, prev_of, next_of}
 use Rattle.chain_laws.specs.Neighbors.{AreNeighbors}
 use Rattle.chain_laws.specs.Removals.{removed, RemovesPairs}
 use Rattle.chain_laws.specs.Insertions.{inserted, IsGap, InsertsPairs, RemovalOfInsertedRestores}
@@ -11,7 +11,7 @@ use Rattle.chain_laws.proofs.Skipping.{IsPairPast, names_or_not}
 use Rattle.chain_laws.proofs.Between.{IsPairAround}
 use Rattle.chain_laws.proofs.RemovalPairs.{removed_agrees, removed_in_pairs}
 use Rattle.chain_laws.proofs.Determined.{pairs_decide}
-use Rattle.chain_laws.proofs.InsertionPairs.{free_invalid, gap_between, next_puts, prev_puts, inserted_agrees, inserted_in_pairs}
+use Rattle.chain_laws.proofs.InsertionPairs.{free_invalid, gap_after, gap_before, gap_between, next_puts, prev_puts, inserted_agrees, inserted_in_pairs}
 
 -- a new link between two that are neighbours, where both are some index, removed
 removed_of_inserted : (shown : Shown) (q : ℕ) (u v : Option ℕ) → Agrees shown → shown q ≡ None → IsGap shown q u v
@@ -36,8 +36,8 @@ removed_of_inserted shown q u v agrees free gap beside =
     before_q : prev_of (inserted shown q u v) q ≡ u
     before_q = (prev_puts shown q u v free (gap_between shown q u v agrees free gap)).here
 
-    not_q : (i : ℕ) → IsValid shown i → i ≢ q
-    not_q i valid e = free_invalid shown q free (subst (IsValid shown) e valid)
+    not_q : (i : ℕ) → HasLink shown i → i ≢ q
+    not_q i valid e = free_invalid shown q free (subst (HasLink shown) e valid)
 
     not_first : (i j : ℕ) → AreNeighbors shown i j → i ≢ q
     not_first i j e = not_q i (next_valid shown i j e)
@@ -45,7 +45,7 @@ removed_of_inserted shown q u v agrees free gap beside =
     not_second : (i j : ℕ) → AreNeighbors shown i j → j ≢ q
     not_second i j e = not_q j (prev_valid shown j i ((agrees.both i j).0 e))
 
-    valid_there : (i : ℕ) → IsValid (inserted shown q u v) i × (i ≢ q) → IsValid shown i
+    valid_there : (i : ℕ) → HasLink (inserted shown q u v) i × (i ≢ q) → HasLink shown i
     valid_there i p = ⊎_elim (λ valid. valid) (λ e. absurd (p.1 e)) ((inserts.links i).0 p.0)
 
     away : (i j : ℕ) → i ≢ q → j ≢ q → IsPairAround (next_of shown) q u v i j → AreNeighbors shown i j
@@ -63,21 +63,11 @@ removed_of_inserted shown q u v agrees free gap beside =
     back i j e (inl at_u) (inr not_v) = inl ((inserts.pairs i j).1 (inl (e, λ p. not_v p.1)), not_first i j e, not_second i j e)
     back i j e (inr not_u) _ = inl ((inserts.pairs i j).1 (inl (e, λ p. not_u p.0)), not_first i j e, not_second i j e)
 
--- between a link and what comes after it there is a gap ..
-gap_after : (shown : Shown) (a q : ℕ) → IsValid shown a → (v : Option ℕ) → next_of shown a ≡ v → IsGap shown q (Some a) v
-gap_after shown a q valid None e = (valid, e)
-gap_after shown a q valid (Some b) e = inl e
-
--- .. and between what comes before it and the link
-gap_before : (shown : Shown) (b q : ℕ) → Agrees shown → IsValid shown b → (u : Option ℕ) → prev_of shown b ≡ u → IsGap shown q u (Some b)
-gap_before shown b q agrees valid None e = (valid, e)
-gap_before shown b q agrees valid (Some a) e = inl ((agrees.both a b).1 e)
-
 -- a new link next to another one, removed
 pub removed_of_inserted_restores : RemovalOfInsertedRestores
 removed_of_inserted_restores shown a q agrees valid free = (
-  removed_of_inserted shown q (Some a) (next_of shown a) agrees free (gap_after shown a q valid (next_of shown a) refl)
+  removed_of_inserted shown q (Some a) (next_of shown a) agrees free (gap_after shown a q (next_of shown a) valid refl)
       (λ i j s e. ap (next_of shown) (sym (one_some s)) ∙ e),
-  removed_of_inserted shown q (prev_of shown a) (Some a) agrees free (gap_before shown a q agrees valid (prev_of shown a) refl)
+  removed_of_inserted shown q (prev_of shown a) (Some a) agrees free (gap_before shown a q (prev_of shown a) agrees valid refl)
       (λ i j e s. (agrees.both i j).1 (ap (prev_of shown) (sym (one_some s)) ∙ e)),
 )

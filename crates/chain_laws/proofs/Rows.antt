@@ -1,6 +1,6 @@
 -- The definitions on small worked examples, by computing.
 use Rattle.std.proofs.Common.{◌≡◌, ℕ, ◌<◌, ◌≤◌, Bool, true, false, ◌==◌, if◌then◌else◌, inl, inr, List, [], ◌∷◌, ◌++◌, None, Some, refl, sym, ap, subst, eqb-true, arith}
-use Rattle.chain_laws.specs.Chains.{Shown, Interlinks, IsValid, IsWithin, Agrees, Has, Chain, linear, cyclic, prev_in, next_in, prev_of, next_of, IsChain, HasChain, all_items, AreChains, IsWritten, Rises, IsInOrder}
+use Rattle.chain_laws.specs.Chains.{Shown, Interlinks, HasLink, HasLinksWithin, Agrees, Has, Chain, linear, cyclic, prev_in, next_in, prev_of, next_of, IsChain, HasChain, all_items, AreChains, IsWritten, Rises, IsInOrder}
 use Rattle.chain_laws.specs.Neighbors.{IsBeside, AreNeighborsIn, AreSameButTurned, AreTheChains}
 use Rattle.chain_laws.proofs.Standing.{link}
 use Rattle.chain_laws.proofs.Neighboring.{partitions, interlinks, agrees_from_chains}
@@ -16,7 +16,7 @@ indexes [] = []
 indexes (r ∷ rs) = r.0 ∷ indexes rs
 
 -- what is valid has a row
-rows_valid : (rs : List (ℕ × Interlinks)) (i : ℕ) → IsValid (rows rs) i → Has (indexes rs) i
+rows_valid : (rs : List (ℕ × Interlinks)) (i : ℕ) → HasLink (rows rs) i → Has (indexes rs) i
 rows_valid [] i v = let shows : None ≡ Some v.link = v.shows in absurd (cc)
 rows_valid (r ∷ rs) i v = by_test (i == r.0) refl v.shows (λ e. rows_valid rs i (record { link = v.link; shows = e }))
   where
@@ -192,7 +192,7 @@ three_only chains are = no_others (rows three) chains _ are three_the_chains
 three_agrees : Agrees (rows three)
 three_agrees = agrees_from_chains (rows three) _ three_chains
 
-three_within : IsWithin (rows three) 3
+three_within : HasLinksWithin (rows three) 3
 three_within = record { within = λ i v. by_row i (rows_valid three i v) }
   where
     by_row : (i : ℕ) → Has (1 ∷ 2 ∷ 3 ∷ []) i → (1 ≤ i) × (i ≤ 3)

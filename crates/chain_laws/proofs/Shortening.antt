@@ -2,7 +2,7 @@
 use Rattle.std.specs.Prelude.{◌≡◌, ◌≢◌, ℕ, ◌⊎◌, List, [], ◌∷◌, ◌++◌}
 use Rattle.std.proofs.Common.{sym, refl, ap, ◌∙◌, subst, inl, inr, ⊎_elim}
 use Rattle.std.proofs.lemmas.Bool.{cases_eq}
-use Rattle.chain_laws.specs.Chains.{Shown, Chain, linear, cyclic, items, IsChain, IsWithin, Agrees, Has, HasNoRepetition}
+use Rattle.chain_laws.specs.Chains.{Shown, Chain, linear, cyclic, items, IsChain, HasLinksWithin, Agrees, Has, HasNoRepetition}
 use Rattle.chain_laws.specs.Neighbors.{AreSameButTurned}
 use Rattle.chain_laws.specs.Removals.{removed, Removes, list_without, chain_without, RemovalIsDetermined, RemovalLeavesEachWithout, RemovalIsDeterminedByPairs}
 use Rattle.chain_laws.proofs.Agreement.{if_same, if_other}
@@ -82,7 +82,7 @@ removes_shortens old new i removes (cyclic xs) chain filled = by (Has-or_not xs 
     by (inr none) = subst (λ (zs : List ℕ). IsChain new (cyclic zs)) (sym (list_without-none xs i none)) (removes.rest (cyclic xs) none chain)
 
 -- two arenas from which i is removed have the same chains
-removed_alike : (old left right : Shown) (slots i : ℕ) → Agrees old → IsWithin old slots → Removes old left i → Removes old right i → (c : Chain) → IsChain left c → IsChain right c
+removed_alike : (old left right : Shown) (slots i : ℕ) → Agrees old → HasLinksWithin old slots → Removes old left i → Removes old right i → (c : Chain) → IsChain left c → IsChain right c
 removed_alike old left right slots i agrees within l r c chain =
     let some = filled-Has (items c) (chain_filled left c chain) in
     let valid = (l.links some.0).0 (chain_valid left c some.0 chain some.1) in
@@ -139,7 +139,7 @@ longer_of old new i j removes ne (cyclic xs) c old_chain chain has h has_i = by 
         (cyclic t.0, t.1, ap (λ (zs : List ℕ). cyclic zs) t.2)
 
 -- each new chain is an old one without the index
-longer_chain : (old new : Shown) (slots i : ℕ) → Agrees old → IsWithin old slots → Removes old new i → (c : Chain) → IsChain new c
+longer_chain : (old new : Shown) (slots i : ℕ) → Agrees old → HasLinksWithin old slots → Removes old new i → (c : Chain) → IsChain new c
     → (e : Chain) × IsChain old e × (c ≡ chain_without e i)
 longer_chain old new slots i agrees within removes c chain =
     let some = filled-Has (items c) (chain_filled new c chain) in

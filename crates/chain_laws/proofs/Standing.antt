@@ -1,6 +1,6 @@
 -- Lists of links that stand: taken apart, put together, framed, closed under the interlinks, without repetition.
 use Rattle.std.proofs.Common.{◌≡◌, ◌≢◌, ℕ, ◌+◌, ◌⊎◌, inl, inr, ⊎_elim, List, [], ◌∷◌, ◌++◌, length, Option, None, Some, refl, sym, ap, ◌∙◌, subst, length-append, arith}
-use Rattle.chain_laws.specs.Chains.{Shown, Interlinks, IsValid, Has, HasNoRepetition, first_or, last_or, prev_in, next_in, prev_of, next_of, Stands}
+use Rattle.chain_laws.specs.Chains.{Shown, Interlinks, Chain, linear, cyclic, items, IsChain, HasLink, Has, HasNoRepetition, first_or, last_or, prev_in, next_in, prev_of, next_of, Stands}
 use Rattle.chain_laws.proofs.Members.{Has-written, first_or-append, first_or-Has}
 
 -- interlinks, as they are written
@@ -8,7 +8,7 @@ abbrev pub link : Option ℕ → Option ℕ → Interlinks
 link before after = record { prev = before; next = after }
 
 -- an index that shows interlinks is valid
-pub shows_valid : (shown : Shown) (i : ℕ) (l : Interlinks) → shown i ≡ Some l → IsValid shown i
+pub shows_valid : (shown : Shown) (i : ℕ) (l : Interlinks) → shown i ≡ Some l → HasLink shown i
 shows_valid shown i l e = record { link = l; shows = e }
 
 -- what an index with interlinks shows as next
@@ -20,23 +20,23 @@ pub shows_prev : (shown : Shown) (i : ℕ) (before after : Option ℕ) → shown
 shows_prev shown i before after e = ap prev_in e
 
 -- an index that names a next one is valid
-pub next_valid : (shown : Shown) (i j : ℕ) → next_of shown i ≡ Some j → IsValid shown i
+pub next_valid : (shown : Shown) (i j : ℕ) → next_of shown i ≡ Some j → HasLink shown i
 next_valid shown i j e = by_link (shown i) refl e
   where
-    by_link : (o : Option Interlinks) → shown i ≡ o → next_in o ≡ Some j → IsValid shown i
+    by_link : (o : Option Interlinks) → shown i ≡ o → next_in o ≡ Some j → HasLink shown i
     by_link None is n = absurd (cc)
     by_link (Some l) is n = record { link = l; shows = is }
 
 -- an index that names a previous one is valid
-pub prev_valid : (shown : Shown) (i j : ℕ) → prev_of shown i ≡ Some j → IsValid shown i
+pub prev_valid : (shown : Shown) (i j : ℕ) → prev_of shown i ≡ Some j → HasLink shown i
 prev_valid shown i j e = by_link (shown i) refl e
   where
-    by_link : (o : Option Interlinks) → shown i ≡ o → prev_in o ≡ Some j → IsValid shown i
+    by_link : (o : Option Interlinks) → shown i ≡ o → prev_in o ≡ Some j → HasLink shown i
     by_link None is n = absurd (cc)
     by_link (Some l) is n = record { link = l; shows = is }
 
 -- a valid index shows its prev and its next
-pub shows_both : (shown : Shown) (i : ℕ) (before after : Option ℕ) → IsValid shown i → prev_of shown i ≡ before → next_of shown i ≡ after → shown i ≡ Some (link before after)
+pub shows_both : (shown : Shown) (i : ℕ) (before after : Option ℕ) → HasLink shown i → prev_of shown i ≡ before → next_of shown i ≡ after → shown i ≡ Some (link before after)
 shows_both shown i before after v p n =
     let l : Interlinks = v.link in
     let q : l.prev ≡ before = sym (ap prev_in v.shows) ∙ p in
@@ -91,11 +91,16 @@ Stands-frame old new before [] after same s = tt
 Stands-frame old new before (x ∷ xs) after same s =
     (sym (same x (inl refl)) ∙ s.0, Stands-frame old new (Some x) xs after (λ i h. same i (inr h)) s.1)
 
+-- so a chain whose links show what they did stays
+pub IsChain-frame : (old new : Shown) (c : Chain) → ((i : ℕ) → Has (items c) i → old i ≡ new i) → IsChain old c → IsChain new c
+IsChain-frame old new (linear xs) same c = (c.0, c.1, Stands-frame old new None xs None same c.2)
+IsChain-frame old new (cyclic xs) same c = (c.0, c.1, Stands-frame old new (last_or xs None) xs (first_or xs None) same c.2)
+
 -- the items of a list that stands are valid
 pub Stands-valid : (shown : Shown) (before : Option ℕ) (xs : List ℕ) (after : Option ℕ) (i : ℕ)
-    → Stands shown before xs after → Has xs i → IsValid shown i
+    → Stands shown before xs after → Has xs i → HasLink shown i
 Stands-valid shown before [] after i s h = elim h [ ]
-Stands-valid shown before (x ∷ xs) after i s (inl e) = subst (IsValid shown) e (shows_valid shown x _ s.0)
+Stands-valid shown before (x ∷ xs) after i s (inl e) = subst (HasLink shown) e (shows_valid shown x _ s.0)
 Stands-valid shown before (x ∷ xs) after i s (inr h) = Stands-valid shown (Some x) xs after i s.1 h
 
 -- what comes after an item of a list that stands is an item of it, or comes after the list

@@ -3,14 +3,14 @@ use Rattle.std.proofs.Common.{◌≡◌, ℕ, inl, inr, ⊎_elim, Option, None, 
 use Rattle.chain_laws.specs.Chains.{Shown, Chain, linear, cyclic, items, Has, IsChain, Agrees, first_or, last_or, prev_of, next_of}
 use Rattle.chain_laws.specs.Operations.{joined}
 use Rattle.chain_laws.specs.Cuts.{cut}
-use Rattle.chain_laws.specs.Removals.{without}
+use Rattle.chain_laws.specs.Removals.{vacated}
 use Rattle.chain_laws.specs.Insertions.{InsertKind, disconnected, single_link_cyclic, chain_end, chain_start, next_to, prev_to, at_interlink, bridge}
 use Rattle.chain_laws.specs.Insertions.{HasIndex, InsertsPairs, link_before, link_after, inserted}
 use Rattle.chain_laws.specs.Others.{Lacks, named, SameLinksKeepAChain, InsertionKeepsOthers, InsertionMakesNoOthers, LoneKeepsEach, CutKeepsOthers, JoinMakesNoOthers, RemovalMakesNoOthers}
-use Rattle.chain_laws.proofs.Standing.{Stands-frame}
+use Rattle.chain_laws.proofs.Standing.{IsChain-frame}
 use Rattle.chain_laws.proofs.Gluing.{IsChain-linked}
 use Rattle.chain_laws.proofs.Joining.{joined_agrees}
-use Rattle.chain_laws.proofs.RemovalPairs.{without-at, without-off}
+use Rattle.chain_laws.proofs.RemovalPairs.{vacated-at, vacated-off}
 use Rattle.chain_laws.proofs.CutPairs.{cut_of_join}
 use Rattle.chain_laws.proofs.Parting.{cut_cuts}
 use Rattle.chain_laws.proofs.InsertionPairs.{inserted_agrees, inserted_in_pairs}
@@ -19,8 +19,7 @@ use Rattle.chain_laws.proofs.Belonging.{free_is_in_no_chain, neighbors_stand_tog
 
 -- a list that stands depends on what its own items show alone
 pub same_links_keep_a_chain : SameLinksKeepAChain
-same_links_keep_a_chain old new (linear xs) same is = (is.0, is.1, Stands-frame old new None xs None (λ i has. sym (same i has)) is.2)
-same_links_keep_a_chain old new (cyclic xs) same is = (is.0, is.1, Stands-frame old new (last_or xs None) xs (first_or xs None) (λ i has. sym (same i has)) is.2)
+same_links_keep_a_chain old new c same is = IsChain-frame old new c (λ i has. sym (same i has)) is
 
 -- a chain without a has nothing that comes after a ..
 lacks_next : (shown : Shown) (c : Chain) (a : ℕ) → Agrees shown → IsChain shown c → (Has (items c) a → ⊥) → HasIndex c (next_of shown a) → ⊥
@@ -96,8 +95,8 @@ join_makes_no_others shown a b agrees ends c lacks is =
 -- a chain without the links that are tied together shows what it showed without the removed one, which it lacks
 pub removal_makes_no_others : RemovalMakesNoOthers
 removal_makes_no_others shown i c no_prev no_next is =
-    let left = (IsChain-linked (without shown i) (prev_of shown i) (next_of shown i) c (HasIndex-apart c (prev_of shown i) no_prev) (HasIndex-apart c (next_of shown i) no_next)).1 is in
-    same_links_keep_a_chain (without shown i) shown c (λ j has. sym (without-off shown i j (λ e. off left (subst (λ (k : ℕ). Has (items c) k) e has)))) left
+    let left = (IsChain-linked (vacated shown i) (prev_of shown i) (next_of shown i) c (HasIndex-apart c (prev_of shown i) no_prev) (HasIndex-apart c (next_of shown i) no_next)).1 is in
+    same_links_keep_a_chain (vacated shown i) shown c (λ j has. sym (vacated-off shown i j (λ e. off left (subst (λ (k : ℕ). Has (items c) k) e has)))) left
   where
-    off : IsChain (without shown i) c → Has (items c) i → ⊥
-    off left has = free_is_in_no_chain (without shown i) c i (without-at shown i i refl) left has
+    off : IsChain (vacated shown i) c → Has (items c) i → ⊥
+    off left has = free_is_in_no_chain (vacated shown i) c i (vacated-at shown i i refl) left has

@@ -1,9 +1,9 @@
 -- The steps of a walker.
 use Rattle.std.proofs.Common.{◌≡◌, ℕ, zero, suc, List, [], ◌∷◌, Option, None, Some, refl, ap, sym, ◌∙◌, subst, IfSome}
 use Rattle.chain_laws.specs.Chains.{Shown, first_or}
-use Rattle.chain_laws.specs.Walks.{Walker, ahead, passes_ahead, next_step, step_of, passed_by, StepsPass}
+use Rattle.chain_laws.specs.Walks.{Walker, walk_ahead, passes_ahead, next_step, step_of, passed_by, StepsPass}
 
-steps_from : (shown : Shown) (left start : ℕ) (forth back : Option ℕ) → ahead left shown start forth back ≡ passed_by shown (next_step left shown start forth back)
+steps_from : (shown : Shown) (left start : ℕ) (forth back : Option ℕ) → walk_ahead left shown start forth back ≡ passed_by shown (next_step left shown start forth back)
 steps_from shown zero start forth back = refl
 steps_from shown (suc left) start (Some j) back = refl
 steps_from shown (suc left) start None (Some k) = refl

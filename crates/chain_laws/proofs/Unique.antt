@@ -1,6 +1,6 @@
 -- Chains that share an index are one chain.
 use Rattle.std.proofs.Common.{◌≡◌, ◌≢◌, ℕ, ◌≤◌, inl, inr, ⊎_elim, List, [], ◌∷◌, Option, None, Some, refl, sym, ap, ◌∙◌, subst, arith}
-use Rattle.chain_laws.specs.Chains.{Shown, IsValid, Has, HasNoRepetition, Chain, linear, cyclic, items, first_or, last_or, prev_in, next_in, prev_of, next_of, Stands, IsChain, IsWritten, IsAtMostEach}
+use Rattle.chain_laws.specs.Chains.{Shown, HasLink, Has, HasNoRepetition, Chain, linear, cyclic, items, first_or, last_or, prev_in, next_in, prev_of, next_of, Stands, IsChain, IsWritten, IsAtMostEach}
 use Rattle.chain_laws.proofs.Members.{first_or-Has, last_or-Has, last_or-filled}
 use Rattle.chain_laws.proofs.Standing.{Stands-valid, Stands-next, Stands-prev, Stands-prev_some, Stands-first, one_onward, one_round}
 
@@ -33,7 +33,7 @@ chain_closed shown (cyclic xs) h = record { forth = onward; back = backward }
     backward i j m e = ⊎_elim (λ (k : Has xs j). k) (last j) (Stands-prev shown (last_or xs None) xs (first_or xs None) i j h.2 m e)
 
 -- the items of a chain are valid
-pub chain_valid : (shown : Shown) (c : Chain) (i : ℕ) → IsChain shown c → Has (items c) i → IsValid shown i
+pub chain_valid : (shown : Shown) (c : Chain) (i : ℕ) → IsChain shown c → Has (items c) i → HasLink shown i
 chain_valid shown (linear xs) i h m = Stands-valid shown None xs None i h.2 m
 chain_valid shown (cyclic xs) i h m = Stands-valid shown (last_or xs None) xs (first_or xs None) i h.2 m
 

@@ -1,14 +1,14 @@
 -- Arrangements: lists of all links, and the renumberings that they give, where the k-th link goes to index k.
 use Rattle.std.specs.Prelude.{◌≡◌, ◌↔◌, ℕ, suc, ◌+◌, ◌≤◌, ◌==◌, if◌then◌else◌, List, [], ◌∷◌, length, Option, None, Some}
 use Rattle.std.specs.List.{range_with_len}
-use Rattle.chain_laws.specs.Chains.{Shown, Chain, linear, cyclic, all_items, Has, HasNoRepetition, IsValid, IsWithin, Agrees, AreChains}
+use Rattle.chain_laws.specs.Chains.{Shown, Chain, linear, cyclic, all_items, Has, HasNoRepetition, HasLink, HasLinksWithin, Agrees, AreChains}
 use Rattle.chain_laws.specs.Neighbors.{AreTheChains, HasOneSetOfChains}
 use Rattle.chain_laws.specs.Renamings.{IsRenaming, AreImages}
 
 -- a list that holds each valid index once, and nothing else
 pub record IsArrangement (shown : Shown) (indexes : List ℕ) : Type 0 where
   pub once : HasNoRepetition indexes
-  pub valid : (i : ℕ) → IsValid shown i ↔ Has indexes i
+  pub valid : (i : ℕ) → HasLink shown i ↔ Has indexes i
 
 -- the place of an index in a list whose first place is n
 abbrev pub place_from : ℕ → List ℕ → ℕ → Option ℕ
@@ -65,7 +65,7 @@ RunsAreRenumbered = (old new : Shown) (chains : List Chain) → AreChains old ch
 
 -- there is a least-index order ..
 abbrev pub HasLeastIndexOrder : Type 0
-HasLeastIndexOrder = (shown : Shown) (slots : ℕ) → Agrees shown → IsWithin shown slots → (indexes : List ℕ) × IsLeastIndexOrder shown indexes
+HasLeastIndexOrder = (shown : Shown) (slots : ℕ) → Agrees shown → HasLinksWithin shown slots → (indexes : List ℕ) × IsLeastIndexOrder shown indexes
 
 -- .. and it is that function
 abbrev pub LeastIndexOrderIsOrdered : Type 0

@@ -25,7 +25,7 @@ abbrev pub next_of : Shown → ℕ → Option ℕ
 next_of shown i = next_in (shown i)
 
 -- a link stands at i
-pub record IsValid (shown : Shown) (i : ℕ) : Type 0 where
+pub record HasLink (shown : Shown) (i : ℕ) : Type 0 where
   pub link : Interlinks
   pub shows : shown i ≡ Some link
 
@@ -34,9 +34,9 @@ pub record IsValid (shown : Shown) (i : ℕ) : Type 0 where
 pub record Agrees (shown : Shown) : Type 0 where
   pub both : (i j : ℕ) → (next_of shown i ≡ Some j) ↔ (prev_of shown j ≡ Some i)
 
--- every valid index is one of the numbers from 1 to the number of slots
-pub record IsWithin (shown : Shown) (slots : ℕ) : Type 0 where
-  pub within : (i : ℕ) → IsValid shown i → (1 ≤ i) × (i ≤ slots)
+-- links stand at no other indexes than 1 to the number of slots
+pub record HasLinksWithin (shown : Shown) (slots : ℕ) : Type 0 where
+  pub within : (i : ℕ) → HasLink shown i → (1 ≤ i) × (i ≤ slots)
 
 -- y is among the items
 abbrev pub Has : List ℕ → ℕ → Type 0
@@ -90,7 +90,7 @@ all_items (c ∷ chains) = items c ++ all_items chains
 pub record AreChains (shown : Shown) (chains : List Chain) : Type 0 where
   pub each : (c : Chain) → HasChain chains c → IsChain shown c
   pub once : HasNoRepetition (all_items chains)
-  pub all : (i : ℕ) → IsValid shown i → Has (all_items chains) i
+  pub all : (i : ℕ) → HasLink shown i → Has (all_items chains) i
 
 abbrev pub IsAtMostEach : ℕ → List ℕ → Type 0
 IsAtMostEach x [] = Unit {0}

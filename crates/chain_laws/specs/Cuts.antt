@@ -1,6 +1,6 @@
 -- What becomes of the interlinks and of the chains where two neighbours are cut apart.
 use Rattle.std.specs.Prelude.{◌≡◌, ◌↔◌, ℕ, List, [], ◌∷◌, ◌++◌, None, Some}
-use Rattle.chain_laws.specs.Chains.{Shown, linear, cyclic, IsChain, IsValid, IsWithin, Agrees, first_or, last_or}
+use Rattle.chain_laws.specs.Chains.{Shown, linear, cyclic, IsChain, HasLink, HasLinksWithin, Agrees, first_or, last_or}
 use Rattle.chain_laws.specs.Neighbors.{AreNeighbors}
 use Rattle.chain_laws.specs.Operations.{linked, joined, KeepsChainsWithout, AreEndAndStart, HaveSameChains}
 
@@ -11,7 +11,7 @@ cut shown a b = linked (linked shown (Some a) None) None (Some b)
 -- exactly one neighbour pair is taken away
 pub record TakesPair (old new : Shown) (a b : ℕ) : Type 0 where
   pub pairs : (i j : ℕ) → AreNeighbors new i j ↔ (AreNeighbors old i j × ((i ≡ a) × (j ≡ b) → ⊥))
-  pub links : (i : ℕ) → IsValid new i ↔ IsValid old i
+  pub links : (i : ℕ) → HasLink new i ↔ HasLink old i
 
 -- the chain in which b comes after a is cut between them
 pub record Cuts (old new : Shown) (a b : ℕ) : Type 0 where
@@ -35,7 +35,7 @@ CutPartsChains = (shown : Shown) (a b : ℕ) → Cuts shown (cut shown a b) a b
 
 -- what cuts two neighbours apart has the chains of their cut, and no others ..
 abbrev pub CutIsDetermined : Type 0
-CutIsDetermined = (old new : Shown) (slots a b : ℕ) → Agrees old → IsWithin old slots → AreNeighbors old a b
+CutIsDetermined = (old new : Shown) (slots a b : ℕ) → Agrees old → HasLinksWithin old slots → AreNeighbors old a b
     → Cuts old new a b → HaveSameChains new (cut old a b)
 
 -- .. and what takes their pair, and agrees, is the cut

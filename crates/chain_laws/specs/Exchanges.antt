@@ -1,6 +1,6 @@
 -- What becomes of the interlinks and of the chains where the links after two links are exchanged.
 use Rattle.std.specs.Prelude.{◌≡◌, ◌≢◌, ◌↔◌, ℕ, ◌⊎◌, List, [], ◌∷◌, ◌++◌, Some}
-use Rattle.chain_laws.specs.Chains.{Shown, linear, cyclic, Has, IsChain, IsValid, IsWithin, Agrees, next_of}
+use Rattle.chain_laws.specs.Chains.{Shown, linear, cyclic, Has, IsChain, HasLink, HasLinksWithin, Agrees, next_of}
 use Rattle.chain_laws.specs.Neighbors.{AreNeighbors, AreSameButTurned}
 use Rattle.chain_laws.specs.Operations.{linked, KeepsChainsWithout, HaveSameChains}
 
@@ -13,7 +13,7 @@ exchanged shown p q = linked (linked shown (Some p) (next_of shown q)) (Some q) 
 pub record ExchangesPairs (old new : Shown) (p q : ℕ) : Type 0 where
   pub pairs : (i j : ℕ) → AreNeighbors new i j
       ↔ ((AreNeighbors old i j × (i ≢ p) × (i ≢ q)) ⊎ ((i ≡ p) × AreNeighbors old q j) ⊎ ((i ≡ q) × AreNeighbors old p j))
-  pub links : (i : ℕ) → IsValid new i ↔ IsValid old i
+  pub links : (i : ℕ) → HasLink new i ↔ HasLink old i
 
 -- the cases that are not the same with p and q in each other's place; a cyclic chain is written so that q is its last
 pub record ExchangesInOrder (old new : Shown) (p q : ℕ) : Type 0 where
@@ -42,38 +42,38 @@ pub record Exchanges (old new : Shown) (p q : ℕ) : Type 0 where
 
 -- after an exchange the interlinks still agree ..
 abbrev pub ExchangeAgrees : Type 0
-ExchangeAgrees = (shown : Shown) (p q : ℕ) → Agrees shown → IsValid shown p → IsValid shown q → Agrees (exchanged shown p q)
+ExchangeAgrees = (shown : Shown) (p q : ℕ) → Agrees shown → HasLink shown p → HasLink shown q → Agrees (exchanged shown p q)
 
 -- .. the pairs are exchanged ..
 abbrev pub ExchangeInPairs : Type 0
-ExchangeInPairs = (shown : Shown) (p q : ℕ) → Agrees shown → IsValid shown p → IsValid shown q → ExchangesPairs shown (exchanged shown p q) p q
+ExchangeInPairs = (shown : Shown) (p q : ℕ) → Agrees shown → HasLink shown p → HasLink shown q → ExchangesPairs shown (exchanged shown p q) p q
 
 -- .. and the chains are linked anew, all cases
 abbrev pub ExchangeExchanges : Type 0
-ExchangeExchanges = (shown : Shown) (p q : ℕ) → Agrees shown → IsValid shown p → IsValid shown q → Exchanges shown (exchanged shown p q) p q
+ExchangeExchanges = (shown : Shown) (p q : ℕ) → Agrees shown → HasLink shown p → HasLink shown q → Exchanges shown (exchanged shown p q) p q
 
 -- what exchanges the links after two links, by chains, has the chains of the exchange, and no others ..
 abbrev pub ExchangeIsDetermined : Type 0
-ExchangeIsDetermined = (old new : Shown) (slots p q : ℕ) → Agrees old → IsWithin old slots → IsValid old p → IsValid old q
+ExchangeIsDetermined = (old new : Shown) (slots p q : ℕ) → Agrees old → HasLinksWithin old slots → HasLink old p → HasLink old q
     → Exchanges old new p q → HaveSameChains new (exchanged old p q)
 
 -- .. and what exchanges them by pairs, and agrees, is the exchange
 abbrev pub ExchangeIsDeterminedByPairs : Type 0
-ExchangeIsDeterminedByPairs = (old new : Shown) (p q : ℕ) → Agrees old → Agrees new → IsValid old p → IsValid old q
+ExchangeIsDeterminedByPairs = (old new : Shown) (p q : ℕ) → Agrees old → Agrees new → HasLink old p → HasLink old q
     → ExchangesPairs old new p q → new ≡ exchanged old p q
 
 -- two exchanges of the same two, one after the other, leave all as it was ..
 abbrev pub ExchangeTwiceRestores : Type 0
-ExchangeTwiceRestores = (shown : Shown) (p q : ℕ) → Agrees shown → IsValid shown p → IsValid shown q
+ExchangeTwiceRestores = (shown : Shown) (p q : ℕ) → Agrees shown → HasLink shown p → HasLink shown q
     → exchanged (exchanged shown p q) p q ≡ shown
 
 -- .. and so does one with itself ..
 abbrev pub ExchangeWithItselfKeeps : Type 0
-ExchangeWithItselfKeeps = (shown : Shown) (p : ℕ) → Agrees shown → IsValid shown p → exchanged shown p p ≡ shown
+ExchangeWithItselfKeeps = (shown : Shown) (p : ℕ) → Agrees shown → HasLink shown p → exchanged shown p p ≡ shown
 
 -- .. and it is the same from either of the two
 abbrev pub ExchangeIsMutual : Type 0
-ExchangeIsMutual = (shown : Shown) (p q : ℕ) → Agrees shown → IsValid shown p → IsValid shown q → exchanged shown p q ≡ exchanged shown q p
+ExchangeIsMutual = (shown : Shown) (p q : ℕ) → Agrees shown → HasLink shown p → HasLink shown q → exchanged shown p q ≡ exchanged shown q p
 
 -- two links of one cyclic chain, wherever that is written from, stand in two after the exchange, which share its links ..
 abbrev pub ExchangeSplitsACycle : Type 0

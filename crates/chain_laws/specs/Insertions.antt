@@ -1,6 +1,6 @@
 -- Where a new link may come, and what becomes of the interlinks and of the chains where it comes.
 use Rattle.std.specs.Prelude.{◌≡◌, ◌↔◌, ℕ, ◌⊎◌, List, [], ◌∷◌, ◌++◌, Option, None, Some}
-use Rattle.chain_laws.specs.Chains.{Shown, Chain, linear, cyclic, items, Has, IsChain, IsValid, IsWithin, Agrees, first_or, last_or, prev_of, next_of}
+use Rattle.chain_laws.specs.Chains.{Shown, Chain, linear, cyclic, items, Has, IsChain, HasLink, HasLinksWithin, Agrees, first_or, last_or, prev_of, next_of}
 use Rattle.chain_laws.specs.Neighbors.{AreNeighbors}
 use Rattle.chain_laws.specs.Operations.{linked, with_lone, AreEndAndStart, HaveSameChains}
 use Rattle.chain_laws.specs.Removals.{removed}
@@ -20,11 +20,11 @@ pub data InsertKind (N : Type 0) : Type 0 where
 abbrev pub CanInsert : Shown → InsertKind ℕ → Type 0
 CanInsert shown disconnected = Unit {0}
 CanInsert shown single_link_cyclic = Unit {0}
-CanInsert shown (chain_end a) = IsValid shown a × (next_of shown a ≡ None)
-CanInsert shown (chain_start b) = IsValid shown b × (prev_of shown b ≡ None)
-CanInsert shown (next_to a) = IsValid shown a
-CanInsert shown (prev_to b) = IsValid shown b
-CanInsert shown (at_interlink a b) = IsValid shown a × IsValid shown b × AreNeighbors shown a b
+CanInsert shown (chain_end a) = HasLink shown a × (next_of shown a ≡ None)
+CanInsert shown (chain_start b) = HasLink shown b × (prev_of shown b ≡ None)
+CanInsert shown (next_to a) = HasLink shown a
+CanInsert shown (prev_to b) = HasLink shown b
+CanInsert shown (at_interlink a b) = HasLink shown a × HasLink shown b × AreNeighbors shown a b
 CanInsert shown (bridge a b) = AreEndAndStart shown a b
 
 -- the link before the new one, which is q ..
@@ -61,15 +61,15 @@ inserted_as shown kind q = inserted shown q (link_before shown kind q) (link_aft
 -- both; or both are the new link itself
 abbrev pub IsGap : Shown → ℕ → Option ℕ → Option ℕ → Type 0
 IsGap shown q None None = Unit {0}
-IsGap shown q (Some a) None = IsValid shown a × (next_of shown a ≡ None)
-IsGap shown q None (Some b) = IsValid shown b × (prev_of shown b ≡ None)
+IsGap shown q (Some a) None = HasLink shown a × (next_of shown a ≡ None)
+IsGap shown q None (Some b) = HasLink shown b × (prev_of shown b ≡ None)
 IsGap shown q (Some a) (Some b) = AreNeighbors shown a b ⊎ AreEndAndStart shown a b ⊎ ((a ≡ q) × (b ≡ q))
 
 -- a new link comes between u and v, by pairs: theirs goes where it stands, and each of them and the new link become one
 pub record InsertsPairs (old new : Shown) (q : ℕ) (u v : Option ℕ) : Type 0 where
   pub pairs : (i j : ℕ) → AreNeighbors new i j
       ↔ ((AreNeighbors old i j × ((u ≡ Some i) × (v ≡ Some j) → ⊥)) ⊎ ((u ≡ Some i) × (j ≡ q)) ⊎ ((i ≡ q) × (v ≡ Some j)))
-  pub links : (i : ℕ) → IsValid new i ↔ (IsValid old i ⊎ (i ≡ q))
+  pub links : (i : ℕ) → HasLink new i ↔ (HasLink old i ⊎ (i ≡ q))
 
 -- the chain has this index, if it is some
 abbrev pub HasIndex : Chain → Option ℕ → Type 0
@@ -96,7 +96,7 @@ pub record Inserts (old new : Shown) (q : ℕ) (u v : Option ℕ) : Type 0 where
       → IsChain new (cyclic (xs ++ q ∷ []))
   -- every other chain stays, item for item
   pub rest : (c : Chain) → (Has (items c) q → ⊥) → (HasIndex c u → ⊥) → (HasIndex c v → ⊥) → IsChain old c ↔ IsChain new c
-  pub links : (i : ℕ) → IsValid new i ↔ (IsValid old i ⊎ (i ≡ q))
+  pub links : (i : ℕ) → HasLink new i ↔ (HasLink old i ⊎ (i ≡ q))
 
 -- what a kind asks for is a gap ..
 abbrev pub KindGivesAGap : Type 0
@@ -118,7 +118,7 @@ InsertionInserts = (shown : Shown) (q : ℕ) (u v : Option ℕ) → shown q ≡ 
 
 -- what inserts a link in a gap, by chains, has the chains of the insertion, and no others ..
 abbrev pub InsertionIsDetermined : Type 0
-InsertionIsDetermined = (old new : Shown) (slots q : ℕ) (u v : Option ℕ) → Agrees old → IsWithin old slots → old q ≡ None → IsGap old q u v
+InsertionIsDetermined = (old new : Shown) (slots q : ℕ) (u v : Option ℕ) → Agrees old → HasLinksWithin old slots → old q ≡ None → IsGap old q u v
     → Inserts old new q u v → HaveSameChains new (inserted old q u v)
 
 -- .. and what inserts it by pairs, and agrees, is the insertion
@@ -128,5 +128,5 @@ InsertionIsDeterminedByPairs = (old new : Shown) (q : ℕ) (u v : Option ℕ) �
 
 -- a new link next to another one, after it or before it, removed again, leaves what stood before
 abbrev pub RemovalOfInsertedRestores : Type 0
-RemovalOfInsertedRestores = (shown : Shown) (a q : ℕ) → Agrees shown → IsValid shown a → shown q ≡ None
+RemovalOfInsertedRestores = (shown : Shown) (a q : ℕ) → Agrees shown → HasLink shown a → shown q ≡ None
     → (removed (inserted_as shown (next_to a) q) q ≡ shown) × (removed (inserted_as shown (prev_to a) q) q ≡ shown)

@@ -1,13 +1,13 @@
 -- What stands in a chain, beside what, and what stands in a list: laws for code that is built on chains.
 use Rattle.std.specs.Prelude.{◌≡◌, ◌≢◌, ◌↔◌, ℕ, ◌≤◌, ◌⊎◌, List, [], ◌∷◌, ◌++◌, length, None, Some}
-use Rattle.chain_laws.specs.Chains.{Shown, Chain, linear, cyclic, items, all_items, HasChain, Has, HasNoRepetition, IsChain, IsValid, Agrees, first_or, last_or, prev_of, next_of}
+use Rattle.chain_laws.specs.Chains.{Shown, Chain, linear, cyclic, items, all_items, HasChain, Has, HasNoRepetition, IsChain, HasLink, Agrees, first_or, last_or, prev_of, next_of}
 use Rattle.chain_laws.specs.Neighbors.{AreNeighbors, AreNeighborsIn, AreSameButTurned}
 
 -- ---- in a chain
 
 -- a link stands at each index of a chain ..
 abbrev pub MembersAreLinks : Type 0
-MembersAreLinks = (shown : Shown) (c : Chain) (i : ℕ) → IsChain shown c → Has (items c) i → IsValid shown i
+MembersAreLinks = (shown : Shown) (c : Chain) (i : ℕ) → IsChain shown c → Has (items c) i → HasLink shown i
 
 -- .. so an index where none stands is in no chain ..
 abbrev pub FreeIsInNoChain : Type 0

@@ -1,7 +1,7 @@
 -- What becomes of the interlinks where links go to lower indexes, one after another, so that no gaps are left.
 use Rattle.std.specs.Prelude.{◌≡◌, ◌↔◌, ℕ, ◌+◌, ◌≤◌, ◌==◌, leb, if◌then◌else◌, ◌⊎◌, List, [], ◌∷◌, ◌++◌, length, Option, None, Some}
 use Rattle.std.specs.Option.{option_map, option_and_then}
-use Rattle.chain_laws.specs.Chains.{Shown, Interlinks, Has, HasNoRepetition, IsValid, IsWithin, Agrees, prev_of, next_of}
+use Rattle.chain_laws.specs.Chains.{Shown, Interlinks, Has, HasNoRepetition, HasLink, HasLinksWithin, Agrees, prev_of, next_of}
 use Rattle.chain_laws.specs.Operations.{next_set, prev_set}
 use Rattle.chain_laws.specs.Renamings.{IsRenaming}
 use Rattle.chain_laws.specs.Arrangements.{place_in}
@@ -23,7 +23,7 @@ put shown i k j = if j == k then shown i else if j == i then None else shown j
 
 -- a link stands at i, and may go to k: no other stands there
 pub record CanMove (shown : Shown) (i k : ℕ) : Type 0 where
-  pub valid : IsValid shown i
+  pub valid : HasLink shown i
   pub free : (k ≡ i) ⊎ (shown k ≡ None)
 
 -- where each link goes then
@@ -45,19 +45,19 @@ RenamingsCompose = (first second : ℕ → Option ℕ) (old between new : Shown)
     → IsRenaming (λ i. option_and_then second (first i)) old new
 
 -- where each link stands once those up to k have gone to the indexes from 1 on, in the order of a list
-abbrev pub gathered : Shown → List ℕ → ℕ → ℕ → Option ℕ
-gathered shown done k i = if leb i k then place_in done i else option_map (λ _. i) (shown i)
+abbrev pub gathered_place : Shown → List ℕ → ℕ → ℕ → Option ℕ
+gathered_place shown done k i = if leb i k then place_in done i else option_map (λ _. i) (shown i)
 
 -- while the gaps are closed: the links up to k, which the list holds by rising index, have gone to the indexes from 1 on
 pub record IsGathering (old now : Shown) (done : List ℕ) (k : ℕ) : Type 0 where
-  pub renamed : IsRenaming (gathered old done k) old now
+  pub renamed : IsRenaming (gathered_place old done k) old now
   pub once : HasNoRepetition done
-  pub holds : (i : ℕ) → Has done i ↔ (IsValid old i × (i ≤ k))
+  pub holds : (i : ℕ) → Has done i ↔ (HasLink old i × (i ≤ k))
   pub below : length done ≤ k
 
 -- no link has gone yet ..
 abbrev pub GatheringBegins : Type 0
-GatheringBegins = (shown : Shown) (slots : ℕ) → Agrees shown → IsWithin shown slots → IsGathering shown shown [] 0
+GatheringBegins = (shown : Shown) (slots : ℕ) → Agrees shown → HasLinksWithin shown slots → IsGathering shown shown [] 0
 
 -- .. a free slot is passed over ..
 abbrev pub GatheringSkips : Type 0
@@ -65,9 +65,9 @@ GatheringSkips = (old now : Shown) (done : List ℕ) (k : ℕ) → IsGathering o
 
 -- .. the next link may go, which stands where it stood, and goes ..
 abbrev pub GatheringGoesOn : Type 0
-GatheringGoesOn = (old now : Shown) (done : List ℕ) (k : ℕ) → Agrees old → IsGathering old now done k → IsValid old (k + 1)
+GatheringGoesOn = (old now : Shown) (done : List ℕ) (k : ℕ) → Agrees old → IsGathering old now done k → HasLink old (k + 1)
     → Agrees now × CanMove now (k + 1) (length done + 1) × IsGathering old (moved now (k + 1) (length done + 1)) (done ++ (k + 1) ∷ []) (k + 1)
 
 -- .. and at the end all are renumbered by their order
 abbrev pub GatheringEnds : Type 0
-GatheringEnds = (old now : Shown) (done : List ℕ) (slots : ℕ) → IsWithin old slots → IsGathering old now done slots → IsRenaming (place_in done) old now
+GatheringEnds = (old now : Shown) (done : List ℕ) (slots : ℕ) → HasLinksWithin old slots → IsGathering old now done slots → IsRenaming (place_in done) old now

@@ -1,7 +1,7 @@
 -- The chains of an arena by neighbour pairs: a partition of its links that has its interlinks.
 use Rattle.std.specs.Prelude.{◌≡◌, ◌≢◌, ◌↔◌, ℕ, ◌⊎◌, List, [], ◌∷◌, ◌++◌, None, Some}
-use Rattle.chain_laws.specs.Chains.{Shown, Chain, linear, cyclic, items, all_items, HasChain, Has, HasNoRepetition, IsValid}
-use Rattle.chain_laws.specs.Chains.{IsWithin, Agrees, IsChain, AreChains, IsWritten, IsInOrder, first_or, last_or, prev_of, next_of}
+use Rattle.chain_laws.specs.Chains.{Shown, Chain, linear, cyclic, items, all_items, HasChain, Has, HasNoRepetition, HasLink}
+use Rattle.chain_laws.specs.Chains.{HasLinksWithin, Agrees, IsChain, AreChains, IsWritten, IsInOrder, first_or, last_or, prev_of, next_of}
 
 -- b stands directly after a in the list
 abbrev pub IsBeside : List ℕ → ℕ → ℕ → Type 0
@@ -24,7 +24,7 @@ AreNeighbors shown a b = next_of shown a ≡ Some b
 pub record Partition (shown : Shown) (chains : List Chain) : Type 0 where
   pub filled : (c : Chain) → HasChain chains c → items c ≢ []
   pub once : HasNoRepetition (all_items chains)
-  pub valid : (i : ℕ) → IsValid shown i ↔ Has (all_items chains) i
+  pub valid : (i : ℕ) → HasLink shown i ↔ Has (all_items chains) i
 
 -- the arena's interlinks are the neighbour pairs of the chains
 pub record HasInterlinks (shown : Shown) (chains : List Chain) : Type 0 where
@@ -39,7 +39,7 @@ pub record AreTheChains (shown : Shown) (chains : List Chain) : Type 0 where
 
 -- an arena whose interlinks agree has chains ..
 abbrev pub HasChains : Type 0
-HasChains = (shown : Shown) (slots : ℕ) → Agrees shown → IsWithin shown slots → (chains : List Chain) × AreTheChains shown chains
+HasChains = (shown : Shown) (slots : ℕ) → Agrees shown → HasLinksWithin shown slots → (chains : List Chain) × AreTheChains shown chains
 
 -- .. and no two sets of them
 abbrev pub HasNoOtherChains : Type 0
@@ -65,7 +65,7 @@ pub record StandsIn (shown : Shown) (i : ℕ) (c : Chain) : Type 0 where
 
 -- each valid index stands in a chain ..
 abbrev pub HasChainOfEach : Type 0
-HasChainOfEach = (shown : Shown) (slots i : ℕ) → Agrees shown → IsWithin shown slots → IsValid shown i → (c : Chain) × StandsIn shown i c
+HasChainOfEach = (shown : Shown) (slots i : ℕ) → Agrees shown → HasLinksWithin shown slots → HasLink shown i → (c : Chain) × StandsIn shown i c
 
 -- .. and in no other
 abbrev pub HasNoOtherOfEach : Type 0

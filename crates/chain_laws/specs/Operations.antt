@@ -1,7 +1,7 @@
 -- What becomes of the interlinks and of the chains: a join, and a new link that stands alone.
 use Rattle.std.specs.Prelude.{◌≡◌, ◌↔◌, ℕ, ◌==◌, if◌then◌else◌, ◌⊎◌, List, [], ◌∷◌, ◌++◌, Option, None, Some}
 use Rattle.std.specs.Option.{option_map}
-use Rattle.chain_laws.specs.Chains.{Shown, Interlinks, Chain, linear, cyclic, items, Has, IsChain, IsValid, IsWithin, Agrees, first_or, last_or, prev_of, next_of}
+use Rattle.chain_laws.specs.Chains.{Shown, Interlinks, Chain, linear, cyclic, items, Has, IsChain, HasLink, HasLinksWithin, Agrees, first_or, last_or, prev_of, next_of}
 use Rattle.chain_laws.specs.Neighbors.{AreNeighbors}
 
 abbrev pub with_prev : Option ℕ → Interlinks → Interlinks
@@ -35,7 +35,7 @@ with_lone shown q j = if j == q then Some (record { prev = None; next = None }) 
 -- exactly one neighbour pair is added
 pub record AddsPair (old new : Shown) (a b : ℕ) : Type 0 where
   pub pairs : (i j : ℕ) → AreNeighbors new i j ↔ (AreNeighbors old i j ⊎ ((i ≡ a) × (j ≡ b)))
-  pub links : (i : ℕ) → IsValid new i ↔ IsValid old i
+  pub links : (i : ℕ) → HasLink new i ↔ HasLink old i
 
 -- a chain that names neither index stays, item for item
 abbrev pub KeepsChainsWithout : Shown → Shown → ℕ → ℕ → Type 0
@@ -55,12 +55,12 @@ pub record AddsLone (old new : Shown) (q : ℕ) : Type 0 where
   pub alone : IsChain new (linear (q ∷ []))
   pub rest : (c : Chain) → (Has (items c) q → ⊥) → IsChain old c ↔ IsChain new c
   pub pairs : (i j : ℕ) → AreNeighbors new i j ↔ AreNeighbors old i j
-  pub links : (i : ℕ) → IsValid new i ↔ (IsValid old i ⊎ (i ≡ q))
+  pub links : (i : ℕ) → HasLink new i ↔ (HasLink old i ⊎ (i ≡ q))
 
 -- a is the end of a linear chain, and b the start of one, maybe of the same
 pub record AreEndAndStart (shown : Shown) (a b : ℕ) : Type 0 where
-  pub valid_end : IsValid shown a
-  pub valid_start : IsValid shown b
+  pub valid_end : HasLink shown a
+  pub valid_start : HasLink shown b
   pub end : next_of shown a ≡ None
   pub start : prev_of shown b ≡ None
 
@@ -90,17 +90,17 @@ HaveSameChains left right = (c : Chain) → IsChain left c ↔ IsChain right c
 
 -- two arenas that agree and have the same chains show the same
 abbrev pub ChainsDecide : Type 0
-ChainsDecide = (left right : Shown) (slots : ℕ) → Agrees left → Agrees right → IsWithin left slots → IsWithin right slots
+ChainsDecide = (left right : Shown) (slots : ℕ) → Agrees left → Agrees right → HasLinksWithin left slots → HasLinksWithin right slots
     → HaveSameChains left right → left ≡ right
 
 -- two arenas that agree and have the same links and neighbour pairs show the same
 abbrev pub PairsDecide : Type 0
-PairsDecide = (left right : Shown) → Agrees left → Agrees right → ((i : ℕ) → IsValid left i ↔ IsValid right i)
+PairsDecide = (left right : Shown) → Agrees left → Agrees right → ((i : ℕ) → HasLink left i ↔ HasLink right i)
     → ((i j : ℕ) → AreNeighbors left i j ↔ AreNeighbors right i j) → left ≡ right
 
 -- what connects an end and a start has the chains of their join, and no others
 abbrev pub JoinIsDetermined : Type 0
-JoinIsDetermined = (old new : Shown) (slots a b : ℕ) → Agrees old → IsWithin old slots → AreEndAndStart old a b
+JoinIsDetermined = (old new : Shown) (slots a b : ℕ) → Agrees old → HasLinksWithin old slots → AreEndAndStart old a b
     → Connects old new a b → HaveSameChains new (joined old a b)
 
 -- what adds a link that stands alone has the chains with it, and no others

@@ -1,5 +1,5 @@
--- The chains that a change leaves alone: those that lack the links it names stay item for item, and no others of these come.
--- `Connects`, `Cuts`, `Exchanges`, `Inserts` and `Removes` say as much in `rest`; these laws ask for less.
+-- The chains that a change leaves alone. That a chain stays without the links that a change names is said by `rest` of
+-- `Connects`, `Cuts`, `Exchanges`, `Inserts` and `Removes`; the laws here ask for less, or tell which chains were there before.
 use Rattle.std.specs.Prelude.{◌≡◌, ℕ, ◌⊎◌, List, [], ◌∷◌, Option, None}
 use Rattle.chain_laws.specs.Chains.{Shown, Chain, items, Has, IsChain, Agrees, prev_of, next_of}
 use Rattle.chain_laws.specs.Neighbors.{AreNeighbors}

@@ -1,23 +1,23 @@
 -- What becomes of the interlinks and of the chains where a link is removed.
 use Rattle.std.specs.Prelude.{◌≡◌, ◌≢◌, ◌↔◌, ℕ, ◌==◌, if◌then◌else◌, ◌⊎◌, List, [], ◌∷◌, ◌++◌, None, Some}
-use Rattle.chain_laws.specs.Chains.{Shown, Chain, linear, cyclic, items, Has, IsChain, IsValid, IsWithin, Agrees, prev_of, next_of}
+use Rattle.chain_laws.specs.Chains.{Shown, Chain, linear, cyclic, items, Has, IsChain, HasLink, HasLinksWithin, Agrees, prev_of, next_of}
 use Rattle.chain_laws.specs.Neighbors.{AreNeighbors}
 use Rattle.chain_laws.specs.Operations.{linked, with_lone, HaveSameChains}
 
 -- nothing stands at q
-abbrev pub without : Shown → ℕ → Shown
-without shown q j = if j == q then None else shown j
+abbrev pub vacated : Shown → ℕ → Shown
+vacated shown q j = if j == q then None else shown j
 
 -- nothing stands at q, and the links that it named follow one another.
 -- A write at an index where no link stands does nothing, so one that names itself needs no case.
 abbrev pub removed : Shown → ℕ → Shown
-removed shown q = linked (without shown q) (prev_of shown q) (next_of shown q)
+removed shown q = linked (vacated shown q) (prev_of shown q) (next_of shown q)
 
 -- a link is removed, by pairs: all pairs with i go, and the links that it stood between become a pair
 pub record RemovesPairs (old new : Shown) (i : ℕ) : Type 0 where
   pub pairs : (j k : ℕ) → AreNeighbors new j k
       ↔ ((AreNeighbors old j k × (j ≢ i) × (k ≢ i)) ⊎ ((prev_of old i ≡ Some j) × (next_of old i ≡ Some k) × (j ≢ i) × (k ≢ i)))
-  pub links : (j : ℕ) → IsValid new j ↔ (IsValid old j × (j ≢ i))
+  pub links : (j : ℕ) → HasLink new j ↔ (HasLink old j × (j ≢ i))
 
 -- a link is removed, by chains: the index leaves its list, and the chain stays linear or cyclic; an emptied chain is gone
 pub record Removes (old new : Shown) (i : ℕ) : Type 0 where
@@ -25,7 +25,7 @@ pub record Removes (old new : Shown) (i : ℕ) : Type 0 where
   pub from_cyclic : (x y : List ℕ) → IsChain old (cyclic (x ++ i ∷ y)) → x ++ y ≢ [] → IsChain new (cyclic (x ++ y))
   -- every other chain stays, item for item
   pub rest : (c : Chain) → (Has (items c) i → ⊥) → IsChain old c → IsChain new c
-  pub links : (j : ℕ) → IsValid new j ↔ (IsValid old j × (j ≢ i))
+  pub links : (j : ℕ) → HasLink new j ↔ (HasLink old j × (j ≢ i))
   -- no link names i
   pub unnamed : (j : ℕ) → (next_of new j ≢ Some i) × (prev_of new j ≢ Some i)
 
@@ -56,11 +56,11 @@ RemovalInPairs = (shown : Shown) (i : ℕ) → Agrees shown → RemovesPairs sho
 
 -- what removes a link, by chains, has the chains of the removal, and no others ..
 abbrev pub RemovalIsDetermined : Type 0
-RemovalIsDetermined = (old new : Shown) (slots i : ℕ) → Agrees old → IsWithin old slots → Removes old new i → HaveSameChains new (removed old i)
+RemovalIsDetermined = (old new : Shown) (slots i : ℕ) → Agrees old → HasLinksWithin old slots → Removes old new i → HaveSameChains new (removed old i)
 
 -- .. which are the old ones without the index ..
 abbrev pub RemovalLeavesEachWithout : Type 0
-RemovalLeavesEachWithout = (old new : Shown) (slots i : ℕ) → Agrees old → IsWithin old slots → Removes old new i → HasChainsWithout old new i
+RemovalLeavesEachWithout = (old new : Shown) (slots i : ℕ) → Agrees old → HasLinksWithin old slots → Removes old new i → HasChainsWithout old new i
 
 -- .. and what removes it by pairs, and agrees, is the removal
 abbrev pub RemovalIsDeterminedByPairs : Type 0

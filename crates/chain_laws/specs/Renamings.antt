@@ -1,15 +1,15 @@
 -- What becomes of the interlinks and of the chains where each link goes to another index.
 use Rattle.std.specs.Prelude.{◌≡◌, ◌↔◌, ℕ, List, [], ◌∷◌, Option, Some}
 use Rattle.std.specs.Option.{option_and_then}
-use Rattle.chain_laws.specs.Chains.{Shown, Chain, linear, cyclic, IsValid, Agrees, IsChain, AreChains}
+use Rattle.chain_laws.specs.Chains.{Shown, Chain, linear, cyclic, HasLink, Agrees, IsChain, AreChains}
 use Rattle.chain_laws.specs.Neighbors.{AreNeighbors}
 
 -- each link of the old arena stands at its new index, where it names the new indexes of its neighbors; no two come to
 -- one index, and no other link stands in the new arena
 pub record IsRenaming (to : ℕ → Option ℕ) (old new : Shown) : Type 0 where
   pub apart : (i j k : ℕ) → to i ≡ Some k → to j ≡ Some k → i ≡ j
-  pub each : (i : ℕ) → IsValid old i → (k : ℕ) × (to i ≡ Some k)
-  pub onto : (k : ℕ) → IsValid new k → (i : ℕ) × IsValid old i × (to i ≡ Some k)
+  pub each : (i : ℕ) → HasLink old i → (k : ℕ) × (to i ≡ Some k)
+  pub onto : (k : ℕ) → HasLink new k → (i : ℕ) × HasLink old i × (to i ≡ Some k)
   pub carries : (i k : ℕ) (before after : Option ℕ) → old i ≡ Some (record { prev = before; next = after }) → to i ≡ Some k
       → new k ≡ Some (record { prev = option_and_then to before; next = option_and_then to after })
 
@@ -39,7 +39,7 @@ RenamingAgrees = (to : ℕ → Option ℕ) (old new : Shown) → IsRenaming to o
 
 -- .. the neighbor pairs are the old ones under their new indexes ..
 abbrev pub RenamingCarriesPairs : Type 0
-RenamingCarriesPairs = (to : ℕ → Option ℕ) (old new : Shown) (i j k m : ℕ) → IsRenaming to old new → IsValid old i → to i ≡ Some k → to j ≡ Some m
+RenamingCarriesPairs = (to : ℕ → Option ℕ) (old new : Shown) (i j k m : ℕ) → IsRenaming to old new → HasLink old i → to i ≡ Some k → to j ≡ Some m
     → AreNeighbors old i j ↔ AreNeighbors new k m
 
 -- .. so is each chain, linear or cyclic as it was ..

@@ -1,6 +1,6 @@
 -- Where a chain is written from, and the walk back to there.
 use Rattle.std.specs.Prelude.{◌≡◌, ◌≢◌, ℕ, ◌+◌, ◌≤◌, ◌<◌, is_some, Bool, if◌then◌else◌, List, ◌∷◌, ◌++◌, length, None, Some}
-use Rattle.chain_laws.specs.Chains.{Shown, Chain, linear, cyclic, Has, IsChain, IsValid, IsWithin, IsInOrder, Agrees, AreChains, first_or, prev_of}
+use Rattle.chain_laws.specs.Chains.{Shown, Chain, linear, cyclic, Has, IsChain, HasLink, HasLinksWithin, IsInOrder, Agrees, AreChains, first_or, prev_of}
 
 -- a walker has gone so many steps back from i, and stands here
 pub record IsBack (shown : Shown) (i steps here : ℕ) : Type 0 where
@@ -31,8 +31,8 @@ WalkBackComesRound = (shown : Shown) (i steps here : ℕ) → IsBack shown i ste
 
 -- .. and makes fewer steps than there are links
 abbrev pub WalkBackIsShort : Type 0
-WalkBackIsShort = (shown : Shown) (slots i steps here : ℕ) (links : List ℕ) → Agrees shown → IsWithin shown slots → IsValid shown i
-    → ((j : ℕ) → IsValid shown j → Has links j) → IsBack shown i steps here → steps < length links
+WalkBackIsShort = (shown : Shown) (slots i steps here : ℕ) (links : List ℕ) → Agrees shown → HasLinksWithin shown slots → HasLink shown i
+    → ((j : ℕ) → HasLink shown j → Has links j) → IsBack shown i steps here → steps < length links
 
 -- a chain of these items, cyclic or linear
 abbrev pub chain_of : Bool → List ℕ → Chain
@@ -41,5 +41,5 @@ chain_of ring xs = if ring then cyclic xs else linear xs
 -- where no link has a lower index, the chain of a link is the next in order, and where it is written from its first item
 abbrev pub LeastIsNext : Type 0
 LeastIsNext = (shown : Shown) (chains : List Chain) (i here : ℕ) → AreChains shown chains → IsInOrder chains
-    → IsValid shown i → ((j : ℕ) → IsValid shown j → i ≤ j) → IsStart shown i here
+    → HasLink shown i → ((j : ℕ) → HasLink shown j → i ≤ j) → IsStart shown i here
     → (xs : List ℕ) × (rest : List Chain) × (chains ≡ chain_of (is_some (prev_of shown here)) (here ∷ xs) ∷ rest) × Has (here ∷ xs) i

@@ -1,7 +1,7 @@
 -- The walk from a link through its chain.
 use Rattle.std.specs.Prelude.{◌≡◌, ◌↔◌, ℕ, zero, suc, ◌==◌, if◌then◌else◌, List, [], ◌∷◌, ◌++◌, reverse, Option, None, Some, is_some}
 use Rattle.std.specs.Option.{option_or}
-use Rattle.chain_laws.specs.Chains.{Shown, Chain, linear, cyclic, items, Has, HasNoRepetition, IsChain, IsValid, IsWithin, Agrees, first_or, prev_of, next_of}
+use Rattle.chain_laws.specs.Chains.{Shown, Chain, linear, cyclic, items, Has, HasNoRepetition, IsChain, HasLink, HasLinksWithin, Agrees, first_or, prev_of, next_of}
 use Rattle.chain_laws.specs.Removals.{removed}
 
 -- from i: in a linear chain on to the end, and then from the link before i back to the start; in a cyclic one once round
@@ -19,23 +19,12 @@ abbrev pub going_back : ℕ → Option ℕ → Option ℕ → Option ℕ
 going_back start None back = back
 going_back start (Some k) back = if k == start then None else back
 
--- what a walker that began at `start` still passes in at most `left` steps: `forth` and on, then `back` and back
-abbrev pub ahead : ℕ → Shown → ℕ → Option ℕ → Option ℕ → List ℕ
-ahead zero shown start forth back = []
-ahead (suc left) shown start (Some j) back = j ∷ ahead left shown start (going_on start (next_of shown j)) (going_back start (next_of shown j) back)
-ahead (suc left) shown start None (Some k) = k ∷ ahead left shown start None (prev_of shown k)
-ahead (suc left) shown start None None = []
-
 -- a walker: how many steps it still makes at most, where it began, and where it goes, forth and then back
 pub record Walker : Type 0 where
   pub left : ℕ
   pub start : ℕ
   pub forth : Option ℕ
   pub back : Option ℕ
-
--- what it still passes where nothing changes
-abbrev pub passes_ahead : Shown → Walker → List ℕ
-passes_ahead shown w = ahead w.left shown w.start w.forth w.back
 
 -- a walker that stands before the link at i
 abbrev pub walker_at : Shown → ℕ → ℕ → Walker
@@ -53,6 +42,15 @@ next_step (suc left) shown start None None = None
 abbrev pub step_of : Shown → Walker → Option (ℕ × Walker)
 step_of shown w = next_step w.left shown w.start w.forth w.back
 
+-- what a walker still passes where nothing changes, step by step: `forth` and on, then `back` and back
+abbrev pub walk_ahead : ℕ → Shown → ℕ → Option ℕ → Option ℕ → List ℕ
+walk_ahead zero shown start forth back = []
+walk_ahead (suc left) shown start forth back =
+    elim (next_step (suc left) shown start forth back) [ None ↦ [] | Some step ↦ step.0 ∷ walk_ahead left shown step.1.start step.1.forth step.1.back ]
+
+abbrev pub passes_ahead : Shown → Walker → List ℕ
+passes_ahead shown w = walk_ahead w.left shown w.start w.forth w.back
+
 -- the link of a step, and what the walker passes after it
 abbrev pub passed_by : Shown → Option (ℕ × Walker) → List ℕ
 passed_by shown None = []
@@ -64,8 +62,8 @@ StepsPass = (shown : Shown) (w : Walker) → passes_ahead shown w ≡ passed_by 
 
 -- a walker passes the walk
 abbrev pub WalksAhead : Type 0
-WalksAhead = (shown : Shown) (slots i : ℕ) → Agrees shown → IsWithin shown slots → IsValid shown i
-    → IsWalk shown i (ahead slots shown i (Some i) (prev_of shown i))
+WalksAhead = (shown : Shown) (slots i : ℕ) → Agrees shown → HasLinksWithin shown slots → HasLink shown i
+    → IsWalk shown i (walk_ahead slots shown i (Some i) (prev_of shown i))
 
 -- there is one walk from a link
 abbrev pub HasNoOtherWalk : Type 0
@@ -95,7 +93,7 @@ RemovalLeavesTheWalk = (shown : Shown) (i : ℕ) (rest : List ℕ) → IsWalk sh
 -- the walk from i in an arena of so many slots, if i is an index and a link stands there
 abbrev pub walk_from : ℕ → Shown → Option ℕ → List ℕ
 walk_from slots shown None = []
-walk_from slots shown (Some i) = if is_some (shown i) then ahead slots shown i (Some i) (prev_of shown i) else []
+walk_from slots shown (Some i) = if is_some (shown i) then walk_ahead slots shown i (Some i) (prev_of shown i) else []
 
 -- the links at these indexes are removed, one after another
 abbrev pub removed_each : Shown → List ℕ → Shown

@@ -2,7 +2,7 @@
 use Rattle.std.proofs.Common.{◌≡◌, ℕ, suc, ◌+◌, ◌∙◌, ◌<◌, ◌≤◌, List, ◌∷◌, length, Option, ap, subst, length-append, arith}
 use Rattle.std.specs.List.{range_with_len}
 use Rattle.std.proofs.lemmas.List.FromFn.{length-range_with_len}
-use Rattle.chain_laws.specs.Chains.{Shown, linear, cyclic, Has, IsChain, IsValid, Agrees}
+use Rattle.chain_laws.specs.Chains.{Shown, linear, cyclic, Has, IsChain, HasLink, Agrees}
 use Rattle.chain_laws.specs.Starts.{IsBack}
 use Rattle.chain_laws.proofs.Backing.{back_is_short}
 use Rattle.chain_laws.proofs.Ranges.{range-Has}
@@ -28,7 +28,7 @@ module _ (shown : Shown) (i steps here : ℕ) (back : IsBack shown i steps here)
       omega arith
 
 -- a walk back takes fewer steps than there are slots
-pub back_within : {Gen K T : Type 0} (number : K → Option ℕ) (slots : List (Option (Gen × LinkBody K T))) (i steps here : ℕ) → Agrees (shown_in number slots) → IsValid (shown_in number slots) i
+pub back_within : {Gen K T : Type 0} (number : K → Option ℕ) (slots : List (Option (Gen × LinkBody K T))) (i steps here : ℕ) → Agrees (shown_in number slots) → HasLink (shown_in number slots) i
     → IsBack (shown_in number slots) i steps here → steps < length slots
 back_within number slots i steps here agrees valid back =
     let inside = slots-within (interlinks_seen number) slots in

@@ -3,7 +3,7 @@ use Rattle.std.proofs.Common.{◌≡◌, ℕ, suc, ◌+◌, ◌<◌, List, [], �
 use Rattle.std.specs.Prelude.{slice_index_or}
 use Rattle.std.specs.Option.{option_map}
 use Rattle.std.proofs.lemmas.List.{length-append, length-map, map-append, append-nil}
-use Rattle.chain_laws.specs.Chains.{Shown, IsValid, IsWithin, Agrees}
+use Rattle.chain_laws.specs.Chains.{Shown, HasLink, HasLinksWithin, Agrees}
 use Rattle.chain_laws.specs.Renamings.{IsRenaming}
 use Rattle.chain_laws.specs.Arrangements.{place_in}
 use Rattle.chain_laws.specs.Moves.{moved, CanMove, IsGathering}
@@ -68,10 +68,10 @@ module _ {Gen K T : Type 0} (number : K → Option ℕ) (slots : List (Option (G
       by (Some e) is = cc
 
   -- .. and where one stands, a link does
-  some-valid : (e : Gen × T) → slice_index_or (slot_values slots) k None ≡ Some e → IsValid (shown_in number slots) (k + 1)
-  some-valid e some = subst (λ (i : ℕ). IsValid (shown_in number slots) i) next_index (by (slice_index_or slots k None) refl)
+  some-valid : (e : Gen × T) → slice_index_or (slot_values slots) k None ≡ Some e → HasLink (shown_in number slots) (k + 1)
+  some-valid e some = subst (λ (i : ℕ). HasLink (shown_in number slots) i) next_index (by (slice_index_or slots k None) refl)
     where
-      by : (o : Option (Gen × LinkBody K T)) → slice_index_or slots k None ≡ o → IsValid (shown_in number slots) (suc k)
+      by : (o : Option (Gen × LinkBody K T)) → slice_index_or slots k None ≡ o → HasLink (shown_in number slots) (suc k)
       by None is = absurd (let both = sym some ∙ (at_slot ∙ ap (option_map (on_value held_in)) is) in cc)
       by (Some d) is = record { link = interlinks_seen number d; shows = ap (option_map (interlinks_seen number)) is }
 
@@ -82,7 +82,7 @@ pub record AreComing {Gen K T : Type 0} (number : K → Option ℕ) (old now : L
 
 module _ {Gen K T : Type 0} (number : K → Option ℕ) (old : List (Option (Gen × LinkBody K T))) (agrees : Agrees (shown_in number old)) where
   -- at the beginning
-  pub coming_begins : IsWithin (shown_in number old) (length old) → AreComing number old old 0 0
+  pub coming_begins : HasLinksWithin (shown_in number old) (length old) → AreComing number old old 0 0
   coming_begins within = record { gathering = gathering_begins (shown_in number old) (length old) agrees within; counted = refl }
 
   module _ (now : List (Option (Gen × LinkBody K T))) (k count : ℕ) (c : AreComing number old now k count) (below : k < length old) where
@@ -128,10 +128,10 @@ module _ {Gen K T : Type 0} (number : K → Option ℕ) (old : List (Option (Gen
           }
 
   -- once all slots are passed, the links are renamed by the order of their indexes
-  pub coming_ends : (now : List (Option (Gen × LinkBody K T))) (k count : ℕ) → AreComing number old now k count → k ≡ length old → IsWithin (shown_in number old) (length old)
+  pub coming_ends : (now : List (Option (Gen × LinkBody K T))) (k count : ℕ) → AreComing number old now k count → k ≡ length old → HasLinksWithin (shown_in number old) (length old)
       → IsRenaming (place_in (indexes_in (slot_values old))) (shown_in number old) (shown_in number now)
   coming_ends now k count c all within =
       let same : indexes_to k (slot_values old) ≡ indexes_in (slot_values old) =
       ap (λ es. map index_of es) (take-all (slot_values old) 1 k (omega (arith, all, length-map old (option_map (on_value held_in))))) in
       subst (λ done. IsRenaming (place_in done) (shown_in number old) (shown_in number now)) same
-      (gathering_ends (shown_in number old) (shown_in number now) (indexes_to k (slot_values old)) k (subst (λ (n : ℕ). IsWithin (shown_in number old) n) (sym all) within) c.gathering)
+      (gathering_ends (shown_in number old) (shown_in number now) (indexes_to k (slot_values old)) k (subst (λ (n : ℕ). HasLinksWithin (shown_in number old) n) (sym all) within) c.gathering)

@@ -18,7 +18,7 @@ use Rattle.arena_base.specs.Arena.{Arena, slot_at}
 use Rattle.arena_base.specs.Compacting.{Held, trimmed, free_from, held_of, lent_out, returned}
 use Rattle.arena_base.specs.Closing.{with_totals, fronted}
 use Rattle.chain_links.specs.declared.links.LinkBody.{LinkBody}
-use Rattle.chain_links.specs.ChainArena.{LinkSeen, on_value, value_in, interlinks_of, shown, values_of, entry, ptr_at}
+use Rattle.chain_links.specs.ChainArena.{LinkSeen, on_value, link_value, interlinks_of, shown, values_of, entry, ptr_at}
 use Rattle.chain_links.specs.Links.{seen_pair, seen_links}
 use Rattle.chain_layout.specs.HeldLinks.{interlinks_seen, shown_in, IsWork}
 use Rattle.chain_layout.specs.Counts.{HasCounted, CountsOn}
@@ -44,25 +44,25 @@ module _ {Gen T : Type 0} (g : Gen) (old new : List (Option (Gen × LinkSeen T))
     (sent : (i d : ℕ) (x : Gen × LinkSeen T) → place_in indexes i ≡ Some d → slot_at old i ≡ Some x → slot_at new d ≡ Some (g, renamed_link (place_in indexes) x.1)) where
   -- the entries of the values alone
   abbrev value_at : ℕ → Option (Gen × T)
-  value_at i = slot_at (map (option_map (on_value value_in)) old) i
+  value_at i = slot_at (map (option_map (on_value link_value)) old) i
 
   stands : (i : ℕ) → Has indexes i → (x : Gen × LinkSeen T) × (slot_at old i ≡ Some x)
   stands i h = let v = (arranges.valid i).1 h in some_entry interlinks_of (slot_at old i) v.link v.shows
 
   value_stands : (i : ℕ) → Has indexes i → (e : Gen × T) × (value_at i ≡ Some e)
-  value_stands i h = let x = stands i h in (on_value value_in x.0, slot_at-map (on_value value_in) old i ∙ ap (option_map (on_value value_in)) x.1)
+  value_stands i h = let x = stands i h in (on_value link_value x.0, slot_at-map (on_value link_value) old i ∙ ap (option_map (on_value link_value)) x.1)
 
-  laid_at : (i k : ℕ) → place_in indexes i ≡ Some (suc k) → slice_index_or (map (option_map (on_value value_in)) new) k None ≡ option_map (λ (e : Gen × T). (g, e.1)) (value_at i)
+  laid_at : (i k : ℕ) → place_in indexes i ≡ Some (suc k) → slice_index_or (map (option_map (on_value link_value)) new) k None ≡ option_map (λ (e : Gen × T). (g, e.1)) (value_at i)
   laid_at i k e =
       let x = stands i (place-has 1 indexes i (suc k) e) in
-      slot_at-map (on_value value_in) new (suc k)
-      ∙ (ap (option_map (on_value value_in)) (sent i (suc k) x.0 e x.1)
-      ∙ sym (ap (option_map (λ (e : Gen × T). (g, e.1))) (slot_at-map (on_value value_in) old i ∙ ap (option_map (on_value value_in)) x.1)))
+      slot_at-map (on_value link_value) new (suc k)
+      ∙ (ap (option_map (on_value link_value)) (sent i (suc k) x.0 e x.1)
+      ∙ sym (ap (option_map (λ (e : Gen × T). (g, e.1))) (slot_at-map (on_value link_value) old i ∙ ap (option_map (on_value link_value)) x.1)))
 
   -- the slots are the values in the order of the list
-  laid_slots : map (option_map (on_value value_in)) new ≡ map (λ i. option_map (λ (e : Gen × T). (g, e.1)) (value_at i)) indexes
+  laid_slots : map (option_map (on_value link_value)) new ≡ map (λ i. option_map (λ (e : Gen × T). (g, e.1)) (value_at i)) indexes
   laid_slots =
-      slots-filled (λ i. option_map (λ (e : Gen × T). (g, e.1)) (value_at i)) indexes 0 (map (option_map (on_value value_in)) new) arranges.once (length-map new (option_map (on_value value_in)) ∙ long)
+      slots-filled (λ i. option_map (λ (e : Gen × T). (g, e.1)) (value_at i)) indexes 0 (map (option_map (on_value link_value)) new) arranges.once (length-map new (option_map (on_value link_value)) ∙ long)
       (λ i k e. laid_at i k (e ∙ ap (λ (m : ℕ). Some m) (let same : 1 + k ≡ suc k = omega arith in same)))
 
   laid_renamed : IsRenaming (place_in indexes) (shown_slots old) (shown_slots new)
@@ -151,12 +151,12 @@ module _ {Gen K T : Type 0} (number : K → Option ℕ) where
       ∙ (length-map (seen_held number other).slots (option_map (on_value (renamed_link to))) ∙ length-map other.slots (option_map (seen_pair number))))
 
   -- the pointers are told by what is seen
-  ptr-seen : (held : Held Gen (LinkBody K T)) (i : ℕ) → ptr_at (slot_at held.slots) i ≡ ptr_at (slot_at (map (option_map (on_value value_in)) (seen_held number held).slots)) i
+  ptr-seen : (held : Held Gen (LinkBody K T)) (i : ℕ) → ptr_at (slot_at held.slots) i ≡ ptr_at (slot_at (map (option_map (on_value link_value)) (seen_held number held).slots)) i
   ptr-seen held i =
       twice (slot_at held.slots i)
-      ∙ sym (ap (option_map (λ (e : Gen × T). (i, e.0))) (slot_at-map (on_value value_in) (seen_held number held).slots i ∙ ap (option_map (on_value value_in)) (slot_at-map (seen_pair number) held.slots i)))
+      ∙ sym (ap (option_map (λ (e : Gen × T). (i, e.0))) (slot_at-map (on_value link_value) (seen_held number held).slots i ∙ ap (option_map (on_value link_value)) (slot_at-map (seen_pair number) held.slots i)))
     where
-      twice : (o : Option (Gen × LinkBody K T)) → option_map {U = ℕ × Gen} (λ (e : Gen × LinkBody K T). (i, e.0)) o ≡ option_map {U = ℕ × Gen} (λ (e : Gen × T). (i, e.0)) (option_map (on_value value_in) (option_map (seen_pair number) o))
+      twice : (o : Option (Gen × LinkBody K T)) → option_map {U = ℕ × Gen} (λ (e : Gen × LinkBody K T). (i, e.0)) o ≡ option_map {U = ℕ × Gen} (λ (e : Gen × T). (i, e.0)) (option_map (on_value link_value) (option_map (seen_pair number) o))
       twice None = refl
       twice (Some e) = refl
 
@@ -305,7 +305,7 @@ module _ {F P Gen K T : Type 0} (g : F → P → P → F → Type 0) (key : P �
               × (length values ≡ length numbered.indexes)
           values = values-given generation (entry (seen_links number old)) numbered.indexes (value_stands generation first_slots last_slots numbered.indexes first_arranges last-length all_sent)
 
-          slots : map (option_map (on_value value_in)) last_slots ≡ fronted old.counter values.0 []
+          slots : map (option_map (on_value link_value)) last_slots ≡ fronted old.counter values.0 []
           slots =
               laid_slots generation first_slots last_slots numbered.indexes first_arranges last-length all_sent
               ∙ (sym values.2 ∙ (ap (λ (h : Gen). map {B = Option (Gen × T)} (λ t. Some (h, t)) values.0) counter ∙ sym (append-nil (map {B = Option (Gen × T)} (λ t. Some (old.counter, t)) values.0))))
@@ -323,7 +323,7 @@ module _ {F P Gen K T : Type 0} (g : F → P → P → F → Type 0) (key : P �
           count = sym values.3
 
           pointers : ptr_at (slot_at h1.slots) ≡ ptr_at (entry (seen_links number old))
-          pointers = fun_ext (λ i. ptr-seen number h1 i ∙ ap (λ (h : Held Gen (LinkSeen T)). ptr_at (slot_at (map (option_map (on_value value_in)) h.slots)) i) emptied)
+          pointers = fun_ext (λ i. ptr-seen number h1 i ∙ ap (λ (h : Held Gen (LinkSeen T)). ptr_at (slot_at (map (option_map (on_value link_value)) h.slots)) i) emptied)
 
       -- what was counted is the work
       pub work_told : (first : Arena Gen (LinkBody K T)) (p t : ℕ) → first ≡ lent_out maximum old → HasCounted first a4 p t → length old.slots ≤ greatest → greatest < 2 ^ 64

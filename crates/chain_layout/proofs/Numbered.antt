@@ -5,7 +5,7 @@ use Rattle.std.specs.List.{FoldsTo, range_with_len}
 use Rattle.std.proofs.lemmas.List.{length-append, length-map, map-append, append-nil}
 use Rattle.std.proofs.Math.Decide.{ℕ_discrete}
 use mathlib.Core.Path.{fun_ext}
-use Rattle.chain_laws.specs.Chains.{Shown, Interlinks, Chain, linear, cyclic, items, Has, HasNoRepetition, IsChain, IsValid, Stands, first_or, last_or, next_in, next_of}
+use Rattle.chain_laws.specs.Chains.{Shown, Interlinks, Chain, linear, cyclic, items, Has, HasNoRepetition, IsChain, HasLink, Stands, first_or, last_or, next_in, next_of}
 use Rattle.chain_laws.specs.Walks.{going_on}
 use Rattle.chain_laws.specs.Arrangements.{place_in}
 use Rattle.chain_laws.proofs.Members.{Has-right, Has-middle, Has-parts, HasNoRepetition-apart}
@@ -138,7 +138,7 @@ module _ {Gen K T : Type 0} (number : K → Option ℕ) where
           ∙ with_slot-own (map (option_map (seen_pair number)) a.slots) i)
 
   -- where a link stands
-  pub stands_at : (slots : List (Option (Gen × LinkBody K T))) (i : ℕ) → IsValid (shown_in number slots) i → (e : Gen × LinkBody K T) × (slot_at slots i ≡ Some e)
+  pub stands_at : (slots : List (Option (Gen × LinkBody K T))) (i : ℕ) → HasLink (shown_in number slots) i → (e : Gen × LinkBody K T) × (slot_at slots i ≡ Some e)
   stands_at slots i v = by (slot_at slots i) refl v.shows
     where
       by : (s : Option (Gen × LinkBody K T)) → slot_at slots i ≡ s → option_map (interlinks_seen number) s ≡ Some v.link → (e : Gen × LinkBody K T) × (slot_at slots i ≡ Some e)

@@ -4,7 +4,7 @@ use Rattle.std.specs.Prelude.{is_none}
 use Rattle.std.specs.Option.{option_map, option_and_then}
 use Rattle.std.proofs.lemmas.List.{length-append, append-nil}
 use Rattle.std.proofs.Math.Decide.{ℕ_discrete}
-use Rattle.chain_laws.specs.Chains.{Shown, Interlinks, Chain, linear, cyclic, items, all_items, HasChain, Has, HasNoRepetition, IsChain, IsValid, Agrees, AreChains, IsWritten, Rises, first_or}
+use Rattle.chain_laws.specs.Chains.{Shown, Interlinks, Chain, linear, cyclic, items, all_items, HasChain, Has, HasNoRepetition, IsChain, HasLink, Agrees, AreChains, IsWritten, Rises, first_or}
 use Rattle.chain_laws.specs.Neighbors.{AreTheChains}
 use Rattle.chain_laws.specs.Starts.{IsStart}
 use Rattle.chain_laws.proofs.Members.{Has-left, Has-right, Has-parts, HasNoRepetition-apart, length_bound}
@@ -144,7 +144,7 @@ module _ {Gen K T F P : Type 0} (number : K → Option ℕ) (g : F → P → P �
     once : HasNoRepetition (all_items o.done ++ all_items o.rest)
     once = subst HasNoRepetition all_parts are.once
 
-    rest_valid : (j : ℕ) → Has (all_items o.rest) j → IsValid (shown_in number old.slots) j
+    rest_valid : (j : ℕ) → Has (all_items o.rest) j → HasLink (shown_in number old.slots) j
     rest_valid j h = (o.are.partition.valid j).1 (subst (λ (xs : List ℕ). Has xs j) (sym all_parts) (Has-right (all_items o.done) (all_items o.rest) j h))
 
     -- all slots are passed
@@ -195,7 +195,7 @@ module _ {Gen K T F P : Type 0} (number : K → Option ℕ) (g : F → P → P �
 
       -- the first link of the next chain stands there
       module _ (fresh : is_fresh number (slot_at now.slots i) ≡ true) where
-        stands : IsValid (shown_in number old.slots) i
+        stands : HasLink (shown_in number old.slots) i
         stands = let s = fresh_shown number (slot_at now.slots i) fresh in record { link = s.0; shows = sym (ap (λ (l : Shown). l i) as_old) ∙ s.1 }
 
         in_rest : Has (all_items o.rest) i
@@ -273,8 +273,8 @@ module _ {Gen K T F P : Type 0} (number : K → Option ℕ) (g : F → P → P �
           pub order_agrees : Agrees (shown_in number old.slots) → Agrees (shown_in number mid.slots)
           order_agrees agrees = subst Agrees (sym (ap (λ (h : Held Gen (LinkBody K T)). shown_in number h.slots) look ∙ as_old)) agrees
 
-          pub order_valid : IsValid (shown_in number mid.slots) i
-          order_valid = subst (λ (l : Shown). IsValid l i) (sym (ap (λ (h : Held Gen (LinkBody K T)). shown_in number h.slots) look ∙ as_old)) stands
+          pub order_valid : HasLink (shown_in number mid.slots) i
+          order_valid = subst (λ (l : Shown). HasLink l i) (sym (ap (λ (h : Held Gen (LinkBody K T)). shown_in number h.slots) look ∙ as_old)) stands
 
           -- .. and the walk back
           module _ (stood : Held Gen (LinkBody K T)) (walked : stood ≡ mid) (start : ℕ) (from : IsStart (shown_in number mid.slots) i start) where

@@ -100,9 +100,9 @@ module _ {X G Gen U T : Type 0} (from : X → ℕ × G) (to : X → ℕ × Gen) 
     new_apart = subst HasNoRepetition (sym (indexes-mapped moves es goes)) (rises-apart 1 es rises);
   }
     where
-      shows : (p : ℕ × G) → IsValid before p → chains.IsValid links p.0
+      shows : (p : ℕ × G) → IsValid before p → chains.HasLink links p.0
       shows p was = by (links p.0) refl (stand p.0 ∙ ap is_some was.stands) where
-        by : (o : Option Interlinks) → links p.0 ≡ o → is_some (links p.0) ≡ true → chains.IsValid links p.0
+        by : (o : Option Interlinks) → links p.0 ≡ o → is_some (links p.0) ≡ true → chains.HasLink links p.0
         by None is some = absurd (let none = ap is_some is in let both = sym some ∙ none in cc)
         by (Some link) is some = record { link = link; shows = is }
 

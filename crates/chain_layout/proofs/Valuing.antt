@@ -8,7 +8,7 @@ use Rattle.arena_base.specs.Entries.{entries_from, entries, first_key, last_key}
 use Rattle.arena_base.specs.Advancing.{from_index, up_to_index, ahead, IsLook}
 use Rattle.arena_base.specs.declared.look.Look.{Look}
 use Rattle.arena_base.specs.declared.look.Look.TheVariants.{Up, Down, Nowhere}
-use Rattle.chain_links.specs.ChainArena.{on_value, with_each, value_in, values_of}
+use Rattle.chain_links.specs.ChainArena.{on_value, with_each, link_value, values_of}
 use Rattle.chain_links.specs.declared.links.LinkBody.{LinkBody}
 use Rattle.chain_links.specs.Links.{seen_link, held_in, held_entries, seen_links, seen_pair, seen_entries}
 
@@ -75,7 +75,7 @@ module _ {Gen K T : Type 0} (number : K → Option ℕ) where
   -- the values of the links
   pub values_of-seen_links : (a : Arena Gen (LinkBody K T)) → with_each held_in a ≡ values_of (seen_links number a)
   values_of-seen_links a = ap (λ (slots : List (Option (Gen × T))). let b : Arena Gen T = record (with_each held_in a) { slots = slots } in b) (twice a.slots) where
-    twice : (slots : List (Option (Gen × LinkBody K T))) → map (option_map (on_value held_in)) slots ≡ map (option_map (on_value value_in)) (map (option_map (seen_pair number)) slots)
+    twice : (slots : List (Option (Gen × LinkBody K T))) → map (option_map (on_value held_in)) slots ≡ map (option_map (on_value link_value)) (map (option_map (seen_pair number)) slots)
     twice [] = refl
     twice (None ∷ slots) = ap (λ rest. None ∷ rest) (twice slots)
     twice (Some e ∷ slots) = ap (λ rest. Some (e.0, e.1.t) ∷ rest) (twice slots)

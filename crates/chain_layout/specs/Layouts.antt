@@ -56,5 +56,5 @@ pub record ShowsLayout {F P Gen T : Type 0} (g : Mut F (P × (P × Unit {0})) (U
   pub all : AreAllMoves key old links generation moves
 
 -- a pair is listed behind others, where there is room
-pub record IsListed {P : Type 0} (old : Vec (P × P) Global) (from to : P) (new : Vec (P × P) Global) : Type 0 where
+pub record IsPairListed {P : Type 0} (old : Vec (P × P) Global) (from to : P) (new : Vec (P × P) Global) : Type 0 where
   pub listed : vec_len old < vec_capacity old → (new.items ≡ old.items ++ (from, to) ∷ []) × (vec_len new ≡ vec_len old + 1) × (vec_capacity old ≤ vec_capacity new)

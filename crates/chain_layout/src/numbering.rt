@@ -1,6 +1,6 @@
 // Links numbered: the chains by their least index, each linear one from its start, each cyclic one from its least index.
 ghost use Rattle.std.specs.Prelude.{◌≡◌, ◌≤◌, ℕ, ◌+◌, length, List, ◌∷◌, None};
-ghost use Rattle.chain_laws.specs.Chains.{Chain, linear, cyclic, Has, IsChain, IsValid, Agrees};
+ghost use Rattle.chain_laws.specs.Chains.{Chain, linear, cyclic, Has, IsChain, HasLink, Agrees};
 ghost use Rattle.chain_laws.specs.Starts.{IsStart};
 ghost use Rattle.chain_layout.specs.HeldLinks.{shown_in, IsWork};
 ghost use Rattle.chain_layout.specs.Counts.{CountsOn};
@@ -20,7 +20,7 @@ fn start_at<P: PtrKey, T: Drop, S: SlotStack<Item = ArenaSlot<P, LinkNoGen<P, T>
     i: P::Inx,
 ) -> P::Inx
     requires agree { Agrees (shown_in P.Inx.packed_number compactor.old.held.slots) }
-    requires valid { IsValid (shown_in P.Inx.packed_number compactor.old.held.slots) (P.Inx.number i) }
+    requires valid { HasLink (shown_in P.Inx.packed_number compactor.old.held.slots) (P.Inx.number i) }
     ensures same_reference { compactor.new.arena.ghost_name ≡ compactor.old.arena.ghost_name }
     ensures start { IsStart (shown_in P.Inx.packed_number compactor.old.held.slots) (P.Inx.number i) (P.Inx.number result) }
     ensures held { compactor.new.held ≡ compactor.old.held }

@@ -4,13 +4,13 @@ use Rattle.std.specs.Prelude.{◌==◌, if◌then◌else◌, slice_index_or, sli
 use Rattle.std.specs.Option.{option_map}
 use Rattle.std.proofs.lemmas.List.{get_or_past}
 use mathlib.Core.Path.{fun_ext}
-use Rattle.chain_laws.specs.Chains.{Interlinks, IsValid, IsWithin}
+use Rattle.chain_laws.specs.Chains.{Interlinks, HasLink, HasLinksWithin}
 use Rattle.chain_laws.specs.Operations.{with_lone}
 use Rattle.chain_laws.proofs.Agreement.{if_same, if_other}
 use Rattle.chain_links.specs.declared.links.LinkBody.{LinkBody}
 use Rattle.chain_links.specs.Links.{seen_link, seen_links}
 use Rattle.arena_base.specs.Arena.{Arena, slot_at, with_slot, filled, first_or_next, Has, IsListed, entry_at, entry_count, next_index, insert_next, with_capacity_of}
-use Rattle.chain_links.specs.ChainArena.{LinkSeen, value_in, values_of, shown, IsInserted, interlinks_of, lone, insert_lone}
+use Rattle.chain_links.specs.ChainArena.{LinkSeen, link_value, values_of, shown, IsInserted, interlinks_of, lone, insert_lone}
 use Rattle.arena_base.specs.Entries.{entries, count_with_next}
 use Rattle.arena_base.proofs.Seeing.{length-entries}
 use Rattle.chain_links.proofs.Mapping.{with_each-insert_next, entry_count-with_each, length-with_each, listed-with_each}
@@ -35,9 +35,9 @@ some_entry f None l shows = absurd (let h = shows in cc)
 some_entry f (Some x) l shows = (x, refl)
 
 -- what slots show stands at an index of theirs
-pub slots-within : {X : Type 0} (f : X → Interlinks) (slots : List (Option X)) → IsWithin (λ i. option_map f (slot_at slots i)) (length slots)
+pub slots-within : {X : Type 0} (f : X → Interlinks) (slots : List (Option X)) → HasLinksWithin (λ i. option_map f (slot_at slots i)) (length slots)
 slots-within {X} f slots = record { within = inside } where
-  inside : (i : ℕ) → IsValid (λ i. option_map f (slot_at slots i)) i → (1 ≤ i) × (i ≤ length slots)
+  inside : (i : ℕ) → HasLink (λ i. option_map f (slot_at slots i)) i → (1 ≤ i) × (i ≤ length slots)
   inside zero valid = absurd (let h = valid.shows in cc)
   inside (suc k) valid =
       let x = some_entry f (slice_index_or slots k None) valid.link valid.shows in
@@ -96,7 +96,7 @@ module _ {Gen T : Type 0} where
       ∙ map-if (i == next_index a) (Some (a.counter, lone t)) (entry_at a i))
 
   -- every valid index is one of the slots'
-  pub shown-within : (a : Arena Gen (LinkSeen T)) → IsWithin (shown a) (length a.slots)
+  pub shown-within : (a : Arena Gen (LinkSeen T)) → HasLinksWithin (shown a) (length a.slots)
   shown-within a = slots-within interlinks_of a.slots
 
 module _ {Gen T : Type 0} where
@@ -115,7 +115,7 @@ module _ {Gen T : Type 0} where
 module _ {Gen T : Type 0} where
   -- there are as many values as links
   pub values-count : (a : Arena Gen (LinkSeen T)) → length (entries (values_of a)) ≡ entry_count a
-  values-count a = length-entries (values_of a) ∙ entry_count-with_each value_in a
+  values-count a = length-entries (values_of a) ∙ entry_count-with_each link_value a
 
 module _ {Gen K T : Type 0} (number : K → Option ℕ) where
   -- an insertion, seen
@@ -133,10 +133,10 @@ module _ {Gen K T : Type 0} (number : K → Option ℕ) where
   listed-seen_links a listed = listed-with_each (seen_link number) a listed
 
   pub listed-values : (a : Arena Gen (LinkBody K T)) → IsListed a → IsListed (values_of (seen_links number a))
-  listed-values a listed = listed-with_each value_in (seen_links number a) (listed-seen_links a listed)
+  listed-values a listed = listed-with_each link_value (seen_links number a) (listed-seen_links a listed)
 
   pub length-values : (a : Arena Gen (LinkBody K T)) → length (values_of (seen_links number a)).slots ≡ length a.slots
-  length-values a = length-with_each value_in (seen_links number a) ∙ length-with_each (seen_link number) a
+  length-values a = length-with_each link_value (seen_links number a) ∙ length-with_each (seen_link number) a
 
   -- how many values there are
   pub count-values : (a : Arena Gen (LinkBody K T)) → length (entries (values_of (seen_links number a))) ≡ entry_count a

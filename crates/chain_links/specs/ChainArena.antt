@@ -43,12 +43,12 @@ abbrev pub lone : {T : Type 0} → T → LinkSeen T
 lone t = record { prev = None; next = None; value = t }
 
 module _ {T : Type 0} where
-  abbrev pub value_in : LinkSeen T → T
-  value_in link = link.value
+  abbrev pub link_value : LinkSeen T → T
+  link_value link = link.value
 
   -- the link with another value
-  abbrev pub with_value_in : T → LinkSeen T → LinkSeen T
-  with_value_in t link = record link { value = t }
+  abbrev pub with_link_value : T → LinkSeen T → LinkSeen T
+  with_link_value t link = record link { value = t }
 
   abbrev pub interlinks_in : LinkSeen T → Interlinks
   interlinks_in link = record { prev = link.prev; next = link.next }
@@ -67,7 +67,7 @@ module _ {Gen T : Type 0} where
 
   -- the arena of the values alone
   abbrev pub values_of : Arena Gen (LinkSeen T) → Arena Gen T
-  values_of a = with_each value_in a
+  values_of a = with_each link_value a
 
   -- the values as generic code sees them, and what stands at each index
   abbrev pub seen : Arena Gen (LinkSeen T) → Seen Gen T
@@ -109,7 +109,7 @@ module _ {Gen T : Type 0} where
 
   -- the arena with another value in the link at an index, if one stands there
   abbrev pub with_value_at : Arena Gen (LinkSeen T) → ℕ → T → Arena Gen (LinkSeen T)
-  with_value_at a i t = record a { slots = with_slot a.slots i (option_map (on_value (with_value_in t)) (entry_at a i)) }
+  with_value_at a i t = record a { slots = with_slot a.slots i (option_map (on_value (with_link_value t)) (entry_at a i)) }
 
   -- the arena after the removal of the link at an index, where those that it stood between are linked
   abbrev pub remove_link : (Gen → Gen) → Arena Gen (LinkSeen T) → ℕ → Arena Gen (LinkSeen T)

@@ -3,7 +3,7 @@ use Rattle.std.specs.Prelude.{◌≡◌, ℕ, List, [], ◌∷◌, Option, None,
 use Rattle.std.specs.Option.{option_map}
 use Rattle.std.specs.Borrow.{Bor}
 use Rattle.chain_laws.specs.Chains.{Shown}
-use Rattle.chain_laws.specs.Walks.{Walker, ahead, step_of}
+use Rattle.chain_laws.specs.Walks.{Walker, walk_ahead, step_of}
 use Rattle.chain_links.specs.declared.links.LinkBody.{LinkBody}
 use Rattle.arena_base.specs.Arena.{Arena, entry_at, IsValid}
 use Rattle.chain_links.specs.ChainArena.{LinkSeen, shown}
@@ -17,7 +17,7 @@ module _ {Gen T : Type 0} where
 
   -- the links that a walker passes that began at `start`, has `forth` and `back` before it, and makes at most `left` steps
   abbrev pub links_ahead : Arena Gen (LinkSeen T) → ℕ → ℕ → Option ℕ → Option ℕ → List (ℕ × (Gen × LinkSeen T))
-  links_ahead a left start forth back = links_at a (ahead left (shown a) start forth back)
+  links_ahead a left start forth back = links_at a (walk_ahead left (shown a) start forth back)
 
 module _ {Gen T : Type 0} where
   abbrev pub index_and_entry : ℕ → Gen × LinkSeen T → ℕ × (Gen × LinkSeen T)

@@ -69,24 +69,24 @@ module _ {Gen T : Type 0} where
 
 module _ {Gen T : Type 0} (interlinks : Shown) (entry : ℕ → Option (Gen × T)) (es : List ((ℕ × Gen) × T)) (stands : (i : ℕ) → is_some (interlinks i) ≡ is_some (entry i))
     (looked : (i : ℕ) → found i es ≡ entry i) where
-  pub valid_some : (i : ℕ) → chains.IsValid interlinks i → is_some (entry i) ≡ true
+  pub valid_some : (i : ℕ) → chains.HasLink interlinks i → is_some (entry i) ≡ true
   valid_some i valid = sym (stands i) ∙ ap is_some valid.shows
 
-  pub valid_has : (i : ℕ) → chains.IsValid interlinks i → Has (map index_of es) i
+  pub valid_has : (i : ℕ) → chains.HasLink interlinks i → Has (map index_of es) i
   valid_has i valid = found_has i es (ap is_some (looked i) ∙ valid_some i valid)
 
   -- a link stands where an entry does
-  pub some_valid : (i : ℕ) → is_some (entry i) ≡ true → chains.IsValid interlinks i
+  pub some_valid : (i : ℕ) → is_some (entry i) ≡ true → chains.HasLink interlinks i
   some_valid i there = by (interlinks i) refl (stands i ∙ there) where
-    by : (o : Option Interlinks) → interlinks i ≡ o → is_some (interlinks i) ≡ true → chains.IsValid interlinks i
+    by : (o : Option Interlinks) → interlinks i ≡ o → is_some (interlinks i) ≡ true → chains.HasLink interlinks i
     by None is some = absurd (let none = ap is_some is in let both = sym some ∙ none in cc)
     by (Some link) is some = record { link = link; shows = is }
 
-  pub entry_valid : (i : ℕ) (e : Gen × T) → entry i ≡ Some e → chains.IsValid interlinks i
+  pub entry_valid : (i : ℕ) (e : Gen × T) → entry i ≡ Some e → chains.HasLink interlinks i
   entry_valid i e there = some_valid i (ap is_some there)
 
   module _ (greatest : ℕ) (within : All (λ e. IsWithin greatest (index_of e)) es) where
-    pub links_within : chains.IsWithin interlinks greatest
+    pub links_within : chains.HasLinksWithin interlinks greatest
     links_within = record { within = λ j v. has_within greatest j es (recursion_from_All _ es within) (valid_has j v) }
 
     -- a walk back makes fewer steps than there are entries

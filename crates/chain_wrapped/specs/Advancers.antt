@@ -6,9 +6,9 @@ use Rattle.arena_base.specs.Advancing.{IsLookUntilNone}
 use Rattle.arena_base.specs.declared.look.Look.{Look}
 use Rattle.arena_base.specs.declared.look.Look.TheVariants.{Up, Down, Nowhere}
 
-pub until_none : {P Gen T V : Type 0} (es : List ((ℕ × Gen) × T)) (look : Look) (key : P → ℕ × Gen) (answer : Option P) (looks : V → Look) (mid after : V)
+pub until_none_after : {P Gen T V : Type 0} (es : List ((ℕ × Gen) × T)) (look : Look) (key : P → ℕ × Gen) (answer : Option P) (looks : V → Look) (mid after : V)
     → OnSome answer (after ≡ mid) → IsLookUntilNone es look (option_map key answer) (looks mid) → IsLookUntilNone es look (option_map key answer) (looks after)
-until_none es look key (Some p) looks mid after same met = subst (λ v. IsLookUntilNone es look (Some (key p)) (looks v)) (sym same) met
-until_none es (Up i) key None looks mid after same met = met
-until_none es (Down i) key None looks mid after same met = met
-until_none es Nowhere key None looks mid after same met = tt
+until_none_after es look key (Some p) looks mid after same met = subst (λ v. IsLookUntilNone es look (Some (key p)) (looks v)) (sym same) met
+until_none_after es (Up i) key None looks mid after same met = met
+until_none_after es (Down i) key None looks mid after same met = met
+until_none_after es Nowhere key None looks mid after same met = tt

@@ -83,7 +83,7 @@ impl<A, V: Advancer<A>> Advancer<Wrapped<A>> for WrappedWalk<V> {
 }
 
 impl<P: PtrKey, T: Drop, A: ArenaTrait<P, T>> ArenaTrait<P, T> for Wrapped<A> {
-    ghost use Rattle.chain_wrapped.specs.Advancers.{until_none};
+    ghost use Rattle.chain_wrapped.specs.Advancers.{until_none_after};
 
     type PtrAdvancer = WrappedAdvancer<A::PtrAdvancer>;
 
@@ -111,7 +111,7 @@ impl<P: PtrKey, T: Drop, A: ArenaTrait<P, T>> ArenaTrait<P, T> for Wrapped<A> {
 
     ghost looked_up = { λ w. A.looked_up w.inner };
 
-    ghost advances = { λ a b w answer given. until_none (A.seen w.inner).entries (A.looks a.inner) P.key answer A.looks given.0 b.inner given.2
+    ghost advances = { λ a b w answer given. until_none_after (A.seen w.inner).entries (A.looks a.inner) P.key answer A.looks given.0 b.inner given.2
         (A.advances a.inner given.0 w.inner answer given.1) };
 
     fn new(alloc: Global) -> Self {

@@ -3,13 +3,13 @@ use Rattle.std.proofs.Common.{◌≡◌, ◌↔◌, ℕ, zero, suc, ◌<◌, Lis
 use Rattle.std.specs.Prelude.{slice_index_or, is_some}
 use Rattle.std.specs.Option.{option_map}
 use Rattle.std.proofs.lemmas.List.{take-append-drop}
-use Rattle.chain_laws.specs.Chains.{Shown, Chain, linear, cyclic, items, all_items, Has, HasChain, IsChain, IsValid, AreChains, IsInOrder}
+use Rattle.chain_laws.specs.Chains.{Shown, Chain, linear, cyclic, items, all_items, Has, HasChain, IsChain, HasLink, AreChains, IsInOrder}
 use Rattle.chain_laws.specs.Neighbors.{AreTheChains}
 use Rattle.chain_laws.specs.Walks.{IsWalk, there_and_back, round}
 use Rattle.chain_laws.proofs.Members.{Has-left, Has-right, Has-parts}
 use Rattle.chain_laws.proofs.Neighboring.{chains_by_pairs}
 use Rattle.chain_laws.proofs.Turning.{turned}
-use Rattle.lines_trials.specs.Slow.{Row, interlinks_in, shown_by, walk_at}
+use Rattle.lines_trials.specs.Slow.{Row, row_interlinks, shown_by, walk_at}
 
 -- what is below each item is below the first and below each after it
 pub below_more : (x : ℕ) (xs : List ℕ) (y : ℕ) (ys : List ℕ) → xs ≡ y ∷ ys
@@ -34,12 +34,12 @@ below_chains x all c chains e = (
     of_each parts y h = ⊎_elim (parts.0 y) (parts.1 y) (Has-parts (items c) (all_items chains) y h)
 
 -- where a row has interlinks, a link stands
-pub row_valid : (rows : List Row) (k : ℕ) → is_some (slice_index_or rows k None) ≡ true → IsValid (shown_by rows) (suc k)
+pub row_valid : (rows : List Row) (k : ℕ) → is_some (slice_index_or rows k None) ≡ true → HasLink (shown_by rows) (suc k)
 row_valid rows k is = valid (slice_index_or rows k None) refl is
   where
-    valid : (row : Row) → slice_index_or rows k None ≡ row → is_some row ≡ true → IsValid (shown_by rows) (suc k)
+    valid : (row : Row) → slice_index_or rows k None ≡ row → is_some row ≡ true → HasLink (shown_by rows) (suc k)
     valid None e never = absurd (cc)
-    valid (Some row) e here = record { link = interlinks_in row; shows = ap (option_map interlinks_in) e }
+    valid (Some row) e here = record { link = row_interlinks row; shows = ap (option_map row_interlinks) e }
 
 -- chains in order are the chains of the arena
 pub in_order : (shown : Shown) (chains : List Chain) → AreTheChains shown chains ↔ (AreChains shown chains × IsInOrder chains)

@@ -7,8 +7,8 @@ use Rattle.chain_laws.specs.Chains.{Shown, Interlinks, Chain, linear, cyclic}
 abbrev pub Row : Type 0
 Row = Option (Option ℕ × Option ℕ)
 
-abbrev pub interlinks_in : Option ℕ × Option ℕ → Interlinks
-interlinks_in row = record { prev = row.0; next = row.1 }
+abbrev pub row_interlinks : Option ℕ × Option ℕ → Interlinks
+row_interlinks row = record { prev = row.0; next = row.1 }
 
 -- the row of an index: row k has the index k + 1
 abbrev pub row_in : List Row → ℕ → Row
@@ -17,7 +17,7 @@ row_in rows (suc k) = slice_index_or rows k None
 
 -- what the rows show
 abbrev pub shown_by : List Row → Shown
-shown_by rows i = option_map interlinks_in (row_in rows i)
+shown_by rows i = option_map row_interlinks (row_in rows i)
 
 -- the chain of these items
 abbrev pub chain_of : Bool → List ℕ → Chain

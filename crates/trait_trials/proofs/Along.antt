@@ -5,7 +5,7 @@ use Rattle.std.proofs.lemmas.List.{length-map, append-nil}
 use Rattle.arena_ptr.specs.Numbers.{IsWithin}
 use Rattle.chain_laws.specs.Chains as chains
 use Rattle.chain_laws.specs.Chains.{Shown, Agrees, prev_of}
-use Rattle.chain_laws.specs.Walks.{IsWalk, ahead}
+use Rattle.chain_laws.specs.Walks.{IsWalk, walk_ahead}
 use Rattle.chain_laws.proofs.Members.{Has-right}
 use Rattle.chain_laws.proofs.Passing.{has_walk, walk_valid, walk_once}
 use Rattle.chain_laws.proofs.Walking.{walk_passed}
@@ -16,8 +16,8 @@ use Rattle.chain_traits.proofs.AnyArena.{valid_some, valid_has, links_within}
 module _ {Gen T : Type 0} (interlinks : Shown) (entry : ℕ → Option (Gen × T)) (es : List ((ℕ × Gen) × T)) (stands : (i : ℕ) → is_some (interlinks i) ≡ is_some (entry i))
     (looked : (i : ℕ) → found i es ≡ entry i) where
   -- a walker that makes as many steps as there are entries passes the walk
-  pub walk_ahead : (greatest i : ℕ) → Agrees interlinks → All (λ e. IsWithin greatest (index_of e)) es → chains.IsValid interlinks i
-      → IsWalk interlinks i (ahead (length es) interlinks i (Some i) (prev_of interlinks i))
+  pub walk_ahead : (greatest i : ℕ) → Agrees interlinks → All (λ e. IsWithin greatest (index_of e)) es → chains.HasLink interlinks i
+      → IsWalk interlinks i (walk_ahead (length es) interlinks i (Some i) (prev_of interlinks i))
   walk_ahead greatest i agrees within valid =
       let inside = links_within interlinks entry es stands looked greatest within in
       let walk = has_walk interlinks greatest i agrees inside valid in

@@ -1,5 +1,5 @@
 ghost use Rattle.std.specs.Prelude.{◌≡◌, ◌↔◌, ℕ, ◌<◌, ◌++◌, IsTrue, IfOk, OnOk};
-ghost use Rattle.chain_laws.specs.Chains.{Chain, Has, HasChain, IsChain, IsValid, IsWritten, IsAtMostEach, Rises, AreChains, IsInOrder, items as items_of, all_items as all_items_of};
+ghost use Rattle.chain_laws.specs.Chains.{Chain, Has, HasChain, IsChain, HasLink, IsWritten, IsAtMostEach, Rises, AreChains, IsInOrder, items as items_of, all_items as all_items_of};
 ghost use Rattle.chain_laws.specs.Neighbors.{AreTheChains, AreWritten};
 ghost use Rattle.lines_trials.specs.Slow.{shown_by};
 
@@ -138,7 +138,7 @@ fn add_items(all: &mut Vec<usize>, chains: &[SlowChain]) -> Result<(), AllocErro
 
 // Whether each valid index is among the items.
 fn has_each_valid(rows: &[Row], items: &[usize]) -> bool
-    ensures { IsTrue result ↔ ((i : ℕ) → IsValid (shown_by rows.now) i → Has items.now i) }
+    ensures { IsTrue result ↔ ((i : ℕ) → HasLink (shown_by rows.now) i → Has items.now i) }
 {
     for (k, row) in rows.iter().enumerate() {
         if row.is_some() && !has(items, k + 1) {

@@ -2,7 +2,7 @@
 use Rattle.std.proofs.Common.{◌≡◌, ℕ, Option, Some, refl, ap, ap₂, sym, ◌∙◌}
 use Rattle.std.specs.Prelude.{is_some}
 use Rattle.std.proofs.lemmas.Bool.{false≢true}
-use Rattle.chain_laws.specs.Chains.{IsValid, next_of}
+use Rattle.chain_laws.specs.Chains.{HasLink, next_of}
 use Rattle.chain_laws.specs.Exchanges.{exchanged}
 use Rattle.chain_laws.specs.Operations.{linked}
 use Rattle.chain_laws.proofs.Standing.{next_valid}
@@ -29,10 +29,10 @@ after_p g c = c.in-Some.ensures.named (c.in-Some.ensures.some refl)
 after_q : (g : Over) (c : After-link_twice g) → Some (g.P.Inx.InxKey.number c.in-Some-next_of_link.after_q) ≡ next_of (shown (links g c)) (g.P.PtrKey.key c.args.q).0
 after_q g c = c.in-Some-next_of_link.ensures.named (c.in-Some-next_of_link.ensures.some refl)
 
-valid_p : (g : Over) (c : After-link_twice g) → IsValid (shown (links g c)) (g.P.PtrKey.key c.args.p).0
+valid_p : (g : Over) (c : After-link_twice g) → HasLink (shown (links g c)) (g.P.PtrKey.key c.args.p).0
 valid_p g c = next_valid (shown (links g c)) _ _ (sym (after_p g c))
 
-valid_q : (g : Over) (c : After-link_twice g) → IsValid (shown (links g c)) (g.P.PtrKey.key c.args.q).0
+valid_q : (g : Over) (c : After-link_twice g) → HasLink (shown (links g c)) (g.P.PtrKey.key c.args.q).0
 valid_q g c = next_valid (shown (links g c)) _ _ (sym (after_q g c))
 
 -- what is written is the exchange
