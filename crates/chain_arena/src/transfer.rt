@@ -17,7 +17,7 @@ use arena_ptr::{InvalidationOption, InxKey, PtrKey, ReallocationError, SlotStack
 use chain_interlinks::gaps::Gap;
 use chain_links::LinkNoGen;
 use chain_traits::ChainArenaTrait;
-use chain_traits::sources::{agree, take_next};
+use chain_traits::sources::take_next;
 
 impl<P: PtrKey, T: Drop, S: SlotStack<Item = ArenaSlot<P, LinkNoGen<P, T>>>> ChainArena<P, T, S> {
     /// Takes all links out of a source, lays its chains one after another from index 1 on, and leaves nothing else here.
@@ -101,7 +101,7 @@ fn carry_all<
     ensures capacity { target.new.capacity ≡ target.old.capacity }
     ensures stack_capacity { target.new.stack_capacity ≡ target.old.stack_capacity }
 {
-    agree(source);
+    source.agrees();
     let generation = target.generation();
     let mut advancer = source.advancer();
     let mut on = None;

@@ -43,6 +43,14 @@ pub trait ChainArenaTrait<P: PtrKey, T: Drop>: ArenaTrait<P, T> {
     // Where an advancer along a chain stands, and how many steps it still makes at most.
     ghost walker: { Self.ChainPtrAdvancer → Walker };
 
+    /// Tells that the interlinks agree: j comes after i exactly if i comes before j. It does nothing: it is called where no
+    /// other call has told it.
+    final fn agrees(&self)
+        ensures { Agrees (interlinks self.now) }
+    {
+        self.get_inx_link_no_gen(P::invalid().inx());
+    }
+
     /// Whether a link of a kind may be inserted: what the kind asks of the links beside the new one holds.
     fn can_insert(&self, kind: LinkInsertKind<P>) -> bool
         ensures { IsTrue result ↔ MayInsert (Self.entry self.now) (interlinks self.now) (names_in P.key P.Inx.number kind) };

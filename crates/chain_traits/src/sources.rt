@@ -15,13 +15,6 @@ use arena_base::{Advancer, invalidated};
 use arena_ptr::{InvalidationOption, PtrKey};
 use chain_links::walks::going_on;
 
-/// The interlinks of an arena of links agree. Of one without links no call but this tells it.
-pub fn agree<Q: PtrKey, U: Drop, A: ChainArenaTrait<Q, U>>(source: &A)
-    ensures { Agrees (A.interlinks source.now) }
-{
-    source.get_inx_link_no_gen(Q::invalid().inx());
-}
-
 // The index of the link before the one at an index.
 fn before<Q: PtrKey, U: Drop, A: ChainArenaTrait<Q, U>>(source: &A, i: Q::Inx) -> Option<Q::Inx>
     ensures { option_map Q.Inx.number result ≡ prev_of (A.interlinks source.now) (Q.Inx.number i) }

@@ -27,7 +27,7 @@ loop-k-init g c =
     record {
       callable = c.requires.callable;
       carrying = carrying_begins g.Q.PtrKey.key g.P.PtrKey.key g.Q.Gen.GenKey.following g.Q.Gen.GenKey.wraps g.F.FnMut g.P.Inx.InxKey.number (g.A.ArenaTrait.seen source) (g.A.ChainArenaTrait.interlinks source) c.args.map c.args.target.now
-          g.Q.Inx.InxKey.greatest (g.A.ArenaTrait.looks c.advancer-advancer.result) _ c.agree.ensures
+          g.Q.Inx.InxKey.greatest (g.A.ArenaTrait.looks c.advancer-advancer.result) _ c.agrees.ensures
           (links_within (g.A.ChainArenaTrait.interlinks source) (g.A.ArenaTrait.entry source) (g.A.ArenaTrait.seen source).entries (g.met.A.ChainArenaTrait.stand source) (g.met.A.ArenaTrait.looked_up source) g.Q.Inx.InxKey.greatest c.len-k-end.ensures.indexes)
           c.requires.slots c.advancer-advancer.ensures;
     }
