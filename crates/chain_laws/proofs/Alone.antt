@@ -2,7 +2,7 @@
 use Rattle.std.specs.Prelude.{◌≡◌, ◌≢◌, ◌↔◌, ℕ, ◌⊎◌, List, Option, None, Some}
 use Rattle.std.proofs.Common.{sym, refl, ap, ◌∙◌, subst, inl, inr, ⊎_elim}
 use Rattle.std.proofs.lemmas.Bool.{cases_eq}
-use Rattle.chain_laws.specs.Chains.{Shown, Chain, linear, cyclic, items, IsChain, HasLink, Agrees, Has, Stands, prev_in, next_in, prev_of, next_of, first_or, last_or}
+use Rattle.chain_laws.specs.Chains.{Shown, Chain, items, IsChain, HasLink, Agrees, Has, Stands, prev_in, next_in, prev_of, next_of}
 use Rattle.chain_laws.specs.Operations.{with_lone, AddsLone}
 use Rattle.chain_laws.proofs.Agreement.{if_same, if_other}
 use Rattle.chain_laws.proofs.Standing.{link, Stands-frame, IsChain-frame}

@@ -1,7 +1,7 @@
 -- What linking does to lists that stand: one that it does not name stays, two become one, one closes to a ring.
 use Rattle.std.specs.Prelude.{◌≡◌, ◌↔◌, ℕ, List, [], ◌∷◌, ◌++◌, Option, None, Some}
 use Rattle.std.proofs.Common.{sym, ◌∙◌, subst, inl, inr, ⊎_elim}
-use Rattle.chain_laws.specs.Chains.{Shown, Chain, linear, cyclic, items, IsChain, Has, HasNoRepetition, Stands, first_or, last_or}
+use Rattle.chain_laws.specs.Chains.{Shown, Chain, items, IsChain, Has, HasNoRepetition, Stands, first_or, last_or}
 use Rattle.chain_laws.specs.Operations.{prev_set, next_set, linked}
 use Rattle.chain_laws.proofs.Members.{last_or-Has}
 use Rattle.chain_laws.proofs.Standing.{Stands-frame, IsChain-frame, Stands-append}

@@ -1,6 +1,6 @@
 -- Chains that a change leaves alone: since what stands beside a link of a chain stands in it too, it is enough that they lack one of two neighbours.
 use Rattle.std.proofs.Common.{◌≡◌, ℕ, inl, inr, ⊎_elim, Option, None, Some, refl, sym, subst}
-use Rattle.chain_laws.specs.Chains.{Shown, Chain, linear, cyclic, items, Has, IsChain, Agrees, first_or, last_or, prev_of, next_of}
+use Rattle.chain_laws.specs.Chains.{Shown, Chain, items, Has, IsChain, Agrees, prev_of, next_of}
 use Rattle.chain_laws.specs.Operations.{joined}
 use Rattle.chain_laws.specs.Cuts.{cut}
 use Rattle.chain_laws.specs.Removals.{vacated}

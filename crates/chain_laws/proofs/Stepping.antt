@@ -1,5 +1,5 @@
 -- The steps of a walker.
-use Rattle.std.proofs.Common.{◌≡◌, ℕ, zero, suc, List, [], ◌∷◌, Option, None, Some, refl, ap, sym, ◌∙◌, subst, IfSome}
+use Rattle.std.proofs.Common.{◌≡◌, ℕ, zero, suc, List, ◌∷◌, Option, None, Some, refl, ap, sym, ◌∙◌, subst, IfSome}
 use Rattle.chain_laws.specs.Chains.{Shown, first_or}
 use Rattle.chain_laws.specs.Walks.{Walker, walk_ahead, passes_ahead, next_step, step_of, passed_by, StepsPass}
 
