@@ -6,7 +6,7 @@ use Rattle.std.proofs.lemmas.Bool.{eq-eqb, ne_eqb}
 use Rattle.std.proofs.lemmas.List.Sums.{sum_by-cons, sum_by-set}
 use Rattle.arena_ptr.specs.Invalidation.{value_within, invalidation_result}
 use Rattle.arena_base.specs.Arena.{Arena, Has, filled, entry_count, slot_at, with_slot, remove_at, renewed_at, with_value, cleared, counter_after_clear}
-use Rattle.arena_base.specs.Entries.{Seen, entries_from, entries, seen_of, without, replaced, removed, renewed, written, emptied}
+use Rattle.arena_base.specs.Entries.{Seen, entries_from, entries, seen_of, without, replaced, entry_removed, renewed, written, emptied}
 use Rattle.arena_base.proofs.Reading.{length-with_slot}
 
 module _ {Gen T : Type 0} where
@@ -21,7 +21,7 @@ module _ {Gen T : Type 0} where
   count-push [] e = omega (arith, sum_by-cons (λ (o : Option (Gen × T)). cond (is_some o) 1 0) (Some e) [])
   count-push (s ∷ slots) e = omega (arith, sum_by-cons (λ (o : Option (Gen × T)). cond (is_some o) 1 0) s slots, sum_by-cons (λ (o : Option (Gen × T)). cond (is_some o) 1 0) s (slots ++ Some e ∷ []), count-push slots e)
 
-  pub count-filled : (freed : List ℕ) (slots : List (Option (Gen × T))) (e : Gen × T) → ((i : ℕ) → Has i freed → (slot_at slots i ≡ None) × (1 ≤ i) × (i ≤ length slots))
+  pub count-filled : (freed : List ℕ) (slots : List (Option (Gen × T))) (e : Gen × T) → ((i : ℕ) → Has freed i → (slot_at slots i ≡ None) × (1 ≤ i) × (i ≤ length slots))
       → count_by is_some (filled freed slots e) ≡ count_by is_some slots + 1
   count-filled [] slots e free = count-push slots e
   count-filled (zero ∷ freed) slots e free = absurd (omega (arith, (free zero (inl refl)).1))
@@ -98,7 +98,7 @@ module _ {Gen T : Type 0} where
     slots = Some (record { count = count; freed = freed; placed = placed; touched = a.touched });
   }
 
-  pub seen_removed : (following : Gen → Gen) (a : Arena Gen T) (n : ℕ) → seen_of (remove_at following a n) ≡ removed following (seen_of a) n
+  pub seen_removed : (following : Gen → Gen) (a : Arena Gen T) (n : ℕ) → seen_of (remove_at following a n) ≡ entry_removed following (seen_of a) n
   seen_removed following a n = λ i. shape a (entries-freed a.slots n i) (length-with_slot a.slots n None i) (n ∷ a.freed) (following a.counter) (a.placed + 1)
 
   pub seen_written : (a : Arena Gen T) (n : ℕ) (t : T) → seen_of (with_value a n t) ≡ written (seen_of a) n t

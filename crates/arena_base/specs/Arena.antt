@@ -45,14 +45,14 @@ without_first [] = []
 without_first (i ∷ freed) = freed
 
 -- a number stands in a list
-abbrev pub Has : ℕ → List ℕ → Type 0
-Has n [] = ⊥
-Has n (m ∷ ms) = (m ≡ n) ⊎ Has n ms
+abbrev pub Has : List ℕ → ℕ → Type 0
+Has [] n = ⊥
+Has (m ∷ ms) n = (m ≡ n) ⊎ Has ms n
 
 -- no number stands in a list twice
-abbrev pub IsApart : List ℕ → Type 0
-IsApart [] = ⊤
-IsApart (m ∷ ms) = (Has m ms → ⊥) × IsApart ms
+abbrev pub HasNoRepetition : List ℕ → Type 0
+HasNoRepetition [] = ⊤
+HasNoRepetition (m ∷ ms) = (Has ms m → ⊥) × HasNoRepetition ms
 
 -- a capacity leaves room for n entries, is at most the greatest index, and within the maximum
 pub record IsRoom (greatest : ℕ) (maximum : Option ℕ) (n capacity : ℕ) : Type 0 where
@@ -145,6 +145,6 @@ module _ {Gen T : Type 0} where
 
   -- each free slot stands in the freed list exactly once, and nothing else does
   pub record IsListed (a : Arena Gen T) : Type 0 where
-    pub apart : IsApart a.freed
-    pub free : (i : ℕ) → Has i a.freed → (entry_at a i ≡ None) × (1 ≤ i) × (i ≤ length a.slots)
-    pub listed : (i : ℕ) → 1 ≤ i → i ≤ length a.slots → entry_at a i ≡ None → Has i a.freed
+    pub apart : HasNoRepetition a.freed
+    pub free : (i : ℕ) → Has a.freed i → (entry_at a i ≡ None) × (1 ≤ i) × (i ≤ length a.slots)
+    pub listed : (i : ℕ) → 1 ≤ i → i ≤ length a.slots → entry_at a i ≡ None → Has a.freed i

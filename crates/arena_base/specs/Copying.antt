@@ -5,7 +5,7 @@ use Rattle.std.specs.Borrow.{Bor}
 use Rattle.std.specs.List.{FoldsTo}
 use Rattle.std.specs.Fn.{Mut, Called}
 use Rattle.arena_base.specs.Arena.{Arena, with_capacity_of}
-use Rattle.arena_base.specs.Entries.{Seen, Slots, entries}
+use Rattle.arena_base.specs.Entries.{Seen, Slots, entries, without_slots}
 
 -- a value that was made: the pointer of an entry, the value that was shown, and the value that was answered
 pub record Copied (P U T : Type 0) : Type 0 where
@@ -77,8 +77,5 @@ abbrev pub IsGivenUp : {Gen T : Type 0} → Arena Gen T → Arena Gen T → Type
 IsGivenUp old new = new ≡ record (with_capacity_of old new) { slots = []; freed = [] }
 
 -- .. as generic code sees it
-abbrev pub without_slots : Slots → Slots
-without_slots slots = record slots { count = 0; freed = [] }
-
 abbrev pub IsLeftEmpty : {Gen T : Type 0} → Seen Gen T → Seen Gen T → Type 0
 IsLeftEmpty old new = new ≡ record old { entries = []; slots = option_map without_slots old.slots; capacity = new.capacity }

@@ -4,7 +4,7 @@ use Rattle.std.specs.Prelude.{◌≡◌, ◌↔◌, ℕ, suc, ◌+◌, ◌<◌, 
 use Rattle.std.specs.Option.{option_map}
 use Rattle.arena_ptr.specs.Numbers.{IsWithin}
 use Rattle.arena_ptr.specs.SlotStack.{IsBeyond}
-use Rattle.arena_base.specs.Arena.{Arena, Has, IsApart, first_or_next, without_first, counter_after_clear}
+use Rattle.arena_base.specs.Arena.{Arena, Has, HasNoRepetition, first_or_next, without_first, counter_after_clear}
 
 -- the number of slots, the freed list, next to be used first, and the totals of placements and touches
 pub record Slots : Type 0 where
@@ -62,8 +62,8 @@ module _ {Gen T : Type 0} where
 
   -- the indexes of the entries and the freed indexes together are 1 to the number of slots, each once
   pub record AreTheSlots (es : List ((ℕ × Gen) × T)) (slots : Slots) : Type 0 where
-    pub apart : IsApart (map index_of es ++ slots.freed)
-    pub all : (i : ℕ) → Has i (map index_of es ++ slots.freed) ↔ IsWithin slots.count i
+    pub apart : HasNoRepetition (map index_of es ++ slots.freed)
+    pub all : (i : ℕ) → Has (map index_of es ++ slots.freed) i ↔ IsWithin slots.count i
 
   -- an arena as generic code sees it
   abbrev pub seen_of : Arena Gen T → Seen Gen T
@@ -103,8 +103,8 @@ module _ {Gen T : Type 0} where
   last_key es = first_key (reverse es)
 
   -- what is seen after the removal of the entry at an index
-  abbrev pub removed : (Gen → Gen) → Seen Gen T → ℕ → Seen Gen T
-  removed following s i = record s {
+  abbrev pub entry_removed : (Gen → Gen) → Seen Gen T → ℕ → Seen Gen T
+  entry_removed following s i = record s {
     entries = without i s.entries;
     counter = option_map following s.counter;
     slots = option_map (with_freed i) s.slots;

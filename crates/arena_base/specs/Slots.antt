@@ -1,7 +1,7 @@
 -- How an arena lies in its slots. Of this module public clauses cite `entry_of` alone, where the slots are shown.
 use Rattle.std.specs.Prelude.{◌≡◌, ℕ, zero, suc, ◌+◌, ◌≤◌, ⊤, List, [], ◌∷◌, map, min, length, count_by, is_some, slice_get, Option, None, Some}
 use Rattle.arena_base.specs.Compacting.{Held}
-use Rattle.arena_base.specs.Arena.{Arena, Has, IsApart}
+use Rattle.arena_base.specs.Arena.{Arena, Has, HasNoRepetition}
 use Rattle.arena_base.specs.declared.slot.ArenaSlot.{ArenaSlot}
 use Rattle.arena_base.specs.declared.slot.ArenaSlot.TheVariants.{Allocated, Free}
 
@@ -55,10 +55,10 @@ module _ {P T Inx Gen Word : Type 0} where
   with_generation_at (slot ∷ slots) (suc k) g = slot ∷ with_generation_at slots k g
 
   -- the free slot that a slot names as the next
-  abbrev pub next_of : Option (ArenaSlot P T Inx Gen Word) → Option Inx
-  next_of None = None
-  next_of (Some (Allocated generation t)) = None
-  next_of (Some (Free next)) = next
+  abbrev pub next_free : Option (ArenaSlot P T Inx Gen Word) → Option Inx
+  next_free None = None
+  next_free (Some (Allocated generation t)) = None
+  next_free (Some (Free next)) = next
 
 -- the slot with its value, if it has one, left out
 abbrev pub without_value : {P T Inx Gen Word : Type 0} → ArenaSlot P T Inx Gen Word → ArenaSlot P (Unit {0}) Inx Gen Word
@@ -74,7 +74,7 @@ module _ {P T Inx Gen Word : Type 0} (number : Inx → ℕ) (slots : List (Arena
   abbrev pub freed_from : ℕ → Option Inx → List ℕ
   freed_from zero head = []
   freed_from (suc most) None = []
-  freed_from (suc most) (Some i) = number i ∷ freed_from most (next_of (item_at slots (number i)))
+  freed_from (suc most) (Some i) = number i ∷ freed_from most (next_free (item_at slots (number i)))
 
   -- these are the freed indexes from a first one on: each names the next
   abbrev pub IsFreeList : List ℕ → Option Inx → Type 0
@@ -84,8 +84,8 @@ module _ {P T Inx Gen Word : Type 0} (number : Inx → ℕ) (slots : List (Arena
   -- `len` counts the entries, and the freed list from `head` holds every free slot once
   pub record IsSound (greatest len : ℕ) (head : Option Inx) (freed : List ℕ) : Type 0 where
     pub linked : IsFreeList freed head
-    pub apart : IsApart freed
-    pub covers : (n : ℕ) (next : Option Inx) → item_at slots n ≡ Some (Free next) → Has n freed
+    pub apart : HasNoRepetition freed
+    pub covers : (n : ℕ) (next : Option Inx) → item_at slots n ≡ Some (Free next) → Has freed n
     pub counted : len ≡ count_by is_some (map entry_of slots)
     pub total : len + length freed ≡ length slots
     pub fits : length slots ≤ greatest

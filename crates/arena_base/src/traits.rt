@@ -6,7 +6,7 @@ ghost use Rattle.arena_ptr.specs.Numbers.{IsWithin};
 ghost use Rattle.arena_ptr.specs.SlotStack.{IsBeyond, IsWithinMaximum};
 ghost use Rattle.arena_ptr.specs.Invalidation.{value_within, invalidation_result, invalidation_option};
 ghost use Rattle.arena_base.specs.Arena.{IsRoom, IsValid, seen_entry, overflows_after_clear};
-ghost use Rattle.arena_base.specs.Entries.{Seen, AreTheSlots, index_of, IsNew, found, RisesFrom, first_key, last_key, removed, renewed, written, emptied, with_capacity};
+ghost use Rattle.arena_base.specs.Entries.{Seen, AreTheSlots, index_of, IsNew, found, RisesFrom, first_key, last_key, entry_removed, renewed, written, emptied, with_capacity};
 ghost use Rattle.arena_base.specs.Advancing.{IsLookUntilNone};
 ghost use Rattle.arena_base.specs.Entries.{entries};
 ghost use Rattle.arena_base.specs.Copying.{IsCopy, IsCopyBy, HasRefusable, IsLeftEmpty};
@@ -197,7 +197,7 @@ pub trait ArenaTrait<P: PtrKey, T: Drop> {
     /// greatest, and is two now.
     fn remove(&mut self, p: P) -> InvalidationResult<T>
         ensures valid { IsValid (entry self.old) (P.key p) → (value_within result ≡ option_map (λ e. e.1) (entry self.old (P.key p).0))
-            × (seen self.new ≡ removed P.Gen.following (seen self.old) (P.key p).0) }
+            × (seen self.new ≡ entry_removed P.Gen.following (seen self.old) (P.key p).0) }
         ensures overflow { IfSome (seen self.old).counter (λ g. result ≡ invalidation_result (P.Gen.wraps g) (value_within result)) }
         ensures invalid { ¬ IsValid (entry self.old) (P.key p) → (value_within result ≡ None) × (self.new ≡ self.old) }
         ensures more { IsValid (entry self.old) (P.key p) → removes self.old (P.key p).0 self.new };
@@ -209,7 +209,7 @@ pub trait ArenaTrait<P: PtrKey, T: Drop> {
     fn remove_inx(&mut self, i: P::Inx) -> InvalidationResult<(P::Gen, T)>
         ensures answer { value_within result ≡ entry self.old (P.Inx.number i) }
         ensures overflow { IfSome (seen self.old).counter (λ g. result ≡ invalidation_result (P.Gen.wraps g) (value_within result)) }
-        ensures valid { IsSome (entry self.old (P.Inx.number i)) → seen self.new ≡ removed P.Gen.following (seen self.old) (P.Inx.number i) }
+        ensures valid { IsSome (entry self.old (P.Inx.number i)) → seen self.new ≡ entry_removed P.Gen.following (seen self.old) (P.Inx.number i) }
         ensures invalid { entry self.old (P.Inx.number i) ≡ None → self.new ≡ self.old }
         ensures more { IsSome (entry self.old (P.Inx.number i)) → removes self.old (P.Inx.number i) self.new };
 

@@ -5,7 +5,7 @@ use Rattle.std.specs.Option.{option_map}
 use Rattle.std.proofs.lemmas.Bool.{eqb-true}
 use Rattle.std.proofs.Math.Decide.{ℕ_discrete}
 use Rattle.chain_laws.specs.Chains.{Shown, Interlinks, Chain, items, Has, HasLink, IsInOrder, Agrees, AreChains, first_or, next_of}
-use Rattle.chain_laws.specs.Removals.{removed as passed_over}
+use Rattle.chain_laws.specs.Removals.{removed}
 use Rattle.chain_laws.specs.Walks.{going_on}
 use Rattle.chain_laws.specs.Starts.{chain_of}
 use Rattle.chain_laws.specs.Relays.{with_left}
@@ -14,7 +14,7 @@ use Rattle.chain_laws.proofs.Members.{filled-Has}
 use Rattle.chain_laws.proofs.Unique.{chain_valid, chain_filled}
 use Rattle.chain_laws.proofs.Leaving.{items_of, least_is_next, first_is_taken}
 use Rattle.chain_laws.proofs.RemovalPairs.{HasLink-removed}
-use Rattle.arena_base.specs.Entries.{Seen, found, without, removed, RisesFrom}
+use Rattle.arena_base.specs.Entries.{Seen, found, without, entry_removed, RisesFrom}
 use Rattle.arena_base.specs.declared.look.Look.{Look}
 use Rattle.arena_base.specs.declared.look.Look.TheVariants.{Up}
 use Rattle.chain_arena.specs.Drains.{after_times}
@@ -62,28 +62,28 @@ module _ {Gen T : Type 0} where
   valid_found links seen stands i valid = sym (stands i) ∙ ap is_some valid.shows
 
 module _ {Gen T : Type 0} (following : Gen → Gen) where
-  removed_each-append : (s : Seen Gen T) (xs : List ℕ) (i : ℕ) → entries_removed following s (xs ++ i ∷ []) ≡ removed following (entries_removed following s xs) i
-  removed_each-append s [] i = refl
-  removed_each-append s (x ∷ xs) i = removed_each-append (removed following s x) xs i
+  entries_removed-append : (s : Seen Gen T) (xs : List ℕ) (i : ℕ) → entries_removed following s (xs ++ i ∷ []) ≡ entry_removed following (entries_removed following s xs) i
+  entries_removed-append s [] i = refl
+  entries_removed-append s (x ∷ xs) i = entries_removed-append (entry_removed following s x) xs i
 
   -- the counter goes up once for each
-  pub counter-removed_each : (s : Seen Gen T) (xs : List ℕ) → (entries_removed following s xs).counter ≡ option_map (after_times following (length xs)) s.counter
-  counter-removed_each s [] = own s.counter
+  pub counter-entries_removed : (s : Seen Gen T) (xs : List ℕ) → (entries_removed following s xs).counter ≡ option_map (after_times following (length xs)) s.counter
+  counter-entries_removed s [] = own s.counter
     where
       own : (o : Option Gen) → o ≡ option_map (after_times following 0) o
       own None = refl
       own (Some g) = refl
-  counter-removed_each s (x ∷ xs) = counter-removed_each (removed following s x) xs ∙ once s.counter
+  counter-entries_removed s (x ∷ xs) = counter-entries_removed (entry_removed following s x) xs ∙ once s.counter
     where
       once : (o : Option Gen) → option_map (after_times following (length xs)) (option_map following o) ≡ option_map (after_times following (suc (length xs))) o
       once None = refl
       once (Some g) = refl
 
   -- what was not removed is found as before
-  pub found-removed_each : (s : Seen Gen T) (xs : List ℕ) (i : ℕ) → (Has xs i → ⊥) → found i (entries_removed following s xs).entries ≡ found i s.entries
-  found-removed_each s [] i none = refl
-  found-removed_each s (x ∷ xs) i none =
-      found-removed_each (removed following s x) xs i (λ h. none (inr h)) ∙ found-without i x s.entries (λ same. none (inl (sym same)))
+  pub found-entries_removed : (s : Seen Gen T) (xs : List ℕ) (i : ℕ) → (Has xs i → ⊥) → found i (entries_removed following s xs).entries ≡ found i s.entries
+  found-entries_removed s [] i none = refl
+  found-entries_removed s (x ∷ xs) i none =
+      found-entries_removed (entry_removed following s x) xs i (λ h. none (inr h)) ∙ found-without i x s.entries (λ same. none (inl (sym same)))
 
   -- links were taken out of a source, and these chains are left, of the first of them a part. An advancer has met what
   -- is not left and stands below it.
@@ -140,14 +140,14 @@ module _ {Gen T : Type 0} (following : Gen → Gen) where
       first_found = valid_found links seen stands i (chain_valid links (chain_of ring (i ∷ xs)) i (d.chains.each (chain_of ring (i ∷ xs)) (inl refl)) (subst (λ (zs : List ℕ). Has zs i) (sym (items_of ring (i ∷ xs))) (inl refl)))
 
       -- once it is taken out, the rest of the chain is left
-      pub departs_on : Agrees links → (after : Seen Gen T) (shows : Shown) → after ≡ removed following seen i → shows ≡ passed_over links i
+      pub departs_on : Agrees links → (after : Seen Gen T) (shows : Shown) → after ≡ entry_removed following seen i → shows ≡ removed links i
           → IsDeparting source after shows looks ring xs rest (taken ++ i ∷ []) × (going_on i (next_of links i) ≡ first_or xs None)
       departs_on agrees after shows is passed =
           let w = first_is_taken links ring i xs rest agrees d.chains in (
             record {
               chains = subst (λ (m : Shown). AreChains m (with_left ring xs rest)) (sym passed) w.0;
               order = d.order;
-              same = is ∙ (ap (λ (s : Seen Gen T). removed following s i) d.same ∙ sym (removed_each-append source taken i));
+              same = is ∙ (ap (λ (s : Seen Gen T). entry_removed following s i) d.same ∙ sym (entries_removed-append source taken i));
               size = omega (arith, d.size, ap (λ (s : Seen Gen T). length s.entries) is, length-without i seen.entries first_found, length-append taken (i ∷ []));
               from = d.from;
               up = d.up;

@@ -10,7 +10,7 @@ use Rattle.chain_laws.specs.Removals.{removed}
 use Rattle.chain_laws.specs.Walks.{IsWalk, goes_on, goes_on_to, walk_from, removed_each, TakesWalk}
 use Rattle.chain_laws.proofs.Draining.{walk_from-walk, walk_from-none, walk_from-next, walk_is_taken}
 use Rattle.arena_base.specs.Arena.{Arena, entry_at, remove_at}
-use Rattle.arena_base.specs.Arena.{HasLink as IsValidPtr}
+use Rattle.arena_base.specs.Arena.{IsValid}
 use Rattle.arena_base.proofs.Reading.{length-with_slot}
 use Rattle.chain_links.specs.ChainArena.{LinkSeen, shown, on_value, link_value as held_value, interlinks_of, values_of, link_of, link_at, remove_link}
 use Rattle.chain_links.specs.Insertions.{index_from}
@@ -58,7 +58,7 @@ module _ {Gen T : Type 0} where
       subst (λ (o : Option ℕ). IsWalk (shown a) i (walk_from (length a.slots) (shown a) o)) (sym (index_from-stands a i e stands))
       (walk_from-walk (length a.slots) (shown a) i agrees (shown-within a) (stands-valid a i e stands))
 
-  pub walk_left-valid : (a : Arena Gen (LinkSeen T)) (p : ℕ × Gen) → Agrees (shown a) → IsValidPtr (entry_at (values_of a)) p → IsWalk (shown a) p.0 (walk_left a p.0)
+  pub walk_left-valid : (a : Arena Gen (LinkSeen T)) (p : ℕ × Gen) → Agrees (shown a) → IsValid (entry_at (values_of a)) p → IsWalk (shown a) p.0 (walk_left a p.0)
   walk_left-valid a p agrees valid = by (entry_at a p.0) refl (sym (entry_at-with_each held_value a p.0) ∙ valid.stands) where
     by : (o : Option (Gen × LinkSeen T)) → entry_at a p.0 ≡ o → option_map (on_value held_value) (entry_at a p.0) ≡ Some (p.1, valid.value) → IsWalk (shown a) p.0 (walk_left a p.0)
     by None none is = absurd (let h = sym (ap (option_map (on_value held_value)) none) ∙ is in cc)

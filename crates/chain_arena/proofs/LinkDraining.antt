@@ -10,7 +10,7 @@ use Rattle.arena_ptr.specs.declared.invalidation.InvalidationOption.{Invalidatio
 use Rattle.arena_ptr.specs.declared.invalidation.InvalidationResult.{InvalidationResult}
 use Rattle.arena_base.specs.Arena.{Arena, IsValid, entry_at}
 use Rattle.arena_base.specs.Entries.{Seen, entries, index_of, found, without, first_key, RisesFrom}
-use Rattle.arena_base.specs.Entries.{removed as seen_removed}
+use Rattle.arena_base.specs.Entries.{entry_removed}
 use Rattle.arena_base.specs.EntryLaws.{entries_rise, found-entries}
 use Rattle.arena_base.specs.Advancing.{from_index}
 use Rattle.chain_links.specs.ChainArena.{LinkSeen, values_of, seen, remove_link}
@@ -116,7 +116,7 @@ module _ {Gen T : Type 0} where
 module _ {P Gen T : Type 0} (key : P → ℕ × Gen) (following : Gen → Gen) (wraps : Gen → Bool) where
   -- the removal of the first link that is left is a step
   module _ (old new : Arena Gen (LinkSeen T)) (at next : ℕ) (p : P) (first : Some (key p) ≡ first_key (entries_left old at)) (answered : InvalidationResult T)
-      (answer : IsValid (entry_at (values_of old)) (key p) → (value_within answered ≡ option_map (λ (e : Gen × T). e.1) (entry_at (values_of old) (key p).0)) × (seen new ≡ seen_removed following (seen old) (key p).0)) where
+      (answer : IsValid (entry_at (values_of old)) (key p) → (value_within answered ≡ option_map (λ (e : Gen × T). e.1) (entry_at (values_of old) (key p).0)) × (seen new ≡ entry_removed following (seen old) (key p).0)) where
     value_is : value_within answered ≡ Some (first_left old at (key p) first).0
     value_is = (answer (first_valid old at (key p) first)).0 ∙ ap (option_map (λ (e : Gen × T). e.1)) (first_left old at (key p) first).1
 

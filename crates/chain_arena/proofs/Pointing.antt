@@ -4,7 +4,7 @@ use Rattle.std.specs.Prelude.{is_some}
 use Rattle.std.specs.Fn.{Mut}
 use Rattle.std.specs.List.{AllByRecursion}
 use Rattle.std.proofs.lemmas.List.Elements.{recursion_from_All}
-use Rattle.arena_ptr.specs.Invalidation.{link_value as value_told}
+use Rattle.arena_ptr.specs.Invalidation.{value_in}
 use Rattle.arena_ptr.specs.declared.invalidation.InvalidationOption.{InvalidationOption}
 use Rattle.arena_base.specs.Arena.{Arena, slot_at, IsValid}
 use Rattle.arena_base.specs.Entries.{entries, found}
@@ -44,12 +44,12 @@ module _ {Q P G Gen U T : Type 0} (key : Q → ℕ × G) (new_key : P → ℕ ×
 
   -- .. as each that was carried over has
   each_goes : (es : List ((ℕ × G) × U)) (carried : List (Carried Q P U T)) → ((i : ℕ) → found i es ≡ before i)
-      → AllByRecursion (λ (c : Carried Q P U T). found (old_index key c) es ≡ Some ((key c.from).1, value_told c.value)) carried
+      → AllByRecursion (λ (c : Carried Q P U T). found (old_index key c) es ≡ Some ((key c.from).1, value_in c.value)) carried
       → AllByRecursion (λ (e : (ℕ × Gen) × T). after e.0.0 ≡ Some (e.0.1, e.1)) (arrived carried) → AllByRecursion Goes carried
   each_goes es [] looked stood stand = tt
   each_goes es (c ∷ carried) looked stood stand = (
     (
-      record { value = value_told c.value; stands = sym (looked (key c.from).0) ∙ stood.0 },
+      record { value = value_in c.value; stands = sym (looked (key c.from).0) ∙ stood.0 },
       record { value = c.answer; stands = stand.0 },
       (refl, refl),
     ),

@@ -7,7 +7,7 @@ use Rattle.arena_ptr.specs.declared.invalidation.InvalidationResult.{Invalidatio
 use Rattle.arena_ptr.specs.declared.invalidation.InvalidationResult.TheVariants.{Success, GenerationOverflow, InvalidPtr}
 use Rattle.chain_laws.specs.Chains.{Agrees}
 use Rattle.arena_base.specs.Arena.{IsValid, entry_at}
-use Rattle.arena_base.specs.Entries.{removed as seen_removed}
+use Rattle.arena_base.specs.Entries.{entry_removed}
 use Rattle.chain_links.specs.ChainArena.{LinkSeen, on_value, shown, seen, entry, link_value, link_at, remove_link, IsRemoval}
 use Rattle.chain_links.specs.Links.{held_in, seen_link, seen_pair}
 use Rattle.chain_links.specs.declared.links.LinkBody.{LinkBody}
@@ -90,12 +90,12 @@ module _ {Gen K T : Type 0} (packed : K → Option ℕ) (following : Gen → Gen
     pub removal_there : is_some (entry a n) ≡ true → IsRemoval following a n b
     removal_there stands = removal (some_taken stands)
 
-    pub seen_there : is_some (entry a n) ≡ true → seen b ≡ seen_removed following (seen a) n
+    pub seen_there : is_some (entry a n) ≡ true → seen b ≡ entry_removed following (seen a) n
     seen_there stands = seen-removed following a b n (removal_there stands).state
 
     -- .. as that of a valid pointer
     pub removal_at : (p : ℕ × Gen) → n ≡ p.0 → IsValid (entry a) p → IsRemoval following a n b
     removal_at p at valid = removal_there (ap (λ i. is_some (entry a i)) at ∙ ap is_some valid.stands)
 
-    pub seen_at : (p : ℕ × Gen) → n ≡ p.0 → IsValid (entry a) p → seen b ≡ seen_removed following (seen a) n
+    pub seen_at : (p : ℕ × Gen) → n ≡ p.0 → IsValid (entry a) p → seen b ≡ entry_removed following (seen a) n
     seen_at p at valid = seen_there (ap (λ i. is_some (entry a i)) at ∙ ap is_some valid.stands)

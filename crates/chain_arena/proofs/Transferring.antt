@@ -9,7 +9,7 @@ use Rattle.arena_ptr.specs.declared.invalidation.InvalidationOption.{Invalidatio
 use Rattle.chain_laws.specs.Chains.{Shown, Chain, all_items, Has, HasNoRepetition, HasLinksWithin, Agrees, AreChains, first_or, next_of}
 use Rattle.chain_laws.specs.Neighbors.{AreTheChains}
 use Rattle.chain_laws.specs.Insertions.{IsGap}
-use Rattle.chain_laws.specs.Removals.{removed as passed_over}
+use Rattle.chain_laws.specs.Removals.{removed}
 use Rattle.chain_laws.specs.Renamings.{IsRenaming}
 use Rattle.chain_laws.specs.Arrangements.{place_in, in_runs}
 use Rattle.chain_laws.specs.Walks.{going_on}
@@ -21,7 +21,7 @@ use Rattle.chain_laws.proofs.Leaving.{items_left}
 use Rattle.chain_laws.proofs.Laying.{all_items-append, items_laid, laid-length, laid_between}
 use Rattle.chain_laws.proofs.Runs.{runs_are_renumbered}
 use Rattle.arena_base.specs.Arena.{Arena, IsListed, entry_count, next_index}
-use Rattle.arena_base.specs.Entries.{Seen, found, removed, RisesFrom}
+use Rattle.arena_base.specs.Entries.{Seen, found, entry_removed, RisesFrom}
 use Rattle.arena_base.specs.declared.look.Look.{Look}
 use Rattle.arena_base.specs.declared.look.Look.TheVariants.{Up}
 use Rattle.chain_links.specs.ChainArena.{LinkSeen, shown, insert_between}
@@ -29,7 +29,7 @@ use Rattle.chain_arena.specs.Drains.{after_times}
 use Rattle.chain_arena.specs.Transfers.{Carried, old_index, entries_removed, AreEnds, IsTransfer}
 use Rattle.chain_traits.specs.Sources.{IsNextChain}
 use Rattle.chain_arena.proofs.Landing.{IsLanded, landing_begins, landing_goes_on, next_behind, gap_at_end, count_landed}
-use Rattle.chain_arena.proofs.Departing.{IsDeparting, StandsFound, rises_up, entries_left, departs_next, departs_on, first_found, all_departed, found-removed_each, counter-removed_each}
+use Rattle.chain_arena.proofs.Departing.{IsDeparting, StandsFound, rises_up, entries_left, departs_next, departs_on, first_found, all_departed, found-entries_removed, counter-entries_removed}
 use Rattle.chain_arena.proofs.Calling.{AreCalled, calls_begin, calls_go_on}
 
 left_none : (left : List ℕ) → None ≡ first_or left None → left ≡ []
@@ -180,7 +180,7 @@ module _ {Q P G Gen I U T F : Type 0} (key : Q → ℕ × G) (new_key : P → �
 
       -- its entry is as it was in the source
       pub as_before : found i seen.entries ≡ found i source.entries
-      as_before = ap (λ (s : Seen G U). found i s.entries) c.departing.same ∙ found-removed_each following source (all_items (with_laid c.done ring c.taken)) i apart
+      as_before = ap (λ (s : Seen G U). found i s.entries) c.departing.same ∙ found-entries_removed following source (all_items (with_laid c.done ring c.taken)) i apart
 
       long : length (all_items (with_laid c.done ring c.taken)) ≡ length c.carried
       long = ap length (sym c.called.ordered) ∙ length-map c.carried (old_index key)
@@ -188,7 +188,7 @@ module _ {Q P G Gen I U T F : Type 0} (key : Q → ℕ × G) (new_key : P → �
       pub counted : seen.counter ≡ option_map (after_times following (length c.carried)) source.counter
       counted =
           ap (λ (s : Seen G U). s.counter) c.departing.same
-          ∙ (counter-removed_each following source (all_items (with_laid c.done ring c.taken)) ∙ ap (λ n. option_map (after_times following n) source.counter) long)
+          ∙ (counter-entries_removed following source (all_items (with_laid c.done ring c.taken)) ∙ ap (λ n. option_map (after_times following n) source.counter) long)
 
       values_long : length (entered c.carried) ≡ length (all_items c.done) + length c.taken
       values_long = length-map c.carried (λ (d : Carried Q P U T). (new_key d.to, d.answer)) ∙ (sym long ∙ laid-length c.done ring c.taken)
@@ -255,7 +255,7 @@ module _ {Q P G Gen I U T F : Type 0} (key : Q → ℕ × G) (new_key : P → �
 
         -- the link is carried over
         pub carries_link : Agrees links → (after : Seen G U) (shows : Shown) (on : Option ℕ) (bounds : Option (I × I)) (then_now : Arena Gen (LinkSeen T))
-            → IfSome seen.counter (λ g. is_overflow value ≡ wraps g) → on ≡ going_on i (next_of links i) → after ≡ removed following seen i → shows ≡ passed_over links i
+            → IfSome seen.counter (λ g. is_overflow value ≡ wraps g) → on ≡ going_on i (next_of links i) → after ≡ entry_removed following seen i → shows ≡ removed links i
             → then_now ≡ insert_between now t (end_before ring (length c.taken) (next_index now)) (end_after ring (length c.taken) (next_index now))
             → AreEnds number bounds (length c.taken + 1) (k + 1 + 1)
             → IsCarrying (k + 1) after shows looks on ring bounds next then_now

@@ -8,7 +8,7 @@ use Rattle.chain_laws.specs.Chains.{Shown}
 use Rattle.chain_laws.specs.Renamings.{IsRenaming}
 use Rattle.chain_laws.specs.Arrangements.{place_in, IsLeastIndexOrder}
 use Rattle.arena_base.specs.Arena.{Arena}
-use Rattle.arena_base.specs.Entries.{Seen, entries, found, removed}
+use Rattle.arena_base.specs.Entries.{Seen, entries, found, entry_removed}
 use Rattle.chain_links.specs.ChainArena.{LinkSeen, shown, values_of}
 use Rattle.chain_links.specs.CanonicalLayouts.{IsCanonicalLayout}
 
@@ -28,7 +28,7 @@ overflows following wraps (suc n) g = wraps g ∷ overflows following wraps n (f
 -- what is seen after the removal of the entries at these indexes, one after another
 abbrev pub entries_removed : {Gen T : Type 0} → (Gen → Gen) → Seen Gen T → List ℕ → Seen Gen T
 entries_removed following s [] = s
-entries_removed following s (i ∷ rest) = entries_removed following (removed following s i) rest
+entries_removed following s (i ∷ rest) = entries_removed following (entry_removed following s i) rest
 
 -- the index that a link had
 abbrev pub old_index : {Q P G U T : Type 0} → (Q → ℕ × G) → Carried Q P U T → ℕ

@@ -10,7 +10,7 @@ ghost use Rattle.chain_laws.specs.Operations.{joined, Connects, AddsPair};
 ghost use Rattle.chain_laws.specs.Removals.{removed, Removes, RemovesPairs};
 ghost use Rattle.arena_base.specs.Arena.{entry_count, next_index, with_capacity_of, IsValid, IsRoom, HasRoom};
 ghost use Rattle.arena_base.specs.Entries.{count, HasRoomLeft, NeedsBeyondMaximum};
-ghost use Rattle.arena_base.specs.Entries.{removed as seen_removed};
+ghost use Rattle.arena_base.specs.Entries.{entry_removed};
 ghost use Rattle.arena_base.specs.Compressing.{overflows_after_compression};
 ghost use Rattle.chain_links.specs.ChainArena.{shown as interlinks};
 ghost use Rattle.chain_links.specs.ChainArena.{seen, entry, relinked, insert_as, remove_link, link_at, on_value, CanConnect, CanExchange, IsCut, IsExchange, IsLinkAt};
@@ -264,7 +264,7 @@ impl<P: PtrKey, T: Drop, S: SlotStack<Item = ArenaSlot<P, LinkNoGen<P, T>>>> Cha
     fn remove_link_no_gen(&mut self, p: P) -> InvalidationResult<LinkNoGen<P, T>>
         ensures valid { IsValid (entry self.old) (P.key p) →
             (option_map (λ link. ((P.key p).1, seen_link P.Inx.packed_number link)) (value_within result) ≡ link_at (entry self.old) (interlinks self.old) (P.key p).0)
-            × (seen self.new ≡ seen_removed P.Gen.following (seen self.old) (P.key p).0) × (interlinks self.new ≡ removed (interlinks self.old) (P.key p).0) }
+            × (seen self.new ≡ entry_removed P.Gen.following (seen self.old) (P.key p).0) × (interlinks self.new ≡ removed (interlinks self.old) (P.key p).0) }
         ensures overflow { IfSome (seen self.old).counter (λ g. result ≡ invalidation_result (P.Gen.wraps g) (value_within result)) }
         ensures invalid { ¬ IsValid (entry self.old) (P.key p) → (value_within result ≡ None) × (self.new ≡ self.old) }
         ensures agreed { Agrees (interlinks self.old) }
@@ -284,7 +284,7 @@ impl<P: PtrKey, T: Drop, S: SlotStack<Item = ArenaSlot<P, LinkNoGen<P, T>>>> Cha
         ensures answer { option_map (on_value (seen_link P.Inx.packed_number)) (value_within result) ≡ link_at (entry self.old) (interlinks self.old) (P.Inx.number i) }
         ensures overflow { IfSome (seen self.old).counter (λ g. result ≡ invalidation_result (P.Gen.wraps g) (value_within result)) }
         ensures valid { IsSome (entry self.old (P.Inx.number i)) →
-            (seen self.new ≡ seen_removed P.Gen.following (seen self.old) (P.Inx.number i)) × (interlinks self.new ≡ removed (interlinks self.old) (P.Inx.number i)) }
+            (seen self.new ≡ entry_removed P.Gen.following (seen self.old) (P.Inx.number i)) × (interlinks self.new ≡ removed (interlinks self.old) (P.Inx.number i)) }
         ensures invalid { entry self.old (P.Inx.number i) ≡ None → self.new ≡ self.old }
         ensures agreed { Agrees (interlinks self.old) }
         ensures state { IsSome (entry self.old (P.Inx.number i)) → self.new ≡ remove_link P.Gen.following self.old (P.Inx.number i) }

@@ -14,7 +14,7 @@ use Rattle.chain_laws.proofs.RemovalPairs.{removed_agrees, removed_in_pairs}
 use Rattle.chain_laws.proofs.Removing.{removed_removes}
 use Rattle.arena_base.specs.Arena.{Arena, entry_at, remove_at, renewed_at}
 use Rattle.arena_base.specs.Entries.{seen_of}
-use Rattle.arena_base.specs.Entries.{removed as seen_removed}
+use Rattle.arena_base.specs.Entries.{entry_removed}
 use Rattle.chain_links.specs.ChainArena.{on_value, LinkSeen, link_value, with_link_value, shown, relinked, interlinks_of, values_of, with_value_at, remove_link}
 use Rattle.arena_base.proofs.Seeing as seeing
 use Rattle.chain_links.proofs.Inserting.{map-if}
@@ -81,7 +81,7 @@ module _ {Gen T : Type 0} where
   pub values_of-remove_link : (following : Gen → Gen) (a : Arena Gen (LinkSeen T)) (i : ℕ) → values_of (remove_link following a i) ≡ remove_at following (values_of a) i
   values_of-remove_link following a i = values_of-relinked (remove_at following a i) (removed (shown a) i) (fits-removed following a i) ∙ with_each-remove_at link_value following a i
 
-  pub seen-removed : (following : Gen → Gen) (a b : Arena Gen (LinkSeen T)) (i : ℕ) → b ≡ remove_link following a i → seen_of (values_of b) ≡ seen_removed following (seen_of (values_of a)) i
+  pub seen-removed : (following : Gen → Gen) (a b : Arena Gen (LinkSeen T)) (i : ℕ) → b ≡ remove_link following a i → seen_of (values_of b) ≡ entry_removed following (seen_of (values_of a)) i
   seen-removed following a b i gone =
       ap (λ (x : Arena Gen (LinkSeen T)). seen_of (values_of x)) gone ∙ (ap (λ (x : Arena Gen T). seen_of x) (values_of-remove_link following a i) ∙ seeing.seen_removed following (values_of a) i)
 

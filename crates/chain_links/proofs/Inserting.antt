@@ -61,7 +61,7 @@ slot_at-written slots (suc k) (suc j) x some inside = slice_index_or-written slo
 
 -- the freed indexes are those of free slots
 abbrev pub AreFree : {X : Type 0} → List (Option X) → List ℕ → Type 0
-AreFree slots freed = (i : ℕ) → Has i freed → (slot_at slots i ≡ None) × (1 ≤ i) × (i ≤ length slots)
+AreFree slots freed = (i : ℕ) → Has freed i → (slot_at slots i ≡ None) × (1 ≤ i) × (i ≤ length slots)
 
 -- what an insertion leaves at each index
 pub slot_at-filled : {X : Type 0} (freed : List ℕ) (slots : List (Option X)) (x : X) (j : ℕ) → AreFree slots freed

@@ -6,7 +6,7 @@ use Rattle.chain_laws.specs.Chains.{Shown}
 use Rattle.chain_laws.specs.Insertions.{InsertKind}
 use Rattle.chain_laws.specs.Removals.{removed}
 use Rattle.arena_base.specs.Entries.{Seen, count, HasRoomLeft}
-use Rattle.arena_base.specs.Entries.{removed as seen_removed}
+use Rattle.arena_base.specs.Entries.{entry_removed}
 use Rattle.chain_links.specs.ChainArena.{link_at}
 use Rattle.chain_links.specs.Insertions.{IsInsertion}
 use Rattle.chain_links.specs.Kinds.{LinkName, by_index}
@@ -25,7 +25,7 @@ module _ {Gen T : Type 0} where
 module _ {A Gen T : Type 0} (seen : A → Seen Gen T) (interlinks : A → Shown) where
   -- the link at an index is gone: those that it stood between are linked, and the counter is the next
   abbrev pub LosesLink : (Gen → Gen) → ℕ → A → A → Type 0
-  LosesLink following i old new = (seen new ≡ seen_removed following (seen old) i) × (interlinks new ≡ removed (interlinks old) i)
+  LosesLink following i old new = (seen new ≡ entry_removed following (seen old) i) × (interlinks new ≡ removed (interlinks old) i)
 
 module _ {A Gen T : Type 0} (seen : A → Seen Gen T) (entry : A → ℕ → Option (Gen × T)) (interlinks : A → Shown) where
   -- a link of a kind, with a value, came to p

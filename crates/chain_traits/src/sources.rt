@@ -3,10 +3,10 @@ ghost use Rattle.std.specs.Prelude.{◌≡◌, ◌≢◌, ℕ, [], IsSome, IfSom
 ghost use Rattle.std.specs.Option.{option_map};
 ghost use Rattle.arena_ptr.specs.Invalidation.{value_in, is_overflow};
 ghost use Rattle.chain_laws.specs.Chains.{Agrees, prev_of, next_of};
-ghost use Rattle.chain_laws.specs.Removals.{removed as passed_over};
+ghost use Rattle.chain_laws.specs.Removals.{removed};
 ghost use Rattle.chain_laws.specs.Walks.{going_on as goes_on};
 ghost use Rattle.chain_laws.specs.Starts.{IsStart};
-ghost use Rattle.arena_base.specs.Entries.{removed, RisesFrom};
+ghost use Rattle.arena_base.specs.Entries.{entry_removed, RisesFrom};
 ghost use Rattle.arena_base.specs.declared.look.Look.{Look};
 ghost use Rattle.chain_traits.specs.Sources.{IsNextChain};
 
@@ -118,8 +118,8 @@ pub fn take_next<Q: PtrKey, U: Drop, A: ChainArenaTrait<Q, U>, I: Copy + Drop>(
     ensures stood { A.entry source.old (Q.key result.0).0 ≡ Some ((Q.key result.0).1, value_in result.1) }
     ensures overflow { IfSome (A.seen source.old).counter (λ g. is_overflow result.1 ≡ Q.Gen.wraps g) }
     ensures next { option_map Q.Inx.number result.2 ≡ goes_on (Q.key result.0).0 (next_of (A.interlinks source.old) (Q.key result.0).0) }
-    ensures seen { A.seen source.new ≡ removed Q.Gen.following (A.seen source.old) (Q.key result.0).0 }
-    ensures links { A.interlinks source.new ≡ passed_over (A.interlinks source.old) (Q.key result.0).0 }
+    ensures seen { A.seen source.new ≡ entry_removed Q.Gen.following (A.seen source.old) (Q.key result.0).0 }
+    ensures links { A.interlinks source.new ≡ removed (A.interlinks source.old) (Q.key result.0).0 }
 {
     let (i, cyclic, laid) = next_link::<Q, U, A, I>(source, advancer, on, ring, ends);
     let (q, value, next) = take_link(source, i);
@@ -137,8 +137,8 @@ fn take_link<Q: PtrKey, U: Drop, A: ChainArenaTrait<Q, U>>(
     ensures index { (Q.key result.0).0 ≡ Q.Inx.number i }
     ensures overflow { IfSome (A.seen source.old).counter (λ g. is_overflow result.1 ≡ Q.Gen.wraps g) }
     ensures next { option_map Q.Inx.number result.2 ≡ goes_on (Q.Inx.number i) (next_of (A.interlinks source.old) (Q.Inx.number i)) }
-    ensures seen { A.seen source.new ≡ removed Q.Gen.following (A.seen source.old) (Q.Inx.number i) }
-    ensures links { A.interlinks source.new ≡ passed_over (A.interlinks source.old) (Q.Inx.number i) }
+    ensures seen { A.seen source.new ≡ entry_removed Q.Gen.following (A.seen source.old) (Q.Inx.number i) }
+    ensures links { A.interlinks source.new ≡ removed (A.interlinks source.old) (Q.Inx.number i) }
     ensures agreed { Agrees (A.interlinks source.old) }
 {
     let (entry, overflow) = source.remove_inx_link_no_gen(i).overflowing();
