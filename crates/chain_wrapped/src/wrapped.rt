@@ -221,7 +221,7 @@ impl<P: PtrKey, T: Drop, A: ArenaTrait<P, T>> ArenaTrait<P, T> for Wrapped<A> {
 impl<P: PtrKey, T: Drop, A: CompactArenaTrait<P, T>> CompactArenaTrait<P, T> for Wrapped<A> {}
 
 impl<P: PtrKey, T: Drop, A: ChainArenaTrait<P, T>> ChainArenaTrait<P, T> for Wrapped<A> {
-    ghost use Rattle.std.specs.Prelude.{◌≡◌, ◌≢◌, ◌↔◌, ◌⊎◌, ◌+◌, IsTrue, IsOk, IfOk, OnOk, IsErr, IfErr, OnErr, Err};
+    ghost use Rattle.std.specs.Prelude.{◌≡◌, ◌≢◌, ◌↔◌, ◌⊎◌, ◌+◌, IsTrue, IfOk, OnOk, IsErr, IfErr, OnErr, Err};
     ghost use Rattle.arena_ptr.specs.declared.errors.ChainInsertionError.TheVariants as failed;
     ghost use Rattle.chain_laws.specs.Chains.{Agrees};
     ghost use Rattle.arena_base.specs.Arena.{IsRoom};
