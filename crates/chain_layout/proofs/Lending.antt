@@ -11,7 +11,7 @@ use Rattle.chain_layout.proofs.Tallying.{counts_touch, counts_then}
 
 module _ {P T S Inx Gen Word : Type 0} (old new : Compactor P T S Inx Gen Word) (i : ℕ) where
   -- the value l that stood at i was written over by w
-  pub record IsWritten (l w : T) : Type 0 where
+  pub record IsOverwritten (l w : T) : Type 0 where
     pub same_reference : new.arena.ghost_name ≡ old.arena.ghost_name
     pub stands : Some l ≡ option_map (λ e. e.1) (slot_at old.held.slots i)
     pub held : new.held ≡ held_with_value old.held i w
@@ -19,7 +19,7 @@ module _ {P T S Inx Gen Word : Type 0} (old new : Compactor P T S Inx Gen Word) 
     pub counts : CountsOn old.arena.now new.arena.now old.placed old.touched new.placed new.touched
 
   -- no value stood at i
-  pub record IsFree : Type 0 where
+  pub record IsUntouched : Type 0 where
     pub same_reference : new.arena.ghost_name ≡ old.arena.ghost_name
     pub none : None ≡ option_map (λ e. e.1) (slot_at old.held.slots i)
     pub held : new.held ≡ old.held
@@ -30,7 +30,7 @@ module _ {P T S Inx Gen Word : Type 0} (old new : Compactor P T S Inx Gen Word) 
   Touched = (new.arena.ghost_name ≡ old.arena.ghost_name) × (new.arena.now ≡ with_touch old.arena.now) × (new.placed ≡ old.placed) × (new.touched ≡ one_more old.touched)
 
   pub lent : (lends : Option (MutBor T)) (m : MutBor T) (w : T) → lends ≡ Some m → option_copied_mut lends ≡ option_map (λ e. e.1) (slot_at old.held.slots i)
-      → OnSome lends ((new.held ≡ held_with_value old.held i w) × Touched) → IsWritten m.now w
+      → OnSome lends ((new.held ≡ held_with_value old.held i w) × Touched) → IsOverwritten m.now w
   lent lends m w is there wrote = record {
     same_reference = made.1.0;
     stands = sym (ap option_copied_mut is) ∙ there;
@@ -46,7 +46,7 @@ module _ {P T S Inx Gen Word : Type 0} (old new : Compactor P T S Inx Gen Word) 
       made : (new.held ≡ held_with_value old.held i w) × Touched
       made = by lends is wrote
 
-  pub lent_none : (lends : Option (MutBor T)) → lends ≡ None → option_copied_mut lends ≡ option_map (λ e. e.1) (slot_at old.held.slots i) → (new.held ≡ old.held) × Touched → IsFree
+  pub lent_none : (lends : Option (MutBor T)) → lends ≡ None → option_copied_mut lends ≡ option_map (λ e. e.1) (slot_at old.held.slots i) → (new.held ≡ old.held) × Touched → IsUntouched
   lent_none lends is there kept = record {
     same_reference = kept.1.0;
     none = sym (ap option_copied_mut is) ∙ there;

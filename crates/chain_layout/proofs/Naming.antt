@@ -9,8 +9,8 @@ pub differ : (told is : Bool) → told ≡ is → told ≡ false → is ≡ true
 differ told is by off on = cc
 
 -- .. and two that it finds the same
-pub found : (told is : Bool) → told ≡ is → told ≡ true → is ≡ true
-found told is by on = sym by ∙ on
+pub found_same : (told is : Bool) → told ≡ is → told ≡ true → is ≡ true
+found_same told is by on = sym by ∙ on
 
 module _ {I : Type 0} (number : I → ℕ) (same_number : (i j : I) → number i ≡ number j → i ≡ j) (k : I) (named : Option I) (is : named ≡ Some k) where
   pub named_moved : (from to : I) → k ≡ from → Some (number to) ≡ option_map (moved_index (number from) (number to)) (option_map number named)

@@ -1,11 +1,11 @@
 -- The link that moved is named where it stands, and any other where it stood.
-use Rattle.chain_layout.proofs.Naming.{differ, found, named_moved, named_stays, none_moved}
+use Rattle.chain_layout.proofs.Naming.{differ, found_same, named_moved, named_stays, none_moved}
 use Rattle.chain_layout.proofs.compress.index_now.Goals as goal
 
 pub returns-then-eq : goal.returns-then-eq
 returns-then-eq g c =
     let is = g.met.I.InxKey.eq_is_same c.in-Some.k c.args.from in
-    named_moved g.I.InxKey.number g.met.I.InxKey.same_number c.in-Some.k c.args.named c.in-Some.is c.args.from c.args.to (is.0 (found c.eq.result (g.I.PartialEq.eq c.in-Some.k c.args.from) c.eq.ensures c.if-eq.true))
+    named_moved g.I.InxKey.number g.met.I.InxKey.same_number c.in-Some.k c.args.named c.in-Some.is c.args.from c.args.to (is.0 (found_same c.eq.result (g.I.PartialEq.eq c.in-Some.k c.args.from) c.eq.ensures c.if-eq.true))
 
 pub returns-else-eq : goal.returns-else-eq
 returns-else-eq g c =
