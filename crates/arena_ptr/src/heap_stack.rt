@@ -5,14 +5,14 @@ use std::alloc::Global;
 
 /// A slot stack in one block of the heap, without a maximum.
 ///
-/// A growth at least doubles its capacity, so that pushing n items moves fewer than 2 n of them in all.
+/// A growth reaches what is asked for, or twice the capacity if that is more, so that pushing n items moves fewer than 2 n of them in all.
 #[derive(Drop)]
 pub struct HeapStack<E> {
     slots: Vec<E>,
 }
 
 impl<E: Drop> SlotStack for HeapStack<E> {
-    ghost use Rattle.std.specs.Prelude.{◌*◌, None, vec_capacity, refl};
+    ghost use Rattle.std.specs.Prelude.{◌≡◌, ◌*◌, max, None, vec_capacity, refl};
     ghost use Rattle.std.specs.Vec.{with_item as vec_with_item};
     ghost use Rattle.arena_ptr.specs.Slots.{slots_have_room, slots_fit};
 
@@ -26,7 +26,7 @@ impl<E: Drop> SlotStack for HeapStack<E> {
 
     ghost initial_maximum = { None };
 
-    ghost next_capacity = { λ s. 2 * vec_capacity s.slots };
+    ghost may_reach = { λ old _ n new. new ≡ max n (2 * old) };
 
     ghost with_item = { λ s i e. record { slots = vec_with_item s.slots i e } };
 

@@ -10,7 +10,7 @@ use std::alloc::Global;
 
 /// A slot stack in one block of the heap, with a maximum once one is set.
 ///
-/// A growth at least doubles its capacity, as far as the maximum allows, and never goes beyond the maximum.
+/// A growth reaches what is asked for, or twice the capacity as far as the maximum allows, if that is more.
 #[derive(Drop)]
 pub struct LimitedStack<E> {
     slots: Vec<E>,
@@ -34,7 +34,7 @@ impl<E> LimitedStack<E> {
 }
 
 impl<E: Drop> SlotStack for LimitedStack<E> {
-    ghost use Rattle.std.specs.Prelude.{◌*◌, None, refl};
+    ghost use Rattle.std.specs.Prelude.{◌*◌, max, None, refl};
     ghost use Rattle.arena_ptr.specs.LimitedStack.{with_item_at};
     ghost use Rattle.arena_ptr.specs.SlotStack.{capped};
     ghost use Rattle.arena_ptr.specs.Slots.{slots_have_room, slots_fit};
@@ -49,7 +49,7 @@ impl<E: Drop> SlotStack for LimitedStack<E> {
 
     ghost initial_maximum = { None };
 
-    ghost next_capacity = { λ s. capped s.most (2 * vec_capacity s.slots) };
+    ghost may_reach = { λ old maximum n new. new ≡ max n (capped maximum (2 * old)) };
 
     ghost with_item = { with_item_at };
 

@@ -1,4 +1,4 @@
-ghost use Rattle.std.specs.Prelude.{◌≡◌, ℕ, ◌+◌, ◌^◌, ◌<◌, ◌≤◌, ◌↔◌, List, [], ◌∷◌, ◌++◌, length, take, swap, slice_get, slice_set, Option, Some, Ok, Err, IsOk, OnOk, OnErr, option_copied};
+ghost use Rattle.std.specs.Prelude.{◌≡◌, ℕ, ◌+◌, ◌^◌, ◌<◌, ◌≤◌, ◌↔◌, ⊤, List, [], ◌∷◌, ◌++◌, length, take, swap, slice_get, slice_set, Option, Some, Ok, Err, IsOk, OnOk, OnErr, option_copied};
 ghost use Rattle.std.specs.Option.{option_copied_mut};
 ghost use Rattle.std.specs.Borrow.{LendsIf, sem};
 ghost use Rattle.arena_ptr.specs.SlotStack.{IsBeyond, IsWithinMaximum};
@@ -23,8 +23,8 @@ pub trait SlotStack: Drop {
     // The maximum of a new stack.
     ghost initial_maximum: { Option ℕ };
 
-    // The capacity that a growth reaches at least. The default says nothing.
-    ghost next_capacity: { Self → ℕ } = { λ _. 0 };
+    // From a capacity, under a maximum, a growth to room for so many items may reach a capacity. The default says nothing.
+    ghost may_reach: { ℕ → Option ℕ → ℕ → ℕ → Type 0 } = { λ _ _ _ _. ⊤ };
 
     // The stack after a write of an item at a position.
     ghost with_item: { Self → ℕ → Self.Item → Self };
@@ -53,7 +53,7 @@ pub trait SlotStack: Drop {
     /// Grows so that there may be `n` items. Up to the capacity nothing changes.
     ///
     /// Above the maximum the answer is `BeyondMaxCapacity`, which is tested first, and else `AllocError` where
-    /// memory was refused. After either nothing has changed. How far the capacity goes beyond `n` is open.
+    /// memory was refused. After either nothing has changed. How far a growth goes is the stack's to say.
     fn reserve_to(&mut self, n: usize) -> Result<(), ReallocationError>
         ensures items { items self.new ≡ items self.old }
         ensures maximum { maximum self.new ≡ maximum self.old }
@@ -61,7 +61,7 @@ pub trait SlotStack: Drop {
         ensures within { n ≤ capacity self.old → (result ≡ Ok tt) × (capacity self.new ≡ capacity self.old) }
         ensures beyond { (result ≡ Err ReallocationError.BeyondMaxCapacity) ↔ IsBeyond (maximum self.old) n }
         ensures grown { OnOk result (n ≤ capacity self.new) }
-        ensures ample { OnOk result (capacity self.old < n → next_capacity self.old ≤ capacity self.new) }
+        ensures reached { OnOk result (capacity self.old < n → may_reach (capacity self.old) (maximum self.old) n (capacity self.new)) }
         ensures never_less { capacity self.old ≤ capacity self.new }
         ensures refused { OnErr result (capacity self.new ≡ capacity self.old) };
 
