@@ -35,7 +35,14 @@ impl<I, W: Copy> PackedOption<I, W> {
 }
 
 impl<W: Copy, I: PtrInx<Word = W>> fmt::Debug for PackedOption<I, W> {
-    fn fmt<F: fmt::Write>(&self, f: &mut fmt::Formatter<F>) -> fmt::Result {
-        write!(f, "{:?}", I::unpack(*self))
+    ghost use Rattle.std.specs.Prelude.{Option};
+    ghost use Rattle.std.specs.Option.{option_map};
+    ghost use Rattle.std.specs.Fmt.{DisplaysOnOk, debug_option};
+
+    /// Writes the optional index that is packed, as `Option` writes it.
+    fn fmt<F: fmt::Write>(&self, f: &mut fmt::Formatter<F>) -> fmt::Result
+        ensures { (i : Option I) → option_map I.number i ≡ I.packed_number self.now → DisplaysOnOk F.write_str_gives f.old result (debug_option I.debug_output i) f.new }
+    {
+        fmt::Debug::fmt(&I::unpack(*self), f)
     }
 }
