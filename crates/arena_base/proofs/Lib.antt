@@ -7,6 +7,7 @@ mod FreeSlots
 pub mod Gathering
 mod Holding
 pub mod Ranging
+pub mod Reaching
 pub mod Reading
 pub mod Seeing
 mod Soundness

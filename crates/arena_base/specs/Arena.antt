@@ -143,6 +143,21 @@ module _ {Gen T : Type 0} where
   abbrev pub HasRoom : ℕ → ℕ → Arena Gen T → Type 0
   HasRoom greatest n a = IsRoom greatest a.maximum n a.capacity × (a.capacity ≡ min a.stack_capacity greatest) × IsWithinMaximum a.maximum a.stack_capacity
 
+  -- the capacity of the stack stays, or a growth to room for n may reach it
+  abbrev pub IsWithinReach : (ℕ → Option ℕ → ℕ → ℕ → Type 0) → ℕ → Arena Gen T → Arena Gen T → Type 0
+  IsWithinReach may_reach n old new = (new.stack_capacity ≡ old.stack_capacity) ⊎ may_reach old.stack_capacity old.maximum n new.stack_capacity
+
+  -- a new arena with room for n entries: but for its room it is as one without room, and that it is without any where n is 0
+  pub record IsStart (may_reach : ℕ → Option ℕ → ℕ → ℕ → Type 0) (first : Gen) (maximum : Option ℕ) (n : ℕ) (a : Arena Gen T) : Type 0 where
+    pub state : a ≡ with_capacity_of (new_arena first maximum) a
+    pub none : n ≡ 0 → a ≡ new_arena first maximum
+    pub reached : IsWithinReach may_reach n (new_arena first maximum) a
+
+  -- an arena has grown to room for n entries, if it had not that room, and as far as its stack may reach
+  pub record HasGrownTo (may_reach : ℕ → Option ℕ → ℕ → ℕ → Type 0) (greatest n : ℕ) (old new : Arena Gen T) : Type 0 where
+    pub room : HasRoom greatest n new
+    pub reached : IsWithinReach may_reach n old new
+
   -- each free slot stands in the freed list exactly once, and nothing else does
   pub record IsListed (a : Arena Gen T) : Type 0 where
     pub apart : HasNoRepetition a.freed

@@ -7,7 +7,7 @@ ghost use Rattle.arena_base.specs.Slots.{entry_of};
 ghost use Rattle.arena_base.specs.Entries.{entries, entries_from, key_at, first_key, last_key};
 ghost use Rattle.arena_base.specs.Advancing.{ahead};
 ghost use Rattle.arena_base.specs.Compacting.{held_of, lent_out, returned, with_placement, with_touch};
-ghost use Rattle.arena_base.specs.Arena.{entry_at, entry_count, next_index, insert_next, remove_at, renewed_at, with_counter, with_capacity_of, with_maximum, new_arena, HasRoom};
+ghost use Rattle.arena_base.specs.Arena.{entry_at, entry_count, next_index, insert_next, remove_at, renewed_at, with_counter, with_capacity_of, with_maximum, new_arena, HasRoom, HasGrownTo, IsWithinReach};
 
 use crate::held::HeldSlots;
 use crate::listing::{relist, trim};
@@ -132,7 +132,7 @@ impl<P: PtrKey, T: Drop, S: SlotStack<Item = ArenaSlot<P, T>>> Arena<P, T, S> {
     pub fn insert_reallocating(&mut self, t: T) -> Result<P, ReallocationError>
         ensures ptr { IfOk result (λ p. P.key p ≡ (next_index self.old, self.old.counter)) }
         ensures ok { OnOk result (self.new ≡ with_capacity_of (insert_next self.old t) self.new) }
-        ensures grown { OnOk result (HasRoom P.Inx.greatest (entry_count self.old + 1) self.new) }
+        ensures grown { OnOk result (HasGrownTo S.may_reach P.Inx.greatest (entry_count self.old + 1) self.old self.new) }
         ensures err { OnErr result (self.new ≡ self.old) }
         ensures room { entry_count self.old < self.old.capacity → IsOk result × (self.new ≡ insert_next self.old t) }
         ensures beyond { (result ≡ Err ReallocationError.BeyondMaxCapacity) ↔
@@ -151,7 +151,7 @@ impl<P: PtrKey, T: Drop, S: SlotStack<Item = ArenaSlot<P, T>>> Arena<P, T, S> {
         ensures beyond { (result ≡ Err ReallocationError.BeyondMaxCapacity) ↔
             ((entry_count self.old ≡ self.old.capacity) × IsBeyond self.old.maximum (entry_count self.old + 1)) }
         ensures greatest { entry_count self.old ≡ P.Inx.greatest → IsErr result }
-        ensures ok { OnOk result (HasRoom P.Inx.greatest (entry_count self.old + 1) self.new) }
+        ensures ok { OnOk result (HasGrownTo S.may_reach P.Inx.greatest (entry_count self.old + 1) self.old self.new) }
         ensures err { OnErr result (self.new ≡ self.old) }
         ensures after { self.new ≡ with_capacity_of self.old self.new }
     {
@@ -174,7 +174,8 @@ impl<P: PtrKey, T: Drop, S: SlotStack<Item = ArenaSlot<P, T>>> Arena<P, T, S> {
     pub(crate) fn grow_to(&mut self, n: usize) -> Result<(), ReallocationError>
         ensures beyond { (result ≡ Err ReallocationError.BeyondMaxCapacity) ↔ IsBeyond self.old.maximum n }
         ensures greatest { P.Inx.greatest < n → IsErr result }
-        ensures ok { OnOk result (HasRoom P.Inx.greatest n self.new) }
+        ensures ok { OnOk result (HasGrownTo S.may_reach P.Inx.greatest n self.old self.new) }
+        ensures reached { IsWithinReach S.may_reach n self.old self.new }
         ensures err { OnErr result (self.new ≡ self.old) }
         ensures after { self.new ≡ with_capacity_of self.old self.new }
         ensures never_less { self.old.capacity ≤ self.new.capacity }

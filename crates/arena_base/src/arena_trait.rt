@@ -19,7 +19,7 @@ use std::alloc::Global;
 
 impl<P: PtrKey, T: Drop, S: SlotStack<Item = ArenaSlot<P, T>>> ArenaTrait<P, T> for Arena<P, T, S> {
     ghost use Rattle.std.specs.Prelude.{◌≡◌};
-    ghost use Rattle.arena_base.specs.Arena.{entry_at, new_arena, with_capacity_of, with_value, renewed_at, remove_at, cleared};
+    ghost use Rattle.arena_base.specs.Arena.{entry_at, with_capacity_of, IsWithinReach, IsStart, with_value, renewed_at, remove_at, cleared};
     ghost use Rattle.std.specs.Option.{option_map};
     ghost use Rattle.arena_base.specs.Entries.{seen_of, entries};
     ghost use Rattle.arena_base.specs.EntryLaws.{entries_rise, found-entries};
@@ -33,9 +33,9 @@ impl<P: PtrKey, T: Drop, S: SlotStack<Item = ArenaSlot<P, T>>> ArenaTrait<P, T> 
 
     ghost looks = { λ a. a.look };
 
-    ghost starts = { λ n a. (a ≡ with_capacity_of (new_arena P.Gen.first S.initial_maximum) a) × (n ≡ 0 → a ≡ new_arena P.Gen.first S.initial_maximum) };
+    ghost starts = { λ n a. IsStart S.may_reach P.Gen.first S.initial_maximum n a };
 
-    ghost grows = { λ a b. b ≡ with_capacity_of a b };
+    ghost grows = { λ n a b. (b ≡ with_capacity_of a b) × IsWithinReach S.may_reach n a b };
 
     ghost writes = { λ a i t b. b ≡ with_value a i t };
 

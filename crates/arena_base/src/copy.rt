@@ -1,7 +1,7 @@
 // An arena made a copy of another, with other values.
 ghost use Rattle.std.specs.Prelude.{◌≡◌, ◌≤◌, ◌↔◌, ◌⊎◌, [], map, length, IsOk, OnOk, OnErr, Err};
 ghost use Rattle.arena_ptr.specs.SlotStack.{IsBeyond};
-ghost use Rattle.arena_base.specs.Arena.{HasRoom};
+ghost use Rattle.arena_base.specs.Arena.{HasRoom, IsWithinReach};
 ghost use Rattle.arena_base.specs.Slots.{entry_of, without_values};
 ghost use Rattle.arena_base.specs.Entries.{entries, entries_from};
 ghost use Rattle.arena_base.specs.Copying.{CopiesBy, HasRefusable, HasSlotsOf, IsGivenUp};
@@ -92,6 +92,7 @@ impl<P: PtrKey, T: Drop, S: SlotStack<Item = ArenaSlot<P, T>>> Arena<P, T, S> {
         ensures copied { OnOk result.0 (CopiesBy M.makes P.key values (entries source.now) (entries self.new) result.1) }
         ensures slots { OnOk result.0 (HasSlotsOf source.now self.old self.new) }
         ensures never_less { self.old.capacity ≤ self.new.capacity }
+        ensures reached { IsWithinReach S.may_reach (length source.now.slots) self.old self.new }
         ensures err { OnErr result.0 (((self.new ≡ self.old) × (result.1 ≡ values))
             ⊎ (HasRefusable M.may_refuse P.key (entries source.now) × IsGivenUp self.old self.new)) }
     {
@@ -122,8 +123,9 @@ impl<P: PtrKey, T: Drop, S: SlotStack<Item = ArenaSlot<P, T>>> Arena<P, T, S> {
 impl<P: PtrKey, T: Drop, S: SlotStack<Item = ArenaSlot<P, T>>> ArenaCloneFromWith<P, T>
     for Arena<P, T, S> {
     ghost use Rattle.arena_base.specs.Copying.{HasSlotsOf};
+    ghost use Rattle.arena_base.specs.Arena.{IsWithinReach};
 
-    ghost copies = { λ _ source old new. HasSlotsOf source old new };
+    ghost copies = { λ _ source old new. HasSlotsOf source old new × IsWithinReach S.may_reach (length source.slots) old new };
 
     fn clone_from_by<U: Drop, S1: SlotStack<Item = ArenaSlot<P, U>>, M: ValueMap<P, U, T>>(
         &mut self,

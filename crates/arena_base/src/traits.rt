@@ -65,9 +65,10 @@ pub trait ArenaTrait<P: PtrKey, T: Drop> {
     // What more is known of a new arena with room for so many entries.
     ghost starts: { ℕ → Self → Type 0 } = { λ _ _. ⊤ };
 
-    // What more is known of the second arena than what is seen, after a growth of the first; after a write of a value
-    // at an index; after the entry there got the next generation; after its removal; after a clear; after a compression.
-    ghost grows: { Self → Self → Type 0 } = { λ _ _. ⊤ };
+    // What more is known of the second arena than what is seen, after a growth of the first to room for so many entries;
+    // after a write of a value at an index; after the entry there got the next generation; after its removal; after a clear;
+    // after a compression.
+    ghost grows: { ℕ → Self → Self → Type 0 } = { λ _ _ _. ⊤ };
 
     ghost writes: { Self → ℕ → T → Self → Type 0 } = { λ _ _ _ _. ⊤ };
 
@@ -130,7 +131,7 @@ pub trait ArenaTrait<P: PtrKey, T: Drop> {
         ensures err { OnErr result (self.new ≡ self.old) }
         ensures after { seen self.new ≡ with_capacity (seen self.old) (seen self.new).capacity }
         ensures never_less { (seen self.old).capacity ≤ (seen self.new).capacity }
-        ensures more { grows self.old self.new };
+        ensures more { grows n self.old self.new };
 
     /// The counter of generations, where there is a single one.
     fn singular_generation(&self) -> Option<P::Gen>

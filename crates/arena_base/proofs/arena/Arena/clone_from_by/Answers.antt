@@ -5,6 +5,7 @@ use Rattle.arena_base.specs.Slots.{entry_of}
 use Rattle.arena_base.proofs.Soundness.{closed, none_sound}
 use Rattle.arena_base.proofs.Alike.{sound_too}
 use Rattle.arena_base.proofs.Copying.{has_slots_of, given_up, on_err_is, on_ok_is, same_room}
+use Rattle.arena_base.proofs.Reaching.{same_reach, stays_within_reach}
 use Rattle.arena_base.proofs.arena.Arena.clone_from_by.Goals as goal
 
 pub invariant_of-self : goal.invariant_of-self
@@ -32,8 +33,9 @@ returns-in-Ok-copied g c =
       copied = rw (← c.source.view_is) (on_ok_is c.copy_slots-copied.result.0 _ c.in-Ok-copied.is c.copy_slots-copied.ensures.copies);
       slots = has_slots_of g.P.Inx.InxKey.number (g.S1.SlotStack.items source.slots) (g.S.SlotStack.items c.copy_slots-copied.new.slots) (on_ok_is c.copy_slots-copied.result.0 _ c.in-Ok-copied.is c.copy_slots-copied.ensures.alike) greatest source.len source.first_free c.source.invariant
           c.args.source.now c.args.self.now c.reallocate_min_capacity.new.self source.counter self.counter _ (g.S.SlotStack.items self.slots) (g.S1.SlotStack.capacity source.slots) (g.S.SlotStack.capacity self.slots) (g.S.SlotStack.capacity c.copy_slots-copied.new.slots) (g.S1.SlotStack.maximum source.slots) (g.S.SlotStack.maximum self.slots) (g.S.SlotStack.maximum c.copy_slots-copied.new.slots)
-          source.placed.count source.touched.count self.placed.count self.touched.count c.len.result stays limit c.source.view_is c.self.view_is grown.more c.len.ensures (λ few. (grown.within few).1);
+          source.placed.count source.touched.count self.placed.count self.touched.count c.len.result stays limit c.source.view_is c.self.view_is grown.more.0 c.len.ensures (λ few. (grown.within few).1);
       never_less = omega (arith, room, grown.never_less);
+      reached = same_reach g.S.SlotStack.may_reach (length c.args.source.now.slots) c.args.self.now c.reallocate_min_capacity.new.self (stays ∙ ap (λ a. a.stack_capacity) c.self.view_is) (rw (← count) grown.more.1);
       err = tt;
     }
 
@@ -54,10 +56,11 @@ returns-in-Err-copied g c =
       copied = tt;
       slots = tt;
       never_less = omega (arith, room, grown.never_less);
+      reached = same_reach g.S.SlotStack.may_reach (length c.args.source.now.slots) c.args.self.now c.reallocate_min_capacity.new.self (stays ∙ ap (λ a. a.stack_capacity) c.self.view_is) (rw (← count) grown.more.1);
       err = inr (
         rw (← c.source.view_is) (on_err_is c.copy_slots-copied.result.0 _ c.in-Err-copied.is c.copy_slots-copied.ensures.refused),
         given_up g.P.Inx.InxKey.number (g.S.SlotStack.items c.truncate-in-Err-copied.new.self) (g.S.SlotStack.items self.slots) _ self.counter greatest (g.S.SlotStack.capacity c.truncate-in-Err-copied.new.self) (g.S.SlotStack.capacity self.slots) (g.S.SlotStack.maximum c.truncate-in-Err-copied.new.self) (g.S.SlotStack.maximum self.slots)
-            self.placed.count self.touched.count c.args.self.now c.reallocate_min_capacity.new.self c.truncate-in-Err-copied.ensures.items stays limit c.self.view_is grown.more,
+            self.placed.count self.touched.count c.args.self.now c.reallocate_min_capacity.new.self c.truncate-in-Err-copied.ensures.items stays limit c.self.view_is grown.more.0,
       );
     }
 
@@ -72,5 +75,6 @@ returns-in-Err g c =
       copied = tt;
       slots = tt;
       never_less = refused.never_less;
+      reached = stays_within_reach g.S.SlotStack.may_reach (length c.args.source.now.slots) c.args.self.now _ refused.err;
       err = inl (refused.err, refl);
     }

@@ -16,7 +16,7 @@ returns-in-Ok g c =
     record {
       ptr = made.ptr ∙ ap (λ a. (next_index a, a.counter)) after;
       ok = inserted_grown old _ _ c.args.t after made.after;
-      grown = room_grown old _ _ c.args.t after made.after g.P.Inx.InxKey.greatest (entry_count old + 1) c.in-Ok.ensures.ok;
+      grown = room_grown old _ _ c.args.t after made.after g.S.SlotStack.may_reach g.P.Inx.InxKey.greatest (entry_count old + 1) c.in-Ok.ensures.ok;
       err = tt;
       room = λ few. (refl, made.after ∙ ap (λ a. insert_next a c.args.t) (c.in-Ok.ensures.room few).1);
       beyond = (λ is. cc, λ both. let never = c.in-Ok.ensures.beyond.1 both in cc);

@@ -1,5 +1,5 @@
 -- An arena that is not full has fewer entries than its capacity.
-use Rattle.std.proofs.Common.{◌≡◌, ◌<◌, false, true, sym, ◌∙◌, refl, arith}
+use Rattle.std.proofs.Common.{◌≡◌, ◌<◌, false, true, sym, ◌∙◌, refl, inl, arith}
 use Rattle.arena_base.specs.Arena.{entry_count}
 use Rattle.arena_base.proofs.arena.Arena.make_room.Goals as goal
 
@@ -12,7 +12,10 @@ returns-else-is_full g c =
       room = λ _. (refl, refl);
       beyond = (λ is. cc, λ both. absurd (not_full both.0));
       greatest = λ most. absurd (omega (arith, less, most, room.0.at_most_greatest));
-      ok = (record { fits = omega (arith, less); at_most_greatest = room.0.at_most_greatest; within_maximum = room.0.within_maximum }, room.1, room.2);
+      ok = record {
+        room = (record { fits = omega (arith, less); at_most_greatest = room.0.at_most_greatest; within_maximum = room.0.within_maximum }, room.1, room.2);
+        reached = inl refl;
+      };
       err = tt;
       after = refl;
     }

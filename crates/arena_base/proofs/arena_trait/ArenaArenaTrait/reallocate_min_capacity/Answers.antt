@@ -12,9 +12,9 @@ returns g c =
       within = λ few. absurd (omega (arith, few, room, c.capacity.ensures, c.greatest.ensures.value, c.min.ensures));
       beyond = made.beyond;
       greatest = made.greatest;
-      ok = on_ok c.grow_to.result (λ has. has.0) made.ok;
+      ok = on_ok c.grow_to.result (λ has. has.room.0) made.ok;
       err = made.err;
       after = ap seen_of made.after;
       never_less = made.never_less;
-      more = made.after;
+      more = (made.after, made.reached);
     }
