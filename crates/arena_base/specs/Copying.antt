@@ -35,16 +35,11 @@ pub record HasRefusable {P U Gen : Type 0} (may_refuse : P → U → Type 0) (ke
   pub stands : source ≡ before ++ (key pointer, value) ∷ after
   pub refusable : may_refuse pointer value
 
--- a call of a closure that sees a value through a reference, where the value is looked at in some way
-pub record IsCopyCall {F P V U T : Type 0} (g : Mut F (P × (Bor V × Unit {0})) T) (look : V → U) (f : F) (p : P) (u : U) (t : T) (next : F) : Type 0 where
-  pub lent : Bor V
-  pub shows : look lent.now ≡ u
+-- a call of a closure that sees a value through a reference
+pub record IsCopyCall {F P U T : Type 0} (g : Mut F (P × (Bor U × Unit {0})) T) (f : F) (p : P) (u : U) (t : T) (next : F) : Type 0 where
+  pub lent : Bor U
+  pub shows : lent.now ≡ u
   pub called : Called g f (p, (lent, tt)) t next
-
-module _ {V : Type 0} where
-  -- a value as it is
-  abbrev pub itself : V → V
-  itself v = v
 
 -- as many slots as an arena has, with its freed list
 abbrev pub with_slots_of : {Gen U : Type 0} → Arena Gen U → Slots → Slots
@@ -59,7 +54,7 @@ pub record IsCopyBy {F P U T Gen : Type 0} (makes : F → P → U → T → F �
 
 -- .. where a closure makes the values
 abbrev pub IsCopy : {F P U T Gen : Type 0} → Mut F (P × (Bor U × Unit {0})) T → (P → ℕ × Gen) → F → Arena Gen U → Seen Gen T → Seen Gen T → Type 0
-IsCopy {F = F} g key f source old new = (last : F) × IsCopyBy (IsCopyCall g itself) key f source old new last
+IsCopy {F = F} g key f source old new = (last : F) × IsCopyBy (IsCopyCall g) key f source old new last
 
 -- the generation in each slot, where an entry stands there
 abbrev pub generations : {Gen T : Type 0} → List (Option (Gen × T)) → List (Option Gen)

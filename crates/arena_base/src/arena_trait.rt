@@ -33,7 +33,7 @@ impl<P: PtrKey, T: Drop, S: SlotStack<Item = ArenaSlot<P, T>>> ArenaTrait<P, T> 
 
     ghost looks = { λ a. a.look };
 
-    ghost starts = { λ n a. IsStart S.may_reach P.Gen.first S.initial_maximum n a };
+    ghost starts = { IsStart S.may_reach P.Gen.first S.initial_maximum };
 
     ghost grows = { λ n a b. (b ≡ with_capacity_of a b) × IsWithinReach S.may_reach n a b };
 

@@ -19,11 +19,11 @@ pub struct Answering<F> {
 }
 
 impl<P, U, T, F: FnMut(P, &U) -> T + Drop> ValueMap<P, U, T> for Answering<F> {
-    ghost use Rattle.arena_base.specs.Copying.{IsCopyCall, itself};
+    ghost use Rattle.arena_base.specs.Copying.{IsCopyCall};
 
     ghost is_ready = { λ m. F.IsAlwaysCallable m.map };
 
-    ghost makes = { λ m p u t n. IsCopyCall F.FnMut itself m.map p u t n.map };
+    ghost makes = { λ m p u t n. IsCopyCall F.FnMut m.map p u t n.map };
 
     ghost may_refuse = { λ _ _. ⊥ };
 
@@ -49,6 +49,7 @@ fn copy_slots<
     requires fits { length (S1.items source.now) ≤ P.Inx.greatest }
     ensures alike { OnOk result.0 (without_values (S.items slots.new) ≡ without_values (S1.items source.now)) }
     ensures copies { OnOk result.0 (CopiesBy M.makes P.key values (entries_from 1 (map entry_of (S1.items source.now))) (entries_from 1 (map entry_of (S.items slots.new))) result.1) }
+    ensures ready { OnOk result.0 (M.is_ready result.1) }
     ensures capacity { S.capacity slots.new ≡ S.capacity slots.old }
     ensures maximum { S.maximum slots.new ≡ S.maximum slots.old }
     ensures refused { OnErr result.0 (HasRefusable M.may_refuse P.key (entries_from 1 (map entry_of (S1.items source.now)))) }
@@ -73,8 +74,8 @@ fn copy_slots<
 
 impl<P: PtrKey, T: Drop, S: SlotStack<Item = ArenaSlot<P, T>>> Arena<P, T, S> {
     /// Becomes a copy of the source: its indexes, generations, counter, number of slots and freed list, with values that
-    /// the map makes. It is shown each entry of the source once, by rising index, and handed back. What the arena held is
-    /// dropped. It grows only where the source has more slots than its capacity.
+    /// the map makes. It is shown each entry of the source once, by rising index, and handed back, ready for more. What the
+    /// arena held is dropped. It grows only where the source has more slots than its capacity.
     ///
     /// `BeyondMaxCapacity`: the source has more slots than the maximum, which is tested first. `AllocError`: memory was
     /// refused. After either nothing has changed, and the map was shown nothing; but where the memory was refused for a
@@ -90,6 +91,7 @@ impl<P: PtrKey, T: Drop, S: SlotStack<Item = ArenaSlot<P, T>>> Arena<P, T, S> {
         ensures beyond { (result.0 ≡ Err ReallocationError.BeyondMaxCapacity) ↔ IsBeyond self.old.maximum (length source.now.slots) }
         ensures ok { OnOk result.0 (HasRoom P.Inx.greatest (length source.now.slots) self.new) }
         ensures copied { OnOk result.0 (CopiesBy M.makes P.key values (entries source.now) (entries self.new) result.1) }
+        ensures ready { OnOk result.0 (M.is_ready result.1) }
         ensures slots { OnOk result.0 (HasSlotsOf source.now self.old self.new) }
         ensures never_less { self.old.capacity ≤ self.new.capacity }
         ensures reached { IsWithinReach S.may_reach (length source.now.slots) self.old self.new }

@@ -298,8 +298,8 @@ pub trait ArenaCloneFromWith<P: PtrKey, T: Drop>: ArenaTrait<P, T> {
     ghost copies: { (U : Type 0) → State P.Gen U → Self → Self → Type 0 } = { λ _ _ _ _. ⊤ };
 
     /// Becomes a copy of the source: its indexes, generations, counter, number of slots and freed list, with values that
-    /// the map makes. It is shown each entry of the source once, by rising index, and handed back. What the arena held is
-    /// dropped. It grows only where the source has more slots than its capacity.
+    /// the map makes. It is shown each entry of the source once, by rising index, and handed back, ready for more. What the
+    /// arena held is dropped. It grows only where the source has more slots than its capacity.
     ///
     /// `BeyondMaxCapacity`: the source has more slots than the maximum, which is tested first. `AllocError`: memory was
     /// refused. After either nothing has changed, and the map was shown nothing; but where the memory was refused for a
@@ -315,6 +315,7 @@ pub trait ArenaCloneFromWith<P: PtrKey, T: Drop>: ArenaTrait<P, T> {
         ensures beyond { (result.0 ≡ Err ReallocationError.BeyondMaxCapacity) ↔ IsBeyond (Self.seen self.old).maximum (length source.now.slots) }
         ensures ok { OnOk result.0 (IsRoom P.Inx.greatest (Self.seen self.new).maximum (length source.now.slots) (Self.seen self.new).capacity) }
         ensures copied { OnOk result.0 (IsCopyBy M.makes P.key values source.now (Self.seen self.old) (Self.seen self.new) result.1) }
+        ensures ready { OnOk result.0 (M.is_ready result.1) }
         ensures never_less { (Self.seen self.old).capacity ≤ (Self.seen self.new).capacity }
         ensures err { OnErr result.0 (((self.new ≡ self.old) × (result.1 ≡ values))
             ⊎ (HasRefusable M.may_refuse P.key (entries source.now) × IsLeftEmpty (Self.seen self.old) (Self.seen self.new))) }

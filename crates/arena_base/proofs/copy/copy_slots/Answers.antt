@@ -43,6 +43,7 @@ returns g c =
     record {
       alike = copied_alike g.M.ValueMap.makes g.P.PtrKey.key c.args.values old c.loop-k.k c.loop-k.values slots at.copying (omega arith);
       copies = copied_all g.M.ValueMap.makes g.P.PtrKey.key c.args.values old c.loop-k.k c.loop-k.values slots at.copying (omega arith);
+      ready = at.ready;
       capacity = at.room;
       maximum = at.most;
       refused = tt;
@@ -54,6 +55,7 @@ returns-in-Err g c =
     record {
       alike = tt;
       copies = tt;
+      ready = tt;
       capacity = at.room;
       maximum = at.most;
       refused =

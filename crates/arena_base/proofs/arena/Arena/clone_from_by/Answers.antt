@@ -31,6 +31,7 @@ returns-in-Ok-copied g c =
       beyond = (λ is. cc, λ beyond. let never = grown.beyond.1 (rw count beyond) in cc);
       ok = (same_room count room (limit ∙ ap (λ a. a.maximum) c.self.view_is) grown.ok, refl, g.met.S.SlotStack.within_maximum c.copy_slots-copied.new.slots);
       copied = rw (← c.source.view_is) (on_ok_is c.copy_slots-copied.result.0 _ c.in-Ok-copied.is c.copy_slots-copied.ensures.copies);
+      ready = on_ok_is c.copy_slots-copied.result.0 _ c.in-Ok-copied.is c.copy_slots-copied.ensures.ready;
       slots = has_slots_of g.P.Inx.InxKey.number (g.S1.SlotStack.items source.slots) (g.S.SlotStack.items c.copy_slots-copied.new.slots) (on_ok_is c.copy_slots-copied.result.0 _ c.in-Ok-copied.is c.copy_slots-copied.ensures.alike) greatest source.len source.first_free c.source.invariant
           c.args.source.now c.args.self.now c.reallocate_min_capacity.new.self source.counter self.counter _ (g.S.SlotStack.items self.slots) (g.S1.SlotStack.capacity source.slots) (g.S.SlotStack.capacity self.slots) (g.S.SlotStack.capacity c.copy_slots-copied.new.slots) (g.S1.SlotStack.maximum source.slots) (g.S.SlotStack.maximum self.slots) (g.S.SlotStack.maximum c.copy_slots-copied.new.slots)
           source.placed.count source.touched.count self.placed.count self.touched.count c.len.result stays limit c.source.view_is c.self.view_is grown.more.0 c.len.ensures (λ few. (grown.within few).1);
@@ -54,6 +55,7 @@ returns-in-Err-copied g c =
       beyond = (λ is. cc, λ beyond. let never = grown.beyond.1 (rw count beyond) in cc);
       ok = tt;
       copied = tt;
+      ready = tt;
       slots = tt;
       never_less = omega (arith, room, grown.never_less);
       reached = same_reach g.S.SlotStack.may_reach (length c.args.source.now.slots) c.args.self.now c.reallocate_min_capacity.new.self (stays ∙ ap (λ a. a.stack_capacity) c.self.view_is) (rw (← count) grown.more.1);
@@ -73,6 +75,7 @@ returns-in-Err g c =
       beyond = rw (← count) refused.beyond;
       ok = tt;
       copied = tt;
+      ready = tt;
       slots = tt;
       never_less = refused.never_less;
       reached = stays_within_reach g.S.SlotStack.may_reach (length c.args.source.now.slots) c.args.self.now _ refused.err;

@@ -1,5 +1,5 @@
 -- What the map of the closure has made, the closure has answered.
-use Rattle.arena_base.specs.Copying.{IsCopyCall, itself}
+use Rattle.arena_base.specs.Copying.{IsCopyCall}
 use Rattle.arena_base.proofs.Copying.{copy_by, on_err_by, on_ok, surely}
 use Rattle.arena_base.proofs.traits.ArenaCloneFromWith.clone_from_with.Goals as goal
 
@@ -9,7 +9,7 @@ returns-clause-within g c few = surely (λ never. never.refusable) (c.clone_from
 pub returns-clause-copied : goal.returns-clause-copied
 returns-clause-copied g c =
     let called = c.clone_from_by-done in
-    let calls = IsCopyCall g.F.FnMut itself in
+    let calls = IsCopyCall g.F.FnMut in
     on_ok called.result.0 (λ made. (called.result.1.map, copy_by (λ m p u t n. calls m.map p u t n.map) calls (λ m. m.map) (λ v p u t w m. m) g.P.PtrKey.key _ called.result.1 c.args.source.now _ _ made)) called.ensures.copied
 
 pub returns-clause-err : goal.returns-clause-err
