@@ -227,7 +227,7 @@ pub trait ChainArenaTrait<P: PtrKey, T: Drop>: ArenaTrait<P, T> {
     ghost stand: { (a : Self) (i : ℕ) → is_some (interlinks a i) ≡ is_some (Self.entry a i) };
 
     // What the calls of `ArenaTrait` do to chains.
-    ghost grown: { (a b : Self) → Self.grows a b → interlinks b ≡ interlinks a };
+    ghost grown: { (n : ℕ) (a b : Self) → Self.grows n a b → interlinks b ≡ interlinks a };
 
     ghost written: { (a b : Self) (i : ℕ) (t : T) → Self.writes a i t b → interlinks b ≡ interlinks a };
 

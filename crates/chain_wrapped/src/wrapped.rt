@@ -95,7 +95,7 @@ impl<P: PtrKey, T: Drop, A: ArenaTrait<P, T>> ArenaTrait<P, T> for Wrapped<A> {
 
     ghost starts = { λ n w. A.starts n w.inner };
 
-    ghost grows = { λ v w. A.grows v.inner w.inner };
+    ghost grows = { λ n v w. A.grows n v.inner w.inner };
 
     ghost writes = { λ v i t w. A.writes v.inner i t w.inner };
 
@@ -239,7 +239,7 @@ impl<P: PtrKey, T: Drop, A: ChainArenaTrait<P, T>> ChainArenaTrait<P, T> for Wra
 
     ghost stand = { λ w i. A.stand w.inner i };
 
-    ghost grown = { λ v w grows. A.grown v.inner w.inner grows };
+    ghost grown = { λ n v w grows. A.grown n v.inner w.inner grows };
 
     ghost written = { λ v w i t writes. A.written v.inner w.inner i t writes };
 
