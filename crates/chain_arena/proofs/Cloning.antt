@@ -11,7 +11,7 @@ use Rattle.arena_ptr.specs.declared.errors.ReallocationError.{ReallocationError}
 use Rattle.chain_laws.specs.Chains.{Interlinks, Agrees}
 use Rattle.arena_base.specs.Arena.{Arena, slot_at, new_arena}
 use Rattle.arena_base.specs.Entries.{Seen, Slots, entries_from, entries}
-use Rattle.arena_base.specs.Copying.{Copied, Makes, CopiesBy, IsCopyBy, IsCopyCall, itself, HasRefusable, HasSlotsOf, IsGivenUp, generations}
+use Rattle.arena_base.specs.Copying.{Copied, Makes, CopiesBy, IsCopyBy, IsCopyCall, HasRefusable, HasSlotsOf, IsGivenUp, generations}
 use Rattle.chain_links.specs.declared.links.LinkBody.{LinkBody}
 use Rattle.chain_links.specs.ChainArena.{LinkSeen, on_value, interlinks_in, interlinks_of, shown, values_of}
 use Rattle.chain_links.specs.Links.{seen_link, seen_links, seen_pair, held_in}
@@ -161,40 +161,40 @@ module _ {V F P K U T Gen : Type 0} (number : K → Option ℕ) (makes : F → P
 
 -- What is shown each link is shown it as contracts see it.
 module _ {F P K U T Gen : Type 0} (number : K → Option ℕ) (makes : F → P → LinkBody K U → T → F → Type 0) (key : P → ℕ × Gen) (f last : F) (source : Arena Gen (LinkBody K U)) (old new : Seen Gen T) where
-  as_it_is : (es : List ((ℕ × Gen) × T)) → map (on_value itself) es ≡ es
+  as_it_is : (es : List ((ℕ × Gen) × T)) → map (on_value (λ t. t)) es ≡ es
   as_it_is [] = refl
   as_it_is (e ∷ es) = ap (λ rest. e ∷ rest) (as_it_is es)
 
   pub copy_as_seen : IsCopyBy makes key f source old new last → IsCopyBy (MakesOf (seen_link number) makes) key f (seen_links number source) old new last
   copy_as_seen copy = record {
     entries = subst (λ es. CopiesBy (MakesOf (seen_link number) makes) key f (entries (seen_links number source)) es last) (as_it_is new.entries)
-        (subst (λ es. CopiesBy (MakesOf (seen_link number) makes) key f es (map (on_value itself) new.entries) last) (seen_entries-all number source)
-        (copies_seen makes (MakesOf (seen_link number) makes) (λ h. h) (seen_link number) itself
+        (subst (λ es. CopiesBy (MakesOf (seen_link number) makes) key f es (map (on_value (λ t. t)) new.entries) last) (seen_entries-all number source)
+        (copies_seen makes (MakesOf (seen_link number) makes) (λ h. h) (seen_link number) (λ t. t)
         (λ v p u t w made. record { shown = u; looks = refl; made = made }) key f last (entries source) new.entries copy.entries));
     counter = copy.counter;
     slots = copy.slots ∙ ap (λ n. option_map (λ (s : Slots). let t : Slots = record s { count = n; freed = source.freed } in t) old.slots) (sym (length-with_each (seen_link number) source));
     maximum = copy.maximum;
   }
 
--- What a closure makes of what it sees, by how that looks.
+-- What a closure makes of what it sees, where the closure is a part of what makes the values.
 pub called_of : {V F P K U T : Type 0} (g : Mut F (P × (Bor (LinkBody K U) × Unit {0})) T) (see : V → F) (look : LinkBody K U → LinkSeen U) (v : V) (p : P) (u : LinkSeen U) (t : T) (w : V)
-    → MakesOf look (λ x p u t y. IsCopyCall g itself (see x) p u t (see y)) v p u t w → IsCopyCall g look (see v) p u t (see w)
-called_of g see look v p u t w makes = record { lent = makes.made.lent; shows = ap look makes.made.shows ∙ makes.looks; called = makes.made.called }
+    → MakesOf look (λ x p u t y. IsCopyCall g (see x) p u t (see y)) v p u t w → MakesOf look (IsCopyCall g) (see v) p u t (see w)
+called_of g see look v p u t w makes = record { shown = makes.shown; looks = makes.looks; made = makes.made }
 
 -- .. in the copy of an arena of links
 pub called_copies : {V F P K U T Gen : Type 0} (g : Mut F (P × (Bor (LinkBody K U) × Unit {0})) T) (see : V → F) (look : LinkBody K U → LinkSeen U) (key : P → ℕ × Gen) (f last : V) (source : Arena Gen (LinkSeen U)) (old new : Arena Gen (LinkSeen T))
-    → IsLinkCopyBy (MakesOf look (λ x p u t y. IsCopyCall g itself (see x) p u t (see y))) key f source old new last → IsLinkCopyBy (IsCopyCall g look) key (see f) source old new (see last)
+    → IsLinkCopyBy (MakesOf look (λ x p u t y. IsCopyCall g (see x) p u t (see y))) key f source old new last → IsLinkCopyBy (MakesOf look (IsCopyCall g)) key (see f) source old new (see last)
 called_copies g see look key f last source old new copy = record {
   slots = copy.slots;
   shows = copy.shows;
-  values = made_by (MakesOf look (λ x p u t y. IsCopyCall g itself (see x) p u t (see y))) (IsCopyCall g look) see (called_of g see look) key f last (entries source) (entries (values_of new)) copy.values;
+  values = made_by (MakesOf look (λ x p u t y. IsCopyCall g (see x) p u t (see y))) (MakesOf look (IsCopyCall g)) see (called_of g see look) key f last (entries source) (entries (values_of new)) copy.values;
 }
 
 -- .. and of any
 pub called_copy : {V F P K U T Gen : Type 0} (g : Mut F (P × (Bor (LinkBody K U) × Unit {0})) T) (see : V → F) (look : LinkBody K U → LinkSeen U) (key : P → ℕ × Gen) (f last : V) (source : Arena Gen (LinkSeen U)) (old new : Seen Gen T)
-    → IsCopyBy (MakesOf look (λ x p u t y. IsCopyCall g itself (see x) p u t (see y))) key f source old new last → IsCopyBy (IsCopyCall g look) key (see f) source old new (see last)
+    → IsCopyBy (MakesOf look (λ x p u t y. IsCopyCall g (see x) p u t (see y))) key f source old new last → IsCopyBy (MakesOf look (IsCopyCall g)) key (see f) source old new (see last)
 called_copy g see look key f last source old new copy =
-    copy_by (MakesOf look (λ x p u t y. IsCopyCall g itself (see x) p u t (see y))) (IsCopyCall g look) see (called_of g see look) key f last source old new copy
+    copy_by (MakesOf look (λ x p u t y. IsCopyCall g (see x) p u t (see y))) (MakesOf look (IsCopyCall g)) see (called_of g see look) key f last source old new copy
 
 -- The links of a clone look like those of the source.
 module _ {F P K T Gen : Type 0} (number : K → Option ℕ) (is_clone : T → T → Type 0) (equal : (x y : T) → is_clone x y → y ≡ x) (key : P → ℕ × Gen) (f last : F) (source : Arena Gen (LinkBody K T)) (old new : Arena Gen (LinkBody K T))
@@ -239,11 +239,6 @@ module _ {P K U Gen : Type 0} (number : K → Option ℕ) (may_refuse : P → Li
     by : (IsOk r ⊎ HasRefusable may_refuse key (entries source)) → ⊥
     by (inl ok) = false≢true (sym (ap is_ok is) ∙ ok)
     by (inr refused) = none_among refused.before refused.after (key refused.pointer, refused.value) (sym (ap (entries_from 1) (no_slots none)) ∙ refused.stands)
-
--- what holds after an answer, by two things that do
-pub on_ok_both : {X E A B C : Type 0} (r : Result X E) → (A → B → C) → OnOk r A → OnOk r B → OnOk r C
-on_ok_both (Ok x) both a b = both a b
-on_ok_both (Err e) both a b = tt
 
 -- what holds after an answer and after a refusal of two sorts
 pub either_way : {X E A B C D N : Type 0} (r : Result X E) → (A → B → C) → (D → C) → (N → C) → OnOk r A → OnOk r B → OnErr r (D ⊎ N) → C

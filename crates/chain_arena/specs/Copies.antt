@@ -36,7 +36,7 @@ pub record IsLinkCopyBy {F P U T Gen : Type 0} (makes : F → P → LinkSeen U �
 
 -- .. that a closure answered
 abbrev pub IsLinkCopy : {F P K U T Gen : Type 0} → Mut F (P × (Bor (LinkBody K U) × Unit {0})) T → (K → Option ℕ) → (P → ℕ × Gen) → F → Arena Gen (LinkSeen U) → Arena Gen (LinkSeen T) → Arena Gen (LinkSeen T) → Type 0
-IsLinkCopy {F = F} g number key f source old new = (last : F) × IsLinkCopyBy (IsCopyCall g (seen_link number)) key f source old new last
+IsLinkCopy {F = F} g number key f source old new = (last : F) × IsLinkCopyBy (MakesOf (seen_link number) (IsCopyCall g)) key f source old new last
 
 -- a new arena that has the links, the counter and the freed list of another, with room of its own
 abbrev pub IsClone : {Gen T : Type 0} → Gen → Option ℕ → Arena Gen (LinkSeen T) → Arena Gen (LinkSeen T) → Type 0

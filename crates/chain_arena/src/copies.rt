@@ -2,7 +2,7 @@
 ghost use Rattle.std.specs.Prelude.{◌≡◌, ◌≤◌, ◌↔◌, ◌⊎◌, [], length, IsOk, IfOk, OnOk, OnErr, Err};
 ghost use Rattle.arena_ptr.specs.SlotStack.{IsBeyond};
 ghost use Rattle.chain_laws.specs.Chains.{Agrees};
-ghost use Rattle.arena_base.specs.Arena.{HasRoom, IsRoom};
+ghost use Rattle.arena_base.specs.Arena.{HasRoom, IsRoom, IsWithinReach};
 ghost use Rattle.arena_base.specs.Entries.{entries};
 ghost use Rattle.arena_base.specs.Copying.{IsCopyBy, IsCopyCall, HasRefusable, IsGivenUp, IsLeftEmpty};
 ghost use Rattle.chain_links.specs.ChainArena.{shown};
@@ -52,8 +52,8 @@ impl<
 
 impl<P: PtrKey, T: Drop, S: SlotStack<Item = ArenaSlot<P, LinkNoGen<P, T>>>> ChainArena<P, T, S> {
     /// Becomes a copy of the source: its indexes, generations, counter, number of slots, freed list and interlinks, with
-    /// values that the map makes. It is shown each link of the source once, by rising index, and handed back. The links
-    /// that stood here are dropped. It grows only where the source has more slots than the capacity.
+    /// values that the map makes. It is shown each link of the source once, by rising index, and handed back, ready for
+    /// more. The links that stood here are dropped. It grows only where the source has more slots than the capacity.
     ///
     /// `BeyondMaxCapacity`: the source has more slots than the maximum, which is tested first. `AllocError`: memory was
     /// refused. After either nothing has changed, and the map was shown nothing; but where the memory was refused for a
@@ -69,7 +69,9 @@ impl<P: PtrKey, T: Drop, S: SlotStack<Item = ArenaSlot<P, LinkNoGen<P, T>>>> Cha
         ensures beyond { (result.0 ≡ Err ReallocationError.BeyondMaxCapacity) ↔ IsBeyond self.old.maximum (length source.now.slots) }
         ensures ok { OnOk result.0 (HasRoom P.Inx.greatest (length source.now.slots) self.new) }
         ensures copied { OnOk result.0 (IsLinkCopyBy (MakesOf (seen_link P.Inx.packed_number) M.makes) P.key values source.now self.old self.new result.1) }
+        ensures ready { OnOk result.0 (M.is_ready result.1) }
         ensures never_less { self.old.capacity ≤ self.new.capacity }
+        ensures reached { IsWithinReach S.may_reach (length source.now.slots) self.old self.new }
         ensures err { OnErr result.0 (((self.new ≡ self.old) × (result.1 ≡ values))
             ⊎ (HasRefusable (RefusesOf (seen_link P.Inx.packed_number) M.may_refuse) P.key (entries source.now) × IsGivenUp self.old self.new)) }
         ensures agreed { Agrees (shown source.now) }
@@ -104,8 +106,8 @@ impl<P: PtrKey, T: Drop, S: SlotStack<Item = ArenaSlot<P, LinkNoGen<P, T>>>> Cha
     }
 
     /// Makes any arena a copy: with the indexes, generations, counter, number of slots and freed list of this one, and
-    /// values that the map makes. It is shown each link once, by rising index, and handed back. What the arena held is
-    /// dropped. It grows only where there are more slots than its capacity.
+    /// values that the map makes. It is shown each link once, by rising index, and handed back, ready for more. What the
+    /// arena held is dropped. It grows only where there are more slots than its capacity.
     ///
     /// `BeyondMaxCapacity`: there are more slots than its maximum, which is tested first. `AllocError`: memory was
     /// refused. After either nothing has changed, and the map was shown nothing; but where the memory was refused for a
@@ -121,6 +123,7 @@ impl<P: PtrKey, T: Drop, S: SlotStack<Item = ArenaSlot<P, LinkNoGen<P, T>>>> Cha
         ensures beyond { (result.0 ≡ Err ReallocationError.BeyondMaxCapacity) ↔ IsBeyond (A.seen arena.old).maximum (length self.now.slots) }
         ensures ok { OnOk result.0 (IsRoom P.Inx.greatest (A.seen arena.new).maximum (length self.now.slots) (A.seen arena.new).capacity) }
         ensures copied { OnOk result.0 (IsCopyBy (MakesOf (seen_link P.Inx.packed_number) M.makes) P.key values self.now (A.seen arena.old) (A.seen arena.new) result.1) }
+        ensures ready { OnOk result.0 (M.is_ready result.1) }
         ensures never_less { (A.seen arena.old).capacity ≤ (A.seen arena.new).capacity }
         ensures err { OnErr result.0 (((arena.new ≡ arena.old) × (result.1 ≡ values))
             ⊎ (HasRefusable (RefusesOf (seen_link P.Inx.packed_number) M.may_refuse) P.key (entries self.now) × IsLeftEmpty (A.seen arena.old) (A.seen arena.new))) }
@@ -145,7 +148,7 @@ impl<P: PtrKey, T: Drop, S: SlotStack<Item = ArenaSlot<P, LinkNoGen<P, T>>>> Cha
         ensures within { length self.now.slots ≤ (A.seen arena.old).capacity → IsOk result × ((A.seen arena.new).capacity ≡ (A.seen arena.old).capacity) }
         ensures beyond { (result ≡ Err ReallocationError.BeyondMaxCapacity) ↔ IsBeyond (A.seen arena.old).maximum (length self.now.slots) }
         ensures ok { OnOk result (IsRoom P.Inx.greatest (A.seen arena.new).maximum (length self.now.slots) (A.seen arena.new).capacity) }
-        ensures copied { OnOk result ((last : F) × IsCopyBy (IsCopyCall F.FnMut (seen_link P.Inx.packed_number)) P.key map self.now (A.seen arena.old) (A.seen arena.new) last) }
+        ensures copied { OnOk result ((last : F) × IsCopyBy (MakesOf (seen_link P.Inx.packed_number) (IsCopyCall F.FnMut)) P.key map self.now (A.seen arena.old) (A.seen arena.new) last) }
         ensures never_less { (A.seen arena.old).capacity ≤ (A.seen arena.new).capacity }
         ensures err { OnErr result (arena.new ≡ arena.old) }
         ensures more { OnOk result (IsCopyBelow P.Inx.packed_number (A.copies _) self.now arena.old arena.new) }

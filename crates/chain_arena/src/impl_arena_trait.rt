@@ -21,7 +21,7 @@ use std::alloc::Global;
 impl<P: PtrKey, T: Drop, S: SlotStack<Item = ArenaSlot<P, LinkNoGen<P, T>>>> ArenaTrait<P, T>
     for ChainArena<P, T, S> {
     ghost use Rattle.std.specs.Prelude.{◌≡◌};
-    ghost use Rattle.arena_base.specs.Arena.{entry_at, new_arena, with_capacity_of, renewed_at, cleared};
+    ghost use Rattle.arena_base.specs.Arena.{entry_at, with_capacity_of, IsWithinReach, IsStart, renewed_at, cleared};
     ghost use Rattle.std.specs.Option.{option_map};
     ghost use Rattle.arena_base.specs.Entries.{seen_of, entries};
     ghost use Rattle.arena_base.specs.EntryLaws.{entries_rise, found-entries};
@@ -37,9 +37,9 @@ impl<P: PtrKey, T: Drop, S: SlotStack<Item = ArenaSlot<P, LinkNoGen<P, T>>>> Are
 
     ghost looks = { λ a. a.look };
 
-    ghost starts = { λ n a. (a ≡ with_capacity_of (new_arena P.Gen.first S.initial_maximum) a) × (n ≡ 0 → a ≡ new_arena P.Gen.first S.initial_maximum) };
+    ghost starts = { IsStart S.may_reach P.Gen.first S.initial_maximum };
 
-    ghost grows = { λ a b. (b ≡ with_capacity_of a b) × (shown b ≡ shown a) };
+    ghost grows = { λ n a b. (b ≡ with_capacity_of a b) × (shown b ≡ shown a) × IsWithinReach S.may_reach n a b };
 
     ghost writes = { λ a i t b. (b ≡ with_value_at a i t) × (shown b ≡ shown a) };
 

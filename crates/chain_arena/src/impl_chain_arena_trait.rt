@@ -51,7 +51,7 @@ impl<P: PtrKey, T: Drop, S: SlotStack<Item = ArenaSlot<P, LinkNoGen<P, T>>>> Cha
 
     ghost stand = { links_stand };
 
-    ghost grown = { λ a b h. h.1 };
+    ghost grown = { λ n a b h. h.1 };
 
     ghost written = { λ a b i t h. h.1 };
 

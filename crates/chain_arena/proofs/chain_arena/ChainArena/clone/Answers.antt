@@ -23,4 +23,4 @@ returns-in-Ok-clause-copied g c =
     let made = c.clone_from_by-done in
     subst (λ a. IsClone g.P.Gen.GenKey.first g.S.SlotStack.initial_maximum a (seen_links number made.new.self)) c.self.view_is
     (is_clone_of number g.T.Clone.is_clone c.requires.clones_equal g.P.PtrKey.key _ made.result.1 c.self.inside.arena c.new-arena.result made.new.self
-    (on_ok_is made.result.0 _ c.in-Ok.is made.ensures.copied) (on_ok_is made.result.0 _ c.in-Ok.is made.ensures.slots) g.P.Gen.GenKey.first g.S.SlotStack.initial_maximum (c.new-arena.ensures.more.1 refl))
+    (on_ok_is made.result.0 _ c.in-Ok.is made.ensures.copied) (on_ok_is made.result.0 _ c.in-Ok.is made.ensures.slots) g.P.Gen.GenKey.first g.S.SlotStack.initial_maximum (c.new-arena.ensures.more.none refl))

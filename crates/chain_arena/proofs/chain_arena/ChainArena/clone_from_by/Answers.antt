@@ -1,12 +1,13 @@
 -- The links that are made of those of the source name the same neighbors.
 use Rattle.std.proofs.Common.{◌≤◌, ap, subst, sym}
 use Rattle.chain_laws.specs.Chains.{Agrees}
-use Rattle.arena_base.proofs.Copying.{either_as, on_err_either}
+use Rattle.arena_base.specs.Arena.{IsWithinReach}
+use Rattle.arena_base.proofs.Copying.{either_as, on_err_either, on_ok_both}
 use Rattle.chain_links.specs.ChainArena.{shown}
 use Rattle.chain_links.specs.Links.{seen_link, seen_links}
 use Rattle.chain_links.proofs.Mapping.{length-with_each}
 use Rattle.chain_arena.specs.Copies.{MakesOf}
-use Rattle.chain_arena.proofs.Cloning.{agrees_copied, either_way, given_up_agrees, link_copied, on_ok_both, refusable_seen}
+use Rattle.chain_arena.proofs.Cloning.{agrees_copied, either_way, given_up_agrees, link_copied, refusable_seen}
 use Rattle.chain_arena.proofs.chain_arena.ChainArena.clone_from_by.Goals as goal
 
 pub invariant_of-self : goal.invariant_of-self
@@ -43,3 +44,10 @@ returns-clause-err g c =
     rw (← c.source.view_is, ← c.self.view_is)
     (on_err_either called.result.0 (λ same. (ap (seen_links number) same.0, ap (λ m. m.values) same.1))
     (λ gave_up. (refusable_seen number g.M.ValueMap.may_refuse g.P.PtrKey.key c.source.inside.arena gave_up.0, ap (seen_links number) gave_up.1)) called.ensures.err)
+
+pub returns-clause-reached : goal.returns-clause-reached
+returns-clause-reached g c =
+    let number = g.P.Inx.InxKey.packed_number in
+    let source = c.source.inside.arena in
+    rw (← c.source.view_is, ← c.self.view_is)
+    (subst (λ n. IsWithinReach g.S.SlotStack.may_reach n c.self.inside.arena c.clone_from_by-done.new.self) (sym (length-with_each (seen_link number) source)) c.clone_from_by-done.ensures.reached)
