@@ -1,3 +1,5 @@
 pub mod Gaps
+pub mod Interlinks
+pub mod Steps
 pub mod Agreeing
 pub mod ChainArenaLaws

@@ -1,11 +1,11 @@
-ghost use Rattle.std.specs.Prelude.{◌≡◌, ℕ, suc, Some, None, IfSome, IfNone};
+ghost use Rattle.std.specs.Prelude.{◌≡◌, Some, IfSome, IfNone};
 ghost use Rattle.std.specs.Option.{option_map};
 ghost use Rattle.std.specs.Iterator.{YieldsFirstBy, item_count};
-ghost use Rattle.chain_laws.specs.Walks.{next_step};
 ghost use Rattle.arena_base.specs.Arena.{entry_at, IsValid};
-ghost use Rattle.chain_links.specs.ChainArena.{entry, shown};
+ghost use Rattle.chain_links.specs.ChainArena.{entry};
 ghost use Rattle.chain_links.specs.Links.{seen_links};
-ghost use Rattle.chain_links.specs.Walkers.{links_ahead, seen_item, index_and_entry, walker_of};
+ghost use Rattle.chain_links.specs.Walkers.{links_ahead, seen_item, index_and_entry};
+ghost use Rattle.chain_interlinks.specs.Steps.{Passes, PassesNothing};
 
 use arena_base::{Arena, ArenaSlot, ArenaTrait};
 use arena_ptr::{PtrKey, SlotStack};
@@ -128,10 +128,8 @@ pub fn step<P: PtrKey, T: Drop, S: SlotStack<Item = ArenaSlot<P, LinkNoGen<P, T>
     back: Option<P::Inx>,
 ) -> Option<(P, Option<P::Inx>, Option<P::Inx>)>
     ensures valid { IfSome result (λ s. IsValid (entry (seen_links P.Inx.packed_number arena.now)) (P.key s.0)) }
-    ensures some { IfSome result (λ s. (left : ℕ) → next_step (suc left) (shown (seen_links P.Inx.packed_number arena.now)) (P.Inx.number start) (option_map P.Inx.number forth) (option_map P.Inx.number back)
-        ≡ Some ((P.key s.0).0, walker_of P.Inx.number left start s.1 s.2)) }
-    ensures none { IfNone result ((left : ℕ) → IfSome (next_step left (shown (seen_links P.Inx.packed_number arena.now)) (P.Inx.number start) (option_map P.Inx.number forth) (option_map P.Inx.number back))
-        (λ step. entry (seen_links P.Inx.packed_number arena.now) step.0 ≡ None)) }
+    ensures some { IfSome result (λ s. Passes P.Inx.number (seen_links P.Inx.packed_number arena.now) start forth back (P.key s.0).0 s.1 s.2) }
+    ensures none { IfNone result (PassesNothing P.Inx.number (seen_links P.Inx.packed_number arena.now) start forth back) }
 {
     match forth {
         Some(i) => match look(arena, i) {

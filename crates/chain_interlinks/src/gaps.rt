@@ -1,12 +1,11 @@
 // Where a kind puts a new link: the two links that it comes between, found once for all kinds.
 ghost use Rattle.std.specs.Prelude.{◌≡◌, IsTrue, IsSome, IfSome, ◌↔◌, Some, None};
 ghost use Rattle.std.specs.Option.{option_map};
-ghost use Rattle.chain_laws.specs.Chains.{prev_of as shown_prev, next_of as shown_next};
 ghost use Rattle.chain_laws.specs.Insertions.{chain_end, chain_start, next_to, prev_to, at_interlink, bridge};
 ghost use Rattle.chain_links.specs.ChainArena.{shown, entry, interlinks_in};
 ghost use Rattle.chain_links.specs.Links.{seen_links, seen_link};
 ghost use Rattle.chain_links.specs.Kinds.{HasName, name_of, named_in};
-ghost use Rattle.chain_interlinks.specs.Gaps.{IsGapOf};
+ghost use Rattle.chain_interlinks.specs.Gaps.{IsGapIn, IsNextOf, IsPrevOf};
 
 use arena_base::{Arena, ArenaSlot, ArenaTrait};
 use arena_ptr::{InxKey, PtrKey, SlotStack};
@@ -42,7 +41,7 @@ pub fn next_of<P: PtrKey, T: Drop, S: SlotStack<Item = ArenaSlot<P, LinkNoGen<P,
     arena: &Arena<P, LinkNoGen<P, T>, S>,
     name: Name<P, P::Inx>,
 ) -> Option<P::Inx>
-    ensures named { HasName (entry (seen_links P.Inx.packed_number arena.now)) (name_of P.key P.Inx.number name) → option_map P.Inx.number result ≡ shown_next (shown (seen_links P.Inx.packed_number arena.now)) (name_of P.key P.Inx.number name).0 }
+    ensures named { IsNextOf P.Inx.number (seen_links P.Inx.packed_number arena.now) (name_of P.key P.Inx.number name) result }
     ensures some { IsSome result → HasName (entry (seen_links P.Inx.packed_number arena.now)) (name_of P.key P.Inx.number name) }
 {
     match find(arena, name) {
@@ -56,7 +55,7 @@ pub fn prev_of<P: PtrKey, T: Drop, S: SlotStack<Item = ArenaSlot<P, LinkNoGen<P,
     arena: &Arena<P, LinkNoGen<P, T>, S>,
     name: Name<P, P::Inx>,
 ) -> Option<P::Inx>
-    ensures named { HasName (entry (seen_links P.Inx.packed_number arena.now)) (name_of P.key P.Inx.number name) → option_map P.Inx.number result ≡ shown_prev (shown (seen_links P.Inx.packed_number arena.now)) (name_of P.key P.Inx.number name).0 }
+    ensures named { IsPrevOf P.Inx.number (seen_links P.Inx.packed_number arena.now) (name_of P.key P.Inx.number name) result }
     ensures some { IsSome result → HasName (entry (seen_links P.Inx.packed_number arena.now)) (name_of P.key P.Inx.number name) }
 {
     match find(arena, name) {
@@ -80,7 +79,7 @@ fn after_end<P: PtrKey, T: Drop, S: SlotStack<Item = ArenaSlot<P, LinkNoGen<P, T
     arena: &Arena<P, LinkNoGen<P, T>, S>,
     a: Name<P, P::Inx>,
 ) -> Option<Gap<P::Inx>>
-    ensures { IsGapOf P.Inx.number (entry (seen_links P.Inx.packed_number arena.now)) (shown (seen_links P.Inx.packed_number arena.now)) (chain_end (name_of P.key P.Inx.number a)) result }
+    ensures { IsGapIn P.Inx.number (seen_links P.Inx.packed_number arena.now) (chain_end (name_of P.key P.Inx.number a)) result }
 {
     match find(arena, a) {
         Some(link) => {
@@ -99,7 +98,7 @@ fn before_start<P: PtrKey, T: Drop, S: SlotStack<Item = ArenaSlot<P, LinkNoGen<P
     arena: &Arena<P, LinkNoGen<P, T>, S>,
     b: Name<P, P::Inx>,
 ) -> Option<Gap<P::Inx>>
-    ensures { IsGapOf P.Inx.number (entry (seen_links P.Inx.packed_number arena.now)) (shown (seen_links P.Inx.packed_number arena.now)) (chain_start (name_of P.key P.Inx.number b)) result }
+    ensures { IsGapIn P.Inx.number (seen_links P.Inx.packed_number arena.now) (chain_start (name_of P.key P.Inx.number b)) result }
 {
     match find(arena, b) {
         Some(link) => {
@@ -118,7 +117,7 @@ fn after<P: PtrKey, T: Drop, S: SlotStack<Item = ArenaSlot<P, LinkNoGen<P, T>>>>
     arena: &Arena<P, LinkNoGen<P, T>, S>,
     a: Name<P, P::Inx>,
 ) -> Option<Gap<P::Inx>>
-    ensures { IsGapOf P.Inx.number (entry (seen_links P.Inx.packed_number arena.now)) (shown (seen_links P.Inx.packed_number arena.now)) (next_to (name_of P.key P.Inx.number a)) result }
+    ensures { IsGapIn P.Inx.number (seen_links P.Inx.packed_number arena.now) (next_to (name_of P.key P.Inx.number a)) result }
 {
     match find(arena, a) {
         Some(link) => Some(Gap::Between(Some(index_of(a)), link.next())),
@@ -131,7 +130,7 @@ fn before<P: PtrKey, T: Drop, S: SlotStack<Item = ArenaSlot<P, LinkNoGen<P, T>>>
     arena: &Arena<P, LinkNoGen<P, T>, S>,
     b: Name<P, P::Inx>,
 ) -> Option<Gap<P::Inx>>
-    ensures { IsGapOf P.Inx.number (entry (seen_links P.Inx.packed_number arena.now)) (shown (seen_links P.Inx.packed_number arena.now)) (prev_to (name_of P.key P.Inx.number b)) result }
+    ensures { IsGapIn P.Inx.number (seen_links P.Inx.packed_number arena.now) (prev_to (name_of P.key P.Inx.number b)) result }
 {
     match find(arena, b) {
         Some(link) => Some(Gap::Between(link.prev(), Some(index_of(b)))),
@@ -145,7 +144,7 @@ fn between<P: PtrKey, T: Drop, S: SlotStack<Item = ArenaSlot<P, LinkNoGen<P, T>>
     a: Name<P, P::Inx>,
     b: Name<P, P::Inx>,
 ) -> Option<Gap<P::Inx>>
-    ensures { IsGapOf P.Inx.number (entry (seen_links P.Inx.packed_number arena.now)) (shown (seen_links P.Inx.packed_number arena.now)) (at_interlink (name_of P.key P.Inx.number a) (name_of P.key P.Inx.number b)) result }
+    ensures { IsGapIn P.Inx.number (seen_links P.Inx.packed_number arena.now) (at_interlink (name_of P.key P.Inx.number a) (name_of P.key P.Inx.number b)) result }
 {
     match find(arena, a) {
         Some(link) => {
@@ -165,7 +164,7 @@ fn bridging<P: PtrKey, T: Drop, S: SlotStack<Item = ArenaSlot<P, LinkNoGen<P, T>
     a: Name<P, P::Inx>,
     b: Name<P, P::Inx>,
 ) -> Option<Gap<P::Inx>>
-    ensures { IsGapOf P.Inx.number (entry (seen_links P.Inx.packed_number arena.now)) (shown (seen_links P.Inx.packed_number arena.now)) (bridge (name_of P.key P.Inx.number a) (name_of P.key P.Inx.number b)) result }
+    ensures { IsGapIn P.Inx.number (seen_links P.Inx.packed_number arena.now) (bridge (name_of P.key P.Inx.number a) (name_of P.key P.Inx.number b)) result }
 {
     if after_end(arena, a).is_some() && before_start(arena, b).is_some() {
         Some(Gap::Between(Some(index_of(a)), Some(index_of(b))))
@@ -179,7 +178,7 @@ pub fn gap_of<P: PtrKey, T: Drop, S: SlotStack<Item = ArenaSlot<P, LinkNoGen<P, 
     arena: &Arena<P, LinkNoGen<P, T>, S>,
     kind: NamedKind<Name<P, P::Inx>>,
 ) -> Option<Gap<P::Inx>>
-    ensures { IsGapOf P.Inx.number (entry (seen_links P.Inx.packed_number arena.now)) (shown (seen_links P.Inx.packed_number arena.now)) (named_in P.key P.Inx.number kind) result }
+    ensures { IsGapIn P.Inx.number (seen_links P.Inx.packed_number arena.now) (named_in P.key P.Inx.number kind) result }
 {
     match kind {
         NamedKind::Disconnected => Some(Gap::Between(None, None)),

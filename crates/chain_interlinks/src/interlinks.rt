@@ -2,10 +2,10 @@
 ghost use Rattle.std.specs.Prelude.{◌≡◌, ◌↔◌, IsTrue, IsSome, Some, None};
 ghost use Rattle.std.specs.Option.{option_map, option_and_then};
 ghost use Rattle.arena_ptr.specs.Invalidation.{value_within, invalidation_result};
-ghost use Rattle.chain_laws.specs.Operations.{next_set, prev_set, linked};
 ghost use Rattle.arena_base.specs.Arena.{entry_at};
-ghost use Rattle.chain_links.specs.ChainArena.{shown, relinked, remove_link, entry, CanConnect, ptr_at};
+ghost use Rattle.chain_links.specs.ChainArena.{shown, remove_link, entry, CanConnect, ptr_at};
 ghost use Rattle.chain_links.specs.Links.{seen_links, seen_pair};
+ghost use Rattle.chain_interlinks.specs.Interlinks.{next_written, prev_written, linked_up, linked_twice, numbers};
 
 use arena_base::{Arena, ArenaSlot, ArenaTrait, outcome};
 use arena_ptr::{
@@ -52,8 +52,7 @@ pub fn set_next<P: PtrKey, T: Drop, S: SlotStack<Item = ArenaSlot<P, LinkNoGen<P
     i: Option<P::Inx>,
     next: Option<P::Inx>,
 )
-    ensures { seen_links P.Inx.packed_number arena.new ≡ relinked (seen_links P.Inx.packed_number arena.old)
-        (next_set (shown (seen_links P.Inx.packed_number arena.old)) (option_map P.Inx.number i) (option_map P.Inx.number next)) }
+    ensures { seen_links P.Inx.packed_number arena.new ≡ next_written (seen_links P.Inx.packed_number arena.old) (option_map P.Inx.number i) (option_map P.Inx.number next) }
 {
     match i {
         Some(i) => match arena.get_inx_mut(i) {
@@ -70,8 +69,7 @@ pub fn set_prev<P: PtrKey, T: Drop, S: SlotStack<Item = ArenaSlot<P, LinkNoGen<P
     i: Option<P::Inx>,
     prev: Option<P::Inx>,
 )
-    ensures { seen_links P.Inx.packed_number arena.new ≡ relinked (seen_links P.Inx.packed_number arena.old)
-        (prev_set (shown (seen_links P.Inx.packed_number arena.old)) (option_map P.Inx.number i) (option_map P.Inx.number prev)) }
+    ensures { seen_links P.Inx.packed_number arena.new ≡ prev_written (seen_links P.Inx.packed_number arena.old) (option_map P.Inx.number i) (option_map P.Inx.number prev) }
 {
     match i {
         Some(i) => match arena.get_inx_mut(i) {
@@ -88,8 +86,7 @@ pub fn link_up<P: PtrKey, T: Drop, S: SlotStack<Item = ArenaSlot<P, LinkNoGen<P,
     prev: Option<P::Inx>,
     next: Option<P::Inx>,
 )
-    ensures { seen_links P.Inx.packed_number arena.new ≡ relinked (seen_links P.Inx.packed_number arena.old)
-        (linked (shown (seen_links P.Inx.packed_number arena.old)) (option_map P.Inx.number prev) (option_map P.Inx.number next)) }
+    ensures { seen_links P.Inx.packed_number arena.new ≡ linked_up (seen_links P.Inx.packed_number arena.old) (option_map P.Inx.number prev) (option_map P.Inx.number next) }
 {
     set_next(arena, prev, next);
     set_prev(arena, next, prev);
@@ -101,9 +98,7 @@ pub fn link_twice<P: PtrKey, T: Drop, S: SlotStack<Item = ArenaSlot<P, LinkNoGen
     first: (Option<P::Inx>, Option<P::Inx>),
     second: (Option<P::Inx>, Option<P::Inx>),
 )
-    ensures { seen_links P.Inx.packed_number arena.new ≡ relinked (seen_links P.Inx.packed_number arena.old)
-        (linked (linked (shown (seen_links P.Inx.packed_number arena.old)) (option_map P.Inx.number first.0) (option_map P.Inx.number first.1))
-        (option_map P.Inx.number second.0) (option_map P.Inx.number second.1)) }
+    ensures { seen_links P.Inx.packed_number arena.new ≡ linked_twice (seen_links P.Inx.packed_number arena.old) (numbers P.Inx.number first) (numbers P.Inx.number second) }
 {
     link_up(arena, first.0, first.1);
     link_up(arena, second.0, second.1);

@@ -1,0 +1,27 @@
+-- Interlinks written in the state: what was written is shown, and nothing else has changed.
+use Rattle.std.specs.Prelude.{ℕ, Option}
+use Rattle.std.specs.Option.{option_map}
+use Rattle.chain_laws.specs.Operations.{next_set, prev_set, linked}
+use Rattle.arena_base.specs.Arena.{Arena}
+use Rattle.chain_links.specs.ChainArena.{LinkSeen, shown, relinked}
+
+-- two optional indexes as numbers
+abbrev pub numbers : {I : Type 0} → (I → ℕ) → Option I × Option I → Option ℕ × Option ℕ
+numbers number p = (option_map number p.0, option_map number p.1)
+
+module _ {Gen T : Type 0} where
+  -- the link at i names another as the one after it
+  abbrev pub next_written : Arena Gen (LinkSeen T) → Option ℕ → Option ℕ → Arena Gen (LinkSeen T)
+  next_written a i next = relinked a (next_set (shown a) i next)
+
+  -- .. and as the one before it
+  abbrev pub prev_written : Arena Gen (LinkSeen T) → Option ℕ → Option ℕ → Arena Gen (LinkSeen T)
+  prev_written a i prev = relinked a (prev_set (shown a) i prev)
+
+  -- v comes after u
+  abbrev pub linked_up : Arena Gen (LinkSeen T) → Option ℕ → Option ℕ → Arena Gen (LinkSeen T)
+  linked_up a u v = relinked a (linked (shown a) u v)
+
+  -- .. and then the second of another pair after its first
+  abbrev pub linked_twice : Arena Gen (LinkSeen T) → Option ℕ × Option ℕ → Option ℕ × Option ℕ → Arena Gen (LinkSeen T)
+  linked_twice a p q = relinked a (linked (linked (shown a) p.0 p.1) q.0 q.1)
