@@ -36,6 +36,19 @@ folds_seen : {V F X : Type 0} (see : V → F) (R : F → X → F → Type 0) (xs
 folds_seen see R [] f last folds = ap see folds
 folds_seen see R (x ∷ xs) f last folds = (see folds.0, folds.1, folds_seen see R xs folds.0 last folds.2)
 
+-- as many moves are told as there are links
+module _ {P Gen T : Type 0} (key : P → ℕ × Gen) (first : Gen) (following : Gen → Gen) where
+  pub moves_count : (reset : Bool) (old new : Seen Gen T) (links new_links : Shown) (generation : Gen) (moves : List (P × P)) → IsCanonicalLayout first following reset old links new new_links
+      → AreAllMoves key old links generation moves → length moves ≡ length old.entries
+  moves_count reset old new links new_links generation moves layout all =
+      sym (length-map moves (λ (m : P × P). Some (key m.0)))
+      ∙ (ap length all.from ∙ (length-map all.indexes (ptr_at (λ i. found i old.entries)) ∙ (ap length same_order
+      ∙ (sym (length-map layout.indexes (λ i. option_map (λ (e : Gen × T). e.1) (found i old.entries))) ∙ (sym (ap length layout.values) ∙ (length-map (values_in new.entries) (λ t. Some t)
+      ∙ (length-map new.entries (λ e. e.1) ∙ (sym (length-map new.entries index_of) ∙ (ap length layout.keys ∙ length-range_with_len 1 (length old.entries))))))))))
+    where
+      same_order : all.indexes ≡ layout.indexes
+      same_order = all.order.items ∙ (ap all_items (no_others links all.order.chains layout.order.chains all.order.are layout.order.are) ∙ sym layout.order.items)
+
 module _ {V P Gen T : Type 0} (key : P → ℕ × Gen) (old : Seen Gen T) (links : Shown) (generation : Gen) (f last : V) where
   -- what was seen are the moves of all links
   moves_seen : {g : V → P → P → V → Type 0} (all : ShowsAll g key old links generation f last) → AreAllMoves key old links generation all.shows.moves
@@ -56,14 +69,5 @@ module _ {V P Gen T : Type 0} (key : P → ℕ × Gen) (old : Seen Gen T) (links
       → ShowsAll (λ s p q t. IsPairListed (list s) p q (list t)) key old links generation f last → (list f).items ≡ [] → vec_len (list f) ≡ 0 → length old.entries ≤ vec_capacity (list f)
       → AreAllMoves key old links generation (list last).items
   listed_all list first following reset new new_links layout all none empty room =
+      let as_many = moves_count key first following reset old new links new_links generation all.shows.moves layout (moves_seen all) in
       subst (AreAllMoves key old links generation) (sym (all_listed list all.shows.moves f last (omega (arith, empty, room, as_many)) all.shows.in_turn ∙ ap (λ (xs : List (P × P)). xs ++ all.shows.moves) none)) (moves_seen all)
-    where
-      same_order : all.indexes ≡ layout.indexes
-      same_order = all.order.items ∙ (ap all_items (no_others links all.order.chains layout.order.chains all.order.are layout.order.are) ∙ sym layout.order.items)
-
-      as_many : length all.shows.moves ≡ length old.entries
-      as_many =
-          sym (length-map all.shows.moves (λ (m : P × P). Some (key m.0)))
-          ∙ (ap length all.shows.from ∙ (length-map all.indexes (ptr_at (λ i. found i old.entries)) ∙ (ap length same_order
-          ∙ (sym (length-map layout.indexes (λ i. option_map (λ (e : Gen × T). e.1) (found i old.entries))) ∙ (sym (ap length layout.values) ∙ (length-map (values_in new.entries) (λ t. Some t)
-          ∙ (length-map new.entries (λ e. e.1) ∙ (sym (length-map new.entries index_of) ∙ (ap length layout.keys ∙ length-range_with_len 1 (length old.entries))))))))))

@@ -1,3 +1,4 @@
+pub mod Closing
 pub mod Compressions
 pub mod HeldLinks
 pub mod Layouts

@@ -5,6 +5,7 @@ use Rattle.chain_laws.specs.Chains.{Chain, items, Has, IsChain, first_or}
 use Rattle.chain_laws.specs.Arrangements.{place_in, IsLeastIndexOrder}
 use Rattle.arena_base.specs.Arena.{Arena, slot_at, with_slot}
 use Rattle.arena_base.specs.Compacting.{Held, held_with_value}
+use Rattle.arena_base.specs.declared.compactor.Compactor.{Compactor}
 use Rattle.chain_links.specs.ChainArena.{LinkSeen, on_value, ptr_at}
 use Rattle.chain_links.specs.Links.{seen_pair}
 use Rattle.chain_layout.specs.HeldLinks.{shown_in, IsWork}
@@ -83,6 +84,11 @@ module _ {Gen K T : Type 0} (number : K → Option ℕ) where
       pub numbered : AreNumbered new count (done ++ items c)
       pub shows : ShowsMoves g key (ptr_at (slot_at old)) generation (length done + 1) f (items c) last
       pub work : IsWork before after 0 (2 * length (items c))
+
+    -- from a start on, behind so many links, a chain that may be numbered is, and so many are numbered then
+    abbrev pub NumbersFrom : {V S I W : Type 0} → Gen → ℕ → F → F → (old new : Compactor V (LinkBody K T) S I Gen W) → ℕ → ℕ → Type 0
+    NumbersFrom generation start f last old new before count = (done : List ℕ) (c : Chain) → CanNumber old.held.slots start before done c
+        → IsChainNumbered generation f last old.held.slots new.held.slots old.arena.now new.arena.now count done c
 
     -- all links are numbered, in the least-index order of their chains, and the closure has seen them in that order
     pub record AreAllNumbered (generation : Gen) (f last : F) (old new : List (Option (Gen × LinkBody K T))) (before after : Arena Gen (LinkBody K T)) : Type 0 where

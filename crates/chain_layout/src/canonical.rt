@@ -99,8 +99,8 @@ fn rename_all<P: PtrKey, T: Drop, S: SlotStack<Item = ArenaSlot<P, LinkNoGen<P, 
 }
 
 /// Lays the links out: each gets its destination, names those of its neighbors, and moves there, with the counter as its
-/// generation. The visitor sees each, by the pointer that it had and the one that it has. The slots are exactly the links
-/// then.
+/// generation. The visitor sees each, by the pointer that it had and the one that it has, and is ready for others then. The
+/// slots are exactly the links.
 pub fn lay_out<
     P: PtrKey,
     T: Drop,
@@ -109,6 +109,7 @@ pub fn lay_out<
 >(arena: &mut Arena<P, LinkNoGen<P, T>, S>, visitor: V) -> (V, Work)
     requires ready { V.is_ready visitor }
     requires agree { Agrees (shown (seen_links P.Inx.packed_number arena.old)) }
+    ensures ready { V.is_ready result.0 }
     ensures laid { AreLaidOut V.sees P.key visitor result.0 (seen_links P.Inx.packed_number arena.old) (seen_links P.Inx.packed_number arena.new) }
     ensures placed { arena.new.placed ≡ arena.old.placed + result.1.placed }
     ensures touched { arena.new.touched ≡ arena.old.touched + result.1.touched }

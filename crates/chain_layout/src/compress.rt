@@ -1,11 +1,11 @@
 // Links brought together at the indexes from 1 on, in the order of their indexes.
-ghost use Rattle.std.specs.Prelude.{◌≡◌, ◌≤◌, ◌<◌, ◌+◌, ◌*◌, length, Some, OnSome, IfNone};
+ghost use Rattle.std.specs.Prelude.{◌≡◌, ◌≤◌, length, Some, OnSome, IfNone};
 ghost use Rattle.std.specs.Option.{option_map};
 ghost use Rattle.arena_ptr.specs.Invalidation.{invalidation_option};
 ghost use Rattle.chain_laws.specs.Chains.{Agrees};
 ghost use Rattle.chain_laws.specs.Renamings.{IsRenaming};
 ghost use Rattle.chain_laws.specs.Arrangements.{place_in};
-ghost use Rattle.chain_laws.specs.Moves.{moved_index, moved, CanMove};
+ghost use Rattle.chain_laws.specs.Moves.{moved_index};
 ghost use Rattle.arena_base.specs.Arena.{slot_at, with_counter};
 ghost use Rattle.arena_base.specs.Entries.{entries, entries_from};
 ghost use Rattle.arena_base.specs.Compacting.{placed, with_touch};
@@ -14,6 +14,7 @@ ghost use Rattle.arena_base.specs.Closing.{AreClosed};
 ghost use Rattle.chain_links.specs.ChainArena.{shown};
 ghost use Rattle.chain_links.specs.Links.{seen_links};
 ghost use Rattle.chain_layout.specs.HeldLinks.{held_values, shown_in, told, indexes_in, IsWork};
+ghost use Rattle.chain_layout.specs.Closing.{ShowsMove, IsClosingWork};
 ghost use Rattle.chain_layout.specs.Compressions.{AreGathered};
 
 use crate::looking::look_at;
@@ -71,9 +72,8 @@ fn move_link<P: PtrKey, T: Drop, S: SlotStack<Item = ArenaSlot<P, LinkNoGen<P, T
     ensures same_reference { compactor.new.arena.ghost_name ≡ compactor.old.arena.ghost_name }
     ensures answer { result ≡ option_map (λ e. e.0) (slot_at compactor.old.held.slots (P.Inx.number from)) }
     ensures values { OnSome result (held_values compactor.new.held ≡ placed (held_values compactor.old.held) (P.Inx.number from) (P.Inx.number to) generation) }
-    ensures moves { OnSome result (Agrees (shown_in P.Inx.packed_number compactor.old.held.slots)
-        → CanMove (shown_in P.Inx.packed_number compactor.old.held.slots) (P.Inx.number from) (P.Inx.number to)
-        → shown_in P.Inx.packed_number compactor.new.held.slots ≡ moved (shown_in P.Inx.packed_number compactor.old.held.slots) (P.Inx.number from) (P.Inx.number to)) }
+    ensures moves { OnSome result (ShowsMove (shown_in P.Inx.packed_number compactor.old.held.slots) (shown_in P.Inx.packed_number compactor.new.held.slots)
+        (P.Inx.number from) (P.Inx.number to)) }
     ensures work { OnSome result (IsWork compactor.old.arena.now compactor.new.arena.now 1 3) }
     ensures none { IfNone result ((compactor.new.held ≡ compactor.old.held) × (compactor.new.arena.now ≡ with_touch compactor.old.arena.now)) }
 {
@@ -104,8 +104,7 @@ fn close_gaps<
     ensures visits { VisitsAll F.FnMut P.key map (entries_from 1 (held_values compactor.old.held).slots) (entries_from 1 (held_values compactor.new.held).slots) }
     ensures renamed { IsRenaming (place_in (indexes_in (held_values compactor.old.held).slots))
         (shown_in P.Inx.packed_number compactor.old.held.slots) (shown_in P.Inx.packed_number compactor.new.held.slots) }
-    ensures work { IsWork compactor.old.arena.now compactor.new.arena.now (length (entries_from 1 (held_values compactor.old.held).slots))
-        (length compactor.old.held.slots + 3 * length (entries_from 1 (held_values compactor.old.held).slots)) }
+    ensures work { IsClosingWork compactor.old.held compactor.old.arena.now compactor.new.arena.now }
 {
     let mut count = 0;
     for k in 0..compactor.slots() {

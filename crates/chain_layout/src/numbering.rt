@@ -4,7 +4,7 @@ ghost use Rattle.chain_laws.specs.Chains.{Chain, linear, cyclic, Has, IsChain, H
 ghost use Rattle.chain_laws.specs.Starts.{IsStart};
 ghost use Rattle.chain_layout.specs.HeldLinks.{shown_in, IsWork};
 ghost use Rattle.chain_layout.specs.Counts.{CountsOn};
-ghost use Rattle.chain_layout.specs.Numbering.{seen_held, given, CanNumber, IsChainNumbered, AreAllNumbered};
+ghost use Rattle.chain_layout.specs.Numbering.{seen_held, given, CanNumber, NumbersFrom, AreAllNumbered};
 
 use crate::looking::{direct_at, look_at};
 use crate::visiting::Visitor;
@@ -66,8 +66,7 @@ fn number_chain<
     ensures same_reference { compactor.new.arena.ghost_name ≡ compactor.old.arena.ghost_name }
     ensures ready { V.is_ready result.0 }
     ensures seen { seen_held P.Inx.packed_number compactor.new.held ≡ seen_held P.Inx.packed_number compactor.old.held }
-    ensures numbered { (done : List ℕ) (c : Chain) → CanNumber P.Inx.packed_number compactor.old.held.slots (P.Inx.number start) before done c
-        → IsChainNumbered P.Inx.packed_number V.sees P.key generation visitor result.0 compactor.old.held.slots compactor.new.held.slots compactor.old.arena.now compactor.new.arena.now result.1 done c }
+    ensures numbered { NumbersFrom P.Inx.packed_number V.sees P.key generation (P.Inx.number start) visitor result.0 compactor.old compactor.new before result.1 }
     ensures counts { CountsOn compactor.old.arena.now compactor.new.arena.now compactor.old.placed compactor.old.touched compactor.new.placed compactor.new.touched }
 {
     let mut count = before;
@@ -100,6 +99,7 @@ pub fn number_all<
     requires fits { length compactor.old.held.slots ≤ P.Inx.greatest }
     requires agree { Agrees (shown_in P.Inx.packed_number compactor.old.held.slots) }
     requires empty { (j : ℕ) → given P.Inx.packed_number compactor.old.held.slots j ≡ None }
+    ensures ready { V.is_ready result }
     ensures same_reference { compactor.new.arena.ghost_name ≡ compactor.old.arena.ghost_name }
     ensures seen { seen_held P.Inx.packed_number compactor.new.held ≡ seen_held P.Inx.packed_number compactor.old.held }
     ensures numbered { AreAllNumbered P.Inx.packed_number V.sees P.key generation visitor result compactor.old.held.slots compactor.new.held.slots compactor.old.arena.now compactor.new.arena.now }

@@ -70,6 +70,7 @@ returns g c =
     let placed : moved.arena.now.placed ≡ c.args.arena.now.placed + c.finish.result.placed = told.0 ∙ ap (λ n. c.args.arena.now.placed + n) (sym c.finish.ensures.placed) in
     let touched : moved.arena.now.touched ≡ c.args.arena.now.touched + c.finish.result.touched = told.1 ∙ ap (λ n. c.args.arena.now.touched + n) (sym c.finish.ensures.touched) in
     record {
+      ready = c.number_all-visitor.ensures.ready;
       laid =
           links_laid g.V.Visitor.sees g.P.PtrKey.key c.args.visitor c.number_all-visitor.result number generation empty.held numbered.held renamed.held c.args.arena.now empty.arena.now numbered.arena.now
           seen c.number_all-visitor.ensures.seen c.number_all-visitor.ensures.numbered c.rename_all.ensures.renamed c.rename_all.ensures.kept moved.held c.move_all.ensures.moved

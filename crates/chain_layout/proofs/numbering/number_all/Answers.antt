@@ -117,6 +117,7 @@ returns g c =
     let old = c.args.compactor.now in
     let now = c.loop-k.compactor in
     record {
+      ready = at.ready;
       same_reference = at.same_reference;
       seen = at.order.seen;
       numbered = order_ends g.P.Inx.InxKey.packed_number g.V.Visitor.sees g.P.PtrKey.key c.args.generation c.args.visitor old.held old.arena.now c.loop-k.visitor now.held now.arena.now c.loop-k.count c.loop-k.k
