@@ -1,3 +1,4 @@
+pub mod Bounds
 pub mod Compressing
 pub mod Cloning
 pub mod Cutting

@@ -1,5 +1,5 @@
 -- What follows of the place of a new link, and of what came there.
-use Rattle.std.proofs.Common.{◌≡◌, length, ◌≢◌, ◌↔◌, ◌⊎◌, inl, inr, ℕ, ◌+◌, ◌<◌, ◌≤◌, Option, None, Some, Result, Ok, Err, OnOk, OnErr, IsErr, refl, sym, ap, ap₂, ◌∙◌, subst, arith, min}
+use Rattle.std.proofs.Common.{◌≡◌, length, ◌≢◌, ◌↔◌, ◌⊎◌, inl, inr, ℕ, ◌+◌, ◌<◌, ◌≤◌, Option, None, Some, Result, Ok, Err, OnOk, OnErr, IsErr, refl, sym, ap, ap₂, ◌∙◌, subst, arith}
 use Rattle.std.specs.Prelude.{IsOk, IfOk, IfErr}
 use Rattle.std.specs.Result.{ForOk}
 use Rattle.std.proofs.lemmas.Bool.{false≢true}
@@ -22,7 +22,7 @@ use Rattle.chain_interlinks.specs.Gaps.{before_in, after_in, IsGapOf}
 use Rattle.chain_links.specs.Insertions.{IsInsertion}
 use Rattle.chain_interlinks.specs.declared.gaps.Gap.{Gap}
 use Rattle.chain_arena.specs.Places.{HasGrown, GrowsByOne, gap_unless_refused, IsPlace, PlacesWithin, PlacesGrowing, IsInsertedIn, InsertsAt}
-use Rattle.chain_arena.specs.Steps.{Links, kind_of, May}
+use Rattle.chain_arena.specs.Effects.{Links, kind_of, May}
 use Rattle.chain_arena.proofs.Telling.{gap_told, insertion_told}
 
 -- what is not above a number that is within a maximum is not beyond it

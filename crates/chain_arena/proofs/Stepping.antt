@@ -10,6 +10,7 @@ use Rattle.arena_ptr.specs.declared.errors.ChainInsertionError.{ChainInsertionEr
 use Rattle.arena_ptr.specs.declared.errors.ChainInsertionError.TheVariants as failed
 use Rattle.arena_ptr.specs.declared.errors.ReallocationError.{ReallocationError}
 use Rattle.arena_ptr.specs.declared.errors.ReallocationError.TheVariants as refused
+use Rattle.arena_ptr.specs.declared.packed_option.PackedOption.{PackedOption}
 use Rattle.arena_ptr.specs.declared.invalidation.InvalidationOption.{InvalidationOption}
 use Rattle.arena_ptr.specs.declared.invalidation.InvalidationResult.{InvalidationResult}
 use Rattle.arena_ptr.specs.declared.invalidation.InvalidationResult.TheVariants.{Success, GenerationOverflow, InvalidPtr}
@@ -27,7 +28,9 @@ use Rattle.chain_links.proofs.Inserting.{values-count}
 use Rattle.chain_arena.specs.Drains.{walk_left, without_each}
 use Rattle.chain_links.specs.Insertions.{IsInsertion}
 use Rattle.chain_links.specs.Links.{seen_link}
-use Rattle.chain_arena.specs.Steps.{Links, kind_of, May, stays, grown, Connects, BreaksPrev, BreaksNext, Exchanges, IsDrained, Tells, IsAdded, IsTaken, InsertsGrowing, InsertsWithin, Reserves}
+use Rattle.chain_arena.specs.Effects.{Links, stays, grown, IsDrained, IsAdded, Tells}
+use Rattle.chain_arena.specs.PointerKinds.{PointerKind}
+use Rattle.chain_arena.specs.Steps.{ConnectStep, BreakPrevStep, BreakNextStep, ExchangeStep, kind_named, CanInsert, InsertStep, InsertWithinStep, IsTaken, IsRenewed, RemoveStep, RemoveInxStep, InvalidateStep, ReserveStep}
 use Rattle.chain_links.specs.declared.kinds.InsertKindBody.{InsertKindBody}
 use Rattle.chain_links.specs.declared.links.LinkBody.{LinkBody}
 use Rattle.chain_arena.proofs.Deciding.{Stable}
@@ -47,8 +50,8 @@ module _ {Gen T : Type 0} (old new : Links Gen T) where
   -- a join
   pub joins : (p q : ℕ × Gen) (r : Option Unit) (b : Bool) → IsSome r ↔ CanConnect (entry old) (shown old) p q → OnSome r (new ≡ relinked old (joined (shown old) p.0 q.0))
       → OnSome r (shown new ≡ joined (shown old) p.0 q.0) → OnSome r (AddsPair (shown old) (shown new) p.0 q.0) → OnSome r (ConnectsChains (shown old) (shown new) p.0 q.0) → IfNone r (new ≡ old) → b ≡ is_some r
-      → Connects old p q b new
-  joins p q r b some state shows pair chains none is = done_step (λ b. Connects old p q b new) (λ can made. (can, made)) (λ no same. (no, same)) r b some (all r state shows pair chains) none is
+      → ConnectStep old p q b new
+  joins p q r b some state shows pair chains none is = done_step (λ b. ConnectStep old p q b new) (λ can made. (can, made)) (λ no same. (no, same)) r b some (all r state shows pair chains) none is
     where
       all : (r : Option Unit) → OnSome r (new ≡ relinked old (joined (shown old) p.0 q.0)) → OnSome r (shown new ≡ joined (shown old) p.0 q.0) → OnSome r (AddsPair (shown old) (shown new) p.0 q.0)
           → OnSome r (ConnectsChains (shown old) (shown new) p.0 q.0) → OnSome r (IsJoin old new p.0 q.0)
@@ -57,33 +60,33 @@ module _ {Gen T : Type 0} (old new : Links Gen T) where
 
   -- a cut from the link before ..
   pub breaks_prev : (p : ℕ × Gen) (r : Option Unit) (b : Bool) → IsSome r ↔ (IsValid (entry old) p × IsSome (prev_of (shown old) p.0)) → OnSome r (IfSome (prev_of (shown old) p.0) (λ a. IsCut old new a p.0))
-      → IfNone r (new ≡ old) → b ≡ is_some r → BreaksPrev old p b new
-  breaks_prev p r b some state none is = done_step (λ b. BreaksPrev old p b new) (made (prev_of (shown old) p.0) refl) (not_made (prev_of (shown old) p.0) refl) r b some state none is
+      → IfNone r (new ≡ old) → b ≡ is_some r → BreakPrevStep old p b new
+  breaks_prev p r b some state none is = done_step (λ b. BreakPrevStep old p b new) (made (prev_of (shown old) p.0) refl) (not_made (prev_of (shown old) p.0) refl) r b some state none is
     where
-      made : (o : Option ℕ) → prev_of (shown old) p.0 ≡ o → IsValid (entry old) p × IsSome (prev_of (shown old) p.0) → IfSome (prev_of (shown old) p.0) (λ a. IsCut old new a p.0) → BreaksPrev old p true new
+      made : (o : Option ℕ) → prev_of (shown old) p.0 ≡ o → IsValid (entry old) p × IsSome (prev_of (shown old) p.0) → IfSome (prev_of (shown old) p.0) (λ a. IsCut old new a p.0) → BreakPrevStep old p true new
       made None at can done = absurd (false≢true (subst IsSome at can.1))
       made (Some a) at can done = (can.0, a, at, subst (λ o. IfSome o (λ a. IsCut old new a p.0)) at done)
 
-      not_made : (o : Option ℕ) → prev_of (shown old) p.0 ≡ o → (IsValid (entry old) p × IsSome (prev_of (shown old) p.0) → ⊥) → new ≡ old → BreaksPrev old p false new
+      not_made : (o : Option ℕ) → prev_of (shown old) p.0 ≡ o → (IsValid (entry old) p × IsSome (prev_of (shown old) p.0) → ⊥) → new ≡ old → BreakPrevStep old p false new
       not_made None at cannot same = (λ valid. at, same)
       not_made (Some a) at cannot same = (λ valid. absurd (cannot (valid, ap (λ (o : Option ℕ). is_some o) at)), same)
 
   -- .. and from the one after
   pub breaks_next : (p : ℕ × Gen) (r : Option Unit) (b : Bool) → IsSome r ↔ (IsValid (entry old) p × IsSome (next_of (shown old) p.0)) → OnSome r (IfSome (next_of (shown old) p.0) (λ c. IsCut old new p.0 c))
-      → IfNone r (new ≡ old) → b ≡ is_some r → BreaksNext old p b new
-  breaks_next p r b some state none is = done_step (λ b. BreaksNext old p b new) (made (next_of (shown old) p.0) refl) (not_made (next_of (shown old) p.0) refl) r b some state none is
+      → IfNone r (new ≡ old) → b ≡ is_some r → BreakNextStep old p b new
+  breaks_next p r b some state none is = done_step (λ b. BreakNextStep old p b new) (made (next_of (shown old) p.0) refl) (not_made (next_of (shown old) p.0) refl) r b some state none is
     where
-      made : (o : Option ℕ) → next_of (shown old) p.0 ≡ o → IsValid (entry old) p × IsSome (next_of (shown old) p.0) → IfSome (next_of (shown old) p.0) (λ c. IsCut old new p.0 c) → BreaksNext old p true new
+      made : (o : Option ℕ) → next_of (shown old) p.0 ≡ o → IsValid (entry old) p × IsSome (next_of (shown old) p.0) → IfSome (next_of (shown old) p.0) (λ c. IsCut old new p.0 c) → BreakNextStep old p true new
       made None at can done = absurd (false≢true (subst IsSome at can.1))
       made (Some c) at can done = (can.0, c, at, subst (λ o. IfSome o (λ c. IsCut old new p.0 c)) at done)
 
-      not_made : (o : Option ℕ) → next_of (shown old) p.0 ≡ o → (IsValid (entry old) p × IsSome (next_of (shown old) p.0) → ⊥) → new ≡ old → BreaksNext old p false new
+      not_made : (o : Option ℕ) → next_of (shown old) p.0 ≡ o → (IsValid (entry old) p × IsSome (next_of (shown old) p.0) → ⊥) → new ≡ old → BreakNextStep old p false new
       not_made None at cannot same = (λ valid. at, same)
       not_made (Some c) at cannot same = (λ valid. absurd (cannot (valid, ap (λ (o : Option ℕ). is_some o) at)), same)
 
   -- an exchange
-  pub exchanges : (p q : ℕ × Gen) (r : Option Unit) (b : Bool) → IsSome r ↔ CanExchange (entry old) (shown old) p q → OnSome r (IsExchange old new p.0 q.0) → IfNone r (new ≡ old) → b ≡ is_some r → Exchanges old p q b new
-  exchanges p q r b some state none is = done_step (λ b. Exchanges old p q b new) (λ can made. (can, made)) (λ no same. (no, same)) r b some state none is
+  pub exchanges : (p q : ℕ × Gen) (r : Option Unit) (b : Bool) → IsSome r ↔ CanExchange (entry old) (shown old) p q → OnSome r (IsExchange old new p.0 q.0) → IfNone r (new ≡ old) → b ≡ is_some r → ExchangeStep old p q b new
+  exchanges p q r b some state none is = done_step (λ b. ExchangeStep old p q b new) (λ can made. (can, made)) (λ no same. (no, same)) r b some state none is
 
 not_overflowed : {A : Type 0} (b : Bool) (x : A) → Success x ≡ invalidation_result b (Some x) → b ≡ false
 not_overflowed true x told = absurd (let h = told in cc)
@@ -117,33 +120,34 @@ module _ {Gen T : Type 0} where
         chains = subst (λ (s : Shown). TakesWalk (shown old) s walk) (sym (ap (λ (x : Links Gen T). shown x) state ∙ shown-without_each following old walk)) (walk_is_taken (shown old) p.0 walk is_walk);
       }
 
+module _ {P I Gen W T : Type 0} (pointers : PointerKind P I Gen W) where
   -- room that was asked for
-  pub reserves : (greatest n : ℕ) (old new : Links Gen T) (r : Result Unit ReallocationError) → (n ≤ old.capacity → IsOk r × (new ≡ old)) → (r ≡ Err refused.BeyondMaxCapacity) ↔ IsBeyond old.maximum n
-      → OnOk r (IsRoom greatest new.maximum n new.capacity) → OnErr r (new ≡ old) → new ≡ with_capacity_of old new → HasRoom greatest (length new.slots) new → Reserves greatest old n r new
-  reserves greatest n old new (Ok done) within beyond ok err state room =
+  pub reserves : (n : ℕ) (old new : Links Gen T) (r : Result Unit ReallocationError) → (n ≤ old.capacity → IsOk r × (new ≡ old)) → (r ≡ Err refused.BeyondMaxCapacity) ↔ IsBeyond old.maximum n
+      → OnOk r (IsRoom pointers.greatest new.maximum n new.capacity) → OnErr r (new ≡ old) → new ≡ with_capacity_of old new → HasRoom pointers.greatest (length new.slots) new → ReserveStep pointers old n r new
+  reserves n old new (Ok done) within beyond ok err state room =
       (state, ⊎_elim (λ less. grown less (ok, room.1, room.2)) (λ enough. stays enough (ap (λ (a : Links Gen T). a.capacity) (within enough).1) (ap (λ (a : Links Gen T). a.stack_capacity) (within enough).1)) (cases_lt old.capacity n))
-  reserves greatest n old new (Err refused.BeyondMaxCapacity) within beyond ok err state room = ((lacking, beyond.0 refl), err)
+  reserves n old new (Err refused.BeyondMaxCapacity) within beyond ok err state room = ((lacking, beyond.0 refl), err)
     where
       lacking : old.capacity < n
       lacking = ⊎_elim (λ less. less) (λ enough. absurd (false≢true (within enough).0)) (cases_lt old.capacity n)
-  reserves greatest n old new (Err refused.AllocError) within beyond ok err state room = ((lacking, λ past. let h = beyond.1 past in absurd (cc)), err)
+  reserves n old new (Err refused.AllocError) within beyond ok err state room = ((lacking, λ past. let h = beyond.1 past in absurd (cc)), err)
     where
       lacking : old.capacity < n
       lacking = ⊎_elim (λ less. less) (λ enough. absurd (false≢true (within enough).0)) (cases_lt old.capacity n)
 
-module _ {P I Gen T : Type 0} (key : P → ℕ × Gen) (number : I → ℕ) (old new : Links Gen T) (kind : InsertKindBody P I) (t : T) (decides : Stable (May key number old kind))
+module _ {P I Gen W T : Type 0} (pointers : PointerKind P I Gen W) (old new : Links Gen T) (kind : InsertKindBody P I) (t : T) (decides : Stable (CanInsert pointers old kind))
     (links : ℕ) (counted : links ≡ count (seen old)) (fits : links ≤ old.capacity) where
   abbrev by : InsertKind ℕ
-  by = kind_of key number kind
+  by = kind_named pointers kind
 
   abbrev Inserted : Result P ChainInsertionError → Type 0
-  Inserted r = IfOk r (λ p. IsInsertion by (seen old) (seen new) (entry old) (entry new) (shown old) (shown new) (key p) t)
+  Inserted r = IfOk r (λ p. IsInsertion by (seen old) (seen new) (entry old) (entry new) (shown old) (shown new) (pointers.key p) t)
 
   -- a kind that is not refused for its links may be inserted
-  may : (r : Result P ChainInsertionError) → (r ≡ Err failed.FailedLinkRequirement) ↔ (May key number old kind → ⊥) → (r ≡ Err failed.FailedLinkRequirement → ⊥) → May key number old kind
+  may : (r : Result P ChainInsertionError) → (r ≡ Err failed.FailedLinkRequirement) ↔ (CanInsert pointers old kind → ⊥) → (r ≡ Err failed.FailedLinkRequirement → ⊥) → CanInsert pointers old kind
   may r link other = decides (λ no. other (link.1 no))
 
-  added : (p : P) → Inserted (Ok p) → (key p).0 ≡ next_index old → new ≡ with_capacity_of (insert_as old by t) new → IsAdded key old by t p new
+  added : (p : P) → Inserted (Ok p) → (pointers.key p).0 ≡ next_index old → new ≡ with_capacity_of (insert_as old by t) new → IsAdded pointers.key old by t p new
   added p inserted place state = record {
     pointer = ap₂ (λ (i : ℕ) (g : Gen). (i, g)) place inserted.generation;
     state = state;
@@ -156,12 +160,12 @@ module _ {P I Gen T : Type 0} (key : P → ℕ × Gen) (number : I → ℕ) (old
   is_full more room = let none : HasRoomLeft (seen old) → ⊥ = (λ left. false≢true (room left).0) in omega (arith, none, values-count old)
 
   -- an insertion that may grow
-  pub inserts_growing : (greatest : ℕ) (r : Result P ChainInsertionError) (more : Type 0) → Inserted r → OnErr r (new ≡ old) → (r ≡ Err failed.FailedLinkRequirement) ↔ (May key number old kind → ⊥)
-      → IfErr r (λ e. e ≢ failed.NotWithinCapacity) → (May key number old kind → HasRoomLeft (seen old) → IsOk r × more)
-      → (r ≡ Err failed.BeyondMaxCapacity) ↔ (May key number old kind × NeedsBeyondMaximum (seen old))
-      → IfOk r (λ p. (key p).0 ≡ next_index old) → OnOk r (new ≡ with_capacity_of (insert_as old by t) new)
-      → (May key number old kind → entry_count old < old.capacity → new ≡ insert_as old by t) → OnOk r (HasRoom greatest (entry_count old + 1) new) → InsertsGrowing key number greatest old kind t r new
-  inserts_growing greatest (Ok p) more inserted same link error room beyond place state in_room has_room =
+  pub inserts_growing : (r : Result P ChainInsertionError) (more : Type 0) → Inserted r → OnErr r (new ≡ old) → (r ≡ Err failed.FailedLinkRequirement) ↔ (CanInsert pointers old kind → ⊥)
+      → IfErr r (λ e. e ≢ failed.NotWithinCapacity) → (CanInsert pointers old kind → HasRoomLeft (seen old) → IsOk r × more)
+      → (r ≡ Err failed.BeyondMaxCapacity) ↔ (CanInsert pointers old kind × NeedsBeyondMaximum (seen old))
+      → IfOk r (λ p. (pointers.key p).0 ≡ next_index old) → OnOk r (new ≡ with_capacity_of (insert_as old by t) new)
+      → (CanInsert pointers old kind → entry_count old < old.capacity → new ≡ insert_as old by t) → OnOk r (HasRoom pointers.greatest (entry_count old + 1) new) → InsertStep pointers old kind t r new
+  inserts_growing (Ok p) more inserted same link error room beyond place state in_room has_room =
       let can = may (Ok p) link (λ failed. cc) in (
         can,
         added p inserted place state,
@@ -170,23 +174,23 @@ module _ {P I Gen T : Type 0} (key : P → ℕ × Gen) (number : I → ℕ) (old
             (λ full. grown (omega (arith, full)) has_room)
             (cases_lt (entry_count old) old.capacity),
       )
-  inserts_growing greatest (Err failed.FailedLinkRequirement) more inserted same link error room beyond place state in_room has_room = (link.0 refl, same)
-  inserts_growing greatest (Err failed.NotWithinCapacity) more inserted same link error room beyond place state in_room has_room = error refl
-  inserts_growing greatest (Err failed.AllocError) more inserted same link error room beyond place state in_room has_room =
+  inserts_growing (Err failed.FailedLinkRequirement) more inserted same link error room beyond place state in_room has_room = (link.0 refl, same)
+  inserts_growing (Err failed.NotWithinCapacity) more inserted same link error room beyond place state in_room has_room = error refl
+  inserts_growing (Err failed.AllocError) more inserted same link error room beyond place state in_room has_room =
       let can = may (Err failed.AllocError) link (λ failed. cc) in
       let full = is_full more (room can) in (
         can,
         (full, λ past. let failed = beyond.1 (can, (omega (arith, counted, fits, full, values-count old), subst (λ n. IsBeyond old.maximum (n + 1)) (sym (values-count old)) past)) in absurd (cc)),
         same,
       )
-  inserts_growing greatest (Err failed.BeyondMaxCapacity) more inserted same link error room beyond place state in_room has_room =
+  inserts_growing (Err failed.BeyondMaxCapacity) more inserted same link error room beyond place state in_room has_room =
       let past = beyond.0 refl in
       (past.0, (is_full more (room past.0), subst (λ n. IsBeyond old.maximum (n + 1)) (values-count old) past.1.1), same)
 
   -- .. and one within the capacity
-  pub inserts_within : (r : Result P ChainInsertionError) → Inserted r → OnErr r (new ≡ old) → (r ≡ Err failed.FailedLinkRequirement) ↔ (May key number old kind → ⊥)
-      → (r ≡ Err failed.NotWithinCapacity) ↔ (May key number old kind × (count (seen old) ≡ old.capacity)) → IfErr r (λ e. (e ≡ failed.FailedLinkRequirement) ⊎ (e ≡ failed.NotWithinCapacity))
-      → IfOk r (λ p. (key p).0 ≡ next_index old) → OnOk r (new ≡ insert_as old by t) → InsertsWithin key number old kind t r new
+  pub inserts_within : (r : Result P ChainInsertionError) → Inserted r → OnErr r (new ≡ old) → (r ≡ Err failed.FailedLinkRequirement) ↔ (CanInsert pointers old kind → ⊥)
+      → (r ≡ Err failed.NotWithinCapacity) ↔ (CanInsert pointers old kind × (count (seen old) ≡ old.capacity)) → IfErr r (λ e. (e ≡ failed.FailedLinkRequirement) ⊎ (e ≡ failed.NotWithinCapacity))
+      → IfOk r (λ p. (pointers.key p).0 ≡ next_index old) → OnOk r (new ≡ insert_as old by t) → InsertWithinStep pointers old kind t r new
   inserts_within (Ok p) inserted same link full error place state =
       let can = may (Ok p) link (λ failed. cc) in
       let room : count (seen old) ≡ old.capacity → ⊥ = (λ equal. let failed = full.1 (can, equal) in absurd (cc)) in (
@@ -201,7 +205,7 @@ module _ {P I Gen T : Type 0} (key : P → ℕ × Gen) (number : I → ℕ) (old
   inserts_within (Err failed.AllocError) inserted same link full error place state = ⊎_elim (λ is. let h = is in absurd (cc)) (λ is. let h = is in absurd (cc)) error
   inserts_within (Err failed.BeyondMaxCapacity) inserted same link full error place state = ⊎_elim (λ is. let h = is in absurd (cc)) (λ is. let h = is in absurd (cc)) error
 
-module _ {K Gen T : Type 0} (packed : K → Option ℕ) (following : Gen → Gen) (wraps : Gen → Bool) (old new : Links Gen T) where
+module _ {P I Gen W T : Type 0} (pointers : PointerKind P I Gen W) (old new : Links Gen T) where
   -- where a value stands a link does
   some_link : (i : ℕ) (e : Gen × T) → entry old i ≡ Some e → is_some (entry_at old i) ≡ true
   some_link i e stands = by (entry_at old i) (sym (entry_at-with_each link_value old i) ∙ stands)
@@ -211,57 +215,56 @@ module _ {K Gen T : Type 0} (packed : K → Option ℕ) (following : Gen → Gen
       by (Some f) is = refl
 
   -- a removal by pointer
-  pub removes_link : (p : ℕ × Gen) (r : InvalidationResult (LinkBody K T)) → IsValid (entry old) p ⊎ (IsValid (entry old) p → ⊥)
-      → (IsValid (entry old) p → option_map (λ (link : LinkBody K T). (p.1, seen_link packed link)) (value_within r) ≡ link_at (entry old) (shown old) p.0)
-      → (IsValid (entry old) p → IsRemoval following old p.0 new) → r ≡ invalidation_result (wraps old.counter) (value_within r)
+  pub removes_link : (p : ℕ × Gen) (r : InvalidationResult (LinkBody (PackedOption I W) T)) → IsValid (entry old) p ⊎ (IsValid (entry old) p → ⊥)
+      → (IsValid (entry old) p → option_map (λ (link : LinkBody (PackedOption I W) T). (p.1, seen_link pointers.packed link)) (value_within r) ≡ link_at (entry old) (shown old) p.0)
+      → (IsValid (entry old) p → IsRemoval pointers.following old p.0 new) → r ≡ invalidation_result (pointers.wraps old.counter) (value_within r)
       → ((IsValid (entry old) p → ⊥) → (value_within r ≡ None) × (new ≡ old))
-      → Tells ((IsValid (entry old) p → ⊥) × (new ≡ old)) (wraps old.counter) (λ link. IsTaken packed following old p.0 p.1 link new) r
-  removes_link p r decided told removal overflow invalid = tells (λ link. IsTaken packed following old p.0 p.1 link new) (wraps old.counter) r decided overflow
+      → RemoveStep pointers old p r new
+  removes_link p r decided told removal overflow invalid = tells (λ link. IsTaken pointers old p.0 p.1 link new) (pointers.wraps old.counter) r decided overflow
       (λ valid. answers (value_within r) (ap (λ (o : Option (Gen × LinkSeen T)). is_some o) (sym (link_at-entry old p.0) ∙ sym (told valid))) (some_link p.0 (p.1, valid.value) valid.stands))
       (λ valid link is. record {
-        stood = sym (link_at-entry old p.0) ∙ (sym (told valid) ∙ ap (option_map (λ (l : LinkBody K T). (p.1, seen_link packed l))) is);
+        stood = sym (link_at-entry old p.0) ∙ (sym (told valid) ∙ ap (option_map (λ (l : LinkBody (PackedOption I W) T). (p.1, seen_link pointers.packed l))) is);
         removal = removal valid;
       })
       (λ no. ((invalid no).0, (no, (invalid no).1)))
     where
-      answers : (o : Option (LinkBody K T)) → is_some (entry_at old p.0) ≡ is_some {T = Gen × LinkSeen T} (option_map (λ (l : LinkBody K T). (p.1, seen_link packed l)) o) → is_some (entry_at old p.0) ≡ true → IsSome o
+      answers : (o : Option (LinkBody (PackedOption I W) T)) → is_some (entry_at old p.0) ≡ is_some {T = Gen × LinkSeen T} (option_map (λ (l : LinkBody (PackedOption I W) T). (p.1, seen_link pointers.packed l)) o) → is_some (entry_at old p.0) ≡ true → IsSome o
       answers None same stands = sym same ∙ stands
       answers (Some l) same stands = refl
 
   -- .. and by index
-  pub removes_inx : (i : ℕ) (r : InvalidationResult (Gen × LinkBody K T)) → option_map (on_value (seen_link packed)) (value_within r) ≡ link_at (entry old) (shown old) i
-      → (IsSome (entry old i) → IsRemoval following old i new) → r ≡ invalidation_result (wraps old.counter) (value_within r) → (entry old i ≡ None → new ≡ old)
-      → Tells ((entry old i ≡ None) × (new ≡ old)) (wraps old.counter) (λ e. IsTaken packed following old i e.0 e.1 new) r
+  pub removes_inx : (i : ℕ) (r : InvalidationResult (Gen × LinkBody (PackedOption I W) T)) → option_map (on_value (seen_link pointers.packed)) (value_within r) ≡ link_at (entry old) (shown old) i
+      → (IsSome (entry old i) → IsRemoval pointers.following old i new) → r ≡ invalidation_result (pointers.wraps old.counter) (value_within r) → (entry old i ≡ None → new ≡ old)
+      → RemoveInxStep pointers old i r new
   removes_inx i r told removal overflow invalid = by (value_within r) refl
     where
-      stood : (o : Option (Gen × LinkBody K T)) → value_within r ≡ o → entry_at old i ≡ option_map (on_value (seen_link packed)) o
-      stood o is = sym (link_at-entry old i) ∙ (sym told ∙ ap (option_map (on_value (seen_link packed))) is)
+      stood : (o : Option (Gen × LinkBody (PackedOption I W) T)) → value_within r ≡ o → entry_at old i ≡ option_map (on_value (seen_link pointers.packed)) o
+      stood o is = sym (link_at-entry old i) ∙ (sym told ∙ ap (option_map (on_value (seen_link pointers.packed))) is)
 
-      held : (o : Option (Gen × LinkBody K T)) → value_within r ≡ o → entry old i ≡ option_map (on_value link_value) (option_map (on_value (seen_link packed)) o)
+      held : (o : Option (Gen × LinkBody (PackedOption I W) T)) → value_within r ≡ o → entry old i ≡ option_map (on_value link_value) (option_map (on_value (seen_link pointers.packed)) o)
       held o is = entry_at-with_each link_value old i ∙ ap (option_map (on_value link_value)) (stood o is)
 
-      by : (o : Option (Gen × LinkBody K T)) → value_within r ≡ o → Tells ((entry old i ≡ None) × (new ≡ old)) (wraps old.counter) (λ e. IsTaken packed following old i e.0 e.1 new) r
-      by None is = tells {Can = ⊥} (λ e. IsTaken packed following old i e.0 e.1 new) (wraps old.counter) r (inr (λ no. no)) overflow (λ no. absurd no) (λ no. absurd no) (λ no. (is, (held None is, invalid (held None is))))
-      by (Some e) is = tells {Can = Unit {0}} (λ e. IsTaken packed following old i e.0 e.1 new) (wraps old.counter) r (inl tt) overflow (λ _. ap is_some is)
+      by : (o : Option (Gen × LinkBody (PackedOption I W) T)) → value_within r ≡ o → RemoveInxStep pointers old i r new
+      by None is = tells {Can = ⊥} (λ e. IsTaken pointers old i e.0 e.1 new) (pointers.wraps old.counter) r (inr (λ no. no)) overflow (λ no. absurd no) (λ no. absurd no) (λ no. (is, (held None is, invalid (held None is))))
+      by (Some e) is = tells {Can = Unit {0}} (λ e. IsTaken pointers old i e.0 e.1 new) (pointers.wraps old.counter) r (inl tt) overflow (λ _. ap is_some is)
           (λ _ f now. record { stood = stood (Some f) now; removal = removal (ap is_some (held (Some e) is)) }) (λ no. absurd (no tt))
 
-module _ {P Gen T : Type 0} (key : P → ℕ × Gen) (following : Gen → Gen) (wraps : Gen → Bool) (old new : Links Gen T) where
   -- the next generation for a link
   pub renews_link : (p : ℕ × Gen) (r : InvalidationResult P) → IsValid (entry old) p ⊎ (IsValid (entry old) p → ⊥)
-      → (IsValid (entry old) p → IfSome (value_within r) (λ q. ((key q).0 ≡ p.0) × (seen new ≡ renewed (seen old) (key q))) × IsSome (value_within r))
-      → (r ≡ invalidation_result (wraps old.counter) (value_within r)) × IfSome (value_within r) (λ q. (key q).1 ≡ following old.counter)
-      → ((IsValid (entry old) p → ⊥) → (value_within r ≡ None) × (new ≡ old)) → (IsValid (entry old) p → (new ≡ renewed_at following old p.0) × (shown new ≡ shown old))
-      → Tells ((IsValid (entry old) p → ⊥) × (new ≡ old)) (wraps old.counter) (λ q. IsValid (entry old) p × (key q ≡ (p.0, following old.counter)) × (new ≡ renewed_at following old p.0) × (shown new ≡ shown old)) r
-  renews_link p r decided valid counter invalid state = tells _ (wraps old.counter) r decided counter.0 (λ is. (valid is).1)
-      (λ is q at. (is, ap₂ (λ (i : ℕ) (g : Gen). (i, g)) (subst (λ o. IfSome o (λ q. ((key q).0 ≡ p.0) × (seen new ≡ renewed (seen old) (key q)))) at (valid is).0).0 (subst (λ o. IfSome o (λ q. (key q).1 ≡ following old.counter)) at counter.1), (state is).0, (state is).1))
+      → (IsValid (entry old) p → IfSome (value_within r) (λ q. ((pointers.key q).0 ≡ p.0) × (seen new ≡ renewed (seen old) (pointers.key q))) × IsSome (value_within r))
+      → (r ≡ invalidation_result (pointers.wraps old.counter) (value_within r)) × IfSome (value_within r) (λ q. (pointers.key q).1 ≡ pointers.following old.counter)
+      → ((IsValid (entry old) p → ⊥) → (value_within r ≡ None) × (new ≡ old)) → (IsValid (entry old) p → (new ≡ renewed_at pointers.following old p.0) × (shown new ≡ shown old))
+      → InvalidateStep pointers old p r new
+  renews_link p r decided valid counter invalid state = tells (λ q. IsRenewed pointers old p q new) (pointers.wraps old.counter) r decided counter.0 (λ is. (valid is).1)
+      (λ is q at. (is, ap₂ (λ (i : ℕ) (g : Gen). (i, g)) (subst (λ o. IfSome o (λ q. ((pointers.key q).0 ≡ p.0) × (seen new ≡ renewed (seen old) (pointers.key q)))) at (valid is).0).0 (subst (λ o. IfSome o (λ q. (pointers.key q).1 ≡ pointers.following old.counter)) at counter.1), (state is).0, (state is).1))
       (λ no. ((invalid no).0, (no, (invalid no).1)))
 
-  -- a clear
-  pub clears_all : (r : InvalidationOption Unit) → r ≡ invalidation_option (overflows_after_clear wraps (length (seen old).entries) old.counter) tt
-      → r ≡ invalidation_option (overflows_after_clear wraps (entry_count old) old.counter) tt
-  clears_all r told = told ∙ ap (λ n. invalidation_option (overflows_after_clear wraps n old.counter) tt) (values-count old)
+-- the links counted and seen are as many, where a clear ..
+pub clears_all : {Gen T : Type 0} (wraps : Gen → Bool) (old : Links Gen T) (r : InvalidationOption Unit) → r ≡ invalidation_option (overflows_after_clear wraps (length (seen old).entries) old.counter) tt
+    → r ≡ invalidation_option (overflows_after_clear wraps (entry_count old) old.counter) tt
+clears_all wraps old r told = told ∙ ap (λ n. invalidation_option (overflows_after_clear wraps n old.counter) tt) (values-count old)
 
--- a compression
+-- .. or a compression tells of the counter
 pub compresses : {Gen T : Type 0} (wraps : Gen → Bool) (old : Links Gen T) (reset : Bool) (r : InvalidationOption Unit) → r ≡ invalidation_option (overflows_after_compression wraps reset (length (seen old).entries) old.counter) tt
     → r ≡ invalidation_option (overflows_after_compression wraps reset (entry_count old) old.counter) tt
 compresses wraps old reset r told = told ∙ ap (λ n. invalidation_option (overflows_after_compression wraps reset n old.counter) tt) (values-count old)

@@ -14,7 +14,7 @@ use Rattle.chain_links.specs.declared.links.LinkBody.{LinkBody}
 use Rattle.chain_links.proofs.Mapping.{entry_at-with_each, generation_is}
 use Rattle.chain_links.proofs.Mapping.{is_some-map}
 use Rattle.chain_interlinks.proofs.Unlinking.{passes_over, removed-agrees, removed-chains, removed-pairs, seen-removed}
-use Rattle.chain_arena.specs.Steps.{Links}
+use Rattle.chain_arena.specs.Effects.{Links}
 use Rattle.chain_arena.proofs.Draining.{link_at-entry}
 
 -- an answer that holds a part of another one tells the same of the counter

@@ -9,7 +9,6 @@ use Rattle.arena_ptr.specs.declared.errors.ChainInsertionError.TheVariants as fa
 use Rattle.arena_ptr.specs.declared.errors.ReallocationError.{ReallocationError}
 use Rattle.arena_ptr.specs.declared.invalidation.InvalidationResult.{InvalidationResult}
 use Rattle.arena_ptr.specs.declared.invalidation.InvalidationResult.TheVariants.{Success, GenerationOverflow, InvalidPtr}
-use Rattle.arena_ptr.specs.declared.packed_option.PackedOption.{PackedOption}
 use Rattle.chain_laws.specs.Chains.{Shown, all_items}
 use Rattle.chain_laws.specs.Renamings.{IsRenaming}
 use Rattle.chain_laws.specs.Arrangements.{place_in}
@@ -21,7 +20,10 @@ use Rattle.arena_base.specs.Entries.{Slots, entries, index_of, found}
 use Rattle.arena_base.specs.EntryLaws.{found-entries}
 use Rattle.chain_links.specs.ChainArena.{shown, seen, entry, link_value, values_of, link_of, remove_link, IsJoin, IsCut, IsExchange, IsRemoval}
 use Rattle.chain_arena.specs.Drains.{without_each}
-use Rattle.chain_arena.specs.Steps.{Links, HasRoomFor, stays, grown, Connects, BreaksPrev, BreaksNext, Exchanges, Reserves, DrainsChain, IsCompression, IsCanonicalCompression, AreSameButTouched, Tells, InsertsGrowing, InsertsWithin, Step, Run}
+use Rattle.chain_arena.specs.Effects.{Links, HasRoomFor, stays, grown, IsCompression, IsCanonicalCompression, Tells}
+use Rattle.chain_arena.specs.PointerKinds.{PointerKind}
+use Rattle.chain_arena.specs.Runs.{AreSameButTouched}
+use Rattle.chain_arena.specs.Steps.{ConnectStep, BreakPrevStep, BreakNextStep, ExchangeStep, InsertStep, InsertWithinStep, DrainChainStep, ReserveStep, Step, Run}
 use Rattle.chain_arena.specs.declared.calls.Call.{Call}
 use Rattle.chain_arena.specs.declared.calls.Call.TheVariants as call
 use Rattle.chain_arena.specs.declared.calls.Reply.{Reply}
@@ -153,29 +155,25 @@ module _ (n : ℕ) where
     removal_touched : (following : Gen → Gen) (i : ℕ) → IsRemoval following old i new → IsRemoval following (touch old) i (touch new)
     removal_touched following i made = record { state = ap touch made.state; shows = made.shows; chains = made.chains; pairs = made.pairs }
 
-    connects_touched : (p q : ℕ × Gen) (r : Bool) → Connects old p q r new → Connects (touch old) p q r (touch new)
+    connects_touched : (p q : ℕ × Gen) (r : Bool) → ConnectStep old p q r new → ConnectStep (touch old) p q r (touch new)
     connects_touched p q false step = (step.0, ap touch step.1)
     connects_touched p q true step = (step.0, join_touched p.0 q.0 step.1)
 
-    breaks_prev_touched : (p : ℕ × Gen) (r : Bool) → BreaksPrev old p r new → BreaksPrev (touch old) p r (touch new)
+    breaks_prev_touched : (p : ℕ × Gen) (r : Bool) → BreakPrevStep old p r new → BreakPrevStep (touch old) p r (touch new)
     breaks_prev_touched p false step = (step.0, ap touch step.1)
     breaks_prev_touched p true step = (step.0, step.1, step.2, cut_touched step.1 p.0 step.3)
 
-    breaks_next_touched : (p : ℕ × Gen) (r : Bool) → BreaksNext old p r new → BreaksNext (touch old) p r (touch new)
+    breaks_next_touched : (p : ℕ × Gen) (r : Bool) → BreakNextStep old p r new → BreakNextStep (touch old) p r (touch new)
     breaks_next_touched p false step = (step.0, ap touch step.1)
     breaks_next_touched p true step = (step.0, step.1, step.2, cut_touched p.0 step.1 step.3)
 
-    exchanges_touched : (p q : ℕ × Gen) (r : Bool) → Exchanges old p q r new → Exchanges (touch old) p q r (touch new)
+    exchanges_touched : (p q : ℕ × Gen) (r : Bool) → ExchangeStep old p q r new → ExchangeStep (touch old) p q r (touch new)
     exchanges_touched p q false step = (step.0, ap touch step.1)
     exchanges_touched p q true step = (step.0, exchange_touched p.0 q.0 step.1)
 
     room_touched : (greatest m : ℕ) → HasRoomFor greatest m old new → HasRoomFor greatest m (touch old) (touch new)
     room_touched greatest m (stays within capacity stack_capacity) = stays within capacity stack_capacity
     room_touched greatest m (grown less room) = grown less room
-
-    reserves_touched : (greatest m : ℕ) (r : Result Unit ReallocationError) → Reserves greatest old m r new → Reserves greatest (touch old) m r (touch new)
-    reserves_touched greatest m (Ok done) step = (ap touch step.0, room_touched greatest m step.1)
-    reserves_touched greatest m (Err why) step = (step.0, ap touch step.1)
 
     compression_touched : (first : Gen) (following : Gen → Gen) (reset : Bool) → IsCompression first following reset old new → IsCompression first following reset (touch old) (touch new)
     compression_touched first following reset made =
@@ -226,73 +224,77 @@ module _ (n : ℕ) where
     without_each_touched old [] = refl
     without_each_touched old (i ∷ walk) = without_each_touched (remove_link following old i) walk
 
-    drains_touched : (old new : Links Gen T) (p : ℕ × Gen) (take : ℕ) (r : Option ℕ) → DrainsChain following old p take r new → DrainsChain following (touch old) p take r (touch new)
-    drains_touched old new p take None step = (step.0, ap touch step.1)
-    drains_touched old new p take (Some count) step = record {
+  module _ {P I Gen W T : Type 0} (pointers : PointerKind P I Gen W) (old new : Links Gen T) where
+    drains_touched : (p : ℕ × Gen) (take : ℕ) (r : Option ℕ) → DrainChainStep pointers old p take r new → DrainChainStep pointers (touch old) p take r (touch new)
+    drains_touched p take None step = (step.0, ap touch step.1)
+    drains_touched p take (Some count) step = record {
       valid = step.valid;
       walk = step.walk;
       is_walk = step.is_walk;
       counted = step.counted;
-      state = ap touch step.state ∙ without_each_touched old step.walk;
+      state = ap touch step.state ∙ without_each_touched pointers.following old step.walk;
       chains = step.chains;
     }
 
-  module _ {P I Gen T : Type 0} (key : P → ℕ × Gen) (number : I → ℕ) (old new : Links Gen T) (kind : InsertKindBody P I) (t : T) where
-    inserts_touched : (greatest : ℕ) (r : Result P ChainInsertionError) → InsertsGrowing key number greatest old kind t r new → InsertsGrowing key number greatest (touch old) kind t r (touch new)
-    inserts_touched greatest (Err failed.FailedLinkRequirement) step = (step.0, ap touch step.1)
-    inserts_touched greatest (Err failed.BeyondMaxCapacity) step = (step.0, step.1, ap touch step.2)
-    inserts_touched greatest (Err failed.AllocError) step = (step.0, step.1, ap touch step.2)
-    inserts_touched greatest (Err failed.NotWithinCapacity) step = step
-    inserts_touched greatest (Ok p) step = (
+    inserts_touched : (kind : InsertKindBody P I) (t : T) (r : Result P ChainInsertionError) → InsertStep pointers old kind t r new → InsertStep pointers (touch old) kind t r (touch new)
+    inserts_touched kind t (Err failed.FailedLinkRequirement) step = (step.0, ap touch step.1)
+    inserts_touched kind t (Err failed.BeyondMaxCapacity) step = (step.0, step.1, ap touch step.2)
+    inserts_touched kind t (Err failed.AllocError) step = (step.0, step.1, ap touch step.2)
+    inserts_touched kind t (Err failed.NotWithinCapacity) step = step
+    inserts_touched kind t (Ok p) step = (
       step.0,
       record { pointer = step.1.pointer; state = ap touch step.1.state; pairs = step.1.pairs; chains = step.1.chains },
-      room_touched old new greatest _ step.2,
+      room_touched old new pointers.greatest _ step.2,
     )
 
-    inserts_within_touched : (r : Result P ChainInsertionError) → InsertsWithin key number old kind t r new → InsertsWithin key number (touch old) kind t r (touch new)
-    inserts_within_touched (Err failed.FailedLinkRequirement) step = (step.0, ap touch step.1)
-    inserts_within_touched (Err failed.NotWithinCapacity) step = (step.0, step.1, ap touch step.2)
-    inserts_within_touched (Err failed.BeyondMaxCapacity) step = step
-    inserts_within_touched (Err failed.AllocError) step = step
-    inserts_within_touched (Ok p) step = (
+    inserts_within_touched : (kind : InsertKindBody P I) (t : T) (r : Result P ChainInsertionError) → InsertWithinStep pointers old kind t r new → InsertWithinStep pointers (touch old) kind t r (touch new)
+    inserts_within_touched kind t (Err failed.FailedLinkRequirement) step = (step.0, ap touch step.1)
+    inserts_within_touched kind t (Err failed.NotWithinCapacity) step = (step.0, step.1, ap touch step.2)
+    inserts_within_touched kind t (Err failed.BeyondMaxCapacity) step = step
+    inserts_within_touched kind t (Err failed.AllocError) step = step
+    inserts_within_touched kind t (Ok p) step = (
       step.0,
       step.1,
       record { pointer = step.2.pointer; state = ap touch step.2.state; pairs = step.2.pairs; chains = step.2.chains },
       ap touch step.3,
     )
 
-  module _ {P T I Gen W : Type 0} (key : P → ℕ × Gen) (number : I → ℕ) (packed : PackedOption I W → Option ℕ) (greatest : ℕ) (first : Gen) (following : Gen → Gen) (wraps : Gen → Bool) where
-    pub step_touched : (old new : Links Gen T) (c : Call P T I Gen W) (r : Reply P T I Gen W) → Step key number packed greatest first following wraps old c r new
-        → Step key number packed greatest first following wraps (touch old) c r (touch new)
-    step_touched old new (call.Insert kind t) r step = (step.0, step.1, inserts_touched key number old new kind t greatest step.0 step.2)
-    step_touched old new (call.InsertWithin kind t) r step = (step.0, step.1, inserts_within_touched key number old new kind t step.0 step.2)
-    step_touched old new (call.Connect p q) r step = (step.0, step.1, connects_touched old new (key p) (key q) step.0 step.2)
-    step_touched old new (call.BreakPrev p) r step = (step.0, step.1, breaks_prev_touched old new (key p) step.0 step.2)
-    step_touched old new (call.BreakNext p) r step = (step.0, step.1, breaks_next_touched old new (key p) step.0 step.2)
-    step_touched old new (call.ExchangeNext p q) r step = (step.0, step.1, exchanges_touched old new (key p) (key q) step.0 step.2)
+    reserves_touched : (m : ℕ) (r : Result Unit ReallocationError) → ReserveStep pointers old m r new → ReserveStep pointers (touch old) m r (touch new)
+    reserves_touched m (Ok done) step = (ap touch step.0, room_touched old new pointers.greatest m step.1)
+    reserves_touched m (Err why) step = (step.0, ap touch step.1)
+
+  module _ {P T I Gen W : Type 0} (pointers : PointerKind P I Gen W) where
+    pub step_touched : (old new : Links Gen T) (c : Call P T I Gen W) (r : Reply P T I Gen W) → Step pointers old c r new
+        → Step pointers (touch old) c r (touch new)
+    step_touched old new (call.Insert kind t) r step = (step.0, step.1, inserts_touched pointers old new kind t step.0 step.2)
+    step_touched old new (call.InsertWithin kind t) r step = (step.0, step.1, inserts_within_touched pointers old new kind t step.0 step.2)
+    step_touched old new (call.Connect p q) r step = (step.0, step.1, connects_touched old new (pointers.key p) (pointers.key q) step.0 step.2)
+    step_touched old new (call.BreakPrev p) r step = (step.0, step.1, breaks_prev_touched old new (pointers.key p) step.0 step.2)
+    step_touched old new (call.BreakNext p) r step = (step.0, step.1, breaks_next_touched old new (pointers.key p) step.0 step.2)
+    step_touched old new (call.ExchangeNext p q) r step = (step.0, step.1, exchanges_touched old new (pointers.key p) (pointers.key q) step.0 step.2)
     step_touched old new (call.Remove p) r step = (
       step.0,
       step.1,
-      tells_so _ _ (wraps old.counter) step.0 (λ no. (no.0, ap touch no.1))
-          (λ link taken. record { stood = taken.stood; removal = removal_touched old new following (key p).0 taken.removal }) step.2,
+      tells_so _ _ (pointers.wraps old.counter) step.0 (λ no. (no.0, ap touch no.1))
+          (λ link taken. record { stood = taken.stood; removal = removal_touched old new pointers.following (pointers.key p).0 taken.removal }) step.2,
     )
     step_touched old new (call.RemoveInx i) r step = (
       step.0,
       step.1,
-      tells_so _ _ (wraps old.counter) step.0 (λ no. (no.0, ap touch no.1))
-          (λ e taken. record { stood = taken.stood; removal = removal_touched old new following (number i) taken.removal }) step.2,
+      tells_so _ _ (pointers.wraps old.counter) step.0 (λ no. (no.0, ap touch no.1))
+          (λ e taken. record { stood = taken.stood; removal = removal_touched old new pointers.following (pointers.number i) taken.removal }) step.2,
     )
-    step_touched old new (call.Invalidate p) r step = (step.0, step.1, tells_so _ _ (wraps old.counter) step.0 (λ no. (no.0, ap touch no.1)) (λ q made. (made.0, made.1, ap touch made.2, made.3)) step.2)
-    step_touched old new (call.DrainChain p take) r step = (step.0, step.1, drains_touched following old new (key p) take step.0 step.2)
+    step_touched old new (call.Invalidate p) r step = (step.0, step.1, tells_so _ _ (pointers.wraps old.counter) step.0 (λ no. (no.0, ap touch no.1)) (λ q made. (made.0, made.1, ap touch made.2, made.3)) step.2)
+    step_touched old new (call.DrainChain p take) r step = (step.0, step.1, drains_touched pointers old new (pointers.key p) take step.0 step.2)
     step_touched old new call.Clear r step = (step.0, ap touch step.1)
-    step_touched old new (call.Compress reset) r step = (step.0, compression_touched old new first following reset step.1)
-    step_touched old new (call.CompressCanonical reset) r step = (step.0, layout_touched old new first following reset step.1)
-    step_touched old new (call.Reserve m) r step = (step.0, step.1, reserves_touched old new greatest m step.0 step.2)
+    step_touched old new (call.Compress reset) r step = (step.0, compression_touched old new pointers.first pointers.following reset step.1)
+    step_touched old new (call.CompressCanonical reset) r step = (step.0, layout_touched old new pointers.first pointers.following reset step.1)
+    step_touched old new (call.Reserve m) r step = (step.0, step.1, reserves_touched pointers old new m step.0 step.2)
     step_touched old new (call.SetGeneration g) r step = (step.0, ap touch step.1)
     step_touched old new call.IncGeneration r step = (step.0, ap touch step.1)
 
-    pub run_touched : (old new : Links Gen T) (calls : List (Call P T I Gen W)) (replies : List (Reply P T I Gen W)) → Run key number packed greatest first following wraps old calls replies new
-        → Run key number packed greatest first following wraps (touch old) calls replies (touch new)
+    pub run_touched : (old new : Links Gen T) (calls : List (Call P T I Gen W)) (replies : List (Reply P T I Gen W)) → Run pointers old calls replies new
+        → Run pointers (touch old) calls replies (touch new)
     run_touched old new [] [] run = ap touch run
     run_touched old new [] (r ∷ replies) run = run
     run_touched old new (c ∷ calls) [] run = run

@@ -1,7 +1,10 @@
 pub mod Drains
 pub mod Transfers
 pub mod Copies
+pub mod PointerKinds
+pub mod Effects
 pub mod Steps
+pub mod Runs
 pub mod Recasting
 pub mod Growths
 pub mod Places

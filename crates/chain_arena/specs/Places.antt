@@ -1,5 +1,5 @@
 -- The place of a new link of a kind, which is a gap with room for one link more, and what becomes of a link there.
-use Rattle.std.specs.Prelude.{◌≡◌, ℕ, ◌+◌, ◌<◌, Result, Ok, Err}
+use Rattle.std.specs.Prelude.{◌≡◌, ℕ, ◌+◌, ◌<◌, Option, Result, Ok, Err}
 use Rattle.std.specs.Result.{result_map_both}
 use Rattle.arena_ptr.specs.SlotStack.{IsBeyond}
 use Rattle.arena_ptr.specs.declared.errors.ChainInsertionError.{ChainInsertionError}
@@ -9,11 +9,12 @@ use Rattle.arena_ptr.specs.declared.errors.ReallocationError.TheVariants as refu
 use Rattle.chain_laws.specs.Chains.{Agrees}
 use Rattle.chain_laws.specs.Insertions.{link_before, link_after}
 use Rattle.arena_base.specs.Arena.{HasRoom, IsListed, entry_count, next_index, with_capacity_of}
-use Rattle.chain_links.specs.ChainArena.{shown, insert_between}
+use Rattle.chain_links.specs.ChainArena.{shown, seen, entry, insert_between}
+use Rattle.chain_links.specs.Insertions.{IsInsertionBetween}
 use Rattle.chain_links.specs.declared.kinds.InsertKindBody.{InsertKindBody}
 use Rattle.chain_interlinks.specs.Gaps.{before_in, after_in}
 use Rattle.chain_interlinks.specs.declared.gaps.Gap.{Gap}
-use Rattle.chain_arena.specs.Steps.{Links, kind_of, May}
+use Rattle.chain_arena.specs.Effects.{Links, kind_of, May}
 
 module _ {Gen T : Type 0} where
   -- an arena with room for one link more, which a full one has after a growth
@@ -34,6 +35,10 @@ module _ {Gen T : Type 0} where
   abbrev pub GrowsByOne : ℕ → Links Gen T → Result Unit ReallocationError → Links Gen T → Type 0
   GrowsByOne greatest old (Ok done) new = HasGrown greatest old new
   GrowsByOne greatest old (Err why) new = RefusesOneMore old why × (new ≡ old)
+
+-- a link came between two, where they are, to the next index
+abbrev pub ComesBetween : {Gen T : Type 0} → Option ℕ → Option ℕ → Links Gen T → T → Links Gen T → Type 0
+ComesBetween before after old t new = IsInsertionBetween before after (seen old) (seen new) (entry old) (entry new) (shown old) (shown new) (next_index old, old.counter) t
 
 -- how an insertion is refused where a growth is
 abbrev pub refusal_of : ReallocationError → ChainInsertionError

@@ -3,8 +3,10 @@ ghost use Rattle.std.specs.Prelude.{◌≡◌, min, length, IfOk, OnErr, MatchRe
 ghost use Rattle.chain_laws.specs.Neighbors.{HasOneSetOfChains};
 ghost use Rattle.chain_links.specs.ChainArena.{shown};
 ghost use Rattle.chain_arena.specs.Drains.{walk_left, without_each};
-ghost use Rattle.chain_arena.specs.Steps.{InsertsGrowing, InsertsWithin, Reserves, DrainsChain, Step, Run, RunIsDetermined, StepIsDetermined, RunIsDeterminedByRoom};
+ghost use Rattle.chain_arena.specs.Steps.{InsertStep, InsertWithinStep, ReserveStep, DrainChainStep, Step, Run};
+ghost use Rattle.chain_arena.specs.Runs.{RunIsDetermined, StepIsDetermined, RunIsDeterminedByRoom};
 
+use crate::any_pointer::AnyPointer;
 use crate::chain_arena::ChainArena;
 use crate::chain_drains::ChainDrain;
 use arena_base::{ArenaSlot, ArenaTrait};
@@ -82,7 +84,7 @@ pub fn apply<P: PtrKey, T: Drop, S: SlotStack<Item = ArenaSlot<P, LinkNoGen<P, T
     arena: &mut ChainArena<P, T, S>,
     call: Call<P, T>,
 ) -> Reply<P, T>
-    ensures step { Step P.key P.Inx.number P.Inx.packed_number P.Inx.greatest P.Gen.first P.Gen.following P.Gen.wraps arena.old call result arena.new }
+    ensures step { Step ⟦<P as AnyPointer>⟧.kind arena.old call result arena.new }
 {
     match call {
         Call::Insert { kind, t } => Reply::Inserted(insert(arena, kind, t)),
@@ -113,7 +115,7 @@ fn insert<P: PtrKey, T: Drop, S: SlotStack<Item = ArenaSlot<P, LinkNoGen<P, T>>>
     kind: LinkInsertKind<P>,
     t: T,
 ) -> Result<P, ChainInsertionError>
-    ensures { InsertsGrowing P.key P.Inx.number P.Inx.greatest arena.old kind t result arena.new }
+    ensures { InsertStep ⟦<P as AnyPointer>⟧.kind arena.old kind t result arena.new }
 {
     // There are no more links than the capacity.
     arena.len();
@@ -126,7 +128,7 @@ fn insert_within<P: PtrKey, T: Drop, S: SlotStack<Item = ArenaSlot<P, LinkNoGen<
     kind: LinkInsertKind<P>,
     t: T,
 ) -> Result<P, ChainInsertionError>
-    ensures { InsertsWithin P.key P.Inx.number arena.old kind t result arena.new }
+    ensures { InsertWithinStep ⟦<P as AnyPointer>⟧.kind arena.old kind t result arena.new }
 {
     // There are no more links than the capacity.
     arena.len();
@@ -138,7 +140,7 @@ fn reserve<P: PtrKey, T: Drop, S: SlotStack<Item = ArenaSlot<P, LinkNoGen<P, T>>
     arena: &mut ChainArena<P, T, S>,
     n: usize,
 ) -> Result<(), ReallocationError>
-    ensures { Reserves P.Inx.greatest arena.old n result arena.new }
+    ensures { ReserveStep ⟦<P as AnyPointer>⟧.kind arena.old n result arena.new }
 {
     let grown = arena.reallocate_min_capacity(n);
     // The room is as in every arena.
@@ -152,7 +154,7 @@ fn drain<P: PtrKey, T: Drop, S: SlotStack<Item = ArenaSlot<P, LinkNoGen<P, T>>>>
     p: P,
     take: usize,
 ) -> Option<usize>
-    ensures { DrainsChain P.Gen.following arena.old (P.key p) take result arena.new }
+    ensures { DrainChainStep ⟦<P as AnyPointer>⟧.kind arena.old (P.key p) take result arena.new }
 {
     match arena.drain_chain(p) {
         Some(mut links) => {
@@ -194,7 +196,7 @@ pub fn run_calls<P: PtrKey, T: Drop, S: SlotStack<Item = ArenaSlot<P, LinkNoGen<
     calls: Vec<Call<P, T>>,
 ) -> Result<Vec<Reply<P, T>>, AllocError>
     ensures ends { HasOneSetOfChains (shown arena.new) × MatchResult result
-        (λ replies. Run P.key P.Inx.number P.Inx.packed_number P.Inx.greatest P.Gen.first P.Gen.following P.Gen.wraps arena.old calls.items replies.items arena.new)
+        (λ replies. Run ⟦<P as AnyPointer>⟧.kind arena.old calls.items replies.items arena.new)
         (λ refused. arena.new ≡ arena.old) }
 {
     let replies = replies_to(alloc, arena, calls);
@@ -209,7 +211,7 @@ fn replies_to<P: PtrKey, T: Drop, S: SlotStack<Item = ArenaSlot<P, LinkNoGen<P, 
     arena: &mut ChainArena<P, T, S>,
     calls: Vec<Call<P, T>>,
 ) -> Result<Vec<Reply<P, T>>, AllocError>
-    ensures run { IfOk result (λ replies. Run P.key P.Inx.number P.Inx.packed_number P.Inx.greatest P.Gen.first P.Gen.following P.Gen.wraps arena.old calls.items replies.items arena.new) }
+    ensures run { IfOk result (λ replies. Run ⟦<P as AnyPointer>⟧.kind arena.old calls.items replies.items arena.new) }
     ensures err { OnErr result (arena.new ≡ arena.old) }
 {
     let mut replies = Vec::with_capacity(alloc, calls.len())?;
@@ -229,7 +231,7 @@ fn replies_to<P: PtrKey, T: Drop, S: SlotStack<Item = ArenaSlot<P, LinkNoGen<P, 
 /// the reply, and the arena but for room and touches (`step`); where more links are asked for than the greatest index, they
 /// do so in any case.
 pub fn runs_are_determined<P: PtrKey, T: Drop>()
-    ensures in_room { RunIsDetermined P.key P.Inx.number P.Inx.packed_number P.Inx.greatest P.Gen.first P.Gen.following P.Gen.wraps T }
-    ensures step { StepIsDetermined P.key P.Inx.number P.Inx.packed_number P.Inx.greatest P.Gen.first P.Gen.following P.Gen.wraps T }
-    ensures by_room { RunIsDeterminedByRoom P.key P.Inx.number P.Inx.packed_number P.Inx.greatest P.Gen.first P.Gen.following P.Gen.wraps T }
+    ensures in_room { RunIsDetermined ⟦<P as AnyPointer>⟧.kind T }
+    ensures step { StepIsDetermined ⟦<P as AnyPointer>⟧.kind T }
+    ensures by_room { RunIsDeterminedByRoom ⟦<P as AnyPointer>⟧.kind T }
 {}

@@ -1,6 +1,7 @@
 //! Links in chains over a generational arena, which it reaches by the contracts of its calls alone.
 #![tactic(auto)]
 
+mod any_pointer;
 mod calls;
 mod chain_advancer;
 mod chain_arena;
@@ -19,6 +20,7 @@ mod texts;
 mod transfer;
 mod visiting;
 
+pub use any_pointer::AnyPointer;
 pub use calls::{Call, Reply, apply, run_calls, runs_are_determined};
 pub use chain_advancer::ChainPtrAdvancer;
 pub use chain_arena::ChainArena;

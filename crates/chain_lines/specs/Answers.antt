@@ -22,6 +22,7 @@ use Rattle.arena_base.specs.Arena.{Arena, IsValid, entry_count}
 use Rattle.chain_links.specs.ChainArena as chain
 use Rattle.chain_links.specs.ChainArena.{LinkSeen, shown, seen, entry, IsWalkOf}
 use Rattle.chain_layout.specs.Layouts.{AreAllMoves}
+use Rattle.chain_arena.specs.PointerKinds.{PointerKind}
 use Rattle.chain_arena.specs.Steps.{Step}
 use Rattle.chain_arena.specs.declared.calls.Call.TheVariants.{CompressCanonical}
 use Rattle.chain_arena.specs.declared.calls.Reply.{Reply}
@@ -118,9 +119,21 @@ reply_text Set = codes "ok"
 abbrev pub greatest_index : ℕ
 greatest_index = 0xffff_ffff
 
+-- the pointers of the program: indexes and generations of 32 bits
+abbrev pub tool_pointers : PointerKind ToolPtr Inx32 Gen32 ℕ
+tool_pointers = record {
+  key = key_of;
+  number = number_of_inx32;
+  packed = zero_is_none;
+  greatest = greatest_index;
+  first = two32;
+  following = after32;
+  wraps = is_greatest32;
+}
+
 -- a call is a step of the chain machine, and its answer is the text of the reply
 abbrev pub Changes : Links → LinkCall → List ℕ → Links → Type 0
-Changes old call text new = (reply : Reply ToolPtr ℕ Inx32 Gen32 ℕ) × Step key_of number_of_inx32 zero_is_none greatest_index two32 after32 is_greatest32 old call reply new × (text ≡ reply_text reply)
+Changes old call text new = (reply : Reply ToolPtr ℕ Inx32 Gen32 ℕ) × Step tool_pointers old call reply new × (text ≡ reply_text reply)
 
 pub data Shows (old : Links) (p : ℕ × Gen32) (text : List ℕ) : Type 0 where
   link : (prev next : Option (ℕ × Gen32)) (value : ℕ) → IsLinkAt old p prev next value → text ≡ show_text prev next value → Shows old p text
@@ -152,7 +165,7 @@ CanTake text more = length (string_bytes text) + length more ≤ string_capacity
 pub record TellsMoves (old : Links) (reset : Bool) (text : List ℕ) (new : Links) : Type 0 where
   pub told : InvalidationOption Unit
   pub moves : List (ToolPtr × ToolPtr)
-  pub step : Step key_of number_of_inx32 zero_is_none greatest_index two32 after32 is_greatest32 old (CompressCanonical reset) (Counted told) new
+  pub step : Step tool_pointers old (CompressCanonical reset) (Counted told) new
   pub all : AreAllMoves key_of (seen old) (shown old) new.counter moves
   pub words : text ≡ moves_text moves told
 

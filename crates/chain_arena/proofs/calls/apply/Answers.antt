@@ -2,6 +2,7 @@
 use Rattle.std.proofs.Common.{refl, ap}
 use Rattle.chain_arena.specs.declared.calls.Reply.TheVariants as reply
 use Rattle.chain_links.specs.ChainArena.{values_of}
+use Rattle.chain_arena.proofs.Bounds.{kind_by}
 use Rattle.chain_arena.proofs.Lending.{valid_or_not}
 use Rattle.chain_arena.proofs.Stepping.{joins, breaks_prev, breaks_next, exchanges, removes_link, removes_inx, renews_link, clears_all, compresses}
 use Rattle.chain_arena.proofs.calls.apply.Goals as goal
@@ -45,7 +46,7 @@ returns-in-Remove g c =
       step = (
         c.remove_link_no_gen.result,
         refl,
-        removes_link g.P.Inx.InxKey.packed_number g.P.Gen.GenKey.following g.P.Gen.GenKey.wraps old c.remove_link_no_gen.new.self p c.remove_link_no_gen.result
+        removes_link (kind_by g.P.PtrKey g.P.Inx.InxKey g.P.Gen.GenKey) old c.remove_link_no_gen.new.self p c.remove_link_no_gen.result
             (valid_or_not _ g.met.P.Gen.GenKey.eq_is_same (values_of old) p) (λ valid. (made.valid valid).0) (λ valid. record { state = made.state valid; shows = (made.valid valid).2; chains = made.chains valid; pairs = made.pairs valid })
             made.overflow made.invalid,
       );
@@ -58,7 +59,7 @@ returns-in-RemoveInx g c =
       step = (
         c.remove_inx_link_no_gen.result,
         refl,
-        removes_inx g.P.Inx.InxKey.packed_number g.P.Gen.GenKey.following g.P.Gen.GenKey.wraps c.args.arena.now c.remove_inx_link_no_gen.new.self (g.P.Inx.InxKey.number c.in-RemoveInx.i)
+        removes_inx (kind_by g.P.PtrKey g.P.Inx.InxKey g.P.Gen.GenKey) c.args.arena.now c.remove_inx_link_no_gen.new.self (g.P.Inx.InxKey.number c.in-RemoveInx.i)
             c.remove_inx_link_no_gen.result made.answer (λ stands. record { state = made.state stands; shows = (made.valid stands).1; chains = made.chains stands; pairs = made.pairs stands }) made.overflow made.invalid,
       );
     })
@@ -72,7 +73,7 @@ returns-in-Invalidate g c =
       step = (
         c.invalidate.result,
         refl,
-        renews_link g.P.PtrKey.key g.P.Gen.GenKey.following g.P.Gen.GenKey.wraps old c.invalidate.new.self p c.invalidate.result (valid_or_not _ g.met.P.Gen.GenKey.eq_is_same (values_of old) p)
+        renews_link (kind_by g.P.PtrKey g.P.Inx.InxKey g.P.Gen.GenKey) old c.invalidate.new.self p c.invalidate.result (valid_or_not _ g.met.P.Gen.GenKey.eq_is_same (values_of old) p)
             made.valid made.counter made.invalid made.more,
       );
     })
@@ -83,7 +84,7 @@ returns-in-DrainChain g c = rw c.in-DrainChain.is (record { step = (c.drain.resu
 pub returns-in-Clear : goal.returns-in-Clear
 returns-in-Clear g c =
     rw c.in-Clear.is (record {
-      step = (ap (λ r. reply.Counted r) (clears_all g.P.PtrKey.key g.P.Gen.GenKey.following g.P.Gen.GenKey.wraps c.args.arena.now c.clear.new.self c.clear.result c.clear.ensures.overflow), c.clear.ensures.more);
+      step = (ap (λ r. reply.Counted r) (clears_all g.P.Gen.GenKey.wraps c.args.arena.now c.clear.result c.clear.ensures.overflow), c.clear.ensures.more);
     })
 
 pub returns-in-Reserve : goal.returns-in-Reserve

@@ -1,5 +1,6 @@
 -- What an insertion that may grow answers is a step.
 use Rattle.chain_links.specs.Kinds.{names_in}
+use Rattle.chain_arena.proofs.Bounds.{kind_by}
 use Rattle.chain_arena.proofs.Deciding.{stable-insertion}
 use Rattle.chain_arena.proofs.Stepping.{inserts_growing}
 use Rattle.chain_arena.proofs.calls.insert.Goals as goal
@@ -8,6 +9,6 @@ pub returns : goal.returns
 returns g c =
     let old = c.args.arena.now in
     let made = c.insert_reallocating.ensures in
-    inserts_growing g.P.PtrKey.key g.P.Inx.InxKey.number old c.insert_reallocating.new.self c.args.kind c.args.t
+    inserts_growing (kind_by g.P.PtrKey g.P.Inx.InxKey g.P.Gen.GenKey) old c.insert_reallocating.new.self c.args.kind c.args.t
     (stable-insertion _ g.met.P.Gen.GenKey.eq_is_same old (names_in g.P.PtrKey.key g.P.Inx.InxKey.number c.args.kind)) c.len.result c.len.ensures.count c.len.ensures.fits
-    g.P.Inx.InxKey.greatest c.insert_reallocating.result _ made.inserted made.err made.link made.error made.room made.beyond made.place made.state made.state_in_room made.state_grown
+    c.insert_reallocating.result _ made.inserted made.err made.link made.error made.room made.beyond made.place made.state made.state_in_room made.state_grown

@@ -1,5 +1,6 @@
 -- What an insertion within the capacity answers is a step.
 use Rattle.chain_links.specs.Kinds.{names_in}
+use Rattle.chain_arena.proofs.Bounds.{kind_by}
 use Rattle.chain_arena.proofs.Deciding.{stable-insertion}
 use Rattle.chain_arena.proofs.Stepping.{inserts_within}
 use Rattle.chain_arena.proofs.calls.insert_within.Goals as goal
@@ -8,6 +9,6 @@ pub returns : goal.returns
 returns g c =
     let old = c.args.arena.now in
     let made = c.insert_within_capacity.ensures in
-    inserts_within g.P.PtrKey.key g.P.Inx.InxKey.number old c.insert_within_capacity.new.self c.args.kind c.args.t
+    inserts_within (kind_by g.P.PtrKey g.P.Inx.InxKey g.P.Gen.GenKey) old c.insert_within_capacity.new.self c.args.kind c.args.t
     (stable-insertion _ g.met.P.Gen.GenKey.eq_is_same old (names_in g.P.PtrKey.key g.P.Inx.InxKey.number c.args.kind)) c.len.result c.len.ensures.count c.len.ensures.fits
     c.insert_within_capacity.result made.inserted made.err made.link made.full made.error made.place made.state

@@ -1,5 +1,6 @@
 -- Each call is made, and its reply is pushed where there is room.
 use Rattle.std.proofs.Common.{sym, ◌∙◌, arith}
+use Rattle.chain_arena.proofs.Bounds.{kind_by}
 use Rattle.chain_arena.proofs.Running.{under_way_first, under_way_more, under_way_last}
 use Rattle.chain_arena.proofs.calls.replies_to.Goals as goal
 
@@ -9,7 +10,7 @@ loop-call-init g c =
     let none = c.in_ok-replies.ensures.len in
     let room = c.in_ok-replies.ensures.capacity in
     let counted = c.len.ensures in (
-      under_way_first g.P.PtrKey.key g.P.Inx.InxKey.number g.P.Inx.InxKey.packed_number g.P.Inx.InxKey.greatest g.P.Gen.GenKey.first g.P.Gen.GenKey.following g.P.Gen.GenKey.wraps _ _ _ _ gives.0 c.in_ok-replies.ensures.items,
+      under_way_first (kind_by g.P.PtrKey g.P.Inx.InxKey g.P.Gen.GenKey) _ _ _ _ gives.0 c.in_ok-replies.ensures.items,
       omega (arith, gives.1, none, room, counted),
     )
 
@@ -19,11 +20,11 @@ loop-call-preserved g c =
     let more = c.in-Ok.ensures.len in
     let room = c.in-Ok.ensures.capacity in
     let before = c.loop-call.invariant.1 in (
-      under_way_more g.P.PtrKey.key g.P.Inx.InxKey.number g.P.Inx.InxKey.packed_number g.P.Inx.InxKey.greatest g.P.Gen.GenKey.first g.P.Gen.GenKey.following g.P.Gen.GenKey.wraps _ _ _ _ _ _ _ _ _ _ c.loop-call.invariant.0 steps.0 c.apply-reply.ensures.step c.in-Ok.ensures.items,
+      under_way_more (kind_by g.P.PtrKey g.P.Inx.InxKey g.P.Gen.GenKey) _ _ _ _ _ _ _ _ _ _ c.loop-call.invariant.0 steps.0 c.apply-reply.ensures.step c.in-Ok.ensures.items,
       omega (arith, steps.1, more, room, before),
     )
 
 pub returns-clause-run : goal.returns-clause-run
 returns-clause-run g c =
-    under_way_last g.P.PtrKey.key g.P.Inx.InxKey.number g.P.Inx.InxKey.packed_number g.P.Inx.InxKey.greatest g.P.Gen.GenKey.first g.P.Gen.GenKey.following g.P.Gen.GenKey.wraps _ _ _ _ _ c.loop-call.invariant.0
+    under_way_last (kind_by g.P.PtrKey g.P.Inx.InxKey g.P.Gen.GenKey) _ _ _ _ _ c.loop-call.invariant.0
     (sym c.loop-call.call-iterator.rest.ok.0 ∙ c.in-None.ensures.steps.0)

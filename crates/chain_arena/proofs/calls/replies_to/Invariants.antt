@@ -1,10 +1,11 @@
 -- The calls made and their replies are a run, and there is room for the replies to those that are left.
 use Rattle.std.proofs.Common.{◌≤◌, ◌+◌, vec_len, vec_capacity}
 use Rattle.std.specs.Vec.Iter.{into_iter_items, into_iter_len}
+use Rattle.chain_arena.proofs.Bounds.{kind_by}
 use Rattle.chain_arena.proofs.Running.{IsUnderWay}
 use Rattle.chain_arena.proofs.calls.replies_to.Given as goal
 
 abbrev pub invariant-loop-call : goal.invariant-loop-call
 invariant-loop-call g l =
-    IsUnderWay g.P.PtrKey.key g.P.Inx.InxKey.number g.P.Inx.InxKey.packed_number g.P.Inx.InxKey.greatest g.P.Gen.GenKey.first g.P.Gen.GenKey.following g.P.Gen.GenKey.wraps l.fn.arena l.arena l.fn.calls.items (into_iter_items l.call-iterator) l.replies.items
+    IsUnderWay (kind_by g.P.PtrKey g.P.Inx.InxKey g.P.Gen.GenKey) l.fn.arena l.arena l.fn.calls.items (into_iter_items l.call-iterator) l.replies.items
     × (vec_len l.replies + into_iter_len l.call-iterator ≤ vec_capacity l.replies)

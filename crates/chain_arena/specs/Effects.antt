@@ -1,0 +1,77 @@
+-- What calls make of an arena of links, and why they are refused.
+use Rattle.std.specs.Prelude.{◌≡◌, ℕ, ◌<◌, ◌≤◌, min, Bool, true, false, List, length}
+use Rattle.arena_ptr.specs.SlotStack.{IsBeyond}
+use Rattle.arena_ptr.specs.declared.errors.ReallocationError.{ReallocationError}
+use Rattle.arena_ptr.specs.declared.errors.ReallocationError.TheVariants as refused
+use Rattle.arena_ptr.specs.declared.invalidation.InvalidationResult.{InvalidationResult}
+use Rattle.arena_ptr.specs.declared.invalidation.InvalidationResult.TheVariants.{Success, GenerationOverflow, InvalidPtr}
+use Rattle.chain_laws.specs.Insertions.{InsertKind, link_before, link_after, InsertsPairs, Inserts}
+use Rattle.chain_laws.specs.Walks.{IsWalk, TakesWalk}
+use Rattle.arena_base.specs.Arena.{Arena, IsValid, HasRoom, next_index, with_capacity_of}
+use Rattle.arena_base.specs.Compressing.{IsCompressed, values_in}
+use Rattle.arena_base.specs.Entries.{entries}
+use Rattle.chain_links.specs.CanonicalLayouts.{IsCanonicalLayout}
+use Rattle.chain_links.specs.ChainArena.{LinkSeen, shown, entry, values_of, seen, insert_as}
+use Rattle.chain_links.specs.Kinds.{names_in, by_index, MayInsert}
+use Rattle.chain_links.specs.declared.kinds.InsertKindBody.{InsertKindBody}
+use Rattle.chain_layout.specs.Compressions.{ClosesGaps}
+use Rattle.chain_arena.specs.Drains.{without_each}
+
+-- the links of an arena
+abbrev pub Links : Type 0 → Type 0 → Type 0
+Links Gen T = Arena Gen (LinkSeen T)
+
+module _ {Gen T : Type 0} where
+  -- room for n: where there was enough it stays as it is, and else the arena has grown to it, up to the greatest index
+  -- and within the maximum
+  pub data HasRoomFor (greatest n : ℕ) (old new : Links Gen T) : Type 0 where
+    stays : n ≤ old.capacity → new.capacity ≡ old.capacity → new.stack_capacity ≡ old.stack_capacity → HasRoomFor greatest n old new
+    grown : old.capacity < n → HasRoom greatest n new → HasRoomFor greatest n old new
+
+  -- why it is not made: it would go beyond the maximum; or memory is refused, or an index above the greatest needed
+  abbrev pub Refuses : ℕ → Links Gen T → ReallocationError → Type 0
+  Refuses n old refused.BeyondMaxCapacity = (old.capacity < n) × IsBeyond old.maximum n
+  Refuses n old refused.AllocError = (old.capacity < n) × (IsBeyond old.maximum n → ⊥)
+
+  -- a pointer's chain is drained: its links are gone, in walk order, and so many at most are counted
+  pub record IsDrained (following : Gen → Gen) (old : Links Gen T) (p : ℕ × Gen) (take count : ℕ) (new : Links Gen T) : Type 0 where
+    pub valid : IsValid (entry old) p
+    pub walk : List ℕ
+    pub is_walk : IsWalk (shown old) p.0 walk
+    pub counted : count ≡ min take (length walk)
+    pub state : new ≡ without_each following old walk
+    pub chains : TakesWalk (shown old) (shown new) walk
+
+  -- the gaps are closed: the links come to the indexes from 1 on, in the order of their indexes, each with its value, and
+  -- name the new indexes of their neighbors
+  pub record IsCompression (first : Gen) (following : Gen → Gen) (reset : Bool) (old new : Links Gen T) : Type 0 where
+    pub seen : IsCompressed first following reset (seen old) (seen new)
+    pub values : values_in (entries (values_of new)) ≡ values_in (entries (values_of old))
+    pub links : ClosesGaps old new
+
+  -- the chains are laid one after another
+  pub record IsCanonicalCompression (first : Gen) (following : Gen → Gen) (reset : Bool) (old new : Links Gen T) : Type 0 where
+    pub layout : IsCanonicalLayout first following reset (seen old) (shown old) (seen new) (shown new)
+    pub stack_capacity : new.stack_capacity ≡ old.stack_capacity
+
+module _ {P I Gen : Type 0} (key : P → ℕ × Gen) (number : I → ℕ) where
+  -- a kind by the indexes that it names
+  abbrev pub kind_of : InsertKindBody P I → InsertKind ℕ
+  kind_of kind = by_index (names_in key number kind)
+
+  -- a link of the kind may be inserted
+  abbrev pub May : {T : Type 0} → Links Gen T → InsertKindBody P I → Type 0
+  May old kind = MayInsert (entry old) (shown old) (names_in key number kind)
+
+-- there is a new link of a kind, at this pointer: it stands between the two that the kind gives
+pub record IsAdded {P Gen T : Type 0} (key : P → ℕ × Gen) (old : Links Gen T) (kind : InsertKind ℕ) (t : T) (p : P) (new : Links Gen T) : Type 0 where
+  pub pointer : key p ≡ (next_index old, old.counter)
+  pub state : new ≡ with_capacity_of (insert_as old kind t) new
+  pub pairs : InsertsPairs (shown old) (shown new) (next_index old) (link_before (shown old) kind (next_index old)) (link_after (shown old) kind (next_index old))
+  pub chains : Inserts (shown old) (shown new) (next_index old) (link_before (shown old) kind (next_index old)) (link_after (shown old) kind (next_index old))
+
+-- an answer where something may be invalid: it is told whether the counter overflowed
+abbrev pub Tells : {X : Type 0} → Type 0 → Bool → (X → Type 0) → InvalidationResult X → Type 0
+Tells invalid overflow done InvalidPtr = invalid
+Tells invalid overflow done (Success x) = (overflow ≡ false) × done x
+Tells invalid overflow done (GenerationOverflow x) = (overflow ≡ true) × done x
