@@ -4,7 +4,7 @@ use Rattle.std.specs.Borrow.{Bor}
 use Rattle.std.specs.Fn.{Mut}
 use Rattle.arena_base.specs.Arena.{Arena, new_arena}
 use Rattle.arena_base.specs.Entries.{entries}
-use Rattle.arena_base.specs.Copying.{CopiesBy, IsCopyCall, HasSlotsOf}
+use Rattle.arena_base.specs.Copying.{CopiesBy, IsCopyCall, HasRefusable, HasSlotsOf}
 use Rattle.chain_links.specs.declared.links.LinkBody.{LinkBody}
 use Rattle.chain_links.specs.ChainArena.{LinkSeen, interlinks_in, shown, values_of}
 use Rattle.chain_links.specs.Links.{seen_link, seen_links}
@@ -24,6 +24,10 @@ pub record MakesOf {F P V U T : Type 0} (look : V → U) (makes : F → P → V 
 -- .. and which of them may be refused
 abbrev pub RefusesOf : {P V U : Type 0} → (V → U) → (P → V → Type 0) → P → U → Type 0
 RefusesOf {V = V} look may_refuse p u = (shown : V) × (look shown ≡ u) × may_refuse p shown
+
+-- one of the links of a source may be refused a value
+abbrev pub HasRefusableLink : {P K U Gen : Type 0} → (K → Option ℕ) → (P → LinkBody K U → Type 0) → (P → ℕ × Gen) → Arena Gen (LinkSeen U) → Type 0
+HasRefusableLink number may_refuse key source = HasRefusable (RefusesOf (seen_link number) may_refuse) key (entries source)
 
 -- a chain arena has become a copy of another, with values that were made of its links
 pub record IsLinkCopyBy {F P U T Gen : Type 0} (makes : F → P → LinkSeen U → T → F → Type 0) (key : P → ℕ × Gen) (f : F) (source : Arena Gen (LinkSeen U)) (old new : Arena Gen (LinkSeen T)) (last : F) : Type 0 where

@@ -5,11 +5,13 @@ use Rattle.std.specs.List.{FoldsTo, range_with_len}
 use Rattle.arena_ptr.specs.Invalidation.{value_in, is_overflow}
 use Rattle.arena_ptr.specs.declared.invalidation.InvalidationOption.{InvalidationOption}
 use Rattle.chain_laws.specs.Chains.{Shown}
+use Rattle.chain_laws.specs.Insertions.{IsGap}
+use Rattle.chain_laws.specs.Relays.{end_before, end_after}
 use Rattle.chain_laws.specs.Renamings.{IsRenaming}
 use Rattle.chain_laws.specs.Arrangements.{place_in, IsLeastIndexOrder}
-use Rattle.arena_base.specs.Arena.{Arena}
+use Rattle.arena_base.specs.Arena.{Arena, next_index}
 use Rattle.arena_base.specs.Entries.{Seen, entries, found, entry_removed}
-use Rattle.chain_links.specs.ChainArena.{LinkSeen, shown, values_of}
+use Rattle.chain_links.specs.ChainArena.{LinkSeen, shown, values_of, insert_between}
 use Rattle.chain_links.specs.CanonicalLayouts.{IsCanonicalLayout}
 
 -- a link that was carried over: the pointer that it had, its value with whether its removal overflowed the counter, the
@@ -76,3 +78,12 @@ LaysOutAlike {Q} {P} {G} {Gen} {U} {T} {F} key new_key first following wraps cal
 abbrev pub AreEnds : {I : Type 0} → (I → ℕ) → Option (I × I) → ℕ → ℕ → Type 0
 AreEnds number None m q = m ≡ 0
 AreEnds number (Some ends) m q = (1 ≤ m) × (number ends.0 + m ≡ q) × (number ends.1 + 1 ≡ q)
+
+module _ {Gen T : Type 0} (ring : Bool) (m : ℕ) (now : Arena Gen (LinkSeen T)) where
+  -- behind so many links of a chain that lie last there is a gap
+  abbrev pub HasGapBehind : Type 0
+  HasGapBehind = IsGap (shown now) (next_index now) (end_before ring m (next_index now)) (end_after ring m (next_index now))
+
+  -- the arena with a link there
+  abbrev pub laid_behind : T → Arena Gen (LinkSeen T)
+  laid_behind t = insert_between now t (end_before ring m (next_index now)) (end_after ring m (next_index now))

@@ -3,11 +3,10 @@ ghost use Rattle.std.specs.Prelude.{◌≡◌, ◌≤◌, ◌↔◌, ◌⊎◌, 
 ghost use Rattle.arena_ptr.specs.SlotStack.{IsBeyond};
 ghost use Rattle.chain_laws.specs.Chains.{Agrees};
 ghost use Rattle.arena_base.specs.Arena.{HasRoom, IsRoom, IsWithinReach};
-ghost use Rattle.arena_base.specs.Entries.{entries};
-ghost use Rattle.arena_base.specs.Copying.{IsCopyBy, IsCopyCall, HasRefusable, IsGivenUp, IsLeftEmpty};
+ghost use Rattle.arena_base.specs.Copying.{IsCopyBy, IsCopyCall, IsGivenUp, IsLeftEmpty};
 ghost use Rattle.chain_links.specs.ChainArena.{shown};
 ghost use Rattle.chain_links.specs.Links.{seen_link};
-ghost use Rattle.chain_arena.specs.Copies.{MakesOf, RefusesOf, IsLinkCopy, IsLinkCopyBy, IsClone, IsCopyBelow};
+ghost use Rattle.chain_arena.specs.Copies.{MakesOf, HasRefusableLink, IsLinkCopy, IsLinkCopyBy, IsClone, IsCopyBelow};
 
 use crate::chain_arena::ChainArena;
 use arena_base::{Answering, Arena, ArenaCloneFromWith, ArenaSlot, ArenaTrait, ValueMap};
@@ -65,7 +64,7 @@ impl<P: PtrKey, T: Drop, S: SlotStack<Item = ArenaSlot<P, LinkNoGen<P, T>>>> Cha
     >(&mut self, source: &ChainArena<P, U, S1>, values: M) -> (Result<(), ReallocationError>, M)
         requires { M.is_ready values }
         ensures within { length source.now.slots ≤ self.old.capacity →
-            (IsOk result.0 ⊎ HasRefusable (RefusesOf (seen_link P.Inx.packed_number) M.may_refuse) P.key (entries source.now)) × (self.new.capacity ≡ self.old.capacity) }
+            (IsOk result.0 ⊎ HasRefusableLink P.Inx.packed_number M.may_refuse P.key source.now) × (self.new.capacity ≡ self.old.capacity) }
         ensures beyond { (result.0 ≡ Err ReallocationError.BeyondMaxCapacity) ↔ IsBeyond self.old.maximum (length source.now.slots) }
         ensures ok { OnOk result.0 (HasRoom P.Inx.greatest (length source.now.slots) self.new) }
         ensures copied { OnOk result.0 (IsLinkCopyBy (MakesOf (seen_link P.Inx.packed_number) M.makes) P.key values source.now self.old self.new result.1) }
@@ -73,7 +72,7 @@ impl<P: PtrKey, T: Drop, S: SlotStack<Item = ArenaSlot<P, LinkNoGen<P, T>>>> Cha
         ensures never_less { self.old.capacity ≤ self.new.capacity }
         ensures reached { IsWithinReach S.may_reach (length source.now.slots) self.old self.new }
         ensures err { OnErr result.0 (((self.new ≡ self.old) × (result.1 ≡ values))
-            ⊎ (HasRefusable (RefusesOf (seen_link P.Inx.packed_number) M.may_refuse) P.key (entries source.now) × IsGivenUp self.old self.new)) }
+            ⊎ (HasRefusableLink P.Inx.packed_number M.may_refuse P.key source.now × IsGivenUp self.old self.new)) }
         ensures agreed { Agrees (shown source.now) }
     {
         let (done, links) = self.arena.clone_from_by(&source.arena, LinkMap { values });
@@ -119,14 +118,14 @@ impl<P: PtrKey, T: Drop, S: SlotStack<Item = ArenaSlot<P, LinkNoGen<P, T>>>> Cha
     >(&self, arena: &mut A, values: M) -> (Result<(), ReallocationError>, M)
         requires { M.is_ready values }
         ensures within { length self.now.slots ≤ (A.seen arena.old).capacity →
-            (IsOk result.0 ⊎ HasRefusable (RefusesOf (seen_link P.Inx.packed_number) M.may_refuse) P.key (entries self.now)) × ((A.seen arena.new).capacity ≡ (A.seen arena.old).capacity) }
+            (IsOk result.0 ⊎ HasRefusableLink P.Inx.packed_number M.may_refuse P.key self.now) × ((A.seen arena.new).capacity ≡ (A.seen arena.old).capacity) }
         ensures beyond { (result.0 ≡ Err ReallocationError.BeyondMaxCapacity) ↔ IsBeyond (A.seen arena.old).maximum (length self.now.slots) }
         ensures ok { OnOk result.0 (IsRoom P.Inx.greatest (A.seen arena.new).maximum (length self.now.slots) (A.seen arena.new).capacity) }
         ensures copied { OnOk result.0 (IsCopyBy (MakesOf (seen_link P.Inx.packed_number) M.makes) P.key values self.now (A.seen arena.old) (A.seen arena.new) result.1) }
         ensures ready { OnOk result.0 (M.is_ready result.1) }
         ensures never_less { (A.seen arena.old).capacity ≤ (A.seen arena.new).capacity }
         ensures err { OnErr result.0 (((arena.new ≡ arena.old) × (result.1 ≡ values))
-            ⊎ (HasRefusable (RefusesOf (seen_link P.Inx.packed_number) M.may_refuse) P.key (entries self.now) × IsLeftEmpty (A.seen arena.old) (A.seen arena.new))) }
+            ⊎ (HasRefusableLink P.Inx.packed_number M.may_refuse P.key self.now × IsLeftEmpty (A.seen arena.old) (A.seen arena.new))) }
         ensures more { OnOk result.0 (IsCopyBelow P.Inx.packed_number (A.copies _) self.now arena.old arena.new) }
     {
         arena.clone_from_by(&self.arena, values)

@@ -17,6 +17,7 @@ ghost use Rattle.chain_links.specs.ChainArena.{seen, entry, relinked, insert_as,
 ghost use Rattle.chain_links.specs.Insertions.{IsInsertion};
 ghost use Rattle.chain_links.specs.Kinds.{names_in, by_index, MayInsert};
 ghost use Rattle.chain_links.specs.CanonicalLayouts.{IsCanonicalLayout};
+ghost use Rattle.chain_arena.specs.Effects.{kind_of, May};
 ghost use Rattle.chain_arena.specs.Growths.{growth_of};
 ghost use Rattle.chain_links.specs.Links.{seen_link, seen_lent};
 ghost use Rattle.chain_laws.specs.Walks.{walker_at};
@@ -104,7 +105,7 @@ impl<P: PtrKey, T: Drop, S: SlotStack<Item = ArenaSlot<P, LinkNoGen<P, T>>>> Cha
         ensures greatest { count (seen self.old) ≡ P.Inx.greatest → IsErr result }
         ensures place { IfOk result (λ p. (P.key p).0 ≡ next_index self.old) }
         ensures state { OnOk result (self.new ≡ with_capacity_of (insert_as self.old (by_index (names_in P.key P.Inx.number kind)) t) self.new) }
-        ensures state_in_room { MayInsert (entry self.old) (interlinks self.old) (names_in P.key P.Inx.number kind) → entry_count self.old < self.old.capacity → self.new ≡ insert_as self.old (by_index (names_in P.key P.Inx.number kind)) t }
+        ensures state_in_room { May P.key P.Inx.number self.old kind → entry_count self.old < self.old.capacity → self.new ≡ insert_as self.old (kind_of P.key P.Inx.number kind) t }
         ensures state_grown { OnOk result (HasRoom P.Inx.greatest (entry_count self.old + 1) self.new) }
     {
         let asked = self.gap_growing(kind);

@@ -3,13 +3,13 @@ ghost use Rattle.std.specs.Prelude.{◌≡◌, ◌≢◌, ◌↔◌, ◌<◌, �
 ghost use Rattle.std.specs.Borrow.{RestsIfErr, sem};
 ghost use Rattle.std.specs.Option.{option_map};
 ghost use Rattle.arena_ptr.specs.Numbers.{IsWithin};
-ghost use Rattle.arena_ptr.specs.SlotStack.{IsBeyond};
 ghost use Rattle.chain_laws.specs.Insertions.{IsGap, link_before, link_after};
 ghost use Rattle.arena_base.specs.Arena.{entry_count, next_index, with_capacity_of, HasRoom};
-ghost use Rattle.chain_links.specs.ChainArena.{entry, seen, shown, insert_between};
-ghost use Rattle.chain_links.specs.Insertions.{IsInsertionBetween, index_from};
-ghost use Rattle.chain_links.specs.Kinds.{names_in, by_index, MayInsert};
+ghost use Rattle.chain_links.specs.ChainArena.{entry, shown, insert_between};
+ghost use Rattle.chain_links.specs.Insertions.{index_from};
 ghost use Rattle.chain_interlinks.specs.Gaps.{before_in, after_in};
+ghost use Rattle.chain_arena.specs.Effects.{kind_of, May};
+ghost use Rattle.chain_arena.specs.Places.{ComesBetween, RefusesOneMore};
 
 use crate::chain_arena::ChainArena;
 use arena_base::{ArenaSlot, ArenaTrait};
@@ -79,13 +79,13 @@ impl<P: PtrKey, T: Drop, S: SlotStack<Item = ArenaSlot<P, LinkNoGen<P, T>>>> Cha
             (record { number = P.Inx.number; packed_number = P.Inx.packed_number; greatest = P.Inx.greatest }) (record { eq = P.Inx.eq })
             (record { first = P.Gen.first; following = P.Gen.following; wraps = P.Gen.wraps }) (record { eq = P.Gen.eq }) S.SlotStack)
             self.entry (λ e. e.arena.ghost_name) result (λ n. n ≡ self.old)) }
-        ensures link { (result ≡ Err ChainInsertionError.FailedLinkRequirement) ↔ ¬ MayInsert (entry self.old) (shown self.old) (names_in P.key P.Inx.number kind) }
-        ensures full { (result ≡ Err ChainInsertionError.NotWithinCapacity) ↔ (MayInsert (entry self.old) (shown self.old) (names_in P.key P.Inx.number kind) × (entry_count self.old ≡ self.old.capacity)) }
+        ensures link { (result ≡ Err ChainInsertionError.FailedLinkRequirement) ↔ ¬ May P.key P.Inx.number self.old kind }
+        ensures full { (result ≡ Err ChainInsertionError.NotWithinCapacity) ↔ (May P.key P.Inx.number self.old kind × (entry_count self.old ≡ self.old.capacity)) }
         ensures error { IfErr result (λ e. (e ≡ ChainInsertionError.FailedLinkRequirement) ⊎ (e ≡ ChainInsertionError.NotWithinCapacity)) }
         ensures same_reference { IfOk result (λ e. e.arena.ghost_name ≡ self.entry.ghost_name) }
         ensures arena { IfOk result (λ e. e.arena.now ≡ self.old) }
-        ensures prev { IfOk result (λ e. index_from e.prev ≡ link_before (shown self.old) (by_index (names_in P.key P.Inx.number kind)) (next_index self.old)) }
-        ensures next { IfOk result (λ e. index_from e.next ≡ link_after (shown self.old) (by_index (names_in P.key P.Inx.number kind)) (next_index self.old)) }
+        ensures prev { IfOk result (λ e. index_from e.prev ≡ link_before (shown self.old) (kind_of P.key P.Inx.number kind) (next_index self.old)) }
+        ensures next { IfOk result (λ e. index_from e.next ≡ link_after (shown self.old) (kind_of P.key P.Inx.number kind) (next_index self.old)) }
     {
         match self.gap_within(kind) {
             Ok(gap) => Ok(self.entry_in(gap)),
@@ -108,16 +108,16 @@ impl<P: PtrKey, T: Drop, S: SlotStack<Item = ArenaSlot<P, LinkNoGen<P, T>>>> Cha
             (record { number = P.Inx.number; packed_number = P.Inx.packed_number; greatest = P.Inx.greatest }) (record { eq = P.Inx.eq })
             (record { first = P.Gen.first; following = P.Gen.following; wraps = P.Gen.wraps }) (record { eq = P.Gen.eq }) S.SlotStack)
             self.entry (λ e. e.arena.ghost_name) result (λ n. n ≡ self.old)) }
-        ensures link { (result ≡ Err ChainInsertionError.FailedLinkRequirement) ↔ ¬ MayInsert (entry self.old) (shown self.old) (names_in P.key P.Inx.number kind) }
+        ensures link { (result ≡ Err ChainInsertionError.FailedLinkRequirement) ↔ ¬ May P.key P.Inx.number self.old kind }
         ensures error { IfErr result (λ e. e ≢ ChainInsertionError.NotWithinCapacity) }
-        ensures room { MayInsert (entry self.old) (shown self.old) (names_in P.key P.Inx.number kind) → entry_count self.old < self.old.capacity → IsOkAnd result (λ e. e.arena.now ≡ self.old) }
+        ensures room { May P.key P.Inx.number self.old kind → entry_count self.old < self.old.capacity → IsOkAnd result (λ e. e.arena.now ≡ self.old) }
         ensures grown { IfOk result (λ e. HasRoom P.Inx.greatest (entry_count self.old + 1) e.arena.now) }
-        ensures beyond { (result ≡ Err ChainInsertionError.BeyondMaxCapacity) ↔ (MayInsert (entry self.old) (shown self.old) (names_in P.key P.Inx.number kind) × (entry_count self.old ≡ self.old.capacity) × IsBeyond self.old.maximum (entry_count self.old + 1)) }
+        ensures beyond { (result ≡ Err ChainInsertionError.BeyondMaxCapacity) ↔ (May P.key P.Inx.number self.old kind × RefusesOneMore self.old ReallocationError.BeyondMaxCapacity) }
         ensures greatest { entry_count self.old ≡ P.Inx.greatest → IsErr result }
         ensures same_reference { IfOk result (λ e. e.arena.ghost_name ≡ self.entry.ghost_name) }
         ensures arena { IfOk result (λ e. e.arena.now ≡ with_capacity_of self.old e.arena.now) }
-        ensures prev { IfOk result (λ e. index_from e.prev ≡ link_before (shown self.old) (by_index (names_in P.key P.Inx.number kind)) (next_index self.old)) }
-        ensures next { IfOk result (λ e. index_from e.next ≡ link_after (shown self.old) (by_index (names_in P.key P.Inx.number kind)) (next_index self.old)) }
+        ensures prev { IfOk result (λ e. index_from e.prev ≡ link_before (shown self.old) (kind_of P.key P.Inx.number kind) (next_index self.old)) }
+        ensures next { IfOk result (λ e. index_from e.next ≡ link_after (shown self.old) (kind_of P.key P.Inx.number kind) (next_index self.old)) }
     {
         match self.gap_growing(kind) {
             Ok(gap) => Ok(self.entry_in(gap)),
@@ -133,7 +133,7 @@ impl<P: PtrKey, T: Drop, S: SlotStack<Item = ArenaSlot<P, LinkNoGen<P, T>>>> Cha
         &mut self,
         kind: LinkInsertKind<P>,
     ) -> Result<ChainArenaInsertEntry<'_, P, T, S>, ReallocationError>
-        requires { MayInsert (entry self.old) (shown self.old) (names_in P.key P.Inx.number kind) }
+        requires { May P.key P.Inx.number self.old kind }
         ensures* unchanged_at_err { sem 𝓛 (RestsIfErr
             (chain_arena_row P.row T.row S.row P.Inx.row P.Gen.row P.Inx.Word.row
             (record { key = P.key }) (record { eq = P.eq })
@@ -142,12 +142,12 @@ impl<P: PtrKey, T: Drop, S: SlotStack<Item = ArenaSlot<P, LinkNoGen<P, T>>>> Cha
             self.entry (λ e. e.arena.ghost_name) result (λ n. n ≡ self.old)) }
         ensures room { entry_count self.old < self.old.capacity → IsOkAnd result (λ e. e.arena.now ≡ self.old) }
         ensures grown { IfOk result (λ e. HasRoom P.Inx.greatest (entry_count self.old + 1) e.arena.now) }
-        ensures beyond { (result ≡ Err ReallocationError.BeyondMaxCapacity) ↔ ((entry_count self.old ≡ self.old.capacity) × IsBeyond self.old.maximum (entry_count self.old + 1)) }
+        ensures beyond { (result ≡ Err ReallocationError.BeyondMaxCapacity) ↔ RefusesOneMore self.old ReallocationError.BeyondMaxCapacity }
         ensures greatest { entry_count self.old ≡ P.Inx.greatest → IsErr result }
         ensures same_reference { IfOk result (λ e. e.arena.ghost_name ≡ self.entry.ghost_name) }
         ensures arena { IfOk result (λ e. e.arena.now ≡ with_capacity_of self.old e.arena.now) }
-        ensures prev { IfOk result (λ e. index_from e.prev ≡ link_before (shown self.old) (by_index (names_in P.key P.Inx.number kind)) (next_index self.old)) }
-        ensures next { IfOk result (λ e. index_from e.next ≡ link_after (shown self.old) (by_index (names_in P.key P.Inx.number kind)) (next_index self.old)) }
+        ensures prev { IfOk result (λ e. index_from e.prev ≡ link_before (shown self.old) (kind_of P.key P.Inx.number kind) (next_index self.old)) }
+        ensures next { IfOk result (λ e. index_from e.next ≡ link_after (shown self.old) (kind_of P.key P.Inx.number kind) (next_index self.old)) }
     {
         match self.gap_for(kind) {
             Some(gap) => match self.make_room() {
@@ -209,7 +209,7 @@ impl<
     /// Adds the link. It takes no memory.
     pub fn insert(self, t: T)
         ensures state { self.exit.0.now ≡ insert_between self.entry.arena.now t (index_from self.entry.prev) (index_from self.entry.next) }
-        ensures inserted { IsInsertionBetween (index_from self.entry.prev) (index_from self.entry.next) (seen self.entry.arena.now) (seen self.exit.0.now) (entry self.entry.arena.now) (entry self.exit.0.now) (shown self.entry.arena.now) (shown self.exit.0.now) (next_index self.entry.arena.now, self.entry.arena.now.counter) t }
+        ensures inserted { ComesBetween (index_from self.entry.prev) (index_from self.entry.next) self.entry.arena.now t self.exit.0.now }
     {
         let (prev, next) = (self.prev, self.next);
         let gap = Gap::Between(index_or_none(prev), index_or_none(next));

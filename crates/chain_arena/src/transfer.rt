@@ -1,14 +1,12 @@
 // The transfer of all links of another arena, chain by chain.
 ghost use Rattle.std.specs.Prelude.{◌≡◌, ◌↔◌, ◌≤◌, ◌<◌, ◌+◌, ℕ, [], IsOk, OnOk, OnErr, Err, None, Some};
 ghost use Rattle.arena_ptr.specs.SlotStack.{IsBeyond};
-ghost use Rattle.chain_laws.specs.Insertions.{IsGap};
 ghost use Rattle.chain_laws.specs.Relays.{end_before, end_after};
 ghost use Rattle.arena_base.specs.Arena.{HasRoom, IsListed, with_capacity_of, entry_count, next_index};
 ghost use Rattle.arena_base.specs.Entries.{count};
-ghost use Rattle.chain_links.specs.ChainArena.{shown, insert_between};
 ghost use Rattle.chain_interlinks.specs.Gaps.{before_in, after_in};
 ghost use Rattle.chain_layout.specs.PointerMoves.{CompressionMovesPointers, CompressionHasMoves};
-ghost use Rattle.chain_arena.specs.Transfers.{LaysOutAlike, IsTransfer, AreEnds};
+ghost use Rattle.chain_arena.specs.Transfers.{LaysOutAlike, IsTransfer, AreEnds, HasGapBehind, laid_behind};
 ghost use Rattle.chain_arena.specs.PointerTransfers.{TransferMovesPointers};
 
 use crate::chain_arena::ChainArena;
@@ -171,13 +169,11 @@ fn lay_behind<P: PtrKey, T: Drop, S: SlotStack<Item = ArenaSlot<P, LinkNoGen<P, 
     to: P,
     t: T,
 ) -> Option<(P::Inx, P::Inx)>
-    requires ends { (m : ℕ) × AreEnds P.Inx.number ends m (next_index target.old)
-        × IsGap (shown target.old) (next_index target.old) (end_before ring m (next_index target.old)) (end_after ring m (next_index target.old)) }
+    requires ends { (m : ℕ) × AreEnds P.Inx.number ends m (next_index target.old) × HasGapBehind ring m target.old }
     requires room { entry_count target.old < target.old.capacity }
     requires index { (P.key to).0 ≡ next_index target.old }
     ensures laid { (m : ℕ) → AreEnds P.Inx.number ends m (next_index target.old)
-        → (target.new ≡ insert_between target.old t (end_before ring m (next_index target.old)) (end_after ring m (next_index target.old)))
-        × AreEnds P.Inx.number result (m + 1) (next_index target.old + 1) }
+        → (target.new ≡ laid_behind ring m target.old t) × AreEnds P.Inx.number result (m + 1) (next_index target.old + 1) }
     ensures listed { IsListed target.old }
 {
     target.insert_in_gap(gap_behind(ring, ends), t);

@@ -32,3 +32,8 @@ Comes (Ok x) old read new kept held held_after = Progress old read new kept held
 Comes (Err errors.Read) old read new kept held held_after = ⊥
 Comes (Err errors.Write) old read new kept held held_after = (text : List ℕ) × IsCutShort old new (whole_lines read) text × Appends held held_after text
 Comes (Err errors.Memory) old read new kept held held_after = (text : List ℕ) × IsGivenUp old new (whole_lines read) text × Appends held held_after text
+
+-- a piece more was read: how far a run had come before it tells how far it has come with it
+abbrev pub ComesOn : {A : Type 0} → Result A ToolError → List ℕ → Links → List ℕ → Option (List ℕ) → Links → List ℕ → Option (List ℕ) → Type 0
+ComesOn answer piece now kept held_now new kept_after held_after =
+    (old : Links) (read : List ℕ) (held : Option (List ℕ)) → Progress old read now kept held held_now → Comes answer old (read ++ piece) new kept_after held held_after

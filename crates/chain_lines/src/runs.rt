@@ -4,7 +4,7 @@ ghost use Rattle.std.specs.Io.KnownBytes.{Appends, Consumes, Keeps, IsAtEnd};
 ghost use Rattle.arena_ptr.specs.Generations.{two32};
 ghost use Rattle.arena_base.specs.Arena.{new_arena};
 ghost use Rattle.chain_lines.specs.Answers.{Links};
-ghost use Rattle.chain_lines.specs.Progress.{AnswersOne, Progress, Comes};
+ghost use Rattle.chain_lines.specs.Progress.{AnswersOne, ComesOn};
 ghost use Rattle.chain_lines.specs.Transcripts.{Ends};
 
 use crate::answer::answer;
@@ -87,9 +87,7 @@ fn feed<W: Write, S: SlotStack<Item = ArenaSlot<ToolPtr, LinkNoGen<ToolPtr, u32>
     text: &mut String,
     writer: &mut W,
 ) -> Result<(), ToolError>
-    ensures { (old : Links) (read : List ℕ) (held : Option (List ℕ)) →
-        Progress old read arena.old line.old.items held (W.contents writer.old) →
-        Comes result old (read ++ piece.now) arena.new line.new.items held (W.contents writer.new) }
+    ensures { ComesOn result piece.now arena.old line.old.items (W.contents writer.old) arena.new line.new.items (W.contents writer.new) }
 {
     for byte in piece {
         if *byte == b'\n' {
