@@ -111,6 +111,15 @@ renumbering name arguments =
     else (if bytes_eq name (codes "canonical") then option_map CompressCanonical (option_and_then reset_word (one_word arguments))
     else room_or_counter name arguments)
 
+-- the call of a name that takes links or their pointers away, and its arguments, or else the renumbering
+abbrev pub removing : List ℕ → List (List ℕ) → Option LinkCall
+removing name arguments =
+    if bytes_eq name (codes "remove") then removal arguments
+    else (if bytes_eq name (codes "invalidate") then option_map Invalidate (one_pointer arguments)
+    else (if bytes_eq name (codes "drain") then option_map (λ a. DrainChain a.0 a.1) (pointer_and_number arguments)
+    else (if bytes_eq name (codes "clear") then option_map (λ none. Clear) (no_arguments arguments)
+    else renumbering name arguments)))
+
 -- the call of a name and its arguments
 abbrev pub call_of : List ℕ → List (List ℕ) → Option LinkCall
 call_of name arguments =
@@ -120,11 +129,7 @@ call_of name arguments =
     else (if bytes_eq name (codes "breakprev") then option_map BreakPrev (one_pointer arguments)
     else (if bytes_eq name (codes "breaknext") then option_map BreakNext (one_pointer arguments)
     else (if bytes_eq name (codes "exchange") then option_map (λ p. ExchangeNext p.0 p.1) (two_pointers arguments)
-    else (if bytes_eq name (codes "remove") then removal arguments
-    else (if bytes_eq name (codes "invalidate") then option_map Invalidate (one_pointer arguments)
-    else (if bytes_eq name (codes "drain") then option_map (λ a. DrainChain a.0 a.1) (pointer_and_number arguments)
-    else (if bytes_eq name (codes "clear") then option_map (λ none. Clear) (no_arguments arguments)
-    else renumbering name arguments)))))))))
+    else removing name arguments)))))
 
 -- the command of a name and its arguments
 abbrev pub command_of : List ℕ → List (List ℕ) → Option Command

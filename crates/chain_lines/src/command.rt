@@ -2,7 +2,7 @@
 ghost use Rattle.std.specs.Prelude.{◌≡◌, bytes_eq, option_map};
 ghost use Rattle.chain_links.specs.declared.kinds.InsertKindBody.TheVariants.{AtInterlink, AtInterlinkInx, Bridge, BridgeInx};
 ghost use Rattle.chain_lines.specs.Words.{words_of};
-ghost use Rattle.chain_lines.specs.Commands.{one_word, one_pointer, two_pointers, pointer_and_number, no_arguments, reset_word, by_either, removal, kind_alone, kind_beside, kind_between, kind_and_value, room_or_counter, renumbering, call_of, command_of, line_of};
+ghost use Rattle.chain_lines.specs.Commands.{one_word, one_pointer, two_pointers, pointer_and_number, no_arguments, reset_word, by_either, removal, kind_alone, kind_beside, kind_between, kind_and_value, room_or_counter, renumbering, removing, call_of, command_of, line_of};
 
 use crate::words::{generation, index, next_word, number, pointer, without_return};
 use arena_ptr::{Inx32, ToolPtr};
@@ -88,7 +88,16 @@ fn call(name: &[u8], arguments: &[u8]) -> Option<Call<ToolPtr, u32>>
     } else if is(name, "exchange") {
         let (p, q) = two_pointers(arguments)?;
         Some(Call::ExchangeNext(p, q))
-    } else if is(name, "remove") {
+    } else {
+        removing(name, arguments)
+    }
+}
+
+/// The call of a name that takes links or their pointers away, and the arguments after it, or else the renumbering.
+fn removing(name: &[u8], arguments: &[u8]) -> Option<Call<ToolPtr, u32>>
+    ensures { result ≡ removing name.now (words_of arguments.now) }
+{
+    if is(name, "remove") {
         removal(arguments)
     } else if is(name, "invalidate") {
         Some(Call::Invalidate(one_pointer(arguments)?))

@@ -1,6 +1,7 @@
 //! The texts of answers.
 ghost use Rattle.std.specs.Prelude.{◌≡◌, ◌++◌, OnOk, string_bytes, option_map};
 ghost use Rattle.arena_ptr.specs.ToolPtr.{key_of};
+ghost use Rattle.chain_arena.specs.declared.calls.Reply.TheVariants.{Inserted, Drained, Reserved};
 ghost use Rattle.chain_lines.specs.Answers.{pointer_text, at_text, value_text, told_text, counted_text, refusal_text, growth_refusal_text, reply_text, neighbor_text, show_text, passed_text, walk_text};
 
 use arena_base::ArenaSlot;
@@ -50,18 +51,48 @@ pub fn push_reply(text: &mut String, reply: Reply<ToolPtr, u32>) -> Result<(), A
     ensures { OnOk result (string_bytes text.new ≡ string_bytes text.old ++ reply_text reply) }
 {
     match reply {
-        Reply::Inserted(Ok(p)) => push_at(text, p),
-        Reply::Inserted(Err(error)) => text.push_str(refusal(error)),
+        Reply::Inserted(answer) => push_inserted(text, answer),
         Reply::Done(done) => text.push_str(if done { "ok" } else { "none" }),
         Reply::Removed(answer) => push_removed(text, answer),
         Reply::RemovedInx(answer) => push_removed_inx(text, answer),
         Reply::Renewed(answer) => push_renewed(text, answer),
-        Reply::Drained(Some(count)) => write!(text, "count {count}"),
-        Reply::Drained(None) => text.push_str("none"),
+        Reply::Drained(answer) => push_drained(text, answer),
         Reply::Counted(answer) => text.push_str(counted(answer)),
-        Reply::Reserved(Ok(())) => text.push_str("ok"),
-        Reply::Reserved(Err(error)) => text.push_str(growth_refusal(error)),
+        Reply::Reserved(answer) => text.push_str(reserved(answer)),
         Reply::Set => text.push_str("ok"),
+    }
+}
+
+/// Adds the answer to an insertion to a text.
+fn push_inserted(
+    text: &mut String,
+    answer: Result<ToolPtr, ChainInsertionError>,
+) -> Result<(), AllocError>
+    ensures { OnOk result (string_bytes text.new ≡ string_bytes text.old ++ reply_text (Inserted answer)) }
+{
+    match answer {
+        Ok(p) => push_at(text, p),
+        Err(error) => text.push_str(refusal(error)),
+    }
+}
+
+/// Adds the answer to a drain to a text.
+fn push_drained(text: &mut String, answer: Option<usize>) -> Result<(), AllocError>
+    ensures { OnOk result (string_bytes text.new ≡ string_bytes text.old ++ reply_text (Drained answer)) }
+{
+    match answer {
+        Some(count) => write!(text, "count {count}"),
+        None => text.push_str("none"),
+    }
+}
+
+/// What a growth is answered.
+fn reserved(answer: Result<(), ReallocationError>) -> &'static str
+    ensures { result.now ≡ reply_text (Reserved answer) }
+{
+    match answer {
+        Ok(()) => "ok",
+        Err(error) => growth_refusal(error),
     }
 }
 

@@ -16,10 +16,9 @@ mod steps;
 mod texts;
 mod values;
 
-use arena_base::ArenaSlot;
-use arena_ptr::{Gen32, Inx32, LimitedStack, Ptr, SetMaxCapacity, ToolPtr};
+use arena_base::{ArenaSlot, ArenaTrait};
+use arena_ptr::{Gen32, Inx32, LimitStack, LimitedStack, Ptr, SetMaxCapacity, SlotStack, ToolPtr};
 use chain_arena::{ChainArena, ChainArenaTrait, LinkInsertKind, LinkNoGen};
-use scripts::Answers;
 use std::alloc::Global;
 use std::fmt::Debug;
 use std::process::Abort;
@@ -27,7 +26,10 @@ use std::process::Abort;
 // A slot of a link of a number.
 type Slot = ArenaSlot<ToolPtr, LinkNoGen<ToolPtr, u32>>;
 
-// Links over std's memory without a limit and with one.
+// Links over a stack. What is written for any stack costs its proof half of what the same costs at one.
+type ChainsOver<S> = ChainArena<ToolPtr, u32, S>;
+
+// .. over std's memory without a limit and with one.
 type Chains = ChainArena<ToolPtr, u32>;
 
 type LimitedChains = ChainArena<ToolPtr, u32, LimitedStack<Slot>>;
@@ -61,9 +63,9 @@ fn at(rt: &impl Abort, p: At) -> ToolPtr {
 }
 
 // Adds a link.
-fn put<T: Drop>(
+fn put<T: Drop, S: SlotStack<Item = ArenaSlot<ToolPtr, LinkNoGen<ToolPtr, T>>>>(
     rt: &impl Abort,
-    arena: &mut ChainArena<ToolPtr, T>,
+    arena: &mut ChainArena<ToolPtr, T, S>,
     kind: LinkInsertKind<ToolPtr>,
     t: T,
 ) -> ToolPtr {
@@ -72,8 +74,12 @@ fn put<T: Drop>(
 }
 
 // So many lone links, each with its index as its value.
-fn lone_links(rt: &impl Abort, alloc: Global, count: u32) -> Chains {
-    let mut arena = Chains::fresh(alloc);
+fn lone_links<S: SlotStack<Item = Slot>>(
+    rt: &impl Abort,
+    alloc: Global,
+    count: u32,
+) -> ChainsOver<S> {
+    let mut arena = ChainsOver::<S>::new(alloc);
     for k in 1..=count {
         put(rt, &mut arena, LinkInsertKind::Disconnected, k);
     }
@@ -81,8 +87,12 @@ fn lone_links(rt: &impl Abort, alloc: Global, count: u32) -> Chains {
 }
 
 // An arena with a maximum.
-fn limited(rt: &impl Abort, alloc: Global, most: usize) -> LimitedChains {
-    let mut arena = LimitedChains::fresh(alloc);
+fn limited<S: LimitStack<Item = Slot>>(
+    rt: &impl Abort,
+    alloc: Global,
+    most: usize,
+) -> ChainsOver<S> {
+    let mut arena = ChainsOver::<S>::new(alloc);
     assert!(rt; arena.set_max_capacity(most).is_ok());
     arena
 }

@@ -1,9 +1,9 @@
 //! Every arena of up to four links: the chain arena beside the plain slow program.
 
 use crate::slow::{Row, SlowChain, chains_of, place_of, walk_of};
-use crate::tests::{Links, same};
+use crate::tests::{LinksOver, Slot, same};
 use arena_base::ArenaTrait;
-use arena_ptr::{Inx32, Ptr, ToolPtr};
+use arena_ptr::{HeapStack, Inx32, Ptr, SlotStack, ToolPtr};
 use chain_arena::{ChainArenaTrait, LinkInsertKind, LinkNoGen};
 use std::alloc::Global;
 use std::process::Abort;
@@ -25,19 +25,33 @@ fn interlinks(link: Option<&LinkNoGen<ToolPtr, u32>>) -> Row {
 }
 
 // Adds a lone link.
-fn add(rt: &impl Abort, arena: &mut Links, value: u32) -> ToolPtr {
+fn add<S: SlotStack<Item = Slot>>(
+    rt: &impl Abort,
+    arena: &mut LinksOver<S>,
+    value: u32,
+) -> ToolPtr {
     let added = arena.insert_reallocating(LinkInsertKind::Disconnected, value);
     added.expect(rt, "room for a link")
 }
 
 // The number of a link that `iter_chain` yields, which comes with its pointer of now and its value.
-fn passed(rt: &impl Abort, arena: &Links, p: ToolPtr, value: u32) -> usize {
+fn passed<S: SlotStack<Item = Slot>>(
+    rt: &impl Abort,
+    arena: &LinksOver<S>,
+    p: ToolPtr,
+    value: u32,
+) -> usize {
     assert!(rt; arena.contains(p) && value == p.inx().get());
     p.inx().get() as usize
 }
 
 // The numbers of the links that `iter_chain` yields.
-fn walk_from(rt: &impl Abort, alloc: Global, arena: &Links, p: ToolPtr) -> Vec<usize> {
+fn walk_from<S: SlotStack<Item = Slot>>(
+    rt: &impl Abort,
+    alloc: Global,
+    arena: &LinksOver<S>,
+    p: ToolPtr,
+) -> Vec<usize> {
     let mut walk = Vec::new(alloc);
     let mut links = arena.iter_chain(p).expect(rt, "a walk");
     while let Some((q, link)) = links.next() {
@@ -49,15 +63,15 @@ fn walk_from(rt: &impl Abort, alloc: Global, arena: &Links, p: ToolPtr) -> Vec<u
 
 // An arena and the pointers of its links in order.
 #[derive(Drop)]
-struct Small {
-    arena: Links,
+struct Small<S> {
+    arena: LinksOver<S>,
     ptrs: Vec<ToolPtr>,
 }
 
-impl Small {
+impl<S: SlotStack<Item = Slot>> Small<S> {
     // An arena of `count` lone links, each with its index as its value.
-    fn lone(rt: &impl Abort, alloc: Global, count: u32) -> Small {
-        let mut arena = Links::new(alloc);
+    fn lone(rt: &impl Abort, alloc: Global, count: u32) -> Small<S> {
+        let mut arena = LinksOver::<S>::new(alloc);
         let mut ptrs = Vec::new(alloc);
         for k in 1..=count {
             ptrs.push(add(rt, &mut arena, k)).expect(rt, "memory");
@@ -67,8 +81,8 @@ impl Small {
 
     // Lone links, and then each with its next one, where it has one: `nexts` has that index, or 0. `None` where two
     // links have the same next.
-    fn build(rt: &impl Abort, alloc: Global, count: u32, nexts: [usize; 4]) -> Option<Small> {
-        let mut small = Small::lone(rt, alloc, count);
+    fn build(rt: &impl Abort, alloc: Global, count: u32, nexts: [usize; 4]) -> Option<Small<S>> {
+        let mut small = Small::<S>::lone(rt, alloc, count);
         for (k, next) in nexts.iter().enumerate() {
             if *next != 0 && !small.connect(k + 1, *next) {
                 return None;
@@ -227,7 +241,7 @@ fn is_right(
 }
 
 // Looks at the connection of i and j in one arena.
-fn check_connect(
+fn check_connect<S: SlotStack<Item = Slot>>(
     rt: &impl Abort,
     alloc: Global,
     count: u32,
@@ -235,7 +249,7 @@ fn check_connect(
     i: usize,
     j: usize,
 ) {
-    let mut small = Small::build(rt, alloc, count, nexts).expect(rt, "built before");
+    let mut small = Small::<S>::build(rt, alloc, count, nexts).expect(rt, "built before");
     let before = small.rows(rt, alloc);
     let connected = small.connect(i, j);
     let after = small.rows(rt, alloc);
@@ -249,7 +263,7 @@ fn check_connect(
 }
 
 // Looks at all walks of one arena.
-fn check_walks(rt: &impl Abort, alloc: Global, small: &Small) {
+fn check_walks<S: SlotStack<Item = Slot>>(rt: &impl Abort, alloc: Global, small: &Small<S>) {
     let rows = small.rows(rt, alloc);
     for (k, p) in small.ptrs.iter().enumerate() {
         let walk = walk_from(rt, alloc, &small.arena, *p);
@@ -258,27 +272,32 @@ fn check_walks(rt: &impl Abort, alloc: Global, small: &Small) {
 }
 
 // Looks at all walks and all connections of the arena of a code, and says whether there is one.
-fn check_arena(rt: &impl Abort, alloc: Global, count: u32, code: usize) -> bool {
+fn check_arena<S: SlotStack<Item = Slot>>(
+    rt: &impl Abort,
+    alloc: Global,
+    count: u32,
+    code: usize,
+) -> bool {
     let Some(nexts) = nexts_of(count, code) else {
         return false;
     };
-    let Some(small) = Small::build(rt, alloc, count, nexts) else {
+    let Some(small) = Small::<S>::build(rt, alloc, count, nexts) else {
         return false;
     };
     check_walks(rt, alloc, &small);
     for i in 1..=small.ptrs.len() {
         for j in 1..=small.ptrs.len() {
-            check_connect(rt, alloc, count, nexts, i, j);
+            check_connect::<S>(rt, alloc, count, nexts, i, j);
         }
     }
     true
 }
 
 // Looks at all arenas of `count` links, and says how many they are.
-fn check_arenas(rt: &impl Abort, alloc: Global, count: u32) -> u32 {
+fn check_arenas<S: SlotStack<Item = Slot>>(rt: &impl Abort, alloc: Global, count: u32) -> u32 {
     let mut seen = 0;
     for code in 0..625 {
-        if check_arena(rt, alloc, count, code) {
+        if check_arena::<S>(rt, alloc, count, code) {
             seen += 1;
         }
     }
@@ -289,7 +308,7 @@ fn check_arenas(rt: &impl Abort, alloc: Global, count: u32) -> u32 {
 #[test]
 fn agrees_with_the_slow_program(rt: HostRuntime) {
     for (count, arenas) in [(0, 1), (1, 2), (2, 7), (3, 34), (4, 209)] {
-        let seen = check_arenas(&rt, rt.alloc(), count);
+        let seen = check_arenas::<HeapStack<Slot>>(&rt, rt.alloc(), count);
         same(&rt, "arenas", (count, seen), (count, arenas));
     }
 }

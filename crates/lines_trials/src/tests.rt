@@ -11,7 +11,7 @@ ghost use Rattle.chain_lines.specs.Commands.{line_of};
 ghost use Rattle.chain_lines.specs.Transcripts.{AreComplete};
 
 use arena_base::{ArenaSlot, ArenaTrait};
-use arena_ptr::{Gen32, LimitedStack, SetMaxCapacity, SlotStack, ToolPtr};
+use arena_ptr::{Gen32, HeapStack, LimitStack, LimitedStack, SetMaxCapacity, SlotStack, ToolPtr};
 use chain_arena::{ChainArena, ChainArenaTrait, LinkInsertKind, LinkNoGen};
 use chain_lines::{ToolError, run, run_on};
 use std::alloc::Global;
@@ -20,16 +20,11 @@ use std::io;
 use std::io::{ErrorKind, Read, Write};
 use std::process::Abort;
 
-/// The arena of a run.
-pub type Links = ChainArena<ToolPtr, u32>;
+/// A slot of a link of a number.
+pub type Slot = ArenaSlot<ToolPtr, LinkNoGen<ToolPtr, u32>>;
 
-/// An empty arena.
-fn empty(alloc: Global) -> Links {
-    Links::new(alloc)
-}
-
-/// An arena with a limit.
-type Limited = ChainArena<ToolPtr, u32, LimitedStack<ArenaSlot<ToolPtr, LinkNoGen<ToolPtr, u32>>>>;
+/// The arena of a run, over any stack: what is written for one stack costs its proof twice as much.
+pub type LinksOver<S> = ChainArena<ToolPtr, u32, S>;
 
 /// Looks whether a test got what it wants.
 pub fn same<T: PartialEq + Debug + Drop>(rt: &impl Abort, what: &str, got: T, want: T) {
@@ -54,10 +49,10 @@ fn check_texts(rt: &impl Abort, alloc: Global, rows: &[(&str, &str)]) {
 }
 
 /// Carries out a text on an arena, and looks whether the program writes these lines.
-fn check_on<S: SlotStack<Item = ArenaSlot<ToolPtr, LinkNoGen<ToolPtr, u32>>>>(
+fn check_on<S: SlotStack<Item = Slot>>(
     rt: &impl Abort,
     alloc: Global,
-    arena: &mut ChainArena<ToolPtr, u32, S>,
+    arena: &mut LinksOver<S>,
     input: &str,
     output: &str,
 ) {
@@ -310,7 +305,12 @@ impl Read for FailingReader<'_> {
 
 /// Runs the program on a reader that fails once, in its third line, and looks at what it did before, and whether it read
 /// on.
-fn check_reader(rt: &impl Abort, alloc: Global, kind: ErrorKind, step: usize) {
+fn check_reader<S: SlotStack<Item = Slot>>(
+    rt: &impl Abort,
+    alloc: Global,
+    kind: ErrorKind,
+    step: usize,
+) {
     let later = "5\nlen\n".as_bytes();
     let mut reader = FailingReader {
         left: "add alone 1\nlen\nadd alone 2".as_bytes(),
@@ -319,7 +319,7 @@ fn check_reader(rt: &impl Abort, alloc: Global, kind: ErrorKind, step: usize) {
         fails_with: Some(kind),
     };
     let mut written = Vec::new(alloc);
-    let mut arena = empty(alloc);
+    let mut arena = LinksOver::<S>::new(alloc);
     let result = run_on(alloc, &mut arena, &mut reader, &mut written);
     same(rt, "the reader fails", result, Err(ToolError::Read));
     let lines = "at 1.2\ncount 1\n".as_bytes();
@@ -336,7 +336,7 @@ fn a_reader_that_fails_once(rt: HostRuntime) {
         ErrorKind::UnexpectedEof,
     ] {
         for step in [1, 2, 7, 100] {
-            check_reader(&rt, rt.alloc(), kind, step);
+            check_reader::<HeapStack<Slot>>(&rt, rt.alloc(), kind, step);
         }
     }
 }
@@ -401,7 +401,7 @@ fn failing_writer(
 
 /// Runs the program on a writer that fails once, when it has no room, and looks at what it did before, and whether it
 /// wrote on.
-fn check_writer(
+fn check_writer<S: SlotStack<Item = Slot>>(
     rt: &impl Abort,
     alloc: Global,
     fails_with: Option<ErrorKind>,
@@ -411,7 +411,7 @@ fn check_writer(
     let mut reader = "add alone 1\nadd alone 2\nadd alone 3\n".as_bytes();
     let output = "at 1.2\nat 2.2\nat 3.2\n".as_bytes();
     let mut writer = failing_writer(alloc, step, room, fails_with);
-    let mut arena = empty(alloc);
+    let mut arena = LinksOver::<S>::new(alloc);
     let result = run_on(alloc, &mut arena, &mut reader, &mut writer);
     same(rt, "the writer fails", result, Err(ToolError::Write));
     let taken = &output[..room.min(output.len())];
@@ -430,7 +430,7 @@ fn a_writer_that_fails_once(rt: HostRuntime) {
     for fails_with in [None, Some(ErrorKind::Other), Some(ErrorKind::WriteZero)] {
         for step in [1, 3, 100] {
             for room in 0..21 {
-                check_writer(&rt, rt.alloc(), fails_with, step, room);
+                check_writer::<HeapStack<Slot>>(&rt, rt.alloc(), fails_with, step, room);
             }
         }
     }
@@ -468,32 +468,42 @@ fn a_flush_that_fails(rt: HostRuntime) {
     }
 }
 
+/// Carries out lines on an arena that holds a link.
+fn check_given<S: SlotStack<Item = Slot>>(rt: &impl Abort, alloc: Global) {
+    let mut arena = LinksOver::<S>::new(alloc);
+    let added = arena.insert_reallocating(LinkInsertKind::Disconnected, 5);
+    same(rt, "added", added.is_ok(), true);
+    let input = "add alone 6\nconnect 2.2 1.2\n";
+    check_on(rt, alloc, &mut arena, input, "at 2.2\nok\n");
+    check_on(rt, alloc, &mut arena, "chain 2.2", "2.2:6 1.2:5\n");
+}
+
 #[test]
 fn a_given_arena(rt: HostRuntime) {
-    let mut arena = empty(rt.alloc());
-    let added = arena.insert_reallocating(LinkInsertKind::Disconnected, 5);
-    same(&rt, "added", added.is_ok(), true);
-    let input = "add alone 6\nconnect 2.2 1.2\n";
-    check_on(&rt, rt.alloc(), &mut arena, input, "at 2.2\nok\n");
-    check_on(&rt, rt.alloc(), &mut arena, "chain 2.2", "2.2:6 1.2:5\n");
+    check_given::<HeapStack<Slot>>(&rt, rt.alloc());
 }
 
 /// Carries out `moves` on an arena of one link, where memory may be refused (`tools/faults` refuses each request in turn):
 /// it is answered, or the link keeps its pointer and nothing is written.
-#[test]
-fn moves_or_nothing(rt: HostRuntime) {
-    let mut arena = empty(rt.alloc());
+/// Moves one link, or is refused memory, and looks whether its pointer is kept exactly then.
+fn check_moves<S: SlotStack<Item = Slot>>(rt: &impl Abort, alloc: Global) {
+    let mut arena = LinksOver::<S>::new(alloc);
     let added = arena.insert_reallocating(LinkInsertKind::Disconnected, 5);
-    let p = added.expect(&rt, "room for a link");
-    let mut written = Vec::with_capacity(rt.alloc(), 100).expect(&rt, "room for the answer");
+    let p = added.expect(rt, "room for a link");
+    let mut written = Vec::with_capacity(alloc, 100).expect(rt, "room for the answer");
     let mut reader = "moves keep\n".as_bytes();
-    let result = run_on(rt.alloc(), &mut arena, &mut reader, &mut written);
+    let result = run_on(alloc, &mut arena, &mut reader, &mut written);
     let (answer, is_kept) = match result {
         Ok(()) => ("moved 1 1.2>1.3\n", false),
         Err(_) => ("", true),
     };
-    same(&rt, "its answer", written.as_slice(), answer.as_bytes());
-    same(&rt, "its pointer", arena.contains(p), is_kept);
+    same(rt, "its answer", written.as_slice(), answer.as_bytes());
+    same(rt, "its pointer", arena.contains(p), is_kept);
+}
+
+#[test]
+fn moves_or_nothing(rt: HostRuntime) {
+    check_moves::<HeapStack<Slot>>(&rt, rt.alloc());
 }
 
 const REMOVAL_TABLE: (&str, &str) = (
@@ -571,25 +581,34 @@ const MALFORMED_STEPS: [(&str, &str); 23] = [
     ("remove 1 2\n", "bad line\n"),
 ];
 
+/// Carries out lines on an arena with a maximum of two, with room for so many links from the first.
+fn check_limited<S: LimitStack<Item = Slot>>(
+    rt: &impl Abort,
+    alloc: Global,
+    room: usize,
+    input: &str,
+    output: &str,
+) {
+    let mut arena = LinksOver::<S>::new(alloc);
+    same(rt, "a limit", arena.set_max_capacity(2), Ok(()));
+    same(rt, "room", arena.reallocate_min_capacity(room), Ok(()));
+    check_on(rt, alloc, &mut arena, input, output);
+}
+
 #[test]
 fn a_limited_arena(rt: HostRuntime) {
-    let mut arena = Limited::new(rt.alloc());
-    same(&rt, "a limit", arena.set_max_capacity(2), Ok(()));
     let input = "add alone 1\nadd alone 2\nadd alone 3\nremove 1.2\nadd alone 3\nlen\n";
     let output = "at 1.2\nat 2.2\nrefused limit\nvalue 1\nat 1.3\ncount 2\n";
-    check_on(&rt, rt.alloc(), &mut arena, input, output);
+    check_limited::<LimitedStack<Slot>>(&rt, rt.alloc(), 0, input, output);
 }
 
 #[test]
 fn limited_run(rt: HostRuntime) {
-    let mut arena = Limited::new(rt.alloc());
-    same(&rt, "a limit", arena.set_max_capacity(2), Ok(()));
-    same(&rt, "room", arena.reallocate_min_capacity(2), Ok(()));
     let input =
         "addwithin alone 1\naddwithin alone 2\naddwithin alone 3\nadd alone 3\nadd end 9.9 3\nremove 1.2\n\
         addwithin alone 3\n";
     let output = "at 1.2\nat 2.2\nrefused capacity\nrefused limit\nrefused link\nvalue 1\nat 1.3\n";
-    check_on(&rt, rt.alloc(), &mut arena, input, output);
+    check_limited::<LimitedStack<Slot>>(&rt, rt.alloc(), 2, input, output);
 }
 
 /// The greatest generation.
@@ -597,19 +616,34 @@ fn greatest(rt: &impl Abort) -> Gen32 {
     Gen32::new(4294967295).expect(rt, "a generation")
 }
 
+/// Carries out lines on an arena whose counter is at its greatest.
+fn check_from_greatest<S: SlotStack<Item = Slot>>(
+    rt: &impl Abort,
+    alloc: Global,
+    input: &str,
+    output: &str,
+) {
+    let mut arena = LinksOver::<S>::new(alloc);
+    arena.set_generation(greatest(rt));
+    check_on(rt, alloc, &mut arena, input, output);
+}
+
 #[test]
 fn a_removal_that_overflows(rt: HostRuntime) {
-    let mut arena = empty(rt.alloc());
-    arena.set_generation(greatest(&rt));
     let input = "add alone 5\nremove 1.4294967295\nadd alone 6\n";
     let output = "at 1.4294967295\nvalue 5 overflow\nat 1.2\n";
-    check_on(&rt, rt.alloc(), &mut arena, input, output);
+    check_from_greatest::<HeapStack<Slot>>(&rt, rt.alloc(), input, output);
 }
 
 /// Carries out a text on two linked links, where the counter is at its greatest, and looks whether the program writes
 /// these lines.
-fn check_at_greatest(rt: &impl Abort, alloc: Global, input: &str, output: &str) {
-    let mut arena = empty(alloc);
+fn check_at_greatest<S: SlotStack<Item = Slot>>(
+    rt: &impl Abort,
+    alloc: Global,
+    input: &str,
+    output: &str,
+) {
+    let mut arena = LinksOver::<S>::new(alloc);
     let links = "add alone 5\nadd end 1.2 6\n";
     check_on(rt, alloc, &mut arena, links, "at 1.2\nat 2.2\n");
     arena.set_generation(greatest(rt));
@@ -635,7 +669,7 @@ fn steps_that_overflow(rt: HostRuntime) {
         ),
     ];
     for (input, output) in &ROWS {
-        check_at_greatest(&rt, rt.alloc(), input, output);
+        check_at_greatest::<HeapStack<Slot>>(&rt, rt.alloc(), input, output);
     }
 }
 

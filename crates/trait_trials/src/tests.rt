@@ -156,7 +156,23 @@ fn limited<P: PtrKey, T: Drop, S: LimitStack<Item = ArenaSlot<P, LinkNoGen<P, T>
     arena
 }
 
-// Any arena of lone links, of which each pair is tied, the second after the first.
+// Adds lone links, each with its index as its value.
+fn add_lone<P: PtrKey, A: ChainArenaTrait<P, u32>>(rt: &impl Abort, arena: &mut A, count: u32) {
+    for k in 1..=count {
+        let added = arena.insert_reallocating(LinkInsertKind::Disconnected, k);
+        assert!(rt; added.is_ok());
+    }
+}
+
+// Ties each pair, the second after the first.
+fn tie<P: Numbered, A: ChainArenaTrait<P, u32>>(rt: &impl Abort, arena: &mut A, pairs: &[At]) {
+    for (i, j) in pairs {
+        let tied = arena.connect(at(rt, (*i, 2)), at(rt, (*j, 2)));
+        assert!(rt; tied.is_some());
+    }
+}
+
+// Any arena of lone links, of which each pair is tied.
 fn tied_links<P: Numbered, A: ChainArenaTrait<P, u32> + Drop>(
     rt: &impl Abort,
     alloc: Global,
@@ -164,14 +180,8 @@ fn tied_links<P: Numbered, A: ChainArenaTrait<P, u32> + Drop>(
     pairs: &[At],
 ) -> A {
     let mut arena = A::new(alloc);
-    for k in 1..=count {
-        let added = arena.insert_reallocating(LinkInsertKind::Disconnected, k);
-        assert!(rt; added.is_ok());
-    }
-    for (i, j) in pairs {
-        let tied = arena.connect(at(rt, (*i, 2)), at(rt, (*j, 2)));
-        assert!(rt; tied.is_some());
-    }
+    add_lone(rt, &mut arena, count);
+    tie(rt, &mut arena, pairs);
     arena
 }
 

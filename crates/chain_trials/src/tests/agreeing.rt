@@ -1,19 +1,24 @@
 //! Plain arenas of links, of which those whose interlinks agree become chain arenas.
 
 use super::scripts::{Do, Kind, Line, plays};
-use super::{At, Chains, at, same};
+use super::{At, Chains, ChainsOver, Slot, at, same};
 use arena_base::{Arena, ArenaTrait};
-use arena_ptr::{Inx32, ToolPtr};
+use arena_ptr::{HeapStack, Inx32, SlotStack, ToolPtr};
 use chain_arena::{LinkBody, LinkNoGen, links_agree};
 use std::alloc::Global;
 use std::process::Abort;
 
-type Plain = Arena<ToolPtr, LinkNoGen<ToolPtr, u32>>;
+type Plain<S> = Arena<ToolPtr, LinkNoGen<ToolPtr, u32>, S>;
 
 // A plain arena of links that name these indexes, 0 for none, as the one before and the one after; the value is 7. Some are
 // gone again.
-fn plain(rt: &impl Abort, alloc: Global, links: &[At], gone: &[u32]) -> Plain {
-    let mut arena = Plain::new(alloc);
+fn plain<S: SlotStack<Item = Slot>>(
+    rt: &impl Abort,
+    alloc: Global,
+    links: &[At],
+    gone: &[u32],
+) -> Plain<S> {
+    let mut arena = Plain::<S>::new(alloc);
     for (prev, next) in links {
         let link = LinkBody::new((Inx32::new(*prev), Inx32::new(*next)), 7);
         assert!(rt; arena.insert_reallocating(link).is_ok());
@@ -46,25 +51,35 @@ const ROWS: [(&str, &[At], bool); 15] = [
 const REFUSAL: &str = "interlink transitivity does not hold";
 
 // Looks whether interlinks agree, and whether their arena is refused otherwise.
-fn agree_or_not(rt: &impl Abort, what: &str, arena: Plain, agree: bool) {
+fn agree_or_not<S: SlotStack<Item = Slot>>(
+    rt: &impl Abort,
+    what: &str,
+    arena: Plain<S>,
+    agree: bool,
+) {
     same(rt, what, links_agree(&arena), agree);
     let want = if agree { None } else { Some(REFUSAL) };
-    same(rt, what, Chains::from_arena(arena).err(), want);
+    same(rt, what, ChainsOver::from_arena(arena).err(), want);
+}
+
+// Each row, and an interlink to a freed index: a link that is gone is named by none.
+fn check_rows<S: SlotStack<Item = Slot>>(rt: &impl Abort, alloc: Global) {
+    for (what, links, agree) in ROWS {
+        let arena: Plain<S> = plain(rt, alloc, links, &[]);
+        agree_or_not(rt, what, arena, agree);
+    }
+    let arena: Plain<S> = plain(rt, alloc, &[(0, 2), (1, 0)], &[2]);
+    agree_or_not(
+        rt,
+        "the interlinks of two, of which one is gone",
+        arena,
+        false,
+    );
 }
 
 #[test]
 fn interlinks_that_agree_or_not(rt: HostRuntime) {
-    for (what, links, agree) in ROWS {
-        let arena = plain(&rt, rt.alloc(), links, &[]);
-        agree_or_not(&rt, what, arena, agree);
-    }
-}
-
-// A link that is gone is named by none: the indexes before are those of before.
-#[test]
-fn an_interlink_to_a_freed_index(rt: HostRuntime) {
-    let arena = plain(&rt, rt.alloc(), &[(0, 2), (1, 0)], &[2]);
-    agree_or_not(&rt, "the interlinks", arena, false);
+    check_rows::<HeapStack<Slot>>(&rt, rt.alloc());
 }
 
 // A row of two and a ring of one, between which two links are gone, of which the last freed index is used first, and the other
@@ -86,11 +101,16 @@ const ACCEPTED: [Line; 5] = [
     ),
 ];
 
+// A plain arena of those links that is accepted.
+fn accepted<S: SlotStack<Item = Slot>>(rt: &impl Abort, alloc: Global) -> ChainsOver<S> {
+    let links = [(0, 3), (0, 0), (1, 0), (0, 0), (5, 5)];
+    let arena = plain(rt, alloc, &links, &[4, 2]);
+    ChainsOver::from_arena(arena).expect(rt, "interlinks that agree")
+}
+
 // Indexes, generations and interlinks stay, and so do the counter and the freed list.
 #[test]
 fn what_is_accepted_stays(rt: HostRuntime) {
-    let links = [(0, 3), (0, 0), (1, 0), (0, 0), (5, 5)];
-    let arena = plain(&rt, rt.alloc(), &links, &[4, 2]);
-    let mut arena = Chains::from_arena(arena).expect(&rt, "interlinks that agree");
+    let mut arena: Chains = accepted(&rt, rt.alloc());
     plays(&rt, rt.alloc(), "accepted", &mut arena, &ACCEPTED);
 }

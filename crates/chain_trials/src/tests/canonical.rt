@@ -1,20 +1,26 @@
 //! Chains laid out in place, one after another.
 
 use super::scripts::{Do, Kind, Line, Script, plays_on};
-use super::{Chains, at, lone_links, same};
+use super::{Chains, ChainsOver, Slot, at, lone_links, same};
 use arena_base::{ArenaTrait, Work};
-use arena_ptr::{AllocError, InvalidationOption, ToolPtr};
+use arena_ptr::{AllocError, HeapStack, InvalidationOption, SlotStack, ToolPtr};
 use chain_arena::ChainArenaTrait;
 use std::alloc::Global;
 use std::process::Abort;
 
 // Compresses, and tells the work.
-pub(super) fn counted(arena: &mut Chains, reset: bool) -> (InvalidationOption<()>, Work) {
+pub(super) fn counted<S: SlotStack<Item = Slot>>(
+    arena: &mut ChainsOver<S>,
+    reset: bool,
+) -> (InvalidationOption<()>, Work) {
     arena.compress_canonical_counted(reset)
 }
 
 // .. how many links were placed.
-pub(super) fn placed(arena: &mut Chains, reset: bool) -> (InvalidationOption<()>, u128) {
+pub(super) fn placed<S: SlotStack<Item = Slot>>(
+    arena: &mut ChainsOver<S>,
+    reset: bool,
+) -> (InvalidationOption<()>, u128) {
     let (told, work) = counted(arena, reset);
     (told, work.placed)
 }
@@ -23,10 +29,10 @@ pub(super) fn placed(arena: &mut Chains, reset: bool) -> (InvalidationOption<()>
 type Moves = Vec<(ToolPtr, ToolPtr)>;
 
 // The moves that the closure of a compression sees.
-pub(super) fn moves_seen(
+pub(super) fn moves_seen<S: SlotStack<Item = Slot>>(
     rt: &impl Abort,
     alloc: Global,
-    arena: &mut Chains,
+    arena: &mut ChainsOver<S>,
     reset: bool,
 ) -> (InvalidationOption<()>, Moves) {
     let mut moves = Vec::new(alloc);
@@ -35,9 +41,9 @@ pub(super) fn moves_seen(
 }
 
 // The moves that the call answers that lists them.
-pub(super) fn moves_listed(
+pub(super) fn moves_listed<S: SlotStack<Item = Slot>>(
     alloc: Global,
-    arena: &mut Chains,
+    arena: &mut ChainsOver<S>,
     reset: bool,
 ) -> Result<(InvalidationOption<()>, Moves), AllocError> {
     arena.compress_canonical_moves(alloc, reset)
@@ -177,8 +183,13 @@ fn layouts_and_moves(rt: HostRuntime) {
 
 // Compresses so many lone links behind as many holes, and tells whether the work stays within its bound, and places each
 // link once.
-fn within_bound(rt: &impl Abort, alloc: Global, count: u32, reset: bool) -> bool {
-    let mut arena: Chains = lone_links(rt, alloc, count.saturating_mul(2));
+fn within_bound<S: SlotStack<Item = Slot>>(
+    rt: &impl Abort,
+    alloc: Global,
+    count: u32,
+    reset: bool,
+) -> bool {
+    let mut arena: ChainsOver<S> = lone_links(rt, alloc, count.saturating_mul(2));
     for k in 1..=count {
         arena.remove(at(rt, (k, 2)));
     }
@@ -191,9 +202,16 @@ fn within_bound(rt: &impl Abort, alloc: Global, count: u32, reset: bool) -> bool
     work.placed == links && work.touched <= bound
 }
 
+// .. few and many.
+fn within_bounds<S: SlotStack<Item = Slot>>(rt: &impl Abort, alloc: Global) -> (bool, bool) {
+    (
+        within_bound::<S>(rt, alloc, 100, false),
+        within_bound::<S>(rt, alloc, 100_000, true),
+    )
+}
+
 #[test]
 fn work_stays_within_its_bound(rt: HostRuntime) {
-    let few = within_bound(&rt, rt.alloc(), 100, false);
-    let many = within_bound(&rt, rt.alloc(), 100_000, true);
-    same(&rt, "within", (few, many), (true, true));
+    let within = within_bounds::<HeapStack<Slot>>(&rt, rt.alloc());
+    same(&rt, "within", within, (true, true));
 }

@@ -1,10 +1,12 @@
 //! Copies of chain arenas: what they have, what their closures saw, and when one is refused.
 
 use super::scripts::{Do, Kind, Line, Script, plays_all, plays_on};
-use super::steps::{Step, after};
-use super::{Chains, LimitedChains, Slot, at, same, text};
+use super::steps::{SlotOf, Step, after};
+use super::{Chains, ChainsOver, LimitedChains, Slot, at, same, text};
 use arena_base::{Arena, ArenaSlot, ArenaTrait};
-use arena_ptr::{LimitedStack, ReallocationError, SetMaxCapacity, SlotStack, ToolPtr};
+use arena_ptr::{
+    HeapStack, LimitStack, LimitedStack, ReallocationError, SetMaxCapacity, SlotStack, ToolPtr,
+};
 use chain_arena::{ChainArena, ChainArenaTrait, LinkInsertKind, LinkNoGen};
 use std::alloc::{AllocError, Global};
 use std::process::Abort;
@@ -13,7 +15,7 @@ use std::process::Abort;
 pub(super) fn cloned<S: SlotStack<Item = Slot>>(
     rt: &impl Abort,
     alloc: Global,
-    arena: &ChainArena<ToolPtr, u32, S>,
+    arena: &ChainsOver<S>,
 ) -> String {
     let mut copy = arena.clone(alloc).expect(rt, "memory");
     let next = copy.insert_reallocating(LinkInsertKind::Disconnected, 9);
@@ -21,7 +23,7 @@ pub(super) fn cloned<S: SlotStack<Item = Slot>>(
 }
 
 // A chain of the links 1, 2 and 3, of which the second is removed.
-fn with_a_hole(rt: &impl Abort, alloc: Global) -> Chains {
+fn with_a_hole<S: SlotStack<Item = Slot>>(rt: &impl Abort, alloc: Global) -> ChainsOver<S> {
     let steps = [
         Step::Add(Kind::Disconnected, 1),
         Step::Add(Kind::ChainEnd((1, 2)), 2),
@@ -43,9 +45,9 @@ type Seen = Vec<(ToolPtr, LinkNoGen<ToolPtr, u32>)>;
 pub(super) fn copied_over<S: SlotStack<Item = Slot>>(
     rt: &impl Abort,
     alloc: Global,
-    target: &mut ChainArena<ToolPtr, u32, S>,
+    target: &mut ChainsOver<S>,
 ) -> String {
-    let source = with_a_hole(rt, alloc);
+    let source: ChainsOver<S> = with_a_hole(rt, alloc);
     let mut seen = Vec::new(alloc);
     let mut calls = 0u32;
     let answer = target.clone_from_with(&source, |p, link: &LinkNoGen<ToolPtr, u32>| {
@@ -60,7 +62,7 @@ pub(super) fn copied_over<S: SlotStack<Item = Slot>>(
 fn copied_plain<R: SlotStack<Item = Slot>, S: SlotStack<Item = ArenaSlot<ToolPtr, u32>>>(
     rt: &impl Abort,
     alloc: Global,
-    source: &ChainArena<ToolPtr, u32, R>,
+    source: &ChainsOver<R>,
     target: &mut Arena<ToolPtr, u32, S>,
 ) -> (Result<(), ReallocationError>, Seen) {
     let mut seen = Vec::new(alloc);
@@ -74,12 +76,11 @@ fn copied_plain<R: SlotStack<Item = Slot>, S: SlotStack<Item = ArenaSlot<ToolPtr
 }
 
 // .. to a new one, and tells the pointer of the next entry there, and all entries then.
-pub(super) fn copied_to_plain<S: SlotStack<Item = Slot>>(
-    rt: &impl Abort,
-    alloc: Global,
-    source: &ChainArena<ToolPtr, u32, S>,
-) -> String {
-    let mut target: Arena<ToolPtr, u32> = Arena::new(alloc);
+pub(super) fn copied_to_plain<
+    S: SlotStack<Item = Slot>,
+    R: SlotStack<Item = ArenaSlot<ToolPtr, u32>>,
+>(rt: &impl Abort, alloc: Global, source: &ChainsOver<S>) -> String {
+    let mut target: Arena<ToolPtr, u32, R> = Arena::new(alloc);
     let told = copied_plain(rt, alloc, source, &mut target);
     let next = target.insert_reallocating(9);
     let entries: Vec<(ToolPtr, &u32)> = (&target).into_iter().collect(alloc).expect(rt, "memory");
@@ -140,10 +141,13 @@ fn copies_over_both_stacks(rt: HostRuntime) {
 
 // The links 1 and 3 copied to a plain arena with a maximum of two: whether it has that maximum, what is told, and the pointer
 // of the next entry there.
-fn copied_to_two(rt: &impl Abort, alloc: Global) -> String {
-    let mut target: Arena<ToolPtr, u32, LimitedStack<ArenaSlot<ToolPtr, u32>>> = Arena::new(alloc);
+fn copied_to_two<S: SlotStack<Item = Slot>, R: LimitStack<Item = ArenaSlot<ToolPtr, u32>>>(
+    rt: &impl Abort,
+    alloc: Global,
+) -> String {
+    let mut target: Arena<ToolPtr, u32, R> = Arena::new(alloc);
     let limit = target.set_max_capacity(2);
-    let source = with_a_hole(rt, alloc);
+    let source: ChainsOver<S> = with_a_hole(rt, alloc);
     let told = copied_plain(rt, alloc, &source, &mut target);
     text(rt, alloc, (limit, told, target.insert_reallocating(6)))
 }
@@ -170,7 +174,10 @@ const IN_TWO_SLOTS: [Script; 1] = [(
 #[test]
 fn copies_beyond_the_maximum(rt: HostRuntime) {
     plays_all::<LimitedChains>(&rt, rt.alloc(), &IN_TWO_SLOTS);
-    let told = copied_to_two(&rt, rt.alloc());
+    let told = copied_to_two::<HeapStack<Slot>, LimitedStack<ArenaSlot<ToolPtr, u32>>>(
+        &rt,
+        rt.alloc(),
+    );
     let want = "(Ok(()), (Err(BeyondMaxCapacity), []), Ok(P0[1](2)))";
     same(
         &rt,
@@ -199,13 +206,16 @@ impl Clone for Refusing {
 
 // An arena of two values, of which the second refuses: how its clone is refused, the second value, which is removed, and the
 // first link and the length of the clone then.
-fn cloned_once_more(rt: &impl Abort, alloc: Global) -> String {
+fn cloned_once_more<S: SlotStack<Item = SlotOf<Refusing>>>(
+    rt: &impl Abort,
+    alloc: Global,
+) -> String {
     let steps = [
         Step::Add(Kind::Disconnected, Refusing(1)),
         Step::Add(Kind::Disconnected, Refusing(2)),
     ];
     let steps = Vec::from_array(alloc, steps).expect(rt, "memory");
-    let mut arena = after(rt, alloc, steps);
+    let mut arena: ChainArena<ToolPtr, Refusing, S> = after(rt, alloc, steps);
     let refused = arena.clone(alloc).err();
     let second = arena.remove(at(rt, (2, 2)));
     let copy = arena.clone(alloc).expect(rt, "memory");
@@ -220,7 +230,7 @@ fn cloned_once_more(rt: &impl Abort, alloc: Global) -> String {
 
 #[test]
 fn a_clone_of_a_value_is_refused(rt: HostRuntime) {
-    let told = cloned_once_more(&rt, rt.alloc());
+    let told = cloned_once_more::<HeapStack<SlotOf<Refusing>>>(&rt, rt.alloc());
     let want = "(Some(AllocError), Success(Refusing(2)), Some({(start), (end)} Refusing(1)), 1)";
     same(&rt, "nothing is lost", told.as_str(), want);
 }

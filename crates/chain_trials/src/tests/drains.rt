@@ -8,8 +8,8 @@ ghost use Rattle.arena_base.specs.Entries.{entries};
 ghost use Rattle.chain_links.specs.ChainArena.{entry, values_of};
 ghost use Rattle.chain_arena.specs.Drains.{walk_left, without_each, CountsUp};
 
-use super::{Chains, text};
-use arena_ptr::{InvalidationOption, ToolPtr};
+use super::{ChainsOver, Slot, text};
+use arena_ptr::{InvalidationOption, SlotStack, ToolPtr};
 use chain_arena::LinkNoGen;
 use std::alloc::Global;
 use std::mem::forget;
@@ -21,7 +21,7 @@ type Gone = InvalidationOption<(ToolPtr, LinkNoGen<ToolPtr, u32>)>;
 type ValueGone = InvalidationOption<(ToolPtr, u32)>;
 
 // Removes a pointer's chain, and tells whether there was one.
-pub(super) fn remove_chain(arena: &mut Chains, p: ToolPtr) -> bool
+pub(super) fn remove_chain<S: SlotStack<Item = Slot>>(arena: &mut ChainsOver<S>, p: ToolPtr) -> bool
     ensures some { IsTrue result ↔ IsValid (entry arena.old) (key_of p) }
     ensures valid { IsValid (entry arena.old) (key_of p) → arena.new ≡ without_each after32 arena.old (walk_left arena.old (key_of p).0) }
     ensures invalid { ¬ IsValid (entry arena.old) (key_of p) → arena.new ≡ arena.old }
@@ -36,7 +36,7 @@ pub(super) fn remove_chain(arena: &mut Chains, p: ToolPtr) -> bool
 }
 
 // Removes all links: none is left, and the counter goes up once for each.
-pub(super) fn remove_all(arena: &mut Chains)
+pub(super) fn remove_all<S: SlotStack<Item = Slot>>(arena: &mut ChainsOver<S>)
     ensures none { entries (values_of arena.new) ≡ [] }
     ensures counts { CountsUp after32 (length (entries (values_of arena.old))) arena.old arena.new }
 {
@@ -44,10 +44,10 @@ pub(super) fn remove_all(arena: &mut Chains)
 }
 
 // All that a drain of a chain yields.
-pub(super) fn drained_chain(
+pub(super) fn drained_chain<S: SlotStack<Item = Slot>>(
     rt: &impl Abort,
     alloc: Global,
-    arena: &mut Chains,
+    arena: &mut ChainsOver<S>,
     p: ToolPtr,
 ) -> String {
     match arena.drain_chain(p) {
@@ -60,8 +60,8 @@ pub(super) fn drained_chain(
 }
 
 // The first link that it yields, whereupon it is dropped or forgotten.
-pub(super) fn takes_one_of_chain(
-    arena: &mut Chains,
+pub(super) fn takes_one_of_chain<S: SlotStack<Item = Slot>>(
+    arena: &mut ChainsOver<S>,
     p: ToolPtr,
     is_forgotten: bool,
 ) -> Option<Gone> {
@@ -74,13 +74,20 @@ pub(super) fn takes_one_of_chain(
 }
 
 // All that a drain of all links yields.
-pub(super) fn drained(rt: &impl Abort, alloc: Global, arena: &mut Chains) -> String {
+pub(super) fn drained<S: SlotStack<Item = Slot>>(
+    rt: &impl Abort,
+    alloc: Global,
+    arena: &mut ChainsOver<S>,
+) -> String {
     let all: Vec<ValueGone> = arena.drain().collect(alloc).expect(rt, "memory");
     text(rt, alloc, all)
 }
 
 // The first link that it yields, whereupon it is dropped or forgotten. None is left if it is dropped.
-pub(super) fn takes_one(arena: &mut Chains, is_forgotten: bool) -> Option<ValueGone>
+pub(super) fn takes_one<S: SlotStack<Item = Slot>>(
+    arena: &mut ChainsOver<S>,
+    is_forgotten: bool,
+) -> Option<ValueGone>
     ensures none { is_forgotten ≡ false → entries (values_of arena.new) ≡ [] }
 {
     let mut drain = arena.drain();
@@ -92,7 +99,7 @@ pub(super) fn takes_one(arena: &mut Chains, is_forgotten: bool) -> Option<ValueG
 }
 
 // Removes all links, where one was taken before.
-pub(super) fn remove_one_and_all(arena: &mut Chains)
+pub(super) fn remove_one_and_all<S: SlotStack<Item = Slot>>(arena: &mut ChainsOver<S>)
     ensures none { entries (values_of arena.new) ≡ [] }
 {
     takes_one(arena, false);

@@ -8,15 +8,15 @@ ghost use Rattle.chain_links.specs.ChainArena.{entry, shown, insert_as};
 ghost use Rattle.chain_links.specs.Kinds.{names_in, by_index, MayInsert};
 
 use super::scripts::{Do, Kind, Script, plays_all};
-use super::{Chains, LimitedChains};
+use super::{ChainsOver, LimitedChains, Slot};
 use arena_base::ArenaTrait;
-use arena_ptr::{ChainInsertionError, ReallocationError, ToolPtr};
+use arena_ptr::{ChainInsertionError, ReallocationError, SlotStack, ToolPtr};
 use chain_arena::{ChainArenaTrait, LinkInsertKind};
 use std::mem;
 
 // A link in a place that was made for it, which is what an insertion in one call is.
-pub(super) fn insert_by_entry(
-    arena: &mut Chains,
+pub(super) fn insert_by_entry<S: SlotStack<Item = Slot>>(
+    arena: &mut ChainsOver<S>,
     kind: LinkInsertKind<ToolPtr>,
     t: u32,
 ) -> Result<ToolPtr, ChainInsertionError>
@@ -32,8 +32,8 @@ pub(super) fn insert_by_entry(
 }
 
 // The pointer of a place that is given up.
-pub(super) fn give_up(
-    arena: &mut Chains,
+pub(super) fn give_up<S: SlotStack<Item = Slot>>(
+    arena: &mut ChainsOver<S>,
     kind: LinkInsertKind<ToolPtr>,
 ) -> Result<ToolPtr, ChainInsertionError>
     ensures place { IfOk result (λ p. key_of p ≡ (next_index arena.old, arena.old.counter)) }
@@ -44,8 +44,8 @@ pub(super) fn give_up(
 }
 
 // A place for a link of a kind that may be inserted, and the link in it. `None`: it may not be.
-pub(super) fn insert_by_any_entry(
-    arena: &mut Chains,
+pub(super) fn insert_by_any_entry<S: SlotStack<Item = Slot>>(
+    arena: &mut ChainsOver<S>,
     kind: LinkInsertKind<ToolPtr>,
     t: u32,
 ) -> Option<Result<ToolPtr, ReallocationError>> {
@@ -63,8 +63,8 @@ pub(super) fn insert_by_any_entry(
 }
 
 // The insertion of one. `None`: it may not be inserted.
-pub(super) fn insert_asked(
-    arena: &mut Chains,
+pub(super) fn insert_asked<S: SlotStack<Item = Slot>>(
+    arena: &mut ChainsOver<S>,
     kind: LinkInsertKind<ToolPtr>,
     t: u32,
 ) -> Option<Result<ToolPtr, ReallocationError>> {
@@ -76,8 +76,8 @@ pub(super) fn insert_asked(
 }
 
 // A place is forgotten.
-pub(super) fn forget(
-    arena: &mut Chains,
+pub(super) fn forget<S: SlotStack<Item = Slot>>(
+    arena: &mut ChainsOver<S>,
     kind: LinkInsertKind<ToolPtr>,
 ) -> Option<ChainInsertionError> {
     match arena.entry_insert_reallocating(kind) {
@@ -90,8 +90,8 @@ pub(super) fn forget(
 }
 
 // How a place for a link of a kind is refused, by growth and within the capacity.
-pub(super) fn place_refusals(
-    arena: &mut LimitedChains,
+pub(super) fn place_refusals<S: SlotStack<Item = Slot>>(
+    arena: &mut ChainsOver<S>,
     kind: LinkInsertKind<ToolPtr>,
 ) -> [Option<ChainInsertionError>; 2] {
     let growing = match arena.entry_insert_reallocating(kind) {

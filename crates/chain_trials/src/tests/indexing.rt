@@ -5,12 +5,15 @@ ghost use Rattle.arena_ptr.specs.ToolPtr.{key_of};
 ghost use Rattle.arena_base.specs.Arena.{IsValid};
 ghost use Rattle.chain_links.specs.ChainArena.{entry, with_value_at};
 
-use super::Chains;
+use super::{ChainsOver, Slot};
 use arena_base::ArenaTrait;
-use arena_ptr::{Inx32, ToolPtr};
+use arena_ptr::{Inx32, SlotStack, ToolPtr};
 
 // The value of a pointer, and of an index, where it is valid.
-pub(super) fn value_at(arena: &Chains, p: ToolPtr) -> Option<u32> {
+pub(super) fn value_at<S: SlotStack<Item = Slot>>(
+    arena: &ChainsOver<S>,
+    p: ToolPtr,
+) -> Option<u32> {
     if arena.contains(p) {
         Some(arena[p])
     } else {
@@ -18,7 +21,10 @@ pub(super) fn value_at(arena: &Chains, p: ToolPtr) -> Option<u32> {
     }
 }
 
-pub(super) fn value_at_index(arena: &Chains, i: Inx32) -> Option<u32> {
+pub(super) fn value_at_index<S: SlotStack<Item = Slot>>(
+    arena: &ChainsOver<S>,
+    i: Inx32,
+) -> Option<u32> {
     if arena.get_inx(i).is_some() {
         Some(*arena.get_inx_unwrap(i))
     } else {
@@ -27,7 +33,11 @@ pub(super) fn value_at_index(arena: &Chains, i: Inx32) -> Option<u32> {
 }
 
 // Writes one, and tells whether it is valid. Nothing else changes.
-pub(super) fn write_at(arena: &mut Chains, p: ToolPtr, t: u32) -> bool
+pub(super) fn write_at<S: SlotStack<Item = Slot>>(
+    arena: &mut ChainsOver<S>,
+    p: ToolPtr,
+    t: u32,
+) -> bool
     ensures { IsValid (entry arena.old) (key_of p) → arena.new ≡ with_value_at arena.old (key_of p).0 t }
 {
     if !arena.contains(p) {
@@ -37,7 +47,11 @@ pub(super) fn write_at(arena: &mut Chains, p: ToolPtr, t: u32) -> bool
     true
 }
 
-pub(super) fn write_at_index(arena: &mut Chains, i: Inx32, t: u32) -> bool {
+pub(super) fn write_at_index<S: SlotStack<Item = Slot>>(
+    arena: &mut ChainsOver<S>,
+    i: Inx32,
+    t: u32,
+) -> bool {
     if arena.get_inx(i).is_none() {
         return false;
     }

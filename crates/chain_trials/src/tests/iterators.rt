@@ -5,20 +5,19 @@ ghost use Rattle.arena_ptr.specs.Indexes.{number_of_inx32};
 ghost use Rattle.arena_base.specs.Arena.{entry_count};
 ghost use Rattle.arena_base.specs.Entries.{entries, index_of};
 
-use super::scripts::Answers;
-use super::{Chains, Slot, text};
-use arena_base::Iter;
-use arena_ptr::{HeapStack, Inx32, Ptr, ToolPtr};
+use super::{ChainsOver, Slot, text};
+use arena_base::{ArenaTrait, Iter};
+use arena_ptr::{Inx32, Ptr, SlotStack, ToolPtr};
 use chain_arena::LinkNoGen;
 use std::alloc::{AllocError, Global};
 use std::mem;
 use std::process::Abort;
 
 // All links of an arena, one after another.
-type Links<'a> = Iter<'a, ToolPtr, LinkNoGen<ToolPtr, u32>, HeapStack<Slot>>;
+type Links<'a, S> = Iter<'a, ToolPtr, LinkNoGen<ToolPtr, u32>, S>;
 
 // How many links there are, counted one by one.
-fn count_links(arena: &Chains) -> usize
+fn count_links<S: SlotStack<Item = Slot>>(arena: &ChainsOver<S>) -> usize
     ensures { result ≡ entry_count arena.now }
 {
     let mut count = 0;
@@ -29,7 +28,10 @@ fn count_links(arena: &Chains) -> usize
 }
 
 // The indexes of all links.
-fn indexes(alloc: Global, arena: &Chains) -> Result<Vec<Inx32>, AllocError>
+fn indexes<S: SlotStack<Item = Slot>>(
+    alloc: Global,
+    arena: &ChainsOver<S>,
+) -> Result<Vec<Inx32>, AllocError>
     ensures { IfOk result (λ all. map number_of_inx32 all.items ≡ map index_of (entries arena.now)) }
 {
     let mut all = Vec::new(alloc);
@@ -40,39 +42,67 @@ fn indexes(alloc: Global, arena: &Chains) -> Result<Vec<Inx32>, AllocError>
 }
 
 // Both.
-pub(super) fn counts(alloc: Global, arena: &Chains) -> (usize, Result<Vec<Inx32>, AllocError>) {
+pub(super) fn counts<S: SlotStack<Item = Slot>>(
+    alloc: Global,
+    arena: &ChainsOver<S>,
+) -> (usize, Result<Vec<Inx32>, AllocError>) {
     (count_links(arena), indexes(alloc, arena))
 }
 
 // Each value with its pointer.
-pub(super) fn values(rt: &impl Abort, alloc: Global, arena: &Chains) -> String {
+pub(super) fn values<S: SlotStack<Item = Slot>>(
+    rt: &impl Abort,
+    alloc: Global,
+    arena: &ChainsOver<S>,
+) -> String {
     let all: Vec<(ToolPtr, &u32)> = arena.iter().collect(alloc).expect(rt, "memory");
     text(rt, alloc, all)
 }
 
 // All that an iterator over links yields.
-fn listed(rt: &impl Abort, alloc: Global, links: Links<'_>) -> String {
+fn listed<S: SlotStack<Item = Slot>>(
+    rt: &impl Abort,
+    alloc: Global,
+    links: Links<'_, S>,
+) -> String {
     let all: Vec<(ToolPtr, &LinkNoGen<ToolPtr, u32>)> = links.collect(alloc).expect(rt, "memory");
     text(rt, alloc, all)
 }
 
 // Each link with its interlinks, by the call, over the arena itself, and of one that is used up, which leaves a new one.
-pub(super) fn links(rt: &impl Abort, alloc: Global, arena: &Chains) -> String {
+pub(super) fn links<S: SlotStack<Item = Slot>>(
+    rt: &impl Abort,
+    alloc: Global,
+    arena: &ChainsOver<S>,
+) -> String {
     listed(rt, alloc, arena.iter_link_no_gen())
 }
 
-pub(super) fn links_by_reference(rt: &impl Abort, alloc: Global, arena: &Chains) -> String {
+pub(super) fn links_by_reference<S: SlotStack<Item = Slot>>(
+    rt: &impl Abort,
+    alloc: Global,
+    arena: &ChainsOver<S>,
+) -> String {
     listed(rt, alloc, arena.into_iter())
 }
 
-pub(super) fn links_used_up(rt: &impl Abort, alloc: Global, arena: &mut Chains) -> String {
-    let links = mem::replace(arena, Chains::fresh(alloc)).into_iter();
+pub(super) fn links_used_up<S: SlotStack<Item = Slot>>(
+    rt: &impl Abort,
+    alloc: Global,
+    arena: &mut ChainsOver<S>,
+) -> String {
+    let links = mem::replace(arena, ChainsOver::<S>::new(alloc)).into_iter();
     let all: Vec<(ToolPtr, LinkNoGen<ToolPtr, u32>)> = links.collect(alloc).expect(rt, "memory");
     text(rt, alloc, all)
 }
 
 // The links that a walk from a pointer yields, each with its pointer, which is that of now.
-pub(super) fn walk(rt: &impl Abort, alloc: Global, arena: &Chains, p: ToolPtr) -> String {
+pub(super) fn walk<S: SlotStack<Item = Slot>>(
+    rt: &impl Abort,
+    alloc: Global,
+    arena: &ChainsOver<S>,
+    p: ToolPtr,
+) -> String {
     match arena.iter_chain(p) {
         Some(links) => {
             let all: Vec<(ToolPtr, &LinkNoGen<ToolPtr, u32>)> = links

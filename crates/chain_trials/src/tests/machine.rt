@@ -1,9 +1,10 @@
 //! Lists of calls, and the replies to them.
 
-use super::scripts::{Answers, Do, Kind, Line, look};
-use super::{Chains, Slot, at, generation, index, limited, same, text};
-use arena_ptr::{SlotStack, ToolPtr};
-use chain_arena::{Call, ChainArena, LinkInsertKind, Reply, run_calls};
+use super::scripts::{Do, Kind, Line, look};
+use super::{ChainsOver, Slot, at, generation, index, limited, same, text};
+use arena_base::ArenaTrait;
+use arena_ptr::{HeapStack, LimitStack, LimitedStack, SlotStack, ToolPtr};
+use chain_arena::{Call, LinkInsertKind, Reply, run_calls};
 use std::alloc::Global;
 use std::process::Abort;
 
@@ -85,7 +86,7 @@ pub(super) fn told(rt: &impl Abort, alloc: Global, reply: Reply<ToolPtr, u32>) -
 fn replies<S: SlotStack<Item = Slot>>(
     rt: &impl Abort,
     alloc: Global,
-    arena: &mut ChainArena<ToolPtr, u32, S>,
+    arena: &mut ChainsOver<S>,
     list: List,
 ) {
     let (what, lines) = list;
@@ -278,18 +279,28 @@ const EVERY_REPLY: List = (
     ],
 );
 
-#[test]
-fn lists_of_calls_with_their_replies(rt: HostRuntime) {
-    for lists in LISTS {
-        let mut arena = Chains::fresh(rt.alloc());
-        for list in lists {
-            replies(&rt, rt.alloc(), &mut arena, *list);
-        }
+// Lists one after another, on a new arena.
+fn check_lists<S: SlotStack<Item = Slot>>(rt: &impl Abort, alloc: Global, lists: &[List]) {
+    let mut arena: ChainsOver<S> = ChainsOver::<S>::new(alloc);
+    for list in lists {
+        replies(rt, alloc, &mut arena, *list);
     }
 }
 
 #[test]
+fn lists_of_calls_with_their_replies(rt: HostRuntime) {
+    for lists in LISTS {
+        check_lists::<HeapStack<Slot>>(&rt, rt.alloc(), lists);
+    }
+}
+
+// .. on one with a maximum of three.
+fn check_every_reply<S: LimitStack<Item = Slot>>(rt: &impl Abort, alloc: Global) {
+    let mut arena: ChainsOver<S> = limited(rt, alloc, 3);
+    replies(rt, alloc, &mut arena, EVERY_REPLY);
+}
+
+#[test]
 fn every_call_with_its_replies(rt: HostRuntime) {
-    let mut arena = limited(&rt, rt.alloc(), 3);
-    replies(&rt, rt.alloc(), &mut arena, EVERY_REPLY);
+    check_every_reply::<LimitedStack<Slot>>(&rt, rt.alloc());
 }

@@ -12,14 +12,19 @@ use super::indexing::{value_at, value_at_index, write_at, write_at_index};
 use super::iterators::{counts, links, links_by_reference, links_used_up, values, walk};
 use super::machine::kind;
 use super::scripts::{Answers, Do, answer};
-use super::{Chains, LimitedChains, at, index, text};
+use super::{Chains, ChainsOver, LimitedChains, Slot, at, index, text};
 use arena_base::ArenaTrait;
-use arena_ptr::SetMaxCapacity;
+use arena_ptr::{SetMaxCapacity, SlotStack};
 use std::alloc::Global;
 use std::process::Abort;
 
 // The answer to a call of the arena's own: to one on a value, a walk, or a loop over all links, ...
-fn own_answer(rt: &impl Abort, alloc: Global, arena: &mut Chains, row: Do) -> String {
+fn own_answer<S: SlotStack<Item = Slot>>(
+    rt: &impl Abort,
+    alloc: Global,
+    arena: &mut ChainsOver<S>,
+    row: Do,
+) -> String {
     match row {
         Do::Value(p) => text(rt, alloc, value_at(arena, at(rt, p))),
         Do::ValueInx(i) => text(rt, alloc, value_at_index(arena, index(rt, i))),
@@ -40,7 +45,12 @@ fn own_answer(rt: &impl Abort, alloc: Global, arena: &mut Chains, row: Do) -> St
 }
 
 // .. to a drain, or a place for a link.
-fn drain_answer(rt: &impl Abort, alloc: Global, arena: &mut Chains, row: Do) -> String {
+fn drain_answer<S: SlotStack<Item = Slot>>(
+    rt: &impl Abort,
+    alloc: Global,
+    arena: &mut ChainsOver<S>,
+    row: Do,
+) -> String {
     match row {
         Do::DrainChain(p) => drained_chain(rt, alloc, arena, at(rt, p)),
         Do::DrainChainOne(p) => text(rt, alloc, takes_one_of_chain(arena, at(rt, p), false)),

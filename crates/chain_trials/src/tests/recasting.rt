@@ -2,9 +2,10 @@
 ghost use Rattle.std.specs.Prelude.{◌≡◌, OnErr, Err};
 
 use super::scripts::Kind;
-use super::steps::{Step, after};
+use super::steps::{SlotOf, Step, after};
 use super::{same, text};
-use arena_ptr::{Recast, Recaster, ToolPtr};
+use arena_ptr::{HeapStack, Recast, Recaster, SlotStack, ToolPtr};
+use chain_arena::ChainArena;
 use std::alloc::Global;
 use std::process::Abort;
 
@@ -91,29 +92,38 @@ const TIED_THEN: &str =
     P0[4](2): {(start), 1} Number(3, 0)}, Gen32 { number: 3 })";
 
 // Recasts an arena, and tells the answer, the arena then and its counter.
-fn recast(rt: &impl Abort, alloc: Global, steps: Vec<Step<Number>>) -> String {
-    let mut arena = after(rt, alloc, steps);
+fn recast<S: SlotStack<Item = SlotOf<Number>>>(
+    rt: &impl Abort,
+    alloc: Global,
+    steps: Vec<Step<Number>>,
+) -> String {
+    let mut arena: ChainArena<ToolPtr, Number, S> = after(rt, alloc, steps);
     let answer = arena.recast(&AddTen);
     text(rt, alloc, (answer, &arena, arena.generation()))
 }
 
-#[test]
-fn recasters_that_refuse_and_that_do_not(rt: HostRuntime) {
+// Lone links, none, and tied ones.
+fn check_recasts<S: SlotStack<Item = SlotOf<Number>>>(rt: &impl Abort, alloc: Global) {
     for (items, want) in LONE {
         let links = items.map(|item: u32| (Kind::Disconnected, item));
-        let steps = numbers(&rt, rt.alloc(), &links);
-        let told = recast(&rt, rt.alloc(), steps);
-        same(&rt, "lone links", told.as_str(), want);
+        let steps = numbers(rt, alloc, &links);
+        let told = recast::<S>(rt, alloc, steps);
+        same(rt, "lone links", told.as_str(), want);
     }
-    let none = recast(&rt, rt.alloc(), Vec::new(rt.alloc()));
+    let none = recast::<S>(rt, alloc, Vec::new(alloc));
     same(
-        &rt,
+        rt,
         "no links",
         none.as_str(),
         "(Ok(()), {}, Gen32 { number: 2 })",
     );
-    let mut steps = numbers(&rt, rt.alloc(), &TIED);
-    steps.push(Step::Remove((2, 2))).expect(&rt, "memory");
-    let told = recast(&rt, rt.alloc(), steps);
-    same(&rt, "tied links", told.as_str(), TIED_THEN);
+    let mut steps = numbers(rt, alloc, &TIED);
+    steps.push(Step::Remove((2, 2))).expect(rt, "memory");
+    let told = recast::<S>(rt, alloc, steps);
+    same(rt, "tied links", told.as_str(), TIED_THEN);
+}
+
+#[test]
+fn recasters_that_refuse_and_that_do_not(rt: HostRuntime) {
+    check_recasts::<HeapStack<SlotOf<Number>>>(&rt, rt.alloc());
 }

@@ -2,10 +2,10 @@
 
 use super::copies::{cloned, copied_over, copied_to_plain};
 use super::machine::{call, told};
-use super::{At, Slot, at, same, text};
-use arena_base::ArenaTrait;
-use arena_ptr::{SlotStack, ToolPtr};
-use chain_arena::{ChainArena, apply};
+use super::{At, ChainsOver, Slot, at, same, text};
+use arena_base::{ArenaSlot, ArenaTrait};
+use arena_ptr::{HeapStack, SlotStack, ToolPtr};
+use chain_arena::apply;
 use std::alloc::Global;
 use std::process::Abort;
 
@@ -102,7 +102,7 @@ pub(super) type Script = (&'static str, u32, &'static [At], &'static [Line]);
 pub(super) fn answer<S: SlotStack<Item = Slot>>(
     rt: &impl Abort,
     alloc: Global,
-    arena: &mut ChainArena<ToolPtr, u32, S>,
+    arena: &mut ChainsOver<S>,
     row: Do,
 ) -> String {
     match call(rt, row) {
@@ -115,7 +115,7 @@ pub(super) fn answer<S: SlotStack<Item = Slot>>(
 pub(super) fn look<S: SlotStack<Item = Slot>>(
     rt: &impl Abort,
     alloc: Global,
-    arena: &mut ChainArena<ToolPtr, u32, S>,
+    arena: &mut ChainsOver<S>,
     row: Do,
 ) -> String {
     match row {
@@ -131,7 +131,9 @@ pub(super) fn look<S: SlotStack<Item = Slot>>(
         Do::Remove(p) => text(rt, alloc, arena.remove(at(rt, p))),
         Do::Clone => cloned(rt, alloc, arena),
         Do::CopyOver => copied_over(rt, alloc, arena),
-        Do::CopyToPlain => copied_to_plain(rt, alloc, arena),
+        Do::CopyToPlain => copied_to_plain::<S, HeapStack<ArenaSlot<ToolPtr, u32>>>(
+            rt, alloc, arena,
+        ),
         _ => text(rt, alloc, "no call of any stack"),
     }
 }

@@ -3,9 +3,9 @@
 use super::machine::kind;
 use super::scripts::Kind;
 use super::{At, at, generation, put};
-use arena_base::ArenaTrait;
-use arena_ptr::ToolPtr;
-use chain_arena::ChainArena;
+use arena_base::{ArenaSlot, ArenaTrait};
+use arena_ptr::{SlotStack, ToolPtr};
+use chain_arena::{ChainArena, LinkNoGen};
 use std::alloc::Global;
 use std::process::Abort;
 
@@ -17,13 +17,16 @@ pub(super) enum Step<T> {
     Count(u32),
 }
 
+// A slot of a link of any value.
+pub(super) type SlotOf<T> = ArenaSlot<ToolPtr, LinkNoGen<ToolPtr, T>>;
+
 // The arena after some steps.
-pub(super) fn after<T: Drop>(
+pub(super) fn after<T: Drop, S: SlotStack<Item = SlotOf<T>>>(
     rt: &impl Abort,
     alloc: Global,
     steps: Vec<Step<T>>,
-) -> ChainArena<ToolPtr, T> {
-    let mut arena: ChainArena<ToolPtr, T> = ChainArena::new(alloc);
+) -> ChainArena<ToolPtr, T, S> {
+    let mut arena = ChainArena::<ToolPtr, T, S>::new(alloc);
     for step in steps {
         match step {
             Step::Add(k, t) => {

@@ -2,7 +2,9 @@
 
 use super::same;
 use super::scripts::Kind;
-use super::steps::{Step, after};
+use super::steps::{SlotOf, Step, after};
+use arena_ptr::{HeapStack, SlotStack, ToolPtr};
+use chain_arena::ChainArena;
 use std::alloc::Global;
 use std::fmt::Debug;
 use std::process::Abort;
@@ -67,11 +69,16 @@ const WORDS: [(&[Step<&str>], &str, &str); 4] = [
     ),
 ];
 
+// Each arena, and its texts.
+fn check_words<S: SlotStack<Item = SlotOf<String>>>(rt: &impl Abort, alloc: Global) {
+    for (steps, plain, sharp) in WORDS {
+        let words = with_words(rt, alloc, steps);
+        let arena: ChainArena<ToolPtr, String, S> = after(rt, alloc, words);
+        debug_reads(rt, alloc, &arena, plain, sharp);
+    }
+}
+
 #[test]
 fn arenas_of_words(rt: HostRuntime) {
-    for (steps, plain, sharp) in WORDS {
-        let words = with_words(&rt, rt.alloc(), steps);
-        let arena = after(&rt, rt.alloc(), words);
-        debug_reads(&rt, rt.alloc(), &arena, plain, sharp);
-    }
+    check_words::<HeapStack<SlotOf<String>>>(&rt, rt.alloc());
 }

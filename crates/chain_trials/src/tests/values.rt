@@ -1,8 +1,9 @@
 //! Values that tell how many of them there are, or how often they were cloned: none is lost, and none is cloned twice.
 
+use super::steps::SlotOf;
 use super::{at, put, same};
 use arena_base::{Arena, ArenaTrait};
-use arena_ptr::{Inx32, ToolPtr};
+use arena_ptr::{HeapStack, Inx32, SlotStack, ToolPtr};
 use chain_arena::{Call, ChainArena, LinkBody, LinkInsertKind, LinkNoGen, apply};
 use std::alloc::{AllocError, Global};
 use std::cell::Cell;
@@ -21,7 +22,11 @@ fn one_more(rt: &impl Abort, value: &Rc<u8>) -> Rc<u8> {
 }
 
 // A chain of three values, and a lone link.
-fn chain_and_lone(rt: &impl Abort, alloc: Global, value: &Rc<u8>) -> ChainArena<ToolPtr, Rc<u8>> {
+fn chain_and_lone<S: SlotStack<Item = SlotOf<Rc<u8>>>>(
+    rt: &impl Abort,
+    alloc: Global,
+    value: &Rc<u8>,
+) -> ChainArena<ToolPtr, Rc<u8>, S> {
     let mut arena = ChainArena::new(alloc);
     let mut kind = LinkInsertKind::Disconnected;
     for _ in 0..3 {
@@ -38,9 +43,13 @@ fn chain_and_lone(rt: &impl Abort, alloc: Global, value: &Rc<u8>) -> ChainArena<
 
 // Drains the chain by a call as a value, which takes so many links one by one. Tells how many links are left, and how many
 // values there are.
-fn left_by_a_drain(rt: &impl Abort, alloc: Global, take: usize) -> (usize, usize) {
+fn left_by_a_drain<S: SlotStack<Item = SlotOf<Rc<u8>>>>(
+    rt: &impl Abort,
+    alloc: Global,
+    take: usize,
+) -> (usize, usize) {
     let value = shared(rt, alloc);
-    let mut arena = chain_and_lone(rt, alloc, &value);
+    let mut arena: ChainArena<ToolPtr, Rc<u8>, S> = chain_and_lone(rt, alloc, &value);
     let p = at(rt, (1, 2));
     drop(apply(&mut arena, Call::DrainChain { p, take }));
     (arena.len(), Rc::strong_count(&value))
@@ -50,18 +59,18 @@ fn left_by_a_drain(rt: &impl Abort, alloc: Global, take: usize) -> (usize, usize
 #[test]
 fn drained_values_are_dropped(rt: HostRuntime) {
     for take in [0, 1, 5] {
-        let left = left_by_a_drain(&rt, rt.alloc(), take);
+        let left = left_by_a_drain::<HeapStack<SlotOf<Rc<u8>>>>(&rt, rt.alloc(), take);
         same(&rt, "links and values", left, (1, 2));
     }
 }
 
 // A plain arena of two links, of which the first names this index as the one after it.
-fn plain_pair(
+fn plain_pair<S: SlotStack<Item = SlotOf<Rc<u8>>>>(
     rt: &impl Abort,
     alloc: Global,
     value: &Rc<u8>,
     next: u32,
-) -> Arena<ToolPtr, LinkNoGen<ToolPtr, Rc<u8>>> {
+) -> Arena<ToolPtr, LinkNoGen<ToolPtr, Rc<u8>>, S> {
     let mut arena = Arena::new(alloc);
     for next in [next, 0] {
         let link = LinkBody::new((None, Inx32::new(next)), one_more(rt, value));
@@ -71,9 +80,13 @@ fn plain_pair(
 }
 
 // Whether a plain arena of two links is refused, and how many values there are then.
-fn left_by_a_refusal(rt: &impl Abort, alloc: Global, next: u32) -> (bool, usize) {
+fn left_by_a_refusal<S: SlotStack<Item = SlotOf<Rc<u8>>>>(
+    rt: &impl Abort,
+    alloc: Global,
+    next: u32,
+) -> (bool, usize) {
     let value = shared(rt, alloc);
-    let made = ChainArena::from_arena(plain_pair(rt, alloc, &value, next));
+    let made = ChainArena::from_arena(plain_pair::<S>(rt, alloc, &value, next));
     (made.is_err(), Rc::strong_count(&value))
 }
 
@@ -81,7 +94,7 @@ fn left_by_a_refusal(rt: &impl Abort, alloc: Global, next: u32) -> (bool, usize)
 #[test]
 fn a_refused_arena_is_dropped_with_its_values(rt: HostRuntime) {
     for (next, want) in [(2, (true, 1)), (0, (false, 3))] {
-        let left = left_by_a_refusal(&rt, rt.alloc(), next);
+        let left = left_by_a_refusal::<HeapStack<SlotOf<Rc<u8>>>>(&rt, rt.alloc(), next);
         same(&rt, "refused, and values", left, want);
     }
 }
@@ -113,11 +126,11 @@ impl Clone for Counted {
 }
 
 // Three links, of which the second is removed.
-fn counted_with_a_hole(
+fn counted_with_a_hole<S: SlotStack<Item = SlotOf<Counted>>>(
     rt: &impl Abort,
     alloc: Global,
     clones: &Rc<Cell<u32>>,
-) -> ChainArena<ToolPtr, Counted> {
+) -> ChainArena<ToolPtr, Counted, S> {
     let mut arena = ChainArena::new(alloc);
     for _ in 0..3 {
         let clones = clones.clone().expect(rt, "one more");
@@ -132,12 +145,20 @@ fn counted_with_a_hole(
     arena
 }
 
+// How many links a clone has of two, and how many clones there were.
+fn clones_of_two<S: SlotStack<Item = SlotOf<Counted>>>(
+    rt: &impl Abort,
+    alloc: Global,
+) -> (usize, u32) {
+    let clones = Rc::new(alloc, Cell::new(0)).ok();
+    let clones = clones.expect(rt, "memory");
+    let arena: ChainArena<ToolPtr, Counted, S> = counted_with_a_hole(rt, alloc, &clones);
+    let copy = arena.clone(alloc).expect(rt, "memory");
+    (copy.len(), clones.get())
+}
+
 #[test]
 fn a_clone_clones_each_value_once(rt: HostRuntime) {
-    let clones = Rc::new(rt.alloc(), Cell::new(0)).ok();
-    let clones = clones.expect(&rt, "memory");
-    let arena = counted_with_a_hole(&rt, rt.alloc(), &clones);
-    let copy = arena.clone(rt.alloc()).expect(&rt, "memory");
-    let count = (copy.len(), clones.get());
+    let count = clones_of_two::<HeapStack<SlotOf<Counted>>>(&rt, rt.alloc());
     same(&rt, "links and clones", count, (2, 2));
 }

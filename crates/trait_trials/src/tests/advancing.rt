@@ -46,17 +46,26 @@ pub(super) fn met<P: Numbered, C, V: Advancer<C, Item = P>>(
     met
 }
 
-// What advancers along chains answer over an arena that changes: the first of two links, and nothing once the second is gone;
-// and what they answer over other arenas: as many as they have steps, and of a link that is untied there.
-pub(super) fn changes_met<P: Numbered, A: ChainArenaTrait<P, u32> + Drop>(
+// What an advancer along a chain answers over an arena that changes: the first of two links, and nothing once the second is
+// gone. The arena with the first of them is left.
+fn met_while_removed<P: Numbered, A: ChainArenaTrait<P, u32> + Drop>(
     rt: &impl Abort,
     alloc: Global,
-) -> (At, [[At; 5]; 3]) {
+) -> (At, [At; 5], A) {
     let mut arena: A = tied_links(rt, alloc, 2, &[(1, 2)]);
     let mut along = arena.advancer_chain(at(rt, (1, 2)));
     let first = numbers(rt, along.advance(&arena));
     arena.remove(at(rt, (2, 2)));
     let gone = met(rt, along, &arena, 5);
+    (first, gone, arena)
+}
+
+// .. what advancers answer over other arenas: as many as they have steps, and of a link that is untied there.
+pub(super) fn changes_met<P: Numbered, A: ChainArenaTrait<P, u32> + Drop>(
+    rt: &impl Abort,
+    alloc: Global,
+) -> (At, [[At; 5]; 3]) {
+    let (first, gone, arena) = met_while_removed::<P, A>(rt, alloc);
     let along = arena.advancer_chain(at(rt, (1, 2)));
     let other: A = tied_links(rt, alloc, 3, &[(1, 2), (2, 3)]);
     let one_step = met(rt, along, &other, 5);

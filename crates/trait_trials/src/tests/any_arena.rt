@@ -50,15 +50,28 @@ const TABLES: [&[Script]; 7] = [
 // Tables of scripts, each with the lines that follow on its arena.
 const TABLES_ON: [&[(Script, &[Line])]; 2] = [&LAYOUTS, &TRANSFERS];
 
-// The scripts of all tables, and what an advancer answers after its first `None`.
-fn check_all<A: Answers + Drop>(rt: &impl Abort, alloc: Global, after_none: Script) {
-    for table in TABLES {
+// The scripts of tables.
+fn plays_tables<A: Answers + Drop>(rt: &impl Abort, alloc: Global, tables: &[&[Script]]) {
+    for table in tables {
         plays_all::<A>(rt, alloc, table);
     }
-    let _: A = played(rt, alloc, after_none);
-    for table in TABLES_ON {
+}
+
+fn plays_tables_on<A: Answers + Drop>(
+    rt: &impl Abort,
+    alloc: Global,
+    tables: &[&[(Script, &[Line])]],
+) {
+    for table in tables {
         plays_on::<A>(rt, alloc, table);
     }
+}
+
+// The scripts of all tables, and what an advancer answers after its first `None`.
+fn check_all<A: Answers + Drop>(rt: &impl Abort, alloc: Global, after_none: Script) {
+    plays_tables::<A>(rt, alloc, &TABLES);
+    plays_tables_on::<A>(rt, alloc, &TABLES_ON);
+    let _: A = played(rt, alloc, after_none);
 }
 
 #[test]

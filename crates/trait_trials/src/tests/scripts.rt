@@ -3,9 +3,9 @@
 use super::advancing::{changes_met, met, walk_along};
 use super::behind::{add_behind, count_of_links, take_next};
 use super::transfers::{carried_out, carried_to_bare, carried_to_full};
-use super::{At, Numbered, Row, at, index, number, numbers, rows_of, same, text};
+use super::{At, Numbered, Row, Slot, at, index, number, numbers, rows_of, same, text};
 use arena_base::{Advancer, ArenaTrait, CompactArenaTrait};
-use arena_ptr::{InvalidationOption, InvalidationResult, InxKey, PtrKey};
+use arena_ptr::{HeapStack, InvalidationOption, InvalidationResult, InxKey, PtrKey, ToolPtr};
 use chain_arena::{ChainArenaTrait, InsertKindBody, Link, LinkInsertKind, LinkNoGen};
 use std::alloc::Global;
 use std::mem;
@@ -260,6 +260,18 @@ fn look<P: Numbered, A: ChainArenaTrait<P, u32> + Drop>(
         Do::Contains(p) => text(rt, alloc, arena.contains(at(rt, p))),
         Do::Get(p) => text(rt, alloc, arena.get(at(rt, p))),
         Do::GetInx(i) => text(rt, alloc, standing::<P, &u32>(arena.get_inx(index(rt, i)))),
+        other => look_along(rt, alloc, arena, other),
+    }
+}
+
+// .. along all values, ...
+fn look_along<P: Numbered, A: ChainArenaTrait<P, u32> + Drop>(
+    rt: &impl Abort,
+    alloc: Global,
+    arena: &A,
+    call: Do,
+) -> String {
+    match call {
         Do::Ends => {
             let ends = (arena.find_first_inx_ptr(), arena.find_last_inx_ptr());
             text(rt, alloc, ends)
@@ -277,7 +289,7 @@ fn look<P: Numbered, A: ChainArenaTrait<P, u32> + Drop>(
     }
 }
 
-// .. and to a look at links.
+// .. to a look at links, ...
 fn look_at_links<P: Numbered, A: ChainArenaTrait<P, u32>>(
     rt: &impl Abort,
     alloc: Global,
@@ -297,6 +309,18 @@ fn look_at_links<P: Numbered, A: ChainArenaTrait<P, u32>>(
             let (generation, link) = arena.get_inx_link_no_gen(index(rt, i)).expect(rt, "a link");
             text(rt, alloc, (P::number_of(generation), bare::<P>(rt, link)))
         }
+        other => look_along_links(rt, alloc, arena, other),
+    }
+}
+
+// .. along them.
+fn look_along_links<P: Numbered, A: ChainArenaTrait<P, u32>>(
+    rt: &impl Abort,
+    alloc: Global,
+    arena: &A,
+    call: Do,
+) -> String {
+    match call {
         Do::Along(p) => {
             let along = arena.advancer_chain(at(rt, p));
             text(rt, alloc, met(rt, along, arena, 5))
@@ -323,6 +347,18 @@ pub(super) fn answer<P: Numbered, A: ChainArenaTrait<P, u32> + CompactArenaTrait
         Do::BreakPrev(p) => text(rt, alloc, arena.break_prev(at(rt, p))),
         Do::BreakNext(p) => text(rt, alloc, arena.break_next(at(rt, p))),
         Do::Exchange(p, q) => text(rt, alloc, arena.exchange_next(at(rt, p), at(rt, q))),
+        other => change_links(rt, alloc, arena, other),
+    }
+}
+
+// .. to another change of links, ...
+fn change_links<P: Numbered, A: ChainArenaTrait<P, u32> + CompactArenaTrait<P, u32> + Drop>(
+    rt: &impl Abort,
+    alloc: Global,
+    arena: &mut A,
+    call: Do,
+) -> String {
+    match call {
         Do::RemoveLink(p) => text(
             rt,
             alloc,
@@ -331,7 +367,7 @@ pub(super) fn answer<P: Numbered, A: ChainArenaTrait<P, u32> + CompactArenaTrait
         Do::Canonical(reset) => text(rt, alloc, arena.compress_canonical(reset)),
         Do::AddBehind(p, t) => text(rt, alloc, add_behind(arena, at(rt, p), t)),
         Do::TakeNext(i) => text(rt, alloc, index_told(rt, take_next(arena, index(rt, i)))),
-        Do::CarryOut(g) => carried_out(rt, alloc, arena, g),
+        Do::CarryOut(g) => carried_out::<P, A, HeapStack<Slot<ToolPtr>>>(rt, alloc, arena, g),
         Do::CarryToFull => carried_to_full(rt, alloc, arena),
         Do::CarryToBare(most) => carried_to_bare(rt, alloc, arena, most),
         other => change(rt, alloc, arena, other),
@@ -354,6 +390,18 @@ fn change<P: Numbered, A: ChainArenaTrait<P, u32> + Drop>(
             text(rt, alloc, standing::<P, u32>(removed))
         }
         Do::Invalidate(p) => text(rt, alloc, arena.invalidate(at(rt, p))),
+        other => change_whole(rt, alloc, arena, other),
+    }
+}
+
+// .. to a change of all of it, ...
+fn change_whole<P: Numbered, A: ChainArenaTrait<P, u32> + Drop>(
+    rt: &impl Abort,
+    alloc: Global,
+    arena: &mut A,
+    call: Do,
+) -> String {
+    match call {
         Do::Clear => text(rt, alloc, arena.clear()),
         Do::ClearInRoom => text(rt, alloc, cleared(arena)),
         Do::Reserve(n) => text(rt, alloc, arena.reallocate_min_capacity(n)),

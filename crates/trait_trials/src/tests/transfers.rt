@@ -3,7 +3,7 @@
 use super::pointers::BarePtr;
 use super::rows::{BEHIND_A_HOLE, BEHIND_HOLES, BY_LEAST_INDEX, INTERLEAVED, SCATTERED};
 use super::scripts::{Do, Line, Script};
-use super::{Chains, Counted, NONE, Numbered, Slot, limited, put, same, text};
+use super::{Counted, NONE, Numbered, Slot, limited, put, same, text};
 use arena_base::{ArenaTrait, CompactArenaTrait};
 use arena_ptr::{Gen32, LimitStack, LimitedStack, Ptr, PtrKey, SlotStack, ToolPtr};
 use chain_arena::{ChainArena, ChainArenaTrait, LinkInsertKind};
@@ -24,8 +24,11 @@ fn add_links<P: PtrKey, S: SlotStack<Item = Slot<P>>>(
 }
 
 // Two lone links.
-fn two_links(rt: &impl Abort, alloc: Global) -> Chains {
-    let mut arena: Chains = ChainArena::new(alloc);
+fn two_links<S: SlotStack<Item = Slot<ToolPtr>>>(
+    rt: &impl Abort,
+    alloc: Global,
+) -> ChainArena<ToolPtr, u32, S> {
+    let mut arena = ChainArena::<ToolPtr, u32, S>::new(alloc);
     add_links(rt, &mut arena, LinkInsertKind::Disconnected, &[1, 2]);
     arena
 }
@@ -56,7 +59,12 @@ fn carry<
 }
 
 // What was told of a transfer, the links there now, and the counter. Of room for so few links there is little.
-fn arrival(rt: &impl Abort, alloc: Global, told: String, target: &Chains) -> String {
+fn arrival<S: SlotStack<Item = Slot<ToolPtr>>>(
+    rt: &impl Abort,
+    alloc: Global,
+    told: String,
+    target: &ChainArena<ToolPtr, u32, S>,
+) -> String {
     same(rt, "little room", target.capacity() <= 64, true);
     let counter = target.generation().number();
     format!(in alloc; "({told}, {target:?}, {counter})").expect(rt, "memory")
@@ -64,13 +72,12 @@ fn arrival(rt: &impl Abort, alloc: Global, told: String, target: &Chains) -> Str
 
 // Carries all links of a source over to an arena of tool pointers that holds two links. Tells the answer, what the closure saw,
 // the links there then, and the counter.
-pub(super) fn carried_out<P: Numbered, A: ChainArenaTrait<P, u32> + CompactArenaTrait<P, u32>>(
-    rt: &impl Abort,
-    alloc: Global,
-    source: &mut A,
-    now: u32,
-) -> String {
-    let mut target = two_links(rt, alloc);
+pub(super) fn carried_out<
+    P: Numbered,
+    A: ChainArenaTrait<P, u32> + CompactArenaTrait<P, u32>,
+    S: SlotStack<Item = Slot<ToolPtr>>,
+>(rt: &impl Abort, alloc: Global, source: &mut A, now: u32) -> String {
+    let mut target: ChainArena<ToolPtr, u32, S> = two_links(rt, alloc);
     let told = carry(rt, alloc, source, Gen32::of(rt, now), &mut target);
     arrival(rt, alloc, told, &target)
 }
@@ -101,8 +108,28 @@ fn refusal(
     format!(in alloc; "({told}, {stays})").expect(rt, "memory")
 }
 
-// Carries all links of a source over to an arena of some links and with a maximum that refuses them. Tells the answer, what the
-// closure saw, and whether the arena shows what it did, and the source has the room that it had.
+// Carries all links of a source over to an arena that refuses them. Tells the answer, what the closure saw, and whether the arena
+// shows what it did, and the source has the room that it had.
+fn refused_by<
+    P: Numbered,
+    Q: Ptr,
+    A: ChainArenaTrait<P, u32> + CompactArenaTrait<P, u32>,
+    S: SlotStack<Item = Slot<Q>>,
+>(
+    rt: &impl Abort,
+    alloc: Global,
+    source: &mut A,
+    generation: Q::Gen,
+    target: &mut ChainArena<Q, u32, S>,
+) -> String {
+    let room = source.capacity();
+    let before = shown(rt, alloc, target);
+    let told = carry(rt, alloc, source, generation, target);
+    let after = shown(rt, alloc, target);
+    refusal(rt, alloc, told, (before, after), (room, source.capacity()))
+}
+
+// .. to one of some links, and with a maximum.
 fn refused<
     P: Numbered,
     Q: Ptr,
@@ -119,11 +146,7 @@ fn refused<
 ) -> String {
     let mut target: ChainArena<Q, u32, S> = limited(rt, alloc, most);
     add_links(rt, &mut target, kind, values);
-    let room = source.capacity();
-    let before = shown(rt, alloc, &target);
-    let told = carry(rt, alloc, source, generation, &mut target);
-    let after = shown(rt, alloc, &target);
-    refusal(rt, alloc, told, (before, after), (room, source.capacity()))
+    refused_by(rt, alloc, source, generation, &mut target)
 }
 
 // .. to a full one with a maximum of two links.
