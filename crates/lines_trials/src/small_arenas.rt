@@ -63,7 +63,7 @@ fn walk_from<S: SlotStack<Item = Slot>>(
 
 // An arena and the pointers of its links in order.
 #[derive(Drop)]
-struct Small<S> {
+struct Small<S: SlotStack<Item = Slot>> {
     arena: LinksOver<S>,
     ptrs: Vec<ToolPtr>,
 }

@@ -8,5 +8,5 @@ use Rattle.chain_links.specs.Links.{seen_link}
 use Rattle.chain_trials.proofs.tests.iterators.indexes.Goals as goal
 
 pub loop-p-init : goal.loop-p-init
-loop-p-init c =
+loop-p-init g c =
     rw c.new-all.ensures.items (sym (map-map index_of (on_value (seen_link zero_is_none)) c.into_iter-p-iterator.result) ∙ ap (map index_of) c.into_iter-p-iterator.ensures.into_iter_gives.0)
