@@ -5,10 +5,10 @@ use super::rows::{
 };
 use super::scripts::{Answers, Do, Line, Script, answer, played, plays_all, plays_on};
 use super::transfers::{REFUSED, TRANSFERS};
-use super::{Chains, Numbered};
+use super::{Chains, Numbered, Slot};
 use arena_base::{ArenaTrait, CompactArenaTrait};
-use arena_ptr::ToolPtr;
-use chain_arena::ChainArenaTrait;
+use arena_ptr::{HeapStack, SlotStack, ToolPtr};
+use chain_arena::{ChainArena, ChainArenaTrait};
 use chain_wrapped::Wrapped;
 use std::alloc::Global;
 use std::marker::PhantomData;
@@ -79,7 +79,12 @@ fn a_chain_arena(rt: HostRuntime) {
     check_all::<Chains>(&rt, rt.alloc(), NONE_THEN_NONE);
 }
 
+// .. of the arena that hands each call on, over any stack.
+fn check_handed_on<P: Numbered, S: SlotStack<Item = Slot<P>>>(rt: &impl Abort, alloc: Global) {
+    check_all::<HandsOn<P, ChainArena<P, u32, S>>>(rt, alloc, NONE_THEN_AGAIN);
+}
+
 #[test]
 fn an_arena_that_hands_each_call_on(rt: HostRuntime) {
-    check_all::<HandsOn<ToolPtr, Chains>>(&rt, rt.alloc(), NONE_THEN_AGAIN);
+    check_handed_on::<ToolPtr, HeapStack<Slot<ToolPtr>>>(&rt, rt.alloc());
 }
