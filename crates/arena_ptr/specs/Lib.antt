@@ -8,3 +8,4 @@ pub mod Text
 pub mod SlotStack
 pub mod Slots
 pub mod LimitedStack
+pub mod Counting

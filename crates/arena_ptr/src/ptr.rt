@@ -164,7 +164,8 @@ pub trait Ptr: Copy + Eq + Ord + Hash + Debug {
     /// The name of the pointer type, with which the text of a pointer begins.
     fn name() -> &'static str;
 
-    /// A pointer to nothing yet: its index is 1, and its generation is 1 (or `()`), before any that an arena gives.
+    /// A pointer to nothing yet: its index is 1, and its generation is the type's to choose. Of `ToolPtr` it is 1, which
+    /// counting never comes to.
     fn invalid() -> Self
         ensures { (key result).0 ≡ 1 };
 

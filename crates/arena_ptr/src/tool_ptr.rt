@@ -15,7 +15,8 @@ pub struct ToolPtr {
 }
 
 impl Ptr for ToolPtr {
-    ghost use Rattle.arena_ptr.specs.Generations.{number_of_gen32};
+    ghost use Rattle.arena_ptr.specs.Counting.{IsNeverCounted};
+    ghost use Rattle.arena_ptr.specs.Generations.{number_of_gen32, two32, after32};
     ghost use Rattle.arena_ptr.specs.ToolPtr.{key_of, same_tool_ptr, eq_is_same};
 
     type Inx = Inx32;
@@ -36,10 +37,11 @@ impl Ptr for ToolPtr {
         "P0"
     }
 
-    /// Index 1 and generation 1.
+    /// Index 1 and generation 1, which counting never comes to.
     fn invalid() -> Self
         ensures index { (key_of result).0 ≡ 1 }
         ensures generation { number_of_gen32 (key_of result).1 ≡ 1 }
+        ensures never { IsNeverCounted two32 after32 (key_of result).1 }
     {
         ToolPtr {
             inx: Inx32::new(1).unwrap(),
