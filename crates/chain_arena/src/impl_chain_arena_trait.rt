@@ -1,5 +1,5 @@
 // A chain arena as an arena of links.
-ghost use Rattle.std.specs.Prelude.{◌≡◌, ◌≢◌, ◌↔◌, ◌<◌, ◌+◌, ◌⊎◌, length, IsTrue, IsSome, IfSome, OnSome, IfNone, IsOk, IfOk, IsErr, IfErr, OnOk, OnErr, Err, None, Some};
+ghost use Rattle.std.specs.Prelude.{◌≡◌, ◌≢◌, ◌↔◌, ◌<◌, ◌+◌, ◌⊎◌, length, IsTrue, IsSome, IfSome, OnSome, IfNone, IfOk, IsErr, IfErr, OnOk, OnErr, Err, None, Some};
 ghost use Rattle.std.specs.Option.{option_map};
 ghost use Rattle.arena_ptr.specs.Invalidation.{value_within, is_overflow_result, invalidation_option, invalidation_result};
 ghost use Rattle.chain_laws.specs.Chains.{Agrees, prev_of, next_of};
@@ -7,14 +7,13 @@ ghost use Rattle.chain_laws.specs.Cuts.{cut, Cuts};
 ghost use Rattle.chain_laws.specs.Exchanges.{exchanged, Exchanges};
 ghost use Rattle.chain_laws.specs.Neighbors.{AreNeighbors};
 ghost use Rattle.chain_laws.specs.Operations.{joined, Connects, AddsPair};
-ghost use Rattle.chain_laws.specs.Removals.{removed, Removes, RemovesPairs};
+ghost use Rattle.chain_laws.specs.Removals.{Removes, RemovesPairs};
 ghost use Rattle.arena_base.specs.Arena.{entry_count, next_index, with_capacity_of, IsValid, IsRoom, HasRoom};
-ghost use Rattle.arena_base.specs.Entries.{count, HasRoomLeft, NeedsBeyondMaximum};
-ghost use Rattle.arena_base.specs.Entries.{entry_removed};
+ghost use Rattle.arena_base.specs.Entries.{count, NeedsBeyondMaximum};
 ghost use Rattle.arena_base.specs.Compressing.{overflows_after_compression};
+ghost use Rattle.chain_links.specs.Calls.{GainsLink, IsFull, LosesLink, SucceedsInRoom, YieldsLink};
 ghost use Rattle.chain_links.specs.ChainArena.{shown as interlinks};
 ghost use Rattle.chain_links.specs.ChainArena.{seen, entry, relinked, insert_as, remove_link, link_at, on_value, CanConnect, CanExchange, IsCut, IsExchange, IsLinkAt};
-ghost use Rattle.chain_links.specs.Insertions.{IsInsertion};
 ghost use Rattle.chain_links.specs.Kinds.{names_in, by_index, MayInsert};
 ghost use Rattle.chain_links.specs.CanonicalLayouts.{IsCanonicalLayout};
 ghost use Rattle.chain_arena.specs.Effects.{kind_of, May};
@@ -74,12 +73,12 @@ impl<P: PtrKey, T: Drop, S: SlotStack<Item = ArenaSlot<P, LinkNoGen<P, T>>>> Cha
         t: T,
     ) -> Result<P, ChainInsertionError>
         ensures may { OnOk result (MayInsert (entry self.old) (interlinks self.old) (names_in P.key P.Inx.number kind)) }
-        ensures inserted { IfOk result (λ p. IsInsertion (by_index (names_in P.key P.Inx.number kind)) (seen self.old) (seen self.new) (entry self.old) (entry self.new) (interlinks self.old) (interlinks self.new) (P.key p) t) }
+        ensures inserted { IfOk result (λ p. GainsLink seen entry interlinks (names_in P.key P.Inx.number kind) t self.old (P.key p) self.new) }
         ensures agreed { Agrees (interlinks self.old) }
         ensures capacity { (seen self.new).capacity ≡ (seen self.old).capacity }
         ensures err { OnErr result (self.new ≡ self.old) }
         ensures link { (result ≡ Err ChainInsertionError.FailedLinkRequirement) ↔ ¬ MayInsert (entry self.old) (interlinks self.old) (names_in P.key P.Inx.number kind) }
-        ensures full { (result ≡ Err ChainInsertionError.NotWithinCapacity) ↔ (MayInsert (entry self.old) (interlinks self.old) (names_in P.key P.Inx.number kind) × (count (seen self.old) ≡ (seen self.old).capacity)) }
+        ensures full { (result ≡ Err ChainInsertionError.NotWithinCapacity) ↔ (MayInsert (entry self.old) (interlinks self.old) (names_in P.key P.Inx.number kind) × IsFull (seen self.old)) }
         ensures error { IfErr result (λ e. (e ≡ ChainInsertionError.FailedLinkRequirement) ⊎ (e ≡ ChainInsertionError.NotWithinCapacity)) }
         ensures place { IfOk result (λ p. (P.key p).0 ≡ next_index self.old) }
         ensures state { OnOk result (self.new ≡ insert_as self.old (by_index (names_in P.key P.Inx.number kind)) t) }
@@ -94,12 +93,12 @@ impl<P: PtrKey, T: Drop, S: SlotStack<Item = ArenaSlot<P, LinkNoGen<P, T>>>> Cha
         t: T,
     ) -> Result<P, ChainInsertionError>
         ensures may { OnOk result (MayInsert (entry self.old) (interlinks self.old) (names_in P.key P.Inx.number kind)) }
-        ensures inserted { IfOk result (λ p. IsInsertion (by_index (names_in P.key P.Inx.number kind)) (seen self.old) (seen self.new) (entry self.old) (entry self.new) (interlinks self.old) (interlinks self.new) (P.key p) t) }
+        ensures inserted { IfOk result (λ p. GainsLink seen entry interlinks (names_in P.key P.Inx.number kind) t self.old (P.key p) self.new) }
         ensures agreed { Agrees (interlinks self.old) }
         ensures err { OnErr result (self.new ≡ self.old) }
         ensures link { (result ≡ Err ChainInsertionError.FailedLinkRequirement) ↔ ¬ MayInsert (entry self.old) (interlinks self.old) (names_in P.key P.Inx.number kind) }
         ensures error { IfErr result (λ e. e ≢ ChainInsertionError.NotWithinCapacity) }
-        ensures room { MayInsert (entry self.old) (interlinks self.old) (names_in P.key P.Inx.number kind) → HasRoomLeft (seen self.old) → IsOk result × ((seen self.new).capacity ≡ (seen self.old).capacity) }
+        ensures room { MayInsert (entry self.old) (interlinks self.old) (names_in P.key P.Inx.number kind) → SucceedsInRoom (seen self.old) result (seen self.new) }
         ensures grown { OnOk result (IsRoom P.Inx.greatest (seen self.new).maximum (count (seen self.old) + 1) (seen self.new).capacity) }
         ensures beyond { (result ≡ Err ChainInsertionError.BeyondMaxCapacity) ↔ (MayInsert (entry self.old) (interlinks self.old) (names_in P.key P.Inx.number kind) × NeedsBeyondMaximum (seen self.old)) }
         ensures greatest { count (seen self.old) ≡ P.Inx.greatest → IsErr result }
@@ -114,10 +113,10 @@ impl<P: PtrKey, T: Drop, S: SlotStack<Item = ArenaSlot<P, LinkNoGen<P, T>>>> Cha
 
     fn insert(&mut self, kind: LinkInsertKind<P>, t: T) -> Result<P, ReallocationError>
         requires { MayInsert (entry self.old) (interlinks self.old) (names_in P.key P.Inx.number kind) }
-        ensures inserted { IfOk result (λ p. IsInsertion (by_index (names_in P.key P.Inx.number kind)) (seen self.old) (seen self.new) (entry self.old) (entry self.new) (interlinks self.old) (interlinks self.new) (P.key p) t) }
+        ensures inserted { IfOk result (λ p. GainsLink seen entry interlinks (names_in P.key P.Inx.number kind) t self.old (P.key p) self.new) }
         ensures agreed { Agrees (interlinks self.old) }
         ensures err { OnErr result (self.new ≡ self.old) }
-        ensures room { HasRoomLeft (seen self.old) → IsOk result × ((seen self.new).capacity ≡ (seen self.old).capacity) }
+        ensures room { SucceedsInRoom (seen self.old) result (seen self.new) }
         ensures grown { OnOk result (IsRoom P.Inx.greatest (seen self.new).maximum (count (seen self.old) + 1) (seen self.new).capacity) }
         ensures beyond { (result ≡ Err ReallocationError.BeyondMaxCapacity) ↔ NeedsBeyondMaximum (seen self.old) }
         ensures greatest { count (seen self.old) ≡ P.Inx.greatest → IsErr result }
@@ -263,9 +262,7 @@ impl<P: PtrKey, T: Drop, S: SlotStack<Item = ArenaSlot<P, LinkNoGen<P, T>>>> Cha
     }
 
     fn remove_link_no_gen(&mut self, p: P) -> InvalidationResult<LinkNoGen<P, T>>
-        ensures valid { IsValid (entry self.old) (P.key p) →
-            (option_map (λ link. ((P.key p).1, seen_link P.Inx.packed_number link)) (value_within result) ≡ link_at (entry self.old) (interlinks self.old) (P.key p).0)
-            × (seen self.new ≡ entry_removed P.Gen.following (seen self.old) (P.key p).0) × (interlinks self.new ≡ removed (interlinks self.old) (P.key p).0) }
+        ensures valid { IsValid (entry self.old) (P.key p) → YieldsLink seen entry interlinks P.Inx.packed_number P.Gen.following (P.key p) self.old (value_within result) self.new }
         ensures overflow { IfSome (seen self.old).counter (λ g. result ≡ invalidation_result (P.Gen.wraps g) (value_within result)) }
         ensures invalid { ¬ IsValid (entry self.old) (P.key p) → (value_within result ≡ None) × (self.new ≡ self.old) }
         ensures agreed { Agrees (interlinks self.old) }
@@ -284,8 +281,7 @@ impl<P: PtrKey, T: Drop, S: SlotStack<Item = ArenaSlot<P, LinkNoGen<P, T>>>> Cha
     fn remove_inx_link_no_gen(&mut self, i: P::Inx) -> InvalidationResult<(P::Gen, LinkNoGen<P, T>)>
         ensures answer { option_map (on_value (seen_link P.Inx.packed_number)) (value_within result) ≡ link_at (entry self.old) (interlinks self.old) (P.Inx.number i) }
         ensures overflow { IfSome (seen self.old).counter (λ g. result ≡ invalidation_result (P.Gen.wraps g) (value_within result)) }
-        ensures valid { IsSome (entry self.old (P.Inx.number i)) →
-            (seen self.new ≡ entry_removed P.Gen.following (seen self.old) (P.Inx.number i)) × (interlinks self.new ≡ removed (interlinks self.old) (P.Inx.number i)) }
+        ensures valid { IsSome (entry self.old (P.Inx.number i)) → LosesLink seen interlinks P.Gen.following (P.Inx.number i) self.old self.new }
         ensures invalid { entry self.old (P.Inx.number i) ≡ None → self.new ≡ self.old }
         ensures agreed { Agrees (interlinks self.old) }
         ensures state { IsSome (entry self.old (P.Inx.number i)) → self.new ≡ remove_link P.Gen.following self.old (P.Inx.number i) }

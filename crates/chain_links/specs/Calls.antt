@@ -5,8 +5,7 @@ use Rattle.std.specs.Option.{option_map}
 use Rattle.chain_laws.specs.Chains.{Shown}
 use Rattle.chain_laws.specs.Insertions.{InsertKind}
 use Rattle.chain_laws.specs.Removals.{removed}
-use Rattle.arena_base.specs.Entries.{Seen, count, HasRoomLeft}
-use Rattle.arena_base.specs.Entries.{entry_removed}
+use Rattle.arena_base.specs.Entries.{Seen, count, HasRoomLeft, entry_removed}
 use Rattle.chain_links.specs.ChainArena.{link_at}
 use Rattle.chain_links.specs.Insertions.{IsInsertion}
 use Rattle.chain_links.specs.Kinds.{LinkName, by_index}

@@ -47,7 +47,7 @@ returns-in-Remove g c =
         c.remove_link_no_gen.result,
         refl,
         removes_link (kind_by g.P.PtrKey g.P.Inx.InxKey g.P.Gen.GenKey) old c.remove_link_no_gen.new.self p c.remove_link_no_gen.result
-            (valid_or_not _ g.met.P.Gen.GenKey.eq_is_same (values_of old) p) (λ valid. (made.valid valid).0) (λ valid. record { state = made.state valid; shows = (made.valid valid).2; chains = made.chains valid; pairs = made.pairs valid })
+            (valid_or_not _ g.met.P.Gen.GenKey.eq_is_same (values_of old) p) (λ valid. (made.valid valid).0) (λ valid. record { state = made.state valid; shows = (made.valid valid).1.1; chains = made.chains valid; pairs = made.pairs valid })
             made.overflow made.invalid,
       );
     })

@@ -27,8 +27,7 @@ returns-then-contains g c =
       valid = λ _. (
         ap (option_map (λ link. (p.1, seen_link packed link))) alone.value
             ∙ link_alone_told packed following a b i taken made.answer p.1 stood.value (ap (entry a) c.inx.ensures ∙ stood.stands),
-        seen_at packed following a b i taken made.answer made.removal p c.inx.ensures stood,
-        removal.shows,
+        (seen_at packed following a b i taken made.answer made.removal p c.inx.ensures stood, removal.shows),
       );
       overflow = same_overflow (λ e. e.1) (g.P.Gen.GenKey.wraps a.counter) c.unlink.result c.link_alone.result alone.value alone.overflow made.overflow;
       invalid = λ invalid. absurd (invalid stood);
