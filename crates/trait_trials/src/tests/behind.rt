@@ -17,7 +17,7 @@ pub(super) fn count_of_links<P: PtrKey, T: Drop, A: ChainArenaTrait<P, T>>(arena
     ensures count { result ≡ length (A.seen arena.now).entries }
     ensures chains { HasOneSetOfChains (A.interlinks arena.now) }
 {
-    arena.get_inx_link_no_gen(P::invalid().inx());
+    arena.agrees();
     arena.len()
 }
 
