@@ -16,9 +16,9 @@ use Rattle.chain_traits.proofs.AnyArena.{valid_some, valid_has, links_within}
 module _ {Gen T : Type 0} (interlinks : Shown) (entry : ℕ → Option (Gen × T)) (es : List ((ℕ × Gen) × T)) (stands : (i : ℕ) → is_some (interlinks i) ≡ is_some (entry i))
     (looked : (i : ℕ) → found i es ≡ entry i) where
   -- a walker that makes as many steps as there are entries passes the walk
-  pub walk_ahead : (greatest i : ℕ) → Agrees interlinks → All (λ e. IsWithin greatest (index_of e)) es → chains.HasLink interlinks i
+  pub passes_walk : (greatest i : ℕ) → Agrees interlinks → All (λ e. IsWithin greatest (index_of e)) es → chains.HasLink interlinks i
       → IsWalk interlinks i (walk_ahead (length es) interlinks i (Some i) (prev_of interlinks i))
-  walk_ahead greatest i agrees within valid =
+  passes_walk greatest i agrees within valid =
       let inside = links_within interlinks entry es stands looked greatest within in
       let walk = has_walk interlinks greatest i agrees inside valid in
       let enough = subst (λ n. length walk.0 ≤ n) (length-map es index_of) (length_among walk.0 (map index_of es) (walk_once interlinks i walk.0 walk.1) (λ j has. valid_has interlinks entry es stands looked j (walk_valid interlinks i walk.0 walk.1 j has))) in

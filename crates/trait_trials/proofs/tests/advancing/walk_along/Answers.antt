@@ -3,7 +3,7 @@ use Rattle.std.proofs.Common.{◌≡◌, None, sym, ap, ◌∙◌, subst}
 use Rattle.chain_laws.specs.Walks.{IsWalk, passes_ahead}
 use Rattle.chain_laws.proofs.Stepping.{first_ahead}
 use Rattle.chain_traits.proofs.AnyArena.{entry_valid}
-use Rattle.trait_trials.proofs.Along.{walk_ahead, walk_whole}
+use Rattle.trait_trials.proofs.Along.{passes_walk, walk_whole}
 use Rattle.trait_trials.proofs.tests.advancing.walk_along.Goals as goal
 
 pub returns : goal.returns
@@ -17,5 +17,5 @@ returns g c =
     let i = (g.P.PtrKey.key c.args.p).0 in
     λ valid. walk_whole links entry es stands looked i _ (passes_ahead links (g.A.ChainArenaTrait.walker c.loop-q.along))
     (subst (IsWalk links i) (sym (c.loop-q.invariant ∙ ap (passes_ahead links) (c.advancer_chain-along.ensures.valid valid)))
-    (walk_ahead links entry es stands looked g.P.Inx.InxKey.greatest i c.advancer_chain-along.ensures.agree c.len.ensures.indexes (entry_valid links entry es stands looked i _ valid.stands)))
+    (passes_walk links entry es stands looked g.P.Inx.InxKey.greatest i c.advancer_chain-along.ensures.agree c.len.ensures.indexes (entry_valid links entry es stands looked i _ valid.stands)))
     (first_ahead links (g.A.ChainArenaTrait.walker c.loop-q.along) (λ k. entry k ≡ None) (g.met.A.ChainArenaTrait.passes c.loop-q.along c.advance.new.self a _ c.in_default.ensures).end)
