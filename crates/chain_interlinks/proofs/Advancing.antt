@@ -1,5 +1,5 @@
 -- An advancer along a chain passes the link before it, or finds none there.
-use Rattle.std.proofs.Common.{◌≡◌, ℕ, zero, suc, List, ◌∷◌, Option, None, Some, refl, ap, ap₂, ◌∙◌, subst, IfSome, arith}
+use Rattle.std.proofs.Common.{◌≡◌, ℕ, zero, suc, Option, None, Some, refl, ap, ap₂, ◌∙◌, subst, IfSome, arith}
 use Rattle.std.specs.Prelude.{◌-◌}
 use Rattle.std.specs.Option.{option_map}
 use Rattle.chain_laws.specs.Chains.{Shown}
@@ -35,10 +35,6 @@ module _ {Gen T : Type 0} (a : Arena Gen (LinkSeen T)) where
     pub ends_back : (left : ℕ) → IfSome (next_step left (shown a) start None (Some i)) (λ step. entry a step.0 ≡ None)
     ends_back zero = tt
     ends_back (suc left) = no_entry
-
-  pub ends_nowhere : (start left : ℕ) → IfSome (next_step left (shown a) start None None) (λ step. entry a step.0 ≡ None)
-  ends_nowhere start zero = tt
-  ends_nowhere start (suc left) = tt
 
 -- one call, by what its step told
 module _ {Gen T : Type 0} (entry : ℕ → Option (Gen × T)) (interlinks : Shown) (start : ℕ) (forth back : Option ℕ) where

@@ -1,7 +1,6 @@
 -- One step of a walker along a chain, however many it has left.
 use Rattle.std.specs.Prelude.{◌≡◌, ℕ, suc, Option, None, Some, IfSome}
 use Rattle.std.specs.Option.{option_map}
-use Rattle.chain_laws.specs.Chains.{Shown}
 use Rattle.chain_laws.specs.Walks.{next_step}
 use Rattle.arena_base.specs.Arena.{Arena}
 use Rattle.chain_links.specs.ChainArena.{LinkSeen, shown, entry}

@@ -1,10 +1,7 @@
 -- Where no link stands before the advancer, nothing is passed.
-use Rattle.std.proofs.Common.{◌≡◌, None, IfSome, sym, subst}
 use Rattle.std.specs.Option.{option_map}
-use Rattle.chain_laws.specs.Walks.{next_step}
-use Rattle.chain_links.specs.ChainArena.{shown, entry}
 use Rattle.chain_links.specs.Links.{seen_links}
-use Rattle.chain_interlinks.proofs.Advancing.{looked_none, ends_forth, ends_back, ends_nowhere}
+use Rattle.chain_interlinks.proofs.Advancing.{looked_none, ends_forth, ends_back}
 use Rattle.chain_interlinks.proofs.chain_iterators.step.Goals as goal
 
 pub returns-in-None-look-clause-none : goal.returns-in-None-look-clause-none
