@@ -14,7 +14,7 @@ ghost use Rattle.arena_base.specs.Compressing.{overflows_after_compression};
 ghost use Rattle.chain_links.specs.Calls.{GainsLink, IsFull, LosesLink, SucceedsInRoom, YieldsLink};
 ghost use Rattle.chain_links.specs.ChainArena.{shown as interlinks};
 ghost use Rattle.chain_links.specs.ChainArena.{seen, entry, relinked, insert_as, remove_link, link_at, on_value, CanConnect, CanExchange, IsCut, IsExchange, IsLinkAt};
-ghost use Rattle.chain_links.specs.Kinds.{names_in, by_index, MayInsert};
+ghost use Rattle.chain_links.specs.Kinds.{names_in, MayInsert};
 ghost use Rattle.chain_links.specs.CanonicalLayouts.{IsCanonicalLayout};
 ghost use Rattle.chain_arena.specs.Effects.{kind_of, May};
 ghost use Rattle.chain_arena.specs.Growths.{growth_of};
@@ -81,7 +81,7 @@ impl<P: PtrKey, T: Drop, S: SlotStack<Item = ArenaSlot<P, LinkNoGen<P, T>>>> Cha
         ensures full { (result ≡ Err ChainInsertionError.NotWithinCapacity) ↔ (MayInsert (entry self.old) (interlinks self.old) (names_in P.key P.Inx.number kind) × IsFull (seen self.old)) }
         ensures error { IfErr result (λ e. (e ≡ ChainInsertionError.FailedLinkRequirement) ⊎ (e ≡ ChainInsertionError.NotWithinCapacity)) }
         ensures place { IfOk result (λ p. (P.key p).0 ≡ next_index self.old) }
-        ensures state { OnOk result (self.new ≡ insert_as self.old (by_index (names_in P.key P.Inx.number kind)) t) }
+        ensures state { OnOk result (self.new ≡ insert_as self.old (kind_of P.key P.Inx.number kind) t) }
     {
         let asked = self.gap_within(kind);
         self.insert_at(asked, t)
@@ -103,7 +103,7 @@ impl<P: PtrKey, T: Drop, S: SlotStack<Item = ArenaSlot<P, LinkNoGen<P, T>>>> Cha
         ensures beyond { (result ≡ Err ChainInsertionError.BeyondMaxCapacity) ↔ (MayInsert (entry self.old) (interlinks self.old) (names_in P.key P.Inx.number kind) × NeedsBeyondMaximum (seen self.old)) }
         ensures greatest { count (seen self.old) ≡ P.Inx.greatest → IsErr result }
         ensures place { IfOk result (λ p. (P.key p).0 ≡ next_index self.old) }
-        ensures state { OnOk result (self.new ≡ with_capacity_of (insert_as self.old (by_index (names_in P.key P.Inx.number kind)) t) self.new) }
+        ensures state { OnOk result (self.new ≡ with_capacity_of (insert_as self.old (kind_of P.key P.Inx.number kind) t) self.new) }
         ensures state_in_room { May P.key P.Inx.number self.old kind → entry_count self.old < self.old.capacity → self.new ≡ insert_as self.old (kind_of P.key P.Inx.number kind) t }
         ensures state_grown { OnOk result (HasRoom P.Inx.greatest (entry_count self.old + 1) self.new) }
     {
@@ -121,8 +121,8 @@ impl<P: PtrKey, T: Drop, S: SlotStack<Item = ArenaSlot<P, LinkNoGen<P, T>>>> Cha
         ensures beyond { (result ≡ Err ReallocationError.BeyondMaxCapacity) ↔ NeedsBeyondMaximum (seen self.old) }
         ensures greatest { count (seen self.old) ≡ P.Inx.greatest → IsErr result }
         ensures place { IfOk result (λ p. (P.key p).0 ≡ next_index self.old) }
-        ensures state { OnOk result (self.new ≡ with_capacity_of (insert_as self.old (by_index (names_in P.key P.Inx.number kind)) t) self.new) }
-        ensures state_in_room { entry_count self.old < self.old.capacity → self.new ≡ insert_as self.old (by_index (names_in P.key P.Inx.number kind)) t }
+        ensures state { OnOk result (self.new ≡ with_capacity_of (insert_as self.old (kind_of P.key P.Inx.number kind) t) self.new) }
+        ensures state_in_room { entry_count self.old < self.old.capacity → self.new ≡ insert_as self.old (kind_of P.key P.Inx.number kind) t }
         ensures state_grown { OnOk result (HasRoom P.Inx.greatest (entry_count self.old + 1) self.new) }
     {
         growth_of(self.insert_reallocating(kind, t))
