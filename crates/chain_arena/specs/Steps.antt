@@ -47,6 +47,10 @@ module _ {P I Gen W : Type 0} (pointers : PointerKind P I Gen W) where
   abbrev pub kind_named : InsertKindBody P I → InsertKind ℕ
   kind_named kind = kind_of pointers.key pointers.number kind
 
+  -- a link as an arena holds it, with a value of this type
+  abbrev pub HeldLink : Type 0 → Type 0
+  HeldLink T = LinkBody (PackedOption I W) T
+
   module _ {T : Type 0} where
     -- a link of the kind may be inserted
     abbrev pub CanInsert : Links Gen T → InsertKindBody P I → Type 0
@@ -69,15 +73,15 @@ module _ {P I Gen W : Type 0} (pointers : PointerKind P I Gen W) where
     InsertWithinStep old kind t (Ok p) new = CanInsert old kind × (entry_count old < old.capacity) × IsAdded pointers.key old (kind_named kind) t p new × (new ≡ insert_as old (kind_named kind) t)
 
     -- the link at an index is gone, and answered as it stood
-    pub record IsTaken (old : Links Gen T) (i : ℕ) (g : Gen) (link : LinkBody (PackedOption I W) T) (new : Links Gen T) : Type 0 where
+    pub record IsTaken (old : Links Gen T) (i : ℕ) (g : Gen) (link : HeldLink T) (new : Links Gen T) : Type 0 where
       pub stood : entry_at old i ≡ Some (g, seen_link pointers.packed link)
       pub removal : IsRemoval pointers.following old i new
 
     -- a removal, by pointer or by index
-    abbrev pub RemoveStep : Links Gen T → ℕ × Gen → InvalidationResult (LinkBody (PackedOption I W) T) → Links Gen T → Type 0
+    abbrev pub RemoveStep : Links Gen T → ℕ × Gen → InvalidationResult (HeldLink T) → Links Gen T → Type 0
     RemoveStep old p answer new = Tells ((IsValid (entry old) p → ⊥) × (new ≡ old)) (pointers.wraps old.counter) (λ link. IsTaken old p.0 p.1 link new) answer
 
-    abbrev pub RemoveInxStep : Links Gen T → ℕ → InvalidationResult (Gen × LinkBody (PackedOption I W) T) → Links Gen T → Type 0
+    abbrev pub RemoveInxStep : Links Gen T → ℕ → InvalidationResult (Gen × HeldLink T) → Links Gen T → Type 0
     RemoveInxStep old i answer new = Tells ((entry old i ≡ None) × (new ≡ old)) (pointers.wraps old.counter) (λ e. IsTaken old i e.0 e.1 new) answer
 
     -- a link has the next generation, with this pointer, and stays in its chain
@@ -114,8 +118,8 @@ module _ {P I Gen W : Type 0} (pointers : PointerKind P I Gen W) where
     Step old (call.BreakPrev p) r new = (done : Bool) × (r ≡ reply.Done done) × BreakPrevStep old (pointers.key p) done new
     Step old (call.BreakNext p) r new = (done : Bool) × (r ≡ reply.Done done) × BreakNextStep old (pointers.key p) done new
     Step old (call.ExchangeNext p q) r new = (done : Bool) × (r ≡ reply.Done done) × ExchangeStep old (pointers.key p) (pointers.key q) done new
-    Step old (call.Remove p) r new = (answer : InvalidationResult (LinkBody (PackedOption I W) T)) × (r ≡ reply.Removed answer) × RemoveStep old (pointers.key p) answer new
-    Step old (call.RemoveInx i) r new = (answer : InvalidationResult (Gen × LinkBody (PackedOption I W) T)) × (r ≡ reply.RemovedInx answer) × RemoveInxStep old (pointers.number i) answer new
+    Step old (call.Remove p) r new = (answer : InvalidationResult (HeldLink T)) × (r ≡ reply.Removed answer) × RemoveStep old (pointers.key p) answer new
+    Step old (call.RemoveInx i) r new = (answer : InvalidationResult (Gen × HeldLink T)) × (r ≡ reply.RemovedInx answer) × RemoveInxStep old (pointers.number i) answer new
     Step old (call.Invalidate p) r new = (answer : InvalidationResult P) × (r ≡ reply.Renewed answer) × InvalidateStep old (pointers.key p) answer new
     Step old (call.DrainChain p take) r new = (answer : Option ℕ) × (r ≡ reply.Drained answer) × DrainChainStep old (pointers.key p) take answer new
     Step old call.Clear r new = (r ≡ counted (overflows_after_clear pointers.wraps (entry_count old) old.counter)) × (new ≡ cleared pointers.following old)
