@@ -114,7 +114,8 @@ impl<P: PtrKey, T: Drop, S: SlotStack<Item = ArenaSlot<P, LinkNoGen<P, T>>>> Cha
 
     /// Lays the chains one after another from index 1 on, as `compress_canonical` does, and shows each link to the
     /// visitor, once, by rising new index: by the pointer that it had, and the one that it has then. Answers whether the
-    /// counter overflowed, the visitor, which has seen the links and nothing else, and the work. It takes no memory.
+    /// counter overflowed, the visitor, which has seen the links and nothing else and is ready for more, and the work. It takes no
+    /// memory.
     ///
     /// `GenerationOverflow`: the counter was at its greatest, and is two now.
     pub fn compress_canonical_by<V: Visitor<P>>(
@@ -126,6 +127,7 @@ impl<P: PtrKey, T: Drop, S: SlotStack<Item = ArenaSlot<P, LinkNoGen<P, T>>>> Cha
         ensures canonical { IsCanonicalLayout P.Gen.first P.Gen.following reset (seen self.old) (shown self.old) (seen self.new) (shown self.new) }
         ensures stack_capacity { self.new.stack_capacity ≡ self.old.stack_capacity }
         ensures shows { ShowsAll V.sees P.key (seen self.old) (shown self.old) self.new.counter visitor result.1 }
+        ensures ready { V.is_ready result.1 }
         ensures overflow { result.0 ≡ invalidation_option (overflows_after_compression P.Gen.wraps reset (entry_count self.old) self.old.counter) tt }
         ensures placed { self.new.placed ≡ self.old.placed + result.2.placed }
         ensures touched { self.new.touched ≡ self.old.touched + result.2.touched }

@@ -31,6 +31,7 @@ returns g c =
       canonical = laid_canonical sees key c.args.visitor to _ old mid new begun made.laid g.P.Gen.GenKey.first g.P.Gen.GenKey.following c.args.reset (length (entries a)) refl (length-entries a ∙ sym (count-values number a));
       stack_capacity = laid_stack_capacity sees key c.args.visitor to _ old mid new begun made.laid;
       shows = laid_shown sees key c.args.visitor to _ old mid new begun made.laid;
+      ready = made.ready;
       overflow = c.begin_generation-overflow.ensures.overflow ∙ ap (λ n. invalidation_option (overflows_after_compression g.P.Gen.GenKey.wraps c.args.reset n a.counter) tt) (length-entries a ∙ sym (entry_count-seen_links number a));
       placed = made.placed ∙ ap (λ x. x.placed + c.lay_out-visitor.result.1.placed) c.begin_generation-overflow.ensures.after;
       touched = made.touched ∙ ap (λ x. x.touched + c.lay_out-visitor.result.1.touched) c.begin_generation-overflow.ensures.after;
