@@ -1,21 +1,11 @@
--- How long the answer to `moves F` may be, and how many links it tells.
-use Rattle.std.proofs.Common.{◌≡◌, ℕ, Bool, ◌+◌, ◌*◌, ◌<◌, ◌≤◌, List, [], ◌∷◌, ◌++◌, map, length, codes, decimal, Some, refl, sym, ap, ◌∙◌, arith, length-append}
+-- How long the answer to `moves F` may be.
+use Rattle.std.proofs.Common.{◌≡◌, ℕ, ◌+◌, ◌*◌, ◌<◌, ◌≤◌, List, [], ◌∷◌, ◌++◌, map, length, codes, decimal, refl, arith, length-append}
 use Rattle.std.specs.List.{concat}
-use Rattle.std.specs.Option.{option_map}
 use Rattle.std.proofs.lemmas.Fmt.{length-decimal-le}
-use Rattle.std.proofs.lemmas.List.{length-map}
-use Rattle.std.proofs.lemmas.List.FromFn.{length-range_with_len}
 use Rattle.arena_ptr.specs.ToolPtr.{key_of}
 use Rattle.arena_ptr.specs.declared.invalidation.InvalidationOption.{InvalidationOption}
 use Rattle.arena_ptr.specs.declared.invalidation.InvalidationOption.TheVariants as option
 use Rattle.arena_ptr.specs.declared.tool_ptr.ToolPtr.{ToolPtr}
-use Rattle.chain_laws.specs.Chains.{Shown, all_items}
-use Rattle.chain_laws.proofs.Partitions.{no_others}
-use Rattle.arena_base.specs.Entries.{Seen, found, index_of}
-use Rattle.arena_base.specs.Compressing.{values_in}
-use Rattle.chain_links.specs.ChainArena.{ptr_at}
-use Rattle.chain_links.specs.CanonicalLayouts.{IsCanonicalLayout}
-use Rattle.chain_layout.specs.Layouts.{AreAllMoves}
 use Rattle.chain_lines.specs.Answers.{pointer_text, move_text, moves_text, overflow_text, greatest_index}
 
 decimal_room : (n : ℕ) → n ≤ greatest_index → length (decimal n) ≤ 10
@@ -50,16 +40,3 @@ moves_room links moves told most as_many =
     let count = decimal_room (length moves) (omega (arith, most, as_many)) in
     let all = three_parts (decimal (length moves)) (concat (map move_text moves)) (overflow_text told) 10 _ 9 count refl (overflow_room told) in
     omega (arith, as_many, all, each_room moves)
-
--- as many moves are told as there are links
-module _ {P Gen T : Type 0} (key : P → ℕ × Gen) (first : Gen) (following : Gen → Gen) where
-  pub moves_count : (reset : Bool) (old new : Seen Gen T) (links new_links : Shown) (generation : Gen) (moves : List (P × P)) → IsCanonicalLayout first following reset old links new new_links
-      → AreAllMoves key old links generation moves → length moves ≡ length old.entries
-  moves_count reset old new links new_links generation moves layout all =
-      sym (length-map moves (λ (m : P × P). Some (key m.0)))
-      ∙ (ap length all.from ∙ (length-map all.indexes (ptr_at (λ i. found i old.entries)) ∙ (ap length same_order
-      ∙ (sym (length-map layout.indexes (λ i. option_map (λ (e : Gen × T). e.1) (found i old.entries))) ∙ (sym (ap length layout.values) ∙ (length-map (values_in new.entries) (λ t. Some t)
-      ∙ (length-map new.entries (λ e. e.1) ∙ (sym (length-map new.entries index_of) ∙ (ap length layout.keys ∙ length-range_with_len 1 (length old.entries))))))))))
-    where
-      same_order : all.indexes ≡ layout.indexes
-      same_order = all.order.items ∙ (ap all_items (no_others links all.order.chains layout.order.chains all.order.are layout.order.are) ∙ sym layout.order.items)

@@ -4,7 +4,7 @@ use Rattle.arena_ptr.specs.Generations.{two32, after32}
 use Rattle.arena_ptr.specs.ToolPtr.{key_of}
 use Rattle.chain_arena.specs.declared.calls.Reply.TheVariants.{Counted}
 use Rattle.chain_lines.specs.Answers.{moves_text}
-use Rattle.chain_lines.proofs.Rooms.{moves_count}
+use Rattle.chain_layout.proofs.Watching.{moves_count}
 use Rattle.chain_lines.proofs.answer.moves.Goals as goal
 
 -- what was empty takes what fits ..
