@@ -10,7 +10,7 @@ use Rattle.arena_ptr.specs.declared.errors.ReallocationError.{ReallocationError}
 use Rattle.arena_ptr.specs.declared.errors.ReallocationError.TheVariants as refused
 use Rattle.chain_laws.specs.Chains.{Agrees}
 use Rattle.chain_laws.specs.Insertions.{InsertKind, IsGap}
-use Rattle.arena_base.specs.Arena.{Arena, IsRoom, IsListed, HasRoom, entry_count, next_index, with_capacity_of}
+use Rattle.arena_base.specs.Arena.{Arena, IsRoom, IsListed, HasRoom, HasGrownTo, IsWithinReach, entry_count, next_index, with_capacity_of}
 use Rattle.arena_base.specs.Entries.{count, HasRoomLeft, NeedsBeyondMaximum}
 use Rattle.chain_links.specs.ChainArena.{shown, seen, entry, insert_between, insert_as}
 use Rattle.chain_links.specs.Kinds.{names_in}
@@ -32,19 +32,19 @@ not_beyond (Some most) n m less within beyond = omega (arith, less, within, beyo
 
 module _ {Gen T : Type 0} where
   -- a growth to room for as many links as there are, and one more
-  pub grows_by_one : (greatest m : ℕ) (old new : Links Gen T) (r : Result Unit ReallocationError) → m ≡ entry_count old → m ≤ old.capacity
+  pub grows_by_one : (may_reach : ℕ → Option ℕ → ℕ → ℕ → Type 0) (greatest m : ℕ) (old new : Links Gen T) (r : Result Unit ReallocationError) → m ≡ entry_count old → m ≤ old.capacity
       → (m + 1 ≤ old.capacity → IsOk r × (new ≡ old)) → (r ≡ Err refused.BeyondMaxCapacity) ↔ IsBeyond old.maximum (m + 1)
-      → OnOk r (IsRoom greatest new.maximum (m + 1) new.capacity) → OnErr r (new ≡ old) → new ≡ with_capacity_of old new → HasRoom greatest (length new.slots) new
-      → GrowsByOne greatest old r new
-  grows_by_one greatest m old new (Ok done) same fits within beyond ok err state room = record {
-    room = subst (λ (k : ℕ). HasRoom greatest (k + 1) new) same (ok, room.1, room.2);
+      → OnOk r (IsRoom greatest new.maximum (m + 1) new.capacity) → OnErr r (new ≡ old) → new ≡ with_capacity_of old new → IsWithinReach may_reach (m + 1) old new → HasRoom greatest (length new.slots) new
+      → GrowsByOne may_reach greatest old r new
+  grows_by_one may_reach greatest m old new (Ok done) same fits within beyond ok err state reached room = record {
+    grown = subst (λ (k : ℕ). HasGrownTo may_reach greatest (k + 1) old new) same (record { room = (ok, room.1, room.2); reached = reached });
     state = state;
     stays = λ less. (within (omega (arith, less, same))).1;
   }
-  grows_by_one greatest m old new (Err refused.BeyondMaxCapacity) same fits within beyond ok err state capacity =
+  grows_by_one may_reach greatest m old new (Err refused.BeyondMaxCapacity) same fits within beyond ok err state reached capacity =
       let no_room : m + 1 ≤ old.capacity → ⊥ = (λ room. false≢true (within room).0) in
       ((omega (arith, same, fits, no_room), subst (λ (k : ℕ). IsBeyond old.maximum (k + 1)) same (beyond.0 refl)), err)
-  grows_by_one greatest m old new (Err refused.AllocError) same fits within beyond ok err state capacity =
+  grows_by_one may_reach greatest m old new (Err refused.AllocError) same fits within beyond ok err state reached capacity =
       let no_room : m + 1 ≤ old.capacity → ⊥ = (λ room. false≢true (within room).0) in
       ((omega (arith, same, fits, no_room), λ past. let h = beyond.1 (subst (λ (k : ℕ). IsBeyond old.maximum (k + 1)) (sym same) past) in absurd (cc)), err)
 
@@ -65,16 +65,16 @@ module _ {P I Gen T : Type 0} (key : P → ℕ × Gen) (number : I → ℕ) wher
   pub no_place : (old : Links Gen T) (kind : InsertKindBody P I) → IsGapOf number (entry old) (shown old) (names_in key number kind) None → May key number old kind → ⊥
   no_place old kind is may = false≢true (is.some.1 may)
 
-  place_grows : (greatest : ℕ) (old new : Links Gen T) (kind : InsertKindBody P I) (gap : Gap I) (grown : Result Unit ReallocationError) → IsPlace key number old kind gap
-      → GrowsByOne greatest old grown new → PlacesGrowing key number greatest old kind (gap_unless_refused gap grown) new
-  place_grows greatest old new kind gap (Ok done) place grows = (place, grows)
-  place_grows greatest old new kind gap (Err refused.BeyondMaxCapacity) place grows = (place.may, grows.0, grows.1)
-  place_grows greatest old new kind gap (Err refused.AllocError) place grows = (place.may, grows.0, grows.1)
+  place_grows : (may_reach : ℕ → Option ℕ → ℕ → ℕ → Type 0) (greatest : ℕ) (old new : Links Gen T) (kind : InsertKindBody P I) (gap : Gap I) (grown : Result Unit ReallocationError) → IsPlace key number old kind gap
+      → GrowsByOne may_reach greatest old grown new → PlacesGrowing key number may_reach greatest old kind (gap_unless_refused gap grown) new
+  place_grows may_reach greatest old new kind gap (Ok done) place grows = (place, grows)
+  place_grows may_reach greatest old new kind gap (Err refused.BeyondMaxCapacity) place grows = (place.may, grows.0, grows.1)
+  place_grows may_reach greatest old new kind gap (Err refused.AllocError) place grows = (place.may, grows.0, grows.1)
 
-  pub places_growing : (greatest : ℕ) (old new : Links Gen T) (kind : InsertKindBody P I) (gap : Gap I) (grown : Result Unit ReallocationError) (answer : Result (Gap I) ChainInsertionError)
-      → answer ≡ gap_unless_refused gap grown → IsGapOf number (entry old) (shown old) (names_in key number kind) (Some gap) → GrowsByOne greatest old grown new → PlacesGrowing key number greatest old kind answer new
-  places_growing greatest old new kind gap grown answer is given grows =
-      subst (λ (r : Result (Gap I) ChainInsertionError). PlacesGrowing key number greatest old kind r new) (sym is) (place_grows greatest old new kind gap grown (is_place old kind gap given) grows)
+  pub places_growing : (may_reach : ℕ → Option ℕ → ℕ → ℕ → Type 0) (greatest : ℕ) (old new : Links Gen T) (kind : InsertKindBody P I) (gap : Gap I) (grown : Result Unit ReallocationError) (answer : Result (Gap I) ChainInsertionError)
+      → answer ≡ gap_unless_refused gap grown → IsGapOf number (entry old) (shown old) (names_in key number kind) (Some gap) → GrowsByOne may_reach greatest old grown new → PlacesGrowing key number may_reach greatest old kind answer new
+  places_growing may_reach greatest old new kind gap grown answer is given grows =
+      subst (λ (r : Result (Gap I) ChainInsertionError). PlacesGrowing key number may_reach greatest old kind r new) (sym is) (place_grows may_reach greatest old new kind gap grown (is_place old kind gap given) grows)
 
   -- the place of a kind within the capacity, by how many links there are
   pub places_full : (old : Links Gen T) (kind : InsertKindBody P I) (gap : Gap I) (links room : ℕ) → IsGapOf number (entry old) (shown old) (names_in key number kind) (Some gap) → links ≡ entry_count old → room ≡ old.capacity
@@ -102,16 +102,16 @@ module _ {P I Gen T : Type 0} (key : P → ℕ × Gen) (number : I → ℕ) wher
   pub inserted_between : (old new : Links Gen T) (gap : Gap I) (t : T) (p : P) (u v : Option ℕ) → IsInsertedIn key number old gap t p new → before_in number gap (next_index old) ≡ u → after_in number gap (next_index old) ≡ v → new ≡ insert_between old t u v
   inserted_between old new gap t p u v insertion before after = insertion.state ∙ ap₂ (insert_between old t) before after
 
-  pub growing_fits : (greatest : ℕ) (old new : Links Gen T) (kind : InsertKindBody P I) (asked : Result (Gap I) ChainInsertionError) → Agrees (shown old) → PlacesGrowing key number greatest old kind asked new → ForOk asked (FitsIn new)
-  growing_fits greatest old new kind asked agrees told gap is =
-      let placed = subst (λ (r : Result (Gap I) ChainInsertionError). PlacesGrowing key number greatest old kind r new) is told in
+  pub growing_fits : (may_reach : ℕ → Option ℕ → ℕ → ℕ → Type 0) (greatest : ℕ) (old new : Links Gen T) (kind : InsertKindBody P I) (asked : Result (Gap I) ChainInsertionError) → Agrees (shown old) → PlacesGrowing key number may_reach greatest old kind asked new → ForOk asked (FitsIn new)
+  growing_fits may_reach greatest old new kind asked agrees told gap is =
+      let placed = subst (λ (r : Result (Gap I) ChainInsertionError). PlacesGrowing key number may_reach greatest old kind r new) is told in
       subst (λ (a : Links Gen T). FitsIn a gap) (sym placed.1.state) (place_fits old kind gap agrees placed.0)
 
-  pub growing_room : (greatest : ℕ) (old new : Links Gen T) (kind : InsertKindBody P I) (asked : Result (Gap I) ChainInsertionError) → PlacesGrowing key number greatest old kind asked new → ForOk asked (λ gap. entry_count new < new.capacity)
-  growing_room greatest old new kind asked told gap is =
-      let placed = subst (λ (r : Result (Gap I) ChainInsertionError). PlacesGrowing key number greatest old kind r new) is told in
+  pub growing_room : (may_reach : ℕ → Option ℕ → ℕ → ℕ → Type 0) (greatest : ℕ) (old new : Links Gen T) (kind : InsertKindBody P I) (asked : Result (Gap I) ChainInsertionError) → PlacesGrowing key number may_reach greatest old kind asked new → ForOk asked (λ gap. entry_count new < new.capacity)
+  growing_room may_reach greatest old new kind asked told gap is =
+      let placed = subst (λ (r : Result (Gap I) ChainInsertionError). PlacesGrowing key number may_reach greatest old kind r new) is told in
       let same : entry_count new ≡ entry_count old = ap (λ (a : Links Gen T). entry_count a) placed.1.state in
-      let room = placed.1.room.0.fits in
+      let room = placed.1.grown.room.0.fits in
       omega (arith, same, room)
 
 module _ {P I Gen T : Type 0} (key : P → ℕ × Gen) (number : I → ℕ) (old : Links Gen T) (kind : InsertKindBody P I) (t : T) (new : Links Gen T) where
@@ -134,7 +134,7 @@ module _ {P I Gen T : Type 0} (key : P → ℕ × Gen) (number : I → ℕ) (old
     pub state : OnOk r (new ≡ insert_as old by t)
 
   -- .. and where a full arena grows
-  pub record TellsGrowing (greatest : ℕ) (r : Result P ChainInsertionError) : Type 0 where
+  pub record TellsGrowing (may_reach : ℕ → Option ℕ → ℕ → ℕ → Type 0) (greatest : ℕ) (r : Result P ChainInsertionError) : Type 0 where
     pub may : OnOk r (May key number old kind)
     pub inserted : Inserted r
     pub err : OnErr r (new ≡ old)
@@ -147,7 +147,7 @@ module _ {P I Gen T : Type 0} (key : P → ℕ × Gen) (number : I → ℕ) (old
     pub place : IfOk r (λ p. (key p).0 ≡ next_index old)
     pub state : OnOk r (new ≡ with_capacity_of (insert_as old by t) new)
     pub state_in_room : May key number old kind → entry_count old < old.capacity → new ≡ insert_as old by t
-    pub state_grown : OnOk r (HasRoom greatest (entry_count old + 1) new)
+    pub state_grown : OnOk r (HasGrownTo may_reach greatest (entry_count old + 1) old new)
 
   -- the state after a link came to the place of its kind
   inserted_at : (gap : Gap I) (p : P) → IsPlace key number old kind gap → IsInsertedIn key number old gap t p new → new ≡ insert_as old by t
@@ -198,25 +198,25 @@ module _ {P I Gen T : Type 0} (key : P → ℕ × Gen) (number : I → ℕ) (old
 
   -- the same after a growth
   module _ (mid : Links Gen T) where
-    inserted_grown : (greatest : ℕ) (gap : Gap I) (p : P) → IsPlace key number old kind gap → HasGrown greatest old mid → IsInsertedIn key number mid gap t p new → new ≡ with_capacity_of (insert_as old by t) mid
-    inserted_grown greatest gap p place grown insertion =
+    inserted_grown : (may_reach : ℕ → Option ℕ → ℕ → ℕ → Type 0) (greatest : ℕ) (gap : Gap I) (p : P) → IsPlace key number old kind gap → HasGrown may_reach greatest old mid → IsInsertedIn key number mid gap t p new → new ≡ with_capacity_of (insert_as old by t) mid
+    inserted_grown may_reach greatest gap p place grown insertion =
         insertion.state
         ∙ ap (λ (a : Links Gen T). insert_between a t (before_in number gap (next_index a)) (after_in number gap (next_index a))) grown.state
         ∙ ap₂ (λ (u v : Option ℕ). with_capacity_of (insert_between old t u v) mid) place.before place.after
 
-    inserted_in_room : (greatest : ℕ) (gap : Gap I) (p : P) → IsPlace key number old kind gap → HasGrown greatest old mid → IsInsertedIn key number mid gap t p new → entry_count old < old.capacity → new ≡ insert_as old by t
-    inserted_in_room greatest gap p place grown insertion room =
+    inserted_in_room : (may_reach : ℕ → Option ℕ → ℕ → ℕ → Type 0) (greatest : ℕ) (gap : Gap I) (p : P) → IsPlace key number old kind gap → HasGrown may_reach greatest old mid → IsInsertedIn key number mid gap t p new → entry_count old < old.capacity → new ≡ insert_as old by t
+    inserted_in_room may_reach greatest gap p place grown insertion room =
         insertion.state
         ∙ ap (λ (a : Links Gen T). insert_between a t (before_in number gap (next_index a)) (after_in number gap (next_index a))) (grown.stays room)
         ∙ ap₂ (insert_between old t) place.before place.after
 
-    listed_before : (greatest : ℕ) → HasGrown greatest old mid → IsListed mid → IsListed old
-    listed_before greatest grown listed =
+    listed_before : (may_reach : ℕ → Option ℕ → ℕ → ℕ → Type 0) (greatest : ℕ) → HasGrown may_reach greatest old mid → IsListed mid → IsListed old
+    listed_before may_reach greatest grown listed =
         let told = subst (λ (a : Links Gen T). IsListed a) grown.state listed in
         record { apart = told.apart; free = told.free; listed = told.listed }
 
-    not_growing : (greatest : ℕ) (why : ChainInsertionError) → PlacesGrowing key number greatest old kind (Err why) mid → new ≡ mid → TellsGrowing greatest (Err why)
-    not_growing greatest failed.FailedLinkRequirement told same = record {
+    not_growing : (may_reach : ℕ → Option ℕ → ℕ → ℕ → Type 0) (greatest : ℕ) (why : ChainInsertionError) → PlacesGrowing key number may_reach greatest old kind (Err why) mid → new ≡ mid → TellsGrowing may_reach greatest (Err why)
+    not_growing may_reach greatest failed.FailedLinkRequirement told same = record {
       may = tt;
       inserted = tt;
       err = same ∙ told.1;
@@ -231,7 +231,7 @@ module _ {P I Gen T : Type 0} (key : P → ℕ × Gen) (number : I → ℕ) (old
       state_in_room = λ may room. absurd (told.0 may);
       state_grown = tt;
     }
-    not_growing greatest failed.BeyondMaxCapacity told same = let full = told.1.0 in let counted = values-count old in record {
+    not_growing may_reach greatest failed.BeyondMaxCapacity told same = let full = told.1.0 in let counted = values-count old in record {
       may = tt;
       inserted = tt;
       err = same ∙ told.2;
@@ -246,7 +246,7 @@ module _ {P I Gen T : Type 0} (key : P → ℕ × Gen) (number : I → ℕ) (old
       state_in_room = λ may room. absurd (omega (arith, room, full));
       state_grown = tt;
     }
-    not_growing greatest failed.AllocError told same = let full = told.1.0 in let counted = values-count old in record {
+    not_growing may_reach greatest failed.AllocError told same = let full = told.1.0 in let counted = values-count old in record {
       may = tt;
       inserted = tt;
       err = same ∙ told.2;
@@ -261,29 +261,30 @@ module _ {P I Gen T : Type 0} (key : P → ℕ × Gen) (number : I → ℕ) (old
       state_in_room = λ may room. absurd (omega (arith, room, full));
       state_grown = tt;
     }
-    not_growing greatest failed.NotWithinCapacity told same = absurd told
+    not_growing may_reach greatest failed.NotWithinCapacity told same = absurd told
 
-    pub tells_growing : (greatest : ℕ) (agrees : Agrees (shown old)) (asked : Result (Gap I) ChainInsertionError) (r : Result P ChainInsertionError) → PlacesGrowing key number greatest old kind asked mid → InsertsAt key number mid asked t r new
-        → TellsGrowing greatest r
-    tells_growing greatest agrees (Ok gap) (Ok p) placed insertion =
+    pub tells_growing : (may_reach : ℕ → Option ℕ → ℕ → ℕ → Type 0) (greatest : ℕ) (agrees : Agrees (shown old)) (asked : Result (Gap I) ChainInsertionError) (r : Result P ChainInsertionError) → PlacesGrowing key number may_reach greatest old kind asked mid → InsertsAt key number mid asked t r new
+        → TellsGrowing may_reach greatest r
+    tells_growing may_reach greatest agrees (Ok gap) (Ok p) placed insertion =
         let place = placed.0 in
         let grown = placed.1 in
-        let is = inserted_grown greatest gap p place grown insertion in
+        let is = inserted_grown may_reach greatest gap p place grown insertion in
         let state : new ≡ with_capacity_of (insert_as old by t) new = is ∙ ap (with_capacity_of (insert_as old by t)) (sym is) in
         let pointer : key p ≡ (next_index old, old.counter) = insertion.pointer ∙ ap (λ (a : Links Gen T). (next_index a, a.counter)) grown.state in
-        let room : HasRoom greatest (entry_count old + 1) new =
-        subst (λ (a : Links Gen T). HasRoom greatest (entry_count old + 1) a) (sym is) (subst (λ (a : Links Gen T). HasRoom greatest (entry_count old + 1) a) grown.state grown.room) in
+        let held : HasGrownTo may_reach greatest (entry_count old + 1) old (with_capacity_of old mid) = subst (HasGrownTo may_reach greatest (entry_count old + 1) old) grown.state grown.grown in
+        let room : HasGrownTo may_reach greatest (entry_count old + 1) old new =
+        subst (HasGrownTo may_reach greatest (entry_count old + 1) old) (sym is) (record { room = held.room; reached = held.reached }) in
         let counted = values-count old in
-        let roomy : IsRoom greatest old.maximum (entry_count old + 1) mid.capacity = (subst (λ (a : Links Gen T). HasRoom greatest (entry_count old + 1) a) grown.state grown.room).0 in
+        let roomy : IsRoom greatest old.maximum (entry_count old + 1) mid.capacity = held.room.0 in
         let fits = roomy.fits in
         let most = roomy.at_most_greatest in record {
           may = place.may;
-          inserted = insertion_told old t (listed_before greatest grown insertion.listed) new by state (key p) pointer agrees place.may.1;
+          inserted = insertion_told old t (listed_before may_reach greatest grown insertion.listed) new by state (key p) pointer agrees place.may.1;
           err = tt;
           link = ((λ h. absurd (let k = h in cc)), λ lacks. absurd (lacks place.may));
           error = tt;
-          room = λ may left. (refl, ap (λ (a : Links Gen T). a.capacity) (inserted_in_room greatest gap p place grown insertion (subst (λ (n : ℕ). n < old.capacity) counted left)));
-          grown = subst (λ (n : ℕ). IsRoom greatest new.maximum (n + 1) new.capacity) (sym counted) room.0;
+          room = λ may left. (refl, ap (λ (a : Links Gen T). a.capacity) (inserted_in_room may_reach greatest gap p place grown insertion (subst (λ (n : ℕ). n < old.capacity) counted left)));
+          grown = subst (λ (n : ℕ). IsRoom greatest new.maximum (n + 1) new.capacity) (sym counted) room.room.0;
           beyond = (
             (λ h. absurd (let k = h in cc)),
             λ h. absurd (not_beyond old.maximum (entry_count old + 1) mid.capacity fits roomy.within_maximum (subst (λ (n : ℕ). IsBeyond old.maximum (n + 1)) counted h.1.1)),
@@ -291,9 +292,9 @@ module _ {P I Gen T : Type 0} (key : P → ℕ × Gen) (number : I → ℕ) (old
           at_greatest = λ full. absurd (omega (arith, full, counted, fits, most));
           place = ap (λ (x : ℕ × Gen). x.0) pointer;
           state = state;
-          state_in_room = λ may less. inserted_in_room greatest gap p place grown insertion less;
+          state_in_room = λ may less. inserted_in_room may_reach greatest gap p place grown insertion less;
           state_grown = room;
         }
-    tells_growing greatest agrees (Ok gap) (Err e) placed insertion = absurd insertion
-    tells_growing greatest agrees (Err why) (Ok p) placed insertion = absurd insertion
-    tells_growing greatest agrees (Err why) (Err e) placed insertion = subst (λ (x : ChainInsertionError). TellsGrowing greatest (Err x)) (sym insertion.0) (not_growing greatest why placed insertion.1)
+    tells_growing may_reach greatest agrees (Ok gap) (Err e) placed insertion = absurd insertion
+    tells_growing may_reach greatest agrees (Err why) (Ok p) placed insertion = absurd insertion
+    tells_growing may_reach greatest agrees (Err why) (Err e) placed insertion = subst (λ (x : ChainInsertionError). TellsGrowing may_reach greatest (Err x)) (sym insertion.0) (not_growing may_reach greatest why placed insertion.1)

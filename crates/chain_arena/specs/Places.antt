@@ -8,7 +8,7 @@ use Rattle.arena_ptr.specs.declared.errors.ReallocationError.{ReallocationError}
 use Rattle.arena_ptr.specs.declared.errors.ReallocationError.TheVariants as refused
 use Rattle.chain_laws.specs.Chains.{Agrees}
 use Rattle.chain_laws.specs.Insertions.{link_before, link_after}
-use Rattle.arena_base.specs.Arena.{HasRoom, IsListed, entry_count, next_index, with_capacity_of}
+use Rattle.arena_base.specs.Arena.{HasGrownTo, IsListed, entry_count, next_index, with_capacity_of}
 use Rattle.chain_links.specs.ChainArena.{shown, seen, entry, insert_between}
 use Rattle.chain_links.specs.Insertions.{IsInsertionBetween}
 use Rattle.chain_links.specs.declared.kinds.InsertKindBody.{InsertKindBody}
@@ -18,9 +18,9 @@ use Rattle.chain_arena.specs.Effects.{Links, kind_of, May}
 
 module _ {Gen T : Type 0} where
   -- an arena with room for one link more, which a full one has after a growth
-  pub record HasGrown (greatest : ℕ) (old new : Links Gen T) : Type 0 where
-    -- there is room for the link
-    pub room : HasRoom greatest (entry_count old + 1) new
+  pub record HasGrown (may_reach : ℕ → Option ℕ → ℕ → ℕ → Type 0) (greatest : ℕ) (old new : Links Gen T) : Type 0 where
+    -- there is room for the link, and a growth to it went as far as the stack may reach
+    pub grown : HasGrownTo may_reach greatest (entry_count old + 1) old new
     -- nothing else has changed ..
     pub state : new ≡ with_capacity_of old new
     -- .. and where there was room, nothing has
@@ -32,9 +32,9 @@ module _ {Gen T : Type 0} where
   RefusesOneMore old refused.AllocError = (entry_count old ≡ old.capacity) × (IsBeyond old.maximum (entry_count old + 1) → ⊥)
 
   -- a growth to room for one link more, where there is none
-  abbrev pub GrowsByOne : ℕ → Links Gen T → Result Unit ReallocationError → Links Gen T → Type 0
-  GrowsByOne greatest old (Ok done) new = HasGrown greatest old new
-  GrowsByOne greatest old (Err why) new = RefusesOneMore old why × (new ≡ old)
+  abbrev pub GrowsByOne : (ℕ → Option ℕ → ℕ → ℕ → Type 0) → ℕ → Links Gen T → Result Unit ReallocationError → Links Gen T → Type 0
+  GrowsByOne may_reach greatest old (Ok done) new = HasGrown may_reach greatest old new
+  GrowsByOne may_reach greatest old (Err why) new = RefusesOneMore old why × (new ≡ old)
 
 -- a link came between two, where they are, to the next index
 abbrev pub ComesBetween : {Gen T : Type 0} → Option ℕ → Option ℕ → Links Gen T → T → Links Gen T → Type 0
@@ -68,12 +68,12 @@ module _ {P I Gen T : Type 0} (key : P → ℕ × Gen) (number : I → ℕ) wher
   PlacesWithin old kind (Err failed.AllocError) = ⊥
 
   -- .. and to who asks for it where a full arena grows, with the arena after that
-  abbrev pub PlacesGrowing : ℕ → Links Gen T → InsertKindBody P I → Result (Gap I) ChainInsertionError → Links Gen T → Type 0
-  PlacesGrowing greatest old kind (Ok gap) new = IsPlace old kind gap × HasGrown greatest old new
-  PlacesGrowing greatest old kind (Err failed.FailedLinkRequirement) new = (May key number old kind → ⊥) × (new ≡ old)
-  PlacesGrowing greatest old kind (Err failed.BeyondMaxCapacity) new = May key number old kind × RefusesOneMore old refused.BeyondMaxCapacity × (new ≡ old)
-  PlacesGrowing greatest old kind (Err failed.AllocError) new = May key number old kind × RefusesOneMore old refused.AllocError × (new ≡ old)
-  PlacesGrowing greatest old kind (Err failed.NotWithinCapacity) new = ⊥
+  abbrev pub PlacesGrowing : (ℕ → Option ℕ → ℕ → ℕ → Type 0) → ℕ → Links Gen T → InsertKindBody P I → Result (Gap I) ChainInsertionError → Links Gen T → Type 0
+  PlacesGrowing may_reach greatest old kind (Ok gap) new = IsPlace old kind gap × HasGrown may_reach greatest old new
+  PlacesGrowing may_reach greatest old kind (Err failed.FailedLinkRequirement) new = (May key number old kind → ⊥) × (new ≡ old)
+  PlacesGrowing may_reach greatest old kind (Err failed.BeyondMaxCapacity) new = May key number old kind × RefusesOneMore old refused.BeyondMaxCapacity × (new ≡ old)
+  PlacesGrowing may_reach greatest old kind (Err failed.AllocError) new = May key number old kind × RefusesOneMore old refused.AllocError × (new ≡ old)
+  PlacesGrowing may_reach greatest old kind (Err failed.NotWithinCapacity) new = ⊥
 
   -- a link came into a gap
   pub record IsInsertedIn (old : Links Gen T) (gap : Gap I) (t : T) (p : P) (new : Links Gen T) : Type 0 where

@@ -8,7 +8,7 @@ ghost use Rattle.chain_laws.specs.Exchanges.{exchanged, Exchanges};
 ghost use Rattle.chain_laws.specs.Neighbors.{AreNeighbors};
 ghost use Rattle.chain_laws.specs.Operations.{joined, Connects, AddsPair};
 ghost use Rattle.chain_laws.specs.Removals.{Removes, RemovesPairs};
-ghost use Rattle.arena_base.specs.Arena.{entry_count, next_index, with_capacity_of, IsValid, IsRoom, HasRoom};
+ghost use Rattle.arena_base.specs.Arena.{entry_count, next_index, with_capacity_of, IsValid, IsRoom, HasGrownTo};
 ghost use Rattle.arena_base.specs.Entries.{count, NeedsBeyondMaximum};
 ghost use Rattle.arena_base.specs.Compressing.{overflows_after_compression};
 ghost use Rattle.chain_links.specs.Calls.{GainsLink, IsFull, LosesLink, SucceedsInRoom, YieldsLink};
@@ -105,7 +105,7 @@ impl<P: PtrKey, T: Drop, S: SlotStack<Item = ArenaSlot<P, LinkNoGen<P, T>>>> Cha
         ensures place { IfOk result (λ p. (P.key p).0 ≡ next_index self.old) }
         ensures state { OnOk result (self.new ≡ with_capacity_of (insert_as self.old (kind_of P.key P.Inx.number kind) t) self.new) }
         ensures state_in_room { May P.key P.Inx.number self.old kind → entry_count self.old < self.old.capacity → self.new ≡ insert_as self.old (kind_of P.key P.Inx.number kind) t }
-        ensures state_grown { OnOk result (HasRoom P.Inx.greatest (entry_count self.old + 1) self.new) }
+        ensures state_grown { OnOk result (HasGrownTo S.may_reach P.Inx.greatest (entry_count self.old + 1) self.old self.new) }
     {
         let asked = self.gap_growing(kind);
         self.insert_at(asked, t)
@@ -123,7 +123,7 @@ impl<P: PtrKey, T: Drop, S: SlotStack<Item = ArenaSlot<P, LinkNoGen<P, T>>>> Cha
         ensures place { IfOk result (λ p. (P.key p).0 ≡ next_index self.old) }
         ensures state { OnOk result (self.new ≡ with_capacity_of (insert_as self.old (kind_of P.key P.Inx.number kind) t) self.new) }
         ensures state_in_room { entry_count self.old < self.old.capacity → self.new ≡ insert_as self.old (kind_of P.key P.Inx.number kind) t }
-        ensures state_grown { OnOk result (HasRoom P.Inx.greatest (entry_count self.old + 1) self.new) }
+        ensures state_grown { OnOk result (HasGrownTo S.may_reach P.Inx.greatest (entry_count self.old + 1) self.old self.new) }
     {
         growth_of(self.insert_reallocating(kind, t))
     }

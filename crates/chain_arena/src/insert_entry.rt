@@ -4,7 +4,7 @@ ghost use Rattle.std.specs.Borrow.{RestsIfErr, sem};
 ghost use Rattle.std.specs.Option.{option_map};
 ghost use Rattle.arena_ptr.specs.Numbers.{IsWithin};
 ghost use Rattle.chain_laws.specs.Insertions.{IsGap, link_before, link_after};
-ghost use Rattle.arena_base.specs.Arena.{entry_count, next_index, with_capacity_of, HasRoom};
+ghost use Rattle.arena_base.specs.Arena.{entry_count, next_index, with_capacity_of, HasGrownTo};
 ghost use Rattle.chain_links.specs.ChainArena.{entry, shown, insert_between};
 ghost use Rattle.chain_links.specs.Insertions.{index_from};
 ghost use Rattle.chain_interlinks.specs.Gaps.{before_in, after_in};
@@ -111,7 +111,7 @@ impl<P: PtrKey, T: Drop, S: SlotStack<Item = ArenaSlot<P, LinkNoGen<P, T>>>> Cha
         ensures link { (result ≡ Err ChainInsertionError.FailedLinkRequirement) ↔ ¬ May P.key P.Inx.number self.old kind }
         ensures error { IfErr result (λ e. e ≢ ChainInsertionError.NotWithinCapacity) }
         ensures room { May P.key P.Inx.number self.old kind → entry_count self.old < self.old.capacity → IsOkAnd result (λ e. e.arena.now ≡ self.old) }
-        ensures grown { IfOk result (λ e. HasRoom P.Inx.greatest (entry_count self.old + 1) e.arena.now) }
+        ensures grown { IfOk result (λ e. HasGrownTo S.may_reach P.Inx.greatest (entry_count self.old + 1) self.old e.arena.now) }
         ensures beyond { (result ≡ Err ChainInsertionError.BeyondMaxCapacity) ↔ (May P.key P.Inx.number self.old kind × RefusesOneMore self.old ReallocationError.BeyondMaxCapacity) }
         ensures greatest { entry_count self.old ≡ P.Inx.greatest → IsErr result }
         ensures same_reference { IfOk result (λ e. e.arena.ghost_name ≡ self.entry.ghost_name) }
@@ -141,7 +141,7 @@ impl<P: PtrKey, T: Drop, S: SlotStack<Item = ArenaSlot<P, LinkNoGen<P, T>>>> Cha
             (record { first = P.Gen.first; following = P.Gen.following; wraps = P.Gen.wraps }) (record { eq = P.Gen.eq }) S.SlotStack)
             self.entry (λ e. e.arena.ghost_name) result (λ n. n ≡ self.old)) }
         ensures room { entry_count self.old < self.old.capacity → IsOkAnd result (λ e. e.arena.now ≡ self.old) }
-        ensures grown { IfOk result (λ e. HasRoom P.Inx.greatest (entry_count self.old + 1) e.arena.now) }
+        ensures grown { IfOk result (λ e. HasGrownTo S.may_reach P.Inx.greatest (entry_count self.old + 1) self.old e.arena.now) }
         ensures beyond { (result ≡ Err ReallocationError.BeyondMaxCapacity) ↔ RefusesOneMore self.old ReallocationError.BeyondMaxCapacity }
         ensures greatest { entry_count self.old ≡ P.Inx.greatest → IsErr result }
         ensures same_reference { IfOk result (λ e. e.arena.ghost_name ≡ self.entry.ghost_name) }

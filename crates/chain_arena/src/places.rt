@@ -19,7 +19,7 @@ use chain_links::{LinkInsertKind, LinkNoGen};
 impl<P: PtrKey, T: Drop, S: SlotStack<Item = ArenaSlot<P, LinkNoGen<P, T>>>> ChainArena<P, T, S> {
     // Grows a full arena to room for one link more.
     pub(crate) fn make_room(&mut self) -> Result<(), ReallocationError>
-        ensures { GrowsByOne P.Inx.greatest self.old result self.new }
+        ensures { GrowsByOne S.may_reach P.Inx.greatest self.old result self.new }
     {
         let n = self.len() + 1;
         let grown = self.reallocate_min_capacity(n);
@@ -52,7 +52,7 @@ impl<P: PtrKey, T: Drop, S: SlotStack<Item = ArenaSlot<P, LinkNoGen<P, T>>>> Cha
         &mut self,
         kind: LinkInsertKind<P>,
     ) -> Result<Gap<P::Inx>, ChainInsertionError>
-        ensures place { PlacesGrowing P.key P.Inx.number P.Inx.greatest self.old kind result self.new }
+        ensures place { PlacesGrowing P.key P.Inx.number S.may_reach P.Inx.greatest self.old kind result self.new }
         ensures agreed { Agrees (shown self.old) }
     {
         match self.gap_for(kind) {

@@ -1,4 +1,5 @@
 -- What an insertion that may grow answers is a step.
+use Rattle.arena_base.proofs.Copying.{on_ok}
 use Rattle.chain_links.specs.Kinds.{names_in}
 use Rattle.chain_arena.proofs.Bounds.{kind_by}
 use Rattle.chain_arena.proofs.Deciding.{stable-insertion}
@@ -11,4 +12,4 @@ returns g c =
     let made = c.insert_reallocating.ensures in
     inserts_growing (kind_by g.P.PtrKey g.P.Inx.InxKey g.P.Gen.GenKey) old c.insert_reallocating.new.self c.args.kind c.args.t
     (stable-insertion _ g.met.P.Gen.GenKey.eq_is_same old (names_in g.P.PtrKey.key g.P.Inx.InxKey.number c.args.kind)) c.len.result c.len.ensures.count c.len.ensures.fits
-    c.insert_reallocating.result _ made.inserted made.err made.link made.error made.room made.beyond made.place made.state made.state_in_room made.state_grown
+    c.insert_reallocating.result _ made.inserted made.err made.link made.error made.room made.beyond made.place made.state made.state_in_room (on_ok c.insert_reallocating.result (λ grown. grown.room) made.state_grown)

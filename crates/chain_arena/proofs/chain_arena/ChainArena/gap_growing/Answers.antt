@@ -6,7 +6,7 @@ use Rattle.chain_arena.proofs.chain_arena.ChainArena.gap_growing.Goals as goal
 pub returns-in-Some : goal.returns-in-Some
 returns-in-Some g c = record {
   place =
-      places_growing g.P.PtrKey.key g.P.Inx.InxKey.number g.P.Inx.InxKey.greatest c.args.self.now c.make_room.new.self c.args.kind c.in-Some.gap c.make_room.result c.gap_unless_refused.result
+      places_growing g.P.PtrKey.key g.P.Inx.InxKey.number g.S.SlotStack.may_reach g.P.Inx.InxKey.greatest c.args.self.now c.make_room.new.self c.args.kind c.in-Some.gap c.make_room.result c.gap_unless_refused.result
       c.gap_unless_refused.ensures c.in-Some.ensures.gap c.make_room.ensures;
   agreed = c.in-Some.ensures.agree;
 }

@@ -9,15 +9,16 @@ insert_at-requires g c =
     let key = g.P.PtrKey.key in
     let number = g.P.Inx.InxKey.number in
     let greatest = g.P.Inx.InxKey.greatest in
+    let reach = g.S.SlotStack.may_reach in
     let asked = c.gap_growing-asked in record {
-      gap = growing_fits key number greatest c.args.self.now asked.new.self c.args.kind asked.result asked.ensures.agreed asked.ensures.place;
-      room = growing_room key number greatest c.args.self.now asked.new.self c.args.kind asked.result asked.ensures.place;
+      gap = growing_fits key number reach greatest c.args.self.now asked.new.self c.args.kind asked.result asked.ensures.agreed asked.ensures.place;
+      room = growing_room key number reach greatest c.args.self.now asked.new.self c.args.kind asked.result asked.ensures.place;
     }
 
-told : (g : Over) (c : After-insert_at g) → TellsGrowing g.P.PtrKey.key g.P.Inx.InxKey.number c.args.self.now c.args.kind c.args.t c.insert_at.new.self g.P.Inx.InxKey.greatest c.insert_at.result
+told : (g : Over) (c : After-insert_at g) → TellsGrowing g.P.PtrKey.key g.P.Inx.InxKey.number c.args.self.now c.args.kind c.args.t c.insert_at.new.self g.S.SlotStack.may_reach g.P.Inx.InxKey.greatest c.insert_at.result
 told g c =
     let asked = c.gap_growing-asked in
-    tells_growing g.P.PtrKey.key g.P.Inx.InxKey.number c.args.self.now c.args.kind c.args.t c.insert_at.new.self asked.new.self g.P.Inx.InxKey.greatest asked.ensures.agreed asked.result c.insert_at.result
+    tells_growing g.P.PtrKey.key g.P.Inx.InxKey.number c.args.self.now c.args.kind c.args.t c.insert_at.new.self asked.new.self g.S.SlotStack.may_reach g.P.Inx.InxKey.greatest asked.ensures.agreed asked.result c.insert_at.result
     asked.ensures.place c.insert_at.ensures
 
 pub returns : goal.returns
