@@ -2,7 +2,7 @@
 ghost use Rattle.std.specs.Prelude.{◌≡◌, ◌↔◌, ◌≤◌, ◌<◌, ◌+◌, ℕ, [], IsOk, OnOk, OnErr, Err, None, Some};
 ghost use Rattle.arena_ptr.specs.SlotStack.{IsBeyond};
 ghost use Rattle.chain_laws.specs.Relays.{end_before, end_after};
-ghost use Rattle.arena_base.specs.Arena.{HasRoom, IsListed, with_capacity_of, entry_count, next_index};
+ghost use Rattle.arena_base.specs.Arena.{HasRoom, IsWithinReach, IsListed, with_capacity_of, entry_count, next_index};
 ghost use Rattle.arena_base.specs.Entries.{count};
 ghost use Rattle.chain_interlinks.specs.Gaps.{before_in, after_in};
 ghost use Rattle.chain_layout.specs.PointerMoves.{CompressionMovesPointers, CompressionHasMoves};
@@ -41,6 +41,7 @@ impl<P: PtrKey, T: Drop, S: SlotStack<Item = ArenaSlot<P, LinkNoGen<P, T>>>> Cha
         requires { F.IsAlwaysCallable map }
         ensures transferred { OnOk result (IsTransfer Q.key P.key Q.Gen.following Q.Gen.wraps F.FnMut new_generation map (A.seen source.old) (A.interlinks source.old) (A.seen source.new) self.old self.new) }
         ensures room { OnOk result (HasRoom P.Inx.greatest (count (A.seen source.old)) self.new) }
+        ensures reached { OnOk result (IsWithinReach S.may_reach (count (A.seen source.old)) self.old self.new) }
         ensures within { count (A.seen source.old) ≤ self.old.capacity → IsOk result × (self.new.capacity ≡ self.old.capacity) × (self.new.stack_capacity ≡ self.old.stack_capacity) }
         ensures greatest { P.Inx.greatest < count (A.seen source.old) → result ≡ Err ReallocationError.AllocError }
         ensures beyond { (result ≡ Err ReallocationError.BeyondMaxCapacity) ↔ ((count (A.seen source.old) ≤ P.Inx.greatest) × IsBeyond self.old.maximum (count (A.seen source.old))) }
@@ -64,6 +65,7 @@ impl<P: PtrKey, T: Drop, S: SlotStack<Item = ArenaSlot<P, LinkNoGen<P, T>>>> Cha
         ensures beyond { (result ≡ Err ReallocationError.BeyondMaxCapacity) ↔ ((n ≤ P.Inx.greatest) × IsBeyond self.old.maximum n) }
         ensures err { OnErr result (self.new ≡ self.old) }
         ensures room { OnOk result (HasRoom P.Inx.greatest n self.new) }
+        ensures reached { OnOk result (IsWithinReach S.may_reach n self.old self.new) }
         ensures after { self.new ≡ with_capacity_of self.old self.new }
     {
         if n <= self.capacity() {
