@@ -140,6 +140,18 @@ fn own_answer<P: Numbered, S: SlotStack<Item = Slot<P>>>(
         Call::SetGeneration(g) => text(rt, alloc, arena.set_generation(P::generation_of(rt, g))),
         Call::IncGeneration => text(rt, alloc, arena.inc_generation()),
         Call::Slots => text(rt, alloc, arena.backing().len()),
+        other => whole_answer(rt, alloc, arena, other),
+    }
+}
+
+// .. on all of its entries, or by a compactor, ...
+fn whole_answer<P: Numbered, S: SlotStack<Item = Slot<P>>>(
+    rt: &impl Abort,
+    alloc: Global,
+    arena: &mut Arena<P, u32, S>,
+    call: Call,
+) -> String {
+    match call {
         Call::Entries => iterated(rt, alloc, arena),
         Call::Drain => drained(rt, alloc, arena),
         Call::Move(from, to, g) => {

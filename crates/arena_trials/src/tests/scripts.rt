@@ -174,6 +174,19 @@ fn look_answer<P: Numbered, A: ArenaTrait<P, u32>>(
         Call::Contains(..) => text(rt, alloc, arena.contains(p)),
         Call::Get(..) => text(rt, alloc, arena.get(p)),
         Call::GetInx(_) => text(rt, alloc, numbered::<P, &u32>(arena.get_inx(p.inx()))),
+        _ => walk_answer(rt, alloc, arena, call, p),
+    }
+}
+
+// .. along its entries, ...
+fn walk_answer<P: Numbered, A: ArenaTrait<P, u32>>(
+    rt: &impl Abort,
+    alloc: Global,
+    arena: &A,
+    call: Call,
+    p: P,
+) -> String {
+    match call {
         Call::First => text(rt, alloc, arena.find_first_inx_ptr()),
         Call::Last => text(rt, alloc, arena.find_last_inx_ptr()),
         Call::Advance => text(rt, alloc, arena.advancer().advance(arena)),
@@ -224,6 +237,19 @@ fn change_answer<P: Numbered, A: ArenaTrait<P, u32> + Drop>(
             let removed = arena.remove_inx(p.inx()).allow();
             text(rt, alloc, numbered::<P, u32>(removed))
         }
+        other => whole_change_answer(rt, alloc, arena, other, p),
+    }
+}
+
+// .. to a change of all entries, ...
+fn whole_change_answer<P: Numbered, A: ArenaTrait<P, u32> + Drop>(
+    rt: &impl Abort,
+    alloc: Global,
+    arena: &mut A,
+    call: Call,
+    p: P,
+) -> String {
+    match call {
         Call::Clear => text(rt, alloc, arena.clear()),
         Call::ClearInRoom => text(rt, alloc, cleared(arena)),
         Call::Compress(reset) => text(rt, alloc, arena.compress(reset)),

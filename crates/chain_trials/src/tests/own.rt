@@ -36,6 +36,18 @@ fn own_answer<S: SlotStack<Item = Slot>>(
         Do::LinksByReference => links_by_reference(rt, alloc, arena),
         Do::LinksUsedUp => links_used_up(rt, alloc, arena),
         Do::Counts => text(rt, alloc, counts(alloc, arena)),
+        other => layout_answer(rt, alloc, arena, other),
+    }
+}
+
+// .. to a canonical compression, ...
+fn layout_answer<S: SlotStack<Item = Slot>>(
+    rt: &impl Abort,
+    alloc: Global,
+    arena: &mut ChainsOver<S>,
+    row: Do,
+) -> String {
+    match row {
         Do::Placed(reset) => text(rt, alloc, placed(arena, reset)),
         Do::Counted(reset) => text(rt, alloc, counted(arena, reset)),
         Do::MovesSeen(reset) => text(rt, alloc, moves_seen(rt, alloc, arena, reset)),
@@ -44,7 +56,7 @@ fn own_answer<S: SlotStack<Item = Slot>>(
     }
 }
 
-// .. to a drain, or a place for a link.
+// .. to a drain, ...
 fn drain_answer<S: SlotStack<Item = Slot>>(
     rt: &impl Abort,
     alloc: Global,
@@ -61,6 +73,18 @@ fn drain_answer<S: SlotStack<Item = Slot>>(
         Do::ForgetDrain => text(rt, alloc, takes_one(arena, true)),
         Do::RemoveAll => text(rt, alloc, remove_all(arena)),
         Do::RemoveOneAndAll => text(rt, alloc, remove_one_and_all(arena)),
+        other => place_answer(rt, alloc, arena, other),
+    }
+}
+
+// .. or a place for a link.
+fn place_answer<S: SlotStack<Item = Slot>>(
+    rt: &impl Abort,
+    alloc: Global,
+    arena: &mut ChainsOver<S>,
+    row: Do,
+) -> String {
+    match row {
         Do::GiveUp(k) => text(rt, alloc, give_up(arena, kind(rt, k))),
         Do::Forget(k) => text(rt, alloc, forget(arena, kind(rt, k))),
         Do::InsertByEntry(k, t) => text(rt, alloc, insert_by_entry(arena, kind(rt, k), t)),
