@@ -3,9 +3,9 @@ ghost use Rattle.std.specs.Prelude.{◌≡◌, IsSome, None};
 ghost use Rattle.std.specs.Option.{option_map};
 ghost use Rattle.arena_ptr.specs.Invalidation.{value_within, invalidation_result};
 ghost use Rattle.arena_base.specs.Arena.{entry_at};
-ghost use Rattle.chain_laws.specs.Operations.{linked};
-ghost use Rattle.chain_links.specs.ChainArena.{shown, relinked, remove_link};
+ghost use Rattle.chain_links.specs.ChainArena.{remove_link};
 ghost use Rattle.chain_links.specs.Links.{seen_links, seen_pair};
+ghost use Rattle.chain_interlinks.specs.Interlinks.{linked_up};
 
 use arena_base::{Arena, ArenaSlot};
 use arena_ptr::{InvalidationResult, InxKey, PtrKey, SlotStack};
@@ -18,8 +18,7 @@ pub fn link_up<P: PtrKey, T: Drop, S: SlotStack<Item = ArenaSlot<P, LinkNoGen<P,
     prev: Option<P::Inx>,
     next: Option<P::Inx>,
 )
-    ensures { seen_links P.Inx.packed_number arena.new ≡ relinked (seen_links P.Inx.packed_number arena.old)
-        (linked (shown (seen_links P.Inx.packed_number arena.old)) (option_map P.Inx.number prev) (option_map P.Inx.number next)) }
+    ensures { seen_links P.Inx.packed_number arena.new ≡ linked_up (seen_links P.Inx.packed_number arena.old) (option_map P.Inx.number prev) (option_map P.Inx.number next) }
 {
     interlinks::link_up(arena, prev, next);
 }
