@@ -1,0 +1,61 @@
+//! What code looks like that stands on arenas of links: each function is generic in the arena, and proved by the clauses of
+//! `ChainArenaTrait` alone, with no proof written by hand. docs/CALLING.md goes through them.
+#![tactic(auto)]
+
+ghost use Rattle.std.specs.Prelude.{◌≡◌, ◌↔◌, ℕ, List, None, Some, IsSome, IsTrue, IfOk, OnErr};
+ghost use Rattle.chain_laws.specs.Chains.{linear, cyclic, IsChain, first_or, last_or};
+ghost use Rattle.chain_laws.specs.Operations.{joined, KeepsChainsWithout};
+ghost use Rattle.chain_laws.specs.Neighbors.{AreNeighbors};
+ghost use Rattle.chain_laws.specs.Removals.{removed};
+ghost use Rattle.chain_links.specs.ChainArena.{CanConnect};
+
+use arena_ptr::{ChainInsertionError, InxKey, PtrKey};
+use chain_arena::{ChainArenaTrait, LinkInsertKind};
+
+/// Makes q the link after p, and tells whether it could. What else is a chain stays one, link for link.
+pub fn tie<P: PtrKey, T: Drop, A: ChainArenaTrait<P, T>>(arena: &mut A, p: P, q: P) -> bool
+    ensures tied { IsTrue result ↔ CanConnect (A.entry arena.old) (A.interlinks arena.old) (P.key p) (P.key q) }
+    ensures links { IsTrue result → A.interlinks arena.new ≡ joined (A.interlinks arena.old) (P.key p).0 (P.key q).0 }
+    ensures others { IsTrue result → KeepsChainsWithout (A.interlinks arena.old) (A.interlinks arena.new) (P.key p).0 (P.key q).0 }
+{
+    match arena.connect(p, q) {
+        Some(()) => true,
+        None => false,
+    }
+}
+
+/// Takes the link at an index out, and answers the index of the one after it. `None`: it had none, or no link stood there.
+pub fn take_next<P: PtrKey, T: Drop, A: ChainArenaTrait<P, T>>(
+    arena: &mut A,
+    i: P::Inx,
+) -> Option<P::Inx>
+    ensures { IsSome (A.entry arena.old (P.Inx.number i)) → A.interlinks arena.new ≡ removed (A.interlinks arena.old) (P.Inx.number i) }
+{
+    match arena.remove_inx_link_no_gen(i).allow() {
+        Some((_, link)) => link.next(),
+        None => None,
+    }
+}
+
+/// Ties the end of a list to its start, so that it is a ring. Tells whether it could.
+pub fn close<P: PtrKey, T: Drop, A: ChainArenaTrait<P, T>>(arena: &mut A, end: P, start: P) -> bool
+    ensures { IsTrue result → (xs : List ℕ) → IsChain (A.interlinks arena.old) (linear xs) → first_or xs None ≡ Some (P.key start).0 → last_or xs None ≡ Some (P.key end).0
+        → IsChain (A.interlinks arena.new) (cyclic xs) }
+{
+    match arena.connect(end, start) {
+        Some(()) => true,
+        None => false,
+    }
+}
+
+/// Puts a new link directly behind another, and answers its pointer. After a refusal nothing has changed.
+pub fn put_behind<P: PtrKey, T: Drop, A: ChainArenaTrait<P, T>>(
+    arena: &mut A,
+    p: P,
+    t: T,
+) -> Result<P, ChainInsertionError>
+    ensures behind { IfOk result (λ q. AreNeighbors (A.interlinks arena.new) (P.key p).0 (P.key q).0) }
+    ensures err { OnErr result (arena.new ≡ arena.old) }
+{
+    arena.insert_reallocating(LinkInsertKind::NextTo(p), t)
+}
