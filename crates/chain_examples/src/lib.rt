@@ -1,12 +1,13 @@
 //! What code looks like that stands on arenas of links: each function is generic in the arena, and proved by the clauses of
-//! `ChainArenaTrait` alone, with no proof written by hand. docs/CALLING.md goes through them.
+//! `ChainArenaTrait` alone, all but the last with no answer written by hand. docs/CALLING.md goes through them.
 #![tactic(auto)]
 
-ghost use Rattle.std.specs.Prelude.{◌≡◌, ◌↔◌, ℕ, List, None, Some, IsSome, IsTrue, IfOk, OnErr};
-ghost use Rattle.chain_laws.specs.Chains.{linear, cyclic, IsChain, first_or, last_or};
+ghost use Rattle.std.specs.Prelude.{◌≡◌, ◌↔◌, ℕ, List, None, Some, IsSome, IfSome, IsTrue, IfOk, OnErr};
+ghost use Rattle.chain_laws.specs.Chains.{linear, cyclic, IsChain, first_or, last_or, next_of};
 ghost use Rattle.chain_laws.specs.Operations.{joined, KeepsChainsWithout};
 ghost use Rattle.chain_laws.specs.Neighbors.{AreNeighbors};
 ghost use Rattle.chain_laws.specs.Removals.{removed};
+ghost use Rattle.arena_base.specs.Arena.{IsValid};
 ghost use Rattle.chain_links.specs.ChainArena.{CanConnect};
 
 use arena_ptr::{ChainInsertionError, InxKey, PtrKey};
@@ -58,4 +59,15 @@ pub fn put_behind<P: PtrKey, T: Drop, A: ChainArenaTrait<P, T>>(
     ensures err { OnErr result (arena.new ≡ arena.old) }
 {
     arena.insert_reallocating(LinkInsertKind::NextTo(p), t)
+}
+
+/// The pointer of the link after p, as it is now. `None`: p is not valid, or no link comes after it.
+pub fn after<P: PtrKey, T: Drop, A: ChainArenaTrait<P, T>>(arena: &A, p: P) -> Option<P>
+    ensures some { IfSome result (λ q. IsValid (A.entry arena.now) (P.key q) × (next_of (A.interlinks arena.now) (P.key p).0 ≡ Some (P.key q).0)) }
+    ensures none { IsValid (A.entry arena.now) (P.key p) → result ≡ None → next_of (A.interlinks arena.now) (P.key p).0 ≡ None }
+{
+    match arena.get_link(p) {
+        Some(link) => link.next(),
+        None => None,
+    }
 }
