@@ -7,7 +7,7 @@ use Rattle.chain_lines.specs.declared.command.Command.{Command}
 use Rattle.chain_lines.specs.declared.command.Command.TheVariants.{Change, Show, Chain, Len, Moves}
 use Rattle.chain_lines.specs.declared.command.Line.{Line}
 use Rattle.chain_lines.specs.declared.command.Line.TheVariants.{Good}
-use Rattle.chain_lines.specs.Answers.{Links, Gives, LeavesStep, link_text, walk_text}
+use Rattle.chain_lines.specs.Answers.{ToolLinks, Gives, LeavesStep, link_text, walk_text}
 
 -- a text that was cleared and pushed to
 pushed_is : (old v_text new : List ℕ) → old ≡ [] → new ≡ old ++ v_text → new ≡ v_text
@@ -15,23 +15,23 @@ pushed_is old text new none is = is ∙ ap (λ b. b ++ text) none
 
 module _ {T E : Type 0} where
   -- what is said of a text is said of the same text pushed to one that was cleared
-  pub answers_ok : (P : List ℕ → Links → Type 0) (new : Links) (before after text : List ℕ) (r : Result T E) → before ≡ [] → OnOk r (after ≡ before ++ text) → P text new → OnOk r (P after new)
+  pub answers_ok : (P : List ℕ → ToolLinks → Type 0) (new : ToolLinks) (before after text : List ℕ) (r : Result T E) → before ≡ [] → OnOk r (after ≡ before ++ text) → P text new → OnOk r (P after new)
   answers_ok P new before after text (Ok x) none is answer = subst (λ t. P t new) (sym (pushed_is before text after none is)) answer
   answers_ok P new before after text (Err e) none is answer = tt
 
   -- .. and where it was not pushed, some text is answered
-  pub answers_err : (P : List ℕ → Links → Type 0) (new : Links) (text : List ℕ) (r : Result T E) → P text new → OnErr r ((words : List ℕ) × P words new)
+  pub answers_err : (P : List ℕ → ToolLinks → Type 0) (new : ToolLinks) (text : List ℕ) (r : Result T E) → P text new → OnErr r ((words : List ℕ) × P words new)
   answers_err P new text (Ok x) answer = tt
   answers_err P new text (Err e) answer = (text, answer)
 
   -- where a call of a line leaves its step, the line does
-  pub line_err : (old new : Links) (line : Line) (command : Command) (r : Result T E) → Good command ≡ line → (new ≡ old) ⊎ LeavesStep old (Good command) new
+  pub line_err : (old new : ToolLinks) (line : Line) (command : Command) (r : Result T E) → Good command ≡ line → (new ≡ old) ⊎ LeavesStep old (Good command) new
       → OnErr r ((new ≡ old) ⊎ LeavesStep old line new)
   line_err old new line command (Ok x) is steps = tt
   line_err old new line command (Err e) is steps = subst (λ l. (new ≡ old) ⊎ LeavesStep old l new) is steps
 
   -- where an answer gets no line feed, its line is a call, or has changed nothing
-  pub unended_err : (old new : Links) (line : Line) (command : Command) (words : List ℕ) (r : Result T E) → Good command ≡ line → Gives old command words new
+  pub unended_err : (old new : ToolLinks) (line : Line) (command : Command) (words : List ℕ) (r : Result T E) → Good command ≡ line → Gives old command words new
       → ((reset : Bool) → command ≡ Moves reset → IsOk r) → OnErr r ((new ≡ old) ⊎ LeavesStep old line new)
   unended_err old new line command words (Ok x) is gives ends = tt
   unended_err old new line (Change call) words (Err e) is gives ends = inr (call, words, sym is, gives)

@@ -6,27 +6,27 @@ use Rattle.chain_lines.specs.declared.runs.ToolError.{ToolError}
 use Rattle.chain_lines.specs.declared.runs.ToolError.TheVariants as errors
 use Rattle.chain_lines.specs.Words.{all_but_last, lines_of, whole_lines}
 use Rattle.chain_lines.specs.Commands.{line_of}
-use Rattle.chain_lines.specs.Answers.{Links, AnswersLine, LeavesStep}
-use Rattle.chain_lines.specs.Transcripts.{Answers, by_line_feed, by_the_end, IsCutShort, between, within, IsGivenUp, before, after, Ends}
+use Rattle.chain_lines.specs.Answers.{ToolLinks, AnswersLine, LeavesStep}
+use Rattle.chain_lines.specs.Transcripts.{Answers, by_line_feed, by_the_end, IsCutShort, between, within, AnswersSome, before, after, Ends}
 use Rattle.chain_lines.specs.Progress.{AnswersOne, Progress, Comes}
 use Rattle.chain_lines.proofs.Feeding.{all_but_last-append}
 use Rattle.chain_lines.proofs.Coming.{Answers-more, of_kept, step_of_kept}
 
 -- the run has come on by what was read so far
-pub record HasRead (old new : Links) (kept : List ℕ) (left left_after held held_after : Option (List ℕ)) : Type 0 where
+pub record HasRead (old new : ToolLinks) (kept : List ℕ) (left left_after held held_after : Option (List ℕ)) : Type 0 where
   pub read : List ℕ
   pub reads : Consumes left left_after read
   pub come : Progress old read new kept held held_after
 
 -- nothing is read yet
-pub HasRead-nothing : (links : Links) (kept : List ℕ) (left held : Option (List ℕ)) → kept ≡ [] → HasRead links links kept left left held held
+pub HasRead-nothing : (links : ToolLinks) (kept : List ℕ) (left held : Option (List ℕ)) → kept ≡ [] → HasRead links links kept left left held held
 HasRead-nothing links kept left held none = record {
   read = [];
   reads = Consumes-nil left;
   come = record { lines = []; rest = []; text = []; cut = refl; keeps = none; answers = (refl, refl); writes = Appends-nil held };
 }
 
-module _ (old now : Links) (kept : List ℕ) (left left_now held held_now : Option (List ℕ)) (has : HasRead old now kept left left_now held held_now) where
+module _ (old now : ToolLinks) (kept : List ℕ) (left left_now held held_now : Option (List ℕ)) (has : HasRead old now kept left left_now held held_now) where
   -- a flush changes nothing that the run has come to
   pub HasRead-flushed : (held_after : Option (List ℕ)) → Keeps held_now held_after → HasRead old now kept left left_now held held_after
   HasRead-flushed held_after keeps = record {
@@ -44,7 +44,7 @@ module _ (old now : Links) (kept : List ℕ) (left left_now held held_now : Opti
   }
 
   -- one piece more
-  pub HasRead-fed : {A : Type 0} (x : A) (new : Links) (kept_after piece : List ℕ) (left_after held_after : Option (List ℕ)) → Consumes left_now left_after piece
+  pub HasRead-fed : {A : Type 0} (x : A) (new : ToolLinks) (kept_after piece : List ℕ) (left_after held_after : Option (List ℕ)) → Consumes left_now left_after piece
       → Comes (Ok x) old (has.read ++ piece) new kept_after held held_after → HasRead old new kept_after left left_after held held_after
   HasRead-fed x new kept_after piece left_after held_after reads come = record {
     read = has.read ++ piece;
@@ -53,7 +53,7 @@ module _ (old now : Links) (kept : List ℕ) (left left_now held held_now : Opti
   }
 
   -- .. at which the run stops
-  pub Ends-fed : (A B : Type 0) (error : ToolError) (r : Result B ToolError) (new : Links) (kept_after piece : List ℕ) (left_after held_after : Option (List ℕ)) → Consumes left_now left_after piece
+  pub Ends-fed : (A B : Type 0) (error : ToolError) (r : Result B ToolError) (new : ToolLinks) (kept_after piece : List ℕ) (left_after held_after : Option (List ℕ)) → Consumes left_now left_after piece
       → Comes {A = A} (Err error) old (has.read ++ piece) new kept_after held held_after → r ≡ Err error → Ends r old new left left_after held held_after
   Ends-fed A B error r new kept_after piece left_after held_after reads comes is = subst (λ q. Ends q old new left left_after held held_after) (sym is) (by_error error comes)
     where
@@ -94,7 +94,7 @@ module _ (old now : Links) (kept : List ℕ) (left left_now held held_now : Opti
   })
 
   -- the last line is answered
-  pub Ends-finished : (B : Type 0) (r : Result B ToolError) (new : Links) (line : List ℕ) (left_after held_after : Option (List ℕ)) → line ≡ kept → Consumes left_now left_after [] → IsAtEnd left_after
+  pub Ends-finished : (B : Type 0) (r : Result B ToolError) (new : ToolLinks) (line : List ℕ) (left_after held_after : Option (List ℕ)) → line ≡ kept → Consumes left_now left_after [] → IsAtEnd left_after
       → AnswersOne r now new line held_now held_after → Ends r old new left left_after held held_after
   Ends-finished B r new line left_after held_after same reads end answered = by_result r answered
     where
@@ -104,7 +104,7 @@ module _ (old now : Links) (kept : List ℕ) (left left_now held held_now : Opti
       last : (text : List ℕ) → AnswersLine now (line_of line) text new → AnswersLine now (line_of has.come.rest) text new
       last text answers = of_kept now new kept has.come.rest text has.come.keeps (subst (λ l. AnswersLine now (line_of l) text new) same answers)
 
-      given_up : (new ≡ now) ⊎ LeavesStep now (line_of line) new → IsGivenUp old new (has.come.lines ++ has.come.rest ∷ []) has.come.text
+      given_up : (new ≡ now) ⊎ LeavesStep now (line_of line) new → AnswersSome old new (has.come.lines ++ has.come.rest ∷ []) has.come.text
       given_up (inl stays) = before has.come.lines (has.come.rest ∷ []) has.come.text (subst (λ m. Answers old has.come.lines has.come.text m) (sym stays) has.come.answers)
       given_up (inr step) = after has.come.lines [] has.come.rest now has.come.text has.come.answers
           (step_of_kept now new kept has.come.rest has.come.keeps (subst (λ l. LeavesStep now (line_of l) new) same step))
@@ -137,11 +137,11 @@ module _ (old now : Links) (kept : List ℕ) (left left_now held held_now : Opti
         reads = all;
         complete = by_the_end end;
         writes = Appends-kept held held_now held_after _ has.come.writes answered.0;
-        answers = subst (λ l. IsGivenUp old new l has.come.text) (sym has.come.cut) (given_up answered.1);
+        answers = subst (λ l. AnswersSome old new l has.come.text) (sym has.come.cut) (given_up answered.1);
       }
 
 -- there is no room for a piece: nothing is read and nothing written
-pub Ends-no_room : (B : Type 0) (r : Result B ToolError) (error : ToolError) (links : Links) (left held : Option (List ℕ)) → error ≡ errors.Memory → r ≡ Err error → Ends r links links left left held held
+pub Ends-no_room : (B : Type 0) (r : Result B ToolError) (error : ToolError) (links : ToolLinks) (left held : Option (List ℕ)) → error ≡ errors.Memory → r ≡ Err error → Ends r links links left left held held
 Ends-no_room B r error links left held memory is = subst (λ q. Ends q links links left left held held) (sym (is ∙ ap Err memory)) (record {
   read = [];
   lines = [];

@@ -34,8 +34,8 @@ use Rattle.chain_lines.specs.declared.command.Line.{Line}
 use Rattle.chain_lines.specs.declared.command.Line.TheVariants.{Blank, Bad, Good}
 
 -- the arenas of the program: links of numbers, with indexes and generations of 32 bits
-abbrev pub Links : Type 0
-Links = Arena Gen32 (LinkSeen ℕ)
+abbrev pub ToolLinks : Type 0
+ToolLinks = Arena Gen32 (LinkSeen ℕ)
 
 -- a pointer: its index, a dot and its generation
 abbrev pub pointer_text : ℕ × Gen32 → List ℕ
@@ -62,12 +62,12 @@ abbrev pub walk_text : List (ℕ × (Gen32 × LinkSeen ℕ)) → List ℕ
 walk_text links = join_with_byte 32 (map link_text links)
 
 -- a pointer is valid: a link stands at its index with its generation
-abbrev pub IsValidIn : Links → ℕ × Gen32 → Type 0
+abbrev pub IsValidIn : ToolLinks → ℕ × Gen32 → Type 0
 IsValidIn a p = IsValid (entry a) p
 
 -- the link of a pointer, with the pointers of now to its neighbours, and its value
-abbrev pub IsLinkAt : Links → ℕ × Gen32 → Option (ℕ × Gen32) → Option (ℕ × Gen32) → ℕ → Type 0
-IsLinkAt a p prev next value = chain.IsLinkAt (entry a) (shown a) p prev next value
+abbrev pub IsLinkIn : ToolLinks → ℕ × Gen32 → Option (ℕ × Gen32) → Option (ℕ × Gen32) → ℕ → Type 0
+IsLinkIn a p prev next value = chain.IsLinkAt (entry a) (shown a) p prev next value
 
 -- the pointer of a link, and a value
 abbrev pub at_text : ToolPtr → List ℕ
@@ -132,14 +132,14 @@ tool_pointers = record {
 }
 
 -- a call is a step of the chain machine, and its answer is the text of the reply
-abbrev pub Changes : Links → LinkCall → List ℕ → Links → Type 0
+abbrev pub Changes : ToolLinks → LinkCall → List ℕ → ToolLinks → Type 0
 Changes old call text new = (reply : Reply ToolPtr ℕ Inx32 Gen32 ℕ) × Step tool_pointers old call reply new × (text ≡ reply_text reply)
 
-pub data Shows (old : Links) (p : ℕ × Gen32) (text : List ℕ) : Type 0 where
-  link : (prev next : Option (ℕ × Gen32)) (value : ℕ) → IsLinkAt old p prev next value → text ≡ show_text prev next value → Shows old p text
+pub data Shows (old : ToolLinks) (p : ℕ × Gen32) (text : List ℕ) : Type 0 where
+  link : (prev next : Option (ℕ × Gen32)) (value : ℕ) → IsLinkIn old p prev next value → text ≡ show_text prev next value → Shows old p text
   no_link : (IsValidIn old p → ⊥) → text ≡ codes "none" → Shows old p text
 
-pub data Walks (old : Links) (p : ℕ × Gen32) (text : List ℕ) : Type 0 where
+pub data Walks (old : ToolLinks) (p : ℕ × Gen32) (text : List ℕ) : Type 0 where
   walk : (links : List (ℕ × (Gen32 × LinkSeen ℕ))) → IsValidIn old p → IsWalkOf old p.0 links → text ≡ walk_text links → Walks old p text
   no_walk : (IsValidIn old p → ⊥) → text ≡ codes "none" → Walks old p text
 
@@ -162,7 +162,7 @@ CanTake text more = length (string_bytes text) + length more ≤ string_capacity
 
 -- the chains are laid one after another by a step of the chain machine, and each link's old and new pointer is told, by
 -- rising new index
-pub record TellsMoves (old : Links) (reset : Bool) (text : List ℕ) (new : Links) : Type 0 where
+pub record TellsMoves (old : ToolLinks) (reset : Bool) (text : List ℕ) (new : ToolLinks) : Type 0 where
   pub told : InvalidationOption Unit
   pub moves : List (ToolPtr × ToolPtr)
   pub step : Step tool_pointers old (CompressCanonical reset) (Counted told) new
@@ -170,7 +170,7 @@ pub record TellsMoves (old : Links) (reset : Bool) (text : List ℕ) (new : Link
   pub words : text ≡ moves_text moves told
 
 -- what a command answers, and the arena after it
-abbrev pub Gives : Links → Command → List ℕ → Links → Type 0
+abbrev pub Gives : ToolLinks → Command → List ℕ → ToolLinks → Type 0
 Gives old (Change call) text new = Changes old call text new
 Gives old (Show p) text new = Shows old (key_of p) text × (new ≡ old)
 Gives old (Chain p) text new = Walks old (key_of p) text × (new ≡ old)
@@ -178,11 +178,11 @@ Gives old (Moves reset) text new = TellsMoves old reset text new
 Gives old Len text new = (text ≡ codes "count " ++ decimal (entry_count old)) × (new ≡ old)
 
 -- what a line is answered, and the arena after it; an answer ends with a line feed
-abbrev pub AnswersLine : Links → Line → List ℕ → Links → Type 0
+abbrev pub AnswersLine : ToolLinks → Line → List ℕ → ToolLinks → Type 0
 AnswersLine old Blank text new = (text ≡ []) × (new ≡ old)
 AnswersLine old Bad text new = (text ≡ codes "bad line" ++ 10 ∷ []) × (new ≡ old)
 AnswersLine old (Good command) text new = (words : List ℕ) × (text ≡ words ++ 10 ∷ []) × Gives old command words new
 
 -- a line is a call, and leaves its step
-abbrev pub LeavesStep : Links → Line → Links → Type 0
+abbrev pub LeavesStep : ToolLinks → Line → ToolLinks → Type 0
 LeavesStep old line new = (call : LinkCall) × (text : List ℕ) × (line ≡ Good (Change call)) × Changes old call text new

@@ -3,7 +3,7 @@ ghost use Rattle.std.specs.Prelude.{◌≡◌, ℕ, List, ◌∷◌, [], ◌++�
 ghost use Rattle.std.specs.Io.KnownBytes.{Appends, Consumes, Keeps, IsAtEnd};
 ghost use Rattle.arena_ptr.specs.Generations.{two32};
 ghost use Rattle.arena_base.specs.Arena.{new_arena};
-ghost use Rattle.chain_lines.specs.Answers.{Links};
+ghost use Rattle.chain_lines.specs.Answers.{ToolLinks};
 ghost use Rattle.chain_lines.specs.Progress.{AnswersOne, ComesOn};
 ghost use Rattle.chain_lines.specs.Transcripts.{Ends};
 
@@ -193,7 +193,7 @@ pub fn run<R: Read, W: Write>(
     reader: &mut R,
     writer: &mut W,
 ) -> Result<(), ToolError>
-    ensures { (new : Links) × Ends result (new_arena two32 None) new (R.remaining reader.old) (R.remaining reader.new) (W.contents writer.old) (W.contents writer.new) }
+    ensures { (new : ToolLinks) × Ends result (new_arena two32 None) new (R.remaining reader.old) (R.remaining reader.new) (W.contents writer.old) (W.contents writer.new) }
 {
     let mut arena: ChainArena<ToolPtr, u32> = ChainArena::new(alloc);
     run_on(alloc, &mut arena, reader, writer)

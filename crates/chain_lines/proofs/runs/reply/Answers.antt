@@ -4,11 +4,11 @@ use Rattle.std.specs.Io.KnownBytes.{Appends}
 use Rattle.chain_lines.specs.declared.runs.ToolError.{ToolError}
 use Rattle.chain_lines.specs.declared.runs.ToolError.TheVariants as errors
 use Rattle.chain_lines.specs.Commands.{line_of}
-use Rattle.chain_lines.specs.Answers.{Links, AnswersLine}
+use Rattle.chain_lines.specs.Answers.{ToolLinks, AnswersLine}
 use Rattle.chain_lines.specs.Progress.{AnswersOne}
 use Rattle.chain_lines.proofs.runs.reply.Goals as goal
 
-written : {A : Type 0} (r : Result A ToolError) (old new : Links) (line text bytes : List ℕ) (held held_after : Option (List ℕ)) → AnswersLine old (line_of line) text new → bytes ≡ text
+written : {A : Type 0} (r : Result A ToolError) (old new : ToolLinks) (line text bytes : List ℕ) (held held_after : Option (List ℕ)) → AnswersLine old (line_of line) text new → bytes ≡ text
     → OnOk r (Appends held held_after bytes) → OnErr r ((n : ℕ) × Appends held held_after (take n bytes)) → IfErr r (λ e. e ≡ errors.Write)
     → AnswersOne r old new line held held_after
 written (Ok x) old new line text bytes held held_after answers is ok err error = (text, answers, subst (Appends held held_after) is ok)
