@@ -9,6 +9,7 @@ use Rattle.arena_base.specs.Entries.{Seen, entries_from, entries, seen_of}
 use Rattle.arena_base.specs.Slots.{entry_of, allocated_slot, free_slot, without_value, without_values, freed_of, arena_of, IsSound}
 use Rattle.arena_base.specs.Copying.{Copied, Makes, CopiesBy, HasRefusable, IsCopyBy, HasSlotsOf, IsGivenUp, IsLeftEmpty, generations}
 use Rattle.arena_base.specs.declared.slot.ArenaSlot.{ArenaSlot}
+use Rattle.arena_base.proofs.Folding.{folds_seen}
 use Rattle.arena_base.proofs.Reading.{map-push}
 use Rattle.arena_base.proofs.Soundness.{walked_all}
 use Rattle.arena_base.proofs.Alike.{same_generations, sound_too}
@@ -201,15 +202,11 @@ copy_seen {T = T} {Gen = Gen} makes key f last source old new has made =
 -- what makes the values, looked at in part, has made them
 module _ {V F P U T : Type 0} (makes : V → P → U → T → V → Type 0) (others : F → P → U → T → F → Type 0) (see : V → F)
     (step : (v : V) (p : P) (u : U) (t : T) (w : V) → makes v p u t w → others (see v) p u t (see w)) where
-  folds_seen : (made : List (Copied P U T)) (f last : V) → FoldsTo (Makes makes) f made last → FoldsTo (Makes others) (see f) made (see last)
-  folds_seen [] f last folds = ap see folds
-  folds_seen (c ∷ made) f last folds = (see folds.0, step f c.pointer c.shown c.answer folds.0 folds.1, folds_seen made folds.0 last folds.2)
-
   pub made_by : {Gen : Type 0} (key : P → ℕ × Gen) (f last : V) (source : List ((ℕ × Gen) × U)) (copy : List ((ℕ × Gen) × T))
       → CopiesBy makes key f source copy last → CopiesBy others key (see f) source copy (see last)
   made_by key f last source copy c = record {
     made = c.made;
-    in_turn = folds_seen c.made f last c.in_turn;
+    in_turn = folds_seen see (Makes makes) (Makes others) (λ s m t. step s m.pointer m.shown m.answer t) c.made f last c.in_turn;
     before = c.before;
     after = c.after;
   }

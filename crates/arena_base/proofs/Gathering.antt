@@ -118,16 +118,14 @@ module _ {F P T Gen : Type 0} (g : Mut F (P × (MutBor T × (P × Unit {0}))) (U
           generation = counter;
           generations = generations-fronted counter values 1;
           is_counter = refl;
-          slots = (
-            length old.slots + length values,
-            omega (arith, counted, few_entries old),
-            λ i. Some (record {
-              count = (length-slots counter values ∙ counted) i;
-              freed = [];
-              placed = old.placed + counted i;
-              touched = old.touched + (length old.slots + length values);
-            }),
-          );
+          slots = record {
+            count = length-slots counter values ∙ counted;
+            freed = refl;
+            placed = ap (λ n. old.placed + n) counted;
+            touches = length old.slots + length values;
+            few = omega (arith, counted, few_entries old);
+            touched = refl;
+          };
           capacity = refl;
           maximum = refl;
         })

@@ -3,6 +3,7 @@ pub mod Closing
 pub mod Copying
 pub mod Filling
 pub mod Finding
+pub mod Folding
 mod FreeSlots
 pub mod Gathering
 mod Holding

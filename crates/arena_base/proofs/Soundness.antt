@@ -50,9 +50,9 @@ module _ {P T Inx Gen Word : Type 0} (number : Inx → ℕ) where
     closed = subst (IsSound number slots greatest len head) (sym walked_all) s
 
     -- an entry's slot is freed
-    pub vacated : (k : ℕ) (i : Inx) (g : Gen) (t : T) (left : ℕ) → k + 1 ≡ number i → slice_get slots k ≡ Some (allocated_slot g t) → left + 1 ≡ len
+    pub slot_vacated : (k : ℕ) (i : Inx) (g : Gen) (t : T) (left : ℕ) → k + 1 ≡ number i → slice_get slots k ≡ Some (allocated_slot g t) → left + 1 ≡ len
         → IsSound number (slice_set slots k (free_slot head)) greatest left (Some i) (number i ∷ ns)
-    vacated k i g t left at is one =
+    slot_vacated k i g t left at is one =
         let index : suc k ≡ number i = omega (arith, at) in
         let stood : item_at slots (number i) ≡ Some (allocated_slot g t) = at_position slots k (number i) at ∙ is in
         let out = taken_is_not_listed slots ns head (number i) g t s.linked stood in

@@ -7,7 +7,7 @@ use Rattle.std.specs.Option.{option_map}
 use Rattle.arena_base.specs.Slots.{entry_of, entry_in, with_value_in, allocated_slot, free_slot, arena_of, freed_of, IsSound}
 use Rattle.arena_base.specs.declared.slot.ArenaSlot.{ArenaSlot}
 use Rattle.arena_base.specs.declared.slot.ArenaSlot.TheVariants.{Allocated, Free}
-use Rattle.arena_base.proofs.Soundness.{lent, walked_all, closed, vacated, some_taken, filled_freed, filled_next, none_freed}
+use Rattle.arena_base.proofs.Soundness.{lent, walked_all, closed, slot_vacated, some_taken, filled_freed, filled_next, none_freed}
 use Rattle.arena_base.proofs.Reading.{map-push, slice_set-itself, slot_at-map, with_slot-position}
 
 pub entry_of-written : {P T Inx Gen Word : Type 0} (slot : ArenaSlot P T Inx Gen Word) (w : T) → entry_of (with_value_in slot w) ≡ option_map (λ (e : Gen × T). (e.0, w)) (entry_of slot)
@@ -75,7 +75,7 @@ module _ {P T Inx Gen Word : Type 0} (number : Inx → ℕ) where
       → arena_of items (freed_of number items (Some i)) after greatest room most total touched ≡ remove_at following (arena_of slots (freed_of number slots head) counter greatest capacity maximum placed touched) (number i)
   vacated_view {slots = slots} {greatest = greatest} {len = len} {head = head} s counter after capacity room maximum most placed total touched following k i g t items at is written same_room same_most same_after same_total =
       let some = some_taken number s k g t is in
-      rw (written, same_room, same_most, same_after, same_total, walked_all number (vacated number s k i g t (len - 1) at is (omega (arith, some))))
+      rw (written, same_room, same_most, same_after, same_total, walked_all number (slot_vacated number s k i g t (len - 1) at is (omega (arith, some))))
       (seen_vacated slots (freed_of number slots head) counter greatest capacity maximum placed touched following k (number i) head at)
 
   -- the arena after its slots were dropped

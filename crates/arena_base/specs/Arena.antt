@@ -148,7 +148,7 @@ module _ {Gen T : Type 0} where
   IsWithinReach may_reach n old new = (new.stack_capacity ≡ old.stack_capacity) ⊎ may_reach old.stack_capacity old.maximum n new.stack_capacity
 
   -- a new arena with room for n entries: but for its room it is as one without room, and that it is without any where n is 0
-  pub record IsStart (may_reach : ℕ → Option ℕ → ℕ → ℕ → Type 0) (first : Gen) (maximum : Option ℕ) (n : ℕ) (a : Arena Gen T) : Type 0 where
+  pub record IsNewWithRoom (may_reach : ℕ → Option ℕ → ℕ → ℕ → Type 0) (first : Gen) (maximum : Option ℕ) (n : ℕ) (a : Arena Gen T) : Type 0 where
     pub state : a ≡ with_capacity_of (new_arena first maximum) a
     pub none : n ≡ 0 → a ≡ new_arena first maximum
     pub reached : IsWithinReach may_reach n (new_arena first maximum) a

@@ -17,12 +17,24 @@ abbrev pub overflows_after_compression : {Gen : Type 0} → (Gen → Bool) → B
 overflows_after_compression wraps true count g = false
 overflows_after_compression wraps false count g = overflows_after_clear wraps count g
 
--- so many entries are in exactly as many slots, none is freed, each was placed once, and there were at most four times as
--- many touches as slots
+-- so many entries are in exactly as many slots, none is freed, each was placed once, and there were at most so many touches
+pub record AreFilledAnew (entries most : ℕ) (old new : Slots) : Type 0 where
+  pub count : new.count ≡ entries
+  pub freed : new.freed ≡ []
+  pub placed : new.placed ≡ old.placed + entries
+  pub touches : ℕ
+  pub few : touches ≤ most
+  pub touched : new.touched ≡ old.touched + touches
+
+-- where the slots of an arena are told, before and after; else there is nothing to tell
+abbrev pub WhereTold : (Slots → Slots → Type 0) → Option Slots → Option Slots → Type 0
+WhereTold related None new = new ≡ None
+WhereTold related (Some old) None = ⊥
+WhereTold related (Some old) (Some new) = related old new
+
+-- .. with at most four times as many touches as slots
 abbrev pub AreCompacted : ℕ → Option Slots → Option Slots → Type 0
-AreCompacted count None new = new ≡ None
-AreCompacted count (Some old) new = (touches : ℕ) × (touches ≤ 4 * old.count)
-    × (new ≡ Some (record { count = count; freed = []; placed = old.placed + count; touched = old.touched + touches }))
+AreCompacted count = WhereTold (λ old. AreFilledAnew count (4 * old.count) old)
 
 -- a call of the closure: the pointer that an entry had, the value that it was shown, the pointer that the entry has, and
 -- the value that it left

@@ -19,7 +19,7 @@ use std::alloc::Global;
 
 impl<P: PtrKey, T: Drop, S: SlotStack<Item = ArenaSlot<P, T>>> ArenaTrait<P, T> for Arena<P, T, S> {
     ghost use Rattle.std.specs.Prelude.{◌≡◌};
-    ghost use Rattle.arena_base.specs.Arena.{entry_at, with_capacity_of, IsWithinReach, IsStart, with_value, renewed_at, remove_at, cleared};
+    ghost use Rattle.arena_base.specs.Arena.{entry_at, with_capacity_of, IsWithinReach, IsNewWithRoom, with_value, renewed_at, remove_at, cleared};
     ghost use Rattle.std.specs.Option.{option_map};
     ghost use Rattle.arena_base.specs.Entries.{seen_of, entries};
     ghost use Rattle.arena_base.specs.EntryLaws.{entries_rise, found-entries};
@@ -33,7 +33,7 @@ impl<P: PtrKey, T: Drop, S: SlotStack<Item = ArenaSlot<P, T>>> ArenaTrait<P, T> 
 
     ghost looks = { λ a. a.look };
 
-    ghost starts = { IsStart S.may_reach P.Gen.first S.initial_maximum };
+    ghost starts = { IsNewWithRoom S.may_reach P.Gen.first S.initial_maximum };
 
     ghost grows = { λ n a b. (b ≡ with_capacity_of a b) × IsWithinReach S.may_reach n a b };
 

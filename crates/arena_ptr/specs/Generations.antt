@@ -1,7 +1,7 @@
 -- The number of a generation, by its type; the generation that follows it, and whether that one begins again at two.
 use Rattle.std.specs.Prelude.{◌≡◌, ℕ, ◌==◌, ◌↔◌, Bool, true}
 use Rattle.std.proofs.Common.{lit≤}
-use Rattle.arena_ptr.specs.Numbers.{IsWithin, IsWithin-prop, next_number, next_within, next_after_greatest, same_made, eq_is_same}
+use Rattle.arena_ptr.specs.Numbers.{IsWithin, IsWithin-prop, next_number, next_within, next_after_greatest, same_made, eq_is_same_number}
 use Rattle.arena_ptr.specs.declared.generation.gen8.Gen8.{Gen8}
 use Rattle.arena_ptr.specs.declared.generation.gen32.Gen32.{Gen32}
 use Rattle.arena_ptr.specs.declared.generation.gen64.Gen64.{Gen64}
@@ -27,7 +27,7 @@ pub begins_again8 : (g : Gen8) → is_greatest8 g ≡ true → after8 g ≡ two8
 begins_again8 g greatest = same_gen8 (after8 g) two8 (next_after_greatest 0xff g.number greatest)
 
 pub eq_is_same_gen8 : (g h : Gen8) → ((g.number == h.number) ≡ true) ↔ (g ≡ h)
-eq_is_same_gen8 = eq_is_same number_of_gen8 same_gen8
+eq_is_same_gen8 = eq_is_same_number number_of_gen8 same_gen8
 
 abbrev pub number_of_gen32 : Gen32 → ℕ
 number_of_gen32 g = g.number
@@ -50,7 +50,7 @@ pub begins_again32 : (g : Gen32) → is_greatest32 g ≡ true → after32 g ≡ 
 begins_again32 g greatest = same_gen32 (after32 g) two32 (next_after_greatest 0xffff_ffff g.number greatest)
 
 pub eq_is_same_gen32 : (g h : Gen32) → ((g.number == h.number) ≡ true) ↔ (g ≡ h)
-eq_is_same_gen32 = eq_is_same number_of_gen32 same_gen32
+eq_is_same_gen32 = eq_is_same_number number_of_gen32 same_gen32
 
 abbrev pub number_of_gen64 : Gen64 → ℕ
 number_of_gen64 g = g.number
@@ -73,4 +73,4 @@ pub begins_again64 : (g : Gen64) → is_greatest64 g ≡ true → after64 g ≡ 
 begins_again64 g greatest = same_gen64 (after64 g) two64 (next_after_greatest 0xffff_ffff_ffff_ffff g.number greatest)
 
 pub eq_is_same_gen64 : (g h : Gen64) → ((g.number == h.number) ≡ true) ↔ (g ≡ h)
-eq_is_same_gen64 = eq_is_same number_of_gen64 same_gen64
+eq_is_same_gen64 = eq_is_same_number number_of_gen64 same_gen64

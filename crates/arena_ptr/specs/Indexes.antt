@@ -1,6 +1,6 @@
 -- The number of an index, by its type.
 use Rattle.std.specs.Prelude.{◌≡◌, ℕ, ◌==◌, ◌↔◌, true}
-use Rattle.arena_ptr.specs.Numbers.{IsWithin, IsWithin-prop, same_made, eq_is_same}
+use Rattle.arena_ptr.specs.Numbers.{IsWithin, IsWithin-prop, same_made, eq_is_same_number}
 use Rattle.arena_ptr.specs.declared.index.inx8.Inx8.{Inx8}
 use Rattle.arena_ptr.specs.declared.index.inx32.Inx32.{Inx32}
 use Rattle.arena_ptr.specs.declared.index.inx64.Inx64.{Inx64}
@@ -13,7 +13,7 @@ same_inx8 i j e =
     same_made {P = IsWithin 0xff} (λ n w. record { number = n; in_range = w }) (IsWithin-prop 0xff) i.number j.number i.in_range j.in_range e
 
 pub eq_is_same_inx8 : (i j : Inx8) → ((i.number == j.number) ≡ true) ↔ (i ≡ j)
-eq_is_same_inx8 = eq_is_same number_of_inx8 same_inx8
+eq_is_same_inx8 = eq_is_same_number number_of_inx8 same_inx8
 
 abbrev pub number_of_inx32 : Inx32 → ℕ
 number_of_inx32 i = i.number
@@ -23,7 +23,7 @@ same_inx32 i j e =
     same_made {P = IsWithin 0xffff_ffff} (λ n w. record { number = n; in_range = w }) (IsWithin-prop 0xffff_ffff) i.number j.number i.in_range j.in_range e
 
 pub eq_is_same_inx32 : (i j : Inx32) → ((i.number == j.number) ≡ true) ↔ (i ≡ j)
-eq_is_same_inx32 = eq_is_same number_of_inx32 same_inx32
+eq_is_same_inx32 = eq_is_same_number number_of_inx32 same_inx32
 
 abbrev pub number_of_inx64 : Inx64 → ℕ
 number_of_inx64 i = i.number
@@ -33,4 +33,4 @@ same_inx64 i j e =
     same_made {P = IsWithin 0xffff_ffff_ffff_ffff} (λ n w. record { number = n; in_range = w }) (IsWithin-prop 0xffff_ffff_ffff_ffff) i.number j.number i.in_range j.in_range e
 
 pub eq_is_same_inx64 : (i j : Inx64) → ((i.number == j.number) ≡ true) ↔ (i ≡ j)
-eq_is_same_inx64 = eq_is_same number_of_inx64 same_inx64
+eq_is_same_inx64 = eq_is_same_number number_of_inx64 same_inx64

@@ -29,6 +29,6 @@ same_made {A} {B} {P} make prop a b p q e =
     subst (λ (x : A). (r : P x) → make a p ≡ make x r) e (λ r. ap (make a) (prop a p r)) q
 
 -- a test of the numbers tells exactly whether the two values are the same, where the number determines the value
-pub eq_is_same : {A : Type 0} (number : A → ℕ) → ((a b : A) → number a ≡ number b → a ≡ b) →
+pub eq_is_same_number : {A : Type 0} (number : A → ℕ) → ((a b : A) → number a ≡ number b → a ≡ b) →
     (a b : A) → ((number a == number b) ≡ true) ↔ (a ≡ b)
-eq_is_same {A} number same a b = (λ t. same a b (eqb-true (number a) (number b) t), λ e. eq-eqb (number a) (number b) (ap number e))
+eq_is_same_number {A} number same a b = (λ t. same a b (eqb-true (number a) (number b) t), λ e. eq-eqb (number a) (number b) (ap number e))

@@ -18,8 +18,8 @@ pub same_tool_ptr : (p q : ToolPtr) → key_of p ≡ key_of q → p ≡ q
 same_tool_ptr p q e =
     same_parts p q (same_inx32 p.inx q.inx (ap (λ (k : ℕ × Gen32). k.0) e)) (ap (λ (k : ℕ × Gen32). k.1) e)
 
-pub eq_is_same : (p q : ToolPtr) → (((p.inx.number == q.inx.number) && (p.generation.number == q.generation.number)) ≡ true) ↔ (p ≡ q)
-eq_is_same p q =
+pub eq_is_same_tool_ptr : (p q : ToolPtr) → (((p.inx.number == q.inx.number) && (p.generation.number == q.generation.number)) ≡ true) ↔ (p ≡ q)
+eq_is_same_tool_ptr p q =
     let inx = eq_is_same_inx32 p.inx q.inx in
     let generation = eq_is_same_gen32 p.generation q.generation in (
       λ t. same_parts p q (inx.0 (left_true _ _ t)) (generation.0 (right_true _ _ t)),

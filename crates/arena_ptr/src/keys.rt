@@ -98,7 +98,7 @@ pub trait PtrKey: Copy + Eq {
     // The index as a number, and the generation: all that a pointer is.
     ghost key: { Self → ℕ × Self.Gen };
 
-    /// A pointer to nothing yet: its index is 1, and its generation is the type's to choose.
+    /// A pointer to nothing yet: its index is 1, and its generation should be 1, or `()`.
     fn invalid() -> Self
         ensures { (key result).0 ≡ 1 };
 

@@ -164,8 +164,8 @@ pub trait Ptr: Copy + Eq + Ord + Hash + Debug {
     /// The name of the pointer type, with which the text of a pointer begins.
     fn name() -> &'static str;
 
-    /// A pointer to nothing yet: its index is 1, and its generation is the type's to choose. Of `ToolPtr` it is 1, which
-    /// counting never comes to.
+    /// A pointer to nothing yet: its index is 1, and its generation should be 1, which counting never comes to, or `()`.
+    /// The clause tells the index alone, since a type that is generic in its generation has no other to give than two.
     fn invalid() -> Self
         ensures { (key result).0 ≡ 1 };
 

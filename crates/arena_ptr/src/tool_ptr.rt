@@ -17,7 +17,7 @@ pub struct ToolPtr {
 impl Ptr for ToolPtr {
     ghost use Rattle.arena_ptr.specs.Counting.{IsNeverCounted};
     ghost use Rattle.arena_ptr.specs.Generations.{number_of_gen32, two32, after32};
-    ghost use Rattle.arena_ptr.specs.ToolPtr.{key_of, same_tool_ptr, eq_is_same};
+    ghost use Rattle.arena_ptr.specs.ToolPtr.{key_of, same_tool_ptr, eq_is_same_tool_ptr};
 
     type Inx = Inx32;
 
@@ -29,7 +29,7 @@ impl Ptr for ToolPtr {
 
     ghost same_key = { same_tool_ptr };
 
-    ghost eq_is_same = { eq_is_same };
+    ghost eq_is_same = { eq_is_same_tool_ptr };
 
     fn name() -> &'static str
         ensures { result.now ≡ codes "P0" }

@@ -90,16 +90,14 @@ module _ {F P T Gen : Type 0} (g : F → P → P → F → Type 0) (key : P → 
         generation = counter;
         generations = generations-fronted counter laid.values 1;
         is_counter = refl;
-        slots = (
-          laid.touches,
-          omega (arith, laid.few, indexes_counted, length-map old.slots (option_map (on_value link_value)), ap (λ (a : Arena Gen (LinkSeen T)). length a.slots) is_mid),
-          λ i. Some (record {
-            count = (length-slots counter laid.values ∙ values_counted) i;
-            freed = [];
-            placed = old.placed + values_counted i;
-            touched = old.touched + laid.touches;
-          }),
-        );
+        slots = record {
+          count = length-slots counter laid.values ∙ values_counted;
+          freed = refl;
+          placed = ap (λ n. old.placed + n) values_counted;
+          touches = laid.touches;
+          few = omega (arith, laid.few, indexes_counted, length-map old.slots (option_map (on_value link_value)), ap (λ (a : Arena Gen (LinkSeen T)). length a.slots) is_mid);
+          touched = refl;
+        };
         capacity = refl;
         maximum = refl;
       })

@@ -17,6 +17,7 @@ use Rattle.chain_links.specs.ChainArena.{LinkSeen, on_value, interlinks_in, inte
 use Rattle.chain_links.specs.Links.{seen_link, seen_links, seen_pair, held_in}
 use Rattle.chain_arena.specs.Copies.{MakesLink, MakesOf, RefusesOf, IsLinkCopyBy, IsClone}
 use Rattle.arena_base.proofs.Copying.{made_by, copy_by}
+use Rattle.arena_base.proofs.Folding.{folds_seen, folds_mapped}
 use Rattle.chain_links.proofs.Mapping.{slot_at-map, length-with_each}
 use Rattle.chain_layout.proofs.Valuing.{seen_entries-all, held_entries-all}
 
@@ -27,10 +28,6 @@ made_as before after c = record { pointer = c.pointer; shown = before c.shown; a
 -- What makes the values is looked at in part, and so are the values before and after.
 module _ {V F P U W T X : Type 0} (makes : V → P → U → T → V → Type 0) (others : F → P → W → X → F → Type 0) (see : V → F) (before : U → W) (after : T → X)
     (step : (v : V) (p : P) (u : U) (t : T) (next : V) → makes v p u t next → others (see v) p (before u) (after t) (see next)) where
-  folds_seen : (made : List (Copied P U T)) (f last : V) → FoldsTo (Makes makes) f made last → FoldsTo (Makes others) (see f) (map (made_as before after) made) (see last)
-  folds_seen [] f last folds = ap see folds
-  folds_seen (c ∷ made) f last folds = (see folds.0, step f c.pointer c.shown c.answer folds.0 folds.1, folds_seen made folds.0 last folds.2)
-
   module _ {Gen : Type 0} (key : P → ℕ × Gen) where
     seen_before : (made : List (Copied P U T)) → map (λ c. (key c.pointer, c.shown)) (map (made_as before after) made) ≡ map (on_value before) (map (λ c. (key c.pointer, c.shown)) made)
     seen_before [] = refl
@@ -44,7 +41,8 @@ module _ {V F P U W T X : Type 0} (makes : V → P → U → T → V → Type 0)
         → CopiesBy others key (see f) (map (on_value before) source) (map (on_value after) copy) (see last)
     copies_seen f last source copy c = record {
       made = map (made_as before after) c.made;
-      in_turn = folds_seen c.made f last c.in_turn;
+      in_turn = folds_mapped (made_as before after) (Makes others) c.made (see f) (see last)
+          (folds_seen see (Makes makes) (λ s m t. Makes others s (made_as before after m) t) (λ s m t. step s m.pointer m.shown m.answer t) c.made f last c.in_turn);
       before = seen_before c.made ∙ ap (map (on_value before)) c.before;
       after = seen_after c.made ∙ ap (map (on_value after)) c.after;
     }

@@ -9,7 +9,7 @@ use Rattle.chain_laws.specs.Renamings.{IsRenaming}
 use Rattle.chain_laws.specs.Arrangements.{place_in}
 use Rattle.chain_laws.proofs.Carrying.{renaming_agrees}
 use Rattle.arena_base.specs.Arena.{Arena, with_counter}
-use Rattle.arena_base.specs.Entries.{Slots, entries, index_of, seen_of}
+use Rattle.arena_base.specs.Entries.{entries, index_of, seen_of}
 use Rattle.arena_base.specs.Compressing.{IsCompressed, VisitsAll, counter_after_compression}
 use Rattle.arena_base.specs.Closing.{IsGathered, gathered}
 use Rattle.arena_base.proofs.Gathering.{compressing}
@@ -39,11 +39,14 @@ module _ {F P T Gen : Type 0} (g : Mut F (P × (MutBor T × (P × Unit {0}))) (U
         generation = like.generation;
         generations = like.generations;
         is_counter = like.is_counter;
-        slots = (
-          gathering.touches,
-          subst (λ (n : ℕ). gathering.touches ≤ 4 * n) long gathering.few,
-          (λ i. option_map (λ (s : Slots). record s { touched = (is_mid i).touched + gathering.touches }) (like.slots.2 i)),
-        );
+        slots = record {
+          count = like.slots.count;
+          freed = like.slots.freed;
+          placed = like.slots.placed;
+          touches = gathering.touches;
+          few = subst (λ (n : ℕ). gathering.touches ≤ 4 * n) long gathering.few;
+          touched = ap (λ (a : Arena Gen (LinkSeen T)). a.touched + gathering.touches) is_mid;
+        };
         capacity = like.capacity;
         maximum = like.maximum;
       })

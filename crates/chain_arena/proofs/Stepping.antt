@@ -30,7 +30,7 @@ use Rattle.chain_links.specs.Insertions.{IsInsertion}
 use Rattle.chain_links.specs.Links.{seen_link}
 use Rattle.chain_arena.specs.Effects.{Links, stays, grown, IsDrained, IsAdded, Tells}
 use Rattle.chain_arena.specs.PointerKinds.{PointerKind}
-use Rattle.chain_arena.specs.Steps.{ConnectStep, BreakPrevStep, BreakNextStep, ExchangeStep, kind_named, CanInsert, InsertStep, InsertWithinStep, IsTaken, IsRenewed, RemoveStep, RemoveInxStep, InvalidateStep, ReserveStep}
+use Rattle.chain_arena.specs.Steps.{ConnectStep, BreakPrevStep, BreakNextStep, ExchangeStep, kind_named, IsAllowed, InsertStep, InsertWithinStep, IsTaken, IsRenewed, RemoveStep, RemoveInxStep, InvalidateStep, ReserveStep}
 use Rattle.chain_links.specs.declared.kinds.InsertKindBody.{InsertKindBody}
 use Rattle.chain_links.specs.declared.links.LinkBody.{LinkBody}
 use Rattle.chain_arena.proofs.Deciding.{Stable}
@@ -135,7 +135,7 @@ module _ {P I Gen W T : Type 0} (pointers : PointerKind P I Gen W) where
       lacking : old.capacity < n
       lacking = ⊎_elim (λ less. less) (λ enough. absurd (false≢true (within enough).0)) (cases_lt old.capacity n)
 
-module _ {P I Gen W T : Type 0} (pointers : PointerKind P I Gen W) (old new : Links Gen T) (kind : InsertKindBody P I) (t : T) (decides : Stable (CanInsert pointers old kind))
+module _ {P I Gen W T : Type 0} (pointers : PointerKind P I Gen W) (old new : Links Gen T) (kind : InsertKindBody P I) (t : T) (decides : Stable (IsAllowed pointers old kind))
     (links : ℕ) (counted : links ≡ count (seen old)) (fits : links ≤ old.capacity) where
   abbrev by : InsertKind ℕ
   by = kind_named pointers kind
@@ -144,7 +144,7 @@ module _ {P I Gen W T : Type 0} (pointers : PointerKind P I Gen W) (old new : Li
   Inserted r = IfOk r (λ p. IsInsertion by (seen old) (seen new) (entry old) (entry new) (shown old) (shown new) (pointers.key p) t)
 
   -- a kind that is not refused for its links may be inserted
-  may : (r : Result P ChainInsertionError) → (r ≡ Err failed.FailedLinkRequirement) ↔ (CanInsert pointers old kind → ⊥) → (r ≡ Err failed.FailedLinkRequirement → ⊥) → CanInsert pointers old kind
+  may : (r : Result P ChainInsertionError) → (r ≡ Err failed.FailedLinkRequirement) ↔ (IsAllowed pointers old kind → ⊥) → (r ≡ Err failed.FailedLinkRequirement → ⊥) → IsAllowed pointers old kind
   may r link other = decides (λ no. other (link.1 no))
 
   added : (p : P) → Inserted (Ok p) → (pointers.key p).0 ≡ next_index old → new ≡ with_capacity_of (insert_as old by t) new → IsAdded pointers.key old by t p new
@@ -160,11 +160,11 @@ module _ {P I Gen W T : Type 0} (pointers : PointerKind P I Gen W) (old new : Li
   is_full more room = let none : HasRoomLeft (seen old) → ⊥ = (λ left. false≢true (room left).0) in omega (arith, none, values-count old)
 
   -- an insertion that may grow
-  pub inserts_growing : (r : Result P ChainInsertionError) (more : Type 0) → Inserted r → OnErr r (new ≡ old) → (r ≡ Err failed.FailedLinkRequirement) ↔ (CanInsert pointers old kind → ⊥)
-      → IfErr r (λ e. e ≢ failed.NotWithinCapacity) → (CanInsert pointers old kind → HasRoomLeft (seen old) → IsOk r × more)
-      → (r ≡ Err failed.BeyondMaxCapacity) ↔ (CanInsert pointers old kind × NeedsBeyondMaximum (seen old))
+  pub inserts_growing : (r : Result P ChainInsertionError) (more : Type 0) → Inserted r → OnErr r (new ≡ old) → (r ≡ Err failed.FailedLinkRequirement) ↔ (IsAllowed pointers old kind → ⊥)
+      → IfErr r (λ e. e ≢ failed.NotWithinCapacity) → (IsAllowed pointers old kind → HasRoomLeft (seen old) → IsOk r × more)
+      → (r ≡ Err failed.BeyondMaxCapacity) ↔ (IsAllowed pointers old kind × NeedsBeyondMaximum (seen old))
       → IfOk r (λ p. (pointers.key p).0 ≡ next_index old) → OnOk r (new ≡ with_capacity_of (insert_as old by t) new)
-      → (CanInsert pointers old kind → entry_count old < old.capacity → new ≡ insert_as old by t) → OnOk r (HasRoom pointers.greatest (entry_count old + 1) new) → InsertStep pointers old kind t r new
+      → (IsAllowed pointers old kind → entry_count old < old.capacity → new ≡ insert_as old by t) → OnOk r (HasRoom pointers.greatest (entry_count old + 1) new) → InsertStep pointers old kind t r new
   inserts_growing (Ok p) more inserted same link error room beyond place state in_room has_room =
       let can = may (Ok p) link (λ failed. cc) in (
         can,
@@ -188,8 +188,8 @@ module _ {P I Gen W T : Type 0} (pointers : PointerKind P I Gen W) (old new : Li
       (past.0, (is_full more (room past.0), subst (λ n. IsBeyond old.maximum (n + 1)) (values-count old) past.1.1), same)
 
   -- .. and one within the capacity
-  pub inserts_within : (r : Result P ChainInsertionError) → Inserted r → OnErr r (new ≡ old) → (r ≡ Err failed.FailedLinkRequirement) ↔ (CanInsert pointers old kind → ⊥)
-      → (r ≡ Err failed.NotWithinCapacity) ↔ (CanInsert pointers old kind × (count (seen old) ≡ old.capacity)) → IfErr r (λ e. (e ≡ failed.FailedLinkRequirement) ⊎ (e ≡ failed.NotWithinCapacity))
+  pub inserts_within : (r : Result P ChainInsertionError) → Inserted r → OnErr r (new ≡ old) → (r ≡ Err failed.FailedLinkRequirement) ↔ (IsAllowed pointers old kind → ⊥)
+      → (r ≡ Err failed.NotWithinCapacity) ↔ (IsAllowed pointers old kind × (count (seen old) ≡ old.capacity)) → IfErr r (λ e. (e ≡ failed.FailedLinkRequirement) ⊎ (e ≡ failed.NotWithinCapacity))
       → IfOk r (λ p. (pointers.key p).0 ≡ next_index old) → OnOk r (new ≡ insert_as old by t) → InsertWithinStep pointers old kind t r new
   inserts_within (Ok p) inserted same link full error place state =
       let can = may (Ok p) link (λ failed. cc) in

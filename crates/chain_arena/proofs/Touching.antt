@@ -1,5 +1,5 @@
 -- A compression is determined but for how many slots it touched, and no step looks at how many were touched before it.
-use Rattle.std.proofs.Common.{◌≡◌, ℕ, suc, ◌+◌, Bool, true, false, List, [], ◌∷◌, length, map, Option, None, Some, Result, Ok, Err, refl, sym, ap, ap₂, ◌∙◌, subst, arith}
+use Rattle.std.proofs.Common.{◌≡◌, ℕ, suc, Bool, true, false, List, [], ◌∷◌, length, map, Option, None, Some, Result, Ok, Err, refl, sym, ap, ap₂, ◌∙◌, subst, arith}
 use Rattle.std.specs.Prelude.{All}
 use Rattle.std.specs.Option.{option_map}
 use Rattle.std.proofs.lemmas.List.{ext_get_or}
@@ -15,7 +15,7 @@ use Rattle.chain_laws.specs.Arrangements.{place_in}
 use Rattle.chain_laws.proofs.Carrying.{renaming_is_determined}
 use Rattle.chain_laws.proofs.Partitions.{no_others}
 use Rattle.arena_base.specs.Arena.{entry_at}
-use Rattle.arena_base.specs.Compressing.{values_in}
+use Rattle.arena_base.specs.Compressing.{values_in, AreFilledAnew}
 use Rattle.arena_base.specs.Entries.{Slots, entries, index_of, found}
 use Rattle.arena_base.specs.EntryLaws.{found-entries}
 use Rattle.chain_links.specs.ChainArena.{shown, seen, entry, link_value, values_of, link_of, remove_link, IsJoin, IsCut, IsExchange, IsRemoval}
@@ -30,11 +30,6 @@ use Rattle.chain_arena.specs.declared.calls.Reply.{Reply}
 use Rattle.chain_links.specs.declared.kinds.InsertKindBody.{InsertKindBody}
 use Rattle.chain_arena.proofs.Draining.{link_at-entry}
 use Rattle.chain_links.proofs.Mapping.{length-with_each}
-
--- the slots that are told
-abbrev slots_or : Slots → Option Slots → Slots
-slots_or slots None = slots
-slots_or slots (Some told) = told
 
 -- values that are there are the same where they are the same as maybe missing ones
 same_values : {T : Type 0} (xs ys : List T) → map (λ t. let o : Option T = Some t in o) xs ≡ map (λ t. let o : Option T = Some t in o) ys → xs ≡ ys
@@ -65,25 +60,18 @@ module _ {Gen T : Type 0} where
       ap₂ (λ (x : (ℕ × Gen) × T) (xs : List ((ℕ × Gen) × T)). x ∷ xs) one (same_entries g es fs (cc) (cc) (All-tail (HasGeneration g) e es left) (All-tail (HasGeneration g) f fs right))
 
   -- what is told of the slots of an arena
-  slots_told : (new : Links Gen T) (count placed touched : ℕ) → (seen new).slots ≡ Some (record { count = count; freed = []; placed = placed; touched = touched })
-      → (length new.slots ≡ count) × (new.freed ≡ []) × (new.placed ≡ placed)
-  slots_told new count placed touched told =
-      let left : Slots = record { count = length (values_of new).slots; freed = new.freed; placed = new.placed; touched = new.touched } in (
-        sym (length-with_each link_value new) ∙ ap (λ (o : Option Slots). (slots_or left o).count) told,
-        ap (λ (o : Option Slots). (slots_or left o).freed) told,
-        ap (λ (o : Option Slots). (slots_or left o).placed) told,
-      )
+  abbrev slots_told : Links Gen T → Slots
+  slots_told a = record { count = length (values_of a).slots; freed = a.freed; placed = a.placed; touched = a.touched }
 
   -- two arenas are the same but for touches, whose entries, interlinks and room are, and whose slots are told alike
-  same_told_alike : (a b : Links Gen T) (count placed t u : ℕ) → entries (values_of a) ≡ entries (values_of b) → shown a ≡ shown b
-      → (seen a).slots ≡ Some (record { count = count; freed = []; placed = placed; touched = t }) → (seen b).slots ≡ Some (record { count = count; freed = []; placed = placed; touched = u })
+  same_told_alike : (a b : Links Gen T) (count most : ℕ) (old : Slots) → entries (values_of a) ≡ entries (values_of b) → shown a ≡ shown b
+      → AreFilledAnew count most old (slots_told a) → AreFilledAnew count most old (slots_told b)
       → a.counter ≡ b.counter → a.capacity ≡ b.capacity → a.stack_capacity ≡ b.stack_capacity → a.maximum ≡ b.maximum → AreSameButTouched a b
-  same_told_alike a b count placed t u links interlinks told_a told_b counter capacity stack_capacity maximum =
-      let left = slots_told a count placed t told_a in
-      let right = slots_told b count placed u told_b in
-      let slots = ext_get_or None a.slots b.slots (left.0 ∙ sym right.0) (λ k inside. same_entry_at (suc k)) in
-      let freed = left.1 ∙ sym right.1 in
-      let totals = left.2 ∙ sym right.2 in
+  same_told_alike a b count most old links interlinks left right counter capacity stack_capacity maximum =
+      let long = sym (length-with_each link_value a) ∙ (left.count ∙ (sym right.count ∙ length-with_each link_value b)) in
+      let slots = ext_get_or None a.slots b.slots long (λ k inside. same_entry_at (suc k)) in
+      let freed = left.freed ∙ sym right.freed in
+      let totals = left.placed ∙ sym right.placed in
       (λ i. record {
         slots = slots i;
         counter = counter i;
@@ -109,10 +97,10 @@ module _ {Gen T : Type 0} where
     compression_same one two =
         let both : Some a.counter ≡ Some b.counter = one.seen.counter ∙ sym two.seen.counter in
         let counter : a.counter ≡ b.counter = cc in
-        same_told_alike a b (length (seen old).entries) (old.placed + length (seen old).entries) _ _
+        same_told_alike a b (length (seen old).entries) _ (slots_told old)
         (same_entries b.counter (entries (values_of a)) (entries (values_of b)) (one.seen.indexes ∙ sym two.seen.indexes) (one.values ∙ sym two.values)
         (of_counter one.seen.generation b.counter (entries (values_of a)) (sym one.seen.is_counter ∙ counter) one.seen.generations) (of_counter two.seen.generation b.counter (entries (values_of b)) (sym two.seen.is_counter) two.seen.generations))
-        (renaming_is_determined _ (shown old) (shown a) (shown b) one.links.renamed two.links.renamed) one.seen.slots.2 two.seen.slots.2 counter
+        (renaming_is_determined _ (shown old) (shown a) (shown b) one.links.renamed two.links.renamed) one.seen.slots two.seen.slots counter
         (one.seen.capacity ∙ sym two.seen.capacity) (one.links.stack_capacity ∙ sym two.links.stack_capacity) (one.seen.maximum ∙ sym two.seen.maximum)
 
     -- .. and so is a canonical one
@@ -125,10 +113,10 @@ module _ {Gen T : Type 0} where
         let order : x.indexes ≡ y.indexes = x.order.items ∙ (ap all_items (no_others (shown old) x.order.chains y.order.chains x.order.are y.order.are) ∙ sym y.order.items) in
         let values = same_values (values_in (entries (values_of a))) (values_in (entries (values_of b)))
         (x.values ∙ (ap (λ (is : List ℕ). map (λ i. option_map (λ (e : Gen × T). e.1) (found i (seen old).entries)) is) order ∙ sym y.values)) in
-        same_told_alike a b (length (seen old).entries) (old.placed + length (seen old).entries) _ _
+        same_told_alike a b (length (seen old).entries) _ (slots_told old)
         (same_entries b.counter (entries (values_of a)) (entries (values_of b)) (x.keys ∙ sym y.keys) values
         (of_counter x.generation b.counter (entries (values_of a)) (sym x.is_counter ∙ counter) x.generations) (of_counter y.generation b.counter (entries (values_of b)) (sym y.is_counter) y.generations))
-        (renaming_is_determined _ (shown old) (shown a) (shown b) (subst (λ (is : List ℕ). IsRenaming (place_in is) (shown old) (shown a)) order x.renamed) y.renamed) x.slots.2 y.slots.2 counter
+        (renaming_is_determined _ (shown old) (shown a) (shown b) (subst (λ (is : List ℕ). IsRenaming (place_in is) (shown old) (shown a)) order x.renamed) y.renamed) x.slots y.slots counter
         (x.capacity ∙ sym y.capacity) (one.stack_capacity ∙ sym two.stack_capacity) (x.maximum ∙ sym y.maximum)
 
 -- what is told of an answer tells what follows from it
@@ -141,6 +129,10 @@ tells_so Done Made overflow InvalidPtr not_made made told = not_made told
 module _ (n : ℕ) where
   abbrev pub touch : {Gen T : Type 0} → Links Gen T → Links Gen T
   touch a = record a { touched = n }
+
+  untouched : (count most : ℕ) (old new : Slots) → AreFilledAnew count most old new → AreFilledAnew count most (record old { touched = n }) (record new { touched = n })
+  untouched count most old new told =
+      record { count = told.count; freed = told.freed; placed = told.placed; touches = 0; few = omega arith; touched = omega arith }
 
   module _ {Gen T : Type 0} (old new : Links Gen T) where
     join_touched : (i j : ℕ) → IsJoin old new i j → IsJoin (touch old) (touch new) i j
@@ -177,9 +169,6 @@ module _ (n : ℕ) where
 
     compression_touched : (first : Gen) (following : Gen → Gen) (reset : Bool) → IsCompression first following reset old new → IsCompression first following reset (touch old) (touch new)
     compression_touched first following reset made =
-        let count = length (seen old).entries in
-        let counted = (λ (m : ℕ). let o : Option Slots = Some (record { count = count; freed = []; placed = old.placed + count; touched = m }) in o) in
-        let none : n ≡ n + 0 = omega arith in
         record {
           seen = record {
             indexes = made.seen.indexes;
@@ -187,7 +176,7 @@ module _ (n : ℕ) where
             generation = made.seen.generation;
             generations = made.seen.generations;
             is_counter = made.seen.is_counter;
-            slots = (0, omega arith, ap (option_map (λ (s : Slots). let t : Slots = record s { touched = n } in t)) made.seen.slots.2 ∙ ap counted none);
+            slots = untouched _ _ (slots_told old) (slots_told new) made.seen.slots;
             capacity = made.seen.capacity;
             maximum = made.seen.maximum;
           };
@@ -197,9 +186,6 @@ module _ (n : ℕ) where
 
     layout_touched : (first : Gen) (following : Gen → Gen) (reset : Bool) → IsCanonicalCompression first following reset old new → IsCanonicalCompression first following reset (touch old) (touch new)
     layout_touched first following reset made =
-        let count = length (seen old).entries in
-        let counted = (λ (m : ℕ). let o : Option Slots = Some (record { count = count; freed = []; placed = old.placed + count; touched = m }) in o) in
-        let none : n ≡ n + 0 = omega arith in
         record {
           layout = record {
             indexes = made.layout.indexes;
@@ -212,7 +198,7 @@ module _ (n : ℕ) where
             generation = made.layout.generation;
             generations = made.layout.generations;
             is_counter = made.layout.is_counter;
-            slots = (0, omega arith, ap (option_map (λ (s : Slots). let t : Slots = record s { touched = n } in t)) made.layout.slots.2 ∙ ap counted none);
+            slots = untouched _ _ (slots_told old) (slots_told new) made.layout.slots;
             capacity = made.layout.capacity;
             maximum = made.layout.maximum;
           };

@@ -53,24 +53,24 @@ module _ {P I Gen W : Type 0} (pointers : PointerKind P I Gen W) where
 
   module _ {T : Type 0} where
     -- a link of the kind may be inserted
-    abbrev pub CanInsert : Links Gen T → InsertKindBody P I → Type 0
-    CanInsert old kind = May pointers.key pointers.number old kind
+    abbrev pub IsAllowed : Links Gen T → InsertKindBody P I → Type 0
+    IsAllowed old kind = May pointers.key pointers.number old kind
 
     -- an insertion that may grow
     abbrev pub InsertStep : Links Gen T → InsertKindBody P I → T → Result P ChainInsertionError → Links Gen T → Type 0
-    InsertStep old kind t (Err failed.FailedLinkRequirement) new = (CanInsert old kind → ⊥) × (new ≡ old)
-    InsertStep old kind t (Err failed.BeyondMaxCapacity) new = CanInsert old kind × Refuses (entry_count old + 1) old refused.BeyondMaxCapacity × (new ≡ old)
-    InsertStep old kind t (Err failed.AllocError) new = CanInsert old kind × Refuses (entry_count old + 1) old refused.AllocError × (new ≡ old)
+    InsertStep old kind t (Err failed.FailedLinkRequirement) new = (IsAllowed old kind → ⊥) × (new ≡ old)
+    InsertStep old kind t (Err failed.BeyondMaxCapacity) new = IsAllowed old kind × Refuses (entry_count old + 1) old refused.BeyondMaxCapacity × (new ≡ old)
+    InsertStep old kind t (Err failed.AllocError) new = IsAllowed old kind × Refuses (entry_count old + 1) old refused.AllocError × (new ≡ old)
     InsertStep old kind t (Err failed.NotWithinCapacity) new = ⊥
-    InsertStep old kind t (Ok p) new = CanInsert old kind × IsAdded pointers.key old (kind_named kind) t p new × HasRoomFor pointers.greatest (entry_count old + 1) old new
+    InsertStep old kind t (Ok p) new = IsAllowed old kind × IsAdded pointers.key old (kind_named kind) t p new × HasRoomFor pointers.greatest (entry_count old + 1) old new
 
     -- .. and one within the capacity
     abbrev pub InsertWithinStep : Links Gen T → InsertKindBody P I → T → Result P ChainInsertionError → Links Gen T → Type 0
-    InsertWithinStep old kind t (Err failed.FailedLinkRequirement) new = (CanInsert old kind → ⊥) × (new ≡ old)
-    InsertWithinStep old kind t (Err failed.NotWithinCapacity) new = CanInsert old kind × (old.capacity ≤ entry_count old) × (new ≡ old)
+    InsertWithinStep old kind t (Err failed.FailedLinkRequirement) new = (IsAllowed old kind → ⊥) × (new ≡ old)
+    InsertWithinStep old kind t (Err failed.NotWithinCapacity) new = IsAllowed old kind × (old.capacity ≤ entry_count old) × (new ≡ old)
     InsertWithinStep old kind t (Err failed.BeyondMaxCapacity) new = ⊥
     InsertWithinStep old kind t (Err failed.AllocError) new = ⊥
-    InsertWithinStep old kind t (Ok p) new = CanInsert old kind × (entry_count old < old.capacity) × IsAdded pointers.key old (kind_named kind) t p new × (new ≡ insert_as old (kind_named kind) t)
+    InsertWithinStep old kind t (Ok p) new = IsAllowed old kind × (entry_count old < old.capacity) × IsAdded pointers.key old (kind_named kind) t p new × (new ≡ insert_as old (kind_named kind) t)
 
     -- the link at an index is gone, and answered as it stood
     pub record IsTaken (old : Links Gen T) (i : ℕ) (g : Gen) (link : HeldLink T) (new : Links Gen T) : Type 0 where

@@ -21,7 +21,7 @@ use std::alloc::Global;
 impl<P: PtrKey, T: Drop, S: SlotStack<Item = ArenaSlot<P, LinkNoGen<P, T>>>> ArenaTrait<P, T>
     for ChainArena<P, T, S> {
     ghost use Rattle.std.specs.Prelude.{◌≡◌};
-    ghost use Rattle.arena_base.specs.Arena.{entry_at, with_capacity_of, IsWithinReach, IsStart, renewed_at, cleared};
+    ghost use Rattle.arena_base.specs.Arena.{entry_at, with_capacity_of, IsWithinReach, IsNewWithRoom, renewed_at, cleared};
     ghost use Rattle.std.specs.Option.{option_map};
     ghost use Rattle.arena_base.specs.Entries.{seen_of, entries};
     ghost use Rattle.arena_base.specs.EntryLaws.{entries_rise, found-entries};
@@ -37,7 +37,7 @@ impl<P: PtrKey, T: Drop, S: SlotStack<Item = ArenaSlot<P, LinkNoGen<P, T>>>> Are
 
     ghost looks = { λ a. a.look };
 
-    ghost starts = { IsStart S.may_reach P.Gen.first S.initial_maximum };
+    ghost starts = { IsNewWithRoom S.may_reach P.Gen.first S.initial_maximum };
 
     ghost grows = { λ n a b. (b ≡ with_capacity_of a b) × (shown b ≡ shown a) × IsWithinReach S.may_reach n a b };
 

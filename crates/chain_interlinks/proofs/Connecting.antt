@@ -13,9 +13,9 @@ use Rattle.chain_links.proofs.Mapping.{IsValidPtr, entry_at-with_each, IsValidPt
 use Rattle.chain_links.proofs.Seeing.{entry_at-seen_links}
 use Rattle.chain_interlinks.proofs.Relinking.{shown-relinked, values_of-relinked, FitsLinks-linked}
 
-pub is_none : {A : Type 0} (o : Option A) → is_some o ≡ false → o ≡ None
-is_none None none = refl
-is_none (Some x) none = cc
+pub none_unless_some : {A : Type 0} (o : Option A) → is_some o ≡ false → o ≡ None
+none_unless_some None none = refl
+none_unless_some (Some x) none = cc
 
 truth_of_not : (b : Bool) → false ≡ not b → IsTrue b
 truth_of_not true h = refl
@@ -50,8 +50,8 @@ module _ {Gen K T : Type 0} (number : K → Option ℕ) where
     (λ yes. record {
       first_valid = valid-seen a p first at_p;
       second_valid = valid-seen a q second at_q;
-      no_next = next_of-seen a p first at_p ∙ is_none (number first.next) no_next;
-      no_prev = prev_of-seen a q second at_q ∙ is_none (number second.prev) (tells ∙ ap not yes);
+      no_next = next_of-seen a p first at_p ∙ none_unless_some (number first.next) no_next;
+      no_prev = prev_of-seen a q second at_q ∙ none_unless_some (number second.prev) (tells ∙ ap not yes);
     }),
     (λ can. truth_of_not b (sym (ap is_some (sym (prev_of-seen a q second at_q) ∙ can.no_prev)) ∙ tells)),
   )

@@ -8,7 +8,7 @@ use Rattle.chain_laws.specs.Exchanges.{exchanged, Exchanges, ExchangesInOrder, E
 use Rattle.chain_laws.proofs.Members.{Has-left, Has-parts, Has-middle, Has-written, Has-or_not}
 use Rattle.chain_laws.proofs.Unique.{chain_valid}
 use Rattle.chain_laws.proofs.Turning.{turned, turned_to, one_ring}
-use Rattle.chain_laws.proofs.Exists.{ChainOf, chain_of, has_chain}
+use Rattle.chain_laws.proofs.Exists.{ChainOf, stands_in, has_chain}
 use Rattle.chain_laws.proofs.Determined.{NamesChains, settled}
 use Rattle.chain_laws.proofs.Exchanging.{exchanged_exchanges}
 
@@ -147,14 +147,14 @@ one_linear_settles old p q xs ne chain has_p has_q = let w = Has-written xs p ha
 
 -- two different links, in one chain or in two
 crossed_apart : (old : Shown) (p q : ℕ) → p ≢ q → ChainOf old p → ChainOf old q → Crossed old p q
-crossed_apart old p q ne (chain_of (linear xs) left has_p) (chain_of d right has_q) = by d right has_q (Has-or_not xs q)
+crossed_apart old p q ne (stands_in (linear xs) left has_p) (stands_in d right has_q) = by d right has_q (Has-or_not xs q)
   where
     by : (d : Chain) → IsChain old d → Has (items d) q → Has xs q ⊎ (Has xs q → ⊥) → Crossed old p q
     by d right has_q (inl h) = one_linear_settles old p q xs ne left has_p h
     by (linear ys) right has_q (inr none) = two_linear_settle old p q xs ys left right has_p has_q none
     by (cyclic ys) right has_q (inr none) =
         taken_in_settles old (Crosses old p q) p q (λ new exchanges. exchanges.in_order) xs ys left right has_p has_q
-crossed_apart old p q ne (chain_of (cyclic xs) left has_p) (chain_of d right has_q) = by d right has_q (Has-or_not xs q)
+crossed_apart old p q ne (stands_in (cyclic xs) left has_p) (stands_in d right has_q) = by d right has_q (Has-or_not xs q)
   where
     by : (d : Chain) → IsChain old d → Has (items d) q → Has xs q ⊎ (Has xs q → ⊥) → Crossed old p q
     by d right has_q (inl h) = one_cyclic_settles old p q xs ne left has_p h
@@ -165,7 +165,7 @@ crossed_apart old p q ne (chain_of (cyclic xs) left has_p) (chain_of d right has
 
 -- one and the same link
 crossed_itself : (old : Shown) (p q : ℕ) → p ≡ q → ChainOf old p → Crossed old p q
-crossed_itself old p q e (chain_of c chain has) =
+crossed_itself old p q e (stands_in c chain has) =
     record {
       left = c;
       right = c;

@@ -9,7 +9,7 @@ use Rattle.chain_laws.proofs.Members.{Has-left, Has-middle, Has-written, Has-or_
 use Rattle.chain_laws.proofs.Standing.{Stands-at, shows_next, shows_prev, shows_both}
 use Rattle.chain_laws.proofs.Unique.{chains_share, not_both, one_linear, one_cyclic}
 use Rattle.chain_laws.proofs.Turning.{turned, turned_to}
-use Rattle.chain_laws.proofs.Exists.{ChainOf, chain_of, has_chain}
+use Rattle.chain_laws.proofs.Exists.{ChainOf, stands_in, has_chain}
 use Rattle.chain_laws.proofs.Joining.{joined_connects}
 use Rattle.chain_laws.proofs.Alone.{with_lone_adds}
 
@@ -67,14 +67,14 @@ settled old one other Holds a b keeps settles m n c = (alike one other m n, alik
 
 -- the chain of an index with none after it is linear and ends there
 pub end_chain : (shown : Shown) (a : ℕ) → ChainOf shown a → next_of shown a ≡ None → (x : List ℕ) × IsChain shown (linear (x ++ a ∷ []))
-end_chain shown a (chain_of (linear xs) chain has) end = let w = Has-written xs a has in by w.0 w.1 w.2
+end_chain shown a (stands_in (linear xs) chain has) end = let w = Has-written xs a has in by w.0 w.1 w.2
   where
     by : (before after : List ℕ) → xs ≡ before ++ a ∷ after → (x : List ℕ) × IsChain shown (linear (x ++ a ∷ []))
     by before [] e = (before, subst (λ (zs : List ℕ). IsChain shown (linear zs)) e chain)
     by before (k ∷ after) e =
         let on = shows_next shown a _ _ (Stands-at shown None before (k ∷ after) None a (subst (λ (zs : List ℕ). Stands shown None zs None) e chain.2)) in
         absurd (cc)
-end_chain shown a (chain_of (cyclic xs) chain has) end =
+end_chain shown a (stands_in (cyclic xs) chain has) end =
     let t = turned_to shown xs a chain has in
     by t.0 t.1
   where
@@ -84,7 +84,7 @@ end_chain shown a (chain_of (cyclic xs) chain has) end =
 
 -- the chain of an index with none before it is linear and starts there
 pub start_chain : (shown : Shown) (b : ℕ) → ChainOf shown b → prev_of shown b ≡ None → (y : List ℕ) × IsChain shown (linear (b ∷ y))
-start_chain shown b (chain_of (linear xs) chain has) start = let w = Has-written xs b has in by w.0 w.1 w.2
+start_chain shown b (stands_in (linear xs) chain has) start = let w = Has-written xs b has in by w.0 w.1 w.2
   where
     by : (before after : List ℕ) → xs ≡ before ++ b ∷ after → (y : List ℕ) × IsChain shown (linear (b ∷ y))
     by [] after e = (after, subst (λ (zs : List ℕ). IsChain shown (linear zs)) e chain)
@@ -93,7 +93,7 @@ start_chain shown b (chain_of (linear xs) chain has) start = let w = Has-written
         let last = last_or-filled (k ∷ before) k (inl refl) in
         let some = last.1 None in
         absurd (cc)
-start_chain shown b (chain_of (cyclic xs) chain has) start =
+start_chain shown b (stands_in (cyclic xs) chain has) start =
     let t = turned_to shown xs b chain has in
     let back = shows_prev shown b _ _ t.1.2.0 in
     let last = last_or-filled (b ∷ t.0) b (inl refl) in
@@ -145,7 +145,7 @@ shows_alike : (left right : Shown) (slots : ℕ) → Agrees left → HasLinksWit
 shows_alike left right slots agrees within same i valid = by (has_chain left slots agrees within i valid)
   where
     by : ChainOf left i → left i ≡ right i
-    by (chain_of c chain has) = IsChain-same left right c i chain ((same c).0 chain) has
+    by (stands_in c chain has) = IsChain-same left right c i chain ((same c).0 chain) has
 
 -- two arenas with the same chains show the same
 pub chains_decide : ChainsDecide

@@ -19,7 +19,7 @@ data Beginning (shown : Shown) (k : ℕ) : Type 0 where
 
 -- the chain of an index
 pub data ChainOf (shown : Shown) (k : ℕ) : Type 0 where
-  chain_of : (c : Chain) → IsChain shown c → Has (items c) k → ChainOf shown k
+  stands_in : (c : Chain) → IsChain shown c → Has (items c) k → ChainOf shown k
 
 module _ (shown : Shown) (slots : ℕ) (agrees : Agrees shown) (within : HasLinksWithin shown slots) where
   -- a list without repetition of valid indexes has no room beyond the slots
@@ -100,7 +100,7 @@ module _ (shown : Shown) (slots : ℕ) (agrees : Agrees shown) (within : HasLink
   has_chain k valid = by_ending (on_from k valid)
     where
       by_beginning : Beginning shown k → ChainOf shown k
-      by_beginning (begins xs s h) = chain_of (linear xs) (Has-filled xs k h, last_no_repetition shown None xs s, s) h
+      by_beginning (begins xs s h) = stands_in (linear xs) (Has-filled xs k h, last_no_repetition shown None xs s, s) h
 
       ring : (after : List ℕ) → Stands shown (prev_of shown k) (k ∷ after) (Some k) → Stands shown (last_or (k ∷ after) None) (k ∷ after) (Some k)
       ring after s = subst (λ (o : Option ℕ). Stands shown o (k ∷ after) (Some k)) (names_last (prev_of shown k) k after k s) s
@@ -108,7 +108,7 @@ module _ (shown : Shown) (slots : ℕ) (agrees : Agrees shown) (within : HasLink
       by_ending : Ending shown (prev_of shown k) k → ChainOf shown k
       by_ending (ends after s) = by_beginning (backward slots (prev_of shown k) k after k s (inl refl) (omega arith))
       by_ending (comes_round after s apart) =
-          chain_of (cyclic (k ∷ after))
+          stands_in (cyclic (k ∷ after))
           (Has-filled (k ∷ after) k (inl refl), apart_no_repetition shown (prev_of shown k) k after (Some k) s apart, ring after s)
           (inl refl)
 
@@ -118,8 +118,8 @@ module _ (shown : Shown) (slots : ℕ) (agrees : Agrees shown) (within : HasLink
 
   -- the chain of an index that is not above the others, written from it where it is cyclic
   from_least : (k : ℕ) → ChainOf shown k → ((c : Chain) (y : ℕ) → IsChain shown c → Has (items c) k → Has (items c) y → k ≤ y) → WrittenFrom k
-  from_least k (chain_of (linear xs) h m) least = written_from (linear xs) h m tt
-  from_least k (chain_of (cyclic xs) h m) least =
+  from_least k (stands_in (linear xs) h m) least = written_from (linear xs) h m tt
+  from_least k (stands_in (cyclic xs) h m) least =
       let t = turned_to shown xs k h m in
       written_from (cyclic (k ∷ t.0)) t.1 (inl refl) (Has-at_most k t.0 (λ y n. least (cyclic (k ∷ t.0)) y t.1 (inl refl) (inr n)))
 

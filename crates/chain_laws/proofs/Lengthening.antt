@@ -7,7 +7,7 @@ use Rattle.chain_laws.proofs.Agreement.{one_some}
 use Rattle.chain_laws.proofs.Members.{Has-left, Has-right, Has-middle, Has-written, Has-or_not, last_or-append}
 use Rattle.chain_laws.proofs.Standing.{prev_valid}
 use Rattle.chain_laws.proofs.Unique.{chain_closed, one_linear}
-use Rattle.chain_laws.proofs.Exists.{ChainOf, chain_of, has_chain}
+use Rattle.chain_laws.proofs.Exists.{ChainOf, stands_in, has_chain}
 use Rattle.chain_laws.proofs.Determined.{chain_elsewhere, end_chain, start_chain}
 use Rattle.chain_laws.proofs.Inserting.{inserted_inserts}
 
@@ -66,14 +66,14 @@ lengthened_list old a b q x y has_a c same stands =
 
 -- between neighbours
 lengthened_pair : (old : Shown) (a b q : ℕ) → prev_of old b ≡ Some a → ChainOf old b → Lengthened old q (Some a) (Some b)
-lengthened_pair old a b q before (chain_of (linear xs) chain has) = let w = Has-written xs b has in by w.0 w.1 w.2
+lengthened_pair old a b q before (stands_in (linear xs) chain has) = let w = Has-written xs b has in by w.0 w.1 w.2
   where
     by : (x y : List ℕ) → xs ≡ x ++ b ∷ y → Lengthened old q (Some a) (Some b)
     by x y e =
         let here : IsChain old (linear (x ++ b ∷ y)) = subst (λ (zs : List ℕ). IsChain old (linear zs)) e chain in
         let has_a : Has (x ++ b ∷ y) a = (chain_closed old (linear (x ++ b ∷ y)) here).back b a (Has-middle x y b) before in
         lengthened_list old a b q x y has_a (linear (x ++ q ∷ b ∷ y)) refl (λ new inserts. (inserts.before b refl (sym before) x y).0 here)
-lengthened_pair old a b q before (chain_of (cyclic xs) chain has) = let w = Has-written xs b has in by w.0 w.1 w.2
+lengthened_pair old a b q before (stands_in (cyclic xs) chain has) = let w = Has-written xs b has in by w.0 w.1 w.2
   where
     by : (x y : List ℕ) → xs ≡ x ++ b ∷ y → Lengthened old q (Some a) (Some b)
     by x y e =

@@ -11,7 +11,7 @@ use Rattle.chain_laws.proofs.Members.{Has-written, Has-middle, Has-filled, last_
 use Rattle.chain_laws.proofs.Standing.{Stands-left, Stands-right, Stands-at, shows_next, shows_prev, next_valid}
 use Rattle.chain_laws.proofs.Unique.{chain_closed}
 use Rattle.chain_laws.proofs.Turning.{turned_to}
-use Rattle.chain_laws.proofs.Exists.{ChainOf, chain_of, has_chain}
+use Rattle.chain_laws.proofs.Exists.{ChainOf, stands_in, has_chain}
 use Rattle.chain_laws.proofs.Gluing.{IsOutside, IsOutside-Some, Stands-next_set, Stands-prev_set, Stands-next_of_last, Stands-prev_of_first, IsChain-linked}
 use Rattle.chain_laws.proofs.Determined.{NamesChains, settled}
 
@@ -92,7 +92,7 @@ parted_ring old a b rest ring before has =
 
 -- they are parts of the chain of a
 parted : (old : Shown) (a b : ℕ) → Agrees old → AreNeighbors old a b → ChainOf old a → Parted old a b
-parted old a b agrees pair (chain_of (linear xs) chain has) = let w = Has-written xs a has in by w.0 w.1 w.2
+parted old a b agrees pair (stands_in (linear xs) chain has) = let w = Has-written xs a has in by w.0 w.1 w.2
   where
     shows : (x rest : List ℕ) → xs ≡ x ++ a ∷ rest → first_or rest None ≡ Some b
     shows x rest e =
@@ -113,7 +113,7 @@ parted old a b agrees pair (chain_of (linear xs) chain has) = let w = Has-writte
           left_stands = λ new cuts. (cuts.two x y here).0;
           right_stands = λ new cuts. (cuts.two x y here).1;
         }
-parted old a b agrees pair (chain_of (cyclic xs) chain has) =
+parted old a b agrees pair (stands_in (cyclic xs) chain has) =
     let closed = chain_closed old (cyclic xs) chain in
     let t = turned_to old xs b chain (closed.forth a b has pair) in
     parted_ring old a b t.0 t.1 ((agrees.both a b).0 pair) ((t.2 a).0 has)

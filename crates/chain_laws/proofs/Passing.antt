@@ -7,7 +7,7 @@ use Rattle.chain_laws.specs.Walks.{IsWalk, there_and_back, round, WalksAhead, Pa
 use Rattle.chain_laws.proofs.Members.{Has-left, Has-right, Has-parts, Has-written, HasNoRepetition-left, HasNoRepetition-right, HasNoRepetition-apart, HasNoRepetition-append, length_bound}
 use Rattle.chain_laws.proofs.Unique.{chain_valid, chains_share}
 use Rattle.chain_laws.proofs.Turning.{turned_to}
-use Rattle.chain_laws.proofs.Exists.{ChainOf, chain_of, has_chain}
+use Rattle.chain_laws.proofs.Exists.{ChainOf, stands_in, has_chain}
 use Rattle.chain_laws.proofs.Walking.{walk_passed}
 
 -- a list the other way round has the same items
@@ -99,7 +99,7 @@ pub has_walk : (shown : Shown) (slots i : ℕ) → Agrees shown → HasLinksWith
 has_walk shown slots i agrees within valid = by (has_chain shown slots agrees within i valid)
   where
     by : ChainOf shown i → (walk : List ℕ) × IsWalk shown i walk
-    by (chain_of c chain has) = walk_of_chain shown i c chain has
+    by (stands_in c chain has) = walk_of_chain shown i c chain has
 
 -- a walker passes the walk
 pub walks_ahead : WalksAhead

@@ -9,7 +9,7 @@ use Rattle.chain_laws.proofs.Agreement.{if_same, if_other}
 use Rattle.chain_laws.proofs.Members.{Has-written, Has-middle, Has-or_not, Has-filled, filled-Has}
 use Rattle.chain_laws.proofs.Unique.{chain_valid, chain_filled, chains_share}
 use Rattle.chain_laws.proofs.Turning.{turned, turned_to, one_turned}
-use Rattle.chain_laws.proofs.Exists.{ChainOf, chain_of, has_chain}
+use Rattle.chain_laws.proofs.Exists.{ChainOf, stands_in, has_chain}
 use Rattle.chain_laws.proofs.Determined.{chain_elsewhere, pairs_decide}
 use Rattle.chain_laws.proofs.RemovalPairs.{removed_agrees, removed_in_pairs}
 use Rattle.chain_laws.proofs.Removing.{removed_removes}
@@ -89,7 +89,7 @@ removed_alike old left right slots i agrees within l r c chain =
     by some.0 some.1 valid.1 (has_chain old slots agrees within some.0 valid.0)
   where
     by : (j : ℕ) → Has (items c) j → j ≢ i → ChainOf old j → IsChain right c
-    by j h ne (chain_of d old_chain has) =
+    by j h ne (stands_in d old_chain has) =
         let has_j = chain_without-Has d i j ne has in
         let filled = Has-filled (items (chain_without d i)) j has_j in
         chain_elsewhere left right c (chain_without d i) j chain (removes_shortens old left i l d old_chain filled) (removes_shortens old right i r d old_chain filled) h has_j
@@ -150,7 +150,7 @@ longer_chain old new slots i agrees within removes c chain =
     not_i h = ((removes.links i).0 (chain_valid new c i chain h)).1 refl
 
     by : (j : ℕ) → Has (items c) j → j ≢ i → ChainOf old j → (e : Chain) × IsChain old e × (c ≡ chain_without e i)
-    by j h ne (chain_of d old_chain has) = by_i (Has-or_not (items d) i)
+    by j h ne (stands_in d old_chain has) = by_i (Has-or_not (items d) i)
       where
         by_i : Has (items d) i ⊎ (Has (items d) i → ⊥) → (e : Chain) × IsChain old e × (c ≡ chain_without e i)
         by_i (inl has_i) = longer_of old new i j removes ne d c old_chain chain has h has_i

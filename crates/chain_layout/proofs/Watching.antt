@@ -10,8 +10,9 @@ use Rattle.chain_laws.specs.Chains.{Shown, all_items}
 use Rattle.chain_laws.proofs.Partitions.{no_others}
 use Rattle.arena_base.specs.Entries.{Seen, found, index_of}
 use Rattle.arena_base.specs.Compressing.{values_in}
+use Rattle.arena_base.proofs.Folding.{folds_seen}
 use Rattle.chain_links.specs.ChainArena.{ptr_at}
-use Rattle.chain_layout.specs.Layouts.{IsPairListed, ShowsAll, ShowsLayout, AreAllMoves}
+use Rattle.chain_layout.specs.Layouts.{IsPairListed, ShowsAll, ShowsLayout, AreAllMoves, IsShownMove}
 use Rattle.chain_links.specs.CanonicalLayouts.{IsCanonicalLayout}
 
 module _ {P : Type 0} where
@@ -30,11 +31,6 @@ module _ {P : Type 0} where
       let long : vec_len (list folds.0) ≡ vec_len (list old) + 1 = one.1 in
       let more : vec_capacity (list old) ≤ vec_capacity (list folds.0) = one.2 in
       all_listed list moves folds.0 new (omega arith) folds.2 ∙ (ap (λ (xs : List (P × P)). xs ++ moves) one.0 ∙ append_assoc (list old).items (m ∷ []) moves)
-
--- steps seen through a part are steps of the part
-folds_seen : {V F X : Type 0} (see : V → F) (R : F → X → F → Type 0) (xs : List X) (f last : V) → FoldsTo (λ s x t. R (see s) x (see t)) f xs last → FoldsTo R (see f) xs (see last)
-folds_seen see R [] f last folds = ap see folds
-folds_seen see R (x ∷ xs) f last folds = (see folds.0, folds.1, folds_seen see R xs folds.0 last folds.2)
 
 -- as many moves are told as there are links
 module _ {P Gen T : Type 0} (key : P → ℕ × Gen) (first : Gen) (following : Gen → Gen) where
@@ -60,7 +56,7 @@ module _ {V P Gen T : Type 0} (key : P → ℕ × Gen) (old : Seen Gen T) (links
   shown_to g see all = record {
     moves = all.shows.moves;
     last = see last;
-    in_turn = folds_seen see (λ s (m : P × P) t. Called g s (m.0, (m.1, tt)) tt t) all.shows.moves f last all.shows.in_turn;
+    in_turn = folds_seen see (λ s (m : P × P) t. IsShownMove g (see s) m (see t)) (IsShownMove g) (λ s m t called. called) all.shows.moves f last all.shows.in_turn;
     all = moves_seen all;
   }
 

@@ -12,7 +12,27 @@ use Rattle.arena_base.specs.Entries.{Seen, found}
 use Rattle.arena_base.specs.Closing.{gathered}
 use Rattle.chain_links.specs.ChainArena.{LinkSeen, shown, entry, values_of, ptr_at}
 
--- What sees links that get other pointers, in turn, each by the one that it had and the one that it gets.
+-- the pointers that all links had and those that they have, in their least-index order: the indexes from 1 on, with a
+-- generation
+pub record AreAllMoves {P Gen T : Type 0} (key : P → ℕ × Gen) (old : Seen Gen T) (links : Shown) (generation : Gen) (moves : List (P × P)) : Type 0 where
+  pub indexes : List ℕ
+  pub order : IsLeastIndexOrder links indexes
+  pub from : map (λ m. Some (key m.0)) moves ≡ map (ptr_at (λ i. found i old.entries)) indexes
+  pub to : map (λ m. key m.1) moves ≡ map (λ k. (k, generation)) (range_with_len 1 (length indexes))
+
+-- a call of a closure, with the pointer that a link had and the one that it has
+abbrev pub IsShownMove : {F P : Type 0} → Mut F (P × (P × Unit {0})) (Unit {0}) → F → P × P → F → Type 0
+IsShownMove g f move next = Called g f (move.0, (move.1, tt)) tt next
+
+-- a closure sees all links, in their least-index order, each by the pointer that it had and the one that it has
+pub record ShowsLayout {F P Gen T : Type 0} (g : Mut F (P × (P × Unit {0})) (Unit {0})) (key : P → ℕ × Gen) (old : Seen Gen T) (links : Shown) (generation : Gen) (f : F) : Type 0 where
+  pub moves : List (P × P)
+  pub last : F
+  pub in_turn : FoldsTo (IsShownMove g) f moves last
+  pub all : AreAllMoves key old links generation moves
+
+-- What the passes say of one another: what sees links that get other pointers, in turn, each by the one that it had and the one
+-- that it gets.
 module _ {F P Gen : Type 0} (g : F → P → P → F → Type 0) (key : P → ℕ × Gen) where
   -- it sees the links at some indexes, each by the pointer that it had and the one that it gets: the next index from n on,
   -- with a generation
@@ -39,21 +59,6 @@ module _ {F P Gen : Type 0} (g : F → P → P → F → Type 0) (key : P → �
     pub few : touches ≤ 4 * length old.slots + 12 * length indexes
     pub arena : values_of new ≡ record (gathered (values_of old) values) { touched = old.touched + touches }
     pub shows : ShowsMoves (ptr_at (entry old)) old.counter 1 f indexes last
-
--- the pointers that all links had and those that they have, in their least-index order: the indexes from 1 on, with a
--- generation
-pub record AreAllMoves {P Gen T : Type 0} (key : P → ℕ × Gen) (old : Seen Gen T) (links : Shown) (generation : Gen) (moves : List (P × P)) : Type 0 where
-  pub indexes : List ℕ
-  pub order : IsLeastIndexOrder links indexes
-  pub from : map (λ m. Some (key m.0)) moves ≡ map (ptr_at (λ i. found i old.entries)) indexes
-  pub to : map (λ m. key m.1) moves ≡ map (λ k. (k, generation)) (range_with_len 1 (length indexes))
-
--- a closure sees all links, in their least-index order, each by the pointer that it had and the one that it has
-pub record ShowsLayout {F P Gen T : Type 0} (g : Mut F (P × (P × Unit {0})) (Unit {0})) (key : P → ℕ × Gen) (old : Seen Gen T) (links : Shown) (generation : Gen) (f : F) : Type 0 where
-  pub moves : List (P × P)
-  pub last : F
-  pub in_turn : FoldsTo (λ s m t. Called g s (m.0, (m.1, tt)) tt t) f moves last
-  pub all : AreAllMoves key old links generation moves
 
 -- a pair is listed behind others, where there is room
 pub record IsPairListed {P : Type 0} (old : Vec (P × P) Global) (from to : P) (new : Vec (P × P) Global) : Type 0 where

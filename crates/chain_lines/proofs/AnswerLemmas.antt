@@ -45,18 +45,18 @@ module _ {T E : Type 0} where
 abbrev pub Passed : Type 0
 Passed = ℕ × (Gen32 × LinkSeen ℕ)
 
-abbrev pub is_none : List Passed → Bool
-is_none [] = true
-is_none (e ∷ links) = false
+abbrev pub none_passed : List Passed → Bool
+none_passed [] = true
+none_passed (e ∷ links) = false
 
 -- the links passed are in the text, and the others are left
 pub record IsWalked (before text : List ℕ) (first : Bool) (all left : List Passed) : Type 0 where
   pub passed : List Passed
   pub walk : all ≡ passed ++ left
   pub written : text ≡ before ++ walk_text passed
-  pub start : first ≡ is_none passed
+  pub start : first ≡ none_passed passed
 
-pub walk_text-more : (passed : List Passed) (e : Passed) → walk_text (passed ++ e ∷ []) ≡ cond (is_none passed) (link_text e) (walk_text passed ++ 32 ∷ link_text e)
+pub walk_text-more : (passed : List Passed) (e : Passed) → walk_text (passed ++ e ∷ []) ≡ cond (none_passed passed) (link_text e) (walk_text passed ++ 32 ∷ link_text e)
 walk_text-more [] e = refl
 walk_text-more (d ∷ []) e = refl
 walk_text-more (d ∷ f ∷ passed) e =
@@ -67,10 +67,10 @@ module _ (before text joined more : List ℕ) (first : Bool) (all left after : L
   passes : all ≡ (walked.passed ++ e ∷ []) ++ after
   passes = walked.walk ∙ ap (λ l. walked.passed ++ l) next ∙ sym (append_assoc walked.passed (e ∷ []) after)
 
-  some_passed : false ≡ is_none (walked.passed ++ e ∷ [])
+  some_passed : false ≡ none_passed (walked.passed ++ e ∷ [])
   some_passed = by_list walked.passed
     where
-      by_list : (passed : List Passed) → false ≡ is_none (passed ++ e ∷ [])
+      by_list : (passed : List Passed) → false ≡ none_passed (passed ++ e ∷ [])
       by_list [] = refl
       by_list (d ∷ passed) = refl
 
@@ -83,7 +83,7 @@ module _ (before text joined more : List ℕ) (first : Bool) (all left after : L
     start = some_passed;
   }
     where
-      by_list : (passed : List Passed) → true ≡ is_none passed → text ≡ before ++ walk_text passed → more ≡ before ++ walk_text (passed ++ e ∷ [])
+      by_list : (passed : List Passed) → true ≡ none_passed passed → text ≡ before ++ walk_text passed → more ≡ before ++ walk_text (passed ++ e ∷ [])
       by_list [] none written = link ∙ ap (λ l. l ++ link_text e) (same ∙ written ∙ append-nil before)
       by_list (d ∷ passed) none written = absurd (false≢true (sym none))
 
@@ -96,7 +96,7 @@ module _ (before text joined more : List ℕ) (first : Bool) (all left after : L
     start = some_passed;
   }
     where
-      by_list : (passed : List Passed) → false ≡ is_none passed → text ≡ before ++ walk_text passed → more ≡ before ++ walk_text (passed ++ e ∷ [])
+      by_list : (passed : List Passed) → false ≡ none_passed passed → text ≡ before ++ walk_text passed → more ≡ before ++ walk_text (passed ++ e ∷ [])
       by_list [] some written = absurd (false≢true some)
       by_list (d ∷ passed) some written =
           link ∙ ap (λ l. l ++ link_text e) (spaced ∙ ap (λ l. l ++ 32 ∷ []) written)

@@ -1,19 +1,17 @@
 -- A canonical compression: each chain comes to one run of indexes, the chains one after another.
-use Rattle.std.specs.Prelude.{◌≡◌, ℕ, ◌+◌, ◌*◌, ◌≤◌, Bool, List, [], map, length, All, Option, None, Some, IfSome}
+use Rattle.std.specs.Prelude.{◌≡◌, ℕ, ◌+◌, ◌*◌, Bool, List, map, length, All, Option, Some, IfSome}
 use Rattle.std.specs.Option.{option_map}
 use Rattle.std.specs.List.{range_with_len}
 use Rattle.chain_laws.specs.Chains.{Shown, AreChains}
 use Rattle.chain_laws.specs.Renamings.{IsRenaming}
 use Rattle.chain_laws.specs.Arrangements.{place_in, in_runs, IsLeastIndexOrder}
 use Rattle.arena_base.specs.Entries.{Seen, Slots, found, index_of}
-use Rattle.arena_base.specs.Compressing.{counter_after_compression, values_in}
+use Rattle.arena_base.specs.Compressing.{counter_after_compression, values_in, AreFilledAnew, WhereTold}
 
 -- so many links are in exactly as many slots, none is freed, each was placed once, and there were at most four times as many
 -- touches as slots and twelve times as many as links
 abbrev pub AreLaid : ℕ → Option Slots → Option Slots → Type 0
-AreLaid count None new = new ≡ None
-AreLaid count (Some old) new = (touches : ℕ) × (touches ≤ 4 * old.count + 12 * count)
-    × (new ≡ Some (record { count = count; freed = []; placed = old.placed + count; touched = old.touched + touches }))
+AreLaid count = WhereTold (λ old. AreFilledAnew count (4 * old.count + 12 * count) old)
 
 -- All links are carried by one bijection onto the indexes from 1 to their number, each chain to one run in `next` order, a
 -- linear one from its start. Each link keeps its value and its neighbors. All have one generation, which is the counter where

@@ -3,7 +3,6 @@ mod canonical;
 mod copies;
 mod drains;
 mod entries;
-mod example;
 mod handed_back;
 mod indexing;
 mod iterators;
@@ -15,6 +14,8 @@ mod scripts;
 mod steps;
 mod texts;
 mod values;
+
+ghost use Rattle.std.specs.Iterator.{IsFinite};
 
 use arena_base::{ArenaSlot, ArenaTrait};
 use arena_ptr::{Gen32, Inx32, LimitStack, LimitedStack, Ptr, SetMaxCapacity, SlotStack, ToolPtr};
@@ -45,6 +46,28 @@ fn same<T: PartialEq + Debug + Drop>(rt: &impl Abort, what: &str, got: T, want: 
 // An answer as `Debug` writes it.
 fn text<T: Debug + Drop>(rt: &impl Abort, alloc: Global, answer: T) -> String {
     format!(in alloc; "{answer:?}").expect(rt, "memory")
+}
+
+// All items of an iterator.
+fn all_of<T: Drop, I: Iterator<Item = T> + Drop>(
+    rt: &impl Abort,
+    alloc: Global,
+    items: I,
+) -> Vec<T>
+    requires { I.can_next items × IsFinite (I.remaining items) }
+{
+    items.collect(alloc).expect(rt, "memory")
+}
+
+// .. as `Debug` writes them.
+fn text_of_all<T: Debug + Drop, I: Iterator<Item = T> + Drop>(
+    rt: &impl Abort,
+    alloc: Global,
+    items: I,
+) -> String
+    requires { I.can_next items × IsFinite (I.remaining items) }
+{
+    text(rt, alloc, all_of(rt, alloc, items))
 }
 
 // An index.

@@ -1,5 +1,5 @@
 -- What the plain slow program sees: rows of interlinks, and lists of items that are linear or cyclic chains.
-use Rattle.std.specs.Prelude.{ℕ, zero, suc, List, Bool, true, false, Option, None, slice_index_or, ◌++◌, reverse, take, drop}
+use Rattle.std.specs.Prelude.{ℕ, zero, suc, List, Option, None, slice_index_or, ◌++◌, reverse, take, drop}
 use Rattle.std.specs.Option.{option_map}
 use Rattle.chain_laws.specs.Chains.{Shown, Interlinks, Chain, linear, cyclic}
 
@@ -18,11 +18,6 @@ row_in rows (suc k) = slice_index_or rows k None
 -- what the rows show
 abbrev pub shown_by : List Row → Shown
 shown_by rows i = option_map row_interlinks (row_in rows i)
-
--- the chain of these items
-abbrev pub chain_of : Bool → List ℕ → Chain
-chain_of true xs = cyclic xs
-chain_of false xs = linear xs
 
 -- the walk from the item at k
 abbrev pub walk_at : Chain → ℕ → List ℕ

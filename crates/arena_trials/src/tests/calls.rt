@@ -89,10 +89,12 @@ const EACH: [Script; 3] = [
     ),
 ];
 
+// One constant, since each reference that a body makes costs its proof more than all that it does with it.
+const TABLES: [&[Script]; 5] = [&EACH, &NEXTS, &COMPACTORS, &COMPRESSIONS, &COPY];
+
 // Each script on an arena of this type.
 fn check_scripts<A: Answers + Drop>(rt: &impl Abort, alloc: Global) {
-    let tables: [&[Script]; 5] = [&EACH, &NEXTS, &COMPACTORS, &COMPRESSIONS, &COPY];
-    for table in tables {
+    for table in &TABLES {
         plays::<A>(rt, alloc, table);
     }
 }

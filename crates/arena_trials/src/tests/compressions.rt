@@ -11,7 +11,7 @@ pub(super) const COMPACTORS: [Script; 4] = [
             (Call::Remove(1, 2), "Success(10)"),
             (
                 Call::Move(3, 1, 3),
-                "(3, true, Work { placed: 1, touched: 1 })",
+                "((3, true), Work { placed: 1, touched: 1 })",
             ),
             (Call::Held, "[(1.3, 30), (2.2, 20)]"),
             (Call::Get(1, 3), "Some(30)"),

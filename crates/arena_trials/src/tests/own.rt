@@ -1,9 +1,12 @@
 // The calls that an arena has of its own, as rows of tables. What they need knows no type of pointers and of slots.
+ghost use Rattle.std.specs.Prelude.{◌≡◌, ◌≤◌, ◌↔◌, IsTrue, IsSome};
+ghost use Rattle.arena_base.specs.Arena.{slot_at};
+
 use crate::tests::copies::copied_hole;
 use crate::tests::entries::{dropped_place, enter};
 use crate::tests::pointers::Numbered;
 use crate::tests::scripts::{Answers, Call, overwritten, trait_answer};
-use crate::tests::tools::{Slot, index, text};
+use crate::tests::tools::{Slot, index, text, text_of_all};
 use arena_base::{Arena, ArenaSlot, ArenaTrait, Compactor, SlotAccess, Work};
 use arena_ptr::{InxKey, PtrKey, SlotStack};
 use std::alloc::Global;
@@ -40,8 +43,7 @@ fn iterated<P: PtrKey + Debug, S: SlotStack<Item = Slot<P>>>(
     alloc: Global,
     arena: &Arena<P, u32, S>,
 ) -> String {
-    let entries: Vec<(P, &u32)> = arena.into_iter().collect(alloc).expect(rt, "memory");
-    text(rt, alloc, entries)
+    text_of_all(rt, alloc, arena.into_iter())
 }
 
 // What is taken out of an arena that is used up. A new one is left.
@@ -51,27 +53,53 @@ fn drained<P: PtrKey + Debug, S: SlotStack<Item = Slot<P>>>(
     arena: &mut Arena<P, u32, S>,
 ) -> String {
     let old = mem::replace(arena, Arena::new(alloc));
-    let entries: Vec<(P, u32)> = old.into_iter().collect(alloc).expect(rt, "memory");
-    text(rt, alloc, entries)
+    text_of_all(rt, alloc, old.into_iter())
 }
 
-// Moves an entry within the slots, and tells whether one stands there.
+// Whether an index is one of so many slots.
+fn is_within<I: InxKey>(i: I, slots: usize) -> bool
+    ensures { IsTrue result ↔ (I.number i ≤ slots) }
+{
+    match i.try_into_usize() {
+        Some(n) => n <= slots,
+        None => unreachable!(),
+    }
+}
+
+// Whether an entry stands at an index of slots that are looked into.
+fn stands<P: PtrKey, T: Drop, C: SlotAccess<P, T>>(slots: &mut C, i: P::Inx) -> bool
+    ensures held { C.held slots.new ≡ C.held slots.old }
+    ensures some { IsTrue result ↔ IsSome (slot_at (C.held slots.old).slots (P.Inx.number i)) }
+{
+    slots.peek(i).is_some()
+}
+
+// Moves an entry within so many slots, and tells whether one stands there.
 fn moves<P: PtrKey, T: Drop, S: SlotStack<Item = ArenaSlot<P, T>>>(
     compactor: &mut Compactor<'_, P, T, S>,
     from: P::Inx,
     to: P::Inx,
     generation: P::Gen,
-) -> bool {
-    let count = compactor.slots();
-    match (from.try_into_usize(), to.try_into_usize()) {
-        (Some(source), Some(target)) if source <= count && target <= count => {}
-        _ => return false,
-    }
-    if compactor.peek(from).is_none() {
-        return false;
+) -> (usize, bool) {
+    let slots = compactor.slots();
+    if !is_within(from, slots) || !is_within(to, slots) || !stands(compactor, from) {
+        return (slots, false);
     }
     compactor.place(from, to, generation);
-    true
+    (slots, true)
+}
+
+// A compactor does nothing, and is dropped or forgotten.
+fn compactor_dropped<P: PtrKey, T: Drop, S: SlotStack<Item = ArenaSlot<P, T>>>(
+    arena: &mut Arena<P, T, S>,
+) {
+    drop(arena.compactor());
+}
+
+fn compactor_forgotten<P: PtrKey, T: Drop, S: SlotStack<Item = ArenaSlot<P, T>>>(
+    arena: &mut Arena<P, T, S>,
+) {
+    mem::forget(arena.compactor());
 }
 
 // The number of slots, whether an entry was moved, and what was counted.
@@ -80,16 +108,15 @@ fn moved<P: PtrKey, T: Drop, S: SlotStack<Item = ArenaSlot<P, T>>>(
     from: P::Inx,
     to: P::Inx,
     generation: P::Gen,
-) -> (usize, bool, Work) {
+) -> ((usize, bool), Work) {
     let mut compactor = arena.compactor();
-    let slots = compactor.slots();
     let done = moves(&mut compactor, from, to, generation);
-    (slots, done, compactor.finish())
+    (done, compactor.finish())
 }
 
 // The value that a compactor shows at an index.
-fn peeked<P: PtrKey, S: SlotStack<Item = Slot<P>>>(
-    compactor: &mut Compactor<'_, P, u32, S>,
+fn peeked<P: PtrKey, C: SlotAccess<P, u32>>(
+    compactor: &mut C,
     i: P::Inx,
 ) -> Option<u32> {
     match compactor.peek(i) {
@@ -144,7 +171,7 @@ fn own_answer<P: Numbered, S: SlotStack<Item = Slot<P>>>(
     }
 }
 
-// .. on all of its entries, or by a compactor, ...
+// .. on all of its entries, ...
 fn whole_answer<P: Numbered, S: SlotStack<Item = Slot<P>>>(
     rt: &impl Abort,
     alloc: Global,
@@ -154,17 +181,28 @@ fn whole_answer<P: Numbered, S: SlotStack<Item = Slot<P>>>(
     match call {
         Call::Entries => iterated(rt, alloc, arena),
         Call::Drain => drained(rt, alloc, arena),
+        Call::CopyHole => text(rt, alloc, copied_hole(rt, alloc, arena)),
+        other => compactor_answer(rt, alloc, arena, other),
+    }
+}
+
+// .. by a compactor, ...
+fn compactor_answer<P: Numbered, S: SlotStack<Item = Slot<P>>>(
+    rt: &impl Abort,
+    alloc: Global,
+    arena: &mut Arena<P, u32, S>,
+    call: Call,
+) -> String {
+    match call {
         Call::Move(from, to, g) => {
-            let (from, to) = (index(rt, from), index(rt, to));
-            text(rt, alloc, moved(arena, from, to, P::generation_of(rt, g)))
+            let generation = P::generation_of(rt, g);
+            text(rt, alloc, moved(arena, index(rt, from), index(rt, to), generation))
         }
         Call::Rewrite(i, other, value) => {
-            let (i, other) = (index(rt, i), index(rt, other));
-            text(rt, alloc, rewritten(arena, i, other, value))
+            text(rt, alloc, rewritten(arena, index(rt, i), index(rt, other), value))
         }
-        Call::DropCompactor => text(rt, alloc, drop(arena.compactor())),
-        Call::ForgetCompactor => text(rt, alloc, mem::forget(arena.compactor())),
-        Call::CopyHole => text(rt, alloc, copied_hole(rt, alloc, arena)),
+        Call::DropCompactor => text(rt, alloc, compactor_dropped(arena)),
+        Call::ForgetCompactor => text(rt, alloc, compactor_forgotten(arena)),
         other => given_answer(rt, alloc, arena, other),
     }
 }

@@ -1,4 +1,6 @@
 // What the tests share: one comparison, texts of answers, and what has to be there.
+ghost use Rattle.std.specs.Iterator.{IsFinite};
+
 use crate::tests::pointers::Numbered;
 use arena_base::ArenaSlot;
 use arena_ptr::{Gen8, Gen32, Gen64, Inx8, Inx32, Inx64, InxKey};
@@ -15,6 +17,18 @@ pub(super) fn same<T: PartialEq + Debug + Drop>(rt: &impl Abort, what: &str, got
 // An answer as `Debug` writes it.
 pub(super) fn text<T: Debug + Drop>(rt: &impl Abort, alloc: Global, answer: T) -> String {
     format!(in alloc; "{answer:?}").expect(rt, "memory")
+}
+
+// All items of an iterator, as `Debug` writes them.
+pub(super) fn text_of_all<T: Debug + Drop, I: Iterator<Item = T> + Drop>(
+    rt: &impl Abort,
+    alloc: Global,
+    items: I,
+) -> String
+    requires { I.can_next items × IsFinite (I.remaining items) }
+{
+    let all: Vec<T> = items.collect(alloc).expect(rt, "memory");
+    text(rt, alloc, all)
 }
 
 pub(super) fn inx8(rt: &impl Abort, n: u8) -> Inx8 {

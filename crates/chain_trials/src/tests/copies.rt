@@ -2,7 +2,7 @@
 
 use super::scripts::{Do, Kind, Line, Script, plays_all, plays_on};
 use super::steps::{SlotOf, Step, after};
-use super::{Chains, ChainsOver, LimitedChains, Slot, at, same, text};
+use super::{Chains, ChainsOver, LimitedChains, Slot, all_of, at, same, text};
 use arena_base::{Arena, ArenaSlot, ArenaTrait};
 use arena_ptr::{
     HeapStack, LimitStack, LimitedStack, ReallocationError, SetMaxCapacity, SlotStack, ToolPtr,
@@ -83,7 +83,7 @@ pub(super) fn copied_to_plain<
     let mut target: Arena<ToolPtr, u32, R> = Arena::new(alloc);
     let told = copied_plain(rt, alloc, source, &mut target);
     let next = target.insert_reallocating(9);
-    let entries: Vec<(ToolPtr, &u32)> = (&target).into_iter().collect(alloc).expect(rt, "memory");
+    let entries = all_of(rt, alloc, (&target).into_iter());
     text(rt, alloc, (told, next, entries))
 }
 

@@ -8,7 +8,7 @@ ghost use Rattle.arena_base.specs.Entries.{entries};
 ghost use Rattle.chain_links.specs.ChainArena.{entry, values_of};
 ghost use Rattle.chain_arena.specs.Drains.{walk_left, without_each, CountsUp};
 
-use super::{ChainsOver, Slot, text};
+use super::{ChainsOver, Slot, text, text_of_all};
 use arena_ptr::{InvalidationOption, SlotStack, ToolPtr};
 use chain_arena::LinkNoGen;
 use std::alloc::Global;
@@ -51,10 +51,7 @@ pub(super) fn drained_chain<S: SlotStack<Item = Slot>>(
     p: ToolPtr,
 ) -> String {
     match arena.drain_chain(p) {
-        Some(links) => {
-            let all: Vec<Gone> = links.collect(alloc).expect(rt, "memory");
-            text(rt, alloc, all)
-        }
+        Some(links) => text_of_all(rt, alloc, links),
         None => text(rt, alloc, None::<u32>),
     }
 }
@@ -79,8 +76,7 @@ pub(super) fn drained<S: SlotStack<Item = Slot>>(
     alloc: Global,
     arena: &mut ChainsOver<S>,
 ) -> String {
-    let all: Vec<ValueGone> = arena.drain().collect(alloc).expect(rt, "memory");
-    text(rt, alloc, all)
+    text_of_all(rt, alloc, arena.drain())
 }
 
 // The first link that it yields, whereupon it is dropped or forgotten. None is left if it is dropped.

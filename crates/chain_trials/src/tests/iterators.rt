@@ -5,16 +5,12 @@ ghost use Rattle.arena_ptr.specs.Indexes.{number_of_inx32};
 ghost use Rattle.arena_base.specs.Arena.{entry_count};
 ghost use Rattle.arena_base.specs.Entries.{entries, index_of};
 
-use super::{ChainsOver, Slot, text};
-use arena_base::{ArenaTrait, Iter};
+use super::{ChainsOver, Slot, text, text_of_all};
+use arena_base::ArenaTrait;
 use arena_ptr::{Inx32, Ptr, SlotStack, ToolPtr};
-use chain_arena::LinkNoGen;
 use std::alloc::{AllocError, Global};
 use std::mem;
 use std::process::Abort;
-
-// All links of an arena, one after another.
-type Links<'a, S> = Iter<'a, ToolPtr, LinkNoGen<ToolPtr, u32>, S>;
 
 // How many links there are, counted one by one.
 fn count_links<S: SlotStack<Item = Slot>>(arena: &ChainsOver<S>) -> usize
@@ -55,18 +51,7 @@ pub(super) fn values<S: SlotStack<Item = Slot>>(
     alloc: Global,
     arena: &ChainsOver<S>,
 ) -> String {
-    let all: Vec<(ToolPtr, &u32)> = arena.iter().collect(alloc).expect(rt, "memory");
-    text(rt, alloc, all)
-}
-
-// All that an iterator over links yields.
-fn listed<S: SlotStack<Item = Slot>>(
-    rt: &impl Abort,
-    alloc: Global,
-    links: Links<'_, S>,
-) -> String {
-    let all: Vec<(ToolPtr, &LinkNoGen<ToolPtr, u32>)> = links.collect(alloc).expect(rt, "memory");
-    text(rt, alloc, all)
+    text_of_all(rt, alloc, arena.iter())
 }
 
 // Each link with its interlinks, by the call, over the arena itself, and of one that is used up, which leaves a new one.
@@ -75,7 +60,7 @@ pub(super) fn links<S: SlotStack<Item = Slot>>(
     alloc: Global,
     arena: &ChainsOver<S>,
 ) -> String {
-    listed(rt, alloc, arena.iter_link_no_gen())
+    text_of_all(rt, alloc, arena.iter_link_no_gen())
 }
 
 pub(super) fn links_by_reference<S: SlotStack<Item = Slot>>(
@@ -83,7 +68,7 @@ pub(super) fn links_by_reference<S: SlotStack<Item = Slot>>(
     alloc: Global,
     arena: &ChainsOver<S>,
 ) -> String {
-    listed(rt, alloc, arena.into_iter())
+    text_of_all(rt, alloc, arena.into_iter())
 }
 
 pub(super) fn links_used_up<S: SlotStack<Item = Slot>>(
@@ -91,9 +76,8 @@ pub(super) fn links_used_up<S: SlotStack<Item = Slot>>(
     alloc: Global,
     arena: &mut ChainsOver<S>,
 ) -> String {
-    let links = mem::replace(arena, ChainsOver::<S>::new(alloc)).into_iter();
-    let all: Vec<(ToolPtr, LinkNoGen<ToolPtr, u32>)> = links.collect(alloc).expect(rt, "memory");
-    text(rt, alloc, all)
+    let links = mem::replace(arena, ChainsOver::<S>::new(alloc));
+    text_of_all(rt, alloc, links.into_iter())
 }
 
 // The links that a walk from a pointer yields, each with its pointer, which is that of now.
@@ -104,12 +88,7 @@ pub(super) fn walk<S: SlotStack<Item = Slot>>(
     p: ToolPtr,
 ) -> String {
     match arena.iter_chain(p) {
-        Some(links) => {
-            let all: Vec<(ToolPtr, &LinkNoGen<ToolPtr, u32>)> = links
-                .collect(alloc)
-                .expect(rt, "memory");
-            text(rt, alloc, all)
-        }
+        Some(links) => text_of_all(rt, alloc, links),
         None => text(rt, alloc, None::<u32>),
     }
 }

@@ -18,7 +18,27 @@ const ROUND: [At; 3] = [(1, 2), (2, 3), (3, 1)];
 const TWO_LEFT: &str = "[(P0[1](2), {(start), 3} 1), (P0[3](2), {1, (end)} 3)]";
 
 // Walks: from a link on to the end, and then from the link before it back to the start; once round a ring.
-const WALKS: [Script; 6] = [
+const WALKS: [Script; 7] = [
+    (
+        "a row of three, of which the middle one is taken out again",
+        0,
+        &[],
+        &[
+            (Do::Insert(Kind::Disconnected, 10), "Ok(P0[1](2))"),
+            (Do::Insert(Kind::ChainEnd((1, 2)), 30), "Ok(P0[2](2))"),
+            (Do::Insert(Kind::NextTo((1, 2)), 20), "Ok(P0[3](2))"),
+            (
+                Do::Walk((1, 2)),
+                "[(P0[1](2), {(start), 3} 10), (P0[3](2), {1, 2} 20), (P0[2](2), {3, (end)} 30)]",
+            ),
+            (Do::Remove((3, 2)), "Success(20)"),
+            (Do::Value((3, 2)), "None"),
+            (
+                Do::Walk((1, 2)),
+                "[(P0[1](2), {(start), 2} 10), (P0[2](2), {1, (end)} 30)]",
+            ),
+        ],
+    ),
     (
         "a linear chain",
         4,

@@ -16,7 +16,7 @@ pub struct SlowChain {
 
 impl Model for SlowChain {
     ghost use Rattle.chain_laws.specs.Chains.{Chain};
-    ghost use Rattle.lines_trials.specs.Slow.{chain_of};
+    ghost use Rattle.chain_laws.specs.Starts.{chain_of};
 
     ghost Value = { Chain };
 

@@ -1,6 +1,7 @@
 ghost use Rattle.std.specs.Prelude.{◌≡◌, ◌↔◌, IsTrue, Some};
 ghost use Rattle.chain_laws.specs.Chains.{Has, HasNoRepetition, Stands, IsChain, first_or as the_first_or, last_or as the_last_or};
-ghost use Rattle.lines_trials.specs.Slow.{row_in, shown_by, chain_of};
+ghost use Rattle.chain_laws.specs.Starts.{chain_of};
+ghost use Rattle.lines_trials.specs.Slow.{row_in, shown_by};
 
 /// What rows show at one index: the previous and the next index, where a link stands.
 pub type Row = Option<(Option<usize>, Option<usize>)>;

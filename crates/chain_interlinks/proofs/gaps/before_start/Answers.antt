@@ -3,7 +3,7 @@ use Rattle.std.proofs.Common.{Some, refl, sym, ap, ◌∙◌}
 use Rattle.std.specs.Prelude.{is_some, not}
 use Rattle.std.proofs.lemmas.Bool.{false≢true}
 use Rattle.chain_links.proofs.Mapping.{is_some-map}
-use Rattle.chain_interlinks.proofs.Connecting.{is_none}
+use Rattle.chain_interlinks.proofs.Connecting.{none_unless_some}
 use Rattle.chain_links.specs.ChainArena.{shown, entry}
 use Rattle.chain_links.specs.Links.{seen_links}
 use Rattle.chain_links.specs.Kinds.{name_of}
@@ -12,7 +12,7 @@ use Rattle.chain_interlinks.proofs.gaps.before_start.Goals as goal
 
 pub returns-then-is_none : goal.returns-then-is_none
 returns-then-is_none g c =
-    let none = is_none _ (sym (ap is_some c.prev.ensures) ∙ (is_some-map _ c.prev.result ∙ (c.is_none.ensures ∙ ap not c.if-is_none.true))) in
+    let none = none_unless_some _ (sym (ap is_some c.prev.ensures) ∙ (is_some-map _ c.prev.result ∙ (c.is_none.ensures ∙ ap not c.if-is_none.true))) in
     let seen = seen_links g.P.Inx.InxKey.packed_number c.args.arena.now in
     record {
       some = (λ _. may_precede (entry seen) (shown seen) (name_of g.P.PtrKey.key g.P.Inx.InxKey.number c.args.b) _ (c.in-Some.ensures.some.0 refl) c.in-Some.ensures.link none, λ _. refl);

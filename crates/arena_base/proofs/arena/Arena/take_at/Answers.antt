@@ -4,7 +4,7 @@ use Rattle.std.specs.Prelude.{slice_get, is_some}
 use Rattle.arena_ptr.specs.Invalidation.{invalidation_result}
 use Rattle.arena_base.specs.Arena.{entry_at, remove_at}
 use Rattle.arena_base.proofs.Reading.{slot_at-map, allocated-at}
-use Rattle.arena_base.proofs.Soundness.{vacated, closed, some_taken}
+use Rattle.arena_base.proofs.Soundness.{slot_vacated, closed, some_taken}
 use Rattle.arena_base.proofs.Viewing.{vacated_view}
 use Rattle.arena_base.proofs.arena.Arena.take_at.Goals as goal
 
@@ -18,7 +18,7 @@ invariant_of-self g c =
     let number = g.P.Inx.InxKey.number in
     let is = allocated-at (slice_get (g.S.SlotStack.items c.self.inside.slots) c.position_of.result) c.in-Some.entry c.in-Some.ensures.entry in
     let some = some_taken number c.self.invariant c.position_of.result _ _ is in
-    rw c.in-Some.ensures.some (closed number (vacated number c.self.invariant c.position_of.result c.args.i _ _ (c.self.inside.len - 1) c.position_of.ensures is (omega (arith, some))))
+    rw c.in-Some.ensures.some (closed number (slot_vacated number c.self.invariant c.position_of.result c.args.i _ _ (c.self.inside.len - 1) c.position_of.ensures is (omega (arith, some))))
 
 pub returns-in-Some : goal.returns-in-Some
 returns-in-Some g c =
