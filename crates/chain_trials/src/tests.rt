@@ -49,11 +49,7 @@ fn text<T: Debug + Drop>(rt: &impl Abort, alloc: Global, answer: T) -> String {
 }
 
 // All items of an iterator.
-fn all_of<T: Drop, I: Iterator<Item = T> + Drop>(
-    rt: &impl Abort,
-    alloc: Global,
-    items: I,
-) -> Vec<T>
+fn all_of<T: Drop, I: Iterator<Item = T> + Drop>(rt: &impl Abort, alloc: Global, items: I) -> Vec<T>
     requires { I.can_next items × IsFinite (I.remaining items) }
 {
     items.collect(alloc).expect(rt, "memory")

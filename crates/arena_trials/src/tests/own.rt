@@ -115,10 +115,7 @@ fn moved<P: PtrKey, T: Drop, S: SlotStack<Item = ArenaSlot<P, T>>>(
 }
 
 // The value that a compactor shows at an index.
-fn peeked<P: PtrKey, C: SlotAccess<P, u32>>(
-    compactor: &mut C,
-    i: P::Inx,
-) -> Option<u32> {
+fn peeked<P: PtrKey, C: SlotAccess<P, u32>>(compactor: &mut C, i: P::Inx) -> Option<u32> {
     match compactor.peek(i) {
         Some((_, t)) => Some(*t),
         None => None,
@@ -196,10 +193,18 @@ fn compactor_answer<P: Numbered, S: SlotStack<Item = Slot<P>>>(
     match call {
         Call::Move(from, to, g) => {
             let generation = P::generation_of(rt, g);
-            text(rt, alloc, moved(arena, index(rt, from), index(rt, to), generation))
+            text(
+                rt,
+                alloc,
+                moved(arena, index(rt, from), index(rt, to), generation),
+            )
         }
         Call::Rewrite(i, other, value) => {
-            text(rt, alloc, rewritten(arena, index(rt, i), index(rt, other), value))
+            text(
+                rt,
+                alloc,
+                rewritten(arena, index(rt, i), index(rt, other), value),
+            )
         }
         Call::DropCompactor => text(rt, alloc, compactor_dropped(arena)),
         Call::ForgetCompactor => text(rt, alloc, compactor_forgotten(arena)),

@@ -1,8 +1,32 @@
--- The same pointers are valid.
+-- The same pointers are valid, and the link is that of the arena of links below.
+use Rattle.std.proofs.Common.{◌≡◌, ℕ, Option, Some, None, ap, ◌∙◌}
+use Rattle.std.specs.Prelude.{IfSome}
+use Rattle.std.specs.Borrow.{Bor}
+use Rattle.std.specs.Option.{option_map}
+use Rattle.arena_base.specs.Arena.{Arena, entry_at}
+use Rattle.chain_links.specs.declared.links.LinkBody.{LinkBody}
+use Rattle.chain_links.specs.Links.{seen_link, seen_links}
+use Rattle.chain_links.specs.ChainArena.{on_value, shown, entry, link_at}
+use Rattle.chain_links.proofs.Mapping.{entry_at-with_each}
 use Rattle.chain_interlinks.proofs.Connecting.{same_valid}
+use Rattle.chain_arena.proofs.Draining.{link_at-entry}
 use Rattle.chain_arena.proofs.impl_chain_arena_trait.ChainArenaChainArenaTrait.get_link_no_gen.Goals as goal
 
-pub returns-clause-some : goal.returns-clause-some
-returns-clause-some g c =
-    let same = same_valid g.P.Inx.InxKey.packed_number c.self.inside.arena (g.P.PtrKey.key c.args.p) in
-    rw (← c.self.view_is) (λ h. same.0 (c.get.ensures.some.0 h), λ valid. c.get.ensures.some.1 (same.1 valid))
+-- what is lent of the arena below is the link
+lent : {K Gen T : Type 0} (number : K → Option ℕ) (a : Arena Gen (LinkBody K T)) (p : ℕ × Gen) (r : Option (Bor (LinkBody K T))) → IfSome r (λ link. entry_at a p.0 ≡ Some (p.1, link.now))
+    → IfSome r (λ link. link_at (entry (seen_links number a)) (shown (seen_links number a)) p.0 ≡ Some (p.1, seen_link number link.now))
+lent number a p None stands = tt
+lent number a p (Some link) stands =
+    link_at-entry (seen_links number a) p.0 ∙ (entry_at-with_each (seen_link number) a p.0 ∙ ap (option_map (on_value (seen_link number))) stands)
+
+pub returns : goal.returns
+returns g c =
+    let number = g.P.Inx.InxKey.packed_number in
+    let a = c.self.inside.arena in
+    let p = g.P.PtrKey.key c.args.p in
+    let same = same_valid number a p in
+    rw (← c.self.view_is) (record {
+      some = (λ h. same.0 (c.get.ensures.some.0 h), λ valid. c.get.ensures.some.1 (same.1 valid));
+      link = lent number a p c.get.result c.get.ensures.value;
+      agree = c.self.invariant;
+    })

@@ -1,0 +1,27 @@
+-- The link is that of the arena of links below.
+use Rattle.std.proofs.Common.{◌≡◌, ℕ, Option, Some, None, refl, sym, ap, ◌∙◌}
+use Rattle.std.specs.Borrow.{Bor}
+use Rattle.std.specs.Option.{option_map}
+use Rattle.arena_base.specs.Arena.{Arena, entry_at, seen_entry}
+use Rattle.chain_links.specs.declared.links.LinkBody.{LinkBody}
+use Rattle.chain_links.specs.Links.{seen_link, seen_links, seen_lent}
+use Rattle.chain_links.specs.ChainArena.{on_value, shown, entry, link_at}
+use Rattle.chain_links.proofs.Mapping.{entry_at-with_each}
+use Rattle.chain_arena.proofs.Draining.{link_at-entry}
+use Rattle.chain_arena.proofs.impl_chain_arena_trait.ChainArenaChainArenaTrait.get_inx_link_no_gen.Goals as goal
+
+-- what is lent of the arena below is the link
+lent : {K Gen T : Type 0} (number : K → Option ℕ) (a : Arena Gen (LinkBody K T)) (i : ℕ) (r : Option (Gen × Bor (LinkBody K T))) → option_map seen_entry r ≡ entry_at a i
+    → option_map (seen_lent number) r ≡ link_at (entry (seen_links number a)) (shown (seen_links number a)) i
+lent {K} {Gen} {T} number a i r stands =
+    seen r ∙ (ap (option_map (on_value (seen_link number))) stands ∙ (sym (entry_at-with_each (seen_link number) a i) ∙ sym (link_at-entry (seen_links number a) i)))
+  where
+    seen : (r : Option (Gen × Bor (LinkBody K T))) → option_map (seen_lent number) r ≡ option_map (on_value (seen_link number)) (option_map seen_entry r)
+    seen None = refl
+    seen (Some e) = refl
+
+pub returns : goal.returns
+returns g c = rw (← c.self.view_is) (record {
+  link = lent g.P.Inx.InxKey.packed_number c.self.inside.arena (g.P.Inx.InxKey.number c.args.i) c.get_inx.result c.get_inx.ensures;
+  agree = c.self.invariant;
+})
