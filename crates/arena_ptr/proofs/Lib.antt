@@ -1,1 +1,4 @@
 pub mod Options
+mod Blocks
+mod Chunks
+mod Exchanging

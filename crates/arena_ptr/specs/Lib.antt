@@ -9,3 +9,6 @@ pub mod SlotStack
 pub mod Slots
 pub mod LimitedStack
 pub mod Counting
+pub mod Blocks
+pub mod BlockLaws
+pub mod ChunkStack

@@ -2,6 +2,7 @@
 //! the stacks that hold an arena's slots, and the recasting of values.
 #![tactic(auto)]
 
+mod chunk_stack;
 mod errors;
 mod generation;
 mod heap_stack;
@@ -16,6 +17,7 @@ mod slot_stack;
 mod slots;
 mod tool_ptr;
 
+pub use chunk_stack::ChunkStack;
 pub use errors::{
     AllocError, ChainInsertionError, MaxCapacityReductionError, NotWithinCapacityError,
     ReallocationError,

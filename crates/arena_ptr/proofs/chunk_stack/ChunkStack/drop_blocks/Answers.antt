@@ -1,0 +1,18 @@
+-- The blocks that have items are left.
+use Rattle.std.proofs.Common.{ap, sym, subst, ◌∙◌, length, length-take, arith}
+use Rattle.arena_ptr.specs.Blocks.{items_in, AreFilled}
+use Rattle.arena_ptr.proofs.Blocks.{fewer_in}
+use Rattle.arena_ptr.proofs.chunk_stack.ChunkStack.drop_blocks.Goals as goal
+
+pub invariant_of-self : goal.invariant_of-self
+invariant_of-self g c =
+    let s = c.args.self.now in
+    let is = c.truncate.ensures.items in
+    let long = ap length is ∙ length-take c.args.count s.blocks.items in
+    record {
+      filled = subst (λ bs. AreFilled bs s.len) (sym is) (fewer_in s.blocks.items s.len c.args.count c.requires.room s.filled).1;
+      fits = omega (arith, long, s.fits);
+    }
+
+pub returns-clause-items : goal.returns-clause-items
+returns-clause-items g c = let s = c.args.self.now in ap items_in c.truncate.ensures.items ∙ (fewer_in s.blocks.items s.len c.args.count c.requires.room s.filled).0

@@ -1,0 +1,47 @@
+-- Both items in one block.
+use Rattle.std.proofs.Common.{slice_index_or, ap, ◌∙◌, arith}
+use Rattle.arena_ptr.proofs.Chunks.{within, found, inside_block, still_fits}
+use Rattle.arena_ptr.proofs.Exchanging.{exchanged_in}
+use Rattle.arena_ptr.proofs.chunk_stack.ChunkStack.exchange.Goals as goal
+
+pub index_mut-requires : goal.index_mut-requires
+index_mut-requires g c = within c.args.self.now c.args.i c.requires.i_in_bounds
+
+pub swap-requires-clause-i_in_bounds : goal.swap-requires-clause-i_in_bounds
+swap-requires-clause-i_in_bounds g c =
+    inside_block c.args.self.now c.args.i c.index_mut.result.now (within c.args.self.now c.args.i c.requires.i_in_bounds) c.index_mut.ensures.value c.requires.i_in_bounds
+
+pub swap-requires-clause-j_in_bounds : goal.swap-requires-clause-j_in_bounds
+swap-requires-clause-j_in_bounds g c =
+    let s = c.args.self.now in
+    let block = c.index_mut.result.now in
+    inside_block s c.args.j block (within s c.args.j c.requires.j_in_bounds) (c.index_mut.ensures.value ∙ ap (λ k. slice_index_or s.blocks.items k block) c.if-i-j.true) c.requires.j_in_bounds
+
+pub invariant_of-self : goal.invariant_of-self
+invariant_of-self g c =
+    let s = c.args.self.now in
+    let i = c.args.i in
+    let j = c.args.j in
+    let block = c.index_mut.result.now in
+    let lies = within s i c.requires.i_in_bounds in
+    let is = c.index_mut.ensures.value in
+    let i_in = inside_block s i block lies is c.requires.i_in_bounds in
+    let j_in = inside_block s j block (within s j c.requires.j_in_bounds) (is ∙ ap (λ k. slice_index_or s.blocks.items k block) c.if-i-j.true) c.requires.j_in_bounds in
+    record {
+      filled = (exchanged_in s.blocks.items s.len i j s.filled c.requires.i_in_bounds c.requires.j_in_bounds block c.swap.new.self c.if-i-j.true (found s i block lies is)
+          (omega (arith, lies, s.blocks.ok.0)) (omega (arith, i_in, block.ok.0)) (omega (arith, j_in, block.ok.0)) c.swap.ensures.items c.swap.ensures.capacity).1;
+      fits = still_fits s i block lies is c.swap.new.self;
+    }
+
+pub returns-then-i-j-clause-items : goal.returns-then-i-j-clause-items
+returns-then-i-j-clause-items g c =
+    let s = c.args.self.now in
+    let i = c.args.i in
+    let j = c.args.j in
+    let block = c.index_mut.result.now in
+    let lies = within s i c.requires.i_in_bounds in
+    let is = c.index_mut.ensures.value in
+    let i_in = inside_block s i block lies is c.requires.i_in_bounds in
+    let j_in = inside_block s j block (within s j c.requires.j_in_bounds) (is ∙ ap (λ k. slice_index_or s.blocks.items k block) c.if-i-j.true) c.requires.j_in_bounds in
+    (exchanged_in s.blocks.items s.len i j s.filled c.requires.i_in_bounds c.requires.j_in_bounds block c.swap.new.self c.if-i-j.true (found s i block lies is)
+    (omega (arith, lies, s.blocks.ok.0)) (omega (arith, i_in, block.ok.0)) (omega (arith, j_in, block.ok.0)) c.swap.ensures.items c.swap.ensures.capacity).0

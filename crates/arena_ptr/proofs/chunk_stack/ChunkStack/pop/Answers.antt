@@ -1,0 +1,23 @@
+-- The block of the last item loses it.
+use Rattle.std.proofs.Common.{◌-◌, arith}
+use Rattle.arena_ptr.proofs.Chunks.{within, still_fits, popped}
+use Rattle.arena_ptr.proofs.chunk_stack.ChunkStack.pop.Goals as goal
+
+pub index_mut-requires : goal.index_mut-requires
+index_mut-requires g c = within c.args.self.now (c.args.self.now.len - 1) (omega (arith, c.requires))
+
+pub invariant_of-self : goal.invariant_of-self
+invariant_of-self g c =
+    let s = c.args.self.now in
+    let block = c.index_mut.result.now in
+    let lies = within s (s.len - 1) (omega (arith, c.requires)) in
+    record {
+      filled = (popped s (s.len - 1) block lies c.index_mut.ensures.value c.truncate.new.self (omega (arith, c.requires)) c.truncate.ensures.items c.truncate.ensures.capacity).1;
+      fits = still_fits s (s.len - 1) block lies c.index_mut.ensures.value c.truncate.new.self;
+    }
+
+pub returns-clause-items : goal.returns-clause-items
+returns-clause-items g c =
+    let s = c.args.self.now in
+    let lies = within s (s.len - 1) (omega (arith, c.requires)) in
+    (popped s (s.len - 1) c.index_mut.result.now lies c.index_mut.ensures.value c.truncate.new.self (omega (arith, c.requires)) c.truncate.ensures.items c.truncate.ensures.capacity).0

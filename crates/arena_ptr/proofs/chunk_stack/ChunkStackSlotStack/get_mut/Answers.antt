@@ -1,0 +1,8 @@
+use Rattle.arena_ptr.proofs.Options.{read_same}
+use Rattle.arena_ptr.proofs.chunk_stack.ChunkStackSlotStack.get_mut.Goals as goal
+
+pub returns : goal.returns
+returns g c = (
+  read_same c.slot_mut.result _ _ _ _ c.slot_mut.follows.holds c.slot_mut.follows.holds-at-none,
+  record { lends = tt; value = c.slot_mut.ensures.value },
+)

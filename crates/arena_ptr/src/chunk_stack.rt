@@ -1,0 +1,269 @@
+ghost use Rattle.std.specs.Prelude.{◌≡◌, ◌+◌, ◌-◌, ◌*◌, ◌^◌, ◌/◌, ◌<◌, ◌≤◌, ◌≢◌, [], ◌∷◌, ◌++◌, length, take, swap, OnSome, OnOk, OnErr, IfOk, IsTrue, slice_get, slice_set, slice_index_or, vec_capacity};
+ghost use Rattle.std.specs.Option.{option_copied, option_copied_mut};
+ghost use Rattle.std.specs.Borrow.{LendsSo, sem};
+ghost use Rattle.arena_ptr.specs.Blocks.{AreFilled, AreFilled-prop, items_in, slots_for};
+
+use crate::errors::ReallocationError;
+use crate::slot_stack::SlotStack;
+use std::alloc::{AllocError, Global};
+use std::mem;
+
+// How many slots a block has.
+const SLOTS: usize = 64;
+
+// The greatest number of blocks whose slots a `usize` can count.
+const MOST: usize = usize::MAX / SLOTS;
+
+/// A slot stack in blocks of 64 slots, without a maximum.
+///
+/// A growth adds the blocks that are missing, each a piece of memory of its own, and moves no slot, so that no push ever
+/// moves the others. What it moves is the list of the blocks, where that is full: 24 bytes for 64 slots. Where memory for
+/// a block is refused, those of that growth are given back. A slot is looked up by a shift and a mask, and one look more
+/// than in `HeapStack`.
+#[derive(Drop)]
+pub struct ChunkStack<E> {
+    blocks: Vec<Vec<E>>,
+    len: usize,
+    ghost filled: { AreFilled blocks.items len } by { AreFilled-prop blocks.items len },
+    ghost fits: { 64 * length blocks.items + 1 < 2 ^ 64 },
+}
+
+// A new block.
+fn new_block<E: Drop>(alloc: Global) -> Result<Vec<E>, AllocError>
+    ensures items { IfOk result (λ block. block.items ≡ []) }
+    ensures room { IfOk result (λ block. 64 ≤ vec_capacity block) }
+{
+    let mut block = Vec::new(alloc);
+    block.reserve_exact(SLOTS)?;
+    Ok(block)
+}
+
+// Exchanges an item of a list with one of another.
+fn exchange_items<E>(one: &mut Vec<E>, i: usize, other: &mut Vec<E>, j: usize)
+    requires i_in_bounds { i < length one.old.items }
+    requires j_in_bounds { j < length other.old.items }
+    ensures one { (d : E) → one.new.items ≡ slice_set one.old.items i (slice_index_or other.old.items j d) }
+    ensures other { (d : E) → other.new.items ≡ slice_set other.old.items j (slice_index_or one.old.items i d) }
+    ensures one_room { vec_capacity one.new ≡ vec_capacity one.old }
+    ensures other_room { vec_capacity other.new ≡ vec_capacity other.old }
+{
+    mem::swap(&mut one[i], &mut other[j]);
+}
+
+impl<E: Drop> ChunkStack<E> {
+    ghost use Rattle.arena_ptr.specs.ChunkStack.{with_item_at};
+    ghost use Rattle.arena_ptr.specs.contracts.chunk_stack.ChunkStack.{the_row};
+
+    // The slot at position `i` for writing.
+    fn slot_mut(&mut self, i: usize) -> Option<&mut E>
+        ensures* lends { sem 𝓛 (LendsSo (the_row E.row) E.row self.entry result
+            (λ new w. OnSome result (new ≡ with_item_at self.old i w))
+            (λ new. new ≡ self.old)) }
+        ensures value { option_copied_mut result ≡ slice_get (items_in self.old.blocks.items) i }
+    {
+        if self.len <= i {
+            return None;
+        }
+        Some(&mut self.blocks[i / SLOTS][i % SLOTS])
+    }
+
+    // The slot at position `i`.
+    fn slot(&self, i: usize) -> Option<&E>
+        ensures { option_copied result ≡ slice_get (items_in self.now.blocks.items) i }
+    {
+        if self.len <= i {
+            return None;
+        }
+        Some(&self.blocks[i / SLOTS][i % SLOTS])
+    }
+
+    // Appends an item in the next place.
+    fn push(&mut self, item: E)
+        requires { self.old.len < 64 * length self.old.blocks.items }
+        ensures items { items_in self.new.blocks.items ≡ items_in self.old.blocks.items ++ item ∷ [] }
+        ensures blocks { length self.new.blocks.items ≡ length self.old.blocks.items }
+    {
+        self.blocks[self.len / SLOTS].push_reserved(item);
+        self.len += 1;
+    }
+
+    // Drops the last item.
+    fn pop(&mut self)
+        requires { 0 < self.old.len }
+        ensures len { self.new.len + 1 ≡ self.old.len }
+        ensures items { items_in self.new.blocks.items ≡ take self.new.len (items_in self.old.blocks.items) }
+        ensures blocks { length self.new.blocks.items ≡ length self.old.blocks.items }
+    {
+        self.len -= 1;
+        self.blocks[self.len / SLOTS].truncate(self.len % SLOTS);
+    }
+
+    // Adds an empty block.
+    fn add_block(&mut self) -> Result<(), AllocError>
+        requires { 64 * length self.old.blocks.items + 65 < 2 ^ 64 }
+        ensures items { items_in self.new.blocks.items ≡ items_in self.old.blocks.items }
+        ensures len { self.new.len ≡ self.old.len }
+        ensures ok { OnOk result (length self.new.blocks.items ≡ length self.old.blocks.items + 1) }
+        ensures err { OnErr result (length self.new.blocks.items ≡ length self.old.blocks.items) }
+    {
+        let block = new_block(*self.blocks.allocator())?;
+        match self.blocks.push(block) {
+            Ok(()) => Ok(()),
+            Err(_) => Err(AllocError),
+        }
+    }
+    // Gives blocks back that have no items, down to so many.
+    fn drop_blocks(&mut self, count: usize)
+        requires few { count ≤ length self.old.blocks.items }
+        requires room { self.old.len ≤ 64 * count }
+        ensures items { items_in self.new.blocks.items ≡ items_in self.old.blocks.items }
+        ensures blocks { length self.new.blocks.items ≡ count }
+    {
+        self.blocks.truncate(count);
+    }
+
+    // Adds empty blocks up to so many.
+    fn add_blocks(&mut self, count: usize) -> Result<(), AllocError>
+        requires more { length self.old.blocks.items ≤ count }
+        requires few { 64 * count + 1 < 2 ^ 64 }
+        ensures items { items_in self.new.blocks.items ≡ items_in self.old.blocks.items }
+        ensures ok { OnOk result (length self.new.blocks.items ≡ count) }
+        ensures err { OnErr result (length self.new.blocks.items ≡ length self.old.blocks.items) }
+    {
+        let before = self.blocks.len();
+        while self.blocks.len() < count {
+            if self.add_block().is_err() {
+                self.drop_blocks(before);
+                return Err(AllocError);
+            }
+        }
+        Ok(())
+    }
+
+    // Drops the last items, down to so many.
+    fn keep(&mut self, n: usize)
+        requires { n ≤ self.old.len }
+        ensures items { items_in self.new.blocks.items ≡ take n (items_in self.old.blocks.items) }
+        ensures blocks { length self.new.blocks.items ≡ length self.old.blocks.items }
+    {
+        while n < self.len {
+            self.pop();
+        }
+    }
+
+    // Exchanges two items of different blocks.
+    fn exchange_between(&mut self, i: usize, j: usize)
+        requires i_in_bounds { i < self.old.len }
+        requires j_in_bounds { j < self.old.len }
+        requires apart { i / 64 ≢ j / 64 }
+        ensures items { items_in self.new.blocks.items ≡ swap (items_in self.old.blocks.items) i j }
+        ensures blocks { length self.new.blocks.items ≡ length self.old.blocks.items }
+    {
+        let empty = Vec::new(*self.blocks.allocator());
+        let mut one = mem::replace(&mut self.blocks[i / SLOTS], empty);
+        exchange_items(&mut one, i % SLOTS, &mut self.blocks[j / SLOTS], j % SLOTS);
+        self.blocks[i / SLOTS] = one;
+    }
+
+    // Exchanges two items.
+    fn exchange(&mut self, i: usize, j: usize)
+        requires i_in_bounds { i < self.old.len }
+        requires j_in_bounds { j < self.old.len }
+        ensures items { items_in self.new.blocks.items ≡ swap (items_in self.old.blocks.items) i j }
+        ensures blocks { length self.new.blocks.items ≡ length self.old.blocks.items }
+    {
+        if i / SLOTS == j / SLOTS {
+            self.blocks[i / SLOTS].swap(i % SLOTS, j % SLOTS);
+        } else {
+            self.exchange_between(i, j);
+        }
+    }
+}
+
+impl<E: Drop> SlotStack for ChunkStack<E> {
+    ghost use Rattle.std.specs.Prelude.{None, refl};
+    ghost use Rattle.arena_ptr.specs.ChunkStack.{with_item_at, items_written_at, blocks_written_at, has_room_in};
+
+    type Item = E;
+
+    ghost items = { λ s. items_in s.blocks.items };
+
+    ghost capacity = { λ s. 64 * length s.blocks.items };
+
+    ghost maximum = { λ _. None };
+
+    ghost initial_maximum = { None };
+
+    ghost may_reach = { λ _ _ n new. new ≡ slots_for n };
+
+    ghost with_item = { with_item_at };
+
+    ghost has_room = { has_room_in };
+
+    ghost room_fits = { λ s. s.fits };
+
+    ghost within_maximum = { λ _. tt };
+
+    ghost items_written = { items_written_at };
+
+    ghost capacity_written = { blocks_written_at };
+
+    ghost maximum_written = { λ s i e. refl };
+
+    fn new(alloc: Global) -> Self {
+        ChunkStack {
+            blocks: Vec::new(alloc),
+            len: 0,
+        }
+    }
+
+    fn allocator(&self) -> Global {
+        *self.blocks.allocator()
+    }
+
+    fn len(&self) -> usize {
+        self.len
+    }
+
+    fn capacity(&self) -> usize {
+        self.blocks.len() * SLOTS
+    }
+
+    fn max_capacity(&self) -> Option<usize> {
+        None
+    }
+
+    fn reserve_to(&mut self, n: usize) -> Result<(), ReallocationError> {
+        if n <= self.capacity() {
+            return Ok(());
+        }
+        let count = n.div_ceil(SLOTS);
+        if count > MOST {
+            return Err(ReallocationError::AllocError);
+        }
+        match self.add_blocks(count) {
+            Ok(()) => Ok(()),
+            Err(_) => Err(ReallocationError::AllocError),
+        }
+    }
+
+    fn push_within(&mut self, item: E) {
+        self.push(item);
+    }
+
+    fn get(&self, i: usize) -> Option<&E> {
+        self.slot(i)
+    }
+
+    fn get_mut(&mut self, i: usize) -> Option<&mut E> {
+        self.slot_mut(i)
+    }
+
+    fn swap(&mut self, i: usize, j: usize) {
+        self.exchange(i, j);
+    }
+
+    fn truncate(&mut self, n: usize) {
+        self.keep(n);
+    }
+}
