@@ -11,7 +11,9 @@ ghost use Rattle.chain_lines.specs.Commands.{line_of};
 ghost use Rattle.chain_lines.specs.Transcripts.{AreComplete};
 
 use arena_base::{ArenaSlot, ArenaTrait};
-use arena_ptr::{Gen32, HeapStack, LimitStack, LimitedStack, SetMaxCapacity, SlotStack, ToolPtr};
+use arena_ptr::{
+    ChunkStack, Gen32, HeapStack, LimitStack, LimitedStack, SetMaxCapacity, SlotStack, ToolPtr,
+};
 use chain_arena::{ChainArena, ChainArenaTrait, LinkInsertKind, LinkNoGen};
 use chain_lines::{ToolError, run, run_on};
 use std::alloc::Global;
@@ -690,16 +692,82 @@ const RUNS: [(&str, &str); 13] = [
     EACH_KIND_BY_INDEX,
 ];
 
+// All tables are one constant, since a reference that a body makes costs its proof more than what it does with it.
+const TABLES: [&[(&str, &str)]; 5] = [
+    &RUNS,
+    &LINES_AND_WORDS,
+    &KINDS_AND_VALUES,
+    &NUMBERS_AND_POINTERS,
+    &MALFORMED_STEPS,
+];
+
 #[test]
 fn texts_and_what_is_written(rt: HostRuntime) {
-    let tables: [&[(&str, &str)]; 5] = [
-        &RUNS,
-        &LINES_AND_WORDS,
-        &KINDS_AND_VALUES,
-        &NUMBERS_AND_POINTERS,
-        &MALFORMED_STEPS,
-    ];
-    for table in tables {
+    for table in &TABLES {
         check_texts(&rt, rt.alloc(), table);
     }
+}
+
+/// Carries out whole runs, each on a new arena.
+fn check_runs<S: SlotStack<Item = Slot>>(rt: &impl Abort, alloc: Global) {
+    for (input, output) in &RUNS {
+        check_on(rt, alloc, &mut LinksOver::<S>::new(alloc), input, output);
+    }
+}
+
+#[test]
+fn whole_runs_in_blocks(rt: HostRuntime) {
+    check_runs::<ChunkStack<Slot>>(&rt, rt.alloc());
+}
+
+/// Adds to a text.
+fn add(rt: &impl Abort, text: &mut String, more: &str) {
+    text.push_str(more).expect(rt, "memory");
+}
+
+/// Lines that add a chain of 130 links, of which the first 64 are removed again.
+fn lines_of_a_chain(rt: &impl Abort, alloc: Global) -> String {
+    let mut text = String::from_str(alloc, "add alone 1\n").expect(rt, "memory");
+    for n in 1u32..130 {
+        let m = n.saturating_add(1);
+        let line = format!(in alloc; "add end {n}.2 {m}\n").expect(rt, "memory");
+        add(rt, &mut text, line.as_str());
+    }
+    for n in 1u32..65 {
+        let line = format!(in alloc; "remove {n}.2\n").expect(rt, "memory");
+        add(rt, &mut text, line.as_str());
+    }
+    text
+}
+
+/// The walk along the 66 links that are left, in one run from index 1 on.
+fn walk_of_the_rest(rt: &impl Abort, alloc: Global) -> String {
+    let mut text = String::from_str(alloc, "1.67:65").expect(rt, "memory");
+    for n in 2u32..67 {
+        let value = n.saturating_add(64);
+        let link = format!(in alloc; " {n}.67:{value}").expect(rt, "memory");
+        add(rt, &mut text, link.as_str());
+    }
+    add(rt, &mut text, "\n");
+    text
+}
+
+/// A chain over three blocks, of which the first is emptied, compressed to the first two: it comes there in its order, and
+/// each link is placed once.
+fn check_chain<S: SlotStack<Item = Slot>>(rt: &impl Abort, alloc: Global) {
+    let mut arena = LinksOver::<S>::new(alloc);
+    let input = lines_of_a_chain(rt, alloc);
+    let mut reader = input.as_bytes();
+    let mut written = Vec::new(alloc);
+    let result = run_on(alloc, &mut arena, &mut reader, &mut written);
+    same(rt, "added and removed", (result, arena.len()), (Ok(()), 66));
+    let (_, work) = arena.compress_canonical_counted(false);
+    same(rt, "each is placed once", work.placed, 66);
+    let output = walk_of_the_rest(rt, alloc);
+    check_on(rt, alloc, &mut arena, "chain 1.67\n", output.as_str());
+}
+
+#[test]
+fn a_chain_over_blocks(rt: HostRuntime) {
+    check_chain::<ChunkStack<Slot>>(&rt, rt.alloc());
 }

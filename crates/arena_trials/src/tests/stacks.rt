@@ -5,7 +5,7 @@ ghost use Rattle.arena_ptr.specs.SlotStack.{IsBeyond};
 
 use crate::tests::tools::{same, text};
 use arena_ptr::{
-    HeapStack, LimitStack, LimitedStack, MaxCapacityReductionError, ReallocationError,
+    ChunkStack, HeapStack, LimitStack, LimitedStack, MaxCapacityReductionError, ReallocationError,
     SetMaxCapacity, SlotStack,
 };
 use std::alloc::Global;
@@ -267,13 +267,12 @@ fn edit<S: SlotStack<Item = u32>>(rt: &impl Abort, stack: &mut S) {
     stack.truncate(4);
 }
 
-// A stack that is filled, read at its end and beyond, and edited.
-fn check_edits<S: SlotStack<Item = u32>>(rt: &impl Abort, alloc: Global) {
+// A stack that is filled in so few growths, read at its end and beyond, and edited.
+fn check_edits<S: SlotStack<Item = u32>>(rt: &impl Abort, alloc: Global, few: u64) {
     let mut stack = S::new(alloc);
     let new = (shape(&stack), stack.get(0).copied());
     same(rt, "new", new, ((0, 0, None), None));
-    // Each growth at least doubles the capacity: 1, 2, 4, .. 1024.
-    same(rt, "few growths", fill(&mut stack, 1000) <= 11, true);
+    same(rt, "few growths", fill(&mut stack, 1000) <= few, true);
     let capacity = stack.capacity();
     let last = [stack.get(999).copied(), stack.get(1000).copied()];
     let was = [replace(&mut stack, 1, 70), replace(&mut stack, 1000, 70)];
@@ -288,11 +287,11 @@ fn check_edits<S: SlotStack<Item = u32>>(rt: &impl Abort, alloc: Global) {
     same(rt, "as much room", (room, shape(&stack)), kept);
 }
 
-// A growth that goes far beyond twice the capacity.
-fn check_far_growth<S: SlotStack<Item = u32>>(rt: &impl Abort, alloc: Global) {
+// A growth to this room for one, and then one that goes far beyond.
+fn check_far_growth<S: SlotStack<Item = u32>>(rt: &impl Abort, alloc: Global, one: usize) {
     let mut stack = S::new(alloc);
     fill(&mut stack, 1);
-    same(rt, "room for one", shape(&stack), (1, 1, None));
+    same(rt, "room for one", shape(&stack), (1, one, None));
     let grown = stack.reserve_to(100).is_ok() && stack.capacity() >= 100;
     same(rt, "room for a hundred", (grown, stack.len()), (true, 1));
 }
@@ -433,17 +432,52 @@ fn check_limits<S: LimitStack<Item = u32>>(rt: &impl Abort, alloc: Global) {
     runs(rt, alloc, &mut never, &[(Call::Push(1), refused)]);
 }
 
-// A stack that holds a list.
-fn check_list<S: SlotStack<Item = u32>>(rt: &impl Abort, alloc: Global) {
-    check_edits::<S>(rt, alloc);
-    check_far_growth::<S>(rt, alloc);
+// A stack that holds a list: it is to take a thousand items in so few growths, and to have this room for one.
+fn check_list<S: SlotStack<Item = u32>>(rt: &impl Abort, alloc: Global, few: u64, one: usize) {
+    check_edits::<S>(rt, alloc, few);
+    check_far_growth::<S>(rt, alloc, one);
     check_refused_memory(rt, alloc, &mut S::new(alloc));
 }
 
+// Each growth at least doubles the capacity, 1, 2, 4, .. 1024, or adds a block, 64, 128, .. 1024.
 #[test]
-fn both_stacks_hold_a_list(rt: HostRuntime) {
-    check_list::<HeapStack<u32>>(&rt, rt.alloc());
-    check_list::<LimitedStack<u32>>(&rt, rt.alloc());
+fn each_stack_holds_a_list(rt: HostRuntime) {
+    check_list::<HeapStack<u32>>(&rt, rt.alloc(), 11, 1);
+    check_list::<LimitedStack<u32>>(&rt, rt.alloc(), 11, 1);
+    check_list::<ChunkStack<u32>>(&rt, rt.alloc(), 16, 64);
+}
+
+// Room comes in blocks of 64.
+const IN_BLOCKS: [(Call, &str); 5] = [
+    (Call::Reserve(1), "(Ok(true), (0, 64, None), [])"),
+    (Call::Reserve(64), "(Ok(false), (0, 64, None), [])"),
+    (Call::Reserve(65), "(Ok(true), (0, 128, None), [])"),
+    (Call::Push(7), "(Ok(false), (1, 128, None), [7])"),
+    (
+        Call::Reserve(usize::MAX),
+        "(Err(AllocError), (1, 128, None), [7])",
+    ),
+];
+
+// Grows by several blocks at once, of which one may be refused (`tools/faults` refuses each request in turn): all are
+// there, or nothing has changed, and what was refused is to be had then.
+fn check_blocks<S: SlotStack<Item = u32>>(rt: &impl Abort, alloc: Global, stack: &mut S) {
+    let grown = stack.reserve_to(300);
+    let want = if grown.is_ok() { 320 } else { 0 };
+    same(rt, "all or none", shape(stack), (0, want, None));
+    let again = (stack.reserve_to(300), shape(stack));
+    same(rt, "once more", again, (Ok(()), (0, 320, None)));
+}
+
+#[test]
+fn blocks_or_none(rt: HostRuntime) {
+    check_blocks(&rt, rt.alloc(), &mut ChunkStack::<u32>::new(rt.alloc()));
+}
+
+#[test]
+fn room_in_blocks(rt: HostRuntime) {
+    let alloc = rt.alloc();
+    runs(&rt, alloc, &mut ChunkStack::<u32>::new(alloc), &IN_BLOCKS);
 }
 
 #[test]
@@ -459,4 +493,5 @@ fn each_growth_may_be_refused(rt: HostRuntime) {
 #[test]
 fn items_that_own_memory_are_dropped(rt: HostRuntime) {
     check_owners::<HeapStack<Vec<i32>>>(&rt, rt.alloc());
+    check_owners::<ChunkStack<Vec<i32>>>(&rt, rt.alloc());
 }

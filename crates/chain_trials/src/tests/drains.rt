@@ -1,12 +1,10 @@
 //! Chains, and all links, that are removed one after another.
 
-ghost use Rattle.std.specs.Prelude.{◌≡◌, ◌↔◌, [], length, IsTrue, false};
+ghost use Rattle.std.specs.Prelude.{◌≡◌, [], length, false};
 ghost use Rattle.arena_ptr.specs.Generations.{after32};
-ghost use Rattle.arena_ptr.specs.ToolPtr.{key_of};
-ghost use Rattle.arena_base.specs.Arena.{IsValid};
 ghost use Rattle.arena_base.specs.Entries.{entries};
-ghost use Rattle.chain_links.specs.ChainArena.{entry, values_of};
-ghost use Rattle.chain_arena.specs.Drains.{walk_left, without_each, CountsUp};
+ghost use Rattle.chain_links.specs.ChainArena.{values_of};
+ghost use Rattle.chain_arena.specs.Drains.{CountsUp};
 
 use super::{ChainsOver, Slot, text, text_of_all};
 use arena_ptr::{InvalidationOption, SlotStack, ToolPtr};
@@ -19,21 +17,6 @@ use std::process::Abort;
 type Gone = InvalidationOption<(ToolPtr, LinkNoGen<ToolPtr, u32>)>;
 
 type ValueGone = InvalidationOption<(ToolPtr, u32)>;
-
-// Removes a pointer's chain, and tells whether there was one.
-pub(super) fn remove_chain<S: SlotStack<Item = Slot>>(arena: &mut ChainsOver<S>, p: ToolPtr) -> bool
-    ensures some { IsTrue result ↔ IsValid (entry arena.old) (key_of p) }
-    ensures valid { IsValid (entry arena.old) (key_of p) → arena.new ≡ without_each after32 arena.old (walk_left arena.old (key_of p).0) }
-    ensures invalid { ¬ IsValid (entry arena.old) (key_of p) → arena.new ≡ arena.old }
-{
-    match arena.drain_chain(p) {
-        Some(drain) => {
-            drop(drain);
-            true
-        }
-        None => false,
-    }
-}
 
 // Removes all links: none is left, and the counter goes up once for each.
 pub(super) fn remove_all<S: SlotStack<Item = Slot>>(arena: &mut ChainsOver<S>)
@@ -92,11 +75,4 @@ pub(super) fn takes_one<S: SlotStack<Item = Slot>>(
         forget(drain);
     }
     gone
-}
-
-// Removes all links, where one was taken before.
-pub(super) fn remove_one_and_all<S: SlotStack<Item = Slot>>(arena: &mut ChainsOver<S>)
-    ensures none { entries (values_of arena.new) ≡ [] }
-{
-    takes_one(arena, false);
 }

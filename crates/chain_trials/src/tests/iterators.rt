@@ -2,7 +2,6 @@
 
 ghost use Rattle.std.specs.Prelude.{◌≡◌, IfOk, map};
 ghost use Rattle.arena_ptr.specs.Indexes.{number_of_inx32};
-ghost use Rattle.arena_base.specs.Arena.{entry_count};
 ghost use Rattle.arena_base.specs.Entries.{entries, index_of};
 
 use super::{ChainsOver, Slot, text, text_of_all};
@@ -12,19 +11,8 @@ use std::alloc::{AllocError, Global};
 use std::mem;
 use std::process::Abort;
 
-// How many links there are, counted one by one.
-fn count_links<S: SlotStack<Item = Slot>>(arena: &ChainsOver<S>) -> usize
-    ensures { result ≡ entry_count arena.now }
-{
-    let mut count = 0;
-    for _ in arena.iter() {
-        count += 1;
-    }
-    count
-}
-
 // The indexes of all links.
-fn indexes<S: SlotStack<Item = Slot>>(
+pub(super) fn indexes<S: SlotStack<Item = Slot>>(
     alloc: Global,
     arena: &ChainsOver<S>,
 ) -> Result<Vec<Inx32>, AllocError>
@@ -35,14 +23,6 @@ fn indexes<S: SlotStack<Item = Slot>>(
         all.push(p.inx())?;
     }
     Ok(all)
-}
-
-// Both.
-pub(super) fn counts<S: SlotStack<Item = Slot>>(
-    alloc: Global,
-    arena: &ChainsOver<S>,
-) -> (usize, Result<Vec<Inx32>, AllocError>) {
-    (count_links(arena), indexes(alloc, arena))
 }
 
 // Each value with its pointer.

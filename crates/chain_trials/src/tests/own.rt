@@ -1,15 +1,12 @@
 //! The calls that a chain arena has of its own, as rows of tables.
 
 use super::canonical::{counted, moves_listed, moves_seen, placed};
-use super::drains::{
-    drained, drained_chain, remove_all, remove_chain, remove_one_and_all, takes_one,
-    takes_one_of_chain,
-};
+use super::drains::{drained, drained_chain, remove_all, takes_one, takes_one_of_chain};
 use super::entries::{
     forget, give_up, insert_asked, insert_by_any_entry, insert_by_entry, place_refusals,
 };
 use super::indexing::{value_at, value_at_index, write_at, write_at_index};
-use super::iterators::{counts, links, links_by_reference, links_used_up, values, walk};
+use super::iterators::{indexes, links, links_by_reference, links_used_up, values, walk};
 use super::machine::kind;
 use super::scripts::{Answers, Do, answer};
 use super::{Chains, ChainsOver, LimitedChains, Slot, at, index, text};
@@ -35,7 +32,7 @@ fn own_answer<S: SlotStack<Item = Slot>>(
         Do::Links => links(rt, alloc, arena),
         Do::LinksByReference => links_by_reference(rt, alloc, arena),
         Do::LinksUsedUp => links_used_up(rt, alloc, arena),
-        Do::Counts => text(rt, alloc, counts(alloc, arena)),
+        Do::Indexes => text(rt, alloc, indexes(alloc, arena)),
         other => layout_answer(rt, alloc, arena, other),
     }
 }
@@ -67,12 +64,10 @@ fn drain_answer<S: SlotStack<Item = Slot>>(
         Do::DrainChain(p) => drained_chain(rt, alloc, arena, at(rt, p)),
         Do::DrainChainOne(p) => text(rt, alloc, takes_one_of_chain(arena, at(rt, p), false)),
         Do::ForgetChainDrain(p) => text(rt, alloc, takes_one_of_chain(arena, at(rt, p), true)),
-        Do::RemoveChain(p) => text(rt, alloc, remove_chain(arena, at(rt, p))),
         Do::Drain => drained(rt, alloc, arena),
         Do::DrainOne => text(rt, alloc, takes_one(arena, false)),
         Do::ForgetDrain => text(rt, alloc, takes_one(arena, true)),
         Do::RemoveAll => text(rt, alloc, remove_all(arena)),
-        Do::RemoveOneAndAll => text(rt, alloc, remove_one_and_all(arena)),
         other => place_answer(rt, alloc, arena, other),
     }
 }

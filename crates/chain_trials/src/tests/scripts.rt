@@ -68,17 +68,15 @@ pub(super) enum Do {
     Links,
     LinksByReference,
     LinksUsedUp,
-    Counts,
+    Indexes,
     // A chain, or all links, drained: wholly, or up to a first one, whereupon the drain is dropped, or forgotten.
     DrainChain(At),
     DrainChainOne(At),
     ForgetChainDrain(At),
-    RemoveChain(At),
     Drain,
     DrainOne,
     ForgetDrain,
     RemoveAll,
-    RemoveOneAndAll,
     // Places for links: given up, forgotten, and used by each call that gives one. An insertion that asks first.
     GiveUp(Kind),
     Forget(Kind),

@@ -7,7 +7,7 @@ use super::scripts::{Answers, Do, Line, Script, answer, played, plays_all, plays
 use super::transfers::{REFUSED, TRANSFERS};
 use super::{Chains, Numbered, Slot};
 use arena_base::{ArenaTrait, CompactArenaTrait};
-use arena_ptr::{HeapStack, SlotStack, ToolPtr};
+use arena_ptr::{ChunkStack, HeapStack, SlotStack, ToolPtr};
 use chain_arena::{ChainArena, ChainArenaTrait};
 use chain_wrapped::Wrapped;
 use std::alloc::Global;
@@ -77,6 +77,15 @@ fn check_all<A: Answers + Drop>(rt: &impl Abort, alloc: Global, after_none: Scri
 #[test]
 fn a_chain_arena(rt: HostRuntime) {
     check_all::<Chains>(&rt, rt.alloc(), NONE_THEN_NONE);
+}
+
+#[test]
+fn a_chain_arena_in_blocks(rt: HostRuntime) {
+    check_all::<ChainArena<ToolPtr, u32, ChunkStack<Slot<ToolPtr>>>>(
+        &rt,
+        rt.alloc(),
+        NONE_THEN_NONE,
+    );
 }
 
 // .. of the arena that hands each call on, over any stack.

@@ -6,7 +6,9 @@ use super::sparing::Sparing;
 use super::transfers::{AT_THE_GREATEST_GENERATION, WIDE, WITHOUT_GENERATIONS};
 use super::{Counted, NONE, Row, Slot, limited, same};
 use arena_base::{ArenaSlot, ArenaTrait};
-use arena_ptr::{Gen8, Gen32, HeapStack, Inx8, Inx64, LimitStack, LimitedStack, PtrInx, SlotStack};
+use arena_ptr::{
+    ChunkStack, Gen8, Gen32, HeapStack, Inx8, Inx64, LimitStack, LimitedStack, PtrInx, SlotStack,
+};
 use chain_arena::{ChainArena, ChainArenaTrait, LinkInsertKind, LinkNoGen};
 use std::alloc::Global;
 use std::process::Abort;
@@ -164,7 +166,9 @@ fn plays_at<I: PtrInx, G: Counted, S: SlotStack<Item = Slot<Pair<I, G>>>>(
 #[test]
 fn other_pointers(rt: HostRuntime) {
     let alloc = rt.alloc();
-    plays_at::<Inx8, (), HeapStack<Slot<BarePtr>>>(&rt, alloc, &INDEXES);
+    let indexes: &[Script] = &INDEXES;
+    plays_at::<Inx8, (), HeapStack<Slot<BarePtr>>>(&rt, alloc, indexes);
+    plays_at::<Inx8, (), ChunkStack<Slot<BarePtr>>>(&rt, alloc, indexes);
     plays_at::<Inx8, Gen8, HeapStack<Slot<SmallPtr>>>(&rt, alloc, &GENERATIONS);
     plays_at::<TinyInx, (), HeapStack<Slot<TinyPtr>>>(&rt, alloc, &TWO_INDEXES);
     plays_at::<Inx64, Gen32, LimitedStack<Slot<WidePtr>>>(&rt, alloc, &[WIDE]);
