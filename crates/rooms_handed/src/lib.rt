@@ -4,6 +4,8 @@
 
 mod layouts;
 mod links;
+mod stacks;
 
 pub use layouts::lay_out;
 pub use links::{link_up, take_out};
+pub use stacks::{reserve_to, slot_at};

@@ -1,0 +1,20 @@
+// Calls of a stack of slots, whichever it is.
+ghost use Rattle.std.specs.Prelude.{◌≡◌, OnErr, slice_get};
+ghost use Rattle.std.specs.Option.{option_copied};
+
+use arena_ptr::{ReallocationError, SlotStack};
+
+/// `SlotStack::get`.
+pub fn slot_at<S: SlotStack>(stack: &S, i: usize) -> Option<&S::Item>
+    ensures { option_copied result ≡ slice_get (S.items stack.now) i }
+{
+    stack.get(i)
+}
+
+/// `SlotStack::reserve_to`, as far as a refusal leaves the stack.
+pub fn reserve_to<S: SlotStack>(stack: &mut S, n: usize) -> Result<(), ReallocationError>
+    ensures items { S.items stack.new ≡ S.items stack.old }
+    ensures refused { OnErr result (S.capacity stack.new ≡ S.capacity stack.old) }
+{
+    stack.reserve_to(n)
+}
