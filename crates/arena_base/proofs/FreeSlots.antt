@@ -6,7 +6,7 @@ use Rattle.arena_base.specs.Arena.{slot_at, IsListed}
 use Rattle.arena_base.specs.Slots.{item_at, entry_of, entry_in, free_slot, arena_of, IsSound}
 use Rattle.arena_base.specs.declared.slot.ArenaSlot.{ArenaSlot}
 use Rattle.arena_base.specs.declared.slot.ArenaSlot.TheVariants.{Allocated, Free}
-use Rattle.arena_base.proofs.Reading.{slice_get-below, slot_at-map}
+use Rattle.arena_base.proofs.Reading.{slice_get-below, entry_at-position}
 use Rattle.arena_base.proofs.Soundness.{listed_is_free}
 
 pub there : {X : Type 0} (xs : List X) (k : ℕ) → k < length xs → (x : X) × (slice_get xs k ≡ Some x)
@@ -20,7 +20,7 @@ module _ {P T Inx Gen Word : Type 0} where
   free_at slots zero next is = cc
   free_at slots (suc k) next is =
       let below = slice_get-below slots k (free_slot next) is in
-      (slot_at-map slots k (suc k) (omega arith) ∙ ap entry_in is, omega arith, omega (arith, below, length-map slots entry_of))
+      (entry_at-position slots k (suc k) (omega arith) ∙ ap entry_in is, omega arith, omega (arith, below, length-map slots entry_of))
 
   pub free_of : (slot : ArenaSlot P T Inx Gen Word) → entry_of slot ≡ None → (next : Option Inx) × (slot ≡ free_slot next)
   free_of (Allocated g t) none = cc
@@ -30,7 +30,7 @@ module _ {P T Inx Gen Word : Type 0} where
   item_of slots zero one within none = absurd (omega (arith, one))
   item_of slots (suc k) one within none =
       let slot = there slots k (omega (arith, within, length-map slots entry_of)) in
-      let free = free_of slot.0 (sym (slot_at-map slots k (suc k) (omega arith) ∙ ap entry_in slot.1) ∙ none) in
+      let free = free_of slot.0 (sym (entry_at-position slots k (suc k) (omega arith) ∙ ap entry_in slot.1) ∙ none) in
       (free.0, slot.1 ∙ ap (λ s. Some s) free.1)
 
   pub listed : (number : Inx → ℕ) {slots : List (ArenaSlot P T Inx Gen Word)} {greatest len : ℕ} {head : Option Inx} {ns : List ℕ} → IsSound number slots greatest len head ns

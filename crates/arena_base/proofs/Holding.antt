@@ -8,7 +8,7 @@ use Rattle.arena_base.specs.Compacting.{Held, placed, held_with_value}
 use Rattle.arena_base.specs.Slots.{entry_of, entry_in, with_value_in, with_generation_in, with_generation_at, held_slots}
 use Rattle.arena_base.specs.declared.slot.ArenaSlot.{ArenaSlot}
 use Rattle.arena_base.specs.declared.slot.ArenaSlot.TheVariants.{Allocated, Free}
-use Rattle.arena_base.proofs.Reading.{slot_at-map, with_slot-position}
+use Rattle.arena_base.proofs.Reading.{entry_at-position, with_slot-position}
 use Rattle.arena_base.proofs.Viewing.{entry_of-written}
 
 module _ {X : Type 0} where
@@ -82,5 +82,5 @@ module _ {P T Inx Gen Word : Type 0} where
   held_lent slots items capacity room maximum most k n slot w at is written same_room same_most =
       let rewrite : Option (Gen × T) → Option (Gen × T) = option_map (λ (e : Gen × T). (e.0, w)) in
       let all = ap (map entry_of) written ∙ (map-set entry_of slots k (with_value_in slot w) ∙ (sym (with_slot-position (map entry_of slots) k n (entry_of (with_value_in slot w)) at)
-      ∙ ap (λ (o : Option (Gen × T)). with_slot (map entry_of slots) n o) (entry_of-written slot w ∙ ap rewrite (sym (slot_at-map slots k n at ∙ ap entry_in is))))) in
+      ∙ ap (λ (o : Option (Gen × T)). with_slot (map entry_of slots) n o) (entry_of-written slot w ∙ ap rewrite (sym (entry_at-position slots k n at ∙ ap entry_in is))))) in
       λ i. record { slots = all i; stack_capacity = same_room i; maximum = same_most i }

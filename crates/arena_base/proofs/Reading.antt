@@ -71,8 +71,8 @@ module _ {P T Inx Gen Word : Type 0} where
   slice_index_or-map (s ∷ slots) (suc k) = slice_index_or-map slots k
 
   -- the entry at an index is that of the slot at its position
-  pub slot_at-map : (slots : List (ArenaSlot P T Inx Gen Word)) (k n : ℕ) → k + 1 ≡ n → slot_at (map entry_of slots) n ≡ entry_in (slice_get slots k)
-  slot_at-map slots k n is =
+  pub entry_at-position : (slots : List (ArenaSlot P T Inx Gen Word)) (k n : ℕ) → k + 1 ≡ n → slot_at (map entry_of slots) n ≡ entry_in (slice_get slots k)
+  entry_at-position slots k n is =
       let at : suc k ≡ n = omega (arith, is) in
       subst (λ i. slot_at (map entry_of slots) i ≡ entry_in (slice_get slots k)) at (slice_index_or-map slots k)
 

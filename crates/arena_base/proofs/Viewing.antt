@@ -8,7 +8,7 @@ use Rattle.arena_base.specs.Slots.{entry_of, entry_in, with_value_in, allocated_
 use Rattle.arena_base.specs.declared.slot.ArenaSlot.{ArenaSlot}
 use Rattle.arena_base.specs.declared.slot.ArenaSlot.TheVariants.{Allocated, Free}
 use Rattle.arena_base.proofs.Soundness.{lent, walked_all, closed, slot_vacated, some_taken, filled_freed, filled_next, none_freed}
-use Rattle.arena_base.proofs.Reading.{map-push, slice_set-itself, slot_at-map, with_slot-position}
+use Rattle.arena_base.proofs.Reading.{map-push, slice_set-itself, entry_at-position, with_slot-position}
 
 pub entry_of-written : {P T Inx Gen Word : Type 0} (slot : ArenaSlot P T Inx Gen Word) (w : T) → entry_of (with_value_in slot w) ≡ option_map (λ (e : Gen × T). (e.0, w)) (entry_of slot)
 entry_of-written (Allocated g t) w = refl
@@ -41,19 +41,19 @@ module _ {P T Inx Gen Word : Type 0} (slots : List (ArenaSlot P T Inx Gen Word))
 
   -- the entry that is seen at an index
   entry_seen : (k n : ℕ) (g : Gen) (t : T) → k + 1 ≡ n → slice_get slots k ≡ Some (allocated_slot g t) → slot_at (map entry_of slots) n ≡ Some (g, t)
-  entry_seen k n g t at is = slot_at-map slots k n at ∙ ap entry_in is
+  entry_seen k n g t at is = entry_at-position slots k n at ∙ ap entry_in is
 
-  pub seen_lent : (k n : ℕ) (slot : ArenaSlot P T Inx Gen Word) (w : T) → k + 1 ≡ n → slice_get slots k ≡ Some slot
+  pub seen_with_value : (k n : ℕ) (slot : ArenaSlot P T Inx Gen Word) (w : T) → k + 1 ≡ n → slice_get slots k ≡ Some slot
       → arena_of (slice_set slots k (with_value_in slot w)) ns counter greatest capacity maximum placed touched ≡ with_value now n w
-  seen_lent k n slot w at is =
+  seen_with_value k n slot w at is =
       let rewrite : Option (Gen × T) → Option (Gen × T) = option_map (λ (e : Gen × T). (e.0, w)) in
       ap (λ (es : List (Option (Gen × T))). let a : Arena Gen T = record now { slots = es } in a)
       (seen_slots k n (with_value_in slot w) at
-      ∙ ap (λ (o : Option (Gen × T)). with_slot (map entry_of slots) n o) (entry_of-written slot w ∙ ap rewrite (sym (slot_at-map slots k n at ∙ ap entry_in is))))
+      ∙ ap (λ (o : Option (Gen × T)). with_slot (map entry_of slots) n o) (entry_of-written slot w ∙ ap rewrite (sym (entry_at-position slots k n at ∙ ap entry_in is))))
 
-  pub seen_renewed : (following : Gen → Gen) (k n : ℕ) (g : Gen) (t : T) → k + 1 ≡ n → slice_get slots k ≡ Some (allocated_slot g t)
+  pub seen_renewed_slot : (following : Gen → Gen) (k n : ℕ) (g : Gen) (t : T) → k + 1 ≡ n → slice_get slots k ≡ Some (allocated_slot g t)
       → arena_of (slice_set slots k (allocated_slot (following counter) t)) ns (following counter) greatest capacity maximum placed touched ≡ renewed_at following now n
-  seen_renewed following k n g t at is =
+  seen_renewed_slot following k n g t at is =
       ap (λ (es : List (Option (Gen × T))). let a : Arena Gen T = record now { slots = es; counter = following counter } in a)
       (seen_slots k n (allocated_slot (following counter) t) at
       ∙ ap (λ (o : Option (Gen × T)). with_slot (map entry_of slots) n (option_map (λ (e : Gen × T). (following counter, e.1)) o)) (sym (entry_seen k n g t at is)))
@@ -66,7 +66,7 @@ module _ {P T Inx Gen Word : Type 0} (number : Inx → ℕ) where
       → arena_of items (freed_of number items head) counter greatest room most placed touched ≡ with_value (arena_of slots (freed_of number slots head) counter greatest capacity maximum placed touched) n w
   lent_view {slots = slots} {greatest = greatest} {head = head} s counter capacity maximum placed touched k n slot w items room most at is written same_room same_most =
       rw (written, same_room, same_most, walked_all number (lent number k slot w s is))
-      (seen_lent slots (freed_of number slots head) counter greatest capacity maximum placed touched k n slot w at is)
+      (seen_with_value slots (freed_of number slots head) counter greatest capacity maximum placed touched k n slot w at is)
 
   -- the arena after an entry was taken out
   pub vacated_view : {slots : List (ArenaSlot P T Inx Gen Word)} {greatest len : ℕ} {head : Option Inx} → IsSound number slots greatest len head (freed_of number slots head)

@@ -39,8 +39,8 @@ old_index key c = (key c.from).0
 module _ {Q P G Gen U T F : Type 0} (key : Q → ℕ × G) (new_key : P → ℕ × Gen) (following : G → G) (wraps : G → Bool) (call : Mut F (Q × (InvalidationOption U × (P × Unit {0}))) T) where
   -- a call of the closure: with the pointer that a link had, its value with the overflow of its removal, and the pointer that it
   -- has; and its answer
-  abbrev pub IsCarrying : F → Carried Q P U T → F → Type 0
-  IsCarrying f c next = Called call f (c.from, (c.value, (c.to, tt))) c.answer next
+  abbrev pub IsCarryCall : F → Carried Q P U T → F → Type 0
+  IsCarryCall f c next = Called call f (c.from, (c.value, (c.to, tt))) c.answer next
 
   -- all links of a source, seen as it was and with the interlinks that it showed, came to another arena
   pub record IsTransfer (generation : Gen) (f : F) (source : Seen G U) (interlinks : Shown) (source_after : Seen G U) (old new : Arena Gen (LinkSeen T)) : Type 0 where
@@ -53,7 +53,7 @@ module _ {Q P G Gen U T F : Type 0} (key : Q → ℕ × G) (new_key : P → ℕ 
     pub renamed : IsRenaming (place_in (map (old_index key) carried)) interlinks (shown new)
     -- the closure was called once for each, in that order, with its pointer, its value and the overflow of its removal
     pub last : F
-    pub in_turn : FoldsTo IsCarrying f carried last
+    pub in_turn : FoldsTo IsCarryCall f carried last
     pub stood : All (λ c. found (old_index key c) source.entries ≡ Some ((key c.from).1, value_in c.value)) carried
     pub overflow : IfSome source.counter (λ g. map (λ c. is_overflow c.value) carried ≡ overflows following wraps (length carried) g)
     -- its answers are the values; the slots are exactly the links, none is freed, and but for room nothing else has changed

@@ -114,11 +114,11 @@ module _ {Gen K T : Type 0} (number : K → Option ℕ) (slots : List (Option (G
           nothing ∙ (sym (ap (option_map change) nothing) ∙ sym (if_same i n _ _ e))
       by (no differs) = sym (if_other i n _ _ differs)
 
-  pub next_set-none : (next : Option ℕ) → shown_in number slots ≡ next_set (shown_in number slots) (Some n) next
-  next_set-none next = fun_ext (untold (with_next next))
+  pub next_set-untold : (next : Option ℕ) → shown_in number slots ≡ next_set (shown_in number slots) (Some n) next
+  next_set-untold next = fun_ext (untold (with_next next))
 
-  pub prev_set-none : (prev : Option ℕ) → shown_in number slots ≡ prev_set (shown_in number slots) (Some n) prev
-  prev_set-none prev = fun_ext (untold (with_prev prev))
+  pub prev_set-untold : (prev : Option ℕ) → shown_in number slots ≡ prev_set (shown_in number slots) (Some n) prev
+  prev_set-untold prev = fun_ext (untold (with_prev prev))
 
 module _ {Gen K T : Type 0} (held : Held Gen (LinkBody K T)) (from to : ℕ) (generation : Gen) where
   -- a placement places the value

@@ -6,7 +6,7 @@ use Rattle.arena_base.specs.Arena.{slot_at}
 use Rattle.arena_base.specs.Compacting.{Held, held_with_value}
 use Rattle.chain_links.specs.declared.links.LinkBody.{LinkBody}
 use Rattle.chain_layout.specs.HeldLinks.{held_values, shown_in, told}
-use Rattle.chain_layout.proofs.HeldLinks.{values-kept, shown-next_set, shown-prev_set, next_set-none, prev_set-none}
+use Rattle.chain_layout.proofs.HeldLinks.{values-kept, shown-next_set, shown-prev_set, next_set-untold, prev_set-untold}
 
 -- no link is named
 pub tells_none : {I : Type 0} (index : I → ℕ) (shown : Shown) (before : Bool) (named : Option I) (goes : Option ℕ) → named ≡ None → shown ≡ told before shown (option_map index named) goes
@@ -26,8 +26,8 @@ module _ {I Gen K T : Type 0} (index : I → ℕ) (number : K → Option ℕ) (o
     tells_nowhere none = (λ j. shown_in number (same j).slots) ∙ (by before ∙ (λ j. told before (shown_in number old.slots) (option_map index (sym is j)) goes))
       where
         by : (b : Bool) → shown_in number old.slots ≡ told b (shown_in number old.slots) (Some (index i)) goes
-        by true = prev_set-none number old.slots (index i) none goes
-        by false = next_set-none number old.slots (index i) none goes
+        by true = prev_set-untold number old.slots (index i) none goes
+        by false = next_set-untold number old.slots (index i) none goes
 
   -- a link that was lent was written
   module _ (l w : LinkBody K T) (stands : Some l ≡ option_map (λ (e : Gen × LinkBody K T). e.1) (slot_at old.slots (index i))) (wrote : new ≡ held_with_value old (index i) w) where

@@ -1,9 +1,9 @@
 -- The slot of the entry gets the next generation.
 use Rattle.std.specs.Prelude.{slice_get}
 use Rattle.arena_base.specs.Slots.{allocated_slot, entry_in}
-use Rattle.arena_base.proofs.Reading.{slot_at-map, allocated-at, the_value, with_generation_at-set}
+use Rattle.arena_base.proofs.Reading.{entry_at-position, allocated-at, the_value, with_generation_at-set}
 use Rattle.arena_base.proofs.Soundness.{rewritten, closed, walked_all}
-use Rattle.arena_base.proofs.Viewing.{seen_renewed}
+use Rattle.arena_base.proofs.Viewing.{seen_renewed_slot}
 use Rattle.arena_base.proofs.arena.Arena.renew_at.Goals as goal
 
 pub invariant_of-self : goal.invariant_of-self
@@ -11,7 +11,7 @@ invariant_of-self g c =
     let number = g.P.Inx.InxKey.number in
     let items = g.S.SlotStack.items c.self.inside.slots in
     let k = c.position_of.result in
-    let some = rw (← c.self.view_is, slot_at-map items k (number c.args.i) c.position_of.ensures) at c.requires in
+    let some = rw (← c.self.view_is, entry_at-position items k (number c.args.i) c.position_of.ensures) at c.requires in
     let entry = the_value (entry_in (slice_get items k)) some in
     let is = allocated-at (slice_get items k) entry.0 entry.1 in
     let after = with_generation_at-set items k (allocated_slot entry.0.0 entry.0.1) c.generational_inc-generation.result.0 is in
@@ -22,11 +22,11 @@ returns-clause-after g c =
     let number = g.P.Inx.InxKey.number in
     let items = g.S.SlotStack.items c.self.inside.slots in
     let k = c.position_of.result in
-    let some = rw (← c.self.view_is, slot_at-map items k (number c.args.i) c.position_of.ensures) at c.requires in
+    let some = rw (← c.self.view_is, entry_at-position items k (number c.args.i) c.position_of.ensures) at c.requires in
     let entry = the_value (entry_in (slice_get items k)) some in
     let is = allocated-at (slice_get items k) entry.0 entry.1 in
     let after = with_generation_at-set items k (allocated_slot entry.0.0 entry.0.1) c.generational_inc-generation.result.0 is in
     let sound = rewritten number c.self.invariant k entry.0.0 c.generational_inc-generation.result.0 entry.0.1 entry.0.1 is in
     rw (← c.self.view_is, c.regenerate_at.ensures.items, c.regenerate_at.ensures.capacity, c.regenerate_at.ensures.maximum, ← after, walked_all number sound, c.generational_inc-generation.ensures.next)
-    (seen_renewed items _ c.self.inside.counter g.P.Inx.InxKey.greatest (g.S.SlotStack.capacity c.self.inside.slots) (g.S.SlotStack.maximum c.self.inside.slots) c.self.inside.placed.count c.self.inside.touched.count
+    (seen_renewed_slot items _ c.self.inside.counter g.P.Inx.InxKey.greatest (g.S.SlotStack.capacity c.self.inside.slots) (g.S.SlotStack.maximum c.self.inside.slots) c.self.inside.placed.count c.self.inside.touched.count
     g.P.Gen.GenKey.following k (number c.args.i) entry.0.0 entry.0.1 c.position_of.ensures is)

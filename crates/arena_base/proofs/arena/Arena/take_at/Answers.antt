@@ -3,7 +3,7 @@ use Rattle.std.proofs.Common.{◌≡◌, ◌-◌, Some, None, true, false, sym, 
 use Rattle.std.specs.Prelude.{slice_get, is_some}
 use Rattle.arena_ptr.specs.Invalidation.{invalidation_result}
 use Rattle.arena_base.specs.Arena.{entry_at, remove_at}
-use Rattle.arena_base.proofs.Reading.{slot_at-map, allocated-at}
+use Rattle.arena_base.proofs.Reading.{entry_at-position, allocated-at}
 use Rattle.arena_base.proofs.Soundness.{slot_vacated, closed, some_taken}
 use Rattle.arena_base.proofs.Viewing.{vacated_view}
 use Rattle.arena_base.proofs.arena.Arena.take_at.Goals as goal
@@ -27,7 +27,7 @@ returns-in-Some g c =
     let items = g.S.SlotStack.items inside.slots in
     let k = c.position_of.result in
     let n = number c.args.i in
-    let stood : entry_at c.args.self.now n ≡ Some c.in-Some.entry = ap (λ a. entry_at a n) (sym c.self.view_is) ∙ (slot_at-map items k n c.position_of.ensures ∙ sym c.in-Some.ensures.entry) in
+    let stood : entry_at c.args.self.now n ≡ Some c.in-Some.entry = ap (λ a. entry_at a n) (sym c.self.view_is) ∙ (entry_at-position items k n c.position_of.ensures ∙ sym c.in-Some.ensures.entry) in
     let overflow : c.generational_inc-generation.result.1 ≡ g.P.Gen.GenKey.wraps c.args.self.now.counter = c.generational_inc-generation.ensures.overflow ∙ ap (λ a. g.P.Gen.GenKey.wraps a.counter) c.self.view_is in
     record {
       answer = c.outcome.ensures ∙ (λ j. invalidation_result (overflow j) (sym stood j));
@@ -41,7 +41,7 @@ returns-in-Some g c =
 pub returns-in-None : goal.returns-in-None
 returns-in-None g c =
     let n = g.P.Inx.InxKey.number c.args.i in
-    let missing : entry_at c.args.self.now n ≡ None = ap (λ a. entry_at a n) (sym c.self.view_is) ∙ (slot_at-map (g.S.SlotStack.items c.self.inside.slots) c.position_of.result n c.position_of.ensures ∙ sym c.in-None.ensures.entry) in
+    let missing : entry_at c.args.self.now n ≡ None = ap (λ a. entry_at a n) (sym c.self.view_is) ∙ (entry_at-position (g.S.SlotStack.items c.self.inside.slots) c.position_of.result n c.position_of.ensures ∙ sym c.in-None.ensures.entry) in
     record {
       answer = rw missing;
       some = λ some. let both : true ≡ false = sym some ∙ ap is_some missing in cc;

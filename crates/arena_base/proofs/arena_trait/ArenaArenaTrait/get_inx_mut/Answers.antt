@@ -4,7 +4,7 @@ use Rattle.std.specs.Option.{option_map}
 use Rattle.arena_base.specs.Arena.{with_value}
 use Rattle.arena_base.specs.Slots.{entry_in, with_value_in}
 use Rattle.arena_base.specs.Entries.{seen_of}
-use Rattle.arena_base.proofs.Reading.{slot_at-map, slice_set-itself}
+use Rattle.arena_base.proofs.Reading.{entry_at-position, slice_set-itself}
 use Rattle.arena_base.proofs.Soundness.{lent, closed}
 use Rattle.arena_base.proofs.Seeing.{seen_written}
 use Rattle.arena_base.proofs.Viewing.{lent_view, kept_view}
@@ -45,7 +45,7 @@ returns-in-Some g c =
             c.self.inside.placed.count c.self.inside.touched.count k slot is (g.met.S.SlotStack.items_written slots k slot) (g.met.S.SlotStack.capacity_written slots k slot) (g.met.S.SlotStack.maximum_written slots k slot)
             ∙ c.self.view_is,
       ),
-      record { writes_back = tt; value = c.value_mut.ensures.value ∙ rw (← c.self.view_is) (ap (option_map (λ e. e.1)) (sym (slot_at-map items k n at ∙ ap entry_in is))) },
+      record { writes_back = tt; value = c.value_mut.ensures.value ∙ rw (← c.self.view_is) (ap (option_map (λ e. e.1)) (sym (entry_at-position items k n at ∙ ap entry_in is))) },
     )
 
 pub returns-in-None : goal.returns-in-None
@@ -53,5 +53,5 @@ returns-in-None g c =
     let number = g.P.Inx.InxKey.number in
     let items = g.S.SlotStack.items c.self.inside.slots in (
       (refl, (λ w. tt), c.self.view_is),
-      record { writes_back = tt; value = rw (← c.self.view_is, slot_at-map items c.position_of.result (number c.args.i) c.position_of.ensures, ← c.in-None.ensures.value) },
+      record { writes_back = tt; value = rw (← c.self.view_is, entry_at-position items c.position_of.result (number c.args.i) c.position_of.ensures, ← c.in-None.ensures.value) },
     )

@@ -3,7 +3,7 @@ use Rattle.std.proofs.Common.{refl, sym, ◌∙◌, ap}
 use Rattle.std.specs.Option.{option_map}
 use Rattle.arena_base.specs.Compacting.{held_with_value}
 use Rattle.arena_base.specs.Slots.{entry_in, with_value_in}
-use Rattle.arena_base.proofs.Reading.{slot_at-map, slice_set-itself}
+use Rattle.arena_base.proofs.Reading.{entry_at-position, slice_set-itself}
 use Rattle.arena_base.proofs.Holding.{held_lent}
 use Rattle.arena_ptr.proofs.Options.{on_some}
 use Rattle.arena_base.proofs.held.HeldSlotsLendsValue.value_mut.Goals as goal
@@ -26,12 +26,12 @@ returns-in-Some g c =
             ∙ ap (λ h. held_with_value h n w) c.self.view_is)),
         rw (← c.self.view_is, g.met.S.SlotStack.items_written slots k slot, g.met.S.SlotStack.capacity_written slots k slot, g.met.S.SlotStack.maximum_written slots k slot, slice_set-itself items k slot is),
       ),
-      record { writes_back = tt; value = c.value_mut.ensures.value ∙ rw (← c.self.view_is) (ap (option_map (λ e. e.1)) (sym (slot_at-map items k n at ∙ ap entry_in is))) },
+      record { writes_back = tt; value = c.value_mut.ensures.value ∙ rw (← c.self.view_is) (ap (option_map (λ e. e.1)) (sym (entry_at-position items k n at ∙ ap entry_in is))) },
     )
 
 pub returns-in-None : goal.returns-in-None
 returns-in-None g c =
     let items = g.S.SlotStack.items c.self.inside.slots in (
       (refl, (λ w. tt), c.self.view_is),
-      record { writes_back = tt; value = rw (← c.self.view_is, slot_at-map items c.position_of.result (g.P.Inx.InxKey.number c.args.i) c.position_of.ensures, ← c.in-None.ensures.value) },
+      record { writes_back = tt; value = rw (← c.self.view_is, entry_at-position items c.position_of.result (g.P.Inx.InxKey.number c.args.i) c.position_of.ensures, ← c.in-None.ensures.value) },
     )
