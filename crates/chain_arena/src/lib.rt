@@ -1,4 +1,36 @@
-//! Links in chains over a generational arena, which it reaches by the contracts of its calls alone.
+//! Chains in an arena: values under typed pointers with generations, tied into many separate doubly linked chains,
+//! linear or cyclic, by two optional indexes beside each value.
+//!
+//! ```text
+//! index       1    2    3    4    5    6          one arena of six links, in three chains
+//!
+//!             start - 1 <-> 3 <-> 6 - end         a linear chain
+//!             .-> 2 <-> 5 <-.                     a cyclic one: after 5 comes 2 again
+//!             '-------------'
+//!             start - 4 - end                     a link alone is a chain, too
+//! ```
+//!
+//! What links do is in `ChainArenaTrait`, what any values under pointers do in `arena_base::ArenaTrait`; the rest is
+//! `ChainArena`'s own. It reaches the plain arena below by the contracts of its calls alone.
+//!
+//! ```rust
+//! #![tactic(auto)]
+//!
+//! use arena_base::ArenaTrait;
+//! use arena_ptr::{ChainInsertionError, ToolPtr};
+//! use chain_arena::{ChainArena, ChainArenaTrait, LinkInsertKind};
+//! use std::alloc::Global;
+//!
+//! /// A row of three values, of which the middle one is taken out again: whether the others are neighbours then.
+//! pub fn row_of_three(alloc: Global) -> Result<bool, ChainInsertionError> {
+//!     let mut arena: ChainArena<ToolPtr, u32> = ChainArena::new(alloc);
+//!     let a = arena.insert_reallocating(LinkInsertKind::Disconnected, 10)?;
+//!     let c = arena.insert_reallocating(LinkInsertKind::ChainEnd(a), 30)?;
+//!     let b = arena.insert_reallocating(LinkInsertKind::NextTo(a), 20)?; // 10, 20, 30
+//!     arena.remove(b); // 10, 30
+//!     Ok(arena.are_neighbors(a, c))
+//! }
+//! ```
 #![tactic(auto)]
 
 mod any_pointer;
