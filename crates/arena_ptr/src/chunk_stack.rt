@@ -112,6 +112,7 @@ impl<E: Drop> ChunkStack<E> {
             Err(_) => Err(AllocError),
         }
     }
+
     // Gives blocks back that have no items, down to so many.
     fn drop_blocks(&mut self, count: usize)
         requires few { count ≤ length self.old.blocks.items }
