@@ -169,7 +169,7 @@ const LOOPS: [Script; 4] = [
 ];
 
 // Chains drained: wholly, and up to a first link.
-const CHAIN_DRAINS: [Script; 6] = [
+const CHAIN_DRAINS: [Script; 7] = [
     (
         "a linear chain drained from its start",
         3,
@@ -228,6 +228,19 @@ const CHAIN_DRAINS: [Script; 6] = [
         ],
     ),
     (
+        "no walk and no drain of a stale pointer",
+        1,
+        &[],
+        &[
+            (Do::Remove((1, 2)), "Success(1)"),
+            (Do::Insert(Kind::Disconnected, 2), "Ok(P0[1](3))"),
+            (Do::Walk((1, 2)), "None"),
+            (Do::DrainChain((1, 2)), "None"),
+            (Do::DrainTaking((1, 2), 1), "None"),
+            (Do::Debug, "{P0[1](3): {(start), (end)} 2}"),
+        ],
+    ),
+    (
         "a dropped drain takes the rest",
         5,
         &FOUR,
@@ -258,7 +271,7 @@ const CHAIN_DRAINS: [Script; 6] = [
 ];
 
 // All links drained.
-const DRAINS: [Script; 4] = [
+const DRAINS: [Script; 6] = [
     (
         "all links drained by rising index",
         4,
@@ -296,6 +309,29 @@ const DRAINS: [Script; 4] = [
                 Do::Debug,
                 "{P0[2](2): {(start), 3} 2, P0[3](2): {2, 4} 3, P0[4](2): {3, (end)} 4, P0[5](2): {(start), (end)} 5}",
             ),
+        ],
+    ),
+    (
+        "three in a row, of which a drain yields one: dropped, it takes the others",
+        3,
+        &THREE,
+        &[
+            (Do::DrainOne, "Some(Success((P0[1](2), 1)))"),
+            (Do::IsEmpty, "true"),
+            (Do::Generation, "5"),
+        ],
+    ),
+    (
+        ".. forgotten, it leaves them, tied to each other",
+        3,
+        &THREE,
+        &[
+            (Do::ForgetDrain, "Some(Success((P0[1](2), 1)))"),
+            (
+                Do::Debug,
+                "{P0[2](2): {(start), 3} 2, P0[3](2): {2, (end)} 3}",
+            ),
+            (Do::Generation, "3"),
         ],
     ),
     (
@@ -370,7 +406,7 @@ const PLACES: [Script; 6] = [
     ),
 ];
 
-// All tables are one constant, since a reference that a body makes costs its proof more than what it does with it.
+// All tables, as one constant that one body names.
 const TABLES: [&[Script]; 5] = [&WALKS, &LOOPS, &PLACES, &CHAIN_DRAINS, &DRAINS];
 
 #[test]

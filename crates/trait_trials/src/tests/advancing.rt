@@ -60,16 +60,30 @@ fn met_while_removed<P: Numbered, A: ChainArenaTrait<P, u32> + Drop>(
     (first, gone, arena)
 }
 
-// .. what advancers answer over other arenas: as many as they have steps, and of a link that is untied there.
+// What an advancer along a chain answers over its own arena, once it has answered nothing over an empty one: nothing.
+fn met_after_none<P: Numbered, A: ChainArenaTrait<P, u32> + Drop>(
+    rt: &impl Abort,
+    alloc: Global,
+    arena: &A,
+) -> [At; 5] {
+    let mut along = arena.advancer_chain(at(rt, (1, 2)));
+    let none = numbers(rt, along.advance(&A::new(alloc)));
+    assert!(rt; none == NONE);
+    met(rt, along, arena, 5)
+}
+
+// .. what advancers answer over other arenas: as many as they have steps, of a link that is untied there, and after nothing.
 pub(super) fn changes_met<P: Numbered, A: ChainArenaTrait<P, u32> + Drop>(
     rt: &impl Abort,
     alloc: Global,
-) -> (At, [[At; 5]; 3]) {
+) -> (At, [[At; 5]; 4]) {
     let (first, gone, arena) = met_while_removed::<P, A>(rt, alloc);
     let along = arena.advancer_chain(at(rt, (1, 2)));
     let other: A = tied_links(rt, alloc, 3, &[(1, 2), (2, 3)]);
     let one_step = met(rt, along, &other, 5);
     let along = other.advancer_chain(at(rt, (3, 2)));
     let lone: A = tied_links(rt, alloc, 3, &[]);
-    (first, [gone, one_step, met(rt, along, &lone, 5)])
+    let untied = met(rt, along, &lone, 5);
+    let none = met_after_none::<P, A>(rt, alloc, &other);
+    (first, [gone, one_step, untied, none])
 }

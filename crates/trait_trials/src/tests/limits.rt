@@ -1,7 +1,7 @@
 //! Other pointers: the greatest index, the greatest generation, wide indexes, no generations; a maximum; and memory that is refused.
 
 use super::pointers::{BarePtr, Pair, SmallPtr, TinyInx, TinyPtr, WidePtr};
-use super::scripts::{Do, Kind, Line, Script, plays_all};
+use super::scripts::{Do, Kind, Line, Script, plays, plays_all};
 use super::sparing::Sparing;
 use super::transfers::{AT_THE_GREATEST_GENERATION, WIDE, WITHOUT_GENERATIONS};
 use super::{Counted, NONE, Row, Slot, limited, same};
@@ -45,8 +45,9 @@ const INDEXES: [Script; 5] = [
         &[
             Line::Says(Do::Reserve(255), "Ok(())"),
             Line::Says(Do::Room, "(0, 255)"),
-            Line::Says(Do::Birth(200), "(true, true)"),
-            Line::Says(Do::Birth(255), "(true, true)"),
+            Line::Says(Do::Birth(200), "Ok((true, true))"),
+            Line::Says(Do::Birth(255), "Ok((true, true))"),
+            Line::Says(Do::Birth(256), "Err(AllocError)"),
         ],
     ),
     (
@@ -80,7 +81,7 @@ const INDEXES: [Script; 5] = [
 ];
 
 // A generation of 8 bits.
-const GENERATIONS: [Script; 3] = [
+const GENERATIONS: [Script; 4] = [
     (
         "the counter overflows by a removal, and once more by a clear; a clear of no links leaves it",
         0,
@@ -125,7 +126,38 @@ const GENERATIONS: [Script; 3] = [
             Line::Shows(&[((1, 2), 1, NONE, NONE), ((2, 2), 2, NONE, NONE)]),
         ],
     ),
+    (
+        ".. and by the second link of a drained chain",
+        0,
+        &[],
+        &[
+            Line::Says(Do::SetGeneration(254), "()"),
+            Line::Says(Do::InsertMany(2), "2"),
+            Line::Says(Do::Connect((1, 254), (2, 254)), "Some(())"),
+            Line::Says(Do::DrainTwo((1, 254)), "[Some(false), Some(true)]"),
+            Line::Says(Do::IsEmpty, "true"),
+            Line::Says(Do::Generation, "2"),
+        ],
+    ),
     AT_THE_GREATEST_GENERATION,
+];
+
+// A maximum, and what an index of 8 bits answers under it: the maximum is tested first, but at birth, where there is none.
+const UNDER_MAXIMUM: [(usize, &[Line]); 2] = [
+    (
+        255,
+        &[
+            Line::Says(Do::InsertMany(255), "255"),
+            Line::Says(Do::Insert(LONE, 256), "Err(BeyondMaxCapacity)"),
+        ],
+    ),
+    (
+        2,
+        &[
+            Line::Says(Do::Reserve(256), "Err(BeyondMaxCapacity)"),
+            Line::Says(Do::Birth(256), "Err(AllocError)"),
+        ],
+    ),
 ];
 
 // An index of one bit.
@@ -160,6 +192,24 @@ fn plays_at<I: PtrInx, G: Counted, S: SlotStack<Item = Slot<Pair<I, G>>>>(
     table: &[Script],
 ) {
     plays_all::<ChainArena<Pair<I, G>, u32, S>>(rt, alloc, table);
+}
+
+// .. each list of lines on a new arena with a maximum.
+fn plays_under<I: PtrInx, G: Counted, S: LimitStack<Item = Slot<Pair<I, G>>>>(
+    rt: &impl Abort,
+    alloc: Global,
+    table: &[(usize, &[Line])],
+) {
+    for (most, lines) in table {
+        let mut arena: ChainArena<Pair<I, G>, u32, S> = limited(rt, alloc, *most);
+        plays(rt, alloc, "a maximum", &mut arena, lines);
+    }
+}
+
+#[test]
+fn an_index_of_8_bits_under_a_maximum(rt: HostRuntime) {
+    let alloc = rt.alloc();
+    plays_under::<Inx8, (), LimitedStack<Slot<BarePtr>>>(&rt, alloc, &UNDER_MAXIMUM);
 }
 
 // Each arena is handed to the body of the scripts once, since that is what costs.

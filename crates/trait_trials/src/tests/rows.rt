@@ -17,6 +17,27 @@ const AROUND: Kind = Kind::Bridge {
     start: (1, 2),
 };
 
+// Kinds of which one of the two pointers is stale.
+const STALE_END: Kind = Kind::Bridge {
+    end: (1, 2),
+    start: (2, 2),
+};
+
+const STALE_START: Kind = Kind::Bridge {
+    end: (2, 2),
+    start: (1, 2),
+};
+
+const STALE_BEFORE: Kind = Kind::AtInterlink {
+    next_to: (1, 2),
+    prev_to: (2, 2),
+};
+
+const STALE_AFTER: Kind = Kind::AtInterlink {
+    next_to: (2, 2),
+    prev_to: (1, 2),
+};
+
 // A ring of one, and of two.
 const RING: [Row; 1] = [((1, 2), 1, (1, 2), (1, 2))];
 
@@ -353,7 +374,7 @@ pub(super) const REMOVALS: [Script; 6] = [
 ];
 
 // The kinds of insertion.
-pub(super) const KINDS: [Script; 5] = [
+pub(super) const KINDS: [Script; 6] = [
     (
         "a lone link: nothing comes between it and itself, a bridge makes a cycle, which grows by indexes",
         1,
@@ -458,6 +479,52 @@ pub(super) const KINDS: [Script; 5] = [
             ),
             Line::Says(Do::NeighborsInx(3, 4), "true"),
             Line::Says(Do::NeighborsInx(4, 2), "true"),
+        ],
+    ),
+    (
+        "no kind and no call takes a stale pointer, in either place; its index is that of the link there now",
+        2,
+        &[],
+        &[
+            Line::Says(Do::Remove((1, 2)), "Success(1)"),
+            Line::Says(Do::Insert(Kind::Disconnected, 3), "Ok(P0[1](3))"),
+            Line::Says(Do::Insert(Kind::ChainEnd((1, 2)), 0), REFUSED),
+            Line::Says(Do::Insert(Kind::ChainStart((1, 2)), 0), REFUSED),
+            Line::Says(Do::Insert(Kind::NextTo((1, 2)), 0), REFUSED),
+            Line::Says(Do::Insert(Kind::PrevTo((1, 2)), 0), REFUSED),
+            Line::Says(Do::Insert(STALE_END, 0), REFUSED),
+            Line::Says(Do::Insert(STALE_START, 0), REFUSED),
+            Line::Says(Do::Connect((1, 2), (2, 2)), "None"),
+            Line::Says(Do::Connect((2, 2), (1, 2)), "None"),
+            Line::Says(Do::Connect((1, 3), (2, 2)), "Some(())"),
+            Line::Says(Do::Connect((2, 2), (1, 3)), "Some(())"),
+            Line::Says(Do::Insert(STALE_BEFORE, 0), REFUSED),
+            Line::Says(Do::Insert(STALE_AFTER, 0), REFUSED),
+            Line::Says(Do::InsertWithin(STALE_AFTER, 0), REFUSED),
+            Line::Says(Do::BreakPrev((1, 2)), "None"),
+            Line::Says(Do::BreakNext((1, 2)), "None"),
+            Line::Says(Do::Exchange((1, 2), (2, 2)), "None"),
+            Line::Says(Do::Exchange((2, 2), (1, 2)), "None"),
+            Line::Says(Do::Neighbors((1, 2), (2, 2)), "false"),
+            Line::Says(Do::Neighbors((2, 2), (1, 2)), "false"),
+            Line::Says(Do::Contains((1, 2)), "false"),
+            Line::Says(Do::Get((1, 2)), "None"),
+            Line::Says(Do::Write((1, 2), 0), "None"),
+            Line::Says(Do::Link((1, 2)), "None"),
+            Line::Says(Do::LinkNoGen((1, 2)), "false"),
+            Line::Says(
+                Do::Along((1, 2)),
+                "[(0, 0), (0, 0), (0, 0), (0, 0), (0, 0)]",
+            ),
+            Line::Says(Do::RemoveLink((1, 2)), "InvalidPtr"),
+            Line::Says(Do::Remove((1, 2)), "InvalidPtr"),
+            Line::Says(Do::Invalidate((1, 2)), "InvalidPtr"),
+            Line::Says(Do::Insert(Kind::NextToInx(1), 4), "Ok(P0[3](3))"),
+            Line::Shows(&[
+                ((1, 3), 3, (2, 2), (3, 3)),
+                ((2, 2), 2, (3, 3), (1, 3)),
+                ((3, 3), 4, (1, 3), (2, 2)),
+            ]),
         ],
     ),
 ];
@@ -634,12 +701,13 @@ pub(super) const ADVANCERS: [Script; 1] = [(
     0,
     &[],
     &[
-        Line::Says(Do::Birth(3), "(true, true)"),
+        Line::Says(Do::Birth(3), "Ok((true, true))"),
         Line::Says(Do::AdvanceEmpty, "None"),
         Line::Says(
             Do::Changes,
             "((1, 2), [[(0, 0), (0, 0), (0, 0), (0, 0), (0, 0)], \
-                [(1, 2), (0, 0), (0, 0), (0, 0), (0, 0)], [(3, 2), (2, 2), (0, 0), (0, 0), (0, 0)]])",
+                [(1, 2), (0, 0), (0, 0), (0, 0), (0, 0)], [(3, 2), (2, 2), (0, 0), (0, 0), (0, 0)], \
+                [(0, 0), (0, 0), (0, 0), (0, 0), (0, 0)]])",
         ),
     ],
 )];

@@ -2,10 +2,12 @@
 
 use super::advancing::{changes_met, met, walk_along};
 use super::behind::{add_behind, count_of_links, take_next};
-use super::transfers::{carried_out, carried_to_bare, carried_to_full};
+use super::transfers::{carried_as_five, carried_out, carried_to_bare, carried_to_full};
 use super::{At, Numbered, Row, Slot, at, index, number, numbers, rows_of, same, text};
 use arena_base::{Advancer, ArenaTrait, CompactArenaTrait};
-use arena_ptr::{HeapStack, InvalidationOption, InvalidationResult, InxKey, PtrKey, ToolPtr};
+use arena_ptr::{
+    AllocError, HeapStack, InvalidationOption, InvalidationResult, InxKey, PtrKey, ToolPtr,
+};
 use chain_arena::{ChainArenaTrait, InsertKindBody, Link, LinkInsertKind, LinkNoGen};
 use std::alloc::Global;
 use std::mem;
@@ -68,13 +70,16 @@ pub(super) enum Do {
     ClearInRoom,
     Reserve(usize),
     CompressWith(bool),
-    // All links carried over to an arena of two links of other pointers, with a generation; and to arenas that refuse them, one
-    // of them with a maximum.
+    // All links carried over to an arena of two links of other pointers, with a generation; to one where each value is five; and
+    // to arenas that refuse them, one of them with a maximum.
     CarryOut(u32),
+    CarryAsFive,
     CarryToFull,
     CarryToBare(usize),
-    // Calls of the chain arena alone. An insertion as a value.
+    // Calls of the chain arena alone. An insertion as a value; whether the counter overflows at each of the first two links of a
+    // drained chain.
     Apply(Kind, u32),
+    DrainTwo(At),
     Generation,
     SetGeneration(u32),
     IncGeneration,
@@ -140,12 +145,11 @@ pub(super) fn overwritten(slot: Option<&mut u32>, value: u32) -> Option<u32> {
 
 // Whether an arena that is born with room for so many links is empty, and has the room.
 fn born<P: PtrKey, A: ChainArenaTrait<P, u32> + Drop>(
-    rt: &impl Abort,
     alloc: Global,
     n: usize,
-) -> (bool, bool) {
-    let born = A::with_min_capacity(alloc, n).expect(rt, "memory");
-    (born.is_empty(), born.capacity() >= n)
+) -> Result<(bool, bool), AllocError> {
+    let born = A::with_min_capacity(alloc, n)?;
+    Ok((born.is_empty(), born.capacity() >= n))
 }
 
 // Adds so many lone links, the values from 1 on, and counts those that are added.
@@ -282,7 +286,7 @@ fn look_along<P: Numbered, A: ChainArenaTrait<P, u32> + Drop>(
             text(rt, alloc, met(rt, advancer, arena, 2))
         }
         Do::AdvanceEmpty => text(rt, alloc, A::PtrAdvancer::empty().advance(arena)),
-        Do::Birth(n) => text(rt, alloc, born::<P, A>(rt, alloc, n)),
+        Do::Birth(n) => text(rt, alloc, born::<P, A>(alloc, n)),
         Do::Room => text(rt, alloc, (arena.len(), arena.capacity())),
         Do::Changes => text(rt, alloc, changes_met::<P, A>(rt, alloc)),
         other => look_at_links(rt, alloc, arena, other),
@@ -368,6 +372,7 @@ fn change_links<P: Numbered, A: ChainArenaTrait<P, u32> + CompactArenaTrait<P, u
         Do::AddBehind(p, t) => text(rt, alloc, add_behind(arena, at(rt, p), t)),
         Do::TakeNext(i) => text(rt, alloc, index_told(rt, take_next(arena, index(rt, i)))),
         Do::CarryOut(g) => carried_out::<P, A, HeapStack<Slot<ToolPtr>>>(rt, alloc, arena, g),
+        Do::CarryAsFive => carried_as_five::<P, A, HeapStack<Slot<ToolPtr>>>(rt, alloc, arena),
         Do::CarryToFull => carried_to_full(rt, alloc, arena),
         Do::CarryToBare(most) => carried_to_bare(rt, alloc, arena, most),
         other => change(rt, alloc, arena, other),

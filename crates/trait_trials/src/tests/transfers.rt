@@ -82,6 +82,18 @@ pub(super) fn carried_out<
     arrival(rt, alloc, told, &target)
 }
 
+// .. where the closure answers one value for each link: what is answered, and the links there then.
+pub(super) fn carried_as_five<
+    P: Numbered,
+    A: ChainArenaTrait<P, u32> + CompactArenaTrait<P, u32>,
+    S: SlotStack<Item = Slot<ToolPtr>>,
+>(rt: &impl Abort, alloc: Global, source: &mut A) -> String {
+    let mut target: ChainArena<ToolPtr, u32, S> = ChainArena::new(alloc);
+    let now = Gen32::of(rt, 7);
+    let answer = target.transfer_canonical_reallocating(now, source, |_, _, _| 5);
+    text(rt, alloc, (answer, &target))
+}
+
 // All that a chain arena shows: its links, its counter and its room.
 fn shown<P: Ptr, S: SlotStack<Item = Slot<P>>>(
     rt: &impl Abort,
@@ -186,7 +198,7 @@ pub(super) fn carried_to_bare<P: Numbered, A: ChainArenaTrait<P, u32> + CompactA
 
 // A chain of 3 and 1, and a lone link between them; and others. Some have the generation that a compression of the same links gives
 // them, which lays them out alike.
-pub(super) const TRANSFERS: [(Script, &[Line]); 8] = [
+pub(super) const TRANSFERS: [(Script, &[Line]); 9] = [
     (
         BEHIND_A_HOLE,
         &[Line::Says(
@@ -257,6 +269,13 @@ pub(super) const TRANSFERS: [(Script, &[Line]); 8] = [
             Line::Says(Do::Len, "0"),
             Line::Says(Do::Counter, "Some(6)"),
         ],
+    ),
+    (
+        INTERLEAVED,
+        &[Line::Says(
+            Do::CarryAsFive,
+            "(Ok(()), {P0[1](7): {(start), 2} 5, P0[2](7): {1, (end)} 5, P0[3](7): {4, 4} 5, P0[4](7): {3, 3} 5})",
+        )],
     ),
     (
         ("an empty source", 0, &[], &[]),
