@@ -2,8 +2,4 @@
 #![tactic(auto)]
 
 #[cfg(test)]
-mod slow;
-#[cfg(test)]
-mod small_arenas;
-#[cfg(test)]
 mod tests;

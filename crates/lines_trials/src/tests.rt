@@ -1,4 +1,6 @@
 //! Runs of the program over readers and writers in memory.
+mod faulty;
+
 ghost use Rattle.std.specs.Prelude.{◌≡◌, ℕ, List, ◌∷◌, [], codes, true, Some, None, option_map};
 ghost use Rattle.chain_links.specs.declared.kinds.InsertKindBody.TheVariants.{Disconnected, SingleLinkCyclic, ChainEnd, NextToInx, BridgeInx};
 ghost use Rattle.arena_ptr.specs.declared.index.inx32.Inx32.{Inx32};
@@ -15,21 +17,19 @@ use arena_ptr::{
     ChunkStack, Gen32, HeapStack, LimitStack, LimitedStack, SetMaxCapacity, SlotStack, ToolPtr,
 };
 use chain_arena::{ChainArena, ChainArenaTrait, LinkInsertKind, LinkNoGen};
-use chain_lines::{ToolError, run, run_on};
+use chain_lines::{run, run_on};
 use std::alloc::Global;
 use std::fmt::Debug;
-use std::io;
-use std::io::{ErrorKind, Read, Write};
 use std::process::Abort;
 
 /// A slot of a link of a number.
-pub type Slot = ArenaSlot<ToolPtr, LinkNoGen<ToolPtr, u32>>;
+type Slot = ArenaSlot<ToolPtr, LinkNoGen<ToolPtr, u32>>;
 
 /// The arena of a run, over any stack: what is written for one stack costs its proof twice as much.
-pub type LinksOver<S> = ChainArena<ToolPtr, u32, S>;
+type LinksOver<S> = ChainArena<ToolPtr, u32, S>;
 
 /// Looks whether a test got what it wants.
-pub fn same<T: PartialEq + Debug + Drop>(rt: &impl Abort, what: &str, got: T, want: T) {
+fn same<T: PartialEq + Debug + Drop>(rt: &impl Abort, what: &str, got: T, want: T) {
     assert_eq!(rt; got, want, "{what}");
 }
 
@@ -125,7 +125,7 @@ const FIRST_TABLE: (&str, &str) = (
         ok\nok\n3.2:3 2.2:2\ncount 3\nok\n",
 );
 
-const LINES_AND_WORDS: [(&str, &str); 19] = [
+const LINES_AND_WORDS: [(&str, &str); 24] = [
     ("", ""),
     ("\n\n \n", ""),
     ("\r\n  \r\n", ""),
@@ -136,6 +136,11 @@ const LINES_AND_WORDS: [(&str, &str); 19] = [
     ("add  alone   007\r\n", "at 1.2\n"),
     ("len\r\r\n", "bad line\n"),
     ("len\t\n", "bad line\n"),
+    ("len\0\n", "bad line\n"),
+    ("l\u{e9}n\n", "bad line\n"),
+    ("add\talone 1\n", "bad line\n"),
+    ("Len\n", "bad line\n"),
+    ("chain 1\n", "bad line\n"),
     ("LEN\n", "bad line\n"),
     ("le\n", "bad line\n"),
     ("len 1\n", "bad line\n"),
@@ -249,7 +254,7 @@ fn check_filled(rt: &impl Abort, alloc: Global, line: &FilledLine<'_>) {
 }
 
 /// Filled lines of up to 200 bytes, and longer ones.
-const FILLED_LINES: [FilledLine<'static>; 9] = [
+const FILLED_LINES: [FilledLine<'static>; 8] = [
     ("200 bytes", "len", 200, "", "count 0\n"),
     ("201 bytes", "len", 201, "", "bad line\n"),
     ("200 bytes with a return", "len", 199, "\r\n", "count 0\n"),
@@ -264,209 +269,12 @@ const FILLED_LINES: [FilledLine<'static>; 9] = [
     ("200 spaces", "", 200, "\n", ""),
     ("201 spaces", "", 201, "\n", "bad line\n"),
     ("70000 spaces", "", 70000, "\nlen\n", "bad line\ncount 0\n"),
-    (
-        "lines of every sort, one of them 201 spaces",
-        "add end 0.2 5\nadd  alone   007\r\n\nadd between 1.2 1 5\n",
-        254,
-        "\nremove 4294967296.2\nremove 1\nchain 1.2\nlen",
-        "bad line\nat 1.2\nbad line\nbad line\nbad line\nvalue 7\nnone\ncount 0\n",
-    ),
 ];
 
 #[test]
 fn lines_of_200_bytes_and_more(rt: HostRuntime) {
     for line in &FILLED_LINES {
         check_filled(&rt, rt.alloc(), line);
-    }
-}
-
-/// Gives its bytes, a few at a time, then fails once, and has later ones for who reads on.
-#[derive(Drop)]
-struct FailingReader<'a> {
-    left: &'a [u8],
-    later: &'a [u8],
-    step: usize,
-    fails_with: Option<ErrorKind>,
-}
-
-impl Read for FailingReader<'_> {
-    fn read(&mut self, buf: &mut [u8]) -> io::Result<usize> {
-        let n = self.step.min(buf.len()).min(self.left.len());
-        if n == 0 {
-            if let Some(kind) = self.fails_with.take() {
-                self.left = self.later;
-                return Err(io::Error::from(kind));
-            }
-        }
-        let (now, next) = self.left.split_at(n);
-        buf[..n].copy_from_slice(now);
-        self.left = next;
-        Ok(n)
-    }
-}
-
-/// Runs the program on a reader that fails once, in its third line, and looks at what it did before, and whether it read
-/// on.
-fn check_reader<S: SlotStack<Item = Slot>>(
-    rt: &impl Abort,
-    alloc: Global,
-    kind: ErrorKind,
-    step: usize,
-) {
-    let later = "5\nlen\n".as_bytes();
-    let mut reader = FailingReader {
-        left: "add alone 1\nlen\nadd alone 2".as_bytes(),
-        later,
-        step,
-        fails_with: Some(kind),
-    };
-    let mut written = Vec::new(alloc);
-    let mut arena = LinksOver::<S>::new(alloc);
-    let result = run_on(alloc, &mut arena, &mut reader, &mut written);
-    same(rt, "the reader fails", result, Err(ToolError::Read));
-    let lines = "at 1.2\ncount 1\n".as_bytes();
-    same(rt, "whole lines are answered", written.as_slice(), lines);
-    same(rt, "the unfinished line is not carried out", arena.len(), 1);
-    same(rt, "nothing more is read", reader.left, later);
-}
-
-#[test]
-fn a_reader_that_fails_once(rt: HostRuntime) {
-    for kind in [
-        ErrorKind::Other,
-        ErrorKind::Interrupted,
-        ErrorKind::UnexpectedEof,
-    ] {
-        for step in [1, 2, 7, 100] {
-            check_reader::<HeapStack<Slot>>(&rt, rt.alloc(), kind, step);
-        }
-    }
-}
-
-/// Takes a few bytes at a time, up to a limit, then fails once, and has room again for who writes on. So do its flushes.
-/// Each second write is interrupted.
-#[derive(Drop)]
-struct FailingWriter {
-    held: Vec<u8>,
-    step: usize,
-    room: usize,
-    is_interrupted: bool,
-    fails_with: Option<ErrorKind>,
-    flushes: usize,
-}
-
-impl Write for FailingWriter {
-    fn write(&mut self, buf: &[u8]) -> io::Result<usize> {
-        self.is_interrupted = !self.is_interrupted;
-        if self.is_interrupted {
-            return Err(io::Error::from(ErrorKind::Interrupted));
-        }
-        let n = self.step.min(buf.len()).min(self.room);
-        if n == 0 {
-            self.room = 1000;
-            return match self.fails_with {
-                Some(kind) => Err(io::Error::from(kind)),
-                None => Ok(0),
-            };
-        }
-        let (now, _) = buf.split_at(n);
-        self.held.extend_from_slice(now)?;
-        self.room -= n;
-        Ok(n)
-    }
-
-    fn flush(&mut self) -> io::Result<()> {
-        if self.flushes == 0 {
-            self.flushes = 1000;
-            return Err(io::Error::from(ErrorKind::Other));
-        }
-        self.flushes -= 1;
-        Ok(())
-    }
-}
-
-fn failing_writer(
-    alloc: Global,
-    step: usize,
-    room: usize,
-    fails_with: Option<ErrorKind>,
-) -> FailingWriter {
-    FailingWriter {
-        held: Vec::new(alloc),
-        step,
-        room,
-        is_interrupted: false,
-        fails_with,
-        flushes: 1000,
-    }
-}
-
-/// Runs the program on a writer that fails once, when it has no room, and looks at what it did before, and whether it
-/// wrote on.
-fn check_writer<S: SlotStack<Item = Slot>>(
-    rt: &impl Abort,
-    alloc: Global,
-    fails_with: Option<ErrorKind>,
-    step: usize,
-    room: usize,
-) {
-    let mut reader = "add alone 1\nadd alone 2\nadd alone 3\n".as_bytes();
-    let output = "at 1.2\nat 2.2\nat 3.2\n".as_bytes();
-    let mut writer = failing_writer(alloc, step, room, fails_with);
-    let mut arena = LinksOver::<S>::new(alloc);
-    let result = run_on(alloc, &mut arena, &mut reader, &mut writer);
-    same(rt, "the writer fails", result, Err(ToolError::Write));
-    let taken = &output[..room.min(output.len())];
-    let held = writer.held.as_slice();
-    same(rt, "it has what it took before", held, taken);
-    same(
-        rt,
-        "the line of the last answer is carried out",
-        arena.len(),
-        room / 7 + 1,
-    );
-}
-
-#[test]
-fn a_writer_that_fails_once(rt: HostRuntime) {
-    for fails_with in [None, Some(ErrorKind::Other), Some(ErrorKind::WriteZero)] {
-        for step in [1, 3, 100] {
-            for room in 0..21 {
-                check_writer::<HeapStack<Slot>>(&rt, rt.alloc(), fails_with, step, room);
-            }
-        }
-    }
-}
-
-#[test]
-fn a_writer_that_is_interrupted(rt: HostRuntime) {
-    let mut reader = "add alone 1\nlen\n".as_bytes();
-    let mut writer = failing_writer(rt.alloc(), 1, 1000, None);
-    let result = run(rt.alloc(), &mut reader, &mut writer);
-    same(&rt, "it tries again", result, Ok(()));
-    let lines = "at 1.2\ncount 1\n".as_bytes();
-    same(&rt, "all lines come", writer.held.as_slice(), lines);
-}
-
-/// Runs the program on a writer of which one flush fails, and looks at what it wrote before, and whether it wrote on.
-fn check_flush(rt: &impl Abort, alloc: Global, flushes: usize, output: &str) {
-    let mut reader = "add alone 1\n".as_bytes();
-    let mut writer = failing_writer(alloc, 100, 1000, None);
-    writer.flushes = flushes;
-    let result = run(alloc, &mut reader, &mut writer);
-    same(rt, "the flush fails", result, Err(ToolError::Write));
-    same(
-        rt,
-        "lines before it",
-        writer.held.as_slice(),
-        output.as_bytes(),
-    );
-}
-
-#[test]
-fn a_flush_that_fails(rt: HostRuntime) {
-    for (flushes, output) in [(0, ""), (1, "at 1.2\n"), (2, "at 1.2\n")] {
-        check_flush(&rt, rt.alloc(), flushes, output);
     }
 }
 
@@ -483,29 +291,6 @@ fn check_given<S: SlotStack<Item = Slot>>(rt: &impl Abort, alloc: Global) {
 #[test]
 fn a_given_arena(rt: HostRuntime) {
     check_given::<HeapStack<Slot>>(&rt, rt.alloc());
-}
-
-/// Carries out `moves` on an arena of one link, where memory may be refused (`tools/faults` refuses each request in turn):
-/// it is answered, or the link keeps its pointer and nothing is written.
-/// Moves one link, or is refused memory, and looks whether its pointer is kept exactly then.
-fn check_moves<S: SlotStack<Item = Slot>>(rt: &impl Abort, alloc: Global) {
-    let mut arena = LinksOver::<S>::new(alloc);
-    let added = arena.insert_reallocating(LinkInsertKind::Disconnected, 5);
-    let p = added.expect(rt, "room for a link");
-    let mut written = Vec::with_capacity(alloc, 100).expect(rt, "room for the answer");
-    let mut reader = "moves keep\n".as_bytes();
-    let result = run_on(alloc, &mut arena, &mut reader, &mut written);
-    let (answer, is_kept) = match result {
-        Ok(()) => ("moved 1 1.2>1.3\n", false),
-        Err(_) => ("", true),
-    };
-    same(rt, "its answer", written.as_slice(), answer.as_bytes());
-    same(rt, "its pointer", arena.contains(p), is_kept);
-}
-
-#[test]
-fn moves_or_nothing(rt: HostRuntime) {
-    check_moves::<HeapStack<Slot>>(&rt, rt.alloc());
 }
 
 const REMOVAL_TABLE: (&str, &str) = (
@@ -675,8 +460,25 @@ fn steps_that_overflow(rt: HostRuntime) {
     }
 }
 
+/// Lines of every sort: among them one without words, one of 201 spaces, and a last one that no line feed ends.
+const LINES_OF_EVERY_SORT: (&str, &str) = (
+    "add end 0.2 5\nadd  alone   007\r\n\nadd between 1.2 1 5\n                                                                                                                                                                                                         \n\
+    remove 4294967296.2\nremove 1\nchain 1.2\nlen",
+    "bad line\nat 1.2\nbad line\nbad line\nbad line\nvalue 7\nnone\ncount 0\n",
+);
+
+/// The sample that the program is shown by.
+const SAMPLE: (&str, &str) = (
+    "add alone 10\nadd alone 20\nconnect 1.2 2.2\nadd end 1.2 40\nadd end 2.2 40\nchain 1.2\nshow 2.2\nremove 2.2\n\
+    chain 3.2\nshow 2.2\nhello\n",
+    "at 1.2\nat 2.2\nok\nrefused link\nat 3.2\n1.2:10 2.2:20 3.2:40\nprev 1.2 next 3.2 value 20\nvalue 20\n\
+    3.2:40 1.2:10\nnone\nbad line\n",
+);
+
 /// Whole runs, each a text and what the program writes.
-const RUNS: [(&str, &str); 13] = [
+const RUNS: [(&str, &str); 15] = [
+    SAMPLE,
+    LINES_OF_EVERY_SORT,
     TWO_LONE_LINKS_CONNECTED,
     FIRST_TABLE,
     KINDS_TABLE,
@@ -692,7 +494,7 @@ const RUNS: [(&str, &str); 13] = [
     EACH_KIND_BY_INDEX,
 ];
 
-// All tables are one constant, since a reference that a body makes costs its proof more than what it does with it.
+// All tables, as one constant that one body names.
 const TABLES: [&[(&str, &str)]; 5] = [
     &RUNS,
     &LINES_AND_WORDS,
