@@ -1,12 +1,10 @@
-// Each call once over both stacks: those of the trait through the trait, and the arena's own.
+// Each call once: those of the trait through the trait, and the arena's own.
 use crate::tests::compressions::{COMPACTORS, COMPRESSIONS};
 use crate::tests::copies::COPY;
 use crate::tests::pointers::SmallPtr;
 use crate::tests::rows::NEXTS;
 use crate::tests::scripts::{Answers, Call, Script, plays};
-use crate::tests::tools::Slot;
 use arena_base::Arena;
-use arena_ptr::LimitedStack;
 use std::alloc::Global;
 use std::process::Abort;
 
@@ -89,11 +87,11 @@ const EACH: [Script; 3] = [
     ),
 ];
 
-// One constant, since each reference that a body makes costs its proof more than all that it does with it.
+// One constant, which one body names.
 const TABLES: [&[Script]; 5] = [&EACH, &NEXTS, &COMPACTORS, &COMPRESSIONS, &COPY];
 
 // Each script on an arena of this type.
-fn check_scripts<A: Answers + Drop>(rt: &impl Abort, alloc: Global) {
+pub(super) fn check_scripts<A: Answers + Drop>(rt: &impl Abort, alloc: Global) {
     for table in &TABLES {
         plays::<A>(rt, alloc, table);
     }
@@ -102,9 +100,4 @@ fn check_scripts<A: Answers + Drop>(rt: &impl Abort, alloc: Global) {
 #[test]
 fn each_script_over_the_heap_stack(rt: HostRuntime) {
     check_scripts::<Arena<SmallPtr, u32>>(&rt, rt.alloc());
-}
-
-#[test]
-fn each_script_over_a_limited_stack(rt: HostRuntime) {
-    check_scripts::<Arena<SmallPtr, u32, LimitedStack<Slot<SmallPtr>>>>(&rt, rt.alloc());
 }

@@ -28,22 +28,30 @@ fn with_a_hole<P: Numbered, S: SlotStack<Item = Slot<P>>>(
     arena
 }
 
-// Makes an arena a copy, with ten times each value and which call of the closure it was: how many entries there are, and
-// how many calls there were.
-pub(super) fn copied_hole<P: Numbered, S: SlotStack<Item = Slot<P>>>(
-    rt: &impl Abort,
-    alloc: Global,
-    arena: &mut Arena<P, u32, S>,
-) -> (Result<usize, ReallocationError>, u32) {
-    let source: Arena<P, u32> = with_a_hole(rt, alloc);
+// Makes an arena a copy of another, with ten times each value and which call of the closure it was: its answer, and how many
+// calls there were.
+fn copied<P: PtrKey, R: SlotStack<Item = Slot<P>>, A: ArenaCloneFromWith<P, u32>>(
+    arena: &mut A,
+    source: &Arena<P, u32, R>,
+) -> (Result<(), ReallocationError>, u32) {
     let mut calls = 0u32;
-    let copied = arena.clone_from_with(&source, |_p: P, t: &u32| {
+    let answer = arena.clone_from_with(source, |_p: P, t: &u32| {
         calls = calls.saturating_add(1);
         t.saturating_mul(10).saturating_add(calls)
     });
-    match copied {
-        Ok(()) => (Ok(arena.len()), calls),
-        Err(error) => (Err(error), calls),
+    (answer, calls)
+}
+
+// .. of the entries 1 and 3: how many entries there are, and how many calls there were.
+pub(super) fn copied_hole<P: Numbered, R: SlotStack<Item = Slot<P>>, A: ArenaCloneFromWith<P, u32>>(
+    rt: &impl Abort,
+    alloc: Global,
+    arena: &mut A,
+) -> (Result<usize, ReallocationError>, u32) {
+    let source: Arena<P, u32, R> = with_a_hole(rt, alloc);
+    match copied(arena, &source) {
+        (Ok(()), calls) => (Ok(arena.len()), calls),
+        (Err(error), calls) => (Err(error), calls),
     }
 }
 

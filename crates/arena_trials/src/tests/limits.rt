@@ -1,4 +1,5 @@
 // Arenas with a maximum, and what becomes of values and growths that are refused.
+use crate::tests::calls::check_scripts;
 use crate::tests::pointers::SmallPtr;
 use crate::tests::scripts::{Answers, Call, Script, plays, runs};
 use crate::tests::stacks::Rationed;
@@ -65,14 +66,16 @@ fn check_refused_copy<A: Answers + SetMaxCapacity + Drop>(rt: &impl Abort, alloc
     );
 }
 
-// An arena with a maximum is filled, and refuses to become a copy.
+// Each script, and an arena with a maximum that is filled and refuses to become a copy. The type is named once, since that is
+// what costs.
 fn check_limited<A: Answers + SetMaxCapacity + Drop>(rt: &impl Abort, alloc: Global) {
+    check_scripts::<A>(rt, alloc);
     check_maximum::<A>(rt, alloc);
     check_refused_copy::<A>(rt, alloc);
 }
 
 #[test]
-fn a_maximum_of_two(rt: HostRuntime) {
+fn each_script_over_a_limited_stack_and_a_maximum(rt: HostRuntime) {
     check_limited::<Arena<SmallPtr, u32, LimitedStack<Slot<SmallPtr>>>>(&rt, rt.alloc());
 }
 

@@ -8,7 +8,7 @@ use crate::tests::pointers::Numbered;
 use crate::tests::scripts::{Answers, Call, overwritten, trait_answer};
 use crate::tests::tools::{Slot, index, text, text_of_all};
 use arena_base::{Arena, ArenaSlot, ArenaTrait, Compactor, SlotAccess, Work};
-use arena_ptr::{InxKey, PtrKey, SlotStack};
+use arena_ptr::{HeapStack, InxKey, PtrKey, SlotStack};
 use std::alloc::Global;
 use std::fmt::Debug;
 use std::mem;
@@ -159,6 +159,18 @@ fn own_answer<P: Numbered, S: SlotStack<Item = Slot<P>>>(
         Call::InsertMany(n) => text(rt, alloc, insert_many(arena, 0, n)),
         Call::InsertWithin(value) => text(rt, alloc, arena.insert_within_capacity(value)),
         Call::Enter(value) => text(rt, alloc, enter(arena, value)),
+        other => counter_answer(rt, alloc, arena, other),
+    }
+}
+
+// .. on its counter, or on its slots, ...
+fn counter_answer<P: Numbered, S: SlotStack<Item = Slot<P>>>(
+    rt: &impl Abort,
+    alloc: Global,
+    arena: &mut Arena<P, u32, S>,
+    call: Call,
+) -> String {
+    match call {
         Call::DropPlace(by_hand) => text(rt, alloc, dropped_place(arena, by_hand)),
         Call::Generation => text(rt, alloc, P::number_of(arena.generation())),
         Call::SetGeneration(g) => text(rt, alloc, arena.set_generation(P::generation_of(rt, g))),
@@ -178,7 +190,10 @@ fn whole_answer<P: Numbered, S: SlotStack<Item = Slot<P>>>(
     match call {
         Call::Entries => iterated(rt, alloc, arena),
         Call::Drain => drained(rt, alloc, arena),
-        Call::CopyHole => text(rt, alloc, copied_hole(rt, alloc, arena)),
+        Call::CopyHole => {
+            let copied = copied_hole::<P, HeapStack<Slot<P>>, _>(rt, alloc, arena);
+            text(rt, alloc, copied)
+        }
         other => compactor_answer(rt, alloc, arena, other),
     }
 }

@@ -459,7 +459,7 @@ const IN_BLOCKS: [(Call, &str); 5] = [
     ),
 ];
 
-// Grows by several blocks at once, of which one may be refused (`tools/faults` refuses each request in turn): all are
+// Grows by several blocks at once, of which one may be refused (`tools/refusals` refuses each request in turn): all are
 // there, or nothing has changed, and what was refused is to be had then.
 fn check_blocks<S: SlotStack<Item = u32>>(rt: &impl Abort, alloc: Global, stack: &mut S) {
     let grown = stack.reserve_to(300);
