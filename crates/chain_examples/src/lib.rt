@@ -38,12 +38,12 @@ pub fn take_next<P: PtrKey, T: Drop, A: ChainArenaTrait<P, T>>(
     }
 }
 
-/// Ties the end of a list to its start, so that it is a ring. Tells whether it could.
-pub fn close<P: PtrKey, T: Drop, A: ChainArenaTrait<P, T>>(arena: &mut A, end: P, start: P) -> bool
-    ensures { IsTrue result → (xs : List ℕ) → IsChain (A.interlinks arena.old) (linear xs) → first_or xs None ≡ Some (P.key start).0 → last_or xs None ≡ Some (P.key end).0
+/// Ties p, the end of a list, to q, its start, so that it is a ring. Tells whether it could.
+pub fn close<P: PtrKey, T: Drop, A: ChainArenaTrait<P, T>>(arena: &mut A, p: P, q: P) -> bool
+    ensures { IsTrue result → (xs : List ℕ) → IsChain (A.interlinks arena.old) (linear xs) → first_or xs None ≡ Some (P.key q).0 → last_or xs None ≡ Some (P.key p).0
         → IsChain (A.interlinks arena.new) (cyclic xs) }
 {
-    match arena.connect(end, start) {
+    match arena.connect(p, q) {
         Some(()) => true,
         None => false,
     }
