@@ -1,5 +1,6 @@
 //! Requests for memory that are refused: nothing has changed then, and a second try answers what the first would have. Here
-//! each growth is refused, over a stack that refuses every other one; `tools/refusals` refuses each request for memory in turn.
+//! each growth is refused, over a stack that refuses every other one; `tools/refusals` refuses each request for memory in turn,
+//! in the tests that bear it.
 
 use super::rationed::Rationed;
 use super::{ChainsOver, Slot, at, generation, same};
@@ -339,11 +340,6 @@ fn check_births<S: SlotStack<Item = Slot>, R: SlotStack<Item = Bare>>(
     rt: &impl Abort,
     alloc: Global,
 ) {
-    let here = (
-        cloned::<S>(rt, alloc).is_some(),
-        born::<S>(rt, alloc).is_some(),
-    );
-    same(rt, "a clone, and a new arena", here, (true, true));
     let refused = (
         cloned::<Rationed<S>>(rt, alloc),
         born::<Rationed<S>>(rt, alloc),
@@ -356,7 +352,6 @@ fn check_births<S: SlotStack<Item = Slot>, R: SlotStack<Item = Bare>>(
 
 // The first of two calls is refused, and the second one is not.
 fn check_lists<S: SlotStack<Item = Slot>>(rt: &impl Abort, alloc: Global) {
-    made::<S>(rt, alloc);
     same(rt, "one of two", made::<Rationed<S>>(rt, alloc), 1);
 }
 
@@ -366,6 +361,31 @@ fn check_all<S: SlotStack<Item = Slot>, R: SlotStack<Item = Bare>>(rt: &impl Abo
     check_growths::<S>(rt, alloc);
     check_births::<S, R>(rt, alloc);
     check_lists::<S>(rt, alloc);
+}
+
+// Each call that may ask for memory. Wherever one request of all is refused, nothing has changed then, and a second try is not.
+fn check_bearing<S: SlotStack<Item = Slot>, R: SlotStack<Item = Bare>>(
+    rt: &impl Abort,
+    alloc: Global,
+) {
+    for call in GROWTHS {
+        grown::<S>(rt, alloc, call);
+    }
+    transferred::<S>(rt, alloc);
+    copied_plain::<S, R>(rt, alloc);
+    let born = (
+        cloned::<S>(rt, alloc).is_some(),
+        born::<S>(rt, alloc).is_some(),
+    );
+    same(rt, "a clone, and a new arena", born, (true, true));
+    made::<S>(rt, alloc);
+}
+
+#[test]
+fn a_request_may_be_refused(rt: HostRuntime) {
+    check_bearing::<HeapStack<Slot>, HeapStack<Bare>>(&rt, rt.alloc());
+    check_bearing::<LimitedStack<Slot>, LimitedStack<Bare>>(&rt, rt.alloc());
+    check_bearing::<ChunkStack<Slot>, ChunkStack<Bare>>(&rt, rt.alloc());
 }
 
 #[test]

@@ -271,15 +271,15 @@ fn is_answer(answer: &[u8], want: &[u8]) -> bool {
     answer == want || answer == "refused memory".as_bytes()
 }
 
-/// Whether what was written answers the first lines, so many as it has line feeds, each as is wanted up to the first that was
-/// refused memory, from which on the others may differ.
+/// Whether what was written answers the first lines, each as is wanted up to the first that was refused memory, from which on the
+/// others may differ. No answer is empty, so what comes after the last line feed is.
 fn is_beginning(written: &[u8], want: &[u8]) -> bool {
     let mut wanted = want.split(|b| *b == b'\n');
     for answer in written.split(|b| *b == b'\n') {
         match wanted.next() {
             Some(want) if answer == want => {}
-            Some(want) => return is_answer(answer, want),
-            None => return answer.is_empty(),
+            Some(want) => return answer.is_empty() || is_answer(answer, want),
+            None => return false,
         }
     }
     true
