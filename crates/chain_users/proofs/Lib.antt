@@ -1,0 +1,2 @@
+mod Items
+mod Turns

@@ -1,0 +1,91 @@
+//! Each user of arenas of links at chain arenas over two stacks, and at the arena that hands each call on.
+
+use arena_base::ArenaSlot;
+use arena_ptr::{ChunkStack, ToolPtr};
+use chain_arena::{ChainArena, ChainArenaTrait, LinkNoGen};
+use chain_users::RunQueue;
+use chain_wrapped::Wrapped;
+use std::alloc::Global;
+use std::fmt::Debug;
+use std::process::Abort;
+
+// Chain arenas over one piece of memory, and in blocks.
+type Chains = ChainArena<ToolPtr, u32>;
+
+type Blocks = ChainArena<ToolPtr, u32, ChunkStack<ArenaSlot<ToolPtr, LinkNoGen<ToolPtr, u32>>>>;
+
+// Looks whether a test got what it wants.
+fn same<T: PartialEq + Debug + Drop>(rt: &impl Abort, what: &str, got: T, want: T) {
+    assert_eq!(rt; got, want, "{what}");
+}
+
+// A queue of tasks that are named by numbers.
+type Queue<A> = RunQueue<ToolPtr, u32, A>;
+
+// Adds tasks from 1 to so many, and answers their pointers.
+fn spawned<A: ChainArenaTrait<ToolPtr, u32> + Drop>(
+    rt: &impl Abort,
+    alloc: Global,
+    queue: &mut Queue<A>,
+    count: u32,
+) -> Vec<ToolPtr> {
+    let mut names = Vec::new(alloc);
+    for task in 1..=count {
+        let p = queue.spawn(task).expect(rt, "room for a task");
+        names.push(p).expect(rt, "memory");
+    }
+    names
+}
+
+// The places in turn of the tasks that are current after so many steps each.
+fn rounds<A: ChainArenaTrait<ToolPtr, u32> + Drop>(
+    rt: &impl Abort,
+    alloc: Global,
+    queue: &mut Queue<A>,
+    names: &[ToolPtr],
+    steps: u32,
+) -> Vec<usize> {
+    let mut met = Vec::new(alloc);
+    for _ in 0..steps {
+        let p = queue.next().expect(rt, "a task");
+        let place = names.iter().position(|q| *q == p).expect(rt, "its name");
+        met.push(place).expect(rt, "memory");
+    }
+    met
+}
+
+// The name of a task by its place.
+fn name(rt: &impl Abort, names: &[ToolPtr], place: usize) -> ToolPtr {
+    names.get(place).copied().expect(rt, "a name")
+}
+
+// A round robin of five tasks: the first is current; the third is cancelled while another is current, and the fifth while it is.
+fn check_round_robin<A: ChainArenaTrait<ToolPtr, u32> + Drop>(rt: &impl Abort, alloc: Global) {
+    let mut queue = Queue::<A>::new(alloc);
+    same(rt, "no task", queue.next(), None);
+    let names = spawned(rt, alloc, &mut queue, 5);
+    let once = rounds(rt, alloc, &mut queue, &names, 6);
+    same(rt, "once round", once.as_slice(), [1, 2, 3, 4, 0, 1].as_slice());
+    same(rt, "cancelled", queue.cancel(name(rt, &names, 2)), Some(3));
+    same(rt, "no more", queue.cancel(name(rt, &names, 2)), None);
+    let others = rounds(rt, alloc, &mut queue, &names, 2);
+    same(rt, "the others", others.as_slice(), [3, 4].as_slice());
+    same(rt, "the current one", queue.cancel(name(rt, &names, 4)), Some(5));
+    same(rt, "the next one is current", queue.current(), Some(name(rt, &names, 0)));
+    same(rt, "left", queue.len(), 3);
+}
+
+#[test]
+fn a_round_robin(rt: HostRuntime) {
+    check_round_robin::<Chains>(&rt, rt.alloc());
+}
+
+#[test]
+fn a_round_robin_in_blocks(rt: HostRuntime) {
+    check_round_robin::<Blocks>(&rt, rt.alloc());
+}
+
+#[test]
+fn a_round_robin_over_an_arena_that_hands_each_call_on(rt: HostRuntime) {
+    check_round_robin::<Wrapped<Chains>>(&rt, rt.alloc());
+}
