@@ -6,7 +6,7 @@ ghost use Rattle.arena_base.specs.Entries.{first_key};
 ghost use Rattle.chain_users.specs.Turns.{IsCancelled, IsTurn, turned_once};
 ghost use Rattle.chain_users.specs.Items.{Item, IsAmong};
 
-use arena_ptr::{ChainInsertionError, PtrKey};
+use arena_ptr::{PtrKey, ReallocationError};
 use chain_links::LinkInsertKind;
 use chain_traits::ChainArenaTrait;
 use std::alloc::{AllocError, Global};
@@ -65,23 +65,20 @@ impl<P: PtrKey, T: Drop, A: ChainArenaTrait<P, T> + Drop> RunQueue<P, T, A> {
 
     /// Adds a task, which is the last in turn.
     ///
-    /// `BeyondMaxCapacity`, `AllocError`: there was no room for it. After either nothing has changed, and the task is dropped.
-    pub fn spawn(&mut self, task: T) -> Result<P, ChainInsertionError>
+    /// `BeyondMaxCapacity`, `AllocError`: the arena is full, and could not grow. After either nothing has changed, and the task is
+    /// dropped.
+    pub fn spawn(&mut self, task: T) -> Result<P, ReallocationError>
         ensures last { IfOk result (λ p. self.new ≡ self.old ++ (P.key p, task) ∷ []) }
         ensures err { OnErr result (self.new ≡ self.old) }
     {
         match self.current {
             None => {
-                let p = self
-                    .tasks
-                    .insert_reallocating(LinkInsertKind::SingleLinkCyclic, task)?;
+                let p = self.tasks.insert(LinkInsertKind::SingleLinkCyclic, task)?;
                 self.current = Some(p);
                 Ok(p)
             }
             Some(current) => {
-                let p = self
-                    .tasks
-                    .insert_reallocating(LinkInsertKind::PrevTo(current), task)?;
+                let p = self.tasks.insert(LinkInsertKind::PrevTo(current), task)?;
                 Ok(p)
             }
         }
@@ -99,7 +96,8 @@ impl<P: PtrKey, T: Drop, A: ChainArenaTrait<P, T> + Drop> RunQueue<P, T, A> {
         next
     }
 
-    /// Takes a task out of the queue and answers it: the others keep their order, and its pointer is of no task any more. If it was current, the next one is.
+    /// Takes a task out of the queue and answers it: the others keep their order, and its pointer is of no task any more. If it
+    /// was current, the next one is.
     /// `None`: the pointer is of no task in the queue, and nothing has changed.
     pub fn cancel(&mut self, p: P) -> Option<T>
         ensures some { IfSome result (λ task. IsCancelled (P.key p) task self.old self.new) }

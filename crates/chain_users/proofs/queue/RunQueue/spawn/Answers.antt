@@ -3,13 +3,24 @@ use Rattle.std.proofs.Common.{length, ◌∙◌, ap, subst, sym, refl, List, ◌
 use Rattle.std.specs.Option.{option_map}
 use Rattle.chain_users.specs.Items.{Item}
 use Rattle.chain_users.specs.Turns.{IsTurn, turn_of}
-use Rattle.chain_users.proofs.Turns.{spawned_first, spawned_last, settles, settled}
+use Rattle.chain_users.proofs.Turns.{spawned_first, spawned_last, current_stands, link_stands, settles, settled}
 use Rattle.chain_users.proofs.queue.RunQueue.spawn.Goals as goal
+
+-- the current task is a link, beside which one may be inserted
+pub insert-requires-in-Some : goal.insert-requires-in-Some
+insert-requires-in-Some g c =
+    let a = c.self.inside.tasks in
+    let entry = g.A.ArenaTrait.entry a in
+    let links = g.A.ChainArenaTrait.interlinks a in
+    let key = g.P.PtrKey.key in
+    let old = turn_of entry links (length (g.A.ArenaTrait.seen a).entries) (option_map key c.self.inside.current) in
+    let valid = current_stands entry links (key c.in-Some.current) old (subst (λ (o : Option g.row.P.Denot). IsTurn entry links (option_map key o) old) c.in-Some.is c.self.invariant) in
+    (valid, link_stands entry links (key c.in-Some.current) (g.met.A.ChainArenaTrait.stand a (key c.in-Some.current).0) valid)
 
 pub invariant_of-self-in-None : goal.invariant_of-self-in-None
 invariant_of-self-in-None g c =
     let a = c.self.inside.tasks in
-    let b = c.insert_reallocating.new.self in
+    let b = c.insert.new.self in
     let entry = g.A.ArenaTrait.entry a in
     let links = g.A.ChainArenaTrait.interlinks a in
     let key = g.P.PtrKey.key in
@@ -23,7 +34,7 @@ invariant_of-self-in-None g c =
 pub returns-in_ok-p-in-None-clause-last : goal.returns-in_ok-p-in-None-clause-last
 returns-in_ok-p-in-None-clause-last g c =
     let a = c.self.inside.tasks in
-    let b = c.insert_reallocating.new.self in
+    let b = c.insert.new.self in
     let entry = g.A.ArenaTrait.entry a in
     let links = g.A.ChainArenaTrait.interlinks a in
     let key = g.P.PtrKey.key in
@@ -38,7 +49,7 @@ returns-in_ok-p-in-None-clause-last g c =
 pub invariant_of-self-in-Some : goal.invariant_of-self-in-Some
 invariant_of-self-in-Some g c =
     let a = c.self.inside.tasks in
-    let b = c.insert_reallocating-in-Some.new.self in
+    let b = c.insert-in-Some.new.self in
     let entry = g.A.ArenaTrait.entry a in
     let links = g.A.ChainArenaTrait.interlinks a in
     let key = g.P.PtrKey.key in
@@ -55,7 +66,7 @@ invariant_of-self-in-Some g c =
 pub returns-in_ok-p-in-Some-clause-last : goal.returns-in_ok-p-in-Some-clause-last
 returns-in_ok-p-in-Some-clause-last g c =
     let a = c.self.inside.tasks in
-    let b = c.insert_reallocating-in-Some.new.self in
+    let b = c.insert-in-Some.new.self in
     let entry = g.A.ArenaTrait.entry a in
     let links = g.A.ChainArenaTrait.interlinks a in
     let key = g.P.PtrKey.key in
