@@ -1,2 +1,4 @@
 mod Items
+mod Rings
+mod Texts
 mod Turns

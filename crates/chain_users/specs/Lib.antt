@@ -1,2 +1,4 @@
 pub mod Items
+pub mod Rings
+pub mod Texts
 pub mod Turns

@@ -2,6 +2,8 @@
 //! `ChainArenaTrait` alone. Its own contracts speak of lists, and not of links.
 #![tactic(auto)]
 
+mod documents;
 mod queue;
 
+pub use documents::Documents;
 pub use queue::RunQueue;

@@ -1,9 +1,9 @@
 //! Each user of arenas of links at chain arenas over two stacks, and at the arena that hands each call on.
 
 use arena_base::ArenaSlot;
-use arena_ptr::{ChunkStack, ToolPtr};
+use arena_ptr::{ChainInsertionError, ChunkStack, ToolPtr};
 use chain_arena::{ChainArena, ChainArenaTrait, LinkNoGen};
-use chain_users::RunQueue;
+use chain_users::{Documents, RunQueue};
 use chain_wrapped::Wrapped;
 use std::alloc::Global;
 use std::fmt::Debug;
@@ -88,4 +88,58 @@ fn a_round_robin_in_blocks(rt: HostRuntime) {
 #[test]
 fn a_round_robin_over_an_arena_that_hands_each_call_on(rt: HostRuntime) {
     check_round_robin::<Wrapped<Chains>>(&rt, rt.alloc());
+}
+
+// Documents whose paragraphs are numbers.
+type Texts<A> = Documents<ToolPtr, u32, A>;
+
+// Looks whether a text has these paragraphs from one on, and no more.
+fn reads<A: ChainArenaTrait<ToolPtr, u32> + Drop>(rt: &impl Abort, texts: &Texts<A>, from: ToolPtr, want: &[u32]) {
+    let mut at = Some(from);
+    for paragraph in want {
+        let p = at.expect(rt, "a paragraph");
+        same(rt, "the paragraph", texts.get(p).copied(), Some(*paragraph));
+        at = texts.next(p);
+    }
+    same(rt, "the end", at, None);
+}
+
+// A text of three paragraphs, of which the first comes first and the middle one last, and its pointers in order.
+fn three<A: ChainArenaTrait<ToolPtr, u32> + Drop>(rt: &impl Abort, texts: &mut Texts<A>) -> (ToolPtr, ToolPtr, ToolPtr) {
+    let a = texts.begin(10).expect(rt, "room");
+    let c = texts.insert_after(a, 30).expect(rt, "room");
+    let b = texts.insert_before(c, 20).expect(rt, "room");
+    (a, b, c)
+}
+
+// A text edited: its parts change places, and a pointer names its paragraph wherever that stands.
+fn check_a_text<A: ChainArenaTrait<ToolPtr, u32> + Drop>(rt: &impl Abort, alloc: Global) {
+    let mut texts = Texts::<A>::new(alloc);
+    let (a, b, c) = three(rt, &mut texts);
+    reads(rt, &texts, a, [10, 20, 30].as_slice());
+    same(rt, "joined already", texts.join(b, c), None);
+    same(rt, "parted", texts.part(b), Some(()));
+    same(rt, "parted once", texts.part(b), None);
+    reads(rt, &texts, a, [10, 20].as_slice());
+    same(rt, "joined", texts.join(c, a), Some(()));
+    reads(rt, &texts, c, [30, 10, 20].as_slice());
+    same(rt, "removed", texts.remove(a), Some(10));
+    reads(rt, &texts, c, [30, 20].as_slice());
+    same(rt, "gone", texts.next(a), None);
+    same(rt, "named by nothing", texts.insert_after(a, 40), Err(ChainInsertionError::FailedLinkRequirement));
+}
+
+#[test]
+fn a_text_edited(rt: HostRuntime) {
+    check_a_text::<Chains>(&rt, rt.alloc());
+}
+
+#[test]
+fn a_text_edited_in_blocks(rt: HostRuntime) {
+    check_a_text::<Blocks>(&rt, rt.alloc());
+}
+
+#[test]
+fn a_text_edited_over_an_arena_that_hands_each_call_on(rt: HostRuntime) {
+    check_a_text::<Wrapped<Chains>>(&rt, rt.alloc());
 }
