@@ -1,4 +1,5 @@
 pub mod Items
 pub mod Rings
+pub mod Sketches
 pub mod Texts
 pub mod Turns

@@ -3,13 +3,13 @@ use Rattle.std.specs.Prelude.{◌≢◌, ℕ, List, [], ◌∷◌, ◌++◌, map
 use Rattle.chain_laws.specs.Chains.{linear, IsChain, Has}
 use Rattle.chain_laws.specs.Others.{Lacks}
 use Rattle.chain_users.specs.Items.{Item, Stand, indexes}
-use Rattle.chain_users.specs.Rings.{Sketch, corner_in, links_in}
+use Rattle.chain_users.specs.Sketches.{Sketch, item_in, links_in}
 
 module _ {Gen T : Type 0} where
   -- these items are one text, from its first paragraph to its last
   pub record IsText (sketch : Sketch Gen T) (text : List (Item Gen T)) : Type 0 where
     pub chain : IsChain (links_in sketch) (linear (indexes text))
-    pub stand : Stand (corner_in sketch) text
+    pub stand : Stand (item_in sketch) text
 
 module _ {Gen T : Type 0} (old new : Sketch Gen T) where
   -- every text that has none of these paragraphs stays, item for item

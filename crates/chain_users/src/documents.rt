@@ -7,7 +7,7 @@ ghost use Rattle.arena_base.specs.Arena.{IsValid};
 ghost use Rattle.arena_base.specs.Entries.{first_key};
 ghost use Rattle.chain_links.specs.ChainArena.{IsInserted, CanConnect};
 ghost use Rattle.chain_users.specs.Items.{Item};
-ghost use Rattle.chain_users.specs.Rings.{corner_in, links_in};
+ghost use Rattle.chain_users.specs.Sketches.{item_in, links_in};
 ghost use Rattle.chain_users.specs.Texts.{IsText, KeepsTextsWithout, ComesAfter, ComesBefore, Leaves, AreJoined, IsParted};
 
 use arena_ptr::{ChainInsertionError, PtrKey, ReallocationError};
@@ -27,7 +27,7 @@ pub struct Documents<P: PtrKey, T: Drop, A: ChainArenaTrait<P, T> + Drop> {
 }
 
 impl<P: PtrKey, T: Drop, A: ChainArenaTrait<P, T> + Drop> Model for Documents<P, T, A> {
-    ghost use Rattle.chain_users.specs.Rings.{Sketch, sketch_of};
+    ghost use Rattle.chain_users.specs.Sketches.{Sketch, sketch_of};
 
     ghost Value = { Sketch P.Gen T };
 
@@ -51,7 +51,7 @@ impl<P: PtrKey, T: Drop, A: ChainArenaTrait<P, T> + Drop> Documents<P, T, A> {
     /// paragraph is dropped.
     pub fn begin(&mut self, paragraph: T) -> Result<P, ReallocationError>
         ensures text { IfOk result (λ p. IsText self.new ((P.key p, paragraph) ∷ [])) }
-        ensures paragraph { IfOk result (λ p. IsInserted (corner_in self.old) (corner_in self.new) (P.key p) paragraph) }
+        ensures paragraph { IfOk result (λ p. IsInserted (item_in self.old) (item_in self.new) (P.key p) paragraph) }
         ensures others { OnOk result (KeepsTextsWithout self.old self.new []) }
         ensures size { OnOk result (length self.new ≡ length self.old + 1) }
         ensures err { OnErr result (self.new ≡ self.old) }
@@ -64,15 +64,15 @@ impl<P: PtrKey, T: Drop, A: ChainArenaTrait<P, T> + Drop> Documents<P, T, A> {
 
     /// A paragraph. `None`: the pointer is of none.
     pub fn get(&self, p: P) -> Option<&T>
-        ensures some { IsSome result ↔ IsValid (corner_in self.now) (P.key p) }
-        ensures paragraph { IfSome result (λ t. corner_in self.now (P.key p).0 ≡ Some ((P.key p).1, t.now)) }
+        ensures some { IsSome result ↔ IsValid (item_in self.now) (P.key p) }
+        ensures paragraph { IfSome result (λ t. item_in self.now (P.key p).0 ≡ Some ((P.key p).1, t.now)) }
     {
         self.paragraphs.get(p)
     }
 
     /// The pointer of the paragraph after another in its text. `None`: the pointer is of no paragraph, or of the last of a text.
     pub fn next(&self, p: P) -> Option<P>
-        ensures none { ¬ IsValid (corner_in self.now) (P.key p) → result ≡ None }
+        ensures none { ¬ IsValid (item_in self.now) (P.key p) → result ≡ None }
         ensures next { (t : T) (before after : List (Item P.Gen T)) → IsText self.now (before ++ (P.key p, t) ∷ after) → option_map P.key result ≡ first_key after }
     {
         match self.paragraphs.get_link(p) {
@@ -87,10 +87,10 @@ impl<P: PtrKey, T: Drop, A: ChainArenaTrait<P, T> + Drop> Documents<P, T, A> {
     /// grow. After each nothing has changed, and the paragraph is dropped.
     pub fn insert_after(&mut self, p: P, paragraph: T) -> Result<P, ChainInsertionError>
         ensures text { IfOk result (λ q. ComesAfter self.old self.new (P.key p) (P.key q, paragraph)) }
-        ensures paragraph { IfOk result (λ q. IsInserted (corner_in self.old) (corner_in self.new) (P.key q) paragraph) }
+        ensures paragraph { IfOk result (λ q. IsInserted (item_in self.old) (item_in self.new) (P.key q) paragraph) }
         ensures others { OnOk result (KeepsTextsWithout self.old self.new (P.key p ∷ [])) }
         ensures size { OnOk result (length self.new ≡ length self.old + 1) }
-        ensures link { (result ≡ Err ChainInsertionError.FailedLinkRequirement) ↔ ¬ IsValid (corner_in self.old) (P.key p) }
+        ensures link { (result ≡ Err ChainInsertionError.FailedLinkRequirement) ↔ ¬ IsValid (item_in self.old) (P.key p) }
         ensures err { OnErr result (self.new ≡ self.old) }
     {
         self.paragraphs
@@ -100,10 +100,10 @@ impl<P: PtrKey, T: Drop, A: ChainArenaTrait<P, T> + Drop> Documents<P, T, A> {
     /// .. directly before another.
     pub fn insert_before(&mut self, p: P, paragraph: T) -> Result<P, ChainInsertionError>
         ensures text { IfOk result (λ q. ComesBefore self.old self.new (P.key p) (P.key q, paragraph)) }
-        ensures paragraph { IfOk result (λ q. IsInserted (corner_in self.old) (corner_in self.new) (P.key q) paragraph) }
+        ensures paragraph { IfOk result (λ q. IsInserted (item_in self.old) (item_in self.new) (P.key q) paragraph) }
         ensures others { OnOk result (KeepsTextsWithout self.old self.new (P.key p ∷ [])) }
         ensures size { OnOk result (length self.new ≡ length self.old + 1) }
-        ensures link { (result ≡ Err ChainInsertionError.FailedLinkRequirement) ↔ ¬ IsValid (corner_in self.old) (P.key p) }
+        ensures link { (result ≡ Err ChainInsertionError.FailedLinkRequirement) ↔ ¬ IsValid (item_in self.old) (P.key p) }
         ensures err { OnErr result (self.new ≡ self.old) }
     {
         self.paragraphs
@@ -113,10 +113,10 @@ impl<P: PtrKey, T: Drop, A: ChainArenaTrait<P, T> + Drop> Documents<P, T, A> {
     /// Removes a paragraph and answers it: those that it stood between follow each other. `None`: the pointer is of no paragraph,
     /// and nothing has changed.
     pub fn remove(&mut self, p: P) -> Option<T>
-        ensures some { IsSome result ↔ IsValid (corner_in self.old) (P.key p) }
-        ensures paragraph { IfSome result (λ t. corner_in self.old (P.key p).0 ≡ Some ((P.key p).1, t)) }
+        ensures some { IsSome result ↔ IsValid (item_in self.old) (P.key p) }
+        ensures paragraph { IfSome result (λ t. item_in self.old (P.key p).0 ≡ Some ((P.key p).1, t)) }
         ensures text { IfSome result (λ t. Leaves self.old self.new (P.key p, t)) }
-        ensures paragraphs { OnSome result ((corner_in self.new (P.key p).0 ≡ None) × ((i : ℕ) → i ≢ (P.key p).0 → corner_in self.new i ≡ corner_in self.old i)) }
+        ensures paragraphs { OnSome result ((item_in self.new (P.key p).0 ≡ None) × ((i : ℕ) → i ≢ (P.key p).0 → item_in self.new i ≡ item_in self.old i)) }
         ensures others { OnSome result (KeepsTextsWithout self.old self.new (P.key p ∷ [])) }
         ensures size { OnSome result (length self.old ≡ length self.new + 1) }
         ensures none { IfNone result (self.new ≡ self.old) }
@@ -134,10 +134,10 @@ impl<P: PtrKey, T: Drop, A: ChainArenaTrait<P, T> + Drop> Documents<P, T, A> {
     /// p and q are of two texts. The end and the start of one text would be tied to a ring, which is no text: to find that out takes
     /// a walk, which is not made here.
     pub fn join(&mut self, p: P, q: P) -> Option<()>
-        ensures some { IsSome result ↔ CanConnect (corner_in self.old) (links_in self.old) (P.key p) (P.key q) }
+        ensures some { IsSome result ↔ CanConnect (item_in self.old) (links_in self.old) (P.key p) (P.key q) }
         ensures texts { OnSome result (AreJoined self.old self.new (P.key p) (P.key q)) }
         ensures others { OnSome result (KeepsTextsWithout self.old self.new (P.key p ∷ P.key q ∷ [])) }
-        ensures paragraphs { OnSome result (corner_in self.new ≡ corner_in self.old) }
+        ensures paragraphs { OnSome result (item_in self.new ≡ item_in self.old) }
         ensures size { OnSome result (length self.new ≡ length self.old) }
         ensures none { IfNone result (self.new ≡ self.old) }
     {
@@ -147,10 +147,10 @@ impl<P: PtrKey, T: Drop, A: ChainArenaTrait<P, T> + Drop> Documents<P, T, A> {
     /// Makes two texts of one: what comes after p is a text of its own. `None`: the pointer is of no paragraph, or nothing comes
     /// after it. Nothing has changed then.
     pub fn part(&mut self, p: P) -> Option<()>
-        ensures some { IsSome result ↔ (IsValid (corner_in self.old) (P.key p) × IsSome (next_of (links_in self.old) (P.key p).0)) }
+        ensures some { IsSome result ↔ (IsValid (item_in self.old) (P.key p) × IsSome (next_of (links_in self.old) (P.key p).0)) }
         ensures texts { OnSome result (IsParted self.old self.new (P.key p)) }
         ensures others { OnSome result (KeepsTextsWithout self.old self.new (P.key p ∷ [])) }
-        ensures paragraphs { OnSome result (corner_in self.new ≡ corner_in self.old) }
+        ensures paragraphs { OnSome result (item_in self.new ≡ item_in self.old) }
         ensures size { OnSome result (length self.new ≡ length self.old) }
         ensures none { IfNone result (self.new ≡ self.old) }
     {

@@ -3,7 +3,9 @@
 #![tactic(auto)]
 
 mod documents;
+mod mesh;
 mod queue;
 
 pub use documents::Documents;
+pub use mesh::{Mesh, cut_and_merge_restore};
 pub use queue::RunQueue;

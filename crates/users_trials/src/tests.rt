@@ -3,7 +3,7 @@
 use arena_base::ArenaSlot;
 use arena_ptr::{ChainInsertionError, ChunkStack, ToolPtr};
 use chain_arena::{ChainArena, ChainArenaTrait, LinkNoGen};
-use chain_users::{Documents, RunQueue};
+use chain_users::{Documents, Mesh, RunQueue};
 use chain_wrapped::Wrapped;
 use std::alloc::Global;
 use std::fmt::Debug;
@@ -65,13 +65,28 @@ fn check_round_robin<A: ChainArenaTrait<ToolPtr, u32> + Drop>(rt: &impl Abort, a
     same(rt, "no task", queue.next(), None);
     let names = spawned(rt, alloc, &mut queue, 5);
     let once = rounds(rt, alloc, &mut queue, &names, 6);
-    same(rt, "once round", once.as_slice(), [1, 2, 3, 4, 0, 1].as_slice());
+    same(
+        rt,
+        "once round",
+        once.as_slice(),
+        [1, 2, 3, 4, 0, 1].as_slice(),
+    );
     same(rt, "cancelled", queue.cancel(name(rt, &names, 2)), Some(3));
     same(rt, "no more", queue.cancel(name(rt, &names, 2)), None);
     let others = rounds(rt, alloc, &mut queue, &names, 2);
     same(rt, "the others", others.as_slice(), [3, 4].as_slice());
-    same(rt, "the current one", queue.cancel(name(rt, &names, 4)), Some(5));
-    same(rt, "the next one is current", queue.current(), Some(name(rt, &names, 0)));
+    same(
+        rt,
+        "the current one",
+        queue.cancel(name(rt, &names, 4)),
+        Some(5),
+    );
+    same(
+        rt,
+        "the next one is current",
+        queue.current(),
+        Some(name(rt, &names, 0)),
+    );
     same(rt, "left", queue.len(), 3);
 }
 
@@ -94,7 +109,12 @@ fn a_round_robin_over_an_arena_that_hands_each_call_on(rt: HostRuntime) {
 type Texts<A> = Documents<ToolPtr, u32, A>;
 
 // Looks whether a text has these paragraphs from one on, and no more.
-fn reads<A: ChainArenaTrait<ToolPtr, u32> + Drop>(rt: &impl Abort, texts: &Texts<A>, from: ToolPtr, want: &[u32]) {
+fn reads<A: ChainArenaTrait<ToolPtr, u32> + Drop>(
+    rt: &impl Abort,
+    texts: &Texts<A>,
+    from: ToolPtr,
+    want: &[u32],
+) {
     let mut at = Some(from);
     for paragraph in want {
         let p = at.expect(rt, "a paragraph");
@@ -105,7 +125,10 @@ fn reads<A: ChainArenaTrait<ToolPtr, u32> + Drop>(rt: &impl Abort, texts: &Texts
 }
 
 // A text of three paragraphs, of which the first comes first and the middle one last, and its pointers in order.
-fn three<A: ChainArenaTrait<ToolPtr, u32> + Drop>(rt: &impl Abort, texts: &mut Texts<A>) -> (ToolPtr, ToolPtr, ToolPtr) {
+fn three<A: ChainArenaTrait<ToolPtr, u32> + Drop>(
+    rt: &impl Abort,
+    texts: &mut Texts<A>,
+) -> (ToolPtr, ToolPtr, ToolPtr) {
     let a = texts.begin(10).expect(rt, "room");
     let c = texts.insert_after(a, 30).expect(rt, "room");
     let b = texts.insert_before(c, 20).expect(rt, "room");
@@ -126,7 +149,12 @@ fn check_a_text<A: ChainArenaTrait<ToolPtr, u32> + Drop>(rt: &impl Abort, alloc:
     same(rt, "removed", texts.remove(a), Some(10));
     reads(rt, &texts, c, [30, 20].as_slice());
     same(rt, "gone", texts.next(a), None);
-    same(rt, "named by nothing", texts.insert_after(a, 40), Err(ChainInsertionError::FailedLinkRequirement));
+    same(
+        rt,
+        "named by nothing",
+        texts.insert_after(a, 40),
+        Err(ChainInsertionError::FailedLinkRequirement),
+    );
 }
 
 #[test]
@@ -142,4 +170,65 @@ fn a_text_edited_in_blocks(rt: HostRuntime) {
 #[test]
 fn a_text_edited_over_an_arena_that_hands_each_call_on(rt: HostRuntime) {
     check_a_text::<Wrapped<Chains>>(&rt, rt.alloc());
+}
+
+// A mesh whose points are numbers.
+type Points<A> = Mesh<ToolPtr, u32, A>;
+
+// Looks whether a polygon has these points from a corner on, once round.
+fn goes_round<A: ChainArenaTrait<ToolPtr, u32> + Drop>(
+    rt: &impl Abort,
+    mesh: &Points<A>,
+    from: ToolPtr,
+    want: &[u32],
+) {
+    let mut at = from;
+    for point in want {
+        same(rt, "the point", mesh.get(at).copied(), Some(*point));
+        at = mesh.next(at).expect(rt, "a corner");
+    }
+    same(rt, "once round", at, from);
+}
+
+// A square of the points 1 to 4, and its corners.
+fn square<A: ChainArenaTrait<ToolPtr, u32> + Drop>(
+    rt: &impl Abort,
+    mesh: &mut Points<A>,
+) -> (ToolPtr, ToolPtr, ToolPtr, ToolPtr) {
+    let a = mesh.start(1).expect(rt, "room");
+    let b = mesh.insert_after(a, 2).expect(rt, "room");
+    let c = mesh.insert_after(b, 3).expect(rt, "room");
+    let d = mesh.insert_after(c, 4).expect(rt, "room");
+    (a, b, c, d)
+}
+
+// A square split along a diagonal into two triangles, and put together again: merged, and the copies of its ends removed.
+fn check_a_square<A: ChainArenaTrait<ToolPtr, u32> + Drop>(rt: &impl Abort, alloc: Global) {
+    let mut mesh = Points::<A>::new(alloc);
+    let (a, b, c, d) = square(rt, &mut mesh);
+    goes_round(rt, &mesh, a, [1, 2, 3, 4].as_slice());
+    let copies = mesh.split(a, c).expect(rt, "room");
+    let (e, f) = copies.expect(rt, "corners of the square");
+    goes_round(rt, &mesh, a, [1, 2, 3].as_slice());
+    goes_round(rt, &mesh, d, [4, 1, 3].as_slice());
+    same(rt, "merged", mesh.merge(c, e), Some(()));
+    same(rt, "a copy", mesh.remove(e), Some(1));
+    same(rt, "the other", mesh.remove(f), Some(3));
+    goes_round(rt, &mesh, b, [2, 3, 4, 1].as_slice());
+    same(rt, "gone", mesh.cut(e, a), None);
+}
+
+#[test]
+fn a_square_split_and_put_together(rt: HostRuntime) {
+    check_a_square::<Chains>(&rt, rt.alloc());
+}
+
+#[test]
+fn a_square_split_and_put_together_in_blocks(rt: HostRuntime) {
+    check_a_square::<Blocks>(&rt, rt.alloc());
+}
+
+#[test]
+fn a_square_split_and_put_together_over_an_arena_that_hands_each_call_on(rt: HostRuntime) {
+    check_a_square::<Wrapped<Chains>>(&rt, rt.alloc());
 }

@@ -1,7 +1,7 @@
 -- The new paragraph is a text of its own.
 use Rattle.chain_laws.specs.Insertions.{disconnected}
-use Rattle.chain_users.specs.Rings.{sketch_of}
-use Rattle.chain_users.proofs.Rings.{HasCome, has_come}
+use Rattle.chain_users.specs.Sketches.{sketch_of}
+use Rattle.chain_users.proofs.Sketches.{HasCome, has_come}
 use Rattle.chain_users.proofs.Texts.{begins_text, keeps_texts}
 use Rattle.chain_users.proofs.documents.Documents.begin.Given.{Over}
 use Rattle.chain_users.proofs.documents.Documents.begin.Goals.{In_ok-p}

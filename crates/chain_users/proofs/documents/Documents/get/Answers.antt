@@ -2,7 +2,7 @@
 use Rattle.std.proofs.Common.{◌≡◌, Some}
 use Rattle.std.specs.Prelude.{◌↔◌, IsSome, IfSome}
 use Rattle.arena_base.specs.Arena.{IsValid}
-use Rattle.chain_users.proofs.Rings.{draws, so_drawn}
+use Rattle.chain_users.proofs.Sketches.{draws, so_drawn}
 use Rattle.chain_users.proofs.documents.Documents.get.Goals as goal
 
 pub returns-clause-some : goal.returns-clause-some

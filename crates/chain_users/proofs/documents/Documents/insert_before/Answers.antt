@@ -4,8 +4,9 @@ use Rattle.std.specs.Prelude.{is_some, ◌≡◌, ◌↔◌, IfOk, Err}
 use Rattle.arena_base.specs.Arena.{IsValid}
 use Rattle.arena_ptr.specs.declared.errors.ChainInsertionError.{ChainInsertionError}
 use Rattle.chain_laws.specs.Insertions.{prev_to}
-use Rattle.chain_users.specs.Rings.{sketch_of}
-use Rattle.chain_users.proofs.Rings.{HasCome, has_come, if_ok, draws, has_link, so_drawn}
+use Rattle.chain_users.specs.Sketches.{sketch_of}
+use Rattle.chain_users.proofs.Outcomes.{if_ok}
+use Rattle.chain_users.proofs.Sketches.{HasCome, has_come, draws, has_link, so_drawn}
 use Rattle.chain_users.proofs.Texts.{comes_before, keeps_texts}
 use Rattle.chain_users.proofs.documents.Documents.insert_before.Given.{Over}
 use Rattle.chain_users.proofs.documents.Documents.insert_before.Goals.{After-insert_reallocating}

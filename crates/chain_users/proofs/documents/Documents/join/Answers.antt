@@ -3,8 +3,9 @@ use Rattle.std.proofs.Common.{◌≡◌, ap}
 use Rattle.std.specs.Prelude.{◌↔◌, OnSome, IsSome}
 use Rattle.chain_laws.specs.Operations.{Connects}
 use Rattle.chain_links.specs.ChainArena.{CanConnect}
-use Rattle.chain_users.specs.Rings.{sketch_of, corner_in, links_in}
-use Rattle.chain_users.proofs.Rings.{draws, so_drawn, both_drawn, same_corners, same_size, on_some, on_both}
+use Rattle.chain_users.specs.Sketches.{sketch_of, item_in, links_in}
+use Rattle.chain_users.proofs.Outcomes.{on_some, on_both}
+use Rattle.chain_users.proofs.Sketches.{draws, so_drawn, both_drawn, same_corners, same_size}
 use Rattle.chain_users.proofs.Texts.{joins_texts, keeps_joined}
 use Rattle.chain_users.proofs.documents.Documents.join.Given.{Over}
 use Rattle.chain_users.proofs.documents.Documents.join.Goals.{After-connect}
@@ -17,7 +18,7 @@ returns-clause-some g c = so_drawn c.args.self.now (g.A.ArenaTrait.entry c.self.
 
 -- the paragraphs are the same, and the texts are joined
 pub record HasJoined (g : Over) (c : After-connect g) : Type 0 where
-  pub same : corner_in (sketch_of (g.A.ChainArenaTrait.interlinks c.connect.new.self) (g.A.ArenaTrait.seen c.connect.new.self).entries) ≡ corner_in c.args.self.now
+  pub same : item_in (sketch_of (g.A.ChainArenaTrait.interlinks c.connect.new.self) (g.A.ArenaTrait.seen c.connect.new.self).entries) ≡ item_in c.args.self.now
   pub connects : Connects (links_in c.args.self.now) (links_in (sketch_of (g.A.ChainArenaTrait.interlinks c.connect.new.self) (g.A.ArenaTrait.seen c.connect.new.self).entries)) (g.P.PtrKey.key c.args.p).0 (g.P.PtrKey.key c.args.q).0
 
 joined : (g : Over) (c : After-connect g) → OnSome c.connect.result (HasJoined g c)

@@ -1,12 +1,14 @@
 -- What comes after the paragraph is cut off.
-use Rattle.std.proofs.Common.{◌≡◌, ℕ, Option, None, Some, ap, refl}
+use Rattle.std.proofs.Common.{◌≡◌, ap}
 use Rattle.std.specs.Prelude.{◌↔◌, OnSome, IfSome, IsSome}
 use Rattle.chain_laws.specs.Chains.{Agrees, next_of}
 use Rattle.chain_laws.specs.Cuts.{Cuts}
 use Rattle.arena_base.specs.Arena.{IsValid}
-use Rattle.chain_users.specs.Rings.{sketch_of, corner_in, links_in}
-use Rattle.chain_users.proofs.Rings.{draws, so_drawn, both_drawn, same_corners, same_size, on_some}
-use Rattle.chain_users.proofs.Texts.{parts_text, keeps_parted, on_both_some}
+use Rattle.chain_users.specs.Sketches.{sketch_of, item_in, links_in}
+use Rattle.chain_users.proofs.Outcomes.{on_some}
+use Rattle.chain_users.proofs.Sketches.{draws, so_drawn, both_drawn, same_corners, same_size}
+use Rattle.chain_users.proofs.Outcomes.{on_both_some}
+use Rattle.chain_users.proofs.Texts.{parts_text, keeps_parted}
 use Rattle.chain_users.proofs.documents.Documents.part.Given.{Over}
 use Rattle.chain_users.proofs.documents.Documents.part.Goals.{After-break_next}
 use Rattle.chain_users.proofs.documents.Documents.part.Goals as goal
@@ -18,7 +20,7 @@ returns-clause-some g c = so_drawn c.args.self.now (g.A.ArenaTrait.entry c.self.
 
 -- the paragraphs are the same, and what came after is cut off
 pub record HasParted (g : Over) (c : After-break_next g) : Type 0 where
-  pub same : corner_in (sketch_of (g.A.ChainArenaTrait.interlinks c.break_next.new.self) (g.A.ArenaTrait.seen c.break_next.new.self).entries) ≡ corner_in c.args.self.now
+  pub same : item_in (sketch_of (g.A.ChainArenaTrait.interlinks c.break_next.new.self) (g.A.ArenaTrait.seen c.break_next.new.self).entries) ≡ item_in c.args.self.now
   pub next : IsSome (next_of (links_in c.args.self.now) (g.P.PtrKey.key c.args.p).0)
   pub cuts : IfSome (next_of (links_in c.args.self.now) (g.P.PtrKey.key c.args.p).0)
       (λ b. Cuts (links_in c.args.self.now) (links_in (sketch_of (g.A.ChainArenaTrait.interlinks c.break_next.new.self) (g.A.ArenaTrait.seen c.break_next.new.self).entries)) (g.P.PtrKey.key c.args.p).0 b)

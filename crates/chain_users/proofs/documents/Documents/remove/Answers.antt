@@ -6,8 +6,9 @@ use Rattle.arena_base.specs.Arena.{IsValid}
 use Rattle.chain_laws.specs.Chains.{Shown}
 use Rattle.chain_laws.specs.Removals.{Removes}
 use Rattle.chain_laws.proofs.Removing.{removed_removes}
-use Rattle.chain_users.specs.Rings.{sketch_of, corner_in}
-use Rattle.chain_users.proofs.Rings.{HasGone, has_gone, draws, so_drawn, on_any}
+use Rattle.chain_users.specs.Sketches.{sketch_of, item_in}
+use Rattle.chain_users.proofs.Outcomes.{on_any}
+use Rattle.chain_users.proofs.Sketches.{HasGone, has_gone, draws, so_drawn}
 use Rattle.chain_users.proofs.Texts.{leaves, keeps_left}
 use Rattle.chain_users.proofs.documents.Documents.remove.Given.{Over}
 use Rattle.chain_users.proofs.documents.Documents.remove.Goals.{After-allow}
@@ -36,7 +37,7 @@ gone g c =
     (subst (λ (s : Shown). Removes links s i) (sym (g.met.A.ChainArenaTrait.passed_over a b i (c.remove.ensures.more (valid g c)))) (removed_removes links i c.agrees.ensures))
 
 -- what holds of the paragraph in the sketch
-of_valid : (g : Over) (c : After-allow g) (F : (ℕ → Option (g.row.P-Gen.Denot × g.row.T.Denot)) → Type 0) → F (g.A.ArenaTrait.entry c.self.inside.paragraphs) → F (corner_in c.args.self.now)
+of_valid : (g : Over) (c : After-allow g) (F : (ℕ → Option (g.row.P-Gen.Denot × g.row.T.Denot)) → Type 0) → F (g.A.ArenaTrait.entry c.self.inside.paragraphs) → F (item_in c.args.self.now)
 of_valid g c F holds = so_drawn c.args.self.now (g.A.ArenaTrait.entry c.self.inside.paragraphs) (g.A.ChainArenaTrait.interlinks c.self.inside.paragraphs) (λ entry links. F entry)
     (draws (λ x. (g.A.ArenaTrait.seen x).entries) g.A.ArenaTrait.entry g.A.ChainArenaTrait.interlinks g.met.A.ArenaTrait.looked_up g.met.A.ChainArenaTrait.stand c.self.inside.paragraphs c.args.self.now c.self.view_is) holds
 
@@ -46,7 +47,7 @@ returns-clause-some g c = (λ some. of_valid g c (λ entry. IsValid entry (g.P.P
 pub returns-clause-paragraph : goal.returns-clause-paragraph
 returns-clause-paragraph g c =
     let p = g.P.PtrKey.key c.args.p in
-    subst (λ (o : Option g.row.T.Denot). IfSome o (λ t. corner_in c.args.self.now p.0 ≡ Some (p.1, t))) (sym (answered g c)) (of_valid g c (λ entry. entry p.0 ≡ Some (p.1, (valid g c).value)) (valid g c).stands)
+    subst (λ (o : Option g.row.T.Denot). IfSome o (λ t. item_in c.args.self.now p.0 ≡ Some (p.1, t))) (sym (answered g c)) (of_valid g c (λ entry. entry p.0 ≡ Some (p.1, (valid g c).value)) (valid g c).stands)
 
 pub returns-clause-text : goal.returns-clause-text
 returns-clause-text g c = on_any c.allow.result (λ t. leaves c.args.self.now _ (g.P.PtrKey.key c.args.p, t) (gone g c))
