@@ -90,21 +90,6 @@ fn check_round_robin<A: ChainArenaTrait<ToolPtr, u32> + Drop>(rt: &impl Abort, a
     same(rt, "left", queue.len(), 3);
 }
 
-#[test]
-fn a_round_robin(rt: HostRuntime) {
-    check_round_robin::<Chains>(&rt, rt.alloc());
-}
-
-#[test]
-fn a_round_robin_in_blocks(rt: HostRuntime) {
-    check_round_robin::<Blocks>(&rt, rt.alloc());
-}
-
-#[test]
-fn a_round_robin_over_an_arena_that_hands_each_call_on(rt: HostRuntime) {
-    check_round_robin::<Wrapped<Chains>>(&rt, rt.alloc());
-}
-
 // Documents whose paragraphs are numbers.
 type Texts<A> = Documents<ToolPtr, u32, A>;
 
@@ -157,21 +142,6 @@ fn check_a_text<A: ChainArenaTrait<ToolPtr, u32> + Drop>(rt: &impl Abort, alloc:
     );
 }
 
-#[test]
-fn a_text_edited(rt: HostRuntime) {
-    check_a_text::<Chains>(&rt, rt.alloc());
-}
-
-#[test]
-fn a_text_edited_in_blocks(rt: HostRuntime) {
-    check_a_text::<Blocks>(&rt, rt.alloc());
-}
-
-#[test]
-fn a_text_edited_over_an_arena_that_hands_each_call_on(rt: HostRuntime) {
-    check_a_text::<Wrapped<Chains>>(&rt, rt.alloc());
-}
-
 // A mesh whose points are numbers.
 type Points<A> = Mesh<ToolPtr, u32, A>;
 
@@ -218,17 +188,24 @@ fn check_a_square<A: ChainArenaTrait<ToolPtr, u32> + Drop>(rt: &impl Abort, allo
     same(rt, "gone", mesh.cut(e, a), None);
 }
 
-#[test]
-fn a_square_split_and_put_together(rt: HostRuntime) {
-    check_a_square::<Chains>(&rt, rt.alloc());
+// All of them, at one arena.
+fn check_all<A: ChainArenaTrait<ToolPtr, u32> + Drop>(rt: &impl Abort, alloc: Global) {
+    check_round_robin::<A>(rt, alloc);
+    check_a_square::<A>(rt, alloc);
+    check_a_text::<A>(rt, alloc);
 }
 
 #[test]
-fn a_square_split_and_put_together_in_blocks(rt: HostRuntime) {
-    check_a_square::<Blocks>(&rt, rt.alloc());
+fn over_one_piece_of_memory(rt: HostRuntime) {
+    check_all::<Chains>(&rt, rt.alloc());
 }
 
 #[test]
-fn a_square_split_and_put_together_over_an_arena_that_hands_each_call_on(rt: HostRuntime) {
-    check_a_square::<Wrapped<Chains>>(&rt, rt.alloc());
+fn in_blocks(rt: HostRuntime) {
+    check_all::<Blocks>(&rt, rt.alloc());
+}
+
+#[test]
+fn over_an_arena_that_hands_each_call_on(rt: HostRuntime) {
+    check_all::<Wrapped<Chains>>(&rt, rt.alloc());
 }
