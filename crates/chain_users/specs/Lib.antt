@@ -1,5 +1,0 @@
-pub mod Items
-pub mod Rings
-pub mod Sketches
-pub mod Texts
-pub mod Turns
