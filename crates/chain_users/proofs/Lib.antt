@@ -1,0 +1,9 @@
+mod Changes
+mod Lists
+mod Moving
+mod Outcomes
+mod Removing
+mod Rings
+mod Rounds
+mod Texts
+mod Turns

@@ -1,0 +1,4 @@
+pub mod Lists
+pub mod Rings
+pub mod Texts
+pub mod Turns
