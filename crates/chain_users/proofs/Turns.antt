@@ -10,7 +10,9 @@ use Rattle.chain_laws.specs.Removals.{Removes}
 use Rattle.chain_laws.proofs.Turning.{turned}
 use Rattle.chain_laws.proofs.Members.{Has-parts, Has-turned, HasNoRepetition-turned}
 use Rattle.arena_base.specs.Arena.{IsValid}
-use Rattle.arena_base.specs.Entries.{index_of, first_key, found, RisesFrom}
+use Rattle.arena_base.specs.Entries.{Seen, count, index_of, first_key, found, RisesFrom}
+use Rattle.chain_laws.specs.Insertions.{single_link_cyclic, prev_to}
+use Rattle.chain_links.specs.Calls.{GainsLink}
 use Rattle.chain_laws.proofs.Backing.{length_among}
 use Rattle.chain_traits.proofs.AnyArena.{found_has}
 use Rattle.chain_users.specs.Lists.{Item, Stand, indexes, IsAmong}
@@ -265,3 +267,35 @@ first_cancelled p task old new first is = by is.before is.stood is.left
         let same : Some p ≡ Some x.0 = first ∙ ap first_key stood in
         let key : x.0 ≡ p = cc in
         absurd (is.gone (subst (IsAmong p) (sym left) (inl key)))
+
+-- The turn of a queue as it is found in an arena, where these look at one.
+module _ {A Gen T : Type 0} (seen : A → Seen Gen T) (entry : A → ℕ → Option (Gen × T)) (links : A → Shown) (rises : (a : A) → RisesFrom 1 (seen a).entries) (looked : (a : A) (i : ℕ) → found i (seen a).entries ≡ entry a i) where
+  abbrev pub turn_in : A → Option (ℕ × Gen) → List (Item Gen T)
+  turn_in a current = turn_of (entry a) (links a) (count (seen a)) current
+
+  -- these are the tasks in turn: they are what is found, and that is a turn
+  pub record IsSettled (a : A) (current : Option (ℕ × Gen)) (turn : List (Item Gen T)) : Type 0 where
+    pub is_found : turn_in a current ≡ turn
+    pub holds : IsTurn (entry a) (links a) current (turn_in a current)
+
+  pub settle : (a : A) (current : Option (ℕ × Gen)) (turn : List (Item Gen T)) → IsTurn (entry a) (links a) current turn → IsSettled a current turn
+  settle a current turn is = record {
+    is_found = settles (entry a) (links a) current turn (seen a).entries is (rises a) (looked a);
+    holds = settled (entry a) (links a) current turn (seen a).entries is (rises a) (looked a);
+  }
+
+  module _ (a b : A) (p : ℕ × Gen) (t : T) (turn : List (Item Gen T)) where
+    -- a task comes to a queue without tasks, or before the current one: it is the last in turn
+    pub first_comes : GainsLink seen entry links single_link_cyclic t a p b → IsTurn (entry a) (links a) None turn → IsSettled b (Some p) (turn ++ (p, t) ∷ [])
+    first_comes came is = settle b (Some p) (turn ++ (p, t) ∷ [])
+        (spawned_first (entry a) (entry b) (links a) (links b) p t came.entries.free came.entries.stands came.entries.rest (came.chains.ring refl refl) turn is)
+
+    pub last_comes : (k : ℕ × Gen) → GainsLink seen entry links (prev_to (k.0, Some k.1)) t a p b → IsTurn (entry a) (links a) (Some k) turn → IsSettled b (Some k) (turn ++ (p, t) ∷ [])
+    last_comes k came is = settle b (Some k) (turn ++ (p, t) ∷ [])
+        (spawned_last (entry a) (entry b) (links a) (links b) p t came.entries.free came.entries.stands came.entries.rest k (λ y. (came.chains.before k.0 refl refl [] y).1) turn is)
+
+  -- the next task is current
+  pub goes_on_in : (a : A) (current next : Option (ℕ × Gen)) (k : ℕ × Gen) → current ≡ Some k → IsTurn (entry a) (links a) current (turn_in a current)
+      → ((task : Item Gen T) (rest : List (Item Gen T)) → IsTurn (entry a) (links a) (Some k) (task ∷ rest) → next ≡ first_key (rest ++ task ∷ [])) → IsSettled a next (turned_once (turn_in a current))
+  goes_on_in a current next k known is second =
+      settle a next (turned_once (turn_in a current)) (goes_on (entry a) (links a) k next (turn_in a current) (subst (λ (o : Option (ℕ × Gen)). IsTurn (entry a) (links a) o (turn_in a current)) known is) second)

@@ -1,18 +1,23 @@
 //! Ordered documents: each is a text of paragraphs, and one arena has them all.
 
-ghost use Rattle.std.specs.Prelude.{◌≡◌, ◌≢◌, ◌↔◌, ℕ, ◌+◌, List, [], ◌∷◌, ◌++◌, IsSome, IfSome, OnSome, IfNone, IfOk, OnOk, OnErr, Some, None, Err};
+ghost use Rattle.std.specs.Prelude.{◌≡◌, ◌≢◌, ◌↔◌, ℕ, ◌+◌, List, [], ◌∷◌, ◌++◌, IsSome, IfSome, OnSome, IfNone, IfOk, OnOk, OnErr, Some, None, Err, map, false};
 ghost use Rattle.std.specs.Option.{option_map};
 ghost use Rattle.chain_laws.specs.Chains.{linear, Has, next_of, prev_of};
 ghost use Rattle.arena_base.specs.Arena.{IsValid};
 ghost use Rattle.arena_base.specs.Entries.{count, first_key, last_key};
-ghost use Rattle.chain_links.specs.ChainArena.{IsInserted, CanConnect};
+ghost use Rattle.chain_links.specs.CanonicalLayouts.{IsCanonicalLayout};
+ghost use Rattle.chain_links.specs.ChainArena.{IsInserted, CanConnect, entry, seen, shown};
+ghost use Rattle.chain_users.specs.Renumbering.{IsRenumbered};
 ghost use Rattle.chain_users.specs.Lists.{Item, indexes, IsText, KeepsWithout, ComesAfter, ComesBefore, Leaves};
 ghost use Rattle.chain_users.specs.Texts.{EndsIn, BeginsWith, AreJoined, IsClosed, StandsAlone, IsPutAfter, IsMovedAfter};
 
-use arena_ptr::{ChainInsertionError, PtrKey, ReallocationError};
+use crate::bookmarks::renumber;
+use arena_base::ArenaSlot;
+use arena_ptr::{ChainInsertionError, PtrKey, ReallocationError, SlotStack};
+use chain_arena::{ChainArena, LinkNoGen};
 use chain_links::LinkInsertKind;
 use chain_traits::ChainArenaTrait;
-use std::alloc::Global;
+use std::alloc::{AllocError, Global};
 use std::marker::{Model, PhantomData};
 
 /// Texts of paragraphs. A paragraph is named by the pointer that it came with, wherever it stands, until it is removed.
@@ -231,5 +236,24 @@ impl<P: PtrKey, T: Drop, A: ChainArenaTrait<P, T> + Drop> Documents<P, T, A> {
         self.set_apart(p);
         self.put_after(p, q);
         Some(())
+    }
+}
+
+impl<P: PtrKey, T: Drop, S: SlotStack<Item = ArenaSlot<P, LinkNoGen<P, T>>>> Documents<
+    P,
+    T,
+    ChainArena<P, T, S>,
+> {
+    /// Lays the texts one after another from index 1 on, each in one run, and mends the bookmarks: each names the same paragraph as
+    /// before, by the pointer that it has now, and one whose paragraph is gone names none. Every other pointer of before is lost.
+    /// No clause tells its time: as it is written, that is in proportion to the slots and the bookmarks.
+    ///
+    /// `AllocError`: memory was refused, and nothing has changed.
+    pub fn renumber(&mut self, alloc: Global, bookmarks: &mut [Option<P>]) -> Result<(), AllocError>
+        ensures canonical { OnOk result (IsCanonicalLayout P.Gen.first P.Gen.following false (seen self.old) (shown self.old) (seen self.new) (shown self.new)) }
+        ensures renumbered { OnOk result (IsRenumbered entry shown self.old self.new (map (option_map P.key) bookmarks.old) (map (option_map P.key) bookmarks.new)) }
+        ensures err { OnErr result ((self.new ≡ self.old) × (bookmarks.new ≡ bookmarks.old)) }
+    {
+        renumber(&mut self.paragraphs, alloc, bookmarks)
     }
 }

@@ -2,6 +2,7 @@
 //! `ChainArenaTrait` alone. Its own contracts speak of lists, and not of links.
 #![tactic(auto)]
 
+mod bookmarks;
 mod documents;
 mod mesh;
 mod queue;
