@@ -1,5 +1,5 @@
 //! Each user of arenas of links at chain arenas over two stacks, and at the arena that hands each call on: rows of tables, each
-//! with what it answers.
+//! with what it answers. A list of values below 10 is told as the number that has them as its digits.
 
 mod bookmarks;
 mod polygons;
@@ -7,7 +7,8 @@ mod texts;
 mod turns;
 
 use arena_base::ArenaSlot;
-use arena_ptr::{ChunkStack, ToolPtr};
+use arena_ptr::{ChunkStack, PtrKey, ToolPtr};
+use bookmarks::Renumbers;
 use chain_arena::{ChainArena, ChainArenaTrait, LinkNoGen};
 use chain_wrapped::Wrapped;
 use std::alloc::Global;
@@ -27,43 +28,69 @@ fn same<T: PartialEq + Debug + Drop>(rt: &impl Abort, what: &str, got: T, want: 
     assert_eq!(rt; got, want, "{what}");
 }
 
-// The pointer that was given as the n-th, from 1 on; of 0 one that no arena gave.
-fn name(names: &[ToolPtr], n: usize) -> ToolPtr {
+// The pointer that came as the n-th, from 1 on; of 0, and of what did not come, one that no arena gives.
+fn name<P: PtrKey>(names: &[P], n: usize) -> P {
     match n.checked_sub(1) {
-        Some(k) => names.get(k).copied().unwrap_or(arena_ptr::Ptr::invalid()),
-        None => arena_ptr::Ptr::invalid(),
+        Some(k) => names.get(k).copied().unwrap_or(P::invalid()),
+        None => P::invalid(),
     }
 }
 
-// As the how manieth a pointer was given; 0 for none.
-fn number(names: &[ToolPtr], p: Option<ToolPtr>) -> usize {
-    match p {
-        Some(p) => names
-            .iter()
-            .position(|q| *q == p)
-            .map_or(0, |k| k.saturating_add(1)),
-        None => 0,
+// As the how manieth a pointer came; 0 for none.
+fn number<P: PtrKey>(names: &[P], p: Option<P>) -> u32 {
+    let Some(p) = p else {
+        return 0;
+    };
+    let mut n = 0;
+    for q in names {
+        n = u32::saturating_add(n, 1);
+        if *q == p {
+            return n;
+        }
     }
+    0
+}
+
+// Notes the pointer of what came, and tells whether something did.
+fn noted<P: PtrKey>(rt: &impl Abort, names: &mut Vec<P>, came: Option<P>) -> bool {
+    match came {
+        Some(p) => {
+            names.push(p).expect(rt, "memory");
+            true
+        }
+        None => false,
+    }
+}
+
+// A number with one digit more.
+fn with_digit(number: u32, digit: u32) -> u32 {
+    number.saturating_mul(10).saturating_add(digit)
 }
 
 // All rows, at one arena.
-fn check_all<A: ChainArenaTrait<ToolPtr, u32> + Drop>(rt: &impl Abort, alloc: Global) {
-    turns::check::<A>(rt, alloc);
-    polygons::check::<A>(rt, alloc);
-    texts::check::<A>(rt, alloc);
+fn check_all<P: PtrKey, A: ChainArenaTrait<P, u32> + Drop>(rt: &impl Abort, alloc: Global) {
+    turns::check::<P, A>(rt, alloc);
+    polygons::check::<P, A>(rt, alloc);
+    texts::check::<P, A>(rt, alloc);
+}
+
+// .. and at one whose texts can be renumbered.
+fn check_more<P: PtrKey, A: Renumbers<P>>(rt: &impl Abort, alloc: Global) {
+    check_all::<P, A>(rt, alloc);
+    bookmarks::check::<P, A>(rt, alloc);
 }
 
 #[test]
 fn over_one_piece_of_memory(rt: HostRuntime) {
-    check_all::<Chains>(&rt, rt.alloc());
+    check_more::<ToolPtr, Chains>(&rt, rt.alloc());
 }
 
 #[test]
 fn in_blocks(rt: HostRuntime) {
-    check_all::<Blocks>(&rt, rt.alloc());
+    check_more::<ToolPtr, Blocks>(&rt, rt.alloc());
 }
 
 #[test]
 fn over_an_arena_that_hands_each_call_on(rt: HostRuntime) {
-    check_all::<Wrapped<Chains>>(&rt, rt.alloc());
+    check_all::<ToolPtr, Wrapped<Chains>>(&rt, rt.alloc());
 }

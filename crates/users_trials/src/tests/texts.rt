@@ -1,7 +1,7 @@
 //! A text edited: paragraphs come, move and go, and its parts change places.
 
-use super::{name, same};
-use arena_ptr::ToolPtr;
+use super::{name, noted, same, with_digit};
+use arena_ptr::PtrKey;
 use chain_arena::ChainArenaTrait;
 use chain_users::Documents;
 use std::alloc::Global;
@@ -20,51 +20,35 @@ pub(super) enum Edit {
     Remove(usize),
 }
 
-// An edit, whether it is done, a paragraph, and the text from that one on, forwards and then backwards.
-type Row = (Edit, bool, usize, &'static [u32], &'static [u32]);
-
-const ROWS: [Row; 20] = [
-    (Edit::Begin(10), true, 1, &[10], &[10]),
-    (Edit::After(1, 30), true, 1, &[10, 30], &[10]),
-    (Edit::Before(2, 20), true, 1, &[10, 20, 30], &[10]),
-    (Edit::Join(3, 2), false, 3, &[20, 30], &[20, 10]),
-    (Edit::PartAfter(3), true, 1, &[10, 20], &[10]),
-    (Edit::PartAfter(3), false, 2, &[30], &[30]),
-    (Edit::Join(2, 1), true, 2, &[30, 10, 20], &[30]),
-    (Edit::PartBefore(2), false, 2, &[30, 10, 20], &[30]),
-    (Edit::Move(2, 3), true, 1, &[10, 20, 30], &[10]),
-    (Edit::Move(1, 3), true, 3, &[20, 10, 30], &[20]),
-    (Edit::Move(2, 3), true, 3, &[20, 30, 10], &[20]),
-    (Edit::Move(1, 2), true, 3, &[20, 30, 10], &[20]),
-    (Edit::Move(1, 1), false, 3, &[20, 30, 10], &[20]),
-    (Edit::Begin(40), true, 4, &[40], &[40]),
-    (Edit::Move(2, 4), true, 4, &[40, 30], &[40]),
-    (Edit::Move(4, 1), true, 1, &[10, 40], &[10, 20]),
-    (Edit::PartBefore(1), true, 1, &[10, 40], &[10]),
-    (Edit::Remove(1), true, 4, &[40], &[40]),
-    (Edit::Remove(1), false, 1, &[], &[]),
-    (Edit::After(1, 50), false, 3, &[20], &[20]),
+// An edit, whether it is done, a paragraph, and the text from that one on, and then back from it.
+const ROWS: [(Edit, bool, usize, u32, u32); 20] = [
+    (Edit::Begin(1), true, 1, 1, 1),
+    (Edit::After(1, 3), true, 1, 13, 1),
+    (Edit::Before(2, 2), true, 1, 123, 1),
+    (Edit::Join(3, 2), false, 3, 23, 21),
+    (Edit::PartAfter(3), true, 1, 12, 1),
+    (Edit::PartAfter(3), false, 2, 3, 3),
+    (Edit::Join(2, 1), true, 2, 312, 3),
+    (Edit::PartBefore(2), false, 2, 312, 3),
+    (Edit::Move(2, 3), true, 1, 123, 1),
+    (Edit::Move(1, 3), true, 3, 213, 2),
+    (Edit::Move(2, 3), true, 3, 231, 2),
+    (Edit::Move(1, 2), true, 3, 231, 2),
+    (Edit::Move(1, 1), false, 3, 231, 2),
+    (Edit::Begin(4), true, 4, 4, 4),
+    (Edit::Move(2, 4), true, 4, 43, 4),
+    (Edit::Move(4, 1), true, 1, 14, 12),
+    (Edit::PartBefore(1), true, 1, 14, 1),
+    (Edit::Remove(1), true, 4, 4, 4),
+    (Edit::Remove(1), false, 1, 0, 0),
+    (Edit::After(1, 5), false, 3, 2, 2),
 ];
 
-// Texts whose paragraphs are numbers.
-type Texts<A> = Documents<ToolPtr, u32, A>;
-
-// Notes the pointer of a paragraph, if it came.
-fn noted(rt: &impl Abort, names: &mut Vec<ToolPtr>, came: Option<ToolPtr>) -> bool {
-    match came {
-        Some(p) => {
-            names.push(p).expect(rt, "memory");
-            true
-        }
-        None => false,
-    }
-}
-
 // Does an edit, and tells whether it is done.
-pub(super) fn edited<A: ChainArenaTrait<ToolPtr, u32> + Drop>(
+pub(super) fn edited<P: PtrKey, A: ChainArenaTrait<P, u32> + Drop>(
     rt: &impl Abort,
-    texts: &mut Texts<A>,
-    names: &mut Vec<ToolPtr>,
+    texts: &mut Documents<P, u32, A>,
+    names: &mut Vec<P>,
     edit: Edit,
 ) -> bool {
     match edit {
@@ -79,46 +63,31 @@ pub(super) fn edited<A: ChainArenaTrait<ToolPtr, u32> + Drop>(
     }
 }
 
-// The paragraphs from one on, forwards or backwards.
-pub(super) fn read<A: ChainArenaTrait<ToolPtr, u32> + Drop>(
-    rt: &impl Abort,
-    alloc: Global,
-    texts: &Texts<A>,
-    from: Option<ToolPtr>,
+// The paragraphs from one on, or back from it.
+pub(super) fn read<P: PtrKey, A: ChainArenaTrait<P, u32> + Drop>(
+    texts: &Documents<P, u32, A>,
+    from: Option<P>,
     back: bool,
-) -> Vec<u32> {
-    let mut read = Vec::new(alloc);
+) -> u32 {
+    let mut all = 0;
     let mut at = from;
     for _ in 0..8 {
         let Some(p) = at else {
-            break;
+            return all;
         };
-        let Some(t) = texts.get(p) else {
-            break;
-        };
-        read.push(*t).expect(rt, "memory");
+        all = with_digit(all, texts.get(p).copied().unwrap_or(0));
         at = if back { texts.prev(p) } else { texts.next(p) };
     }
-    read
+    all
 }
 
-pub(super) fn check<A: ChainArenaTrait<ToolPtr, u32> + Drop>(rt: &impl Abort, alloc: Global) {
-    let mut texts = Texts::<A>::new(alloc);
+pub(super) fn check<P: PtrKey, A: ChainArenaTrait<P, u32> + Drop>(rt: &impl Abort, alloc: Global) {
+    let mut texts = Documents::<P, u32, A>::new(alloc);
     let mut names = Vec::new(alloc);
     for (edit, done, n, ahead, behind) in ROWS {
         same(rt, "done", edited(rt, &mut texts, &mut names, edit), done);
         let from = Some(name(&names, n));
-        same(
-            rt,
-            "on",
-            read(rt, alloc, &texts, from, false).as_slice(),
-            ahead,
-        );
-        same(
-            rt,
-            "back",
-            read(rt, alloc, &texts, from, true).as_slice(),
-            behind,
-        );
+        same(rt, "on", read(&texts, from, false), ahead);
+        same(rt, "back", read(&texts, from, true), behind);
     }
 }
