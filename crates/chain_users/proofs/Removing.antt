@@ -1,10 +1,9 @@
 -- An entry that was removed from an arena of links: what is gone, what stays, and what becomes of the links.
-use Rattle.std.proofs.Common.{◌≡◌, ◌≢◌, ℕ, suc, ◌+◌, length, List, Option, None, Some, sym, ap, ◌∙◌, subst, arith}
+use Rattle.std.proofs.Common.{◌≡◌, ◌≢◌, ℕ, ◌+◌, length, Option, None, sym, ap, ◌∙◌, subst, arith}
 use Rattle.std.specs.Prelude.{is_some, true}
 use Rattle.chain_laws.specs.Chains.{Shown, Agrees}
 use Rattle.chain_laws.specs.Removals.{removed, Removes}
 use Rattle.chain_laws.proofs.Removing.{removed_removes}
-use Rattle.arena_base.specs.Arena.{IsValid}
 use Rattle.arena_base.specs.Entries.{Seen, count, found, RisesFrom, entry_removed}
 use Rattle.chain_users.proofs.Lists.{entry_gone, entry_kept, one_less}
 

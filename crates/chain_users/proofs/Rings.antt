@@ -20,7 +20,7 @@ use Rattle.chain_users.specs.Lists.{Item, Stand, indexes, IsRing, KeepsWithout, 
 use Rattle.chain_users.specs.Rings.{GoesRound, AllInRings, IsCutInTwo, AreMerged, IsSplit, CutAndMergeRestore}
 use Rattle.chain_users.proofs.Lists.{stand-append, stand-left, stand-right, stand-some}
 use Rattle.chain_users.proofs.Changes.{parts, whole, stays}
-use Rattle.chain_users.proofs.Rounds.{some_item, round_exchanged, ring_from}
+use Rattle.chain_users.proofs.Rounds.{some_item, ring_from}
 
 -- the items at indexes where entries stand
 items_at : {Gen T : Type 0} (entry : ℕ → Option (Gen × T)) (ks : List ℕ) → ((k : ℕ) → Has ks k → is_some (entry k) ≡ true) → (es : List (Item Gen T)) × (indexes es ≡ ks) × Stand entry es

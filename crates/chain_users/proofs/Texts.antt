@@ -1,15 +1,15 @@
 -- Texts: what a break, a join, and a move that is made of these make of them.
-use Rattle.std.proofs.Common.{◌≡◌, ◌≢◌, ℕ, inl, inr, ⊎_elim, List, [], ◌∷◌, ◌++◌, Option, None, Some, refl, sym, ap, ◌∙◌, subst, append_assoc}
-use Rattle.std.specs.Prelude.{◌↔◌, ◌⊎◌, is_some, true, IsSome, OnSome, IfNone, IfSome}
+use Rattle.std.proofs.Common.{◌≡◌, ◌≢◌, ℕ, inl, inr, List, [], ◌∷◌, ◌++◌, Option, None, Some, refl, sym, ap, ◌∙◌, subst, append_assoc}
+use Rattle.std.specs.Prelude.{◌↔◌, ◌⊎◌, is_some, true, OnSome, IfNone, IfSome}
 use Rattle.std.specs.Option.{option_map, option_and_then}
 use Rattle.std.proofs.lemmas.List.{map-append, reverse-append}
 use Rattle.chain_laws.specs.Chains.{Shown, linear, IsChain, Has, HasNoRepetition, Agrees, next_of, prev_of, next_in, prev_in, first_or, last_or}
 use Rattle.chain_laws.specs.Cuts.{Cuts}
 use Rattle.chain_laws.specs.Operations.{Connects}
-use Rattle.chain_laws.proofs.Belonging.{places_in_a_line, neighbors_stand_together, chains_share_each}
+use Rattle.chain_laws.proofs.Belonging.{places_in_a_line, neighbors_stand_together}
 use Rattle.chain_laws.proofs.Staying.{cut_keeps_others}
-use Rattle.chain_laws.proofs.Listing.{once_in_middle, once_in_join, has_in_middle}
-use Rattle.chain_laws.proofs.Members.{last_or-append, Has-left, Has-right, Has-parts, Has-middle}
+use Rattle.chain_laws.proofs.Listing.{once_in_middle}
+use Rattle.chain_laws.proofs.Members.{last_or-append, Has-left, Has-right, Has-parts}
 use Rattle.chain_laws.proofs.Agreement.{one_some}
 use Rattle.arena_base.specs.Arena.{IsValid}
 use Rattle.arena_base.specs.Entries.{index_of, first_key, last_key}

@@ -1,6 +1,6 @@
 -- Lists that lie in an arena: rings, which go round, and texts, which go from a first item to a last one.
 use Rattle.std.specs.Prelude.{◌≡◌, ◌≢◌, ℕ, ◌⊎◌, List, [], ◌∷◌, ◌++◌, map, Option, Some}
-use Rattle.chain_laws.specs.Chains.{Shown, Chain, linear, cyclic, IsChain, Has}
+use Rattle.chain_laws.specs.Chains.{Shown, Chain, linear, cyclic, IsChain}
 use Rattle.chain_laws.specs.Others.{Lacks}
 use Rattle.arena_base.specs.Entries.{index_of}
 

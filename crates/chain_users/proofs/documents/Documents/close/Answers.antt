@@ -1,5 +1,5 @@
 -- Where one of the ends is missing, nothing has to be joined.
-use Rattle.std.proofs.Common.{None, refl, ap, subst, sym}
+use Rattle.std.proofs.Common.{refl, subst, sym}
 use Rattle.std.specs.Option.{option_map}
 use Rattle.chain_users.specs.Texts.{IsClosed}
 use Rattle.chain_users.proofs.Moving.{closes_both, closes_left, closes_right}

@@ -1,5 +1,5 @@
 -- What comes after the two corners is exchanged: one comes after each, so it can be.
-use Rattle.std.proofs.Common.{◌≡◌, ap, refl, subst}
+use Rattle.std.proofs.Common.{◌≡◌, ap}
 use Rattle.std.specs.Prelude.{◌↔◌, IsSome}
 use Rattle.arena_base.specs.Arena.{IsValid}
 use Rattle.chain_traits.proofs.AnyArena.{some_valid}
