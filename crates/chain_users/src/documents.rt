@@ -6,6 +6,7 @@ ghost use Rattle.chain_laws.specs.Chains.{linear, Has, next_of, prev_of};
 ghost use Rattle.arena_base.specs.Arena.{IsValid};
 ghost use Rattle.arena_base.specs.Entries.{count, first_key, last_key};
 ghost use Rattle.chain_links.specs.CanonicalLayouts.{IsCanonicalLayout};
+ghost use Rattle.chain_links.specs.Calls.{SucceedsInRoom};
 ghost use Rattle.chain_links.specs.ChainArena.{IsInserted, CanConnect, entry, seen, shown};
 ghost use Rattle.chain_users.specs.Renumbering.{IsRenumbered};
 ghost use Rattle.chain_users.specs.Lists.{Item, indexes, IsText, KeepsWithout, ComesAfter, ComesBefore, Leaves};
@@ -56,6 +57,7 @@ impl<P: PtrKey, T: Drop, A: ChainArenaTrait<P, T> + Drop> Documents<P, T, A> {
         ensures paragraph { IfOk result (λ q. IsInserted (A.entry self.old) (A.entry self.new) (P.key q) paragraph) }
         ensures others { OnOk result (KeepsWithout A.entry A.interlinks linear self.old self.new []) }
         ensures size { OnOk result (count (A.seen self.new) ≡ count (A.seen self.old) + 1) }
+        ensures room { SucceedsInRoom (A.seen self.old) result (A.seen self.new) }
         ensures err { OnErr result (self.new ≡ self.old) }
     {
         self.paragraphs
@@ -106,6 +108,7 @@ impl<P: PtrKey, T: Drop, A: ChainArenaTrait<P, T> + Drop> Documents<P, T, A> {
         ensures others { OnOk result (KeepsWithout A.entry A.interlinks linear self.old self.new (P.key p ∷ [])) }
         ensures size { OnOk result (count (A.seen self.new) ≡ count (A.seen self.old) + 1) }
         ensures link { (result ≡ Err ChainInsertionError.FailedLinkRequirement) ↔ ¬ IsValid (A.entry self.old) (P.key p) }
+        ensures room { IsValid (A.entry self.old) (P.key p) → SucceedsInRoom (A.seen self.old) result (A.seen self.new) }
         ensures err { OnErr result (self.new ≡ self.old) }
     {
         self.paragraphs
@@ -119,6 +122,7 @@ impl<P: PtrKey, T: Drop, A: ChainArenaTrait<P, T> + Drop> Documents<P, T, A> {
         ensures others { OnOk result (KeepsWithout A.entry A.interlinks linear self.old self.new (P.key p ∷ [])) }
         ensures size { OnOk result (count (A.seen self.new) ≡ count (A.seen self.old) + 1) }
         ensures link { (result ≡ Err ChainInsertionError.FailedLinkRequirement) ↔ ¬ IsValid (A.entry self.old) (P.key p) }
+        ensures room { IsValid (A.entry self.old) (P.key p) → SucceedsInRoom (A.seen self.old) result (A.seen self.new) }
         ensures err { OnErr result (self.new ≡ self.old) }
     {
         self.paragraphs

@@ -1,10 +1,11 @@
 //! A mesh of polygons: each is a ring of corners, and one arena has them all.
 
-ghost use Rattle.std.specs.Prelude.{◌≡◌, ◌≢◌, ◌↔◌, ℕ, ◌+◌, ◌≤◌, List, [], ◌∷◌, ◌++◌, IsSome, IfSome, OnSome, IfNone, IfOk, OnOk, OnErr, Err, None, Some};
+ghost use Rattle.std.specs.Prelude.{◌≡◌, ◌≢◌, ◌↔◌, ℕ, ◌+◌, ◌≤◌, List, [], ◌∷◌, ◌++◌, IsSome, IfSome, OnSome, IfNone, IsOk, IfOk, OnOk, OnErr, Err, None, Some};
 ghost use Rattle.std.specs.Option.{option_map};
 ghost use Rattle.chain_laws.specs.Chains.{cyclic};
 ghost use Rattle.arena_base.specs.Arena.{IsValid};
 ghost use Rattle.arena_base.specs.Entries.{count, first_key, HasRoomLeft};
+ghost use Rattle.chain_links.specs.Calls.{SucceedsInRoom};
 ghost use Rattle.chain_links.specs.ChainArena.{IsInserted};
 ghost use Rattle.chain_users.specs.Lists.{Item, IsRing, KeepsWithout, ComesAfter, ComesBefore, Leaves};
 ghost use Rattle.chain_users.specs.Rings.{GoesRound, AllInRings, IsCutInTwo, AreMerged, IsSplit, CutAndMergeRestore};
@@ -82,6 +83,7 @@ impl<P: PtrKey, T: Drop, A: ChainArenaTrait<P, T> + Drop> Mesh<P, T, A> {
         ensures corner { IfOk result (λ p. IsInserted (A.entry self.old) (A.entry self.new) (P.key p) point) }
         ensures others { OnOk result (KeepsWithout A.entry A.interlinks cyclic self.old self.new []) }
         ensures size { OnOk result (count (A.seen self.new) ≡ count (A.seen self.old) + 1) }
+        ensures room { SucceedsInRoom (A.seen self.old) result (A.seen self.new) }
         ensures err { OnErr result (self.new ≡ self.old) }
     {
         self.corners.insert(LinkInsertKind::SingleLinkCyclic, point)
@@ -97,6 +99,7 @@ impl<P: PtrKey, T: Drop, A: ChainArenaTrait<P, T> + Drop> Mesh<P, T, A> {
         ensures others { OnOk result (KeepsWithout A.entry A.interlinks cyclic self.old self.new (P.key corner ∷ [])) }
         ensures size { OnOk result (count (A.seen self.new) ≡ count (A.seen self.old) + 1) }
         ensures link { (result ≡ Err ChainInsertionError.FailedLinkRequirement) ↔ ¬ IsValid (A.entry self.old) (P.key corner) }
+        ensures room { IsValid (A.entry self.old) (P.key corner) → SucceedsInRoom (A.seen self.old) result (A.seen self.new) }
         ensures err { OnErr result (self.new ≡ self.old) }
     {
         self.corners
@@ -167,10 +170,14 @@ impl<P: PtrKey, T: Drop, A: ChainArenaTrait<P, T> + Drop> Mesh<P, T, A> {
     // Makes room for two corners more. After a refusal nothing has changed.
     fn make_room_for_two(&mut self) -> Result<(), ReallocationError>
         ensures room { OnOk result (count (A.seen self.old) + 2 ≤ (A.seen self.new).capacity) }
+        ensures within { count (A.seen self.old) + 2 ≤ (A.seen self.old).capacity → IsOk result }
         ensures links { A.interlinks self.new ≡ A.interlinks self.old }
         ensures entries { (A.seen self.new).entries ≡ (A.seen self.old).entries }
         ensures err { OnErr result (self.new ≡ self.old) }
     {
+        if self.corners.capacity() - self.corners.len() >= 2 {
+            return Ok(());
+        }
         match self.corners.len().checked_add(2) {
             Some(n) => self.corners.reallocate_min_capacity(n),
             None => Err(ReallocationError::AllocError),
@@ -190,6 +197,7 @@ impl<P: PtrKey, T: Copy + Drop, A: ChainArenaTrait<P, T> + Drop> Mesh<P, T, A> {
         ensures others { OnOk result (KeepsWithout A.entry A.interlinks cyclic self.old self.new (P.key u ∷ P.key v ∷ [])) }
         ensures size { IfOk result (λ r. OnSome r (count (A.seen self.new) ≡ count (A.seen self.old) + 2)) }
         ensures none { IfOk result (λ r. IfNone r (self.new ≡ self.old)) }
+        ensures room { count (A.seen self.old) + 2 ≤ (A.seen self.old).capacity → IsOk result }
         ensures err { OnErr result (self.new ≡ self.old) }
     {
         let (a, b) = match self.points(u, v) {
