@@ -8,7 +8,7 @@ use arena_base::Arena;
 use std::alloc::Global;
 use std::process::Abort;
 
-const EACH: [Script; 3] = [
+static EACH: [Script; 3] = [
     (
         "the births of the trait",
         &[
@@ -87,14 +87,13 @@ const EACH: [Script; 3] = [
     ),
 ];
 
-// One constant, which one body names.
-const TABLES: [&[Script]; 5] = [&EACH, &NEXTS, &COMPACTORS, &COMPRESSIONS, &COPY];
-
 // Each script on an arena of this type.
 pub(super) fn check_scripts<A: Answers + Drop>(rt: &impl Abort, alloc: Global) {
-    for table in &TABLES {
-        plays::<A>(rt, alloc, table);
-    }
+    plays::<A>(rt, alloc, &EACH);
+    plays::<A>(rt, alloc, &NEXTS);
+    plays::<A>(rt, alloc, &COMPACTORS);
+    plays::<A>(rt, alloc, &COMPRESSIONS);
+    plays::<A>(rt, alloc, &COPY);
 }
 
 #[test]

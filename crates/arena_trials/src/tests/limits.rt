@@ -119,7 +119,7 @@ fn refused_values_are_dropped(rt: HostRuntime) {
 }
 
 // The first request for memory is refused, and so is every other one after it: a call that is refused has asked once.
-const EVERY_OTHER: [Script; 1] = [(
+static EVERY_OTHER: [Script; 1] = [(
     "every other request is refused",
     &[
         (Call::Insert(1), "Err(AllocError)"),

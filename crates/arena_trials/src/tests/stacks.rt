@@ -189,11 +189,12 @@ fn shape<S: SlotStack<Item = u32>>(stack: &S) -> (usize, usize, Option<usize>) {
 }
 
 // What the stack holds, in order.
-fn held<S: SlotStack<Item = u32>>(rt: &impl Abort, alloc: Global, stack: &S) -> Vec<u32> {
+fn held<S: SlotStack<Item = u32>>(alloc: Global, stack: &S) -> Vec<u32> {
     let mut items = Vec::new(alloc);
     for i in 0..stack.len() {
-        let item = *stack.get(i).expect(rt, "an item");
-        items.push(item).expect(rt, "memory");
+        if let Some(item) = stack.get(i) {
+            let _ = items.push(*item);
+        }
     }
     items
 }
@@ -238,7 +239,7 @@ fn runs<S: SlotStack<Item = u32>>(
 ) {
     for (call, want) in rows {
         let answer = answer_to(stack, *call);
-        let after = text(rt, alloc, (answer, shape(stack), held(rt, alloc, stack)));
+        let after = text(alloc, (answer, shape(stack), held(alloc, stack)));
         same(rt, want, after.as_str(), *want);
     }
 }
@@ -252,7 +253,7 @@ fn limits<S: LimitStack<Item = u32>>(
 ) {
     for (most, want) in rows {
         let answer = limit(stack, *most);
-        let after = text(rt, alloc, (answer, shape(stack), held(rt, alloc, stack)));
+        let after = text(alloc, (answer, shape(stack), held(alloc, stack)));
         same(rt, want, after.as_str(), *want);
     }
 }
@@ -279,7 +280,7 @@ fn check_edits<S: SlotStack<Item = u32>>(rt: &impl Abort, alloc: Global, few: u6
     let both = ([Some(999), None], [Some(1), None]);
     same(rt, "the last and the replaced", (last, was), both);
     edit(rt, &mut stack);
-    let left = held(rt, alloc, &stack);
+    let left = held(alloc, &stack);
     same(rt, "left", left.as_slice(), [999, 70, 2, 80].as_slice());
     let room = shape(&stack);
     stack.truncate(0);
@@ -303,14 +304,14 @@ fn check_refused_memory<S: SlotStack<Item = u32>>(rt: &impl Abort, alloc: Global
     let refused = stack.reserve_to(usize::MAX);
     same(rt, "refused", refused, Err(ReallocationError::AllocError));
     same(rt, "unchanged", shape(stack), before);
-    let left = held(rt, alloc, stack);
+    let left = held(alloc, stack);
     same(rt, "held still", left.as_slice(), [0, 1, 2].as_slice());
     let grown = stack.reserve_to(5).is_ok() && stack.capacity() >= 5;
     same(rt, "grown", (grown, stack.len()), (true, 3));
 }
 
 // A maximum of five is tested before memory is asked for, ...
-const UP_TO_FIVE: [(Call, &str); 5] = [
+static UP_TO_FIVE: [(Call, &str); 5] = [
     (
         Call::Fill(5),
         "(Ok(true), (5, 5, Some(5)), [0, 1, 2, 3, 4])",
@@ -334,7 +335,7 @@ const UP_TO_FIVE: [(Call, &str); 5] = [
 ];
 
 // .. is not set below the capacity, ...
-const NOT_BELOW: [(usize, &str); 3] = [
+static NOT_BELOW: [(usize, &str); 3] = [
     (
         4,
         "(Err(MaxCapacityReductionError), (5, 5, Some(5)), [0, 1, 2, 3, 4])",
@@ -344,7 +345,7 @@ const NOT_BELOW: [(usize, &str); 3] = [
 ];
 
 // .. and gives room for two more where it is seven.
-const UP_TO_SEVEN: [(Call, &str); 3] = [
+static UP_TO_SEVEN: [(Call, &str); 3] = [
     (
         Call::Push(5),
         "(Ok(true), (6, 7, Some(7)), [0, 1, 2, 3, 4, 5])",
@@ -385,7 +386,7 @@ fn check_growths<S: SlotStack<Item = u32>>(rt: &impl Abort, alloc: Global) {
             ration,
         };
         fill(&mut stack, 100);
-        let left = text(rt, alloc, (shape(&stack), held(rt, alloc, &stack)));
+        let left = text(alloc, (shape(&stack), held(alloc, &stack)));
         same(rt, want, left.as_str(), want);
     }
 }
@@ -448,7 +449,7 @@ fn each_stack_holds_a_list(rt: HostRuntime) {
 }
 
 // Room comes in blocks of 64.
-const IN_BLOCKS: [(Call, &str); 5] = [
+static IN_BLOCKS: [(Call, &str); 5] = [
     (Call::Reserve(1), "(Ok(true), (0, 64, None), [])"),
     (Call::Reserve(64), "(Ok(false), (0, 64, None), [])"),
     (Call::Reserve(65), "(Ok(true), (0, 128, None), [])"),
