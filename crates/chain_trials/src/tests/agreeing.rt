@@ -1,9 +1,9 @@
 //! Plain arenas of links, of which those whose interlinks agree become chain arenas.
 
 use super::scripts::{Do, Kind, Line, plays};
-use super::{At, Chains, ChainsOver, Slot, at, same};
+use super::{At, ChainsOver, Slot, at, same};
 use arena_base::{Arena, ArenaTrait};
-use arena_ptr::{HeapStack, Inx32, SlotStack, ToolPtr};
+use arena_ptr::{Inx32, SlotStack, ToolPtr};
 use chain_arena::{LinkBody, LinkNoGen, links_agree};
 use std::alloc::Global;
 use std::process::Abort;
@@ -24,28 +24,34 @@ fn plain<S: SlotStack<Item = Slot>>(
         assert!(rt; arena.insert_reallocating(link).is_ok());
     }
     for k in gone {
-        assert!(rt; arena.remove(at(rt, (*k, 2))).allow().is_some());
+        assert!(rt; arena.remove(at((*k, 2))).allow().is_some());
     }
     arena
 }
 
-// Interlinks, and whether they agree.
-const ROWS: [(&str, &[At], bool); 15] = [
-    ("no link", &[], true),
-    ("two in a row", &[(0, 2), (1, 0)], true),
-    ("a ring of one", &[(1, 1)], true),
-    ("a ring of two", &[(2, 2), (1, 1)], true),
-    ("a ring of three", &[(3, 2), (1, 3), (2, 1)], true),
-    ("a row and a ring", &[(0, 3), (2, 2), (1, 0)], true),
-    ("only a next", &[(0, 2), (0, 0)], false),
-    ("only a prev", &[(2, 0), (0, 0)], false),
-    ("half a ring of one", &[(0, 1)], false),
-    ("the other half", &[(1, 0)], false),
-    ("a ring without a prev", &[(2, 2), (0, 1)], false),
-    ("a row into a ring", &[(0, 2), (3, 3), (2, 2)], false),
-    ("a ring into a row", &[(0, 2), (1, 3), (2, 2)], false),
-    ("a next of two", &[(0, 3), (0, 3), (2, 0)], false),
-    ("no index", &[(0, 3)], false),
+// Interlinks, which of the links are gone again, and whether the interlinks agree: a link that is gone is named by none.
+static ROWS: [(&str, &[At], &[u32], bool); 16] = [
+    ("no link", &[], &[], true),
+    ("two in a row", &[(0, 2), (1, 0)], &[], true),
+    ("a ring of one", &[(1, 1)], &[], true),
+    ("a ring of two", &[(2, 2), (1, 1)], &[], true),
+    ("a ring of three", &[(3, 2), (1, 3), (2, 1)], &[], true),
+    ("a row and a ring", &[(0, 3), (2, 2), (1, 0)], &[], true),
+    ("only a next", &[(0, 2), (0, 0)], &[], false),
+    ("only a prev", &[(2, 0), (0, 0)], &[], false),
+    ("half a ring of one", &[(0, 1)], &[], false),
+    ("the other half", &[(1, 0)], &[], false),
+    ("a ring without a prev", &[(2, 2), (0, 1)], &[], false),
+    ("a row into a ring", &[(0, 2), (3, 3), (2, 2)], &[], false),
+    ("a ring into a row", &[(0, 2), (1, 3), (2, 2)], &[], false),
+    ("a next of two", &[(0, 3), (0, 3), (2, 0)], &[], false),
+    ("no index", &[(0, 3)], &[], false),
+    (
+        "the interlinks of two, of which one is gone",
+        &[(0, 2), (1, 0)],
+        &[2],
+        false,
+    ),
 ];
 
 const REFUSAL: &str = "interlink transitivity does not hold";
@@ -62,29 +68,22 @@ fn agree_or_not<S: SlotStack<Item = Slot>>(
     same(rt, what, ChainsOver::from_arena(arena).err(), want);
 }
 
-// Each row, and an interlink to a freed index: a link that is gone is named by none.
-fn check_rows<S: SlotStack<Item = Slot>>(rt: &impl Abort, alloc: Global) {
-    for (what, links, agree) in ROWS {
-        let arena: Plain<S> = plain(rt, alloc, links, &[]);
-        agree_or_not(rt, what, arena, agree);
-    }
-    let arena: Plain<S> = plain(rt, alloc, &[(0, 2), (1, 0)], &[2]);
-    agree_or_not(
-        rt,
-        "the interlinks of two, of which one is gone",
-        arena,
-        false,
-    );
+// All rows. A body of its own names them, since each step of a body lists what the body names.
+fn rows() -> &'static [(&'static str, &'static [At], &'static [u32], bool)] {
+    &ROWS
 }
 
-#[test]
-fn interlinks_that_agree_or_not(rt: HostRuntime) {
-    check_rows::<HeapStack<Slot>>(&rt, rt.alloc());
+// Each row.
+pub(super) fn check_rows<S: SlotStack<Item = Slot>>(rt: &impl Abort, alloc: Global) {
+    for row in rows() {
+        let (what, links, gone, agree) = *row;
+        agree_or_not(rt, what, plain::<S>(rt, alloc, links, gone), agree);
+    }
 }
 
 // A row of two and a ring of one, between which two links are gone, of which the last freed index is used first, and the other
 // one next.
-const ACCEPTED: [Line; 5] = [
+static ACCEPTED: [Line; 5] = [
     (
         Do::Debug,
         "{P0[1](2): {(start), 3} 7, P0[3](2): {1, (end)} 7, P0[5](2): {5, 5} 7}",
@@ -109,8 +108,7 @@ fn accepted<S: SlotStack<Item = Slot>>(rt: &impl Abort, alloc: Global) -> Chains
 }
 
 // Indexes, generations and interlinks stay, and so do the counter and the freed list.
-#[test]
-fn what_is_accepted_stays(rt: HostRuntime) {
-    let mut arena: Chains = accepted(&rt, rt.alloc());
-    plays(&rt, rt.alloc(), "accepted", &mut arena, &ACCEPTED);
+pub(super) fn check_accepted<S: SlotStack<Item = Slot>>(rt: &impl Abort, alloc: Global) {
+    let mut arena: ChainsOver<S> = accepted(rt, alloc);
+    plays(rt, alloc, "accepted", &mut arena, &ACCEPTED);
 }
