@@ -87,16 +87,14 @@ fn moves<P: PtrKey, T: Drop, S: SlotStack<Item = ArenaSlot<P, T>>>(
 }
 
 // A compactor does nothing, and is dropped or forgotten.
-fn compactor_dropped<P: PtrKey, T: Drop, S: SlotStack<Item = ArenaSlot<P, T>>>(
+fn compactor_idle<P: PtrKey, T: Drop, S: SlotStack<Item = ArenaSlot<P, T>>>(
     arena: &mut Arena<P, T, S>,
+    is_forgotten: bool,
 ) {
-    drop(arena.compactor());
-}
-
-fn compactor_forgotten<P: PtrKey, T: Drop, S: SlotStack<Item = ArenaSlot<P, T>>>(
-    arena: &mut Arena<P, T, S>,
-) {
-    mem::forget(arena.compactor());
+    let compactor = arena.compactor();
+    if is_forgotten {
+        mem::forget(compactor);
+    }
 }
 
 // The number of slots, whether an entry was moved, and what was counted.
@@ -212,8 +210,8 @@ fn compactor_answer<P: Numbered, S: SlotStack<Item = Slot<P>>>(
                 rewritten(arena, index::<P>(i), index::<P>(other), value),
             )
         }
-        Call::DropCompactor => text(alloc, compactor_dropped(arena)),
-        Call::ForgetCompactor => text(alloc, compactor_forgotten(arena)),
+        Call::DropCompactor => text(alloc, compactor_idle(arena, false)),
+        Call::ForgetCompactor => text(alloc, compactor_idle(arena, true)),
         other => given_answer(alloc, arena, other),
     }
 }
