@@ -18,7 +18,7 @@ mod values;
 
 ghost use Rattle.std.specs.Iterator.{IsFinite};
 
-use arena_base::{ArenaSlot, ArenaTrait};
+use arena_base::{Arena, ArenaSlot, ArenaTrait};
 use arena_ptr::{Gen32, Inx32, LimitStack, Ptr, SetMaxCapacity, SlotStack, ToolPtr};
 use chain_arena::{ChainArena, ChainArenaTrait, LinkInsertKind, LinkNoGen};
 use std::alloc::{AllocError, Global};
@@ -90,6 +90,21 @@ fn put<T: Drop, S: SlotStack<Item = ArenaSlot<ToolPtr, LinkNoGen<ToolPtr, T>>>>(
         Ok(p) => p,
         Err(_) => ToolPtr::invalid(),
     }
+}
+
+// Adds an entry to a plain arena, where there is room.
+fn add_plain<T: Drop, S: SlotStack<Item = ArenaSlot<ToolPtr, T>>>(
+    arena: &mut Arena<ToolPtr, T, S>,
+    t: T,
+) -> Option<ToolPtr> {
+    arena.insert_reallocating(t).ok()
+}
+
+// The chain arena that a plain one becomes, if its interlinks agree.
+fn chained<T: Drop, S: SlotStack<Item = ArenaSlot<ToolPtr, LinkNoGen<ToolPtr, T>>>>(
+    arena: Arena<ToolPtr, LinkNoGen<ToolPtr, T>, S>,
+) -> Result<ChainArena<ToolPtr, T, S>, &'static str> {
+    ChainArena::from_arena(arena)
 }
 
 // So many lone links, each with its index as its value.

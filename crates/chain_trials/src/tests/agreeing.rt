@@ -1,7 +1,7 @@
 //! Plain arenas of links, of which those whose interlinks agree become chain arenas.
 
 use super::scripts::{Do, Kind, Line, plays};
-use super::{At, ChainsOver, Slot, at, same};
+use super::{At, ChainsOver, Slot, add_plain, at, chained, same};
 use arena_base::{Arena, ArenaTrait};
 use arena_ptr::{Inx32, SlotStack, ToolPtr};
 use chain_arena::{LinkBody, LinkNoGen, links_agree};
@@ -12,19 +12,14 @@ type Plain<S> = Arena<ToolPtr, LinkNoGen<ToolPtr, u32>, S>;
 
 // A plain arena of links that name these indexes, 0 for none, as the one before and the one after; the value is 7. Some are
 // gone again.
-fn plain<S: SlotStack<Item = Slot>>(
-    rt: &impl Abort,
-    alloc: Global,
-    links: &[At],
-    gone: &[u32],
-) -> Plain<S> {
+fn plain<S: SlotStack<Item = Slot>>(alloc: Global, links: &[At], gone: &[u32]) -> Plain<S> {
     let mut arena = Plain::<S>::new(alloc);
     for (prev, next) in links {
         let link = LinkBody::new((Inx32::new(*prev), Inx32::new(*next)), 7);
-        assert!(rt; arena.insert_reallocating(link).is_ok());
+        add_plain(&mut arena, link);
     }
     for k in gone {
-        assert!(rt; arena.remove(at((*k, 2))).allow().is_some());
+        arena.remove(at((*k, 2)));
     }
     arena
 }
@@ -56,16 +51,10 @@ static ROWS: [(&str, &[At], &[u32], bool); 16] = [
 
 const REFUSAL: &str = "interlink transitivity does not hold";
 
-// Looks whether interlinks agree, and whether their arena is refused otherwise.
-fn agree_or_not<S: SlotStack<Item = Slot>>(
-    rt: &impl Abort,
-    what: &str,
-    arena: Plain<S>,
-    agree: bool,
-) {
-    same(rt, what, links_agree(&arena), agree);
-    let want = if agree { None } else { Some(REFUSAL) };
-    same(rt, what, ChainsOver::from_arena(arena).err(), want);
+// Whether interlinks agree, and how their arena is refused.
+fn agreement<S: SlotStack<Item = Slot>>(arena: Plain<S>) -> (bool, Option<&'static str>) {
+    let agree = links_agree(&arena);
+    (agree, chained(arena).err())
 }
 
 // All rows. A body of its own names them, since each step of a body lists what the body names.
@@ -77,7 +66,9 @@ fn rows() -> &'static [(&'static str, &'static [At], &'static [u32], bool)] {
 pub(super) fn check_rows<S: SlotStack<Item = Slot>>(rt: &impl Abort, alloc: Global) {
     for row in rows() {
         let (what, links, gone, agree) = *row;
-        agree_or_not(rt, what, plain::<S>(rt, alloc, links, gone), agree);
+        let refusal = if agree { None } else { Some(REFUSAL) };
+        let arena = plain::<S>(alloc, links, gone);
+        same(rt, what, agreement(arena), (agree, refusal));
     }
 }
 
@@ -103,8 +94,8 @@ static ACCEPTED: [Line; 5] = [
 // A plain arena of those links that is accepted.
 fn accepted<S: SlotStack<Item = Slot>>(rt: &impl Abort, alloc: Global) -> ChainsOver<S> {
     let links = [(0, 3), (0, 0), (1, 0), (0, 0), (5, 5)];
-    let arena = plain(rt, alloc, &links, &[4, 2]);
-    ChainsOver::from_arena(arena).expect(rt, "interlinks that agree")
+    let arena = plain::<S>(alloc, &links, &[4, 2]);
+    chained(arena).expect(rt, "interlinks that agree")
 }
 
 // Indexes, generations and interlinks stay, and so do the counter and the freed list.

@@ -1,6 +1,6 @@
 //! Places for links: used, given up and forgotten.
 
-ghost use Rattle.std.specs.Prelude.{◌≡◌, ◌↔◌, IfOk, OnOk, OnErr, Err};
+ghost use Rattle.std.specs.Prelude.{◌≡◌, ◌↔◌, IfOk, OnOk, OnErr, Err, false};
 ghost use Rattle.arena_ptr.specs.Indexes.{number_of_inx32};
 ghost use Rattle.arena_ptr.specs.ToolPtr.{key_of};
 ghost use Rattle.arena_base.specs.Arena.{next_index, with_capacity_of};
@@ -37,16 +37,21 @@ pub(super) fn insert_by_entry<S: SlotStack<Item = Slot>>(
     Ok(p)
 }
 
-// The pointer of a place that is given up.
+// The pointer of a place that is given up, or forgotten.
 pub(super) fn give_up<S: SlotStack<Item = Slot>>(
     arena: &mut ChainsOver<S>,
     kind: LinkInsertKind<ToolPtr>,
+    is_forgotten: bool,
 ) -> Result<ToolPtr, ChainInsertionError>
     ensures place { IfOk result (λ p. key_of p ≡ (next_index arena.old, arena.old.counter)) }
-    ensures same { arena.new ≡ with_capacity_of arena.old arena.new }
+    ensures same { is_forgotten ≡ false → arena.new ≡ with_capacity_of arena.old arena.new }
 {
     let entry = arena.entry_insert_reallocating(kind)?;
-    Ok(entry.ptr())
+    let p = entry.ptr();
+    if is_forgotten {
+        mem::forget(entry);
+    }
+    Ok(p)
 }
 
 // A place for a link of a kind that may be inserted, and the link in it. `None`: it may not be.
@@ -81,29 +86,12 @@ pub(super) fn insert_asked<S: SlotStack<Item = Slot>>(
     }
 }
 
-// A place is forgotten.
-pub(super) fn forget<S: SlotStack<Item = Slot>>(
-    arena: &mut ChainsOver<S>,
-    kind: LinkInsertKind<ToolPtr>,
-) -> Option<ChainInsertionError> {
-    match arena.entry_insert_reallocating(kind) {
-        Ok(entry) => {
-            mem::forget(entry);
-            None
-        }
-        Err(refusal) => Some(refusal),
-    }
-}
-
 // How a place for a link of a kind is refused, by growth and within the capacity.
 pub(super) fn place_refusals<S: SlotStack<Item = Slot>>(
     arena: &mut ChainsOver<S>,
     kind: LinkInsertKind<ToolPtr>,
 ) -> [Option<ChainInsertionError>; 2] {
-    let growing = match arena.entry_insert_reallocating(kind) {
-        Ok(_) => None,
-        Err(refusal) => Some(refusal),
-    };
+    let growing = give_up(arena, kind, false).err();
     let within = match arena.entry_insert_within_capacity(kind) {
         Ok(_) => None,
         Err(refusal) => Some(refusal),

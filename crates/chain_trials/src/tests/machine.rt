@@ -114,93 +114,95 @@ const CYCLE: List = (
 );
 
 // Lists of calls, each row on a new arena. The last one is the cycle, of which an exchange makes two, and another one again.
-static LISTS: [&[List]; 5] = [
-    &[(
-        "a run of calls",
-        &[
-            (Do::Insert(Kind::Disconnected, 10), "Ok(P0[1](2))"),
-            (Do::Insert(Kind::ChainEnd((1, 2)), 20), "Ok(P0[2](2))"),
-            (Do::Connect((2, 2), (1, 2)), "true"),
-            (Do::DrainTaking((2, 2), 1), "Some(1)"),
-            (Do::RemoveLinkInx(1), "InvalidPtr"),
-            (Do::Clear, "Success(())"),
-            (Do::Insert(Kind::Disconnected, 30), "Ok(P0[1](4))"),
-        ],
-    )],
-    &[(
-        "a cycle of one and a chain of two come to the indexes from 1 on, in the order of their indexes",
-        &[
-            (Do::Insert(Kind::Disconnected, 10), "Ok(P0[1](2))"),
-            (Do::Insert(Kind::SingleLinkCyclic, 20), "Ok(P0[2](2))"),
-            (Do::Insert(Kind::Disconnected, 30), "Ok(P0[3](2))"),
-            (Do::Insert(Kind::ChainEnd((3, 2)), 40), "Ok(P0[4](2))"),
-            (Do::RemoveLink((1, 2)), "Success({(start), (end)} 10)"),
-            (Do::Compress(false), "Success(())"),
-            (
-                Do::Debug,
-                "{P0[1](4): {1, 1} 20, P0[2](4): {(start), 3} 30, P0[3](4): {2, (end)} 40}",
-            ),
-        ],
-    )],
-    &[(
-        "holes before two lone links",
-        &[
-            (Do::Insert(Kind::Disconnected, 1), "Ok(P0[1](2))"),
-            (Do::Insert(Kind::Disconnected, 2), "Ok(P0[2](2))"),
-            (Do::Insert(Kind::Disconnected, 3), "Ok(P0[3](2))"),
-            (Do::Insert(Kind::Disconnected, 4), "Ok(P0[4](2))"),
-            (Do::Insert(Kind::Disconnected, 5), "Ok(P0[5](2))"),
-            (Do::Insert(Kind::Disconnected, 6), "Ok(P0[6](2))"),
-            (Do::RemoveLink((1, 2)), "Success({(start), (end)} 1)"),
-            (Do::RemoveLink((2, 2)), "Success({(start), (end)} 2)"),
-            (Do::RemoveLink((3, 2)), "Success({(start), (end)} 3)"),
-            (Do::RemoveLink((4, 2)), "Success({(start), (end)} 4)"),
-            (Do::Canonical(false), "Success(())"),
-            (Do::Canonical(false), "Success(())"),
-            (
-                Do::Debug,
-                "{P0[1](8): {(start), (end)} 5, P0[2](8): {(start), (end)} 6}",
-            ),
-        ],
-    )],
-    &[(
-        "each call that overflows, at the greatest generation; and room above the greatest index",
-        &[
-            (Do::SetGeneration(u32::MAX), "()"),
-            (Do::IncGeneration, "GenerationOverflow(())"),
-            (Do::IncGeneration, "Success(())"),
-            (Do::SetGeneration(u32::MAX), "()"),
-            (Do::Insert(Kind::Disconnected, 50), "Ok(P0[1](ffffffff))"),
-            (
-                Do::Invalidate((1, u32::MAX)),
-                "GenerationOverflow(P0[1](2))",
-            ),
-            (Do::SetGeneration(u32::MAX), "()"),
-            (
-                Do::RemoveLink((1, 2)),
-                "GenerationOverflow({(start), (end)} 50)",
-            ),
-            (Do::SetGeneration(u32::MAX), "()"),
-            (Do::Insert(Kind::Disconnected, 60), "Ok(P0[1](ffffffff))"),
-            (
-                Do::RemoveLinkInx(1),
-                "GenerationOverflow((Gen32 { number: 4294967295 }, {(start), (end)} 60))",
-            ),
-            (Do::Insert(Kind::Disconnected, 70), "Ok(P0[1](2))"),
-            (Do::SetGeneration(u32::MAX), "()"),
-            (Do::Compress(true), "Success(())"),
-            (Do::SetGeneration(u32::MAX), "()"),
-            (Do::Compress(false), "GenerationOverflow(())"),
-            (Do::SetGeneration(u32::MAX), "()"),
-            (Do::Clear, "GenerationOverflow(())"),
-            (Do::SetGeneration(u32::MAX), "()"),
-            (Do::Compress(false), "Success(())"),
-            (Do::Clear, "Success(())"),
-            (Do::Reserve(1 << 40), "Err(AllocError)"),
-        ],
-    )],
-    &[CYCLE, SPLIT, MERGED],
-];
+static RUN: [List; 1] = [(
+    "a run of calls",
+    &[
+        (Do::Insert(Kind::Disconnected, 10), "Ok(P0[1](2))"),
+        (Do::Insert(Kind::ChainEnd((1, 2)), 20), "Ok(P0[2](2))"),
+        (Do::Connect((2, 2), (1, 2)), "true"),
+        (Do::DrainTaking((2, 2), 1), "Some(1)"),
+        (Do::RemoveLinkInx(1), "InvalidPtr"),
+        (Do::Clear, "Success(())"),
+        (Do::Insert(Kind::Disconnected, 30), "Ok(P0[1](4))"),
+    ],
+)];
+
+static RENUMBERED: [List; 1] = [(
+    "a cycle of one and a chain of two come to the indexes from 1 on, in the order of their indexes",
+    &[
+        (Do::Insert(Kind::Disconnected, 10), "Ok(P0[1](2))"),
+        (Do::Insert(Kind::SingleLinkCyclic, 20), "Ok(P0[2](2))"),
+        (Do::Insert(Kind::Disconnected, 30), "Ok(P0[3](2))"),
+        (Do::Insert(Kind::ChainEnd((3, 2)), 40), "Ok(P0[4](2))"),
+        (Do::RemoveLink((1, 2)), "Success({(start), (end)} 10)"),
+        (Do::Compress(false), "Success(())"),
+        (
+            Do::Debug,
+            "{P0[1](4): {1, 1} 20, P0[2](4): {(start), 3} 30, P0[3](4): {2, (end)} 40}",
+        ),
+    ],
+)];
+
+static BEHIND_HOLES: [List; 1] = [(
+    "holes before two lone links",
+    &[
+        (Do::Insert(Kind::Disconnected, 1), "Ok(P0[1](2))"),
+        (Do::Insert(Kind::Disconnected, 2), "Ok(P0[2](2))"),
+        (Do::Insert(Kind::Disconnected, 3), "Ok(P0[3](2))"),
+        (Do::Insert(Kind::Disconnected, 4), "Ok(P0[4](2))"),
+        (Do::Insert(Kind::Disconnected, 5), "Ok(P0[5](2))"),
+        (Do::Insert(Kind::Disconnected, 6), "Ok(P0[6](2))"),
+        (Do::RemoveLink((1, 2)), "Success({(start), (end)} 1)"),
+        (Do::RemoveLink((2, 2)), "Success({(start), (end)} 2)"),
+        (Do::RemoveLink((3, 2)), "Success({(start), (end)} 3)"),
+        (Do::RemoveLink((4, 2)), "Success({(start), (end)} 4)"),
+        (Do::Canonical(false), "Success(())"),
+        (Do::Canonical(false), "Success(())"),
+        (
+            Do::Debug,
+            "{P0[1](8): {(start), (end)} 5, P0[2](8): {(start), (end)} 6}",
+        ),
+    ],
+)];
+
+static OVERFLOWS: [List; 1] = [(
+    "each call that overflows, at the greatest generation; and room above the greatest index",
+    &[
+        (Do::SetGeneration(u32::MAX), "()"),
+        (Do::IncGeneration, "GenerationOverflow(())"),
+        (Do::IncGeneration, "Success(())"),
+        (Do::SetGeneration(u32::MAX), "()"),
+        (Do::Insert(Kind::Disconnected, 50), "Ok(P0[1](ffffffff))"),
+        (
+            Do::Invalidate((1, u32::MAX)),
+            "GenerationOverflow(P0[1](2))",
+        ),
+        (Do::SetGeneration(u32::MAX), "()"),
+        (
+            Do::RemoveLink((1, 2)),
+            "GenerationOverflow({(start), (end)} 50)",
+        ),
+        (Do::SetGeneration(u32::MAX), "()"),
+        (Do::Insert(Kind::Disconnected, 60), "Ok(P0[1](ffffffff))"),
+        (
+            Do::RemoveLinkInx(1),
+            "GenerationOverflow((Gen32 { number: 4294967295 }, {(start), (end)} 60))",
+        ),
+        (Do::Insert(Kind::Disconnected, 70), "Ok(P0[1](2))"),
+        (Do::SetGeneration(u32::MAX), "()"),
+        (Do::Compress(true), "Success(())"),
+        (Do::SetGeneration(u32::MAX), "()"),
+        (Do::Compress(false), "GenerationOverflow(())"),
+        (Do::SetGeneration(u32::MAX), "()"),
+        (Do::Clear, "GenerationOverflow(())"),
+        (Do::SetGeneration(u32::MAX), "()"),
+        (Do::Compress(false), "Success(())"),
+        (Do::Clear, "Success(())"),
+        (Do::Reserve(1 << 40), "Err(AllocError)"),
+    ],
+)];
+
+static EXCHANGES: [List; 3] = [CYCLE, SPLIT, MERGED];
 
 // Further lists on the cycle.
 const SPLIT: List = (
@@ -273,9 +275,9 @@ static EVERY_REPLY: List = (
     ],
 );
 
-// All lists.
-fn lists() -> &'static [&'static [List]] {
-    &LISTS
+// The lists.
+fn lists() -> [&'static [List]; 5] {
+    [&RUN, &RENUMBERED, &BEHIND_HOLES, &OVERFLOWS, &EXCHANGES]
 }
 
 fn every_reply() -> &'static List {
@@ -283,12 +285,17 @@ fn every_reply() -> &'static List {
 }
 
 // Lists one after another, on a new arena.
+fn check_together<S: SlotStack<Item = Slot>>(rt: &impl Abort, alloc: Global, together: &[List]) {
+    let mut arena: ChainsOver<S> = ChainsOver::<S>::new(alloc);
+    for list in together {
+        replies(rt, alloc, &mut arena, list);
+    }
+}
+
+// All lists.
 pub(super) fn check_lists<S: SlotStack<Item = Slot>>(rt: &impl Abort, alloc: Global) {
-    for together in lists() {
-        let mut arena: ChainsOver<S> = ChainsOver::<S>::new(alloc);
-        for list in *together {
-            replies(rt, alloc, &mut arena, list);
-        }
+    for together in &lists() {
+        check_together::<S>(rt, alloc, together);
     }
 }
 

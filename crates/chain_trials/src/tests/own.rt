@@ -2,9 +2,7 @@
 
 use super::canonical::{counted, moves_listed, moves_seen, placed};
 use super::drains::{drained, drained_chain, remove_all, takes_one, takes_one_of_chain};
-use super::entries::{
-    forget, give_up, insert_asked, insert_by_any_entry, insert_by_entry, place_refusals,
-};
+use super::entries::{give_up, insert_asked, insert_by_any_entry, insert_by_entry, place_refusals};
 use super::indexing::{value_at, value_at_index, write_at, write_at_index};
 use super::iterators::{indexes, links, links_by_reference, links_used_up, values, walk};
 use super::machine::kind;
@@ -75,8 +73,8 @@ fn place_answer<S: SlotStack<Item = Slot>>(
     row: Do,
 ) -> String {
     match row {
-        Do::GiveUp(k) => text(alloc, give_up(arena, kind(k))),
-        Do::Forget(k) => text(alloc, forget(arena, kind(k))),
+        Do::GiveUp(k) => text(alloc, give_up(arena, kind(k), false)),
+        Do::Forget(k) => text(alloc, give_up(arena, kind(k), true).err()),
         Do::PlaceRefusals(k) => text(alloc, place_refusals(arena, kind(k))),
         Do::InsertByEntry(k, t) => text(alloc, insert_by_entry(arena, kind(k), t)),
         Do::InsertByAnyEntry(k, t) => text(alloc, insert_by_any_entry(arena, kind(k), t)),

@@ -1,7 +1,7 @@
 //! Values that tell how many of them there are, or how often they were cloned: none is lost, and none is cloned twice.
 
 use super::steps::SlotOf;
-use super::{at, put, same};
+use super::{add_plain, at, chained, put, same};
 use arena_base::{Arena, ArenaTrait};
 use arena_ptr::{HeapStack, Inx32, SlotStack, ToolPtr};
 use chain_arena::{Call, ChainArena, LinkBody, LinkInsertKind, LinkNoGen, apply};
@@ -64,7 +64,7 @@ fn plain_pair<S: SlotStack<Item = SlotOf<Rc<u8>>>>(
     let mut arena = Arena::new(alloc);
     for next in [next, 0] {
         let link = LinkBody::new((None, Inx32::new(next)), one_more(rt, value));
-        assert!(rt; arena.insert_reallocating(link).is_ok());
+        add_plain(&mut arena, link);
     }
     arena
 }
@@ -76,7 +76,7 @@ fn left_by_a_refusal<S: SlotStack<Item = SlotOf<Rc<u8>>>>(
     next: u32,
 ) -> (bool, usize) {
     let value = shared(rt, alloc);
-    let made = ChainArena::from_arena(plain_pair::<S>(rt, alloc, &value, next));
+    let made = chained(plain_pair::<S>(rt, alloc, &value, next));
     (made.is_err(), Rc::strong_count(&value))
 }
 
