@@ -18,7 +18,7 @@ const ROUND: [At; 3] = [(1, 2), (2, 3), (3, 1)];
 const TWO_LEFT: &str = "[(P0[1](2), {(start), 3} 1), (P0[3](2), {1, (end)} 3)]";
 
 // Walks: from a link on to the end, and then from the link before it back to the start; once round a ring.
-static WALKS: [Script; 7] = [
+static WALKS: [Script; 4] = [
     (
         "a row of three, of which the middle one is taken out again",
         0,
@@ -75,6 +75,10 @@ static WALKS: [Script; 7] = [
             ),
         ],
     ),
+];
+
+// Further walks.
+static FURTHER_WALKS: [Script; 3] = [
     (
         "no walk from another generation or an index beyond the last",
         1,
@@ -114,7 +118,7 @@ static WALKS: [Script; 7] = [
 ];
 
 // Loops over all links, and values by what is known to be valid.
-static LOOPS: [Script; 4] = [
+static LOOPS: [Script; 2] = [
     (
         "values, of a chain of two whose second is gone and a lone link",
         3,
@@ -140,6 +144,10 @@ static LOOPS: [Script; 4] = [
             (Do::IsEmpty, "true"),
         ],
     ),
+];
+
+// Further loops.
+static FURTHER_LOOPS: [Script; 2] = [
     (
         "no links",
         0,
@@ -169,7 +177,7 @@ static LOOPS: [Script; 4] = [
 ];
 
 // Chains drained: wholly, and up to a first link.
-static CHAIN_DRAINS: [Script; 7] = [
+static CHAIN_DRAINS: [Script; 4] = [
     (
         "a linear chain drained from its start",
         3,
@@ -227,6 +235,10 @@ static CHAIN_DRAINS: [Script; 7] = [
             (Do::IsEmpty, "true"),
         ],
     ),
+];
+
+// Further chains drained.
+static FURTHER_CHAIN_DRAINS: [Script; 3] = [
     (
         "no walk and no drain of a stale pointer",
         1,
@@ -271,7 +283,7 @@ static CHAIN_DRAINS: [Script; 7] = [
 ];
 
 // All links drained.
-static DRAINS: [Script; 6] = [
+static DRAINS: [Script; 3] = [
     (
         "all links drained by rising index",
         4,
@@ -311,6 +323,10 @@ static DRAINS: [Script; 6] = [
             ),
         ],
     ),
+];
+
+// Further drains of all.
+static FURTHER_DRAINS: [Script; 3] = [
     (
         "three in a row, of which a drain yields one: dropped, it takes the others",
         3,
@@ -406,7 +422,18 @@ static PLACES: [Script; 6] = [
     ),
 ];
 
-// All tables. A body of its own names them, since each step of a body lists what the body names.
-pub(super) fn tables() -> [&'static [Script]; 5] {
-    [&WALKS, &LOOPS, &PLACES, &CHAIN_DRAINS, &DRAINS]
+// All tables. A body of its own names them, since each step of a body lists what the body names, and each is small, since what a
+// body lists of a static costs by the square of its size.
+pub(super) fn tables() -> [&'static [Script]; 9] {
+    [
+        &WALKS,
+        &FURTHER_WALKS,
+        &LOOPS,
+        &FURTHER_LOOPS,
+        &PLACES,
+        &CHAIN_DRAINS,
+        &FURTHER_CHAIN_DRAINS,
+        &DRAINS,
+        &FURTHER_DRAINS,
+    ]
 }
