@@ -11,16 +11,17 @@ mod own;
 mod own_rows;
 mod recasting;
 mod scripts;
+mod stacks;
 mod steps;
 mod texts;
 mod values;
 
 ghost use Rattle.std.specs.Iterator.{IsFinite};
 
-use arena_base::{ArenaSlot, ArenaTrait};
-use arena_ptr::{Gen32, Inx32, LimitStack, LimitedStack, Ptr, SetMaxCapacity, SlotStack, ToolPtr};
+use arena_base::{Arena, ArenaSlot, ArenaTrait};
+use arena_ptr::{Gen32, Inx32, LimitStack, Ptr, SetMaxCapacity, SlotStack, ToolPtr};
 use chain_arena::{ChainArena, ChainArenaTrait, LinkInsertKind, LinkNoGen};
-use std::alloc::Global;
+use std::alloc::{AllocError, Global};
 use std::fmt::Debug;
 use std::process::Abort;
 
@@ -30,11 +31,6 @@ type Slot = ArenaSlot<ToolPtr, LinkNoGen<ToolPtr, u32>>;
 // Links over a stack. What is written for any stack costs its proof half of what the same costs at one.
 type ChainsOver<S> = ChainArena<ToolPtr, u32, S>;
 
-// .. over std's memory without a limit and with one.
-type Chains = ChainArena<ToolPtr, u32>;
-
-type LimitedChains = ChainArena<ToolPtr, u32, LimitedStack<Slot>>;
-
 // A pointer as two numbers, its index and its generation.
 type At = (u32, u32);
 
@@ -43,64 +39,79 @@ fn same<T: PartialEq + Debug + Drop>(rt: &impl Abort, what: &str, got: T, want: 
     assert_eq!(rt; got, want, "{what}");
 }
 
-// An answer as `Debug` writes it.
-fn text<T: Debug + Drop>(rt: &impl Abort, alloc: Global, answer: T) -> String {
-    format!(in alloc; "{answer:?}").expect(rt, "memory")
+// An answer as `Debug` writes it. Where memory is refused it is empty, which no test wants: what makes texts needs no way to
+// end the test, which each of its steps would name.
+fn text<T: Debug + Drop>(alloc: Global, answer: T) -> String {
+    match format!(in alloc; "{answer:?}") {
+        Ok(text) => text,
+        Err(_) => String::new(alloc),
+    }
 }
 
-// All items of an iterator.
-fn all_of<T: Drop, I: Iterator<Item = T> + Drop>(rt: &impl Abort, alloc: Global, items: I) -> Vec<T>
+// All items of an iterator, as `Debug` writes them.
+fn text_of_all<T: Debug + Drop, I: Iterator<Item = T> + Drop>(alloc: Global, items: I) -> String
     requires { I.can_next items × IsFinite (I.remaining items) }
 {
-    items.collect(alloc).expect(rt, "memory")
+    let all: Result<Vec<T>, AllocError> = items.collect(alloc);
+    match all {
+        Ok(all) => text(alloc, all),
+        Err(_) => String::new(alloc),
+    }
 }
 
-// .. as `Debug` writes them.
-fn text_of_all<T: Debug + Drop, I: Iterator<Item = T> + Drop>(
-    rt: &impl Abort,
-    alloc: Global,
-    items: I,
-) -> String
-    requires { I.can_next items × IsFinite (I.remaining items) }
-{
-    text(rt, alloc, all_of(rt, alloc, items))
+// The index of a number. Of zero it is that of the invalid pointer.
+fn index(i: u32) -> Inx32 {
+    match Inx32::new(i) {
+        Some(index) => index,
+        None => ToolPtr::invalid().inx(),
+    }
 }
 
-// An index.
-fn index(rt: &impl Abort, i: u32) -> Inx32 {
-    Inx32::new(i).expect(rt, "an index")
-}
-
-// A generation.
-fn generation(rt: &impl Abort, n: u32) -> Gen32 {
-    Gen32::new(n).expect(rt, "a generation")
+// The generation of a number. Of zero it is that of the invalid pointer.
+fn generation(n: u32) -> Gen32 {
+    match Gen32::new(n) {
+        Some(generation) => generation,
+        None => ToolPtr::invalid().generation(),
+    }
 }
 
 // The pointer of an index and a generation.
-fn at(rt: &impl Abort, p: At) -> ToolPtr {
-    ToolPtr::_from_raw(index(rt, p.0), generation(rt, p.1))
+fn at(p: At) -> ToolPtr {
+    ToolPtr::_from_raw(index(p.0), generation(p.1))
 }
 
-// Adds a link.
+// Adds a link, and tells its pointer. Without room for it that is the invalid one.
 fn put<T: Drop, S: SlotStack<Item = ArenaSlot<ToolPtr, LinkNoGen<ToolPtr, T>>>>(
-    rt: &impl Abort,
     arena: &mut ChainArena<ToolPtr, T, S>,
     kind: LinkInsertKind<ToolPtr>,
     t: T,
 ) -> ToolPtr {
-    let added = arena.insert_reallocating(kind, t);
-    added.expect(rt, "room for a link")
+    match arena.insert_reallocating(kind, t) {
+        Ok(p) => p,
+        Err(_) => ToolPtr::invalid(),
+    }
+}
+
+// Adds an entry to a plain arena, where there is room.
+fn add_plain<T: Drop, S: SlotStack<Item = ArenaSlot<ToolPtr, T>>>(
+    arena: &mut Arena<ToolPtr, T, S>,
+    t: T,
+) -> Option<ToolPtr> {
+    arena.insert_reallocating(t).ok()
+}
+
+// The chain arena that a plain one becomes, if its interlinks agree.
+fn chained<T: Drop, S: SlotStack<Item = ArenaSlot<ToolPtr, LinkNoGen<ToolPtr, T>>>>(
+    arena: Arena<ToolPtr, LinkNoGen<ToolPtr, T>, S>,
+) -> Result<ChainArena<ToolPtr, T, S>, &'static str> {
+    ChainArena::from_arena(arena)
 }
 
 // So many lone links, each with its index as its value.
-fn lone_links<S: SlotStack<Item = Slot>>(
-    rt: &impl Abort,
-    alloc: Global,
-    count: u32,
-) -> ChainsOver<S> {
+fn lone_links<S: SlotStack<Item = Slot>>(alloc: Global, count: u32) -> ChainsOver<S> {
     let mut arena = ChainsOver::<S>::new(alloc);
     for k in 1..=count {
-        put(rt, &mut arena, LinkInsertKind::Disconnected, k);
+        put(&mut arena, LinkInsertKind::Disconnected, k);
     }
     arena
 }

@@ -1,7 +1,10 @@
 // The answers of calls that invalidate, and the errors.
-use crate::tests::tools::same;
+use crate::tests::tools::{same, text};
 use arena_ptr::{AllocError, InvalidationOption, InvalidationResult};
 use std::alloc;
+use std::alloc::Global;
+use std::fmt::Debug;
+use std::process::Abort;
 
 fn is_above_three(n: i32) -> bool {
     n > 3
@@ -26,48 +29,32 @@ fn each_of_result(
     )
 }
 
+// Each answer is told as its text.
+fn shows<T: Debug + Drop>(rt: &impl Abort, alloc: Global, answer: T, want: &str) {
+    let got = text(alloc, answer);
+    same(rt, "an answer", got.as_str(), want);
+}
+
 #[test]
 fn an_answer_gives_its_value_and_tells_overflow(rt: HostRuntime) {
-    for (answer, want) in [
-        (
-            InvalidationOption::Success(3),
-            (3, (3, false), InvalidationOption::Success(false)),
-        ),
-        (
-            InvalidationOption::GenerationOverflow(4),
-            (4, (4, true), InvalidationOption::GenerationOverflow(true)),
-        ),
-    ] {
-        same(&rt, "an answer", each_of_option(answer), want);
-    }
+    let alloc = rt.alloc();
+    let told = each_of_option(InvalidationOption::Success(3));
+    shows(&rt, alloc, told, "(3, (3, false), Success(false))");
+    let told = each_of_option(InvalidationOption::GenerationOverflow(4));
+    shows(&rt, alloc, told, "(4, (4, true), GenerationOverflow(true))");
 }
 
 #[test]
 fn a_result_may_have_no_value(rt: HostRuntime) {
-    for (answer, want) in [
-        (
-            InvalidationResult::Success(3),
-            (
-                Some(3),
-                (Some(3), false),
-                InvalidationResult::Success(false),
-            ),
-        ),
-        (
-            InvalidationResult::GenerationOverflow(4),
-            (
-                Some(4),
-                (Some(4), true),
-                InvalidationResult::GenerationOverflow(true),
-            ),
-        ),
-        (
-            InvalidationResult::InvalidPtr,
-            (None, (None, false), InvalidationResult::InvalidPtr),
-        ),
-    ] {
-        same(&rt, "a result", each_of_result(answer), want);
-    }
+    let alloc = rt.alloc();
+    let told = each_of_result(InvalidationResult::Success(3));
+    let want = "(Some(3), (Some(3), false), Success(false))";
+    shows(&rt, alloc, told, want);
+    let told = each_of_result(InvalidationResult::GenerationOverflow(4));
+    let want = "(Some(4), (Some(4), true), GenerationOverflow(true))";
+    shows(&rt, alloc, told, want);
+    let told = each_of_result(InvalidationResult::InvalidPtr);
+    shows(&rt, alloc, told, "(None, (None, false), InvalidPtr)");
 }
 
 #[test]

@@ -1,14 +1,12 @@
 // Each call once: those of the trait through the trait, and the arena's own.
 use crate::tests::compressions::{COMPACTORS, COMPRESSIONS};
 use crate::tests::copies::COPY;
-use crate::tests::pointers::SmallPtr;
 use crate::tests::rows::NEXTS;
 use crate::tests::scripts::{Answers, Call, Script, plays};
-use arena_base::Arena;
 use std::alloc::Global;
 use std::process::Abort;
 
-const EACH: [Script; 3] = [
+static EACH: [Script; 3] = [
     (
         "the births of the trait",
         &[
@@ -87,17 +85,14 @@ const EACH: [Script; 3] = [
     ),
 ];
 
-// One constant, which one body names.
-const TABLES: [&[Script]; 5] = [&EACH, &NEXTS, &COMPACTORS, &COMPRESSIONS, &COPY];
+// All tables. A body of its own names them, since each step of a body lists what the body names.
+fn tables() -> [&'static [Script]; 5] {
+    [&EACH, &NEXTS, &COMPACTORS, &COMPRESSIONS, &COPY]
+}
 
 // Each script on an arena of this type.
 pub(super) fn check_scripts<A: Answers + Drop>(rt: &impl Abort, alloc: Global) {
-    for table in &TABLES {
+    for table in &tables() {
         plays::<A>(rt, alloc, table);
     }
-}
-
-#[test]
-fn each_script_over_the_heap_stack(rt: HostRuntime) {
-    check_scripts::<Arena<SmallPtr, u32>>(&rt, rt.alloc());
 }

@@ -1,7 +1,7 @@
 // What a compactor and a compression move, show, count and leave.
 use crate::tests::scripts::{Call, Script};
 
-pub(super) const COMPACTORS: [Script; 4] = [
+pub(super) static COMPACTORS: [Script; 4] = [
     (
         "the compactor closes a hole",
         &[
@@ -61,7 +61,7 @@ pub(super) const COMPACTORS: [Script; 4] = [
     ),
 ];
 
-pub(super) const COMPRESSIONS: [Script; 6] = [
+pub(super) static COMPRESSIONS: [Script; 6] = [
     // Each entry gets the counter, the next index is behind them, and the old pointers are not valid.
     (
         "a hole is closed",

@@ -1,6 +1,6 @@
 // Arenas with a maximum, and what becomes of values and growths that are refused.
 use crate::tests::calls::check_scripts;
-use crate::tests::pointers::SmallPtr;
+use crate::tests::pointers::{Numbered, SmallPtr};
 use crate::tests::scripts::{Answers, Call, Script, plays, runs};
 use crate::tests::stacks::Rationed;
 use crate::tests::tools::{Slot, same};
@@ -66,19 +66,6 @@ fn check_refused_copy<A: Answers + SetMaxCapacity + Drop>(rt: &impl Abort, alloc
     );
 }
 
-// Each script, and an arena with a maximum that is filled and refuses to become a copy. The type is named once, since that is
-// what costs.
-fn check_limited<A: Answers + SetMaxCapacity + Drop>(rt: &impl Abort, alloc: Global) {
-    check_scripts::<A>(rt, alloc);
-    check_maximum::<A>(rt, alloc);
-    check_refused_copy::<A>(rt, alloc);
-}
-
-#[test]
-fn each_script_over_a_limited_stack_and_a_maximum(rt: HostRuntime) {
-    check_limited::<Arena<SmallPtr, u32, LimitedStack<Slot<SmallPtr>>>>(&rt, rt.alloc());
-}
-
 // One more of a value.
 fn share(rt: &impl Abort, value: &Rc<u8>) -> Rc<u8> {
     value.clone().expect(rt, "one more")
@@ -94,32 +81,39 @@ fn hand<P: PtrKey, T: Drop, S: SlotStack<Item = ArenaSlot<P, T>>>(
     let _ = arena.insert_reallocating(second);
 }
 
-// Hands 600 values to an arena with a maximum, and tells how many it holds and how many there are.
+// Hands 600 values to an arena.
+fn hand_many<P: PtrKey, S: SlotStack<Item = Shared<P>>>(
+    rt: &impl Abort,
+    arena: &mut Arena<P, Rc<u8>, S>,
+    value: &Rc<u8>,
+) {
+    for _ in 0..300 {
+        hand(arena, share(rt, value), share(rt, value));
+    }
+}
+
+// .. to one with a maximum, and tells whether it took that maximum, how many it holds and how many there are.
 fn handed<P: PtrKey, S: LimitStack<Item = Shared<P>>>(
     rt: &impl Abort,
     alloc: Global,
     most: usize,
-) -> (usize, usize) {
+) -> (bool, usize, usize) {
     let value = Rc::new(alloc, 5).ok().expect(rt, "memory");
     let mut arena: Arena<P, Rc<u8>, S> = Arena::new(alloc);
-    assert!(rt; arena.set_max_capacity(most).is_ok());
-    for _ in 0..300 {
-        hand(&mut arena, share(rt, &value), share(rt, &value));
-    }
-    (arena.len(), Rc::strong_count(&value))
+    let limited = arena.set_max_capacity(most).is_ok();
+    hand_many(rt, &mut arena, &value);
+    (limited, arena.len(), Rc::strong_count(&value))
 }
 
 // A value that an insertion refuses is dropped: there are those in the arena, and the one that they are shared from.
-#[test]
-fn refused_values_are_dropped(rt: HostRuntime) {
-    for (most, want) in [(2, (2, 3)), (1000, (255, 256))] {
-        let values = handed::<SmallPtr, LimitedStack<Shared<SmallPtr>>>(&rt, rt.alloc(), most);
-        same(&rt, "values", values, want);
+fn check_values<P: PtrKey, S: LimitStack<Item = Shared<P>>>(rt: &impl Abort, alloc: Global) {
+    for (most, want) in [(2, (true, 2, 3)), (1000, (true, 255, 256))] {
+        same(rt, "values", handed::<P, S>(rt, alloc, most), want);
     }
 }
 
 // The first request for memory is refused, and so is every other one after it: a call that is refused has asked once.
-const EVERY_OTHER: [Script; 1] = [(
+static EVERY_OTHER: [Script; 1] = [(
     "every other request is refused",
     &[
         (Call::Insert(1), "Err(AllocError)"),
@@ -135,11 +129,28 @@ const EVERY_OTHER: [Script; 1] = [(
     ],
 )];
 
+// Each script over a stack, and over one that may have a maximum, and what becomes of what is refused. The types are named once,
+// by one test, since that is what costs.
+fn check_arenas<
+    P: Numbered,
+    H: SlotStack<Item = Slot<P>>,
+    L: LimitStack<Item = Slot<P>>,
+    V: LimitStack<Item = Shared<P>>,
+>(rt: &impl Abort, alloc: Global) {
+    check_scripts::<Arena<P, u32, H>>(rt, alloc);
+    check_scripts::<Arena<P, u32, L>>(rt, alloc);
+    check_maximum::<Arena<P, u32, L>>(rt, alloc);
+    check_refused_copy::<Arena<P, u32, L>>(rt, alloc);
+    plays::<Arena<P, u32, Rationed<H>>>(rt, alloc, &EVERY_OTHER);
+    check_values::<P, V>(rt, alloc);
+}
+
 #[test]
-fn refused_memory_is_not_asked_for_again(rt: HostRuntime) {
-    plays::<Arena<SmallPtr, u32, Rationed<HeapStack<Slot<SmallPtr>>>>>(
-        &rt,
-        rt.alloc(),
-        &EVERY_OTHER,
-    );
+fn arenas_over_both_stacks(rt: HostRuntime) {
+    check_arenas::<
+        SmallPtr,
+        HeapStack<Slot<SmallPtr>>,
+        LimitedStack<Slot<SmallPtr>>,
+        LimitedStack<Shared<SmallPtr>>,
+    >(&rt, rt.alloc());
 }

@@ -12,7 +12,6 @@ use arena_ptr::{HeapStack, InxKey, PtrKey, SlotStack};
 use std::alloc::Global;
 use std::fmt::Debug;
 use std::mem;
-use std::process::Abort;
 
 // Adds an entry, where there is room for it.
 pub(super) fn add<P: PtrKey, T: Drop, S: SlotStack<Item = ArenaSlot<P, T>>>(
@@ -39,21 +38,19 @@ pub(super) fn insert_many<P: PtrKey, S: SlotStack<Item = Slot<P>>>(
 
 // What an arena holds, as its iterator goes over it.
 fn iterated<P: PtrKey + Debug, S: SlotStack<Item = Slot<P>>>(
-    rt: &impl Abort,
     alloc: Global,
     arena: &Arena<P, u32, S>,
 ) -> String {
-    text_of_all(rt, alloc, arena.into_iter())
+    text_of_all(alloc, arena.into_iter())
 }
 
 // What is taken out of an arena that is used up. A new one is left.
 fn drained<P: PtrKey + Debug, S: SlotStack<Item = Slot<P>>>(
-    rt: &impl Abort,
     alloc: Global,
     arena: &mut Arena<P, u32, S>,
 ) -> String {
     let old = mem::replace(arena, Arena::new(alloc));
-    text_of_all(rt, alloc, old.into_iter())
+    text_of_all(alloc, old.into_iter())
 }
 
 // Whether an index is one of so many slots.
@@ -90,16 +87,14 @@ fn moves<P: PtrKey, T: Drop, S: SlotStack<Item = ArenaSlot<P, T>>>(
 }
 
 // A compactor does nothing, and is dropped or forgotten.
-fn compactor_dropped<P: PtrKey, T: Drop, S: SlotStack<Item = ArenaSlot<P, T>>>(
+fn compactor_idle<P: PtrKey, T: Drop, S: SlotStack<Item = ArenaSlot<P, T>>>(
     arena: &mut Arena<P, T, S>,
+    is_forgotten: bool,
 ) {
-    drop(arena.compactor());
-}
-
-fn compactor_forgotten<P: PtrKey, T: Drop, S: SlotStack<Item = ArenaSlot<P, T>>>(
-    arena: &mut Arena<P, T, S>,
-) {
-    mem::forget(arena.compactor());
+    let compactor = arena.compactor();
+    if is_forgotten {
+        mem::forget(compactor);
+    }
 }
 
 // The number of slots, whether an entry was moved, and what was counted.
@@ -149,92 +144,85 @@ fn rewritten<P: PtrKey, S: SlotStack<Item = Slot<P>>>(
 
 // The answer to a call of the arena's own, ...
 fn own_answer<P: Numbered, S: SlotStack<Item = Slot<P>>>(
-    rt: &impl Abort,
     alloc: Global,
     arena: &mut Arena<P, u32, S>,
     call: Call,
 ) -> String {
     match call {
-        Call::Insert(value) => text(rt, alloc, arena.insert_reallocating(value)),
-        Call::InsertMany(n) => text(rt, alloc, insert_many(arena, 0, n)),
-        Call::InsertWithin(value) => text(rt, alloc, arena.insert_within_capacity(value)),
-        Call::Enter(value) => text(rt, alloc, enter(arena, value)),
-        other => counter_answer(rt, alloc, arena, other),
+        Call::Insert(value) => text(alloc, arena.insert_reallocating(value)),
+        Call::InsertMany(n) => text(alloc, insert_many(arena, 0, n)),
+        Call::InsertWithin(value) => text(alloc, arena.insert_within_capacity(value)),
+        Call::Enter(value) => text(alloc, enter(arena, value)),
+        other => counter_answer(alloc, arena, other),
     }
 }
 
 // .. on its counter, or on its slots, ...
 fn counter_answer<P: Numbered, S: SlotStack<Item = Slot<P>>>(
-    rt: &impl Abort,
     alloc: Global,
     arena: &mut Arena<P, u32, S>,
     call: Call,
 ) -> String {
     match call {
-        Call::DropPlace(by_hand) => text(rt, alloc, dropped_place(arena, by_hand)),
-        Call::Generation => text(rt, alloc, P::number_of(arena.generation())),
-        Call::SetGeneration(g) => text(rt, alloc, arena.set_generation(P::generation_of(rt, g))),
-        Call::IncGeneration => text(rt, alloc, arena.inc_generation()),
-        Call::Slots => text(rt, alloc, arena.backing().len()),
-        other => whole_answer(rt, alloc, arena, other),
+        Call::DropPlace(by_hand) => text(alloc, dropped_place(arena, by_hand)),
+        Call::Generation => text(alloc, P::number_of(arena.generation())),
+        Call::SetGeneration(g) => text(alloc, arena.set_generation(P::generation_of(g))),
+        Call::IncGeneration => text(alloc, arena.inc_generation()),
+        Call::Slots => text(alloc, arena.backing().len()),
+        other => whole_answer(alloc, arena, other),
     }
 }
 
 // .. on all of its entries, ...
 fn whole_answer<P: Numbered, S: SlotStack<Item = Slot<P>>>(
-    rt: &impl Abort,
     alloc: Global,
     arena: &mut Arena<P, u32, S>,
     call: Call,
 ) -> String {
     match call {
-        Call::Entries => iterated(rt, alloc, arena),
-        Call::Drain => drained(rt, alloc, arena),
+        Call::Entries => iterated(alloc, arena),
+        Call::Drain => drained(alloc, arena),
         Call::CopyHole => {
-            let copied = copied_hole::<P, HeapStack<Slot<P>>, _>(rt, alloc, arena);
-            text(rt, alloc, copied)
+            let copied = copied_hole::<P, HeapStack<Slot<P>>, _>(alloc, arena);
+            text(alloc, copied)
         }
-        other => compactor_answer(rt, alloc, arena, other),
+        other => compactor_answer(alloc, arena, other),
     }
 }
 
 // .. by a compactor, ...
 fn compactor_answer<P: Numbered, S: SlotStack<Item = Slot<P>>>(
-    rt: &impl Abort,
     alloc: Global,
     arena: &mut Arena<P, u32, S>,
     call: Call,
 ) -> String {
     match call {
         Call::Move(from, to, g) => {
-            let generation = P::generation_of(rt, g);
+            let generation = P::generation_of(g);
             text(
-                rt,
                 alloc,
-                moved(arena, index(rt, from), index(rt, to), generation),
+                moved(arena, index::<P>(from), index::<P>(to), generation),
             )
         }
         Call::Rewrite(i, other, value) => {
             text(
-                rt,
                 alloc,
-                rewritten(arena, index(rt, i), index(rt, other), value),
+                rewritten(arena, index::<P>(i), index::<P>(other), value),
             )
         }
-        Call::DropCompactor => text(rt, alloc, compactor_dropped(arena)),
-        Call::ForgetCompactor => text(rt, alloc, compactor_forgotten(arena)),
-        other => given_answer(rt, alloc, arena, other),
+        Call::DropCompactor => text(alloc, compactor_idle(arena, false)),
+        Call::ForgetCompactor => text(alloc, compactor_idle(arena, true)),
+        other => given_answer(alloc, arena, other),
     }
 }
 
 // .. or of the trait, in the one place that hands such a body an arena.
 fn given_answer<P: Numbered, S: SlotStack<Item = Slot<P>>>(
-    rt: &impl Abort,
     alloc: Global,
     arena: &mut Arena<P, u32, S>,
     call: Call,
 ) -> String {
-    trait_answer(rt, alloc, arena, call)
+    trait_answer(alloc, arena, call)
 }
 
 impl<P: Numbered, S: SlotStack<Item = Slot<P>>> Answers for Arena<P, u32, S> {
@@ -242,7 +230,7 @@ impl<P: Numbered, S: SlotStack<Item = Slot<P>>> Answers for Arena<P, u32, S> {
         Arena::new(alloc)
     }
 
-    fn answer(&mut self, rt: &impl Abort, alloc: Global, call: Call) -> String {
-        own_answer(rt, alloc, self, call)
+    fn answer(&mut self, alloc: Global, call: Call) -> String {
+        own_answer(alloc, self, call)
     }
 }

@@ -2,18 +2,21 @@
 use arena_ptr::{Gen8, Inx8, Ptr, PtrGen, PtrKey};
 use std::fmt;
 use std::fmt::Debug;
-use std::process::Abort;
 
 // A type of generations that are numbers.
 pub(super) trait Counted: PtrGen {
-    fn of(rt: &impl Abort, n: u8) -> Self;
+    // The generation of a number. Of zero it is the first.
+    fn of(n: u8) -> Self;
 
     fn number(self) -> u8;
 }
 
 impl Counted for Gen8 {
-    fn of(rt: &impl Abort, n: u8) -> Gen8 {
-        Gen8::new(n).expect(rt, "a generation")
+    fn of(n: u8) -> Gen8 {
+        match Gen8::new(n) {
+            Some(generation) => generation,
+            None => Gen8::two(),
+        }
     }
 
     fn number(self) -> u8 {
@@ -22,7 +25,7 @@ impl Counted for Gen8 {
 }
 
 impl Counted for () {
-    fn of(_: &impl Abort, _: u8) {}
+    fn of(_: u8) {}
 
     fn number(self) -> u8 {
         0
@@ -31,7 +34,7 @@ impl Counted for () {
 
 // A pointer whose generations are numbers, so that a table can name it.
 pub(super) trait Numbered: PtrKey + Debug {
-    fn generation_of(rt: &impl Abort, n: u8) -> Self::Gen;
+    fn generation_of(n: u8) -> Self::Gen;
 
     fn number_of(generation: Self::Gen) -> u8;
 }
@@ -103,8 +106,8 @@ impl<G: Counted> Ptr for Small<G> {
 }
 
 impl<G: Counted> Numbered for Small<G> {
-    fn generation_of(rt: &impl Abort, n: u8) -> G {
-        G::of(rt, n)
+    fn generation_of(n: u8) -> G {
+        G::of(n)
     }
 
     fn number_of(generation: G) -> u8 {

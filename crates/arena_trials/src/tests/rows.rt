@@ -7,7 +7,7 @@ use arena_ptr::InvalidationResult;
 use std::alloc::Global;
 use std::process::Abort;
 
-pub(super) const NEXTS: [Script; 7] = [
+pub(super) static NEXTS: [Script; 7] = [
     (
         "last freed first used",
         &[
@@ -107,10 +107,10 @@ pub(super) const NEXTS: [Script; 7] = [
 fn check_reuse<A: Answers + Drop>(rt: &impl Abort, alloc: Global) {
     let mut arena = A::fresh(alloc);
     for k in 0..300u32 {
-        let p = arena.answer(rt, alloc, Call::Insert(k));
+        let p = arena.answer(alloc, Call::Insert(k));
         same(rt, "the pointer", p.as_str(), "Ok(1.0)");
-        let gone = arena.answer(rt, alloc, Call::Remove(1, 0));
-        let want = text(rt, alloc, InvalidationResult::Success(k));
+        let gone = arena.answer(alloc, Call::Remove(1, 0));
+        let want = text(alloc, InvalidationResult::Success(k));
         same(rt, "the value", gone.as_str(), want.as_str());
     }
     runs(

@@ -75,16 +75,12 @@ pub(super) enum Call {
 pub(super) type Script = (&'static str, &'static [(Call, &'static str)]);
 
 // What an arena holds, as its indexes show it.
-fn listed<P: PtrKey, A: ArenaTrait<P, u32>>(
-    rt: &impl Abort,
-    alloc: Global,
-    arena: &A,
-) -> Vec<(P, u32)> {
+fn listed<P: PtrKey, A: ArenaTrait<P, u32>>(alloc: Global, arena: &A) -> Vec<(P, u32)> {
     let mut entries = Vec::new(alloc);
     for n in 1..=u8::MAX {
-        if let Some((generation, t)) = arena.get_inx(index(rt, n)) {
-            let p = P::_from_raw(index(rt, n), generation);
-            entries.push((p, *t)).expect(rt, "memory");
+        let i = index::<P>(n);
+        if let Some((generation, t)) = arena.get_inx(i) {
+            let _ = entries.push((P::_from_raw(i, generation), *t));
         }
     }
     entries
@@ -129,7 +125,6 @@ fn thrice<P: PtrKey, C, A: Advancer<C, Item = P>>(mut advancer: A, collection: &
 // Compresses an arena, adds to each value which call of the closure it was, or writes that alone, and lists what the
 // closure saw.
 fn compressed<P: PtrKey, A: ArenaTrait<P, u32>>(
-    rt: &impl Abort,
     alloc: Global,
     arena: &mut A,
     reset: bool,
@@ -138,7 +133,7 @@ fn compressed<P: PtrKey, A: ArenaTrait<P, u32>>(
     let mut seen = Vec::new(alloc);
     let mut calls = 0u32;
     let answer = arena.compress_with(reset, |from: P, t: &mut u32, to: P| {
-        seen.push((from, *t, to)).expect(rt, "memory");
+        let _ = seen.push((from, *t, to));
         calls = calls.saturating_add(1);
         *t = if adds { t.saturating_add(calls) } else { calls };
     });
@@ -158,44 +153,42 @@ fn named(call: Call) -> (u8, u8) {
 
 // The answer to a look of the trait, ...
 fn look_answer<P: Numbered, A: ArenaTrait<P, u32>>(
-    rt: &impl Abort,
     alloc: Global,
     arena: &A,
     call: Call,
     p: P,
 ) -> String {
     match call {
-        Call::Len => text(rt, alloc, arena.len()),
-        Call::IsEmpty => text(rt, alloc, arena.is_empty()),
-        Call::Capacity => text(rt, alloc, arena.capacity()),
-        Call::HasRoom(n) => text(rt, alloc, arena.capacity() >= n),
-        Call::Maximum => text(rt, alloc, arena.max_capacity()),
-        Call::Counter => text(rt, alloc, number_of::<P>(arena.singular_generation())),
-        Call::Contains(..) => text(rt, alloc, arena.contains(p)),
-        Call::Get(..) => text(rt, alloc, arena.get(p)),
-        Call::GetInx(_) => text(rt, alloc, numbered::<P, &u32>(arena.get_inx(p.inx()))),
-        _ => walk_answer(rt, alloc, arena, call, p),
+        Call::Len => text(alloc, arena.len()),
+        Call::IsEmpty => text(alloc, arena.is_empty()),
+        Call::Capacity => text(alloc, arena.capacity()),
+        Call::HasRoom(n) => text(alloc, arena.capacity() >= n),
+        Call::Maximum => text(alloc, arena.max_capacity()),
+        Call::Counter => text(alloc, number_of::<P>(arena.singular_generation())),
+        Call::Contains(..) => text(alloc, arena.contains(p)),
+        Call::Get(..) => text(alloc, arena.get(p)),
+        Call::GetInx(_) => text(alloc, numbered::<P, &u32>(arena.get_inx(p.inx()))),
+        _ => walk_answer(alloc, arena, call, p),
     }
 }
 
 // .. along its entries, ...
 fn walk_answer<P: Numbered, A: ArenaTrait<P, u32>>(
-    rt: &impl Abort,
     alloc: Global,
     arena: &A,
     call: Call,
     p: P,
 ) -> String {
     match call {
-        Call::First => text(rt, alloc, arena.find_first_inx_ptr()),
-        Call::Last => text(rt, alloc, arena.find_last_inx_ptr()),
-        Call::Advance => text(rt, alloc, arena.advancer().advance(arena)),
+        Call::First => text(alloc, arena.find_first_inx_ptr()),
+        Call::Last => text(alloc, arena.find_last_inx_ptr()),
+        Call::Advance => text(alloc, arena.advancer().advance(arena)),
         Call::AdvanceFrom(_, rev) => {
-            text(rt, alloc, thrice(arena.advancer_inx(p.inx(), rev), arena))
+            text(alloc, thrice(arena.advancer_inx(p.inx(), rev), arena))
         }
-        Call::AdvanceEmpty => text(rt, alloc, A::PtrAdvancer::empty().advance(arena)),
-        Call::Held => text(rt, alloc, listed(rt, alloc, arena)),
-        _ => text(rt, alloc, "no call of the trait"),
+        Call::AdvanceEmpty => text(alloc, A::PtrAdvancer::empty().advance(arena)),
+        Call::Held => text(alloc, listed(alloc, arena)),
+        _ => text(alloc, "no call of the trait"),
     }
 }
 
@@ -219,64 +212,59 @@ fn cleared<P: PtrKey, A: ArenaTrait<P, u32>>(
 
 // .. or to a change, ...
 fn change_answer<P: Numbered, A: ArenaTrait<P, u32> + Drop>(
-    rt: &impl Abort,
     alloc: Global,
     arena: &mut A,
     call: Call,
     p: P,
 ) -> String {
     match call {
-        Call::Born(n) => text(rt, alloc, born::<P, A>(alloc, n)),
-        Call::Write(_, _, value) => text(rt, alloc, overwritten(arena.get_mut(p), value)),
-        Call::WriteInx(_, value) => {
-            text(rt, alloc, overwritten(arena.get_inx_mut(p.inx()), value))
-        }
-        Call::Invalidate(..) => text(rt, alloc, arena.invalidate(p)),
-        Call::Remove(..) => text(rt, alloc, arena.remove(p)),
+        Call::Born(n) => text(alloc, born::<P, A>(alloc, n)),
+        Call::Write(_, _, value) => text(alloc, overwritten(arena.get_mut(p), value)),
+        Call::WriteInx(_, value) => { text(alloc, overwritten(arena.get_inx_mut(p.inx()), value)) }
+        Call::Invalidate(..) => text(alloc, arena.invalidate(p)),
+        Call::Remove(..) => text(alloc, arena.remove(p)),
         Call::RemoveInx(_) => {
             let removed = arena.remove_inx(p.inx()).allow();
-            text(rt, alloc, numbered::<P, u32>(removed))
+            text(alloc, numbered::<P, u32>(removed))
         }
-        other => whole_change_answer(rt, alloc, arena, other, p),
+        other => whole_change_answer(alloc, arena, other, p),
     }
 }
 
 // .. to a change of all entries, ...
 fn whole_change_answer<P: Numbered, A: ArenaTrait<P, u32> + Drop>(
-    rt: &impl Abort,
     alloc: Global,
     arena: &mut A,
     call: Call,
     p: P,
 ) -> String {
     match call {
-        Call::Clear => text(rt, alloc, arena.clear()),
-        Call::ClearInRoom => text(rt, alloc, cleared(arena)),
-        Call::Compress(reset) => text(rt, alloc, arena.compress(reset)),
-        Call::CompressWith(reset) => text(rt, alloc, compressed(rt, alloc, arena, reset, true)),
-        Call::NumberValues(reset) => text(rt, alloc, compressed(rt, alloc, arena, reset, false)),
-        Call::Reserve(n) => text(rt, alloc, arena.reallocate_min_capacity(n)),
-        Call::TakeAll => text(rt, alloc, take_all(alloc, arena)),
-        other => look_answer(rt, alloc, arena, other, p),
+        Call::Clear => text(alloc, arena.clear()),
+        Call::ClearInRoom => text(alloc, cleared(arena)),
+        Call::Compress(reset) => text(alloc, arena.compress(reset)),
+        Call::CompressWith(reset) => text(alloc, compressed(alloc, arena, reset, true)),
+        Call::NumberValues(reset) => text(alloc, compressed(alloc, arena, reset, false)),
+        Call::Reserve(n) => text(alloc, arena.reallocate_min_capacity(n)),
+        Call::TakeAll => text(alloc, take_all(alloc, arena)),
+        other => look_answer(alloc, arena, other, p),
     }
 }
 
 // .. the pointer of which is named.
 pub(super) fn trait_answer<P: Numbered, A: ArenaTrait<P, u32> + Drop>(
-    rt: &impl Abort,
     alloc: Global,
     arena: &mut A,
     call: Call,
 ) -> String {
     let (i, g) = named(call);
-    change_answer(rt, alloc, arena, call, at(rt, i, g))
+    change_answer(alloc, arena, call, at(i, g))
 }
 
 // An arena that answers calls.
 pub(super) trait Answers {
     fn fresh(alloc: Global) -> Self;
 
-    fn answer(&mut self, rt: &impl Abort, alloc: Global, call: Call) -> String;
+    fn answer(&mut self, alloc: Global, call: Call) -> String;
 }
 
 // Each call answers its text.
@@ -288,7 +276,7 @@ pub(super) fn runs<A: Answers>(
     rows: &[(Call, &str)],
 ) {
     for (call, want) in rows {
-        let got = arena.answer(rt, alloc, *call);
+        let got = arena.answer(alloc, *call);
         same(rt, name, got.as_str(), *want);
     }
 }

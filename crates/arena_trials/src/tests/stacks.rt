@@ -189,11 +189,12 @@ fn shape<S: SlotStack<Item = u32>>(stack: &S) -> (usize, usize, Option<usize>) {
 }
 
 // What the stack holds, in order.
-fn held<S: SlotStack<Item = u32>>(rt: &impl Abort, alloc: Global, stack: &S) -> Vec<u32> {
+fn held<S: SlotStack<Item = u32>>(alloc: Global, stack: &S) -> Vec<u32> {
     let mut items = Vec::new(alloc);
     for i in 0..stack.len() {
-        let item = *stack.get(i).expect(rt, "an item");
-        items.push(item).expect(rt, "memory");
+        if let Some(item) = stack.get(i) {
+            let _ = items.push(*item);
+        }
     }
     items
 }
@@ -229,7 +230,13 @@ fn answer_to<S: SlotStack<Item = u32>>(
     }
 }
 
-// Each call answers, and leaves the length, the capacity, the maximum and the items, as its text tells.
+// The answer to a call, and what it leaves: the length, the capacity, the maximum and the items.
+fn told<S: SlotStack<Item = u32>>(alloc: Global, stack: &mut S, call: Call) -> String {
+    let answer = answer_to(stack, call);
+    text(alloc, (answer, shape(stack), held(alloc, stack)))
+}
+
+// Each call is told as its text.
 fn runs<S: SlotStack<Item = u32>>(
     rt: &impl Abort,
     alloc: Global,
@@ -237,199 +244,298 @@ fn runs<S: SlotStack<Item = u32>>(
     rows: &[(Call, &str)],
 ) {
     for (call, want) in rows {
-        let answer = answer_to(stack, *call);
-        let after = text(rt, alloc, (answer, shape(stack), held(rt, alloc, stack)));
+        let after = told(alloc, stack, *call);
         same(rt, want, after.as_str(), *want);
     }
 }
 
-// Each maximum is set or refused, and leaves as much as its text tells.
+// A maximum is set, or a call is made.
+#[derive(Clone, Copy)]
+enum Step {
+    Most(usize),
+    Does(Call),
+}
+
+// The answer of either, and what it leaves.
+fn limited_told<S: LimitStack<Item = u32>>(alloc: Global, stack: &mut S, step: Step) -> String {
+    match step {
+        Step::Most(n) => {
+            let answer = limit(stack, n);
+            text(alloc, (answer, shape(stack), held(alloc, stack)))
+        }
+        Step::Does(call) => told(alloc, stack, call),
+    }
+}
+
+// Each step is told as its text.
 fn limits<S: LimitStack<Item = u32>>(
     rt: &impl Abort,
     alloc: Global,
     stack: &mut S,
-    rows: &[(usize, &str)],
+    rows: &[(Step, &str)],
 ) {
-    for (most, want) in rows {
-        let answer = limit(stack, *most);
-        let after = text(rt, alloc, (answer, shape(stack), held(rt, alloc, stack)));
+    for (step, want) in rows {
+        let after = limited_told(alloc, stack, *step);
         same(rt, want, after.as_str(), *want);
     }
 }
 
-// Edits a stack of a thousand numbers, of which four are left.
-fn edit<S: SlotStack<Item = u32>>(rt: &impl Abort, stack: &mut S) {
-    assert!(rt; stack.len() == 1000);
-    stack.swap(0, 999);
-    stack.swap(2, 2);
-    *slot_mut(stack, 3) = 80;
-    stack.truncate(4);
-    stack.truncate(4);
+// A look at a stack of numbers, or an edit of it.
+#[derive(Clone, Copy)]
+enum Edit {
+    Shape,
+    Len,
+    Items,
+    Read(usize),
+    Replace(usize, u32),
+    // A write through the slot at a position, and an exchange of two items, each within the length.
+    Write(usize, u32),
+    Swap(usize, usize),
+    Truncate(usize),
+    // A reservation, and whether one gives at least as much room.
+    Reserve(usize),
+    Far(usize),
 }
 
-// A stack that is filled in so few growths, read at its end and beyond, and edited.
+// Writes an item where one stands, and tells whether one does.
+fn written<S: SlotStack<Item = u32>>(stack: &mut S, i: usize, item: u32) -> bool {
+    if i < stack.len() {
+        *slot_mut(stack, i) = item;
+        true
+    } else {
+        false
+    }
+}
+
+// Exchanges items where they stand, and tells whether they do.
+fn swapped<S: SlotStack<Item = u32>>(stack: &mut S, i: usize, j: usize) -> bool {
+    if i < stack.len() && j < stack.len() {
+        stack.swap(i, j);
+        true
+    } else {
+        false
+    }
+}
+
+// Shortens a stack that is not shorter, and tells its length then.
+fn truncated<S: SlotStack<Item = u32>>(stack: &mut S, n: usize) -> usize {
+    if n <= stack.len() {
+        stack.truncate(n);
+    }
+    stack.len()
+}
+
+// The answer to a look or an edit.
+fn edited<S: SlotStack<Item = u32>>(alloc: Global, stack: &mut S, edit: Edit) -> String {
+    match edit {
+        Edit::Shape => text(alloc, shape(stack)),
+        Edit::Len => text(alloc, stack.len()),
+        Edit::Items => text(alloc, held(alloc, stack)),
+        Edit::Read(i) => text(alloc, stack.get(i)),
+        Edit::Replace(i, item) => text(alloc, replace(stack, i, item)),
+        Edit::Write(i, item) => text(alloc, written(stack, i, item)),
+        Edit::Swap(i, j) => text(alloc, swapped(stack, i, j)),
+        Edit::Truncate(n) => text(alloc, truncated(stack, n)),
+        Edit::Reserve(n) => text(alloc, stack.reserve_to(n)),
+        Edit::Far(n) => text(alloc, stack.reserve_to(n).is_ok() && stack.capacity() >= n),
+    }
+}
+
+// Each edit answers its text.
+fn edits<S: SlotStack<Item = u32>>(
+    rt: &impl Abort,
+    alloc: Global,
+    stack: &mut S,
+    rows: &[(Edit, &str)],
+) {
+    for (edit, want) in rows {
+        let got = edited(alloc, stack, *edit);
+        same(rt, "an edit", got.as_str(), *want);
+    }
+}
+
+// A new stack.
+static NEW: [(Edit, &str); 2] = [(Edit::Shape, "(0, 0, None)"), (Edit::Read(0), "None")];
+
+// A stack of a thousand numbers, read at its end and beyond, and edited, of which four are left.
+static EDITS: [(Edit, &str); 11] = [
+    (Edit::Read(999), "Some(999)"),
+    (Edit::Read(1000), "None"),
+    (Edit::Replace(1, 70), "Some(1)"),
+    (Edit::Replace(1000, 70), "None"),
+    (Edit::Len, "1000"),
+    (Edit::Swap(0, 999), "true"),
+    (Edit::Swap(2, 2), "true"),
+    (Edit::Write(3, 80), "true"),
+    (Edit::Truncate(4), "4"),
+    (Edit::Truncate(4), "4"),
+    (Edit::Items, "[999, 70, 2, 80]"),
+];
+
+// A stack that is filled in so few growths, and edited, which leaves as much room.
 fn check_edits<S: SlotStack<Item = u32>>(rt: &impl Abort, alloc: Global, few: u64) {
     let mut stack = S::new(alloc);
-    let new = (shape(&stack), stack.get(0).copied());
-    same(rt, "new", new, ((0, 0, None), None));
+    edits(rt, alloc, &mut stack, &NEW);
     same(rt, "few growths", fill(&mut stack, 1000) <= few, true);
     let capacity = stack.capacity();
-    let last = [stack.get(999).copied(), stack.get(1000).copied()];
-    let was = [replace(&mut stack, 1, 70), replace(&mut stack, 1000, 70)];
-    let both = ([Some(999), None], [Some(1), None]);
-    same(rt, "the last and the replaced", (last, was), both);
-    edit(rt, &mut stack);
-    let left = held(rt, alloc, &stack);
-    same(rt, "left", left.as_slice(), [999, 70, 2, 80].as_slice());
-    let room = shape(&stack);
+    edits(rt, alloc, &mut stack, &EDITS);
+    same(rt, "as much room", shape(&stack), (4, capacity, None));
     stack.truncate(0);
-    let kept = ((4, capacity, None), (0, capacity, None));
-    same(rt, "as much room", (room, shape(&stack)), kept);
+    same(rt, "as much still", shape(&stack), (0, capacity, None));
 }
 
-// A growth to this room for one, and then one that goes far beyond.
+// A growth that goes far beyond the room for one.
+static FAR: [(Edit, &str); 2] = [(Edit::Far(100), "true"), (Edit::Len, "1")];
+
+// A growth to this room for one, and then that one.
 fn check_far_growth<S: SlotStack<Item = u32>>(rt: &impl Abort, alloc: Global, one: usize) {
     let mut stack = S::new(alloc);
     fill(&mut stack, 1);
     same(rt, "room for one", shape(&stack), (1, one, None));
-    let grown = stack.reserve_to(100).is_ok() && stack.capacity() >= 100;
-    same(rt, "room for a hundred", (grown, stack.len()), (true, 1));
+    edits(rt, alloc, &mut stack, &FAR);
 }
 
-// A reservation that no block can hold changes nothing.
+// A reservation that no block can hold, and one that is granted.
+static REFUSED: [(Edit, &str); 1] = [(Edit::Reserve(usize::MAX), "Err(AllocError)")];
+
+static GRANTED: [(Edit, &str); 3] = [
+    (Edit::Items, "[0, 1, 2]"),
+    (Edit::Far(5), "true"),
+    (Edit::Len, "3"),
+];
+
+// What is refused changes nothing.
 fn check_refused_memory<S: SlotStack<Item = u32>>(rt: &impl Abort, alloc: Global, stack: &mut S) {
     fill(stack, 3);
     let before = shape(stack);
-    let refused = stack.reserve_to(usize::MAX);
-    same(rt, "refused", refused, Err(ReallocationError::AllocError));
+    edits(rt, alloc, stack, &REFUSED);
     same(rt, "unchanged", shape(stack), before);
-    let left = held(rt, alloc, stack);
-    same(rt, "held still", left.as_slice(), [0, 1, 2].as_slice());
-    let grown = stack.reserve_to(5).is_ok() && stack.capacity() >= 5;
-    same(rt, "grown", (grown, stack.len()), (true, 3));
+    edits(rt, alloc, stack, &GRANTED);
 }
 
-// A maximum of five is tested before memory is asked for, ...
-const UP_TO_FIVE: [(Call, &str); 5] = [
+// A maximum of five is tested before memory is asked for, is not set below the capacity, and raised to seven gives room for two
+// more.
+static RAISED: [(Step, &str); 14] = [
+    (Step::Most(5), "(Ok(()), (0, 0, Some(5)), [])"),
     (
-        Call::Fill(5),
+        Step::Does(Call::Fill(5)),
         "(Ok(true), (5, 5, Some(5)), [0, 1, 2, 3, 4])",
     ),
     (
-        Call::Reserve(6),
+        Step::Does(Call::Reserve(6)),
         "(Err(BeyondMaxCapacity), (5, 5, Some(5)), [0, 1, 2, 3, 4])",
     ),
     (
-        Call::Reserve(usize::MAX),
+        Step::Does(Call::Reserve(usize::MAX)),
         "(Err(BeyondMaxCapacity), (5, 5, Some(5)), [0, 1, 2, 3, 4])",
     ),
     (
-        Call::Push(5),
+        Step::Does(Call::Push(5)),
         "(Err(BeyondMaxCapacity), (5, 5, Some(5)), [0, 1, 2, 3, 4])",
     ),
     (
-        Call::Reserve(5),
+        Step::Does(Call::Reserve(5)),
         "(Ok(false), (5, 5, Some(5)), [0, 1, 2, 3, 4])",
     ),
-];
-
-// .. is not set below the capacity, ...
-const NOT_BELOW: [(usize, &str); 3] = [
     (
-        4,
+        Step::Most(4),
         "(Err(MaxCapacityReductionError), (5, 5, Some(5)), [0, 1, 2, 3, 4])",
     ),
-    (5, "(Ok(()), (5, 5, Some(5)), [0, 1, 2, 3, 4])"),
-    (7, "(Ok(()), (5, 5, Some(7)), [0, 1, 2, 3, 4])"),
-];
-
-// .. and gives room for two more where it is seven.
-const UP_TO_SEVEN: [(Call, &str); 3] = [
+    (Step::Most(5), "(Ok(()), (5, 5, Some(5)), [0, 1, 2, 3, 4])"),
+    (Step::Most(7), "(Ok(()), (5, 5, Some(7)), [0, 1, 2, 3, 4])"),
     (
-        Call::Push(5),
+        Step::Does(Call::Push(5)),
         "(Ok(true), (6, 7, Some(7)), [0, 1, 2, 3, 4, 5])",
     ),
     (
-        Call::Push(6),
+        Step::Does(Call::Push(6)),
         "(Ok(false), (7, 7, Some(7)), [0, 1, 2, 3, 4, 5, 6])",
     ),
     (
-        Call::Push(7),
+        Step::Does(Call::Push(7)),
         "(Err(BeyondMaxCapacity), (7, 7, Some(7)), [0, 1, 2, 3, 4, 5, 6])",
+    ),
+    (
+        Step::Most(100),
+        "(Ok(()), (7, 7, Some(100)), [0, 1, 2, 3, 4, 5, 6])",
+    ),
+    (
+        Step::Does(Call::Reserve(100)),
+        "(Ok(true), (7, 100, Some(100)), [0, 1, 2, 3, 4, 5, 6])",
     ),
 ];
 
-// A stack with a maximum, which is raised.
-fn check_maximum<S: LimitStack<Item = u32>>(rt: &impl Abort, alloc: Global, stack: &mut S) {
-    let none = [(5, "(Ok(()), (0, 0, Some(5)), [])")];
-    limits(rt, alloc, stack, &none);
-    runs(rt, alloc, stack, &UP_TO_FIVE);
-    limits(rt, alloc, stack, &NOT_BELOW);
-    runs(rt, alloc, stack, &UP_TO_SEVEN);
-    let items = "(Ok(()), (7, 7, Some(100)), [0, 1, 2, 3, 4, 5, 6])";
-    limits(rt, alloc, stack, &[(100, items)]);
-    let room = "(Ok(true), (7, 100, Some(100)), [0, 1, 2, 3, 4, 5, 6])";
-    runs(rt, alloc, stack, &[(Call::Reserve(100), room)]);
-}
+// The greatest maximum, and none at all.
+static WIDE: [(Step, &str); 1] = [(
+    Step::Most(usize::MAX),
+    "(Ok(()), (0, 0, Some(18446744073709551615)), [])",
+)];
+
+static NEVER: [(Step, &str); 2] = [
+    (Step::Most(0), "(Ok(()), (0, 0, Some(0)), [])"),
+    (
+        Step::Does(Call::Push(1)),
+        "(Err(BeyondMaxCapacity), (0, 0, Some(0)), [])",
+    ),
+];
 
 // Capacities 0, 1, 2 and 4, each of them used up before the refusal.
+static GROWTHS: [(u32, &[(Call, &str)]); 4] = [
+    (0, &[(Call::Fill(100), "(Ok(false), (0, 0, None), [])")]),
+    (1, &[(Call::Fill(100), "(Ok(true), (1, 1, None), [0])")]),
+    (2, &[(Call::Fill(100), "(Ok(true), (2, 2, None), [0, 1])")]),
+    (
+        3,
+        &[(Call::Fill(100), "(Ok(true), (4, 4, None), [0, 1, 2, 3])")],
+    ),
+];
+
 fn check_growths<S: SlotStack<Item = u32>>(rt: &impl Abort, alloc: Global) {
-    for (ration, want) in [
-        (0, "((0, 0, None), [])"),
-        (1, "((1, 1, None), [0])"),
-        (2, "((2, 2, None), [0, 1])"),
-        (3, "((4, 4, None), [0, 1, 2, 3])"),
-    ] {
+    for (ration, rows) in &GROWTHS {
         let mut stack = Rationed {
             inner: S::new(alloc),
-            ration,
+            ration: *ration,
         };
-        fill(&mut stack, 100);
-        let left = text(rt, alloc, (shape(&stack), held(rt, alloc, &stack)));
-        same(rt, want, left.as_str(), want);
+        runs(rt, alloc, &mut stack, rows);
     }
 }
 
-// Items that own memory, four of which two are dropped and one is replaced.
-fn check_owners<S: SlotStack<Item = Vec<i32>>>(rt: &impl Abort, alloc: Global) {
+// Items that own memory, four of which two are dropped and one is replaced: how many there were, the replaced one, and those
+// that are left.
+fn owners<S: SlotStack<Item = Vec<i32>>>(alloc: Global) -> String {
     let mut stack = S::new(alloc);
     for k in 1..5 {
-        let item = Vec::from_array(alloc, [k, k + 1]).expect(rt, "memory");
-        push(&mut stack, item).ok().expect(rt, "room");
+        if let Ok(item) = Vec::from_array(alloc, [k, k + 1]) {
+            let _ = push(&mut stack, item);
+        }
     }
-    assert!(rt; stack.len() == 4);
-    stack.truncate(2);
-    let second = stack.get(1).expect(rt, "the second").len();
-    same(rt, "the second", second, 2);
+    let count = stack.len();
+    if count >= 2 {
+        stack.truncate(2);
+    }
     let empty = Vec::new(stack.allocator());
     let was = replace(&mut stack, 0, empty);
-    same(rt, "one was there", was.is_some(), true);
+    text(alloc, (count, was, stack.get(0), stack.get(1)))
+}
+
+fn check_owners<S: SlotStack<Item = Vec<i32>>>(rt: &impl Abort, alloc: Global) {
+    let left = owners::<S>(alloc);
+    let want = "(4, Some([1, 2]), Some([]), Some([2, 3]))";
+    same(rt, "owners", left.as_str(), want);
 }
 
 // A stack with a maximum, one over it, one with the greatest maximum and one that never grows.
 fn check_limits<S: LimitStack<Item = u32>>(rt: &impl Abort, alloc: Global) {
-    check_maximum(rt, alloc, &mut S::new(alloc));
+    limits(rt, alloc, &mut S::new(alloc), &RAISED);
     let mut rationed = Rationed {
         inner: S::new(alloc),
         ration: 100,
     };
-    check_maximum(rt, alloc, &mut rationed);
+    limits(rt, alloc, &mut rationed, &RAISED);
     let mut wide = S::new(alloc);
-    let greatest = [(
-        usize::MAX,
-        "(Ok(()), (0, 0, Some(18446744073709551615)), [])",
-    )];
-    limits(rt, alloc, &mut wide, &greatest);
+    limits(rt, alloc, &mut wide, &WIDE);
     check_refused_memory(rt, alloc, &mut wide);
-    let mut never = S::new(alloc);
-    limits(
-        rt,
-        alloc,
-        &mut never,
-        &[(0, "(Ok(()), (0, 0, Some(0)), [])")],
-    );
-    let refused = "(Err(BeyondMaxCapacity), (0, 0, Some(0)), [])";
-    runs(rt, alloc, &mut never, &[(Call::Push(1), refused)]);
+    limits(rt, alloc, &mut S::new(alloc), &NEVER);
 }
 
 // A stack that holds a list: it is to take a thousand items in so few growths, and to have this room for one.
@@ -439,16 +545,8 @@ fn check_list<S: SlotStack<Item = u32>>(rt: &impl Abort, alloc: Global, few: u64
     check_refused_memory(rt, alloc, &mut S::new(alloc));
 }
 
-// Each growth at least doubles the capacity, 1, 2, 4, .. 1024, or adds a block, 64, 128, .. 1024.
-#[test]
-fn each_stack_holds_a_list(rt: HostRuntime) {
-    check_list::<HeapStack<u32>>(&rt, rt.alloc(), 11, 1);
-    check_list::<LimitedStack<u32>>(&rt, rt.alloc(), 11, 1);
-    check_list::<ChunkStack<u32>>(&rt, rt.alloc(), 16, 64);
-}
-
 // Room comes in blocks of 64.
-const IN_BLOCKS: [(Call, &str); 5] = [
+static IN_BLOCKS: [(Call, &str); 5] = [
     (Call::Reserve(1), "(Ok(true), (0, 64, None), [])"),
     (Call::Reserve(64), "(Ok(false), (0, 64, None), [])"),
     (Call::Reserve(65), "(Ok(true), (0, 128, None), [])"),
@@ -474,20 +572,23 @@ fn blocks_or_none(rt: HostRuntime) {
     check_blocks(&rt, rt.alloc(), &mut ChunkStack::<u32>::new(rt.alloc()));
 }
 
-#[test]
-fn room_in_blocks(rt: HostRuntime) {
-    let alloc = rt.alloc();
-    runs(&rt, alloc, &mut ChunkStack::<u32>::new(alloc), &IN_BLOCKS);
+// A stack, one that may have a maximum, and one in blocks: each growth at least doubles the capacity, 1, 2, 4, .. 1024, or adds
+// a block, 64, 128, .. 1024.
+fn check_each<H: SlotStack<Item = u32>, L: LimitStack<Item = u32>, C: SlotStack<Item = u32>>(
+    rt: &impl Abort,
+    alloc: Global,
+) {
+    check_list::<H>(rt, alloc, 11, 1);
+    check_growths::<H>(rt, alloc);
+    check_list::<L>(rt, alloc, 11, 1);
+    check_limits::<L>(rt, alloc);
+    check_list::<C>(rt, alloc, 16, 64);
+    runs(rt, alloc, &mut C::new(alloc), &IN_BLOCKS);
 }
 
 #[test]
-fn limited_stacks_stop_at_their_maximum(rt: HostRuntime) {
-    check_limits::<LimitedStack<u32>>(&rt, rt.alloc());
-}
-
-#[test]
-fn each_growth_may_be_refused(rt: HostRuntime) {
-    check_growths::<HeapStack<u32>>(&rt, rt.alloc());
+fn stacks_of_numbers(rt: HostRuntime) {
+    check_each::<HeapStack<u32>, LimitedStack<u32>, ChunkStack<u32>>(&rt, rt.alloc());
 }
 
 #[test]

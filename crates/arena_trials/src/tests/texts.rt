@@ -49,7 +49,7 @@ fn the_text_of_a_pointer_has_its_name(rt: HostRuntime) {
 #[test]
 fn the_text_of_a_packed_index_is_that_of_the_index(rt: HostRuntime) {
     let packed = (Inx8::pack(None), Inx8::pack(Some(inx8(&rt, 3))));
-    let texts = text(&rt, rt.alloc(), packed);
+    let texts = text(rt.alloc(), packed);
     let want = "(None, Some(Inx8 { number: 3 }))";
     same(&rt, "none and an index", texts.as_str(), want);
 }

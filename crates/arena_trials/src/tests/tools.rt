@@ -3,8 +3,8 @@ ghost use Rattle.std.specs.Iterator.{IsFinite};
 
 use crate::tests::pointers::Numbered;
 use arena_base::ArenaSlot;
-use arena_ptr::{Gen8, Gen32, Gen64, Inx8, Inx32, Inx64, InxKey};
-use std::alloc::Global;
+use arena_ptr::{Gen8, Gen32, Gen64, Inx8, Inx32, Inx64, InxKey, PtrKey};
+use std::alloc::{AllocError, Global};
 use std::fmt::Debug;
 use std::process::Abort;
 
@@ -14,21 +14,27 @@ pub(super) fn same<T: PartialEq + Debug + Drop>(rt: &impl Abort, what: &str, got
     assert_eq!(rt; got, want, "{what}");
 }
 
-// An answer as `Debug` writes it.
-pub(super) fn text<T: Debug + Drop>(rt: &impl Abort, alloc: Global, answer: T) -> String {
-    format!(in alloc; "{answer:?}").expect(rt, "memory")
+// An answer as `Debug` writes it. Where memory is refused it is empty, which no test wants: what makes texts needs no way to
+// end the test, which each of its steps would name.
+pub(super) fn text<T: Debug + Drop>(alloc: Global, answer: T) -> String {
+    match format!(in alloc; "{answer:?}") {
+        Ok(text) => text,
+        Err(_) => String::new(alloc),
+    }
 }
 
 // All items of an iterator, as `Debug` writes them.
 pub(super) fn text_of_all<T: Debug + Drop, I: Iterator<Item = T> + Drop>(
-    rt: &impl Abort,
     alloc: Global,
     items: I,
 ) -> String
     requires { I.can_next items × IsFinite (I.remaining items) }
 {
-    let all: Vec<T> = items.collect(alloc).expect(rt, "memory");
-    text(rt, alloc, all)
+    let all: Result<Vec<T>, AllocError> = items.collect(alloc);
+    match all {
+        Ok(all) => text(alloc, all),
+        Err(_) => String::new(alloc),
+    }
 }
 
 pub(super) fn inx8(rt: &impl Abort, n: u8) -> Inx8 {
@@ -55,12 +61,15 @@ pub(super) fn gen64(rt: &impl Abort, n: u64) -> Gen64 {
     Gen64::new(n).expect(rt, "a generation")
 }
 
-// An index of any type.
-pub(super) fn index<I: InxKey>(rt: &impl Abort, n: u8) -> I {
-    I::try_from_usize(n as usize).expect(rt, "an index")
+// The index of a number. Of zero it is that of the invalid pointer.
+pub(super) fn index<P: PtrKey>(n: u8) -> P::Inx {
+    match P::Inx::try_from_usize(n as usize) {
+        Some(i) => i,
+        None => P::invalid().inx(),
+    }
 }
 
 // The pointer of two numbers.
-pub(super) fn at<P: Numbered>(rt: &impl Abort, inx: u8, generation: u8) -> P {
-    P::_from_raw(index(rt, inx), P::generation_of(rt, generation))
+pub(super) fn at<P: Numbered>(inx: u8, generation: u8) -> P {
+    P::_from_raw(index::<P>(inx), P::generation_of(generation))
 }

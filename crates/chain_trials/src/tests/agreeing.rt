@@ -1,9 +1,9 @@
 //! Plain arenas of links, of which those whose interlinks agree become chain arenas.
 
 use super::scripts::{Do, Kind, Line, plays};
-use super::{At, Chains, ChainsOver, Slot, at, same};
+use super::{At, ChainsOver, Slot, add_plain, at, chained, same};
 use arena_base::{Arena, ArenaTrait};
-use arena_ptr::{HeapStack, Inx32, SlotStack, ToolPtr};
+use arena_ptr::{Inx32, SlotStack, ToolPtr};
 use chain_arena::{LinkBody, LinkNoGen, links_agree};
 use std::alloc::Global;
 use std::process::Abort;
@@ -12,79 +12,69 @@ type Plain<S> = Arena<ToolPtr, LinkNoGen<ToolPtr, u32>, S>;
 
 // A plain arena of links that name these indexes, 0 for none, as the one before and the one after; the value is 7. Some are
 // gone again.
-fn plain<S: SlotStack<Item = Slot>>(
-    rt: &impl Abort,
-    alloc: Global,
-    links: &[At],
-    gone: &[u32],
-) -> Plain<S> {
+fn plain<S: SlotStack<Item = Slot>>(alloc: Global, links: &[At], gone: &[u32]) -> Plain<S> {
     let mut arena = Plain::<S>::new(alloc);
     for (prev, next) in links {
         let link = LinkBody::new((Inx32::new(*prev), Inx32::new(*next)), 7);
-        assert!(rt; arena.insert_reallocating(link).is_ok());
+        add_plain(&mut arena, link);
     }
     for k in gone {
-        assert!(rt; arena.remove(at(rt, (*k, 2))).allow().is_some());
+        arena.remove(at((*k, 2)));
     }
     arena
 }
 
-// Interlinks, and whether they agree.
-const ROWS: [(&str, &[At], bool); 15] = [
-    ("no link", &[], true),
-    ("two in a row", &[(0, 2), (1, 0)], true),
-    ("a ring of one", &[(1, 1)], true),
-    ("a ring of two", &[(2, 2), (1, 1)], true),
-    ("a ring of three", &[(3, 2), (1, 3), (2, 1)], true),
-    ("a row and a ring", &[(0, 3), (2, 2), (1, 0)], true),
-    ("only a next", &[(0, 2), (0, 0)], false),
-    ("only a prev", &[(2, 0), (0, 0)], false),
-    ("half a ring of one", &[(0, 1)], false),
-    ("the other half", &[(1, 0)], false),
-    ("a ring without a prev", &[(2, 2), (0, 1)], false),
-    ("a row into a ring", &[(0, 2), (3, 3), (2, 2)], false),
-    ("a ring into a row", &[(0, 2), (1, 3), (2, 2)], false),
-    ("a next of two", &[(0, 3), (0, 3), (2, 0)], false),
-    ("no index", &[(0, 3)], false),
+// Interlinks, which of the links are gone again, and whether the interlinks agree: a link that is gone is named by none.
+static ROWS: [(&str, &[At], &[u32], bool); 16] = [
+    ("no link", &[], &[], true),
+    ("two in a row", &[(0, 2), (1, 0)], &[], true),
+    ("a ring of one", &[(1, 1)], &[], true),
+    ("a ring of two", &[(2, 2), (1, 1)], &[], true),
+    ("a ring of three", &[(3, 2), (1, 3), (2, 1)], &[], true),
+    ("a row and a ring", &[(0, 3), (2, 2), (1, 0)], &[], true),
+    ("only a next", &[(0, 2), (0, 0)], &[], false),
+    ("only a prev", &[(2, 0), (0, 0)], &[], false),
+    ("half a ring of one", &[(0, 1)], &[], false),
+    ("the other half", &[(1, 0)], &[], false),
+    ("a ring without a prev", &[(2, 2), (0, 1)], &[], false),
+    ("a row into a ring", &[(0, 2), (3, 3), (2, 2)], &[], false),
+    ("a ring into a row", &[(0, 2), (1, 3), (2, 2)], &[], false),
+    ("a next of two", &[(0, 3), (0, 3), (2, 0)], &[], false),
+    ("no index", &[(0, 3)], &[], false),
+    (
+        "the interlinks of two, of which one is gone",
+        &[(0, 2), (1, 0)],
+        &[2],
+        false,
+    ),
 ];
 
 const REFUSAL: &str = "interlink transitivity does not hold";
 
-// Looks whether interlinks agree, and whether their arena is refused otherwise.
-fn agree_or_not<S: SlotStack<Item = Slot>>(
-    rt: &impl Abort,
-    what: &str,
-    arena: Plain<S>,
-    agree: bool,
-) {
-    same(rt, what, links_agree(&arena), agree);
-    let want = if agree { None } else { Some(REFUSAL) };
-    same(rt, what, ChainsOver::from_arena(arena).err(), want);
+// Whether interlinks agree, and how their arena is refused.
+fn agreement<S: SlotStack<Item = Slot>>(arena: Plain<S>) -> (bool, Option<&'static str>) {
+    let agree = links_agree(&arena);
+    (agree, chained(arena).err())
 }
 
-// Each row, and an interlink to a freed index: a link that is gone is named by none.
-fn check_rows<S: SlotStack<Item = Slot>>(rt: &impl Abort, alloc: Global) {
-    for (what, links, agree) in ROWS {
-        let arena: Plain<S> = plain(rt, alloc, links, &[]);
-        agree_or_not(rt, what, arena, agree);
+// All rows. A body of its own names them, since each step of a body lists what the body names.
+fn rows() -> &'static [(&'static str, &'static [At], &'static [u32], bool)] {
+    &ROWS
+}
+
+// Each row.
+pub(super) fn check_rows<S: SlotStack<Item = Slot>>(rt: &impl Abort, alloc: Global) {
+    for row in rows() {
+        let (what, links, gone, agree) = *row;
+        let refusal = if agree { None } else { Some(REFUSAL) };
+        let arena = plain::<S>(alloc, links, gone);
+        same(rt, what, agreement(arena), (agree, refusal));
     }
-    let arena: Plain<S> = plain(rt, alloc, &[(0, 2), (1, 0)], &[2]);
-    agree_or_not(
-        rt,
-        "the interlinks of two, of which one is gone",
-        arena,
-        false,
-    );
-}
-
-#[test]
-fn interlinks_that_agree_or_not(rt: HostRuntime) {
-    check_rows::<HeapStack<Slot>>(&rt, rt.alloc());
 }
 
 // A row of two and a ring of one, between which two links are gone, of which the last freed index is used first, and the other
 // one next.
-const ACCEPTED: [Line; 5] = [
+static ACCEPTED: [Line; 5] = [
     (
         Do::Debug,
         "{P0[1](2): {(start), 3} 7, P0[3](2): {1, (end)} 7, P0[5](2): {5, 5} 7}",
@@ -104,13 +94,12 @@ const ACCEPTED: [Line; 5] = [
 // A plain arena of those links that is accepted.
 fn accepted<S: SlotStack<Item = Slot>>(rt: &impl Abort, alloc: Global) -> ChainsOver<S> {
     let links = [(0, 3), (0, 0), (1, 0), (0, 0), (5, 5)];
-    let arena = plain(rt, alloc, &links, &[4, 2]);
-    ChainsOver::from_arena(arena).expect(rt, "interlinks that agree")
+    let arena = plain::<S>(alloc, &links, &[4, 2]);
+    chained(arena).expect(rt, "interlinks that agree")
 }
 
 // Indexes, generations and interlinks stay, and so do the counter and the freed list.
-#[test]
-fn what_is_accepted_stays(rt: HostRuntime) {
-    let mut arena: Chains = accepted(&rt, rt.alloc());
-    plays(&rt, rt.alloc(), "accepted", &mut arena, &ACCEPTED);
+pub(super) fn check_accepted<S: SlotStack<Item = Slot>>(rt: &impl Abort, alloc: Global) {
+    let mut arena: ChainsOver<S> = accepted(rt, alloc);
+    plays(rt, alloc, "accepted", &mut arena, &ACCEPTED);
 }

@@ -1,9 +1,9 @@
 //! Chains laid out in place, one after another.
 
-use super::scripts::{Do, Kind, Line, Script, plays_on};
-use super::{Chains, ChainsOver, Slot, at, lone_links, same};
+use super::scripts::{Do, Kind, Line, Script};
+use super::{ChainsOver, Slot, at, lone_links, same};
 use arena_base::{ArenaTrait, Work};
-use arena_ptr::{AllocError, HeapStack, InvalidationOption, SlotStack, ToolPtr};
+use arena_ptr::{AllocError, InvalidationOption, SlotStack, ToolPtr};
 use chain_arena::ChainArenaTrait;
 use std::alloc::Global;
 use std::process::Abort;
@@ -30,13 +30,14 @@ type Moves = Vec<(ToolPtr, ToolPtr)>;
 
 // The moves that the closure of a compression sees.
 pub(super) fn moves_seen<S: SlotStack<Item = Slot>>(
-    rt: &impl Abort,
     alloc: Global,
     arena: &mut ChainsOver<S>,
     reset: bool,
 ) -> (InvalidationOption<()>, Moves) {
     let mut moves = Vec::new(alloc);
-    let told = arena.compress_canonical_with(reset, |p, q| moves.push((p, q)).expect(rt, "memory"));
+    let told = arena.compress_canonical_with(reset, |p, q| {
+        let _ = moves.push((p, q));
+    });
     (told, moves)
 }
 
@@ -99,7 +100,7 @@ const BEHIND_A_HOLE: Script = (
 );
 
 // Scripts, and what follows on them.
-const LAYOUTS: [(Script, &[&[Line]]); 6] = [
+static LAYOUTS: [(Script, &[&[Line]]); 6] = [
     (
         BEHIND_A_HOLE,
         &[&[(Do::Compress(false), "Success(())"), (Do::Slots, "3")]],
@@ -176,22 +177,17 @@ const LAYOUTS: [(Script, &[&[Line]]); 6] = [
     ),
 ];
 
-#[test]
-fn layouts_and_moves(rt: HostRuntime) {
-    plays_on::<Chains>(&rt, rt.alloc(), &LAYOUTS);
+// All of them.
+pub(super) fn layouts() -> &'static [(Script, &'static [&'static [Line]])] {
+    &LAYOUTS
 }
 
 // Compresses so many lone links behind as many holes, and tells whether the work stays within its bound, and places each
 // link once.
-fn within_bound<S: SlotStack<Item = Slot>>(
-    rt: &impl Abort,
-    alloc: Global,
-    count: u32,
-    reset: bool,
-) -> bool {
-    let mut arena: ChainsOver<S> = lone_links(rt, alloc, count.saturating_mul(2));
+fn within_bound<S: SlotStack<Item = Slot>>(alloc: Global, count: u32, reset: bool) -> bool {
+    let mut arena: ChainsOver<S> = lone_links(alloc, count.saturating_mul(2));
     for k in 1..=count {
-        arena.remove(at(rt, (k, 2)));
+        arena.remove(at((k, 2)));
     }
     let links = u128::from(count);
     let (_, work) = counted(&mut arena, reset);
@@ -203,15 +199,8 @@ fn within_bound<S: SlotStack<Item = Slot>>(
 }
 
 // .. few and many.
-fn within_bounds<S: SlotStack<Item = Slot>>(rt: &impl Abort, alloc: Global) -> (bool, bool) {
-    (
-        within_bound::<S>(rt, alloc, 100, false),
-        within_bound::<S>(rt, alloc, 100_000, true),
-    )
-}
-
-#[test]
-fn work_stays_within_its_bound(rt: HostRuntime) {
-    let within = within_bounds::<HeapStack<Slot>>(&rt, rt.alloc());
-    same(&rt, "within", within, (true, true));
+pub(super) fn check_bounds<S: SlotStack<Item = Slot>>(rt: &impl Abort, alloc: Global) {
+    let few = within_bound::<S>(alloc, 100, false);
+    let many = within_bound::<S>(alloc, 100_000, true);
+    same(rt, "work within its bound", (few, many), (true, true));
 }

@@ -1,40 +1,34 @@
 //! Copies of chain arenas: what they have, what their closures saw, and when one is refused.
 
-use super::scripts::{Do, Kind, Line, Script, plays_all, plays_on};
-use super::steps::{SlotOf, Step, after};
-use super::{Chains, ChainsOver, LimitedChains, Slot, all_of, at, same, text};
+use super::scripts::{Do, Kind, Line, Script};
+use super::steps::SlotOf;
+use super::{ChainsOver, Slot, put, same, text};
 use arena_base::{Arena, ArenaSlot, ArenaTrait};
 use arena_ptr::{
     HeapStack, LimitStack, LimitedStack, ReallocationError, SetMaxCapacity, SlotStack, ToolPtr,
 };
 use chain_arena::{ChainArena, ChainArenaTrait, LinkInsertKind, LinkNoGen};
 use std::alloc::{AllocError, Global};
-use std::process::Abort;
 
 // The pointer of the next link in a clone, all links there then, and the maximum.
-pub(super) fn cloned<S: SlotStack<Item = Slot>>(
-    rt: &impl Abort,
-    alloc: Global,
-    arena: &ChainsOver<S>,
-) -> String {
-    let mut copy = arena.clone(alloc).expect(rt, "memory");
-    let next = copy.insert_reallocating(LinkInsertKind::Disconnected, 9);
-    text(rt, alloc, (next, &copy, copy.max_capacity()))
+pub(super) fn cloned<S: SlotStack<Item = Slot>>(alloc: Global, arena: &ChainsOver<S>) -> String {
+    match arena.clone(alloc) {
+        Ok(mut copy) => {
+            let next = copy.insert_reallocating(LinkInsertKind::Disconnected, 9);
+            text(alloc, (next, &copy, copy.max_capacity()))
+        }
+        Err(error) => text(alloc, error),
+    }
 }
 
 // A chain of the links 1, 2 and 3, of which the second is removed.
-fn with_a_hole<S: SlotStack<Item = Slot>>(rt: &impl Abort, alloc: Global) -> ChainsOver<S> {
-    let steps = [
-        Step::Add(Kind::Disconnected, 1),
-        Step::Add(Kind::ChainEnd((1, 2)), 2),
-        Step::Add(Kind::ChainEnd((2, 2)), 3),
-        Step::Remove((2, 2)),
-    ];
-    after(
-        rt,
-        alloc,
-        Vec::from_array(alloc, steps).expect(rt, "memory"),
-    )
+fn with_a_hole<S: SlotStack<Item = Slot>>(alloc: Global) -> ChainsOver<S> {
+    let mut arena = ChainsOver::<S>::new(alloc);
+    let first = put(&mut arena, LinkInsertKind::Disconnected, 1);
+    let second = put(&mut arena, LinkInsertKind::ChainEnd(first), 2);
+    put(&mut arena, LinkInsertKind::ChainEnd(second), 3);
+    arena.remove(second);
+    arena
 }
 
 // What a closure saw of a copied link.
@@ -43,24 +37,22 @@ type Seen = Vec<(ToolPtr, LinkNoGen<ToolPtr, u32>)>;
 // Copies the links 1 and 3 with a hole between them, and tells what the closure saw. It answers ten times the number of its
 // call with the value added.
 pub(super) fn copied_over<S: SlotStack<Item = Slot>>(
-    rt: &impl Abort,
     alloc: Global,
     target: &mut ChainsOver<S>,
 ) -> String {
-    let source: ChainsOver<S> = with_a_hole(rt, alloc);
+    let source: ChainsOver<S> = with_a_hole(alloc);
     let mut seen = Vec::new(alloc);
     let mut calls = 0u32;
     let answer = target.clone_from_with(&source, |p, link: &LinkNoGen<ToolPtr, u32>| {
-        seen.push((p, *link)).expect(rt, "memory");
+        let _ = seen.push((p, *link));
         calls = calls.saturating_add(10);
         link.t.saturating_add(calls)
     });
-    text(rt, alloc, (answer, seen))
+    text(alloc, (answer, seen))
 }
 
 // .. an arena to a plain one.
 fn copied_plain<R: SlotStack<Item = Slot>, S: SlotStack<Item = ArenaSlot<ToolPtr, u32>>>(
-    rt: &impl Abort,
     alloc: Global,
     source: &ChainsOver<R>,
     target: &mut Arena<ToolPtr, u32, S>,
@@ -68,7 +60,7 @@ fn copied_plain<R: SlotStack<Item = Slot>, S: SlotStack<Item = ArenaSlot<ToolPtr
     let mut seen = Vec::new(alloc);
     let mut calls = 0u32;
     let answer = source.clone_to_arena(target, |p, link: &LinkNoGen<ToolPtr, u32>| {
-        seen.push((p, *link)).expect(rt, "memory");
+        let _ = seen.push((p, *link));
         calls = calls.saturating_add(10);
         link.t.saturating_add(calls)
     });
@@ -79,12 +71,15 @@ fn copied_plain<R: SlotStack<Item = Slot>, S: SlotStack<Item = ArenaSlot<ToolPtr
 pub(super) fn copied_to_plain<
     S: SlotStack<Item = Slot>,
     R: SlotStack<Item = ArenaSlot<ToolPtr, u32>>,
->(rt: &impl Abort, alloc: Global, source: &ChainsOver<S>) -> String {
+>(alloc: Global, source: &ChainsOver<S>) -> String {
     let mut target: Arena<ToolPtr, u32, R> = Arena::new(alloc);
-    let told = copied_plain(rt, alloc, source, &mut target);
+    let told = copied_plain(alloc, source, &mut target);
     let next = target.insert_reallocating(9);
-    let entries = all_of(rt, alloc, (&target).into_iter());
-    text(rt, alloc, (told, next, entries))
+    let entries: Result<Vec<_>, AllocError> = (&target).into_iter().collect(alloc);
+    match entries {
+        Ok(entries) => text(alloc, (told, next, entries)),
+        Err(error) => text(alloc, error),
+    }
 }
 
 // A row of three whose second is gone.
@@ -95,7 +90,7 @@ const HOLE: Script = (
     &[(Do::Remove((2, 2)), "Success(2)")],
 );
 
-const COPIES: [(Script, &[&[Line]]); 2] = [
+static COPIES: [(Script, &[&[Line]]); 2] = [
     (
         HOLE,
         &[
@@ -133,51 +128,39 @@ const COPIES: [(Script, &[&[Line]]); 2] = [
     ),
 ];
 
-#[test]
-fn copies_over_both_stacks(rt: HostRuntime) {
-    plays_on::<Chains>(&rt, rt.alloc(), &COPIES);
-    plays_on::<LimitedChains>(&rt, rt.alloc(), &COPIES);
+// Both.
+pub(super) fn copies() -> &'static [(Script, &'static [&'static [Line]])] {
+    &COPIES
 }
 
 // The links 1 and 3 copied to a plain arena with a maximum of two: whether it has that maximum, what is told, and the pointer
 // of the next entry there.
 fn copied_to_two<S: SlotStack<Item = Slot>, R: LimitStack<Item = ArenaSlot<ToolPtr, u32>>>(
-    rt: &impl Abort,
     alloc: Global,
 ) -> String {
     let mut target: Arena<ToolPtr, u32, R> = Arena::new(alloc);
     let limit = target.set_max_capacity(2);
-    let source: ChainsOver<S> = with_a_hole(rt, alloc);
-    let told = copied_plain(rt, alloc, &source, &mut target);
-    text(rt, alloc, (limit, told, target.insert_reallocating(6)))
+    let source: ChainsOver<S> = with_a_hole(alloc);
+    let told = copied_plain(alloc, &source, &mut target);
+    text(alloc, (limit, told, target.insert_reallocating(6)))
 }
 
-// A maximum is not carried over, and a copy of three slots is refused where there may be two.
-const IN_TWO_SLOTS: [Script; 1] = [(
-    "two slots",
-    0,
-    &[],
-    &[
-        (Do::SetMaximum(2), "Ok(())"),
-        (Do::Insert(Kind::Disconnected, 1), "Ok(P0[1](2))"),
-        (Do::Maximum, "Some(2)"),
-        (
-            Do::Clone,
-            "(Ok(P0[2](2)), {P0[1](2): {(start), (end)} 1, P0[2](2): {(start), (end)} 9}, None)",
-        ),
-        (Do::CopyOver, "(Err(BeyondMaxCapacity), [])"),
-        (Do::Debug, "{P0[1](2): {(start), (end)} 1}"),
-        (Do::Maximum, "Some(2)"),
-    ],
-)];
+// A maximum of two is not carried over, and a copy of three slots is refused.
+pub(super) static IN_TWO_SLOTS: [Line; 6] = [
+    (Do::Insert(Kind::Disconnected, 1), "Ok(P0[1](2))"),
+    (Do::Maximum, "Some(2)"),
+    (
+        Do::Clone,
+        "(Ok(P0[2](2)), {P0[1](2): {(start), (end)} 1, P0[2](2): {(start), (end)} 9}, None)",
+    ),
+    (Do::CopyOver, "(Err(BeyondMaxCapacity), [])"),
+    (Do::Debug, "{P0[1](2): {(start), (end)} 1}"),
+    (Do::Maximum, "Some(2)"),
+];
 
 #[test]
 fn copies_beyond_the_maximum(rt: HostRuntime) {
-    plays_all::<LimitedChains>(&rt, rt.alloc(), &IN_TWO_SLOTS);
-    let told = copied_to_two::<HeapStack<Slot>, LimitedStack<ArenaSlot<ToolPtr, u32>>>(
-        &rt,
-        rt.alloc(),
-    );
+    let told = copied_to_two::<HeapStack<Slot>, LimitedStack<ArenaSlot<ToolPtr, u32>>>(rt.alloc());
     let want = "(Ok(()), (Err(BeyondMaxCapacity), []), Ok(P0[1](2)))";
     same(
         &rt,
@@ -206,31 +189,24 @@ impl Clone for Refusing {
 
 // An arena of two values, of which the second refuses: how its clone is refused, the second value, which is removed, and the
 // first link and the length of the clone then.
-fn cloned_once_more<S: SlotStack<Item = SlotOf<Refusing>>>(
-    rt: &impl Abort,
-    alloc: Global,
-) -> String {
-    let steps = [
-        Step::Add(Kind::Disconnected, Refusing(1)),
-        Step::Add(Kind::Disconnected, Refusing(2)),
-    ];
-    let steps = Vec::from_array(alloc, steps).expect(rt, "memory");
-    let mut arena: ChainArena<ToolPtr, Refusing, S> = after(rt, alloc, steps);
+fn cloned_once_more<S: SlotStack<Item = SlotOf<Refusing>>>(alloc: Global) -> String {
+    let mut arena = ChainArena::<ToolPtr, Refusing, S>::new(alloc);
+    let first = put(&mut arena, LinkInsertKind::Disconnected, Refusing(1));
+    let second = put(&mut arena, LinkInsertKind::Disconnected, Refusing(2));
     let refused = arena.clone(alloc).err();
-    let second = arena.remove(at(rt, (2, 2)));
-    let copy = arena.clone(alloc).expect(rt, "memory");
-    let told = (
-        refused,
-        second,
-        copy.get_link_no_gen(at(rt, (1, 2))),
-        copy.len(),
-    );
-    text(rt, alloc, told)
+    let gone = arena.remove(second);
+    match arena.clone(alloc) {
+        Ok(copy) => {
+            let link = copy.get_link_no_gen(first);
+            text(alloc, (refused, gone, link, copy.len()))
+        }
+        Err(error) => text(alloc, error),
+    }
 }
 
 #[test]
 fn a_clone_of_a_value_is_refused(rt: HostRuntime) {
-    let told = cloned_once_more::<HeapStack<SlotOf<Refusing>>>(&rt, rt.alloc());
+    let told = cloned_once_more::<HeapStack<SlotOf<Refusing>>>(rt.alloc());
     let want = "(Some(AllocError), Success(Refusing(2)), Some({(start), (end)} Refusing(1)), 1)";
     same(&rt, "nothing is lost", told.as_str(), want);
 }

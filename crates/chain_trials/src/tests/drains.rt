@@ -11,7 +11,6 @@ use arena_ptr::{InvalidationOption, SlotStack, ToolPtr};
 use chain_arena::LinkNoGen;
 use std::alloc::Global;
 use std::mem::forget;
-use std::process::Abort;
 
 // What a drain of a chain yields, and one of all links.
 type Gone = InvalidationOption<(ToolPtr, LinkNoGen<ToolPtr, u32>)>;
@@ -28,14 +27,13 @@ pub(super) fn remove_all<S: SlotStack<Item = Slot>>(arena: &mut ChainsOver<S>)
 
 // All that a drain of a chain yields.
 pub(super) fn drained_chain<S: SlotStack<Item = Slot>>(
-    rt: &impl Abort,
     alloc: Global,
     arena: &mut ChainsOver<S>,
     p: ToolPtr,
 ) -> String {
     match arena.drain_chain(p) {
-        Some(links) => text_of_all(rt, alloc, links),
-        None => text(rt, alloc, None::<u32>),
+        Some(links) => text_of_all(alloc, links),
+        None => text(alloc, None::<u32>),
     }
 }
 
@@ -55,11 +53,10 @@ pub(super) fn takes_one_of_chain<S: SlotStack<Item = Slot>>(
 
 // All that a drain of all links yields.
 pub(super) fn drained<S: SlotStack<Item = Slot>>(
-    rt: &impl Abort,
     alloc: Global,
     arena: &mut ChainsOver<S>,
 ) -> String {
-    text_of_all(rt, alloc, arena.drain())
+    text_of_all(alloc, arena.drain())
 }
 
 // The first link that it yields, whereupon it is dropped or forgotten. None is left if it is dropped.

@@ -1,18 +1,24 @@
 //! Places for links: used, given up and forgotten.
 
-ghost use Rattle.std.specs.Prelude.{◌≡◌, ◌↔◌, IfOk, OnOk, OnErr, Err};
+ghost use Rattle.std.specs.Prelude.{◌≡◌, ◌↔◌, IfOk, OnOk, OnErr, Err, false};
 ghost use Rattle.arena_ptr.specs.Indexes.{number_of_inx32};
 ghost use Rattle.arena_ptr.specs.ToolPtr.{key_of};
 ghost use Rattle.arena_base.specs.Arena.{next_index, with_capacity_of};
 ghost use Rattle.chain_links.specs.ChainArena.{entry, shown, insert_as};
 ghost use Rattle.chain_links.specs.Kinds.{names_in, by_index, MayInsert};
 
-use super::scripts::{Do, Kind, Script, plays_all};
-use super::{ChainsOver, LimitedChains, Slot};
+use super::copies::IN_TWO_SLOTS;
+use super::scripts::{Do, Kind, Line, plays};
+use super::{ChainsOver, Slot, limited, same};
 use arena_base::ArenaTrait;
-use arena_ptr::{ChainInsertionError, ReallocationError, SlotStack, ToolPtr};
+use arena_ptr::{
+    ChainInsertionError, LimitStack, MaxCapacityReductionError, ReallocationError, SetMaxCapacity,
+    SlotStack, ToolPtr,
+};
 use chain_arena::{ChainArenaTrait, LinkInsertKind};
+use std::alloc::Global;
 use std::mem;
+use std::process::Abort;
 
 // A link in a place that was made for it, which is what an insertion in one call is.
 pub(super) fn insert_by_entry<S: SlotStack<Item = Slot>>(
@@ -31,16 +37,21 @@ pub(super) fn insert_by_entry<S: SlotStack<Item = Slot>>(
     Ok(p)
 }
 
-// The pointer of a place that is given up.
+// The pointer of a place that is given up, or forgotten.
 pub(super) fn give_up<S: SlotStack<Item = Slot>>(
     arena: &mut ChainsOver<S>,
     kind: LinkInsertKind<ToolPtr>,
+    is_forgotten: bool,
 ) -> Result<ToolPtr, ChainInsertionError>
     ensures place { IfOk result (λ p. key_of p ≡ (next_index arena.old, arena.old.counter)) }
-    ensures same { arena.new ≡ with_capacity_of arena.old arena.new }
+    ensures same { is_forgotten ≡ false → arena.new ≡ with_capacity_of arena.old arena.new }
 {
     let entry = arena.entry_insert_reallocating(kind)?;
-    Ok(entry.ptr())
+    let p = entry.ptr();
+    if is_forgotten {
+        mem::forget(entry);
+    }
+    Ok(p)
 }
 
 // A place for a link of a kind that may be inserted, and the link in it. `None`: it may not be.
@@ -75,29 +86,12 @@ pub(super) fn insert_asked<S: SlotStack<Item = Slot>>(
     }
 }
 
-// A place is forgotten.
-pub(super) fn forget<S: SlotStack<Item = Slot>>(
-    arena: &mut ChainsOver<S>,
-    kind: LinkInsertKind<ToolPtr>,
-) -> Option<ChainInsertionError> {
-    match arena.entry_insert_reallocating(kind) {
-        Ok(entry) => {
-            mem::forget(entry);
-            None
-        }
-        Err(refusal) => Some(refusal),
-    }
-}
-
 // How a place for a link of a kind is refused, by growth and within the capacity.
 pub(super) fn place_refusals<S: SlotStack<Item = Slot>>(
     arena: &mut ChainsOver<S>,
     kind: LinkInsertKind<ToolPtr>,
 ) -> [Option<ChainInsertionError>; 2] {
-    let growing = match arena.entry_insert_reallocating(kind) {
-        Ok(_) => None,
-        Err(refusal) => Some(refusal),
-    };
+    let growing = give_up(arena, kind, false).err();
     let within = match arena.entry_insert_within_capacity(kind) {
         Ok(_) => None,
         Err(refusal) => Some(refusal),
@@ -105,46 +99,54 @@ pub(super) fn place_refusals<S: SlotStack<Item = Slot>>(
     [growing, within]
 }
 
-// Two links fill an arena with a maximum of two, and do still when calls were refused.
-const FULL: [Script; 1] = [(
-    "a maximum of two",
-    0,
-    &[],
-    &[
-        (Do::SetMaximum(2), "Ok(())"),
-        (Do::Insert(Kind::Disconnected, 1), "Ok(P0[1](2))"),
-        (Do::Insert(Kind::Disconnected, 2), "Ok(P0[2](2))"),
-        (Do::Insert(Kind::Disconnected, 3), "Err(BeyondMaxCapacity)"),
-        (
-            Do::InsertWithin(Kind::Disconnected, 3),
-            "Err(NotWithinCapacity)",
-        ),
-        (
-            Do::Insert(Kind::ChainEnd((9, 9)), 3),
-            "Err(FailedLinkRequirement)",
-        ),
-        (
-            Do::InsertWithin(Kind::ChainEnd((9, 9)), 3),
-            "Err(FailedLinkRequirement)",
-        ),
-        (Do::Reserve(3), "Err(BeyondMaxCapacity)"),
-        (
-            Do::PlaceRefusals(Kind::Disconnected),
-            "[Some(BeyondMaxCapacity), Some(NotWithinCapacity)]",
-        ),
-        (
-            Do::PlaceRefusals(Kind::ChainEnd((9, 9))),
-            "[Some(FailedLinkRequirement), Some(FailedLinkRequirement)]",
-        ),
-        (Do::SetMaximum(1), "Err(MaxCapacityReductionError)"),
-        (Do::Len, "2"),
-        (Do::HasRoom(3), "false"),
-        (Do::Maximum, "Some(2)"),
-    ],
-)];
+// Two links fill an arena with a maximum of two, ...
+static FULL: [Line; 9] = [
+    (Do::Insert(Kind::Disconnected, 1), "Ok(P0[1](2))"),
+    (Do::Insert(Kind::Disconnected, 2), "Ok(P0[2](2))"),
+    (Do::Insert(Kind::Disconnected, 3), "Err(BeyondMaxCapacity)"),
+    (
+        Do::InsertWithin(Kind::Disconnected, 3),
+        "Err(NotWithinCapacity)",
+    ),
+    (
+        Do::Insert(Kind::ChainEnd((9, 9)), 3),
+        "Err(FailedLinkRequirement)",
+    ),
+    (
+        Do::InsertWithin(Kind::ChainEnd((9, 9)), 3),
+        "Err(FailedLinkRequirement)",
+    ),
+    (Do::Reserve(3), "Err(BeyondMaxCapacity)"),
+    (
+        Do::PlaceRefusals(Kind::Disconnected),
+        "[Some(BeyondMaxCapacity), Some(NotWithinCapacity)]",
+    ),
+    (
+        Do::PlaceRefusals(Kind::ChainEnd((9, 9))),
+        "[Some(FailedLinkRequirement), Some(FailedLinkRequirement)]",
+    ),
+];
+
+// .. and do still when calls were refused.
+static FULL_STILL: [Line; 3] = [
+    (Do::Len, "2"),
+    (Do::HasRoom(3), "false"),
+    (Do::Maximum, "Some(2)"),
+];
+
+// Both, and what copies are tried in two slots.
+fn in_two_slots() -> [&'static [Line]; 3] {
+    [&FULL, &FULL_STILL, &IN_TWO_SLOTS]
+}
 
 // What a kind asks is tested before the room, and nothing changes.
-#[test]
-fn refusals_in_their_order(rt: HostRuntime) {
-    plays_all::<LimitedChains>(&rt, rt.alloc(), &FULL);
+pub(super) fn check_full<S: LimitStack<Item = Slot>>(rt: &impl Abort, alloc: Global) {
+    let [full, still, copied] = in_two_slots();
+    let mut arena: ChainsOver<S> = limited(rt, alloc, 2);
+    plays(rt, alloc, "a maximum of two", &mut arena, full);
+    let less = arena.set_max_capacity(1);
+    same(rt, "a less maximum", less, Err(MaxCapacityReductionError));
+    plays(rt, alloc, "a maximum of two still", &mut arena, still);
+    let mut arena: ChainsOver<S> = limited(rt, alloc, 2);
+    plays(rt, alloc, "two slots", &mut arena, copied);
 }

@@ -2,7 +2,7 @@
 
 use super::{ChainsOver, Slot, at, limited, lone_links, same, text};
 use arena_base::{Arena, ArenaSlot, ArenaTrait, ValueMap};
-use arena_ptr::{AllocError, HeapStack, LimitStack, LimitedStack, SlotStack, ToolPtr};
+use arena_ptr::{AllocError, LimitStack, SlotStack, ToolPtr};
 use chain_arena::{LinkNoGen, Visitor};
 use std::alloc::Global;
 use std::process::Abort;
@@ -52,50 +52,48 @@ impl ValueMap<ToolPtr, LinkNoGen<ToolPtr, u32>, u32> for Counting {
 }
 
 // What a canonical compression of the links 2 and 3 tells, what has seen them, and how many links were placed.
-fn last_kept<S: SlotStack<Item = Slot>>(rt: &impl Abort, alloc: Global) -> String {
-    let mut arena: ChainsOver<S> = lone_links(rt, alloc, 3);
-    arena.remove(at(rt, (1, 2)));
+fn last_kept<S: SlotStack<Item = Slot>>(alloc: Global) -> String {
+    let mut arena: ChainsOver<S> = lone_links(alloc, 3);
+    arena.remove(at((1, 2)));
     let begun = Kept {
         count: 0,
         last: None,
     };
     let (told, visitor, work) = arena.compress_canonical_by(false, begun);
-    text(rt, alloc, (told, visitor, work.placed))
+    text(alloc, (told, visitor, work.placed))
 }
 
 // Makes an arena a copy of so many lone links: the answer, what made the values, and the arena then.
 fn counted_over<S: SlotStack<Item = Slot>>(
-    rt: &impl Abort,
     alloc: Global,
     count: u32,
     target: &mut ChainsOver<S>,
 ) -> String {
-    let source: ChainsOver<S> = lone_links(rt, alloc, count);
+    let source: ChainsOver<S> = lone_links(alloc, count);
     let (answer, map) = target.clone_from_by(&source, Counting { calls: 0 });
-    text(rt, alloc, (answer, map, &*target))
+    text(alloc, (answer, map, &*target))
 }
 
 // .. a plain one: the same, and how many entries it has then.
 fn counted_to_plain<S: SlotStack<Item = Slot>, R: SlotStack<Item = ArenaSlot<ToolPtr, u32>>>(
-    rt: &impl Abort,
     alloc: Global,
     count: u32,
 ) -> String {
     let mut target: Arena<ToolPtr, u32, R> = Arena::new(alloc);
-    let source: ChainsOver<S> = lone_links(rt, alloc, count);
+    let source: ChainsOver<S> = lone_links(alloc, count);
     let (answer, map) = source.clone_to_arena_by(&mut target, Counting { calls: 0 });
-    text(rt, alloc, (answer, map, target.len()))
+    text(alloc, (answer, map, target.len()))
 }
 
-#[test]
-fn visitors_are_handed_back(rt: HostRuntime) {
-    let told = last_kept::<HeapStack<Slot>>(&rt, rt.alloc());
+// A visitor is handed back.
+pub(super) fn check_kept<S: SlotStack<Item = Slot>>(rt: &impl Abort, alloc: Global) {
+    let told = last_kept::<S>(alloc);
     let want = "(Success(()), Kept { count: 2, last: Some((P0[3](2), P0[2](4))) }, 2)";
-    same(&rt, "two links", told.as_str(), want);
+    same(rt, "two links", told.as_str(), want);
 }
 
 // So many links, copied over one link and to a plain arena.
-const COUNTED: [(u32, &str, &str); 2] = [
+static COUNTED: [(u32, &str, &str); 2] = [
     (
         2,
         "(Ok(()), Counting { calls: 2 }, {P0[1](2): {(start), (end)} 2, P0[2](2): {(start), (end)} 3})",
@@ -108,34 +106,25 @@ const COUNTED: [(u32, &str, &str); 2] = [
     ),
 ];
 
-// Both, over one link and to a plain arena without any.
-fn check_counted<S: SlotStack<Item = Slot>, R: SlotStack<Item = ArenaSlot<ToolPtr, u32>>>(
-    rt: &impl Abort,
-    alloc: Global,
-) {
-    for (count, want, plain) in COUNTED {
-        let mut target: ChainsOver<S> = lone_links(rt, alloc, 1);
-        let told = counted_over(rt, alloc, count, &mut target);
+// Both, over one link and to a plain arena without any. What made the values is handed back.
+pub(super) fn check_counted<
+    S: SlotStack<Item = Slot>,
+    R: SlotStack<Item = ArenaSlot<ToolPtr, u32>>,
+>(rt: &impl Abort, alloc: Global) {
+    for row in &COUNTED {
+        let (count, want, plain) = *row;
+        let mut target: ChainsOver<S> = lone_links(alloc, 1);
+        let told = counted_over(alloc, count, &mut target);
         same(rt, "over one link", told.as_str(), want);
-        let told = counted_to_plain::<S, R>(rt, alloc, count);
+        let told = counted_to_plain::<S, R>(alloc, count);
         same(rt, "to a plain arena", told.as_str(), plain);
     }
 }
 
-#[test]
-fn maps_are_handed_back(rt: HostRuntime) {
-    check_counted::<HeapStack<Slot>, HeapStack<ArenaSlot<ToolPtr, u32>>>(&rt, rt.alloc());
-}
-
-// The text of a copy of two links over an arena that may have one slot.
-fn beyond_one<S: LimitStack<Item = Slot>>(rt: &impl Abort, alloc: Global) -> String {
+// A copy of two links over an arena that may have one slot: nothing is shown to what makes the values.
+pub(super) fn check_beyond_one<S: LimitStack<Item = Slot>>(rt: &impl Abort, alloc: Global) {
     let mut target: ChainsOver<S> = limited(rt, alloc, 1);
-    counted_over(rt, alloc, 2, &mut target)
-}
-
-#[test]
-fn a_map_is_shown_nothing_beyond_the_maximum(rt: HostRuntime) {
-    let told = beyond_one::<LimitedStack<Slot>>(&rt, rt.alloc());
+    let told = counted_over(alloc, 2, &mut target);
     let want = "(Err(BeyondMaxCapacity), Counting { calls: 0 }, {})";
-    same(&rt, "one slot at most", told.as_str(), want);
+    same(rt, "one slot at most", told.as_str(), want);
 }

@@ -9,7 +9,6 @@ use arena_base::ArenaTrait;
 use arena_ptr::{Inx32, Ptr, SlotStack, ToolPtr};
 use std::alloc::{AllocError, Global};
 use std::mem;
-use std::process::Abort;
 
 // The indexes of all links.
 pub(super) fn indexes<S: SlotStack<Item = Slot>>(
@@ -26,49 +25,38 @@ pub(super) fn indexes<S: SlotStack<Item = Slot>>(
 }
 
 // Each value with its pointer.
-pub(super) fn values<S: SlotStack<Item = Slot>>(
-    rt: &impl Abort,
-    alloc: Global,
-    arena: &ChainsOver<S>,
-) -> String {
-    text_of_all(rt, alloc, arena.iter())
+pub(super) fn values<S: SlotStack<Item = Slot>>(alloc: Global, arena: &ChainsOver<S>) -> String {
+    text_of_all(alloc, arena.iter())
 }
 
 // Each link with its interlinks, by the call, over the arena itself, and of one that is used up, which leaves a new one.
-pub(super) fn links<S: SlotStack<Item = Slot>>(
-    rt: &impl Abort,
-    alloc: Global,
-    arena: &ChainsOver<S>,
-) -> String {
-    text_of_all(rt, alloc, arena.iter_link_no_gen())
+pub(super) fn links<S: SlotStack<Item = Slot>>(alloc: Global, arena: &ChainsOver<S>) -> String {
+    text_of_all(alloc, arena.iter_link_no_gen())
 }
 
 pub(super) fn links_by_reference<S: SlotStack<Item = Slot>>(
-    rt: &impl Abort,
     alloc: Global,
     arena: &ChainsOver<S>,
 ) -> String {
-    text_of_all(rt, alloc, arena.into_iter())
+    text_of_all(alloc, arena.into_iter())
 }
 
 pub(super) fn links_used_up<S: SlotStack<Item = Slot>>(
-    rt: &impl Abort,
     alloc: Global,
     arena: &mut ChainsOver<S>,
 ) -> String {
     let links = mem::replace(arena, ChainsOver::<S>::new(alloc));
-    text_of_all(rt, alloc, links.into_iter())
+    text_of_all(alloc, links.into_iter())
 }
 
 // The links that a walk from a pointer yields, each with its pointer, which is that of now.
 pub(super) fn walk<S: SlotStack<Item = Slot>>(
-    rt: &impl Abort,
     alloc: Global,
     arena: &ChainsOver<S>,
     p: ToolPtr,
 ) -> String {
     match arena.iter_chain(p) {
-        Some(links) => text_of_all(rt, alloc, links),
-        None => text(rt, alloc, None::<u32>),
+        Some(links) => text_of_all(alloc, links),
+        None => text(alloc, None::<u32>),
     }
 }

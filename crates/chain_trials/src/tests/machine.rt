@@ -3,81 +3,75 @@
 use super::scripts::{Do, Kind, Line, look};
 use super::{ChainsOver, Slot, at, generation, index, limited, same, text};
 use arena_base::ArenaTrait;
-use arena_ptr::{HeapStack, LimitStack, LimitedStack, SlotStack, ToolPtr};
+use arena_ptr::{LimitStack, SlotStack, ToolPtr};
 use chain_arena::{Call, LinkInsertKind, Reply, run_calls};
 use std::alloc::Global;
 use std::process::Abort;
 
 // A kind of the arena.
-pub(super) fn kind(rt: &impl Abort, kind: Kind) -> LinkInsertKind<ToolPtr> {
+pub(super) fn kind(kind: Kind) -> LinkInsertKind<ToolPtr> {
     match kind {
         Kind::Disconnected => LinkInsertKind::Disconnected,
         Kind::SingleLinkCyclic => LinkInsertKind::SingleLinkCyclic,
-        Kind::ChainEnd(p) => LinkInsertKind::ChainEnd(at(rt, p)),
-        Kind::ChainStart(p) => LinkInsertKind::ChainStart(at(rt, p)),
-        Kind::NextTo(p) => LinkInsertKind::NextTo(at(rt, p)),
+        Kind::ChainEnd(p) => LinkInsertKind::ChainEnd(at(p)),
+        Kind::ChainStart(p) => LinkInsertKind::ChainStart(at(p)),
+        Kind::NextTo(p) => LinkInsertKind::NextTo(at(p)),
     }
 }
 
 // The call of a row. `None`: lists of calls have no such call.
-pub(super) fn call(rt: &impl Abort, row: Do) -> Option<Call<ToolPtr, u32>> {
+pub(super) fn call(row: Do) -> Option<Call<ToolPtr, u32>> {
     Some(match row {
-        Do::Insert(k, t) => Call::Insert {
-            kind: kind(rt, k),
-            t,
-        },
-        Do::InsertWithin(k, t) => Call::InsertWithin {
-            kind: kind(rt, k),
-            t,
-        },
-        Do::Connect(p, q) => Call::Connect(at(rt, p), at(rt, q)),
-        Do::BreakPrev(p) => Call::BreakPrev(at(rt, p)),
-        Do::BreakNext(p) => Call::BreakNext(at(rt, p)),
-        Do::Exchange(p, q) => Call::ExchangeNext(at(rt, p), at(rt, q)),
-        Do::RemoveLink(p) => Call::Remove(at(rt, p)),
-        Do::RemoveLinkInx(i) => Call::RemoveInx(index(rt, i)),
-        Do::Invalidate(p) => Call::Invalidate(at(rt, p)),
-        other => return whole_call(rt, other),
+        Do::Insert(k, t) => Call::Insert { kind: kind(k), t },
+        Do::InsertWithin(k, t) => Call::InsertWithin { kind: kind(k), t },
+        Do::Connect(p, q) => Call::Connect(at(p), at(q)),
+        Do::BreakPrev(p) => Call::BreakPrev(at(p)),
+        Do::BreakNext(p) => Call::BreakNext(at(p)),
+        Do::Exchange(p, q) => Call::ExchangeNext(at(p), at(q)),
+        Do::RemoveLink(p) => Call::Remove(at(p)),
+        Do::RemoveLinkInx(i) => Call::RemoveInx(index(i)),
+        Do::Invalidate(p) => Call::Invalidate(at(p)),
+        other => return whole_call(other),
     })
 }
 
 // .. of one on more than two links.
-fn whole_call(rt: &impl Abort, row: Do) -> Option<Call<ToolPtr, u32>> {
+fn whole_call(row: Do) -> Option<Call<ToolPtr, u32>> {
     match row {
-        Do::DrainTaking(p, take) => Some(Call::DrainChain { p: at(rt, p), take }),
+        Do::DrainTaking(p, take) => Some(Call::DrainChain { p: at(p), take }),
         Do::Clear => Some(Call::Clear),
         Do::Compress(reset) => Some(Call::Compress(reset)),
         Do::Canonical(reset) => Some(Call::CompressCanonical(reset)),
         Do::Reserve(n) => Some(Call::Reserve(n)),
-        Do::SetGeneration(g) => Some(Call::SetGeneration(generation(rt, g))),
+        Do::SetGeneration(g) => Some(Call::SetGeneration(generation(g))),
         Do::IncGeneration => Some(Call::IncGeneration),
         _ => None,
     }
 }
 
 // The calls of lines.
-fn calls_of(rt: &impl Abort, alloc: Global, lines: &[Line]) -> Vec<Call<ToolPtr, u32>> {
+fn calls_of(alloc: Global, lines: &[Line]) -> Vec<Call<ToolPtr, u32>> {
     let mut calls = Vec::new(alloc);
     for line in lines {
-        if let Some(made) = call(rt, line.0) {
-            calls.push(made).expect(rt, "memory");
+        if let Some(made) = call(line.0) {
+            let _ = calls.push(made);
         }
     }
     calls
 }
 
 // What a reply answers.
-pub(super) fn told(rt: &impl Abort, alloc: Global, reply: Reply<ToolPtr, u32>) -> String {
+pub(super) fn told(alloc: Global, reply: Reply<ToolPtr, u32>) -> String {
     match reply {
-        Reply::Inserted(answer) => text(rt, alloc, answer),
-        Reply::Done(done) => text(rt, alloc, done),
-        Reply::Removed(answer) => text(rt, alloc, answer),
-        Reply::RemovedInx(answer) => text(rt, alloc, answer),
-        Reply::Renewed(answer) => text(rt, alloc, answer),
-        Reply::Drained(count) => text(rt, alloc, count),
-        Reply::Counted(answer) => text(rt, alloc, answer),
-        Reply::Reserved(answer) => text(rt, alloc, answer),
-        Reply::Set => text(rt, alloc, ()),
+        Reply::Inserted(answer) => text(alloc, answer),
+        Reply::Done(done) => text(alloc, done),
+        Reply::Removed(answer) => text(alloc, answer),
+        Reply::RemovedInx(answer) => text(alloc, answer),
+        Reply::Renewed(answer) => text(alloc, answer),
+        Reply::Drained(count) => text(alloc, count),
+        Reply::Counted(answer) => text(alloc, answer),
+        Reply::Reserved(answer) => text(alloc, answer),
+        Reply::Set => text(alloc, ()),
     }
 }
 
@@ -87,16 +81,16 @@ fn replies<S: SlotStack<Item = Slot>>(
     rt: &impl Abort,
     alloc: Global,
     arena: &mut ChainsOver<S>,
-    list: List,
+    list: &List,
 ) {
-    let (what, lines) = list;
-    let calls = calls_of(rt, alloc, lines);
+    let (what, lines) = *list;
+    let calls = calls_of(alloc, lines);
     let made = run_calls(alloc, arena, calls);
     let mut replies = made.expect(rt, "memory for the replies").into_iter();
     for (row, want) in lines {
         let got = match replies.next() {
-            Some(reply) => told(rt, alloc, reply),
-            None => look(rt, alloc, arena, *row),
+            Some(reply) => told(alloc, reply),
+            None => look(alloc, arena, *row),
         };
         same(rt, what, got.as_str(), *want);
     }
@@ -120,93 +114,95 @@ const CYCLE: List = (
 );
 
 // Lists of calls, each row on a new arena. The last one is the cycle, of which an exchange makes two, and another one again.
-const LISTS: [&[List]; 5] = [
-    &[(
-        "a run of calls",
-        &[
-            (Do::Insert(Kind::Disconnected, 10), "Ok(P0[1](2))"),
-            (Do::Insert(Kind::ChainEnd((1, 2)), 20), "Ok(P0[2](2))"),
-            (Do::Connect((2, 2), (1, 2)), "true"),
-            (Do::DrainTaking((2, 2), 1), "Some(1)"),
-            (Do::RemoveLinkInx(1), "InvalidPtr"),
-            (Do::Clear, "Success(())"),
-            (Do::Insert(Kind::Disconnected, 30), "Ok(P0[1](4))"),
-        ],
-    )],
-    &[(
-        "a cycle of one and a chain of two come to the indexes from 1 on, in the order of their indexes",
-        &[
-            (Do::Insert(Kind::Disconnected, 10), "Ok(P0[1](2))"),
-            (Do::Insert(Kind::SingleLinkCyclic, 20), "Ok(P0[2](2))"),
-            (Do::Insert(Kind::Disconnected, 30), "Ok(P0[3](2))"),
-            (Do::Insert(Kind::ChainEnd((3, 2)), 40), "Ok(P0[4](2))"),
-            (Do::RemoveLink((1, 2)), "Success({(start), (end)} 10)"),
-            (Do::Compress(false), "Success(())"),
-            (
-                Do::Debug,
-                "{P0[1](4): {1, 1} 20, P0[2](4): {(start), 3} 30, P0[3](4): {2, (end)} 40}",
-            ),
-        ],
-    )],
-    &[(
-        "holes before two lone links",
-        &[
-            (Do::Insert(Kind::Disconnected, 1), "Ok(P0[1](2))"),
-            (Do::Insert(Kind::Disconnected, 2), "Ok(P0[2](2))"),
-            (Do::Insert(Kind::Disconnected, 3), "Ok(P0[3](2))"),
-            (Do::Insert(Kind::Disconnected, 4), "Ok(P0[4](2))"),
-            (Do::Insert(Kind::Disconnected, 5), "Ok(P0[5](2))"),
-            (Do::Insert(Kind::Disconnected, 6), "Ok(P0[6](2))"),
-            (Do::RemoveLink((1, 2)), "Success({(start), (end)} 1)"),
-            (Do::RemoveLink((2, 2)), "Success({(start), (end)} 2)"),
-            (Do::RemoveLink((3, 2)), "Success({(start), (end)} 3)"),
-            (Do::RemoveLink((4, 2)), "Success({(start), (end)} 4)"),
-            (Do::Canonical(false), "Success(())"),
-            (Do::Canonical(false), "Success(())"),
-            (
-                Do::Debug,
-                "{P0[1](8): {(start), (end)} 5, P0[2](8): {(start), (end)} 6}",
-            ),
-        ],
-    )],
-    &[(
-        "each call that overflows, at the greatest generation; and room above the greatest index",
-        &[
-            (Do::SetGeneration(u32::MAX), "()"),
-            (Do::IncGeneration, "GenerationOverflow(())"),
-            (Do::IncGeneration, "Success(())"),
-            (Do::SetGeneration(u32::MAX), "()"),
-            (Do::Insert(Kind::Disconnected, 50), "Ok(P0[1](ffffffff))"),
-            (
-                Do::Invalidate((1, u32::MAX)),
-                "GenerationOverflow(P0[1](2))",
-            ),
-            (Do::SetGeneration(u32::MAX), "()"),
-            (
-                Do::RemoveLink((1, 2)),
-                "GenerationOverflow({(start), (end)} 50)",
-            ),
-            (Do::SetGeneration(u32::MAX), "()"),
-            (Do::Insert(Kind::Disconnected, 60), "Ok(P0[1](ffffffff))"),
-            (
-                Do::RemoveLinkInx(1),
-                "GenerationOverflow((Gen32 { number: 4294967295 }, {(start), (end)} 60))",
-            ),
-            (Do::Insert(Kind::Disconnected, 70), "Ok(P0[1](2))"),
-            (Do::SetGeneration(u32::MAX), "()"),
-            (Do::Compress(true), "Success(())"),
-            (Do::SetGeneration(u32::MAX), "()"),
-            (Do::Compress(false), "GenerationOverflow(())"),
-            (Do::SetGeneration(u32::MAX), "()"),
-            (Do::Clear, "GenerationOverflow(())"),
-            (Do::SetGeneration(u32::MAX), "()"),
-            (Do::Compress(false), "Success(())"),
-            (Do::Clear, "Success(())"),
-            (Do::Reserve(1 << 40), "Err(AllocError)"),
-        ],
-    )],
-    &[CYCLE, SPLIT, MERGED],
-];
+static RUN: [List; 1] = [(
+    "a run of calls",
+    &[
+        (Do::Insert(Kind::Disconnected, 10), "Ok(P0[1](2))"),
+        (Do::Insert(Kind::ChainEnd((1, 2)), 20), "Ok(P0[2](2))"),
+        (Do::Connect((2, 2), (1, 2)), "true"),
+        (Do::DrainTaking((2, 2), 1), "Some(1)"),
+        (Do::RemoveLinkInx(1), "InvalidPtr"),
+        (Do::Clear, "Success(())"),
+        (Do::Insert(Kind::Disconnected, 30), "Ok(P0[1](4))"),
+    ],
+)];
+
+static RENUMBERED: [List; 1] = [(
+    "a cycle of one and a chain of two come to the indexes from 1 on, in the order of their indexes",
+    &[
+        (Do::Insert(Kind::Disconnected, 10), "Ok(P0[1](2))"),
+        (Do::Insert(Kind::SingleLinkCyclic, 20), "Ok(P0[2](2))"),
+        (Do::Insert(Kind::Disconnected, 30), "Ok(P0[3](2))"),
+        (Do::Insert(Kind::ChainEnd((3, 2)), 40), "Ok(P0[4](2))"),
+        (Do::RemoveLink((1, 2)), "Success({(start), (end)} 10)"),
+        (Do::Compress(false), "Success(())"),
+        (
+            Do::Debug,
+            "{P0[1](4): {1, 1} 20, P0[2](4): {(start), 3} 30, P0[3](4): {2, (end)} 40}",
+        ),
+    ],
+)];
+
+static BEHIND_HOLES: [List; 1] = [(
+    "holes before two lone links",
+    &[
+        (Do::Insert(Kind::Disconnected, 1), "Ok(P0[1](2))"),
+        (Do::Insert(Kind::Disconnected, 2), "Ok(P0[2](2))"),
+        (Do::Insert(Kind::Disconnected, 3), "Ok(P0[3](2))"),
+        (Do::Insert(Kind::Disconnected, 4), "Ok(P0[4](2))"),
+        (Do::Insert(Kind::Disconnected, 5), "Ok(P0[5](2))"),
+        (Do::Insert(Kind::Disconnected, 6), "Ok(P0[6](2))"),
+        (Do::RemoveLink((1, 2)), "Success({(start), (end)} 1)"),
+        (Do::RemoveLink((2, 2)), "Success({(start), (end)} 2)"),
+        (Do::RemoveLink((3, 2)), "Success({(start), (end)} 3)"),
+        (Do::RemoveLink((4, 2)), "Success({(start), (end)} 4)"),
+        (Do::Canonical(false), "Success(())"),
+        (Do::Canonical(false), "Success(())"),
+        (
+            Do::Debug,
+            "{P0[1](8): {(start), (end)} 5, P0[2](8): {(start), (end)} 6}",
+        ),
+    ],
+)];
+
+static OVERFLOWS: [List; 1] = [(
+    "each call that overflows, at the greatest generation; and room above the greatest index",
+    &[
+        (Do::SetGeneration(u32::MAX), "()"),
+        (Do::IncGeneration, "GenerationOverflow(())"),
+        (Do::IncGeneration, "Success(())"),
+        (Do::SetGeneration(u32::MAX), "()"),
+        (Do::Insert(Kind::Disconnected, 50), "Ok(P0[1](ffffffff))"),
+        (
+            Do::Invalidate((1, u32::MAX)),
+            "GenerationOverflow(P0[1](2))",
+        ),
+        (Do::SetGeneration(u32::MAX), "()"),
+        (
+            Do::RemoveLink((1, 2)),
+            "GenerationOverflow({(start), (end)} 50)",
+        ),
+        (Do::SetGeneration(u32::MAX), "()"),
+        (Do::Insert(Kind::Disconnected, 60), "Ok(P0[1](ffffffff))"),
+        (
+            Do::RemoveLinkInx(1),
+            "GenerationOverflow((Gen32 { number: 4294967295 }, {(start), (end)} 60))",
+        ),
+        (Do::Insert(Kind::Disconnected, 70), "Ok(P0[1](2))"),
+        (Do::SetGeneration(u32::MAX), "()"),
+        (Do::Compress(true), "Success(())"),
+        (Do::SetGeneration(u32::MAX), "()"),
+        (Do::Compress(false), "GenerationOverflow(())"),
+        (Do::SetGeneration(u32::MAX), "()"),
+        (Do::Clear, "GenerationOverflow(())"),
+        (Do::SetGeneration(u32::MAX), "()"),
+        (Do::Compress(false), "Success(())"),
+        (Do::Clear, "Success(())"),
+        (Do::Reserve(1 << 40), "Err(AllocError)"),
+    ],
+)];
+
+static EXCHANGES: [List; 3] = [CYCLE, SPLIT, MERGED];
 
 // Further lists on the cycle.
 const SPLIT: List = (
@@ -233,7 +229,7 @@ const MERGED: List = (
 
 // The calls that change links, each with every reply that it gives where there is memory, in an arena with a maximum of
 // three.
-const EVERY_REPLY: List = (
+static EVERY_REPLY: List = (
     "a maximum of three",
     &[
         (Do::Insert(Kind::Disconnected, 10), "Ok(P0[1](2))"),
@@ -279,28 +275,32 @@ const EVERY_REPLY: List = (
     ],
 );
 
+// The lists.
+fn lists() -> [&'static [List]; 5] {
+    [&RUN, &RENUMBERED, &BEHIND_HOLES, &OVERFLOWS, &EXCHANGES]
+}
+
+fn every_reply() -> &'static List {
+    &EVERY_REPLY
+}
+
 // Lists one after another, on a new arena.
-fn check_lists<S: SlotStack<Item = Slot>>(rt: &impl Abort, alloc: Global, lists: &[List]) {
+fn check_together<S: SlotStack<Item = Slot>>(rt: &impl Abort, alloc: Global, together: &[List]) {
     let mut arena: ChainsOver<S> = ChainsOver::<S>::new(alloc);
-    for list in lists {
-        replies(rt, alloc, &mut arena, *list);
+    for list in together {
+        replies(rt, alloc, &mut arena, list);
     }
 }
 
-#[test]
-fn lists_of_calls_with_their_replies(rt: HostRuntime) {
-    for lists in LISTS {
-        check_lists::<HeapStack<Slot>>(&rt, rt.alloc(), lists);
+// All lists.
+pub(super) fn check_lists<S: SlotStack<Item = Slot>>(rt: &impl Abort, alloc: Global) {
+    for together in &lists() {
+        check_together::<S>(rt, alloc, together);
     }
 }
 
 // .. on one with a maximum of three.
-fn check_every_reply<S: LimitStack<Item = Slot>>(rt: &impl Abort, alloc: Global) {
+pub(super) fn check_every_reply<S: LimitStack<Item = Slot>>(rt: &impl Abort, alloc: Global) {
     let mut arena: ChainsOver<S> = limited(rt, alloc, 3);
-    replies(rt, alloc, &mut arena, EVERY_REPLY);
-}
-
-#[test]
-fn every_call_with_its_replies(rt: HostRuntime) {
-    check_every_reply::<LimitedStack<Slot>>(&rt, rt.alloc());
+    replies(rt, alloc, &mut arena, every_reply());
 }

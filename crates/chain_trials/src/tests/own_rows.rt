@@ -1,7 +1,7 @@
 //! What a chain arena's own calls answer, and what they leave.
 
-use super::scripts::{Do, Kind, Script, plays_all};
-use super::{At, Chains};
+use super::At;
+use super::scripts::{Do, Kind, Script};
 
 // Links in a row.
 const THREE: [At; 2] = [(1, 2), (2, 3)];
@@ -18,7 +18,7 @@ const ROUND: [At; 3] = [(1, 2), (2, 3), (3, 1)];
 const TWO_LEFT: &str = "[(P0[1](2), {(start), 3} 1), (P0[3](2), {1, (end)} 3)]";
 
 // Walks: from a link on to the end, and then from the link before it back to the start; once round a ring.
-const WALKS: [Script; 7] = [
+static WALKS: [Script; 4] = [
     (
         "a row of three, of which the middle one is taken out again",
         0,
@@ -75,6 +75,10 @@ const WALKS: [Script; 7] = [
             ),
         ],
     ),
+];
+
+// Further walks.
+static FURTHER_WALKS: [Script; 3] = [
     (
         "no walk from another generation or an index beyond the last",
         1,
@@ -114,7 +118,7 @@ const WALKS: [Script; 7] = [
 ];
 
 // Loops over all links, and values by what is known to be valid.
-const LOOPS: [Script; 4] = [
+static LOOPS: [Script; 2] = [
     (
         "values, of a chain of two whose second is gone and a lone link",
         3,
@@ -140,6 +144,10 @@ const LOOPS: [Script; 4] = [
             (Do::IsEmpty, "true"),
         ],
     ),
+];
+
+// Further loops.
+static FURTHER_LOOPS: [Script; 2] = [
     (
         "no links",
         0,
@@ -169,7 +177,7 @@ const LOOPS: [Script; 4] = [
 ];
 
 // Chains drained: wholly, and up to a first link.
-const CHAIN_DRAINS: [Script; 7] = [
+static CHAIN_DRAINS: [Script; 4] = [
     (
         "a linear chain drained from its start",
         3,
@@ -227,6 +235,10 @@ const CHAIN_DRAINS: [Script; 7] = [
             (Do::IsEmpty, "true"),
         ],
     ),
+];
+
+// Further chains drained.
+static FURTHER_CHAIN_DRAINS: [Script; 3] = [
     (
         "no walk and no drain of a stale pointer",
         1,
@@ -271,7 +283,7 @@ const CHAIN_DRAINS: [Script; 7] = [
 ];
 
 // All links drained.
-const DRAINS: [Script; 6] = [
+static DRAINS: [Script; 3] = [
     (
         "all links drained by rising index",
         4,
@@ -311,6 +323,10 @@ const DRAINS: [Script; 6] = [
             ),
         ],
     ),
+];
+
+// Further drains of all.
+static FURTHER_DRAINS: [Script; 3] = [
     (
         "three in a row, of which a drain yields one: dropped, it takes the others",
         3,
@@ -349,7 +365,7 @@ const DRAINS: [Script; 6] = [
 ];
 
 // Places for links, and the first link of a new arena by each call that takes any kind.
-const PLACES: [Script; 6] = [
+static PLACES: [Script; 6] = [
     (
         "a place that is given up is there again, and a link comes to it",
         0,
@@ -406,12 +422,18 @@ const PLACES: [Script; 6] = [
     ),
 ];
 
-// All tables, as one constant that one body names.
-const TABLES: [&[Script]; 5] = [&WALKS, &LOOPS, &PLACES, &CHAIN_DRAINS, &DRAINS];
-
-#[test]
-fn walks_loops_places_and_drains(rt: HostRuntime) {
-    for table in TABLES {
-        plays_all::<Chains>(&rt, rt.alloc(), table);
-    }
+// All tables. A body of its own names them, since each step of a body lists what the body names, and each is small, since what a
+// body lists of a static costs by the square of its size.
+pub(super) fn tables() -> [&'static [Script]; 9] {
+    [
+        &WALKS,
+        &FURTHER_WALKS,
+        &LOOPS,
+        &FURTHER_LOOPS,
+        &PLACES,
+        &CHAIN_DRAINS,
+        &FURTHER_CHAIN_DRAINS,
+        &DRAINS,
+        &FURTHER_DRAINS,
+    ]
 }

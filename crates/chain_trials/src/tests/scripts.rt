@@ -55,9 +55,6 @@ pub(super) enum Do {
     Clone,
     CopyOver,
     CopyToPlain,
-    // Of an arena with a limited stack: its maximum set, and how places for a link are refused.
-    SetMaximum(usize),
-    PlaceRefusals(Kind),
     // Values by what is valid, walks, and loops over all links.
     Value(At),
     ValueInx(u32),
@@ -77,9 +74,11 @@ pub(super) enum Do {
     DrainOne,
     ForgetDrain,
     RemoveAll,
-    // Places for links: given up, forgotten, and used by each call that gives one. An insertion that asks first.
+    // Places for links: given up, forgotten, refused by growth and within the capacity, and used by each call that gives one.
+    // An insertion that asks first.
     GiveUp(Kind),
     Forget(Kind),
+    PlaceRefusals(Kind),
     InsertByEntry(Kind, u32),
     InsertByAnyEntry(Kind, u32),
     InsertAsked(Kind, u32),
@@ -98,53 +97,44 @@ pub(super) type Script = (&'static str, u32, &'static [At], &'static [Line]);
 
 // The answer to a call on an arena over any stack: its reply, where it is one of lists of calls, ...
 pub(super) fn answer<S: SlotStack<Item = Slot>>(
-    rt: &impl Abort,
     alloc: Global,
     arena: &mut ChainsOver<S>,
     row: Do,
 ) -> String {
-    match call(rt, row) {
-        Some(call) => told(rt, alloc, apply(arena, call)),
-        None => look(rt, alloc, arena, row),
+    match call(row) {
+        Some(call) => told(alloc, apply(arena, call)),
+        None => look(alloc, arena, row),
     }
 }
 
 // .. what the arena shows as a chain arena, or a copy of it, ...
 pub(super) fn look<S: SlotStack<Item = Slot>>(
-    rt: &impl Abort,
     alloc: Global,
     arena: &mut ChainsOver<S>,
     row: Do,
 ) -> String {
     match row {
-        Do::Debug => text(rt, alloc, &*arena),
-        Do::Generation => text(rt, alloc, arena.generation().get()),
-        Do::Slots => text(rt, alloc, arena.backing().len()),
-        Do::Clone => cloned(rt, alloc, arena),
-        Do::CopyOver => copied_over(rt, alloc, arena),
-        Do::CopyToPlain => copied_to_plain::<S, HeapStack<ArenaSlot<ToolPtr, u32>>>(
-            rt, alloc, arena,
-        ),
-        other => trait_look(rt, alloc, arena, other),
+        Do::Debug => text(alloc, &*arena),
+        Do::Generation => text(alloc, arena.generation().get()),
+        Do::Slots => text(alloc, arena.backing().len()),
+        Do::Clone => cloned(alloc, arena),
+        Do::CopyOver => copied_over(alloc, arena),
+        Do::CopyToPlain => copied_to_plain::<S, HeapStack<ArenaSlot<ToolPtr, u32>>>(alloc, arena),
+        other => trait_look(alloc, arena, other),
     }
 }
 
 // .. and what it shows as an arena. What is called by a bound costs its proof a third of what the same costs at a type.
-fn trait_look<A: ArenaTrait<ToolPtr, u32>>(
-    rt: &impl Abort,
-    alloc: Global,
-    arena: &mut A,
-    row: Do,
-) -> String {
+fn trait_look<A: ArenaTrait<ToolPtr, u32>>(alloc: Global, arena: &mut A, row: Do) -> String {
     match row {
-        Do::Len => text(rt, alloc, arena.len()),
-        Do::IsEmpty => text(rt, alloc, arena.is_empty()),
-        Do::HasRoom(n) => text(rt, alloc, arena.capacity() >= n),
-        Do::Maximum => text(rt, alloc, arena.max_capacity()),
-        Do::Counter => text(rt, alloc, arena.singular_generation()),
-        Do::Get(p) => text(rt, alloc, arena.get(at(rt, p))),
-        Do::Remove(p) => text(rt, alloc, arena.remove(at(rt, p))),
-        _ => text(rt, alloc, "no call of any stack"),
+        Do::Len => text(alloc, arena.len()),
+        Do::IsEmpty => text(alloc, arena.is_empty()),
+        Do::HasRoom(n) => text(alloc, arena.capacity() >= n),
+        Do::Maximum => text(alloc, arena.max_capacity()),
+        Do::Counter => text(alloc, arena.singular_generation()),
+        Do::Get(p) => text(alloc, arena.get(at(p))),
+        Do::Remove(p) => text(alloc, arena.remove(at(p))),
+        _ => text(alloc, "no call of any stack"),
     }
 }
 
@@ -152,16 +142,16 @@ fn trait_look<A: ArenaTrait<ToolPtr, u32>>(
 pub(super) trait Answers {
     fn fresh(alloc: Global) -> Self;
 
-    fn answer(&mut self, rt: &impl Abort, alloc: Global, row: Do) -> String;
+    fn answer(&mut self, alloc: Global, row: Do) -> String;
 }
 
 // Adds lone links, each with its index as its value, and ties each pair, the second after the first.
 fn begins<A: Answers>(rt: &impl Abort, alloc: Global, arena: &mut A, count: u32, pairs: &[At]) {
     for k in 1..=count {
-        arena.answer(rt, alloc, Do::Insert(Kind::Disconnected, k));
+        arena.answer(alloc, Do::Insert(Kind::Disconnected, k));
     }
     for (i, j) in pairs {
-        let tied = arena.answer(rt, alloc, Do::Connect((*i, 2), (*j, 2)));
+        let tied = arena.answer(alloc, Do::Connect((*i, 2), (*j, 2)));
         same(rt, "tied", tied.as_str(), "true");
     }
 }
@@ -175,7 +165,7 @@ pub(super) fn plays<A: Answers>(
     lines: &[Line],
 ) {
     for (row, want) in lines {
-        let got = arena.answer(rt, alloc, *row);
+        let got = arena.answer(alloc, *row);
         same(rt, what, got.as_str(), *want);
     }
 }

@@ -7,7 +7,6 @@ use arena_base::{ArenaSlot, ArenaTrait};
 use arena_ptr::{SlotStack, ToolPtr};
 use chain_arena::{ChainArena, LinkNoGen};
 use std::alloc::Global;
-use std::process::Abort;
 
 // What is done with an arena of any values.
 #[derive(Drop)]
@@ -22,7 +21,6 @@ pub(super) type SlotOf<T> = ArenaSlot<ToolPtr, LinkNoGen<ToolPtr, T>>;
 
 // The arena after some steps.
 pub(super) fn after<T: Drop, S: SlotStack<Item = SlotOf<T>>>(
-    rt: &impl Abort,
     alloc: Global,
     steps: Vec<Step<T>>,
 ) -> ChainArena<ToolPtr, T, S> {
@@ -30,12 +28,12 @@ pub(super) fn after<T: Drop, S: SlotStack<Item = SlotOf<T>>>(
     for step in steps {
         match step {
             Step::Add(k, t) => {
-                put(rt, &mut arena, kind(rt, k), t);
+                put(&mut arena, kind(k), t);
             }
             Step::Remove(p) => {
-                arena.remove(at(rt, p));
+                arena.remove(at(p));
             }
-            Step::Count(g) => arena.set_generation(generation(rt, g)),
+            Step::Count(g) => arena.set_generation(generation(g)),
         }
     }
     arena

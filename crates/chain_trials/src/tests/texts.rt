@@ -34,7 +34,7 @@ fn with_words(rt: &impl Abort, alloc: Global, steps: &[Step<&str>]) -> Vec<Step<
 }
 
 // Arenas of words, and their texts: no link, two, scattered chains with a line for each link, and a generation in hexadecimal.
-const WORDS: [(&[Step<&str>], &str, &str); 4] = [
+static WORDS: [(&[Step<&str>], &str, &str); 4] = [
     (&[], "{}", "{}"),
     (
         &[
@@ -69,11 +69,17 @@ const WORDS: [(&[Step<&str>], &str, &str); 4] = [
     ),
 ];
 
+// All of them.
+fn words() -> &'static [(&'static [Step<&'static str>], &'static str, &'static str)] {
+    &WORDS
+}
+
 // Each arena, and its texts.
 fn check_words<S: SlotStack<Item = SlotOf<String>>>(rt: &impl Abort, alloc: Global) {
-    for (steps, plain, sharp) in WORDS {
-        let words = with_words(rt, alloc, steps);
-        let arena: ChainArena<ToolPtr, String, S> = after(rt, alloc, words);
+    for row in words() {
+        let (steps, plain, sharp) = *row;
+        let owned = with_words(rt, alloc, steps);
+        let arena: ChainArena<ToolPtr, String, S> = after(alloc, owned);
         debug_reads(rt, alloc, &arena, plain, sharp);
     }
 }

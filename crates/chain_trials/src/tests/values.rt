@@ -1,7 +1,7 @@
 //! Values that tell how many of them there are, or how often they were cloned: none is lost, and none is cloned twice.
 
 use super::steps::SlotOf;
-use super::{at, put, same};
+use super::{add_plain, at, chained, put, same};
 use arena_base::{Arena, ArenaTrait};
 use arena_ptr::{HeapStack, Inx32, SlotStack, ToolPtr};
 use chain_arena::{Call, ChainArena, LinkBody, LinkInsertKind, LinkNoGen, apply};
@@ -30,10 +30,9 @@ fn chain_and_lone<S: SlotStack<Item = SlotOf<Rc<u8>>>>(
     let mut arena = ChainArena::new(alloc);
     let mut kind = LinkInsertKind::Disconnected;
     for _ in 0..3 {
-        kind = LinkInsertKind::ChainEnd(put(rt, &mut arena, kind, one_more(rt, value)));
+        kind = LinkInsertKind::ChainEnd(put(&mut arena, kind, one_more(rt, value)));
     }
     put(
-        rt,
         &mut arena,
         LinkInsertKind::Disconnected,
         one_more(rt, value),
@@ -50,18 +49,9 @@ fn left_by_a_drain<S: SlotStack<Item = SlotOf<Rc<u8>>>>(
 ) -> (usize, usize) {
     let value = shared(rt, alloc);
     let mut arena: ChainArena<ToolPtr, Rc<u8>, S> = chain_and_lone(rt, alloc, &value);
-    let p = at(rt, (1, 2));
+    let p = at((1, 2));
     drop(apply(&mut arena, Call::DrainChain { p, take }));
     (arena.len(), Rc::strong_count(&value))
-}
-
-// There are the value of the lone link, and the one that they are shared from.
-#[test]
-fn drained_values_are_dropped(rt: HostRuntime) {
-    for take in [0, 1, 5] {
-        let left = left_by_a_drain::<HeapStack<SlotOf<Rc<u8>>>>(&rt, rt.alloc(), take);
-        same(&rt, "links and values", left, (1, 2));
-    }
 }
 
 // A plain arena of two links, of which the first names this index as the one after it.
@@ -74,7 +64,7 @@ fn plain_pair<S: SlotStack<Item = SlotOf<Rc<u8>>>>(
     let mut arena = Arena::new(alloc);
     for next in [next, 0] {
         let link = LinkBody::new((None, Inx32::new(next)), one_more(rt, value));
-        assert!(rt; arena.insert_reallocating(link).is_ok());
+        add_plain(&mut arena, link);
     }
     arena
 }
@@ -86,17 +76,26 @@ fn left_by_a_refusal<S: SlotStack<Item = SlotOf<Rc<u8>>>>(
     next: u32,
 ) -> (bool, usize) {
     let value = shared(rt, alloc);
-    let made = ChainArena::from_arena(plain_pair::<S>(rt, alloc, &value, next));
+    let made = chained(plain_pair::<S>(rt, alloc, &value, next));
     (made.is_err(), Rc::strong_count(&value))
 }
 
-// Of an arena that is refused, no value is left.
-#[test]
-fn a_refused_arena_is_dropped_with_its_values(rt: HostRuntime) {
-    for (next, want) in [(2, (true, 1)), (0, (false, 3))] {
-        let left = left_by_a_refusal::<HeapStack<SlotOf<Rc<u8>>>>(&rt, rt.alloc(), next);
-        same(&rt, "refused, and values", left, want);
+// After a drain there are the value of the lone link, and the one that they are shared from. Of an arena that is refused, no
+// value is left.
+fn check_left<S: SlotStack<Item = SlotOf<Rc<u8>>>>(rt: &impl Abort, alloc: Global) {
+    for take in [0, 1, 5] {
+        let left = left_by_a_drain::<S>(rt, alloc, take);
+        same(rt, "links and values", left, (1, 2));
     }
+    for (next, want) in [(2, (true, 1)), (0, (false, 3))] {
+        let left = left_by_a_refusal::<S>(rt, alloc, next);
+        same(rt, "refused, and values", left, want);
+    }
+}
+
+#[test]
+fn drained_and_refused_values_are_dropped(rt: HostRuntime) {
+    check_left::<HeapStack<SlotOf<Rc<u8>>>>(&rt, rt.alloc());
 }
 
 // A value that counts how often it was cloned, with its clones. Contracts see no count, so all such values are equal.
@@ -134,14 +133,9 @@ fn counted_with_a_hole<S: SlotStack<Item = SlotOf<Counted>>>(
     let mut arena = ChainArena::new(alloc);
     for _ in 0..3 {
         let clones = clones.clone().expect(rt, "one more");
-        put(
-            rt,
-            &mut arena,
-            LinkInsertKind::Disconnected,
-            Counted { clones },
-        );
+        put(&mut arena, LinkInsertKind::Disconnected, Counted { clones });
     }
-    arena.remove(at(rt, (2, 2)));
+    arena.remove(at((2, 2)));
     arena
 }
 

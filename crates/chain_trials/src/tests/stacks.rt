@@ -1,0 +1,53 @@
+//! What is tried of links of numbers, over each stack.
+
+use super::agreeing::{check_accepted, check_rows};
+use super::canonical::{check_bounds, layouts};
+use super::copies::copies;
+use super::entries::check_full;
+use super::handed_back::{check_beyond_one, check_counted, check_kept};
+use super::machine::{check_every_reply, check_lists};
+use super::own_rows::tables;
+use super::scripts::{Answers, plays_all, plays_on};
+use super::{ChainsOver, Slot};
+use arena_base::ArenaSlot;
+use arena_ptr::{HeapStack, LimitStack, LimitedStack, SlotStack, ToolPtr};
+use std::alloc::Global;
+use std::process::Abort;
+
+// Walks, loops, places and drains, and layouts and their moves.
+fn check_scripts<A: Answers + Drop>(rt: &impl Abort, alloc: Global) {
+    for table in &tables() {
+        plays_all::<A>(rt, alloc, table);
+    }
+    plays_on::<A>(rt, alloc, layouts());
+}
+
+// What is tried over any stack.
+fn check_links<S: SlotStack<Item = Slot>>(rt: &impl Abort, alloc: Global) {
+    check_rows::<S>(rt, alloc);
+    check_accepted::<S>(rt, alloc);
+    check_lists::<S>(rt, alloc);
+    check_bounds::<S>(rt, alloc);
+    check_kept::<S>(rt, alloc);
+    check_scripts::<ChainsOver<S>>(rt, alloc);
+    plays_on::<ChainsOver<S>>(rt, alloc, copies());
+}
+
+// .. over one that may have a maximum.
+fn check_limited_links<S: LimitStack<Item = Slot>>(rt: &impl Abort, alloc: Global) {
+    check_full::<S>(rt, alloc);
+    check_every_reply::<S>(rt, alloc);
+    check_beyond_one::<S>(rt, alloc);
+    plays_on::<ChainsOver<S>>(rt, alloc, copies());
+}
+
+#[test]
+fn links_over_the_heap_stack(rt: HostRuntime) {
+    check_links::<HeapStack<Slot>>(&rt, rt.alloc());
+    check_counted::<HeapStack<Slot>, HeapStack<ArenaSlot<ToolPtr, u32>>>(&rt, rt.alloc());
+}
+
+#[test]
+fn links_over_a_limited_stack(rt: HostRuntime) {
+    check_limited_links::<LimitedStack<Slot>>(&rt, rt.alloc());
+}
