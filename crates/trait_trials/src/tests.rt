@@ -9,7 +9,6 @@ mod pointers;
 mod rows;
 mod scripts;
 mod sizes;
-mod sparing;
 mod texts;
 mod transfers;
 

@@ -1,8 +1,7 @@
-//! Other pointers: the greatest index, the greatest generation, wide indexes, no generations; a maximum; and memory that is refused.
+//! Other pointers: the greatest index, the greatest generation, wide indexes, no generations; and a maximum.
 
 use super::pointers::{BarePtr, Pair, SmallPtr, TinyInx, TinyPtr, WidePtr};
 use super::scripts::plays;
-use super::sparing::Sparing;
 use super::{Counted, Slot, limited};
 use arena_base::{ArenaSlot, ArenaTrait};
 use arena_ptr::{
@@ -193,22 +192,4 @@ fn check_handed<S: LimitStack<Item = Shared>>(rt: &impl Abort, alloc: Global) {
 #[test]
 fn refused_values_are_dropped(rt: HostRuntime) {
     check_handed::<LimitedStack<Shared>>(&rt, rt.alloc());
-}
-
-// The first request for memory is refused, and so is every other one after it: a call that is refused has asked once.
-const EVERY_OTHER: &str = "\
-# every other request is refused
-Insert Disconnected 1 = Err(AllocError)
-Insert Disconnected 1 = Ok(Pair { inx: Inx8 { number: 1 }, generation: () })
-Apply Disconnected 2 = Err(AllocError)
-Insert Disconnected 2 = Ok(Pair { inx: Inx8 { number: 2 }, generation: () })
-Reserve 9 = Err(AllocError)
-Room = (2, 2)
-Reserve 9 = Ok(())
-Room = (2, 9)
-";
-
-#[test]
-fn refused_memory_is_not_asked_for_again(rt: HostRuntime) {
-    plays_at::<Inx8, (), Sparing<HeapStack<Slot<BarePtr>>>>(&rt, rt.alloc(), EVERY_OTHER);
 }
