@@ -9,7 +9,6 @@ use arena_ptr::{
     ChunkStack, Gen32, HeapStack, Inx32, LimitedStack, Ptr, SetMaxCapacity, SlotStack, ToolPtr,
 };
 use chain_arena::{ChainArena, LinkNoGen};
-use std::alloc::Global;
 use std::fmt::Debug;
 use std::process::Abort;
 
@@ -22,11 +21,6 @@ type ChainsOver<S> = ChainArena<ToolPtr, u32, S>;
 // Looks whether a test got what it wants.
 fn same<T: PartialEq + Debug + Drop>(rt: &impl Abort, what: &str, got: T, want: T) {
     assert_eq!(rt; got, want, "{what}");
-}
-
-// An answer as `Debug` writes it.
-fn text<T: Debug + Drop>(rt: &impl Abort, alloc: Global, answer: T) -> String {
-    format!(in alloc; "{answer:?}").expect(rt, "memory")
 }
 
 // An index.

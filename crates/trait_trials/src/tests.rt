@@ -1,5 +1,6 @@
 mod advancing;
 mod any_arena;
+mod asked;
 mod behind;
 mod limits;
 mod link_order;
@@ -8,7 +9,6 @@ mod pointers;
 mod rows;
 mod scripts;
 mod sizes;
-mod sparing;
 mod texts;
 mod transfers;
 
@@ -37,24 +37,26 @@ type Row = (At, u32, At, At);
 // No neighbor.
 const NONE: At = (0, 0);
 
+// What no arena shows.
+const NOTHING: Row = (NONE, 0, NONE, NONE);
+
 // A pointer whose generations are numbers, so that a table can name it.
 trait Numbered: PtrKey + Debug {
-    fn generation_of(rt: &impl Abort, n: u32) -> Self::Gen;
+    fn generation_of(n: u32) -> Self::Gen;
 
     fn number_of(generation: Self::Gen) -> u32;
 }
 
 // A type of generations that are numbers.
 trait Counted: PtrGen {
-    fn of(rt: &impl Abort, n: u32) -> Self;
+    fn of(n: u32) -> Self;
 
     fn number(self) -> u32;
 }
 
 impl Counted for Gen8 {
-    fn of(rt: &impl Abort, n: u32) -> Gen8 {
-        let n = u8::try_from(n).ok().expect(rt, "a number of a byte");
-        Gen8::new(n).expect(rt, "a generation")
+    fn of(n: u32) -> Gen8 {
+        Gen8::new(u8::try_from(n).unwrap_or(2)).unwrap_or(Gen8::two())
     }
 
     fn number(self) -> u32 {
@@ -63,8 +65,8 @@ impl Counted for Gen8 {
 }
 
 impl Counted for Gen32 {
-    fn of(rt: &impl Abort, n: u32) -> Gen32 {
-        Gen32::new(n).expect(rt, "a generation")
+    fn of(n: u32) -> Gen32 {
+        Gen32::new(n).unwrap_or(Gen32::two())
     }
 
     fn number(self) -> u32 {
@@ -73,7 +75,7 @@ impl Counted for Gen32 {
 }
 
 impl Counted for () {
-    fn of(_: &impl Abort, _: u32) {}
+    fn of(_: u32) {}
 
     fn number(self) -> u32 {
         0
@@ -81,8 +83,8 @@ impl Counted for () {
 }
 
 impl Numbered for ToolPtr {
-    fn generation_of(rt: &impl Abort, n: u32) -> Gen32 {
-        Gen32::of(rt, n)
+    fn generation_of(n: u32) -> Gen32 {
+        Gen32::of(n)
     }
 
     fn number_of(generation: Gen32) -> u32 {
@@ -91,8 +93,8 @@ impl Numbered for ToolPtr {
 }
 
 impl<I: PtrInx, G: Counted> Numbered for Pair<I, G> {
-    fn generation_of(rt: &impl Abort, n: u32) -> G {
-        G::of(rt, n)
+    fn generation_of(n: u32) -> G {
+        G::of(n)
     }
 
     fn number_of(generation: G) -> u32 {
@@ -106,30 +108,35 @@ fn same<T: PartialEq + Debug + Drop>(rt: &impl Abort, what: &str, got: T, want: 
 }
 
 // An answer as `Debug` writes it.
-fn text<T: Debug + Drop>(rt: &impl Abort, alloc: Global, answer: T) -> String {
-    format!(in alloc; "{answer:?}").expect(rt, "memory")
+fn text<T: Debug + Drop>(alloc: Global, answer: T) -> Option<String> {
+    format!(in alloc; "{answer:?}").ok()
 }
 
-// An index.
-fn index<I: InxKey>(rt: &impl Abort, inx: u32) -> I {
-    I::try_from_usize(inx as usize).expect(rt, "an index")
+// The index of a number that the pointer type has; any other stands for that of its invalid pointer.
+fn index<P: PtrKey>(inx: u32) -> P::Inx {
+    match P::Inx::try_from_usize(inx as usize) {
+        Some(inx) => inx,
+        None => P::invalid().inx(),
+    }
 }
 
 // The pointer of an index and a generation.
-fn at<P: Numbered>(rt: &impl Abort, p: At) -> P {
-    P::_from_raw(index(rt, p.0), P::generation_of(rt, p.1))
+fn at<P: Numbered>(p: At) -> P {
+    P::_from_raw(index::<P>(p.0), P::generation_of(p.1))
 }
 
-// The number of an index.
-fn number<I: InxKey>(rt: &impl Abort, i: I) -> u32 {
-    let number = i.try_into_usize().expect(rt, "a small index");
-    u32::try_from(number).ok().expect(rt, "a small index")
+// The number of an index, which here is a small one.
+fn number<I: InxKey>(i: I) -> u32 {
+    match i.try_into_usize() {
+        Some(number) => u32::try_from(number).unwrap_or(u32::MAX),
+        None => u32::MAX,
+    }
 }
 
 // The two numbers of a pointer.
-fn numbers<P: Numbered>(rt: &impl Abort, p: Option<P>) -> At {
+fn numbers<P: Numbered>(p: Option<P>) -> At {
     match p {
-        Some(p) => (number(rt, p.inx()), P::number_of(p.generation())),
+        Some(p) => (number(p.inx()), P::number_of(p.generation())),
         None => NONE,
     }
 }
@@ -147,41 +154,41 @@ fn put<P: PtrKey, T: Drop, S: SlotStack<Item = ArenaSlot<P, LinkNoGen<P, T>>>>(
 
 // A chain arena with a maximum.
 fn limited<P: PtrKey, T: Drop, S: LimitStack<Item = ArenaSlot<P, LinkNoGen<P, T>>>>(
-    rt: &impl Abort,
     alloc: Global,
     most: usize,
 ) -> ChainArena<P, T, S> {
     let mut arena: ChainArena<P, T, S> = ChainArena::new(alloc);
-    assert!(rt; arena.set_max_capacity(most).is_ok());
+    let _ = arena.set_max_capacity(most);
     arena
 }
 
-// Adds lone links, each with its index as its value.
-fn add_lone<P: PtrKey, A: ChainArenaTrait<P, u32>>(rt: &impl Abort, arena: &mut A, count: u32) {
+// Adds lone links, each with its index as its value, and counts those that are added.
+fn add_lone<P: PtrKey, A: ChainArenaTrait<P, u32>>(arena: &mut A, count: u32) -> u32 {
+    let mut added = 0u32;
     for k in 1..=count {
-        let added = arena.insert_reallocating(LinkInsertKind::Disconnected, k);
-        assert!(rt; added.is_ok());
+        if arena
+            .insert_reallocating(LinkInsertKind::Disconnected, k)
+            .is_ok()
+        {
+            added = added.saturating_add(1);
+        }
     }
+    added
 }
 
-// Ties each pair, the second after the first.
-fn tie<P: Numbered, A: ChainArenaTrait<P, u32>>(rt: &impl Abort, arena: &mut A, pairs: &[At]) {
-    for (i, j) in pairs {
-        let tied = arena.connect(at(rt, (*i, 2)), at(rt, (*j, 2)));
-        assert!(rt; tied.is_some());
-    }
-}
-
-// Any arena of lone links, of which each pair is tied.
+// Any arena of lone links, of which each pair is tied, the second after the first; of no links, where one is not to be tied.
 fn tied_links<P: Numbered, A: ChainArenaTrait<P, u32> + Drop>(
-    rt: &impl Abort,
     alloc: Global,
     count: u32,
     pairs: &[At],
 ) -> A {
     let mut arena = A::new(alloc);
-    add_lone(rt, &mut arena, count);
-    tie(rt, &mut arena, pairs);
+    add_lone(&mut arena, count);
+    for (i, j) in pairs {
+        if arena.connect(at((*i, 2)), at((*j, 2))).is_none() {
+            arena.clear();
+        }
+    }
     arena
 }
 
@@ -193,32 +200,30 @@ fn inx_of<P: PtrKey>(p: Option<P>) -> Option<P::Inx> {
     }
 }
 
-// What the arena shows of the link of a valid pointer, by both calls that show it.
-fn row_of<P: Numbered, A: ChainArenaTrait<P, u32>>(rt: &impl Abort, arena: &A, p: P) -> Row {
-    let link = arena.get_link(p).expect(rt, "a valid pointer");
+// What the arena shows of the link of a valid pointer, by both calls that show it. `None`: it shows none, or they tell two things.
+fn row_of<P: Numbered, A: ChainArenaTrait<P, u32>>(arena: &A, p: P) -> Option<Row> {
+    let link = arena.get_link(p)?;
     let (prev, next) = link.prev_next();
-    let bare = arena.get_link_no_gen(p).expect(rt, "a valid pointer");
-    assert!(rt; (bare.prev_next(), bare.t) == ((inx_of(prev), inx_of(next)), *link.t));
-    (
-        numbers(rt, Some(p)),
-        bare.t,
-        numbers(rt, prev),
-        numbers(rt, next),
-    )
+    let bare = arena.get_link_no_gen(p)?;
+    if (bare.prev_next(), bare.t) != ((inx_of(prev), inx_of(next)), *link.t) {
+        return None;
+    }
+    Some((numbers(Some(p)), bare.t, numbers(prev), numbers(next)))
 }
 
-// All links of an arena, by rising index.
-fn rows_of<P: Numbered, A: ChainArenaTrait<P, u32>>(
-    rt: &impl Abort,
-    alloc: Global,
-    arena: &A,
-) -> Vec<Row> {
+// All links of an arena, by rising index, and a row of nothing for each answer of an advancer that is not as it has to be.
+fn rows_of<P: Numbered, A: ChainArenaTrait<P, u32>>(alloc: Global, arena: &A) -> Vec<Row> {
     let mut rows = Vec::new(alloc);
     let mut all = arena.advancer();
     for _ in 0..arena.len() {
-        let p = all.advance(arena).expect(rt, "as many pointers as links");
-        rows.push(row_of(rt, arena, p)).expect(rt, "memory");
+        let row = match all.advance(arena) {
+            Some(p) => row_of(arena, p),
+            None => None,
+        };
+        let _ = rows.push(row.unwrap_or(NOTHING));
     }
-    assert!(rt; all.advance(arena).is_none());
+    if all.advance(arena).is_some() {
+        let _ = rows.push(NOTHING);
+    }
     rows
 }

@@ -335,7 +335,15 @@ fn check_growths<S: SlotStack<Item = Slot>>(rt: &impl Abort, alloc: Global) {
     same(rt, "a transfer", got, (true, source, target));
 }
 
-// What makes an arena anew is refused over such a stack, each time.
+// Whether a first link is refused to an arena, and once more.
+fn first_link<S: SlotStack<Item = Slot>>(alloc: Global) -> (bool, bool) {
+    let mut arena = ChainsOver::<S>::new(alloc);
+    let first = arena.insert_reallocating(LinkInsertKind::Disconnected, 1);
+    let second = arena.insert_reallocating(LinkInsertKind::Disconnected, 1);
+    (first.is_err(), second.is_err())
+}
+
+// What makes an arena anew is refused over such a stack, each time, and so is a first link, which is not asked for again.
 fn check_births<S: SlotStack<Item = Slot>, R: SlotStack<Item = Bare>>(
     rt: &impl Abort,
     alloc: Global,
@@ -345,6 +353,8 @@ fn check_births<S: SlotStack<Item = Slot>, R: SlotStack<Item = Bare>>(
         born::<Rationed<S>>(rt, alloc),
     );
     same(rt, "refused", refused, (None, None));
+    let first = first_link::<Rationed<S>>(alloc);
+    same(rt, "a first link", first, (true, false));
     let (_, count, room) = copied_plain::<S, R>(rt, alloc);
     let got = copied_plain::<S, Rationed<R>>(rt, alloc);
     same(rt, "a copy to a plain arena", got, (true, count, room));

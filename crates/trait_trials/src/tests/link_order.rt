@@ -36,16 +36,8 @@ fn bare(parts: Parts) -> LinkNoGen<ToolPtr, u32> {
 // .. with pointers, as those of an arena, of which the first links have generation two.
 fn with_pointers(rt: &impl Abort, parts: Parts) -> Link<ToolPtr, u32> {
     let (prev, next, t) = parts;
-    let prev = if prev == 0 {
-        None
-    } else {
-        Some(at(rt, (prev, 2)))
-    };
-    let next = if next == 0 {
-        None
-    } else {
-        Some(at(rt, (next, 2)))
-    };
+    let prev = if prev == 0 { None } else { Some(at((prev, 2))) };
+    let next = if next == 0 { None } else { Some(at((next, 2))) };
     Link::new((prev, next), t)
 }
 
@@ -81,8 +73,8 @@ fn links_go_by_their_neighbors_then_by_their_values(rt: HostRuntime) {
 
 #[test]
 fn the_generation_of_a_neighbor_counts_until_it_is_taken_off(rt: HostRuntime) {
-    let old = Link::new((Some(at::<ToolPtr>(&rt, (1, 2))), None), 7);
-    let new = Link::new((Some(at::<ToolPtr>(&rt, (1, 3))), None), 7);
+    let old = Link::new((Some(at::<ToolPtr>((1, 2))), None), 7);
+    let new = Link::new((Some(at::<ToolPtr>((1, 3))), None), 7);
     assert!(rt; is_below(&old, &new));
     assert!(rt; is_same(&old.no_gen_ref(), &new.no_gen_ref()));
     assert!(rt; is_same(&old.no_gen(), &new.no_gen()));

@@ -6,19 +6,17 @@ use arena_base::ArenaTrait;
 use arena_ptr::{InvalidationOption, PtrKey, SlotStack};
 use chain_arena::{Call, ChainArena, LinkInsertKind, Reply, apply};
 use std::alloc::Global;
-use std::process::Abort;
 
 // The reply to an insertion as a value.
 fn applied<P: Numbered, S: SlotStack<Item = Slot<P>>>(
-    rt: &impl Abort,
     alloc: Global,
     arena: &mut ChainArena<P, u32, S>,
     kind: LinkInsertKind<P>,
     t: u32,
-) -> String {
+) -> Option<String> {
     match apply(arena, Call::Insert { kind, t }) {
-        Reply::Inserted(answer) => text(rt, alloc, answer),
-        _ => text(rt, alloc, "another reply"),
+        Reply::Inserted(answer) => text(alloc, answer),
+        _ => text(alloc, "another reply"),
     }
 }
 
@@ -43,37 +41,35 @@ fn drained_two<P: PtrKey, S: SlotStack<Item = Slot<P>>>(
 
 // The answer to a call of the arena's own, ...
 fn own_answer<P: Numbered, S: SlotStack<Item = Slot<P>>>(
-    rt: &impl Abort,
     alloc: Global,
     arena: &mut ChainArena<P, u32, S>,
     call: Do,
-) -> String {
+) -> Option<String> {
     match call {
-        Do::Generation => text(rt, alloc, P::number_of(arena.generation())),
-        Do::SetGeneration(g) => text(rt, alloc, arena.set_generation(P::generation_of(rt, g))),
-        Do::IncGeneration => text(rt, alloc, arena.inc_generation()),
-        Do::Apply(k, t) => applied(rt, alloc, arena, kind(rt, k), t),
-        Do::DrainTwo(p) => text(rt, alloc, drained_two(arena, at(rt, p))),
-        other => trait_answer(rt, alloc, arena, other),
+        Do::Generation => text(alloc, P::number_of(arena.generation())),
+        Do::SetGeneration(g) => text(alloc, arena.set_generation(P::generation_of(g))),
+        Do::IncGeneration => text(alloc, arena.inc_generation()),
+        Do::Apply(k, t) => applied(alloc, arena, kind(k), t),
+        Do::DrainTwo(p) => text(alloc, drained_two(arena, at(p))),
+        other => trait_answer(alloc, arena, other),
     }
 }
 
 // .. to a call of the traits, in the one place that hands such a body an arena.
 fn trait_answer<P: Numbered, S: SlotStack<Item = Slot<P>>>(
-    rt: &impl Abort,
     alloc: Global,
     arena: &mut ChainArena<P, u32, S>,
     call: Do,
-) -> String {
-    answer(rt, alloc, arena, call)
+) -> Option<String> {
+    answer(alloc, arena, call)
 }
 
 impl<P: Numbered, S: SlotStack<Item = Slot<P>>> Answers for ChainArena<P, u32, S> {
-    fn fresh(alloc: Global) -> Self {
-        ChainArena::new(alloc)
+    fn renew(&mut self, alloc: Global) {
+        *self = ChainArena::new(alloc);
     }
 
-    fn answer(&mut self, rt: &impl Abort, alloc: Global, call: Do) -> String {
-        own_answer(rt, alloc, self, call)
+    fn answer(&mut self, alloc: Global, call: Do) -> Option<String> {
+        own_answer(alloc, self, call)
     }
 }

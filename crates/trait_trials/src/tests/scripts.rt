@@ -1,9 +1,10 @@
-//! Calls on arenas of links as rows of tables, each with the text of its answer.
+//! Calls on arenas of links as lines of texts, each with the text of its answer.
 
 use super::advancing::{changes_met, met, walk_along};
+use super::asked::call_of;
 use super::behind::{add_behind, count_of_links, take_next};
-use super::transfers::{carried_as_five, carried_out, carried_to_bare, carried_to_full};
-use super::{At, Numbered, Row, Slot, at, index, number, numbers, rows_of, same, text};
+use super::transfers::{carried_out, carried_to_bare, carried_to_full};
+use super::{At, Numbered, Slot, add_lone, at, index, number, numbers, rows_of, same, text};
 use arena_base::{Advancer, ArenaTrait, CompactArenaTrait};
 use arena_ptr::{
     AllocError, HeapStack, InvalidationOption, InvalidationResult, InxKey, PtrKey, ToolPtr,
@@ -70,8 +71,8 @@ pub(super) enum Do {
     ClearInRoom,
     Reserve(usize),
     CompressWith(bool),
-    // All links carried over to an arena of two links of other pointers, with a generation; to one where each value is five; and
-    // to arenas that refuse them, one of them with a maximum.
+    // All links carried over to an arena of two links of other pointers, with a generation; to one of none, where each value is five;
+    // and to arenas that refuse them, one of them with a maximum.
     CarryOut(u32),
     CarryAsFive,
     CarryToFull,
@@ -85,53 +86,43 @@ pub(super) enum Do {
     IncGeneration,
 }
 
-// A call and the text of its answer, or all links that the arena shows.
-#[derive(Clone, Copy)]
-pub(super) enum Line {
-    Says(Do, &'static str),
-    Shows(&'static [Row]),
-}
-
-// What the lines are about, how many lone links there are at first, which of them are tied, and what follows.
-pub(super) type Script = (&'static str, u32, &'static [At], &'static [Line]);
-
 // A kind that names links by indexes.
-fn kind_by_index<P: PtrKey>(rt: &impl Abort, kind: Kind) -> LinkInsertKind<P> {
+fn kind_by_index<P: PtrKey>(kind: Kind) -> LinkInsertKind<P> {
     match kind {
-        Kind::ChainEndInx(i) => LinkInsertKind::ChainEndInx(index(rt, i)),
-        Kind::ChainStartInx(i) => LinkInsertKind::ChainStartInx(index(rt, i)),
-        Kind::NextToInx(i) => LinkInsertKind::NextToInx(index(rt, i)),
-        Kind::PrevToInx(i) => LinkInsertKind::PrevToInx(index(rt, i)),
+        Kind::ChainEndInx(i) => LinkInsertKind::ChainEndInx(index::<P>(i)),
+        Kind::ChainStartInx(i) => LinkInsertKind::ChainStartInx(index::<P>(i)),
+        Kind::NextToInx(i) => LinkInsertKind::NextToInx(index::<P>(i)),
+        Kind::PrevToInx(i) => LinkInsertKind::PrevToInx(index::<P>(i)),
         Kind::AtInterlinkInx { next_to, prev_to } => LinkInsertKind::AtInterlinkInx {
-            next_to: index(rt, next_to),
-            prev_to: index(rt, prev_to),
+            next_to: index::<P>(next_to),
+            prev_to: index::<P>(prev_to),
         },
         Kind::BridgeInx { end, start } => LinkInsertKind::BridgeInx {
-            end: index(rt, end),
-            start: index(rt, start),
+            end: index::<P>(end),
+            start: index::<P>(start),
         },
         _ => LinkInsertKind::Disconnected,
     }
 }
 
 // A kind of the arena.
-pub(super) fn kind<P: Numbered>(rt: &impl Abort, kind: Kind) -> LinkInsertKind<P> {
+pub(super) fn kind<P: Numbered>(kind: Kind) -> LinkInsertKind<P> {
     match kind {
         Kind::Disconnected => LinkInsertKind::Disconnected,
         Kind::SingleLinkCyclic => LinkInsertKind::SingleLinkCyclic,
-        Kind::ChainEnd(p) => LinkInsertKind::ChainEnd(at(rt, p)),
-        Kind::ChainStart(p) => LinkInsertKind::ChainStart(at(rt, p)),
-        Kind::NextTo(p) => LinkInsertKind::NextTo(at(rt, p)),
-        Kind::PrevTo(p) => LinkInsertKind::PrevTo(at(rt, p)),
+        Kind::ChainEnd(p) => LinkInsertKind::ChainEnd(at(p)),
+        Kind::ChainStart(p) => LinkInsertKind::ChainStart(at(p)),
+        Kind::NextTo(p) => LinkInsertKind::NextTo(at(p)),
+        Kind::PrevTo(p) => LinkInsertKind::PrevTo(at(p)),
         Kind::AtInterlink { next_to, prev_to } => LinkInsertKind::AtInterlink {
-            next_to: at(rt, next_to),
-            prev_to: at(rt, prev_to),
+            next_to: at(next_to),
+            prev_to: at(prev_to),
         },
         Kind::Bridge { end, start } => LinkInsertKind::Bridge {
-            end: at(rt, end),
-            start: at(rt, start),
+            end: at(end),
+            start: at(start),
         },
-        by_index => kind_by_index(rt, by_index),
+        by_index => kind_by_index(by_index),
     }
 }
 
@@ -152,20 +143,6 @@ fn born<P: PtrKey, A: ChainArenaTrait<P, u32> + Drop>(
     Ok((born.is_empty(), born.capacity() >= n))
 }
 
-// Adds so many lone links, the values from 1 on, and counts those that are added.
-fn insert_many<P: PtrKey, A: ChainArenaTrait<P, u32>>(arena: &mut A, count: u32) -> u32 {
-    let mut added = 0u32;
-    for k in 1..=count {
-        if arena
-            .insert_reallocating(LinkInsertKind::Disconnected, k)
-            .is_ok()
-        {
-            added = added.saturating_add(1);
-        }
-    }
-    added
-}
-
 // Clears an arena, and tells whether its capacity stays.
 fn cleared<P: PtrKey, A: ArenaTrait<P, u32>>(arena: &mut A) -> (InvalidationOption<()>, bool) {
     let capacity = arena.capacity();
@@ -175,7 +152,6 @@ fn cleared<P: PtrKey, A: ArenaTrait<P, u32>>(arena: &mut A) -> (InvalidationOpti
 
 // Closes the gaps, adds ten times the number of its call to each value, and lists what the closure saw.
 fn compressed<P: PtrKey, A: ArenaTrait<P, u32>>(
-    rt: &impl Abort,
     alloc: Global,
     arena: &mut A,
     reset: bool,
@@ -183,7 +159,7 @@ fn compressed<P: PtrKey, A: ArenaTrait<P, u32>>(
     let mut seen = Vec::new(alloc);
     let mut calls = 0u32;
     let answer = arena.compress_with(reset, |p: P, t: &mut u32, q: P| {
-        seen.push((p, *t, q)).expect(rt, "memory");
+        let _ = seen.push((p, *t, q));
         calls = calls.saturating_add(10);
         *t = t.saturating_add(calls);
     });
@@ -207,42 +183,49 @@ fn standing<P: Numbered, T: Drop>(entry: Option<(P::Gen, T)>) -> Option<(u32, T)
 }
 
 // An index as a number, 0 for none.
-fn index_told<I: InxKey>(rt: &impl Abort, i: Option<I>) -> u32 {
+fn index_told<I: InxKey>(i: Option<I>) -> u32 {
     match i {
-        Some(i) => number(rt, i),
+        Some(i) => number(i),
         None => 0,
     }
 }
 
 // A link by the indexes of the links before it and after it, and its value.
-fn bare<P: PtrKey>(rt: &impl Abort, link: &LinkNoGen<P, u32>) -> (u32, u32, u32) {
+fn bare<P: PtrKey>(link: &LinkNoGen<P, u32>) -> (u32, u32, u32) {
     let (prev, next) = link.prev_next();
-    (index_told(rt, prev), index_told(rt, next), link.t)
+    (index_told(prev), index_told(next), link.t)
 }
 
 // .. by pointers to these.
-fn with_pointers<P: Numbered>(
-    rt: &impl Abort,
-    link: Option<Link<P, &u32>>,
-) -> Option<(At, At, u32)> {
+fn with_pointers<P: Numbered>(link: Option<Link<P, &u32>>) -> Option<(At, At, u32)> {
     match link {
         Some(link) => {
             let (prev, next) = link.prev_next();
-            Some((numbers(rt, prev), numbers(rt, next), *link.t))
+            Some((numbers(prev), numbers(next), *link.t))
         }
+        None => None,
+    }
+}
+
+// .. at an index, behind its generation.
+fn bare_at<P: Numbered, A: ChainArenaTrait<P, u32>>(
+    arena: &A,
+    i: P::Inx,
+) -> Option<(u32, (u32, u32, u32))> {
+    match arena.get_inx_link_no_gen(i) {
+        Some((generation, link)) => Some((P::number_of(generation), bare::<P>(link))),
         None => None,
     }
 }
 
 // .. of a removal.
 fn removed<P: PtrKey>(
-    rt: &impl Abort,
     answer: InvalidationResult<LinkNoGen<P, u32>>,
 ) -> InvalidationResult<(u32, u32, u32)> {
     match answer {
-        InvalidationResult::Success(link) => InvalidationResult::Success(bare::<P>(rt, &link)),
+        InvalidationResult::Success(link) => InvalidationResult::Success(bare::<P>(&link)),
         InvalidationResult::GenerationOverflow(link) => {
-            InvalidationResult::GenerationOverflow(bare::<P>(rt, &link))
+            InvalidationResult::GenerationOverflow(bare::<P>(&link))
         }
         InvalidationResult::InvalidPtr => InvalidationResult::InvalidPtr,
     }
@@ -250,235 +233,198 @@ fn removed<P: PtrKey>(
 
 // .. to a look at values, ...
 fn look<P: Numbered, A: ChainArenaTrait<P, u32> + Drop>(
-    rt: &impl Abort,
     alloc: Global,
     arena: &A,
     call: Do,
-) -> String {
+) -> Option<String> {
     match call {
-        Do::Len => text(rt, alloc, arena.len()),
-        Do::IsEmpty => text(rt, alloc, arena.is_empty()),
-        Do::HasRoom(n) => text(rt, alloc, arena.capacity() >= n),
-        Do::Maximum => text(rt, alloc, arena.max_capacity()),
-        Do::Counter => text(rt, alloc, counted::<P>(arena.singular_generation())),
-        Do::Contains(p) => text(rt, alloc, arena.contains(at(rt, p))),
-        Do::Get(p) => text(rt, alloc, arena.get(at(rt, p))),
-        Do::GetInx(i) => text(rt, alloc, standing::<P, &u32>(arena.get_inx(index(rt, i)))),
-        other => look_along(rt, alloc, arena, other),
+        Do::Len => text(alloc, arena.len()),
+        Do::IsEmpty => text(alloc, arena.is_empty()),
+        Do::HasRoom(n) => text(alloc, arena.capacity() >= n),
+        Do::Maximum => text(alloc, arena.max_capacity()),
+        Do::Counter => text(alloc, counted::<P>(arena.singular_generation())),
+        Do::Contains(p) => text(alloc, arena.contains(at(p))),
+        Do::Get(p) => text(alloc, arena.get(at(p))),
+        Do::GetInx(i) => text(alloc, standing::<P, &u32>(arena.get_inx(index::<P>(i)))),
+        other => look_along(alloc, arena, other),
     }
 }
 
 // .. along all values, ...
 fn look_along<P: Numbered, A: ChainArenaTrait<P, u32> + Drop>(
-    rt: &impl Abort,
     alloc: Global,
     arena: &A,
     call: Do,
-) -> String {
+) -> Option<String> {
     match call {
         Do::Ends => {
             let ends = (arena.find_first_inx_ptr(), arena.find_last_inx_ptr());
-            text(rt, alloc, ends)
+            text(alloc, ends)
         }
-        Do::Advance(n) => text(rt, alloc, met(rt, arena.advancer(), arena, n)),
+        Do::Advance(n) => text(alloc, met(arena.advancer(), arena, n)),
         Do::AdvanceFrom(i, reverse) => {
-            let advancer = arena.advancer_inx(index(rt, i), reverse);
-            text(rt, alloc, met(rt, advancer, arena, 2))
+            let advancer = arena.advancer_inx(index::<P>(i), reverse);
+            text(alloc, met(advancer, arena, 2))
         }
-        Do::AdvanceEmpty => text(rt, alloc, A::PtrAdvancer::empty().advance(arena)),
-        Do::Birth(n) => text(rt, alloc, born::<P, A>(alloc, n)),
-        Do::Room => text(rt, alloc, (arena.len(), arena.capacity())),
-        Do::Changes => text(rt, alloc, changes_met::<P, A>(rt, alloc)),
-        other => look_at_links(rt, alloc, arena, other),
+        Do::AdvanceEmpty => text(alloc, A::PtrAdvancer::empty().advance(arena)),
+        Do::Birth(n) => text(alloc, born::<P, A>(alloc, n)),
+        Do::Room => text(alloc, (arena.len(), arena.capacity())),
+        Do::Changes => text(alloc, changes_met::<P, A>(alloc)),
+        other => look_at_links(alloc, arena, other),
     }
 }
 
 // .. to a look at links, ...
 fn look_at_links<P: Numbered, A: ChainArenaTrait<P, u32>>(
-    rt: &impl Abort,
     alloc: Global,
     arena: &A,
     call: Do,
-) -> String {
+) -> Option<String> {
     match call {
-        Do::CanInsert(k) => text(rt, alloc, arena.can_insert(kind(rt, k))),
-        Do::Neighbors(p, q) => text(rt, alloc, arena.are_neighbors(at(rt, p), at(rt, q))),
+        Do::CanInsert(k) => text(alloc, arena.can_insert(kind(k))),
+        Do::Neighbors(p, q) => text(alloc, arena.are_neighbors(at(p), at(q))),
         Do::NeighborsInx(i, j) => {
-            let (i, j) = (index(rt, i), index(rt, j));
-            text(rt, alloc, arena.are_neighbors_inx(i, j))
+            let (i, j) = (index::<P>(i), index::<P>(j));
+            text(alloc, arena.are_neighbors_inx(i, j))
         }
-        Do::Link(p) => text(rt, alloc, with_pointers(rt, arena.get_link(at(rt, p)))),
-        Do::LinkNoGen(p) => text(rt, alloc, arena.get_link_no_gen(at(rt, p)).is_some()),
-        Do::LinkNoGenInx(i) => {
-            let (generation, link) = arena.get_inx_link_no_gen(index(rt, i)).expect(rt, "a link");
-            text(rt, alloc, (P::number_of(generation), bare::<P>(rt, link)))
-        }
-        other => look_along_links(rt, alloc, arena, other),
+        Do::Link(p) => text(alloc, with_pointers(arena.get_link(at(p)))),
+        Do::LinkNoGen(p) => text(alloc, arena.get_link_no_gen(at(p)).is_some()),
+        Do::LinkNoGenInx(i) => text(alloc, bare_at(arena, index::<P>(i))),
+        other => look_along_links(alloc, arena, other),
     }
 }
 
 // .. along them.
 fn look_along_links<P: Numbered, A: ChainArenaTrait<P, u32>>(
-    rt: &impl Abort,
     alloc: Global,
     arena: &A,
     call: Do,
-) -> String {
+) -> Option<String> {
     match call {
         Do::Along(p) => {
-            let along = arena.advancer_chain(at(rt, p));
-            text(rt, alloc, met(rt, along, arena, 5))
+            let along = arena.advancer_chain(at(p));
+            text(alloc, met(along, arena, 5))
         }
-        Do::AlongAll(p) => text(rt, alloc, walk_along(alloc, arena, at(rt, p))),
-        Do::CountOfLinks => text(rt, alloc, count_of_links(arena)),
-        Do::All => text(rt, alloc, rows_of(rt, alloc, arena)),
-        _ => text(rt, alloc, "no call of the traits"),
+        Do::AlongAll(p) => text(alloc, walk_along(alloc, arena, at(p))),
+        Do::CountOfLinks => text(alloc, count_of_links(arena)),
+        Do::All => text(alloc, rows_of(alloc, arena)),
+        _ => text(alloc, "no call of the traits"),
     }
 }
 
 // The answer to a call of the traits: to a change of links, ...
 pub(super) fn answer<P: Numbered, A: ChainArenaTrait<P, u32> + CompactArenaTrait<P, u32> + Drop>(
-    rt: &impl Abort,
     alloc: Global,
     arena: &mut A,
     call: Do,
-) -> String {
+) -> Option<String> {
     match call {
-        Do::Insert(k, t) => text(rt, alloc, arena.insert_reallocating(kind(rt, k), t)),
-        Do::InsertMany(n) => text(rt, alloc, insert_many(arena, n)),
-        Do::InsertWithin(k, t) => text(rt, alloc, arena.insert_within_capacity(kind(rt, k), t)),
-        Do::Connect(p, q) => text(rt, alloc, arena.connect(at(rt, p), at(rt, q))),
-        Do::BreakPrev(p) => text(rt, alloc, arena.break_prev(at(rt, p))),
-        Do::BreakNext(p) => text(rt, alloc, arena.break_next(at(rt, p))),
-        Do::Exchange(p, q) => text(rt, alloc, arena.exchange_next(at(rt, p), at(rt, q))),
-        other => change_links(rt, alloc, arena, other),
+        Do::Insert(k, t) => text(alloc, arena.insert_reallocating(kind(k), t)),
+        Do::InsertMany(n) => text(alloc, add_lone(arena, n)),
+        Do::InsertWithin(k, t) => text(alloc, arena.insert_within_capacity(kind(k), t)),
+        Do::Connect(p, q) => text(alloc, arena.connect(at(p), at(q))),
+        Do::BreakPrev(p) => text(alloc, arena.break_prev(at(p))),
+        Do::BreakNext(p) => text(alloc, arena.break_next(at(p))),
+        Do::Exchange(p, q) => text(alloc, arena.exchange_next(at(p), at(q))),
+        other => change_links(alloc, arena, other),
     }
 }
 
 // .. to another change of links, ...
 fn change_links<P: Numbered, A: ChainArenaTrait<P, u32> + CompactArenaTrait<P, u32> + Drop>(
-    rt: &impl Abort,
     alloc: Global,
     arena: &mut A,
     call: Do,
-) -> String {
+) -> Option<String> {
     match call {
-        Do::RemoveLink(p) => text(
-            rt,
-            alloc,
-            removed::<P>(rt, arena.remove_link_no_gen(at(rt, p))),
-        ),
-        Do::Canonical(reset) => text(rt, alloc, arena.compress_canonical(reset)),
-        Do::AddBehind(p, t) => text(rt, alloc, add_behind(arena, at(rt, p), t)),
-        Do::TakeNext(i) => text(rt, alloc, index_told(rt, take_next(arena, index(rt, i)))),
-        Do::CarryOut(g) => carried_out::<P, A, HeapStack<Slot<ToolPtr>>>(rt, alloc, arena, g),
-        Do::CarryAsFive => carried_as_five::<P, A, HeapStack<Slot<ToolPtr>>>(rt, alloc, arena),
-        Do::CarryToFull => carried_to_full(rt, alloc, arena),
-        Do::CarryToBare(most) => carried_to_bare(rt, alloc, arena, most),
-        other => change(rt, alloc, arena, other),
+        Do::RemoveLink(p) => text(alloc, removed::<P>(arena.remove_link_no_gen(at(p)))),
+        Do::Canonical(reset) => text(alloc, arena.compress_canonical(reset)),
+        Do::AddBehind(p, t) => text(alloc, add_behind(arena, at(p), t)),
+        Do::TakeNext(i) => text(alloc, index_told(take_next(arena, index::<P>(i)))),
+        Do::CarryOut(g) => carried_by(alloc, arena, g, None),
+        Do::CarryAsFive => carried_by(alloc, arena, 7, Some(5)),
+        Do::CarryToFull => carried_to_full(alloc, arena),
+        Do::CarryToBare(most) => carried_to_bare(alloc, arena, most),
+        other => change(alloc, arena, other),
     }
+}
+
+// .. to a transfer to another arena, in the one place that names its type, ...
+fn carried_by<P: Numbered, A: ChainArenaTrait<P, u32> + CompactArenaTrait<P, u32>>(
+    alloc: Global,
+    arena: &mut A,
+    generation: u32,
+    answered: Option<u32>,
+) -> Option<String> {
+    carried_out::<P, A, HeapStack<Slot<ToolPtr>>>(alloc, arena, generation, answered)
 }
 
 // .. to a change of any arena, ...
 fn change<P: Numbered, A: ChainArenaTrait<P, u32> + Drop>(
-    rt: &impl Abort,
     alloc: Global,
     arena: &mut A,
     call: Do,
-) -> String {
+) -> Option<String> {
     match call {
-        Do::Write(p, t) => text(rt, alloc, overwritten(arena.get_mut(at(rt, p)), t)),
-        Do::WriteInx(i, t) => text(rt, alloc, overwritten(arena.get_inx_mut(index(rt, i)), t)),
-        Do::Remove(p) => text(rt, alloc, arena.remove(at(rt, p))),
+        Do::Write(p, t) => text(alloc, overwritten(arena.get_mut(at(p)), t)),
+        Do::WriteInx(i, t) => text(alloc, overwritten(arena.get_inx_mut(index::<P>(i)), t)),
+        Do::Remove(p) => text(alloc, arena.remove(at(p))),
         Do::RemoveInx(i) => {
-            let removed = arena.remove_inx(index(rt, i)).allow();
-            text(rt, alloc, standing::<P, u32>(removed))
+            let removed = arena.remove_inx(index::<P>(i)).allow();
+            text(alloc, standing::<P, u32>(removed))
         }
-        Do::Invalidate(p) => text(rt, alloc, arena.invalidate(at(rt, p))),
-        other => change_whole(rt, alloc, arena, other),
+        Do::Invalidate(p) => text(alloc, arena.invalidate(at(p))),
+        other => change_whole(alloc, arena, other),
     }
 }
 
 // .. to a change of all of it, ...
 fn change_whole<P: Numbered, A: ChainArenaTrait<P, u32> + Drop>(
-    rt: &impl Abort,
     alloc: Global,
     arena: &mut A,
     call: Do,
-) -> String {
+) -> Option<String> {
     match call {
-        Do::Clear => text(rt, alloc, arena.clear()),
-        Do::ClearInRoom => text(rt, alloc, cleared(arena)),
-        Do::Reserve(n) => text(rt, alloc, arena.reallocate_min_capacity(n)),
-        Do::CompressWith(reset) => text(rt, alloc, compressed(rt, alloc, arena, reset)),
-        other => look(rt, alloc, arena, other),
+        Do::Clear => text(alloc, arena.clear()),
+        Do::ClearInRoom => text(alloc, cleared(arena)),
+        Do::Reserve(n) => text(alloc, arena.reallocate_min_capacity(n)),
+        Do::CompressWith(reset) => text(alloc, compressed(alloc, arena, reset)),
+        other => look(alloc, arena, other),
     }
 }
 
 // An arena of links that answers calls.
 pub(super) trait Answers {
-    fn fresh(alloc: Global) -> Self;
+    // Begins anew.
+    fn renew(&mut self, alloc: Global);
 
-    fn answer(&mut self, rt: &impl Abort, alloc: Global, call: Do) -> String;
+    // The text of an answer, if there is memory for it.
+    fn answer(&mut self, alloc: Global, call: Do) -> Option<String>;
 }
 
-// Adds lone links, each with its index as its value, and ties each pair, the second after the first.
-fn begins<A: Answers>(rt: &impl Abort, alloc: Global, arena: &mut A, count: u32, pairs: &[At]) {
-    for k in 1..=count {
-        arena.answer(rt, alloc, Do::Insert(Kind::Disconnected, k));
-    }
-    for (i, j) in pairs {
-        let tied = arena.answer(rt, alloc, Do::Connect((*i, 2), (*j, 2)));
-        same(rt, "tied", tied.as_str(), "Some(())");
-    }
-}
-
-// Each line says its text, or shows its links.
-pub(super) fn plays<A: Answers>(
-    rt: &impl Abort,
-    alloc: Global,
-    what: &str,
-    arena: &mut A,
-    lines: &[Line],
-) {
-    for line in lines {
-        match *line {
-            Line::Says(call, want) => {
-                let got = arena.answer(rt, alloc, call);
-                same(rt, what, got.as_str(), want);
-            }
-            Line::Shows(want) => {
-                let got = arena.answer(rt, alloc, Do::All);
-                same(rt, what, got.as_str(), text(rt, alloc, want).as_str());
-            }
+// A line begins a new arena, or its call has the answer after the sign.
+fn plays_line<A: Answers>(rt: &impl Abort, alloc: Global, arena: &mut A, line: &str) {
+    match line.split_once(" = ") {
+        Some((call, want)) => {
+            let call = call_of(call).expect(rt, "a call");
+            let got = arena.answer(alloc, call).expect(rt, "an answer");
+            same(rt, line, got.as_str(), want);
+        }
+        None => {
+            assert!(rt; line.starts_with('#'));
+            arena.renew(alloc);
         }
     }
 }
 
-// The arena of a script after its lines.
-pub(super) fn played<A: Answers>(rt: &impl Abort, alloc: Global, script: Script) -> A {
-    let (what, count, pairs, lines) = script;
-    let mut arena = A::fresh(alloc);
-    begins(rt, alloc, &mut arena, count, pairs);
-    plays(rt, alloc, what, &mut arena, lines);
-    arena
-}
-
-// Each script on a new arena.
-pub(super) fn plays_all<A: Answers + Drop>(rt: &impl Abort, alloc: Global, table: &[Script]) {
-    for script in table {
-        let _: A = played(rt, alloc, *script);
+// All lines of a table.
+pub(super) fn plays<A: Answers>(rt: &impl Abort, alloc: Global, arena: &mut A, table: &str) {
+    let mut rest = table;
+    for _ in 0..table.len() {
+        if let Some((line, after)) = rest.split_once('\n') {
+            plays_line(rt, alloc, arena, line);
+            rest = after;
+        }
     }
-}
-
-// Each script on a new arena, and lines that follow on it.
-pub(super) fn plays_on<A: Answers + Drop>(
-    rt: &impl Abort,
-    alloc: Global,
-    table: &[(Script, &[Line])],
-) {
-    for (script, lines) in table {
-        let mut arena: A = played(rt, alloc, *script);
-        plays(rt, alloc, script.0, &mut arena, lines);
-    }
+    assert!(rt; rest.is_empty());
 }

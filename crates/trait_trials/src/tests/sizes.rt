@@ -1,7 +1,7 @@
 //! How many bytes a slot takes, that links may be copied where their values may, and what they are made of.
 ghost use Rattle.std.specs.Prelude.{◌≡◌};
 
-use super::{at, index, same};
+use super::{at, same};
 use arena_base::ArenaSlot;
 use arena_ptr::{Inx32, Ptr, ToolPtr};
 use chain_arena::{Link, LinkNoGen};
@@ -24,15 +24,12 @@ fn twice<P: Ptr, T: Copy>(link: LinkNoGen<P, T>) -> (LinkNoGen<P, T>, LinkNoGen<
 #[test]
 fn links_show_their_parts_and_are_copied(rt: HostRuntime) {
     same(&rt, "bytes", slot_size(), 24);
-    let (i, j) = (Some(index::<Inx32>(&rt, 5)), Some(index::<Inx32>(&rt, 9)));
+    let (i, j) = (Inx32::new(5), Inx32::new(9));
     let (link, again) = twice::<ToolPtr, u8>(LinkNoGen::<ToolPtr, u8>::new((i, j), 7));
     let parts = (link.prev(), link.next(), link.prev_next(), link.t);
     same(&rt, "without generations", parts, (i, j, (i, j), 7));
     same(&rt, "copied", (again.prev_next(), again.t), ((i, j), 7));
-    let (p, q) = (
-        Some(at::<ToolPtr>(&rt, (5, 2))),
-        Some(at::<ToolPtr>(&rt, (9, 2))),
-    );
+    let (p, q) = (Some(at::<ToolPtr>((5, 2))), Some(at::<ToolPtr>((9, 2))));
     let link = Link::new((p, q), 'a');
     let parts = (link.prev(), link.next(), link.prev_next(), link.t);
     same(&rt, "with generations", parts, (p, q, (p, q), 'a'));

@@ -1,7 +1,7 @@
 //! The texts of links and of arenas of links.
 
 use super::pointers::BarePtr;
-use super::{at, index, put, same};
+use super::{at, put, same};
 use arena_base::{ArenaSlot, ArenaTrait};
 use arena_ptr::{HeapStack, Inx32, Ptr, SlotStack, ToolPtr};
 use chain_arena::{ChainArena, Link, LinkInsertKind, LinkNoGen};
@@ -83,11 +83,11 @@ fn link_reads<T: Debug + Display>(
 #[test]
 fn links_show_indexes_in_hexadecimal(rt: HostRuntime) {
     let alloc = rt.alloc();
-    let end = LinkNoGen::<ToolPtr, u32>::new((Some(index::<Inx32>(&rt, 10)), None), 7);
+    let end = LinkNoGen::<ToolPtr, u32>::new((Inx32::new(10), None), 7);
     link_reads(&rt, alloc, &end, "{a, (end)} 7", "{a, (end)} 7");
     let beside = (
-        Some(at::<ToolPtr>(&rt, (26, 11))),
-        Some(at::<ToolPtr>(&rt, (0xabcdef, 3))),
+        Some(at::<ToolPtr>((26, 11))),
+        Some(at::<ToolPtr>((0xabcdef, 3))),
     );
     let between = Link::new(beside, "B");
     let (debug, display) = ("{1a, abcdef} \"B\"", "{1a, abcdef} B");
@@ -113,7 +113,7 @@ fn only_the_alternate_mark_reaches_the_value_of_a_link(rt: HostRuntime) {
         "{(start), (end)} display#",
     ];
     teller_reads(&rt, rt.alloc(), &lone, texts);
-    let first: Link<ToolPtr, Teller> = Link::new((None, Some(at::<ToolPtr>(&rt, (1, 2)))), Teller);
+    let first: Link<ToolPtr, Teller> = Link::new((None, Some(at::<ToolPtr>((1, 2)))), Teller);
     let texts = [
         "{(start), 1} debug",
         "{(start), 1} debug#",
