@@ -24,6 +24,7 @@ pub fn insert<P: Numbered, S: SlotStack<Item = Slot<P>>>(
 }
 
 // So many lone links.
+#[inline(never)]
 fn insert_alone<P: Numbered, S: SlotStack<Item = Slot<P>>>(
     arena: &mut Chains<P, S>,
     links: u32,
@@ -37,6 +38,7 @@ fn insert_alone<P: Numbered, S: SlotStack<Item = Slot<P>>>(
 }
 
 // Links at the end of each chain in turn, until it has so many.
+#[inline(never)]
 fn insert_at_ends<P: Numbered, S: SlotStack<Item = Slot<P>>>(
     arena: &mut Chains<P, S>,
     starts: &[P],
@@ -54,6 +56,7 @@ fn insert_at_ends<P: Numbered, S: SlotStack<Item = Slot<P>>>(
 }
 
 // A link directly behind the first of each pair.
+#[inline(never)]
 fn insert_beside<P: Numbered, S: SlotStack<Item = Slot<P>>>(
     arena: &mut Chains<P, S>,
     picks: &[(P, P)],

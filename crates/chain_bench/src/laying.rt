@@ -17,19 +17,28 @@ pub fn lay<P: Numbered, S: SlotStack<Item = Slot<P>>>(
 ) -> Result<Seen, Fault> {
     match laying {
         Laying::Copy => copy(alloc, arena),
-        Laying::CloseGaps => {
-            arena.compress(false);
-            Ok(probe(arena))
-        }
-        Laying::Canonical => {
-            arena.compress_canonical(false);
-            Ok(probe(arena))
-        }
+        Laying::CloseGaps => Ok(close_gaps(arena)),
+        Laying::Canonical => Ok(lay_out(arena)),
         Laying::Transfer => transfer(alloc, arena),
     }
 }
 
+// The links brought together.
+#[inline(never)]
+fn close_gaps<P: Numbered, S: SlotStack<Item = Slot<P>>>(arena: &mut Chains<P, S>) -> Seen {
+    arena.compress(false);
+    probe(arena)
+}
+
+// The chains laid out one after another.
+#[inline(never)]
+fn lay_out<P: Numbered, S: SlotStack<Item = Slot<P>>>(arena: &mut Chains<P, S>) -> Seen {
+    arena.compress_canonical(false);
+    probe(arena)
+}
+
 // A copy, which is dropped then.
+#[inline(never)]
 fn copy<P: Numbered, S: SlotStack<Item = Slot<P>>>(
     alloc: Global,
     arena: &Chains<P, S>,
@@ -39,6 +48,7 @@ fn copy<P: Numbered, S: SlotStack<Item = Slot<P>>>(
 }
 
 // All links carried over to a new arena, which is dropped then.
+#[inline(never)]
 fn transfer<P: Numbered, S: SlotStack<Item = Slot<P>>>(
     alloc: Global,
     arena: &mut Chains<P, S>,

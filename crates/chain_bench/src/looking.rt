@@ -24,6 +24,7 @@ pub fn look<P: Numbered, S: SlotStack<Item = Slot<P>>>(
 }
 
 // The first link of each pair, with the pointers to its neighbours.
+#[inline(never)]
 fn look_at_links<P: Numbered, S: SlotStack<Item = Slot<P>>>(
     arena: &Chains<P, S>,
     picks: &[(P, P)],
@@ -39,6 +40,7 @@ fn look_at_links<P: Numbered, S: SlotStack<Item = Slot<P>>>(
 }
 
 // All links along the chains, by the iterator.
+#[inline(never)]
 fn walk<P: Numbered, S: SlotStack<Item = Slot<P>>>(arena: &Chains<P, S>, starts: &[P]) -> Seen {
     let mut seen = Seen::nothing();
     for start in starts {
@@ -52,6 +54,7 @@ fn walk<P: Numbered, S: SlotStack<Item = Slot<P>>>(arena: &Chains<P, S>, starts:
 }
 
 // All links along the chains, by the advancer.
+#[inline(never)]
 fn advance<P: Numbered, S: SlotStack<Item = Slot<P>>>(arena: &Chains<P, S>, starts: &[P]) -> Seen {
     let mut seen = Seen::nothing();
     for start in starts {
@@ -67,6 +70,7 @@ fn advance<P: Numbered, S: SlotStack<Item = Slot<P>>>(arena: &Chains<P, S>, star
 }
 
 // All links by their indexes.
+#[inline(never)]
 fn iterate<P: Numbered, S: SlotStack<Item = Slot<P>>>(arena: &Chains<P, S>) -> Seen {
     let mut seen = Seen::nothing();
     for (p, link) in arena.iter_link_no_gen() {

@@ -10,6 +10,13 @@ pub struct Plan {
     pub rounds: u32,
 }
 
+impl Plan {
+    /// How many chains that makes; links that are too few for one more are left out.
+    pub fn chains(self) -> u32 {
+        self.links.checked_div(self.chain).unwrap_or(0)
+    }
+}
+
 /// The arenas are made alone, or the rounds are done too, or these are timed.
 #[derive(Clone, Copy)]
 pub enum Part {

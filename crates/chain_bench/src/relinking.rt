@@ -22,6 +22,7 @@ pub fn relink<P: Numbered, S: SlotStack<Item = Slot<P>>>(
 }
 
 // Exchanges the nexts of each pair.
+#[inline(never)]
 fn exchange<P: Numbered, S: SlotStack<Item = Slot<P>>>(
     arena: &mut Chains<P, S>,
     picks: &[(P, P)],
@@ -34,6 +35,7 @@ fn exchange<P: Numbered, S: SlotStack<Item = Slot<P>>>(
 }
 
 // Cuts the links of each pair apart, and connects them again: two calls.
+#[inline(never)]
 fn break_and_connect<P: Numbered, S: SlotStack<Item = Slot<P>>>(
     arena: &mut Chains<P, S>,
     picks: &[(P, P)],
@@ -47,6 +49,7 @@ fn break_and_connect<P: Numbered, S: SlotStack<Item = Slot<P>>>(
 }
 
 // Removes the first link of each pair, and inserts one with its value behind the second: two calls.
+#[inline(never)]
 fn replace<P: Numbered, S: SlotStack<Item = Slot<P>>>(
     arena: &mut Chains<P, S>,
     picks: &[(P, P)],

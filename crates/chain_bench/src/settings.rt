@@ -15,10 +15,16 @@ use arena_ptr::{PtrKey, SlotStack};
 use chain_arena::ChainArenaTrait;
 use std::alloc::Global;
 
-/// The arenas of a case, one, or one for each round; the first links of their chains; and the pairs of links that are named.
+/// The arenas of a case, one, or one for each round, and the links that it names.
 #[derive(Drop)]
 pub struct Setting<P: PtrKey, S: SlotStack<Item = Slot<P>>> {
     arenas: Vec<Chains<P, S>>,
+    names: Names<P>,
+}
+
+// The first links of the chains, and pairs of links.
+#[derive(Drop)]
+struct Names<P> {
     starts: Vec<P>,
     picks: Vec<(P, P)>,
 }
@@ -33,47 +39,53 @@ impl<P: Numbered, S: SlotStack<Item = Slot<P>>> Setting<P, S> {
             starts,
         } = shaped;
         let picks = picks_of(alloc, case.picks, &arena, links, &mut numbers)?;
-        let mut arenas = Vec::new(alloc);
-        if case.act.uses_up() {
-            for _ in 1..plan.rounds {
-                arenas.push(arena.clone(alloc)?)?;
-            }
-        }
-        arenas.push(arena)?;
         Ok(Setting {
-            arenas,
-            starts,
-            picks,
+            arenas: arenas_of(alloc, arena, case.act, plan.rounds)?,
+            names: Names { starts, picks },
         })
     }
 
     /// Does all rounds.
     pub fn run(&mut self, alloc: Global, act: Act, plan: Plan) -> Result<Seen, Fault> {
-        let Setting {
-            arenas,
-            starts,
-            picks,
-        } = self;
-        let rounds = if act.uses_up() { 1 } else { plan.rounds };
         let mut seen = Seen::nothing();
-        for arena in arenas.iter_mut() {
-            for _ in 0..rounds {
-                let names = Names {
-                    starts: starts.as_slice(),
-                    picks: picks.as_slice(),
-                };
-                seen.joins(round(alloc, act, plan, arena, names)?);
-            }
+        for arena in self.arenas.iter_mut() {
+            seen.joins(rounds(alloc, act, plan, arena, &self.names)?);
         }
         Ok(seen)
     }
 }
 
-// The links that a round names.
-#[derive(Clone, Copy)]
-struct Names<'a, P> {
-    starts: &'a [P],
-    picks: &'a [(P, P)],
+// An arena, and copies of it where each round needs its own.
+fn arenas_of<P: PtrKey, S: SlotStack<Item = Slot<P>>>(
+    alloc: Global,
+    arena: Chains<P, S>,
+    act: Act,
+    rounds: u32,
+) -> Result<Vec<Chains<P, S>>, Fault> {
+    let mut arenas = Vec::new(alloc);
+    if act.uses_up() {
+        for _ in 1..rounds {
+            arenas.push(arena.clone(alloc)?)?;
+        }
+    }
+    arenas.push(arena)?;
+    Ok(arenas)
+}
+
+// Does a case on an arena: once, or all rounds where it is left as it was.
+fn rounds<P: Numbered, S: SlotStack<Item = Slot<P>>>(
+    alloc: Global,
+    act: Act,
+    plan: Plan,
+    arena: &mut Chains<P, S>,
+    names: &Names<P>,
+) -> Result<Seen, Fault> {
+    let count = if act.uses_up() { 1 } else { plan.rounds };
+    let mut seen = Seen::nothing();
+    for _ in 0..count {
+        seen.joins(round(alloc, act, plan, arena, names)?);
+    }
+    Ok(seen)
 }
 
 // Does a case once.
@@ -82,9 +94,10 @@ fn round<P: Numbered, S: SlotStack<Item = Slot<P>>>(
     act: Act,
     plan: Plan,
     arena: &mut Chains<P, S>,
-    names: Names<'_, P>,
+    names: &Names<P>,
 ) -> Result<Seen, Fault> {
-    let Names { starts, picks } = names;
+    let starts = names.starts.as_slice();
+    let picks = names.picks.as_slice();
     match act {
         Act::Insert(insertion) => insert(insertion, plan, arena, starts, picks),
         Act::Relink(relinking) => relink(relinking, arena, picks),

@@ -1,4 +1,4 @@
-// The arenas that cases begin with. A link's value is the number of its insertion.
+// The arenas that cases begin with. A link's value is its place in its chain, from 0.
 
 use crate::cases::Shape;
 use crate::faults::Fault;
@@ -8,7 +8,6 @@ use arena_base::{ArenaSlot, ArenaTrait};
 use arena_ptr::{PtrKey, SlotStack, ToolPtr};
 use chain_arena::{ChainArena, ChainArenaTrait, LinkInsertKind, LinkNoGen};
 use std::alloc::Global;
-use std::mem;
 
 /// A slot of a link of a number.
 pub type Slot<P> = ArenaSlot<P, LinkNoGen<P, u32>>;
@@ -52,64 +51,58 @@ impl<P: PtrKey, S: SlotStack<Item = Slot<P>>> Shaped<P, S> {
         };
         match shape {
             Shape::Empty => {}
-            Shape::Starts => shaped.add(links.checked_div(chain).unwrap_or(0), 1, false)?,
-            Shape::Chains => shaped.add(links, chain, false)?,
-            Shape::Rings => shaped.add(links, chain, true)?,
+            Shape::Starts => shaped.add(plan.chains(), 1, false)?,
+            Shape::Chains => shaped.add(plan.chains(), chain, false)?,
+            Shape::Rings => shaped.add(plan.chains(), chain, true)?,
             Shape::Tangled => {
                 shaped.add(links, 1, false)?;
-                shaped.tangle(chain, numbers)?;
+                shaped.tangle(chain, numbers);
             }
             Shape::HalfHoles => {
-                shaped.add(links.saturating_mul(2), chain.saturating_mul(2), false)?;
+                shaped.add(plan.chains(), chain.saturating_mul(2), false)?;
                 shaped.thin();
             }
-            Shape::BehindHoles => shaped.add_behind_holes(alloc, links, chain)?,
+            Shape::BehindHoles => {
+                shaped.add(links, 1, false)?;
+                shaped.add(plan.chains(), chain, false)?;
+                shaped.remove_first(links);
+            }
         }
         Ok(shaped)
     }
 
-    // Adds so many links in chains, or in rings, of so many, one after another.
-    fn add(&mut self, links: u32, chain: u32, are_rings: bool) -> Result<(), Fault> {
-        let mut last = None;
-        let mut left = 0u32;
-        for k in 0..links {
-            if left == 0 {
-                last = None;
-                left = chain;
+    // Adds so many chains, or rings, of so many links, one after another.
+    fn add(&mut self, chains: u32, chain: u32, are_rings: bool) -> Result<(), Fault> {
+        for _ in 0..chains {
+            let mut last = self.add_link(kind_behind(None, are_rings), 0)?;
+            self.starts.push(last)?;
+            for k in 1..chain {
+                last = self.add_link(kind_behind(Some(last), are_rings), k)?;
             }
-            let p = self
-                .arena
-                .insert_reallocating(kind_behind(last, are_rings), k)?;
-            self.links.push(p)?;
-            if last.is_none() {
-                self.starts.push(p)?;
-            }
-            last = Some(p);
-            left = left.saturating_sub(1);
         }
         Ok(())
     }
 
+    fn add_link(&mut self, kind: LinkInsertKind<P>, t: u32) -> Result<P, Fault> {
+        let p = self.arena.insert_reallocating(kind, t)?;
+        self.links.push(p)?;
+        Ok(p)
+    }
+
     // Ties lone links into chains of so many, in an order that looks random.
-    fn tangle(&mut self, chain: u32, numbers: &mut Numbers) -> Result<(), Fault> {
+    fn tangle(&mut self, chain: u32, numbers: &mut Numbers) {
         numbers.shuffle(self.links.as_mut_slice());
-        self.starts.clear();
-        let mut last = None;
         let mut left = 0u32;
+        let mut last = P::invalid();
         for p in &self.links {
-            match last {
-                Some(q) if left > 0 => {
-                    self.arena.connect(q, *p);
-                }
-                _ => {
-                    self.starts.push(*p)?;
-                    left = chain;
-                }
+            if left > 0 {
+                self.arena.connect(last, *p);
+            } else {
+                left = chain;
             }
-            last = Some(*p);
             left = left.saturating_sub(1);
+            last = *p;
         }
-        Ok(())
     }
 
     // Removes every second link.
@@ -123,16 +116,11 @@ impl<P: PtrKey, S: SlotStack<Item = Slot<P>>> Shaped<P, S> {
         }
     }
 
-    // Adds so many links in chains behind as many holes.
-    fn add_behind_holes(&mut self, alloc: Global, links: u32, chain: u32) -> Result<(), Fault> {
-        self.add(links, 1, false)?;
-        let before = mem::replace(&mut self.links, Vec::new(alloc));
-        self.starts.clear();
-        self.add(links, chain, false)?;
-        for p in &before {
+    // Removes the first of the links.
+    fn remove_first(&mut self, count: u32) {
+        for p in self.links.iter().take(count as usize) {
             self.arena.remove(*p);
         }
-        Ok(())
     }
 }
 

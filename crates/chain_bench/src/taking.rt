@@ -18,6 +18,7 @@ pub fn take<P: Numbered, S: SlotStack<Item = Slot<P>>>(
 }
 
 // One chain after another.
+#[inline(never)]
 fn drain_chains<P: Numbered, S: SlotStack<Item = Slot<P>>>(
     arena: &mut Chains<P, S>,
     starts: &[P],
@@ -35,6 +36,7 @@ fn drain_chains<P: Numbered, S: SlotStack<Item = Slot<P>>>(
 }
 
 // All links by their indexes.
+#[inline(never)]
 fn drain_all<P: Numbered, S: SlotStack<Item = Slot<P>>>(arena: &mut Chains<P, S>) -> Seen {
     let mut seen = Seen::nothing();
     for gone in arena.drain() {
