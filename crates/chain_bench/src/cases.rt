@@ -220,13 +220,13 @@ const CASES: [(&str, Shape, Picks, Act); 19] = [
 
 /// The case of a name.
 pub fn case_of(name: &str) -> Option<Case> {
-    for (known, shape, picks, act) in CASES {
-        if known == name {
+    for row in &CASES {
+        if row.0 == name {
             return Some(Case {
-                name: known,
-                shape,
-                picks,
-                act,
+                name: row.0,
+                shape: row.1,
+                picks: row.2,
+                act: row.3,
             });
         }
     }

@@ -15,61 +15,66 @@ use arena_ptr::{PtrKey, SlotStack};
 use chain_arena::ChainArenaTrait;
 use std::alloc::Global;
 
-/// The arenas of a case, one, or one for each round, and the links that it names.
+/// What a case needs: its arena, copies of it where each round uses one up, and the pairs of links that it names.
 #[derive(Drop)]
 pub struct Setting<P: PtrKey, S: SlotStack<Item = Slot<P>>> {
-    arenas: Vec<Chains<P, S>>,
-    names: Names<P>,
-}
-
-// The first links of the chains, and pairs of links.
-#[derive(Drop)]
-struct Names<P> {
-    starts: Vec<P>,
+    first: Shaped<P, S>,
+    copies: Vec<Chains<P, S>>,
     picks: Vec<(P, P)>,
 }
 
 impl<P: Numbered, S: SlotStack<Item = Slot<P>>> Setting<P, S> {
     pub fn of(alloc: Global, case: Case, plan: Plan) -> Result<Self, Fault> {
         let mut numbers = Numbers::new();
-        let shaped: Shaped<P, S> = Shaped::of(alloc, case.shape, plan, &mut numbers)?;
-        let Shaped {
-            arena,
-            links,
-            starts,
-        } = shaped;
-        let picks = picks_of(alloc, case.picks, &arena, links, &mut numbers)?;
+        let mut first = Shaped::of(alloc, case.shape, plan, &mut numbers)?;
+        let picks = picks_of(alloc, case.picks, &mut first, &mut numbers)?;
+        let arenas = if case.act.uses_up() { plan.rounds } else { 1 };
+        let copies = copies_of(alloc, &first.arena, arenas)?;
         Ok(Setting {
-            arenas: arenas_of(alloc, arena, case.act, plan.rounds)?,
-            names: Names { starts, picks },
+            first,
+            copies,
+            picks,
         })
     }
 
     /// Does all rounds.
     pub fn run(&mut self, alloc: Global, act: Act, plan: Plan) -> Result<Seen, Fault> {
-        let mut seen = Seen::nothing();
-        for arena in self.arenas.iter_mut() {
-            seen.joins(rounds(alloc, act, plan, arena, &self.names)?);
+        let Setting {
+            first,
+            copies,
+            picks,
+        } = self;
+        let starts = first.starts.as_slice();
+        let picks = picks.as_slice();
+        let mut seen = rounds(alloc, act, plan, &mut first.arena, starts, picks)?;
+        for arena in copies.iter_mut() {
+            seen.joins(rounds(alloc, act, plan, arena, starts, picks)?);
         }
         Ok(seen)
     }
 }
 
-// An arena, and copies of it where each round needs its own.
-fn arenas_of<P: PtrKey, S: SlotStack<Item = Slot<P>>>(
+// Copies of an arena, so that there are so many with it.
+fn copies_of<P: PtrKey, S: SlotStack<Item = Slot<P>>>(
     alloc: Global,
-    arena: Chains<P, S>,
-    act: Act,
-    rounds: u32,
+    arena: &Chains<P, S>,
+    arenas: u32,
 ) -> Result<Vec<Chains<P, S>>, Fault> {
-    let mut arenas = Vec::new(alloc);
-    if act.uses_up() {
-        for _ in 1..rounds {
-            arenas.push(arena.clone(alloc)?)?;
-        }
+    let mut copies = Vec::new(alloc);
+    for _ in 1..arenas {
+        add_copy(alloc, arena, &mut copies)?;
     }
-    arenas.push(arena)?;
-    Ok(arenas)
+    Ok(copies)
+}
+
+fn add_copy<P: PtrKey, S: SlotStack<Item = Slot<P>>>(
+    alloc: Global,
+    arena: &Chains<P, S>,
+    copies: &mut Vec<Chains<P, S>>,
+) -> Result<(), Fault> {
+    let copy = arena.clone(alloc)?;
+    copies.push(copy)?;
+    Ok(())
 }
 
 // Does a case on an arena: once, or all rounds where it is left as it was.
@@ -78,12 +83,13 @@ fn rounds<P: Numbered, S: SlotStack<Item = Slot<P>>>(
     act: Act,
     plan: Plan,
     arena: &mut Chains<P, S>,
-    names: &Names<P>,
+    starts: &[P],
+    picks: &[(P, P)],
 ) -> Result<Seen, Fault> {
     let count = if act.uses_up() { 1 } else { plan.rounds };
     let mut seen = Seen::nothing();
     for _ in 0..count {
-        seen.joins(round(alloc, act, plan, arena, names)?);
+        seen.joins(round(alloc, act, plan, arena, starts, picks)?);
     }
     Ok(seen)
 }
@@ -94,10 +100,9 @@ fn round<P: Numbered, S: SlotStack<Item = Slot<P>>>(
     act: Act,
     plan: Plan,
     arena: &mut Chains<P, S>,
-    names: &Names<P>,
+    starts: &[P],
+    picks: &[(P, P)],
 ) -> Result<Seen, Fault> {
-    let starts = names.starts.as_slice();
-    let picks = names.picks.as_slice();
     match act {
         Act::Insert(insertion) => insert(insertion, plan, arena, starts, picks),
         Act::Relink(relinking) => relink(relinking, arena, picks),
@@ -111,15 +116,14 @@ fn round<P: Numbered, S: SlotStack<Item = Slot<P>>>(
 fn picks_of<P: PtrKey, S: SlotStack<Item = Slot<P>>>(
     alloc: Global,
     picks: Picks,
-    arena: &Chains<P, S>,
-    links: Vec<P>,
+    shaped: &mut Shaped<P, S>,
     numbers: &mut Numbers,
 ) -> Result<Vec<(P, P)>, Fault> {
     match picks {
         Picks::Nothing => Ok(Vec::new(alloc)),
-        Picks::Random => random_pairs(alloc, links.as_slice(), numbers),
-        Picks::Neighbors => neighbors(alloc, arena, links.as_slice(), numbers),
-        Picks::Succeeding => succeeding(alloc, links, numbers),
+        Picks::Random => random_pairs(alloc, shaped.links.as_slice(), numbers),
+        Picks::Neighbors => neighbors(alloc, &shaped.arena, shaped.links.as_slice(), numbers),
+        Picks::Succeeding => succeeding(alloc, shaped.links.as_mut_slice(), numbers),
     }
 }
 
@@ -162,18 +166,15 @@ fn neighbors<P: PtrKey, S: SlotStack<Item = Slot<P>>>(
 // Each link once, in some order, and the next one in that order, but for the last.
 fn succeeding<P: PtrKey>(
     alloc: Global,
-    links: Vec<P>,
+    links: &mut [P],
     numbers: &mut Numbers,
 ) -> Result<Vec<(P, P)>, Fault> {
-    let mut links = links;
-    numbers.shuffle(links.as_mut_slice());
+    numbers.shuffle(links);
     let mut pairs = Vec::new(alloc);
-    let mut last = None;
-    for p in &links {
-        if let Some(q) = last {
-            pairs.push((q, *p))?;
+    for pair in links.windows(2) {
+        if let [p, q] = pair {
+            pairs.push((*p, *q))?;
         }
-        last = Some(*p);
     }
     Ok(pairs)
 }

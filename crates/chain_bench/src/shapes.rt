@@ -43,32 +43,50 @@ impl<P: PtrKey, S: SlotStack<Item = Slot<P>>> Shaped<P, S> {
         plan: Plan,
         numbers: &mut Numbers,
     ) -> Result<Self, Fault> {
-        let Plan { links, chain, .. } = plan;
         let mut shaped = Shaped {
             arena: ChainArena::new(alloc),
             links: Vec::new(alloc),
             starts: Vec::new(alloc),
         };
-        match shape {
-            Shape::Empty => {}
-            Shape::Starts => shaped.add(plan.chains(), 1, false)?,
-            Shape::Chains => shaped.add(plan.chains(), chain, false)?,
-            Shape::Rings => shaped.add(plan.chains(), chain, true)?,
-            Shape::Tangled => {
-                shaped.add(links, 1, false)?;
-                shaped.tangle(chain, numbers);
-            }
-            Shape::HalfHoles => {
-                shaped.add(plan.chains(), chain.saturating_mul(2), false)?;
-                shaped.thin();
-            }
-            Shape::BehindHoles => {
-                shaped.add(links, 1, false)?;
-                shaped.add(plan.chains(), chain, false)?;
-                shaped.remove_first(links);
-            }
+        match shaped.fill(shape, plan, numbers) {
+            Ok(()) => Ok(shaped),
+            Err(fault) => Err(fault),
         }
-        Ok(shaped)
+    }
+
+    // Adds the links of a shape.
+    fn fill(&mut self, shape: Shape, plan: Plan, numbers: &mut Numbers) -> Result<(), Fault> {
+        match shape {
+            Shape::Empty => Ok(()),
+            Shape::Starts => self.add(plan.chains(), 1, false),
+            Shape::Chains => self.add(plan.chains(), plan.chain, false),
+            Shape::Rings => self.add(plan.chains(), plan.chain, true),
+            Shape::Tangled => self.add_tangled(plan, numbers),
+            Shape::HalfHoles => self.add_half_holes(plan),
+            Shape::BehindHoles => self.add_behind_holes(plan),
+        }
+    }
+
+    // Adds chains whose links stand anywhere.
+    fn add_tangled(&mut self, plan: Plan, numbers: &mut Numbers) -> Result<(), Fault> {
+        self.add(plan.links, 1, false)?;
+        self.tangle(plan.chain, numbers);
+        Ok(())
+    }
+
+    // Adds chains, with a hole behind each link.
+    fn add_half_holes(&mut self, plan: Plan) -> Result<(), Fault> {
+        self.add(plan.chains(), plan.chain.saturating_mul(2), false)?;
+        self.thin();
+        Ok(())
+    }
+
+    // Adds chains behind as many holes.
+    fn add_behind_holes(&mut self, plan: Plan) -> Result<(), Fault> {
+        self.add(plan.links, 1, false)?;
+        self.add(plan.chains(), plan.chain, false)?;
+        self.remove_first(plan.links);
+        Ok(())
     }
 
     // Adds so many chains, or rings, of so many links, one after another.
@@ -118,8 +136,12 @@ impl<P: PtrKey, S: SlotStack<Item = Slot<P>>> Shaped<P, S> {
 
     // Removes the first of the links.
     fn remove_first(&mut self, count: u32) {
-        for p in self.links.iter().take(count as usize) {
-            self.arena.remove(*p);
+        let mut left = count;
+        for p in &self.links {
+            if left > 0 {
+                self.arena.remove(*p);
+            }
+            left = left.saturating_sub(1);
         }
     }
 }
