@@ -32,7 +32,7 @@ fn insert_alone<P: Numbered, S: SlotStack<Item = Slot<P>>>(
     let mut seen = Seen::nothing();
     for k in 0..links {
         let p = arena.insert_reallocating(LinkInsertKind::Disconnected, k)?;
-        seen.counts(p.number());
+        seen = seen.and_one(p.number());
     }
     Ok(seen)
 }
@@ -49,7 +49,7 @@ fn insert_at_ends<P: Numbered, S: SlotStack<Item = Slot<P>>>(
         let mut last = *start;
         for k in 1..chain {
             last = arena.insert_reallocating(LinkInsertKind::ChainEnd(last), k)?;
-            seen.counts(last.number());
+            seen = seen.and_one(last.number());
         }
     }
     Ok(seen)
@@ -64,7 +64,7 @@ fn insert_beside<P: Numbered, S: SlotStack<Item = Slot<P>>>(
     let mut seen = Seen::nothing();
     for pick in picks {
         let p = arena.insert_reallocating(LinkInsertKind::NextTo(pick.0), 0)?;
-        seen.counts(p.number());
+        seen = seen.and_one(p.number());
     }
     Ok(seen)
 }

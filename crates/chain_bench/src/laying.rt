@@ -71,10 +71,10 @@ fn probe<P: Numbered, S: SlotStack<Item = Slot<P>>>(arena: &Chains<P, S>) -> See
         if let Some(i) = P::Inx::try_from_usize(at)
             && let Some((generation, link)) = arena.get_inx_link_no_gen(i)
         {
-            seen.sees(P::_from_raw(i, generation).number());
-            seen.sees(u64::from(link.t));
-            seen.sees(number_of(link.prev()));
-            seen.sees(number_of(link.next()));
+            seen = seen.and(P::_from_raw(i, generation).number());
+            seen = seen.and(u64::from(link.t));
+            seen = seen.and(number_of(link.prev()));
+            seen = seen.and(number_of(link.next()));
         }
     }
     seen.operations = links as u64;

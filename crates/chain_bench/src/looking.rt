@@ -33,7 +33,7 @@ fn look_at_links<P: Numbered, S: SlotStack<Item = Slot<P>>>(
     for pick in picks {
         if let Some(link) = arena.get_link(pick.0) {
             let beside = number_of(link.prev()) ^ number_of(link.next());
-            seen.counts(beside ^ u64::from(*link.t));
+            seen = seen.and_one(beside ^ u64::from(*link.t));
         }
     }
     seen
@@ -46,7 +46,7 @@ fn walk<P: Numbered, S: SlotStack<Item = Slot<P>>>(arena: &Chains<P, S>, starts:
     for start in starts {
         if let Some(links) = arena.iter_chain(*start) {
             for (p, link) in links {
-                seen.counts(p.number() ^ u64::from(link.t));
+                seen = seen.and_one(p.number() ^ u64::from(link.t));
             }
         }
     }
@@ -61,7 +61,9 @@ fn advance<P: Numbered, S: SlotStack<Item = Slot<P>>>(arena: &Chains<P, S>, star
         let mut advancer = arena.advancer_chain(*start);
         for _ in 0..arena.len() {
             match advancer.advance(arena) {
-                Some(p) => seen.counts(p.number()),
+                Some(p) => {
+                    seen = seen.and_one(p.number());
+                }
                 None => break,
             }
         }
@@ -74,7 +76,7 @@ fn advance<P: Numbered, S: SlotStack<Item = Slot<P>>>(arena: &Chains<P, S>, star
 fn iterate<P: Numbered, S: SlotStack<Item = Slot<P>>>(arena: &Chains<P, S>) -> Seen {
     let mut seen = Seen::nothing();
     for (p, link) in arena.iter_link_no_gen() {
-        seen.counts(p.number() ^ u64::from(link.t));
+        seen = seen.and_one(p.number() ^ u64::from(link.t));
     }
     seen
 }

@@ -29,7 +29,7 @@ fn exchange<P: Numbered, S: SlotStack<Item = Slot<P>>>(
 ) -> Seen {
     let mut seen = Seen::nothing();
     for pick in picks {
-        seen.counts(told(arena.exchange_next(pick.0, pick.1)));
+        seen = seen.and_one(told(arena.exchange_next(pick.0, pick.1)));
     }
     seen
 }
@@ -42,8 +42,8 @@ fn break_and_connect<P: Numbered, S: SlotStack<Item = Slot<P>>>(
 ) -> Seen {
     let mut seen = Seen::nothing();
     for pick in picks {
-        seen.sees(told(arena.break_next(pick.0)));
-        seen.counts(told(arena.connect(pick.0, pick.1)));
+        seen = seen.and(told(arena.break_next(pick.0)));
+        seen = seen.and_one(told(arena.connect(pick.0, pick.1)));
     }
     seen
 }
@@ -58,7 +58,7 @@ fn replace<P: Numbered, S: SlotStack<Item = Slot<P>>>(
     for pick in picks {
         let t = arena.remove(pick.0).allow().unwrap_or(0);
         let p = arena.insert_reallocating(LinkInsertKind::NextTo(pick.1), t)?;
-        seen.counts(p.number());
+        seen = seen.and_one(p.number());
     }
     Ok(seen)
 }

@@ -15,20 +15,27 @@ impl Seen {
         }
     }
 
-    /// A number was seen.
-    pub fn sees(&mut self, number: u64) {
-        self.sum = self.sum.wrapping_mul(31).wrapping_add(number);
+    /// With one more number.
+    pub fn and(self, number: u64) -> Self {
+        Seen {
+            operations: self.operations,
+            sum: self.sum.wrapping_mul(31).wrapping_add(number),
+        }
     }
 
-    /// An operation showed a number.
-    pub fn counts(&mut self, number: u64) {
-        self.operations = self.operations.wrapping_add(1);
-        self.sees(number);
+    /// With one more operation, which showed a number.
+    pub fn and_one(self, number: u64) -> Self {
+        Seen {
+            operations: self.operations.wrapping_add(1),
+            sum: self.sum.wrapping_mul(31).wrapping_add(number),
+        }
     }
 
-    /// Another round saw this.
-    pub fn joins(&mut self, round: Seen) {
-        self.operations = self.operations.wrapping_add(round.operations);
-        self.sees(round.sum);
+    /// With what another round saw.
+    pub fn and_round(self, round: Seen) -> Self {
+        Seen {
+            operations: self.operations.wrapping_add(round.operations),
+            sum: self.sum.wrapping_mul(31).wrapping_add(round.sum),
+        }
     }
 }

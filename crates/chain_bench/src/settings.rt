@@ -48,7 +48,7 @@ impl<P: Numbered, S: SlotStack<Item = Slot<P>>> Setting<P, S> {
         let picks = picks.as_slice();
         let mut seen = rounds(alloc, act, plan, &mut first.arena, starts, picks)?;
         for arena in copies.iter_mut() {
-            seen.joins(rounds(alloc, act, plan, arena, starts, picks)?);
+            seen = seen.and_round(rounds(alloc, act, plan, arena, starts, picks)?);
         }
         Ok(seen)
     }
@@ -89,7 +89,7 @@ fn rounds<P: Numbered, S: SlotStack<Item = Slot<P>>>(
     let count = if act.uses_up() { 1 } else { plan.rounds };
     let mut seen = Seen::nothing();
     for _ in 0..count {
-        seen.joins(round(alloc, act, plan, arena, starts, picks)?);
+        seen = seen.and_round(round(alloc, act, plan, arena, starts, picks)?);
     }
     Ok(seen)
 }

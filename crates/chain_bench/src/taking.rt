@@ -28,7 +28,7 @@ fn drain_chains<P: Numbered, S: SlotStack<Item = Slot<P>>>(
         if let Some(links) = arena.drain_chain(*start) {
             for gone in links {
                 let (p, link) = gone.allow();
-                seen.counts(p.number() ^ u64::from(link.t));
+                seen = seen.and_one(p.number() ^ u64::from(link.t));
             }
         }
     }
@@ -41,7 +41,7 @@ fn drain_all<P: Numbered, S: SlotStack<Item = Slot<P>>>(arena: &mut Chains<P, S>
     let mut seen = Seen::nothing();
     for gone in arena.drain() {
         let (p, t) = gone.allow();
-        seen.counts(p.number() ^ u64::from(t));
+        seen = seen.and_one(p.number() ^ u64::from(t));
     }
     seen
 }
