@@ -51,10 +51,11 @@ static ROWS: [(&str, &[At], &[u32], bool); 16] = [
 
 const REFUSAL: &str = "interlink transitivity does not hold";
 
-// Whether interlinks agree, and how their arena is refused.
-fn agreement<S: SlotStack<Item = Slot>>(arena: Plain<S>) -> (bool, Option<&'static str>) {
+// How many links there are, whether their interlinks agree, and how their arena is refused.
+fn agreement<S: SlotStack<Item = Slot>>(arena: Plain<S>) -> (usize, bool, Option<&'static str>) {
+    let count = arena.len();
     let agree = links_agree(&arena);
-    (agree, chained(arena).err())
+    (count, agree, chained(arena).err())
 }
 
 // All rows. A body of its own names them, since each step of a body lists what the body names.
@@ -66,9 +67,10 @@ fn rows() -> &'static [(&'static str, &'static [At], &'static [u32], bool)] {
 pub(super) fn check_rows<S: SlotStack<Item = Slot>>(rt: &impl Abort, alloc: Global) {
     for row in rows() {
         let (what, links, gone, agree) = *row;
+        let count = links.len().saturating_sub(gone.len());
         let refusal = if agree { None } else { Some(REFUSAL) };
         let arena = plain::<S>(alloc, links, gone);
-        same(rt, what, agreement(arena), (agree, refusal));
+        same(rt, what, agreement(arena), (count, agree, refusal));
     }
 }
 
