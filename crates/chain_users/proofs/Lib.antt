@@ -1,0 +1,15 @@
+mod Carrying
+mod Changes
+mod Following
+mod Lists
+mod Mapped
+mod Moves
+mod Moving
+mod Outcomes
+mod Removing
+mod Renumbering
+mod Rings
+mod Rounds
+mod Tables
+mod Texts
+mod Turns

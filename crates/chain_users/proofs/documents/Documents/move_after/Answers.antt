@@ -1,0 +1,11 @@
+-- The paragraph is set apart, and put after the other.
+use Rattle.chain_users.proofs.Moving.{moved_after, keeps_moved}
+use Rattle.chain_users.proofs.documents.Documents.move_after.Goals as goal
+
+pub returns-clause-texts : goal.returns-clause-texts
+returns-clause-texts g c = moved_after g.A.ArenaTrait.entry g.A.ChainArenaTrait.interlinks c.args.self.now c.set_apart.new.self c.put_after.new.self (g.P.PtrKey.key c.args.p) (g.P.PtrKey.key c.args.q)
+    c.set_apart.ensures.texts c.set_apart.ensures.others c.put_after.ensures.texts c.put_after.ensures.others
+
+pub returns-clause-others : goal.returns-clause-others
+returns-clause-others g c = keeps_moved g.A.ArenaTrait.entry g.A.ChainArenaTrait.interlinks c.args.self.now c.set_apart.new.self c.put_after.new.self (g.P.PtrKey.key c.args.p) (g.P.PtrKey.key c.args.q)
+    c.set_apart.ensures.texts c.set_apart.ensures.others c.put_after.ensures.texts c.put_after.ensures.others

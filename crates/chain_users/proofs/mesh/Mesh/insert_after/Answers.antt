@@ -1,0 +1,24 @@
+-- The new corner comes after the other in its ring, and stands in no other ring.
+use Rattle.std.proofs.Common.{refl, ap}
+use Rattle.std.specs.Prelude.{is_some}
+use Rattle.chain_laws.specs.Chains.{cyclic}
+use Rattle.chain_laws.specs.Insertions.{next_to}
+use Rattle.chain_traits.proofs.AnyArena.{some_valid}
+use Rattle.chain_users.proofs.Outcomes.{if_ok}
+use Rattle.chain_users.proofs.Changes.{comes_after, keeps_others}
+use Rattle.chain_users.proofs.mesh.Mesh.insert_after.Goals as goal
+
+pub returns-clause-ring : goal.returns-clause-ring
+returns-clause-ring g c = rw (← c.self.view_is) (if_ok c.insert_reallocating.result c.insert_reallocating.ensures.inserted (λ q came.
+    comes_after g.A.ArenaTrait.entry g.A.ChainArenaTrait.interlinks cyclic (λ l. refl) c.self.inside.corners c.insert_reallocating.new.self (g.P.PtrKey.key q) c.args.point came.entries (g.P.PtrKey.key c.args.corner)
+    (λ x y. (came.chains.after (g.P.PtrKey.key c.args.corner).0 refl refl x y).1)))
+
+pub returns-clause-others : goal.returns-clause-others
+returns-clause-others g c = rw (← c.self.view_is) (if_ok c.insert_reallocating.result c.insert_reallocating.ensures.inserted (λ q came.
+    keeps_others g.A.ArenaTrait.entry g.A.ChainArenaTrait.interlinks cyclic (λ l. refl) c.self.inside.corners c.insert_reallocating.new.self (g.P.PtrKey.key q) c.args.point came.entries (next_to (g.P.PtrKey.key c.args.corner).0)
+    c.insert_reallocating.ensures.agreed (g.met.A.ChainArenaTrait.stand c.self.inside.corners (g.P.PtrKey.key q).0) came.chains))
+
+pub returns-clause-room : goal.returns-clause-room
+returns-clause-room g c =
+    let a = c.self.inside.corners in
+    rw (← c.self.view_is) (λ valid. c.insert_reallocating.ensures.room (valid, some_valid (g.A.ChainArenaTrait.interlinks a) (g.A.ArenaTrait.entry a) (g.A.ArenaTrait.seen a).entries (g.met.A.ChainArenaTrait.stand a) (g.met.A.ArenaTrait.looked_up a) (g.P.PtrKey.key c.args.corner).0 (ap is_some valid.stands)))

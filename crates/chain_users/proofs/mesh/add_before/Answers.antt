@@ -1,0 +1,18 @@
+-- There is room, so a corner comes.
+use Rattle.std.proofs.Common.{refl}
+use Rattle.chain_laws.specs.Chains.{cyclic}
+use Rattle.chain_laws.specs.Insertions.{prev_to}
+use Rattle.chain_users.proofs.Changes.{comes_before, keeps_others}
+use Rattle.chain_users.proofs.mesh.add_before.Goals as goal
+
+pub returns-clause-ring : goal.returns-clause-ring
+returns-clause-ring g c =
+    let came = c.in-Ok.ensures.inserted in
+    comes_before g.A.ArenaTrait.entry g.A.ChainArenaTrait.interlinks cyclic (λ l. refl) c.args.corners.now c.insert.new.self (g.P.PtrKey.key c.in-Ok.p) c.args.t came.entries (g.P.PtrKey.key c.args.u)
+    (λ x y. (came.chains.before (g.P.PtrKey.key c.args.u).0 refl refl x y).1)
+
+pub returns-clause-others : goal.returns-clause-others
+returns-clause-others g c =
+    let came = c.in-Ok.ensures.inserted in
+    keeps_others g.A.ArenaTrait.entry g.A.ChainArenaTrait.interlinks cyclic (λ l. refl) c.args.corners.now c.insert.new.self (g.P.PtrKey.key c.in-Ok.p) c.args.t came.entries (prev_to (g.P.PtrKey.key c.args.u).0)
+    c.insert.ensures.agreed (g.met.A.ChainArenaTrait.stand c.args.corners.now (g.P.PtrKey.key c.in-Ok.p).0) came.chains

@@ -1,0 +1,12 @@
+-- Those that were drained and those that are left are the tasks in turn, and there is room for the latter.
+use Rattle.std.proofs.Common.{◌≡◌, ◌++◌, ◌+◌, ◌≤◌, length, map, vec_len, vec_capacity}
+use Rattle.chain_users.specs.Lists.{Item}
+use Rattle.chain_users.proofs.queue.RunQueue.drain_all.Given as goal
+
+abbrev pub invariant-loop-k : goal.invariant-loop-k
+invariant-loop-k g l = record {
+  tasks : l.drained.items ++ map (λ (e : Item g.row.P-Gen.Denot g.row.T.Denot). e.1) l.self ≡ map (λ (e : Item g.row.P-Gen.Denot g.row.T.Denot). e.1) l.fn.self;
+  left : l.k + length l.self ≡ l.count;
+  len : vec_len l.drained ≡ l.k;
+  room : l.count ≤ vec_capacity l.drained;
+}

@@ -1,0 +1,53 @@
+-- Lists that lie in an arena: rings, which go round, and texts, which go from a first item to a last one.
+use Rattle.std.specs.Prelude.{◌≡◌, ◌≢◌, ℕ, ◌⊎◌, List, [], ◌∷◌, ◌++◌, map, Option, Some}
+use Rattle.chain_laws.specs.Chains.{Shown, Chain, linear, cyclic, IsChain}
+use Rattle.chain_laws.specs.Others.{Lacks}
+use Rattle.arena_base.specs.Entries.{index_of}
+
+-- an item: the index and the generation of its pointer, and its value
+abbrev pub Item : Type 0 → Type 0 → Type 0
+Item Gen T = (ℕ × Gen) × T
+
+module _ {Gen T : Type 0} where
+  abbrev pub indexes : List (Item Gen T) → List ℕ
+  indexes items = map index_of items
+
+  -- each item stands at its index, with its generation
+  abbrev pub Stand : (ℕ → Option (Gen × T)) → List (Item Gen T) → Type 0
+  Stand entry [] = Unit {0}
+  Stand entry (e ∷ items) = (entry e.0.0 ≡ Some (e.0.1, e.1)) × Stand entry items
+
+  -- the pointer is that of one of the items
+  abbrev pub IsAmong : ℕ × Gen → List (Item Gen T) → Type 0
+  IsAmong p [] = ⊥
+  IsAmong p (e ∷ items) = (e.0 ≡ p) ⊎ IsAmong p items
+
+-- two looks at an arena: what stands at each index, and what is linked there
+module _ {A Gen T : Type 0} (entry : A → ℕ → Option (Gen × T)) (links : A → Shown) where
+  -- the items lie in the arena as a list of a shape, linear or cyclic, and nothing else is in it
+  pub record Lies (shape : List ℕ → Chain) (arena : A) (items : List (Item Gen T)) : Type 0 where
+    pub chain : IsChain (links arena) (shape (indexes items))
+    pub stand : Stand (entry arena) items
+
+  -- a text, from its first item to its last; a ring, from any of its items once round
+  abbrev pub IsText : A → List (Item Gen T) → Type 0
+  IsText = Lies linear
+
+  abbrev pub IsRing : A → List (Item Gen T) → Type 0
+  IsRing = Lies cyclic
+
+  module _ (shape : List ℕ → Chain) (old new : A) where
+    -- every list that has none of these pointers stays, item for item
+    abbrev pub KeepsWithout : List (ℕ × Gen) → Type 0
+    KeepsWithout pointers = (items : List (Item Gen T)) → Lacks (shape (indexes items)) (map (λ (p : ℕ × Gen). p.0) pointers) → Lies shape old items → Lies shape new items
+
+    -- an item comes directly after that of a pointer, in its list; or before it
+    abbrev pub ComesAfter : ℕ × Gen → Item Gen T → Type 0
+    ComesAfter p e = (t : T) (before after : List (Item Gen T)) → Lies shape old (before ++ (p, t) ∷ after) → Lies shape new (before ++ (p, t) ∷ e ∷ after)
+
+    abbrev pub ComesBefore : ℕ × Gen → Item Gen T → Type 0
+    ComesBefore p e = (t : T) (before after : List (Item Gen T)) → Lies shape old (before ++ (p, t) ∷ after) → Lies shape new (before ++ e ∷ (p, t) ∷ after)
+
+    -- an item leaves its list, which is gone if it had no other
+    abbrev pub Leaves : Item Gen T → Type 0
+    Leaves e = (before after : List (Item Gen T)) → Lies shape old (before ++ e ∷ after) → before ++ after ≢ [] → Lies shape new (before ++ after)

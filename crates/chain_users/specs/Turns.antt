@@ -1,0 +1,41 @@
+-- The tasks of a run queue in turn.
+use Rattle.std.specs.Prelude.{◌≡◌, ◌≢◌, ℕ, zero, suc, List, [], ◌∷◌, ◌++◌, Option, None, Some, is_some, true}
+use Rattle.std.specs.Option.{option_map}
+use Rattle.chain_laws.specs.Chains.{Shown, cyclic, IsChain, Has, next_of}
+use Rattle.arena_base.specs.Entries.{first_key}
+use Rattle.chain_users.specs.Lists.{Item, Stand, IsAmong, indexes}
+
+-- the first item goes behind the others
+abbrev pub turned_once : {X : Type 0} → List X → List X
+turned_once [] = []
+turned_once (x ∷ xs) = xs ++ x ∷ []
+
+-- a task is cancelled: it leaves the turn, in which the others keep their order, and its pointer is of none of them
+pub record IsCancelled {Gen T : Type 0} (p : ℕ × Gen) (task : T) (old new : List (Item Gen T)) : Type 0 where
+  pub before : List (Item Gen T)
+  pub after : List (Item Gen T)
+  pub stood : old ≡ before ++ (p, task) ∷ after
+  pub left : new ≡ before ++ after
+  pub gone : ¬ IsAmong p new
+
+-- what stands at an index, before others
+abbrev pub put_first : {Gen T : Type 0} → ℕ → Option (Gen × T) → List (Item Gen T) → List (Item Gen T)
+put_first i None others = []
+put_first i (Some e) others = ((i, e.0), e.1) ∷ others
+
+module _ {Gen T : Type 0} (entry : ℕ → Option (Gen × T)) (links : Shown) where
+  -- so many items from an index on, each that of the link after the one before
+  unfoldable pub items_from : ℕ → Option ℕ → List (Item Gen T)
+  items_from zero at = []
+  items_from (suc n) None = []
+  items_from (suc n) (Some i) = put_first i (entry i) (items_from n (next_of links i))
+
+  abbrev pub turn_of : ℕ → Option (ℕ × Gen) → List (Item Gen T)
+  turn_of n current = items_from n (option_map (λ (p : ℕ × Gen). p.0) current)
+
+  -- the tasks of a queue in turn: all that the arena holds, in one ring, the current one first
+  pub record IsTurn (current : Option (ℕ × Gen)) (turn : List (Item Gen T)) : Type 0 where
+    pub first : current ≡ first_key turn
+    pub ring : turn ≢ [] → IsChain links (cyclic (indexes turn))
+    pub stand : Stand entry turn
+    pub all : (i : ℕ) → is_some (entry i) ≡ true → Has (indexes turn) i

@@ -1,0 +1,12 @@
+//! Users of arenas of links: each module is one small data structure, over any arena of links, and is proved by the contracts of
+//! `ChainArenaTrait` alone. Its own contracts speak of lists, and not of links.
+#![tactic(auto)]
+
+mod bookmarks;
+mod documents;
+mod mesh;
+mod queue;
+
+pub use documents::Documents;
+pub use mesh::{Mesh, cut_and_merge_restore};
+pub use queue::RunQueue;

@@ -1,0 +1,265 @@
+//! A mesh of polygons: each is a ring of corners, and one arena has them all.
+
+ghost use Rattle.std.specs.Prelude.{◌≡◌, ◌≢◌, ◌↔◌, ℕ, ◌+◌, ◌≤◌, List, [], ◌∷◌, ◌++◌, IsSome, IfSome, OnSome, IfNone, IsOk, IfOk, OnOk, OnErr, Err, None, Some};
+ghost use Rattle.std.specs.Option.{option_map};
+ghost use Rattle.chain_laws.specs.Chains.{cyclic};
+ghost use Rattle.arena_base.specs.Arena.{IsValid};
+ghost use Rattle.arena_base.specs.Entries.{count, first_key, HasRoomLeft};
+ghost use Rattle.chain_links.specs.Calls.{SucceedsInRoom};
+ghost use Rattle.chain_links.specs.ChainArena.{IsInserted};
+ghost use Rattle.chain_users.specs.Lists.{Item, IsRing, KeepsWithout, ComesAfter, ComesBefore, Leaves};
+ghost use Rattle.chain_users.specs.Rings.{GoesRound, AllInRings, IsCutInTwo, AreMerged, IsSplit, CutAndMergeRestore};
+
+use arena_ptr::{ChainInsertionError, PtrKey, ReallocationError};
+use chain_links::LinkInsertKind;
+use chain_traits::ChainArenaTrait;
+use std::alloc::Global;
+use std::marker::{Model, PhantomData};
+
+/// Polygons of corners, each corner with a point. A corner is named by the pointer that it came with, until it is removed.
+///
+/// A contract sees the arena that they are kept in, and names a polygon as the ring of its corners, from any one of them once
+/// round: a list of pairs, of a pointer's index and generation, and of the point.
+#[derive(Drop)]
+pub struct Mesh<P: PtrKey, T: Drop, A: ChainArenaTrait<P, T> + Drop> {
+    corners: A,
+    of: PhantomData<(P, T)>,
+}
+
+impl<P: PtrKey, T: Drop, A: ChainArenaTrait<P, T> + Drop> Model for Mesh<P, T, A> {
+    ghost use Rattle.chain_users.specs.Rings.{GoesRound};
+
+    ghost Value = { A };
+
+    ghost view = { λ m. m.corners };
+
+    ghost invariant = { λ m. GoesRound (A.interlinks m.corners) };
+}
+
+impl<P: PtrKey, T: Drop, A: ChainArenaTrait<P, T> + Drop> Mesh<P, T, A> {
+    /// A mesh without polygons. It takes no memory.
+    pub fn new(alloc: Global) -> Self
+        ensures { (A.seen result).entries ≡ [] }
+    {
+        Mesh {
+            corners: A::new(alloc),
+            of: PhantomData,
+        }
+    }
+
+    /// Tells that each corner stands in a polygon, which can be written from it. It does nothing.
+    pub fn all_in_polygons(&self)
+        ensures { AllInRings A.entry A.interlinks self.now }
+    {
+        self.corners.agrees();
+        self.corners.len();
+    }
+
+    /// The point of a corner. `None`: the pointer is of no corner.
+    pub fn get(&self, corner: P) -> Option<&T>
+        ensures some { IsSome result ↔ IsValid (A.entry self.now) (P.key corner) }
+        ensures point { IfSome result (λ t. A.entry self.now (P.key corner).0 ≡ Some ((P.key corner).1, t.now)) }
+    {
+        self.corners.get(corner)
+    }
+
+    /// The pointer of the corner after another in its polygon: of the only one it is its own. `None`: the pointer is of no corner.
+    pub fn next(&self, corner: P) -> Option<P>
+        ensures none { ¬ IsValid (A.entry self.now) (P.key corner) → result ≡ None }
+        ensures next { (t : T) (others : List (Item P.Gen T)) → IsRing A.entry A.interlinks self.now ((P.key corner, t) ∷ others)
+            → option_map P.key result ≡ first_key (others ++ (P.key corner, t) ∷ []) }
+    {
+        match self.corners.get_link(corner) {
+            Some(link) => link.next(),
+            None => None,
+        }
+    }
+
+    /// Starts a polygon, which has one corner, and answers its pointer.
+    ///
+    /// `BeyondMaxCapacity`, `AllocError`: there was no room for it. After either nothing has changed, and the point is dropped.
+    pub fn start(&mut self, point: T) -> Result<P, ReallocationError>
+        ensures ring { IfOk result (λ p. IsRing A.entry A.interlinks self.new ((P.key p, point) ∷ [])) }
+        ensures corner { IfOk result (λ p. IsInserted (A.entry self.old) (A.entry self.new) (P.key p) point) }
+        ensures others { OnOk result (KeepsWithout A.entry A.interlinks cyclic self.old self.new []) }
+        ensures size { OnOk result (count (A.seen self.new) ≡ count (A.seen self.old) + 1) }
+        ensures room { SucceedsInRoom (A.seen self.old) result (A.seen self.new) }
+        ensures err { OnErr result (self.new ≡ self.old) }
+    {
+        self.corners.insert(LinkInsertKind::SingleLinkCyclic, point)
+    }
+
+    /// Adds a corner on the edge after a corner, and answers its pointer.
+    ///
+    /// `FailedLinkRequirement`: the pointer is of no corner. `BeyondMaxCapacity`, `AllocError`: there was no room for it. After
+    /// each nothing has changed, and the point is dropped.
+    pub fn insert_after(&mut self, corner: P, point: T) -> Result<P, ChainInsertionError>
+        ensures ring { IfOk result (λ p. ComesAfter A.entry A.interlinks cyclic self.old self.new (P.key corner) (P.key p, point)) }
+        ensures corner { IfOk result (λ p. IsInserted (A.entry self.old) (A.entry self.new) (P.key p) point) }
+        ensures others { OnOk result (KeepsWithout A.entry A.interlinks cyclic self.old self.new (P.key corner ∷ [])) }
+        ensures size { OnOk result (count (A.seen self.new) ≡ count (A.seen self.old) + 1) }
+        ensures link { (result ≡ Err ChainInsertionError.FailedLinkRequirement) ↔ ¬ IsValid (A.entry self.old) (P.key corner) }
+        ensures room { IsValid (A.entry self.old) (P.key corner) → SucceedsInRoom (A.seen self.old) result (A.seen self.new) }
+        ensures err { OnErr result (self.new ≡ self.old) }
+    {
+        self.corners
+            .insert_reallocating(LinkInsertKind::NextTo(corner), point)
+    }
+
+    /// Removes a corner and answers its point: the corner before it is followed by the one after it. `None`: the pointer is of
+    /// no corner, and nothing has changed.
+    pub fn remove(&mut self, corner: P) -> Option<T>
+        ensures some { IsSome result ↔ IsValid (A.entry self.old) (P.key corner) }
+        ensures point { IfSome result (λ t. A.entry self.old (P.key corner).0 ≡ Some ((P.key corner).1, t)) }
+        ensures ring { IfSome result (λ t. Leaves A.entry A.interlinks cyclic self.old self.new (P.key corner, t)) }
+        ensures gone { OnSome result (A.entry self.new (P.key corner).0 ≡ None) }
+        ensures corners { (i : ℕ) → i ≢ (P.key corner).0 → A.entry self.new i ≡ A.entry self.old i }
+        ensures others { KeepsWithout A.entry A.interlinks cyclic self.old self.new (P.key corner ∷ []) }
+        ensures size { OnSome result (count (A.seen self.old) ≡ count (A.seen self.new) + 1) }
+        ensures none { IfNone result (self.new ≡ self.old) }
+    {
+        if !self.corners.contains(corner) {
+            return None;
+        }
+        self.corners.agrees();
+        self.corners.remove(corner).allow()
+    }
+
+    /// Cuts the polygon of u and v in two: u is followed by what came after v, and v by what came after u. Of a corner with itself
+    /// nothing changes. `None`: one of the pointers is of no corner, and nothing has changed.
+    pub fn cut(&mut self, u: P, v: P) -> Option<()>
+        ensures some { IsSome result ↔ (IsValid (A.entry self.old) (P.key u) × IsValid (A.entry self.old) (P.key v)) }
+        ensures rings { IsCutInTwo A.entry A.interlinks self.old self.new (P.key u) (P.key v) }
+        ensures others { KeepsWithout A.entry A.interlinks cyclic self.old self.new (P.key u ∷ P.key v ∷ []) }
+        ensures corners { A.entry self.new ≡ A.entry self.old }
+        ensures seen { A.seen self.new ≡ A.seen self.old }
+        ensures itself { P.key u ≡ P.key v → A.interlinks self.new ≡ A.interlinks self.old }
+        ensures none { IfNone result (self.new ≡ self.old) }
+    {
+        self.exchange(u, v)
+    }
+
+    /// Makes one polygon of that of u and that of v: u is followed by what came after v, and v by what came after u. Of a corner
+    /// with itself nothing changes. `None`: one of the pointers is of no corner, and nothing has changed.
+    pub fn merge(&mut self, u: P, v: P) -> Option<()>
+        ensures some { IsSome result ↔ (IsValid (A.entry self.old) (P.key u) × IsValid (A.entry self.old) (P.key v)) }
+        ensures ring { AreMerged A.entry A.interlinks self.old self.new (P.key u) (P.key v) }
+        ensures others { KeepsWithout A.entry A.interlinks cyclic self.old self.new (P.key u ∷ P.key v ∷ []) }
+        ensures corners { A.entry self.new ≡ A.entry self.old }
+        ensures seen { A.seen self.new ≡ A.seen self.old }
+        ensures itself { P.key u ≡ P.key v → A.interlinks self.new ≡ A.interlinks self.old }
+        ensures none { IfNone result (self.new ≡ self.old) }
+    {
+        self.exchange(u, v)
+    }
+
+    // Exchanges what comes after u with what comes after v: two polygons become one, or one two.
+    fn exchange(&mut self, u: P, v: P) -> Option<()>
+        ensures some { IsSome result ↔ (IsValid (A.entry self.old) (P.key u) × IsValid (A.entry self.old) (P.key v)) }
+        ensures cut { IsCutInTwo A.entry A.interlinks self.old self.new (P.key u) (P.key v) }
+        ensures merged { AreMerged A.entry A.interlinks self.old self.new (P.key u) (P.key v) }
+        ensures others { KeepsWithout A.entry A.interlinks cyclic self.old self.new (P.key u ∷ P.key v ∷ []) }
+        ensures corners { A.entry self.new ≡ A.entry self.old }
+        ensures seen { A.seen self.new ≡ A.seen self.old }
+        ensures itself { P.key u ≡ P.key v → A.interlinks self.new ≡ A.interlinks self.old }
+        ensures none { IfNone result (self.new ≡ self.old) }
+    {
+        self.corners.exchange_next(u, v)
+    }
+
+    // Makes room for two corners more. After a refusal nothing has changed.
+    fn make_room_for_two(&mut self) -> Result<(), ReallocationError>
+        ensures room { OnOk result (count (A.seen self.old) + 2 ≤ (A.seen self.new).capacity) }
+        ensures within { count (A.seen self.old) + 2 ≤ (A.seen self.old).capacity → IsOk result }
+        ensures links { A.interlinks self.new ≡ A.interlinks self.old }
+        ensures entries { (A.seen self.new).entries ≡ (A.seen self.old).entries }
+        ensures err { OnErr result (self.new ≡ self.old) }
+    {
+        if self.corners.capacity() - self.corners.len() >= 2 {
+            return Ok(());
+        }
+        match self.corners.len().checked_add(2) {
+            Some(n) => self.corners.reallocate_min_capacity(n),
+            None => Err(ReallocationError::AllocError),
+        }
+    }
+}
+
+impl<P: PtrKey, T: Copy + Drop, A: ChainArenaTrait<P, T> + Drop> Mesh<P, T, A> {
+    /// Splits a polygon along the diagonal from u to v, whose ends stand in both parts: u and v stay in the one, and copies of them
+    /// come to the other. Answers the pointers of the copies, that of u's first. `None`: one of the pointers is of no corner, and
+    /// nothing has changed.
+    ///
+    /// `BeyondMaxCapacity`, `AllocError`: there was no room for the copies. After either nothing has changed.
+    pub fn split(&mut self, u: P, v: P) -> Result<Option<(P, P)>, ReallocationError>
+        ensures some { IfOk result (λ r. IsSome r ↔ (IsValid (A.entry self.old) (P.key u) × IsValid (A.entry self.old) (P.key v))) }
+        ensures rings { IfOk result (λ r. IfSome r (λ copies. IsSplit A.entry A.interlinks self.old self.new (P.key u) (P.key v) (P.key copies.0) (P.key copies.1))) }
+        ensures others { OnOk result (KeepsWithout A.entry A.interlinks cyclic self.old self.new (P.key u ∷ P.key v ∷ [])) }
+        ensures size { IfOk result (λ r. OnSome r (count (A.seen self.new) ≡ count (A.seen self.old) + 2)) }
+        ensures none { IfOk result (λ r. IfNone r (self.new ≡ self.old)) }
+        ensures room { count (A.seen self.old) + 2 ≤ (A.seen self.old).capacity → IsOk result }
+        ensures err { OnErr result (self.new ≡ self.old) }
+    {
+        let (a, b) = match self.points(u, v) {
+            Some(both) => both,
+            None => return Ok(None),
+        };
+        self.make_room_for_two()?;
+        let first = add_before(&mut self.corners, u, a);
+        let second = add_after(&mut self.corners, v, b);
+        self.cut(v, first);
+        Ok(Some((first, second)))
+    }
+
+    // The points at two corners.
+    fn points(&self, u: P, v: P) -> Option<(T, T)>
+        ensures some { IsSome result ↔ (IsValid (A.entry self.now) (P.key u) × IsValid (A.entry self.now) (P.key v)) }
+        ensures first { IfSome result (λ r. A.entry self.now (P.key u).0 ≡ Some ((P.key u).1, r.0)) }
+        ensures second { IfSome result (λ r. A.entry self.now (P.key v).0 ≡ Some ((P.key v).1, r.1)) }
+    {
+        let a = self.corners.get(u)?;
+        let b = self.corners.get(v)?;
+        Some((*a, *b))
+    }
+}
+
+// Adds a corner directly before another, where there is room.
+fn add_before<P: PtrKey, T: Drop, A: ChainArenaTrait<P, T>>(corners: &mut A, u: P, t: T) -> P
+    requires valid { IsValid (A.entry corners.old) (P.key u) }
+    requires room { HasRoomLeft (A.seen corners.old) }
+    ensures ring { ComesBefore A.entry A.interlinks cyclic corners.old corners.new (P.key u) (P.key result, t) }
+    ensures corner { IsInserted (A.entry corners.old) (A.entry corners.new) (P.key result) t }
+    ensures others { KeepsWithout A.entry A.interlinks cyclic corners.old corners.new (P.key u ∷ []) }
+    ensures round { GoesRound (A.interlinks corners.old) → GoesRound (A.interlinks corners.new) }
+    ensures size { count (A.seen corners.new) ≡ count (A.seen corners.old) + 1 }
+    ensures capacity { (A.seen corners.new).capacity ≡ (A.seen corners.old).capacity }
+{
+    corners.len();
+    match corners.insert(LinkInsertKind::PrevTo(u), t) {
+        Ok(p) => p,
+        Err(_) => unreachable!(),
+    }
+}
+
+// .. directly after another.
+fn add_after<P: PtrKey, T: Drop, A: ChainArenaTrait<P, T>>(corners: &mut A, v: P, t: T) -> P
+    requires valid { IsValid (A.entry corners.old) (P.key v) }
+    requires room { HasRoomLeft (A.seen corners.old) }
+    ensures ring { ComesAfter A.entry A.interlinks cyclic corners.old corners.new (P.key v) (P.key result, t) }
+    ensures corner { IsInserted (A.entry corners.old) (A.entry corners.new) (P.key result) t }
+    ensures others { KeepsWithout A.entry A.interlinks cyclic corners.old corners.new (P.key v ∷ []) }
+    ensures round { GoesRound (A.interlinks corners.old) → GoesRound (A.interlinks corners.new) }
+    ensures size { count (A.seen corners.new) ≡ count (A.seen corners.old) + 1 }
+    ensures capacity { (A.seen corners.new).capacity ≡ (A.seen corners.old).capacity }
+{
+    match corners.insert(LinkInsertKind::NextTo(v), t) {
+        Ok(p) => p,
+        Err(_) => unreachable!(),
+    }
+}
+
+/// A cut and then a merge of the same two corners leave their polygon as it was, and a merge and then a cut the two polygons, by
+/// what the two calls tell.
+pub fn cut_and_merge_restore<P: PtrKey, T: Drop, A: ChainArenaTrait<P, T>>()
+    ensures { CutAndMergeRestore A.entry A.interlinks }
+{}

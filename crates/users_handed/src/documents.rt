@@ -1,0 +1,36 @@
+// Calls of ordered documents.
+ghost use Rattle.std.specs.Prelude.{◌≡◌, OnOk, OnErr, OnSome, map};
+ghost use Rattle.std.specs.Option.{option_map};
+ghost use Rattle.chain_links.specs.ChainArena.{entry, shown};
+ghost use Rattle.chain_users.specs.Renumbering.{IsRenumbered};
+ghost use Rattle.chain_users.specs.Texts.{IsMovedAfter};
+
+use arena_base::ArenaSlot;
+use arena_ptr::{PtrKey, SlotStack};
+use chain_arena::{ChainArena, LinkNoGen};
+use chain_traits::ChainArenaTrait;
+use chain_users::Documents;
+use std::alloc::{AllocError, Global};
+
+/// `Documents::move_after`, under the clause that says what becomes of the texts.
+pub fn move_after<P: PtrKey, T: Drop, A: ChainArenaTrait<P, T> + Drop>(
+    documents: &mut Documents<P, T, A>,
+    p: P,
+    q: P,
+) -> Option<()>
+    ensures texts { OnSome result (IsMovedAfter A.entry A.interlinks documents.old documents.new (P.key p) (P.key q)) }
+{
+    documents.move_after(p, q)
+}
+
+/// `Documents::renumber`.
+pub fn renumber<P: PtrKey, T: Drop, S: SlotStack<Item = ArenaSlot<P, LinkNoGen<P, T>>>>(
+    documents: &mut Documents<P, T, ChainArena<P, T, S>>,
+    alloc: Global,
+    bookmarks: &mut [Option<P>],
+) -> Result<(), AllocError>
+    ensures renumbered { OnOk result (IsRenumbered entry shown documents.old documents.new (map (option_map P.key) bookmarks.old) (map (option_map P.key) bookmarks.new)) }
+    ensures err { OnErr result ((documents.new ≡ documents.old) × (bookmarks.new ≡ bookmarks.old)) }
+{
+    documents.renumber(alloc, bookmarks)
+}
