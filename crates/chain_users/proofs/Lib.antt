@@ -2,6 +2,7 @@ mod Carrying
 mod Changes
 mod Following
 mod Lists
+mod Looking
 mod Mapped
 mod Moves
 mod Moving

@@ -6,6 +6,7 @@ mod bookmarks;
 mod documents;
 mod mesh;
 mod queue;
+pub mod ties;
 
 pub use documents::Documents;
 pub use mesh::{Mesh, cut_and_merge_restore};

@@ -1,6 +1,5 @@
-//! What code looks like that stands on arenas of links: each function is generic in the arena, and proved by the clauses of
-//! `ChainArenaTrait` alone, all but the last with no answer written by hand. docs/CALLING.md goes through them.
-#![tactic(auto)]
+//! Small calls on any arena of links, each proved by the clauses of `ChainArenaTrait` alone, and all but the last with no answer
+//! written by hand. docs/CALLING.md goes through them.
 
 ghost use Rattle.std.specs.Prelude.{◌≡◌, ◌↔◌, ℕ, List, None, Some, IsSome, IfSome, IsTrue, IfOk, OnErr};
 ghost use Rattle.chain_laws.specs.Chains.{linear, cyclic, IsChain, first_or, last_or, next_of};
@@ -11,7 +10,8 @@ ghost use Rattle.arena_base.specs.Arena.{IsValid};
 ghost use Rattle.chain_links.specs.ChainArena.{CanConnect};
 
 use arena_ptr::{ChainInsertionError, InxKey, PtrKey};
-use chain_arena::{ChainArenaTrait, LinkInsertKind};
+use chain_links::LinkInsertKind;
+use chain_traits::ChainArenaTrait;
 
 /// Makes q the link after p, and tells whether it could. What else is a chain stays one, link for link.
 pub fn tie<P: PtrKey, T: Drop, A: ChainArenaTrait<P, T>>(arena: &mut A, p: P, q: P) -> bool
