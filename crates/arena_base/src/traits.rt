@@ -185,6 +185,7 @@ pub trait ArenaTrait<P: PtrKey, T: Drop> {
     /// `InvalidPtr`: the pointer is not valid, and nothing has changed. `GenerationOverflow`: the counter was at its
     /// greatest, and is two now.
     fn invalidate(&mut self, p: P) -> InvalidationResult<P>
+        ensures some { IsSome (value_within result) ↔ IsValid (entry self.old) (P.key p) }
         ensures valid { IsValid (entry self.old) (P.key p) → IfSome (value_within result) (λ q.
             ((P.key q).0 ≡ (P.key p).0) × (seen self.new ≡ renewed (seen self.old) (P.key q))) × IsSome (value_within result) }
         ensures counter { IfSome (seen self.old).counter (λ g. (result ≡ invalidation_result (P.Gen.wraps g) (value_within result))
@@ -197,6 +198,7 @@ pub trait ArenaTrait<P: PtrKey, T: Drop> {
     /// `InvalidPtr`: the pointer is not valid, and nothing has changed. `GenerationOverflow`: the counter was at its
     /// greatest, and is two now.
     fn remove(&mut self, p: P) -> InvalidationResult<T>
+        ensures some { IsSome (value_within result) ↔ IsValid (entry self.old) (P.key p) }
         ensures valid { IsValid (entry self.old) (P.key p) → (value_within result ≡ option_map (λ e. e.1) (entry self.old (P.key p).0))
             × (seen self.new ≡ entry_removed P.Gen.following (seen self.old) (P.key p).0) }
         ensures overflow { IfSome (seen self.old).counter (λ g. result ≡ invalidation_result (P.Gen.wraps g) (value_within result)) }

@@ -85,6 +85,10 @@ module _ {Gen K T : Type 0} (packed : K → Option ℕ) (following : Gen → Gen
   some_taken : is_some (entry a n) ≡ true → is_some taken ≡ true
   some_taken stands = sym (is_some-map (on_value held_in) taken) ∙ (ap is_some value ∙ stands)
 
+  -- where a valid pointer names it, something was taken
+  pub taken_at : (p : ℕ × Gen) → n ≡ p.0 → IsValid (entry a) p → is_some taken ≡ true
+  taken_at p at valid = some_taken (ap (λ i. is_some (entry a i)) at ∙ ap is_some valid.stands)
+
   module _ (removal : is_some taken ≡ true → IsRemoval following a n b) where
     -- where a link stands, it is removed
     pub removal_there : is_some (entry a n) ≡ true → IsRemoval following a n b

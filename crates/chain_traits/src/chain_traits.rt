@@ -190,6 +190,7 @@ pub trait ChainArenaTrait<P: PtrKey, T: Drop>: ArenaTrait<P, T> {
     /// `InvalidPtr`: the pointer is not valid, and nothing has changed. `GenerationOverflow`: the counter was at its
     /// greatest, and is two now.
     fn remove_link_no_gen(&mut self, p: P) -> InvalidationResult<LinkNoGen<P, T>>
+        ensures some { IsSome (value_within result) ↔ IsValid (Self.entry self.old) (P.key p) }
         ensures valid { IsValid (Self.entry self.old) (P.key p) → YieldsLink Self.seen Self.entry interlinks P.Inx.packed_number P.Gen.following (P.key p) self.old (value_within result) self.new }
         ensures chains { IsValid (Self.entry self.old) (P.key p) → Removes (interlinks self.old) (interlinks self.new) (P.key p).0 }
         ensures overflow { IfSome (Self.seen self.old).counter (λ g. result ≡ invalidation_result (P.Gen.wraps g) (value_within result)) }

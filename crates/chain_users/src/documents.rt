@@ -141,9 +141,6 @@ impl<P: PtrKey, T: Drop, A: ChainArenaTrait<P, T> + Drop> Documents<P, T, A> {
         ensures size { OnSome result (count (A.seen self.old) ≡ count (A.seen self.new) + 1) }
         ensures none { IfNone result (self.new ≡ self.old) }
     {
-        if !self.paragraphs.contains(p) {
-            return None;
-        }
         self.paragraphs.agrees();
         self.paragraphs.remove(p).allow()
     }

@@ -118,9 +118,6 @@ impl<P: PtrKey, T: Drop, A: ChainArenaTrait<P, T> + Drop> Mesh<P, T, A> {
         ensures size { OnSome result (count (A.seen self.old) ≡ count (A.seen self.new) + 1) }
         ensures none { IfNone result (self.new ≡ self.old) }
     {
-        if !self.corners.contains(corner) {
-            return None;
-        }
         self.corners.agrees();
         self.corners.remove(corner).allow()
     }

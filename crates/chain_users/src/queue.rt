@@ -104,12 +104,11 @@ impl<P: PtrKey, T: Drop, A: ChainArenaTrait<P, T> + Drop> RunQueue<P, T, A> {
         ensures none { IfNone result ((self.new ≡ self.old) × ¬ IsAmong (P.key p) self.old) }
     {
         let current = self.current?;
-        if !self.tasks.contains(p) {
-            return None;
-        }
-        self.current = current_without(&self.tasks, current, p);
+        let next = current_without(&self.tasks, current, p);
         self.tasks.agrees();
-        self.tasks.remove(p).allow()
+        let task = self.tasks.remove(p).allow()?;
+        self.current = next;
+        Some(task)
     }
 
     // Takes the current task out. The next one is current then.

@@ -1,5 +1,5 @@
 // Calls of ordered documents.
-ghost use Rattle.std.specs.Prelude.{◌≡◌, OnOk, OnErr, OnSome, map};
+ghost use Rattle.std.specs.Prelude.{OnOk, OnSome, map};
 ghost use Rattle.std.specs.Option.{option_map};
 ghost use Rattle.chain_links.specs.ChainArena.{entry, shown};
 ghost use Rattle.chain_users.specs.Renumbering.{IsRenumbered};
@@ -18,19 +18,18 @@ pub fn move_after<P: PtrKey, T: Drop, A: ChainArenaTrait<P, T> + Drop>(
     p: P,
     q: P,
 ) -> Option<()>
-    ensures texts { OnSome result (IsMovedAfter A.entry A.interlinks documents.old documents.new (P.key p) (P.key q)) }
+    ensures { OnSome result (IsMovedAfter A.entry A.interlinks documents.old documents.new (P.key p) (P.key q)) }
 {
     documents.move_after(p, q)
 }
 
-/// `Documents::renumber`.
+/// `Documents::renumber`, under the clause that says what the bookmarks name.
 pub fn renumber<P: PtrKey, T: Drop, S: SlotStack<Item = ArenaSlot<P, LinkNoGen<P, T>>>>(
     documents: &mut Documents<P, T, ChainArena<P, T, S>>,
     alloc: Global,
     bookmarks: &mut [Option<P>],
 ) -> Result<(), AllocError>
-    ensures renumbered { OnOk result (IsRenumbered entry shown documents.old documents.new (map (option_map P.key) bookmarks.old) (map (option_map P.key) bookmarks.new)) }
-    ensures err { OnErr result ((documents.new ≡ documents.old) × (bookmarks.new ≡ bookmarks.old)) }
+    ensures { OnOk result (IsRenumbered entry shown documents.old documents.new (map (option_map P.key) bookmarks.old) (map (option_map P.key) bookmarks.new)) }
 {
     documents.renumber(alloc, bookmarks)
 }

@@ -1,7 +1,9 @@
 -- The link goes, and its neighbours are linked.
-use Rattle.std.proofs.Common.{◌∙◌}
+use Rattle.std.proofs.Common.{ap, ◌∙◌}
+use Rattle.std.specs.Prelude.{is_some}
 use Rattle.arena_ptr.specs.Invalidation.{value_within}
-use Rattle.chain_arena.proofs.Taking.{removal_at, same_overflow, seen_at, value_alone_told}
+use Rattle.chain_links.proofs.Mapping.{is_some-map}
+use Rattle.chain_arena.proofs.Taking.{removal_at, same_overflow, seen_at, taken_at, value_alone_told}
 use Rattle.chain_arena.proofs.impl_arena_trait.ChainArenaArenaTrait.remove.Goals as goal
 
 pub returns-then-contains : goal.returns-then-contains
@@ -17,6 +19,7 @@ returns-then-contains g c =
     let alone = c.value_alone.ensures in
     let stood = c.contains.ensures.0 c.if-contains.true in
     rw (← c.inx.ensures) (record {
+      some = (λ _. stood, λ _. ap is_some alone.value ∙ (is_some-map (λ e. e.1.t) taken ∙ taken_at packed following a b i taken made.answer p c.inx.ensures stood));
       valid = λ _. (
         alone.value ∙ value_alone_told packed following a b i taken made.answer,
         seen_at packed following a b i taken made.answer made.removal p c.inx.ensures stood,

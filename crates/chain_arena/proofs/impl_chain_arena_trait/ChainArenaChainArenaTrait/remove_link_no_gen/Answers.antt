@@ -2,12 +2,14 @@
 use Rattle.std.proofs.Common.{refl, sym, ap, ◌∙◌, subst}
 use Rattle.std.proofs.lemmas.Bool.{false≢true}
 use Rattle.std.specs.Option.{option_map}
+use Rattle.std.specs.Prelude.{is_some}
 use Rattle.arena_ptr.specs.Invalidation.{value_within}
 use Rattle.chain_laws.specs.Chains.{Agrees}
 use Rattle.arena_base.specs.Arena.{IsValid}
 use Rattle.chain_links.specs.ChainArena.{entry, shown}
 use Rattle.chain_links.specs.Links.{seen_link}
-use Rattle.chain_arena.proofs.Taking.{link_alone_told, removal_at, same_overflow, seen_at}
+use Rattle.chain_links.proofs.Mapping.{is_some-map}
+use Rattle.chain_arena.proofs.Taking.{link_alone_told, removal_at, same_overflow, seen_at, taken_at}
 use Rattle.chain_arena.proofs.impl_chain_arena_trait.ChainArenaChainArenaTrait.remove_link_no_gen.Goals as goal
 
 pub returns-then-contains : goal.returns-then-contains
@@ -24,6 +26,7 @@ returns-then-contains g c =
     let stood = c.contains.ensures.0 c.if-contains.true in
     let removal = removal_at packed following a b i taken made.answer made.removal p c.inx.ensures stood in
     rw (← c.inx.ensures) (record {
+      some = (λ _. stood, λ _. ap is_some alone.value ∙ (is_some-map (λ e. e.1) taken ∙ taken_at packed following a b i taken made.answer p c.inx.ensures stood));
       valid = λ _. (
         ap (option_map (λ link. (p.1, seen_link packed link))) alone.value
             ∙ link_alone_told packed following a b i taken made.answer p.1 stood.value (ap (entry a) c.inx.ensures ∙ stood.stands),
@@ -40,6 +43,7 @@ returns-then-contains g c =
 pub returns-else-contains : goal.returns-else-contains
 returns-else-contains g c =
     let no : IsValid (entry c.args.self.now) (g.P.PtrKey.key c.args.p) → ⊥ = (λ valid. false≢true (sym c.if-contains.false ∙ c.contains.ensures.1 valid)) in record {
+      some = (λ some. absurd (let h = some in cc), λ valid. absurd (no valid));
       valid = λ valid. absurd (no valid);
       overflow = refl;
       invalid = λ _. (refl, refl);
