@@ -17,6 +17,7 @@ use Rattle.chain_laws.proofs.Backing.{length_among}
 use Rattle.chain_traits.proofs.AnyArena.{found_has}
 use Rattle.chain_users.specs.Lists.{Item, Stand, indexes, IsAmong}
 use Rattle.chain_users.specs.Turns.{IsTurn, IsCancelled, items_from, put_first, turn_of, turned_once}
+use Rattle.chain_users.proofs.Removing.{HasGone}
 use Rattle.chain_users.proofs.Lists.{stand-append, stand-left, stand-right, stand-frame, among-left, among-right, stand_kept, stand-some, rises_once, has_found}
 
 module _ {Gen T : Type 0} where
@@ -299,3 +300,27 @@ module _ {A Gen T : Type 0} (seen : A → Seen Gen T) (entry : A → ℕ → Opt
       → ((task : Item Gen T) (rest : List (Item Gen T)) → IsTurn (entry a) (links a) (Some k) (task ∷ rest) → next ≡ first_key (rest ++ task ∷ [])) → IsSettled a next (turned_once (turn_in a current))
   goes_on_in a current next k known is second =
       settle a next (turned_once (turn_in a current)) (goes_on (entry a) (links a) k next (turn_in a current) (subst (λ (o : Option (ℕ × Gen)). IsTurn (entry a) (links a) o (turn_in a current)) known is) second)
+
+  -- a task is cancelled, and the turn is what is left of it
+  pub record IsLeft (a b : A) (current next : Option (ℕ × Gen)) (p : ℕ × Gen) (t : T) : Type 0 where
+    pub cancelled : IsCancelled p t (turn_in a current) (turn_in b next)
+    pub holds : IsTurn (entry b) (links b) next (turn_in b next)
+
+  pub task_goes : (a b : A) (current next : Option (ℕ × Gen)) (k p : ℕ × Gen) → current ≡ Some k → IsTurn (entry a) (links a) current (turn_in a current) → (gone : HasGone seen entry links a b p)
+      → ((before after : List (Item Gen T)) (task : T) → IsTurn (entry a) (links a) (Some k) (before ++ (p, task) ∷ after) → next ≡ first_key (before ++ after)) → IsLeft a b current next p gone.stood.value
+  task_goes a b current next k p known is gone follows =
+      let turn = subst (λ (o : Option (ℕ × Gen)). IsTurn (entry a) (links a) o (turn_in a current)) known is in
+      let split = valid_task (entry a) (links a) (Some k) (turn_in a current) p turn gone.stood in
+      let stood = subst (IsTurn (entry a) (links a) (Some k)) split.2 turn in
+      let left = cancelled (entry a) (links a) (entry b) (links b) (Some k) next split.0 split.1 (p, gone.stood.value) stood (follows split.0 split.1 gone.stood.value stood) gone.gone gone.kept gone.chains in
+      let now = settle b next (split.0 ++ split.1) left in
+      record {
+        cancelled = record {
+          before = split.0;
+          after = split.1;
+          stood = split.2;
+          left = now.is_found;
+          gone = subst (λ l. ¬ IsAmong p l) (sym now.is_found) (not_among (entry a) (links a) (Some k) split.0 split.1 (p, gone.stood.value) stood);
+        };
+        holds = now.holds;
+      }
