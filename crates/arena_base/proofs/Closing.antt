@@ -1,6 +1,6 @@
 -- Slots whose gaps are closed one by one: the entries passed stand at the front, then free slots, and then those to come.
 use Rattle.std.proofs.Common.{◌≡◌, ℕ, zero, suc, ◌+◌, ◌<◌, ◌≤◌, List, [], ◌∷◌, ◌++◌, map, length, drop, Option, None, Some, refl, ap, sym, ◌∙◌, subst, append_assoc, arith}
-use Rattle.std.specs.Prelude.{replicate, slice_index_or, slice_set}
+use Rattle.std.specs.Prelude.{replicate, slice_index_or, slice_set, IsSome}
 use Rattle.std.specs.Option.{option_map}
 use Rattle.std.specs.List.{FoldsTo}
 use Rattle.std.specs.Fn.{Mut}
@@ -9,7 +9,7 @@ use Rattle.std.proofs.lemmas.Fn.{FoldsTo-push}
 use denote.Ref.{MutBor}
 use Rattle.arena_base.specs.Arena.{Arena, slot_at, with_slot}
 use Rattle.arena_base.specs.Entries.{entries_from}
-use Rattle.arena_base.specs.Compacting.{Held, with_touch, with_placement}
+use Rattle.arena_base.specs.Compacting.{Held, IsPacked, with_touch, with_placement}
 use Rattle.arena_base.specs.Compressing.{Visit, IsVisit, VisitsAll}
 use Rattle.arena_base.specs.Closing.{fronted, AreClosed, with_totals}
 use Rattle.arena_base.proofs.Trimming.{drop-at}
@@ -92,6 +92,33 @@ module _ {Gen T : Type 0} (g : Gen) where
   entries-closed [] zero i = refl
   entries-closed [] (suc n) i = entries-closed [] n (suc i)
   entries-closed (v ∷ values) n i = ap (λ es. ((i, g), v) ∷ es) (entries-closed values n (suc i))
+
+  -- values before free slots are packed
+  packed-fronted : (values : List T) (n : ℕ) → IsPacked (fronted g values (replicate n None)) (length values)
+  packed-fronted values n = record { taken = λ i low high. taken values i low high; free = λ i above. free values i above }
+    where
+      taken_at : (values : List T) (k : ℕ) → k < length values → IsSome (slice_index_or (fronted g values (replicate n None)) k None)
+      taken_at [] k below = absurd (omega (arith, below))
+      taken_at (v ∷ values) zero below = refl
+      taken_at (v ∷ values) (suc k) below = taken_at values k (omega (arith, below))
+
+      none_at : (n k : ℕ) → slice_index_or (replicate {A = Option (Gen × T)} n None) k None ≡ None
+      none_at zero k = refl
+      none_at (suc n) zero = refl
+      none_at (suc n) (suc k) = none_at n k
+
+      free_at : (values : List T) (k : ℕ) → length values ≤ k → slice_index_or (fronted g values (replicate n None)) k None ≡ None
+      free_at [] k above = none_at n k
+      free_at (v ∷ values) zero above = absurd (omega (arith, above))
+      free_at (v ∷ values) (suc k) above = free_at values k (omega (arith, above))
+
+      taken : (values : List T) (i : ℕ) → 1 ≤ i → i ≤ length values → IsSome (slot_at (fronted g values (replicate n None)) i)
+      taken values zero low high = absurd (omega (arith, low))
+      taken values (suc k) low high = taken_at values k (omega (arith, high))
+
+      free : (values : List T) (i : ℕ) → length values < i → slot_at (fronted g values (replicate n None)) i ≡ None
+      free values zero above = refl
+      free values (suc k) above = free_at values k (omega (arith, above))
 
 -- the entry of a slot that has a generation
 entry_there : {Gen T : Type 0} (o : Option (Gen × T)) (g : Gen) → Some g ≡ option_map (λ (e : Gen × T). e.0) o → (e : Gen × T) × (o ≡ Some e) × (e.0 ≡ g)
@@ -234,6 +261,10 @@ module _ {F P T Gen : Type 0} (g : Mut F (P × (MutBor T × (P × Unit {0}))) (U
 
     after_all : map (after_visit key) c.visits ≡ entries_from 1 slots
     after_all = c.after ∙ (sym (entries-closed generation c.values c.free 1) ∙ ap (entries_from 1) (sym closed_now))
+
+    -- .. and stands at the front
+    pub closing_packs : IsPacked slots count
+    closing_packs = subst (λ (p : List (Option (Gen × T)) × ℕ). IsPacked p.0 p.1) (λ i. (sym closed_now i, c.seen i)) (packed-fronted generation c.values c.free)
 
     pub closing_visits : VisitsAll g key first (entries_from 1 old) (entries_from 1 slots)
     closing_visits = record { visits = c.visits; last = f; in_turn = c.in_turn; before = before_all; after = after_all }

@@ -67,7 +67,7 @@ some_of None is = cc
 some_of (Some x) is = (x, refl)
 
 module _ {P T Inx Gen Word : Type 0} where
-  map-take : (slots : List (ArenaSlot P T Inx Gen Word)) (k : ℕ) → map entry_of (take k slots) ≡ take k (map entry_of slots)
+  pub map-take : (slots : List (ArenaSlot P T Inx Gen Word)) (k : ℕ) → map entry_of (take k slots) ≡ take k (map entry_of slots)
   map-take [] zero = refl
   map-take [] (suc k) = refl
   map-take (s ∷ slots) zero = refl

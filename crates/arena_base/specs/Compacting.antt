@@ -1,5 +1,5 @@
 -- The slots of an arena while entries are moved, and what the arena is before and after.
-use Rattle.std.specs.Prelude.{ℕ, suc, ◌+◌, ◌-◌, ◌^◌, min, List, [], ◌∷◌, Option, None, Some}
+use Rattle.std.specs.Prelude.{◌≡◌, ℕ, suc, ◌+◌, ◌-◌, ◌^◌, ◌≤◌, ◌<◌, min, List, [], ◌∷◌, Option, None, Some, IsSome}
 use Rattle.std.specs.Option.{option_map}
 use Rattle.std.specs.Borrow.{Bor}
 use Rattle.arena_base.specs.Arena.{Arena, slot_at, with_slot}
@@ -31,6 +31,11 @@ module _ {X : Type 0} where
   free_from i [] = []
   free_from i (None ∷ slots) = i ∷ free_from (suc i) slots
   free_from i (Some x ∷ slots) = free_from (suc i) slots
+
+-- entries stand at the indexes from 1 to n, and at no others
+pub record IsPacked {X : Type 0} (slots : List (Option X)) (n : ℕ) : Type 0 where
+  pub taken : (i : ℕ) → 1 ≤ i → i ≤ n → IsSome (slot_at slots i)
+  pub free : (i : ℕ) → n < i → slot_at slots i ≡ None
 
 module _ {Gen T : Type 0} where
   -- an entry as a look at both its parts shows it

@@ -6,7 +6,7 @@ ghost use Rattle.arena_ptr.specs.Invalidation.{invalidation_option, invalidation
 ghost use Rattle.arena_base.specs.Slots.{entry_of};
 ghost use Rattle.arena_base.specs.Entries.{entries, entries_from, key_at, first_key, last_key};
 ghost use Rattle.arena_base.specs.Advancing.{ahead};
-ghost use Rattle.arena_base.specs.Compacting.{held_of, lent_out, returned, with_placement, with_touch};
+ghost use Rattle.arena_base.specs.Compacting.{held_of, lent_out, returned, IsPacked, with_placement, with_touch};
 ghost use Rattle.arena_base.specs.Arena.{entry_at, entry_count, next_index, insert_next, remove_at, renewed_at, with_counter, with_capacity_of, with_maximum, new_arena, HasRoom, HasGrownTo, IsWithinReach};
 
 use crate::held::HeldSlots;
@@ -307,6 +307,18 @@ impl<P: PtrKey, T: Drop, S: SlotStack<Item = ArenaSlot<P, T>>> Arena<P, T, S> {
         self.slots = slots;
         self.len = len;
         self.first_free = first_free;
+    }
+
+    // Takes slots back of which the first so many are the entries: the others are cut off, and none is looked at.
+    pub(crate) fn return_packed(&mut self, held: HeldSlots<P, T, S>, count: usize)
+        requires { IsPacked held.slots count }
+        ensures { self.new ≡ returned P.Inx.greatest self.old held }
+    {
+        let HeldSlots { mut slots } = held;
+        slots.truncate(count);
+        self.slots = slots;
+        self.len = count;
+        self.first_free = None;
     }
 
     // Counts one placement.

@@ -4,7 +4,7 @@ ghost use Rattle.std.specs.Option.{option_map, option_copied_mut};
 ghost use Rattle.std.specs.Borrow.{LendsSo, follows_so, sem};
 ghost use mathlib.Core.Option.{none};
 ghost use Rattle.arena_base.specs.Arena.{slot_at};
-ghost use Rattle.arena_base.specs.Compacting.{Held, seen_parts, placed, held_with_value, held_of, lent_out, returned, with_touch, with_placement, one_more};
+ghost use Rattle.arena_base.specs.Compacting.{Held, seen_parts, placed, held_with_value, held_of, lent_out, returned, IsPacked, with_touch, with_placement, one_more};
 
 use crate::arena::Arena;
 use crate::held::{HeldSlots, LendsValue};
@@ -91,6 +91,24 @@ impl<'a, P: PtrKey, T: Drop, S: SlotStack<Item = ArenaSlot<P, T>>> Compactor<'a,
             touched,
         } = self;
         arena.return_slots(held);
+        Work { placed, touched }
+    }
+
+    /// Gives the slots back as `finish` does, where the first so many are the entries and no others: then it looks at none
+    /// of them. Answers what was counted.
+    pub fn finish_packed(self, count: usize) -> Work
+        requires { IsPacked self.held.slots count }
+        ensures arena { self.exit.0.now ≡ returned P.Inx.greatest self.entry.arena.now self.entry.held }
+        ensures placed { result.placed ≡ self.entry.placed }
+        ensures touched { result.touched ≡ self.entry.touched }
+    {
+        let Compactor {
+            arena,
+            held,
+            placed,
+            touched,
+        } = self;
+        arena.return_packed(held, count);
         Work { placed, touched }
     }
 }

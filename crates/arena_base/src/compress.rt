@@ -3,7 +3,7 @@ ghost use Rattle.std.specs.Prelude.{◌≡◌, ◌≤◌, ◌<◌, ◌+◌, leng
 ghost use Rattle.std.specs.Option.{option_map};
 ghost use Rattle.arena_base.specs.Arena.{slot_at};
 ghost use Rattle.arena_base.specs.Entries.{entries_from};
-ghost use Rattle.arena_base.specs.Compacting.{placed, with_touch, with_placement};
+ghost use Rattle.arena_base.specs.Compacting.{placed, IsPacked, with_touch, with_placement};
 ghost use Rattle.arena_base.specs.Compressing.{VisitsAll};
 ghost use Rattle.arena_base.specs.Closing.{AreClosed, IsGathered, with_totals};
 
@@ -38,17 +38,18 @@ fn close_gap<P: PtrKey, T: Drop, S: SlotStack<Item = ArenaSlot<P, T>>>(
 
 // Brings each entry to the first index that is free, by rising index, gives it the generation, and shows it to the
 // closure: with the pointer that it had, its value, for writing, and the pointer that it has. Each slot is looked at
-// once, and each value lent once.
+// once, and each value lent once. Answers the number of entries, which stand in the first slots then.
 fn close_gaps<
     P: PtrKey,
     T: Drop,
     S: SlotStack<Item = ArenaSlot<P, T>>,
     F: FnMut(P, &mut T, P) + Drop,
->(compactor: &mut Compactor<'_, P, T, S>, generation: P::Gen, mut map: F)
+>(compactor: &mut Compactor<'_, P, T, S>, generation: P::Gen, mut map: F) -> usize
     requires callable { F.IsAlwaysCallable map }
     requires fits { length compactor.old.held.slots ≤ P.Inx.greatest }
     ensures same_reference { compactor.new.arena.ghost_name ≡ compactor.old.arena.ghost_name }
     ensures closed { AreClosed generation compactor.old.held compactor.new.held }
+    ensures packed { IsPacked compactor.new.held.slots result }
     ensures visits { VisitsAll F.FnMut P.key map (entries_from 1 compactor.old.held.slots) (entries_from 1 compactor.new.held.slots) }
     ensures totals { compactor.new.arena.now ≡ with_totals compactor.old.arena.now (length (entries_from 1 compactor.old.held.slots))
         (length compactor.old.held.slots + length (entries_from 1 compactor.old.held.slots)) }
@@ -65,6 +66,7 @@ fn close_gaps<
             }
         }
     }
+    count
 }
 
 impl<P: PtrKey, T: Drop, S: SlotStack<Item = ArenaSlot<P, T>>> Arena<P, T, S> {
@@ -76,7 +78,7 @@ impl<P: PtrKey, T: Drop, S: SlotStack<Item = ArenaSlot<P, T>>> Arena<P, T, S> {
     {
         let generation = self.counter;
         let mut compactor = self.compactor();
-        close_gaps(&mut compactor, generation, map);
-        drop(compactor);
+        let count = close_gaps(&mut compactor, generation, map);
+        compactor.finish_packed(count);
     }
 }

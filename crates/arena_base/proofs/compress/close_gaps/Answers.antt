@@ -3,7 +3,7 @@ use Rattle.std.proofs.Common.{◌≡◌, ◌+◌, ◌≤◌, length, refl, sym, 
 use Rattle.arena_base.specs.Closing.{with_totals}
 use Rattle.std.specs.Option.{option_copied_mut}
 use Rattle.arena_base.specs.Arena.{slot_at}
-use Rattle.arena_base.proofs.Closing.{none_there, closing_length, closing_begins, brought_stands, closing_frees, closing_brings, closing_visits, closing_counts, closing_closes, totals_begin, totals_looked, totals_brought}
+use Rattle.arena_base.proofs.Closing.{none_there, closing_length, closing_begins, brought_stands, closing_frees, closing_brings, closing_visits, closing_counts, closing_closes, closing_packs, totals_begin, totals_looked, totals_brought}
 use Rattle.arena_base.proofs.compress.close_gaps.Goals.{in-Some+in-Some-value_mut, in_default}
 use Rattle.arena_base.proofs.compress.close_gaps.Goals as goal
 
@@ -85,6 +85,7 @@ returns g c =
     record {
       same_reference = at.same_reference;
       closed = closing_closes g.F.FnMut g.P.PtrKey.key c.args.generation c.args.map old.held.slots c.loop-k.k c.loop-k.count c.loop-k.map now.slots at.closing all old.held now refl refl at.capacity at.maximum;
+      packed = closing_packs g.F.FnMut g.P.PtrKey.key c.args.generation c.args.map old.held.slots c.loop-k.k c.loop-k.count c.loop-k.map now.slots at.closing all;
       visits = closing_visits g.F.FnMut g.P.PtrKey.key c.args.generation c.args.map old.held.slots c.loop-k.k c.loop-k.count c.loop-k.map now.slots at.closing all;
       totals = at.totals ∙ (λ i. with_totals old.arena.now (count i) (all i + count i));
     }

@@ -1,0 +1,29 @@
+-- The first slots are the entries, and none of them is free.
+use Rattle.std.proofs.Common.{map, sym, None, subst}
+use Rattle.std.specs.Prelude.{[]}
+use Rattle.arena_base.specs.Compacting.{IsPacked}
+use Rattle.arena_base.specs.Slots.{entry_of, IsSound}
+use Rattle.arena_base.proofs.Soundness.{closed, walked_all}
+use Rattle.arena_base.proofs.Packing.{packed-within, packed-entries, packed-none_free, packed_sound}
+use Rattle.arena_base.proofs.arena.Arena.return_packed.Goals.{After-truncate}
+use Rattle.arena_base.proofs.arena.Arena.return_packed.Given.{Over}
+use Rattle.arena_base.proofs.arena.Arena.return_packed.Goals as goal
+
+pub truncate-requires : goal.truncate-requires
+truncate-requires g c =
+    packed-within c.args.count (g.S.SlotStack.items c.held.inside.slots) (subst (λ h. IsPacked h.slots c.args.count) (sym c.held.view_is) c.requires)
+
+-- what is left is sound
+sound : (g : Over) (c : After-truncate g) → IsSound g.P.Inx.InxKey.number (g.S.SlotStack.items c.truncate.new.self) g.P.Inx.InxKey.greatest c.args.count None []
+sound g c =
+    let items = g.S.SlotStack.items c.held.inside.slots in
+    rw c.truncate.ensures.items (packed_sound c.args.count items (subst (λ h. IsPacked h.slots c.args.count) (sym c.held.view_is) c.requires) g.P.Inx.InxKey.number g.P.Inx.InxKey.greatest c.held.invariant)
+
+pub invariant_of-self : goal.invariant_of-self
+invariant_of-self g c = closed g.P.Inx.InxKey.number (sound g (goal.at.invariant_of-self g c).After-truncate)
+
+pub returns : goal.returns
+returns g c =
+    let items = g.S.SlotStack.items c.held.inside.slots in
+    let packed = subst (λ h. IsPacked h.slots c.args.count) (sym c.held.view_is) c.requires in
+    rw (← c.self.view_is, ← c.held.view_is, walked_all g.P.Inx.InxKey.number (sound g (goal.at.returns g c).After-truncate), c.truncate.ensures.capacity, c.truncate.ensures.maximum, c.truncate.ensures.items, packed-entries c.args.count items packed, packed-none_free c.args.count (map entry_of items) packed)

@@ -1,0 +1,92 @@
+// Looks at links.
+ghost use Rattle.std.specs.Prelude.{◌≡◌, None};
+
+use crate::cases::Looking;
+use crate::seen::Seen;
+use crate::shapes::{Chains, Numbered, Slot};
+use arena_base::{Advancer, ArenaTrait};
+use arena_ptr::SlotStack;
+use chain_arena::ChainArenaTrait;
+
+/// Looks at links, and sees their pointers and values.
+pub fn look<P: Numbered, S: SlotStack<Item = Slot<P>>>(
+    looking: Looking,
+    arena: &Chains<P, S>,
+    starts: &[P],
+    picks: &[(P, P)],
+) -> Seen {
+    match looking {
+        Looking::Link => look_at_links(arena, picks),
+        Looking::Walk => walk(arena, starts),
+        Looking::Advance => advance(arena, starts),
+        Looking::Iterate => iterate(arena),
+    }
+}
+
+// The first link of each pair, with the pointers to its neighbours.
+#[inline(never)]
+fn look_at_links<P: Numbered, S: SlotStack<Item = Slot<P>>>(
+    arena: &Chains<P, S>,
+    picks: &[(P, P)],
+) -> Seen {
+    let mut seen = Seen::nothing();
+    for pick in picks {
+        if let Some(link) = arena.get_link(pick.0) {
+            let beside = number_of(link.prev()) ^ number_of(link.next());
+            seen = seen.and_one(beside ^ u64::from(*link.t));
+        }
+    }
+    seen
+}
+
+// All links along the chains, by the iterator.
+#[inline(never)]
+fn walk<P: Numbered, S: SlotStack<Item = Slot<P>>>(arena: &Chains<P, S>, starts: &[P]) -> Seen {
+    let mut seen = Seen::nothing();
+    for start in starts {
+        if let Some(links) = arena.iter_chain(*start) {
+            for (p, link) in links {
+                seen = seen.and_one(p.number() ^ u64::from(link.t));
+            }
+        }
+    }
+    seen
+}
+
+// All links along the chains, by the advancer.
+#[inline(never)]
+fn advance<P: Numbered, S: SlotStack<Item = Slot<P>>>(arena: &Chains<P, S>, starts: &[P]) -> Seen {
+    let mut seen = Seen::nothing();
+    for start in starts {
+        let mut advancer = arena.advancer_chain(*start);
+        for _ in 0..arena.len() {
+            match advancer.advance(arena) {
+                Some(p) => {
+                    seen = seen.and_one(p.number());
+                }
+                None => break,
+            }
+        }
+    }
+    seen
+}
+
+// All links by their indexes.
+#[inline(never)]
+fn iterate<P: Numbered, S: SlotStack<Item = Slot<P>>>(arena: &Chains<P, S>) -> Seen {
+    let mut seen = Seen::nothing();
+    for (p, link) in arena.iter_link_no_gen() {
+        seen = seen.and_one(p.number() ^ u64::from(link.t));
+    }
+    seen
+}
+
+// A pointer as a number, 0 for none.
+fn number_of<P: Numbered>(p: Option<P>) -> u64
+    ensures { p ≡ None → result ≡ 0 }
+{
+    match p {
+        Some(p) => p.number(),
+        None => 0,
+    }
+}
