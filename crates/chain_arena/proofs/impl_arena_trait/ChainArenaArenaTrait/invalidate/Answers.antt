@@ -25,6 +25,7 @@ returns g c =
     let made = c.invalidate.ensures in
     let same = same_valid number a (g.P.PtrKey.key c.args.p) in
     rw (← c.self.view_is) (record {
+      some = (λ is. same.0 (made.some.0 is), λ valid. made.some.1 (same.1 valid));
       valid = λ valid.
           let stands = same.1 valid in
           renewed-told number following a _ _ (made.more stands) _ g.P.PtrKey.key (value_within c.invalidate.result) (made.valid stands) made.counter.1;
