@@ -1,13 +1,12 @@
 -- The walk back from a link, among the slots that a compactor holds: how many looks it takes.
-use Rattle.std.proofs.Common.{◌≡◌, ℕ, suc, ◌+◌, ◌∙◌, ◌<◌, ◌≤◌, List, ◌∷◌, length, Option, ap, subst, length-append, arith}
-use Rattle.std.specs.List.{range_with_len}
-use Rattle.std.proofs.lemmas.List.FromFn.{length-range_with_len}
-use Rattle.chain_laws.specs.Chains.{Shown, linear, cyclic, Has, IsChain, HasLink, Agrees}
+use Rattle.std.proofs.Common.{◌≡◌, ℕ, suc, ◌+◌, ◌∙◌, ◌<◌, ◌≤◌, ◌⊎◌, inl, inr, List, ◌∷◌, length, Option, ap, length-append, arith}
+use Rattle.chain_laws.specs.Chains.{Shown, Chain, linear, cyclic, items, Has, IsChain}
 use Rattle.chain_laws.specs.Starts.{IsBack}
-use Rattle.chain_laws.proofs.Backing.{back_is_short}
-use Rattle.chain_laws.proofs.Ranges.{range-Has}
+use Rattle.chain_laws.proofs.Members.{length_bound}
+use Rattle.chain_laws.proofs.Unique.{chain_once, chain_valid}
 use Rattle.chain_links.specs.declared.links.LinkBody.{LinkBody}
 use Rattle.chain_layout.specs.HeldLinks.{interlinks_seen, shown_in}
+use Rattle.chain_layout.specs.Numbering.{HasChainFrom}
 use Rattle.chain_links.proofs.Inserting.{slots-within}
 
 module _ (shown : Shown) (i steps here : ℕ) (back : IsBack shown i steps here) where
@@ -28,10 +27,15 @@ module _ (shown : Shown) (i steps here : ℕ) (back : IsBack shown i steps here)
       omega arith
 
 -- a walk back takes fewer steps than there are slots
-pub back_within : {Gen K T : Type 0} (number : K → Option ℕ) (slots : List (Option (Gen × LinkBody K T))) (i steps here : ℕ) → Agrees (shown_in number slots) → HasLink (shown_in number slots) i
-    → IsBack (shown_in number slots) i steps here → steps < length slots
-back_within number slots i steps here agrees valid back =
-    let inside = slots-within (interlinks_seen number) slots in
-    subst (λ n. steps < n) (length-range_with_len 1 (length slots))
-    (back_is_short (shown_in number slots) (length slots) i steps here (range_with_len 1 (length slots)) agrees inside valid
-    (λ j v. let at = inside.within j v in range-Has 1 (length slots) j at.0 (omega (arith, at.1))) back)
+pub back_within : {Gen K T : Type 0} (number : K → Option ℕ) (slots : List (Option (Gen × LinkBody K T))) (i steps here : ℕ) → HasChainFrom (shown_in number slots) i → IsBack (shown_in number slots) i steps here
+    → steps < length slots
+back_within {Gen} {K} {T} number slots i steps here found back = by found.1
+  where
+    few : (c : Chain) → IsChain (shown_in number slots) c → length (items c) ≤ length slots
+    few c h =
+        length_bound (items c) (length slots) (chain_once (shown_in number slots) c h)
+        (λ j m. (slots-within (interlinks_seen number) slots).within j (chain_valid (shown_in number slots) c j h m))
+
+    by : (IsChain (shown_in number slots) (linear found.0) × Has found.0 i) ⊎ IsChain (shown_in number slots) (cyclic (i ∷ found.0)) → steps < length slots
+    by (inl h) = omega (arith, looks_linear (shown_in number slots) i steps here back found.0 h.0 h.1, few (linear found.0) h.0)
+    by (inr h) = let all : length (i ∷ found.0) ≤ length slots = few (cyclic (i ∷ found.0)) h in omega (arith, looks_cyclic (shown_in number slots) i steps here back found.0 h, all)

@@ -1,5 +1,6 @@
 -- The pass that closes gaps, one slot more, over the values and the links at once.
 use Rattle.std.proofs.Common.{◌≡◌, ℕ, ◌+◌, ◌*◌, ◌<◌, ◌≤◌, length, Option, None, Some, refl, sym, ap, ◌∙◌, subst, subst₂, arith}
+use Rattle.std.specs.Prelude.{IsSome}
 use Rattle.std.specs.Option.{option_map}
 use Rattle.std.specs.Fn.{Mut}
 use Rattle.std.proofs.lemmas.List.{length-map}
@@ -10,14 +11,15 @@ use Rattle.chain_laws.specs.Arrangements.{place_in}
 use Rattle.chain_laws.specs.Moves.{moved, CanMove}
 use Rattle.arena_base.specs.Arena.{Arena, slot_at}
 use Rattle.arena_base.specs.Entries.{entries_from}
-use Rattle.arena_base.specs.Compacting.{Held, placed, held_with_value, with_touch}
+use Rattle.arena_base.specs.Compacting.{Held, IsPacked, placed, held_with_value, with_touch}
 use Rattle.arena_base.specs.Compressing.{IsVisit, VisitsAll}
 use Rattle.arena_base.specs.Closing.{AreClosed}
-use Rattle.arena_base.proofs.Closing.{IsClosing, none_there, brought_stands, closing_frees, closing_brings, closing_visits, closing_counts, closing_closes, next_slot}
+use Rattle.arena_base.proofs.Closing.{IsClosing, none_there, brought_stands, closing_frees, closing_brings, closing_visits, closing_counts, closing_closes, closing_packs, next_slot}
 use Rattle.chain_links.specs.declared.links.LinkBody.{LinkBody}
 use Rattle.chain_links.specs.ChainArena.{on_value}
 use Rattle.chain_links.specs.Links.{held_in}
 use Rattle.chain_links.proofs.Inserting.{slots-within}
+use Rattle.chain_links.proofs.Mapping.{slot_at-map}
 use Rattle.chain_layout.specs.HeldLinks.{slot_values, held_values, interlinks_seen, shown_in, indexes_in, IsWork}
 use Rattle.chain_layout.proofs.HeldLinks.{values-written, shown-kept, work-touched, work-more}
 use Rattle.chain_layout.proofs.Gathering.{AreComing, generation-there, value-there, coming_skips, coming_goes_on, coming_ends}
@@ -104,6 +106,22 @@ module _ {F P Gen K T : Type 0} (g : Mut F (P × (MutBor T × (P × Unit {0}))) 
     pub ends_closed : now.stack_capacity ≡ old.stack_capacity → now.maximum ≡ old.maximum → AreClosed generation (held_values old) (held_values now)
     ends_closed capacity maximum =
         closing_closes g key generation first (slot_values old.slots) k count f (slot_values now.slots) closing ended (held_values old) (held_values now) refl refl capacity maximum
+
+    pub ends_packed : IsPacked now.slots count
+    ends_packed =
+        let packed = closing_packs g key generation first (slot_values old.slots) k count f (slot_values now.slots) closing ended in
+        record { taken = λ i low high. taken (slot_at now.slots i) (subst IsSome (seen i) (packed.taken i low high)); free = λ i above. free (slot_at now.slots i) (sym (seen i) ∙ packed.free i above) }
+      where
+        seen : (i : ℕ) → slot_at (slot_values now.slots) i ≡ option_map (on_value held_in) (slot_at now.slots i)
+        seen i = slot_at-map (on_value held_in) now.slots i
+
+        taken : (o : Option (Gen × LinkBody K T)) → IsSome (option_map (on_value held_in) o) → IsSome o
+        taken None some = some
+        taken (Some e) some = refl
+
+        free : (o : Option (Gen × LinkBody K T)) → option_map (on_value held_in) o ≡ None → o ≡ None
+        free None none = refl
+        free (Some e) none = absurd (let both = none in cc)
 
     pub ends_visits : VisitsAll g key first (entries_from 1 (held_values old).slots) (entries_from 1 (held_values now).slots)
     ends_visits = closing_visits g key generation first (slot_values old.slots) k count f (slot_values now.slots) closing ended

@@ -1,43 +1,19 @@
--- A link that gets a destination: what the slots are then.
-use Rattle.std.proofs.Common.{◌≡◌, ℕ, Option, None, Some, refl, sym, ap, ◌∙◌, subst}
+-- A link that gets a destination or other interlinks: what the slots are then.
+use Rattle.std.proofs.Common.{◌≡◌, ℕ, length, Option, None, Some, refl, sym, ap, ◌∙◌, subst}
 use Rattle.std.specs.Option.{option_map}
-use Rattle.arena_base.specs.Arena.{slot_at, with_slot}
+use Rattle.arena_base.specs.Arena.{slot_at}
 use Rattle.arena_base.specs.Compacting.{Held, held_with_value}
+use Rattle.arena_base.proofs.Reading.{length-with_slot}
 use Rattle.chain_links.specs.declared.links.LinkBody.{LinkBody}
-use Rattle.chain_layout.specs.Moving.{sent, sent_at}
-use Rattle.chain_layout.specs.Numbering.{IsNumberedAt, IsDirectedAt}
+use Rattle.chain_links.specs.Links.{seen_link}
+use Rattle.chain_layout.specs.Numbering.{IsDirectedAt, IsTiedAt, IsRingClosed}
+
+one_link : {K T : Type 0} {a b : LinkBody K T} → ◌≡◌ {A = Option (LinkBody K T)} (Some a) (Some b) → a ≡ b
+one_link e = cc
 
 module _ {Gen K T : Type 0} where
-  -- a link that was written, with another destination alone
-  slot_sent : (l w : LinkBody K T) → w ≡ record l { destination = w.destination } → (o : Option (Gen × LinkBody K T)) → Some l ≡ option_map (λ (e : Gen × LinkBody K T). e.1) o
-      → option_map (λ (e : Gen × LinkBody K T). (e.0, w)) o ≡ option_map (sent w.destination) o
-  slot_sent l w rest None is = refl
-  slot_sent l w rest (Some e) is =
-      let same : l ≡ e.1 = cc in
-      ap (λ (k : LinkBody K T). let r : Option (Gen × LinkBody K T) = Some (e.0, k) in r) (rest ∙ ap (λ (k : LinkBody K T). let r : LinkBody K T = record k { destination = w.destination } in r) same)
-
-  -- .. among what is held
-  pub held_sent : (held new : Held Gen (LinkBody K T)) (i : ℕ) (l w : LinkBody K T) → Some l ≡ option_map (λ (e : Gen × LinkBody K T). e.1) (slot_at held.slots i)
-      → new ≡ held_with_value held i w → w ≡ record l { destination = w.destination } → new ≡ record held { slots = sent_at w.destination held.slots i }
-  held_sent held new i l w stands wrote rest =
-      wrote ∙ ap (λ (o : Option (Gen × LinkBody K T)). record held { slots = with_slot held.slots i o }) (slot_sent l w rest (slot_at held.slots i) stands)
-
-  -- a link that was looked at before it got a number
-  pub numbers_link : (number : K → Option ℕ) (i d : ℕ) (old looked new : Held Gen (LinkBody K T)) (l w : LinkBody K T) → looked ≡ old
-      → Some l ≡ option_map (λ (e : Gen × LinkBody K T). e.1) (slot_at looked.slots i) → new ≡ held_with_value looked i w
-      → number w.destination ≡ Some d → w ≡ record l { destination = w.destination } → IsNumberedAt number i d old new
-  numbers_link number i d old looked new l w same stands wrote is rest =
-      subst (λ (h : Held Gen (LinkBody K T)). IsNumberedAt number i d h new) same (record { destination = w.destination; is = is; held = held_sent looked new i l w stands wrote rest })
-
-  -- it is still there
-  pub still_there : (i : ℕ) (old looked : Held Gen (LinkBody K T)) (r : Option Gen) (g : Gen) → looked ≡ old → r ≡ Some g → r ≡ option_map (λ (x : Gen × LinkBody K T). x.0) (slot_at old.slots i)
-      → None ≡ option_map (λ (x : Gen × LinkBody K T). x.1) (slot_at looked.slots i) → ⊥
-  still_there i old looked r g same is stands none =
-      by (slot_at old.slots i) stands (none ∙ ap (λ (h : Held Gen (LinkBody K T)). option_map (λ (x : Gen × LinkBody K T). x.1) (slot_at h.slots i)) same)
-    where
-      by : (o : Option (Gen × LinkBody K T)) → r ≡ option_map (λ (x : Gen × LinkBody K T). x.0) o → None ≡ option_map (λ (x : Gen × LinkBody K T). x.1) o → ⊥
-      by None there empty = cc
-      by (Some e) there empty = cc
+  abbrev link_at : Held Gen (LinkBody K T) → ℕ → Option (LinkBody K T)
+  link_at held i = option_map (λ (e : Gen × LinkBody K T). e.1) (slot_at held.slots i)
 
   module _ (number : K → Option ℕ) (i : ℕ) (goes : Option ℕ) (old new : Held Gen (LinkBody K T)) where
     -- a link that was lent got another destination
@@ -45,26 +21,51 @@ module _ {Gen K T : Type 0} where
         → number w.destination ≡ goes → w ≡ record l { destination = w.destination } → IsDirectedAt number i goes old new
     directs l w stands wrote is rest = record {
       there = λ m there.
-          let same : l ≡ m = one (stands ∙ sym there) in
+          let same : l ≡ m = one_link (stands ∙ sym there) in
           (w, is, rest ∙ ap (λ (k : LinkBody K T). let r : LinkBody K T = record k { destination = w.destination } in r) same, wrote);
       none = λ empty. absurd (let both = stands ∙ sym empty in cc);
     }
-      where
-        one : {a b : LinkBody K T} → ◌≡◌ {A = Option (LinkBody K T)} (Some a) (Some b) → a ≡ b
-        one e = cc
 
     -- none stands there
     pub directs_none : new ≡ old → None ≡ option_map (λ (e : Gen × LinkBody K T). e.1) (slot_at old.slots i) → IsDirectedAt number i goes old new
     directs_none same empty = record { there = λ m there. absurd (let both = there ∙ sym empty in cc); none = λ e. same }
 
-  -- a link that was looked at got its number
-  pub numbered_there : (number : K → Option ℕ) (i d : ℕ) (old looked new : Held Gen (LinkBody K T)) (was : Gen) → looked ≡ old → Some was ≡ option_map (λ (e : Gen × LinkBody K T). e.0) (slot_at old.slots i)
-      → IsDirectedAt number i (Some d) looked new → IsNumberedAt number i d old new
-  numbered_there number i d old looked new was same stood directed =
-      let l = there (slot_at looked.slots i) (stood ∙ sym (ap (λ (h : Held Gen (LinkBody K T)). option_map (λ (e : Gen × LinkBody K T). e.0) (slot_at h.slots i)) same)) in
-      let w = directed.there l.0 l.1 in
-      numbers_link number i d old looked new l.0 w.0 same l.1 w.3 w.1 w.2
-    where
-      there : (o : Option (Gen × LinkBody K T)) → Some was ≡ option_map (λ (e : Gen × LinkBody K T). e.0) o → (l : LinkBody K T) × (Some l ≡ option_map (λ (e : Gen × LinkBody K T). e.1) o)
-      there None is = absurd (cc)
-      there (Some e) is = (e.1, refl)
+  module _ (number : K → Option ℕ) (i : ℕ) (prev next goes : Option ℕ) (old new : Held Gen (LinkBody K T)) where
+    -- a link that was lent names others, and got a destination
+    pub ties : (l m n w : LinkBody K T) → Some l ≡ link_at old i → new ≡ held_with_value old i w → number m.prev ≡ prev → m ≡ record l { prev = m.prev } → number n.next ≡ next → n ≡ record m { next = n.next }
+        → number w.destination ≡ goes → w ≡ record n { destination = w.destination } → IsTiedAt number i prev next goes old new
+    ties l m n w stands wrote is_prev set_prev is_next set_next sent rest = record {
+      there = λ k there. (w, seen k (one_link (stands ∙ sym there)), sent, wrote);
+      none = λ empty. absurd (let both = stands ∙ sym empty in cc);
+    }
+      where
+        seen : (k : LinkBody K T) → l ≡ k → seen_link number w ≡ record { prev = prev; next = next; value = k.t }
+        seen k same =
+            ap (seen_link number) rest ∙ (ap (seen_link number) (λ j. record (set_next j) { destination = w.destination })
+            ∙ ((λ j. record { prev = number (set_prev j).prev; next = number n.next; value = (set_prev j).t }) ∙ (λ j. record { prev = is_prev j; next = is_next j; value = (same j).t })))
+
+    -- none stands there
+    pub ties_none : new ≡ old → None ≡ link_at old i → IsTiedAt number i prev next goes old new
+    ties_none same empty = record { there = λ k there. absurd (let both = there ∙ sym empty in cc); none = λ e. same }
+
+    -- the slots are as many
+    pub tied_long : IsTiedAt number i prev next goes old new → length new.slots ≡ length old.slots
+    tied_long tied = by (link_at old i) refl
+      where
+        by : (o : Option (LinkBody K T)) → link_at old i ≡ o → length new.slots ≡ length old.slots
+        by None is = ap (λ (h : Held Gen (LinkBody K T)). length h.slots) (tied.none (sym is))
+        by (Some l) is =
+            let w = tied.there l (sym is) in
+            ap (λ (h : Held Gen (LinkBody K T)). length h.slots) w.3 ∙ length-with_slot old.slots i _
+
+  -- a link that was looked at before
+  pub tied_looked : (number : K → Option ℕ) (i : ℕ) (prev named next goes : Option ℕ) (old looked new : Held Gen (LinkBody K T)) → looked ≡ old → named ≡ next → IsTiedAt number i prev named goes looked new → IsTiedAt number i prev next goes old new
+  tied_looked number i prev named next goes old looked new same is tied = subst (λ (p : Held Gen (LinkBody K T) × Option ℕ). IsTiedAt number i prev p.1 goes p.0 new) (λ j. (same j, is j)) tied
+
+  module _ (number : K → Option ℕ) (i : ℕ) (first last : Option ℕ) (old new : Held Gen (LinkBody K T)) where
+    -- where the last link of a ring names the first, that was lent, and names the last
+    pub closes : (f : ℕ) → first ≡ Some f → (l w : LinkBody K T) → Some l ≡ link_at old i → new ≡ held_with_value old i w → number w.prev ≡ last → w ≡ record l { prev = w.prev } → IsRingClosed number i first last old new
+    closes f some l w stands wrote is rest = record {
+      ring = λ k m named there. (w, is, rest ∙ ap (λ (x : LinkBody K T). let r : LinkBody K T = record x { prev = w.prev } in r) (one_link (stands ∙ sym there)), wrote);
+      linear = λ none. absurd (let both = sym some ∙ none in cc);
+    }

@@ -1,10 +1,10 @@
 -- Entries that have moved: what they show, and, where they moved to the front, that the slots behind them are free and are
 -- cut off.
 use Rattle.std.proofs.Common.{◌≡◌, ℕ, zero, suc, ◌<◌, ◌≤◌, List, [], ◌∷◌, length, map, Option, None, Some, refl, ap, ap₂, ◌∙◌, arith}
-use Rattle.std.specs.Prelude.{slice_index_or}
+use Rattle.std.specs.Prelude.{slice_index_or, IsSome, is_some}
 use Rattle.std.specs.Option.{option_map}
 use Rattle.arena_base.specs.Arena.{slot_at}
-use Rattle.arena_base.specs.Compacting.{before_cut, trimmed, free_from}
+use Rattle.arena_base.specs.Compacting.{IsPacked, before_cut, trimmed, free_from}
 use Rattle.chain_links.specs.declared.links.LinkBody.{LinkBody}
 use Rattle.chain_links.specs.ChainArena.{LinkSeen}
 use Rattle.chain_links.specs.Links.{seen_link, seen_pair}
@@ -52,7 +52,19 @@ module _ {E : Type 0} (goal : E → Option ℕ) (Settles : E → E → Type 0) (
           let few : suc k ≤ n = front.few come.from (suc k) come.entry come.waited in
           absurd (omega arith)
 
-  -- so the slots that are left are exactly n, and none of them is free
+  -- so the entries are packed
+  pub front-packed : IsPacked new n
+  front-packed = record { taken = taken; free = free }
+    where
+      taken : (i : ℕ) → 1 ≤ i → i ≤ n → IsSome (slot_at new i)
+      taken zero low high = absurd (omega (arith, low))
+      taken (suc k) low high = ap (λ (o : Option E). is_some o) (stands_in_front k (omega (arith, high))).1
+
+      free : (i : ℕ) → n < i → slot_at new i ≡ None
+      free zero above = refl
+      free (suc k) above = free_behind k (omega (arith, above))
+
+  -- the slots that are left are exactly n, and none of them is free
   pub front-length : length (trimmed new) ≡ n
   front-length = (trimmed-front n new stands_in_front free_behind).0
 

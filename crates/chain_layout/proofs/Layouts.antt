@@ -15,7 +15,7 @@ use Rattle.chain_laws.proofs.Placing.{place-within, place-has, has-place, place-
 use Rattle.chain_laws.proofs.Runs.{canonical_arranges}
 use Rattle.chain_laws.proofs.LeastIndex.{least_index_order_is_canonical}
 use Rattle.arena_base.specs.Arena.{Arena, slot_at}
-use Rattle.arena_base.specs.Compacting.{Held, trimmed, free_from, held_of, lent_out, returned}
+use Rattle.arena_base.specs.Compacting.{Held, IsPacked, trimmed, free_from, held_of, lent_out, returned}
 use Rattle.arena_base.specs.Closing.{with_totals, fronted}
 use Rattle.chain_links.specs.declared.links.LinkBody.{LinkBody}
 use Rattle.chain_links.specs.ChainArena.{LinkSeen, on_value, link_value, interlinks_of, shown, values_of, entry, ptr_at}
@@ -29,7 +29,7 @@ use Rattle.chain_links.proofs.Mapping.{slot_at-map}
 use Rattle.chain_links.proofs.Inserting.{some_entry, slots-within}
 use Rattle.chain_layout.proofs.HeldLinks.{work-more}
 use Rattle.chain_layout.proofs.Returning.{trimmed-map, slot_at-trimmed}
-use Rattle.chain_layout.proofs.Fronting.{front-length, front-none_free, moved_seen}
+use Rattle.chain_layout.proofs.Fronting.{front-packed, front-length, front-none_free, moved_seen}
 use Rattle.chain_layout.proofs.Numbered.{length-seen}
 use Rattle.chain_layout.proofs.Tallying.{counted_none}
 use Rattle.chain_layout.proofs.Arranging.{count-standing, slots-filled, values-given}
@@ -85,11 +85,10 @@ module _ {Gen T : Type 0} (g : Gen) (old new : List (Option (Gen × LinkSeen T))
 
 -- ---- the count
 
--- four passes after one another, from the beginning of the count on
-pub four_counted : {Gen T : Type 0} (a0 a1 a2 a3 a4 : Arena Gen T) (p0 p1 p2 p3 p4 t0 t1 t2 t3 t4 : ℕ) → p0 ≡ 0 → t0 ≡ 0 → CountsOn a0 a1 p0 t0 p1 t1 → CountsOn a1 a2 p1 t1 p2 t2 → CountsOn a2 a3 p2 t2 p3 t3
-    → CountsOn a3 a4 p3 t3 p4 t4 → HasCounted a0 a4 p4 t4
-four_counted a0 a1 a2 a3 a4 p0 p1 p2 p3 p4 t0 t1 t2 t3 t4 no_placement no_touch one two three four =
-    four.on a0 (three.on a0 (two.on a0 (one.on a0 (subst₂ (λ (p t : ℕ). HasCounted a0 a0 p t) (sym no_placement) (sym no_touch) (counted_none a0)))))
+-- three passes after one another, from the beginning of the count on
+pub three_counted : {Gen T : Type 0} (a0 a1 a2 a3 : Arena Gen T) (p0 p1 p2 p3 t0 t1 t2 t3 : ℕ) → p0 ≡ 0 → t0 ≡ 0 → CountsOn a0 a1 p0 t0 p1 t1 → CountsOn a1 a2 p1 t1 p2 t2 → CountsOn a2 a3 p2 t2 p3 t3 → HasCounted a0 a3 p3 t3
+three_counted a0 a1 a2 a3 p0 p1 p2 p3 t0 t1 t2 t3 no_placement no_touch one two three =
+    three.on a0 (two.on a0 (one.on a0 (subst₂ (λ (p t : ℕ). HasCounted a0 a0 p t) (sym no_placement) (sym no_touch) (counted_none a0))))
 
 -- ---- links that are to move
 
@@ -166,10 +165,8 @@ module _ {Gen K T : Type 0} (number : K → Option ℕ) where
   agree-seen a before after is same agrees =
       subst Agrees (ap (λ (h : Held Gen (LinkSeen T)). shown_slots h.slots) (sym (same ∙ ap (seen_held number) is)) ∙ sym (shown-seen after)) agrees
 
-module _ {F P Gen K T : Type 0} (g : F → P → P → F → Type 0) (key : P → ℕ × Gen) (f last : F) (number : K → Option ℕ) (generation : Gen) (h1 h2 h3 : Held Gen (LinkBody K T))
-    (old a1 a2 : Arena Gen (LinkBody K T)) (emptied : seen_held number h1 ≡ seen_held number (held_of old)) (same : seen_held number h2 ≡ seen_held number h1)
-    (numbered : AreAllNumbered number g key generation f last h1.slots h2.slots a1 a2) (renamed : seen_held number h3 ≡ renamed_held (given number h2.slots) (seen_held number h2))
-    (kept : (j : ℕ) → given number h3.slots j ≡ given number h2.slots j) where
+module _ {F P Gen K T : Type 0} (g : F → P → P → F → Type 0) (key : P → ℕ × Gen) (f last : F) (number : K → Option ℕ) (generation : Gen) (h1 h2 : Held Gen (LinkBody K T))
+    (old a1 a2 : Arena Gen (LinkBody K T)) (total : ℕ) (emptied : seen_held number h1 ≡ seen_held number (held_of old)) (numbered : AreAllNumbered number g key generation f last h1 h2 a1 a2 total) where
   abbrev first_slots : List (Option (Gen × LinkSeen T))
   first_slots = (seen_links number old).slots
 
@@ -179,78 +176,63 @@ module _ {F P Gen K T : Type 0} (g : F → P → P → F → Type 0) (key : P �
   first_arranges : IsArrangement (shown_slots first_slots) numbered.indexes
   first_arranges = canonical_arranges (shown_slots first_slots) numbered.indexes (least_index_order_is_canonical (shown_slots first_slots) numbered.indexes first_order)
 
-  given_places : (j : ℕ) → given number h3.slots j ≡ place_in numbered.indexes j
-  given_places j = kept j ∙ numbered.places j
+  all_renamed : seen_held number h2 ≡ renamed_held (place_in numbered.indexes) (seen_held number (held_of old))
+  all_renamed = numbered.renamed ∙ ap (renamed_held (place_in numbered.indexes)) emptied
 
-  all_renamed : seen_held number h3 ≡ renamed_held (place_in numbered.indexes) (seen_held number (held_of old))
-  all_renamed =
-      let to : given number h2.slots ≡ place_in numbered.indexes = fun_ext numbered.places in
-      let from : seen_held number h2 ≡ seen_held number (held_of old) = same ∙ emptied in
-      renamed ∙ (λ i. renamed_held (to i) (from i))
-
-  renamed_there : (i : ℕ) → option_map (seen_pair number) (slot_at h3.slots i) ≡ option_map (on_value (renamed_link (place_in numbered.indexes))) (slot_at first_slots i)
+  renamed_there : (i : ℕ) → option_map (seen_pair number) (slot_at h2.slots i) ≡ option_map (on_value (renamed_link (place_in numbered.indexes))) (slot_at first_slots i)
   renamed_there i =
-      sym (slot_at-map (seen_pair number) h3.slots i)
+      sym (slot_at-map (seen_pair number) h2.slots i)
       ∙ (ap (λ (h : Held Gen (LinkSeen T)). slot_at h.slots i) all_renamed ∙ slot_at-map (on_value (renamed_link (place_in numbered.indexes))) first_slots i)
 
-  each_placed : (i : ℕ) (e : Gen × LinkBody K T) → slot_at h3.slots i ≡ Some e → Has numbered.indexes i
+  each_placed : (i : ℕ) (e : Gen × LinkBody K T) → slot_at h2.slots i ≡ Some e → Has numbered.indexes i
   each_placed i e s = by (slot_at first_slots i) refl (sym (ap (option_map (seen_pair number)) s) ∙ renamed_there i)
     where
       by : (o : Option (Gen × LinkSeen T)) → slot_at first_slots i ≡ o → Some (seen_pair number e) ≡ option_map (on_value (renamed_link (place_in numbered.indexes))) o → Has numbered.indexes i
       by None is both = absurd (let h = both in cc)
       by (Some x) is both = (first_arranges.valid i).0 (record { link = interlinks_of x; shows = ap (option_map interlinks_of) is })
 
-  pub links_can_move : CanMoveAll (goal_of number) h3.slots
-  links_can_move = can_move number h3.slots numbered.indexes first_arranges.once given_places each_placed
+  pub links_can_move : CanMoveAll (goal_of number) h2.slots
+  links_can_move = can_move number h2.slots numbered.indexes first_arranges.once numbered.places each_placed
 
-  links_to_front : GoToFront (goal_of number) h3.slots (length numbered.indexes)
-  links_to_front = go_to_front number h3.slots numbered.indexes first_arranges.once given_places each_placed
+  links_to_front : GoToFront (goal_of number) h2.slots (length numbered.indexes)
+  links_to_front = go_to_front number h2.slots numbered.indexes first_arranges.once numbered.places each_placed
 
-  links_few : length numbered.indexes ≤ length h3.slots
-  links_few = few_indexes number h3.slots numbered.indexes first_arranges.once given_places each_placed
+  links_few : length numbered.indexes ≤ length h2.slots
+  links_few = few_indexes number h2.slots numbered.indexes first_arranges.once numbered.places each_placed
 
-  links_counted : count_by is_some h3.slots ≡ length numbered.indexes
-  links_counted = count-standing (record old { slots = h3.slots }) numbered.indexes first_arranges.once each_placed (has_entry number h3.slots numbered.indexes first_arranges.once given_places each_placed)
-
-  -- before they were renamed they were as many
-  each_numbered : (i : ℕ) (e : Gen × LinkBody K T) → slot_at h2.slots i ≡ Some e → Has numbered.indexes i
-  each_numbered i e s =
-      let there : slot_at (seen_held number h2).slots i ≡ Some (seen_pair number e) = slot_at-map (seen_pair number) h2.slots i ∙ ap (option_map (seen_pair number)) s in
-      let first : slot_at first_slots i ≡ Some (seen_pair number e) = sym (ap (λ (h : Held Gen (LinkSeen T)). slot_at h.slots i) (same ∙ emptied)) ∙ there in
-      (first_arranges.valid i).0 (record { link = interlinks_of (seen_pair number e); shows = ap (option_map interlinks_of) first })
-
-  numbered_counted : count_by is_some h2.slots ≡ length numbered.indexes
-  numbered_counted = count-standing (record old { slots = h2.slots }) numbered.indexes first_arranges.once each_numbered (has_entry number h2.slots numbered.indexes first_arranges.once numbered.places each_numbered)
+  links_counted : count_by is_some h2.slots ≡ length numbered.indexes
+  links_counted = count-standing (record old { slots = h2.slots }) numbered.indexes first_arranges.once each_placed (has_entry number h2.slots numbered.indexes first_arranges.once numbered.places each_placed)
 
   -- there are as many slots as at first
   first-length : length h1.slots ≡ length old.slots
   first-length = length-seen number h1 (held_of old) emptied
 
   second-length : length h2.slots ≡ length old.slots
-  second-length = length-seen number h2 (held_of old) (same ∙ emptied)
-
-  third-length : length h3.slots ≡ length old.slots
-  third-length = length-renamed number (place_in numbered.indexes) h3 (held_of old) all_renamed
+  second-length = length-renamed number (place_in numbered.indexes) h2 (held_of old) all_renamed
 
   -- once they have moved
-  module _ (h4 : Held Gen (LinkBody K T)) (moved : HaveMoved (goal_of number) (Settles number generation) (slot_at h3.slots) (slot_at h4.slots)) where
+  module _ (h3 : Held Gen (LinkBody K T)) (moved : HaveMoved (goal_of number) (Settles number generation) (slot_at h2.slots) (slot_at h3.slots)) where
     abbrev last_slots : List (Option (Gen × LinkSeen T))
-    last_slots = map (option_map (seen_pair number)) (trimmed h4.slots)
+    last_slots = map (option_map (seen_pair number)) (trimmed h3.slots)
 
     pub last-length : length last_slots ≡ length numbered.indexes
-    last-length = length-map (trimmed h4.slots) (option_map (seen_pair number)) ∙ front-length (goal_of number) (Settles number generation) (length numbered.indexes) h3.slots h4.slots links_to_front moved
+    last-length = length-map (trimmed h3.slots) (option_map (seen_pair number)) ∙ front-length (goal_of number) (Settles number generation) (length numbered.indexes) h2.slots h3.slots links_to_front moved
 
-    pub last-none_free : free_from 1 (trimmed h4.slots) ≡ []
-    last-none_free = front-none_free (goal_of number) (Settles number generation) (length numbered.indexes) h3.slots h4.slots links_to_front moved
+    -- the links stand in the first slots
+    pub last_packed : IsPacked h3.slots total
+    last_packed = subst (IsPacked h3.slots) (sym numbered.counted) (front-packed (goal_of number) (Settles number generation) (length numbered.indexes) h2.slots h3.slots links_to_front moved)
+
+    pub last-none_free : free_from 1 (trimmed h3.slots) ≡ []
+    last-none_free = front-none_free (goal_of number) (Settles number generation) (length numbered.indexes) h2.slots h3.slots links_to_front moved
 
     pub all_sent : (i d : ℕ) (x : Gen × LinkSeen T) → place_in numbered.indexes i ≡ Some d → slot_at first_slots i ≡ Some x → slot_at last_slots d ≡ Some (generation, renamed_link (place_in numbered.indexes) x.1)
     all_sent i d x at is =
-        let w = waits_for number h3.slots numbered.indexes first_arranges.once given_places each_placed i d at in
+        let w = waits_for number h2.slots numbered.indexes first_arranges.once numbered.places each_placed i d at in
         let both : ◌≡◌ {A = Option (Gen × LinkSeen T)} (Some (seen_pair number w.0)) (Some (x.0, renamed_link (place_in numbered.indexes) x.1)) =
         sym (ap (option_map (seen_pair number)) w.1.stands) ∙ (renamed_there i ∙ ap (option_map (on_value (renamed_link (place_in numbered.indexes)))) is) in
-        ap (λ (s : List (Option (Gen × LinkSeen T))). slot_at s d) (trimmed-map (seen_pair number) h4.slots)
-        ∙ (slot_at-trimmed (map (option_map (seen_pair number)) h4.slots) d
-        ∙ (moved_seen number generation h3.slots h4.slots moved i d w.0 w.1 ∙ ap (λ (l : LinkSeen T). let o : Option (Gen × LinkSeen T) = Some (generation, l) in o) (link_is both)))
+        ap (λ (s : List (Option (Gen × LinkSeen T))). slot_at s d) (trimmed-map (seen_pair number) h3.slots)
+        ∙ (slot_at-trimmed (map (option_map (seen_pair number)) h3.slots) d
+        ∙ (moved_seen number generation h2.slots h3.slots moved i d w.0 w.1 ∙ ap (λ (l : LinkSeen T). let o : Option (Gen × LinkSeen T) = Some (generation, l) in o) (link_is both)))
       where
         link_or : LinkSeen T → Option (Gen × LinkSeen T) → LinkSeen T
         link_or l None = l
@@ -260,24 +242,23 @@ module _ {F P Gen K T : Type 0} (g : F → P → P → F → Type 0) (key : P �
         link_is {e} {h} both = ap (link_or e.1) both
 
     -- .. and the slots are given back
-    module _ (greatest : ℕ) (maximum : Option ℕ) (a3 a4 : Arena Gen (LinkBody K T)) (capacity : h4.stack_capacity ≡ h3.stack_capacity) (is_maximum : h4.maximum ≡ h3.maximum)
-        (emptying : a1 ≡ with_totals (lent_out maximum old) 0 (length old.slots)) (renaming : IsWork a2 a3 0 (length h2.slots + 3 * count_by is_some h2.slots))
-        (moving : a4 ≡ with_totals a3 (count_by is_some h3.slots) (count_by is_some h3.slots + length h3.slots)) where
-      whole_work : IsWork (lent_out maximum old) a4 (length numbered.indexes) (4 * length old.slots + 12 * length numbered.indexes)
+    module _ (greatest : ℕ) (maximum : Option ℕ) (a3 : Arena Gen (LinkBody K T)) (capacity : h3.stack_capacity ≡ h2.stack_capacity) (is_maximum : h3.maximum ≡ h2.maximum)
+        (emptying : a1 ≡ with_totals (lent_out maximum old) 0 (length old.slots))
+        (moving : a3 ≡ with_totals a2 (count_by is_some h2.slots) (count_by is_some h2.slots + length h2.slots)) where
+      whole_work : IsWork (lent_out maximum old) a3 (length numbered.indexes) (4 * length old.slots + 12 * length numbered.indexes)
       whole_work =
           let first : IsWork (lent_out maximum old) a1 0 (length old.slots) = record { touches = length old.slots; few = omega arith; arena = emptying } in
-          let last : IsWork a3 a4 (count_by is_some h3.slots) (count_by is_some h3.slots + length h3.slots) = record { touches = count_by is_some h3.slots + length h3.slots; few = omega arith; arena = moving } in
-          work-more (work-more (work-more first numbered.work 0 (2 * length old.slots + 3 * length numbered.indexes) refl (omega (arith, first-length)))
-          renaming 0 (3 * length old.slots + 6 * length numbered.indexes) refl (omega (arith, second-length, numbered_counted)))
-          last (length numbered.indexes) (4 * length old.slots + 12 * length numbered.indexes) (omega (arith, links_counted)) (omega (arith, links_counted, third-length))
+          let last : IsWork a2 a3 (count_by is_some h2.slots) (count_by is_some h2.slots + length h2.slots) = record { touches = count_by is_some h2.slots + length h2.slots; few = omega arith; arena = moving } in
+          work-more (work-more first numbered.work 0 (2 * length old.slots + 4 * length numbered.indexes) refl (omega (arith, first-length)))
+          last (length numbered.indexes) (4 * length old.slots + 12 * length numbered.indexes) (omega (arith, links_counted)) (omega (arith, links_counted, second-length))
 
       abbrev laid_arena : Arena Gen (LinkBody K T)
-      laid_arena = returned greatest (with_totals (lent_out maximum old) (length numbered.indexes) whole_work.touches) h4
+      laid_arena = returned greatest (with_totals (lent_out maximum old) (length numbered.indexes) whole_work.touches) h3
 
-      is_laid : (new : Arena Gen (LinkBody K T)) → new ≡ returned greatest a4 h4 → new ≡ laid_arena
-      is_laid new is_new = is_new ∙ ap (λ (a : Arena Gen (LinkBody K T)). returned greatest a h4) whole_work.arena
+      is_laid : (new : Arena Gen (LinkBody K T)) → new ≡ returned greatest a3 h3 → new ≡ laid_arena
+      is_laid new is_new = is_new ∙ ap (λ (a : Arena Gen (LinkBody K T)). returned greatest a h3) whole_work.arena
 
-      pub links_laid : old.capacity ≡ min old.stack_capacity greatest → generation ≡ old.counter → (new : Arena Gen (LinkBody K T)) → new ≡ returned greatest a4 h4
+      pub links_laid : old.capacity ≡ min old.stack_capacity greatest → generation ≡ old.counter → (new : Arena Gen (LinkBody K T)) → new ≡ returned greatest a3 h3
           → AreLaidOut g key f last (seen_links number old) (seen_links number new)
       links_laid room counter new is_new = record {
         indexes = numbered.indexes;
@@ -310,13 +291,13 @@ module _ {F P Gen K T : Type 0} (g : F → P → P → F → Type 0) (key : P �
               laid_slots generation first_slots last_slots numbered.indexes first_arranges last-length all_sent
               ∙ (sym values.2 ∙ (ap (λ (h : Gen). map {B = Option (Gen × T)} (λ t. Some (h, t)) values.0) counter ∙ sym (append-nil (map {B = Option (Gen × T)} (λ t. Some (old.counter, t)) values.0))))
 
-          stack_kept : h4.stack_capacity ≡ old.stack_capacity
+          stack_kept : h3.stack_capacity ≡ old.stack_capacity
           stack_kept = capacity ∙ ap (λ (h : Held Gen (LinkSeen T)). h.stack_capacity) all_renamed
 
-          maximum_kept : h4.maximum ≡ old.maximum
+          maximum_kept : h3.maximum ≡ old.maximum
           maximum_kept = is_maximum ∙ ap (λ (h : Held Gen (LinkSeen T)). h.maximum) all_renamed
 
-          room_kept : min h4.stack_capacity greatest ≡ old.capacity
+          room_kept : min h3.stack_capacity greatest ≡ old.capacity
           room_kept = ap (λ (n : ℕ). min n greatest) stack_kept ∙ sym room
 
           count : length numbered.indexes ≡ length values.0
@@ -326,13 +307,13 @@ module _ {F P Gen K T : Type 0} (g : F → P → P → F → Type 0) (key : P �
           pointers = fun_ext (λ i. ptr-seen number h1 i ∙ ap (λ (h : Held Gen (LinkSeen T)). ptr_at (slot_at (map (option_map (on_value link_value)) h.slots)) i) emptied)
 
       -- what was counted is the work
-      pub work_told : (first : Arena Gen (LinkBody K T)) (p t : ℕ) → first ≡ lent_out maximum old → HasCounted first a4 p t → length old.slots ≤ greatest → greatest < 2 ^ 64
-          → (a4.placed ≡ old.placed + p) × (a4.touched ≡ old.touched + t)
+      pub work_told : (first : Arena Gen (LinkBody K T)) (p t : ℕ) → first ≡ lent_out maximum old → HasCounted first a3 p t → length old.slots ≤ greatest → greatest < 2 ^ 64
+          → (a3.placed ≡ old.placed + p) × (a3.touched ≡ old.touched + t)
       work_told first p t is had fits bound =
-          let placed : old.placed + had.placements ≡ a4.placed = ap (λ (a : Arena Gen (LinkBody K T)). a.placed + had.placements) (sym is) ∙ sym (ap (λ (a : Arena Gen (LinkBody K T)). a.placed) had.arena) in
-          let touched : old.touched + had.touches ≡ a4.touched = ap (λ (a : Arena Gen (LinkBody K T)). a.touched + had.touches) (sym is) ∙ sym (ap (λ (a : Arena Gen (LinkBody K T)). a.touched) had.arena) in
-          let now_placed : a4.placed ≡ old.placed + length numbered.indexes = ap (λ (a : Arena Gen (LinkBody K T)). a.placed) whole_work.arena in
-          let now_touched : a4.touched ≡ old.touched + whole_work.touches = ap (λ (a : Arena Gen (LinkBody K T)). a.touched) whole_work.arena in (
-            omega (arith, placed, now_placed, had.placements_counted, links_few, third-length, fits, bound),
-            omega (arith, touched, now_touched, had.touches_counted, links_few, third-length, fits, bound, whole_work.few),
+          let placed : old.placed + had.placements ≡ a3.placed = ap (λ (a : Arena Gen (LinkBody K T)). a.placed + had.placements) (sym is) ∙ sym (ap (λ (a : Arena Gen (LinkBody K T)). a.placed) had.arena) in
+          let touched : old.touched + had.touches ≡ a3.touched = ap (λ (a : Arena Gen (LinkBody K T)). a.touched + had.touches) (sym is) ∙ sym (ap (λ (a : Arena Gen (LinkBody K T)). a.touched) had.arena) in
+          let now_placed : a3.placed ≡ old.placed + length numbered.indexes = ap (λ (a : Arena Gen (LinkBody K T)). a.placed) whole_work.arena in
+          let now_touched : a3.touched ≡ old.touched + whole_work.touches = ap (λ (a : Arena Gen (LinkBody K T)). a.touched) whole_work.arena in (
+            omega (arith, placed, now_placed, had.placements_counted, links_few, second-length, fits, bound),
+            omega (arith, touched, now_touched, had.touches_counted, links_few, second-length, fits, bound, whole_work.few),
           )

@@ -4,26 +4,30 @@ use Rattle.std.specs.Prelude.{is_none}
 use Rattle.std.specs.Option.{option_map, option_and_then}
 use Rattle.std.proofs.lemmas.List.{length-append, append-nil}
 use Rattle.std.proofs.Math.Decide.{ℕ_discrete}
-use Rattle.chain_laws.specs.Chains.{Shown, Interlinks, Chain, linear, cyclic, items, all_items, HasChain, Has, HasNoRepetition, IsChain, HasLink, Agrees, AreChains, IsWritten, Rises, first_or}
+use Rattle.chain_laws.specs.Chains.{Interlinks, Chain, linear, cyclic, items, all_items, HasChain, Has, HasNoRepetition, IsChain, HasLink, Agrees, AreChains, IsWritten, Rises, first_or, prev_in, next_in}
+use Rattle.chain_laws.specs.Arrangements.{place_from, place_in}
 use Rattle.chain_laws.specs.Neighbors.{AreTheChains}
 use Rattle.chain_laws.specs.Starts.{IsStart}
 use Rattle.chain_laws.proofs.Members.{Has-left, Has-right, Has-parts, HasNoRepetition-apart, length_bound}
-use Rattle.chain_laws.proofs.Unique.{written_least}
+use Rattle.chain_laws.proofs.Standing.{IsChain-frame}
+use Rattle.chain_laws.proofs.Unique.{IsClosed, chain_closed, written_least}
 use Rattle.chain_laws.proofs.Neighboring.{chains_from_pairs}
 use Rattle.chain_laws.proofs.Partitions.{the_chains}
 use Rattle.chain_laws.proofs.Laying.{all_items-append}
-use Rattle.chain_laws.proofs.Placing.{has-place, place-none}
+use Rattle.chain_laws.proofs.Placing.{has-place, place-none, place-front, place-append}
 use Rattle.arena_base.specs.Arena.{Arena, slot_at}
 use Rattle.arena_base.specs.Compacting.{Held}
 use Rattle.chain_links.specs.declared.links.LinkBody.{LinkBody}
-use Rattle.chain_links.specs.ChainArena.{ptr_at}
+use Rattle.chain_links.specs.ChainArena.{on_value, ptr_at}
+use Rattle.chain_links.specs.Links.{seen_pair}
 use Rattle.chain_layout.specs.HeldLinks.{interlinks_seen, shown_in, IsWork}
 use Rattle.chain_layout.specs.Layouts.{ShowsMoves}
 use Rattle.chain_layout.specs.Moving.{goal_of}
-use Rattle.chain_layout.specs.Numbering.{seen_held, given, is_fresh, AreNumbered, CanNumber, IsChainNumbered, AreAllNumbered}
+use Rattle.chain_layout.specs.Numbering.{HasChainFrom, renamed_link, given, is_fresh, AreNumbered, AreRetied, CanNumber, IsChainNumbered, AreAllNumbered}
 use Rattle.chain_links.proofs.Inserting.{slots-within}
 use Rattle.chain_layout.proofs.HeldLinks.{work-none, work-more}
-use Rattle.chain_layout.proofs.Numbered.{shown-seen, ptr-seen, length-seen, shows_none, shows_then}
+use Rattle.chain_layout.proofs.Numbered.{shows_none, shows_then}
+use Rattle.chain_layout.proofs.Retying.{seen_as, retied_none, retied_as, retied_ptr, retied_then, all_retied}
 
 -- ---- chains in order
 
@@ -96,6 +100,25 @@ module _ {Gen K T : Type 0} (number : K → Option ℕ) where
       by None e none = cc
       by (Some i) e none = cc
 
+  -- the links of a chain name its links, so they are renamed alike by what names those alike
+  renamed_alike : (to also : ℕ → Option ℕ) (slots : List (Option (Gen × LinkBody K T))) (c : Chain) → IsChain (shown_in number slots) c → ((j : ℕ) → Has (items c) j → to j ≡ also j) → (i : ℕ) → Has (items c) i
+      → option_map (on_value (renamed_link to)) (option_map (seen_pair number) (slot_at slots i)) ≡ option_map (on_value (renamed_link also)) (option_map (seen_pair number) (slot_at slots i))
+  renamed_alike to also slots c h same i m = by (slot_at slots i) refl
+    where
+      closed : IsClosed (shown_in number slots) (Has (items c))
+      closed = chain_closed (shown_in number slots) c h
+
+      alike : (o : Option ℕ) → ((j : ℕ) → o ≡ Some j → Has (items c) j) → option_and_then to o ≡ option_and_then also o
+      alike None inside = refl
+      alike (Some j) inside = same j (inside j refl)
+
+      by : (o : Option (Gen × LinkBody K T)) → slot_at slots i ≡ o → option_map (on_value (renamed_link to)) (option_map (seen_pair number) o) ≡ option_map (on_value (renamed_link also)) (option_map (seen_pair number) o)
+      by None is = refl
+      by (Some e) is =
+          let prev = alike (number e.1.prev) (λ j s. closed.back i j m (ap (λ (o : Option (Gen × LinkBody K T)). prev_in (option_map (interlinks_seen number) o)) is ∙ s)) in
+          let next = alike (number e.1.next) (λ j s. closed.forth i j m (ap (λ (o : Option (Gen × LinkBody K T)). next_in (option_map (interlinks_seen number) o)) is ∙ s)) in
+          ap (seen_as e.0) (λ k. record { prev = prev k; next = next k; value = e.1.t })
+
 -- ---- the loop over all slots
 
 -- the chains with an index up to k are numbered, and the closure has seen their links in that order
@@ -107,10 +130,10 @@ pub record IsOrdering {Gen K T F P : Type 0} (number : K → Option ℕ) (g : F 
   pub rest : List Chain
   pub parts : chains ≡ done ++ rest
   pub low : (y : ℕ) → Has (all_items rest) y → k < y
-  pub seen : seen_held number now ≡ seen_held number old
+  pub retied : AreRetied number (λ _. renamed_link (place_in (all_items chains))) old now (all_items done)
   pub numbered : AreNumbered number now.slots count (all_items done)
   pub shows : ShowsMoves g key (ptr_at (slot_at old.slots)) generation 1 f (all_items done) last
-  pub work : IsWork before after 0 (k + 3 * length (all_items done))
+  pub work : IsWork before after 0 (k + 4 * length (all_items done))
 
 module _ {Gen K T F P : Type 0} (number : K → Option ℕ) (g : F → P → P → F → Type 0) (key : P → ℕ × Gen) (generation : Gen) (f : F) (old : Held Gen (LinkBody K T)) (before : Arena Gen (LinkBody K T)) where
   -- no slot is passed yet
@@ -125,15 +148,16 @@ module _ {Gen K T F P : Type 0} (number : K → Option ℕ) (g : F → P → P �
         rest = all.0;
         parts = refl;
         low = λ y h. (let w = within.within y ((all.1.partition.valid y).1 h) in let l : 1 ≤ y = w.0 in omega arith);
-        seen = refl;
+        retied = retied_none number (λ _. renamed_link (place_in (all_items all.0))) old;
         numbered = record { places = none; counts = refl };
         shows = shows_none g key (ptr_at (slot_at old.slots)) generation 1 f;
         work = work-none before 0;
       }
 
   module _ (last : F) (now : Held Gen (LinkBody K T)) (after : Arena Gen (LinkBody K T)) (count k : ℕ) (o : IsOrdering number g key generation f last old now before after count k) where
-    as_old : shown_in number now.slots ≡ shown_in number old.slots
-    as_old = shown-seen number now old o.seen
+    -- a link that is not numbered yet is as it was
+    as_old : (j : ℕ) → (Has (all_items o.done) j → ⊥) → shown_in number now.slots j ≡ shown_in number old.slots j
+    as_old j out = ap (option_map (interlinks_seen number)) (o.retied.stay j out)
 
     are : AreChains (shown_in number old.slots) o.chains
     are = chains_from_pairs (shown_in number old.slots) o.chains o.are.partition o.are.interlinks
@@ -148,13 +172,16 @@ module _ {Gen K T F P : Type 0} (number : K → Option ℕ) (g : F → P → P �
     rest_valid j h = (o.are.partition.valid j).1 (subst (λ (xs : List ℕ). Has xs j) (sym all_parts) (Has-right (all_items o.done) (all_items o.rest) j h))
 
     -- all slots are passed
-    pub order_ends : k ≡ length old.slots → AreAllNumbered number g key generation f last old.slots now.slots before after
+    pub order_ends : k ≡ length old.slots → AreAllNumbered number g key generation f last old now before after count
     order_ends all = record {
       indexes = all_items o.done;
       order = record { chains = o.chains; are = o.are; items = sym whole };
+      counted = o.numbered.counts;
       places = o.numbered.places;
+      renamed = all_retied number (place_in (all_items o.done)) old now (all_items o.done)
+          (subst (λ (xs : List ℕ). AreRetied number (λ _. renamed_link (place_in xs)) old now (all_items o.done)) whole o.retied) each;
       shows = o.shows;
-      work = subst (λ (n : ℕ). IsWork before after 0 (n + 3 * length (all_items o.done))) all o.work;
+      work = subst (λ (n : ℕ). IsWork before after 0 (n + 4 * length (all_items o.done))) all o.work;
     }
       where
         none : (y : ℕ) → Has (all_items o.rest) y → ⊥
@@ -165,6 +192,10 @@ module _ {Gen K T F P : Type 0} (number : K → Option ℕ) (g : F → P → P �
 
         whole : all_items o.chains ≡ all_items o.done
         whole = all_parts ∙ (ap (λ (xs : List ℕ). all_items o.done ++ xs) (no_items (all_items o.rest) none) ∙ append-nil (all_items o.done))
+
+        each : (j : ℕ) (e : Gen × LinkBody K T) → slot_at old.slots j ≡ Some e → Has (all_items o.done) j
+        each j e is =
+            subst (λ (xs : List ℕ). Has xs j) whole ((o.are.partition.valid j).0 (record { link = interlinks_seen number e; shows = ap (option_map (interlinks_seen number)) is }))
 
     module _ (i : ℕ) (is : i ≡ k + 1) where
       -- no link without a destination stands in the next slot
@@ -177,17 +208,17 @@ module _ {Gen K T F P : Type 0} (number : K → Option ℕ) (g : F → P → P �
         rest = o.rest;
         parts = o.parts;
         low = λ y h. lower y h (ℕ_discrete y i);
-        seen = ap (seen_held number) same ∙ o.seen;
+        retied = subst (λ (h : Held Gen (LinkBody K T)). AreRetied number (λ _. renamed_link (place_in (all_items o.chains))) old h (all_items o.done)) (sym same) o.retied;
         numbered = subst (λ (h : Held Gen (LinkBody K T)). AreNumbered number h.slots count (all_items o.done)) (sym same) o.numbered;
         shows = o.shows;
-        work = work-more o.work look 0 (k + 1 + 3 * length (all_items o.done)) refl (omega arith);
+        work = work-more o.work look 0 (k + 1 + 4 * length (all_items o.done)) refl (omega arith);
       }
         where
           not_here : Has (all_items o.rest) i → ⊥
           not_here h =
               let v = rest_valid i h in
-              stale_some number (slot_at now.slots i) v.link (ap (λ (l : Shown). l i) as_old ∙ v.shows) stale
-              (o.numbered.places i ∙ place-none 1 (all_items o.done) i (λ m. HasNoRepetition-apart (all_items o.done) (all_items o.rest) i once m h))
+              let out = λ (m : Has (all_items o.done) i). HasNoRepetition-apart (all_items o.done) (all_items o.rest) i once m h in
+              stale_some number (slot_at now.slots i) v.link (as_old i out ∙ v.shows) stale (o.numbered.places i ∙ place-none 1 (all_items o.done) i out)
 
           lower : (y : ℕ) → Has (all_items o.rest) y → Dec (y ≡ i) → k + 1 < y
           lower y h (yes s) = absurd (not_here (subst (Has (all_items o.rest)) s h))
@@ -195,18 +226,21 @@ module _ {Gen K T F P : Type 0} (number : K → Option ℕ) (g : F → P → P �
 
       -- the first link of the next chain stands there
       module _ (fresh : is_fresh number (slot_at now.slots i) ≡ true) where
+        not_done : Has (all_items o.done) i → ⊥
+        not_done h =
+            let p = has-place 1 (all_items o.done) i h in
+            let none : None ≡ Some p.0 = sym (fresh_none number (slot_at now.slots i) fresh) ∙ (o.numbered.places i ∙ p.1) in
+            absurd (cc)
+
         stands : HasLink (shown_in number old.slots) i
-        stands = let s = fresh_shown number (slot_at now.slots i) fresh in record { link = s.0; shows = sym (ap (λ (l : Shown). l i) as_old) ∙ s.1 }
+        stands = let s = fresh_shown number (slot_at now.slots i) fresh in record { link = s.0; shows = sym (as_old i not_done) ∙ s.1 }
 
         in_rest : Has (all_items o.rest) i
         in_rest = by (Has-parts (all_items o.done) (all_items o.rest) i (subst (λ (xs : List ℕ). Has xs i) all_parts (are.all i stands)))
           where
             by : Has (all_items o.done) i ⊎ Has (all_items o.rest) i → Has (all_items o.rest) i
             by (inr h) = h
-            by (inl h) =
-                let p = has-place 1 (all_items o.done) i h in
-                let none : None ≡ Some p.0 = sym (fresh_none number (slot_at now.slots i) fresh) ∙ (o.numbered.places i ∙ p.1) in
-                absurd (cc)
+            by (inl h) = absurd (not_done h)
 
         the_next : IsNext o.rest i
         the_next = next_chain o.rest k i is (rises-right o.done o.rest (subst Rises o.parts o.are.order.rises)) o.low in_rest
@@ -215,8 +249,12 @@ module _ {Gen K T F P : Type 0} (number : K → Option ℕ) (g : F → P → P �
         first_here = subst (λ (cs : List Chain). HasChain cs the_next.first) (sym o.parts)
             (has_chain-right o.done o.rest the_next.first (subst (λ (cs : List Chain). HasChain cs the_next.first) (sym the_next.rest_is) (inl refl)))
 
+        apart : (j : ℕ) → Has (items the_next.first) j → Has (all_items o.done) j → ⊥
+        apart j h m = HasNoRepetition-apart (all_items o.done) (all_items o.rest) j once m
+            (subst (λ (cs : List Chain). Has (all_items cs) j) (sym the_next.rest_is) (Has-left (items the_next.first) (all_items the_next.others) j h))
+
         first_chain : IsChain (shown_in number now.slots) the_next.first
-        first_chain = subst (λ (l : Shown). IsChain l the_next.first) (sym as_old) (are.each the_next.first first_here)
+        first_chain = IsChain-frame (shown_in number old.slots) (shown_in number now.slots) the_next.first (λ j h. sym (as_old j (apart j h))) (are.each the_next.first first_here)
 
         first_written : IsWritten the_next.first
         first_written = o.are.order.written the_next.first first_here
@@ -235,6 +273,19 @@ module _ {Gen K T F P : Type 0} (number : K → Option ℕ) (g : F → P → P �
                 let at : start ≡ i = from.in_cyclic xs (subst (λ (z : ℕ). IsChain (shown_in number now.slots) (cyclic (z ∷ xs))) same h) in
                 ap (λ (z : ℕ). Some z) (same ∙ sym at)
 
+        -- it is found from i
+        found_from : HasChainFrom (shown_in number now.slots) i
+        found_from = by the_next.first first_chain first_written the_next.has the_next.least
+          where
+            by : (c : Chain) → IsChain (shown_in number now.slots) c → IsWritten c → Has (items c) i → ((y : ℕ) → Has (items c) y → i ≤ y) → HasChainFrom (shown_in number now.slots) i
+            by (linear xs) h w m least = (xs, inl (h, m))
+            by (cyclic []) h w m least = absurd m
+            by (cyclic (x ∷ xs)) h w m least =
+                let low : x ≤ i = written_least x xs i w m in
+                let high : i ≤ x = least x (inl refl) in
+                let same : x ≡ i = omega arith in
+                (xs, inr (subst (λ (z : ℕ). IsChain (shown_in number now.slots) (cyclic (z ∷ xs))) same h))
+
         -- the walk back looked at no more links than it has
         start_work : (a b : Arena Gen (LinkBody K T)) → ((xs : List ℕ) → IsChain (shown_in number now.slots) (linear xs) → Has xs i → IsWork a b 0 (length xs))
             → ((xs : List ℕ) → IsChain (shown_in number now.slots) (cyclic (i ∷ xs)) → IsWork a b 0 (length xs + 1)) → IsWork a b 0 (length (items the_next.first))
@@ -250,16 +301,12 @@ module _ {Gen K T F P : Type 0} (number : K → Option ℕ) (g : F → P → P �
                 let long : length xs + 1 ≡ length (x ∷ xs) = omega arith in
                 subst (IsWork a b 0) long (in_cyclic xs (subst (λ (z : ℕ). IsChain (shown_in number now.slots) (cyclic (z ∷ xs))) same h))
 
-        apart : (j : ℕ) → Has (items the_next.first) j → Has (all_items o.done) j → ⊥
-        apart j h m = HasNoRepetition-apart (all_items o.done) (all_items o.rest) j once m
-            (subst (λ (cs : List Chain). Has (all_items cs) j) (sym the_next.rest_is) (Has-left (items the_next.first) (all_items the_next.others) j h))
-
         with_first : all_items o.done ++ items the_next.first ≡ all_items (o.done ++ the_next.first ∷ [])
         with_first = sym (all_items-append o.done (the_next.first ∷ []) ∙ ap (λ (xs : List ℕ). all_items o.done ++ xs) (append-nil (items the_next.first)))
 
         room : length (all_items o.done) + length (items the_next.first) ≤ length now.slots
         room =
-            let long : length now.slots ≡ length old.slots = length-seen number now old o.seen in
+            let long : length now.slots ≡ length old.slots = o.retied.long in
             let bound : length (all_items o.chains) ≤ length old.slots = length_bound (all_items o.chains) (length old.slots) are.once
             (λ j h. (slots-within (interlinks_seen number) old.slots).within j ((o.are.partition.valid j).1 h)) in
             let a : length (all_items o.chains) ≡ length (all_items o.done ++ all_items o.rest) = ap length all_parts in
@@ -270,11 +317,8 @@ module _ {Gen K T F P : Type 0} (number : K → Option ℕ) (g : F → P → P �
 
         -- the same over what the look left as it was
         module _ (mid : Held Gen (LinkBody K T)) (look : mid ≡ now) where
-          pub order_agrees : Agrees (shown_in number old.slots) → Agrees (shown_in number mid.slots)
-          order_agrees agrees = subst Agrees (sym (ap (λ (h : Held Gen (LinkBody K T)). shown_in number h.slots) look ∙ as_old)) agrees
-
-          pub order_valid : HasLink (shown_in number mid.slots) i
-          order_valid = subst (λ (l : Shown). HasLink l i) (sym (ap (λ (h : Held Gen (LinkBody K T)). shown_in number h.slots) look ∙ as_old)) stands
+          pub order_found : HasChainFrom (shown_in number mid.slots) i
+          order_found = subst (λ (h : Held Gen (LinkBody K T)). HasChainFrom (shown_in number h.slots) i) (sym look) found_from
 
           -- .. and the walk back
           module _ (stood : Held Gen (LinkBody K T)) (walked : stood ≡ mid) (start : ℕ) (from : IsStart (shown_in number mid.slots) i start) where
@@ -295,34 +339,52 @@ module _ {Gen K T F P : Type 0} (number : K → Option ℕ) (g : F → P → P �
                 → IsWork after a 0 1
                 → ((xs : List ℕ) → IsChain (shown_in number mid.slots) (linear xs) → Has xs i → IsWork a b 0 (length xs))
                 → ((xs : List ℕ) → IsChain (shown_in number mid.slots) (cyclic (i ∷ xs)) → IsWork a b 0 (length xs + 1))
-                → seen_held number new ≡ seen_held number stood
-                → ((done : List ℕ) (c : Chain) → CanNumber number stood.slots start count done c → IsChainNumbered number g key generation last next stood.slots new.slots b d more done c)
+                → ((done : List ℕ) (c : Chain) → CanNumber number stood.slots start count done c → IsChainNumbered number g key generation last next stood new b d more done c)
                 → IsOrdering number g key generation f next old new before d more (k + 1)
-            order_goes_on a b d next new more looked in_linear in_cyclic kept numbers = record {
+            order_goes_on a b d next new more looked in_linear in_cyclic numbers = record {
               chains = o.chains;
               are = o.are;
               done = o.done ++ the_next.first ∷ [];
               rest = the_next.others;
               parts = o.parts ∙ (ap (λ (cs : List Chain). o.done ++ cs) the_next.rest_is ∙ sym (chains_assoc o.done the_next.first the_next.others));
               low = λ y h. (let low : i < y = the_next.above y h in omega arith);
-              seen = kept ∙ as_first;
+              retied = subst (AreRetied number (λ _. renamed_link (place_in (all_items o.chains))) old new) with_first
+                  (retied_then number (λ _. renamed_link (place_in (all_items o.chains))) old now (all_items o.done) o.retied new (items the_next.first) first_retied apart);
               numbered = subst (AreNumbered number new.slots more) with_first chain.numbered;
               shows = subst (λ (xs : List ℕ). ShowsMoves g key (ptr_at (slot_at old.slots)) generation 1 f xs next) with_first
                   (shows_then g key (ptr_at (slot_at old.slots)) generation 1 f last next (all_items o.done) (items the_next.first) o.shows
                   (subst (λ (n : ℕ). ShowsMoves g key (ptr_at (slot_at old.slots)) generation n last (items the_next.first) next) place
-                  (subst (λ (pointer : ℕ → Option (ℕ × Gen)). ShowsMoves g key pointer generation (length (all_items o.done) + 1) last (items the_next.first) next) (ptr-seen number stood old as_first) chain.shows)));
-              work = work-more (work-more (work-more o.work looked 0 (k + 1 + 3 * length (all_items o.done)) refl (omega arith)) walk 0 (k + 1 + 3 * length (all_items o.done) + length (items the_next.first)) refl (omega arith))
-                  chain.work 0 (k + 1 + 3 * length (all_items (o.done ++ the_next.first ∷ []))) refl (omega (arith, long));
+                  (subst (λ (pointer : ℕ → Option (ℕ × Gen)). ShowsMoves g key pointer generation (length (all_items o.done) + 1) last (items the_next.first) next) pointers chain.shows)));
+              work = work-more (work-more (work-more o.work looked 0 (k + 1 + 4 * length (all_items o.done)) refl (omega arith)) walk 0 (k + 1 + 4 * length (all_items o.done) + length (items the_next.first)) refl (omega arith))
+                  chain.work 0 (k + 1 + 4 * length (all_items (o.done ++ the_next.first ∷ []))) refl (omega (arith, long));
             }
               where
-                chain : IsChainNumbered number g key generation last next stood.slots new.slots b d more (all_items o.done) the_next.first
+                chain : IsChainNumbered number g key generation last next stood new b d more (all_items o.done) the_next.first
                 chain = numbers (all_items o.done) the_next.first can_here
 
-                as_first : seen_held number stood ≡ seen_held number old
-                as_first = ap (seen_held number) (walked ∙ look) ∙ o.seen
+                pointers : ptr_at (slot_at stood.slots) ≡ ptr_at (slot_at old.slots)
+                pointers =
+                    ap (λ (h : Held Gen (LinkBody K T)). ptr_at (slot_at h.slots)) (walked ∙ look)
+                    ∙ retied_ptr number (λ _. renamed_link (place_in (all_items o.chains))) old now (all_items o.done) o.retied
 
                 place : length (all_items o.done) + 1 ≡ 1 + length (all_items o.done)
                 place = omega arith
+
+                -- a neighbor's place in its chain is its place among all
+                in_all : (j : ℕ) → Has (items the_next.first) j → place_from (length (all_items o.done) + 1) (items the_next.first) j ≡ place_in (all_items o.chains) j
+                in_all j h =
+                    ap (λ (n : ℕ). place_from n (items the_next.first) j) place
+                    ∙ (sym (place-front (1 + length (all_items o.done)) (items the_next.first) (all_items the_next.others) j h)
+                    ∙ (sym (place-append 1 (all_items o.done) (items the_next.first ++ all_items the_next.others) j (apart j h))
+                    ∙ ap (λ (xs : List ℕ). place_in xs j) (ap (λ (cs : List Chain). all_items o.done ++ all_items cs) (sym the_next.rest_is) ∙ sym all_parts)))
+
+                now_retied : AreRetied number (λ _. renamed_link (place_from (length (all_items o.done) + 1) (items the_next.first))) now new (items the_next.first)
+                now_retied = subst (λ (h : Held Gen (LinkBody K T)). AreRetied number (λ _. renamed_link (place_from (length (all_items o.done) + 1) (items the_next.first))) h new (items the_next.first)) (walked ∙ look) chain.retied
+
+                first_retied : AreRetied number (λ _. renamed_link (place_in (all_items o.chains))) now new (items the_next.first)
+                first_retied =
+                    retied_as number (λ _. renamed_link (place_from (length (all_items o.done) + 1) (items the_next.first))) now new (items the_next.first) now_retied
+                    (λ _. renamed_link (place_in (all_items o.chains))) (λ j h. renamed_alike number (place_from (length (all_items o.done) + 1) (items the_next.first)) (place_in (all_items o.chains)) now.slots the_next.first first_chain in_all j h)
 
                 long : length (all_items (o.done ++ the_next.first ∷ [])) ≡ length (all_items o.done) + length (items the_next.first)
                 long = ap length (sym with_first) ∙ length-append (all_items o.done) (items the_next.first)

@@ -1,214 +1,166 @@
--- Links that name other indexes: one, and the round over all.
-use Rattle.std.proofs.Common.{◌≡◌, ℕ, zero, suc, ◌+◌, ◌*◌, ◌≤◌, ◌<◌, List, length, map, Option, None, Some, refl, sym, ap, ◌∙◌, arith}
-use Rattle.std.specs.Prelude.{count_by, is_some, take, ◌==◌, if◌then◌else◌}
+-- Links that are written over, one after another: what is seen of them then.
+use Rattle.std.proofs.Common.{◌≡◌, ◌≢◌, ℕ, suc, ◌⊎◌, inl, inr, List, [], ◌∷◌, ◌++◌, length, Option, None, Some, refl, sym, ap, ◌∙◌, subst}
+use Rattle.std.specs.Prelude.{◌==◌, if◌then◌else◌}
 use Rattle.std.specs.Option.{option_map, option_and_then}
 use Rattle.std.proofs.Math.Decide.{ℕ_discrete}
 use Rattle.std.proofs.lemmas.List.{ext_get_or, length-map}
-use Rattle.std.proofs.lemmas.List.Sums.{sum_by_more, sum_by-take-le}
 use mathlib.Core.Path.{fun_ext}
+use Rattle.chain_laws.specs.Chains.{Has}
+use Rattle.chain_laws.proofs.Members.{Has-left, Has-right, Has-parts, Has-or_not}
 use Rattle.chain_laws.proofs.Agreement.{if_same, if_other}
-use Rattle.chain_laws.specs.Chains.{prev_in, next_in, prev_of, next_of}
-use Rattle.arena_base.specs.Arena.{Arena, slot_at, with_slot}
-use Rattle.arena_base.specs.Compacting.{Held, held_with_value, with_touch}
+use Rattle.arena_base.specs.Arena.{slot_at}
+use Rattle.arena_base.specs.Compacting.{Held, held_with_value}
 use Rattle.arena_base.proofs.Reading.{length-with_slot}
 use Rattle.chain_links.specs.declared.links.LinkBody.{LinkBody}
-use Rattle.chain_links.specs.ChainArena.{LinkSeen, on_value}
+use Rattle.chain_links.specs.ChainArena.{LinkSeen, on_value, ptr_at}
 use Rattle.chain_links.specs.Links.{seen_link, seen_pair}
-use Rattle.chain_layout.specs.HeldLinks.{interlinks_seen, shown_in, IsWork}
 use Rattle.chain_layout.specs.Moving.{goal_of}
-use Rattle.chain_layout.specs.Numbering.{renamed_link, renamed_held, looks_at, seen_held, given, IsRenamedAt, AreRenamedTo}
-use Rattle.chain_layout.proofs.Counting.{one_if, with_slot-own}
-use Rattle.chain_layout.proofs.HeldLinks.{work-none, work-touched, work-more}
-use Rattle.chain_links.proofs.Mapping.{map-with_slot, slot_at-map}
+use Rattle.chain_layout.specs.Numbering.{renamed_link, renamed_held, seen_held, given, AreRetied}
+use Rattle.chain_links.proofs.Mapping.{slot_at-map}
 use Rattle.chain_links.proofs.Seeing.{slot_at-changed}
 
--- a link that stands was written, but not where it is to go
-module _ {Gen K T : Type 0} (number : K → Option ℕ) (held new : Held Gen (LinkBody K T)) (i : ℕ) (l w : LinkBody K T)
-    (stands : Some l ≡ option_map (λ (e : Gen × LinkBody K T). e.1) (slot_at held.slots i)) (wrote : new ≡ held_with_value held i w) where
+-- what is seen of an entry, with another link
+abbrev pub seen_as : {Gen T : Type 0} → Gen → LinkSeen T → Option (Gen × LinkSeen T)
+seen_as g l = Some (g, l)
+
+-- a link that stands was written over
+module _ {Gen K T : Type 0} (now new : Held Gen (LinkBody K T)) (i : ℕ) (e : Gen × LinkBody K T) (w : LinkBody K T) (stands : slot_at now.slots i ≡ Some e) (wrote : new ≡ held_with_value now i w) where
   abbrev written : Option (Gen × LinkBody K T) → Option (Gen × LinkBody K T)
   written o = option_map (λ (e : Gen × LinkBody K T). (e.0, w)) o
 
-  pub kept_given : number w.destination ≡ number l.destination → (j : ℕ) → given number new.slots j ≡ given number held.slots j
-  kept_given same j = ap (λ (h : Held Gen (LinkBody K T)). given number h.slots j) wrote ∙ by (ℕ_discrete j i)
-    where
-      at : (o : Option (Gen × LinkBody K T)) → Some l ≡ option_map (λ (e : Gen × LinkBody K T). e.1) o → option_and_then (goal_of number) (written o) ≡ option_and_then (goal_of number) o
-      at None is = refl
-      at (Some e) is =
-          let own : l ≡ e.1 = cc in
-          same ∙ ap (λ (k : LinkBody K T). number k.destination) own
+  written_at : (j : ℕ) → slot_at new.slots j ≡ (if j == i then written (slot_at now.slots j) else slot_at now.slots j)
+  written_at j = ap (λ (h : Held Gen (LinkBody K T)). slot_at h.slots j) wrote ∙ slot_at-changed now.slots i j written refl
 
-      by : Dec (j ≡ i) → given number (held_with_value held i w).slots j ≡ given number held.slots j
-      by (yes e) =
-          ap (option_and_then (goal_of number)) (slot_at-changed held.slots i j written refl ∙ if_same j i _ _ e)
-          ∙ at (slot_at held.slots j) (stands ∙ ap (λ (n : ℕ). option_map (λ (x : Gen × LinkBody K T). x.1) (slot_at held.slots n)) (sym e))
-      by (no differs) = ap (option_and_then (goal_of number)) (slot_at-changed held.slots i j written refl ∙ if_other j i _ _ differs)
+  -- it stands there
+  pub written_there : slot_at new.slots i ≡ Some (e.0, w)
+  written_there = written_at i ∙ (if_same i i _ _ refl ∙ ap written stands)
 
-  module _ (to : ℕ → Option ℕ) (prev : number w.prev ≡ option_and_then to (number l.prev)) (next : number w.next ≡ option_and_then to (number l.next)) (value : w.t ≡ l.t) where
-    slot_renamed : (o : Option (Gen × LinkBody K T)) → Some l ≡ option_map (λ (e : Gen × LinkBody K T). e.1) o
-        → option_map (seen_pair number) (written o) ≡ option_map (on_value (renamed_link to)) (option_map (seen_pair number) o)
-    slot_renamed None is = refl
-    slot_renamed (Some e) is =
-        let own : l ≡ e.1 = cc in
-        let renamed : seen_link number w ≡ renamed_link to (seen_link number l) = λ j. record { prev = prev j; next = next j; value = value j } in
-        ap (λ (x : LinkSeen T). let r : Option (Gen × LinkSeen T) = Some (e.0, x) in r) (renamed ∙ ap (λ (k : LinkBody K T). renamed_link to (seen_link number k)) own)
+  -- and all else is as it was
+  pub written_other : (j : ℕ) → j ≢ i → slot_at new.slots j ≡ slot_at now.slots j
+  written_other j differs = written_at j ∙ if_other j i _ _ differs
 
-    seen_renamed : seen_held number new ≡ record (seen_held number held) {
-      slots = with_slot (seen_held number held).slots i (option_map (on_value (renamed_link to)) (slot_at (seen_held number held).slots i));
+  pub written_long : length new.slots ≡ length now.slots
+  written_long = ap (λ (h : Held Gen (LinkBody K T)). length h.slots) wrote ∙ length-with_slot now.slots i _
+
+  pub written_capacity : new.stack_capacity ≡ now.stack_capacity
+  written_capacity = ap (λ (h : Held Gen (LinkBody K T)). h.stack_capacity) wrote
+
+  pub written_maximum : new.maximum ≡ now.maximum
+  written_maximum = ap (λ (h : Held Gen (LinkBody K T)). h.maximum) wrote
+
+  -- the destinations too, but for its own
+  pub written_given : (number : K → Option ℕ) (j : ℕ) → j ≢ i → given number new.slots j ≡ given number now.slots j
+  written_given number j differs = ap (option_and_then (goal_of number)) (written_other j differs)
+
+  pub written_own : (number : K → Option ℕ) → given number new.slots i ≡ number w.destination
+  written_own number = ap (option_and_then (goal_of number)) written_there
+
+module _ {Gen K T : Type 0} (number : K → Option ℕ) where
+  -- what is seen at an index
+  abbrev pub seen_at : Held Gen (LinkBody K T) → ℕ → Option (Gen × LinkSeen T)
+  seen_at h j = option_map (seen_pair number) (slot_at h.slots j)
+
+  -- none is written over yet
+  pub retied_none : (becomes : ℕ → LinkSeen T → LinkSeen T) (h : Held Gen (LinkBody K T)) → AreRetied number becomes h h []
+  retied_none becomes h = record { there = λ j has. absurd has; stay = λ j out. refl; long = refl; capacity = refl; maximum = refl }
+
+  module _ (becomes : ℕ → LinkSeen T → LinkSeen T) (old now : Held Gen (LinkBody K T)) (xs : List ℕ) (was : AreRetied number becomes old now xs) where
+    -- so many are as they were, or changed alike
+    pub retied_as : (instead : ℕ → LinkSeen T → LinkSeen T) → ((j : ℕ) → Has xs j → option_map (on_value (becomes j)) (seen_at old j) ≡ option_map (on_value (instead j)) (seen_at old j)) → AreRetied number instead old now xs
+    retied_as instead same = record { there = λ j h. was.there j h ∙ same j h; stay = was.stay; long = was.long; capacity = was.capacity; maximum = was.maximum }
+
+    -- each pointer is what it was
+    pub retied_ptr : ptr_at (slot_at now.slots) ≡ ptr_at (slot_at old.slots)
+    retied_ptr = fun_ext (λ i. by i (Has-or_not xs i))
+      where
+        seen : (i : ℕ) (s : Option (Gen × LinkBody K T)) → option_map {U = ℕ × Gen} (λ (e : Gen × LinkBody K T). (i, e.0)) s ≡ option_map {U = ℕ × Gen} (λ (e : Gen × LinkSeen T). (i, e.0)) (option_map (seen_pair number) s)
+        seen i None = refl
+        seen i (Some e) = refl
+
+        valued : (i : ℕ) (f : LinkSeen T → LinkSeen T) (o : Option (Gen × LinkSeen T)) → option_map {U = ℕ × Gen} (λ (e : Gen × LinkSeen T). (i, e.0)) (option_map (on_value f) o) ≡ option_map {U = ℕ × Gen} (λ (e : Gen × LinkSeen T). (i, e.0)) o
+        valued i f None = refl
+        valued i f (Some e) = refl
+
+        by : (i : ℕ) → Has xs i ⊎ (Has xs i → ⊥) → ptr_at (slot_at now.slots) i ≡ ptr_at (slot_at old.slots) i
+        by i (inl h) =
+            seen i (slot_at now.slots i) ∙ (ap (option_map {U = ℕ × Gen} (λ (e : Gen × LinkSeen T). (i, e.0))) (was.there i h) ∙ (valued i (becomes i) (seen_at old i) ∙ sym (seen i (slot_at old.slots i))))
+        by i (inr out) = ap (option_map {U = ℕ × Gen} (λ (e : Gen × LinkBody K T). (i, e.0))) (was.stay i out)
+
+    module _ (new : Held Gen (LinkBody K T)) (i : ℕ) (e : Gen × LinkBody K T) (w : LinkBody K T) (stands : slot_at now.slots i ≡ Some e) (wrote : new ≡ held_with_value now i w) where
+      -- one more is written over
+      pub retied_more : (Has xs i → ⊥) → seen_link number w ≡ becomes i (seen_link number e.1) → AreRetied number becomes old new (xs ++ i ∷ [])
+      retied_more fresh same = record {
+        there = λ j h. there j h (ℕ_discrete j i);
+        stay = λ j out. written_other now new i e w stands wrote j (λ s. out (subst (Has (xs ++ i ∷ [])) (sym s) (Has-right xs (i ∷ []) i (inl refl)))) ∙ was.stay j (λ h. out (Has-left xs (i ∷ []) j h));
+        long = written_long now new i e w stands wrote ∙ was.long;
+        capacity = written_capacity now new i e w stands wrote ∙ was.capacity;
+        maximum = written_maximum now new i e w stands wrote ∙ was.maximum;
+      }
+        where
+          here : seen_at new i ≡ option_map (on_value (becomes i)) (seen_at old i)
+          here =
+              ap (option_map (seen_pair number)) (written_there now new i e w stands wrote)
+              ∙ (ap (seen_as e.0) same ∙ sym (ap (λ (o : Option (Gen × LinkBody K T)). option_map (on_value (becomes i)) (option_map (seen_pair number) o)) (sym (was.stay i fresh) ∙ stands)))
+
+          before : (j : ℕ) → j ≢ i → Has xs j ⊎ Has (i ∷ []) j → Has xs j
+          before j differs (inl h) = h
+          before j differs (inr (inl s)) = absurd (differs (sym s))
+          before j differs (inr (inr none)) = absurd none
+
+          there : (j : ℕ) → Has (xs ++ i ∷ []) j → Dec (j ≡ i) → seen_at new j ≡ option_map (on_value (becomes j)) (seen_at old j)
+          there j h (yes s) = subst (λ (n : ℕ). seen_at new n ≡ option_map (on_value (becomes n)) (seen_at old n)) (sym s) here
+          there j h (no differs) = ap (option_map (seen_pair number)) (written_other now new i e w stands wrote j differs) ∙ was.there j (before j differs (Has-parts xs (i ∷ []) j h))
+
+      -- one of them is written over again
+      pub retied_over : Has xs i → (instead : ℕ → LinkSeen T → LinkSeen T) → ((j : ℕ) → j ≢ i → becomes j ≡ instead j) → seen_as e.0 (seen_link number w) ≡ option_map (on_value (instead i)) (seen_at old i) → AreRetied number instead old new xs
+      retied_over has instead others here = record {
+        there = λ j h. there j h (ℕ_discrete j i);
+        stay = λ j out. written_other now new i e w stands wrote j (λ s. out (subst (Has xs) (sym s) has)) ∙ was.stay j out;
+        long = written_long now new i e w stands wrote ∙ was.long;
+        capacity = written_capacity now new i e w stands wrote ∙ was.capacity;
+        maximum = written_maximum now new i e w stands wrote ∙ was.maximum;
+      }
+        where
+          there : (j : ℕ) → Has xs j → Dec (j ≡ i) → seen_at new j ≡ option_map (on_value (instead j)) (seen_at old j)
+          there j h (yes s) = subst (λ (n : ℕ). seen_at new n ≡ option_map (on_value (instead n)) (seen_at old n)) (sym s) (ap (option_map (seen_pair number)) (written_there now new i e w stands wrote) ∙ here)
+          there j h (no differs) =
+              ap (option_map (seen_pair number)) (written_other now new i e w stands wrote j differs)
+              ∙ (was.there j h ∙ ap (λ (f : LinkSeen T → LinkSeen T). option_map (on_value f) (seen_at old j)) (others j differs))
+
+    -- others are written over then
+    pub retied_then : (new : Held Gen (LinkBody K T)) (ys : List ℕ) → AreRetied number becomes now new ys → ((j : ℕ) → Has ys j → Has xs j → ⊥) → AreRetied number becomes old new (xs ++ ys)
+    retied_then new ys more apart = record {
+      there = λ j h. there j (Has-parts xs ys j h);
+      stay = λ j out. more.stay j (λ h. out (Has-right xs ys j h)) ∙ was.stay j (λ h. out (Has-left xs ys j h));
+      long = more.long ∙ was.long;
+      capacity = more.capacity ∙ was.capacity;
+      maximum = more.maximum ∙ was.maximum;
     }
-    seen_renamed =
-        let slots =
-        map-with_slot (option_map (seen_pair number)) held.slots i (written (slot_at held.slots i))
-        ∙ ap (with_slot (seen_held number held).slots i) (slot_renamed (slot_at held.slots i) stands ∙ ap (option_map (on_value (renamed_link to))) (sym (slot_at-map (seen_pair number) held.slots i))) in
-        ap (λ (h : Held Gen (LinkBody K T)). seen_held number h) wrote ∙ (λ j. record (seen_held number held) { slots = slots j })
+      where
+        there : (j : ℕ) → Has xs j ⊎ Has ys j → seen_at new j ≡ option_map (on_value (becomes j)) (seen_at old j)
+        there j (inl h) = ap (option_map (seen_pair number)) (more.stay j (λ m. apart j m h)) ∙ was.there j h
+        there j (inr h) = more.there j h ∙ ap (λ (o : Option (Gen × LinkBody K T)). option_map (on_value (becomes j)) (option_map (seen_pair number) o)) (was.stay j (λ m. apart j h m))
 
--- the link at i was looked at, its neighbors were, and it was written
-renames_link : {Gen K T : Type 0} (number : K → Option ℕ) (i : ℕ) (old now new : Held Gen (LinkBody K T)) (e : Gen × LinkBody K T) (l m w : LinkBody K T) (before after : Option ℕ)
-    → now ≡ old → Some e ≡ slot_at old.slots i → Some l ≡ option_map (λ (x : Gen × LinkBody K T). x.1) (slot_at now.slots i) → new ≡ held_with_value now i w
-    → before ≡ option_and_then (given number old.slots) (number e.1.prev) → after ≡ option_and_then (given number old.slots) (number e.1.next)
-    → number m.prev ≡ before → m ≡ record l { prev = m.prev } → number w.next ≡ after → w ≡ record m { next = w.next } → IsRenamedAt number i old new
-renames_link {Gen} {K} {T} number i old now new e l m w before after same there stands wrote is_before is_after prev rest next left =
-    let stood : Some l ≡ option_map (λ (x : Gen × LinkBody K T). x.1) (slot_at old.slots i) = stands ∙ ap (λ (h : Held Gen (LinkBody K T)). option_map (λ (x : Gen × LinkBody K T). x.1) (slot_at h.slots i)) same in
-    let own : Some l ≡ Some e.1 = stood ∙ sym (ap (option_map (λ (x : Gen × LinkBody K T). x.1)) there) in
-    let is : e.1 ≡ l = cc in
-    let written : new ≡ held_with_value old i w = wrote ∙ ap (λ (h : Held Gen (LinkBody K T)). held_with_value h i w) same in
-    record {
-      seen = seen_renamed number old new i l w stood written (given number old.slots)
-          (ap (λ (k : LinkBody K T). number k.prev) left ∙ (prev ∙ (is_before ∙ ap (λ (k : LinkBody K T). option_and_then (given number old.slots) (number k.prev)) is)))
-          (next ∙ (is_after ∙ ap (λ (k : LinkBody K T). option_and_then (given number old.slots) (number k.next)) is))
-          (ap (λ (k : LinkBody K T). k.t) left ∙ ap (λ (k : LinkBody K T). k.t) rest);
-      kept = kept_given number old new i l w stood written (ap (λ (k : LinkBody K T). number k.destination) left ∙ ap (λ (k : LinkBody K T). number k.destination) rest);
-    }
-
--- the link at i was looked at, its neighbors were, and it was written, step by step
-pub renames_looked : {Gen K T : Type 0} (number : K → Option ℕ) (i : ℕ) (old looked one two new : Held Gen (LinkBody K T)) (r : Option Gen) (was : Gen) (prev next before after : Option ℕ) (l m w : LinkBody K T)
-    → looked ≡ old → one ≡ looked → two ≡ one → r ≡ Some was → r ≡ option_map (λ (e : Gen × LinkBody K T). e.0) (slot_at old.slots i)
-    → prev ≡ prev_of (shown_in number old.slots) i → next ≡ next_of (shown_in number old.slots) i
-    → before ≡ option_and_then (given number looked.slots) prev → after ≡ option_and_then (given number one.slots) next
-    → Some l ≡ option_map (λ (x : Gen × LinkBody K T). x.1) (slot_at two.slots i) → new ≡ held_with_value two i w
-    → number m.prev ≡ before → m ≡ record l { prev = m.prev } → number w.next ≡ after → w ≡ record m { next = w.next } → IsRenamedAt number i old new
-renames_looked {Gen} {K} {T} number i old looked one two new r was prev next before after l m w at_first at_one at_two some stood is_prev is_next is_before is_after stands wrote sets rest sets_next rest_next =
-    by (slot_at old.slots i) refl (sym some ∙ stood)
-  where
-    by : (o : Option (Gen × LinkBody K T)) → slot_at old.slots i ≡ o → Some was ≡ option_map (λ (e : Gen × LinkBody K T). e.0) o → IsRenamedAt number i old new
-    by None is none = absurd (let both = none in cc)
-    by (Some e) is none =
-        let own_prev : prev ≡ number e.1.prev = is_prev ∙ ap (λ (o : Option (Gen × LinkBody K T)). prev_in (option_map (interlinks_seen number) o)) is in
-        let own_next : next ≡ number e.1.next = is_next ∙ ap (λ (o : Option (Gen × LinkBody K T)). next_in (option_map (interlinks_seen number) o)) is in
-        renames_link number i old two new e l m w before after (at_two ∙ (at_one ∙ at_first)) (sym is) stands wrote
-        (is_before ∙ (ap (λ (h : Held Gen (LinkBody K T)). option_and_then (given number h.slots) prev) at_first ∙ ap (option_and_then (given number old.slots)) own_prev))
-        (is_after ∙ (ap (λ (h : Held Gen (LinkBody K T)). option_and_then (given number h.slots) next) (at_one ∙ at_first) ∙ ap (option_and_then (given number old.slots)) own_next))
-        sets rest sets_next rest_next
-
--- no link stands at i
-renames_none : {Gen K T : Type 0} (number : K → Option ℕ) (i : ℕ) (old new : Held Gen (LinkBody K T)) → new ≡ old → None ≡ slot_at old.slots i → IsRenamedAt number i old new
-renames_none {Gen} {K} {T} number i old new same none = record {
-  seen = ap (λ (h : Held Gen (LinkBody K T)). seen_held number h) same ∙ (λ j. record (seen_held number old) { slots = slots j });
-  kept = λ j. ap (λ (h : Held Gen (LinkBody K T)). given number h.slots j) same;
-}
-  where
-    rename : Option (Gen × LinkSeen T) → Option (Gen × LinkSeen T)
-    rename o = option_map (on_value (renamed_link (given number old.slots))) o
-
-    nothing : slot_at (seen_held number old).slots i ≡ None
-    nothing = slot_at-map (seen_pair number) old.slots i ∙ ap (option_map (seen_pair number)) (sym none)
-
-    slots : (seen_held number old).slots ≡ with_slot (seen_held number old).slots i (rename (slot_at (seen_held number old).slots i))
-    slots = sym (with_slot-own (seen_held number old).slots i) ∙ ap (with_slot (seen_held number old).slots i) (nothing ∙ sym (ap rename nothing))
-
--- .. as a look told
-pub renames_nothing : {Gen K T : Type 0} (number : K → Option ℕ) (i : ℕ) (old new : Held Gen (LinkBody K T)) (r : Option Gen) → new ≡ old → r ≡ None
-    → r ≡ option_map (λ (e : Gen × LinkBody K T). e.0) (slot_at old.slots i) → IsRenamedAt number i old new
-renames_nothing {Gen} {K} {T} number i old new r same none stood = renames_none number i old new same (by (slot_at old.slots i) (sym none ∙ stood))
-  where
-    by : (o : Option (Gen × LinkBody K T)) → None ≡ option_map (λ (e : Gen × LinkBody K T). e.0) o → None ≡ o
-    by None is = refl
-    by (Some e) is = absurd (let both = is in cc)
-
--- a look at a slot is one at least
-one_look : {X : Type 0} (o : Option X) → 1 + 0 ≤ looks_at o
-one_look None = omega arith
-one_look (Some x) = omega arith
-
--- a link takes four looks
-four_looks : {X G : Type 0} (o : Option X) (f : X → G) (r : Option G) (g : G) → r ≡ Some g → r ≡ option_map f o → 3 + 1 ≤ looks_at o
-four_looks None f r g some told = absurd (let both = sym some ∙ told in cc)
-four_looks (Some x) f r g some told = omega arith
-
-module _ {Gen T X G : Type 0} (o : Option X) (f : X → G) (r : Option G) (old looked : Arena Gen T) (look : looked ≡ with_touch old) where
-  pub work_none : IsWork old looked 0 (looks_at o)
-  work_none = work-more (work-touched old looked look) (work-none looked 0) 0 (looks_at o) refl (one_look o)
-
-  pub work_four : (one two new : Arena Gen T) (g : G) → r ≡ Some g → r ≡ option_map f o → IsWork looked one 0 1 → IsWork one two 0 1 → new ≡ with_touch two → IsWork old new 0 (looks_at o)
-  work_four one two new g some told first second write =
-      work-more (work-more (work-more (work-touched old looked look) first 0 2 refl (omega arith)) second 0 3 refl (omega arith)) (work-touched two new write) 0 (looks_at o) refl (four_looks o f r g some told)
-
-module _ {Gen T : Type 0} (to : ℕ → Option ℕ) (old : List (Option (Gen × LinkSeen T))) where
-  abbrev renaming : Option (Gen × LinkSeen T) → Option (Gen × LinkSeen T)
-  renaming o = option_map (on_value (renamed_link to)) o
-
-  pub renaming_begins : AreRenamedTo to old old 0
-  renaming_begins = record { renamed = first; ahead = λ j past. refl; long = refl }
+  -- once all are renamed, so is all that is held
+  pub all_retied : (to : ℕ → Option ℕ) (old now : Held Gen (LinkBody K T)) (xs : List ℕ) → AreRetied number (λ _. renamed_link to) old now xs → ((j : ℕ) (e : Gen × LinkBody K T) → slot_at old.slots j ≡ Some e → Has xs j)
+      → seen_held number now ≡ renamed_held to (seen_held number old)
+  all_retied to old now xs was each = λ j. record { slots = slots j; stack_capacity = was.capacity j; maximum = was.maximum j }
     where
-      first : (j : ℕ) → j ≤ 0 → slot_at old j ≡ renaming (slot_at old j)
-      first zero low = refl
-      first (suc k) low = absurd (omega arith)
+      free : (j : ℕ) → (Has xs j → ⊥) → (o : Option (Gen × LinkBody K T)) → slot_at old.slots j ≡ o → option_map (seen_pair number) o ≡ option_map (on_value (renamed_link to)) (option_map (seen_pair number) o)
+      free j out None is = refl
+      free j out (Some e) is = absurd (out (each j e is))
 
-  pub renaming_goes_on : (now next : List (Option (Gen × LinkSeen T))) (k i : ℕ) → i ≡ k + 1 → AreRenamedTo to old now k → next ≡ with_slot now i (renaming (slot_at now i)) → AreRenamedTo to old next (k + 1)
-  renaming_goes_on now next k i is was wrote = record {
-    renamed = λ j low. at j ∙ by j low (ℕ_discrete j i);
-    ahead = λ j past. at j ∙ (if_other j i _ _ (λ e. absurd (omega (arith, e, is, past))) ∙ was.ahead j (omega (arith, past)));
-    long = ap (λ (s : List (Option (Gen × LinkSeen T))). length s) wrote ∙ (length-with_slot now i (renaming (slot_at now i)) ∙ was.long);
-  }
-    where
-      at : (j : ℕ) → slot_at next j ≡ (if j == i then renaming (slot_at now j) else slot_at now j)
-      at j = ap (λ (s : List (Option (Gen × LinkSeen T))). slot_at s j) wrote ∙ slot_at-changed now i j renaming refl
+      by : (j : ℕ) → Has xs j ⊎ (Has xs j → ⊥) → seen_at now j ≡ option_map (on_value (renamed_link to)) (seen_at old j)
+      by j (inl h) = was.there j h
+      by j (inr out) = ap (option_map (seen_pair number)) (was.stay j out) ∙ free j out (slot_at old.slots j) refl
 
-      by : (j : ℕ) → j ≤ k + 1 → Dec (j ≡ i) → (if j == i then renaming (slot_at now j) else slot_at now j) ≡ renaming (slot_at old j)
-      by j low (yes e) = if_same j i _ _ e ∙ ap renaming (was.ahead j (omega (arith, e, is)))
-      by j low (no differs) = if_other j i _ _ differs ∙ was.renamed j (omega arith)
+      at : (j : ℕ) → slot_at (seen_held number now).slots j ≡ slot_at (renamed_held to (seen_held number old)).slots j
+      at j =
+          slot_at-map (seen_pair number) now.slots j
+          ∙ (by j (Has-or_not xs j) ∙ sym (slot_at-map (on_value (renamed_link to)) (seen_held number old).slots j ∙ ap (option_map (on_value (renamed_link to))) (slot_at-map (seen_pair number) old.slots j)))
 
-  pub renaming_ends : (now : List (Option (Gen × LinkSeen T))) → AreRenamedTo to old now (length old) → now ≡ map renaming old
-  renaming_ends now was =
-      ext_get_or None now (map renaming old) (was.long ∙ sym (length-map old renaming))
-      (λ k inside. was.renamed (suc k) (omega (arith, inside, was.long)) ∙ sym (slot_at-map (on_value (renamed_link to)) old (suc k)))
-
--- .. and so for what is held
-pub all_renamed : {Gen T : Type 0} (to : ℕ → Option ℕ) (old now : Held Gen (LinkSeen T)) → AreRenamedTo to old.slots now.slots (length old.slots) → now.stack_capacity ≡ old.stack_capacity → now.maximum ≡ old.maximum
-    → now ≡ renamed_held to old
-all_renamed to old now was capacity maximum = let slots = renaming_ends to old.slots now.slots was in λ j. record { slots = slots j; stack_capacity = capacity j; maximum = maximum j }
-
--- the destinations stay, so the links go on to be named by the same
-pub one_more_renamed : {Gen K T : Type 0} (number : K → Option ℕ) (old now next : Held Gen (LinkBody K T)) (k i : ℕ) → i ≡ k + 1 → ((j : ℕ) → given number now.slots j ≡ given number old.slots j)
-    → AreRenamedTo (given number old.slots) (seen_held number old).slots (seen_held number now).slots k → IsRenamedAt number i now next
-    → AreRenamedTo (given number old.slots) (seen_held number old).slots (seen_held number next).slots (k + 1)
-one_more_renamed {Gen} {K} {T} number old now next k i is kept was one =
-    renaming_goes_on (given number old.slots) (seen_held number old).slots (seen_held number now).slots (seen_held number next).slots k i is was
-    (ap (λ (h : Held Gen (LinkSeen T)). h.slots) one.seen
-    ∙ ap (λ (to : ℕ → Option ℕ). with_slot (seen_held number now).slots i (option_map (on_value (renamed_link to)) (slot_at (seen_held number now).slots i))) (fun_ext kept))
-
--- how many looks it takes
-module _ {X Y : Type 0} (f : X → Y) (old now : List (Option X)) where
-  looks_seen : (o : Option X) → looks_at (option_map f o) ≡ looks_at o
-  looks_seen None = refl
-  looks_seen (Some x) = refl
-
-  looks_one : (o : Option X) → looks_at o ≡ 1 + 3 * one_if (is_some o)
-  looks_one None = refl
-  looks_one (Some x) = refl
-
-  pub looks_more : (k i : ℕ) → i ≡ k + 1 → k < length old → slot_at (map (option_map f) now) i ≡ slot_at (map (option_map f) old) i
-      → (k + 3 * count_by is_some (take k old)) + looks_at (slot_at now i) ≤ (k + 1) + 3 * count_by is_some (take (k + 1) old)
-  looks_more k i is inside same =
-      let at : suc k ≡ i = omega (arith, is) in
-      let looks : looks_at (slot_at now i) ≡ looks_at (slot_at old (suc k)) =
-      sym (looks_seen (slot_at now i)) ∙ (sym (ap (λ (o : Option Y). looks_at o) (slot_at-map f now i)) ∙ (ap (λ (o : Option Y). looks_at o) same
-      ∙ (ap (λ (o : Option Y). looks_at o) (slot_at-map f old i) ∙ (looks_seen (slot_at old i) ∙ ap (λ (n : ℕ). looks_at (slot_at old n)) (sym at))))) in
-      let one : looks_at (slot_at old (suc k)) ≡ 1 + 3 * one_if (is_some (slot_at old (suc k))) = looks_one (slot_at old (suc k)) in
-      let more : count_by is_some (take (k + 1) old) ≡ count_by is_some (take k old) + one_if (is_some (slot_at old (suc k))) = sum_by_more (λ (o : Option X). one_if (is_some o)) old k None inside in
-      omega arith
-
--- at the end these are the looks for all
-pub looks_all : {X : Type 0} (xs : List (Option X)) (k : ℕ) → k ≤ length xs → k + 3 * count_by is_some (take k xs) ≤ length xs + 3 * count_by is_some xs
-looks_all {X} xs k inside =
-    let part : count_by is_some (take k xs) ≤ count_by is_some xs = sum_by-take-le (λ (o : Option X). one_if (is_some o)) xs k in
-    omega arith
+      slots : (seen_held number now).slots ≡ (renamed_held to (seen_held number old)).slots
+      slots =
+          ext_get_or None (seen_held number now).slots (renamed_held to (seen_held number old)).slots
+          (length-map now.slots (option_map (seen_pair number)) ∙ (was.long ∙ sym (length-map (seen_held number old).slots (option_map (on_value (renamed_link to))) ∙ length-map old.slots (option_map (seen_pair number)))))
+          (λ k inside. at (suc k))

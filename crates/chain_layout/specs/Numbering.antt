@@ -1,17 +1,21 @@
 -- Links that get their destinations: the places of a list.
-use Rattle.std.specs.Prelude.{◌≡◌, ℕ, ◌+◌, ◌*◌, ◌<◌, ◌≤◌, Bool, false, List, ◌++◌, map, length, Option, None, Some, is_none}
+use Rattle.std.specs.Prelude.{◌≡◌, ℕ, ◌+◌, ◌*◌, ◌≤◌, ◌⊎◌, Bool, false, List, ◌∷◌, ◌++◌, map, length, Option, None, Some, is_none}
 use Rattle.std.specs.Option.{option_map, option_and_then}
-use Rattle.chain_laws.specs.Chains.{Chain, items, Has, IsChain, first_or}
-use Rattle.chain_laws.specs.Arrangements.{place_in, IsLeastIndexOrder}
-use Rattle.arena_base.specs.Arena.{Arena, slot_at, with_slot}
+use Rattle.chain_laws.specs.Chains.{Shown, Chain, linear, cyclic, items, Has, IsChain, first_or}
+use Rattle.chain_laws.specs.Arrangements.{place_from, place_in, IsLeastIndexOrder}
+use Rattle.arena_base.specs.Arena.{Arena, slot_at}
 use Rattle.arena_base.specs.Compacting.{Held, held_with_value}
 use Rattle.arena_base.specs.declared.compactor.Compactor.{Compactor}
 use Rattle.chain_links.specs.ChainArena.{LinkSeen, on_value, ptr_at}
-use Rattle.chain_links.specs.Links.{seen_pair}
+use Rattle.chain_links.specs.Links.{seen_link, seen_pair}
 use Rattle.chain_layout.specs.HeldLinks.{shown_in, IsWork}
 use Rattle.chain_layout.specs.Layouts.{ShowsMoves}
-use Rattle.chain_layout.specs.Moving.{goal_of, sent_at}
+use Rattle.chain_layout.specs.Moving.{goal_of}
 use Rattle.chain_links.specs.declared.links.LinkBody.{LinkBody}
+
+-- a chain that is found from i: a linear one that has it, or a cyclic one that is written from it
+abbrev pub HasChainFrom : Shown → ℕ → Type 0
+HasChainFrom shown i = (xs : List ℕ) × ((IsChain shown (linear xs) × Has xs i) ⊎ IsChain shown (cyclic (i ∷ xs)))
 
 -- a link that names other indexes for those that it named
 abbrev pub renamed_link : {T : Type 0} → (ℕ → Option ℕ) → LinkSeen T → LinkSeen T
@@ -21,16 +25,12 @@ renamed_link to link = record link { prev = option_and_then to link.prev; next =
 abbrev pub renamed_held : {Gen T : Type 0} → (ℕ → Option ℕ) → Held Gen (LinkSeen T) → Held Gen (LinkSeen T)
 renamed_held to held = record held { slots = map (option_map (on_value (renamed_link to))) held.slots }
 
--- the links up to slot k name other indexes, and the others do not yet
-pub record AreRenamedTo {Gen T : Type 0} (to : ℕ → Option ℕ) (old now : List (Option (Gen × LinkSeen T))) (k : ℕ) : Type 0 where
-  pub renamed : (j : ℕ) → j ≤ k → slot_at now j ≡ option_map (on_value (renamed_link to)) (slot_at old j)
-  pub ahead : (j : ℕ) → k < j → slot_at now j ≡ slot_at old j
-  pub long : length now ≡ length old
-
--- how many looks a slot takes where its link is renamed
-abbrev pub looks_at : {X : Type 0} → Option X → ℕ
-looks_at None = 1
-looks_at (Some x) = 4
+-- the index of the link after one that was numbered, with so many before its chain and so many up to it: where the walk goes
+-- on the next one, and in a ring, whose last link names its first, that of the first
+abbrev pub number_after : Option ℕ → Option ℕ → ℕ → ℕ → Option ℕ
+number_after (Some on) next before count = Some (count + 1)
+number_after None (Some first) before count = Some (before + 1)
+number_after None None before count = None
 
 module _ {Gen K T : Type 0} (number : K → Option ℕ) where
   -- the slots with each link as contracts see it
@@ -51,24 +51,31 @@ module _ {Gen K T : Type 0} (number : K → Option ℕ) where
     pub places : (j : ℕ) → given slots j ≡ place_in done j
     pub counts : count ≡ length done
 
-  -- the link at i got a destination, and nothing else has changed
-  pub record IsNumberedAt (i d : ℕ) (old new : Held Gen (LinkBody K T)) : Type 0 where
-    pub destination : K
-    pub is : number destination ≡ Some d
-    pub held : new ≡ record old { slots = sent_at destination old.slots i }
-
   -- the link at i, if one stands there, got another destination or none, and nothing else has changed
   pub record IsDirectedAt (i : ℕ) (goes : Option ℕ) (old new : Held Gen (LinkBody K T)) : Type 0 where
     pub there : (l : LinkBody K T) → Some l ≡ option_map (λ e. e.1) (slot_at old.slots i)
         → (w : LinkBody K T) × (number w.destination ≡ goes) × (w ≡ record l { destination = w.destination }) × (new ≡ held_with_value old i w)
     pub none : None ≡ option_map (λ e. e.1) (slot_at old.slots i) → new ≡ old
 
-  -- the link at i names the destinations of its neighbors, and nothing else has changed
-  pub record IsRenamedAt (i : ℕ) (old new : Held Gen (LinkBody K T)) : Type 0 where
-    pub seen : seen_held new ≡ record (seen_held old) {
-      slots = with_slot (seen_held old).slots i (option_map (on_value (renamed_link (given old.slots))) (slot_at (seen_held old).slots i));
-    }
-    pub kept : (j : ℕ) → given new.slots j ≡ given old.slots j
+  -- the link at i, if one stands there, names other indexes and got a destination, and nothing else has changed
+  pub record IsTiedAt (i : ℕ) (prev next goes : Option ℕ) (old new : Held Gen (LinkBody K T)) : Type 0 where
+    pub there : (l : LinkBody K T) → Some l ≡ option_map (λ e. e.1) (slot_at old.slots i)
+        → (w : LinkBody K T) × (seen_link number w ≡ record { prev = prev; next = next; value = l.t }) × (number w.destination ≡ goes) × (new ≡ held_with_value old i w)
+    pub none : None ≡ option_map (λ e. e.1) (slot_at old.slots i) → new ≡ old
+
+  -- where a last link names a first, at i, that names the last, and nothing else has changed
+  pub record IsRingClosed (i : ℕ) (first last : Option ℕ) (old new : Held Gen (LinkBody K T)) : Type 0 where
+    pub ring : (k : ℕ) (l : LinkBody K T) → first ≡ Some k → Some l ≡ option_map (λ e. e.1) (slot_at old.slots i)
+        → (w : LinkBody K T) × (number w.prev ≡ last) × (w ≡ record l { prev = w.prev }) × (new ≡ held_with_value old i w)
+    pub linear : first ≡ None → new ≡ old
+
+  -- the links of a list are seen as others, and all else is as it was
+  pub record AreRetied (becomes : ℕ → LinkSeen T → LinkSeen T) (old now : Held Gen (LinkBody K T)) (xs : List ℕ) : Type 0 where
+    pub there : (j : ℕ) → Has xs j → option_map (seen_pair number) (slot_at now.slots j) ≡ option_map (on_value (becomes j)) (option_map (seen_pair number) (slot_at old.slots j))
+    pub stay : (j : ℕ) → (Has xs j → ⊥) → slot_at now.slots j ≡ slot_at old.slots j
+    pub long : length now.slots ≡ length old.slots
+    pub capacity : now.stack_capacity ≡ old.stack_capacity
+    pub maximum : now.maximum ≡ old.maximum
 
   -- a chain whose links have no destinations yet may be numbered from its start
   pub record CanNumber (slots : List (Option (Gen × LinkBody K T))) (start count : ℕ) (done : List ℕ) (c : Chain) : Type 0 where
@@ -79,21 +86,25 @@ module _ {Gen K T : Type 0} (number : K → Option ℕ) where
     pub room : length done + length (items c) ≤ length slots
 
   module _ {F P : Type 0} (g : F → P → P → F → Type 0) (key : P → ℕ × Gen) where
-    -- a chain is numbered behind others, and the closure has seen its links
-    pub record IsChainNumbered (generation : Gen) (f last : F) (old new : List (Option (Gen × LinkBody K T))) (before after : Arena Gen (LinkBody K T)) (count : ℕ) (done : List ℕ) (c : Chain) : Type 0 where
-      pub numbered : AreNumbered new count (done ++ items c)
-      pub shows : ShowsMoves g key (ptr_at (slot_at old)) generation (length done + 1) f (items c) last
-      pub work : IsWork before after 0 (2 * length (items c))
+    -- a chain is numbered behind others, its links name the places of their neighbors, and the closure has seen them
+    pub record IsChainNumbered (generation : Gen) (f last : F) (old new : Held Gen (LinkBody K T)) (before after : Arena Gen (LinkBody K T)) (count : ℕ) (done : List ℕ) (c : Chain) : Type 0 where
+      pub numbered : AreNumbered new.slots count (done ++ items c)
+      pub retied : AreRetied (λ _. renamed_link (place_from (length done + 1) (items c))) old new (items c)
+      pub shows : ShowsMoves g key (ptr_at (slot_at old.slots)) generation (length done + 1) f (items c) last
+      pub work : IsWork before after 0 (3 * length (items c))
 
     -- from a start on, behind so many links, a chain that may be numbered is, and so many are numbered then
     abbrev pub NumbersFrom : {V S I W : Type 0} → Gen → ℕ → F → F → (old new : Compactor V (LinkBody K T) S I Gen W) → ℕ → ℕ → Type 0
     NumbersFrom generation start f last old new before count = (done : List ℕ) (c : Chain) → CanNumber old.held.slots start before done c
-        → IsChainNumbered generation f last old.held.slots new.held.slots old.arena.now new.arena.now count done c
+        → IsChainNumbered generation f last old.held new.held old.arena.now new.arena.now count done c
 
-    -- all links are numbered, in the least-index order of their chains, and the closure has seen them in that order
-    pub record AreAllNumbered (generation : Gen) (f last : F) (old new : List (Option (Gen × LinkBody K T))) (before after : Arena Gen (LinkBody K T)) : Type 0 where
+    -- so many links are numbered, all that there are, in the least-index order of their chains; they name the places of their
+    -- neighbors, and the closure has seen them in that order
+    pub record AreAllNumbered (generation : Gen) (f last : F) (old new : Held Gen (LinkBody K T)) (before after : Arena Gen (LinkBody K T)) (count : ℕ) : Type 0 where
       pub indexes : List ℕ
-      pub order : IsLeastIndexOrder (shown_in number old) indexes
-      pub places : (j : ℕ) → given new j ≡ place_in indexes j
-      pub shows : ShowsMoves g key (ptr_at (slot_at old)) generation 1 f indexes last
-      pub work : IsWork before after 0 (length old + 3 * length indexes)
+      pub order : IsLeastIndexOrder (shown_in number old.slots) indexes
+      pub counted : count ≡ length indexes
+      pub places : (j : ℕ) → given new.slots j ≡ place_in indexes j
+      pub renamed : seen_held new ≡ renamed_held (place_in indexes) (seen_held old)
+      pub shows : ShowsMoves g key (ptr_at (slot_at old.slots)) generation 1 f indexes last
+      pub work : IsWork before after 0 (length old.slots + 4 * length indexes)

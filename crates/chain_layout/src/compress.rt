@@ -8,7 +8,7 @@ ghost use Rattle.chain_laws.specs.Arrangements.{place_in};
 ghost use Rattle.chain_laws.specs.Moves.{moved_index};
 ghost use Rattle.arena_base.specs.Arena.{slot_at, with_counter};
 ghost use Rattle.arena_base.specs.Entries.{entries, entries_from};
-ghost use Rattle.arena_base.specs.Compacting.{placed, with_touch};
+ghost use Rattle.arena_base.specs.Compacting.{placed, IsPacked, with_touch};
 ghost use Rattle.arena_base.specs.Compressing.{VisitsAll, counter_after_compression, overflows_after_compression};
 ghost use Rattle.arena_base.specs.Closing.{AreClosed};
 ghost use Rattle.chain_links.specs.ChainArena.{shown};
@@ -89,18 +89,20 @@ fn move_link<P: PtrKey, T: Drop, S: SlotStack<Item = ArenaSlot<P, LinkNoGen<P, T
 }
 
 // Brings each link to the first index that is free, by rising index, gives it the generation, tells its neighbors, and
-// shows it to the closure: with the pointer that it had, its value, for writing, and the pointer that it has.
+// shows it to the closure: with the pointer that it had, its value, for writing, and the pointer that it has. Answers the
+// number of links, which stand in the first slots then.
 fn close_gaps<
     P: PtrKey,
     T: Drop,
     S: SlotStack<Item = ArenaSlot<P, LinkNoGen<P, T>>>,
     F: FnMut(P, &mut T, P) + Drop,
->(compactor: &mut Compactor<'_, P, LinkNoGen<P, T>, S>, generation: P::Gen, mut map: F)
+>(compactor: &mut Compactor<'_, P, LinkNoGen<P, T>, S>, generation: P::Gen, mut map: F) -> usize
     requires callable { F.IsAlwaysCallable map }
     requires fits { length compactor.old.held.slots ≤ P.Inx.greatest }
     requires agree { Agrees (shown_in P.Inx.packed_number compactor.old.held.slots) }
     ensures same_reference { compactor.new.arena.ghost_name ≡ compactor.old.arena.ghost_name }
     ensures closed { AreClosed generation (held_values compactor.old.held) (held_values compactor.new.held) }
+    ensures packed { IsPacked compactor.new.held.slots result }
     ensures visits { VisitsAll F.FnMut P.key map (entries_from 1 (held_values compactor.old.held).slots) (entries_from 1 (held_values compactor.new.held).slots) }
     ensures renamed { IsRenaming (place_in (indexes_in (held_values compactor.old.held).slots))
         (shown_in P.Inx.packed_number compactor.old.held.slots) (shown_in P.Inx.packed_number compactor.new.held.slots) }
@@ -124,6 +126,7 @@ fn close_gaps<
             None => unreachable!(),
         }
     }
+    count
 }
 
 /// Sets the counter for a compression: anew with a reset, and else incremented where there are links.
@@ -159,6 +162,6 @@ pub fn gather<
     has_room(arena);
     let generation = arena.generation();
     let mut compactor = arena.compactor();
-    close_gaps(&mut compactor, generation, map);
-    compactor.finish();
+    let count = close_gaps(&mut compactor, generation, map);
+    compactor.finish_packed(count);
 }

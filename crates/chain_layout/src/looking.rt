@@ -1,5 +1,5 @@
 // Looks and writes at one slot, which leave no borrow of it.
-ghost use Rattle.std.specs.Prelude.{◌≡◌};
+ghost use Rattle.std.specs.Prelude.{◌≡◌, Some};
 ghost use Rattle.std.specs.Option.{option_map};
 ghost use Rattle.chain_laws.specs.Chains.{prev_of, next_of};
 ghost use Rattle.arena_base.specs.Arena.{slot_at};
@@ -7,7 +7,7 @@ ghost use Rattle.arena_base.specs.Compacting.{with_touch};
 ghost use Rattle.chain_layout.specs.Counts.{CountsOn};
 ghost use Rattle.chain_layout.specs.HeldLinks.{shown_in};
 ghost use Rattle.chain_layout.specs.Looks.{HasLooked};
-ghost use Rattle.chain_layout.specs.Numbering.{given, IsDirectedAt};
+ghost use Rattle.chain_layout.specs.Numbering.{given, IsDirectedAt, IsTiedAt};
 
 use arena_base::{ArenaSlot, Compactor, SlotAccess};
 use arena_ptr::{InxKey, PtrKey, SlotStack};
@@ -49,6 +49,30 @@ pub(crate) fn direct_at<P: PtrKey, T: Drop, S: SlotStack<Item = ArenaSlot<P, Lin
 {
     match compactor.value_mut(i) {
         Some(link) => link.set_destination(destination),
+        None => {}
+    }
+}
+
+// The link at an index, if one stands there, names others, and gets a destination.
+pub(crate) fn tie_at<P: PtrKey, T: Drop, S: SlotStack<Item = ArenaSlot<P, LinkNoGen<P, T>>>>(
+    compactor: &mut Compactor<'_, P, LinkNoGen<P, T>, S>,
+    i: P::Inx,
+    prev: Option<P::Inx>,
+    next: Option<P::Inx>,
+    destination: P::Inx,
+)
+    ensures same_reference { compactor.new.arena.ghost_name ≡ compactor.old.arena.ghost_name }
+    ensures tied { IsTiedAt P.Inx.packed_number (P.Inx.number i) (option_map P.Inx.number prev) (option_map P.Inx.number next) (Some (P.Inx.number destination))
+        compactor.old.held compactor.new.held }
+    ensures arena { compactor.new.arena.now ≡ with_touch compactor.old.arena.now }
+    ensures counts { CountsOn compactor.old.arena.now compactor.new.arena.now compactor.old.placed compactor.old.touched compactor.new.placed compactor.new.touched }
+{
+    match compactor.value_mut(i) {
+        Some(link) => {
+            link.set_prev(prev);
+            link.set_next(next);
+            link.set_destination(Some(destination));
+        }
         None => {}
     }
 }

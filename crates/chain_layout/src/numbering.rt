@@ -1,14 +1,15 @@
 // Links numbered: the chains by their least index, each linear one from its start, each cyclic one from its least index.
-ghost use Rattle.std.specs.Prelude.{◌≡◌, ◌≤◌, ℕ, ◌+◌, length, List, ◌∷◌, None};
-ghost use Rattle.chain_laws.specs.Chains.{Chain, linear, cyclic, Has, IsChain, HasLink, Agrees};
+ghost use Rattle.std.specs.Prelude.{◌≡◌, ◌≤◌, ◌<◌, ℕ, ◌+◌, length, List, ◌∷◌, None, IsSome};
+ghost use Rattle.std.specs.Option.{option_map};
+ghost use Rattle.chain_laws.specs.Chains.{Chain, linear, cyclic, Has, IsChain, Agrees};
 ghost use Rattle.chain_laws.specs.Starts.{IsStart};
 ghost use Rattle.chain_layout.specs.HeldLinks.{shown_in, IsWork};
 ghost use Rattle.chain_layout.specs.Counts.{CountsOn};
-ghost use Rattle.chain_layout.specs.Numbering.{seen_held, given, CanNumber, NumbersFrom, AreAllNumbered};
+ghost use Rattle.chain_layout.specs.Numbering.{HasChainFrom, number_after, given, IsRingClosed, CanNumber, NumbersFrom, AreAllNumbered};
 
-use crate::looking::{direct_at, look_at};
+use crate::looking::{look_at, tie_at};
 use crate::visiting::Visitor;
-use arena_base::{ArenaSlot, Compactor, inx_at};
+use arena_base::{ArenaSlot, Compactor, SlotAccess, inx_at};
 use arena_ptr::{InxKey, PtrKey, SlotStack};
 use chain_links::LinkNoGen;
 use chain_links::walks::going_on;
@@ -19,8 +20,7 @@ fn start_at<P: PtrKey, T: Drop, S: SlotStack<Item = ArenaSlot<P, LinkNoGen<P, T>
     compactor: &mut Compactor<'_, P, LinkNoGen<P, T>, S>,
     i: P::Inx,
 ) -> P::Inx
-    requires agree { Agrees (shown_in P.Inx.packed_number compactor.old.held.slots) }
-    requires valid { HasLink (shown_in P.Inx.packed_number compactor.old.held.slots) (P.Inx.number i) }
+    requires { HasChainFrom (shown_in P.Inx.packed_number compactor.old.held.slots) (P.Inx.number i) }
     ensures same_reference { compactor.new.arena.ghost_name ≡ compactor.old.arena.ghost_name }
     ensures start { IsStart (shown_in P.Inx.packed_number compactor.old.held.slots) (P.Inx.number i) (P.Inx.number result) }
     ensures held { compactor.new.held ≡ compactor.old.held }
@@ -46,8 +46,52 @@ fn start_at<P: PtrKey, T: Drop, S: SlotStack<Item = ArenaSlot<P, LinkNoGen<P, T>
     unreachable!()
 }
 
-// Numbers a chain from its start, where so many links were numbered before, and shows each link to the visitor, by the
-// pointer that it has and the one that it gets. Answers the visitor, and how many are numbered then.
+// The index of the link after one, with so many numbered before its chain and so many up to it: where the walk goes on the
+// next one, and at the last of a ring that of the first.
+fn after_it<P: PtrKey>(
+    on: Option<P::Inx>,
+    named: Option<P::Inx>,
+    before: usize,
+    count: usize,
+) -> Option<P::Inx>
+    requires first { before < P.Inx.greatest }
+    requires next { IsSome on → count < P.Inx.greatest }
+    ensures { option_map P.Inx.number result ≡ number_after (option_map P.Inx.number on) (option_map P.Inx.number named) before count }
+{
+    match on {
+        Some(_) => Some(inx_at::<P>(count)),
+        None => match named {
+            Some(_) => Some(inx_at::<P>(before)),
+            None => None,
+        },
+    }
+}
+
+// Where the last link of a chain named the first, which stands at an index, that names the last.
+fn close_ring<P: PtrKey, T: Drop, S: SlotStack<Item = ArenaSlot<P, LinkNoGen<P, T>>>>(
+    compactor: &mut Compactor<'_, P, LinkNoGen<P, T>, S>,
+    start: P::Inx,
+    named: Option<P::Inx>,
+    last: Option<P::Inx>,
+)
+    ensures same_reference { compactor.new.arena.ghost_name ≡ compactor.old.arena.ghost_name }
+    ensures closed { IsRingClosed P.Inx.packed_number (P.Inx.number start) (option_map P.Inx.number named) (option_map P.Inx.number last) compactor.old.held compactor.new.held }
+    ensures work { IsWork compactor.old.arena.now compactor.new.arena.now 0 1 }
+    ensures counts { CountsOn compactor.old.arena.now compactor.new.arena.now compactor.old.placed compactor.old.touched compactor.new.placed compactor.new.touched }
+{
+    match named {
+        Some(_) => {}
+        None => return,
+    }
+    match compactor.value_mut(start) {
+        Some(link) => link.set_prev(last),
+        None => {}
+    }
+}
+
+// Numbers a chain from its start, where so many links were numbered before. Each link names the numbers of its neighbors
+// then, and the visitor sees it, by the pointer that it has and the one that it gets. Answers the visitor, and how many
+// are numbered then.
 fn number_chain<
     P: PtrKey,
     T: Drop,
@@ -65,44 +109,51 @@ fn number_chain<
     requires can { (done : List ℕ) × (c : Chain) × CanNumber P.Inx.packed_number compactor.old.held.slots (P.Inx.number start) before done c }
     ensures same_reference { compactor.new.arena.ghost_name ≡ compactor.old.arena.ghost_name }
     ensures ready { V.is_ready result.0 }
-    ensures seen { seen_held P.Inx.packed_number compactor.new.held ≡ seen_held P.Inx.packed_number compactor.old.held }
     ensures numbered { NumbersFrom P.Inx.packed_number V.sees P.key generation (P.Inx.number start) visitor result.0 compactor.old compactor.new before result.1 }
     ensures counts { CountsOn compactor.old.arena.now compactor.new.arena.now compactor.old.placed compactor.old.touched compactor.new.placed compactor.new.touched }
 {
     let mut count = before;
+    let mut prev = None;
+    let mut named = Some(start);
     let mut on = Some(start);
     while let Some(i) = on {
         let destination = inx_at::<P>(count);
         count += 1;
         let (was, _, next, _) = look_at(compactor, i);
-        direct_at(compactor, i, Some(destination));
+        named = next;
+        on = going_on(start, next);
+        let after = after_it::<P>(on, next, before, count);
+        tie_at(compactor, i, prev, after, destination);
+        prev = Some(destination);
         match was {
-            Some(was) => {
-                visitor.visit(P::_from_raw(i, was), P::_from_raw(destination, generation));
-                on = going_on(start, next);
-            }
+            Some(was) => visitor.visit(P::_from_raw(i, was), P::_from_raw(destination, generation)),
             None => unreachable!(),
         }
     }
+    close_ring(compactor, start, named, prev);
     (visitor, count)
 }
 
 /// Numbers all links: the chains by their least index, each linear one from its start, each cyclic one from its least
-/// index. Shows each link to the visitor, by the pointer that it has and the one that it gets, by rising destination.
+/// index. Each names the numbers of its neighbors then. Shows each link to the visitor, by the pointer that it has and the
+/// one that it gets, by rising destination. Answers the visitor, and how many links there are.
 pub fn number_all<
     P: PtrKey,
     T: Drop,
     S: SlotStack<Item = ArenaSlot<P, LinkNoGen<P, T>>>,
     V: Visitor<P>,
->(compactor: &mut Compactor<'_, P, LinkNoGen<P, T>, S>, generation: P::Gen, mut visitor: V) -> V
+>(
+    compactor: &mut Compactor<'_, P, LinkNoGen<P, T>, S>,
+    generation: P::Gen,
+    mut visitor: V,
+) -> (V, usize)
     requires ready { V.is_ready visitor }
     requires fits { length compactor.old.held.slots ≤ P.Inx.greatest }
     requires agree { Agrees (shown_in P.Inx.packed_number compactor.old.held.slots) }
     requires empty { (j : ℕ) → given P.Inx.packed_number compactor.old.held.slots j ≡ None }
-    ensures ready { V.is_ready result }
+    ensures ready { V.is_ready result.0 }
     ensures same_reference { compactor.new.arena.ghost_name ≡ compactor.old.arena.ghost_name }
-    ensures seen { seen_held P.Inx.packed_number compactor.new.held ≡ seen_held P.Inx.packed_number compactor.old.held }
-    ensures numbered { AreAllNumbered P.Inx.packed_number V.sees P.key generation visitor result compactor.old.held.slots compactor.new.held.slots compactor.old.arena.now compactor.new.arena.now }
+    ensures numbered { AreAllNumbered P.Inx.packed_number V.sees P.key generation visitor result.0 compactor.old.held compactor.new.held compactor.old.arena.now compactor.new.arena.now result.1 }
     ensures counts { CountsOn compactor.old.arena.now compactor.new.arena.now compactor.old.placed compactor.old.touched compactor.new.placed compactor.new.touched }
 {
     let mut count = 0;
@@ -122,5 +173,5 @@ pub fn number_all<
         visitor = shown;
         count = numbered;
     }
-    visitor
+    (visitor, count)
 }

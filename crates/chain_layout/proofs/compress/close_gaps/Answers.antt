@@ -6,7 +6,7 @@ use Rattle.chain_layout.specs.HeldLinks.{slot_values, interlinks_seen}
 use Rattle.chain_layout.proofs.HeldLinks.{work-none}
 use Rattle.chain_layout.proofs.Gathering.{coming_begins}
 use Rattle.chain_layout.proofs.Lending.{lent, lent_none}
-use Rattle.chain_layout.proofs.Bringing.{passes, skips, room_kept, maximum_kept, stands_there, brings, comes, room_on, maximum_on, ends_closed, ends_visits, ends_renamed, ends_work, work_skips, work_brings}
+use Rattle.chain_layout.proofs.Bringing.{passes, skips, room_kept, maximum_kept, stands_there, brings, comes, room_on, maximum_on, ends_closed, ends_packed, ends_visits, ends_renamed, ends_work, work_skips, work_brings}
 use Rattle.chain_layout.proofs.compress.close_gaps.Goals as goal
 
 pub loop-k-init : goal.loop-k-init
@@ -97,6 +97,7 @@ returns g c =
     record {
       same_reference = inv.same_reference;
       closed = ends_closed g.F.FnMut key c.args.generation number c.args.map c.loop-k.map old.held now.held c.requires.agree c.loop-k.k c.loop-k.count inv.closing inv.coming c.slots-k-end.result c.slots-k-end.ensures c.loop-k.auto.k-end c.loop-k-test.false inv.capacity inv.maximum;
+      packed = ends_packed g.F.FnMut key c.args.generation number c.args.map c.loop-k.map old.held now.held c.requires.agree c.loop-k.k c.loop-k.count inv.closing inv.coming c.slots-k-end.result c.slots-k-end.ensures c.loop-k.auto.k-end c.loop-k-test.false;
       visits = ends_visits g.F.FnMut key c.args.generation number c.args.map c.loop-k.map old.held now.held c.requires.agree c.loop-k.k c.loop-k.count inv.closing inv.coming c.slots-k-end.result c.slots-k-end.ensures c.loop-k.auto.k-end c.loop-k-test.false;
       renamed = ends_renamed g.F.FnMut key c.args.generation number c.args.map c.loop-k.map old.held now.held c.requires.agree c.loop-k.k c.loop-k.count inv.closing inv.coming c.slots-k-end.result c.slots-k-end.ensures c.loop-k.auto.k-end c.loop-k-test.false;
       work = ends_work g.F.FnMut key c.args.generation number c.args.map c.loop-k.map old.held now.held c.requires.agree c.loop-k.k c.loop-k.count inv.closing inv.coming c.slots-k-end.result c.slots-k-end.ensures c.loop-k.auto.k-end c.loop-k-test.false old.arena.now now.arena.now inv.work;

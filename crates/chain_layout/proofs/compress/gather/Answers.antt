@@ -5,11 +5,11 @@ use Rattle.chain_layout.specs.HeldLinks.{shown_in}
 use Rattle.chain_layout.proofs.Returning.{shown-slots, links_gathered}
 use Rattle.chain_layout.proofs.compress.gather.Goals as goal
 
-pub close_gaps-requires-clause-agree : goal.close_gaps-requires-clause-agree
-close_gaps-requires-clause-agree g c = subst Agrees (shown-slots g.P.Inx.InxKey.packed_number c.args.arena.now ∙ sym (ap (λ h. shown_in g.P.Inx.InxKey.packed_number h.slots) c.compactor-compactor.ensures.held)) c.requires.agree
+pub close_gaps-count-requires-clause-agree : goal.close_gaps-count-requires-clause-agree
+close_gaps-count-requires-clause-agree g c = subst Agrees (shown-slots g.P.Inx.InxKey.packed_number c.args.arena.now ∙ sym (ap (λ h. shown_in g.P.Inx.InxKey.packed_number h.slots) c.compactor-compactor.ensures.held)) c.requires.agree
 
 pub returns : goal.returns
 returns g c =
     links_gathered g.F.FnMut g.P.PtrKey.key c.args.map g.P.Inx.InxKey.packed_number g.P.Inx.InxKey.greatest g.S.SlotStack.initial_maximum c.generation-generation.result c.args.arena.now c.compactor-compactor.result.arena.now
-    c.close_gaps.new.compactor.arena.now _ c.compactor-compactor.result.held c.close_gaps.new.compactor.held c.compactor-compactor.ensures.arena c.compactor-compactor.ensures.held (search rules)
-    c.close_gaps.ensures.closed c.close_gaps.ensures.visits c.close_gaps.ensures.work c.has_room.ensures.1 c.generation-generation.ensures c.close_gaps.ensures.renamed
+    c.close_gaps-count.new.compactor.arena.now _ c.compactor-compactor.result.held c.close_gaps-count.new.compactor.held c.compactor-compactor.ensures.arena c.compactor-compactor.ensures.held (search rules)
+    c.close_gaps-count.ensures.closed c.close_gaps-count.ensures.visits c.close_gaps-count.ensures.work c.has_room.ensures.1 c.generation-generation.ensures c.close_gaps-count.ensures.renamed

@@ -1,12 +1,11 @@
 -- The next chain is numbered, or none begins here.
-use Rattle.std.proofs.Common.{length, refl}
+use Rattle.std.proofs.Common.{length, refl, ap, arith}
 use Rattle.arena_base.specs.Arena.{slot_at}
 use Rattle.chain_layout.proofs.Counting.{at_end}
 use Rattle.chain_layout.proofs.HeldLinks.{work-touched}
 use Rattle.chain_layout.proofs.Lending.{same_then, counts_on}
 use Rattle.chain_layout.proofs.Looks.{told_fresh, told_directed, told_none}
-use Rattle.chain_layout.proofs.Numbered.{fits_seen}
-use Rattle.chain_layout.proofs.Ordering.{order_begins, order_ends, order_skips, order_agrees, order_valid, order_can, order_goes_on}
+use Rattle.chain_layout.proofs.Ordering.{order_begins, order_ends, order_skips, order_found, order_can, order_goes_on}
 use Rattle.chain_layout.proofs.Tallying.{counts_none}
 use Rattle.chain_layout.proofs.numbering.number_all.Goals as goal
 
@@ -20,21 +19,12 @@ loop-k-init g c =
       counts = counts_none now.arena.now now.placed now.touched;
     }
 
-pub start_at-start-requires-clause-agree : goal.start_at-start-requires-clause-agree
-start_at-start-requires-clause-agree g c =
+pub start_at-start-requires : goal.start_at-start-requires
+start_at-start-requires g c =
     let old = c.args.compactor.now in
     let now = c.loop-k.compactor in
     let look = c.look_at-was.ensures in
-    order_agrees g.P.Inx.InxKey.packed_number g.V.Visitor.sees g.P.PtrKey.key c.args.generation c.args.visitor old.held old.arena.now c.loop-k.visitor now.held now.arena.now c.loop-k.count c.loop-k.k
-    c.loop-k.invariant.order (g.P.Inx.InxKey.number c.inx_at-i.result) c.inx_at-i.ensures (told_fresh g.P.Inx.InxKey.packed_number g.P.Inx.InxKey.number (slot_at now.held.slots (g.P.Inx.InxKey.number c.inx_at-i.result)) c.look_at-was.result.0 c.in-Some.field-0 c.look_at-was.result.3 c.in-Some.is look.generation look.destination c.in-None-destination.is)
-    c.look_at-was.new.compactor.held look.looked.held c.requires.agree
-
-pub start_at-start-requires-clause-valid : goal.start_at-start-requires-clause-valid
-start_at-start-requires-clause-valid g c =
-    let old = c.args.compactor.now in
-    let now = c.loop-k.compactor in
-    let look = c.look_at-was.ensures in
-    order_valid g.P.Inx.InxKey.packed_number g.V.Visitor.sees g.P.PtrKey.key c.args.generation c.args.visitor old.held old.arena.now c.loop-k.visitor now.held now.arena.now c.loop-k.count c.loop-k.k
+    order_found g.P.Inx.InxKey.packed_number g.V.Visitor.sees g.P.PtrKey.key c.args.generation c.args.visitor old.held old.arena.now c.loop-k.visitor now.held now.arena.now c.loop-k.count c.loop-k.k
     c.loop-k.invariant.order (g.P.Inx.InxKey.number c.inx_at-i.result) c.inx_at-i.ensures (told_fresh g.P.Inx.InxKey.packed_number g.P.Inx.InxKey.number (slot_at now.held.slots (g.P.Inx.InxKey.number c.inx_at-i.result)) c.look_at-was.result.0 c.in-Some.field-0 c.look_at-was.result.3 c.in-Some.is look.generation look.destination c.in-None-destination.is)
     c.look_at-was.new.compactor.held look.looked.held
 
@@ -43,8 +33,7 @@ number_chain-shown-requires-clause-ready g c = c.loop-k.invariant.ready
 
 pub number_chain-shown-requires-clause-fits : goal.number_chain-shown-requires-clause-fits
 number_chain-shown-requires-clause-fits g c =
-    fits_seen g.P.Inx.InxKey.packed_number c.args.compactor.now.held c.loop-k.compactor.held c.look_at-was.new.compactor.held c.start_at-start.new.compactor.held g.P.Inx.InxKey.greatest
-    c.loop-k.invariant.order.seen c.look_at-was.ensures.looked.held c.start_at-start.ensures.held c.requires.fits
+    omega (arith, c.loop-k.invariant.order.retied.long, ap (λ h. length h.slots) c.look_at-was.ensures.looked.held, ap (λ h. length h.slots) c.start_at-start.ensures.held, c.requires.fits)
 
 pub number_chain-shown-requires-clause-can : goal.number_chain-shown-requires-clause-can
 number_chain-shown-requires-clause-can g c =
@@ -107,7 +96,7 @@ loop-k-preserved g c =
           (told_fresh g.P.Inx.InxKey.packed_number g.P.Inx.InxKey.number (slot_at now.held.slots (g.P.Inx.InxKey.number c.inx_at-i.result)) c.look_at-was.result.0 c.in-Some.field-0 c.look_at-was.result.3 c.in-Some.is look.generation look.destination c.in-None-destination.is)
           mid.held look.looked.held stood.held start.held (g.P.Inx.InxKey.number c.start_at-start.result) start.start mid.arena.now stood.arena.now new.arena.now
           c.number_chain-shown.result.0 new.held c.number_chain-shown.result.1
-          (work-touched now.arena.now mid.arena.now look.looked.arena) start.linear start.cyclic chain.seen chain.numbered;
+          (work-touched now.arena.now mid.arena.now look.looked.arena) start.linear start.cyclic chain.numbered;
       counts = counts_on old now new at.counts (counts_on now mid new look.looked.counts (counts_on mid stood new start.counts chain.counts));
     }
 
@@ -119,7 +108,6 @@ returns g c =
     record {
       ready = at.ready;
       same_reference = at.same_reference;
-      seen = at.order.seen;
       numbered = order_ends g.P.Inx.InxKey.packed_number g.V.Visitor.sees g.P.PtrKey.key c.args.generation c.args.visitor old.held old.arena.now c.loop-k.visitor now.held now.arena.now c.loop-k.count c.loop-k.k
           at.order (at_end c.loop-k.k c.slots-k-end.result (length old.held.slots) c.slots-k-end.ensures c.loop-k.auto.k-end c.loop-k-test.false);
       counts = at.counts;

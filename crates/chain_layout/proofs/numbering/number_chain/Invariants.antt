@@ -1,9 +1,9 @@
--- The links of the chain that were passed have their destinations, and the closure has seen them.
+-- The links of the chain that were passed have their destinations and name those of their neighbors, and the closure has seen them.
 use Rattle.std.proofs.Common.{◌≡◌, ◌-◌, ℕ, List, length}
 use Rattle.std.specs.Option.{option_map}
 use Rattle.chain_laws.specs.Chains.{Chain}
 use Rattle.chain_layout.specs.Counts.{CountsOn}
-use Rattle.chain_layout.specs.Numbering.{seen_held, CanNumber}
+use Rattle.chain_layout.specs.Numbering.{CanNumber}
 use Rattle.chain_layout.proofs.Numbered.{IsWalking}
 use Rattle.chain_layout.proofs.numbering.number_chain.Given as goal
 
@@ -13,10 +13,10 @@ invariant-loop-on g l =
     record {
       ready : g.V.Visitor.is_ready l.visitor;
       same_reference : l.compactor.arena.ghost_name ≡ l.fn.compactor.arena.ghost_name;
-      seen : seen_held number l.compactor.held ≡ seen_held number l.fn.compactor.held;
+      long : length l.compactor.held.slots ≡ length l.fn.compactor.held.slots;
       walks : (done : List ℕ) (c : Chain) → CanNumber number l.fn.compactor.held.slots (g.P.Inx.InxKey.number l.fn.start) l.fn.before done c
-          → IsWalking number g.V.Visitor.sees g.P.PtrKey.key l.fn.generation l.fn.visitor l.visitor l.fn.compactor.held.slots l.compactor.held.slots l.fn.compactor.arena.now l.compactor.arena.now
-          l.count (option_map g.P.Inx.InxKey.number l.on) done c;
+          → IsWalking number g.V.Visitor.sees g.P.PtrKey.key l.fn.generation l.fn.visitor l.visitor l.fn.compactor.held l.compactor.held l.fn.compactor.arena.now l.compactor.arena.now
+          l.count (g.P.Inx.InxKey.number l.fn.start) (option_map g.P.Inx.InxKey.number l.on) (option_map g.P.Inx.InxKey.number l.named) (option_map g.P.Inx.InxKey.number l.prev) done c;
       counts : CountsOn l.fn.compactor.arena.now l.compactor.arena.now l.fn.compactor.placed l.fn.compactor.touched l.compactor.placed l.compactor.touched;
     }
 

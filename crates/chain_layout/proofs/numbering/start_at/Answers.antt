@@ -88,5 +88,5 @@ loop-step-preserved g c =
 pub unreachable-requires : goal.unreachable-requires
 unreachable-requires g c =
     let number = g.P.Inx.InxKey.number in
-    let few = back_within g.P.Inx.InxKey.packed_number c.args.compactor.now.held.slots (number c.args.i) c.loop-step.step (number c.loop-step.at) c.requires.agree c.requires.valid c.loop-step.invariant.back in
+    let few = back_within g.P.Inx.InxKey.packed_number c.args.compactor.now.held.slots (number c.args.i) c.loop-step.step (number c.loop-step.at) c.requires c.loop-step.invariant.back in
     omega (arith, few)
