@@ -8,6 +8,11 @@ pub on_some : {R X Z : Type 0} (o : Option R) → OnSome o X → (X → Z) → O
 on_some None x so = tt
 on_some (Some r) x so = so x
 
+-- .. of what holds always, on `None` ..
+pub on_none : {R X : Type 0} (o : Option R) → X → IfNone o X
+on_none None x = x
+on_none (Some r) x = tt
+
 -- .. of two things ..
 pub on_both : {R X Y Z : Type 0} (o : Option R) → OnSome o X → OnSome o Y → (X → Y → Z) → OnSome o Z
 on_both None x y so = tt
