@@ -1,5 +1,5 @@
 -- Slots whose gaps are closed one by one: the entries passed stand at the front, then free slots, and then those to come.
-use Rattle.std.proofs.Common.{◌≡◌, ℕ, zero, suc, ◌+◌, ◌<◌, ◌≤◌, List, [], ◌∷◌, ◌++◌, map, length, drop, Option, None, Some, refl, ap, sym, ◌∙◌, subst, append_assoc, arith}
+use Rattle.std.proofs.Common.{◌≡◌, ◌≢◌, ℕ, zero, suc, ◌+◌, ◌<◌, ◌≤◌, List, [], ◌∷◌, ◌++◌, map, length, drop, Option, None, Some, refl, ap, sym, ◌∙◌, subst, append_assoc, arith}
 use Rattle.std.specs.Prelude.{replicate, slice_index_or, slice_set, IsSome}
 use Rattle.std.specs.Option.{option_map}
 use Rattle.std.specs.List.{FoldsTo}
@@ -36,6 +36,12 @@ module _ {Gen T : Type 0} (g : Gen) where
   slot_to_come [] (suc n) (suc k) slot rest at = slot_to_come [] n k slot rest (omega (arith, at))
   slot_to_come (v ∷ values) n zero slot rest at = absurd (omega (arith, at))
   slot_to_come (v ∷ values) n (suc k) slot rest at = slot_to_come values n k slot rest (omega (arith, at))
+
+  -- a free slot behind the front
+  free_behind : (values : List T) (n : ℕ) (rest : List (Option (Gen × T))) → 1 ≤ n → slice_index_or (fronted g values (replicate n None ++ rest)) (length values) None ≡ None
+  free_behind [] zero rest some = absurd (omega (arith, some))
+  free_behind [] (suc n) rest some = refl
+  free_behind (v ∷ values) n rest some = free_behind values n rest some
 
   -- the first slot behind the front
   slot_behind : (values : List T) (slot : Option (Gen × T)) (rest : List (Option (Gen × T))) → slice_index_or (fronted g values (slot ∷ rest)) (length values) None ≡ slot
@@ -163,6 +169,16 @@ module _ {F P T Gen : Type 0} (g : Mut F (P × (MutBor T × (P × Unit {0}))) (U
   -- at the beginning
   pub closing_begins : IsClosing g key generation first old 0 0 first old
   closing_begins = record { visits = []; values = []; free = 0; in_turn = refl; before = refl; after = refl; now = refl; seen = refl; passed = refl }
+
+  -- the slot behind the front is the next one, or free
+  pub closing_free : (k count : ℕ) (f : F) (slots : List (Option (Gen × T))) → IsClosing g key generation first old k count f slots → (from to : ℕ) → from ≡ k + 1 → to ≡ count + 1 → to ≢ from → slot_at slots to ≡ None
+  closing_free k count f slots c from to at_from at_to differs =
+      let next : suc (length c.values) ≡ to = omega (arith, at_to, c.seen) in
+      sym (ap (slot_at slots) next) ∙ (ap (λ es. slice_index_or es (length c.values) None) c.now ∙ free_behind generation c.values c.free (drop k old) (by c.free refl))
+    where
+      by : (n : ℕ) → c.free ≡ n → 1 ≤ c.free
+      by zero is = absurd (differs (omega (arith, at_from, at_to, c.passed, is)))
+      by (suc n) is = omega (arith, is)
 
   module _ (k count : ℕ) (f : F) (slots : List (Option (Gen × T))) (c : IsClosing g key generation first old k count f slots) (below : k < length old) where
     come : (slot : Option (Gen × T)) (is : drop k old ≡ slot ∷ drop (suc k) old) → slots ≡ fronted generation c.values (replicate c.free None ++ slot ∷ drop (suc k) old)

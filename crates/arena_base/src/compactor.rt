@@ -1,5 +1,5 @@
 // The compactor: it holds the slots of an arena while entries are moved.
-ghost use Rattle.std.specs.Prelude.{◌≡◌, ◌≤◌, ◌<◌, ⊤, OnSome, IsSome, length};
+ghost use Rattle.std.specs.Prelude.{◌≡◌, ◌≢◌, ◌≤◌, ◌<◌, ⊤, None, OnSome, IsSome, length};
 ghost use Rattle.std.specs.Option.{option_map, option_copied_mut};
 ghost use Rattle.std.specs.Borrow.{LendsSo, follows_so, sem};
 ghost use mathlib.Core.Option.{none};
@@ -75,6 +75,23 @@ impl<'a, P: PtrKey, T: Drop, S: SlotStack<Item = ArenaSlot<P, T>>> Compactor<'a,
         self.arena.count_placement();
         self.placed = self.placed.saturating_add(1);
         self.held.place(from, to, generation);
+    }
+
+    /// Brings an entry to a free slot, or leaves it in its own, gives it a generation, and counts one placement. That is what
+    /// `place` does there.
+    pub fn bring(&mut self, from: P::Inx, to: P::Inx, generation: P::Gen)
+        requires to { P.Inx.number to ≤ length self.old.held.slots }
+        requires entry { IsSome (slot_at self.old.held.slots (P.Inx.number from)) }
+        requires free { P.Inx.number to ≢ P.Inx.number from → slot_at self.old.held.slots (P.Inx.number to) ≡ None }
+        ensures same_reference { self.new.arena.ghost_name ≡ self.old.arena.ghost_name }
+        ensures arena { self.new.arena.now ≡ with_placement self.old.arena.now }
+        ensures held { self.new.held ≡ placed self.old.held (P.Inx.number from) (P.Inx.number to) generation }
+        ensures placed { self.new.placed ≡ one_more self.old.placed }
+        ensures touched { self.new.touched ≡ self.old.touched }
+    {
+        self.arena.count_placement();
+        self.placed = self.placed.saturating_add(1);
+        self.held.bring(from, to, generation);
     }
 
     /// Cuts free slots off the end, lists the others, the least index to be used first, and gives the slots back to the

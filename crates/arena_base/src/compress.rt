@@ -1,5 +1,5 @@
 // Entries brought together at the indexes from 1 on, in the order of their indexes.
-ghost use Rattle.std.specs.Prelude.{◌≡◌, ◌≤◌, ◌<◌, ◌+◌, length, OnSome, IfNone};
+ghost use Rattle.std.specs.Prelude.{◌≡◌, ◌≢◌, ◌≤◌, ◌<◌, ◌+◌, length, None, OnSome, IfNone};
 ghost use Rattle.std.specs.Option.{option_map};
 ghost use Rattle.arena_base.specs.Arena.{slot_at};
 ghost use Rattle.arena_base.specs.Entries.{entries_from};
@@ -12,7 +12,7 @@ use crate::compactor::{Compactor, SlotAccess};
 use crate::slot::{ArenaSlot, inx_at};
 use arena_ptr::{PtrKey, SlotStack};
 
-// Brings the entry at an index to another, where one stands there, and gives it a generation. Answers the generation
+// Brings the entry at an index to a free one, where one stands there, and gives it a generation. Answers the generation
 // that it had.
 fn close_gap<P: PtrKey, T: Drop, S: SlotStack<Item = ArenaSlot<P, T>>>(
     compactor: &mut Compactor<'_, P, T, S>,
@@ -20,8 +20,8 @@ fn close_gap<P: PtrKey, T: Drop, S: SlotStack<Item = ArenaSlot<P, T>>>(
     to: P::Inx,
     generation: P::Gen,
 ) -> Option<P::Gen>
-    requires from { P.Inx.number from ≤ length compactor.old.held.slots }
     requires to { P.Inx.number to ≤ length compactor.old.held.slots }
+    requires free { P.Inx.number to ≢ P.Inx.number from → slot_at compactor.old.held.slots (P.Inx.number to) ≡ None }
     ensures same_reference { compactor.new.arena.ghost_name ≡ compactor.old.arena.ghost_name }
     ensures answer { result ≡ option_map (λ e. e.0) (slot_at compactor.old.held.slots (P.Inx.number from)) }
     ensures some { OnSome result ((compactor.new.held ≡ placed compactor.old.held (P.Inx.number from) (P.Inx.number to) generation)
@@ -32,7 +32,7 @@ fn close_gap<P: PtrKey, T: Drop, S: SlotStack<Item = ArenaSlot<P, T>>>(
         Some((was, _)) => *was,
         None => return None,
     };
-    compactor.place(from, to, generation);
+    compactor.bring(from, to, generation);
     Some(was)
 }
 

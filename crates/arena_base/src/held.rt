@@ -1,11 +1,11 @@
 // The slots of an arena while entries are moved: the freed list is not kept.
-ghost use Rattle.std.specs.Prelude.{◌≡◌, ◌≤◌, ◌<◌, OnSome, length};
+ghost use Rattle.std.specs.Prelude.{◌≡◌, ◌≢◌, ◌≤◌, ◌<◌, None, OnSome, IsSome, length};
 ghost use Rattle.std.specs.Option.{option_map, option_copied_mut};
 ghost use Rattle.std.specs.Borrow.{LendsSo, sem};
 ghost use Rattle.arena_base.specs.Arena.{slot_at};
 ghost use Rattle.arena_base.specs.Compacting.{Held, seen_parts, placed, held_with_value};
 
-use crate::slot::{ArenaSlot, position_of, regenerate_at};
+use crate::slot::{ArenaSlot, position_of, put_at, regenerate_at, vacate_at};
 use arena_ptr::{PtrKey, SlotStack};
 use std::marker::Model;
 
@@ -52,9 +52,22 @@ impl<P: PtrKey, T: Drop, S: SlotStack<Item = ArenaSlot<P, T>>> HeldSlots<P, T, S
         requires to { P.Inx.number to ≤ length self.old.slots }
         ensures { self.new ≡ placed self.old (P.Inx.number from) (P.Inx.number to) generation }
     {
-        let to = position_of::<P>(to);
-        self.slots.swap(position_of::<P>(from), to);
-        regenerate_at(&mut self.slots, to, generation);
+        let from = position_of::<P>(from);
+        regenerate_at(&mut self.slots, from, generation);
+        self.slots.swap(from, position_of::<P>(to));
+    }
+
+    // Takes an entry out of a slot, and puts it into a free one, or into its own, with a generation.
+    pub(crate) fn bring(&mut self, from: P::Inx, to: P::Inx, generation: P::Gen)
+        requires to { P.Inx.number to ≤ length self.old.slots }
+        requires entry { IsSome (slot_at self.old.slots (P.Inx.number from)) }
+        requires free { P.Inx.number to ≢ P.Inx.number from → slot_at self.old.slots (P.Inx.number to) ≡ None }
+        ensures { self.new ≡ placed self.old (P.Inx.number from) (P.Inx.number to) generation }
+    {
+        match vacate_at(&mut self.slots, position_of::<P>(from), None) {
+            Some((_, t)) => put_at(&mut self.slots, position_of::<P>(to), generation, t),
+            None => unreachable!(),
+        }
     }
 }
 

@@ -131,6 +131,26 @@ pub(crate) fn vacate_at<P: PtrKey, T: Drop, S: SlotStack<Item = ArenaSlot<P, T>>
     }
 }
 
+// Writes an entry at a position.
+pub(crate) fn put_at<P: PtrKey, T: Drop, S: SlotStack<Item = ArenaSlot<P, T>>>(
+    slots: &mut S,
+    k: usize,
+    generation: P::Gen,
+    t: T,
+)
+    requires { k < length (S.items slots.old) }
+    ensures items { S.items slots.new ≡ slice_set (S.items slots.old) k (allocated_slot generation t) }
+    ensures capacity { S.capacity slots.new ≡ S.capacity slots.old }
+    ensures maximum { S.maximum slots.new ≡ S.maximum slots.old }
+{
+    match slots.get_mut(k) {
+        Some(slot) => {
+            *slot = ArenaSlot::Allocated(generation, t);
+        }
+        None => unreachable!(),
+    }
+}
+
 // Gives the entry at a position another generation, if one stands there, and tells whether one does.
 pub(crate) fn regenerate_at<P: PtrKey, T: Drop, S: SlotStack<Item = ArenaSlot<P, T>>>(
     slots: &mut S,

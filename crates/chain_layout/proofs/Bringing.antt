@@ -1,5 +1,5 @@
 -- The pass that closes gaps, one slot more, over the values and the links at once.
-use Rattle.std.proofs.Common.{◌≡◌, ℕ, ◌+◌, ◌*◌, ◌<◌, ◌≤◌, length, Option, None, Some, refl, sym, ap, ◌∙◌, subst, subst₂, arith}
+use Rattle.std.proofs.Common.{◌≡◌, ◌≢◌, ℕ, ◌+◌, ◌*◌, ◌<◌, ◌≤◌, length, Option, None, Some, refl, sym, ap, ◌∙◌, subst, subst₂, arith}
 use Rattle.std.specs.Prelude.{IsSome}
 use Rattle.std.specs.Option.{option_map}
 use Rattle.std.specs.Fn.{Mut}
@@ -14,7 +14,7 @@ use Rattle.arena_base.specs.Entries.{entries_from}
 use Rattle.arena_base.specs.Compacting.{Held, IsPacked, placed, held_with_value, with_touch}
 use Rattle.arena_base.specs.Compressing.{IsVisit, VisitsAll}
 use Rattle.arena_base.specs.Closing.{AreClosed}
-use Rattle.arena_base.proofs.Closing.{IsClosing, none_there, brought_stands, closing_frees, closing_brings, closing_visits, closing_counts, closing_closes, closing_packs, next_slot}
+use Rattle.arena_base.proofs.Closing.{IsClosing, none_there, brought_stands, closing_free, closing_frees, closing_brings, closing_visits, closing_counts, closing_closes, closing_packs, next_slot}
 use Rattle.chain_links.specs.declared.links.LinkBody.{LinkBody}
 use Rattle.chain_links.specs.ChainArena.{on_value}
 use Rattle.chain_links.specs.Links.{held_in}
@@ -33,6 +33,16 @@ module _ {F P Gen K T : Type 0} (g : Mut F (P × (MutBor T × (P × Unit {0}))) 
 
     within : k < length (slot_values old.slots)
     within = let long : length (slot_values old.slots) ≡ length old.slots = length-map old.slots (option_map (on_value held_in)) in omega (arith, inside, long)
+
+    -- the slot that its link goes to is free, or its own
+    pub free_to : (to : ℕ) → to ≡ count + 1 → to ≢ from → slot_at now.slots to ≡ None
+    free_to to at_to differs =
+        by (slot_at now.slots to)
+        (sym (slot_at-map (on_value held_in) now.slots to) ∙ closing_free g key generation first (slot_values old.slots) k count f (slot_values now.slots) closing from to at_from at_to differs)
+      where
+        by : (o : Option (Gen × LinkBody K T)) → option_map (on_value held_in) o ≡ None → o ≡ None
+        by None none = refl
+        by (Some e) none = absurd (let both = none in cc)
 
     -- no link stands in the next slot
     module _ (answer : Option Gen) (none : answer ≡ None) (told : answer ≡ option_map (λ (e : Gen × LinkBody K T). e.0) (slot_at now.slots from)) (mid : Held Gen (LinkBody K T)) (same : mid ≡ now) where

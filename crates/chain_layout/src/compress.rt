@@ -1,5 +1,5 @@
 // Links brought together at the indexes from 1 on, in the order of their indexes.
-ghost use Rattle.std.specs.Prelude.{◌≡◌, ◌≤◌, length, Some, OnSome, IfNone};
+ghost use Rattle.std.specs.Prelude.{◌≡◌, ◌≢◌, ◌≤◌, length, None, Some, OnSome, IfNone};
 ghost use Rattle.std.specs.Option.{option_map};
 ghost use Rattle.arena_ptr.specs.Invalidation.{invalidation_option};
 ghost use Rattle.chain_laws.specs.Chains.{Agrees};
@@ -59,7 +59,7 @@ fn tell<P: PtrKey, T: Drop, S: SlotStack<Item = ArenaSlot<P, LinkNoGen<P, T>>>>(
     }
 }
 
-// Brings the link at an index to another, where one stands there, gives it a generation, and tells its neighbors.
+// Brings the link at an index to a free one, where one stands there, gives it a generation, and tells its neighbors.
 // Answers the generation that it had.
 fn move_link<P: PtrKey, T: Drop, S: SlotStack<Item = ArenaSlot<P, LinkNoGen<P, T>>>>(
     compactor: &mut Compactor<'_, P, LinkNoGen<P, T>, S>,
@@ -69,6 +69,7 @@ fn move_link<P: PtrKey, T: Drop, S: SlotStack<Item = ArenaSlot<P, LinkNoGen<P, T
 ) -> Option<P::Gen>
     requires from { P.Inx.number from ≤ length compactor.old.held.slots }
     requires to { P.Inx.number to ≤ length compactor.old.held.slots }
+    requires free { P.Inx.number to ≢ P.Inx.number from → slot_at compactor.old.held.slots (P.Inx.number to) ≡ None }
     ensures same_reference { compactor.new.arena.ghost_name ≡ compactor.old.arena.ghost_name }
     ensures answer { result ≡ option_map (λ e. e.0) (slot_at compactor.old.held.slots (P.Inx.number from)) }
     ensures values { OnSome result (held_values compactor.new.held ≡ placed (held_values compactor.old.held) (P.Inx.number from) (P.Inx.number to) generation) }
@@ -82,7 +83,7 @@ fn move_link<P: PtrKey, T: Drop, S: SlotStack<Item = ArenaSlot<P, LinkNoGen<P, T
         Some(was) => was,
         None => return None,
     };
-    compactor.place(from, to, generation);
+    compactor.bring(from, to, generation);
     tell(compactor, index_now(prev, from, to), false, to);
     tell(compactor, index_now(next, from, to), true, to);
     Some(was)

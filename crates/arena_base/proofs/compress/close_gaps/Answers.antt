@@ -3,7 +3,7 @@ use Rattle.std.proofs.Common.{◌≡◌, ◌+◌, ◌≤◌, length, refl, sym, 
 use Rattle.arena_base.specs.Closing.{with_totals}
 use Rattle.std.specs.Option.{option_copied_mut}
 use Rattle.arena_base.specs.Arena.{slot_at}
-use Rattle.arena_base.proofs.Closing.{none_there, closing_length, closing_begins, brought_stands, closing_frees, closing_brings, closing_visits, closing_counts, closing_closes, closing_packs, totals_begin, totals_looked, totals_brought}
+use Rattle.arena_base.proofs.Closing.{none_there, closing_length, closing_begins, closing_free, brought_stands, closing_frees, closing_brings, closing_visits, closing_counts, closing_closes, closing_packs, totals_begin, totals_looked, totals_brought}
 use Rattle.arena_base.proofs.compress.close_gaps.Goals.{in-Some+in-Some-value_mut, in_default}
 use Rattle.arena_base.proofs.compress.close_gaps.Goals as goal
 
@@ -20,15 +20,15 @@ loop-k-init g c =
       totals = totals_begin old.arena.now;
     }
 
-pub close_gap-requires-clause-from : goal.close_gap-requires-clause-from
-close_gap-requires-clause-from g c =
-    let long = closing_length g.F.FnMut g.P.PtrKey.key c.args.generation c.args.map c.args.compactor.now.held.slots c.loop-k.k c.loop-k.count c.loop-k.map c.loop-k.compactor.held.slots c.loop-k.invariant.closing (omega arith) in
-    omega (arith, long, c.inx_at-from.ensures)
-
 pub close_gap-requires-clause-to : goal.close_gap-requires-clause-to
 close_gap-requires-clause-to g c =
     let long = closing_length g.F.FnMut g.P.PtrKey.key c.args.generation c.args.map c.args.compactor.now.held.slots c.loop-k.k c.loop-k.count c.loop-k.map c.loop-k.compactor.held.slots c.loop-k.invariant.closing (omega arith) in
     omega (arith, long, c.inx_at-to.ensures, c.loop-k.invariant.closing.passed)
+
+pub close_gap-requires-clause-free : goal.close_gap-requires-clause-free
+close_gap-requires-clause-free g c differs =
+    closing_free g.F.FnMut g.P.PtrKey.key c.args.generation c.args.map c.args.compactor.now.held.slots c.loop-k.k c.loop-k.count c.loop-k.map c.loop-k.compactor.held.slots c.loop-k.invariant.closing
+    (g.P.Inx.InxKey.number c.inx_at-from.result) (g.P.Inx.InxKey.number c.inx_at-to.result) c.inx_at-from.ensures c.inx_at-to.ensures differs
 
 pub unreachable-requires : goal.unreachable-requires
 unreachable-requires g c =

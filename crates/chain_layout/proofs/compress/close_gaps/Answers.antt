@@ -6,7 +6,7 @@ use Rattle.chain_layout.specs.HeldLinks.{slot_values, interlinks_seen}
 use Rattle.chain_layout.proofs.HeldLinks.{work-none}
 use Rattle.chain_layout.proofs.Gathering.{coming_begins}
 use Rattle.chain_layout.proofs.Lending.{lent, lent_none}
-use Rattle.chain_layout.proofs.Bringing.{passes, skips, room_kept, maximum_kept, stands_there, brings, comes, room_on, maximum_on, ends_closed, ends_packed, ends_visits, ends_renamed, ends_work, work_skips, work_brings}
+use Rattle.chain_layout.proofs.Bringing.{free_to, passes, skips, room_kept, maximum_kept, stands_there, brings, comes, room_on, maximum_on, ends_closed, ends_packed, ends_visits, ends_renamed, ends_work, work_skips, work_brings}
 use Rattle.chain_layout.proofs.compress.close_gaps.Goals as goal
 
 pub loop-k-init : goal.loop-k-init
@@ -22,6 +22,11 @@ loop-k-init g c =
       coming = coming_begins number old.held.slots c.requires.agree (slots-within (interlinks_seen number) old.held.slots);
       work = work-none old.arena.now 0;
     }
+
+pub move_link-requires-clause-free : goal.move_link-requires-clause-free
+move_link-requires-clause-free g c differs =
+    free_to g.F.FnMut g.P.PtrKey.key c.args.generation g.P.Inx.InxKey.packed_number c.args.map c.loop-k.map c.args.compactor.now.held c.loop-k.compactor.held c.requires.agree c.loop-k.k c.loop-k.count
+    c.loop-k.invariant.closing c.loop-k.invariant.coming c.slots-k-end.result c.slots-k-end.ensures c.loop-k-test.true (g.P.Inx.InxKey.number c.inx_at-from.result) c.inx_at-from.ensures (g.P.Inx.InxKey.number c.inx_at-to.result) c.inx_at-to.ensures differs
 
 pub unreachable-requires : goal.unreachable-requires
 unreachable-requires g c =

@@ -4,8 +4,8 @@ use Rattle.std.specs.Option.{option_map}
 use Rattle.chain_layout.proofs.HeldLinks.{entry-seen, move-values, move-shown, work-moved}
 use Rattle.chain_layout.proofs.compress.move_link.Goals as goal
 
-pub place-requires-clause-entry : goal.place-requires-clause-entry
-place-requires-clause-entry g c =
+pub bring-requires-clause-entry : goal.bring-requires-clause-entry
+bring-requires-clause-entry g c =
     let look = c.look_at-was.ensures in
     entry-seen c.args.compactor.now.held c.look_at-was.new.compactor.held (g.P.Inx.InxKey.number c.args.from) c.look_at-was.result.0 c.in-Some.was look.looked.held c.in-Some.is look.generation
 
@@ -17,11 +17,11 @@ returns g c =
     let to = number c.args.to in
     let old = c.args.compactor.now.held in
     let looked = c.look_at-was.new.compactor.held in
-    let brought = c.place.new.self.held in
+    let brought = c.bring.new.self.held in
     let told = c.tell.new.compactor.held in
     let new = c.tell-2.new.compactor.held in
     let look = c.look_at-was.ensures in
-    let places = c.place.ensures in
+    let places = c.bring.ensures in
     let next = c.tell.ensures in
     let prev = c.tell-2.ensures in
     record {
