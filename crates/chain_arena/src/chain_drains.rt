@@ -129,8 +129,8 @@ fn yielded<P: PtrKey, T>(
 fn goes_on_to<I: InxKey>(i: I, prev: Option<I>, next: Option<I>) -> Option<I>
     ensures { option_map I.number result ≡ goes_on (I.number i) (option_map I.number prev) (option_map I.number next) }
 {
-    match going_on(i, next) {
-        Some(k) => Some(k),
+    match next {
+        Some(k) => if k == i { going_on(i, prev) } else { Some(k) },
         None => going_on(i, prev),
     }
 }

@@ -30,7 +30,7 @@ use arena_ptr::{
     ReallocationError, SlotStack,
 };
 use chain_interlinks::gaps::{is_index, next_of as next_of_link, prev_of as prev_of_link};
-use chain_interlinks::interlinks::{can_connect, link_twice, link_up, neighbor};
+use chain_interlinks::interlinks::{join, link_twice, neighbor};
 use chain_links::kinds::Name;
 use chain_links::{Link, LinkInsertKind, LinkNoGen};
 use chain_traits::ChainArenaTrait;
@@ -192,11 +192,7 @@ impl<P: PtrKey, T: Drop, S: SlotStack<Item = ArenaSlot<P, LinkNoGen<P, T>>>> Cha
         ensures pair { OnSome result (AddsPair (interlinks self.old) (interlinks self.new) (P.key p).0 (P.key q).0) }
         ensures chains { OnSome result (Connects (interlinks self.old) (interlinks self.new) (P.key p).0 (P.key q).0) }
     {
-        if !can_connect(&self.arena, p, q) {
-            return None;
-        }
-        link_up(&mut self.arena, Some(p.inx()), Some(q.inx()));
-        Some(())
+        join(&mut self.arena, p, q)
     }
 
     fn break_prev(&mut self, p: P) -> Option<()>

@@ -61,7 +61,8 @@ impl<P: PtrKey, T: Drop, S: SlotStack<Item = ArenaSlot<P, LinkNoGen<P, T>>>> Cha
         }
     }
 
-    // Adds a link in a gap, where there is room.
+    // Adds a link in a gap, where there is room. Inlined, the gap need not go through memory.
+    #[inline(always)]
     pub(crate) fn insert_in_gap(&mut self, gap: Gap<P::Inx>, t: T) -> P
         requires gap { IsGap (shown self.old) (next_index self.old) (before_in P.Inx.number gap (next_index self.old)) (after_in P.Inx.number gap (next_index self.old)) }
         requires room { entry_count self.old < self.old.capacity }
@@ -78,6 +79,7 @@ impl<P: PtrKey, T: Drop, S: SlotStack<Item = ArenaSlot<P, LinkNoGen<P, T>>>> Cha
     }
 
     // Adds a link in the gap that was answered, where there is room, if one was.
+    #[inline(always)]
     pub(crate) fn insert_at(
         &mut self,
         asked: Result<Gap<P::Inx>, ChainInsertionError>,

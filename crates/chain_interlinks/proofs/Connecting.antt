@@ -1,9 +1,12 @@
 -- Lemmas on the join of two links.
-use Rattle.std.proofs.Common.{◌≡◌, ◌↔◌, ℕ, Bool, true, false, Option, None, Some, refl, ap, sym, ◌∙◌, subst}
-use Rattle.std.specs.Prelude.{is_some, not, IsTrue}
+use Rattle.std.proofs.Common.{◌≡◌, ◌↔◌, ℕ, Bool, true, false, Option, None, Some, refl, ap, sym, ◌∙◌, subst, ⊎_elim}
+use Rattle.std.specs.Prelude.{◌==◌, if◌then◌else◌, is_some, not, IsTrue}
 use Rattle.std.specs.Option.{option_map, option_and_then}
-use Rattle.chain_laws.specs.Chains.{Shown, Agrees, HasLink, prev_of, next_of, prev_in, next_in}
-use Rattle.chain_laws.specs.Operations.{AddsPair, Connects, joined, AreEndAndStart}
+use Rattle.std.proofs.lemmas.Bool.{cases_eq}
+use mathlib.Core.Path.{fun_ext}
+use Rattle.chain_laws.specs.Chains.{Shown, Interlinks, Agrees, HasLink, prev_of, next_of, prev_in, next_in}
+use Rattle.chain_laws.specs.Operations.{AddsPair, Connects, joined, AreEndAndStart, next_set, with_next}
+use Rattle.chain_laws.proofs.Agreement.{if_same, if_other}
 use Rattle.chain_laws.proofs.Joining.{joined_agrees, joined_adds_a_pair, joined_connects}
 use Rattle.chain_links.specs.declared.links.LinkBody.{LinkBody}
 use Rattle.chain_links.specs.Links.{seen_link, seen_pair, seen_links}
@@ -11,7 +14,8 @@ use Rattle.arena_base.specs.Arena.{Arena, entry_at}
 use Rattle.chain_links.specs.ChainArena.{on_value, LinkSeen, link_value, shown, values_of, relinked, interlinks_of, CanConnect, IsLinkAt, ptr_at}
 use Rattle.chain_links.proofs.Mapping.{IsValidPtr, entry_at-with_each, IsValidPtr-with_each}
 use Rattle.chain_links.proofs.Seeing.{entry_at-seen_links}
-use Rattle.chain_interlinks.proofs.Relinking.{shown-relinked, values_of-relinked, FitsLinks-linked}
+use Rattle.chain_interlinks.specs.Interlinks.{IsEnd, IsStart}
+use Rattle.chain_interlinks.proofs.Relinking.{FitsLinks, shown-relinked, values_of-relinked, relinked-again, relinked-own, FitsLinks-shown, FitsLinks-next_set, FitsLinks-linked}
 
 pub none_unless_some : {A : Type 0} (o : Option A) → is_some o ≡ false → o ≡ None
 none_unless_some None none = refl
@@ -43,20 +47,23 @@ module _ {Gen K T : Type 0} (number : K → Option ℕ) where
   pub valid_at : (a : Arena Gen (LinkBody K T)) (p : ℕ × Gen) (link : LinkBody K T) → entry_at a p.0 ≡ Some (p.1, link) → HasLink (shown (seen_links number a)) p.0
   valid_at a p link stands = record { link = interlinks_of (p.1, seen_link number link); shows = ap (option_map interlinks_of) (entry_at-seen_links number a p.0 ∙ ap (option_map (seen_pair number)) stands) }
 
-  -- two links may be joined exactly if the first has no next and the second no prev
-  pub connectable : (a : Arena Gen (LinkBody K T)) (p q : ℕ × Gen) (first second : LinkBody K T) (b : Bool) → entry_at a p.0 ≡ Some (p.1, first) → entry_at a q.0 ≡ Some (q.1, second)
-      → is_some (number first.next) ≡ false → is_some (number second.prev) ≡ not b → IsTrue b ↔ CanConnect (entry_at (values_of (seen_links number a))) (shown (seen_links number a)) p q
-  connectable a p q first second b at_p at_q no_next tells = (
-    (λ yes. record {
-      first_valid = valid-seen a p first at_p;
-      second_valid = valid-seen a q second at_q;
-      no_next = next_of-seen a p first at_p ∙ none_unless_some (number first.next) no_next;
-      no_prev = prev_of-seen a q second at_q ∙ none_unless_some (number second.prev) (tells ∙ ap not yes);
-    }),
-    (λ can. truth_of_not b (sym (ap is_some (sym (prev_of-seen a q second at_q) ∙ can.no_prev)) ∙ tells)),
+  -- a link is an end exactly if it has no next
+  pub ends : (a : Arena Gen (LinkBody K T)) (p : ℕ × Gen) (link : LinkBody K T) (b : Bool) → entry_at a p.0 ≡ Some (p.1, link) → is_some (number link.next) ≡ not b
+      → IsTrue b ↔ IsEnd (entry_at (values_of (seen_links number a))) (shown (seen_links number a)) p
+  ends a p link b at tells = (
+    (λ yes. record { valid = valid-seen a p link at; end = next_of-seen a p link at ∙ none_unless_some (number link.next) (tells ∙ ap not yes) }),
+    (λ is. truth_of_not b (sym (ap is_some (sym (next_of-seen a p link at) ∙ is.end)) ∙ tells)),
   )
 
-  -- they may not where a pointer is not valid
+  -- .. and a start exactly if it has no prev
+  pub starts : (a : Arena Gen (LinkBody K T)) (p : ℕ × Gen) (link : LinkBody K T) (b : Bool) → entry_at a p.0 ≡ Some (p.1, link) → is_some (number link.prev) ≡ not b
+      → IsTrue b ↔ IsStart (entry_at (values_of (seen_links number a))) (shown (seen_links number a)) p
+  starts a p link b at tells = (
+    (λ yes. record { valid = valid-seen a p link at; start = prev_of-seen a p link at ∙ none_unless_some (number link.prev) (tells ∙ ap not yes) }),
+    (λ is. truth_of_not b (sym (ap is_some (sym (prev_of-seen a p link at) ∙ is.start)) ∙ tells)),
+  )
+
+  -- it is neither where the pointer is not valid
   pub not_valid : (a : Arena Gen (LinkBody K T)) (p : ℕ × Gen) → (IsValidPtr a p → ⊥) → IsValidPtr (values_of (seen_links number a)) p → ⊥
   not_valid a p invalid valid = invalid ((same_valid a p).1 valid)
 
@@ -91,6 +98,64 @@ module _ {Gen T : Type 0} where
     -- .. and the chains are connected
     pub joined-chains : Connects (shown a) (shown b) p.0 q.0
     joined-chains = subst (λ (new : Shown). Connects (shown a) new p.0 q.0) (sym shows) (joined_connects (shown a) p.0 q.0)
+
+-- what was written as the next of a link that had none may be taken back
+cleared : (l : Option Interlinks) (v : Option ℕ) → next_in l ≡ None → option_map (with_next None) (option_map (with_next v) l) ≡ l
+cleared None v none = refl
+cleared (Some l) v none = ap (λ (o : Option ℕ). let x : Option Interlinks = Some (with_next o l) in x) (sym none)
+
+undone : (m : Shown) (i : ℕ) (v : Option ℕ) → next_of m i ≡ None → next_set (next_set m (Some i) v) (Some i) None ≡ m
+undone m i v none = fun_ext (λ j. ⊎_elim (at j) (off j) (cases_eq j i))
+  where
+    at : (j : ℕ) → j ≡ i → next_set (next_set m (Some i) v) (Some i) None j ≡ m j
+    at j same = if_same j i _ _ same ∙ (ap (option_map (with_next None)) (if_same j i _ _ same) ∙ cleared (m j) v (ap (next_of m) same ∙ none))
+
+    off : (j : ℕ) → (j ≡ i → ⊥) → next_set (next_set m (Some i) v) (Some i) None j ≡ m j
+    off j other = if_other j i _ _ other ∙ if_other j i _ _ other
+
+-- the link before another is not written with the one after it
+prev_kept : (b : Bool) (l : Option Interlinks) (v : Option ℕ) → prev_in (if b then option_map (with_next v) l else l) ≡ prev_in l
+prev_kept true None v = refl
+prev_kept true (Some l) v = refl
+prev_kept false l v = refl
+
+-- p names q, whether it may or not
+module _ {Gen T : Type 0} (a b : Arena Gen (LinkSeen T)) (p q : ℕ × Gen) (named : b ≡ relinked a (next_set (shown a) (Some p.0) (Some q.0))) where
+  abbrev names : Shown
+  names = next_set (shown a) (Some p.0) (Some q.0)
+
+  fits : FitsLinks names a
+  fits = FitsLinks-next_set a (shown a) (Some p.0) (Some q.0) (FitsLinks-shown a)
+
+  shows_names : shown b ≡ names
+  shows_names = ap (λ (x : Arena Gen (LinkSeen T)). shown x) named ∙ shown-relinked a names fits
+
+  same_values : values_of b ≡ values_of a
+  same_values = ap (λ (x : Arena Gen (LinkSeen T)). values_of x) named ∙ values_of-relinked a names fits
+
+  same_prev : prev_of (shown b) q.0 ≡ prev_of (shown a) q.0
+  same_prev = ap (λ (m : Shown). prev_of m q.0) shows_names ∙ prev_kept (q.0 == p.0) (shown a q.0) (Some q.0)
+
+  -- it may, where q then is a start ..
+  pub named_may : IsEnd (entry_at (values_of a)) (shown a) p → IsStart (entry_at (values_of b)) (shown b) q → CanConnect (entry_at (values_of a)) (shown a) p q
+  named_may first second = record {
+    first_valid = first.valid;
+    second_valid = subst (λ (v : Arena Gen T). IsValidPtr v q) same_values second.valid;
+    no_next = first.end;
+    no_prev = sym same_prev ∙ second.start;
+  }
+
+  -- .. and may not, where it is none
+  pub named_may_not : (IsStart (entry_at (values_of b)) (shown b) q → ⊥) → CanConnect (entry_at (values_of a)) (shown a) p q → ⊥
+  named_may_not fails can = fails (record { valid = subst (λ (v : Arena Gen T). IsValidPtr v q) (sym same_values) can.second_valid; start = same_prev ∙ can.no_prev })
+
+  -- taken back, it leaves what was
+  pub taken_back : (c : Arena Gen (LinkSeen T)) → next_of (shown a) p.0 ≡ None → c ≡ relinked b (next_set (shown b) (Some p.0) None) → c ≡ a
+  taken_back c none back =
+      back ∙ (ap (λ (m : Shown). relinked b (next_set m (Some p.0) None)) shows_names
+      ∙ (ap (λ (x : Arena Gen (LinkSeen T)). relinked x (next_set names (Some p.0) None)) named
+      ∙ (relinked-again a names (next_set names (Some p.0) None) fits
+      ∙ (ap (relinked a) (undone (shown a) p.0 (Some q.0) none) ∙ sym (relinked-own a)))))
 
 module _ {Gen K T : Type 0} (number : K → Option ℕ) where
   -- the value of a link that stands

@@ -1,8 +1,9 @@
 -- Interlinks written in the state: what was written is shown, and nothing else has changed.
-use Rattle.std.specs.Prelude.{ℕ, Option}
+use Rattle.std.specs.Prelude.{◌≡◌, ℕ, Option, None}
 use Rattle.std.specs.Option.{option_map}
+use Rattle.chain_laws.specs.Chains.{Shown, prev_of, next_of}
 use Rattle.chain_laws.specs.Operations.{next_set, prev_set, linked}
-use Rattle.arena_base.specs.Arena.{Arena}
+use Rattle.arena_base.specs.Arena.{Arena, IsValid}
 use Rattle.chain_links.specs.ChainArena.{LinkSeen, shown, relinked}
 
 -- two optional indexes as numbers
@@ -25,3 +26,14 @@ module _ {Gen T : Type 0} where
   -- .. and then the second of another pair after its first
   abbrev pub linked_twice : Arena Gen (LinkSeen T) → Option ℕ × Option ℕ → Option ℕ × Option ℕ → Arena Gen (LinkSeen T)
   linked_twice a p q = relinked a (linked (linked (shown a) p.0 p.1) q.0 q.1)
+
+module _ {Gen T : Type 0} (entry : ℕ → Option (Gen × T)) (interlinks : Shown) (p : ℕ × Gen) where
+  -- p is valid, and no link comes after it
+  pub record IsEnd : Type 0 where
+    pub valid : IsValid entry p
+    pub end : next_of interlinks p.0 ≡ None
+
+  -- .. and no link comes before it
+  pub record IsStart : Type 0 where
+    pub valid : IsValid entry p
+    pub start : prev_of interlinks p.0 ≡ None

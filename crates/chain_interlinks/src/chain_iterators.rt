@@ -10,7 +10,7 @@ ghost use Rattle.chain_interlinks.specs.Steps.{Passes, PassesNothing};
 use arena_base::{Arena, ArenaSlot, ArenaTrait};
 use arena_ptr::{PtrKey, SlotStack};
 use chain_links::LinkNoGen;
-use chain_links::walks::{going_back, going_on};
+use chain_links::walks::going;
 use std::marker::Model;
 
 /// The links of one chain in walk order, each with its pointer: from a link on to the end, and then from the link
@@ -85,8 +85,7 @@ impl<'a, P: PtrKey, T: Drop, S: SlotStack<Item = ArenaSlot<P, LinkNoGen<P, T>>>>
             Some(i) => match look(self.arena, i) {
                 Some((p, link)) => {
                     self.left -= 1;
-                    self.back = going_back(self.start, link.next(), self.back);
-                    self.forth = going_on(self.start, link.next());
+                    (self.forth, self.back) = going(self.start, link.next(), self.back);
                     Some((p, link))
                 }
                 None => None,
@@ -134,8 +133,8 @@ pub fn step<P: PtrKey, T: Drop, S: SlotStack<Item = ArenaSlot<P, LinkNoGen<P, T>
     match forth {
         Some(i) => match look(arena, i) {
             Some((p, link)) => {
-                let next = link.next();
-                Some((p, going_on(start, next), going_back(start, next, back)))
+                let (forth, back) = going(start, link.next(), back);
+                Some((p, forth, back))
             }
             None => None,
         },

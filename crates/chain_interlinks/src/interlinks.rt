@@ -1,11 +1,11 @@
 // How a chain arena reads and writes interlinks in the arena that holds its links.
-ghost use Rattle.std.specs.Prelude.{◌≡◌, ◌↔◌, IsTrue, IsSome, Some, None};
+ghost use Rattle.std.specs.Prelude.{◌≡◌, ◌↔◌, IsTrue, IsSome, IfNone, OnSome, Some, None};
 ghost use Rattle.std.specs.Option.{option_map, option_and_then};
 ghost use Rattle.arena_ptr.specs.Invalidation.{value_within, invalidation_result};
 ghost use Rattle.arena_base.specs.Arena.{entry_at};
 ghost use Rattle.chain_links.specs.ChainArena.{shown, remove_link, entry, CanConnect, ptr_at};
 ghost use Rattle.chain_links.specs.Links.{seen_links, seen_pair};
-ghost use Rattle.chain_interlinks.specs.Interlinks.{next_written, prev_written, linked_up, linked_twice, numbers};
+ghost use Rattle.chain_interlinks.specs.Interlinks.{next_written, prev_written, linked_up, linked_twice, numbers, IsEnd, IsStart};
 
 use arena_base::{Arena, ArenaSlot, ArenaTrait, outcome};
 use arena_ptr::{
@@ -13,19 +13,28 @@ use arena_ptr::{
 };
 use chain_links::LinkNoGen;
 
-/// Whether q may come after p.
-pub fn can_connect<P: PtrKey, T: Drop, S: SlotStack<Item = ArenaSlot<P, LinkNoGen<P, T>>>>(
+/// Whether the pointer is valid and no link comes after its own.
+pub fn is_end<P: PtrKey, T: Drop, S: SlotStack<Item = ArenaSlot<P, LinkNoGen<P, T>>>>(
     arena: &Arena<P, LinkNoGen<P, T>, S>,
     p: P,
-    q: P,
 ) -> bool
-    ensures { IsTrue result ↔ CanConnect (entry (seen_links P.Inx.packed_number arena.now)) (shown (seen_links P.Inx.packed_number arena.now)) (P.key p) (P.key q) }
+    ensures { IsTrue result ↔ IsEnd (entry (seen_links P.Inx.packed_number arena.now)) (shown (seen_links P.Inx.packed_number arena.now)) (P.key p) }
 {
     match arena.get(p) {
-        Some(first) => match arena.get(q) {
-            Some(second) => first.next().is_none() && second.prev().is_none(),
-            None => false,
-        },
+        Some(link) => link.next().is_none(),
+        None => false,
+    }
+}
+
+/// Whether the pointer is valid and no link comes before its own.
+pub fn is_start<P: PtrKey, T: Drop, S: SlotStack<Item = ArenaSlot<P, LinkNoGen<P, T>>>>(
+    arena: &Arena<P, LinkNoGen<P, T>, S>,
+    p: P,
+) -> bool
+    ensures { IsTrue result ↔ IsStart (entry (seen_links P.Inx.packed_number arena.now)) (shown (seen_links P.Inx.packed_number arena.now)) (P.key p) }
+{
+    match arena.get(p) {
+        Some(link) => link.prev().is_none(),
         None => false,
     }
 }
@@ -102,6 +111,42 @@ pub fn link_twice<P: PtrKey, T: Drop, S: SlotStack<Item = ArenaSlot<P, LinkNoGen
 {
     link_up(arena, first.0, first.1);
     link_up(arena, second.0, second.1);
+}
+
+// The link at i, if one stands there, names none as the one after it. It is not the likely way, so it stays out of line.
+#[cold]
+#[inline(never)]
+fn take_back<P: PtrKey, T: Drop, S: SlotStack<Item = ArenaSlot<P, LinkNoGen<P, T>>>>(
+    arena: &mut Arena<P, LinkNoGen<P, T>, S>,
+    i: P::Inx,
+)
+    ensures { seen_links P.Inx.packed_number arena.new ≡ next_written (seen_links P.Inx.packed_number arena.old) (Some (P.Inx.number i)) None }
+{
+    set_next(arena, Some(i), None);
+}
+
+/// q comes after p, if it may. So that each slot is looked at once, p names q before q is looked at, and where q may not be
+/// named takes that back.
+pub fn join<P: PtrKey, T: Drop, S: SlotStack<Item = ArenaSlot<P, LinkNoGen<P, T>>>>(
+    arena: &mut Arena<P, LinkNoGen<P, T>, S>,
+    p: P,
+    q: P,
+) -> Option<()>
+    ensures some { IsSome result ↔ CanConnect (entry (seen_links P.Inx.packed_number arena.old)) (shown (seen_links P.Inx.packed_number arena.old)) (P.key p) (P.key q) }
+    ensures joined { OnSome result (seen_links P.Inx.packed_number arena.new ≡ linked_up (seen_links P.Inx.packed_number arena.old) (Some (P.key p).0) (Some (P.key q).0)) }
+    ensures none { IfNone result (seen_links P.Inx.packed_number arena.new ≡ seen_links P.Inx.packed_number arena.old) }
+{
+    let (i, j) = (p.inx(), q.inx());
+    if !is_end(arena, p) {
+        return None;
+    }
+    set_next(arena, Some(i), Some(j));
+    if !is_start(arena, q) {
+        take_back(arena, i);
+        return None;
+    }
+    set_prev(arena, Some(j), Some(i));
+    Some(())
 }
 
 /// Takes the link at an index out, and links those that it stood between.
