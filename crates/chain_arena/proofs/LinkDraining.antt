@@ -1,6 +1,6 @@
 -- A drain of all links, step by step, removes each of them by rising index.
-use Rattle.std.proofs.Common.{◌≡◌, ℕ, zero, suc, ◌≤◌, ◌<◌, arith, Bool, true, false, List, [], ◌∷◌, map, length, Option, None, Some, refl, ap, sym, ◌∙◌}
-use Rattle.std.specs.Prelude.{cond, leb, ◌==◌, All}
+use Rattle.std.proofs.Common.{◌≡◌, ℕ, zero, suc, ◌≤◌, ◌<◌, arith, Bool, true, false, List, [], ◌∷◌, map, length, ◌+◌, ◌⊎◌, inl, inr, ⊎_elim, Option, None, Some, refl, ap, sym, ◌∙◌}
+use Rattle.std.specs.Prelude.{cond, leb, min, ◌==◌, All}
 use Rattle.std.specs.Option.{option_map}
 use Rattle.std.proofs.lemmas.Bool.{leb-true, leb-false, lt-leb, eq-eqb, ne_eqb}
 use Rattle.std.proofs.lemmas.List.Elements.{All-head, All-tail}
@@ -41,6 +41,7 @@ module _ {Gen T : Type 0} where
     value : T
     stands : found p.0 es ≡ Some (p.1, value)
     left : from_index i es ≡ (p, value) ∷ from_index p.0 (without p.0 es)
+    behind : from_index p.0 (without p.0 es) ≡ from_index (suc p.0) (without p.0 es)
     from : i ≤ p.0
 
   first_here : (i : ℕ) (p : ℕ × Gen) (e : (ℕ × Gen) × T) (es : List ((ℕ × Gen) × T)) → RisesFrom e.0.0 (e ∷ es) → leb i e.0.0 ≡ true → Some p ≡ first_key (from_index i (e ∷ es)) → IsFirst i p (e ∷ es)
@@ -56,6 +57,10 @@ module _ {Gen T : Type 0} where
         stands = ap (λ b. cond b (Some (e.0.1, e.1)) (found p.0 es)) same ∙ ap (λ (k : ℕ × Gen). let o : Option (Gen × T) = Some (k.1, e.1) in o) (sym key);
         left = is ∙ (ap (λ (k : ℕ × Gen). (k, e.1) ∷ es) (sym key)
             ∙ ap (λ (l : List ((ℕ × Gen) × T)). (p, e.1) ∷ l) (sym (ap (λ b. from_index p.0 (cond b es (e ∷ without p.0 es))) same ∙ from_index-rises p.0 (suc e.0.0) es (omega (arith, index)) rises.1)));
+        behind = ap (λ b. from_index p.0 (cond b es (e ∷ without p.0 es))) same
+            ∙ (from_index-rises p.0 (suc e.0.0) es (omega (arith, index)) rises.1
+            ∙ (sym (from_index-rises (suc p.0) (suc e.0.0) es (omega (arith, index)) rises.1)
+            ∙ sym (ap (λ b. from_index (suc p.0) (cond b es (e ∷ without p.0 es))) same)));
         from = omega (arith, least, index);
       }
 
@@ -71,6 +76,11 @@ module _ {Gen T : Type 0} where
             ∙ (rest.left
             ∙ ap (λ (l : List ((ℕ × Gen) × T)). (p, rest.value) ∷ l) (sym (ap (λ b. from_index p.0 (cond b es (e ∷ without p.0 es))) other
             ∙ ap (λ b. cond b (e ∷ without p.0 es) (from_index p.0 (without p.0 es))) (lt-leb p.0 e.0.0 before))));
+        behind = ap (λ b. from_index p.0 (cond b es (e ∷ without p.0 es))) other
+            ∙ (ap (λ b. cond b (e ∷ without p.0 es) (from_index p.0 (without p.0 es))) (lt-leb p.0 e.0.0 before)
+            ∙ (rest.behind
+            ∙ (sym (ap (λ b. cond b (e ∷ without p.0 es) (from_index (suc p.0) (without p.0 es))) (lt-leb (suc p.0) e.0.0 (omega (arith, before))))
+            ∙ sym (ap (λ b. from_index (suc p.0) (cond b es (e ∷ without p.0 es))) other))));
         from = rest.from;
       }
 
@@ -85,10 +95,11 @@ module _ {Gen T : Type 0} where
   -- the same for an arena
   pub first_left : (a : Arena Gen (LinkSeen T)) (at : ℕ) (p : ℕ × Gen) → Some p ≡ first_key (entries_left a at)
       → (t : T) × (entry_at (values_of a) p.0 ≡ Some (p.1, t)) × (entries_left a at ≡ (p, t) ∷ from_index p.0 (without p.0 (entries (values_of a)))) × (1 ≤ p.0)
+      × (from_index p.0 (without p.0 (entries (values_of a))) ≡ from_index (suc p.0) (without p.0 (entries (values_of a))))
   first_left a zero p first = absurd (cc)
   first_left a (suc k) p first =
       let met = first_in (suc k) 1 p (entries (values_of a)) (entries_rise (values_of a)) first in
-      (met.value, sym (found-entries (values_of a) p.0) ∙ met.stands, met.left, omega (arith, met.from))
+      (met.value, sym (found-entries (values_of a) p.0) ∙ met.stands, met.left, omega (arith, met.from), met.behind)
 
   pub first_valid : (a : Arena Gen (LinkSeen T)) (at : ℕ) (p : ℕ × Gen) → Some p ≡ first_key (entries_left a at) → IsValid (entry_at (values_of a)) p
   first_valid a at p first = let met = first_left a at p first in record { value = met.0; stands = met.1 }
@@ -113,41 +124,61 @@ module _ {Gen T : Type 0} where
       (ap (λ (s : Seen Gen T). s.entries) (seen-removed following a (remove_link following a e.0.0) e.0.0 refl)
       ∙ (ap (without e.0.0) all ∙ ap (λ b. cond b es (e ∷ without e.0.0 es)) (eq-eqb e.0.0 e.0.0 refl)))
 
+-- an answer by the counter tells whether it overflowed
+pub overflow_told : {X : Type 0} (w : Bool) (r : InvalidationResult X) (x : X) → r ≡ invalidation_result w (value_within r) → value_within r ≡ Some x → is_overflow_result r ≡ w
+overflow_told w r x made has = ap is_overflow_result made ∙ (ap (λ (o : Option _). is_overflow_result (invalidation_result w o)) has ∙ is_overflow_result-made w x)
+
+-- the index behind another, unless no number is greater
+abbrev pub IsBehind : ℕ → ℕ → Type 0
+IsBehind i next = (next ≡ i) ⊎ (next ≡ suc i)
+
+pub is_behind : (most i next : ℕ) → next ≡ min (i + 1) most → i ≤ most → IsBehind i next
+is_behind most i next is within = by (leb (i + 1) most) refl
+  where
+    by : (b : Bool) → leb (i + 1) most ≡ b → IsBehind i next
+    by true fits = inr (is ∙ omega (arith, leb-true (i + 1) most fits))
+    by false beyond = inl (is ∙ omega (arith, leb-false (i + 1) most beyond, within))
+
 module _ {P Gen T : Type 0} (key : P → ℕ × Gen) (following : Gen → Gen) (wraps : Gen → Bool) where
   -- the removal of the first link that is left is a step
-  module _ (old new : Arena Gen (LinkSeen T)) (at next : ℕ) (p : P) (first : Some (key p) ≡ first_key (entries_left old at)) (answered : InvalidationResult T)
-      (answer : IsValid (entry_at (values_of old)) (key p) → (value_within answered ≡ option_map (λ (e : Gen × T). e.1) (entry_at (values_of old) (key p).0)) × (seen new ≡ entry_removed following (seen old) (key p).0)) where
-    value_is : value_within answered ≡ Some (first_left old at (key p) first).0
-    value_is = (answer (first_valid old at (key p) first)).0 ∙ ap (option_map (λ (e : Gen × T). e.1)) (first_left old at (key p) first).1
+  module _ (old new : Arena Gen (LinkSeen T)) (at next : ℕ) (p : P) (first : Some (key p) ≡ first_key (entries_left old at)) (taken : Option T)
+      (value : taken ≡ option_map (λ (e : Gen × T). e.1) (entry_at (values_of old) (key p).0)) where
+    value_is : taken ≡ Some (first_left old at (key p) first).0
+    value_is = value ∙ ap (option_map (λ (e : Gen × T). e.1)) (first_left old at (key p) first).1
 
-    pub drained_has : value_within answered ≡ None → ⊥
+    pub drained_has : taken ≡ None → ⊥
     drained_has none = let both = sym none ∙ value_is in cc
 
-    pub drained_first : (t : T) (overflow : Bool) (gone : InvalidationOption (P × T)) → answered ≡ invalidation_result (wraps old.counter) (value_within answered)
-        → (IsValid (entry_at (values_of old)) (key p) → new ≡ remove_link following old (key p).0) → value_within answered ≡ Some t → overflow ≡ is_overflow_result answered
-        → gone ≡ invalidation_option overflow (p, t) → next ≡ (key p).0 → IsLinkDrainStep key following wraps old at gone new next
-    drained_first t overflow gone made removal has told answered index =
+    -- what was left behind the first link is left
+    left_behind : IsBehind (key p).0 next → entries (values_of new) ≡ without (key p).0 (entries (values_of old)) → from_index (key p).0 (without (key p).0 (entries (values_of old))) ≡ entries_left new next
+    left_behind index es =
+        let met = first_left old at (key p) first in
+        ⊎_elim
+        (λ (same : next ≡ (key p).0). ap (λ n. from_index n (without (key p).0 (entries (values_of old)))) (sym same) ∙ (ap (from_index next) (sym es) ∙ sym (entries_left-at new next (omega (arith, met.3, same)))))
+        (λ (after : next ≡ suc (key p).0). met.4 ∙ (ap (λ n. from_index n (without (key p).0 (entries (values_of old)))) (sym after) ∙ (ap (from_index next) (sym es) ∙ sym (entries_left-at new next (omega (arith, after))))))
+        index
+
+    pub drained_first : (t : T) (overflow : Bool) (gone : InvalidationOption (P × T)) → seen new ≡ entry_removed following (seen old) (key p).0 → new ≡ remove_link following old (key p).0
+        → taken ≡ Some t → overflow ≡ wraps old.counter → gone ≡ invalidation_option overflow (p, t) → IsBehind (key p).0 next → IsLinkDrainStep key following wraps old at gone new next
+    drained_first t overflow gone loses removal has told answered index =
         let met = first_left old at (key p) first in
         let both : Some t ≡ Some met.0 = sym has ∙ value_is in
-        let value : t ≡ met.0 = cc in
+        let same : t ≡ met.0 = cc in
         let item : value_in gone ≡ (p, t) = ap value_in answered ∙ value_in-made overflow (p, t) in
-        let some : 1 ≤ next = omega (arith, met.3, index) in
-        let es : entries (values_of new) ≡ without (key p).0 (entries (values_of old)) = ap (λ (s : Seen Gen T). s.entries) (answer (first_valid old at (key p) first)).1 in
+        let es : entries (values_of new) ≡ without (key p).0 (entries (values_of old)) = ap (λ (s : Seen Gen T). s.entries) loses in
         let keyed : key (value_in gone).0 ≡ key p = ap (λ (x : P × T). key x.0) item in
         let left : entries_left old at ≡ (key (value_in gone).0, (value_in gone).1) ∷ entries_left new next = met.2
-        ∙ (ap (λ (u : T). (key p, u) ∷ from_index (key p).0 (without (key p).0 (entries (values_of old)))) (sym value)
+        ∙ (ap (λ (u : T). (key p, u) ∷ from_index (key p).0 (without (key p).0 (entries (values_of old)))) (sym same)
         ∙ (ap (λ (x : P × T). (key x.0, x.1) ∷ from_index (key p).0 (without (key p).0 (entries (values_of old)))) (sym item)
-        ∙ ap (λ (l : List ((ℕ × Gen) × T)). (key (value_in gone).0, (value_in gone).1) ∷ l)
-        (ap (λ n. from_index n (without (key p).0 (entries (values_of old)))) (sym index) ∙ (ap (from_index next) (sym es) ∙ sym (entries_left-at new next some))))) in
+        ∙ ap (λ (l : List ((ℕ × Gen) × T)). (key (value_in gone).0, (value_in gone).1) ∷ l) (left_behind index es))) in
         record {
           left = left;
           all = λ whole. sym (es
               ∙ (ap (without (key p).0) (sym whole ∙ left)
               ∙ ap (λ b. cond b (entries_left new next) ((key (value_in gone).0, (value_in gone).1) ∷ without (key p).0 (entries_left new next)))
               (eq-eqb (key (value_in gone).0).0 (key p).0 (ap (λ (k : ℕ × Gen). k.0) keyed))));
-          overflow = ap is_overflow answered ∙ (is_overflow-made overflow (p, t)
-              ∙ (told ∙ (ap is_overflow_result made ∙ (ap (λ (o : Option T). is_overflow_result (invalidation_result (wraps old.counter) o)) has ∙ is_overflow_result-made (wraps old.counter) t))));
-          state = removal (first_valid old at (key p) first) ∙ ap (λ (x : P × T). remove_link following old (key x.0).0) (sym item);
+          overflow = ap is_overflow answered ∙ (is_overflow-made overflow (p, t) ∙ told);
+          state = removal ∙ ap (λ (x : P × T). remove_link following old (key x.0).0) (sym item);
         }
 
   -- what a step leaves is what all removals leave ..

@@ -53,7 +53,9 @@ impl<P: PtrKey, T: Drop, S: SlotStack<Item = ArenaSlot<P, LinkNoGen<P, T>>>> Cha
         }
     }
 
-    // Removes the first link from an index on, and answers it with its index.
+    // Removes the first link from an index on, and answers it with the index behind its own. Inlined, what it answers need not
+    // go through memory.
+    #[inline(always)]
     fn drain_first(&mut self, at: usize) -> Option<(usize, InvalidationOption<(P, T)>)>
         ensures none { IfNone result ((entries_left self.old at ≡ []) × (self.new ≡ self.old)) }
         ensures some { IfSome result (λ e. IsLinkDrainStep P.key P.Gen.following P.Gen.wraps self.old at e.1 self.new e.0) }
@@ -61,9 +63,12 @@ impl<P: PtrKey, T: Drop, S: SlotStack<Item = ArenaSlot<P, LinkNoGen<P, T>>>> Cha
         let _ = &self.arena;
         match self.first_from(at) {
             Some(p) => {
-                let (value, overflow) = self.remove(p).overflowing();
-                match value {
-                    Some(t) => Some((number_or_zero(Some(p.inx())), invalidated(overflow, (p, t)))),
+                let (entry, overflow) = self.unlink(p.inx()).overflowing();
+                match entry {
+                    Some((_, link)) => {
+                        let behind = number_or_zero(Some(p.inx())).saturating_add(1);
+                        Some((behind, invalidated(overflow, (p, link.t))))
+                    }
                     None => unreachable!(),
                 }
             }

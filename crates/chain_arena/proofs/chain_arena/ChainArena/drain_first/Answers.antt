@@ -1,17 +1,46 @@
 -- The first link that is left goes.
-use Rattle.std.proofs.Common.{◌≡◌, ap, sym, ◌∙◌}
+use Rattle.std.proofs.Common.{◌≡◌, ℕ, ap, sym, ◌∙◌, subst, arith}
+use Rattle.std.specs.Option.{option_map}
+use Rattle.arena_ptr.specs.Invalidation.{value_within}
+use Rattle.arena_base.specs.Arena.{entry_at}
+use Rattle.arena_base.specs.Entries.{entry_removed}
+use Rattle.chain_links.specs.ChainArena.{seen, values_of, remove_link}
 use Rattle.chain_arena.proofs.Draining.{index_from-is}
-use Rattle.chain_arena.proofs.LinkDraining.{drained_has, drained_first}
+use Rattle.chain_arena.proofs.Taking.{value_alone_told, seen_at, removal_at}
+use Rattle.chain_arena.proofs.LinkDraining.{drained_has, drained_first, first_valid, overflow_told, IsBehind, is_behind}
 use Rattle.chain_arena.proofs.chain_arena.ChainArena.drain_first.Goals as goal
 
 pub unreachable-requires : goal.unreachable-requires
 unreachable-requires g c =
-    drained_has g.P.PtrKey.key g.P.Gen.GenKey.following g.P.Gen.GenKey.wraps c.args.self.now c.remove.new.self c.args.at 0 c.in-Some.p c.in-Some.ensures c.remove.result c.remove.ensures.valid
-    (sym (ap (λ x. x.0) c.overflowing-value.ensures) ∙ c.in-None-value.is)
+    let packed = g.P.Inx.InxKey.packed_number in
+    let following = g.P.Gen.GenKey.following in
+    let a = c.args.self.now in
+    let b = c.unlink.new.self in
+    let v = value_within c.unlink.result in
+    drained_has g.P.PtrKey.key following g.P.Gen.GenKey.wraps a b c.args.at 0 c.in-Some.p c.in-Some.ensures (option_map (λ e. e.1.t) v)
+    (value_alone_told packed following a b _ v c.unlink.ensures.answer ∙ ap (λ (n : ℕ). option_map (λ e. e.1) (entry_at (values_of a) n)) c.inx.ensures)
+    (ap (option_map (λ e. e.1.t)) (sym (ap (λ x. x.0) c.overflowing-entry.ensures) ∙ c.in-None-entry.is))
 
-pub returns-in-Some-value-clause-some : goal.returns-in-Some-value-clause-some
-returns-in-Some-value-clause-some g c =
-    let index : c.number_or_zero.result ≡ (g.P.PtrKey.key c.in-Some.p).0 = index_from-is c.number_or_zero.result _ c.number_or_zero.ensures.index ∙ c.inx.ensures in
-    drained_first g.P.PtrKey.key g.P.Gen.GenKey.following g.P.Gen.GenKey.wraps c.args.self.now c.remove.new.self c.args.at c.number_or_zero.result c.in-Some.p c.in-Some.ensures c.remove.result c.remove.ensures.valid
-    c.in-Some-value.t c.overflowing-value.result.1 c.invalidated.result c.remove.ensures.overflow (λ valid. (c.remove.ensures.more valid).state)
-    (sym (ap (λ x. x.0) c.overflowing-value.ensures) ∙ c.in-Some-value.is) (ap (λ x. x.1) c.overflowing-value.ensures) c.invalidated.ensures index
+pub returns-in-Some-entry-clause-some : goal.returns-in-Some-entry-clause-some
+returns-in-Some-entry-clause-some g c =
+    let packed = g.P.Inx.InxKey.packed_number in
+    let key = g.P.PtrKey.key in
+    let following = g.P.Gen.GenKey.following in
+    let wraps = g.P.Gen.GenKey.wraps in
+    let a = c.args.self.now in
+    let b = c.unlink.new.self in
+    let p = c.in-Some.p in
+    let v = value_within c.unlink.result in
+    let made = c.unlink.ensures in
+    let valid = first_valid a c.args.at (key p) c.in-Some.ensures in
+    let has = sym (ap (λ x. x.0) c.overflowing-entry.ensures) ∙ c.in-Some-entry.is in
+    let index : c.number_or_zero.result ≡ (key p).0 = index_from-is c.number_or_zero.result _ c.number_or_zero.ensures.index ∙ c.inx-in-Some-entry.ensures in
+    drained_first key following wraps a b c.args.at c.saturating_add-behind.result p c.in-Some.ensures (option_map (λ e. e.1.t) v)
+    (value_alone_told packed following a b _ v made.answer ∙ ap (λ (n : ℕ). option_map (λ e. e.1) (entry_at (values_of a) n)) c.inx.ensures)
+    c.in-Some-entry.link.t c.overflowing-entry.result.1 c.invalidated.result
+    (seen_at packed following a b _ v made.answer made.removal (key p) c.inx.ensures valid ∙ ap (entry_removed following (seen a)) c.inx.ensures)
+    ((removal_at packed following a b _ v made.answer made.removal (key p) c.inx.ensures valid).state ∙ ap (remove_link following a) c.inx.ensures)
+    (ap (option_map (λ e. e.1.t)) has)
+    (ap (λ x. x.1) c.overflowing-entry.ensures ∙ overflow_told (wraps a.counter) c.unlink.result _ made.overflow has)
+    c.invalidated.ensures
+    (subst (λ i. IsBehind i c.saturating_add-behind.result) index (is_behind _ c.number_or_zero.result c.saturating_add-behind.result c.saturating_add-behind.ensures (omega (arith, c.number_or_zero.type_inv))))
