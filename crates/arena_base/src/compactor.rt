@@ -19,8 +19,8 @@ pub struct Work {
     pub touched: u128,
 }
 
-/// The slots of an arena, out of it while entries are moved. `finish` and the drop put them back; until then the arena
-/// is empty, over a new stack. None of its calls takes memory or changes the counter.
+/// The slots of an arena, out of it while entries are moved. `finish`, `finish_packed` and the drop put them back; until
+/// then the arena is empty, over a new stack. None of its calls takes memory or changes the counter.
 pub struct Compactor<
     'a,
     P: PtrKey,
@@ -54,7 +54,7 @@ impl<P: PtrKey, T: Drop, S: SlotStack<Item = ArenaSlot<P, T>>> Arena<P, T, S> {
 }
 
 impl<'a, P: PtrKey, T: Drop, S: SlotStack<Item = ArenaSlot<P, T>>> Compactor<'a, P, T, S> {
-    /// How many slots there are. No call but `finish` and the drop changes it.
+    /// How many slots there are. No call but those that put them back changes it.
     pub fn slots(&self) -> usize
         ensures { result ≡ length self.now.held.slots }
     {

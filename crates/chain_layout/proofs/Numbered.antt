@@ -18,13 +18,12 @@ use Rattle.chain_laws.proofs.Runs.{range_with_len-append}
 use Rattle.arena_base.specs.Arena.{Arena, slot_at}
 use Rattle.arena_base.specs.Compacting.{Held, held_with_value}
 use Rattle.chain_links.specs.declared.links.LinkBody.{LinkBody}
-use Rattle.chain_links.specs.ChainArena.{LinkSeen, on_value, interlinks_in, ptr_at}
+use Rattle.chain_links.specs.ChainArena.{LinkSeen, on_value, ptr_at}
 use Rattle.chain_links.specs.Links.{seen_link, seen_pair}
 use Rattle.chain_layout.specs.HeldLinks.{interlinks_seen, shown_in, IsWork}
 use Rattle.chain_layout.specs.Layouts.{ShowsMoves}
 use Rattle.chain_layout.specs.Moving.{goal_of}
 use Rattle.chain_layout.specs.Numbering.{renamed_link, number_after, seen_held, given, AreNumbered, IsTiedAt, IsRingClosed, AreRetied, CanNumber, IsChainNumbered}
-use Rattle.chain_links.proofs.Mapping.{slot_at-map}
 use Rattle.chain_layout.proofs.HeldLinks.{work-none, work-more}
 use Rattle.chain_layout.proofs.Retying.{seen_as, written_given, written_own, seen_at, retied_none, retied_as, retied_more, retied_over}
 
@@ -93,22 +92,9 @@ module _ {F P Gen : Type 0} (g : F → P → P → F → Type 0) (key : P → �
 -- ---- slots in which links get destinations
 
 module _ {Gen K T : Type 0} (number : K → Option ℕ) where
-  -- what contracts see of a slot, its interlinks and its pointer
-  seen-interlinks : (s : Option (Gen × LinkBody K T)) → option_map (interlinks_seen number) s ≡ option_map (λ (e : Gen × LinkSeen T). interlinks_in e.1) (option_map (seen_pair number) s)
-  seen-interlinks None = refl
-  seen-interlinks (Some e) = refl
-
-  module _ (a b : Held Gen (LinkBody K T)) (same : seen_held number a ≡ seen_held number b) where
-    seen_slot : (i : ℕ) → option_map (seen_pair number) (slot_at a.slots i) ≡ option_map (seen_pair number) (slot_at b.slots i)
-    seen_slot i = sym (slot_at-map (seen_pair number) a.slots i) ∙ (ap (λ (h : Held Gen (LinkSeen T)). slot_at h.slots i) same ∙ slot_at-map (seen_pair number) b.slots i)
-
-    -- what is seen alike shows the same interlinks ..
-    pub shown-seen : shown_in number a.slots ≡ shown_in number b.slots
-    shown-seen = fun_ext (λ i. seen-interlinks (slot_at a.slots i) ∙ (ap (option_map (λ (e : Gen × LinkSeen T). interlinks_in e.1)) (seen_slot i) ∙ sym (seen-interlinks (slot_at b.slots i))))
-
-    -- .. and as many slots
-    pub length-seen : length a.slots ≡ length b.slots
-    length-seen = sym (length-map a.slots (option_map (seen_pair number))) ∙ (ap (λ (h : Held Gen (LinkSeen T)). length h.slots) same ∙ length-map b.slots (option_map (seen_pair number)))
+  -- where what is seen is alike, there are as many slots
+  pub length-seen : (a b : Held Gen (LinkBody K T)) → seen_held number a ≡ seen_held number b → length a.slots ≡ length b.slots
+  length-seen a b same = sym (length-map a.slots (option_map (seen_pair number))) ∙ (ap (λ (h : Held Gen (LinkSeen T)). length h.slots) same ∙ length-map b.slots (option_map (seen_pair number)))
 
   -- where a link stands
   pub stands_at : (slots : List (Option (Gen × LinkBody K T))) (i : ℕ) → HasLink (shown_in number slots) i → (e : Gen × LinkBody K T) × (slot_at slots i ≡ Some e)
@@ -159,7 +145,7 @@ chain_stands shown (linear xs) h = h.2
 chain_stands shown (cyclic xs) h = h.2
 
 -- the item i of a chain names the items beside it
-pub chain_names : (shown : Shown) (c : Chain) (ys : List ℕ) (i : ℕ) (zs : List ℕ) → IsChain shown c → items c ≡ ys ++ i ∷ zs
+chain_names : (shown : Shown) (c : Chain) (ys : List ℕ) (i : ℕ) (zs : List ℕ) → IsChain shown c → items c ≡ ys ++ i ∷ zs
     → shown i ≡ Some (record { prev = last_or ys (behind_of c); next = first_or zs (ahead_of c) })
 chain_names shown c ys i zs h parts = Stands-at shown (behind_of c) ys zs (ahead_of c) i (subst (λ (l : List ℕ). Stands shown (behind_of c) l (ahead_of c)) parts (chain_stands shown c h))
 

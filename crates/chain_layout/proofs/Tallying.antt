@@ -21,10 +21,6 @@ module _ {Gen T : Type 0} where
   pub counts_then : (a b c : Arena Gen T) (p q r t u v : ℕ) → CountsOn a b p t q u → CountsOn b c q u r v → CountsOn a c p t r v
   counts_then a b c p q r t u v one two = record { on = λ first had. two.on first (one.on first had) }
 
-  -- four things after one another
-  pub counts_four : (a b c d e : Arena Gen T) (p q r s t u v w x y : ℕ) → CountsOn a b p u q v → CountsOn b c q v r w → CountsOn c d r w s x → CountsOn d e s x t y → CountsOn a e p u t y
-  counts_four a b c d e p q r s t u v w x y one two three four = record { on = λ first had. four.on first (three.on first (two.on first (one.on first had))) }
-
   -- a touch
   pub counts_touch : (a b : Arena Gen T) (p q t u : ℕ) → b ≡ with_touch a → q ≡ p → u ≡ one_more t → CountsOn a b p t q u
   counts_touch a b p q t u is same more = record {
