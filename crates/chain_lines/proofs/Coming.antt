@@ -1,6 +1,6 @@
--- Lemmas on how far a run comes: by a byte, by a line, and by a line at which it stops.
-use Rattle.std.proofs.Common.{◌≡◌, ℕ, ◌==◌, ◌⊎◌, false, List, [], ◌∷◌, ◌++◌, ◌+◌, ◌<◌, length, get_or, take, drop, Option, Result, Ok, Err, refl, sym, ap, ◌∙◌, subst, append_assoc, append-nil, inl, inr, rules}
-use Rattle.std.proofs.lemmas.List.{take_more, take-append-drop}
+-- Lemmas on how far a run comes: by a line, by a line at which it stops, and by a part of one.
+use Rattle.std.proofs.Common.{◌≡◌, ℕ, ◌⊎◌, List, [], ◌∷◌, ◌++◌, take, Option, Result, Ok, Err, OnOk, IfErr, refl, sym, ap, ◌∙◌, subst, append_assoc, append-nil, inl, inr}
+use Rattle.std.specs.Prelude.{All}
 use Rattle.std.proofs.KnownBytes.{Appends-trans, Appends-kept}
 use Rattle.chain_lines.specs.declared.runs.ToolError.{ToolError}
 use Rattle.chain_lines.specs.declared.runs.ToolError.TheVariants as errors
@@ -8,8 +8,8 @@ use Rattle.chain_lines.specs.Words.{lines_of, whole_lines}
 use Rattle.chain_lines.specs.Commands.{line_of}
 use Rattle.chain_lines.specs.Answers.{ToolLinks, AnswersLine, LeavesStep}
 use Rattle.chain_lines.specs.Transcripts.{Answers, IsCutShort, within, AnswersSome, before, after}
-use Rattle.chain_lines.specs.Progress.{AnswersOne, Progress, Comes}
-use Rattle.chain_lines.proofs.Feeding.{line_of-take, lines_of-end, whole_lines-end, whole_lines-more, cut-on}
+use Rattle.chain_lines.specs.Progress.{AnswersOne, Progress, Comes, EndsFirst, IsNoEnd}
+use Rattle.chain_lines.proofs.Feeding.{line_of-take, lines_of-end, whole_lines-end, whole_lines-more, cut-more}
 
 -- one line more is answered
 pub Answers-more : (old mid new : ToolLinks) (lines : List (List ℕ)) (line text more : List ℕ) → Answers old lines text mid → AnswersLine mid (line_of line) more new
@@ -75,72 +75,87 @@ Progress-stopped old new read kept more held held_after come =
     let found = whole_lines-more more read come.lines come.rest come.cut in
     subst (λ l. AnswersSome old new l come.text) (sym found.1) (before come.lines found.0 come.text come.answers)
 
--- a byte of a line, of which enough is kept
-pub Progress-byte : (old new : ToolLinks) (read kept kept_after : List ℕ) (byte : ℕ) (held held_after : Option (List ℕ)) → Progress old read new kept held held_after → (byte == 10) ≡ false
-    → ((rest : List ℕ) → kept ≡ take 201 rest → kept_after ≡ take 201 (rest ++ byte ∷ [])) → Progress old (read ++ byte ∷ []) new kept_after held held_after
-Progress-byte old new read kept kept_after byte held held_after come other keep = record {
+-- more of a line, of which enough is kept
+pub Progress-front : (old new : ToolLinks) (read kept kept_after front : List ℕ) (held held_after : Option (List ℕ)) (come : Progress old read new kept held held_after) → All IsNoEnd front
+    → kept_after ≡ take 201 (come.rest ++ front) → Progress old (read ++ front) new kept_after held held_after
+Progress-front old new read kept kept_after front held held_after come all keep = record {
   lines = come.lines;
-  rest = come.rest ++ byte ∷ [];
+  rest = come.rest ++ front;
   text = come.text;
-  cut = cut-on read byte come.lines come.rest other come.cut;
-  keeps = keep come.rest come.keeps;
+  cut = cut-more front read come.lines come.rest all come.cut;
+  keeps = keep;
   answers = come.answers;
   writes = come.writes;
 }
 
--- ---- a piece, byte by byte
+-- ---- a piece, line by line
 
--- a byte more of a piece
-piece_more : (read piece : List ℕ) (i b : ℕ) → i < length piece → get_or piece i 0 ≡ b → (read ++ take i piece) ++ b ∷ [] ≡ read ++ take (i + 1) piece
-piece_more read piece i b below is =
-    append_assoc read (take i piece) (b ∷ []) ∙ ap (λ l. read ++ l) (ap (λ c. take i piece ++ c ∷ []) (sym is) ∙ sym (take_more piece i 0 below))
+-- what is an answer to a line is one to what is kept of it
+answers_kept : {A : Type 0} (r : Result A ToolError) (old new : ToolLinks) (line : List ℕ) (held held_after : Option (List ℕ)) → AnswersOne r old new line held held_after
+    → AnswersOne r old new (take 201 line) held held_after
+answers_kept (Ok x) old new line held held_after answered = (answered.0, subst (λ l. AnswersLine old l answered.0 new) (sym (line_of-take line)) answered.1, answered.2)
+answers_kept (Err errors.Read) old new line held held_after answered = answered
+answers_kept (Err errors.Write) old new line held held_after answered =
+    (answered.0, answered.1, subst (λ l. AnswersLine old l (answered.0 ++ answered.1) new) (sym (line_of-take line)) answered.2, answered.3)
+answers_kept (Err errors.Memory) old new line held held_after answered = (answered.0, step answered.1)
+  where
+    step : (new ≡ old) ⊎ LeavesStep old (line_of line) new → (new ≡ old) ⊎ LeavesStep old (line_of (take 201 line)) new
+    step (inl same) = inl same
+    step (inr leaves) = inr (subst (λ l. LeavesStep old l new) (sym (line_of-take line)) leaves)
 
--- a byte of a piece, and what is after it
-piece_around : (read piece : List ℕ) (i b : ℕ) → i < length piece → get_or piece i 0 ≡ b → (read ++ take i piece) ++ b ∷ drop (i + 1) piece ≡ read ++ piece
-piece_around read piece i b below is =
-    append_assoc read (take i piece) (b ∷ drop (i + 1) piece)
-    ∙ ap (λ l. read ++ l) (sym (append_assoc (take i piece) (b ∷ []) (drop (i + 1) piece))
-    ∙ ap (λ l. l ++ drop (i + 1) piece) (ap (λ c. take i piece ++ c ∷ []) (sym is) ∙ sym (take_more piece i 0 below))
-    ∙ take-append-drop (i + 1) piece)
+-- A line is answered of which something was kept ..
+pub answers-line : {A : Type 0} (r : Result A ToolError) (old new : ToolLinks) (kept line : List ℕ) (held held_after : Option (List ℕ)) → kept ≡ take 201 line → AnswersOne r old new kept held held_after
+    → AnswersOne r old new line held held_after
+answers-line (Ok x) old new kept line held held_after is answered = (answered.0, of_kept old new kept line answered.0 is answered.1, answered.2)
+answers-line (Err errors.Read) old new kept line held held_after is answered = answered
+answers-line (Err errors.Write) old new kept line held held_after is answered = (answered.0, answered.1, of_kept old new kept line (answered.0 ++ answered.1) is answered.2, answered.3)
+answers-line (Err errors.Memory) old new kept line held held_after is answered = (answered.0, step answered.1)
+  where
+    step : (new ≡ old) ⊎ LeavesStep old (line_of kept) new → (new ≡ old) ⊎ LeavesStep old (line_of line) new
+    step (inl same) = inl same
+    step (inr leaves) = inr (step_of_kept old new kept line is leaves)
 
-module _ (old now : ToolLinks) (read piece kept : List ℕ) (i : ℕ) (held held_now : Option (List ℕ)) (below : i < length piece)
-    (come : Progress old (read ++ take i piece) now kept held held_now) where
-  pub feed-line : {A : Type 0} (new joined : ToolLinks) (line kept_after : List ℕ) (held_new held_joined : Option (List ℕ)) (x : A)
-      → get_or piece i 0 ≡ 10 → line ≡ kept → AnswersOne (Ok x) now new line held_now held_new
-      → joined ≡ new → kept_after ≡ [] → held_joined ≡ held_new → Progress old (read ++ take (i + 1) piece) joined kept_after held held_joined
-  feed-line new joined line kept_after held_new held_joined x byte same answered is_new is_empty is_held =
-      let come_now = Progress-line old now new (read ++ take i piece) kept held held_now held_new come x (answered.0, subst (λ l. AnswersLine now (line_of l) answered.0 new) same answered.1, answered.2) in
-      let here : Progress old (read ++ take (i + 1) piece) new [] held held_new = subst (λ l. Progress old l new [] held held_new) (piece_more read piece i 10 below byte) come_now in
-      subst (λ h. Progress old (read ++ take (i + 1) piece) joined kept_after held h) (sym is_held)
-      (subst (λ k. Progress old (read ++ take (i + 1) piece) joined k held held_new) (sym is_empty)
-      (subst (λ a. Progress old (read ++ take (i + 1) piece) a [] held held_new) (sym is_new) here))
+-- .. or nothing
+pub nothing_kept : (kept rest front : List ℕ) → kept ≡ [] → kept ≡ take 201 rest → front ≡ rest ++ front
+nothing_kept kept [] front none is = refl
+nothing_kept kept (c ∷ rest) front none is = absurd (let both = sym none ∙ is in cc)
 
-  pub feed-byte : (joined : ToolLinks) (byte : ℕ) (kept_new kept_after : List ℕ) (held_joined : Option (List ℕ))
-      → get_or piece i 0 ≡ byte → (byte ≡ 10 → ⊥) → ((rest : List ℕ) → kept ≡ take 201 rest → kept_new ≡ take 201 (rest ++ byte ∷ []))
-      → joined ≡ now → kept_after ≡ kept_new → held_joined ≡ held_now → Progress old (read ++ take (i + 1) piece) joined kept_after held held_joined
-  feed-byte joined byte kept_new kept_after held_joined is other keep is_now is_kept is_held =
-      let come_now = Progress-byte old now (read ++ take i piece) kept kept_new byte held held_now come (no_end byte other) keep in
-      let here : Progress old (read ++ take (i + 1) piece) now kept_new held held_now = subst (λ l. Progress old l now kept_new held held_now) (piece_more read piece i byte below is) come_now in
-      subst (λ h. Progress old (read ++ take (i + 1) piece) joined kept_after held h) (sym is_held)
-      (subst (λ k. Progress old (read ++ take (i + 1) piece) joined k held held_now) (sym is_kept)
-      (subst (λ a. Progress old (read ++ take (i + 1) piece) a kept_new held held_now) (sym is_now) here))
-    where
-      no_end : (b : ℕ) → (b ≡ 10 → ⊥) → (b == 10) ≡ false
-      no_end b h = search rules
+module _ (old now : ToolLinks) (read done left kept : List ℕ) (held held_now : Option (List ℕ)) (come : Progress old (read ++ done) now kept held held_now) where
+  -- of a front without a line feed enough is kept
+  come_front : (front : List ℕ) → All IsNoEnd front → Progress old ((read ++ done) ++ front) now (take 201 (come.rest ++ front)) held held_now
+  come_front front all = Progress-front old now (read ++ done) kept (take 201 (come.rest ++ front)) front held held_now come all refl
 
-  -- the answer to the line stops the run
-  pub feed-stopped : (A B : Type 0) (error : ToolError) (r : Result B ToolError) (new : ToolLinks) (line kept_after : List ℕ) (held_new : Option (List ℕ))
-      → get_or piece i 0 ≡ 10 → line ≡ kept → AnswersOne {A = A} (Err error) now new line held_now held_new → r ≡ Err error
-      → Comes r old (read ++ piece) new kept_after held held_new
-  feed-stopped A B error r new line kept_after held_new byte same stopped is =
-      let here = Comes-stopped old now new (read ++ take i piece) kept held held_now held_new come A B error (drop (i + 1) piece) kept_after
-      (subst (λ l. AnswersOne {A = A} (Err error) now new l held_now held_new) same stopped) in
-      subst (λ q. Comes q old (read ++ piece) new kept_after held held_new) (sym is)
-      (subst (λ l. Comes {A = B} (Err error) old l new kept_after held held_new) (piece_around read piece i 10 below byte) here)
+  module _ (front back : List ℕ) (ends : EndsFirst front left back) where
+    -- the line is answered
+    pub feed-line : {A : Type 0} (new : ToolLinks) (kept_after : List ℕ) (held_new : Option (List ℕ)) (x : A)
+        → ((rest : List ℕ) → kept ≡ take 201 rest → AnswersOne (Ok x) now new (rest ++ front) held_now held_new) → kept_after ≡ []
+        → Progress old (read ++ (done ++ (front ++ 10 ∷ []))) new kept_after held held_new
+    feed-line new kept_after held_new x answered is_empty =
+        let kept_answered = answers_kept (Ok x) now new (come.rest ++ front) held_now held_new (answered come.rest come.keeps) in
+        let here = Progress-line old now new ((read ++ done) ++ front) (take 201 (come.rest ++ front)) held held_now held_new (come_front front ends.first) x kept_answered in
+        subst (λ k. Progress old (read ++ (done ++ (front ++ 10 ∷ []))) new k held held_new) (sym is_empty)
+        (subst (λ l. Progress old l new [] held held_new) (append_assoc (read ++ done) front (10 ∷ []) ∙ append_assoc read done (front ++ 10 ∷ [])) here)
 
-  -- memory for the line stops the run
-  pub feed-full : (B : Type 0) (error : ToolError) (r : Result B ToolError) (kept_after : List ℕ) → error ≡ errors.Memory → r ≡ Err error → Comes r old (read ++ piece) now kept_after held held_now
-  feed-full B error r kept_after memory is =
-      let e : (read ++ take i piece) ++ drop i piece ≡ read ++ piece = append_assoc read (take i piece) (drop i piece) ∙ ap (λ l. read ++ l) (take-append-drop i piece) in
-      subst (λ q. Comes q old (read ++ piece) now kept_after held held_now) (sym (is ∙ ap Err memory))
-      (come.text, subst (λ l. AnswersSome old now (whole_lines l) come.text) e (Progress-stopped old now (read ++ take i piece) kept (drop i piece) held held_now come), come.writes)
+    -- the answer to the line stops the run
+    pub feed-stopped : (A B : Type 0) (error : ToolError) (r : Result B ToolError) (piece : List ℕ) (new : ToolLinks) (kept_after : List ℕ) (held_new : Option (List ℕ)) → piece ≡ done ++ left
+        → ((rest : List ℕ) → kept ≡ take 201 rest → AnswersOne {A = A} (Err error) now new (rest ++ front) held_now held_new) → r ≡ Err error
+        → Comes r old (read ++ piece) new kept_after held held_new
+    feed-stopped A B error r piece new kept_after held_new parts stopped is =
+        let kept_stopped = answers_kept {A = A} (Err error) now new (come.rest ++ front) held_now held_new (stopped come.rest come.keeps) in
+        let here = Comes-stopped old now new ((read ++ done) ++ front) (take 201 (come.rest ++ front)) held held_now held_new (come_front front ends.first) A B error back kept_after kept_stopped in
+        let whole : ((read ++ done) ++ front) ++ 10 ∷ back ≡ read ++ piece = append_assoc (read ++ done) front (10 ∷ back) ∙ (append_assoc read done (front ++ 10 ∷ back)
+        ∙ ap (λ l. read ++ l) (ap (λ l. done ++ l) (sym ends.parts) ∙ sym parts)) in
+        subst (λ q. Comes q old (read ++ piece) new kept_after held held_new) (sym is)
+        (subst (λ l. Comes {A = B} (Err error) old l new kept_after held held_new) whole here)
+
+  -- what is left is kept, or memory for it stops the run
+  pub feed-kept : {A : Type 0} (r : Result A ToolError) (piece kept_after : List ℕ) → piece ≡ done ++ left → All IsNoEnd left
+      → OnOk r ((rest : List ℕ) → kept ≡ take 201 rest → kept_after ≡ take 201 (rest ++ left)) → IfErr r (λ e. e ≡ errors.Memory) → Comes r old (read ++ piece) now kept_after held held_now
+  feed-kept (Ok x) piece kept_after parts all keeps error =
+      subst (λ l. Progress old l now kept_after held held_now) (append_assoc read done left ∙ ap (λ l. read ++ l) (sym parts))
+      (Progress-front old now (read ++ done) kept kept_after left held held_now come all (keeps come.rest come.keeps))
+  feed-kept (Err errors.Memory) piece kept_after parts all keeps error =
+      let whole : (read ++ done) ++ left ≡ read ++ piece = append_assoc read done left ∙ ap (λ l. read ++ l) (sym parts) in
+      (come.text, subst (λ l. AnswersSome old now (whole_lines l) come.text) whole (Progress-stopped old now (read ++ done) kept left held held_now come), come.writes)
+  feed-kept (Err errors.Read) piece kept_after parts all keeps error = absurd (cc)
+  feed-kept (Err errors.Write) piece kept_after parts all keeps error = absurd (cc)

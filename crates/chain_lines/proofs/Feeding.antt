@@ -1,24 +1,41 @@
--- Lemmas on lines that come byte by byte.
-use Rattle.std.proofs.Common.{◌≡◌, ℕ, ◌<◌, ◌≤◌, ◌==◌, Bool, true, false, nat_lt, cond, List, [], ◌∷◌, ◌++◌, length, take, refl, sym, ap, ◌∙◌, length-append, append_assoc, append-nil, arith, rules}
-use Rattle.std.proofs.lemmas.Bool.{lt-ltb}
+-- Lemmas on lines that come in pieces.
+use Rattle.std.proofs.Common.{◌≡◌, ℕ, ◌+◌, ◌<◌, ◌≤◌, ◌==◌, Bool, true, false, nat_lt, cond, not, List, [], ◌∷◌, ◌++◌, length, take, drop, take_while, refl, sym, ap, ◌∙◌, subst, append_assoc, append-nil, one-add, arith, rules}
+use Rattle.std.specs.Prelude.{◌-◌, leb, min, All}
+use Rattle.std.proofs.lemmas.Bool.{lt-ltb, leb-true, leb-false}
 use Rattle.std.proofs.lemmas.List.{take_all, take-append-le, length-take}
-use Rattle.std.specs.List.{onto_first}
+use Rattle.std.proofs.lemmas.List.Elements.{All-nil, All-cons, All-head, All-tail}
+use Rattle.std.proofs.lemmas.List.Folds.{length-prefix_len}
+use Rattle.std.proofs.Math.Seq.{take-append-add}
+use Rattle.std.specs.List.{onto_first, position_or_len}
 use Rattle.chain_lines.specs.Words.{lines_of, whole_lines, all_but_last, words_of, without_return}
 use Rattle.chain_lines.specs.Commands.{line_of, line_of_words}
+use Rattle.chain_lines.specs.Progress.{EndsFirst, IsNoEnd}
 use Rattle.chain_lines.specs.declared.command.Line.TheVariants as lines
 
--- what is kept of a line stays, where it is long enough
-pub kept_all : (n byte : ℕ) (kept rest : List ℕ) → kept ≡ take n rest → n ≤ length kept → kept ≡ take n (rest ++ byte ∷ [])
-kept_all n byte kept rest is long =
-    let len : length kept ≤ length rest = omega (arith, ap length is, length-take n rest) in
-    is ∙ sym (take-append-le n rest (byte ∷ []) (omega arith))
+-- what is kept of a line, with as much of more as there is room for
+pub kept_more : (n m : ℕ) (kept rest more : List ℕ) → kept ≡ take n rest → m ≡ min (length more) (n - length kept) → kept ++ take m more ≡ take n (rest ++ more)
+kept_more n m kept rest more is room = by_length (leb n (length rest)) refl
+  where
+    len : length kept ≡ min n (length rest)
+    len = ap length is ∙ length-take n rest
 
--- .. and else has one byte more
-pub kept_more : (n byte : ℕ) (kept rest : List ℕ) → kept ≡ take n rest → length kept < n → kept ++ byte ∷ [] ≡ take n (rest ++ byte ∷ [])
-kept_more n byte kept rest is short =
-    let len : length rest < n = omega (arith, ap length is, length-take n rest) in
-    let same : kept ≡ rest = is ∙ take_all n rest (omega arith) in
-    ap (λ l. l ++ byte ∷ []) same ∙ sym (take_all n (rest ++ byte ∷ []) (simp length-append (omega arith)))
+    by_length : (b : Bool) → leb n (length rest) ≡ b → kept ++ take m more ≡ take n (rest ++ more)
+    by_length true e =
+        let long = leb-true n (length rest) e in
+        let none : m ≡ 0 = omega (arith, len, room, long) in
+        ap (λ k. kept ++ take k more) none ∙ append-nil kept ∙ is ∙ sym (take-append-le n rest more long)
+    by_length false e =
+        let short = leb-false n (length rest) e in
+        let all : kept ≡ rest = is ∙ take_all n rest (omega (arith, short)) in
+        let counted : n ≡ length rest + (n - length rest) = omega (arith, short) in
+        let same : take m more ≡ take (n - length rest) more = by_room (leb (length more) (n - length rest)) refl (room ∙ ap (λ l. min (length more) (n - length l)) all) in
+        ap (λ l. l ++ take m more) all ∙ ap (λ l. rest ++ l) same ∙ sym (ap (λ k. take k (rest ++ more)) counted ∙ take-append-add rest more (n - length rest))
+      where
+        by_room : (b : Bool) → leb (length more) (n - length rest) ≡ b → m ≡ min (length more) (n - length rest) → take m more ≡ take (n - length rest) more
+        by_room true fits is_min =
+            let within = leb-true (length more) (n - length rest) fits in
+            take_all m more (omega (arith, within, is_min)) ∙ sym (take_all (n - length rest) more within)
+        by_room false beyond is_min = ap (λ k. take k more) (omega (arith, leb-false (length more) (n - length rest) beyond, is_min))
 
 -- what a line says, its first 201 bytes say
 pub line_of-take : (rest : List ℕ) → line_of (take 201 rest) ≡ line_of rest
@@ -97,6 +114,56 @@ onto_last-append c (line ∷ next ∷ lines) rest = ap (λ l. line ∷ l) (onto_
 
 pub cut-on : (text : List ℕ) (c : ℕ) (lines : List (List ℕ)) (rest : List ℕ) → (c == 10) ≡ false → lines_of text ≡ lines ++ rest ∷ [] → lines_of (text ++ c ∷ []) ≡ lines ++ (rest ++ c ∷ []) ∷ []
 cut-on text c lines rest other cut = lines_of-on text c other ∙ ap (onto_last c) cut ∙ onto_last-append c lines rest
+
+-- .. and so do others, where none of them is a line feed
+pub cut-more : (more text : List ℕ) (lines : List (List ℕ)) (rest : List ℕ) → All IsNoEnd more → lines_of text ≡ lines ++ rest ∷ [] → lines_of (text ++ more) ≡ lines ++ (rest ++ more) ∷ []
+cut-more [] text lines rest all cut = ap lines_of (append-nil text) ∙ cut ∙ ap (λ r. lines ++ r ∷ []) (sym (append-nil rest))
+cut-more (c ∷ more) text lines rest all cut =
+    ap lines_of (sym (append_assoc text (c ∷ []) more))
+    ∙ cut-more more (text ++ c ∷ []) lines (rest ++ c ∷ []) (All-tail IsNoEnd c more all) (cut-on text c lines rest (All-head IsNoEnd c more all) cut)
+    ∙ ap (λ r. lines ++ r ∷ []) (append_assoc rest (c ∷ []) more)
+
+-- ---- the first line feed
+
+-- where the first line feed stands
+abbrev end_of : List ℕ → ℕ
+end_of text = position_or_len (λ c. c == 10) text
+
+-- a text in two parts, of which the second begins with the first line feed, if there is one
+abbrev AreParts : List ℕ → List ℕ → List ℕ → Type 0
+AreParts front [] text = All IsNoEnd text
+AreParts front (c ∷ back) text = EndsFirst front text back
+
+parts_at_end : (text : List ℕ) → AreParts (take (end_of text) text) (drop (end_of text) text) text
+parts_at_end [] = All-nil IsNoEnd
+parts_at_end (c ∷ text) = by_test (c == 10) refl (parts_at_end text)
+  where
+    is_end : (c == 10) ≡ true → c ≡ 10
+    is_end e = search rules
+
+    on : (c == 10) ≡ false → (front back : List ℕ) → AreParts front back text → AreParts (c ∷ front) back (c ∷ text)
+    on e front [] all = All-cons IsNoEnd c text e all
+    on e front (d ∷ back) found = record { parts = ap (λ l. c ∷ l) found.parts; first = All-cons IsNoEnd c front e found.first }
+
+    by_test : (b : Bool) → (c == 10) ≡ b → AreParts (take (end_of text) text) (drop (end_of text) text) text
+        → AreParts (take (cond (not b) (1 + end_of text) 0) (c ∷ text)) (drop (cond (not b) (1 + end_of text) 0) (c ∷ text)) (c ∷ text)
+    by_test true e rest = record { parts = ap (λ d. d ∷ text) (is_end e); first = All-nil IsNoEnd }
+    by_test false e rest = subst (λ n. AreParts (take n (c ∷ text)) (drop n (c ∷ text)) (c ∷ text)) (sym (one-add (end_of text))) (on e _ _ rest)
+
+module _ (text front rest : List ℕ) (n : ℕ) (at : n ≡ length (take_while (λ c. not (c == 10)) text)) (front_is : front ≡ take n text) (rest_is : rest ≡ drop n text) where
+  at_end : n ≡ end_of text
+  at_end = at ∙ length-prefix_len (λ c. not (c == 10)) text
+
+  parts_are : AreParts front rest text
+  parts_are =
+      subst (λ f. AreParts f rest text) (sym (front_is ∙ ap (λ k. take k text) at_end))
+      (subst (λ r. AreParts (take (end_of text) text) r text) (sym (rest_is ∙ ap (λ k. drop k text) at_end)) (parts_at_end text))
+
+  pub parts-some : (c : ℕ) (back : List ℕ) → rest ≡ c ∷ back → EndsFirst front text back
+  parts-some c back is = subst (λ r. AreParts front r text) is parts_are
+
+  pub parts-none : rest ≡ [] → All IsNoEnd text
+  parts-none is = subst (λ r. AreParts front r text) is parts_are
 
 -- the whole lines are those before the rest
 pub all_but_last-append : (lines : List (List ℕ)) (rest : List ℕ) → all_but_last (lines ++ rest ∷ []) ≡ lines

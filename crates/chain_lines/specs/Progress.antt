@@ -1,5 +1,5 @@
 -- How far a run has come.
-use Rattle.std.specs.Prelude.{◌≡◌, ℕ, ◌⊎◌, List, [], ◌∷◌, ◌++◌, take, Option, Result, Ok, Err}
+use Rattle.std.specs.Prelude.{◌≡◌, ℕ, ◌==◌, false, All, ◌⊎◌, List, [], ◌∷◌, ◌++◌, take, Option, Result, Ok, Err}
 use Rattle.std.specs.Io.KnownBytes.{Appends, Keeps}
 use Rattle.chain_lines.specs.declared.runs.ToolError.{ToolError}
 use Rattle.chain_lines.specs.declared.runs.ToolError.TheVariants as errors
@@ -7,6 +7,15 @@ use Rattle.chain_lines.specs.Words.{lines_of, whole_lines}
 use Rattle.chain_lines.specs.Commands.{line_of}
 use Rattle.chain_lines.specs.Answers.{ToolLinks, AnswersLine, LeavesStep}
 use Rattle.chain_lines.specs.Transcripts.{Answers, IsCutShort, AnswersSome}
+
+-- no line feed
+abbrev pub IsNoEnd : ℕ → Type 0
+IsNoEnd c = (c == 10) ≡ false
+
+-- the first line feed of a text, with what is before it and what is after it
+pub record EndsFirst (front text back : List ℕ) : Type 0 where
+  pub parts : text ≡ front ++ 10 ∷ back
+  pub first : All IsNoEnd front
 
 -- a line answered: the answer is written, or a front of it, or nothing for want of memory, where a call alone leaves its step
 abbrev pub AnswersOne : {A : Type 0} → Result A ToolError → ToolLinks → ToolLinks → List ℕ → Option (List ℕ) → Option (List ℕ) → Type 0

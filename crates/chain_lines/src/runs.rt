@@ -1,13 +1,14 @@
 //! A run: lines come in from a reader, and their answers go out to a writer.
-ghost use Rattle.std.specs.Prelude.{◌≡◌, ℕ, List, ◌∷◌, [], ◌++◌, OnOk, OnErr, IfErr, take, length, Option, None, IfOk, ◌<◌, ◌≤◌, vec_len};
+ghost use Rattle.std.specs.Prelude.{◌≡◌, ℕ, List, [], ◌++◌, OnOk, OnErr, IfErr, IfSome, IfNone, All, take, length, Option, None, IfOk, ◌<◌, ◌≤◌, vec_len};
 ghost use Rattle.std.specs.Io.KnownBytes.{Appends, Consumes, Keeps, IsAtEnd};
 ghost use Rattle.arena_ptr.specs.Generations.{two32};
 ghost use Rattle.arena_base.specs.Arena.{new_arena};
 ghost use Rattle.chain_lines.specs.Answers.{ToolLinks};
-ghost use Rattle.chain_lines.specs.Progress.{AnswersOne, ComesOn};
+ghost use Rattle.chain_lines.specs.Progress.{AnswersOne, ComesOn, EndsFirst, IsNoEnd};
 ghost use Rattle.chain_lines.specs.Transcripts.{Ends};
 
 use crate::answer::answer;
+use crate::words::position;
 use arena_base::{ArenaSlot, ArenaTrait};
 use arena_ptr::{SlotStack, ToolPtr};
 use chain_arena::{ChainArena, LinkNoGen};
@@ -65,17 +66,48 @@ fn reply<W: Write, S: SlotStack<Item = ArenaSlot<ToolPtr, LinkNoGen<ToolPtr, u32
     }
 }
 
-/// Keeps one more byte of an unfinished line, up to 201 bytes.
-fn keep(line: &mut Vec<u8>, byte: u8) -> Result<(), ToolError>
-    ensures ok { OnOk result ((rest : List ℕ) → line.old.items ≡ take 201 rest → line.new.items ≡ take 201 (rest ++ byte ∷ [])) }
+/// Keeps more of an unfinished line, up to 201 bytes in all.
+fn keep(line: &mut Vec<u8>, more: &[u8]) -> Result<(), ToolError>
+    ensures ok { OnOk result ((rest : List ℕ) → line.old.items ≡ take 201 rest → line.new.items ≡ take 201 (rest ++ more.now)) }
     ensures error { IfErr result (λ e. e ≡ ToolError.Memory) }
 {
-    if line.len() > 200 {
-        return Ok(());
-    }
-    match line.push(byte) {
+    let (front, _) = more.split_at(more.len().min(201usize.saturating_sub(line.len())));
+    match line.extend_from_slice(front) {
         Ok(()) => Ok(()),
         Err(_) => Err(ToolError::Memory),
+    }
+}
+
+/// Answers a line of which something may have been kept, and the rest is the front of a piece. Where nothing was kept, it is
+/// read where it stands.
+fn end_line<W: Write, S: SlotStack<Item = ArenaSlot<ToolPtr, LinkNoGen<ToolPtr, u32>>>>(
+    arena: &mut ChainArena<ToolPtr, u32, S>,
+    line: &mut Vec<u8>,
+    front: &[u8],
+    text: &mut String,
+    writer: &mut W,
+) -> Result<(), ToolError>
+    ensures answered { (rest : List ℕ) → line.old.items ≡ take 201 rest → AnswersOne result arena.old arena.new (rest ++ front.now) (W.contents writer.old) (W.contents writer.new) }
+    ensures empty { OnOk result (line.new.items ≡ []) }
+{
+    if line.is_empty() {
+        return reply(arena, front, text, writer);
+    }
+    keep(line, front)?;
+    reply(arena, line, text, writer)?;
+    line.clear();
+    Ok(())
+}
+
+/// What stands before the first line feed of a text, and what stands after it. `None` where there is none.
+fn first_line(text: &[u8]) -> Option<(&[u8], &[u8])>
+    ensures some { IfSome result (λ parts. EndsFirst parts.0.now text.now parts.1.now) }
+    ensures none { IfNone result (All IsNoEnd text.now) }
+{
+    let (front, back) = text.split_at(position(b'\n', text));
+    match back.split_first() {
+        Some((_, back)) => Some((front, back)),
+        None => None,
     }
 }
 
@@ -89,15 +121,12 @@ fn feed<W: Write, S: SlotStack<Item = ArenaSlot<ToolPtr, LinkNoGen<ToolPtr, u32>
 ) -> Result<(), ToolError>
     ensures { ComesOn result piece.now arena.old line.old.items (W.contents writer.old) arena.new line.new.items (W.contents writer.new) }
 {
-    for byte in piece {
-        if *byte == b'\n' {
-            reply(arena, line, text, writer)?;
-            line.clear();
-        } else {
-            keep(line, *byte)?;
-        }
+    let mut left = piece;
+    while let Some((front, back)) = first_line(left) {
+        end_line(arena, line, front, text, writer)?;
+        left = back;
     }
-    Ok(())
+    keep(line, left)
 }
 
 /// Flushes a writer.

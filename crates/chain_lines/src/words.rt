@@ -35,7 +35,7 @@ fn spaces(text: &[u8]) -> usize
 }
 
 /// Where a byte first stands in a text, or else the text's length.
-fn position(byte: u8, text: &[u8]) -> usize
+pub fn position(byte: u8, text: &[u8]) -> usize
     ensures { result ≡ length (take_while (λ c. not (c == byte)) text.now) }
 {
     text.iter().take_while(|c| **c != byte).count()
