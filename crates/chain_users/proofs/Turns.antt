@@ -1,5 +1,5 @@
 -- The turn of a run queue: what a task that comes, goes or runs makes of it.
-use Rattle.std.proofs.Common.{◌≡◌, ◌≢◌, ℕ, inl, inr, ⊎_elim, List, [], ◌∷◌, ◌++◌, Option, None, Some, refl, sym, ap, ◌∙◌, subst, length, arith}
+use Rattle.std.proofs.Common.{◌≡◌, ◌≢◌, ◌<◌, ℕ, inl, inr, ⊎_elim, List, [], ◌∷◌, ◌++◌, Option, None, Some, refl, sym, ap, ◌∙◌, subst, length, arith}
 use Rattle.std.specs.Prelude.{is_some, true}
 use Rattle.std.specs.Option.{option_map, option_and_then}
 use Rattle.std.proofs.Common.{unwrap_or}
@@ -10,13 +10,13 @@ use Rattle.chain_laws.specs.Removals.{Removes}
 use Rattle.chain_laws.proofs.Turning.{turned}
 use Rattle.chain_laws.proofs.Members.{Has-parts, Has-turned, HasNoRepetition-turned}
 use Rattle.arena_base.specs.Arena.{IsValid}
-use Rattle.arena_base.specs.Entries.{Seen, count, index_of, first_key, found, RisesFrom}
+use Rattle.arena_base.specs.Entries.{Seen, count, HasRoomLeft, index_of, first_key, found, RisesFrom}
 use Rattle.chain_laws.specs.Insertions.{single_link_cyclic, prev_to}
 use Rattle.chain_links.specs.Calls.{GainsLink}
 use Rattle.chain_laws.proofs.Backing.{length_among}
 use Rattle.chain_traits.proofs.AnyArena.{found_has}
 use Rattle.chain_users.specs.Lists.{Item, Stand, indexes, IsAmong}
-use Rattle.chain_users.specs.Turns.{IsTurn, IsCancelled, items_from, put_first, turn_of, turned_once}
+use Rattle.chain_users.specs.Turns.{Queue, IsTurn, IsCancelled, items_from, put_first, turn_of, turned_once}
 use Rattle.chain_users.proofs.Removing.{HasGone}
 use Rattle.chain_users.proofs.Lists.{stand-append, stand-left, stand-right, stand-frame, among-left, among-right, stand_kept, stand-some, rises_once, has_found}
 
@@ -284,6 +284,18 @@ module _ {A Gen T : Type 0} (seen : A → Seen Gen T) (entry : A → ℕ → Opt
     is_found = settles (entry a) (links a) current turn (seen a).entries is (rises a) (looked a);
     holds = settled (entry a) (links a) current turn (seen a).entries is (rises a) (looked a);
   }
+
+  -- a queue as it is found in an arena
+  abbrev pub queue_in : A → Option (ℕ × Gen) → Queue Gen T
+  queue_in a current = record { turn = turn_in a current; room = (seen a).capacity }
+
+  -- where a queue has room for one task more, its arena has
+  pub has_room : (a : A) (current : Option (ℕ × Gen)) (q : Queue Gen T) → IsTurn (entry a) (links a) current (turn_in a current) → queue_in a current ≡ q → length q.turn < q.room → HasRoomLeft (seen a)
+  has_room a current q is same less =
+      let many = turn_length (entry a) (links a) current (turn_in a current) (seen a).entries is (rises a) (looked a) in
+      let turn = ap (λ (s : Queue Gen T). length s.turn) same in
+      let room = ap (λ (s : Queue Gen T). s.room) same in
+      omega arith
 
   module _ (a b : A) (p : ℕ × Gen) (t : T) (turn : List (Item Gen T)) where
     -- a task comes to a queue without tasks, or before the current one: it is the last in turn

@@ -1,9 +1,14 @@
--- The tasks of a run queue in turn.
+-- The tasks of a run queue in turn, and for how many it has room.
 use Rattle.std.specs.Prelude.{◌≡◌, ◌≢◌, ℕ, zero, suc, List, [], ◌∷◌, ◌++◌, Option, None, Some, is_some, true}
 use Rattle.std.specs.Option.{option_map}
 use Rattle.chain_laws.specs.Chains.{Shown, cyclic, IsChain, Has, next_of}
 use Rattle.arena_base.specs.Entries.{first_key}
 use Rattle.chain_users.specs.Lists.{Item, Stand, IsAmong, indexes}
+
+-- a run queue: its tasks in turn, the current one first, and for how many tasks it has room
+pub record Queue (Gen T : Type 0) : Type 0 where
+  pub turn : List (Item Gen T)
+  pub room : ℕ
 
 -- the first item goes behind the others
 abbrev pub turned_once : {X : Type 0} → List X → List X

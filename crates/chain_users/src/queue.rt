@@ -1,6 +1,6 @@
 //! The run queue of a scheduler: its tasks stand in one ring, and each has its turn.
 
-ghost use Rattle.std.specs.Prelude.{◌≡◌, ℕ, List, [], ◌∷◌, ◌++◌, length, map, IfSome, IfNone, IfOk, OnErr};
+ghost use Rattle.std.specs.Prelude.{◌≡◌, ◌<◌, ℕ, List, [], ◌∷◌, ◌++◌, length, map, IfSome, IfNone, IsOk, IfOk, OnErr};
 ghost use Rattle.std.specs.Option.{option_map};
 ghost use Rattle.arena_base.specs.Entries.{first_key};
 ghost use Rattle.chain_users.specs.Turns.{IsCancelled, IsTurn, turned_once};
@@ -14,7 +14,8 @@ use std::marker::{Model, PhantomData};
 
 /// Tasks that run in turn. A task is named by the pointer that `spawn` answers, until it is cancelled.
 ///
-/// A contract sees the tasks in turn, the current one first: a list of pairs, of a pointer's index and generation, and of the task.
+/// A contract sees the tasks in turn, the current one first: a list of pairs, of a pointer's index and generation, and of the
+/// task. Beside it stands for how many tasks there is room.
 #[derive(Drop)]
 pub struct RunQueue<P: PtrKey, T: Drop, A: ChainArenaTrait<P, T> + Drop> {
     tasks: A,
@@ -23,15 +24,16 @@ pub struct RunQueue<P: PtrKey, T: Drop, A: ChainArenaTrait<P, T> + Drop> {
 }
 
 impl<P: PtrKey, T: Drop, A: ChainArenaTrait<P, T> + Drop> Model for RunQueue<P, T, A> {
-    ghost use Rattle.std.specs.Prelude.{List};
     ghost use Rattle.std.specs.Option.{option_map};
     ghost use Rattle.arena_base.specs.Entries.{count};
-    ghost use Rattle.chain_users.specs.Lists.{Item};
-    ghost use Rattle.chain_users.specs.Turns.{turn_of, IsTurn};
+    ghost use Rattle.chain_users.specs.Turns.{Queue, turn_of, IsTurn};
 
-    ghost Value = { List (Item P.Gen T) };
+    ghost Value = { Queue P.Gen T };
 
-    ghost view = { λ q. turn_of (A.entry q.tasks) (A.interlinks q.tasks) (count (A.seen q.tasks)) (option_map P.key q.current) };
+    ghost view = { λ q. record {
+        turn = turn_of (A.entry q.tasks) (A.interlinks q.tasks) (count (A.seen q.tasks)) (option_map P.key q.current);
+        room = (A.seen q.tasks).capacity;
+    } };
 
     ghost invariant = { λ q. IsTurn (A.entry q.tasks) (A.interlinks q.tasks) (option_map P.key q.current)
         (turn_of (A.entry q.tasks) (A.interlinks q.tasks) (count (A.seen q.tasks)) (option_map P.key q.current)) };
@@ -40,7 +42,7 @@ impl<P: PtrKey, T: Drop, A: ChainArenaTrait<P, T> + Drop> Model for RunQueue<P, 
 impl<P: PtrKey, T: Drop, A: ChainArenaTrait<P, T> + Drop> RunQueue<P, T, A> {
     /// A queue without tasks. It takes no memory.
     pub fn new(alloc: Global) -> Self
-        ensures { result ≡ [] }
+        ensures { result.turn ≡ [] }
     {
         RunQueue {
             tasks: A::new(alloc),
@@ -51,24 +53,32 @@ impl<P: PtrKey, T: Drop, A: ChainArenaTrait<P, T> + Drop> RunQueue<P, T, A> {
 
     /// How many tasks there are.
     pub fn len(&self) -> usize
-        ensures { result ≡ length self.now }
+        ensures { result ≡ length self.now.turn }
     {
         self.tasks.len()
     }
 
+    /// For how many tasks there is room. `spawn` grows beyond that, if it can.
+    pub fn capacity(&self) -> usize
+        ensures { result ≡ self.now.room }
+    {
+        self.tasks.capacity()
+    }
+
     /// The pointer of the current task. `None`: there are no tasks.
     pub fn current(&self) -> Option<P>
-        ensures { option_map P.key result ≡ first_key self.now }
+        ensures { option_map P.key result ≡ first_key self.now.turn }
     {
         self.current
     }
 
-    /// Adds a task, which is the last in turn.
+    /// Adds a task, which is the last in turn. Where there is room for it, it is not refused.
     ///
-    /// `BeyondMaxCapacity`, `AllocError`: the arena is full, and could not grow. After either nothing has changed, and the task is
-    /// dropped.
+    /// `BeyondMaxCapacity`, `AllocError`: there is no room left, and the queue could not grow. After either nothing has changed,
+    /// and the task is dropped.
     pub fn spawn(&mut self, task: T) -> Result<P, ReallocationError>
-        ensures last { IfOk result (λ p. self.new ≡ self.old ++ (P.key p, task) ∷ []) }
+        ensures last { IfOk result (λ p. self.new.turn ≡ self.old.turn ++ (P.key p, task) ∷ []) }
+        ensures room { length self.old.turn < self.old.room → IsOk result × (self.new.room ≡ self.old.room) }
         ensures err { OnErr result (self.new ≡ self.old) }
     {
         match self.current {
@@ -87,8 +97,9 @@ impl<P: PtrKey, T: Drop, A: ChainArenaTrait<P, T> + Drop> RunQueue<P, T, A> {
     /// Goes on to the next task in turn, and answers its pointer: the one that was current is the last then. `None`: there are
     /// no tasks.
     pub fn next(&mut self) -> Option<P>
-        ensures turned { self.new ≡ turned_once self.old }
-        ensures current { option_map P.key result ≡ first_key self.new }
+        ensures turned { self.new.turn ≡ turned_once self.old.turn }
+        ensures current { option_map P.key result ≡ first_key self.new.turn }
+        ensures room { self.new.room ≡ self.old.room }
     {
         let current = self.current?;
         let next = after(&self.tasks, current);
@@ -100,8 +111,9 @@ impl<P: PtrKey, T: Drop, A: ChainArenaTrait<P, T> + Drop> RunQueue<P, T, A> {
     /// was current, the next one is.
     /// `None`: the pointer is of no task in the queue, and nothing has changed.
     pub fn cancel(&mut self, p: P) -> Option<T>
-        ensures some { IfSome result (λ task. IsCancelled (P.key p) task self.old self.new) }
-        ensures none { IfNone result ((self.new ≡ self.old) × ¬ IsAmong (P.key p) self.old) }
+        ensures some { IfSome result (λ task. IsCancelled (P.key p) task self.old.turn self.new.turn) }
+        ensures none { IfNone result ((self.new ≡ self.old) × ¬ IsAmong (P.key p) self.old.turn) }
+        ensures room { self.new.room ≡ self.old.room }
     {
         let current = self.current?;
         let next = current_without(&self.tasks, current, p);
@@ -113,8 +125,9 @@ impl<P: PtrKey, T: Drop, A: ChainArenaTrait<P, T> + Drop> RunQueue<P, T, A> {
 
     // Takes the current task out. The next one is current then.
     fn take_current(&mut self) -> Option<T>
-        ensures some { IfSome result (λ task. (p : ℕ × P.Gen) × (self.old ≡ (p, task) ∷ self.new)) }
-        ensures none { IfNone result ((self.old ≡ []) × (self.new ≡ [])) }
+        ensures some { IfSome result (λ task. (p : ℕ × P.Gen) × (self.old.turn ≡ (p, task) ∷ self.new.turn)) }
+        ensures none { IfNone result ((self.old.turn ≡ []) × (self.new ≡ self.old)) }
+        ensures room { self.new.room ≡ self.old.room }
     {
         let p = self.current()?;
         self.cancel(p)
@@ -124,7 +137,8 @@ impl<P: PtrKey, T: Drop, A: ChainArenaTrait<P, T> + Drop> RunQueue<P, T, A> {
     ///
     /// `AllocError`: memory for the answer was refused, and nothing has changed.
     pub fn drain_all(&mut self, alloc: Global) -> Result<Vec<T>, AllocError>
-        ensures drained { IfOk result (λ tasks. (tasks.items ≡ map (λ e. e.1) self.old) × (self.new ≡ [])) }
+        ensures drained { IfOk result (λ tasks. (tasks.items ≡ map (λ e. e.1) self.old.turn) × (self.new.turn ≡ [])) }
+        ensures room { self.new.room ≡ self.old.room }
         ensures err { OnErr result (self.new ≡ self.old) }
     {
         let count = self.len();

@@ -11,7 +11,7 @@ pub fn spawn<P: PtrKey, T: Drop, A: ChainArenaTrait<P, T> + Drop>(
     queue: &mut RunQueue<P, T, A>,
     task: T,
 ) -> Result<P, ReallocationError>
-    ensures { IfOk result (λ p. queue.new ≡ queue.old ++ (P.key p, task) ∷ []) }
+    ensures { IfOk result (λ p. queue.new.turn ≡ queue.old.turn ++ (P.key p, task) ∷ []) }
 {
     queue.spawn(task)
 }
@@ -21,7 +21,7 @@ pub fn cancel<P: PtrKey, T: Drop, A: ChainArenaTrait<P, T> + Drop>(
     queue: &mut RunQueue<P, T, A>,
     p: P,
 ) -> Option<T>
-    ensures { IfSome result (λ task. IsCancelled (P.key p) task queue.old queue.new) }
+    ensures { IfSome result (λ task. IsCancelled (P.key p) task queue.old.turn queue.new.turn) }
 {
     queue.cancel(p)
 }

@@ -3,10 +3,10 @@ use Rattle.std.proofs.Common.{◌≡◌, ◌∙◌, ap, subst, sym, List, Option
 use Rattle.std.specs.Option.{option_map}
 use Rattle.std.specs.Prelude.{is_some, true}
 use Rattle.chain_users.specs.Lists.{IsAmong, Item}
-use Rattle.chain_users.specs.Turns.{IsTurn, IsCancelled}
+use Rattle.chain_users.specs.Turns.{Queue, IsTurn, IsCancelled}
 use Rattle.chain_users.proofs.Outcomes.{on_none}
 use Rattle.chain_users.proofs.Removing.{IsRemoval, removal}
-use Rattle.chain_users.proofs.Turns.{IsLeft, no_task, task_goes, turn_in}
+use Rattle.chain_users.proofs.Turns.{IsLeft, no_task, task_goes, queue_in, turn_in}
 use Rattle.chain_users.proofs.queue.RunQueue.cancel.Goals.{After-allow, After-from_residual-in_err-task, After-self-1}
 use Rattle.chain_users.proofs.queue.RunQueue.cancel.Given.{Over}
 use Rattle.chain_users.proofs.queue.RunQueue.cancel.Goals as goal
@@ -60,7 +60,7 @@ returns-in_err-task-clause-none g c =
     let p = g.P.PtrKey.key c.args.p in
     let removal = it g (missed g c) in
     on_none c.from_residual-in_err-task.result (
-      ap (λ b. turn g b c.self.inside.current) (removal.same c.in_err-task.was) ∙ c.self.view_is,
+      ap (λ b. queue_in g.A.ArenaTrait.seen g.A.ArenaTrait.entry g.A.ChainArenaTrait.interlinks g.met.A.ArenaTrait.rises g.met.A.ArenaTrait.looked_up b (option_map g.P.PtrKey.key c.self.inside.current)) (removal.same c.in_err-task.was) ∙ c.self.view_is,
       λ among. no_task (g.A.ArenaTrait.entry a) (g.A.ChainArenaTrait.interlinks a) (option_map g.P.PtrKey.key c.self.inside.current) _ p c.self.invariant
-          (λ valid. let is = removal.valid valid in let none = ap is_some c.in_err-task.was in let both = sym is ∙ none in cc) (subst (IsAmong p) (sym c.self.view_is) among),
+          (λ valid. let is = removal.valid valid in let none = ap is_some c.in_err-task.was in let both = sym is ∙ none in cc) (subst (IsAmong p) (sym (ap (λ (q : Queue g.row.P-Gen.Denot g.row.T.Denot). q.turn) c.self.view_is)) among),
     )

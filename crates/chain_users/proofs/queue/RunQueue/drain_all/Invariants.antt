@@ -5,8 +5,9 @@ use Rattle.chain_users.proofs.queue.RunQueue.drain_all.Given as goal
 
 abbrev pub invariant-loop-k : goal.invariant-loop-k
 invariant-loop-k g l = record {
-  tasks : l.drained.items ++ map (λ (e : Item g.row.P-Gen.Denot g.row.T.Denot). e.1) l.self ≡ map (λ (e : Item g.row.P-Gen.Denot g.row.T.Denot). e.1) l.fn.self;
-  left : l.k + length l.self ≡ l.count;
+  tasks : l.drained.items ++ map (λ (e : Item g.row.P-Gen.Denot g.row.T.Denot). e.1) l.self.turn ≡ map (λ (e : Item g.row.P-Gen.Denot g.row.T.Denot). e.1) l.fn.self.turn;
+  left : l.k + length l.self.turn ≡ l.count;
   len : vec_len l.drained ≡ l.k;
-  room : l.count ≤ vec_capacity l.drained;
+  fits : l.count ≤ vec_capacity l.drained;
+  room : l.self.room ≡ l.fn.self.room;
 }

@@ -1,6 +1,7 @@
 -- All that the arena holds stands in turn, once.
 use Rattle.std.proofs.Common.{◌∙◌, ap, length}
 use Rattle.std.specs.Option.{option_map}
+use Rattle.chain_users.specs.Turns.{Queue}
 use Rattle.chain_users.proofs.Turns.{turn_length}
 use Rattle.chain_users.proofs.queue.RunQueue.len.Goals as goal
 
@@ -8,4 +9,4 @@ pub returns : goal.returns
 returns g c =
     let a = c.self.inside.tasks in
     c.len.ensures.count ∙ (turn_length (g.A.ArenaTrait.entry a) (g.A.ChainArenaTrait.interlinks a) (option_map g.P.PtrKey.key c.self.inside.current) _ (g.A.ArenaTrait.seen a).entries c.self.invariant
-    (g.met.A.ArenaTrait.rises a) (g.met.A.ArenaTrait.looked_up a) ∙ ap length c.self.view_is)
+    (g.met.A.ArenaTrait.rises a) (g.met.A.ArenaTrait.looked_up a) ∙ ap (λ (q : Queue g.row.P-Gen.Denot g.row.T.Denot). length q.turn) c.self.view_is)

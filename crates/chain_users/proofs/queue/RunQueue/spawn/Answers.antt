@@ -2,8 +2,8 @@
 use Rattle.std.proofs.Common.{◌≡◌, ◌∙◌, ap, subst, sym, List, ◌∷◌, ◌++◌, [], Option}
 use Rattle.std.specs.Option.{option_map}
 use Rattle.chain_users.specs.Lists.{Item}
-use Rattle.chain_users.specs.Turns.{IsTurn}
-use Rattle.chain_users.proofs.Turns.{turn_in, first_comes, last_comes, current_stands, link_stands}
+use Rattle.chain_users.specs.Turns.{Queue, IsTurn}
+use Rattle.chain_users.proofs.Turns.{turn_in, has_room, first_comes, last_comes, current_stands, link_stands}
 use Rattle.chain_users.proofs.queue.RunQueue.spawn.Given.{Over}
 use Rattle.chain_users.proofs.queue.RunQueue.spawn.Goals as goal
 
@@ -34,7 +34,7 @@ returns-in_ok-p-in-None-clause-last g c =
     let a = c.self.inside.tasks in
     let p = g.P.PtrKey.key c.in_ok-p-in-None.p in
     (first_comes g.A.ArenaTrait.seen g.A.ArenaTrait.entry g.A.ChainArenaTrait.interlinks g.met.A.ArenaTrait.rises g.met.A.ArenaTrait.looked_up a c.insert.new.self p c.args.task (turn g a c.self.inside.current) c.in_ok-p-in-None.ensures.inserted (known g a c.self.inside.current _ c.in-None.is c.self.invariant)).is_found
-    ∙ ap (λ xs. xs ++ (p, c.args.task) ∷ []) c.self.view_is
+    ∙ ap (λ (q : Queue g.row.P-Gen.Denot g.row.T.Denot). q.turn ++ (p, c.args.task) ∷ []) c.self.view_is
 
 pub invariant_of-self-in-Some : goal.invariant_of-self-in-Some
 invariant_of-self-in-Some g c =
@@ -49,4 +49,25 @@ returns-in_ok-p-in-Some-clause-last g c =
     let p = g.P.PtrKey.key c.in_ok-p-in-Some.p in
     ap (turn g c.insert-in-Some.new.self) c.in-Some.is
     ∙ ((last_comes g.A.ArenaTrait.seen g.A.ArenaTrait.entry g.A.ChainArenaTrait.interlinks g.met.A.ArenaTrait.rises g.met.A.ArenaTrait.looked_up a c.insert-in-Some.new.self p c.args.task (turn g a c.self.inside.current) (g.P.PtrKey.key c.in-Some.current) c.in_ok-p-in-Some.ensures.inserted (known g a c.self.inside.current _ c.in-Some.is c.self.invariant)).is_found
-    ∙ ap (λ xs. xs ++ (p, c.args.task) ∷ []) c.self.view_is)
+    ∙ ap (λ (q : Queue g.row.P-Gen.Denot g.row.T.Denot). q.turn ++ (p, c.args.task) ∷ []) c.self.view_is)
+
+-- where there is room in the queue, the arena has room, so that the call succeeds
+pub returns-in_ok-p-in-None-clause-room : goal.returns-in_ok-p-in-None-clause-room
+returns-in_ok-p-in-None-clause-room g c = λ less.
+    let kept = c.in_ok-p-in-None.ensures.room (has_room g.A.ArenaTrait.seen g.A.ArenaTrait.entry g.A.ChainArenaTrait.interlinks g.met.A.ArenaTrait.rises g.met.A.ArenaTrait.looked_up c.self.inside.tasks (option_map g.P.PtrKey.key c.self.inside.current) c.args.self.now c.self.invariant c.self.view_is less) in
+    (kept.0, kept.1 ∙ ap (λ (q : Queue g.row.P-Gen.Denot g.row.T.Denot). q.room) c.self.view_is)
+
+pub returns-in_ok-p-in-Some-clause-room : goal.returns-in_ok-p-in-Some-clause-room
+returns-in_ok-p-in-Some-clause-room g c = λ less.
+    let kept = c.in_ok-p-in-Some.ensures.room (has_room g.A.ArenaTrait.seen g.A.ArenaTrait.entry g.A.ChainArenaTrait.interlinks g.met.A.ArenaTrait.rises g.met.A.ArenaTrait.looked_up c.self.inside.tasks (option_map g.P.PtrKey.key c.self.inside.current) c.args.self.now c.self.invariant c.self.view_is less) in
+    (kept.0, kept.1 ∙ ap (λ (q : Queue g.row.P-Gen.Denot g.row.T.Denot). q.room) c.self.view_is)
+
+pub returns-in_err-p-in-None-clause-room : goal.returns-in_err-p-in-None-clause-room
+returns-in_err-p-in-None-clause-room g c = λ less.
+    let kept = c.in_err-p-in-None.ensures.room (has_room g.A.ArenaTrait.seen g.A.ArenaTrait.entry g.A.ChainArenaTrait.interlinks g.met.A.ArenaTrait.rises g.met.A.ArenaTrait.looked_up c.self.inside.tasks (option_map g.P.PtrKey.key c.self.inside.current) c.args.self.now c.self.invariant c.self.view_is less) in
+    absurd (let succeeds = kept.0 in cc)
+
+pub returns-in_err-p-in-Some-clause-room : goal.returns-in_err-p-in-Some-clause-room
+returns-in_err-p-in-Some-clause-room g c = λ less.
+    let kept = c.in_err-p-in-Some.ensures.room (has_room g.A.ArenaTrait.seen g.A.ArenaTrait.entry g.A.ChainArenaTrait.interlinks g.met.A.ArenaTrait.rises g.met.A.ArenaTrait.looked_up c.self.inside.tasks (option_map g.P.PtrKey.key c.self.inside.current) c.args.self.now c.self.invariant c.self.view_is less) in
+    absurd (let succeeds = kept.0 in cc)
