@@ -1,5 +1,6 @@
 //! Each user of arenas of links at chain arenas over two stacks, and at the arena that hands each call on: rows of tables, each
-//! with what it answers. A list of values below 10 is told as the number that has them as its digits.
+//! with what it answers. A list of values below 10 is told as the number that has them as its digits. No body but the tests has a
+//! way to end a test: each table answers the place of the first row that is not as it says.
 
 mod bookmarks;
 mod polygons;
@@ -7,7 +8,7 @@ mod texts;
 mod turns;
 
 use arena_base::ArenaSlot;
-use arena_ptr::{ChunkStack, PtrKey, ToolPtr};
+use arena_ptr::{ChunkStack, HeapStack, PtrKey, SlotStack, ToolPtr};
 use bookmarks::Renumbers;
 use chain_arena::{ChainArena, ChainArenaTrait, LinkNoGen};
 use chain_wrapped::Wrapped;
@@ -15,13 +16,11 @@ use std::alloc::Global;
 use std::fmt::Debug;
 use std::process::Abort;
 
-// Slots of links under the tool's pointers.
-type Slot = ArenaSlot<ToolPtr, LinkNoGen<ToolPtr, u32>>;
+// A slot of a link of a number.
+type Slot<P> = ArenaSlot<P, LinkNoGen<P, u32>>;
 
-// Chain arenas over one piece of memory, and in blocks.
-type Chains = ChainArena<ToolPtr, u32>;
-
-type Blocks = ChainArena<ToolPtr, u32, ChunkStack<Slot>>;
+// The first row of a table that is not as it says, from 0 on.
+type Differing = Option<usize>;
 
 // Looks whether a test got what it wants.
 fn same<T: PartialEq + Debug + Drop>(rt: &impl Abort, what: &str, got: T, want: T) {
@@ -52,12 +51,9 @@ fn number<P: PtrKey>(names: &[P], p: Option<P>) -> u32 {
 }
 
 // Notes the pointer of what came, and tells whether something did.
-fn noted<P: PtrKey>(rt: &impl Abort, names: &mut Vec<P>, came: Option<P>) -> bool {
+fn noted<P: PtrKey>(names: &mut Vec<P>, came: Option<P>) -> bool {
     match came {
-        Some(p) => {
-            names.push(p).expect(rt, "memory");
-            true
-        }
+        Some(p) => names.push(p).is_ok(),
         None => false,
     }
 }
@@ -67,30 +63,46 @@ fn with_digit(number: u32, digit: u32) -> u32 {
     number.saturating_mul(10).saturating_add(digit)
 }
 
-// All rows, at one arena.
-fn check_all<P: PtrKey, A: ChainArenaTrait<P, u32> + Drop>(rt: &impl Abort, alloc: Global) {
-    turns::check::<P, A>(rt, alloc);
-    polygons::check::<P, A>(rt, alloc);
-    texts::check::<P, A>(rt, alloc);
+// The rows of turns, of polygons and of texts, at one arena.
+fn played<P: PtrKey, A: ChainArenaTrait<P, u32> + Drop>(alloc: Global) -> [Differing; 3] {
+    [
+        turns::differing::<P, A>(alloc),
+        polygons::differing::<P, A>(alloc),
+        texts::differing::<P, A>(alloc),
+    ]
 }
 
-// .. and at one whose texts can be renumbered.
-fn check_more<P: PtrKey, A: Renumbers<P>>(rt: &impl Abort, alloc: Global) {
-    check_all::<P, A>(rt, alloc);
-    bookmarks::check::<P, A>(rt, alloc);
+// .. and those of bookmarks, at an arena whose texts can be renumbered.
+fn all_played<P: PtrKey, A: Renumbers<P>>(alloc: Global) -> ([Differing; 3], Differing) {
+    (played::<P, A>(alloc), bookmarks::differing::<P, A>(alloc))
+}
+
+// .. at a chain arena. It is named here, over any stack, since that costs less than at one.
+fn played_over<P: PtrKey, S: SlotStack<Item = Slot<P>>>(
+    alloc: Global,
+) -> ([Differing; 3], Differing) {
+    all_played::<P, ChainArena<P, u32, S>>(alloc)
+}
+
+// .. at one that hands each call on.
+fn played_handed_on<P: PtrKey, S: SlotStack<Item = Slot<P>>>(alloc: Global) -> [Differing; 3] {
+    played::<P, Wrapped<ChainArena<P, u32, S>>>(alloc)
 }
 
 #[test]
 fn over_one_piece_of_memory(rt: HostRuntime) {
-    check_more::<ToolPtr, Chains>(&rt, rt.alloc());
+    let differing = played_over::<ToolPtr, HeapStack<Slot<ToolPtr>>>(rt.alloc());
+    same(&rt, "rows", differing, ([None; 3], None));
 }
 
 #[test]
 fn in_blocks(rt: HostRuntime) {
-    check_more::<ToolPtr, Blocks>(&rt, rt.alloc());
+    let differing = played_over::<ToolPtr, ChunkStack<Slot<ToolPtr>>>(rt.alloc());
+    same(&rt, "rows", differing, ([None; 3], None));
 }
 
 #[test]
 fn over_an_arena_that_hands_each_call_on(rt: HostRuntime) {
-    check_all::<ToolPtr, Wrapped<Chains>>(&rt, rt.alloc());
+    let differing = played_handed_on::<ToolPtr, HeapStack<Slot<ToolPtr>>>(rt.alloc());
+    same(&rt, "rows", differing, [None; 3]);
 }

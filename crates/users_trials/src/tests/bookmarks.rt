@@ -1,14 +1,13 @@
 //! A text edited, renumbered, and its bookmarks followed.
 
 use super::texts::{Edit, edited, read};
-use super::{Slot, name, same};
-use arena_ptr::{PtrKey, SlotStack, ToolPtr};
+use super::{Differing, Slot, name};
+use arena_ptr::{PtrKey, SlotStack};
 use chain_arena::{ChainArena, ChainArenaTrait};
 use chain_users::Documents;
 use std::alloc::Global;
-use std::process::Abort;
 
-// An arena whose texts can be renumbered.
+// An arena whose texts can be renumbered: what bookmarks ask of one, so that a body need not name it.
 pub(super) trait Renumbers<P: PtrKey>: ChainArenaTrait<P, u32> + Drop {
     fn renumber(
         texts: &mut Documents<P, u32, Self>,
@@ -17,11 +16,11 @@ pub(super) trait Renumbers<P: PtrKey>: ChainArenaTrait<P, u32> + Drop {
     ) -> bool;
 }
 
-impl<S: SlotStack<Item = Slot>> Renumbers<ToolPtr> for ChainArena<ToolPtr, u32, S> {
+impl<P: PtrKey, S: SlotStack<Item = Slot<P>>> Renumbers<P> for ChainArena<P, u32, S> {
     fn renumber(
-        texts: &mut Documents<ToolPtr, u32, Self>,
+        texts: &mut Documents<P, u32, Self>,
         alloc: Global,
-        marks: &mut [Option<ToolPtr>],
+        marks: &mut [Option<P>],
     ) -> bool {
         texts.renumber(alloc, marks).is_ok()
     }
@@ -42,45 +41,54 @@ const EDITS: [Edit; 7] = [
 // none, nothing.
 const MARKS: [(usize, u32); 5] = [(5, 32), (1, 0), (4, 6), (0, 0), (2, 56)];
 
-// The bookmarks that name these paragraphs; 0 is none.
-fn marks<P: PtrKey>(rt: &impl Abort, alloc: Global, names: &[P]) -> Vec<Option<P>> {
+// The bookmarks that name these paragraphs; 0 is none. Where memory is refused there are fewer.
+fn marks<P: PtrKey>(alloc: Global, names: &[P]) -> Vec<Option<P>> {
     let mut marks = Vec::new(alloc);
     for (n, _) in MARKS {
         let mark = if n == 0 { None } else { Some(name(names, n)) };
-        marks.push(mark).expect(rt, "memory");
+        let _ = marks.push(mark);
     }
     marks
 }
 
-// What each bookmark reads.
-fn followed<P: PtrKey, A: ChainArenaTrait<P, u32> + Drop>(
-    rt: &impl Abort,
-    texts: &Documents<P, u32, A>,
-    marks: &[Option<P>],
-) {
-    for (mark, (_, want)) in marks.iter().zip(MARKS) {
-        same(rt, "followed", read(texts, *mark, false), want);
+// The first edit that is not done.
+fn not_done<P: PtrKey, A: ChainArenaTrait<P, u32> + Drop>(
+    texts: &mut Documents<P, u32, A>,
+    names: &mut Vec<P>,
+) -> Differing {
+    for (place, edit) in EDITS.iter().enumerate() {
+        if !edited(texts, names, *edit) {
+            return Some(place);
+        }
     }
+    None
 }
 
-pub(super) fn check<P: PtrKey, A: Renumbers<P>>(rt: &impl Abort, alloc: Global) {
+// The first bookmark that reads something else, and how many there are.
+fn followed<P: PtrKey, A: ChainArenaTrait<P, u32> + Drop>(
+    texts: &Documents<P, u32, A>,
+    marks: &[Option<P>],
+) -> Differing {
+    for (place, (_, want)) in MARKS.iter().enumerate() {
+        match marks.get(place) {
+            Some(mark) if read(texts, *mark, false) == *want => {}
+            _ => return Some(place),
+        }
+    }
+    None
+}
+
+// The edits, the renumbering, what each bookmark reads then, and that a pointer of before is of none.
+pub(super) fn differing<P: PtrKey, A: Renumbers<P>>(alloc: Global) -> Differing {
     let mut texts = Documents::<P, u32, A>::new(alloc);
     let mut names = Vec::new(alloc);
-    for edit in EDITS {
-        same(rt, "done", edited(rt, &mut texts, &mut names, edit), true);
+    if let Some(place) = not_done(&mut texts, &mut names) {
+        return Some(place);
     }
-    let mut marks = marks(rt, alloc, &names);
-    same(
-        rt,
-        "renumbered",
-        A::renumber(&mut texts, alloc, marks.as_mut_slice()),
-        true,
-    );
-    followed(rt, &texts, &marks);
-    same(
-        rt,
-        "the old one",
-        read(&texts, Some(name(&names, 3)), false),
-        0,
-    );
+    let mut marks = marks(alloc, &names);
+    let renumbered = A::renumber(&mut texts, alloc, marks.as_mut_slice());
+    if !renumbered || read(&texts, Some(name(&names, 3)), false) != 0 {
+        return Some(EDITS.len());
+    }
+    followed(&texts, &marks)
 }

@@ -1,11 +1,10 @@
 //! A square triangulated and put together again.
 
-use super::{name, noted, same, with_digit};
+use super::{Differing, name, noted, with_digit};
 use arena_ptr::PtrKey;
 use chain_arena::ChainArenaTrait;
 use chain_users::Mesh;
 use std::alloc::Global;
-use std::process::Abort;
 
 // What is done with polygons, whose corners are named by the order in which they came.
 #[derive(Clone, Copy)]
@@ -18,10 +17,13 @@ enum Change {
     Remove(usize),
 }
 
-// A change, whether it is done, a corner, and the points from that one on, once round. The square of the points 1 to 4 is split
+// A change, whether it is done, a corner, and the points from that one on, once round.
+type Row = (Change, bool, usize, u32);
+
+// The square of the points 1 to 4 is split
 // along a diagonal, and one triangle looked at after the other; both are merged, and the copies of the ends of the diagonal are
 // removed. Then it is cut, and merged again.
-const ROWS: [(Change, bool, usize, u32); 16] = [
+const ROWS: [Row; 16] = [
     (Change::Start(1), true, 1, 1),
     (Change::After(1, 2), true, 1, 12),
     (Change::After(2, 3), true, 1, 123),
@@ -40,23 +42,56 @@ const ROWS: [(Change, bool, usize, u32); 16] = [
     (Change::After(6, 9), false, 3, 3412),
 ];
 
-// Does a change, and tells whether it is done.
+// The corners that a change names, and its point; 0 for none.
+fn named(change: Change) -> (usize, usize, u32) {
+    match change {
+        Change::Start(t) => (0, 0, t),
+        Change::After(n, t) => (n, 0, t),
+        Change::Cut(n, m) | Change::Merge(n, m) | Change::Split(n, m) => (n, m, 0),
+        Change::Remove(n) => (n, 0, 0),
+    }
+}
+
+// Splits a polygon, and notes both copies.
+fn split<P: PtrKey, A: ChainArenaTrait<P, u32> + Drop>(
+    mesh: &mut Mesh<P, u32, A>,
+    names: &mut Vec<P>,
+    p: P,
+    q: P,
+) -> bool {
+    match mesh.split(p, q) {
+        Ok(Some((c, d))) => noted(names, Some(c)) && noted(names, Some(d)),
+        _ => false,
+    }
+}
+
+// Does a change, and tells whether it is done: a corner comes, ...
 fn changed<P: PtrKey, A: ChainArenaTrait<P, u32> + Drop>(
-    rt: &impl Abort,
     mesh: &mut Mesh<P, u32, A>,
     names: &mut Vec<P>,
     change: Change,
 ) -> bool {
+    let (n, m, t) = named(change);
+    let (p, q) = (name(names, n), name(names, m));
     match change {
-        Change::Start(t) => noted(rt, names, mesh.start(t).ok()),
-        Change::After(n, t) => noted(rt, names, mesh.insert_after(name(names, n), t).ok()),
-        Change::Cut(n, m) => mesh.cut(name(names, n), name(names, m)).is_some(),
-        Change::Merge(n, m) => mesh.merge(name(names, n), name(names, m)).is_some(),
-        Change::Split(n, m) => match mesh.split(name(names, n), name(names, m)) {
-            Ok(Some((p, q))) => noted(rt, names, Some(p)) && noted(rt, names, Some(q)),
-            _ => false,
-        },
-        Change::Remove(n) => mesh.remove(name(names, n)).is_some(),
+        Change::Start(_) => noted(names, mesh.start(t).ok()),
+        Change::After(..) => noted(names, mesh.insert_after(p, t).ok()),
+        Change::Split(..) => split(mesh, names, p, q),
+        _ => relinked(mesh, change, p, q),
+    }
+}
+
+// .. or none.
+fn relinked<P: PtrKey, A: ChainArenaTrait<P, u32> + Drop>(
+    mesh: &mut Mesh<P, u32, A>,
+    change: Change,
+    p: P,
+    q: P,
+) -> bool {
+    match change {
+        Change::Cut(..) => mesh.cut(p, q).is_some(),
+        Change::Merge(..) => mesh.merge(p, q).is_some(),
+        _ => mesh.remove(p).is_some(),
     }
 }
 
@@ -74,12 +109,26 @@ fn round<P: PtrKey, A: ChainArenaTrait<P, u32> + Drop>(mesh: &Mesh<P, u32, A>, f
     all
 }
 
-pub(super) fn check<P: PtrKey, A: ChainArenaTrait<P, u32> + Drop>(rt: &impl Abort, alloc: Global) {
+// Whether a row is as it says.
+fn holds<P: PtrKey, A: ChainArenaTrait<P, u32> + Drop>(
+    mesh: &mut Mesh<P, u32, A>,
+    names: &mut Vec<P>,
+    row: &Row,
+) -> bool {
+    let (change, done, n, points) = *row;
+    let is_done = changed(mesh, names, change);
+    mesh.all_in_polygons();
+    is_done == done && round(mesh, name(names, n)) == points
+}
+
+// The rows, at a new mesh.
+pub(super) fn differing<P: PtrKey, A: ChainArenaTrait<P, u32> + Drop>(alloc: Global) -> Differing {
     let mut mesh = Mesh::<P, u32, A>::new(alloc);
     let mut names = Vec::new(alloc);
-    for (change, done, n, points) in ROWS {
-        same(rt, "done", changed(rt, &mut mesh, &mut names, change), done);
-        mesh.all_in_polygons();
-        same(rt, "round", round(&mesh, name(&names, n)), points);
+    for (place, row) in ROWS.iter().enumerate() {
+        if !holds(&mut mesh, &mut names, row) {
+            return Some(place);
+        }
     }
+    None
 }

@@ -1,11 +1,10 @@
 //! A text edited: paragraphs come, move and go, and its parts change places.
 
-use super::{name, noted, same, with_digit};
+use super::{Differing, name, noted, with_digit};
 use arena_ptr::PtrKey;
 use chain_arena::ChainArenaTrait;
 use chain_users::Documents;
 use std::alloc::Global;
-use std::process::Abort;
 
 // What is done with texts, whose paragraphs are named by the order in which they came.
 #[derive(Clone, Copy)]
@@ -21,7 +20,9 @@ pub(super) enum Edit {
 }
 
 // An edit, whether it is done, a paragraph, and the text from that one on, and then back from it.
-const ROWS: [(Edit, bool, usize, u32, u32); 20] = [
+type Row = (Edit, bool, usize, u32, u32);
+
+const ROWS: [Row; 20] = [
     (Edit::Begin(1), true, 1, 1, 1),
     (Edit::After(1, 3), true, 1, 13, 1),
     (Edit::Before(2, 2), true, 1, 123, 1),
@@ -44,22 +45,45 @@ const ROWS: [(Edit, bool, usize, u32, u32); 20] = [
     (Edit::After(1, 5), false, 3, 2, 2),
 ];
 
-// Does an edit, and tells whether it is done.
+// The paragraphs that an edit names, and its value; 0 for none.
+fn named(edit: Edit) -> (usize, usize, u32) {
+    match edit {
+        Edit::Begin(t) => (0, 0, t),
+        Edit::After(n, t) | Edit::Before(n, t) => (n, 0, t),
+        Edit::Join(n, m) | Edit::Move(n, m) => (n, m, 0),
+        Edit::PartAfter(n) | Edit::PartBefore(n) | Edit::Remove(n) => (n, 0, 0),
+    }
+}
+
+// Does an edit, and tells whether it is done: a paragraph comes, ...
 pub(super) fn edited<P: PtrKey, A: ChainArenaTrait<P, u32> + Drop>(
-    rt: &impl Abort,
     texts: &mut Documents<P, u32, A>,
     names: &mut Vec<P>,
     edit: Edit,
 ) -> bool {
+    let (n, m, t) = named(edit);
+    let (p, q) = (name(names, n), name(names, m));
     match edit {
-        Edit::Begin(t) => noted(rt, names, texts.begin(t).ok()),
-        Edit::After(n, t) => noted(rt, names, texts.insert_after(name(names, n), t).ok()),
-        Edit::Before(n, t) => noted(rt, names, texts.insert_before(name(names, n), t).ok()),
-        Edit::PartAfter(n) => texts.part_after(name(names, n)).is_some(),
-        Edit::PartBefore(n) => texts.part_before(name(names, n)).is_some(),
-        Edit::Join(n, m) => texts.join(name(names, n), name(names, m)).is_some(),
-        Edit::Move(n, m) => texts.move_after(name(names, n), name(names, m)).is_some(),
-        Edit::Remove(n) => texts.remove(name(names, n)).is_some(),
+        Edit::Begin(_) => noted(names, texts.begin(t).ok()),
+        Edit::After(..) => noted(names, texts.insert_after(p, t).ok()),
+        Edit::Before(..) => noted(names, texts.insert_before(p, t).ok()),
+        _ => moved(texts, edit, p, q),
+    }
+}
+
+// .. or none.
+fn moved<P: PtrKey, A: ChainArenaTrait<P, u32> + Drop>(
+    texts: &mut Documents<P, u32, A>,
+    edit: Edit,
+    p: P,
+    q: P,
+) -> bool {
+    match edit {
+        Edit::PartAfter(_) => texts.part_after(p).is_some(),
+        Edit::PartBefore(_) => texts.part_before(p).is_some(),
+        Edit::Join(..) => texts.join(p, q).is_some(),
+        Edit::Move(..) => texts.move_after(p, q).is_some(),
+        _ => texts.remove(p).is_some(),
     }
 }
 
@@ -81,13 +105,26 @@ pub(super) fn read<P: PtrKey, A: ChainArenaTrait<P, u32> + Drop>(
     all
 }
 
-pub(super) fn check<P: PtrKey, A: ChainArenaTrait<P, u32> + Drop>(rt: &impl Abort, alloc: Global) {
+// Whether a row is as it says.
+fn holds<P: PtrKey, A: ChainArenaTrait<P, u32> + Drop>(
+    texts: &mut Documents<P, u32, A>,
+    names: &mut Vec<P>,
+    row: &Row,
+) -> bool {
+    let (edit, done, n, ahead, behind) = *row;
+    let is_done = edited(texts, names, edit);
+    let from = Some(name(names, n));
+    is_done == done && read(texts, from, false) == ahead && read(texts, from, true) == behind
+}
+
+// The rows, at new texts.
+pub(super) fn differing<P: PtrKey, A: ChainArenaTrait<P, u32> + Drop>(alloc: Global) -> Differing {
     let mut texts = Documents::<P, u32, A>::new(alloc);
     let mut names = Vec::new(alloc);
-    for (edit, done, n, ahead, behind) in ROWS {
-        same(rt, "done", edited(rt, &mut texts, &mut names, edit), done);
-        let from = Some(name(&names, n));
-        same(rt, "on", read(&texts, from, false), ahead);
-        same(rt, "back", read(&texts, from, true), behind);
+    for (place, row) in ROWS.iter().enumerate() {
+        if !holds(&mut texts, &mut names, row) {
+            return Some(place);
+        }
     }
+    None
 }

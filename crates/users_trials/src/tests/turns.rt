@@ -1,11 +1,10 @@
 //! A round robin of five tasks with cancellations.
 
-use super::{name, noted, number, same, with_digit};
+use super::{Differing, name, noted, number, with_digit};
 use arena_ptr::PtrKey;
 use chain_arena::ChainArenaTrait;
 use chain_users::RunQueue;
 use std::alloc::Global;
-use std::process::Abort;
 
 // What is done with a queue, whose tasks are named by the order in which they came. It answers a number.
 #[derive(Clone, Copy)]
@@ -17,12 +16,15 @@ enum Turn {
     Current,
     // The task of a number is cancelled. 0: it is none.
     Cancel(usize),
-    // How many there are.
+    // How many there are, and whether there is room for these: 1.
     Count,
+    HasRoom,
+    // All that are left, in turn.
+    Drain,
 }
 
 // The first is current; the third is cancelled while another is current, and the fifth while it is.
-const ROUND: [(Turn, u32); 21] = [
+const ROWS: [(Turn, u32); 24] = [
     (Turn::Next, 0),
     (Turn::Spawn(4), 1),
     (Turn::Spawn(5), 2),
@@ -43,49 +45,74 @@ const ROUND: [(Turn, u32); 21] = [
     (Turn::Cancel(5), 8),
     (Turn::Current, 1),
     (Turn::Count, 3),
+    (Turn::HasRoom, 1),
     (Turn::Next, 2),
+    (Turn::Drain, 574),
+    (Turn::Count, 0),
 ];
 
-// What is done, and its number.
-fn played<P: PtrKey, A: ChainArenaTrait<P, u32> + Drop>(
-    rt: &impl Abort,
+// A task comes: as the how manieth.
+fn spawned<P: PtrKey, A: ChainArenaTrait<P, u32> + Drop>(
+    queue: &mut RunQueue<P, u32, A>,
+    names: &mut Vec<P>,
+    task: u32,
+) -> u32 {
+    let came = queue.spawn(task).ok();
+    noted(names, came);
+    number(names, came)
+}
+
+// The tasks that are left, in turn. 0: there are none, or there was no memory for them.
+fn drained<P: PtrKey, A: ChainArenaTrait<P, u32> + Drop>(
+    alloc: Global,
+    queue: &mut RunQueue<P, u32, A>,
+) -> u32 {
+    let mut all = 0;
+    if let Ok(tasks) = queue.drain_all(alloc) {
+        for task in tasks.as_slice() {
+            all = with_digit(all, *task);
+        }
+    }
+    all
+}
+
+// What is done, and its number, ...
+fn done<P: PtrKey, A: ChainArenaTrait<P, u32> + Drop>(
+    alloc: Global,
     queue: &mut RunQueue<P, u32, A>,
     names: &mut Vec<P>,
     turn: Turn,
 ) -> u32 {
     match turn {
-        Turn::Spawn(task) => {
-            let came = queue.spawn(task).ok();
-            noted(rt, names, came);
-            number(names, came)
-        }
+        Turn::Spawn(task) => spawned(queue, names, task),
         Turn::Next => number(names, queue.next()),
-        Turn::Current => number(names, queue.current()),
         Turn::Cancel(n) => queue.cancel(name(names, n)).unwrap_or(0),
-        Turn::Count => u32::try_from(queue.len()).unwrap_or(0),
+        Turn::Drain => drained(alloc, queue),
+        look => looked(queue, names, look),
     }
 }
 
-// The tasks that are left, in turn.
-fn drained<P: PtrKey, A: ChainArenaTrait<P, u32> + Drop>(
-    rt: &impl Abort,
-    alloc: Global,
-    queue: &mut RunQueue<P, u32, A>,
+// .. where it changes nothing.
+fn looked<P: PtrKey, A: ChainArenaTrait<P, u32> + Drop>(
+    queue: &RunQueue<P, u32, A>,
+    names: &[P],
+    turn: Turn,
 ) -> u32 {
-    let tasks = queue.drain_all(alloc).expect(rt, "memory");
-    let mut all = 0;
-    for task in tasks.as_slice() {
-        all = with_digit(all, *task);
+    match turn {
+        Turn::Current => number(names, queue.current()),
+        Turn::HasRoom => u32::from(queue.capacity() >= queue.len()),
+        _ => u32::try_from(queue.len()).unwrap_or(u32::MAX),
     }
-    all
 }
 
-// The round, and who is left.
-pub(super) fn check<P: PtrKey, A: ChainArenaTrait<P, u32> + Drop>(rt: &impl Abort, alloc: Global) {
+// The rows, at a new queue.
+pub(super) fn differing<P: PtrKey, A: ChainArenaTrait<P, u32> + Drop>(alloc: Global) -> Differing {
     let mut queue = RunQueue::<P, u32, A>::new(alloc);
     let mut names = Vec::new(alloc);
-    for (turn, want) in ROUND {
-        same(rt, "a turn", played(rt, &mut queue, &mut names, turn), want);
+    for (row, (turn, want)) in ROWS.iter().enumerate() {
+        if done(alloc, &mut queue, &mut names, *turn) != *want {
+            return Some(row);
+        }
     }
-    same(rt, "left, in turn", drained(rt, alloc, &mut queue), 574);
+    None
 }
