@@ -4,6 +4,14 @@ use Rattle.chain_laws.specs.Chains.{Shown, Has, HasNoRepetition}
 use Rattle.arena_base.specs.Entries.{first_key, last_key}
 use Rattle.chain_users.specs.Lists.{Item, indexes, IsText}
 
+module _ {A Gen T : Type 0} (entry : A → ℕ → Option (Gen × T)) (links : A → Shown) (arena : A) where
+  -- p stands between these two in its text, and neither, where there is one, stands in a text without p
+  pub record StandsBetween (p : ℕ × Gen) (u v : Option (ℕ × Gen)) : Type 0 where
+    pub before : (t : T) (before after : List (Item Gen T)) → IsText entry links arena (before ++ (p, t) ∷ after) → u ≡ last_key before
+    pub after : (t : T) (before after : List (Item Gen T)) → IsText entry links arena (before ++ (p, t) ∷ after) → v ≡ first_key after
+    pub with_before : IfSome u (λ q. (text : List (Item Gen T)) → IsText entry links arena text → Has (indexes text) q.0 → Has (indexes text) p.0)
+    pub with_after : IfSome v (λ q. (text : List (Item Gen T)) → IsText entry links arena text → Has (indexes text) q.0 → Has (indexes text) p.0)
+
 module _ {A Gen T : Type 0} (entry : A → ℕ → Option (Gen × T)) (links : A → Shown) (old new : A) where
   -- the text of p ends in p, and what came after it, if something did, is a text of its own
   abbrev pub EndsIn : ℕ × Gen → Type 0

@@ -10,7 +10,7 @@ ghost use Rattle.chain_links.specs.Calls.{SucceedsInRoom};
 ghost use Rattle.chain_links.specs.ChainArena.{IsInserted, CanConnect, entry, seen, shown};
 ghost use Rattle.chain_users.specs.Renumbering.{IsRenumbered};
 ghost use Rattle.chain_users.specs.Lists.{Item, indexes, IsText, KeepsWithout, ComesAfter, ComesBefore, Leaves};
-ghost use Rattle.chain_users.specs.Texts.{EndsIn, BeginsWith, AreJoined, IsClosed, StandsAlone, IsPutAfter, IsMovedAfter};
+ghost use Rattle.chain_users.specs.Texts.{StandsBetween, EndsIn, BeginsWith, AreJoined, IsClosed, StandsAlone, IsPutAfter, IsMovedAfter};
 
 use crate::bookmarks::renumber;
 use arena_base::ArenaSlot;
@@ -196,17 +196,30 @@ impl<P: PtrKey, T: Drop, A: ChainArenaTrait<P, T> + Drop> Documents<P, T, A> {
         self.join(p, q)
     }
 
-    // Takes a paragraph out of its text: it is a text of its own.
-    fn set_apart(&mut self, p: P)
+    // The pointers of the paragraphs before and after another, by one look. `None`: the pointer is of no paragraph.
+    fn beside(&self, p: P) -> Option<(Option<P>, Option<P>)>
+        ensures some { IsSome result ↔ IsValid (A.entry self.now) (P.key p) }
+        ensures between { IfSome result (λ r. StandsBetween A.entry A.interlinks self.now (P.key p) (option_map P.key r.0) (option_map P.key r.1)) }
+    {
+        match self.paragraphs.get_link(p) {
+            Some(link) => Some(link.prev_next()),
+            None => None,
+        }
+    }
+
+    // Takes a paragraph out of its text: it is a text of its own. `None`: the pointer is of no paragraph, and nothing has changed.
+    fn set_apart(&mut self, p: P) -> Option<()>
+        ensures some { IsSome result ↔ IsValid (A.entry self.old) (P.key p) }
         ensures texts { StandsAlone A.entry A.interlinks self.old self.new (P.key p) }
         ensures others { KeepsWithout A.entry A.interlinks linear self.old self.new (P.key p ∷ []) }
         ensures seen { A.seen self.new ≡ A.seen self.old }
+        ensures none { IfNone result (self.new ≡ self.old) }
     {
-        let before = self.prev(p);
-        let after = self.next(p);
+        let (before, after) = self.beside(p)?;
         self.part_before(p);
         self.part_after(p);
         self.close(before, after);
+        Some(())
     }
 
     // Puts a paragraph that is a text of its own directly after another.
@@ -231,10 +244,10 @@ impl<P: PtrKey, T: Drop, A: ChainArenaTrait<P, T> + Drop> Documents<P, T, A> {
         ensures seen { A.seen self.new ≡ A.seen self.old }
         ensures none { IfNone result (self.new ≡ self.old) }
     {
-        if p == q || !self.paragraphs.contains(p) || !self.paragraphs.contains(q) {
+        if p == q || !self.paragraphs.contains(q) {
             return None;
         }
-        self.set_apart(p);
+        self.set_apart(p)?;
         self.put_after(p, q);
         Some(())
     }

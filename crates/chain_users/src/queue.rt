@@ -31,8 +31,8 @@ impl<P: PtrKey, T: Drop, A: ChainArenaTrait<P, T> + Drop> Model for RunQueue<P, 
     ghost Value = { Queue P.Gen T };
 
     ghost view = { λ q. record {
-        turn = turn_of (A.entry q.tasks) (A.interlinks q.tasks) (count (A.seen q.tasks)) (option_map P.key q.current);
-        room = (A.seen q.tasks).capacity;
+      turn = turn_of (A.entry q.tasks) (A.interlinks q.tasks) (count (A.seen q.tasks)) (option_map P.key q.current);
+      room = (A.seen q.tasks).capacity;
     } };
 
     ghost invariant = { λ q. IsTurn (A.entry q.tasks) (A.interlinks q.tasks) (option_map P.key q.current)

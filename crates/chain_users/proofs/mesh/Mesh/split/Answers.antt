@@ -1,10 +1,10 @@
 -- Copies come beside the ends of the diagonal, and what comes after the one end and after the copy of the other is exchanged.
-use Rattle.std.proofs.Common.{◌≡◌, ◌∙◌, ap, refl, sym, subst, Option, Some, ℕ, [], ◌∷◌, ◌+◌, length, arith}
+use Rattle.std.proofs.Common.{◌≡◌, ◌∙◌, ap, refl, sym, subst, Option, Some, ℕ, [], ◌∷◌, length, arith}
 use Rattle.arena_base.specs.Arena.{IsValid}
 use Rattle.chain_users.proofs.Lists.{same_entry, stand_kept}
 use Rattle.chain_users.proofs.Rings.{ring_seen, splits, keeps_split}
 use Rattle.chain_users.proofs.mesh.Mesh.split.Given.{Over}
-use Rattle.chain_users.proofs.mesh.Mesh.split.Goals.{After-cut, After-add_after-arg-1}
+use Rattle.chain_users.proofs.mesh.Mesh.split.Goals.{After-cut}
 use Rattle.chain_users.proofs.mesh.Mesh.split.Goals as goal
 
 module _ (g : Over) (c : After-cut g) where
@@ -50,22 +50,16 @@ add_after-second-requires-clause-valid g c =
     let v = g.P.PtrKey.key c.args.v in
     let stood = subst (λ (f : ℕ → Option (g.row.P-Gen.Denot × g.row.T.Denot)). f v.0 ≡ Some (v.1, c.in-Some.both.1)) (sym same) c.in-Some.ensures.second in
     let stands = stand_kept (g.A.ArenaTrait.entry c.self.inside.corners) (g.A.ArenaTrait.entry c.add_before-first.new.corners) (g.P.PtrKey.key c.add_before-first.result) c.add_before-first.ensures.corner.free c.add_before-first.ensures.corner.rest
-        ((v, c.in-Some.both.1) ∷ []) (stood, tt) in
+    ((v, c.in-Some.both.1) ∷ []) (stood, tt) in
     record { value = c.in-Some.both.1; stands = stands.0 }
-
--- how many there are then
-more : (g : Over) (c : After-add_after-arg-1 g) → length (g.A.ArenaTrait.seen c.add_before-first.new.corners).entries ≡ length (g.A.ArenaTrait.seen c.args.self.now).entries + 1
-more g c =
-    let many = ap (λ (x : g.row.A.Denot). length (g.A.ArenaTrait.seen x).entries) c.self.view_is in
-    let stays = ap length c.make_room_for_two.ensures.entries in
-    let more = c.add_before-first.ensures.size in
-    omega arith
 
 pub add_after-second-requires-clause-room : goal.add_after-second-requires-clause-room
 add_after-second-requires-clause-room g c =
+    let many = ap (λ (x : g.row.A.Denot). length (g.A.ArenaTrait.seen x).entries) c.self.view_is in
     let capacity = ap (λ (x : g.row.A.Denot). (g.A.ArenaTrait.seen x).capacity) c.self.view_is in
-    let stays = c.add_before-first.ensures.capacity in
-    let many = more g c in
+    let stays = ap length c.make_room_for_two.ensures.entries in
+    let more = c.add_before-first.ensures.size in
+    let kept = c.add_before-first.ensures.capacity in
     let room = c.in_ok-make_room_for_two.ensures.room in
     omega arith
 
