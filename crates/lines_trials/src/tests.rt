@@ -17,7 +17,7 @@ use arena_ptr::{
     ChunkStack, Gen32, HeapStack, LimitStack, LimitedStack, SetMaxCapacity, SlotStack, ToolPtr,
 };
 use chain_arena::{ChainArena, ChainArenaTrait, LinkInsertKind, LinkNoGen};
-use chain_lines::{run, run_on};
+use chain_lines::{ToolError, run, run_on};
 use std::alloc::Global;
 use std::fmt::Debug;
 use std::process::Abort;
@@ -50,6 +50,18 @@ fn check_texts(rt: &impl Abort, alloc: Global, rows: &[(&str, &str)]) {
     }
 }
 
+/// Carries out a text on an arena: how that ends, and what is written.
+fn carried_out<S: SlotStack<Item = Slot>>(
+    alloc: Global,
+    arena: &mut LinksOver<S>,
+    input: &str,
+) -> (Result<(), ToolError>, Vec<u8>) {
+    let mut reader = input.as_bytes();
+    let mut written = Vec::new(alloc);
+    let result = run_on(alloc, arena, &mut reader, &mut written);
+    (result, written)
+}
+
 /// Carries out a text on an arena, and looks whether the program writes these lines.
 fn check_on<S: SlotStack<Item = Slot>>(
     rt: &impl Abort,
@@ -58,9 +70,7 @@ fn check_on<S: SlotStack<Item = Slot>>(
     input: &str,
     output: &str,
 ) {
-    let mut reader = input.as_bytes();
-    let mut written = Vec::new(alloc);
-    let result = run_on(alloc, arena, &mut reader, &mut written);
+    let (result, written) = carried_out(alloc, arena, input);
     same(rt, input, result, Ok(()));
     same(rt, input, written.as_slice(), output.as_bytes());
 }
@@ -554,17 +564,21 @@ fn walk_of_the_rest(rt: &impl Abort, alloc: Global) -> String {
     text
 }
 
+/// How many links there are, and how many of them are placed as they are laid out.
+fn placed<S: SlotStack<Item = Slot>>(arena: &mut LinksOver<S>) -> (usize, u128) {
+    let links = arena.len();
+    let (_, work) = arena.compress_canonical_counted(false);
+    (links, work.placed)
+}
+
 /// A chain over three blocks, of which the first is emptied, compressed to the first two: it comes there in its order, and
 /// each link is placed once.
 fn check_chain<S: SlotStack<Item = Slot>>(rt: &impl Abort, alloc: Global) {
     let mut arena = LinksOver::<S>::new(alloc);
     let input = lines_of_a_chain(rt, alloc);
-    let mut reader = input.as_bytes();
-    let mut written = Vec::new(alloc);
-    let result = run_on(alloc, &mut arena, &mut reader, &mut written);
-    same(rt, "added and removed", (result, arena.len()), (Ok(()), 66));
-    let (_, work) = arena.compress_canonical_counted(false);
-    same(rt, "each is placed once", work.placed, 66);
+    let (result, _) = carried_out(alloc, &mut arena, input.as_str());
+    same(rt, "added and removed", result, Ok(()));
+    same(rt, "each is placed once", placed(&mut arena), (66, 66));
     let output = walk_of_the_rest(rt, alloc);
     check_on(rt, alloc, &mut arena, "chain 1.67\n", output.as_str());
 }

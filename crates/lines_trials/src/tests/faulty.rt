@@ -48,17 +48,15 @@ const WRITTEN: [&str; 5] = [
     "at 1.2\ncount 1\nat 2.2\ncount 2\n",
 ];
 
-/// Runs the program on a reader that fails once, after so many bytes, and looks at what it did before, and whether it read
-/// on.
-fn check_reader<S: SlotStack<Item = Slot>>(
-    rt: &impl Abort,
+/// Runs the program on a reader that fails once, after so many bytes: whether it ends for that, whether the whole lines before it
+/// are answered and no other line is carried out, and whether nothing more is read.
+fn ends_at_the_fault<S: SlotStack<Item = Slot>>(
     alloc: Global,
     kind: ErrorKind,
     step: usize,
     bytes: usize,
-) {
+) -> (bool, bool, bool) {
     let (left, later) = READ.as_bytes().split_at(bytes.min(READ.len()));
-    let lines = left.iter().filter(|b| **b == b'\n').count();
     let mut reader = FailingReader {
         left,
         later,
@@ -68,17 +66,18 @@ fn check_reader<S: SlotStack<Item = Slot>>(
     let mut written = Vec::new(alloc);
     let mut arena = LinksOver::<S>::new(alloc);
     let result = run_on(alloc, &mut arena, &mut reader, &mut written);
-    same(rt, "the reader fails", result, Err(ToolError::Read));
+    (
+        result == Err(ToolError::Read),
+        are_answered(left, written.as_slice(), arena.len()),
+        reader.left == later,
+    )
+}
+
+/// Whether what was written and the number of links are those of the whole lines that were read.
+fn are_answered(read: &[u8], written: &[u8], links: usize) -> bool {
+    let lines = read.iter().filter(|b| **b == b'\n').count();
     let want = WRITTEN.get(lines).copied().unwrap_or("no such line");
-    same(
-        rt,
-        "whole lines are answered",
-        written.as_slice(),
-        want.as_bytes(),
-    );
-    let links = lines.saturating_add(1) / 2;
-    same(rt, "no other line is carried out", arena.len(), links);
-    same(rt, "nothing more is read", reader.left, later);
+    written == want.as_bytes() && links == lines.saturating_add(1) / 2
 }
 
 #[test]
@@ -90,7 +89,8 @@ fn a_reader_that_fails_once(rt: HostRuntime) {
     ] {
         for step in [1, 2, 7, 100] {
             for bytes in 0..34 {
-                check_reader::<HeapStack<Slot>>(&rt, rt.alloc(), kind, step, bytes);
+                let ended = ends_at_the_fault::<HeapStack<Slot>>(rt.alloc(), kind, step, bytes);
+                same(&rt, "ended, answered, left", ended, (true, true, true));
             }
         }
     }
@@ -175,30 +175,24 @@ fn failing_writer(
     }
 }
 
-/// Runs the program on a writer that fails once, when it has no room, and looks at what it did before, and whether it
-/// wrote on.
-fn check_writer<S: SlotStack<Item = Slot>>(
-    rt: &impl Abort,
+/// Runs the program on a writer that fails once, when it has no room: whether it ends for that, whether the writer has what it took
+/// before and no more, and whether the line of the last answer is carried out, and none behind it.
+fn ends_at_the_limit<S: SlotStack<Item = Slot>>(
     alloc: Global,
     fails_with: Option<ErrorKind>,
     step: usize,
     room: usize,
-) {
+) -> (bool, bool, bool) {
     let mut reader = "add alone 1\nadd alone 2\nadd alone 3\n".as_bytes();
     let output = "at 1.2\nat 2.2\nat 3.2\n".as_bytes();
     let mut writer = failing_writer(alloc, step, room, fails_with);
     let mut arena = LinksOver::<S>::new(alloc);
     let result = run_on(alloc, &mut arena, &mut reader, &mut writer);
-    same(rt, "the writer fails", result, Err(ToolError::Write));
-    let taken = &output[..room.min(output.len())];
-    let held = writer.held.as_slice();
-    same(rt, "it has what it took before", held, taken);
-    same(
-        rt,
-        "the line of the last answer is carried out",
-        arena.len(),
-        room / 7 + 1,
-    );
+    (
+        result == Err(ToolError::Write),
+        writer.held.as_slice() == &output[..room.min(output.len())],
+        arena.len() == room / 7 + 1,
+    )
 }
 
 #[test]
@@ -206,7 +200,13 @@ fn a_writer_that_fails_once(rt: HostRuntime) {
     for fails_with in [None, Some(ErrorKind::Other), Some(ErrorKind::WriteZero)] {
         for step in [1, 3, 100] {
             for room in 0..21 {
-                check_writer::<HeapStack<Slot>>(&rt, rt.alloc(), fails_with, step, room);
+                let ended = ends_at_the_limit::<HeapStack<Slot>>(
+                    rt.alloc(),
+                    fails_with,
+                    step,
+                    room,
+                );
+                same(&rt, "ended, taken, carried out", ended, (true, true, true));
             }
         }
     }
