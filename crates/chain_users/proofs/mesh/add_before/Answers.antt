@@ -16,3 +16,12 @@ returns-clause-others g c =
     let came = c.in-Ok.ensures.inserted in
     keeps_others g.A.ArenaTrait.entry g.A.ChainArenaTrait.interlinks cyclic (λ l. refl) c.args.corners.now c.insert.new.self (g.P.PtrKey.key c.in-Ok.p) c.args.t came.entries (prev_to (g.P.PtrKey.key c.args.u).0)
     c.insert.ensures.agreed (g.met.A.ChainArenaTrait.stand c.args.corners.now (g.P.PtrKey.key c.in-Ok.p).0) came.chains
+
+pub returns-clause-corner : goal.returns-clause-corner
+returns-clause-corner g c = c.in-Ok.ensures.inserted.entries
+
+pub returns-clause-size : goal.returns-clause-size
+returns-clause-size g c = c.in-Ok.ensures.inserted.more
+
+pub returns-clause-capacity : goal.returns-clause-capacity
+returns-clause-capacity g c = (c.in-Ok.ensures.room c.requires.room).1

@@ -1,9 +1,9 @@
 -- The break is between the paragraph and the one after it, if there is one.
-use Rattle.std.proofs.Common.{ap}
+use Rattle.std.proofs.Common.{ap, ◌∙◌}
 use Rattle.chain_laws.specs.Chains.{next_of}
 use Rattle.chain_laws.specs.Cuts.{Cuts}
 use Rattle.chain_users.proofs.Lists.{same_entry}
-use Rattle.chain_users.proofs.Outcomes.{on_some}
+use Rattle.chain_users.proofs.Outcomes.{on_some, either_some}
 use Rattle.chain_users.proofs.Texts.{Breaks, breaks, ends_in, keeps_ended}
 use Rattle.chain_users.proofs.documents.Documents.part_after.Given.{Over}
 use Rattle.chain_users.proofs.documents.Documents.part_after.Goals.{After-break_next}
@@ -15,8 +15,12 @@ break g c = breaks g.A.ArenaTrait.entry g.A.ChainArenaTrait.interlinks c.self.in
     c.break_next.ensures.some c.break_next.ensures.chains
     (on_some c.break_next.result c.break_next.ensures.seen (λ seen. same_entry (λ x. (g.A.ArenaTrait.seen x).entries) g.A.ArenaTrait.entry g.met.A.ArenaTrait.looked_up c.self.inside.paragraphs c.break_next.new.self (ap (λ s. s.entries) seen))) c.break_next.ensures.none
 
-pub returns-clause-texts : goal.returns-clause-texts
-returns-clause-texts g c = rw (← c.self.view_is) (ends_in g.A.ArenaTrait.entry g.A.ChainArenaTrait.interlinks c.self.inside.paragraphs c.break_next.new.self (g.P.PtrKey.key c.args.p) (break g c))
-
-pub returns-clause-others : goal.returns-clause-others
-returns-clause-others g c = rw (← c.self.view_is) (keeps_ended g.A.ArenaTrait.entry g.A.ChainArenaTrait.interlinks c.self.inside.paragraphs c.break_next.new.self (g.P.PtrKey.key c.args.p) c.break_next.ensures.agreed (break g c))
+pub returns : goal.returns
+returns g c = record {
+  some = rw (← c.self.view_is) c.break_next.ensures.some;
+  texts = rw (← c.self.view_is) (ends_in g.A.ArenaTrait.entry g.A.ChainArenaTrait.interlinks c.self.inside.paragraphs c.break_next.new.self (g.P.PtrKey.key c.args.p) (break g c));
+  others = rw (← c.self.view_is) (keeps_ended g.A.ArenaTrait.entry g.A.ChainArenaTrait.interlinks c.self.inside.paragraphs c.break_next.new.self (g.P.PtrKey.key c.args.p) c.break_next.ensures.agreed (break g c));
+  paragraphs = either_some c.break_next.result c.break_next.ensures.seen c.break_next.ensures.none (λ some seen. same_entry (λ x. (g.A.ArenaTrait.seen x).entries) g.A.ArenaTrait.entry g.met.A.ArenaTrait.looked_up c.self.inside.paragraphs c.break_next.new.self (ap (λ s. s.entries) seen)) (λ same. ap g.A.ArenaTrait.entry same) ∙ ap g.A.ArenaTrait.entry c.self.view_is;
+  seen = either_some c.break_next.result c.break_next.ensures.seen c.break_next.ensures.none (λ some seen. seen) (λ same. ap g.A.ArenaTrait.seen same) ∙ ap g.A.ArenaTrait.seen c.self.view_is;
+  none = rw (← c.self.view_is) c.break_next.ensures.none;
+}

@@ -22,3 +22,12 @@ pub returns-clause-room : goal.returns-clause-room
 returns-clause-room g c =
     let a = c.self.inside.corners in
     rw (← c.self.view_is) (λ valid. c.insert_reallocating.ensures.room (valid, some_valid (g.A.ChainArenaTrait.interlinks a) (g.A.ArenaTrait.entry a) (g.A.ArenaTrait.seen a).entries (g.met.A.ChainArenaTrait.stand a) (g.met.A.ArenaTrait.looked_up a) (g.P.PtrKey.key c.args.corner).0 (ap is_some valid.stands)))
+
+pub returns-clause-corner : goal.returns-clause-corner
+returns-clause-corner g c = rw (← c.self.view_is) (if_ok c.insert_reallocating.result c.insert_reallocating.ensures.inserted (λ q came. came.entries))
+
+pub returns-clause-size : goal.returns-clause-size
+returns-clause-size g c = rw (← c.self.view_is) (if_ok c.insert_reallocating.result c.insert_reallocating.ensures.inserted (λ q came. came.more))
+
+pub returns-clause-err : goal.returns-clause-err
+returns-clause-err g c = rw (← c.self.view_is) c.insert_reallocating.ensures.err

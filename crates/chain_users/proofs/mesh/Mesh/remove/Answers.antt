@@ -15,29 +15,17 @@ it g c =
     (removal g.A.ArenaTrait.seen g.A.ArenaTrait.entry g.A.ChainArenaTrait.interlinks g.met.A.ArenaTrait.rises g.met.A.ArenaTrait.looked_up old new p _ _ c.remove.ensures.some c.remove.ensures.valid c.remove.ensures.invalid
     (λ valid. g.met.A.ChainArenaTrait.passed_over old new p.0 (c.remove.ensures.more valid)) c.agrees.ensures)
 
-pub returns-clause-some : goal.returns-clause-some
-returns-clause-some g c = rw (← c.self.view_is) (λ some. ((it g c).some some).stood, (it g c).valid)
-
-pub returns-clause-point : goal.returns-clause-point
-returns-clause-point g c = rw (← c.self.view_is) (value_told g.A.ArenaTrait.seen g.A.ArenaTrait.entry g.A.ChainArenaTrait.interlinks _ _ _ c.allow.result (it g c))
-
-pub returns-clause-ring : goal.returns-clause-ring
-returns-clause-ring g c = rw (← c.self.view_is) (leaves_of g.A.ArenaTrait.seen g.A.ArenaTrait.entry g.A.ChainArenaTrait.interlinks _ _ _ cyclic (λ l. refl) c.allow.result (it g c) (λ chains. chains.from_cyclic))
-
-pub returns-clause-gone : goal.returns-clause-gone
-returns-clause-gone g c = gone_of g.A.ArenaTrait.seen g.A.ArenaTrait.entry g.A.ChainArenaTrait.interlinks _ _ _ c.allow.result (it g c)
-
-pub returns-clause-corners : goal.returns-clause-corners
-returns-clause-corners g c = rw (← c.self.view_is) (kept_of g.A.ArenaTrait.seen g.A.ArenaTrait.entry g.A.ChainArenaTrait.interlinks _ _ _ c.allow.result (it g c))
-
-pub returns-clause-others : goal.returns-clause-others
-returns-clause-others g c = rw (← c.self.view_is) (keeps_of g.A.ArenaTrait.seen g.A.ArenaTrait.entry g.A.ChainArenaTrait.interlinks _ _ _ cyclic (λ l. refl) c.allow.result (it g c))
-
-pub returns-clause-size : goal.returns-clause-size
-returns-clause-size g c = rw (← c.self.view_is) (less_of g.A.ArenaTrait.seen g.A.ArenaTrait.entry g.A.ChainArenaTrait.interlinks _ _ _ c.allow.result (it g c))
-
-pub returns-clause-none : goal.returns-clause-none
-returns-clause-none g c = rw (← c.self.view_is) (same_of g.A.ArenaTrait.seen g.A.ArenaTrait.entry g.A.ChainArenaTrait.interlinks _ _ _ c.allow.result (it g c))
-
 pub invariant_of-self : goal.invariant_of-self
 invariant_of-self g c = round_of g.A.ArenaTrait.seen g.A.ArenaTrait.entry g.A.ChainArenaTrait.interlinks _ _ _ c.allow.result (it g c) c.agrees.ensures c.self.invariant
+
+pub returns : goal.returns
+returns g c = record {
+  some = rw (← c.self.view_is) (λ some. ((it g c).some some).stood, (it g c).valid);
+  point = rw (← c.self.view_is) (value_told g.A.ArenaTrait.seen g.A.ArenaTrait.entry g.A.ChainArenaTrait.interlinks _ _ _ c.allow.result (it g c));
+  ring = rw (← c.self.view_is) (leaves_of g.A.ArenaTrait.seen g.A.ArenaTrait.entry g.A.ChainArenaTrait.interlinks _ _ _ cyclic (λ l. refl) c.allow.result (it g c) (λ chains. chains.from_cyclic));
+  gone = gone_of g.A.ArenaTrait.seen g.A.ArenaTrait.entry g.A.ChainArenaTrait.interlinks _ _ _ c.allow.result (it g c);
+  corners = rw (← c.self.view_is) (kept_of g.A.ArenaTrait.seen g.A.ArenaTrait.entry g.A.ChainArenaTrait.interlinks _ _ _ c.allow.result (it g c));
+  others = rw (← c.self.view_is) (keeps_of g.A.ArenaTrait.seen g.A.ArenaTrait.entry g.A.ChainArenaTrait.interlinks _ _ _ cyclic (λ l. refl) c.allow.result (it g c));
+  size = rw (← c.self.view_is) (less_of g.A.ArenaTrait.seen g.A.ArenaTrait.entry g.A.ChainArenaTrait.interlinks _ _ _ c.allow.result (it g c));
+  none = rw (← c.self.view_is) (same_of g.A.ArenaTrait.seen g.A.ArenaTrait.entry g.A.ChainArenaTrait.interlinks _ _ _ c.allow.result (it g c));
+}

@@ -69,11 +69,5 @@ invariant_of-self g c = c.add_after-second.ensures.round (c.add_before-first.ens
 pub returns-clause-some : goal.returns-clause-some
 returns-clause-some g c = (λ some. c.in-Some.ensures.some.0 refl, λ valid. refl)
 
-pub returns-clause-none : goal.returns-clause-none
-returns-clause-none g c = tt
-
 pub returns-clause-room : goal.returns-clause-room
 returns-clause-room g c = λ room. refl
-
-pub returns-clause-err : goal.returns-clause-err
-returns-clause-err g c = tt
