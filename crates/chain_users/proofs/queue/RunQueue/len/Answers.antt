@@ -8,5 +8,4 @@ use Rattle.chain_users.proofs.queue.RunQueue.len.Goals as goal
 pub returns : goal.returns
 returns g c =
     let a = c.self.inside.tasks in
-    c.len.ensures.count ∙ (turn_length (g.A.ArenaTrait.entry a) (g.A.ChainArenaTrait.interlinks a) (option_map g.P.PtrKey.key c.self.inside.current) _ (g.A.ArenaTrait.seen a).entries c.self.invariant
-    (g.met.A.ArenaTrait.rises a) (g.met.A.ArenaTrait.looked_up a) ∙ ap (λ (q : Queue g.row.P-Gen.Denot g.row.T.Denot). length q.turn) c.self.view_is)
+    c.len.ensures.count ∙ (turn_length (g.A.ArenaTrait.entry a) (g.A.ChainArenaTrait.interlinks a) (option_map g.P.PtrKey.key c.self.inside.current) _ (g.A.ArenaTrait.seen a).entries c.self.invariant (g.met.A.ArenaTrait.rises a) (g.met.A.ArenaTrait.looked_up a) ∙ ap (λ (q : Queue g.row.P-Gen.Denot g.row.T.Denot). length q.turn) c.self.view_is)
