@@ -1,10 +1,10 @@
 //! The texts of links and of arenas of links.
 
 use super::pointers::BarePtr;
-use super::{at, put, same};
+use super::{at, same};
 use arena_base::{ArenaSlot, ArenaTrait};
-use arena_ptr::{HeapStack, Inx32, Ptr, SlotStack, ToolPtr};
-use chain_arena::{ChainArena, Link, LinkInsertKind, LinkNoGen};
+use arena_ptr::{HeapStack, Inx32, Ptr, PtrKey, SlotStack, ToolPtr};
+use chain_arena::{ChainArena, ChainArenaTrait, Link, LinkInsertKind, LinkNoGen};
 use std::alloc::Global;
 use std::fmt;
 use std::fmt::{Debug, Display};
@@ -123,26 +123,39 @@ fn only_the_alternate_mark_reaches_the_value_of_a_link(rt: HostRuntime) {
     teller_reads(&rt, rt.alloc(), &first, texts);
 }
 
+// A slot of a link of a value that tells.
+type Telling<P> = ArenaSlot<P, LinkNoGen<P, Teller>>;
+
+// A chain of two links.
+fn two_links<P: PtrKey, S: SlotStack<Item = Telling<P>>>(
+    alloc: Global,
+) -> ChainArena<P, Teller, S> {
+    let mut arena: ChainArena<P, Teller, S> = ChainArena::new(alloc);
+    let mut kind = LinkInsertKind::Disconnected;
+    for _ in 0..2 {
+        if let Ok(p) = arena.insert_reallocating(kind, Teller) {
+            kind = LinkInsertKind::ChainEnd(p);
+        }
+    }
+    arena
+}
+
 // The texts of an arena of a chain of two links.
-fn chain_reads<P: Ptr, T: Copy + Debug + Drop, S: SlotStack<Item = ArenaSlot<P, LinkNoGen<P, T>>>>(
+fn chain_reads<P: Ptr, S: SlotStack<Item = Telling<P>>>(
     rt: &impl Abort,
     alloc: Global,
-    value: T,
     plain: &str,
     sharp: &str,
 ) {
-    let mut arena: ChainArena<P, T, S> = ChainArena::new(alloc);
-    let p = put(rt, &mut arena, LinkInsertKind::Disconnected, value);
-    put(rt, &mut arena, LinkInsertKind::ChainEnd(p), value);
+    let arena = two_links::<P, S>(alloc);
     debug_reads(rt, alloc, &arena, plain, sharp);
 }
 
 #[test]
 fn pointers_without_a_generation_show_none(rt: HostRuntime) {
-    chain_reads::<BarePtr, Teller, HeapStack<ArenaSlot<BarePtr, LinkNoGen<BarePtr, Teller>>>>(
+    chain_reads::<BarePtr, HeapStack<Telling<BarePtr>>>(
         &rt,
         rt.alloc(),
-        Teller,
         "{Bare[1]: {(start), 2} debug, Bare[2]: {1, (end)} debug}",
         "{\n    Bare[1]: {(start), 2} debug#,\n    Bare[2]: {1, (end)} debug#,\n}",
     );
