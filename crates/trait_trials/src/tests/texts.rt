@@ -5,7 +5,7 @@ use super::{at, same};
 use arena_base::{ArenaSlot, ArenaTrait};
 use arena_ptr::{HeapStack, Inx32, Ptr, PtrKey, SlotStack, ToolPtr};
 use chain_arena::{ChainArena, ChainArenaTrait, Link, LinkInsertKind, LinkNoGen};
-use std::alloc::Global;
+use std::alloc::{AllocError, Global};
 use std::fmt;
 use std::fmt::{Debug, Display};
 use std::process::Abort;
@@ -16,14 +16,15 @@ struct Teller;
 
 // Writes a word, and what of the format reaches it.
 fn tell<W: fmt::Write>(f: &mut fmt::Formatter<W>, word: &str) -> fmt::Result {
+    let is_wide = f.width().is_some() || f.precision().is_some() || f.sign_plus();
+    let marks = match (f.alternate(), is_wide) {
+        (false, false) => "",
+        (true, false) => "#",
+        (false, true) => "!",
+        (true, true) => "#!",
+    };
     f.write_str(word)?;
-    if f.alternate() {
-        f.write_str("#")?;
-    }
-    if f.width().is_some() || f.precision().is_some() || f.sign_plus() {
-        f.write_str("!")?;
-    }
-    Ok(())
+    f.write_str(marks)
 }
 
 impl fmt::Debug for Teller {
@@ -38,20 +39,24 @@ impl fmt::Display for Teller {
     }
 }
 
+// Looks at a text.
+fn reads(rt: &impl Abort, what: &str, text: Result<String, AllocError>, want: &str) {
+    let text = text.expect(rt, "memory");
+    same(rt, what, text.as_str(), want);
+}
+
 // Looks at the text by `Debug`, plain and in the alternate form.
 fn debug_reads<T: Debug>(rt: &impl Abort, alloc: Global, item: &T, plain: &str, sharp: &str) {
-    let text = format!(in alloc; "{item:?}").expect(rt, "memory");
-    same(rt, "by debug", text.as_str(), plain);
-    let text = format!(in alloc; "{item:#?}").expect(rt, "memory");
-    same(rt, "by debug, alternate", text.as_str(), sharp);
+    reads(rt, "by debug", format!(in alloc; "{item:?}"), plain);
+    let text = format!(in alloc; "{item:#?}");
+    reads(rt, "by debug, alternate", text, sharp);
 }
 
 // .. by `Display`.
 fn display_reads<T: Display>(rt: &impl Abort, alloc: Global, item: &T, plain: &str, sharp: &str) {
-    let text = format!(in alloc; "{item}").expect(rt, "memory");
-    same(rt, "by display", text.as_str(), plain);
-    let text = format!(in alloc; "{item:#}").expect(rt, "memory");
-    same(rt, "by display, alternate", text.as_str(), sharp);
+    reads(rt, "by display", format!(in alloc; "{item}"), plain);
+    let text = format!(in alloc; "{item:#}");
+    reads(rt, "by display, alternate", text, sharp);
 }
 
 // .. both in a width, with a sign and a precision.
@@ -62,10 +67,10 @@ fn wide_reads<T: Debug + Display>(
     debug: &str,
     display: &str,
 ) {
-    let text = format!(in alloc; "{item:>+40.3?}").expect(rt, "memory");
-    same(rt, "by debug, in a width", text.as_str(), debug);
-    let text = format!(in alloc; "{item:>+40.3}").expect(rt, "memory");
-    same(rt, "by display, in a width", text.as_str(), display);
+    let text = format!(in alloc; "{item:>+40.3?}");
+    reads(rt, "by debug, in a width", text, debug);
+    let text = format!(in alloc; "{item:>+40.3}");
+    reads(rt, "by display, in a width", text, display);
 }
 
 // Both forms, which for these values are the same.
