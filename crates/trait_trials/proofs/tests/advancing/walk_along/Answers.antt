@@ -16,7 +16,8 @@ pub loop-q-preserved : goal.loop-q-preserved
 loop-q-preserved g c =
     let a = c.args.arena.now in
     let passing = (g.met.A.ChainArenaTrait.passes c.loop-q.along c.advance.new.self a _ c.in-Some.ensures).passed in
-    passed_on (λ q. (g.P.PtrKey.key q).0) (g.A.ChainArenaTrait.interlinks a) (g.A.ChainArenaTrait.walker c.loop-q.along) (g.A.ChainArenaTrait.walker c.advance.new.self) c.loop-q.all.items _ c.in-Some.q _
+    passed_on (λ q. (g.P.PtrKey.key q).0) (g.A.ChainArenaTrait.interlinks a) (g.A.ChainArenaTrait.walker c.loop-q.along) (g.A.ChainArenaTrait.walker c.advance.new.self) c.loop-q.all.items c.push.new.self.items c.in-Some.q
+    (passes_ahead (g.A.ChainArenaTrait.interlinks a) (g.A.ChainArenaTrait.walker c.advancer_chain-along.result))
     c.loop-q.invariant c.in_ok-push.ensures.items passing.1
 
 pub returns : goal.returns
