@@ -3,16 +3,17 @@ mod random;
 mod rationed;
 mod refusals;
 
-use arena_base::ArenaSlot;
-use arena_ptr::{Gen32, Inx32, Ptr, ToolPtr};
+use self::rationed::Rationed;
+use arena_base::{ArenaSlot, ArenaTrait};
+use arena_ptr::{
+    ChunkStack, Gen32, HeapStack, Inx32, LimitedStack, Ptr, SetMaxCapacity, SlotStack, ToolPtr,
+};
 use chain_arena::{ChainArena, LinkNoGen};
 use std::fmt::Debug;
 use std::process::Abort;
 
-// A slot of a link of a number, at any pointer; and at the tool pointer.
-type SlotOf<P> = ArenaSlot<P, LinkNoGen<P, u32>>;
-
-type Slot = SlotOf<ToolPtr>;
+// A slot of a link of a number.
+type Slot = ArenaSlot<ToolPtr, LinkNoGen<ToolPtr, u32>>;
 
 // Links over a stack.
 type ChainsOver<S> = ChainArena<ToolPtr, u32, S>;

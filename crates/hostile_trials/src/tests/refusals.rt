@@ -3,9 +3,11 @@
 //! in the tests that bear it.
 
 use super::rationed::Rationed;
-use super::{ChainsOver, Slot, SlotOf, at, generation, same};
+use super::{ChainsOver, Slot, at, generation, same};
 use arena_base::{Arena, ArenaSlot, ArenaTrait};
-use arena_ptr::{ChunkStack, Gen32, HeapStack, LimitedStack, PtrKey, SlotStack, ToolPtr};
+use arena_ptr::{
+    ChunkStack, Gen32, HeapStack, LimitedStack, Ptr, ReallocationError, SlotStack, ToolPtr,
+};
 use chain_arena::{Call, ChainArena, ChainArenaTrait, LinkInsertKind, LinkNoGen, Reply, run_calls};
 use std::alloc::Global;
 use std::fmt::Debug;
@@ -32,54 +34,34 @@ fn shown<S: SlotStack<Item = Slot>>(
     told(rt, alloc, &(arena, rest))
 }
 
-// Looks whether an arena shows what it did.
-fn stays<S: SlotStack<Item = Slot>>(
-    rt: &impl Abort,
-    alloc: Global,
-    arena: &ChainsOver<S>,
-    before: String,
-) {
-    same(rt, "nothing has changed", shown(rt, alloc, arena), before);
-}
-
-// Adds a link, which is asked for twice, if it has to be.
-fn add<P: PtrKey, S: SlotStack<Item = SlotOf<P>>>(
-    rt: &impl Abort,
-    arena: &mut ChainArena<P, u32, S>,
-    kind: LinkInsertKind<P>,
-    t: u32,
-) -> P {
-    match arena.insert_reallocating(kind, t) {
-        Ok(p) => p,
-        Err(_) => {
-            let again = arena.insert_reallocating(kind, t);
-            again.expect(rt, "room for a link")
-        }
-    }
-}
-
 // A chain of links up to the capacity, each with its index as its value; of 64, or of two.
-fn full<P: PtrKey, S: SlotStack<Item = SlotOf<P>>>(
-    rt: &impl Abort,
-    alloc: Global,
-) -> ChainArena<P, u32, S> {
-    let mut arena: ChainArena<P, u32, S> = ChainArena::new(alloc);
+fn full<S: SlotStack<Item = Slot>>(rt: &impl Abort, alloc: Global) -> ChainsOver<S> {
+    let mut arena = ChainsOver::<S>::new(alloc);
     let mut kind = LinkInsertKind::Disconnected;
     for t in 1..=64u32 {
         if t < 3 || arena.len() < arena.capacity() {
-            kind = LinkInsertKind::ChainEnd(add(rt, &mut arena, kind, t));
+            let p = match arena.insert_reallocating(kind, t) {
+                Ok(p) => p,
+                Err(_) => arena
+                    .insert_reallocating(kind, t)
+                    .expect(rt, "room for a link"),
+            };
+            kind = LinkInsertKind::ChainEnd(p);
         }
     }
     arena
 }
 
 // .. and one more.
-fn longer<P: PtrKey, S: SlotStack<Item = SlotOf<P>>>(
-    rt: &impl Abort,
-    alloc: Global,
-) -> ChainArena<P, u32, S> {
-    let mut arena = full::<P, S>(rt, alloc);
-    add(rt, &mut arena, LinkInsertKind::Disconnected, 9);
+fn longer<S: SlotStack<Item = Slot>>(rt: &impl Abort, alloc: Global) -> ChainsOver<S> {
+    let mut arena = full::<S>(rt, alloc);
+    if arena
+        .insert_reallocating(LinkInsertKind::Disconnected, 9)
+        .is_err()
+    {
+        let again = arena.insert_reallocating(LinkInsertKind::Disconnected, 9);
+        assert!(rt; again.is_ok());
+    }
     arena
 }
 
@@ -104,9 +86,9 @@ const GROWTHS: [Growth; 6] = [
 ];
 
 // A link after the first one, in a place for it, which may be refused.
-fn enters<P: PtrKey, S: SlotStack<Item = SlotOf<P>>>(
-    arena: &mut ChainArena<P, u32, S>,
-    kind: LinkInsertKind<P>,
+fn enters<S: SlotStack<Item = Slot>>(
+    arena: &mut ChainsOver<S>,
+    kind: LinkInsertKind<ToolPtr>,
 ) -> bool {
     if !arena.can_insert(kind) {
         return false;
@@ -121,9 +103,9 @@ fn enters<P: PtrKey, S: SlotStack<Item = SlotOf<P>>>(
 }
 
 // .. whatever the kind asks.
-fn enters_reallocating<P: PtrKey, S: SlotStack<Item = SlotOf<P>>>(
-    arena: &mut ChainArena<P, u32, S>,
-    kind: LinkInsertKind<P>,
+fn enters_reallocating<S: SlotStack<Item = Slot>>(
+    arena: &mut ChainsOver<S>,
+    kind: LinkInsertKind<ToolPtr>,
 ) -> bool {
     match arena.entry_insert_reallocating(kind) {
         Ok(entry) => {
@@ -135,11 +117,8 @@ fn enters_reallocating<P: PtrKey, S: SlotStack<Item = SlotOf<P>>>(
 }
 
 // Whether an arena becomes a copy of another.
-fn copies<P: PtrKey, S: SlotStack<Item = SlotOf<P>>>(
-    arena: &mut ChainArena<P, u32, S>,
-    source: &ChainArena<P, u32, S>,
-) -> bool {
-    let copied = arena.clone_from_with(source, |_, link: &LinkNoGen<P, u32>| link.t);
+fn copies<S: SlotStack<Item = Slot>>(arena: &mut ChainsOver<S>, source: &ChainsOver<S>) -> bool {
+    let copied = arena.clone_from_with(source, |_, link: &LinkNoGen<ToolPtr, u32>| link.t);
     copied.is_ok()
 }
 
@@ -168,21 +147,16 @@ fn grown<S: SlotStack<Item = Slot>>(
     alloc: Global,
     call: Growth,
 ) -> (bool, String) {
-    let source = longer::<ToolPtr, S>(rt, alloc);
-    let mut arena = full::<ToolPtr, S>(rt, alloc);
+    let source = longer::<S>(rt, alloc);
+    let mut arena = full::<S>(rt, alloc);
     let before = shown(rt, alloc, &arena);
     let refused = !grows(rt, &mut arena, &source, call);
     if refused {
-        stays(rt, alloc, &arena, before);
+        same(rt, "nothing has changed", shown(rt, alloc, &arena), before);
         let again = grows(rt, &mut arena, &source, call);
         same(rt, "once more", again, true);
     }
     (refused, shown(rt, alloc, &arena))
-}
-
-// Looks whether an arena without links is as it was made.
-fn is_new(rt: &impl Abort, left: (usize, usize, Gen32)) {
-    same(rt, "as it was made", left, (0, 0, generation(rt, 2)));
 }
 
 // Whether a transfer was refused at first, and what both arenas show after it.
@@ -190,15 +164,20 @@ fn transferred<S: SlotStack<Item = Slot>>(
     rt: &impl Abort,
     alloc: Global,
 ) -> (bool, String, String) {
-    let mut source = full::<ToolPtr, S>(rt, alloc);
+    let mut source = full::<S>(rt, alloc);
     let mut target = ChainsOver::<S>::new(alloc);
     let before = shown(rt, alloc, &source);
-    let refused = !carries(generation(rt, 7), &mut source, &mut target);
+    let refused = !carries(rt, &mut source, &mut target);
     if refused {
-        stays(rt, alloc, &source, before);
-        is_new(rt, (target.len(), target.capacity(), target.generation()));
-        let again = carries(generation(rt, 7), &mut source, &mut target);
-        same(rt, "once more", again, true);
+        same(
+            rt,
+            "the source is as it was",
+            shown(rt, alloc, &source),
+            before,
+        );
+        let left = (target.len(), target.capacity(), target.generation());
+        same(rt, "so is the target", left, (0, 0, generation(rt, 2)));
+        same(rt, "once more", carries(rt, &mut source, &mut target), true);
     }
     (
         refused,
@@ -208,24 +187,25 @@ fn transferred<S: SlotStack<Item = Slot>>(
 }
 
 // Whether all links of an arena come to another one.
-fn carries<P: PtrKey, S: SlotStack<Item = SlotOf<P>>>(
-    now: P::Gen,
-    source: &mut ChainArena<P, u32, S>,
-    target: &mut ChainArena<P, u32, S>,
+fn carries<S: SlotStack<Item = Slot>>(
+    rt: &impl Abort,
+    source: &mut ChainsOver<S>,
+    target: &mut ChainsOver<S>,
 ) -> bool {
+    let now = generation(rt, 7);
     let carried = target.transfer_canonical_reallocating(now, source, |_, value, _| value.allow());
     carried.is_ok()
 }
 
 // What an arena shows to which a clone of a full one comes, if it is not refused twice. The full one is as it was.
 fn cloned<S: SlotStack<Item = Slot>>(rt: &impl Abort, alloc: Global) -> Option<String> {
-    let arena = full::<ToolPtr, S>(rt, alloc);
+    let arena = full::<S>(rt, alloc);
     let before = shown(rt, alloc, &arena);
     let copy = match arena.clone(alloc) {
         Ok(copy) => Ok(copy),
         Err(_) => arena.clone(alloc),
     };
-    stays(rt, alloc, &arena, before);
+    same(rt, "nothing has changed", shown(rt, alloc, &arena), before);
     match copy {
         Ok(copy) => Some(shown(rt, alloc, &copy)),
         Err(_) => None,
@@ -245,11 +225,11 @@ fn born<S: SlotStack<Item = Slot>>(rt: &impl Abort, alloc: Global) -> Option<Str
 }
 
 // Whether the links of an arena come to a plain one, each value as it is.
-fn copies_to<P: PtrKey, S: SlotStack<Item = SlotOf<P>>, R: SlotStack<Item = ArenaSlot<P, u32>>>(
-    arena: &ChainArena<P, u32, S>,
-    target: &mut Arena<P, u32, R>,
+fn copies_to<S: SlotStack<Item = Slot>, R: SlotStack<Item = Bare>>(
+    arena: &ChainsOver<S>,
+    target: &mut Arena<ToolPtr, u32, R>,
 ) -> bool {
-    let copied = arena.clone_to_arena(target, |_, link: &LinkNoGen<P, u32>| link.t);
+    let copied = arena.clone_to_arena(target, |_, link: &LinkNoGen<ToolPtr, u32>| link.t);
     copied.is_ok()
 }
 
@@ -258,11 +238,12 @@ fn copied_plain<S: SlotStack<Item = Slot>, R: SlotStack<Item = Bare>>(
     rt: &impl Abort,
     alloc: Global,
 ) -> (bool, usize, usize) {
-    let arena = full::<ToolPtr, S>(rt, alloc);
+    let arena = full::<S>(rt, alloc);
     let mut target: Arena<ToolPtr, u32, R> = Arena::new(alloc);
     let refused = !copies_to(&arena, &mut target);
     if refused {
-        is_new(rt, (target.len(), target.capacity(), target.generation()));
+        let left = (target.len(), target.capacity(), target.generation());
+        same(rt, "nothing has changed", left, (0, 0, generation(rt, 2)));
         same(rt, "once more", copies_to(&arena, &mut target), true);
     }
     (refused, target.len(), target.capacity())
@@ -295,7 +276,7 @@ fn inserted(replies: &[Reply<ToolPtr, u32>]) -> usize {
 // How many of two calls of a list on a full arena are done. Where memory for their replies is refused none is made, and a call
 // that is refused changes nothing, and the next one is made.
 fn made<S: SlotStack<Item = Slot>>(rt: &impl Abort, alloc: Global) -> usize {
-    let mut arena = full::<ToolPtr, S>(rt, alloc);
+    let mut arena = full::<S>(rt, alloc);
     let calls = two_calls(rt, alloc);
     let (before, count) = (shown(rt, alloc, &arena), arena.len());
     match run_calls(alloc, &mut arena, calls) {
@@ -305,38 +286,36 @@ fn made<S: SlotStack<Item = Slot>>(rt: &impl Abort, alloc: Global) -> usize {
             inserted(&replies)
         }
         Err(_) => {
-            stays(rt, alloc, &arena, before);
+            same(rt, "nothing has changed", shown(rt, alloc, &arena), before);
             2
         }
     }
 }
 
-// What asks for no memory: gaps closed, chains laid, the links of p and q removed and two inserted within the capacity, and all of
-// them carried over to an arena with room for them. Tells whether all of it is done.
-fn asks_for_none<P: PtrKey, S: SlotStack<Item = SlotOf<P>>>(
-    arena: &mut ChainArena<P, u32, S>,
-    target: &mut ChainArena<P, u32, S>,
-    (p, q): (P, P),
-    now: P::Gen,
+// What asks for no memory: gaps closed, chains laid, links removed and inserted within the capacity, and all of them carried
+// over to an arena with room for them. Tells whether all of it is done.
+fn asks_for_none<S: SlotStack<Item = Slot>>(
+    rt: &impl Abort,
+    arena: &mut ChainsOver<S>,
+    target: &mut ChainsOver<S>,
 ) -> bool {
-    arena.remove(p);
+    arena.remove(at(rt, 1, 2));
     arena.compress(false);
     arena.compress_canonical(false);
     arena.compress_canonical_with(true, |_, _| {});
     let added = arena.insert_within_capacity(LinkInsertKind::Disconnected, 7);
-    arena.remove(q);
+    arena.remove(at(rt, 2, 2));
     let within = arena.insert_reallocating(LinkInsertKind::Disconnected, 7);
     target.clear();
-    added.is_ok() && within.is_ok() && carries(now, arena, target)
+    added.is_ok() && within.is_ok() && carries(rt, arena, target)
 }
 
 // Makes two full arenas, between which all that asks for no memory is done, and tells whether the next growth of each is
 // refused.
 fn none_asked<S: SlotStack<Item = Slot>>(rt: &impl Abort, alloc: Global) -> (bool, bool) {
-    let mut arena = full::<ToolPtr, S>(rt, alloc);
-    let mut target = full::<ToolPtr, S>(rt, alloc);
-    let gone = (at(rt, 1, 2), at(rt, 2, 2));
-    let done = asks_for_none(&mut arena, &mut target, gone, generation(rt, 7));
+    let mut arena = full::<S>(rt, alloc);
+    let mut target = full::<S>(rt, alloc);
+    let done = asks_for_none(rt, &mut arena, &mut target);
     same(rt, "no memory is asked for", done, true);
     (
         arena.reallocate_min_capacity(100).is_err(),
@@ -357,8 +336,8 @@ fn check_growths<S: SlotStack<Item = Slot>>(rt: &impl Abort, alloc: Global) {
 }
 
 // Whether a first link is refused to an arena, and once more.
-fn first_link<P: PtrKey, S: SlotStack<Item = SlotOf<P>>>(alloc: Global) -> (bool, bool) {
-    let mut arena: ChainArena<P, u32, S> = ChainArena::new(alloc);
+fn first_link<S: SlotStack<Item = Slot>>(alloc: Global) -> (bool, bool) {
+    let mut arena = ChainsOver::<S>::new(alloc);
     let first = arena.insert_reallocating(LinkInsertKind::Disconnected, 1);
     let second = arena.insert_reallocating(LinkInsertKind::Disconnected, 1);
     (first.is_err(), second.is_err())
@@ -374,7 +353,7 @@ fn check_births<S: SlotStack<Item = Slot>, R: SlotStack<Item = Bare>>(
         born::<Rationed<S>>(rt, alloc),
     );
     same(rt, "refused", refused, (None, None));
-    let first = first_link::<ToolPtr, Rationed<S>>(alloc);
+    let first = first_link::<Rationed<S>>(alloc);
     same(rt, "a first link", first, (true, false));
     let (_, count, room) = copied_plain::<S, R>(rt, alloc);
     let got = copied_plain::<S, Rationed<R>>(rt, alloc);
