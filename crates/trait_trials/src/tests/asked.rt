@@ -96,7 +96,7 @@ pub(super) struct Body<P, I> {
     pub(super) t: u32,
 }
 
-// (A derived clone copies field by field, which costs more to prove than all else here.)
+// By hand, since a derived clone copies field by field, which costs more to prove than all else here.
 impl<P: Copy, I: Copy> Clone for Body<P, I> {
     fn clone(&self) -> Result<Self, AllocError> {
         Ok(*self)
@@ -237,7 +237,7 @@ fn call_of(name: &str) -> Option<Do> {
     }
 }
 
-// The kind of an insertion by pointers, where there is a word for it, ...
+// The kind of an insertion by pointers, where there is such a word, or none, ...
 fn kind_of<P: Copy, I: Copy>(kind: &str, p: P, q: P, i: I, j: I) -> Option<InsertKindBody<P, I>> {
     match kind {
         "" | "Disconnected" => Some(InsertKindBody::Disconnected),
@@ -271,7 +271,7 @@ fn kind_by_index_of<P: Copy, I: Copy>(kind: &str, i: I, j: I) -> Option<InsertKi
     }
 }
 
-// .. of a call of a kind, with these numbers.
+// What a call of a kind asks with these numbers, if there is such a kind.
 fn with_numbers<P: Numbered>(call: Do, kind: &str, numbers: [u32; 4], t: u32) -> Option<Asked<P>> {
     let [n, g, l, h] = numbers;
     let (p, q) = (at::<P>((n, g)), at::<P>((l, h)));
