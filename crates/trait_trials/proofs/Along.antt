@@ -5,9 +5,10 @@ use Rattle.std.proofs.lemmas.List.{length-map, append-nil}
 use Rattle.arena_ptr.specs.Numbers.{IsWithin}
 use Rattle.chain_laws.specs.Chains as chains
 use Rattle.chain_laws.specs.Chains.{Shown, Agrees, prev_of}
-use Rattle.chain_laws.specs.Walks.{IsWalk, walk_ahead}
+use Rattle.chain_laws.specs.Walks.{Walker, IsWalk, walk_ahead, passes_ahead, step_of}
 use Rattle.chain_laws.proofs.Members.{Has-right}
 use Rattle.chain_laws.proofs.Passing.{has_walk, walk_valid, walk_once}
+use Rattle.chain_laws.proofs.Stepping.{step_ahead}
 use Rattle.chain_laws.proofs.Walking.{walk_passed}
 use Rattle.arena_base.specs.Entries.{found, index_of}
 use Rattle.chain_laws.proofs.Backing.{length_among}
@@ -30,3 +31,14 @@ module _ {Gen T : Type 0} (interlinks : Shown) (entry : ℕ → Option (Gen × T
   walk_whole i passed (j ∷ rest) walk none =
       let valid = walk_valid interlinks i (passed ++ j ∷ rest) walk j (Has-right passed (j ∷ rest) j (inl refl)) in
       absurd (let some = valid_some interlinks entry es stands looked j valid in let no = none j rest refl in let both = sym some ∙ ap is_some no in cc)
+
+-- a last item is passed before what is ahead
+passed_last : {Q : Type 0} (name : Q → ℕ) (all : List Q) (q : Q) (ahead : List ℕ) → map name (all ++ q ∷ []) ++ ahead ≡ map name all ++ name q ∷ ahead
+passed_last name [] q ahead = refl
+passed_last name (x ∷ all) q ahead = ap (λ l. name x ∷ l) (passed_last name all q ahead)
+
+-- by a step the link of it goes from what is ahead to what was passed
+pub passed_on : {Q : Type 0} (name : Q → ℕ) (links : Shown) (old new : Walker) (all after : List Q) (q : Q) (whole : List ℕ) → map name all ++ passes_ahead links old ≡ whole → after ≡ all ++ q ∷ []
+    → step_of links old ≡ Some (name q, new) → map name after ++ passes_ahead links new ≡ whole
+passed_on name links old new all after q whole before is step =
+    ap (λ l. map name l ++ passes_ahead links new) is ∙ (passed_last name all q (passes_ahead links new) ∙ (ap (λ l. map name all ++ l) (sym (step_ahead links old new (name q) step)) ∙ before))

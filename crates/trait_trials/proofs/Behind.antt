@@ -61,3 +61,7 @@ extends old mid new p q none alone joins =
 pub some_holds : {X Q : Type 0} (o : Option X) → is_some o ≡ true → OnSome o Q → Q
 some_holds None some q = absurd (let h = some in cc)
 some_holds (Some x) some q = q
+
+-- a link that ends a chain where another was added alone ended it before
+pub ended : (old mid : Shown) (q : ℕ) → old q ≡ None → mid ≡ with_lone old q → (p : ℕ) → next_of mid p ≡ None → next_of old p ≡ None
+ended old mid q none alone p end = sym (next_of-with_lone old q none p) ∙ (sym (ap (λ (s : Shown). next_of s p) alone) ∙ end)

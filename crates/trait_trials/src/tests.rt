@@ -141,17 +141,6 @@ fn numbers<P: Numbered>(p: Option<P>) -> At {
     }
 }
 
-// Adds a link to a chain arena.
-fn put<P: PtrKey, T: Drop, S: SlotStack<Item = ArenaSlot<P, LinkNoGen<P, T>>>>(
-    rt: &impl Abort,
-    arena: &mut ChainArena<P, T, S>,
-    kind: LinkInsertKind<P>,
-    t: T,
-) -> P {
-    let added = arena.insert_reallocating(kind, t);
-    added.expect(rt, "room for a link")
-}
-
 // A chain arena with a maximum.
 fn limited<P: PtrKey, T: Drop, S: LimitStack<Item = ArenaSlot<P, LinkNoGen<P, T>>>>(
     alloc: Global,

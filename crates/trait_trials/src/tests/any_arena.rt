@@ -1,9 +1,10 @@
 //! The rows that any arena of links meets, at the chain arena and at an arena that hands each call on.
 
+use super::asked::asked;
 use super::rows::{
     ADVANCERS, CONNECTIONS, CUTS, KINDS, LAYOUTS, LOOKS, NONE_THEN_AGAIN, NONE_THEN_NONE, REMOVALS,
 };
-use super::scripts::{Answers, Do, answer, plays};
+use super::scripts::{Answers, answer, plays};
 use super::transfers::{REFUSED, TRANSFERS};
 use super::{Chains, Numbered, Slot};
 use arena_base::{ArenaTrait, CompactArenaTrait};
@@ -27,8 +28,11 @@ impl<P: Numbered, A: ChainArenaTrait<P, u32> + CompactArenaTrait<P, u32> + Drop>
         self.arena = Wrapped::<A>::new(alloc);
     }
 
-    fn answer(&mut self, alloc: Global, call: Do) -> Option<String> {
-        answer(alloc, &mut self.arena, call)
+    fn answer(&mut self, alloc: Global, call: &str) -> Option<String> {
+        match asked::<P>(call) {
+            Some(asked) => answer(alloc, &mut self.arena, asked),
+            None => None,
+        }
     }
 }
 
@@ -64,16 +68,27 @@ fn a_chain_arena_in_blocks(rt: HostRuntime) {
     check_all(&rt, rt.alloc(), &mut arena, NONE_THEN_NONE);
 }
 
-// .. of the arena that hands each call on, over any stack.
-fn check_handed_on<P: Numbered, S: SlotStack<Item = Slot<P>>>(rt: &impl Abort, alloc: Global) {
-    let mut arena: HandsOn<P, ChainArena<P, u32, S>> = HandsOn {
-        arena: Wrapped::<ChainArena<P, u32, S>>::new(alloc),
+// .. of the arena that hands each call on to any other one, ...
+fn check_handed_on<P: Numbered, A: ChainArenaTrait<P, u32> + CompactArenaTrait<P, u32> + Drop>(
+    rt: &impl Abort,
+    alloc: Global,
+) {
+    let mut arena: HandsOn<P, A> = HandsOn {
+        arena: Wrapped::<A>::new(alloc),
         pointer: PhantomData,
     };
     check_all(rt, alloc, &mut arena, NONE_THEN_AGAIN);
 }
 
+// .. to a chain arena over any stack.
+fn check_handed_on_to_chains<P: Numbered, S: SlotStack<Item = Slot<P>>>(
+    rt: &impl Abort,
+    alloc: Global,
+) {
+    check_handed_on::<P, ChainArena<P, u32, S>>(rt, alloc);
+}
+
 #[test]
 fn an_arena_that_hands_each_call_on(rt: HostRuntime) {
-    check_handed_on::<ToolPtr, HeapStack<Slot<ToolPtr>>>(&rt, rt.alloc());
+    check_handed_on_to_chains::<ToolPtr, HeapStack<Slot<ToolPtr>>>(&rt, rt.alloc());
 }

@@ -6,7 +6,6 @@ use arena_ptr::{Inx32, PtrInx, ToolPtr};
 use chain_arena::{Link, LinkNoGen};
 use std::cmp::Ordering;
 use std::hash::{DefaultHasher, Hash, Hasher};
-use std::process::Abort;
 
 // A link by the indexes of its neighbors, 0 for none, and its value.
 type Parts = (u32, u32, u32);
@@ -34,7 +33,7 @@ fn bare(parts: Parts) -> LinkNoGen<ToolPtr, u32> {
 }
 
 // .. with pointers, as those of an arena, of which the first links have generation two.
-fn with_pointers(rt: &impl Abort, parts: Parts) -> Link<ToolPtr, u32> {
+fn with_pointers(parts: Parts) -> Link<ToolPtr, u32> {
     let (prev, next, t) = parts;
     let prev = if prev == 0 { None } else { Some(at((prev, 2))) };
     let next = if next == 0 { None } else { Some(at((next, 2))) };
@@ -57,29 +56,42 @@ fn hash_of<T: Hash>(t: &T) -> u64 {
     state.finish()
 }
 
+// A link is below another, both without and with generations.
+fn rises(low: Parts, high: Parts) -> bool {
+    is_below(&bare(low), &bare(high)) && is_below(&with_pointers(low), &with_pointers(high))
+}
+
+// .. and equal to one of the same parts.
+fn equals(parts: Parts) -> bool {
+    is_same(&bare(parts), &bare(parts)) && is_same(&with_pointers(parts), &with_pointers(parts))
+}
+
 // Each is below the next, and equal to one of the same parts.
 #[test]
 fn links_go_by_their_neighbors_then_by_their_values(rt: HostRuntime) {
     let mut last: Option<Parts> = None;
     for parts in RISING {
-        let (link, other) = (bare(parts), with_pointers(&rt, parts));
         if let Some(low) = last {
-            assert!(rt; is_below(&bare(low), &link) && is_below(&with_pointers(&rt, low), &other));
+            assert!(rt; rises(low, parts));
         }
-        assert!(rt; is_same(&link, &bare(parts)) && is_same(&other, &with_pointers(&rt, parts)));
+        assert!(rt; equals(parts));
         last = Some(parts);
     }
 }
 
+// Two links without generations are equal, by value and by reference.
+fn is_same_bare(l: &Link<ToolPtr, u32>, m: &Link<ToolPtr, u32>) -> bool {
+    is_same(&l.no_gen_ref(), &m.no_gen_ref()) && is_same(&l.no_gen(), &m.no_gen())
+}
+
 #[test]
 fn the_generation_of_a_neighbor_counts_until_it_is_taken_off(rt: HostRuntime) {
-    let old = Link::new((Some(at::<ToolPtr>((1, 2))), None), 7);
+    let old = with_pointers((1, 0, 7));
     let new = Link::new((Some(at::<ToolPtr>((1, 3))), None), 7);
     assert!(rt; is_below(&old, &new));
-    assert!(rt; is_same(&old.no_gen_ref(), &new.no_gen_ref()));
-    assert!(rt; is_same(&old.no_gen(), &new.no_gen()));
-    same(&rt, "parts", old.no_gen().prev_next(), (inx(1), None));
-    same(&rt, "value", *new.no_gen_ref().t, 7);
+    assert!(rt; is_same_bare(&old, &new));
+    let parts = (old.no_gen().prev_next(), *new.no_gen_ref().t);
+    same(&rt, "parts and value", parts, ((inx(1), None), 7));
 }
 
 #[test]

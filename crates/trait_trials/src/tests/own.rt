@@ -1,7 +1,8 @@
 //! The few calls that a chain arena has of its own and that rows at any pointer make.
 
-use super::scripts::{Answers, Do, answer, kind};
-use super::{Numbered, Slot, at, text};
+use super::asked::{Asked, Do, asked};
+use super::scripts::{Answers, answer};
+use super::{Numbered, Slot, text};
 use arena_base::ArenaTrait;
 use arena_ptr::{InvalidationOption, PtrKey, SlotStack};
 use chain_arena::{Call, ChainArena, LinkInsertKind, Reply, apply};
@@ -43,15 +44,15 @@ fn drained_two<P: PtrKey, S: SlotStack<Item = Slot<P>>>(
 fn own_answer<P: Numbered, S: SlotStack<Item = Slot<P>>>(
     alloc: Global,
     arena: &mut ChainArena<P, u32, S>,
-    call: Do,
+    asked: Asked<P>,
 ) -> Option<String> {
-    match call {
+    match asked.call {
         Do::Generation => text(alloc, P::number_of(arena.generation())),
-        Do::SetGeneration(g) => text(alloc, arena.set_generation(P::generation_of(g))),
+        Do::SetGeneration => text(alloc, arena.set_generation(P::generation_of(asked.n))),
         Do::IncGeneration => text(alloc, arena.inc_generation()),
-        Do::Apply(k, t) => applied(alloc, arena, kind(k), t),
-        Do::DrainTwo(p) => text(alloc, drained_two(arena, at(p))),
-        other => trait_answer(alloc, arena, other),
+        Do::Apply => applied(alloc, arena, asked.kind, asked.t),
+        Do::DrainTwo => text(alloc, drained_two(arena, asked.p)),
+        _ => trait_answer(alloc, arena, asked),
     }
 }
 
@@ -59,9 +60,9 @@ fn own_answer<P: Numbered, S: SlotStack<Item = Slot<P>>>(
 fn trait_answer<P: Numbered, S: SlotStack<Item = Slot<P>>>(
     alloc: Global,
     arena: &mut ChainArena<P, u32, S>,
-    call: Do,
+    asked: Asked<P>,
 ) -> Option<String> {
-    answer(alloc, arena, call)
+    answer(alloc, arena, asked)
 }
 
 impl<P: Numbered, S: SlotStack<Item = Slot<P>>> Answers for ChainArena<P, u32, S> {
@@ -69,7 +70,10 @@ impl<P: Numbered, S: SlotStack<Item = Slot<P>>> Answers for ChainArena<P, u32, S
         *self = ChainArena::new(alloc);
     }
 
-    fn answer(&mut self, alloc: Global, call: Do) -> Option<String> {
-        own_answer(alloc, self, call)
+    fn answer(&mut self, alloc: Global, call: &str) -> Option<String> {
+        match asked::<P>(call) {
+            Some(asked) => own_answer(alloc, self, asked),
+            None => None,
+        }
     }
 }

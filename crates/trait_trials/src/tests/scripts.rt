@@ -1,130 +1,16 @@
 //! Calls on arenas of links as lines of texts, each with the text of its answer.
 
 use super::advancing::{changes_met, met, walk_along};
-use super::asked::call_of;
+use super::asked::{Asked, Do};
 use super::behind::{add_behind, count_of_links, take_next};
-use super::transfers::{carried_out, carried_to_bare, carried_to_full};
-use super::{At, Numbered, Slot, add_lone, at, index, number, numbers, rows_of, same, text};
+use super::transfers::carried;
+use super::{At, Numbered, add_lone, number, numbers, rows_of, same, text};
 use arena_base::{Advancer, ArenaTrait, CompactArenaTrait};
-use arena_ptr::{
-    AllocError, HeapStack, InvalidationOption, InvalidationResult, InxKey, PtrKey, ToolPtr,
-};
-use chain_arena::{ChainArenaTrait, InsertKindBody, Link, LinkInsertKind, LinkNoGen};
+use arena_ptr::{AllocError, InvalidationOption, InvalidationResult, InxKey, PtrKey};
+use chain_arena::{ChainArenaTrait, Link, LinkNoGen};
 use std::alloc::Global;
 use std::mem;
 use std::process::Abort;
-
-// Where a new link comes, by pointers that are an index and a generation, or by indexes.
-pub(super) type Kind = InsertKindBody<At, u32>;
-
-// A call on an arena of links. A pointer is its index and its generation.
-#[derive(Clone, Copy)]
-pub(super) enum Do {
-    // Looks of the trait of arenas. An advancer answers so many times, and one from an index on twice. Whether an arena
-    // that is born with room is empty, and has the room. The length and the capacity.
-    Len,
-    IsEmpty,
-    HasRoom(usize),
-    Maximum,
-    Counter,
-    Contains(At),
-    Get(At),
-    GetInx(u32),
-    Ends,
-    Advance(u32),
-    Birth(usize),
-    Room,
-    AdvanceFrom(u32, bool),
-    AdvanceEmpty,
-    // Looks of the trait of arenas of links: an advancer along a chain answers five times, or to its end.
-    CanInsert(Kind),
-    Neighbors(At, At),
-    NeighborsInx(u32, u32),
-    Link(At),
-    LinkNoGen(At),
-    LinkNoGenInx(u32),
-    Along(At),
-    AlongAll(At),
-    CountOfLinks,
-    // All links, and what advancers answer over arenas that change.
-    All,
-    Changes,
-    // Changes of links.
-    Insert(Kind, u32),
-    InsertMany(u32),
-    InsertWithin(Kind, u32),
-    Connect(At, At),
-    BreakPrev(At),
-    BreakNext(At),
-    Exchange(At, At),
-    RemoveLink(At),
-    Canonical(bool),
-    AddBehind(At, u32),
-    TakeNext(u32),
-    // Changes of any arena: a clear tells whether the capacity stays, a compression what its closure saw.
-    Write(At, u32),
-    WriteInx(u32, u32),
-    Remove(At),
-    RemoveInx(u32),
-    Invalidate(At),
-    Clear,
-    ClearInRoom,
-    Reserve(usize),
-    CompressWith(bool),
-    // All links carried over to an arena of two links of other pointers, with a generation; to one of none, where each value is five;
-    // and to arenas that refuse them, one of them with a maximum.
-    CarryOut(u32),
-    CarryAsFive,
-    CarryToFull,
-    CarryToBare(usize),
-    // Calls of the chain arena alone. An insertion as a value; whether the counter overflows at each of the first two links of a
-    // drained chain.
-    Apply(Kind, u32),
-    DrainTwo(At),
-    Generation,
-    SetGeneration(u32),
-    IncGeneration,
-}
-
-// A kind that names links by indexes.
-fn kind_by_index<P: PtrKey>(kind: Kind) -> LinkInsertKind<P> {
-    match kind {
-        Kind::ChainEndInx(i) => LinkInsertKind::ChainEndInx(index::<P>(i)),
-        Kind::ChainStartInx(i) => LinkInsertKind::ChainStartInx(index::<P>(i)),
-        Kind::NextToInx(i) => LinkInsertKind::NextToInx(index::<P>(i)),
-        Kind::PrevToInx(i) => LinkInsertKind::PrevToInx(index::<P>(i)),
-        Kind::AtInterlinkInx { next_to, prev_to } => LinkInsertKind::AtInterlinkInx {
-            next_to: index::<P>(next_to),
-            prev_to: index::<P>(prev_to),
-        },
-        Kind::BridgeInx { end, start } => LinkInsertKind::BridgeInx {
-            end: index::<P>(end),
-            start: index::<P>(start),
-        },
-        _ => LinkInsertKind::Disconnected,
-    }
-}
-
-// A kind of the arena.
-pub(super) fn kind<P: Numbered>(kind: Kind) -> LinkInsertKind<P> {
-    match kind {
-        Kind::Disconnected => LinkInsertKind::Disconnected,
-        Kind::SingleLinkCyclic => LinkInsertKind::SingleLinkCyclic,
-        Kind::ChainEnd(p) => LinkInsertKind::ChainEnd(at(p)),
-        Kind::ChainStart(p) => LinkInsertKind::ChainStart(at(p)),
-        Kind::NextTo(p) => LinkInsertKind::NextTo(at(p)),
-        Kind::PrevTo(p) => LinkInsertKind::PrevTo(at(p)),
-        Kind::AtInterlink { next_to, prev_to } => LinkInsertKind::AtInterlink {
-            next_to: at(next_to),
-            prev_to: at(prev_to),
-        },
-        Kind::Bridge { end, start } => LinkInsertKind::Bridge {
-            end: at(end),
-            start: at(start),
-        },
-        by_index => kind_by_index(by_index),
-    }
-}
 
 // The value that another takes the place of.
 pub(super) fn overwritten(slot: Option<&mut u32>, value: u32) -> Option<u32> {
@@ -235,18 +121,18 @@ fn removed<P: PtrKey>(
 fn look<P: Numbered, A: ChainArenaTrait<P, u32> + Drop>(
     alloc: Global,
     arena: &A,
-    call: Do,
+    asked: Asked<P>,
 ) -> Option<String> {
-    match call {
+    match asked.call {
         Do::Len => text(alloc, arena.len()),
         Do::IsEmpty => text(alloc, arena.is_empty()),
-        Do::HasRoom(n) => text(alloc, arena.capacity() >= n),
+        Do::HasRoom => text(alloc, arena.capacity() >= asked.n as usize),
         Do::Maximum => text(alloc, arena.max_capacity()),
         Do::Counter => text(alloc, counted::<P>(arena.singular_generation())),
-        Do::Contains(p) => text(alloc, arena.contains(at(p))),
-        Do::Get(p) => text(alloc, arena.get(at(p))),
-        Do::GetInx(i) => text(alloc, standing::<P, &u32>(arena.get_inx(index::<P>(i)))),
-        other => look_along(alloc, arena, other),
+        Do::Contains => text(alloc, arena.contains(asked.p)),
+        Do::Get => text(alloc, arena.get(asked.p)),
+        Do::GetInx => text(alloc, standing::<P, &u32>(arena.get_inx(asked.i))),
+        _ => look_along(alloc, arena, asked),
     }
 }
 
@@ -254,23 +140,23 @@ fn look<P: Numbered, A: ChainArenaTrait<P, u32> + Drop>(
 fn look_along<P: Numbered, A: ChainArenaTrait<P, u32> + Drop>(
     alloc: Global,
     arena: &A,
-    call: Do,
+    asked: Asked<P>,
 ) -> Option<String> {
-    match call {
+    match asked.call {
         Do::Ends => {
             let ends = (arena.find_first_inx_ptr(), arena.find_last_inx_ptr());
             text(alloc, ends)
         }
-        Do::Advance(n) => text(alloc, met(arena.advancer(), arena, n)),
-        Do::AdvanceFrom(i, reverse) => {
-            let advancer = arena.advancer_inx(index::<P>(i), reverse);
+        Do::Advance => text(alloc, met(arena.advancer(), arena, asked.n)),
+        Do::AdvanceFrom => {
+            let advancer = arena.advancer_inx(asked.i, asked.t > 0);
             text(alloc, met(advancer, arena, 2))
         }
         Do::AdvanceEmpty => text(alloc, A::PtrAdvancer::empty().advance(arena)),
-        Do::Birth(n) => text(alloc, born::<P, A>(alloc, n)),
+        Do::Birth => text(alloc, born::<P, A>(alloc, asked.n as usize)),
         Do::Room => text(alloc, (arena.len(), arena.capacity())),
         Do::Changes => text(alloc, changes_met::<P, A>(alloc)),
-        other => look_at_links(alloc, arena, other),
+        _ => look_at_links(alloc, arena, asked),
     }
 }
 
@@ -278,19 +164,16 @@ fn look_along<P: Numbered, A: ChainArenaTrait<P, u32> + Drop>(
 fn look_at_links<P: Numbered, A: ChainArenaTrait<P, u32>>(
     alloc: Global,
     arena: &A,
-    call: Do,
+    asked: Asked<P>,
 ) -> Option<String> {
-    match call {
-        Do::CanInsert(k) => text(alloc, arena.can_insert(kind(k))),
-        Do::Neighbors(p, q) => text(alloc, arena.are_neighbors(at(p), at(q))),
-        Do::NeighborsInx(i, j) => {
-            let (i, j) = (index::<P>(i), index::<P>(j));
-            text(alloc, arena.are_neighbors_inx(i, j))
-        }
-        Do::Link(p) => text(alloc, with_pointers(arena.get_link(at(p)))),
-        Do::LinkNoGen(p) => text(alloc, arena.get_link_no_gen(at(p)).is_some()),
-        Do::LinkNoGenInx(i) => text(alloc, bare_at(arena, index::<P>(i))),
-        other => look_along_links(alloc, arena, other),
+    match asked.call {
+        Do::CanInsert => text(alloc, arena.can_insert(asked.kind)),
+        Do::Neighbors => text(alloc, arena.are_neighbors(asked.p, asked.q)),
+        Do::NeighborsInx => text(alloc, arena.are_neighbors_inx(asked.i, asked.j)),
+        Do::Link => text(alloc, with_pointers(arena.get_link(asked.p))),
+        Do::LinkNoGen => text(alloc, arena.get_link_no_gen(asked.p).is_some()),
+        Do::LinkNoGenInx => text(alloc, bare_at(arena, asked.i)),
+        _ => look_along_links(alloc, arena, asked),
     }
 }
 
@@ -298,17 +181,14 @@ fn look_at_links<P: Numbered, A: ChainArenaTrait<P, u32>>(
 fn look_along_links<P: Numbered, A: ChainArenaTrait<P, u32>>(
     alloc: Global,
     arena: &A,
-    call: Do,
+    asked: Asked<P>,
 ) -> Option<String> {
-    match call {
-        Do::Along(p) => {
-            let along = arena.advancer_chain(at(p));
-            text(alloc, met(along, arena, 5))
-        }
-        Do::AlongAll(p) => text(alloc, walk_along(alloc, arena, at(p))),
+    match asked.call {
+        Do::Along => text(alloc, met(arena.advancer_chain(asked.p), arena, 5)),
+        Do::AlongAll => text(alloc, walk_along(alloc, arena, asked.p)),
         Do::CountOfLinks => text(alloc, count_of_links(arena)),
         Do::All => text(alloc, rows_of(alloc, arena)),
-        _ => text(alloc, "no call of the traits"),
+        _ => None,
     }
 }
 
@@ -316,17 +196,17 @@ fn look_along_links<P: Numbered, A: ChainArenaTrait<P, u32>>(
 pub(super) fn answer<P: Numbered, A: ChainArenaTrait<P, u32> + CompactArenaTrait<P, u32> + Drop>(
     alloc: Global,
     arena: &mut A,
-    call: Do,
+    asked: Asked<P>,
 ) -> Option<String> {
-    match call {
-        Do::Insert(k, t) => text(alloc, arena.insert_reallocating(kind(k), t)),
-        Do::InsertMany(n) => text(alloc, add_lone(arena, n)),
-        Do::InsertWithin(k, t) => text(alloc, arena.insert_within_capacity(kind(k), t)),
-        Do::Connect(p, q) => text(alloc, arena.connect(at(p), at(q))),
-        Do::BreakPrev(p) => text(alloc, arena.break_prev(at(p))),
-        Do::BreakNext(p) => text(alloc, arena.break_next(at(p))),
-        Do::Exchange(p, q) => text(alloc, arena.exchange_next(at(p), at(q))),
-        other => change_links(alloc, arena, other),
+    match asked.call {
+        Do::Insert => text(alloc, arena.insert_reallocating(asked.kind, asked.t)),
+        Do::InsertMany => text(alloc, add_lone(arena, asked.n)),
+        Do::InsertWithin => text(alloc, arena.insert_within_capacity(asked.kind, asked.t)),
+        Do::Connect => text(alloc, arena.connect(asked.p, asked.q)),
+        Do::BreakPrev => text(alloc, arena.break_prev(asked.p)),
+        Do::BreakNext => text(alloc, arena.break_next(asked.p)),
+        Do::Exchange => text(alloc, arena.exchange_next(asked.p, asked.q)),
+        _ => change_links(alloc, arena, asked),
     }
 }
 
@@ -334,47 +214,36 @@ pub(super) fn answer<P: Numbered, A: ChainArenaTrait<P, u32> + CompactArenaTrait
 fn change_links<P: Numbered, A: ChainArenaTrait<P, u32> + CompactArenaTrait<P, u32> + Drop>(
     alloc: Global,
     arena: &mut A,
-    call: Do,
+    asked: Asked<P>,
 ) -> Option<String> {
-    match call {
-        Do::RemoveLink(p) => text(alloc, removed::<P>(arena.remove_link_no_gen(at(p)))),
-        Do::Canonical(reset) => text(alloc, arena.compress_canonical(reset)),
-        Do::AddBehind(p, t) => text(alloc, add_behind(arena, at(p), t)),
-        Do::TakeNext(i) => text(alloc, index_told(take_next(arena, index::<P>(i)))),
-        Do::CarryOut(g) => carried_by(alloc, arena, g, None),
-        Do::CarryAsFive => carried_by(alloc, arena, 7, Some(5)),
-        Do::CarryToFull => carried_to_full(alloc, arena),
-        Do::CarryToBare(most) => carried_to_bare(alloc, arena, most),
-        other => change(alloc, arena, other),
+    match asked.call {
+        Do::RemoveLink => text(alloc, removed::<P>(arena.remove_link_no_gen(asked.p))),
+        Do::Canonical => text(alloc, arena.compress_canonical(asked.n > 0)),
+        Do::AddBehind => text(alloc, add_behind(arena, asked.p, asked.t)),
+        Do::TakeNext => text(alloc, index_told(take_next(arena, asked.i))),
+        Do::CarryOut | Do::CarryAsFive | Do::CarryToFull | Do::CarryToBare => {
+            carried(alloc, arena, asked.call, asked.n)
+        }
+        _ => change(alloc, arena, asked),
     }
-}
-
-// .. to a transfer to another arena, in the one place that names its type, ...
-fn carried_by<P: Numbered, A: ChainArenaTrait<P, u32> + CompactArenaTrait<P, u32>>(
-    alloc: Global,
-    arena: &mut A,
-    generation: u32,
-    answered: Option<u32>,
-) -> Option<String> {
-    carried_out::<P, A, HeapStack<Slot<ToolPtr>>>(alloc, arena, generation, answered)
 }
 
 // .. to a change of any arena, ...
 fn change<P: Numbered, A: ChainArenaTrait<P, u32> + Drop>(
     alloc: Global,
     arena: &mut A,
-    call: Do,
+    asked: Asked<P>,
 ) -> Option<String> {
-    match call {
-        Do::Write(p, t) => text(alloc, overwritten(arena.get_mut(at(p)), t)),
-        Do::WriteInx(i, t) => text(alloc, overwritten(arena.get_inx_mut(index::<P>(i)), t)),
-        Do::Remove(p) => text(alloc, arena.remove(at(p))),
-        Do::RemoveInx(i) => {
-            let removed = arena.remove_inx(index::<P>(i)).allow();
+    match asked.call {
+        Do::Write => text(alloc, overwritten(arena.get_mut(asked.p), asked.t)),
+        Do::WriteInx => text(alloc, overwritten(arena.get_inx_mut(asked.i), asked.t)),
+        Do::Remove => text(alloc, arena.remove(asked.p)),
+        Do::RemoveInx => {
+            let removed = arena.remove_inx(asked.i).allow();
             text(alloc, standing::<P, u32>(removed))
         }
-        Do::Invalidate(p) => text(alloc, arena.invalidate(at(p))),
-        other => change_whole(alloc, arena, other),
+        Do::Invalidate => text(alloc, arena.invalidate(asked.p)),
+        _ => change_whole(alloc, arena, asked),
     }
 }
 
@@ -382,14 +251,14 @@ fn change<P: Numbered, A: ChainArenaTrait<P, u32> + Drop>(
 fn change_whole<P: Numbered, A: ChainArenaTrait<P, u32> + Drop>(
     alloc: Global,
     arena: &mut A,
-    call: Do,
+    asked: Asked<P>,
 ) -> Option<String> {
-    match call {
+    match asked.call {
         Do::Clear => text(alloc, arena.clear()),
         Do::ClearInRoom => text(alloc, cleared(arena)),
-        Do::Reserve(n) => text(alloc, arena.reallocate_min_capacity(n)),
-        Do::CompressWith(reset) => text(alloc, compressed(alloc, arena, reset)),
-        other => look(alloc, arena, other),
+        Do::Reserve => text(alloc, arena.reallocate_min_capacity(asked.n as usize)),
+        Do::CompressWith => text(alloc, compressed(alloc, arena, asked.n > 0)),
+        _ => look(alloc, arena, asked),
     }
 }
 
@@ -398,15 +267,14 @@ pub(super) trait Answers {
     // Begins anew.
     fn renew(&mut self, alloc: Global);
 
-    // The text of an answer, if there is memory for it.
-    fn answer(&mut self, alloc: Global, call: Do) -> Option<String>;
+    // The text of the answer to a call, if there is such a call, and memory for it.
+    fn answer(&mut self, alloc: Global, call: &str) -> Option<String>;
 }
 
 // A line begins a new arena, or its call has the answer after the sign.
 fn plays_line<A: Answers>(rt: &impl Abort, alloc: Global, arena: &mut A, line: &str) {
     match line.split_once(" = ") {
         Some((call, want)) => {
-            let call = call_of(call).expect(rt, "a call");
             let got = arena.answer(alloc, call).expect(rt, "an answer");
             same(rt, line, got.as_str(), want);
         }

@@ -1,11 +1,11 @@
 //! The texts of links and of arenas of links.
 
 use super::pointers::BarePtr;
-use super::{at, put, same};
+use super::{at, same};
 use arena_base::{ArenaSlot, ArenaTrait};
-use arena_ptr::{HeapStack, Inx32, Ptr, SlotStack, ToolPtr};
-use chain_arena::{ChainArena, Link, LinkInsertKind, LinkNoGen};
-use std::alloc::Global;
+use arena_ptr::{HeapStack, Inx32, Ptr, PtrKey, SlotStack, ToolPtr};
+use chain_arena::{ChainArena, ChainArenaTrait, Link, LinkInsertKind, LinkNoGen};
+use std::alloc::{AllocError, Global};
 use std::fmt;
 use std::fmt::{Debug, Display};
 use std::process::Abort;
@@ -16,14 +16,15 @@ struct Teller;
 
 // Writes a word, and what of the format reaches it.
 fn tell<W: fmt::Write>(f: &mut fmt::Formatter<W>, word: &str) -> fmt::Result {
+    let is_wide = f.width().is_some() || f.precision().is_some() || f.sign_plus();
+    let marks = match (f.alternate(), is_wide) {
+        (false, false) => "",
+        (true, false) => "#",
+        (false, true) => "!",
+        (true, true) => "#!",
+    };
     f.write_str(word)?;
-    if f.alternate() {
-        f.write_str("#")?;
-    }
-    if f.width().is_some() || f.precision().is_some() || f.sign_plus() {
-        f.write_str("!")?;
-    }
-    Ok(())
+    f.write_str(marks)
 }
 
 impl fmt::Debug for Teller {
@@ -38,20 +39,24 @@ impl fmt::Display for Teller {
     }
 }
 
+// Looks at a text.
+fn reads(rt: &impl Abort, what: &str, text: Result<String, AllocError>, want: &str) {
+    let text = text.expect(rt, "memory");
+    same(rt, what, text.as_str(), want);
+}
+
 // Looks at the text by `Debug`, plain and in the alternate form.
 fn debug_reads<T: Debug>(rt: &impl Abort, alloc: Global, item: &T, plain: &str, sharp: &str) {
-    let text = format!(in alloc; "{item:?}").expect(rt, "memory");
-    same(rt, "by debug", text.as_str(), plain);
-    let text = format!(in alloc; "{item:#?}").expect(rt, "memory");
-    same(rt, "by debug, alternate", text.as_str(), sharp);
+    reads(rt, "by debug", format!(in alloc; "{item:?}"), plain);
+    let text = format!(in alloc; "{item:#?}");
+    reads(rt, "by debug, alternate", text, sharp);
 }
 
 // .. by `Display`.
 fn display_reads<T: Display>(rt: &impl Abort, alloc: Global, item: &T, plain: &str, sharp: &str) {
-    let text = format!(in alloc; "{item}").expect(rt, "memory");
-    same(rt, "by display", text.as_str(), plain);
-    let text = format!(in alloc; "{item:#}").expect(rt, "memory");
-    same(rt, "by display, alternate", text.as_str(), sharp);
+    reads(rt, "by display", format!(in alloc; "{item}"), plain);
+    let text = format!(in alloc; "{item:#}");
+    reads(rt, "by display, alternate", text, sharp);
 }
 
 // .. both in a width, with a sign and a precision.
@@ -62,10 +67,10 @@ fn wide_reads<T: Debug + Display>(
     debug: &str,
     display: &str,
 ) {
-    let text = format!(in alloc; "{item:>+40.3?}").expect(rt, "memory");
-    same(rt, "by debug, in a width", text.as_str(), debug);
-    let text = format!(in alloc; "{item:>+40.3}").expect(rt, "memory");
-    same(rt, "by display, in a width", text.as_str(), display);
+    let text = format!(in alloc; "{item:>+40.3?}");
+    reads(rt, "by debug, in a width", text, debug);
+    let text = format!(in alloc; "{item:>+40.3}");
+    reads(rt, "by display, in a width", text, display);
 }
 
 // Both forms, which for these values are the same.
@@ -123,26 +128,39 @@ fn only_the_alternate_mark_reaches_the_value_of_a_link(rt: HostRuntime) {
     teller_reads(&rt, rt.alloc(), &first, texts);
 }
 
+// A slot of a link of a value that tells.
+type Telling<P> = ArenaSlot<P, LinkNoGen<P, Teller>>;
+
+// A chain of two links.
+fn two_links<P: PtrKey, S: SlotStack<Item = Telling<P>>>(
+    alloc: Global,
+) -> ChainArena<P, Teller, S> {
+    let mut arena: ChainArena<P, Teller, S> = ChainArena::new(alloc);
+    let mut kind = LinkInsertKind::Disconnected;
+    for _ in 0..2 {
+        if let Ok(p) = arena.insert_reallocating(kind, Teller) {
+            kind = LinkInsertKind::ChainEnd(p);
+        }
+    }
+    arena
+}
+
 // The texts of an arena of a chain of two links.
-fn chain_reads<P: Ptr, T: Copy + Debug + Drop, S: SlotStack<Item = ArenaSlot<P, LinkNoGen<P, T>>>>(
+fn chain_reads<P: Ptr, S: SlotStack<Item = Telling<P>>>(
     rt: &impl Abort,
     alloc: Global,
-    value: T,
     plain: &str,
     sharp: &str,
 ) {
-    let mut arena: ChainArena<P, T, S> = ChainArena::new(alloc);
-    let p = put(rt, &mut arena, LinkInsertKind::Disconnected, value);
-    put(rt, &mut arena, LinkInsertKind::ChainEnd(p), value);
+    let arena = two_links::<P, S>(alloc);
     debug_reads(rt, alloc, &arena, plain, sharp);
 }
 
 #[test]
 fn pointers_without_a_generation_show_none(rt: HostRuntime) {
-    chain_reads::<BarePtr, Teller, HeapStack<ArenaSlot<BarePtr, LinkNoGen<BarePtr, Teller>>>>(
+    chain_reads::<BarePtr, HeapStack<Telling<BarePtr>>>(
         &rt,
         rt.alloc(),
-        Teller,
         "{Bare[1]: {(start), 2} debug, Bare[2]: {1, (end)} debug}",
         "{\n    Bare[1]: {(start), 2} debug#,\n    Bare[2]: {1, (end)} debug#,\n}",
     );

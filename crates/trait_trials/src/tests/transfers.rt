@@ -1,12 +1,16 @@
 //! Chains carried over to another arena.
 
+use super::asked::Do;
 use super::pointers::BarePtr;
 use super::{Counted, Numbered, Slot, limited, text};
 use arena_base::{ArenaTrait, CompactArenaTrait};
-use arena_ptr::{Gen32, LimitStack, LimitedStack, Ptr, PtrKey, SlotStack, ToolPtr};
+use arena_ptr::{Gen32, HeapStack, LimitStack, LimitedStack, Ptr, PtrKey, SlotStack, ToolPtr};
 use chain_arena::{ChainArena, ChainArenaTrait, LinkInsertKind};
 use std::alloc::Global;
 use std::fmt::Debug;
+
+// A stack of links of tool pointers in one piece.
+type OnHeap = HeapStack<Slot<ToolPtr>>;
 
 // Adds links of a kind, and tells whether there are so many then.
 fn add_links<P: PtrKey, S: SlotStack<Item = Slot<P>>>(
@@ -63,7 +67,7 @@ fn arrival<S: SlotStack<Item = Slot<ToolPtr>>>(
 
 // Carries all links of a source over to an arena of tool pointers that holds two links, or none where one value is answered for
 // all. Tells the answer, what the closure saw, the links there then, and the counter.
-pub(super) fn carried_out<
+fn carried_out<
     P: Numbered,
     A: ChainArenaTrait<P, u32> + CompactArenaTrait<P, u32>,
     S: SlotStack<Item = Slot<ToolPtr>>,
@@ -129,35 +133,34 @@ fn refused<
     refusal(alloc, told, (before, after), (room, source.capacity()))
 }
 
-// .. to a full one with a maximum of two links.
-pub(super) fn carried_to_full<P: Numbered, A: ChainArenaTrait<P, u32> + CompactArenaTrait<P, u32>>(
+// The answer to a transfer: to a full arena with a maximum of two links; to one of 8 bits of index, with a ring in it and a maximum
+// of as many links, or of two; to one where each value is five; and to one of two links.
+pub(super) fn carried<P: Numbered, A: ChainArenaTrait<P, u32> + CompactArenaTrait<P, u32>>(
     alloc: Global,
     source: &mut A,
+    call: Do,
+    n: u32,
 ) -> Option<String> {
-    refused::<P, ToolPtr, A, LimitedStack<Slot<ToolPtr>>>(
-        alloc,
-        source,
-        2,
-        Gen32::of(7),
-        LinkInsertKind::Disconnected,
-        &[1, 2],
-    )
-}
-
-// .. to one of 8 bits of index, with a ring in it and a maximum of as many links, or of two.
-pub(super) fn carried_to_bare<P: Numbered, A: ChainArenaTrait<P, u32> + CompactArenaTrait<P, u32>>(
-    alloc: Global,
-    source: &mut A,
-    most: usize,
-) -> Option<String> {
-    refused::<P, BarePtr, A, LimitedStack<Slot<BarePtr>>>(
-        alloc,
-        source,
-        most,
-        (),
-        LinkInsertKind::SingleLinkCyclic,
-        &[5],
-    )
+    match call {
+        Do::CarryToFull => refused::<P, ToolPtr, A, LimitedStack<Slot<ToolPtr>>>(
+            alloc,
+            source,
+            2,
+            Gen32::of(7),
+            LinkInsertKind::Disconnected,
+            &[1, 2],
+        ),
+        Do::CarryToBare => refused::<P, BarePtr, A, LimitedStack<Slot<BarePtr>>>(
+            alloc,
+            source,
+            n as usize,
+            (),
+            LinkInsertKind::SingleLinkCyclic,
+            &[5],
+        ),
+        Do::CarryAsFive => carried_out::<P, A, OnHeap>(alloc, source, 7, Some(5)),
+        _ => carried_out::<P, A, OnHeap>(alloc, source, n, None),
+    }
 }
 
 // A chain of 3 and 1, and a lone link between them; and others. Some have the generation that a compression of the same links gives

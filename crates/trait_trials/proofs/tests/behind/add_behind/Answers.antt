@@ -1,5 +1,5 @@
 -- The new link is joined, or else taken out again.
-use Rattle.std.proofs.Common.{◌≡◌, false, Option, None, Some, ap, sym, ◌∙◌, subst}
+use Rattle.std.proofs.Common.{◌≡◌, false, Option, None, Some, refl, ap, sym, ◌∙◌, subst, rules}
 use Rattle.std.specs.Prelude.{is_some, IfNone}
 use Rattle.std.proofs.lemmas.Bool.{false≢true}
 use Rattle.chain_laws.specs.Removals.{removed}
@@ -7,7 +7,7 @@ use Rattle.arena_base.specs.Arena.{IsValid}
 use Rattle.arena_base.specs.Entries.{without}
 use Rattle.chain_laws.proofs.RemovalPairs.{removed_of_lone}
 use Rattle.chain_laws.proofs.InsertionWrites.{alone_by_writes}
-use Rattle.trait_trials.proofs.Behind.{taken_back, not_shown, joinable, extends, some_holds}
+use Rattle.trait_trials.proofs.Behind.{taken_back, not_shown, joinable, extends, ended, some_holds}
 use Rattle.trait_trials.proofs.tests.behind.add_behind.Goals as goal
 
 none_holds : {X Q : Type 0} (o : Option X) → is_some o ≡ false → IfNone o Q → Q
@@ -43,6 +43,18 @@ returns-clause-none g c =
       gone.1.1 ∙ (ap (λ a. removed (g.A.ChainArenaTrait.interlinks a) q.0) same ∙ (ap (λ s. removed s q.0) (c.in_ok-q.ensures.inserted.shows ∙ alone_by_writes (g.A.ChainArenaTrait.interlinks old) q.0)
           ∙ removed_of_lone (g.A.ChainArenaTrait.interlinks old) q.0 (not_shown (g.A.ArenaTrait.entry old) (g.A.ArenaTrait.entry mid) q c.args.t inserted (g.A.ChainArenaTrait.interlinks old) (g.met.A.ChainArenaTrait.stand old q.0)))),
     )
+
+pub returns-then-is_some-clause-some : goal.returns-then-is_some-clause-some
+returns-then-is_some-clause-some g c =
+    let old = c.args.arena.now in
+    let mid = c.insert_reallocating.new.self in
+    let p = g.P.PtrKey.key c.args.p in
+    let q = g.P.PtrKey.key c.in_ok-q.q in
+    let none = not_shown (g.A.ArenaTrait.entry old) (g.A.ArenaTrait.entry mid) q c.args.t c.in_ok-q.ensures.inserted.entries (g.A.ChainArenaTrait.interlinks old) (g.met.A.ChainArenaTrait.stand old q.0) in
+    let alone = c.in_ok-q.ensures.inserted.shows ∙ alone_by_writes (g.A.ChainArenaTrait.interlinks old) q.0 in
+    let can = c.connect.ensures.some.0 (sym c.is_some.ensures ∙ c.if-is_some.true) in
+    let valid : IsValid (g.A.ArenaTrait.entry old) p = search rules in
+    (λ some. (valid, ended (g.A.ChainArenaTrait.interlinks old) (g.A.ChainArenaTrait.interlinks mid) q.0 none alone p.0 can.no_next), λ both. refl)
 
 pub returns-then-is_some-clause-chains : goal.returns-then-is_some-clause-chains
 returns-then-is_some-clause-chains g c =
