@@ -2,7 +2,7 @@
 
 use super::scripts::{Do, Kind, Line, Script};
 use super::steps::SlotOf;
-use super::{ChainsOver, Slot, put, same, text};
+use super::{ChainsOver, Slot, fresh, put, same, text};
 use arena_base::{Arena, ArenaSlot, ArenaTrait};
 use arena_ptr::{
     HeapStack, LimitStack, LimitedStack, ReallocationError, SetMaxCapacity, SlotStack, ToolPtr,
@@ -23,7 +23,7 @@ pub(super) fn cloned<S: SlotStack<Item = Slot>>(alloc: Global, arena: &ChainsOve
 
 // A chain of the links 1, 2 and 3, of which the second is removed.
 fn with_a_hole<S: SlotStack<Item = Slot>>(alloc: Global) -> ChainsOver<S> {
-    let mut arena = ChainsOver::<S>::new(alloc);
+    let mut arena: ChainsOver<S> = fresh(alloc);
     let first = put(&mut arena, LinkInsertKind::Disconnected, 1);
     let second = put(&mut arena, LinkInsertKind::ChainEnd(first), 2);
     put(&mut arena, LinkInsertKind::ChainEnd(second), 3);

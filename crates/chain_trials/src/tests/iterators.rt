@@ -4,8 +4,7 @@ ghost use Rattle.std.specs.Prelude.{◌≡◌, IfOk, map};
 ghost use Rattle.arena_ptr.specs.Indexes.{number_of_inx32};
 ghost use Rattle.arena_base.specs.Entries.{entries, index_of};
 
-use super::{ChainsOver, Slot, text, text_of_all};
-use arena_base::ArenaTrait;
+use super::{ChainsOver, Slot, fresh, text, text_of_all};
 use arena_ptr::{Inx32, Ptr, SlotStack, ToolPtr};
 use std::alloc::{AllocError, Global};
 use std::mem;
@@ -45,7 +44,7 @@ pub(super) fn links_used_up<S: SlotStack<Item = Slot>>(
     alloc: Global,
     arena: &mut ChainsOver<S>,
 ) -> String {
-    let links = mem::replace(arena, ChainsOver::<S>::new(alloc));
+    let links = mem::replace(arena, fresh(alloc));
     text_of_all(alloc, links.into_iter())
 }
 

@@ -3,8 +3,8 @@
 use super::steps::SlotOf;
 use super::{add_plain, at, chained, put, same};
 use arena_base::{Arena, ArenaTrait};
-use arena_ptr::{HeapStack, Inx32, SlotStack, ToolPtr};
-use chain_arena::{Call, ChainArena, LinkBody, LinkInsertKind, LinkNoGen, apply};
+use arena_ptr::{HeapStack, SlotStack, ToolPtr};
+use chain_arena::{Call, ChainArena, LinkInsertKind, LinkNoGen, apply};
 use std::alloc::{AllocError, Global};
 use std::cell::Cell;
 use std::marker::Model;
@@ -63,8 +63,7 @@ fn plain_pair<S: SlotStack<Item = SlotOf<Rc<u8>>>>(
 ) -> Arena<ToolPtr, LinkNoGen<ToolPtr, Rc<u8>>, S> {
     let mut arena = Arena::new(alloc);
     for next in [next, 0] {
-        let link = LinkBody::new((None, Inx32::new(next)), one_more(rt, value));
-        add_plain(&mut arena, link);
+        add_plain(&mut arena, (0, next), one_more(rt, value));
     }
     arena
 }
