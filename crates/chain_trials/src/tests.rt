@@ -19,7 +19,9 @@ mod values;
 ghost use Rattle.std.specs.Iterator.{IsFinite};
 
 use arena_base::{Arena, ArenaSlot, ArenaTrait};
-use arena_ptr::{Gen32, Inx32, LimitStack, Ptr, SetMaxCapacity, SlotStack, ToolPtr};
+use arena_ptr::{
+    Gen32, InvalidationResult, Inx32, LimitStack, Ptr, SetMaxCapacity, SlotStack, ToolPtr,
+};
 use chain_arena::{ChainArena, ChainArenaTrait, LinkBody, LinkInsertKind, LinkNoGen};
 use std::alloc::{AllocError, Global};
 use std::fmt::Debug;
@@ -80,6 +82,21 @@ fn at(p: At) -> ToolPtr {
     ToolPtr::_from_raw(index(p.0), generation(p.1))
 }
 
+// An arena without links.
+fn fresh<T: Drop, S: SlotStack<Item = ArenaSlot<ToolPtr, LinkNoGen<ToolPtr, T>>>>(
+    alloc: Global,
+) -> ChainArena<ToolPtr, T, S> {
+    ChainArena::new(alloc)
+}
+
+// Removes a link.
+fn remove<T: Drop, S: SlotStack<Item = ArenaSlot<ToolPtr, LinkNoGen<ToolPtr, T>>>>(
+    arena: &mut ChainArena<ToolPtr, T, S>,
+    p: At,
+) -> InvalidationResult<T> {
+    arena.remove(at(p))
+}
+
 // Adds a link, and tells its pointer. Without room for it that is the invalid one.
 fn put<T: Drop, S: SlotStack<Item = ArenaSlot<ToolPtr, LinkNoGen<ToolPtr, T>>>>(
     arena: &mut ChainArena<ToolPtr, T, S>,
@@ -90,6 +107,13 @@ fn put<T: Drop, S: SlotStack<Item = ArenaSlot<ToolPtr, LinkNoGen<ToolPtr, T>>>>(
         Ok(p) => p,
         Err(_) => ToolPtr::invalid(),
     }
+}
+
+// A plain arena without entries.
+fn fresh_plain<T: Drop, S: SlotStack<Item = ArenaSlot<ToolPtr, T>>>(
+    alloc: Global,
+) -> Arena<ToolPtr, T, S> {
+    Arena::new(alloc)
 }
 
 // Adds a link to a plain arena, where there is room, by the indexes before and after it, 0 for none.
@@ -107,11 +131,6 @@ fn chained<T: Drop, S: SlotStack<Item = ArenaSlot<ToolPtr, LinkNoGen<ToolPtr, T>
     arena: Arena<ToolPtr, LinkNoGen<ToolPtr, T>, S>,
 ) -> Result<ChainArena<ToolPtr, T, S>, &'static str> {
     ChainArena::from_arena(arena)
-}
-
-// An arena without links.
-fn fresh<S: SlotStack<Item = Slot>>(alloc: Global) -> ChainsOver<S> {
-    ChainsOver::<S>::new(alloc)
 }
 
 // So many lone links, each with its index as its value.

@@ -65,18 +65,27 @@ pub(super) fn forget<S: SlotStack<Item = Slot>>(
     }
 }
 
-// A link of a kind that may be inserted, in a place that is asked for or by a call. `None`: it may not be.
+// The insertion of a link of a kind that may be inserted. `None`: it may not be.
 pub(super) fn insert_asked<S: SlotStack<Item = Slot>>(
     arena: &mut ChainsOver<S>,
     kind: LinkInsertKind<ToolPtr>,
     t: u32,
-    by_entry: bool,
+) -> Option<Result<ToolPtr, ReallocationError>> {
+    if arena.can_insert(kind) {
+        Some(arena.insert(kind, t))
+    } else {
+        None
+    }
+}
+
+// .. by a place for it.
+pub(super) fn insert_by_any_entry<S: SlotStack<Item = Slot>>(
+    arena: &mut ChainsOver<S>,
+    kind: LinkInsertKind<ToolPtr>,
+    t: u32,
 ) -> Option<Result<ToolPtr, ReallocationError>> {
     if !arena.can_insert(kind) {
         return None;
-    }
-    if !by_entry {
-        return Some(arena.insert(kind, t));
     }
     match arena.entry_insert(kind) {
         Ok(entry) => {

@@ -2,7 +2,9 @@
 
 use super::canonical::{counted, moves_listed, moves_seen, placed};
 use super::drains::{Ends, drained, drained_chain, remove_all, takes_one};
-use super::entries::{forget, give_up, insert_asked, insert_by_entry, place_refusals};
+use super::entries::{
+    forget, give_up, insert_asked, insert_by_any_entry, insert_by_entry, place_refusals,
+};
 use super::indexing::{value_at, value_at_index, write_at, write_at_index};
 use super::iterators::{indexes, links, links_by_reference, links_used_up, values, walk};
 use super::machine::kind;
@@ -76,8 +78,8 @@ fn place_answer<S: SlotStack<Item = Slot>>(
         Do::Forget(k) => text(alloc, forget(arena, kind(k))),
         Do::PlaceRefusals(k) => text(alloc, place_refusals(arena, kind(k))),
         Do::InsertByEntry(k, t) => text(alloc, insert_by_entry(arena, kind(k), t)),
-        Do::InsertByAnyEntry(k, t) => text(alloc, insert_asked(arena, kind(k), t, true)),
-        Do::InsertAsked(k, t) => text(alloc, insert_asked(arena, kind(k), t, false)),
+        Do::InsertByAnyEntry(k, t) => text(alloc, insert_by_any_entry(arena, kind(k), t)),
+        Do::InsertAsked(k, t) => text(alloc, insert_asked(arena, kind(k), t)),
         other => answer(alloc, arena, other),
     }
 }

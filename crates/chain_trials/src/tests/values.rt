@@ -1,7 +1,7 @@
 //! Values that tell how many of them there are, or how often they were cloned: none is lost, and none is cloned twice.
 
 use super::steps::SlotOf;
-use super::{add_plain, at, chained, put, same};
+use super::{add_plain, at, chained, fresh, fresh_plain, put, remove, same};
 use arena_base::{Arena, ArenaTrait};
 use arena_ptr::{HeapStack, SlotStack, ToolPtr};
 use chain_arena::{Call, ChainArena, LinkInsertKind, LinkNoGen, apply};
@@ -27,7 +27,7 @@ fn chain_and_lone<S: SlotStack<Item = SlotOf<Rc<u8>>>>(
     alloc: Global,
     value: &Rc<u8>,
 ) -> ChainArena<ToolPtr, Rc<u8>, S> {
-    let mut arena = ChainArena::new(alloc);
+    let mut arena = fresh(alloc);
     let mut kind = LinkInsertKind::Disconnected;
     for _ in 0..3 {
         kind = LinkInsertKind::ChainEnd(put(&mut arena, kind, one_more(rt, value)));
@@ -61,7 +61,7 @@ fn plain_pair<S: SlotStack<Item = SlotOf<Rc<u8>>>>(
     value: &Rc<u8>,
     next: u32,
 ) -> Arena<ToolPtr, LinkNoGen<ToolPtr, Rc<u8>>, S> {
-    let mut arena = Arena::new(alloc);
+    let mut arena = fresh_plain(alloc);
     for next in [next, 0] {
         add_plain(&mut arena, (0, next), one_more(rt, value));
     }
@@ -129,12 +129,12 @@ fn counted_with_a_hole<S: SlotStack<Item = SlotOf<Counted>>>(
     alloc: Global,
     clones: &Rc<Cell<u32>>,
 ) -> ChainArena<ToolPtr, Counted, S> {
-    let mut arena = ChainArena::new(alloc);
+    let mut arena = fresh(alloc);
     for _ in 0..3 {
         let clones = clones.clone().expect(rt, "one more");
         put(&mut arena, LinkInsertKind::Disconnected, Counted { clones });
     }
-    arena.remove(at((2, 2)));
+    remove(&mut arena, (2, 2));
     arena
 }
 
