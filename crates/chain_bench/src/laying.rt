@@ -5,8 +5,8 @@ use crate::faults::Fault;
 use crate::seen::Seen;
 use crate::shapes::{ChainsOver, Slot, number};
 use arena_base::ArenaTrait;
-use arena_ptr::{Gen32, GenKey, Inx32, InxKey, PtrKey, SlotStack, ToolPtr};
-use chain_arena::{ChainArena, ChainArenaTrait};
+use arena_ptr::{Gen32, GenKey, Inx32, InxKey, PtrKey, ReallocationError, SlotStack, ToolPtr};
+use chain_arena::{ChainArena, ChainArenaTrait, LinkNoGen};
 use std::alloc::Global;
 
 /// Copies links, brings them together or lays them out. Each is an operation; a few of them are seen then.
@@ -51,8 +51,15 @@ fn transfer<S: SlotStack<Item = Slot>>(
     arena: &mut ChainsOver<S>,
 ) -> Result<Seen, Fault> {
     let mut target: ChainsOver<S> = ChainArena::new(alloc);
-    target.transfer_canonical_reallocating(Gen32::two(), arena, |_from, value, _to| value.allow())?;
+    carry_over(arena, &mut target)?;
     Ok(probe(&target))
+}
+
+fn carry_over<S: SlotStack<Item = Slot>>(
+    source: &mut ChainsOver<S>,
+    target: &mut ChainsOver<S>,
+) -> Result<(), ReallocationError> {
+    target.transfer_canonical_reallocating(Gen32::two(), source, |_from, value, _to| value.allow())
 }
 
 // So many operations as there are links, and eight links, spread over the indexes.
@@ -64,14 +71,17 @@ fn probe<S: SlotStack<Item = Slot>>(arena: &ChainsOver<S>) -> Seen {
         if let Some(i) = Inx32::try_from_usize(at)
             && let Some((generation, link)) = arena.get_inx_link_no_gen(i)
         {
-            seen = seen.and(number(ToolPtr::_from_raw(i, generation)));
-            seen = seen.and(u64::from(link.t));
-            seen = seen.and(number_of(link.prev()));
-            seen = seen.and(number_of(link.next()));
+            seen = and_link(seen, ToolPtr::_from_raw(i, generation), link);
         }
     }
     seen.operations = links as u64;
     seen
+}
+
+// With the pointer of a link, its value, and its neighbours.
+fn and_link(seen: Seen, p: ToolPtr, link: &LinkNoGen<ToolPtr, u32>) -> Seen {
+    let seen = seen.and(number(p)).and(u64::from(link.t));
+    seen.and(number_of(link.prev())).and(number_of(link.next()))
 }
 
 // An index as a number, 0 for none.

@@ -3,7 +3,7 @@ ghost use Rattle.std.specs.Prelude.{◌≡◌, None};
 
 use crate::cases::Looking;
 use crate::seen::Seen;
-use crate::shapes::{ChainsOver, Pair, Slot, number};
+use crate::shapes::{ChainsOver, Pair, Slot, number, number_of_link};
 use crate::tasks::Task;
 use arena_base::{Advancer, ArenaTrait};
 use arena_ptr::{SlotStack, ToolPtr};
@@ -43,7 +43,7 @@ fn walk<S: SlotStack<Item = Slot>>(arena: &ChainsOver<S>, starts: &[ToolPtr]) ->
     for start in starts {
         if let Some(links) = arena.iter_chain(*start) {
             for (p, link) in links {
-                seen = seen.and_one(number(p) ^ u64::from(link.t));
+                seen = seen.and_one(number_of_link(p, link));
             }
         }
     }
@@ -73,7 +73,7 @@ fn advance<S: SlotStack<Item = Slot>>(arena: &ChainsOver<S>, starts: &[ToolPtr])
 fn iterate<S: SlotStack<Item = Slot>>(arena: &ChainsOver<S>) -> Seen {
     let mut seen = Seen::nothing();
     for (p, link) in arena.iter_link_no_gen() {
-        seen = seen.and_one(number(p) ^ u64::from(link.t));
+        seen = seen.and_one(number_of_link(p, link));
     }
     seen
 }

@@ -25,7 +25,7 @@ impl Setting {
         let picks = picks_of(alloc, case.picks, &mut shaped, &mut numbers)?;
         let Shaped { arena, starts, .. } = shaped;
         let count = if case.act.uses_up() { plan.rounds } else { 1 };
-        let arenas = copies_of(alloc, arena, count)?;
+        let arenas = arenas_of(alloc, arena, count)?;
         let task = Task {
             alloc,
             act: case.act,
@@ -54,18 +54,24 @@ impl Setting {
     }
 }
 
-// An arena with copies of it, so many in all, at least one.
-fn copies_of<S: SlotStack<Item = Slot>>(
-    alloc: Global,
-    arena: ChainsOver<S>,
-    count: u32,
-) -> Result<Vec<ChainsOver<S>>, Fault> {
+// Copies of an arena, and then that arena, so many in all, at least one.
+fn arenas_of(alloc: Global, arena: Chains, count: u32) -> Result<Vec<Chains>, Fault> {
     let mut arenas = Vec::new(alloc);
     for _ in 1..count {
-        arenas.push(arena.clone(alloc)?)?;
+        add_copy(alloc, &arena, &mut arenas)?;
     }
     arenas.push(arena)?;
     Ok(arenas)
+}
+
+fn add_copy<S: SlotStack<Item = Slot>>(
+    alloc: Global,
+    arena: &ChainsOver<S>,
+    copies: &mut Vec<ChainsOver<S>>,
+) -> Result<(), Fault> {
+    let copy = arena.clone(alloc)?;
+    copies.push(copy)?;
+    Ok(())
 }
 
 // The pairs that a case names, as many as there are links, or nearly so.

@@ -26,6 +26,11 @@ pub fn number(p: ToolPtr) -> u64 {
     (generation << 32) | u64::from(p.inx().get())
 }
 
+/// A link as a number: its pointer and its value.
+pub fn number_of_link(p: ToolPtr, link: &LinkNoGen<ToolPtr, u32>) -> u64 {
+    number(p) ^ u64::from(link.t)
+}
+
 /// An arena, the pointers of its links in the order of their insertion, and the first link of each chain.
 #[derive(Drop)]
 pub struct Shaped {

@@ -2,9 +2,10 @@
 
 use crate::cases::Taking;
 use crate::seen::Seen;
-use crate::shapes::{ChainsOver, Slot, number};
+use crate::shapes::{ChainsOver, Slot, number, number_of_link};
 use crate::tasks::Task;
-use arena_ptr::{SlotStack, ToolPtr};
+use arena_ptr::{InvalidationOption, SlotStack, ToolPtr};
+use chain_arena::LinkNoGen;
 
 /// Takes links out, and sees their pointers and values.
 pub fn take<S: SlotStack<Item = Slot>>(
@@ -25,12 +26,16 @@ fn drain_chains<S: SlotStack<Item = Slot>>(arena: &mut ChainsOver<S>, starts: &[
     for start in starts {
         if let Some(links) = arena.drain_chain(*start) {
             for gone in links {
-                let (p, link) = gone.allow();
-                seen = seen.and_one(number(p) ^ u64::from(link.t));
+                seen = seen.and_one(number_of_gone(gone));
             }
         }
     }
     seen
+}
+
+fn number_of_gone(gone: InvalidationOption<(ToolPtr, LinkNoGen<ToolPtr, u32>)>) -> u64 {
+    let (p, link) = gone.allow();
+    number_of_link(p, &link)
 }
 
 // All links by their indexes.
