@@ -1,38 +1,14 @@
 // Why a run gave up.
 
 use arena_ptr::{ChainInsertionError, ReallocationError};
-use std::alloc::{AllocError, AllocFailed};
-use std::{fmt, io};
+use std::alloc::AllocFailed;
+use std::io;
 
-#[derive(Debug, Drop)]
+/// Memory was refused, or a link was asked for that the chains do not allow.
+#[derive(Clone, Copy)]
 pub enum Fault {
-    /// The arguments are not those of a run.
-    Words,
-    /// Memory was refused.
     Memory,
-    /// A link was asked for that the chains do not allow.
     Link,
-    /// The arguments, the clock or the output failed.
-    System(io::Error),
-}
-
-impl fmt::Display for Fault {
-    fn fmt<W: fmt::Write>(&self, f: &mut fmt::Formatter<W>) -> fmt::Result {
-        match self {
-            Fault::Words => f.write_str(
-                "the arguments are CASE LINKS CHAIN ROUNDS setup|all|timed",
-            ),
-            Fault::Memory => f.write_str("no memory"),
-            Fault::Link => f.write_str("a link was refused"),
-            Fault::System(error) => write!(f, "{error}"),
-        }
-    }
-}
-
-impl From<AllocError> for Fault {
-    fn from(_refused: AllocError) -> Fault {
-        Fault::Memory
-    }
 }
 
 impl<T: Drop> From<AllocFailed<T>> for Fault {
@@ -56,8 +32,11 @@ impl From<ChainInsertionError> for Fault {
     }
 }
 
-impl From<io::Error> for Fault {
-    fn from(error: io::Error) -> Fault {
-        Fault::System(error)
+impl From<Fault> for io::Error {
+    fn from(fault: Fault) -> io::Error {
+        match fault {
+            Fault::Memory => io::Error::other("no memory"),
+            Fault::Link => io::Error::other("a link was refused"),
+        }
     }
 }

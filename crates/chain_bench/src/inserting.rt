@@ -2,46 +2,44 @@
 
 use crate::cases::Insertion;
 use crate::faults::Fault;
-use crate::orders::Plan;
 use crate::seen::Seen;
-use crate::shapes::{Chains, Numbered, Slot};
-use arena_ptr::SlotStack;
+use crate::shapes::{ChainsOver, Pair, Slot, number};
+use crate::tasks::Task;
+use arena_ptr::{SlotStack, ToolPtr};
 use chain_arena::{ChainArenaTrait, LinkInsertKind};
 
 /// Inserts links, and sees their pointers.
-pub fn insert<P: Numbered, S: SlotStack<Item = Slot<P>>>(
+pub fn insert<S: SlotStack<Item = Slot>>(
     insertion: Insertion,
-    plan: Plan,
-    arena: &mut Chains<P, S>,
-    starts: &[P],
-    picks: &[(P, P)],
+    task: &Task,
+    arena: &mut ChainsOver<S>,
 ) -> Result<Seen, Fault> {
     match insertion {
-        Insertion::Alone => insert_alone(arena, plan.links),
-        Insertion::AtEnd => insert_at_ends(arena, starts, plan.chain),
-        Insertion::Beside => insert_beside(arena, picks),
+        Insertion::Alone => insert_alone(arena, task.plan.links),
+        Insertion::AtEnd => insert_at_ends(arena, task.starts.as_slice(), task.plan.chain),
+        Insertion::Beside => insert_beside(arena, task.picks.as_slice()),
     }
 }
 
 // So many lone links.
 #[inline(never)]
-fn insert_alone<P: Numbered, S: SlotStack<Item = Slot<P>>>(
-    arena: &mut Chains<P, S>,
+fn insert_alone<S: SlotStack<Item = Slot>>(
+    arena: &mut ChainsOver<S>,
     links: u32,
 ) -> Result<Seen, Fault> {
     let mut seen = Seen::nothing();
     for k in 0..links {
         let p = arena.insert_reallocating(LinkInsertKind::Disconnected, k)?;
-        seen = seen.and_one(p.number());
+        seen = seen.and_one(number(p));
     }
     Ok(seen)
 }
 
 // Links at the end of each chain in turn, until it has so many.
 #[inline(never)]
-fn insert_at_ends<P: Numbered, S: SlotStack<Item = Slot<P>>>(
-    arena: &mut Chains<P, S>,
-    starts: &[P],
+fn insert_at_ends<S: SlotStack<Item = Slot>>(
+    arena: &mut ChainsOver<S>,
+    starts: &[ToolPtr],
     chain: u32,
 ) -> Result<Seen, Fault> {
     let mut seen = Seen::nothing();
@@ -49,7 +47,7 @@ fn insert_at_ends<P: Numbered, S: SlotStack<Item = Slot<P>>>(
         let mut last = *start;
         for k in 1..chain {
             last = arena.insert_reallocating(LinkInsertKind::ChainEnd(last), k)?;
-            seen = seen.and_one(last.number());
+            seen = seen.and_one(number(last));
         }
     }
     Ok(seen)
@@ -57,14 +55,14 @@ fn insert_at_ends<P: Numbered, S: SlotStack<Item = Slot<P>>>(
 
 // A link directly behind the first of each pair.
 #[inline(never)]
-fn insert_beside<P: Numbered, S: SlotStack<Item = Slot<P>>>(
-    arena: &mut Chains<P, S>,
-    picks: &[(P, P)],
+fn insert_beside<S: SlotStack<Item = Slot>>(
+    arena: &mut ChainsOver<S>,
+    picks: &[Pair],
 ) -> Result<Seen, Fault> {
     let mut seen = Seen::nothing();
     for pick in picks {
         let p = arena.insert_reallocating(LinkInsertKind::NextTo(pick.0), 0)?;
-        seen = seen.and_one(p.number());
+        seen = seen.and_one(number(p));
     }
     Ok(seen)
 }

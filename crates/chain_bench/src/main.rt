@@ -18,73 +18,61 @@ mod seen;
 mod settings;
 mod shapes;
 mod taking;
+mod tasks;
 
-use crate::cases::Case;
-use crate::faults::Fault;
 use crate::orders::{Order, Part};
 use crate::seen::Seen;
 use crate::settings::Setting;
-use crate::shapes::Slot;
-use arena_ptr::{HeapStack, ToolPtr};
-use std::env;
 use std::process::ExitCode;
 use std::rt::{Clock, Env};
 use std::time::Instant;
+use std::{env, io};
 
 fn main(rt: HostRuntime) -> ExitCode {
     match bench(&rt) {
         Ok(()) => ExitCode::SUCCESS,
-        Err(fault) => {
-            let _ = eprintln!(rt; "chain_bench: {fault}");
+        Err(error) => {
+            let _ = eprintln!(rt; "chain_bench: {error}");
             ExitCode::FAILURE
         }
     }
 }
 
 // Does what the arguments ask.
-fn bench<R: AllocGlobal + Clock + Env + Print>(rt: &R) -> Result<(), Fault> {
+fn bench<R: AllocGlobal + Clock + Env + Print>(rt: &R) -> io::Result<()> {
     let words: Vec<String> = env::args(rt)?.collect(rt.alloc())?;
     match Order::of(words.as_slice()) {
-        Some(order) => carry_out(rt, &order),
-        None => Err(Fault::Words),
+        Some(order) => tell(rt, order, carry_out(rt, order)?),
+        None => Err(io::Error::other("the arguments are CASE LINKS CHAIN ROUNDS setup|all|timed")),
     }
 }
 
-// Makes the arenas of a case and does its rounds.
-fn carry_out<R: AllocGlobal + Clock + Print>(rt: &R, order: &Order) -> Result<(), Fault> {
-    let Order { case, plan, part } = *order;
-    let mut setting: Setting<ToolPtr, HeapStack<Slot<ToolPtr>>> = Setting::of(
-        rt.alloc(),
-        case,
-        plan,
-    )?;
-    let start = Instant::now(rt)?;
-    let seen = match part {
-        Part::Setup => Seen::nothing(),
-        Part::All | Part::Timed => setting.run(rt.alloc(), case.act, plan)?,
-    };
-    let time = start.elapsed(rt)?;
-    let nanoseconds = u64::try_from(time.as_nanos()).unwrap_or(u64::MAX);
-    tell(rt, case, part, seen, nanoseconds)
+// Makes the arenas of a case and does its rounds: what they saw, and how long they took.
+fn carry_out<R: AllocGlobal + Clock>(rt: &R, order: Order) -> io::Result<(Seen, u64)> {
+    let mut setting = Setting::of(rt.alloc(), order.case, order.plan)?;
+    run_timed(rt, &mut setting, order.part)
 }
 
 // Prints what a case saw.
-fn tell(
-    rt: &impl Print,
-    case: Case,
-    part: Part,
-    seen: Seen,
-    nanoseconds: u64,
-) -> Result<(), Fault> {
-    let name = case.name;
-    let Seen { operations, sum } = seen;
-    match part {
+fn tell(rt: &impl Print, order: Order, told: (Seen, u64)) -> io::Result<()> {
+    let name = order.case.name;
+    let (Seen { operations, sum }, nanoseconds) = told;
+    match order.part {
         Part::Timed => {
-            println!(rt; "{name}: {operations} operations, sum {sum}, {nanoseconds} nanoseconds")?;
+            println!(rt; "{name}: {operations} operations, sum {sum}, {nanoseconds} nanoseconds")
         }
-        Part::Setup | Part::All => {
-            println!(rt; "{name}: {operations} operations, sum {sum}")?;
-        }
+        Part::Setup | Part::All => println!(rt; "{name}: {operations} operations, sum {sum}"),
     }
-    Ok(())
+}
+
+// Does the rounds, if they are to be done.
+fn run_timed(rt: &impl Clock, setting: &mut Setting, part: Part) -> io::Result<(Seen, u64)> {
+    let start = Instant::now(rt)?;
+    let seen = match part {
+        Part::Setup => Seen::nothing(),
+        Part::All | Part::Timed => setting.run()?,
+    };
+    let time = start.elapsed(rt)?;
+    let nanoseconds = u64::try_from(time.as_nanos()).unwrap_or(u64::MAX);
+    Ok((seen, nanoseconds))
 }

@@ -3,17 +3,19 @@
 use crate::cases::Relinking;
 use crate::faults::Fault;
 use crate::seen::Seen;
-use crate::shapes::{Chains, Numbered, Slot};
+use crate::shapes::{ChainsOver, Pair, Slot, number};
+use crate::tasks::Task;
 use arena_base::ArenaTrait;
 use arena_ptr::SlotStack;
 use chain_arena::{ChainArenaTrait, LinkInsertKind};
 
 /// Ties links otherwise, and sees what was answered.
-pub fn relink<P: Numbered, S: SlotStack<Item = Slot<P>>>(
+pub fn relink<S: SlotStack<Item = Slot>>(
     relinking: Relinking,
-    arena: &mut Chains<P, S>,
-    picks: &[(P, P)],
+    task: &Task,
+    arena: &mut ChainsOver<S>,
 ) -> Result<Seen, Fault> {
+    let picks = task.picks.as_slice();
     match relinking {
         Relinking::Exchange => Ok(exchange(arena, picks)),
         Relinking::BreakAndConnect => Ok(break_and_connect(arena, picks)),
@@ -23,10 +25,7 @@ pub fn relink<P: Numbered, S: SlotStack<Item = Slot<P>>>(
 
 // Exchanges the nexts of each pair.
 #[inline(never)]
-fn exchange<P: Numbered, S: SlotStack<Item = Slot<P>>>(
-    arena: &mut Chains<P, S>,
-    picks: &[(P, P)],
-) -> Seen {
+fn exchange<S: SlotStack<Item = Slot>>(arena: &mut ChainsOver<S>, picks: &[Pair]) -> Seen {
     let mut seen = Seen::nothing();
     for pick in picks {
         seen = seen.and_one(told(arena.exchange_next(pick.0, pick.1)));
@@ -36,10 +35,7 @@ fn exchange<P: Numbered, S: SlotStack<Item = Slot<P>>>(
 
 // Cuts the links of each pair apart, and connects them again: two calls.
 #[inline(never)]
-fn break_and_connect<P: Numbered, S: SlotStack<Item = Slot<P>>>(
-    arena: &mut Chains<P, S>,
-    picks: &[(P, P)],
-) -> Seen {
+fn break_and_connect<S: SlotStack<Item = Slot>>(arena: &mut ChainsOver<S>, picks: &[Pair]) -> Seen {
     let mut seen = Seen::nothing();
     for pick in picks {
         seen = seen.and(told(arena.break_next(pick.0)));
@@ -50,15 +46,15 @@ fn break_and_connect<P: Numbered, S: SlotStack<Item = Slot<P>>>(
 
 // Removes the first link of each pair, and inserts one with its value behind the second: two calls.
 #[inline(never)]
-fn replace<P: Numbered, S: SlotStack<Item = Slot<P>>>(
-    arena: &mut Chains<P, S>,
-    picks: &[(P, P)],
+fn replace<S: SlotStack<Item = Slot>>(
+    arena: &mut ChainsOver<S>,
+    picks: &[Pair],
 ) -> Result<Seen, Fault> {
     let mut seen = Seen::nothing();
     for pick in picks {
         let t = arena.remove(pick.0).allow().unwrap_or(0);
         let p = arena.insert_reallocating(LinkInsertKind::NextTo(pick.1), t)?;
-        seen = seen.and_one(p.number());
+        seen = seen.and_one(number(p));
     }
     Ok(seen)
 }

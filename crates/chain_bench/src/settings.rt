@@ -1,180 +1,134 @@
-// What a case needs before it begins, and its rounds.
+// What a case needs before it begins.
 
-use crate::cases::{Act, Case, Picks};
+use crate::cases::{Case, Picks};
 use crate::faults::Fault;
-use crate::inserting::insert;
-use crate::laying::lay;
-use crate::looking::look;
 use crate::numbers::Numbers;
 use crate::orders::Plan;
-use crate::relinking::relink;
 use crate::seen::Seen;
-use crate::shapes::{Chains, Numbered, Shaped, Slot};
-use crate::taking::take;
-use arena_ptr::{PtrKey, SlotStack};
-use chain_arena::ChainArenaTrait;
+use crate::shapes::{Chains, ChainsOver, Pair, Shaped, Slot};
+use crate::tasks::{Task, round};
+use arena_ptr::{SlotStack, ToolPtr};
 use std::alloc::Global;
 
-/// What a case needs: its arena, copies of it where each round uses one up, and the pairs of links that it names.
+/// What a case does, and its arenas: one for each round where a round uses one up, and one for all rounds where not.
 #[derive(Drop)]
-pub struct Setting<P: PtrKey, S: SlotStack<Item = Slot<P>>> {
-    first: Shaped<P, S>,
-    copies: Vec<Chains<P, S>>,
-    picks: Vec<(P, P)>,
+pub struct Setting {
+    task: Task,
+    arenas: Vec<Chains>,
 }
 
-impl<P: Numbered, S: SlotStack<Item = Slot<P>>> Setting<P, S> {
+impl Setting {
     pub fn of(alloc: Global, case: Case, plan: Plan) -> Result<Self, Fault> {
         let mut numbers = Numbers::new();
-        let mut first = Shaped::of(alloc, case.shape, plan, &mut numbers)?;
-        let picks = picks_of(alloc, case.picks, &mut first, &mut numbers)?;
-        let arenas = if case.act.uses_up() { plan.rounds } else { 1 };
-        let copies = copies_of(alloc, &first.arena, arenas)?;
-        Ok(Setting {
-            first,
-            copies,
+        let mut shaped = Shaped::new(alloc);
+        shaped.fill(case.shape, plan, &mut numbers)?;
+        let picks = picks_of(alloc, case.picks, &mut shaped, &mut numbers)?;
+        let Shaped { arena, starts, .. } = shaped;
+        let count = if case.act.uses_up() { plan.rounds } else { 1 };
+        let arenas = arenas_of(alloc, arena, count)?;
+        let task = Task {
+            alloc,
+            act: case.act,
+            plan,
+            starts,
             picks,
-        })
+        };
+        Ok(Setting { task, arenas })
     }
 
     /// Does all rounds.
-    pub fn run(&mut self, alloc: Global, act: Act, plan: Plan) -> Result<Seen, Fault> {
-        let Setting {
-            first,
-            copies,
-            picks,
-        } = self;
-        let starts = first.starts.as_slice();
-        let picks = picks.as_slice();
-        let mut seen = rounds(alloc, act, plan, &mut first.arena, starts, picks)?;
-        for arena in copies.iter_mut() {
-            seen = seen.and_round(rounds(alloc, act, plan, arena, starts, picks)?);
+    pub fn run(&mut self) -> Result<Seen, Fault> {
+        let Setting { task, arenas } = self;
+        let times = if task.act.uses_up() {
+            1
+        } else {
+            task.plan.rounds
+        };
+        let mut seen = Seen::nothing();
+        for arena in arenas.iter_mut() {
+            for _ in 0..times {
+                seen = seen.and_round(round(task, arena)?);
+            }
         }
         Ok(seen)
     }
 }
 
-// Copies of an arena, so that there are so many with it.
-fn copies_of<P: PtrKey, S: SlotStack<Item = Slot<P>>>(
-    alloc: Global,
-    arena: &Chains<P, S>,
-    arenas: u32,
-) -> Result<Vec<Chains<P, S>>, Fault> {
-    let mut copies = Vec::new(alloc);
-    for _ in 1..arenas {
-        add_copy(alloc, arena, &mut copies)?;
+// Copies of an arena, and then that arena, so many in all, at least one.
+fn arenas_of(alloc: Global, arena: Chains, count: u32) -> Result<Vec<Chains>, Fault> {
+    let mut arenas = Vec::new(alloc);
+    for _ in 1..count {
+        add_copy(alloc, &arena, &mut arenas)?;
     }
-    Ok(copies)
+    arenas.push(arena)?;
+    Ok(arenas)
 }
 
-fn add_copy<P: PtrKey, S: SlotStack<Item = Slot<P>>>(
+fn add_copy<S: SlotStack<Item = Slot>>(
     alloc: Global,
-    arena: &Chains<P, S>,
-    copies: &mut Vec<Chains<P, S>>,
+    arena: &ChainsOver<S>,
+    copies: &mut Vec<ChainsOver<S>>,
 ) -> Result<(), Fault> {
     let copy = arena.clone(alloc)?;
     copies.push(copy)?;
     Ok(())
 }
 
-// Does a case on an arena: once, or all rounds where it is left as it was.
-fn rounds<P: Numbered, S: SlotStack<Item = Slot<P>>>(
-    alloc: Global,
-    act: Act,
-    plan: Plan,
-    arena: &mut Chains<P, S>,
-    starts: &[P],
-    picks: &[(P, P)],
-) -> Result<Seen, Fault> {
-    let count = if act.uses_up() { 1 } else { plan.rounds };
-    let mut seen = Seen::nothing();
-    for _ in 0..count {
-        seen = seen.and_round(round(alloc, act, plan, arena, starts, picks)?);
-    }
-    Ok(seen)
-}
-
-// Does a case once.
-fn round<P: Numbered, S: SlotStack<Item = Slot<P>>>(
-    alloc: Global,
-    act: Act,
-    plan: Plan,
-    arena: &mut Chains<P, S>,
-    starts: &[P],
-    picks: &[(P, P)],
-) -> Result<Seen, Fault> {
-    match act {
-        Act::Insert(insertion) => insert(insertion, plan, arena, starts, picks),
-        Act::Relink(relinking) => relink(relinking, arena, picks),
-        Act::Look(looking) => Ok(look(looking, arena, starts, picks)),
-        Act::Take(taking) => Ok(take(taking, arena, starts)),
-        Act::Lay(laying) => lay(alloc, laying, arena),
-    }
-}
-
 // The pairs that a case names, as many as there are links, or nearly so.
-fn picks_of<P: PtrKey, S: SlotStack<Item = Slot<P>>>(
+fn picks_of(
     alloc: Global,
     picks: Picks,
-    shaped: &mut Shaped<P, S>,
+    shaped: &mut Shaped,
     numbers: &mut Numbers,
-) -> Result<Vec<(P, P)>, Fault> {
+) -> Result<Vec<Pair>, Fault> {
     match picks {
         Picks::Nothing => Ok(Vec::new(alloc)),
-        Picks::Random => random_pairs(alloc, shaped.links.as_slice(), numbers),
-        Picks::Neighbors => neighbors(alloc, &shaped.arena, shaped.links.as_slice(), numbers),
+        Picks::Random => drawn(alloc, shaped, numbers, false),
+        Picks::Neighbors => drawn(alloc, shaped, numbers, true),
         Picks::Succeeding => succeeding(alloc, shaped.links.as_mut_slice(), numbers),
     }
 }
 
-// Pairs of any two links.
-fn random_pairs<P: PtrKey>(
+// Pairs of any two links, or of any link that has a next one, and that one.
+fn drawn(
     alloc: Global,
-    links: &[P],
+    shaped: &Shaped,
     numbers: &mut Numbers,
-) -> Result<Vec<(P, P)>, Fault> {
+    are_neighbors: bool,
+) -> Result<Vec<Pair>, Fault> {
     let mut pairs = Vec::new(alloc);
-    for _ in links {
-        if let Some(p) = numbers.pick(links)
-            && let Some(q) = numbers.pick(links)
-        {
-            pairs.push((p, q))?;
+    for _ in &shaped.links {
+        if let Some(pair) = pair_of(shaped, numbers, are_neighbors) {
+            pairs.push(pair)?;
         }
     }
     Ok(pairs)
 }
 
-// Pairs of any link that has a next one, and that one.
-fn neighbors<P: PtrKey, S: SlotStack<Item = Slot<P>>>(
-    alloc: Global,
-    arena: &Chains<P, S>,
-    links: &[P],
-    numbers: &mut Numbers,
-) -> Result<Vec<(P, P)>, Fault> {
-    let mut pairs = Vec::new(alloc);
-    for _ in links {
-        if let Some(p) = numbers.pick(links)
-            && let Some(link) = arena.get_link(p)
-            && let Some(q) = link.next()
-        {
-            pairs.push((p, q))?;
-        }
-    }
-    Ok(pairs)
+fn pair_of(shaped: &Shaped, numbers: &mut Numbers, are_neighbors: bool) -> Option<Pair> {
+    let p = numbers.pick(shaped.links.as_slice())?;
+    let q = if are_neighbors {
+        shaped.next_of(p)
+    } else {
+        numbers.pick(shaped.links.as_slice())
+    };
+    Some((p, q?))
 }
 
 // Each link once, in some order, and the next one in that order, but for the last.
-fn succeeding<P: PtrKey>(
+fn succeeding(
     alloc: Global,
-    links: &mut [P],
+    links: &mut [ToolPtr],
     numbers: &mut Numbers,
-) -> Result<Vec<(P, P)>, Fault> {
+) -> Result<Vec<Pair>, Fault> {
     numbers.shuffle(links);
     let mut pairs = Vec::new(alloc);
-    for pair in links.windows(2) {
-        if let [p, q] = pair {
-            pairs.push((*p, *q))?;
+    let mut last = None;
+    for q in links {
+        if let Some(p) = last {
+            pairs.push((p, *q))?;
         }
+        last = Some(*q);
     }
     Ok(pairs)
 }

@@ -5,57 +5,56 @@ use crate::faults::Fault;
 use crate::numbers::Numbers;
 use crate::orders::Plan;
 use arena_base::{ArenaSlot, ArenaTrait};
-use arena_ptr::{PtrKey, SlotStack, ToolPtr};
+use arena_ptr::{HeapStack, Ptr, ToolPtr};
 use chain_arena::{ChainArena, ChainArenaTrait, LinkInsertKind, LinkNoGen};
 use std::alloc::Global;
 
 /// A slot of a link of a number.
-pub type Slot<P> = ArenaSlot<P, LinkNoGen<P, u32>>;
+pub type Slot = ArenaSlot<ToolPtr, LinkNoGen<ToolPtr, u32>>;
 
-/// Links of numbers over a stack.
-pub type Chains<P, S> = ChainArena<P, u32, S>;
+/// Links of numbers over a stack. The loops that are measured are written for any, since that costs their proof less.
+pub type ChainsOver<S> = ChainArena<ToolPtr, u32, S>;
 
-/// A pointer that can be told as a number.
-pub trait Numbered: PtrKey {
-    fn number(self) -> u64;
+/// .. over the stack that is measured.
+pub type Chains = ChainsOver<HeapStack<Slot>>;
+
+pub type Pair = (ToolPtr, ToolPtr);
+
+/// A pointer as a number.
+pub fn number(p: ToolPtr) -> u64 {
+    let generation = u64::from(p.generation().get());
+    (generation << 32) | u64::from(p.inx().get())
 }
 
-impl Numbered for ToolPtr {
-    fn number(self) -> u64 {
-        let generation = u64::from(arena_ptr::Ptr::generation(self).get());
-        (generation << 32) | u64::from(arena_ptr::Ptr::inx(self).get())
-    }
+/// A link as a number: its pointer and its value.
+pub fn number_of_link(p: ToolPtr, link: &LinkNoGen<ToolPtr, u32>) -> u64 {
+    number(p) ^ u64::from(link.t)
 }
 
 /// An arena, the pointers of its links in the order of their insertion, and the first link of each chain.
 #[derive(Drop)]
-pub struct Shaped<P: PtrKey, S: SlotStack<Item = Slot<P>>> {
-    pub arena: Chains<P, S>,
-    pub links: Vec<P>,
-    pub starts: Vec<P>,
+pub struct Shaped {
+    pub arena: Chains,
+    pub links: Vec<ToolPtr>,
+    pub starts: Vec<ToolPtr>,
 }
 
-impl<P: PtrKey, S: SlotStack<Item = Slot<P>>> Shaped<P, S> {
-    /// The arena of a shape.
-    pub fn of(
-        alloc: Global,
-        shape: Shape,
-        plan: Plan,
-        numbers: &mut Numbers,
-    ) -> Result<Self, Fault> {
-        let mut shaped = Shaped {
-            arena: ChainArena::new(alloc),
+impl Shaped {
+    pub fn new(alloc: Global) -> Self {
+        Shaped {
+            arena: Chains::new(alloc),
             links: Vec::new(alloc),
             starts: Vec::new(alloc),
-        };
-        match shaped.fill(shape, plan, numbers) {
-            Ok(()) => Ok(shaped),
-            Err(fault) => Err(fault),
         }
     }
 
-    // Adds the links of a shape.
-    fn fill(&mut self, shape: Shape, plan: Plan, numbers: &mut Numbers) -> Result<(), Fault> {
+    /// The link after another.
+    pub fn next_of(&self, p: ToolPtr) -> Option<ToolPtr> {
+        self.arena.get_link(p)?.next()
+    }
+
+    /// Adds the links of a shape.
+    pub fn fill(&mut self, shape: Shape, plan: Plan, numbers: &mut Numbers) -> Result<(), Fault> {
         match shape {
             Shape::Empty => Ok(()),
             Shape::Starts => self.add(plan.chains(), 1, false),
@@ -77,7 +76,7 @@ impl<P: PtrKey, S: SlotStack<Item = Slot<P>>> Shaped<P, S> {
     // Adds chains, with a hole behind each link.
     fn add_half_holes(&mut self, plan: Plan) -> Result<(), Fault> {
         self.add(plan.chains(), plan.chain.saturating_mul(2), false)?;
-        self.thin();
+        self.make_holes(1, 2, plan.links);
         Ok(())
     }
 
@@ -85,7 +84,7 @@ impl<P: PtrKey, S: SlotStack<Item = Slot<P>>> Shaped<P, S> {
     fn add_behind_holes(&mut self, plan: Plan) -> Result<(), Fault> {
         self.add(plan.links, 1, false)?;
         self.add(plan.chains(), plan.chain, false)?;
-        self.remove_first(plan.links);
+        self.make_holes(0, 1, plan.links);
         Ok(())
     }
 
@@ -101,7 +100,7 @@ impl<P: PtrKey, S: SlotStack<Item = Slot<P>>> Shaped<P, S> {
         Ok(())
     }
 
-    fn add_link(&mut self, kind: LinkInsertKind<P>, t: u32) -> Result<P, Fault> {
+    fn add_link(&mut self, kind: LinkInsertKind<ToolPtr>, t: u32) -> Result<ToolPtr, Fault> {
         let p = self.arena.insert_reallocating(kind, t)?;
         self.links.push(p)?;
         Ok(p)
@@ -111,7 +110,7 @@ impl<P: PtrKey, S: SlotStack<Item = Slot<P>>> Shaped<P, S> {
     fn tangle(&mut self, chain: u32, numbers: &mut Numbers) {
         numbers.shuffle(self.links.as_mut_slice());
         let mut left = 0u32;
-        let mut last = P::invalid();
+        let mut last = ToolPtr::invalid();
         for p in &self.links {
             if left > 0 {
                 self.arena.connect(last, *p);
@@ -123,31 +122,20 @@ impl<P: PtrKey, S: SlotStack<Item = Slot<P>>> Shaped<P, S> {
         }
     }
 
-    // Removes every second link.
-    fn thin(&mut self) {
-        let mut stays = true;
-        for p in &self.links {
-            if !stays {
+    // Removes so many links, if there are, each so many places behind the one before.
+    fn make_holes(&mut self, first: usize, step: usize, count: u32) {
+        let mut at = first;
+        for _ in 0..count {
+            if let Some(p) = self.links.get(at) {
                 self.arena.remove(*p);
             }
-            stays = !stays;
-        }
-    }
-
-    // Removes the first of the links.
-    fn remove_first(&mut self, count: u32) {
-        let mut left = count;
-        for p in &self.links {
-            if left > 0 {
-                self.arena.remove(*p);
-            }
-            left = left.saturating_sub(1);
+            at = at.saturating_add(step);
         }
     }
 }
 
 // Where a link comes behind the last one of its chain or ring, or as the first one.
-fn kind_behind<P: PtrKey>(last: Option<P>, is_ring: bool) -> LinkInsertKind<P> {
+fn kind_behind(last: Option<ToolPtr>, is_ring: bool) -> LinkInsertKind<ToolPtr> {
     match last {
         Some(p) if is_ring => LinkInsertKind::NextTo(p),
         Some(p) => LinkInsertKind::ChainEnd(p),

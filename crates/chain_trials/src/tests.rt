@@ -19,8 +19,10 @@ mod values;
 ghost use Rattle.std.specs.Iterator.{IsFinite};
 
 use arena_base::{Arena, ArenaSlot, ArenaTrait};
-use arena_ptr::{Gen32, Inx32, LimitStack, Ptr, SetMaxCapacity, SlotStack, ToolPtr};
-use chain_arena::{ChainArena, ChainArenaTrait, LinkInsertKind, LinkNoGen};
+use arena_ptr::{
+    Gen32, InvalidationResult, Inx32, LimitStack, Ptr, SetMaxCapacity, SlotStack, ToolPtr,
+};
+use chain_arena::{ChainArena, ChainArenaTrait, LinkBody, LinkInsertKind, LinkNoGen};
 use std::alloc::{AllocError, Global};
 use std::fmt::Debug;
 use std::process::Abort;
@@ -80,6 +82,21 @@ fn at(p: At) -> ToolPtr {
     ToolPtr::_from_raw(index(p.0), generation(p.1))
 }
 
+// An arena without links.
+fn fresh<T: Drop, S: SlotStack<Item = ArenaSlot<ToolPtr, LinkNoGen<ToolPtr, T>>>>(
+    alloc: Global,
+) -> ChainArena<ToolPtr, T, S> {
+    ChainArena::new(alloc)
+}
+
+// Removes a link.
+fn remove<T: Drop, S: SlotStack<Item = ArenaSlot<ToolPtr, LinkNoGen<ToolPtr, T>>>>(
+    arena: &mut ChainArena<ToolPtr, T, S>,
+    p: At,
+) -> InvalidationResult<T> {
+    arena.remove(at(p))
+}
+
 // Adds a link, and tells its pointer. Without room for it that is the invalid one.
 fn put<T: Drop, S: SlotStack<Item = ArenaSlot<ToolPtr, LinkNoGen<ToolPtr, T>>>>(
     arena: &mut ChainArena<ToolPtr, T, S>,
@@ -92,12 +109,21 @@ fn put<T: Drop, S: SlotStack<Item = ArenaSlot<ToolPtr, LinkNoGen<ToolPtr, T>>>>(
     }
 }
 
-// Adds an entry to a plain arena, where there is room.
-fn add_plain<T: Drop, S: SlotStack<Item = ArenaSlot<ToolPtr, T>>>(
-    arena: &mut Arena<ToolPtr, T, S>,
+// A plain arena without entries.
+fn fresh_plain<T: Drop, S: SlotStack<Item = ArenaSlot<ToolPtr, T>>>(
+    alloc: Global,
+) -> Arena<ToolPtr, T, S> {
+    Arena::new(alloc)
+}
+
+// Adds a link to a plain arena, where there is room, by the indexes before and after it, 0 for none.
+fn add_plain<T: Drop, S: SlotStack<Item = ArenaSlot<ToolPtr, LinkNoGen<ToolPtr, T>>>>(
+    arena: &mut Arena<ToolPtr, LinkNoGen<ToolPtr, T>, S>,
+    beside: At,
     t: T,
-) -> Option<ToolPtr> {
-    arena.insert_reallocating(t).ok()
+) {
+    let beside = (Inx32::new(beside.0), Inx32::new(beside.1));
+    let _ = arena.insert_reallocating(LinkBody::new(beside, t));
 }
 
 // The chain arena that a plain one becomes, if its interlinks agree.
@@ -109,7 +135,7 @@ fn chained<T: Drop, S: SlotStack<Item = ArenaSlot<ToolPtr, LinkNoGen<ToolPtr, T>
 
 // So many lone links, each with its index as its value.
 fn lone_links<S: SlotStack<Item = Slot>>(alloc: Global, count: u32) -> ChainsOver<S> {
-    let mut arena = ChainsOver::<S>::new(alloc);
+    let mut arena: ChainsOver<S> = fresh(alloc);
     for k in 1..=count {
         put(&mut arena, LinkInsertKind::Disconnected, k);
     }
@@ -122,7 +148,7 @@ fn limited<S: LimitStack<Item = Slot>>(
     alloc: Global,
     most: usize,
 ) -> ChainsOver<S> {
-    let mut arena = ChainsOver::<S>::new(alloc);
+    let mut arena: ChainsOver<S> = fresh(alloc);
     assert!(rt; arena.set_max_capacity(most).is_ok());
     arena
 }

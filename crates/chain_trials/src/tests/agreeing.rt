@@ -1,10 +1,10 @@
 //! Plain arenas of links, of which those whose interlinks agree become chain arenas.
 
 use super::scripts::{Do, Kind, Line, plays};
-use super::{At, ChainsOver, Slot, add_plain, at, chained, same};
+use super::{At, ChainsOver, Slot, add_plain, at, chained, fresh_plain, same};
 use arena_base::{Arena, ArenaTrait};
-use arena_ptr::{Inx32, SlotStack, ToolPtr};
-use chain_arena::{LinkBody, LinkNoGen, links_agree};
+use arena_ptr::{SlotStack, ToolPtr};
+use chain_arena::{LinkNoGen, links_agree};
 use std::alloc::Global;
 use std::process::Abort;
 
@@ -13,10 +13,9 @@ type Plain<S> = Arena<ToolPtr, LinkNoGen<ToolPtr, u32>, S>;
 // A plain arena of links that name these indexes, 0 for none, as the one before and the one after; the value is 7. Some are
 // gone again.
 fn plain<S: SlotStack<Item = Slot>>(alloc: Global, links: &[At], gone: &[u32]) -> Plain<S> {
-    let mut arena = Plain::<S>::new(alloc);
-    for (prev, next) in links {
-        let link = LinkBody::new((Inx32::new(*prev), Inx32::new(*next)), 7);
-        add_plain(&mut arena, link);
+    let mut arena: Plain<S> = fresh_plain(alloc);
+    for link in links {
+        add_plain(&mut arena, *link, 7);
     }
     for k in gone {
         arena.remove(at((*k, 2)));

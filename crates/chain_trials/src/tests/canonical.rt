@@ -1,8 +1,8 @@
 //! Chains laid out in place, one after another.
 
 use super::scripts::{Do, Kind, Line, Script};
-use super::{ChainsOver, Slot, at, lone_links, same};
-use arena_base::{ArenaTrait, Work};
+use super::{ChainsOver, Slot, lone_links, remove, same};
+use arena_base::Work;
 use arena_ptr::{AllocError, InvalidationOption, SlotStack, ToolPtr};
 use chain_arena::ChainArenaTrait;
 use std::alloc::Global;
@@ -187,7 +187,7 @@ pub(super) fn layouts() -> &'static [(Script, &'static [&'static [Line]])] {
 fn within_bound<S: SlotStack<Item = Slot>>(alloc: Global, count: u32, reset: bool) -> bool {
     let mut arena: ChainsOver<S> = lone_links(alloc, count.saturating_mul(2));
     for k in 1..=count {
-        arena.remove(at((k, 2)));
+        remove(&mut arena, (k, 2));
     }
     let links = u128::from(count);
     let (_, work) = counted(&mut arena, reset);

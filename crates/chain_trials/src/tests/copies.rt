@@ -2,7 +2,7 @@
 
 use super::scripts::{Do, Kind, Line, Script};
 use super::steps::SlotOf;
-use super::{ChainsOver, Slot, put, same, text};
+use super::{ChainsOver, Slot, at, fresh, fresh_plain, put, remove, same, text};
 use arena_base::{Arena, ArenaSlot, ArenaTrait};
 use arena_ptr::{
     HeapStack, LimitStack, LimitedStack, ReallocationError, SetMaxCapacity, SlotStack, ToolPtr,
@@ -23,11 +23,11 @@ pub(super) fn cloned<S: SlotStack<Item = Slot>>(alloc: Global, arena: &ChainsOve
 
 // A chain of the links 1, 2 and 3, of which the second is removed.
 fn with_a_hole<S: SlotStack<Item = Slot>>(alloc: Global) -> ChainsOver<S> {
-    let mut arena = ChainsOver::<S>::new(alloc);
+    let mut arena: ChainsOver<S> = fresh(alloc);
     let first = put(&mut arena, LinkInsertKind::Disconnected, 1);
     let second = put(&mut arena, LinkInsertKind::ChainEnd(first), 2);
     put(&mut arena, LinkInsertKind::ChainEnd(second), 3);
-    arena.remove(second);
+    remove(&mut arena, (2, 2));
     arena
 }
 
@@ -72,7 +72,7 @@ pub(super) fn copied_to_plain<
     S: SlotStack<Item = Slot>,
     R: SlotStack<Item = ArenaSlot<ToolPtr, u32>>,
 >(alloc: Global, source: &ChainsOver<S>) -> String {
-    let mut target: Arena<ToolPtr, u32, R> = Arena::new(alloc);
+    let mut target: Arena<ToolPtr, u32, R> = fresh_plain(alloc);
     let told = copied_plain(alloc, source, &mut target);
     let next = target.insert_reallocating(9);
     let entries: Result<Vec<_>, AllocError> = (&target).into_iter().collect(alloc);
@@ -138,7 +138,7 @@ pub(super) fn copies() -> &'static [(Script, &'static [&'static [Line]])] {
 fn copied_to_two<S: SlotStack<Item = Slot>, R: LimitStack<Item = ArenaSlot<ToolPtr, u32>>>(
     alloc: Global,
 ) -> String {
-    let mut target: Arena<ToolPtr, u32, R> = Arena::new(alloc);
+    let mut target: Arena<ToolPtr, u32, R> = fresh_plain(alloc);
     let limit = target.set_max_capacity(2);
     let source: ChainsOver<S> = with_a_hole(alloc);
     let told = copied_plain(alloc, &source, &mut target);
@@ -190,14 +190,15 @@ impl Clone for Refusing {
 // An arena of two values, of which the second refuses: how its clone is refused, the second value, which is removed, and the
 // first link and the length of the clone then.
 fn cloned_once_more<S: SlotStack<Item = SlotOf<Refusing>>>(alloc: Global) -> String {
-    let mut arena = ChainArena::<ToolPtr, Refusing, S>::new(alloc);
-    let first = put(&mut arena, LinkInsertKind::Disconnected, Refusing(1));
-    let second = put(&mut arena, LinkInsertKind::Disconnected, Refusing(2));
+    let mut arena: ChainArena<ToolPtr, Refusing, S> = fresh(alloc);
+    for k in [1, 2] {
+        put(&mut arena, LinkInsertKind::Disconnected, Refusing(k));
+    }
     let refused = arena.clone(alloc).err();
-    let gone = arena.remove(second);
+    let gone = remove(&mut arena, (2, 2));
     match arena.clone(alloc) {
         Ok(copy) => {
-            let link = copy.get_link_no_gen(first);
+            let link = copy.get_link_no_gen(at((1, 2)));
             text(alloc, (refused, gone, link, copy.len()))
         }
         Err(error) => text(alloc, error),

@@ -1,6 +1,7 @@
 //! Chains, and all links, that are removed one after another.
 
-ghost use Rattle.std.specs.Prelude.{◌≡◌, [], length, false};
+ghost use Rattle.std.specs.Prelude.{◌≡◌, [], length};
+ghost use Rattle.std.specs.Iterator.{IsFinite};
 ghost use Rattle.arena_ptr.specs.Generations.{after32};
 ghost use Rattle.arena_base.specs.Entries.{entries};
 ghost use Rattle.chain_links.specs.ChainArena.{values_of};
@@ -8,13 +9,11 @@ ghost use Rattle.chain_arena.specs.Drains.{CountsUp};
 
 use super::{ChainsOver, Slot, text, text_of_all};
 use arena_ptr::{InvalidationOption, SlotStack, ToolPtr};
-use chain_arena::LinkNoGen;
 use std::alloc::Global;
+use std::fmt::Debug;
 use std::mem::forget;
 
-// What a drain of a chain yields, and one of all links.
-type Gone = InvalidationOption<(ToolPtr, LinkNoGen<ToolPtr, u32>)>;
-
+// What a drain of all links yields.
 type ValueGone = InvalidationOption<(ToolPtr, u32)>;
 
 // Removes all links: none is left, and the counter goes up once for each.
@@ -25,51 +24,68 @@ pub(super) fn remove_all<S: SlotStack<Item = Slot>>(arena: &mut ChainsOver<S>)
     drop(arena.drain());
 }
 
-// All that a drain of a chain yields.
-pub(super) fn drained_chain<S: SlotStack<Item = Slot>>(
+// When a drain ends: where nothing is left, or behind the first link, whereupon it is dropped or forgotten.
+#[derive(Clone, Copy)]
+pub(super) enum Ends {
+    Empty,
+    Dropped,
+    Forgotten,
+}
+
+// What a drain yields. All drains do it here, since each place that hands a drain to a body that knows it as an iterator alone
+// is dear.
+fn yielded<T: Debug + Drop, I: Iterator<Item = T> + Drop>(
     alloc: Global,
-    arena: &mut ChainsOver<S>,
-    p: ToolPtr,
-) -> String {
-    match arena.drain_chain(p) {
-        Some(links) => text_of_all(alloc, links),
-        None => text(alloc, None::<u32>),
+    links: I,
+    ends: Ends,
+) -> String
+    requires { I.can_next links × IsFinite (I.remaining links) }
+{
+    match ends {
+        Ends::Empty => text_of_all(alloc, links),
+        Ends::Dropped => text(alloc, first_of(links, false)),
+        Ends::Forgotten => text(alloc, first_of(links, true)),
     }
 }
 
 // The first link that it yields, whereupon it is dropped or forgotten.
-pub(super) fn takes_one_of_chain<S: SlotStack<Item = Slot>>(
-    arena: &mut ChainsOver<S>,
-    p: ToolPtr,
-    is_forgotten: bool,
-) -> Option<Gone> {
-    let mut drain = arena.drain_chain(p)?;
-    let gone = drain.next();
+fn first_of<T: Drop, I: Iterator<Item = T> + Drop>(links: I, is_forgotten: bool) -> Option<T>
+    requires { I.can_next links }
+{
+    let mut links = links;
+    let first = links.next();
     if is_forgotten {
-        forget(drain);
+        forget(links);
     }
-    gone
+    first
 }
 
-// All that a drain of all links yields.
+// What a drain of a chain yields.
+pub(super) fn drained_chain<S: SlotStack<Item = Slot>>(
+    alloc: Global,
+    arena: &mut ChainsOver<S>,
+    p: ToolPtr,
+    ends: Ends,
+) -> String {
+    match arena.drain_chain(p) {
+        Some(links) => yielded(alloc, links, ends),
+        None => text(alloc, None::<u32>),
+    }
+}
+
+// What a drain of all links yields.
 pub(super) fn drained<S: SlotStack<Item = Slot>>(
     alloc: Global,
     arena: &mut ChainsOver<S>,
+    ends: Ends,
 ) -> String {
-    text_of_all(alloc, arena.drain())
+    yielded(alloc, arena.drain(), ends)
 }
 
-// The first link that it yields, whereupon it is dropped or forgotten. None is left if it is dropped.
-pub(super) fn takes_one<S: SlotStack<Item = Slot>>(
-    arena: &mut ChainsOver<S>,
-    is_forgotten: bool,
-) -> Option<ValueGone>
-    ensures none { is_forgotten ≡ false → entries (values_of arena.new) ≡ [] }
+// The first link that it yields, whereupon it is dropped: none is left.
+pub(super) fn takes_one<S: SlotStack<Item = Slot>>(arena: &mut ChainsOver<S>) -> Option<ValueGone>
+    ensures none { entries (values_of arena.new) ≡ [] }
 {
     let mut drain = arena.drain();
-    let gone = drain.next();
-    if is_forgotten {
-        forget(drain);
-    }
-    gone
+    drain.next()
 }

@@ -1,6 +1,6 @@
 //! Places for links: used, given up and forgotten.
 
-ghost use Rattle.std.specs.Prelude.{◌≡◌, ◌↔◌, IfOk, OnOk, OnErr, Err, false};
+ghost use Rattle.std.specs.Prelude.{◌≡◌, ◌↔◌, IfOk, OnOk, OnErr, Err};
 ghost use Rattle.arena_ptr.specs.Indexes.{number_of_inx32};
 ghost use Rattle.arena_ptr.specs.ToolPtr.{key_of};
 ghost use Rattle.arena_base.specs.Arena.{next_index, with_capacity_of};
@@ -37,24 +37,48 @@ pub(super) fn insert_by_entry<S: SlotStack<Item = Slot>>(
     Ok(p)
 }
 
-// The pointer of a place that is given up, or forgotten.
+// The pointer of a place that is given up.
 pub(super) fn give_up<S: SlotStack<Item = Slot>>(
     arena: &mut ChainsOver<S>,
     kind: LinkInsertKind<ToolPtr>,
-    is_forgotten: bool,
 ) -> Result<ToolPtr, ChainInsertionError>
     ensures place { IfOk result (λ p. key_of p ≡ (next_index arena.old, arena.old.counter)) }
-    ensures same { is_forgotten ≡ false → arena.new ≡ with_capacity_of arena.old arena.new }
+    ensures same { arena.new ≡ with_capacity_of arena.old arena.new }
 {
-    let entry = arena.entry_insert_reallocating(kind)?;
-    let p = entry.ptr();
-    if is_forgotten {
-        mem::forget(entry);
+    match arena.entry_insert_reallocating(kind) {
+        Ok(entry) => Ok(entry.ptr()),
+        Err(refusal) => Err(refusal),
     }
-    Ok(p)
 }
 
-// A place for a link of a kind that may be inserted, and the link in it. `None`: it may not be.
+// A place that is forgotten, or how it is refused.
+pub(super) fn forget<S: SlotStack<Item = Slot>>(
+    arena: &mut ChainsOver<S>,
+    kind: LinkInsertKind<ToolPtr>,
+) -> Option<ChainInsertionError> {
+    match arena.entry_insert_reallocating(kind) {
+        Ok(entry) => {
+            mem::forget(entry);
+            None
+        }
+        Err(refusal) => Some(refusal),
+    }
+}
+
+// The insertion of a link of a kind that may be inserted. `None`: it may not be.
+pub(super) fn insert_asked<S: SlotStack<Item = Slot>>(
+    arena: &mut ChainsOver<S>,
+    kind: LinkInsertKind<ToolPtr>,
+    t: u32,
+) -> Option<Result<ToolPtr, ReallocationError>> {
+    if arena.can_insert(kind) {
+        Some(arena.insert(kind, t))
+    } else {
+        None
+    }
+}
+
+// .. by a place for it.
 pub(super) fn insert_by_any_entry<S: SlotStack<Item = Slot>>(
     arena: &mut ChainsOver<S>,
     kind: LinkInsertKind<ToolPtr>,
@@ -73,25 +97,12 @@ pub(super) fn insert_by_any_entry<S: SlotStack<Item = Slot>>(
     }
 }
 
-// The insertion of one. `None`: it may not be inserted.
-pub(super) fn insert_asked<S: SlotStack<Item = Slot>>(
-    arena: &mut ChainsOver<S>,
-    kind: LinkInsertKind<ToolPtr>,
-    t: u32,
-) -> Option<Result<ToolPtr, ReallocationError>> {
-    if arena.can_insert(kind) {
-        Some(arena.insert(kind, t))
-    } else {
-        None
-    }
-}
-
 // How a place for a link of a kind is refused, by growth and within the capacity.
 pub(super) fn place_refusals<S: SlotStack<Item = Slot>>(
     arena: &mut ChainsOver<S>,
     kind: LinkInsertKind<ToolPtr>,
 ) -> [Option<ChainInsertionError>; 2] {
-    let growing = give_up(arena, kind, false).err();
+    let growing = give_up(arena, kind).err();
     let within = match arena.entry_insert_within_capacity(kind) {
         Ok(_) => None,
         Err(refusal) => Some(refusal),

@@ -1,6 +1,6 @@
 //! What sees links or makes values, handed back as it came to be.
 
-use super::{ChainsOver, Slot, at, limited, lone_links, same, text};
+use super::{ChainsOver, Slot, fresh_plain, limited, lone_links, remove, same, text};
 use arena_base::{Arena, ArenaSlot, ArenaTrait, ValueMap};
 use arena_ptr::{AllocError, LimitStack, SlotStack, ToolPtr};
 use chain_arena::{LinkNoGen, Visitor};
@@ -54,7 +54,7 @@ impl ValueMap<ToolPtr, LinkNoGen<ToolPtr, u32>, u32> for Counting {
 // What a canonical compression of the links 2 and 3 tells, what has seen them, and how many links were placed.
 fn last_kept<S: SlotStack<Item = Slot>>(alloc: Global) -> String {
     let mut arena: ChainsOver<S> = lone_links(alloc, 3);
-    arena.remove(at((1, 2)));
+    remove(&mut arena, (1, 2));
     let begun = Kept {
         count: 0,
         last: None,
@@ -79,7 +79,7 @@ fn counted_to_plain<S: SlotStack<Item = Slot>, R: SlotStack<Item = ArenaSlot<Too
     alloc: Global,
     count: u32,
 ) -> String {
-    let mut target: Arena<ToolPtr, u32, R> = Arena::new(alloc);
+    let mut target: Arena<ToolPtr, u32, R> = fresh_plain(alloc);
     let source: ChainsOver<S> = lone_links(alloc, count);
     let (answer, map) = source.clone_to_arena_by(&mut target, Counting { calls: 0 });
     text(alloc, (answer, map, target.len()))

@@ -4,9 +4,10 @@ ghost use Rattle.std.specs.Prelude.{◌≡◌, IfOk, map};
 ghost use Rattle.arena_ptr.specs.Indexes.{number_of_inx32};
 ghost use Rattle.arena_base.specs.Entries.{entries, index_of};
 
-use super::{ChainsOver, Slot, text, text_of_all};
-use arena_base::ArenaTrait;
+use super::{ChainsOver, Slot, fresh, text, text_of_all};
+use arena_base::Iter;
 use arena_ptr::{Inx32, Ptr, SlotStack, ToolPtr};
+use chain_arena::LinkNoGen;
 use std::alloc::{AllocError, Global};
 use std::mem;
 
@@ -29,23 +30,31 @@ pub(super) fn values<S: SlotStack<Item = Slot>>(alloc: Global, arena: &ChainsOve
     text_of_all(alloc, arena.iter())
 }
 
+// All links of an iterator.
+fn text_of_links<S: SlotStack<Item = Slot>>(
+    alloc: Global,
+    links: Iter<'_, ToolPtr, LinkNoGen<ToolPtr, u32>, S>,
+) -> String {
+    text_of_all(alloc, links)
+}
+
 // Each link with its interlinks, by the call, over the arena itself, and of one that is used up, which leaves a new one.
 pub(super) fn links<S: SlotStack<Item = Slot>>(alloc: Global, arena: &ChainsOver<S>) -> String {
-    text_of_all(alloc, arena.iter_link_no_gen())
+    text_of_links(alloc, arena.iter_link_no_gen())
 }
 
 pub(super) fn links_by_reference<S: SlotStack<Item = Slot>>(
     alloc: Global,
     arena: &ChainsOver<S>,
 ) -> String {
-    text_of_all(alloc, arena.into_iter())
+    text_of_links(alloc, arena.into_iter())
 }
 
 pub(super) fn links_used_up<S: SlotStack<Item = Slot>>(
     alloc: Global,
     arena: &mut ChainsOver<S>,
 ) -> String {
-    let links = mem::replace(arena, ChainsOver::<S>::new(alloc));
+    let links = mem::replace(arena, fresh(alloc));
     text_of_all(alloc, links.into_iter())
 }
 

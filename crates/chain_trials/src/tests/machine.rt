@@ -1,8 +1,7 @@
 //! Lists of calls, and the replies to them.
 
 use super::scripts::{Do, Kind, Line, look};
-use super::{ChainsOver, Slot, at, generation, index, limited, same, text};
-use arena_base::ArenaTrait;
+use super::{ChainsOver, Slot, at, fresh, generation, index, limited, same, text};
 use arena_ptr::{LimitStack, SlotStack, ToolPtr};
 use chain_arena::{Call, LinkInsertKind, Reply, run_calls};
 use std::alloc::Global;
@@ -286,7 +285,7 @@ fn every_reply() -> &'static List {
 
 // Lists one after another, on a new arena.
 fn check_together<S: SlotStack<Item = Slot>>(rt: &impl Abort, alloc: Global, together: &[List]) {
-    let mut arena: ChainsOver<S> = ChainsOver::<S>::new(alloc);
+    let mut arena: ChainsOver<S> = fresh(alloc);
     for list in together {
         replies(rt, alloc, &mut arena, list);
     }

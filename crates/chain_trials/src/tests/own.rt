@@ -1,14 +1,15 @@
 //! The calls that a chain arena has of its own, as rows of tables.
 
 use super::canonical::{counted, moves_listed, moves_seen, placed};
-use super::drains::{drained, drained_chain, remove_all, takes_one, takes_one_of_chain};
-use super::entries::{give_up, insert_asked, insert_by_any_entry, insert_by_entry, place_refusals};
+use super::drains::{Ends, drained, drained_chain, remove_all, takes_one};
+use super::entries::{
+    forget, give_up, insert_asked, insert_by_any_entry, insert_by_entry, place_refusals,
+};
 use super::indexing::{value_at, value_at_index, write_at, write_at_index};
 use super::iterators::{indexes, links, links_by_reference, links_used_up, values, walk};
 use super::machine::kind;
 use super::scripts::{Answers, Do, answer};
-use super::{ChainsOver, Slot, at, index, text};
-use arena_base::ArenaTrait;
+use super::{ChainsOver, Slot, at, fresh, index, text};
 use arena_ptr::SlotStack;
 use std::alloc::Global;
 
@@ -55,12 +56,12 @@ fn drain_answer<S: SlotStack<Item = Slot>>(
     row: Do,
 ) -> String {
     match row {
-        Do::DrainChain(p) => drained_chain(alloc, arena, at(p)),
-        Do::DrainChainOne(p) => text(alloc, takes_one_of_chain(arena, at(p), false)),
-        Do::ForgetChainDrain(p) => text(alloc, takes_one_of_chain(arena, at(p), true)),
-        Do::Drain => drained(alloc, arena),
-        Do::DrainOne => text(alloc, takes_one(arena, false)),
-        Do::ForgetDrain => text(alloc, takes_one(arena, true)),
+        Do::DrainChain(p) => drained_chain(alloc, arena, at(p), Ends::Empty),
+        Do::DrainChainOne(p) => drained_chain(alloc, arena, at(p), Ends::Dropped),
+        Do::ForgetChainDrain(p) => drained_chain(alloc, arena, at(p), Ends::Forgotten),
+        Do::Drain => drained(alloc, arena, Ends::Empty),
+        Do::DrainOne => text(alloc, takes_one(arena)),
+        Do::ForgetDrain => drained(alloc, arena, Ends::Forgotten),
         Do::RemoveAll => text(alloc, remove_all(arena)),
         other => place_answer(alloc, arena, other),
     }
@@ -73,8 +74,8 @@ fn place_answer<S: SlotStack<Item = Slot>>(
     row: Do,
 ) -> String {
     match row {
-        Do::GiveUp(k) => text(alloc, give_up(arena, kind(k), false)),
-        Do::Forget(k) => text(alloc, give_up(arena, kind(k), true).err()),
+        Do::GiveUp(k) => text(alloc, give_up(arena, kind(k))),
+        Do::Forget(k) => text(alloc, forget(arena, kind(k))),
         Do::PlaceRefusals(k) => text(alloc, place_refusals(arena, kind(k))),
         Do::InsertByEntry(k, t) => text(alloc, insert_by_entry(arena, kind(k), t)),
         Do::InsertByAnyEntry(k, t) => text(alloc, insert_by_any_entry(arena, kind(k), t)),
@@ -85,7 +86,7 @@ fn place_answer<S: SlotStack<Item = Slot>>(
 
 impl<S: SlotStack<Item = Slot>> Answers for ChainsOver<S> {
     fn fresh(alloc: Global) -> Self {
-        ChainsOver::<S>::new(alloc)
+        fresh(alloc)
     }
 
     fn answer(&mut self, alloc: Global, row: Do) -> String {

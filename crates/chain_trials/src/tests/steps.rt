@@ -2,8 +2,8 @@
 
 use super::machine::kind;
 use super::scripts::Kind;
-use super::{At, at, generation, put};
-use arena_base::{ArenaSlot, ArenaTrait};
+use super::{At, fresh, generation, put, remove};
+use arena_base::ArenaSlot;
 use arena_ptr::{SlotStack, ToolPtr};
 use chain_arena::{ChainArena, LinkNoGen};
 use std::alloc::Global;
@@ -24,14 +24,14 @@ pub(super) fn after<T: Drop, S: SlotStack<Item = SlotOf<T>>>(
     alloc: Global,
     steps: Vec<Step<T>>,
 ) -> ChainArena<ToolPtr, T, S> {
-    let mut arena = ChainArena::<ToolPtr, T, S>::new(alloc);
+    let mut arena: ChainArena<ToolPtr, T, S> = fresh(alloc);
     for step in steps {
         match step {
             Step::Add(k, t) => {
                 put(&mut arena, kind(k), t);
             }
             Step::Remove(p) => {
-                arena.remove(at(p));
+                remove(&mut arena, p);
             }
             Step::Count(g) => arena.set_generation(generation(g)),
         }

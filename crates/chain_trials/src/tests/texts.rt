@@ -1,20 +1,27 @@
 //! The texts of chain arenas.
 
-use super::same;
 use super::scripts::Kind;
 use super::steps::{SlotOf, Step, after};
+use super::{same, text};
 use arena_ptr::{HeapStack, SlotStack, ToolPtr};
 use chain_arena::ChainArena;
 use std::alloc::Global;
 use std::fmt::Debug;
 use std::process::Abort;
 
+// An answer as `Debug` writes it in the alternate form.
+fn sharp_text<T: Debug + Drop>(alloc: Global, answer: T) -> String {
+    match format!(in alloc; "{answer:#?}") {
+        Ok(text) => text,
+        Err(_) => String::new(alloc),
+    }
+}
+
 // Looks at the text by `Debug`, plain and in the alternate form.
 fn debug_reads<T: Debug>(rt: &impl Abort, alloc: Global, item: &T, plain: &str, sharp: &str) {
-    let text = format!(in alloc; "{item:?}").expect(rt, "memory");
-    same(rt, "by debug", text.as_str(), plain);
-    let text = format!(in alloc; "{item:#?}").expect(rt, "memory");
-    same(rt, "by debug, alternate", text.as_str(), sharp);
+    same(rt, "by debug", text(alloc, item).as_str(), plain);
+    let told = sharp_text(alloc, item);
+    same(rt, "by debug, alternate", told.as_str(), sharp);
 }
 
 // Steps with words as values.

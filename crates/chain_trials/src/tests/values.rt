@@ -1,10 +1,10 @@
 //! Values that tell how many of them there are, or how often they were cloned: none is lost, and none is cloned twice.
 
 use super::steps::SlotOf;
-use super::{add_plain, at, chained, put, same};
+use super::{add_plain, at, chained, fresh, fresh_plain, put, remove, same};
 use arena_base::{Arena, ArenaTrait};
-use arena_ptr::{HeapStack, Inx32, SlotStack, ToolPtr};
-use chain_arena::{Call, ChainArena, LinkBody, LinkInsertKind, LinkNoGen, apply};
+use arena_ptr::{HeapStack, SlotStack, ToolPtr};
+use chain_arena::{Call, ChainArena, LinkInsertKind, LinkNoGen, apply};
 use std::alloc::{AllocError, Global};
 use std::cell::Cell;
 use std::marker::Model;
@@ -27,7 +27,7 @@ fn chain_and_lone<S: SlotStack<Item = SlotOf<Rc<u8>>>>(
     alloc: Global,
     value: &Rc<u8>,
 ) -> ChainArena<ToolPtr, Rc<u8>, S> {
-    let mut arena = ChainArena::new(alloc);
+    let mut arena = fresh(alloc);
     let mut kind = LinkInsertKind::Disconnected;
     for _ in 0..3 {
         kind = LinkInsertKind::ChainEnd(put(&mut arena, kind, one_more(rt, value)));
@@ -61,10 +61,9 @@ fn plain_pair<S: SlotStack<Item = SlotOf<Rc<u8>>>>(
     value: &Rc<u8>,
     next: u32,
 ) -> Arena<ToolPtr, LinkNoGen<ToolPtr, Rc<u8>>, S> {
-    let mut arena = Arena::new(alloc);
+    let mut arena = fresh_plain(alloc);
     for next in [next, 0] {
-        let link = LinkBody::new((None, Inx32::new(next)), one_more(rt, value));
-        add_plain(&mut arena, link);
+        add_plain(&mut arena, (0, next), one_more(rt, value));
     }
     arena
 }
@@ -130,12 +129,12 @@ fn counted_with_a_hole<S: SlotStack<Item = SlotOf<Counted>>>(
     alloc: Global,
     clones: &Rc<Cell<u32>>,
 ) -> ChainArena<ToolPtr, Counted, S> {
-    let mut arena = ChainArena::new(alloc);
+    let mut arena = fresh(alloc);
     for _ in 0..3 {
         let clones = clones.clone().expect(rt, "one more");
         put(&mut arena, LinkInsertKind::Disconnected, Counted { clones });
     }
-    arena.remove(at((2, 2)));
+    remove(&mut arena, (2, 2));
     arena
 }
 
