@@ -17,12 +17,10 @@ mod texts;
 mod values;
 
 ghost use Rattle.std.specs.Iterator.{IsFinite};
-ghost use Rattle.std.specs.Prelude.{◌≡◌};
 
 use arena_base::{Arena, ArenaSlot, ArenaTrait};
 use arena_ptr::{
-    ChainInsertionError, Gen32, InvalidationResult, Inx32, LimitStack, Ptr, ReallocationError,
-    SetMaxCapacity, SlotStack, ToolPtr,
+    Gen32, InvalidationResult, Inx32, LimitStack, Ptr, SetMaxCapacity, SlotStack, ToolPtr,
 };
 use chain_arena::{ChainArena, ChainArenaTrait, LinkBody, LinkInsertKind, LinkNoGen};
 use std::alloc::{AllocError, Global};
@@ -99,32 +97,13 @@ fn remove<T: Drop, S: SlotStack<Item = ArenaSlot<ToolPtr, LinkNoGen<ToolPtr, T>>
     arena.remove(at(p))
 }
 
-// Inserts a link.
-fn insert<T: Drop, S: SlotStack<Item = ArenaSlot<ToolPtr, LinkNoGen<ToolPtr, T>>>>(
-    arena: &mut ChainArena<ToolPtr, T, S>,
-    kind: LinkInsertKind<ToolPtr>,
-    t: T,
-) -> Result<ToolPtr, ChainInsertionError> {
-    arena.insert_reallocating(kind, t)
-}
-
-// A clone of an arena.
-fn clone_of<T: Clone, S: SlotStack<Item = ArenaSlot<ToolPtr, LinkNoGen<ToolPtr, T>>>>(
-    alloc: Global,
-    arena: &ChainArena<ToolPtr, T, S>,
-) -> Result<ChainArena<ToolPtr, T, S>, ReallocationError>
-    requires { (x y : T) → T.is_clone x y → y ≡ x }
-{
-    arena.clone(alloc)
-}
-
 // Adds a link, and tells its pointer. Without room for it that is the invalid one.
 fn put<T: Drop, S: SlotStack<Item = ArenaSlot<ToolPtr, LinkNoGen<ToolPtr, T>>>>(
     arena: &mut ChainArena<ToolPtr, T, S>,
     kind: LinkInsertKind<ToolPtr>,
     t: T,
 ) -> ToolPtr {
-    match insert(arena, kind, t) {
+    match arena.insert_reallocating(kind, t) {
         Ok(p) => p,
         Err(_) => ToolPtr::invalid(),
     }
@@ -137,14 +116,6 @@ fn fresh_plain<T: Drop, S: SlotStack<Item = ArenaSlot<ToolPtr, T>>>(
     Arena::new(alloc)
 }
 
-// Inserts an entry into a plain arena.
-fn insert_plain<T: Drop, S: SlotStack<Item = ArenaSlot<ToolPtr, T>>>(
-    arena: &mut Arena<ToolPtr, T, S>,
-    t: T,
-) -> Result<ToolPtr, ReallocationError> {
-    arena.insert_reallocating(t)
-}
-
 // Adds a link to a plain arena, where there is room, by the indexes before and after it, 0 for none.
 fn add_plain<T: Drop, S: SlotStack<Item = ArenaSlot<ToolPtr, LinkNoGen<ToolPtr, T>>>>(
     arena: &mut Arena<ToolPtr, LinkNoGen<ToolPtr, T>, S>,
@@ -152,7 +123,7 @@ fn add_plain<T: Drop, S: SlotStack<Item = ArenaSlot<ToolPtr, LinkNoGen<ToolPtr, 
     t: T,
 ) {
     let beside = (Inx32::new(beside.0), Inx32::new(beside.1));
-    let _ = insert_plain(arena, LinkBody::new(beside, t));
+    let _ = arena.insert_reallocating(LinkBody::new(beside, t));
 }
 
 // The chain arena that a plain one becomes, if its interlinks agree.

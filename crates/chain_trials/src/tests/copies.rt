@@ -2,23 +2,19 @@
 
 use super::scripts::{Do, Kind, Line, Script};
 use super::steps::SlotOf;
-use super::{
-    ChainsOver, Slot, at, clone_of, fresh, fresh_plain, insert, insert_plain, put, remove, same,
-    text,
-};
+use super::{ChainsOver, Slot, at, fresh, fresh_plain, put, remove, same, text};
 use arena_base::{Arena, ArenaSlot, ArenaTrait};
 use arena_ptr::{
-    HeapStack, InvalidationResult, LimitStack, LimitedStack, ReallocationError, SetMaxCapacity,
-    SlotStack, ToolPtr,
+    HeapStack, LimitStack, LimitedStack, ReallocationError, SetMaxCapacity, SlotStack, ToolPtr,
 };
 use chain_arena::{ChainArena, ChainArenaTrait, LinkInsertKind, LinkNoGen};
 use std::alloc::{AllocError, Global};
 
 // The pointer of the next link in a clone, all links there then, and the maximum.
 pub(super) fn cloned<S: SlotStack<Item = Slot>>(alloc: Global, arena: &ChainsOver<S>) -> String {
-    match clone_of(alloc, arena) {
+    match arena.clone(alloc) {
         Ok(mut copy) => {
-            let next = insert(&mut copy, LinkInsertKind::Disconnected, 9);
+            let next = copy.insert_reallocating(LinkInsertKind::Disconnected, 9);
             text(alloc, (next, &copy, copy.max_capacity()))
         }
         Err(error) => text(alloc, error),
@@ -78,7 +74,7 @@ pub(super) fn copied_to_plain<
 >(alloc: Global, source: &ChainsOver<S>) -> String {
     let mut target: Arena<ToolPtr, u32, R> = fresh_plain(alloc);
     let told = copied_plain(alloc, source, &mut target);
-    let next = insert_plain(&mut target, 9);
+    let next = target.insert_reallocating(9);
     let entries: Result<Vec<_>, AllocError> = (&target).into_iter().collect(alloc);
     match entries {
         Ok(entries) => text(alloc, (told, next, entries)),
@@ -146,7 +142,7 @@ fn copied_to_two<S: SlotStack<Item = Slot>, R: LimitStack<Item = ArenaSlot<ToolP
     let limit = target.set_max_capacity(2);
     let source: ChainsOver<S> = with_a_hole(alloc);
     let told = copied_plain(alloc, &source, &mut target);
-    text(alloc, (limit, told, insert_plain(&mut target, 6)))
+    text(alloc, (limit, told, target.insert_reallocating(6)))
 }
 
 // A maximum of two is not carried over, and a copy of three slots is refused.
@@ -191,23 +187,16 @@ impl Clone for Refusing {
     }
 }
 
-// Adds two values, of which the second refuses: how a clone of the arena is refused, and the second value, which is removed.
-fn refused_once<S: SlotStack<Item = SlotOf<Refusing>>>(
-    alloc: Global,
-    arena: &mut ChainArena<ToolPtr, Refusing, S>,
-) -> (Option<ReallocationError>, InvalidationResult<Refusing>) {
-    for k in [1, 2] {
-        put(arena, LinkInsertKind::Disconnected, Refusing(k));
-    }
-    let refused = clone_of(alloc, arena).err();
-    (refused, remove(arena, (2, 2)))
-}
-
-// Both, and the first link and the length of a clone then.
+// An arena of two values, of which the second refuses: how its clone is refused, the second value, which is removed, and the
+// first link and the length of the clone then.
 fn cloned_once_more<S: SlotStack<Item = SlotOf<Refusing>>>(alloc: Global) -> String {
     let mut arena: ChainArena<ToolPtr, Refusing, S> = fresh(alloc);
-    let (refused, gone) = refused_once(alloc, &mut arena);
-    match clone_of(alloc, &arena) {
+    for k in [1, 2] {
+        put(&mut arena, LinkInsertKind::Disconnected, Refusing(k));
+    }
+    let refused = arena.clone(alloc).err();
+    let gone = remove(&mut arena, (2, 2));
+    match arena.clone(alloc) {
         Ok(copy) => {
             let link = copy.get_link_no_gen(at((1, 2)));
             text(alloc, (refused, gone, link, copy.len()))

@@ -1,7 +1,7 @@
 //! Values that tell how many of them there are, or how often they were cloned: none is lost, and none is cloned twice.
 
 use super::steps::SlotOf;
-use super::{add_plain, at, chained, clone_of, fresh, fresh_plain, put, remove, same};
+use super::{add_plain, at, chained, fresh, fresh_plain, put, remove, same};
 use arena_base::{Arena, ArenaTrait};
 use arena_ptr::{HeapStack, SlotStack, ToolPtr};
 use chain_arena::{Call, ChainArena, LinkInsertKind, LinkNoGen, apply};
@@ -146,7 +146,7 @@ fn clones_of_two<S: SlotStack<Item = SlotOf<Counted>>>(
     let clones = Rc::new(alloc, Cell::new(0)).ok();
     let clones = clones.expect(rt, "memory");
     let arena: ChainArena<ToolPtr, Counted, S> = counted_with_a_hole(rt, alloc, &clones);
-    let copy = clone_of(alloc, &arena).expect(rt, "memory");
+    let copy = arena.clone(alloc).expect(rt, "memory");
     (copy.len(), clones.get())
 }
 
