@@ -4,6 +4,7 @@ mod copies;
 mod drains;
 mod entries;
 mod handed_back;
+mod hostile;
 mod indexing;
 mod iterators;
 mod machine;

@@ -7,25 +7,19 @@ mod polygons;
 mod texts;
 mod turns;
 
+use super::same;
 use arena_base::ArenaSlot;
 use arena_ptr::{ChunkStack, HeapStack, PtrKey, SlotStack, ToolPtr};
 use bookmarks::Renumbers;
 use chain_arena::{ChainArena, ChainArenaTrait, LinkNoGen};
 use chain_wrapped::Wrapped;
 use std::alloc::Global;
-use std::fmt::Debug;
-use std::process::Abort;
 
 // A slot of a link of a number.
 type Slot<P> = ArenaSlot<P, LinkNoGen<P, u32>>;
 
 // The first row of a table that is not as it says, from 0 on.
 type Differing = Option<usize>;
-
-// Looks whether a test got what it wants.
-fn same<T: PartialEq + Debug + Drop>(rt: &impl Abort, what: &str, got: T, want: T) {
-    assert_eq!(rt; got, want, "{what}");
-}
 
 // The pointer that came as the n-th, from 1 on; of 0, and of what did not come, one that no arena gives.
 fn name<P: PtrKey>(names: &[P], n: usize) -> P {

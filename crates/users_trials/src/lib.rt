@@ -1,5 +1,0 @@
-//! The tests of `chain_users`.
-#![tactic(auto)]
-
-#[cfg(test)]
-mod tests;
