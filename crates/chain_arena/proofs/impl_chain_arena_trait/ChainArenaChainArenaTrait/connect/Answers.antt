@@ -2,7 +2,7 @@
 use Rattle.std.proofs.Common.{◌≡◌, ◌↔◌, ℕ, Option, None, Some, refl, ap, sym, subst}
 use Rattle.std.specs.Prelude.{IsSome, OnSome, IfNone}
 use Rattle.chain_laws.specs.Chains.{Agrees}
-use Rattle.chain_laws.specs.Operations.{joined, AddsPair, Connects}
+use Rattle.chain_laws.specs.Operations.{joined}
 use Rattle.arena_base.specs.Arena.{entry_at}
 use Rattle.arena_base.specs.Entries.{seen_of}
 use Rattle.chain_links.specs.Links.{seen_links}
