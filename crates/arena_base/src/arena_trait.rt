@@ -113,7 +113,7 @@ impl<P: PtrKey, T: Drop, S: SlotStack<Item = ArenaSlot<P, T>>> ArenaTrait<P, T> 
     fn get(&self, p: P) -> Option<&T> {
         match self.get_inx(p.inx()) {
             Some((generation, t)) => {
-                if generation == p.generation() {
+                if generation.is_same(p.generation()) {
                     Some(t)
                 } else {
                     None

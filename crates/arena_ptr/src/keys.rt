@@ -10,12 +10,15 @@ use crate::ptr::{Ptr, PtrGen, PtrInx};
 /// What an arena asks of the indexes of its pointers. Each `PtrInx` is one, by the calls of the same names.
 ///
 /// This crate's own: it is `PtrInx` without its order, its hash and its texts, which no arena needs.
-pub trait InxKey: Copy + Eq {
+pub trait InxKey: Copy {
     /// What an optional index is kept in.
     type Word: Copy;
 
     // The number of an index, from 1 to the greatest. Contracts name indexes by it.
     ghost number: { Self → ℕ };
+
+    // Whether two indexes are one.
+    ghost same: { Self → Self → Bool };
 
     // The number of the index that is packed, where there is one.
     ghost packed_number: { PackedOption Self Self.Word → Option ℕ };
@@ -36,6 +39,10 @@ pub trait InxKey: Copy + Eq {
     fn try_into_usize(self) -> Option<usize>
         ensures { result ≡ Some (number self) };
 
+    /// Whether this is the other index: what `==` is for a `PtrInx`.
+    fn is_same(self, other: Self) -> bool
+        ensures { result ≡ same self other };
+
     /// Packs an optional index.
     fn pack(i: Option<Self>) -> PackedOption<Self, Self::Word>
         ensures { packed_number result ≡ option_map number i };
@@ -52,7 +59,7 @@ pub trait InxKey: Copy + Eq {
 
     ghost same_number: { (i j : Self) → number i ≡ number j → i ≡ j };
 
-    ghost eq_is_same: { (i j : Self) → (Self.eq i j ≡ true) ↔ (i ≡ j) };
+    ghost same_is_equal: { (i j : Self) → (same i j ≡ true) ↔ (i ≡ j) };
 
     ghost same_packed: { (o p : PackedOption Self Self.Word) → packed_number o ≡ packed_number p → o ≡ p };
 }
@@ -60,7 +67,7 @@ pub trait InxKey: Copy + Eq {
 /// What an arena asks of the generations of its pointers. Each `PtrGen` is one, by the calls of the same names.
 ///
 /// This crate's own: it is `PtrGen` without its order, its hash and its texts.
-pub trait GenKey: Copy + Eq {
+pub trait GenKey: Copy {
     ghost first: { Self };
 
     // What comes after a generation.
@@ -68,6 +75,9 @@ pub trait GenKey: Copy + Eq {
 
     // Whether a generation is the greatest, after which the counting begins again.
     ghost wraps: { Self → Bool };
+
+    // Whether two generations are one.
+    ghost same: { Self → Self → Bool };
 
     /// The first generation that an arena gives.
     fn two() -> Self
@@ -78,9 +88,13 @@ pub trait GenKey: Copy + Eq {
         ensures next { result.0 ≡ following self }
         ensures overflow { result.1 ≡ wraps self };
 
+    /// Whether this is the other generation: what `==` is for a `PtrGen`.
+    fn is_same(self, other: Self) -> bool
+        ensures { result ≡ same self other };
+
     ghost begins_again: { (g : Self) → wraps g ≡ true → following g ≡ first };
 
-    ghost eq_is_same: { (g h : Self) → (Self.eq g h ≡ true) ↔ (g ≡ h) };
+    ghost same_is_equal: { (g h : Self) → (same g h ≡ true) ↔ (g ≡ h) };
 }
 
 /// What an arena asks of its pointers: an index and a generation, and that these two are all of a pointer. Each `Ptr` is
@@ -88,7 +102,7 @@ pub trait GenKey: Copy + Eq {
 ///
 /// This crate's own: it is `Ptr` without its order, its hash and its texts, which no arena needs. Write `impl Ptr` for a
 /// pointer type, and `P: Ptr` in code that is generic in it.
-pub trait PtrKey: Copy + Eq {
+pub trait PtrKey: Copy {
     /// The type of the index.
     type Inx: InxKey;
 
@@ -97,6 +111,9 @@ pub trait PtrKey: Copy + Eq {
 
     // The index as a number, and the generation: all that a pointer is.
     ghost key: { Self → ℕ × Self.Gen };
+
+    // Whether two pointers are one.
+    ghost same: { Self → Self → Bool };
 
     /// A pointer to nothing yet: its index is 1, and its generation should be 1, or `()`.
     fn invalid() -> Self
@@ -110,6 +127,10 @@ pub trait PtrKey: Copy + Eq {
     fn generation(self) -> Self::Gen
         ensures { result ≡ (key self).1 };
 
+    /// Whether this is the other pointer, in both parts: what `==` is for a `Ptr`.
+    fn is_same(self, other: Self) -> bool
+        ensures { result ≡ same self other };
+
     /// The pointer of an index and a generation, whether or not an entry stands there.
     fn _from_raw(inx: Self::Inx, generation: Self::Gen) -> Self
         ensures { key result ≡ (Self.Inx.number inx, generation) };
@@ -118,13 +139,15 @@ pub trait PtrKey: Copy + Eq {
 
     ghost same_key: { (p q : Self) → key p ≡ key q → p ≡ q };
 
-    ghost eq_is_same: { (p q : Self) → (Self.eq p q ≡ true) ↔ (p ≡ q) };
+    ghost same_is_equal: { (p q : Self) → (same p q ≡ true) ↔ (p ≡ q) };
 }
 
 impl<I: PtrInx> InxKey for I {
     type Word = <I as PtrInx>::Word;
 
     ghost number = { I.PtrInx.number };
+
+    ghost same = { I.eq };
 
     ghost packed_number = { I.PtrInx.packed_number };
 
@@ -138,7 +161,7 @@ impl<I: PtrInx> InxKey for I {
 
     ghost same_number = { I.PtrInx.same_number };
 
-    ghost eq_is_same = { I.PtrInx.eq_is_same };
+    ghost same_is_equal = { I.PtrInx.eq_is_same };
 
     ghost same_packed = { I.PtrInx.same_packed };
 
@@ -152,6 +175,10 @@ impl<I: PtrInx> InxKey for I {
 
     fn try_into_usize(self) -> Option<usize> {
         PtrInx::try_into_usize(self)
+    }
+
+    fn is_same(self, other: Self) -> bool {
+        self == other
     }
 
     fn pack(i: Option<Self>) -> PackedOption<Self, <I as PtrInx>::Word>
@@ -174,9 +201,11 @@ impl<G: PtrGen> GenKey for G {
 
     ghost wraps = { G.PtrGen.wraps };
 
+    ghost same = { G.eq };
+
     ghost begins_again = { G.PtrGen.begins_again };
 
-    ghost eq_is_same = { G.PtrGen.eq_is_same };
+    ghost same_is_equal = { G.PtrGen.eq_is_same };
 
     fn two() -> Self {
         <G as PtrGen>::two()
@@ -184,6 +213,10 @@ impl<G: PtrGen> GenKey for G {
 
     fn generational_inc(self) -> (Self, bool) {
         PtrGen::generational_inc(self)
+    }
+
+    fn is_same(self, other: Self) -> bool {
+        self == other
     }
 }
 
@@ -194,11 +227,13 @@ impl<P: Ptr> PtrKey for P {
 
     ghost key = { P.Ptr.key };
 
+    ghost same = { P.eq };
+
     ghost index_within = { P.Ptr.index_within };
 
     ghost same_key = { P.Ptr.same_key };
 
-    ghost eq_is_same = { P.Ptr.eq_is_same };
+    ghost same_is_equal = { P.Ptr.eq_is_same };
 
     fn invalid() -> Self {
         <P as Ptr>::invalid()
@@ -210,6 +245,10 @@ impl<P: Ptr> PtrKey for P {
 
     fn generation(self) -> <P as Ptr>::Gen {
         Ptr::generation(self)
+    }
+
+    fn is_same(self, other: Self) -> bool {
+        self == other
     }
 
     fn _from_raw(inx: <P as Ptr>::Inx, generation: <P as Ptr>::Gen) -> Self {

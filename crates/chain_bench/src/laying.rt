@@ -4,8 +4,8 @@ use crate::cases::Laying;
 use crate::faults::Fault;
 use crate::seen::Seen;
 use crate::shapes::{ChainsOver, Slot, number};
-use arena_base::ArenaTrait;
-use arena_ptr::{Gen32, GenKey, Inx32, InxKey, PtrKey, ReallocationError, SlotStack, ToolPtr};
+use arena_base::{ArenaSlot, ArenaTrait};
+use arena_ptr::{GenKey, Inx32, InxKey, PtrKey, ReallocationError, SlotStack, ToolPtr};
 use chain_arena::{ChainArena, ChainArenaTrait, LinkNoGen};
 use std::alloc::Global;
 
@@ -55,11 +55,12 @@ fn transfer<S: SlotStack<Item = Slot>>(
     Ok(probe(&target))
 }
 
-fn carry_over<S: SlotStack<Item = Slot>>(
-    source: &mut ChainsOver<S>,
-    target: &mut ChainsOver<S>,
+// Named at any pointer and value, the types cost its proof less.
+fn carry_over<P: PtrKey, T: Drop, S: SlotStack<Item = ArenaSlot<P, LinkNoGen<P, T>>>>(
+    source: &mut ChainArena<P, T, S>,
+    target: &mut ChainArena<P, T, S>,
 ) -> Result<(), ReallocationError> {
-    target.transfer_canonical_reallocating(Gen32::two(), source, |_from, value, _to| value.allow())
+    target.transfer_canonical_reallocating(P::Gen::two(), source, |_from, value, _to| value.allow())
 }
 
 // So many operations as there are links, and eight links, spread over the indexes.

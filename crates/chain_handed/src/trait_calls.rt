@@ -1,29 +1,12 @@
 // Calls of the trait of arenas of links.
-ghost use Rattle.std.specs.Prelude.{◌≡◌, ◌↔◌, length, IsSome, IfSome, OnSome, IfNone};
+ghost use Rattle.std.specs.Prelude.{◌≡◌, length, IfSome};
 ghost use Rattle.arena_ptr.specs.Invalidation.{invalidation_option};
 ghost use Rattle.arena_base.specs.Compressing.{overflows_after_compression};
 ghost use Rattle.chain_laws.specs.Chains.{Agrees};
-ghost use Rattle.chain_laws.specs.Operations.{joined};
-ghost use Rattle.chain_links.specs.ChainArena.{CanConnect};
 ghost use Rattle.chain_links.specs.CanonicalLayouts.{IsCanonicalLayout};
 
-use arena_ptr::{GenKey, InvalidationOption, InxKey, PtrKey};
+use arena_ptr::{GenKey, InvalidationOption, PtrKey};
 use chain_arena::ChainArenaTrait;
-
-/// `ChainArenaTrait::connect`.
-pub fn connect<P: PtrKey, T: Drop, A: ChainArenaTrait<P, T>>(
-    arena: &mut A,
-    p: P,
-    q: P,
-) -> Option<()>
-    ensures some { IsSome result ↔ CanConnect (A.entry arena.old) (A.interlinks arena.old) (P.key p) (P.key q) }
-    ensures joined { OnSome result (A.interlinks arena.new ≡ joined (A.interlinks arena.old) (P.key p).0 (P.key q).0) }
-    ensures seen { OnSome result (A.seen arena.new ≡ A.seen arena.old) }
-    ensures none { IfNone result (arena.new ≡ arena.old) }
-    ensures agreed { Agrees (A.interlinks arena.old) }
-{
-    arena.connect(p, q)
-}
 
 /// `ChainArenaTrait::compress_canonical`.
 pub fn compress_canonical<P: PtrKey, T: Drop, A: ChainArenaTrait<P, T>>(

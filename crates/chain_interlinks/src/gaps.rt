@@ -69,7 +69,7 @@ pub fn is_index<I: InxKey>(i: Option<I>, j: I) -> bool
     ensures { IsTrue result ↔ (option_map I.number i ≡ Some (I.number j)) }
 {
     match i {
-        Some(i) => i == j,
+        Some(i) => i.is_same(j),
         None => false,
     }
 }

@@ -28,7 +28,7 @@ fn index_now<I: InxKey>(named: Option<I>, from: I, to: I) -> Option<I>
     ensures { option_map I.number result ≡ option_map (moved_index (I.number from) (I.number to)) (option_map I.number named) }
 {
     match named {
-        Some(k) => if k == from { Some(to) } else { Some(k) },
+        Some(k) => if k.is_same(from) { Some(to) } else { Some(k) },
         None => None,
     }
 }

@@ -35,7 +35,7 @@ fn start_at<P: PtrKey, T: Drop, S: SlotStack<Item = ArenaSlot<P, LinkNoGen<P, T>
         let (_, before, _, _) = look_at(compactor, at);
         match before {
             Some(k) => {
-                if k == i {
+                if k.is_same(i) {
                     return i;
                 }
                 at = k;

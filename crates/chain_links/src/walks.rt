@@ -10,7 +10,7 @@ pub fn going_on<I: InxKey>(start: I, next: Option<I>) -> Option<I>
     ensures { option_map I.number result ≡ goes_on (I.number start) (option_map I.number next) }
 {
     match next {
-        Some(k) => if k == start { None } else { Some(k) },
+        Some(k) => if k.is_same(start) { None } else { Some(k) },
         None => None,
     }
 }
@@ -22,7 +22,7 @@ pub fn going<I: InxKey>(start: I, next: Option<I>, back: Option<I>) -> (Option<I
     ensures back { option_map I.number result.1 ≡ goes_back (I.number start) (option_map I.number next) (option_map I.number back) }
 {
     match next {
-        Some(k) => if k == start {
+        Some(k) => if k.is_same(start) {
             (None, None)
         } else {
             (Some(k), back)

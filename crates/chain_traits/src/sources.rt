@@ -12,7 +12,7 @@ ghost use Rattle.chain_traits.specs.Sources.{IsNextChain};
 
 use crate::chain_traits::ChainArenaTrait;
 use arena_base::{Advancer, invalidated};
-use arena_ptr::{InvalidationOption, PtrKey};
+use arena_ptr::{InvalidationOption, InxKey, PtrKey};
 use chain_links::walks::going_on;
 
 // The index of the link before the one at an index.
@@ -36,7 +36,7 @@ fn start_of<Q: PtrKey, U: Drop, A: ChainArenaTrait<Q, U>>(source: &A, i: Q::Inx)
     for step in 0..source.len() {
         match before(source, at) {
             Some(k) => {
-                if k == i {
+                if k.is_same(i) {
                     return i;
                 }
                 at = k;

@@ -71,18 +71,18 @@ fn note<P: PtrKey>(table: &mut [Option<(P, P)>], moves: &[(P, P)])
 
 /// The pointer to which the table has a move from the bookmark. `None`: it names none, or the table has no such move.
 fn find<P: PtrKey>(table: &[Option<(P, P)>], bookmark: Option<P>) -> Option<P>
-    ensures { result ≡ option_and_then (looked_up P.key P.eq table.now) bookmark }
+    ensures { result ≡ option_and_then (looked_up P.key P.same table.now) bookmark }
 {
     let p = bookmark?;
     match table.get(place_of(p)) {
-        Some(Some((from, to))) if *from == p => Some(*to),
+        Some(Some((from, to))) if from.is_same(p) => Some(*to),
         _ => None,
     }
 }
 
 /// Makes each bookmark the pointer to which the table has a move from it, or none.
 fn follow<P: PtrKey>(table: &[Option<(P, P)>], bookmarks: &mut [Option<P>])
-    ensures { bookmarks.new ≡ map (option_and_then (looked_up P.key P.eq table.now)) bookmarks.old }
+    ensures { bookmarks.new ≡ map (option_and_then (looked_up P.key P.same table.now)) bookmarks.old }
 {
     for bookmark in bookmarks.iter_mut() {
         *bookmark = find(table, *bookmark);

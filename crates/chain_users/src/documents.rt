@@ -244,7 +244,7 @@ impl<P: PtrKey, T: Drop, A: ChainArenaTrait<P, T> + Drop> Documents<P, T, A> {
         ensures seen { A.seen self.new ≡ A.seen self.old }
         ensures none { IfNone result (self.new ≡ self.old) }
     {
-        if p == q || !self.paragraphs.contains(q) {
+        if p.is_same(q) || !self.paragraphs.contains(q) {
             return None;
         }
         self.set_apart(p)?;

@@ -173,7 +173,7 @@ fn other_after<P: PtrKey, T: Drop, A: ChainArenaTrait<P, T>>(tasks: &A, p: P) ->
         → option_map P.key result ≡ first_key rest }
 {
     let q = after(tasks, p)?;
-    if q == p {
+    if q.is_same(p) {
         return None;
     }
     Some(q)
@@ -189,7 +189,7 @@ fn current_without<P: PtrKey, T: Drop, A: ChainArenaTrait<P, T>>(
         → IsTurn (A.entry tasks.now) (A.interlinks tasks.now) (Some (P.key current)) (before ++ (P.key p, task) ∷ after)
         → option_map P.key result ≡ first_key (before ++ after) }
 {
-    if current == p {
+    if current.is_same(p) {
         return other_after(tasks, p);
     }
     Some(current)

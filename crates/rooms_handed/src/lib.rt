@@ -7,5 +7,5 @@ mod links;
 mod stacks;
 
 pub use layouts::lay_out;
-pub use links::{link_up, take_out};
+pub use links::{join, link_up, take_out};
 pub use stacks::{reserve_to, slot_at};

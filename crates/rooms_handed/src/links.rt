@@ -1,9 +1,9 @@
 // Calls that read and write interlinks.
-ghost use Rattle.std.specs.Prelude.{◌≡◌, IsSome, None};
+ghost use Rattle.std.specs.Prelude.{◌≡◌, ◌↔◌, IsSome, OnSome, IfNone, Some, None};
 ghost use Rattle.std.specs.Option.{option_map};
 ghost use Rattle.arena_ptr.specs.Invalidation.{value_within, invalidation_result};
 ghost use Rattle.arena_base.specs.Arena.{entry_at};
-ghost use Rattle.chain_links.specs.ChainArena.{remove_link};
+ghost use Rattle.chain_links.specs.ChainArena.{remove_link, entry, shown, CanConnect};
 ghost use Rattle.chain_links.specs.Links.{seen_links, seen_pair};
 ghost use Rattle.chain_interlinks.specs.Interlinks.{linked_up};
 
@@ -21,6 +21,19 @@ pub fn link_up<P: PtrKey, T: Drop, S: SlotStack<Item = ArenaSlot<P, LinkNoGen<P,
     ensures { seen_links P.Inx.packed_number arena.new ≡ linked_up (seen_links P.Inx.packed_number arena.old) (option_map P.Inx.number prev) (option_map P.Inx.number next) }
 {
     interlinks::link_up(arena, prev, next);
+}
+
+/// `chain_interlinks::interlinks::join`, which is what a connection does.
+pub fn join<P: PtrKey, T: Drop, S: SlotStack<Item = ArenaSlot<P, LinkNoGen<P, T>>>>(
+    arena: &mut Arena<P, LinkNoGen<P, T>, S>,
+    p: P,
+    q: P,
+) -> Option<()>
+    ensures some { IsSome result ↔ CanConnect (entry (seen_links P.Inx.packed_number arena.old)) (shown (seen_links P.Inx.packed_number arena.old)) (P.key p) (P.key q) }
+    ensures joined { OnSome result (seen_links P.Inx.packed_number arena.new ≡ linked_up (seen_links P.Inx.packed_number arena.old) (Some (P.key p).0) (Some (P.key q).0)) }
+    ensures none { IfNone result (seen_links P.Inx.packed_number arena.new ≡ seen_links P.Inx.packed_number arena.old) }
+{
+    interlinks::join(arena, p, q)
 }
 
 /// `chain_interlinks::interlinks::take_out`.

@@ -181,23 +181,23 @@ fn tied_links<P: Numbered, A: ChainArenaTrait<P, u32> + Drop>(
     arena
 }
 
-// The index of a pointer.
-fn inx_of<P: PtrKey>(p: Option<P>) -> Option<P::Inx> {
-    match p {
-        Some(p) => Some(p.inx()),
-        None => None,
+// The number of the index that an interlink names; 0 for none.
+fn named<I: InxKey>(i: Option<I>) -> u32 {
+    match i {
+        Some(i) => number(i),
+        None => 0,
     }
 }
 
 // What the arena shows of the link of a valid pointer, by both calls that show it. `None`: it shows none, or they tell two things.
 fn row_of<P: Numbered, A: ChainArenaTrait<P, u32>>(arena: &A, p: P) -> Option<Row> {
     let link = arena.get_link(p)?;
-    let (prev, next) = link.prev_next();
+    let row = (numbers(Some(p)), *link.t, numbers(link.prev()), numbers(link.next()));
     let bare = arena.get_link_no_gen(p)?;
-    if (bare.prev_next(), bare.t) != ((inx_of(prev), inx_of(next)), *link.t) {
+    if (bare.t, named(bare.prev()), named(bare.next())) != (row.1, row.2.0, row.3.0) {
         return None;
     }
-    Some((numbers(Some(p)), bare.t, numbers(prev), numbers(next)))
+    Some(row)
 }
 
 // All links of an arena, by rising index, and a row of nothing for each answer of an advancer that is not as it has to be.

@@ -37,7 +37,7 @@ fn number<P: PtrKey>(names: &[P], p: Option<P>) -> u32 {
     let mut n = 0;
     for q in names {
         n = u32::saturating_add(n, 1);
-        if *q == p {
+        if q.is_same(p) {
             return n;
         }
     }

@@ -47,7 +47,7 @@ returns-in-Remove g c =
         c.remove_link_no_gen.result,
         refl,
         removes_link (kind_by g.P.PtrKey g.P.Inx.InxKey g.P.Gen.GenKey) old c.remove_link_no_gen.new.self p c.remove_link_no_gen.result
-            (valid_or_not _ g.met.P.Gen.GenKey.eq_is_same (values_of old) p) (λ valid. (made.valid valid).0) (λ valid. record { state = made.state valid; shows = (made.valid valid).1.1; chains = made.chains valid; pairs = made.pairs valid })
+            (valid_or_not _ g.met.P.Gen.GenKey.same_is_equal (values_of old) p) (λ valid. (made.valid valid).0) (λ valid. record { state = made.state valid; shows = (made.valid valid).1.1; chains = made.chains valid; pairs = made.pairs valid })
             made.overflow made.invalid,
       );
     })
@@ -73,7 +73,7 @@ returns-in-Invalidate g c =
       step = (
         c.invalidate.result,
         refl,
-        renews_link (kind_by g.P.PtrKey g.P.Inx.InxKey g.P.Gen.GenKey) old c.invalidate.new.self p c.invalidate.result (valid_or_not _ g.met.P.Gen.GenKey.eq_is_same (values_of old) p)
+        renews_link (kind_by g.P.PtrKey g.P.Inx.InxKey g.P.Gen.GenKey) old c.invalidate.new.self p c.invalidate.result (valid_or_not _ g.met.P.Gen.GenKey.same_is_equal (values_of old) p)
             made.valid made.counter made.invalid made.more,
       );
     })

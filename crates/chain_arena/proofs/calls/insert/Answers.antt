@@ -11,5 +11,5 @@ returns g c =
     let old = c.args.arena.now in
     let made = c.insert_reallocating.ensures in
     inserts_growing (kind_by g.P.PtrKey g.P.Inx.InxKey g.P.Gen.GenKey) old c.insert_reallocating.new.self c.args.kind c.args.t
-    (stable-insertion _ g.met.P.Gen.GenKey.eq_is_same old (names_in g.P.PtrKey.key g.P.Inx.InxKey.number c.args.kind)) c.len.result c.len.ensures.count c.len.ensures.fits
+    (stable-insertion _ g.met.P.Gen.GenKey.same_is_equal old (names_in g.P.PtrKey.key g.P.Inx.InxKey.number c.args.kind)) c.len.result c.len.ensures.count c.len.ensures.fits
     c.insert_reallocating.result _ made.inserted made.err made.link made.error made.room made.beyond made.place made.state made.state_in_room (on_ok c.insert_reallocating.result (λ grown. grown.room) made.state_grown)

@@ -24,8 +24,8 @@ loop-step-init g c =
       counts = counts_none old.arena.now old.placed old.touched;
     }
 
-pub returns-then-eq : goal.returns-then-eq
-returns-then-eq g c =
+pub returns-then-is_same : goal.returns-then-is_same
+returns-then-is_same g c =
     let number = g.P.Inx.InxKey.number in
     let at = c.loop-step.invariant in
     let look = c.look_at-before.ensures in
@@ -34,8 +34,8 @@ returns-then-eq g c =
     let new = c.look_at-before.new.compactor in
     let shown = shown_in g.P.Inx.InxKey.packed_number c.args.compactor.now.held.slots in
     let came = ap (λ h. prev_of (shown_in g.P.Inx.InxKey.packed_number h.slots) (number c.loop-step.at)) at.held in
-    let told = c.eq.ensures in
-    let same = (g.met.P.Inx.InxKey.eq_is_same c.in-Some.k c.args.i).0 (sym told ∙ c.if-eq.true) in
+    let told = c.is_same.ensures in
+    let same = (g.met.P.Inx.InxKey.same_is_equal c.in-Some.k c.args.i).0 (sym told ∙ c.if-is_same.true) in
     record {
       same_reference = same_then old now new at.same_reference look.looked.same_reference;
       start = back_comes_round shown (number c.args.i) c.loop-step.step (number c.loop-step.at) at.back
@@ -74,13 +74,13 @@ loop-step-preserved g c =
     let old = c.args.compactor.now in
     let now = c.loop-step.compactor in
     let new = c.look_at-before.new.compactor in
-    let told = c.eq.ensures in
+    let told = c.is_same.ensures in
     record {
       same_reference = same_then old now new at.same_reference look.looked.same_reference;
       held = held_then old now new at.held look.looked.held;
       back = back_goes_on (shown_in packed_number c.args.compactor.now.held.slots) (number c.args.i) c.loop-step.step (number c.loop-step.at) (number c.in-Some.k) at.back
           (sym (ap (λ h. prev_of (shown_in packed_number h.slots) (number c.loop-step.at)) at.held) ∙ sym c.look_at-before.ensures.prev ∙ ap (option_map number) c.in-Some.is)
-          (λ e. not_both _ ((g.met.P.Inx.InxKey.eq_is_same c.in-Some.k c.args.i).1 (g.met.P.Inx.InxKey.same_number c.in-Some.k c.args.i e)) (sym told ∙ c.if-eq.false));
+          (λ e. not_both _ ((g.met.P.Inx.InxKey.same_is_equal c.in-Some.k c.args.i).1 (g.met.P.Inx.InxKey.same_number c.in-Some.k c.args.i e)) (sym told ∙ c.if-is_same.false));
       work = work-more at.work (work-touched now.arena.now new.arena.now look.looked.arena) 0 _ refl (omega arith);
       counts = counts_on old now new at.counts look.looked.counts;
     }

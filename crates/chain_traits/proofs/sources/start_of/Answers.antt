@@ -11,11 +11,11 @@ not_both b e f = cc
 pub loop-step-init : goal.loop-step-init
 loop-step-init g c = record { back = back_begins (g.A.ChainArenaTrait.interlinks c.args.source.now) (g.Q.Inx.InxKey.number c.args.i); some = c.requires.some }
 
-pub returns-then-eq-clause-start : goal.returns-then-eq-clause-start
-returns-then-eq-clause-start g c =
+pub returns-then-is_same-clause-start : goal.returns-then-is_same-clause-start
+returns-then-is_same-clause-start g c =
     let number = g.Q.Inx.InxKey.number in
-    let told : c.eq.result ≡ g.Q.Inx.PartialEq.eq c.in-Some.k c.args.i = search of_calls in
-    let same = (g.met.Q.Inx.InxKey.eq_is_same c.in-Some.k c.args.i).0 (sym told ∙ c.if-eq.true) in
+    let told : c.is_same.result ≡ g.Q.Inx.InxKey.same c.in-Some.k c.args.i = search of_calls in
+    let same = (g.met.Q.Inx.InxKey.same_is_equal c.in-Some.k c.args.i).0 (sym told ∙ c.if-is_same.true) in
     back_comes_round (g.A.ChainArenaTrait.interlinks c.args.source.now) (number c.args.i) c.loop-step.step (number c.loop-step.at) c.loop-step.invariant.back
     (sym c.in-Some.ensures ∙ ap (λ k. Some (number k)) same)
 
@@ -29,11 +29,11 @@ loop-step-preserved g c =
     let number = g.Q.Inx.InxKey.number in
     let source = c.args.source.now in
     let links = g.A.ChainArenaTrait.interlinks source in
-    let told : c.eq.result ≡ g.Q.Inx.PartialEq.eq c.in-Some.k c.args.i = search of_calls in
+    let told : c.is_same.result ≡ g.Q.Inx.InxKey.same c.in-Some.k c.args.i = search of_calls in
     let before = sym c.in-Some.ensures in
     record {
       back = back_goes_on links (number c.args.i) c.loop-step.step (number c.loop-step.at) (number c.in-Some.k) c.loop-step.invariant.back before
-          (λ e. not_both _ ((g.met.Q.Inx.InxKey.eq_is_same c.in-Some.k c.args.i).1 (g.met.Q.Inx.InxKey.same_number c.in-Some.k c.args.i e)) (sym told ∙ c.if-eq.false));
+          (λ e. not_both _ ((g.met.Q.Inx.InxKey.same_is_equal c.in-Some.k c.args.i).1 (g.met.Q.Inx.InxKey.same_number c.in-Some.k c.args.i e)) (sym told ∙ c.if-is_same.false));
       some = valid_some links (g.A.ArenaTrait.entry source) (g.A.ArenaTrait.seen source).entries (g.met.A.ChainArenaTrait.stand source) (g.met.A.ArenaTrait.looked_up source) (number c.in-Some.k)
           (next_valid links (number c.in-Some.k) (number c.loop-step.at) ((c.requires.agree.both (number c.in-Some.k) (number c.loop-step.at)).1 before));
     }

@@ -5,4 +5,4 @@ use Rattle.chain_users.proofs.bookmarks.follow.Given as goal
 
 abbrev pub invariant-loop-bookmark : goal.invariant-loop-bookmark
 invariant-loop-bookmark g l =
-    l.bookmarks ≡ map (option_and_then (looked_up g.P.PtrKey.key g.P.PartialEq.eq l.table)) (take l.bookmark-index l.initial.bookmarks) ++ drop l.bookmark-index l.initial.bookmarks
+    l.bookmarks ≡ map (option_and_then (looked_up g.P.PtrKey.key g.P.PtrKey.same l.table)) (take l.bookmark-index l.initial.bookmarks) ++ drop l.bookmark-index l.initial.bookmarks

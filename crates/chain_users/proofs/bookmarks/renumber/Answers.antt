@@ -15,4 +15,4 @@ returns-in-Ok-clause-renumbered g c =
     let count : c.len.result ≡ length c.args.arena.now.slots = c.len.ensures ∙ length_twice _ _ _ _ c.backing.ensures.slots in
     rw (c.follow.ensures, c.note.ensures, c.as_mut_slice-table.ensures.value, c.in_ok-table.ensures, c.deref.ensures.value, count)
     (renumbered g.P.PtrKey.key c.args.arena.now c.compress_canonical_moves.new.self c.in-Ok.moves.items g.P.Gen.GenKey.first g.P.Gen.GenKey.following c.in-Ok.ensures.canonical c.in-Ok.ensures.moves
-    g.P.PartialEq.eq g.met.P.PtrKey.same_key g.met.P.PtrKey.eq_is_same c.in-Ok.ensures.by_pointer c.args.bookmarks.now)
+    g.P.PtrKey.same g.met.P.PtrKey.same_key g.met.P.PtrKey.same_is_equal c.in-Ok.ensures.by_pointer c.args.bookmarks.now)

@@ -6,12 +6,12 @@ use Rattle.chain_users.specs.Turns.{IsTurn}
 use Rattle.chain_users.proofs.Turns.{is_first, stays_first}
 use Rattle.chain_users.proofs.queue.current_without.Goals as goal
 
-pub returns-then-eq : goal.returns-then-eq
-returns-then-eq g c = λ before after task is.
+pub returns-then-is_same : goal.returns-then-is_same
+returns-then-is_same g c = λ before after task is.
     let entry = g.A.ArenaTrait.entry c.args.tasks.now in
     let links = g.A.ChainArenaTrait.interlinks c.args.tasks.now in
     let p = g.P.PtrKey.key c.args.p in
-    let same : c.args.current ≡ c.args.p = (g.met.P.PtrKey.eq_is_same c.args.current c.args.p).0 (sym c.eq.ensures ∙ c.if-eq.true) in
+    let same : c.args.current ≡ c.args.p = (g.met.P.PtrKey.same_is_equal c.args.current c.args.p).0 (sym c.is_same.ensures ∙ c.if-is_same.true) in
     let turn = subst (λ (q : g.row.P.Denot). IsTurn entry links (Some (g.P.PtrKey.key q)) (before ++ (p, task) ∷ after)) same is in
     let empty = is_first entry links p task before after turn in
     c.other_after.ensures (p, task) after (subst (λ (xs : List (Item g.row.P-Gen.Denot g.row.T.Denot)). IsTurn entry links (Some p) (xs ++ (p, task) ∷ after)) empty turn)
@@ -22,4 +22,4 @@ returns g c = λ before after task is.
     let entry = g.A.ArenaTrait.entry c.args.tasks.now in
     let links = g.A.ChainArenaTrait.interlinks c.args.tasks.now in
     stays_first entry links (g.P.PtrKey.key c.args.current) (g.P.PtrKey.key c.args.p) task before after is
-    (λ h. let is = (g.met.P.PtrKey.eq_is_same c.args.current c.args.p).1 (g.met.P.PtrKey.same_key c.args.current c.args.p h) in let no = sym c.eq.ensures ∙ c.if-eq.false in let both = sym is ∙ no in cc)
+    (λ h. let is = (g.met.P.PtrKey.same_is_equal c.args.current c.args.p).1 (g.met.P.PtrKey.same_key c.args.current c.args.p h) in let no = sym c.is_same.ensures ∙ c.if-is_same.false in let both = sym is ∙ no in cc)

@@ -102,7 +102,7 @@ fn round<P: PtrKey, A: ChainArenaTrait<P, u32> + Drop>(mesh: &Mesh<P, u32, A>, f
     for _ in 0..8 {
         all = with_digit(all, mesh.get(at).copied().unwrap_or(0));
         at = mesh.next(at).unwrap_or(from);
-        if at == from {
+        if at.is_same(from) {
             return all;
         }
     }

@@ -2,5 +2,5 @@
 use Rattle.std.proofs.Common.{rules, refl}
 use Rattle.arena_base.proofs.arena_trait.ArenaArenaTrait.get.Goals as goal
 
-pub returns-then-eq-clause-some : goal.returns-then-eq-clause-some
-returns-then-eq-clause-some g c = (λ _. record { value = c.in-Some.t.now; stands = search rules }, λ _. refl)
+pub returns-then-is_same-clause-some : goal.returns-then-is_same-clause-some
+returns-then-is_same-clause-some g c = (λ _. record { value = c.in-Some.t.now; stands = search rules }, λ _. refl)

@@ -15,7 +15,7 @@ invariant_of-self g c =
     ⊎_elim
     (λ valid. subst Agrees (sym (renewed-shown g.P.Inx.InxKey.packed_number g.P.Gen.GenKey.following c.self.inside.arena _ _ (c.invalidate.ensures.more valid))) c.self.invariant)
     (λ invalid. subst (λ a. Agrees (shown (seen_links g.P.Inx.InxKey.packed_number a))) (sym (c.invalidate.ensures.invalid invalid).1) c.self.invariant)
-    (valid_or_not _ g.met.P.Gen.GenKey.eq_is_same c.self.inside.arena p)
+    (valid_or_not _ g.met.P.Gen.GenKey.same_is_equal c.self.inside.arena p)
 
 pub returns : goal.returns
 returns g c =
