@@ -1,6 +1,6 @@
 -- The turn of a run queue: what a task that comes, goes or runs makes of it.
 use Rattle.std.proofs.Common.{◌≡◌, ◌≢◌, ◌<◌, ℕ, inl, inr, ⊎_elim, List, [], ◌∷◌, ◌++◌, Option, None, Some, refl, sym, ap, ◌∙◌, subst, length, arith}
-use Rattle.std.specs.Prelude.{is_some, true}
+use Rattle.std.specs.Prelude.{is_some, true, IfSome}
 use Rattle.std.specs.Option.{option_map, option_and_then}
 use Rattle.std.proofs.Common.{unwrap_or}
 use Rattle.std.proofs.lemmas.List.{map-append, length-map}
@@ -250,6 +250,10 @@ module _ {Gen T : Type 0} where
         let same : e.0 ≡ k = let first = is.first in cc in
         subst (IsValid entry) same (record { value = e.1; stands = is.stand.0 })
 
+    pub valid_current : {P : Type 0} (key : P → ℕ × Gen) (current : Option P) (turn : List (Item Gen T)) → IsTurn entry links (option_map key current) turn → IfSome current (λ p. IsValid entry (key p))
+    valid_current key None turn is = tt
+    valid_current key (Some p) turn is = current_stands (key p) turn is
+
     -- .. and so a link does
     pub link_stands : (k : ℕ × Gen) → is_some (links k.0) ≡ is_some (entry k.0) → IsValid entry k → HasLink links k.0
     link_stands k alike valid = by (links k.0) refl (alike ∙ ap is_some valid.stands)
@@ -297,15 +301,13 @@ module _ {A Gen T : Type 0} (seen : A → Seen Gen T) (entry : A → ℕ → Opt
       let room = ap (λ (s : Queue Gen T). s.room) same in
       omega arith
 
-  module _ (a b : A) (p : ℕ × Gen) (t : T) (turn : List (Item Gen T)) where
-    -- a task comes to a queue without tasks, or before the current one: it is the last in turn
-    pub first_comes : GainsLink seen entry links single_link_cyclic t a p b → IsTurn (entry a) (links a) None turn → IsSettled b (Some p) (turn ++ (p, t) ∷ [])
-    first_comes came is = settle b (Some p) (turn ++ (p, t) ∷ [])
-        (spawned_first (entry a) (entry b) (links a) (links b) p t came.entries.free came.entries.stands came.entries.rest (came.chains.ring refl refl) turn is)
+  -- a task comes to a queue without tasks, or before the current one: it is the last in turn
+  module _ (a b : A) (p : ℕ × Gen) (t : T) where
+    pub first_comes : GainsLink seen entry links single_link_cyclic t a p b → (turn : List (Item Gen T)) → IsTurn (entry a) (links a) None turn → IsTurn (entry b) (links b) (Some p) (turn ++ (p, t) ∷ [])
+    first_comes came = spawned_first (entry a) (entry b) (links a) (links b) p t came.entries.free came.entries.stands came.entries.rest (came.chains.ring refl refl)
 
-    pub last_comes : (k : ℕ × Gen) → GainsLink seen entry links (prev_to (k.0, Some k.1)) t a p b → IsTurn (entry a) (links a) (Some k) turn → IsSettled b (Some k) (turn ++ (p, t) ∷ [])
-    last_comes k came is = settle b (Some k) (turn ++ (p, t) ∷ [])
-        (spawned_last (entry a) (entry b) (links a) (links b) p t came.entries.free came.entries.stands came.entries.rest k (λ y. (came.chains.before k.0 refl refl [] y).1) turn is)
+    pub last_comes : (k : ℕ × Gen) → GainsLink seen entry links (prev_to (k.0, Some k.1)) t a p b → (turn : List (Item Gen T)) → IsTurn (entry a) (links a) (Some k) turn → IsTurn (entry b) (links b) (Some k) (turn ++ (p, t) ∷ [])
+    last_comes k came = spawned_last (entry a) (entry b) (links a) (links b) p t came.entries.free came.entries.stands came.entries.rest k (λ y. (came.chains.before k.0 refl refl [] y).1)
 
   -- the next task is current
   pub goes_on_in : (a : A) (current next : Option (ℕ × Gen)) (k : ℕ × Gen) → current ≡ Some k → IsTurn (entry a) (links a) current (turn_in a current)

@@ -197,15 +197,28 @@ impl<P: PtrKey, T: Copy + Drop, A: ChainArenaTrait<P, T> + Drop> Mesh<P, T, A> {
         ensures room { count (A.seen self.old) + 2 ≤ (A.seen self.old).capacity → IsOk result }
         ensures err { OnErr result (self.new ≡ self.old) }
     {
-        let (a, b) = match self.points(u, v) {
-            Some(both) => both,
-            None => return Ok(None),
-        };
-        self.make_room_for_two()?;
-        let first = add_before(&mut self.corners, u, a);
-        let second = add_after(&mut self.corners, v, b);
+        match self.points(u, v) {
+            Some(both) => {
+                self.make_room_for_two()?;
+                Ok(Some(self.split_in_room(u, v, both)))
+            }
+            None => Ok(None),
+        }
+    }
+
+    // Splits a polygon of which these are the points of u and v, where there is room for the copies.
+    fn split_in_room(&mut self, u: P, v: P, both: (T, T)) -> (P, P)
+        requires room { count (A.seen self.old) + 2 ≤ (A.seen self.old).capacity }
+        requires first { A.entry self.old (P.key u).0 ≡ Some ((P.key u).1, both.0) }
+        requires second { A.entry self.old (P.key v).0 ≡ Some ((P.key v).1, both.1) }
+        ensures rings { IsSplit A.entry A.interlinks self.old self.new (P.key u) (P.key v) (P.key result.0) (P.key result.1) }
+        ensures others { KeepsWithout A.entry A.interlinks cyclic self.old self.new (P.key u ∷ P.key v ∷ []) }
+        ensures size { count (A.seen self.new) ≡ count (A.seen self.old) + 2 }
+    {
+        let first = add_before(&mut self.corners, u, both.0);
+        let second = add_after(&mut self.corners, v, both.1);
         self.cut(v, first);
-        Ok(Some((first, second)))
+        (first, second)
     }
 
     // The points at two corners.

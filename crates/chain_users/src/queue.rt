@@ -1,8 +1,10 @@
 //! The run queue of a scheduler: its tasks stand in one ring, and each has its turn.
 
-ghost use Rattle.std.specs.Prelude.{◌≡◌, ◌<◌, ℕ, List, [], ◌∷◌, ◌++◌, length, map, IfSome, IfNone, IsOk, IfOk, OnErr};
+ghost use Rattle.std.specs.Prelude.{◌≡◌, ◌<◌, ℕ, List, [], ◌∷◌, ◌++◌, length, map, IfSome, IfNone, IsOk, IfOk, OnErr, Some, unwrap_or};
 ghost use Rattle.std.specs.Option.{option_map};
+ghost use Rattle.arena_base.specs.Arena.{IsValid};
 ghost use Rattle.arena_base.specs.Entries.{first_key};
+ghost use Rattle.chain_links.specs.Calls.{SucceedsInRoom};
 ghost use Rattle.chain_users.specs.Turns.{IsCancelled, IsTurn, turned_once};
 ghost use Rattle.chain_users.specs.Lists.{Item, IsAmong};
 
@@ -81,17 +83,9 @@ impl<P: PtrKey, T: Drop, A: ChainArenaTrait<P, T> + Drop> RunQueue<P, T, A> {
         ensures room { length self.old.turn < self.old.room → IsOk result × (self.new.room ≡ self.old.room) }
         ensures err { OnErr result (self.new ≡ self.old) }
     {
-        match self.current {
-            None => {
-                let p = self.tasks.insert(LinkInsertKind::SingleLinkCyclic, task)?;
-                self.current = Some(p);
-                Ok(p)
-            }
-            Some(current) => {
-                let p = self.tasks.insert(LinkInsertKind::PrevTo(current), task)?;
-                Ok(p)
-            }
-        }
+        let p = come_last(&mut self.tasks, self.current, task)?;
+        self.current = Some(self.current.unwrap_or(p));
+        Ok(p)
     }
 
     /// Goes on to the next task in turn, and answers its pointer: the one that was current is the last then. `None`: there are
@@ -153,6 +147,24 @@ impl<P: PtrKey, T: Drop, A: ChainArenaTrait<P, T> + Drop> RunQueue<P, T, A> {
             }
         }
         Ok(drained)
+    }
+}
+
+// Adds a task, which is the last in turn, and current where there was no other.
+fn come_last<P: PtrKey, T: Drop, A: ChainArenaTrait<P, T>>(
+    tasks: &mut A,
+    current: Option<P>,
+    task: T,
+) -> Result<P, ReallocationError>
+    requires { IfSome current (λ p. IsValid (A.entry tasks.old) (P.key p)) }
+    ensures last { IfOk result (λ p. (turn : List (Item P.Gen T)) → IsTurn (A.entry tasks.old) (A.interlinks tasks.old) (option_map P.key current) turn
+        → IsTurn (A.entry tasks.new) (A.interlinks tasks.new) (Some (P.key (unwrap_or current p))) (turn ++ (P.key p, task) ∷ [])) }
+    ensures room { SucceedsInRoom (A.seen tasks.old) result (A.seen tasks.new) }
+    ensures err { OnErr result (tasks.new ≡ tasks.old) }
+{
+    match current {
+        None => tasks.insert(LinkInsertKind::SingleLinkCyclic, task),
+        Some(p) => tasks.insert(LinkInsertKind::PrevTo(p), task),
     }
 }
 
