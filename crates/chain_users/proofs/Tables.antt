@@ -1,12 +1,14 @@
 -- What a table has, once moves are written into it.
-use Rattle.std.proofs.Common.{◌≡◌, ◌≢◌, ℕ, zero, suc, ◌<◌, ◌≤◌, ◌⊎◌, inl, inr, ⊎_elim, List, [], ◌∷◌, length, map, replicate, slice_index_or, Contains, Option, None, Some, refl, sym, ap, ◌∙◌, subst, arith}
+use Rattle.std.proofs.Common.{◌≡◌, ◌≢◌, ℕ, zero, suc, ◌+◌, ◌<◌, ◌≤◌, ◌⊎◌, inl, inr, ⊎_elim, List, [], ◌∷◌, length, map, take, get_or, replicate, slice_index_or, Contains, Option, None, Some, refl, sym, ap, ◌∙◌, subst, arith}
 use Rattle.std.specs.List.{AllByRecursion}
 use Rattle.std.proofs.Math.Decide.{ℕ_discrete}
 use Rattle.std.proofs.lemmas.List.{length-replicate}
+use Rattle.std.proofs.lemmas.List.Sums.{fold_more}
 use Rattle.std.proofs.lemmas.List.Elements.{Contains-append_right}
 use Rattle.chain_laws.specs.Chains.{Has, HasNoRepetition}
 use Rattle.chain_laws.proofs.Agreement.{if_same, if_other}
-use Rattle.arena_base.specs.Arena.{slot_at}
+use Rattle.std.specs.Prelude.{slice_set}
+use Rattle.arena_base.specs.Arena.{slot_at, with_slot}
 use Rattle.arena_base.proofs.Reading.{length-with_slot}
 use Rattle.chain_links.proofs.Inserting.{slot_at-written}
 use Rattle.chain_users.specs.Tables.{with_move, noted}
@@ -24,6 +26,14 @@ module _ {P Gen : Type 0} (key : P → ℕ × Gen) where
   -- the index that a move is from
   abbrev pub from_index : P × P → ℕ
   from_index m = (key m.0).0
+
+  -- one move more is written at its index
+  pub note_more : (table : List (Option (P × P))) (moves : List (P × P)) (i k : ℕ) (m : P × P) → i < length moves → m ≡ get_or moves i m → k + 1 ≡ (key m.0).0
+      → slice_set (noted key table (take i moves)) k (Some m) ≡ noted key table (take (i + 1) moves)
+  note_more table moves i k m below is at =
+      let index : suc k ≡ (key m.0).0 = omega arith in
+      subst (λ (j : ℕ). slice_set (noted key table (take i moves)) k (Some m) ≡ with_slot (noted key table (take i moves)) j (Some m)) index refl
+      ∙ (ap (with_move key (noted key table (take i moves))) is ∙ sym (fold_more (with_move key) table moves i m below))
 
   -- a table of n places has one for each move
   abbrev pub HasPlaces : ℕ → List (P × P) → Type 0

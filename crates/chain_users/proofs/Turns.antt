@@ -1,7 +1,8 @@
 -- The turn of a run queue: what a task that comes, goes or runs makes of it.
 use Rattle.std.proofs.Common.{◌≡◌, ◌≢◌, ◌<◌, ℕ, inl, inr, ⊎_elim, List, [], ◌∷◌, ◌++◌, Option, None, Some, refl, sym, ap, ◌∙◌, subst, length, arith}
-use Rattle.std.specs.Prelude.{is_some, true, IfSome}
-use Rattle.std.specs.Option.{option_map, option_and_then}
+use Rattle.std.specs.Prelude.{is_some, true, IfSome, IfOk, OnErr, Result, Ok, Err}
+use Rattle.std.specs.Option.{option_map, option_and_then, option_or}
+use Rattle.std.specs.Result.{result_ok}
 use Rattle.std.proofs.Common.{unwrap_or}
 use Rattle.std.proofs.lemmas.List.{map-append, length-map}
 use Rattle.std.proofs.lemmas.Bool.{cases_eq}
@@ -308,6 +309,27 @@ module _ {A Gen T : Type 0} (seen : A → Seen Gen T) (entry : A → ℕ → Opt
 
     pub last_comes : (k : ℕ × Gen) → GainsLink seen entry links (prev_to (k.0, Some k.1)) t a p b → (turn : List (Item Gen T)) → IsTurn (entry a) (links a) (Some k) turn → IsTurn (entry b) (links b) (Some k) (turn ++ (p, t) ∷ [])
     last_comes k came = spawned_last (entry a) (entry b) (links a) (links b) p t came.entries.free came.entries.stands came.entries.rest k (λ y. (came.chains.before k.0 refl refl [] y).1)
+
+  -- so it is where the call that adds it answers, and else the queue is as it was
+  module _ {P E : Type 0} (key : P → ℕ × Gen) (a b : A) (current : Option P) (t : T) where
+    pub record IsAdded (result : Result P E) (next : Option P) : Type 0 where
+      pub holds : IsTurn (entry b) (links b) (option_map key next) (turn_in b (option_map key next))
+      pub last : IfOk result (λ p. turn_in b (option_map key next) ≡ turn_in a (option_map key current) ++ (key p, t) ∷ [])
+      pub err : OnErr result (queue_in b (option_map key next) ≡ queue_in a (option_map key current))
+
+    pub task_added : (result : Result P E) → IsTurn (entry a) (links a) (option_map key current) (turn_in a (option_map key current))
+        → IfOk result (λ p. (turn : List (Item Gen T)) → IsTurn (entry a) (links a) (option_map key current) turn → IsTurn (entry b) (links b) (option_map key (option_or current (Some p))) (turn ++ (key p, t) ∷ []))
+        → OnErr result (b ≡ a) → IsAdded result (option_or current (result_ok result))
+    task_added (Ok p) is comes same = let now = settle b (option_map key (option_or current (Some p))) _ (comes _ is) in record { holds = now.holds; last = now.is_found; err = tt }
+    task_added (Err e) is comes same = subst (IsAdded (Err e)) (sym (as_it_was current)) (record {
+      holds = subst (λ (x : A). IsTurn (entry x) (links x) (option_map key current) (turn_in x (option_map key current))) (sym same) is;
+      last = tt;
+      err = ap (λ (x : A). queue_in x (option_map key current)) same;
+    })
+      where
+        as_it_was : (o : Option P) → option_or o None ≡ o
+        as_it_was None = refl
+        as_it_was (Some p) = refl
 
   -- the next task is current
   pub goes_on_in : (a : A) (current next : Option (ℕ × Gen)) (k : ℕ × Gen) → current ≡ Some k → IsTurn (entry a) (links a) current (turn_in a current)

@@ -1,7 +1,7 @@
 //! The run queue of a scheduler: its tasks stand in one ring, and each has its turn.
 
-ghost use Rattle.std.specs.Prelude.{◌≡◌, ◌<◌, ℕ, List, [], ◌∷◌, ◌++◌, length, map, IfSome, IfNone, IsOk, IfOk, OnErr, Some, unwrap_or};
-ghost use Rattle.std.specs.Option.{option_map};
+ghost use Rattle.std.specs.Prelude.{◌≡◌, ◌<◌, ℕ, List, [], ◌∷◌, ◌++◌, length, map, IfSome, IfNone, IsOk, IfOk, OnErr, Some};
+ghost use Rattle.std.specs.Option.{option_map, option_or};
 ghost use Rattle.arena_base.specs.Arena.{IsValid};
 ghost use Rattle.arena_base.specs.Entries.{first_key};
 ghost use Rattle.chain_links.specs.Calls.{SucceedsInRoom};
@@ -83,9 +83,9 @@ impl<P: PtrKey, T: Drop, A: ChainArenaTrait<P, T> + Drop> RunQueue<P, T, A> {
         ensures room { length self.old.turn < self.old.room → IsOk result × (self.new.room ≡ self.old.room) }
         ensures err { OnErr result (self.new ≡ self.old) }
     {
-        let p = come_last(&mut self.tasks, self.current, task)?;
-        self.current = Some(self.current.unwrap_or(p));
-        Ok(p)
+        let added = come_last(&mut self.tasks, self.current, task);
+        self.current = self.current.or(added.ok());
+        added
     }
 
     /// Goes on to the next task in turn, and answers its pointer: the one that was current is the last then. `None`: there are
@@ -158,7 +158,7 @@ fn come_last<P: PtrKey, T: Drop, A: ChainArenaTrait<P, T>>(
 ) -> Result<P, ReallocationError>
     requires { IfSome current (λ p. IsValid (A.entry tasks.old) (P.key p)) }
     ensures last { IfOk result (λ p. (turn : List (Item P.Gen T)) → IsTurn (A.entry tasks.old) (A.interlinks tasks.old) (option_map P.key current) turn
-        → IsTurn (A.entry tasks.new) (A.interlinks tasks.new) (Some (P.key (unwrap_or current p))) (turn ++ (P.key p, task) ∷ [])) }
+        → IsTurn (A.entry tasks.new) (A.interlinks tasks.new) (option_map P.key (option_or current (Some p))) (turn ++ (P.key p, task) ∷ [])) }
     ensures room { SucceedsInRoom (A.seen tasks.old) result (A.seen tasks.new) }
     ensures err { OnErr result (tasks.new ≡ tasks.old) }
 {

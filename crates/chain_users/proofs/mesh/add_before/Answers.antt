@@ -1,7 +1,10 @@
 -- There is room, so a corner comes.
-use Rattle.std.proofs.Common.{refl}
+use Rattle.std.proofs.Common.{refl, ap}
+use Rattle.std.specs.Prelude.{is_some}
 use Rattle.chain_laws.specs.Chains.{cyclic}
 use Rattle.chain_laws.specs.Insertions.{prev_to}
+use Rattle.chain_traits.proofs.AnyArena.{some_valid, links_within}
+use Rattle.chain_users.proofs.Rounds.{round_before}
 use Rattle.chain_users.proofs.Changes.{comes_before, keeps_others}
 use Rattle.chain_users.proofs.mesh.add_before.Goals as goal
 
@@ -25,3 +28,14 @@ returns-clause-size g c = c.in-Ok.ensures.inserted.more
 
 pub returns-clause-capacity : goal.returns-clause-capacity
 returns-clause-capacity g c = (c.in-Ok.ensures.room c.requires.room).1
+
+pub returns-clause-round : goal.returns-clause-round
+returns-clause-round g c =
+    let a = c.args.corners.now in
+    let u = g.P.PtrKey.key c.args.u in
+    round_before (g.A.ChainArenaTrait.interlinks a) (g.A.ChainArenaTrait.interlinks c.insert.new.self) _ (g.P.PtrKey.key c.in-Ok.p).0 u.0 c.in-Ok.ensures.inserted.pairs c.insert.ensures.agreed
+    (links_within (g.A.ChainArenaTrait.interlinks a) (g.A.ArenaTrait.entry a) (g.A.ArenaTrait.seen a).entries (g.met.A.ChainArenaTrait.stand a) (g.met.A.ArenaTrait.looked_up a) _ c.len.ensures.indexes)
+    (some_valid (g.A.ChainArenaTrait.interlinks a) (g.A.ArenaTrait.entry a) (g.A.ArenaTrait.seen a).entries (g.met.A.ChainArenaTrait.stand a) (g.met.A.ArenaTrait.looked_up a) u.0 (ap is_some c.requires.valid.stands))
+
+pub unreachable-requires : goal.unreachable-requires
+unreachable-requires g c = absurd (let succeeds = (c.in-Err.ensures.room c.requires.room).0 in cc)

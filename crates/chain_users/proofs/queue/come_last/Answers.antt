@@ -1,15 +1,7 @@
 -- A new link before the current one is the last in turn; where there is none, it is a ring of its own.
 use Rattle.chain_users.proofs.Outcomes.{if_ok}
-use Rattle.chain_users.proofs.Turns.{first_comes, last_comes, link_stands}
+use Rattle.chain_users.proofs.Turns.{first_comes, last_comes}
 use Rattle.chain_users.proofs.queue.come_last.Goals as goal
-
--- the current task is a link, beside which one may be inserted
-pub insert-requires-in-Some : goal.insert-requires-in-Some
-insert-requires-in-Some g c =
-    let a = c.args.tasks.now in
-    let k = g.P.PtrKey.key c.in-Some.p in
-    let valid = rw c.in-Some.is at c.requires in
-    (valid, link_stands (g.A.ArenaTrait.entry a) (g.A.ChainArenaTrait.interlinks a) k (g.met.A.ChainArenaTrait.stand a k.0) valid)
 
 pub returns-in-None-clause-last : goal.returns-in-None-clause-last
 returns-in-None-clause-last g c = rw c.in-None.is (if_ok c.insert.result c.insert.ensures.inserted (λ p came.

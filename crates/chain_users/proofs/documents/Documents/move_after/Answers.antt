@@ -1,4 +1,6 @@
 -- The paragraph is set apart, and put after the other.
+use Rattle.std.proofs.Common.{ap, refl, sym, ◌∙◌}
+use Rattle.chain_users.proofs.Lists.{same_entry}
 use Rattle.chain_users.proofs.Moving.{moved_after, keeps_moved}
 use Rattle.chain_users.proofs.documents.Documents.move_after.Goals as goal
 
@@ -9,3 +11,16 @@ returns-clause-texts g c = moved_after g.A.ArenaTrait.entry g.A.ChainArenaTrait.
 pub returns-clause-others : goal.returns-clause-others
 returns-clause-others g c = keeps_moved g.A.ArenaTrait.entry g.A.ChainArenaTrait.interlinks c.args.self.now c.set_apart.new.self c.put_after.new.self (g.P.PtrKey.key c.args.p) (g.P.PtrKey.key c.args.q)
     c.set_apart.ensures.texts c.set_apart.ensures.others c.put_after.ensures.texts c.put_after.ensures.others
+
+pub returns-clause-paragraphs : goal.returns-clause-paragraphs
+returns-clause-paragraphs g c = same_entry (λ x. (g.A.ArenaTrait.seen x).entries) g.A.ArenaTrait.entry g.met.A.ArenaTrait.looked_up c.args.self.now c.put_after.new.self (ap (λ s. s.entries) (c.put_after.ensures.seen ∙ c.set_apart.ensures.seen))
+
+pub returns-clause-some : goal.returns-clause-some
+returns-clause-some g c = (
+  λ some. (c.in_ok-set_apart.ensures.some.0 refl, rw (← c.self.view_is) (c.contains.ensures.0 c.if-not-contains.false), λ same.
+      let is = (g.met.P.PtrKey.eq_is_same c.args.p c.args.q).1 (g.met.P.PtrKey.same_key c.args.p c.args.q same) in
+      let no = sym c.eq.ensures ∙ c.if-eq.false in
+      let both = sym is ∙ no in
+      cc),
+  λ valid. refl,
+)
