@@ -6,7 +6,7 @@ use super::rationed::Rationed;
 use super::{ChainsOver, Slot, at, generation, same};
 use arena_base::{Arena, ArenaSlot, ArenaTrait};
 use arena_ptr::{
-    ChunkStack, Gen32, HeapStack, LimitedStack, Ptr, ReallocationError, SlotStack, ToolPtr,
+    ChunkStack, Gen32, HeapStack, LimitedStack, PtrKey, ReallocationError, SlotStack, ToolPtr,
 };
 use chain_arena::{Call, ChainArena, ChainArenaTrait, LinkInsertKind, LinkNoGen, Reply, run_calls};
 use std::alloc::Global;
@@ -192,7 +192,15 @@ fn carries<S: SlotStack<Item = Slot>>(
     source: &mut ChainsOver<S>,
     target: &mut ChainsOver<S>,
 ) -> bool {
-    let now = generation(rt, 7);
+    carry_over(source, target, generation(rt, 7))
+}
+
+// Named at any pointer and value, the types cost its proof less.
+fn carry_over<P: PtrKey, T: Drop, S: SlotStack<Item = ArenaSlot<P, LinkNoGen<P, T>>>>(
+    source: &mut ChainArena<P, T, S>,
+    target: &mut ChainArena<P, T, S>,
+    now: P::Gen,
+) -> bool {
     let carried = target.transfer_canonical_reallocating(now, source, |_, value, _| value.allow());
     carried.is_ok()
 }
