@@ -17,10 +17,14 @@ returns-clause-paragraphs g c = same_entry (λ x. (g.A.ArenaTrait.seen x).entrie
 
 pub returns-clause-some : goal.returns-clause-some
 returns-clause-some g c = (
-  λ some. (c.in_ok-set_apart.ensures.some.0 refl, rw (← c.self.view_is) (c.contains.ensures.0 c.if-not-contains.false), λ same.
-      let is = (g.met.P.PtrKey.eq_is_same c.args.p c.args.q).1 (g.met.P.PtrKey.same_key c.args.p c.args.q same) in
-      let no = sym c.eq.ensures ∙ c.if-eq.false in
-      let both = sym is ∙ no in
-      cc),
+  λ some. (
+    c.in_ok-set_apart.ensures.some.0 refl,
+    rw (← c.self.view_is) (c.contains.ensures.0 c.if-not-contains.false),
+    λ same.
+        let is = (g.met.P.PtrKey.eq_is_same c.args.p c.args.q).1 (g.met.P.PtrKey.same_key c.args.p c.args.q same) in
+        let no = sym c.eq.ensures ∙ c.if-eq.false in
+        let both = sym is ∙ no in
+        cc,
+  ),
   λ valid. refl,
 )

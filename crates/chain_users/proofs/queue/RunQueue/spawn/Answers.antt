@@ -25,6 +25,3 @@ pub returns-clause-room : goal.returns-clause-room
 returns-clause-room g c = λ less.
     let kept = c.come_last-added.ensures.room (has_room g.A.ArenaTrait.seen g.A.ArenaTrait.entry g.A.ChainArenaTrait.interlinks g.met.A.ArenaTrait.rises g.met.A.ArenaTrait.looked_up c.self.inside.tasks (option_map g.P.PtrKey.key c.self.inside.current) c.args.self.now c.self.invariant c.self.view_is less) in
     (kept.0, kept.1 ∙ ap (λ (q : Queue g.row.P-Gen.Denot g.row.T.Denot). q.room) c.self.view_is)
-
-pub returns-clause-err : goal.returns-clause-err
-returns-clause-err g c = rw (← c.self.view_is) (it g c.before).err
