@@ -6,7 +6,7 @@ use Rattle.std.specs.Result.{result_ok}
 use Rattle.std.proofs.Common.{unwrap_or}
 use Rattle.std.proofs.lemmas.List.{map-append, length-map}
 use Rattle.std.proofs.lemmas.Bool.{cases_eq}
-use Rattle.chain_laws.specs.Chains.{Shown, cyclic, IsChain, Has, HasLink, HasNoRepetition, next_of, next_in, first_or, Interlinks, Stands}
+use Rattle.chain_laws.specs.Chains.{Shown, cyclic, IsChain, Has, HasNoRepetition, next_of, next_in, first_or, Interlinks, Stands}
 use Rattle.chain_laws.specs.Removals.{Removes}
 use Rattle.chain_laws.proofs.Turning.{turned}
 use Rattle.chain_laws.proofs.Members.{Has-parts, Has-turned, HasNoRepetition-turned}
@@ -244,24 +244,13 @@ module _ {Gen T : Type 0} where
         has_index (z ∷ zs) (inl same) = inl (ap (λ (k : ℕ × Gen). k.0) same)
         has_index (z ∷ zs) (inr h) = inr (has_index zs h)
 
-    -- the current task stands ..
-    pub current_stands : (k : ℕ × Gen) (turn : List (Item Gen T)) → IsTurn entry links (Some k) turn → IsValid entry k
-    current_stands k [] is = let first = is.first in absurd (cc)
-    current_stands k (e ∷ es) is =
-        let same : e.0 ≡ k = let first = is.first in cc in
-        subst (IsValid entry) same (record { value = e.1; stands = is.stand.0 })
-
+    -- the current task stands
     pub valid_current : {P : Type 0} (key : P → ℕ × Gen) (current : Option P) (turn : List (Item Gen T)) → IsTurn entry links (option_map key current) turn → IfSome current (λ p. IsValid entry (key p))
     valid_current key None turn is = tt
-    valid_current key (Some p) turn is = current_stands (key p) turn is
-
-    -- .. and so a link does
-    pub link_stands : (k : ℕ × Gen) → is_some (links k.0) ≡ is_some (entry k.0) → IsValid entry k → HasLink links k.0
-    link_stands k alike valid = by (links k.0) refl (alike ∙ ap is_some valid.stands)
-      where
-        by : (o : Option Interlinks) → links k.0 ≡ o → is_some o ≡ true → HasLink links k.0
-        by None is some = absurd (let h = some in cc)
-        by (Some link) is some = record { link = link; shows = is }
+    valid_current key (Some p) [] is = let first = is.first in absurd (cc)
+    valid_current key (Some p) (e ∷ es) is =
+        let same : e.0 ≡ key p = let first = is.first in cc in
+        subst (IsValid entry) same (record { value = e.1; stands = is.stand.0 })
 
 -- what is cancelled was first where it was current
 pub first_cancelled : {Gen T : Type 0} (p : ℕ × Gen) (task : T) (old new : List (Item Gen T)) → Some p ≡ first_key old → IsCancelled p task old new → old ≡ (p, task) ∷ new

@@ -5,18 +5,25 @@ use Rattle.chain_users.proofs.Lists.{stand_kept}
 use Rattle.chain_users.proofs.Rings.{splits, keeps_split}
 use Rattle.chain_users.proofs.mesh.Mesh.split_in_room.Goals as goal
 
-pub add_before-first-requires : goal.add_before-first-requires
-add_before-first-requires g c = rw c.self.view_is (record { valid = record { value = c.args.both.0; stands = c.requires.first }; room = let room = c.requires.room in omega arith })
+pub add_before-first-requires-clause-valid : goal.add_before-first-requires-clause-valid
+add_before-first-requires-clause-valid g c = rw c.self.view_is (record { value = c.args.both.0; stands = c.requires.first })
 
-pub add_after-second-requires : goal.add_after-second-requires
-add_after-second-requires g c =
+pub add_before-first-requires-clause-room : goal.add_before-first-requires-clause-room
+add_before-first-requires-clause-room g c = rw c.self.view_is (let room = c.requires.room in omega arith)
+
+pub add_after-second-requires-clause-valid : goal.add_after-second-requires-clause-valid
+add_after-second-requires-clause-valid g c =
     let v = g.P.PtrKey.key c.args.v in
     let stands = stand_kept (g.A.ArenaTrait.entry c.self.inside.corners) (g.A.ArenaTrait.entry c.add_before-first.new.corners) (g.P.PtrKey.key c.add_before-first.result) c.add_before-first.ensures.corner.free c.add_before-first.ensures.corner.rest
     ((v, c.args.both.1) ∷ []) (rw c.self.view_is (c.requires.second, tt)) in
+    record { value = c.args.both.1; stands = stands.0 }
+
+pub add_after-second-requires-clause-room : goal.add_after-second-requires-clause-room
+add_after-second-requires-clause-room g c =
     let size = c.add_before-first.ensures.size ∙ ap (λ (a : g.row.A.Denot). count (g.A.ArenaTrait.seen a) + 1) c.self.view_is in
     let capacity = c.add_before-first.ensures.capacity ∙ ap (λ (a : g.row.A.Denot). (g.A.ArenaTrait.seen a).capacity) c.self.view_is in
     let room = c.requires.room in
-    record { valid = record { value = c.args.both.1; stands = stands.0 }; room = omega arith }
+    omega arith
 
 pub invariant_of-self : goal.invariant_of-self
 invariant_of-self g c = c.add_after-second.ensures.round (c.add_before-first.ensures.round c.self.invariant)
