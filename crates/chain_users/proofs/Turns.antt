@@ -16,8 +16,8 @@ use Rattle.chain_laws.specs.Insertions.{single_link_cyclic, prev_to}
 use Rattle.chain_links.specs.Calls.{GainsLink}
 use Rattle.chain_laws.proofs.Backing.{length_among}
 use Rattle.chain_traits.proofs.AnyArena.{found_has}
-use Rattle.chain_users.specs.Lists.{Item, Stand, indexes, IsAmong}
-use Rattle.chain_users.specs.Turns.{Queue, IsTurn, IsCancelled, items_from, put_first, turn_of, turned_once}
+use Rattle.chain_users.specs.Lists.{Item, Stand, indexes, IsTurn}
+use Rattle.chain_users.specs.Turns.{Queue, IsAmong, IsCancelled, items_from, put_first, turn_of, turned_once}
 use Rattle.chain_users.proofs.Removing.{HasGone}
 use Rattle.chain_users.proofs.Lists.{stand-append, stand-left, stand-right, stand-frame, among-left, among-right, stand_kept, stand-some, rises_once, has_found}
 

@@ -1,8 +1,8 @@
--- Lists that lie in an arena: rings, which go round, and texts, which go from a first item to a last one.
-use Rattle.std.specs.Prelude.{◌≡◌, ◌≢◌, ℕ, ◌⊎◌, List, [], ◌∷◌, ◌++◌, map, Option, Some}
-use Rattle.chain_laws.specs.Chains.{Shown, Chain, linear, cyclic, IsChain}
+-- Lists that lie in an arena: rings, which go round, texts, which go from a first item to a last one, and the turn of a queue.
+use Rattle.std.specs.Prelude.{◌≡◌, ◌≢◌, ℕ, List, [], ◌∷◌, ◌++◌, map, Option, Some, is_some, true}
+use Rattle.chain_laws.specs.Chains.{Shown, Chain, linear, cyclic, IsChain, Has}
 use Rattle.chain_laws.specs.Others.{Lacks}
-use Rattle.arena_base.specs.Entries.{index_of}
+use Rattle.arena_base.specs.Entries.{index_of, first_key}
 
 -- an item: the index and the generation of its pointer, and its value
 abbrev pub Item : Type 0 → Type 0 → Type 0
@@ -17,10 +17,13 @@ module _ {Gen T : Type 0} where
   Stand entry [] = Unit {0}
   Stand entry (e ∷ items) = (entry e.0.0 ≡ Some (e.0.1, e.1)) × Stand entry items
 
-  -- the pointer is that of one of the items
-  abbrev pub IsAmong : ℕ × Gen → List (Item Gen T) → Type 0
-  IsAmong p [] = ⊥
-  IsAmong p (e ∷ items) = (e.0 ≡ p) ⊎ IsAmong p items
+module _ {Gen T : Type 0} (entry : ℕ → Option (Gen × T)) (links : Shown) where
+  -- the tasks of a queue in turn: all that the arena holds, in one ring, the current one first
+  pub record IsTurn (current : Option (ℕ × Gen)) (turn : List (Item Gen T)) : Type 0 where
+    pub first : current ≡ first_key turn
+    pub ring : turn ≢ [] → IsChain links (cyclic (indexes turn))
+    pub stand : Stand entry turn
+    pub all : (i : ℕ) → is_some (entry i) ≡ true → Has (indexes turn) i
 
 -- two looks at an arena: what stands at each index, and what is linked there
 module _ {A Gen T : Type 0} (entry : A → ℕ → Option (Gen × T)) (links : A → Shown) where

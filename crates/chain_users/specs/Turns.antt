@@ -1,9 +1,9 @@
 -- The tasks of a run queue in turn, and for how many it has room.
-use Rattle.std.specs.Prelude.{◌≡◌, ◌≢◌, ℕ, zero, suc, List, [], ◌∷◌, ◌++◌, Option, None, Some, is_some, true}
+use Rattle.std.specs.Prelude.{◌≡◌, ◌⊎◌, ℕ, zero, suc, List, [], ◌∷◌, ◌++◌, Option, None, Some}
 use Rattle.std.specs.Option.{option_map}
-use Rattle.chain_laws.specs.Chains.{Shown, cyclic, IsChain, Has, next_of}
+use Rattle.chain_laws.specs.Chains.{Shown, next_of}
 use Rattle.arena_base.specs.Entries.{first_key}
-use Rattle.chain_users.specs.Lists.{Item, Stand, IsAmong, indexes}
+use Rattle.chain_users.specs.Lists.{Item, IsTurn}
 
 -- a run queue: its tasks in turn, the current one first, and for how many tasks it has room
 pub record Queue (Gen T : Type 0) : Type 0 where
@@ -14,6 +14,11 @@ pub record Queue (Gen T : Type 0) : Type 0 where
 abbrev pub turned_once : {X : Type 0} → List X → List X
 turned_once [] = []
 turned_once (x ∷ xs) = xs ++ x ∷ []
+
+-- the pointer is that of one of the items
+abbrev pub IsAmong : {Gen T : Type 0} → ℕ × Gen → List (Item Gen T) → Type 0
+IsAmong p [] = ⊥
+IsAmong p (e ∷ items) = (e.0 ≡ p) ⊎ IsAmong p items
 
 -- a task is cancelled: it leaves the turn, in which the others keep their order, and its pointer is of none of them
 pub record IsCancelled {Gen T : Type 0} (p : ℕ × Gen) (task : T) (old new : List (Item Gen T)) : Type 0 where
@@ -38,9 +43,12 @@ module _ {Gen T : Type 0} (entry : ℕ → Option (Gen × T)) (links : Shown) wh
   abbrev pub turn_of : ℕ → Option (ℕ × Gen) → List (Item Gen T)
   turn_of n current = items_from n (option_map (λ (p : ℕ × Gen). p.0) current)
 
-  -- the tasks of a queue in turn: all that the arena holds, in one ring, the current one first
-  pub record IsTurn (current : Option (ℕ × Gen)) (turn : List (Item Gen T)) : Type 0 where
-    pub first : current ≡ first_key turn
-    pub ring : turn ≢ [] → IsChain links (cyclic (indexes turn))
-    pub stand : Stand entry turn
-    pub all : (i : ℕ) → is_some (entry i) ≡ true → Has (indexes turn) i
+module _ {A Gen T : Type 0} (entry : A → ℕ → Option (Gen × T)) (links : A → Shown) where
+  -- a task comes last, whatever the turn was; these were current before and after
+  abbrev pub ComesLast : (old new : A) → (was is : Option (ℕ × Gen)) → Item Gen T → Type 0
+  ComesLast old new was is e = (turn : List (Item Gen T)) → IsTurn (entry old) (links old) was turn → IsTurn (entry new) (links new) is (turn ++ e ∷ [])
+
+  -- the first in turn once p is gone, where another pointer, or p itself, is current still
+  abbrev pub IsFirstWithout : (arena : A) → (p current : ℕ × Gen) → Option (ℕ × Gen) → Type 0
+  IsFirstWithout arena p current first = (before after : List (Item Gen T)) (task : T)
+      → IsTurn (entry arena) (links arena) (Some current) (before ++ (p, task) ∷ after) → first ≡ first_key (before ++ after)

@@ -5,8 +5,8 @@ ghost use Rattle.std.specs.Option.{option_map, option_or};
 ghost use Rattle.arena_base.specs.Arena.{IsValid};
 ghost use Rattle.arena_base.specs.Entries.{first_key};
 ghost use Rattle.chain_links.specs.Calls.{SucceedsInRoom};
-ghost use Rattle.chain_users.specs.Turns.{IsCancelled, IsTurn, turned_once};
-ghost use Rattle.chain_users.specs.Lists.{Item, IsAmong};
+ghost use Rattle.chain_users.specs.Turns.{ComesLast, IsAmong, IsCancelled, IsFirstWithout, turned_once};
+ghost use Rattle.chain_users.specs.Lists.{Item, IsTurn};
 
 use arena_ptr::{PtrKey, ReallocationError};
 use chain_links::LinkInsertKind;
@@ -28,7 +28,8 @@ pub struct RunQueue<P: PtrKey, T: Drop, A: ChainArenaTrait<P, T> + Drop> {
 impl<P: PtrKey, T: Drop, A: ChainArenaTrait<P, T> + Drop> Model for RunQueue<P, T, A> {
     ghost use Rattle.std.specs.Option.{option_map};
     ghost use Rattle.arena_base.specs.Entries.{count};
-    ghost use Rattle.chain_users.specs.Turns.{Queue, turn_of, IsTurn};
+    ghost use Rattle.chain_users.specs.Lists.{IsTurn};
+    ghost use Rattle.chain_users.specs.Turns.{Queue, turn_of};
 
     ghost Value = { Queue P.Gen T };
 
@@ -157,8 +158,7 @@ fn come_last<P: PtrKey, T: Drop, A: ChainArenaTrait<P, T>>(
     task: T,
 ) -> Result<P, ReallocationError>
     requires { IfSome current (λ p. IsValid (A.entry tasks.old) (P.key p)) }
-    ensures last { IfOk result (λ p. (turn : List (Item P.Gen T)) → IsTurn (A.entry tasks.old) (A.interlinks tasks.old) (option_map P.key current) turn
-        → IsTurn (A.entry tasks.new) (A.interlinks tasks.new) (option_map P.key (option_or current (Some p))) (turn ++ (P.key p, task) ∷ [])) }
+    ensures last { IfOk result (λ p. ComesLast A.entry A.interlinks tasks.old tasks.new (option_map P.key current) (option_map P.key (option_or current (Some p))) (P.key p, task)) }
     ensures room { SucceedsInRoom (A.seen tasks.old) result (A.seen tasks.new) }
     ensures err { OnErr result (tasks.new ≡ tasks.old) }
 {
@@ -197,9 +197,7 @@ fn current_without<P: PtrKey, T: Drop, A: ChainArenaTrait<P, T>>(
     current: P,
     p: P,
 ) -> Option<P>
-    ensures { (before after : List (Item P.Gen T)) (task : T)
-        → IsTurn (A.entry tasks.now) (A.interlinks tasks.now) (Some (P.key current)) (before ++ (P.key p, task) ∷ after)
-        → option_map P.key result ≡ first_key (before ++ after) }
+    ensures { IsFirstWithout A.entry A.interlinks tasks.now (P.key p) (P.key current) (option_map P.key result) }
 {
     if current.is_same(p) {
         return other_after(tasks, p);

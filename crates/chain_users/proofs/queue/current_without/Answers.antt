@@ -1,8 +1,7 @@
 -- By where the task that goes stands in turn.
 use Rattle.std.proofs.Common.{◌≡◌, ◌∙◌, ap, sym, subst, List, ◌∷◌, ◌++◌, Some}
 use Rattle.arena_base.specs.Entries.{first_key}
-use Rattle.chain_users.specs.Lists.{Item}
-use Rattle.chain_users.specs.Turns.{IsTurn}
+use Rattle.chain_users.specs.Lists.{Item, IsTurn}
 use Rattle.chain_users.proofs.Turns.{is_first, stays_first}
 use Rattle.chain_users.proofs.queue.current_without.Goals as goal
 

@@ -21,8 +21,8 @@ returns-clause-some g c = (
     c.in_ok-set_apart.ensures.some.0 refl,
     rw (← c.self.view_is) (c.contains.ensures.0 c.if-not-contains.false),
     λ same.
-        let is = (g.met.P.PtrKey.eq_is_same c.args.p c.args.q).1 (g.met.P.PtrKey.same_key c.args.p c.args.q same) in
-        let no = sym c.eq.ensures ∙ c.if-eq.false in
+        let is = (g.met.P.PtrKey.same_is_equal c.args.p c.args.q).1 (g.met.P.PtrKey.same_key c.args.p c.args.q same) in
+        let no = sym c.is_same.ensures ∙ c.if-is_same.false in
         let both = sym is ∙ no in
         cc,
   ),

@@ -2,8 +2,8 @@
 use Rattle.std.proofs.Common.{◌≡◌, ◌∙◌, ap, subst, sym, List, Option}
 use Rattle.std.specs.Option.{option_map}
 use Rattle.std.specs.Prelude.{is_some, true}
-use Rattle.chain_users.specs.Lists.{IsAmong, Item}
-use Rattle.chain_users.specs.Turns.{Queue, IsTurn, IsCancelled}
+use Rattle.chain_users.specs.Lists.{Item, IsTurn}
+use Rattle.chain_users.specs.Turns.{Queue, IsAmong, IsCancelled}
 use Rattle.chain_users.proofs.Outcomes.{on_none}
 use Rattle.chain_users.proofs.Removing.{IsRemoval, removal}
 use Rattle.chain_users.proofs.Turns.{IsLeft, no_task, task_goes, queue_in, turn_in}
