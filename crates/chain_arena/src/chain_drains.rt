@@ -130,7 +130,11 @@ fn goes_on_to<I: InxKey>(i: I, prev: Option<I>, next: Option<I>) -> Option<I>
     ensures { option_map I.number result ≡ goes_on (I.number i) (option_map I.number prev) (option_map I.number next) }
 {
     match next {
-        Some(k) => if k.is_same(i) { going_on(i, prev) } else { Some(k) },
+        Some(k) => if k.is_same(i) {
+            going_on(i, prev)
+        } else {
+            Some(k)
+        },
         None => going_on(i, prev),
     }
 }

@@ -192,7 +192,12 @@ fn named<I: InxKey>(i: Option<I>) -> u32 {
 // What the arena shows of the link of a valid pointer, by both calls that show it. `None`: it shows none, or they tell two things.
 fn row_of<P: Numbered, A: ChainArenaTrait<P, u32>>(arena: &A, p: P) -> Option<Row> {
     let link = arena.get_link(p)?;
-    let row = (numbers(Some(p)), *link.t, numbers(link.prev()), numbers(link.next()));
+    let row = (
+        numbers(Some(p)),
+        *link.t,
+        numbers(link.prev()),
+        numbers(link.next()),
+    );
     let bare = arena.get_link_no_gen(p)?;
     if (bare.t, named(bare.prev()), named(bare.next())) != (row.1, row.2.0, row.3.0) {
         return None;
