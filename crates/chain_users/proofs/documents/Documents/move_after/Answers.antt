@@ -1,5 +1,5 @@
 -- The paragraph is set apart, and put after the other.
-use Rattle.std.proofs.Common.{ap, refl, sym, ◌∙◌}
+use Rattle.std.proofs.Common.{ap, ◌∙◌}
 use Rattle.chain_users.proofs.Lists.{same_entry}
 use Rattle.chain_users.proofs.Moving.{moved_after, keeps_moved}
 use Rattle.chain_users.proofs.documents.Documents.move_after.Goals as goal
@@ -14,17 +14,3 @@ returns-clause-others g c = keeps_moved g.A.ArenaTrait.entry g.A.ChainArenaTrait
 
 pub returns-clause-paragraphs : goal.returns-clause-paragraphs
 returns-clause-paragraphs g c = same_entry (λ x. (g.A.ArenaTrait.seen x).entries) g.A.ArenaTrait.entry g.met.A.ArenaTrait.looked_up c.args.self.now c.put_after.new.self (ap (λ s. s.entries) (c.put_after.ensures.seen ∙ c.set_apart.ensures.seen))
-
-pub returns-clause-some : goal.returns-clause-some
-returns-clause-some g c = (
-  λ some. (
-    c.in_ok-set_apart.ensures.some.0 refl,
-    rw (← c.self.view_is) (c.contains.ensures.0 c.if-not-contains.false),
-    λ same.
-        let is = (g.met.P.PtrKey.same_is_equal c.args.p c.args.q).1 (g.met.P.PtrKey.same_key c.args.p c.args.q same) in
-        let no = sym c.is_same.ensures ∙ c.if-is_same.false in
-        let both = sym is ∙ no in
-        cc,
-  ),
-  λ valid. refl,
-)

@@ -1,19 +1,12 @@
 -- The new corner comes after the other in its ring, and stands in no other ring.
-use Rattle.std.proofs.Common.{refl, ap, sym, subst}
+use Rattle.std.proofs.Common.{refl, ap}
 use Rattle.std.specs.Prelude.{is_some}
 use Rattle.chain_laws.specs.Chains.{cyclic}
 use Rattle.chain_laws.specs.Insertions.{next_to}
 use Rattle.chain_traits.proofs.AnyArena.{some_valid}
-use Rattle.chain_users.specs.Rings.{GoesRound}
-use Rattle.chain_users.proofs.Outcomes.{if_ok, either_ok}
-use Rattle.chain_users.proofs.Rounds.{round_after}
+use Rattle.chain_users.proofs.Outcomes.{if_ok}
 use Rattle.chain_users.proofs.Changes.{comes_after, keeps_others}
 use Rattle.chain_users.proofs.mesh.Mesh.insert_after.Goals as goal
-
-pub invariant_of-self : goal.invariant_of-self
-invariant_of-self g c = either_ok c.insert_reallocating.result c.insert_reallocating.ensures.inserted c.insert_reallocating.ensures.may c.insert_reallocating.ensures.err
-    (λ q came may. round_after (g.A.ChainArenaTrait.interlinks c.self.inside.corners) (g.A.ChainArenaTrait.interlinks c.insert_reallocating.new.self) (g.P.PtrKey.key q).0 (g.P.PtrKey.key c.args.corner).0 came.pairs may.1 c.self.invariant)
-    (λ same. subst (λ a. GoesRound (g.A.ChainArenaTrait.interlinks a)) (sym same) c.self.invariant)
 
 pub returns-clause-ring : goal.returns-clause-ring
 returns-clause-ring g c = rw (← c.self.view_is) (if_ok c.insert_reallocating.result c.insert_reallocating.ensures.inserted (λ q came.

@@ -28,13 +28,11 @@ add_after-second-requires-clause-room g c =
 pub invariant_of-self : goal.invariant_of-self
 invariant_of-self g c = c.add_after-second.ensures.round (c.add_before-first.ensures.round c.self.invariant)
 
-pub returns-clause-rings : goal.returns-clause-rings
-returns-clause-rings g c = rw (← c.self.view_is) (splits g.A.ArenaTrait.entry g.A.ChainArenaTrait.interlinks c.self.inside.corners c.add_before-first.new.corners c.add_after-second.new.corners c.cut.new.self (g.P.PtrKey.key c.args.u) (g.P.PtrKey.key c.args.v) (g.P.PtrKey.key c.add_before-first.result) (g.P.PtrKey.key c.add_after-second.result)
-    c.args.both.0 c.args.both.1 (rw c.self.view_is c.requires.first) (rw c.self.view_is c.requires.second) c.add_before-first.ensures.ring c.add_after-second.ensures.ring c.cut.ensures.rings)
-
-pub returns-clause-others : goal.returns-clause-others
-returns-clause-others g c = rw (← c.self.view_is) (keeps_split g.A.ArenaTrait.entry g.A.ChainArenaTrait.interlinks c.self.inside.corners c.add_before-first.new.corners c.add_after-second.new.corners c.cut.new.self (g.P.PtrKey.key c.args.u) (g.P.PtrKey.key c.args.v) (g.P.PtrKey.key c.add_before-first.result) (g.P.PtrKey.key c.add_after-second.result)
-    c.args.both.0 c.args.both.1 c.add_before-first.ensures.corner.free c.add_before-first.ensures.others c.add_after-second.ensures.others c.cut.ensures.others)
-
-pub returns-clause-size : goal.returns-clause-size
-returns-clause-size g c = rw (← c.self.view_is) (let seen = ap (λ s. count s) c.cut.ensures.seen in let first = c.add_before-first.ensures.size in let second = c.add_after-second.ensures.size in omega arith)
+pub returns : goal.returns
+returns g c = record {
+  rings = rw (← c.self.view_is) (splits g.A.ArenaTrait.entry g.A.ChainArenaTrait.interlinks c.self.inside.corners c.add_before-first.new.corners c.add_after-second.new.corners c.cut.new.self (g.P.PtrKey.key c.args.u) (g.P.PtrKey.key c.args.v) (g.P.PtrKey.key c.add_before-first.result) (g.P.PtrKey.key c.add_after-second.result)
+      c.args.both.0 c.args.both.1 (rw c.self.view_is c.requires.first) (rw c.self.view_is c.requires.second) c.add_before-first.ensures.ring c.add_after-second.ensures.ring c.cut.ensures.rings);
+  others = rw (← c.self.view_is) (keeps_split g.A.ArenaTrait.entry g.A.ChainArenaTrait.interlinks c.self.inside.corners c.add_before-first.new.corners c.add_after-second.new.corners c.cut.new.self (g.P.PtrKey.key c.args.u) (g.P.PtrKey.key c.args.v) (g.P.PtrKey.key c.add_before-first.result) (g.P.PtrKey.key c.add_after-second.result)
+      c.args.both.0 c.args.both.1 c.add_before-first.ensures.corner.free c.add_before-first.ensures.others c.add_after-second.ensures.others c.cut.ensures.others);
+  size = rw (← c.self.view_is) (let seen = ap (λ s. count s) c.cut.ensures.seen in let first = c.add_before-first.ensures.size in let second = c.add_after-second.ensures.size in omega arith);
+}

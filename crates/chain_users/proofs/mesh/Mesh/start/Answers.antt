@@ -13,22 +13,14 @@ invariant_of-self g c = either_ok c.insert.result c.insert.ensures.inserted c.in
     (λ q came grown. round_inserted (g.A.ChainArenaTrait.interlinks c.self.inside.corners) (g.A.ChainArenaTrait.interlinks c.insert.new.self) (g.P.PtrKey.key q).0 _ _ came.pairs (λ i other at. c.self.invariant i at))
     (λ same. subst (λ a. GoesRound (g.A.ChainArenaTrait.interlinks a)) (sym same) c.self.invariant)
 
-pub returns-clause-ring : goal.returns-clause-ring
-returns-clause-ring g c = if_ok c.insert.result c.insert.ensures.inserted (λ q came. record { chain = came.chains.ring refl refl; stand = (came.entries.stands, tt) })
-
-pub returns-clause-corner : goal.returns-clause-corner
-returns-clause-corner g c = rw (← c.self.view_is) (if_ok c.insert.result c.insert.ensures.inserted (λ q came. came.entries))
-
-pub returns-clause-others : goal.returns-clause-others
-returns-clause-others g c = rw (← c.self.view_is) (if_ok c.insert.result c.insert.ensures.inserted (λ q came.
-    keeps_others g.A.ArenaTrait.entry g.A.ChainArenaTrait.interlinks cyclic (λ l. refl) c.self.inside.corners c.insert.new.self (g.P.PtrKey.key q) c.args.point came.entries single_link_cyclic c.insert.ensures.agreed
-    (g.met.A.ChainArenaTrait.stand c.self.inside.corners (g.P.PtrKey.key q).0) came.chains))
-
-pub returns-clause-size : goal.returns-clause-size
-returns-clause-size g c = rw (← c.self.view_is) (if_ok c.insert.result c.insert.ensures.inserted (λ q came. came.more))
-
-pub returns-clause-room : goal.returns-clause-room
-returns-clause-room g c = rw (← c.self.view_is) c.insert.ensures.room
-
-pub returns-clause-err : goal.returns-clause-err
-returns-clause-err g c = rw (← c.self.view_is) c.insert.ensures.err
+pub returns : goal.returns
+returns g c = record {
+  ring = if_ok c.insert.result c.insert.ensures.inserted (λ q came. record { chain = came.chains.ring refl refl; stand = (came.entries.stands, tt) });
+  corner = rw (← c.self.view_is) (if_ok c.insert.result c.insert.ensures.inserted (λ q came. came.entries));
+  others = rw (← c.self.view_is) (if_ok c.insert.result c.insert.ensures.inserted (λ q came.
+      keeps_others g.A.ArenaTrait.entry g.A.ChainArenaTrait.interlinks cyclic (λ l. refl) c.self.inside.corners c.insert.new.self (g.P.PtrKey.key q) c.args.point came.entries single_link_cyclic c.insert.ensures.agreed
+      (g.met.A.ChainArenaTrait.stand c.self.inside.corners (g.P.PtrKey.key q).0) came.chains));
+  size = rw (← c.self.view_is) (if_ok c.insert.result c.insert.ensures.inserted (λ q came. came.more));
+  room = rw (← c.self.view_is) c.insert.ensures.room;
+  err = rw (← c.self.view_is) c.insert.ensures.err;
+}
