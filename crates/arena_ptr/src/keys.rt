@@ -9,7 +9,8 @@ use crate::ptr::{Ptr, PtrGen, PtrInx};
 
 /// What an arena asks of the indexes of its pointers. Each `PtrInx` is one, by the calls of the same names.
 ///
-/// This crate's own: it is `PtrInx` without its order, its hash and its texts, which no arena needs.
+/// This crate's own: it is `PtrInx` with `is_same` for its `==`, and without its order, its hash and its texts, which no
+/// arena needs.
 pub trait InxKey: Copy {
     /// What an optional index is kept in.
     type Word: Copy;
@@ -66,7 +67,7 @@ pub trait InxKey: Copy {
 
 /// What an arena asks of the generations of its pointers. Each `PtrGen` is one, by the calls of the same names.
 ///
-/// This crate's own: it is `PtrGen` without its order, its hash and its texts.
+/// This crate's own: it is `PtrGen` with `is_same` for its `==`, and without its order, its hash and its texts.
 pub trait GenKey: Copy {
     ghost first: { Self };
 
@@ -100,8 +101,8 @@ pub trait GenKey: Copy {
 /// What an arena asks of its pointers: an index and a generation, and that these two are all of a pointer. Each `Ptr` is
 /// one, by the calls of the same names.
 ///
-/// This crate's own: it is `Ptr` without its order, its hash and its texts, which no arena needs. Write `impl Ptr` for a
-/// pointer type, and `P: Ptr` in code that is generic in it.
+/// This crate's own: it is `Ptr` with `is_same` for its `==`, and without its order, its hash and its texts, which no arena
+/// needs. Write `impl Ptr` for a pointer type, and `P: Ptr` in code that is generic in it.
 pub trait PtrKey: Copy {
     /// The type of the index.
     type Inx: InxKey;
