@@ -7,7 +7,7 @@ pub mod Folding
 mod FreeSlots
 pub mod Gathering
 mod Holding
-mod Packing
+pub mod Packing
 pub mod Ranging
 pub mod Reaching
 pub mod Reading

@@ -11,7 +11,7 @@ use Rattle.arena_base.proofs.Trimming.{map-take}
 
 module _ {X : Type 0} where
   -- free slots are all cut off
-  all_cut : (xs : List (Option X)) → ((k : ℕ) → slice_index_or xs k None ≡ None) → trimmed xs ≡ []
+  pub all_cut : (xs : List (Option X)) → ((k : ℕ) → slice_index_or xs k None ≡ None) → trimmed xs ≡ []
   all_cut [] none = refl
   all_cut (x ∷ xs) none =
       let first : x ≡ None = none 0 in

@@ -26,12 +26,6 @@ get-set_other xs i j x y apart is inside =
     ∙ ap Some (get_or-set_other xs i j x y apart ∙ get_or_from_slice_get xs j y y is)
 
 module _ {E : Type 0} (blocks : List (Vec E Global)) (n i j : ℕ) (filled : AreFilled blocks n) (i_inside : i < n) (j_inside : j < n) where
-  i_at : 64 * (i / 64) + i % 64 ≡ i
-  i_at = omega arith
-
-  j_at : 64 * (j / 64) + j % 64 ≡ j
-  j_at = omega arith
-
   long : length (items_in blocks) ≡ n
   long = length-items_in blocks n filled
 

@@ -13,7 +13,7 @@ module _ {Gen T : Type 0} where
   all_ahead (e ∷ es) from rises = ap (λ b. cond b (e ∷ es) (from_index from es)) (le-leb from e.0.0 rises.0)
 
   -- the first entry, what an index finds then, and what is left without it
-  pub record IsFirst (es : List ((ℕ × Gen) × T)) (key : ℕ × Gen) (n : ℕ) : Type 0 where
+  pub record IsFirstEntry (es : List ((ℕ × Gen) × T)) (key : ℕ × Gen) (n : ℕ) : Type 0 where
     pub value : T
     pub rest : List ((ℕ × Gen) × T)
     pub all : es ≡ (key, value) ∷ rest
@@ -21,10 +21,10 @@ module _ {Gen T : Type 0} where
     pub leaves : without n es ≡ rest
     pub rises : RisesFrom (suc key.0) rest
 
-  pub is_first : (es : List ((ℕ × Gen) × T)) (from n : ℕ) (key : ℕ × Gen) → RisesFrom from es → Some key ≡ first_key (from_index from es) → n ≡ key.0 → IsFirst es key n
+  pub is_first : (es : List ((ℕ × Gen) × T)) (from n : ℕ) (key : ℕ × Gen) → RisesFrom from es → Some key ≡ first_key (from_index from es) → n ≡ key.0 → IsFirstEntry es key n
   is_first es from n key rises first index = split es rises (first ∙ ap first_key (all_ahead es from rises))
     where
-      split : (fs : List ((ℕ × Gen) × T)) → RisesFrom from fs → Some key ≡ first_key fs → IsFirst fs key n
+      split : (fs : List ((ℕ × Gen) × T)) → RisesFrom from fs → Some key ≡ first_key fs → IsFirstEntry fs key n
       split [] up is = cc
       split (e ∷ fs) up is =
           let same : key ≡ e.0 = cc in

@@ -52,14 +52,14 @@ module _ {Gen T : Type 0} where
       let entry = some_entry interlinks_of (entry_at a i) here.link here.shows in
       ap (map (λ (e : ℕ × (Gen × LinkSeen T)). e.0)) (links_at-entry a i indexes entry.0 entry.1) ∙ ap (λ l. i ∷ l) (index-links_at a indexes (λ j has. valid j (inr has)))
 
-  abbrev Stand : Arena Gen (LinkSeen T) → ℕ × (Gen × LinkSeen T) → Type 0
-  Stand a e = entry_at a e.0 ≡ Some e.1
+  abbrev StandsAs : Arena Gen (LinkSeen T) → ℕ × (Gen × LinkSeen T) → Type 0
+  StandsAs a e = entry_at a e.0 ≡ Some e.1
 
-  links_at-stand : (a : Arena Gen (LinkSeen T)) (indexes : List ℕ) → AllByRecursion (Stand a) (links_at a indexes)
+  links_at-stand : (a : Arena Gen (LinkSeen T)) (indexes : List ℕ) → AllByRecursion (StandsAs a) (links_at a indexes)
   links_at-stand a [] = tt
   links_at-stand a (i ∷ indexes) = by (links_at-stand a indexes) (entry_at a i) refl where
-    by : AllByRecursion (Stand a) (links_at a indexes) → (o : Option (Gen × LinkSeen T)) → entry_at a i ≡ o
-        → AllByRecursion (Stand a) (let links : List (ℕ × (Gen × LinkSeen T)) = elim o [ None ↦ [] | Some e ↦ (i, e) ∷ links_at a indexes ] in links)
+    by : AllByRecursion (StandsAs a) (links_at a indexes) → (o : Option (Gen × LinkSeen T)) → entry_at a i ≡ o
+        → AllByRecursion (StandsAs a) (let links : List (ℕ × (Gen × LinkSeen T)) = elim o [ None ↦ [] | Some e ↦ (i, e) ∷ links_at a indexes ] in links)
     by rest None stands = tt
     by rest (Some e) stands = (stands, rest)
 
@@ -71,7 +71,7 @@ module _ {Gen T : Type 0} where
       let passed = walk_passed (entry_count a) (shown a) i walk.0 walk.1 (length-le_entries a walk.0 (walk_once (shown a) i walk.0 walk.1) each) in
       subst (λ (w : List ℕ). IsWalkOf a i (links_at a w)) (sym passed) (record {
         walk = subst (IsWalk (shown a) i) (sym (index-links_at a walk.0 each)) walk.1;
-        stands = All-from_recursion (Stand a) (links_at a walk.0) (links_at-stand a walk.0);
+        stands = All-from_recursion (StandsAs a) (links_at a walk.0) (links_at-stand a walk.0);
       })
 
   -- a walk has no more links than the arena

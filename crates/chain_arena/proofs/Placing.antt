@@ -118,13 +118,14 @@ module _ {P I Gen T : Type 0} (key : P → ℕ × Gen) (number : I → ℕ) (old
   abbrev by : InsertKind ℕ
   by = kind_of key number kind
 
-  abbrev Inserted : Result P ChainInsertionError → Type 0
-  Inserted r = IfOk r (λ p. IsInsertion by (seen old) (seen new) (entry old) (entry new) (shown old) (shown new) (key p) t)
+  -- an answer `Ok` is that of an insertion
+  abbrev pub AnswersInsertion : Result P ChainInsertionError → Type 0
+  AnswersInsertion r = IfOk r (λ p. IsInsertion by (seen old) (seen new) (entry old) (entry new) (shown old) (shown new) (key p) t)
 
   -- what an insertion within the capacity tells
   pub record TellsWithin (r : Result P ChainInsertionError) : Type 0 where
     pub may : OnOk r (May key number old kind)
-    pub inserted : Inserted r
+    pub inserted : AnswersInsertion r
     pub capacity : (seen new).capacity ≡ (seen old).capacity
     pub err : OnErr r (new ≡ old)
     pub link : (r ≡ Err failed.FailedLinkRequirement) ↔ (May key number old kind → ⊥)
@@ -136,7 +137,7 @@ module _ {P I Gen T : Type 0} (key : P → ℕ × Gen) (number : I → ℕ) (old
   -- .. and where a full arena grows
   pub record TellsGrowing (may_reach : ℕ → Option ℕ → ℕ → ℕ → Type 0) (greatest : ℕ) (r : Result P ChainInsertionError) : Type 0 where
     pub may : OnOk r (May key number old kind)
-    pub inserted : Inserted r
+    pub inserted : AnswersInsertion r
     pub err : OnErr r (new ≡ old)
     pub link : (r ≡ Err failed.FailedLinkRequirement) ↔ (May key number old kind → ⊥)
     pub error : IfErr r (λ e. e ≢ failed.NotWithinCapacity)

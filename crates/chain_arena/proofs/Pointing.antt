@@ -6,14 +6,14 @@ use Rattle.std.specs.List.{AllByRecursion}
 use Rattle.std.proofs.lemmas.List.Elements.{recursion_from_All}
 use Rattle.arena_ptr.specs.Invalidation.{value_in}
 use Rattle.arena_ptr.specs.declared.invalidation.InvalidationOption.{InvalidationOption}
-use Rattle.arena_base.specs.Arena.{Arena, slot_at, IsValid}
+use Rattle.arena_base.specs.Arena.{Arena, slot_at}
 use Rattle.arena_base.specs.Entries.{entries, found}
 use Rattle.arena_base.specs.EntryLaws.{entries_rise, found-entries}
 use Rattle.chain_links.specs.ChainArena.{LinkSeen, on_value, link_value, interlinks_of, shown, seen, entry, values_of}
 use Rattle.chain_links.specs.CanonicalLayouts.{IsCanonicalLayout}
 use Rattle.chain_links.proofs.Mapping.{is_some-map, entry_at-with_each}
 use Rattle.chain_layout.specs.Layouts.{AreAllMoves}
-use Rattle.chain_layout.specs.PointerMoves.{ArePointerMoves, StandsWhere}
+use Rattle.chain_layout.specs.PointerMoves.{ArePointerMoves, IsMove, StandsWhere}
 use Rattle.chain_layout.proofs.Pointing.{each_found, all_moved, compression_moves_pointers}
 use Rattle.chain_arena.specs.Transfers.{Carried, old_index}
 use Rattle.chain_arena.specs.PointerTransfers.{IsAnswered, TransferMovesPointers}
@@ -38,14 +38,10 @@ module _ {Q P G Gen U T : Type 0} (key : Q → ℕ × G) (new_key : P → ℕ ×
   keys_arrived [] = refl
   keys_arrived (c ∷ carried) = ap (λ (ps : List (ℕ × Gen)). new_key c.to ∷ ps) (keys_arrived carried)
 
-  -- a link has gone from a pointer to a pointer
-  abbrev Goes : Carried Q P U T → Type 0
-  Goes c = (was : IsValid before (key c.from)) × (is : IsValid after (new_key c.to)) × IsAnswered c was.value is.value
-
-  -- .. as each that was carried over has
+  -- each link that was carried over has gone from a pointer to a pointer
   each_goes : (es : List ((ℕ × G) × U)) (carried : List (Carried Q P U T)) → ((i : ℕ) → found i es ≡ before i)
       → AllByRecursion (λ (c : Carried Q P U T). found (old_index key c) es ≡ Some ((key c.from).1, value_in c.value)) carried
-      → AllByRecursion (λ (e : (ℕ × Gen) × T). after e.0.0 ≡ Some (e.0.1, e.1)) (arrived carried) → AllByRecursion Goes carried
+      → AllByRecursion (λ (e : (ℕ × Gen) × T). after e.0.0 ≡ Some (e.0.1, e.1)) (arrived carried) → AllByRecursion (IsMove (λ (c : Carried Q P U T). key c.from) (λ (c : Carried Q P U T). new_key c.to) IsAnswered before after) carried
   each_goes es [] looked stood stand = tt
   each_goes es (c ∷ carried) looked stood stand = (
     (

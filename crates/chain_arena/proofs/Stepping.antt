@@ -26,7 +26,6 @@ use Rattle.arena_base.specs.Entries.{count, renewed, HasRoomLeft, NeedsBeyondMax
 use Rattle.chain_links.specs.ChainArena.{LinkSeen, on_value, shown, seen, entry, link_value, insert_as, link_at, relinked, CanConnect, CanExchange, IsJoin, IsCut, IsExchange, IsRemoval}
 use Rattle.chain_links.proofs.Inserting.{values-count}
 use Rattle.chain_arena.specs.Drains.{walk_left, without_each}
-use Rattle.chain_links.specs.Insertions.{IsInsertion}
 use Rattle.chain_links.specs.Links.{seen_link}
 use Rattle.chain_arena.specs.Effects.{Links, stays, grown, IsDrained, IsAdded, Tells}
 use Rattle.chain_arena.specs.PointerKinds.{PointerKind}
@@ -140,14 +139,14 @@ module _ {P I Gen W T : Type 0} (pointers : PointerKind P I Gen W) (old new : Li
   abbrev by : InsertKind ℕ
   by = kind_named pointers kind
 
-  abbrev Inserted : Result P ChainInsertionError → Type 0
-  Inserted r = IfOk r (λ p. IsInsertion by (seen old) (seen new) (entry old) (entry new) (shown old) (shown new) (pointers.key p) t)
+  abbrev IsAnswer : Result P ChainInsertionError → Type 0
+  IsAnswer = AnswersInsertion pointers.key pointers.number old kind t new
 
   -- a kind that is not refused for its links may be inserted
   may : (r : Result P ChainInsertionError) → (r ≡ Err failed.FailedLinkRequirement) ↔ (IsAllowed pointers old kind → ⊥) → (r ≡ Err failed.FailedLinkRequirement → ⊥) → IsAllowed pointers old kind
   may r link other = decides (λ no. other (link.1 no))
 
-  added : (p : P) → Inserted (Ok p) → (pointers.key p).0 ≡ next_index old → new ≡ with_capacity_of (insert_as old by t) new → IsAdded pointers.key old by t p new
+  added : (p : P) → IsAnswer (Ok p) → (pointers.key p).0 ≡ next_index old → new ≡ with_capacity_of (insert_as old by t) new → IsAdded pointers.key old by t p new
   added p inserted place state = record {
     pointer = ap₂ (λ (i : ℕ) (g : Gen). (i, g)) place inserted.generation;
     state = state;
@@ -160,7 +159,7 @@ module _ {P I Gen W T : Type 0} (pointers : PointerKind P I Gen W) (old new : Li
   is_full more room = let none : HasRoomLeft (seen old) → ⊥ = (λ left. false≢true (room left).0) in omega (arith, none, values-count old)
 
   -- an insertion that may grow
-  pub inserts_growing : (r : Result P ChainInsertionError) (more : Type 0) → Inserted r → OnErr r (new ≡ old) → (r ≡ Err failed.FailedLinkRequirement) ↔ (IsAllowed pointers old kind → ⊥)
+  pub inserts_growing : (r : Result P ChainInsertionError) (more : Type 0) → IsAnswer r → OnErr r (new ≡ old) → (r ≡ Err failed.FailedLinkRequirement) ↔ (IsAllowed pointers old kind → ⊥)
       → IfErr r (λ e. e ≢ failed.NotWithinCapacity) → (IsAllowed pointers old kind → HasRoomLeft (seen old) → IsOk r × more)
       → (r ≡ Err failed.BeyondMaxCapacity) ↔ (IsAllowed pointers old kind × NeedsBeyondMaximum (seen old))
       → IfOk r (λ p. (pointers.key p).0 ≡ next_index old) → OnOk r (new ≡ with_capacity_of (insert_as old by t) new)
@@ -188,7 +187,7 @@ module _ {P I Gen W T : Type 0} (pointers : PointerKind P I Gen W) (old new : Li
       (past.0, (is_full more (room past.0), subst (λ n. IsBeyond old.maximum (n + 1)) (values-count old) past.1.1), same)
 
   -- .. and one within the capacity
-  pub inserts_within : (r : Result P ChainInsertionError) → Inserted r → OnErr r (new ≡ old) → (r ≡ Err failed.FailedLinkRequirement) ↔ (IsAllowed pointers old kind → ⊥)
+  pub inserts_within : (r : Result P ChainInsertionError) → IsAnswer r → OnErr r (new ≡ old) → (r ≡ Err failed.FailedLinkRequirement) ↔ (IsAllowed pointers old kind → ⊥)
       → (r ≡ Err failed.NotWithinCapacity) ↔ (IsAllowed pointers old kind × (count (seen old) ≡ old.capacity)) → IfErr r (λ e. (e ≡ failed.FailedLinkRequirement) ⊎ (e ≡ failed.NotWithinCapacity))
       → IfOk r (λ p. (pointers.key p).0 ≡ next_index old) → OnOk r (new ≡ insert_as old by t) → InsertWithinStep pointers old kind t r new
   inserts_within (Ok p) inserted same link full error place state =

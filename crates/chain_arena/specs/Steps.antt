@@ -103,12 +103,12 @@ module _ {P I Gen W : Type 0} (pointers : PointerKind P I Gen W) where
     ReserveStep old n (Ok done) new = (new ≡ with_capacity_of old new) × HasRoomFor pointers.greatest n old new
 
     -- the reply that tells whether the counter overflowed
-    abbrev pub counted : Bool → Reply P T I Gen W
-    counted overflow = reply.Counted (invalidation_option overflow tt)
+    abbrev pub overflow_told : Bool → Reply P T I Gen W
+    overflow_told overflow = reply.Counted (invalidation_option overflow tt)
 
     -- .. that of a compression
     abbrev pub compressed : Links Gen T → Bool → Reply P T I Gen W
-    compressed old reset = counted (overflows_after_compression pointers.wraps reset (entry_count old) old.counter)
+    compressed old reset = overflow_told (overflows_after_compression pointers.wraps reset (entry_count old) old.counter)
 
     -- a step of the machine: the reply to a call, and the arena after it
     abbrev pub Step : Links Gen T → Call P T I Gen W → Reply P T I Gen W → Links Gen T → Type 0
@@ -122,12 +122,12 @@ module _ {P I Gen W : Type 0} (pointers : PointerKind P I Gen W) where
     Step old (call.RemoveInx i) r new = (answer : InvalidationResult (Gen × HeldLink T)) × (r ≡ reply.RemovedInx answer) × RemoveInxStep old (pointers.number i) answer new
     Step old (call.Invalidate p) r new = (answer : InvalidationResult P) × (r ≡ reply.Renewed answer) × InvalidateStep old (pointers.key p) answer new
     Step old (call.DrainChain p take) r new = (answer : Option ℕ) × (r ≡ reply.Drained answer) × DrainChainStep old (pointers.key p) take answer new
-    Step old call.Clear r new = (r ≡ counted (overflows_after_clear pointers.wraps (entry_count old) old.counter)) × (new ≡ cleared pointers.following old)
+    Step old call.Clear r new = (r ≡ overflow_told (overflows_after_clear pointers.wraps (entry_count old) old.counter)) × (new ≡ cleared pointers.following old)
     Step old (call.Compress reset) r new = (r ≡ compressed old reset) × IsCompression pointers.first pointers.following reset old new
     Step old (call.CompressCanonical reset) r new = (r ≡ compressed old reset) × IsCanonicalCompression pointers.first pointers.following reset old new
     Step old (call.Reserve n) r new = (answer : Result Unit ReallocationError) × (r ≡ reply.Reserved answer) × ReserveStep old n answer new
     Step old (call.SetGeneration g) r new = (r ≡ reply.Set) × (new ≡ with_counter old g)
-    Step old call.IncGeneration r new = (r ≡ counted (pointers.wraps old.counter)) × (new ≡ with_counter old (pointers.following old.counter))
+    Step old call.IncGeneration r new = (r ≡ overflow_told (pointers.wraps old.counter)) × (new ≡ with_counter old (pointers.following old.counter))
 
     -- steps one after another, one reply a call
     abbrev pub Run : Links Gen T → List (Call P T I Gen W) → List (Reply P T I Gen W) → Links Gen T → Type 0

@@ -14,7 +14,7 @@ use Rattle.arena_base.specs.Arena.{Arena, entry_at}
 use Rattle.chain_links.specs.ChainArena.{on_value, LinkSeen, link_value, shown, values_of, relinked, interlinks_of, CanConnect, IsLinkAt, ptr_at}
 use Rattle.chain_links.proofs.Mapping.{IsValidPtr, entry_at-with_each, IsValidPtr-with_each}
 use Rattle.chain_links.proofs.Seeing.{entry_at-seen_links}
-use Rattle.chain_interlinks.specs.Interlinks.{IsEnd, IsStart}
+use Rattle.chain_interlinks.specs.Interlinks.{IsValidEnd, IsValidStart}
 use Rattle.chain_interlinks.proofs.Relinking.{FitsLinks, shown-relinked, values_of-relinked, relinked-again, relinked-own, FitsLinks-shown, FitsLinks-next_set, FitsLinks-linked}
 
 pub none_unless_some : {A : Type 0} (o : Option A) → is_some o ≡ false → o ≡ None
@@ -49,7 +49,7 @@ module _ {Gen K T : Type 0} (number : K → Option ℕ) where
 
   -- a link is an end exactly if it has no next
   pub ends : (a : Arena Gen (LinkBody K T)) (p : ℕ × Gen) (link : LinkBody K T) (b : Bool) → entry_at a p.0 ≡ Some (p.1, link) → is_some (number link.next) ≡ not b
-      → IsTrue b ↔ IsEnd (entry_at (values_of (seen_links number a))) (shown (seen_links number a)) p
+      → IsTrue b ↔ IsValidEnd (entry_at (values_of (seen_links number a))) (shown (seen_links number a)) p
   ends a p link b at tells = (
     (λ yes. record { valid = valid-seen a p link at; end = next_of-seen a p link at ∙ none_unless_some (number link.next) (tells ∙ ap not yes) }),
     (λ is. truth_of_not b (sym (ap is_some (sym (next_of-seen a p link at) ∙ is.end)) ∙ tells)),
@@ -57,7 +57,7 @@ module _ {Gen K T : Type 0} (number : K → Option ℕ) where
 
   -- .. and a start exactly if it has no prev
   pub starts : (a : Arena Gen (LinkBody K T)) (p : ℕ × Gen) (link : LinkBody K T) (b : Bool) → entry_at a p.0 ≡ Some (p.1, link) → is_some (number link.prev) ≡ not b
-      → IsTrue b ↔ IsStart (entry_at (values_of (seen_links number a))) (shown (seen_links number a)) p
+      → IsTrue b ↔ IsValidStart (entry_at (values_of (seen_links number a))) (shown (seen_links number a)) p
   starts a p link b at tells = (
     (λ yes. record { valid = valid-seen a p link at; start = prev_of-seen a p link at ∙ none_unless_some (number link.prev) (tells ∙ ap not yes) }),
     (λ is. truth_of_not b (sym (ap is_some (sym (prev_of-seen a p link at) ∙ is.start)) ∙ tells)),
@@ -137,7 +137,7 @@ module _ {Gen T : Type 0} (a b : Arena Gen (LinkSeen T)) (p q : ℕ × Gen) (nam
   same_prev = ap (λ (m : Shown). prev_of m q.0) shows_names ∙ prev_kept (q.0 == p.0) (shown a q.0) (Some q.0)
 
   -- it may, where q then is a start ..
-  pub named_may : IsEnd (entry_at (values_of a)) (shown a) p → IsStart (entry_at (values_of b)) (shown b) q → CanConnect (entry_at (values_of a)) (shown a) p q
+  pub named_may : IsValidEnd (entry_at (values_of a)) (shown a) p → IsValidStart (entry_at (values_of b)) (shown b) q → CanConnect (entry_at (values_of a)) (shown a) p q
   named_may first second = record {
     first_valid = first.valid;
     second_valid = subst (λ (v : Arena Gen T). IsValidPtr v q) same_values second.valid;
@@ -146,7 +146,7 @@ module _ {Gen T : Type 0} (a b : Arena Gen (LinkSeen T)) (p q : ℕ × Gen) (nam
   }
 
   -- .. and may not, where it is none
-  pub named_may_not : (IsStart (entry_at (values_of b)) (shown b) q → ⊥) → CanConnect (entry_at (values_of a)) (shown a) p q → ⊥
+  pub named_may_not : (IsValidStart (entry_at (values_of b)) (shown b) q → ⊥) → CanConnect (entry_at (values_of a)) (shown a) p q → ⊥
   named_may_not fails can = fails (record { valid = subst (λ (v : Arena Gen T). IsValidPtr v q) (sym same_values) can.second_valid; start = same_prev ∙ can.no_prev })
 
   -- taken back, it leaves what was

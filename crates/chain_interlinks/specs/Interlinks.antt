@@ -29,11 +29,11 @@ module _ {Gen T : Type 0} where
 
 module _ {Gen T : Type 0} (entry : ℕ → Option (Gen × T)) (interlinks : Shown) (p : ℕ × Gen) where
   -- p is valid, and no link comes after it
-  pub record IsEnd : Type 0 where
+  pub record IsValidEnd : Type 0 where
     pub valid : IsValid entry p
     pub end : next_of interlinks p.0 ≡ None
 
   -- .. and no link comes before it
-  pub record IsStart : Type 0 where
+  pub record IsValidStart : Type 0 where
     pub valid : IsValid entry p
     pub start : prev_of interlinks p.0 ≡ None

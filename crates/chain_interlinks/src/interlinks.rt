@@ -5,7 +5,7 @@ ghost use Rattle.arena_ptr.specs.Invalidation.{value_within, invalidation_result
 ghost use Rattle.arena_base.specs.Arena.{entry_at};
 ghost use Rattle.chain_links.specs.ChainArena.{shown, remove_link, entry, CanConnect, ptr_at};
 ghost use Rattle.chain_links.specs.Links.{seen_links, seen_pair};
-ghost use Rattle.chain_interlinks.specs.Interlinks.{next_written, prev_written, linked_up, linked_twice, numbers, IsEnd, IsStart};
+ghost use Rattle.chain_interlinks.specs.Interlinks.{next_written, prev_written, linked_up, linked_twice, numbers, IsValidEnd, IsValidStart};
 
 use arena_base::{Arena, ArenaSlot, ArenaTrait, outcome};
 use arena_ptr::{
@@ -18,7 +18,7 @@ pub fn is_end<P: PtrKey, T: Drop, S: SlotStack<Item = ArenaSlot<P, LinkNoGen<P, 
     arena: &Arena<P, LinkNoGen<P, T>, S>,
     p: P,
 ) -> bool
-    ensures { IsTrue result ↔ IsEnd (entry (seen_links P.Inx.packed_number arena.now)) (shown (seen_links P.Inx.packed_number arena.now)) (P.key p) }
+    ensures { IsTrue result ↔ IsValidEnd (entry (seen_links P.Inx.packed_number arena.now)) (shown (seen_links P.Inx.packed_number arena.now)) (P.key p) }
 {
     match arena.get(p) {
         Some(link) => link.next().is_none(),
@@ -31,7 +31,7 @@ pub fn is_start<P: PtrKey, T: Drop, S: SlotStack<Item = ArenaSlot<P, LinkNoGen<P
     arena: &Arena<P, LinkNoGen<P, T>, S>,
     p: P,
 ) -> bool
-    ensures { IsTrue result ↔ IsStart (entry (seen_links P.Inx.packed_number arena.now)) (shown (seen_links P.Inx.packed_number arena.now)) (P.key p) }
+    ensures { IsTrue result ↔ IsValidStart (entry (seen_links P.Inx.packed_number arena.now)) (shown (seen_links P.Inx.packed_number arena.now)) (P.key p) }
 {
     match arena.get(p) {
         Some(link) => link.prev().is_none(),

@@ -39,19 +39,19 @@ goes_back : (shown : Shown) (i k : ℕ) → shown i ≡ Some (link (Some k) None
 goes_back shown i k e ne = goes_on_by shown i (Some k) None e ∙ going_on-other i k ne
 
 -- what is left of a walk without its first link
-record Leaves (shown : Shown) (i : ℕ) (rest : List ℕ) : Type 0 where
+record LeavesWalk (shown : Shown) (i : ℕ) (rest : List ℕ) : Type 0 where
   first : first_or rest None ≡ goes_on_to shown i
   walk : (k : ℕ) → first_or rest None ≡ Some k → IsWalk (removed shown i) k rest
 
 -- what comes first is known
-leaves_from : (shown : Shown) (i k : ℕ) (rest : List ℕ) → goes_on_to shown i ≡ Some k → first_or rest None ≡ Some k → IsWalk (removed shown i) k rest → Leaves shown i rest
+leaves_from : (shown : Shown) (i k : ℕ) (rest : List ℕ) → goes_on_to shown i ≡ Some k → first_or rest None ≡ Some k → IsWalk (removed shown i) k rest → LeavesWalk shown i rest
 leaves_from shown i k rest goes first walk = record {
   first = first ∙ sym goes;
   walk = λ j e. subst (λ (n : ℕ). IsWalk (removed shown i) n rest) (one_some (sym first ∙ e)) walk;
 }
 
 -- from the end of a linear chain the walk goes back
-leaves_back : (shown : Shown) (i k : ℕ) (before : List ℕ) → IsChain shown (linear ((before ++ k ∷ []) ++ i ∷ [])) → Leaves shown i (reverse (before ++ k ∷ []))
+leaves_back : (shown : Shown) (i k : ℕ) (before : List ℕ) → IsChain shown (linear ((before ++ k ∷ []) ++ i ∷ [])) → LeavesWalk shown i (reverse (before ++ k ∷ []))
 leaves_back shown i k before chain =
     let left = before ++ k ∷ [] in
     let stands : shown i ≡ Some (link (last_or left None) None) = (Stands-right shown None left (i ∷ []) None chain.2).0 in
@@ -64,11 +64,11 @@ leaves_back shown i k before chain =
     (subst (λ (zs : List ℕ). IsWalk (removed shown i) k zs) (sym (last_reversed before k [])) (there_and_back before [] shorter))
 
 -- without its first link a walk goes on
-leaves : (shown : Shown) (i : ℕ) (walk : List ℕ) → IsWalk shown i walk → Leaves shown i (rest_of walk)
+leaves : (shown : Shown) (i : ℕ) (walk : List ℕ) → IsWalk shown i walk → LeavesWalk shown i (rest_of walk)
 leaves shown i _ (there_and_back [] [] chain) = record { first = sym (goes_on_by shown i None None chain.2.0); walk = λ k e. absurd (cc) }
 leaves shown i _ (there_and_back (x ∷ xs) [] chain) =
     let l = last_apart x xs in
-    subst (λ (zs : List ℕ). Leaves shown i (reverse zs)) (sym l.2) (leaves_back shown i l.1 l.0 (subst (λ (zs : List ℕ). IsChain shown (linear (zs ++ i ∷ []))) l.2 chain))
+    subst (λ (zs : List ℕ). LeavesWalk shown i (reverse zs)) (sym l.2) (leaves_back shown i l.1 l.0 (subst (λ (zs : List ℕ). IsChain shown (linear (zs ++ i ∷ []))) l.2 chain))
 leaves shown i _ (there_and_back before (k ∷ ks) chain) =
     let stands = Stands-right shown None before (i ∷ k ∷ ks) None chain.2 in
     let once = HasNoRepetition-right before (i ∷ k ∷ ks) chain.1 in
@@ -99,19 +99,19 @@ shows_rest shown i walk is_walk j none =
     ∙ vacated-off shown i j (λ same. none (subst (Has walk) (sym same) (walk_starts shown i walk is_walk)))
 
 -- a link of a walk goes, and any other stays
-record Goes (old new : Shown) (walk : List ℕ) : Type 0 where
+record EmptiesWalk (old new : Shown) (walk : List ℕ) : Type 0 where
   gone : (j : ℕ) → Has walk j → new j ≡ None
   rest : (j : ℕ) → (Has walk j → ⊥) → new j ≡ old j
 
 -- the links of a walk are removed after its first
-goes_after : (shown : Shown) (i k : ℕ) (rest : List ℕ) → IsWalk shown i (i ∷ k ∷ rest) → Goes (removed shown i) (removed_each (removed shown i) (k ∷ rest)) (k ∷ rest)
-    → Goes shown (removed_each shown (i ∷ k ∷ rest)) (i ∷ k ∷ rest)
+goes_after : (shown : Shown) (i k : ℕ) (rest : List ℕ) → IsWalk shown i (i ∷ k ∷ rest) → EmptiesWalk (removed shown i) (removed_each (removed shown i) (k ∷ rest)) (k ∷ rest)
+    → EmptiesWalk shown (removed_each shown (i ∷ k ∷ rest)) (i ∷ k ∷ rest)
 goes_after shown i k rest walk after = record {
   gone = λ j h. ⊎_elim (λ (e : i ≡ j). after.rest j (λ g. (walk_once shown i (i ∷ k ∷ rest) walk).0 (subst (Has (k ∷ rest)) (sym e) g)) ∙ subst (λ (n : ℕ). removed shown i n ≡ None) e (removed-at shown i)) (after.gone j) h;
   rest = λ j none. after.rest j (λ h. none (inr h)) ∙ shows_rest shown i (i ∷ k ∷ rest) walk j none;
 }
 
-goes : (shown : Shown) (i : ℕ) (rest : List ℕ) → IsWalk shown i (i ∷ rest) → Goes shown (removed_each shown (i ∷ rest)) (i ∷ rest)
+goes : (shown : Shown) (i : ℕ) (rest : List ℕ) → IsWalk shown i (i ∷ rest) → EmptiesWalk shown (removed_each shown (i ∷ rest)) (i ∷ rest)
 goes shown i [] walk = record {
   gone = λ j h. ⊎_elim (λ (e : i ≡ j). subst (λ (n : ℕ). removed shown i n ≡ None) e (removed-at shown i)) (λ n. absurd n) h;
   rest = shows_rest shown i (i ∷ []) walk;
@@ -128,7 +128,7 @@ walk_written : (shown : Shown) (i : ℕ) (walk : List ℕ) → IsWalk shown i wa
 walk_written shown i _ (there_and_back before after chain) = refl
 walk_written shown i _ (round after chain) = refl
 
-taken : (old new : Shown) (walk : List ℕ) → Goes old new walk → TakesWalk old new walk
+taken : (old new : Shown) (walk : List ℕ) → EmptiesWalk old new walk → TakesWalk old new walk
 taken old new walk each = record {
   gone = each.gone;
   rest = each.rest;
@@ -143,7 +143,7 @@ pub walk_is_taken : WalkIsTaken
 walk_is_taken shown i walk is_walk =
     let e = walk_written shown i walk is_walk in
     taken shown (removed_each shown walk) walk
-    (subst (λ (w : List ℕ). Goes shown (removed_each shown w) w) (sym e) (goes shown i (rest_of walk) (subst (IsWalk shown i) e is_walk)))
+    (subst (λ (w : List ℕ). EmptiesWalk shown (removed_each shown w) w) (sym e) (goes shown i (rest_of walk) (subst (IsWalk shown i) e is_walk)))
 
 -- the walk of a valid link ..
 pub walk_from-walk : (slots : ℕ) (shown : Shown) (i : ℕ) → Agrees shown → HasLinksWithin shown slots → HasLink shown i → IsWalk shown i (walk_from slots shown (Some i))

@@ -5,12 +5,12 @@ use Rattle.chain_laws.proofs.Members.{first_or-Has, last_or-Has, last_or-filled}
 use Rattle.chain_laws.proofs.Standing.{Stands-valid, Stands-next, Stands-prev, Stands-prev_some, Stands-first, one_onward, one_round}
 
 -- what comes before or after a member is a member
-pub record IsClosed (shown : Shown) (Member : ℕ → Type 0) : Type 0 where
+pub record HasAllNeighbors (shown : Shown) (Member : ℕ → Type 0) : Type 0 where
   pub forth : (i j : ℕ) → Member i → next_of shown i ≡ Some j → Member j
   pub back : (i j : ℕ) → Member i → prev_of shown i ≡ Some j → Member j
 
 -- the items of a chain are closed
-pub chain_closed : (shown : Shown) (c : Chain) → IsChain shown c → IsClosed shown (Has (items c))
+pub chain_closed : (shown : Shown) (c : Chain) → IsChain shown c → HasAllNeighbors shown (Has (items c))
 chain_closed shown (linear xs) h = record { forth = onward; back = backward }
   where
     onward : (i j : ℕ) → Has xs i → next_of shown i ≡ Some j → Has xs j
@@ -49,7 +49,7 @@ chain_filled shown (cyclic xs) h = h.0
 
 -- a closed set that has an item of a list that stands has its first item
 pub reaches_first : (shown : Shown) (Member : ℕ → Type 0) (before : Option ℕ) (x : ℕ) (xs : List ℕ) (after : Option ℕ) (i : ℕ)
-    → IsClosed shown Member → Stands shown before (x ∷ xs) after → Has (x ∷ xs) i → Member i → Member x
+    → HasAllNeighbors shown Member → Stands shown before (x ∷ xs) after → Has (x ∷ xs) i → Member i → Member x
 reaches_first shown Member before x xs after i closed s (inl e) m = subst Member (sym e) m
 reaches_first shown Member before x [] after i closed s (inr h) m = elim h [ ]
 reaches_first shown Member before x (y ∷ ys) after i closed s (inr h) m =
@@ -57,7 +57,7 @@ reaches_first shown Member before x (y ∷ ys) after i closed s (inr h) m =
 
 -- a closed set that has the first item of a list that stands has each of its items
 pub reaches_all : (shown : Shown) (Member : ℕ → Type 0) (before : Option ℕ) (x : ℕ) (xs : List ℕ) (after : Option ℕ) (i : ℕ)
-    → IsClosed shown Member → Stands shown before (x ∷ xs) after → Member x → Has (x ∷ xs) i → Member i
+    → HasAllNeighbors shown Member → Stands shown before (x ∷ xs) after → Member x → Has (x ∷ xs) i → Member i
 reaches_all shown Member before x xs after i closed s m (inl e) = subst Member e m
 reaches_all shown Member before x [] after i closed s m (inr h) = elim h [ ]
 reaches_all shown Member before x (y ∷ ys) after i closed s m (inr h) =
@@ -65,14 +65,14 @@ reaches_all shown Member before x (y ∷ ys) after i closed s m (inr h) =
 
 -- a closed set that has an item of a list that stands has each of its items
 pub reaches : (shown : Shown) (Member : ℕ → Type 0) (before : Option ℕ) (xs : List ℕ) (after : Option ℕ) (i j : ℕ)
-    → IsClosed shown Member → Stands shown before xs after → Has xs i → Member i → Has xs j → Member j
+    → HasAllNeighbors shown Member → Stands shown before xs after → Has xs i → Member i → Has xs j → Member j
 reaches shown Member before [] after i j closed s h m k = elim h [ ]
 reaches shown Member before (x ∷ xs) after i j closed s h m k =
     reaches_all shown Member before x xs after j closed s (reaches_first shown Member before x xs after i closed s h m) k
 
 -- a closed set that has an item of a chain has each of its items
 pub chain_within : (shown : Shown) (Member : ℕ → Type 0) (c : Chain) (i j : ℕ)
-    → IsClosed shown Member → IsChain shown c → Has (items c) i → Member i → Has (items c) j → Member j
+    → HasAllNeighbors shown Member → IsChain shown c → Has (items c) i → Member i → Has (items c) j → Member j
 chain_within shown Member (linear xs) i j closed h k m l = reaches shown Member None xs None i j closed h.2 k m l
 chain_within shown Member (cyclic xs) i j closed h k m l = reaches shown Member (last_or xs None) xs (first_or xs None) i j closed h.2 k m l
 

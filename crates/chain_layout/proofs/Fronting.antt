@@ -9,21 +9,15 @@ use Rattle.chain_links.specs.declared.links.LinkBody.{LinkBody}
 use Rattle.chain_links.specs.ChainArena.{LinkSeen}
 use Rattle.chain_links.specs.Links.{seen_link, seen_pair}
 use Rattle.chain_layout.specs.Moving.{Waits, HaveMoved, GoToFront, goal_of, Settles}
+use Rattle.arena_base.proofs.Packing.{all_cut}
 use Rattle.chain_links.proofs.Mapping.{slot_at-map}
 
 module _ {X : Type 0} where
-  -- slots in which nothing stands are all cut off
-  trimmed-none : (xs : List (Option X)) → ((k : ℕ) → slice_index_or xs k None ≡ None) → trimmed xs ≡ []
-  trimmed-none [] none = refl
-  trimmed-none (x ∷ xs) none =
-      let first : x ≡ None = none 0 in
-      ap (λ (o : Option X). before_cut o (trimmed xs)) first ∙ ap (before_cut None) (trimmed-none xs (λ k. none (suc k)))
-
   -- n entries at the front, and nothing behind them
   trimmed-front : (n : ℕ) (xs : List (Option X)) → ((k : ℕ) → k < n → (x : X) × (slice_index_or xs k None ≡ Some x)) → ((k : ℕ) → n ≤ k → slice_index_or xs k None ≡ None)
       → (length (trimmed xs) ≡ n) × ((i : ℕ) → free_from i (trimmed xs) ≡ [])
   trimmed-front zero xs front behind =
-      let none : trimmed xs ≡ [] = trimmed-none xs (λ k. behind k (omega arith)) in
+      let none : trimmed xs ≡ [] = all_cut xs (λ k. behind k (omega arith)) in
       (ap (λ (ys : List (Option X)). length ys) none, λ i. ap (free_from i) none)
   trimmed-front (suc n) [] front behind = let first : None ≡ Some (front 0 (omega arith)).0 = (front 0 (omega arith)).1 in absurd (cc)
   trimmed-front (suc n) (x ∷ xs) front behind =

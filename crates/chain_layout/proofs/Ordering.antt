@@ -10,7 +10,7 @@ use Rattle.chain_laws.specs.Neighbors.{AreTheChains}
 use Rattle.chain_laws.specs.Starts.{IsStart}
 use Rattle.chain_laws.proofs.Members.{Has-left, Has-right, Has-parts, HasNoRepetition-apart, length_bound}
 use Rattle.chain_laws.proofs.Standing.{IsChain-frame}
-use Rattle.chain_laws.proofs.Unique.{IsClosed, chain_closed, written_least}
+use Rattle.chain_laws.proofs.Unique.{HasAllNeighbors, chain_closed, written_least}
 use Rattle.chain_laws.proofs.Neighboring.{chains_from_pairs}
 use Rattle.chain_laws.proofs.Partitions.{the_chains}
 use Rattle.chain_laws.proofs.Laying.{all_items-append}
@@ -105,7 +105,7 @@ module _ {Gen K T : Type 0} (number : K → Option ℕ) where
       → option_map (on_value (renamed_link to)) (option_map (seen_pair number) (slot_at slots i)) ≡ option_map (on_value (renamed_link also)) (option_map (seen_pair number) (slot_at slots i))
   renamed_alike to also slots c h same i m = by (slot_at slots i) refl
     where
-      closed : IsClosed (shown_in number slots) (Has (items c))
+      closed : HasAllNeighbors (shown_in number slots) (Has (items c))
       closed = chain_closed (shown_in number slots) c h
 
       alike : (o : Option ℕ) → ((j : ℕ) → o ≡ Some j → Has (items c) j) → option_and_then to o ≡ option_and_then also o

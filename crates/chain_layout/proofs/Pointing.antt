@@ -18,7 +18,7 @@ use Rattle.arena_base.specs.Compressing.{values_in}
 use Rattle.chain_links.specs.ChainArena.{ptr_at}
 use Rattle.chain_links.proofs.Mapping.{generation_is}
 use Rattle.chain_layout.specs.Layouts.{AreAllMoves}
-use Rattle.chain_layout.specs.PointerMoves.{AreMoved, StandsWhere, CompressionMovesPointers, CompressionHasMoves}
+use Rattle.chain_layout.specs.PointerMoves.{AreMoved, IsPointerMove, StandsWhere, CompressionMovesPointers, CompressionHasMoves}
 
 module _ {Gen T : Type 0} where
   -- entries at the indexes of a run rise
@@ -107,9 +107,6 @@ module _ {X G Gen U T : Type 0} (from : X → ℕ × G) (to : X → ℕ × Gen) 
         by (Some link) is some = record { link = link; shows = is }
 
 module _ {P Gen T : Type 0} (key : P → ℕ × Gen) (before after : ℕ → Option (Gen × T)) where
-  abbrev Keeps : P × P → Type 0
-  Keeps m = (was : IsValid before (key m.0)) × (is : IsValid after (key m.1)) × (was.value ≡ is.value)
-
   -- a pointer of what stands at an index has that index
   index_there : (p : ℕ × Gen) (i : ℕ) (o : Option (Gen × T)) → Some p ≡ option_map (λ (e : Gen × T). (i, e.0)) o → p.0 ≡ i
   index_there p i None is = absurd (cc)
@@ -125,9 +122,9 @@ module _ {P Gen T : Type 0} (key : P → ℕ × Gen) (before after : ℕ → Opt
       ap₂ (λ (n : ℕ) (ns : List ℕ). n ∷ ns) (index_there (key m.0) i (before i) first) (indexes-from moves indexes rest)
 
   -- one move
-  one_keeps : (m : P × P) (i : ℕ) (e : (ℕ × Gen) × T) → Some (key m.0) ≡ ptr_at before i → key m.1 ≡ e.0 → Some e.1 ≡ option_map (λ (e : Gen × T). e.1) (before i) → after e.0.0 ≡ Some (e.0.1, e.1) → Keeps m
+  one_keeps : (m : P × P) (i : ℕ) (e : (ℕ × Gen) × T) → Some (key m.0) ≡ ptr_at before i → key m.1 ≡ e.0 → Some e.1 ≡ option_map (λ (e : Gen × T). e.1) (before i) → after e.0.0 ≡ Some (e.0.1, e.1) → IsPointerMove key before after m
   one_keeps m i e comes goes value stands = by (before i) refl comes value where
-    by : (o : Option (Gen × T)) → before i ≡ o → Some (key m.0) ≡ option_map (λ (e : Gen × T). (i, e.0)) o → Some e.1 ≡ option_map (λ (e : Gen × T). e.1) o → Keeps m
+    by : (o : Option (Gen × T)) → before i ≡ o → Some (key m.0) ≡ option_map (λ (e : Gen × T). (i, e.0)) o → Some e.1 ≡ option_map (λ (e : Gen × T). e.1) o → IsPointerMove key before after m
     by None is comes value = absurd (cc)
     by (Some b) is comes value =
         let same : key m.0 ≡ (i, b.0) = cc in
@@ -139,7 +136,7 @@ module _ {P Gen T : Type 0} (key : P → ℕ × Gen) (before after : ℕ → Opt
 
   -- all moves, one after another
   each_keeps : (moves : List (P × P)) (indexes : List ℕ) (es : List ((ℕ × Gen) × T)) → map (λ (m : P × P). Some (key m.0)) moves ≡ map (ptr_at before) indexes → map (λ (m : P × P). key m.1) moves ≡ map (λ (e : (ℕ × Gen) × T). e.0) es
-      → map (λ t. Some t) (map (λ (e : (ℕ × Gen) × T). e.1) es) ≡ map (λ i. option_map (λ (e : Gen × T). e.1) (before i)) indexes → AllByRecursion (λ (e : (ℕ × Gen) × T). after e.0.0 ≡ Some (e.0.1, e.1)) es → AllByRecursion Keeps moves
+      → map (λ t. Some t) (map (λ (e : (ℕ × Gen) × T). e.1) es) ≡ map (λ i. option_map (λ (e : Gen × T). e.1) (before i)) indexes → AllByRecursion (λ (e : (ℕ × Gen) × T). after e.0.0 ≡ Some (e.0.1, e.1)) es → AllByRecursion (IsPointerMove key before after) moves
   each_keeps [] indexes es comes goes values stand = tt
   each_keeps (m ∷ moves) [] es comes goes values stand = absurd (cc)
   each_keeps (m ∷ moves) (i ∷ indexes) [] comes goes values stand = absurd (cc)

@@ -8,10 +8,13 @@ use Rattle.chain_layout.specs.Layouts.{AreAllMoves}
 
 -- Each move takes a value from the pointer that it had to the one that it has, where it is what it has become.
 module _ {X G Gen U T : Type 0} (from : X → ℕ × G) (to : X → ℕ × Gen) (Becomes : X → U → T → Type 0) where
+  -- the old pointer of a move was valid, and its new one is, with what the value has become
+  abbrev pub IsMove : (ℕ → Option (G × U)) → (ℕ → Option (Gen × T)) → X → Type 0
+  IsMove before after m = (was : IsValid before (from m)) × (is : IsValid after (to m)) × Becomes m was.value is.value
+
   -- all that was valid moved, and all that is valid came by a move, where what stands at each index is given before and after
   pub record AreMoved (before : ℕ → Option (G × U)) (after : ℕ → Option (Gen × T)) (moves : List X) : Type 0 where
-    -- the old pointer of each move was valid, and its new one is, with what the value has become
-    pub values : All (λ m. (was : IsValid before (from m)) × (is : IsValid after (to m)) × Becomes m was.value is.value) moves
+    pub values : All (IsMove before after) moves
     -- each pointer that was valid is the old one of a move, and no index is that of two ..
     pub old : (p : ℕ × G) → IsValid before p → Contains (map from moves) p
     pub old_apart : HasNoRepetition (map (λ m. (from m).0) moves)
@@ -20,6 +23,9 @@ module _ {X G Gen U T : Type 0} (from : X → ℕ × G) (to : X → ℕ × Gen) 
     pub new_apart : HasNoRepetition (map (λ m. (to m).0) moves)
 
 -- pairs of pointers are moves, and each value is as it was
+abbrev pub IsPointerMove : {P Gen T : Type 0} → (P → ℕ × Gen) → (before after : ℕ → Option (Gen × T)) → P × P → Type 0
+IsPointerMove key = IsMove (λ m. key m.0) (λ m. key m.1) (λ m t u. t ≡ u)
+
 abbrev pub ArePointerMoves : {P Gen T : Type 0} → (P → ℕ × Gen) → (before after : ℕ → Option (Gen × T)) → List (P × P) → Type 0
 ArePointerMoves key = AreMoved (λ m. key m.0) (λ m. key m.1) (λ m t u. t ≡ u)
 

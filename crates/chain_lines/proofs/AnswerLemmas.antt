@@ -7,7 +7,7 @@ use Rattle.chain_lines.specs.declared.command.Command.{Command}
 use Rattle.chain_lines.specs.declared.command.Command.TheVariants.{Change, Show, Chain, Len, Moves}
 use Rattle.chain_lines.specs.declared.command.Line.{Line}
 use Rattle.chain_lines.specs.declared.command.Line.TheVariants.{Good}
-use Rattle.chain_lines.specs.Answers.{ToolLinks, Gives, LeavesStep, link_text, walk_text}
+use Rattle.chain_lines.specs.Answers.{ToolLinks, Gives, LeavesStep, walked_text, walk_text}
 
 -- a text that was cleared and pushed to
 pushed_is : (old v_text new : List ℕ) → old ≡ [] → new ≡ old ++ v_text → new ≡ v_text
@@ -56,14 +56,14 @@ pub record IsWalked (before text : List ℕ) (first : Bool) (all left : List Pas
   pub written : text ≡ before ++ walk_text passed
   pub start : first ≡ none_passed passed
 
-pub walk_text-more : (passed : List Passed) (e : Passed) → walk_text (passed ++ e ∷ []) ≡ cond (none_passed passed) (link_text e) (walk_text passed ++ 32 ∷ link_text e)
+pub walk_text-more : (passed : List Passed) (e : Passed) → walk_text (passed ++ e ∷ []) ≡ cond (none_passed passed) (walked_text e) (walk_text passed ++ 32 ∷ walked_text e)
 walk_text-more [] e = refl
 walk_text-more (d ∷ []) e = refl
 walk_text-more (d ∷ f ∷ passed) e =
-    ap (λ l. link_text d ++ 32 ∷ l) (walk_text-more (f ∷ passed) e) ∙ sym (append_assoc (link_text d) (32 ∷ walk_text (f ∷ passed)) (32 ∷ link_text e))
+    ap (λ l. walked_text d ++ 32 ∷ l) (walk_text-more (f ∷ passed) e) ∙ sym (append_assoc (walked_text d) (32 ∷ walk_text (f ∷ passed)) (32 ∷ walked_text e))
 
 module _ (before text joined more : List ℕ) (first : Bool) (all left after : List Passed) (e : Passed)
-    (walked : IsWalked before text first all left) (next : left ≡ e ∷ after) (link : more ≡ joined ++ link_text e) where
+    (walked : IsWalked before text first all left) (next : left ≡ e ∷ after) (link : more ≡ joined ++ walked_text e) where
   passes : all ≡ (walked.passed ++ e ∷ []) ++ after
   passes = walked.walk ∙ ap (λ l. walked.passed ++ l) next ∙ sym (append_assoc walked.passed (e ∷ []) after)
 
@@ -84,7 +84,7 @@ module _ (before text joined more : List ℕ) (first : Bool) (all left after : L
   }
     where
       by_list : (passed : List Passed) → true ≡ none_passed passed → text ≡ before ++ walk_text passed → more ≡ before ++ walk_text (passed ++ e ∷ [])
-      by_list [] none written = link ∙ ap (λ l. l ++ link_text e) (same ∙ written ∙ append-nil before)
+      by_list [] none written = link ∙ ap (λ l. l ++ walked_text e) (same ∙ written ∙ append-nil before)
       by_list (d ∷ passed) none written = absurd (false≢true (sym none))
 
   -- .. each other one after a space
@@ -99,6 +99,6 @@ module _ (before text joined more : List ℕ) (first : Bool) (all left after : L
       by_list : (passed : List Passed) → false ≡ none_passed passed → text ≡ before ++ walk_text passed → more ≡ before ++ walk_text (passed ++ e ∷ [])
       by_list [] some written = absurd (false≢true some)
       by_list (d ∷ passed) some written =
-          link ∙ ap (λ l. l ++ link_text e) (spaced ∙ ap (λ l. l ++ 32 ∷ []) written)
-          ∙ append_assoc (before ++ walk_text (d ∷ passed)) (32 ∷ []) (link_text e) ∙ append_assoc before (walk_text (d ∷ passed)) (32 ∷ link_text e)
+          link ∙ ap (λ l. l ++ walked_text e) (spaced ∙ ap (λ l. l ++ 32 ∷ []) written)
+          ∙ append_assoc (before ++ walk_text (d ∷ passed)) (32 ∷ []) (walked_text e) ∙ append_assoc before (walk_text (d ∷ passed)) (32 ∷ walked_text e)
           ∙ ap (λ l. before ++ l) (sym (walk_text-more (d ∷ passed) e))

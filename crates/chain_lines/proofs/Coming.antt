@@ -115,11 +115,6 @@ answers-line (Err errors.Memory) old new kept line held held_after is answered =
     step (inl same) = inl same
     step (inr leaves) = inr (step_of_kept old new kept line is leaves)
 
--- .. or nothing
-pub nothing_kept : (kept rest front : List ℕ) → kept ≡ [] → kept ≡ take 201 rest → front ≡ rest ++ front
-nothing_kept kept [] front none is = refl
-nothing_kept kept (c ∷ rest) front none is = absurd (let both = sym none ∙ is in cc)
-
 module _ (old now : ToolLinks) (read done left kept : List ℕ) (held held_now : Option (List ℕ)) (come : Progress old (read ++ done) now kept held held_now) where
   -- of a front without a line feed enough is kept
   come_front : (front : List ℕ) → All IsNoEnd front → Progress old ((read ++ done) ++ front) now (take 201 (come.rest ++ front)) held held_now

@@ -8,7 +8,7 @@ use Rattle.arena_ptr.specs.declared.index.inx32.Inx32.{Inx32}
 use Rattle.arena_ptr.specs.declared.generation.gen32.Gen32.{Gen32}
 use Rattle.arena_ptr.specs.declared.tool_ptr.ToolPtr.{ToolPtr}
 use Rattle.arena_ptr.specs.ToolPtr.{key_of, same_tool_ptr}
-use Rattle.chain_lines.specs.Words.{made_if, index_at, generation_at, index_of, generation_of, pointer_with}
+use Rattle.chain_lines.specs.Words.{made_if, index_at, generation_at, index_named, generation_of, pointer_with}
 
 module _ {A : Type 0} (make : (n : ℕ) → IsWithin 0xffff_ffff n → A) where
   made_if-some : (n : ℕ) (x : A) → IsWithin 0xffff_ffff n → ((within : IsWithin 0xffff_ffff n) → make n within ≡ x)
@@ -23,11 +23,11 @@ module _ {A : Type 0} (make : (n : ℕ) → IsWithin 0xffff_ffff n → A) where
   made_if-none n absent false high at_least at_most = refl
 
 -- what a test of the number answers is the index of the number
-pub index_of-new : (n : ℕ) (r : Option Inx32) → n < 2 ^ 32 → IsSome r ↔ (1 ≤ n) → IfSome r (λ i. number_of_inx32 i ≡ n) → r ≡ index_of n
-unfolding index_of
-index_of-new n (Some i) fits variant value =
+pub index_named-new : (n : ℕ) (r : Option Inx32) → n < 2 ^ 32 → IsSome r ↔ (1 ≤ n) → IfSome r (λ i. number_of_inx32 i ≡ n) → r ≡ index_named n
+unfolding index_named
+index_named-new n (Some i) fits variant value =
     sym (made_if-some index_at n i (variant.0 refl, omega arith) (λ within. same_inx32 (index_at n within) i (sym value)) _ _ refl refl)
-index_of-new n None fits variant value = sym (made_if-none index_at n (λ at_least. false≢true (variant.1 at_least)) _ _ refl refl)
+index_named-new n None fits variant value = sym (made_if-none index_at n (λ at_least. false≢true (variant.1 at_least)) _ _ refl refl)
 
 pub generation_of-new : (n : ℕ) (r : Option Gen32) → n < 2 ^ 32 → IsSome r ↔ (1 ≤ n) → IfSome r (λ g. number_of_gen32 g ≡ n) → r ≡ generation_of n
 unfolding generation_of
@@ -35,8 +35,8 @@ generation_of-new n (Some g) fits variant value =
     sym (made_if-some generation_at n g (variant.0 refl, omega arith) (λ within. same_gen32 (generation_at n within) g (sym value)) _ _ refl refl)
 generation_of-new n None fits variant value = sym (made_if-none generation_at n (λ at_least. false≢true (variant.1 at_least)) _ _ refl refl)
 
-pub index_of-chain : (o : Option ℕ) (n : ℕ) (r : Option Inx32) → o ≡ Some n → n < 2 ^ 32 → IsSome r ↔ (1 ≤ n) → IfSome r (λ i. number_of_inx32 i ≡ n) → r ≡ option_and_then index_of o
-index_of-chain o n r e fits variant value = index_of-new n r fits variant value ∙ ap (option_and_then index_of) (sym e)
+pub index_named-chain : (o : Option ℕ) (n : ℕ) (r : Option Inx32) → o ≡ Some n → n < 2 ^ 32 → IsSome r ↔ (1 ≤ n) → IfSome r (λ i. number_of_inx32 i ≡ n) → r ≡ option_and_then index_named o
+index_named-chain o n r e fits variant value = index_named-new n r fits variant value ∙ ap (option_and_then index_named) (sym e)
 
 pub generation_of-chain : (o : Option ℕ) (n : ℕ) (r : Option Gen32) → o ≡ Some n → n < 2 ^ 32 → IsSome r ↔ (1 ≤ n) → IfSome r (λ g. number_of_gen32 g ≡ n) → r ≡ option_and_then generation_of o
 generation_of-chain o n r e fits variant value = generation_of-new n r fits variant value ∙ ap (option_and_then generation_of) (sym e)

@@ -54,12 +54,12 @@ show_text prev next value = codes "prev " ++ neighbor_text prev ++ codes " next 
 abbrev pub passed_text : ℕ × Gen32 → ℕ → List ℕ
 passed_text p value = pointer_text p ++ codes ":" ++ decimal value
 
-abbrev pub link_text : ℕ × (Gen32 × LinkSeen ℕ) → List ℕ
-link_text e = passed_text (e.0, e.1.0) e.1.1.value
+abbrev pub walked_text : ℕ × (Gen32 × LinkSeen ℕ) → List ℕ
+walked_text e = passed_text (e.0, e.1.0) e.1.1.value
 
 -- a walk: its links, with a space between
 abbrev pub walk_text : List (ℕ × (Gen32 × LinkSeen ℕ)) → List ℕ
-walk_text links = join_with_byte 32 (map link_text links)
+walk_text links = join_with_byte 32 (map walked_text links)
 
 -- a pointer is valid: a link stands at its index with its generation
 abbrev pub IsValidIn : ToolLinks → ℕ × Gen32 → Type 0

@@ -64,8 +64,8 @@ abbrev pub generation_at : (n : ℕ) → IsWithin 0xffff_ffff n → Gen32
 generation_at n within = record { number = n; in_range = within }
 
 -- the index of a number, from 1 on
-unfoldable pub index_of : ℕ → Option Inx32
-index_of n = made_of index_at n
+unfoldable pub index_named : ℕ → Option Inx32
+index_named n = made_of index_at n
 
 -- the generation of a number, from 1 on
 unfoldable pub generation_of : ℕ → Option Gen32
@@ -73,7 +73,7 @@ generation_of n = made_of generation_at n
 
 -- a word that is an index
 abbrev pub index_word : List ℕ → Option Inx32
-index_word word = option_and_then index_of (number_of word)
+index_word word = option_and_then index_named (number_of word)
 
 -- a word that is a generation
 abbrev pub generation_word : List ℕ → Option Gen32

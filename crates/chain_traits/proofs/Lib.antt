@@ -1,1 +1,4 @@
 pub mod AnyArena
+pub mod Looking
+pub mod Outcomes
+pub mod Removing

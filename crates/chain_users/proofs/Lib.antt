@@ -2,11 +2,9 @@ mod Carrying
 mod Changes
 mod Following
 mod Lists
-mod Looking
 mod Mapped
 mod Moves
 mod Moving
-mod Outcomes
 mod Removing
 mod Renumbering
 mod Rings

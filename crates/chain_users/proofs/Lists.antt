@@ -1,11 +1,10 @@
 -- Lists of items: what stands, and what comes of it where an item comes or goes.
-use Rattle.std.proofs.Common.{◌≡◌, ◌≢◌, ℕ, suc, ◌≤◌, inl, inr, List, [], ◌∷◌, ◌++◌, map, length, Option, None, Some, refl, sym, ap, ◌∙◌, subst, arith, eq-eqb}
+use Rattle.std.proofs.Common.{◌≡◌, ◌≢◌, ℕ, suc, ◌≤◌, inl, inr, List, [], ◌∷◌, ◌++◌, map, Option, None, Some, refl, sym, ap, ◌∙◌, subst, arith, eq-eqb}
 use Rattle.std.specs.Prelude.{is_some, Bool, true, false, cond, ◌==◌}
 use Rattle.std.proofs.lemmas.List.{map-append}
 use Rattle.chain_laws.specs.Chains.{Has, HasNoRepetition}
 use Rattle.chain_laws.proofs.Members.{Has-left, Has-right}
-use Rattle.arena_base.specs.Entries.{index_of, found, without, RisesFrom}
-use Rattle.arena_base.proofs.Finding.{found-gone, found-kept}
+use Rattle.arena_base.specs.Entries.{index_of, found, RisesFrom}
 use Rattle.chain_users.specs.Lists.{Item, Stand, indexes}
 
 module _ {Gen T : Type 0} where
@@ -63,25 +62,3 @@ module _ {Gen T : Type 0} where
       by true same has rest = refl
       by false other (inl is) rest = absurd (let yes = eq-eqb e.0.0 i is in let both = sym yes ∙ other in cc)
       by false other (inr has) rest = rest has
-
-  -- what stands after a removal: nothing at its index, and all else as it was
-  module _ (entry after : ℕ → Option (Gen × T)) (es fs : List (Item Gen T)) (n : ℕ) (rises : RisesFrom 1 es) (was : (i : ℕ) → found i es ≡ entry i) (finds : (i : ℕ) → found i fs ≡ after i) (gone : fs ≡ without n es) where
-    pub entry_gone : after n ≡ None
-    entry_gone = sym (finds n) ∙ (ap (found n) gone ∙ found-gone n 1 es rises)
-
-    pub entry_kept : (i : ℕ) → i ≢ n → after i ≡ entry i
-    entry_kept i other = sym (finds i) ∙ (ap (found i) gone ∙ (found-kept i n es other ∙ was i))
-
-  -- a removal leaves one entry less
-  pub one_less : (i : ℕ) (es : List (Item Gen T)) → is_some (found i es) ≡ true → suc (length (without i es)) ≡ length es
-  one_less i [] some = absurd (let h = some in cc)
-  one_less i (e ∷ es) some = by (e.0.0 == i) refl some (one_less i es)
-    where
-      by : (b : Bool) → (e.0.0 == i) ≡ b → is_some (cond b (Some (e.0.1, e.1)) (found i es)) ≡ true → (is_some (found i es) ≡ true → suc (length (without i es)) ≡ length es)
-          → suc (length (cond b es (e ∷ without i es))) ≡ suc (length es)
-      by true same some rest = refl
-      by false other some rest = ap suc (rest some)
-
--- the same entries show the same at each index
-pub same_entry : {A Gen T : Type 0} (entries : A → List (Item Gen T)) (entry : A → ℕ → Option (Gen × T)) → ((a : A) (i : ℕ) → found i (entries a) ≡ entry a i) → (a b : A) → entries b ≡ entries a → entry b ≡ entry a
-same_entry entries entry looked a b same = λ k i. (sym (looked b i) ∙ (ap (found i) same ∙ looked a i)) k

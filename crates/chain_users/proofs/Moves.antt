@@ -1,8 +1,7 @@
 -- Moves of pointers.
-use Rattle.std.proofs.Common.{◌≡◌, ℕ, List, Contains, Option}
+use Rattle.std.proofs.Common.{ℕ, List, Contains, Option}
 use Rattle.std.proofs.lemmas.List.Elements.{All-contains}
-use Rattle.arena_base.specs.Arena.{IsValid}
-use Rattle.chain_layout.specs.PointerMoves.{ArePointerMoves}
+use Rattle.chain_layout.specs.PointerMoves.{ArePointerMoves, IsPointerMove}
 use Rattle.chain_users.specs.Renumbering.{Move}
 
 -- a move by its keys
@@ -10,9 +9,5 @@ abbrev pub keys_of : {P Gen : Type 0} → (P → ℕ × Gen) → P × P → Move
 keys_of key m = (key m.0, key m.1)
 
 module _ {P Gen T : Type 0} (key : P → ℕ × Gen) (before after : ℕ → Option (Gen × T)) where
-  -- it goes from a pointer that was valid to one that is, with the value
-  abbrev pub Keeps : P × P → Type 0
-  Keeps m = (was : IsValid before (key m.0)) × (is : IsValid after (key m.1)) × (was.value ≡ is.value)
-
-  pub move_keeps : (moves : List (P × P)) (m : P × P) → ArePointerMoves key before after moves → Contains moves m → Keeps m
-  move_keeps moves m moved has = All-contains Keeps moves m moved.values has
+  pub move_keeps : (moves : List (P × P)) (m : P × P) → ArePointerMoves key before after moves → Contains moves m → IsPointerMove key before after m
+  move_keeps moves m moved has = All-contains (IsPointerMove key before after) moves m moved.values has

@@ -5,13 +5,11 @@ use Rattle.std.proofs.lemmas.Bool.{cases_eq}
 use Rattle.chain_laws.specs.Chains.{Shown, Interlinks, linear, last_or, HasLinksWithin, cyclic, IsChain, Has, HasLink, Agrees, next_of, prev_of, prev_in}
 use Rattle.chain_laws.specs.Insertions.{InsertsPairs}
 use Rattle.chain_laws.specs.Removals.{RemovesPairs, removed}
-use Rattle.chain_laws.specs.Exchanges.{exchanged}
 use Rattle.chain_laws.proofs.Exists.{ChainOf, stands_in, has_chain}
 use Rattle.chain_laws.proofs.Turning.{turned_to}
 use Rattle.chain_laws.proofs.Belonging.{lines_end, rings_go_round, members_are_links}
 use Rattle.chain_laws.proofs.Agreement.{one_some}
 use Rattle.chain_laws.proofs.RemovalPairs.{removed_in_pairs}
-use Rattle.chain_laws.proofs.ExchangePairs.{exchanged_in_pairs}
 use Rattle.chain_users.specs.Rings.{GoesRound}
 
 -- what is some, is some item
@@ -58,18 +56,6 @@ round_removed shown q agrees round i has = goes_on (some_item (next_of shown i) 
 
     goes_on : (j : ℕ) × (next_of shown i ≡ Some j) → is_some (next_of (removed shown q) i) ≡ true
     goes_on (j, next) = ⊎_elim (over j next) (λ other. ap is_some ((removes.pairs i j).1 (inl (next, was.1, other)))) (cases_eq j q)
-
--- .. and where what comes after two is exchanged
-pub round_exchanged : (shown : Shown) (p q : ℕ) → Agrees shown → HasLink shown p → HasLink shown q → GoesRound shown → GoesRound (exchanged shown p q)
-round_exchanged shown p q agrees has_p has_q round i has =
-    let pairs = exchanged_in_pairs shown p q agrees has_p has_q in
-    ⊎_elim
-    (λ is_p. let next = some_item (next_of shown q) (round q has_q) in ap is_some ((pairs.pairs i next.0).1 (inr (inl (is_p, next.1)))))
-    (λ not_p. ⊎_elim
-    (λ is_q. let next = some_item (next_of shown p) (round p has_p) in ap is_some ((pairs.pairs i next.0).1 (inr (inr (is_q, next.1)))))
-    (λ not_q. let next = some_item (next_of shown i) (round i ((pairs.links i).0 has)) in ap is_some ((pairs.pairs i next.0).1 (inl (next.1, not_p, not_q))))
-    (cases_eq i q))
-    (cases_eq i p)
 
 -- the last of a list stands in it
 last_in : (xs : List ℕ) (b : ℕ) → (k : ℕ) × (last_or xs (Some b) ≡ Some k) × ((b ≡ k) ⊎ Has xs k)

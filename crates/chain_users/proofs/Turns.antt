@@ -18,15 +18,10 @@ use Rattle.chain_laws.proofs.Backing.{length_among}
 use Rattle.chain_traits.proofs.AnyArena.{found_has}
 use Rattle.chain_users.specs.Lists.{Item, Stand, indexes, IsTurn}
 use Rattle.chain_users.specs.Turns.{Queue, IsAmong, IsCancelled, items_from, put_first, turn_of, turned_once}
-use Rattle.chain_users.proofs.Removing.{HasGone}
+use Rattle.chain_traits.proofs.Removing.{HasGone}
 use Rattle.chain_users.proofs.Lists.{stand-append, stand-left, stand-right, stand-frame, among-left, among-right, stand_kept, stand-some, rises_once, has_found}
 
 module _ {Gen T : Type 0} where
-  -- a queue with no current task has none
-  pub no_turn : (entry : ℕ → Option (Gen × T)) (links : Shown) (turn : List (Item Gen T)) → IsTurn entry links None turn → turn ≡ []
-  no_turn entry links [] is = refl
-  no_turn entry links (e ∷ es) is = let h = is.first in absurd (cc)
-
   -- a task came behind the last in turn
   module _ (entry after : ℕ → Option (Gen × T)) (links changed : Shown) (p : ℕ × Gen) (t : T) (free : entry p.0 ≡ None) (stands : after p.0 ≡ Some (p.1, t)) (rest : (i : ℕ) → i ≢ p.0 → after i ≡ entry i) where
     all_with : (turn : List (Item Gen T)) → ((i : ℕ) → is_some (entry i) ≡ true → Has (indexes turn) i) → (i : ℕ) → is_some (after i) ≡ true → Has (indexes (turn ++ (p, t) ∷ [])) i
@@ -146,14 +141,6 @@ module _ {Gen T : Type 0} where
     pub stays_first : (k q : ℕ × Gen) (t : T) (xs ys : List (Item Gen T)) → IsTurn entry links (Some k) (xs ++ (q, t) ∷ ys) → k ≢ q → Some k ≡ first_key (xs ++ ys)
     stays_first k q t [] ys is other = absurd (other (let first = is.first in cc))
     stays_first k q t (x ∷ xs) ys is other = is.first
-
-    pub some_current : (t : T) (q : ℕ × Gen) (xs ys : List (Item Gen T)) → IsTurn entry links None (xs ++ (q, t) ∷ ys) → ⊥
-    some_current t q [] ys is = let first = is.first in cc
-    some_current t q (x ∷ xs) ys is = let first = is.first in cc
-
-    -- an item of the turn stands
-    pub turn_stands : (current : Option (ℕ × Gen)) (e : Item Gen T) (xs ys : List (Item Gen T)) → IsTurn entry links current (xs ++ e ∷ ys) → entry e.0.0 ≡ Some (e.0.1, e.1)
-    turn_stands current e xs ys is = (stand-right entry xs (e ∷ ys) is.stand).0
 
     pub some_second : (e : Item Gen T) (es : List (Item Gen T)) → None ≡ first_key (es ++ e ∷ []) → ⊥
     some_second e [] none = cc
@@ -301,16 +288,16 @@ module _ {A Gen T : Type 0} (seen : A → Seen Gen T) (entry : A → ℕ → Opt
 
   -- so it is where the call that adds it answers, and else the queue is as it was
   module _ {P E : Type 0} (key : P → ℕ × Gen) (a b : A) (current : Option P) (t : T) where
-    pub record IsAdded (result : Result P E) (next : Option P) : Type 0 where
+    pub record IsTaskAdded (result : Result P E) (next : Option P) : Type 0 where
       pub holds : IsTurn (entry b) (links b) (option_map key next) (turn_in b (option_map key next))
       pub last : IfOk result (λ p. turn_in b (option_map key next) ≡ turn_in a (option_map key current) ++ (key p, t) ∷ [])
       pub err : OnErr result (queue_in b (option_map key next) ≡ queue_in a (option_map key current))
 
     pub task_added : (result : Result P E) → IsTurn (entry a) (links a) (option_map key current) (turn_in a (option_map key current))
         → IfOk result (λ p. (turn : List (Item Gen T)) → IsTurn (entry a) (links a) (option_map key current) turn → IsTurn (entry b) (links b) (option_map key (option_or current (Some p))) (turn ++ (key p, t) ∷ []))
-        → OnErr result (b ≡ a) → IsAdded result (option_or current (result_ok result))
+        → OnErr result (b ≡ a) → IsTaskAdded result (option_or current (result_ok result))
     task_added (Ok p) is comes same = let now = settle b (option_map key (option_or current (Some p))) _ (comes _ is) in record { holds = now.holds; last = now.is_found; err = tt }
-    task_added (Err e) is comes same = subst (IsAdded (Err e)) (sym (as_it_was current)) (record {
+    task_added (Err e) is comes same = subst (IsTaskAdded (Err e)) (sym (as_it_was current)) (record {
       holds = subst (λ (x : A). IsTurn (entry x) (links x) (option_map key current) (turn_in x (option_map key current))) (sym same) is;
       last = tt;
       err = ap (λ (x : A). queue_in x (option_map key current)) same;

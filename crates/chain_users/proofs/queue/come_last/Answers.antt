@@ -1,5 +1,5 @@
 -- A new link before the current one is the last in turn; where there is none, it is a ring of its own.
-use Rattle.chain_users.proofs.Outcomes.{if_ok}
+use Rattle.chain_traits.proofs.Outcomes.{if_ok}
 use Rattle.chain_users.proofs.Turns.{first_comes, last_comes}
 use Rattle.chain_users.proofs.queue.come_last.Goals as goal
 

@@ -4,7 +4,7 @@ use Rattle.std.specs.Prelude.{IfSome, is_some}
 use Rattle.chain_laws.specs.Chains.{next_of}
 use Rattle.chain_laws.proofs.Standing.{prev_valid}
 use Rattle.arena_base.specs.Arena.{IsValid}
-use Rattle.chain_users.proofs.Looking.{looked, none_looked}
+use Rattle.chain_traits.proofs.Looking.{looked, none_looked}
 use Rattle.chain_users.proofs.ties.after.Goals as goal
 
 pub returns-in-Some-clause-some : goal.returns-in-Some-clause-some

@@ -2,7 +2,7 @@
 use Rattle.std.proofs.Common.{refl}
 use Rattle.chain_laws.specs.Chains.{linear}
 use Rattle.chain_laws.specs.Insertions.{disconnected}
-use Rattle.chain_users.proofs.Outcomes.{if_ok}
+use Rattle.chain_traits.proofs.Outcomes.{if_ok}
 use Rattle.chain_users.proofs.Changes.{keeps_others}
 use Rattle.chain_users.proofs.documents.Documents.begin.Goals as goal
 

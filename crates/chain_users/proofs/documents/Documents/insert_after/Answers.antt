@@ -5,7 +5,7 @@ use Rattle.arena_base.specs.Arena.{IsValid}
 use Rattle.chain_laws.specs.Chains.{linear, HasLink}
 use Rattle.chain_laws.specs.Insertions.{next_to}
 use Rattle.chain_traits.proofs.AnyArena.{some_valid}
-use Rattle.chain_users.proofs.Outcomes.{if_ok}
+use Rattle.chain_traits.proofs.Outcomes.{if_ok}
 use Rattle.chain_users.proofs.Changes.{comes_after, keeps_others}
 use Rattle.chain_users.proofs.documents.Documents.insert_after.Given.{Over}
 use Rattle.chain_users.proofs.documents.Documents.insert_after.Goals as goal

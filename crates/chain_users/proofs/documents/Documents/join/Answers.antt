@@ -1,7 +1,7 @@
 -- The end of one text and the start of another are tied.
 use Rattle.std.proofs.Common.{ap, ◌∙◌}
-use Rattle.chain_users.proofs.Lists.{same_entry}
-use Rattle.chain_users.proofs.Outcomes.{on_some, either_some}
+use Rattle.chain_traits.proofs.Removing.{same_entry}
+use Rattle.chain_traits.proofs.Outcomes.{on_some, either_some}
 use Rattle.chain_users.proofs.Texts.{joins, keeps_joined}
 use Rattle.chain_users.proofs.documents.Documents.join.Goals as goal
 

@@ -1,6 +1,6 @@
 -- The paragraph is set apart, and put after the other.
 use Rattle.std.proofs.Common.{ap, ◌∙◌}
-use Rattle.chain_users.proofs.Lists.{same_entry}
+use Rattle.chain_traits.proofs.Removing.{same_entry}
 use Rattle.chain_users.proofs.Moving.{moved_after, keeps_moved}
 use Rattle.chain_users.proofs.documents.Documents.move_after.Goals as goal
 

@@ -1,7 +1,7 @@
 -- The link after a paragraph is that of the next one in its text.
 use Rattle.std.proofs.Common.{◌∙◌, ap}
 use Rattle.std.specs.Option.{option_map}
-use Rattle.chain_users.proofs.Outcomes.{if_mapped}
+use Rattle.chain_traits.proofs.Outcomes.{if_mapped}
 use Rattle.chain_users.proofs.Texts.{goes_on, in_a_text, with_next}
 use Rattle.chain_users.proofs.documents.Documents.next.Goals as goal
 

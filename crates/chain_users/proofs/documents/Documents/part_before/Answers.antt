@@ -2,8 +2,8 @@
 use Rattle.std.proofs.Common.{ap, ◌∙◌}
 use Rattle.chain_laws.specs.Chains.{prev_of}
 use Rattle.chain_laws.specs.Cuts.{Cuts}
-use Rattle.chain_users.proofs.Lists.{same_entry}
-use Rattle.chain_users.proofs.Outcomes.{on_some, either_some}
+use Rattle.chain_traits.proofs.Removing.{same_entry}
+use Rattle.chain_traits.proofs.Outcomes.{on_some, either_some}
 use Rattle.chain_users.proofs.Texts.{Breaks, breaks, begins_with, keeps_begun}
 use Rattle.chain_users.proofs.documents.Documents.part_before.Given.{Over}
 use Rattle.chain_users.proofs.documents.Documents.part_before.Goals.{After-break_prev}

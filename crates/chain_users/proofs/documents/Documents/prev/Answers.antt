@@ -1,7 +1,7 @@
 -- The link before a paragraph is that of the previous one in its text.
 use Rattle.std.proofs.Common.{◌∙◌, ap}
 use Rattle.std.specs.Option.{option_map}
-use Rattle.chain_users.proofs.Outcomes.{if_mapped}
+use Rattle.chain_traits.proofs.Outcomes.{if_mapped}
 use Rattle.chain_users.proofs.Texts.{comes_from, in_a_text, with_prev}
 use Rattle.chain_users.proofs.documents.Documents.prev.Goals as goal
 

@@ -1,5 +1,5 @@
 -- What came after the other paragraph is cut off, and both ends are joined to this one.
-use Rattle.chain_users.proofs.Outcomes.{from_mapped}
+use Rattle.chain_traits.proofs.Outcomes.{from_mapped}
 use Rattle.chain_users.proofs.Moving.{put_after, keeps_put}
 use Rattle.chain_users.proofs.documents.Documents.put_after.Goals as goal
 

@@ -3,8 +3,8 @@ use Rattle.std.proofs.Common.{◌≡◌, ap, ◌∙◌}
 use Rattle.std.specs.Prelude.{◌↔◌, IsSome}
 use Rattle.arena_base.specs.Arena.{IsValid}
 use Rattle.chain_traits.proofs.AnyArena.{some_valid}
-use Rattle.chain_users.proofs.Lists.{same_entry}
-use Rattle.chain_users.proofs.Outcomes.{either_some}
+use Rattle.chain_traits.proofs.Removing.{same_entry}
+use Rattle.chain_traits.proofs.Outcomes.{either_some}
 use Rattle.chain_users.proofs.Rings.{can_exchange, cuts_in_two, merges, keeps_exchanged, exchanged_itself}
 use Rattle.chain_users.proofs.mesh.Mesh.exchange.Given.{Over}
 use Rattle.chain_users.proofs.mesh.Mesh.exchange.Goals.{After-exchange_next}

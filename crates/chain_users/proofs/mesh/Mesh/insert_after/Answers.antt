@@ -4,7 +4,7 @@ use Rattle.std.specs.Prelude.{is_some}
 use Rattle.chain_laws.specs.Chains.{cyclic}
 use Rattle.chain_laws.specs.Insertions.{next_to}
 use Rattle.chain_traits.proofs.AnyArena.{some_valid}
-use Rattle.chain_users.proofs.Outcomes.{if_ok}
+use Rattle.chain_traits.proofs.Outcomes.{if_ok}
 use Rattle.chain_users.proofs.Changes.{comes_after, keeps_others}
 use Rattle.chain_users.proofs.mesh.Mesh.insert_after.Goals as goal
 

@@ -1,17 +1,18 @@
 -- The removed link leaves its ring.
 use Rattle.std.proofs.Common.{refl, sym, subst}
 use Rattle.chain_laws.specs.Chains.{cyclic}
-use Rattle.chain_users.proofs.Removing.{IsRemoval, removal, value_told, gone_of, less_of, same_of, kept_of, leaves_of, keeps_of, round_of}
+use Rattle.chain_traits.proofs.Removing.{TakesEntry, removal, value_told, gone_of, less_of, same_of, kept_of}
+use Rattle.chain_users.proofs.Removing.{leaves_of, keeps_of, round_of}
 use Rattle.chain_users.proofs.mesh.Mesh.remove.Given.{Over}
 use Rattle.chain_users.proofs.mesh.Mesh.remove.Goals.{After-allow}
 use Rattle.chain_users.proofs.mesh.Mesh.remove.Goals as goal
 
-it : (g : Over) (c : After-allow g) → IsRemoval g.A.ArenaTrait.seen g.A.ArenaTrait.entry g.A.ChainArenaTrait.interlinks c.self.inside.corners c.remove.new.self (g.P.PtrKey.key c.args.corner) c.allow.result
+it : (g : Over) (c : After-allow g) → TakesEntry g.A.ArenaTrait.seen g.A.ArenaTrait.entry g.A.ChainArenaTrait.interlinks c.self.inside.corners c.remove.new.self (g.P.PtrKey.key c.args.corner) c.allow.result
 it g c =
     let old = c.self.inside.corners in
     let new = c.remove.new.self in
     let p = g.P.PtrKey.key c.args.corner in
-    subst (IsRemoval g.A.ArenaTrait.seen g.A.ArenaTrait.entry g.A.ChainArenaTrait.interlinks old new p) (sym c.allow.ensures)
+    subst (TakesEntry g.A.ArenaTrait.seen g.A.ArenaTrait.entry g.A.ChainArenaTrait.interlinks old new p) (sym c.allow.ensures)
     (removal g.A.ArenaTrait.seen g.A.ArenaTrait.entry g.A.ChainArenaTrait.interlinks g.met.A.ArenaTrait.rises g.met.A.ArenaTrait.looked_up old new p _ _ c.remove.ensures.some c.remove.ensures.valid c.remove.ensures.invalid
     (λ valid. g.met.A.ChainArenaTrait.passed_over old new p.0 (c.remove.ensures.more valid)) c.agrees.ensures)
 

@@ -1,6 +1,6 @@
 -- Where there is room for two more the same stands, and is linked.
 use Rattle.std.proofs.Common.{◌+◌, ◌∙◌, ap, refl, length, arith}
-use Rattle.chain_users.proofs.Lists.{same_entry}
+use Rattle.chain_traits.proofs.Removing.{same_entry}
 use Rattle.chain_users.proofs.Rings.{ring_seen}
 use Rattle.chain_users.proofs.mesh.Mesh.split.Goals as goal
 

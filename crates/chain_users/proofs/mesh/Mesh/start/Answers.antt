@@ -3,7 +3,7 @@ use Rattle.std.proofs.Common.{refl, sym, subst}
 use Rattle.chain_laws.specs.Chains.{cyclic}
 use Rattle.chain_laws.specs.Insertions.{single_link_cyclic}
 use Rattle.chain_users.specs.Rings.{GoesRound}
-use Rattle.chain_users.proofs.Outcomes.{if_ok, either_ok}
+use Rattle.chain_traits.proofs.Outcomes.{if_ok, either_ok}
 use Rattle.chain_users.proofs.Changes.{keeps_others}
 use Rattle.chain_users.proofs.Rounds.{round_inserted}
 use Rattle.chain_users.proofs.mesh.Mesh.start.Goals as goal

@@ -4,8 +4,8 @@ use Rattle.std.specs.Option.{option_map}
 use Rattle.std.specs.Prelude.{is_some, true}
 use Rattle.chain_users.specs.Lists.{Item, IsTurn}
 use Rattle.chain_users.specs.Turns.{Queue, IsAmong, IsCancelled}
-use Rattle.chain_users.proofs.Outcomes.{on_none}
-use Rattle.chain_users.proofs.Removing.{IsRemoval, removal}
+use Rattle.chain_traits.proofs.Outcomes.{on_none}
+use Rattle.chain_traits.proofs.Removing.{TakesEntry, removal}
 use Rattle.chain_users.proofs.Turns.{IsLeft, no_task, task_goes, queue_in, turn_in}
 use Rattle.chain_users.proofs.queue.RunQueue.cancel.Goals.{After-allow, After-from_residual-in_err-task, After-self-1}
 use Rattle.chain_users.proofs.queue.RunQueue.cancel.Given.{Over}
@@ -15,12 +15,12 @@ use Rattle.chain_users.proofs.queue.RunQueue.cancel.Goals as goal
 abbrev turn : (g : Over) → g.row.A.Denot → Option g.row.P.Denot → List (Item g.row.P-Gen.Denot g.row.T.Denot)
 turn g a current = turn_in g.A.ArenaTrait.seen g.A.ArenaTrait.entry g.A.ChainArenaTrait.interlinks g.met.A.ArenaTrait.rises g.met.A.ArenaTrait.looked_up a (option_map g.P.PtrKey.key current)
 
-it : (g : Over) (c : After-allow g) → IsRemoval g.A.ArenaTrait.seen g.A.ArenaTrait.entry g.A.ChainArenaTrait.interlinks c.self.inside.tasks c.remove.new.self (g.P.PtrKey.key c.args.p) c.allow.result
+it : (g : Over) (c : After-allow g) → TakesEntry g.A.ArenaTrait.seen g.A.ArenaTrait.entry g.A.ChainArenaTrait.interlinks c.self.inside.tasks c.remove.new.self (g.P.PtrKey.key c.args.p) c.allow.result
 it g c =
     let old = c.self.inside.tasks in
     let new = c.remove.new.self in
     let p = g.P.PtrKey.key c.args.p in
-    subst (IsRemoval g.A.ArenaTrait.seen g.A.ArenaTrait.entry g.A.ChainArenaTrait.interlinks old new p) (sym c.allow.ensures)
+    subst (TakesEntry g.A.ArenaTrait.seen g.A.ArenaTrait.entry g.A.ChainArenaTrait.interlinks old new p) (sym c.allow.ensures)
     (removal g.A.ArenaTrait.seen g.A.ArenaTrait.entry g.A.ChainArenaTrait.interlinks g.met.A.ArenaTrait.rises g.met.A.ArenaTrait.looked_up old new p _ _ c.remove.ensures.some c.remove.ensures.valid c.remove.ensures.invalid
     (λ valid. g.met.A.ChainArenaTrait.passed_over old new p.0 (c.remove.ensures.more valid)) c.agrees.ensures)
 

@@ -2,7 +2,7 @@
 use Rattle.std.proofs.Common.{◌∙◌, ap}
 use Rattle.std.specs.Option.{option_map}
 use Rattle.chain_users.specs.Turns.{Queue}
-use Rattle.chain_users.proofs.Turns.{IsAdded, task_added, has_room, valid_current}
+use Rattle.chain_users.proofs.Turns.{IsTaskAdded, task_added, has_room, valid_current}
 use Rattle.chain_users.proofs.queue.RunQueue.spawn.Given.{Over}
 use Rattle.chain_users.proofs.queue.RunQueue.spawn.Goals.{After-or-self-inside}
 use Rattle.chain_users.proofs.queue.RunQueue.spawn.Goals as goal
@@ -10,7 +10,7 @@ use Rattle.chain_users.proofs.queue.RunQueue.spawn.Goals as goal
 pub come_last-added-requires : goal.come_last-added-requires
 come_last-added-requires g c = valid_current (g.A.ArenaTrait.entry c.self.inside.tasks) (g.A.ChainArenaTrait.interlinks c.self.inside.tasks) g.P.PtrKey.key c.self.inside.current _ c.self.invariant
 
-it : (g : Over) (c : After-or-self-inside g) → IsAdded g.A.ArenaTrait.seen g.A.ArenaTrait.entry g.A.ChainArenaTrait.interlinks g.met.A.ArenaTrait.rises g.met.A.ArenaTrait.looked_up g.P.PtrKey.key c.self.inside.tasks c.come_last-added.new.tasks c.self.inside.current c.args.task c.come_last-added.result c.or-self-inside.result
+it : (g : Over) (c : After-or-self-inside g) → IsTaskAdded g.A.ArenaTrait.seen g.A.ArenaTrait.entry g.A.ChainArenaTrait.interlinks g.met.A.ArenaTrait.rises g.met.A.ArenaTrait.looked_up g.P.PtrKey.key c.self.inside.tasks c.come_last-added.new.tasks c.self.inside.current c.args.task c.come_last-added.result c.or-self-inside.result
 it g c = rw (c.or-self-inside.ensures, c.ok.ensures.value) (task_added g.A.ArenaTrait.seen g.A.ArenaTrait.entry g.A.ChainArenaTrait.interlinks g.met.A.ArenaTrait.rises g.met.A.ArenaTrait.looked_up g.P.PtrKey.key c.self.inside.tasks c.come_last-added.new.tasks c.self.inside.current c.args.task
     c.come_last-added.result c.self.invariant c.come_last-added.ensures.last c.come_last-added.ensures.err)
 

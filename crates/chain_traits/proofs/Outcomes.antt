@@ -23,16 +23,6 @@ pub if_ok : {R E : Type 0} {X Z : R → Type 0} (o : Result R E) → IfOk o X �
 if_ok (Ok r) x so = so r x
 if_ok (Err e) x so = tt
 
--- what holds always holds on `Some` ..
-pub on_any : {R : Type 0} {Z : R → Type 0} (o : Option R) → ((r : R) → Z r) → IfSome o Z
-on_any None so = tt
-on_any (Some r) so = so r
-
--- .. also what holds where it is that
-pub on_known : {R Z : Type 0} (o : Option R) → (is_some o ≡ true → Z) → OnSome o Z
-on_known None so = tt
-on_known (Some r) so = so refl
-
 -- a call that answered, or left all as it was
 pub either_ok : {R E Y W Z : Type 0} {X : R → Type 0} (o : Result R E) → IfOk o X → OnOk o Y → OnErr o W → ((r : R) → X r → Y → Z) → (W → Z) → Z
 either_ok (Ok r) x y w so else_so = so r x y
@@ -47,11 +37,6 @@ either_some (Some r) x y so else_so = so refl x
 pub holds : {R Z : Type 0} (o : Option R) → is_some o ≡ true → OnSome o Z → Z
 holds None some z = absurd (let h = some in cc)
 holds (Some r) some z = z
-
--- what follows of what holds on an answer, and of that there is one, holds on it
-pub on_both_some : {R X Y Z : Type 0} (o : Option R) → OnSome o X → OnSome o Y → (is_some o ≡ true → X → Y → Z) → OnSome o Z
-on_both_some None x y so = tt
-on_both_some (Some r) x y so = so refl x y
 
 -- what holds of what a function makes of an answer, and back
 pub if_mapped : {R S : Type 0} (X : S → Type 0) (f : R → S) (o : Option R) → IfSome (option_map f o) X → IfSome o (λ r. X (f r))
