@@ -2,12 +2,13 @@ ghost use Rattle.std.specs.Prelude.{◌≡◌};
 ghost use Rattle.chain_links.specs.Kinds.{names_in, named_in, name_of};
 
 use arena_ptr::{InxKey, PtrKey};
+use std::alloc::AllocError;
 
 /// Where a new link comes, beside links that are named by pointers of a type `P` or by indexes of a type `I`.
 ///
 /// A link that is named by a pointer has to be valid, one that is named by an index has to stand there, whatever its
 /// generation: in all else the two forms of a kind are the same.
-#[derive(Clone, Copy, Debug, PartialEq, Eq)]
+#[derive(Copy, Debug, PartialEq, Eq)]
 pub enum InsertKindBody<P, I> {
     /// The new link is a linear chain of its own. This asks nothing.
     Disconnected,
@@ -61,6 +62,19 @@ pub enum InsertKindBody<P, I> {
     },
 }
 
+// A clone is a copy, for which no kind has to be taken apart.
+impl<P: Copy, I: Copy> Clone for InsertKindBody<P, I> {
+    ghost use Rattle.std.specs.Prelude.{◌≡◌, ⊤};
+
+    ghost is_clone = { λ k m. m ≡ k };
+
+    ghost is_infallible = { λ _. ⊤ };
+
+    fn clone(&self) -> Result<Self, AllocError> {
+        Ok(*self)
+    }
+}
+
 /// The kinds of insertion.
 ///
 /// Carries `LinkInsertKind` of `triple_arena`.
@@ -74,7 +88,7 @@ pub enum Name<P, I> {
 }
 
 /// A kind of insertion by what names the links: the two forms of a kind are one.
-#[derive(Clone, Copy)]
+#[derive(Copy)]
 pub enum NamedKind<N> {
     Disconnected,
     SingleLinkCyclic,
@@ -84,6 +98,18 @@ pub enum NamedKind<N> {
     PrevTo(N),
     AtInterlink(N, N),
     Bridge(N, N),
+}
+
+impl<N: Copy> Clone for NamedKind<N> {
+    ghost use Rattle.std.specs.Prelude.{◌≡◌, ⊤};
+
+    ghost is_clone = { λ k m. m ≡ k };
+
+    ghost is_infallible = { λ _. ⊤ };
+
+    fn clone(&self) -> Result<Self, AllocError> {
+        Ok(*self)
+    }
 }
 
 /// The index of the link that is named.
