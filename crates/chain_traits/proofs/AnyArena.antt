@@ -10,6 +10,7 @@ use Rattle.chain_laws.specs.Chains as chains
 use Rattle.chain_laws.specs.Chains.{Shown, Interlinks, Agrees, Has}
 use Rattle.chain_laws.specs.Starts.{IsBack}
 use Rattle.chain_laws.proofs.Backing.{back_is_short}
+use Rattle.arena_base.specs.Arena.{IsValid}
 use Rattle.arena_base.specs.Entries.{found, first_key, index_of, RisesFrom}
 use Rattle.arena_base.specs.Advancing.{from_index, IsLookUntilNone}
 use Rattle.arena_base.specs.declared.look.Look.{Look}
@@ -84,6 +85,10 @@ module _ {Gen T : Type 0} (interlinks : Shown) (entry : ℕ → Option (Gen × T
 
   pub entry_valid : (i : ℕ) (e : Gen × T) → entry i ≡ Some e → chains.HasLink interlinks i
   entry_valid i e there = some_valid i (ap is_some there)
+
+  -- what a valid pointer is of is a link
+  pub valid_link : (p : ℕ × Gen) → IsValid entry p → chains.HasLink interlinks p.0
+  valid_link p valid = entry_valid p.0 (p.1, valid.value) valid.stands
 
   module _ (greatest : ℕ) (within : All (λ e. IsWithin greatest (index_of e)) es) where
     pub links_within : chains.HasLinksWithin interlinks greatest

@@ -1,9 +1,8 @@
 -- There is room, so a corner comes.
-use Rattle.std.proofs.Common.{refl, ap}
-use Rattle.std.specs.Prelude.{is_some}
+use Rattle.std.proofs.Common.{refl}
 use Rattle.chain_laws.specs.Chains.{cyclic}
 use Rattle.chain_laws.specs.Insertions.{next_to}
-use Rattle.chain_traits.proofs.AnyArena.{some_valid}
+use Rattle.chain_traits.proofs.AnyArena.{valid_link}
 use Rattle.chain_users.proofs.Rounds.{round_after}
 use Rattle.chain_users.proofs.Changes.{comes_after, keeps_others}
 use Rattle.chain_users.proofs.mesh.add_after.Goals as goal
@@ -33,7 +32,7 @@ pub returns-clause-round : goal.returns-clause-round
 returns-clause-round g c =
     let a = c.args.corners.now in
     let v = g.P.PtrKey.key c.args.v in
-    round_after (g.A.ChainArenaTrait.interlinks a) (g.A.ChainArenaTrait.interlinks c.insert.new.self) (g.P.PtrKey.key c.in-Ok.p).0 v.0 c.in-Ok.ensures.inserted.pairs (some_valid (g.A.ChainArenaTrait.interlinks a) (g.A.ArenaTrait.entry a) (g.A.ArenaTrait.seen a).entries (g.met.A.ChainArenaTrait.stand a) (g.met.A.ArenaTrait.looked_up a) v.0 (ap is_some c.requires.valid.stands))
+    round_after (g.A.ChainArenaTrait.interlinks a) (g.A.ChainArenaTrait.interlinks c.insert.new.self) (g.P.PtrKey.key c.in-Ok.p).0 v.0 c.in-Ok.ensures.inserted.pairs (valid_link (g.A.ChainArenaTrait.interlinks a) (g.A.ArenaTrait.entry a) (g.A.ArenaTrait.seen a).entries (g.met.A.ChainArenaTrait.stand a) (g.met.A.ArenaTrait.looked_up a) v c.requires.valid)
 
 pub unreachable-requires : goal.unreachable-requires
 unreachable-requires g c = absurd (let succeeds = (c.in-Err.ensures.room c.requires.room).0 in cc)

@@ -1,9 +1,8 @@
 -- There is room, so a corner comes.
-use Rattle.std.proofs.Common.{refl, ap}
-use Rattle.std.specs.Prelude.{is_some}
+use Rattle.std.proofs.Common.{refl}
 use Rattle.chain_laws.specs.Chains.{cyclic}
 use Rattle.chain_laws.specs.Insertions.{prev_to}
-use Rattle.chain_traits.proofs.AnyArena.{some_valid, links_within}
+use Rattle.chain_traits.proofs.AnyArena.{valid_link, links_within}
 use Rattle.chain_users.proofs.Rounds.{round_before}
 use Rattle.chain_users.proofs.Changes.{comes_before, keeps_others}
 use Rattle.chain_users.proofs.mesh.add_before.Goals as goal
@@ -35,7 +34,7 @@ returns-clause-round g c =
     let u = g.P.PtrKey.key c.args.u in
     round_before (g.A.ChainArenaTrait.interlinks a) (g.A.ChainArenaTrait.interlinks c.insert.new.self) _ (g.P.PtrKey.key c.in-Ok.p).0 u.0 c.in-Ok.ensures.inserted.pairs c.insert.ensures.agreed
     (links_within (g.A.ChainArenaTrait.interlinks a) (g.A.ArenaTrait.entry a) (g.A.ArenaTrait.seen a).entries (g.met.A.ChainArenaTrait.stand a) (g.met.A.ArenaTrait.looked_up a) _ c.len.ensures.indexes)
-    (some_valid (g.A.ChainArenaTrait.interlinks a) (g.A.ArenaTrait.entry a) (g.A.ArenaTrait.seen a).entries (g.met.A.ChainArenaTrait.stand a) (g.met.A.ArenaTrait.looked_up a) u.0 (ap is_some c.requires.valid.stands))
+    (valid_link (g.A.ChainArenaTrait.interlinks a) (g.A.ArenaTrait.entry a) (g.A.ArenaTrait.seen a).entries (g.met.A.ChainArenaTrait.stand a) (g.met.A.ArenaTrait.looked_up a) u c.requires.valid)
 
 pub unreachable-requires : goal.unreachable-requires
 unreachable-requires g c = absurd (let succeeds = (c.in-Err.ensures.room c.requires.room).0 in cc)

@@ -1,9 +1,8 @@
 -- The new corner comes after the other in its ring, and stands in no other ring.
-use Rattle.std.proofs.Common.{refl, ap}
-use Rattle.std.specs.Prelude.{is_some}
+use Rattle.std.proofs.Common.{refl}
 use Rattle.chain_laws.specs.Chains.{cyclic}
 use Rattle.chain_laws.specs.Insertions.{next_to}
-use Rattle.chain_traits.proofs.AnyArena.{some_valid}
+use Rattle.chain_traits.proofs.AnyArena.{valid_link}
 use Rattle.chain_traits.proofs.Outcomes.{if_ok}
 use Rattle.chain_users.proofs.Changes.{comes_after, keeps_others}
 use Rattle.chain_users.proofs.mesh.Mesh.insert_after.Goals as goal
@@ -21,7 +20,7 @@ returns-clause-others g c = rw (← c.self.view_is) (if_ok c.insert_reallocating
 pub returns-clause-room : goal.returns-clause-room
 returns-clause-room g c =
     let a = c.self.inside.corners in
-    rw (← c.self.view_is) (λ valid. c.insert_reallocating.ensures.room (valid, some_valid (g.A.ChainArenaTrait.interlinks a) (g.A.ArenaTrait.entry a) (g.A.ArenaTrait.seen a).entries (g.met.A.ChainArenaTrait.stand a) (g.met.A.ArenaTrait.looked_up a) (g.P.PtrKey.key c.args.corner).0 (ap is_some valid.stands)))
+    rw (← c.self.view_is) (λ valid. c.insert_reallocating.ensures.room (valid, valid_link (g.A.ChainArenaTrait.interlinks a) (g.A.ArenaTrait.entry a) (g.A.ArenaTrait.seen a).entries (g.met.A.ChainArenaTrait.stand a) (g.met.A.ArenaTrait.looked_up a) (g.P.PtrKey.key c.args.corner) valid))
 
 pub returns-clause-corner : goal.returns-clause-corner
 returns-clause-corner g c = rw (← c.self.view_is) (if_ok c.insert_reallocating.result c.insert_reallocating.ensures.inserted (λ q came. came.entries))
