@@ -33,6 +33,7 @@ use Rattle.chain_arena.specs.Steps.{ConnectStep, BreakPrevStep, BreakNextStep, E
 use Rattle.chain_links.specs.declared.kinds.InsertKindBody.{InsertKindBody}
 use Rattle.chain_links.specs.declared.links.LinkBody.{LinkBody}
 use Rattle.chain_arena.proofs.Deciding.{Stable}
+use Rattle.chain_arena.proofs.Placing.{AnswersInsertion}
 use Rattle.chain_arena.proofs.Draining.{shown-without_each, link_at-entry}
 use Rattle.chain_links.proofs.Mapping.{entry_at-with_each}
 
