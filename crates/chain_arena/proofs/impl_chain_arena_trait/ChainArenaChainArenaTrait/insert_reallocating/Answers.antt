@@ -4,16 +4,15 @@ use Rattle.chain_arena.proofs.impl_chain_arena_trait.ChainArenaChainArenaTrait.i
 use Rattle.chain_arena.proofs.impl_chain_arena_trait.ChainArenaChainArenaTrait.insert_reallocating.Goals.{After-insert_at}
 use Rattle.chain_arena.proofs.impl_chain_arena_trait.ChainArenaChainArenaTrait.insert_reallocating.Goals as goal
 
-pub insert_at-requires : goal.insert_at-requires
-insert_at-requires g c =
-    let key = g.P.PtrKey.key in
-    let number = g.P.Inx.InxKey.number in
-    let greatest = g.P.Inx.InxKey.greatest in
-    let reach = g.S.SlotStack.may_reach in
-    let asked = c.gap_growing-asked in record {
-      gap = growing_fits key number reach greatest c.args.self.now asked.new.self c.args.kind asked.result asked.ensures.agreed asked.ensures.place;
-      room = growing_room key number reach greatest c.args.self.now asked.new.self c.args.kind asked.result asked.ensures.place;
-    }
+pub insert_at-requires-clause-gap : goal.insert_at-requires-clause-gap
+insert_at-requires-clause-gap g c =
+    let asked = c.gap_growing-asked in
+    growing_fits g.P.PtrKey.key g.P.Inx.InxKey.number g.S.SlotStack.may_reach g.P.Inx.InxKey.greatest c.args.self.now asked.new.self c.args.kind asked.result asked.ensures.agreed asked.ensures.place
+
+pub insert_at-requires-clause-room : goal.insert_at-requires-clause-room
+insert_at-requires-clause-room g c =
+    let asked = c.gap_growing-asked in
+    growing_room g.P.PtrKey.key g.P.Inx.InxKey.number g.S.SlotStack.may_reach g.P.Inx.InxKey.greatest c.args.self.now asked.new.self c.args.kind asked.result asked.ensures.place
 
 told : (g : Over) (c : After-insert_at g) → TellsGrowing g.P.PtrKey.key g.P.Inx.InxKey.number c.args.self.now c.args.kind c.args.t c.insert_at.new.self g.S.SlotStack.may_reach g.P.Inx.InxKey.greatest c.insert_at.result
 told g c =

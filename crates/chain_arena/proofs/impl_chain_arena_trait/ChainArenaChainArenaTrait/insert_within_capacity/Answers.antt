@@ -4,13 +4,15 @@ use Rattle.chain_arena.proofs.impl_chain_arena_trait.ChainArenaChainArenaTrait.i
 use Rattle.chain_arena.proofs.impl_chain_arena_trait.ChainArenaChainArenaTrait.insert_within_capacity.Goals.{After-insert_at}
 use Rattle.chain_arena.proofs.impl_chain_arena_trait.ChainArenaChainArenaTrait.insert_within_capacity.Goals as goal
 
-pub insert_at-requires : goal.insert_at-requires
-insert_at-requires g c =
-    let number = g.P.Inx.InxKey.number in
-    let asked = c.gap_within-asked in record {
-      gap = within_fits g.P.PtrKey.key number c.args.self.now c.args.kind asked.result asked.ensures.agree asked.ensures.place;
-      room = within_room g.P.PtrKey.key number c.args.self.now c.args.kind asked.result asked.ensures.place;
-    }
+pub insert_at-requires-clause-gap : goal.insert_at-requires-clause-gap
+insert_at-requires-clause-gap g c =
+    let asked = c.gap_within-asked in
+    within_fits g.P.PtrKey.key g.P.Inx.InxKey.number c.args.self.now c.args.kind asked.result asked.ensures.agree asked.ensures.place
+
+pub insert_at-requires-clause-room : goal.insert_at-requires-clause-room
+insert_at-requires-clause-room g c =
+    let asked = c.gap_within-asked in
+    within_room g.P.PtrKey.key g.P.Inx.InxKey.number c.args.self.now c.args.kind asked.result asked.ensures.place
 
 told : (g : Over) (c : After-insert_at g) → TellsWithin g.P.PtrKey.key g.P.Inx.InxKey.number c.args.self.now c.args.kind c.args.t c.insert_at.new.self c.insert_at.result
 told g c =
