@@ -6,7 +6,7 @@ use crate::tests::scripts::{Answers, Call, Script, plays};
 use std::alloc::Global;
 use std::process::Abort;
 
-static EACH: [Script; 3] = [
+const EACH: [Script; 3] = [
     (
         "the births of the trait",
         &[
@@ -33,7 +33,7 @@ static EACH: [Script; 3] = [
             (Call::Reserve(3), "Ok(())"),
             (Call::Insert(10), "Ok(1.2)"),
             (Call::InsertWithin(20), "Ok(2.2)"),
-            (Call::Enter(30), "Ok(3.2)"),
+            (Call::Enter(Some(30)), "Ok(3.2)"),
             (Call::Get(2, 2), "Some(20)"),
             (Call::Get(3, 2), "Some(30)"),
             (Call::Slots, "3"),
@@ -45,8 +45,7 @@ static EACH: [Script; 3] = [
             (Call::Generation, "2"),
             // Those of the trait, over the entries 10, 20 and 30 at 1, 2 and 3, which are removed.
             (Call::HasRoom(3), "true"),
-            (Call::First, "Some(1.2)"),
-            (Call::Last, "Some(3.2)"),
+            (Call::Ends, "(Some(1.2), Some(3.2))"),
             (Call::Len, "3"),
             (Call::IsEmpty, "false"),
             (Call::Counter, "Some(2)"),
@@ -60,12 +59,12 @@ static EACH: [Script; 3] = [
             (Call::Get(1, 2), "Some(11)"),
             (Call::Get(3, 2), "Some(31)"),
             (Call::Held, "[(1.2, 11), (2.2, 20), (3.2, 31)]"),
-            (Call::Advance, "Some(1.2)"),
+            (Call::Advance, "(Some(1.2), Some(2.2), Some(3.2))"),
             (
                 Call::AdvanceFrom(3, true),
                 "(Some(3.2), Some(2.2), Some(1.2))",
             ),
-            (Call::AdvanceEmpty, "None"),
+            (Call::AdvanceEmpty, "(None, None, None)"),
             (Call::Invalidate(1, 2), "Success(1.3)"),
             (Call::Contains(1, 3), "true"),
             (Call::Contains(1, 2), "false"),
@@ -85,14 +84,17 @@ static EACH: [Script; 3] = [
     ),
 ];
 
-// All tables. A body of its own names them, since each step of a body lists what the body names.
-fn tables() -> [&'static [Script]; 5] {
-    [&EACH, &NEXTS, &COMPACTORS, &COMPRESSIONS, &COPY]
+// All tables: one constant, since each step of a body lists all that each constant holds which the body names.
+static TABLES: [&[Script]; 5] = [&EACH, &NEXTS, &COMPACTORS, &COMPRESSIONS, &COPY];
+
+// .. and a body of its own that names it.
+fn tables() -> &'static [&'static [Script]] {
+    &TABLES
 }
 
 // Each script on an arena of this type.
 pub(super) fn check_scripts<A: Answers + Drop>(rt: &impl Abort, alloc: Global) {
-    for table in &tables() {
+    for table in tables() {
         plays::<A>(rt, alloc, table);
     }
 }

@@ -1,7 +1,7 @@
 // What a compactor and a compression move, show, count and leave.
-use crate::tests::scripts::{Call, Script};
+use crate::tests::scripts::{Call, Ending, Script};
 
-pub(super) static COMPACTORS: [Script; 4] = [
+pub(super) const COMPACTORS: [Script; 4] = [
     (
         "the compactor closes a hole",
         &[
@@ -10,12 +10,17 @@ pub(super) static COMPACTORS: [Script; 4] = [
             (Call::Insert(30), "Ok(3.2)"),
             (Call::Remove(1, 2), "Success(10)"),
             (
-                Call::Move(3, 1, 3),
-                "((3, true), Work { placed: 1, touched: 1 })",
+                Call::Compact(3, 1, 3, Ending::Finish),
+                "((3, Some(30)), Some(Work { placed: 1, touched: 1 }))",
             ),
             (Call::Held, "[(1.3, 30), (2.2, 20)]"),
             (Call::Get(1, 3), "Some(30)"),
             (Call::Get(2, 2), "Some(20)"),
+            // Nothing stands at 3 any more, and a look at it counts.
+            (
+                Call::Compact(3, 1, 3, Ending::Finish),
+                "((2, None), Some(Work { placed: 0, touched: 1 }))",
+            ),
             (Call::Insert(40), "Ok(3.3)"),
         ],
     ),
@@ -27,7 +32,7 @@ pub(super) static COMPACTORS: [Script; 4] = [
             (Call::Insert(30), "Ok(3.2)"),
             (Call::Remove(1, 2), "Success(10)"),
             (Call::Remove(2, 2), "Success(20)"),
-            (Call::DropCompactor, "()"),
+            (Call::Compact(1, 2, 9, Ending::Drop), "((3, None), None)"),
             (Call::Insert(40), "Ok(1.4)"),
             (Call::Insert(50), "Ok(2.4)"),
         ],
@@ -40,7 +45,7 @@ pub(super) static COMPACTORS: [Script; 4] = [
             (Call::Insert(30), "Ok(3.2)"),
             (Call::Remove(1, 2), "Success(10)"),
             (Call::Remove(2, 2), "Success(20)"),
-            (Call::ForgetCompactor, "()"),
+            (Call::Compact(1, 2, 9, Ending::Forget), "((3, None), None)"),
             (Call::Len, "0"),
             (Call::Generation, "4"),
             (Call::Insert(60), "Ok(1.4)"),
@@ -52,16 +57,16 @@ pub(super) static COMPACTORS: [Script; 4] = [
         &[
             (Call::Insert(10), "Ok(1.2)"),
             (
-                Call::Rewrite(1, 2, 11),
-                "([Some(10), None, Some(10)], Work { placed: 0, touched: 3 })",
+                Call::Compact(1, 2, 9, Ending::Write(11)),
+                "((1, Some(10)), Some(Work { placed: 0, touched: 2 }))",
             ),
             (Call::Get(1, 2), "Some(11)"),
-            (Call::AdvanceEmpty, "None"),
+            (Call::AdvanceEmpty, "(None, None, None)"),
         ],
     ),
 ];
 
-pub(super) static COMPRESSIONS: [Script; 6] = [
+pub(super) const COMPRESSIONS: [Script; 5] = [
     // Each entry gets the counter, the next index is behind them, and the old pointers are not valid.
     (
         "a hole is closed",
@@ -149,20 +154,6 @@ pub(super) static COMPRESSIONS: [Script; 6] = [
             (Call::Get(1, 8), "Some(6)"),
             (Call::Get(254, 8), "Some(251)"),
             (Call::Insert(7), "Ok(255.8)"),
-        ],
-    ),
-    (
-        "a closure numbers the values",
-        &[
-            (Call::Insert(7), "Ok(1.2)"),
-            (Call::Insert(8), "Ok(2.2)"),
-            (Call::Insert(9), "Ok(3.2)"),
-            (
-                Call::NumberValues(false),
-                "(Success(()), [(1.2, 7, 1.3), (2.2, 8, 2.3), (3.2, 9, 3.3)])",
-            ),
-            (Call::Compress(true), "Success(())"),
-            (Call::Entries, "[(1.2, 1), (2.2, 2), (3.2, 3)]"),
         ],
     ),
 ];

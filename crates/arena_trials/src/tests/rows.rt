@@ -1,13 +1,9 @@
 // Which index and generation comes next, up to the greatest index and the greatest generation.
 use crate::tests::pointers::BarePtr;
-use crate::tests::scripts::{Answers, Call, Script, runs};
-use crate::tests::tools::{same, text};
+use crate::tests::scripts::{Call, Script, plays};
 use arena_base::Arena;
-use arena_ptr::InvalidationResult;
-use std::alloc::Global;
-use std::process::Abort;
 
-pub(super) static NEXTS: [Script; 7] = [
+pub(super) const NEXTS: [Script; 7] = [
     (
         "last freed first used",
         &[
@@ -40,12 +36,9 @@ pub(super) static NEXTS: [Script; 7] = [
         "all entries by rising index",
         &[
             (Call::InsertMany(5), "5"),
-            (Call::First, "Some(1.2)"),
+            (Call::Ends, "(Some(1.2), Some(5.2))"),
             (Call::Remove(1, 2), "Success(0)"),
-            (
-                Call::TakeAll,
-                "Ok([(2.2, 1), (3.2, 2), (4.2, 3), (5.2, 4)])",
-            ),
+            (Call::TakeAll, "[(2.2, 1), (3.2, 2), (4.2, 3), (5.2, 4)]"),
             (Call::IsEmpty, "true"),
         ],
     ),
@@ -57,7 +50,7 @@ pub(super) static NEXTS: [Script; 7] = [
             (Call::Capacity, "255"),
             (Call::Insert(255), "Err(AllocError)"),
             (Call::InsertWithin(255), "Err(NotWithinCapacityError)"),
-            (Call::Enter(255), "Err(NotWithinCapacityError)"),
+            (Call::Enter(Some(255)), "Err(NotWithinCapacityError)"),
             (Call::Reserve(256), "Err(AllocError)"),
             (Call::Len, "255"),
         ],
@@ -86,7 +79,7 @@ pub(super) static NEXTS: [Script; 7] = [
             (Call::Remove(1, 2), "GenerationOverflow(7)"),
             (Call::Generation, "2"),
             (Call::Remove(1, 2), "InvalidPtr"),
-            (Call::Clear, "Success(())"),
+            (Call::ClearInRoom, "(Success(()), Ok(()), true)"),
             (Call::Generation, "2"),
         ],
     ),
@@ -94,8 +87,8 @@ pub(super) static NEXTS: [Script; 7] = [
         "a dropped place changes nothing",
         &[
             (Call::Reserve(2), "Ok(())"),
-            (Call::DropPlace(true), "Some(1.2)"),
-            (Call::DropPlace(false), "Some(1.2)"),
+            (Call::Enter(None), "Ok(1.2)"),
+            (Call::Enter(None), "Ok(1.2)"),
             (Call::Len, "0"),
             (Call::Contains(1, 2), "false"),
             (Call::InsertWithin(7), "Ok(1.2)"),
@@ -103,34 +96,29 @@ pub(super) static NEXTS: [Script; 7] = [
     ),
 ];
 
-// An index is used again under the same pointer, and five entries are taken out.
-fn check_reuse<A: Answers + Drop>(rt: &impl Abort, alloc: Global) {
-    let mut arena = A::fresh(alloc);
-    for k in 0..300u32 {
-        let p = arena.answer(alloc, Call::Insert(k));
-        same(rt, "the pointer", p.as_str(), "Ok(1.0)");
-        let gone = arena.answer(alloc, Call::Remove(1, 0));
-        let want = text(alloc, InvalidationResult::Success(k));
-        same(rt, "the value", gone.as_str(), want.as_str());
-    }
-    runs(
-        rt,
-        alloc,
-        "five entries",
-        &mut arena,
-        &[
-            (Call::InsertMany(5), "5"),
-            (
-                Call::TakeAll,
-                "Ok([(1.0, 0), (2.0, 1), (3.0, 2), (4.0, 3), (5.0, 4)])",
-            ),
-            (Call::IsEmpty, "true"),
-        ],
-    );
-}
+// An index is used again under the same pointer, no removal overflows, and five entries are taken out.
+static REUSED: [Script; 1] = [(
+    "pointers without generations",
+    &[
+        (Call::Insert(6), "Ok(1.0)"),
+        (Call::Remove(1, 0), "Success(6)"),
+        (Call::Insert(7), "Ok(1.0)"),
+        (Call::Remove(1, 0), "Success(7)"),
+        (Call::InsertMany(255), "255"),
+        (Call::Remove(9, 0), "Success(8)"),
+        (Call::Insert(8), "Ok(9.0)"),
+        (Call::ClearInRoom, "(Success(()), Ok(()), true)"),
+        (Call::InsertMany(5), "5"),
+        (
+            Call::TakeAll,
+            "[(1.0, 0), (2.0, 1), (3.0, 2), (4.0, 3), (5.0, 4)]",
+        ),
+        (Call::IsEmpty, "true"),
+    ],
+)];
 
 // Pointers to indexes alone.
 #[test]
 fn pointers_without_generations(rt: HostRuntime) {
-    check_reuse::<Arena<BarePtr, u32>>(&rt, rt.alloc());
+    plays::<Arena<BarePtr, u32>>(&rt, rt.alloc(), &REUSED);
 }

@@ -1,12 +1,21 @@
 // Calls of arenas as rows of tables, each with the text of its answer.
-use crate::tests::generic::take_all;
+use crate::tests::copies::copied_hole;
 use crate::tests::pointers::Numbered;
-use crate::tests::tools::{at, index, same, text};
-use arena_base::{Advancer, ArenaTrait};
-use arena_ptr::{InvalidationOption, PtrKey, ReallocationError};
+use crate::tests::tools::{Slot, at, index, same, text};
+use arena_base::{Advancer, ArenaCloneFromWith, ArenaTrait};
+use arena_ptr::{HeapStack, InvalidationOption, PtrKey, ReallocationError};
 use std::alloc::Global;
 use std::mem;
 use std::process::Abort;
+
+// What becomes of a compactor: it ends, once more after a value is written, or is dropped, or forgotten.
+#[derive(Clone, Copy)]
+pub(super) enum Ending {
+    Finish,
+    Write(u32),
+    Drop,
+    Forget,
+}
 
 // A call on an arena. A pointer is its index and its generation.
 #[derive(Clone, Copy)]
@@ -23,9 +32,9 @@ pub(super) enum Call {
     Contains(u8, u8),
     Get(u8, u8),
     GetInx(u8),
-    First,
-    Last,
-    // The first answer of an advancer, the first three of one from an index on, and that of an empty one.
+    // The first entry's pointer and the last one's.
+    Ends,
+    // The first three answers of an advancer, of one from an index on, and of an empty one.
     Advance,
     AdvanceFrom(u8, bool),
     AdvanceEmpty,
@@ -37,22 +46,18 @@ pub(super) enum Call {
     Invalidate(u8, u8),
     Remove(u8, u8),
     RemoveInx(u8),
-    Clear,
     // A clear, after which there is asked for as much room as there was: both answers, and whether the capacity stays.
     ClearInRoom,
-    // A compression, and one by a closure that adds the number of its call to each value, or writes it over each value:
-    // its answer, and what it saw.
+    // A compression, and one by a closure that adds the number of its call to each value: its answer, and what it saw.
     Compress(bool),
     CompressWith(bool),
-    NumberValues(bool),
     Reserve(usize),
     // Calls of the arena itself.
     Insert(u32),
     InsertMany(u32),
     InsertWithin(u32),
-    Enter(u32),
-    // A place for an entry that is dropped by a call, or where its scope ends: its pointer.
-    DropPlace(bool),
+    // A place for an entry that gets a value, or is dropped: its pointer.
+    Enter(Option<u32>),
     Generation,
     SetGeneration(u8),
     IncGeneration,
@@ -61,13 +66,11 @@ pub(super) enum Call {
     // Takes the entries out by an advancer, or with the arena.
     TakeAll,
     Drain,
-    // Calls of a compactor: a move to an index with a generation, a write after looks at two indexes, and none.
-    Move(u8, u8, u8),
-    Rewrite(u8, u8, u32),
-    DropCompactor,
-    ForgetCompactor,
+    // A compactor: a look at an index, a move of its entry to another index with a generation where that is one of the slots,
+    // and how it ends.
+    Compact(u8, u8, u8, Ending),
     // A copy of the entries 1, 2 and 3, of which the second is removed, by a closure that adds the number of its call to
-    // ten times each value: how many entries there are, and how many calls there were.
+    // ten times each value: its answer, how many entries there are, and how many calls there were.
     CopyHole,
 }
 
@@ -122,20 +125,41 @@ fn thrice<P: PtrKey, C, A: Advancer<C, Item = P>>(mut advancer: A, collection: &
     )
 }
 
-// Compresses an arena, adds to each value which call of the closure it was, or writes that alone, and lists what the
-// closure saw.
+// .. of one that looks by rising index, of one from an index on, or of an empty one.
+fn advanced<P: PtrKey, A: ArenaTrait<P, u32>>(arena: &A, call: Call, i: P::Inx) -> Three<P> {
+    match call {
+        Call::AdvanceFrom(_, rev) => thrice(arena.advancer_inx(i, rev), arena),
+        Call::AdvanceEmpty => thrice(A::PtrAdvancer::empty(), arena),
+        _ => thrice(arena.advancer(), arena),
+    }
+}
+
+// Takes entries out by one advancer, as many as there are, and lists them as it meets them.
+fn taken<P: PtrKey, A: ArenaTrait<P, u32>>(alloc: Global, arena: &mut A) -> Vec<(P, u32)> {
+    let mut entries = Vec::new(alloc);
+    let mut advancer = arena.advancer();
+    for _ in 0..arena.len() {
+        if let Some(p) = advancer.advance(arena)
+            && let Some((_, t)) = arena.remove_inx(p.inx()).allow()
+        {
+            let _ = entries.push((p, t));
+        }
+    }
+    entries
+}
+
+// Compresses an arena, adds to each value which call of the closure it was, and lists what the closure saw.
 fn compressed<P: PtrKey, A: ArenaTrait<P, u32>>(
     alloc: Global,
     arena: &mut A,
     reset: bool,
-    adds: bool,
 ) -> (InvalidationOption<()>, Vec<(P, u32, P)>) {
     let mut seen = Vec::new(alloc);
     let mut calls = 0u32;
     let answer = arena.compress_with(reset, |from: P, t: &mut u32, to: P| {
         let _ = seen.push((from, *t, to));
         calls = calls.saturating_add(1);
-        *t = if adds { t.saturating_add(calls) } else { calls };
+        *t = t.saturating_add(calls);
     });
     (answer, seen)
 }
@@ -180,15 +204,12 @@ fn walk_answer<P: Numbered, A: ArenaTrait<P, u32>>(
     p: P,
 ) -> String {
     match call {
-        Call::First => text(alloc, arena.find_first_inx_ptr()),
-        Call::Last => text(alloc, arena.find_last_inx_ptr()),
-        Call::Advance => text(alloc, arena.advancer().advance(arena)),
-        Call::AdvanceFrom(_, rev) => {
-            text(alloc, thrice(arena.advancer_inx(p.inx(), rev), arena))
+        Call::Ends => {
+            let ends = (arena.find_first_inx_ptr(), arena.find_last_inx_ptr());
+            text(alloc, ends)
         }
-        Call::AdvanceEmpty => text(alloc, A::PtrAdvancer::empty().advance(arena)),
         Call::Held => text(alloc, listed(alloc, arena)),
-        _ => text(alloc, "no call of the trait"),
+        _ => text(alloc, advanced(arena, call, p.inx())),
     }
 }
 
@@ -239,25 +260,28 @@ fn whole_change_answer<P: Numbered, A: ArenaTrait<P, u32> + Drop>(
     p: P,
 ) -> String {
     match call {
-        Call::Clear => text(alloc, arena.clear()),
         Call::ClearInRoom => text(alloc, cleared(arena)),
         Call::Compress(reset) => text(alloc, arena.compress(reset)),
-        Call::CompressWith(reset) => text(alloc, compressed(alloc, arena, reset, true)),
-        Call::NumberValues(reset) => text(alloc, compressed(alloc, arena, reset, false)),
+        Call::CompressWith(reset) => text(alloc, compressed(alloc, arena, reset)),
         Call::Reserve(n) => text(alloc, arena.reallocate_min_capacity(n)),
-        Call::TakeAll => text(alloc, take_all(alloc, arena)),
+        Call::TakeAll => text(alloc, taken(alloc, arena)),
         other => look_answer(alloc, arena, other, p),
     }
 }
 
-// .. the pointer of which is named.
-pub(super) fn trait_answer<P: Numbered, A: ArenaTrait<P, u32> + Drop>(
+// .. the pointer of which is named, or to a copy.
+pub(super) fn trait_answer<P: Numbered, A: ArenaCloneFromWith<P, u32> + Drop>(
     alloc: Global,
     arena: &mut A,
     call: Call,
 ) -> String {
-    let (i, g) = named(call);
-    change_answer(alloc, arena, call, at(i, g))
+    match call {
+        Call::CopyHole => text(alloc, copied_hole::<P, HeapStack<Slot<P>>, A>(alloc, arena)),
+        other => {
+            let (i, g) = named(other);
+            change_answer(alloc, arena, other, at(i, g))
+        }
+    }
 }
 
 // An arena that answers calls.
@@ -277,7 +301,7 @@ pub(super) fn runs<A: Answers>(
 ) {
     for (call, want) in rows {
         let got = arena.answer(alloc, *call);
-        same(rt, name, got.as_str(), *want);
+        same(rt, name, got.as_str(), want);
     }
 }
 
