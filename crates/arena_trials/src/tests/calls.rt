@@ -1,12 +1,17 @@
 // Each call once: those of the trait through the trait, and the arena's own.
-use crate::tests::compressions::{COMPACTORS, COMPRESSIONS};
-use crate::tests::copies::COPY;
-use crate::tests::rows::NEXTS;
+use crate::tests::compressions::{compactors, compressions};
+use crate::tests::copies::copy;
+use crate::tests::rows::nexts;
 use crate::tests::scripts::{Answers, Call, Script, plays};
 use std::alloc::Global;
 use std::process::Abort;
 
-const EACH: [Script; 3] = [
+// A body of its own names each table, since each step of a body lists all that the tables hold which it names.
+fn each() -> &'static [Script] {
+    &EACH
+}
+
+static EACH: [Script; 3] = [
     (
         "the births of the trait",
         &[
@@ -84,17 +89,11 @@ const EACH: [Script; 3] = [
     ),
 ];
 
-// All tables: one constant, since each step of a body lists all that each constant holds which the body names.
-static TABLES: [&[Script]; 5] = [&EACH, &NEXTS, &COMPACTORS, &COMPRESSIONS, &COPY];
-
-// .. and a body of its own that names it.
-fn tables() -> &'static [&'static [Script]] {
-    &TABLES
-}
-
-// Each script on an arena of this type.
+// Each script of a table on an arena of this type.
 pub(super) fn check_scripts<A: Answers + Drop>(rt: &impl Abort, alloc: Global) {
-    for table in tables() {
-        plays::<A>(rt, alloc, table);
-    }
+    plays::<A>(rt, alloc, each());
+    plays::<A>(rt, alloc, nexts());
+    plays::<A>(rt, alloc, compactors());
+    plays::<A>(rt, alloc, compressions());
+    plays::<A>(rt, alloc, copy());
 }

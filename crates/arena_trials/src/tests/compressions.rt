@@ -1,7 +1,11 @@
 // What a compactor and a compression move, show, count and leave.
 use crate::tests::scripts::{Call, Ending, Script};
 
-pub(super) const COMPACTORS: [Script; 4] = [
+pub(super) fn compactors() -> &'static [Script] {
+    &COMPACTORS
+}
+
+static COMPACTORS: [Script; 4] = [
     (
         "the compactor closes a hole",
         &[
@@ -58,7 +62,7 @@ pub(super) const COMPACTORS: [Script; 4] = [
             (Call::Insert(10), "Ok(1.2)"),
             (
                 Call::Compact(1, 2, 9, Ending::Write(11)),
-                "((1, Some(10)), Some(Work { placed: 0, touched: 2 }))",
+                "((1, Some(11)), Some(Work { placed: 0, touched: 2 }))",
             ),
             (Call::Get(1, 2), "Some(11)"),
             (Call::AdvanceEmpty, "(None, None, None)"),
@@ -66,7 +70,11 @@ pub(super) const COMPACTORS: [Script; 4] = [
     ),
 ];
 
-pub(super) const COMPRESSIONS: [Script; 5] = [
+pub(super) fn compressions() -> &'static [Script] {
+    &COMPRESSIONS
+}
+
+static COMPRESSIONS: [Script; 5] = [
     // Each entry gets the counter, the next index is behind them, and the old pointers are not valid.
     (
         "a hole is closed",

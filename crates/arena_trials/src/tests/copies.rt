@@ -30,8 +30,12 @@ pub(super) fn copied_hole<P: Numbered, R: SlotStack<Item = Slot<P>>, A: ArenaClo
     (answer, arena.len(), calls)
 }
 
+pub(super) fn copy() -> &'static [Script] {
+    &COPY
+}
+
 // The copy has the indexes, generations and freed list, and what it held is gone.
-pub(super) const COPY: [Script; 1] = [(
+static COPY: [Script; 1] = [(
     "a copy keeps the freed list",
     &[
         (Call::InsertMany(9), "9"),

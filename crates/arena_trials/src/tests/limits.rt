@@ -3,7 +3,7 @@ use crate::tests::calls::check_scripts;
 use crate::tests::pointers::{Numbered, SmallPtr};
 use crate::tests::scripts::{Answers, Call, Script, plays, runs};
 use crate::tests::stacks::Rationed;
-use crate::tests::tools::Slot;
+use crate::tests::tools::{Slot, equal};
 use arena_base::{Arena, ArenaSlot, ArenaTrait};
 use arena_ptr::{
     HeapStack, LimitStack, LimitedStack, MaxCapacityReductionError, PtrKey, SetMaxCapacity,
@@ -50,9 +50,10 @@ fn check_limited<A: Answers + SetMaxCapacity + Drop>(rt: &impl Abort, alloc: Glo
     check_scripts::<A>(rt, alloc);
     for (name, rows) in &WITHIN {
         let mut arena = A::fresh(alloc);
-        assert!(rt; arena.set_max_capacity(2) == Ok(()));
+        equal(rt, name, arena.set_max_capacity(2), Ok(()));
         runs(rt, alloc, name, &mut arena, rows);
-        assert!(rt; arena.set_max_capacity(1) == Err(MaxCapacityReductionError));
+        let less = arena.set_max_capacity(1);
+        equal(rt, "less", less, Err(MaxCapacityReductionError));
         runs(rt, alloc, name, &mut arena, &USED_UP);
     }
 }
@@ -69,19 +70,28 @@ fn hand_many<P: PtrKey, S: SlotStack<Item = Shared<P>>>(
     }
 }
 
-// .. to one with a maximum, and looks how many it holds: there are those, and the one that they are shared from.
-fn check_values<P: PtrKey, S: LimitStack<Item = Shared<P>>>(
+// .. to one with a maximum, and tells how many it holds and how many there are.
+fn handed<P: PtrKey, S: LimitStack<Item = Shared<P>>>(
     rt: &impl Abort,
     alloc: Global,
     most: usize,
-    held: usize,
-) {
+) -> (usize, usize) {
     let value = Rc::new(alloc, 5).ok().expect(rt, "memory");
     let mut arena: Arena<P, Rc<u8>, S> = Arena::new(alloc);
-    assert!(rt; arena.set_max_capacity(most).is_ok());
+    let _ = arena.set_max_capacity(most);
     hand_many(rt, &mut arena, &value);
-    assert!(rt; arena.len() == held);
-    assert!(rt; Rc::strong_count(&value) == held.saturating_add(1));
+    (arena.len(), Rc::strong_count(&value))
+}
+
+// A value that an insertion refuses is dropped: there are those in the arena, and the one that they are shared from.
+fn check_values<P: PtrKey, S: LimitStack<Item = Shared<P>>>(rt: &impl Abort, alloc: Global) {
+    equal(rt, "two values", handed::<P, S>(rt, alloc, 2), (2, 3));
+    equal(
+        rt,
+        "all values",
+        handed::<P, S>(rt, alloc, 1000),
+        (255, 256),
+    );
 }
 
 // The first request for memory is refused, and so is every other one after it: a call that is refused has asked once.
@@ -94,7 +104,8 @@ static EVERY_OTHER: [Script; 1] = [(
         (Call::Insert(2), "Ok(2.2)"),
         (Call::Reserve(3), "Err(AllocError)"),
         (Call::Reserve(3), "Ok(())"),
-        (Call::CopyHole, "(Ok(()), 2, 2)"),
+        // .. of two more of the three insertions into what is copied too.
+        (Call::CopyHole, "(Ok(()), 1, 1)"),
         (Call::Reserve(9), "Err(AllocError)"),
         (Call::Capacity, "4"),
         (Call::Born(3), "None"),
@@ -112,8 +123,7 @@ fn check_arenas<
     check_scripts::<Arena<P, u32, H>>(rt, alloc);
     check_limited::<Arena<P, u32, L>>(rt, alloc);
     plays::<Arena<P, u32, Rationed<H>>>(rt, alloc, &EVERY_OTHER);
-    check_values::<P, V>(rt, alloc, 2, 2);
-    check_values::<P, V>(rt, alloc, 1000, 255);
+    check_values::<P, V>(rt, alloc);
 }
 
 #[test]

@@ -1,5 +1,5 @@
 // The calls that an arena has of its own, as rows of tables. What they need knows no type of pointers and of slots.
-ghost use Rattle.std.specs.Prelude.{◌≡◌, ◌≤◌, ◌↔◌, IsTrue, IsSome};
+ghost use Rattle.std.specs.Prelude.{◌≤◌, ◌↔◌, IsTrue, IsSome};
 ghost use Rattle.arena_base.specs.Arena.{slot_at};
 
 use crate::tests::entries::enter;
@@ -54,53 +54,57 @@ fn is_within<I: InxKey>(i: I, slots: usize) -> bool
     }
 }
 
-// The value at an index of slots that are looked into.
-fn peeked<P: PtrKey, C: SlotAccess<P, u32>>(slots: &mut C, i: P::Inx) -> Option<u32>
-    ensures held { C.held slots.new ≡ C.held slots.old }
-    ensures some { IsSome result ↔ IsSome (slot_at (C.held slots.old).slots (P.Inx.number i)) }
+// The value at an index of slots that are looked into, over which another may be written before.
+fn looked<P: PtrKey, C: SlotAccess<P, u32>>(slots: &mut C, i: P::Inx, ending: Ending) -> Option<u32>
+    ensures { IsSome result ↔ IsSome (slot_at (C.held slots.new).slots (P.Inx.number i)) }
 {
+    if let Ending::Write(value) = ending {
+        overwritten(slots.value_mut(i), value);
+    }
     match slots.peek(i) {
         Some((_, t)) => Some(*t),
         None => None,
     }
 }
 
-// The number of slots, and the value at an index, whose entry is moved where another index is one of the slots.
+// .. and the number of slots. An entry there is moved where another index is one of the slots.
 fn moved<P: PtrKey, S: SlotStack<Item = Slot<P>>>(
     compactor: &mut Compactor<'_, P, u32, S>,
     from: P::Inx,
     to: P::Inx,
     generation: P::Gen,
+    ending: Ending,
 ) -> (usize, Option<u32>) {
+    let value = looked(compactor, from, ending);
     let slots = compactor.slots();
-    let value = peeked(compactor, from);
     if value.is_some() && is_within(from, slots) && is_within(to, slots) {
         compactor.place(from, to, generation);
     }
     (slots, value)
 }
 
-// .. by a compactor that ends so, and what it counted, where it tells that.
-fn compacted<P: PtrKey, S: SlotStack<Item = Slot<P>>>(
+// What a compactor of an arena shows, and what it counted, where it tells that.
+fn compacted<P: Numbered, S: SlotStack<Item = Slot<P>>>(
     arena: &mut Arena<P, u32, S>,
-    from: P::Inx,
-    to: P::Inx,
-    generation: P::Gen,
+    (from, to, generation): (u8, u8, u8),
     ending: Ending,
 ) -> ((usize, Option<u32>), Option<Work>) {
+    let (from, to) = (index::<P>(from), index::<P>(to));
     let mut compactor = arena.compactor();
-    let seen = moved(&mut compactor, from, to, generation);
+    let seen = moved(
+        &mut compactor,
+        from,
+        to,
+        P::generation_of(generation),
+        ending,
+    );
     match ending {
-        Ending::Finish => (seen, Some(compactor.finish())),
-        Ending::Write(value) => {
-            overwritten(compactor.value_mut(from), value);
-            (seen, Some(compactor.finish()))
-        }
         Ending::Drop => (seen, None),
         Ending::Forget => {
             mem::forget(compactor);
             (seen, None)
         }
+        _ => (seen, Some(compactor.finish())),
     }
 }
 
@@ -132,13 +136,7 @@ fn whole_answer<P: Numbered, S: SlotStack<Item = Slot<P>>>(
         Call::IncGeneration => text(alloc, arena.inc_generation()),
         Call::Entries => iterated(alloc, arena),
         Call::Drain => drained(alloc, arena),
-        Call::Compact(from, to, g, ending) => {
-            let (from, to) = (index::<P>(from), index::<P>(to));
-            text(
-                alloc,
-                compacted(arena, from, to, P::generation_of(g), ending),
-            )
-        }
+        Call::Compact(from, to, g, ending) => text(alloc, compacted(arena, (from, to, g), ending)),
         other => given_answer(alloc, arena, other),
     }
 }
@@ -149,7 +147,7 @@ fn given_answer<P: Numbered, S: SlotStack<Item = Slot<P>>>(
     arena: &mut Arena<P, u32, S>,
     call: Call,
 ) -> String {
-    trait_answer(alloc, arena, call)
+    trait_answer::<P, S, Arena<P, u32, S>>(alloc, arena, call)
 }
 
 impl<P: Numbered, S: SlotStack<Item = Slot<P>>> Answers for Arena<P, u32, S> {

@@ -3,7 +3,11 @@ use crate::tests::pointers::BarePtr;
 use crate::tests::scripts::{Call, Script, plays};
 use arena_base::Arena;
 
-pub(super) const NEXTS: [Script; 7] = [
+pub(super) fn nexts() -> &'static [Script] {
+    &NEXTS
+}
+
+static NEXTS: [Script; 7] = [
     (
         "last freed first used",
         &[
@@ -38,7 +42,7 @@ pub(super) const NEXTS: [Script; 7] = [
             (Call::InsertMany(5), "5"),
             (Call::Ends, "(Some(1.2), Some(5.2))"),
             (Call::Remove(1, 2), "Success(0)"),
-            (Call::TakeAll, "[(2.2, 1), (3.2, 2), (4.2, 3), (5.2, 4)]"),
+            (Call::Drain, "[(2.2, 1), (3.2, 2), (4.2, 3), (5.2, 4)]"),
             (Call::IsEmpty, "true"),
         ],
     ),
@@ -110,7 +114,7 @@ static REUSED: [Script; 1] = [(
         (Call::ClearInRoom, "(Success(()), Ok(()), true)"),
         (Call::InsertMany(5), "5"),
         (
-            Call::TakeAll,
+            Call::Drain,
             "[(1.0, 0), (2.0, 1), (3.0, 2), (4.0, 3), (5.0, 4)]",
         ),
         (Call::IsEmpty, "true"),

@@ -3,7 +3,7 @@ use crate::tests::copies::copied_hole;
 use crate::tests::pointers::Numbered;
 use crate::tests::tools::{Slot, at, index, same, text};
 use arena_base::{Advancer, ArenaCloneFromWith, ArenaTrait};
-use arena_ptr::{HeapStack, InvalidationOption, PtrKey, ReallocationError};
+use arena_ptr::{InvalidationOption, PtrKey, ReallocationError, SlotStack};
 use std::alloc::Global;
 use std::mem;
 use std::process::Abort;
@@ -63,8 +63,7 @@ pub(super) enum Call {
     IncGeneration,
     Slots,
     Entries,
-    // Takes the entries out by an advancer, or with the arena.
-    TakeAll,
+    // Takes the entries out with the arena.
     Drain,
     // A compactor: a look at an index, a move of its entry to another index with a generation where that is one of the slots,
     // and how it ends.
@@ -132,20 +131,6 @@ fn advanced<P: PtrKey, A: ArenaTrait<P, u32>>(arena: &A, call: Call, i: P::Inx) 
         Call::AdvanceEmpty => thrice(A::PtrAdvancer::empty(), arena),
         _ => thrice(arena.advancer(), arena),
     }
-}
-
-// Takes entries out by one advancer, as many as there are, and lists them as it meets them.
-fn taken<P: PtrKey, A: ArenaTrait<P, u32>>(alloc: Global, arena: &mut A) -> Vec<(P, u32)> {
-    let mut entries = Vec::new(alloc);
-    let mut advancer = arena.advancer();
-    for _ in 0..arena.len() {
-        if let Some(p) = advancer.advance(arena)
-            && let Some((_, t)) = arena.remove_inx(p.inx()).allow()
-        {
-            let _ = entries.push((p, t));
-        }
-    }
-    entries
 }
 
 // Compresses an arena, adds to each value which call of the closure it was, and lists what the closure saw.
@@ -264,19 +249,18 @@ fn whole_change_answer<P: Numbered, A: ArenaTrait<P, u32> + Drop>(
         Call::Compress(reset) => text(alloc, arena.compress(reset)),
         Call::CompressWith(reset) => text(alloc, compressed(alloc, arena, reset)),
         Call::Reserve(n) => text(alloc, arena.reallocate_min_capacity(n)),
-        Call::TakeAll => text(alloc, taken(alloc, arena)),
         other => look_answer(alloc, arena, other, p),
     }
 }
 
-// .. the pointer of which is named, or to a copy.
-pub(super) fn trait_answer<P: Numbered, A: ArenaCloneFromWith<P, u32> + Drop>(
-    alloc: Global,
-    arena: &mut A,
-    call: Call,
-) -> String {
+// .. the pointer of which is named, or to a copy of an arena over such a stack.
+pub(super) fn trait_answer<
+    P: Numbered,
+    R: SlotStack<Item = Slot<P>>,
+    A: ArenaCloneFromWith<P, u32> + Drop,
+>(alloc: Global, arena: &mut A, call: Call) -> String {
     match call {
-        Call::CopyHole => text(alloc, copied_hole::<P, HeapStack<Slot<P>>, A>(alloc, arena)),
+        Call::CopyHole => text(alloc, copied_hole::<P, R, A>(alloc, arena)),
         other => {
             let (i, g) = named(other);
             change_answer(alloc, arena, other, at(i, g))

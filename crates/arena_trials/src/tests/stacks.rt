@@ -1,5 +1,5 @@
 // Slot stacks through their bounds: filled, refused, edited, limited.
-use crate::tests::tools::{same, text};
+use crate::tests::tools::{equal, same, text};
 use arena_ptr::{
     ChunkStack, HeapStack, LimitStack, LimitedStack, ReallocationError, SetMaxCapacity, SlotStack,
 };
@@ -379,22 +379,27 @@ static EDITS: [(Edit, Option<u32>); 9] = [
 // .. of which each edit answers its item.
 fn edits<S: SlotStack<Item = u32>>(rt: &impl Abort, stack: &mut S) {
     for (edit, want) in &EDITS {
-        assert!(rt; edited(stack, *edit) == *want);
+        equal(rt, "an edit", edited(stack, *edit), *want);
     }
 }
 
 // A stack that is filled in so few growths, and edited, which leaves as much room.
 fn check_edits<S: SlotStack<Item = u32>>(rt: &impl Abort, alloc: Global, few: u64) {
     let mut stack = S::new(alloc);
-    assert!(rt; shape(&stack) == (0, 0, None) && stack.get(0).is_none());
-    assert!(rt; fill(&mut stack, 1000) <= few && stack.len() == 1000);
+    equal(
+        rt,
+        "nothing",
+        (shape(&stack), read(&stack, 0)),
+        ((0, 0, None), None),
+    );
+    equal(rt, "few growths", fill(&mut stack, 1000) <= few, true);
     let capacity = stack.capacity();
     edits(rt, &mut stack);
     let left = text(alloc, held(alloc, &stack));
     same(rt, "what is left", left.as_str(), "[999, 70, 2, 80]");
-    assert!(rt; shape(&stack) == (4, capacity, None));
+    equal(rt, "as much room", shape(&stack), (4, capacity, None));
     stack.truncate(0);
-    assert!(rt; shape(&stack) == (0, capacity, None));
+    equal(rt, "as much still", shape(&stack), (0, capacity, None));
 }
 
 // Whether there is room for so many, once it is asked for.
@@ -406,11 +411,14 @@ fn has_grown<S: SlotStack<Item = u32>>(stack: &mut S, n: usize) -> bool {
 fn check_growth<S: SlotStack<Item = u32>>(rt: &impl Abort, alloc: Global, one: usize) {
     let mut stack = S::new(alloc);
     fill(&mut stack, 1);
-    assert!(rt; shape(&stack) == (1, one, None));
-    assert!(rt; has_grown(&mut stack, 100) && fill(&mut stack, 2) == 0);
+    equal(rt, "room for one", shape(&stack), (1, one, None));
+    equal(rt, "far", has_grown(&mut stack, 100), true);
+    equal(rt, "no growth", fill(&mut stack, 2), 0);
     let before = shape(&stack);
-    assert!(rt; stack.reserve_to(usize::MAX) == Err(ReallocationError::AllocError));
-    assert!(rt; shape(&stack) == before && has_grown(&mut stack, 1000));
+    let refused = answer_to(&mut stack, Call::Reserve(usize::MAX));
+    equal(rt, "refused", refused, Err(ReallocationError::AllocError));
+    equal(rt, "unchanged", shape(&stack), before);
+    equal(rt, "farther", has_grown(&mut stack, 1000), true);
     let left = text(alloc, held(alloc, &stack));
     same(rt, "what is held", left.as_str(), "[0, 0, 1]");
 }
@@ -473,8 +481,9 @@ static IN_BLOCKS: [(Call, &str); 5] = [
 fn check_blocks<S: SlotStack<Item = u32>>(rt: &impl Abort, stack: &mut S) {
     let grown = stack.reserve_to(300);
     let want = if grown.is_ok() { 320 } else { 0 };
-    assert!(rt; shape(stack) == (0, want, None));
-    assert!(rt; stack.reserve_to(300).is_ok() && shape(stack) == (0, 320, None));
+    equal(rt, "all or none", shape(stack), (0, want, None));
+    equal(rt, "granted", stack.reserve_to(300).is_ok(), true);
+    equal(rt, "once more", shape(stack), (0, 320, None));
 }
 
 #[test]

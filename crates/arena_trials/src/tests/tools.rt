@@ -10,9 +10,14 @@ use std::process::Abort;
 
 pub(super) type Slot<P> = ArenaSlot<P, u32>;
 
-// What was told is this text. Other values are compared by `assert!`: their texts would be a type more at each place.
+// What was told is this text.
 pub(super) fn same(rt: &impl Abort, what: &str, got: &str, want: &str) {
     assert!(rt; got == want, "{what}: {got}, not {want}");
+}
+
+// .. or is this value, which a failure does not show: texts of values would be types more at each place.
+pub(super) fn equal<T: PartialEq + Drop>(rt: &impl Abort, what: &str, got: T, want: T) {
+    assert!(rt; got == want, "{what}");
 }
 
 // An answer as `Debug` writes it. Where memory is refused it is empty, which no test wants: what makes texts needs no way to
