@@ -1,7 +1,7 @@
 // What a copy of an arena has, and when an arena refuses to become one.
 use crate::tests::own::insert_many;
 use crate::tests::pointers::Numbered;
-use crate::tests::scripts::{Call, Script};
+use crate::tests::scripts::{Call, Row};
 use crate::tests::tools::{Slot, at};
 use arena_base::{Arena, ArenaCloneFromWith, ArenaTrait};
 use arena_ptr::{ReallocationError, SlotStack};
@@ -30,19 +30,17 @@ pub(super) fn copied_hole<P: Numbered, R: SlotStack<Item = Slot<P>>, A: ArenaClo
     (answer, arena.len(), calls)
 }
 
-pub(super) fn copy() -> &'static [Script] {
+pub(super) fn copy() -> &'static [Row] {
     &COPY
 }
 
 // The copy has the indexes, generations and freed list, and what it held is gone.
-static COPY: [Script; 1] = [(
-    "a copy keeps the freed list",
-    &[
-        (Call::InsertMany(9), "9"),
-        (Call::CopyHole, "(Ok(()), 2, 2)"),
-        (Call::Get(1, 2), "Some(11)"),
-        (Call::Get(3, 2), "Some(32)"),
-        (Call::Get(2, 2), "None"),
-        (Call::Insert(7), "Ok(2.3)"),
-    ],
-)];
+static COPY: [Row; 7] = [
+    (Call::New, "a copy keeps the freed list"),
+    (Call::InsertMany(9), "9"),
+    (Call::CopyHole, "(Ok(()), 2, 2)"),
+    (Call::Get(1, 2), "Some(11)"),
+    (Call::Get(3, 2), "Some(32)"),
+    (Call::Get(2, 2), "None"),
+    (Call::Insert(7), "Ok(2.3)"),
+];

@@ -1,7 +1,7 @@
 // Arenas with a maximum, and what becomes of values and growths that are refused.
 use crate::tests::calls::check_scripts;
 use crate::tests::pointers::{Numbered, SmallPtr};
-use crate::tests::scripts::{Answers, Call, Script, plays, runs};
+use crate::tests::scripts::{Answers, Call, Row, runs};
 use crate::tests::stacks::Rationed;
 use crate::tests::tools::{Slot, equal};
 use arena_base::{Arena, ArenaSlot, ArenaTrait};
@@ -16,46 +16,49 @@ use std::rc::Rc;
 // A slot for one of several equal values, each of which tells how many of them there are.
 type Shared<P> = ArenaSlot<P, Rc<u8>>;
 
-// Arenas that may have two slots, which they use up. What is copied has three slots, one of them free.
-static WITHIN: [Script; 2] = [
-    (
-        "a maximum of two",
-        &[
-            (Call::Insert(1), "Ok(1.2)"),
-            (Call::Insert(2), "Ok(2.2)"),
-            (Call::Insert(3), "Err(BeyondMaxCapacity)"),
-            (Call::InsertWithin(3), "Err(NotWithinCapacityError)"),
-        ],
-    ),
-    (
-        "a copy beyond the maximum",
-        &[
-            (Call::Insert(5), "Ok(1.2)"),
-            (Call::CopyHole, "(Err(BeyondMaxCapacity), 1, 0)"),
-            (Call::Get(1, 2), "Some(5)"),
-            (Call::Insert(6), "Ok(2.2)"),
-        ],
-    ),
+// Arenas that may have two slots, which they use up.
+static WITHIN: [Row; 5] = [
+    (Call::IsEmpty, "true"),
+    (Call::Insert(1), "Ok(1.2)"),
+    (Call::Insert(2), "Ok(2.2)"),
+    (Call::Insert(3), "Err(BeyondMaxCapacity)"),
+    (Call::InsertWithin(3), "Err(NotWithinCapacityError)"),
+];
+
+// .. what is copied has three slots, one of them free, ...
+static COPIED: [Row; 4] = [
+    (Call::Insert(5), "Ok(1.2)"),
+    (Call::CopyHole, "(Err(BeyondMaxCapacity), 1, 0)"),
+    (Call::Get(1, 2), "Some(5)"),
+    (Call::Insert(6), "Ok(2.2)"),
 ];
 
 // .. and less is refused.
-static USED_UP: [(Call, &str); 3] = [
+static USED_UP: [Row; 3] = [
     (Call::Len, "2"),
     (Call::Capacity, "2"),
     (Call::Maximum, "Some(2)"),
 ];
 
-// Each script on an arena of this type that may have a maximum.
+fn check_within<A: Answers + SetMaxCapacity + Drop>(rt: &impl Abort, alloc: Global, rows: &[Row]) {
+    let mut arena = A::fresh(alloc);
+    equal(rt, "a maximum", arena.set_max_capacity(2), Ok(()));
+    runs(rt, alloc, &mut arena, rows);
+    let less = arena.set_max_capacity(1);
+    equal(rt, "less", less, Err(MaxCapacityReductionError));
+    runs(rt, alloc, &mut arena, &USED_UP);
+}
+
+// All that is tried of an arena that may have a maximum.
 fn check_limited<A: Answers + SetMaxCapacity + Drop>(rt: &impl Abort, alloc: Global) {
     check_scripts::<A>(rt, alloc);
-    for (name, rows) in &WITHIN {
-        let mut arena = A::fresh(alloc);
-        equal(rt, name, arena.set_max_capacity(2), Ok(()));
-        runs(rt, alloc, name, &mut arena, rows);
-        let less = arena.set_max_capacity(1);
-        equal(rt, "less", less, Err(MaxCapacityReductionError));
-        runs(rt, alloc, name, &mut arena, &USED_UP);
-    }
+    check_within::<A>(rt, alloc, &WITHIN);
+    check_within::<A>(rt, alloc, &COPIED);
+}
+
+// .. and of one whose memory is refused.
+fn check_refused<A: Answers + Drop>(rt: &impl Abort, alloc: Global) {
+    runs(rt, alloc, &mut A::fresh(alloc), &EVERY_OTHER);
 }
 
 // Hands 600 values to an arena, which drops those that it refuses.
@@ -95,22 +98,20 @@ fn check_values<P: PtrKey, S: LimitStack<Item = Shared<P>>>(rt: &impl Abort, all
 }
 
 // The first request for memory is refused, and so is every other one after it: a call that is refused has asked once.
-static EVERY_OTHER: [Script; 1] = [(
-    "every other request is refused",
-    &[
-        (Call::Insert(1), "Err(AllocError)"),
-        (Call::Insert(1), "Ok(1.2)"),
-        (Call::Insert(2), "Err(AllocError)"),
-        (Call::Insert(2), "Ok(2.2)"),
-        (Call::Reserve(3), "Err(AllocError)"),
-        (Call::Reserve(3), "Ok(())"),
-        // .. of two more of the three insertions into what is copied too.
-        (Call::CopyHole, "(Ok(()), 1, 1)"),
-        (Call::Reserve(9), "Err(AllocError)"),
-        (Call::Capacity, "4"),
-        (Call::Born(3), "None"),
-    ],
-)];
+static EVERY_OTHER: [Row; 11] = [
+    (Call::New, "every other request is refused"),
+    (Call::Insert(1), "Err(AllocError)"),
+    (Call::Insert(1), "Ok(1.2)"),
+    (Call::Insert(2), "Err(AllocError)"),
+    (Call::Insert(2), "Ok(2.2)"),
+    (Call::Reserve(3), "Err(AllocError)"),
+    (Call::Reserve(3), "Ok(())"),
+    // .. of two more of the three insertions into what is copied too.
+    (Call::CopyHole, "(Ok(()), 1, 1)"),
+    (Call::Reserve(9), "Err(AllocError)"),
+    (Call::Capacity, "4"),
+    (Call::Born(3), "None"),
+];
 
 // Each script over a stack, and over one that may have a maximum, and what becomes of what is refused. The types are named once,
 // by one test, since that is what costs.
@@ -122,7 +123,7 @@ fn check_arenas<
 >(rt: &impl Abort, alloc: Global) {
     check_scripts::<Arena<P, u32, H>>(rt, alloc);
     check_limited::<Arena<P, u32, L>>(rt, alloc);
-    plays::<Arena<P, u32, Rationed<H>>>(rt, alloc, &EVERY_OTHER);
+    check_refused::<Arena<P, u32, Rationed<H>>>(rt, alloc);
     check_values::<P, V>(rt, alloc);
 }
 

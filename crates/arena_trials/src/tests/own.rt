@@ -4,7 +4,7 @@ ghost use Rattle.arena_base.specs.Arena.{slot_at};
 
 use crate::tests::entries::enter;
 use crate::tests::pointers::Numbered;
-use crate::tests::scripts::{Answers, Call, Ending, overwritten, trait_answer};
+use crate::tests::scripts::{Answers, Call, overwritten, trait_answer};
 use crate::tests::tools::{Slot, index, text, text_of_all};
 use arena_base::{Arena, ArenaTrait, Compactor, SlotAccess, Work};
 use arena_ptr::{InxKey, PtrKey, SlotStack};
@@ -55,10 +55,14 @@ fn is_within<I: InxKey>(i: I, slots: usize) -> bool
 }
 
 // The value at an index of slots that are looked into, over which another may be written before.
-fn looked<P: PtrKey, C: SlotAccess<P, u32>>(slots: &mut C, i: P::Inx, ending: Ending) -> Option<u32>
+fn looked<P: PtrKey, C: SlotAccess<P, u32>>(
+    slots: &mut C,
+    i: P::Inx,
+    value: Option<u32>,
+) -> Option<u32>
     ensures { IsSome result ↔ IsSome (slot_at (C.held slots.new).slots (P.Inx.number i)) }
 {
-    if let Ending::Write(value) = ending {
+    if let Some(value) = value {
         overwritten(slots.value_mut(i), value);
     }
     match slots.peek(i) {
@@ -73,9 +77,9 @@ fn moved<P: PtrKey, S: SlotStack<Item = Slot<P>>>(
     from: P::Inx,
     to: P::Inx,
     generation: P::Gen,
-    ending: Ending,
+    value: Option<u32>,
 ) -> (usize, Option<u32>) {
-    let value = looked(compactor, from, ending);
+    let value = looked(compactor, from, value);
     let slots = compactor.slots();
     if value.is_some() && is_within(from, slots) && is_within(to, slots) {
         compactor.place(from, to, generation);
@@ -83,29 +87,26 @@ fn moved<P: PtrKey, S: SlotStack<Item = Slot<P>>>(
     (slots, value)
 }
 
-// What a compactor of an arena shows, and what it counted, where it tells that.
+// What a compactor of an arena shows, and what it counted.
 fn compacted<P: Numbered, S: SlotStack<Item = Slot<P>>>(
     arena: &mut Arena<P, u32, S>,
-    (from, to, generation): (u8, u8, u8),
-    ending: Ending,
-) -> ((usize, Option<u32>), Option<Work>) {
+    (from, to, g): (u8, u8, u8),
+    value: Option<u32>,
+) -> ((usize, Option<u32>), Work) {
     let (from, to) = (index::<P>(from), index::<P>(to));
     let mut compactor = arena.compactor();
-    let seen = moved(
-        &mut compactor,
-        from,
-        to,
-        P::generation_of(generation),
-        ending,
-    );
-    match ending {
-        Ending::Drop => (seen, None),
-        Ending::Forget => {
-            mem::forget(compactor);
-            (seen, None)
-        }
-        _ => (seen, Some(compactor.finish())),
-    }
+    let seen = moved(&mut compactor, from, to, P::generation_of(g), value);
+    (seen, compactor.finish())
+}
+
+// A compactor does nothing, and is dropped, ...
+fn dropped_compactor<P: PtrKey, S: SlotStack<Item = Slot<P>>>(arena: &mut Arena<P, u32, S>) {
+    arena.compactor();
+}
+
+// .. or is forgotten.
+fn forgotten_compactor<P: PtrKey, S: SlotStack<Item = Slot<P>>>(arena: &mut Arena<P, u32, S>) {
+    mem::forget(arena.compactor());
 }
 
 // The answer to a call of the arena's own, ...
@@ -120,6 +121,8 @@ fn own_answer<P: Numbered, S: SlotStack<Item = Slot<P>>>(
         Call::InsertWithin(value) => text(alloc, arena.insert_within_capacity(value)),
         Call::Enter(value) => text(alloc, enter(arena, value)),
         Call::Slots => text(alloc, arena.backing().len()),
+        Call::DropCompactor => text(alloc, dropped_compactor(arena)),
+        Call::ForgetCompactor => text(alloc, forgotten_compactor(arena)),
         other => whole_answer(alloc, arena, other),
     }
 }
@@ -136,7 +139,7 @@ fn whole_answer<P: Numbered, S: SlotStack<Item = Slot<P>>>(
         Call::IncGeneration => text(alloc, arena.inc_generation()),
         Call::Entries => iterated(alloc, arena),
         Call::Drain => drained(alloc, arena),
-        Call::Compact(from, to, g, ending) => text(alloc, compacted(arena, (from, to, g), ending)),
+        Call::Compact(from, to, g, value) => text(alloc, compacted(arena, (from, to, g), value)),
         other => given_answer(alloc, arena, other),
     }
 }

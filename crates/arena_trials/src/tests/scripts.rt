@@ -8,18 +8,11 @@ use std::alloc::Global;
 use std::mem;
 use std::process::Abort;
 
-// What becomes of a compactor: it ends, once more after a value is written, or is dropped, or forgotten.
-#[derive(Clone, Copy)]
-pub(super) enum Ending {
-    Finish,
-    Write(u32),
-    Drop,
-    Forget,
-}
-
 // A call on an arena. A pointer is its index and its generation.
 #[derive(Clone, Copy)]
 pub(super) enum Call {
+    // A new arena. The text is the name of what follows.
+    New,
     // Whether an arena that is born with room for so many entries is empty, and has the room.
     Born(usize),
     // Looks of the trait.
@@ -65,16 +58,18 @@ pub(super) enum Call {
     Entries,
     // Takes the entries out with the arena.
     Drain,
-    // A compactor: a look at an index, a move of its entry to another index with a generation where that is one of the slots,
-    // and how it ends.
-    Compact(u8, u8, u8, Ending),
+    // A compactor: a look at an index, over whose value another may be written before, and a move of its entry to another index
+    // with a generation where that is one of the slots.
+    Compact(u8, u8, u8, Option<u32>),
+    DropCompactor,
+    ForgetCompactor,
     // A copy of the entries 1, 2 and 3, of which the second is removed, by a closure that adds the number of its call to
     // ten times each value: its answer, how many entries there are, and how many calls there were.
     CopyHole,
 }
 
-// A name, and calls with the texts of their answers.
-pub(super) type Script = (&'static str, &'static [(Call, &'static str)]);
+// A call with the text of its answer.
+pub(super) type Row = (Call, &'static str);
 
 // What an arena holds, as its indexes show it.
 fn listed<P: PtrKey, A: ArenaTrait<P, u32>>(alloc: Global, arena: &A) -> Vec<(P, u32)> {
@@ -276,23 +271,15 @@ pub(super) trait Answers {
 }
 
 // Each call answers its text.
-pub(super) fn runs<A: Answers>(
-    rt: &impl Abort,
-    alloc: Global,
-    name: &str,
-    arena: &mut A,
-    rows: &[(Call, &str)],
-) {
+pub(super) fn runs<A: Answers + Drop>(rt: &impl Abort, alloc: Global, arena: &mut A, rows: &[Row]) {
+    let mut name = "";
     for (call, want) in rows {
-        let got = arena.answer(alloc, *call);
-        same(rt, name, got.as_str(), want);
-    }
-}
-
-// Of each script, each call answers its text. It begins with a new arena.
-pub(super) fn plays<A: Answers + Drop>(rt: &impl Abort, alloc: Global, scripts: &[Script]) {
-    for (name, rows) in scripts {
-        let mut arena = A::fresh(alloc);
-        runs(rt, alloc, name, &mut arena, rows);
+        if let Call::New = call {
+            *arena = A::fresh(alloc);
+            name = want;
+        } else {
+            let got = arena.answer(alloc, *call);
+            same(rt, name, got.as_str(), want);
+        }
     }
 }
