@@ -17,8 +17,7 @@ use std::rc::Rc;
 type Shared<P> = ArenaSlot<P, Rc<u8>>;
 
 // Arenas that may have two slots, which they use up.
-static WITHIN: [Row; 5] = [
-    (Call::IsEmpty, "true"),
+static WITHIN: [Row; 4] = [
     (Call::Insert(1), "Ok(1.2)"),
     (Call::Insert(2), "Ok(2.2)"),
     (Call::Insert(3), "Err(BeyondMaxCapacity)"),

@@ -99,14 +99,15 @@ fn compacted<P: Numbered, S: SlotStack<Item = Slot<P>>>(
     (seen, compactor.finish())
 }
 
-// A compactor does nothing, and is dropped, ...
-fn dropped_compactor<P: PtrKey, S: SlotStack<Item = Slot<P>>>(arena: &mut Arena<P, u32, S>) {
-    arena.compactor();
-}
-
-// .. or is forgotten.
-fn forgotten_compactor<P: PtrKey, S: SlotStack<Item = Slot<P>>>(arena: &mut Arena<P, u32, S>) {
-    mem::forget(arena.compactor());
+// A compactor does nothing, and is dropped or forgotten.
+fn compactor_idle<P: PtrKey, S: SlotStack<Item = Slot<P>>>(
+    arena: &mut Arena<P, u32, S>,
+    is_forgotten: bool,
+) {
+    let compactor = arena.compactor();
+    if is_forgotten {
+        mem::forget(compactor);
+    }
 }
 
 // The answer to a call of the arena's own, ...
@@ -121,8 +122,8 @@ fn own_answer<P: Numbered, S: SlotStack<Item = Slot<P>>>(
         Call::InsertWithin(value) => text(alloc, arena.insert_within_capacity(value)),
         Call::Enter(value) => text(alloc, enter(arena, value)),
         Call::Slots => text(alloc, arena.backing().len()),
-        Call::DropCompactor => text(alloc, dropped_compactor(arena)),
-        Call::ForgetCompactor => text(alloc, forgotten_compactor(arena)),
+        Call::DropCompactor => text(alloc, compactor_idle(arena, false)),
+        Call::ForgetCompactor => text(alloc, compactor_idle(arena, true)),
         other => whole_answer(alloc, arena, other),
     }
 }
