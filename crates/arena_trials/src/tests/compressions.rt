@@ -1,6 +1,7 @@
 // What a compactor and a compression move, show, count and leave.
 use crate::tests::scripts::{Call, Row};
 
+// What compactors do, a table which a body of its own names.
 pub(super) fn compactors() -> &'static [Row] {
     &COMPACTORS
 }
@@ -54,6 +55,7 @@ static COMPACTORS: [Row; 35] = [
     (Call::AdvanceEmpty, "(None, None, None)"),
 ];
 
+// .. and what compressions do.
 pub(super) fn compressions() -> &'static [Row] {
     &COMPRESSIONS
 }

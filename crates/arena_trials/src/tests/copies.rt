@@ -30,6 +30,7 @@ pub(super) fn copied_hole<P: Numbered, R: SlotStack<Item = Slot<P>>, A: ArenaClo
     (answer, arena.len(), calls)
 }
 
+// The table, which a body of its own names.
 pub(super) fn copy() -> &'static [Row] {
     &COPY
 }

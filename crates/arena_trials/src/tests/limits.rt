@@ -32,13 +32,14 @@ static COPIED: [Row; 4] = [
     (Call::Insert(6), "Ok(2.2)"),
 ];
 
-// .. and less is refused.
+// .. and what both leave.
 static USED_UP: [Row; 3] = [
     (Call::Len, "2"),
     (Call::Capacity, "2"),
     (Call::Maximum, "Some(2)"),
 ];
 
+// Each call answers its text under a maximum of two, below which none is set then.
 fn check_within<A: Answers + SetMaxCapacity + Drop>(rt: &impl Abort, alloc: Global, rows: &[Row]) {
     let mut arena = A::fresh(alloc);
     equal(rt, "a maximum", arena.set_max_capacity(2), Ok(()));

@@ -55,6 +55,7 @@ static NUMBERS: [(usize, [bool; 3]); 7] = [
     (usize::MAX, [false, false, true]),
 ];
 
+// .. as the types tell.
 fn are_indexes(n: usize) -> [bool; 3] {
     [
         is_a_number::<Inx8>(n),
@@ -96,6 +97,7 @@ fn are_well(rt: &impl Abort, (a, b, c): Widths, (d, e, f): Widths) -> [bool; 3] 
     ]
 }
 
+// A pointer of the tool by its two numbers.
 fn tool_ptr(rt: &impl Abort, inx: u32, generation: u32) -> ToolPtr {
     ToolPtr::_from_raw(inx32(rt, inx), gen32(rt, generation))
 }

@@ -5,6 +5,7 @@ use arena_base::Arena;
 use std::alloc::Global;
 use std::process::Abort;
 
+// The table, which a body of its own names.
 pub(super) fn nexts() -> &'static [Row] {
     &NEXTS
 }

@@ -318,6 +318,7 @@ fn limits<S: LimitStack<Item = u32>>(rt: &impl Abort, alloc: Global, maxima: &[M
     }
 }
 
+// A maximum that is raised, the greatest one, and none at all.
 fn check_limits<S: LimitStack<Item = u32>>(rt: &impl Abort, alloc: Global) {
     limits::<S>(rt, alloc, &RAISED);
     limits::<S>(rt, alloc, &WIDE);

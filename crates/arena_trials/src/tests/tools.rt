@@ -1,4 +1,4 @@
-// What the tests share: one comparison, texts of answers, and what has to be there.
+// What the tests share: comparisons, texts of answers, and what has to be there.
 ghost use Rattle.std.specs.Iterator.{IsFinite};
 
 use crate::tests::pointers::Numbered;
