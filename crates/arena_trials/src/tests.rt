@@ -3,7 +3,6 @@ mod calls;
 mod compressions;
 mod copies;
 mod entries;
-mod generic;
 mod limits;
 mod numbers;
 mod own;

@@ -1,98 +1,88 @@
 // Each call once: those of the trait through the trait, and the arena's own.
-use crate::tests::compressions::{COMPACTORS, COMPRESSIONS};
-use crate::tests::copies::COPY;
-use crate::tests::rows::NEXTS;
-use crate::tests::scripts::{Answers, Call, Script, plays};
+use crate::tests::compressions::{compactors, compressions};
+use crate::tests::copies::copy;
+use crate::tests::rows::nexts;
+use crate::tests::scripts::{Answers, Call, Row, runs};
 use std::alloc::Global;
 use std::process::Abort;
 
-static EACH: [Script; 3] = [
-    (
-        "the births of the trait",
-        &[
-            (Call::Born(3), "Some((true, true))"),
-            (Call::Born(2), "Some((true, true))"),
-            (Call::Born(200), "Some((true, true))"),
-            // Up to the greatest index.
-            (Call::Born(255), "Some((true, true))"),
-            (Call::Born(256), "None"),
-        ],
-    ),
-    (
-        "a new arena",
-        &[
-            (Call::IsEmpty, "true"),
-            (Call::Reserve(4), "Ok(())"),
-            (Call::HasRoom(4), "true"),
-            (Call::Maximum, "None"),
-        ],
-    ),
-    (
-        "each call",
-        &[
-            (Call::Reserve(3), "Ok(())"),
-            (Call::Insert(10), "Ok(1.2)"),
-            (Call::InsertWithin(20), "Ok(2.2)"),
-            (Call::Enter(30), "Ok(3.2)"),
-            (Call::Get(2, 2), "Some(20)"),
-            (Call::Get(3, 2), "Some(30)"),
-            (Call::Slots, "3"),
-            (Call::Entries, "[(1.2, 10), (2.2, 20), (3.2, 30)]"),
-            (Call::Generation, "2"),
-            (Call::IncGeneration, "Success(())"),
-            (Call::Generation, "3"),
-            (Call::SetGeneration(2), "()"),
-            (Call::Generation, "2"),
-            // Those of the trait, over the entries 10, 20 and 30 at 1, 2 and 3, which are removed.
-            (Call::HasRoom(3), "true"),
-            (Call::First, "Some(1.2)"),
-            (Call::Last, "Some(3.2)"),
-            (Call::Len, "3"),
-            (Call::IsEmpty, "false"),
-            (Call::Counter, "Some(2)"),
-            (Call::Contains(1, 2), "true"),
-            (Call::Contains(2, 2), "true"),
-            (Call::Contains(3, 2), "true"),
-            (Call::Get(3, 2), "Some(30)"),
-            (Call::GetInx(1), "Some((2, 10))"),
-            (Call::Write(1, 2, 11), "Some(10)"),
-            (Call::WriteInx(3, 31), "Some(30)"),
-            (Call::Get(1, 2), "Some(11)"),
-            (Call::Get(3, 2), "Some(31)"),
-            (Call::Held, "[(1.2, 11), (2.2, 20), (3.2, 31)]"),
-            (Call::Advance, "Some(1.2)"),
-            (
-                Call::AdvanceFrom(3, true),
-                "(Some(3.2), Some(2.2), Some(1.2))",
-            ),
-            (Call::AdvanceEmpty, "None"),
-            (Call::Invalidate(1, 2), "Success(1.3)"),
-            (Call::Contains(1, 3), "true"),
-            (Call::Contains(1, 2), "false"),
-            (Call::Held, "[(1.3, 11), (2.2, 20), (3.2, 31)]"),
-            (Call::Remove(1, 2), "InvalidPtr"),
-            (Call::Remove(1, 3), "Success(11)"),
-            (Call::RemoveInx(3), "Some((2, 31))"),
-            (Call::RemoveInx(3), "None"),
-            (Call::Len, "1"),
-            (Call::Held, "[(2.2, 20)]"),
-            (Call::ClearInRoom, "(Success(()), Ok(()), true)"),
-            (Call::Len, "0"),
-            (Call::Counter, "Some(6)"),
-            (Call::Insert(5), "Ok(1.6)"),
-            (Call::Drain, "[(1.6, 5)]"),
-        ],
-    ),
-];
-
-// All tables. A body of its own names them, since each step of a body lists what the body names.
-fn tables() -> [&'static [Script]; 5] {
-    [&EACH, &NEXTS, &COMPACTORS, &COMPRESSIONS, &COPY]
+// A body of its own names each table, since each step of a body lists all that the tables hold which it names.
+fn each() -> &'static [Row] {
+    &EACH
 }
 
-// Each script on an arena of this type.
+static EACH: [Row; 58] = [
+    (Call::New, "the births of the trait"),
+    (Call::Born(3), "Some((true, true))"),
+    (Call::Born(2), "Some((true, true))"),
+    (Call::Born(200), "Some((true, true))"),
+    // Up to the greatest index.
+    (Call::Born(255), "Some((true, true))"),
+    (Call::Born(256), "None"),
+    (Call::New, "a new arena"),
+    (Call::IsEmpty, "true"),
+    (Call::Reserve(4), "Ok(())"),
+    (Call::HasRoom(4), "true"),
+    (Call::Maximum, "None"),
+    (Call::New, "each call"),
+    (Call::Reserve(3), "Ok(())"),
+    (Call::Insert(10), "Ok(1.2)"),
+    (Call::InsertWithin(20), "Ok(2.2)"),
+    (Call::Enter(Some(30)), "Ok(3.2)"),
+    (Call::Get(2, 2), "Some(20)"),
+    (Call::Get(3, 2), "Some(30)"),
+    (Call::Slots, "3"),
+    (Call::Entries, "[(1.2, 10), (2.2, 20), (3.2, 30)]"),
+    (Call::Generation, "2"),
+    (Call::IncGeneration, "Success(())"),
+    (Call::Generation, "3"),
+    (Call::SetGeneration(2), "()"),
+    (Call::Generation, "2"),
+    // Those of the trait, over the entries 10, 20 and 30 at 1, 2 and 3, which are removed.
+    (Call::HasRoom(3), "true"),
+    (Call::Ends, "(Some(1.2), Some(3.2))"),
+    (Call::Len, "3"),
+    (Call::IsEmpty, "false"),
+    (Call::Counter, "Some(2)"),
+    (Call::Contains(1, 2), "true"),
+    (Call::Contains(2, 2), "true"),
+    (Call::Contains(3, 2), "true"),
+    (Call::Get(3, 2), "Some(30)"),
+    (Call::GetInx(1), "Some((2, 10))"),
+    (Call::Write(1, 2, 11), "Some(10)"),
+    (Call::WriteInx(3, 31), "Some(30)"),
+    (Call::Get(1, 2), "Some(11)"),
+    (Call::Get(3, 2), "Some(31)"),
+    (Call::Held, "[(1.2, 11), (2.2, 20), (3.2, 31)]"),
+    (Call::Advance, "(Some(1.2), Some(2.2), Some(3.2))"),
+    (
+        Call::AdvanceFrom(3, true),
+        "(Some(3.2), Some(2.2), Some(1.2))",
+    ),
+    (Call::AdvanceEmpty, "(None, None, None)"),
+    (Call::Invalidate(1, 2), "Success(1.3)"),
+    (Call::Contains(1, 3), "true"),
+    (Call::Contains(1, 2), "false"),
+    (Call::Held, "[(1.3, 11), (2.2, 20), (3.2, 31)]"),
+    (Call::Remove(1, 2), "InvalidPtr"),
+    (Call::Remove(1, 3), "Success(11)"),
+    (Call::RemoveInx(3), "Some((2, 31))"),
+    (Call::RemoveInx(3), "None"),
+    (Call::Len, "1"),
+    (Call::Held, "[(2.2, 20)]"),
+    (Call::ClearInRoom, "(Success(()), Ok(()), true)"),
+    (Call::Len, "0"),
+    (Call::Counter, "Some(6)"),
+    (Call::Insert(5), "Ok(1.6)"),
+    (Call::Drain, "[(1.6, 5)]"),
+];
+
+// Each call answers its text.
 pub(super) fn check_scripts<A: Answers + Drop>(rt: &impl Abort, alloc: Global) {
-    for table in &tables() {
-        plays::<A>(rt, alloc, table);
-    }
+    let mut arena = A::fresh(alloc);
+    runs(rt, alloc, &mut arena, each());
+    runs(rt, alloc, &mut arena, nexts());
+    runs(rt, alloc, &mut arena, compactors());
+    runs(rt, alloc, &mut arena, compressions());
+    runs(rt, alloc, &mut arena, copy());
 }

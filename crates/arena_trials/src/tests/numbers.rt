@@ -1,76 +1,40 @@
-// Indexes, generations and pointers: what generic code knows of them by the traits alone, and the numbers of each type.
-ghost use Rattle.std.specs.Prelude.{◌≡◌, ◌≤◌, ◌↔◌, IsTrue, IsSome, IfSome, Some};
-ghost use Rattle.std.specs.Option.{option_map};
-
-use crate::tests::pointers::BarePtr;
-use crate::tests::tools::{gen8, gen32, gen64, inx8, inx32, inx64, same};
+// Indexes, generations and pointers: what they answer to code that knows them by the traits alone, and the numbers of each type.
+use crate::tests::tools::{equal, gen8, gen32, gen64, inx8, inx32, inx64};
 use arena_ptr::{Gen8, Gen32, Gen64, Inx8, Inx32, Inx64, Ptr, PtrGen, PtrInx, ToolPtr};
 use std::process::Abort;
 
-// The number of the index that a number makes.
-fn number_again<I: PtrInx>(n: usize) -> Option<usize>
-    ensures variant { IsSome result ↔ ((1 ≤ n) × (n ≤ I.greatest)) }
-    ensures value { IfSome result (λ m. m ≡ n) }
-{
+// Whether a number makes an index, the number of which it is.
+fn is_a_number<I: PtrInx>(n: usize) -> bool {
     match I::try_from_usize(n) {
-        Some(i) => i.try_into_usize(),
-        None => None,
+        Some(i) => i.try_into_usize() == Some(n),
+        None => false,
     }
 }
 
-// The index that the number of an index makes.
-fn index_again<I: PtrInx>(i: I) -> Option<I>
-    ensures { result ≡ Some i }
-{
+// Whether an index is the one that its number makes, and no other one, and is as before once packed, as is none.
+fn is_well<I: PtrInx>(i: I, other: I) -> bool {
     match i.try_into_usize() {
-        Some(n) => I::try_from_usize(n),
-        None => None,
+        Some(n) => {
+            I::try_from_usize(n) == Some(i)
+                && i != other
+                && I::unpack(I::pack(Some(i))) == Some(i)
+                && I::unpack(I::pack(None)).is_none()
+        }
+        None => false,
     }
 }
 
-fn is_same_index<I: PtrInx>(i: I, j: I) -> bool
-    ensures { IsTrue result ↔ (I.number i ≡ I.number j) }
-{
-    i == j
+// Whether a generation is followed by the last one, that by the first, and the first by the one after it.
+fn counts<G: PtrGen>(near: G, last: G, second: G) -> bool {
+    near.generational_inc() == (last, false)
+        && last.generational_inc() == (G::two(), true)
+        && G::two().generational_inc() == (second, false)
+        && near != last
 }
 
-// The optional index that a packed one unpacks to.
-fn unpacked_again<I: PtrInx>(i: Option<I>) -> Option<I>
-    ensures { option_map I.number result ≡ option_map I.number i }
-{
-    I::unpack(I::pack(i))
-}
-
-// Whether two optional indexes are the same once packed.
-fn packs_alike<W: Copy + PartialEq, I: PtrInx<Word = W>>(i: Option<I>, j: Option<I>) -> bool {
-    I::pack(i) == I::pack(j)
-}
-
-// The generation after the next one.
-fn second_after<G: PtrGen>(g: G) -> G
-    ensures { result ≡ G.following (G.following g) }
-{
-    g.generational_inc().0.generational_inc().0
-}
-
-fn is_same_generation<G: PtrGen>(g: G, h: G) -> bool
-    ensures { IsTrue result ↔ (g ≡ h) }
-{
-    g == h
-}
-
-// The pointer that the parts of a pointer make.
-fn pointer_again<P: Ptr>(p: P) -> P
-    ensures { result ≡ p }
-{
-    P::_from_raw(p.inx(), p.generation())
-}
-
-// Whether the parts are those of the pointer.
-fn is_made_of<P: Ptr>(p: P, inx: P::Inx, generation: P::Gen) -> bool
-    ensures { IsTrue result ↔ (P.key p ≡ (P.Inx.number inx, generation)) }
-{
-    p == P::_from_raw(inx, generation)
+// Whether a pointer is made of these parts.
+fn is_made_of<P: Ptr>(p: P, inx: P::Inx, generation: P::Gen) -> bool {
+    p.inx() == inx && p.generation() == generation && P::_from_raw(inx, generation) == p
 }
 
 // A number of 8, of 32 and of 64 bits.
@@ -80,23 +44,48 @@ const ONES: Widths = (1, 1, 1);
 
 const GREATEST: Widths = (255, 4_294_967_295, 18_446_744_073_709_551_615);
 
-// The numbers of the indexes and of the generations that numbers make.
-fn made(rt: &impl Abort, (a, b, c): Widths) -> (Widths, Widths) {
-    (
-        (inx8(rt, a).get(), inx32(rt, b).get(), inx64(rt, c).get()),
-        (gen8(rt, a).get(), gen32(rt, b).get(), gen64(rt, c).get()),
-    )
+// Numbers, and whether each makes an index of each width.
+static NUMBERS: [(usize, [bool; 3]); 7] = [
+    (0, [false, false, false]),
+    (1, [true, true, true]),
+    (255, [true, true, true]),
+    (256, [false, true, true]),
+    (4_294_967_295, [false, true, true]),
+    (4_294_967_296, [false, false, true]),
+    (usize::MAX, [false, false, true]),
+];
+
+// .. as the types tell.
+fn are_indexes(n: usize) -> [bool; 3] {
+    [
+        is_a_number::<Inx8>(n),
+        is_a_number::<Inx32>(n),
+        is_a_number::<Inx64>(n),
+    ]
 }
 
-// Whether an index is the one that its number makes, and no other one, and is as before once packed, as is none.
-fn is_well<W: Copy + PartialEq, I: PtrInx<Word = W>>(i: I, other: I) -> bool {
-    index_again(i) == Some(i)
-        && is_same_index(i, i)
-        && !is_same_index(i, other)
-        && unpacked_again(Some(i)) == Some(i)
-        && unpacked_again::<I>(None).is_none()
-        && packs_alike(Some(i), Some(i))
-        && !packs_alike(Some(i), None)
+// Whether zero makes no index and no generation.
+fn are_none() -> [bool; 6] {
+    [
+        Inx8::new(0).is_none(),
+        Inx32::new(0).is_none(),
+        Inx64::new(0).is_none(),
+        Gen8::new(0).is_none(),
+        Gen32::new(0).is_none(),
+        Gen64::new(0).is_none(),
+    ]
+}
+
+// Whether numbers make the indexes and the generations that have them.
+fn are_numbers(rt: &impl Abort, (a, b, c): Widths) -> [bool; 6] {
+    [
+        inx8(rt, a).get() == a,
+        inx32(rt, b).get() == b,
+        inx64(rt, c).get() == c,
+        gen8(rt, a).get() == a,
+        gen32(rt, b).get() == b,
+        gen64(rt, c).get() == c,
+    ]
 }
 
 // Whether indexes of each width are.
@@ -108,154 +97,83 @@ fn are_well(rt: &impl Abort, (a, b, c): Widths, (d, e, f): Widths) -> [bool; 3] 
     ]
 }
 
-// The next generations, and whether each overflowed.
-fn incremented(rt: &impl Abort, (a, b, c): Widths) -> (Widths, (bool, bool, bool)) {
-    let (g, over) = gen8(rt, a).generational_inc();
-    let (h, over_there) = gen32(rt, b).generational_inc();
-    let (k, over_last) = gen64(rt, c).generational_inc();
-    ((g.get(), h.get(), k.get()), (over, over_there, over_last))
-}
-
-// The first generations, and the second after each.
-fn first_and_later() -> (Widths, Widths) {
-    let (g, h, k) = (Gen8::two(), Gen32::two(), Gen64::two());
-    (
-        (g.get(), h.get(), k.get()),
-        (
-            second_after(g).get(),
-            second_after(h).get(),
-            second_after(k).get(),
-        ),
-    )
-}
-
-// Whether the second generation after the last is the third, and a first one is a one or the second after it.
-fn same_generations(rt: &impl Abort) -> [bool; 3] {
-    let first = Gen32::two();
-    [
-        is_same_generation(second_after(gen64(rt, u64::MAX)), gen64(rt, 3)),
-        is_same_generation(Gen8::two(), gen8(rt, 1)),
-        is_same_generation(first, second_after(first)),
-    ]
-}
-
+// A pointer of the tool by its two numbers.
 fn tool_ptr(rt: &impl Abort, inx: u32, generation: u32) -> ToolPtr {
     ToolPtr::_from_raw(inx32(rt, inx), gen32(rt, generation))
 }
 
-fn parts(p: ToolPtr) -> (u32, u32) {
-    (p.inx().get(), p.generation().get())
-}
-
 #[test]
 fn indexes_go_from_one_to_their_greatest(rt: HostRuntime) {
-    let greatest = (Inx8::greatest(), Inx32::greatest(), Inx64::greatest());
-    same(
-        &rt,
-        "greatest",
-        greatest,
-        (255, 4_294_967_295, 18_446_744_073_709_551_615),
-    );
-    for (n, want) in [
-        (0, (None, None, None)),
-        (1, (Some(1), Some(1), Some(1))),
-        (255, (Some(255), Some(255), Some(255))),
-        (256, (None, Some(256), Some(256))),
-        (
-            4_294_967_295,
-            (None, Some(4_294_967_295), Some(4_294_967_295)),
-        ),
-        (4_294_967_296, (None, None, Some(4_294_967_296))),
-        (usize::MAX, (None, None, Some(18_446_744_073_709_551_615))),
-    ] {
-        let again = (
-            number_again::<Inx8>(n),
-            number_again::<Inx32>(n),
-            number_again::<Inx64>(n),
-        );
-        same(&rt, "the number again", again, want);
+    let greatest = [Inx8::greatest(), Inx32::greatest(), Inx64::greatest()];
+    let want = [255, 4_294_967_295, 18_446_744_073_709_551_615];
+    equal(&rt, "greatest", greatest, want);
+    for (n, want) in &NUMBERS {
+        equal(&rt, "the number again", are_indexes(*n), *want);
     }
 }
 
 #[test]
 fn every_number_but_zero_makes_an_index_and_a_generation(rt: HostRuntime) {
-    let indexes = (Inx8::new(0), Inx32::new(0), Inx64::new(0));
-    same(&rt, "no index", indexes, (None, None, None));
-    let generations = (Gen8::new(0), Gen32::new(0), Gen64::new(0));
-    same(&rt, "no generation", generations, (None, None, None));
-    for numbers in [ONES, GREATEST] {
-        same(&rt, "made", made(&rt, numbers), (numbers, numbers));
-    }
+    equal(&rt, "none of zero", are_none(), [true; 6]);
+    equal(&rt, "one", are_numbers(&rt, ONES), [true; 6]);
+    equal(&rt, "greatest", are_numbers(&rt, GREATEST), [true; 6]);
 }
 
 #[test]
 fn an_index_is_its_number(rt: HostRuntime) {
-    for (numbers, others) in [
-        (ONES, GREATEST),
-        (GREATEST, ONES),
-        ((7, 70_000, u64::MAX), (200, 4_464, 1)),
-    ] {
-        same(&rt, "well", are_well(&rt, numbers, others), [true; 3]);
-    }
-    same(&rt, "in order", inx8(&rt, 7) < inx8(&rt, 200), true);
+    equal(&rt, "one", are_well(&rt, ONES, GREATEST), [true; 3]);
+    equal(&rt, "greatest", are_well(&rt, GREATEST, ONES), [true; 3]);
+    let others = (200, 4_464, 1);
+    equal(
+        &rt,
+        "others",
+        are_well(&rt, (7, 70_000, u64::MAX), others),
+        [true; 3],
+    );
+    equal(&rt, "in order", inx8(&rt, 7) < inx8(&rt, 200), true);
 }
 
 #[test]
 fn generations_count_from_two_and_wrap(rt: HostRuntime) {
-    let counted = ((2, 2, 2), (4, 4, 4));
-    same(&rt, "first and later", first_and_later(), counted);
-    for (numbers, want) in [
-        (
-            (254, u32::MAX - 1, u64::MAX - 1),
-            (GREATEST, (false, false, false)),
+    let first = (Gen8::two().get(), Gen32::two().get(), Gen64::two().get());
+    equal(&rt, "the first", first, (2, 2, 2));
+    let counted = [
+        counts(gen8(&rt, 254), gen8(&rt, 255), gen8(&rt, 3)),
+        counts(
+            gen32(&rt, u32::MAX - 1),
+            gen32(&rt, u32::MAX),
+            gen32(&rt, 3),
         ),
-        (GREATEST, ((2, 2, 2), (true, true, true))),
-    ] {
-        same(&rt, "the next", incremented(&rt, numbers), want);
-    }
-    let are_same = [true, false, false];
-    same(&rt, "the same", same_generations(&rt), are_same);
+        counts(
+            gen64(&rt, u64::MAX - 1),
+            gen64(&rt, u64::MAX),
+            gen64(&rt, 3),
+        ),
+    ];
+    equal(&rt, "counted", counted, [true; 3]);
 }
 
 #[test]
 fn the_empty_generation_never_overflows(rt: HostRuntime) {
-    <() as PtrGen>::two();
-    same(&rt, "the next", ().generational_inc(), ((), false));
-    let is_same = is_same_generation((), second_after(()));
-    same(&rt, "the same", is_same, true);
+    let next = <() as PtrGen>::two().generational_inc();
+    equal(&rt, "the next", next, ((), false));
 }
 
 #[test]
 fn a_pointer_is_its_two_parts(rt: HostRuntime) {
     let p = tool_ptr(&rt, 3, 5);
-    same(&rt, "the parts", parts(p), (3, 5));
-    same(&rt, "made again", pointer_again(p), p);
-    same(&rt, "invalid", parts(ToolPtr::invalid()), (1, 1));
-    for (i, g, want) in [(3, 5, true), (3, 2, false), (4, 5, false)] {
-        same(
-            &rt,
-            "made of",
-            is_made_of(p, inx32(&rt, i), gen32(&rt, g)),
-            want,
-        );
-    }
-}
-
-#[test]
-fn a_pointer_may_be_an_index_alone(rt: HostRuntime) {
-    let nine = inx8(&rt, 9);
-    let bare = BarePtr::_from_raw(nine, ());
     let looks = [
-        pointer_again(bare) == bare,
-        is_made_of(bare, nine, ()),
-        is_made_of(BarePtr::invalid(), nine, ()),
+        is_made_of(p, inx32(&rt, 3), gen32(&rt, 5)),
+        is_made_of(ToolPtr::invalid(), inx32(&rt, 1), gen32(&rt, 1)),
+        p != tool_ptr(&rt, 3, 2),
+        p != tool_ptr(&rt, 4, 5),
     ];
-    same(&rt, "made again and made of", looks, [true, true, false]);
+    equal(&rt, "made of them", looks, [true; 4]);
 }
 
 #[test]
 fn pointers_are_in_order_by_index_first(rt: HostRuntime) {
     let new = tool_ptr(&rt, 1, 9);
     let order = [new < tool_ptr(&rt, 2, 8), tool_ptr(&rt, 1, 8) < new];
-    same(&rt, "by index and by generation", order, [true; 2]);
+    equal(&rt, "by index and by generation", order, [true; 2]);
 }

@@ -1,25 +1,16 @@
 // The calls that an arena has of its own, as rows of tables. What they need knows no type of pointers and of slots.
-ghost use Rattle.std.specs.Prelude.{◌≡◌, ◌≤◌, ◌↔◌, IsTrue, IsSome};
+ghost use Rattle.std.specs.Prelude.{◌≤◌, ◌↔◌, IsTrue, IsSome};
 ghost use Rattle.arena_base.specs.Arena.{slot_at};
 
-use crate::tests::copies::copied_hole;
-use crate::tests::entries::{dropped_place, enter};
+use crate::tests::entries::enter;
 use crate::tests::pointers::Numbered;
 use crate::tests::scripts::{Answers, Call, overwritten, trait_answer};
 use crate::tests::tools::{Slot, index, text, text_of_all};
-use arena_base::{Arena, ArenaSlot, ArenaTrait, Compactor, SlotAccess, Work};
-use arena_ptr::{HeapStack, InxKey, PtrKey, SlotStack};
+use arena_base::{Arena, ArenaTrait, Compactor, SlotAccess, Work};
+use arena_ptr::{InxKey, PtrKey, SlotStack};
 use std::alloc::Global;
 use std::fmt::Debug;
 use std::mem;
-
-// Adds an entry, where there is room for it.
-pub(super) fn add<P: PtrKey, T: Drop, S: SlotStack<Item = ArenaSlot<P, T>>>(
-    arena: &mut Arena<P, T, S>,
-    t: T,
-) -> bool {
-    arena.insert_reallocating(t).is_ok()
-}
 
 // Adds as many entries, the values from `first` on, and counts those that were added.
 pub(super) fn insert_many<P: PtrKey, S: SlotStack<Item = Slot<P>>>(
@@ -29,7 +20,7 @@ pub(super) fn insert_many<P: PtrKey, S: SlotStack<Item = Slot<P>>>(
 ) -> u32 {
     let mut added = 0u32;
     for k in 0..n {
-        if add(arena, first.saturating_add(k)) {
+        if arena.insert_reallocating(first.saturating_add(k)).is_ok() {
             added = added.saturating_add(1);
         }
     }
@@ -63,83 +54,60 @@ fn is_within<I: InxKey>(i: I, slots: usize) -> bool
     }
 }
 
-// Whether an entry stands at an index of slots that are looked into.
-fn stands<P: PtrKey, T: Drop, C: SlotAccess<P, T>>(slots: &mut C, i: P::Inx) -> bool
-    ensures held { C.held slots.new ≡ C.held slots.old }
-    ensures some { IsTrue result ↔ IsSome (slot_at (C.held slots.old).slots (P.Inx.number i)) }
+// The value at an index of slots that are looked into, over which another may be written before.
+fn looked<P: PtrKey, C: SlotAccess<P, u32>>(
+    slots: &mut C,
+    i: P::Inx,
+    value: Option<u32>,
+) -> Option<u32>
+    ensures { IsSome result ↔ IsSome (slot_at (C.held slots.new).slots (P.Inx.number i)) }
 {
-    slots.peek(i).is_some()
+    if let Some(value) = value {
+        overwritten(slots.value_mut(i), value);
+    }
+    match slots.peek(i) {
+        Some((_, t)) => Some(*t),
+        None => None,
+    }
 }
 
-// Moves an entry within so many slots, and tells whether one stands there.
-fn moves<P: PtrKey, T: Drop, S: SlotStack<Item = ArenaSlot<P, T>>>(
-    compactor: &mut Compactor<'_, P, T, S>,
+// .. and the number of slots. An entry there is moved where another index is one of the slots.
+fn moved<P: PtrKey, S: SlotStack<Item = Slot<P>>>(
+    compactor: &mut Compactor<'_, P, u32, S>,
     from: P::Inx,
     to: P::Inx,
     generation: P::Gen,
-) -> (usize, bool) {
+    value: Option<u32>,
+) -> (usize, Option<u32>) {
+    let value = looked(compactor, from, value);
     let slots = compactor.slots();
-    if !is_within(from, slots) || !is_within(to, slots) || !stands(compactor, from) {
-        return (slots, false);
+    if value.is_some() && is_within(from, slots) && is_within(to, slots) {
+        compactor.place(from, to, generation);
     }
-    compactor.place(from, to, generation);
-    (slots, true)
+    (slots, value)
+}
+
+// What a compactor of an arena shows, and what it counted.
+fn compacted<P: Numbered, S: SlotStack<Item = Slot<P>>>(
+    arena: &mut Arena<P, u32, S>,
+    (from, to, g): (u8, u8, u8),
+    value: Option<u32>,
+) -> ((usize, Option<u32>), Work) {
+    let (from, to) = (index::<P>(from), index::<P>(to));
+    let mut compactor = arena.compactor();
+    let seen = moved(&mut compactor, from, to, P::generation_of(g), value);
+    (seen, compactor.finish())
 }
 
 // A compactor does nothing, and is dropped or forgotten.
-fn compactor_idle<P: PtrKey, T: Drop, S: SlotStack<Item = ArenaSlot<P, T>>>(
-    arena: &mut Arena<P, T, S>,
+fn compactor_idle<P: PtrKey, S: SlotStack<Item = Slot<P>>>(
+    arena: &mut Arena<P, u32, S>,
     is_forgotten: bool,
 ) {
     let compactor = arena.compactor();
     if is_forgotten {
         mem::forget(compactor);
     }
-}
-
-// The number of slots, whether an entry was moved, and what was counted.
-fn moved<P: PtrKey, T: Drop, S: SlotStack<Item = ArenaSlot<P, T>>>(
-    arena: &mut Arena<P, T, S>,
-    from: P::Inx,
-    to: P::Inx,
-    generation: P::Gen,
-) -> ((usize, bool), Work) {
-    let mut compactor = arena.compactor();
-    let done = moves(&mut compactor, from, to, generation);
-    (done, compactor.finish())
-}
-
-// The value that a compactor shows at an index.
-fn peeked<P: PtrKey, C: SlotAccess<P, u32>>(compactor: &mut C, i: P::Inx) -> Option<u32> {
-    match compactor.peek(i) {
-        Some((_, t)) => Some(*t),
-        None => None,
-    }
-}
-
-// The values that a compactor shows at two indexes, and that which it overwrites at the first.
-fn shown<P: PtrKey, S: SlotStack<Item = Slot<P>>>(
-    compactor: &mut Compactor<'_, P, u32, S>,
-    i: P::Inx,
-    other: P::Inx,
-    value: u32,
-) -> [Option<u32>; 3] {
-    let first = peeked(compactor, i);
-    let beside = peeked(compactor, other);
-    let was = overwritten(compactor.value_mut(i), value);
-    [first, beside, was]
-}
-
-// What a compactor shows and overwrites, and what was counted.
-fn rewritten<P: PtrKey, S: SlotStack<Item = Slot<P>>>(
-    arena: &mut Arena<P, u32, S>,
-    i: P::Inx,
-    other: P::Inx,
-    value: u32,
-) -> ([Option<u32>; 3], Work) {
-    let mut compactor = arena.compactor();
-    let values = shown(&mut compactor, i, other, value);
-    (values, compactor.finish())
 }
 
 // The answer to a call of the arena's own, ...
@@ -153,76 +121,37 @@ fn own_answer<P: Numbered, S: SlotStack<Item = Slot<P>>>(
         Call::InsertMany(n) => text(alloc, insert_many(arena, 0, n)),
         Call::InsertWithin(value) => text(alloc, arena.insert_within_capacity(value)),
         Call::Enter(value) => text(alloc, enter(arena, value)),
-        other => counter_answer(alloc, arena, other),
-    }
-}
-
-// .. on its counter, or on its slots, ...
-fn counter_answer<P: Numbered, S: SlotStack<Item = Slot<P>>>(
-    alloc: Global,
-    arena: &mut Arena<P, u32, S>,
-    call: Call,
-) -> String {
-    match call {
-        Call::DropPlace(by_hand) => text(alloc, dropped_place(arena, by_hand)),
-        Call::Generation => text(alloc, P::number_of(arena.generation())),
-        Call::SetGeneration(g) => text(alloc, arena.set_generation(P::generation_of(g))),
-        Call::IncGeneration => text(alloc, arena.inc_generation()),
         Call::Slots => text(alloc, arena.backing().len()),
+        Call::DropCompactor => text(alloc, compactor_idle(arena, false)),
+        Call::ForgetCompactor => text(alloc, compactor_idle(arena, true)),
         other => whole_answer(alloc, arena, other),
     }
 }
 
-// .. on all of its entries, ...
+// .. on its counter, or on all of its entries, ...
 fn whole_answer<P: Numbered, S: SlotStack<Item = Slot<P>>>(
     alloc: Global,
     arena: &mut Arena<P, u32, S>,
     call: Call,
 ) -> String {
     match call {
+        Call::Generation => text(alloc, P::number_of(arena.generation())),
+        Call::SetGeneration(g) => text(alloc, arena.set_generation(P::generation_of(g))),
+        Call::IncGeneration => text(alloc, arena.inc_generation()),
         Call::Entries => iterated(alloc, arena),
         Call::Drain => drained(alloc, arena),
-        Call::CopyHole => {
-            let copied = copied_hole::<P, HeapStack<Slot<P>>, _>(alloc, arena);
-            text(alloc, copied)
-        }
-        other => compactor_answer(alloc, arena, other),
-    }
-}
-
-// .. by a compactor, ...
-fn compactor_answer<P: Numbered, S: SlotStack<Item = Slot<P>>>(
-    alloc: Global,
-    arena: &mut Arena<P, u32, S>,
-    call: Call,
-) -> String {
-    match call {
-        Call::Move(from, to, g) => {
-            let generation = P::generation_of(g);
-            text(
-                alloc,
-                moved(arena, index::<P>(from), index::<P>(to), generation),
-            )
-        }
-        Call::Rewrite(i, other, value) => {
-            text(
-                alloc,
-                rewritten(arena, index::<P>(i), index::<P>(other), value),
-            )
-        }
-        Call::DropCompactor => text(alloc, compactor_idle(arena, false)),
-        Call::ForgetCompactor => text(alloc, compactor_idle(arena, true)),
+        Call::Compact(from, to, g, value) => text(alloc, compacted(arena, (from, to, g), value)),
         other => given_answer(alloc, arena, other),
     }
 }
 
-// .. or of the trait, in the one place that hands such a body an arena.
+// .. or of the traits, in the one place that hands such a body an arena.
 fn given_answer<P: Numbered, S: SlotStack<Item = Slot<P>>>(
     alloc: Global,
     arena: &mut Arena<P, u32, S>,
     call: Call,
 ) -> String {
-    trait_answer(alloc, arena, call)
+    trait_answer::<P, S, Arena<P, u32, S>>(alloc, arena, call)
 }
 
 impl<P: Numbered, S: SlotStack<Item = Slot<P>>> Answers for Arena<P, u32, S> {

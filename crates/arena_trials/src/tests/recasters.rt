@@ -1,7 +1,7 @@
 // A recaster that refuses, and a value of two values.
 ghost use Rattle.std.specs.Prelude.{◌≡◌, ◌⊎◌, OnErr, IsErr, Ok, Err};
 
-use crate::tests::tools::same;
+use crate::tests::tools::equal;
 use arena_ptr::{Recast, Recaster};
 
 // Adds ten to each number but two, which it refuses.
@@ -55,10 +55,8 @@ fn a_recaster_refuses(rt: HostRuntime) {
         first: Number(1),
         second: Number(2),
     };
-    let answer = two.recast(&AddTen);
-    same(&rt, "the answer", answer, Err(2));
-    same(&rt, "the numbers", (two.first.0, two.second.0), (11, 2));
-    let again = two.recast(&AddTen);
-    same(&rt, "again", again, Err(2));
-    same(&rt, "the numbers", (two.first.0, two.second.0), (21, 2));
+    equal(&rt, "the answer", two.recast(&AddTen), Err(2));
+    equal(&rt, "the numbers", (two.first.0, two.second.0), (11, 2));
+    equal(&rt, "again", two.recast(&AddTen), Err(2));
+    equal(&rt, "the numbers", (two.first.0, two.second.0), (21, 2));
 }

@@ -1,136 +1,105 @@
 // Which index and generation comes next, up to the greatest index and the greatest generation.
 use crate::tests::pointers::BarePtr;
-use crate::tests::scripts::{Answers, Call, Script, runs};
-use crate::tests::tools::{same, text};
+use crate::tests::scripts::{Answers, Call, Row, runs};
 use arena_base::Arena;
-use arena_ptr::InvalidationResult;
 use std::alloc::Global;
 use std::process::Abort;
 
-pub(super) static NEXTS: [Script; 7] = [
-    (
-        "last freed first used",
-        &[
-            (Call::Insert(10), "Ok(1.2)"),
-            (Call::Insert(20), "Ok(2.2)"),
-            (Call::Insert(30), "Ok(3.2)"),
-            (Call::Remove(2, 2), "Success(20)"),
-            (Call::Remove(1, 2), "Success(10)"),
-            (Call::Insert(40), "Ok(1.4)"),
-            (Call::Insert(50), "Ok(2.4)"),
-            (Call::Insert(60), "Ok(4.4)"),
-            (Call::Get(3, 2), "Some(30)"),
-            (Call::Get(1, 2), "None"),
-            (Call::Held, "[(1.4, 40), (2.4, 50), (3.2, 30), (4.4, 60)]"),
-        ],
-    ),
-    (
-        "advancers both ways",
-        &[
-            (Call::Insert(10), "Ok(1.2)"),
-            (Call::Insert(20), "Ok(2.2)"),
-            (Call::Insert(30), "Ok(3.2)"),
-            (Call::Remove(2, 2), "Success(20)"),
-            (Call::AdvanceFrom(2, false), "(Some(3.2), None, None)"),
-            (Call::AdvanceFrom(2, true), "(Some(1.2), None, None)"),
-            (Call::AdvanceFrom(3, true), "(Some(3.2), Some(1.2), None)"),
-        ],
-    ),
-    (
-        "all entries by rising index",
-        &[
-            (Call::InsertMany(5), "5"),
-            (Call::First, "Some(1.2)"),
-            (Call::Remove(1, 2), "Success(0)"),
-            (
-                Call::TakeAll,
-                "Ok([(2.2, 1), (3.2, 2), (4.2, 3), (5.2, 4)])",
-            ),
-            (Call::IsEmpty, "true"),
-        ],
-    ),
-    (
-        "an index type of 255",
-        &[
-            (Call::InsertMany(255), "255"),
-            (Call::Len, "255"),
-            (Call::Capacity, "255"),
-            (Call::Insert(255), "Err(AllocError)"),
-            (Call::InsertWithin(255), "Err(NotWithinCapacityError)"),
-            (Call::Enter(255), "Err(NotWithinCapacityError)"),
-            (Call::Reserve(256), "Err(AllocError)"),
-            (Call::Len, "255"),
-        ],
-    ),
-    // Room up to the greatest index is to be had, though in proportion it would be more. A new arena follows each drain.
-    (
-        "room up to the greatest index",
-        &[
-            (Call::Reserve(255), "Ok(())"),
-            (Call::Capacity, "255"),
-            (Call::Drain, "[]"),
-            (Call::Insert(10), "Ok(1.2)"),
-            (Call::Reserve(255), "Ok(())"),
-            (Call::Capacity, "255"),
-            (Call::Drain, "[(1.2, 10)]"),
-            (Call::Reserve(200), "Ok(())"),
-            (Call::Reserve(201), "Ok(())"),
-            (Call::HasRoom(201), "true"),
-        ],
-    ),
-    (
-        "a generation type of 255",
-        &[
-            (Call::Insert(7), "Ok(1.2)"),
-            (Call::SetGeneration(255), "()"),
-            (Call::Remove(1, 2), "GenerationOverflow(7)"),
-            (Call::Generation, "2"),
-            (Call::Remove(1, 2), "InvalidPtr"),
-            (Call::Clear, "Success(())"),
-            (Call::Generation, "2"),
-        ],
-    ),
-    (
-        "a dropped place changes nothing",
-        &[
-            (Call::Reserve(2), "Ok(())"),
-            (Call::DropPlace(true), "Some(1.2)"),
-            (Call::DropPlace(false), "Some(1.2)"),
-            (Call::Len, "0"),
-            (Call::Contains(1, 2), "false"),
-            (Call::InsertWithin(7), "Ok(1.2)"),
-        ],
-    ),
-];
-
-// An index is used again under the same pointer, and five entries are taken out.
-fn check_reuse<A: Answers + Drop>(rt: &impl Abort, alloc: Global) {
-    let mut arena = A::fresh(alloc);
-    for k in 0..300u32 {
-        let p = arena.answer(alloc, Call::Insert(k));
-        same(rt, "the pointer", p.as_str(), "Ok(1.0)");
-        let gone = arena.answer(alloc, Call::Remove(1, 0));
-        let want = text(alloc, InvalidationResult::Success(k));
-        same(rt, "the value", gone.as_str(), want.as_str());
-    }
-    runs(
-        rt,
-        alloc,
-        "five entries",
-        &mut arena,
-        &[
-            (Call::InsertMany(5), "5"),
-            (
-                Call::TakeAll,
-                "Ok([(1.0, 0), (2.0, 1), (3.0, 2), (4.0, 3), (5.0, 4)])",
-            ),
-            (Call::IsEmpty, "true"),
-        ],
-    );
+// The table, which a body of its own names.
+pub(super) fn nexts() -> &'static [Row] {
+    &NEXTS
 }
 
+static NEXTS: [Row; 61] = [
+    (Call::New, "last freed first used"),
+    (Call::Insert(10), "Ok(1.2)"),
+    (Call::Insert(20), "Ok(2.2)"),
+    (Call::Insert(30), "Ok(3.2)"),
+    (Call::Remove(2, 2), "Success(20)"),
+    (Call::Remove(1, 2), "Success(10)"),
+    (Call::Insert(40), "Ok(1.4)"),
+    (Call::Insert(50), "Ok(2.4)"),
+    (Call::Insert(60), "Ok(4.4)"),
+    (Call::Get(3, 2), "Some(30)"),
+    (Call::Get(1, 2), "None"),
+    (Call::Held, "[(1.4, 40), (2.4, 50), (3.2, 30), (4.4, 60)]"),
+    (Call::New, "advancers both ways"),
+    (Call::Insert(10), "Ok(1.2)"),
+    (Call::Insert(20), "Ok(2.2)"),
+    (Call::Insert(30), "Ok(3.2)"),
+    (Call::Remove(2, 2), "Success(20)"),
+    (Call::AdvanceFrom(2, false), "(Some(3.2), None, None)"),
+    (Call::AdvanceFrom(2, true), "(Some(1.2), None, None)"),
+    (Call::AdvanceFrom(3, true), "(Some(3.2), Some(1.2), None)"),
+    (Call::New, "all entries by rising index"),
+    (Call::InsertMany(5), "5"),
+    (Call::Ends, "(Some(1.2), Some(5.2))"),
+    (Call::Remove(1, 2), "Success(0)"),
+    (Call::Drain, "[(2.2, 1), (3.2, 2), (4.2, 3), (5.2, 4)]"),
+    (Call::IsEmpty, "true"),
+    (Call::New, "an index type of 255"),
+    (Call::InsertMany(255), "255"),
+    (Call::Len, "255"),
+    (Call::Capacity, "255"),
+    (Call::Insert(255), "Err(AllocError)"),
+    (Call::InsertWithin(255), "Err(NotWithinCapacityError)"),
+    (Call::Enter(Some(255)), "Err(NotWithinCapacityError)"),
+    (Call::Reserve(256), "Err(AllocError)"),
+    (Call::Len, "255"),
+    // Room up to the greatest index is to be had, though in proportion it would be more. A new arena follows each drain.
+    (Call::New, "room up to the greatest index"),
+    (Call::Reserve(255), "Ok(())"),
+    (Call::Capacity, "255"),
+    (Call::Drain, "[]"),
+    (Call::Insert(10), "Ok(1.2)"),
+    (Call::Reserve(255), "Ok(())"),
+    (Call::Capacity, "255"),
+    (Call::Drain, "[(1.2, 10)]"),
+    (Call::Reserve(200), "Ok(())"),
+    (Call::Reserve(201), "Ok(())"),
+    (Call::HasRoom(201), "true"),
+    (Call::New, "a generation type of 255"),
+    (Call::Insert(7), "Ok(1.2)"),
+    (Call::SetGeneration(255), "()"),
+    (Call::Remove(1, 2), "GenerationOverflow(7)"),
+    (Call::Generation, "2"),
+    (Call::Remove(1, 2), "InvalidPtr"),
+    (Call::ClearInRoom, "(Success(()), Ok(()), true)"),
+    (Call::Generation, "2"),
+    (Call::New, "a dropped place changes nothing"),
+    (Call::Reserve(2), "Ok(())"),
+    (Call::Enter(None), "Ok(1.2)"),
+    (Call::Enter(None), "Ok(1.2)"),
+    (Call::Len, "0"),
+    (Call::Contains(1, 2), "false"),
+    (Call::InsertWithin(7), "Ok(1.2)"),
+];
+
+// An index is used again under the same pointer, no removal overflows, and five entries are taken out.
+static REUSED: [Row; 12] = [
+    (Call::New, "pointers without generations"),
+    (Call::Insert(6), "Ok(1.0)"),
+    (Call::Remove(1, 0), "Success(6)"),
+    (Call::Insert(7), "Ok(1.0)"),
+    (Call::Remove(1, 0), "Success(7)"),
+    (Call::InsertMany(255), "255"),
+    (Call::Remove(9, 0), "Success(8)"),
+    (Call::Insert(8), "Ok(9.0)"),
+    (Call::ClearInRoom, "(Success(()), Ok(()), true)"),
+    (Call::InsertMany(5), "5"),
+    (
+        Call::Drain,
+        "[(1.0, 0), (2.0, 1), (3.0, 2), (4.0, 3), (5.0, 4)]",
+    ),
+    (Call::IsEmpty, "true"),
+];
+
 // Pointers to indexes alone.
+fn check_reused<A: Answers + Drop>(rt: &impl Abort, alloc: Global) {
+    runs(rt, alloc, &mut A::fresh(alloc), &REUSED);
+}
+
 #[test]
 fn pointers_without_generations(rt: HostRuntime) {
-    check_reuse::<Arena<BarePtr, u32>>(&rt, rt.alloc());
+    check_reused::<Arena<BarePtr, u32>>(&rt, rt.alloc());
 }

@@ -1,9 +1,9 @@
 // Calls of arenas as rows of tables, each with the text of its answer.
-use crate::tests::generic::take_all;
+use crate::tests::copies::copied_hole;
 use crate::tests::pointers::Numbered;
-use crate::tests::tools::{at, index, same, text};
-use arena_base::{Advancer, ArenaTrait};
-use arena_ptr::{InvalidationOption, PtrKey, ReallocationError};
+use crate::tests::tools::{Slot, at, index, same, text};
+use arena_base::{Advancer, ArenaCloneFromWith, ArenaTrait};
+use arena_ptr::{InvalidationOption, PtrKey, ReallocationError, SlotStack};
 use std::alloc::Global;
 use std::mem;
 use std::process::Abort;
@@ -11,6 +11,8 @@ use std::process::Abort;
 // A call on an arena. A pointer is its index and its generation.
 #[derive(Clone, Copy)]
 pub(super) enum Call {
+    // A new arena. The text is the name of what follows.
+    New,
     // Whether an arena that is born with room for so many entries is empty, and has the room.
     Born(usize),
     // Looks of the trait.
@@ -23,9 +25,9 @@ pub(super) enum Call {
     Contains(u8, u8),
     Get(u8, u8),
     GetInx(u8),
-    First,
-    Last,
-    // The first answer of an advancer, the first three of one from an index on, and that of an empty one.
+    // The first entry's pointer and the last one's.
+    Ends,
+    // The first three answers of an advancer, of one from an index on, and of an empty one.
     Advance,
     AdvanceFrom(u8, bool),
     AdvanceEmpty,
@@ -37,42 +39,37 @@ pub(super) enum Call {
     Invalidate(u8, u8),
     Remove(u8, u8),
     RemoveInx(u8),
-    Clear,
     // A clear, after which there is asked for as much room as there was: both answers, and whether the capacity stays.
     ClearInRoom,
-    // A compression, and one by a closure that adds the number of its call to each value, or writes it over each value:
-    // its answer, and what it saw.
+    // A compression, and one by a closure that adds the number of its call to each value: its answer, and what it saw.
     Compress(bool),
     CompressWith(bool),
-    NumberValues(bool),
     Reserve(usize),
     // Calls of the arena itself.
     Insert(u32),
     InsertMany(u32),
     InsertWithin(u32),
-    Enter(u32),
-    // A place for an entry that is dropped by a call, or where its scope ends: its pointer.
-    DropPlace(bool),
+    // A place for an entry that gets a value, or is dropped: its pointer.
+    Enter(Option<u32>),
     Generation,
     SetGeneration(u8),
     IncGeneration,
     Slots,
     Entries,
-    // Takes the entries out by an advancer, or with the arena.
-    TakeAll,
+    // Takes the entries out with the arena.
     Drain,
-    // Calls of a compactor: a move to an index with a generation, a write after looks at two indexes, and none.
-    Move(u8, u8, u8),
-    Rewrite(u8, u8, u32),
+    // A compactor: a look at an index, over whose value another may be written before, and a move of its entry to another index
+    // with a generation where that is one of the slots.
+    Compact(u8, u8, u8, Option<u32>),
     DropCompactor,
     ForgetCompactor,
     // A copy of the entries 1, 2 and 3, of which the second is removed, by a closure that adds the number of its call to
-    // ten times each value: how many entries there are, and how many calls there were.
+    // ten times each value: its answer, how many entries there are, and how many calls there were.
     CopyHole,
 }
 
-// A name, and calls with the texts of their answers.
-pub(super) type Script = (&'static str, &'static [(Call, &'static str)]);
+// A call with the text of its answer.
+pub(super) type Row = (Call, &'static str);
 
 // What an arena holds, as its indexes show it.
 fn listed<P: PtrKey, A: ArenaTrait<P, u32>>(alloc: Global, arena: &A) -> Vec<(P, u32)> {
@@ -122,20 +119,27 @@ fn thrice<P: PtrKey, C, A: Advancer<C, Item = P>>(mut advancer: A, collection: &
     )
 }
 
-// Compresses an arena, adds to each value which call of the closure it was, or writes that alone, and lists what the
-// closure saw.
+// .. of one that looks by rising index, of one from an index on, or of an empty one.
+fn advanced<P: PtrKey, A: ArenaTrait<P, u32>>(arena: &A, call: Call, i: P::Inx) -> Three<P> {
+    match call {
+        Call::AdvanceFrom(_, rev) => thrice(arena.advancer_inx(i, rev), arena),
+        Call::AdvanceEmpty => thrice(A::PtrAdvancer::empty(), arena),
+        _ => thrice(arena.advancer(), arena),
+    }
+}
+
+// Compresses an arena, adds to each value which call of the closure it was, and lists what the closure saw.
 fn compressed<P: PtrKey, A: ArenaTrait<P, u32>>(
     alloc: Global,
     arena: &mut A,
     reset: bool,
-    adds: bool,
 ) -> (InvalidationOption<()>, Vec<(P, u32, P)>) {
     let mut seen = Vec::new(alloc);
     let mut calls = 0u32;
     let answer = arena.compress_with(reset, |from: P, t: &mut u32, to: P| {
         let _ = seen.push((from, *t, to));
         calls = calls.saturating_add(1);
-        *t = if adds { t.saturating_add(calls) } else { calls };
+        *t = t.saturating_add(calls);
     });
     (answer, seen)
 }
@@ -180,15 +184,12 @@ fn walk_answer<P: Numbered, A: ArenaTrait<P, u32>>(
     p: P,
 ) -> String {
     match call {
-        Call::First => text(alloc, arena.find_first_inx_ptr()),
-        Call::Last => text(alloc, arena.find_last_inx_ptr()),
-        Call::Advance => text(alloc, arena.advancer().advance(arena)),
-        Call::AdvanceFrom(_, rev) => {
-            text(alloc, thrice(arena.advancer_inx(p.inx(), rev), arena))
+        Call::Ends => {
+            let ends = (arena.find_first_inx_ptr(), arena.find_last_inx_ptr());
+            text(alloc, ends)
         }
-        Call::AdvanceEmpty => text(alloc, A::PtrAdvancer::empty().advance(arena)),
         Call::Held => text(alloc, listed(alloc, arena)),
-        _ => text(alloc, "no call of the trait"),
+        _ => text(alloc, advanced(arena, call, p.inx())),
     }
 }
 
@@ -239,25 +240,27 @@ fn whole_change_answer<P: Numbered, A: ArenaTrait<P, u32> + Drop>(
     p: P,
 ) -> String {
     match call {
-        Call::Clear => text(alloc, arena.clear()),
         Call::ClearInRoom => text(alloc, cleared(arena)),
         Call::Compress(reset) => text(alloc, arena.compress(reset)),
-        Call::CompressWith(reset) => text(alloc, compressed(alloc, arena, reset, true)),
-        Call::NumberValues(reset) => text(alloc, compressed(alloc, arena, reset, false)),
+        Call::CompressWith(reset) => text(alloc, compressed(alloc, arena, reset)),
         Call::Reserve(n) => text(alloc, arena.reallocate_min_capacity(n)),
-        Call::TakeAll => text(alloc, take_all(alloc, arena)),
         other => look_answer(alloc, arena, other, p),
     }
 }
 
-// .. the pointer of which is named.
-pub(super) fn trait_answer<P: Numbered, A: ArenaTrait<P, u32> + Drop>(
-    alloc: Global,
-    arena: &mut A,
-    call: Call,
-) -> String {
-    let (i, g) = named(call);
-    change_answer(alloc, arena, call, at(i, g))
+// .. the pointer of which is named, or to a copy of an arena over such a stack.
+pub(super) fn trait_answer<
+    P: Numbered,
+    R: SlotStack<Item = Slot<P>>,
+    A: ArenaCloneFromWith<P, u32> + Drop,
+>(alloc: Global, arena: &mut A, call: Call) -> String {
+    match call {
+        Call::CopyHole => text(alloc, copied_hole::<P, R, A>(alloc, arena)),
+        other => {
+            let (i, g) = named(other);
+            change_answer(alloc, arena, other, at(i, g))
+        }
+    }
 }
 
 // An arena that answers calls.
@@ -268,23 +271,15 @@ pub(super) trait Answers {
 }
 
 // Each call answers its text.
-pub(super) fn runs<A: Answers>(
-    rt: &impl Abort,
-    alloc: Global,
-    name: &str,
-    arena: &mut A,
-    rows: &[(Call, &str)],
-) {
+pub(super) fn runs<A: Answers + Drop>(rt: &impl Abort, alloc: Global, arena: &mut A, rows: &[Row]) {
+    let mut name = "";
     for (call, want) in rows {
-        let got = arena.answer(alloc, *call);
-        same(rt, name, got.as_str(), *want);
-    }
-}
-
-// Of each script, each call answers its text. It begins with a new arena.
-pub(super) fn plays<A: Answers + Drop>(rt: &impl Abort, alloc: Global, scripts: &[Script]) {
-    for (name, rows) in scripts {
-        let mut arena = A::fresh(alloc);
-        runs(rt, alloc, name, &mut arena, rows);
+        if let Call::New = call {
+            *arena = A::fresh(alloc);
+            name = want;
+        } else {
+            let got = arena.answer(alloc, *call);
+            same(rt, name, got.as_str(), want);
+        }
     }
 }

@@ -1,25 +1,14 @@
 // Slot stacks through their bounds: filled, refused, edited, limited.
-ghost use Rattle.std.specs.Prelude.{◌≡◌, ◌+◌, ◌<◌, ◌↔◌, [], ◌∷◌, ◌++◌, length, IsErr, IsOk, OnOk, OnErr, OnSome, IfNone, Err, Some, slice_get, slice_set};
-ghost use Rattle.std.specs.Borrow.{Lends, sem};
-ghost use Rattle.arena_ptr.specs.SlotStack.{IsBeyond};
-
-use crate::tests::tools::{same, text};
+use crate::tests::tools::{equal, same, text};
 use arena_ptr::{
-    ChunkStack, HeapStack, LimitStack, LimitedStack, MaxCapacityReductionError, ReallocationError,
-    SetMaxCapacity, SlotStack,
+    ChunkStack, HeapStack, LimitStack, LimitedStack, ReallocationError, SetMaxCapacity, SlotStack,
 };
 use std::alloc::Global;
 use std::mem;
 use std::process::Abort;
 
 // Appends an item, after a growth where the stack is full, and tells whether it grew.
-fn push<S: SlotStack>(stack: &mut S, item: S::Item) -> Result<bool, ReallocationError>
-    ensures ok { OnOk result (S.items stack.new ≡ S.items stack.old ++ item ∷ []) }
-    ensures err { OnErr result ((S.items stack.new ≡ S.items stack.old) × (S.capacity stack.new ≡ S.capacity stack.old)) }
-    ensures maximum { S.maximum stack.new ≡ S.maximum stack.old }
-    ensures beyond { (result ≡ Err ReallocationError.BeyondMaxCapacity) ↔ ((length (S.items stack.old) ≡ S.capacity stack.old) × IsBeyond (S.maximum stack.old) (length (S.items stack.old) + 1)) }
-    ensures room { length (S.items stack.old) < S.capacity stack.old → IsOk result }
-{
+fn push<S: SlotStack>(stack: &mut S, item: S::Item) -> Result<bool, ReallocationError> {
     let full = stack.len() == stack.capacity();
     if full {
         stack.reserve_to(stack.len() + 1)?;
@@ -29,38 +18,11 @@ fn push<S: SlotStack>(stack: &mut S, item: S::Item) -> Result<bool, Reallocation
 }
 
 // Writes an item over another, which it answers.
-fn replace<E: Drop, S: SlotStack<Item = E>>(stack: &mut S, i: usize, item: E) -> Option<E>
-    ensures was { result ≡ slice_get (S.items stack.old) i }
-    ensures some { OnSome result (S.items stack.new ≡ slice_set (S.items stack.old) i item) }
-    ensures none { IfNone result (stack.new ≡ stack.old) }
-    ensures capacity { S.capacity stack.new ≡ S.capacity stack.old }
-    ensures maximum { S.maximum stack.new ≡ S.maximum stack.old }
-{
+fn replace<E: Drop, S: SlotStack<Item = E>>(stack: &mut S, i: usize, item: E) -> Option<E> {
     match stack.get_mut(i) {
         Some(slot) => Some(mem::replace(slot, item)),
         None => None,
     }
-}
-
-// The slot at a position within the length, for writing.
-fn slot_mut<E: Drop, S: SlotStack<Item = E>>(stack: &mut S, i: usize) -> &mut E
-    requires { i < length (S.items stack.old) }
-    ensures* lends { sem 𝓛 (Lends S.row E.row stack.entry result (S.with_item stack.old i)) }
-    ensures value { slice_get (S.items stack.old) i ≡ Some result.now }
-{
-    match stack.get_mut(i) {
-        Some(slot) => slot,
-        None => unreachable!(),
-    }
-}
-
-// Sets the maximum, at a stack as well as at what is made over one.
-fn limit<S: LimitStack>(stack: &mut S, n: usize) -> Result<(), MaxCapacityReductionError>
-    ensures refused { IsErr result ↔ (n < S.capacity stack.old) }
-    ensures ok { OnOk result ((S.items stack.new ≡ S.items stack.old) × (S.capacity stack.new ≡ S.capacity stack.old) × (S.maximum stack.new ≡ Some n)) }
-    ensures err { OnErr result (stack.new ≡ stack.old) }
-{
-    stack.set_max_capacity(n)
 }
 
 // A stack over another that grows as often as its ration, then refuses once, and has a ration of one after that.
@@ -156,24 +118,6 @@ impl<S: SlotStack> SlotStack for Rationed<S> {
     }
 }
 
-impl<S: LimitStack> SetMaxCapacity for Rationed<S> {
-    ghost stack_capacity = { λ s. S.capacity s.inner };
-
-    ghost limits = { λ s n t. (S.items t.inner ≡ S.items s.inner) × (S.capacity t.inner ≡ S.capacity s.inner) × (S.maximum t.inner ≡ Some n) };
-
-    fn set_max_capacity(&mut self, n: usize) -> Result<(), MaxCapacityReductionError> {
-        self.inner.set_max_capacity(n)
-    }
-}
-
-impl<S: LimitStack> LimitStack for Rationed<S> {
-    ghost use Rattle.std.specs.Prelude.{refl};
-
-    ghost same_capacity = { λ _. refl };
-
-    ghost limited = { λ s t n kept. kept };
-}
-
 // A call on a stack of numbers.
 #[derive(Clone, Copy)]
 enum Call {
@@ -245,263 +189,261 @@ fn runs<S: SlotStack<Item = u32>>(
 ) {
     for (call, want) in rows {
         let after = told(alloc, stack, *call);
-        same(rt, want, after.as_str(), *want);
+        same(rt, "what is left", after.as_str(), want);
     }
 }
 
-// A maximum is set, or a call is made.
-#[derive(Clone, Copy)]
-enum Step {
-    Most(usize),
-    Does(Call),
-}
+// A maximum, whether it is set, and calls on the stack after that.
+type Maximum = (usize, &'static str, &'static [(Call, &'static str)]);
 
-// The answer of either, and what it leaves.
-fn limited_told<S: LimitStack<Item = u32>>(alloc: Global, stack: &mut S, step: Step) -> String {
-    match step {
-        Step::Most(n) => {
-            let answer = limit(stack, n);
-            text(alloc, (answer, shape(stack), held(alloc, stack)))
-        }
-        Step::Does(call) => told(alloc, stack, call),
+// A maximum of five is tested before memory is asked for, is not set below the capacity, and raised to seven gives room for two
+// more.
+static RAISED: [Maximum; 5] = [
+    (
+        5,
+        "Ok(())",
+        &[
+            (Call::Fill(0), "(Ok(false), (0, 0, Some(5)), [])"),
+            (
+                Call::Fill(5),
+                "(Ok(true), (5, 5, Some(5)), [0, 1, 2, 3, 4])",
+            ),
+            (
+                Call::Reserve(6),
+                "(Err(BeyondMaxCapacity), (5, 5, Some(5)), [0, 1, 2, 3, 4])",
+            ),
+            (
+                Call::Reserve(usize::MAX),
+                "(Err(BeyondMaxCapacity), (5, 5, Some(5)), [0, 1, 2, 3, 4])",
+            ),
+            (
+                Call::Push(5),
+                "(Err(BeyondMaxCapacity), (5, 5, Some(5)), [0, 1, 2, 3, 4])",
+            ),
+            (
+                Call::Reserve(5),
+                "(Ok(false), (5, 5, Some(5)), [0, 1, 2, 3, 4])",
+            ),
+        ],
+    ),
+    (
+        4,
+        "Err(MaxCapacityReductionError)",
+        &[(
+            Call::Fill(0),
+            "(Ok(false), (5, 5, Some(5)), [0, 1, 2, 3, 4])",
+        )],
+    ),
+    (
+        5,
+        "Ok(())",
+        &[(
+            Call::Fill(0),
+            "(Ok(false), (5, 5, Some(5)), [0, 1, 2, 3, 4])",
+        )],
+    ),
+    (
+        7,
+        "Ok(())",
+        &[
+            (
+                Call::Fill(0),
+                "(Ok(false), (5, 5, Some(7)), [0, 1, 2, 3, 4])",
+            ),
+            (
+                Call::Push(5),
+                "(Ok(true), (6, 7, Some(7)), [0, 1, 2, 3, 4, 5])",
+            ),
+            (
+                Call::Push(6),
+                "(Ok(false), (7, 7, Some(7)), [0, 1, 2, 3, 4, 5, 6])",
+            ),
+            (
+                Call::Push(7),
+                "(Err(BeyondMaxCapacity), (7, 7, Some(7)), [0, 1, 2, 3, 4, 5, 6])",
+            ),
+        ],
+    ),
+    (
+        100,
+        "Ok(())",
+        &[
+            (
+                Call::Fill(0),
+                "(Ok(false), (7, 7, Some(100)), [0, 1, 2, 3, 4, 5, 6])",
+            ),
+            (
+                Call::Reserve(100),
+                "(Ok(true), (7, 100, Some(100)), [0, 1, 2, 3, 4, 5, 6])",
+            ),
+        ],
+    ),
+];
+
+// The greatest maximum, under which memory refuses, and none at all.
+static WIDE: [Maximum; 1] = [(
+    usize::MAX,
+    "Ok(())",
+    &[
+        (
+            Call::Reserve(usize::MAX),
+            "(Err(AllocError), (0, 0, Some(18446744073709551615)), [])",
+        ),
+        (
+            Call::Push(7),
+            "(Ok(true), (1, 1, Some(18446744073709551615)), [7])",
+        ),
+    ],
+)];
+
+static NEVER: [Maximum; 1] = [(
+    0,
+    "Ok(())",
+    &[
+        (Call::Fill(0), "(Ok(false), (0, 0, Some(0)), [])"),
+        (
+            Call::Push(1),
+            "(Err(BeyondMaxCapacity), (0, 0, Some(0)), [])",
+        ),
+    ],
+)];
+
+// A new stack under one maximum after the other.
+fn limits<S: LimitStack<Item = u32>>(rt: &impl Abort, alloc: Global, maxima: &[Maximum]) {
+    let mut stack = S::new(alloc);
+    for (most, want, rows) in maxima {
+        let set = text(alloc, stack.set_max_capacity(*most));
+        same(rt, "a maximum", set.as_str(), want);
+        runs(rt, alloc, &mut stack, rows);
     }
 }
 
-// Each step is told as its text.
-fn limits<S: LimitStack<Item = u32>>(
-    rt: &impl Abort,
-    alloc: Global,
-    stack: &mut S,
-    rows: &[(Step, &str)],
-) {
-    for (step, want) in rows {
-        let after = limited_told(alloc, stack, *step);
-        same(rt, want, after.as_str(), *want);
-    }
+// A maximum that is raised, the greatest one, and none at all.
+fn check_limits<S: LimitStack<Item = u32>>(rt: &impl Abort, alloc: Global) {
+    limits::<S>(rt, alloc, &RAISED);
+    limits::<S>(rt, alloc, &WIDE);
+    limits::<S>(rt, alloc, &NEVER);
 }
 
 // A look at a stack of numbers, or an edit of it.
 #[derive(Clone, Copy)]
 enum Edit {
-    Shape,
-    Len,
-    Items,
     Read(usize),
     Replace(usize, u32),
-    // A write through the slot at a position, and an exchange of two items, each within the length.
-    Write(usize, u32),
+    // An exchange of two items where they stand, and what is the first then.
     Swap(usize, usize),
+    // What stands behind those that are left.
     Truncate(usize),
-    // A reservation, and whether one gives at least as much room.
-    Reserve(usize),
-    Far(usize),
 }
 
-// Writes an item where one stands, and tells whether one does.
-fn written<S: SlotStack<Item = u32>>(stack: &mut S, i: usize, item: u32) -> bool {
-    if i < stack.len() {
-        *slot_mut(stack, i) = item;
-        true
-    } else {
-        false
+// The item at a position.
+fn read<S: SlotStack<Item = u32>>(stack: &S, i: usize) -> Option<u32> {
+    match stack.get(i) {
+        Some(item) => Some(*item),
+        None => None,
     }
 }
 
-// Exchanges items where they stand, and tells whether they do.
-fn swapped<S: SlotStack<Item = u32>>(stack: &mut S, i: usize, j: usize) -> bool {
-    if i < stack.len() && j < stack.len() {
-        stack.swap(i, j);
-        true
-    } else {
-        false
-    }
-}
-
-// Shortens a stack that is not shorter, and tells its length then.
-fn truncated<S: SlotStack<Item = u32>>(stack: &mut S, n: usize) -> usize {
-    if n <= stack.len() {
-        stack.truncate(n);
-    }
-    stack.len()
-}
-
-// The answer to a look or an edit.
-fn edited<S: SlotStack<Item = u32>>(alloc: Global, stack: &mut S, edit: Edit) -> String {
+// The item that a look or an edit answers.
+fn edited<S: SlotStack<Item = u32>>(stack: &mut S, edit: Edit) -> Option<u32> {
     match edit {
-        Edit::Shape => text(alloc, shape(stack)),
-        Edit::Len => text(alloc, stack.len()),
-        Edit::Items => text(alloc, held(alloc, stack)),
-        Edit::Read(i) => text(alloc, stack.get(i)),
-        Edit::Replace(i, item) => text(alloc, replace(stack, i, item)),
-        Edit::Write(i, item) => text(alloc, written(stack, i, item)),
-        Edit::Swap(i, j) => text(alloc, swapped(stack, i, j)),
-        Edit::Truncate(n) => text(alloc, truncated(stack, n)),
-        Edit::Reserve(n) => text(alloc, stack.reserve_to(n)),
-        Edit::Far(n) => text(alloc, stack.reserve_to(n).is_ok() && stack.capacity() >= n),
+        Edit::Read(i) => read(stack, i),
+        Edit::Replace(i, item) => replace(stack, i, item),
+        Edit::Swap(i, j) => {
+            if i < stack.len() && j < stack.len() {
+                stack.swap(i, j);
+            }
+            read(stack, i)
+        }
+        Edit::Truncate(n) => {
+            if n <= stack.len() {
+                stack.truncate(n);
+            }
+            read(stack, n)
+        }
     }
 }
-
-// Each edit answers its text.
-fn edits<S: SlotStack<Item = u32>>(
-    rt: &impl Abort,
-    alloc: Global,
-    stack: &mut S,
-    rows: &[(Edit, &str)],
-) {
-    for (edit, want) in rows {
-        let got = edited(alloc, stack, *edit);
-        same(rt, "an edit", got.as_str(), *want);
-    }
-}
-
-// A new stack.
-static NEW: [(Edit, &str); 2] = [(Edit::Shape, "(0, 0, None)"), (Edit::Read(0), "None")];
 
 // A stack of a thousand numbers, read at its end and beyond, and edited, of which four are left.
-static EDITS: [(Edit, &str); 11] = [
-    (Edit::Read(999), "Some(999)"),
-    (Edit::Read(1000), "None"),
-    (Edit::Replace(1, 70), "Some(1)"),
-    (Edit::Replace(1000, 70), "None"),
-    (Edit::Len, "1000"),
-    (Edit::Swap(0, 999), "true"),
-    (Edit::Swap(2, 2), "true"),
-    (Edit::Write(3, 80), "true"),
-    (Edit::Truncate(4), "4"),
-    (Edit::Truncate(4), "4"),
-    (Edit::Items, "[999, 70, 2, 80]"),
+static EDITS: [(Edit, Option<u32>); 9] = [
+    (Edit::Read(999), Some(999)),
+    (Edit::Read(1000), None),
+    (Edit::Replace(1, 70), Some(1)),
+    (Edit::Replace(1000, 70), None),
+    (Edit::Swap(0, 999), Some(999)),
+    (Edit::Swap(2, 2), Some(2)),
+    (Edit::Replace(3, 80), Some(3)),
+    (Edit::Truncate(4), None),
+    (Edit::Truncate(4), None),
 ];
+
+// .. of which each edit answers its item.
+fn edits<S: SlotStack<Item = u32>>(rt: &impl Abort, stack: &mut S) {
+    for (edit, want) in &EDITS {
+        equal(rt, "an edit", edited(stack, *edit), *want);
+    }
+}
 
 // A stack that is filled in so few growths, and edited, which leaves as much room.
 fn check_edits<S: SlotStack<Item = u32>>(rt: &impl Abort, alloc: Global, few: u64) {
     let mut stack = S::new(alloc);
-    edits(rt, alloc, &mut stack, &NEW);
-    same(rt, "few growths", fill(&mut stack, 1000) <= few, true);
+    equal(
+        rt,
+        "nothing",
+        (shape(&stack), read(&stack, 0)),
+        ((0, 0, None), None),
+    );
+    equal(rt, "few growths", fill(&mut stack, 1000) <= few, true);
     let capacity = stack.capacity();
-    edits(rt, alloc, &mut stack, &EDITS);
-    same(rt, "as much room", shape(&stack), (4, capacity, None));
+    edits(rt, &mut stack);
+    let left = text(alloc, held(alloc, &stack));
+    same(rt, "what is left", left.as_str(), "[999, 70, 2, 80]");
+    equal(rt, "as much room", shape(&stack), (4, capacity, None));
     stack.truncate(0);
-    same(rt, "as much still", shape(&stack), (0, capacity, None));
+    equal(rt, "as much still", shape(&stack), (0, capacity, None));
 }
 
-// A growth that goes far beyond the room for one.
-static FAR: [(Edit, &str); 2] = [(Edit::Far(100), "true"), (Edit::Len, "1")];
+// Whether there is room for so many, once it is asked for.
+fn has_grown<S: SlotStack<Item = u32>>(stack: &mut S, n: usize) -> bool {
+    stack.reserve_to(n).is_ok() && stack.capacity() >= n
+}
 
-// A growth to this room for one, and then that one.
-fn check_far_growth<S: SlotStack<Item = u32>>(rt: &impl Abort, alloc: Global, one: usize) {
+// A growth to this room for one, one that goes far beyond, and one that no block can hold, which changes nothing.
+fn check_growth<S: SlotStack<Item = u32>>(rt: &impl Abort, alloc: Global, one: usize) {
     let mut stack = S::new(alloc);
     fill(&mut stack, 1);
-    same(rt, "room for one", shape(&stack), (1, one, None));
-    edits(rt, alloc, &mut stack, &FAR);
+    equal(rt, "room for one", shape(&stack), (1, one, None));
+    equal(rt, "far", has_grown(&mut stack, 100), true);
+    equal(rt, "no growth", fill(&mut stack, 2), 0);
+    let before = shape(&stack);
+    let refused = answer_to(&mut stack, Call::Reserve(usize::MAX));
+    equal(rt, "refused", refused, Err(ReallocationError::AllocError));
+    equal(rt, "unchanged", shape(&stack), before);
+    equal(rt, "farther", has_grown(&mut stack, 1000), true);
+    let left = text(alloc, held(alloc, &stack));
+    same(rt, "what is held", left.as_str(), "[0, 0, 1]");
 }
-
-// A reservation that no block can hold, and one that is granted.
-static REFUSED: [(Edit, &str); 1] = [(Edit::Reserve(usize::MAX), "Err(AllocError)")];
-
-static GRANTED: [(Edit, &str); 3] = [
-    (Edit::Items, "[0, 1, 2]"),
-    (Edit::Far(5), "true"),
-    (Edit::Len, "3"),
-];
-
-// What is refused changes nothing.
-fn check_refused_memory<S: SlotStack<Item = u32>>(rt: &impl Abort, alloc: Global, stack: &mut S) {
-    fill(stack, 3);
-    let before = shape(stack);
-    edits(rt, alloc, stack, &REFUSED);
-    same(rt, "unchanged", shape(stack), before);
-    edits(rt, alloc, stack, &GRANTED);
-}
-
-// A maximum of five is tested before memory is asked for, is not set below the capacity, and raised to seven gives room for two
-// more.
-static RAISED: [(Step, &str); 14] = [
-    (Step::Most(5), "(Ok(()), (0, 0, Some(5)), [])"),
-    (
-        Step::Does(Call::Fill(5)),
-        "(Ok(true), (5, 5, Some(5)), [0, 1, 2, 3, 4])",
-    ),
-    (
-        Step::Does(Call::Reserve(6)),
-        "(Err(BeyondMaxCapacity), (5, 5, Some(5)), [0, 1, 2, 3, 4])",
-    ),
-    (
-        Step::Does(Call::Reserve(usize::MAX)),
-        "(Err(BeyondMaxCapacity), (5, 5, Some(5)), [0, 1, 2, 3, 4])",
-    ),
-    (
-        Step::Does(Call::Push(5)),
-        "(Err(BeyondMaxCapacity), (5, 5, Some(5)), [0, 1, 2, 3, 4])",
-    ),
-    (
-        Step::Does(Call::Reserve(5)),
-        "(Ok(false), (5, 5, Some(5)), [0, 1, 2, 3, 4])",
-    ),
-    (
-        Step::Most(4),
-        "(Err(MaxCapacityReductionError), (5, 5, Some(5)), [0, 1, 2, 3, 4])",
-    ),
-    (Step::Most(5), "(Ok(()), (5, 5, Some(5)), [0, 1, 2, 3, 4])"),
-    (Step::Most(7), "(Ok(()), (5, 5, Some(7)), [0, 1, 2, 3, 4])"),
-    (
-        Step::Does(Call::Push(5)),
-        "(Ok(true), (6, 7, Some(7)), [0, 1, 2, 3, 4, 5])",
-    ),
-    (
-        Step::Does(Call::Push(6)),
-        "(Ok(false), (7, 7, Some(7)), [0, 1, 2, 3, 4, 5, 6])",
-    ),
-    (
-        Step::Does(Call::Push(7)),
-        "(Err(BeyondMaxCapacity), (7, 7, Some(7)), [0, 1, 2, 3, 4, 5, 6])",
-    ),
-    (
-        Step::Most(100),
-        "(Ok(()), (7, 7, Some(100)), [0, 1, 2, 3, 4, 5, 6])",
-    ),
-    (
-        Step::Does(Call::Reserve(100)),
-        "(Ok(true), (7, 100, Some(100)), [0, 1, 2, 3, 4, 5, 6])",
-    ),
-];
-
-// The greatest maximum, and none at all.
-static WIDE: [(Step, &str); 1] = [(
-    Step::Most(usize::MAX),
-    "(Ok(()), (0, 0, Some(18446744073709551615)), [])",
-)];
-
-static NEVER: [(Step, &str); 2] = [
-    (Step::Most(0), "(Ok(()), (0, 0, Some(0)), [])"),
-    (
-        Step::Does(Call::Push(1)),
-        "(Err(BeyondMaxCapacity), (0, 0, Some(0)), [])",
-    ),
-];
 
 // Capacities 0, 1, 2 and 4, each of them used up before the refusal.
-static GROWTHS: [(u32, &[(Call, &str)]); 4] = [
-    (0, &[(Call::Fill(100), "(Ok(false), (0, 0, None), [])")]),
-    (1, &[(Call::Fill(100), "(Ok(true), (1, 1, None), [0])")]),
-    (2, &[(Call::Fill(100), "(Ok(true), (2, 2, None), [0, 1])")]),
-    (
-        3,
-        &[(Call::Fill(100), "(Ok(true), (4, 4, None), [0, 1, 2, 3])")],
-    ),
+static GROWTHS: [(u32, &str); 4] = [
+    (0, "(Ok(false), (0, 0, None), [])"),
+    (1, "(Ok(true), (1, 1, None), [0])"),
+    (2, "(Ok(true), (2, 2, None), [0, 1])"),
+    (3, "(Ok(true), (4, 4, None), [0, 1, 2, 3])"),
 ];
 
 fn check_growths<S: SlotStack<Item = u32>>(rt: &impl Abort, alloc: Global) {
-    for (ration, rows) in &GROWTHS {
+    for (ration, want) in &GROWTHS {
         let mut stack = Rationed {
             inner: S::new(alloc),
             ration: *ration,
         };
-        runs(rt, alloc, &mut stack, rows);
+        let after = told(alloc, &mut stack, Call::Fill(100));
+        same(rt, "what is left", after.as_str(), want);
     }
 }
 
-// Items that own memory, four of which two are dropped and one is replaced: how many there were, the replaced one, and those
-// that are left.
+// Items that own memory, four of which two are dropped and one is replaced: the replaced one, and those that are left.
 fn owners<S: SlotStack<Item = Vec<i32>>>(alloc: Global) -> String {
     let mut stack = S::new(alloc);
     for k in 1..5 {
@@ -509,40 +451,18 @@ fn owners<S: SlotStack<Item = Vec<i32>>>(alloc: Global) -> String {
             let _ = push(&mut stack, item);
         }
     }
-    let count = stack.len();
-    if count >= 2 {
+    if stack.len() == 4 {
         stack.truncate(2);
     }
     let empty = Vec::new(stack.allocator());
     let was = replace(&mut stack, 0, empty);
-    text(alloc, (count, was, stack.get(0), stack.get(1)))
-}
-
-fn check_owners<S: SlotStack<Item = Vec<i32>>>(rt: &impl Abort, alloc: Global) {
-    let left = owners::<S>(alloc);
-    let want = "(4, Some([1, 2]), Some([]), Some([2, 3]))";
-    same(rt, "owners", left.as_str(), want);
-}
-
-// A stack with a maximum, one over it, one with the greatest maximum and one that never grows.
-fn check_limits<S: LimitStack<Item = u32>>(rt: &impl Abort, alloc: Global) {
-    limits(rt, alloc, &mut S::new(alloc), &RAISED);
-    let mut rationed = Rationed {
-        inner: S::new(alloc),
-        ration: 100,
-    };
-    limits(rt, alloc, &mut rationed, &RAISED);
-    let mut wide = S::new(alloc);
-    limits(rt, alloc, &mut wide, &WIDE);
-    check_refused_memory(rt, alloc, &mut wide);
-    limits(rt, alloc, &mut S::new(alloc), &NEVER);
+    text(alloc, (was, stack.get(0), stack.get(1)))
 }
 
 // A stack that holds a list: it is to take a thousand items in so few growths, and to have this room for one.
 fn check_list<S: SlotStack<Item = u32>>(rt: &impl Abort, alloc: Global, few: u64, one: usize) {
     check_edits::<S>(rt, alloc, few);
-    check_far_growth::<S>(rt, alloc, one);
-    check_refused_memory(rt, alloc, &mut S::new(alloc));
+    check_growth::<S>(rt, alloc, one);
 }
 
 // Room comes in blocks of 64.
@@ -559,17 +479,17 @@ static IN_BLOCKS: [(Call, &str); 5] = [
 
 // Grows by several blocks at once, of which one may be refused (`tools/refusals` refuses each request in turn): all are
 // there, or nothing has changed, and what was refused is to be had then.
-fn check_blocks<S: SlotStack<Item = u32>>(rt: &impl Abort, alloc: Global, stack: &mut S) {
+fn check_blocks<S: SlotStack<Item = u32>>(rt: &impl Abort, stack: &mut S) {
     let grown = stack.reserve_to(300);
     let want = if grown.is_ok() { 320 } else { 0 };
-    same(rt, "all or none", shape(stack), (0, want, None));
-    let again = (stack.reserve_to(300), shape(stack));
-    same(rt, "once more", again, (Ok(()), (0, 320, None)));
+    equal(rt, "all or none", shape(stack), (0, want, None));
+    equal(rt, "granted", stack.reserve_to(300).is_ok(), true);
+    equal(rt, "once more", shape(stack), (0, 320, None));
 }
 
 #[test]
 fn blocks_or_none(rt: HostRuntime) {
-    check_blocks(&rt, rt.alloc(), &mut ChunkStack::<u32>::new(rt.alloc()));
+    check_blocks(&rt, &mut ChunkStack::<u32>::new(rt.alloc()));
 }
 
 // A stack, one that may have a maximum, and one in blocks: each growth at least doubles the capacity, 1, 2, 4, .. 1024, or adds
@@ -593,6 +513,9 @@ fn stacks_of_numbers(rt: HostRuntime) {
 
 #[test]
 fn items_that_own_memory_are_dropped(rt: HostRuntime) {
-    check_owners::<HeapStack<Vec<i32>>>(&rt, rt.alloc());
-    check_owners::<ChunkStack<Vec<i32>>>(&rt, rt.alloc());
+    let want = "(Some([1, 2]), Some([]), Some([2, 3]))";
+    let left = owners::<HeapStack<Vec<i32>>>(rt.alloc());
+    same(&rt, "items of a stack", left.as_str(), want);
+    let left = owners::<ChunkStack<Vec<i32>>>(rt.alloc());
+    same(&rt, "items in blocks", left.as_str(), want);
 }

@@ -6,7 +6,7 @@ use std::fmt;
 use std::process::Abort;
 
 // An index and a generation by their own texts.
-#[derive(Clone, Copy)]
+#[derive(Drop)]
 struct Shown<I, G>(I, G);
 
 impl<I: PtrInx, G: PtrGen> fmt::Display for Shown<I, G> {

@@ -1,4 +1,4 @@
-// What the tests share: one comparison, texts of answers, and what has to be there.
+// What the tests share: comparisons, texts of answers, and what has to be there.
 ghost use Rattle.std.specs.Iterator.{IsFinite};
 
 use crate::tests::pointers::Numbered;
@@ -10,8 +10,14 @@ use std::process::Abort;
 
 pub(super) type Slot<P> = ArenaSlot<P, u32>;
 
-pub(super) fn same<T: PartialEq + Debug + Drop>(rt: &impl Abort, what: &str, got: T, want: T) {
-    assert_eq!(rt; got, want, "{what}");
+// What was told is this text.
+pub(super) fn same(rt: &impl Abort, what: &str, got: &str, want: &str) {
+    assert!(rt; got == want, "{what}: {got}, not {want}");
+}
+
+// .. or is this value, which a failure does not show: texts of values would be types more at each place.
+pub(super) fn equal<T: PartialEq + Drop>(rt: &impl Abort, what: &str, got: T, want: T) {
+    assert!(rt; got == want, "{what}");
 }
 
 // An answer as `Debug` writes it. Where memory is refused it is empty, which no test wants: what makes texts needs no way to
