@@ -66,9 +66,7 @@ pub(super) enum Do {
     CarryAsFive,
     CarryToFull,
     CarryToBare,
-    // Calls of the chain arena alone. An insertion as a value; whether the counter overflows at each of the first two links of a
-    // drained chain.
-    Apply,
+    // Calls of the chain arena alone: whether the counter overflows at each of the first two links of a drained chain; the counter.
     DrainTwo,
     Generation,
     SetGeneration,
@@ -182,7 +180,7 @@ const LINK_CHANGES: [(&str, Do); 11] = [
 ];
 
 // .. of any arena, and what is left.
-const CHANGES: [(&str, Do); 18] = [
+const CHANGES: [(&str, Do); 17] = [
     ("Write", Do::Write),
     ("WriteInx", Do::WriteInx),
     ("Remove", Do::Remove),
@@ -196,7 +194,6 @@ const CHANGES: [(&str, Do); 18] = [
     ("CarryAsFive", Do::CarryAsFive),
     ("CarryToFull", Do::CarryToFull),
     ("CarryToBare", Do::CarryToBare),
-    ("Apply", Do::Apply),
     ("DrainTwo", Do::DrainTwo),
     ("Generation", Do::Generation),
     ("SetGeneration", Do::SetGeneration),
