@@ -68,9 +68,7 @@ pub(super) enum Do {
     CarryToBare,
     // Calls of the chain arena alone: whether the counter overflows at each of the first two links of a drained chain; the counter.
     DrainTwo,
-    Generation,
     SetGeneration,
-    IncGeneration,
 }
 
 // The words of a line: its name, its kind, its first numbers, and the last of them.
@@ -180,7 +178,7 @@ const LINK_CHANGES: [(&str, Do); 11] = [
 ];
 
 // .. of any arena, and what is left.
-const CHANGES: [(&str, Do); 17] = [
+const CHANGES: [(&str, Do); 15] = [
     ("Write", Do::Write),
     ("WriteInx", Do::WriteInx),
     ("Remove", Do::Remove),
@@ -195,9 +193,7 @@ const CHANGES: [(&str, Do); 17] = [
     ("CarryToFull", Do::CarryToFull),
     ("CarryToBare", Do::CarryToBare),
     ("DrainTwo", Do::DrainTwo),
-    ("Generation", Do::Generation),
     ("SetGeneration", Do::SetGeneration),
-    ("IncGeneration", Do::IncGeneration),
 ];
 
 // The call of a name in a table, ...

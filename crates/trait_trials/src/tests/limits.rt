@@ -55,21 +55,19 @@ const GENERATIONS: &str = "\
 Insert Disconnected 1 = Ok(Pair { inx: Inx8 { number: 1 }, generation: Gen8 { number: 2 } })
 Insert Disconnected 2 = Ok(Pair { inx: Inx8 { number: 2 }, generation: Gen8 { number: 2 } })
 SetGeneration 255 = ()
-Generation = 255
+Counter = Some(255)
 Remove 1 2 = GenerationOverflow(1)
-Generation = 2
-IncGeneration = Success(())
-Generation = 3
+Counter = Some(2)
 SetGeneration 255 = ()
 Clear = GenerationOverflow(())
 Clear = Success(())
-Generation = 2
+Counter = Some(2)
 # .. and by a compression, after which each link has the counter
 SetGeneration 255 = ()
 Insert Disconnected 1 = Ok(Pair { inx: Inx8 { number: 1 }, generation: Gen8 { number: 255 } })
 Insert Disconnected 2 = Ok(Pair { inx: Inx8 { number: 2 }, generation: Gen8 { number: 255 } })
 Canonical 0 = GenerationOverflow(())
-Generation = 2
+Counter = Some(2)
 All = [((1, 2), 1, (0, 0), (0, 0)), ((2, 2), 2, (0, 0), (0, 0))]
 # .. and by the second link of a drained chain
 SetGeneration 254 = ()
@@ -77,13 +75,13 @@ InsertMany 2 = 2
 Connect 1 254 2 254 = Some(())
 DrainTwo 1 254 = [Some(false), Some(true)]
 IsEmpty = true
-Generation = 2
+Counter = Some(2)
 # the greatest generation
 SetGeneration 254 = ()
 InsertMany 2 = 2
 CarryOut 2 = (Ok(()), [(Pair { inx: Inx8 { number: 1 }, generation: Gen8 { number: 254 } }, 1, false, P0[1](2)), (Pair { inx: Inx8 { number: 2 }, generation: Gen8 { number: 254 } }, 2, true, P0[2](2))]) ({P0[1](2): {(start), (end)} 11, P0[2](2): {(start), (end)} 22}, Gen32 { number: 2 }, Some(1000), true)
 Len = 0
-Generation = 2
+Counter = Some(2)
 ";
 
 // What an index of 8 bits answers under a maximum of 255.
@@ -105,7 +103,7 @@ InsertMany 3 = 3
 Connect 3 2 1 2 = Some(())
 CarryOut 7 = (Ok(()), [(Pair { inx: Inx64 { number: 3 }, generation: Gen32 { number: 2 } }, 3, false, P0[1](7)), (Pair { inx: Inx64 { number: 1 }, generation: Gen32 { number: 2 } }, 1, false, P0[2](7)), (Pair { inx: Inx64 { number: 2 }, generation: Gen32 { number: 2 } }, 2, false, P0[3](7))]) ({P0[1](7): {(start), 2} 13, P0[2](7): {1, (end)} 21, P0[3](7): {(start), (end)} 32}, Gen32 { number: 7 }, Some(1000), true)
 Len = 0
-Generation = 5
+Counter = Some(5)
 ";
 
 // An index of one bit.

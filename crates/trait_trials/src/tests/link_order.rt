@@ -1,8 +1,7 @@
 //! Which links are equal, and which comes first.
 
-use super::pointers::{TinyInx, TinyPtr};
 use super::{at, same};
-use arena_ptr::{Inx32, PtrInx, ToolPtr};
+use arena_ptr::{Inx32, ToolPtr};
 use chain_arena::{Link, LinkNoGen};
 use std::cmp::Ordering;
 use std::hash::{DefaultHasher, Hash, Hasher};
@@ -90,15 +89,6 @@ fn the_generation_of_a_neighbor_counts_until_it_is_taken_off(rt: HostRuntime) {
     assert!(rt;
         is_below(&old, &new) && is_same(&old.no_gen(), &new.no_gen()) && *new.no_gen_ref().t == 7
     );
-}
-
-#[test]
-fn none_is_below_each_index_whatever_it_is_packed_in(rt: HostRuntime) {
-    let link = |prev: usize, t: u32| -> LinkNoGen<TinyPtr, u32> {
-        LinkNoGen::<TinyPtr, u32>::new((TinyInx::try_from_usize(prev), None), t)
-    };
-    assert!(rt; is_below(&link(0, 9), &link(1, 0)));
-    assert!(rt; is_below(&link(1, 9), &link(2, 0)));
 }
 
 #[test]

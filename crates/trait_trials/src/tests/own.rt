@@ -34,9 +34,7 @@ fn own_answer<P: Numbered, S: SlotStack<Item = Slot<P>>>(
     asked: Asked<P>,
 ) -> Option<String> {
     match asked.call {
-        Do::Generation => text(alloc, P::number_of(arena.generation())),
         Do::SetGeneration => text(alloc, arena.set_generation(P::generation_of(asked.n))),
-        Do::IncGeneration => text(alloc, arena.inc_generation()),
         Do::DrainTwo => text(alloc, drained_two(arena, asked.p)),
         _ => trait_answer(alloc, arena, asked),
     }
