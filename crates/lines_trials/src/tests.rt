@@ -15,9 +15,9 @@ ghost use Rattle.chain_lines.specs.Transcripts.{AreComplete};
 
 use arena_base::{ArenaSlot, ArenaTrait};
 use arena_ptr::{
-    ChunkStack, Gen32, HeapStack, LimitStack, LimitedStack, SetMaxCapacity, SlotStack, ToolPtr,
+    ChunkStack, HeapStack, LimitStack, LimitedStack, SetMaxCapacity, SlotStack, ToolPtr,
 };
-use chain_arena::{ChainArena, ChainArenaTrait, LinkInsertKind, LinkNoGen};
+use chain_arena::{ChainArena, ChainArenaTrait, LinkNoGen};
 use chain_lines::{ToolError, run, run_on};
 use std::alloc::Global;
 use std::fmt::Debug;
@@ -289,21 +289,6 @@ fn lines_of_200_bytes_and_more(rt: HostRuntime) {
     }
 }
 
-/// Carries out lines on an arena that holds a link.
-fn check_given<S: SlotStack<Item = Slot>>(rt: &impl Abort, alloc: Global) {
-    let mut arena = LinksOver::<S>::new(alloc);
-    let added = arena.insert_reallocating(LinkInsertKind::Disconnected, 5);
-    same(rt, "added", added.is_ok(), true);
-    let input = "add alone 6\nconnect 2.2 1.2\n";
-    check_on(rt, alloc, &mut arena, input, "at 2.2\nok\n");
-    check_on(rt, alloc, &mut arena, "chain 2.2", "2.2:6 1.2:5\n");
-}
-
-#[test]
-fn a_given_arena(rt: HostRuntime) {
-    check_given::<HeapStack<Slot>>(&rt, rt.alloc());
-}
-
 const REMOVAL_TABLE: (&str, &str) = (
     "add alone 1\nadd alone 2\nconnect 1.2 2.2\nconnect 2.2 1.2\nremove 2.2\nshow 1.2\nadd alone 9\n\
         len\nremove 2.2\nremove 1.2 \nremove 1\nremove\n",
@@ -379,95 +364,70 @@ const MALFORMED_STEPS: [(&str, &str); 23] = [
     ("remove 1 2\n", "bad line\n"),
 ];
 
-/// Carries out lines on an arena with a maximum of two, with room for so many links from the first.
+/// Steps at the greatest generation.
+const OVERFLOWS: [(&str, &str); 6] = [
+    (
+        "setgen 4294967295\nadd alone 5\nremove 1.4294967295\nadd alone 6\n",
+        "ok\nat 1.4294967295\nvalue 5 overflow\nat 1.2\n",
+    ),
+    (
+        "add alone 5\nadd end 1.2 6\nsetgen 4294967295\ninvalidate 2.2\nshow 1.2\n",
+        "at 1.2\nat 2.2\nok\nat 2.2 overflow\nprev - next 2.2 value 5\n",
+    ),
+    (
+        "add alone 5\nadd end 1.2 6\nsetgen 4294967295\nremove 1\nlen\n",
+        "at 1.2\nat 2.2\nok\nvalue 5 overflow\ncount 1\n",
+    ),
+    (
+        "add alone 5\nadd end 1.2 6\nsetgen 4294967295\ndrain 1.2 1\nlen\nadd alone 7\n",
+        "at 1.2\nat 2.2\nok\ncount 1\ncount 0\nat 2.3\n",
+    ),
+    (
+        "add alone 5\nadd end 1.2 6\nsetgen 4294967295\nclear\nclear\nadd alone 7\n",
+        "at 1.2\nat 2.2\nok\nok overflow\nok\nat 1.2\n",
+    ),
+    (
+        "add alone 5\nadd end 1.2 6\nsetgen 4294967295\ncompress keep\ncompress keep\nchain 1.3\n",
+        "at 1.2\nat 2.2\nok\nok overflow\nok\n1.3:5 2.3:6\n",
+    ),
+];
+
+/// Texts that are carried out one after another on one arena with a maximum of two: a given arena that holds a link; a full one; and
+/// one with room for two links.
+const LIMITED: [&[(&str, &str)]; 3] = [
+    &[
+        ("add alone 5\n", "at 1.2\n"),
+        ("add alone 6\nconnect 2.2 1.2\n", "at 2.2\nok\n"),
+        ("chain 2.2\n", "2.2:6 1.2:5\n"),
+    ],
+    &[(
+        "add alone 1\nadd alone 2\nadd alone 3\nremove 1.2\nadd alone 3\nlen\n",
+        "at 1.2\nat 2.2\nrefused limit\nvalue 1\nat 1.3\ncount 2\n",
+    )],
+    &[(
+        "reserve 2\naddwithin alone 1\naddwithin alone 2\naddwithin alone 3\nadd alone 3\nadd end 9.9 3\n\
+        remove 1.2\naddwithin alone 3\n",
+        "ok\nat 1.2\nat 2.2\nrefused capacity\nrefused limit\nrefused link\nvalue 1\nat 1.3\n",
+    )],
+];
+
+/// Carries out texts on an arena with a maximum of two.
 fn check_limited<S: LimitStack<Item = Slot>>(
     rt: &impl Abort,
     alloc: Global,
-    room: usize,
-    input: &str,
-    output: &str,
+    texts: &[(&str, &str)],
 ) {
     let mut arena = LinksOver::<S>::new(alloc);
-    same(rt, "a limit", arena.set_max_capacity(2), Ok(()));
-    same(rt, "room", arena.reallocate_min_capacity(room), Ok(()));
-    check_on(rt, alloc, &mut arena, input, output);
+    let _ = arena.set_max_capacity(2);
+    for (input, output) in texts {
+        check_on(rt, alloc, &mut arena, input, output);
+    }
 }
 
 #[test]
-fn a_limited_arena(rt: HostRuntime) {
-    let input = "add alone 1\nadd alone 2\nadd alone 3\nremove 1.2\nadd alone 3\nlen\n";
-    let output = "at 1.2\nat 2.2\nrefused limit\nvalue 1\nat 1.3\ncount 2\n";
-    check_limited::<LimitedStack<Slot>>(&rt, rt.alloc(), 0, input, output);
-}
-
-#[test]
-fn limited_run(rt: HostRuntime) {
-    let input =
-        "addwithin alone 1\naddwithin alone 2\naddwithin alone 3\nadd alone 3\nadd end 9.9 3\nremove 1.2\n\
-        addwithin alone 3\n";
-    let output = "at 1.2\nat 2.2\nrefused capacity\nrefused limit\nrefused link\nvalue 1\nat 1.3\n";
-    check_limited::<LimitedStack<Slot>>(&rt, rt.alloc(), 2, input, output);
-}
-
-/// The greatest generation.
-fn greatest(rt: &impl Abort) -> Gen32 {
-    Gen32::new(4294967295).expect(rt, "a generation")
-}
-
-/// Carries out lines on an arena whose counter is at its greatest.
-fn check_from_greatest<S: SlotStack<Item = Slot>>(
-    rt: &impl Abort,
-    alloc: Global,
-    input: &str,
-    output: &str,
-) {
-    let mut arena = LinksOver::<S>::new(alloc);
-    arena.set_generation(greatest(rt));
-    check_on(rt, alloc, &mut arena, input, output);
-}
-
-#[test]
-fn a_removal_that_overflows(rt: HostRuntime) {
-    let input = "add alone 5\nremove 1.4294967295\nadd alone 6\n";
-    let output = "at 1.4294967295\nvalue 5 overflow\nat 1.2\n";
-    check_from_greatest::<HeapStack<Slot>>(&rt, rt.alloc(), input, output);
-}
-
-/// Carries out a text on two linked links, where the counter is at its greatest, and looks whether the program writes
-/// these lines.
-fn check_at_greatest<S: SlotStack<Item = Slot>>(
-    rt: &impl Abort,
-    alloc: Global,
-    input: &str,
-    output: &str,
-) {
-    let mut arena = LinksOver::<S>::new(alloc);
-    let links = "add alone 5\nadd end 1.2 6\n";
-    check_on(rt, alloc, &mut arena, links, "at 1.2\nat 2.2\n");
-    arena.set_generation(greatest(rt));
-    check_on(rt, alloc, &mut arena, input, output);
-}
-
-#[test]
-fn steps_that_overflow(rt: HostRuntime) {
-    const ROWS: [(&str, &str); 5] = [
-        (
-            "invalidate 2.2\nshow 1.2\n",
-            "at 2.2 overflow\nprev - next 2.2 value 5\n",
-        ),
-        ("remove 1\nlen\n", "value 5 overflow\ncount 1\n"),
-        (
-            "drain 1.2 1\nlen\nadd alone 7\n",
-            "count 1\ncount 0\nat 2.3\n",
-        ),
-        ("clear\nclear\nadd alone 7\n", "ok overflow\nok\nat 1.2\n"),
-        (
-            "compress keep\ncompress keep\nchain 1.3\n",
-            "ok overflow\nok\n1.3:5 2.3:6\n",
-        ),
-    ];
-    for (input, output) in &ROWS {
-        check_at_greatest::<HeapStack<Slot>>(&rt, rt.alloc(), input, output);
+fn limited_arenas(rt: HostRuntime) {
+    for texts in &LIMITED {
+        check_limited::<LimitedStack<Slot>>(&rt, rt.alloc(), texts);
     }
 }
 
@@ -487,7 +447,7 @@ const SAMPLE: (&str, &str) = (
 );
 
 /// Whole runs, each a text and what the program writes.
-const RUNS: [(&str, &str); 15] = [
+static RUNS: [(&str, &str); 15] = [
     SAMPLE,
     LINES_OF_EVERY_SORT,
     TWO_LONE_LINKS_CONNECTED,
@@ -505,9 +465,14 @@ const RUNS: [(&str, &str); 15] = [
     EACH_KIND_BY_INDEX,
 ];
 
-// All tables, as one constant that one body names.
+/// .. in a body of its own, since what names a table costs by its rows.
+fn runs() -> &'static [(&'static str, &'static str)] {
+    &RUNS
+}
+
+// All other tables, as one constant that one body names.
 const TABLES: [&[(&str, &str)]; 5] = [
-    &RUNS,
+    &OVERFLOWS,
     &LINES_AND_WORDS,
     &KINDS_AND_VALUES,
     &NUMBERS_AND_POINTERS,
@@ -516,6 +481,7 @@ const TABLES: [&[(&str, &str)]; 5] = [
 
 #[test]
 fn texts_and_what_is_written(rt: HostRuntime) {
+    check_texts(&rt, rt.alloc(), runs());
     for table in &TABLES {
         check_texts(&rt, rt.alloc(), table);
     }
@@ -523,47 +489,74 @@ fn texts_and_what_is_written(rt: HostRuntime) {
 
 /// Carries out whole runs, each on a new arena.
 fn check_runs<S: SlotStack<Item = Slot>>(rt: &impl Abort, alloc: Global) {
-    for (input, output) in &RUNS {
+    for (input, output) in runs() {
         check_on(rt, alloc, &mut LinksOver::<S>::new(alloc), input, output);
     }
 }
 
-#[test]
-fn whole_runs_in_blocks(rt: HostRuntime) {
-    check_runs::<ChunkStack<Slot>>(&rt, rt.alloc());
-}
-
-/// Adds to a text.
-fn add(rt: &impl Abort, text: &mut String, more: &str) {
-    text.push_str(more).expect(rt, "memory");
-}
-
-/// Lines that add a chain of 130 links, of which the first 64 are removed again.
-fn lines_of_a_chain(rt: &impl Abort, alloc: Global) -> String {
-    let mut text = String::from_str(alloc, "add alone 1\n").expect(rt, "memory");
-    for n in 1u32..130 {
-        let m = n.saturating_add(1);
-        let line = format!(in alloc; "add end {n}.2 {m}\n").expect(rt, "memory");
-        add(rt, &mut text, line.as_str());
-    }
-    for n in 1u32..65 {
-        let line = format!(in alloc; "remove {n}.2\n").expect(rt, "memory");
-        add(rt, &mut text, line.as_str());
-    }
-    text
-}
+/// A chain of 130 links, over three blocks, of which the first 64 are removed again, so that the first block is empty.
+const CHAIN_OVER_BLOCKS: (&str, &str) = (
+    "add alone 1\nadd end 1.2 2\nadd end 2.2 3\nadd end 3.2 4\nadd end 4.2 5\nadd end 5.2 6\nadd end 6.2 7\n\
+    add end 7.2 8\nadd end 8.2 9\nadd end 9.2 10\nadd end 10.2 11\nadd end 11.2 12\nadd end 12.2 13\n\
+    add end 13.2 14\nadd end 14.2 15\nadd end 15.2 16\nadd end 16.2 17\nadd end 17.2 18\nadd end 18.2 19\n\
+    add end 19.2 20\nadd end 20.2 21\nadd end 21.2 22\nadd end 22.2 23\nadd end 23.2 24\nadd end 24.2 25\n\
+    add end 25.2 26\nadd end 26.2 27\nadd end 27.2 28\nadd end 28.2 29\nadd end 29.2 30\nadd end 30.2 31\n\
+    add end 31.2 32\nadd end 32.2 33\nadd end 33.2 34\nadd end 34.2 35\nadd end 35.2 36\nadd end 36.2 37\n\
+    add end 37.2 38\nadd end 38.2 39\nadd end 39.2 40\nadd end 40.2 41\nadd end 41.2 42\nadd end 42.2 43\n\
+    add end 43.2 44\nadd end 44.2 45\nadd end 45.2 46\nadd end 46.2 47\nadd end 47.2 48\nadd end 48.2 49\n\
+    add end 49.2 50\nadd end 50.2 51\nadd end 51.2 52\nadd end 52.2 53\nadd end 53.2 54\nadd end 54.2 55\n\
+    add end 55.2 56\nadd end 56.2 57\nadd end 57.2 58\nadd end 58.2 59\nadd end 59.2 60\nadd end 60.2 61\n\
+    add end 61.2 62\nadd end 62.2 63\nadd end 63.2 64\nadd end 64.2 65\nadd end 65.2 66\nadd end 66.2 67\n\
+    add end 67.2 68\nadd end 68.2 69\nadd end 69.2 70\nadd end 70.2 71\nadd end 71.2 72\nadd end 72.2 73\n\
+    add end 73.2 74\nadd end 74.2 75\nadd end 75.2 76\nadd end 76.2 77\nadd end 77.2 78\nadd end 78.2 79\n\
+    add end 79.2 80\nadd end 80.2 81\nadd end 81.2 82\nadd end 82.2 83\nadd end 83.2 84\nadd end 84.2 85\n\
+    add end 85.2 86\nadd end 86.2 87\nadd end 87.2 88\nadd end 88.2 89\nadd end 89.2 90\nadd end 90.2 91\n\
+    add end 91.2 92\nadd end 92.2 93\nadd end 93.2 94\nadd end 94.2 95\nadd end 95.2 96\nadd end 96.2 97\n\
+    add end 97.2 98\nadd end 98.2 99\nadd end 99.2 100\nadd end 100.2 101\nadd end 101.2 102\n\
+    add end 102.2 103\nadd end 103.2 104\nadd end 104.2 105\nadd end 105.2 106\nadd end 106.2 107\n\
+    add end 107.2 108\nadd end 108.2 109\nadd end 109.2 110\nadd end 110.2 111\nadd end 111.2 112\n\
+    add end 112.2 113\nadd end 113.2 114\nadd end 114.2 115\nadd end 115.2 116\nadd end 116.2 117\n\
+    add end 117.2 118\nadd end 118.2 119\nadd end 119.2 120\nadd end 120.2 121\nadd end 121.2 122\n\
+    add end 122.2 123\nadd end 123.2 124\nadd end 124.2 125\nadd end 125.2 126\nadd end 126.2 127\n\
+    add end 127.2 128\nadd end 128.2 129\nadd end 129.2 130\nremove 1.2\nremove 2.2\nremove 3.2\nremove 4.2\n\
+    remove 5.2\nremove 6.2\nremove 7.2\nremove 8.2\nremove 9.2\nremove 10.2\nremove 11.2\nremove 12.2\n\
+    remove 13.2\nremove 14.2\nremove 15.2\nremove 16.2\nremove 17.2\nremove 18.2\nremove 19.2\nremove 20.2\n\
+    remove 21.2\nremove 22.2\nremove 23.2\nremove 24.2\nremove 25.2\nremove 26.2\nremove 27.2\nremove 28.2\n\
+    remove 29.2\nremove 30.2\nremove 31.2\nremove 32.2\nremove 33.2\nremove 34.2\nremove 35.2\nremove 36.2\n\
+    remove 37.2\nremove 38.2\nremove 39.2\nremove 40.2\nremove 41.2\nremove 42.2\nremove 43.2\nremove 44.2\n\
+    remove 45.2\nremove 46.2\nremove 47.2\nremove 48.2\nremove 49.2\nremove 50.2\nremove 51.2\nremove 52.2\n\
+    remove 53.2\nremove 54.2\nremove 55.2\nremove 56.2\nremove 57.2\nremove 58.2\nremove 59.2\nremove 60.2\n\
+    remove 61.2\nremove 62.2\nremove 63.2\nremove 64.2\n",
+    "at 1.2\nat 2.2\nat 3.2\nat 4.2\nat 5.2\nat 6.2\nat 7.2\nat 8.2\nat 9.2\nat 10.2\nat 11.2\nat 12.2\nat 13.2\n\
+    at 14.2\nat 15.2\nat 16.2\nat 17.2\nat 18.2\nat 19.2\nat 20.2\nat 21.2\nat 22.2\nat 23.2\nat 24.2\nat 25.2\n\
+    at 26.2\nat 27.2\nat 28.2\nat 29.2\nat 30.2\nat 31.2\nat 32.2\nat 33.2\nat 34.2\nat 35.2\nat 36.2\nat 37.2\n\
+    at 38.2\nat 39.2\nat 40.2\nat 41.2\nat 42.2\nat 43.2\nat 44.2\nat 45.2\nat 46.2\nat 47.2\nat 48.2\nat 49.2\n\
+    at 50.2\nat 51.2\nat 52.2\nat 53.2\nat 54.2\nat 55.2\nat 56.2\nat 57.2\nat 58.2\nat 59.2\nat 60.2\nat 61.2\n\
+    at 62.2\nat 63.2\nat 64.2\nat 65.2\nat 66.2\nat 67.2\nat 68.2\nat 69.2\nat 70.2\nat 71.2\nat 72.2\nat 73.2\n\
+    at 74.2\nat 75.2\nat 76.2\nat 77.2\nat 78.2\nat 79.2\nat 80.2\nat 81.2\nat 82.2\nat 83.2\nat 84.2\nat 85.2\n\
+    at 86.2\nat 87.2\nat 88.2\nat 89.2\nat 90.2\nat 91.2\nat 92.2\nat 93.2\nat 94.2\nat 95.2\nat 96.2\nat 97.2\n\
+    at 98.2\nat 99.2\nat 100.2\nat 101.2\nat 102.2\nat 103.2\nat 104.2\nat 105.2\nat 106.2\nat 107.2\nat 108.2\n\
+    at 109.2\nat 110.2\nat 111.2\nat 112.2\nat 113.2\nat 114.2\nat 115.2\nat 116.2\nat 117.2\nat 118.2\n\
+    at 119.2\nat 120.2\nat 121.2\nat 122.2\nat 123.2\nat 124.2\nat 125.2\nat 126.2\nat 127.2\nat 128.2\n\
+    at 129.2\nat 130.2\nvalue 1\nvalue 2\nvalue 3\nvalue 4\nvalue 5\nvalue 6\nvalue 7\nvalue 8\nvalue 9\n\
+    value 10\nvalue 11\nvalue 12\nvalue 13\nvalue 14\nvalue 15\nvalue 16\nvalue 17\nvalue 18\nvalue 19\n\
+    value 20\nvalue 21\nvalue 22\nvalue 23\nvalue 24\nvalue 25\nvalue 26\nvalue 27\nvalue 28\nvalue 29\n\
+    value 30\nvalue 31\nvalue 32\nvalue 33\nvalue 34\nvalue 35\nvalue 36\nvalue 37\nvalue 38\nvalue 39\n\
+    value 40\nvalue 41\nvalue 42\nvalue 43\nvalue 44\nvalue 45\nvalue 46\nvalue 47\nvalue 48\nvalue 49\n\
+    value 50\nvalue 51\nvalue 52\nvalue 53\nvalue 54\nvalue 55\nvalue 56\nvalue 57\nvalue 58\nvalue 59\n\
+    value 60\nvalue 61\nvalue 62\nvalue 63\nvalue 64\n",
+);
 
 /// The walk along the 66 links that are left, in one run from index 1 on.
-fn walk_of_the_rest(rt: &impl Abort, alloc: Global) -> String {
-    let mut text = String::from_str(alloc, "1.67:65").expect(rt, "memory");
-    for n in 2u32..67 {
-        let value = n.saturating_add(64);
-        let link = format!(in alloc; " {n}.67:{value}").expect(rt, "memory");
-        add(rt, &mut text, link.as_str());
-    }
-    add(rt, &mut text, "\n");
-    text
-}
+const WALK_OF_THE_REST: (&str, &str) = (
+    "chain 1.67\n",
+    "1.67:65 2.67:66 3.67:67 4.67:68 5.67:69 6.67:70 7.67:71 8.67:72 9.67:73 10.67:74 11.67:75 12.67:76 13.67:77 \
+    14.67:78 15.67:79 16.67:80 17.67:81 18.67:82 19.67:83 20.67:84 21.67:85 22.67:86 23.67:87 24.67:88 25.67:89 \
+    26.67:90 27.67:91 28.67:92 29.67:93 30.67:94 31.67:95 32.67:96 33.67:97 34.67:98 35.67:99 36.67:100 \
+    37.67:101 38.67:102 39.67:103 40.67:104 41.67:105 42.67:106 43.67:107 44.67:108 45.67:109 46.67:110 \
+    47.67:111 48.67:112 49.67:113 50.67:114 51.67:115 52.67:116 53.67:117 54.67:118 55.67:119 56.67:120 \
+    57.67:121 58.67:122 59.67:123 60.67:124 61.67:125 62.67:126 63.67:127 64.67:128 65.67:129 66.67:130\n",
+);
 
 /// How many links there are, and how many of them are placed as they are laid out.
 fn placed<S: SlotStack<Item = Slot>>(arena: &mut LinksOver<S>) -> (usize, u128) {
@@ -572,19 +565,26 @@ fn placed<S: SlotStack<Item = Slot>>(arena: &mut LinksOver<S>) -> (usize, u128) 
     (links, work.placed)
 }
 
-/// A chain over three blocks, of which the first is emptied, compressed to the first two: it comes there in its order, and
-/// each link is placed once.
+/// The chain is compressed to the first two blocks: it comes there in its order, and each link is placed once.
 fn check_chain<S: SlotStack<Item = Slot>>(rt: &impl Abort, alloc: Global) {
     let mut arena = LinksOver::<S>::new(alloc);
-    let input = lines_of_a_chain(rt, alloc);
-    let (result, _) = carried_out(alloc, &mut arena, input.as_str());
-    same(rt, "added and removed", result, Ok(()));
-    same(rt, "each is placed once", placed(&mut arena), (66, 66));
-    let output = walk_of_the_rest(rt, alloc);
-    check_on(rt, alloc, &mut arena, "chain 1.67\n", output.as_str());
+    let (input, output) = CHAIN_OVER_BLOCKS;
+    check_on(rt, alloc, &mut arena, input, output);
+    assert!(rt; placed(&mut arena) == (66, 66));
+    let (input, output) = WALK_OF_THE_REST;
+    check_on(rt, alloc, &mut arena, input, output);
+}
+
+/// All that is tried over any stack: a stack is named where it is called, once, since that is what costs.
+fn check_over<S: SlotStack<Item = Slot>>(rt: &impl Abort, alloc: Global) {
+    check_runs::<S>(rt, alloc);
+    check_chain::<S>(rt, alloc);
+    faulty::check_readers::<S>(rt, alloc);
+    faulty::check_writers::<S>(rt, alloc);
 }
 
 #[test]
-fn a_chain_over_blocks(rt: HostRuntime) {
-    check_chain::<ChunkStack<Slot>>(&rt, rt.alloc());
+fn over_one_piece_of_memory_and_in_blocks(rt: HostRuntime) {
+    check_over::<HeapStack<Slot>>(&rt, rt.alloc());
+    check_over::<ChunkStack<Slot>>(&rt, rt.alloc());
 }

@@ -80,8 +80,8 @@ fn are_answered(read: &[u8], written: &[u8], links: usize) -> bool {
     written == want.as_bytes() && links == lines.saturating_add(1) / 2
 }
 
-#[test]
-fn a_reader_that_fails_once(rt: HostRuntime) {
+/// Readers of each kind of fault, after each number of bytes.
+pub(super) fn check_readers<S: SlotStack<Item = Slot>>(rt: &impl Abort, alloc: Global) {
     for kind in [
         ErrorKind::Other,
         ErrorKind::Interrupted,
@@ -89,8 +89,8 @@ fn a_reader_that_fails_once(rt: HostRuntime) {
     ] {
         for step in [1, 2, 7, 100] {
             for bytes in 0..34 {
-                let ended = ends_at_the_fault::<HeapStack<Slot>>(rt.alloc(), kind, step, bytes);
-                same(&rt, "ended, answered, left", ended, (true, true, true));
+                let ended = ends_at_the_fault::<S>(alloc, kind, step, bytes);
+                assert!(rt; ended == (true, true, true));
             }
         }
     }
@@ -175,6 +175,23 @@ fn failing_writer(
     }
 }
 
+/// Runs the program on a writer: how that ends, and how many links there are then.
+fn run_to<S: SlotStack<Item = Slot>>(
+    alloc: Global,
+    writer: &mut FailingWriter,
+) -> (Result<(), ToolError>, usize) {
+    let mut reader = "add alone 1\nadd alone 2\nadd alone 3\n".as_bytes();
+    let mut arena = LinksOver::<S>::new(alloc);
+    let result = run_on(alloc, &mut arena, &mut reader, writer);
+    (result, arena.len())
+}
+
+/// Whether the writer has what it took of the lines, where it has so much room, and no more.
+fn is_taken(held: &[u8], room: usize) -> bool {
+    let output = "at 1.2\nat 2.2\nat 3.2\n".as_bytes();
+    held == &output[..room.min(output.len())]
+}
+
 /// Runs the program on a writer that fails once, when it has no room: whether it ends for that, whether the writer has what it took
 /// before and no more, and whether the line of the last answer is carried out, and none behind it.
 fn ends_at_the_limit<S: SlotStack<Item = Slot>>(
@@ -183,119 +200,103 @@ fn ends_at_the_limit<S: SlotStack<Item = Slot>>(
     step: usize,
     room: usize,
 ) -> (bool, bool, bool) {
-    let mut reader = "add alone 1\nadd alone 2\nadd alone 3\n".as_bytes();
-    let output = "at 1.2\nat 2.2\nat 3.2\n".as_bytes();
     let mut writer = failing_writer(alloc, step, room, fails_with);
-    let mut arena = LinksOver::<S>::new(alloc);
-    let result = run_on(alloc, &mut arena, &mut reader, &mut writer);
+    let (result, links) = run_to::<S>(alloc, &mut writer);
+    let is_taken = is_taken(writer.held.as_slice(), room);
     (
         result == Err(ToolError::Write),
-        writer.held.as_slice() == &output[..room.min(output.len())],
-        arena.len() == room / 7 + 1,
+        is_taken,
+        links == room / 7 + 1,
     )
 }
 
-#[test]
-fn a_writer_that_fails_once(rt: HostRuntime) {
+/// Writers of each kind of fault, with each room.
+pub(super) fn check_writers<S: SlotStack<Item = Slot>>(rt: &impl Abort, alloc: Global) {
     for fails_with in [None, Some(ErrorKind::Other), Some(ErrorKind::WriteZero)] {
         for step in [1, 3, 100] {
             for room in 0..21 {
-                let ended = ends_at_the_limit::<HeapStack<Slot>>(
-                    rt.alloc(),
-                    fails_with,
-                    step,
-                    room,
-                );
-                same(&rt, "ended, taken, carried out", ended, (true, true, true));
+                let ended = ends_at_the_limit::<S>(alloc, fails_with, step, room);
+                assert!(rt; ended == (true, true, true));
             }
         }
     }
 }
 
-#[test]
-fn a_writer_that_is_interrupted(rt: HostRuntime) {
-    let mut reader = "add alone 1\nlen\n".as_bytes();
-    let mut writer = failing_writer(rt.alloc(), 1, 1000, None);
-    let result = run(rt.alloc(), &mut reader, &mut writer);
-    same(&rt, "it tries again", result, Ok(()));
-    let lines = "at 1.2\ncount 1\n".as_bytes();
-    same(&rt, "all lines come", writer.held.as_slice(), lines);
-}
-
-/// Runs the program on a writer of which one flush fails, and looks at what it wrote before, and whether it wrote on.
-fn check_flush(rt: &impl Abort, alloc: Global, flushes: usize, output: &str) {
+/// Runs the program on a writer that takes single bytes and of which one flush fails, if so many are made: whether it ends for that,
+/// or else well, and whether the writer has these lines.
+fn ends_at_the_flush(alloc: Global, flushes: usize, fails: bool, output: &str) -> (bool, bool) {
     let mut reader = "add alone 1\n".as_bytes();
-    let mut writer = failing_writer(alloc, 100, 1000, None);
+    let mut writer = failing_writer(alloc, 1, 1000, None);
     writer.flushes = flushes;
     let result = run(alloc, &mut reader, &mut writer);
-    same(rt, "the flush fails", result, Err(ToolError::Write));
-    same(
-        rt,
-        "lines before it",
-        writer.held.as_slice(),
-        output.as_bytes(),
-    );
+    let want = if fails { Err(ToolError::Write) } else { Ok(()) };
+    (result == want, writer.held.as_slice() == output.as_bytes())
 }
 
 #[test]
 fn a_flush_that_fails(rt: HostRuntime) {
-    for (flushes, output) in [(0, ""), (1, "at 1.2\n"), (2, "at 1.2\n")] {
-        check_flush(&rt, rt.alloc(), flushes, output);
+    for (flushes, fails, output) in [
+        (0, true, ""),
+        (1, true, "at 1.2\n"),
+        (2, true, "at 1.2\n"),
+        (1000, false, "at 1.2\n"),
+    ] {
+        let ended = ends_at_the_flush(rt.alloc(), flushes, fails, output);
+        assert!(rt; ended == (true, true));
     }
 }
 
 /// Carries out `moves` on an arena of one link, where memory may be refused (`tools/refusals` refuses each request in turn):
-/// it is answered, or the link keeps its pointer and nothing is written.
-fn check_moves<S: SlotStack<Item = Slot>>(rt: &impl Abort, alloc: Global) {
+/// whether it is answered, or the link keeps its pointer and nothing is written.
+fn moves_or_keeps<S: SlotStack<Item = Slot>>(alloc: Global) -> bool {
     let mut arena = LinksOver::<S>::new(alloc);
-    let added = arena.insert_reallocating(LinkInsertKind::Disconnected, 5);
-    let p = added.expect(rt, "room for a link");
-    let mut written = Vec::with_capacity(alloc, 100).expect(rt, "room for the answer");
-    let mut reader = "moves keep\n".as_bytes();
-    let result = run_on(alloc, &mut arena, &mut reader, &mut written);
-    let (answer, is_kept) = match result {
-        Ok(()) => ("moved 1 1.2>1.3\n", false),
-        Err(_) => ("", true),
+    let Ok(p) = arena.insert_reallocating(LinkInsertKind::Disconnected, 5) else {
+        return false;
     };
-    same(rt, "its answer", written.as_slice(), answer.as_bytes());
-    same(rt, "its pointer", arena.contains(p), is_kept);
+    let Ok(mut written) = Vec::with_capacity(alloc, 100) else {
+        return false;
+    };
+    let result = run_on(
+        alloc,
+        &mut arena,
+        &mut "moves keep\n".as_bytes(),
+        &mut written,
+    );
+    let answer = if result.is_ok() {
+        "moved 1 1.2>1.3\n"
+    } else {
+        ""
+    };
+    written.as_slice() == answer.as_bytes() && arena.contains(p) == result.is_err()
 }
 
 #[test]
 fn moves_or_nothing(rt: HostRuntime) {
-    check_moves::<HeapStack<Slot>>(&rt, rt.alloc());
-}
-
-/// Whether an answer is the wanted one, or, where the arena may be refused memory, that.
-fn is_answer(answer: &[u8], want: &[u8]) -> bool {
-    answer == want || answer == "refused memory".as_bytes()
+    assert!(rt; moves_or_keeps::<HeapStack<Slot>>(rt.alloc()));
 }
 
 /// Whether what was written answers the first lines, each as is wanted up to the first that was refused memory, from which on the
-/// others may differ. No answer is empty, so what comes after the last line feed is.
-fn is_beginning(written: &[u8], want: &[u8]) -> bool {
-    let mut wanted = want.split(|b| *b == b'\n');
-    for answer in written.split(|b| *b == b'\n') {
-        match wanted.next() {
-            Some(want) if answer == want => {}
-            Some(want) => return answer.is_empty() || is_answer(answer, want),
-            None => return false,
-        }
-    }
-    true
+/// others may differ.
+fn is_beginning(written: &str, want: &str) -> bool {
+    let before = match written.split_once("refused memory\n") {
+        Some((before, _)) => before,
+        None => written,
+    };
+    want.starts_with(before) && (before.is_empty() || before.ends_with('\n'))
 }
 
-/// Looks at a run on the sample, where memory may be refused (`tools/refusals` refuses each request in turn): it has read to the
-/// end and answered each line, or ended for want of memory, having answered the first of them.
-fn check_sample(rt: &impl Abort, ended: Result<(), ToolError>, unread: usize, answered: &[u8]) {
+/// Whether a run on the sample, where memory may be refused (`tools/refusals` refuses each request in turn), has read to the end and
+/// answered each line, or ended for want of memory, having answered the first of them.
+fn is_sample(ended: Result<(), ToolError>, unread: usize, answered: &[u8]) -> bool {
     let (_, output) = SAMPLE;
-    let is_so = is_beginning(answered, output.as_bytes());
-    same(rt, "a beginning", is_so, true);
-    let lines = answered.iter().filter(|b| **b == b'\n').count();
-    match ended {
-        Ok(()) => same(rt, "all is read and answered", (unread, lines), (0, 11)),
-        Err(why) => same(rt, "the only fault", why, ToolError::Memory),
-    }
+    let Ok(answered) = str::from_utf8(answered) else {
+        return false;
+    };
+    let is_so = match ended {
+        Ok(()) => unread == 0 && answered.split('\n').count() == 12,
+        Err(why) => why == ToolError::Memory,
+    };
+    is_so && is_beginning(answered, output)
 }
 
 /// How many bytes were written, of so many for which there was room.
@@ -305,7 +306,8 @@ fn written_of(room: usize, left: usize) -> usize
     room.saturating_sub(left)
 }
 
-fn check_sample_over<S: SlotStack<Item = Slot>>(rt: &impl Abort, alloc: Global) {
+/// .. on an arena over any stack, ...
+fn sample_on<S: SlotStack<Item = Slot>>(alloc: Global) -> bool {
     let (input, _) = SAMPLE;
     let mut reader = input.as_bytes();
     let mut written = [0u8; 200];
@@ -313,23 +315,24 @@ fn check_sample_over<S: SlotStack<Item = Slot>>(rt: &impl Abort, alloc: Global) 
     let mut arena = LinksOver::<S>::new(alloc);
     let result = run_on(alloc, &mut arena, &mut reader, &mut room);
     let count = written_of(200, room.len());
-    check_sample(rt, result, reader.len(), &written[..count]);
+    is_sample(result, reader.len(), &written[..count])
 }
 
-#[test]
-fn a_sample_or_its_beginning(rt: HostRuntime) {
+/// .. and on the program's own.
+fn sample(alloc: Global) -> bool {
     let (input, _) = SAMPLE;
     let mut reader = input.as_bytes();
     let mut written = [0u8; 200];
     let mut room = written.as_mut_slice();
-    let result = run(rt.alloc(), &mut reader, &mut room);
+    let result = run(alloc, &mut reader, &mut room);
     let count = written_of(200, room.len());
-    check_sample(&rt, result, reader.len(), &written[..count]);
+    is_sample(result, reader.len(), &written[..count])
 }
 
 #[test]
-fn a_sample_or_its_beginning_over_each_stack(rt: HostRuntime) {
-    check_sample_over::<HeapStack<Slot>>(&rt, rt.alloc());
-    check_sample_over::<LimitedStack<Slot>>(&rt, rt.alloc());
-    check_sample_over::<ChunkStack<Slot>>(&rt, rt.alloc());
+fn a_sample_or_its_beginning(rt: HostRuntime) {
+    assert!(rt; sample(rt.alloc()));
+    assert!(rt; sample_on::<HeapStack<Slot>>(rt.alloc()));
+    assert!(rt; sample_on::<LimitedStack<Slot>>(rt.alloc()));
+    assert!(rt; sample_on::<ChunkStack<Slot>>(rt.alloc()));
 }

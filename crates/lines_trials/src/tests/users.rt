@@ -1,5 +1,5 @@
 //! Each user of arenas of links at chain arenas over two stacks, and at the arena that hands each call on: rows of tables, each
-//! with what it answers. A list of values below 10 is told as the number that has them as its digits. No body but the tests has a
+//! with what it answers. A list of values below 10 is told as the number that has them as its digits. No body but one has a
 //! way to end a test: each table answers the place of the first row that is not as it says.
 
 mod bookmarks;
@@ -14,6 +14,7 @@ use bookmarks::Renumbers;
 use chain_arena::{ChainArena, ChainArenaTrait, LinkNoGen};
 use chain_wrapped::Wrapped;
 use std::alloc::Global;
+use std::process::Abort;
 
 // A slot of a link of a number.
 type Slot<P> = ArenaSlot<P, LinkNoGen<P, u32>>;
@@ -57,7 +58,7 @@ fn with_digit(number: u32, digit: u32) -> u32 {
     number.saturating_mul(10).saturating_add(digit)
 }
 
-// The rows of turns, of polygons and of texts, at one arena.
+// The rows of turns, of polygons and of texts, at one arena, ...
 fn played<P: PtrKey, A: ChainArenaTrait<P, u32> + Drop>(alloc: Global) -> [Differing; 3] {
     [
         turns::differing::<P, A>(alloc),
@@ -66,37 +67,25 @@ fn played<P: PtrKey, A: ChainArenaTrait<P, u32> + Drop>(alloc: Global) -> [Diffe
     ]
 }
 
-// .. and those of bookmarks, at an arena whose texts can be renumbered.
-fn all_played<P: PtrKey, A: Renumbers<P>>(alloc: Global) -> ([Differing; 3], Differing) {
-    (played::<P, A>(alloc), bookmarks::differing::<P, A>(alloc))
+// .. at one that hands each call on to any other, ...
+fn played_handed_on<P: PtrKey, A: ChainArenaTrait<P, u32> + Drop>(alloc: Global) -> [Differing; 3] {
+    played::<P, Wrapped<A>>(alloc)
 }
 
-// .. at a chain arena. It is named here, over any stack, since that costs less than at one.
-fn played_over<P: PtrKey, S: SlotStack<Item = Slot<P>>>(
-    alloc: Global,
-) -> ([Differing; 3], Differing) {
-    all_played::<P, ChainArena<P, u32, S>>(alloc)
+// .. and at both, with those of bookmarks, at an arena whose texts can be renumbered, ...
+fn all_played<P: PtrKey, A: Renumbers<P>>(alloc: Global) -> ([[Differing; 3]; 2], Differing) {
+    let both = [played::<P, A>(alloc), played_handed_on::<P, A>(alloc)];
+    (both, bookmarks::differing::<P, A>(alloc))
 }
 
-// .. at one that hands each call on.
-fn played_handed_on<P: PtrKey, S: SlotStack<Item = Slot<P>>>(alloc: Global) -> [Differing; 3] {
-    played::<P, Wrapped<ChainArena<P, u32, S>>>(alloc)
-}
-
-#[test]
-fn over_one_piece_of_memory(rt: HostRuntime) {
-    let differing = played_over::<ToolPtr, HeapStack<Slot<ToolPtr>>>(rt.alloc());
-    same(&rt, "rows", differing, ([None; 3], None));
+// .. as a chain arena is. It is named here, over any stack, since that costs less than at one.
+fn are_all_played<P: PtrKey, S: SlotStack<Item = Slot<P>>>(rt: &impl Abort, alloc: Global) {
+    let differing = all_played::<P, ChainArena<P, u32, S>>(alloc);
+    same(rt, "rows", differing, ([[None; 3]; 2], None));
 }
 
 #[test]
-fn in_blocks(rt: HostRuntime) {
-    let differing = played_over::<ToolPtr, ChunkStack<Slot<ToolPtr>>>(rt.alloc());
-    same(&rt, "rows", differing, ([None; 3], None));
-}
-
-#[test]
-fn over_an_arena_that_hands_each_call_on(rt: HostRuntime) {
-    let differing = played_handed_on::<ToolPtr, HeapStack<Slot<ToolPtr>>>(rt.alloc());
-    same(&rt, "rows", differing, [None; 3]);
+fn over_one_piece_of_memory_and_in_blocks(rt: HostRuntime) {
+    are_all_played::<ToolPtr, HeapStack<Slot<ToolPtr>>>(&rt, rt.alloc());
+    are_all_played::<ToolPtr, ChunkStack<Slot<ToolPtr>>>(&rt, rt.alloc());
 }

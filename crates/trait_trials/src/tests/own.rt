@@ -5,21 +5,8 @@ use super::scripts::{Answers, answer};
 use super::{Numbered, Slot, text};
 use arena_base::ArenaTrait;
 use arena_ptr::{InvalidationOption, PtrKey, SlotStack};
-use chain_arena::{Call, ChainArena, LinkInsertKind, Reply, apply};
+use chain_arena::ChainArena;
 use std::alloc::Global;
-
-// The reply to an insertion as a value.
-fn applied<P: Numbered, S: SlotStack<Item = Slot<P>>>(
-    alloc: Global,
-    arena: &mut ChainArena<P, u32, S>,
-    kind: LinkInsertKind<P>,
-    t: u32,
-) -> Option<String> {
-    match apply(arena, Call::Insert { kind, t }) {
-        Reply::Inserted(answer) => text(alloc, answer),
-        _ => text(alloc, "another reply"),
-    }
-}
 
 // Whether the counter overflows at a link that a drain yields.
 fn overflows<T: Drop>(gone: Option<InvalidationOption<T>>) -> Option<bool> {
@@ -47,10 +34,7 @@ fn own_answer<P: Numbered, S: SlotStack<Item = Slot<P>>>(
     asked: Asked<P>,
 ) -> Option<String> {
     match asked.call {
-        Do::Generation => text(alloc, P::number_of(arena.generation())),
         Do::SetGeneration => text(alloc, arena.set_generation(P::generation_of(asked.n))),
-        Do::IncGeneration => text(alloc, arena.inc_generation()),
-        Do::Apply => applied(alloc, arena, asked.kind, asked.t),
         Do::DrainTwo => text(alloc, drained_two(arena, asked.p)),
         _ => trait_answer(alloc, arena, asked),
     }

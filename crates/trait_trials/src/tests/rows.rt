@@ -1,8 +1,9 @@
-//! What is known of any arena of links by its traits alone, as tables of lines. A line `# ..` begins a new arena, and any other is
+//! What is known of any arena of links by its traits alone, as lines of a text. A line `# ..` begins a new arena, and any other is
 //! a call and the text of its answer. `All` lists each link: its pointer, its value, and the pointers before and after it.
 
-// What connects and what is refused.
-pub(super) const CONNECTIONS: &str = "\
+// What any arena of links meets.
+pub(super) const ROWS: &str = "\
+# What connects and what is refused.
 # two lone links, each of which then names the other
 InsertMany 2 = 2
 All = [((1, 2), 1, (0, 0), (0, 0)), ((2, 2), 2, (0, 0), (0, 0))]
@@ -48,10 +49,7 @@ RemoveLink 2 2 = InvalidPtr
 Remove 2 2 = InvalidPtr
 Invalidate 2 2 = InvalidPtr
 All = [((1, 2), 1, (0, 0), (0, 0))]
-";
-
-// What removals answer, and what they leave.
-pub(super) const REMOVALS: &str = "\
+# What removals answer, and what they leave.
 # three in a row by a body that knows the traits alone
 Insert Disconnected 10 = Ok(P0[1](2))
 AddBehind 1 2 20 = Ok(Some(P0[2](2)))
@@ -111,10 +109,7 @@ Neighbors 1 2 2 2 = false
 Neighbors 1 3 2 2 = true
 NeighborsInx 1 2 = true
 All = [((1, 3), 1, (0, 0), (2, 2)), ((2, 2), 2, (1, 3), (0, 0))]
-";
-
-// The kinds of insertion.
-pub(super) const KINDS: &str = "\
+# The kinds of insertion.
 # a lone link: nothing comes between it and itself, a bridge makes a cycle, which grows by indexes
 InsertMany 1 = 1
 CanInsert AtInterlink 1 2 1 2 = false
@@ -205,10 +200,7 @@ Remove 1 2 = InvalidPtr
 Invalidate 1 2 = InvalidPtr
 Insert NextToInx 1 4 = Ok(P0[3](3))
 All = [((1, 3), 3, (2, 2), (3, 3)), ((2, 2), 2, (3, 3), (1, 3)), ((3, 3), 4, (1, 3), (2, 2))]
-";
-
-// Links cut apart, and what comes after two links exchanged and exchanged back.
-pub(super) const CUTS: &str = "\
+# Links cut apart, and what comes after two links exchanged and exchanged back.
 # a lone link is tied to itself, untied, and tied again, and then one comes between
 InsertMany 1 = 1
 Connect 1 2 1 2 = Some(())
@@ -265,10 +257,7 @@ Exchange 1 2 1 2 = Some(())
 All = [((1, 2), 1, (0, 0), (3, 2)), ((2, 2), 2, (2, 2), (2, 2)), ((3, 2), 3, (1, 2), (0, 0))]
 Exchange 2 2 1 2 = Some(())
 All = [((1, 2), 1, (0, 0), (2, 2)), ((2, 2), 2, (1, 2), (3, 2)), ((3, 2), 3, (2, 2), (0, 0))]
-";
-
-// Looks, advancers, room and the counter.
-pub(super) const LOOKS: &str = "\
+# Looks, advancers, room and the counter.
 # on to the end and back to the start
 InsertMany 4 = 4
 Connect 1 2 2 2 = Some(())
@@ -314,33 +303,12 @@ ClearInRoom = (Success(()), true)
 IsEmpty = true
 Contains 1 2 = false
 Counter = Some(3)
-";
-
-// Room at birth, and what advancers along chains answer over arenas that change.
-pub(super) const ADVANCERS: &str = "\
+# Room at birth, and what advancers along chains answer over arenas that change.
 # a link that is gone ends a walk, and so does the number of steps
 Birth 3 = Ok((true, true))
 AdvanceEmpty = None
 Changes = ((1, 2), [[(0, 0), (0, 0), (0, 0), (0, 0), (0, 0)], [(1, 2), (0, 0), (0, 0), (0, 0), (0, 0)], [(3, 2), (2, 2), (0, 0), (0, 0), (0, 0)], [(0, 0), (0, 0), (0, 0), (0, 0), (0, 0)]])
-";
-
-// What an advancer answers after its first `None`: no more, or all once again.
-pub(super) const NONE_THEN_NONE: &str = "\
-# nothing after the last
-InsertMany 2 = 2
-Connect 1 2 2 2 = Some(())
-Advance 4 = [(1, 2), (2, 2), (0, 0), (0, 0), (0, 0)]
-";
-
-pub(super) const NONE_THEN_AGAIN: &str = "\
-# the first one again after the last
-InsertMany 2 = 2
-Connect 1 2 2 2 = Some(())
-Advance 4 = [(1, 2), (2, 2), (0, 0), (1, 2), (0, 0)]
-";
-
-// Chains laid one after another, and gaps closed, with what the closure of a compression sees.
-pub(super) const LAYOUTS: &str = "\
+# Chains laid one after another, and gaps closed, with what the closure of a compression sees.
 # a ring and a chain behind a hole
 Insert Disconnected 1 = Ok(P0[1](2))
 Insert SingleLinkCyclic 2 = Ok(P0[2](2))
@@ -388,4 +356,19 @@ Remove 1 2 = Success(1)
 CompressWith 0 = (Success(()), [(P0[2](2), 2, P0[1](4)), (P0[3](2), 3, P0[2](4)), (P0[4](2), 4, P0[3](4))])
 All = [((1, 4), 12, (1, 4), (1, 4)), ((2, 4), 23, (0, 0), (3, 4)), ((3, 4), 34, (2, 4), (0, 0))]
 Insert Disconnected 9 = Ok(P0[4](4))
+";
+
+// What an advancer answers after its first `None`: no more, or all once again.
+pub(super) const NONE_THEN_NONE: &str = "\
+# nothing after the last
+InsertMany 2 = 2
+Connect 1 2 2 2 = Some(())
+Advance 4 = [(1, 2), (2, 2), (0, 0), (0, 0), (0, 0)]
+";
+
+pub(super) const NONE_THEN_AGAIN: &str = "\
+# the first one again after the last
+InsertMany 2 = 2
+Connect 1 2 2 2 = Some(())
+Advance 4 = [(1, 2), (2, 2), (0, 0), (1, 2), (0, 0)]
 ";

@@ -1,11 +1,11 @@
 //! The texts of links and of arenas of links.
 
 use super::pointers::BarePtr;
-use super::{at, same};
+use super::{At, NONE, Numbered, at, same};
 use arena_base::{ArenaSlot, ArenaTrait};
-use arena_ptr::{HeapStack, Inx32, Ptr, PtrKey, SlotStack, ToolPtr};
+use arena_ptr::{HeapStack, Ptr, SlotStack, ToolPtr};
 use chain_arena::{ChainArena, ChainArenaTrait, Link, LinkInsertKind, LinkNoGen};
-use std::alloc::{AllocError, Global};
+use std::alloc::Global;
 use std::fmt;
 use std::fmt::{Debug, Display};
 use std::process::Abort;
@@ -39,129 +39,76 @@ impl fmt::Display for Teller {
     }
 }
 
+// The texts by `Debug` and by `Display`: plain, in the alternate form, and in a width, with a sign and a precision.
+fn texts_of<T: Debug + Display>(alloc: Global, item: &T) -> Option<String> {
+    format!(in alloc; "{item:?} {item:#?} {item:>+40.3?} {item} {item:#} {item:>+40.3}").ok()
+}
+
+// The pointer of two numbers, none for `NONE`.
+fn neighbor<P: Numbered>(p: At) -> Option<P> {
+    if p.0 == 0 { None } else { Some(at(p)) }
+}
+
+// .. of a link, with and without the generations of its neighbors.
+fn texts_of_link<P: Ptr>(alloc: Global, link: Link<P, Teller>) -> [Option<String>; 2] {
+    [texts_of(alloc, &link), texts_of(alloc, &link.no_gen())]
+}
+
 // Looks at a text.
-fn reads(rt: &impl Abort, what: &str, text: Result<String, AllocError>, want: &str) {
+fn reads(rt: &impl Abort, what: &str, text: Option<String>, want: &str) {
     let text = text.expect(rt, "memory");
     same(rt, what, text.as_str(), want);
 }
 
-// Looks at the text by `Debug`, plain and in the alternate form.
-fn debug_reads<T: Debug>(rt: &impl Abort, alloc: Global, item: &T, plain: &str, sharp: &str) {
-    reads(rt, "by debug", format!(in alloc; "{item:?}"), plain);
-    let text = format!(in alloc; "{item:#?}");
-    reads(rt, "by debug, alternate", text, sharp);
-}
-
-// .. by `Display`.
-fn display_reads<T: Display>(rt: &impl Abort, alloc: Global, item: &T, plain: &str, sharp: &str) {
-    reads(rt, "by display", format!(in alloc; "{item}"), plain);
-    let text = format!(in alloc; "{item:#}");
-    reads(rt, "by display, alternate", text, sharp);
-}
-
-// .. both in a width, with a sign and a precision.
-fn wide_reads<T: Debug + Display>(
-    rt: &impl Abort,
-    alloc: Global,
-    item: &T,
-    debug: &str,
-    display: &str,
-) {
-    let text = format!(in alloc; "{item:>+40.3?}");
-    reads(rt, "by debug, in a width", text, debug);
-    let text = format!(in alloc; "{item:>+40.3}");
-    reads(rt, "by display, in a width", text, display);
-}
-
-// Both forms, which for these values are the same.
-fn link_reads<T: Debug + Display>(
-    rt: &impl Abort,
-    alloc: Global,
-    link: &T,
-    debug: &str,
-    display: &str,
-) {
-    debug_reads(rt, alloc, link, debug, debug);
-    display_reads(rt, alloc, link, display, display);
-}
+// Links by their neighbors, and their texts: indexes are hexadecimal, and the alternate mark alone reaches the value.
+const LINKS: [(At, At, &str); 4] = [
+    (
+        NONE,
+        NONE,
+        "{(start), (end)} debug {(start), (end)} debug# {(start), (end)} debug {(start), (end)} display {(start), (end)} display# {(start), (end)} display",
+    ),
+    (
+        NONE,
+        (1, 2),
+        "{(start), 1} debug {(start), 1} debug# {(start), 1} debug {(start), 1} display {(start), 1} display# {(start), 1} display",
+    ),
+    (
+        (10, 2),
+        NONE,
+        "{a, (end)} debug {a, (end)} debug# {a, (end)} debug {a, (end)} display {a, (end)} display# {a, (end)} display",
+    ),
+    (
+        (26, 11),
+        (0xabcdef, 3),
+        "{1a, abcdef} debug {1a, abcdef} debug# {1a, abcdef} debug {1a, abcdef} display {1a, abcdef} display# {1a, abcdef} display",
+    ),
+];
 
 #[test]
 fn links_show_indexes_in_hexadecimal(rt: HostRuntime) {
-    let alloc = rt.alloc();
-    let end = LinkNoGen::<ToolPtr, u32>::new((Inx32::new(10), None), 7);
-    link_reads(&rt, alloc, &end, "{a, (end)} 7", "{a, (end)} 7");
-    let beside = (
-        Some(at::<ToolPtr>((26, 11))),
-        Some(at::<ToolPtr>((0xabcdef, 3))),
-    );
-    let between = Link::new(beside, "B");
-    let (debug, display) = ("{1a, abcdef} \"B\"", "{1a, abcdef} B");
-    link_reads(&rt, alloc, &between, debug, display);
-    link_reads(&rt, alloc, &between.no_gen(), debug, display);
-}
-
-// What reaches the value of a link: the alternate mark alone.
-fn teller_reads<T: Debug + Display>(rt: &impl Abort, alloc: Global, link: &T, texts: [&str; 4]) {
-    let [debug, sharp, display, sharp_display] = texts;
-    debug_reads(rt, alloc, link, debug, sharp);
-    display_reads(rt, alloc, link, display, sharp_display);
-    wide_reads(rt, alloc, link, debug, display);
-}
-
-#[test]
-fn only_the_alternate_mark_reaches_the_value_of_a_link(rt: HostRuntime) {
-    let lone = LinkNoGen::<ToolPtr, Teller>::new((None, None), Teller);
-    let texts = [
-        "{(start), (end)} debug",
-        "{(start), (end)} debug#",
-        "{(start), (end)} display",
-        "{(start), (end)} display#",
-    ];
-    teller_reads(&rt, rt.alloc(), &lone, texts);
-    let first: Link<ToolPtr, Teller> = Link::new((None, Some(at::<ToolPtr>((1, 2)))), Teller);
-    let texts = [
-        "{(start), 1} debug",
-        "{(start), 1} debug#",
-        "{(start), 1} display",
-        "{(start), 1} display#",
-    ];
-    teller_reads(&rt, rt.alloc(), &first, texts);
+    for (prev, next, want) in LINKS {
+        let link: Link<ToolPtr, Teller> = Link::new((neighbor(prev), neighbor(next)), Teller);
+        let [link, bare] = texts_of_link(rt.alloc(), link);
+        reads(&rt, "with generations", link, want);
+        reads(&rt, "without", bare, want);
+    }
 }
 
 // A slot of a link of a value that tells.
 type Telling<P> = ArenaSlot<P, LinkNoGen<P, Teller>>;
 
-// A chain of two links.
-fn two_links<P: PtrKey, S: SlotStack<Item = Telling<P>>>(
-    alloc: Global,
-) -> ChainArena<P, Teller, S> {
+// The texts of an arena of a ring of one and a lone link, plain and in the alternate form.
+fn texts_of_two<P: Ptr, S: SlotStack<Item = Telling<P>>>(alloc: Global) -> Option<String> {
     let mut arena: ChainArena<P, Teller, S> = ChainArena::new(alloc);
-    let mut kind = LinkInsertKind::Disconnected;
-    for _ in 0..2 {
-        if let Ok(p) = arena.insert_reallocating(kind, Teller) {
-            kind = LinkInsertKind::ChainEnd(p);
-        }
-    }
-    arena
-}
-
-// The texts of an arena of a chain of two links.
-fn chain_reads<P: Ptr, S: SlotStack<Item = Telling<P>>>(
-    rt: &impl Abort,
-    alloc: Global,
-    plain: &str,
-    sharp: &str,
-) {
-    let arena = two_links::<P, S>(alloc);
-    debug_reads(rt, alloc, &arena, plain, sharp);
+    let _ = arena.insert_reallocating(LinkInsertKind::SingleLinkCyclic, Teller);
+    let _ = arena.insert_reallocating(LinkInsertKind::Disconnected, Teller);
+    format!(in alloc; "{arena:?} {arena:#?}").ok()
 }
 
 #[test]
 fn pointers_without_a_generation_show_none(rt: HostRuntime) {
-    chain_reads::<BarePtr, HeapStack<Telling<BarePtr>>>(
-        &rt,
-        rt.alloc(),
-        "{Bare[1]: {(start), 2} debug, Bare[2]: {1, (end)} debug}",
-        "{\n    Bare[1]: {(start), 2} debug#,\n    Bare[2]: {1, (end)} debug#,\n}",
-    );
+    let text = texts_of_two::<BarePtr, HeapStack<Telling<BarePtr>>>(rt.alloc());
+    let want =
+        "{Bare[1]: {1, 1} debug, Bare[2]: {(start), (end)} debug} {\n    Bare[1]: {1, 1} debug#,\n    Bare[2]: {(start), (end)} debug#,\n}";
+    reads(&rt, "an arena", text, want);
 }

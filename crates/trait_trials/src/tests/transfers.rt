@@ -2,26 +2,55 @@
 
 use super::asked::Do;
 use super::pointers::BarePtr;
-use super::{Counted, Numbered, Slot, limited, text};
+use super::{Counted, Slot, limited, text};
 use arena_base::{ArenaTrait, CompactArenaTrait};
-use arena_ptr::{Gen32, HeapStack, LimitStack, LimitedStack, Ptr, PtrKey, SlotStack, ToolPtr};
+use arena_ptr::{Gen32, LimitStack, LimitedStack, Ptr, PtrKey, SlotStack, ToolPtr};
 use chain_arena::{ChainArena, ChainArenaTrait, LinkInsertKind};
 use std::alloc::Global;
 use std::fmt::Debug;
 
-// A stack of links of tool pointers in one piece.
-type OnHeap = HeapStack<Slot<ToolPtr>>;
+// Where links are carried to, or refused: an arena with a maximum and links of these values, rings of one or lone ones. Each value
+// there is answered by the closure, if it is told one.
+#[derive(Drop)]
+struct Place {
+    most: usize,
+    is_ring: bool,
+    values: &'static [u32],
+    answered: Option<u32>,
+}
 
-// Adds links of a kind, and tells whether there are so many then.
-fn add_links<P: PtrKey, S: SlotStack<Item = Slot<P>>>(
-    arena: &mut ChainArena<P, u32, S>,
-    kind: LinkInsertKind<P>,
-    values: &[u32],
-) -> bool {
-    for value in values {
+// The place of a call: one of 8 bits of index, with two rings in it and a maximum of as many links; a full one with a maximum of
+// two links; one of none, where each value is five; and one of two links.
+fn place_of(call: Do, n: u32) -> Place {
+    let (most, is_ring, values, answered): (usize, bool, &'static [u32], Option<u32>) = match call {
+        Do::CarryToBare => (n as usize, true, &[5, 6], None),
+        Do::CarryToFull => (2, false, &[1, 2], None),
+        Do::CarryAsFive => (1000, false, &[], Some(5)),
+        _ => (1000, false, &[1, 2], None),
+    };
+    Place {
+        most,
+        is_ring,
+        values,
+        answered,
+    }
+}
+
+// An arena with a maximum and links.
+fn arena_at<P: PtrKey, S: LimitStack<Item = Slot<P>>>(
+    alloc: Global,
+    place: &Place,
+) -> ChainArena<P, u32, S> {
+    let mut arena: ChainArena<P, u32, S> = limited(alloc, place.most);
+    let kind = if place.is_ring {
+        LinkInsertKind::SingleLinkCyclic
+    } else {
+        LinkInsertKind::Disconnected
+    };
+    for value in place.values {
         let _ = arena.insert_reallocating(kind, *value);
     }
-    arena.len() == values.len()
+    arena
 }
 
 // Carries all links of a source over, and adds ten times the number of the closure's call to each value, or answers one value
@@ -50,117 +79,48 @@ fn carry<
     text(alloc, (answer, seen))
 }
 
-// What was told of a transfer, the links there now, and the counter. Of room for so few links there is little.
-fn arrival<S: SlotStack<Item = Slot<ToolPtr>>>(
+// What a chain arena shows: its links, its counter, its maximum, and whether its room is little, as for so few links.
+fn shown<Q: Ptr, S: SlotStack<Item = Slot<Q>>>(
     alloc: Global,
-    told: Option<String>,
-    target: &ChainArena<ToolPtr, u32, S>,
+    arena: &ChainArena<Q, u32, S>,
 ) -> Option<String> {
-    match told {
-        Some(told) if target.capacity() <= 64 => {
-            let counter = target.generation().number();
-            format!(in alloc; "({told}, {target:?}, {counter})").ok()
-        }
+    let counter = arena.generation();
+    let is_little = arena.capacity() <= 64;
+    text(alloc, (arena, counter, arena.max_capacity(), is_little))
+}
+
+// Two texts as one.
+fn joined(alloc: Global, told: Option<String>, shown: Option<String>) -> Option<String> {
+    match (told, shown) {
+        (Some(told), Some(shown)) => format!(in alloc; "{told} {shown}").ok(),
         _ => None,
     }
 }
 
-// Carries all links of a source over to an arena of tool pointers that holds two links, or none where one value is answered for
-// all. Tells the answer, what the closure saw, the links there then, and the counter.
-fn carried_out<
-    P: Numbered,
-    A: ChainArenaTrait<P, u32> + CompactArenaTrait<P, u32>,
-    S: SlotStack<Item = Slot<ToolPtr>>,
->(alloc: Global, source: &mut A, now: u32, answered: Option<u32>) -> Option<String> {
-    let mut target = ChainArena::<ToolPtr, u32, S>::new(alloc);
-    let held: &[u32] = if answered.is_some() { &[] } else { &[1, 2] };
-    if !add_links(&mut target, LinkInsertKind::Disconnected, held) {
-        return None;
-    }
-    let told = carry(alloc, source, Gen32::of(now), &mut target, answered);
-    arrival(alloc, told, &target)
-}
-
-// All that a chain arena shows: its links, its counter and its room.
-fn shown<P: Ptr, S: SlotStack<Item = Slot<P>>>(
-    alloc: Global,
-    arena: &ChainArena<P, u32, S>,
-) -> Option<String> {
-    let counter = arena.generation();
-    text(
-        alloc,
-        (arena, counter, arena.capacity(), arena.max_capacity()),
-    )
-}
-
-// What was told of a transfer, and whether the texts of before and after are the same, and the rooms.
-fn refusal(
-    alloc: Global,
-    told: Option<String>,
-    texts: (Option<String>, Option<String>),
-    rooms: (usize, usize),
-) -> Option<String> {
-    let stays = texts.0 == texts.1 && rooms.0 == rooms.1;
-    match told {
-        Some(told) => format!(in alloc; "({told}, {stays})").ok(),
-        None => None,
-    }
-}
-
-// Carries all links of a source over to an arena of some links, and with a maximum, that refuses them. Tells the answer, what the
-// closure saw, and whether the arena shows what it did, and the source has the room that it had.
-fn refused<
-    P: Numbered,
+// Carries all links of a source over to such an arena. Tells the answer, what the closure saw, and what the arena shows then.
+fn carried_to<
+    P: PtrKey + Debug,
     Q: Ptr,
     A: ChainArenaTrait<P, u32> + CompactArenaTrait<P, u32>,
     S: LimitStack<Item = Slot<Q>>,
->(
-    alloc: Global,
-    source: &mut A,
-    most: usize,
-    generation: Q::Gen,
-    kind: LinkInsertKind<Q>,
-    values: &[u32],
-) -> Option<String> {
-    let mut target: ChainArena<Q, u32, S> = limited(alloc, most);
-    if !add_links(&mut target, kind, values) {
-        return None;
-    }
-    let room = source.capacity();
-    let before = shown(alloc, &target);
-    let told = carry(alloc, source, generation, &mut target, None);
-    let after = shown(alloc, &target);
-    refusal(alloc, told, (before, after), (room, source.capacity()))
+>(alloc: Global, source: &mut A, generation: Q::Gen, place: &Place) -> Option<String> {
+    let mut target: ChainArena<Q, u32, S> = arena_at(alloc, place);
+    let told = carry(alloc, source, generation, &mut target, place.answered);
+    joined(alloc, told, shown(alloc, &target))
 }
 
-// The answer to a transfer: to a full arena with a maximum of two links; to one of 8 bits of index, with a ring in it and a maximum
-// of as many links, or of two; to one where each value is five; and to one of two links.
-pub(super) fn carried<P: Numbered, A: ChainArenaTrait<P, u32> + CompactArenaTrait<P, u32>>(
+// The answer to a transfer.
+pub(super) fn carried<P: PtrKey + Debug, A: ChainArenaTrait<P, u32> + CompactArenaTrait<P, u32>>(
     alloc: Global,
     source: &mut A,
     call: Do,
     n: u32,
 ) -> Option<String> {
-    match call {
-        Do::CarryToFull => refused::<P, ToolPtr, A, LimitedStack<Slot<ToolPtr>>>(
-            alloc,
-            source,
-            2,
-            Gen32::of(7),
-            LinkInsertKind::Disconnected,
-            &[1, 2],
-        ),
-        Do::CarryToBare => refused::<P, BarePtr, A, LimitedStack<Slot<BarePtr>>>(
-            alloc,
-            source,
-            n as usize,
-            (),
-            LinkInsertKind::SingleLinkCyclic,
-            &[5],
-        ),
-        Do::CarryAsFive => carried_out::<P, A, OnHeap>(alloc, source, 7, Some(5)),
-        _ => carried_out::<P, A, OnHeap>(alloc, source, n, None),
+    let place = place_of(call, n);
+    if place.is_ring {
+        return carried_to::<P, BarePtr, A, LimitedStack<Slot<BarePtr>>>(alloc, source, (), &place);
     }
+    carried_to::<P, ToolPtr, A, LimitedStack<Slot<ToolPtr>>>(alloc, source, Gen32::of(n), &place)
 }
 
 // A chain of 3 and 1, and a lone link between them; and others. Some have the generation that a compression of the same links gives
@@ -172,28 +132,28 @@ Insert SingleLinkCyclic 2 = Ok(P0[2](2))
 Insert Disconnected 3 = Ok(P0[3](2))
 Insert ChainEnd 3 2 4 = Ok(P0[4](2))
 Remove 1 2 = Success(1)
-CarryOut 4 = ((Ok(()), [(P0[2](2), 2, false, P0[1](4)), (P0[3](2), 3, false, P0[2](4)), (P0[4](2), 4, false, P0[3](4))]), {P0[1](4): {1, 1} 12, P0[2](4): {(start), 3} 23, P0[3](4): {2, (end)} 34}, 4)
+CarryOut 4 = (Ok(()), [(P0[2](2), 2, false, P0[1](4)), (P0[3](2), 3, false, P0[2](4)), (P0[4](2), 4, false, P0[3](4))]) ({P0[1](4): {1, 1} 12, P0[2](4): {(start), 3} 23, P0[3](4): {2, (end)} 34}, Gen32 { number: 4 }, Some(1000), true)
 # a linear chain and a cycle
 InsertMany 4 = 4
 Connect 1 2 4 2 = Some(())
 Connect 2 2 3 2 = Some(())
 Connect 3 2 2 2 = Some(())
-CarryOut 3 = ((Ok(()), [(P0[1](2), 1, false, P0[1](3)), (P0[4](2), 4, false, P0[2](3)), (P0[2](2), 2, false, P0[3](3)), (P0[3](2), 3, false, P0[4](3))]), {P0[1](3): {(start), 2} 11, P0[2](3): {1, (end)} 24, P0[3](3): {4, 4} 32, P0[4](3): {3, 3} 43}, 3)
+CarryOut 3 = (Ok(()), [(P0[1](2), 1, false, P0[1](3)), (P0[4](2), 4, false, P0[2](3)), (P0[2](2), 2, false, P0[3](3)), (P0[3](2), 3, false, P0[4](3))]) ({P0[1](3): {(start), 2} 11, P0[2](3): {1, (end)} 24, P0[3](3): {4, 4} 32, P0[4](3): {3, 3} 43}, Gen32 { number: 3 }, Some(1000), true)
 # a chain of 3 and 1
 InsertMany 3 = 3
 Connect 3 2 1 2 = Some(())
-CarryOut 3 = ((Ok(()), [(P0[3](2), 3, false, P0[1](3)), (P0[1](2), 1, false, P0[2](3)), (P0[2](2), 2, false, P0[3](3))]), {P0[1](3): {(start), 2} 13, P0[2](3): {1, (end)} 21, P0[3](3): {(start), (end)} 32}, 3)
+CarryOut 3 = (Ok(()), [(P0[3](2), 3, false, P0[1](3)), (P0[1](2), 1, false, P0[2](3)), (P0[2](2), 2, false, P0[3](3))]) ({P0[1](3): {(start), 2} 13, P0[2](3): {1, (end)} 21, P0[3](3): {(start), (end)} 32}, Gen32 { number: 3 }, Some(1000), true)
 # lone links behind holes
 InsertMany 6 = 6
 Remove 1 2 = Success(1)
 Remove 2 2 = Success(2)
 Remove 3 2 = Success(3)
 Remove 4 2 = Success(4)
-CarryOut 7 = ((Ok(()), [(P0[5](2), 5, false, P0[1](7)), (P0[6](2), 6, false, P0[2](7))]), {P0[1](7): {(start), (end)} 15, P0[2](7): {(start), (end)} 26}, 7)
+CarryOut 7 = (Ok(()), [(P0[5](2), 5, false, P0[1](7)), (P0[6](2), 6, false, P0[2](7))]) ({P0[1](7): {(start), (end)} 15, P0[2](7): {(start), (end)} 26}, Gen32 { number: 7 }, Some(1000), true)
 # a chain of 3 and 1
 InsertMany 3 = 3
 Connect 3 2 1 2 = Some(())
-CarryOut 7 = ((Ok(()), [(P0[3](2), 3, false, P0[1](7)), (P0[1](2), 1, false, P0[2](7)), (P0[2](2), 2, false, P0[3](7))]), {P0[1](7): {(start), 2} 13, P0[2](7): {1, (end)} 21, P0[3](7): {(start), (end)} 32}, 7)
+CarryOut 7 = (Ok(()), [(P0[3](2), 3, false, P0[1](7)), (P0[1](2), 1, false, P0[2](7)), (P0[2](2), 2, false, P0[3](7))]) ({P0[1](7): {(start), 2} 13, P0[2](7): {1, (end)} 21, P0[3](7): {(start), (end)} 32}, Gen32 { number: 7 }, Some(1000), true)
 Len = 0
 Counter = Some(5)
 # scattered chains
@@ -202,7 +162,7 @@ Connect 1 2 3 2 = Some(())
 Connect 2 2 4 2 = Some(())
 Remove 1 2 = Success(1)
 Insert ChainEnd 4 2 5 = Ok(P0[1](3))
-CarryOut 4 = ((Ok(()), [(P0[2](2), 2, false, P0[1](4)), (P0[4](2), 4, false, P0[2](4)), (P0[1](3), 5, false, P0[3](4)), (P0[3](2), 3, false, P0[4](4))]), {P0[1](4): {(start), 2} 12, P0[2](4): {1, 3} 24, P0[3](4): {2, (end)} 35, P0[4](4): {(start), (end)} 43}, 4)
+CarryOut 4 = (Ok(()), [(P0[2](2), 2, false, P0[1](4)), (P0[4](2), 4, false, P0[2](4)), (P0[1](3), 5, false, P0[3](4)), (P0[3](2), 3, false, P0[4](4))]) ({P0[1](4): {(start), 2} 12, P0[2](4): {1, 3} 24, P0[3](4): {2, (end)} 35, P0[4](4): {(start), (end)} 43}, Gen32 { number: 4 }, Some(1000), true)
 Len = 0
 Counter = Some(7)
 # a linear chain and a cycle
@@ -210,7 +170,7 @@ InsertMany 4 = 4
 Connect 1 2 4 2 = Some(())
 Connect 2 2 3 2 = Some(())
 Connect 3 2 2 2 = Some(())
-CarryOut 2 = ((Ok(()), [(P0[1](2), 1, false, P0[1](2)), (P0[4](2), 4, false, P0[2](2)), (P0[2](2), 2, false, P0[3](2)), (P0[3](2), 3, false, P0[4](2))]), {P0[1](2): {(start), 2} 11, P0[2](2): {1, (end)} 24, P0[3](2): {4, 4} 32, P0[4](2): {3, 3} 43}, 2)
+CarryOut 2 = (Ok(()), [(P0[1](2), 1, false, P0[1](2)), (P0[4](2), 4, false, P0[2](2)), (P0[2](2), 2, false, P0[3](2)), (P0[3](2), 3, false, P0[4](2))]) ({P0[1](2): {(start), 2} 11, P0[2](2): {1, (end)} 24, P0[3](2): {4, 4} 32, P0[4](2): {3, 3} 43}, Gen32 { number: 2 }, Some(1000), true)
 Len = 0
 Counter = Some(6)
 # a linear chain and a cycle
@@ -218,27 +178,26 @@ InsertMany 4 = 4
 Connect 1 2 4 2 = Some(())
 Connect 2 2 3 2 = Some(())
 Connect 3 2 2 2 = Some(())
-CarryAsFive = ((Ok(()), [(P0[1](2), 1, false, P0[1](7)), (P0[4](2), 4, false, P0[2](7)), (P0[2](2), 2, false, P0[3](7)), (P0[3](2), 3, false, P0[4](7))]), {P0[1](7): {(start), 2} 5, P0[2](7): {1, (end)} 5, P0[3](7): {4, 4} 5, P0[4](7): {3, 3} 5}, 7)
+CarryAsFive 7 = (Ok(()), [(P0[1](2), 1, false, P0[1](7)), (P0[4](2), 4, false, P0[2](7)), (P0[2](2), 2, false, P0[3](7)), (P0[3](2), 3, false, P0[4](7))]) ({P0[1](7): {(start), 2} 5, P0[2](7): {1, (end)} 5, P0[3](7): {4, 4} 5, P0[4](7): {3, 3} 5}, Gen32 { number: 7 }, Some(1000), true)
 # an empty source
-CarryOut 9 = ((Ok(()), []), {}, 9)
+CarryOut 9 = (Ok(()), []) ({}, Gen32 { number: 9 }, Some(1000), true)
 Len = 0
 Counter = Some(2)
-";
-
-// Refused transfers, of a chain of 3 and 1 and other links: the index type is tested before the maximum, nothing grows, and the
-// source keeps its links, its counter and its room.
-pub(super) const REFUSED: &str = "\
-# beyond the maximum
+# refused transfers, of a chain of 3 and 1 and other links, beyond the maximum
 InsertMany 3 = 3
 Connect 3 2 1 2 = Some(())
-CarryToFull = ((Err(BeyondMaxCapacity), []), true)
+Reserve 100 = Ok(())
+CarryToFull 7 = (Err(BeyondMaxCapacity), []) ({P0[1](2): {(start), (end)} 1, P0[2](2): {(start), (end)} 2}, Gen32 { number: 2 }, Some(2), true)
+HasRoom 100 = true
 All = [((1, 2), 1, (3, 2), (0, 0)), ((2, 2), 2, (0, 0), (0, 0)), ((3, 2), 3, (0, 0), (1, 2))]
 Counter = Some(2)
-# beyond the index type
+# .. and beyond the index type, which is tested before the maximum: nothing grows, and the source keeps all that it has
 InsertMany 256 = 256
 Connect 3 2 1 2 = Some(())
-CarryToBare 300 = ((Err(AllocError), []), true)
-CarryToBare 2 = ((Err(AllocError), []), true)
+Reserve 300 = Ok(())
+CarryToBare 300 = (Err(AllocError), []) ({Bare[1]: {1, 1} 5, Bare[2]: {2, 2} 6}, (), Some(300), true)
+CarryToBare 2 = (Err(AllocError), []) ({Bare[1]: {1, 1} 5, Bare[2]: {2, 2} 6}, (), Some(2), true)
+HasRoom 300 = true
 Len = 256
 Along 3 2 = [(3, 2), (1, 2), (0, 0), (0, 0), (0, 0)]
 Counter = Some(2)

@@ -64,9 +64,10 @@ fn not_done<P: PtrKey, A: ChainArenaTrait<P, u32> + Drop>(
     None
 }
 
-// The first bookmark that reads something else, and how many there are.
+// The first bookmark that reads something else, and how many there are; and that a pointer of before is of none.
 fn followed<P: PtrKey, A: ChainArenaTrait<P, u32> + Drop>(
     texts: &Documents<P, u32, A>,
+    before: P,
     marks: &[Option<P>],
 ) -> Differing {
     for (place, (_, want)) in MARKS.iter().enumerate() {
@@ -75,20 +76,23 @@ fn followed<P: PtrKey, A: ChainArenaTrait<P, u32> + Drop>(
             _ => return Some(place),
         }
     }
+    if texts.get(before).is_some() {
+        return Some(MARKS.len());
+    }
     None
 }
 
-// The edits, the renumbering, what each bookmark reads then, and that a pointer of before is of none.
+// The edits, the renumbering, and what each bookmark reads then.
 pub(super) fn differing<P: PtrKey, A: Renumbers<P>>(alloc: Global) -> Differing {
     let mut texts = Documents::<P, u32, A>::new(alloc);
     let mut names = Vec::new(alloc);
-    if let Some(place) = not_done(&mut texts, &mut names) {
-        return Some(place);
-    }
+    let not_done = not_done(&mut texts, &mut names);
     let mut marks = marks(alloc, &names);
-    let renumbered = A::renumber(&mut texts, alloc, marks.as_mut_slice());
-    if !renumbered || read(&texts, Some(name(&names, 3)), false) != 0 {
-        return Some(EDITS.len());
+    let is_renumbered = A::renumber(&mut texts, alloc, marks.as_mut_slice());
+    let differing = followed(&texts, name(&names, 3), &marks);
+    if is_renumbered {
+        not_done.or(differing)
+    } else {
+        Some(EDITS.len())
     }
-    followed(&texts, &marks)
 }
