@@ -1,15 +1,17 @@
 //! The calls that a chain arena has of its own, as rows of tables.
 
-use super::canonical::{counted, moves_listed, moves_seen, placed};
+use super::canonical::{carried_in, counted, moves_listed, moves_seen, placed};
 use super::drains::{Ends, drained, drained_chain, remove_all, takes_one};
 use super::entries::{
     forget, give_up, insert_asked, insert_by_any_entry, insert_by_entry, place_refusals,
 };
+use super::filling::fill;
 use super::indexing::{value_at, value_at_index, write_at, write_at_index};
 use super::iterators::{indexes, links, links_by_reference, links_used_up, values, walk};
-use super::machine::kind;
+use super::machine::{kind, two_calls};
 use super::scripts::{Answers, Do, answer};
 use super::{ChainsOver, Slot, at, fresh, index, text};
+use arena_base::ArenaTrait;
 use arena_ptr::SlotStack;
 use std::alloc::Global;
 
@@ -45,6 +47,29 @@ fn layout_answer<S: SlotStack<Item = Slot>>(
         Do::Counted(reset) => text(alloc, counted(arena, reset)),
         Do::MovesSeen(reset) => text(alloc, moves_seen(alloc, arena, reset)),
         Do::MovesListed(reset) => text(alloc, moves_listed(alloc, arena, reset)),
+        other => growth_answer(alloc, arena, other),
+    }
+}
+
+// Whether an arena that is born with room is empty, and has the room.
+fn born<S: SlotStack<Item = Slot>>(alloc: Global, n: usize) -> String {
+    match ChainsOver::<S>::with_min_capacity(alloc, n) {
+        Ok(arena) => text(alloc, arena.is_empty() && arena.capacity() >= n),
+        Err(error) => text(alloc, error),
+    }
+}
+
+// .. to what is tried where memory is refused, ...
+fn growth_answer<S: SlotStack<Item = Slot>>(
+    alloc: Global,
+    arena: &mut ChainsOver<S>,
+    row: Do,
+) -> String {
+    match row {
+        Do::Fill => text(alloc, fill(arena)),
+        Do::CarryIn(count) => carried_in(alloc, arena, count),
+        Do::TwoCalls => text(alloc, two_calls(alloc, arena)),
+        Do::Birth(n) => born::<S>(alloc, n),
         other => drain_answer(alloc, arena, other),
     }
 }
