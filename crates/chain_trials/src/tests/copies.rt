@@ -135,19 +135,6 @@ pub(super) fn copies() -> &'static [(Script, &'static [&'static [Line]])] {
     &COPIES
 }
 
-// A maximum of two is not carried over, and a copy of three slots is refused.
-pub(super) static IN_TWO_SLOTS: [Line; 6] = [
-    (Do::Insert(Kind::Disconnected, 1), "Ok(P0[1](2))"),
-    (Do::Maximum, "Some(2)"),
-    (
-        Do::Clone,
-        "(Ok(P0[2](2)), {P0[1](2): {(start), (end)} 1, P0[2](2): {(start), (end)} 9}, None)",
-    ),
-    (Do::CopyOver(3), "(Err(BeyondMaxCapacity), [])"),
-    (Do::Debug, "{P0[1](2): {(start), (end)} 1}"),
-    (Do::Maximum, "Some(2)"),
-];
-
 // Copies to a plain arena that refuses its first growth, and to one with a maximum of two.
 pub(super) fn check_plain<S: SlotStack<Item = Slot>, R: LimitStack<Item = ArenaSlot<ToolPtr, u32>>>(
     rt: &impl Abort,

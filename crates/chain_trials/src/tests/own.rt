@@ -1,12 +1,12 @@
 //! The calls that a chain arena has of its own, as rows of tables.
 
 use super::canonical::{carried_in, counted, moves_listed, moves_seen, placed};
-use super::drains::{Ends, drained, drained_chain, remove_all, takes_one};
+use super::drains::{Ends, drained, drained_chain, remove_all};
 use super::entries::{
     forget, give_up, insert_asked, insert_by_any_entry, insert_by_entry, place_refusals,
 };
 use super::filling::fill;
-use super::indexing::{value_at, value_at_index, write_at, write_at_index};
+use super::indexing::{value_at, write_at, write_at_index};
 use super::iterators::{indexes, links, links_by_reference, links_used_up, values, walk};
 use super::machine::{kind, two_calls};
 use super::scripts::{Answers, Do, answer};
@@ -23,7 +23,6 @@ fn own_answer<S: SlotStack<Item = Slot>>(
 ) -> String {
     match row {
         Do::Value(p) => text(alloc, value_at(arena, at(p))),
-        Do::ValueInx(i) => text(alloc, value_at_index(arena, index(i))),
         Do::WriteValue(p, t) => text(alloc, write_at(arena, at(p), t)),
         Do::WriteValueInx(i, t) => text(alloc, write_at_index(arena, index(i), t)),
         Do::Walk(p) => walk(alloc, arena, at(p)),
@@ -85,7 +84,7 @@ fn drain_answer<S: SlotStack<Item = Slot>>(
         Do::DrainChainOne(p) => drained_chain(alloc, arena, at(p), Ends::Dropped),
         Do::ForgetChainDrain(p) => drained_chain(alloc, arena, at(p), Ends::Forgotten),
         Do::Drain => drained(alloc, arena, Ends::Empty),
-        Do::DrainOne => text(alloc, takes_one(arena)),
+        Do::DrainOne => drained(alloc, arena, Ends::Dropped),
         Do::ForgetDrain => drained(alloc, arena, Ends::Forgotten),
         Do::RemoveAll => text(alloc, remove_all(arena)),
         other => place_answer(alloc, arena, other),

@@ -56,7 +56,6 @@ pub(super) enum Do {
     CopyOver(u32),
     // Values by what is valid, walks, and loops over all links.
     Value(At),
-    ValueInx(u32),
     WriteValue(At, u32),
     WriteValueInx(u32, u32),
     Walk(At),
