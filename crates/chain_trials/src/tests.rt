@@ -3,6 +3,7 @@ mod canonical;
 mod copies;
 mod drains;
 mod entries;
+mod filling;
 mod handed_back;
 mod hostile;
 mod indexing;
@@ -10,6 +11,7 @@ mod iterators;
 mod machine;
 mod own;
 mod own_rows;
+mod rationed;
 mod recasting;
 mod scripts;
 mod stacks;
@@ -19,6 +21,7 @@ mod values;
 
 ghost use Rattle.std.specs.Iterator.{IsFinite};
 
+use self::filling::add;
 use arena_base::{Arena, ArenaSlot, ArenaTrait};
 use arena_ptr::{
     Gen32, InvalidationResult, Inx32, LimitStack, Ptr, SetMaxCapacity, SlotStack, ToolPtr,
@@ -42,13 +45,15 @@ fn same<T: PartialEq + Debug + Drop>(rt: &impl Abort, what: &str, got: T, want: 
     assert_eq!(rt; got, want, "{what}");
 }
 
-// An answer as `Debug` writes it. Where memory is refused it is empty, which no test wants: what makes texts needs no way to
-// end the test, which each of its steps would name.
+// An answer as `Debug` writes it, which is asked for twice, if it has to be. Where memory is refused to both it is empty, which no
+// test wants: what makes texts needs no way to end the test, which each of its steps would name.
 fn text<T: Debug + Drop>(alloc: Global, answer: T) -> String {
-    match format!(in alloc; "{answer:?}") {
-        Ok(text) => text,
-        Err(_) => String::new(alloc),
+    for _ in 0..2 {
+        if let Ok(text) = format!(in alloc; "{answer:?}") {
+            return text;
+        }
     }
+    String::new(alloc)
 }
 
 // All items of an iterator, as `Debug` writes them.
@@ -138,7 +143,7 @@ fn chained<T: Drop, S: SlotStack<Item = ArenaSlot<ToolPtr, LinkNoGen<ToolPtr, T>
 fn lone_links<S: SlotStack<Item = Slot>>(alloc: Global, count: u32) -> ChainsOver<S> {
     let mut arena: ChainsOver<S> = fresh(alloc);
     for k in 1..=count {
-        put(&mut arena, LinkInsertKind::Disconnected, k);
+        add(&mut arena, LinkInsertKind::Disconnected, k);
     }
     arena
 }

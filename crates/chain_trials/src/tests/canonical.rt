@@ -1,10 +1,10 @@
 //! Chains laid out in place, one after another.
 
 use super::scripts::{Do, Kind, Line, Script};
-use super::{ChainsOver, Slot, lone_links, remove, same};
-use arena_base::Work;
-use arena_ptr::{AllocError, InvalidationOption, SlotStack, ToolPtr};
-use chain_arena::ChainArenaTrait;
+use super::{ChainsOver, Slot, generation, lone_links, remove, same, text};
+use arena_base::{ArenaSlot, Work};
+use arena_ptr::{AllocError, InvalidationOption, PtrKey, ReallocationError, SlotStack, ToolPtr};
+use chain_arena::{ChainArena, ChainArenaTrait, LinkNoGen};
 use std::alloc::Global;
 use std::process::Abort;
 
@@ -48,6 +48,26 @@ pub(super) fn moves_listed<S: SlotStack<Item = Slot>>(
     reset: bool,
 ) -> Result<(InvalidationOption<()>, Moves), AllocError> {
     arena.compress_canonical_moves(alloc, reset)
+}
+
+// Carries all links of an arena over to another. Named at any pointer and value, the types cost its proof less.
+fn carry_over<P: PtrKey, T: Drop, S: SlotStack<Item = ArenaSlot<P, LinkNoGen<P, T>>>>(
+    source: &mut ChainArena<P, T, S>,
+    target: &mut ChainArena<P, T, S>,
+    now: P::Gen,
+) -> Result<(), ReallocationError> {
+    target.transfer_canonical_reallocating(now, source, |_, value, _| value.allow())
+}
+
+// .. of so many lone links, with generation 7: the answer, and the arena that they come from then.
+pub(super) fn carried_in<S: SlotStack<Item = Slot>>(
+    alloc: Global,
+    target: &mut ChainsOver<S>,
+    count: u32,
+) -> String {
+    let mut source: ChainsOver<S> = lone_links(alloc, count);
+    let answer = carry_over(&mut source, target, generation(7));
+    text(alloc, (answer, &source))
 }
 
 // A chain of 2, 4 and 1, of which 1 came last, and 3 alone.

@@ -8,13 +8,10 @@ ghost use Rattle.chain_links.specs.ChainArena.{values_of};
 ghost use Rattle.chain_arena.specs.Drains.{CountsUp};
 
 use super::{ChainsOver, Slot, text, text_of_all};
-use arena_ptr::{InvalidationOption, SlotStack, ToolPtr};
+use arena_ptr::{SlotStack, ToolPtr};
 use std::alloc::Global;
 use std::fmt::Debug;
 use std::mem::forget;
-
-// What a drain of all links yields.
-type ValueGone = InvalidationOption<(ToolPtr, u32)>;
 
 // Removes all links: none is left, and the counter goes up once for each.
 pub(super) fn remove_all<S: SlotStack<Item = Slot>>(arena: &mut ChainsOver<S>)
@@ -80,12 +77,4 @@ pub(super) fn drained<S: SlotStack<Item = Slot>>(
     ends: Ends,
 ) -> String {
     yielded(alloc, arena.drain(), ends)
-}
-
-// The first link that it yields, whereupon it is dropped: none is left.
-pub(super) fn takes_one<S: SlotStack<Item = Slot>>(arena: &mut ChainsOver<S>) -> Option<ValueGone>
-    ensures none { entries (values_of arena.new) ≡ [] }
-{
-    let mut drain = arena.drain();
-    drain.next()
 }

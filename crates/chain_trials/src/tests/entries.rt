@@ -7,7 +7,6 @@ ghost use Rattle.arena_base.specs.Arena.{next_index, with_capacity_of};
 ghost use Rattle.chain_links.specs.ChainArena.{entry, shown, insert_as};
 ghost use Rattle.chain_links.specs.Kinds.{names_in, by_index, MayInsert};
 
-use super::copies::IN_TWO_SLOTS;
 use super::scripts::{Do, Kind, Line, plays};
 use super::{ChainsOver, Slot, limited, same};
 use arena_base::ArenaTrait;
@@ -110,9 +109,17 @@ pub(super) fn place_refusals<S: SlotStack<Item = Slot>>(
     [growing, within]
 }
 
-// Two links fill an arena with a maximum of two, ...
-static FULL: [Line; 9] = [
+// A maximum of two is not carried over, and a copy of three slots is refused. Two links fill an arena with such a maximum, ...
+static FULL: [Line; 14] = [
     (Do::Insert(Kind::Disconnected, 1), "Ok(P0[1](2))"),
+    (Do::Maximum, "Some(2)"),
+    (
+        Do::Clone,
+        "(Ok(P0[2](2)), {P0[1](2): {(start), (end)} 1, P0[2](2): {(start), (end)} 9}, None)",
+    ),
+    (Do::CopyOver(3), "(Err(BeyondMaxCapacity), [])"),
+    (Do::Debug, "{P0[1](2): {(start), (end)} 1}"),
+    (Do::Maximum, "Some(2)"),
     (Do::Insert(Kind::Disconnected, 2), "Ok(P0[2](2))"),
     (Do::Insert(Kind::Disconnected, 3), "Err(BeyondMaxCapacity)"),
     (
@@ -145,19 +152,17 @@ static FULL_STILL: [Line; 3] = [
     (Do::Maximum, "Some(2)"),
 ];
 
-// Both, and what copies are tried in two slots.
-fn in_two_slots() -> [&'static [Line]; 3] {
-    [&FULL, &FULL_STILL, &IN_TWO_SLOTS]
+// Both.
+fn in_two_slots() -> [&'static [Line]; 2] {
+    [&FULL, &FULL_STILL]
 }
 
 // What a kind asks is tested before the room, and nothing changes.
 pub(super) fn check_full<S: LimitStack<Item = Slot>>(rt: &impl Abort, alloc: Global) {
-    let [full, still, copied] = in_two_slots();
+    let [full, still] = in_two_slots();
     let mut arena: ChainsOver<S> = limited(rt, alloc, 2);
     plays(rt, alloc, "a maximum of two", &mut arena, full);
     let less = arena.set_max_capacity(1);
     same(rt, "a less maximum", less, Err(MaxCapacityReductionError));
     plays(rt, alloc, "a maximum of two still", &mut arena, still);
-    let mut arena: ChainsOver<S> = limited(rt, alloc, 2);
-    plays(rt, alloc, "two slots", &mut arena, copied);
 }

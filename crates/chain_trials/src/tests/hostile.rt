@@ -2,24 +2,28 @@
 
 mod lists;
 mod random;
-mod rationed;
 mod refusals;
 
+use super::rationed::Rationed;
 use super::{ChainsOver, Slot, same};
-use arena_ptr::{Gen32, Inx32, Ptr, ToolPtr};
+use arena_ptr::{LimitStack, SlotStack};
+use std::alloc::Global;
 use std::process::Abort;
 
-// An index.
-fn index(rt: &impl Abort, i: u32) -> Inx32 {
-    Inx32::new(i).expect(rt, "an index")
+// Each growth is refused once, and long runs of calls, over a stack and over one that refuses every other growth, where so many
+// calls are refused at least.
+pub(super) fn check_hostile<S: SlotStack<Item = Slot>>(
+    rt: &impl Abort,
+    alloc: Global,
+    refused: u32,
+) {
+    refusals::check_all::<S>(rt, alloc);
+    random::check_runs::<S>(rt, alloc, 1);
+    random::check_runs::<Rationed<S>>(rt, alloc, refused);
 }
 
-// A generation.
-fn generation(rt: &impl Abort, n: u32) -> Gen32 {
-    Gen32::new(n).expect(rt, "a generation")
-}
-
-// The pointer of an index and a generation.
-fn at(rt: &impl Abort, i: u32, n: u32) -> ToolPtr {
-    ToolPtr::_from_raw(index(rt, i), generation(rt, n))
+// .. over one that may have a maximum.
+pub(super) fn check_limited<S: LimitStack<Item = Slot>>(rt: &impl Abort, alloc: Global) {
+    refusals::check_all::<S>(rt, alloc);
+    random::check_limited_runs::<S>(rt, alloc, 50);
 }

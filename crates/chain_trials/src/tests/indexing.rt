@@ -7,26 +7,15 @@ ghost use Rattle.chain_links.specs.ChainArena.{entry, with_value_at};
 
 use super::{ChainsOver, Slot};
 use arena_base::ArenaTrait;
-use arena_ptr::{Inx32, SlotStack, ToolPtr};
+use arena_ptr::{Inx32, Ptr, SlotStack, ToolPtr};
 
-// The value of a pointer, and of an index, where it is valid.
+// The value of a pointer, and of its index, where it is valid.
 pub(super) fn value_at<S: SlotStack<Item = Slot>>(
     arena: &ChainsOver<S>,
     p: ToolPtr,
-) -> Option<u32> {
+) -> Option<(u32, u32)> {
     if arena.contains(p) {
-        Some(arena[p])
-    } else {
-        None
-    }
-}
-
-pub(super) fn value_at_index<S: SlotStack<Item = Slot>>(
-    arena: &ChainsOver<S>,
-    i: Inx32,
-) -> Option<u32> {
-    if arena.get_inx(i).is_some() {
-        Some(*arena.get_inx_unwrap(i))
+        Some((arena[p], *arena.get_inx_unwrap(p.inx())))
     } else {
         None
     }

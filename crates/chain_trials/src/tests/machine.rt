@@ -2,7 +2,8 @@
 
 use super::scripts::{Do, Kind, Line, look};
 use super::{ChainsOver, Slot, at, fresh, generation, index, limited, same, text};
-use arena_ptr::{LimitStack, SlotStack, ToolPtr};
+use arena_base::ArenaTrait;
+use arena_ptr::{AllocError, LimitStack, SlotStack, ToolPtr};
 use chain_arena::{Call, LinkInsertKind, Reply, run_calls};
 use std::alloc::Global;
 use std::process::Abort;
@@ -94,6 +95,33 @@ fn replies<S: SlotStack<Item = Slot>>(
         same(rt, what, got.as_str(), *want);
     }
     same(rt, what, replies.next().is_none(), true);
+}
+
+// How many replies tell of a new link.
+fn inserted(replies: &[Reply<ToolPtr, u32>]) -> usize {
+    let mut count = 0usize;
+    for reply in replies {
+        if let Reply::Inserted(Ok(_)) = reply {
+            count = count.saturating_add(1);
+        }
+    }
+    count
+}
+
+// Two insertions as one list: whether there is one link more for each reply that tells of one. Where memory for the list or the
+// replies is refused none is made.
+pub(super) fn two_calls<S: SlotStack<Item = Slot>>(
+    alloc: Global,
+    arena: &mut ChainsOver<S>,
+) -> Result<bool, AllocError> {
+    let kind = LinkInsertKind::Disconnected;
+    let before = arena.len();
+    let two = [Call::Insert { kind, t: 7 }, Call::Insert { kind, t: 8 }];
+    let Ok(calls) = Vec::from_array(alloc, two) else {
+        return Err(AllocError);
+    };
+    let replies = run_calls(alloc, arena, calls)?;
+    Ok(arena.len() == before.saturating_add(inserted(&replies)))
 }
 
 // What the calls are about, the calls with their replies, and the links that are shown after all of them.
@@ -274,6 +302,16 @@ static EVERY_REPLY: List = (
     ],
 );
 
+// Over a stack that refuses every other growth.
+static REFUSED: [List; 1] = [(
+    "the first of two calls is refused, and the second is not",
+    &[
+        (Do::Insert(Kind::Disconnected, 1), "Err(AllocError)"),
+        (Do::Insert(Kind::Disconnected, 2), "Ok(P0[1](2))"),
+        (Do::Debug, "{P0[1](2): {(start), (end)} 2}"),
+    ],
+)];
+
 // The lists.
 fn lists() -> [&'static [List]; 5] {
     [&RUN, &RENUMBERED, &BEHIND_HOLES, &OVERFLOWS, &EXCHANGES]
@@ -298,7 +336,12 @@ pub(super) fn check_lists<S: SlotStack<Item = Slot>>(rt: &impl Abort, alloc: Glo
     }
 }
 
-// .. on one with a maximum of three.
+// .. and the list of which the first call is refused.
+pub(super) fn check_refused_list<S: SlotStack<Item = Slot>>(rt: &impl Abort, alloc: Global) {
+    check_together::<S>(rt, alloc, &REFUSED);
+}
+
+// All calls on an arena with a maximum of three.
 pub(super) fn check_every_reply<S: LimitStack<Item = Slot>>(rt: &impl Abort, alloc: Global) {
     let mut arena: ChainsOver<S> = limited(rt, alloc, 3);
     replies(rt, alloc, &mut arena, every_reply());

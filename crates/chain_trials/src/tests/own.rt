@@ -1,15 +1,17 @@
 //! The calls that a chain arena has of its own, as rows of tables.
 
-use super::canonical::{counted, moves_listed, moves_seen, placed};
-use super::drains::{Ends, drained, drained_chain, remove_all, takes_one};
+use super::canonical::{carried_in, counted, moves_listed, moves_seen, placed};
+use super::drains::{Ends, drained, drained_chain, remove_all};
 use super::entries::{
     forget, give_up, insert_asked, insert_by_any_entry, insert_by_entry, place_refusals,
 };
-use super::indexing::{value_at, value_at_index, write_at, write_at_index};
+use super::filling::fill;
+use super::indexing::{value_at, write_at, write_at_index};
 use super::iterators::{indexes, links, links_by_reference, links_used_up, values, walk};
-use super::machine::kind;
+use super::machine::{kind, two_calls};
 use super::scripts::{Answers, Do, answer};
 use super::{ChainsOver, Slot, at, fresh, index, text};
+use arena_base::ArenaTrait;
 use arena_ptr::SlotStack;
 use std::alloc::Global;
 
@@ -21,7 +23,6 @@ fn own_answer<S: SlotStack<Item = Slot>>(
 ) -> String {
     match row {
         Do::Value(p) => text(alloc, value_at(arena, at(p))),
-        Do::ValueInx(i) => text(alloc, value_at_index(arena, index(i))),
         Do::WriteValue(p, t) => text(alloc, write_at(arena, at(p), t)),
         Do::WriteValueInx(i, t) => text(alloc, write_at_index(arena, index(i), t)),
         Do::Walk(p) => walk(alloc, arena, at(p)),
@@ -45,6 +46,29 @@ fn layout_answer<S: SlotStack<Item = Slot>>(
         Do::Counted(reset) => text(alloc, counted(arena, reset)),
         Do::MovesSeen(reset) => text(alloc, moves_seen(alloc, arena, reset)),
         Do::MovesListed(reset) => text(alloc, moves_listed(alloc, arena, reset)),
+        other => growth_answer(alloc, arena, other),
+    }
+}
+
+// Whether an arena that is born with room is empty, and has the room.
+fn born<S: SlotStack<Item = Slot>>(alloc: Global, n: usize) -> String {
+    match ChainsOver::<S>::with_min_capacity(alloc, n) {
+        Ok(arena) => text(alloc, arena.is_empty() && arena.capacity() >= n),
+        Err(error) => text(alloc, error),
+    }
+}
+
+// .. to what is tried where memory is refused, ...
+fn growth_answer<S: SlotStack<Item = Slot>>(
+    alloc: Global,
+    arena: &mut ChainsOver<S>,
+    row: Do,
+) -> String {
+    match row {
+        Do::Fill => text(alloc, fill(arena)),
+        Do::CarryIn(count) => carried_in(alloc, arena, count),
+        Do::TwoCalls => text(alloc, two_calls(alloc, arena)),
+        Do::Birth(n) => born::<S>(alloc, n),
         other => drain_answer(alloc, arena, other),
     }
 }
@@ -60,7 +84,7 @@ fn drain_answer<S: SlotStack<Item = Slot>>(
         Do::DrainChainOne(p) => drained_chain(alloc, arena, at(p), Ends::Dropped),
         Do::ForgetChainDrain(p) => drained_chain(alloc, arena, at(p), Ends::Forgotten),
         Do::Drain => drained(alloc, arena, Ends::Empty),
-        Do::DrainOne => text(alloc, takes_one(arena)),
+        Do::DrainOne => drained(alloc, arena, Ends::Dropped),
         Do::ForgetDrain => drained(alloc, arena, Ends::Forgotten),
         Do::RemoveAll => text(alloc, remove_all(arena)),
         other => place_answer(alloc, arena, other),

@@ -164,9 +164,9 @@ static FURTHER_LOOPS: [Script; 2] = [
         3,
         &THREE,
         &[
-            (Do::Value((2, 2)), "Some(2)"),
+            (Do::Value((2, 2)), "Some((2, 2))"),
             (Do::WriteValue((2, 2), 20), "true"),
-            (Do::ValueInx(3), "Some(3)"),
+            (Do::Value((3, 2)), "Some((3, 3))"),
             (Do::WriteValueInx(3, 30), "true"),
             (
                 Do::Debug,

@@ -1,8 +1,8 @@
 //! Values recast in their places, by rising index, up to one that refuses.
 ghost use Rattle.std.specs.Prelude.{◌≡◌, OnErr, Err};
 
-use super::scripts::Kind;
-use super::steps::{SlotOf, Step, after};
+use super::scripts::{Do, Kind};
+use super::steps::{Numbered, SlotOf, after};
 use super::{same, text};
 use arena_ptr::{HeapStack, Recast, Recaster, SlotStack, ToolPtr};
 use chain_arena::ChainArena;
@@ -39,90 +39,97 @@ impl Recast<u32> for Number {
     }
 }
 
-// Links with numbers that were not to be recast yet.
-fn numbers(alloc: Global, links: &[(Kind, u32)]) -> Vec<Step<Number>> {
-    let mut steps = Vec::new(alloc);
-    for (kind, item) in links {
-        let step = Step::Add(*kind, Number(*item, 0));
-        let _ = steps.push(step);
+// One that was not to be recast yet.
+impl Numbered for Number {
+    fn of(_: Global, n: u32) -> Number {
+        Number(n, 0)
     }
-    steps
 }
 
-// Lone links with numbers, and what is told: the answer, the arena then and its counter. A refused recast leaves pointers,
-// interlinks and the counter, and by rising index the values before the refused one alone are new ones.
-static LONE: [([u32; 3], &str); 5] = [
+// A lone link.
+const LONE: Kind = Kind::Disconnected;
+
+// Links with numbers, and what is told: the answer, the arena then and its counter. A refused recast leaves pointers, interlinks
+// and the counter, and by rising index the values before the refused one alone are new ones. The last are a row of 4 and 1 and a
+// ring of 3, between which a link is gone: the refused value comes last in its chain.
+static ROWS: [(&[Do], &str); 7] = [
+    (&[], "(Ok(()), {}, Gen32 { number: 2 })"),
     (
-        [1, 2, 3],
+        &[
+            Do::Insert(LONE, 1),
+            Do::Insert(LONE, 2),
+            Do::Insert(LONE, 3),
+        ],
         "(Err(2), {P0[1](2): {(start), (end)} Number(11, 1), P0[2](2): {(start), (end)} Number(2, 1), \
             P0[3](2): {(start), (end)} Number(3, 0)}, Gen32 { number: 2 })",
     ),
     (
-        [2, 1, 3],
+        &[
+            Do::Insert(LONE, 2),
+            Do::Insert(LONE, 1),
+            Do::Insert(LONE, 3),
+        ],
         "(Err(2), {P0[1](2): {(start), (end)} Number(2, 1), P0[2](2): {(start), (end)} Number(1, 0), \
             P0[3](2): {(start), (end)} Number(3, 0)}, Gen32 { number: 2 })",
     ),
     (
-        [1, 3, 2],
+        &[
+            Do::Insert(LONE, 1),
+            Do::Insert(LONE, 3),
+            Do::Insert(LONE, 2),
+        ],
         "(Err(2), {P0[1](2): {(start), (end)} Number(11, 1), P0[2](2): {(start), (end)} Number(13, 1), \
             P0[3](2): {(start), (end)} Number(2, 1)}, Gen32 { number: 2 })",
     ),
     (
-        [1, 2, 2],
+        &[
+            Do::Insert(LONE, 1),
+            Do::Insert(LONE, 2),
+            Do::Insert(LONE, 2),
+        ],
         "(Err(2), {P0[1](2): {(start), (end)} Number(11, 1), P0[2](2): {(start), (end)} Number(2, 1), \
             P0[3](2): {(start), (end)} Number(2, 0)}, Gen32 { number: 2 })",
     ),
     (
-        [1, 3, 5],
+        &[
+            Do::Insert(LONE, 1),
+            Do::Insert(LONE, 3),
+            Do::Insert(LONE, 5),
+        ],
         "(Ok(()), {P0[1](2): {(start), (end)} Number(11, 1), P0[2](2): {(start), (end)} Number(13, 1), \
             P0[3](2): {(start), (end)} Number(15, 1)}, Gen32 { number: 2 })",
     ),
+    (
+        &[
+            Do::Insert(LONE, 1),
+            Do::Insert(LONE, 9),
+            Do::Insert(Kind::SingleLinkCyclic, 2),
+            Do::Insert(Kind::ChainStart((1, 2)), 3),
+            Do::Remove((2, 2)),
+        ],
+        "(Err(2), {P0[1](2): {4, (end)} Number(11, 1), P0[3](2): {3, 3} Number(2, 1), \
+            P0[4](2): {(start), 1} Number(3, 0)}, Gen32 { number: 3 })",
+    ),
 ];
 
-// A row of 4 and 1 and a ring of 3, between which a link is gone: the refused value comes last in its chain.
-static TIED: [(Kind, u32); 4] = [
-    (Kind::Disconnected, 1),
-    (Kind::Disconnected, 9),
-    (Kind::SingleLinkCyclic, 2),
-    (Kind::ChainStart((1, 2)), 3),
-];
-
-const TIED_THEN: &str =
-    "(Err(2), {P0[1](2): {4, (end)} Number(11, 1), P0[3](2): {3, 3} Number(2, 1), \
-    P0[4](2): {(start), 1} Number(3, 0)}, Gen32 { number: 3 })";
+// All of them.
+fn rows() -> &'static [(&'static [Do], &'static str)] {
+    &ROWS
+}
 
 // Recasts an arena, and tells the answer, the arena then and its counter.
-fn recast<S: SlotStack<Item = SlotOf<Number>>>(alloc: Global, steps: Vec<Step<Number>>) -> String {
-    let mut arena: ChainArena<ToolPtr, Number, S> = after(alloc, steps);
+fn recast<S: SlotStack<Item = SlotOf<Number>>>(alloc: Global, calls: &[Do]) -> String {
+    let mut arena: ChainArena<ToolPtr, Number, S> = after(alloc, calls);
     let answer = arena.recast(&AddTen);
     text(alloc, (answer, &arena, arena.generation()))
 }
 
-// All of the lone ones.
-fn lone() -> &'static [([u32; 3], &'static str)] {
-    &LONE
-}
-
-// Lone links, none, and tied ones.
+// Each row.
 fn check_recasts<S: SlotStack<Item = SlotOf<Number>>>(rt: &impl Abort, alloc: Global) {
-    for row in lone() {
-        let (items, want) = *row;
-        let links = items.map(|item: u32| (Kind::Disconnected, item));
-        let steps = numbers(alloc, &links);
-        let told = recast::<S>(alloc, steps);
-        same(rt, "lone links", told.as_str(), want);
+    for row in rows() {
+        let told = recast::<S>(alloc, row.0);
+        same(rt, "recast", told.as_str(), row.1);
     }
-    let none = recast::<S>(alloc, Vec::new(alloc));
-    same(
-        rt,
-        "no links",
-        none.as_str(),
-        "(Ok(()), {}, Gen32 { number: 2 })",
-    );
-    let mut steps = numbers(alloc, &TIED);
-    steps.push(Step::Remove((2, 2))).expect(rt, "memory");
-    let told = recast::<S>(alloc, steps);
-    same(rt, "tied links", told.as_str(), TIED_THEN);
 }
 
 #[test]

@@ -1,10 +1,10 @@
 //! Calls on chain arenas as rows of tables, each with the text of its answer.
 
-use super::copies::{cloned, copied_over, copied_to_plain};
+use super::copies::{cloned, copied_over};
 use super::machine::{call, told};
 use super::{At, ChainsOver, Slot, at, same, text};
-use arena_base::{ArenaSlot, ArenaTrait};
-use arena_ptr::{HeapStack, SlotStack, ToolPtr};
+use arena_base::ArenaTrait;
+use arena_ptr::{SlotStack, ToolPtr};
 use chain_arena::apply;
 use std::alloc::Global;
 use std::process::Abort;
@@ -44,20 +44,18 @@ pub(super) enum Do {
     Len,
     IsEmpty,
     HasRoom(usize),
+    Room,
     Maximum,
     Counter,
     Generation,
     Slots,
     Get(At),
     Remove(At),
-    // Copies: a clone, and what comes next in it; a copy over the arena of the links 1 and 3 of three in a row without the
-    // second; one of this arena to a plain one.
+    // Copies: a clone, and what comes next in it; a copy over the arena of so many links in a row without the second.
     Clone,
-    CopyOver,
-    CopyToPlain,
+    CopyOver(u32),
     // Values by what is valid, walks, and loops over all links.
     Value(At),
-    ValueInx(u32),
     WriteValue(At, u32),
     WriteValueInx(u32, u32),
     Walk(At),
@@ -87,6 +85,12 @@ pub(super) enum Do {
     Counted(bool),
     MovesSeen(bool),
     MovesListed(bool),
+    // What is tried where memory is refused: links up to the capacity, room at birth, so many lone links carried over to the arena,
+    // and two calls as one list.
+    Fill,
+    Birth(usize),
+    CarryIn(u32),
+    TwoCalls,
 }
 
 // A call and the text of its answer.
@@ -116,10 +120,13 @@ pub(super) fn look<S: SlotStack<Item = Slot>>(
     match row {
         Do::Debug => text(alloc, &*arena),
         Do::Generation => text(alloc, arena.generation().get()),
+        Do::Room => {
+            let room = (arena.capacity(), arena.max_capacity());
+            text(alloc, (arena.generation(), room))
+        }
         Do::Slots => text(alloc, arena.backing().len()),
         Do::Clone => cloned(alloc, arena),
-        Do::CopyOver => copied_over(alloc, arena),
-        Do::CopyToPlain => copied_to_plain::<S, HeapStack<ArenaSlot<ToolPtr, u32>>>(alloc, arena),
+        Do::CopyOver(count) => copied_over(alloc, arena, count),
         other => trait_look(alloc, arena, other),
     }
 }

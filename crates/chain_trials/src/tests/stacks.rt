@@ -2,15 +2,16 @@
 
 use super::agreeing::{check_accepted, check_rows};
 use super::canonical::{check_bounds, layouts};
-use super::copies::copies;
+use super::copies::{check_plain, copies};
 use super::entries::check_full;
 use super::handed_back::{check_beyond_one, check_counted, check_kept};
+use super::hostile::{check_hostile, check_limited};
 use super::machine::{check_every_reply, check_lists};
 use super::own_rows::tables;
 use super::scripts::{Answers, plays_all, plays_on};
 use super::{ChainsOver, Slot};
 use arena_base::ArenaSlot;
-use arena_ptr::{HeapStack, LimitStack, LimitedStack, SlotStack, ToolPtr};
+use arena_ptr::{ChunkStack, HeapStack, LimitStack, LimitedStack, SlotStack, ToolPtr};
 use std::alloc::Global;
 use std::process::Abort;
 
@@ -38,16 +39,41 @@ fn check_limited_links<S: LimitStack<Item = Slot>>(rt: &impl Abort, alloc: Globa
     check_full::<S>(rt, alloc);
     check_every_reply::<S>(rt, alloc);
     check_beyond_one::<S>(rt, alloc);
+    check_limited::<S>(rt, alloc);
     plays_on::<ChainsOver<S>>(rt, alloc, copies());
+}
+
+// .. of copies to plain arenas, over another one.
+fn check_plain_arenas<S: SlotStack<Item = Slot>, R: LimitStack<Item = ArenaSlot<ToolPtr, u32>>>(
+    rt: &impl Abort,
+    alloc: Global,
+) {
+    check_counted::<S, R>(rt, alloc);
+    check_plain::<S, R>(rt, alloc);
+}
+
+// What is tried over any stack, and where memory is refused.
+fn check_all<S: SlotStack<Item = Slot>>(rt: &impl Abort, alloc: Global) {
+    check_links::<S>(rt, alloc);
+    check_hostile::<S>(rt, alloc, 40);
 }
 
 #[test]
 fn links_over_the_heap_stack(rt: HostRuntime) {
-    check_links::<HeapStack<Slot>>(&rt, rt.alloc());
-    check_counted::<HeapStack<Slot>, HeapStack<ArenaSlot<ToolPtr, u32>>>(&rt, rt.alloc());
+    check_all::<HeapStack<Slot>>(&rt, rt.alloc());
+}
+
+#[test]
+fn links_in_blocks(rt: HostRuntime) {
+    check_hostile::<ChunkStack<Slot>>(&rt, rt.alloc(), 10);
 }
 
 #[test]
 fn links_over_a_limited_stack(rt: HostRuntime) {
     check_limited_links::<LimitedStack<Slot>>(&rt, rt.alloc());
+}
+
+#[test]
+fn copies_to_plain_arenas(rt: HostRuntime) {
+    check_plain_arenas::<HeapStack<Slot>, LimitedStack<ArenaSlot<ToolPtr, u32>>>(&rt, rt.alloc());
 }

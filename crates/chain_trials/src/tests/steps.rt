@@ -1,39 +1,37 @@
-//! Arenas of values of any type, made by steps.
+//! Arenas of values of any type, made by calls.
 
 use super::machine::kind;
-use super::scripts::Kind;
-use super::{At, fresh, generation, put, remove};
+use super::scripts::Do;
+use super::{fresh, generation, put, remove};
 use arena_base::ArenaSlot;
 use arena_ptr::{SlotStack, ToolPtr};
 use chain_arena::{ChainArena, LinkNoGen};
 use std::alloc::Global;
 
-// What is done with an arena of any values.
-#[derive(Drop)]
-pub(super) enum Step<T> {
-    Add(Kind, T),
-    Remove(At),
-    Count(u32),
+// A value that a number of a table stands for.
+pub(super) trait Numbered {
+    fn of(alloc: Global, n: u32) -> Self;
 }
 
 // A slot of a link of any value.
 pub(super) type SlotOf<T> = ArenaSlot<ToolPtr, LinkNoGen<ToolPtr, T>>;
 
-// The arena after some steps.
-pub(super) fn after<T: Drop, S: SlotStack<Item = SlotOf<T>>>(
+// The arena after some calls: insertions, removals, and a counter that is set.
+pub(super) fn after<T: Numbered + Drop, S: SlotStack<Item = SlotOf<T>>>(
     alloc: Global,
-    steps: Vec<Step<T>>,
+    calls: &[Do],
 ) -> ChainArena<ToolPtr, T, S> {
     let mut arena: ChainArena<ToolPtr, T, S> = fresh(alloc);
-    for step in steps {
-        match step {
-            Step::Add(k, t) => {
-                put(&mut arena, kind(k), t);
+    for call in calls {
+        match *call {
+            Do::Insert(k, n) => {
+                put(&mut arena, kind(k), T::of(alloc, n));
             }
-            Step::Remove(p) => {
+            Do::Remove(p) => {
                 remove(&mut arena, p);
             }
-            Step::Count(g) => arena.set_generation(generation(g)),
+            Do::SetGeneration(g) => arena.set_generation(generation(g)),
+            _ => {}
         }
     }
     arena

@@ -1,7 +1,7 @@
 //! The texts of chain arenas.
 
-use super::scripts::Kind;
-use super::steps::{SlotOf, Step, after};
+use super::scripts::{Do, Kind};
+use super::steps::{Numbered, SlotOf, after};
 use super::{same, text};
 use arena_ptr::{HeapStack, SlotStack, ToolPtr};
 use chain_arena::ChainArena;
@@ -17,48 +17,45 @@ fn sharp_text<T: Debug + Drop>(alloc: Global, answer: T) -> String {
     }
 }
 
-// Looks at the text by `Debug`, plain and in the alternate form.
-fn debug_reads<T: Debug>(rt: &impl Abort, alloc: Global, item: &T, plain: &str, sharp: &str) {
-    same(rt, "by debug", text(alloc, item).as_str(), plain);
-    let told = sharp_text(alloc, item);
-    same(rt, "by debug, alternate", told.as_str(), sharp);
+// The word of a number.
+fn word(n: u32) -> &'static str {
+    match n {
+        1 => "A",
+        2 => "B",
+        3 => "C",
+        4 => "X",
+        _ => "Y",
+    }
 }
 
-// Steps with words as values.
-fn with_words(rt: &impl Abort, alloc: Global, steps: &[Step<&str>]) -> Vec<Step<String>> {
-    let mut owned = Vec::new(alloc);
-    for step in steps {
-        let step = match step {
-            Step::Add(kind, word) => {
-                Step::Add(*kind, String::from_str(alloc, word).expect(rt, "memory"))
-            }
-            Step::Remove(p) => Step::Remove(*p),
-            Step::Count(g) => Step::Count(*g),
-        };
-        owned.push(step).expect(rt, "memory");
+impl Numbered for String {
+    fn of(alloc: Global, n: u32) -> String {
+        match String::from_str(alloc, word(n)) {
+            Ok(word) => word,
+            Err(_) => String::new(alloc),
+        }
     }
-    owned
 }
 
 // Arenas of words, and their texts: no link, two, scattered chains with a line for each link, and a generation in hexadecimal.
-static WORDS: [(&[Step<&str>], &str, &str); 4] = [
+static WORDS: [(&[Do], &str, &str); 4] = [
     (&[], "{}", "{}"),
     (
         &[
-            Step::Add(Kind::Disconnected, "A"),
-            Step::Add(Kind::ChainEnd((1, 2)), "B"),
+            Do::Insert(Kind::Disconnected, 1),
+            Do::Insert(Kind::ChainEnd((1, 2)), 2),
         ],
         "{P0[1](2): {(start), 2} \"A\", P0[2](2): {1, (end)} \"B\"}",
         "{\n    P0[1](2): {(start), 2} \"A\",\n    P0[2](2): {1, (end)} \"B\",\n}",
     ),
     (
         &[
-            Step::Add(Kind::Disconnected, "X"),
-            Step::Add(Kind::Disconnected, "A"),
-            Step::Add(Kind::ChainEnd((1, 2)), "Y"),
-            Step::Add(Kind::ChainEnd((2, 2)), "B"),
-            Step::Remove((1, 2)),
-            Step::Add(Kind::ChainEnd((4, 2)), "C"),
+            Do::Insert(Kind::Disconnected, 4),
+            Do::Insert(Kind::Disconnected, 1),
+            Do::Insert(Kind::ChainEnd((1, 2)), 5),
+            Do::Insert(Kind::ChainEnd((2, 2)), 2),
+            Do::Remove((1, 2)),
+            Do::Insert(Kind::ChainEnd((4, 2)), 3),
         ],
         "{P0[1](3): {4, (end)} \"C\", P0[2](2): {(start), 4} \"A\", P0[3](2): {(start), (end)} \"Y\", \
         P0[4](2): {2, 1} \"B\"}",
@@ -70,24 +67,24 @@ static WORDS: [(&[Step<&str>], &str, &str); 4] = [
 }",
     ),
     (
-        &[Step::Count(26), Step::Add(Kind::SingleLinkCyclic, "A")],
+        &[Do::SetGeneration(26), Do::Insert(Kind::SingleLinkCyclic, 1)],
         "{P0[1](1a): {1, 1} \"A\"}",
         "{\n    P0[1](1a): {1, 1} \"A\",\n}",
     ),
 ];
 
 // All of them.
-fn words() -> &'static [(&'static [Step<&'static str>], &'static str, &'static str)] {
+fn words() -> &'static [(&'static [Do], &'static str, &'static str)] {
     &WORDS
 }
 
-// Each arena, and its texts.
+// Each arena, and its texts by `Debug`, plain and in the alternate form.
 fn check_words<S: SlotStack<Item = SlotOf<String>>>(rt: &impl Abort, alloc: Global) {
     for row in words() {
-        let (steps, plain, sharp) = *row;
-        let owned = with_words(rt, alloc, steps);
-        let arena: ChainArena<ToolPtr, String, S> = after(alloc, owned);
-        debug_reads(rt, alloc, &arena, plain, sharp);
+        let (calls, plain, sharp) = *row;
+        let arena: ChainArena<ToolPtr, String, S> = after(alloc, calls);
+        same(rt, "by debug", text(alloc, &arena).as_str(), plain);
+        same(rt, "alternate", sharp_text(alloc, &arena).as_str(), sharp);
     }
 }
 

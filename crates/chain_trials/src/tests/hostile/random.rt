@@ -1,14 +1,13 @@
 //! A long run of random calls, held against plain lists after each.
 
-use super::lists::{Chain, Kind, Lists};
-use super::rationed::Rationed;
-use super::{ChainsOver, Slot, at, generation, index, same};
+use super::lists::Lists;
+use super::{ChainsOver, Slot, same};
+use crate::tests::{at, fresh, generation, index, limited};
 use arena_base::{Advancer, ArenaTrait};
 use arena_ptr::{
-    ChainInsertionError, ChunkStack, HeapStack, InvalidationResult, Inx32, LimitStack,
-    LimitedStack, Ptr, SetMaxCapacity, SlotStack, ToolPtr,
+    ChainInsertionError, InvalidationResult, Inx32, LimitStack, Ptr, SlotStack, ToolPtr,
 };
-use chain_arena::{Call, ChainArenaTrait, InsertKindBody, Reply, run_calls};
+use chain_arena::{Call, ChainArenaTrait, InsertKindBody, Reply, apply};
 use std::alloc::Global;
 use std::process::Abort;
 
@@ -128,7 +127,7 @@ fn kind_by_index<P: Copy, I: Copy>(place: u32, i: I, j: I) -> InsertKindBody<P, 
 const KINDS: u32 = 17;
 
 // The call of a step: on one or two links, ...
-fn call_of(rt: &impl Abort, step: Step, t: u32) -> Call<ToolPtr, u32> {
+fn call_of(step: Step, t: u32) -> Call<ToolPtr, u32> {
     let Step {
         which,
         p,
@@ -151,12 +150,12 @@ fn call_of(rt: &impl Abort, step: Step, t: u32) -> Call<ToolPtr, u32> {
         Which::BreakNext => Call::BreakNext(p),
         Which::ExchangeNext => Call::ExchangeNext(p, q),
         Which::Remove => Call::Remove(p),
-        _ => whole_call_of(rt, step),
+        _ => whole_call_of(step),
     }
 }
 
 // .. or on more.
-fn whole_call_of(rt: &impl Abort, step: Step) -> Call<ToolPtr, u32> {
+fn whole_call_of(step: Step) -> Call<ToolPtr, u32> {
     let n = step.n;
     match step.which {
         Which::RemoveInx => Call::RemoveInx(step.i),
@@ -169,7 +168,7 @@ fn whole_call_of(rt: &impl Abort, step: Step) -> Call<ToolPtr, u32> {
         Which::Compress => Call::Compress(n == 0),
         Which::CompressCanonical => Call::CompressCanonical(n == 0),
         Which::Reserve => Call::Reserve(n as usize),
-        Which::SetGeneration => Call::SetGeneration(generation(rt, u32::MAX.saturating_sub(n))),
+        Which::SetGeneration => Call::SetGeneration(generation(u32::MAX.saturating_sub(n))),
         _ => Call::IncGeneration,
     }
 }
@@ -216,8 +215,11 @@ fn is_done(reply: &Reply<ToolPtr, u32>) -> Option<bool> {
 }
 
 // The value of a link, 0 for none.
-fn value<S: SlotStack<Item = Slot>>(arena: &ChainsOver<S>, p: ToolPtr) -> u32 {
-    arena.get(p).copied().unwrap_or(0)
+fn value<S: SlotStack<Item = Slot>>(arena: &ChainsOver<S>, p: Option<ToolPtr>) -> u32 {
+    match p {
+        Some(p) => arena.get(p).copied().unwrap_or(0),
+        None => 0,
+    }
 }
 
 fn value_at<S: SlotStack<Item = Slot>>(arena: &ChainsOver<S>, i: Inx32) -> u32 {
@@ -229,14 +231,13 @@ fn value_at<S: SlotStack<Item = Slot>>(arena: &ChainsOver<S>, i: Inx32) -> u32 {
 
 // The pointer of a small index: mostly that of the link there, and else of a small generation.
 fn pointer<S: SlotStack<Item = Slot>>(
-    rt: &impl Abort,
     numbers: &mut Numbers,
     arena: &ChainsOver<S>,
     i: Inx32,
 ) -> ToolPtr {
     match arena.get_inx(i) {
         Some((generation, _)) if numbers.below(8) > 0 => ToolPtr::_from_raw(i, generation),
-        _ => at(rt, i.get(), numbers.below(4).saturating_add(2)),
+        _ => at((i.get(), numbers.below(4).saturating_add(2))),
     }
 }
 
@@ -253,17 +254,13 @@ fn draw(numbers: &mut Numbers) -> Which {
 }
 
 // The next step.
-fn next_step<S: SlotStack<Item = Slot>>(
-    rt: &impl Abort,
-    numbers: &mut Numbers,
-    arena: &ChainsOver<S>,
-) -> Step {
-    let i = index(rt, numbers.below(8).saturating_add(1));
-    let j = index(rt, numbers.below(8).saturating_add(1));
+fn next_step<S: SlotStack<Item = Slot>>(numbers: &mut Numbers, arena: &ChainsOver<S>) -> Step {
+    let i = index(numbers.below(8).saturating_add(1));
+    let j = index(numbers.below(8).saturating_add(1));
     Step {
         which: draw(numbers),
-        p: pointer(rt, numbers, arena, i),
-        q: pointer(rt, numbers, arena, j),
+        p: pointer(numbers, arena, i),
+        q: pointer(numbers, arena, j),
         i,
         j,
         kind: numbers.below(KINDS),
@@ -274,77 +271,41 @@ fn next_step<S: SlotStack<Item = Slot>>(
 // What the links are that a step names.
 fn names_of<S: SlotStack<Item = Slot>>(arena: &ChainsOver<S>, step: Step) -> Named {
     Named {
-        p: value(arena, step.p),
-        q: value(arena, step.q),
+        p: value(arena, Some(step.p)),
+        q: value(arena, Some(step.q)),
         i: value_at(arena, step.i),
         j: value_at(arena, step.j),
     }
 }
 
-// The pointer of a value.
-fn pointer_of<S: SlotStack<Item = Slot>>(
-    rt: &impl Abort,
-    arena: &ChainsOver<S>,
-    t: u32,
-) -> Option<ToolPtr> {
+// The values of the links before and after a link, 0 for none, if there is such a link.
+fn beside<S: SlotStack<Item = Slot>>(arena: &ChainsOver<S>, p: ToolPtr) -> Option<(u32, u32)> {
+    let link = arena.get_link(p)?;
+    Some((value(arena, link.prev()), value(arena, link.next())))
+}
+
+// Looks whether the chains of an arena are the lists: as many links, and beside each the same ones.
+fn check<S: SlotStack<Item = Slot>>(rt: &impl Abort, arena: &ChainsOver<S>, lists: &Lists) {
+    same(rt, "links", arena.len(), lists.count());
     let mut all = arena.advancer();
     for _ in 0..arena.len() {
         let p = all.advance(arena).expect(rt, "as many pointers as links");
-        if value(arena, p) == t {
-            return Some(p);
-        }
+        let want = lists.beside(value(arena, Some(p)));
+        same(rt, "the links beside a link", beside(arena, p), want);
     }
-    None
-}
-
-// Looks whether the chain of a link is this one.
-fn check_chain<S: SlotStack<Item = Slot>>(rt: &impl Abort, arena: &ChainsOver<S>, chain: &Chain) {
-    let first = chain.values.first().copied().unwrap_or(0);
-    let p = pointer_of(rt, arena, first).expect(rt, "a link of this value");
-    let is_cyclic = arena.get_link(p).expect(rt, "a link").prev().is_some();
-    same(rt, "cyclic", is_cyclic, chain.is_cyclic);
-    let mut walk = arena.iter_chain(p).expect(rt, "a walk");
-    for t in &chain.values {
-        match walk.next() {
-            Some((_, link)) => same(rt, "the next link", link.t, *t),
-            None => same(rt, "no more links", 0, *t),
-        }
-    }
-    same(rt, "the end of a walk", walk.next().is_none(), true);
-}
-
-// Looks whether the chains of an arena are the lists.
-fn check<S: SlotStack<Item = Slot>>(rt: &impl Abort, arena: &ChainsOver<S>, lists: &Lists) {
-    same(rt, "links", arena.len(), lists.count());
-    for chain in &lists.chains {
-        check_chain(rt, arena, chain);
-    }
-}
-
-// The reply to one call.
-fn reply<S: SlotStack<Item = Slot>>(
-    rt: &impl Abort,
-    alloc: Global,
-    arena: &mut ChainsOver<S>,
-    call: Call<ToolPtr, u32>,
-) -> Reply<ToolPtr, u32> {
-    let calls = Vec::from_array(alloc, [call]).expect(rt, "memory");
-    let mut replies = run_calls(alloc, arena, calls).expect(rt, "memory");
-    replies.pop().expect(rt, "a reply")
 }
 
 // Makes a step on an arena and on the lists, and looks whether both tell the same and have the same chains then. A call
 // that is refused for room is one that the lists could make. Tells whether the call was done.
 fn check_step<S: SlotStack<Item = Slot>>(
     rt: &impl Abort,
-    alloc: Global,
     arena: &mut ChainsOver<S>,
     lists: &mut Lists,
     step: Step,
     t: u32,
 ) -> Option<bool> {
     let named = names_of(arena, step);
-    let done = is_done(&reply(rt, alloc, arena, call_of(rt, step, t)));
+    let done = is_done(&apply(arena, call_of(step, t)));
     match done {
         Some(done) => same(rt, "done", follow(rt, lists, step, named, t), done),
         None => same(rt, "could be", could_be(lists, step, named), true),
@@ -396,9 +357,9 @@ fn check_run<S: SlotStack<Item = Slot>>(
 ) {
     let mut lists = Lists::new(alloc);
     for t in 1..=100 {
-        let step = next_step(rt, numbers, arena);
+        let step = next_step(numbers, arena);
         let counter = arena.generation();
-        let done = check_step(rt, alloc, arena, &mut lists, step, t);
+        let done = check_step(rt, arena, &mut lists, step, t);
         counts.count(done, arena.generation() < counter);
     }
 }
@@ -422,37 +383,27 @@ fn check_counts(rt: &impl Abort, counts: Counts, refused: u32) {
 }
 
 // Ten runs, each on a new arena.
-fn check_runs<S: SlotStack<Item = Slot>>(rt: &impl Abort, alloc: Global, refused: u32) {
+pub(super) fn check_runs<S: SlotStack<Item = Slot>>(rt: &impl Abort, alloc: Global, refused: u32) {
     let mut numbers = Numbers { state: 1 };
     let mut counts = no_counts();
     for _ in 0..10 {
-        let mut arena = ChainsOver::<S>::new(alloc);
+        let mut arena: ChainsOver<S> = fresh(alloc);
         check_run(rt, alloc, &mut arena, &mut numbers, &mut counts);
     }
     check_counts(rt, counts, refused);
 }
 
 // .. with a maximum of six.
-fn check_limited_runs<S: LimitStack<Item = Slot>>(rt: &impl Abort, alloc: Global, refused: u32) {
+pub(super) fn check_limited_runs<S: LimitStack<Item = Slot>>(
+    rt: &impl Abort,
+    alloc: Global,
+    refused: u32,
+) {
     let mut numbers = Numbers { state: 2 };
     let mut counts = no_counts();
     for _ in 0..10 {
-        let mut arena = ChainsOver::<S>::new(alloc);
-        assert!(rt; arena.set_max_capacity(6).is_ok());
+        let mut arena: ChainsOver<S> = limited(rt, alloc, 6);
         check_run(rt, alloc, &mut arena, &mut numbers, &mut counts);
     }
     check_counts(rt, counts, refused);
-}
-
-#[test]
-fn long_runs_over_each_stack(rt: HostRuntime) {
-    check_runs::<HeapStack<Slot>>(&rt, rt.alloc(), 1);
-    check_runs::<ChunkStack<Slot>>(&rt, rt.alloc(), 1);
-    check_limited_runs::<LimitedStack<Slot>>(&rt, rt.alloc(), 50);
-}
-
-#[test]
-fn long_runs_where_every_other_growth_is_refused(rt: HostRuntime) {
-    check_runs::<Rationed<HeapStack<Slot>>>(&rt, rt.alloc(), 40);
-    check_runs::<Rationed<ChunkStack<Slot>>>(&rt, rt.alloc(), 10);
 }
