@@ -77,18 +77,19 @@ fn value_of<S: SlotStack<Item = ArenaSlot<ToolPtr, u32>>>(
     arena.get(at(p)).copied()
 }
 
-// .. the links 1 and 3 to a plain one, and once more: what is told each time, the pointer of the next entry there, and the values
-// at both indexes then.
+// .. the links 1 and 3 to a plain one, and once more: what is told each time, and between these how many entries there are, the
+// room for them and the counter; the pointer of the next entry there, and the values at both indexes then.
 pub(super) fn copied_twice<S: SlotStack<Item = Slot>, R: SlotStack<Item = ArenaSlot<ToolPtr, u32>>>(
     alloc: Global,
     target: &mut Arena<ToolPtr, u32, R>,
 ) -> String {
     let source: ChainsOver<S> = with_a_hole(alloc, 3);
     let first = copied_plain(alloc, &source, target);
+    let left = (target.len(), target.capacity(), target.generation());
     let second = copied_plain(alloc, &source, target);
     let next = target.insert_reallocating(9);
     let values = (value_of(target, (1, 2)), value_of(target, (3, 2)));
-    text(alloc, ((first, second), (next, values)))
+    text(alloc, ((first, left, second), (next, values)))
 }
 
 // A row of three whose second is gone.
@@ -135,22 +136,30 @@ pub(super) fn copies() -> &'static [(Script, &'static [&'static [Line]])] {
     &COPIES
 }
 
-// Copies to a plain arena that refuses its first growth, and to one with a maximum of two.
+// A copy to a plain arena that refuses its first growth: nothing has changed then, and the second one is made.
+pub(super) fn check_refused_copy<
+    S: SlotStack<Item = Slot>,
+    R: SlotStack<Item = ArenaSlot<ToolPtr, u32>>,
+>(rt: &impl Abort, alloc: Global) {
+    let mut target: Arena<ToolPtr, u32, Rationed<R>> = fresh_plain(alloc);
+    let told = copied_twice::<S, Rationed<R>>(alloc, &mut target);
+    let want = "(((Err(AllocError), []), (0, 0, Gen32 { number: 2 }), \
+        (Ok(()), [(P0[1](2), {(start), 3} 1), (P0[3](2), {1, (end)} 3)])), \
+        (Ok(P0[2](3)), (Some(11), Some(23))))";
+    same(rt, "refused, and copied", told.as_str(), want);
+}
+
+// .. to one with a maximum of two.
 pub(super) fn check_plain<S: SlotStack<Item = Slot>, R: LimitStack<Item = ArenaSlot<ToolPtr, u32>>>(
     rt: &impl Abort,
     alloc: Global,
 ) {
-    let mut target: Arena<ToolPtr, u32, Rationed<R>> = fresh_plain(alloc);
-    let told = copied_twice::<S, Rationed<R>>(alloc, &mut target);
-    let want = "(((Err(AllocError), []), \
-        (Ok(()), [(P0[1](2), {(start), 3} 1), (P0[3](2), {1, (end)} 3)])), \
-        (Ok(P0[2](3)), (Some(11), Some(23))))";
-    same(rt, "refused, and copied", told.as_str(), want);
     let mut target: Arena<ToolPtr, u32, R> = fresh_plain(alloc);
     let limit = target.set_max_capacity(2);
     same(rt, "a maximum of two", limit, Ok(()));
     let told = copied_twice::<S, R>(alloc, &mut target);
-    let want = "(((Err(BeyondMaxCapacity), []), (Err(BeyondMaxCapacity), [])), \
+    let want =
+        "(((Err(BeyondMaxCapacity), []), (0, 0, Gen32 { number: 2 }), (Err(BeyondMaxCapacity), [])), \
         (Ok(P0[1](2)), (Some(9), None)))";
     same(rt, "refused twice", told.as_str(), want);
 }

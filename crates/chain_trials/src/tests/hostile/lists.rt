@@ -73,12 +73,6 @@ impl Lists {
         }
     }
 
-    // The links before and after a link, 0 for none, if there is such a link.
-    pub(super) fn beside(&self, t: u32) -> Option<(u32, u32)> {
-        self.find(t)?;
-        Some((self.prev(t).unwrap_or(0), self.next(t).unwrap_or(0)))
-    }
-
     // Takes the chain of a link out of the lists, with the link's place in it.
     fn take(&mut self, t: u32) -> Option<(Chain, usize)> {
         let (c, k) = self.find(t)?;

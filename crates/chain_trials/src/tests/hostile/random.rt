@@ -1,13 +1,13 @@
 //! A long run of random calls, held against plain lists after each.
 
-use super::lists::Lists;
+use super::lists::{Chain, Lists};
 use super::{ChainsOver, Slot, same};
 use crate::tests::{at, fresh, generation, index, limited};
 use arena_base::{Advancer, ArenaTrait};
 use arena_ptr::{
     ChainInsertionError, InvalidationResult, Inx32, LimitStack, Ptr, SlotStack, ToolPtr,
 };
-use chain_arena::{Call, ChainArenaTrait, InsertKindBody, Reply, apply};
+use chain_arena::{Call, ChainArenaTrait, InsertKindBody, Reply, run_calls};
 use std::alloc::Global;
 use std::process::Abort;
 
@@ -215,11 +215,8 @@ fn is_done(reply: &Reply<ToolPtr, u32>) -> Option<bool> {
 }
 
 // The value of a link, 0 for none.
-fn value<S: SlotStack<Item = Slot>>(arena: &ChainsOver<S>, p: Option<ToolPtr>) -> u32 {
-    match p {
-        Some(p) => arena.get(p).copied().unwrap_or(0),
-        None => 0,
-    }
+fn value<S: SlotStack<Item = Slot>>(arena: &ChainsOver<S>, p: ToolPtr) -> u32 {
+    arena.get(p).copied().unwrap_or(0)
 }
 
 fn value_at<S: SlotStack<Item = Slot>>(arena: &ChainsOver<S>, i: Inx32) -> u32 {
@@ -271,41 +268,77 @@ fn next_step<S: SlotStack<Item = Slot>>(numbers: &mut Numbers, arena: &ChainsOve
 // What the links are that a step names.
 fn names_of<S: SlotStack<Item = Slot>>(arena: &ChainsOver<S>, step: Step) -> Named {
     Named {
-        p: value(arena, Some(step.p)),
-        q: value(arena, Some(step.q)),
+        p: value(arena, step.p),
+        q: value(arena, step.q),
         i: value_at(arena, step.i),
         j: value_at(arena, step.j),
     }
 }
 
-// The values of the links before and after a link, 0 for none, if there is such a link.
-fn beside<S: SlotStack<Item = Slot>>(arena: &ChainsOver<S>, p: ToolPtr) -> Option<(u32, u32)> {
-    let link = arena.get_link(p)?;
-    Some((value(arena, link.prev()), value(arena, link.next())))
-}
-
-// Looks whether the chains of an arena are the lists: as many links, and beside each the same ones.
-fn check<S: SlotStack<Item = Slot>>(rt: &impl Abort, arena: &ChainsOver<S>, lists: &Lists) {
-    same(rt, "links", arena.len(), lists.count());
+// The pointer of a value.
+fn pointer_of<S: SlotStack<Item = Slot>>(
+    rt: &impl Abort,
+    arena: &ChainsOver<S>,
+    t: u32,
+) -> Option<ToolPtr> {
     let mut all = arena.advancer();
     for _ in 0..arena.len() {
         let p = all.advance(arena).expect(rt, "as many pointers as links");
-        let want = lists.beside(value(arena, Some(p)));
-        same(rt, "the links beside a link", beside(arena, p), want);
+        if value(arena, p) == t {
+            return Some(p);
+        }
     }
+    None
+}
+
+// Looks whether the chain of a link is this one.
+fn check_chain<S: SlotStack<Item = Slot>>(rt: &impl Abort, arena: &ChainsOver<S>, chain: &Chain) {
+    let first = chain.values.first().copied().unwrap_or(0);
+    let p = pointer_of(rt, arena, first).expect(rt, "a link of this value");
+    let is_cyclic = arena.get_link(p).expect(rt, "a link").prev().is_some();
+    same(rt, "cyclic", is_cyclic, chain.is_cyclic);
+    let mut walk = arena.iter_chain(p).expect(rt, "a walk");
+    for t in &chain.values {
+        match walk.next() {
+            Some((_, link)) => same(rt, "the next link", link.t, *t),
+            None => same(rt, "no more links", 0, *t),
+        }
+    }
+    same(rt, "the end of a walk", walk.next().is_none(), true);
+}
+
+// Looks whether the chains of an arena are the lists.
+fn check<S: SlotStack<Item = Slot>>(rt: &impl Abort, arena: &ChainsOver<S>, lists: &Lists) {
+    same(rt, "links", arena.len(), lists.count());
+    for chain in &lists.chains {
+        check_chain(rt, arena, chain);
+    }
+}
+
+// The reply to one call.
+fn reply<S: SlotStack<Item = Slot>>(
+    rt: &impl Abort,
+    alloc: Global,
+    arena: &mut ChainsOver<S>,
+    call: Call<ToolPtr, u32>,
+) -> Reply<ToolPtr, u32> {
+    let calls = Vec::from_array(alloc, [call]).expect(rt, "memory");
+    let mut replies = run_calls(alloc, arena, calls).expect(rt, "memory");
+    replies.pop().expect(rt, "a reply")
 }
 
 // Makes a step on an arena and on the lists, and looks whether both tell the same and have the same chains then. A call
 // that is refused for room is one that the lists could make. Tells whether the call was done.
 fn check_step<S: SlotStack<Item = Slot>>(
     rt: &impl Abort,
+    alloc: Global,
     arena: &mut ChainsOver<S>,
     lists: &mut Lists,
     step: Step,
     t: u32,
 ) -> Option<bool> {
     let named = names_of(arena, step);
-    let done = is_done(&apply(arena, call_of(step, t)));
+    let done = is_done(&reply(rt, alloc, arena, call_of(step, t)));
     match done {
         Some(done) => same(rt, "done", follow(rt, lists, step, named, t), done),
         None => same(rt, "could be", could_be(lists, step, named), true),
@@ -359,7 +392,7 @@ fn check_run<S: SlotStack<Item = Slot>>(
     for t in 1..=100 {
         let step = next_step(numbers, arena);
         let counter = arena.generation();
-        let done = check_step(rt, arena, &mut lists, step, t);
+        let done = check_step(rt, alloc, arena, &mut lists, step, t);
         counts.count(done, arena.generation() < counter);
     }
 }
