@@ -15,9 +15,9 @@ ghost use Rattle.chain_lines.specs.Transcripts.{AreComplete};
 
 use arena_base::{ArenaSlot, ArenaTrait};
 use arena_ptr::{
-    ChunkStack, HeapStack, LimitStack, LimitedStack, SetMaxCapacity, SlotStack, ToolPtr,
+    ChunkStack, HeapStack, Inx32, LimitStack, LimitedStack, SetMaxCapacity, SlotStack, ToolPtr,
 };
-use chain_arena::{ChainArena, ChainArenaTrait, LinkNoGen};
+use chain_arena::{ChainArena, ChainArenaTrait, LinkInsertKind, LinkNoGen};
 use chain_lines::{ToolError, run, run_on};
 use std::alloc::Global;
 use std::fmt::Debug;
@@ -494,58 +494,26 @@ fn check_runs<S: SlotStack<Item = Slot>>(rt: &impl Abort, alloc: Global) {
     }
 }
 
-/// A chain of 130 links, over three blocks, of which the first 64 are removed again, so that the first block is empty.
-const CHAIN_OVER_BLOCKS: (&str, &str) = (
-    "add alone 1\nadd end 1.2 2\nadd end 2.2 3\nadd end 3.2 4\nadd end 4.2 5\nadd end 5.2 6\nadd end 6.2 7\n\
-    add end 7.2 8\nadd end 8.2 9\nadd end 9.2 10\nadd end 10.2 11\nadd end 11.2 12\nadd end 12.2 13\n\
-    add end 13.2 14\nadd end 14.2 15\nadd end 15.2 16\nadd end 16.2 17\nadd end 17.2 18\nadd end 18.2 19\n\
-    add end 19.2 20\nadd end 20.2 21\nadd end 21.2 22\nadd end 22.2 23\nadd end 23.2 24\nadd end 24.2 25\n\
-    add end 25.2 26\nadd end 26.2 27\nadd end 27.2 28\nadd end 28.2 29\nadd end 29.2 30\nadd end 30.2 31\n\
-    add end 31.2 32\nadd end 32.2 33\nadd end 33.2 34\nadd end 34.2 35\nadd end 35.2 36\nadd end 36.2 37\n\
-    add end 37.2 38\nadd end 38.2 39\nadd end 39.2 40\nadd end 40.2 41\nadd end 41.2 42\nadd end 42.2 43\n\
-    add end 43.2 44\nadd end 44.2 45\nadd end 45.2 46\nadd end 46.2 47\nadd end 47.2 48\nadd end 48.2 49\n\
-    add end 49.2 50\nadd end 50.2 51\nadd end 51.2 52\nadd end 52.2 53\nadd end 53.2 54\nadd end 54.2 55\n\
-    add end 55.2 56\nadd end 56.2 57\nadd end 57.2 58\nadd end 58.2 59\nadd end 59.2 60\nadd end 60.2 61\n\
-    add end 61.2 62\nadd end 62.2 63\nadd end 63.2 64\nadd end 64.2 65\nadd end 65.2 66\nadd end 66.2 67\n\
-    add end 67.2 68\nadd end 68.2 69\nadd end 69.2 70\nadd end 70.2 71\nadd end 71.2 72\nadd end 72.2 73\n\
-    add end 73.2 74\nadd end 74.2 75\nadd end 75.2 76\nadd end 76.2 77\nadd end 77.2 78\nadd end 78.2 79\n\
-    add end 79.2 80\nadd end 80.2 81\nadd end 81.2 82\nadd end 82.2 83\nadd end 83.2 84\nadd end 84.2 85\n\
-    add end 85.2 86\nadd end 86.2 87\nadd end 87.2 88\nadd end 88.2 89\nadd end 89.2 90\nadd end 90.2 91\n\
-    add end 91.2 92\nadd end 92.2 93\nadd end 93.2 94\nadd end 94.2 95\nadd end 95.2 96\nadd end 96.2 97\n\
-    add end 97.2 98\nadd end 98.2 99\nadd end 99.2 100\nadd end 100.2 101\nadd end 101.2 102\n\
-    add end 102.2 103\nadd end 103.2 104\nadd end 104.2 105\nadd end 105.2 106\nadd end 106.2 107\n\
-    add end 107.2 108\nadd end 108.2 109\nadd end 109.2 110\nadd end 110.2 111\nadd end 111.2 112\n\
-    add end 112.2 113\nadd end 113.2 114\nadd end 114.2 115\nadd end 115.2 116\nadd end 116.2 117\n\
-    add end 117.2 118\nadd end 118.2 119\nadd end 119.2 120\nadd end 120.2 121\nadd end 121.2 122\n\
-    add end 122.2 123\nadd end 123.2 124\nadd end 124.2 125\nadd end 125.2 126\nadd end 126.2 127\n\
-    add end 127.2 128\nadd end 128.2 129\nadd end 129.2 130\nremove 1.2\nremove 2.2\nremove 3.2\nremove 4.2\n\
-    remove 5.2\nremove 6.2\nremove 7.2\nremove 8.2\nremove 9.2\nremove 10.2\nremove 11.2\nremove 12.2\n\
-    remove 13.2\nremove 14.2\nremove 15.2\nremove 16.2\nremove 17.2\nremove 18.2\nremove 19.2\nremove 20.2\n\
-    remove 21.2\nremove 22.2\nremove 23.2\nremove 24.2\nremove 25.2\nremove 26.2\nremove 27.2\nremove 28.2\n\
-    remove 29.2\nremove 30.2\nremove 31.2\nremove 32.2\nremove 33.2\nremove 34.2\nremove 35.2\nremove 36.2\n\
-    remove 37.2\nremove 38.2\nremove 39.2\nremove 40.2\nremove 41.2\nremove 42.2\nremove 43.2\nremove 44.2\n\
-    remove 45.2\nremove 46.2\nremove 47.2\nremove 48.2\nremove 49.2\nremove 50.2\nremove 51.2\nremove 52.2\n\
-    remove 53.2\nremove 54.2\nremove 55.2\nremove 56.2\nremove 57.2\nremove 58.2\nremove 59.2\nremove 60.2\n\
-    remove 61.2\nremove 62.2\nremove 63.2\nremove 64.2\n",
-    "at 1.2\nat 2.2\nat 3.2\nat 4.2\nat 5.2\nat 6.2\nat 7.2\nat 8.2\nat 9.2\nat 10.2\nat 11.2\nat 12.2\nat 13.2\n\
-    at 14.2\nat 15.2\nat 16.2\nat 17.2\nat 18.2\nat 19.2\nat 20.2\nat 21.2\nat 22.2\nat 23.2\nat 24.2\nat 25.2\n\
-    at 26.2\nat 27.2\nat 28.2\nat 29.2\nat 30.2\nat 31.2\nat 32.2\nat 33.2\nat 34.2\nat 35.2\nat 36.2\nat 37.2\n\
-    at 38.2\nat 39.2\nat 40.2\nat 41.2\nat 42.2\nat 43.2\nat 44.2\nat 45.2\nat 46.2\nat 47.2\nat 48.2\nat 49.2\n\
-    at 50.2\nat 51.2\nat 52.2\nat 53.2\nat 54.2\nat 55.2\nat 56.2\nat 57.2\nat 58.2\nat 59.2\nat 60.2\nat 61.2\n\
-    at 62.2\nat 63.2\nat 64.2\nat 65.2\nat 66.2\nat 67.2\nat 68.2\nat 69.2\nat 70.2\nat 71.2\nat 72.2\nat 73.2\n\
-    at 74.2\nat 75.2\nat 76.2\nat 77.2\nat 78.2\nat 79.2\nat 80.2\nat 81.2\nat 82.2\nat 83.2\nat 84.2\nat 85.2\n\
-    at 86.2\nat 87.2\nat 88.2\nat 89.2\nat 90.2\nat 91.2\nat 92.2\nat 93.2\nat 94.2\nat 95.2\nat 96.2\nat 97.2\n\
-    at 98.2\nat 99.2\nat 100.2\nat 101.2\nat 102.2\nat 103.2\nat 104.2\nat 105.2\nat 106.2\nat 107.2\nat 108.2\n\
-    at 109.2\nat 110.2\nat 111.2\nat 112.2\nat 113.2\nat 114.2\nat 115.2\nat 116.2\nat 117.2\nat 118.2\n\
-    at 119.2\nat 120.2\nat 121.2\nat 122.2\nat 123.2\nat 124.2\nat 125.2\nat 126.2\nat 127.2\nat 128.2\n\
-    at 129.2\nat 130.2\nvalue 1\nvalue 2\nvalue 3\nvalue 4\nvalue 5\nvalue 6\nvalue 7\nvalue 8\nvalue 9\n\
-    value 10\nvalue 11\nvalue 12\nvalue 13\nvalue 14\nvalue 15\nvalue 16\nvalue 17\nvalue 18\nvalue 19\n\
-    value 20\nvalue 21\nvalue 22\nvalue 23\nvalue 24\nvalue 25\nvalue 26\nvalue 27\nvalue 28\nvalue 29\n\
-    value 30\nvalue 31\nvalue 32\nvalue 33\nvalue 34\nvalue 35\nvalue 36\nvalue 37\nvalue 38\nvalue 39\n\
-    value 40\nvalue 41\nvalue 42\nvalue 43\nvalue 44\nvalue 45\nvalue 46\nvalue 47\nvalue 48\nvalue 49\n\
-    value 50\nvalue 51\nvalue 52\nvalue 53\nvalue 54\nvalue 55\nvalue 56\nvalue 57\nvalue 58\nvalue 59\n\
-    value 60\nvalue 61\nvalue 62\nvalue 63\nvalue 64\n",
-);
+/// Makes a chain of 130 links, over three blocks, each with its index as its value, and tells how many there are.
+fn add_chain<S: SlotStack<Item = Slot>>(arena: &mut LinksOver<S>) -> usize {
+    let mut kind = LinkInsertKind::Disconnected;
+    for t in 1..=130 {
+        if let Ok(p) = arena.insert_reallocating(kind, t) {
+            kind = LinkInsertKind::ChainEnd(p);
+        }
+    }
+    arena.len()
+}
+
+/// Removes the first 64 of them again, and tells how many are left.
+fn empty_the_first_block<S: SlotStack<Item = Slot>>(arena: &mut LinksOver<S>) -> usize {
+    for i in 1..=64 {
+        if let Some(i) = Inx32::new(i) {
+            arena.remove_inx(i);
+        }
+    }
+    arena.len()
+}
 
 /// The walk along the 66 links that are left, in one run from index 1 on.
 const WALK_OF_THE_REST: (&str, &str) = (
@@ -565,11 +533,12 @@ fn placed<S: SlotStack<Item = Slot>>(arena: &mut LinksOver<S>) -> (usize, u128) 
     (links, work.placed)
 }
 
-/// The chain is compressed to the first two blocks: it comes there in its order, and each link is placed once.
+/// The first block of a chain over three is emptied, and the chain compressed to the first two: it comes there in its order, and
+/// each link is placed once.
 fn check_chain<S: SlotStack<Item = Slot>>(rt: &impl Abort, alloc: Global) {
     let mut arena = LinksOver::<S>::new(alloc);
-    let (input, output) = CHAIN_OVER_BLOCKS;
-    check_on(rt, alloc, &mut arena, input, output);
+    assert!(rt; add_chain(&mut arena) == 130);
+    assert!(rt; empty_the_first_block(&mut arena) == 66);
     assert!(rt; placed(&mut arena) == (66, 66));
     let (input, output) = WALK_OF_THE_REST;
     check_on(rt, alloc, &mut arena, input, output);
