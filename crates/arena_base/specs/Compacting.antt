@@ -74,3 +74,11 @@ module _ {Gen T : Type 0} where
   -- the slots with another value at an index, if an entry stands there
   abbrev pub held_with_value : Held Gen T → ℕ → T → Held Gen T
   held_with_value held i t = record held { slots = with_slot held.slots i (option_map (λ e. (e.0, t)) (slot_at held.slots i)) }
+
+  -- what holds slots after a look at one: they are as they were, and it was counted; where a value was written there, it stands there
+  module _ {C : Type 0} (held : C → Held Gen T) (touches : C → C → Type 0) (old : C) where
+    abbrev pub IsLookedAt : C → Type 0
+    IsLookedAt new = (held new ≡ held old) × touches old new
+
+    abbrev pub IsWrittenAt : ℕ → C → T → Type 0
+    IsWrittenAt i new t = (held new ≡ held_with_value (held old) i t) × touches old new

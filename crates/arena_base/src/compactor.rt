@@ -4,7 +4,7 @@ ghost use Rattle.std.specs.Option.{option_map, option_copied_mut};
 ghost use Rattle.std.specs.Borrow.{LendsSo, follows_so, sem};
 ghost use mathlib.Core.Option.{none};
 ghost use Rattle.arena_base.specs.Arena.{slot_at};
-ghost use Rattle.arena_base.specs.Compacting.{Held, seen_parts, placed, held_with_value, held_of, lent_out, returned, IsPacked, with_touch, with_placement, one_more};
+ghost use Rattle.arena_base.specs.Compacting.{Held, seen_parts, placed, held_of, IsLookedAt, IsWrittenAt, lent_out, returned, IsPacked, with_touch, with_placement, one_more};
 
 use crate::arena::Arena;
 use crate::held::{HeldSlots, LendsValue};
@@ -153,14 +153,13 @@ pub trait SlotAccess<P: PtrKey, T: Drop> {
 
     /// The generation and the value at an index. Counts one touch.
     fn peek(&mut self, i: P::Inx) -> Option<(&P::Gen, &T)>
-        ensures* after { sem 𝓛 (follows_so Self.row Self.row self.entry.ghost_name none (λ _ _. ⊤) (λ new. (held new ≡ held self.old) × touches self.old new)) }
+        ensures* after { sem 𝓛 (follows_so Self.row Self.row self.entry.ghost_name none (λ _ _. ⊤) (IsLookedAt held touches self.old)) }
         ensures value { option_map seen_parts result ≡ slot_at (held self.old).slots (P.Inx.number i) };
 
     /// The value at an index, for writing. Counts one touch.
     fn value_mut(&mut self, i: P::Inx) -> Option<&mut T>
         ensures* writes_back { sem 𝓛 (LendsSo Self.row T.row self.entry result
-            (λ new t. OnSome result ((held new ≡ held_with_value (held self.old) (P.Inx.number i) t) × touches self.old new))
-            (λ new. (held new ≡ held self.old) × touches self.old new)) }
+            (λ new t. OnSome result (IsWrittenAt held touches self.old (P.Inx.number i) new t)) (IsLookedAt held touches self.old)) }
         ensures value { option_copied_mut result ≡ option_map (λ e. e.1) (slot_at (held self.old).slots (P.Inx.number i)) };
 }
 

@@ -31,9 +31,7 @@ impl<P: PtrKey, T: Drop, S: SlotStack<Item = ArenaSlot<P, T>>> Arena<P, T, S> {
     ) -> Result<ArenaInsertEntry<'_, P, T, S>, NotWithinCapacityError>
         ensures* unchanged_at_err { sem 𝓛 (RestsIfErr
             (arena_row P.row T.row S.row P.Inx.row P.Gen.row P.Inx.Word.row
-            (record { key = P.key; same = P.same })
-            (record { number = P.Inx.number; same = P.Inx.same; packed_number = P.Inx.packed_number; greatest = P.Inx.greatest })
-            (record { first = P.Gen.first; following = P.Gen.following; wraps = P.Gen.wraps; same = P.Gen.same }) S.SlotStack)
+            P.PtrKey P.Inx.InxKey P.Gen.GenKey S.SlotStack)
             self.entry (λ e. e.arena.ghost_name) result (λ n. n ≡ self.old)) }
         ensures refused { IsErr result ↔ (entry_count self.old ≡ self.old.capacity) }
         ensures same_reference { IfOk result (λ e. e.arena.ghost_name ≡ self.entry.ghost_name) }

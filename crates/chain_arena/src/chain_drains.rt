@@ -47,9 +47,7 @@ impl<P: PtrKey, T: Drop, S: SlotStack<Item = ArenaSlot<P, LinkNoGen<P, T>>>> Cha
     pub fn drain_chain(&mut self, p: P) -> Option<ChainDrain<'_, P, T, S>>
         ensures* unchanged_at_none { sem 𝓛 (RestsIfNone
             (chain_arena_row P.row T.row S.row P.Inx.row P.Gen.row P.Inx.Word.row
-            (record { key = P.key; same = P.same })
-            (record { number = P.Inx.number; same = P.Inx.same; packed_number = P.Inx.packed_number; greatest = P.Inx.greatest })
-            (record { first = P.Gen.first; following = P.Gen.following; wraps = P.Gen.wraps; same = P.Gen.same }) S.SlotStack)
+            P.PtrKey P.Inx.InxKey P.Gen.GenKey S.SlotStack)
             self.entry (λ d. d.arena.ghost_name) result (λ n. n ≡ self.old)) }
         ensures some { IsSome result ↔ IsValid (entry self.old) (P.key p) }
         ensures same_reference { IfSome result (λ d. d.arena.ghost_name ≡ self.entry.ghost_name) }

@@ -34,9 +34,7 @@ impl<P: PtrKey, T: Drop, S: SlotStack<Item = ArenaSlot<P, LinkNoGen<P, T>>>> Cha
         requires { IsSome (entry self.old (P.Inx.number i)) }
         ensures* writes_back { sem 𝓛 (Lends
             (chain_arena_row P.row T.row S.row P.Inx.row P.Gen.row P.Inx.Word.row
-            (record { key = P.key; same = P.same })
-            (record { number = P.Inx.number; same = P.Inx.same; packed_number = P.Inx.packed_number; greatest = P.Inx.greatest })
-            (record { first = P.Gen.first; following = P.Gen.following; wraps = P.Gen.wraps; same = P.Gen.same }) S.SlotStack)
+            P.PtrKey P.Inx.InxKey P.Gen.GenKey S.SlotStack)
             T.row self.entry result (with_value_at self.old (P.Inx.number i))) }
         ensures value { option_map (λ e. e.1) (entry self.old (P.Inx.number i)) ≡ Some result.now }
     {
@@ -73,9 +71,7 @@ impl<P: PtrKey, T: Drop, S: SlotStack<Item = ArenaSlot<P, LinkNoGen<P, T>>>> Ind
         requires { IsValid (entry self.old) (P.key p) }
         ensures* writes_back { sem 𝓛 (Lends
             (chain_arena_row P.row T.row S.row P.Inx.row P.Gen.row P.Inx.Word.row
-            (record { key = P.key; same = P.same })
-            (record { number = P.Inx.number; same = P.Inx.same; packed_number = P.Inx.packed_number; greatest = P.Inx.greatest })
-            (record { first = P.Gen.first; following = P.Gen.following; wraps = P.Gen.wraps; same = P.Gen.same }) S.SlotStack)
+            P.PtrKey P.Inx.InxKey P.Gen.GenKey S.SlotStack)
             T.row self.entry result (with_value_at self.old (P.key p).0)) }
         ensures value { entry self.old (P.key p).0 ≡ Some ((P.key p).1, result.now) }
     {

@@ -75,9 +75,7 @@ impl<P: PtrKey, T: Drop, S: SlotStack<Item = ArenaSlot<P, LinkNoGen<P, T>>>> Cha
     ) -> Result<ChainArenaInsertEntry<'_, P, T, S>, ChainInsertionError>
         ensures* unchanged_at_err { sem 𝓛 (RestsIfErr
             (chain_arena_row P.row T.row S.row P.Inx.row P.Gen.row P.Inx.Word.row
-            (record { key = P.key; same = P.same })
-            (record { number = P.Inx.number; same = P.Inx.same; packed_number = P.Inx.packed_number; greatest = P.Inx.greatest })
-            (record { first = P.Gen.first; following = P.Gen.following; wraps = P.Gen.wraps; same = P.Gen.same }) S.SlotStack)
+            P.PtrKey P.Inx.InxKey P.Gen.GenKey S.SlotStack)
             self.entry (λ e. e.arena.ghost_name) result (λ n. n ≡ self.old)) }
         ensures link { (result ≡ Err ChainInsertionError.FailedLinkRequirement) ↔ ¬ May P.key P.Inx.number self.old kind }
         ensures full { (result ≡ Err ChainInsertionError.NotWithinCapacity) ↔ (May P.key P.Inx.number self.old kind × (entry_count self.old ≡ self.old.capacity)) }
@@ -104,9 +102,7 @@ impl<P: PtrKey, T: Drop, S: SlotStack<Item = ArenaSlot<P, LinkNoGen<P, T>>>> Cha
     ) -> Result<ChainArenaInsertEntry<'_, P, T, S>, ChainInsertionError>
         ensures* unchanged_at_err { sem 𝓛 (RestsIfErr
             (chain_arena_row P.row T.row S.row P.Inx.row P.Gen.row P.Inx.Word.row
-            (record { key = P.key; same = P.same })
-            (record { number = P.Inx.number; same = P.Inx.same; packed_number = P.Inx.packed_number; greatest = P.Inx.greatest })
-            (record { first = P.Gen.first; following = P.Gen.following; wraps = P.Gen.wraps; same = P.Gen.same }) S.SlotStack)
+            P.PtrKey P.Inx.InxKey P.Gen.GenKey S.SlotStack)
             self.entry (λ e. e.arena.ghost_name) result (λ n. n ≡ self.old)) }
         ensures link { (result ≡ Err ChainInsertionError.FailedLinkRequirement) ↔ ¬ May P.key P.Inx.number self.old kind }
         ensures error { IfErr result (λ e. e ≢ ChainInsertionError.NotWithinCapacity) }
@@ -136,9 +132,7 @@ impl<P: PtrKey, T: Drop, S: SlotStack<Item = ArenaSlot<P, LinkNoGen<P, T>>>> Cha
         requires { May P.key P.Inx.number self.old kind }
         ensures* unchanged_at_err { sem 𝓛 (RestsIfErr
             (chain_arena_row P.row T.row S.row P.Inx.row P.Gen.row P.Inx.Word.row
-            (record { key = P.key; same = P.same })
-            (record { number = P.Inx.number; same = P.Inx.same; packed_number = P.Inx.packed_number; greatest = P.Inx.greatest })
-            (record { first = P.Gen.first; following = P.Gen.following; wraps = P.Gen.wraps; same = P.Gen.same }) S.SlotStack)
+            P.PtrKey P.Inx.InxKey P.Gen.GenKey S.SlotStack)
             self.entry (λ e. e.arena.ghost_name) result (λ n. n ≡ self.old)) }
         ensures room { entry_count self.old < self.old.capacity → IsOkAnd result (λ e. e.arena.now ≡ self.old) }
         ensures grown { IfOk result (λ e. HasGrownTo S.may_reach P.Inx.greatest (entry_count self.old + 1) self.old e.arena.now) }
