@@ -38,7 +38,7 @@ pub struct ChainDrain<
 }
 
 impl<P: PtrKey, T: Drop, S: SlotStack<Item = ArenaSlot<P, LinkNoGen<P, T>>>> ChainArena<P, T, S> {
-    ghost use Rattle.chain_arena.specs.contracts.chain_arena.ChainArena.{the_row as chain_arena_row};
+    ghost use Rattle.chain_arena.specs.contracts.chain_arena.ChainArena.{the_row as arena_row};
 
     /// The removal of a pointer's chain, in walk order from its link. `None`: the pointer is not valid, and nothing has
     /// changed.
@@ -46,7 +46,7 @@ impl<P: PtrKey, T: Drop, S: SlotStack<Item = ArenaSlot<P, LinkNoGen<P, T>>>> Cha
     /// Carries `drain_chain` of `triple_arena`.
     pub fn drain_chain(&mut self, p: P) -> Option<ChainDrain<'_, P, T, S>>
         ensures* unchanged_at_none { sem 𝓛 (RestsIfNone
-            (chain_arena_row P.row T.row S.row P.Inx.row P.Gen.row P.Inx.Word.row
+            (arena_row P.row T.row S.row P.Inx.row P.Gen.row P.Inx.Word.row
             P.PtrKey P.Inx.InxKey P.Gen.GenKey S.SlotStack)
             self.entry (λ d. d.arena.ghost_name) result (λ n. n ≡ self.old)) }
         ensures some { IsSome result ↔ IsValid (entry self.old) (P.key p) }

@@ -12,7 +12,7 @@ use chain_links::LinkNoGen;
 use std::ops::{Index, IndexMut};
 
 impl<P: PtrKey, T: Drop, S: SlotStack<Item = ArenaSlot<P, LinkNoGen<P, T>>>> ChainArena<P, T, S> {
-    ghost use Rattle.chain_arena.specs.contracts.chain_arena.ChainArena.{the_row as chain_arena_row};
+    ghost use Rattle.chain_arena.specs.contracts.chain_arena.ChainArena.{the_row as arena_row};
 
     /// The value of the link at an index that is valid.
     ///
@@ -33,7 +33,7 @@ impl<P: PtrKey, T: Drop, S: SlotStack<Item = ArenaSlot<P, LinkNoGen<P, T>>>> Cha
     pub fn get_inx_mut_unwrap(&mut self, i: P::Inx) -> &mut T
         requires { IsSome (entry self.old (P.Inx.number i)) }
         ensures* writes_back { sem 𝓛 (Lends
-            (chain_arena_row P.row T.row S.row P.Inx.row P.Gen.row P.Inx.Word.row
+            (arena_row P.row T.row S.row P.Inx.row P.Gen.row P.Inx.Word.row
             P.PtrKey P.Inx.InxKey P.Gen.GenKey S.SlotStack)
             T.row self.entry result (with_value_at self.old (P.Inx.number i))) }
         ensures value { option_map (λ e. e.1) (entry self.old (P.Inx.number i)) ≡ Some result.now }
@@ -65,12 +65,12 @@ impl<P: PtrKey, T: Drop, S: SlotStack<Item = ArenaSlot<P, LinkNoGen<P, T>>>> Ind
 /// .. for writing: a write changes that value alone.
 impl<P: PtrKey, T: Drop, S: SlotStack<Item = ArenaSlot<P, LinkNoGen<P, T>>>> IndexMut<P>
     for ChainArena<P, T, S> {
-    ghost use Rattle.chain_arena.specs.contracts.chain_arena.ChainArena.{the_row as chain_arena_row};
+    ghost use Rattle.chain_arena.specs.contracts.chain_arena.ChainArena.{the_row as arena_row};
 
     fn index_mut(&mut self, p: P) -> &mut T
         requires { IsValid (entry self.old) (P.key p) }
         ensures* writes_back { sem 𝓛 (Lends
-            (chain_arena_row P.row T.row S.row P.Inx.row P.Gen.row P.Inx.Word.row
+            (arena_row P.row T.row S.row P.Inx.row P.Gen.row P.Inx.Word.row
             P.PtrKey P.Inx.InxKey P.Gen.GenKey S.SlotStack)
             T.row self.entry result (with_value_at self.old (P.key p).0)) }
         ensures value { entry self.old (P.key p).0 ≡ Some ((P.key p).1, result.now) }

@@ -63,7 +63,7 @@ fn index_or_none<I: InxKey>(n: usize) -> Option<I>
 }
 
 impl<P: PtrKey, T: Drop, S: SlotStack<Item = ArenaSlot<P, LinkNoGen<P, T>>>> ChainArena<P, T, S> {
-    ghost use Rattle.chain_arena.specs.contracts.chain_arena.ChainArena.{the_row as chain_arena_row};
+    ghost use Rattle.chain_arena.specs.contracts.chain_arena.ChainArena.{the_row as arena_row};
 
     /// A place for a link of a kind within the capacity. It takes no memory.
     ///
@@ -74,7 +74,7 @@ impl<P: PtrKey, T: Drop, S: SlotStack<Item = ArenaSlot<P, LinkNoGen<P, T>>>> Cha
         kind: LinkInsertKind<P>,
     ) -> Result<ChainArenaInsertEntry<'_, P, T, S>, ChainInsertionError>
         ensures* unchanged_at_err { sem 𝓛 (RestsIfErr
-            (chain_arena_row P.row T.row S.row P.Inx.row P.Gen.row P.Inx.Word.row
+            (arena_row P.row T.row S.row P.Inx.row P.Gen.row P.Inx.Word.row
             P.PtrKey P.Inx.InxKey P.Gen.GenKey S.SlotStack)
             self.entry (λ e. e.arena.ghost_name) result (λ n. n ≡ self.old)) }
         ensures link { (result ≡ Err ChainInsertionError.FailedLinkRequirement) ↔ ¬ May P.key P.Inx.number self.old kind }
@@ -101,7 +101,7 @@ impl<P: PtrKey, T: Drop, S: SlotStack<Item = ArenaSlot<P, LinkNoGen<P, T>>>> Cha
         kind: LinkInsertKind<P>,
     ) -> Result<ChainArenaInsertEntry<'_, P, T, S>, ChainInsertionError>
         ensures* unchanged_at_err { sem 𝓛 (RestsIfErr
-            (chain_arena_row P.row T.row S.row P.Inx.row P.Gen.row P.Inx.Word.row
+            (arena_row P.row T.row S.row P.Inx.row P.Gen.row P.Inx.Word.row
             P.PtrKey P.Inx.InxKey P.Gen.GenKey S.SlotStack)
             self.entry (λ e. e.arena.ghost_name) result (λ n. n ≡ self.old)) }
         ensures link { (result ≡ Err ChainInsertionError.FailedLinkRequirement) ↔ ¬ May P.key P.Inx.number self.old kind }
@@ -131,7 +131,7 @@ impl<P: PtrKey, T: Drop, S: SlotStack<Item = ArenaSlot<P, LinkNoGen<P, T>>>> Cha
     ) -> Result<ChainArenaInsertEntry<'_, P, T, S>, ReallocationError>
         requires { May P.key P.Inx.number self.old kind }
         ensures* unchanged_at_err { sem 𝓛 (RestsIfErr
-            (chain_arena_row P.row T.row S.row P.Inx.row P.Gen.row P.Inx.Word.row
+            (arena_row P.row T.row S.row P.Inx.row P.Gen.row P.Inx.Word.row
             P.PtrKey P.Inx.InxKey P.Gen.GenKey S.SlotStack)
             self.entry (λ e. e.arena.ghost_name) result (λ n. n ≡ self.old)) }
         ensures room { entry_count self.old < self.old.capacity → IsOkAnd result (λ e. e.arena.now ≡ self.old) }
