@@ -7,7 +7,7 @@ use Rattle.chain_arena.specs.declared.calls.Call.TheVariants.{Insert, InsertWith
 use Rattle.chain_lines.specs.declared.command.Command.TheVariants.{Change}
 use Rattle.chain_lines.specs.Commands.{line_with, by_either}
 use Rattle.chain_lines.specs.Transcripts.{AreComplete, by_line_feed, by_the_end}
-use Rattle.chain_lines.specs.Words.{index_of, generation_of}
+use Rattle.chain_lines.specs.Words.{index_named, generation_of}
 use Rattle.lines_trials.proofs.tests.definitions.Goals as goal
 
 -- of a line still to come nothing is complete
@@ -16,7 +16,7 @@ none_complete lines by_line_feed = refl
 none_complete lines (by_the_end ended) = cc
 
 pub returns : goal.returns
-unfolding index_of generation_of
+unfolding index_named generation_of
 returns c = record {
   lines = refl;
   no_line = refl;
