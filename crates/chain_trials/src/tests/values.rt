@@ -3,7 +3,7 @@
 use super::steps::SlotOf;
 use super::{add_plain, at, chained, fresh, fresh_plain, put, remove, same};
 use arena_base::{Arena, ArenaSlot, ArenaTrait};
-use arena_ptr::{HeapStack, PtrKey, SlotStack, ToolPtr};
+use arena_ptr::{ChunkStack, HeapStack, LimitedStack, PtrKey, SlotStack, ToolPtr};
 use chain_arena::{Call, ChainArena, ChainArenaTrait, LinkInsertKind, LinkNoGen, apply};
 use std::alloc::{AllocError, Global};
 use std::cell::Cell;
@@ -166,4 +166,6 @@ fn check_counts<S: SlotStack<Item = SlotOf<Counted>>>(rt: &impl Abort, alloc: Gl
 #[test]
 fn values_are_dropped_and_cloned_once(rt: HostRuntime) {
     check_counts::<HeapStack<SlotOf<Counted>>>(&rt, rt.alloc());
+    check_counts::<LimitedStack<SlotOf<Counted>>>(&rt, rt.alloc());
+    check_counts::<ChunkStack<SlotOf<Counted>>>(&rt, rt.alloc());
 }
