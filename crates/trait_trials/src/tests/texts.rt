@@ -3,7 +3,7 @@
 use super::pointers::BarePtr;
 use super::{At, NONE, Numbered, at, same};
 use arena_base::{ArenaSlot, ArenaTrait};
-use arena_ptr::{HeapStack, Ptr, SlotStack, ToolPtr};
+use arena_ptr::{HeapStack, Inx32, Ptr, SlotStack, ToolPtr};
 use chain_arena::{ChainArena, ChainArenaTrait, Link, LinkInsertKind, LinkNoGen};
 use std::alloc::Global;
 use std::fmt;
@@ -92,6 +92,17 @@ fn links_show_indexes_in_hexadecimal(rt: HostRuntime) {
         reads(&rt, "with generations", link, want);
         reads(&rt, "without", bare, want);
     }
+}
+
+#[test]
+fn links_show_their_values_behind_their_neighbors(rt: HostRuntime) {
+    let alloc = rt.alloc();
+    let end = LinkNoGen::<ToolPtr, u32>::new((Inx32::new(10), None), 7);
+    let texts = format!(in alloc; "{end} {end:?}").ok();
+    reads(&rt, "a number", texts, "{a, (end)} 7 {a, (end)} 7");
+    let link: Link<ToolPtr, _> = Link::new((neighbor((26, 11)), neighbor((0xabcdef, 3))), "B");
+    let texts = format!(in alloc; "{link} {link:?}").ok();
+    reads(&rt, "a text", texts, "{1a, abcdef} B {1a, abcdef} \"B\"");
 }
 
 // A slot of a link of a value that tells.
