@@ -170,7 +170,9 @@ impl<P: PtrKey, T: Drop, S: SlotStack<Item = ArenaSlot<P, T>>> Arena<P, T, S> {
         self.len == self.slots.capacity().min(P::Inx::greatest())
     }
 
-    // Grows to room for so many entries, more than there is room for.
+    // Grows to room for so many entries, more than there is room for. It is not the likely way, so it stays out of line.
+    #[cold]
+    #[inline(never)]
     pub(crate) fn grow_to(&mut self, n: usize) -> Result<(), ReallocationError>
         ensures beyond { (result ≡ Err ReallocationError.BeyondMaxCapacity) ↔ IsBeyond self.old.maximum n }
         ensures greatest { P.Inx.greatest < n → IsErr result }
@@ -201,8 +203,23 @@ impl<P: PtrKey, T: Drop, S: SlotStack<Item = ArenaSlot<P, T>>> Arena<P, T, S> {
         }
     }
 
-    // The valid pointer of least index from a position on, from 0.
+    // The valid pointer of least index from a position on, from 0. The first slot is looked at alone, since an iteration mostly
+    // ends there.
     pub(crate) fn first_from(&self, from: usize) -> Option<P>
+        ensures key { option_map P.key result ≡ first_key (entries_from (from + 1) (drop from self.now.slots)) }
+        ensures fits { IfSome result (λ p. (P.key p).0 + 1 < 2 ^ 64) }
+    {
+        if from >= self.slots.len() {
+            return None;
+        }
+        match self.ptr_at(from) {
+            Some(p) => Some(p),
+            None => self.search_from(from + 1),
+        }
+    }
+
+    // .. slot by slot.
+    fn search_from(&self, from: usize) -> Option<P>
         ensures key { option_map P.key result ≡ first_key (entries_from (from + 1) (drop from self.now.slots)) }
         ensures fits { IfSome result (λ p. (P.key p).0 + 1 < 2 ^ 64) }
     {

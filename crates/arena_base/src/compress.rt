@@ -9,6 +9,7 @@ ghost use Rattle.arena_base.specs.Closing.{AreClosed, IsGathered, with_totals};
 
 use crate::arena::Arena;
 use crate::compactor::{Compactor, SlotAccess};
+use crate::excluded::assert_unchecked;
 use crate::slot::{ArenaSlot, inx_at};
 use arena_ptr::{PtrKey, SlotStack};
 
@@ -62,7 +63,10 @@ fn close_gaps<
             count += 1;
             match compactor.value_mut(to) {
                 Some(t) => map(P::_from_raw(from, was), t, P::_from_raw(to, generation)),
-                None => unreachable!(),
+                None => {
+                    assert_unchecked(false);
+                    unreachable!()
+                }
             }
         }
     }

@@ -7,6 +7,7 @@ ghost use Rattle.arena_base.specs.Entries.{entries, entries_from};
 ghost use Rattle.arena_base.specs.Copying.{CopiesBy, HasRefusable, HasSlotsOf, IsGivenUp};
 
 use crate::arena::Arena;
+use crate::excluded::assert_unchecked;
 use crate::slot::{ArenaSlot, inx_at};
 use crate::traits::{ArenaCloneFromWith, ArenaTrait, ValueMap};
 use arena_ptr::{AllocError, PtrKey, ReallocationError, SlotStack};
@@ -57,7 +58,10 @@ fn copy_slots<
     for k in 0..source.len() {
         let slot = match source.get(k) {
             Some(slot) => slot,
-            None => unreachable!(),
+            None => {
+                assert_unchecked(false);
+                unreachable!()
+            }
         };
         match slot {
             ArenaSlot::Allocated(generation, u) => {

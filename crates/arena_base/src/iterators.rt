@@ -5,6 +5,7 @@ ghost use Rattle.arena_base.specs.Entries.{entries_from};
 ghost use Rattle.std.specs.Iterator.{YieldsFirstBy, item_count};
 
 use crate::arena::Arena;
+use crate::excluded::assert_unchecked;
 use crate::slot::{ArenaSlot, number_of};
 use crate::traits::ArenaTrait;
 use arena_ptr::{HeapStack, InvalidationResult, PtrKey, SlotStack};
@@ -19,7 +20,10 @@ impl<P: PtrKey, T: Drop, S: SlotStack<Item = ArenaSlot<P, T>>> Arena<P, T, S> {
         match self.first_from(from) {
             Some(p) => match self.get_inx(p.inx()) {
                 Some((_, t)) => Some((number_of::<P>(p.inx()), p, t)),
-                None => unreachable!(),
+                None => {
+                    assert_unchecked(false);
+                    unreachable!()
+                }
             },
             None => None,
         }
@@ -33,7 +37,10 @@ impl<P: PtrKey, T: Drop, S: SlotStack<Item = ArenaSlot<P, T>>> Arena<P, T, S> {
         match self.first_from(from) {
             Some(p) => match value_of(self.take_at(p.inx())) {
                 Some((_, t)) => Some((number_of::<P>(p.inx()), p, t)),
-                None => unreachable!(),
+                None => {
+                    assert_unchecked(false);
+                    unreachable!()
+                }
             },
             None => None,
         }

@@ -30,13 +30,13 @@ close_gap-requires-clause-free g c differs =
     closing_free g.F.FnMut g.P.PtrKey.key c.args.generation c.args.map c.args.compactor.now.held.slots c.loop-k.k c.loop-k.count c.loop-k.map c.loop-k.compactor.held.slots c.loop-k.invariant.closing
     (g.P.Inx.InxKey.number c.inx_at-from.result) (g.P.Inx.InxKey.number c.inx_at-to.result) c.inx_at-from.ensures c.inx_at-to.ensures differs
 
-pub unreachable-requires : goal.unreachable-requires
-unreachable-requires g c =
+pub assert_unchecked-requires : goal.assert_unchecked-requires
+assert_unchecked-requires g c = absurd (
     let number = g.P.Inx.InxKey.number in
     let old = c.args.compactor.now.held.slots in
     brought_stands g.F.FnMut g.P.PtrKey.key c.args.generation c.args.map old c.loop-k.k c.loop-k.count c.loop-k.map c.loop-k.compactor.held.slots c.loop-k.invariant.closing (omega arith)
     (number c.inx_at-from.result) (number c.inx_at-to.result) c.in-Some.was c.close_gap.new.compactor.held.slots c.inx_at-from.ensures c.inx_at-to.ensures c.in-Some.ensures.answer (ap (λ h. h.slots) c.in-Some.ensures.some.0)
-    (sym (ap option_copied_mut c.in-None.is) ∙ c.value_mut.ensures.value)
+    (sym (ap option_copied_mut c.in-None.is) ∙ c.value_mut.ensures.value))
 
 pub loop-k-preserved : goal.loop-k-preserved
 loop-k-preserved g c =

@@ -3,10 +3,10 @@ use Rattle.std.proofs.Common.{◌≡◌, None, Some, ◌∙◌, arith}
 use Rattle.arena_base.proofs.FreeSlots.{there}
 use Rattle.arena_base.proofs.slot.list_at.Goals as goal
 
-pub unreachable-requires : goal.unreachable-requires
-unreachable-requires g c =
+pub assert_unchecked-requires : goal.assert_unchecked-requires
+assert_unchecked-requires g c = absurd (
     let slot = there (g.S.SlotStack.items c.args.slots.now) c.args.k c.requires.in_bounds in
-    let both : None ≡ Some slot.0 = c.in-None.ensures.value ∙ slot.1 in cc
+    let both : None ≡ Some slot.0 = c.in-None.ensures.value ∙ slot.1 in cc)
 
 pub returns : goal.returns
 returns g c = record {

@@ -3,8 +3,8 @@ use Rattle.std.proofs.Common.{◌∙◌}
 use Rattle.arena_base.proofs.Ranging.{next_shown, next_stands}
 use Rattle.arena_base.proofs.arena.Arena.next_from.Goals as goal
 
-pub unreachable-requires : goal.unreachable-requires
-unreachable-requires g c = next_stands c.args.self.now.slots c.args.from (g.P.Inx.InxKey.number c.inx.result) (g.P.PtrKey.key c.in-Some.p) c.in-Some.ensures.key c.in-None-get_inx.ensures c.inx.ensures
+pub assert_unchecked-requires : goal.assert_unchecked-requires
+assert_unchecked-requires g c = absurd (next_stands c.args.self.now.slots c.args.from (g.P.Inx.InxKey.number c.inx.result) (g.P.PtrKey.key c.in-Some.p) c.in-Some.ensures.key c.in-None-get_inx.ensures c.inx.ensures)
 
 pub returns-in-Some-get_inx-clause-some : goal.returns-in-Some-get_inx-clause-some
 returns-in-Some-get_inx-clause-some g c =

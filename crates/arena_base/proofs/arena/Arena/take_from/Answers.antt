@@ -7,11 +7,11 @@ use Rattle.arena_base.proofs.Ranging.{next_taken, next_stands}
 use Rattle.arena_base.proofs.Seeing.{value_within-made}
 use Rattle.arena_base.proofs.arena.Arena.take_from.Goals as goal
 
-pub unreachable-requires : goal.unreachable-requires
-unreachable-requires g c =
+pub assert_unchecked-requires : goal.assert_unchecked-requires
+assert_unchecked-requires g c = absurd (
     let n = g.P.Inx.InxKey.number c.inx.result in
     let held = c.value_of.ensures ∙ (ap value_within c.take_at.ensures.answer ∙ value_within-made (g.P.Gen.GenKey.wraps c.args.self.now.counter) (entry_at c.args.self.now n)) in
-    next_stands c.args.self.now.slots c.args.from n (g.P.PtrKey.key c.in-Some.p) c.in-Some.ensures.key (sym c.in-None-value_of.is ∙ held) c.inx.ensures
+    next_stands c.args.self.now.slots c.args.from n (g.P.PtrKey.key c.in-Some.p) c.in-Some.ensures.key (sym c.in-None-value_of.is ∙ held) c.inx.ensures)
 
 pub returns-in-Some-value_of-clause-some : goal.returns-in-Some-value_of-clause-some
 returns-in-Some-value_of-clause-some g c =

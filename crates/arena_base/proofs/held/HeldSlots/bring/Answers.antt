@@ -4,10 +4,10 @@ use Rattle.arena_base.proofs.Holding.{held_brought, brought_there, brought_free}
 use Rattle.arena_base.proofs.Reading.{slice_index_or-map}
 use Rattle.arena_base.proofs.held.HeldSlots.bring.Goals as goal
 
-pub unreachable-requires : goal.unreachable-requires
-unreachable-requires g c =
+pub assert_unchecked-requires : goal.assert_unchecked-requires
+assert_unchecked-requires g c = absurd (
     let items = g.S.SlotStack.items c.self.inside.slots in
-    brought_there items c.args.self.now.slots (ap (λ h. h.slots) c.self.view_is) c.position_of.result (g.P.Inx.InxKey.number c.args.from) c.position_of.ensures c.in-None.ensures.entry c.requires.entry
+    brought_there items c.args.self.now.slots (ap (λ h. h.slots) c.self.view_is) c.position_of.result (g.P.Inx.InxKey.number c.args.from) c.position_of.ensures c.in-None.ensures.entry c.requires.entry)
 
 pub returns : goal.returns
 returns g c =
