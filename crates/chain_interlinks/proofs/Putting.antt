@@ -1,10 +1,13 @@
 -- What the insertion of a link between two does to the state of a chain arena.
-use Rattle.std.proofs.Common.{◌≡◌, ℕ, Bool, true, false, Option, Some, refl, ap, sym, ◌∙◌}
-use Rattle.std.specs.Prelude.{◌==◌, if◌then◌else◌, is_some}
+use Rattle.std.proofs.Common.{◌≡◌, ℕ, Bool, true, false, Option, None, Some, refl, ap, sym, ◌∙◌, subst, ⊎_elim, inl, inr}
+use Rattle.std.specs.Prelude.{◌==◌, if◌then◌else◌, is_some, IfSome}
+use Rattle.std.proofs.lemmas.Bool.{cases_eq}
 use Rattle.std.specs.Option.{option_map}
-use Rattle.chain_laws.specs.Chains.{Shown}
+use Rattle.chain_laws.specs.Chains.{Shown, Agrees, HasLink}
+use Rattle.chain_laws.specs.Insertions.{IsGap}
 use Rattle.chain_laws.specs.Operations.{next_set, prev_set, linked}
-use Rattle.chain_laws.proofs.Standing.{link}
+use Rattle.chain_laws.proofs.Agreement.{if_same, if_other}
+use Rattle.chain_laws.proofs.Standing.{link, next_valid, prev_valid}
 use Rattle.chain_laws.proofs.InsertionWrites.{with_link, inserted_by_writes, ringed_by_writes}
 use Rattle.chain_links.specs.declared.links.LinkBody.{LinkBody}
 use Rattle.chain_links.specs.Links.{seen_link, seen_links}
@@ -93,3 +96,46 @@ module _ {Gen K T I : Type 0} (packed : K → Option ℕ) (number : I → ℕ) (
 
   pub placed_in_room : b ≡ insert_next a link → d ≡ in_gap
   placed_in_room is = tied_next ∙ (ap (λ (x : Arena Gen (LinkBody K T)). tied_at_next (seen_links packed x)) is ∙ named_next)
+
+-- what stands after the insertion of a link
+module _ {Gen T : Type 0} (a : Arena Gen (LinkSeen T)) (free : AreFree a.slots a.freed) (l : LinkSeen T) where
+  abbrev entry_after : ℕ → Option (Gen × LinkSeen T)
+  entry_after i = if i == next_index a then Some (a.counter, l) else entry_at a i
+
+  shows_after : (i : ℕ) → shown (insert_next a l) i ≡ option_map interlinks_of (entry_after i)
+  shows_after i = ap (option_map interlinks_of) (slot_at-filled a.freed a.slots (a.counter, l) i free)
+
+  new_stands : (i : ℕ) → i ≡ next_index a → HasLink (shown (insert_next a l)) i
+  new_stands i same = record { link = interlinks_of (a.counter, l); shows = shows_after i ∙ ap (option_map interlinks_of) (if_same i (next_index a) _ _ same) }
+
+  old_stands : (i : ℕ) → HasLink (shown a) i → HasLink (shown (insert_next a l)) i
+  old_stands i has = ⊎_elim (new_stands i) (λ other. record { link = has.link; shows = shows_after i ∙ (ap (option_map interlinks_of) (if_other i (next_index a) _ _ other) ∙ has.shows) }) (cases_eq i (next_index a))
+
+  -- the links of a gap stand
+  gap_stands : (u v : Option ℕ) → Agrees (shown a) → IsGap (shown a) (next_index a) u v → IfSome u (HasLink (shown (insert_next a l))) × IfSome v (HasLink (shown (insert_next a l)))
+  gap_stands None None agrees gap = (tt, tt)
+  gap_stands (Some i) None agrees gap = (old_stands i gap.0, tt)
+  gap_stands None (Some j) agrees gap = (tt, old_stands j gap.0)
+  gap_stands (Some i) (Some j) agrees (inl pair) = (old_stands i (next_valid (shown a) i j pair), old_stands j (prev_valid (shown a) j i ((agrees.both i j).0 pair)))
+  gap_stands (Some i) (Some j) agrees (inr (inl apart)) = (old_stands i apart.valid_end, old_stands j apart.valid_start)
+  gap_stands (Some i) (Some j) agrees (inr (inr new)) = (new_stands i new.0, new_stands j new.1)
+
+-- the links of a gap stand in the arena that holds the links, when the new one is there
+module _ {Gen K T I : Type 0} (packed : K → Option ℕ) (number : I → ℕ) (a b : Arena Gen (LinkBody K T)) (gap : Gap I) (link : LinkBody K T) (listed : IsListed a) (agrees : Agrees (shown (seen_links packed a)))
+    (is_gap : IsGap (shown (seen_links packed a)) (next_index (seen_links packed a)) (before_in number gap (next_index (seen_links packed a))) (after_in number gap (next_index (seen_links packed a))))
+    (i : ℕ) (at : i ≡ next_index a) (is : b ≡ insert_next a link) where
+  abbrev StandsNow : Option ℕ → Type 0
+  StandsNow o = IfSome o (HasLink (shown (seen_links packed b)))
+
+  both_stand : StandsNow (before_in number gap (next_index (seen_links packed a))) × StandsNow (after_in number gap (next_index (seen_links packed a)))
+  both_stand =
+      let s = seen_links packed a in
+      subst (λ (x : Arena Gen (LinkSeen T)). IfSome (before_in number gap (next_index s)) (HasLink (shown x)) × IfSome (after_in number gap (next_index s)) (HasLink (shown x)))
+      (sym (ap (seen_links packed) is ∙ seen_links-insert_next packed a link))
+      (gap_stands s (listed-seen_links packed a listed).free (seen_link packed link) _ _ agrees is_gap)
+
+  pub before_stands : StandsNow (before_in number gap i)
+  before_stands = subst (λ (j : ℕ). StandsNow (before_in number gap j)) (sym (at ∙ sym (next_index-seen_links packed a))) both_stand.0
+
+  pub after_stands : StandsNow (after_in number gap i)
+  after_stands = subst (λ (j : ℕ). StandsNow (after_in number gap j)) (sym (at ∙ sym (next_index-seen_links packed a))) both_stand.1

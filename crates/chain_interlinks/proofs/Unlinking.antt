@@ -1,6 +1,7 @@
 -- What a removal and the other calls on entries do to the state of a chain arena.
-use Rattle.std.proofs.Common.{◌≡◌, ℕ, Bool, true, false, Option, None, Some, refl, ap, ap₂, sym, ◌∙◌, subst}
+use Rattle.std.proofs.Common.{◌≡◌, ℕ, Bool, true, false, Option, None, Some, refl, ap, ap₂, sym, ◌∙◌, subst, ⊎_elim}
 use Rattle.std.specs.Prelude.{◌==◌, if◌then◌else◌}
+use Rattle.std.proofs.lemmas.Bool.{cases_eq}
 use Rattle.std.specs.Option.{option_map}
 use mathlib.Core.Path.{fun_ext}
 use Rattle.arena_ptr.specs.Invalidation.{value_within, is_overflow_result, invalidation_result}
@@ -8,8 +9,9 @@ use Rattle.arena_ptr.specs.declared.invalidation.InvalidationResult.{Invalidatio
 use Rattle.arena_ptr.specs.declared.invalidation.InvalidationResult.TheVariants.{Success, GenerationOverflow, InvalidPtr}
 use Rattle.arena_base.proofs.Seeing.{value_within-made}
 use Rattle.chain_laws.specs.Chains.{Shown, Agrees, prev_of, next_of}
-use Rattle.chain_laws.specs.Operations.{linked}
+use Rattle.chain_laws.specs.Operations.{linked, with_next, with_prev}
 use Rattle.chain_laws.specs.Removals.{vacated, removed, Removes, RemovesPairs}
+use Rattle.chain_laws.proofs.Agreement.{if_same, if_other}
 use Rattle.chain_laws.proofs.RemovalPairs.{removed_agrees, removed_in_pairs}
 use Rattle.chain_laws.proofs.Removing.{removed_removes}
 use Rattle.arena_base.specs.Arena.{Arena, entry_at, remove_at, renewed_at}
@@ -20,11 +22,23 @@ use Rattle.arena_base.proofs.Seeing as seeing
 use Rattle.chain_links.proofs.Inserting.{map-if}
 use Rattle.chain_links.proofs.Mapping.{with_each-remove_at}
 use Rattle.chain_links.proofs.Seeing.{slot_at-changed}
-use Rattle.chain_interlinks.proofs.Relinking.{FitsLinks, FitsLinks-linked, shown-relinked, values_of-relinked}
+use Rattle.chain_interlinks.specs.Interlinks.{WereBeside}
+use Rattle.chain_interlinks.proofs.NamedLinks.{apart_named, next_named, prev_named}
+use Rattle.chain_interlinks.proofs.Relinking.{FitsLinks, FitsLinks-linked, relinked-own, shown-relinked, values_of-relinked}
 
 same_if : {X : Type 0} (b : Bool) (x y : X) → x ≡ y → (if b then x else y) ≡ y
 same_if true x y same = same
 same_if false x y same = refl
+
+-- what names itself where no link stands changes nothing
+linked_nowhere : (shown : Shown) (i : ℕ) → shown i ≡ None → linked shown (Some i) (Some i) ≡ shown
+linked_nowhere shown i none = fun_ext (λ j. ⊎_elim (at j) (λ other. if_other j i _ _ other ∙ if_other j i _ _ other) (cases_eq j i))
+  where
+    at : (j : ℕ) → j ≡ i → linked shown (Some i) (Some i) j ≡ shown j
+    at j same =
+        let nothing : shown j ≡ None = ap shown same ∙ none in
+        if_same j i _ _ same
+        ∙ (ap (option_map (with_prev (Some i))) (if_same j i _ _ same ∙ ap (option_map (with_next (Some i))) nothing) ∙ sym nothing)
 
 module _ {Gen T : Type 0} where
   -- a write of a value ..
@@ -93,6 +107,22 @@ module _ {Gen T : Type 0} where
       ∙ (ap (λ (x : Arena Gen (LinkSeen T)). relinked x (linked (shown x) u v)) taken
       ∙ (ap (λ (s : Shown). relinked (remove_at following a i) (linked s u v)) (shown-remove_at following a i)
       ∙ ap₂ (λ (s t : Option ℕ). relinked (remove_at following a i) (linked (vacated (shown a) i) s t)) before after))
+
+  -- the links that one stood between which is gone
+  pub were_beside : (following : Gen → Gen) (a out : Arena Gen (LinkSeen T)) (i : ℕ) (u v : Option ℕ) → out ≡ remove_at following a i → Agrees (shown a)
+      → u ≡ prev_of (shown a) i → v ≡ next_of (shown a) i → WereBeside (shown out) i u v
+  were_beside following a out i u v taken agrees before after =
+      let s = shown a in
+      rw (before, after, ap (λ (x : Arena Gen (LinkSeen T)). shown x) taken ∙ shown-remove_at following a i) record {
+        gone = if_same i i None (s i) refl;
+        before = λ apart. apart_named s i (prev_of s i) (prev_named s i agrees) apart;
+        after = λ apart. apart_named s i (next_of s i) (next_named s i agrees) (λ ring. apart ((agrees.both i i).0 ring));
+        ring = λ ring. (agrees.both i i).1 ring;
+      }
+
+  -- where one was alone in a ring nothing is written
+  pub ring_gone : (a : Arena Gen (LinkSeen T)) (i : ℕ) (u v : Option ℕ) → WereBeside (shown a) i u v → u ≡ Some i → a ≡ relinked a (linked (shown a) u v)
+  ring_gone a i u v were same = relinked-own a ∙ ap (relinked a) (sym (linked_nowhere (shown a) i were.gone) ∙ ap₂ (λ (x y : Option ℕ). linked (shown a) x y) (sym same) (sym (were.ring same)))
 
 -- what was taken out, in the answer of the removal and in another one with the same flag
 pub same_flag : {X Y : Type 0} (wraps flag : Bool) (x : X) (y : Y) (r : InvalidationResult X) (s : InvalidationResult Y) → value_within r ≡ Some x → r ≡ invalidation_result wraps (value_within r)

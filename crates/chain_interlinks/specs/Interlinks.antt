@@ -1,7 +1,7 @@
 -- Interlinks written in the state: what was written is shown, and nothing else has changed.
-use Rattle.std.specs.Prelude.{◌≡◌, ℕ, Option, None}
+use Rattle.std.specs.Prelude.{◌≡◌, ◌≢◌, ℕ, IfSome, Option, None, Some}
 use Rattle.std.specs.Option.{option_map}
-use Rattle.chain_laws.specs.Chains.{Shown, prev_of, next_of}
+use Rattle.chain_laws.specs.Chains.{Shown, HasLink, prev_of, next_of}
 use Rattle.chain_laws.specs.Operations.{next_set, prev_set, linked}
 use Rattle.arena_base.specs.Arena.{Arena, IsValid}
 use Rattle.chain_links.specs.ChainArena.{LinkSeen, shown, relinked}
@@ -37,3 +37,10 @@ module _ {Gen T : Type 0} (entry : ℕ → Option (Gen × T)) (interlinks : Show
   pub record IsValidStart : Type 0 where
     pub valid : IsValid entry p
     pub start : prev_of interlinks p.0 ≡ None
+
+-- u and v stand, which one was between that has gone from i, or both were that one
+pub record WereBeside (shown : Shown) (i : ℕ) (u v : Option ℕ) : Type 0 where
+  pub gone : shown i ≡ None
+  pub before : u ≢ Some i → IfSome u (HasLink shown)
+  pub after : u ≢ Some i → IfSome v (HasLink shown)
+  pub ring : u ≡ Some i → v ≡ Some i

@@ -2,12 +2,13 @@ ghost use Rattle.std.specs.Prelude.{◌≡◌, Some, IfSome, IfNone};
 ghost use Rattle.std.specs.Option.{option_map};
 ghost use Rattle.std.specs.Iterator.{YieldsFirstBy, item_count};
 ghost use Rattle.arena_base.specs.Arena.{entry_at, IsValid};
-ghost use Rattle.chain_links.specs.ChainArena.{entry};
+ghost use Rattle.chain_links.specs.ChainArena.{entry, shown};
 ghost use Rattle.chain_links.specs.Links.{seen_links};
 ghost use Rattle.chain_links.specs.Walkers.{links_ahead, seen_item, index_and_entry};
-ghost use Rattle.chain_interlinks.specs.Steps.{Passes, PassesNothing};
+ghost use Rattle.chain_interlinks.specs.Steps.{IsOnLinks, Passes, PassesNothing};
 
-use arena_base::{Arena, ArenaSlot, ArenaTrait};
+use crate::gaps::is_index;
+use arena_base::{Arena, ArenaSlot, ArenaTrait, assert_unchecked};
 use arena_ptr::{PtrKey, SlotStack};
 use chain_links::LinkNoGen;
 use chain_links::walks::going;
@@ -32,14 +33,18 @@ impl<'a, P: PtrKey, T: Drop, S: SlotStack<Item = ArenaSlot<P, LinkNoGen<P, T>>>>
     for ChainIter<'a, P, T, S> {
     ghost use Rattle.std.specs.Prelude.{ℕ, List};
     ghost use Rattle.std.specs.Option.{option_map};
-    ghost use Rattle.chain_links.specs.ChainArena.{LinkSeen};
+    ghost use Rattle.chain_links.specs.ChainArena.{LinkSeen, shown};
 
     ghost Value = { List (ℕ × (P.Gen × LinkSeen T)) };
 
     ghost use Rattle.chain_links.specs.Links.{seen_links};
     ghost use Rattle.chain_links.specs.Walkers.{links_ahead};
+    ghost use Rattle.chain_interlinks.specs.Steps.{IsOnLinks};
 
     ghost view = { λ it. links_ahead (seen_links P.Inx.packed_number it.arena.now) it.left (P.Inx.number it.start)
+        (option_map P.Inx.number it.forth) (option_map P.Inx.number it.back) };
+
+    ghost invariant = { λ it. IsOnLinks (shown (seen_links P.Inx.packed_number it.arena.now))
         (option_map P.Inx.number it.forth) (option_map P.Inx.number it.back) };
 }
 
@@ -56,6 +61,7 @@ impl<'a, P: PtrKey, T: Drop, S: SlotStack<Item = ArenaSlot<P, LinkNoGen<P, T>>>>
         back: Option<P::Inx>,
         left: usize,
     ) -> Self
+        requires { IsOnLinks (shown (seen_links P.Inx.packed_number arena.now)) (Some (P.Inx.number start)) (option_map P.Inx.number back) }
         ensures { result ≡ links_ahead (seen_links P.Inx.packed_number arena.now) left (P.Inx.number start)
             (Some (P.Inx.number start)) (option_map P.Inx.number back) }
     {
@@ -83,21 +89,31 @@ impl<'a, P: PtrKey, T: Drop, S: SlotStack<Item = ArenaSlot<P, LinkNoGen<P, T>>>>
         }
         match self.forth {
             Some(i) => match look(self.arena, i) {
-                Some((p, link)) => {
+                Some(item) => {
                     self.left -= 1;
-                    (self.forth, self.back) = going(self.start, link.next(), self.back);
-                    Some((p, link))
+                    self.forth = item.1.next();
+                    // It has come round.
+                    if is_index(self.forth, self.start) {
+                        self.left = 0;
+                    }
+                    Some(item)
                 }
-                None => None,
+                None => {
+                    assert_unchecked(false);
+                    unreachable!()
+                }
             },
             None => match self.back {
                 Some(i) => match look(self.arena, i) {
-                    Some((p, link)) => {
+                    Some(item) => {
                         self.left -= 1;
-                        self.back = link.prev();
-                        Some((p, link))
+                        self.back = item.1.prev();
+                        Some(item)
                     }
-                    None => None,
+                    None => {
+                        assert_unchecked(false);
+                        unreachable!()
+                    }
                 },
                 None => None,
             },

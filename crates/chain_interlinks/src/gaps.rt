@@ -173,7 +173,8 @@ fn bridging<P: PtrKey, T: Drop, S: SlotStack<Item = ArenaSlot<P, LinkNoGen<P, T>
     }
 }
 
-/// The gap of a kind. `None`: what the kind asks is not met.
+/// The gap of a kind. `None`: what the kind asks is not met. Inlined, a kind that is known leaves its own arm alone.
+#[inline(always)]
 pub fn gap_of<P: PtrKey, T: Drop, S: SlotStack<Item = ArenaSlot<P, LinkNoGen<P, T>>>>(
     arena: &Arena<P, LinkNoGen<P, T>, S>,
     kind: NamedKind<Name<P, P::Inx>>,

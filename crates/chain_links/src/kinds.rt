@@ -123,6 +123,7 @@ pub fn index_of<P: PtrKey>(name: Name<P, P::Inx>) -> P::Inx
 }
 
 /// The kind by names.
+#[inline(always)]
 pub fn by_names<P: PtrKey>(kind: LinkInsertKind<P>) -> NamedKind<Name<P, P::Inx>>
     ensures { named_in P.key P.Inx.number result ≡ names_in P.key P.Inx.number kind }
 {

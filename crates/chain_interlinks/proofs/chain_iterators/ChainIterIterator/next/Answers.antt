@@ -1,0 +1,68 @@
+-- The walker passes the link that it is at, and comes to one that stands, or has come round.
+use Rattle.std.proofs.Common.{of_calls, ◌≡◌, ℕ, ◌∷◌, Some, ap, sym, ◌∙◌}
+use Rattle.std.specs.Prelude.{◌-◌}
+use Rattle.std.specs.Option.{option_map}
+use Rattle.std.proofs.lemmas.Bool.{false≢true}
+use Rattle.arena_base.specs.Arena.{entry_at}
+use Rattle.chain_laws.proofs.Agreement.{one_some}
+use Rattle.chain_links.specs.ChainArena.{LinkSeen}
+use Rattle.chain_links.specs.Links.{seen_link, seen_links}
+use Rattle.chain_links.specs.Walkers.{index_and_entry, links_ahead}
+use Rattle.chain_interlinks.proofs.Advancing.{behind_stands, looked_some, onward_stands, passes_last, passes_on}
+use Rattle.chain_interlinks.proofs.chain_iterators.ChainIterIterator.next.Goals.{then-is_index, else-is_index}
+use Rattle.chain_interlinks.proofs.chain_iterators.ChainIterIterator.next.Goals as goal
+
+pub invariant_of-self : goal.invariant_of-self
+invariant_of-self g c =
+    let number = g.P.Inx.InxKey.number in
+    let packed = g.P.Inx.InxKey.packed_number in
+    let i = number c.in-Some.i in
+    let link = c.in-Some-look.item.1.now in
+    let named : option_map number c.next-self-inside.result ≡ packed link.next = search of_calls in
+    rw named (onward_stands (seen_links packed c.self.inside.arena.now) i (option_map number c.self.inside.back) ((g.P.PtrKey.key c.in-Some-look.item.0).1, seen_link packed link)
+    (looked_some i _ _ _ c.in-Some-look.ensures.link) c.self.invariant.agrees c.self.invariant.behind)
+
+pub invariant_of-self-else-is_index : goal.invariant_of-self-else-is_index
+invariant_of-self-else-is_index g c =
+    let number = g.P.Inx.InxKey.number in
+    let packed = g.P.Inx.InxKey.packed_number in
+    let i = number c.in-Some.i in
+    let link = c.in-Some-look.item.1.now in
+    let named : option_map number c.next-self-inside.result ≡ packed link.next = search of_calls in
+    rw named (onward_stands (seen_links packed c.self.inside.arena.now) i (option_map number c.self.inside.back) ((g.P.PtrKey.key c.in-Some-look.item.0).1, seen_link packed link)
+    (looked_some i _ _ _ c.in-Some-look.ensures.link) c.self.invariant.agrees c.self.invariant.behind)
+
+pub invariant_of-self-in-Some-look-2 : goal.invariant_of-self-in-Some-look-2
+invariant_of-self-in-Some-look-2 g c =
+    let number = g.P.Inx.InxKey.number in
+    let packed = g.P.Inx.InxKey.packed_number in
+    let a = seen_links packed c.self.inside.arena.now in
+    let i = number c.in-Some-back.i in
+    let link = c.in-Some-look-2.item.1.now in
+    let named : option_map number c.prev-self-inside.result ≡ packed link.prev = search of_calls in
+    rw (c.in-None.is, named)
+    (behind_stands a i ((g.P.PtrKey.key c.in-Some-look-2.item.0).1, seen_link packed link)
+    (looked_some i _ _ _ c.in-Some-look-2.ensures.link) c.self.invariant.agrees)
+
+pub returns-after-is_index-clause-steps : goal.returns-after-is_index-clause-steps
+returns-after-is_index-clause-steps g c =
+    let number = g.P.Inx.InxKey.number in
+    let packed = g.P.Inx.InxKey.packed_number in
+    let a = seen_links packed c.self.inside.arena.now in
+    let start = number c.self.inside.start in
+    let back = option_map number c.self.inside.back in
+    let left = c.self.inside.left in
+    let i = number c.in-Some.i in
+    let link = c.in-Some-look.item.1.now in
+    let next = option_map number c.next-self-inside.result in
+    let e : g.row.P-Gen.Denot × LinkSeen g.row.T.Denot = ((g.P.PtrKey.key c.in-Some-look.item.0).1, seen_link packed link) in
+    let named : next ≡ packed link.next = search of_calls in
+    let stands : entry_at a i ≡ Some e = looked_some i _ _ _ c.in-Some-look.ensures.link in
+    let item : (let x : ℕ × (g.row.P-Gen.Denot × LinkSeen g.row.T.Denot) = ((g.P.PtrKey.key c.in-Some-look.item.0).0, e) in x) ≡ (i, e) =
+    one_some (c.in-Some-look.ensures.link ∙ ap (option_map (index_and_entry i)) stands) in
+    sym c.self.view_is ∙ rw c.in-Some.is (elim c.if-is_index.branch [
+      | then-is_index w ↦
+          rw w.self-is (passes_last a start i back e stands left next c.if-self-eq0.false named (c.is_index.ensures.0 w.if-is_index.true) ∙ ap (λ x. x ∷ links_ahead a 0 start next back) (sym item))
+      | else-is_index w ↦
+          rw w.self-is (passes_on a start i back e stands left next c.if-self-eq0.false named (λ same. false≢true (sym w.if-is_index.false ∙ c.is_index.ensures.1 same)) ∙ ap (λ x. x ∷ links_ahead a (left - 1) start next back) (sym item))
+    ])
