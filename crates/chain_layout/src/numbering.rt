@@ -9,7 +9,7 @@ ghost use Rattle.chain_layout.specs.Numbering.{HasChainFrom, number_after, given
 
 use crate::looking::{look_at, tie_at};
 use crate::visiting::Visitor;
-use arena_base::{ArenaSlot, Compactor, SlotAccess, inx_at};
+use arena_base::{ArenaSlot, Compactor, SlotAccess, assert_unchecked, inx_at};
 use arena_ptr::{InxKey, PtrKey, SlotStack};
 use chain_links::LinkNoGen;
 use chain_links::walks::going_on;
@@ -43,6 +43,7 @@ fn start_at<P: PtrKey, T: Drop, S: SlotStack<Item = ArenaSlot<P, LinkNoGen<P, T>
             None => return at,
         }
     }
+    assert_unchecked(false);
     unreachable!()
 }
 
@@ -127,7 +128,10 @@ fn number_chain<
         prev = Some(destination);
         match was {
             Some(was) => visitor.visit(P::_from_raw(i, was), P::_from_raw(destination, generation)),
-            None => unreachable!(),
+            None => {
+                assert_unchecked(false);
+                unreachable!()
+            }
         }
     }
     close_ring(compactor, start, named, prev);

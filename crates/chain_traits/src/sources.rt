@@ -11,7 +11,7 @@ ghost use Rattle.arena_base.specs.declared.look.Look.{Look};
 ghost use Rattle.chain_traits.specs.Sources.{IsNextChain};
 
 use crate::chain_traits::ChainArenaTrait;
-use arena_base::{Advancer, invalidated};
+use arena_base::{Advancer, assert_unchecked, invalidated};
 use arena_ptr::{InvalidationOption, InxKey, PtrKey};
 use chain_links::walks::going_on;
 
@@ -44,6 +44,7 @@ fn start_of<Q: PtrKey, U: Drop, A: ChainArenaTrait<Q, U>>(source: &A, i: Q::Inx)
             None => return at,
         }
     }
+    assert_unchecked(false);
     unreachable!()
 }
 
@@ -63,7 +64,10 @@ fn next_chain<Q: PtrKey, U: Drop, A: ChainArenaTrait<Q, U>>(
             let start = start_of(source, q.inx());
             (start, before(source, start).is_some())
         }
-        None => unreachable!(),
+        None => {
+            assert_unchecked(false);
+            unreachable!()
+        }
     }
 }
 
@@ -151,6 +155,9 @@ fn take_link<Q: PtrKey, U: Drop, A: ChainArenaTrait<Q, U>>(
                 next,
             )
         }
-        None => unreachable!(),
+        None => {
+            assert_unchecked(false);
+            unreachable!()
+        }
     }
 }

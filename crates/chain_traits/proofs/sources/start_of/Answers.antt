@@ -38,10 +38,10 @@ loop-step-preserved g c =
           (next_valid links (number c.in-Some.k) (number c.loop-step.at) ((c.requires.agree.both (number c.in-Some.k) (number c.loop-step.at)).1 before));
     }
 
-pub unreachable-requires : goal.unreachable-requires
-unreachable-requires g c =
+pub assert_unchecked-requires : goal.assert_unchecked-requires
+assert_unchecked-requires g c = absurd (
     let number = g.Q.Inx.InxKey.number in
     let source = c.args.source.now in
     let few = few_back (g.A.ChainArenaTrait.interlinks source) (g.A.ArenaTrait.entry source) (g.A.ArenaTrait.seen source).entries (g.met.A.ChainArenaTrait.stand source) (g.met.A.ArenaTrait.looked_up source)
     g.Q.Inx.InxKey.greatest c.len-step-end.ensures.indexes (number c.args.i) c.loop-step.step (number c.loop-step.at) c.requires.agree c.requires.some c.loop-step.invariant.back in
-    omega (arith, few, c.len-step-end.ensures.count)
+    omega (arith, few, c.len-step-end.ensures.count))
