@@ -72,6 +72,7 @@ impl<P: PtrKey, T: Drop, S: SlotStack<Item = ArenaSlot<P, LinkNoGen<P, T>>>> Cha
     }
 
     // The gap of a kind. `None`: what the kind asks is not met.
+    #[inline(always)]
     pub(crate) fn gap_for(&self, kind: LinkInsertKind<P>) -> Option<Gap<P::Inx>>
         ensures gap { IsGapOf P.Inx.number (entry self.now) (shown self.now) (names_in P.key P.Inx.number kind) result }
         ensures agree { Agrees (shown self.now) }

@@ -67,6 +67,8 @@ impl<P: PtrKey, T: Drop, S: SlotStack<Item = ArenaSlot<P, LinkNoGen<P, T>>>> Cha
         self.gap_for(kind).is_some()
     }
 
+    // Inlined, an insertion whose kind is known where it is called has the arm of that kind alone; so the next two, too.
+    #[inline(always)]
     fn insert_within_capacity(
         &mut self,
         kind: LinkInsertKind<P>,
@@ -87,6 +89,7 @@ impl<P: PtrKey, T: Drop, S: SlotStack<Item = ArenaSlot<P, LinkNoGen<P, T>>>> Cha
         self.insert_at(asked, t)
     }
 
+    #[inline(always)]
     fn insert_reallocating(
         &mut self,
         kind: LinkInsertKind<P>,
@@ -111,6 +114,7 @@ impl<P: PtrKey, T: Drop, S: SlotStack<Item = ArenaSlot<P, LinkNoGen<P, T>>>> Cha
         self.insert_at(asked, t)
     }
 
+    #[inline(always)]
     fn insert(&mut self, kind: LinkInsertKind<P>, t: T) -> Result<P, ReallocationError>
         requires { MayInsert (entry self.old) (interlinks self.old) (names_in P.key P.Inx.number kind) }
         ensures inserted { IfOk result (λ p. GainsLink seen entry interlinks (names_in P.key P.Inx.number kind) t self.old (P.key p) self.new) }

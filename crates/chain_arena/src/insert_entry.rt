@@ -12,7 +12,7 @@ ghost use Rattle.chain_arena.specs.Effects.{kind_of, May};
 ghost use Rattle.chain_arena.specs.Places.{ComesBetween, RefusesOneMore};
 
 use crate::chain_arena::ChainArena;
-use arena_base::{ArenaSlot, ArenaTrait};
+use arena_base::{ArenaSlot, ArenaTrait, assert_unchecked};
 use arena_ptr::{ChainInsertionError, HeapStack, InxKey, PtrKey, ReallocationError, SlotStack};
 use chain_interlinks::gaps::Gap;
 use chain_interlinks::placing::around;
@@ -48,7 +48,10 @@ pub(crate) fn number_or_zero<I: InxKey>(i: Option<I>) -> usize
     match i {
         Some(i) => match i.try_into_usize() {
             Some(n) => n,
-            None => unreachable!(),
+            None => {
+                assert_unchecked(false);
+                unreachable!()
+            }
         },
         None => 0,
     }
@@ -148,7 +151,10 @@ impl<P: PtrKey, T: Drop, S: SlotStack<Item = ArenaSlot<P, LinkNoGen<P, T>>>> Cha
                 Ok(()) => Ok(self.entry_in(gap)),
                 Err(why) => Err(why),
             },
-            None => unreachable!(),
+            None => {
+                assert_unchecked(false);
+                unreachable!()
+            }
         }
     }
 
@@ -196,7 +202,10 @@ impl<
     {
         match P::Inx::try_from_usize(self.inx) {
             Some(i) => P::_from_raw(i, self.arena.generation()),
-            None => unreachable!(),
+            None => {
+                assert_unchecked(false);
+                unreachable!()
+            }
         }
     }
 

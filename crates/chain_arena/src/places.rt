@@ -9,7 +9,7 @@ ghost use Rattle.chain_interlinks.specs.Gaps.{before_in, after_in};
 ghost use Rattle.chain_arena.specs.Places.{GrowsByOne, gap_unless_refused, refusal_of, PlacesGrowing, PlacesWithin, IsInsertedIn, InsertsAt};
 
 use crate::chain_arena::ChainArena;
-use arena_base::{ArenaSlot, ArenaTrait};
+use arena_base::{ArenaSlot, ArenaTrait, assert_unchecked};
 use arena_ptr::{ChainInsertionError, PtrKey, ReallocationError, SlotStack};
 use chain_interlinks::gaps::Gap;
 use chain_interlinks::placing::{link_in, tie};
@@ -28,7 +28,8 @@ impl<P: PtrKey, T: Drop, S: SlotStack<Item = ArenaSlot<P, LinkNoGen<P, T>>>> Cha
         grown
     }
 
-    // The gap of a kind, within the capacity.
+    // The gap of a kind, within the capacity. Inlined, as the insertions are.
+    #[inline(always)]
     pub(crate) fn gap_within(
         &self,
         kind: LinkInsertKind<P>,
@@ -47,7 +48,8 @@ impl<P: PtrKey, T: Drop, S: SlotStack<Item = ArenaSlot<P, LinkNoGen<P, T>>>> Cha
         }
     }
 
-    // The gap of a kind. A full arena grows first.
+    // The gap of a kind. A full arena grows first. Inlined, as the insertions are.
+    #[inline(always)]
     pub(crate) fn gap_growing(
         &mut self,
         kind: LinkInsertKind<P>,
@@ -74,7 +76,10 @@ impl<P: PtrKey, T: Drop, S: SlotStack<Item = ArenaSlot<P, LinkNoGen<P, T>>>> Cha
                 tie(&mut self.arena, gap, p);
                 p
             }
-            Err(_) => unreachable!(),
+            Err(_) => {
+                assert_unchecked(false);
+                unreachable!()
+            }
         }
     }
 

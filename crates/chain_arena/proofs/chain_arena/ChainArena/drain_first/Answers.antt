@@ -10,8 +10,8 @@ use Rattle.chain_arena.proofs.Taking.{value_alone_told, seen_at, removal_at}
 use Rattle.chain_arena.proofs.LinkDraining.{drained_has, drained_first, first_valid, overflow_told, IsBehind, is_behind}
 use Rattle.chain_arena.proofs.chain_arena.ChainArena.drain_first.Goals as goal
 
-pub unreachable-requires : goal.unreachable-requires
-unreachable-requires g c =
+pub assert_unchecked-requires : goal.assert_unchecked-requires
+assert_unchecked-requires g c = absurd (
     let packed = g.P.Inx.InxKey.packed_number in
     let following = g.P.Gen.GenKey.following in
     let a = c.args.self.now in
@@ -19,7 +19,7 @@ unreachable-requires g c =
     let v = value_within c.unlink.result in
     drained_has g.P.PtrKey.key following g.P.Gen.GenKey.wraps a b c.args.at 0 c.in-Some.p c.in-Some.ensures (option_map (λ e. e.1.t) v)
     (value_alone_told packed following a b _ v c.unlink.ensures.answer ∙ ap (λ (n : ℕ). option_map (λ e. e.1) (entry_at (values_of a) n)) c.inx.ensures)
-    (ap (option_map (λ e. e.1.t)) (sym (ap (λ x. x.0) c.overflowing-entry.ensures) ∙ c.in-None-entry.is))
+    (ap (option_map (λ e. e.1.t)) (sym (ap (λ x. x.0) c.overflowing-entry.ensures) ∙ c.in-None-entry.is)))
 
 pub returns-in-Some-entry-clause-some : goal.returns-in-Some-entry-clause-some
 returns-in-Some-entry-clause-some g c =

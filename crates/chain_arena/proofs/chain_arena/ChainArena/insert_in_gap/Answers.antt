@@ -1,14 +1,14 @@
 -- The link comes into the gap, and the interlinks still agree.
-use Rattle.std.proofs.Common.{◌≡◌, sym, ap, subst}
+use Rattle.std.proofs.Common.{◌≡◌, ◌<◌, refl, sym, ap, subst, arith}
 use Rattle.chain_laws.specs.Chains.{Agrees}
 use Rattle.chain_laws.specs.Insertions.{IsGap}
 use Rattle.chain_laws.proofs.InsertionPairs.{gap_between}
-use Rattle.arena_base.specs.Arena.{next_index}
+use Rattle.arena_base.specs.Arena.{entry_count, next_index}
 use Rattle.chain_links.specs.Links.{seen_links}
 use Rattle.chain_interlinks.specs.Gaps.{before_in, after_in}
 use Rattle.chain_links.specs.ChainArena.{shown, insert_between}
-use Rattle.chain_links.proofs.Inserting.{listed-seen_links, shown-next}
-use Rattle.chain_interlinks.proofs.Putting.{placed_in_room}
+use Rattle.chain_links.proofs.Inserting.{entry_count-seen_links, listed-seen_links, shown-next}
+use Rattle.chain_interlinks.proofs.Putting.{placed_in_room, before_stands, after_stands}
 use Rattle.chain_arena.proofs.Placing.{next_seen}
 use Rattle.chain_arena.proofs.Telling.{agrees-insert_between}
 use Rattle.chain_arena.proofs.chain_arena.ChainArena.insert_in_gap.Given.{Over}
@@ -32,6 +32,26 @@ inserted g c =
     placed_in_room packed number a c.insert_within_capacity.new.self (seen_links packed c.tie.new.arena) c.args.gap c.args.t c.link_in.result c.freed_are_free.ensures c.link_in.ensures
     (gap_between (shown s) q (before_in number c.args.gap q) (after_in number c.args.gap q) c.self.invariant (shown-next s (listed-seen_links packed a c.freed_are_free.ensures).free) (gap g c)).forth.itself
     (g.P.PtrKey.key c.in-Ok.p).0 (ap (λ p. p.0) {y = (next_index a, a.counter)} c.in-Ok.ensures.ptr) c.tie.ensures c.in-Ok.ensures.ok
+
+pub assert_unchecked-requires : goal.assert_unchecked-requires
+assert_unchecked-requires g c =
+    let packed = g.P.Inx.InxKey.packed_number in
+    let a = c.self.inside.arena in
+    let room : entry_count (seen_links packed a) < a.capacity = rw (← c.self.view_is) at c.requires.room in
+    let full : entry_count a ≡ a.capacity = c.in-Err.ensures.refused.0 refl in
+    absurd (omega (arith, room, full, entry_count-seen_links packed a))
+
+pub tie-requires : goal.tie-requires
+tie-requires g c =
+    let packed = g.P.Inx.InxKey.packed_number in
+    let a = c.self.inside.arena in
+    let b = c.insert_within_capacity.new.self in
+    let in_links = rw (← c.self.view_is) at c.requires.gap in
+    let at = ap (λ p. p.0) {y = (next_index a, a.counter)} c.in-Ok.ensures.ptr in
+    record {
+      before = before_stands packed g.P.Inx.InxKey.number a b c.args.gap c.link_in.result c.freed_are_free.ensures c.self.invariant in_links (g.P.PtrKey.key c.in-Ok.p).0 at c.in-Ok.ensures.ok;
+      after = after_stands packed g.P.Inx.InxKey.number a b c.args.gap c.link_in.result c.freed_are_free.ensures c.self.invariant in_links (g.P.PtrKey.key c.in-Ok.p).0 at c.in-Ok.ensures.ok;
+    }
 
 pub invariant_of-self : goal.invariant_of-self
 invariant_of-self g c =

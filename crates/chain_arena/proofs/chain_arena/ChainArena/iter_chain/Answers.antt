@@ -1,11 +1,27 @@
 -- The walker passes the walk from the pointer's link.
-use Rattle.std.proofs.Common.{refl, sym, ◌∙◌}
+use Rattle.std.proofs.Common.{Option, ℕ, refl, sym, ◌∙◌, subst}
+use Rattle.std.specs.Prelude.{IfSome}
+use Rattle.chain_laws.specs.Chains.{HasLink}
 use Rattle.chain_links.specs.Links.{seen_links}
-use Rattle.chain_links.specs.ChainArena.{IsWalkOf}
+use Rattle.chain_links.specs.ChainArena.{IsWalkOf, shown}
 use Rattle.chain_links.proofs.Inserting.{entry_count-seen_links}
 use Rattle.chain_arena.proofs.Iterating.{walker-walk, length-walk}
 use Rattle.chain_interlinks.proofs.Connecting.{prev_of-seen, same_valid, valid_at}
+use Rattle.chain_interlinks.proofs.NamedLinks.{prev_named}
 use Rattle.chain_arena.proofs.chain_arena.ChainArena.iter_chain.Goals as goal
+
+pub new-requires : goal.new-requires
+new-requires g c =
+    let number = g.P.Inx.InxKey.packed_number in
+    let a = c.self.inside.arena in
+    let s = shown (seen_links number a) in
+    let p = g.P.PtrKey.key c.args.p in
+    let at = c.in-Some.ensures.value in
+    record {
+      agrees = c.self.invariant;
+      onward = subst (HasLink s) (sym c.inx.ensures) (valid_at number a p c.in-Some.link.now at);
+      behind = subst (λ (o : Option ℕ). IfSome o (HasLink s)) (prev_of-seen number a p c.in-Some.link.now at ∙ sym c.prev.ensures) (prev_named s p.0 c.self.invariant);
+    }
 
 pub returns-in-Some : goal.returns-in-Some
 returns-in-Some g c =

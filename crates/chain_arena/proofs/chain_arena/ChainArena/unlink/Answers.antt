@@ -4,6 +4,9 @@ use Rattle.chain_links.specs.Links.{seen_links}
 use Rattle.chain_arena.proofs.Taking.{agreed_after, removal_of}
 use Rattle.chain_arena.proofs.chain_arena.ChainArena.unlink.Goals as goal
 
+pub take_out-requires : goal.take_out-requires
+take_out-requires g c = c.self.invariant
+
 pub invariant_of-self : goal.invariant_of-self
 invariant_of-self g c =
     let packed = g.P.Inx.InxKey.packed_number in

@@ -1,10 +1,11 @@
 -- Two writes cut the links apart, and the laws of cuts say the rest.
-use Rattle.std.proofs.Common.{◌≡◌, ℕ, Some, refl, ap, sym, ◌∙◌}
+use Rattle.std.proofs.Common.{◌≡◌, ℕ, Some, refl, ap, sym, ◌∙◌, subst}
 use Rattle.std.specs.Prelude.{is_some}
 use Rattle.std.proofs.lemmas.Bool.{false≢true}
-use Rattle.chain_laws.specs.Chains.{next_of}
+use Rattle.chain_laws.specs.Chains.{HasLink, next_of}
 use Rattle.chain_laws.specs.Cuts.{cut}
 use Rattle.chain_laws.specs.Neighbors.{AreNeighbors}
+use Rattle.chain_laws.proofs.Standing.{next_valid, prev_valid}
 use Rattle.arena_base.specs.Arena.{Arena}
 use Rattle.arena_base.specs.Entries.{seen_of}
 use Rattle.chain_links.specs.Links.{seen_links}
@@ -31,6 +32,19 @@ pair g c = told g c
 -- what is written is the cut
 is_cut : (g : Over) (c : After-link_twice g) → cut_links g c ≡ relinked (links g c) (cut (shown (links g c)) (g.P.PtrKey.key c.args.p).0 (g.P.Inx.InxKey.number c.in-Some.after))
 is_cut g c = c.link_twice.ensures ∙ ap (λ (i : ℕ). relinked (links g c) (cut (shown (links g c)) i (g.P.Inx.InxKey.number c.in-Some.after))) c.inx.ensures
+
+pub link_twice-requires : goal.link_twice-requires
+link_twice-requires g c =
+    let s = shown (seen_links g.P.Inx.InxKey.packed_number c.self.inside.arena) in
+    let p = (g.P.PtrKey.key c.args.p).0 in
+    let after = g.P.Inx.InxKey.number c.in-Some.after in
+    let at : next_of s p ≡ Some after = sym (c.in-Some.ensures.named (c.in-Some.ensures.some refl)) in
+    record {
+      first_prev = subst (HasLink s) (sym c.inx.ensures) (next_valid s p after at);
+      first_next = tt;
+      second_prev = tt;
+      second_next = prev_valid s after p ((c.self.invariant.both p after).0 at);
+    }
 
 pub invariant_of-self : goal.invariant_of-self
 invariant_of-self g c = agrees_cut (links g c) (cut_links g c) _ _ (is_cut g c) c.self.invariant (pair g c)

@@ -1,10 +1,11 @@
 -- Two writes cut the links apart, and the laws of cuts say the rest.
-use Rattle.std.proofs.Common.{◌≡◌, ℕ, Some, refl, ap, sym, ◌∙◌}
+use Rattle.std.proofs.Common.{◌≡◌, ℕ, Some, refl, ap, sym, ◌∙◌, subst}
 use Rattle.std.specs.Prelude.{is_some}
 use Rattle.std.proofs.lemmas.Bool.{false≢true}
-use Rattle.chain_laws.specs.Chains.{prev_of}
+use Rattle.chain_laws.specs.Chains.{HasLink, prev_of}
 use Rattle.chain_laws.specs.Cuts.{cut}
 use Rattle.chain_laws.specs.Neighbors.{AreNeighbors}
+use Rattle.chain_laws.proofs.Standing.{next_valid, prev_valid}
 use Rattle.arena_base.specs.Arena.{Arena}
 use Rattle.arena_base.specs.Entries.{seen_of}
 use Rattle.chain_links.specs.Links.{seen_links}
@@ -31,6 +32,19 @@ pair g c = (c.self.invariant.both (g.P.Inx.InxKey.number c.in-Some.before) (g.P.
 -- what is written is the cut
 is_cut : (g : Over) (c : After-link_twice g) → cut_links g c ≡ relinked (links g c) (cut (shown (links g c)) (g.P.Inx.InxKey.number c.in-Some.before) (g.P.PtrKey.key c.args.p).0)
 is_cut g c = c.link_twice.ensures ∙ ap (λ (i : ℕ). relinked (links g c) (cut (shown (links g c)) (g.P.Inx.InxKey.number c.in-Some.before) i)) c.inx.ensures
+
+pub link_twice-requires : goal.link_twice-requires
+link_twice-requires g c =
+    let s = shown (seen_links g.P.Inx.InxKey.packed_number c.self.inside.arena) in
+    let p = (g.P.PtrKey.key c.args.p).0 in
+    let before = g.P.Inx.InxKey.number c.in-Some.before in
+    let at : prev_of s p ≡ Some before = sym (c.in-Some.ensures.named (c.in-Some.ensures.some refl)) in
+    record {
+      first_prev = next_valid s before p ((c.self.invariant.both before p).1 at);
+      first_next = tt;
+      second_prev = tt;
+      second_next = subst (HasLink s) (sym c.inx.ensures) (prev_valid s p before at);
+    }
 
 pub invariant_of-self : goal.invariant_of-self
 invariant_of-self g c = agrees_cut (links g c) (cut_links g c) _ _ (is_cut g c) c.self.invariant (pair g c)

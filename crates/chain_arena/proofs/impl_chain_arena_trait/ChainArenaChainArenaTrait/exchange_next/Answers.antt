@@ -1,11 +1,11 @@
 -- Two links are made anew, and the laws of exchanges say the rest.
-use Rattle.std.proofs.Common.{◌≡◌, ℕ, Option, Some, refl, ap, ap₂, sym, ◌∙◌}
+use Rattle.std.proofs.Common.{◌≡◌, ℕ, Option, Some, refl, ap, ap₂, sym, ◌∙◌, subst}
 use Rattle.std.specs.Prelude.{is_some}
 use Rattle.std.proofs.lemmas.Bool.{false≢true}
 use Rattle.chain_laws.specs.Chains.{HasLink, next_of}
 use Rattle.chain_laws.specs.Exchanges.{exchanged}
 use Rattle.chain_laws.specs.Operations.{linked}
-use Rattle.chain_laws.proofs.Standing.{next_valid}
+use Rattle.chain_laws.proofs.Standing.{next_valid, prev_valid}
 use Rattle.arena_base.specs.Arena.{Arena}
 use Rattle.arena_base.specs.Entries.{seen_of}
 use Rattle.chain_links.specs.Links.{seen_links}
@@ -42,6 +42,21 @@ is_exchanged g c =
     c.link_twice.ensures
     ∙ (ap₂ (λ (i j : ℕ). relinked s (linked (linked (shown s) (Some i) (Some (g.P.Inx.InxKey.number c.in-Some-next_of_link.after_q))) (Some j) (Some (g.P.Inx.InxKey.number c.in-Some.after_p)))) c.inx-i.ensures c.inx-j.ensures
     ∙ ap₂ (λ (a b : Option ℕ). relinked s (linked (linked (shown s) (Some (g.P.PtrKey.key c.args.p).0) b) (Some (g.P.PtrKey.key c.args.q).0) a)) (after_p g c) (after_q g c))
+
+pub link_twice-requires : goal.link_twice-requires
+link_twice-requires g c =
+    let number = g.P.Inx.InxKey.number in
+    let s = shown (seen_links g.P.Inx.InxKey.packed_number c.self.inside.arena) in
+    let p = (g.P.PtrKey.key c.args.p).0 in
+    let q = (g.P.PtrKey.key c.args.q).0 in
+    let after_one : next_of s p ≡ Some (number c.in-Some.after_p) = sym (c.in-Some.ensures.named (c.in-Some.ensures.some refl)) in
+    let after_other : next_of s q ≡ Some (number c.in-Some-next_of_link.after_q) = sym (c.in-Some-next_of_link.ensures.named (c.in-Some-next_of_link.ensures.some refl)) in
+    record {
+      first_prev = subst (HasLink s) (sym c.inx-i.ensures) (next_valid s p _ after_one);
+      first_next = prev_valid s _ q ((c.self.invariant.both q _).0 after_other);
+      second_prev = subst (HasLink s) (sym c.inx-j.ensures) (next_valid s q _ after_other);
+      second_next = prev_valid s _ p ((c.self.invariant.both p _).0 after_one);
+    }
 
 pub invariant_of-self : goal.invariant_of-self
 invariant_of-self g c = agrees_exchange (links g c) (exchanged_links g c) _ _ (is_exchanged g c) c.self.invariant (valid_p g c) (valid_q g c)

@@ -1,11 +1,30 @@
 -- The link, with the pointers of now to the links that it names.
-use Rattle.std.proofs.Common.{refl, ap, ◌∙◌}
+use Rattle.std.proofs.Common.{Option, ℕ, refl, ap, sym, ◌∙◌, subst}
+use Rattle.std.specs.Prelude.{IfSome}
 use Rattle.std.specs.Option.{option_and_then}
+use Rattle.chain_laws.specs.Chains.{HasLink}
 use Rattle.arena_base.specs.Arena.{entry_at}
 use Rattle.chain_links.specs.Links.{seen_links}
-use Rattle.chain_links.specs.ChainArena.{ptr_at, values_of}
-use Rattle.chain_interlinks.proofs.Connecting.{link_at_ptr, same_valid}
+use Rattle.chain_links.specs.ChainArena.{ptr_at, shown, values_of}
+use Rattle.chain_interlinks.proofs.Connecting.{link_at_ptr, next_of-seen, prev_of-seen, same_valid}
+use Rattle.chain_interlinks.proofs.NamedLinks.{next_named, prev_named}
 use Rattle.chain_arena.proofs.impl_chain_arena_trait.ChainArenaChainArenaTrait.get_link.Goals as goal
+
+pub neighbor-prev-requires : goal.neighbor-prev-requires
+neighbor-prev-requires g c =
+    let number = g.P.Inx.InxKey.packed_number in
+    let a = c.self.inside.arena in
+    let p = g.P.PtrKey.key c.args.p in
+    let s = shown (seen_links number a) in
+    subst (λ (o : Option ℕ). IfSome o (HasLink s)) (prev_of-seen number a p c.in-Some.link.now c.in-Some.ensures.value ∙ sym c.prev.ensures) (prev_named s p.0 c.self.invariant)
+
+pub neighbor-next-requires : goal.neighbor-next-requires
+neighbor-next-requires g c =
+    let number = g.P.Inx.InxKey.packed_number in
+    let a = c.self.inside.arena in
+    let p = g.P.PtrKey.key c.args.p in
+    let s = shown (seen_links number a) in
+    subst (λ (o : Option ℕ). IfSome o (HasLink s)) (next_of-seen number a p c.in-Some.link.now c.in-Some.ensures.value ∙ sym c.next.ensures) (next_named s p.0 c.self.invariant)
 
 pub returns-in-Some : goal.returns-in-Some
 returns-in-Some g c =
