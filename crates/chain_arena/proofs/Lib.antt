@@ -24,3 +24,4 @@ pub mod Writing
 pub mod Canonizing
 pub mod Placing
 pub mod Pointing
+pub mod Following

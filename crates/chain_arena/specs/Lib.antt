@@ -9,3 +9,4 @@ pub mod Recasting
 pub mod Growths
 pub mod Places
 pub mod PointerTransfers
+pub mod Iterators

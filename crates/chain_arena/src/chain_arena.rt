@@ -13,15 +13,15 @@ ghost use Rattle.chain_layout.specs.PointerMoves.{ArePointerMoves};
 ghost use Rattle.chain_links.specs.CanonicalLayouts.{IsCanonicalLayout};
 ghost use Rattle.chain_links.specs.Links.{seen_pair};
 
+use crate::chain_iterators::ChainIter;
 use crate::visiting::{Listing, Showing};
 use arena_base::{Arena, ArenaSlot, ArenaTrait, Work};
 use arena_ptr::{
     AllocError, HeapStack, InvalidationOption, InvalidationResult, LimitStack,
     MaxCapacityReductionError, PtrKey, SetMaxCapacity, SlotStack,
 };
-use chain_interlinks::ChainIter;
 use chain_interlinks::gaps::{Gap, gap_of};
-use chain_interlinks::interlinks::take_out;
+use chain_interlinks::standing::take_out;
 use chain_layout::canonical::lay_out;
 use chain_layout::compress::begin_generation;
 use chain_layout::visiting::Visitor;

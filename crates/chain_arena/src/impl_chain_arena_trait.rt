@@ -30,7 +30,8 @@ use arena_ptr::{
     ReallocationError, SlotStack,
 };
 use chain_interlinks::gaps::{is_index, next_of as next_of_link, prev_of as prev_of_link};
-use chain_interlinks::interlinks::{join, link_twice, neighbor};
+use chain_interlinks::interlinks::join;
+use chain_interlinks::standing::{link_twice, neighbor};
 use chain_links::kinds::Name;
 use chain_links::{Link, LinkInsertKind, LinkNoGen};
 use chain_traits::ChainArenaTrait;

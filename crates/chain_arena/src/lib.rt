@@ -38,6 +38,7 @@ mod calls;
 mod chain_advancer;
 mod chain_arena;
 mod chain_drains;
+mod chain_iterators;
 mod copies;
 mod from_arena;
 mod impl_arena_trait;
@@ -57,7 +58,8 @@ pub use calls::{Call, Reply, apply, run_calls, runs_are_determined};
 pub use chain_advancer::ChainPtrAdvancer;
 pub use chain_arena::ChainArena;
 pub use chain_drains::ChainDrain;
-pub use chain_interlinks::{ChainIter, links_agree};
+pub use chain_interlinks::links_agree;
+pub use chain_iterators::ChainIter;
 pub use chain_layout::visiting::Visitor;
 pub use chain_links::{
     InsertKindBody, Link, LinkBody, LinkInsertKind, LinkNoGen, links_compare_by_neighbors,

@@ -12,7 +12,8 @@ use crate::chain_arena::ChainArena;
 use arena_base::{ArenaSlot, ArenaTrait, assert_unchecked};
 use arena_ptr::{ChainInsertionError, PtrKey, ReallocationError, SlotStack};
 use chain_interlinks::gaps::Gap;
-use chain_interlinks::placing::{link_in, tie};
+use chain_interlinks::placing::link_in;
+use chain_interlinks::standing::tie;
 use chain_links::facts::freed_are_free;
 use chain_links::{LinkInsertKind, LinkNoGen};
 

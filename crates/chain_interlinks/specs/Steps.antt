@@ -1,7 +1,6 @@
 -- One step of a walker along a chain, however many it has left.
 use Rattle.std.specs.Prelude.{◌≡◌, ℕ, suc, Option, None, Some, IfSome}
 use Rattle.std.specs.Option.{option_map}
-use Rattle.chain_laws.specs.Chains.{Shown, Agrees, HasLink}
 use Rattle.chain_laws.specs.Walks.{next_step}
 use Rattle.arena_base.specs.Arena.{Arena}
 use Rattle.chain_links.specs.ChainArena.{LinkSeen, shown, entry}
@@ -16,9 +15,3 @@ module _ {I Gen T : Type 0} (number : I → ℕ) (a : Arena Gen (LinkSeen T)) (s
   -- nothing stands at the index that it comes to, where it comes to one
   abbrev pub PassesNothing : Type 0
   PassesNothing = (left : ℕ) → IfSome (next_step left (shown a) (number start) (option_map number forth) (option_map number back)) (λ step. entry a step.0 ≡ None)
-
--- the interlinks agree, and the links that a walker has before it stand
-pub record IsOnLinks (shown : Shown) (forth back : Option ℕ) : Type 0 where
-  pub agrees : Agrees shown
-  pub onward : IfSome forth (HasLink shown)
-  pub behind : IfSome back (HasLink shown)

@@ -1,14 +1,14 @@
-// How a chain arena reads and writes interlinks in the arena that holds its links.
-ghost use Rattle.std.specs.Prelude.{◌≡◌, ◌↔◌, IsTrue, IsSome, IfSome, IfNone, OnSome, Some, None};
+// How the interlinks of a plain arena of links are read and written, where a link need not stand at each index that is named.
+ghost use Rattle.std.specs.Prelude.{◌≡◌, ◌↔◌, IsTrue, IsSome, IfNone, OnSome, Some, None};
 ghost use Rattle.std.specs.Option.{option_map, option_and_then};
 ghost use Rattle.arena_ptr.specs.Invalidation.{value_within, invalidation_result};
 ghost use Rattle.arena_base.specs.Arena.{entry_at};
-ghost use Rattle.chain_laws.specs.Chains.{Agrees, HasLink};
 ghost use Rattle.chain_links.specs.ChainArena.{shown, remove_link, entry, CanConnect, ptr_at};
 ghost use Rattle.chain_links.specs.Links.{seen_links, seen_pair};
-ghost use Rattle.chain_interlinks.specs.Interlinks.{next_written, prev_written, linked_up, linked_twice, numbers, IsValidEnd, IsValidStart, WereBeside};
+ghost use Rattle.chain_interlinks.specs.Interlinks.{next_written, prev_written, linked_up, linked_twice, numbers, IsValidEnd, IsValidStart};
 
-use arena_base::{Arena, ArenaSlot, ArenaTrait, assert_unchecked, outcome};
+use crate::standing;
+use arena_base::{Arena, ArenaSlot, ArenaTrait, outcome};
 use arena_ptr::{
     ChainInsertionError, InvalidationResult, InxKey, PtrKey, ReallocationError, SlotStack,
 };
@@ -45,101 +45,82 @@ pub fn neighbor<P: PtrKey, T: Drop, S: SlotStack<Item = ArenaSlot<P, LinkNoGen<P
     arena: &Arena<P, LinkNoGen<P, T>, S>,
     i: Option<P::Inx>,
 ) -> Option<P>
-    requires { IfSome (option_map P.Inx.number i) (HasLink (shown (seen_links P.Inx.packed_number arena.now))) }
     ensures { option_map P.key result ≡ option_and_then (ptr_at (entry (seen_links P.Inx.packed_number arena.now))) (option_map P.Inx.number i) }
 {
     match i {
         Some(i) => match arena.get_inx(i) {
             Some((generation, _)) => Some(P::_from_raw(i, generation)),
-            None => {
-                assert_unchecked(false);
-                unreachable!()
-            }
+            None => None,
         },
         None => None,
     }
 }
 
-/// The link at i, if i is an index, names another as the one after it.
+/// The link at i, if i is an index and a link stands there, names another as the one after it.
 pub fn set_next<P: PtrKey, T: Drop, S: SlotStack<Item = ArenaSlot<P, LinkNoGen<P, T>>>>(
     arena: &mut Arena<P, LinkNoGen<P, T>, S>,
     i: Option<P::Inx>,
     next: Option<P::Inx>,
 )
-    requires { IfSome (option_map P.Inx.number i) (HasLink (shown (seen_links P.Inx.packed_number arena.old))) }
     ensures { seen_links P.Inx.packed_number arena.new ≡ next_written (seen_links P.Inx.packed_number arena.old) (option_map P.Inx.number i) (option_map P.Inx.number next) }
 {
     match i {
         Some(i) => match arena.get_inx_mut(i) {
             Some(link) => link.set_next(next),
-            None => {
-                assert_unchecked(false);
-                unreachable!()
-            }
+            None => {}
         },
         None => {}
     }
 }
 
-/// The link at i, if i is an index, names another as the one before it.
+/// The link at i, if i is an index and a link stands there, names another as the one before it.
 pub fn set_prev<P: PtrKey, T: Drop, S: SlotStack<Item = ArenaSlot<P, LinkNoGen<P, T>>>>(
     arena: &mut Arena<P, LinkNoGen<P, T>, S>,
     i: Option<P::Inx>,
     prev: Option<P::Inx>,
 )
-    requires { IfSome (option_map P.Inx.number i) (HasLink (shown (seen_links P.Inx.packed_number arena.old))) }
     ensures { seen_links P.Inx.packed_number arena.new ≡ prev_written (seen_links P.Inx.packed_number arena.old) (option_map P.Inx.number i) (option_map P.Inx.number prev) }
 {
     match i {
         Some(i) => match arena.get_inx_mut(i) {
             Some(link) => link.set_prev(prev),
-            None => {
-                assert_unchecked(false);
-                unreachable!()
-            }
+            None => {}
         },
         None => {}
     }
 }
 
-/// One link follows another, each where it is some index.
+/// One link follows another, each where it is some index at which a link stands.
 pub fn link_up<P: PtrKey, T: Drop, S: SlotStack<Item = ArenaSlot<P, LinkNoGen<P, T>>>>(
     arena: &mut Arena<P, LinkNoGen<P, T>, S>,
     prev: Option<P::Inx>,
     next: Option<P::Inx>,
 )
-    requires prev { IfSome (option_map P.Inx.number prev) (HasLink (shown (seen_links P.Inx.packed_number arena.old))) }
-    requires next { IfSome (option_map P.Inx.number next) (HasLink (shown (seen_links P.Inx.packed_number arena.old))) }
     ensures { seen_links P.Inx.packed_number arena.new ≡ linked_up (seen_links P.Inx.packed_number arena.old) (option_map P.Inx.number prev) (option_map P.Inx.number next) }
 {
     set_next(arena, prev, next);
     set_prev(arena, next, prev);
 }
 
-/// One link follows another, and then a third a fourth, each where it is some index.
+/// One link follows another, and then a third a fourth, each where it is some index at which a link stands.
 pub fn link_twice<P: PtrKey, T: Drop, S: SlotStack<Item = ArenaSlot<P, LinkNoGen<P, T>>>>(
     arena: &mut Arena<P, LinkNoGen<P, T>, S>,
     first: (Option<P::Inx>, Option<P::Inx>),
     second: (Option<P::Inx>, Option<P::Inx>),
 )
-    requires first_prev { IfSome (option_map P.Inx.number first.0) (HasLink (shown (seen_links P.Inx.packed_number arena.old))) }
-    requires first_next { IfSome (option_map P.Inx.number first.1) (HasLink (shown (seen_links P.Inx.packed_number arena.old))) }
-    requires second_prev { IfSome (option_map P.Inx.number second.0) (HasLink (shown (seen_links P.Inx.packed_number arena.old))) }
-    requires second_next { IfSome (option_map P.Inx.number second.1) (HasLink (shown (seen_links P.Inx.packed_number arena.old))) }
     ensures { seen_links P.Inx.packed_number arena.new ≡ linked_twice (seen_links P.Inx.packed_number arena.old) (numbers P.Inx.number first) (numbers P.Inx.number second) }
 {
     link_up(arena, first.0, first.1);
     link_up(arena, second.0, second.1);
 }
 
-// The link at i names none as the one after it. It is not the likely way, so it stays out of line.
+// The link at i, if one stands there, names none as the one after it. It is not the likely way, so it stays out of line.
 #[cold]
 #[inline(never)]
 fn take_back<P: PtrKey, T: Drop, S: SlotStack<Item = ArenaSlot<P, LinkNoGen<P, T>>>>(
     arena: &mut Arena<P, LinkNoGen<P, T>, S>,
     i: P::Inx,
 )
-    requires { HasLink (shown (seen_links P.Inx.packed_number arena.old)) (P.Inx.number i) }
     ensures { seen_links P.Inx.packed_number arena.new ≡ next_written (seen_links P.Inx.packed_number arena.old) (Some (P.Inx.number i)) None }
 {
     set_next(arena, Some(i), None);
@@ -160,33 +141,13 @@ pub fn join<P: PtrKey, T: Drop, S: SlotStack<Item = ArenaSlot<P, LinkNoGen<P, T>
     if !is_end(arena, p) {
         return None;
     }
-    set_next(arena, Some(i), Some(j));
+    standing::set_next(arena, Some(i), Some(j));
     if !is_start(arena, q) {
         take_back(arena, i);
         return None;
     }
-    set_prev(arena, Some(j), Some(i));
+    standing::set_prev(arena, Some(j), Some(i));
     Some(())
-}
-
-// The links beside one that has gone from i follow one another. One that came before itself is gone with what it named.
-fn close_over<P: PtrKey, T: Drop, S: SlotStack<Item = ArenaSlot<P, LinkNoGen<P, T>>>>(
-    arena: &mut Arena<P, LinkNoGen<P, T>, S>,
-    i: P::Inx,
-    prev: Option<P::Inx>,
-    next: Option<P::Inx>,
-)
-    requires { WereBeside (shown (seen_links P.Inx.packed_number arena.old)) (P.Inx.number i) (option_map P.Inx.number prev) (option_map P.Inx.number next) }
-    ensures { seen_links P.Inx.packed_number arena.new ≡ linked_up (seen_links P.Inx.packed_number arena.old) (option_map P.Inx.number prev) (option_map P.Inx.number next) }
-{
-    match prev {
-        Some(before) => {
-            if !before.is_same(i) {
-                link_up(arena, Some(before), next);
-            }
-        }
-        None => link_up(arena, None, next),
-    }
 }
 
 /// Takes the link at an index out, and links those that it stood between.
@@ -194,7 +155,6 @@ pub fn take_out<P: PtrKey, T: Drop, S: SlotStack<Item = ArenaSlot<P, LinkNoGen<P
     arena: &mut Arena<P, LinkNoGen<P, T>, S>,
     i: P::Inx,
 ) -> InvalidationResult<(P::Gen, LinkNoGen<P, T>)>
-    requires { Agrees (shown (seen_links P.Inx.packed_number arena.old)) }
     ensures answer { option_map (seen_pair P.Inx.packed_number) (value_within result) ≡ entry_at (seen_links P.Inx.packed_number arena.old) (P.Inx.number i) }
     ensures overflow { result ≡ invalidation_result (P.Gen.wraps arena.old.counter) (value_within result) }
     ensures valid { IsSome (value_within result) → seen_links P.Inx.packed_number arena.new ≡ remove_link P.Gen.following (seen_links P.Inx.packed_number arena.old) (P.Inx.number i) }
@@ -203,7 +163,7 @@ pub fn take_out<P: PtrKey, T: Drop, S: SlotStack<Item = ArenaSlot<P, LinkNoGen<P
     let (entry, overflow) = arena.remove_inx(i).overflowing();
     match entry {
         Some((generation, link)) => {
-            close_over(arena, i, link.prev(), link.next());
+            link_up(arena, link.prev(), link.next());
             outcome(overflow, (generation, link))
         }
         None => InvalidationResult::InvalidPtr,

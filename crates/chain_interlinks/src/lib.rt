@@ -3,10 +3,10 @@
 #![tactic(auto)]
 
 pub mod agreeing;
-pub mod chain_iterators;
 pub mod gaps;
 pub mod interlinks;
 pub mod placing;
+pub mod standing;
+pub mod steps;
 
 pub use agreeing::links_agree;
-pub use chain_iterators::ChainIter;

@@ -1,8 +1,7 @@
 // How a link is written into a gap of the arena that holds the links.
-ghost use Rattle.std.specs.Prelude.{◌≡◌, IfSome};
+ghost use Rattle.std.specs.Prelude.{◌≡◌};
 ghost use Rattle.std.specs.Option.{option_map};
-ghost use Rattle.chain_laws.specs.Chains.{HasLink};
-ghost use Rattle.chain_links.specs.ChainArena.{named_by, new_link, shown};
+ghost use Rattle.chain_links.specs.ChainArena.{named_by, new_link};
 ghost use Rattle.chain_links.specs.Links.{seen_link, seen_links};
 ghost use Rattle.chain_interlinks.specs.Gaps.{before_in, after_in, named_before, named_after};
 
@@ -39,8 +38,6 @@ pub fn tie<P: PtrKey, T: Drop, S: SlotStack<Item = ArenaSlot<P, LinkNoGen<P, T>>
     gap: Gap<P::Inx>,
     p: P,
 )
-    requires before { IfSome (before_in P.Inx.number gap (P.key p).0) (HasLink (shown (seen_links P.Inx.packed_number arena.old))) }
-    requires after { IfSome (after_in P.Inx.number gap (P.key p).0) (HasLink (shown (seen_links P.Inx.packed_number arena.old))) }
     ensures { seen_links P.Inx.packed_number arena.new ≡ named_by (seen_links P.Inx.packed_number arena.old)
         (before_in P.Inx.number gap (P.key p).0) (after_in P.Inx.number gap (P.key p).0) (P.key p).0 }
 {

@@ -5,30 +5,19 @@ use Rattle.chain_laws.specs.Chains.{HasLink}
 use Rattle.chain_laws.specs.Operations.{next_set, prev_set}
 use Rattle.chain_links.specs.Links.{seen_links}
 use Rattle.arena_base.specs.Arena.{Arena}
-use Rattle.chain_links.specs.ChainArena.{LinkSeen, entry, relinked, shown}
-use Rattle.chain_interlinks.specs.Interlinks.{IsValidEnd}
+use Rattle.chain_links.specs.ChainArena.{LinkSeen, relinked, shown}
 use Rattle.chain_interlinks.proofs.Connecting.{named_may, named_may_not, taken_back}
-use Rattle.chain_interlinks.proofs.NamedLinks.{still_named, valid_link}
-use Rattle.chain_interlinks.proofs.Relinking.{FitsLinks-next_set, FitsLinks-shown, linked_by_writes}
+use Rattle.chain_interlinks.proofs.NamedLinks.{valid_link}
+use Rattle.chain_interlinks.proofs.Relinking.{linked_by_writes}
 use Rattle.chain_interlinks.proofs.interlinks.join.Goals as goal
 
 named : {Gen T : Type 0} (a b : Arena Gen (LinkSeen T)) {i j u v : ℕ} → b ≡ relinked a (next_set (shown a) (Some i) (Some j)) → i ≡ u → j ≡ v → b ≡ relinked a (next_set (shown a) (Some u) (Some v))
 named a b is first second = is ∙ ap₂ (λ (x y : ℕ). relinked a (next_set (shown a) (Some x) (Some y))) first second
 
--- the first link, at its index
-first_stands : {Gen T : Type 0} (a : Arena Gen (LinkSeen T)) (p : ℕ × Gen) (i : ℕ) → IsValidEnd (entry a) (shown a) p → i ≡ p.0 → HasLink (shown a) i
-first_stands a p i is at = subst (HasLink (shown a)) (sym at) (valid_link a p is.valid)
-
 pub set_next-requires : goal.set_next-requires
-set_next-requires g c = first_stands (seen_links g.P.Inx.InxKey.packed_number c.args.arena.now) _ _ (c.is_end.ensures.0 c.if-not-is_end.false) c.inx-i.ensures
-
-pub take_back-requires : goal.take_back-requires
-take_back-requires g c =
+set_next-requires g c =
     let a = seen_links g.P.Inx.InxKey.packed_number c.args.arena.now in
-    let i = g.P.Inx.InxKey.number c.inx-i.result in
-    let named = Some (g.P.Inx.InxKey.number c.inx-j.result) in
-    still_named a (seen_links g.P.Inx.InxKey.packed_number c.set_next.new.arena) (next_set (shown a) (Some i) named) (Some i) (FitsLinks-next_set a (shown a) (Some i) named (FitsLinks-shown a)) c.set_next.ensures
-    (first_stands a _ i (c.is_end.ensures.0 c.if-not-is_end.false) c.inx-i.ensures)
+    subst (HasLink (shown a)) (sym c.inx-i.ensures) (valid_link a _ (c.is_end.ensures.0 c.if-not-is_end.false).valid)
 
 pub set_prev-requires : goal.set_prev-requires
 set_prev-requires g c =

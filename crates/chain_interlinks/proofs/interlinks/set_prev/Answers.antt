@@ -1,4 +1,4 @@
--- The link that was lent is written, and one stands there.
+-- The link that was lent is written, and where none stands nothing is.
 use Rattle.std.proofs.Common.{refl, sym, ap, ◌∙◌}
 use Rattle.std.specs.Option.{option_map, option_copied_mut}
 use Rattle.chain_laws.specs.Operations.{with_prev}
@@ -7,8 +7,7 @@ use Rattle.chain_links.specs.declared.links.LinkBody.{LinkBody}
 use Rattle.arena_base.specs.Arena.{with_value}
 use Rattle.chain_links.specs.Links.{seen_links, seen_link}
 use Rattle.chain_links.specs.ChainArena.{interlinks_in, with_interlinks}
-use Rattle.chain_interlinks.proofs.NamedLinks.{nothing_named}
-use Rattle.chain_interlinks.proofs.Relinking.{IsWrite, seen_links-write, relinked-own}
+use Rattle.chain_interlinks.proofs.Relinking.{IsWrite, seen_links-write, seen_links-no_write, relinked-own}
 use Rattle.chain_interlinks.proofs.interlinks.set_prev.Goals as goal
 
 pub returns-in-Some-get_inx_mut : goal.returns-in-Some-get_inx_mut
@@ -26,10 +25,13 @@ returns-in-Some-get_inx_mut g c =
     ∙ seen_links-write packed_number a n c.in-Some-get_inx_mut.link.now write (with_prev (option_map number c.args.prev)) _ says
     (sym c.get_inx_mut.ensures.value ∙ ap option_copied_mut c.in-Some-get_inx_mut.is) (λ i. refl)))
 
-pub assert_unchecked-requires : goal.assert_unchecked-requires
-assert_unchecked-requires g c = absurd (
-    nothing_named g.P.Inx.InxKey.packed_number c.args.arena.now (g.P.Inx.InxKey.number c.in-Some.i)
-    (sym c.get_inx_mut.ensures.value ∙ ap option_copied_mut c.in-None-get_inx_mut.is) (rw c.in-Some.is at c.requires))
+pub returns-in-None-get_inx_mut : goal.returns-in-None-get_inx_mut
+returns-in-None-get_inx_mut g c =
+    let number = g.P.Inx.InxKey.number in
+    let packed_number = g.P.Inx.InxKey.packed_number in
+    rw c.in-Some.is (ap (seen_links packed_number) c.get_inx_mut.follows.holds-at-none
+    ∙ seen_links-no_write packed_number c.args.arena.now (number c.in-Some.i) (with_prev (option_map number c.args.prev)) _
+    (sym c.get_inx_mut.ensures.value ∙ ap option_copied_mut c.in-None-get_inx_mut.is) (λ i. refl))
 
 pub returns-in-None : goal.returns-in-None
 returns-in-None g c = rw c.in-None.is (relinked-own (seen_links g.P.Inx.InxKey.packed_number c.args.arena.now))

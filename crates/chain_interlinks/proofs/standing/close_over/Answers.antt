@@ -3,7 +3,7 @@ use Rattle.std.proofs.Common.{Some, sym, ap, ◌∙◌}
 use Rattle.std.specs.Option.{option_map}
 use Rattle.chain_links.specs.Links.{seen_links}
 use Rattle.chain_interlinks.proofs.Unlinking.{ring_gone}
-use Rattle.chain_interlinks.proofs.interlinks.close_over.Goals as goal
+use Rattle.chain_interlinks.proofs.standing.close_over.Goals as goal
 
 pub returns-then-not-is_same : goal.returns-then-not-is_same
 returns-then-not-is_same g c = rw c.in-Some.is c.link_up.ensures

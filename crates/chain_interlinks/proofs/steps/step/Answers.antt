@@ -2,7 +2,7 @@
 use Rattle.std.specs.Option.{option_map}
 use Rattle.chain_links.specs.Links.{seen_links}
 use Rattle.chain_interlinks.proofs.Advancing.{looked_none, ends_forth, ends_back}
-use Rattle.chain_interlinks.proofs.chain_iterators.step.Goals as goal
+use Rattle.chain_interlinks.proofs.steps.step.Goals as goal
 
 pub returns-in-None-look-clause-none : goal.returns-in-None-look-clause-none
 returns-in-None-look-clause-none g c =

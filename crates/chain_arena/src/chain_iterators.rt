@@ -1,17 +1,16 @@
-ghost use Rattle.std.specs.Prelude.{◌≡◌, Some, IfSome, IfNone};
+ghost use Rattle.std.specs.Prelude.{◌≡◌, Some};
 ghost use Rattle.std.specs.Option.{option_map};
 ghost use Rattle.std.specs.Iterator.{YieldsFirstBy, item_count};
-ghost use Rattle.arena_base.specs.Arena.{entry_at, IsValid};
-ghost use Rattle.chain_links.specs.ChainArena.{entry, shown};
+ghost use Rattle.chain_links.specs.ChainArena.{shown};
 ghost use Rattle.chain_links.specs.Links.{seen_links};
-ghost use Rattle.chain_links.specs.Walkers.{links_ahead, seen_item, index_and_entry};
-ghost use Rattle.chain_interlinks.specs.Steps.{IsOnLinks, Passes, PassesNothing};
+ghost use Rattle.chain_links.specs.Walkers.{links_ahead, seen_item};
+ghost use Rattle.chain_arena.specs.Iterators.{IsOnLinks};
 
-use crate::gaps::is_index;
 use arena_base::{Arena, ArenaSlot, ArenaTrait, assert_unchecked};
 use arena_ptr::{PtrKey, SlotStack};
+use chain_interlinks::gaps::is_index;
+use chain_interlinks::steps::look;
 use chain_links::LinkNoGen;
-use chain_links::walks::going;
 use std::marker::Model;
 
 /// The links of one chain in walk order, each with its pointer: from a link on to the end, and then from the link
@@ -39,7 +38,7 @@ impl<'a, P: PtrKey, T: Drop, S: SlotStack<Item = ArenaSlot<P, LinkNoGen<P, T>>>>
 
     ghost use Rattle.chain_links.specs.Links.{seen_links};
     ghost use Rattle.chain_links.specs.Walkers.{links_ahead};
-    ghost use Rattle.chain_interlinks.specs.Steps.{IsOnLinks};
+    ghost use Rattle.chain_arena.specs.Iterators.{IsOnLinks};
 
     ghost view = { λ it. links_ahead (seen_links P.Inx.packed_number it.arena.now) it.left (P.Inx.number it.start)
         (option_map P.Inx.number it.forth) (option_map P.Inx.number it.back) };
@@ -54,8 +53,8 @@ impl<'a, P: PtrKey, T: Drop, S: SlotStack<Item = ArenaSlot<P, LinkNoGen<P, T>>>>
     T,
     S,
 > {
-    /// A walker that stands before the link at `start`, behind which `back` stands.
-    pub fn new(
+    // A walker that stands before the link at `start`, behind which `back` stands.
+    pub(crate) fn new(
         arena: &'a Arena<P, LinkNoGen<P, T>, S>,
         start: P::Inx,
         back: Option<P::Inx>,
@@ -118,48 +117,5 @@ impl<'a, P: PtrKey, T: Drop, S: SlotStack<Item = ArenaSlot<P, LinkNoGen<P, T>>>>
                 None => None,
             },
         }
-    }
-}
-
-/// The pointer and the link at an index.
-pub fn look<P: PtrKey, T: Drop, S: SlotStack<Item = ArenaSlot<P, LinkNoGen<P, T>>>>(
-    arena: &Arena<P, LinkNoGen<P, T>, S>,
-    i: P::Inx,
-) -> Option<(P, &LinkNoGen<P, T>)>
-    ensures link { option_map (seen_item P.key P.Inx.packed_number) result ≡ option_map (index_and_entry (P.Inx.number i)) (entry_at (seen_links P.Inx.packed_number arena.now) (P.Inx.number i)) }
-    ensures valid { IfSome result (λ item. IsValid (entry (seen_links P.Inx.packed_number arena.now)) (P.key item.0)) }
-{
-    match arena.get_inx(i) {
-        Some((generation, link)) => Some((P::_from_raw(i, generation), link)),
-        None => None,
-    }
-}
-
-/// The link that a walker passes next, by its pointer, and where it goes from there.
-pub fn step<P: PtrKey, T: Drop, S: SlotStack<Item = ArenaSlot<P, LinkNoGen<P, T>>>>(
-    arena: &Arena<P, LinkNoGen<P, T>, S>,
-    start: P::Inx,
-    forth: Option<P::Inx>,
-    back: Option<P::Inx>,
-) -> Option<(P, Option<P::Inx>, Option<P::Inx>)>
-    ensures valid { IfSome result (λ s. IsValid (entry (seen_links P.Inx.packed_number arena.now)) (P.key s.0)) }
-    ensures some { IfSome result (λ s. Passes P.Inx.number (seen_links P.Inx.packed_number arena.now) start forth back (P.key s.0).0 s.1 s.2) }
-    ensures none { IfNone result (PassesNothing P.Inx.number (seen_links P.Inx.packed_number arena.now) start forth back) }
-{
-    match forth {
-        Some(i) => match look(arena, i) {
-            Some((p, link)) => {
-                let (forth, back) = going(start, link.next(), back);
-                Some((p, forth, back))
-            }
-            None => None,
-        },
-        None => match back {
-            Some(i) => match look(arena, i) {
-                Some((p, link)) => Some((p, None, link.prev())),
-                None => None,
-            },
-            None => None,
-        },
     }
 }

@@ -7,7 +7,7 @@ use Rattle.chain_links.specs.Links.{seen_link, seen_links, seen_pair}
 use Rattle.chain_links.proofs.Seeing.{entry_at-seen_links}
 use Rattle.chain_links.specs.Walkers.{index_and_entry}
 use Rattle.chain_interlinks.proofs.Advancing.{valid_there}
-use Rattle.chain_interlinks.proofs.chain_iterators.look.Goals as goal
+use Rattle.chain_interlinks.proofs.steps.look.Goals as goal
 
 pub returns-in-Some-clause-valid : goal.returns-in-Some-clause-valid
 returns-in-Some-clause-valid g c =

@@ -8,9 +8,9 @@ use Rattle.chain_laws.proofs.Agreement.{one_some}
 use Rattle.chain_links.specs.ChainArena.{LinkSeen}
 use Rattle.chain_links.specs.Links.{seen_link, seen_links}
 use Rattle.chain_links.specs.Walkers.{index_and_entry, links_ahead}
-use Rattle.chain_interlinks.proofs.Advancing.{behind_stands, looked_some, onward_stands, passes_last, passes_on}
-use Rattle.chain_interlinks.proofs.chain_iterators.ChainIterIterator.next.Goals.{then-is_index, else-is_index}
-use Rattle.chain_interlinks.proofs.chain_iterators.ChainIterIterator.next.Goals as goal
+use Rattle.chain_arena.proofs.Following.{behind_stands, looked_some, onward_stands, passes_last, passes_on}
+use Rattle.chain_arena.proofs.chain_iterators.ChainIterIterator.next.Goals.{then-is_index, else-is_index}
+use Rattle.chain_arena.proofs.chain_iterators.ChainIterIterator.next.Goals as goal
 
 pub invariant_of-self : goal.invariant_of-self
 invariant_of-self g c =
