@@ -1,11 +1,11 @@
 -- The entries of slots from a position on, and up to one.
 use Rattle.std.proofs.Common.{◌≡◌, ℕ, zero, suc, ◌+◌, ◌-◌, ◌<◌, ◌≤◌, cond, List, [], ◌∷◌, ◌++◌, length, take, drop, Option, None, Some, refl, ap, sym, ◌∙◌, arith}
-use Rattle.std.specs.Prelude.{slice_index_or, slice_set}
+use Rattle.std.specs.Prelude.{true, false, is_none, IsSome, IfSome, IfNone, slice_index_or, slice_set}
 use Rattle.arena_base.specs.Arena.{slot_at, with_slot}
 use Rattle.std.specs.Option.{option_map}
 use Rattle.std.proofs.lemmas.List.{append-nil, reverse-append}
 use Rattle.std.proofs.lemmas.Bool.{le-leb, lt-leb}
-use Rattle.arena_base.specs.Entries.{entries_from, key_at, first_key, last_key}
+use Rattle.arena_base.specs.Entries.{entries_from, key_at, first_key, last_key, IsFirstFrom}
 use Rattle.arena_base.specs.Advancing.{from_index, up_to_index}
 
 -- the first, or else the second
@@ -14,34 +14,50 @@ first_of None rest = rest
 first_of (Some p) rest = Some p
 
 module _ {Gen T : Type 0} where
-  -- the first key from a position on is that of the slot there, or else the first one behind it
-  first_key-drop : (slots : List (Option (Gen × T))) (i k : ℕ) → k < length slots
-      → first_key (entries_from i (drop k slots)) ≡ first_of (option_map (key_at i) (slice_index_or slots k None)) (first_key (entries_from (suc i) (drop (suc k) slots)))
-  first_key-drop [] i k below = absurd (omega (arith, below))
-  first_key-drop (None ∷ slots) i zero below = refl
-  first_key-drop (Some e ∷ slots) i zero below = refl
-  first_key-drop (s ∷ slots) i (suc k) below = first_key-drop slots i k (omega (arith, below))
-
-  -- one step of a search up
-  pub first_key-step : (slots : List (Option (Gen × T))) (k : ℕ) (o : Option (ℕ × Gen)) → k < length slots → o ≡ option_map (key_at (k + 1)) (slice_index_or slots k None)
-      → first_key (entries_from (k + 1) (drop k slots)) ≡ first_of o (first_key (entries_from (k + 1 + 1) (drop (k + 1) slots)))
-  first_key-step slots k o below is =
-      let next : suc k ≡ k + 1 = omega arith in
-      let index : suc (k + 1) ≡ k + 1 + 1 = omega arith in
-      first_key-drop slots (k + 1) k below
-      ∙ (ap (λ p. first_of p (first_key (entries_from (suc (k + 1)) (drop (suc k) slots)))) (sym is) ∙ (λ i. first_of o (first_key (entries_from (index i) (drop (next i) slots)))))
-
-  -- nothing stands behind the slots
-  pub drop-all : (slots : List (Option (Gen × T))) (i k : ℕ) → length slots ≤ k → entries_from i (drop k slots) ≡ []
-  drop-all [] i zero past = refl
-  drop-all [] i (suc k) past = refl
-  drop-all (s ∷ slots) i zero past = absurd (omega (arith, past))
-  drop-all (s ∷ slots) i (suc k) past = drop-all slots i k (omega (arith, past))
-
-  -- the entries of one slot more
+  -- the entries of one slot
   abbrev pub entry_list : ℕ → Option (Gen × T) → List ((ℕ × Gen) × T)
   entry_list i None = []
   entry_list i (Some e) = ((i, e.0), e.1) ∷ []
+
+  entries_from-drop : (slots : List (Option (Gen × T))) (i k : ℕ) → k < length slots → entries_from i (drop k slots) ≡ entry_list i (slice_index_or slots k None) ++ entries_from (suc i) (drop (suc k) slots)
+  entries_from-drop [] i k below = absurd (omega (arith, below))
+  entries_from-drop (None ∷ slots) i zero below = refl
+  entries_from-drop (Some e ∷ slots) i zero below = refl
+  entries_from-drop (s ∷ slots) i (suc k) below = entries_from-drop slots i k (omega (arith, below))
+
+  -- the entries from a position on are that of the slot there and those behind it
+  pub entries_from-step : (slots : List (Option (Gen × T))) (k : ℕ) (o : Option (Gen × T)) → k < length slots → o ≡ slice_index_or slots k None
+      → entries_from (k + 1) (drop k slots) ≡ entry_list (k + 1) o ++ entries_from (k + 1 + 1) (drop (k + 1) slots)
+  entries_from-step slots k o below is =
+      let next : suc k ≡ k + 1 = omega arith in
+      let index : suc (k + 1) ≡ k + 1 + 1 = omega arith in
+      entries_from-drop slots (k + 1) k below
+      ∙ (ap (λ p. entry_list (k + 1) p ++ entries_from (suc (k + 1)) (drop (suc k) slots)) (sym is) ∙ (λ i. entry_list (k + 1) o ++ entries_from (index i) (drop (next i) slots)))
+
+  none_of_free : (o : Option (Gen × T)) → is_none o ≡ true → None ≡ o
+  none_of_free None free = refl
+  none_of_free (Some e) free = absurd (let h = free in cc)
+
+  some_of_taken : (o : Option (Gen × T)) → is_none o ≡ false → IsSome o
+  some_of_taken None taken = absurd (let h = taken in cc)
+  some_of_taken (Some e) taken = refl
+
+  -- an entry that stands at a position is the first one from there
+  pub stands_first : (slots : List (Option (Gen × T))) (k : ℕ) → is_none (slice_index_or slots k None) ≡ false → IsFirstFrom slots k k
+  stands_first slots k taken = record { stands = some_of_taken (slice_index_or slots k None) taken; first = refl }
+
+  module _ (slots : List (Option (Gen × T))) (k : ℕ) (below : k < length slots) where
+    -- a free slot is passed over
+    pub past_free : is_none (slice_index_or slots k None) ≡ true → entries_from (k + 1) (drop k slots) ≡ entries_from (k + 1 + 1) (drop (k + 1) slots)
+    past_free free = entries_from-step slots k None below (none_of_free (slice_index_or slots k None) free)
+
+    pub none_beyond : (o : Option ℕ) → is_none (slice_index_or slots k None) ≡ true → IfNone o (entries_from (k + 1 + 1) (drop (k + 1) slots) ≡ []) → IfNone o (entries_from (k + 1) (drop k slots) ≡ [])
+    none_beyond None free none = past_free free ∙ none
+    none_beyond (Some j) free none = tt
+
+    pub first_beyond : (o : Option ℕ) → is_none (slice_index_or slots k None) ≡ true → IfSome o (IsFirstFrom slots (k + 1)) → IfSome o (IsFirstFrom slots k)
+    first_beyond None free first = tt
+    first_beyond (Some j) free first = record { stands = first.stands; first = past_free free ∙ first.first }
 
   pub entries_from-take : (slots : List (Option (Gen × T))) (i k n : ℕ) → k < length slots → i + k ≡ n
       → entries_from i (take (suc k) slots) ≡ entries_from i (take k slots) ++ entry_list n (slice_index_or slots k None)
@@ -126,46 +142,6 @@ module _ {Gen T : Type 0} where
   pub ahead_down : (slots : List (Option (Gen × T))) (to : ℕ) → entries_from 1 (take to slots) ≡ up_to_index to (entries_from 1 slots)
   ahead_down slots to = sym (up_to_index-take slots to 1 to (omega arith))
 
-  first_split : (slots : List (Option (Gen × T))) (m i : ℕ) (g : Gen) → first_key (entries_from m slots) ≡ Some (i, g)
-      → (t : T) × (k : ℕ) × (m + k ≡ i) × (slice_index_or slots k None ≡ Some (g, t)) × (entries_from m slots ≡ ((i, g), t) ∷ entries_from (suc i) (drop (suc k) slots))
-  first_split [] m i g first = cc
-  first_split (None ∷ slots) m i g first =
-      let found = first_split slots (suc m) i g first in
-      (found.0, suc found.1, omega (arith, found.2), found.3, found.4)
-  first_split (Some e ∷ slots) m i g first =
-      let key : (m, e.0) ≡ (i, g) = cc in
-      let index : m ≡ i = ap (λ (k : ℕ × Gen). k.0) key in
-      let generation : e.0 ≡ g = ap (λ (k : ℕ × Gen). k.1) key in (
-        e.1,
-        0,
-        omega (arith, index),
-        ap (λ (h : Gen). let o : Option (Gen × T) = Some (h, e.1) in o) generation,
-        ap (λ (k : ℕ × Gen). (k, e.1) ∷ entries_from (suc m) slots) key ∙ ap (λ n. ((i, g), e.1) ∷ entries_from (suc n) slots) index,
-      )
-
-  first_after : (slots : List (Option (Gen × T))) (m n j i : ℕ) (g : Gen) → m + n ≡ j → first_key (entries_from j (drop n slots)) ≡ Some (i, g)
-      → (t : T) × (k : ℕ) × (m + k ≡ i) × (slice_index_or slots k None ≡ Some (g, t)) × (entries_from j (drop n slots) ≡ ((i, g), t) ∷ entries_from (suc i) (drop (suc k) slots))
-  first_after [] m zero j i g at first = cc
-  first_after [] m (suc n) j i g at first = cc
-  first_after (s ∷ slots) m zero j i g at first =
-      let found = first_split (s ∷ slots) j i g first in
-      (found.0, found.1, omega (arith, found.2, at), found.3, found.4)
-  first_after (s ∷ slots) m (suc n) j i g at first =
-      let found = first_after slots (suc m) n j i g (omega (arith, at)) first in
-      (found.0, suc found.1, omega (arith, found.2), found.3, found.4)
-
-  -- the next entry from a position on, and what is left behind it
-  pub next_entry : (slots : List (Option (Gen × T))) (n i : ℕ) (g : Gen) → Some (i, g) ≡ first_key (entries_from (n + 1) (drop n slots))
-      → (t : T) × (slot_at slots i ≡ Some (g, t)) × (entries_from (n + 1) (drop n slots) ≡ ((i, g), t) ∷ entries_from (i + 1) (drop i slots))
-  next_entry slots n i g first =
-      let found = first_after slots 1 n (n + 1) i g (omega arith) (sym first) in
-      let index : suc found.1 ≡ i = omega (arith, found.2) in
-      let behind : suc i ≡ i + 1 = omega arith in (
-        found.0,
-        ap (slot_at slots) (sym index) ∙ found.3,
-        found.4 ∙ (ap (λ m. ((i, g), found.0) ∷ entries_from m (drop (suc found.1) slots)) behind ∙ ap (λ m. ((i, g), found.0) ∷ entries_from (i + 1) (drop m slots)) index),
-      )
-
   -- what lies behind a slot does not change with it
   pub drop-with_slot : (slots : List (Option (Gen × T))) (i : ℕ) (slot : Option (Gen × T)) → drop i (with_slot slots i slot) ≡ drop i slots
   drop-with_slot slots zero slot = refl
@@ -177,24 +153,18 @@ module _ {Gen T : Type 0} where
       behind (x ∷ xs) zero = refl
       behind (x ∷ xs) (suc k) = behind xs k
 
-  -- the next entry, as a look at its index shows it
-  pub next_shown : (slots : List (Option (Gen × T))) (n m made : ℕ) (key : ℕ × Gen) (shown : Gen × T) → Some key ≡ first_key (entries_from (n + 1) (drop n slots)) → Some shown ≡ slot_at slots m → m ≡ key.0 → made ≡ key.0
-      → entries_from (n + 1) (drop n slots) ≡ (key, shown.1) ∷ entries_from (made + 1) (drop made slots)
-  next_shown slots n m made key shown first looked index same =
-      let next = next_entry slots n key.0 key.1 first in
-      let both : Some shown ≡ Some (key.1, next.0) = looked ∙ (ap (slot_at slots) index ∙ next.1) in
-      let value : shown ≡ (key.1, next.0) = cc in
-      next.2 ∙ (ap (λ (e : Gen × T). (key, e.1) ∷ entries_from (key.0 + 1) (drop key.0 slots)) (sym value)
-      ∙ ap (λ i. (key, shown.1) ∷ entries_from (i + 1) (drop i slots)) (sym same))
+  within : (slots : List (Option (Gen × T))) (k : ℕ) (e : Gen × T) → Some e ≡ slice_index_or slots k None → k < length slots
+  within [] k e is = absurd (let h = is in cc)
+  within (s ∷ slots) zero e is = omega arith
+  within (s ∷ slots) (suc k) e is = let below = within slots k e is in omega (arith, below)
 
-  pub next_stands : (slots : List (Option (Gen × T))) (n m : ℕ) (key : ℕ × Gen) → Some key ≡ first_key (entries_from (n + 1) (drop n slots)) → None ≡ slot_at slots m → m ≡ key.0 → ⊥
-  next_stands slots n m key first looked index =
-      let next = next_entry slots n key.0 key.1 first in
-      let both : None ≡ Some (key.1, next.0) = looked ∙ (ap (slot_at slots) index ∙ next.1) in cc
-
-  -- the same once it is taken out
-  pub next_taken : (slots after : List (Option (Gen × T))) (n m made : ℕ) (key : ℕ × Gen) (shown : Gen × T) → Some key ≡ first_key (entries_from (n + 1) (drop n slots)) → Some shown ≡ slot_at slots m → m ≡ key.0 → made ≡ key.0
-      → after ≡ with_slot slots m None → entries_from (n + 1) (drop n slots) ≡ (key, shown.1) ∷ entries_from (made + 1) (drop made after)
-  next_taken slots after n m made key shown first looked index same is =
-      let behind : drop made slots ≡ drop made after = sym (ap (drop made) (is ∙ ap (λ i. with_slot slots i None) (index ∙ sym same)) ∙ drop-with_slot slots made None) in
-      next_shown slots n m made key shown first looked index same ∙ ap (λ es. (key, shown.1) ∷ entries_from (made + 1) es) behind
+  -- the first entry from a position on, and what is left behind it, once it is taken out
+  pub first_taken : (slots after : List (Option (Gen × T))) (from k i : ℕ) (e : Gen × T) → IsFirstFrom slots from k → i ≡ k + 1 → Some e ≡ slot_at slots i → after ≡ with_slot slots i None
+      → entries_from (from + 1) (drop from slots) ≡ ((i, e.0), e.1) ∷ entries_from (k + 1 + 1) (drop (k + 1) after)
+  first_taken slots after from k i e is at looked taken =
+      let next : suc k ≡ i = omega (arith, at) in
+      let shown : Some e ≡ slice_index_or slots k None = looked ∙ ap (slot_at slots) (sym next) in
+      is.first
+      ∙ (entries_from-step slots k (Some e) (within slots k e shown) shown
+      ∙ (ap (λ n. ((n, e.0), e.1) ∷ entries_from (k + 1 + 1) (drop (k + 1) slots)) (sym at)
+      ∙ ap (λ xs. ((i, e.0), e.1) ∷ entries_from (k + 1 + 1) xs) (sym (ap (drop (k + 1)) (taken ∙ ap (λ n. with_slot slots n None) at) ∙ drop-with_slot slots (k + 1) None))))

@@ -1,6 +1,6 @@
 -- The entries of an arena by rising index, each under its key, the pair of its index and its generation; and what code
 -- that is generic over arenas sees of one.
-use Rattle.std.specs.Prelude.{◌≡◌, ◌↔◌, ℕ, suc, ◌+◌, ◌<◌, ◌≤◌, ◌==◌, ⊤, cond, List, [], ◌∷◌, ◌++◌, map, reverse, length, Option, None, Some, IfSome}
+use Rattle.std.specs.Prelude.{◌≡◌, ◌↔◌, ℕ, suc, ◌+◌, ◌<◌, ◌≤◌, ◌==◌, ⊤, cond, List, [], ◌∷◌, ◌++◌, map, reverse, length, drop, slice_index_or, Option, None, Some, IsSome, IfSome}
 use Rattle.std.specs.Option.{option_map}
 use Rattle.arena_ptr.specs.Numbers.{IsWithin}
 use Rattle.arena_ptr.specs.SlotStack.{IsBeyond}
@@ -53,6 +53,11 @@ module _ {Gen T : Type 0} where
   entries_from i [] = []
   entries_from i (None ∷ slots) = entries_from (suc i) slots
   entries_from i (Some e ∷ slots) = ((i, e.0), e.1) ∷ entries_from (suc i) slots
+
+  -- an entry stands at a position, from 0, and none between another position and it
+  pub record IsFirstFrom (slots : List (Option (Gen × T))) (from k : ℕ) : Type 0 where
+    pub stands : IsSome (slice_index_or slots k None)
+    pub first : entries_from (from + 1) (drop from slots) ≡ entries_from (k + 1) (drop k slots)
 
   abbrev pub entries : Arena Gen T → List ((ℕ × Gen) × T)
   entries a = entries_from 1 a.slots

@@ -1,18 +1,19 @@
 // The generational arena and its own calls.
-ghost use Rattle.std.specs.Prelude.{◌≡◌, [], min, ◌<◌, ◌≤◌, ◌+◌, ◌↔◌, IsTrue, IsSome, IfSome, IsErr, IfOk, IsOk, OnOk, OnErr, Some, None, Ok, Err, length, drop, take, slice_index_or, map, ◌^◌};
+ghost use Rattle.std.specs.Prelude.{◌≡◌, [], min, ◌<◌, ◌≤◌, ◌+◌, ◌↔◌, IsTrue, IsSome, IfSome, IfNone, IsErr, IfOk, IsOk, OnOk, OnErr, Some, None, Ok, Err, length, drop, take, slice_index_or, map, ◌^◌};
 ghost use Rattle.std.specs.Option.{option_map};
 ghost use Rattle.arena_ptr.specs.SlotStack.{IsBeyond};
 ghost use Rattle.arena_ptr.specs.Invalidation.{invalidation_option, invalidation_result};
 ghost use Rattle.arena_base.specs.Slots.{entry_of};
-ghost use Rattle.arena_base.specs.Entries.{entries, entries_from, key_at, first_key, last_key};
+ghost use Rattle.arena_base.specs.Entries.{entries, entries_from, key_at, first_key, last_key, IsFirstFrom};
 ghost use Rattle.arena_base.specs.Advancing.{ahead};
 ghost use Rattle.arena_base.specs.Compacting.{held_of, lent_out, returned, IsPacked, with_placement, with_touch};
 ghost use Rattle.arena_base.specs.Arena.{entry_at, entry_count, next_index, insert_next, remove_at, renewed_at, with_counter, with_capacity_of, with_maximum, new_arena, HasRoom, HasGrownTo, IsWithinReach};
 
+use crate::excluded::assert_unchecked;
 use crate::held::HeldSlots;
 use crate::listing::{relist, trim};
 use crate::look::Look;
-use crate::slot::{ArenaSlot, fill, inx_at, position_of, regenerate_at, vacate_at};
+use crate::slot::{ArenaSlot, fill, inx_at, is_free_at, position_of, regenerate_at, vacate_at};
 use crate::tally::Tally;
 use arena_ptr::{
     GenKey, HeapStack, InvalidationOption, InvalidationResult, InxKey, LimitStack,
@@ -188,47 +189,70 @@ impl<P: PtrKey, T: Drop, S: SlotStack<Item = ArenaSlot<P, T>>> Arena<P, T, S> {
         self.slots.reserve_to(n)
     }
 
-    // The pointer of the entry at a position, from 0, if one stands there.
-    fn ptr_at(&self, k: usize) -> Option<P>
+    // The pointer and the value of the entry at a position, from 0, if one stands there.
+    pub(crate) fn pair_at(&self, k: usize) -> Option<(P, &T)>
         requires { k < P.Inx.greatest }
-        ensures key { option_map P.key result ≡ option_map (key_at (k + 1)) (slice_index_or self.now.slots k None) }
-        ensures fits { IsSome result → k + 2 < 2 ^ 64 }
+        ensures key { option_map (λ e. P.key e.0) result ≡ option_map (key_at (k + 1)) (slice_index_or self.now.slots k None) }
+        ensures value { option_map (λ e. e.1.now) result ≡ option_map (λ e. e.1) (slice_index_or self.now.slots k None) }
     {
         match self.slots.get(k) {
-            Some(ArenaSlot::Allocated(generation, _)) => {
-                Some(P::_from_raw(inx_at::<P>(k), *generation))
+            Some(ArenaSlot::Allocated(generation, t)) => {
+                Some((P::_from_raw(inx_at::<P>(k), *generation), t))
             }
             Some(ArenaSlot::Free(_)) => None,
             None => None,
         }
     }
 
-    // The valid pointer of least index from a position on, from 0. The first slot is looked at alone, since an iteration mostly
-    // ends there.
-    pub(crate) fn first_from(&self, from: usize) -> Option<P>
-        ensures key { option_map P.key result ≡ first_key (entries_from (from + 1) (drop from self.now.slots)) }
-        ensures fits { IfSome result (λ p. (P.key p).0 + 1 < 2 ^ 64) }
+    // The position of the first entry from a position on, both from 0. The first slot is looked at alone, since an iteration
+    // mostly ends there; and one that goes on from a position does not wait for the generation at it, as it would for an index
+    // out of a pointer.
+    pub(crate) fn position_from(&self, from: usize) -> Option<usize>
+        ensures none { IfNone result (entries_from (from + 1) (drop from self.now.slots) ≡ []) }
+        ensures some { IfSome result (IsFirstFrom self.now.slots from) }
+        ensures index { IfSome result (λ k. k < P.Inx.greatest) }
+        ensures fits { IfSome result (λ k. k + 2 < 2 ^ 64) }
     {
         if from >= self.slots.len() {
             return None;
         }
-        match self.ptr_at(from) {
-            Some(p) => Some(p),
-            None => self.search_from(from + 1),
+        if is_free_at(&self.slots, from) {
+            self.search_from(from + 1)
+        } else {
+            Some(from)
         }
     }
 
     // .. slot by slot.
-    fn search_from(&self, from: usize) -> Option<P>
-        ensures key { option_map P.key result ≡ first_key (entries_from (from + 1) (drop from self.now.slots)) }
-        ensures fits { IfSome result (λ p. (P.key p).0 + 1 < 2 ^ 64) }
+    fn search_from(&self, from: usize) -> Option<usize>
+        ensures none { IfNone result (entries_from (from + 1) (drop from self.now.slots) ≡ []) }
+        ensures some { IfSome result (IsFirstFrom self.now.slots from) }
+        ensures index { IfSome result (λ k. k < P.Inx.greatest) }
+        ensures fits { IfSome result (λ k. k + 2 < 2 ^ 64) }
     {
         for k in from..self.slots.len() {
-            if let Some(p) = self.ptr_at(k) {
-                return Some(p);
+            if !is_free_at(&self.slots, k) {
+                return Some(k);
             }
         }
         None
+    }
+
+    // The valid pointer of least index from a position on, from 0.
+    pub(crate) fn first_from(&self, from: usize) -> Option<P>
+        ensures key { option_map P.key result ≡ first_key (entries_from (from + 1) (drop from self.now.slots)) }
+        ensures fits { IfSome result (λ p. (P.key p).0 + 1 < 2 ^ 64) }
+    {
+        match self.position_from(from) {
+            Some(k) => match self.pair_at(k) {
+                Some((p, _)) => Some(p),
+                None => {
+                    assert_unchecked(false);
+                    unreachable!()
+                }
+            },
+            None => None,
+        }
     }
 
     // The valid pointer of greatest index up to an index.
@@ -237,8 +261,8 @@ impl<P: PtrKey, T: Drop, S: SlotStack<Item = ArenaSlot<P, T>>> Arena<P, T, S> {
         ensures fits { IfSome result (λ p. (P.key p).0 + 1 < 2 ^ 64) }
     {
         for k in (0..to.min(self.slots.len())).rev() {
-            if let Some(p) = self.ptr_at(k) {
-                return Some(p);
+            if let Some(pair) = self.pair_at(k) {
+                return Some(pair.0);
             }
         }
         None

@@ -6,8 +6,7 @@ ghost use Rattle.std.specs.Iterator.{YieldsFirstBy, item_count};
 
 use crate::arena::Arena;
 use crate::excluded::assert_unchecked;
-use crate::slot::{ArenaSlot, number_of};
-use crate::traits::ArenaTrait;
+use crate::slot::{ArenaSlot, inx_at};
 use arena_ptr::{HeapStack, InvalidationResult, PtrKey, SlotStack};
 use std::marker::Model;
 
@@ -17,9 +16,9 @@ impl<P: PtrKey, T: Drop, S: SlotStack<Item = ArenaSlot<P, T>>> Arena<P, T, S> {
         ensures none { IfNone result (entries_from (from + 1) (drop from self.now.slots) ≡ []) }
         ensures some { IfSome result (λ e. entries_from (from + 1) (drop from self.now.slots) ≡ (P.key e.1, e.2.now) ∷ entries_from (e.0 + 1) (drop e.0 self.now.slots)) }
     {
-        match self.first_from(from) {
-            Some(p) => match self.get_inx(p.inx()) {
-                Some((_, t)) => Some((number_of::<P>(p.inx()), p, t)),
+        match self.position_from(from) {
+            Some(k) => match self.pair_at(k) {
+                Some((p, t)) => Some((k + 1, p, t)),
                 None => {
                     assert_unchecked(false);
                     unreachable!()
@@ -34,14 +33,17 @@ impl<P: PtrKey, T: Drop, S: SlotStack<Item = ArenaSlot<P, T>>> Arena<P, T, S> {
         ensures none { IfNone result ((entries_from (from + 1) (drop from self.old.slots) ≡ []) × (self.new ≡ self.old)) }
         ensures some { IfSome result (λ e. entries_from (from + 1) (drop from self.old.slots) ≡ (P.key e.1, e.2) ∷ entries_from (e.0 + 1) (drop e.0 self.new.slots)) }
     {
-        match self.first_from(from) {
-            Some(p) => match value_of(self.take_at(p.inx())) {
-                Some((_, t)) => Some((number_of::<P>(p.inx()), p, t)),
-                None => {
-                    assert_unchecked(false);
-                    unreachable!()
+        match self.position_from(from) {
+            Some(k) => {
+                let i = inx_at::<P>(k);
+                match value_of(self.take_at(i)) {
+                    Some(entry) => Some((k + 1, P::_from_raw(i, entry.0), entry.1)),
+                    None => {
+                        assert_unchecked(false);
+                        unreachable!()
+                    }
                 }
-            },
+            }
             None => None,
         }
     }

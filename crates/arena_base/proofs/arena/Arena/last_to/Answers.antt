@@ -1,22 +1,17 @@
 -- Each position that was passed is free.
-use Rattle.std.proofs.Common.{◌≡◌, ◌<◌, ◌-◌, ◌+◌, length, Some, None, refl, sym, ◌∙◌, ap, arith}
-use Rattle.std.specs.Prelude.{slice_index_or}
+use Rattle.std.proofs.Common.{◌≡◌, ◌<◌, ◌-◌, length, Some, None, sym, ◌∙◌, ap, arith}
 use Rattle.std.proofs.lemmas.List.{length-map}
 use Rattle.arena_base.specs.Slots.{entry_of}
-use Rattle.arena_base.proofs.Ranging.{last_key-step, index_of_key}
+use Rattle.arena_base.proofs.Ranging.{last_key-step}
 use Rattle.arena_base.proofs.arena.Arena.last_to.Goals as goal
 
-pub returns-in-Some : goal.returns-in-Some
-returns-in-Some g c =
+pub returns-in-Some-clause-key : goal.returns-in-Some-clause-key
+returns-in-Some-clause-key g c =
     let slots = c.args.self.now.slots in
     let k = c.loop-k.k - 1 in
     let long = ap (λ a. length a.slots) c.self.view_is in
     let below : k < length slots = omega (arith, long, length-map (g.S.SlotStack.items c.self.inside.slots) entry_of) in
-    let key = c.in-Some.ensures.key in
-    record {
-      key = sym (last_key-step slots k c.loop-k.k (Some (g.P.PtrKey.key c.in-Some.p)) (omega arith) below key) ∙ c.loop-k.invariant;
-      fits = omega (arith, c.in-Some.ensures.fits refl, index_of_key (g.P.PtrKey.key c.in-Some.p) (k + 1) (slice_index_or slots k None) key);
-    }
+    sym (last_key-step slots k c.loop-k.k (Some (g.P.PtrKey.key c.in-Some.pair.0)) (omega arith) below c.in-Some.ensures.key) ∙ c.loop-k.invariant
 
 pub loop-k-preserved : goal.loop-k-preserved
 loop-k-preserved g c =
