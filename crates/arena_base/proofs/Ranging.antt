@@ -1,11 +1,10 @@
 -- The entries of slots from a position on, and up to one.
 use Rattle.std.proofs.Common.{◌≡◌, ℕ, zero, suc, ◌+◌, ◌-◌, ◌<◌, ◌≤◌, cond, List, [], ◌∷◌, ◌++◌, length, take, drop, Option, None, Some, refl, ap, sym, ◌∙◌, arith}
-use Rattle.std.specs.Prelude.{true, false, is_none, IsSome, IfSome, IfNone, slice_index_or, slice_set}
-use Rattle.arena_base.specs.Arena.{slot_at, with_slot}
+use Rattle.std.specs.Prelude.{slice_index_or}
 use Rattle.std.specs.Option.{option_map}
 use Rattle.std.proofs.lemmas.List.{append-nil, reverse-append}
 use Rattle.std.proofs.lemmas.Bool.{le-leb, lt-leb}
-use Rattle.arena_base.specs.Entries.{entries_from, key_at, first_key, last_key, IsFirstFrom}
+use Rattle.arena_base.specs.Entries.{entries_from, key_at, first_key, last_key}
 use Rattle.arena_base.specs.Advancing.{from_index, up_to_index}
 
 -- the first, or else the second
@@ -18,46 +17,6 @@ module _ {Gen T : Type 0} where
   abbrev pub entry_list : ℕ → Option (Gen × T) → List ((ℕ × Gen) × T)
   entry_list i None = []
   entry_list i (Some e) = ((i, e.0), e.1) ∷ []
-
-  entries_from-drop : (slots : List (Option (Gen × T))) (i k : ℕ) → k < length slots → entries_from i (drop k slots) ≡ entry_list i (slice_index_or slots k None) ++ entries_from (suc i) (drop (suc k) slots)
-  entries_from-drop [] i k below = absurd (omega (arith, below))
-  entries_from-drop (None ∷ slots) i zero below = refl
-  entries_from-drop (Some e ∷ slots) i zero below = refl
-  entries_from-drop (s ∷ slots) i (suc k) below = entries_from-drop slots i k (omega (arith, below))
-
-  -- the entries from a position on are that of the slot there and those behind it
-  pub entries_from-step : (slots : List (Option (Gen × T))) (k : ℕ) (o : Option (Gen × T)) → k < length slots → o ≡ slice_index_or slots k None
-      → entries_from (k + 1) (drop k slots) ≡ entry_list (k + 1) o ++ entries_from (k + 1 + 1) (drop (k + 1) slots)
-  entries_from-step slots k o below is =
-      let next : suc k ≡ k + 1 = omega arith in
-      let index : suc (k + 1) ≡ k + 1 + 1 = omega arith in
-      entries_from-drop slots (k + 1) k below
-      ∙ (ap (λ p. entry_list (k + 1) p ++ entries_from (suc (k + 1)) (drop (suc k) slots)) (sym is) ∙ (λ i. entry_list (k + 1) o ++ entries_from (index i) (drop (next i) slots)))
-
-  none_of_free : (o : Option (Gen × T)) → is_none o ≡ true → None ≡ o
-  none_of_free None free = refl
-  none_of_free (Some e) free = absurd (let h = free in cc)
-
-  some_of_taken : (o : Option (Gen × T)) → is_none o ≡ false → IsSome o
-  some_of_taken None taken = absurd (let h = taken in cc)
-  some_of_taken (Some e) taken = refl
-
-  -- an entry that stands at a position is the first one from there
-  pub stands_first : (slots : List (Option (Gen × T))) (k : ℕ) → is_none (slice_index_or slots k None) ≡ false → IsFirstFrom slots k k
-  stands_first slots k taken = record { stands = some_of_taken (slice_index_or slots k None) taken; first = refl }
-
-  module _ (slots : List (Option (Gen × T))) (k : ℕ) (below : k < length slots) where
-    -- a free slot is passed over
-    pub past_free : is_none (slice_index_or slots k None) ≡ true → entries_from (k + 1) (drop k slots) ≡ entries_from (k + 1 + 1) (drop (k + 1) slots)
-    past_free free = entries_from-step slots k None below (none_of_free (slice_index_or slots k None) free)
-
-    pub none_beyond : (o : Option ℕ) → is_none (slice_index_or slots k None) ≡ true → IfNone o (entries_from (k + 1 + 1) (drop (k + 1) slots) ≡ []) → IfNone o (entries_from (k + 1) (drop k slots) ≡ [])
-    none_beyond None free none = past_free free ∙ none
-    none_beyond (Some j) free none = tt
-
-    pub first_beyond : (o : Option ℕ) → is_none (slice_index_or slots k None) ≡ true → IfSome o (IsFirstFrom slots (k + 1)) → IfSome o (IsFirstFrom slots k)
-    first_beyond None free first = tt
-    first_beyond (Some j) free first = record { stands = first.stands; first = past_free free ∙ first.first }
 
   pub entries_from-take : (slots : List (Option (Gen × T))) (i k n : ℕ) → k < length slots → i + k ≡ n
       → entries_from i (take (suc k) slots) ≡ entries_from i (take k slots) ++ entry_list n (slice_index_or slots k None)
@@ -121,11 +80,6 @@ module _ {Gen T : Type 0} where
       ap (λ m. last_key (entries_from 1 (take m slots))) (sym next)
       ∙ (last_key-take slots k (k + 1) below (omega arith) ∙ ap (λ p. first_of p (last_key (entries_from 1 (take k slots)))) (sym is))
 
-  -- the key of an entry has the index that it was looked at
-  pub index_of_key : (key : ℕ × Gen) (i : ℕ) (o : Option (Gen × T)) → Some key ≡ option_map (key_at i) o → key.0 ≡ i
-  index_of_key key i None is = cc
-  index_of_key key i (Some e) is = let same : key ≡ (i, e.0) = cc in ap (λ (k : ℕ × Gen). k.0) same
-
   -- what lies ahead by rising index begins at a position
   pub ahead_up : (slots : List (Option (Gen × T))) (from k : ℕ) → k ≡ from - 1 → entries_from (k + 1) (drop k slots) ≡ from_index from (entries_from 1 slots)
   ahead_up slots zero k at =
@@ -141,30 +95,3 @@ module _ {Gen T : Type 0} where
   -- what lies ahead by falling index ends at a position
   pub ahead_down : (slots : List (Option (Gen × T))) (to : ℕ) → entries_from 1 (take to slots) ≡ up_to_index to (entries_from 1 slots)
   ahead_down slots to = sym (up_to_index-take slots to 1 to (omega arith))
-
-  -- what lies behind a slot does not change with it
-  pub drop-with_slot : (slots : List (Option (Gen × T))) (i : ℕ) (slot : Option (Gen × T)) → drop i (with_slot slots i slot) ≡ drop i slots
-  drop-with_slot slots zero slot = refl
-  drop-with_slot slots (suc k) slot = behind slots k
-    where
-      behind : (xs : List (Option (Gen × T))) (k : ℕ) → drop (suc k) (slice_set xs k slot) ≡ drop (suc k) xs
-      behind [] zero = refl
-      behind [] (suc k) = refl
-      behind (x ∷ xs) zero = refl
-      behind (x ∷ xs) (suc k) = behind xs k
-
-  within : (slots : List (Option (Gen × T))) (k : ℕ) (e : Gen × T) → Some e ≡ slice_index_or slots k None → k < length slots
-  within [] k e is = absurd (let h = is in cc)
-  within (s ∷ slots) zero e is = omega arith
-  within (s ∷ slots) (suc k) e is = let below = within slots k e is in omega (arith, below)
-
-  -- the first entry from a position on, and what is left behind it, once it is taken out
-  pub first_taken : (slots after : List (Option (Gen × T))) (from k i : ℕ) (e : Gen × T) → IsFirstFrom slots from k → i ≡ k + 1 → Some e ≡ slot_at slots i → after ≡ with_slot slots i None
-      → entries_from (from + 1) (drop from slots) ≡ ((i, e.0), e.1) ∷ entries_from (k + 1 + 1) (drop (k + 1) after)
-  first_taken slots after from k i e is at looked taken =
-      let next : suc k ≡ i = omega (arith, at) in
-      let shown : Some e ≡ slice_index_or slots k None = looked ∙ ap (slot_at slots) (sym next) in
-      is.first
-      ∙ (entries_from-step slots k (Some e) (within slots k e shown) shown
-      ∙ (ap (λ n. ((n, e.0), e.1) ∷ entries_from (k + 1 + 1) (drop (k + 1) slots)) (sym at)
-      ∙ ap (λ xs. ((i, e.0), e.1) ∷ entries_from (k + 1 + 1) xs) (sym (ap (drop (k + 1)) (taken ∙ ap (λ n. with_slot slots n None) at) ∙ drop-with_slot slots (k + 1) None))))

@@ -1,10 +1,10 @@
 -- The entries of an arena by rising index, each under its key, the pair of its index and its generation; and what code
 -- that is generic over arenas sees of one.
-use Rattle.std.specs.Prelude.{◌≡◌, ◌↔◌, ℕ, suc, ◌+◌, ◌<◌, ◌≤◌, ◌==◌, ⊤, cond, List, [], ◌∷◌, ◌++◌, map, reverse, length, drop, slice_index_or, Option, None, Some, IsSome, IfSome}
+use Rattle.std.specs.Prelude.{◌≡◌, ◌↔◌, ℕ, suc, ◌+◌, ◌<◌, ◌≤◌, ◌==◌, ⊤, cond, List, [], ◌∷◌, ◌++◌, map, reverse, length, drop, Option, None, Some, IfSome}
 use Rattle.std.specs.Option.{option_map}
 use Rattle.arena_ptr.specs.Numbers.{IsWithin}
 use Rattle.arena_ptr.specs.SlotStack.{IsBeyond}
-use Rattle.arena_base.specs.Arena.{Arena, Has, HasNoRepetition, first_or_next, without_first, counter_after_clear}
+use Rattle.arena_base.specs.Arena.{Arena, slot_at, Has, HasNoRepetition, first_or_next, without_first, counter_after_clear}
 
 -- the number of slots, the freed list, next to be used first, and the totals of placements and touches
 pub record Slots : Type 0 where
@@ -54,10 +54,11 @@ module _ {Gen T : Type 0} where
   entries_from i (None ∷ slots) = entries_from (suc i) slots
   entries_from i (Some e ∷ slots) = ((i, e.0), e.1) ∷ entries_from (suc i) slots
 
-  -- an entry stands at a position, from 0, and none between another position and it
-  pub record IsFirstFrom (slots : List (Option (Gen × T))) (from k : ℕ) : Type 0 where
-    pub stands : IsSome (slice_index_or slots k None)
-    pub first : entries_from (from + 1) (drop from slots) ≡ entries_from (k + 1) (drop k slots)
+  -- the entry of a key is the first one from a position on, from 0, and right before the position `next`
+  pub record IsNextEntry (slots : List (Option (Gen × T))) (from next : ℕ) (key : ℕ × Gen) (t : T) : Type 0 where
+    pub index : key.0 ≡ next
+    pub stands : slot_at slots next ≡ Some (key.1, t)
+    pub first : entries_from (from + 1) (drop from slots) ≡ (key, t) ∷ entries_from (next + 1) (drop next slots)
 
   abbrev pub entries : Arena Gen T → List ((ℕ × Gen) × T)
   entries a = entries_from 1 a.slots

@@ -4,16 +4,15 @@ ghost use Rattle.std.specs.Option.{option_map};
 ghost use Rattle.arena_ptr.specs.SlotStack.{IsBeyond};
 ghost use Rattle.arena_ptr.specs.Invalidation.{invalidation_option, invalidation_result};
 ghost use Rattle.arena_base.specs.Slots.{entry_of};
-ghost use Rattle.arena_base.specs.Entries.{entries, entries_from, key_at, first_key, last_key, IsFirstFrom};
+ghost use Rattle.arena_base.specs.Entries.{entries, entries_from, key_at, first_key, last_key, IsNextEntry};
 ghost use Rattle.arena_base.specs.Advancing.{ahead};
 ghost use Rattle.arena_base.specs.Compacting.{held_of, lent_out, returned, IsPacked, with_placement, with_touch};
 ghost use Rattle.arena_base.specs.Arena.{entry_at, entry_count, next_index, insert_next, remove_at, renewed_at, with_counter, with_capacity_of, with_maximum, new_arena, HasRoom, HasGrownTo, IsWithinReach};
 
-use crate::excluded::assert_unchecked;
 use crate::held::HeldSlots;
 use crate::listing::{relist, trim};
 use crate::look::Look;
-use crate::slot::{ArenaSlot, fill, inx_at, is_free_at, position_of, regenerate_at, vacate_at};
+use crate::slot::{ArenaSlot, fill, inx_at, position_of, regenerate_at, vacate_at};
 use crate::tally::Tally;
 use arena_ptr::{
     GenKey, HeapStack, InvalidationOption, InvalidationResult, InxKey, LimitStack,
@@ -204,35 +203,32 @@ impl<P: PtrKey, T: Drop, S: SlotStack<Item = ArenaSlot<P, T>>> Arena<P, T, S> {
         }
     }
 
-    // The position of the first entry from a position on, both from 0. The first slot is looked at alone, since an iteration
-    // mostly ends there; and one that goes on from a position does not wait for the generation at it, as it would for an index
-    // out of a pointer.
-    pub(crate) fn position_from(&self, from: usize) -> Option<usize>
+    // The first entry from a position on, from 0: the position behind it, its pointer and its value. The first slot is looked at
+    // alone, since an iteration mostly ends there; and one that goes on from a position does not wait for the generation at it,
+    // as it would for an index out of a pointer.
+    pub(crate) fn next_from(&self, from: usize) -> Option<(usize, P, &T)>
         ensures none { IfNone result (entries_from (from + 1) (drop from self.now.slots) ≡ []) }
-        ensures some { IfSome result (IsFirstFrom self.now.slots from) }
-        ensures index { IfSome result (λ k. k < P.Inx.greatest) }
-        ensures fits { IfSome result (λ k. k + 2 < 2 ^ 64) }
+        ensures some { IfSome result (λ e. IsNextEntry self.now.slots from e.0 (P.key e.1) e.2.now) }
+        ensures fits { IfSome result (λ e. e.0 + 1 < 2 ^ 64) }
     {
         if from >= self.slots.len() {
             return None;
         }
-        if is_free_at(&self.slots, from) {
-            self.search_from(from + 1)
-        } else {
-            Some(from)
+        match self.pair_at(from) {
+            Some(pair) => Some((from + 1, pair.0, pair.1)),
+            None => self.search_from(from + 1),
         }
     }
 
     // .. slot by slot.
-    fn search_from(&self, from: usize) -> Option<usize>
+    fn search_from(&self, from: usize) -> Option<(usize, P, &T)>
         ensures none { IfNone result (entries_from (from + 1) (drop from self.now.slots) ≡ []) }
-        ensures some { IfSome result (IsFirstFrom self.now.slots from) }
-        ensures index { IfSome result (λ k. k < P.Inx.greatest) }
-        ensures fits { IfSome result (λ k. k + 2 < 2 ^ 64) }
+        ensures some { IfSome result (λ e. IsNextEntry self.now.slots from e.0 (P.key e.1) e.2.now) }
+        ensures fits { IfSome result (λ e. e.0 + 1 < 2 ^ 64) }
     {
         for k in from..self.slots.len() {
-            if !is_free_at(&self.slots, k) {
-                return Some(k);
+            if let Some(pair) = self.pair_at(k) {
+                return Some((k + 1, pair.0, pair.1));
             }
         }
         None
@@ -243,14 +239,8 @@ impl<P: PtrKey, T: Drop, S: SlotStack<Item = ArenaSlot<P, T>>> Arena<P, T, S> {
         ensures key { option_map P.key result ≡ first_key (entries_from (from + 1) (drop from self.now.slots)) }
         ensures fits { IfSome result (λ p. (P.key p).0 + 1 < 2 ^ 64) }
     {
-        match self.position_from(from) {
-            Some(k) => match self.pair_at(k) {
-                Some((p, _)) => Some(p),
-                None => {
-                    assert_unchecked(false);
-                    unreachable!()
-                }
-            },
+        match self.next_from(from) {
+            Some(next) => Some(next.1),
             None => None,
         }
     }

@@ -6,38 +6,21 @@ ghost use Rattle.std.specs.Iterator.{YieldsFirstBy, item_count};
 
 use crate::arena::Arena;
 use crate::excluded::assert_unchecked;
-use crate::slot::{ArenaSlot, inx_at};
+use crate::slot::ArenaSlot;
 use arena_ptr::{HeapStack, InvalidationResult, PtrKey, SlotStack};
 use std::marker::Model;
 
 impl<P: PtrKey, T: Drop, S: SlotStack<Item = ArenaSlot<P, T>>> Arena<P, T, S> {
-    // The first entry from a position on, with the position behind it.
-    fn next_from(&self, from: usize) -> Option<(usize, P, &T)>
-        ensures none { IfNone result (entries_from (from + 1) (drop from self.now.slots) ≡ []) }
-        ensures some { IfSome result (λ e. entries_from (from + 1) (drop from self.now.slots) ≡ (P.key e.1, e.2.now) ∷ entries_from (e.0 + 1) (drop e.0 self.now.slots)) }
-    {
-        match self.position_from(from) {
-            Some(k) => match self.pair_at(k) {
-                Some((p, t)) => Some((k + 1, p, t)),
-                None => {
-                    assert_unchecked(false);
-                    unreachable!()
-                }
-            },
-            None => None,
-        }
-    }
-
     // Takes out the first entry from a position on, and answers it with the position behind it.
     fn take_from(&mut self, from: usize) -> Option<(usize, P, T)>
         ensures none { IfNone result ((entries_from (from + 1) (drop from self.old.slots) ≡ []) × (self.new ≡ self.old)) }
         ensures some { IfSome result (λ e. entries_from (from + 1) (drop from self.old.slots) ≡ (P.key e.1, e.2) ∷ entries_from (e.0 + 1) (drop e.0 self.new.slots)) }
     {
-        match self.position_from(from) {
-            Some(k) => {
-                let i = inx_at::<P>(k);
-                match value_of(self.take_at(i)) {
-                    Some(entry) => Some((k + 1, P::_from_raw(i, entry.0), entry.1)),
+        match self.next_from(from) {
+            Some(next) => {
+                let (behind, p) = (next.0, next.1);
+                match value_of(self.take_at(p.inx())) {
+                    Some(entry) => Some((behind, p, entry.1)),
                     None => {
                         assert_unchecked(false);
                         unreachable!()
