@@ -9,7 +9,7 @@ ghost use Rattle.arena_base.specs.Closing.{AreClosed, IsGathered, with_totals};
 
 use crate::arena::Arena;
 use crate::compactor::{Compactor, SlotAccess};
-use crate::excluded::assert_unchecked;
+use crate::excluded;
 use crate::slot::{ArenaSlot, inx_at};
 use arena_ptr::{PtrKey, SlotStack};
 
@@ -63,10 +63,7 @@ fn close_gaps<
             count += 1;
             match compactor.value_mut(to) {
                 Some(t) => map(P::_from_raw(from, was), t, P::_from_raw(to, generation)),
-                None => {
-                    assert_unchecked(false);
-                    unreachable!()
-                }
+                None => excluded!(),
             }
         }
     }

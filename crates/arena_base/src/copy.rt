@@ -7,7 +7,7 @@ ghost use Rattle.arena_base.specs.Entries.{entries, entries_from};
 ghost use Rattle.arena_base.specs.Copying.{CopiesBy, HasRefusable, HasSlotsOf, IsGivenUp};
 
 use crate::arena::Arena;
-use crate::excluded::assert_unchecked;
+use crate::excluded;
 use crate::slot::{ArenaSlot, inx_at};
 use crate::traits::{ArenaCloneFromWith, ArenaTrait, ValueMap};
 use arena_ptr::{AllocError, PtrKey, ReallocationError, SlotStack};
@@ -58,10 +58,7 @@ fn copy_slots<
     for k in 0..source.len() {
         let slot = match source.get(k) {
             Some(slot) => slot,
-            None => {
-                assert_unchecked(false);
-                unreachable!()
-            }
+            None => excluded!(),
         };
         match slot {
             ArenaSlot::Allocated(generation, u) => {

@@ -5,7 +5,7 @@ ghost use Rattle.std.specs.Borrow.{LendsSo, sem};
 ghost use Rattle.arena_base.specs.Arena.{slot_at};
 ghost use Rattle.arena_base.specs.Compacting.{Held, seen_parts, placed, held_with_value};
 
-use crate::excluded::assert_unchecked;
+use crate::excluded;
 use crate::slot::{ArenaSlot, position_of, put_at, regenerate_at, vacate_at};
 use arena_ptr::{PtrKey, SlotStack};
 use std::marker::Model;
@@ -67,10 +67,7 @@ impl<P: PtrKey, T: Drop, S: SlotStack<Item = ArenaSlot<P, T>>> HeldSlots<P, T, S
     {
         match vacate_at(&mut self.slots, position_of::<P>(from), None) {
             Some((_, t)) => put_at(&mut self.slots, position_of::<P>(to), generation, t),
-            None => {
-                assert_unchecked(false);
-                unreachable!()
-            }
+            None => excluded!(),
         }
     }
 }

@@ -4,7 +4,7 @@ ghost use Rattle.std.specs.Option.{option_map, option_copied_mut};
 ghost use Rattle.std.specs.Borrow.{LendsIf, sem};
 ghost use Rattle.arena_base.specs.Slots.{entry_of, entry_in, with_value_in, with_generation_in, with_generation_at, IsFree, free_slot, allocated_slot, freed_slot};
 
-use crate::excluded::assert_unchecked;
+use crate::excluded;
 use arena_ptr::{InxKey, PtrKey, SlotStack};
 use std::mem;
 
@@ -54,10 +54,7 @@ impl<P: PtrKey, T> ArenaSlot<P, T> {
             ArenaSlot::Free(_) => None,
             ArenaSlot::Allocated(_, _) => match mem::replace(self, ArenaSlot::Free(next)) {
                 ArenaSlot::Allocated(generation, t) => Some((generation, t)),
-                ArenaSlot::Free(_) => {
-                    assert_unchecked(false);
-                    unreachable!()
-                }
+                ArenaSlot::Free(_) => excluded!(),
             },
         }
     }
@@ -76,10 +73,7 @@ pub(crate) fn number_of<P: PtrKey>(i: P::Inx) -> usize
 {
     match i.try_into_usize() {
         Some(n) => n,
-        None => {
-            assert_unchecked(false);
-            unreachable!()
-        }
+        None => excluded!(),
     }
 }
 
@@ -90,10 +84,7 @@ pub fn inx_at<P: PtrKey>(k: usize) -> P::Inx
 {
     match P::Inx::try_from_usize(k + 1) {
         Some(i) => i,
-        None => {
-            assert_unchecked(false);
-            unreachable!()
-        }
+        None => excluded!(),
     }
 }
 
@@ -114,18 +105,12 @@ pub(crate) fn fill<P: PtrKey, T: Drop, S: SlotStack<Item = ArenaSlot<P, T>>>(
         Some(slot) => {
             let next = match slot {
                 ArenaSlot::Free(next) => *next,
-                ArenaSlot::Allocated(_, _) => {
-                    assert_unchecked(false);
-                    unreachable!()
-                }
+                ArenaSlot::Allocated(_, _) => excluded!(),
             };
             *slot = ArenaSlot::Allocated(generation, t);
             next
         }
-        None => {
-            assert_unchecked(false);
-            unreachable!()
-        }
+        None => excluded!(),
     }
 }
 
@@ -163,10 +148,7 @@ pub(crate) fn put_at<P: PtrKey, T: Drop, S: SlotStack<Item = ArenaSlot<P, T>>>(
         Some(slot) => {
             *slot = ArenaSlot::Allocated(generation, t);
         }
-        None => {
-            assert_unchecked(false);
-            unreachable!()
-        }
+        None => excluded!(),
     }
 }
 
@@ -218,10 +200,7 @@ pub(crate) fn list_at<P: PtrKey, T: Drop, S: SlotStack<Item = ArenaSlot<P, T>>>(
         Some(slot) => {
             *slot = ArenaSlot::Free(next);
         }
-        None => {
-            assert_unchecked(false);
-            unreachable!()
-        }
+        None => excluded!(),
     }
     P::Inx::try_from_usize(k + 1)
 }

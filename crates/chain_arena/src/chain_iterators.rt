@@ -6,7 +6,7 @@ ghost use Rattle.chain_links.specs.Links.{seen_links};
 ghost use Rattle.chain_links.specs.Walkers.{links_ahead, seen_item};
 ghost use Rattle.chain_arena.specs.Iterators.{IsOnLinks};
 
-use arena_base::{Arena, ArenaSlot, ArenaTrait, assert_unchecked};
+use arena_base::{Arena, ArenaSlot, ArenaTrait, excluded};
 use arena_ptr::{PtrKey, SlotStack};
 use chain_interlinks::gaps::is_index;
 use chain_interlinks::steps::look;
@@ -97,10 +97,7 @@ impl<'a, P: PtrKey, T: Drop, S: SlotStack<Item = ArenaSlot<P, LinkNoGen<P, T>>>>
                     }
                     Some(item)
                 }
-                None => {
-                    assert_unchecked(false);
-                    unreachable!()
-                }
+                None => excluded!(),
             },
             None => match self.back {
                 Some(i) => match look(self.arena, i) {
@@ -109,10 +106,7 @@ impl<'a, P: PtrKey, T: Drop, S: SlotStack<Item = ArenaSlot<P, LinkNoGen<P, T>>>>
                         self.back = item.1.prev();
                         Some(item)
                     }
-                    None => {
-                        assert_unchecked(false);
-                        unreachable!()
-                    }
+                    None => excluded!(),
                 },
                 None => None,
             },

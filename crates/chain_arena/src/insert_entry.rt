@@ -12,7 +12,7 @@ ghost use Rattle.chain_arena.specs.Effects.{kind_of, May};
 ghost use Rattle.chain_arena.specs.Places.{ComesBetween, RefusesOneMore};
 
 use crate::chain_arena::ChainArena;
-use arena_base::{ArenaSlot, ArenaTrait, assert_unchecked};
+use arena_base::{ArenaSlot, ArenaTrait, excluded};
 use arena_ptr::{ChainInsertionError, HeapStack, InxKey, PtrKey, ReallocationError, SlotStack};
 use chain_interlinks::gaps::Gap;
 use chain_interlinks::placing::around;
@@ -48,10 +48,7 @@ pub(crate) fn number_or_zero<I: InxKey>(i: Option<I>) -> usize
     match i {
         Some(i) => match i.try_into_usize() {
             Some(n) => n,
-            None => {
-                assert_unchecked(false);
-                unreachable!()
-            }
+            None => excluded!(),
         },
         None => 0,
     }
@@ -151,10 +148,7 @@ impl<P: PtrKey, T: Drop, S: SlotStack<Item = ArenaSlot<P, LinkNoGen<P, T>>>> Cha
                 Ok(()) => Ok(self.entry_in(gap)),
                 Err(why) => Err(why),
             },
-            None => {
-                assert_unchecked(false);
-                unreachable!()
-            }
+            None => excluded!(),
         }
     }
 
@@ -202,10 +196,7 @@ impl<
     {
         match P::Inx::try_from_usize(self.inx) {
             Some(i) => P::_from_raw(i, self.arena.generation()),
-            None => {
-                assert_unchecked(false);
-                unreachable!()
-            }
+            None => excluded!(),
         }
     }
 

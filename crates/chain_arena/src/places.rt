@@ -9,7 +9,7 @@ ghost use Rattle.chain_interlinks.specs.Gaps.{before_in, after_in};
 ghost use Rattle.chain_arena.specs.Places.{GrowsByOne, gap_unless_refused, refusal_of, PlacesGrowing, PlacesWithin, IsInsertedIn, InsertsAt};
 
 use crate::chain_arena::ChainArena;
-use arena_base::{ArenaSlot, ArenaTrait, assert_unchecked};
+use arena_base::{ArenaSlot, ArenaTrait, excluded};
 use arena_ptr::{ChainInsertionError, PtrKey, ReallocationError, SlotStack};
 use chain_interlinks::gaps::Gap;
 use chain_interlinks::placing::link_in;
@@ -77,10 +77,7 @@ impl<P: PtrKey, T: Drop, S: SlotStack<Item = ArenaSlot<P, LinkNoGen<P, T>>>> Cha
                 tie(&mut self.arena, gap, p);
                 p
             }
-            Err(_) => {
-                assert_unchecked(false);
-                unreachable!()
-            }
+            Err(_) => excluded!(),
         }
     }
 

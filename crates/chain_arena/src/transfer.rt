@@ -10,7 +10,7 @@ ghost use Rattle.chain_arena.specs.Transfers.{LaysOutAlike, IsTransfer, AreEnds,
 ghost use Rattle.chain_arena.specs.PointerTransfers.{TransferMovesPointers};
 
 use crate::chain_arena::ChainArena;
-use arena_base::{Advancer, ArenaSlot, ArenaTrait, CompactArenaTrait, assert_unchecked};
+use arena_base::{Advancer, ArenaSlot, ArenaTrait, CompactArenaTrait, excluded};
 use arena_ptr::{InvalidationOption, InxKey, PtrKey, ReallocationError, SlotStack};
 use chain_interlinks::gaps::Gap;
 use chain_links::LinkNoGen;
@@ -131,10 +131,7 @@ fn pointer_at<P: PtrKey>(index: usize, generation: P::Gen) -> P
 {
     match P::Inx::try_from_usize(index) {
         Some(i) => P::_from_raw(i, generation),
-        None => {
-            assert_unchecked(false);
-            unreachable!()
-        }
+        None => excluded!(),
     }
 }
 

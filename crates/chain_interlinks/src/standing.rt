@@ -11,7 +11,7 @@ ghost use Rattle.chain_interlinks.specs.Interlinks.{next_written, prev_written, 
 
 use crate::gaps::Gap;
 use crate::placing::around;
-use arena_base::{Arena, ArenaSlot, ArenaTrait, assert_unchecked, outcome};
+use arena_base::{Arena, ArenaSlot, ArenaTrait, excluded, outcome};
 use arena_ptr::{InvalidationResult, InxKey, PtrKey, SlotStack};
 use chain_links::LinkNoGen;
 
@@ -26,10 +26,7 @@ pub fn neighbor<P: PtrKey, T: Drop, S: SlotStack<Item = ArenaSlot<P, LinkNoGen<P
     match i {
         Some(i) => match arena.get_inx(i) {
             Some((generation, _)) => Some(P::_from_raw(i, generation)),
-            None => {
-                assert_unchecked(false);
-                unreachable!()
-            }
+            None => excluded!(),
         },
         None => None,
     }
@@ -47,10 +44,7 @@ pub fn set_next<P: PtrKey, T: Drop, S: SlotStack<Item = ArenaSlot<P, LinkNoGen<P
     match i {
         Some(i) => match arena.get_inx_mut(i) {
             Some(link) => link.set_next(next),
-            None => {
-                assert_unchecked(false);
-                unreachable!()
-            }
+            None => excluded!(),
         },
         None => {}
     }
@@ -68,10 +62,7 @@ pub fn set_prev<P: PtrKey, T: Drop, S: SlotStack<Item = ArenaSlot<P, LinkNoGen<P
     match i {
         Some(i) => match arena.get_inx_mut(i) {
             Some(link) => link.set_prev(prev),
-            None => {
-                assert_unchecked(false);
-                unreachable!()
-            }
+            None => excluded!(),
         },
         None => {}
     }

@@ -18,7 +18,7 @@ ghost use Rattle.chain_layout.specs.Closing.{ShowsMove, IsClosingWork};
 ghost use Rattle.chain_layout.specs.Compressions.{AreGathered};
 
 use crate::looking::look_at;
-use arena_base::{Arena, ArenaSlot, ArenaTrait, Compactor, SlotAccess, assert_unchecked, inx_at};
+use arena_base::{Arena, ArenaSlot, ArenaTrait, Compactor, SlotAccess, excluded, inx_at};
 use arena_ptr::{GenKey, InvalidationOption, InxKey, PtrKey, SlotStack};
 use chain_links::LinkNoGen;
 use chain_links::facts::has_room;
@@ -124,10 +124,7 @@ fn close_gaps<
                 &mut link.t,
                 P::_from_raw(to, generation),
             ),
-            None => {
-                assert_unchecked(false);
-                unreachable!()
-            }
+            None => excluded!(),
         }
     }
     count

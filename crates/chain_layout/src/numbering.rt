@@ -9,7 +9,7 @@ ghost use Rattle.chain_layout.specs.Numbering.{HasChainFrom, number_after, given
 
 use crate::looking::{look_at, tie_at};
 use crate::visiting::Visitor;
-use arena_base::{ArenaSlot, Compactor, SlotAccess, assert_unchecked, inx_at};
+use arena_base::{ArenaSlot, Compactor, SlotAccess, excluded, inx_at};
 use arena_ptr::{InxKey, PtrKey, SlotStack};
 use chain_links::LinkNoGen;
 use chain_links::walks::going_on;
@@ -43,8 +43,7 @@ fn start_at<P: PtrKey, T: Drop, S: SlotStack<Item = ArenaSlot<P, LinkNoGen<P, T>
             None => return at,
         }
     }
-    assert_unchecked(false);
-    unreachable!()
+    excluded!()
 }
 
 // The index of the link after one, with so many numbered before its chain and so many up to it: where the walk goes on the
@@ -128,10 +127,7 @@ fn number_chain<
         prev = Some(destination);
         match was {
             Some(was) => visitor.visit(P::_from_raw(i, was), P::_from_raw(destination, generation)),
-            None => {
-                assert_unchecked(false);
-                unreachable!()
-            }
+            None => excluded!(),
         }
     }
     close_ring(compactor, start, named, prev);

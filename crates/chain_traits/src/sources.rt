@@ -11,7 +11,7 @@ ghost use Rattle.arena_base.specs.declared.look.Look.{Look};
 ghost use Rattle.chain_traits.specs.Sources.{IsNextChain};
 
 use crate::chain_traits::ChainArenaTrait;
-use arena_base::{Advancer, assert_unchecked, invalidated};
+use arena_base::{Advancer, excluded, invalidated};
 use arena_ptr::{InvalidationOption, InxKey, PtrKey};
 use chain_links::walks::going_on;
 
@@ -44,8 +44,7 @@ fn start_of<Q: PtrKey, U: Drop, A: ChainArenaTrait<Q, U>>(source: &A, i: Q::Inx)
             None => return at,
         }
     }
-    assert_unchecked(false);
-    unreachable!()
+    excluded!()
 }
 
 // The next chain of a source: the link that it is written from, and whether it is cyclic.
@@ -64,10 +63,7 @@ fn next_chain<Q: PtrKey, U: Drop, A: ChainArenaTrait<Q, U>>(
             let start = start_of(source, q.inx());
             (start, before(source, start).is_some())
         }
-        None => {
-            assert_unchecked(false);
-            unreachable!()
-        }
+        None => excluded!(),
     }
 }
 
@@ -155,9 +151,6 @@ fn take_link<Q: PtrKey, U: Drop, A: ChainArenaTrait<Q, U>>(
                 next,
             )
         }
-        None => {
-            assert_unchecked(false);
-            unreachable!()
-        }
+        None => excluded!(),
     }
 }

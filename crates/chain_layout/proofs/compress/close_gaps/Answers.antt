@@ -28,8 +28,8 @@ move_link-requires-clause-free g c differs =
     free_to g.F.FnMut g.P.PtrKey.key c.args.generation g.P.Inx.InxKey.packed_number c.args.map c.loop-k.map c.args.compactor.now.held c.loop-k.compactor.held c.requires.agree c.loop-k.k c.loop-k.count
     c.loop-k.invariant.closing c.loop-k.invariant.coming c.slots-k-end.result c.slots-k-end.ensures c.loop-k-test.true (g.P.Inx.InxKey.number c.inx_at-from.result) c.inx_at-from.ensures (g.P.Inx.InxKey.number c.inx_at-to.result) c.inx_at-to.ensures differs
 
-pub assert_unchecked-requires : goal.assert_unchecked-requires
-assert_unchecked-requires g c = absurd (
+pub excluded-assert_unchecked-requires : goal.excluded-assert_unchecked-requires
+excluded-assert_unchecked-requires g c = absurd (
     let mid = c.move_link.new.compactor.held in
     stands_there g.F.FnMut g.P.PtrKey.key c.args.generation g.P.Inx.InxKey.packed_number c.args.map c.loop-k.map c.args.compactor.now.held c.loop-k.compactor.held c.requires.agree c.loop-k.k c.loop-k.count
     c.loop-k.invariant.closing c.loop-k.invariant.coming c.slots-k-end.result c.slots-k-end.ensures c.loop-k-test.true (g.P.Inx.InxKey.number c.inx_at-from.result) c.inx_at-from.ensures (g.P.Inx.InxKey.number c.inx_at-to.result) c.inx_at-to.ensures c.in-Some.was

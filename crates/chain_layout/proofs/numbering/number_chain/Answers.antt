@@ -64,9 +64,9 @@ after_it-after-requires-clause-next g c some =
     (option_map g.P.Inx.InxKey.number c.look_at.result.2) (option_map g.P.Inx.InxKey.number c.going_on-on.result) c.look_at.ensures.next c.going_on-on.ensures (g.P.Inx.InxKey.number on.0) (ap (option_map g.P.Inx.InxKey.number) on.1) in
     omega (arith, room, c.requires.fits)
 
-pub assert_unchecked-requires : goal.assert_unchecked-requires
-assert_unchecked-requires g c = absurd (
-    let next = (goal.at.assert_unchecked-requires g c).In-Some in
+pub excluded-assert_unchecked-requires : goal.excluded-assert_unchecked-requires
+excluded-assert_unchecked-requires g c = absurd (
+    let next = (goal.at.excluded-assert_unchecked-requires g c).In-Some in
     let can = c.requires.can in
     walk_answers g.P.Inx.InxKey.packed_number g.V.Visitor.sees g.P.PtrKey.key c.args.generation c.args.visitor c.args.compactor.now.held c.args.compactor.now.arena.now (g.P.Inx.InxKey.number c.args.start) c.args.before can.0 can.1 can.2 c.loop-on.visitor c.loop-on.compactor.held c.loop-on.compactor.arena.now c.loop-on.count
     (option_map g.P.Inx.InxKey.number c.loop-on.named) (option_map g.P.Inx.InxKey.number c.loop-on.prev) (g.P.Inx.InxKey.number c.in-Some.i) (walk_at g next can.0 can.1 can.2)

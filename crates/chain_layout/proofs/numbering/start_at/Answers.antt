@@ -85,8 +85,8 @@ loop-step-preserved g c =
       counts = counts_on old now new at.counts look.looked.counts;
     }
 
-pub assert_unchecked-requires : goal.assert_unchecked-requires
-assert_unchecked-requires g c = absurd (
+pub excluded-assert_unchecked-requires : goal.excluded-assert_unchecked-requires
+excluded-assert_unchecked-requires g c = absurd (
     let number = g.P.Inx.InxKey.number in
     let few = back_within g.P.Inx.InxKey.packed_number c.args.compactor.now.held.slots (number c.args.i) c.loop-step.step (number c.loop-step.at) c.requires c.loop-step.invariant.back in
     omega (arith, few))

@@ -14,8 +14,8 @@ start_of-start-requires-clause-some g c =
     (g.met.A.ArenaTrait.advances c.args.advancer.now c.advance.new.self source (Some c.in-Some.q) c.in-Some.ensures) in
     ap is_some (ap (g.A.ArenaTrait.entry source) c.inx.ensures ∙ sym (g.met.A.ArenaTrait.looked_up source (g.Q.PtrKey.key c.in-Some.q).0)) ∙ first.0.stands
 
-pub assert_unchecked-requires : goal.assert_unchecked-requires
-assert_unchecked-requires g c = absurd (
+pub excluded-assert_unchecked-requires : goal.excluded-assert_unchecked-requires
+excluded-assert_unchecked-requires g c = absurd (
     let source = c.args.source.now in
     let low = c.requires.low in
     c.requires.some (none_is (g.A.ArenaTrait.seen source).entries (g.A.ArenaTrait.looks c.args.advancer.now) (g.A.ArenaTrait.looks c.advance.new.self) low.0 low.1 low.2

@@ -38,8 +38,8 @@ loop-step-preserved g c =
           (next_valid links (number c.in-Some.k) (number c.loop-step.at) ((c.requires.agree.both (number c.in-Some.k) (number c.loop-step.at)).1 before));
     }
 
-pub assert_unchecked-requires : goal.assert_unchecked-requires
-assert_unchecked-requires g c = absurd (
+pub excluded-assert_unchecked-requires : goal.excluded-assert_unchecked-requires
+excluded-assert_unchecked-requires g c = absurd (
     let number = g.Q.Inx.InxKey.number in
     let source = c.args.source.now in
     let few = few_back (g.A.ChainArenaTrait.interlinks source) (g.A.ArenaTrait.entry source) (g.A.ArenaTrait.seen source).entries (g.met.A.ChainArenaTrait.stand source) (g.met.A.ArenaTrait.looked_up source)

@@ -10,8 +10,8 @@ use Rattle.chain_arena.proofs.Taking.{value_alone_told, seen_at, removal_at}
 use Rattle.chain_arena.proofs.LinkDraining.{drained_has, drained_first, first_valid, overflow_told, IsBehind, is_behind}
 use Rattle.chain_arena.proofs.chain_arena.ChainArena.drain_first.Goals as goal
 
-pub assert_unchecked-requires : goal.assert_unchecked-requires
-assert_unchecked-requires g c = absurd (
+pub excluded-assert_unchecked-requires : goal.excluded-assert_unchecked-requires
+excluded-assert_unchecked-requires g c = absurd (
     let packed = g.P.Inx.InxKey.packed_number in
     let following = g.P.Gen.GenKey.following in
     let a = c.args.self.now in

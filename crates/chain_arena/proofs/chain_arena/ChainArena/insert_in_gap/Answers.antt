@@ -33,8 +33,8 @@ inserted g c =
     (gap_between (shown s) q (before_in number c.args.gap q) (after_in number c.args.gap q) c.self.invariant (shown-next s (listed-seen_links packed a c.freed_are_free.ensures).free) (gap g c)).forth.itself
     (g.P.PtrKey.key c.in-Ok.p).0 (ap (λ p. p.0) {y = (next_index a, a.counter)} c.in-Ok.ensures.ptr) c.tie.ensures c.in-Ok.ensures.ok
 
-pub assert_unchecked-requires : goal.assert_unchecked-requires
-assert_unchecked-requires g c =
+pub excluded-assert_unchecked-requires : goal.excluded-assert_unchecked-requires
+excluded-assert_unchecked-requires g c =
     let packed = g.P.Inx.InxKey.packed_number in
     let a = c.self.inside.arena in
     let room : entry_count (seen_links packed a) < a.capacity = rw (← c.self.view_is) at c.requires.room in

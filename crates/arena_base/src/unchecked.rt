@@ -15,3 +15,13 @@ pub fn assert_unchecked(fact: bool)
         *none[0] = 0;
     }
 }
+
+/// An arm to which control does not come, as a proof shows at each place where it stands. In place of `unreachable!()`, which is
+/// built as a jump to a trap, so that the branch to it stays.
+#[macro_export]
+macro_rules! excluded {
+    () => {{
+        $crate::assert_unchecked(false);
+        unreachable!()
+    }};
+}
