@@ -169,9 +169,6 @@ module _ {Gen K T : Type 0} (number : K → Option ℕ) where
   pub ptr_at-some : (a : Arena Gen (LinkBody K T)) (i : ℕ) (g : Gen) (link : LinkBody K T) → entry_at a i ≡ Some (g, link) → ptr_at (entry_at (values_of (seen_links number a))) i ≡ Some (i, g)
   ptr_at-some a i g link stands = ap (λ (o : Option (Gen × T)). let p : Option (ℕ × Gen) = option_map (λ e. (i, e.0)) o in p) (value_at a i ∙ ap (option_map (on_value (λ l. l.t))) stands)
 
-  pub ptr_at-none : (a : Arena Gen (LinkBody K T)) (i : ℕ) → entry_at a i ≡ None → ptr_at (entry_at (values_of (seen_links number a))) i ≡ None
-  ptr_at-none a i stands = ap (λ (o : Option (Gen × T)). let p : Option (ℕ × Gen) = option_map (λ e. (i, e.0)) o in p) (value_at a i ∙ ap (option_map (on_value (λ l. l.t))) stands)
-
   -- the link of a pointer, with the pointers of now to its neighbours
   pub link_at_ptr : (a : Arena Gen (LinkBody K T)) (p : ℕ × Gen) (link : LinkBody K T) (prev next : Option (ℕ × Gen)) → entry_at a p.0 ≡ Some (p.1, link)
       → prev ≡ option_and_then (ptr_at (entry_at (values_of (seen_links number a)))) (number link.prev)

@@ -62,3 +62,11 @@ module _ {Gen K T : Type 0} (number : K → Option ℕ) where
   -- .. and where no value does
   pub nothing_named : (a : Arena Gen (LinkBody K T)) (n : ℕ) → option_map (λ (e : Gen × LinkBody K T). e.1) (entry_at a n) ≡ None → HasLink (shown (seen_links number a)) n → ⊥
   nothing_named a n none stands = nothing_at a n (no_entry (entry_at a n) none) stands
+
+  -- where an entry stands a link does
+  pub link_at : (a : Arena Gen (LinkBody K T)) (n : ℕ) → IsSome (entry_at a n) → HasLink (shown (seen_links number a)) n
+  link_at a n some = link_where (shown (seen_links number a)) n (ap (λ (o : Option (Gen × LinkSeen T)). is_some (option_map interlinks_of o)) (entry_at-seen_links number a n) ∙ of (entry_at a n) some)
+    where
+      of : (o : Option (Gen × LinkBody K T)) → IsSome o → IsSome (option_map interlinks_of (option_map (seen_pair number) o))
+      of None none = absurd (false≢true none)
+      of (Some e) some = refl

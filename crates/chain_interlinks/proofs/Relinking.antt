@@ -13,7 +13,7 @@ use Rattle.chain_links.specs.Links.{seen_link, seen_pair, seen_links}
 use Rattle.arena_base.specs.Arena.{Arena, entry_at, with_value}
 use Rattle.chain_links.specs.ChainArena.{on_value, link_value, values_of, LinkSeen, shown, relink, relinked, interlinks_of, interlinks_in, with_interlinks}
 use Rattle.chain_links.proofs.Mapping.{is_some-map, entry_at-with_each, length-with_each}
-use Rattle.chain_links.proofs.Seeing.{is_relinked, entry_at-relinked, entry_at-with_value, entry_at-seen_links, length-with_value, length-seen_links, length-relinked, no_entry}
+use Rattle.chain_links.proofs.Seeing.{is_relinked, entry_at-relinked, entry_at-with_value, entry_at-seen_links, length-with_value, length-seen_links, length-relinked}
 
 is_some-if : (b : Bool) (change : Interlinks → Interlinks) (l : Option Interlinks) → is_some (if b then option_map change l else l) ≡ is_some l
 is_some-if true change l = is_some-map change l
@@ -140,17 +140,3 @@ module _ {Gen K T : Type 0} (number : K → Option ℕ) where
       is_relinked seen (seen_links number (with_value a n w)) interlinks
       (length-seen_links number (with_value a n w) ∙ (length-with_value a n w ∙ sym (length-seen_links number a))) refl
       (λ i. ⊎_elim (at i) (off i) (cases_eq i n))
-
-  -- where no link stands nothing is written
-  pub seen_links-no_write : (a : Arena Gen (LinkBody K T)) (n : ℕ) (change : Interlinks → Interlinks) (interlinks : Shown)
-      → option_map (λ (e : Gen × LinkBody K T). e.1) (entry_at a n) ≡ None
-      → ((i : ℕ) → interlinks i ≡ (if i == n then option_map change (shown (seen_links number a) i) else shown (seen_links number a) i))
-      → seen_links number a ≡ relinked (seen_links number a) interlinks
-  seen_links-no_write a n change interlinks none are =
-      let seen = seen_links number a in
-      let at : (i : ℕ) → i ≡ n → entry_at seen i ≡ relink (interlinks i) (entry_at seen i) =
-      (λ i same. let nothing : entry_at seen i ≡ None = entry_at-seen_links number a i ∙ ap (option_map (seen_pair number)) (no_entry (entry_at a i) (ap (λ k. option_map (λ (e : Gen × LinkBody K T). e.1) (entry_at a k)) same ∙ none)) in
-      nothing ∙ ap (relink (interlinks i)) (sym nothing)) in
-      let off : (i : ℕ) → i ≢ n → entry_at seen i ≡ relink (interlinks i) (entry_at seen i) =
-      (λ i other. relink-own (entry_at seen i) ∙ ap (λ l. relink l (entry_at seen i)) (sym (are i ∙ if_other i n _ _ other))) in
-      is_relinked seen seen interlinks refl refl (λ i. ⊎_elim (at i) (off i) (cases_eq i n))

@@ -1,8 +1,9 @@
 // How the interlinks of a plain arena of links are read and written, where a link need not stand at each index that is named.
-ghost use Rattle.std.specs.Prelude.{◌≡◌, ◌↔◌, IsTrue, IsSome, IfNone, OnSome, Some, None};
+ghost use Rattle.std.specs.Prelude.{◌≡◌, ◌↔◌, IsTrue, IsSome, IfSome, IfNone, OnSome, Some, None};
 ghost use Rattle.std.specs.Option.{option_map, option_and_then};
 ghost use Rattle.arena_ptr.specs.Invalidation.{value_within, invalidation_result};
 ghost use Rattle.arena_base.specs.Arena.{entry_at};
+ghost use Rattle.chain_laws.specs.Chains.{HasLink};
 ghost use Rattle.chain_links.specs.ChainArena.{shown, remove_link, entry, CanConnect, ptr_at};
 ghost use Rattle.chain_links.specs.Links.{seen_links, seen_pair};
 ghost use Rattle.chain_interlinks.specs.Interlinks.{next_written, prev_written, linked_up, linked_twice, numbers, IsValidEnd, IsValidStart};
@@ -40,6 +41,24 @@ pub fn is_start<P: PtrKey, T: Drop, S: SlotStack<Item = ArenaSlot<P, LinkNoGen<P
     }
 }
 
+// The index that is given, if a link stands there.
+fn standing_at<P: PtrKey, T: Drop, S: SlotStack<Item = ArenaSlot<P, LinkNoGen<P, T>>>>(
+    arena: &Arena<P, LinkNoGen<P, T>, S>,
+    i: Option<P::Inx>,
+) -> Option<P::Inx>
+    ensures stands { IfSome (option_map P.Inx.number result) (HasLink (shown (seen_links P.Inx.packed_number arena.now))) }
+    ensures some { OnSome result (option_map P.Inx.number result ≡ option_map P.Inx.number i) }
+    ensures none { IfNone result (IfSome (option_map P.Inx.number i) (λ n. shown (seen_links P.Inx.packed_number arena.now) n ≡ None)) }
+{
+    match i {
+        Some(k) => match arena.get_inx(k) {
+            Some(_) => Some(k),
+            None => None,
+        },
+        None => None,
+    }
+}
+
 /// The pointer of now to the link that an interlink names.
 pub fn neighbor<P: PtrKey, T: Drop, S: SlotStack<Item = ArenaSlot<P, LinkNoGen<P, T>>>>(
     arena: &Arena<P, LinkNoGen<P, T>, S>,
@@ -47,13 +66,7 @@ pub fn neighbor<P: PtrKey, T: Drop, S: SlotStack<Item = ArenaSlot<P, LinkNoGen<P
 ) -> Option<P>
     ensures { option_map P.key result ≡ option_and_then (ptr_at (entry (seen_links P.Inx.packed_number arena.now))) (option_map P.Inx.number i) }
 {
-    match i {
-        Some(i) => match arena.get_inx(i) {
-            Some((generation, _)) => Some(P::_from_raw(i, generation)),
-            None => None,
-        },
-        None => None,
-    }
+    standing::neighbor(arena, standing_at(arena, i))
 }
 
 /// The link at i, if i is an index and a link stands there, names another as the one after it.
@@ -64,13 +77,8 @@ pub fn set_next<P: PtrKey, T: Drop, S: SlotStack<Item = ArenaSlot<P, LinkNoGen<P
 )
     ensures { seen_links P.Inx.packed_number arena.new ≡ next_written (seen_links P.Inx.packed_number arena.old) (option_map P.Inx.number i) (option_map P.Inx.number next) }
 {
-    match i {
-        Some(i) => match arena.get_inx_mut(i) {
-            Some(link) => link.set_next(next),
-            None => {}
-        },
-        None => {}
-    }
+    let i = standing_at(arena, i);
+    standing::set_next(arena, i, next);
 }
 
 /// The link at i, if i is an index and a link stands there, names another as the one before it.
@@ -81,13 +89,8 @@ pub fn set_prev<P: PtrKey, T: Drop, S: SlotStack<Item = ArenaSlot<P, LinkNoGen<P
 )
     ensures { seen_links P.Inx.packed_number arena.new ≡ prev_written (seen_links P.Inx.packed_number arena.old) (option_map P.Inx.number i) (option_map P.Inx.number prev) }
 {
-    match i {
-        Some(i) => match arena.get_inx_mut(i) {
-            Some(link) => link.set_prev(prev),
-            None => {}
-        },
-        None => {}
-    }
+    let i = standing_at(arena, i);
+    standing::set_prev(arena, i, prev);
 }
 
 /// One link follows another, each where it is some index at which a link stands.
