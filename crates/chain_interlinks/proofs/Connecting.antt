@@ -15,6 +15,7 @@ use Rattle.chain_links.specs.ChainArena.{on_value, LinkSeen, link_value, shown, 
 use Rattle.chain_links.proofs.Mapping.{IsValidPtr, entry_at-with_each, IsValidPtr-with_each}
 use Rattle.chain_links.proofs.Seeing.{entry_at-seen_links}
 use Rattle.chain_interlinks.specs.Interlinks.{IsValidEnd, IsValidStart}
+use Rattle.chain_interlinks.proofs.NamedLinks.{valid_link}
 use Rattle.chain_interlinks.proofs.Relinking.{FitsLinks, shown-relinked, values_of-relinked, relinked-again, relinked-own, FitsLinks-shown, FitsLinks-next_set, FitsLinks-linked}
 
 pub none_unless_some : {A : Type 0} (o : Option A) → is_some o ≡ false → o ≡ None
@@ -68,12 +69,8 @@ module _ {Gen K T : Type 0} (number : K → Option ℕ) where
   not_valid a p invalid valid = invalid ((same_valid a p).1 valid)
 
 module _ {Gen T : Type 0} where
-  valid_shown : (a : Arena Gen (LinkSeen T)) (p : ℕ × Gen) → IsValidPtr (values_of a) p → HasLink (shown a) p.0
-  valid_shown a p valid = let link = (IsValidPtr-with_each link_value a p).1 valid in
-      record { link = interlinks_of (p.1, link.value); shows = ap (option_map interlinks_of) link.stands }
-
   end_and_start : (a : Arena Gen (LinkSeen T)) (p q : ℕ × Gen) → CanConnect (entry_at (values_of a)) (shown a) p q → AreEndAndStart (shown a) p.0 q.0
-  end_and_start a p q can = record { valid_end = valid_shown a p can.first_valid; valid_start = valid_shown a q can.second_valid; end = can.no_next; start = can.no_prev }
+  end_and_start a p q can = record { valid_end = valid_link a p can.first_valid; valid_start = valid_link a q can.second_valid; end = can.no_next; start = can.no_prev }
 
   shown-joined : (a : Arena Gen (LinkSeen T)) (i j : ℕ) → shown (relinked a (joined (shown a) i j)) ≡ joined (shown a) i j
   shown-joined a i j = shown-relinked a (joined (shown a) i j) (FitsLinks-linked a (Some i) (Some j))

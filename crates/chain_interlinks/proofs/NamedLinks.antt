@@ -5,8 +5,9 @@ use Rattle.std.specs.Option.{option_map}
 use Rattle.std.proofs.lemmas.Bool.{false≢true}
 use Rattle.chain_laws.specs.Chains.{Shown, Interlinks, Agrees, HasLink, prev_of, next_of}
 use Rattle.chain_laws.specs.Removals.{vacated}
-use Rattle.chain_laws.proofs.Agreement.{if_other, not_both_ways}
-use Rattle.chain_laws.proofs.Standing.{next_valid, prev_valid}
+use Rattle.chain_laws.proofs.Agreement.{not_both_ways}
+use Rattle.chain_laws.proofs.RemovalPairs.{HasLink-vacated}
+use Rattle.chain_laws.proofs.Standing.{next_valid, prev_valid, shows_valid}
 use Rattle.chain_links.specs.declared.links.LinkBody.{LinkBody}
 use Rattle.chain_links.specs.Links.{seen_links, seen_pair}
 use Rattle.chain_links.specs.ChainArena.{LinkSeen, entry, shown, relinked, interlinks_of}
@@ -15,7 +16,8 @@ use Rattle.arena_base.specs.Arena.{Arena, entry_at, IsValid}
 use Rattle.chain_interlinks.specs.ChainArenaLaws.{links_stand}
 use Rattle.chain_interlinks.proofs.Relinking.{FitsLinks, FitsLinks-shown, shown-relinked}
 
-if_each : {A : Type 0} (o : Option A) (P : A → Type 0) → ((x : A) → o ≡ Some x → P x) → IfSome o P
+-- what holds of each index that an optional one may be
+pub if_each : {A : Type 0} (o : Option A) (P : A → Type 0) → ((x : A) → o ≡ Some x → P x) → IfSome o P
 if_each None P each = tt
 if_each (Some x) P each = each x refl
 
@@ -25,7 +27,7 @@ link_where shown i some = of (shown i) refl some
   where
     of : (o : Option Interlinks) → shown i ≡ o → IsSome o → HasLink shown i
     of None is none = absurd (false≢true none)
-    of (Some l) is here = record { link = l; shows = is }
+    of (Some l) is here = shows_valid shown i l is
 
 -- where interlinks agree, a link stands after each that names one ..
 pub next_named : (shown : Shown) (i : ℕ) → Agrees shown → IfSome (next_of shown i) (HasLink shown)
@@ -38,7 +40,7 @@ prev_named shown i agrees = if_each (prev_of shown i) (HasLink shown) (λ j is. 
 -- another one stands when a link is gone
 pub apart_named : (shown : Shown) (i : ℕ) (o : Option ℕ) → IfSome o (HasLink shown) → o ≢ Some i → IfSome o (HasLink (vacated shown i))
 apart_named shown i None stands apart = tt
-apart_named shown i (Some j) stands apart = record { link = stands.link; shows = if_other j i _ _ (λ same. apart (ap Some same)) ∙ stands.shows }
+apart_named shown i (Some j) stands apart = (HasLink-vacated shown i j).1 (stands, λ same. apart (ap Some same))
 
 module _ {Gen T : Type 0} where
   -- a link stands at the index of a valid pointer
@@ -62,11 +64,3 @@ module _ {Gen K T : Type 0} (number : K → Option ℕ) where
   -- .. and where no value does
   pub nothing_named : (a : Arena Gen (LinkBody K T)) (n : ℕ) → option_map (λ (e : Gen × LinkBody K T). e.1) (entry_at a n) ≡ None → HasLink (shown (seen_links number a)) n → ⊥
   nothing_named a n none stands = nothing_at a n (no_entry (entry_at a n) none) stands
-
-  -- where an entry stands a link does
-  pub link_at : (a : Arena Gen (LinkBody K T)) (n : ℕ) → IsSome (entry_at a n) → HasLink (shown (seen_links number a)) n
-  link_at a n some = link_where (shown (seen_links number a)) n (ap (λ (o : Option (Gen × LinkSeen T)). is_some (option_map interlinks_of o)) (entry_at-seen_links number a n) ∙ of (entry_at a n) some)
-    where
-      of : (o : Option (Gen × LinkBody K T)) → IsSome o → IsSome (option_map interlinks_of (option_map (seen_pair number) o))
-      of None none = absurd (false≢true none)
-      of (Some e) some = refl

@@ -1,5 +1,5 @@
 -- What the insertion of a link between two does to the state of a chain arena.
-use Rattle.std.proofs.Common.{◌≡◌, ℕ, Bool, true, false, Option, None, Some, refl, ap, sym, ◌∙◌, subst, ⊎_elim, inl, inr}
+use Rattle.std.proofs.Common.{◌≡◌, ℕ, Bool, true, false, Option, Some, refl, ap, sym, ◌∙◌, subst, ⊎_elim}
 use Rattle.std.specs.Prelude.{◌==◌, if◌then◌else◌, is_some, IfSome}
 use Rattle.std.proofs.lemmas.Bool.{cases_eq}
 use Rattle.std.specs.Option.{option_map}
@@ -7,7 +7,8 @@ use Rattle.chain_laws.specs.Chains.{Shown, Agrees, HasLink}
 use Rattle.chain_laws.specs.Insertions.{IsGap}
 use Rattle.chain_laws.specs.Operations.{next_set, prev_set, linked}
 use Rattle.chain_laws.proofs.Agreement.{if_same, if_other}
-use Rattle.chain_laws.proofs.Standing.{link, next_valid, prev_valid}
+use Rattle.chain_laws.proofs.InsertionPairs.{gap_between}
+use Rattle.chain_laws.proofs.Standing.{link}
 use Rattle.chain_laws.proofs.InsertionWrites.{with_link, inserted_by_writes, ringed_by_writes}
 use Rattle.chain_links.specs.declared.links.LinkBody.{LinkBody}
 use Rattle.chain_links.specs.Links.{seen_link, seen_links}
@@ -17,7 +18,8 @@ use Rattle.chain_interlinks.specs.declared.gaps.Gap.TheVariants.{Itself, Between
 use Rattle.chain_interlinks.specs.Gaps.{before_in, after_in, named_before, named_after}
 use Rattle.chain_links.specs.ChainArena.{LinkSeen, lone, new_link, named_by, insert_lone, insert_between, shown, relink, relinked, interlinks_of}
 use Rattle.chain_links.proofs.Seeing.{is_relinked}
-use Rattle.chain_links.proofs.Inserting.{AreFree, slot_at-filled, length-filled, shown-insert_lone, listed-seen_links, seen_links-insert_next, next_index-seen_links}
+use Rattle.chain_interlinks.proofs.NamedLinks.{if_each}
+use Rattle.chain_links.proofs.Inserting.{shown-next, AreFree, slot_at-filled, length-filled, shown-insert_lone, listed-seen_links, seen_links-insert_next, next_index-seen_links}
 use Rattle.chain_interlinks.proofs.Relinking.{relink-own, FitsLinks, FitsLinks-shown, FitsLinks-next_set, shown-relinked, relinked-again}
 use Rattle.chain_links.proofs.Mapping.{is_some-map}
 
@@ -113,12 +115,11 @@ module _ {Gen T : Type 0} (a : Arena Gen (LinkSeen T)) (free : AreFree a.slots a
 
   -- the links of a gap stand
   gap_stands : (u v : Option ℕ) → Agrees (shown a) → IsGap (shown a) (next_index a) u v → IfSome u (HasLink (shown (insert_next a l))) × IfSome v (HasLink (shown (insert_next a l)))
-  gap_stands None None agrees gap = (tt, tt)
-  gap_stands (Some i) None agrees gap = (old_stands i gap.0, tt)
-  gap_stands None (Some j) agrees gap = (tt, old_stands j gap.0)
-  gap_stands (Some i) (Some j) agrees (inl pair) = (old_stands i (next_valid (shown a) i j pair), old_stands j (prev_valid (shown a) j i ((agrees.both i j).0 pair)))
-  gap_stands (Some i) (Some j) agrees (inr (inl apart)) = (old_stands i apart.valid_end, old_stands j apart.valid_start)
-  gap_stands (Some i) (Some j) agrees (inr (inr new)) = (new_stands i new.0, new_stands j new.1)
+  gap_stands u v agrees gap =
+      let between = gap_between (shown a) (next_index a) u v agrees (shown-next a free) gap in (
+        if_each u (HasLink (shown (insert_next a l))) (λ i is. ⊎_elim (old_stands i) (new_stands i) (between.valid_before i is)),
+        if_each v (HasLink (shown (insert_next a l))) (λ i is. ⊎_elim (old_stands i) (new_stands i) (between.valid_after i is)),
+      )
 
 -- the links of a gap stand in the arena that holds the links, when the new one is there
 module _ {Gen K T I : Type 0} (packed : K → Option ℕ) (number : I → ℕ) (a b : Arena Gen (LinkBody K T)) (gap : Gap I) (link : LinkBody K T) (listed : IsListed a) (agrees : Agrees (shown (seen_links packed a)))

@@ -38,7 +38,7 @@ module _ {Gen T : Type 0} (entry : ℕ → Option (Gen × T)) (interlinks : Show
     pub valid : IsValid entry p
     pub start : prev_of interlinks p.0 ≡ None
 
--- u and v stand, which one was between that has gone from i, or both were that one
+-- what a link that has gone from i stood between: each of u and v stands, or it was alone in a ring, and both are i
 pub record WereBeside (shown : Shown) (i : ℕ) (u v : Option ℕ) : Type 0 where
   pub gone : shown i ≡ None
   pub before : u ≢ Some i → IfSome u (HasLink shown)

@@ -59,7 +59,7 @@ fn standing_at<P: PtrKey, T: Drop, S: SlotStack<Item = ArenaSlot<P, LinkNoGen<P,
     }
 }
 
-/// The pointer of now to the link that an interlink names.
+/// The pointer of now to the link that an interlink names, if one stands there.
 pub fn neighbor<P: PtrKey, T: Drop, S: SlotStack<Item = ArenaSlot<P, LinkNoGen<P, T>>>>(
     arena: &Arena<P, LinkNoGen<P, T>, S>,
     i: Option<P::Inx>,

@@ -32,7 +32,7 @@ pub fn around<I: InxKey>(gap: Gap<I>, i: I) -> (Option<I>, Option<I>)
     }
 }
 
-/// The links of a gap name the new one.
+/// The links of a gap name the new one, each where one stands.
 pub fn tie<P: PtrKey, T: Drop, S: SlotStack<Item = ArenaSlot<P, LinkNoGen<P, T>>>>(
     arena: &mut Arena<P, LinkNoGen<P, T>, S>,
     gap: Gap<P::Inx>,
