@@ -1,4 +1,4 @@
--- How an arena lies in its slots. Of this module public clauses cite `entry_of` alone, where the slots are shown.
+-- How an arena is stored in its slots. Public clauses cite `entry_of` and `ThreadsFreeList`, for the stack of slots.
 use Rattle.std.specs.Prelude.{◌≡◌, ℕ, zero, suc, ◌+◌, ◌≤◌, ⊤, List, [], ◌∷◌, map, min, length, count_by, is_some, slice_get, Option, None, Some}
 use Rattle.arena_base.specs.Compacting.{Held}
 use Rattle.arena_base.specs.Arena.{Arena, Has, HasNoRepetition}
@@ -80,6 +80,10 @@ module _ {P T Inx Gen Word : Type 0} (number : Inx → ℕ) (slots : List (Arena
   abbrev pub IsFreeList : List ℕ → Option Inx → Type 0
   IsFreeList [] head = head ≡ None
   IsFreeList (n ∷ ns) head = (i : Inx) × (next : Option Inx) × (head ≡ Some i) × (number i ≡ n) × (item_at slots n ≡ Some (Free next)) × IsFreeList ns next
+
+  -- the free slots thread these indexes: the slot at each one names the one after it
+  abbrev pub ThreadsFreeList : List ℕ → Type 0
+  ThreadsFreeList freed = (head : Option Inx) × IsFreeList freed head
 
   -- `len` counts the entries, and the freed list from `head` holds every free slot once
   pub record IsSound (greatest len : ℕ) (head : Option Inx) (freed : List ℕ) : Type 0 where

@@ -5,7 +5,7 @@ ghost use Rattle.std.specs.Option.{option_map};
 ghost use Rattle.arena_base.specs.Arena.{counter_after_clear, overflows_after_clear, entry_count, HasRoom, IsListed};
 ghost use Rattle.arena_base.specs.Compressing.{counter_after_compression, overflows_after_compression};
 ghost use Rattle.arena_ptr.specs.Numbers.{IsWithin};
-ghost use Rattle.arena_base.specs.Entries.{seen_of, index_of, AreTheSlots};
+ghost use Rattle.arena_base.specs.Entries.{entries, seen_of, index_of, AreTheSlots};
 
 use crate::advancer::PtrAdvancer;
 use crate::arena::{Arena, invalidated, outcome};
@@ -238,5 +238,22 @@ pub(crate) fn after_compression<G: GenKey>(counter: G, count: usize, reset: bool
         (G::two(), false)
     } else {
         after_clear(counter, count)
+    }
+}
+
+impl<P: PtrKey, T: Drop, S: SlotStack<Item = ArenaSlot<P, T>>> Arena<P, T, S> {
+    /// Shows what holds of every arena. It has no effect: a function calls it where its proof needs one of these facts.
+    pub fn invariants(&self)
+        ensures fits { entry_count self.now ≤ self.now.capacity }
+        ensures one_more { length (entries self.now) + 1 < 2 ^ 64 }
+        ensures indexes { All (λ e. IsWithin P.Inx.greatest (index_of e)) (entries self.now) }
+
+        // The freed list has each free slot once, so an insertion overwrites no entry.
+        ensures listed { IsListed self.now }
+
+        // The capacity is the lesser of the stack's capacity and the greatest index.
+        ensures room { HasRoom P.Inx.greatest (length self.now.slots) self.now }
+    {
+        self.len();
     }
 }

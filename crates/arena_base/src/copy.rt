@@ -90,6 +90,8 @@ impl<P: PtrKey, T: Drop, S: SlotStack<Item = ArenaSlot<P, T>>> Arena<P, T, S> {
         ensures within { length source.now.slots ≤ self.old.capacity →
             (IsOk result.0 ⊎ HasRefusable M.may_refuse P.key (entries source.now)) × (self.new.capacity ≡ self.old.capacity) }
         ensures beyond { (result.0 ≡ Err ReallocationError.BeyondMaxCapacity) ↔ IsBeyond self.old.maximum (length source.now.slots) }
+        ensures unchanged { result.0 ≡ Err ReallocationError.BeyondMaxCapacity
+            → (self.new ≡ self.old) × (result.1 ≡ values) }
         ensures ok { OnOk result.0 (HasRoom P.Inx.greatest (length source.now.slots) self.new) }
         ensures copied { OnOk result.0 (CopiesBy M.makes P.key values (entries source.now) (entries self.new) result.1) }
         ensures ready { OnOk result.0 (M.is_ready result.1) }

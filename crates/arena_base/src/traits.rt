@@ -80,9 +80,10 @@ pub trait ArenaTrait<P: PtrKey, T: Drop> {
 
     ghost compresses: { Self → Self → Type 0 } = { λ _ _. ⊤ };
 
-    /// An empty arena with the counter two. It takes no memory.
+    /// Returns an empty arena with the counter two and the capacity 0. It takes no memory.
     fn new(alloc: Global) -> Self
         ensures new { IsNew P.Gen.first (seen result) }
+        ensures capacity { (seen result).capacity ≡ 0 }
         ensures more { starts 0 result };
 
     /// An empty arena with the counter two and room for at least `n` entries.
@@ -315,6 +316,8 @@ pub trait ArenaCloneFromWith<P: PtrKey, T: Drop>: ArenaTrait<P, T> {
         ensures within { length source.now.slots ≤ (Self.seen self.old).capacity →
             (IsOk result.0 ⊎ HasRefusable M.may_refuse P.key (entries source.now)) × ((Self.seen self.new).capacity ≡ (Self.seen self.old).capacity) }
         ensures beyond { (result.0 ≡ Err ReallocationError.BeyondMaxCapacity) ↔ IsBeyond (Self.seen self.old).maximum (length source.now.slots) }
+        ensures unchanged { result.0 ≡ Err ReallocationError.BeyondMaxCapacity
+            → (self.new ≡ self.old) × (result.1 ≡ values) }
         ensures ok { OnOk result.0 (IsRoom P.Inx.greatest (Self.seen self.new).maximum (length source.now.slots) (Self.seen self.new).capacity) }
         ensures copied { OnOk result.0 (IsCopyBy M.makes P.key values source.now (Self.seen self.old) (Self.seen self.new) result.1) }
         ensures ready { OnOk result.0 (M.is_ready result.1) }

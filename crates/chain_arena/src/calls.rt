@@ -118,7 +118,7 @@ fn insert<P: PtrKey, T: Drop, S: SlotStack<Item = ArenaSlot<P, LinkNoGen<P, T>>>
     ensures { InsertStep ⟦<P as AnyPointer>⟧.kind arena.old kind t result arena.new }
 {
     // There are no more links than the capacity.
-    arena.len();
+    arena.invariants();
     arena.insert_reallocating(kind, t)
 }
 
@@ -131,7 +131,7 @@ fn insert_within<P: PtrKey, T: Drop, S: SlotStack<Item = ArenaSlot<P, LinkNoGen<
     ensures { InsertWithinStep ⟦<P as AnyPointer>⟧.kind arena.old kind t result arena.new }
 {
     // There are no more links than the capacity.
-    arena.len();
+    arena.invariants();
     arena.insert_within_capacity(kind, t)
 }
 
@@ -143,8 +143,7 @@ fn reserve<P: PtrKey, T: Drop, S: SlotStack<Item = ArenaSlot<P, LinkNoGen<P, T>>
     ensures { ReserveStep ⟦<P as AnyPointer>⟧.kind arena.old n result arena.new }
 {
     let grown = arena.reallocate_min_capacity(n);
-    // The room is as in every arena.
-    arena.len();
+    arena.invariants();
     grown
 }
 
@@ -201,7 +200,7 @@ pub fn run_calls<P: PtrKey, T: Drop, S: SlotStack<Item = ArenaSlot<P, LinkNoGen<
 {
     let replies = replies_to(alloc, arena, calls);
     // Whatever was refused, the arena has one set of chains.
-    arena.len();
+    arena.invariants();
     replies
 }
 

@@ -1,10 +1,13 @@
-ghost use Rattle.std.specs.Prelude.{◌≡◌, ◌≤◌, ◌+◌, ◌↔◌, length, map, min, IsSome, IfSome, IfOk, OnOk, OnErr, None};
+ghost use Rattle.std.specs.Prelude.{◌≡◌, ◌≤◌, ◌+◌, ◌↔◌, length, map, min, All, IsSome, IfSome, IfOk, OnOk, OnErr, None};
 ghost use Rattle.chain_laws.specs.Chains.{Agrees};
+ghost use Rattle.chain_laws.specs.Neighbors.{HasOneSetOfChains};
 ghost use Rattle.std.specs.Option.{option_map};
 ghost use Rattle.arena_ptr.specs.Invalidation.{value_within, invalidation_option, invalidation_result};
-ghost use Rattle.arena_base.specs.Arena.{entry_at, entry_count, with_counter, with_maximum, IsValid};
+ghost use Rattle.arena_ptr.specs.Numbers.{IsWithin};
+ghost use Rattle.arena_base.specs.Arena.{entry_at, entry_count, with_counter, with_maximum, HasRoom, IsListed, IsValid};
+ghost use Rattle.arena_base.specs.Entries.{count, index_of};
 ghost use Rattle.arena_base.specs.Compressing.{overflows_after_compression};
-ghost use Rattle.arena_base.specs.Slots.{entry_of};
+ghost use Rattle.arena_base.specs.Slots.{entry_of, ThreadsFreeList};
 ghost use Rattle.chain_links.specs.ChainArena.{entry, seen, shown, IsRemoval, IsWalkOf};
 ghost use Rattle.chain_links.specs.Kinds.{names_in};
 ghost use Rattle.chain_interlinks.specs.Gaps.{IsGapOf};
@@ -69,6 +72,25 @@ impl<P: PtrKey, T: Drop, S: SlotStack<Item = ArenaSlot<P, LinkNoGen<P, T>>>> Cha
             Some(link) => Some(ChainIter::new(&self.arena, p.inx(), link.prev(), self.arena.len())),
             None => None,
         }
+    }
+
+    /// Shows what holds of every chain arena. It has no effect: a function calls it where its proof needs one of these
+    /// facts.
+    pub fn invariants(&self)
+        ensures agree { Agrees (shown self.now) }
+        ensures one { HasOneSetOfChains (shown self.now) }
+        ensures fits { count (seen self.now) ≤ (seen self.now).capacity }
+        ensures indexes { All (λ e. IsWithin P.Inx.greatest (index_of e)) (seen self.now).entries }
+
+        // The freed list has each free slot once, so an insertion overwrites no link.
+        ensures listed { IsListed self.now }
+
+        // The capacity is the lesser of the stack's capacity and the greatest index.
+        ensures room { HasRoom P.Inx.greatest (length self.now.slots) self.now }
+    {
+        // Naming the field opens the invariant of the type, that the interlinks agree.
+        let _ = &self.arena;
+        self.len();
     }
 
     // The gap of a kind. `None`: what the kind asks is not met.
@@ -207,6 +229,7 @@ impl<P: PtrKey, T: Drop, S: SlotStack<Item = ArenaSlot<P, LinkNoGen<P, T>>>> Cha
     /// The slots.
     pub fn backing(&self) -> &S
         ensures slots { map (option_map (seen_pair P.Inx.packed_number)) (map entry_of (S.items result.now)) ≡ self.now.slots }
+        ensures freed { ThreadsFreeList P.Inx.number (S.items result.now) self.now.freed }
         ensures capacity { S.capacity result.now ≡ self.now.stack_capacity }
         ensures room { self.now.capacity ≡ min (S.capacity result.now) P.Inx.greatest }
         ensures maximum { S.maximum result.now ≡ self.now.maximum }

@@ -55,7 +55,7 @@ impl<P: PtrKey, T: Drop, S: SlotStack<Item = ArenaSlot<P, LinkNoGen<P, T>>>> Cha
         ensures at { IfSome result (λ d. d.at ≡ (P.key p).0) }
         ensures walk { IfSome result (λ d. IsWalk (shown self.old) (P.key p).0 (walk_left self.old (P.key p).0)) }
     {
-        let _ = &self.arena;
+        self.invariants();
         if !self.contains(p) {
             return None;
         }
@@ -69,7 +69,7 @@ impl<P: PtrKey, T: Drop, S: SlotStack<Item = ArenaSlot<P, LinkNoGen<P, T>>>> Cha
         ensures none { IfNone result (walk_left self.now at ≡ []) }
     {
         // There are no more slots than indexes.
-        self.len();
+        self.invariants();
         P::Inx::try_from_usize(at)
     }
 
@@ -79,7 +79,7 @@ impl<P: PtrKey, T: Drop, S: SlotStack<Item = ArenaSlot<P, LinkNoGen<P, T>>>> Cha
         ensures some { IfSome result (λ e. IsDrainStep P.key P.Inx.packed_number P.Gen.following P.Gen.wraps self.old at e.1 self.new e.0) }
         ensures agreed { Agrees (shown self.old) }
     {
-        let _ = &self.arena;
+        self.invariants();
         match self.index_at(at) {
             Some(i) => {
                 let (entry, overflow) = self.remove_inx_link_no_gen(i).overflowing();
@@ -98,7 +98,7 @@ impl<P: PtrKey, T: Drop, S: SlotStack<Item = ArenaSlot<P, LinkNoGen<P, T>>>> Cha
         ensures taken { TakesWalk (shown self.old) (shown self.new) (walk_left self.old from) }
         ensures counts { CountsUp P.Gen.following (length (walk_left self.old from)) self.old self.new }
     {
-        let _ = &self.arena;
+        self.invariants();
         let mut at = from;
         while let Some((next, _)) = self.drain_at(at) {
             at = next;

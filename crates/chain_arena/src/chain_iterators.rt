@@ -7,7 +7,7 @@ ghost use Rattle.chain_links.specs.Walkers.{links_ahead, seen_item};
 ghost use Rattle.chain_arena.specs.Iterators.{IsOnLinks};
 
 use arena_base::{Arena, ArenaSlot, ArenaTrait, excluded};
-use arena_ptr::{PtrKey, SlotStack};
+use arena_ptr::{HeapStack, PtrKey, SlotStack};
 use chain_interlinks::gaps::is_index;
 use chain_interlinks::steps::look;
 use chain_links::LinkNoGen;
@@ -18,7 +18,12 @@ use std::marker::Model;
 ///
 /// Made by `ChainArena::iter_chain`. Stands for the `impl Iterator` of `triple_arena`'s `iter_chain`.
 #[derive(Drop)]
-pub struct ChainIter<'a, P: PtrKey, T: Drop, S: SlotStack<Item = ArenaSlot<P, LinkNoGen<P, T>>>> {
+pub struct ChainIter<
+    'a,
+    P: PtrKey,
+    T: Drop,
+    S: SlotStack<Item = ArenaSlot<P, LinkNoGen<P, T>>> = HeapStack<ArenaSlot<P, LinkNoGen<P, T>>>,
+> {
     arena: &'a Arena<P, LinkNoGen<P, T>, S>,
     start: P::Inx,
     forth: Option<P::Inx>,

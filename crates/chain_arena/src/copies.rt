@@ -2,7 +2,7 @@
 ghost use Rattle.std.specs.Prelude.{◌≡◌, ◌≤◌, ◌↔◌, ◌⊎◌, [], length, IsOk, IfOk, OnOk, OnErr, Err};
 ghost use Rattle.arena_ptr.specs.SlotStack.{IsBeyond};
 ghost use Rattle.chain_laws.specs.Chains.{Agrees};
-ghost use Rattle.arena_base.specs.Arena.{HasRoom, IsRoom, IsWithinReach};
+ghost use Rattle.arena_base.specs.Arena.{HasRoom, IsRoom, IsWithinReach, new_arena};
 ghost use Rattle.arena_base.specs.Copying.{IsCopyBy, IsCopyCall, IsGivenUp, IsLeftEmpty};
 ghost use Rattle.chain_links.specs.ChainArena.{shown};
 ghost use Rattle.chain_links.specs.Links.{seen_link};
@@ -66,6 +66,8 @@ impl<P: PtrKey, T: Drop, S: SlotStack<Item = ArenaSlot<P, LinkNoGen<P, T>>>> Cha
         ensures within { length source.now.slots ≤ self.old.capacity →
             (IsOk result.0 ⊎ HasRefusableLink P.Inx.packed_number M.may_refuse P.key source.now) × (self.new.capacity ≡ self.old.capacity) }
         ensures beyond { (result.0 ≡ Err ReallocationError.BeyondMaxCapacity) ↔ IsBeyond self.old.maximum (length source.now.slots) }
+        ensures unchanged { result.0 ≡ Err ReallocationError.BeyondMaxCapacity
+            → (self.new ≡ self.old) × (result.1 ≡ values) }
         ensures ok { OnOk result.0 (HasRoom P.Inx.greatest (length source.now.slots) self.new) }
         ensures copied { OnOk result.0 (IsLinkCopyBy (MakesOf (seen_link P.Inx.packed_number) M.makes) P.key values source.now self.old self.new result.1) }
         ensures ready { OnOk result.0 (M.is_ready result.1) }
@@ -97,6 +99,7 @@ impl<P: PtrKey, T: Drop, S: SlotStack<Item = ArenaSlot<P, LinkNoGen<P, T>>>> Cha
         ensures ok { OnOk result (HasRoom P.Inx.greatest (length source.now.slots) self.new) }
         ensures copied { OnOk result (IsLinkCopy F.FnMut P.Inx.packed_number P.key map source.now self.old self.new) }
         ensures never_less { self.old.capacity ≤ self.new.capacity }
+        ensures reached { IsWithinReach S.may_reach (length source.now.slots) self.old self.new }
         ensures err { OnErr result (self.new ≡ self.old) }
         ensures agreed { Agrees (shown source.now) }
     {
@@ -120,6 +123,8 @@ impl<P: PtrKey, T: Drop, S: SlotStack<Item = ArenaSlot<P, LinkNoGen<P, T>>>> Cha
         ensures within { length self.now.slots ≤ (A.seen arena.old).capacity →
             (IsOk result.0 ⊎ HasRefusableLink P.Inx.packed_number M.may_refuse P.key self.now) × ((A.seen arena.new).capacity ≡ (A.seen arena.old).capacity) }
         ensures beyond { (result.0 ≡ Err ReallocationError.BeyondMaxCapacity) ↔ IsBeyond (A.seen arena.old).maximum (length self.now.slots) }
+        ensures unchanged { result.0 ≡ Err ReallocationError.BeyondMaxCapacity
+            → (arena.new ≡ arena.old) × (result.1 ≡ values) }
         ensures ok { OnOk result.0 (IsRoom P.Inx.greatest (A.seen arena.new).maximum (length self.now.slots) (A.seen arena.new).capacity) }
         ensures copied { OnOk result.0 (IsCopyBy (MakesOf (seen_link P.Inx.packed_number) M.makes) P.key values self.now (A.seen arena.old) (A.seen arena.new) result.1) }
         ensures ready { OnOk result.0 (M.is_ready result.1) }
@@ -190,6 +195,8 @@ impl<P: PtrKey, T: Clone, S: SlotStack<Item = ArenaSlot<P, LinkNoGen<P, T>>>> Ch
         ensures beyond { (result ≡ Err ReallocationError.BeyondMaxCapacity) ↔ IsBeyond S.initial_maximum (length self.now.slots) }
         ensures copied { IfOk result (IsClone P.Gen.first S.initial_maximum self.now) }
         ensures room { IfOk result (HasRoom P.Inx.greatest (length self.now.slots)) }
+        ensures reached { IfOk result (IsWithinReach S.may_reach (length self.now.slots)
+            (new_arena P.Gen.first S.initial_maximum)) }
         ensures no_room { self.now.slots ≡ [] → IfOk result (λ copy. copy.stack_capacity ≡ 0) × IsOk result }
         ensures agreed { Agrees (shown self.now) }
     {

@@ -15,6 +15,7 @@ use arena_ptr::{
     SlotStack,
 };
 use chain_layout::compress::{begin_generation, gather};
+use chain_links::link_access::value_of;
 use chain_links::{LinkBody, LinkNoGen, Vacant};
 use std::alloc::Global;
 
@@ -114,7 +115,7 @@ impl<P: PtrKey, T: Drop, S: SlotStack<Item = ArenaSlot<P, LinkNoGen<P, T>>>> Are
 
     fn get(&self, p: P) -> Option<&T> {
         match self.arena.get(p) {
-            Some(link) => Some(link.value()),
+            Some(link) => Some(value_of(link)),
             None => None,
         }
     }
@@ -129,7 +130,7 @@ impl<P: PtrKey, T: Drop, S: SlotStack<Item = ArenaSlot<P, LinkNoGen<P, T>>>> Are
 
     fn get_inx(&self, i: P::Inx) -> Option<(P::Gen, &T)> {
         match self.arena.get_inx(i) {
-            Some((generation, link)) => Some((generation, link.value())),
+            Some((generation, link)) => Some((generation, value_of(link))),
             None => None,
         }
     }

@@ -24,7 +24,7 @@ ghost use Rattle.chain_links.specs.Walkers.{walker_of};
 
 use crate::chain_advancer::ChainPtrAdvancer;
 use crate::chain_arena::ChainArena;
-use arena_base::{Advancer, ArenaSlot, ArenaTrait};
+use arena_base::{ArenaSlot, ArenaTrait};
 use arena_ptr::{
     ChainInsertionError, GenKey, InvalidationOption, InvalidationResult, InxKey, PtrKey,
     ReallocationError, SlotStack,
@@ -176,14 +176,15 @@ impl<P: PtrKey, T: Drop, S: SlotStack<Item = ArenaSlot<P, LinkNoGen<P, T>>>> Cha
         self.arena.get_inx(i)
     }
 
-    fn advancer_chain(&self, p: P) -> ChainPtrAdvancer<P>
-        ensures valid { IsValid (entry self.now) (P.key p) → walker_of P.Inx.number result.left result.start result.forth result.back ≡ walker_at (interlinks self.now) (count (seen self.now)) (P.key p).0 }
-        ensures invalid { ¬ IsValid (entry self.now) (P.key p) → result.left ≡ 0 }
+    fn advancer_chain(&self, p: P) -> Option<ChainPtrAdvancer<P>>
+        ensures some { IsSome result ↔ IsValid (entry self.now) (P.key p) }
+        ensures walker { IfSome result (λ v. walker_of P.Inx.number v.left v.start v.forth v.back
+            ≡ walker_at (interlinks self.now) (count (seen self.now)) (P.key p).0) }
         ensures agree { Agrees (interlinks self.now) }
     {
         match self.arena.get(p) {
-            Some(link) => ChainPtrAdvancer::new(self.arena.len(), p.inx(), link.prev()),
-            None => <ChainPtrAdvancer<P> as Advancer<Self>>::empty(),
+            Some(link) => Some(ChainPtrAdvancer::new(self.arena.len(), p.inx(), link.prev())),
+            None => None,
         }
     }
 
@@ -272,7 +273,7 @@ impl<P: PtrKey, T: Drop, S: SlotStack<Item = ArenaSlot<P, LinkNoGen<P, T>>>> Cha
         ensures chains { IsValid (entry self.old) (P.key p) → Removes (interlinks self.old) (interlinks self.new) (P.key p).0 }
         ensures pairs { IsValid (entry self.old) (P.key p) → RemovesPairs (interlinks self.old) (interlinks self.new) (P.key p).0 }
     {
-        let _ = &self.arena;
+        self.invariants();
         if self.contains(p) {
             link_alone(self.unlink(p.inx()))
         } else {

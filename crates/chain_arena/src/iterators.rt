@@ -9,6 +9,7 @@ use crate::chain_arena::ChainArena;
 use arena_base::{Arena, ArenaSlot, ArenaTrait, CapacityDrain, Iter};
 use arena_ptr::{HeapStack, InxKey, PtrKey, SlotStack};
 use chain_links::LinkNoGen;
+use chain_links::link_access::value_of;
 use std::marker::Model;
 
 /// The pointers and values of the links of a chain arena, seen as the list of those that are left.
@@ -45,7 +46,7 @@ impl<'a, P: PtrKey, T: Drop, S: SlotStack<Item = ArenaSlot<P, LinkNoGen<P, T>>>>
 
     fn next(&mut self) -> Option<(P, &'a T)> {
         match self.links.next() {
-            Some((p, link)) => Some((p, link.value())),
+            Some((p, link)) => Some((p, value_of(link))),
             None => None,
         }
     }
@@ -82,7 +83,7 @@ fn links_of<P: PtrKey, T: Drop, S: SlotStack<Item = ArenaSlot<P, LinkNoGen<P, T>
     ensures links { result ≡ entries arena.now }
     ensures fits { length result < 2 ^ 64 }
 {
-    arena.len();
+    arena.invariants();
     arena.into_iter()
 }
 
@@ -102,7 +103,7 @@ impl<P: PtrKey, T: Drop, S: SlotStack<Item = ArenaSlot<P, LinkNoGen<P, T>>>> Int
     /// stood.
     fn into_iter(self) -> CapacityDrain<P, LinkNoGen<P, T>, S> {
         let ChainArena { arena } = self;
-        arena.len();
+        arena.invariants();
         arena.into_iter()
     }
 }

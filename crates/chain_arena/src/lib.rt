@@ -34,7 +34,7 @@
 #![tactic(auto)]
 
 mod any_pointer;
-mod calls;
+pub mod calls;
 mod chain_advancer;
 mod chain_arena;
 mod chain_drains;

@@ -46,7 +46,7 @@ impl<P: PtrKey, T: Drop, S: SlotStack<Item = ArenaSlot<P, LinkNoGen<P, T>>>> Cha
         ensures { option_map P.key result ≡ first_key (entries_left self.now at) }
     {
         // No link has an index above the greatest.
-        self.len();
+        self.invariants();
         match P::Inx::try_from_usize(at) {
             Some(i) => self.advancer_inx(i, false).advance(self),
             None => None,
@@ -60,7 +60,6 @@ impl<P: PtrKey, T: Drop, S: SlotStack<Item = ArenaSlot<P, LinkNoGen<P, T>>>> Cha
         ensures none { IfNone result ((entries_left self.old at ≡ []) × (self.new ≡ self.old)) }
         ensures some { IfSome result (λ e. IsLinkDrainStep P.key P.Gen.following P.Gen.wraps self.old at e.1 self.new e.0) }
     {
-        let _ = &self.arena;
         match self.first_from(at) {
             Some(p) => {
                 let (entry, overflow) = self.unlink(p.inx()).overflowing();
@@ -82,7 +81,6 @@ impl<P: PtrKey, T: Drop, S: SlotStack<Item = ArenaSlot<P, LinkNoGen<P, T>>>> Cha
         ensures counts { CountsUp P.Gen.following (length (entries_left self.old from)) self.old self.new }
         ensures empties { entries_left self.old from ≡ entries (values_of self.old) → entries (values_of self.new) ≡ [] }
     {
-        let _ = &self.arena;
         let mut at = from;
         while let Some((next, _)) = self.drain_first(at) {
             at = next;

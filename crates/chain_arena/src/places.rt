@@ -14,7 +14,6 @@ use arena_ptr::{ChainInsertionError, PtrKey, ReallocationError, SlotStack};
 use chain_interlinks::gaps::Gap;
 use chain_interlinks::placing::link_in;
 use chain_interlinks::standing::tie;
-use chain_links::facts::freed_are_free;
 use chain_links::{LinkInsertKind, LinkNoGen};
 
 impl<P: PtrKey, T: Drop, S: SlotStack<Item = ArenaSlot<P, LinkNoGen<P, T>>>> ChainArena<P, T, S> {
@@ -24,8 +23,7 @@ impl<P: PtrKey, T: Drop, S: SlotStack<Item = ArenaSlot<P, LinkNoGen<P, T>>>> Cha
     {
         let n = self.len() + 1;
         let grown = self.reallocate_min_capacity(n);
-        // The room is as in every arena.
-        self.len();
+        self.invariants();
         grown
     }
 
@@ -71,7 +69,7 @@ impl<P: PtrKey, T: Drop, S: SlotStack<Item = ArenaSlot<P, LinkNoGen<P, T>>>> Cha
         requires room { entry_count self.old < self.old.capacity }
         ensures { IsInsertedIn P.key P.Inx.number self.old gap t result self.new }
     {
-        freed_are_free(&self.arena);
+        self.arena.invariants();
         match self.arena.insert_within_capacity(link_in::<P, T>(gap, t)) {
             Ok(p) => {
                 tie(&mut self.arena, gap, p);

@@ -69,15 +69,14 @@ impl<P: PtrKey, T: Drop, S: SlotStack<Item = ArenaSlot<P, LinkNoGen<P, T>>>> Cha
         ensures after { self.new ≡ with_capacity_of self.old self.new }
     {
         if n <= self.capacity() {
-            // The room is as in every arena.
-            self.len();
+            self.invariants();
             return Ok(());
         }
         if n > P::Inx::greatest() {
             return Err(ReallocationError::AllocError);
         }
         let grown = self.reallocate_min_capacity(n);
-        self.len();
+        self.invariants();
         grown
     }
 }

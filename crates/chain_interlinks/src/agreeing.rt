@@ -10,7 +10,6 @@ use crate::gaps::is_index;
 use arena_base::{Arena, ArenaSlot, ArenaTrait, inx_at};
 use arena_ptr::{InxKey, PtrKey, SlotStack};
 use chain_links::LinkNoGen;
-use chain_links::facts::has_room;
 
 /// The indexes that the link at an index names: of the link before it and of the one after it. No link stands there: none.
 pub fn neighbors_at<P: PtrKey, T: Drop, S: SlotStack<Item = ArenaSlot<P, LinkNoGen<P, T>>>>(
@@ -71,7 +70,7 @@ pub fn links_agree<P: PtrKey, T: Drop, S: SlotStack<Item = ArenaSlot<P, LinkNoGe
 ) -> bool
     ensures { IsTrue result ↔ Agrees (shown (seen_links P.Inx.packed_number arena.now)) }
 {
-    has_room(arena);
+    arena.invariants();
     for k in 0..arena.backing().len() {
         if !agrees_at(arena, inx_at::<P>(k)) {
             return false;

@@ -13,7 +13,7 @@ use crate::gaps::Gap;
 use crate::placing::around;
 use arena_base::{Arena, ArenaSlot, ArenaTrait, excluded, outcome};
 use arena_ptr::{InvalidationResult, InxKey, PtrKey, SlotStack};
-use chain_links::LinkNoGen;
+use chain_links::{LinkNoGen, link_access};
 
 /// The pointer of now to the link that an interlink names.
 pub fn neighbor<P: PtrKey, T: Drop, S: SlotStack<Item = ArenaSlot<P, LinkNoGen<P, T>>>>(
@@ -43,7 +43,7 @@ pub fn set_next<P: PtrKey, T: Drop, S: SlotStack<Item = ArenaSlot<P, LinkNoGen<P
 {
     match i {
         Some(i) => match arena.get_inx_mut(i) {
-            Some(link) => link.set_next(next),
+            Some(link) => link_access::set_next(link, next),
             None => excluded!(),
         },
         None => {}
@@ -61,7 +61,7 @@ pub fn set_prev<P: PtrKey, T: Drop, S: SlotStack<Item = ArenaSlot<P, LinkNoGen<P
 {
     match i {
         Some(i) => match arena.get_inx_mut(i) {
-            Some(link) => link.set_prev(prev),
+            Some(link) => link_access::set_prev(link, prev),
             None => excluded!(),
         },
         None => {}

@@ -15,7 +15,6 @@ use crate::visiting::Visitor;
 use arena_base::{Arena, ArenaSlot, Compactor, Work, inx_at};
 use arena_ptr::{PtrKey, SlotStack};
 use chain_links::LinkNoGen;
-use chain_links::facts::has_room;
 
 /// Takes all destinations away.
 pub fn empty_all<P: PtrKey, T: Drop, S: SlotStack<Item = ArenaSlot<P, LinkNoGen<P, T>>>>(
@@ -49,7 +48,7 @@ pub fn lay_out<
     ensures placed { arena.new.placed ≡ arena.old.placed + result.1.placed }
     ensures touched { arena.new.touched ≡ arena.old.touched + result.1.touched }
 {
-    has_room(arena);
+    arena.invariants();
     let generation = arena.generation();
     let mut compactor = arena.compactor();
     empty_all(&mut compactor);

@@ -20,8 +20,7 @@ ghost use Rattle.chain_layout.specs.Compressions.{AreGathered};
 use crate::looking::look_at;
 use arena_base::{Arena, ArenaSlot, ArenaTrait, Compactor, SlotAccess, excluded, inx_at};
 use arena_ptr::{GenKey, InvalidationOption, InxKey, PtrKey, SlotStack};
-use chain_links::LinkNoGen;
-use chain_links::facts::has_room;
+use chain_links::{LinkNoGen, link_access};
 
 /// Where the link that an interlink names stands, once the one at `from` has come to `to`.
 fn index_now<I: InxKey>(named: Option<I>, from: I, to: I) -> Option<I>
@@ -49,9 +48,9 @@ fn tell<P: PtrKey, T: Drop, S: SlotStack<Item = ArenaSlot<P, LinkNoGen<P, T>>>>(
     match i {
         Some(i) => match compactor.value_mut(i) {
             Some(link) => if before {
-                link.set_prev(Some(named));
+                link_access::set_prev(link, Some(named));
             } else {
-                link.set_next(Some(named));
+                link_access::set_next(link, Some(named));
             },
             None => {}
         },
@@ -160,7 +159,7 @@ pub fn gather<
     requires agree { Agrees (shown (seen_links P.Inx.packed_number arena.old)) }
     ensures { AreGathered F.FnMut P.key map (seen_links P.Inx.packed_number arena.old) (seen_links P.Inx.packed_number arena.new) }
 {
-    has_room(arena);
+    arena.invariants();
     let generation = arena.generation();
     let mut compactor = arena.compactor();
     let count = close_gaps(&mut compactor, generation, map);

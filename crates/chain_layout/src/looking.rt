@@ -11,7 +11,7 @@ ghost use Rattle.chain_layout.specs.Numbering.{given, IsDirectedAt, IsTiedAt};
 
 use arena_base::{ArenaSlot, Compactor, SlotAccess};
 use arena_ptr::{InxKey, PtrKey, SlotStack};
-use chain_links::LinkNoGen;
+use chain_links::{LinkNoGen, link_access};
 
 // Of the link at an index, if one stands there: its generation, the indexes of the links before and after it, and its
 // destination.
@@ -31,7 +31,12 @@ pub(crate) fn look_at<P: PtrKey, T: Drop, S: SlotStack<Item = ArenaSlot<P, LinkN
     ensures destination { option_map P.Inx.number result.3 ≡ given P.Inx.packed_number compactor.old.held.slots (P.Inx.number i) }
 {
     match compactor.peek(i) {
-        Some((was, link)) => (Some(*was), link.prev(), link.next(), link.destination()),
+        Some((was, link)) => (
+            Some(*was),
+            link.prev(),
+            link.next(),
+            link_access::destination_of(link),
+        ),
         None => (None, None, None, None),
     }
 }
@@ -48,7 +53,7 @@ pub(crate) fn direct_at<P: PtrKey, T: Drop, S: SlotStack<Item = ArenaSlot<P, Lin
     ensures counts { CountsOn compactor.old.arena.now compactor.new.arena.now compactor.old.placed compactor.old.touched compactor.new.placed compactor.new.touched }
 {
     match compactor.value_mut(i) {
-        Some(link) => link.set_destination(destination),
+        Some(link) => link_access::set_destination(link, destination),
         None => {}
     }
 }
@@ -69,9 +74,9 @@ pub(crate) fn tie_at<P: PtrKey, T: Drop, S: SlotStack<Item = ArenaSlot<P, LinkNo
 {
     match compactor.value_mut(i) {
         Some(link) => {
-            link.set_prev(prev);
-            link.set_next(next);
-            link.set_destination(Some(destination));
+            link_access::set_prev(link, prev);
+            link_access::set_next(link, next);
+            link_access::set_destination(link, Some(destination));
         }
         None => {}
     }

@@ -9,7 +9,7 @@ ghost use Rattle.chain_layout.specs.Moving.{Waits, WaitsWithin, IsSettling, Have
 
 use arena_base::{ArenaSlot, Compactor, SlotAccess, inx_at};
 use arena_ptr::{InxKey, PtrKey, SlotStack};
-use chain_links::LinkNoGen;
+use chain_links::{LinkNoGen, link_access};
 
 // Takes the destination of the link at an index out, where a link stands there that has one.
 fn take_at<P: PtrKey, T: Drop, S: SlotStack<Item = ArenaSlot<P, LinkNoGen<P, T>>>>(
@@ -24,7 +24,7 @@ fn take_at<P: PtrKey, T: Drop, S: SlotStack<Item = ArenaSlot<P, LinkNoGen<P, T>>
     ensures counts { CountsOn compactor.old.arena.now compactor.new.arena.now compactor.old.placed compactor.old.touched compactor.new.placed compactor.new.touched }
 {
     match compactor.value_mut(i) {
-        Some(link) => link.take_destination(),
+        Some(link) => link_access::take_destination(link),
         None => None,
     }
 }

@@ -11,8 +11,8 @@ use crate::looking::{look_at, tie_at};
 use crate::visiting::Visitor;
 use arena_base::{ArenaSlot, Compactor, SlotAccess, excluded, inx_at};
 use arena_ptr::{InxKey, PtrKey, SlotStack};
-use chain_links::LinkNoGen;
 use chain_links::walks::going_on;
+use chain_links::{LinkNoGen, link_access};
 
 // The link that the chain of one is written from: the start of a linear one, and itself in a cyclic one. There are no
 // more looks than links in the chain.
@@ -84,7 +84,7 @@ fn close_ring<P: PtrKey, T: Drop, S: SlotStack<Item = ArenaSlot<P, LinkNoGen<P, 
         None => return,
     }
     match compactor.value_mut(start) {
-        Some(link) => link.set_prev(last),
+        Some(link) => link_access::set_prev(link, last),
         None => {}
     }
 }

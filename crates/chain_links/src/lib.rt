@@ -2,8 +2,8 @@
 //! links.
 #![tactic(auto)]
 
-pub mod facts;
 pub mod kinds;
+pub mod link_access;
 mod link_order;
 pub mod links;
 mod texts;

@@ -8,11 +8,11 @@ use std::alloc::AllocError;
 /// A link with interlinks of a type `K`, each an optional index: the links before it and after it, and its value.
 #[derive(Copy)]
 pub struct LinkBody<K: Vacant, T> {
-    prev: K,
-    next: K,
+    pub(crate) prev: K,
+    pub(crate) next: K,
 
-    // Where the link is to stand, while a compression moves the links.
-    destination: K,
+    // The index that the link is to be moved to, during a compression.
+    pub(crate) destination: K,
 
     /// The value.
     pub t: T,
@@ -92,55 +92,6 @@ impl<W: Copy, I: InxKey<Word = W>, T> LinkBody<PackedOption<I, W>, T> {
             destination: I::pack(None),
             t,
         }
-    }
-
-    /// The value, for reading.
-    pub fn value(&self) -> &T
-        ensures { result.now ≡ self.now.t }
-    {
-        &self.t
-    }
-
-    /// The link after this one becomes another.
-    pub fn set_next(&mut self, next: Option<I>)
-        ensures next { I.packed_number self.new.next ≡ option_map I.number next }
-        ensures rest { self.new ≡ record self.old { next = self.new.next } }
-    {
-        self.next = I::pack(next);
-    }
-
-    /// The link before this one becomes another.
-    pub fn set_prev(&mut self, prev: Option<I>)
-        ensures prev { I.packed_number self.new.prev ≡ option_map I.number prev }
-        ensures rest { self.new ≡ record self.old { prev = self.new.prev } }
-    {
-        self.prev = I::pack(prev);
-    }
-
-    /// Where the link is to stand, if that is set.
-    pub fn destination(&self) -> Option<I>
-        ensures { option_map I.number result ≡ I.packed_number self.now.destination }
-    {
-        I::unpack(self.destination)
-    }
-
-    /// The link is to stand elsewhere.
-    pub fn set_destination(&mut self, destination: Option<I>)
-        ensures destination { I.packed_number self.new.destination ≡ option_map I.number destination }
-        ensures rest { self.new ≡ record self.old { destination = self.new.destination } }
-    {
-        self.destination = I::pack(destination);
-    }
-
-    /// Where the link is to stand, if that is set, which then it is no more.
-    pub fn take_destination(&mut self) -> Option<I>
-        ensures answer { option_map I.number result ≡ I.packed_number self.old.destination }
-        ensures empty { I.packed_number self.new.destination ≡ None }
-        ensures rest { self.new ≡ record self.old { destination = self.new.destination } }
-    {
-        let destination = self.destination();
-        self.set_destination(None);
-        destination
     }
 }
 

@@ -2,3 +2,4 @@ pub mod AnyArena
 pub mod Looking
 pub mod Outcomes
 pub mod Removing
+pub mod WalkLemmas

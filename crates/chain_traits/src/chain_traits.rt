@@ -1,10 +1,10 @@
 ghost use Rattle.std.specs.Prelude.{◌≡◌, ◌≢◌, ◌↔◌, ◌<◌, ◌+◌, ◌⊎◌, ℕ, is_some, Option, map, length, IsTrue, IsSome, IfSome, OnSome, IfNone, IfOk, IsErr, IfErr, OnOk, OnErr, Err, None};
 ghost use Rattle.std.specs.Option.{option_map};
 ghost use Rattle.arena_ptr.specs.Invalidation.{value_within, invalidation_option, invalidation_result};
-ghost use Rattle.chain_laws.specs.Chains.{Shown, Agrees, prev_of, next_of};
+ghost use Rattle.chain_laws.specs.Chains.{Shown, Agrees, HasLinksWithin, prev_of, next_of};
 ghost use Rattle.chain_laws.specs.Cuts.{cut, Cuts};
 ghost use Rattle.chain_laws.specs.Exchanges.{exchanged, Exchanges};
-ghost use Rattle.chain_laws.specs.Neighbors.{AreNeighbors};
+ghost use Rattle.chain_laws.specs.Neighbors.{AreNeighbors, HasOneSetOfChains};
 ghost use Rattle.chain_laws.specs.Operations.{joined, Connects};
 ghost use Rattle.chain_laws.specs.Removals.{removed, Removes};
 ghost use Rattle.chain_laws.specs.Renamings.{IsRenaming};
@@ -43,12 +43,23 @@ pub trait ChainArenaTrait<P: PtrKey, T: Drop>: ArenaTrait<P, T> {
     // Where an advancer along a chain stands, and how many steps it still makes at most.
     ghost walker: { Self.ChainPtrAdvancer → Walker };
 
-    /// Tells that the interlinks agree: j comes after i exactly if i comes before j. It does nothing: it is called where no
-    /// other call has told it.
+    /// Shows that the interlinks agree: j comes after i exactly if i comes before j. It has no effect: a function calls it
+    /// where its proof needs this and no other call has shown it.
     final fn agrees(&self)
         ensures { Agrees (interlinks self.now) }
     {
         self.get_inx_link_no_gen(P::invalid().inx());
+    }
+
+    /// Shows what holds of every arena of links: the interlinks agree, and there is exactly one set of chains that has
+    /// each link once. It has no effect.
+    final fn invariants(&self)
+        ensures agree { Agrees (interlinks self.now) }
+        ensures one { HasOneSetOfChains (interlinks self.now) }
+        ensures within { HasLinksWithin (interlinks self.now) P.Inx.greatest }
+    {
+        self.agrees();
+        self.len();
     }
 
     /// Whether a link of a kind may be inserted: what the kind asks of the links beside the new one holds.
@@ -135,12 +146,13 @@ pub trait ChainArenaTrait<P: PtrKey, T: Drop>: ArenaTrait<P, T> {
         ensures link { option_map (seen_lent P.Inx.packed_number) result ≡ link_at (Self.entry self.now) (interlinks self.now) (P.Inx.number i) }
         ensures agree { Agrees (interlinks self.now) };
 
-    /// An advancer along the chain of p, in walk order: from p on to the end, and then from the link before p back to the
-    /// start; a cyclic chain once round. It makes no more steps than there are links now, whatever arenas it is handed.
-    /// Of an invalid pointer it answers `None` always.
-    fn advancer_chain(&self, p: P) -> Self::ChainPtrAdvancer
-        ensures valid { IsValid (Self.entry self.now) (P.key p) → walker result ≡ walker_at (interlinks self.now) (count (Self.seen self.now)) (P.key p).0 }
-        ensures invalid { ¬ IsValid (Self.entry self.now) (P.key p) → (walker result).left ≡ 0 }
+    /// Returns an advancer along the chain of `p`, in walk order: from `p` on to the end, and then from the link before
+    /// `p` back to the start; a cyclic chain once around. It makes no more steps than there are links now, whatever
+    /// arenas it is passed. Returns `None` if `p` is not valid.
+    fn advancer_chain(&self, p: P) -> Option<Self::ChainPtrAdvancer>
+        ensures some { IsSome result ↔ IsValid (Self.entry self.now) (P.key p) }
+        ensures walker { IfSome result (λ v. walker v
+            ≡ walker_at (interlinks self.now) (count (Self.seen self.now)) (P.key p).0) }
         ensures agree { Agrees (interlinks self.now) };
 
     /// Makes q the link after p: two chains become one, or one chain becomes cyclic. `Some` exactly if both pointers

@@ -3,5 +3,6 @@
 
 mod chain_traits;
 pub mod sources;
+pub mod walks;
 
 pub use chain_traits::ChainArenaTrait;

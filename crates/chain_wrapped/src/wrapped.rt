@@ -324,9 +324,10 @@ impl<P: PtrKey, T: Drop, A: ChainArenaTrait<P, T>> ChainArenaTrait<P, T> for Wra
         self.inner.get_inx_link_no_gen(i)
     }
 
-    fn advancer_chain(&self, p: P) -> WrappedWalk<A::ChainPtrAdvancer> {
-        WrappedWalk {
-            inner: self.inner.advancer_chain(p),
+    fn advancer_chain(&self, p: P) -> Option<WrappedWalk<A::ChainPtrAdvancer>> {
+        match self.inner.advancer_chain(p) {
+            Some(inner) => Some(WrappedWalk { inner }),
+            None => None,
         }
     }
 

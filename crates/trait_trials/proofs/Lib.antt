@@ -1,2 +1,1 @@
-mod Along
 mod Behind

@@ -1,5 +1,6 @@
 -- What an insertion that may grow answers is a step.
 use Rattle.arena_base.proofs.Copying.{on_ok}
+use Rattle.std.proofs.Common.{refl}
 use Rattle.chain_links.specs.Kinds.{names_in}
 use Rattle.chain_arena.proofs.Bounds.{kind_by}
 use Rattle.chain_arena.proofs.Deciding.{stable-insertion}
@@ -11,5 +12,5 @@ returns g c =
     let old = c.args.arena.now in
     let made = c.insert_reallocating.ensures in
     inserts_growing (kind_by g.P.PtrKey g.P.Inx.InxKey g.P.Gen.GenKey) old c.insert_reallocating.new.self c.args.kind c.args.t
-    (stable-insertion _ g.met.P.Gen.GenKey.same_is_equal old (names_in g.P.PtrKey.key g.P.Inx.InxKey.number c.args.kind)) c.len.result c.len.ensures.count c.len.ensures.fits
+    (stable-insertion _ g.met.P.Gen.GenKey.same_is_equal old (names_in g.P.PtrKey.key g.P.Inx.InxKey.number c.args.kind)) _ refl c.invariants.ensures.fits
     c.insert_reallocating.result _ made.inserted made.err made.link made.error made.room made.beyond made.place made.state made.state_in_room (on_ok c.insert_reallocating.result (λ grown. grown.room) made.state_grown)

@@ -17,10 +17,10 @@ returns-in-Some-get_inx_mut g c =
     let packed_number = g.P.Inx.InxKey.packed_number in
     let a = c.args.arena.now in
     let n = number c.in-Some.i in
-    let packed : PackedOption g.row.P-Inx.Denot g.row.P-Inx-Word.Denot = c.set_prev.new.self.prev in
+    let packed : PackedOption g.row.P-Inx.Denot g.row.P-Inx-Word.Denot = c.set_prev.new.link.prev in
     let write : LinkBody (PackedOption g.row.P-Inx.Denot g.row.P-Inx-Word.Denot) g.row.T.Denot → LinkBody (PackedOption g.row.P-Inx.Denot g.row.P-Inx-Word.Denot) g.row.T.Denot = λ l. record l { prev = packed } in
     let says : IsWrite packed_number write (with_prev (option_map number c.args.prev)) = λ l. ap (λ o. with_interlinks (with_prev o (interlinks_in (seen_link packed_number l))) (seen_link packed_number l)) c.set_prev.ensures.prev in
-    let held = rw c.in-Some-get_inx_mut.is at (c.get_inx_mut.follows.holds c.set_prev.new.self) in
+    let held = rw c.in-Some-get_inx_mut.is at (c.get_inx_mut.follows.holds c.set_prev.new.link) in
     rw c.in-Some.is (ap (seen_links packed_number) held.1
     ∙ (ap (λ l. seen_links packed_number (with_value a n l)) c.set_prev.ensures.rest
     ∙ seen_links-write packed_number a n c.in-Some-get_inx_mut.link.now write (with_prev (option_map number c.args.prev)) _ says

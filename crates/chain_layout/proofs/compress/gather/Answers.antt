@@ -12,4 +12,4 @@ pub returns : goal.returns
 returns g c =
     links_gathered g.F.FnMut g.P.PtrKey.key c.args.map g.P.Inx.InxKey.packed_number g.P.Inx.InxKey.greatest g.S.SlotStack.initial_maximum c.generation-generation.result c.args.arena.now c.compactor-compactor.result.arena.now
     c.close_gaps-count.new.compactor.arena.now _ c.compactor-compactor.result.held c.close_gaps-count.new.compactor.held c.compactor-compactor.ensures.arena c.compactor-compactor.ensures.held (search rules)
-    c.close_gaps-count.ensures.closed c.close_gaps-count.ensures.visits c.close_gaps-count.ensures.work c.has_room.ensures.1 c.generation-generation.ensures c.close_gaps-count.ensures.renamed
+    c.close_gaps-count.ensures.closed c.close_gaps-count.ensures.visits c.close_gaps-count.ensures.work c.invariants.ensures.room.1 c.generation-generation.ensures c.close_gaps-count.ensures.renamed

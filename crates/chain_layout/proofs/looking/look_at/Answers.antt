@@ -12,7 +12,7 @@ returns-in-Some g c =
       generation = shown.0;
       prev = c.prev.ensures ∙ shown.1;
       next = c.next.ensures ∙ shown.2;
-      destination = c.destination.ensures ∙ shown.3;
+      destination = c.destination_of.ensures ∙ shown.3;
     }
 
 pub returns-in-None : goal.returns-in-None

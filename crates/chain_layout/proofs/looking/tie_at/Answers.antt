@@ -11,9 +11,9 @@ returns-in-Some g c =
     let i = number c.args.i in
     let old = c.args.compactor.now in
     let link = c.in-Some.link.now in
-    let before = c.set_prev.new.self in
-    let after = c.set_next.new.self in
-    let left = c.set_destination.new.self in
+    let before = c.set_prev.new.link in
+    let after = c.set_next.new.link in
+    let left = c.set_destination.new.link in
     let new = c.value_mut.follows.lender left in
     let wrote = lent old new i c.value_mut.result c.in-Some.link left c.in-Some.is c.value_mut.ensures.value (c.value_mut.follows.holds left) in
     record {

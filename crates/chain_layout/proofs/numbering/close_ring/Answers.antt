@@ -12,7 +12,7 @@ returns-in-Some-value_mut g c =
     let i = number c.args.start in
     let old = c.args.compactor.now in
     let link = c.in-Some-value_mut.link.now in
-    let left = c.set_prev.new.self in
+    let left = c.set_prev.new.link in
     let new = c.value_mut.follows.lender left in
     let wrote = lent old new i c.value_mut.result c.in-Some-value_mut.link left c.in-Some-value_mut.is c.value_mut.ensures.value (c.value_mut.follows.holds left) in
     record {

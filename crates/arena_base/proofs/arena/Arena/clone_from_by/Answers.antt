@@ -29,6 +29,7 @@ returns-in-Ok-copied g c =
     record {
       within = λ few. (inl refl, room ∙ ap (λ a. a.capacity) (grown.within (omega (arith, few, count))).1);
       beyond = (λ is. cc, λ beyond. let never = grown.beyond.1 (rw count beyond) in cc);
+      unchanged = λ is. cc;
       ok = (same_room count room (limit ∙ ap (λ a. a.maximum) c.self.view_is) grown.ok, refl, g.met.S.SlotStack.within_maximum c.copy_slots-copied.new.slots);
       copied = rw (← c.source.view_is) (on_ok_is c.copy_slots-copied.result.0 _ c.in-Ok-copied.is c.copy_slots-copied.ensures.copies);
       ready = on_ok_is c.copy_slots-copied.result.0 _ c.in-Ok-copied.is c.copy_slots-copied.ensures.ready;
@@ -53,6 +54,7 @@ returns-in-Err-copied g c =
     record {
       within = λ few. (inr (rw (← c.source.view_is) (on_err_is c.copy_slots-copied.result.0 _ c.in-Err-copied.is c.copy_slots-copied.ensures.refused)), room ∙ ap (λ a. a.capacity) (grown.within (omega (arith, few, count))).1);
       beyond = (λ is. cc, λ beyond. let never = grown.beyond.1 (rw count beyond) in cc);
+      unchanged = λ is. cc;
       ok = tt;
       copied = tt;
       ready = tt;
@@ -73,6 +75,7 @@ returns-in-Err g c =
     record {
       within = λ few. let never : false ≡ true = (refused.within (omega (arith, few, count))).0 in cc;
       beyond = rw (← count) refused.beyond;
+      unchanged = λ is. (refused.err, refl);
       ok = tt;
       copied = tt;
       ready = tt;

@@ -51,3 +51,10 @@ returns-clause-reached g c =
     let source = c.source.inside.arena in
     rw (← c.source.view_is, ← c.self.view_is)
     (subst (λ n. IsWithinReach g.S.SlotStack.may_reach n c.self.inside.arena c.clone_from_by-done.new.self) (sym (length-with_each (seen_link number) source)) c.clone_from_by-done.ensures.reached)
+
+pub returns-clause-unchanged : goal.returns-clause-unchanged
+returns-clause-unchanged g c =
+    let number = g.P.Inx.InxKey.packed_number in
+    rw (← c.self.view_is) (λ is.
+    let same = c.clone_from_by-done.ensures.unchanged is in
+    (ap (seen_links number) same.0, ap (λ m. m.values) same.1))

@@ -15,6 +15,6 @@ returns g c =
         same_reference = refl;
         arena = refl;
         at = index_from-is c.number_or_zero-at.result _ c.number_or_zero-at.ensures.index ∙ c.inx.ensures;
-        walk = walk_left-valid c.args.self.now (g.P.PtrKey.key c.args.p) (subst (λ a. Agrees (shown a)) c.self.view_is c.self.invariant) valid;
+        walk = walk_left-valid c.args.self.now (g.P.PtrKey.key c.args.p) c.invariants.ensures.agree valid;
       },
     )

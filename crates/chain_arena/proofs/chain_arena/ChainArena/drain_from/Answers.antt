@@ -29,6 +29,6 @@ returns g c =
     let walk = walk_left old c.args.from in
     let state : new ≡ without_each following old walk = search rules in record {
       state = state;
-      taken = without_each-takes following old new c.args.from (subst (λ a. Agrees (shown a)) c.self.view_is c.self.invariant) state;
+      taken = without_each-takes following old new c.args.from c.invariants.ensures.agree state;
       counts = without_each-counts following old new walk state;
     }

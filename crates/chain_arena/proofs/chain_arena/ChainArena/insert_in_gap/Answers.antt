@@ -29,8 +29,8 @@ inserted g c =
     let a = c.self.inside.arena in
     let s = seen_links packed a in
     let q = next_index s in
-    placed_in_room packed number a c.insert_within_capacity.new.self (seen_links packed c.tie.new.arena) c.args.gap c.args.t c.link_in.result c.freed_are_free.ensures c.link_in.ensures
-    (gap_between (shown s) q (before_in number c.args.gap q) (after_in number c.args.gap q) c.self.invariant (shown-next s (listed-seen_links packed a c.freed_are_free.ensures).free) (gap g c)).forth.itself
+    placed_in_room packed number a c.insert_within_capacity.new.self (seen_links packed c.tie.new.arena) c.args.gap c.args.t c.link_in.result c.invariants.ensures.listed c.link_in.ensures
+    (gap_between (shown s) q (before_in number c.args.gap q) (after_in number c.args.gap q) c.self.invariant (shown-next s (listed-seen_links packed a c.invariants.ensures.listed).free) (gap g c)).forth.itself
     (g.P.PtrKey.key c.in-Ok.p).0 (ap (λ p. p.0) {y = (next_index a, a.counter)} c.in-Ok.ensures.ptr) c.tie.ensures c.in-Ok.ensures.ok
 
 pub excluded-assert_unchecked-requires : goal.excluded-assert_unchecked-requires
@@ -49,8 +49,8 @@ tie-requires g c =
     let in_links = rw (← c.self.view_is) at c.requires.gap in
     let at = ap (λ p. p.0) {y = (next_index a, a.counter)} c.in-Ok.ensures.ptr in
     record {
-      before = before_stands packed g.P.Inx.InxKey.number a b c.args.gap c.link_in.result c.freed_are_free.ensures c.self.invariant in_links (g.P.PtrKey.key c.in-Ok.p).0 at c.in-Ok.ensures.ok;
-      after = after_stands packed g.P.Inx.InxKey.number a b c.args.gap c.link_in.result c.freed_are_free.ensures c.self.invariant in_links (g.P.PtrKey.key c.in-Ok.p).0 at c.in-Ok.ensures.ok;
+      before = before_stands packed g.P.Inx.InxKey.number a b c.args.gap c.link_in.result c.invariants.ensures.listed c.self.invariant in_links (g.P.PtrKey.key c.in-Ok.p).0 at c.in-Ok.ensures.ok;
+      after = after_stands packed g.P.Inx.InxKey.number a b c.args.gap c.link_in.result c.invariants.ensures.listed c.self.invariant in_links (g.P.PtrKey.key c.in-Ok.p).0 at c.in-Ok.ensures.ok;
     }
 
 pub invariant_of-self : goal.invariant_of-self
@@ -58,7 +58,7 @@ invariant_of-self g c =
     let s = seen_links g.P.Inx.InxKey.packed_number c.self.inside.arena in
     let q = next_index s in
     subst Agrees (sym (ap (λ a. shown a) (inserted g c)))
-    (agrees-insert_between s c.args.t (listed-seen_links g.P.Inx.InxKey.packed_number c.self.inside.arena c.freed_are_free.ensures)
+    (agrees-insert_between s c.args.t (listed-seen_links g.P.Inx.InxKey.packed_number c.self.inside.arena c.invariants.ensures.listed)
     (before_in g.P.Inx.InxKey.number c.args.gap q) (after_in g.P.Inx.InxKey.number c.args.gap q) c.self.invariant (gap g c))
 
 pub returns : goal.returns
@@ -68,6 +68,6 @@ returns g c =
     rw (← c.self.view_is) (record {
       pointer = next_seen packed a (g.P.PtrKey.key c.in-Ok.p) c.in-Ok.ensures.ptr;
       state = inserted g c;
-      listed = listed-seen_links packed a c.freed_are_free.ensures;
+      listed = listed-seen_links packed a c.invariants.ensures.listed;
       agreed = c.self.invariant;
     })

@@ -14,7 +14,7 @@ returns-in-Some g c =
     let same = same_valid number a p in
     rw (← c.self.view_is) (record {
       some = (λ _. same.0 (c.in-Some.ensures.some.0 refl), λ _. refl);
-      value = rw c.value.ensures (value_at number a p.0 ∙ ap (option_map (on_value held_in)) c.in-Some.ensures.value);
+      value = rw c.value_of.ensures (value_at number a p.0 ∙ ap (option_map (on_value held_in)) c.in-Some.ensures.value);
     })
 
 pub returns-in-None : goal.returns-in-None

@@ -17,16 +17,16 @@ returns-in-Some g c =
     let p = g.P.PtrKey.key c.args.p in
     let made = c.new.ensures in
     rw (← c.self.view_is) (record {
-      valid = λ _. same_walkers
+      some = (λ _. (same_valid packed a p).0 (c.in-Some.ensures.some.0 refl), λ _. refl);
+      walker = same_walkers
           (made.left ∙ (c.len.ensures.entries ∙ (sym (entry_count-seen_links packed a) ∙ sym (values-count (seen_links packed a)))))
           (ap number made.start ∙ c.inx.ensures)
           (ap (option_map number) made.forth ∙ ap Some c.inx.ensures)
           (ap (option_map number) made.back ∙ (c.prev.ensures ∙ sym (prev_of-seen packed a p c.in-Some.link.now c.in-Some.ensures.value)));
-      invalid = λ invalid. absurd (invalid ((same_valid packed a p).0 (c.in-Some.ensures.some.0 refl)));
       agree = c.self.invariant;
     })
 
-pub returns-in-None-clause-valid : goal.returns-in-None-clause-valid
-returns-in-None-clause-valid g c =
+pub returns-in-None-clause-some : goal.returns-in-None-clause-some
+returns-in-None-clause-some g c =
     let same = same_valid g.P.Inx.InxKey.packed_number c.self.inside.arena (g.P.PtrKey.key c.args.p) in
-    rw (← c.self.view_is) (λ valid. absurd (false≢true (c.in-None.ensures.some.1 (same.1 valid))))
+    rw (← c.self.view_is) (λ no. absurd (false≢true no), λ valid. absurd (false≢true (c.in-None.ensures.some.1 (same.1 valid))))

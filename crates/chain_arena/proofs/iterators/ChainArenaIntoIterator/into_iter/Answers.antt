@@ -10,6 +10,6 @@ returns g c =
     record {
       into_iter_gives = (
         rw (← c.self.view_is) (ap (seen_entries number) c.into_iter.ensures.into_iter_gives ∙ seen_entries-all number c.self.inside.arena),
-        omega (arith, c.len.ensures.one_more, c.len.ensures.count, ap length c.into_iter.ensures.into_iter_gives),
+        omega (arith, c.invariants.ensures.one_more, ap length c.into_iter.ensures.into_iter_gives),
       );
     }

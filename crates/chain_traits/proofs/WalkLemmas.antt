@@ -1,7 +1,8 @@
--- An advancer along a chain answers the walk, in any arena of links that stays.
+-- An advancer along a chain passes the walk, in any arena of links that stays the same.
 use Rattle.std.proofs.Common.{◌≡◌, ℕ, ◌≤◌, List, [], ◌∷◌, ◌++◌, length, map, Option, None, Some, refl, sym, ap, ◌∙◌, subst, inl}
 use Rattle.std.specs.Prelude.{is_some, All}
 use Rattle.std.proofs.lemmas.List.{length-map, append-nil}
+use Rattle.std.proofs.lemmas.List.Elements.{All-append, All-cons, All-nil}
 use Rattle.arena_ptr.specs.Numbers.{IsWithin}
 use Rattle.chain_laws.specs.Chains as chains
 use Rattle.chain_laws.specs.Chains.{Shown, Agrees, prev_of}
@@ -42,3 +43,7 @@ pub passed_on : {Q : Type 0} (name : Q → ℕ) (links : Shown) (old new : Walke
     → step_of links old ≡ Some (name q, new) → map name after ++ passes_ahead links new ≡ whole
 passed_on name links old new all after q whole before is step =
     ap (λ l. map name l ++ passes_ahead links new) is ∙ (passed_last name all q (passes_ahead links new) ∙ (ap (λ l. map name all ++ l) (sym (step_ahead links old new (name q) step)) ∙ before))
+
+-- a fact that holds of each item and of a last one holds of all
+pub all_with_last : {Q : Type 0} (P : Q → Type 0) (all after : List Q) (q : Q) → All P all → after ≡ all ++ q ∷ [] → P q → All P after
+all_with_last P all after q holds is last = subst (All P) (sym is) (All-append P all (q ∷ []) holds (All-cons P q [] last (All-nil P)))

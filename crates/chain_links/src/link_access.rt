@@ -1,0 +1,70 @@
+//! Reads and writes the private parts of a link, for the crates that link and move links.
+//!
+//! `chain_arena` does not export this module, so a link that a caller can see has no destination.
+ghost use Rattle.std.specs.Prelude.{◌≡◌, None};
+ghost use Rattle.std.specs.Option.{option_map};
+
+use crate::links::LinkBody;
+use arena_ptr::{InxKey, PackedOption};
+
+/// Returns a reference to the value of a link.
+pub fn value_of<W: Copy, I: InxKey<Word = W>, T>(link: &LinkBody<PackedOption<I, W>, T>) -> &T
+    ensures { result.now ≡ link.now.t }
+{
+    &link.t
+}
+
+/// Sets the index of the link after this one.
+pub fn set_next<W: Copy, I: InxKey<Word = W>, T>(
+    link: &mut LinkBody<PackedOption<I, W>, T>,
+    next: Option<I>,
+)
+    ensures next { I.packed_number link.new.next ≡ option_map I.number next }
+    ensures rest { link.new ≡ record link.old { next = link.new.next } }
+{
+    link.next = I::pack(next);
+}
+
+/// Sets the index of the link before this one.
+pub fn set_prev<W: Copy, I: InxKey<Word = W>, T>(
+    link: &mut LinkBody<PackedOption<I, W>, T>,
+    prev: Option<I>,
+)
+    ensures prev { I.packed_number link.new.prev ≡ option_map I.number prev }
+    ensures rest { link.new ≡ record link.old { prev = link.new.prev } }
+{
+    link.prev = I::pack(prev);
+}
+
+/// Returns the index that a link is to be moved to, if one is set.
+pub fn destination_of<W: Copy, I: InxKey<Word = W>, T>(
+    link: &LinkBody<PackedOption<I, W>, T>,
+) -> Option<I>
+    ensures { option_map I.number result ≡ I.packed_number link.now.destination }
+{
+    I::unpack(link.destination)
+}
+
+/// Sets the index that a link is to be moved to.
+pub fn set_destination<W: Copy, I: InxKey<Word = W>, T>(
+    link: &mut LinkBody<PackedOption<I, W>, T>,
+    destination: Option<I>,
+)
+    ensures destination { I.packed_number link.new.destination ≡ option_map I.number destination }
+    ensures rest { link.new ≡ record link.old { destination = link.new.destination } }
+{
+    link.destination = I::pack(destination);
+}
+
+/// Takes the index that a link is to be moved to, leaving `None`, as `Option::take` does.
+pub fn take_destination<W: Copy, I: InxKey<Word = W>, T>(
+    link: &mut LinkBody<PackedOption<I, W>, T>,
+) -> Option<I>
+    ensures answer { option_map I.number result ≡ I.packed_number link.old.destination }
+    ensures empty { I.packed_number link.new.destination ≡ None }
+    ensures rest { link.new ≡ record link.old { destination = link.new.destination } }
+{
+    let destination = destination_of(link);
+    set_destination(link, None);
+    destination
+}

@@ -1,0 +1,15 @@
+-- A walker that makes as many steps as there are links passes the walk.
+use Rattle.chain_traits.proofs.AnyArena.{entry_valid}
+use Rattle.chain_traits.proofs.WalkLemmas.{passes_walk}
+use Rattle.chain_traits.proofs.walks.advancer_passes_the_walk.Goals as goal
+
+pub returns : goal.returns
+returns g c valid =
+    let a = c.args.arena.now in
+    let links = g.A.ChainArenaTrait.interlinks a in
+    let entry = g.A.ArenaTrait.entry a in
+    let es = (g.A.ArenaTrait.seen a).entries in
+    let stands = g.met.A.ChainArenaTrait.stand a in
+    let looked = g.met.A.ArenaTrait.looked_up a in
+    let i = (g.P.PtrKey.key c.args.p).0 in
+    passes_walk links entry es stands looked g.P.Inx.InxKey.greatest i c.agrees.ensures c.len.ensures.indexes (entry_valid links entry es stands looked i _ valid.stands)
