@@ -3,3 +3,4 @@ pub mod Looking
 pub mod Outcomes
 pub mod Removing
 pub mod WalkLemmas
+pub mod LayoutLemmas

@@ -1,1 +1,2 @@
 pub mod Sources
+pub mod LayoutLaws

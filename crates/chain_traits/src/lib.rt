@@ -2,6 +2,7 @@
 #![tactic(auto)]
 
 mod chain_traits;
+pub mod layout_laws;
 pub mod sources;
 pub mod walks;
 

@@ -16,7 +16,7 @@ pub(super) fn count_of_links<P: PtrKey, T: Drop, A: ChainArenaTrait<P, T>>(arena
     ensures count { result ≡ length (A.seen arena.now).entries }
     ensures chains { HasOneSetOfChains (A.interlinks arena.now) }
 {
-    arena.agrees();
+    arena.invariants();
     arena.len()
 }
 

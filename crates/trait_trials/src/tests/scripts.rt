@@ -1,6 +1,6 @@
 //! Calls on arenas of links as lines of texts, each with the text of its answer.
 
-use super::advancing::{changes_met, met, walk_along};
+use super::advancing::{changes_met, met, met_along};
 use super::asked::{Asked, Do};
 use super::behind::{add_behind, count_of_links, take_next};
 use super::transfers::carried;
@@ -8,6 +8,7 @@ use super::{At, Numbered, add_lone, number, numbers, rows_of, same, text};
 use arena_base::{Advancer, ArenaTrait, CompactArenaTrait};
 use arena_ptr::{AllocError, InvalidationOption, InvalidationResult, InxKey, PtrKey};
 use chain_arena::{ChainArenaTrait, Link, LinkNoGen};
+use chain_traits::walks::walk;
 use std::alloc::Global;
 use std::mem;
 use std::process::Abort;
@@ -184,8 +185,8 @@ fn look_along_links<P: Numbered, A: ChainArenaTrait<P, u32>>(
     asked: Asked<P>,
 ) -> Option<String> {
     match asked.call {
-        Do::Along => text(alloc, met(arena.advancer_chain(asked.p), arena, 5)),
-        Do::AlongAll => text(alloc, walk_along(alloc, arena, asked.p)),
+        Do::Along => text(alloc, met_along(arena, asked.p)),
+        Do::AlongAll => text(alloc, walk(arena, alloc, asked.p)),
         Do::CountOfLinks => text(alloc, count_of_links(arena)),
         Do::All => text(alloc, rows_of(alloc, arena)),
         _ => None,

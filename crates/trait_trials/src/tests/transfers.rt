@@ -199,6 +199,6 @@ CarryToBare 300 = (Err(AllocError), []) ({Bare[1]: {1, 1} 5, Bare[2]: {2, 2} 6},
 CarryToBare 2 = (Err(AllocError), []) ({Bare[1]: {1, 1} 5, Bare[2]: {2, 2} 6}, (), Some(2), true)
 HasRoom 300 = true
 Len = 256
-Along 3 2 = [(3, 2), (1, 2), (0, 0), (0, 0), (0, 0)]
+Along 3 2 = Some([(3, 2), (1, 2), (0, 0), (0, 0), (0, 0)])
 Counter = Some(2)
 ";
