@@ -25,3 +25,4 @@ pub mod Canonizing
 pub mod Placing
 pub mod Pointing
 pub mod Following
+pub mod DrainLawLemmas

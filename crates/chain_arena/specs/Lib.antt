@@ -10,3 +10,4 @@ pub mod Growths
 pub mod Places
 pub mod PointerTransfers
 pub mod Iterators
+pub mod DrainLaws

@@ -9,6 +9,7 @@ ghost use Rattle.chain_laws.specs.Walks.{goes_on, IsWalk, TakesWalk};
 ghost use Rattle.arena_base.specs.Arena.{IsValid};
 ghost use Rattle.chain_links.specs.ChainArena.{entry, shown};
 ghost use Rattle.chain_links.specs.Insertions.{index_from};
+ghost use Rattle.chain_arena.specs.DrainLaws.{DrainGivesTheWalk};
 ghost use Rattle.chain_arena.specs.Drains.{walk_left, without_each, IsDrainStep, DrainSteps, CountsUp};
 
 use crate::chain_arena::ChainArena;
@@ -168,3 +169,9 @@ impl<'a, P: PtrKey, T: Drop, S: SlotStack<Item = ArenaSlot<P, LinkNoGen<P, T>>>>
         arena.drain_from(at);
     }
 }
+
+/// States that a drain of a chain gives the walk before it: once nothing is left, the items it has yielded have the indexes
+/// of that walk, in order, and pointers that were valid before the drain.
+pub fn drain_gives_the_walk<P: PtrKey, T: Drop>()
+    ensures { DrainGivesTheWalk T P.key P.Inx.packed_number P.Gen.following P.Gen.wraps }
+{}

@@ -57,7 +57,7 @@ pub use any_pointer::AnyPointer;
 pub use calls::{Call, Reply, apply, run_calls, runs_are_determined};
 pub use chain_advancer::ChainPtrAdvancer;
 pub use chain_arena::ChainArena;
-pub use chain_drains::ChainDrain;
+pub use chain_drains::{ChainDrain, drain_gives_the_walk};
 pub use chain_interlinks::links_agree;
 pub use chain_iterators::ChainIter;
 pub use chain_layout::visiting::Visitor;

@@ -1,0 +1,57 @@
+-- A drain of a chain yields the walk that was before it, by pointers that were valid then.
+use Rattle.std.proofs.Common.{◌≡◌, ℕ, zero, suc, Bool, List, [], ◌∷◌, map, Option, None, Some, refl, sym, ap, ◌∙◌, subst}
+use Rattle.std.specs.Prelude.{All, slice_set, slice_index_or}
+use Rattle.std.proofs.lemmas.List.Elements.{All-cons, All-nil, All-weaker}
+use Rattle.arena_ptr.specs.Invalidation.{value_in}
+use Rattle.arena_ptr.specs.declared.invalidation.InvalidationOption.{InvalidationOption}
+use Rattle.arena_base.specs.Arena.{Arena, entry_at, slot_at, with_slot, IsValid}
+use Rattle.chain_links.specs.ChainArena.{LinkSeen, entry, values_of, remove_link, link_value as held_value, on_value}
+use Rattle.chain_links.specs.declared.links.LinkBody.{LinkBody}
+use Rattle.chain_links.proofs.Mapping.{entry_at-with_each}
+use Rattle.chain_interlinks.proofs.Unlinking.{values_of-remove_link}
+use Rattle.chain_arena.specs.Drains.{walk_left, IsDrainStep}
+use Rattle.chain_arena.specs.DrainLaws.{DrainsTo, DrainGivesTheWalk}
+use Rattle.std.specs.Option.{option_map}
+
+-- what is stored once a slot is freed was stored before
+item_cleared : {X : Type 0} (xs : List (Option X)) (k m : ℕ) (x : X) → slice_index_or (slice_set xs k None) m None ≡ Some x → slice_index_or xs m None ≡ Some x
+item_cleared [] k m x is = is
+item_cleared (y ∷ xs) zero zero x is = absurd (cc)
+item_cleared (y ∷ xs) zero (suc m) x is = is
+item_cleared (y ∷ xs) (suc k) zero x is = is
+item_cleared (y ∷ xs) (suc k) (suc m) x is = item_cleared xs k m x is
+
+slot_cleared : {X : Type 0} (slots : List (Option X)) (i j : ℕ) (x : X) → slot_at (with_slot slots i None) j ≡ Some x → slot_at slots j ≡ Some x
+slot_cleared slots zero j x is = is
+slot_cleared slots (suc k) zero x is = absurd (cc)
+slot_cleared slots (suc k) (suc m) x is = item_cleared slots k m x is
+
+module _ {P Gen K T : Type 0} (key : P → ℕ × Gen) (number : K → Option ℕ) (following : Gen → Gen) (wraps : Gen → Bool) where
+  -- a pointer that is valid after a removal was valid before it
+  valid_before : (old new : Arena Gen (LinkSeen T)) (i : ℕ) (p : ℕ × Gen) → new ≡ remove_link following old i → IsValid (entry new) p → IsValid (entry old) p
+  valid_before old new i p gone valid =
+      let values = ap (λ (a : Arena Gen (LinkSeen T)). values_of a) gone ∙ values_of-remove_link following old i in
+      record { value = valid.value; stands = slot_cleared (values_of old).slots i p.0 (p.1, valid.value) (sym (ap (λ (a : Arena Gen T). entry_at a p.0) values) ∙ valid.stands) }
+
+  -- the link of a step was valid
+  step_valid : (old new : Arena Gen (LinkSeen T)) (at next : ℕ) (gone : InvalidationOption (P × LinkBody K T)) → IsDrainStep key number following wraps old at gone new next
+      → IsValid (entry old) (key (value_in gone).0)
+  step_valid old new at next gone step =
+      let p = key (value_in gone).0 in
+      record {
+        value = (value_in gone).1.t;
+        stands = entry_at-with_each held_value old p.0 ∙ ap (option_map (on_value held_value)) (ap (entry_at old) step.index ∙ step.stands);
+      }
+
+  pub drain_gives_the_walk : DrainGivesTheWalk T key number following wraps
+  drain_gives_the_walk old new at next [] drained spent =
+      (sym spent ∙ ap (λ (x : Arena Gen (LinkSeen T) × ℕ). walk_left x.0 x.1) (let both : (new, next) ≡ (old, at) = cc in both), All-nil _)
+  drain_gives_the_walk old new at next (gone ∷ rest) drained spent =
+      let mid = drained.0 in
+      let step = drained.2 in
+      let was_valid : InvalidationOption (P × LinkBody K T) → Type 0 = λ item. IsValid (entry old) (key (value_in item).0) in
+      let later = drain_gives_the_walk mid new drained.1 next rest drained.3 spent in (
+        ap (λ (n : ℕ). n ∷ map (λ (item : InvalidationOption (P × LinkBody K T)). (key (value_in item).0).0) rest) step.index ∙ (ap (λ (walk : List ℕ). at ∷ walk) later.0 ∙ sym step.walk),
+        All-cons was_valid gone rest (step_valid old mid at drained.1 gone step)
+        (All-weaker (λ (item : InvalidationOption (P × LinkBody K T)). IsValid (entry mid) (key (value_in item).0)) was_valid (λ (item : InvalidationOption (P × LinkBody K T)). valid_before old mid at (key (value_in item).0) step.state) rest later.1),
+      )
