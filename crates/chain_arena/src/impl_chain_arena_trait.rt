@@ -7,7 +7,7 @@ ghost use Rattle.chain_laws.specs.Cuts.{cut, Cuts};
 ghost use Rattle.chain_laws.specs.Exchanges.{exchanged, Exchanges};
 ghost use Rattle.chain_laws.specs.Neighbors.{AreNeighbors};
 ghost use Rattle.chain_laws.specs.Operations.{joined, Connects, AddsPair};
-ghost use Rattle.chain_laws.specs.Removals.{Removes, RemovesPairs};
+ghost use Rattle.chain_laws.specs.Removals.{removed, Removes, RemovesPairs};
 ghost use Rattle.arena_base.specs.Arena.{entry_count, next_index, with_capacity_of, IsValid, IsRoom, HasGrownTo};
 ghost use Rattle.arena_base.specs.Entries.{count, NeedsBeyondMaximum};
 ghost use Rattle.arena_base.specs.Compressing.{overflows_after_compression};
@@ -286,6 +286,8 @@ impl<P: PtrKey, T: Drop, S: SlotStack<Item = ArenaSlot<P, LinkNoGen<P, T>>>> Cha
         ensures overflow { IfSome (seen self.old).counter (λ g. result ≡ invalidation_result (P.Gen.wraps g) (value_within result)) }
         ensures valid { IsSome (entry self.old (P.Inx.number i)) → LosesLink seen interlinks P.Gen.following (P.Inx.number i) self.old self.new }
         ensures invalid { entry self.old (P.Inx.number i) ≡ None → self.new ≡ self.old }
+        ensures shows { IsSome (entry self.old (P.Inx.number i))
+            → interlinks self.new ≡ removed (interlinks self.old) (P.Inx.number i) }
         ensures agreed { Agrees (interlinks self.old) }
         ensures state { IsSome (entry self.old (P.Inx.number i)) → self.new ≡ remove_link P.Gen.following self.old (P.Inx.number i) }
         ensures chains { IsSome (entry self.old (P.Inx.number i)) → Removes (interlinks self.old) (interlinks self.new) (P.Inx.number i) }
