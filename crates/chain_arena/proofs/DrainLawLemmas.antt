@@ -1,6 +1,6 @@
 -- A drain of a chain yields the walk that was before it, by pointers that were valid then.
-use Rattle.std.proofs.Common.{◌≡◌, ℕ, zero, suc, Bool, List, [], ◌∷◌, map, Option, None, Some, refl, sym, ap, ◌∙◌, subst}
-use Rattle.std.specs.Prelude.{All, slice_set, slice_index_or}
+use Rattle.std.proofs.Common.{◌≡◌, ℕ, zero, suc, Bool, List, [], ◌∷◌, map, Option, None, Some, sym, ap, ◌∙◌}
+use Rattle.std.specs.Prelude.{slice_set, slice_index_or}
 use Rattle.std.proofs.lemmas.List.Elements.{All-cons, All-nil, All-weaker}
 use Rattle.arena_ptr.specs.Invalidation.{value_in}
 use Rattle.arena_ptr.specs.declared.invalidation.InvalidationOption.{InvalidationOption}
@@ -10,7 +10,7 @@ use Rattle.chain_links.specs.declared.links.LinkBody.{LinkBody}
 use Rattle.chain_links.proofs.Mapping.{entry_at-with_each}
 use Rattle.chain_interlinks.proofs.Unlinking.{values_of-remove_link}
 use Rattle.chain_arena.specs.Drains.{walk_left, IsDrainStep}
-use Rattle.chain_arena.specs.DrainLaws.{DrainsTo, DrainGivesTheWalk}
+use Rattle.chain_arena.specs.DrainLaws.{DrainGivesTheWalk}
 use Rattle.std.specs.Option.{option_map}
 
 -- what is stored once a slot is freed was stored before
@@ -53,5 +53,5 @@ module _ {P Gen K T : Type 0} (key : P → ℕ × Gen) (number : K → Option �
       let later = drain_gives_the_walk mid new drained.1 next rest drained.3 spent in (
         ap (λ (n : ℕ). n ∷ map (λ (item : InvalidationOption (P × LinkBody K T)). (key (value_in item).0).0) rest) step.index ∙ (ap (λ (walk : List ℕ). at ∷ walk) later.0 ∙ sym step.walk),
         All-cons was_valid gone rest (step_valid old mid at drained.1 gone step)
-        (All-weaker (λ (item : InvalidationOption (P × LinkBody K T)). IsValid (entry mid) (key (value_in item).0)) was_valid (λ (item : InvalidationOption (P × LinkBody K T)). valid_before old mid at (key (value_in item).0) step.state) rest later.1),
+            (All-weaker (λ (item : InvalidationOption (P × LinkBody K T)). IsValid (entry mid) (key (value_in item).0)) was_valid (λ (item : InvalidationOption (P × LinkBody K T)). valid_before old mid at (key (value_in item).0) step.state) rest later.1),
       )

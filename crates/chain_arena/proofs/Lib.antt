@@ -19,7 +19,6 @@ pub mod Stepping
 pub mod Taking
 pub mod Telling
 pub mod Touching
-pub mod Within
 pub mod Writing
 pub mod Canonizing
 pub mod Placing

@@ -4,9 +4,6 @@ use Rattle.std.specs.Prelude.{◌==◌, if◌then◌else◌}
 use Rattle.std.proofs.lemmas.Bool.{cases_eq}
 use Rattle.std.specs.Option.{option_map}
 use mathlib.Core.Path.{fun_ext}
-use Rattle.arena_ptr.specs.Invalidation.{value_within, is_overflow_result, invalidation_result}
-use Rattle.arena_ptr.specs.declared.invalidation.InvalidationResult.{InvalidationResult}
-use Rattle.arena_ptr.specs.declared.invalidation.InvalidationResult.TheVariants.{Success, GenerationOverflow, InvalidPtr}
 use Rattle.arena_base.proofs.Seeing.{value_within-made}
 use Rattle.chain_laws.specs.Chains.{Shown, Agrees, prev_of, next_of}
 use Rattle.chain_laws.specs.Operations.{linked, with_next, with_prev}
@@ -123,19 +120,3 @@ module _ {Gen T : Type 0} where
   -- where one was alone in a ring nothing is written
   pub ring_gone : (a : Arena Gen (LinkSeen T)) (i : ℕ) (u v : Option ℕ) → WereBeside (shown a) i u v → u ≡ Some i → a ≡ relinked a (linked (shown a) u v)
   ring_gone a i u v were same = relinked-own a ∙ ap (relinked a) (sym (linked_nowhere (shown a) i were.gone) ∙ ap₂ (λ (x y : Option ℕ). linked (shown a) x y) (sym same) (sym (were.ring same)))
-
--- what was taken out, in the answer of the removal and in another one with the same flag
-pub same_flag : {X Y : Type 0} (wraps flag : Bool) (x : X) (y : Y) (r : InvalidationResult X) (s : InvalidationResult Y) → value_within r ≡ Some x → r ≡ invalidation_result wraps (value_within r)
-    → flag ≡ is_overflow_result r → s ≡ invalidation_result flag (Some y) → s ≡ invalidation_result wraps (value_within s)
-same_flag wraps flag x y r s found told flagged is =
-    is ∙ (ap (λ b. invalidation_result b (Some y)) same ∙ ap (invalidation_result wraps) (sym (ap value_within is ∙ value_within-made flag (Some y))))
-  where
-    by : (b : Bool) (o : InvalidationResult _) → value_within o ≡ Some x → o ≡ invalidation_result b (value_within o) → is_overflow_result o ≡ b
-    by b InvalidPtr some says = absurd (let h = some in cc)
-    by false (Success t) some says = refl
-    by true (Success t) some says = absurd (let h = says in cc)
-    by false (GenerationOverflow t) some says = absurd (let h = says in cc)
-    by true (GenerationOverflow t) some says = refl
-
-    same : flag ≡ wraps
-    same = flagged ∙ by wraps r found told

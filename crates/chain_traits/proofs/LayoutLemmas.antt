@@ -1,5 +1,5 @@
 -- A canonical layout of links that lie canonically leaves each link where it is.
-use Rattle.std.proofs.Common.{◌≡◌, ◌≢◌, ℕ, zero, suc, ◌+◌, ◌<◌, List, [], ◌∷◌, length, map, Option, None, Some, refl, sym, ap, ◌∙◌, subst, arith}
+use Rattle.std.proofs.Common.{◌≡◌, ℕ, zero, suc, ◌+◌, ◌<◌, List, [], ◌∷◌, length, map, Option, Some, refl, sym, ap, ◌∙◌, subst, arith}
 use Rattle.std.specs.Prelude.{Bool, true, false, cond, ◌==◌}
 use Rattle.std.specs.Option.{option_map}
 use Rattle.std.specs.List.{range_with_len}
@@ -13,10 +13,9 @@ use Rattle.chain_laws.proofs.Carrying.{renaming_is_determined}
 use Rattle.chain_laws.proofs.LeastIndex.{layout_rests}
 use Rattle.chain_laws.proofs.Partitions.{no_others}
 use Rattle.chain_laws.proofs.Runs.{items_in_runs, runs_are_renumbered}
-use Rattle.arena_base.specs.Entries.{Seen, found, index_of}
+use Rattle.arena_base.specs.Entries.{found, index_of}
 use Rattle.arena_base.specs.Compressing.{values_in}
-use Rattle.chain_links.specs.CanonicalLayouts.{IsCanonicalLayout}
-use Rattle.chain_traits.specs.LayoutLaws.{SecondCompressionMovesNothing, MovesNothing}
+use Rattle.chain_traits.specs.LayoutLaws.{SecondCompressionMovesNothing}
 
 -- runs in runs are the same runs
 runs_in_runs : (k : ℕ) (chains : List Chain) → in_runs k (in_runs k chains) ≡ in_runs k chains

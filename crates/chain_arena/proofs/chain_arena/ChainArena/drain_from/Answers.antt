@@ -1,7 +1,5 @@
 -- Each step leaves what the whole walk leaves, until nothing is left.
-use Rattle.std.proofs.Common.{◌≡◌, rules, refl, ◌∙◌, subst}
-use Rattle.chain_laws.specs.Chains.{Agrees}
-use Rattle.chain_links.specs.ChainArena.{shown}
+use Rattle.std.proofs.Common.{◌≡◌, rules, refl, ◌∙◌}
 use Rattle.chain_arena.specs.Drains.{walk_left, without_each}
 use Rattle.chain_arena.proofs.Draining.{without_each-step, walk_left-step, without_each-takes, without_each-counts}
 use Rattle.chain_arena.proofs.chain_arena.ChainArena.drain_from.Goals as goal

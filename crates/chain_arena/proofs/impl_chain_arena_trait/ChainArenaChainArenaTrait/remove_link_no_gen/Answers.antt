@@ -1,12 +1,11 @@
 -- The link goes, and its neighbours are linked.
-use Rattle.std.proofs.Common.{refl, sym, ap, ◌∙◌, subst}
+use Rattle.std.proofs.Common.{refl, sym, ap, ◌∙◌}
 use Rattle.std.proofs.lemmas.Bool.{false≢true}
 use Rattle.std.specs.Option.{option_map}
 use Rattle.std.specs.Prelude.{is_some}
 use Rattle.arena_ptr.specs.Invalidation.{value_within}
-use Rattle.chain_laws.specs.Chains.{Agrees}
 use Rattle.arena_base.specs.Arena.{IsValid}
-use Rattle.chain_links.specs.ChainArena.{entry, shown}
+use Rattle.chain_links.specs.ChainArena.{entry}
 use Rattle.chain_links.specs.Links.{seen_link}
 use Rattle.chain_links.proofs.Mapping.{is_some-map}
 use Rattle.chain_arena.proofs.Taking.{link_alone_told, removal_at, same_overflow, seen_at, taken_at}
