@@ -80,11 +80,13 @@ pub(super) enum Do {
     InsertByEntry(Kind, u32),
     InsertByAnyEntry(Kind, u32),
     InsertAsked(Kind, u32),
-    // Canonical compressions: how many links were placed, all work, and the moves by a closure and by a list.
+    // Canonical compressions: how many links were placed, all work, and the moves by a closure and by a list. A compression beside a
+    // transfer.
     Placed(bool),
     Counted(bool),
     MovesSeen(bool),
     MovesListed(bool),
+    BothArranged,
     // What is tried where memory is refused: links up to the capacity, room at birth, so many lone links carried over to the arena,
     // and two calls as one list.
     Fill,
