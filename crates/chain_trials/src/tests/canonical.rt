@@ -51,7 +51,7 @@ pub(super) fn moves_listed<S: SlotStack<Item = Slot>>(
 }
 
 // Carries all links of an arena over to another. Named at any pointer and value, the types cost its proof less.
-fn carry_over<P: PtrKey, T: Drop, S: SlotStack<Item = ArenaSlot<P, LinkNoGen<P, T>>>>(
+pub(super) fn carry_over<P: PtrKey, T: Drop, S: SlotStack<Item = ArenaSlot<P, LinkNoGen<P, T>>>>(
     source: &mut ChainArena<P, T, S>,
     target: &mut ChainArena<P, T, S>,
     now: P::Gen,

@@ -5,7 +5,7 @@ use super::drains::{Ends, drained, drained_chain, remove_all};
 use super::entries::{
     forget, give_up, insert_asked, insert_by_any_entry, insert_by_entry, place_refusals,
 };
-use super::filling::fill;
+use super::filling::{dig, fill};
 use super::indexing::{value_at, write_at, write_at_index};
 use super::iterators::{indexes, links, links_by_reference, links_used_up, values, walk};
 use super::machine::{kind, two_calls};
@@ -67,6 +67,7 @@ fn growth_answer<S: SlotStack<Item = Slot>>(
 ) -> String {
     match row {
         Do::Fill => text(alloc, fill(arena)),
+        Do::Dig => text(alloc, dig(arena)),
         Do::CarryIn(count) => carried_in(alloc, arena, count),
         Do::TwoCalls => text(alloc, two_calls(alloc, arena)),
         Do::Birth(n) => born::<S>(alloc, n),
