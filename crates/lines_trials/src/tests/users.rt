@@ -123,7 +123,7 @@ fn are_all_refused<P: PtrKey, S: SlotStack<Item = Slot<P>>>(rt: &impl Abort, all
     let refused = are_refused::<P, ChainArena<P, u32, Rationed<S>>>(alloc);
     same(rt, "refused", refused, [true; 3]);
     let split = polygons::split_beside_a_hole::<P, ChainArena<P, u32, Rationed<S>>>(alloc);
-    same(rt, "split beside a hole", split, (None, [Some(2), Some(5)]));
+    same(rt, "split beside a hole", split, (true, [Some(2), Some(5)]));
     are_all_played::<P, Rationed<S>>(rt, alloc);
 }
 

@@ -161,39 +161,31 @@ fn holds<P: PtrKey, A: ChainArenaTrait<P, u32> + Drop>(
     is_done == Some(done) && round(mesh, name(names, n)) == points
 }
 
-// The rows, at a new mesh.
-pub(super) fn differing<P: PtrKey, A: ChainArenaTrait<P, u32> + Drop>(alloc: Global) -> Differing {
-    let mut names = names_of::<P>(alloc);
-    differing_in::<P, A>(alloc, &ROWS, &mut names)
+// Splits beside a hole, and returns whether each row is as it says, and the indexes of the copies.
+pub(super) fn split_beside_a_hole<P: PtrKey, A: ChainArenaTrait<P, u32> + Drop>(
+    alloc: Global,
+) -> (bool, [Option<usize>; 2]) {
+    let mut mesh = Mesh::<P, u32, A>::new(alloc);
+    let mut names = names_of(alloc);
+    let mut hold = true;
+    for row in &BESIDE_A_HOLE {
+        hold = hold && holds(&mut mesh, &mut names, row);
+    }
+    let (first, second) = (name(&names, 5), name(&names, 6));
+    (
+        hold,
+        [first.inx().try_into_usize(), second.inx().try_into_usize()],
+    )
 }
 
-// Returns the first of some rows that is not as it says, at a new mesh, and notes the corners.
-fn differing_in<P: PtrKey, A: ChainArenaTrait<P, u32> + Drop>(
-    alloc: Global,
-    rows: &[Row],
-    names: &mut Vec<P>,
-) -> Differing {
+// The rows, at a new mesh.
+pub(super) fn differing<P: PtrKey, A: ChainArenaTrait<P, u32> + Drop>(alloc: Global) -> Differing {
     let mut mesh = Mesh::<P, u32, A>::new(alloc);
-    for (place, row) in rows.iter().enumerate() {
-        if !holds(&mut mesh, names, row) {
+    let mut names = names_of(alloc);
+    for (place, row) in ROWS.iter().enumerate() {
+        if !holds(&mut mesh, &mut names, row) {
             return Some(place);
         }
     }
     None
-}
-
-// Splits beside a hole, and returns the indexes of the copies.
-pub(super) fn split_beside_a_hole<P: PtrKey, A: ChainArenaTrait<P, u32> + Drop>(
-    alloc: Global,
-) -> (Differing, [Option<usize>; 2]) {
-    let mut names = names_of::<P>(alloc);
-    let differing = differing_in::<P, A>(alloc, &BESIDE_A_HOLE, &mut names);
-    let copies = [name(&names, 5), name(&names, 6)];
-    (
-        differing,
-        [
-            copies[0].inx().try_into_usize(),
-            copies[1].inx().try_into_usize(),
-        ],
-    )
 }
