@@ -1,29 +1,43 @@
 //! A program over a chain arena: lines of commands come in, and their answers go out.
 #![tactic(auto)]
 
+#[cfg(test)]
+mod tests;
+
 use chain_lines::{ToolError, run};
-use std::io::{BufWriter, writer};
+use std::alloc::Global;
+use std::io::{BufWriter, Read, Write, writer};
 use std::process::ExitCode;
 
 fn main(rt: HostRuntime) -> ExitCode {
-    let result = match BufWriter::new(rt.alloc(), writer(&rt)) {
-        Ok(mut answers) => run(rt.alloc(), &mut rt.reader(), &mut answers),
+    answer(rt.alloc(), &mut rt.reader(), writer(&rt), &mut rt.stderr())
+}
+
+/// Writes the answers to the lines of a reader, and returns the exit status. Writes a fault to `errors`.
+fn answer<R: Read, W: Write + Drop, E: Write>(
+    alloc: Global,
+    reader: &mut R,
+    writer: W,
+    errors: &mut E,
+) -> ExitCode {
+    let result = match BufWriter::new(alloc, writer) {
+        Ok(mut answers) => run(alloc, reader, &mut answers),
         Err(_) => Err(ToolError::Memory),
     };
     match result {
         Ok(()) => ExitCode::SUCCESS,
         Err(error) => {
-            let _ = rt.eprintln(reason(error));
+            let _ = errors.write_all(reason(error).as_bytes());
             ExitCode::FAILURE
         }
     }
 }
 
-/// What standard error is told of a fault.
+/// Returns the line that standard error is written at a fault.
 fn reason(error: ToolError) -> &'static str {
     match error {
-        ToolError::Read => "chain_tool: cannot read",
-        ToolError::Write => "chain_tool: cannot write",
-        ToolError::Memory => "chain_tool: no memory",
+        ToolError::Read => "chain_tool: cannot read\n",
+        ToolError::Write => "chain_tool: cannot write\n",
+        ToolError::Memory => "chain_tool: no memory\n",
     }
 }

@@ -5,7 +5,9 @@
 mod layouts;
 mod links;
 mod stacks;
+mod trait_calls;
 
 pub use layouts::lay_out;
 pub use links::{join, link_up, take_out};
 pub use stacks::{reserve_to, slot_at};
+pub use trait_calls::break_next;

@@ -98,7 +98,7 @@ fn check_values<P: PtrKey, S: LimitStack<Item = Shared<P>>>(rt: &impl Abort, all
 }
 
 // The first request for memory is refused, and so is every other one after it: a call that is refused has asked once.
-static EVERY_OTHER: [Row; 11] = [
+static EVERY_OTHER: [Row; 25] = [
     (Call::New, "every other request is refused"),
     (Call::Insert(1), "Err(AllocError)"),
     (Call::Insert(1), "Ok(1.2)"),
@@ -111,6 +111,23 @@ static EVERY_OTHER: [Row; 11] = [
     (Call::Reserve(9), "Err(AllocError)"),
     (Call::Capacity, "4"),
     (Call::Born(3), "None"),
+    (
+        Call::New,
+        "a refusal beside free slots keeps them and their order",
+    ),
+    (Call::InsertMany(4), "2"),
+    (Call::Insert(5), "Err(AllocError)"),
+    (Call::Insert(5), "Ok(3.2)"),
+    (Call::Insert(6), "Ok(4.2)"),
+    (Call::Remove(1, 2), "Success(1)"),
+    (Call::Remove(3, 2), "Success(5)"),
+    (Call::Reserve(9), "Err(AllocError)"),
+    (Call::Capacity, "4"),
+    (Call::Slots, "4"),
+    (Call::Held, "[(2.2, 3), (4.2, 6)]"),
+    (Call::Insert(7), "Ok(3.4)"),
+    (Call::Insert(8), "Ok(1.4)"),
+    (Call::Counter, "Some(4)"),
 ];
 
 // Each script over a stack, and over one that may have a maximum, and what becomes of what is refused. The types are named once,

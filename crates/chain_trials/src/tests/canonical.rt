@@ -1,7 +1,7 @@
 //! Chains laid out in place, one after another.
 
 use super::scripts::{Do, Kind, Line, Script};
-use super::{ChainsOver, Slot, generation, lone_links, remove, same, text};
+use super::{ChainsOver, Slot, fresh, generation, lone_links, remove, same, text};
 use arena_base::{ArenaSlot, Work};
 use arena_ptr::{AllocError, InvalidationOption, PtrKey, ReallocationError, SlotStack, ToolPtr};
 use chain_arena::{ChainArena, ChainArenaTrait, LinkNoGen};
@@ -51,12 +51,30 @@ pub(super) fn moves_listed<S: SlotStack<Item = Slot>>(
 }
 
 // Carries all links of an arena over to another. Named at any pointer and value, the types cost its proof less.
-fn carry_over<P: PtrKey, T: Drop, S: SlotStack<Item = ArenaSlot<P, LinkNoGen<P, T>>>>(
+pub(super) fn carry_over<P: PtrKey, T: Drop, S: SlotStack<Item = ArenaSlot<P, LinkNoGen<P, T>>>>(
     source: &mut ChainArena<P, T, S>,
     target: &mut ChainArena<P, T, S>,
     now: P::Gen,
 ) -> Result<(), ReallocationError> {
     target.transfer_canonical_reallocating(now, source, |_, value, _| value.allow())
+}
+
+// Compresses one clone and carries another over to a new arena, with the generation that the compression gives. Returns whether
+// both show the same, and what they show.
+pub(super) fn both_arranged<S: SlotStack<Item = Slot>>(
+    alloc: Global,
+    arena: &ChainsOver<S>,
+) -> (bool, String) {
+    let (Ok(mut compressed), Ok(mut source)) = (arena.clone(alloc), arena.clone(alloc)) else {
+        return (false, String::new(alloc));
+    };
+    compressed.compress_canonical(false);
+    let mut carried: ChainsOver<S> = fresh(alloc);
+    let now = compressed.generation();
+    let answer = carry_over(&mut source, &mut carried, now);
+    let shown = text(alloc, &carried);
+    let is_same = text(alloc, &compressed).as_str() == shown.as_str();
+    (answer.is_ok() && is_same, shown)
 }
 
 // .. of so many lone links, with generation 7: the answer, and the arena that they come from then.
@@ -123,7 +141,13 @@ const BEHIND_A_HOLE: Script = (
 static LAYOUTS: [(Script, &[&[Line]]); 6] = [
     (
         BEHIND_A_HOLE,
-        &[&[(Do::Compress(false), "Success(())"), (Do::Slots, "3")]],
+        &[
+            &[(Do::Compress(false), "Success(())"), (Do::Slots, "3")],
+            &[(
+                Do::BothArranged,
+                "(true, \"{P0[1](4): {1, 1} 2, P0[2](4): {(start), 3} 3, P0[3](4): {2, (end)} 4}\")",
+            )],
+        ],
     ),
     (
         SCATTERED,
@@ -146,6 +170,10 @@ static LAYOUTS: [(Script, &[&[Line]]); 6] = [
                 "Ok((Success(()), [(P0[2](2), P0[1](4)), (P0[4](2), P0[2](4)), (P0[1](3), P0[3](4)), \
                 (P0[3](2), P0[4](4))]))",
             )],
+            &[(
+                Do::BothArranged,
+                "(true, \"{P0[1](4): {(start), 2} 2, P0[2](4): {1, 3} 4, P0[3](4): {2, (end)} 5, P0[4](4): {(start), (end)} 3}\")",
+            )],
         ],
     ),
     (
@@ -160,6 +188,10 @@ static LAYOUTS: [(Script, &[&[Line]]); 6] = [
                 Do::MovesListed(false),
                 "Ok((Success(()), [(P0[1](2), P0[1](3)), (P0[4](2), P0[2](3)), (P0[2](2), P0[3](3)), \
                 (P0[3](2), P0[4](3))]))",
+            )],
+            &[(
+                Do::BothArranged,
+                "(true, \"{P0[1](3): {(start), 2} 1, P0[2](3): {1, (end)} 4, P0[3](3): {4, 4} 2, P0[4](3): {3, 3} 3}\")",
             )],
         ],
     ),
@@ -178,10 +210,16 @@ static LAYOUTS: [(Script, &[&[Line]]); 6] = [
     ),
     (
         BEHIND_HOLES,
-        &[&[
-            (Do::Placed(false), "(Success(()), 2)"),
-            (Do::Placed(false), "(Success(()), 2)"),
-        ]],
+        &[
+            &[
+                (Do::Placed(false), "(Success(()), 2)"),
+                (Do::Placed(false), "(Success(()), 2)"),
+            ],
+            &[(
+                Do::BothArranged,
+                "(true, \"{P0[1](7): {(start), (end)} 5, P0[2](7): {(start), (end)} 6}\")",
+            )],
+        ],
     ),
     (
         ("an empty arena", 0, &[], &[]),

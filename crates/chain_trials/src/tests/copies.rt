@@ -2,7 +2,7 @@
 
 use super::filling::add;
 use super::rationed::Rationed;
-use super::scripts::{Do, Kind, Line, Script};
+use super::scripts::{Do, Kind, Line, Script, slots_of};
 use super::{At, ChainsOver, Slot, at, fresh, fresh_plain, remove, same, text};
 use arena_base::{Arena, ArenaSlot, ArenaTrait};
 use arena_ptr::{LimitStack, ReallocationError, SetMaxCapacity, SlotStack, ToolPtr};
@@ -22,7 +22,7 @@ pub(super) fn cloned<S: SlotStack<Item = Slot>>(alloc: Global, arena: &ChainsOve
 }
 
 // A chain of so many links, of which the second is removed.
-fn with_a_hole<S: SlotStack<Item = Slot>>(alloc: Global, count: u32) -> ChainsOver<S> {
+pub(super) fn with_a_hole<S: SlotStack<Item = Slot>>(alloc: Global, count: u32) -> ChainsOver<S> {
     let mut arena: ChainsOver<S> = fresh(alloc);
     let mut kind = LinkInsertKind::Disconnected;
     for k in 1..=count {
@@ -147,6 +147,61 @@ pub(super) fn check_refused_copy<
         (Ok(()), [(P0[1](2), {(start), 3} 1), (P0[3](2), {1, (end)} 3)])), \
         (Ok(P0[2](3)), (Some(11), Some(23))))";
     same(rt, "refused, and copied", told.as_str(), want);
+}
+
+// What a plain arena shows: how many entries it has, its room and its counter, and its slots.
+fn plain_shown<R: SlotStack<Item = ArenaSlot<ToolPtr, u32>>>(
+    alloc: Global,
+    arena: &Arena<ToolPtr, u32, R>,
+) -> (String, String) {
+    let size = (arena.len(), arena.capacity(), arena.generation());
+    (text(alloc, size), slots_of(alloc, arena.backing()))
+}
+
+// A plain arena of the values 1 to 8, of which three are removed: the freed list goes from 3 to 5 and 2.
+fn plain_with_holes<R: SlotStack<Item = ArenaSlot<ToolPtr, u32>>>(
+    alloc: Global,
+) -> Arena<ToolPtr, u32, R> {
+    let mut arena: Arena<ToolPtr, u32, R> = fresh_plain(alloc);
+    for _ in 0..2 {
+        if arena.reallocate_min_capacity(8).is_ok() {
+            break;
+        }
+    }
+    for t in 1..=8 {
+        let _ = arena.insert_within_capacity(t);
+    }
+    for i in [2, 5, 3] {
+        arena.remove(at((i, 2)));
+    }
+    arena
+}
+
+// A copy of many links to a plain arena with holes, which refuses the growth: nothing has changed, and the next entry comes to the
+// first freed index.
+pub(super) fn check_refused_beside_holes<
+    S: SlotStack<Item = Slot>,
+    R: SlotStack<Item = ArenaSlot<ToolPtr, u32>>,
+>(rt: &impl Abort, alloc: Global) {
+    let source: ChainsOver<S> = with_a_hole(alloc, 70);
+    let mut target: Arena<ToolPtr, u32, Rationed<R>> = plain_with_holes(alloc);
+    let before = plain_shown(alloc, &target);
+    let (answer, seen) = copied_plain(alloc, &source, &mut target);
+    let refused = (answer, seen.len());
+    same(
+        rt,
+        "refused",
+        refused,
+        (Err(ReallocationError::AllocError), 0),
+    );
+    same(
+        rt,
+        "nothing has changed",
+        plain_shown(alloc, &target),
+        before,
+    );
+    let next = target.insert_within_capacity(9);
+    same(rt, "the first freed index", next, Ok(at((3, 5))));
 }
 
 // .. to one with a maximum of two.

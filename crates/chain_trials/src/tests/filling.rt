@@ -1,5 +1,6 @@
 //! Links added where memory may be refused once.
 
+use super::{ChainsOver, Slot, remove};
 use arena_base::{ArenaSlot, ArenaTrait};
 use arena_ptr::{PtrKey, SlotStack};
 use chain_arena::{ChainArena, ChainArenaTrait, LinkInsertKind, LinkNoGen};
@@ -28,5 +29,16 @@ pub(super) fn fill<P: PtrKey, S: SlotStack<Item = ArenaSlot<P, LinkNoGen<P, u32>
         if t < 3 || arena.len() < arena.capacity() {
             kind = LinkInsertKind::ChainEnd(add(arena, kind, t));
         }
+    }
+}
+
+// A chain of eight links, each with its index as its value, of which three are removed: the freed list goes from 3 to 5 and 2.
+pub(super) fn dig<S: SlotStack<Item = Slot>>(arena: &mut ChainsOver<S>) {
+    let mut kind = LinkInsertKind::Disconnected;
+    for t in 1..=8 {
+        kind = LinkInsertKind::ChainEnd(add(arena, kind, t));
+    }
+    for i in [2, 5, 3] {
+        remove(arena, (i, 2));
     }
 }

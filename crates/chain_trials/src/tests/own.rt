@@ -1,11 +1,11 @@
 //! The calls that a chain arena has of its own, as rows of tables.
 
-use super::canonical::{carried_in, counted, moves_listed, moves_seen, placed};
+use super::canonical::{both_arranged, carried_in, counted, moves_listed, moves_seen, placed};
 use super::drains::{Ends, drained, drained_chain, remove_all};
 use super::entries::{
     forget, give_up, insert_asked, insert_by_any_entry, insert_by_entry, place_refusals,
 };
-use super::filling::fill;
+use super::filling::{dig, fill};
 use super::indexing::{value_at, write_at, write_at_index};
 use super::iterators::{indexes, links, links_by_reference, links_used_up, values, walk};
 use super::machine::{kind, two_calls};
@@ -46,6 +46,7 @@ fn layout_answer<S: SlotStack<Item = Slot>>(
         Do::Counted(reset) => text(alloc, counted(arena, reset)),
         Do::MovesSeen(reset) => text(alloc, moves_seen(alloc, arena, reset)),
         Do::MovesListed(reset) => text(alloc, moves_listed(alloc, arena, reset)),
+        Do::BothArranged => text(alloc, both_arranged(alloc, arena)),
         other => growth_answer(alloc, arena, other),
     }
 }
@@ -66,6 +67,7 @@ fn growth_answer<S: SlotStack<Item = Slot>>(
 ) -> String {
     match row {
         Do::Fill => text(alloc, fill(arena)),
+        Do::Dig => text(alloc, dig(arena)),
         Do::CarryIn(count) => carried_in(alloc, arena, count),
         Do::TwoCalls => text(alloc, two_calls(alloc, arena)),
         Do::Birth(n) => born::<S>(alloc, n),

@@ -3,10 +3,11 @@
 use super::copies::{cloned, copied_over};
 use super::machine::{call, told};
 use super::{At, ChainsOver, Slot, at, same, text};
-use arena_base::ArenaTrait;
+use arena_base::{ArenaSlot, ArenaTrait};
 use arena_ptr::{SlotStack, ToolPtr};
 use chain_arena::apply;
 use std::alloc::Global;
+use std::fmt::Debug;
 use std::process::Abort;
 
 // Where a new link comes, by pointers that are an index and a generation.
@@ -49,6 +50,7 @@ pub(super) enum Do {
     Counter,
     Generation,
     Slots,
+    SlotsListed,
     Get(At),
     Remove(At),
     // Copies: a clone, and what comes next in it; a copy over the arena of so many links in a row without the second.
@@ -80,14 +82,17 @@ pub(super) enum Do {
     InsertByEntry(Kind, u32),
     InsertByAnyEntry(Kind, u32),
     InsertAsked(Kind, u32),
-    // Canonical compressions: how many links were placed, all work, and the moves by a closure and by a list.
+    // Canonical compressions: how many links were placed, all work, and the moves by a closure and by a list. A compression beside a
+    // transfer.
     Placed(bool),
     Counted(bool),
     MovesSeen(bool),
     MovesListed(bool),
-    // What is tried where memory is refused: links up to the capacity, room at birth, so many lone links carried over to the arena,
-    // and two calls as one list.
+    BothArranged,
+    // What is tried where memory is refused: links up to the capacity, links with holes among them, room at birth, so many lone links
+    // carried over to the arena, and two calls as one list.
     Fill,
+    Dig,
     Birth(usize),
     CarryIn(u32),
     TwoCalls,
@@ -111,6 +116,27 @@ pub(super) fn answer<S: SlotStack<Item = Slot>>(
     }
 }
 
+// All slots as a text: of each its entry with the generation, or the freed index that it names. Memory is asked for twice, if it
+// has to be.
+pub(super) fn slots_of<T: Copy + Debug, S: SlotStack<Item = ArenaSlot<ToolPtr, T>>>(
+    alloc: Global,
+    slots: &S,
+) -> String {
+    for _ in 0..2 {
+        if let Ok(mut all) = Vec::with_capacity(alloc, slots.len()) {
+            for k in 0..slots.len() {
+                let _ = all.push(match slots.get(k) {
+                    Some(ArenaSlot::Allocated(generation, t)) => (Some((*generation, *t)), None),
+                    Some(ArenaSlot::Free(next)) => (None, *next),
+                    None => (None, None),
+                });
+            }
+            return text(alloc, all);
+        }
+    }
+    String::new(alloc)
+}
+
 // .. what the arena shows as a chain arena, or a copy of it, ...
 pub(super) fn look<S: SlotStack<Item = Slot>>(
     alloc: Global,
@@ -125,6 +151,7 @@ pub(super) fn look<S: SlotStack<Item = Slot>>(
             text(alloc, (arena.generation(), room))
         }
         Do::Slots => text(alloc, arena.backing().len()),
+        Do::SlotsListed => slots_of(alloc, arena.backing()),
         Do::Clone => cloned(alloc, arena),
         Do::CopyOver(count) => copied_over(alloc, arena, count),
         other => trait_look(alloc, arena, other),

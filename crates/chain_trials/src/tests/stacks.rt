@@ -2,7 +2,7 @@
 
 use super::agreeing::{check_accepted, check_rows};
 use super::canonical::{check_bounds, layouts};
-use super::copies::{check_plain, check_refused_copy, copies};
+use super::copies::{check_plain, check_refused_beside_holes, check_refused_copy, copies};
 use super::entries::check_full;
 use super::handed_back::{check_beyond_one, check_counted, check_kept};
 use super::hostile::{check_hostile, check_limited};
@@ -82,4 +82,5 @@ fn copies_to_plain_arenas(rt: HostRuntime) {
     check_refused_copy::<HeapStack<Slot>, HeapStack<Bare>>(&rt, rt.alloc());
     check_refused_copy::<LimitedStack<Slot>, LimitedStack<Bare>>(&rt, rt.alloc());
     check_refused_copy::<ChunkStack<Slot>, ChunkStack<Bare>>(&rt, rt.alloc());
+    check_refused_beside_holes::<HeapStack<Slot>, HeapStack<Bare>>(&rt, rt.alloc());
 }

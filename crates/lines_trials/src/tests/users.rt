@@ -4,6 +4,7 @@
 
 mod bookmarks;
 mod polygons;
+mod rationed;
 mod texts;
 mod turns;
 
@@ -12,7 +13,9 @@ use arena_base::ArenaSlot;
 use arena_ptr::{ChunkStack, HeapStack, PtrKey, SlotStack, ToolPtr};
 use bookmarks::Renumbers;
 use chain_arena::{ChainArena, ChainArenaTrait, LinkNoGen};
+use chain_users::{Documents, Mesh, RunQueue};
 use chain_wrapped::Wrapped;
+use rationed::Rationed;
 use std::alloc::Global;
 use std::process::Abort;
 
@@ -53,6 +56,22 @@ fn noted<P: PtrKey>(names: &mut Vec<P>, came: Option<P>) -> bool {
     }
 }
 
+// Returns room for the pointers that come in a table. It is asked for twice, if it has to be.
+fn names_of<P: PtrKey>(alloc: Global) -> Vec<P> {
+    for _ in 0..2 {
+        if let Ok(names) = Vec::with_capacity(alloc, 16) {
+            return names;
+        }
+    }
+    Vec::new(alloc)
+}
+
+// Returns a number with two more numbers behind it. Sixteen such pairs have room in it, each of numbers below 16.
+fn with_pair(all: u128, first: u32, second: u32) -> u128 {
+    let pair = first.wrapping_mul(16).wrapping_add(second);
+    all.wrapping_mul(256).wrapping_add(u128::from(pair))
+}
+
 // A number with one digit more.
 fn with_digit(number: u32, digit: u32) -> u32 {
     number.saturating_mul(10).saturating_add(digit)
@@ -88,4 +107,27 @@ fn are_all_played<P: PtrKey, S: SlotStack<Item = Slot<P>>>(rt: &impl Abort, allo
 fn over_one_piece_of_memory_and_in_blocks(rt: HostRuntime) {
     are_all_played::<ToolPtr, HeapStack<Slot<ToolPtr>>>(&rt, rt.alloc());
     are_all_played::<ToolPtr, ChunkStack<Slot<ToolPtr>>>(&rt, rt.alloc());
+}
+
+// Whether the first insertion into each of the three is refused.
+fn are_refused<P: PtrKey, A: ChainArenaTrait<P, u32> + Drop>(alloc: Global) -> [bool; 3] {
+    [
+        RunQueue::<P, u32, A>::new(alloc).spawn(1).is_err(),
+        Mesh::<P, u32, A>::new(alloc).start(1).is_err(),
+        Documents::<P, u32, A>::new(alloc).begin(1).is_err(),
+    ]
+}
+
+// The rows where each growth is refused once. A refused call changes nothing and is done the second time.
+fn are_all_refused<P: PtrKey, S: SlotStack<Item = Slot<P>>>(rt: &impl Abort, alloc: Global) {
+    let refused = are_refused::<P, ChainArena<P, u32, Rationed<S>>>(alloc);
+    same(rt, "refused", refused, [true; 3]);
+    let split = polygons::split_beside_a_hole::<P, ChainArena<P, u32, Rationed<S>>>(alloc);
+    same(rt, "split beside a hole", split, (true, [Some(2), Some(5)]));
+    are_all_played::<P, Rationed<S>>(rt, alloc);
+}
+
+#[test]
+fn each_growth_is_refused_once(rt: HostRuntime) {
+    are_all_refused::<ToolPtr, HeapStack<Slot<ToolPtr>>>(&rt, rt.alloc());
 }

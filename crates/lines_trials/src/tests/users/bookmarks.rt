@@ -1,7 +1,7 @@
 //! A text edited, renumbered, and its bookmarks followed.
 
-use super::texts::{Edit, edited, read};
-use super::{Differing, Slot, name};
+use super::texts::{Edit, made, read, shown};
+use super::{Differing, Slot, name, names_of};
 use arena_ptr::{PtrKey, SlotStack};
 use chain_arena::{ChainArena, ChainArenaTrait};
 use chain_users::Documents;
@@ -41,12 +41,13 @@ const EDITS: [Edit; 7] = [
 // none, nothing.
 const MARKS: [(usize, u32); 5] = [(5, 32), (1, 0), (4, 6), (0, 0), (2, 56)];
 
-// The bookmarks that name these paragraphs; 0 is none. Where memory is refused there are fewer.
-fn marks<P: PtrKey>(alloc: Global, names: &[P]) -> Vec<Option<P>> {
-    let mut marks = Vec::new(alloc);
-    for (n, _) in MARKS {
-        let mark = if n == 0 { None } else { Some(name(names, n)) };
-        let _ = marks.push(mark);
+// The bookmarks that name these paragraphs; 0 is none.
+fn marks<P: PtrKey>(names: &[P]) -> [Option<P>; 5] {
+    let mut marks = [None; 5];
+    for (mark, (n, _)) in marks.iter_mut().zip(MARKS) {
+        if n > 0 {
+            *mark = Some(name(names, n));
+        }
     }
     marks
 }
@@ -57,7 +58,7 @@ fn not_done<P: PtrKey, A: ChainArenaTrait<P, u32> + Drop>(
     names: &mut Vec<P>,
 ) -> Differing {
     for (place, edit) in EDITS.iter().enumerate() {
-        if !edited(texts, names, *edit) {
+        if made(texts, names, *edit) != Some(true) {
             return Some(place);
         }
     }
@@ -82,13 +83,42 @@ fn followed<P: PtrKey, A: ChainArenaTrait<P, u32> + Drop>(
     None
 }
 
+// Whether bookmarks name the same paragraphs as others.
+fn are_same<P: PtrKey>(marks: &[Option<P>], others: &[Option<P>]) -> bool {
+    for (mark, other) in marks.iter().zip(others) {
+        let is_same = match (mark, other) {
+            (Some(p), Some(q)) => p.is_same(*q),
+            (None, None) => true,
+            _ => false,
+        };
+        if !is_same {
+            return false;
+        }
+    }
+    true
+}
+
+// Renumbers again if memory is refused, and returns whether it is done. A refusal changes neither the texts nor the bookmarks.
+fn renumbered<P: PtrKey, A: Renumbers<P>>(
+    alloc: Global,
+    texts: &mut Documents<P, u32, A>,
+    names: &[P],
+    marks: &mut [Option<P>; 5],
+) -> bool {
+    let (before, named) = (shown(texts, names), *marks);
+    if A::renumber(texts, alloc, marks) {
+        return true;
+    }
+    shown(texts, names) == before && are_same(marks, &named) && A::renumber(texts, alloc, marks)
+}
+
 // The edits, the renumbering, and what each bookmark reads then.
 pub(super) fn differing<P: PtrKey, A: Renumbers<P>>(alloc: Global) -> Differing {
     let mut texts = Documents::<P, u32, A>::new(alloc);
-    let mut names = Vec::new(alloc);
+    let mut names = names_of(alloc);
     let not_done = not_done(&mut texts, &mut names);
-    let mut marks = marks(alloc, &names);
-    let is_renumbered = A::renumber(&mut texts, alloc, marks.as_mut_slice());
+    let mut marks = marks(&names);
+    let is_renumbered = renumbered(alloc, &mut texts, &names, &mut marks);
     let differing = followed(&texts, name(&names, 3), &marks);
     if is_renumbered {
         not_done.or(differing)

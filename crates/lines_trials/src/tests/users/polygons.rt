@@ -1,7 +1,7 @@
 //! A square triangulated and put together again.
 
-use super::{Differing, name, noted, with_digit};
-use arena_ptr::PtrKey;
+use super::{Differing, name, names_of, noted, number, with_digit, with_pair};
+use arena_ptr::{InxKey, PtrKey};
 use chain_arena::ChainArenaTrait;
 use chain_users::Mesh;
 use std::alloc::Global;
@@ -40,6 +40,16 @@ const ROWS: [Row; 16] = [
     (Change::Merge(1, 3), true, 1, 1234),
     (Change::Remove(6), false, 6, 0),
     (Change::After(6, 9), false, 3, 3412),
+];
+
+// A square that loses a corner is split, and the copies come to the freed index and to a new one. An arena of four has to grow.
+const BESIDE_A_HOLE: [Row; 6] = [
+    (Change::Start(1), true, 1, 1),
+    (Change::After(1, 2), true, 1, 12),
+    (Change::After(2, 3), true, 1, 123),
+    (Change::After(3, 4), true, 1, 1234),
+    (Change::Remove(2), true, 1, 134),
+    (Change::Split(1, 3), true, 4, 413),
 ];
 
 // The corners that a change names, and its point; 0 for none.
@@ -109,6 +119,36 @@ fn round<P: PtrKey, A: ChainArenaTrait<P, u32> + Drop>(mesh: &Mesh<P, u32, A>, f
     all
 }
 
+// Returns what the mesh shows of each corner that came: its point and the corner after it.
+fn shown<P: PtrKey, A: ChainArenaTrait<P, u32> + Drop>(
+    mesh: &Mesh<P, u32, A>,
+    names: &[P],
+) -> u128 {
+    let mut all = 0;
+    for p in names {
+        let point = mesh.get(*p).copied().unwrap_or(0);
+        all = with_pair(all, point, number(names, mesh.next(*p)));
+    }
+    all
+}
+
+// Makes a change again if memory is refused to it, and returns whether it is done. What is not done changes nothing.
+fn made<P: PtrKey, A: ChainArenaTrait<P, u32> + Drop>(
+    mesh: &mut Mesh<P, u32, A>,
+    names: &mut Vec<P>,
+    change: Change,
+) -> Option<bool> {
+    let before = shown(mesh, names);
+    if changed(mesh, names, change) {
+        return Some(true);
+    }
+    if shown(mesh, names) == before {
+        Some(changed(mesh, names, change))
+    } else {
+        None
+    }
+}
+
 // Whether a row is as it says.
 fn holds<P: PtrKey, A: ChainArenaTrait<P, u32> + Drop>(
     mesh: &mut Mesh<P, u32, A>,
@@ -116,15 +156,32 @@ fn holds<P: PtrKey, A: ChainArenaTrait<P, u32> + Drop>(
     row: &Row,
 ) -> bool {
     let (change, done, n, points) = *row;
-    let is_done = changed(mesh, names, change);
+    let is_done = made(mesh, names, change);
     mesh.all_in_polygons();
-    is_done == done && round(mesh, name(names, n)) == points
+    is_done == Some(done) && round(mesh, name(names, n)) == points
+}
+
+// Splits beside a hole, and returns whether each row is as it says, and the indexes of the copies.
+pub(super) fn split_beside_a_hole<P: PtrKey, A: ChainArenaTrait<P, u32> + Drop>(
+    alloc: Global,
+) -> (bool, [Option<usize>; 2]) {
+    let mut mesh = Mesh::<P, u32, A>::new(alloc);
+    let mut names = names_of(alloc);
+    let mut hold = true;
+    for row in &BESIDE_A_HOLE {
+        hold = hold && holds(&mut mesh, &mut names, row);
+    }
+    let (first, second) = (name(&names, 5), name(&names, 6));
+    (
+        hold,
+        [first.inx().try_into_usize(), second.inx().try_into_usize()],
+    )
 }
 
 // The rows, at a new mesh.
 pub(super) fn differing<P: PtrKey, A: ChainArenaTrait<P, u32> + Drop>(alloc: Global) -> Differing {
     let mut mesh = Mesh::<P, u32, A>::new(alloc);
-    let mut names = Vec::new(alloc);
+    let mut names = names_of(alloc);
     for (place, row) in ROWS.iter().enumerate() {
         if !holds(&mut mesh, &mut names, row) {
             return Some(place);

@@ -1,6 +1,6 @@
 //! A text edited: paragraphs come, move and go, and its parts change places.
 
-use super::{Differing, name, noted, with_digit};
+use super::{Differing, name, names_of, noted, number, with_digit, with_pair};
 use arena_ptr::PtrKey;
 use chain_arena::ChainArenaTrait;
 use chain_users::Documents;
@@ -56,7 +56,7 @@ fn named(edit: Edit) -> (usize, usize, u32) {
 }
 
 // Does an edit, and tells whether it is done: a paragraph comes, ...
-pub(super) fn edited<P: PtrKey, A: ChainArenaTrait<P, u32> + Drop>(
+fn edited<P: PtrKey, A: ChainArenaTrait<P, u32> + Drop>(
     texts: &mut Documents<P, u32, A>,
     names: &mut Vec<P>,
     edit: Edit,
@@ -105,6 +105,36 @@ pub(super) fn read<P: PtrKey, A: ChainArenaTrait<P, u32> + Drop>(
     all
 }
 
+// Returns what the texts show of each paragraph that came: the paragraph and the one after it.
+pub(super) fn shown<P: PtrKey, A: ChainArenaTrait<P, u32> + Drop>(
+    texts: &Documents<P, u32, A>,
+    names: &[P],
+) -> u128 {
+    let mut all = 0;
+    for p in names {
+        let paragraph = texts.get(*p).copied().unwrap_or(0);
+        all = with_pair(all, paragraph, number(names, texts.next(*p)));
+    }
+    all
+}
+
+// Does an edit again if memory is refused to it, and returns whether it is done. What is not done changes nothing.
+pub(super) fn made<P: PtrKey, A: ChainArenaTrait<P, u32> + Drop>(
+    texts: &mut Documents<P, u32, A>,
+    names: &mut Vec<P>,
+    edit: Edit,
+) -> Option<bool> {
+    let before = shown(texts, names);
+    if edited(texts, names, edit) {
+        return Some(true);
+    }
+    if shown(texts, names) == before {
+        Some(edited(texts, names, edit))
+    } else {
+        None
+    }
+}
+
 // Whether a row is as it says.
 fn holds<P: PtrKey, A: ChainArenaTrait<P, u32> + Drop>(
     texts: &mut Documents<P, u32, A>,
@@ -112,15 +142,15 @@ fn holds<P: PtrKey, A: ChainArenaTrait<P, u32> + Drop>(
     row: &Row,
 ) -> bool {
     let (edit, done, n, ahead, behind) = *row;
-    let is_done = edited(texts, names, edit);
+    let is_done = made(texts, names, edit);
     let from = Some(name(names, n));
-    is_done == done && read(texts, from, false) == ahead && read(texts, from, true) == behind
+    is_done == Some(done) && read(texts, from, false) == ahead && read(texts, from, true) == behind
 }
 
 // The rows, at new texts.
 pub(super) fn differing<P: PtrKey, A: ChainArenaTrait<P, u32> + Drop>(alloc: Global) -> Differing {
     let mut texts = Documents::<P, u32, A>::new(alloc);
-    let mut names = Vec::new(alloc);
+    let mut names = names_of(alloc);
     for (place, row) in ROWS.iter().enumerate() {
         if !holds(&mut texts, &mut names, row) {
             return Some(place);

@@ -1,6 +1,6 @@
 //! A round robin of five tasks with cancellations.
 
-use super::{Differing, name, noted, number, with_digit};
+use super::{Differing, name, names_of, noted, number, with_digit, with_pair};
 use arena_ptr::PtrKey;
 use chain_arena::ChainArenaTrait;
 use chain_users::RunQueue;
@@ -105,13 +105,42 @@ fn looked<P: PtrKey, A: ChainArenaTrait<P, u32> + Drop>(
     }
 }
 
+// Returns what the queue shows: the tasks in turn, how many there are, and the capacity. Each task has its turn once, so the
+// current one is current again.
+fn shown<P: PtrKey, A: ChainArenaTrait<P, u32> + Drop>(
+    queue: &mut RunQueue<P, u32, A>,
+    names: &[P],
+) -> (u128, usize, usize) {
+    let count = queue.len();
+    let mut all = 0;
+    for _ in 0..count {
+        all = with_pair(all, 0, number(names, queue.next()));
+    }
+    (all, count, queue.capacity())
+}
+
+// Whether what is done has the number that it is to have: where memory is refused, the second time. A refusal changes nothing.
+fn holds<P: PtrKey, A: ChainArenaTrait<P, u32> + Drop>(
+    alloc: Global,
+    queue: &mut RunQueue<P, u32, A>,
+    names: &mut Vec<P>,
+    row: &(Turn, u32),
+) -> bool {
+    let (turn, want) = *row;
+    let before = shown(queue, names);
+    if done(alloc, queue, names, turn) == want {
+        return true;
+    }
+    shown(queue, names) == before && done(alloc, queue, names, turn) == want
+}
+
 // The rows, at a new queue.
 pub(super) fn differing<P: PtrKey, A: ChainArenaTrait<P, u32> + Drop>(alloc: Global) -> Differing {
     let mut queue = RunQueue::<P, u32, A>::new(alloc);
-    let mut names = Vec::new(alloc);
-    for (row, (turn, want)) in ROWS.iter().enumerate() {
-        if done(alloc, &mut queue, &mut names, *turn) != *want {
-            return Some(row);
+    let mut names = names_of(alloc);
+    for (place, row) in ROWS.iter().enumerate() {
+        if !holds(alloc, &mut queue, &mut names, row) {
+            return Some(place);
         }
     }
     None

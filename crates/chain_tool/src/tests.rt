@@ -1,0 +1,59 @@
+//! The exit status and the words on standard error at each fault.
+
+use super::{answer, reason};
+use chain_lines::ToolError;
+use std::alloc::Global;
+use std::io;
+use std::io::{ErrorKind, Read, Write, sink};
+use std::process::{Abort, ExitCode};
+
+/// Fails at each read and at each write.
+#[derive(Drop)]
+struct Failing;
+
+impl Read for Failing {
+    fn read(&mut self, _buf: &mut [u8]) -> io::Result<usize> {
+        Err(io::Error::from(ErrorKind::Other))
+    }
+}
+
+impl Write for Failing {
+    fn write(&mut self, _buf: &[u8]) -> io::Result<usize> {
+        Err(io::Error::from(ErrorKind::Other))
+    }
+
+    fn flush(&mut self) -> io::Result<()> {
+        Err(io::Error::from(ErrorKind::Other))
+    }
+}
+
+/// Whether a run ends with this status, and writes this to standard error.
+fn ends<R: Read + Drop, W: Write + Drop>(
+    alloc: Global,
+    mut reader: R,
+    writer: W,
+    status: ExitCode,
+    words: &str,
+) -> bool {
+    let mut errors = Vec::new(alloc);
+    let ended = answer(alloc, &mut reader, writer, &mut errors);
+    ended == status && errors.as_slice() == words.as_bytes()
+}
+
+#[test]
+fn a_fault_is_reported(rt: HostRuntime) {
+    let alloc = rt.alloc();
+    let lines = "len\n".as_bytes();
+    assert!(rt; ends(alloc, lines, sink(), ExitCode::SUCCESS, ""));
+    let words = "chain_tool: cannot read\n";
+    assert!(rt; ends(alloc, Failing, sink(), ExitCode::FAILURE, words));
+    let words = "chain_tool: cannot write\n";
+    assert!(rt; ends(alloc, lines, Failing, ExitCode::FAILURE, words));
+}
+
+#[test]
+fn a_fault_that_cannot_be_reported(rt: HostRuntime) {
+    let ended = answer(rt.alloc(), &mut Failing, sink(), &mut Failing);
+    assert!(rt; ended == ExitCode::FAILURE);
+    assert!(rt; reason(ToolError::Memory) == "chain_tool: no memory\n");
+}

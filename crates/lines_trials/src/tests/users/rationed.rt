@@ -1,0 +1,96 @@
+//! A stack that refuses each growth once.
+
+use arena_ptr::{ReallocationError, SlotStack};
+use std::alloc::Global;
+
+// A stack over another that refuses every other growth, the first one too.
+#[derive(Drop)]
+pub(super) struct Rationed<S> {
+    inner: S,
+    refuses: bool,
+}
+
+impl<S: SlotStack> SlotStack for Rationed<S> {
+    type Item = S::Item;
+
+    ghost items = { λ s. S.items s.inner };
+
+    ghost capacity = { λ s. S.capacity s.inner };
+
+    ghost maximum = { λ s. S.maximum s.inner };
+
+    ghost initial_maximum = { S.initial_maximum };
+
+    ghost with_item = { λ s i e. record s { inner = S.with_item s.inner i e } };
+
+    ghost has_room = { λ s. S.has_room s.inner };
+
+    ghost room_fits = { λ s. S.room_fits s.inner };
+
+    ghost within_maximum = { λ s. S.within_maximum s.inner };
+
+    ghost items_written = { λ s i e. S.items_written s.inner i e };
+
+    ghost capacity_written = { λ s i e. S.capacity_written s.inner i e };
+
+    ghost maximum_written = { λ s i e. S.maximum_written s.inner i e };
+
+    fn new(alloc: Global) -> Self {
+        Rationed {
+            inner: S::new(alloc),
+            refuses: true,
+        }
+    }
+
+    fn allocator(&self) -> Global {
+        self.inner.allocator()
+    }
+
+    fn len(&self) -> usize {
+        self.inner.len()
+    }
+
+    fn capacity(&self) -> usize {
+        self.inner.capacity()
+    }
+
+    fn max_capacity(&self) -> Option<usize> {
+        self.inner.max_capacity()
+    }
+
+    fn reserve_to(&mut self, n: usize) -> Result<(), ReallocationError> {
+        if n <= self.inner.capacity() {
+            return Ok(());
+        }
+        if let Some(most) = self.inner.max_capacity()
+            && most < n
+        {
+            return Err(ReallocationError::BeyondMaxCapacity);
+        }
+        self.refuses = !self.refuses;
+        if !self.refuses {
+            return Err(ReallocationError::AllocError);
+        }
+        self.inner.reserve_to(n)
+    }
+
+    fn push_within(&mut self, item: S::Item) {
+        self.inner.push_within(item);
+    }
+
+    fn get(&self, i: usize) -> Option<&S::Item> {
+        self.inner.get(i)
+    }
+
+    fn get_mut(&mut self, i: usize) -> Option<&mut S::Item> {
+        self.inner.get_mut(i)
+    }
+
+    fn swap(&mut self, i: usize, j: usize) {
+        self.inner.swap(i, j);
+    }
+
+    fn truncate(&mut self, n: usize) {
+        self.inner.truncate(n);
+    }
+}
