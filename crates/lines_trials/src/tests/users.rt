@@ -89,3 +89,12 @@ fn over_one_piece_of_memory_and_in_blocks(rt: HostRuntime) {
     are_all_played::<ToolPtr, HeapStack<Slot<ToolPtr>>>(&rt, rt.alloc());
     are_all_played::<ToolPtr, ChunkStack<Slot<ToolPtr>>>(&rt, rt.alloc());
 }
+
+#[test]
+fn one_corner_is_not_split_and_room_is_reserved(rt: HostRuntime) {
+    let answers = (
+        polygons::one_corner_is_not_split(rt.alloc()),
+        polygons::room_is_reserved(rt.alloc()),
+    );
+    same(&rt, "mesh", answers, (true, true));
+}
