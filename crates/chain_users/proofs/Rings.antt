@@ -1,5 +1,5 @@
 -- Rings: what an exchange, and a corner that comes or goes, make of them.
-use Rattle.std.proofs.Common.{◌≡◌, ℕ, inl, inr, ⊎_elim, List, [], ◌∷◌, ◌++◌, Option, None, Some, refl, sym, ap, ◌∙◌, subst}
+use Rattle.std.proofs.Common.{◌≡◌, ◌≢◌, ℕ, inl, inr, ⊎_elim, List, [], ◌∷◌, ◌++◌, Option, None, Some, refl, sym, ap, ◌∙◌, subst}
 use Rattle.std.specs.Prelude.{◌↔◌, All, is_some, true, OnSome, IfNone}
 use Rattle.std.specs.Option.{option_map, option_and_then}
 use Rattle.std.proofs.lemmas.List.{map-append}
@@ -9,15 +9,15 @@ use Rattle.chain_laws.proofs.Turning.{turned}
 use Rattle.chain_laws.proofs.Members.{Has-right}
 use Rattle.chain_laws.proofs.Listing.{once_in_middle}
 use Rattle.chain_laws.proofs.Agreement.{one_some}
-use Rattle.chain_laws.proofs.Belonging.{members_are_links}
+use Rattle.chain_laws.proofs.Belonging.{chains_share_each, members_are_links}
 use Rattle.chain_laws.proofs.ExchangePairs.{exchanged_with_itself}
 use Rattle.arena_ptr.specs.Numbers.{IsWithin}
 use Rattle.arena_base.specs.Arena.{IsValid}
 use Rattle.arena_base.specs.Entries.{index_of, found, first_key}
-use Rattle.chain_links.specs.ChainArena.{CanExchange, ptr_at}
+use Rattle.chain_links.specs.ChainArena.{CanExchange, IsInserted, ptr_at}
 use Rattle.chain_traits.proofs.AnyArena.{some_valid, valid_some, links_within}
 use Rattle.chain_users.specs.Lists.{Item, Stand, indexes, IsRing, KeepsWithout, ComesAfter, ComesBefore}
-use Rattle.chain_users.specs.Rings.{GoesRound, AllInRings, IsCutInTwo, AreMerged, IsSplit, CutAndMergeRestore}
+use Rattle.chain_users.specs.Rings.{GoesRound, AllInRings, IsCutInTwo, AreMerged, AreCopied, IsSplit, IsBridged, CutAndMergeRestore}
 use Rattle.chain_users.proofs.Lists.{stand-append, stand-left, stand-right, stand-some}
 use Rattle.chain_users.proofs.Changes.{parts, whole, stays}
 use Rattle.chain_users.proofs.Rounds.{some_item, ring_from}
@@ -29,6 +29,21 @@ items_at entry (k ∷ ks) some =
     let e = some_item (entry k) (some k (inl refl)) in
     let more = items_at entry ks (λ j has. some j (inr has)) in
     (((k, e.0.0), e.0.1) ∷ more.0, ap (λ (l : List ℕ). k ∷ l) more.1, (e.1, more.2))
+
+-- an item came to c, and then one to d: both indexes were free, and each has the item that came to it
+module _ {Gen T : Type 0} (entry mid after : ℕ → Option (Gen × T)) (c d : ℕ × Gen) (a b : T) (came : IsInserted entry mid c a) (also : IsInserted mid after d b) where
+  pub come_apart : c.0 ≢ d.0
+  come_apart same = let some = ap is_some came.stands in let none = ap is_some (ap mid same ∙ also.free) in let both = sym some ∙ none in cc
+
+  pub copies_come : (p q : ℕ × Gen) → entry p.0 ≡ Some (p.1, a) → entry q.0 ≡ Some (q.1, b) → AreCopied entry after p q c d
+  copies_come p q at_p at_q = record {
+    first_free = came.free;
+    second_free = sym (came.rest d.0 (λ same. come_apart (sym same))) ∙ also.free;
+    distinct = come_apart;
+    first = λ s at. also.rest c.0 come_apart ∙ (came.stands ∙ ap (λ (t : T). Some (c.1, t)) (ap (λ (e : Gen × T). e.1) (one_some (sym at_p ∙ at))));
+    second = λ t at. also.stands ∙ ap (λ (t : T). Some (d.1, t)) (ap (λ (e : Gen × T). e.1) (one_some (sym at_q ∙ at)));
+    rest = λ i not_c not_d. also.rest i not_d ∙ came.rest i not_c;
+  }
 
 module _ {A Gen T : Type 0} (entry : A → ℕ → Option (Gen × T)) (links : A → Shown) where
   -- the corner after another is the next one in their ring
@@ -116,6 +131,35 @@ module _ {A Gen T : Type 0} (entry : A → ℕ → Option (Gen × T)) (links : A
         let same_u : a ≡ s = ap (λ (e : Gen × T). e.1) (one_some (sym at_u ∙ is.stand.0)) in
         let same_v : b ≡ t = ap (λ (e : Gen × T). e.1) (one_some (sym at_v ∙ (stand-right (entry old) x ((v, t) ∷ y) is.stand.1).0)) in
         (parts.0, subst (λ (w : T). IsRing entry links new ((c, s) ∷ (d, w) ∷ y)) same_v (subst (λ (w : T). IsRing entry links new ((c, w) ∷ (d, b) ∷ y)) same_u parts.1))
+
+    -- .. or two become one: the first corner's copy is in no ring of the second ..
+    pub bridges : entry old u.0 ≡ Some (u.1, a) → entry old v.0 ≡ Some (v.1, b) → IsInserted (entry old) (entry first) c a → IsInserted (entry first) (entry second) d b
+        → ComesBefore entry links cyclic old first u (c, a) → KeepsWithout entry links cyclic old first (u ∷ [])
+        → ComesAfter entry links cyclic first second v (d, b) → KeepsWithout entry links cyclic first second (v ∷ [])
+        → AreMerged entry links second new v c → IsBridged entry links old new u v c d
+    bridges at_u at_v came also before kept after kept_too merged s t x y one two apart =
+        let same_u : a ≡ s = ap (λ (e : Gen × T). e.1) (one_some (sym at_u ∙ one.stand.0)) in
+        let same_v : b ≡ t = ap (λ (e : Gen × T). e.1) (one_some (sym at_v ∙ two.stand.0)) in
+        let grown = kept_too ((c, a) ∷ (u, s) ∷ x) (not_among, tt) (before s [] x one) in
+        let other = after t [] y (kept ((v, t) ∷ y) (other_lacks, tt) two) in
+        let ring = merged t a ((d, b) ∷ y) ((u, s) ∷ x) other grown new_among in
+        subst (λ (w : T). IsRing entry links new ((v, t) ∷ (u, s) ∷ x ++ (c, s) ∷ (d, w) ∷ y)) same_v
+        (subst (λ (w : T). IsRing entry links new ((v, t) ∷ (u, s) ∷ x ++ (c, w) ∷ (d, b) ∷ y)) same_u ring)
+      where
+        free : (xs : List (Item Gen T)) → Stand (entry old) xs → Has (indexes xs) c.0 → ⊥
+        free xs stand has = let some = stand-some (entry old) xs c.0 stand has in let none = ap is_some came.free in let both = sym some ∙ none in cc
+
+        other_lacks : Has (indexes ((v, t) ∷ y)) u.0 → ⊥
+        other_lacks has = apart ((chains_share_each (links old) (cyclic (indexes ((u, s) ∷ x))) (cyclic (indexes ((v, t) ∷ y))) u.0 v.0 one.chain two.chain (inl refl) has).1 (inl refl))
+
+        not_among : Has (indexes ((c, a) ∷ (u, s) ∷ x)) v.0 → ⊥
+        not_among (inl is) = free ((v, t) ∷ y) two.stand (inl (sym is))
+        not_among (inr has) = apart has
+
+        new_among : Has (indexes ((v, t) ∷ (d, b) ∷ y)) c.0 → ⊥
+        new_among (inl is) = free ((v, t) ∷ y) two.stand (inl is)
+        new_among (inr (inl is)) = come_apart (entry old) (entry first) (entry second) c d a b came also (sym is)
+        new_among (inr (inr has)) = free ((v, t) ∷ y) two.stand (inr has)
 
     -- .. and the other rings stay: no old one has a new corner
     pub keeps_split : entry old c.0 ≡ None → KeepsWithout entry links cyclic old first (u ∷ []) → KeepsWithout entry links cyclic first second (v ∷ []) → KeepsWithout entry links cyclic second new (v ∷ c ∷ [])

@@ -1,14 +1,15 @@
 //! A mesh of polygons: each is a ring of corners, and one arena has them all.
 
-ghost use Rattle.std.specs.Prelude.{◌≡◌, ◌≢◌, ◌↔◌, ℕ, ◌+◌, ◌≤◌, List, [], ◌∷◌, ◌++◌, IsSome, IfSome, OnSome, IfNone, IsOk, IfOk, OnOk, OnErr, Err, None, Some};
+ghost use Rattle.std.specs.Prelude.{◌≡◌, ◌≢◌, ◌↔◌, ℕ, ◌+◌, ◌^◌, ◌<◌, ◌≤◌, List, [], ◌∷◌, ◌++◌, IsTrue, IsSome, IfSome, OnSome, IfNone, IsOk, IfOk, OnOk, IsErr, IfErr, OnErr, Err, None, Some};
 ghost use Rattle.std.specs.Option.{option_map};
+ghost use Rattle.arena_ptr.specs.SlotStack.{IsBeyond, IsWithinMaximum};
 ghost use Rattle.chain_laws.specs.Chains.{cyclic};
-ghost use Rattle.arena_base.specs.Arena.{IsValid};
-ghost use Rattle.arena_base.specs.Entries.{count, first_key, HasRoomLeft};
+ghost use Rattle.arena_base.specs.Arena.{IsRoom, IsValid};
+ghost use Rattle.arena_base.specs.Entries.{count, entry_removed, first_key, with_capacity, HasRoomLeft, NeedsBeyondMaximum};
 ghost use Rattle.chain_links.specs.Calls.{SucceedsInRoom};
 ghost use Rattle.chain_links.specs.ChainArena.{IsInserted};
 ghost use Rattle.chain_users.specs.Lists.{Item, IsRing, KeepsWithout, ComesAfter, ComesBefore, Leaves};
-ghost use Rattle.chain_users.specs.Rings.{GoesRound, AllInRings, IsCutInTwo, AreMerged, IsSplit, CutAndMergeRestore};
+ghost use Rattle.chain_users.specs.Rings.{GoesRound, AllInRings, IsCutInTwo, AreMerged, AreCopied, IsSplit, IsBridged, CutAndMergeRestore};
 
 use arena_ptr::{ChainInsertionError, PtrKey, ReallocationError};
 use chain_links::LinkInsertKind;
@@ -47,6 +48,78 @@ impl<P: PtrKey, T: Drop, A: ChainArenaTrait<P, T> + Drop> Mesh<P, T, A> {
         }
     }
 
+    /// Returns the number of corners.
+    pub fn len(&self) -> usize
+        ensures count { result ≡ count (A.seen self.now) }
+        ensures fits { result ≤ (A.seen self.now).capacity }
+    {
+        self.corners.len()
+    }
+
+    /// Returns `true` if there are no corners.
+    pub fn is_empty(&self) -> bool
+        ensures { IsTrue result ↔ ((A.seen self.now).entries ≡ []) }
+    {
+        self.corners.is_empty()
+    }
+
+    /// Returns the number of corners that the mesh can hold before it has to grow.
+    pub fn capacity(&self) -> usize
+        ensures value { result ≡ (A.seen self.now).capacity }
+        ensures greatest { result ≤ P.Inx.greatest }
+        ensures maximum { IsWithinMaximum (A.seen self.now).maximum result }
+    {
+        self.corners.capacity()
+    }
+
+    /// Returns the greatest capacity that the mesh can have, or `None` if it has no limit.
+    pub fn max_capacity(&self) -> Option<usize>
+        ensures { result ≡ (A.seen self.now).maximum }
+    {
+        self.corners.max_capacity()
+    }
+
+    /// Grows the capacity to at least `len() + additional` corners. Does nothing if it is that already.
+    ///
+    /// # Errors
+    ///
+    /// - `BeyondMaxCapacity`: the capacity asked for is beyond the maximum.
+    /// - `AllocError`: it is beyond the greatest index, or memory was refused.
+    ///
+    /// After an error the mesh is unchanged.
+    pub fn reserve(&mut self, additional: usize) -> Result<(), ReallocationError>
+        ensures within { count (A.seen self.old) + additional ≤ (A.seen self.old).capacity
+            → IsOk result × (self.new ≡ self.old) }
+        ensures beyond { (result ≡ Err ReallocationError.BeyondMaxCapacity)
+            ↔ IsBeyond (A.seen self.old).maximum (count (A.seen self.old) + additional) }
+        ensures greatest { P.Inx.greatest < count (A.seen self.old) + additional → IsErr result }
+        ensures grown { OnOk result (IsRoom P.Inx.greatest (A.seen self.new).maximum
+            (count (A.seen self.old) + additional) (A.seen self.new).capacity) }
+        ensures after { A.seen self.new ≡ with_capacity (A.seen self.old) (A.seen self.new).capacity }
+        ensures links { A.interlinks self.new ≡ A.interlinks self.old }
+        ensures never_less { (A.seen self.old).capacity ≤ (A.seen self.new).capacity }
+        ensures err { OnErr result (self.new ≡ self.old) }
+    {
+        if additional <= self.corners.capacity() - self.corners.len() {
+            return Ok(());
+        }
+        match self.corners.len().checked_add(additional) {
+            Some(n) => self.corners.reallocate_min_capacity(n),
+            None => Err(self.overflow_error()),
+        }
+    }
+
+    // Returns the error for a capacity above every `usize`.
+    fn overflow_error(&self) -> ReallocationError
+        ensures { (n : ℕ) → 2 ^ 64 ≤ n
+            → (result ≡ ReallocationError.BeyondMaxCapacity) ↔ IsBeyond (A.seen self.now).maximum n }
+    {
+        match self.corners.max_capacity() {
+            Some(_) => ReallocationError::BeyondMaxCapacity,
+            None => ReallocationError::AllocError,
+        }
+    }
+
     /// Tells that each corner stands in a polygon, which can be written from it. It does nothing.
     pub fn all_in_polygons(&self)
         ensures { AllInRings A.entry A.interlinks self.now }
@@ -75,39 +148,63 @@ impl<P: PtrKey, T: Drop, A: ChainArenaTrait<P, T> + Drop> Mesh<P, T, A> {
         }
     }
 
-    /// Starts a polygon, which has one corner, and answers its pointer.
+    /// Starts a polygon of one corner and returns the pointer of that corner.
     ///
-    /// `BeyondMaxCapacity`, `AllocError`: there was no room for it. After either nothing has changed, and the point is dropped.
+    /// # Errors
+    ///
+    /// - `BeyondMaxCapacity`: the mesh is full, and growth for one more corner is beyond the maximum.
+    /// - `AllocError`: the growth is beyond the greatest index, or memory was refused.
+    ///
+    /// After an error the mesh is unchanged, and the point is dropped.
     pub fn start(&mut self, point: T) -> Result<P, ReallocationError>
         ensures ring { IfOk result (λ p. IsRing A.entry A.interlinks self.new ((P.key p, point) ∷ [])) }
         ensures corner { IfOk result (λ p. IsInserted (A.entry self.old) (A.entry self.new) (P.key p) point) }
         ensures others { OnOk result (KeepsWithout A.entry A.interlinks cyclic self.old self.new []) }
         ensures size { OnOk result (count (A.seen self.new) ≡ count (A.seen self.old) + 1) }
         ensures room { SucceedsInRoom (A.seen self.old) result (A.seen self.new) }
+        ensures grown { OnOk result (IsRoom P.Inx.greatest (A.seen self.new).maximum
+            (count (A.seen self.old) + 1) (A.seen self.new).capacity) }
+        ensures maximum { (A.seen self.new).maximum ≡ (A.seen self.old).maximum }
+        ensures beyond { (result ≡ Err ReallocationError.BeyondMaxCapacity)
+            ↔ NeedsBeyondMaximum (A.seen self.old) }
+        ensures greatest { count (A.seen self.old) ≡ P.Inx.greatest → IsErr result }
         ensures err { OnErr result (self.new ≡ self.old) }
     {
         self.corners.insert(LinkInsertKind::SingleLinkCyclic, point)
     }
 
-    /// Adds a corner on the edge after a corner, and answers its pointer.
+    /// Inserts a corner directly after another in its polygon and returns the pointer of the new corner.
     ///
-    /// `FailedLinkRequirement`: the pointer is of no corner. `BeyondMaxCapacity`, `AllocError`: there was no room for it. After
-    /// each nothing has changed, and the point is dropped.
+    /// # Errors
+    ///
+    /// - `FailedLinkRequirement`: `corner` is not valid.
+    /// - `BeyondMaxCapacity`: the mesh is full, and growth for one more corner is beyond the maximum.
+    /// - `AllocError`: the growth is beyond the greatest index, or memory was refused.
+    ///
+    /// After an error the mesh is unchanged, and the point is dropped.
     pub fn insert_after(&mut self, corner: P, point: T) -> Result<P, ChainInsertionError>
         ensures ring { IfOk result (λ p. ComesAfter A.entry A.interlinks cyclic self.old self.new (P.key corner) (P.key p, point)) }
         ensures corner { IfOk result (λ p. IsInserted (A.entry self.old) (A.entry self.new) (P.key p) point) }
         ensures others { OnOk result (KeepsWithout A.entry A.interlinks cyclic self.old self.new (P.key corner ∷ [])) }
         ensures size { OnOk result (count (A.seen self.new) ≡ count (A.seen self.old) + 1) }
         ensures link { (result ≡ Err ChainInsertionError.FailedLinkRequirement) ↔ ¬ IsValid (A.entry self.old) (P.key corner) }
+        ensures error { IfErr result (λ e. e ≢ ChainInsertionError.NotWithinCapacity) }
         ensures room { IsValid (A.entry self.old) (P.key corner) → SucceedsInRoom (A.seen self.old) result (A.seen self.new) }
+        ensures grown { OnOk result (IsRoom P.Inx.greatest (A.seen self.new).maximum
+            (count (A.seen self.old) + 1) (A.seen self.new).capacity) }
+        ensures maximum { (A.seen self.new).maximum ≡ (A.seen self.old).maximum }
+        ensures beyond { (result ≡ Err ChainInsertionError.BeyondMaxCapacity)
+            ↔ (IsValid (A.entry self.old) (P.key corner) × NeedsBeyondMaximum (A.seen self.old)) }
+        ensures greatest { count (A.seen self.old) ≡ P.Inx.greatest → IsErr result }
         ensures err { OnErr result (self.new ≡ self.old) }
     {
         self.corners
             .insert_reallocating(LinkInsertKind::NextTo(corner), point)
     }
 
-    /// Removes a corner and answers its point: the corner before it is followed by the one after it. `None`: the pointer is of
-    /// no corner, and nothing has changed.
+    /// Removes a corner from its polygon and returns its point. The other corners keep their order, and the capacity stays.
+    ///
+    /// Returns `None` if `corner` is not valid. The mesh is unchanged then.
     pub fn remove(&mut self, corner: P) -> Option<T>
         ensures some { IsSome result ↔ IsValid (A.entry self.old) (P.key corner) }
         ensures point { IfSome result (λ t. A.entry self.old (P.key corner).0 ≡ Some ((P.key corner).1, t)) }
@@ -116,17 +213,22 @@ impl<P: PtrKey, T: Drop, A: ChainArenaTrait<P, T> + Drop> Mesh<P, T, A> {
         ensures corners { (i : ℕ) → i ≢ (P.key corner).0 → A.entry self.new i ≡ A.entry self.old i }
         ensures others { KeepsWithout A.entry A.interlinks cyclic self.old self.new (P.key corner ∷ []) }
         ensures size { OnSome result (count (A.seen self.old) ≡ count (A.seen self.new) + 1) }
+        ensures seen { OnSome result (A.seen self.new
+            ≡ entry_removed P.Gen.following (A.seen self.old) (P.key corner).0) }
         ensures none { IfNone result (self.new ≡ self.old) }
     {
         self.corners.agrees();
         self.corners.remove(corner).allow()
     }
 
-    /// Cuts the polygon of u and v in two: u is followed by what came after v, and v by what came after u. Of a corner with itself
-    /// nothing changes. `None`: one of the pointers is of no corner, and nothing has changed.
+    /// Cuts the polygon of `u` and `v` in two by exchanging the corners after them.
+    ///
+    /// Merges two polygons if `u` and `v` are in two, as `merge` does. Changes nothing if both are one corner.
+    /// Returns `None` if `u` or `v` is not valid. The mesh is unchanged then.
     pub fn cut(&mut self, u: P, v: P) -> Option<()>
         ensures some { IsSome result ↔ (IsValid (A.entry self.old) (P.key u) × IsValid (A.entry self.old) (P.key v)) }
         ensures rings { IsCutInTwo A.entry A.interlinks self.old self.new (P.key u) (P.key v) }
+        ensures merged { AreMerged A.entry A.interlinks self.old self.new (P.key u) (P.key v) }
         ensures others { KeepsWithout A.entry A.interlinks cyclic self.old self.new (P.key u ∷ P.key v ∷ []) }
         ensures corners { A.entry self.new ≡ A.entry self.old }
         ensures seen { A.seen self.new ≡ A.seen self.old }
@@ -136,11 +238,14 @@ impl<P: PtrKey, T: Drop, A: ChainArenaTrait<P, T> + Drop> Mesh<P, T, A> {
         self.exchange(u, v)
     }
 
-    /// Makes one polygon of that of u and that of v: u is followed by what came after v, and v by what came after u. Of a corner
-    /// with itself nothing changes. `None`: one of the pointers is of no corner, and nothing has changed.
+    /// Merges the polygon of `u` and that of `v` into one by exchanging the corners after them.
+    ///
+    /// Cuts a polygon in two if `u` and `v` are in one, as `cut` does. Changes nothing if both are one corner.
+    /// Returns `None` if `u` or `v` is not valid. The mesh is unchanged then.
     pub fn merge(&mut self, u: P, v: P) -> Option<()>
         ensures some { IsSome result ↔ (IsValid (A.entry self.old) (P.key u) × IsValid (A.entry self.old) (P.key v)) }
         ensures ring { AreMerged A.entry A.interlinks self.old self.new (P.key u) (P.key v) }
+        ensures cut { IsCutInTwo A.entry A.interlinks self.old self.new (P.key u) (P.key v) }
         ensures others { KeepsWithout A.entry A.interlinks cyclic self.old self.new (P.key u ∷ P.key v ∷ []) }
         ensures corners { A.entry self.new ≡ A.entry self.old }
         ensures seen { A.seen self.new ≡ A.seen self.old }
@@ -163,70 +268,85 @@ impl<P: PtrKey, T: Drop, A: ChainArenaTrait<P, T> + Drop> Mesh<P, T, A> {
     {
         self.corners.exchange_next(u, v)
     }
-
-    // Makes room for two corners more. After a refusal nothing has changed.
-    fn make_room_for_two(&mut self) -> Result<(), ReallocationError>
-        ensures room { OnOk result (count (A.seen self.old) + 2 ≤ (A.seen self.new).capacity) }
-        ensures within { count (A.seen self.old) + 2 ≤ (A.seen self.old).capacity → IsOk result }
-        ensures links { A.interlinks self.new ≡ A.interlinks self.old }
-        ensures entries { (A.seen self.new).entries ≡ (A.seen self.old).entries }
-        ensures err { OnErr result (self.new ≡ self.old) }
-    {
-        if self.corners.capacity() - self.corners.len() >= 2 {
-            return Ok(());
-        }
-        match self.corners.len().checked_add(2) {
-            Some(n) => self.corners.reallocate_min_capacity(n),
-            None => Err(ReallocationError::AllocError),
-        }
-    }
 }
 
 impl<P: PtrKey, T: Copy + Drop, A: ChainArenaTrait<P, T> + Drop> Mesh<P, T, A> {
-    /// Splits a polygon along the diagonal from u to v, whose ends stand in both parts: u and v stay in the one, and copies of them
-    /// come to the other. Answers the pointers of the copies, that of u's first. `None`: one of the pointers is of no corner, and
-    /// nothing has changed.
+    /// Splits a polygon along the diagonal from `u` to `v`, and returns the pointers of copies of `u` and `v`, in this order.
     ///
-    /// `BeyondMaxCapacity`, `AllocError`: there was no room for the copies. After either nothing has changed.
+    /// `u` and `v` stay in one part, and the other part has the copies. Two polygons become one if `u` and `v` are in two: the
+    /// diagonal is a bridge between them, with `u` and `v` on one side of it and the copies on the other.
+    /// Returns `Ok(None)` if `u` or `v` is not valid, or both are one corner. The mesh is unchanged then.
+    ///
+    /// # Errors
+    ///
+    /// - `BeyondMaxCapacity`: growth for two more corners is beyond the maximum.
+    /// - `AllocError`: the growth is beyond the greatest index, or memory was refused.
+    ///
+    /// After an error the mesh is unchanged.
     pub fn split(&mut self, u: P, v: P) -> Result<Option<(P, P)>, ReallocationError>
-        ensures some { IfOk result (λ r. IsSome r ↔ (IsValid (A.entry self.old) (P.key u) × IsValid (A.entry self.old) (P.key v))) }
-        ensures rings { IfOk result (λ r. IfSome r (λ copies. IsSplit A.entry A.interlinks self.old self.new (P.key u) (P.key v) (P.key copies.0) (P.key copies.1))) }
+        ensures some { IfOk result (λ r. IsSome r
+            ↔ (IsValid (A.entry self.old) (P.key u) × IsValid (A.entry self.old) (P.key v) × (P.key u ≢ P.key v))) }
+        ensures rings { IfOk result (λ r. IfSome r (λ copies. IsSplit A.entry A.interlinks self.old self.new
+            (P.key u) (P.key v) (P.key copies.0) (P.key copies.1))) }
+        ensures bridged { IfOk result (λ r. IfSome r (λ copies. IsBridged A.entry A.interlinks self.old self.new
+            (P.key u) (P.key v) (P.key copies.0) (P.key copies.1))) }
+        ensures corners { IfOk result (λ r. IfSome r (λ copies. AreCopied (A.entry self.old) (A.entry self.new)
+            (P.key u) (P.key v) (P.key copies.0) (P.key copies.1))) }
         ensures others { OnOk result (KeepsWithout A.entry A.interlinks cyclic self.old self.new (P.key u ∷ P.key v ∷ [])) }
         ensures size { IfOk result (λ r. OnSome r (count (A.seen self.new) ≡ count (A.seen self.old) + 2)) }
         ensures none { IfOk result (λ r. IfNone r (self.new ≡ self.old)) }
-        ensures room { count (A.seen self.old) + 2 ≤ (A.seen self.old).capacity → IsOk result }
+        ensures room { count (A.seen self.old) + 2 ≤ (A.seen self.old).capacity
+            → IsOk result × ((A.seen self.new).capacity ≡ (A.seen self.old).capacity) }
+        ensures grown { IfOk result (λ r. OnSome r (IsRoom P.Inx.greatest (A.seen self.new).maximum
+            (count (A.seen self.old) + 2) (A.seen self.new).capacity)) }
+        ensures maximum { (A.seen self.new).maximum ≡ (A.seen self.old).maximum }
+        ensures beyond { (result ≡ Err ReallocationError.BeyondMaxCapacity)
+            ↔ ((IsValid (A.entry self.old) (P.key u) × IsValid (A.entry self.old) (P.key v) × (P.key u ≢ P.key v))
+            × IsBeyond (A.seen self.old).maximum (count (A.seen self.old) + 2)) }
+        ensures greatest { P.Inx.greatest < count (A.seen self.old) + 2 → IfOk result (λ r. r ≡ None) }
         ensures err { OnErr result (self.new ≡ self.old) }
     {
         match self.points(u, v) {
             Some(both) => {
-                self.make_room_for_two()?;
+                self.reserve(2)?;
                 Ok(Some(self.split_in_room(u, v, both)))
             }
             None => Ok(None),
         }
     }
 
-    // Splits a polygon of which these are the points of u and v, where there is room for the copies.
+    // Splits as `split` does, where there is room for the copies. These are the points of u and v.
     fn split_in_room(&mut self, u: P, v: P, both: (T, T)) -> (P, P)
         requires room { count (A.seen self.old) + 2 ≤ (A.seen self.old).capacity }
         requires first { A.entry self.old (P.key u).0 ≡ Some ((P.key u).1, both.0) }
         requires second { A.entry self.old (P.key v).0 ≡ Some ((P.key v).1, both.1) }
-        ensures rings { IsSplit A.entry A.interlinks self.old self.new (P.key u) (P.key v) (P.key result.0) (P.key result.1) }
+        ensures rings { IsSplit A.entry A.interlinks self.old self.new
+            (P.key u) (P.key v) (P.key result.0) (P.key result.1) }
+        ensures bridged { IsBridged A.entry A.interlinks self.old self.new
+            (P.key u) (P.key v) (P.key result.0) (P.key result.1) }
+        ensures corners { AreCopied (A.entry self.old) (A.entry self.new)
+            (P.key u) (P.key v) (P.key result.0) (P.key result.1) }
         ensures others { KeepsWithout A.entry A.interlinks cyclic self.old self.new (P.key u ∷ P.key v ∷ []) }
         ensures size { count (A.seen self.new) ≡ count (A.seen self.old) + 2 }
+        ensures capacity { (A.seen self.new).capacity ≡ (A.seen self.old).capacity }
+        ensures maximum { (A.seen self.new).maximum ≡ (A.seen self.old).maximum }
     {
         let first = add_before(&mut self.corners, u, both.0);
         let second = add_after(&mut self.corners, v, both.1);
-        self.cut(v, first);
+        self.exchange(v, first);
         (first, second)
     }
 
-    // The points at two corners.
+    // Returns the points of two different corners.
     fn points(&self, u: P, v: P) -> Option<(T, T)>
-        ensures some { IsSome result ↔ (IsValid (A.entry self.now) (P.key u) × IsValid (A.entry self.now) (P.key v)) }
+        ensures some { IsSome result
+            ↔ (IsValid (A.entry self.now) (P.key u) × IsValid (A.entry self.now) (P.key v) × (P.key u ≢ P.key v)) }
         ensures first { IfSome result (λ r. A.entry self.now (P.key u).0 ≡ Some ((P.key u).1, r.0)) }
         ensures second { IfSome result (λ r. A.entry self.now (P.key v).0 ≡ Some ((P.key v).1, r.1)) }
     {
+        if u.is_same(v) {
+            return None;
+        }
         let a = self.corners.get(u)?;
         let b = self.corners.get(v)?;
         Some((*a, *b))
@@ -243,6 +363,7 @@ fn add_before<P: PtrKey, T: Drop, A: ChainArenaTrait<P, T>>(corners: &mut A, u: 
     ensures round { GoesRound (A.interlinks corners.old) → GoesRound (A.interlinks corners.new) }
     ensures size { count (A.seen corners.new) ≡ count (A.seen corners.old) + 1 }
     ensures capacity { (A.seen corners.new).capacity ≡ (A.seen corners.old).capacity }
+    ensures maximum { (A.seen corners.new).maximum ≡ (A.seen corners.old).maximum }
 {
     corners.len();
     match corners.insert(LinkInsertKind::PrevTo(u), t) {
@@ -251,7 +372,7 @@ fn add_before<P: PtrKey, T: Drop, A: ChainArenaTrait<P, T>>(corners: &mut A, u: 
     }
 }
 
-// .. directly after another.
+// Adds a corner directly after another, where there is room.
 fn add_after<P: PtrKey, T: Drop, A: ChainArenaTrait<P, T>>(corners: &mut A, v: P, t: T) -> P
     requires valid { IsValid (A.entry corners.old) (P.key v) }
     requires room { HasRoomLeft (A.seen corners.old) }
@@ -261,6 +382,7 @@ fn add_after<P: PtrKey, T: Drop, A: ChainArenaTrait<P, T>>(corners: &mut A, v: P
     ensures round { GoesRound (A.interlinks corners.old) → GoesRound (A.interlinks corners.new) }
     ensures size { count (A.seen corners.new) ≡ count (A.seen corners.old) + 1 }
     ensures capacity { (A.seen corners.new).capacity ≡ (A.seen corners.old).capacity }
+    ensures maximum { (A.seen corners.new).maximum ≡ (A.seen corners.old).maximum }
 {
     match corners.insert(LinkInsertKind::NextTo(v), t) {
         Ok(p) => p,

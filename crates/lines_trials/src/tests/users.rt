@@ -131,3 +131,12 @@ fn are_all_refused<P: PtrKey, S: SlotStack<Item = Slot<P>>>(rt: &impl Abort, all
 fn each_growth_is_refused_once(rt: HostRuntime) {
     are_all_refused::<ToolPtr, HeapStack<Slot<ToolPtr>>>(&rt, rt.alloc());
 }
+
+#[test]
+fn one_corner_is_not_split_and_room_is_reserved(rt: HostRuntime) {
+    let answers = (
+        polygons::one_corner_is_not_split(rt.alloc()),
+        polygons::room_is_reserved(rt.alloc()),
+    );
+    same(&rt, "mesh", answers, (true, true));
+}

@@ -1,8 +1,8 @@
 //! A square triangulated and put together again.
 
-use super::{Differing, name, names_of, noted, number, with_digit, with_pair};
-use arena_ptr::{InxKey, PtrKey};
-use chain_arena::ChainArenaTrait;
+use super::{Differing, Slot, name, names_of, noted, number, with_digit, with_pair};
+use arena_ptr::{HeapStack, InxKey, PtrKey, ToolPtr};
+use chain_arena::{ChainArena, ChainArenaTrait};
 use chain_users::Mesh;
 use std::alloc::Global;
 
@@ -22,8 +22,9 @@ type Row = (Change, bool, usize, u32);
 
 // The square of the points 1 to 4 is split
 // along a diagonal, and one triangle looked at after the other; both are merged, and the copies of the ends of the diagonal are
-// removed. Then it is cut, and merged again.
-const ROWS: [Row; 16] = [
+// removed. Then it is cut, and merged again. A corner is not split from itself, and a split from the square to a second polygon
+// makes one of both.
+const ROWS: [Row; 20] = [
     (Change::Start(1), true, 1, 1),
     (Change::After(1, 2), true, 1, 12),
     (Change::After(2, 3), true, 1, 123),
@@ -40,6 +41,10 @@ const ROWS: [Row; 16] = [
     (Change::Merge(1, 3), true, 1, 1234),
     (Change::Remove(6), false, 6, 0),
     (Change::After(6, 9), false, 3, 3412),
+    (Change::Split(2, 2), false, 2, 2341),
+    (Change::Start(5), true, 7, 5),
+    (Change::After(7, 6), true, 7, 56),
+    (Change::Split(1, 7), true, 1, 12341565),
 ];
 
 // A square that loses a corner is split, and the copies come to the freed index and to a new one. An arena of four has to grow.
@@ -188,4 +193,27 @@ pub(super) fn differing<P: PtrKey, A: ChainArenaTrait<P, u32> + Drop>(alloc: Glo
         }
     }
     None
+}
+
+// A mesh at one type, of numbers over one piece of memory.
+type ToolMesh = Mesh<ToolPtr, u32, ChainArena<ToolPtr, u32, HeapStack<Slot<ToolPtr>>>>;
+
+// Whether a split at one corner returns `Ok(None)`, and changes nothing.
+pub(super) fn one_corner_is_not_split(alloc: Global) -> bool {
+    let mut mesh = ToolMesh::new(alloc);
+    let Ok(p) = mesh.start(1) else {
+        return false;
+    };
+    let is_refused = matches!(mesh.split(p, p), Ok(None));
+    is_refused && mesh.len() == 1 && round(&mesh, p) == 1
+}
+
+// Whether a mesh has the room that was reserved, and keeps it where a corner is added.
+pub(super) fn room_is_reserved(alloc: Global) -> bool {
+    let mut mesh = ToolMesh::new(alloc);
+    let was_empty = mesh.is_empty() && mesh.capacity() == 0;
+    let is_reserved = mesh.reserve(3).is_ok() && mesh.capacity() >= 3;
+    let capacity = mesh.capacity();
+    let is_started = mesh.start(1).is_ok() && !mesh.is_empty() && mesh.len() == 1;
+    was_empty && is_reserved && is_started && mesh.capacity() == capacity
 }

@@ -1,11 +1,17 @@
 -- The removed link leaves its ring.
-use Rattle.std.proofs.Common.{refl, sym, subst}
+use Rattle.std.proofs.Common.{◌≡◌, Option, None, Some, refl, sym, subst}
+use Rattle.std.specs.Prelude.{is_some, true, OnSome}
 use Rattle.chain_laws.specs.Chains.{cyclic}
 use Rattle.chain_traits.proofs.Removing.{TakesEntry, removal, value_told, gone_of, less_of, same_of, kept_of}
 use Rattle.chain_users.proofs.Removing.{leaves_of, keeps_of, round_of}
 use Rattle.chain_users.proofs.mesh.Mesh.remove.Given.{Over}
 use Rattle.chain_users.proofs.mesh.Mesh.remove.Goals.{After-allow}
 use Rattle.chain_users.proofs.mesh.Mesh.remove.Goals as goal
+
+-- what holds of a valid pointer holds where something was removed
+if_valid : {R V Z : Type 0} (o : Option R) → (is_some o ≡ true → V) → (V → Z) → OnSome o Z
+if_valid None valid so = tt
+if_valid (Some r) valid so = so (valid refl)
 
 it : (g : Over) (c : After-allow g) → TakesEntry g.A.ArenaTrait.seen g.A.ArenaTrait.entry g.A.ChainArenaTrait.interlinks c.self.inside.corners c.remove.new.self (g.P.PtrKey.key c.args.corner) c.allow.result
 it g c =
@@ -28,5 +34,6 @@ returns g c = record {
   corners = rw (← c.self.view_is) (kept_of g.A.ArenaTrait.seen g.A.ArenaTrait.entry g.A.ChainArenaTrait.interlinks _ _ _ c.allow.result (it g c));
   others = rw (← c.self.view_is) (keeps_of g.A.ArenaTrait.seen g.A.ArenaTrait.entry g.A.ChainArenaTrait.interlinks _ _ _ cyclic (λ l. refl) c.allow.result (it g c));
   size = rw (← c.self.view_is) (less_of g.A.ArenaTrait.seen g.A.ArenaTrait.entry g.A.ChainArenaTrait.interlinks _ _ _ c.allow.result (it g c));
+  seen = rw (← c.self.view_is) (if_valid c.allow.result (λ some. ((it g c).some some).stood) (λ valid. (c.remove.ensures.valid valid).1));
   none = rw (← c.self.view_is) (same_of g.A.ArenaTrait.seen g.A.ArenaTrait.entry g.A.ChainArenaTrait.interlinks _ _ _ c.allow.result (it g c));
 }

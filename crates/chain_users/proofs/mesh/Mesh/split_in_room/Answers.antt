@@ -1,8 +1,9 @@
 -- Copies come beside the ends of the diagonal, and what comes after the one end and after the copy of the other is exchanged.
-use Rattle.std.proofs.Common.{◌+◌, ◌∙◌, ap, ◌∷◌, [], arith}
+use Rattle.std.proofs.Common.{◌+◌, ◌∙◌, ap, sym, subst, ◌∷◌, [], arith}
 use Rattle.arena_base.specs.Entries.{count}
+use Rattle.chain_users.specs.Rings.{AreCopied}
 use Rattle.chain_users.proofs.Lists.{stand_kept}
-use Rattle.chain_users.proofs.Rings.{splits, keeps_split}
+use Rattle.chain_users.proofs.Rings.{splits, bridges, copies_come, keeps_split}
 use Rattle.chain_users.proofs.mesh.Mesh.split_in_room.Goals as goal
 
 pub add_before-first-requires-clause-valid : goal.add_before-first-requires-clause-valid
@@ -29,10 +30,28 @@ pub invariant_of-self : goal.invariant_of-self
 invariant_of-self g c = c.add_after-second.ensures.round (c.add_before-first.ensures.round c.self.invariant)
 
 pub returns : goal.returns
-returns g c = record {
-  rings = rw (← c.self.view_is) (splits g.A.ArenaTrait.entry g.A.ChainArenaTrait.interlinks c.self.inside.corners c.add_before-first.new.corners c.add_after-second.new.corners c.cut.new.self (g.P.PtrKey.key c.args.u) (g.P.PtrKey.key c.args.v) (g.P.PtrKey.key c.add_before-first.result) (g.P.PtrKey.key c.add_after-second.result)
-      c.args.both.0 c.args.both.1 (rw c.self.view_is c.requires.first) (rw c.self.view_is c.requires.second) c.add_before-first.ensures.ring c.add_after-second.ensures.ring c.cut.ensures.rings);
-  others = rw (← c.self.view_is) (keeps_split g.A.ArenaTrait.entry g.A.ChainArenaTrait.interlinks c.self.inside.corners c.add_before-first.new.corners c.add_after-second.new.corners c.cut.new.self (g.P.PtrKey.key c.args.u) (g.P.PtrKey.key c.args.v) (g.P.PtrKey.key c.add_before-first.result) (g.P.PtrKey.key c.add_after-second.result)
-      c.args.both.0 c.args.both.1 c.add_before-first.ensures.corner.free c.add_before-first.ensures.others c.add_after-second.ensures.others c.cut.ensures.others);
-  size = rw (← c.self.view_is) (let seen = ap (λ s. count s) c.cut.ensures.seen in let first = c.add_before-first.ensures.size in let second = c.add_after-second.ensures.size in omega arith);
-}
+returns g c =
+    let old = c.self.inside.corners in
+    let first = c.add_before-first.new.corners in
+    let second = c.add_after-second.new.corners in
+    let new = c.exchange.new.self in
+    let u = g.P.PtrKey.key c.args.u in
+    let v = g.P.PtrKey.key c.args.v in
+    let p = g.P.PtrKey.key c.add_before-first.result in
+    let q = g.P.PtrKey.key c.add_after-second.result in
+    let before = c.add_before-first.ensures in
+    let after = c.add_after-second.ensures in
+    let change = c.exchange.ensures in
+    let at_u = rw (← c.self.view_is) at c.requires.first in
+    let at_v = rw (← c.self.view_is) at c.requires.second in
+    record {
+      rings = rw (← c.self.view_is) (splits g.A.ArenaTrait.entry g.A.ChainArenaTrait.interlinks old first second new u v p q c.args.both.0 c.args.both.1 at_u at_v before.ring after.ring change.cut);
+      bridged = rw (← c.self.view_is) (bridges g.A.ArenaTrait.entry g.A.ChainArenaTrait.interlinks old first second new u v p q c.args.both.0 c.args.both.1 at_u at_v before.corner after.corner
+          before.ring before.others after.ring after.others change.merged);
+      corners = rw (← c.self.view_is) (subst (λ e. AreCopied (g.A.ArenaTrait.entry old) e u v p q) (sym change.corners)
+          (copies_come (g.A.ArenaTrait.entry old) (g.A.ArenaTrait.entry first) (g.A.ArenaTrait.entry second) p q c.args.both.0 c.args.both.1 before.corner after.corner u v at_u at_v));
+      others = rw (← c.self.view_is) (keeps_split g.A.ArenaTrait.entry g.A.ChainArenaTrait.interlinks old first second new u v p q c.args.both.0 c.args.both.1 before.corner.free before.others after.others change.others);
+      size = rw (← c.self.view_is) (let seen = ap (λ s. count s) change.seen in let one = before.size in let two = after.size in omega arith);
+      capacity = rw (← c.self.view_is) (ap (λ s. s.capacity) change.seen ∙ (after.capacity ∙ before.capacity));
+      maximum = rw (← c.self.view_is) (ap (λ s. s.maximum) change.seen ∙ (after.maximum ∙ before.maximum));
+    }

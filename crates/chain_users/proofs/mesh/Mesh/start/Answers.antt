@@ -1,5 +1,5 @@
 -- A ring of one names no other corner, so every ring stays.
-use Rattle.std.proofs.Common.{refl, sym, subst}
+use Rattle.std.proofs.Common.{refl, sym, ap, subst}
 use Rattle.chain_laws.specs.Chains.{cyclic}
 use Rattle.chain_laws.specs.Insertions.{single_link_cyclic}
 use Rattle.chain_users.specs.Rings.{GoesRound}
@@ -22,5 +22,10 @@ returns g c = record {
       (g.met.A.ChainArenaTrait.stand c.self.inside.corners (g.P.PtrKey.key q).0) came.chains));
   size = rw (← c.self.view_is) (if_ok c.insert.result c.insert.ensures.inserted (λ q came. came.more));
   room = rw (← c.self.view_is) c.insert.ensures.room;
+  grown = rw (← c.self.view_is) c.insert.ensures.grown;
+  maximum = rw (← c.self.view_is) (either_ok c.insert.result c.insert.ensures.inserted c.insert.ensures.grown c.insert.ensures.err
+      (λ q came grown. came.maximum) (λ same. ap (λ a. (g.A.ArenaTrait.seen a).maximum) same));
+  beyond = rw (← c.self.view_is) c.insert.ensures.beyond;
+  greatest = rw (← c.self.view_is) c.insert.ensures.greatest;
   err = rw (← c.self.view_is) c.insert.ensures.err;
 }
