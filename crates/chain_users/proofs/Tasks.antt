@@ -1,15 +1,15 @@
 -- The tasks of a run queue where one is read or written, and where the queue grows.
 use Rattle.std.proofs.Common.{◌≡◌, ◌≢◌, ℕ, inl, inr, List, [], ◌∷◌, ◌++◌, length, Option, None, Some, refl, sym, ap, ◌∙◌, subst}
-use Rattle.std.specs.Prelude.{is_some, true}
+use Rattle.std.specs.Prelude.{is_some, true, IfSome}
 use Rattle.std.specs.Option.{option_map}
 use Rattle.chain_laws.specs.Chains.{Shown, cyclic, IsChain, Has, HasNoRepetition}
 use Rattle.arena_base.specs.Arena.{IsValid}
-use Rattle.arena_base.specs.Entries.{Seen, found, replaced, written, with_capacity, RisesFrom}
+use Rattle.arena_base.specs.Entries.{Seen, count, found, replaced, written, with_capacity, RisesFrom}
 use Rattle.chain_users.specs.Lists.{Item, indexes, IsTurn}
 use Rattle.chain_users.specs.Turns.{Queue, IsAmong, with_task}
 use Rattle.chain_users.proofs.Lists.{stand-some}
 use Rattle.chain_users.proofs.Writing.{valued, found-standing, indexes-written, first_key-written, stand-written, some-written, value_there, values_elsewhere}
-use Rattle.chain_users.proofs.Turns.{IsSettled, settle, no_task, valid_task, turn_in, queue_in}
+use Rattle.chain_users.proofs.Turns.{settle, turn_length, among_stands, valid_task, turn_in, queue_in}
 
 module _ {Gen T : Type 0} where
   among_parts : (before after : List (Item Gen T)) (e : Item Gen T) → IsAmong e.0 (before ++ e ∷ after)
@@ -23,9 +23,16 @@ module _ {Gen T : Type 0} where
         let split = valid_task entry links current turn p is valid in
         subst (IsAmong p) (sym split.2) (among_parts split.0 split.1 (p, valid.value))
 
+    pub valid_if_among : (p : ℕ × Gen) → IsAmong p turn → IsValid entry p
+    valid_if_among p among = among_stands entry links turn p is.stand among
+
     -- what stands at the index of a task is that task
     pub task_found : (p : ℕ × Gen) (t : T) → entry p.0 ≡ Some (p.1, t) → found p.0 turn ≡ Some (p.1, t)
     task_found p t stands = found-standing entry p.0 turn is.stand (is.all p.0 (ap is_some stands)) ∙ stands
+
+    pub task_shown : {R : Type 0} (p : ℕ × Gen) (value : R → T) (o : Option R) → IfSome o (λ r. entry p.0 ≡ Some (p.1, value r)) → IfSome o (λ r. found p.0 turn ≡ Some (p.1, value r))
+    task_shown p value None stands = tt
+    task_shown p value (Some r) stands = task_found p (value r) stands
 
     -- a free index is that of no task
     pub free_index : (i : ℕ) → entry i ≡ None → Has (indexes turn) i → ⊥
@@ -44,6 +51,20 @@ module _ {Gen T : Type 0} where
         once : (xs : List (Item Gen T)) → (xs ≢ [] → IsChain links (cyclic (indexes xs))) → HasNoRepetition (indexes xs)
         once [] ring = tt
         once (x ∷ xs) ring = (ring (λ h. cc)).1
+
+-- a queue as its arena shows it: how many tasks it has, its capacity and the maximum of that
+pub record HasSize {Gen T : Type 0} (s : Seen Gen T) (q : Queue Gen T) : Type 0 where
+  pub tasks : count s ≡ length q.turn
+  pub room : s.capacity ≡ q.room
+  pub maximum : s.maximum ≡ q.maximum
+
+pub has_size : {A Gen T : Type 0} (seen : A → Seen Gen T) (entry : A → ℕ → Option (Gen × T)) (links : A → Shown) (rises : (a : A) → RisesFrom 1 (seen a).entries) (looked : (a : A) (i : ℕ) → found i (seen a).entries ≡ entry a i)
+    (a : A) (current : Option (ℕ × Gen)) (q : Queue Gen T) → IsTurn (entry a) (links a) current (turn_in seen entry links rises looked a current) → queue_in seen entry links rises looked a current ≡ q → HasSize (seen a) q
+has_size {Gen = Gen} {T = T} seen entry links rises looked a current q is shows = record {
+  tasks = turn_length (entry a) (links a) current (turn_in seen entry links rises looked a current) (seen a).entries is (rises a) (looked a) ∙ ap (λ (r : Queue Gen T). length r.turn) shows;
+  room = ap (λ (r : Queue Gen T). r.room) shows;
+  maximum = ap (λ (r : Queue Gen T). r.maximum) shows;
+}
 
 -- The queue as it is found in an arena, where these look at one.
 module _ {A Gen T : Type 0} (seen : A → Seen Gen T) (entry : A → ℕ → Option (Gen × T)) (links : A → Shown) (rises : (a : A) → RisesFrom 1 (seen a).entries) (looked : (a : A) (i : ℕ) → found i (seen a).entries ≡ entry a i)

@@ -191,7 +191,7 @@ module _ {Gen T : Type 0} where
     }
 
     -- an item of the turn stands: its pointer is valid
-    among_stands : (turn : List (Item Gen T)) (p : ℕ × Gen) → Stand entry turn → IsAmong p turn → IsValid entry p
+    pub among_stands : (turn : List (Item Gen T)) (p : ℕ × Gen) → Stand entry turn → IsAmong p turn → IsValid entry p
     among_stands [] p stand among = absurd among
     among_stands (e ∷ es) p stand (inl same) = subst (IsValid entry) same (record { value = e.1; stands = stand.0 })
     among_stands (e ∷ es) p stand (inr among) = among_stands es p stand.1 among

@@ -145,8 +145,8 @@ impl<P: PtrKey, T: Drop, A: ChainArenaTrait<P, T> + Drop> Documents<P, T, A> {
     /// Returns a paragraph for writing. Its pointer and the order of its text stay. `None`: the pointer is of no paragraph.
     pub fn get_mut(&mut self, p: P) -> Option<&mut T>
         ensures* writes_back { sem 𝓛 (LendsSo
-            (the_row P.row T.row A.row P.Inx.row P.Gen.row P.Inx.Word.row
-            P.PtrKey P.Inx.InxKey P.Gen.GenKey A.ChainArenaTrait)
+            (the_row P.row T.row A.row P.Inx.row P.Gen.row P.Inx.Word.row A.ChainPtrAdvancer.row A.PtrAdvancer.row
+            P.PtrKey P.Inx.InxKey P.Gen.GenKey (record { interlinks = A.interlinks; walker = A.walker }) A.ArenaTrait A.PtrAdvancer.Advancer A.ChainPtrAdvancer.Advancer)
             T.row self.entry result
             (λ new t. OnSome result (HasNewValue A.seen A.entry A.interlinks self.old new (P.key p) t))
             (λ new. new ≡ self.old)) }

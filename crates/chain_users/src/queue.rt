@@ -133,8 +133,8 @@ impl<P: PtrKey, T: Drop, A: ChainArenaTrait<P, T> + Drop> RunQueue<P, T, A> {
     /// Returns a task for writing. The order of the tasks and their pointers stay. `None`: the pointer is of no task.
     pub fn get_mut(&mut self, p: P) -> Option<&mut T>
         ensures* writes_back { sem 𝓛 (LendsSo
-            (the_row P.row T.row A.row P.Inx.row P.Gen.row P.Inx.Word.row
-            P.PtrKey P.Inx.InxKey P.Gen.GenKey A.ChainArenaTrait)
+            (the_row P.row T.row A.row P.Inx.row P.Gen.row P.Inx.Word.row A.ChainPtrAdvancer.row A.PtrAdvancer.row
+            P.PtrKey P.Inx.InxKey P.Gen.GenKey (record { interlinks = A.interlinks; walker = A.walker }) A.ArenaTrait A.PtrAdvancer.Advancer A.ChainPtrAdvancer.Advancer)
             T.row self.entry result
             (λ new t. OnSome result (new ≡ with_task self.old (P.key p).0 t)) (λ new. new ≡ self.old)) }
         ensures some { IsSome result ↔ IsAmong (P.key p) self.old.turn }
