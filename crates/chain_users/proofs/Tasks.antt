@@ -78,11 +78,3 @@ module _ {A Gen T : Type 0} (seen : A → Seen Gen T) (entry : A → ℕ → Opt
   task_written i t was same =
       let now = settle seen entry links rises looked b current _ (turn-written (entry a) (links a) current _ is (entry b) (links b) i t (value_there seen entry links looked a b i t was) (values_elsewhere seen entry links looked a b i t was) same) in
       record { holds = now.holds; shows = λ k. record { turn = now.is_found k; room = (ap (λ (s : Seen Gen T). s.capacity) was) k; maximum = (ap (λ (s : Seen Gen T). s.maximum) was) k } }
-
-  pub queue_grown : entry b ≡ entry a → links b ≡ links a → seen b ≡ with_capacity (seen a) (seen b).capacity
-      → IsQueue (record { turn = turn_in seen entry links rises looked a current; room = (seen b).capacity; maximum = (seen a).maximum })
-  queue_grown entries same after =
-      let still = subst (λ (e : ℕ → Option (Gen × T)). IsTurn e (links b) current (turn_in seen entry links rises looked a current)) (sym entries)
-          (subst (λ (l : Shown). IsTurn (entry a) l current (turn_in seen entry links rises looked a current)) (sym same) is) in
-      let now = settle seen entry links rises looked b current (turn_in seen entry links rises looked a current) still in
-      record { holds = now.holds; shows = λ k. record { turn = now.is_found k; room = (seen b).capacity; maximum = (ap (λ (s : Seen Gen T). s.maximum) after) k } }

@@ -1,7 +1,7 @@
 //! Small calls on any arena of links, each proved by the clauses of `ChainArenaTrait` alone, and all but the last with no answer
 //! written by hand. docs/CALLING.md goes through them.
 
-ghost use Rattle.std.specs.Prelude.{◌≡◌, ◌≢◌, ◌↔◌, ℕ, List, None, Some, Err, IsSome, IfSome, IsTrue, IsFalse, IfOk, OnOk, IfErr, OnErr};
+ghost use Rattle.std.specs.Prelude.{◌≡◌, ◌≢◌, ◌↔◌, ℕ, List, None, Some, Err, IsSome, IfSome, IsTrue, IsFalse, IsOk, IfOk, OnOk, IfErr, OnErr};
 ghost use Rattle.std.specs.Option.{option_map};
 ghost use Rattle.chain_laws.specs.Chains.{linear, cyclic, IsChain, first_or, last_or, next_of};
 ghost use Rattle.chain_laws.specs.Insertions.{next_to};
@@ -9,7 +9,7 @@ ghost use Rattle.chain_laws.specs.Neighbors.{AreNeighbors};
 ghost use Rattle.chain_laws.specs.Operations.{joined, KeepsChainsWithout};
 ghost use Rattle.chain_laws.specs.Removals.{removed};
 ghost use Rattle.arena_base.specs.Arena.{IsValid};
-ghost use Rattle.arena_base.specs.Entries.{entry_removed, NeedsBeyondMaximum};
+ghost use Rattle.arena_base.specs.Entries.{entry_removed, HasRoomLeft, NeedsBeyondMaximum};
 ghost use Rattle.chain_links.specs.Calls.{GainsLink, SucceedsInRoom};
 ghost use Rattle.chain_links.specs.ChainArena.{CanConnect};
 ghost use Rattle.chain_links.specs.Kinds.{MayInsert, pointed};
@@ -85,8 +85,11 @@ pub fn put_behind<P: PtrKey, T: Drop, A: ChainArenaTrait<P, T>>(
 ) -> Result<P, ChainInsertionError>
     ensures behind { IfOk result (λ q. AreNeighbors (A.interlinks arena.new) (P.key p).0 (P.key q).0) }
     ensures inserted { IfOk result (λ q. GainsLink A.seen A.entry A.interlinks (next_to (pointed P.key P.Inx.number p)) t arena.old (P.key q) arena.new) }
-    ensures link { (result ≡ Err ChainInsertionError.FailedLinkRequirement) ↔ ¬ MayInsert (A.entry arena.old) (A.interlinks arena.old) (next_to (pointed P.key P.Inx.number p)) }
-    ensures room { MayInsert (A.entry arena.old) (A.interlinks arena.old) (next_to (pointed P.key P.Inx.number p)) → SucceedsInRoom (A.seen arena.old) result (A.seen arena.new) }
+    ensures link { (result ≡ Err ChainInsertionError.FailedLinkRequirement) ↔ ¬ IsValid (A.entry arena.old) (P.key p) }
+    ensures room { IsValid (A.entry arena.old) (P.key p) × HasRoomLeft (A.seen arena.old) → IsOk result }
+    ensures capacity { HasRoomLeft (A.seen arena.old) → (A.seen arena.new).capacity ≡ (A.seen arena.old).capacity }
+    ensures beyond { (result ≡ Err ChainInsertionError.BeyondMaxCapacity)
+        ↔ (IsValid (A.entry arena.old) (P.key p) × NeedsBeyondMaximum (A.seen arena.old)) }
     ensures error { IfErr result (λ e. e ≢ ChainInsertionError.NotWithinCapacity) }
     ensures err { OnErr result (arena.new ≡ arena.old) }
 {
