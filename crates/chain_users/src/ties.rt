@@ -1,7 +1,7 @@
 //! Small calls on any arena of links, each proved by the clauses of `ChainArenaTrait` alone, and all but the last with no answer
 //! written by hand. docs/CALLING.md goes through them.
 
-ghost use Rattle.std.specs.Prelude.{◌≡◌, ◌≢◌, ◌↔◌, ℕ, List, None, Some, Err, IsSome, IfSome, IsTrue, IsFalse, IsOk, IfOk, OnOk, IfErr, OnErr};
+ghost use Rattle.std.specs.Prelude.{◌≡◌, ◌≢◌, ◌↔◌, ℕ, List, None, Some, Err, IsSome, IfSome, IsTrue, IsFalse, IsOk, IfOk, IfErr, OnErr};
 ghost use Rattle.std.specs.Option.{option_map};
 ghost use Rattle.chain_laws.specs.Chains.{linear, cyclic, IsChain, first_or, last_or, next_of};
 ghost use Rattle.chain_laws.specs.Insertions.{next_to};
@@ -10,9 +10,9 @@ ghost use Rattle.chain_laws.specs.Operations.{joined, KeepsChainsWithout};
 ghost use Rattle.chain_laws.specs.Removals.{removed};
 ghost use Rattle.arena_base.specs.Arena.{IsValid};
 ghost use Rattle.arena_base.specs.Entries.{entry_removed, HasRoomLeft, NeedsBeyondMaximum};
-ghost use Rattle.chain_links.specs.Calls.{GainsLink, SucceedsInRoom};
+ghost use Rattle.chain_links.specs.Calls.{GainsLink};
 ghost use Rattle.chain_links.specs.ChainArena.{CanConnect};
-ghost use Rattle.chain_links.specs.Kinds.{MayInsert, pointed};
+ghost use Rattle.chain_links.specs.Kinds.{pointed};
 
 use arena_ptr::{ChainInsertionError, GenKey, InxKey, PtrKey};
 use chain_links::LinkInsertKind;
