@@ -29,7 +29,8 @@ pub fn renumber<P: PtrKey, T: Drop, S: SlotStack<Item = ArenaSlot<P, LinkNoGen<P
     alloc: Global,
     bookmarks: &mut [Option<P>],
 ) -> Result<(), AllocError>
-    ensures { OnOk result (IsRenumbered P.Gen.first P.Gen.following seen entry shown documents.old documents.new
+    ensures { OnOk result (IsRenumbered P.Gen.first P.Gen.following seen entry shown
+        documents.old documents.new
         (map (option_map P.key) bookmarks.old) (map (option_map P.key) bookmarks.new)) }
 {
     documents.renumber(alloc, bookmarks)

@@ -21,7 +21,8 @@ pub fn spawn<P: PtrKey, T: Drop, A: ChainArenaTrait<P, T> + Drop>(
     ensures grown { OnOk result (IsRoom P.Inx.greatest queue.new.maximum
         (length queue.old.turn + 1) queue.new.room) }
     ensures beyond { (result ≡ Err ReallocationError.BeyondMaxCapacity)
-        ↔ ((length queue.old.turn ≡ queue.old.room) × IsBeyond queue.old.maximum (length queue.old.turn + 1)) }
+        ↔ ((length queue.old.turn ≡ queue.old.room)
+        × IsBeyond queue.old.maximum (length queue.old.turn + 1)) }
     ensures greatest { length queue.old.turn ≡ P.Inx.greatest → IsErr result }
     ensures maximum { queue.new.maximum ≡ queue.old.maximum }
     ensures err { OnErr result (queue.new ≡ queue.old) }

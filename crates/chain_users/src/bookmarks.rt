@@ -12,8 +12,9 @@ use arena_ptr::{InxKey, PtrKey, SlotStack};
 use chain_arena::{ChainArena, LinkNoGen};
 use std::alloc::{AllocError, Global};
 
-/// Arranges the chains one after another from index 1 on, as `compress_canonical` does, and updates bookmarks. Each bookmark
-/// is of the same link as before, by the pointer that the arrangement gave it, and one whose link is gone becomes `None`.
+/// Arranges the chains one after another from index 1 on, as `compress_canonical` does, and
+/// updates bookmarks. Each bookmark is of the same link as before, by the pointer that the
+/// arrangement gave it. A bookmark whose link is gone becomes `None`.
 ///
 /// The time is in proportion to the slots and the bookmarks. No clause states it.
 ///
@@ -26,7 +27,8 @@ pub fn renumber<P: PtrKey, T: Drop, S: SlotStack<Item = ArenaSlot<P, LinkNoGen<P
     bookmarks: &mut [Option<P>],
 ) -> Result<(), AllocError>
     ensures canonical { OnOk result (IsCanonicalLayout P.Gen.first P.Gen.following false (seen arena.old) (shown arena.old) (seen arena.new) (shown arena.new)) }
-    ensures renumbered { OnOk result (IsRenumbered P.Gen.first P.Gen.following seen entry shown arena.old arena.new
+    ensures renumbered { OnOk result (IsRenumbered P.Gen.first P.Gen.following seen entry shown
+        arena.old arena.new
         (map (option_map P.key) bookmarks.old) (map (option_map P.key) bookmarks.new)) }
     ensures err { OnErr result ((arena.new ≡ arena.old) × (bookmarks.new ≡ bookmarks.old)) }
 {

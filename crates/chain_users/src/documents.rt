@@ -68,7 +68,8 @@ impl<P: PtrKey, T: Drop, A: ChainArenaTrait<P, T> + Drop> Documents<P, T, A> {
         self.paragraphs.is_empty()
     }
 
-    /// Returns how many paragraphs fit before the arena has to grow, at most the greatest index and the maximum.
+    /// Returns how many paragraphs fit before the arena has to grow. This is at most the
+    /// greatest index and the maximum.
     pub fn capacity(&self) -> usize
         ensures value { result ≡ (A.seen self.now).capacity }
         ensures greatest { result ≤ P.Inx.greatest }
@@ -100,7 +101,8 @@ impl<P: PtrKey, T: Drop, A: ChainArenaTrait<P, T> + Drop> Documents<P, T, A> {
         ensures greatest { P.Inx.greatest < count (A.seen self.old) + additional → IsErr result }
         ensures ok { OnOk result (IsRoom P.Inx.greatest (A.seen self.new).maximum
             (count (A.seen self.old) + additional) (A.seen self.new).capacity) }
-        ensures seen { A.seen self.new ≡ with_capacity (A.seen self.old) (A.seen self.new).capacity }
+        ensures seen { A.seen self.new
+            ≡ with_capacity (A.seen self.old) (A.seen self.new).capacity }
         ensures never_less { (A.seen self.old).capacity ≤ (A.seen self.new).capacity }
         ensures paragraphs { A.entry self.new ≡ A.entry self.old }
         ensures texts { A.interlinks self.new ≡ A.interlinks self.old }
@@ -125,7 +127,8 @@ impl<P: PtrKey, T: Drop, A: ChainArenaTrait<P, T> + Drop> Documents<P, T, A> {
         ensures room { SucceedsInRoom (A.seen self.old) result (A.seen self.new) }
         ensures grown { OnOk result (IsRoom P.Inx.greatest (A.seen self.new).maximum
             (count (A.seen self.old) + 1) (A.seen self.new).capacity) }
-        ensures beyond { (result ≡ Err ReallocationError.BeyondMaxCapacity) ↔ NeedsBeyondMaximum (A.seen self.old) }
+        ensures beyond { (result ≡ Err ReallocationError.BeyondMaxCapacity)
+            ↔ NeedsBeyondMaximum (A.seen self.old) }
         ensures greatest { count (A.seen self.old) ≡ P.Inx.greatest → IsErr result }
         ensures maximum { (A.seen self.new).maximum ≡ (A.seen self.old).maximum }
         ensures err { OnErr result (self.new ≡ self.old) }
@@ -142,16 +145,21 @@ impl<P: PtrKey, T: Drop, A: ChainArenaTrait<P, T> + Drop> Documents<P, T, A> {
         self.paragraphs.get(p)
     }
 
-    /// Returns a paragraph for writing. Its pointer and the order of its text stay. `None`: the pointer is of no paragraph.
+    /// Returns a paragraph for writing. Its pointer and the order of its text stay. `None`: the
+    /// pointer is of no paragraph.
     pub fn get_mut(&mut self, p: P) -> Option<&mut T>
         ensures* writes_back { sem 𝓛 (LendsSo
-            (the_row P.row T.row A.row P.Inx.row P.Gen.row P.Inx.Word.row A.ChainPtrAdvancer.row A.PtrAdvancer.row
-            P.PtrKey P.Inx.InxKey P.Gen.GenKey (record { interlinks = A.interlinks; walker = A.walker }) A.ArenaTrait A.PtrAdvancer.Advancer A.ChainPtrAdvancer.Advancer)
+            (the_row P.row T.row A.row P.Inx.row P.Gen.row P.Inx.Word.row
+            A.ChainPtrAdvancer.row A.PtrAdvancer.row P.PtrKey P.Inx.InxKey P.Gen.GenKey
+            (record { interlinks = A.interlinks; walker = A.walker }) A.ArenaTrait
+            A.PtrAdvancer.Advancer A.ChainPtrAdvancer.Advancer)
             T.row self.entry result
-            (λ new t. OnSome result (HasNewValue A.seen A.entry A.interlinks self.old new (P.key p) t))
+            (λ new t. OnSome result
+                (HasNewValue A.seen A.entry A.interlinks self.old new (P.key p) t))
             (λ new. new ≡ self.old)) }
         ensures some { IsSome result ↔ IsValid (A.entry self.old) (P.key p) }
-        ensures paragraph { IfSome result (λ t. A.entry self.old (P.key p).0 ≡ Some ((P.key p).1, t.now)) }
+        ensures paragraph { IfSome result (λ t. A.entry self.old (P.key p).0
+            ≡ Some ((P.key p).1, t.now)) }
     {
         match self.paragraphs.get_mut(p) {
             Some(paragraph) => Some(paragraph),
@@ -243,8 +251,8 @@ impl<P: PtrKey, T: Drop, A: ChainArenaTrait<P, T> + Drop> Documents<P, T, A> {
             .insert_reallocating(LinkInsertKind::PrevTo(p), paragraph)
     }
 
-    /// Removes a paragraph and returns it: those that it was between follow each other. The capacity stays. `None`: the
-    /// pointer is of no paragraph, and nothing has changed.
+    /// Removes a paragraph and returns it. Those that it was between follow each other. The
+    /// capacity stays. `None`: the pointer is of no paragraph, and nothing has changed.
     pub fn remove(&mut self, p: P) -> Option<T>
         ensures some { IsSome result ↔ IsValid (A.entry self.old) (P.key p) }
         ensures paragraph { IfSome result (λ t. A.entry self.old (P.key p).0 ≡ Some ((P.key p).1, t)) }
@@ -374,9 +382,10 @@ impl<P: PtrKey, T: Drop, S: SlotStack<Item = ArenaSlot<P, LinkNoGen<P, T>>>> Doc
     T,
     ChainArena<P, T, S>,
 > {
-    /// Arranges the texts one after another from index 1 on, each in one run, and updates the bookmarks. Each bookmark is of
-    /// the same paragraph as before, by the pointer that the arrangement gave it, also where two paragraphs are equal. A
-    /// bookmark whose paragraph is gone becomes `None`. Every other pointer of before is lost.
+    /// Arranges the texts one after another from index 1 on, each in one run, and updates the
+    /// bookmarks. Each bookmark is of the same paragraph as before, by the pointer that the
+    /// arrangement gave it, also where two paragraphs are equal. A bookmark whose paragraph is
+    /// gone becomes `None`. Every other pointer of before is invalid.
     ///
     /// The time is in proportion to the slots and the bookmarks. No clause states it.
     ///
@@ -385,7 +394,8 @@ impl<P: PtrKey, T: Drop, S: SlotStack<Item = ArenaSlot<P, LinkNoGen<P, T>>>> Doc
     /// - `AllocError`: memory was refused, and nothing has changed.
     pub fn renumber(&mut self, alloc: Global, bookmarks: &mut [Option<P>]) -> Result<(), AllocError>
         ensures canonical { OnOk result (IsCanonicalLayout P.Gen.first P.Gen.following false (seen self.old) (shown self.old) (seen self.new) (shown self.new)) }
-        ensures renumbered { OnOk result (IsRenumbered P.Gen.first P.Gen.following seen entry shown self.old self.new
+        ensures renumbered { OnOk result (IsRenumbered P.Gen.first P.Gen.following seen entry shown
+            self.old self.new
             (map (option_map P.key) bookmarks.old) (map (option_map P.key) bookmarks.new)) }
         ensures err { OnErr result ((self.new ≡ self.old) × (bookmarks.new ≡ bookmarks.old)) }
     {

@@ -27,7 +27,8 @@ pub(crate) fn reserve<P: PtrKey, T: Drop, A: ChainArenaTrait<P, T>>(
     ensures greatest { P.Inx.greatest < count (A.seen arena.old) + additional → IsErr result }
     ensures ok { OnOk result (IsRoom P.Inx.greatest (A.seen arena.new).maximum
         (count (A.seen arena.old) + additional) (A.seen arena.new).capacity) }
-    ensures after { A.seen arena.new ≡ with_capacity (A.seen arena.old) (A.seen arena.new).capacity }
+    ensures after { A.seen arena.new
+        ≡ with_capacity (A.seen arena.old) (A.seen arena.new).capacity }
     ensures never_less { (A.seen arena.old).capacity ≤ (A.seen arena.new).capacity }
     ensures entries { A.entry arena.new ≡ A.entry arena.old }
     ensures links { A.interlinks arena.new ≡ A.interlinks arena.old }

@@ -76,7 +76,8 @@ impl<P: PtrKey, T: Drop, A: ChainArenaTrait<P, T> + Drop> RunQueue<P, T, A> {
         self.current.is_none()
     }
 
-    /// Returns how many tasks fit before the queue has to grow, at most the greatest index and the maximum.
+    /// Returns how many tasks fit before the queue has to grow. This is at most the greatest
+    /// index and the maximum.
     pub fn capacity(&self) -> usize
         ensures value { result ≡ self.now.room }
         ensures greatest { result ≤ P.Inx.greatest }
@@ -101,7 +102,8 @@ impl<P: PtrKey, T: Drop, A: ChainArenaTrait<P, T> + Drop> RunQueue<P, T, A> {
     ///
     /// After an error nothing has changed.
     pub fn reserve(&mut self, additional: usize) -> Result<(), ReallocationError>
-        ensures within { length self.old.turn + additional ≤ self.old.room → IsOk result × (self.new ≡ self.old) }
+        ensures within { length self.old.turn + additional ≤ self.old.room
+            → IsOk result × (self.new ≡ self.old) }
         ensures beyond { (result ≡ Err ReallocationError.BeyondMaxCapacity)
             ↔ IsBeyond self.old.maximum (length self.old.turn + additional) }
         ensures greatest { P.Inx.greatest < length self.old.turn + additional → IsErr result }
@@ -125,20 +127,26 @@ impl<P: PtrKey, T: Drop, A: ChainArenaTrait<P, T> + Drop> RunQueue<P, T, A> {
     /// Returns a task, which stays in the queue. `None`: the pointer is of no task.
     pub fn get(&self, p: P) -> Option<&T>
         ensures some { IsSome result ↔ IsAmong (P.key p) self.now.turn }
-        ensures task { IfSome result (λ t. found (P.key p).0 self.now.turn ≡ Some ((P.key p).1, t.now)) }
+        ensures task { IfSome result (λ t. found (P.key p).0 self.now.turn
+            ≡ Some ((P.key p).1, t.now)) }
     {
         self.tasks.get(p)
     }
 
-    /// Returns a task for writing. The order of the tasks and their pointers stay. `None`: the pointer is of no task.
+    /// Returns a task for writing. The order of the tasks and their pointers stay. `None`: the
+    /// pointer is of no task.
     pub fn get_mut(&mut self, p: P) -> Option<&mut T>
         ensures* writes_back { sem 𝓛 (LendsSo
-            (the_row P.row T.row A.row P.Inx.row P.Gen.row P.Inx.Word.row A.ChainPtrAdvancer.row A.PtrAdvancer.row
-            P.PtrKey P.Inx.InxKey P.Gen.GenKey (record { interlinks = A.interlinks; walker = A.walker }) A.ArenaTrait A.PtrAdvancer.Advancer A.ChainPtrAdvancer.Advancer)
+            (the_row P.row T.row A.row P.Inx.row P.Gen.row P.Inx.Word.row
+            A.ChainPtrAdvancer.row A.PtrAdvancer.row P.PtrKey P.Inx.InxKey P.Gen.GenKey
+            (record { interlinks = A.interlinks; walker = A.walker }) A.ArenaTrait
+            A.PtrAdvancer.Advancer A.ChainPtrAdvancer.Advancer)
             T.row self.entry result
-            (λ new t. OnSome result (new ≡ with_task self.old (P.key p).0 t)) (λ new. new ≡ self.old)) }
+            (λ new t. OnSome result (new ≡ with_task self.old (P.key p).0 t))
+            (λ new. new ≡ self.old)) }
         ensures some { IsSome result ↔ IsAmong (P.key p) self.old.turn }
-        ensures task { IfSome result (λ t. found (P.key p).0 self.old.turn ≡ Some ((P.key p).1, t.now)) }
+        ensures task { IfSome result (λ t. found (P.key p).0 self.old.turn
+            ≡ Some ((P.key p).1, t.now)) }
     {
         match self.tasks.get_mut(p) {
             Some(task) => Some(task),
@@ -146,8 +154,8 @@ impl<P: PtrKey, T: Drop, A: ChainArenaTrait<P, T> + Drop> RunQueue<P, T, A> {
         }
     }
 
-    /// Adds a task, which is the last in turn, and returns its pointer, whose index is that of no other task. Below the
-    /// capacity it cannot fail; at the capacity the queue grows first.
+    /// Adds a task, which is the last in turn, and returns its pointer. No other task has its
+    /// index. Below the capacity this cannot fail; a full queue grows first.
     ///
     /// # Errors
     ///
@@ -162,7 +170,8 @@ impl<P: PtrKey, T: Drop, A: ChainArenaTrait<P, T> + Drop> RunQueue<P, T, A> {
         ensures grown { OnOk result (IsRoom P.Inx.greatest self.new.maximum
             (length self.old.turn + 1) self.new.room) }
         ensures beyond { (result ≡ Err ReallocationError.BeyondMaxCapacity)
-            ↔ ((length self.old.turn ≡ self.old.room) × IsBeyond self.old.maximum (length self.old.turn + 1)) }
+            ↔ ((length self.old.turn ≡ self.old.room)
+            × IsBeyond self.old.maximum (length self.old.turn + 1)) }
         ensures greatest { length self.old.turn ≡ P.Inx.greatest → IsErr result }
         ensures maximum { self.new.maximum ≡ self.old.maximum }
         ensures err { OnErr result (self.new ≡ self.old) }
@@ -250,7 +259,8 @@ fn come_last<P: PtrKey, T: Drop, A: ChainArenaTrait<P, T>>(
     ensures room { SucceedsInRoom (A.seen tasks.old) result (A.seen tasks.new) }
     ensures grown { OnOk result (IsRoom P.Inx.greatest (A.seen tasks.new).maximum
         (count (A.seen tasks.old) + 1) (A.seen tasks.new).capacity) }
-    ensures beyond { (result ≡ Err ReallocationError.BeyondMaxCapacity) ↔ NeedsBeyondMaximum (A.seen tasks.old) }
+    ensures beyond { (result ≡ Err ReallocationError.BeyondMaxCapacity)
+        ↔ NeedsBeyondMaximum (A.seen tasks.old) }
     ensures greatest { count (A.seen tasks.old) ≡ P.Inx.greatest → IsErr result }
     ensures maximum { (A.seen tasks.new).maximum ≡ (A.seen tasks.old).maximum }
     ensures err { OnErr result (tasks.new ≡ tasks.old) }

@@ -18,8 +18,8 @@ use arena_ptr::{ChainInsertionError, GenKey, InxKey, PtrKey};
 use chain_links::LinkInsertKind;
 use chain_traits::ChainArenaTrait;
 
-/// Makes q the link after p, and returns whether it could. Every other chain stays, link for link, and so do all values.
-/// Where it could not, nothing has changed.
+/// Makes q the link after p, and returns whether it could. Every other chain stays, link for
+/// link, and so do all values. Where it could not, nothing has changed.
 pub fn tie<P: PtrKey, T: Drop, A: ChainArenaTrait<P, T>>(arena: &mut A, p: P, q: P) -> bool
     ensures tied { IsTrue result ↔ CanConnect (A.entry arena.old) (A.interlinks arena.old) (P.key p) (P.key q) }
     ensures links { IsTrue result → A.interlinks arena.new ≡ joined (A.interlinks arena.old) (P.key p).0 (P.key q).0 }
@@ -33,8 +33,8 @@ pub fn tie<P: PtrKey, T: Drop, A: ChainArenaTrait<P, T>>(arena: &mut A, p: P, q:
     }
 }
 
-/// Removes the link at an index, and returns the index of the one after it. `None`: there was none after it, or there is no
-/// link at the index, and nothing has changed.
+/// Removes the link at an index, and returns the index of the one after it. `None`: there was
+/// none after it, or there is no link at the index, and nothing has changed.
 pub fn take_next<P: PtrKey, T: Drop, A: ChainArenaTrait<P, T>>(
     arena: &mut A,
     i: P::Inx,
@@ -45,7 +45,8 @@ pub fn take_next<P: PtrKey, T: Drop, A: ChainArenaTrait<P, T>>(
         → A.interlinks arena.new ≡ removed (A.interlinks arena.old) (P.Inx.number i) }
     ensures seen { IsSome (A.entry arena.old (P.Inx.number i))
         → A.seen arena.new ≡ entry_removed P.Gen.following (A.seen arena.old) (P.Inx.number i) }
-    ensures none { A.entry arena.old (P.Inx.number i) ≡ None → (result ≡ None) × (arena.new ≡ arena.old) }
+    ensures none { A.entry arena.old (P.Inx.number i) ≡ None
+        → (result ≡ None) × (arena.new ≡ arena.old) }
 {
     match arena.remove_inx_link_no_gen(i).allow() {
         Some((_, link)) => link.next(),
@@ -53,13 +54,16 @@ pub fn take_next<P: PtrKey, T: Drop, A: ChainArenaTrait<P, T>>(
     }
 }
 
-/// Makes q, the start of a list, the link after p, its end, so that the list is cyclic. Returns whether it could. Where it
-/// could not, nothing has changed.
+/// Makes q, the start of a list, the link after p, its end, so that the list is cyclic. Returns
+/// whether it could. Where it could not, nothing has changed.
 pub fn close<P: PtrKey, T: Drop, A: ChainArenaTrait<P, T>>(arena: &mut A, p: P, q: P) -> bool
-    ensures closed { IsTrue result ↔ CanConnect (A.entry arena.old) (A.interlinks arena.old) (P.key p) (P.key q) }
-    ensures ring { IsTrue result → (xs : List ℕ) → IsChain (A.interlinks arena.old) (linear xs) → first_or xs None ≡ Some (P.key q).0 → last_or xs None ≡ Some (P.key p).0
+    ensures closed { IsTrue result
+        ↔ CanConnect (A.entry arena.old) (A.interlinks arena.old) (P.key p) (P.key q) }
+    ensures ring { IsTrue result → (xs : List ℕ) → IsChain (A.interlinks arena.old) (linear xs)
+        → first_or xs None ≡ Some (P.key q).0 → last_or xs None ≡ Some (P.key p).0
         → IsChain (A.interlinks arena.new) (cyclic xs) }
-    ensures others { IsTrue result → KeepsChainsWithout (A.interlinks arena.old) (A.interlinks arena.new) (P.key p).0 (P.key q).0 }
+    ensures others { IsTrue result
+        → KeepsChainsWithout (A.interlinks arena.old) (A.interlinks arena.new) (P.key p).0 (P.key q).0 }
     ensures seen { IsTrue result → A.seen arena.new ≡ A.seen arena.old }
     ensures refused { IsFalse result → arena.new ≡ arena.old }
 {
@@ -84,10 +88,14 @@ pub fn put_behind<P: PtrKey, T: Drop, A: ChainArenaTrait<P, T>>(
     t: T,
 ) -> Result<P, ChainInsertionError>
     ensures behind { IfOk result (λ q. AreNeighbors (A.interlinks arena.new) (P.key p).0 (P.key q).0) }
-    ensures inserted { IfOk result (λ q. GainsLink A.seen A.entry A.interlinks (next_to (pointed P.key P.Inx.number p)) t arena.old (P.key q) arena.new) }
-    ensures link { (result ≡ Err ChainInsertionError.FailedLinkRequirement) ↔ ¬ IsValid (A.entry arena.old) (P.key p) }
-    ensures room { IsValid (A.entry arena.old) (P.key p) × HasRoomLeft (A.seen arena.old) → IsOk result }
-    ensures capacity { HasRoomLeft (A.seen arena.old) → (A.seen arena.new).capacity ≡ (A.seen arena.old).capacity }
+    ensures inserted { IfOk result (λ q. GainsLink A.seen A.entry A.interlinks
+        (next_to (pointed P.key P.Inx.number p)) t arena.old (P.key q) arena.new) }
+    ensures link { (result ≡ Err ChainInsertionError.FailedLinkRequirement)
+        ↔ ¬ IsValid (A.entry arena.old) (P.key p) }
+    ensures room { IsValid (A.entry arena.old) (P.key p) × HasRoomLeft (A.seen arena.old)
+        → IsOk result }
+    ensures capacity { HasRoomLeft (A.seen arena.old)
+        → (A.seen arena.new).capacity ≡ (A.seen arena.old).capacity }
     ensures beyond { (result ≡ Err ChainInsertionError.BeyondMaxCapacity)
         ↔ (IsValid (A.entry arena.old) (P.key p) × NeedsBeyondMaximum (A.seen arena.old)) }
     ensures error { IfErr result (λ e. e ≢ ChainInsertionError.NotWithinCapacity) }
@@ -96,10 +104,13 @@ pub fn put_behind<P: PtrKey, T: Drop, A: ChainArenaTrait<P, T>>(
     arena.insert_reallocating(LinkInsertKind::NextTo(p), t)
 }
 
-/// Returns the pointer of the link after p, as it is now. `None`: p is not valid, or no link comes after it.
+/// Returns the pointer of the link after p, as it is now. `None`: p is not valid, or no link
+/// comes after it.
 pub fn after<P: PtrKey, T: Drop, A: ChainArenaTrait<P, T>>(arena: &A, p: P) -> Option<P>
-    ensures next { IfSome result (λ q. IsValid (A.entry arena.now) (P.key q) × (next_of (A.interlinks arena.now) (P.key p).0 ≡ Some (P.key q).0)) }
-    ensures some { IsSome result ↔ (IsValid (A.entry arena.now) (P.key p) × IsSome (next_of (A.interlinks arena.now) (P.key p).0)) }
+    ensures next { IfSome result (λ q. IsValid (A.entry arena.now) (P.key q)
+        × (next_of (A.interlinks arena.now) (P.key p).0 ≡ Some (P.key q).0)) }
+    ensures some { IsSome result ↔ (IsValid (A.entry arena.now) (P.key p)
+        × IsSome (next_of (A.interlinks arena.now) (P.key p).0)) }
 {
     match arena.get_link(p) {
         Some(link) => link.next(),

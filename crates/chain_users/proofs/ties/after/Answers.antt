@@ -24,7 +24,7 @@ returns-in-Some-clause-some g c =
     let entry = g.A.ArenaTrait.entry c.args.arena.now in
     let i = (g.P.PtrKey.key c.args.p).0 in
     let same = both_some (λ q. IsValid entry (g.P.PtrKey.key q)) (λ q. (g.P.PtrKey.key q).0) c.in-Some.link.next (next_of links i)
-        (looked g.P.PtrKey.key entry c.in-Some.link.next _ c.in-Some.ensures.link.after)
-        (none_looked g.P.PtrKey.key entry c.in-Some.link.next (next_of links i) c.in-Some.ensures.link.after
-        (λ j is. sym (g.met.A.ChainArenaTrait.stand c.args.arena.now j) ∙ ap is_some (prev_valid links j i ((c.in-Some.ensures.agree.both i j).0 is)).shows)) in
+    (looked g.P.PtrKey.key entry c.in-Some.link.next _ c.in-Some.ensures.link.after)
+    (none_looked g.P.PtrKey.key entry c.in-Some.link.next (next_of links i) c.in-Some.ensures.link.after
+    (λ j is. sym (g.met.A.ChainArenaTrait.stand c.args.arena.now j) ∙ ap is_some (prev_valid links j i ((c.in-Some.ensures.agree.both i j).0 is)).shows)) in
     (λ some. (c.in-Some.ensures.some.0 refl, sym same ∙ (ap is_some (sym c.next.ensures) ∙ some)), λ both. ap is_some c.next.ensures ∙ (same ∙ both.1))

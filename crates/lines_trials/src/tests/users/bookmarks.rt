@@ -40,15 +40,7 @@ const EDITS: [Edit; 8] = [
 
 // The paragraphs that bookmarks name, and what each reads on from its own after the renumbering: of one that is gone, and of
 // none, nothing.
-const MARKS: [(usize, u32); 7] = [
-    (5, 32),
-    (1, 0),
-    (4, 6),
-    (0, 0),
-    (2, 526),
-    (6, 26),
-    (3, 2),
-];
+const MARKS: [(usize, u32); 7] = [(5, 32), (1, 0), (4, 6), (0, 0), (2, 526), (6, 26), (3, 2)];
 
 // The bookmarks that name these paragraphs; 0 is none. Where memory is refused there are fewer.
 fn marks<P: PtrKey>(alloc: Global, names: &[P]) -> Vec<Option<P>> {
