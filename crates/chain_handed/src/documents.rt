@@ -1,12 +1,12 @@
 // Calls of ordered documents.
 ghost use Rattle.std.specs.Prelude.{OnOk, OnSome, map};
 ghost use Rattle.std.specs.Option.{option_map};
-ghost use Rattle.chain_links.specs.ChainArena.{entry, shown};
+ghost use Rattle.chain_links.specs.ChainArena.{entry, seen, shown};
 ghost use Rattle.chain_users.specs.Renumbering.{IsRenumbered};
 ghost use Rattle.chain_users.specs.Texts.{IsMovedAfter};
 
 use arena_base::ArenaSlot;
-use arena_ptr::{PtrKey, SlotStack};
+use arena_ptr::{GenKey, PtrKey, SlotStack};
 use chain_arena::{ChainArena, LinkNoGen};
 use chain_traits::ChainArenaTrait;
 use chain_users::Documents;
@@ -29,7 +29,9 @@ pub fn renumber<P: PtrKey, T: Drop, S: SlotStack<Item = ArenaSlot<P, LinkNoGen<P
     alloc: Global,
     bookmarks: &mut [Option<P>],
 ) -> Result<(), AllocError>
-    ensures { OnOk result (IsRenumbered entry shown documents.old documents.new (map (option_map P.key) bookmarks.old) (map (option_map P.key) bookmarks.new)) }
+    ensures { OnOk result (IsRenumbered P.Gen.first P.Gen.following seen entry shown
+        documents.old documents.new
+        (map (option_map P.key) bookmarks.old) (map (option_map P.key) bookmarks.new)) }
 {
     documents.renumber(alloc, bookmarks)
 }

@@ -32,6 +32,15 @@ module _ {Gen T : Type 0} (entry : ℕ → Option (Gen × T)) (to : ℕ → Opti
       let goals : map (λ (n : Move Gen). n.1) moves ≡ map (λ k. (k, g)) ks = cc in
       (ap to (index_there m.0 i (entry i) first) ∙ (images.0 ∙ ap (λ (q : ℕ × Gen). Some q.0) (sym goal)), moves_go moves is ks rest goals images.1)
 
+  -- .. to the generation that all of them have
+  pub moves_end_at : (moves : List (Move Gen)) (ks : List ℕ) → map (λ (m : Move Gen). m.1) moves ≡ map (λ k. (k, g)) ks → AllByRecursion (λ (m : Move Gen). m.1.1 ≡ g) moves
+  moves_end_at [] ks goes = tt
+  moves_end_at (m ∷ moves) [] goes = absurd (cc)
+  moves_end_at (m ∷ moves) (k ∷ ks) goes =
+      let goal : m.1 ≡ (k, g) = cc in
+      let goals : map (λ (n : Move Gen). n.1) moves ≡ map (λ k. (k, g)) ks = cc in
+      (ap (λ (q : ℕ × Gen). q.1) goal, moves_end_at moves ks goals)
+
 module _ {Gen T : Type 0} (before after : ℕ → Option (Gen × T)) (moves : List (Move Gen)) (moved : ArePointerMoves (λ (p : ℕ × Gen). p) before after moves) (to : ℕ → Option ℕ) (go : All (λ (m : Move Gen). to m.0.0 ≡ Some m.1.0) moves) where
   -- items that stand move to items that stand, at the images of their indexes
   items_move : (text : List (Item Gen T)) → Stand before text → (items : List (Item Gen T)) × AreMovedTo moves text items × AreImages to (indexes text) (indexes items) × Stand after items

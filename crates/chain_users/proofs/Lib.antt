@@ -10,5 +10,7 @@ mod Renumbering
 mod Rings
 mod Rounds
 mod Tables
+mod Tasks
 mod Texts
 mod Turns
+mod Writing

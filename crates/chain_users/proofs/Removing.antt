@@ -1,6 +1,6 @@
 -- An entry that was removed from an arena of links, or none: what becomes of lists.
 use Rattle.std.proofs.Common.{◌≡◌, ◌≢◌, ℕ, List, [], ◌∷◌, ◌++◌, Option, None, Some, refl, sym, subst}
-use Rattle.std.specs.Prelude.{IfSome}
+use Rattle.std.specs.Prelude.{is_some, true, IfSome, OnSome}
 use Rattle.chain_laws.specs.Chains.{Shown, Chain, items, IsChain, Agrees}
 use Rattle.chain_laws.specs.Removals.{Removes}
 use Rattle.arena_base.specs.Entries.{Seen}
@@ -9,6 +9,11 @@ use Rattle.chain_users.specs.Lists.{KeepsWithout, Leaves}
 use Rattle.chain_users.specs.Rings.{GoesRound}
 use Rattle.chain_users.proofs.Changes.{leaves, keeps_left}
 use Rattle.chain_users.proofs.Rounds.{round_removed}
+
+-- what holds where an answer is `Some` holds on it
+pub where_some : {R Z : Type 0} (o : Option R) → (is_some o ≡ true → Z) → OnSome o Z
+where_some None so = tt
+where_some (Some r) so = so refl
 
 module _ {A Gen T : Type 0} (seen : A → Seen Gen T) (entry : A → ℕ → Option (Gen × T)) (links : A → Shown) (old new : A) (p : ℕ × Gen) where
   pub round_of : (o : Option T) → TakesEntry seen entry links old new p o → Agrees (links old) → GoesRound (links old) → GoesRound (links new)

@@ -23,7 +23,7 @@ use Rattle.chain_users.specs.Tables.{noted, looked_up}
 use Rattle.chain_users.proofs.Tables.{HasPlaces, noted_table}
 use Rattle.chain_users.proofs.Moves.{keys_of}
 use Rattle.chain_users.proofs.Following.{all_followed}
-use Rattle.chain_users.proofs.Carrying.{moves_go, texts_move}
+use Rattle.chain_users.proofs.Carrying.{moves_go, moves_end_at, texts_move}
 
 abbrev no_neighbors : Interlinks
 no_neighbors = record { prev = None; next = None }
@@ -56,19 +56,29 @@ module _ {P Gen T : Type 0} (key : P → ℕ × Gen) (old new : Arena Gen (LinkS
         (place-numbers 1 all.indexes (subst HasNoRepetition (sym all.order.items) all.order.are.partition.once)))
 
     -- which is by the one least-index order
+    same_order : layout.indexes ≡ all.indexes
+    same_order = layout.order.items ∙ (ap all_items (no_others (shown old) layout.order.chains all.order.chains layout.order.are all.order.are) ∙ sym all.order.items)
+
     renaming : IsRenaming (place_in all.indexes) (shown old) (shown new)
-    renaming =
-        let same = layout.order.items ∙ (ap all_items (no_others (shown old) layout.order.chains all.order.chains layout.order.are all.order.are) ∙ sym all.order.items) in
-        subst (λ (is : List ℕ). IsRenaming (place_in is) (shown old) (shown new)) same layout.renamed
+    renaming = subst (λ (is : List ℕ). IsRenaming (place_in is) (shown old) (shown new)) same_order layout.renamed
+
+    -- so they go where the layout places their links
+    all_placed : All (λ (m : Move Gen). (place_in layout.indexes m.0.0 ≡ Some m.1.0) × (m.1.1 ≡ layout.generation)) (map (keys_of key) moves)
+    all_placed =
+        let at = All-from_recursion _ (map (keys_of key) moves) (moves_end_at (λ i. found i (seen old).entries) (place_in all.indexes) new.counter (map (keys_of key) moves) (range_with_len 1 (length all.indexes)) all_keys.to) in
+        let go = subst (λ (is : List ℕ). All (λ (m : Move Gen). place_in is m.0.0 ≡ Some m.1.0) (map (keys_of key) moves)) (sym same_order) all_go in
+        λ k d below. (go k d below, at k d below ∙ layout.is_counter)
 
     -- the links were renumbered, and bookmarks that are looked up in the table are followed
     pub renumbered : (eq : P → P → Bool) → ((p q : P) → key p ≡ key q → p ≡ q) → ((p q : P) → (eq p q ≡ true) ↔ (p ≡ q)) → ArePointerMoves key (entry old) (entry new) moves → (bookmarks : List (Option P))
-        → IsRenumbered entry shown old new (map (option_map key) bookmarks) (map (option_map key) (map (option_and_then (looked_up key eq (noted key (replicate (length old.slots) None) moves))) bookmarks))
+        → IsRenumbered first following seen entry shown old new (map (option_map key) bookmarks) (map (option_map key) (map (option_and_then (looked_up key eq (noted key (replicate (length old.slots) None) moves))) bookmarks))
     renumbered eq same_key eq_is_same moved bookmarks =
         let moved_keys = arena_moves_pointers (λ (p : ℕ × Gen). p) first following false old new (map (keys_of key) moves) layout all_keys in
         record {
+          layout = layout;
           moves = map (keys_of key) moves;
           moved = moved_keys;
+          placed = all_placed;
           texts = texts_move entry shown old new (map (keys_of key) moves) (place_in all.indexes) moved_keys all_go renaming;
           bookmarks = all_followed key eq same_key eq_is_same (entry old) (entry new) moves moved (noted key (replicate (length old.slots) None) moves) (noted_table key (length old.slots) moves (has_places moved) moved.old_apart) bookmarks;
         }

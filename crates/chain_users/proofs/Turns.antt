@@ -191,7 +191,7 @@ module _ {Gen T : Type 0} where
     }
 
     -- an item of the turn stands: its pointer is valid
-    among_stands : (turn : List (Item Gen T)) (p : ℕ × Gen) → Stand entry turn → IsAmong p turn → IsValid entry p
+    pub among_stands : (turn : List (Item Gen T)) (p : ℕ × Gen) → Stand entry turn → IsAmong p turn → IsValid entry p
     among_stands [] p stand among = absurd among
     among_stands (e ∷ es) p stand (inl same) = subst (IsValid entry) same (record { value = e.1; stands = stand.0 })
     among_stands (e ∷ es) p stand (inr among) = among_stands es p stand.1 among
@@ -268,7 +268,7 @@ module _ {A Gen T : Type 0} (seen : A → Seen Gen T) (entry : A → ℕ → Opt
 
   -- a queue as it is found in an arena
   abbrev pub queue_in : A → Option (ℕ × Gen) → Queue Gen T
-  queue_in a current = record { turn = turn_in a current; room = (seen a).capacity }
+  queue_in a current = record { turn = turn_in a current; room = (seen a).capacity; maximum = (seen a).maximum }
 
   -- where a queue has room for one task more, its arena has
   pub has_room : (a : A) (current : Option (ℕ × Gen)) (q : Queue Gen T) → IsTurn (entry a) (links a) current (turn_in a current) → queue_in a current ≡ q → length q.turn < q.room → HasRoomLeft (seen a)

@@ -1,7 +1,10 @@
 -- A renumbering of texts: each item has another pointer than before, and each text its items in their order.
-use Rattle.std.specs.Prelude.{◌≡◌, ℕ, List, [], ◌∷◌, Contains, IsSome, IfSome, Option, None, Some}
+use Rattle.std.specs.Prelude.{◌≡◌, ℕ, false, List, [], ◌∷◌, All, Contains, IsSome, IfSome, Option, None, Some}
 use Rattle.chain_laws.specs.Chains.{Shown}
+use Rattle.chain_laws.specs.Arrangements.{place_in}
 use Rattle.arena_base.specs.Arena.{IsValid}
+use Rattle.arena_base.specs.Entries.{Seen}
+use Rattle.chain_links.specs.CanonicalLayouts.{IsCanonicalLayout}
 use Rattle.chain_layout.specs.PointerMoves.{ArePointerMoves}
 use Rattle.chain_users.specs.Lists.{Item, IsText}
 
@@ -29,11 +32,15 @@ module _ {Gen T : Type 0} (entry : ℕ → Option (Gen × T)) (moves : List (Mov
   AreFollowed (p ∷ before) [] = ⊥
   AreFollowed (p ∷ before) (q ∷ after) = IsFollowed p q × AreFollowed before after
 
--- the items were renumbered, and bookmarks with them
-pub record IsRenumbered {A Gen T : Type 0} (entry : A → ℕ → Option (Gen × T)) (links : A → Shown) (old new : A) (before after : List (Option (ℕ × Gen))) : Type 0 where
-  -- each pointer that was valid was moved to one that is, with its value, and no two to one
+-- the items were arranged canonically, and bookmarks follow them
+pub record IsRenumbered {A Gen T : Type 0} (first : Gen) (following : Gen → Gen) (seen : A → Seen Gen T)
+    (entry : A → ℕ → Option (Gen × T)) (links : A → Shown) (old new : A) (before after : List (Option (ℕ × Gen))) : Type 0 where
+  pub layout : IsCanonicalLayout first following false (seen old) (links old) (seen new) (links new)
   pub moves : List (Move Gen)
+  -- each pointer that was valid was moved to one that is, with its value, and no two to one
   pub moved : ArePointerMoves (λ (p : ℕ × Gen). p) (entry old) (entry new) moves
+  -- each goes to the index and the generation that the layout gives its link, whatever the values
+  pub placed : All (λ (m : Move Gen). (place_in layout.indexes m.0.0 ≡ Some m.1.0) × (m.1.1 ≡ layout.generation)) moves
   -- each text is the text of the same items
   pub texts : (text : List (Item Gen T)) → IsText entry links old text → (after : List (Item Gen T)) × AreMovedTo moves text after × IsText entry links new after
   pub bookmarks : AreFollowed (entry old) moves before after

@@ -1,8 +1,8 @@
 -- What becomes of texts where they are parted, joined, or an item is moved.
 use Rattle.std.specs.Prelude.{◌≡◌, ◌≢◌, ℕ, List, [], ◌∷◌, ◌++◌, Option, IfSome}
-use Rattle.chain_laws.specs.Chains.{Shown, Has, HasNoRepetition}
-use Rattle.arena_base.specs.Entries.{first_key, last_key}
-use Rattle.chain_users.specs.Lists.{Item, indexes, IsText}
+use Rattle.chain_laws.specs.Chains.{Shown, linear, Has, HasNoRepetition}
+use Rattle.arena_base.specs.Entries.{Seen, first_key, last_key, written}
+use Rattle.chain_users.specs.Lists.{Item, indexes, IsText, KeepsWithout}
 
 module _ {A Gen T : Type 0} (entry : A → ℕ → Option (Gen × T)) (links : A → Shown) (arena : A) where
   -- p stands between these two in its text, and neither, where there is one, stands in a text without p
@@ -52,3 +52,12 @@ module _ {A Gen T : Type 0} (entry : A → ℕ → Option (Gen × T)) (links : A
         → HasNoRepetition (indexes (before ++ after)) → before ++ after ≢ [] → IsText entry links new (before ++ after)
     -- every other text stays
     pub others : (items : List (Item Gen T)) → IfSome u (λ p. ¬ Has (indexes items) p.0) → IfSome v (λ q. ¬ Has (indexes items) q.0) → IsText entry links old items → IsText entry links new items
+
+-- the item of p has another value; all pointers and the order of each text stay
+pub record HasNewValue {A Gen T : Type 0} (seen : A → Seen Gen T) (entry : A → ℕ → Option (Gen × T)) (links : A → Shown) (old new : A)
+    (p : ℕ × Gen) (t : T) : Type 0 where
+  pub text : (s : T) (before after : List (Item Gen T)) → IsText entry links old (before ++ (p, s) ∷ after)
+      → IsText entry links new (before ++ (p, t) ∷ after)
+  pub others : KeepsWithout entry links linear old new (p ∷ [])
+  pub state : seen new ≡ written (seen old) p.0 t
+  pub order : links new ≡ links old

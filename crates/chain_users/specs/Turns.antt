@@ -1,14 +1,19 @@
--- The tasks of a run queue in turn, and for how many it has room.
+-- The tasks of a run queue in turn, its capacity and the maximum of that.
 use Rattle.std.specs.Prelude.{◌≡◌, ◌⊎◌, ℕ, zero, suc, List, [], ◌∷◌, ◌++◌, Option, None, Some}
 use Rattle.std.specs.Option.{option_map}
 use Rattle.chain_laws.specs.Chains.{Shown, next_of}
-use Rattle.arena_base.specs.Entries.{first_key}
+use Rattle.arena_base.specs.Entries.{first_key, replaced}
 use Rattle.chain_users.specs.Lists.{Item, IsTurn}
 
--- a run queue: its tasks in turn, the current one first, and for how many tasks it has room
+-- a run queue: its tasks in turn, the current one first, its capacity, and the maximum of that, if there is one
 pub record Queue (Gen T : Type 0) : Type 0 where
   pub turn : List (Item Gen T)
   pub room : ℕ
+  pub maximum : Option ℕ
+
+-- the queue with another task at an index; pointers, order and capacity stay
+abbrev pub with_task : {Gen T : Type 0} → Queue Gen T → ℕ → T → Queue Gen T
+with_task q i t = record q { turn = replaced i (λ e. (e.0, t)) q.turn }
 
 -- the first item goes behind the others
 abbrev pub turned_once : {X : Type 0} → List X → List X

@@ -12,18 +12,24 @@ use arena_ptr::{InxKey, PtrKey, SlotStack};
 use chain_arena::{ChainArena, LinkNoGen};
 use std::alloc::{AllocError, Global};
 
-/// Lays the chains one after another from index 1 on, as `compress_canonical` does, and mends bookmarks: each names the
-/// same link as before by the pointer that it has now, and one whose link is gone names none. No clause tells its time: as it
-/// is written, that is in proportion to the slots and the bookmarks.
+/// Arranges the chains one after another from index 1 on, as `compress_canonical` does, and
+/// updates bookmarks. Each bookmark is of the same link as before, by the pointer that the
+/// arrangement gave it. A bookmark whose link is gone becomes `None`.
 ///
-/// `AllocError`: memory was refused, and nothing has changed.
+/// The time is in proportion to the slots and the bookmarks. No clause states it.
+///
+/// # Errors
+///
+/// - `AllocError`: memory was refused, and nothing has changed.
 pub fn renumber<P: PtrKey, T: Drop, S: SlotStack<Item = ArenaSlot<P, LinkNoGen<P, T>>>>(
     arena: &mut ChainArena<P, T, S>,
     alloc: Global,
     bookmarks: &mut [Option<P>],
 ) -> Result<(), AllocError>
     ensures canonical { OnOk result (IsCanonicalLayout P.Gen.first P.Gen.following false (seen arena.old) (shown arena.old) (seen arena.new) (shown arena.new)) }
-    ensures renumbered { OnOk result (IsRenumbered entry shown arena.old arena.new (map (option_map P.key) bookmarks.old) (map (option_map P.key) bookmarks.new)) }
+    ensures renumbered { OnOk result (IsRenumbered P.Gen.first P.Gen.following seen entry shown
+        arena.old arena.new
+        (map (option_map P.key) bookmarks.old) (map (option_map P.key) bookmarks.new)) }
     ensures err { OnErr result ((arena.new ≡ arena.old) × (bookmarks.new ≡ bookmarks.old)) }
 {
     let mut table = room(alloc, arena.backing().len())?;

@@ -1,20 +1,23 @@
 //! Ordered documents: each is a text of paragraphs, and one arena has them all.
 
-ghost use Rattle.std.specs.Prelude.{◌≡◌, ◌≢◌, ◌↔◌, ℕ, ◌+◌, List, [], ◌∷◌, ◌++◌, IsSome, IfSome, OnSome, IfNone, IfOk, OnOk, OnErr, Some, None, Err, map, false};
+ghost use Rattle.std.specs.Prelude.{◌≡◌, ◌≢◌, ◌↔◌, ℕ, ◌+◌, ◌<◌, ◌≤◌, List, [], ◌∷◌, ◌++◌, IsTrue, IsSome, IfSome, OnSome, IfNone, IsOk, IfOk, OnOk, IsErr, IfErr, OnErr, Some, None, Err, map, false};
 ghost use Rattle.std.specs.Option.{option_map};
+ghost use Rattle.std.specs.Borrow.{LendsSo, sem};
+ghost use Rattle.arena_ptr.specs.SlotStack.{IsBeyond, IsWithinMaximum};
 ghost use Rattle.chain_laws.specs.Chains.{linear, Has, next_of, prev_of};
-ghost use Rattle.arena_base.specs.Arena.{IsValid};
-ghost use Rattle.arena_base.specs.Entries.{count, first_key, last_key};
+ghost use Rattle.arena_base.specs.Arena.{IsRoom, IsValid};
+ghost use Rattle.arena_base.specs.Entries.{count, entry_removed, first_key, last_key, with_capacity, NeedsBeyondMaximum};
 ghost use Rattle.chain_links.specs.CanonicalLayouts.{IsCanonicalLayout};
 ghost use Rattle.chain_links.specs.Calls.{SucceedsInRoom};
 ghost use Rattle.chain_links.specs.ChainArena.{IsInserted, CanConnect, entry, seen, shown};
 ghost use Rattle.chain_users.specs.Renumbering.{IsRenumbered};
 ghost use Rattle.chain_users.specs.Lists.{Item, indexes, IsText, KeepsWithout, ComesAfter, ComesBefore, Leaves};
-ghost use Rattle.chain_users.specs.Texts.{StandsBetween, EndsIn, BeginsWith, AreJoined, IsClosed, StandsAlone, IsPutAfter, IsMovedAfter};
+ghost use Rattle.chain_users.specs.Texts.{StandsBetween, EndsIn, BeginsWith, AreJoined, IsClosed, StandsAlone, IsPutAfter, IsMovedAfter, HasNewValue};
 
 use crate::bookmarks::renumber;
+use crate::growth::reserve;
 use arena_base::ArenaSlot;
-use arena_ptr::{ChainInsertionError, PtrKey, ReallocationError, SlotStack};
+use arena_ptr::{ChainInsertionError, GenKey, InxKey, PtrKey, ReallocationError, SlotStack};
 use chain_arena::{ChainArena, LinkNoGen};
 use chain_links::LinkInsertKind;
 use chain_traits::ChainArenaTrait;
@@ -38,6 +41,8 @@ impl<P: PtrKey, T: Drop, A: ChainArenaTrait<P, T> + Drop> Model for Documents<P,
 }
 
 impl<P: PtrKey, T: Drop, A: ChainArenaTrait<P, T> + Drop> Documents<P, T, A> {
+    ghost use Rattle.chain_users.specs.contracts.documents.Documents.{the_row};
+
     /// No text. It takes no memory.
     pub fn new(alloc: Global) -> Self
         ensures { (A.seen result).entries ≡ [] }
@@ -48,16 +53,84 @@ impl<P: PtrKey, T: Drop, A: ChainArenaTrait<P, T> + Drop> Documents<P, T, A> {
         }
     }
 
-    /// Begins a text, which has one paragraph, and answers its pointer.
+    /// Returns the number of paragraphs, which is at most the capacity.
+    pub fn len(&self) -> usize
+        ensures count { result ≡ count (A.seen self.now) }
+        ensures fits { result ≤ (A.seen self.now).capacity }
+    {
+        self.paragraphs.len()
+    }
+
+    /// Returns whether there are no paragraphs, and so no texts.
+    pub fn is_empty(&self) -> bool
+        ensures { IsTrue result ↔ ((A.seen self.now).entries ≡ []) }
+    {
+        self.paragraphs.is_empty()
+    }
+
+    /// Returns how many paragraphs fit before the arena has to grow. This is at most the
+    /// greatest index and the maximum.
+    pub fn capacity(&self) -> usize
+        ensures value { result ≡ (A.seen self.now).capacity }
+        ensures greatest { result ≤ P.Inx.greatest }
+        ensures maximum { IsWithinMaximum (A.seen self.now).maximum result }
+    {
+        self.paragraphs.capacity()
+    }
+
+    /// Returns the greatest capacity that the arena may have, if there is a limit.
+    pub fn max_capacity(&self) -> Option<usize>
+        ensures { result ≡ (A.seen self.now).maximum }
+    {
+        self.paragraphs.max_capacity()
+    }
+
+    /// Grows to capacity for `additional` more paragraphs. Within the capacity nothing changes.
     ///
-    /// `BeyondMaxCapacity`, `AllocError`: the arena is full, and could not grow. After either nothing has changed, and the
-    /// paragraph is dropped.
+    /// # Errors
+    ///
+    /// - `BeyondMaxCapacity`: so many paragraphs would be above the maximum.
+    /// - `AllocError`: they would be above the greatest index, or memory was refused.
+    ///
+    /// After an error nothing has changed.
+    pub fn reserve(&mut self, additional: usize) -> Result<(), ReallocationError>
+        ensures within { count (A.seen self.old) + additional ≤ (A.seen self.old).capacity
+            → IsOk result × (self.new ≡ self.old) }
+        ensures beyond { (result ≡ Err ReallocationError.BeyondMaxCapacity)
+            ↔ IsBeyond (A.seen self.old).maximum (count (A.seen self.old) + additional) }
+        ensures greatest { P.Inx.greatest < count (A.seen self.old) + additional → IsErr result }
+        ensures ok { OnOk result (IsRoom P.Inx.greatest (A.seen self.new).maximum
+            (count (A.seen self.old) + additional) (A.seen self.new).capacity) }
+        ensures seen { A.seen self.new
+            ≡ with_capacity (A.seen self.old) (A.seen self.new).capacity }
+        ensures never_less { (A.seen self.old).capacity ≤ (A.seen self.new).capacity }
+        ensures paragraphs { A.entry self.new ≡ A.entry self.old }
+        ensures texts { A.interlinks self.new ≡ A.interlinks self.old }
+        ensures err { OnErr result (self.new ≡ self.old) }
+    {
+        reserve(&mut self.paragraphs, additional)
+    }
+
+    /// Begins a text, which has one paragraph, and returns its pointer. A full arena grows first.
+    ///
+    /// # Errors
+    ///
+    /// - `BeyondMaxCapacity`: one paragraph more would be above the maximum.
+    /// - `AllocError`: it would be above the greatest index, or memory was refused.
+    ///
+    /// After an error nothing has changed, and the paragraph is dropped.
     pub fn begin(&mut self, paragraph: T) -> Result<P, ReallocationError>
         ensures text { IfOk result (λ q. IsText A.entry A.interlinks self.new ((P.key q, paragraph) ∷ [])) }
         ensures paragraph { IfOk result (λ q. IsInserted (A.entry self.old) (A.entry self.new) (P.key q) paragraph) }
         ensures others { OnOk result (KeepsWithout A.entry A.interlinks linear self.old self.new []) }
         ensures size { OnOk result (count (A.seen self.new) ≡ count (A.seen self.old) + 1) }
         ensures room { SucceedsInRoom (A.seen self.old) result (A.seen self.new) }
+        ensures grown { OnOk result (IsRoom P.Inx.greatest (A.seen self.new).maximum
+            (count (A.seen self.old) + 1) (A.seen self.new).capacity) }
+        ensures beyond { (result ≡ Err ReallocationError.BeyondMaxCapacity)
+            ↔ NeedsBeyondMaximum (A.seen self.old) }
+        ensures greatest { count (A.seen self.old) ≡ P.Inx.greatest → IsErr result }
+        ensures maximum { (A.seen self.new).maximum ≡ (A.seen self.old).maximum }
         ensures err { OnErr result (self.new ≡ self.old) }
     {
         self.paragraphs
@@ -70,6 +143,28 @@ impl<P: PtrKey, T: Drop, A: ChainArenaTrait<P, T> + Drop> Documents<P, T, A> {
         ensures paragraph { IfSome result (λ t. A.entry self.now (P.key p).0 ≡ Some ((P.key p).1, t.now)) }
     {
         self.paragraphs.get(p)
+    }
+
+    /// Returns a paragraph for writing. Its pointer and the order of its text stay. `None`: the
+    /// pointer is of no paragraph.
+    pub fn get_mut(&mut self, p: P) -> Option<&mut T>
+        ensures* writes_back { sem 𝓛 (LendsSo
+            (the_row P.row T.row A.row P.Inx.row P.Gen.row P.Inx.Word.row
+            A.ChainPtrAdvancer.row A.PtrAdvancer.row P.PtrKey P.Inx.InxKey P.Gen.GenKey
+            (record { interlinks = A.interlinks; walker = A.walker }) A.ArenaTrait
+            A.PtrAdvancer.Advancer A.ChainPtrAdvancer.Advancer)
+            T.row self.entry result
+            (λ new t. OnSome result
+                (HasNewValue A.seen A.entry A.interlinks self.old new (P.key p) t))
+            (λ new. new ≡ self.old)) }
+        ensures some { IsSome result ↔ IsValid (A.entry self.old) (P.key p) }
+        ensures paragraph { IfSome result (λ t. A.entry self.old (P.key p).0
+            ≡ Some ((P.key p).1, t.now)) }
+    {
+        match self.paragraphs.get_mut(p) {
+            Some(paragraph) => Some(paragraph),
+            None => None,
+        }
     }
 
     /// The pointer of the paragraph after another in its text. `None`: the pointer is of no paragraph, or of the last of a text.
@@ -98,39 +193,66 @@ impl<P: PtrKey, T: Drop, A: ChainArenaTrait<P, T> + Drop> Documents<P, T, A> {
         }
     }
 
-    /// Adds a paragraph directly after another, and answers its pointer.
+    /// Adds a paragraph directly after another, and returns its pointer. A full arena grows first.
     ///
-    /// `FailedLinkRequirement`: the pointer is of no paragraph. `BeyondMaxCapacity`, `AllocError`: the arena is full, and could not
-    /// grow. After each nothing has changed, and the paragraph is dropped.
+    /// # Errors
+    ///
+    /// - `FailedLinkRequirement`: the pointer is of no paragraph.
+    /// - `BeyondMaxCapacity`: one paragraph more would be above the maximum.
+    /// - `AllocError`: it would be above the greatest index, or memory was refused.
+    ///
+    /// After an error nothing has changed, and the paragraph is dropped.
     pub fn insert_after(&mut self, p: P, paragraph: T) -> Result<P, ChainInsertionError>
         ensures text { IfOk result (λ q. ComesAfter A.entry A.interlinks linear self.old self.new (P.key p) (P.key q, paragraph)) }
         ensures paragraph { IfOk result (λ q. IsInserted (A.entry self.old) (A.entry self.new) (P.key q) paragraph) }
         ensures others { OnOk result (KeepsWithout A.entry A.interlinks linear self.old self.new (P.key p ∷ [])) }
         ensures size { OnOk result (count (A.seen self.new) ≡ count (A.seen self.old) + 1) }
         ensures link { (result ≡ Err ChainInsertionError.FailedLinkRequirement) ↔ ¬ IsValid (A.entry self.old) (P.key p) }
+        ensures error { IfErr result (λ e. e ≢ ChainInsertionError.NotWithinCapacity) }
         ensures room { IsValid (A.entry self.old) (P.key p) → SucceedsInRoom (A.seen self.old) result (A.seen self.new) }
+        ensures grown { OnOk result (IsRoom P.Inx.greatest (A.seen self.new).maximum
+            (count (A.seen self.old) + 1) (A.seen self.new).capacity) }
+        ensures beyond { (result ≡ Err ChainInsertionError.BeyondMaxCapacity)
+            ↔ (IsValid (A.entry self.old) (P.key p) × NeedsBeyondMaximum (A.seen self.old)) }
+        ensures greatest { count (A.seen self.old) ≡ P.Inx.greatest → IsErr result }
+        ensures maximum { (A.seen self.new).maximum ≡ (A.seen self.old).maximum }
         ensures err { OnErr result (self.new ≡ self.old) }
     {
         self.paragraphs
             .insert_reallocating(LinkInsertKind::NextTo(p), paragraph)
     }
 
-    /// .. directly before another.
+    /// Adds a paragraph directly before another, and returns its pointer. A full arena grows first.
+    ///
+    /// # Errors
+    ///
+    /// - `FailedLinkRequirement`: the pointer is of no paragraph.
+    /// - `BeyondMaxCapacity`: one paragraph more would be above the maximum.
+    /// - `AllocError`: it would be above the greatest index, or memory was refused.
+    ///
+    /// After an error nothing has changed, and the paragraph is dropped.
     pub fn insert_before(&mut self, p: P, paragraph: T) -> Result<P, ChainInsertionError>
         ensures text { IfOk result (λ q. ComesBefore A.entry A.interlinks linear self.old self.new (P.key p) (P.key q, paragraph)) }
         ensures paragraph { IfOk result (λ q. IsInserted (A.entry self.old) (A.entry self.new) (P.key q) paragraph) }
         ensures others { OnOk result (KeepsWithout A.entry A.interlinks linear self.old self.new (P.key p ∷ [])) }
         ensures size { OnOk result (count (A.seen self.new) ≡ count (A.seen self.old) + 1) }
         ensures link { (result ≡ Err ChainInsertionError.FailedLinkRequirement) ↔ ¬ IsValid (A.entry self.old) (P.key p) }
+        ensures error { IfErr result (λ e. e ≢ ChainInsertionError.NotWithinCapacity) }
         ensures room { IsValid (A.entry self.old) (P.key p) → SucceedsInRoom (A.seen self.old) result (A.seen self.new) }
+        ensures grown { OnOk result (IsRoom P.Inx.greatest (A.seen self.new).maximum
+            (count (A.seen self.old) + 1) (A.seen self.new).capacity) }
+        ensures beyond { (result ≡ Err ChainInsertionError.BeyondMaxCapacity)
+            ↔ (IsValid (A.entry self.old) (P.key p) × NeedsBeyondMaximum (A.seen self.old)) }
+        ensures greatest { count (A.seen self.old) ≡ P.Inx.greatest → IsErr result }
+        ensures maximum { (A.seen self.new).maximum ≡ (A.seen self.old).maximum }
         ensures err { OnErr result (self.new ≡ self.old) }
     {
         self.paragraphs
             .insert_reallocating(LinkInsertKind::PrevTo(p), paragraph)
     }
 
-    /// Removes a paragraph and answers it: those that it stood between follow each other. `None`: the pointer is of no paragraph,
-    /// and nothing has changed.
+    /// Removes a paragraph and returns it. Those that it was between follow each other. The
+    /// capacity stays. `None`: the pointer is of no paragraph, and nothing has changed.
     pub fn remove(&mut self, p: P) -> Option<T>
         ensures some { IsSome result ↔ IsValid (A.entry self.old) (P.key p) }
         ensures paragraph { IfSome result (λ t. A.entry self.old (P.key p).0 ≡ Some ((P.key p).1, t)) }
@@ -139,6 +261,8 @@ impl<P: PtrKey, T: Drop, A: ChainArenaTrait<P, T> + Drop> Documents<P, T, A> {
         ensures paragraphs { (i : ℕ) → i ≢ (P.key p).0 → A.entry self.new i ≡ A.entry self.old i }
         ensures others { KeepsWithout A.entry A.interlinks linear self.old self.new (P.key p ∷ []) }
         ensures size { OnSome result (count (A.seen self.old) ≡ count (A.seen self.new) + 1) }
+        ensures seen { OnSome result (A.seen self.new
+            ≡ entry_removed P.Gen.following (A.seen self.old) (P.key p).0) }
         ensures none { IfNone result (self.new ≡ self.old) }
     {
         self.paragraphs.agrees();
@@ -258,14 +382,21 @@ impl<P: PtrKey, T: Drop, S: SlotStack<Item = ArenaSlot<P, LinkNoGen<P, T>>>> Doc
     T,
     ChainArena<P, T, S>,
 > {
-    /// Lays the texts one after another from index 1 on, each in one run, and mends the bookmarks: each names the same paragraph as
-    /// before, by the pointer that it has now, and one whose paragraph is gone names none. Every other pointer of before is lost.
-    /// No clause tells its time: as it is written, that is in proportion to the slots and the bookmarks.
+    /// Arranges the texts one after another from index 1 on, each in one run, and updates the
+    /// bookmarks. Each bookmark is of the same paragraph as before, by the pointer that the
+    /// arrangement gave it, also where two paragraphs are equal. A bookmark whose paragraph is
+    /// gone becomes `None`. Every other pointer of before is invalid.
     ///
-    /// `AllocError`: memory was refused, and nothing has changed.
+    /// The time is in proportion to the slots and the bookmarks. No clause states it.
+    ///
+    /// # Errors
+    ///
+    /// - `AllocError`: memory was refused, and nothing has changed.
     pub fn renumber(&mut self, alloc: Global, bookmarks: &mut [Option<P>]) -> Result<(), AllocError>
         ensures canonical { OnOk result (IsCanonicalLayout P.Gen.first P.Gen.following false (seen self.old) (shown self.old) (seen self.new) (shown self.new)) }
-        ensures renumbered { OnOk result (IsRenumbered entry shown self.old self.new (map (option_map P.key) bookmarks.old) (map (option_map P.key) bookmarks.new)) }
+        ensures renumbered { OnOk result (IsRenumbered P.Gen.first P.Gen.following seen entry shown
+            self.old self.new
+            (map (option_map P.key) bookmarks.old) (map (option_map P.key) bookmarks.new)) }
         ensures err { OnErr result ((self.new ≡ self.old) × (bookmarks.new ≡ bookmarks.old)) }
     {
         renumber(&mut self.paragraphs, alloc, bookmarks)

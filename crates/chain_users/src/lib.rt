@@ -4,6 +4,7 @@
 
 mod bookmarks;
 mod documents;
+mod growth;
 mod mesh;
 mod queue;
 pub mod ties;

@@ -1,14 +1,18 @@
 //! The run queue of a scheduler: its tasks stand in one ring, and each has its turn.
 
-ghost use Rattle.std.specs.Prelude.{◌≡◌, ◌<◌, ℕ, List, [], ◌∷◌, ◌++◌, length, map, IfSome, IfNone, IsOk, IfOk, OnErr, Some};
+ghost use Rattle.std.specs.Prelude.{◌≡◌, ◌↔◌, ◌<◌, ◌≤◌, ◌+◌, ℕ, List, [], ◌∷◌, ◌++◌, length, map, IsTrue, IsSome, IfSome, OnSome, IfNone, IsOk, IfOk, OnOk, IsErr, OnErr, Some, None, Err};
 ghost use Rattle.std.specs.Option.{option_map, option_or};
-ghost use Rattle.arena_base.specs.Arena.{IsValid};
-ghost use Rattle.arena_base.specs.Entries.{first_key};
+ghost use Rattle.std.specs.Borrow.{LendsSo, sem};
+ghost use Rattle.arena_ptr.specs.SlotStack.{IsBeyond, IsWithinMaximum};
+ghost use Rattle.arena_base.specs.Arena.{IsRoom, IsValid};
+ghost use Rattle.arena_base.specs.Entries.{count, first_key, found, NeedsBeyondMaximum};
+ghost use Rattle.chain_laws.specs.Chains.{Has};
 ghost use Rattle.chain_links.specs.Calls.{SucceedsInRoom};
-ghost use Rattle.chain_users.specs.Turns.{ComesLast, IsAmong, IsCancelled, IsFirstWithout, turned_once};
-ghost use Rattle.chain_users.specs.Lists.{Item, IsTurn};
+ghost use Rattle.chain_users.specs.Turns.{ComesLast, IsAmong, IsCancelled, IsFirstWithout, turned_once, with_task};
+ghost use Rattle.chain_users.specs.Lists.{Item, IsTurn, indexes};
 
-use arena_ptr::{PtrKey, ReallocationError};
+use crate::growth::reserve;
+use arena_ptr::{GenKey, InxKey, PtrKey, ReallocationError};
 use chain_links::LinkInsertKind;
 use chain_traits::ChainArenaTrait;
 use std::alloc::{AllocError, Global};
@@ -17,7 +21,7 @@ use std::marker::{Model, PhantomData};
 /// Tasks that run in turn. A task is named by the pointer that `spawn` answers, until it is cancelled.
 ///
 /// A contract sees the tasks in turn, the current one first: a list of pairs, of a pointer's index and generation, and of the
-/// task. Beside it stands for how many tasks there is room.
+/// task. Beside it are the capacity and the maximum that it may have.
 #[derive(Drop)]
 pub struct RunQueue<P: PtrKey, T: Drop, A: ChainArenaTrait<P, T> + Drop> {
     tasks: A,
@@ -36,6 +40,7 @@ impl<P: PtrKey, T: Drop, A: ChainArenaTrait<P, T> + Drop> Model for RunQueue<P, 
     ghost view = { λ q. record {
       turn = turn_of (A.entry q.tasks) (A.interlinks q.tasks) (count (A.seen q.tasks)) (option_map P.key q.current);
       room = (A.seen q.tasks).capacity;
+      maximum = (A.seen q.tasks).maximum;
     } };
 
     ghost invariant = { λ q. IsTurn (A.entry q.tasks) (A.interlinks q.tasks) (option_map P.key q.current)
@@ -43,6 +48,8 @@ impl<P: PtrKey, T: Drop, A: ChainArenaTrait<P, T> + Drop> Model for RunQueue<P, 
 }
 
 impl<P: PtrKey, T: Drop, A: ChainArenaTrait<P, T> + Drop> RunQueue<P, T, A> {
+    ghost use Rattle.chain_users.specs.contracts.queue.RunQueue.{the_row};
+
     /// A queue without tasks. It takes no memory.
     pub fn new(alloc: Global) -> Self
         ensures { result.turn ≡ [] }
@@ -54,18 +61,60 @@ impl<P: PtrKey, T: Drop, A: ChainArenaTrait<P, T> + Drop> RunQueue<P, T, A> {
         }
     }
 
-    /// How many tasks there are.
+    /// Returns the number of tasks, which is at most the capacity.
     pub fn len(&self) -> usize
-        ensures { result ≡ length self.now.turn }
+        ensures count { result ≡ length self.now.turn }
+        ensures fits { result ≤ self.now.room }
     {
         self.tasks.len()
     }
 
-    /// For how many tasks there is room. `spawn` grows beyond that, if it can.
+    /// Returns whether there are no tasks.
+    pub fn is_empty(&self) -> bool
+        ensures { IsTrue result ↔ (self.now.turn ≡ []) }
+    {
+        self.current.is_none()
+    }
+
+    /// Returns how many tasks fit before the queue has to grow. This is at most the greatest
+    /// index and the maximum.
     pub fn capacity(&self) -> usize
-        ensures { result ≡ self.now.room }
+        ensures value { result ≡ self.now.room }
+        ensures greatest { result ≤ P.Inx.greatest }
+        ensures maximum { IsWithinMaximum self.now.maximum result }
     {
         self.tasks.capacity()
+    }
+
+    /// Returns the greatest capacity that the queue may have, if there is a limit.
+    pub fn max_capacity(&self) -> Option<usize>
+        ensures { result ≡ self.now.maximum }
+    {
+        self.tasks.max_capacity()
+    }
+
+    /// Grows to capacity for `additional` more tasks. Within the capacity nothing changes.
+    ///
+    /// # Errors
+    ///
+    /// - `BeyondMaxCapacity`: so many tasks would be above the maximum.
+    /// - `AllocError`: they would be above the greatest index, or memory was refused.
+    ///
+    /// After an error nothing has changed.
+    pub fn reserve(&mut self, additional: usize) -> Result<(), ReallocationError>
+        ensures within { length self.old.turn + additional ≤ self.old.room
+            → IsOk result × (self.new ≡ self.old) }
+        ensures beyond { (result ≡ Err ReallocationError.BeyondMaxCapacity)
+            ↔ IsBeyond self.old.maximum (length self.old.turn + additional) }
+        ensures greatest { P.Inx.greatest < length self.old.turn + additional → IsErr result }
+        ensures ok { OnOk result (IsRoom P.Inx.greatest self.new.maximum
+            (length self.old.turn + additional) self.new.room) }
+        ensures turn { self.new.turn ≡ self.old.turn }
+        ensures maximum { self.new.maximum ≡ self.old.maximum }
+        ensures never_less { self.old.room ≤ self.new.room }
+        ensures err { OnErr result (self.new ≡ self.old) }
+    {
+        reserve(&mut self.tasks, additional)
     }
 
     /// The pointer of the current task. `None`: there are no tasks.
@@ -75,13 +124,56 @@ impl<P: PtrKey, T: Drop, A: ChainArenaTrait<P, T> + Drop> RunQueue<P, T, A> {
         self.current
     }
 
-    /// Adds a task, which is the last in turn. Where there is room for it, it is not refused.
+    /// Returns a task, which stays in the queue. `None`: the pointer is of no task.
+    pub fn get(&self, p: P) -> Option<&T>
+        ensures some { IsSome result ↔ IsAmong (P.key p) self.now.turn }
+        ensures task { IfSome result (λ t. found (P.key p).0 self.now.turn
+            ≡ Some ((P.key p).1, t.now)) }
+    {
+        self.tasks.get(p)
+    }
+
+    /// Returns a task for writing. The order of the tasks and their pointers stay. `None`: the
+    /// pointer is of no task.
+    pub fn get_mut(&mut self, p: P) -> Option<&mut T>
+        ensures* writes_back { sem 𝓛 (LendsSo
+            (the_row P.row T.row A.row P.Inx.row P.Gen.row P.Inx.Word.row
+            A.ChainPtrAdvancer.row A.PtrAdvancer.row P.PtrKey P.Inx.InxKey P.Gen.GenKey
+            (record { interlinks = A.interlinks; walker = A.walker }) A.ArenaTrait
+            A.PtrAdvancer.Advancer A.ChainPtrAdvancer.Advancer)
+            T.row self.entry result
+            (λ new t. OnSome result (new ≡ with_task self.old (P.key p).0 t))
+            (λ new. new ≡ self.old)) }
+        ensures some { IsSome result ↔ IsAmong (P.key p) self.old.turn }
+        ensures task { IfSome result (λ t. found (P.key p).0 self.old.turn
+            ≡ Some ((P.key p).1, t.now)) }
+    {
+        match self.tasks.get_mut(p) {
+            Some(task) => Some(task),
+            None => None,
+        }
+    }
+
+    /// Adds a task, which is the last in turn, and returns its pointer. No other task has its
+    /// index. Below the capacity this cannot fail; a full queue grows first.
     ///
-    /// `BeyondMaxCapacity`, `AllocError`: there is no room left, and the queue could not grow. After either nothing has changed,
-    /// and the task is dropped.
+    /// # Errors
+    ///
+    /// - `BeyondMaxCapacity`: one task more would be above the maximum.
+    /// - `AllocError`: it would be above the greatest index, or memory was refused.
+    ///
+    /// After an error nothing has changed, and the task is dropped.
     pub fn spawn(&mut self, task: T) -> Result<P, ReallocationError>
         ensures last { IfOk result (λ p. self.new.turn ≡ self.old.turn ++ (P.key p, task) ∷ []) }
+        ensures fresh { IfOk result (λ p. ¬ Has (indexes self.old.turn) (P.key p).0) }
         ensures room { length self.old.turn < self.old.room → IsOk result × (self.new.room ≡ self.old.room) }
+        ensures grown { OnOk result (IsRoom P.Inx.greatest self.new.maximum
+            (length self.old.turn + 1) self.new.room) }
+        ensures beyond { (result ≡ Err ReallocationError.BeyondMaxCapacity)
+            ↔ ((length self.old.turn ≡ self.old.room)
+            × IsBeyond self.old.maximum (length self.old.turn + 1)) }
+        ensures greatest { length self.old.turn ≡ P.Inx.greatest → IsErr result }
+        ensures maximum { self.new.maximum ≡ self.old.maximum }
         ensures err { OnErr result (self.new ≡ self.old) }
     {
         let added = come_last(&mut self.tasks, self.current, task);
@@ -95,6 +187,7 @@ impl<P: PtrKey, T: Drop, A: ChainArenaTrait<P, T> + Drop> RunQueue<P, T, A> {
         ensures turned { self.new.turn ≡ turned_once self.old.turn }
         ensures current { option_map P.key result ≡ first_key self.new.turn }
         ensures room { self.new.room ≡ self.old.room }
+        ensures maximum { self.new.maximum ≡ self.old.maximum }
     {
         let current = self.current?;
         let next = after(&self.tasks, current);
@@ -109,6 +202,7 @@ impl<P: PtrKey, T: Drop, A: ChainArenaTrait<P, T> + Drop> RunQueue<P, T, A> {
         ensures some { IfSome result (λ task. IsCancelled (P.key p) task self.old.turn self.new.turn) }
         ensures none { IfNone result ((self.new ≡ self.old) × ¬ IsAmong (P.key p) self.old.turn) }
         ensures room { self.new.room ≡ self.old.room }
+        ensures maximum { self.new.maximum ≡ self.old.maximum }
     {
         let current = self.current?;
         let next = current_without(&self.tasks, current, p);
@@ -123,6 +217,7 @@ impl<P: PtrKey, T: Drop, A: ChainArenaTrait<P, T> + Drop> RunQueue<P, T, A> {
         ensures some { IfSome result (λ task. (p : ℕ × P.Gen) × (self.old.turn ≡ (p, task) ∷ self.new.turn)) }
         ensures none { IfNone result ((self.old.turn ≡ []) × (self.new ≡ self.old)) }
         ensures room { self.new.room ≡ self.old.room }
+        ensures maximum { self.new.maximum ≡ self.old.maximum }
     {
         let p = self.current()?;
         self.cancel(p)
@@ -134,6 +229,7 @@ impl<P: PtrKey, T: Drop, A: ChainArenaTrait<P, T> + Drop> RunQueue<P, T, A> {
     pub fn drain_all(&mut self, alloc: Global) -> Result<Vec<T>, AllocError>
         ensures drained { IfOk result (λ tasks. (tasks.items ≡ map (λ e. e.1) self.old.turn) × (self.new.turn ≡ [])) }
         ensures room { self.new.room ≡ self.old.room }
+        ensures maximum { self.new.maximum ≡ self.old.maximum }
         ensures err { OnErr result (self.new ≡ self.old) }
     {
         let count = self.len();
@@ -159,7 +255,14 @@ fn come_last<P: PtrKey, T: Drop, A: ChainArenaTrait<P, T>>(
 ) -> Result<P, ReallocationError>
     requires { IfSome current (λ p. IsValid (A.entry tasks.old) (P.key p)) }
     ensures last { IfOk result (λ p. ComesLast A.entry A.interlinks tasks.old tasks.new (option_map P.key current) (option_map P.key (option_or current (Some p))) (P.key p, task)) }
+    ensures fresh { IfOk result (λ p. A.entry tasks.old (P.key p).0 ≡ None) }
     ensures room { SucceedsInRoom (A.seen tasks.old) result (A.seen tasks.new) }
+    ensures grown { OnOk result (IsRoom P.Inx.greatest (A.seen tasks.new).maximum
+        (count (A.seen tasks.old) + 1) (A.seen tasks.new).capacity) }
+    ensures beyond { (result ≡ Err ReallocationError.BeyondMaxCapacity)
+        ↔ NeedsBeyondMaximum (A.seen tasks.old) }
+    ensures greatest { count (A.seen tasks.old) ≡ P.Inx.greatest → IsErr result }
+    ensures maximum { (A.seen tasks.new).maximum ≡ (A.seen tasks.old).maximum }
     ensures err { OnErr result (tasks.new ≡ tasks.old) }
 {
     match current {

@@ -26,8 +26,8 @@ impl<P: PtrKey, S: SlotStack<Item = Slot<P>>> Renumbers<P> for ChainArena<P, u32
     }
 }
 
-// Two texts, written in turn, of which a paragraph moves and one goes.
-const EDITS: [Edit; 7] = [
+// Two texts, written in turn, of which a paragraph moves and one goes. Two paragraphs are equal, one in each text.
+const EDITS: [Edit; 8] = [
     Edit::Begin(1),
     Edit::Begin(5),
     Edit::After(1, 2),
@@ -35,11 +35,12 @@ const EDITS: [Edit; 7] = [
     Edit::After(3, 3),
     Edit::Move(5, 1),
     Edit::Remove(1),
+    Edit::Before(4, 2),
 ];
 
 // The paragraphs that bookmarks name, and what each reads on from its own after the renumbering: of one that is gone, and of
 // none, nothing.
-const MARKS: [(usize, u32); 5] = [(5, 32), (1, 0), (4, 6), (0, 0), (2, 56)];
+const MARKS: [(usize, u32); 7] = [(5, 32), (1, 0), (4, 6), (0, 0), (2, 526), (6, 26), (3, 2)];
 
 // The bookmarks that name these paragraphs; 0 is none.
 fn marks<P: PtrKey>(names: &[P]) -> [Option<P>; 5] {

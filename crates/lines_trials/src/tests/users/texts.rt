@@ -17,12 +17,18 @@ pub(super) enum Edit {
     Join(usize, usize),
     Move(usize, usize),
     Remove(usize),
+    // A paragraph gets another value; the arena grows to capacity for so many more; there are so many.
+    Write(usize, u32),
+    Reserve(usize),
+    Count(usize),
 }
 
 // An edit, whether it is done, a paragraph, and the text from that one on, and then back from it.
 type Row = (Edit, bool, usize, u32, u32);
 
-const ROWS: [Row; 20] = [
+const ROWS: [Row; 25] = [
+    (Edit::Count(0), true, 1, 0, 0),
+    (Edit::Reserve(2), true, 1, 0, 0),
     (Edit::Begin(1), true, 1, 1, 1),
     (Edit::After(1, 3), true, 1, 13, 1),
     (Edit::Before(2, 2), true, 1, 123, 1),
@@ -39,6 +45,9 @@ const ROWS: [Row; 20] = [
     (Edit::Begin(4), true, 4, 4, 4),
     (Edit::Move(2, 4), true, 4, 43, 4),
     (Edit::Move(4, 1), true, 1, 14, 12),
+    (Edit::Write(4, 8), true, 1, 18, 12),
+    (Edit::Write(4, 4), true, 1, 14, 12),
+    (Edit::Count(4), true, 2, 3, 3),
     (Edit::PartBefore(1), true, 1, 14, 1),
     (Edit::Remove(1), true, 4, 4, 4),
     (Edit::Remove(1), false, 1, 0, 0),
@@ -49,9 +58,10 @@ const ROWS: [Row; 20] = [
 fn named(edit: Edit) -> (usize, usize, u32) {
     match edit {
         Edit::Begin(t) => (0, 0, t),
-        Edit::After(n, t) | Edit::Before(n, t) => (n, 0, t),
+        Edit::After(n, t) | Edit::Before(n, t) | Edit::Write(n, t) => (n, 0, t),
         Edit::Join(n, m) | Edit::Move(n, m) => (n, m, 0),
         Edit::PartAfter(n) | Edit::PartBefore(n) | Edit::Remove(n) => (n, 0, 0),
+        Edit::Reserve(_) | Edit::Count(_) => (0, 0, 0),
     }
 }
 
@@ -67,7 +77,25 @@ fn edited<P: PtrKey, A: ChainArenaTrait<P, u32> + Drop>(
         Edit::Begin(_) => noted(names, texts.begin(t).ok()),
         Edit::After(..) => noted(names, texts.insert_after(p, t).ok()),
         Edit::Before(..) => noted(names, texts.insert_before(p, t).ok()),
+        Edit::Write(..) => written(texts, p, t),
+        Edit::Reserve(n) => texts.reserve(n).is_ok() && texts.capacity() - texts.len() >= n,
+        Edit::Count(n) => texts.len() == n && texts.is_empty() == (n == 0),
         _ => moved(texts, edit, p, q),
+    }
+}
+
+// A paragraph gets another value.
+fn written<P: PtrKey, A: ChainArenaTrait<P, u32> + Drop>(
+    texts: &mut Documents<P, u32, A>,
+    p: P,
+    t: u32,
+) -> bool {
+    match texts.get_mut(p) {
+        Some(paragraph) => {
+            *paragraph = t;
+            texts.max_capacity().is_none()
+        }
+        None => false,
     }
 }
 

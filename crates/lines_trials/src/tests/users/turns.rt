@@ -5,6 +5,7 @@ use arena_ptr::PtrKey;
 use chain_arena::ChainArenaTrait;
 use chain_users::RunQueue;
 use std::alloc::Global;
+use std::mem;
 
 // What is done with a queue, whose tasks are named by the order in which they came. It answers a number.
 #[derive(Clone, Copy)]
@@ -16,16 +17,25 @@ enum Turn {
     Current,
     // The task of a number is cancelled. 0: it is none.
     Cancel(usize),
-    // How many there are, and whether there is room for these: 1.
+    // The task of a number, and the same before another one is written in its place. 0: there is none.
+    Read(usize),
+    Write(usize, u32),
+    // Whether the queue grows to capacity for so many more, or has it: 1.
+    Reserve(usize),
+    // How many there are, whether there are none, and whether there is room for these: 1.
     Count,
+    IsEmpty,
     HasRoom,
     // All that are left, in turn.
     Drain,
 }
 
 // The first is current; the third is cancelled while another is current, and the fifth while it is.
-const ROWS: [(Turn, u32); 24] = [
+const ROWS: [(Turn, u32); 35] = [
     (Turn::Next, 0),
+    (Turn::IsEmpty, 1),
+    (Turn::Reserve(3), 1),
+    (Turn::Reserve(usize::MAX), 0),
     (Turn::Spawn(4), 1),
     (Turn::Spawn(5), 2),
     (Turn::Spawn(6), 3),
@@ -45,10 +55,18 @@ const ROWS: [(Turn, u32); 24] = [
     (Turn::Cancel(5), 8),
     (Turn::Current, 1),
     (Turn::Count, 3),
+    (Turn::IsEmpty, 0),
     (Turn::HasRoom, 1),
+    (Turn::Read(2), 5),
+    (Turn::Read(3), 0),
+    (Turn::Write(2, 9), 5),
+    (Turn::Write(3, 9), 0),
+    (Turn::Read(2), 9),
+    (Turn::Reserve(7), 1),
     (Turn::Next, 2),
-    (Turn::Drain, 574),
+    (Turn::Drain, 974),
     (Turn::Count, 0),
+    (Turn::IsEmpty, 1),
 ];
 
 // A task comes: as the how manieth.
@@ -76,6 +94,27 @@ fn drained<P: PtrKey, A: ChainArenaTrait<P, u32> + Drop>(
     all
 }
 
+// Another task is written in the place of one. Its value before; 0: there was none.
+fn written<P: PtrKey, A: ChainArenaTrait<P, u32> + Drop>(
+    queue: &mut RunQueue<P, u32, A>,
+    p: P,
+    task: u32,
+) -> u32 {
+    match queue.get_mut(p) {
+        Some(place) => mem::replace(place, task),
+        None => 0,
+    }
+}
+
+// The queue grows to capacity for so many more tasks, or has it. Whether it does: 1.
+fn reserved<P: PtrKey, A: ChainArenaTrait<P, u32> + Drop>(
+    queue: &mut RunQueue<P, u32, A>,
+    n: usize,
+) -> u32 {
+    let is_done = queue.reserve(n).is_ok();
+    u32::from(is_done && queue.capacity() - queue.len() >= n)
+}
+
 // What is done, and its number, ...
 fn done<P: PtrKey, A: ChainArenaTrait<P, u32> + Drop>(
     alloc: Global,
@@ -87,6 +126,8 @@ fn done<P: PtrKey, A: ChainArenaTrait<P, u32> + Drop>(
         Turn::Spawn(task) => spawned(queue, names, task),
         Turn::Next => number(names, queue.next()),
         Turn::Cancel(n) => queue.cancel(name(names, n)).unwrap_or(0),
+        Turn::Write(n, task) => written(queue, name(names, n), task),
+        Turn::Reserve(n) => reserved(queue, n),
         Turn::Drain => drained(alloc, queue),
         look => looked(queue, names, look),
     }
@@ -100,7 +141,11 @@ fn looked<P: PtrKey, A: ChainArenaTrait<P, u32> + Drop>(
 ) -> u32 {
     match turn {
         Turn::Current => number(names, queue.current()),
-        Turn::HasRoom => u32::from(queue.capacity() >= queue.len()),
+        Turn::Read(n) => queue.get(name(names, n)).copied().unwrap_or(0),
+        Turn::IsEmpty => u32::from(queue.is_empty()),
+        Turn::HasRoom => {
+            u32::from(queue.capacity() >= queue.len() && queue.max_capacity().is_none())
+        }
         _ => u32::try_from(queue.len()).unwrap_or(u32::MAX),
     }
 }

@@ -1,9 +1,9 @@
 -- The new paragraph comes after the other in its text, and stands in no other text.
-use Rattle.std.proofs.Common.{refl}
+use Rattle.std.proofs.Common.{refl, ap}
 use Rattle.chain_laws.specs.Chains.{linear}
 use Rattle.chain_laws.specs.Insertions.{next_to}
 use Rattle.chain_traits.proofs.AnyArena.{valid_link}
-use Rattle.chain_traits.proofs.Outcomes.{if_ok}
+use Rattle.chain_traits.proofs.Outcomes.{if_ok, either_ok}
 use Rattle.chain_users.proofs.Changes.{comes_after, keeps_others}
 use Rattle.chain_users.proofs.documents.Documents.insert_after.Goals as goal
 
@@ -24,6 +24,15 @@ returns g c =
         λ failed valid. c.insert_reallocating.ensures.link.0 failed (valid, linked valid),
         λ invalid. c.insert_reallocating.ensures.link.1 (λ may. invalid may.0),
       );
+      error = c.insert_reallocating.ensures.error;
       room = rw (← c.self.view_is) (λ valid. c.insert_reallocating.ensures.room (valid, linked valid));
+      grown = rw (← c.self.view_is) c.insert_reallocating.ensures.grown;
+      beyond = rw (← c.self.view_is) (
+        λ refused. let both = c.insert_reallocating.ensures.beyond.0 refused in (both.0.0, both.1),
+        λ both. c.insert_reallocating.ensures.beyond.1 ((both.0, linked both.0), both.1),
+      );
+      greatest = rw (← c.self.view_is) c.insert_reallocating.ensures.greatest;
+      maximum = rw (← c.self.view_is) (either_ok c.insert_reallocating.result c.insert_reallocating.ensures.inserted c.insert_reallocating.ensures.may c.insert_reallocating.ensures.err
+          (λ q came may. came.maximum) (λ same. ap (λ x. (g.A.ArenaTrait.seen x).maximum) same));
       err = rw (← c.self.view_is) c.insert_reallocating.ensures.err;
     }

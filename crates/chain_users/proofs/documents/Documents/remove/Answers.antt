@@ -2,7 +2,7 @@
 use Rattle.std.proofs.Common.{refl, sym, subst}
 use Rattle.chain_laws.specs.Chains.{linear}
 use Rattle.chain_traits.proofs.Removing.{TakesEntry, removal, value_told, gone_of, less_of, same_of, kept_of}
-use Rattle.chain_users.proofs.Removing.{leaves_of, keeps_of}
+use Rattle.chain_users.proofs.Removing.{leaves_of, keeps_of, where_some}
 use Rattle.chain_users.proofs.documents.Documents.remove.Given.{Over}
 use Rattle.chain_users.proofs.documents.Documents.remove.Goals.{After-allow}
 use Rattle.chain_users.proofs.documents.Documents.remove.Goals as goal
@@ -25,5 +25,6 @@ returns g c = record {
   paragraphs = rw (← c.self.view_is) (kept_of g.A.ArenaTrait.seen g.A.ArenaTrait.entry g.A.ChainArenaTrait.interlinks _ _ _ c.allow.result (it g c));
   others = rw (← c.self.view_is) (keeps_of g.A.ArenaTrait.seen g.A.ArenaTrait.entry g.A.ChainArenaTrait.interlinks _ _ _ linear (λ l. refl) c.allow.result (it g c));
   size = rw (← c.self.view_is) (less_of g.A.ArenaTrait.seen g.A.ArenaTrait.entry g.A.ChainArenaTrait.interlinks _ _ _ c.allow.result (it g c));
+  seen = rw (← c.self.view_is) (where_some c.allow.result (λ some. (c.remove.ensures.valid ((it g c).some some).stood).1));
   none = rw (← c.self.view_is) (same_of g.A.ArenaTrait.seen g.A.ArenaTrait.entry g.A.ChainArenaTrait.interlinks _ _ _ c.allow.result (it g c));
 }

@@ -10,4 +10,5 @@ invariant-loop-k g l = record {
   len : vec_len l.drained ≡ l.k;
   fits : l.count ≤ vec_capacity l.drained;
   room : l.self.room ≡ l.fn.self.room;
+  maximum : l.self.maximum ≡ l.fn.self.maximum;
 }

@@ -1,0 +1,48 @@
+//! Growth of any arena of links for more entries.
+
+ghost use Rattle.std.specs.Prelude.{◌≡◌, ◌↔◌, ◌≤◌, ◌<◌, ◌+◌, IsOk, OnOk, IsErr, OnErr, Err};
+ghost use Rattle.arena_ptr.specs.SlotStack.{IsBeyond};
+ghost use Rattle.arena_base.specs.Arena.{IsRoom};
+ghost use Rattle.arena_base.specs.Entries.{count, with_capacity};
+
+use arena_ptr::{InxKey, PtrKey, ReallocationError};
+use chain_traits::ChainArenaTrait;
+
+/// Grows an arena to capacity for `additional` more entries. Within the capacity nothing changes.
+///
+/// # Errors
+///
+/// - `BeyondMaxCapacity`: so many entries would be above the maximum.
+/// - `AllocError`: they would be above the greatest index, or memory was refused.
+///
+/// After an error nothing has changed.
+pub(crate) fn reserve<P: PtrKey, T: Drop, A: ChainArenaTrait<P, T>>(
+    arena: &mut A,
+    additional: usize,
+) -> Result<(), ReallocationError>
+    ensures within { count (A.seen arena.old) + additional ≤ (A.seen arena.old).capacity
+        → IsOk result × (arena.new ≡ arena.old) }
+    ensures beyond { (result ≡ Err ReallocationError.BeyondMaxCapacity)
+        ↔ IsBeyond (A.seen arena.old).maximum (count (A.seen arena.old) + additional) }
+    ensures greatest { P.Inx.greatest < count (A.seen arena.old) + additional → IsErr result }
+    ensures ok { OnOk result (IsRoom P.Inx.greatest (A.seen arena.new).maximum
+        (count (A.seen arena.old) + additional) (A.seen arena.new).capacity) }
+    ensures after { A.seen arena.new
+        ≡ with_capacity (A.seen arena.old) (A.seen arena.new).capacity }
+    ensures never_less { (A.seen arena.old).capacity ≤ (A.seen arena.new).capacity }
+    ensures entries { A.entry arena.new ≡ A.entry arena.old }
+    ensures links { A.interlinks arena.new ≡ A.interlinks arena.old }
+    ensures err { OnErr result (arena.new ≡ arena.old) }
+{
+    let len = arena.len();
+    if additional <= arena.capacity() - len {
+        return Ok(());
+    }
+    match len.checked_add(additional) {
+        Some(n) => arena.reallocate_min_capacity(n),
+        None => match arena.max_capacity() {
+            Some(_) => Err(ReallocationError::BeyondMaxCapacity),
+            None => Err(ReallocationError::AllocError),
+        },
+    }
+}
