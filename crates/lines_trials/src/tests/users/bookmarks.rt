@@ -42,15 +42,18 @@ const EDITS: [Edit; 8] = [
 // none, nothing.
 const MARKS: [(usize, u32); 7] = [(5, 32), (1, 0), (4, 6), (0, 0), (2, 526), (6, 26), (3, 2)];
 
-// The bookmarks that name these paragraphs; 0 is none.
-fn marks<P: PtrKey>(names: &[P]) -> [Option<P>; 5] {
-    let mut marks = [None; 5];
-    for (mark, (n, _)) in marks.iter_mut().zip(MARKS) {
-        if n > 0 {
-            *mark = Some(name(names, n));
+// The bookmarks that name these paragraphs; 0 is none. Memory is asked for twice, if it has to be.
+fn marks<P: PtrKey>(alloc: Global, names: &[P]) -> Vec<Option<P>> {
+    for _ in 0..2 {
+        if let Ok(mut marks) = Vec::with_capacity(alloc, MARKS.len()) {
+            for (n, _) in MARKS {
+                let mark = if n == 0 { None } else { Some(name(names, n)) };
+                let _ = marks.push(mark);
+            }
+            return marks;
         }
     }
-    marks
+    Vec::new(alloc)
 }
 
 // The first edit that is not done.
@@ -104,13 +107,15 @@ fn renumbered<P: PtrKey, A: Renumbers<P>>(
     alloc: Global,
     texts: &mut Documents<P, u32, A>,
     names: &[P],
-    marks: &mut [Option<P>; 5],
+    bookmarks: &mut [Option<P>],
 ) -> bool {
-    let (before, named) = (shown(texts, names), *marks);
-    if A::renumber(texts, alloc, marks) {
+    let before = shown(texts, names);
+    if A::renumber(texts, alloc, bookmarks) {
         return true;
     }
-    shown(texts, names) == before && are_same(marks, &named) && A::renumber(texts, alloc, marks)
+    shown(texts, names) == before
+        && are_same(bookmarks, &marks(alloc, names))
+        && A::renumber(texts, alloc, bookmarks)
 }
 
 // The edits, the renumbering, and what each bookmark reads then.
@@ -118,8 +123,8 @@ pub(super) fn differing<P: PtrKey, A: Renumbers<P>>(alloc: Global) -> Differing 
     let mut texts = Documents::<P, u32, A>::new(alloc);
     let mut names = names_of(alloc);
     let not_done = not_done(&mut texts, &mut names);
-    let mut marks = marks(&names);
-    let is_renumbered = renumbered(alloc, &mut texts, &names, &mut marks);
+    let mut marks = marks(alloc, &names);
+    let is_renumbered = renumbered(alloc, &mut texts, &names, marks.as_mut_slice());
     let differing = followed(&texts, name(&names, 3), &marks);
     if is_renumbered {
         not_done.or(differing)
