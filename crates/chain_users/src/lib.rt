@@ -6,6 +6,7 @@ mod bookmarks;
 mod documents;
 mod growth;
 mod mesh;
+pub mod named_type;
 mod queue;
 pub mod ties;
 

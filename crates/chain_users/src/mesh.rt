@@ -11,6 +11,7 @@ ghost use Rattle.chain_links.specs.ChainArena.{IsInserted};
 ghost use Rattle.chain_users.specs.Lists.{Item, IsRing, KeepsWithout, ComesAfter, ComesBefore, Leaves};
 ghost use Rattle.chain_users.specs.Rings.{GoesRound, AllInRings, IsCutInTwo, AreMerged, AreCopied, IsSplit, IsBridged, CutAndMergeRestore};
 
+use crate::growth::reserve;
 use arena_ptr::{ChainInsertionError, PtrKey, ReallocationError};
 use chain_links::LinkInsertKind;
 use chain_traits::ChainArenaTrait;
@@ -100,24 +101,7 @@ impl<P: PtrKey, T: Drop, A: ChainArenaTrait<P, T> + Drop> Mesh<P, T, A> {
         ensures never_less { (A.seen self.old).capacity ≤ (A.seen self.new).capacity }
         ensures err { OnErr result (self.new ≡ self.old) }
     {
-        if additional <= self.corners.capacity() - self.corners.len() {
-            return Ok(());
-        }
-        match self.corners.len().checked_add(additional) {
-            Some(n) => self.corners.reallocate_min_capacity(n),
-            None => Err(self.overflow_error()),
-        }
-    }
-
-    // Returns the error for a capacity above every `usize`.
-    fn overflow_error(&self) -> ReallocationError
-        ensures { (n : ℕ) → 2 ^ 64 ≤ n
-            → (result ≡ ReallocationError.BeyondMaxCapacity) ↔ IsBeyond (A.seen self.now).maximum n }
-    {
-        match self.corners.max_capacity() {
-            Some(_) => ReallocationError::BeyondMaxCapacity,
-            None => ReallocationError::AllocError,
-        }
+        reserve(&mut self.corners, additional)
     }
 
     /// Tells that each corner stands in a polygon, which can be written from it. It does nothing.
