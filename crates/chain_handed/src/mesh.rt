@@ -18,17 +18,20 @@ pub fn merge<P: PtrKey, T: Drop, A: ChainArenaTrait<P, T> + Drop>(
     mesh.merge(u, v)
 }
 
-/// `Mesh::split`, under the clauses that say what becomes of the polygons, and where the points are.
+/// `Mesh::split`, under the clauses that say what becomes of polygons, and where the points are.
 pub fn split<P: PtrKey, T: Copy + Drop, A: ChainArenaTrait<P, T> + Drop>(
     mesh: &mut Mesh<P, T, A>,
     u: P,
     v: P,
 ) -> Result<Option<(P, P)>, ReallocationError>
-    ensures rings { IfOk result (λ r. IfSome r (λ copies. IsSplit A.entry A.interlinks mesh.old mesh.new
+    ensures rings { IfOk result (λ r. IfSome r (λ copies.
+        IsSplit A.entry A.interlinks mesh.old mesh.new
         (P.key u) (P.key v) (P.key copies.0) (P.key copies.1))) }
-    ensures bridged { IfOk result (λ r. IfSome r (λ copies. IsBridged A.entry A.interlinks mesh.old mesh.new
+    ensures bridged { IfOk result (λ r. IfSome r (λ copies.
+        IsBridged A.entry A.interlinks mesh.old mesh.new
         (P.key u) (P.key v) (P.key copies.0) (P.key copies.1))) }
-    ensures corners { IfOk result (λ r. IfSome r (λ copies. AreCopied (A.entry mesh.old) (A.entry mesh.new)
+    ensures corners { IfOk result (λ r. IfSome r (λ copies.
+        AreCopied (A.entry mesh.old) (A.entry mesh.new)
         (P.key u) (P.key v) (P.key copies.0) (P.key copies.1))) }
 {
     mesh.split(u, v)

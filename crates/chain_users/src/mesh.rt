@@ -80,7 +80,7 @@ impl<P: PtrKey, T: Drop, A: ChainArenaTrait<P, T> + Drop> Mesh<P, T, A> {
         self.corners.max_capacity()
     }
 
-    /// Grows the capacity to at least `len() + additional` corners. Does nothing if it is that already.
+    /// Grows the capacity to at least `len() + additional` corners. Does nothing within the capacity.
     ///
     /// # Errors
     ///
@@ -96,7 +96,8 @@ impl<P: PtrKey, T: Drop, A: ChainArenaTrait<P, T> + Drop> Mesh<P, T, A> {
         ensures greatest { P.Inx.greatest < count (A.seen self.old) + additional → IsErr result }
         ensures grown { OnOk result (IsRoom P.Inx.greatest (A.seen self.new).maximum
             (count (A.seen self.old) + additional) (A.seen self.new).capacity) }
-        ensures after { A.seen self.new ≡ with_capacity (A.seen self.old) (A.seen self.new).capacity }
+        ensures after { A.seen self.new
+            ≡ with_capacity (A.seen self.old) (A.seen self.new).capacity }
         ensures links { A.interlinks self.new ≡ A.interlinks self.old }
         ensures never_less { (A.seen self.old).capacity ≤ (A.seen self.new).capacity }
         ensures err { OnErr result (self.new ≡ self.old) }
@@ -136,7 +137,7 @@ impl<P: PtrKey, T: Drop, A: ChainArenaTrait<P, T> + Drop> Mesh<P, T, A> {
     ///
     /// # Errors
     ///
-    /// - `BeyondMaxCapacity`: the mesh is full, and growth for one more corner is beyond the maximum.
+    /// - `BeyondMaxCapacity`: the mesh is full, and one more corner is beyond the maximum.
     /// - `AllocError`: the growth is beyond the greatest index, or memory was refused.
     ///
     /// After an error the mesh is unchanged, and the point is dropped.
@@ -157,12 +158,12 @@ impl<P: PtrKey, T: Drop, A: ChainArenaTrait<P, T> + Drop> Mesh<P, T, A> {
         self.corners.insert(LinkInsertKind::SingleLinkCyclic, point)
     }
 
-    /// Inserts a corner directly after another in its polygon and returns the pointer of the new corner.
+    /// Inserts a corner directly after another in its polygon and returns its pointer.
     ///
     /// # Errors
     ///
     /// - `FailedLinkRequirement`: `corner` is not valid.
-    /// - `BeyondMaxCapacity`: the mesh is full, and growth for one more corner is beyond the maximum.
+    /// - `BeyondMaxCapacity`: the mesh is full, and one more corner is beyond the maximum.
     /// - `AllocError`: the growth is beyond the greatest index, or memory was refused.
     ///
     /// After an error the mesh is unchanged, and the point is dropped.
@@ -186,8 +187,9 @@ impl<P: PtrKey, T: Drop, A: ChainArenaTrait<P, T> + Drop> Mesh<P, T, A> {
             .insert_reallocating(LinkInsertKind::NextTo(corner), point)
     }
 
-    /// Removes a corner from its polygon and returns its point. The other corners keep their order, and the capacity stays.
+    /// Removes a corner from its polygon and returns its point.
     ///
+    /// The other corners keep their order, and the capacity stays.
     /// Returns `None` if `corner` is not valid. The mesh is unchanged then.
     pub fn remove(&mut self, corner: P) -> Option<T>
         ensures some { IsSome result ↔ IsValid (A.entry self.old) (P.key corner) }
@@ -207,7 +209,8 @@ impl<P: PtrKey, T: Drop, A: ChainArenaTrait<P, T> + Drop> Mesh<P, T, A> {
 
     /// Cuts the polygon of `u` and `v` in two by exchanging the corners after them.
     ///
-    /// Merges two polygons if `u` and `v` are in two, as `merge` does. Changes nothing if both are one corner.
+    /// Merges two polygons if `u` and `v` are in two, as `merge` does.
+    /// Changes nothing if both are one corner.
     /// Returns `None` if `u` or `v` is not valid. The mesh is unchanged then.
     pub fn cut(&mut self, u: P, v: P) -> Option<()>
         ensures some { IsSome result ↔ (IsValid (A.entry self.old) (P.key u) × IsValid (A.entry self.old) (P.key v)) }
@@ -224,7 +227,8 @@ impl<P: PtrKey, T: Drop, A: ChainArenaTrait<P, T> + Drop> Mesh<P, T, A> {
 
     /// Merges the polygon of `u` and that of `v` into one by exchanging the corners after them.
     ///
-    /// Cuts a polygon in two if `u` and `v` are in one, as `cut` does. Changes nothing if both are one corner.
+    /// Cuts a polygon in two if `u` and `v` are in one, as `cut` does.
+    /// Changes nothing if both are one corner.
     /// Returns `None` if `u` or `v` is not valid. The mesh is unchanged then.
     pub fn merge(&mut self, u: P, v: P) -> Option<()>
         ensures some { IsSome result ↔ (IsValid (A.entry self.old) (P.key u) × IsValid (A.entry self.old) (P.key v)) }
@@ -255,11 +259,14 @@ impl<P: PtrKey, T: Drop, A: ChainArenaTrait<P, T> + Drop> Mesh<P, T, A> {
 }
 
 impl<P: PtrKey, T: Copy + Drop, A: ChainArenaTrait<P, T> + Drop> Mesh<P, T, A> {
-    /// Splits a polygon along the diagonal from `u` to `v`, and returns the pointers of copies of `u` and `v`, in this order.
+    /// Splits a polygon along the diagonal from `u` to `v`.
     ///
-    /// `u` and `v` stay in one part, and the other part has the copies. Two polygons become one if `u` and `v` are in two: the
-    /// diagonal is a bridge between them, with `u` and `v` on one side of it and the copies on the other.
-    /// Returns `Ok(None)` if `u` or `v` is not valid, or both are one corner. The mesh is unchanged then.
+    /// Returns the pointers of new copies of `u` and `v`, in this order. `u` and `v` stay in one part,
+    /// and the copies are in the other. If `u` and `v` are in two polygons, these become one: the
+    /// diagonal is a bridge, with `u` and `v` on one side of it and the copies on the other.
+    ///
+    /// Returns `Ok(None)` if `u` or `v` is not valid, or both are one corner.
+    /// The mesh is unchanged then.
     ///
     /// # Errors
     ///
@@ -269,12 +276,16 @@ impl<P: PtrKey, T: Copy + Drop, A: ChainArenaTrait<P, T> + Drop> Mesh<P, T, A> {
     /// After an error the mesh is unchanged.
     pub fn split(&mut self, u: P, v: P) -> Result<Option<(P, P)>, ReallocationError>
         ensures some { IfOk result (λ r. IsSome r
-            ↔ (IsValid (A.entry self.old) (P.key u) × IsValid (A.entry self.old) (P.key v) × (P.key u ≢ P.key v))) }
-        ensures rings { IfOk result (λ r. IfSome r (λ copies. IsSplit A.entry A.interlinks self.old self.new
+            ↔ (IsValid (A.entry self.old) (P.key u) × IsValid (A.entry self.old) (P.key v)
+            × (P.key u ≢ P.key v))) }
+        ensures rings { IfOk result (λ r. IfSome r (λ copies.
+            IsSplit A.entry A.interlinks self.old self.new
             (P.key u) (P.key v) (P.key copies.0) (P.key copies.1))) }
-        ensures bridged { IfOk result (λ r. IfSome r (λ copies. IsBridged A.entry A.interlinks self.old self.new
+        ensures bridged { IfOk result (λ r. IfSome r (λ copies.
+            IsBridged A.entry A.interlinks self.old self.new
             (P.key u) (P.key v) (P.key copies.0) (P.key copies.1))) }
-        ensures corners { IfOk result (λ r. IfSome r (λ copies. AreCopied (A.entry self.old) (A.entry self.new)
+        ensures corners { IfOk result (λ r. IfSome r (λ copies.
+            AreCopied (A.entry self.old) (A.entry self.new)
             (P.key u) (P.key v) (P.key copies.0) (P.key copies.1))) }
         ensures others { OnOk result (KeepsWithout A.entry A.interlinks cyclic self.old self.new (P.key u ∷ P.key v ∷ [])) }
         ensures size { IfOk result (λ r. OnSome r (count (A.seen self.new) ≡ count (A.seen self.old) + 2)) }
@@ -285,9 +296,11 @@ impl<P: PtrKey, T: Copy + Drop, A: ChainArenaTrait<P, T> + Drop> Mesh<P, T, A> {
             (count (A.seen self.old) + 2) (A.seen self.new).capacity)) }
         ensures maximum { (A.seen self.new).maximum ≡ (A.seen self.old).maximum }
         ensures beyond { (result ≡ Err ReallocationError.BeyondMaxCapacity)
-            ↔ ((IsValid (A.entry self.old) (P.key u) × IsValid (A.entry self.old) (P.key v) × (P.key u ≢ P.key v))
+            ↔ ((IsValid (A.entry self.old) (P.key u) × IsValid (A.entry self.old) (P.key v)
+            × (P.key u ≢ P.key v))
             × IsBeyond (A.seen self.old).maximum (count (A.seen self.old) + 2)) }
-        ensures greatest { P.Inx.greatest < count (A.seen self.old) + 2 → IfOk result (λ r. r ≡ None) }
+        ensures greatest { P.Inx.greatest < count (A.seen self.old) + 2
+            → IfOk result (λ r. r ≡ None) }
         ensures err { OnErr result (self.new ≡ self.old) }
     {
         match self.points(u, v) {
@@ -324,7 +337,8 @@ impl<P: PtrKey, T: Copy + Drop, A: ChainArenaTrait<P, T> + Drop> Mesh<P, T, A> {
     // Returns the points of two different corners.
     fn points(&self, u: P, v: P) -> Option<(T, T)>
         ensures some { IsSome result
-            ↔ (IsValid (A.entry self.now) (P.key u) × IsValid (A.entry self.now) (P.key v) × (P.key u ≢ P.key v)) }
+            ↔ (IsValid (A.entry self.now) (P.key u) × IsValid (A.entry self.now) (P.key v)
+            × (P.key u ≢ P.key v)) }
         ensures first { IfSome result (λ r. A.entry self.now (P.key u).0 ≡ Some ((P.key u).1, r.0)) }
         ensures second { IfSome result (λ r. A.entry self.now (P.key v).0 ≡ Some ((P.key v).1, r.1)) }
     {
