@@ -1,10 +1,10 @@
 -- The tasks of a run queue where one is read or written, and where the queue grows.
 use Rattle.std.proofs.Common.{◌≡◌, ◌≢◌, ℕ, inl, inr, List, [], ◌∷◌, ◌++◌, length, Option, None, Some, refl, sym, ap, ◌∙◌, subst}
-use Rattle.std.specs.Prelude.{is_some, true, IfSome}
+use Rattle.std.specs.Prelude.{is_some, IfSome}
 use Rattle.std.specs.Option.{option_map}
 use Rattle.chain_laws.specs.Chains.{Shown, cyclic, IsChain, Has, HasNoRepetition}
 use Rattle.arena_base.specs.Arena.{IsValid}
-use Rattle.arena_base.specs.Entries.{Seen, count, found, replaced, written, with_capacity, RisesFrom}
+use Rattle.arena_base.specs.Entries.{Seen, count, found, replaced, written, RisesFrom}
 use Rattle.chain_users.specs.Lists.{Item, indexes, IsTurn}
 use Rattle.chain_users.specs.Turns.{Queue, IsAmong, with_task}
 use Rattle.chain_users.proofs.Lists.{stand-some}

@@ -6,7 +6,7 @@ use Rattle.std.proofs.lemmas.Bool.{cases_eq, eq-eqb, ne_eqb}
 use Rattle.std.proofs.lemmas.List.{map-append}
 use Rattle.chain_laws.specs.Chains.{Shown, linear, IsChain, Has, HasNoRepetition}
 use Rattle.arena_base.specs.Entries.{Seen, found, first_key, index_of, replaced, written}
-use Rattle.chain_users.specs.Lists.{Item, Stand, indexes, IsText}
+use Rattle.chain_users.specs.Lists.{Item, Stand, indexes}
 use Rattle.chain_users.specs.Texts.{HasNewValue}
 use Rattle.chain_users.proofs.Lists.{stand-append, stand-left, stand-right, stand-frame}
 use Rattle.chain_users.proofs.Texts.{apart, has_left, has_right}

@@ -155,7 +155,7 @@ impl<P: PtrKey, T: Drop, A: ChainArenaTrait<P, T> + Drop> Documents<P, T, A> {
             A.PtrAdvancer.Advancer A.ChainPtrAdvancer.Advancer)
             T.row self.entry result
             (λ new t. OnSome result
-                (HasNewValue A.seen A.entry A.interlinks self.old new (P.key p) t))
+            (HasNewValue A.seen A.entry A.interlinks self.old new (P.key p) t))
             (λ new. new ≡ self.old)) }
         ensures some { IsSome result ↔ IsValid (A.entry self.old) (P.key p) }
         ensures paragraph { IfSome result (λ t. A.entry self.old (P.key p).0

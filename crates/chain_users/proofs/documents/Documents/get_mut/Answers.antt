@@ -1,5 +1,5 @@
 -- The value of the paragraph is written, and it stays in its place.
-use Rattle.std.proofs.Common.{refl, ◌∙◌, ap}
+use Rattle.std.proofs.Common.{refl, ◌∙◌}
 use Rattle.chain_users.proofs.Writing.{has_new_value}
 use Rattle.chain_users.proofs.documents.Documents.get_mut.Goals as goal
 

@@ -2,9 +2,8 @@
 use Rattle.std.proofs.Common.{refl, ◌∙◌, ap}
 use Rattle.std.specs.Option.{option_map}
 use Rattle.chain_users.specs.Turns.{with_task}
-use Rattle.chain_users.proofs.Tasks.{IsQueue, task_written, valid_if_among, among_if_valid, task_shown, task_found}
+use Rattle.chain_users.proofs.Tasks.{task_written, valid_if_among, among_if_valid, task_found}
 use Rattle.chain_users.proofs.Turns.{queue_in}
-use Rattle.chain_users.proofs.queue.RunQueue.get_mut.Given.{Over}
 use Rattle.chain_users.proofs.queue.RunQueue.get_mut.Goals.{After-get_mut}
 use Rattle.chain_users.proofs.queue.RunQueue.get_mut.Goals as goal
 
