@@ -16,7 +16,7 @@ use arena_ptr::{
 };
 use chain_links::{LinkInsertKind, LinkNoGen};
 use chain_traits::ChainArenaTrait;
-use std::alloc::Global;
+use std::alloc::Allocator;
 
 /// A call that may change an arena of links, with its arguments. Each is the call of the same name; `Insert` is
 /// `insert_reallocating`, `InsertWithin` is `insert_within_capacity`, and `Remove` and `RemoveInx` answer the link.
@@ -189,11 +189,16 @@ fn take_links<P: PtrKey, T: Drop, S: SlotStack<Item = ArenaSlot<P, LinkNoGen<P, 
 /// tells so, and the later calls are made.
 ///
 /// `AllocError`: memory for the replies was refused, before any call: nothing has changed.
-pub fn run_calls<P: PtrKey, T: Drop, S: SlotStack<Item = ArenaSlot<P, LinkNoGen<P, T>>>>(
-    alloc: Global,
+pub fn run_calls<
+    P: PtrKey,
+    T: Drop,
+    S: SlotStack<Item = ArenaSlot<P, LinkNoGen<P, T>>>,
+    A: Allocator,
+>(
+    alloc: A,
     arena: &mut ChainArena<P, T, S>,
     calls: Vec<Call<P, T>>,
-) -> Result<Vec<Reply<P, T>>, AllocError>
+) -> Result<Vec<Reply<P, T>, A>, AllocError>
     ensures ends { HasOneSetOfChains (shown arena.new) × MatchResult result
         (λ replies. Run ⟦<P as AnyPointer>⟧.kind arena.old calls.items replies.items arena.new)
         (λ refused. arena.new ≡ arena.old) }
@@ -205,11 +210,11 @@ pub fn run_calls<P: PtrKey, T: Drop, S: SlotStack<Item = ArenaSlot<P, LinkNoGen<
 }
 
 // Makes calls in their order, and answers their replies.
-fn replies_to<P: PtrKey, T: Drop, S: SlotStack<Item = ArenaSlot<P, LinkNoGen<P, T>>>>(
-    alloc: Global,
+fn replies_to<P: PtrKey, T: Drop, S: SlotStack<Item = ArenaSlot<P, LinkNoGen<P, T>>>, A: Allocator>(
+    alloc: A,
     arena: &mut ChainArena<P, T, S>,
     calls: Vec<Call<P, T>>,
-) -> Result<Vec<Reply<P, T>>, AllocError>
+) -> Result<Vec<Reply<P, T>, A>, AllocError>
     ensures run { IfOk result (λ replies. Run ⟦<P as AnyPointer>⟧.kind arena.old calls.items replies.items arena.new) }
     ensures err { OnErr result (arena.new ≡ arena.old) }
 {

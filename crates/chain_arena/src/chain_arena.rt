@@ -30,7 +30,7 @@ use chain_layout::compress::begin_generation;
 use chain_layout::visiting::Visitor;
 use chain_links::kinds::by_names;
 use chain_links::{LinkInsertKind, LinkNoGen};
-use std::alloc::Global;
+use std::alloc::Allocator;
 use std::marker::Model;
 
 /// Links under typed pointers with generations, tied into many separate doubly linked chains, linear or cyclic.
@@ -187,11 +187,11 @@ impl<P: PtrKey, T: Drop, S: SlotStack<Item = ArenaSlot<P, LinkNoGen<P, T>>>> Cha
     ///
     /// `AllocError`: memory for the pointers was refused, and nothing has changed. `GenerationOverflow`: the counter was at
     /// its greatest, and is two now.
-    pub fn compress_canonical_moves(
+    pub fn compress_canonical_moves<A: Allocator>(
         &mut self,
-        alloc: Global,
+        alloc: A,
         reset: bool,
-    ) -> Result<(InvalidationOption<()>, Vec<(P, P)>), AllocError>
+    ) -> Result<(InvalidationOption<()>, Vec<(P, P), A>), AllocError>
         ensures canonical { OnOk result (IsCanonicalLayout P.Gen.first P.Gen.following reset (seen self.old) (shown self.old) (seen self.new) (shown self.new)) }
         ensures stack_capacity { self.new.stack_capacity ≡ self.old.stack_capacity }
         ensures moves { IfOk result (λ r. AreAllMoves P.key (seen self.old) (shown self.old) self.new.counter r.1.items) }

@@ -2,6 +2,7 @@
 
 use arena_ptr::PtrKey;
 use chain_layout::visiting::Visitor;
+use std::alloc::Allocator;
 
 /// Shows each link to a closure.
 #[derive(Drop)]
@@ -24,11 +25,11 @@ impl<P: PtrKey, F: FnMut(P, P) + Drop> Visitor<P> for Showing<F> {
 
 // Lists the links, as far as there is room.
 #[derive(Drop)]
-pub(crate) struct Listing<P> {
-    pub(crate) moves: Vec<(P, P)>,
+pub(crate) struct Listing<P, A: Allocator> {
+    pub(crate) moves: Vec<(P, P), A>,
 }
 
-impl<P: PtrKey> Visitor<P> for Listing<P> {
+impl<P: PtrKey, A: Allocator> Visitor<P> for Listing<P, A> {
     ghost use Rattle.std.specs.Prelude.{⊤};
     ghost use Rattle.chain_layout.specs.Layouts.{IsPairListed};
 

@@ -1,7 +1,6 @@
 -- What was seen of links that got other pointers: calls of a closure, and a list.
 use Rattle.std.proofs.Common.{◌≡◌, ℕ, ◌+◌, ◌<◌, ◌≤◌, Bool, true, false, List, [], ◌∷◌, ◌++◌, if◌then◌else◌, Vec, vec_len, vec_capacity, length, Some, sym, ap, ◌∙◌, subst, arith, append-nil, append_assoc}
 use Rattle.std.specs.List.{FoldsTo}
-use Rattle.std.specs.declared.alloc.Global.{Global}
 use Rattle.std.specs.Fn.{Mut, Called}
 use Rattle.std.specs.Option.{option_map}
 use Rattle.std.proofs.lemmas.List.{length-map}
@@ -15,15 +14,15 @@ use Rattle.chain_links.specs.ChainArena.{ptr_at}
 use Rattle.chain_layout.specs.Layouts.{IsPairListed, ShowsAll, ShowsLayout, AreAllMoves, IsShownMove}
 use Rattle.chain_links.specs.CanonicalLayouts.{IsCanonicalLayout}
 
-module _ {P : Type 0} where
+module _ {P A : Type 0} where
   -- a push where there is room
-  pub listed_by_push : (old new : Vec (P × P) Global) (p q : P) (ok : Bool) → (vec_len old < vec_capacity old → ok ≡ true)
+  pub listed_by_push : (old new : Vec (P × P) A) (p q : P) (ok : Bool) → (vec_len old < vec_capacity old → ok ≡ true)
       → new.items ≡ (if ok then old.items ++ (p, q) ∷ [] else old.items) → vec_len new ≡ (if ok then vec_len old + 1 else vec_len old) → vec_capacity old ≤ vec_capacity new → IsPairListed old p q new
   listed_by_push old new p q true done items long room = record { listed = λ less. (items, long, room) }
   listed_by_push old new p q false done items long room = record { listed = λ less. absurd (let no = done less in cc) }
 
   -- pairs that are listed one after another, where there is room for all
-  pub all_listed : {V : Type 0} (list : V → Vec (P × P) Global) (moves : List (P × P)) (old new : V) → vec_len (list old) + length moves ≤ vec_capacity (list old)
+  pub all_listed : {V : Type 0} (list : V → Vec (P × P) A) (moves : List (P × P)) (old new : V) → vec_len (list old) + length moves ≤ vec_capacity (list old)
       → FoldsTo (λ s (m : P × P) t. IsPairListed (list s) m.0 m.1 (list t)) old moves new → (list new).items ≡ (list old).items ++ moves
   all_listed list [] old new room folds = ap (λ v. (list v).items) (sym folds) ∙ sym (append-nil (list old).items)
   all_listed list (m ∷ moves) old new room folds =
@@ -61,7 +60,7 @@ module _ {V P Gen T : Type 0} (key : P → ℕ × Gen) (old : Seen Gen T) (links
   }
 
   -- they are listed
-  pub listed_all : (list : V → Vec (P × P) Global) (first : Gen) (following : Gen → Gen) (reset : Bool) (new : Seen Gen T) (new_links : Shown) → IsCanonicalLayout first following reset old links new new_links
+  pub listed_all : {A : Type 0} (list : V → Vec (P × P) A) (first : Gen) (following : Gen → Gen) (reset : Bool) (new : Seen Gen T) (new_links : Shown) → IsCanonicalLayout first following reset old links new new_links
       → ShowsAll (λ s p q t. IsPairListed (list s) p q (list t)) key old links generation f last → (list f).items ≡ [] → vec_len (list f) ≡ 0 → length old.entries ≤ vec_capacity (list f)
       → AreAllMoves key old links generation (list last).items
   listed_all list first following reset new new_links layout all none empty room =

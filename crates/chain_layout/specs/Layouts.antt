@@ -1,7 +1,6 @@
 -- A canonical compression: each chain comes to one run of indexes, the chains one after another.
 use Rattle.std.specs.Prelude.{◌≡◌, ℕ, ◌+◌, ◌*◌, ◌≤◌, ◌<◌, List, [], ◌∷◌, ◌++◌, Vec, vec_len, vec_capacity, map, length, Option, Some}
 use Rattle.std.specs.Option.{option_map}
-use Rattle.std.specs.declared.alloc.Global.{Global}
 use Rattle.std.specs.Fn.{Mut, Called}
 use Rattle.std.specs.List.{FoldsTo, range_with_len}
 use Rattle.chain_laws.specs.Chains.{Shown}
@@ -61,5 +60,5 @@ module _ {F P Gen : Type 0} (g : F → P → P → F → Type 0) (key : P → �
     pub shows : ShowsMoves (ptr_at (entry old)) old.counter 1 f indexes last
 
 -- a pair is listed behind others, where there is room
-pub record IsPairListed {P : Type 0} (old : Vec (P × P) Global) (from to : P) (new : Vec (P × P) Global) : Type 0 where
+pub record IsPairListed {P A : Type 0} (old : Vec (P × P) A) (from to : P) (new : Vec (P × P) A) : Type 0 where
   pub listed : vec_len old < vec_capacity old → (new.items ≡ old.items ++ (from, to) ∷ []) × (vec_len new ≡ vec_len old + 1) × (vec_capacity old ≤ vec_capacity new)

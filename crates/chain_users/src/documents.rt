@@ -43,9 +43,10 @@ impl<P: PtrKey, T: Drop, A: ChainArenaTrait<P, T> + Drop> Model for Documents<P,
 impl<P: PtrKey, T: Drop, A: ChainArenaTrait<P, T> + Drop> Documents<P, T, A> {
     ghost use Rattle.chain_users.specs.contracts.documents.Documents.{the_row};
 
-    /// No text. It takes no memory.
+    /// Returns documents without a text. It takes no memory.
     pub fn new(alloc: Global) -> Self
-        ensures { (A.seen result).entries ≡ [] }
+        ensures paragraphs { (A.seen result).entries ≡ [] }
+        ensures capacity { (A.seen result).capacity ≡ 0 }
     {
         Documents {
             paragraphs: A::new(alloc),

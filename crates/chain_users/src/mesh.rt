@@ -39,9 +39,10 @@ impl<P: PtrKey, T: Drop, A: ChainArenaTrait<P, T> + Drop> Model for Mesh<P, T, A
 }
 
 impl<P: PtrKey, T: Drop, A: ChainArenaTrait<P, T> + Drop> Mesh<P, T, A> {
-    /// A mesh without polygons. It takes no memory.
+    /// Returns a mesh without polygons. It takes no memory.
     pub fn new(alloc: Global) -> Self
-        ensures { (A.seen result).entries ≡ [] }
+        ensures corners { (A.seen result).entries ≡ [] }
+        ensures capacity { (A.seen result).capacity ≡ 0 }
     {
         Mesh {
             corners: A::new(alloc),

@@ -15,7 +15,7 @@ use crate::growth::reserve;
 use arena_ptr::{GenKey, InxKey, PtrKey, ReallocationError};
 use chain_links::LinkInsertKind;
 use chain_traits::ChainArenaTrait;
-use std::alloc::{AllocError, Global};
+use std::alloc::{AllocError, Allocator, Global};
 use std::marker::{Model, PhantomData};
 
 /// Tasks that run in turn. A task is named by the pointer that `spawn` answers, until it is cancelled.
@@ -50,9 +50,10 @@ impl<P: PtrKey, T: Drop, A: ChainArenaTrait<P, T> + Drop> Model for RunQueue<P, 
 impl<P: PtrKey, T: Drop, A: ChainArenaTrait<P, T> + Drop> RunQueue<P, T, A> {
     ghost use Rattle.chain_users.specs.contracts.queue.RunQueue.{the_row};
 
-    /// A queue without tasks. It takes no memory.
+    /// Returns a queue without tasks. It takes no memory.
     pub fn new(alloc: Global) -> Self
-        ensures { result.turn ≡ [] }
+        ensures turn { result.turn ≡ [] }
+        ensures room { result.room ≡ 0 }
     {
         RunQueue {
             tasks: A::new(alloc),
@@ -226,7 +227,7 @@ impl<P: PtrKey, T: Drop, A: ChainArenaTrait<P, T> + Drop> RunQueue<P, T, A> {
     /// Takes all tasks out, and answers them in turn.
     ///
     /// `AllocError`: memory for the answer was refused, and nothing has changed.
-    pub fn drain_all(&mut self, alloc: Global) -> Result<Vec<T>, AllocError>
+    pub fn drain_all<B: Allocator>(&mut self, alloc: B) -> Result<Vec<T, B>, AllocError>
         ensures drained { IfOk result (λ tasks. (tasks.items ≡ map (λ e. e.1) self.old.turn) × (self.new.turn ≡ [])) }
         ensures room { self.new.room ≡ self.old.room }
         ensures maximum { self.new.maximum ≡ self.old.maximum }

@@ -1,5 +1,6 @@
 //! Runs of the program over readers and writers in memory, and in `users` the data structures on arenas of links.
 mod faulty;
+mod no_memory;
 mod small_indexes;
 mod users;
 

@@ -11,5 +11,5 @@ begun g c = settle g.A.ArenaTrait.seen g.A.ArenaTrait.entry g.A.ChainArenaTrait.
 pub invariant_of-result : goal.invariant_of-result
 invariant_of-result g c = (begun g c).holds
 
-pub returns : goal.returns
-returns g c = (begun g c).is_found
+pub returns-clause-turn : goal.returns-clause-turn
+returns-clause-turn g c = (begun g c).is_found
