@@ -1,5 +1,6 @@
-ghost use Rattle.std.specs.Prelude.{◌≡◌, ◌≢◌, ◌↔◌, ◌<◌, ◌+◌, ◌⊎◌, ℕ, is_some, Option, map, length, IsTrue, IsSome, IfSome, OnSome, IfNone, IfOk, IsErr, IfErr, OnOk, OnErr, Err, None};
+ghost use Rattle.std.specs.Prelude.{◌≡◌, ◌≢◌, ◌↔◌, ◌<◌, ◌≤◌, ◌+◌, ◌⊎◌, ℕ, is_some, Option, map, length, All, IsTrue, IsSome, IfSome, OnSome, IfNone, IfOk, IsErr, IfErr, OnOk, OnErr, Err, None};
 ghost use Rattle.std.specs.Option.{option_map};
+ghost use Rattle.arena_ptr.specs.Numbers.{IsWithin};
 ghost use Rattle.arena_ptr.specs.Invalidation.{value_within, invalidation_option, invalidation_result};
 ghost use Rattle.chain_laws.specs.Chains.{Shown, Agrees, HasLinksWithin, prev_of, next_of};
 ghost use Rattle.chain_laws.specs.Cuts.{cut, Cuts};
@@ -57,6 +58,8 @@ pub trait ChainArenaTrait<P: PtrKey, T: Drop>: ArenaTrait<P, T> {
         ensures agree { Agrees (interlinks self.now) }
         ensures one { HasOneSetOfChains (interlinks self.now) }
         ensures within { HasLinksWithin (interlinks self.now) P.Inx.greatest }
+        ensures indexes { All (λ e. IsWithin P.Inx.greatest (index_of e)) (Self.seen self.now).entries }
+        ensures fits { count (Self.seen self.now) ≤ (Self.seen self.now).capacity }
     {
         self.agrees();
         self.len();

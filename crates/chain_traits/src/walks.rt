@@ -19,8 +19,7 @@ pub fn advancer_passes_the_walk<P: PtrKey, T: Drop, A: ChainArenaTrait<P, T>>(ar
         (passes_ahead (A.interlinks arena.now)
         (walker_at (A.interlinks arena.now) (count (A.seen arena.now)) (P.key p).0)) }
 {
-    arena.agrees();
-    arena.len();
+    arena.invariants();
 }
 
 /// Returns the pointers of the links of one chain, each once, in walk order: from `p` on to the end, and then from the link

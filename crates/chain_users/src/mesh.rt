@@ -110,8 +110,7 @@ impl<P: PtrKey, T: Drop, A: ChainArenaTrait<P, T> + Drop> Mesh<P, T, A> {
     pub fn all_in_polygons(&self)
         ensures { AllInRings A.entry A.interlinks self.now }
     {
-        self.corners.agrees();
-        self.corners.len();
+        self.corners.invariants();
     }
 
     /// The point of a corner. `None`: the pointer is of no corner.
@@ -364,7 +363,7 @@ fn add_before<P: PtrKey, T: Drop, A: ChainArenaTrait<P, T>>(corners: &mut A, u: 
     ensures capacity { (A.seen corners.new).capacity ≡ (A.seen corners.old).capacity }
     ensures maximum { (A.seen corners.new).maximum ≡ (A.seen corners.old).maximum }
 {
-    corners.len();
+    corners.invariants();
     match corners.insert(LinkInsertKind::PrevTo(u), t) {
         Ok(p) => p,
         Err(_) => unreachable!(),

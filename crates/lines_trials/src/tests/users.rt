@@ -109,19 +109,22 @@ fn over_one_piece_of_memory_and_in_blocks(rt: HostRuntime) {
     are_all_played::<ToolPtr, ChunkStack<Slot<ToolPtr>>>(&rt, rt.alloc());
 }
 
-// Whether the first insertion into each of the three is refused.
-fn are_refused<P: PtrKey, A: ChainArenaTrait<P, u32> + Drop>(alloc: Global) -> [bool; 3] {
+// Whether the first insertion into each of the three is refused, and the first reservation.
+fn are_refused<P: PtrKey, A: ChainArenaTrait<P, u32> + Drop>(alloc: Global) -> [bool; 6] {
     [
         RunQueue::<P, u32, A>::new(alloc).spawn(1).is_err(),
         Mesh::<P, u32, A>::new(alloc).start(1).is_err(),
         Documents::<P, u32, A>::new(alloc).begin(1).is_err(),
+        RunQueue::<P, u32, A>::new(alloc).reserve(2).is_err(),
+        Mesh::<P, u32, A>::new(alloc).reserve(2).is_err(),
+        Documents::<P, u32, A>::new(alloc).reserve(2).is_err(),
     ]
 }
 
 // The rows where each growth is refused once. A refused call changes nothing and is done the second time.
 fn are_all_refused<P: PtrKey, S: SlotStack<Item = Slot<P>>>(rt: &impl Abort, alloc: Global) {
     let refused = are_refused::<P, ChainArena<P, u32, Rationed<S>>>(alloc);
-    same(rt, "refused", refused, [true; 3]);
+    same(rt, "refused", refused, [true; 6]);
     let split = polygons::split_beside_a_hole::<P, ChainArena<P, u32, Rationed<S>>>(alloc);
     same(rt, "split beside a hole", split, (true, [Some(2), Some(5)]));
     are_all_played::<P, Rationed<S>>(rt, alloc);

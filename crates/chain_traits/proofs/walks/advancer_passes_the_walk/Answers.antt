@@ -12,4 +12,4 @@ returns g c valid =
     let stands = g.met.A.ChainArenaTrait.stand a in
     let looked = g.met.A.ArenaTrait.looked_up a in
     let i = (g.P.PtrKey.key c.args.p).0 in
-    passes_walk links entry es stands looked g.P.Inx.InxKey.greatest i c.agrees.ensures c.len.ensures.indexes (entry_valid links entry es stands looked i _ valid.stands)
+    passes_walk links entry es stands looked g.P.Inx.InxKey.greatest i c.invariants.ensures.agree c.invariants.ensures.indexes (entry_valid links entry es stands looked i _ valid.stands)
