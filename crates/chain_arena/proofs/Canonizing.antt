@@ -18,10 +18,10 @@ use Rattle.arena_base.specs.Compressing.{counter_after_compression, values_in}
 use Rattle.arena_base.specs.Closing.{fronted, gathered}
 use Rattle.arena_base.proofs.Gathering.{length-slots, indexes-fronted, generations-fronted}
 use Rattle.chain_links.specs.ChainArena.{LinkSeen, on_value, link_value, interlinks_of, shown, seen, entry, values_of, ptr_at}
-use Rattle.chain_layout.specs.Layouts.{ShowsMoves, ShowsAll, AreLaidOut}
+use Rattle.chain_compaction.specs.Layouts.{ShowsMoves, ShowsAll, AreLaidOut}
 use Rattle.chain_links.specs.CanonicalLayouts.{IsCanonicalLayout}
 use Rattle.chain_links.proofs.Inserting.{some_entry, values-count}
-use Rattle.chain_layout.proofs.Arranging.{count-standing}
+use Rattle.chain_compaction.proofs.Arranging.{count-standing}
 
 -- the values of entries that stand at the front
 values-fronted : {Gen T : Type 0} (g : Gen) (values : List T) (i : ℕ) → values_in (entries_from i (fronted g values [])) ≡ values

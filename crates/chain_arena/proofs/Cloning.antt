@@ -19,7 +19,7 @@ use Rattle.chain_arena.specs.Copies.{MakesLink, MakesOf, RefusesOf, IsLinkCopyBy
 use Rattle.arena_base.proofs.Copying.{made_by, copy_by}
 use Rattle.arena_base.proofs.Folding.{folds_seen, folds_mapped}
 use Rattle.chain_links.proofs.Mapping.{slot_at-map, length-with_each}
-use Rattle.chain_layout.proofs.Valuing.{seen_entries-all, held_entries-all}
+use Rattle.chain_compaction.proofs.Valuing.{seen_entries-all, held_entries-all}
 
 -- a value that was made, where the value shown and the answer are looked at in some way
 abbrev made_as : {P U T W X : Type 0} → (U → W) → (T → X) → Copied P U T → Copied P W X

@@ -14,7 +14,7 @@ use Rattle.arena_base.specs.Compressing.{IsCompressed, VisitsAll, counter_after_
 use Rattle.arena_base.specs.Closing.{IsGathered, gathered}
 use Rattle.arena_base.proofs.Gathering.{compressing}
 use Rattle.chain_links.specs.ChainArena.{LinkSeen, on_value, link_value, shown, values_of}
-use Rattle.chain_layout.specs.Compressions.{ClosesGaps, AreGathered}
+use Rattle.chain_compaction.specs.Compressions.{ClosesGaps, AreGathered}
 
 module _ {F P T Gen : Type 0} (g : Mut F (P × (MutBor T × (P × Unit {0}))) (Unit {0} × (MutBor T × Unit {0}))) (key : P → ℕ × Gen) (f : F)
     (counter : Gen) (old mid new : Arena Gen (LinkSeen T)) (is_mid : mid ≡ with_counter old counter) (gathering : AreGathered g key f mid new) where

@@ -11,7 +11,7 @@ use Rattle.chain_laws.proofs.ExchangePairs.{exchanged_agrees, exchanged_in_pairs
 use Rattle.chain_laws.proofs.Exchanging.{exchanged_exchanges}
 use Rattle.arena_base.specs.Arena.{Arena}
 use Rattle.chain_links.specs.ChainArena.{LinkSeen, shown, values_of, relinked, IsCut, IsExchange}
-use Rattle.chain_interlinks.proofs.Relinking.{FitsLinks-twice, shown-relinked, values_of-relinked}
+use Rattle.chain_linking.proofs.Relinking.{FitsLinks-twice, shown-relinked, values_of-relinked}
 
 -- what holds of the index that is told
 pub at_told : (F : ℕ → Type 0) (o : Option ℕ) (n : ℕ) → o ≡ Some n → F n → IfSome o F

@@ -20,7 +20,7 @@ use Rattle.chain_links.specs.declared.links.LinkBody.{LinkBody}
 use Rattle.chain_links.proofs.Mapping.{entry_at-with_each}
 use Rattle.chain_links.proofs.Seeing.{length-relinked}
 use Rattle.chain_links.proofs.Inserting.{shown-within}
-use Rattle.chain_interlinks.proofs.Unlinking.{passes_over, shown-remove_link}
+use Rattle.chain_linking.proofs.Unlinking.{passes_over, shown-remove_link}
 
 -- an answer of a value tells whether the counter overflowed
 pub is_overflow_result-made : {X : Type 0} (overflow : Bool) (x : X) → is_overflow_result (invalidation_result overflow (Some x)) ≡ overflow

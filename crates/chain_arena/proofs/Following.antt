@@ -8,7 +8,7 @@ use Rattle.chain_laws.proofs.Agreement.{if_other, if_same, one_some}
 use Rattle.arena_base.specs.Arena.{Arena, entry_at}
 use Rattle.chain_links.specs.ChainArena.{LinkSeen, shown, interlinks_of}
 use Rattle.chain_links.specs.Walkers.{index_and_entry, links_ahead}
-use Rattle.chain_interlinks.proofs.NamedLinks.{next_named, prev_named}
+use Rattle.chain_linking.proofs.NamedLinks.{next_named, prev_named}
 use Rattle.chain_arena.specs.Iterators.{IsOnLinks}
 
 module _ {Gen T : Type 0} (i : ℕ) where

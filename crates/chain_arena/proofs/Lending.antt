@@ -7,7 +7,7 @@ use Rattle.arena_base.specs.Arena.{Arena, entry_at, IsValid}
 use Rattle.chain_links.specs.declared.links.LinkBody.{LinkBody}
 use Rattle.chain_links.specs.ChainArena.{on_value, values_of}
 use Rattle.chain_links.specs.Links.{held_in, seen_links}
-use Rattle.chain_interlinks.proofs.Connecting.{value_at}
+use Rattle.chain_linking.proofs.Connecting.{value_at}
 use Rattle.chain_links.proofs.Mapping.{IsValidPtr}
 
 module _ {Gen K T : Type 0} (number : K → Option ℕ) where

@@ -17,7 +17,7 @@ use Rattle.chain_links.specs.ChainArena.{LinkSeen, values_of, seen, remove_link}
 use Rattle.chain_traits.proofs.AnyArena.{from_index-rises}
 use Rattle.chain_arena.specs.Drains.{entries_left, without_each, IsLinkDrainStep}
 use Rattle.chain_arena.proofs.Draining.{is_overflow_result-made}
-use Rattle.chain_interlinks.proofs.Unlinking.{seen-removed}
+use Rattle.chain_linking.proofs.Unlinking.{seen-removed}
 
 -- what an answer that tells of an overflow holds
 value_in-made : {X : Type 0} (overflow : Bool) (x : X) → value_in (invalidation_option overflow x) ≡ x

@@ -18,9 +18,9 @@ use Rattle.chain_links.specs.Links.{seen_links}
 use Rattle.chain_links.specs.declared.links.LinkBody.{LinkBody}
 use Rattle.chain_links.proofs.Inserting.{next_index-seen_links, values-count}
 use Rattle.chain_links.specs.declared.kinds.InsertKindBody.{InsertKindBody}
-use Rattle.chain_interlinks.specs.Gaps.{before_in, after_in, IsGapOf}
+use Rattle.chain_linking.specs.Gaps.{before_in, after_in, IsGapOf}
 use Rattle.chain_links.specs.Insertions.{IsInsertion}
-use Rattle.chain_interlinks.specs.declared.gaps.Gap.{Gap}
+use Rattle.chain_linking.specs.declared.gaps.Gap.{Gap}
 use Rattle.chain_arena.specs.Places.{HasGrown, GrowsByOne, gap_unless_refused, IsPlace, PlacesWithin, PlacesGrowing, IsInsertedIn, InsertsAt}
 use Rattle.chain_arena.specs.Effects.{Links, kind_of, May}
 use Rattle.chain_arena.proofs.Telling.{gap_told, insertion_told}

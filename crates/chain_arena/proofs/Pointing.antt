@@ -12,9 +12,9 @@ use Rattle.arena_base.specs.EntryLaws.{entries_rise, found-entries}
 use Rattle.chain_links.specs.ChainArena.{LinkSeen, on_value, link_value, interlinks_of, shown, seen, entry, values_of}
 use Rattle.chain_links.specs.CanonicalLayouts.{IsCanonicalLayout}
 use Rattle.chain_links.proofs.Mapping.{is_some-map, entry_at-with_each}
-use Rattle.chain_layout.specs.Layouts.{AreAllMoves}
-use Rattle.chain_layout.specs.PointerMoves.{ArePointerMoves, IsMove, StandsWhere}
-use Rattle.chain_layout.proofs.Pointing.{each_found, all_moved, compression_moves_pointers}
+use Rattle.chain_compaction.specs.Layouts.{AreAllMoves}
+use Rattle.chain_compaction.specs.PointerMoves.{ArePointerMoves, IsMove, StandsWhere}
+use Rattle.chain_compaction.proofs.Pointing.{each_found, all_moved, compression_moves_pointers}
 use Rattle.chain_arena.specs.Transfers.{Carried, old_index}
 use Rattle.chain_arena.specs.PointerTransfers.{IsAnswered, TransferMovesPointers}
 

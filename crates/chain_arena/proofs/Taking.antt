@@ -13,7 +13,7 @@ use Rattle.chain_links.specs.Links.{held_in, seen_link, seen_pair}
 use Rattle.chain_links.specs.declared.links.LinkBody.{LinkBody}
 use Rattle.chain_links.proofs.Mapping.{entry_at-with_each, generation_is}
 use Rattle.chain_links.proofs.Mapping.{is_some-map}
-use Rattle.chain_interlinks.proofs.Unlinking.{passes_over, removed-agrees, removed-chains, removed-pairs, seen-removed}
+use Rattle.chain_linking.proofs.Unlinking.{passes_over, removed-agrees, removed-chains, removed-pairs, seen-removed}
 use Rattle.chain_arena.specs.Effects.{Links}
 use Rattle.chain_arena.proofs.Draining.{link_at-entry}
 

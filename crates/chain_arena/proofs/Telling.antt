@@ -12,7 +12,7 @@ use Rattle.chain_links.specs.ChainArena.{LinkSeen, link_value, values_of, seen, 
 use Rattle.chain_links.specs.Insertions.{IsInsertion, IsInsertionBetween}
 use Rattle.chain_links.proofs.Mapping.{with_each-insert_next, length-with_each, listed-with_each}
 use Rattle.chain_links.proofs.Inserting.{shown-insert_lone, shown-next, inserted_at, length-filled}
-use Rattle.chain_interlinks.proofs.Relinking.{FitsLinks, FitsLinks-shown, FitsLinks-next_set, FitsLinks-prev_set, shown-relinked, values_of-relinked}
+use Rattle.chain_linking.proofs.Relinking.{FitsLinks, FitsLinks-shown, FitsLinks-next_set, FitsLinks-prev_set, shown-relinked, values_of-relinked}
 
 -- the gap of a kind that may be inserted
 pub gap_told : (interlinks : Shown) (kind : InsertKind ℕ) (q : ℕ) {u v : Option ℕ} → u ≡ link_before interlinks kind q → v ≡ link_after interlinks kind q

@@ -11,7 +11,7 @@ use Rattle.chain_links.specs.Links.{seen_link, seen_links, seen_pair}
 use Rattle.chain_links.proofs.Mapping.{with_each-with_value, with_each-renewed_at, with_each-cleared}
 use Rattle.arena_base.proofs.Seeing.{seen_written, seen_renewed, seen_cleared}
 use Rattle.chain_links.proofs.Seeing.{entry_at-seen_links}
-use Rattle.chain_interlinks.proofs.Unlinking.{shown-written, shown-renewed}
+use Rattle.chain_linking.proofs.Unlinking.{shown-written, shown-renewed}
 
 module _ {Gen T : Type 0} where
   -- a link with another value is written

@@ -14,7 +14,7 @@ use Rattle.chain_links.specs.CanonicalLayouts.{IsCanonicalLayout}
 use Rattle.chain_links.specs.ChainArena.{LinkSeen, shown, entry, values_of, seen, insert_as}
 use Rattle.chain_links.specs.Kinds.{names_in, by_index, MayInsert}
 use Rattle.chain_links.specs.declared.kinds.InsertKindBody.{InsertKindBody}
-use Rattle.chain_layout.specs.Compressions.{ClosesGaps}
+use Rattle.chain_compaction.specs.Compressions.{ClosesGaps}
 use Rattle.chain_arena.specs.Drains.{without_each}
 
 -- the links of an arena

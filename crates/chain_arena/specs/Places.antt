@@ -12,8 +12,8 @@ use Rattle.arena_base.specs.Arena.{HasGrownTo, IsListed, entry_count, next_index
 use Rattle.chain_links.specs.ChainArena.{shown, seen, entry, insert_between}
 use Rattle.chain_links.specs.Insertions.{IsInsertionBetween}
 use Rattle.chain_links.specs.declared.kinds.InsertKindBody.{InsertKindBody}
-use Rattle.chain_interlinks.specs.Gaps.{before_in, after_in}
-use Rattle.chain_interlinks.specs.declared.gaps.Gap.{Gap}
+use Rattle.chain_linking.specs.Gaps.{before_in, after_in}
+use Rattle.chain_linking.specs.declared.gaps.Gap.{Gap}
 use Rattle.chain_arena.specs.Effects.{Links, kind_of, May}
 
 module _ {Gen T : Type 0} where

@@ -7,7 +7,7 @@ use Rattle.chain_laws.specs.Chains.{Shown}
 use Rattle.arena_base.specs.Arena.{Arena}
 use Rattle.arena_base.specs.Entries.{Seen}
 use Rattle.chain_links.specs.ChainArena.{LinkSeen, entry}
-use Rattle.chain_layout.specs.PointerMoves.{AreMoved, LooksUp, StandsWhere}
+use Rattle.chain_compaction.specs.PointerMoves.{AreMoved, LooksUp, StandsWhere}
 use Rattle.chain_arena.specs.Transfers.{Carried, IsTransfer}
 
 -- the closure was told the value that a link had, and its answer is the one that it has

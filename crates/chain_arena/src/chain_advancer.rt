@@ -4,7 +4,7 @@ ghost use Rattle.std.specs.Prelude.{◌≡◌, Some};
 use crate::chain_arena::ChainArena;
 use arena_base::{Advancer, ArenaSlot};
 use arena_ptr::{PtrKey, SlotStack};
-use chain_interlinks::steps::step;
+use chain_linking::steps::step;
 use chain_links::LinkNoGen;
 
 /// Goes along one chain in walk order: from a link on to the end, and then from the link before it back to the start; a
@@ -45,7 +45,7 @@ impl<P: PtrKey, T: Drop, S: SlotStack<Item = ArenaSlot<P, LinkNoGen<P, T>>>> Adv
     ghost use Rattle.std.specs.Option.{option_map};
     ghost use Rattle.chain_links.specs.ChainArena.{entry, shown};
     ghost use Rattle.chain_links.specs.Walkers.{walker_of, IsPassing};
-    ghost use Rattle.chain_interlinks.specs.ChainArenaLaws.{spent_stays};
+    ghost use Rattle.chain_linking.specs.ChainArenaLaws.{spent_stays};
 
     type Item = P;
 

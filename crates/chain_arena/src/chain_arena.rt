@@ -10,9 +10,9 @@ ghost use Rattle.arena_base.specs.Compressing.{overflows_after_compression};
 ghost use Rattle.arena_base.specs.Slots.{entry_of, ThreadsFreeList};
 ghost use Rattle.chain_links.specs.ChainArena.{entry, seen, shown, IsRemoval, IsWalkOf};
 ghost use Rattle.chain_links.specs.Kinds.{names_in};
-ghost use Rattle.chain_interlinks.specs.Gaps.{IsGapOf};
-ghost use Rattle.chain_layout.specs.Layouts.{ShowsAll, ShowsLayout, AreAllMoves};
-ghost use Rattle.chain_layout.specs.PointerMoves.{ArePointerMoves};
+ghost use Rattle.chain_linking.specs.Gaps.{IsGapOf};
+ghost use Rattle.chain_compaction.specs.Layouts.{ShowsAll, ShowsLayout, AreAllMoves};
+ghost use Rattle.chain_compaction.specs.PointerMoves.{ArePointerMoves};
 ghost use Rattle.chain_links.specs.CanonicalLayouts.{IsCanonicalLayout};
 ghost use Rattle.chain_links.specs.Links.{seen_pair};
 
@@ -23,11 +23,11 @@ use arena_ptr::{
     AllocError, HeapStack, InvalidationOption, InvalidationResult, LimitStack,
     MaxCapacityReductionError, PtrKey, SetMaxCapacity, SlotStack,
 };
-use chain_interlinks::gaps::{Gap, gap_of};
-use chain_interlinks::standing::take_out;
-use chain_layout::canonical::lay_out;
-use chain_layout::compress::begin_generation;
-use chain_layout::visiting::Visitor;
+use chain_linking::gaps::{Gap, gap_of};
+use chain_linking::standing::take_out;
+use chain_compaction::canonical::lay_out;
+use chain_compaction::compress::begin_generation;
+use chain_compaction::visiting::Visitor;
 use chain_links::kinds::by_names;
 use chain_links::{LinkInsertKind, LinkNoGen};
 use std::alloc::Allocator;

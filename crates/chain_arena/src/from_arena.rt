@@ -7,7 +7,7 @@ ghost use Rattle.chain_links.specs.Links.{seen_links};
 use crate::chain_arena::ChainArena;
 use arena_base::{Arena, ArenaSlot};
 use arena_ptr::{InxKey, PtrKey, SlotStack};
-use chain_interlinks::links_agree;
+use chain_linking::links_agree;
 use chain_links::LinkNoGen;
 
 impl<P: PtrKey, T: Drop, S: SlotStack<Item = ArenaSlot<P, LinkNoGen<P, T>>>> ChainArena<P, T, S> {

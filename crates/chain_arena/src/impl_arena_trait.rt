@@ -14,7 +14,7 @@ use arena_ptr::{
     AllocError, GenKey, InvalidationOption, InvalidationResult, InxKey, PtrKey, ReallocationError,
     SlotStack,
 };
-use chain_layout::compress::{begin_generation, gather};
+use chain_compaction::compress::{begin_generation, gather};
 use chain_links::link_access::value_of;
 use chain_links::{LinkBody, LinkNoGen, Vacant};
 use std::alloc::Global;
@@ -28,7 +28,7 @@ impl<P: PtrKey, T: Drop, S: SlotStack<Item = ArenaSlot<P, LinkNoGen<P, T>>>> Are
     ghost use Rattle.arena_base.specs.EntryLaws.{entries_rise, found-entries};
     ghost use Rattle.arena_base.specs.AdvancingLaws.{until_none};
     ghost use Rattle.chain_links.specs.ChainArena.{shown, values_of, with_value_at, IsRemoval};
-    ghost use Rattle.chain_layout.specs.Compressions.{ClosesGaps};
+    ghost use Rattle.chain_compaction.specs.Compressions.{ClosesGaps};
 
     type PtrAdvancer = PtrAdvancer<P>;
 

@@ -29,9 +29,9 @@ use arena_ptr::{
     ChainInsertionError, GenKey, InvalidationOption, InvalidationResult, InxKey, PtrKey,
     ReallocationError, SlotStack,
 };
-use chain_interlinks::gaps::{is_index, next_of as next_of_link, prev_of as prev_of_link};
-use chain_interlinks::interlinks::join;
-use chain_interlinks::standing::{link_twice, neighbor};
+use chain_linking::gaps::{is_index, next_of as next_of_link, prev_of as prev_of_link};
+use chain_linking::interlinks::join;
+use chain_linking::standing::{link_twice, neighbor};
 use chain_links::kinds::Name;
 use chain_links::{Link, LinkInsertKind, LinkNoGen};
 use chain_traits::ChainArenaTrait;
@@ -39,7 +39,7 @@ use chain_traits::ChainArenaTrait;
 impl<P: PtrKey, T: Drop, S: SlotStack<Item = ArenaSlot<P, LinkNoGen<P, T>>>> ChainArenaTrait<P, T>
     for ChainArena<P, T, S> {
     ghost use Rattle.chain_links.specs.ChainArena.{shown};
-    ghost use Rattle.chain_interlinks.specs.ChainArenaLaws.{links_stand};
+    ghost use Rattle.chain_linking.specs.ChainArenaLaws.{links_stand};
     ghost use Rattle.chain_links.specs.Walkers.{walker_of};
 
     type ChainPtrAdvancer = ChainPtrAdvancer<P>;

@@ -58,9 +58,9 @@ pub use calls::{Call, Reply, apply, run_calls, runs_are_determined};
 pub use chain_advancer::ChainPtrAdvancer;
 pub use chain_arena::ChainArena;
 pub use chain_drains::{ChainDrain, drain_gives_the_walk};
-pub use chain_interlinks::links_agree;
+pub use chain_linking::links_agree;
 pub use chain_iterators::ChainIter;
-pub use chain_layout::visiting::Visitor;
+pub use chain_compaction::visiting::Visitor;
 pub use chain_links::{
     InsertKindBody, Link, LinkBody, LinkInsertKind, LinkNoGen, links_compare_by_neighbors,
 };

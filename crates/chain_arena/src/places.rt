@@ -5,15 +5,15 @@ ghost use Rattle.chain_laws.specs.Chains.{Agrees};
 ghost use Rattle.chain_laws.specs.Insertions.{IsGap};
 ghost use Rattle.arena_base.specs.Arena.{entry_count, next_index};
 ghost use Rattle.chain_links.specs.ChainArena.{shown};
-ghost use Rattle.chain_interlinks.specs.Gaps.{before_in, after_in};
+ghost use Rattle.chain_linking.specs.Gaps.{before_in, after_in};
 ghost use Rattle.chain_arena.specs.Places.{GrowsByOne, gap_unless_refused, refusal_of, PlacesGrowing, PlacesWithin, IsInsertedIn, InsertsAt};
 
 use crate::chain_arena::ChainArena;
 use arena_base::{ArenaSlot, ArenaTrait, excluded};
 use arena_ptr::{ChainInsertionError, PtrKey, ReallocationError, SlotStack};
-use chain_interlinks::gaps::Gap;
-use chain_interlinks::placing::link_in;
-use chain_interlinks::standing::tie;
+use chain_linking::gaps::Gap;
+use chain_linking::placing::link_in;
+use chain_linking::standing::tie;
 use chain_links::{LinkInsertKind, LinkNoGen};
 
 impl<P: PtrKey, T: Drop, S: SlotStack<Item = ArenaSlot<P, LinkNoGen<P, T>>>> ChainArena<P, T, S> {

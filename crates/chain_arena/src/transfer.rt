@@ -4,15 +4,15 @@ ghost use Rattle.arena_ptr.specs.SlotStack.{IsBeyond};
 ghost use Rattle.chain_laws.specs.Relays.{end_before, end_after};
 ghost use Rattle.arena_base.specs.Arena.{HasRoom, IsWithinReach, IsListed, with_capacity_of, entry_count, next_index};
 ghost use Rattle.arena_base.specs.Entries.{count};
-ghost use Rattle.chain_interlinks.specs.Gaps.{before_in, after_in};
-ghost use Rattle.chain_layout.specs.PointerMoves.{CompressionMovesPointers, CompressionHasMoves};
+ghost use Rattle.chain_linking.specs.Gaps.{before_in, after_in};
+ghost use Rattle.chain_compaction.specs.PointerMoves.{CompressionMovesPointers, CompressionHasMoves};
 ghost use Rattle.chain_arena.specs.Transfers.{LaysOutAlike, IsTransfer, AreEnds, HasGapBehind, laid_behind};
 ghost use Rattle.chain_arena.specs.PointerTransfers.{TransferMovesPointers};
 
 use crate::chain_arena::ChainArena;
 use arena_base::{Advancer, ArenaSlot, ArenaTrait, CompactArenaTrait, excluded};
 use arena_ptr::{InvalidationOption, InxKey, PtrKey, ReallocationError, SlotStack};
-use chain_interlinks::gaps::Gap;
+use chain_linking::gaps::Gap;
 use chain_links::LinkNoGen;
 use chain_traits::ChainArenaTrait;
 use chain_traits::sources::take_next;

@@ -1,7 +1,7 @@
 // What is shown links that get other pointers: a closure, or a list.
 
 use arena_ptr::PtrKey;
-use chain_layout::visiting::Visitor;
+use chain_compaction::visiting::Visitor;
 use std::alloc::Allocator;
 
 /// Shows each link to a closure.
@@ -31,7 +31,7 @@ pub(crate) struct Listing<P, A: Allocator> {
 
 impl<P: PtrKey, A: Allocator> Visitor<P> for Listing<P, A> {
     ghost use Rattle.std.specs.Prelude.{⊤};
-    ghost use Rattle.chain_layout.specs.Layouts.{IsPairListed};
+    ghost use Rattle.chain_compaction.specs.Layouts.{IsPairListed};
 
     ghost is_ready = { λ v. ⊤ };
 

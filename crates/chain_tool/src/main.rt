@@ -4,7 +4,7 @@
 #[cfg(test)]
 mod tests;
 
-use chain_lines::{ToolError, run};
+use chain_commands::{ToolError, run};
 use std::alloc::Global;
 use std::io::{BufWriter, Read, Write, writer};
 use std::process::ExitCode;

@@ -1,7 +1,7 @@
 //! The exit status and the words on standard error at each fault.
 
 use super::{answer, reason};
-use chain_lines::ToolError;
+use chain_commands::ToolError;
 use std::alloc::Global;
 use std::io;
 use std::io::{ErrorKind, Read, Write, sink};

@@ -1,7 +1,7 @@
 -- There is room for all pairs, so each is listed.
 use Rattle.std.proofs.Common.{arith}
 use Rattle.chain_laws.proofs.Neighboring.{agrees_from_pairs}
-use Rattle.chain_layout.proofs.Watching.{listed_all}
+use Rattle.chain_compaction.proofs.Watching.{listed_all}
 use Rattle.chain_arena.proofs.Pointing.{arena_moves_pointers}
 use Rattle.chain_arena.proofs.chain_arena.ChainArena.compress_canonical_moves.Goals as goal
 

@@ -6,8 +6,8 @@ use Rattle.chain_links.specs.Links.{seen_links}
 use Rattle.chain_links.specs.ChainArena.{IsWalkOf, shown}
 use Rattle.chain_links.proofs.Inserting.{entry_count-seen_links}
 use Rattle.chain_arena.proofs.Iterating.{walker-walk, length-walk}
-use Rattle.chain_interlinks.proofs.Connecting.{prev_of-seen, same_valid, valid_at}
-use Rattle.chain_interlinks.proofs.NamedLinks.{prev_named}
+use Rattle.chain_linking.proofs.Connecting.{prev_of-seen, same_valid, valid_at}
+use Rattle.chain_linking.proofs.NamedLinks.{prev_named}
 use Rattle.chain_arena.proofs.chain_arena.ChainArena.iter_chain.Goals as goal
 
 pub new-requires : goal.new-requires

@@ -7,7 +7,7 @@ use Rattle.arena_base.specs.Arena.{entry_at}
 use Rattle.arena_base.specs.Entries.{seen_of}
 use Rattle.chain_links.specs.Links.{seen_links}
 use Rattle.chain_links.specs.ChainArena.{values_of, CanConnect, relinked, shown}
-use Rattle.chain_interlinks.proofs.Connecting.{shows, joined-values, joined-agrees, joined-pair, joined-chains}
+use Rattle.chain_linking.proofs.Connecting.{shows, joined-values, joined-agrees, joined-pair, joined-chains}
 use Rattle.chain_arena.specs.Effects.{Links}
 use Rattle.chain_arena.proofs.impl_chain_arena_trait.ChainArenaChainArenaTrait.connect.Goals as goal
 

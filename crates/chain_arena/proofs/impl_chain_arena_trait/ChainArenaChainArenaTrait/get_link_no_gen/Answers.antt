@@ -8,7 +8,7 @@ use Rattle.chain_links.specs.declared.links.LinkBody.{LinkBody}
 use Rattle.chain_links.specs.Links.{seen_link, seen_links}
 use Rattle.chain_links.specs.ChainArena.{on_value, shown, entry, link_at}
 use Rattle.chain_links.proofs.Mapping.{entry_at-with_each}
-use Rattle.chain_interlinks.proofs.Connecting.{same_valid}
+use Rattle.chain_linking.proofs.Connecting.{same_valid}
 use Rattle.chain_arena.proofs.Draining.{link_at-entry}
 use Rattle.chain_arena.proofs.impl_chain_arena_trait.ChainArenaChainArenaTrait.get_link_no_gen.Goals as goal
 

@@ -1,6 +1,6 @@
 -- The pair is pushed, where there is room.
 use Rattle.std.proofs.Common.{is_ok}
-use Rattle.chain_layout.proofs.Watching.{listed_by_push}
+use Rattle.chain_compaction.proofs.Watching.{listed_by_push}
 use Rattle.chain_arena.proofs.visiting.ListingVisitor.visit.Goals as goal
 
 pub returns-clause-seen : goal.returns-clause-seen

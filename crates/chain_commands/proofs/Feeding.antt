@@ -1,0 +1,213 @@
+-- Lemmas on lines that come in pieces.
+use Rattle.std.proofs.Common.{◌≡◌, ℕ, ◌+◌, ◌<◌, ◌≤◌, ◌==◌, Bool, true, false, nat_lt, cond, not, List, [], ◌∷◌, ◌++◌, length, take, drop, take_while, refl, sym, ap, ◌∙◌, subst, append_assoc, append-nil, one-add, arith, rules}
+use Rattle.std.specs.Prelude.{◌-◌, leb, min, All}
+use Rattle.std.proofs.lemmas.Bool.{lt-ltb, leb-true, leb-false}
+use Rattle.std.proofs.lemmas.List.{take_all, take-append-le, length-take}
+use Rattle.std.proofs.lemmas.List.Elements.{All-nil, All-cons, All-head, All-tail}
+use Rattle.std.proofs.lemmas.List.Folds.{length-prefix_len}
+use Rattle.std.proofs.Math.Seq.{take-append-add}
+use Rattle.std.specs.List.{onto_first, position_or_len}
+use Rattle.chain_commands.specs.Words.{lines_of, whole_lines, all_but_last, words_of, without_return}
+use Rattle.chain_commands.specs.Commands.{line_of, line_of_words}
+use Rattle.chain_commands.specs.Progress.{EndsFirst, IsNoEnd}
+use Rattle.chain_commands.specs.declared.command.Line.TheVariants as lines
+
+-- what is kept of a line, with as much of more as there is room for
+pub kept_more : (n m : ℕ) (kept rest more : List ℕ) → kept ≡ take n rest → m ≡ min (length more) (n - length kept) → kept ++ take m more ≡ take n (rest ++ more)
+kept_more n m kept rest more is room = by_length (leb n (length rest)) refl
+  where
+    len : length kept ≡ min n (length rest)
+    len = ap length is ∙ length-take n rest
+
+    by_length : (b : Bool) → leb n (length rest) ≡ b → kept ++ take m more ≡ take n (rest ++ more)
+    by_length true e =
+        let long = leb-true n (length rest) e in
+        let none : m ≡ 0 = omega (arith, len, room, long) in
+        ap (λ k. kept ++ take k more) none ∙ append-nil kept ∙ is ∙ sym (take-append-le n rest more long)
+    by_length false e =
+        let short = leb-false n (length rest) e in
+        let all : kept ≡ rest = is ∙ take_all n rest (omega (arith, short)) in
+        let counted : n ≡ length rest + (n - length rest) = omega (arith, short) in
+        let same : take m more ≡ take (n - length rest) more = by_room (leb (length more) (n - length rest)) refl (room ∙ ap (λ l. min (length more) (n - length l)) all) in
+        ap (λ l. l ++ take m more) all ∙ ap (λ l. rest ++ l) same ∙ sym (ap (λ k. take k (rest ++ more)) counted ∙ take-append-add rest more (n - length rest))
+      where
+        by_room : (b : Bool) → leb (length more) (n - length rest) ≡ b → m ≡ min (length more) (n - length rest) → take m more ≡ take (n - length rest) more
+        by_room true fits is_min =
+            let within = leb-true (length more) (n - length rest) fits in
+            take_all m more (omega (arith, within, is_min)) ∙ sym (take_all (n - length rest) more within)
+        by_room false beyond is_min = ap (λ k. take k more) (omega (arith, leb-false (length more) (n - length rest) beyond, is_min))
+
+-- what a line says, its first 201 bytes say
+pub line_of-take : (rest : List ℕ) → line_of (take 201 rest) ≡ line_of rest
+line_of-take rest = by_length (nat_lt 201 (length rest)) refl
+  where
+    bad : (line : List ℕ) → 200 < length line → line_of line ≡ lines.Bad
+    bad line long = ap (λ b. cond b lines.Bad (line_of_words (words_of (without_return line)))) (lt-ltb 200 (length line) long)
+
+    shorter : nat_lt 201 (length rest) ≡ false → length rest ≤ 201
+    shorter e = search rules
+
+    longer : nat_lt 201 (length rest) ≡ true → 201 < length rest
+    longer e = search rules
+
+    by_length : (b : Bool) → nat_lt 201 (length rest) ≡ b → line_of (take 201 rest) ≡ line_of rest
+    by_length true e = let long = longer e in bad (take 201 rest) (rw length-take (omega arith)) ∙ sym (bad rest (omega arith))
+    by_length false e = ap line_of (take_all 201 rest (shorter e))
+
+-- ---- lines
+
+abbrev some_line : List (List ℕ) → Type 0
+some_line [] = ⊥
+some_line (line ∷ others) = Unit {0}
+
+lines_of-some : (text : List ℕ) → some_line (lines_of text)
+lines_of-some [] = tt
+lines_of-some (c ∷ text) = by_test (c == 10) (lines_of text) (lines_of-some text)
+  where
+    by_test : (b : Bool) (pieces : List (List ℕ)) → some_line pieces → some_line (cond b ([] ∷ pieces) (onto_first c pieces))
+    by_test true pieces some = tt
+    by_test false [] some = tt
+    by_test false (piece ∷ pieces) some = tt
+
+onto_first-append : (c : ℕ) (pieces others : List (List ℕ)) → some_line pieces → onto_first c (pieces ++ others) ≡ onto_first c pieces ++ others
+onto_first-append c [] others some = absurd some
+onto_first-append c (piece ∷ pieces) others some = refl
+
+-- a line feed ends a line
+pub lines_of-end : (text more : List ℕ) → lines_of (text ++ 10 ∷ more) ≡ lines_of text ++ lines_of more
+lines_of-end [] more = refl
+lines_of-end (c ∷ text) more = by_test (c == 10) (lines_of-end text more)
+  where
+    by_test : (b : Bool) → lines_of (text ++ 10 ∷ more) ≡ lines_of text ++ lines_of more
+        → cond b ([] ∷ lines_of (text ++ 10 ∷ more)) (onto_first c (lines_of (text ++ 10 ∷ more))) ≡ cond b ([] ∷ lines_of text) (onto_first c (lines_of text)) ++ lines_of more
+    by_test true rest = ap (λ l. [] ∷ l) rest
+    by_test false rest = ap (onto_first c) rest ∙ onto_first-append c (lines_of text) (lines_of more) (lines_of-some text)
+
+abbrev onto_last : ℕ → List (List ℕ) → List (List ℕ)
+onto_last c [] = []
+onto_last c (piece ∷ []) = (piece ++ c ∷ []) ∷ []
+onto_last c (piece ∷ next ∷ pieces) = piece ∷ onto_last c (next ∷ pieces)
+
+onto_last-cons : (c : ℕ) (piece : List ℕ) (pieces : List (List ℕ)) → some_line pieces → onto_last c (piece ∷ pieces) ≡ piece ∷ onto_last c pieces
+onto_last-cons c piece [] some = absurd some
+onto_last-cons c piece (next ∷ pieces) some = refl
+
+onto_first-last : (c d : ℕ) (pieces : List (List ℕ)) → some_line pieces → onto_first d (onto_last c pieces) ≡ onto_last c (onto_first d pieces)
+onto_first-last c d [] some = absurd some
+onto_first-last c d (piece ∷ []) some = refl
+onto_first-last c d (piece ∷ next ∷ pieces) some = refl
+
+-- another byte goes on with the last line
+lines_of-on : (text : List ℕ) (c : ℕ) → (c == 10) ≡ false → lines_of (text ++ c ∷ []) ≡ onto_last c (lines_of text)
+lines_of-on [] c other = ap (λ b. cond b ([] ∷ [] ∷ []) ((c ∷ []) ∷ [])) other
+lines_of-on (d ∷ text) c other = by_test (d == 10) (lines_of-on text c other)
+  where
+    by_test : (b : Bool) → lines_of (text ++ c ∷ []) ≡ onto_last c (lines_of text)
+        → cond b ([] ∷ lines_of (text ++ c ∷ [])) (onto_first d (lines_of (text ++ c ∷ []))) ≡ onto_last c (cond b ([] ∷ lines_of text) (onto_first d (lines_of text)))
+    by_test true rest = ap (λ l. [] ∷ l) rest ∙ sym (onto_last-cons c [] (lines_of text) (lines_of-some text))
+    by_test false rest = ap (onto_first d) rest ∙ onto_first-last c d (lines_of text) (lines_of-some text)
+
+onto_last-append : (c : ℕ) (lines : List (List ℕ)) (rest : List ℕ) → onto_last c (lines ++ rest ∷ []) ≡ lines ++ (rest ++ c ∷ []) ∷ []
+onto_last-append c [] rest = refl
+onto_last-append c (line ∷ []) rest = refl
+onto_last-append c (line ∷ next ∷ lines) rest = ap (λ l. line ∷ l) (onto_last-append c (next ∷ lines) rest)
+
+pub cut-on : (text : List ℕ) (c : ℕ) (lines : List (List ℕ)) (rest : List ℕ) → (c == 10) ≡ false → lines_of text ≡ lines ++ rest ∷ [] → lines_of (text ++ c ∷ []) ≡ lines ++ (rest ++ c ∷ []) ∷ []
+cut-on text c lines rest other cut = lines_of-on text c other ∙ ap (onto_last c) cut ∙ onto_last-append c lines rest
+
+-- .. and so do others, where none of them is a line feed
+pub cut-more : (more text : List ℕ) (lines : List (List ℕ)) (rest : List ℕ) → All IsNoEnd more → lines_of text ≡ lines ++ rest ∷ [] → lines_of (text ++ more) ≡ lines ++ (rest ++ more) ∷ []
+cut-more [] text lines rest all cut = ap lines_of (append-nil text) ∙ cut ∙ ap (λ r. lines ++ r ∷ []) (sym (append-nil rest))
+cut-more (c ∷ more) text lines rest all cut =
+    ap lines_of (sym (append_assoc text (c ∷ []) more))
+    ∙ cut-more more (text ++ c ∷ []) lines (rest ++ c ∷ []) (All-tail IsNoEnd c more all) (cut-on text c lines rest (All-head IsNoEnd c more all) cut)
+    ∙ ap (λ r. lines ++ r ∷ []) (append_assoc rest (c ∷ []) more)
+
+-- ---- the first line feed
+
+-- where the first line feed stands
+abbrev end_of : List ℕ → ℕ
+end_of text = position_or_len (λ c. c == 10) text
+
+-- a text in two parts, of which the second begins with the first line feed, if there is one
+abbrev AreParts : List ℕ → List ℕ → List ℕ → Type 0
+AreParts front [] text = All IsNoEnd text
+AreParts front (c ∷ back) text = EndsFirst front text back
+
+parts_at_end : (text : List ℕ) → AreParts (take (end_of text) text) (drop (end_of text) text) text
+parts_at_end [] = All-nil IsNoEnd
+parts_at_end (c ∷ text) = by_test (c == 10) refl (parts_at_end text)
+  where
+    is_end : (c == 10) ≡ true → c ≡ 10
+    is_end e = search rules
+
+    on : (c == 10) ≡ false → (front back : List ℕ) → AreParts front back text → AreParts (c ∷ front) back (c ∷ text)
+    on e front [] all = All-cons IsNoEnd c text e all
+    on e front (d ∷ back) found = record { parts = ap (λ l. c ∷ l) found.parts; first = All-cons IsNoEnd c front e found.first }
+
+    by_test : (b : Bool) → (c == 10) ≡ b → AreParts (take (end_of text) text) (drop (end_of text) text) text
+        → AreParts (take (cond (not b) (1 + end_of text) 0) (c ∷ text)) (drop (cond (not b) (1 + end_of text) 0) (c ∷ text)) (c ∷ text)
+    by_test true e rest = record { parts = ap (λ d. d ∷ text) (is_end e); first = All-nil IsNoEnd }
+    by_test false e rest = subst (λ n. AreParts (take n (c ∷ text)) (drop n (c ∷ text)) (c ∷ text)) (sym (one-add (end_of text))) (on e _ _ rest)
+
+module _ (text front rest : List ℕ) (n : ℕ) (at : n ≡ length (take_while (λ c. not (c == 10)) text)) (front_is : front ≡ take n text) (rest_is : rest ≡ drop n text) where
+  at_end : n ≡ end_of text
+  at_end = at ∙ length-prefix_len (λ c. not (c == 10)) text
+
+  parts_are : AreParts front rest text
+  parts_are =
+      subst (λ f. AreParts f rest text) (sym (front_is ∙ ap (λ k. take k text) at_end))
+      (subst (λ r. AreParts (take (end_of text) text) r text) (sym (rest_is ∙ ap (λ k. drop k text) at_end)) (parts_at_end text))
+
+  pub parts-some : (c : ℕ) (back : List ℕ) → rest ≡ c ∷ back → EndsFirst front text back
+  parts-some c back is = subst (λ r. AreParts front r text) is parts_are
+
+  pub parts-none : rest ≡ [] → All IsNoEnd text
+  parts-none is = subst (λ r. AreParts front r text) is parts_are
+
+-- the whole lines are those before the rest
+pub all_but_last-append : (lines : List (List ℕ)) (rest : List ℕ) → all_but_last (lines ++ rest ∷ []) ≡ lines
+all_but_last-append [] rest = refl
+all_but_last-append (line ∷ []) rest = refl
+all_but_last-append (line ∷ next ∷ lines) rest = ap (λ l. line ∷ l) (all_but_last-append (next ∷ lines) rest)
+
+-- lines that others follow are whole
+all_but_last-before : (lines others : List (List ℕ)) → some_line others → all_but_last (lines ++ others) ≡ lines ++ all_but_last others
+all_but_last-before [] others some = refl
+all_but_last-before (line ∷ []) [] some = absurd some
+all_but_last-before (line ∷ []) (other ∷ others) some = refl
+all_but_last-before (line ∷ next ∷ lines) others some = ap (λ l. line ∷ l) (all_but_last-before (next ∷ lines) others some)
+
+-- a line that a line feed ended is whole, as those before it are
+pub whole_lines-end : (text more : List ℕ) (lines : List (List ℕ)) (rest : List ℕ) → lines_of text ≡ lines ++ rest ∷ []
+    → whole_lines (text ++ 10 ∷ more) ≡ lines ++ rest ∷ whole_lines more
+whole_lines-end text more lines rest cut =
+    ap all_but_last (lines_of-end text more ∙ ap (λ l. l ++ lines_of more) cut)
+    ∙ all_but_last-before (lines ++ rest ∷ []) (lines_of more) (lines_of-some more) ∙ append_assoc lines (rest ∷ []) (whole_lines more)
+
+-- lines that were ended stay, whatever more is read
+lines_of-more : (more text : List ℕ) (lines : List (List ℕ)) (rest : List ℕ) → lines_of text ≡ lines ++ rest ∷ []
+    → (next : List ℕ) × (others : List (List ℕ)) × (lines_of (text ++ more) ≡ lines ++ next ∷ others)
+lines_of-more [] text lines rest cut = (rest, [], ap lines_of (append-nil text) ∙ cut)
+lines_of-more (c ∷ more) text lines rest cut = by_test (c == 10) refl (λ lines rest. lines_of-more more (text ++ c ∷ []) lines rest)
+  where
+    end_is : (c == 10) ≡ true → c ≡ 10
+    end_is e = search rules
+
+    by_test : (b : Bool) → (c == 10) ≡ b
+        → ((lines : List (List ℕ)) (rest : List ℕ) → lines_of (text ++ c ∷ []) ≡ lines ++ rest ∷ [] → (next : List ℕ) × (others : List (List ℕ)) × (lines_of ((text ++ c ∷ []) ++ more) ≡ lines ++ next ∷ others))
+        → (next : List ℕ) × (others : List (List ℕ)) × (lines_of (text ++ c ∷ more) ≡ lines ++ next ∷ others)
+    by_test true e on = (
+      rest,
+      lines_of more,
+      ap (λ d. lines_of (text ++ d ∷ more)) (end_is e) ∙ lines_of-end text more ∙ ap (λ l. l ++ lines_of more) cut ∙ append_assoc lines (rest ∷ []) (lines_of more),
+    )
+    by_test false e on =
+        let found = on lines (rest ++ c ∷ []) (cut-on text c lines rest e cut) in
+        (found.0, found.1, ap lines_of (sym (append_assoc text (c ∷ []) more)) ∙ found.2)
+
+-- .. and so do whole lines
+pub whole_lines-more : (more text : List ℕ) (lines : List (List ℕ)) (rest : List ℕ) → lines_of text ≡ lines ++ rest ∷ [] → (others : List (List ℕ)) × (whole_lines (text ++ more) ≡ lines ++ others)
+whole_lines-more more text lines rest cut =
+    let found = lines_of-more more text lines rest cut in
+    (all_but_last (found.0 ∷ found.1), ap all_but_last found.2 ∙ all_but_last-before lines (found.0 ∷ found.1) tt)

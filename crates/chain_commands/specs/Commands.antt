@@ -1,0 +1,154 @@
+-- The commands of the program, as lines write them.
+use Rattle.std.specs.Prelude.{ℕ, nat_lt, Bool, true, false, if◌then◌else◌, List, [], ◌∷◌, length, codes, bytes_eq, Option, Some, None, option_and_then}
+use Rattle.std.specs.Option.{option_map, option_or, option_zip}
+use Rattle.arena_ptr.specs.declared.index.inx32.Inx32.{Inx32}
+use Rattle.arena_ptr.specs.declared.tool_ptr.ToolPtr.{ToolPtr}
+use Rattle.arena_ptr.specs.declared.generation.gen32.Gen32.{Gen32}
+use Rattle.chain_arena.specs.declared.calls.Call.{Call}
+use Rattle.chain_arena.specs.declared.calls.Call.TheVariants.{Insert, InsertWithin, Connect, BreakPrev, BreakNext, ExchangeNext, Remove, RemoveInx, Invalidate, DrainChain, Clear, Compress, CompressCanonical, Reserve, SetGeneration, IncGeneration}
+use Rattle.chain_links.specs.declared.kinds.InsertKindBody.{InsertKindBody}
+use Rattle.chain_links.specs.declared.kinds.InsertKindBody.TheVariants as kinds
+use Rattle.chain_commands.specs.declared.command.Command.{Command}
+use Rattle.chain_commands.specs.declared.command.Command.TheVariants.{Change, Show, Chain, Len, Moves}
+use Rattle.chain_commands.specs.declared.command.Line.{Line}
+use Rattle.chain_commands.specs.declared.command.Line.TheVariants as lines
+use Rattle.chain_commands.specs.Words.{words_of, number_of, index_word, generation_word, pointer_of, without_return}
+
+-- kinds of a new link, beside links that pointers or indexes name
+abbrev pub Kind : Type 0
+Kind = InsertKindBody ToolPtr Inx32
+
+-- calls that may change the links
+abbrev pub LinkCall : Type 0
+LinkCall = Call ToolPtr ℕ Inx32 Gen32 ℕ
+
+-- arguments that are one word
+abbrev pub one_word : List (List ℕ) → Option (List ℕ)
+one_word [] = None
+one_word (word ∷ []) = Some word
+one_word (word ∷ next ∷ words) = None
+
+-- arguments that are one pointer
+abbrev pub one_pointer : List (List ℕ) → Option ToolPtr
+one_pointer words = option_and_then pointer_of (one_word words)
+
+-- arguments that are two pointers
+abbrev pub two_pointers : List (List ℕ) → Option (ToolPtr × ToolPtr)
+two_pointers [] = None
+two_pointers (word ∷ words) = option_zip (pointer_of word) (one_pointer words)
+
+-- arguments that are one pointer and one number
+abbrev pub pointer_and_number : List (List ℕ) → Option (ToolPtr × ℕ)
+pointer_and_number [] = None
+pointer_and_number (word ∷ words) = option_zip (pointer_of word) (option_and_then number_of (one_word words))
+
+-- no arguments
+abbrev pub no_arguments : List (List ℕ) → Option Unit
+no_arguments [] = Some tt
+no_arguments (word ∷ words) = None
+
+-- whether a compression begins the counter anew, or keeps on counting
+abbrev pub reset_word : List ℕ → Option Bool
+reset_word word =
+    if bytes_eq word (codes "reset") then Some true
+    else (if bytes_eq word (codes "keep") then Some false
+    else None)
+
+-- what is made of pointers, where these are some, or else of indexes
+abbrev pub by_either : {P I A : Type 0} → (P → A) → (I → A) → Option P → Option I → Option A
+by_either by_pointers by_indexes pointers indexes = option_or (option_map by_pointers pointers) (option_map by_indexes indexes)
+
+-- the removal of one link, by its pointer or by its index
+abbrev pub removal : List (List ℕ) → Option LinkCall
+removal words = option_and_then (λ word. by_either Remove RemoveInx (pointer_of word) (index_word word)) (one_word words)
+
+-- the kinds beside no link, by their names
+abbrev pub kind_alone : List ℕ → Option Kind
+kind_alone name =
+    if bytes_eq name (codes "alone") then Some kinds.Disconnected
+    else (if bytes_eq name (codes "ring") then Some kinds.SingleLinkCyclic
+    else None)
+
+-- the kinds beside one link
+abbrev pub kind_beside : List ℕ → List ℕ → Option Kind
+kind_beside name word =
+    let p = pointer_of word in
+    let i = index_word word in
+    if bytes_eq name (codes "end") then by_either kinds.ChainEnd kinds.ChainEndInx p i
+    else (if bytes_eq name (codes "start") then by_either kinds.ChainStart kinds.ChainStartInx p i
+    else (if bytes_eq name (codes "after") then by_either kinds.NextTo kinds.NextToInx p i
+    else (if bytes_eq name (codes "before") then by_either kinds.PrevTo kinds.PrevToInx p i
+    else None)))
+
+-- the kinds between two links, both named by pointers or both by indexes: after the first and before the second
+abbrev pub kind_between : List ℕ → List ℕ → List ℕ → Option Kind
+kind_between name first second =
+    let p = option_zip (pointer_of first) (pointer_of second) in
+    let i = option_zip (index_word first) (index_word second) in
+    if bytes_eq name (codes "between") then by_either (λ x. kinds.AtInterlink x.0 x.1) (λ x. kinds.AtInterlinkInx x.0 x.1) p i
+    else (if bytes_eq name (codes "bridge") then by_either (λ x. kinds.Bridge x.0 x.1) (λ x. kinds.BridgeInx x.0 x.1) p i
+    else None)
+
+-- the kind of a new link, with the links that it comes beside, and its value at the end
+abbrev pub kind_and_value : List (List ℕ) → Option (Kind × ℕ)
+kind_and_value (name ∷ value ∷ []) = option_zip (kind_alone name) (number_of value)
+kind_and_value (name ∷ x ∷ value ∷ []) = option_zip (kind_beside name x) (number_of value)
+kind_and_value (name ∷ x ∷ y ∷ value ∷ []) = option_zip (kind_between name x y) (number_of value)
+kind_and_value words = None
+
+-- the call on the room or the counter of a name and its arguments
+abbrev pub room_or_counter : List ℕ → List (List ℕ) → Option LinkCall
+room_or_counter name arguments =
+    if bytes_eq name (codes "reserve") then option_map Reserve (option_and_then number_of (one_word arguments))
+    else (if bytes_eq name (codes "setgen") then option_map SetGeneration (option_and_then generation_word (one_word arguments))
+    else (if bytes_eq name (codes "incgen") then option_map (λ none. IncGeneration) (no_arguments arguments)
+    else None))
+
+-- the renumbering of a name and its arguments, or else the call on the room or the counter
+abbrev pub renumbering : List ℕ → List (List ℕ) → Option LinkCall
+renumbering name arguments =
+    if bytes_eq name (codes "compress") then option_map Compress (option_and_then reset_word (one_word arguments))
+    else (if bytes_eq name (codes "canonical") then option_map CompressCanonical (option_and_then reset_word (one_word arguments))
+    else room_or_counter name arguments)
+
+-- the call of a name that takes links or their pointers away, and its arguments, or else the renumbering
+abbrev pub removing : List ℕ → List (List ℕ) → Option LinkCall
+removing name arguments =
+    if bytes_eq name (codes "remove") then removal arguments
+    else (if bytes_eq name (codes "invalidate") then option_map Invalidate (one_pointer arguments)
+    else (if bytes_eq name (codes "drain") then option_map (λ a. DrainChain a.0 a.1) (pointer_and_number arguments)
+    else (if bytes_eq name (codes "clear") then option_map (λ none. Clear) (no_arguments arguments)
+    else renumbering name arguments)))
+
+-- the call of a name and its arguments
+abbrev pub call_of : List ℕ → List (List ℕ) → Option LinkCall
+call_of name arguments =
+    if bytes_eq name (codes "add") then option_map (λ a. Insert a.0 a.1) (kind_and_value arguments)
+    else (if bytes_eq name (codes "addwithin") then option_map (λ a. InsertWithin a.0 a.1) (kind_and_value arguments)
+    else (if bytes_eq name (codes "connect") then option_map (λ p. Connect p.0 p.1) (two_pointers arguments)
+    else (if bytes_eq name (codes "breakprev") then option_map BreakPrev (one_pointer arguments)
+    else (if bytes_eq name (codes "breaknext") then option_map BreakNext (one_pointer arguments)
+    else (if bytes_eq name (codes "exchange") then option_map (λ p. ExchangeNext p.0 p.1) (two_pointers arguments)
+    else removing name arguments)))))
+
+-- the command of a name and its arguments
+abbrev pub command_of : List ℕ → List (List ℕ) → Option Command
+command_of name arguments =
+    if bytes_eq name (codes "show") then option_map Show (one_pointer arguments)
+    else (if bytes_eq name (codes "chain") then option_map Chain (one_pointer arguments)
+    else (if bytes_eq name (codes "len") then option_map (λ none. Len) (no_arguments arguments)
+    else (if bytes_eq name (codes "moves") then option_map Moves (option_and_then reset_word (one_word arguments))
+    else option_map Change (call_of name arguments))))
+
+abbrev pub line_with : Option Command → Line
+line_with None = lines.Bad
+line_with (Some command) = lines.Good command
+
+-- a line of these words
+abbrev pub line_of_words : List (List ℕ) → Line
+line_of_words [] = lines.Blank
+line_of_words (name ∷ arguments) = line_with (command_of name arguments)
+
+-- what a line says: no line of more than 200 bytes is a command
+abbrev pub line_of : List ℕ → Line
+line_of line = if nat_lt 200 (length line) then lines.Bad else line_of_words (words_of (without_return line))

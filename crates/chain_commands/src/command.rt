@@ -1,0 +1,318 @@
+//! Commands, and the lines that write them.
+ghost use Rattle.std.specs.Prelude.{◌≡◌, bytes_eq, option_map};
+ghost use Rattle.chain_links.specs.declared.kinds.InsertKindBody.TheVariants.{AtInterlink, AtInterlinkInx, Bridge, BridgeInx};
+ghost use Rattle.chain_commands.specs.Words.{words_of};
+ghost use Rattle.chain_commands.specs.Commands.{one_word, one_pointer, two_pointers, pointer_and_number, no_arguments, reset_word, by_either, removal, kind_alone, kind_beside, kind_between, kind_and_value, room_or_counter, renumbering, removing, call_of, command_of, line_of};
+
+use crate::words::{generation, index, next_word, number, pointer, without_return};
+use arena_ptr::{Inx32, ToolPtr};
+use chain_arena::{Call, LinkInsertKind};
+
+/// A command, with its arguments.
+#[derive(Drop)]
+pub enum Command {
+    /// A call that may change the links.
+    Change(Call<ToolPtr, u32>),
+    /// `show P`: the link and its neighbours.
+    Show(ToolPtr),
+    /// `chain P`: the walk from the link.
+    Chain(ToolPtr),
+    /// `len`: the number of links.
+    Len,
+    /// `moves F`: the chains are laid one after another, and each link's old and new pointer is told.
+    Moves(bool),
+}
+
+/// What a line says.
+#[derive(Drop)]
+pub enum Line {
+    /// Nothing: it has no words.
+    Blank,
+    /// No command.
+    Bad,
+    /// A command to carry out.
+    Good(Command),
+}
+
+/// What a line says.
+pub fn parse(line: &[u8]) -> Line
+    ensures { result ≡ line_of line.now }
+{
+    if line.len() > 200 {
+        return Line::Bad;
+    }
+    match next_word(without_return(line)) {
+        None => Line::Blank,
+        Some((name, arguments)) => match named(name, arguments) {
+            None => Line::Bad,
+            Some(command) => Line::Good(command),
+        },
+    }
+}
+
+/// The command of a name and the arguments after it.
+fn named(name: &[u8], arguments: &[u8]) -> Option<Command>
+    ensures { result ≡ command_of name.now (words_of arguments.now) }
+{
+    if is(name, "show") {
+        Some(Command::Show(one_pointer(arguments)?))
+    } else if is(name, "chain") {
+        Some(Command::Chain(one_pointer(arguments)?))
+    } else if is(name, "len") {
+        no_arguments(arguments)?;
+        Some(Command::Len)
+    } else if is(name, "moves") {
+        Some(Command::Moves(reset(one_word(arguments)?)?))
+    } else {
+        Some(Command::Change(call(name, arguments)?))
+    }
+}
+
+/// The call of a name and the arguments after it.
+fn call(name: &[u8], arguments: &[u8]) -> Option<Call<ToolPtr, u32>>
+    ensures { result ≡ call_of name.now (words_of arguments.now) }
+{
+    if is(name, "add") {
+        let (kind, t) = kind_and_value(arguments)?;
+        Some(Call::Insert { kind, t })
+    } else if is(name, "addwithin") {
+        let (kind, t) = kind_and_value(arguments)?;
+        Some(Call::InsertWithin { kind, t })
+    } else if is(name, "connect") {
+        let (p, q) = two_pointers(arguments)?;
+        Some(Call::Connect(p, q))
+    } else if is(name, "breakprev") {
+        Some(Call::BreakPrev(one_pointer(arguments)?))
+    } else if is(name, "breaknext") {
+        Some(Call::BreakNext(one_pointer(arguments)?))
+    } else if is(name, "exchange") {
+        let (p, q) = two_pointers(arguments)?;
+        Some(Call::ExchangeNext(p, q))
+    } else {
+        removing(name, arguments)
+    }
+}
+
+/// The call of a name that takes links or their pointers away, and the arguments after it, or else the renumbering.
+fn removing(name: &[u8], arguments: &[u8]) -> Option<Call<ToolPtr, u32>>
+    ensures { result ≡ removing name.now (words_of arguments.now) }
+{
+    if is(name, "remove") {
+        removal(arguments)
+    } else if is(name, "invalidate") {
+        Some(Call::Invalidate(one_pointer(arguments)?))
+    } else if is(name, "drain") {
+        let (p, take) = pointer_and_number(arguments)?;
+        Some(Call::DrainChain { p, take })
+    } else if is(name, "clear") {
+        no_arguments(arguments)?;
+        Some(Call::Clear)
+    } else {
+        renumbering(name, arguments)
+    }
+}
+
+/// The renumbering of a name and the arguments after it, or else the call on the room or the counter.
+fn renumbering(name: &[u8], arguments: &[u8]) -> Option<Call<ToolPtr, u32>>
+    ensures { result ≡ renumbering name.now (words_of arguments.now) }
+{
+    if is(name, "compress") {
+        Some(Call::Compress(reset(one_word(arguments)?)?))
+    } else if is(name, "canonical") {
+        Some(Call::CompressCanonical(reset(one_word(arguments)?)?))
+    } else {
+        room_or_counter(name, arguments)
+    }
+}
+
+/// The call on the room or the counter of a name and the arguments after it.
+fn room_or_counter(name: &[u8], arguments: &[u8]) -> Option<Call<ToolPtr, u32>>
+    ensures { result ≡ room_or_counter name.now (words_of arguments.now) }
+{
+    if is(name, "reserve") {
+        Some(Call::Reserve(number(one_word(arguments)?)? as usize))
+    } else if is(name, "setgen") {
+        Some(Call::SetGeneration(generation(one_word(arguments)?)?))
+    } else if is(name, "incgen") {
+        no_arguments(arguments)?;
+        Some(Call::IncGeneration)
+    } else {
+        None
+    }
+}
+
+/// Whether a word is this text.
+fn is(word: &[u8], text: &str) -> bool
+    ensures { result ≡ bytes_eq word.now text.now }
+{
+    word == text.as_bytes()
+}
+
+/// The kind of a new link, with the links that it comes beside, and its value at the end.
+fn kind_and_value(arguments: &[u8]) -> Option<(LinkInsertKind<ToolPtr>, u32)>
+    ensures { result ≡ kind_and_value (words_of arguments.now) }
+{
+    let (name, arguments) = next_word(arguments)?;
+    let (first, arguments) = next_word(arguments)?;
+    let Some((second, arguments)) = next_word(arguments) else {
+        return kind_alone(name).zip(number(first));
+    };
+    let Some((third, arguments)) = next_word(arguments) else {
+        return kind_beside(name, first).zip(number(second));
+    };
+    match next_word(arguments) {
+        None => kind_between(name, first, second).zip(number(third)),
+        Some(_) => None,
+    }
+}
+
+/// The kind of this name beside no link.
+fn kind_alone(name: &[u8]) -> Option<LinkInsertKind<ToolPtr>>
+    ensures { result ≡ kind_alone name.now }
+{
+    if is(name, "alone") {
+        Some(LinkInsertKind::Disconnected)
+    } else if is(name, "ring") {
+        Some(LinkInsertKind::SingleLinkCyclic)
+    } else {
+        None
+    }
+}
+
+/// The kind of this name beside one link: a pointer, or an index.
+fn kind_beside(name: &[u8], word: &[u8]) -> Option<LinkInsertKind<ToolPtr>>
+    ensures { result ≡ kind_beside name.now word.now }
+{
+    let p = pointer(word);
+    let i = index(word);
+    if is(name, "end") {
+        p.map(LinkInsertKind::ChainEnd)
+            .or(i.map(LinkInsertKind::ChainEndInx))
+    } else if is(name, "start") {
+        p.map(LinkInsertKind::ChainStart)
+            .or(i.map(LinkInsertKind::ChainStartInx))
+    } else if is(name, "after") {
+        p.map(LinkInsertKind::NextTo)
+            .or(i.map(LinkInsertKind::NextToInx))
+    } else if is(name, "before") {
+        p.map(LinkInsertKind::PrevTo)
+            .or(i.map(LinkInsertKind::PrevToInx))
+    } else {
+        None
+    }
+}
+
+/// The kind of this name between two links: two pointers, or two indexes.
+fn kind_between(name: &[u8], first: &[u8], second: &[u8]) -> Option<LinkInsertKind<ToolPtr>>
+    ensures { result ≡ kind_between name.now first.now second.now }
+{
+    let p = pointer(first).zip(pointer(second));
+    let i = index(first).zip(index(second));
+    if is(name, "between") {
+        between(p, i)
+    } else if is(name, "bridge") {
+        bridge(p, i)
+    } else {
+        None
+    }
+}
+
+/// The kind between two neighbours.
+fn between(
+    pointers: Option<(ToolPtr, ToolPtr)>,
+    indexes: Option<(Inx32, Inx32)>,
+) -> Option<LinkInsertKind<ToolPtr>>
+    ensures { result ≡ by_either (λ x. AtInterlink x.0 x.1) (λ x. AtInterlinkInx x.0 x.1) pointers indexes }
+{
+    match pointers {
+        Some((next_to, prev_to)) => Some(LinkInsertKind::AtInterlink { next_to, prev_to }),
+        None => {
+            let (next_to, prev_to) = indexes?;
+            Some(LinkInsertKind::AtInterlinkInx { next_to, prev_to })
+        }
+    }
+}
+
+/// The kind after an end and before a start.
+fn bridge(
+    pointers: Option<(ToolPtr, ToolPtr)>,
+    indexes: Option<(Inx32, Inx32)>,
+) -> Option<LinkInsertKind<ToolPtr>>
+    ensures { result ≡ by_either (λ x. Bridge x.0 x.1) (λ x. BridgeInx x.0 x.1) pointers indexes }
+{
+    match pointers {
+        Some((end, start)) => Some(LinkInsertKind::Bridge { end, start }),
+        None => {
+            let (end, start) = indexes?;
+            Some(LinkInsertKind::BridgeInx { end, start })
+        }
+    }
+}
+
+/// Where there are no arguments.
+fn no_arguments(arguments: &[u8]) -> Option<()>
+    ensures { result ≡ no_arguments (words_of arguments.now) }
+{
+    match next_word(arguments) {
+        None => Some(()),
+        Some(_) => None,
+    }
+}
+
+/// Whether a compression begins the counter anew.
+fn reset(word: &[u8]) -> Option<bool>
+    ensures { result ≡ reset_word word.now }
+{
+    if is(word, "reset") {
+        Some(true)
+    } else if is(word, "keep") {
+        Some(false)
+    } else {
+        None
+    }
+}
+
+/// The removal of the link of a pointer, or of the link at an index.
+fn removal(arguments: &[u8]) -> Option<Call<ToolPtr, u32>>
+    ensures { result ≡ removal (words_of arguments.now) }
+{
+    let word = one_word(arguments)?;
+    match pointer(word) {
+        Some(p) => Some(Call::Remove(p)),
+        None => Some(Call::RemoveInx(index(word)?)),
+    }
+}
+
+/// The arguments, where they are one word.
+fn one_word(arguments: &[u8]) -> Option<&[u8]>
+    ensures { option_map (λ word. word.now) result ≡ one_word (words_of arguments.now) }
+{
+    let (word, rest) = next_word(arguments)?;
+    match next_word(rest) {
+        None => Some(word),
+        Some(_) => None,
+    }
+}
+
+/// The arguments, where they are one pointer.
+fn one_pointer(arguments: &[u8]) -> Option<ToolPtr>
+    ensures { result ≡ one_pointer (words_of arguments.now) }
+{
+    pointer(one_word(arguments)?)
+}
+
+/// The arguments, where they are two pointers.
+fn two_pointers(arguments: &[u8]) -> Option<(ToolPtr, ToolPtr)>
+    ensures { result ≡ two_pointers (words_of arguments.now) }
+{
+    let (word, rest) = next_word(arguments)?;
+    Some((pointer(word)?, one_pointer(rest)?))
+}
+
+/// The arguments, where they are one pointer and one number.
+fn pointer_and_number(arguments: &[u8]) -> Option<(ToolPtr, usize)>
+    ensures { result ≡ pointer_and_number (words_of arguments.now) }
+{
+    let (word, rest) = next_word(arguments)?;
+    Some((pointer(word)?, number(one_word(rest)?)? as usize))
+}

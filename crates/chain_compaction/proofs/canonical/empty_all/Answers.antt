@@ -1,0 +1,49 @@
+-- One more has no destination, and at the end none has.
+use Rattle.std.proofs.Common.{◌≡◌, length, refl, ap, ◌∙◌, arith}
+use Rattle.arena_base.specs.Closing.{with_totals}
+use Rattle.chain_compaction.specs.Numbering.{seen_held}
+use Rattle.chain_compaction.proofs.Emptying.{emptied, emptying_begins, emptying_goes_on, emptying_ends, touches_none, touches_more}
+use Rattle.chain_compaction.proofs.Lending.{same_then, counts_on}
+use Rattle.chain_compaction.proofs.Tallying.{counts_none}
+use Rattle.chain_compaction.proofs.canonical.empty_all.Goals as goal
+
+pub loop-k-init : goal.loop-k-init
+loop-k-init g c =
+    let old = c.args.compactor.now in
+    record {
+      same_reference = refl {a = old.arena.ghost_name};
+      seen = refl {a = seen_held g.P.Inx.InxKey.packed_number old.held};
+      empty = emptying_begins g.P.Inx.InxKey.packed_number old.held.slots;
+      totals = touches_none old.arena.now;
+      counts = counts_none old.arena.now old.placed old.touched;
+    }
+
+pub loop-k-preserved : goal.loop-k-preserved
+loop-k-preserved g c =
+    let inv = c.loop-k.invariant in
+    let after = c.direct_at.ensures in
+    let old = c.args.compactor.now in
+    let now = c.loop-k.compactor in
+    let next = c.direct_at.new.compactor in
+    let told = emptied g.P.Inx.InxKey.packed_number (g.P.Inx.InxKey.number c.inx_at.result) c.loop-k.compactor.held c.direct_at.new.compactor.held after.directed in
+    record {
+      same_reference = same_then old now next inv.same_reference after.same_reference;
+      seen = told.0 ∙ inv.seen;
+      empty = emptying_goes_on g.P.Inx.InxKey.packed_number c.loop-k.compactor.held.slots c.direct_at.new.compactor.held.slots c.loop-k.k (g.P.Inx.InxKey.number c.inx_at.result) c.inx_at.ensures
+          inv.empty told.1 told.2;
+      totals = touches_more c.args.compactor.now.arena.now c.loop-k.compactor.arena.now c.direct_at.new.compactor.arena.now c.loop-k.k inv.totals after.arena;
+      counts = counts_on old now next inv.counts after.counts;
+    }
+
+pub returns : goal.returns
+returns g c =
+    let old = c.args.compactor.now in
+    let inv = c.loop-k.invariant in
+    let all : c.loop-k.k ≡ length old.held.slots = omega arith in
+    record {
+      same_reference = inv.same_reference;
+      seen = inv.seen;
+      empty = emptying_ends g.P.Inx.InxKey.packed_number old.held c.loop-k.compactor.held inv.seen (λ j low. inv.empty j (omega (arith, low, all)));
+      totals = inv.totals ∙ ap (with_totals old.arena.now 0) all;
+      counts = inv.counts;
+    }

@@ -1,0 +1,75 @@
+-- Each link gets its destination, names those of its neighbors, and moves there; what is left of the slots is exactly the
+-- links, and the work is what the arena has counted.
+use Rattle.std.proofs.Common.{rules, ◌≡◌, ◌+◌, length, sym, ap, ◌∙◌, arith}
+use Rattle.arena_base.specs.Closing.{with_totals}
+use Rattle.chain_compaction.specs.Numbering.{seen_held}
+use Rattle.chain_compaction.proofs.Numbered.{length-seen}
+use Rattle.chain_compaction.proofs.Layouts.{three_counted, length-renamed, agree-seen, links_can_move, last_packed, links_laid, work_told}
+use Rattle.chain_compaction.proofs.canonical.lay_out.Goals as goal
+
+pub number_all-visitor-requires-clause-agree : goal.number_all-visitor-requires-clause-agree
+number_all-visitor-requires-clause-agree g c = agree-seen g.P.Inx.InxKey.packed_number c.args.arena.now _ _ c.compactor-compactor.ensures.held c.empty_all.ensures.seen c.requires.agree
+
+pub number_all-visitor-requires-clause-fits : goal.number_all-visitor-requires-clause-fits
+number_all-visitor-requires-clause-fits g c =
+    omega (
+      arith,
+      length-seen g.P.Inx.InxKey.packed_number c.empty_all.new.compactor.held c.compactor-compactor.result.held c.empty_all.ensures.seen,
+      ap (λ h. length h.slots) c.compactor-compactor.ensures.held,
+      c.compactor-compactor.ensures.fits,
+    )
+
+pub move_all-requires-clause-fits : goal.move_all-requires-clause-fits
+move_all-requires-clause-fits g c =
+    omega (
+      arith,
+      length-renamed g.P.Inx.InxKey.packed_number _ c.number_all-visitor.new.compactor.held c.empty_all.new.compactor.held c.number_all-visitor.ensures.numbered.renamed,
+      length-seen g.P.Inx.InxKey.packed_number c.empty_all.new.compactor.held c.compactor-compactor.result.held c.empty_all.ensures.seen,
+      ap (λ h. length h.slots) c.compactor-compactor.ensures.held,
+      c.compactor-compactor.ensures.fits,
+    )
+
+pub move_all-requires-clause-can : goal.move_all-requires-clause-can
+move_all-requires-clause-can g c =
+    links_can_move g.V.Visitor.sees g.P.PtrKey.key c.args.visitor c.number_all-visitor.result.0 g.P.Inx.InxKey.packed_number c.generation-generation.result
+    c.empty_all.new.compactor.held c.number_all-visitor.new.compactor.held c.args.arena.now c.empty_all.new.compactor.arena.now c.number_all-visitor.new.compactor.arena.now c.number_all-visitor.result.1
+    (c.empty_all.ensures.seen ∙ ap (seen_held g.P.Inx.InxKey.packed_number) c.compactor-compactor.ensures.held) c.number_all-visitor.ensures.numbered
+
+pub finish_packed-requires : goal.finish_packed-requires
+finish_packed-requires g c =
+    last_packed g.V.Visitor.sees g.P.PtrKey.key c.args.visitor c.number_all-visitor.result.0 g.P.Inx.InxKey.packed_number c.generation-generation.result
+    c.empty_all.new.compactor.held c.number_all-visitor.new.compactor.held c.args.arena.now c.empty_all.new.compactor.arena.now c.number_all-visitor.new.compactor.arena.now c.number_all-visitor.result.1
+    (c.empty_all.ensures.seen ∙ ap (seen_held g.P.Inx.InxKey.packed_number) c.compactor-compactor.ensures.held) c.number_all-visitor.ensures.numbered c.move_all.new.compactor.held c.move_all.ensures.moved
+
+pub returns : goal.returns
+returns g c =
+    let number = g.P.Inx.InxKey.packed_number in
+    let generation = c.generation-generation.result in
+    let first = c.compactor-compactor in
+    let empty = c.empty_all.new.compactor in
+    let numbered = c.number_all-visitor.new.compactor in
+    let visitor = c.number_all-visitor.result.0 in
+    let moved = c.move_all.new.compactor in
+    let seen = c.empty_all.ensures.seen ∙ ap (seen_held number) first.ensures.held in
+    let emptying = c.empty_all.ensures.totals ∙ (λ i. with_totals (first.ensures.arena i) 0 (length (first.ensures.held i).slots)) in
+    let told =
+    work_told g.V.Visitor.sees g.P.PtrKey.key c.args.visitor visitor number generation empty.held numbered.held c.args.arena.now empty.arena.now numbered.arena.now c.number_all-visitor.result.1
+    seen c.number_all-visitor.ensures.numbered moved.held c.move_all.ensures.moved
+    g.P.Inx.InxKey.greatest g.S.SlotStack.initial_maximum moved.arena.now c.move_all.ensures.capacity c.move_all.ensures.maximum emptying
+    c.move_all.ensures.totals first.result.arena.now moved.placed moved.touched first.ensures.arena
+    (three_counted first.result.arena.now empty.arena.now numbered.arena.now moved.arena.now first.result.placed empty.placed numbered.placed moved.placed
+    first.result.touched empty.touched numbered.touched moved.touched first.ensures.placed first.ensures.touched
+    c.empty_all.ensures.counts c.number_all-visitor.ensures.counts c.move_all.ensures.counts)
+    first.ensures.fits g.met.P.Inx.InxKey.greatest_fits in
+    let placed : moved.arena.now.placed ≡ c.args.arena.now.placed + c.finish_packed.result.placed = told.0 ∙ ap (λ n. c.args.arena.now.placed + n) (sym c.finish_packed.ensures.placed) in
+    let touched : moved.arena.now.touched ≡ c.args.arena.now.touched + c.finish_packed.result.touched = told.1 ∙ ap (λ n. c.args.arena.now.touched + n) (sym c.finish_packed.ensures.touched) in
+    record {
+      ready = c.number_all-visitor.ensures.ready;
+      laid =
+          links_laid g.V.Visitor.sees g.P.PtrKey.key c.args.visitor visitor number generation empty.held numbered.held c.args.arena.now empty.arena.now numbered.arena.now c.number_all-visitor.result.1
+          seen c.number_all-visitor.ensures.numbered moved.held c.move_all.ensures.moved
+          g.P.Inx.InxKey.greatest g.S.SlotStack.initial_maximum moved.arena.now c.move_all.ensures.capacity c.move_all.ensures.maximum emptying
+          c.move_all.ensures.totals c.invariants.ensures.room.1 c.generation-generation.ensures _ (search rules);
+      placed = search rules;
+      touched = search rules;
+    }

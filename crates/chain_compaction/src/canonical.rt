@@ -1,0 +1,58 @@
+// Links laid out canonically in place: each chain one run, the chains one after another from index 1 on.
+ghost use Rattle.std.specs.Prelude.{◌≡◌, ◌≤◌, ◌+◌, ℕ, None, length};
+ghost use Rattle.chain_laws.specs.Chains.{Agrees};
+ghost use Rattle.arena_base.specs.Closing.{with_totals};
+ghost use Rattle.chain_links.specs.ChainArena.{shown};
+ghost use Rattle.chain_links.specs.Links.{seen_links};
+ghost use Rattle.chain_compaction.specs.Counts.{CountsOn};
+ghost use Rattle.chain_compaction.specs.Layouts.{AreLaidOut};
+ghost use Rattle.chain_compaction.specs.Numbering.{seen_held, given};
+
+use crate::looking::direct_at;
+use crate::moving::move_all;
+use crate::numbering::number_all;
+use crate::visiting::Visitor;
+use arena_base::{Arena, ArenaSlot, Compactor, Work, inx_at};
+use arena_ptr::{PtrKey, SlotStack};
+use chain_links::LinkNoGen;
+
+/// Takes all destinations away.
+pub fn empty_all<P: PtrKey, T: Drop, S: SlotStack<Item = ArenaSlot<P, LinkNoGen<P, T>>>>(
+    compactor: &mut Compactor<'_, P, LinkNoGen<P, T>, S>,
+)
+    requires fits { length compactor.old.held.slots ≤ P.Inx.greatest }
+    ensures same_reference { compactor.new.arena.ghost_name ≡ compactor.old.arena.ghost_name }
+    ensures seen { seen_held P.Inx.packed_number compactor.new.held ≡ seen_held P.Inx.packed_number compactor.old.held }
+    ensures empty { (j : ℕ) → given P.Inx.packed_number compactor.new.held.slots j ≡ None }
+    ensures totals { compactor.new.arena.now ≡ with_totals compactor.old.arena.now 0 (length compactor.old.held.slots) }
+    ensures counts { CountsOn compactor.old.arena.now compactor.new.arena.now compactor.old.placed compactor.old.touched compactor.new.placed compactor.new.touched }
+{
+    for k in 0..compactor.slots() {
+        direct_at(compactor, inx_at::<P>(k), None);
+    }
+}
+
+/// Lays the links out: each gets its destination, names those of its neighbors, and moves there, with the counter as its
+/// generation. The visitor sees each, by the pointer that it had and the one that it has, and is ready for others then. The
+/// slots are exactly the links.
+pub fn lay_out<
+    P: PtrKey,
+    T: Drop,
+    S: SlotStack<Item = ArenaSlot<P, LinkNoGen<P, T>>>,
+    V: Visitor<P>,
+>(arena: &mut Arena<P, LinkNoGen<P, T>, S>, visitor: V) -> (V, Work)
+    requires ready { V.is_ready visitor }
+    requires agree { Agrees (shown (seen_links P.Inx.packed_number arena.old)) }
+    ensures ready { V.is_ready result.0 }
+    ensures laid { AreLaidOut V.sees P.key visitor result.0 (seen_links P.Inx.packed_number arena.old) (seen_links P.Inx.packed_number arena.new) }
+    ensures placed { arena.new.placed ≡ arena.old.placed + result.1.placed }
+    ensures touched { arena.new.touched ≡ arena.old.touched + result.1.touched }
+{
+    arena.invariants();
+    let generation = arena.generation();
+    let mut compactor = arena.compactor();
+    empty_all(&mut compactor);
+    let (visitor, count) = number_all(&mut compactor, generation, visitor);
+    move_all(&mut compactor, generation);
+    (visitor, compactor.finish_packed(count))
+}

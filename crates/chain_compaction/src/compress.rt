@@ -1,0 +1,167 @@
+// Links brought together at the indexes from 1 on, in the order of their indexes.
+ghost use Rattle.std.specs.Prelude.{◌≡◌, ◌≢◌, ◌≤◌, length, None, Some, OnSome, IfNone};
+ghost use Rattle.std.specs.Option.{option_map};
+ghost use Rattle.arena_ptr.specs.Invalidation.{invalidation_option};
+ghost use Rattle.chain_laws.specs.Chains.{Agrees};
+ghost use Rattle.chain_laws.specs.Renamings.{IsRenaming};
+ghost use Rattle.chain_laws.specs.Arrangements.{place_in};
+ghost use Rattle.chain_laws.specs.Moves.{moved_index};
+ghost use Rattle.arena_base.specs.Arena.{slot_at, with_counter};
+ghost use Rattle.arena_base.specs.Entries.{entries, entries_from};
+ghost use Rattle.arena_base.specs.Compacting.{placed, IsPacked, with_touch};
+ghost use Rattle.arena_base.specs.Compressing.{VisitsAll, counter_after_compression, overflows_after_compression};
+ghost use Rattle.arena_base.specs.Closing.{AreClosed};
+ghost use Rattle.chain_links.specs.ChainArena.{shown};
+ghost use Rattle.chain_links.specs.Links.{seen_links};
+ghost use Rattle.chain_compaction.specs.HeldLinks.{held_values, shown_in, told, indexes_in, IsWork};
+ghost use Rattle.chain_compaction.specs.Closing.{ShowsMove, IsClosingWork};
+ghost use Rattle.chain_compaction.specs.Compressions.{AreGathered};
+
+use crate::looking::look_at;
+use arena_base::{Arena, ArenaSlot, ArenaTrait, Compactor, SlotAccess, excluded, inx_at};
+use arena_ptr::{GenKey, InvalidationOption, InxKey, PtrKey, SlotStack};
+use chain_links::{LinkNoGen, link_access};
+
+/// Where the link that an interlink names stands, once the one at `from` has come to `to`.
+fn index_now<I: InxKey>(named: Option<I>, from: I, to: I) -> Option<I>
+    ensures { option_map I.number result ≡ option_map (moved_index (I.number from) (I.number to)) (option_map I.number named) }
+{
+    match named {
+        Some(k) => if k.is_same(from) { Some(to) } else { Some(k) },
+        None => None,
+    }
+}
+
+// The link at i, if i is an index and a link stands there, names another as the one before it, or as the one after it.
+fn tell<P: PtrKey, T: Drop, S: SlotStack<Item = ArenaSlot<P, LinkNoGen<P, T>>>>(
+    compactor: &mut Compactor<'_, P, LinkNoGen<P, T>, S>,
+    i: Option<P::Inx>,
+    before: bool,
+    named: P::Inx,
+)
+    ensures same_reference { compactor.new.arena.ghost_name ≡ compactor.old.arena.ghost_name }
+    ensures values { held_values compactor.new.held ≡ held_values compactor.old.held }
+    ensures shows { shown_in P.Inx.packed_number compactor.new.held.slots
+        ≡ told before (shown_in P.Inx.packed_number compactor.old.held.slots) (option_map P.Inx.number i) (Some (P.Inx.number named)) }
+    ensures work { IsWork compactor.old.arena.now compactor.new.arena.now 0 1 }
+{
+    match i {
+        Some(i) => match compactor.value_mut(i) {
+            Some(link) => if before {
+                link_access::set_prev(link, Some(named));
+            } else {
+                link_access::set_next(link, Some(named));
+            },
+            None => {}
+        },
+        None => {}
+    }
+}
+
+// Brings the link at an index to a free one, where one stands there, gives it a generation, and tells its neighbors.
+// Answers the generation that it had.
+fn move_link<P: PtrKey, T: Drop, S: SlotStack<Item = ArenaSlot<P, LinkNoGen<P, T>>>>(
+    compactor: &mut Compactor<'_, P, LinkNoGen<P, T>, S>,
+    from: P::Inx,
+    to: P::Inx,
+    generation: P::Gen,
+) -> Option<P::Gen>
+    requires from { P.Inx.number from ≤ length compactor.old.held.slots }
+    requires to { P.Inx.number to ≤ length compactor.old.held.slots }
+    requires free { P.Inx.number to ≢ P.Inx.number from → slot_at compactor.old.held.slots (P.Inx.number to) ≡ None }
+    ensures same_reference { compactor.new.arena.ghost_name ≡ compactor.old.arena.ghost_name }
+    ensures answer { result ≡ option_map (λ e. e.0) (slot_at compactor.old.held.slots (P.Inx.number from)) }
+    ensures values { OnSome result (held_values compactor.new.held ≡ placed (held_values compactor.old.held) (P.Inx.number from) (P.Inx.number to) generation) }
+    ensures moves { OnSome result (ShowsMove (shown_in P.Inx.packed_number compactor.old.held.slots) (shown_in P.Inx.packed_number compactor.new.held.slots)
+        (P.Inx.number from) (P.Inx.number to)) }
+    ensures work { OnSome result (IsWork compactor.old.arena.now compactor.new.arena.now 1 3) }
+    ensures none { IfNone result ((compactor.new.held ≡ compactor.old.held) × (compactor.new.arena.now ≡ with_touch compactor.old.arena.now)) }
+{
+    let (was, prev, next, _) = look_at(compactor, from);
+    let was = match was {
+        Some(was) => was,
+        None => return None,
+    };
+    compactor.bring(from, to, generation);
+    tell(compactor, index_now(prev, from, to), false, to);
+    tell(compactor, index_now(next, from, to), true, to);
+    Some(was)
+}
+
+// Brings each link to the first index that is free, by rising index, gives it the generation, tells its neighbors, and
+// shows it to the closure: with the pointer that it had, its value, for writing, and the pointer that it has. Answers the
+// number of links, which stand in the first slots then.
+fn close_gaps<
+    P: PtrKey,
+    T: Drop,
+    S: SlotStack<Item = ArenaSlot<P, LinkNoGen<P, T>>>,
+    F: FnMut(P, &mut T, P) + Drop,
+>(compactor: &mut Compactor<'_, P, LinkNoGen<P, T>, S>, generation: P::Gen, mut map: F) -> usize
+    requires callable { F.IsAlwaysCallable map }
+    requires fits { length compactor.old.held.slots ≤ P.Inx.greatest }
+    requires agree { Agrees (shown_in P.Inx.packed_number compactor.old.held.slots) }
+    ensures same_reference { compactor.new.arena.ghost_name ≡ compactor.old.arena.ghost_name }
+    ensures closed { AreClosed generation (held_values compactor.old.held) (held_values compactor.new.held) }
+    ensures packed { IsPacked compactor.new.held.slots result }
+    ensures visits { VisitsAll F.FnMut P.key map (entries_from 1 (held_values compactor.old.held).slots) (entries_from 1 (held_values compactor.new.held).slots) }
+    ensures renamed { IsRenaming (place_in (indexes_in (held_values compactor.old.held).slots))
+        (shown_in P.Inx.packed_number compactor.old.held.slots) (shown_in P.Inx.packed_number compactor.new.held.slots) }
+    ensures work { IsClosingWork compactor.old.held compactor.old.arena.now compactor.new.arena.now }
+{
+    let mut count = 0;
+    for k in 0..compactor.slots() {
+        let from = inx_at::<P>(k);
+        let to = inx_at::<P>(count);
+        let was = match move_link(compactor, from, to, generation) {
+            Some(was) => was,
+            None => continue,
+        };
+        count += 1;
+        match compactor.value_mut(to) {
+            Some(link) => map(
+                P::_from_raw(from, was),
+                &mut link.t,
+                P::_from_raw(to, generation),
+            ),
+            None => excluded!(),
+        }
+    }
+    count
+}
+
+/// Sets the counter for a compression: anew with a reset, and else incremented where there are links.
+pub fn begin_generation<P: PtrKey, T: Drop, S: SlotStack<Item = ArenaSlot<P, T>>>(
+    arena: &mut Arena<P, T, S>,
+    reset: bool,
+) -> InvalidationOption<()>
+    ensures after { arena.new ≡ with_counter arena.old (counter_after_compression P.Gen.first P.Gen.following reset (length (entries arena.old)) arena.old.counter) }
+    ensures overflow { result ≡ invalidation_option (overflows_after_compression P.Gen.wraps reset (length (entries arena.old)) arena.old.counter) tt }
+{
+    if reset {
+        arena.set_generation(P::Gen::two());
+        return InvalidationOption::Success(());
+    }
+    if arena.len() == 0 {
+        return InvalidationOption::Success(());
+    }
+    arena.inc_generation()
+}
+
+/// Brings the links together, gives each the counter as its generation, tells the neighbors, and shows each value to the
+/// closure. The slots are exactly the links then.
+pub fn gather<
+    P: PtrKey,
+    T: Drop,
+    S: SlotStack<Item = ArenaSlot<P, LinkNoGen<P, T>>>,
+    F: FnMut(P, &mut T, P) + Drop,
+>(arena: &mut Arena<P, LinkNoGen<P, T>, S>, map: F)
+    requires callable { F.IsAlwaysCallable map }
+    requires agree { Agrees (shown (seen_links P.Inx.packed_number arena.old)) }
+    ensures { AreGathered F.FnMut P.key map (seen_links P.Inx.packed_number arena.old) (seen_links P.Inx.packed_number arena.new) }
+{
+    arena.invariants();
+    let generation = arena.generation();
+    let mut compactor = arena.compactor();
+    let count = close_gaps(&mut compactor, generation, map);
+    compactor.finish_packed(count);
+}

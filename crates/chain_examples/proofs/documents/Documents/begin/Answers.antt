@@ -1,0 +1,12 @@
+-- A link alone names no other, so every text stays.
+use Rattle.std.proofs.Common.{refl}
+use Rattle.chain_laws.specs.Chains.{linear}
+use Rattle.chain_laws.specs.Insertions.{disconnected}
+use Rattle.chain_traits.proofs.Outcomes.{if_ok}
+use Rattle.chain_examples.proofs.Changes.{keeps_others}
+use Rattle.chain_examples.proofs.documents.Documents.begin.Goals as goal
+
+pub returns-clause-others : goal.returns-clause-others
+returns-clause-others g c = rw (← c.self.view_is) (if_ok c.insert.result c.insert.ensures.inserted (λ q came.
+    keeps_others g.A.ArenaTrait.entry g.A.ChainArenaTrait.interlinks linear (λ l. refl) c.self.inside.paragraphs c.insert.new.self (g.P.PtrKey.key q) c.args.paragraph came.entries disconnected c.insert.ensures.agreed
+    (g.met.A.ChainArenaTrait.stand c.self.inside.paragraphs (g.P.PtrKey.key q).0) came.chains))

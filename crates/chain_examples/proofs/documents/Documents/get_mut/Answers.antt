@@ -1,0 +1,27 @@
+-- The value of the paragraph is written, and it stays in its place.
+use Rattle.std.proofs.Common.{refl, ◌∙◌}
+use Rattle.chain_examples.proofs.Writing.{has_new_value}
+use Rattle.chain_examples.proofs.documents.Documents.get_mut.Goals as goal
+
+pub returns-in-Some : goal.returns-in-Some
+returns-in-Some g c =
+    let p = g.P.PtrKey.key c.args.p in (
+      (
+        refl,
+        (λ w.
+            let held = rw c.in-Some.is at (c.get_mut.follows.holds w) in
+            rw (← c.self.view_is) (has_new_value g.A.ArenaTrait.seen g.A.ArenaTrait.entry g.A.ChainArenaTrait.interlinks g.met.A.ArenaTrait.looked_up c.self.inside.paragraphs _ p.0 w held.0 p.1 (g.met.A.ChainArenaTrait.written _ _ _ _ held.1))),
+        refl,
+      ),
+      record {
+        writes_back = tt;
+        some = rw (← c.self.view_is) (λ some. c.in-Some.ensures.some.0 refl, λ valid. refl);
+        paragraph = rw (← c.self.view_is) c.in-Some.ensures.value;
+      },
+    )
+
+pub returns-in-None : goal.returns-in-None
+returns-in-None g c = (
+  (refl, (λ w. tt), c.get_mut.follows.holds-at-none ∙ c.self.view_is),
+  record { writes_back = tt; some = rw (← c.self.view_is) (λ some. absurd (cc), λ valid. c.in-None.ensures.some.1 valid); paragraph = tt },
+)

@@ -1,0 +1,26 @@
+-- The break is between the paragraph and the one after it, if there is one.
+use Rattle.std.proofs.Common.{ap, ◌∙◌}
+use Rattle.chain_laws.specs.Chains.{next_of}
+use Rattle.chain_laws.specs.Cuts.{Cuts}
+use Rattle.chain_traits.proofs.Removing.{same_entry}
+use Rattle.chain_traits.proofs.Outcomes.{on_some, either_some}
+use Rattle.chain_examples.proofs.Texts.{Breaks, breaks, ends_in, keeps_ended}
+use Rattle.chain_examples.proofs.documents.Documents.part_after.Given.{Over}
+use Rattle.chain_examples.proofs.documents.Documents.part_after.Goals.{After-break_next}
+use Rattle.chain_examples.proofs.documents.Documents.part_after.Goals as goal
+
+break : (g : Over) (c : After-break_next g) → Breaks g.A.ArenaTrait.entry g.A.ChainArenaTrait.interlinks c.self.inside.paragraphs c.break_next.new.self (g.P.PtrKey.key c.args.p) (next_of (g.A.ChainArenaTrait.interlinks c.self.inside.paragraphs) (g.P.PtrKey.key c.args.p).0)
+    (λ b. Cuts (g.A.ChainArenaTrait.interlinks c.self.inside.paragraphs) (g.A.ChainArenaTrait.interlinks c.break_next.new.self) (g.P.PtrKey.key c.args.p).0 b)
+break g c = breaks g.A.ArenaTrait.entry g.A.ChainArenaTrait.interlinks c.self.inside.paragraphs c.break_next.new.self (g.P.PtrKey.key c.args.p) (next_of (g.A.ChainArenaTrait.interlinks c.self.inside.paragraphs) (g.P.PtrKey.key c.args.p).0) _ c.break_next.result
+    c.break_next.ensures.some c.break_next.ensures.chains
+    (on_some c.break_next.result c.break_next.ensures.seen (λ seen. same_entry (λ x. (g.A.ArenaTrait.seen x).entries) g.A.ArenaTrait.entry g.met.A.ArenaTrait.looked_up c.self.inside.paragraphs c.break_next.new.self (ap (λ s. s.entries) seen))) c.break_next.ensures.none
+
+pub returns : goal.returns
+returns g c = record {
+  some = rw (← c.self.view_is) c.break_next.ensures.some;
+  texts = rw (← c.self.view_is) (ends_in g.A.ArenaTrait.entry g.A.ChainArenaTrait.interlinks c.self.inside.paragraphs c.break_next.new.self (g.P.PtrKey.key c.args.p) (break g c));
+  others = rw (← c.self.view_is) (keeps_ended g.A.ArenaTrait.entry g.A.ChainArenaTrait.interlinks c.self.inside.paragraphs c.break_next.new.self (g.P.PtrKey.key c.args.p) c.break_next.ensures.agreed (break g c));
+  paragraphs = either_some c.break_next.result c.break_next.ensures.seen c.break_next.ensures.none (λ some seen. same_entry (λ x. (g.A.ArenaTrait.seen x).entries) g.A.ArenaTrait.entry g.met.A.ArenaTrait.looked_up c.self.inside.paragraphs c.break_next.new.self (ap (λ s. s.entries) seen)) (λ same. ap g.A.ArenaTrait.entry same) ∙ ap g.A.ArenaTrait.entry c.self.view_is;
+  seen = either_some c.break_next.result c.break_next.ensures.seen c.break_next.ensures.none (λ some seen. seen) (λ same. ap g.A.ArenaTrait.seen same) ∙ ap g.A.ArenaTrait.seen c.self.view_is;
+  none = rw (← c.self.view_is) c.break_next.ensures.none;
+}

@@ -1,0 +1,17 @@
+-- What came before the paragraph and what came after it are cut off, and joined.
+use Rattle.chain_examples.proofs.Moving.{stands_alone, keeps_alone}
+use Rattle.chain_examples.proofs.Texts.{in_a_text}
+use Rattle.chain_examples.proofs.documents.Documents.set_apart.Goals as goal
+
+pub returns-clause-texts : goal.returns-clause-texts
+returns-clause-texts g c = stands_alone g.A.ArenaTrait.entry g.A.ChainArenaTrait.interlinks c.args.self.now c.part_before.new.self c.part_after.new.self c.close.new.self (g.P.PtrKey.key c.args.p) _ _
+    c.part_before.ensures.texts c.part_after.ensures.texts c.part_after.ensures.others c.close.ensures.texts c.in_ok-before.ensures.between.before c.in_ok-before.ensures.between.after
+
+pub returns-clause-others : goal.returns-clause-others
+returns-clause-others g c = keeps_alone g.A.ArenaTrait.entry g.A.ChainArenaTrait.interlinks c.args.self.now c.part_before.new.self c.part_after.new.self c.close.new.self (g.P.PtrKey.key c.args.p) _ _
+    c.part_before.ensures.others c.part_after.ensures.others c.close.ensures.texts c.in_ok-before.ensures.between.with_before c.in_ok-before.ensures.between.with_after
+
+-- a pointer that is of no paragraph stands in no text
+pub returns-in_err-before-clause-texts : goal.returns-in_err-before-clause-texts
+returns-in_err-before-clause-texts g c = λ t before after is.
+    absurd (let some = c.in_err-before.ensures.some.1 (in_a_text g.A.ArenaTrait.entry g.A.ChainArenaTrait.interlinks c.args.self.now (g.P.PtrKey.key c.args.p) t before after is) in cc)

@@ -1,0 +1,51 @@
+-- The new corner comes after the other in its ring, and stands in no other ring.
+use Rattle.std.proofs.Common.{ap, refl}
+use Rattle.chain_laws.specs.Chains.{cyclic}
+use Rattle.chain_laws.specs.Insertions.{next_to}
+use Rattle.chain_traits.proofs.AnyArena.{valid_link}
+use Rattle.chain_traits.proofs.Outcomes.{if_ok, either_ok}
+use Rattle.chain_examples.proofs.Changes.{comes_after, keeps_others}
+use Rattle.chain_examples.proofs.mesh.Mesh.insert_after.Goals as goal
+
+pub returns-clause-ring : goal.returns-clause-ring
+returns-clause-ring g c = rw (← c.self.view_is) (if_ok c.insert_reallocating.result c.insert_reallocating.ensures.inserted (λ q came.
+    comes_after g.A.ArenaTrait.entry g.A.ChainArenaTrait.interlinks cyclic (λ l. refl) c.self.inside.corners c.insert_reallocating.new.self (g.P.PtrKey.key q) c.args.point came.entries (g.P.PtrKey.key c.args.corner)
+    (λ x y. (came.chains.after (g.P.PtrKey.key c.args.corner).0 refl refl x y).1)))
+
+pub returns-clause-others : goal.returns-clause-others
+returns-clause-others g c = rw (← c.self.view_is) (if_ok c.insert_reallocating.result c.insert_reallocating.ensures.inserted (λ q came.
+    keeps_others g.A.ArenaTrait.entry g.A.ChainArenaTrait.interlinks cyclic (λ l. refl) c.self.inside.corners c.insert_reallocating.new.self (g.P.PtrKey.key q) c.args.point came.entries (next_to (g.P.PtrKey.key c.args.corner).0)
+    c.insert_reallocating.ensures.agreed (g.met.A.ChainArenaTrait.stand c.self.inside.corners (g.P.PtrKey.key q).0) came.chains))
+
+pub returns-clause-room : goal.returns-clause-room
+returns-clause-room g c =
+    let a = c.self.inside.corners in
+    rw (← c.self.view_is) (λ valid. c.insert_reallocating.ensures.room (valid, valid_link (g.A.ChainArenaTrait.interlinks a) (g.A.ArenaTrait.entry a) (g.A.ArenaTrait.seen a).entries (g.met.A.ChainArenaTrait.stand a) (g.met.A.ArenaTrait.looked_up a) (g.P.PtrKey.key c.args.corner) valid))
+
+pub returns-clause-corner : goal.returns-clause-corner
+returns-clause-corner g c = rw (← c.self.view_is) (if_ok c.insert_reallocating.result c.insert_reallocating.ensures.inserted (λ q came. came.entries))
+
+pub returns-clause-size : goal.returns-clause-size
+returns-clause-size g c = rw (← c.self.view_is) (if_ok c.insert_reallocating.result c.insert_reallocating.ensures.inserted (λ q came. came.more))
+
+pub returns-clause-err : goal.returns-clause-err
+returns-clause-err g c = rw (← c.self.view_is) c.insert_reallocating.ensures.err
+
+pub returns-clause-grown : goal.returns-clause-grown
+returns-clause-grown g c = rw (← c.self.view_is) c.insert_reallocating.ensures.grown
+
+pub returns-clause-maximum : goal.returns-clause-maximum
+returns-clause-maximum g c = rw (← c.self.view_is) (either_ok c.insert_reallocating.result c.insert_reallocating.ensures.inserted c.insert_reallocating.ensures.grown c.insert_reallocating.ensures.err
+    (λ q came grown. came.maximum) (λ same. ap (λ a. (g.A.ArenaTrait.seen a).maximum) same))
+
+pub returns-clause-beyond : goal.returns-clause-beyond
+returns-clause-beyond g c =
+    let a = c.self.inside.corners in
+    let beyond = c.insert_reallocating.ensures.beyond in
+    rw (← c.self.view_is) (
+      λ is. let told = beyond.0 is in (told.0.0, told.1),
+      λ past. beyond.1 ((past.0, valid_link (g.A.ChainArenaTrait.interlinks a) (g.A.ArenaTrait.entry a) (g.A.ArenaTrait.seen a).entries (g.met.A.ChainArenaTrait.stand a) (g.met.A.ArenaTrait.looked_up a) (g.P.PtrKey.key c.args.corner) past.0), past.1),
+    )
+
+pub returns-clause-greatest : goal.returns-clause-greatest
+returns-clause-greatest g c = rw (← c.self.view_is) c.insert_reallocating.ensures.greatest

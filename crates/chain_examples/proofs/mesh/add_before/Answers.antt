@@ -1,0 +1,40 @@
+-- There is room, so a corner comes.
+use Rattle.std.proofs.Common.{refl}
+use Rattle.chain_laws.specs.Chains.{cyclic}
+use Rattle.chain_laws.specs.Insertions.{prev_to}
+use Rattle.chain_traits.proofs.AnyArena.{valid_link, links_within}
+use Rattle.chain_examples.proofs.Rounds.{round_before}
+use Rattle.chain_examples.proofs.Changes.{comes_before, keeps_others}
+use Rattle.chain_examples.proofs.mesh.add_before.Goals as goal
+
+pub returns-clause-ring : goal.returns-clause-ring
+returns-clause-ring g c =
+    let came = c.in-Ok.ensures.inserted in
+    comes_before g.A.ArenaTrait.entry g.A.ChainArenaTrait.interlinks cyclic (λ l. refl) c.args.corners.now c.insert.new.self (g.P.PtrKey.key c.in-Ok.p) c.args.t came.entries (g.P.PtrKey.key c.args.u)
+    (λ x y. (came.chains.before (g.P.PtrKey.key c.args.u).0 refl refl x y).1)
+
+pub returns-clause-others : goal.returns-clause-others
+returns-clause-others g c =
+    let came = c.in-Ok.ensures.inserted in
+    keeps_others g.A.ArenaTrait.entry g.A.ChainArenaTrait.interlinks cyclic (λ l. refl) c.args.corners.now c.insert.new.self (g.P.PtrKey.key c.in-Ok.p) c.args.t came.entries (prev_to (g.P.PtrKey.key c.args.u).0)
+    c.insert.ensures.agreed (g.met.A.ChainArenaTrait.stand c.args.corners.now (g.P.PtrKey.key c.in-Ok.p).0) came.chains
+
+pub returns-clause-corner : goal.returns-clause-corner
+returns-clause-corner g c = c.in-Ok.ensures.inserted.entries
+
+pub returns-clause-size : goal.returns-clause-size
+returns-clause-size g c = c.in-Ok.ensures.inserted.more
+
+pub returns-clause-capacity : goal.returns-clause-capacity
+returns-clause-capacity g c = (c.in-Ok.ensures.room c.requires.room).1
+
+pub returns-clause-round : goal.returns-clause-round
+returns-clause-round g c =
+    let a = c.args.corners.now in
+    let u = g.P.PtrKey.key c.args.u in
+    round_before (g.A.ChainArenaTrait.interlinks a) (g.A.ChainArenaTrait.interlinks c.insert.new.self) _ (g.P.PtrKey.key c.in-Ok.p).0 u.0 c.in-Ok.ensures.inserted.pairs c.insert.ensures.agreed
+    (links_within (g.A.ChainArenaTrait.interlinks a) (g.A.ArenaTrait.entry a) (g.A.ArenaTrait.seen a).entries (g.met.A.ChainArenaTrait.stand a) (g.met.A.ArenaTrait.looked_up a) _ c.invariants.ensures.indexes)
+    (valid_link (g.A.ChainArenaTrait.interlinks a) (g.A.ArenaTrait.entry a) (g.A.ArenaTrait.seen a).entries (g.met.A.ChainArenaTrait.stand a) (g.met.A.ArenaTrait.looked_up a) u c.requires.valid)
+
+pub unreachable-requires : goal.unreachable-requires
+unreachable-requires g c = absurd (let succeeds = (c.in-Err.ensures.room c.requires.room).0 in cc)

@@ -1,0 +1,14 @@
+-- Those that were drained and those that are left are the tasks in turn, and there is room for the latter.
+use Rattle.std.proofs.Common.{◌≡◌, ◌++◌, ◌+◌, ◌≤◌, length, map, vec_len, vec_capacity}
+use Rattle.chain_examples.specs.Lists.{Item}
+use Rattle.chain_examples.proofs.queue.RunQueue.drain_all.Given as goal
+
+abbrev pub invariant-loop-k : goal.invariant-loop-k
+invariant-loop-k g l = record {
+  tasks : l.drained.items ++ map (λ (e : Item g.row.P-Gen.Denot g.row.T.Denot). e.1) l.self.turn ≡ map (λ (e : Item g.row.P-Gen.Denot g.row.T.Denot). e.1) l.fn.self.turn;
+  left : l.k + length l.self.turn ≡ l.count;
+  len : vec_len l.drained ≡ l.k;
+  fits : l.count ≤ vec_capacity l.drained;
+  room : l.self.room ≡ l.fn.self.room;
+  maximum : l.self.maximum ≡ l.fn.self.maximum;
+}

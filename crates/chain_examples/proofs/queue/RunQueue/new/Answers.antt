@@ -1,0 +1,15 @@
+-- An arena without entries is a queue without tasks.
+use Rattle.std.proofs.Common.{[], None}
+use Rattle.chain_examples.proofs.Turns.{IsSettled, settle, begins}
+use Rattle.chain_examples.proofs.queue.RunQueue.new.Given.{Over}
+use Rattle.chain_examples.proofs.queue.RunQueue.new.Goals.{After-new}
+use Rattle.chain_examples.proofs.queue.RunQueue.new.Goals as goal
+
+begun : (g : Over) (c : After-new g) → IsSettled g.A.ArenaTrait.seen g.A.ArenaTrait.entry g.A.ChainArenaTrait.interlinks g.met.A.ArenaTrait.rises g.met.A.ArenaTrait.looked_up c.new.result None []
+begun g c = settle g.A.ArenaTrait.seen g.A.ArenaTrait.entry g.A.ChainArenaTrait.interlinks g.met.A.ArenaTrait.rises g.met.A.ArenaTrait.looked_up c.new.result None [] (begins (g.A.ArenaTrait.entry c.new.result) (g.A.ChainArenaTrait.interlinks c.new.result) (g.A.ArenaTrait.seen c.new.result).entries c.new.ensures.new.entries (g.met.A.ArenaTrait.looked_up c.new.result))
+
+pub invariant_of-result : goal.invariant_of-result
+invariant_of-result g c = (begun g c).holds
+
+pub returns-clause-turn : goal.returns-clause-turn
+returns-clause-turn g c = (begun g c).is_found

@@ -1,0 +1,96 @@
+//! A renumbering that mends the bookmarks of its caller.
+
+ghost use Rattle.std.specs.Prelude.{◌≡◌, ◌≤◌, ◌+◌, length, replicate, OnOk, OnErr, IfOk, All, map, false, None};
+ghost use Rattle.std.specs.Option.{option_map, option_and_then};
+ghost use Rattle.chain_links.specs.ChainArena.{entry, seen, shown};
+ghost use Rattle.chain_links.specs.CanonicalLayouts.{IsCanonicalLayout};
+ghost use Rattle.chain_examples.specs.Renumbering.{IsRenumbered};
+ghost use Rattle.chain_examples.specs.Tables.{noted, looked_up};
+
+use arena_base::{ArenaSlot, ArenaTrait};
+use arena_ptr::{InxKey, PtrKey, SlotStack};
+use chain_arena::{ChainArena, LinkNoGen};
+use std::alloc::{AllocError, Global};
+
+/// Arranges the chains one after another from index 1 on, as `compress_canonical` does, and
+/// updates bookmarks. Each bookmark is of the same link as before, by the pointer that the
+/// arrangement gave it. A bookmark whose link is gone becomes `None`.
+///
+/// The time is in proportion to the slots and the bookmarks. No clause states it.
+///
+/// # Errors
+///
+/// - `AllocError`: memory was refused, and nothing has changed.
+pub fn renumber<P: PtrKey, T: Drop, S: SlotStack<Item = ArenaSlot<P, LinkNoGen<P, T>>>>(
+    arena: &mut ChainArena<P, T, S>,
+    alloc: Global,
+    bookmarks: &mut [Option<P>],
+) -> Result<(), AllocError>
+    ensures canonical { OnOk result (IsCanonicalLayout P.Gen.first P.Gen.following false (seen arena.old) (shown arena.old) (seen arena.new) (shown arena.new)) }
+    ensures renumbered { OnOk result (IsRenumbered P.Gen.first P.Gen.following seen entry shown
+        arena.old arena.new
+        (map (option_map P.key) bookmarks.old) (map (option_map P.key) bookmarks.new)) }
+    ensures err { OnErr result ((arena.new ≡ arena.old) × (bookmarks.new ≡ bookmarks.old)) }
+{
+    let mut table = room(alloc, arena.backing().len())?;
+    match arena.compress_canonical_moves(alloc, false) {
+        Ok((_, moves)) => {
+            let table = table.as_mut_slice();
+            note(table, &moves);
+            follow(table, bookmarks);
+            Ok(())
+        }
+        Err(_) => Err(AllocError),
+    }
+}
+
+/// A table of so many places, all empty, for moves: a pointer that a link had and the one that it has.
+///
+/// `AllocError`: memory was refused.
+fn room<P: PtrKey>(alloc: Global, n: usize) -> Result<Vec<Option<(P, P)>>, AllocError>
+    ensures { IfOk result (λ table. table.items ≡ replicate n None) }
+{
+    let mut table = Vec::new(alloc);
+    table.resize(n, None)?;
+    Ok(table)
+}
+
+/// The place of a pointer in a table: that of index k + 1 is k.
+fn place_of<P: PtrKey>(p: P) -> usize
+    ensures { result + 1 ≡ (P.key p).0 }
+{
+    match p.inx().try_into_usize() {
+        Some(i) => i - 1,
+        None => unreachable!(),
+    }
+}
+
+/// Writes each move into the table, at the index of the pointer that the link had.
+fn note<P: PtrKey>(table: &mut [Option<(P, P)>], moves: &[(P, P)])
+    requires { All (λ m. (P.key m.0).0 ≤ length table.old) moves.now }
+    ensures { table.new ≡ noted P.key table.old moves.now }
+{
+    for (from, to) in moves {
+        table[place_of(*from)] = Some((*from, *to));
+    }
+}
+
+/// The pointer to which the table has a move from the bookmark. `None`: it names none, or the table has no such move.
+fn find<P: PtrKey>(table: &[Option<(P, P)>], bookmark: Option<P>) -> Option<P>
+    ensures { result ≡ option_and_then (looked_up P.key P.same table.now) bookmark }
+{
+    let p = bookmark?;
+    match table.get(place_of(p)) {
+        Some(Some((from, to))) if from.is_same(p) => Some(*to),
+        _ => None,
+    }
+}
+
+/// Makes each bookmark the pointer to which the table has a move from it, or none.
+fn follow<P: PtrKey>(table: &[Option<(P, P)>], bookmarks: &mut [Option<P>])
+    ensures { bookmarks.new ≡ map (option_and_then (looked_up P.key P.same table.now)) bookmarks.old }
+{
+    for bookmark in bookmarks.iter_mut() {
+        *bookmark = find(table, *bookmark);
+    }
+}

@@ -1,0 +1,310 @@
+//! The run queue of a scheduler: its tasks stand in one ring, and each has its turn.
+
+ghost use Rattle.std.specs.Prelude.{◌≡◌, ◌↔◌, ◌<◌, ◌≤◌, ◌+◌, ℕ, List, [], ◌∷◌, ◌++◌, length, map, IsTrue, IsSome, IfSome, OnSome, IfNone, IsOk, IfOk, OnOk, IsErr, OnErr, Some, None, Err};
+ghost use Rattle.std.specs.Option.{option_map, option_or};
+ghost use Rattle.std.specs.Borrow.{LendsSo, sem};
+ghost use Rattle.arena_ptr.specs.SlotStack.{IsBeyond, IsWithinMaximum};
+ghost use Rattle.arena_base.specs.Arena.{IsRoom, IsValid};
+ghost use Rattle.arena_base.specs.Entries.{count, first_key, found, NeedsBeyondMaximum};
+ghost use Rattle.chain_laws.specs.Chains.{Has};
+ghost use Rattle.chain_links.specs.Calls.{SucceedsInRoom};
+ghost use Rattle.chain_examples.specs.Turns.{ComesLast, IsAmong, IsCancelled, IsFirstWithout, turned_once, with_task};
+ghost use Rattle.chain_examples.specs.Lists.{Item, IsTurn, indexes};
+
+use crate::growth::reserve;
+use arena_ptr::{GenKey, InxKey, PtrKey, ReallocationError};
+use chain_links::LinkInsertKind;
+use chain_traits::ChainArenaTrait;
+use std::alloc::{AllocError, Allocator, Global};
+use std::marker::{Model, PhantomData};
+
+/// Tasks that run in turn. A task is named by the pointer that `spawn` answers, until it is cancelled.
+///
+/// A contract sees the tasks in turn, the current one first: a list of pairs, of a pointer's index and generation, and of the
+/// task. Beside it are the capacity and the maximum that it may have.
+#[derive(Drop)]
+pub struct RunQueue<P: PtrKey, T: Drop, A: ChainArenaTrait<P, T> + Drop> {
+    tasks: A,
+    current: Option<P>,
+    of: PhantomData<T>,
+}
+
+impl<P: PtrKey, T: Drop, A: ChainArenaTrait<P, T> + Drop> Model for RunQueue<P, T, A> {
+    ghost use Rattle.std.specs.Option.{option_map};
+    ghost use Rattle.arena_base.specs.Entries.{count};
+    ghost use Rattle.chain_examples.specs.Lists.{IsTurn};
+    ghost use Rattle.chain_examples.specs.Turns.{Queue, turn_of};
+
+    ghost Value = { Queue P.Gen T };
+
+    ghost view = { λ q. record {
+      turn = turn_of (A.entry q.tasks) (A.interlinks q.tasks) (count (A.seen q.tasks)) (option_map P.key q.current);
+      room = (A.seen q.tasks).capacity;
+      maximum = (A.seen q.tasks).maximum;
+    } };
+
+    ghost invariant = { λ q. IsTurn (A.entry q.tasks) (A.interlinks q.tasks) (option_map P.key q.current)
+        (turn_of (A.entry q.tasks) (A.interlinks q.tasks) (count (A.seen q.tasks)) (option_map P.key q.current)) };
+}
+
+impl<P: PtrKey, T: Drop, A: ChainArenaTrait<P, T> + Drop> RunQueue<P, T, A> {
+    ghost use Rattle.chain_examples.specs.contracts.queue.RunQueue.{the_row};
+
+    /// Returns a queue without tasks. It takes no memory.
+    pub fn new(alloc: Global) -> Self
+        ensures turn { result.turn ≡ [] }
+        ensures room { result.room ≡ 0 }
+    {
+        RunQueue {
+            tasks: A::new(alloc),
+            current: None,
+            of: PhantomData,
+        }
+    }
+
+    /// Returns the number of tasks, which is at most the capacity.
+    pub fn len(&self) -> usize
+        ensures count { result ≡ length self.now.turn }
+        ensures fits { result ≤ self.now.room }
+    {
+        self.tasks.len()
+    }
+
+    /// Returns whether there are no tasks.
+    pub fn is_empty(&self) -> bool
+        ensures { IsTrue result ↔ (self.now.turn ≡ []) }
+    {
+        self.current.is_none()
+    }
+
+    /// Returns how many tasks fit before the queue has to grow. This is at most the greatest
+    /// index and the maximum.
+    pub fn capacity(&self) -> usize
+        ensures value { result ≡ self.now.room }
+        ensures greatest { result ≤ P.Inx.greatest }
+        ensures maximum { IsWithinMaximum self.now.maximum result }
+    {
+        self.tasks.capacity()
+    }
+
+    /// Returns the greatest capacity that the queue may have, if there is a limit.
+    pub fn max_capacity(&self) -> Option<usize>
+        ensures { result ≡ self.now.maximum }
+    {
+        self.tasks.max_capacity()
+    }
+
+    /// Grows to capacity for `additional` more tasks. Within the capacity nothing changes.
+    ///
+    /// # Errors
+    ///
+    /// - `BeyondMaxCapacity`: so many tasks would be above the maximum.
+    /// - `AllocError`: they would be above the greatest index, or memory was refused.
+    ///
+    /// After an error nothing has changed.
+    pub fn reserve(&mut self, additional: usize) -> Result<(), ReallocationError>
+        ensures within { length self.old.turn + additional ≤ self.old.room
+            → IsOk result × (self.new ≡ self.old) }
+        ensures beyond { (result ≡ Err ReallocationError.BeyondMaxCapacity)
+            ↔ IsBeyond self.old.maximum (length self.old.turn + additional) }
+        ensures greatest { P.Inx.greatest < length self.old.turn + additional → IsErr result }
+        ensures ok { OnOk result (IsRoom P.Inx.greatest self.new.maximum
+            (length self.old.turn + additional) self.new.room) }
+        ensures turn { self.new.turn ≡ self.old.turn }
+        ensures maximum { self.new.maximum ≡ self.old.maximum }
+        ensures never_less { self.old.room ≤ self.new.room }
+        ensures err { OnErr result (self.new ≡ self.old) }
+    {
+        reserve(&mut self.tasks, additional)
+    }
+
+    /// The pointer of the current task. `None`: there are no tasks.
+    pub fn current(&self) -> Option<P>
+        ensures { option_map P.key result ≡ first_key self.now.turn }
+    {
+        self.current
+    }
+
+    /// Returns a task, which stays in the queue. `None`: the pointer is of no task.
+    pub fn get(&self, p: P) -> Option<&T>
+        ensures some { IsSome result ↔ IsAmong (P.key p) self.now.turn }
+        ensures task { IfSome result (λ t. found (P.key p).0 self.now.turn
+            ≡ Some ((P.key p).1, t.now)) }
+    {
+        self.tasks.get(p)
+    }
+
+    /// Returns a task for writing. The order of the tasks and their pointers stay. `None`: the
+    /// pointer is of no task.
+    pub fn get_mut(&mut self, p: P) -> Option<&mut T>
+        ensures* writes_back { sem 𝓛 (LendsSo
+            (the_row P.row T.row A.row P.Inx.row P.Gen.row P.Inx.Word.row
+            A.ChainPtrAdvancer.row A.PtrAdvancer.row P.PtrKey P.Inx.InxKey P.Gen.GenKey
+            (record { interlinks = A.interlinks; walker = A.walker }) A.ArenaTrait
+            A.PtrAdvancer.Advancer A.ChainPtrAdvancer.Advancer)
+            T.row self.entry result
+            (λ new t. OnSome result (new ≡ with_task self.old (P.key p).0 t))
+            (λ new. new ≡ self.old)) }
+        ensures some { IsSome result ↔ IsAmong (P.key p) self.old.turn }
+        ensures task { IfSome result (λ t. found (P.key p).0 self.old.turn
+            ≡ Some ((P.key p).1, t.now)) }
+    {
+        match self.tasks.get_mut(p) {
+            Some(task) => Some(task),
+            None => None,
+        }
+    }
+
+    /// Adds a task, which is the last in turn, and returns its pointer. No other task has its
+    /// index. Below the capacity this cannot fail; a full queue grows first.
+    ///
+    /// # Errors
+    ///
+    /// - `BeyondMaxCapacity`: one task more would be above the maximum.
+    /// - `AllocError`: it would be above the greatest index, or memory was refused.
+    ///
+    /// After an error nothing has changed, and the task is dropped.
+    pub fn spawn(&mut self, task: T) -> Result<P, ReallocationError>
+        ensures last { IfOk result (λ p. self.new.turn ≡ self.old.turn ++ (P.key p, task) ∷ []) }
+        ensures fresh { IfOk result (λ p. ¬ Has (indexes self.old.turn) (P.key p).0) }
+        ensures room { length self.old.turn < self.old.room → IsOk result × (self.new.room ≡ self.old.room) }
+        ensures grown { OnOk result (IsRoom P.Inx.greatest self.new.maximum
+            (length self.old.turn + 1) self.new.room) }
+        ensures beyond { (result ≡ Err ReallocationError.BeyondMaxCapacity)
+            ↔ ((length self.old.turn ≡ self.old.room)
+            × IsBeyond self.old.maximum (length self.old.turn + 1)) }
+        ensures greatest { length self.old.turn ≡ P.Inx.greatest → IsErr result }
+        ensures maximum { self.new.maximum ≡ self.old.maximum }
+        ensures err { OnErr result (self.new ≡ self.old) }
+    {
+        let added = come_last(&mut self.tasks, self.current, task);
+        self.current = self.current.or(added.ok());
+        added
+    }
+
+    /// Goes on to the next task in turn, and answers its pointer: the one that was current is the last then. `None`: there are
+    /// no tasks.
+    pub fn next(&mut self) -> Option<P>
+        ensures turned { self.new.turn ≡ turned_once self.old.turn }
+        ensures current { option_map P.key result ≡ first_key self.new.turn }
+        ensures room { self.new.room ≡ self.old.room }
+        ensures maximum { self.new.maximum ≡ self.old.maximum }
+    {
+        let current = self.current?;
+        let next = after(&self.tasks, current);
+        self.current = next;
+        next
+    }
+
+    /// Takes a task out of the queue and answers it: the others keep their order, and its pointer is of no task any more. If it
+    /// was current, the next one is.
+    /// `None`: the pointer is of no task in the queue, and nothing has changed.
+    pub fn cancel(&mut self, p: P) -> Option<T>
+        ensures some { IfSome result (λ task. IsCancelled (P.key p) task self.old.turn self.new.turn) }
+        ensures none { IfNone result ((self.new ≡ self.old) × ¬ IsAmong (P.key p) self.old.turn) }
+        ensures room { self.new.room ≡ self.old.room }
+        ensures maximum { self.new.maximum ≡ self.old.maximum }
+    {
+        let current = self.current?;
+        let next = current_without(&self.tasks, current, p);
+        self.tasks.agrees();
+        let task = self.tasks.remove(p).allow()?;
+        self.current = next;
+        Some(task)
+    }
+
+    // Takes the current task out. The next one is current then.
+    fn take_current(&mut self) -> Option<T>
+        ensures some { IfSome result (λ task. (p : ℕ × P.Gen) × (self.old.turn ≡ (p, task) ∷ self.new.turn)) }
+        ensures none { IfNone result ((self.old.turn ≡ []) × (self.new ≡ self.old)) }
+        ensures room { self.new.room ≡ self.old.room }
+        ensures maximum { self.new.maximum ≡ self.old.maximum }
+    {
+        let p = self.current()?;
+        self.cancel(p)
+    }
+
+    /// Takes all tasks out, and answers them in turn.
+    ///
+    /// `AllocError`: memory for the answer was refused, and nothing has changed.
+    pub fn drain_all<B: Allocator>(&mut self, alloc: B) -> Result<Vec<T, B>, AllocError>
+        ensures drained { IfOk result (λ tasks. (tasks.items ≡ map (λ e. e.1) self.old.turn) × (self.new.turn ≡ [])) }
+        ensures room { self.new.room ≡ self.old.room }
+        ensures maximum { self.new.maximum ≡ self.old.maximum }
+        ensures err { OnErr result (self.new ≡ self.old) }
+    {
+        let count = self.len();
+        let mut drained = Vec::with_capacity(alloc, count)?;
+        for k in 0..count {
+            match self.take_current() {
+                Some(task) => match drained.push(task) {
+                    Ok(()) => {}
+                    Err(_) => unreachable!(),
+                },
+                None => unreachable!(),
+            }
+        }
+        Ok(drained)
+    }
+}
+
+// Adds a task, which is the last in turn, and current where there was no other.
+fn come_last<P: PtrKey, T: Drop, A: ChainArenaTrait<P, T>>(
+    tasks: &mut A,
+    current: Option<P>,
+    task: T,
+) -> Result<P, ReallocationError>
+    requires { IfSome current (λ p. IsValid (A.entry tasks.old) (P.key p)) }
+    ensures last { IfOk result (λ p. ComesLast A.entry A.interlinks tasks.old tasks.new (option_map P.key current) (option_map P.key (option_or current (Some p))) (P.key p, task)) }
+    ensures fresh { IfOk result (λ p. A.entry tasks.old (P.key p).0 ≡ None) }
+    ensures room { SucceedsInRoom (A.seen tasks.old) result (A.seen tasks.new) }
+    ensures grown { OnOk result (IsRoom P.Inx.greatest (A.seen tasks.new).maximum
+        (count (A.seen tasks.old) + 1) (A.seen tasks.new).capacity) }
+    ensures beyond { (result ≡ Err ReallocationError.BeyondMaxCapacity)
+        ↔ NeedsBeyondMaximum (A.seen tasks.old) }
+    ensures greatest { count (A.seen tasks.old) ≡ P.Inx.greatest → IsErr result }
+    ensures maximum { (A.seen tasks.new).maximum ≡ (A.seen tasks.old).maximum }
+    ensures err { OnErr result (tasks.new ≡ tasks.old) }
+{
+    match current {
+        None => tasks.insert(LinkInsertKind::SingleLinkCyclic, task),
+        Some(p) => tasks.insert(LinkInsertKind::PrevTo(p), task),
+    }
+}
+
+// The pointer of the task after the current one, p.
+fn after<P: PtrKey, T: Drop, A: ChainArenaTrait<P, T>>(tasks: &A, p: P) -> Option<P>
+    ensures { (task : Item P.Gen T) (rest : List (Item P.Gen T)) → IsTurn (A.entry tasks.now) (A.interlinks tasks.now) (Some (P.key p)) (task ∷ rest)
+        → option_map P.key result ≡ first_key (rest ++ task ∷ []) }
+{
+    match tasks.get_link(p) {
+        Some(link) => link.next(),
+        None => None,
+    }
+}
+
+// The pointer of the task after the current one, p, if that is another.
+fn other_after<P: PtrKey, T: Drop, A: ChainArenaTrait<P, T>>(tasks: &A, p: P) -> Option<P>
+    ensures { (task : Item P.Gen T) (rest : List (Item P.Gen T)) → IsTurn (A.entry tasks.now) (A.interlinks tasks.now) (Some (P.key p)) (task ∷ rest)
+        → option_map P.key result ≡ first_key rest }
+{
+    let q = after(tasks, p)?;
+    if q.is_same(p) {
+        return None;
+    }
+    Some(q)
+}
+
+// The pointer of the task that is current once that of p is cancelled.
+fn current_without<P: PtrKey, T: Drop, A: ChainArenaTrait<P, T>>(
+    tasks: &A,
+    current: P,
+    p: P,
+) -> Option<P>
+    ensures { IsFirstWithout A.entry A.interlinks tasks.now (P.key p) (P.key current) (option_map P.key result) }
+{
+    if current.is_same(p) {
+        return other_after(tasks, p);
+    }
+    Some(current)
+}

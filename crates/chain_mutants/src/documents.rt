@@ -1,0 +1,37 @@
+// Calls of ordered documents.
+ghost use Rattle.std.specs.Prelude.{OnOk, OnSome, map};
+ghost use Rattle.std.specs.Option.{option_map};
+ghost use Rattle.chain_links.specs.ChainArena.{entry, seen, shown};
+ghost use Rattle.chain_examples.specs.Renumbering.{IsRenumbered};
+ghost use Rattle.chain_examples.specs.Texts.{IsMovedAfter};
+
+use arena_base::ArenaSlot;
+use arena_ptr::{GenKey, PtrKey, SlotStack};
+use chain_arena::{ChainArena, LinkNoGen};
+use chain_traits::ChainArenaTrait;
+use chain_examples::Documents;
+use std::alloc::{AllocError, Global};
+
+/// `Documents::move_after`, under the clause that says what becomes of the texts.
+pub fn move_after<P: PtrKey, T: Drop, A: ChainArenaTrait<P, T> + Drop>(
+    documents: &mut Documents<P, T, A>,
+    p: P,
+    q: P,
+) -> Option<()>
+    ensures { OnSome result (IsMovedAfter A.entry A.interlinks documents.old documents.new (P.key p) (P.key q)) }
+{
+    documents.move_after(p, q)
+}
+
+/// `Documents::renumber`, under the clause that says what the bookmarks name.
+pub fn renumber<P: PtrKey, T: Drop, S: SlotStack<Item = ArenaSlot<P, LinkNoGen<P, T>>>>(
+    documents: &mut Documents<P, T, ChainArena<P, T, S>>,
+    alloc: Global,
+    bookmarks: &mut [Option<P>],
+) -> Result<(), AllocError>
+    ensures { OnOk result (IsRenumbered P.Gen.first P.Gen.following seen entry shown
+        documents.old documents.new
+        (map (option_map P.key) bookmarks.old) (map (option_map P.key) bookmarks.new)) }
+{
+    documents.renumber(alloc, bookmarks)
+}

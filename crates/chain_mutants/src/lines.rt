@@ -1,0 +1,21 @@
+// Runs.
+ghost use Rattle.chain_commands.specs.Transcripts.{Ends};
+
+use arena_base::ArenaSlot;
+use arena_ptr::{SlotStack, ToolPtr};
+use chain_arena::{ChainArena, LinkNoGen};
+use chain_commands::ToolError;
+use std::alloc::Global;
+use std::io::{Read, Write};
+
+/// `chain_commands::run_on`.
+pub fn run_on<R: Read, W: Write, S: SlotStack<Item = ArenaSlot<ToolPtr, LinkNoGen<ToolPtr, u32>>>>(
+    alloc: Global,
+    arena: &mut ChainArena<ToolPtr, u32, S>,
+    reader: &mut R,
+    writer: &mut W,
+) -> Result<(), ToolError>
+    ensures { Ends result arena.old arena.new (R.remaining reader.old) (R.remaining reader.new) (W.contents writer.old) (W.contents writer.new) }
+{
+    chain_commands::run_on(alloc, arena, reader, writer)
+}

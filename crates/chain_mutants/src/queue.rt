@@ -1,0 +1,41 @@
+// Calls of the run queue.
+ghost use Rattle.std.specs.Prelude.{◌≡◌, ◌↔◌, ◌<◌, ◌+◌, ◌∷◌, [], ◌++◌, length, IfSome, IsOk, IfOk, OnOk, IsErr, OnErr, Err};
+ghost use Rattle.arena_ptr.specs.SlotStack.{IsBeyond};
+ghost use Rattle.arena_base.specs.Arena.{IsRoom};
+ghost use Rattle.chain_laws.specs.Chains.{Has};
+ghost use Rattle.chain_examples.specs.Lists.{indexes};
+ghost use Rattle.chain_examples.specs.Turns.{IsCancelled};
+
+use arena_ptr::{InxKey, PtrKey, ReallocationError};
+use chain_traits::ChainArenaTrait;
+use chain_examples::RunQueue;
+
+/// Forwards to `RunQueue::spawn`, under its clauses.
+pub fn spawn<P: PtrKey, T: Drop, A: ChainArenaTrait<P, T> + Drop>(
+    queue: &mut RunQueue<P, T, A>,
+    task: T,
+) -> Result<P, ReallocationError>
+    ensures last { IfOk result (λ p. queue.new.turn ≡ queue.old.turn ++ (P.key p, task) ∷ []) }
+    ensures fresh { IfOk result (λ p. ¬ Has (indexes queue.old.turn) (P.key p).0) }
+    ensures room { length queue.old.turn < queue.old.room → IsOk result × (queue.new.room ≡ queue.old.room) }
+    ensures grown { OnOk result (IsRoom P.Inx.greatest queue.new.maximum
+        (length queue.old.turn + 1) queue.new.room) }
+    ensures beyond { (result ≡ Err ReallocationError.BeyondMaxCapacity)
+        ↔ ((length queue.old.turn ≡ queue.old.room)
+        × IsBeyond queue.old.maximum (length queue.old.turn + 1)) }
+    ensures greatest { length queue.old.turn ≡ P.Inx.greatest → IsErr result }
+    ensures maximum { queue.new.maximum ≡ queue.old.maximum }
+    ensures err { OnErr result (queue.new ≡ queue.old) }
+{
+    queue.spawn(task)
+}
+
+/// `RunQueue::cancel`, under the clause that says who is left.
+pub fn cancel<P: PtrKey, T: Drop, A: ChainArenaTrait<P, T> + Drop>(
+    queue: &mut RunQueue<P, T, A>,
+    p: P,
+) -> Option<T>
+    ensures { IfSome result (λ task. IsCancelled (P.key p) task queue.old.turn queue.new.turn) }
+{
+    queue.cancel(p)
+}

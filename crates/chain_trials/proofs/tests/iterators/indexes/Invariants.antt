@@ -1,8 +1,0 @@
--- The indexes that were pushed and those of what is left are all.
-use Rattle.std.proofs.Common.{◌≡◌, ◌++◌, map}
-use Rattle.arena_ptr.specs.Indexes.{number_of_inx32}
-use Rattle.arena_base.specs.Entries.{entries, index_of}
-use Rattle.chain_trials.proofs.tests.iterators.indexes.Given as goal
-
-abbrev pub invariant-loop-p : goal.invariant-loop-p
-invariant-loop-p g l = map number_of_inx32 l.all.items ++ map index_of l.p-iterator ≡ map index_of (entries l.arena)

@@ -1,8 +1,0 @@
--- The bookmarks so far are followed.
-use Rattle.std.proofs.Common.{◌≡◌, ◌++◌, map, take, drop, option_and_then}
-use Rattle.chain_users.specs.Tables.{looked_up}
-use Rattle.chain_users.proofs.bookmarks.follow.Given as goal
-
-abbrev pub invariant-loop-bookmark : goal.invariant-loop-bookmark
-invariant-loop-bookmark g l =
-    l.bookmarks ≡ map (option_and_then (looked_up g.P.PtrKey.key g.P.PtrKey.same l.table)) (take l.bookmark-index l.initial.bookmarks) ++ drop l.bookmark-index l.initial.bookmarks

@@ -1,8 +1,0 @@
--- Each link of the arena has one after it, so it stands in a ring.
-use Rattle.chain_users.proofs.Rings.{all_in_rings}
-use Rattle.chain_users.proofs.mesh.Mesh.all_in_polygons.Goals as goal
-
-pub returns : goal.returns
-returns g c =
-    let a = c.self.inside.corners in
-    rw (← c.self.view_is) (all_in_rings g.A.ArenaTrait.entry g.A.ChainArenaTrait.interlinks a (g.A.ArenaTrait.seen a).entries (g.met.A.ArenaTrait.looked_up a) (g.met.A.ChainArenaTrait.stand a) _ c.invariants.ensures.indexes c.invariants.ensures.agree c.self.invariant)

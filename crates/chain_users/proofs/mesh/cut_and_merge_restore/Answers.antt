@@ -1,6 +1,0 @@
--- By what the two make of rings.
-use Rattle.chain_users.proofs.Rings.{cut_and_merge}
-use Rattle.chain_users.proofs.mesh.cut_and_merge_restore.Goals as goal
-
-pub returns : goal.returns
-returns g c = cut_and_merge g.A.ArenaTrait.entry g.A.ChainArenaTrait.interlinks

@@ -1,6 +1,0 @@
-//! An arena of links that hands each call on to another one, which makes a second arena for generic code.
-#![tactic(auto)]
-
-mod wrapped;
-
-pub use wrapped::{Wrapped, WrappedAdvancer, WrappedWalk};

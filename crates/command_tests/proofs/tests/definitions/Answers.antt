@@ -1,0 +1,60 @@
+-- What the definitions say of small texts.
+use Rattle.std.proofs.Common.{◌≡◌, ℕ, List, [], None, Some, ap, refl}
+use Rattle.std.specs.Prelude.{codes}
+use Rattle.std.specs.Option.{option_map, option_zip}
+use Rattle.chain_links.specs.declared.kinds.InsertKindBody.TheVariants.{ChainEnd, NextToInx, BridgeInx}
+use Rattle.chain_arena.specs.declared.calls.Call.TheVariants.{Insert, InsertWithin, Remove, RemoveInx, DrainChain}
+use Rattle.chain_commands.specs.declared.command.Command.TheVariants.{Change}
+use Rattle.chain_commands.specs.Commands.{line_with, by_either}
+use Rattle.chain_commands.specs.Transcripts.{AreComplete, by_line_feed, by_the_end}
+use Rattle.chain_commands.specs.Words.{index_named, generation_of}
+use Rattle.command_tests.proofs.tests.definitions.Goals as goal
+
+-- of a line still to come nothing is complete
+none_complete : (lines : List (List ℕ)) → AreComplete (codes "add alone 2") (Some (codes "5")) lines → lines ≡ []
+none_complete lines by_line_feed = refl
+none_complete lines (by_the_end ended) = cc
+
+pub returns : goal.returns
+unfolding index_named generation_of
+returns c = record {
+  lines = refl;
+  no_line = refl;
+  ended = refl;
+  whole = refl;
+  return_dropped = refl;
+  return_within = refl;
+  words = refl;
+  no_words = refl;
+  number = refl;
+  greatest = refl;
+  too_great = refl;
+  too_long = refl;
+  no_digit = refl;
+  no_number = refl;
+  index = refl;
+  generation = refl;
+  index_zero = refl;
+  generation_zero = refl;
+  two_dots = refl;
+  len = refl;
+  add = refl;
+  add_within = refl;
+  by_pointer = λ p is. ap (λ o. line_with (option_map Change (option_map (λ a. Insert a.0 a.1) (option_zip (option_map ChainEnd o) (Some 7))))) is;
+  by_index = λ i is. ap (λ o. line_with (option_map Change (option_map (λ a. InsertWithin a.0 a.1) (option_zip (option_map NextToInx o) (Some 7))))) is;
+  by_indexes = λ i j is_i is_j. (λ t. line_with (option_map Change (option_map (λ a. Insert a.0 a.1) (option_zip (option_map (λ x. BridgeInx x.0 x.1) (option_zip (is_i t) (is_j t))) (Some 7)))));
+  remove_pointer = λ p is. ap (λ o. line_with (option_map Change (by_either Remove RemoveInx o None))) is;
+  remove_index = λ i is. ap (λ o. line_with (option_map Change (by_either Remove RemoveInx None o))) is;
+  mixed_forms = refl;
+  drain = λ p is. ap (λ o. line_with (option_map Change (option_map (λ a. DrainChain a.0 a.1) (option_zip o (Some 3))))) is;
+  drain_alone = refl;
+  compress = refl;
+  canonical = refl;
+  moves = refl;
+  reserve = refl;
+  incgen = refl;
+  setgen_zero = refl;
+  blank = refl;
+  unfinished = none_complete;
+  finished = by_the_end refl;
+}

@@ -1,0 +1,75 @@
+-- It does nothing.
+use Rattle.std.proofs.Common.{refl, lit<, w64}
+use Rattle.std.specs.Prelude.{ℕ, ◌^◌, ◌<◌, T, List, [], ◌∷◌}
+use seplogic.Ra.Ura.{Ura}
+use mir.Syntax.{Ty}
+use mir.Val.{Val, vunit, vint, vptr, has_ty, WT}
+use base.Logic.{SProp, ent}
+use base.Fml.{Lft, Share, ftrue, flft}
+use prog.Memory.{Memory}
+use prog.Routine.{Routine}
+use prog.Wp.{Calls, Loops, WpFn, Tables}
+use types.Logic.{Logic}
+use contract.Monad.{Fun}
+use contract.Running.{tables, tables_of}
+use sound.WpLaws.{FmC, fm_of, WpFn-mono}
+use types.Kit.{‵, raw, ◌⊛◌, ◌$◌, ◌∵◌, !, qed, move, keep, join, split, fjoin, feq_i, suffices, done}
+use types.Run.{unit_lit, of_opd, returns, enter}
+use types.ByLocal.{alloc_all, pass_all, free_all, look_at, sets, env}
+use denote.RattleType.{owns}
+use denote.Exit.{yes}
+use denote.Builtin.{usize, RefOf}
+use denote.Plain.{uint_vals, uint_Tells}
+use denote.RawPtr.{Ptr, RawPtr, block_ptr, null_ptr, ptr_val, rawptr_vals, rawptr_Tells}
+use denote.Signature.{plain}
+use denote.Steps.{nothing}
+use denote.Triple.Spec.{triple_of}
+use denote.Triple.Table.{entered}
+use denote.Triple.Walked.{Stays, stay_dropped, walk_of, ends_at, walked, Goes-dropped, walk_Meets}
+use Rattle.command_tests.specs.contracts.tests.no_memory.NoMemory as BP
+use denote.Signature.{type_at, types_at}
+use Rattle.command_tests.specs.contracts.tests.no_memory.NoMemoryAllocator.deallocate as F
+use Rattle.command_tests.specs.contracts.tests.no_memory.NoMemoryAllocator.deallocate.Key.{name as #self}
+use Rattle.command_tests.proofs.tests.no_memory.NoMemoryAllocator.deallocate.Statement as stated
+use Rattle.command_tests.proofs.tests.no_memory.NoMemoryAllocator.deallocate.Code as code
+
+abbrev stayed : Stays (F.ended).signature.params (F.ended).kept
+stayed = (stay_dropped (RefOf (0 ∷ []) tt (plain (λ _. BP.the_row)) (λ _. tt)) yes, (stay_dropped (plain (λ _. RawPtr)) yes, (stay_dropped (plain (λ _. usize)) yes, (stay_dropped (plain (λ _. usize)) yes, tt))))
+
+good : (p : Ptr) → T (has_ty mir.Syntax.ty_ptr (ptr_val p)) × WT (ptr_val p)
+good (block_ptr b o) = (tt, tt)
+good null_ptr = (tt, record { fits = lit< tt })
+
+module _ {M : Type 1} {𝓤 : Ura M} (𝓛 : Logic 𝓤) (at_mem : Memory → SProp 𝓤) (run : Routine → Fun 𝓤) (C : Calls 𝓤 𝓛.H) (Λ : Loops 𝓤 𝓛.H) (fm : FmC 𝓤 𝓛.H 𝓛.laws C) where
+  open 𝓛 use {H}
+
+  abbrev Bound : Type 0
+  Bound = (walk_of 𝓛 F.ended stayed (F.clauses 𝓛 at_mem run)).Ghost
+
+  abbrev Pre : Bound → SProp 𝓤
+  Pre = (walk_of 𝓛 F.ended stayed (F.clauses 𝓛 at_mem run)).pre
+
+  abbrev Post : Bound → Val → SProp 𝓤
+  Post = (walk_of 𝓛 F.ended stayed (F.clauses 𝓛 at_mem run)).post
+
+  module _ (κ : Lft) (q : Share) (r : (type_at {n = 1} (RefOf (0 ∷ []) tt (plain (λ _. BP.the_row)) (λ _. tt)) (κ, tt)).Denot) (p : Ptr) (n a : ℕ) (τ : Ty) where
+    abbrev bound : Bound
+    bound = (((κ, tt), (q, tt), tt, (r, (p, (n, (a, tt)))), (vptr r.ref_ptr.0 r.ref_ptr.1 ∷ [], (ptr_val p ∷ [], (vint w64 n ∷ [], (vint w64 a ∷ [], tt))))), τ)
+
+    walk : n < 2 ^ 64 → a < 2 ^ 64 → ent 𝓤 (Pre bound) (WpFn 𝓤 H C Λ code.function (vptr r.ref_ptr.0 r.ref_ptr.1 ∷ ptr_val p ∷ vint w64 n ∷ vint w64 a ∷ []) (Post bound))
+    walk fn fa =
+        qed 𝓛 (((‵ (flft κ q) ⊛ ‵ ftrue) ⊛ ‵ (owns (types_at (F.signature).params (κ, tt)) bound.0.3 bound.0.4)) ∷ raw ((F.clauses 𝓛 at_mem run (κ, tt) bound.0.3).requires τ) ∷ []) ∵ split ! $ keep ! (0 ∷ []) $
+        enter ! C Λ code.function (vptr r.ref_ptr.0 r.ref_ptr.1 ∷ ptr_val p ∷ vint w64 n ∷ vint w64 a ∷ []) _ $ alloc_all ! (λ l. pass_all ! refl ((tt, tt), (good p, ((tt, record { fits = fn }), ((tt, record { fits = fa }), tt)))) $
+        sets ! (of_opd ! (unit_lit !)) refl (tt, tt) $ returns ! (look_at ! 0 refl) $ free_all ! refl $
+        suffices ! _ (ends_at 𝓛 F.ended stayed (F.clauses 𝓛 at_mem run) bound (vunit) (tt) (tt, (tt, (tt, (tt, tt)))) (tt, (tt, (tt, (tt, tt))))) $ nothing ! $ feq_i ! (List Val) (vunit ∷ []) (vunit ∷ []) refl $ nothing ! $ nothing ! $ fjoin ! $ nothing ! $ fjoin ! $ nothing ! $ fjoin ! $ nothing ! $ fjoin ! $ join ! $ move ! (2 ∷ 0 ∷ []) $ join ! $ done !)
+
+pub deallocate_spec : {M : Type 1} → stated.statement M
+unfolding tables_of
+deallocate_spec 𝓤 𝓛 𝓜 𝓡 wired =
+    let A = 𝓛.A in
+    let 𝓣 : Tables 𝓤 𝓛.H = tables_of 𝓤 𝓛.H 𝓜 (tables 𝓤 𝓛.H 𝓜 𝓡 𝓡.env) in
+    let held = F.clauses 𝓛 𝓜.mem 𝓡.returns in
+    entered 𝓤 𝓛.H (triple_of 𝓛 F.signature (F.spec 𝓛 𝓜.mem 𝓡.returns)) 𝓣.C 𝓣.Λ #self code.function (code.unfolded 𝓤 𝓛.H 𝓜 𝓡 wired)
+    (walk_Meets 𝓛 F.ended stayed (Goes-dropped 𝓛 1 (RefOf (0 ∷ []) tt (plain (λ _. BP.the_row)) (λ _. tt)) yes (λ κs x f. refl), (Goes-dropped 𝓛 1 (plain (λ _. RawPtr)) yes (λ κs x f. refl), (Goes-dropped 𝓛 1 (plain (λ _. usize)) yes (λ κs x f. refl), (Goes-dropped 𝓛 1 (plain (λ _. usize)) yes (λ κs x f. refl), tt)))) held (WpFn 𝓤 𝓛.H 𝓣.C 𝓣.Λ code.function) (WpFn-mono 𝓤 𝓛.H 𝓛.laws 𝓣 code.function)
+    (walked 𝓛 F.ended stayed held (WpFn 𝓤 𝓛.H 𝓣.C 𝓣.Λ code.function) (λ κs. ((λ r. vptr r.ref_ptr.0 r.ref_ptr.1 ∷ []), (rawptr_vals, (uint_vals w64, (uint_vals w64, tt))))) (λ κs. ((λ r vs s. s.0), (rawptr_Tells, (uint_Tells w64, (uint_Tells w64, tt)))))
+    (λ κs qs bounds a g are. walk 𝓛 𝓜.mem 𝓡.returns 𝓣.C 𝓣.Λ (fm_of 𝓤 𝓛.H 𝓛.laws 𝓣) κs.0 qs.0 a.0 a.1.0 a.1.1.0 a.1.1.1.0 g are.1.1.0.1 are.1.1.1.0.1)))

@@ -1,0 +1,5 @@
+//! The tests of `chain_commands`.
+#![tactic(auto)]
+
+#[cfg(test)]
+mod tests;

@@ -1,0 +1,561 @@
+//! Runs of the program over readers and writers in memory, and in `users` the data structures on arenas of links.
+mod faulty;
+mod no_memory;
+mod small_indexes;
+mod users;
+
+ghost use Rattle.std.specs.Prelude.{◌≡◌, ℕ, List, ◌∷◌, [], codes, true, Some, None, option_map};
+ghost use Rattle.chain_links.specs.declared.kinds.InsertKindBody.TheVariants.{Disconnected, SingleLinkCyclic, ChainEnd, NextToInx, BridgeInx};
+ghost use Rattle.arena_ptr.specs.declared.index.inx32.Inx32.{Inx32};
+ghost use Rattle.arena_ptr.specs.declared.tool_ptr.ToolPtr.{ToolPtr};
+ghost use Rattle.chain_arena.specs.declared.calls.Call.TheVariants.{Insert, InsertWithin, Remove, RemoveInx, DrainChain, Compress, CompressCanonical, Reserve, IncGeneration};
+ghost use Rattle.chain_commands.specs.declared.command.Command.TheVariants.{Change, Len, Moves};
+ghost use Rattle.chain_commands.specs.declared.command.Line.TheVariants.{Blank, Bad, Good};
+ghost use Rattle.chain_commands.specs.Words.{lines_of, whole_lines, without_return, words_of, number_of, index_word, pointer_of};
+ghost use Rattle.chain_commands.specs.Commands.{line_of};
+ghost use Rattle.chain_commands.specs.Transcripts.{AreComplete};
+
+use arena_base::{ArenaSlot, ArenaTrait};
+use arena_ptr::{
+    ChunkStack, HeapStack, Inx32, LimitStack, LimitedStack, SetMaxCapacity, SlotStack, ToolPtr,
+};
+use chain_arena::{ChainArena, ChainArenaTrait, LinkInsertKind, LinkNoGen};
+use chain_commands::{ToolError, run, run_on};
+use std::alloc::Global;
+use std::fmt::Debug;
+use std::process::Abort;
+
+/// A slot of a link of a number.
+type Slot = ArenaSlot<ToolPtr, LinkNoGen<ToolPtr, u32>>;
+
+/// The arena of a run, over any stack: what is written for one stack costs its proof twice as much.
+type LinksOver<S> = ChainArena<ToolPtr, u32, S>;
+
+/// Looks whether a test got what it wants.
+fn same<T: PartialEq + Debug + Drop>(rt: &impl Abort, what: &str, got: T, want: T) {
+    assert_eq!(rt; got, want, "{what}");
+}
+
+/// Runs the program on bytes, and looks whether it reads them to their end and writes these.
+fn check(rt: &impl Abort, alloc: Global, what: &str, input: &[u8], output: &[u8]) {
+    let mut reader = input;
+    let mut written = Vec::new(alloc);
+    let result = run(alloc, &mut reader, &mut written);
+    same(rt, what, result, Ok(()));
+    same(rt, what, written.as_slice(), output);
+    same(rt, what, reader.len(), 0);
+}
+
+/// Runs the program on texts, and looks whether it writes these.
+fn check_texts(rt: &impl Abort, alloc: Global, rows: &[(&str, &str)]) {
+    for (input, output) in rows {
+        check(rt, alloc, input, input.as_bytes(), output.as_bytes());
+    }
+}
+
+/// Carries out a text on an arena: how that ends, and what is written.
+fn carried_out<S: SlotStack<Item = Slot>>(
+    alloc: Global,
+    arena: &mut LinksOver<S>,
+    input: &str,
+) -> (Result<(), ToolError>, Vec<u8>) {
+    let mut reader = input.as_bytes();
+    let mut written = Vec::new(alloc);
+    let result = run_on(alloc, arena, &mut reader, &mut written);
+    (result, written)
+}
+
+/// Carries out a text on an arena, and looks whether the program writes these lines.
+fn check_on<S: SlotStack<Item = Slot>>(
+    rt: &impl Abort,
+    alloc: Global,
+    arena: &mut LinksOver<S>,
+    input: &str,
+    output: &str,
+) {
+    let (result, written) = carried_out(alloc, arena, input);
+    same(rt, input, result, Ok(()));
+    same(rt, input, written.as_slice(), output.as_bytes());
+}
+
+/// The definitions on small texts.
+fn definitions()
+    ensures lines { lines_of (97 ∷ 10 ∷ 10 ∷ 98 ∷ []) ≡ (97 ∷ []) ∷ [] ∷ (98 ∷ []) ∷ [] }
+    ensures no_line { lines_of [] ≡ [] ∷ [] }
+    ensures ended { lines_of (97 ∷ 10 ∷ []) ≡ (97 ∷ []) ∷ [] ∷ [] }
+    ensures whole { whole_lines (97 ∷ 10 ∷ 98 ∷ []) ≡ (97 ∷ []) ∷ [] }
+    ensures return_dropped { without_return (97 ∷ 13 ∷ 13 ∷ []) ≡ 97 ∷ 13 ∷ [] }
+    ensures return_within { without_return (13 ∷ 97 ∷ []) ≡ 13 ∷ 97 ∷ [] }
+    ensures words { words_of (codes "  add  7 ") ≡ codes "add" ∷ codes "7" ∷ [] }
+    ensures no_words { words_of (codes "   ") ≡ [] }
+    ensures number { number_of (codes "007") ≡ Some 7 }
+    ensures greatest { number_of (codes "4294967295") ≡ Some 4294967295 }
+    ensures too_great { number_of (codes "4294967296") ≡ None }
+    ensures too_long { number_of (codes "00000000007") ≡ None }
+    ensures no_digit { number_of (codes "7x") ≡ None }
+    ensures no_number { number_of [] ≡ None }
+    ensures index { option_map (λ p. p.inx.number) (pointer_of (codes "12.3")) ≡ Some 12 }
+    ensures generation { option_map (λ p. p.generation.number) (pointer_of (codes "12.3")) ≡ Some 3 }
+    ensures index_zero { pointer_of (codes "0.3") ≡ None }
+    ensures generation_zero { pointer_of (codes "12.0") ≡ None }
+    ensures two_dots { pointer_of (codes "1.2.3") ≡ None }
+    ensures len { line_of (codes " len ") ≡ Good Len }
+    ensures add { line_of (codes "add alone 7") ≡ Good (Change (Insert Disconnected 7)) }
+    ensures add_within { line_of (codes "addwithin ring 7") ≡ Good (Change (InsertWithin SingleLinkCyclic 7)) }
+    ensures by_pointer { (p : ToolPtr) → pointer_of (codes "1.2") ≡ Some p → line_of (codes "add end 1.2 7") ≡ Good (Change (Insert (ChainEnd p) 7)) }
+    ensures by_index { (i : Inx32) → index_word (codes "1") ≡ Some i → line_of (codes "addwithin after 1 7") ≡ Good (Change (InsertWithin (NextToInx i) 7)) }
+    ensures by_indexes { (i j : Inx32) → index_word (codes "3") ≡ Some i → index_word (codes "1") ≡ Some j → line_of (codes "add bridge 3 1 7") ≡ Good (Change (Insert (BridgeInx i j) 7)) }
+    ensures remove_pointer { (p : ToolPtr) → pointer_of (codes "1.2") ≡ Some p → line_of (codes "remove 1.2") ≡ Good (Change (Remove p)) }
+    ensures remove_index { (i : Inx32) → index_word (codes "1") ≡ Some i → line_of (codes "remove 1") ≡ Good (Change (RemoveInx i)) }
+    ensures mixed_forms { line_of (codes "add between 1.2 1 5") ≡ Bad }
+    ensures drain { (p : ToolPtr) → pointer_of (codes "1.2") ≡ Some p → line_of (codes "drain 1.2 3") ≡ Good (Change (DrainChain p 3)) }
+    ensures drain_alone { line_of (codes "drain") ≡ Bad }
+    ensures compress { line_of (codes "compress reset") ≡ Good (Change (Compress true)) }
+    ensures canonical { line_of (codes "canonical reset") ≡ Good (Change (CompressCanonical true)) }
+    ensures moves { line_of (codes "moves reset") ≡ Good (Moves true) }
+    ensures reserve { line_of (codes "reserve 9") ≡ Good (Change (Reserve 9)) }
+    ensures incgen { line_of (codes "incgen") ≡ Good (Change IncGeneration) }
+    ensures setgen_zero { line_of (codes "setgen 0") ≡ Bad }
+    ensures blank { line_of (codes " ") ≡ Blank }
+    ensures unfinished { (lines : List (List ℕ)) → AreComplete (codes "add alone 2") (Some (codes "5")) lines → lines ≡ [] }
+    ensures finished { AreComplete (codes "add alone 2") (Some []) (codes "add alone 2" ∷ []) }
+{}
+
+#[test]
+fn small_texts() {
+    definitions();
+}
+
+const TWO_LONE_LINKS_CONNECTED: (&str, &str) = (
+    "add alone 10\nadd alone 20\nconnect 1.2 2.2\nchain 1.2\n",
+    "at 1.2\nat 2.2\nok\n1.2:10 2.2:20\n",
+);
+
+const FIRST_TABLE: (&str, &str) = (
+    "add alone 1\nconnect 1.2 1.2\nshow 1.2\nconnect 1.2 1.2\nadd end 1.2 2\nadd alone 2\nadd alone 3\n\
+        connect 2.2 3.2\nconnect 3.2 2.2\nchain 3.2\nlen\nbreaknext 3.2\n",
+    "at 1.2\nok\nprev 1.2 next 1.2 value 1\nnone\nrefused link\nat 2.2\nat 3.2\n\
+        ok\nok\n3.2:3 2.2:2\ncount 3\nok\n",
+);
+
+const LINES_AND_WORDS: [(&str, &str); 24] = [
+    ("", ""),
+    ("\n\n \n", ""),
+    ("\r\n  \r\n", ""),
+    ("len", "count 0\n"),
+    ("len\r", "count 0\n"),
+    ("len\n", "count 0\n"),
+    ("  len  \n", "count 0\n"),
+    ("add  alone   007\r\n", "at 1.2\n"),
+    ("len\r\r\n", "bad line\n"),
+    ("len\t\n", "bad line\n"),
+    ("len\0\n", "bad line\n"),
+    ("l\u{e9}n\n", "bad line\n"),
+    ("add\talone 1\n", "bad line\n"),
+    ("Len\n", "bad line\n"),
+    ("chain 1\n", "bad line\n"),
+    ("LEN\n", "bad line\n"),
+    ("le\n", "bad line\n"),
+    ("len 1\n", "bad line\n"),
+    ("add alone\n", "bad line\n"),
+    ("add alone 1 2\n", "bad line\n"),
+    ("connect 1.2\n", "bad line\n"),
+    ("connect 1.2 1.2 1.2\n", "bad line\n"),
+    ("hello\nlen\n", "bad line\ncount 0\n"),
+    ("remove 1.2 1.2\nclear\n", "bad line\nok\n"),
+];
+
+const KINDS_AND_VALUES: [(&str, &str); 20] = [
+    ("add end 0.2 5\n", "bad line\n"),
+    ("add end 0 5\n", "bad line\n"),
+    ("add between 1.2 1 5\n", "bad line\n"),
+    ("add bridge 1 1.2 5\n", "bad line\n"),
+    ("add ring\n", "bad line\n"),
+    ("add ring 1 2\n", "bad line\n"),
+    ("add end 1.2\n", "bad line\n"),
+    ("add end 1.2 2.2 5\n", "bad line\n"),
+    ("add between 1.2 5\n", "bad line\n"),
+    ("add between 1 2 3 5\n", "bad line\n"),
+    ("add sideways 1.2 3\n", "bad line\n"),
+    ("add alone 1.2\n", "bad line\n"),
+    ("add 3\n", "bad line\n"),
+    ("add\n", "bad line\n"),
+    ("addwithin 3\n", "bad line\n"),
+    ("addwithin alone 1 2\n", "bad line\n"),
+    ("addwithin alone 1\n", "refused capacity\n"),
+    ("addwithin end 1 1\n", "refused link\n"),
+    ("add after 1 1\n", "refused link\n"),
+    ("add before 4294967295.2 1\n", "refused link\n"),
+];
+
+const KINDS_TABLE: (&str, &str) = (
+    "add alone 1\nadd between 1.2 1.2 5\nadd bridge 1.2 1.2 2\nadd before 1 3\nadd between 3 1 4\n\
+        chain 2.2\nadd ring 6\nadd after 5.2 7\nshow 5.2\nadd start 5 8\naddwithin end 5.2 9\n",
+    "at 1.2\nrefused link\nat 2.2\nat 3.2\nat 4.2\n2.2:2 3.2:3 4.2:4 1.2:1\nat 5.2\nat 6.2\n\
+        prev 6.2 next 6.2 value 6\nrefused link\nrefused link\n",
+);
+
+const A_CHAIN_GROWN_JOINED_AND_DRAINED: (&str, &str) = (
+    "add alone 1\nadd alone 2\nconnect 1.2 2.2\nadd end 1.2 9\nadd end 2.2 4\nadd between 2.2 3.2 3\n\
+        add alone 5\nadd end 5.2 6\nadd end 6.2 7\nconnect 3.2 5.2\nchain 1.2\nremove 3.2\nchain 1.2\n\
+        drain 5.2 0\nlen\nadd alone 8\n",
+    "at 1.2\nat 2.2\nok\nrefused link\nat 3.2\nat 4.2\nat 5.2\nat 6.2\nat 7.2\nok\n\
+        1.2:1 2.2:2 4.2:3 3.2:4 5.2:5 6.2:6 7.2:7\nvalue 4\n1.2:1 2.2:2 4.2:3 5.2:5 6.2:6 7.2:7\n\
+        count 0\ncount 0\nat 1.9\n",
+);
+
+const EACH_KIND: &str = "at 1.2\nat 2.2\nat 3.2\nat 4.2\nat 5.2\nat 6.2\nat 7.2\nat 8.2\n\
+        3.2:3 4.2:4 1.2:1 6.2:6 5.2:5 2.2:2 7.2:7\n8.2:8\n";
+
+const EACH_KIND_BY_POINTER: (&str, &str) = (
+    "add alone 1\nadd end 1.2 2\nadd start 1.2 3\nadd after 3.2 4\nadd before 2.2 5\nadd between 1.2 5.2 6\n\
+        add bridge 2.2 3.2 7\nadd ring 8\nchain 3.2\nchain 8.2\n",
+    EACH_KIND,
+);
+
+const EACH_KIND_BY_INDEX: (&str, &str) = (
+    "add alone 1\nadd end 1 2\nadd start 1 3\nadd after 3 4\nadd before 2 5\nadd between 1 5 6\n\
+        add bridge 2 3 7\nadd ring 8\nchain 3.2\nchain 8.2\n",
+    EACH_KIND,
+);
+
+const NUMBERS_AND_POINTERS: [(&str, &str); 21] = [
+    (
+        "add alone 4294967295\nshow 1.2\n",
+        "at 1.2\nprev - next - value 4294967295\n",
+    ),
+    ("add alone 4294967296\n", "bad line\n"),
+    ("add alone 0000000007\nchain 1.2\n", "at 1.2\n1.2:7\n"),
+    ("add alone 00000000007\n", "bad line\n"),
+    ("add alone -1\n", "bad line\n"),
+    ("add alone +1\n", "bad line\n"),
+    ("add alone 1x\n", "bad line\n"),
+    ("show 0.2\n", "bad line\n"),
+    ("show 1.0\n", "bad line\n"),
+    ("show 1.1\n", "none\n"),
+    ("chain 1.2\n", "none\n"),
+    ("drain 9.9 1\n", "none\n"),
+    ("connect 1.2 1.2\n", "none\n"),
+    ("show 4294967295.4294967295\n", "none\n"),
+    ("show 4294967296.2\n", "bad line\n"),
+    ("show 1\n", "bad line\n"),
+    ("show 1.\n", "bad line\n"),
+    ("show .2\n", "bad line\n"),
+    ("show .\n", "bad line\n"),
+    ("show 1.2.3\n", "bad line\n"),
+    (
+        "add alone 5\nshow 01.002\n",
+        "at 1.2\nprev - next - value 5\n",
+    ),
+];
+
+/// A command, enough spaces to fill a line of this length, and what ends the line.
+fn filled(rt: &impl Abort, alloc: Global, command: &str, len: usize, end: &str) -> String {
+    format!(in alloc; "{command:len$}{end}").expect(rt, "memory")
+}
+
+/// What a row is about, a command, the length that spaces fill its line to, what ends the line, and what the program
+/// writes.
+type FilledLine<'a> = (&'a str, &'a str, usize, &'a str, &'a str);
+
+/// Runs the program on a filled line, and looks whether it writes this.
+fn check_filled(rt: &impl Abort, alloc: Global, line: &FilledLine<'_>) {
+    let (what, command, len, end, output) = line;
+    let input = filled(rt, alloc, command, *len, end);
+    same(rt, what, input.len().saturating_sub(end.len()), *len);
+    check(rt, alloc, what, input.as_bytes(), output.as_bytes());
+}
+
+/// Filled lines of up to 200 bytes, and longer ones.
+const FILLED_LINES: [FilledLine<'static>; 8] = [
+    ("200 bytes", "len", 200, "", "count 0\n"),
+    ("201 bytes", "len", 201, "", "bad line\n"),
+    ("200 bytes with a return", "len", 199, "\r\n", "count 0\n"),
+    ("201 bytes with a return", "len", 200, "\r\n", "bad line\n"),
+    (
+        "200 bytes and a line",
+        "len",
+        200,
+        "\nlen\n",
+        "count 0\ncount 0\n",
+    ),
+    ("200 spaces", "", 200, "\n", ""),
+    ("201 spaces", "", 201, "\n", "bad line\n"),
+    ("70000 spaces", "", 70000, "\nlen\n", "bad line\ncount 0\n"),
+];
+
+#[test]
+fn lines_of_200_bytes_and_more(rt: HostRuntime) {
+    for line in &FILLED_LINES {
+        check_filled(&rt, rt.alloc(), line);
+    }
+}
+
+const REMOVAL_TABLE: (&str, &str) = (
+    "add alone 1\nadd alone 2\nconnect 1.2 2.2\nconnect 2.2 1.2\nremove 2.2\nshow 1.2\nadd alone 9\n\
+        len\nremove 2.2\nremove 1.2 \nremove 1\nremove\n",
+    "at 1.2\nat 2.2\nok\nok\nvalue 2\nprev 1.2 next 1.2 value 1\nat 2.3\n\
+        count 2\nnone\nvalue 1\nnone\nbad line\n",
+);
+
+const CUTTING_TABLE: (&str, &str) = (
+    "add alone 1\nadd end 1 2\nadd end 2 3\nadd end 3 4\nexchange 1.2 2.2\nchain 1.2\nexchange 1.2 2.2\n\
+        chain 1.2\nbreaknext 2.2\nbreakprev 1.2\nexchange 4.2 1.2\ninvalidate 3.2\nshow 4.2\n\
+        drain 4.2 1\nlen\nadd alone 9\ndrain 1.2 9\nclear\nadd alone 1\n",
+    "at 1.2\nat 2.2\nat 3.2\nat 4.2\nok\n1.2:1 3.2:3 4.2:4\nok\n1.2:1 2.2:2 3.2:3 4.2:4\nok\nnone\nnone\n\
+        at 3.3\nprev 3.3 next - value 4\ncount 1\ncount 2\nat 3.5\ncount 2\nok\nat 1.8\n",
+);
+
+const COMPRESSION_TABLE: (&str, &str) = (
+    "add alone 1\nadd alone 2\nadd end 2.2 3\nremove 1.2\ncompress keep\nchain 1.4\ncompress reset\n\
+        chain 2.2\nsetgen 4294967295\ncompress reset\nsetgen 4294967295\ncompress keep\nchain 1.2\n\
+        clear\ncompress keep\nadd alone 4\n",
+    "at 1.2\nat 2.2\nat 3.2\nvalue 1\nok\n1.4:2 2.4:3\nok\n2.2:3 1.2:2\nok\nok\nok\nok overflow\n\
+        1.2:2 2.2:3\nok\nok\nat 1.3\n",
+);
+
+const CANONICAL_TABLE: (&str, &str) = (
+    "add alone 1\nadd alone 2\nadd end 1.2 3\nadd end 2.2 4\nremove 1.2\nadd end 4.2 5\ncanonical keep\n\
+        chain 1.4\nshow 4.4\ncanonical reset\nchain 2.2\nsetgen 4294967295\ncanonical keep\n",
+    "at 1.2\nat 2.2\nat 3.2\nat 4.2\nvalue 1\nat 1.3\nok\n1.4:2 2.4:4 3.4:5\nprev - next - value 3\n\
+        ok\n2.2:4 3.2:5 1.2:2\nok\nok overflow\n",
+);
+
+const MOVES_TABLE: (&str, &str) = (
+    "add alone 5\nadd alone 6\nadd start 1.2 7\nmoves keep\nmoves reset\nclear\nmoves keep\nmoves\n\
+        add alone 8\nsetgen 4294967295\nmoves keep\n",
+    "at 1.2\nat 2.2\nat 3.2\nmoved 3 3.2>1.3 1.2>2.3 2.2>3.3\nmoved 3 1.3>1.2 2.3>2.2 3.3>3.2\nok\nmoved 0\n\
+        bad line\nat 1.3\nok\nmoved 1 1.3>1.2 overflow\n",
+);
+
+const OVERFLOW_TABLE: (&str, &str) = (
+    "add alone 1\nsetgen 4294967295\nadd end 1.2 2\nshow 1.2\ninvalidate 1.2\nincgen\nremove 2.4294967295\n\
+        setgen 0\nreserve 0\nreserve 9\nreserve 4294967296\n",
+    "at 1.2\nok\nat 2.4294967295\nprev - next 2.4294967295 value 1\nat 1.2 overflow\nok\nvalue 2\n\
+        bad line\nok\nok\nbad line\n",
+);
+
+const REMOVED_BY_INDEX: (&str, &str) = (
+    "add alone 1\nadd end 1.2 2\nremove 1\nremove 1\nremove 1.2\nshow 2.2\nclear\nclear\nadd alone 3\n",
+    "at 1.2\nat 2.2\nvalue 1\nnone\nnone\nprev - next - value 2\nok\nok\nat 1.4\n",
+);
+
+const MALFORMED_STEPS: [(&str, &str); 23] = [
+    ("reserve\n", "bad line\n"),
+    ("reserve x\n", "bad line\n"),
+    ("setgen\n", "bad line\n"),
+    ("setgen 4294967296\n", "bad line\n"),
+    ("incgen 1\n", "bad line\n"),
+    ("reserve 1 2\n", "bad line\n"),
+    ("breaknext 1\n", "bad line\n"),
+    ("breakprev\n", "bad line\n"),
+    ("exchange 1.2\n", "bad line\n"),
+    ("exchange 1.2 1\n", "bad line\n"),
+    ("invalidate 1\n", "bad line\n"),
+    ("drain 1.2\n", "bad line\n"),
+    ("drain 1 2\n", "bad line\n"),
+    ("drain 1.2 x\n", "bad line\n"),
+    ("drain 1.2 4294967296\n", "bad line\n"),
+    ("drain 1.2 1 1\n", "bad line\n"),
+    ("clear 1\n", "bad line\n"),
+    ("compress\n", "bad line\n"),
+    ("compress x\n", "bad line\n"),
+    ("compress keep keep\n", "bad line\n"),
+    ("remove 4294967296\n", "bad line\n"),
+    ("remove 0\n", "bad line\n"),
+    ("remove 1 2\n", "bad line\n"),
+];
+
+/// Steps at the greatest generation.
+const OVERFLOWS: [(&str, &str); 6] = [
+    (
+        "setgen 4294967295\nadd alone 5\nremove 1.4294967295\nadd alone 6\n",
+        "ok\nat 1.4294967295\nvalue 5 overflow\nat 1.2\n",
+    ),
+    (
+        "add alone 5\nadd end 1.2 6\nsetgen 4294967295\ninvalidate 2.2\nshow 1.2\n",
+        "at 1.2\nat 2.2\nok\nat 2.2 overflow\nprev - next 2.2 value 5\n",
+    ),
+    (
+        "add alone 5\nadd end 1.2 6\nsetgen 4294967295\nremove 1\nlen\n",
+        "at 1.2\nat 2.2\nok\nvalue 5 overflow\ncount 1\n",
+    ),
+    (
+        "add alone 5\nadd end 1.2 6\nsetgen 4294967295\ndrain 1.2 1\nlen\nadd alone 7\n",
+        "at 1.2\nat 2.2\nok\ncount 1\ncount 0\nat 2.3\n",
+    ),
+    (
+        "add alone 5\nadd end 1.2 6\nsetgen 4294967295\nclear\nclear\nadd alone 7\n",
+        "at 1.2\nat 2.2\nok\nok overflow\nok\nat 1.2\n",
+    ),
+    (
+        "add alone 5\nadd end 1.2 6\nsetgen 4294967295\ncompress keep\ncompress keep\nchain 1.3\n",
+        "at 1.2\nat 2.2\nok\nok overflow\nok\n1.3:5 2.3:6\n",
+    ),
+];
+
+/// Texts that are carried out one after another on one arena with a maximum of two: a given arena that holds a link; a full one; and
+/// one with room for two links.
+const LIMITED: [&[(&str, &str)]; 3] = [
+    &[
+        ("add alone 5\n", "at 1.2\n"),
+        ("add alone 6\nconnect 2.2 1.2\n", "at 2.2\nok\n"),
+        ("chain 2.2\n", "2.2:6 1.2:5\n"),
+    ],
+    &[(
+        "add alone 1\nadd alone 2\nadd alone 3\nremove 1.2\nadd alone 3\nlen\n",
+        "at 1.2\nat 2.2\nrefused limit\nvalue 1\nat 1.3\ncount 2\n",
+    )],
+    &[(
+        "reserve 2\naddwithin alone 1\naddwithin alone 2\naddwithin alone 3\nadd alone 3\nadd end 9.9 3\n\
+        remove 1.2\naddwithin alone 3\n",
+        "ok\nat 1.2\nat 2.2\nrefused capacity\nrefused limit\nrefused link\nvalue 1\nat 1.3\n",
+    )],
+];
+
+/// Carries out texts on an arena with a maximum of two.
+fn check_limited<S: LimitStack<Item = Slot>>(
+    rt: &impl Abort,
+    alloc: Global,
+    texts: &[(&str, &str)],
+) {
+    let mut arena = LinksOver::<S>::new(alloc);
+    let _ = arena.set_max_capacity(2);
+    for (input, output) in texts {
+        check_on(rt, alloc, &mut arena, input, output);
+    }
+}
+
+#[test]
+fn limited_arenas(rt: HostRuntime) {
+    for texts in &LIMITED {
+        check_limited::<LimitedStack<Slot>>(&rt, rt.alloc(), texts);
+    }
+}
+
+/// Lines of every sort: among them one without words, one of 201 spaces, and a last one that no line feed ends.
+const LINES_OF_EVERY_SORT: (&str, &str) = (
+    "add end 0.2 5\nadd  alone   007\r\n\nadd between 1.2 1 5\n                                                                                                                                                                                                         \n\
+    remove 4294967296.2\nremove 1\nchain 1.2\nlen",
+    "bad line\nat 1.2\nbad line\nbad line\nbad line\nvalue 7\nnone\ncount 0\n",
+);
+
+/// The sample that the program is shown by.
+const SAMPLE: (&str, &str) = (
+    "add alone 10\nadd alone 20\nconnect 1.2 2.2\nadd end 1.2 40\nadd end 2.2 40\nchain 1.2\nshow 2.2\nremove 2.2\n\
+    chain 3.2\nshow 2.2\nhello\n",
+    "at 1.2\nat 2.2\nok\nrefused link\nat 3.2\n1.2:10 2.2:20 3.2:40\nprev 1.2 next 3.2 value 20\nvalue 20\n\
+    3.2:40 1.2:10\nnone\nbad line\n",
+);
+
+/// Whole runs, each a text and what the program writes.
+static RUNS: [(&str, &str); 15] = [
+    SAMPLE,
+    LINES_OF_EVERY_SORT,
+    TWO_LONE_LINKS_CONNECTED,
+    FIRST_TABLE,
+    KINDS_TABLE,
+    A_CHAIN_GROWN_JOINED_AND_DRAINED,
+    REMOVAL_TABLE,
+    CUTTING_TABLE,
+    COMPRESSION_TABLE,
+    CANONICAL_TABLE,
+    MOVES_TABLE,
+    OVERFLOW_TABLE,
+    REMOVED_BY_INDEX,
+    EACH_KIND_BY_POINTER,
+    EACH_KIND_BY_INDEX,
+];
+
+/// .. in a body of its own, since what names a table costs by its rows.
+fn runs() -> &'static [(&'static str, &'static str)] {
+    &RUNS
+}
+
+// All other tables, as one constant that one body names.
+const TABLES: [&[(&str, &str)]; 5] = [
+    &OVERFLOWS,
+    &LINES_AND_WORDS,
+    &KINDS_AND_VALUES,
+    &NUMBERS_AND_POINTERS,
+    &MALFORMED_STEPS,
+];
+
+#[test]
+fn texts_and_what_is_written(rt: HostRuntime) {
+    check_texts(&rt, rt.alloc(), runs());
+    for table in &TABLES {
+        check_texts(&rt, rt.alloc(), table);
+    }
+}
+
+/// Carries out whole runs, each on a new arena.
+fn check_runs<S: SlotStack<Item = Slot>>(rt: &impl Abort, alloc: Global) {
+    for (input, output) in runs() {
+        check_on(rt, alloc, &mut LinksOver::<S>::new(alloc), input, output);
+    }
+}
+
+/// Makes a chain of 130 links, over three blocks, each with its index as its value, and tells how many there are.
+fn add_chain<S: SlotStack<Item = Slot>>(arena: &mut LinksOver<S>) -> usize {
+    let mut kind = LinkInsertKind::Disconnected;
+    for t in 1..=130 {
+        if let Ok(p) = arena.insert_reallocating(kind, t) {
+            kind = LinkInsertKind::ChainEnd(p);
+        }
+    }
+    arena.len()
+}
+
+/// Removes the first 64 of them again, and tells how many are left.
+fn empty_the_first_block<S: SlotStack<Item = Slot>>(arena: &mut LinksOver<S>) -> usize {
+    for i in 1..=64 {
+        if let Some(i) = Inx32::new(i) {
+            arena.remove_inx(i);
+        }
+    }
+    arena.len()
+}
+
+/// The walk along the 66 links that are left, in one run from index 1 on.
+const WALK_OF_THE_REST: (&str, &str) = (
+    "chain 1.67\n",
+    "1.67:65 2.67:66 3.67:67 4.67:68 5.67:69 6.67:70 7.67:71 8.67:72 9.67:73 10.67:74 11.67:75 12.67:76 13.67:77 \
+    14.67:78 15.67:79 16.67:80 17.67:81 18.67:82 19.67:83 20.67:84 21.67:85 22.67:86 23.67:87 24.67:88 25.67:89 \
+    26.67:90 27.67:91 28.67:92 29.67:93 30.67:94 31.67:95 32.67:96 33.67:97 34.67:98 35.67:99 36.67:100 \
+    37.67:101 38.67:102 39.67:103 40.67:104 41.67:105 42.67:106 43.67:107 44.67:108 45.67:109 46.67:110 \
+    47.67:111 48.67:112 49.67:113 50.67:114 51.67:115 52.67:116 53.67:117 54.67:118 55.67:119 56.67:120 \
+    57.67:121 58.67:122 59.67:123 60.67:124 61.67:125 62.67:126 63.67:127 64.67:128 65.67:129 66.67:130\n",
+);
+
+/// How many links there are, and how many of them are placed as they are laid out.
+fn placed<S: SlotStack<Item = Slot>>(arena: &mut LinksOver<S>) -> (usize, u128) {
+    let links = arena.len();
+    let (_, work) = arena.compress_canonical_counted(false);
+    (links, work.placed)
+}
+
+/// The first block of a chain over three is emptied, and the chain compressed to the first two: it comes there in its order, and
+/// each link is placed once.
+fn check_chain<S: SlotStack<Item = Slot>>(rt: &impl Abort, alloc: Global) {
+    let mut arena = LinksOver::<S>::new(alloc);
+    assert!(rt; add_chain(&mut arena) == 130);
+    assert!(rt; empty_the_first_block(&mut arena) == 66);
+    assert!(rt; placed(&mut arena) == (66, 66));
+    let (input, output) = WALK_OF_THE_REST;
+    check_on(rt, alloc, &mut arena, input, output);
+}
+
+/// All that is tried over any stack: a stack is named where it is called, once, since that is what costs.
+fn check_over<S: SlotStack<Item = Slot>>(rt: &impl Abort, alloc: Global) {
+    check_runs::<S>(rt, alloc);
+    check_chain::<S>(rt, alloc);
+    faulty::check_readers::<S>(rt, alloc);
+    faulty::check_writers::<S>(rt, alloc);
+}
+
+#[test]
+fn over_one_piece_of_memory_and_in_blocks(rt: HostRuntime) {
+    check_over::<HeapStack<Slot>>(&rt, rt.alloc());
+    check_over::<ChunkStack<Slot>>(&rt, rt.alloc());
+}

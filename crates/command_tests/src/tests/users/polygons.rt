@@ -1,0 +1,219 @@
+//! A square triangulated and put together again.
+
+use super::{Differing, Slot, name, names_of, noted, number, with_digit, with_pair};
+use arena_ptr::{HeapStack, InxKey, PtrKey, ToolPtr};
+use chain_arena::{ChainArena, ChainArenaTrait};
+use chain_examples::Mesh;
+use std::alloc::Global;
+
+// What is done with polygons, whose corners are named by the order in which they came.
+#[derive(Clone, Copy)]
+enum Change {
+    Start(u32),
+    After(usize, u32),
+    Cut(usize, usize),
+    Merge(usize, usize),
+    Split(usize, usize),
+    Remove(usize),
+}
+
+// A change, whether it is done, a corner, and the points from that one on, once round.
+type Row = (Change, bool, usize, u32);
+
+// The square of the points 1 to 4 is split
+// along a diagonal, and one triangle looked at after the other; both are merged, and the copies of the ends of the diagonal are
+// removed. Then it is cut, and merged again. A corner is not split from itself, and a split from the square to a second polygon
+// makes one of both.
+const ROWS: [Row; 20] = [
+    (Change::Start(1), true, 1, 1),
+    (Change::After(1, 2), true, 1, 12),
+    (Change::After(2, 3), true, 1, 123),
+    (Change::After(3, 4), true, 1, 1234),
+    (Change::Split(1, 3), true, 1, 123),
+    (Change::Cut(4, 4), true, 4, 413),
+    (Change::Merge(3, 5), true, 1, 123341),
+    (Change::Remove(5), true, 1, 12334),
+    (Change::Remove(6), true, 2, 2341),
+    (Change::Cut(5, 1), false, 2, 2341),
+    (Change::Split(6, 1), false, 2, 2341),
+    (Change::Cut(1, 3), true, 1, 14),
+    (Change::Cut(2, 2), true, 2, 23),
+    (Change::Merge(1, 3), true, 1, 1234),
+    (Change::Remove(6), false, 6, 0),
+    (Change::After(6, 9), false, 3, 3412),
+    (Change::Split(2, 2), false, 2, 2341),
+    (Change::Start(5), true, 7, 5),
+    (Change::After(7, 6), true, 7, 56),
+    (Change::Split(1, 7), true, 1, 12341565),
+];
+
+// A square that loses a corner is split, and the copies come to the freed index and to a new one. An arena of four has to grow.
+const BESIDE_A_HOLE: [Row; 6] = [
+    (Change::Start(1), true, 1, 1),
+    (Change::After(1, 2), true, 1, 12),
+    (Change::After(2, 3), true, 1, 123),
+    (Change::After(3, 4), true, 1, 1234),
+    (Change::Remove(2), true, 1, 134),
+    (Change::Split(1, 3), true, 4, 413),
+];
+
+// The corners that a change names, and its point; 0 for none.
+fn named(change: Change) -> (usize, usize, u32) {
+    match change {
+        Change::Start(t) => (0, 0, t),
+        Change::After(n, t) => (n, 0, t),
+        Change::Cut(n, m) | Change::Merge(n, m) | Change::Split(n, m) => (n, m, 0),
+        Change::Remove(n) => (n, 0, 0),
+    }
+}
+
+// Splits a polygon, and notes both copies.
+fn split<P: PtrKey, A: ChainArenaTrait<P, u32> + Drop>(
+    mesh: &mut Mesh<P, u32, A>,
+    names: &mut Vec<P>,
+    p: P,
+    q: P,
+) -> bool {
+    match mesh.split(p, q) {
+        Ok(Some((c, d))) => noted(names, Some(c)) && noted(names, Some(d)),
+        _ => false,
+    }
+}
+
+// Does a change, and tells whether it is done: a corner comes, ...
+fn changed<P: PtrKey, A: ChainArenaTrait<P, u32> + Drop>(
+    mesh: &mut Mesh<P, u32, A>,
+    names: &mut Vec<P>,
+    change: Change,
+) -> bool {
+    let (n, m, t) = named(change);
+    let (p, q) = (name(names, n), name(names, m));
+    match change {
+        Change::Start(_) => noted(names, mesh.start(t).ok()),
+        Change::After(..) => noted(names, mesh.insert_after(p, t).ok()),
+        Change::Split(..) => split(mesh, names, p, q),
+        _ => relinked(mesh, change, p, q),
+    }
+}
+
+// .. or none.
+fn relinked<P: PtrKey, A: ChainArenaTrait<P, u32> + Drop>(
+    mesh: &mut Mesh<P, u32, A>,
+    change: Change,
+    p: P,
+    q: P,
+) -> bool {
+    match change {
+        Change::Cut(..) => mesh.cut(p, q).is_some(),
+        Change::Merge(..) => mesh.merge(p, q).is_some(),
+        _ => mesh.remove(p).is_some(),
+    }
+}
+
+// The points from a corner on, once round.
+fn round<P: PtrKey, A: ChainArenaTrait<P, u32> + Drop>(mesh: &Mesh<P, u32, A>, from: P) -> u32 {
+    let mut all = 0;
+    let mut at = from;
+    for _ in 0..8 {
+        all = with_digit(all, mesh.get(at).copied().unwrap_or(0));
+        at = mesh.next(at).unwrap_or(from);
+        if at.is_same(from) {
+            return all;
+        }
+    }
+    all
+}
+
+// Returns what the mesh shows of each corner that came: its point and the corner after it.
+fn shown<P: PtrKey, A: ChainArenaTrait<P, u32> + Drop>(
+    mesh: &Mesh<P, u32, A>,
+    names: &[P],
+) -> u128 {
+    let mut all = 0;
+    for p in names {
+        let point = mesh.get(*p).copied().unwrap_or(0);
+        all = with_pair(all, point, number(names, mesh.next(*p)));
+    }
+    all
+}
+
+// Makes a change again if memory is refused to it, and returns whether it is done. What is not done changes nothing.
+fn made<P: PtrKey, A: ChainArenaTrait<P, u32> + Drop>(
+    mesh: &mut Mesh<P, u32, A>,
+    names: &mut Vec<P>,
+    change: Change,
+) -> Option<bool> {
+    let before = shown(mesh, names);
+    if changed(mesh, names, change) {
+        return Some(true);
+    }
+    if shown(mesh, names) == before {
+        Some(changed(mesh, names, change))
+    } else {
+        None
+    }
+}
+
+// Whether a row is as it says.
+fn holds<P: PtrKey, A: ChainArenaTrait<P, u32> + Drop>(
+    mesh: &mut Mesh<P, u32, A>,
+    names: &mut Vec<P>,
+    row: &Row,
+) -> bool {
+    let (change, done, n, points) = *row;
+    let is_done = made(mesh, names, change);
+    mesh.all_in_polygons();
+    is_done == Some(done) && round(mesh, name(names, n)) == points
+}
+
+// Splits beside a hole, and returns whether each row is as it says, and the indexes of the copies.
+pub(super) fn split_beside_a_hole<P: PtrKey, A: ChainArenaTrait<P, u32> + Drop>(
+    alloc: Global,
+) -> (bool, [Option<usize>; 2]) {
+    let mut mesh = Mesh::<P, u32, A>::new(alloc);
+    let mut names = names_of(alloc);
+    let mut hold = true;
+    for row in &BESIDE_A_HOLE {
+        hold = hold && holds(&mut mesh, &mut names, row);
+    }
+    let (first, second) = (name(&names, 5), name(&names, 6));
+    (
+        hold,
+        [first.inx().try_into_usize(), second.inx().try_into_usize()],
+    )
+}
+
+// The rows, at a new mesh.
+pub(super) fn differing<P: PtrKey, A: ChainArenaTrait<P, u32> + Drop>(alloc: Global) -> Differing {
+    let mut mesh = Mesh::<P, u32, A>::new(alloc);
+    let mut names = names_of(alloc);
+    for (place, row) in ROWS.iter().enumerate() {
+        if !holds(&mut mesh, &mut names, row) {
+            return Some(place);
+        }
+    }
+    None
+}
+
+// A mesh at one type, of numbers over one piece of memory.
+type ToolMesh = Mesh<ToolPtr, u32, ChainArena<ToolPtr, u32, HeapStack<Slot<ToolPtr>>>>;
+
+// Whether a split at one corner returns `Ok(None)`, and changes nothing.
+pub(super) fn one_corner_is_not_split(alloc: Global) -> bool {
+    let mut mesh = ToolMesh::new(alloc);
+    let Ok(p) = mesh.start(1) else {
+        return false;
+    };
+    let is_refused = matches!(mesh.split(p, p), Ok(None));
+    is_refused && mesh.len() == 1 && round(&mesh, p) == 1
+}
+
+// Whether a mesh has the room that was reserved, and keeps it where a corner is added.
+pub(super) fn room_is_reserved(alloc: Global) -> bool {
+    let mut mesh = ToolMesh::new(alloc);
+    let was_empty = mesh.is_empty() && mesh.capacity() == 0;
+    let is_reserved = mesh.reserve(3).is_ok() && mesh.capacity() >= 3;
+    let capacity = mesh.capacity();
+    let is_started = mesh.start(1).is_ok() && !mesh.is_empty() && mesh.len() == 1;
+    was_empty && is_reserved && is_started && mesh.capacity() == capacity
+}

@@ -1,0 +1,188 @@
+//! A text edited: paragraphs come, move and go, and its parts change places.
+
+use super::{Differing, name, names_of, noted, number, with_digit, with_pair};
+use arena_ptr::PtrKey;
+use chain_arena::ChainArenaTrait;
+use chain_examples::Documents;
+use std::alloc::Global;
+
+// What is done with texts, whose paragraphs are named by the order in which they came.
+#[derive(Clone, Copy)]
+pub(super) enum Edit {
+    Begin(u32),
+    After(usize, u32),
+    Before(usize, u32),
+    PartAfter(usize),
+    PartBefore(usize),
+    Join(usize, usize),
+    Move(usize, usize),
+    Remove(usize),
+    // A paragraph gets another value; the arena grows to capacity for so many more; there are so many.
+    Write(usize, u32),
+    Reserve(usize),
+    Count(usize),
+}
+
+// An edit, whether it is done, a paragraph, and the text from that one on, and then back from it.
+type Row = (Edit, bool, usize, u32, u32);
+
+const ROWS: [Row; 25] = [
+    (Edit::Count(0), true, 1, 0, 0),
+    (Edit::Reserve(2), true, 1, 0, 0),
+    (Edit::Begin(1), true, 1, 1, 1),
+    (Edit::After(1, 3), true, 1, 13, 1),
+    (Edit::Before(2, 2), true, 1, 123, 1),
+    (Edit::Join(3, 2), false, 3, 23, 21),
+    (Edit::PartAfter(3), true, 1, 12, 1),
+    (Edit::PartAfter(3), false, 2, 3, 3),
+    (Edit::Join(2, 1), true, 2, 312, 3),
+    (Edit::PartBefore(2), false, 2, 312, 3),
+    (Edit::Move(2, 3), true, 1, 123, 1),
+    (Edit::Move(1, 3), true, 3, 213, 2),
+    (Edit::Move(2, 3), true, 3, 231, 2),
+    (Edit::Move(1, 2), true, 3, 231, 2),
+    (Edit::Move(1, 1), false, 3, 231, 2),
+    (Edit::Begin(4), true, 4, 4, 4),
+    (Edit::Move(2, 4), true, 4, 43, 4),
+    (Edit::Move(4, 1), true, 1, 14, 12),
+    (Edit::Write(4, 8), true, 1, 18, 12),
+    (Edit::Write(4, 4), true, 1, 14, 12),
+    (Edit::Count(4), true, 2, 3, 3),
+    (Edit::PartBefore(1), true, 1, 14, 1),
+    (Edit::Remove(1), true, 4, 4, 4),
+    (Edit::Remove(1), false, 1, 0, 0),
+    (Edit::After(1, 5), false, 3, 2, 2),
+];
+
+// The paragraphs that an edit names, and its value; 0 for none.
+fn named(edit: Edit) -> (usize, usize, u32) {
+    match edit {
+        Edit::Begin(t) => (0, 0, t),
+        Edit::After(n, t) | Edit::Before(n, t) | Edit::Write(n, t) => (n, 0, t),
+        Edit::Join(n, m) | Edit::Move(n, m) => (n, m, 0),
+        Edit::PartAfter(n) | Edit::PartBefore(n) | Edit::Remove(n) => (n, 0, 0),
+        Edit::Reserve(_) | Edit::Count(_) => (0, 0, 0),
+    }
+}
+
+// Does an edit, and tells whether it is done: a paragraph comes, ...
+fn edited<P: PtrKey, A: ChainArenaTrait<P, u32> + Drop>(
+    texts: &mut Documents<P, u32, A>,
+    names: &mut Vec<P>,
+    edit: Edit,
+) -> bool {
+    let (n, m, t) = named(edit);
+    let (p, q) = (name(names, n), name(names, m));
+    match edit {
+        Edit::Begin(_) => noted(names, texts.begin(t).ok()),
+        Edit::After(..) => noted(names, texts.insert_after(p, t).ok()),
+        Edit::Before(..) => noted(names, texts.insert_before(p, t).ok()),
+        Edit::Write(..) => written(texts, p, t),
+        Edit::Reserve(n) => texts.reserve(n).is_ok() && texts.capacity() - texts.len() >= n,
+        Edit::Count(n) => texts.len() == n && texts.is_empty() == (n == 0),
+        _ => moved(texts, edit, p, q),
+    }
+}
+
+// A paragraph gets another value.
+fn written<P: PtrKey, A: ChainArenaTrait<P, u32> + Drop>(
+    texts: &mut Documents<P, u32, A>,
+    p: P,
+    t: u32,
+) -> bool {
+    match texts.get_mut(p) {
+        Some(paragraph) => {
+            *paragraph = t;
+            texts.max_capacity().is_none()
+        }
+        None => false,
+    }
+}
+
+// .. or none.
+fn moved<P: PtrKey, A: ChainArenaTrait<P, u32> + Drop>(
+    texts: &mut Documents<P, u32, A>,
+    edit: Edit,
+    p: P,
+    q: P,
+) -> bool {
+    match edit {
+        Edit::PartAfter(_) => texts.part_after(p).is_some(),
+        Edit::PartBefore(_) => texts.part_before(p).is_some(),
+        Edit::Join(..) => texts.join(p, q).is_some(),
+        Edit::Move(..) => texts.move_after(p, q).is_some(),
+        _ => texts.remove(p).is_some(),
+    }
+}
+
+// The paragraphs from one on, or back from it.
+pub(super) fn read<P: PtrKey, A: ChainArenaTrait<P, u32> + Drop>(
+    texts: &Documents<P, u32, A>,
+    from: Option<P>,
+    back: bool,
+) -> u32 {
+    let mut all = 0;
+    let mut at = from;
+    for _ in 0..8 {
+        let Some(p) = at else {
+            return all;
+        };
+        all = with_digit(all, texts.get(p).copied().unwrap_or(0));
+        at = if back { texts.prev(p) } else { texts.next(p) };
+    }
+    all
+}
+
+// Returns what the texts show of each paragraph that came: the paragraph and the one after it.
+pub(super) fn shown<P: PtrKey, A: ChainArenaTrait<P, u32> + Drop>(
+    texts: &Documents<P, u32, A>,
+    names: &[P],
+) -> u128 {
+    let mut all = 0;
+    for p in names {
+        let paragraph = texts.get(*p).copied().unwrap_or(0);
+        all = with_pair(all, paragraph, number(names, texts.next(*p)));
+    }
+    all
+}
+
+// Does an edit again if memory is refused to it, and returns whether it is done. What is not done changes nothing.
+pub(super) fn made<P: PtrKey, A: ChainArenaTrait<P, u32> + Drop>(
+    texts: &mut Documents<P, u32, A>,
+    names: &mut Vec<P>,
+    edit: Edit,
+) -> Option<bool> {
+    let before = shown(texts, names);
+    if edited(texts, names, edit) {
+        return Some(true);
+    }
+    if shown(texts, names) == before {
+        Some(edited(texts, names, edit))
+    } else {
+        None
+    }
+}
+
+// Whether a row is as it says.
+fn holds<P: PtrKey, A: ChainArenaTrait<P, u32> + Drop>(
+    texts: &mut Documents<P, u32, A>,
+    names: &mut Vec<P>,
+    row: &Row,
+) -> bool {
+    let (edit, done, n, ahead, behind) = *row;
+    let is_done = made(texts, names, edit);
+    let from = Some(name(names, n));
+    is_done == Some(done) && read(texts, from, false) == ahead && read(texts, from, true) == behind
+}
+
+// The rows, at new texts.
+pub(super) fn differing<P: PtrKey, A: ChainArenaTrait<P, u32> + Drop>(alloc: Global) -> Differing {
+    let mut texts = Documents::<P, u32, A>::new(alloc);
+    let mut names = names_of(alloc);
+    for (place, row) in ROWS.iter().enumerate() {
+        if !holds(&mut texts, &mut names, row) {
+            return Some(place);
+        }
+    }
+    None
+}

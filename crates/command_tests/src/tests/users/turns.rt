@@ -1,0 +1,192 @@
+//! A round robin of five tasks with cancellations.
+
+use super::{Differing, name, names_of, noted, number, with_digit, with_pair};
+use arena_ptr::PtrKey;
+use chain_arena::ChainArenaTrait;
+use chain_examples::RunQueue;
+use std::alloc::Global;
+use std::mem;
+
+// What is done with a queue, whose tasks are named by the order in which they came. It answers a number.
+#[derive(Clone, Copy)]
+enum Turn {
+    // A task comes: which one it is. 0: there was no room.
+    Spawn(u32),
+    // Which one is current after it, or is current.
+    Next,
+    Current,
+    // The task of a number is cancelled. 0: it is none.
+    Cancel(usize),
+    // The task of a number, and the same before another one is written in its place. 0: there is none.
+    Read(usize),
+    Write(usize, u32),
+    // Whether the queue grows to capacity for so many more, or has it: 1.
+    Reserve(usize),
+    // How many there are, whether there are none, and whether there is room for these: 1.
+    Count,
+    IsEmpty,
+    HasRoom,
+    // All that are left, in turn.
+    Drain,
+}
+
+// The first is current; the third is cancelled while another is current, and the fifth while it is.
+const ROWS: [(Turn, u32); 35] = [
+    (Turn::Next, 0),
+    (Turn::IsEmpty, 1),
+    (Turn::Reserve(3), 1),
+    (Turn::Reserve(usize::MAX), 0),
+    (Turn::Spawn(4), 1),
+    (Turn::Spawn(5), 2),
+    (Turn::Spawn(6), 3),
+    (Turn::Spawn(7), 4),
+    (Turn::Spawn(8), 5),
+    (Turn::Current, 1),
+    (Turn::Next, 2),
+    (Turn::Next, 3),
+    (Turn::Next, 4),
+    (Turn::Next, 5),
+    (Turn::Next, 1),
+    (Turn::Cancel(3), 6),
+    (Turn::Cancel(3), 0),
+    (Turn::Next, 2),
+    (Turn::Next, 4),
+    (Turn::Next, 5),
+    (Turn::Cancel(5), 8),
+    (Turn::Current, 1),
+    (Turn::Count, 3),
+    (Turn::IsEmpty, 0),
+    (Turn::HasRoom, 1),
+    (Turn::Read(2), 5),
+    (Turn::Read(3), 0),
+    (Turn::Write(2, 9), 5),
+    (Turn::Write(3, 9), 0),
+    (Turn::Read(2), 9),
+    (Turn::Reserve(7), 1),
+    (Turn::Next, 2),
+    (Turn::Drain, 974),
+    (Turn::Count, 0),
+    (Turn::IsEmpty, 1),
+];
+
+// A task comes: as the how manieth.
+fn spawned<P: PtrKey, A: ChainArenaTrait<P, u32> + Drop>(
+    queue: &mut RunQueue<P, u32, A>,
+    names: &mut Vec<P>,
+    task: u32,
+) -> u32 {
+    let came = queue.spawn(task).ok();
+    noted(names, came);
+    number(names, came)
+}
+
+// The tasks that are left, in turn. 0: there are none, or there was no memory for them.
+fn drained<P: PtrKey, A: ChainArenaTrait<P, u32> + Drop>(
+    alloc: Global,
+    queue: &mut RunQueue<P, u32, A>,
+) -> u32 {
+    let mut all = 0;
+    if let Ok(tasks) = queue.drain_all(alloc) {
+        for task in tasks.as_slice() {
+            all = with_digit(all, *task);
+        }
+    }
+    all
+}
+
+// Another task is written in the place of one. Its value before; 0: there was none.
+fn written<P: PtrKey, A: ChainArenaTrait<P, u32> + Drop>(
+    queue: &mut RunQueue<P, u32, A>,
+    p: P,
+    task: u32,
+) -> u32 {
+    match queue.get_mut(p) {
+        Some(place) => mem::replace(place, task),
+        None => 0,
+    }
+}
+
+// The queue grows to capacity for so many more tasks, or has it. Whether it does: 1.
+fn reserved<P: PtrKey, A: ChainArenaTrait<P, u32> + Drop>(
+    queue: &mut RunQueue<P, u32, A>,
+    n: usize,
+) -> u32 {
+    let is_done = queue.reserve(n).is_ok();
+    u32::from(is_done && queue.capacity() - queue.len() >= n)
+}
+
+// What is done, and its number, ...
+fn done<P: PtrKey, A: ChainArenaTrait<P, u32> + Drop>(
+    alloc: Global,
+    queue: &mut RunQueue<P, u32, A>,
+    names: &mut Vec<P>,
+    turn: Turn,
+) -> u32 {
+    match turn {
+        Turn::Spawn(task) => spawned(queue, names, task),
+        Turn::Next => number(names, queue.next()),
+        Turn::Cancel(n) => queue.cancel(name(names, n)).unwrap_or(0),
+        Turn::Write(n, task) => written(queue, name(names, n), task),
+        Turn::Reserve(n) => reserved(queue, n),
+        Turn::Drain => drained(alloc, queue),
+        look => looked(queue, names, look),
+    }
+}
+
+// .. where it changes nothing.
+fn looked<P: PtrKey, A: ChainArenaTrait<P, u32> + Drop>(
+    queue: &RunQueue<P, u32, A>,
+    names: &[P],
+    turn: Turn,
+) -> u32 {
+    match turn {
+        Turn::Current => number(names, queue.current()),
+        Turn::Read(n) => queue.get(name(names, n)).copied().unwrap_or(0),
+        Turn::IsEmpty => u32::from(queue.is_empty()),
+        Turn::HasRoom => {
+            u32::from(queue.capacity() >= queue.len() && queue.max_capacity().is_none())
+        }
+        _ => u32::try_from(queue.len()).unwrap_or(u32::MAX),
+    }
+}
+
+// Returns what the queue shows: the tasks in turn, how many there are, and the capacity. Each task has its turn once, so the
+// current one is current again.
+fn shown<P: PtrKey, A: ChainArenaTrait<P, u32> + Drop>(
+    queue: &mut RunQueue<P, u32, A>,
+    names: &[P],
+) -> (u128, usize, usize) {
+    let count = queue.len();
+    let mut all = 0;
+    for _ in 0..count {
+        all = with_pair(all, 0, number(names, queue.next()));
+    }
+    (all, count, queue.capacity())
+}
+
+// Whether what is done has the number that it is to have: where memory is refused, the second time. A refusal changes nothing.
+fn holds<P: PtrKey, A: ChainArenaTrait<P, u32> + Drop>(
+    alloc: Global,
+    queue: &mut RunQueue<P, u32, A>,
+    names: &mut Vec<P>,
+    row: &(Turn, u32),
+) -> bool {
+    let (turn, want) = *row;
+    let before = shown(queue, names);
+    if done(alloc, queue, names, turn) == want {
+        return true;
+    }
+    shown(queue, names) == before && done(alloc, queue, names, turn) == want
+}
+
+// The rows, at a new queue.
+pub(super) fn differing<P: PtrKey, A: ChainArenaTrait<P, u32> + Drop>(alloc: Global) -> Differing {
+    let mut queue = RunQueue::<P, u32, A>::new(alloc);
+    let mut names = names_of(alloc);
+    for (place, row) in ROWS.iter().enumerate() {
+        if !holds(alloc, &mut queue, &mut names, row) {
+            return Some(place);
+        }
+    }
+    None
+}

@@ -1,0 +1,9 @@
+-- The facts of the call are all that is needed, so the search is a small one, and a wrong body soon fails it.
+use Rattle.std.proofs.Common.{rules}
+use Rattle.core_mutants.proofs.layouts.lay_out.Goals as goal
+
+pub lay_out-done-requires : goal.lay_out-done-requires
+lay_out-done-requires g c = record { ready = c.requires.ready; agree = c.requires.agree }
+
+pub returns : goal.returns
+returns g c = search rules fits 100

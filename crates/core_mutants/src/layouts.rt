@@ -1,0 +1,26 @@
+// The layout of chains, one after another.
+ghost use Rattle.chain_laws.specs.Chains.{Agrees};
+ghost use Rattle.chain_links.specs.ChainArena.{shown};
+ghost use Rattle.chain_links.specs.Links.{seen_links};
+ghost use Rattle.chain_compaction.specs.Layouts.{AreLaidOut};
+
+use arena_base::{Arena, ArenaSlot, Work};
+use arena_ptr::{InxKey, PtrKey, SlotStack};
+use chain_compaction::canonical;
+use chain_compaction::visiting::Visitor;
+use chain_links::LinkNoGen;
+
+/// `chain_compaction::canonical::lay_out`, under the clause that says what becomes of the links.
+pub fn lay_out<
+    P: PtrKey,
+    T: Drop,
+    S: SlotStack<Item = ArenaSlot<P, LinkNoGen<P, T>>>,
+    V: Visitor<P>,
+>(arena: &mut Arena<P, LinkNoGen<P, T>, S>, visitor: V) -> (V, Work)
+    requires ready { V.is_ready visitor }
+    requires agree { Agrees (shown (seen_links P.Inx.packed_number arena.old)) }
+    ensures laid { AreLaidOut V.sees P.key visitor result.0 (seen_links P.Inx.packed_number arena.old) (seen_links P.Inx.packed_number arena.new) }
+{
+    let done = canonical::lay_out(arena, visitor);
+    done
+}

@@ -1,5 +1,0 @@
-//! The tests of `chain_lines`.
-#![tactic(auto)]
-
-#[cfg(test)]
-mod tests;

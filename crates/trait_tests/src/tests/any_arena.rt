@@ -1,0 +1,79 @@
+//! The rows that any arena of links meets, at the chain arena and at an arena that hands each call on.
+
+use super::asked::asked;
+use super::rows::{NONE_THEN_AGAIN, NONE_THEN_NONE, ROWS};
+use super::scripts::{Answers, answer, plays};
+use super::transfers::TRANSFERS;
+use super::{Numbered, Slot};
+use arena_base::{ArenaTrait, CompactArenaTrait};
+use arena_ptr::{ChunkStack, HeapStack, SlotStack, ToolPtr};
+use chain_arena::{ChainArena, ChainArenaTrait};
+use forwarding_arena::ForwardingArena;
+use std::alloc::Global;
+use std::marker::PhantomData;
+use std::process::Abort;
+
+// An arena that hands each call on to another, and the type of its pointers.
+#[derive(Drop)]
+struct HandsOn<P, A> {
+    arena: ForwardingArena<A>,
+    pointer: PhantomData<P>,
+}
+
+impl<P: Numbered, A: ChainArenaTrait<P, u32> + CompactArenaTrait<P, u32> + Drop> Answers
+    for HandsOn<P, A> {
+    fn renew(&mut self, alloc: Global) {
+        self.arena = ForwardingArena::<A>::new(alloc);
+    }
+
+    fn answer(&mut self, alloc: Global, call: &str) -> Option<String> {
+        match asked::<P>(call) {
+            Some(asked) => answer(alloc, &mut self.arena, asked),
+            None => None,
+        }
+    }
+}
+
+// All lines, and what an advancer answers after its first `None`, ...
+fn check_all<A: Answers>(rt: &impl Abort, alloc: Global, arena: &mut A, after_none: &str) {
+    plays(rt, alloc, arena, ROWS);
+    plays(rt, alloc, arena, TRANSFERS);
+    plays(rt, alloc, arena, after_none);
+}
+
+// .. of a chain arena over any stack, ...
+fn check_chains<P: Numbered, S: SlotStack<Item = Slot<P>>>(rt: &impl Abort, alloc: Global) {
+    let mut arena: ChainArena<P, u32, S> = ChainArena::new(alloc);
+    check_all(rt, alloc, &mut arena, NONE_THEN_NONE);
+}
+
+// .. of the arena that hands each call on to any other one, ...
+fn check_handed_on<P: Numbered, A: ChainArenaTrait<P, u32> + CompactArenaTrait<P, u32> + Drop>(
+    rt: &impl Abort,
+    alloc: Global,
+) {
+    let mut arena: HandsOn<P, A> = HandsOn {
+        arena: ForwardingArena::<A>::new(alloc),
+        pointer: PhantomData,
+    };
+    check_all(rt, alloc, &mut arena, NONE_THEN_AGAIN);
+}
+
+// .. to a chain arena over any stack.
+fn check_handed_on_to_chains<P: Numbered, S: SlotStack<Item = Slot<P>>>(
+    rt: &impl Abort,
+    alloc: Global,
+) {
+    check_handed_on::<P, ChainArena<P, u32, S>>(rt, alloc);
+}
+
+#[test]
+fn chain_arenas(rt: HostRuntime) {
+    check_chains::<ToolPtr, HeapStack<Slot<ToolPtr>>>(&rt, rt.alloc());
+    check_chains::<ToolPtr, ChunkStack<Slot<ToolPtr>>>(&rt, rt.alloc());
+}
+
+#[test]
+fn an_arena_that_hands_each_call_on(rt: HostRuntime) {
+    check_handed_on_to_chains::<ToolPtr, HeapStack<Slot<ToolPtr>>>(&rt, rt.alloc());
+}
