@@ -1,19 +1,19 @@
-mod Alike
-pub mod Closing
-pub mod Copying
-pub mod Filling
-pub mod Finding
-pub mod Folding
-mod FreeSlots
-pub mod Gathering
-mod Holding
-pub mod Packing
-pub mod Ranging
-pub mod Reaching
-pub mod Reading
-pub mod Seeing
-mod Soundness
-mod Trimming
-mod Viewing
-mod Visiting
-mod Walks
+mod SlotShapeLemmas
+pub mod HoleClosingLemmas
+pub mod SlotCopyLemmas
+pub mod SlotPartitionLemmas
+pub mod EntrySearchLemmas
+pub mod FoldLemmas
+mod FreeListLemmas
+pub mod CompactedArenaLemmas
+mod DetachedSlotLemmas
+pub mod PackedSlotLemmas
+pub mod EntryRangeLemmas
+pub mod ArenaGrowthLemmas
+pub mod SlotLemmas
+pub mod ArenaViewLemmas
+mod SoundnessLemmas
+mod TrimLemmas
+mod ArenaModelLemmas
+mod ClosureLemmas
+mod TallyWalks

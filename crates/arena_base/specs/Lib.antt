@@ -1,10 +1,10 @@
 pub mod Arena
 pub mod Entries
-pub mod Advancing
+pub mod Advancers
 pub mod Slots
-pub mod AdvancingLaws
+pub mod AdvancerLaws
 pub mod EntryLaws
-pub mod Compacting
-pub mod Compressing
-pub mod Closing
-pub mod Copying
+pub mod DetachedSlots
+pub mod Compressions
+pub mod GatheredSlots
+pub mod Copies

@@ -1,6 +1,6 @@
 -- How an arena is stored in its slots. Public clauses cite `entry_of` and `ThreadsFreeList`, for the stack of slots.
 use Rattle.std.specs.Prelude.{◌≡◌, ℕ, zero, suc, ◌+◌, ◌≤◌, ⊤, List, [], ◌∷◌, map, min, length, count_by, is_some, slice_get, Option, None, Some}
-use Rattle.arena_base.specs.Compacting.{Held}
+use Rattle.arena_base.specs.DetachedSlots.{Held}
 use Rattle.arena_base.specs.Arena.{Arena, Has, HasNoRepetition}
 use Rattle.arena_base.specs.declared.slot.ArenaSlot.{ArenaSlot}
 use Rattle.arena_base.specs.declared.slot.ArenaSlot.TheVariants.{Allocated, Free}

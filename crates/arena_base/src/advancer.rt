@@ -2,7 +2,7 @@
 ghost use Rattle.std.specs.Prelude.{◌≡◌, if◌then◌else◌};
 
 use crate::arena::Arena;
-use crate::look::Look;
+use crate::cursor::Look;
 use crate::slot::{ArenaSlot, number_of};
 use crate::traits::Advancer;
 use arena_ptr::{PtrKey, SlotStack};
@@ -49,9 +49,9 @@ impl<P: PtrKey, T: Drop, S: SlotStack<Item = ArenaSlot<P, T>>> Advancer<Arena<P,
     ghost use Rattle.std.specs.Prelude.{◌≡◌};
     ghost use Rattle.std.specs.Option.{option_map};
     ghost use Rattle.arena_base.specs.Entries.{entries};
-    ghost use Rattle.arena_base.specs.Advancing.{IsLook};
-    ghost use Rattle.arena_base.specs.AdvancingLaws.{nowhere_stays};
-    ghost use Rattle.arena_base.specs.declared.look.Look.TheVariants.{Nowhere};
+    ghost use Rattle.arena_base.specs.Advancers.{IsLook};
+    ghost use Rattle.arena_base.specs.AdvancerLaws.{nowhere_stays};
+    ghost use Rattle.arena_base.specs.declared.cursor.Look.TheVariants.{Nowhere};
 
     type Item = P;
 

@@ -5,13 +5,13 @@ ghost use Rattle.arena_ptr.specs.SlotStack.{IsBeyond};
 ghost use Rattle.arena_ptr.specs.Invalidation.{invalidation_option, invalidation_result};
 ghost use Rattle.arena_base.specs.Slots.{entry_of, ThreadsFreeList};
 ghost use Rattle.arena_base.specs.Entries.{entries, entries_from, key_at, first_key, last_key, IsNextEntry};
-ghost use Rattle.arena_base.specs.Advancing.{ahead};
-ghost use Rattle.arena_base.specs.Compacting.{held_of, lent_out, returned, IsPacked, with_placement, with_touch};
+ghost use Rattle.arena_base.specs.Advancers.{ahead};
+ghost use Rattle.arena_base.specs.DetachedSlots.{held_of, lent_out, returned, IsPacked, with_placement, with_touch};
 ghost use Rattle.arena_base.specs.Arena.{entry_at, entry_count, next_index, insert_next, remove_at, renewed_at, with_counter, with_capacity_of, with_maximum, new_arena, HasRoom, HasGrownTo, IsWithinReach};
 
-use crate::held::HeldSlots;
-use crate::listing::{relist, trim};
-use crate::look::Look;
+use crate::cursor::Look;
+use crate::detached_slots::HeldSlots;
+use crate::free_list::{relist, trim};
 use crate::slot::{ArenaSlot, fill, inx_at, position_of, regenerate_at, vacate_at};
 use crate::tally::Tally;
 use arena_ptr::{

@@ -3,7 +3,7 @@ ghost use Rattle.std.specs.Prelude.{◌≡◌, ◌≤◌, ◌<◌, ◌+◌, ◌^
 ghost use Rattle.arena_ptr.specs.Invalidation.{value_within, is_overflow_result};
 ghost use Rattle.std.specs.Option.{option_map};
 ghost use Rattle.arena_base.specs.Arena.{counter_after_clear, overflows_after_clear, entry_count, HasRoom, IsListed};
-ghost use Rattle.arena_base.specs.Compressing.{counter_after_compression, overflows_after_compression};
+ghost use Rattle.arena_base.specs.Compressions.{counter_after_compression, overflows_after_compression};
 ghost use Rattle.arena_ptr.specs.Numbers.{IsWithin};
 ghost use Rattle.arena_base.specs.Entries.{entries, seen_of, index_of, AreTheSlots};
 
@@ -23,7 +23,7 @@ impl<P: PtrKey, T: Drop, S: SlotStack<Item = ArenaSlot<P, T>>> ArenaTrait<P, T> 
     ghost use Rattle.std.specs.Option.{option_map};
     ghost use Rattle.arena_base.specs.Entries.{seen_of, entries};
     ghost use Rattle.arena_base.specs.EntryLaws.{entries_rise, found-entries};
-    ghost use Rattle.arena_base.specs.AdvancingLaws.{until_none};
+    ghost use Rattle.arena_base.specs.AdvancerLaws.{until_none};
 
     type PtrAdvancer = PtrAdvancer<P>;
 

@@ -4,10 +4,10 @@ ghost use Rattle.std.specs.Option.{option_map, option_copied_mut};
 ghost use Rattle.std.specs.Borrow.{LendsSo, follows_so, sem};
 ghost use mathlib.Core.Option.{none};
 ghost use Rattle.arena_base.specs.Arena.{slot_at};
-ghost use Rattle.arena_base.specs.Compacting.{Held, seen_parts, placed, held_of, IsLookedAt, IsWrittenAt, lent_out, returned, IsPacked, with_touch, with_placement, one_more};
+ghost use Rattle.arena_base.specs.DetachedSlots.{Held, seen_parts, placed, held_of, IsLookedAt, IsWrittenAt, lent_out, returned, IsPacked, with_touch, with_placement, one_more};
 
 use crate::arena::Arena;
-use crate::held::{HeldSlots, LendsValue};
+use crate::detached_slots::{HeldSlots, LendsValue};
 use crate::slot::ArenaSlot;
 use arena_ptr::{HeapStack, PtrKey, SlotStack};
 
@@ -166,7 +166,7 @@ pub trait SlotAccess<P: PtrKey, T: Drop> {
 impl<'a, P: PtrKey, T: Drop, S: SlotStack<Item = ArenaSlot<P, T>>> SlotAccess<P, T>
     for Compactor<'a, P, T, S> {
     ghost use Rattle.std.specs.Prelude.{◌≡◌};
-    ghost use Rattle.arena_base.specs.Compacting.{with_touch, one_more};
+    ghost use Rattle.arena_base.specs.DetachedSlots.{with_touch, one_more};
 
     ghost held = { λ c. c.held };
 

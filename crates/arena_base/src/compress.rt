@@ -3,9 +3,9 @@ ghost use Rattle.std.specs.Prelude.{◌≡◌, ◌≢◌, ◌≤◌, ◌<◌, �
 ghost use Rattle.std.specs.Option.{option_map};
 ghost use Rattle.arena_base.specs.Arena.{slot_at};
 ghost use Rattle.arena_base.specs.Entries.{entries_from};
-ghost use Rattle.arena_base.specs.Compacting.{placed, IsPacked, with_touch, with_placement};
-ghost use Rattle.arena_base.specs.Compressing.{VisitsAll};
-ghost use Rattle.arena_base.specs.Closing.{AreClosed, IsGathered, with_totals};
+ghost use Rattle.arena_base.specs.DetachedSlots.{placed, IsPacked, with_touch, with_placement};
+ghost use Rattle.arena_base.specs.Compressions.{VisitsAll};
+ghost use Rattle.arena_base.specs.GatheredSlots.{AreClosed, IsGathered, with_totals};
 
 use crate::arena::Arena;
 use crate::compactor::{Compactor, SlotAccess};

@@ -4,7 +4,7 @@ ghost use Rattle.arena_ptr.specs.SlotStack.{IsBeyond};
 ghost use Rattle.arena_base.specs.Arena.{HasRoom, IsWithinReach};
 ghost use Rattle.arena_base.specs.Slots.{entry_of, without_values};
 ghost use Rattle.arena_base.specs.Entries.{entries, entries_from};
-ghost use Rattle.arena_base.specs.Copying.{CopiesBy, HasRefusable, HasSlotsOf, IsGivenUp};
+ghost use Rattle.arena_base.specs.Copies.{CopiesBy, HasRefusable, HasSlotsOf, IsGivenUp};
 
 use crate::arena::Arena;
 use crate::excluded;
@@ -20,7 +20,7 @@ pub struct Answering<F> {
 }
 
 impl<P, U, T, F: FnMut(P, &U) -> T + Drop> ValueMap<P, U, T> for Answering<F> {
-    ghost use Rattle.arena_base.specs.Copying.{IsCopyCall};
+    ghost use Rattle.arena_base.specs.Copies.{IsCopyCall};
 
     ghost is_ready = { λ m. F.IsAlwaysCallable m.map };
 
@@ -127,7 +127,7 @@ impl<P: PtrKey, T: Drop, S: SlotStack<Item = ArenaSlot<P, T>>> Arena<P, T, S> {
 
 impl<P: PtrKey, T: Drop, S: SlotStack<Item = ArenaSlot<P, T>>> ArenaCloneFromWith<P, T>
     for Arena<P, T, S> {
-    ghost use Rattle.arena_base.specs.Copying.{HasSlotsOf};
+    ghost use Rattle.arena_base.specs.Copies.{HasSlotsOf};
     ghost use Rattle.arena_base.specs.Arena.{IsWithinReach};
 
     ghost copies = { λ _ source old new. HasSlotsOf source old new × IsWithinReach S.may_reach (length source.slots) old new };

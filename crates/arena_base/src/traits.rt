@@ -7,11 +7,11 @@ ghost use Rattle.arena_ptr.specs.SlotStack.{IsBeyond, IsWithinMaximum};
 ghost use Rattle.arena_ptr.specs.Invalidation.{value_within, invalidation_result, invalidation_option};
 ghost use Rattle.arena_base.specs.Arena.{IsRoom, IsValid, seen_entry, overflows_after_clear};
 ghost use Rattle.arena_base.specs.Entries.{Seen, AreTheSlots, index_of, IsNew, found, RisesFrom, first_key, last_key, entry_removed, renewed, written, emptied, with_capacity};
-ghost use Rattle.arena_base.specs.Advancing.{IsLookUntilNone};
+ghost use Rattle.arena_base.specs.Advancers.{IsLookUntilNone};
 ghost use Rattle.arena_base.specs.Entries.{entries};
-ghost use Rattle.arena_base.specs.Copying.{IsCopy, IsCopyBy, HasRefusable, IsLeftEmpty};
-ghost use Rattle.arena_base.specs.Compressing.{IsCompressed, VisitsAll, overflows_after_compression, values_in};
-ghost use Rattle.arena_base.specs.declared.look.Look.{Look};
+ghost use Rattle.arena_base.specs.Copies.{IsCopy, IsCopyBy, HasRefusable, IsLeftEmpty};
+ghost use Rattle.arena_base.specs.Compressions.{IsCompressed, VisitsAll, overflows_after_compression, values_in};
+ghost use Rattle.arena_base.specs.declared.cursor.Look.{Look};
 
 use crate::arena::Arena;
 use crate::copy::Answering;

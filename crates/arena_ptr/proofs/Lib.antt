@@ -1,4 +1,4 @@
-pub mod Options
-mod Blocks
-mod Chunks
-mod Exchanging
+pub mod OptionLemmas
+mod BlockLemmas
+mod ChunkStackLemmas
+mod BlockSwapLemmas

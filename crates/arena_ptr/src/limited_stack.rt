@@ -37,7 +37,7 @@ impl<E: Drop> SlotStack for LimitedStack<E> {
     ghost use Rattle.std.specs.Prelude.{◌*◌, max, None, refl};
     ghost use Rattle.arena_ptr.specs.LimitedStack.{with_item_at};
     ghost use Rattle.arena_ptr.specs.SlotStack.{capped};
-    ghost use Rattle.arena_ptr.specs.Slots.{slots_have_room, slots_fit};
+    ghost use Rattle.arena_ptr.specs.SlotVectors.{slots_have_room, slots_fit};
 
     type Item = E;
 

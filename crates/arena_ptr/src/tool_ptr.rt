@@ -15,7 +15,7 @@ pub struct ToolPtr {
 }
 
 impl Ptr for ToolPtr {
-    ghost use Rattle.arena_ptr.specs.Counting.{IsNeverCounted};
+    ghost use Rattle.arena_ptr.specs.CountedGenerations.{IsNeverCounted};
     ghost use Rattle.arena_ptr.specs.Generations.{number_of_gen32, two32, after32};
     ghost use Rattle.arena_ptr.specs.ToolPtr.{key_of, same_tool_ptr, eq_is_same_tool_ptr};
 

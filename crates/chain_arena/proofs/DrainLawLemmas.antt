@@ -7,8 +7,8 @@ use Rattle.arena_ptr.specs.declared.invalidation.InvalidationOption.{Invalidatio
 use Rattle.arena_base.specs.Arena.{Arena, entry_at, slot_at, with_slot, IsValid}
 use Rattle.chain_links.specs.ChainArena.{LinkSeen, entry, values_of, remove_link, link_value as held_value, on_value}
 use Rattle.chain_links.specs.declared.links.LinkBody.{LinkBody}
-use Rattle.chain_links.proofs.Mapping.{entry_at-with_each}
-use Rattle.chain_linking.proofs.Unlinking.{values_of-remove_link}
+use Rattle.chain_links.proofs.MappedArenaLemmas.{entry_at-with_each}
+use Rattle.chain_linking.proofs.UnlinkLemmas.{values_of-remove_link}
 use Rattle.chain_arena.specs.Drains.{walk_left, IsDrainStep}
 use Rattle.chain_arena.specs.DrainLaws.{DrainGivesTheWalk}
 use Rattle.std.specs.Option.{option_map}

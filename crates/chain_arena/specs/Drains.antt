@@ -5,7 +5,7 @@ use Rattle.arena_ptr.specs.declared.invalidation.InvalidationOption.{Invalidatio
 use Rattle.chain_laws.specs.Walks.{walk_from}
 use Rattle.arena_base.specs.Arena.{Arena, entry_at}
 use Rattle.arena_base.specs.Entries.{entries}
-use Rattle.arena_base.specs.Advancing.{from_index}
+use Rattle.arena_base.specs.Advancers.{from_index}
 use Rattle.chain_links.specs.ChainArena.{LinkSeen, shown, values_of, remove_link}
 use Rattle.chain_links.specs.Insertions.{index_from}
 use Rattle.chain_links.specs.Links.{seen_link}

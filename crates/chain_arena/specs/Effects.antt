@@ -8,13 +8,13 @@ use Rattle.arena_ptr.specs.declared.invalidation.InvalidationResult.TheVariants.
 use Rattle.chain_laws.specs.Insertions.{InsertKind, link_before, link_after, InsertsPairs, Inserts}
 use Rattle.chain_laws.specs.Walks.{IsWalk, TakesWalk}
 use Rattle.arena_base.specs.Arena.{Arena, IsValid, HasRoom, next_index, with_capacity_of}
-use Rattle.arena_base.specs.Compressing.{IsCompressed, values_in}
+use Rattle.arena_base.specs.Compressions.{IsCompressed, values_in}
 use Rattle.arena_base.specs.Entries.{entries}
 use Rattle.chain_links.specs.CanonicalLayouts.{IsCanonicalLayout}
 use Rattle.chain_links.specs.ChainArena.{LinkSeen, shown, entry, values_of, seen, insert_as}
 use Rattle.chain_links.specs.Kinds.{names_in, by_index, MayInsert}
 use Rattle.chain_links.specs.declared.kinds.InsertKindBody.{InsertKindBody}
-use Rattle.chain_compaction.specs.Compressions.{ClosesGaps}
+use Rattle.chain_compaction.specs.LinkCompressions.{ClosesGaps}
 use Rattle.chain_arena.specs.Drains.{without_each}
 
 -- the links of an arena

@@ -1,13 +1,13 @@
 pub mod Drains
 pub mod Transfers
-pub mod Copies
+pub mod LinkCopies
 pub mod PointerKinds
 pub mod Effects
 pub mod Steps
 pub mod Runs
-pub mod Recasting
+pub mod Recasts
 pub mod Growths
-pub mod Places
+pub mod NewLinks
 pub mod PointerTransfers
 pub mod Iterators
 pub mod DrainLaws

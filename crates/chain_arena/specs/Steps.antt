@@ -12,7 +12,7 @@ use Rattle.arena_ptr.specs.declared.invalidation.InvalidationResult.{Invalidatio
 use Rattle.chain_laws.specs.Chains.{prev_of, next_of}
 use Rattle.chain_laws.specs.Insertions.{InsertKind}
 use Rattle.arena_base.specs.Arena.{IsValid, entry_at, entry_count, with_capacity_of, with_counter, renewed_at, cleared, overflows_after_clear}
-use Rattle.arena_base.specs.Compressing.{overflows_after_compression}
+use Rattle.arena_base.specs.Compressions.{overflows_after_compression}
 use Rattle.chain_links.specs.ChainArena.{shown, entry, insert_as, CanConnect, CanExchange, IsJoin, IsCut, IsExchange, IsRemoval}
 use Rattle.chain_links.specs.Links.{seen_link}
 use Rattle.chain_links.specs.declared.kinds.InsertKindBody.{InsertKindBody}

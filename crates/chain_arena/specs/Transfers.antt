@@ -6,7 +6,7 @@ use Rattle.arena_ptr.specs.Invalidation.{value_in, is_overflow}
 use Rattle.arena_ptr.specs.declared.invalidation.InvalidationOption.{InvalidationOption}
 use Rattle.chain_laws.specs.Chains.{Shown}
 use Rattle.chain_laws.specs.Insertions.{IsGap}
-use Rattle.chain_laws.specs.Relays.{end_before, end_after}
+use Rattle.chain_laws.specs.Transfer.{end_before, end_after}
 use Rattle.chain_laws.specs.Renamings.{IsRenaming}
 use Rattle.chain_laws.specs.Arrangements.{place_in, IsLeastIndexOrder}
 use Rattle.arena_base.specs.Arena.{Arena, next_index}

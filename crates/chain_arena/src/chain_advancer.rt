@@ -4,7 +4,7 @@ ghost use Rattle.std.specs.Prelude.{◌≡◌, Some};
 use crate::chain_arena::ChainArena;
 use arena_base::{Advancer, ArenaSlot};
 use arena_ptr::{PtrKey, SlotStack};
-use chain_linking::steps::step;
+use chain_linking::walk_step::step;
 use chain_links::LinkNoGen;
 
 /// Goes along one chain in walk order: from a link on to the end, and then from the link before it back to the start; a

@@ -6,28 +6,28 @@ ghost use Rattle.arena_ptr.specs.Invalidation.{value_within, invalidation_option
 ghost use Rattle.arena_ptr.specs.Numbers.{IsWithin};
 ghost use Rattle.arena_base.specs.Arena.{entry_at, entry_count, with_counter, with_maximum, HasRoom, IsListed, IsValid};
 ghost use Rattle.arena_base.specs.Entries.{count, index_of};
-ghost use Rattle.arena_base.specs.Compressing.{overflows_after_compression};
+ghost use Rattle.arena_base.specs.Compressions.{overflows_after_compression};
 ghost use Rattle.arena_base.specs.Slots.{entry_of, ThreadsFreeList};
 ghost use Rattle.chain_links.specs.ChainArena.{entry, seen, shown, IsRemoval, IsWalkOf};
 ghost use Rattle.chain_links.specs.Kinds.{names_in};
-ghost use Rattle.chain_linking.specs.Gaps.{IsGapOf};
+ghost use Rattle.chain_linking.specs.InsertPositions.{IsGapOf};
 ghost use Rattle.chain_compaction.specs.Layouts.{ShowsAll, ShowsLayout, AreAllMoves};
 ghost use Rattle.chain_compaction.specs.PointerMoves.{ArePointerMoves};
 ghost use Rattle.chain_links.specs.CanonicalLayouts.{IsCanonicalLayout};
 ghost use Rattle.chain_links.specs.Links.{seen_pair};
 
 use crate::chain_iterators::ChainIter;
-use crate::visiting::{Listing, Showing};
+use crate::visitors::{Listing, Showing};
 use arena_base::{Arena, ArenaSlot, ArenaTrait, Work};
 use arena_ptr::{
     AllocError, HeapStack, InvalidationOption, InvalidationResult, LimitStack,
     MaxCapacityReductionError, PtrKey, SetMaxCapacity, SlotStack,
 };
-use chain_linking::gaps::{Gap, gap_of};
-use chain_linking::standing::take_out;
 use chain_compaction::canonical::lay_out;
 use chain_compaction::compress::begin_generation;
-use chain_compaction::visiting::Visitor;
+use chain_compaction::visitor::Visitor;
+use chain_linking::insert_position::{Gap, gap_of};
+use chain_linking::link_writes::take_out;
 use chain_links::kinds::by_names;
 use chain_links::{LinkInsertKind, LinkNoGen};
 use std::alloc::Allocator;

@@ -17,7 +17,7 @@ use crate::insert_entry::number_or_zero;
 use arena_base::{ArenaSlot, ArenaTrait, invalidated};
 use arena_ptr::{HeapStack, InvalidationOption, InxKey, PtrKey, SlotStack};
 use chain_links::LinkNoGen;
-use chain_links::walks::going_on;
+use chain_links::walk_direction::going_on;
 use chain_traits::ChainArenaTrait;
 
 /// The removal of a chain: an iterator that removes each link as it yields it, in walk order. A link comes with its

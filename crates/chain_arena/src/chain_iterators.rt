@@ -8,8 +8,8 @@ ghost use Rattle.chain_arena.specs.Iterators.{IsOnLinks};
 
 use arena_base::{Arena, ArenaSlot, ArenaTrait, excluded};
 use arena_ptr::{HeapStack, PtrKey, SlotStack};
-use chain_linking::gaps::is_index;
-use chain_linking::steps::look;
+use chain_linking::insert_position::is_index;
+use chain_linking::walk_step::look;
 use chain_links::LinkNoGen;
 use std::marker::Model;
 

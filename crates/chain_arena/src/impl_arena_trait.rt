@@ -26,9 +26,9 @@ impl<P: PtrKey, T: Drop, S: SlotStack<Item = ArenaSlot<P, LinkNoGen<P, T>>>> Are
     ghost use Rattle.std.specs.Option.{option_map};
     ghost use Rattle.arena_base.specs.Entries.{seen_of, entries};
     ghost use Rattle.arena_base.specs.EntryLaws.{entries_rise, found-entries};
-    ghost use Rattle.arena_base.specs.AdvancingLaws.{until_none};
+    ghost use Rattle.arena_base.specs.AdvancerLaws.{until_none};
     ghost use Rattle.chain_links.specs.ChainArena.{shown, values_of, with_value_at, IsRemoval};
-    ghost use Rattle.chain_compaction.specs.Compressions.{ClosesGaps};
+    ghost use Rattle.chain_compaction.specs.LinkCompressions.{ClosesGaps};
 
     type PtrAdvancer = PtrAdvancer<P>;
 
@@ -200,9 +200,9 @@ impl<P: PtrKey, T: Drop, S: SlotStack<Item = ArenaSlot<P, LinkNoGen<P, T>>>> Adv
     ghost use Rattle.std.specs.Prelude.{◌≡◌};
     ghost use Rattle.std.specs.Option.{option_map};
     ghost use Rattle.arena_base.specs.Entries.{entries};
-    ghost use Rattle.arena_base.specs.Advancing.{IsLook};
-    ghost use Rattle.arena_base.specs.AdvancingLaws.{nowhere_stays};
-    ghost use Rattle.arena_base.specs.declared.look.Look.TheVariants.{Nowhere};
+    ghost use Rattle.arena_base.specs.Advancers.{IsLook};
+    ghost use Rattle.arena_base.specs.AdvancerLaws.{nowhere_stays};
+    ghost use Rattle.arena_base.specs.declared.cursor.Look.TheVariants.{Nowhere};
     ghost use Rattle.chain_links.specs.ChainArena.{values_of};
 
     type Item = P;

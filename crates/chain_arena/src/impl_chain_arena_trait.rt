@@ -6,12 +6,12 @@ ghost use Rattle.chain_laws.specs.Chains.{Agrees, prev_of, next_of};
 ghost use Rattle.chain_laws.specs.Cuts.{cut, Cuts};
 ghost use Rattle.chain_laws.specs.Exchanges.{exchanged, Exchanges};
 ghost use Rattle.chain_laws.specs.Neighbors.{AreNeighbors};
-ghost use Rattle.chain_laws.specs.Operations.{joined, Connects, AddsPair};
+ghost use Rattle.chain_laws.specs.Joins.{joined, Connects, AddsPair};
 ghost use Rattle.chain_laws.specs.Removals.{removed, Removes, RemovesPairs};
 ghost use Rattle.arena_base.specs.Arena.{entry_count, next_index, with_capacity_of, IsValid, IsRoom, HasGrownTo};
 ghost use Rattle.arena_base.specs.Entries.{count, NeedsBeyondMaximum};
-ghost use Rattle.arena_base.specs.Compressing.{overflows_after_compression};
-ghost use Rattle.chain_links.specs.Calls.{GainsLink, IsFull, LosesLink, SucceedsInRoom, YieldsLink};
+ghost use Rattle.arena_base.specs.Compressions.{overflows_after_compression};
+ghost use Rattle.chain_links.specs.CallEffects.{GainsLink, IsFull, LosesLink, SucceedsInRoom, YieldsLink};
 ghost use Rattle.chain_links.specs.ChainArena.{shown as interlinks};
 ghost use Rattle.chain_links.specs.ChainArena.{seen, entry, relinked, insert_as, remove_link, link_at, on_value, CanConnect, CanExchange, IsCut, IsExchange, IsLinkAt};
 ghost use Rattle.chain_links.specs.Kinds.{names_in, MayInsert};
@@ -29,9 +29,9 @@ use arena_ptr::{
     ChainInsertionError, GenKey, InvalidationOption, InvalidationResult, InxKey, PtrKey,
     ReallocationError, SlotStack,
 };
-use chain_linking::gaps::{is_index, next_of as next_of_link, prev_of as prev_of_link};
-use chain_linking::interlinks::join;
-use chain_linking::standing::{link_twice, neighbor};
+use chain_linking::connection::join;
+use chain_linking::insert_position::{is_index, next_of as next_of_link, prev_of as prev_of_link};
+use chain_linking::link_writes::{link_twice, neighbor};
 use chain_links::kinds::Name;
 use chain_links::{Link, LinkInsertKind, LinkNoGen};
 use chain_traits::ChainArenaTrait;

@@ -7,15 +7,15 @@ ghost use Rattle.chain_laws.specs.Insertions.{IsGap, link_before, link_after};
 ghost use Rattle.arena_base.specs.Arena.{entry_count, next_index, with_capacity_of, HasGrownTo};
 ghost use Rattle.chain_links.specs.ChainArena.{entry, shown, insert_between};
 ghost use Rattle.chain_links.specs.Insertions.{index_from};
-ghost use Rattle.chain_linking.specs.Gaps.{before_in, after_in};
+ghost use Rattle.chain_linking.specs.InsertPositions.{before_in, after_in};
 ghost use Rattle.chain_arena.specs.Effects.{kind_of, May};
-ghost use Rattle.chain_arena.specs.Places.{ComesBetween, RefusesOneMore};
+ghost use Rattle.chain_arena.specs.NewLinks.{ComesBetween, RefusesOneMore};
 
 use crate::chain_arena::ChainArena;
 use arena_base::{ArenaSlot, ArenaTrait, excluded};
 use arena_ptr::{ChainInsertionError, HeapStack, InxKey, PtrKey, ReallocationError, SlotStack};
-use chain_linking::gaps::Gap;
-use chain_linking::placing::around;
+use chain_linking::insert_position::Gap;
+use chain_linking::new_link::around;
 use chain_links::{LinkInsertKind, LinkNoGen};
 
 /// A place for a link among the others, whose pointer is known before its value. Dropping it changes nothing: no link

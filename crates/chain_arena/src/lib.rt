@@ -34,33 +34,33 @@
 #![tactic(auto)]
 
 mod any_pointer;
+mod arena_text;
 pub mod calls;
 mod chain_advancer;
 mod chain_arena;
 mod chain_drains;
 mod chain_iterators;
-mod copies;
+mod copy;
 mod from_arena;
 mod impl_arena_trait;
 mod impl_chain_arena_trait;
 mod indexing;
+mod insert;
 mod insert_entry;
 mod iterators;
 mod link_drains;
-mod places;
-mod recasting;
-mod texts;
+mod recast;
 mod transfer;
-mod visiting;
+mod visitors;
 
 pub use any_pointer::AnyPointer;
 pub use calls::{Call, Reply, apply, run_calls, runs_are_determined};
 pub use chain_advancer::ChainPtrAdvancer;
 pub use chain_arena::ChainArena;
+pub use chain_compaction::visitor::Visitor;
 pub use chain_drains::{ChainDrain, drain_gives_the_walk};
-pub use chain_linking::links_agree;
 pub use chain_iterators::ChainIter;
-pub use chain_compaction::visiting::Visitor;
+pub use chain_linking::links_agree;
 pub use chain_links::{
     InsertKindBody, Link, LinkBody, LinkInsertKind, LinkNoGen, links_compare_by_neighbors,
 };
@@ -71,4 +71,4 @@ pub use link_drains::LinkDrain;
 pub use transfer::{
     compression_and_transfer_agree, compression_moves_pointers, transfer_moves_pointers,
 };
-pub use visiting::Showing;
+pub use visitors::Showing;

@@ -1,10 +1,10 @@
 // The transfer of all links of another arena, chain by chain.
 ghost use Rattle.std.specs.Prelude.{◌≡◌, ◌↔◌, ◌≤◌, ◌<◌, ◌+◌, ℕ, [], IsOk, OnOk, OnErr, Err, None, Some};
 ghost use Rattle.arena_ptr.specs.SlotStack.{IsBeyond};
-ghost use Rattle.chain_laws.specs.Relays.{end_before, end_after};
+ghost use Rattle.chain_laws.specs.Transfer.{end_before, end_after};
 ghost use Rattle.arena_base.specs.Arena.{HasRoom, IsWithinReach, IsListed, with_capacity_of, entry_count, next_index};
 ghost use Rattle.arena_base.specs.Entries.{count};
-ghost use Rattle.chain_linking.specs.Gaps.{before_in, after_in};
+ghost use Rattle.chain_linking.specs.InsertPositions.{before_in, after_in};
 ghost use Rattle.chain_compaction.specs.PointerMoves.{CompressionMovesPointers, CompressionHasMoves};
 ghost use Rattle.chain_arena.specs.Transfers.{LaysOutAlike, IsTransfer, AreEnds, HasGapBehind, laid_behind};
 ghost use Rattle.chain_arena.specs.PointerTransfers.{TransferMovesPointers};
@@ -12,10 +12,10 @@ ghost use Rattle.chain_arena.specs.PointerTransfers.{TransferMovesPointers};
 use crate::chain_arena::ChainArena;
 use arena_base::{Advancer, ArenaSlot, ArenaTrait, CompactArenaTrait, excluded};
 use arena_ptr::{InvalidationOption, InxKey, PtrKey, ReallocationError, SlotStack};
-use chain_linking::gaps::Gap;
+use chain_linking::insert_position::Gap;
 use chain_links::LinkNoGen;
 use chain_traits::ChainArenaTrait;
-use chain_traits::sources::take_next;
+use chain_traits::drain_in_order::take_next;
 
 impl<P: PtrKey, T: Drop, S: SlotStack<Item = ArenaSlot<P, LinkNoGen<P, T>>>> ChainArena<P, T, S> {
     /// Takes all links out of a source, lays its chains one after another from index 1 on, and leaves nothing else here.

@@ -1,8 +1,8 @@
-pub mod AnswerLemmas
-pub mod Coming
-pub mod Ending
-pub mod Feeding
+pub mod ResponseLemmas
+pub mod ProgressLemmas
+pub mod RunEndLemmas
+pub mod LineSplitLemmas
 pub mod KindLemmas
-pub mod Pointers
-pub mod Rooms
+pub mod PointerWordLemmas
+pub mod MovesLengthLemmas
 pub mod WordLemmas

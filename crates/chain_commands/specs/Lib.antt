@@ -1,4 +1,4 @@
-pub mod Answers
+pub mod Responses
 pub mod Commands
 pub mod Progress
 pub mod Transcripts

@@ -1,11 +1,11 @@
 -- How far a run has come.
 use Rattle.std.specs.Prelude.{◌≡◌, ℕ, ◌==◌, false, All, ◌⊎◌, List, [], ◌∷◌, ◌++◌, take, Option, Result, Ok, Err}
 use Rattle.std.specs.Io.KnownBytes.{Appends, Keeps}
-use Rattle.chain_commands.specs.declared.runs.ToolError.{ToolError}
-use Rattle.chain_commands.specs.declared.runs.ToolError.TheVariants as errors
+use Rattle.chain_commands.specs.declared.session.ToolError.{ToolError}
+use Rattle.chain_commands.specs.declared.session.ToolError.TheVariants as errors
 use Rattle.chain_commands.specs.Words.{lines_of, whole_lines}
 use Rattle.chain_commands.specs.Commands.{line_of}
-use Rattle.chain_commands.specs.Answers.{ToolLinks, AnswersLine, LeavesStep}
+use Rattle.chain_commands.specs.Responses.{ToolLinks, AnswersLine, LeavesStep}
 use Rattle.chain_commands.specs.Transcripts.{Answers, IsCutShort, AnswersSome}
 
 -- no line feed

@@ -1,11 +1,11 @@
 -- What the program answers to all that it reads, and how far it comes where reading, writing or memory fails.
 use Rattle.std.specs.Prelude.{◌≡◌, ℕ, List, [], ◌∷◌, ◌++◌, Option, Result, Ok, Err}
 use Rattle.std.specs.Io.KnownBytes.{Consumes, Appends, IsAtEnd}
-use Rattle.chain_commands.specs.declared.runs.ToolError.{ToolError}
-use Rattle.chain_commands.specs.declared.runs.ToolError.TheVariants as errors
+use Rattle.chain_commands.specs.declared.session.ToolError.{ToolError}
+use Rattle.chain_commands.specs.declared.session.ToolError.TheVariants as errors
 use Rattle.chain_commands.specs.Words.{lines_of, whole_lines}
 use Rattle.chain_commands.specs.Commands.{line_of}
-use Rattle.chain_commands.specs.Answers.{ToolLinks, AnswersLine, LeavesStep}
+use Rattle.chain_commands.specs.Responses.{ToolLinks, AnswersLine, LeavesStep}
 
 -- the answers to lines, one after another, and the arena after them
 abbrev pub Answers : ToolLinks → List (List ℕ) → List ℕ → ToolLinks → Type 0

@@ -4,7 +4,7 @@ ghost use Rattle.chain_links.specs.declared.kinds.InsertKindBody.TheVariants.{At
 ghost use Rattle.chain_commands.specs.Words.{words_of};
 ghost use Rattle.chain_commands.specs.Commands.{one_word, one_pointer, two_pointers, pointer_and_number, no_arguments, reset_word, by_either, removal, kind_alone, kind_beside, kind_between, kind_and_value, room_or_counter, renumbering, removing, call_of, command_of, line_of};
 
-use crate::words::{generation, index, next_word, number, pointer, without_return};
+use crate::lexer::{generation, index, next_word, number, pointer, without_return};
 use arena_ptr::{Inx32, ToolPtr};
 use chain_arena::{Call, LinkInsertKind};
 

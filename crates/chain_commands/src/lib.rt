@@ -2,11 +2,11 @@
 //! output.
 #![tactic(auto)]
 
-mod answer;
 pub mod command;
-mod runs;
-mod text;
-mod told;
-mod words;
+mod execute;
+mod infallible_text;
+mod lexer;
+mod reply_text;
+mod session;
 
-pub use runs::{ToolError, run, run_on};
+pub use session::{ToolError, run, run_on};

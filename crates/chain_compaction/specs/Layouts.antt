@@ -8,7 +8,7 @@ use Rattle.chain_laws.specs.Renamings.{IsRenaming}
 use Rattle.chain_laws.specs.Arrangements.{place_in, IsLeastIndexOrder}
 use Rattle.arena_base.specs.Arena.{Arena}
 use Rattle.arena_base.specs.Entries.{Seen, found}
-use Rattle.arena_base.specs.Closing.{gathered}
+use Rattle.arena_base.specs.GatheredSlots.{gathered}
 use Rattle.chain_links.specs.ChainArena.{LinkSeen, shown, entry, values_of, ptr_at}
 
 -- the pointers that all links had and those that they have, in their least-index order: the indexes from 1 on, with a

@@ -1,9 +1,9 @@
-pub mod Closing
-pub mod Compressions
-pub mod HeldLinks
+pub mod CompressionSteps
+pub mod LinkCompressions
+pub mod DetachedLinks
 pub mod Layouts
-pub mod Looks
-pub mod Counts
-pub mod Moving
-pub mod Numbering
+pub mod SlotReads
+pub mod WorkCounts
+pub mod Permutations
+pub mod Destinations
 pub mod PointerMoves

@@ -1,17 +1,17 @@
 // Links laid out canonically in place: each chain one run, the chains one after another from index 1 on.
 ghost use Rattle.std.specs.Prelude.{◌≡◌, ◌≤◌, ◌+◌, ℕ, None, length};
 ghost use Rattle.chain_laws.specs.Chains.{Agrees};
-ghost use Rattle.arena_base.specs.Closing.{with_totals};
+ghost use Rattle.arena_base.specs.GatheredSlots.{with_totals};
 ghost use Rattle.chain_links.specs.ChainArena.{shown};
 ghost use Rattle.chain_links.specs.Links.{seen_links};
-ghost use Rattle.chain_compaction.specs.Counts.{CountsOn};
+ghost use Rattle.chain_compaction.specs.WorkCounts.{CountsOn};
 ghost use Rattle.chain_compaction.specs.Layouts.{AreLaidOut};
-ghost use Rattle.chain_compaction.specs.Numbering.{seen_held, given};
+ghost use Rattle.chain_compaction.specs.Destinations.{seen_held, given};
 
-use crate::looking::direct_at;
-use crate::moving::move_all;
-use crate::numbering::number_all;
-use crate::visiting::Visitor;
+use crate::assign_destinations::number_all;
+use crate::permute::move_all;
+use crate::slot_access::direct_at;
+use crate::visitor::Visitor;
 use arena_base::{Arena, ArenaSlot, Compactor, Work, inx_at};
 use arena_ptr::{PtrKey, SlotStack};
 use chain_links::LinkNoGen;

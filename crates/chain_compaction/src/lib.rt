@@ -1,9 +1,9 @@
 //! Passes over a plain arena of links that give links other indexes: gaps closed, and chains laid out one after another.
 #![tactic(auto)]
 
+mod assign_destinations;
 pub mod canonical;
 pub mod compress;
-mod looking;
-mod moving;
-mod numbering;
-pub mod visiting;
+mod permute;
+mod slot_access;
+pub mod visitor;

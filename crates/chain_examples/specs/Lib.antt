@@ -1,6 +1,6 @@
 pub mod Lists
 pub mod Renumbering
 pub mod Rings
-pub mod Tables
+pub mod MoveTables
 pub mod Texts
-pub mod Turns
+pub mod QueueOrder

@@ -1,7 +1,7 @@
 -- Lists that lie in an arena: rings, which go round, texts, which go from a first item to a last one, and the turn of a queue.
 use Rattle.std.specs.Prelude.{◌≡◌, ◌≢◌, ℕ, List, [], ◌∷◌, ◌++◌, map, Option, Some, is_some, true}
 use Rattle.chain_laws.specs.Chains.{Shown, Chain, linear, cyclic, IsChain, Has}
-use Rattle.chain_laws.specs.Others.{Lacks}
+use Rattle.chain_laws.specs.Frame.{Lacks}
 use Rattle.arena_base.specs.Entries.{index_of, first_key}
 
 -- an item: the index and the generation of its pointer, and its value

@@ -5,7 +5,7 @@ ghost use Rattle.std.specs.Option.{option_map, option_and_then};
 ghost use Rattle.chain_links.specs.ChainArena.{entry, seen, shown};
 ghost use Rattle.chain_links.specs.CanonicalLayouts.{IsCanonicalLayout};
 ghost use Rattle.chain_examples.specs.Renumbering.{IsRenumbered};
-ghost use Rattle.chain_examples.specs.Tables.{noted, looked_up};
+ghost use Rattle.chain_examples.specs.MoveTables.{noted, looked_up};
 
 use arena_base::{ArenaSlot, ArenaTrait};
 use arena_ptr::{InxKey, PtrKey, SlotStack};

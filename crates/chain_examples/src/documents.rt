@@ -8,7 +8,7 @@ ghost use Rattle.chain_laws.specs.Chains.{linear, Has, next_of, prev_of};
 ghost use Rattle.arena_base.specs.Arena.{IsRoom, IsValid};
 ghost use Rattle.arena_base.specs.Entries.{count, entry_removed, first_key, last_key, with_capacity, NeedsBeyondMaximum};
 ghost use Rattle.chain_links.specs.CanonicalLayouts.{IsCanonicalLayout};
-ghost use Rattle.chain_links.specs.Calls.{SucceedsInRoom};
+ghost use Rattle.chain_links.specs.CallEffects.{SucceedsInRoom};
 ghost use Rattle.chain_links.specs.ChainArena.{IsInserted, CanConnect, entry, seen, shown};
 ghost use Rattle.chain_examples.specs.Renumbering.{IsRenumbered};
 ghost use Rattle.chain_examples.specs.Lists.{Item, indexes, IsText, KeepsWithout, ComesAfter, ComesBefore, Leaves};

@@ -8,7 +8,7 @@ mod growth;
 mod mesh;
 pub mod named_type;
 mod queue;
-pub mod ties;
+pub mod tutorial;
 
 pub use documents::Documents;
 pub use mesh::{Mesh, cut_and_merge_restore};

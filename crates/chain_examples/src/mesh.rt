@@ -6,7 +6,7 @@ ghost use Rattle.arena_ptr.specs.SlotStack.{IsBeyond, IsWithinMaximum};
 ghost use Rattle.chain_laws.specs.Chains.{cyclic};
 ghost use Rattle.arena_base.specs.Arena.{IsRoom, IsValid};
 ghost use Rattle.arena_base.specs.Entries.{count, entry_removed, first_key, with_capacity, HasRoomLeft, NeedsBeyondMaximum};
-ghost use Rattle.chain_links.specs.Calls.{SucceedsInRoom};
+ghost use Rattle.chain_links.specs.CallEffects.{SucceedsInRoom};
 ghost use Rattle.chain_links.specs.ChainArena.{IsInserted};
 ghost use Rattle.chain_examples.specs.Lists.{Item, IsRing, KeepsWithout, ComesAfter, ComesBefore, Leaves};
 ghost use Rattle.chain_examples.specs.Rings.{GoesRound, AllInRings, IsCutInTwo, AreMerged, AreCopied, IsSplit, IsBridged, CutAndMergeRestore};

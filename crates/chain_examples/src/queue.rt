@@ -7,8 +7,8 @@ ghost use Rattle.arena_ptr.specs.SlotStack.{IsBeyond, IsWithinMaximum};
 ghost use Rattle.arena_base.specs.Arena.{IsRoom, IsValid};
 ghost use Rattle.arena_base.specs.Entries.{count, first_key, found, NeedsBeyondMaximum};
 ghost use Rattle.chain_laws.specs.Chains.{Has};
-ghost use Rattle.chain_links.specs.Calls.{SucceedsInRoom};
-ghost use Rattle.chain_examples.specs.Turns.{ComesLast, IsAmong, IsCancelled, IsFirstWithout, turned_once, with_task};
+ghost use Rattle.chain_links.specs.CallEffects.{SucceedsInRoom};
+ghost use Rattle.chain_examples.specs.QueueOrder.{ComesLast, IsAmong, IsCancelled, IsFirstWithout, turned_once, with_task};
 ghost use Rattle.chain_examples.specs.Lists.{Item, IsTurn, indexes};
 
 use crate::growth::reserve;
@@ -33,7 +33,7 @@ impl<P: PtrKey, T: Drop, A: ChainArenaTrait<P, T> + Drop> Model for RunQueue<P, 
     ghost use Rattle.std.specs.Option.{option_map};
     ghost use Rattle.arena_base.specs.Entries.{count};
     ghost use Rattle.chain_examples.specs.Lists.{IsTurn};
-    ghost use Rattle.chain_examples.specs.Turns.{Queue, turn_of};
+    ghost use Rattle.chain_examples.specs.QueueOrder.{Queue, turn_of};
 
     ghost Value = { Queue P.Gen T };
 

@@ -2,7 +2,7 @@
 use Rattle.std.specs.Prelude.{◌≡◌, ◌↔◌, ℕ, List, [], ◌∷◌, ◌++◌, None, Some}
 use Rattle.chain_laws.specs.Chains.{Shown, linear, cyclic, IsChain, HasLink, HasLinksWithin, Agrees, first_or, last_or}
 use Rattle.chain_laws.specs.Neighbors.{AreNeighbors}
-use Rattle.chain_laws.specs.Operations.{linked, joined, KeepsChainsWithout, AreEndAndStart, HaveSameChains}
+use Rattle.chain_laws.specs.Joins.{linked, joined, KeepsChainsWithout, AreEndAndStart, HaveSameChains}
 
 -- nothing comes after a, and nothing before b
 abbrev pub cut : Shown → ℕ → ℕ → Shown

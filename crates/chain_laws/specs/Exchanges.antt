@@ -2,7 +2,7 @@
 use Rattle.std.specs.Prelude.{◌≡◌, ◌≢◌, ◌↔◌, ℕ, ◌⊎◌, List, [], ◌∷◌, ◌++◌, Some}
 use Rattle.chain_laws.specs.Chains.{Shown, linear, cyclic, Has, IsChain, HasLink, HasLinksWithin, Agrees, next_of}
 use Rattle.chain_laws.specs.Neighbors.{AreNeighbors, AreSameButTurned}
-use Rattle.chain_laws.specs.Operations.{linked, KeepsChainsWithout, HaveSameChains}
+use Rattle.chain_laws.specs.Joins.{linked, KeepsChainsWithout, HaveSameChains}
 
 -- what came after q comes after p, and what came after p comes after q.
 -- So where nothing came after the one, nothing comes after the other, and an exchange of p with itself needs no case.

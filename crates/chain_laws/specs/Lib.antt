@@ -3,13 +3,13 @@ pub mod Cuts
 pub mod Exchanges
 pub mod Insertions
 pub mod Neighbors
-pub mod Operations
+pub mod Joins
 pub mod Removals
 pub mod Walks
 pub mod Renamings
 pub mod Arrangements
 pub mod Moves
-pub mod Starts
-pub mod Relays
+pub mod ChainStart
+pub mod Transfer
 pub mod Members
-pub mod Others
+pub mod Frame

@@ -2,7 +2,7 @@
 use Rattle.std.specs.Prelude.{◌≡◌, ◌↔◌, ℕ, ◌+◌, ◌≤◌, ◌==◌, leb, if◌then◌else◌, ◌⊎◌, List, [], ◌∷◌, ◌++◌, length, Option, None, Some}
 use Rattle.std.specs.Option.{option_map, option_and_then}
 use Rattle.chain_laws.specs.Chains.{Shown, Interlinks, Has, HasNoRepetition, HasLink, HasLinksWithin, Agrees, prev_of, next_of}
-use Rattle.chain_laws.specs.Operations.{next_set, prev_set}
+use Rattle.chain_laws.specs.Joins.{next_set, prev_set}
 use Rattle.chain_laws.specs.Renamings.{IsRenaming}
 use Rattle.chain_laws.specs.Arrangements.{place_in}
 

@@ -2,7 +2,7 @@
 use Rattle.std.specs.Prelude.{◌≡◌, ◌≢◌, ◌↔◌, ℕ, ◌==◌, if◌then◌else◌, ◌⊎◌, List, [], ◌∷◌, ◌++◌, None, Some}
 use Rattle.chain_laws.specs.Chains.{Shown, Chain, linear, cyclic, items, Has, IsChain, HasLink, HasLinksWithin, Agrees, prev_of, next_of}
 use Rattle.chain_laws.specs.Neighbors.{AreNeighbors}
-use Rattle.chain_laws.specs.Operations.{linked, with_lone, HaveSameChains}
+use Rattle.chain_laws.specs.Joins.{linked, with_lone, HaveSameChains}
 
 -- nothing stands at q
 abbrev pub vacated : Shown → ℕ → Shown

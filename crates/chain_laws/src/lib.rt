@@ -2,14 +2,14 @@
 //! empty body and carries a law as its contract.
 #![tactic(auto)]
 
-pub mod cutting;
+pub mod cut;
 pub mod exchange;
+pub mod frame;
 pub mod insertion;
+pub mod join;
 pub mod membership;
-pub mod operations;
-pub mod others;
 pub mod partition;
-pub mod relaying;
 pub mod removal;
 pub mod renaming;
+pub mod transfer;
 pub mod walks;

@@ -1,8 +1,8 @@
-pub mod Advancing
-pub mod Answered
-pub mod Connecting
-pub mod NamedLinks
-pub mod Naming
-pub mod Putting
-pub mod Relinking
-pub mod Unlinking
+pub mod AdvancerLemmas
+pub mod ConsistencyLemmas
+pub mod ConnectionLemmas
+pub mod NeighborLemmas
+pub mod InsertPositionLemmas
+pub mod LinkInsertionLemmas
+pub mod LinkWriteLemmas
+pub mod UnlinkLemmas

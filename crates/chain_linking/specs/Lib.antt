@@ -1,5 +1,5 @@
-pub mod Gaps
-pub mod Interlinks
-pub mod Steps
-pub mod Agreeing
+pub mod InsertPositions
+pub mod LinkWrites
+pub mod WalkSteps
+pub mod Consistency
 pub mod ChainArenaLaws

@@ -2,11 +2,11 @@
 //! and whether the interlinks agree.
 #![tactic(auto)]
 
-pub mod agreeing;
-pub mod gaps;
-pub mod interlinks;
-pub mod placing;
-pub mod standing;
-pub mod steps;
+pub mod connection;
+pub mod consistency;
+pub mod insert_position;
+pub mod link_writes;
+pub mod new_link;
+pub mod walk_step;
 
-pub use agreeing::links_agree;
+pub use consistency::links_agree;

@@ -1,3 +1,3 @@
-pub mod Inserting
-pub mod Mapping
-pub mod Seeing
+pub mod ArenaInsertionLemmas
+pub mod MappedArenaLemmas
+pub mod LinkStateLemmas

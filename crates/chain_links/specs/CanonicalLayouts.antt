@@ -6,7 +6,7 @@ use Rattle.chain_laws.specs.Chains.{Shown, AreChains}
 use Rattle.chain_laws.specs.Renamings.{IsRenaming}
 use Rattle.chain_laws.specs.Arrangements.{place_in, in_runs, IsLeastIndexOrder}
 use Rattle.arena_base.specs.Entries.{Seen, Slots, found, index_of}
-use Rattle.arena_base.specs.Compressing.{counter_after_compression, values_in, AreFilledAnew, WhereTold}
+use Rattle.arena_base.specs.Compressions.{counter_after_compression, values_in, AreFilledAnew, WhereTold}
 
 -- so many links are in exactly as many slots, none is freed, each was placed once, and there were at most four times as many
 -- touches as slots and twelve times as many as links

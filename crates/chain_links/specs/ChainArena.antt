@@ -6,7 +6,7 @@ use Rattle.chain_laws.specs.Walks.{IsWalk}
 use Rattle.chain_laws.specs.Removals.{removed, Removes, RemovesPairs}
 use Rattle.chain_laws.specs.Cuts.{cut, Cuts, TakesPair}
 use Rattle.chain_laws.specs.Exchanges.{exchanged, Exchanges, ExchangesPairs}
-use Rattle.chain_laws.specs.Operations.{next_set, prev_set, joined, AddsPair, Connects}
+use Rattle.chain_laws.specs.Joins.{next_set, prev_set, joined, AddsPair, Connects}
 use Rattle.chain_laws.specs.Insertions.{InsertKind, inserted, inserted_as}
 use Rattle.arena_base.specs.Arena.{Arena, with_slot, entry_at, next_index, insert_next, remove_at, IsValid}
 use Rattle.arena_base.specs.Entries.{Seen, seen_of}

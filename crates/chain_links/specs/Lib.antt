@@ -2,9 +2,9 @@ pub mod ChainArena
 pub mod Links
 pub mod LinkOrder
 pub mod LinkOrderLaws
-pub mod Texts
+pub mod LinkText
 pub mod Kinds
 pub mod Insertions
 pub mod Walkers
 pub mod CanonicalLayouts
-pub mod Calls
+pub mod CallEffects

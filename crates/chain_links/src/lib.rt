@@ -5,9 +5,9 @@
 pub mod kinds;
 pub mod link_access;
 mod link_order;
+mod link_text;
 pub mod links;
-mod texts;
-pub mod walks;
+pub mod walk_direction;
 
 pub use kinds::{InsertKindBody, LinkInsertKind};
 pub use link_order::links_compare_by_neighbors;

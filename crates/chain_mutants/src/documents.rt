@@ -8,8 +8,8 @@ ghost use Rattle.chain_examples.specs.Texts.{IsMovedAfter};
 use arena_base::ArenaSlot;
 use arena_ptr::{GenKey, PtrKey, SlotStack};
 use chain_arena::{ChainArena, LinkNoGen};
-use chain_traits::ChainArenaTrait;
 use chain_examples::Documents;
+use chain_traits::ChainArenaTrait;
 use std::alloc::{AllocError, Global};
 
 /// `Documents::move_after`, under the clause that says what becomes of the texts.

@@ -4,15 +4,15 @@
 #![tactic(auto)]
 
 mod documents;
-mod lines;
 mod mesh;
 mod own_calls;
 mod queue;
+mod session;
 mod trait_calls;
 
 pub use documents::{move_after, renumber};
-pub use lines::run_on;
 pub use mesh::{merge, split};
 pub use own_calls::{compress_canonical_counted, remove_chain, transfer_canonical_reallocating};
 pub use queue::{cancel, spawn};
+pub use session::run_on;
 pub use trait_calls::compress_canonical;

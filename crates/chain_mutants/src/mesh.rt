@@ -3,8 +3,8 @@ ghost use Rattle.std.specs.Prelude.{IfSome, IfOk};
 ghost use Rattle.chain_examples.specs.Rings.{AreMerged, AreCopied, IsBridged, IsCutInTwo, IsSplit};
 
 use arena_ptr::{PtrKey, ReallocationError};
-use chain_traits::ChainArenaTrait;
 use chain_examples::Mesh;
+use chain_traits::ChainArenaTrait;
 
 /// `Mesh::merge`, under the clauses that say what becomes of the polygons.
 pub fn merge<P: PtrKey, T: Drop, A: ChainArenaTrait<P, T> + Drop>(

@@ -3,7 +3,7 @@ ghost use Rattle.std.specs.Prelude.{◌≡◌, ◌≤◌, ◌+◌, ◌↔◌, Is
 ghost use Rattle.arena_ptr.specs.Invalidation.{invalidation_option};
 ghost use Rattle.arena_base.specs.Arena.{IsValid, entry_count};
 ghost use Rattle.arena_base.specs.Entries.{count};
-ghost use Rattle.arena_base.specs.Compressing.{overflows_after_compression};
+ghost use Rattle.arena_base.specs.Compressions.{overflows_after_compression};
 ghost use Rattle.chain_links.specs.ChainArena.{entry, seen, shown};
 ghost use Rattle.chain_links.specs.CanonicalLayouts.{IsCanonicalLayout};
 ghost use Rattle.chain_arena.specs.Drains.{walk_left, without_each};

@@ -4,11 +4,11 @@ ghost use Rattle.arena_ptr.specs.SlotStack.{IsBeyond};
 ghost use Rattle.arena_base.specs.Arena.{IsRoom};
 ghost use Rattle.chain_laws.specs.Chains.{Has};
 ghost use Rattle.chain_examples.specs.Lists.{indexes};
-ghost use Rattle.chain_examples.specs.Turns.{IsCancelled};
+ghost use Rattle.chain_examples.specs.QueueOrder.{IsCancelled};
 
 use arena_ptr::{InxKey, PtrKey, ReallocationError};
-use chain_traits::ChainArenaTrait;
 use chain_examples::RunQueue;
+use chain_traits::ChainArenaTrait;
 
 /// Forwards to `RunQueue::spawn`, under its clauses.
 pub fn spawn<P: PtrKey, T: Drop, A: ChainArenaTrait<P, T> + Drop>(

@@ -1,7 +1,7 @@
 // Calls of the trait of arenas of links.
 ghost use Rattle.std.specs.Prelude.{◌≡◌, length, IfSome};
 ghost use Rattle.arena_ptr.specs.Invalidation.{invalidation_option};
-ghost use Rattle.arena_base.specs.Compressing.{overflows_after_compression};
+ghost use Rattle.arena_base.specs.Compressions.{overflows_after_compression};
 ghost use Rattle.chain_laws.specs.Chains.{Agrees};
 ghost use Rattle.chain_links.specs.CanonicalLayouts.{IsCanonicalLayout};
 

@@ -1,27 +1,27 @@
-mod agreeing;
+mod arena_text;
+mod call_lists;
 mod canonical;
+mod consistency;
 mod copies;
 mod drains;
 mod entries;
-mod filling;
-mod handed_back;
-mod hostile;
+mod failing_stack;
+mod fallible_insertion;
 mod indexing;
+mod inherent_call_tables;
+mod inherent_calls;
 mod iterators;
-mod machine;
-mod own;
-mod own_rows;
-mod rationed;
-mod recasting;
+mod recast;
 mod scripts;
+mod setup;
 mod stacks;
-mod steps;
-mod texts;
-mod values;
+mod stress;
+mod value_counts;
+mod visitor_state;
 
 ghost use Rattle.std.specs.Iterator.{IsFinite};
 
-use self::filling::add;
+use self::fallible_insertion::add;
 use arena_base::{Arena, ArenaSlot, ArenaTrait};
 use arena_ptr::{
     Gen32, InvalidationResult, Inx32, LimitStack, Ptr, SetMaxCapacity, SlotStack, ToolPtr,

@@ -1,6 +1,6 @@
-pub mod AnyArena
-pub mod Looking
-pub mod Outcomes
-pub mod Removing
-pub mod WalkLemmas
-pub mod LayoutLemmas
+pub mod GenericArenaLemmas
+pub mod NeighborPointerLemmas
+pub mod OutcomeLemmas
+pub mod GenericRemovalLemmas
+pub mod AdvancerWalkLemmas
+pub mod SecondCompressionLemmas

@@ -1,2 +1,2 @@
-pub mod Sources
-pub mod LayoutLaws
+pub mod DrainOrder
+pub mod CompressionLaws

@@ -6,15 +6,15 @@ ghost use Rattle.chain_laws.specs.Chains.{Shown, Agrees, HasLinksWithin, prev_of
 ghost use Rattle.chain_laws.specs.Cuts.{cut, Cuts};
 ghost use Rattle.chain_laws.specs.Exchanges.{exchanged, Exchanges};
 ghost use Rattle.chain_laws.specs.Neighbors.{AreNeighbors, HasOneSetOfChains};
-ghost use Rattle.chain_laws.specs.Operations.{joined, Connects};
+ghost use Rattle.chain_laws.specs.Joins.{joined, Connects};
 ghost use Rattle.chain_laws.specs.Removals.{removed, Removes};
 ghost use Rattle.chain_laws.specs.Renamings.{IsRenaming};
 ghost use Rattle.chain_laws.specs.Arrangements.{place_in};
 ghost use Rattle.arena_base.specs.Arena.{IsValid, IsRoom};
 ghost use Rattle.arena_base.specs.Entries.{count, index_of, NeedsBeyondMaximum};
-ghost use Rattle.arena_base.specs.Compressing.{overflows_after_compression};
+ghost use Rattle.arena_base.specs.Compressions.{overflows_after_compression};
 ghost use Rattle.chain_links.specs.ChainArena.{link_at, on_value, CanConnect, CanExchange, IsLinkAt};
-ghost use Rattle.chain_links.specs.Calls.{GainsLink, IsFull, LosesLink, SucceedsInRoom, YieldsLink};
+ghost use Rattle.chain_links.specs.CallEffects.{GainsLink, IsFull, LosesLink, SucceedsInRoom, YieldsLink};
 ghost use Rattle.chain_links.specs.Kinds.{names_in, MayInsert};
 ghost use Rattle.chain_links.specs.CanonicalLayouts.{IsCanonicalLayout};
 ghost use Rattle.chain_links.specs.Links.{seen_link, seen_lent};

@@ -2,8 +2,8 @@
 #![tactic(auto)]
 
 mod chain_traits;
-pub mod layout_laws;
-pub mod sources;
+pub mod compression_laws;
+pub mod drain_in_order;
 pub mod walks;
 
 pub use chain_traits::ChainArenaTrait;

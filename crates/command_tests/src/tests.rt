@@ -1,8 +1,8 @@
 //! Runs of the program over readers and writers in memory, and in `users` the data structures on arenas of links.
-mod faulty;
+mod examples;
+mod io_faults;
 mod no_memory;
 mod small_indexes;
-mod users;
 
 ghost use Rattle.std.specs.Prelude.{◌≡◌, ℕ, List, ◌∷◌, [], codes, true, Some, None, option_map};
 ghost use Rattle.chain_links.specs.declared.kinds.InsertKindBody.TheVariants.{Disconnected, SingleLinkCyclic, ChainEnd, NextToInx, BridgeInx};
@@ -550,8 +550,8 @@ fn check_chain<S: SlotStack<Item = Slot>>(rt: &impl Abort, alloc: Global) {
 fn check_over<S: SlotStack<Item = Slot>>(rt: &impl Abort, alloc: Global) {
     check_runs::<S>(rt, alloc);
     check_chain::<S>(rt, alloc);
-    faulty::check_readers::<S>(rt, alloc);
-    faulty::check_writers::<S>(rt, alloc);
+    io_faults::check_readers::<S>(rt, alloc);
+    io_faults::check_writers::<S>(rt, alloc);
 }
 
 #[test]

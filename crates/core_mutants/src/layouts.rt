@@ -7,7 +7,7 @@ ghost use Rattle.chain_compaction.specs.Layouts.{AreLaidOut};
 use arena_base::{Arena, ArenaSlot, Work};
 use arena_ptr::{InxKey, PtrKey, SlotStack};
 use chain_compaction::canonical;
-use chain_compaction::visiting::Visitor;
+use chain_compaction::visitor::Visitor;
 use chain_links::LinkNoGen;
 
 /// `chain_compaction::canonical::lay_out`, under the clause that says what becomes of the links.

@@ -6,14 +6,14 @@ ghost use Rattle.arena_base.specs.Arena.{entry_at};
 ghost use Rattle.chain_laws.specs.Chains.{Agrees, HasLink};
 ghost use Rattle.chain_links.specs.ChainArena.{remove_link, entry, shown, CanConnect};
 ghost use Rattle.chain_links.specs.Links.{seen_links, seen_pair};
-ghost use Rattle.chain_linking.specs.Interlinks.{linked_up};
+ghost use Rattle.chain_linking.specs.LinkWrites.{linked_up};
 
 use arena_base::{Arena, ArenaSlot};
 use arena_ptr::{InvalidationResult, InxKey, PtrKey, SlotStack};
-use chain_linking::{interlinks, standing};
+use chain_linking::{connection, link_writes};
 use chain_links::LinkNoGen;
 
-/// Forwards to `chain_linking::standing::link_up`.
+/// Forwards to `chain_linking::link_writes::link_up`.
 pub fn link_up<P: PtrKey, T: Drop, S: SlotStack<Item = ArenaSlot<P, LinkNoGen<P, T>>>>(
     arena: &mut Arena<P, LinkNoGen<P, T>, S>,
     prev: Option<P::Inx>,
@@ -25,10 +25,10 @@ pub fn link_up<P: PtrKey, T: Drop, S: SlotStack<Item = ArenaSlot<P, LinkNoGen<P,
         (HasLink (shown (seen_links P.Inx.packed_number arena.old))) }
     ensures { seen_links P.Inx.packed_number arena.new ≡ linked_up (seen_links P.Inx.packed_number arena.old) (option_map P.Inx.number prev) (option_map P.Inx.number next) }
 {
-    standing::link_up(arena, prev, next);
+    link_writes::link_up(arena, prev, next);
 }
 
-/// Forwards to `chain_linking::interlinks::join`, which is what a connection does.
+/// Forwards to `chain_linking::connection::join`, which is what a connection does.
 pub fn join<P: PtrKey, T: Drop, S: SlotStack<Item = ArenaSlot<P, LinkNoGen<P, T>>>>(
     arena: &mut Arena<P, LinkNoGen<P, T>, S>,
     p: P,
@@ -38,10 +38,10 @@ pub fn join<P: PtrKey, T: Drop, S: SlotStack<Item = ArenaSlot<P, LinkNoGen<P, T>
     ensures joined { OnSome result (seen_links P.Inx.packed_number arena.new ≡ linked_up (seen_links P.Inx.packed_number arena.old) (Some (P.key p).0) (Some (P.key q).0)) }
     ensures none { IfNone result (seen_links P.Inx.packed_number arena.new ≡ seen_links P.Inx.packed_number arena.old) }
 {
-    interlinks::join(arena, p, q)
+    connection::join(arena, p, q)
 }
 
-/// Forwards to `chain_linking::standing::take_out`.
+/// Forwards to `chain_linking::link_writes::take_out`.
 pub fn take_out<P: PtrKey, T: Drop, S: SlotStack<Item = ArenaSlot<P, LinkNoGen<P, T>>>>(
     arena: &mut Arena<P, LinkNoGen<P, T>, S>,
     i: P::Inx,
@@ -52,5 +52,5 @@ pub fn take_out<P: PtrKey, T: Drop, S: SlotStack<Item = ArenaSlot<P, LinkNoGen<P
     ensures valid { IsSome (value_within result) → seen_links P.Inx.packed_number arena.new ≡ remove_link P.Gen.following (seen_links P.Inx.packed_number arena.old) (P.Inx.number i) }
     ensures invalid { value_within result ≡ None → arena.new ≡ arena.old }
 {
-    standing::take_out(arena, i)
+    link_writes::take_out(arena, i)
 }

@@ -1,1 +1,1 @@
-pub mod Advancers
+pub mod ForwardedAdvancers

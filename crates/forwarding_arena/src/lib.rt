@@ -1,6 +1,6 @@
 //! An arena of links that hands each call on to another one, which makes a second arena for generic code.
 #![tactic(auto)]
 
-mod wrapped;
+mod forwarding;
 
-pub use wrapped::{ForwardingArena, ForwardingAdvancer, ForwardingWalk};
+pub use forwarding::{ForwardingAdvancer, ForwardingArena, ForwardingWalk};

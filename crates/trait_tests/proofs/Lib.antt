@@ -1,1 +1,1 @@
-mod Behind
+mod ExtensionLemmas

@@ -1,15 +1,15 @@
-mod advancing;
+mod advancers;
 mod any_arena;
-mod asked;
-mod behind;
+mod generic_code;
+mod inherent_calls;
 mod limits;
 mod link_order;
-mod own;
+mod link_text;
+mod parser;
 mod pointers;
-mod rows;
 mod scripts;
 mod sizes;
-mod texts;
+mod trait_calls;
 mod transfers;
 
 use self::pointers::Pair;

@@ -41,7 +41,7 @@ impl Gen8 {
 impl PtrGen for Gen8 {
     ghost use Rattle.std.specs.Fmt.{WritesOnOk};
     ghost use Rattle.arena_ptr.specs.Generations.{number_of_gen8, two8, after8, is_greatest8, begins_again8, eq_is_same_gen8};
-    ghost use Rattle.arena_ptr.specs.Text.{in_parentheses};
+    ghost use Rattle.arena_ptr.specs.PointerText.{in_parentheses};
 
     ghost first = { two8 };
 

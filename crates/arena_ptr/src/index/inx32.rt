@@ -41,7 +41,7 @@ impl Inx32 {
 impl PtrInx for Inx32 {
     ghost use Rattle.std.specs.Option.{option_map};
     ghost use Rattle.std.proofs.Common.{lit<};
-    ghost use Rattle.arena_ptr.specs.Packed.{zero_is_none, same_zero_is_none};
+    ghost use Rattle.arena_ptr.specs.PackedOptions.{zero_is_none, same_zero_is_none};
     ghost use Rattle.arena_ptr.specs.Indexes.{number_of_inx32, same_inx32, eq_is_same_inx32};
 
     type Word = u32;

@@ -1,7 +1,7 @@
 // Each call once: those of the trait through the trait, and the arena's own.
 use crate::tests::compressions::{compactors, compressions};
 use crate::tests::copies::copy;
-use crate::tests::rows::nexts;
+use crate::tests::next_pointers::nexts;
 use crate::tests::scripts::{Answers, Call, Row, runs};
 use std::alloc::Global;
 use std::process::Abort;

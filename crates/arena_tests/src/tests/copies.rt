@@ -1,8 +1,8 @@
 // What a copy of an arena has, and when an arena refuses to become one.
-use crate::tests::own::insert_many;
+use crate::tests::inherent_calls::insert_many;
 use crate::tests::pointers::Numbered;
 use crate::tests::scripts::{Call, Row};
-use crate::tests::tools::{Slot, at};
+use crate::tests::support::{Slot, at};
 use arena_base::{Arena, ArenaCloneFromWith, ArenaTrait};
 use arena_ptr::{ReallocationError, SlotStack};
 use std::alloc::Global;

@@ -1,5 +1,5 @@
 // A place for an entry, which is filled, or gets none.
-use crate::tests::tools::Slot;
+use crate::tests::support::Slot;
 use arena_base::Arena;
 use arena_ptr::{NotWithinCapacityError, PtrKey, SlotStack};
 

@@ -3,7 +3,7 @@ use crate::tests::calls::check_scripts;
 use crate::tests::pointers::{Numbered, SmallPtr};
 use crate::tests::scripts::{Answers, Call, Row, runs};
 use crate::tests::stacks::Rationed;
-use crate::tests::tools::{Slot, equal};
+use crate::tests::support::{Slot, equal};
 use arena_base::{Arena, ArenaSlot, ArenaTrait};
 use arena_ptr::{
     HeapStack, LimitStack, LimitedStack, MaxCapacityReductionError, PtrKey, SetMaxCapacity,

@@ -1,5 +1,5 @@
 // Indexes, generations and pointers: what they answer to code that knows them by the traits alone, and the numbers of each type.
-use crate::tests::tools::{equal, gen8, gen32, gen64, inx8, inx32, inx64};
+use crate::tests::support::{equal, gen8, gen32, gen64, inx8, inx32, inx64};
 use arena_ptr::{Gen8, Gen32, Gen64, Inx8, Inx32, Inx64, Ptr, PtrGen, PtrInx, ToolPtr};
 use std::process::Abort;
 

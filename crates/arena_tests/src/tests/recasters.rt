@@ -1,7 +1,7 @@
 // A recaster that refuses, and a value of two values.
 ghost use Rattle.std.specs.Prelude.{◌≡◌, ◌⊎◌, OnErr, IsErr, Ok, Err};
 
-use crate::tests::tools::equal;
+use crate::tests::support::equal;
 use arena_ptr::{Recast, Recaster};
 
 // Adds ten to each number but two, which it refuses.

@@ -1,7 +1,7 @@
 // Calls of arenas as rows of tables, each with the text of its answer.
 use crate::tests::copies::copied_hole;
 use crate::tests::pointers::Numbered;
-use crate::tests::tools::{Slot, at, index, same, text};
+use crate::tests::support::{Slot, at, index, same, text};
 use arena_base::{Advancer, ArenaCloneFromWith, ArenaTrait};
 use arena_ptr::{InvalidationOption, PtrKey, ReallocationError, SlotStack};
 use std::alloc::Global;

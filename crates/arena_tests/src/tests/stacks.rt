@@ -1,5 +1,5 @@
 // Slot stacks through their bounds: filled, refused, edited, limited.
-use crate::tests::tools::{equal, same, text};
+use crate::tests::support::{equal, same, text};
 use arena_ptr::{
     ChunkStack, HeapStack, LimitStack, LimitedStack, ReallocationError, SetMaxCapacity, SlotStack,
 };
@@ -477,7 +477,7 @@ static IN_BLOCKS: [(Call, &str); 5] = [
     ),
 ];
 
-// Grows by several blocks at once, of which one may be refused (`tools/refusals` refuses each request in turn): all are
+// Grows by several blocks at once, of which one may be refused (`tools/test_alloc_failures` refuses each request in turn): all are
 // there, or nothing has changed, and what was refused is to be had then.
 fn check_blocks<S: SlotStack<Item = u32>>(rt: &impl Abort, stack: &mut S) {
     let grown = stack.reserve_to(300);

@@ -1,7 +1,7 @@
 //! Copies of chain arenas: what they have, what their closures saw, and when one is refused.
 
-use super::filling::add;
-use super::rationed::Rationed;
+use super::failing_stack::Rationed;
+use super::fallible_insertion::add;
 use super::scripts::{Do, Kind, Line, Script, slots_of};
 use super::{At, ChainsOver, Slot, at, fresh, fresh_plain, remove, same, text};
 use arena_base::{Arena, ArenaSlot, ArenaTrait};

@@ -1,7 +1,7 @@
 //! Calls on chain arenas as rows of tables, each with the text of its answer.
 
+use super::call_lists::{call, told};
 use super::copies::{cloned, copied_over};
-use super::machine::{call, told};
 use super::{At, ChainsOver, Slot, at, same, text};
 use arena_base::{ArenaSlot, ArenaTrait};
 use arena_ptr::{SlotStack, ToolPtr};

@@ -1,14 +1,14 @@
 //! What is tried of links of numbers, over each stack.
 
-use super::agreeing::{check_accepted, check_rows};
+use super::call_lists::{check_every_reply, check_lists};
 use super::canonical::{check_bounds, layouts};
+use super::consistency::{check_accepted, check_rows};
 use super::copies::{check_plain, check_refused_beside_holes, check_refused_copy, copies};
 use super::entries::check_full;
-use super::handed_back::{check_beyond_one, check_counted, check_kept};
-use super::hostile::{check_hostile, check_limited};
-use super::machine::{check_every_reply, check_lists};
-use super::own_rows::tables;
+use super::inherent_call_tables::tables;
 use super::scripts::{Answers, plays_all, plays_on};
+use super::stress::{check_hostile, check_limited};
+use super::visitor_state::{check_beyond_one, check_counted, check_kept};
 use super::{ChainsOver, Slot};
 use arena_base::ArenaSlot;
 use arena_ptr::{ChunkStack, HeapStack, LimitStack, LimitedStack, SlotStack, ToolPtr};

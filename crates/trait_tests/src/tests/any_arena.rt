@@ -1,8 +1,8 @@
 //! The rows that any arena of links meets, at the chain arena and at an arena that hands each call on.
 
-use super::asked::asked;
-use super::rows::{NONE_THEN_AGAIN, NONE_THEN_NONE, ROWS};
+use super::parser::asked;
 use super::scripts::{Answers, answer, plays};
+use super::trait_calls::{NONE_THEN_AGAIN, NONE_THEN_NONE, ROWS};
 use super::transfers::TRANSFERS;
 use super::{Numbered, Slot};
 use arena_base::{ArenaTrait, CompactArenaTrait};

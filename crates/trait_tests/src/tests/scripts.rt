@@ -1,8 +1,8 @@
 //! Calls on arenas of links as lines of texts, each with the text of its answer.
 
-use super::advancing::{changes_met, met, met_along};
-use super::asked::{Asked, Do};
-use super::behind::{add_behind, count_of_links, take_next};
+use super::advancers::{changes_met, met, met_along};
+use super::generic_code::{add_behind, count_of_links, take_next};
+use super::parser::{Asked, Do};
 use super::transfers::carried;
 use super::{At, Numbered, add_lone, number, numbers, rows_of, same, text};
 use arena_base::{Advancer, ArenaTrait, CompactArenaTrait};

@@ -1,6 +1,6 @@
 //! Chains carried over to another arena.
 
-use super::asked::Do;
+use super::parser::Do;
 use super::pointers::BarePtr;
 use super::{Counted, Slot, limited, text};
 use arena_base::{ArenaTrait, CompactArenaTrait};

@@ -1,9 +1,9 @@
 -- Each entry comes to the end of the front, and is seen there.
 use Rattle.std.proofs.Common.{◌≡◌, ◌+◌, ◌≤◌, length, refl, sym, ap, ◌∙◌, arith, of_calls}
-use Rattle.arena_base.specs.Closing.{with_totals}
+use Rattle.arena_base.specs.GatheredSlots.{with_totals}
 use Rattle.std.specs.Option.{option_copied_mut}
 use Rattle.arena_base.specs.Arena.{slot_at}
-use Rattle.arena_base.proofs.Closing.{none_there, closing_length, closing_begins, closing_free, brought_stands, closing_frees, closing_brings, closing_visits, closing_counts, closing_closes, closing_packs, totals_begin, totals_looked, totals_brought}
+use Rattle.arena_base.proofs.HoleClosingLemmas.{none_there, closing_length, closing_begins, closing_free, brought_stands, closing_frees, closing_brings, closing_visits, closing_counts, closing_closes, closing_packs, totals_begin, totals_looked, totals_brought}
 use Rattle.arena_base.proofs.compress.close_gaps.Goals.{in-Some+in-Some-value_mut, in_default}
 use Rattle.arena_base.proofs.compress.close_gaps.Goals as goal
 

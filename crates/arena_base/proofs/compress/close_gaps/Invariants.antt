@@ -1,8 +1,8 @@
 -- The slots up to k are closed, and each was looked at once.
 use Rattle.std.proofs.Common.{◌≡◌, ◌≤◌, ◌+◌}
 use denote.Param.Always.{always_mut}
-use Rattle.arena_base.specs.Closing.{with_totals}
-use Rattle.arena_base.proofs.Closing.{IsClosing}
+use Rattle.arena_base.specs.GatheredSlots.{with_totals}
+use Rattle.arena_base.proofs.HoleClosingLemmas.{IsClosing}
 use Rattle.arena_base.proofs.compress.close_gaps.Given as goal
 
 abbrev pub invariant-loop-k : goal.invariant-loop-k

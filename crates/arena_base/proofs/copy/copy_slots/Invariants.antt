@@ -1,6 +1,6 @@
 -- The slots up to k are copied.
 use Rattle.std.proofs.Common.{◌≡◌}
-use Rattle.arena_base.proofs.Copying.{IsCopying}
+use Rattle.arena_base.proofs.SlotCopyLemmas.{IsCopying}
 use Rattle.arena_base.proofs.copy.copy_slots.Given as goal
 
 abbrev pub invariant-loop-k : goal.invariant-loop-k

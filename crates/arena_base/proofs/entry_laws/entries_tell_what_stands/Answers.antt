@@ -1,7 +1,7 @@
 -- What stands at an index is found among the entries.
 use Rattle.std.proofs.Common.{ap, sym, ◌∙◌}
 use Rattle.arena_base.specs.Entries.{found}
-use Rattle.arena_base.proofs.Finding.{found-gone, found-kept}
+use Rattle.arena_base.proofs.EntrySearchLemmas.{found-gone, found-kept}
 use Rattle.arena_base.proofs.entry_laws.entries_tell_what_stands.Goals as goal
 
 pub returns-clause-same : goal.returns-clause-same

@@ -1,6 +1,6 @@
 -- The slot is written, and its index made.
 use Rattle.std.proofs.Common.{◌≡◌, None, Some, ◌∙◌, arith}
-use Rattle.arena_base.proofs.FreeSlots.{there}
+use Rattle.arena_base.proofs.FreeListLemmas.{there}
 use Rattle.arena_base.proofs.slot.list_at.Goals as goal
 
 pub assert_unchecked-requires : goal.assert_unchecked-requires

@@ -2,7 +2,7 @@
 use Rattle.std.proofs.Common.{◌≡◌, Option, None, Some, sym, ◌∙◌, ap, refl}
 use Rattle.std.specs.Prelude.{IfNone, OnSome, slice_set}
 use Rattle.arena_base.specs.Slots.{entry_in}
-use Rattle.arena_base.proofs.Reading.{freed_slot-free, freed_slot-taken, slice_set-itself}
+use Rattle.arena_base.proofs.SlotLemmas.{freed_slot-free, freed_slot-taken, slice_set-itself}
 use Rattle.arena_base.proofs.slot.vacate_at.Goals as goal
 
 if_none : {X : Type 0} {Q : Type 0} (o : Option X) → (o ≡ None → Q) → IfNone o Q

@@ -2,9 +2,9 @@
 use Rattle.std.proofs.Common.{refl, ap}
 use Rattle.chain_arena.specs.declared.calls.Reply.TheVariants as reply
 use Rattle.chain_links.specs.ChainArena.{values_of}
-use Rattle.chain_arena.proofs.Bounds.{kind_by}
-use Rattle.chain_arena.proofs.Lending.{valid_or_not}
-use Rattle.chain_arena.proofs.Stepping.{joins, breaks_prev, breaks_next, exchanges, removes_link, removes_inx, renews_link, clears_all, compresses}
+use Rattle.chain_arena.proofs.PointerKindLemmas.{kind_by}
+use Rattle.chain_arena.proofs.ValueLoanLemmas.{valid_or_not}
+use Rattle.chain_arena.proofs.CallStepLemmas.{joins, breaks_prev, breaks_next, exchanges, removes_link, removes_inx, renews_link, clears_all, compresses}
 use Rattle.chain_arena.proofs.calls.apply.Goals as goal
 
 pub returns-in-Insert : goal.returns-in-Insert

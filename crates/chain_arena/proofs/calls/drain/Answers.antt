@@ -1,6 +1,6 @@
 -- What was taken and what was left are the walk.
 use Rattle.std.proofs.Common.{rules, refl, ◌∙◌}
-use Rattle.chain_arena.proofs.Stepping.{drained_is}
+use Rattle.chain_arena.proofs.CallStepLemmas.{drained_is}
 use Rattle.chain_arena.proofs.calls.drain.Goals as goal
 
 pub returns-in-Some : goal.returns-in-Some

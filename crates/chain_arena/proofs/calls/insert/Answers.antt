@@ -1,10 +1,10 @@
 -- What an insertion that may grow answers is a step.
-use Rattle.arena_base.proofs.Copying.{on_ok}
+use Rattle.arena_base.proofs.SlotCopyLemmas.{on_ok}
 use Rattle.std.proofs.Common.{refl}
 use Rattle.chain_links.specs.Kinds.{names_in}
-use Rattle.chain_arena.proofs.Bounds.{kind_by}
-use Rattle.chain_arena.proofs.Deciding.{stable-insertion}
-use Rattle.chain_arena.proofs.Stepping.{inserts_growing}
+use Rattle.chain_arena.proofs.PointerKindLemmas.{kind_by}
+use Rattle.chain_arena.proofs.DecidabilityLemmas.{stable-insertion}
+use Rattle.chain_arena.proofs.CallStepLemmas.{inserts_growing}
 use Rattle.chain_arena.proofs.calls.insert.Goals as goal
 
 pub returns : goal.returns

@@ -1,9 +1,9 @@
 -- What an insertion within the capacity answers is a step.
 use Rattle.std.proofs.Common.{refl}
 use Rattle.chain_links.specs.Kinds.{names_in}
-use Rattle.chain_arena.proofs.Bounds.{kind_by}
-use Rattle.chain_arena.proofs.Deciding.{stable-insertion}
-use Rattle.chain_arena.proofs.Stepping.{inserts_within}
+use Rattle.chain_arena.proofs.PointerKindLemmas.{kind_by}
+use Rattle.chain_arena.proofs.DecidabilityLemmas.{stable-insertion}
+use Rattle.chain_arena.proofs.CallStepLemmas.{inserts_within}
 use Rattle.chain_arena.proofs.calls.insert_within.Goals as goal
 
 pub returns : goal.returns

@@ -1,7 +1,7 @@
 -- Each call is made, and its reply is pushed where there is room.
 use Rattle.std.proofs.Common.{sym, ◌∙◌, arith}
-use Rattle.chain_arena.proofs.Bounds.{kind_by}
-use Rattle.chain_arena.proofs.Running.{under_way_first, under_way_more, under_way_last}
+use Rattle.chain_arena.proofs.PointerKindLemmas.{kind_by}
+use Rattle.chain_arena.proofs.CallRunLemmas.{under_way_first, under_way_more, under_way_last}
 use Rattle.chain_arena.proofs.calls.replies_to.Goals as goal
 
 pub loop-call-init : goal.loop-call-init

@@ -1,8 +1,8 @@
 -- The calls made and their replies are a run, and there is room for the replies to those that are left.
 use Rattle.std.proofs.Common.{◌≤◌, ◌+◌, vec_len, vec_capacity}
 use Rattle.std.specs.Vec.Iter.{into_iter_items, into_iter_len}
-use Rattle.chain_arena.proofs.Bounds.{kind_by}
-use Rattle.chain_arena.proofs.Running.{IsUnderWay}
+use Rattle.chain_arena.proofs.PointerKindLemmas.{kind_by}
+use Rattle.chain_arena.proofs.CallRunLemmas.{IsUnderWay}
 use Rattle.chain_arena.proofs.calls.replies_to.Given as goal
 
 abbrev pub invariant-loop-call : goal.invariant-loop-call

@@ -1,6 +1,6 @@
 -- What a growth answers is a step.
-use Rattle.chain_arena.proofs.Bounds.{kind_by}
-use Rattle.chain_arena.proofs.Stepping.{reserves}
+use Rattle.chain_arena.proofs.PointerKindLemmas.{kind_by}
+use Rattle.chain_arena.proofs.CallStepLemmas.{reserves}
 use Rattle.chain_arena.proofs.calls.reserve.Goals as goal
 
 pub returns : goal.returns

@@ -1,5 +1,5 @@
 -- Each step is determined.
-use Rattle.chain_arena.proofs.Determining.{run_same, step_alike, run_in_room}
+use Rattle.chain_arena.proofs.DeterminismLemmas.{run_same, step_alike, run_in_room}
 use Rattle.chain_arena.proofs.calls.runs_are_determined.Goals as goal
 
 pub returns-clause-in_room : goal.returns-clause-in_room

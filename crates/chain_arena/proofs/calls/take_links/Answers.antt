@@ -1,7 +1,7 @@
 -- Each step takes the first of the links that are left.
 use Rattle.std.proofs.Common.{ap, ◌∙◌, arith, length}
 use Rattle.chain_arena.specs.Drains.{walk_left, without_each}
-use Rattle.chain_arena.proofs.Draining.{without_each-step}
+use Rattle.chain_arena.proofs.ChainDrainLemmas.{without_each-step}
 use Rattle.chain_arena.proofs.calls.take_links.Goals as goal
 
 pub loop-count-preserved : goal.loop-count-preserved

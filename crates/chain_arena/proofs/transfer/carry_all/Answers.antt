@@ -5,8 +5,8 @@ use Rattle.std.specs.Option.{option_map}
 use Rattle.arena_base.specs.Arena.{Arena, next_index}
 use Rattle.arena_base.specs.Entries.{found}
 use Rattle.chain_arena.specs.Transfers.{AreEnds}
-use Rattle.chain_traits.proofs.AnyArena.{links_within}
-use Rattle.chain_arena.proofs.Transferring.{IsCarrying, carrying_begins, agrees_left, looks_up, some_left, stands_on, carries_next_link, comes_at, bounds_at, gap_at, room_at, carries_link, carries_all}
+use Rattle.chain_traits.proofs.GenericArenaLemmas.{links_within}
+use Rattle.chain_arena.proofs.TransferLoopLemmas.{IsCarrying, carrying_begins, agrees_left, looks_up, some_left, stands_on, carries_next_link, comes_at, bounds_at, gap_at, room_at, carries_link, carries_all}
 use Rattle.chain_arena.proofs.transfer.carry_all.Given.{Over}
 use Rattle.chain_arena.proofs.transfer.carry_all.Goals.{After-take_next-q}
 use Rattle.chain_arena.proofs.transfer.carry_all.Goals as goal

@@ -1,7 +1,7 @@
 -- So many links are carried over.
 use Rattle.std.specs.Option.{option_map}
 use denote.Param.Always.{always_mut}
-use Rattle.chain_arena.proofs.Transferring.{IsCarrying}
+use Rattle.chain_arena.proofs.TransferLoopLemmas.{IsCarrying}
 use Rattle.chain_arena.proofs.transfer.carry_all.Given as goal
 
 abbrev pub invariant-loop-k : goal.invariant-loop-k

@@ -3,8 +3,8 @@ use Rattle.std.proofs.Common.{sym, ap, ◌∙◌, subst}
 use Rattle.chain_laws.specs.Chains.{all_items}
 use Rattle.chain_laws.specs.Renamings.{IsRenaming}
 use Rattle.chain_laws.specs.Arrangements.{place_in}
-use Rattle.chain_laws.proofs.Carrying.{renaming_is_determined}
-use Rattle.chain_laws.proofs.Partitions.{no_others}
+use Rattle.chain_laws.proofs.RenamingLemmas.Chains.{renaming_is_determined}
+use Rattle.chain_laws.proofs.ChainLemmas.Partitions.{no_others}
 use Rattle.chain_links.specs.ChainArena.{shown}
 use Rattle.chain_arena.proofs.transfer.compression_and_transfer_agree.Goals as goal
 

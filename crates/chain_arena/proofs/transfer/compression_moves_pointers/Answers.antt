@@ -1,5 +1,5 @@
 -- It is so of any arena of links.
-use Rattle.chain_compaction.proofs.Pointing.{compression_moves_pointers as of_compression, compression_has_moves}
+use Rattle.chain_compaction.proofs.PointerMoveLemmas.{compression_moves_pointers as of_compression, compression_has_moves}
 use Rattle.chain_arena.proofs.transfer.compression_moves_pointers.Goals as goal
 
 pub returns : goal.returns

@@ -1,8 +1,8 @@
 use Rattle.std.proofs.Common.{◌≡◌, ◌+◌, sym, ◌∙◌, subst}
-use Rattle.chain_laws.specs.Relays.{end_before, end_after}
+use Rattle.chain_laws.specs.Transfer.{end_before, end_after}
 use Rattle.arena_base.specs.Arena.{next_index}
 use Rattle.chain_arena.specs.Transfers.{AreEnds}
-use Rattle.chain_arena.proofs.Placing.{inserted_between}
+use Rattle.chain_arena.proofs.NewLinkLemmas.{inserted_between}
 use Rattle.chain_arena.proofs.transfer.lay_behind.Goals as goal
 
 pub returns-clause-laid : goal.returns-clause-laid

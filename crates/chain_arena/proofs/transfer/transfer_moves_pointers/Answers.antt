@@ -1,5 +1,5 @@
 -- It is so of whatever is carried.
-use Rattle.chain_arena.proofs.Pointing.{transfer_moves_pointers as of_transfer}
+use Rattle.chain_arena.proofs.PointerTransferLemmas.{transfer_moves_pointers as of_transfer}
 use Rattle.chain_arena.proofs.transfer.transfer_moves_pointers.Goals as goal
 
 pub returns : goal.returns

@@ -1,10 +1,10 @@
 -- One more has no destination, and at the end none has.
 use Rattle.std.proofs.Common.{◌≡◌, length, refl, ap, ◌∙◌, arith}
-use Rattle.arena_base.specs.Closing.{with_totals}
-use Rattle.chain_compaction.specs.Numbering.{seen_held}
-use Rattle.chain_compaction.proofs.Emptying.{emptied, emptying_begins, emptying_goes_on, emptying_ends, touches_none, touches_more}
-use Rattle.chain_compaction.proofs.Lending.{same_then, counts_on}
-use Rattle.chain_compaction.proofs.Tallying.{counts_none}
+use Rattle.arena_base.specs.GatheredSlots.{with_totals}
+use Rattle.chain_compaction.specs.Destinations.{seen_held}
+use Rattle.chain_compaction.proofs.DestinationResetLemmas.{emptied, emptying_begins, emptying_goes_on, emptying_ends, touches_none, touches_more}
+use Rattle.chain_compaction.proofs.LinkLoanLemmas.{same_then, counts_on}
+use Rattle.chain_compaction.proofs.WorkCountLemmas.{counts_none}
 use Rattle.chain_compaction.proofs.canonical.empty_all.Goals as goal
 
 pub loop-k-init : goal.loop-k-init

@@ -1,8 +1,8 @@
 -- The links up to k have no destination.
 use Rattle.std.proofs.Common.{◌≡◌, ℕ, ◌≤◌, None}
-use Rattle.arena_base.specs.Closing.{with_totals}
-use Rattle.chain_compaction.specs.Counts.{CountsOn}
-use Rattle.chain_compaction.specs.Numbering.{seen_held, given}
+use Rattle.arena_base.specs.GatheredSlots.{with_totals}
+use Rattle.chain_compaction.specs.WorkCounts.{CountsOn}
+use Rattle.chain_compaction.specs.Destinations.{seen_held, given}
 use Rattle.chain_compaction.proofs.canonical.empty_all.Given as goal
 
 abbrev pub invariant-loop-k : goal.invariant-loop-k

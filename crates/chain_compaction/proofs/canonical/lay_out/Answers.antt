@@ -1,10 +1,10 @@
 -- Each link gets its destination, names those of its neighbors, and moves there; what is left of the slots is exactly the
 -- links, and the work is what the arena has counted.
 use Rattle.std.proofs.Common.{rules, ◌≡◌, ◌+◌, length, sym, ap, ◌∙◌, arith}
-use Rattle.arena_base.specs.Closing.{with_totals}
-use Rattle.chain_compaction.specs.Numbering.{seen_held}
-use Rattle.chain_compaction.proofs.Numbered.{length-seen}
-use Rattle.chain_compaction.proofs.Layouts.{three_counted, length-renamed, agree-seen, links_can_move, last_packed, links_laid, work_told}
+use Rattle.arena_base.specs.GatheredSlots.{with_totals}
+use Rattle.chain_compaction.specs.Destinations.{seen_held}
+use Rattle.chain_compaction.proofs.ChainDestinationLemmas.{length-seen}
+use Rattle.chain_compaction.proofs.CanonicalLayoutLemmas.{three_counted, length-renamed, agree-seen, links_can_move, last_packed, links_laid, work_told}
 use Rattle.chain_compaction.proofs.canonical.lay_out.Goals as goal
 
 pub number_all-visitor-requires-clause-agree : goal.number_all-visitor-requires-clause-agree

@@ -1,7 +1,7 @@
 -- The counter begins anew, stays where there is no link, or goes on.
 use Rattle.std.proofs.Common.{length}
 use Rattle.arena_base.specs.Entries.{entries}
-use Rattle.chain_compaction.proofs.Beginning.{anew, anew_tells, stays, stays_tells, goes_on, goes_on_tells}
+use Rattle.chain_compaction.proofs.CounterLemmas.{anew, anew_tells, stays, stays_tells, goes_on, goes_on_tells}
 use Rattle.chain_compaction.proofs.compress.begin_generation.Goals as goal
 
 pub returns-then-reset : goal.returns-then-reset

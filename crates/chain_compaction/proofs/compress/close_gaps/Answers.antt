@@ -1,12 +1,12 @@
 -- Each link comes to the end of the front, where its neighbors name it, and its value is seen there.
 use Rattle.std.proofs.Common.{refl, ◌∙◌, of_calls}
-use Rattle.arena_base.proofs.Closing.{closing_begins}
-use Rattle.chain_links.proofs.Inserting.{slots-within}
-use Rattle.chain_compaction.specs.HeldLinks.{slot_values, interlinks_seen}
-use Rattle.chain_compaction.proofs.HeldLinks.{work-none}
-use Rattle.chain_compaction.proofs.Gathering.{coming_begins}
-use Rattle.chain_compaction.proofs.Lending.{lent, lent_none}
-use Rattle.chain_compaction.proofs.Bringing.{free_to, passes, skips, room_kept, maximum_kept, stands_there, brings, comes, room_on, maximum_on, ends_closed, ends_packed, ends_visits, ends_renamed, ends_work, work_skips, work_brings}
+use Rattle.arena_base.proofs.HoleClosingLemmas.{closing_begins}
+use Rattle.chain_links.proofs.ArenaInsertionLemmas.{slots-within}
+use Rattle.chain_compaction.specs.DetachedLinks.{slot_values, interlinks_seen}
+use Rattle.chain_compaction.proofs.DetachedLinkLemmas.{work-none}
+use Rattle.chain_compaction.proofs.LinkCompressionLemmas.{coming_begins}
+use Rattle.chain_compaction.proofs.LinkLoanLemmas.{lent, lent_none}
+use Rattle.chain_compaction.proofs.CompressionStepLemmas.{free_to, passes, skips, room_kept, maximum_kept, stands_there, brings, comes, room_on, maximum_on, ends_closed, ends_packed, ends_visits, ends_renamed, ends_work, work_skips, work_brings}
 use Rattle.chain_compaction.proofs.compress.close_gaps.Goals as goal
 
 pub loop-k-init : goal.loop-k-init

@@ -1,9 +1,9 @@
 -- The slots up to k are closed: the values stand at the front, and their links are renamed so far.
 use Rattle.std.proofs.Common.{◌≡◌, ◌+◌, ◌*◌}
 use denote.Param.Always.{always_mut}
-use Rattle.arena_base.proofs.Closing.{IsClosing}
-use Rattle.chain_compaction.specs.HeldLinks.{slot_values, IsWork}
-use Rattle.chain_compaction.proofs.Gathering.{AreComing}
+use Rattle.arena_base.proofs.HoleClosingLemmas.{IsClosing}
+use Rattle.chain_compaction.specs.DetachedLinks.{slot_values, IsWork}
+use Rattle.chain_compaction.proofs.LinkCompressionLemmas.{AreComing}
 use Rattle.chain_compaction.proofs.compress.close_gaps.Given as goal
 
 abbrev pub invariant-loop-k : goal.invariant-loop-k

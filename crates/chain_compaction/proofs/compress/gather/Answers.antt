@@ -1,8 +1,8 @@
 -- What is left of the slots is exactly the links.
 use Rattle.std.proofs.Common.{rules, ap, sym, ◌∙◌, subst}
 use Rattle.chain_laws.specs.Chains.{Agrees}
-use Rattle.chain_compaction.specs.HeldLinks.{shown_in}
-use Rattle.chain_compaction.proofs.Returning.{shown-slots, links_gathered}
+use Rattle.chain_compaction.specs.DetachedLinks.{shown_in}
+use Rattle.chain_compaction.proofs.CompactedLinkLemmas.{shown-slots, links_gathered}
 use Rattle.chain_compaction.proofs.compress.gather.Goals as goal
 
 pub close_gaps-count-requires-clause-agree : goal.close_gaps-count-requires-clause-agree

@@ -1,5 +1,5 @@
 -- The link that moved is named where it stands, and any other where it stood.
-use Rattle.chain_compaction.proofs.Naming.{differ, found_same, named_moved, named_stays, none_moved}
+use Rattle.chain_compaction.proofs.MovedNeighborLemmas.{differ, found_same, named_moved, named_stays, none_moved}
 use Rattle.chain_compaction.proofs.compress.index_now.Goals as goal
 
 pub returns-then-is_same : goal.returns-then-is_same

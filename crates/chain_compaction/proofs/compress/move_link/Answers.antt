@@ -1,7 +1,7 @@
 -- The link is placed, and its neighbors are told.
 use Rattle.std.proofs.Common.{sym, ◌∙◌}
 use Rattle.std.specs.Option.{option_map}
-use Rattle.chain_compaction.proofs.HeldLinks.{entry-seen, move-values, move-shown, work-moved}
+use Rattle.chain_compaction.proofs.DetachedLinkLemmas.{entry-seen, move-values, move-shown, work-moved}
 use Rattle.chain_compaction.proofs.compress.move_link.Goals as goal
 
 pub bring-requires-clause-entry : goal.bring-requires-clause-entry

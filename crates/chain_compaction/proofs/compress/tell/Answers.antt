@@ -1,9 +1,9 @@
 -- The link that was lent is written, and where none stands nothing is.
 use Rattle.std.proofs.Common.{Some, refl}
-use Rattle.chain_compaction.specs.HeldLinks.{shown_in}
-use Rattle.chain_compaction.proofs.HeldLinks.{work-none, work-touched}
-use Rattle.chain_compaction.proofs.Lending.{lent, lent_none}
-use Rattle.chain_compaction.proofs.Telling.{tells_none, kept_values, tells_nowhere, prev_values, tells_prev, next_values, tells_next}
+use Rattle.chain_compaction.specs.DetachedLinks.{shown_in}
+use Rattle.chain_compaction.proofs.DetachedLinkLemmas.{work-none, work-touched}
+use Rattle.chain_compaction.proofs.LinkLoanLemmas.{lent, lent_none}
+use Rattle.chain_compaction.proofs.NeighborUpdateLemmas.{tells_none, kept_values, tells_nowhere, prev_values, tells_prev, next_values, tells_next}
 use Rattle.chain_compaction.proofs.compress.tell.Goals as goal
 
 pub returns-then-before : goal.returns-then-before

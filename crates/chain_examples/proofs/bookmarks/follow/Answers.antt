@@ -1,7 +1,7 @@
 -- One bookmark more is followed.
 use Rattle.std.proofs.Common.{option_and_then, rules}
 use Rattle.std.proofs.lemmas.List.Edits.{map_over_more}
-use Rattle.chain_examples.specs.Tables.{looked_up}
+use Rattle.chain_examples.specs.MoveTables.{looked_up}
 use Rattle.chain_examples.proofs.bookmarks.follow.Goals as goal
 
 pub loop-bookmark-preserved : goal.loop-bookmark-preserved

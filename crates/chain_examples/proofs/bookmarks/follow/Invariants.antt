@@ -1,6 +1,6 @@
 -- The bookmarks so far are followed.
 use Rattle.std.proofs.Common.{◌≡◌, ◌++◌, map, take, drop, option_and_then}
-use Rattle.chain_examples.specs.Tables.{looked_up}
+use Rattle.chain_examples.specs.MoveTables.{looked_up}
 use Rattle.chain_examples.proofs.bookmarks.follow.Given as goal
 
 abbrev pub invariant-loop-bookmark : goal.invariant-loop-bookmark

@@ -1,7 +1,7 @@
 -- One move more is written.
 use Rattle.std.proofs.Common.{◌∙◌, ap, Some}
 use Rattle.std.specs.Prelude.{slice_set}
-use Rattle.chain_examples.proofs.Tables.{note_more}
+use Rattle.chain_examples.proofs.MoveTableLemmas.{note_more}
 use Rattle.chain_examples.proofs.bookmarks.note.Goals as goal
 
 pub loop-from-preserved : goal.loop-from-preserved

@@ -1,6 +1,6 @@
 -- The moves so far are written.
 use Rattle.std.proofs.Common.{◌≡◌, take}
-use Rattle.chain_examples.specs.Tables.{noted}
+use Rattle.chain_examples.specs.MoveTables.{noted}
 use Rattle.chain_examples.proofs.bookmarks.note.Given as goal
 
 abbrev pub invariant-loop-from : goal.invariant-loop-from

@@ -1,8 +1,8 @@
 -- The table has as many places as there are slots, and the moves that are written into it are those of the compression.
 use Rattle.std.proofs.Common.{◌≡◌, length, None, ap, ◌∙◌}
 use Rattle.std.proofs.lemmas.List.{length-replicate}
-use Rattle.chain_examples.proofs.Mapped.{length_twice}
-use Rattle.chain_examples.proofs.Renumbering.{fits, renumbered}
+use Rattle.chain_examples.proofs.MappedListLemmas.{length_twice}
+use Rattle.chain_examples.proofs.RenumberingLemmas.{fits, renumbered}
 use Rattle.chain_examples.proofs.bookmarks.renumber.Goals as goal
 
 pub note-requires : goal.note-requires

@@ -2,9 +2,9 @@
 use Rattle.std.proofs.Common.{refl}
 use Rattle.chain_laws.specs.Chains.{cyclic}
 use Rattle.chain_laws.specs.Insertions.{prev_to}
-use Rattle.chain_traits.proofs.AnyArena.{valid_link, links_within}
-use Rattle.chain_examples.proofs.Rounds.{round_before}
-use Rattle.chain_examples.proofs.Changes.{comes_before, keeps_others}
+use Rattle.chain_traits.proofs.GenericArenaLemmas.{valid_link, links_within}
+use Rattle.chain_examples.proofs.MeshInvariantLemmas.{round_before}
+use Rattle.chain_examples.proofs.ListChangeLemmas.{comes_before, keeps_others}
 use Rattle.chain_examples.proofs.mesh.add_before.Goals as goal
 
 pub returns-clause-ring : goal.returns-clause-ring

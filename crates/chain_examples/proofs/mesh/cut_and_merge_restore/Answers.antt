@@ -1,5 +1,5 @@
 -- By what the two make of rings.
-use Rattle.chain_examples.proofs.Rings.{cut_and_merge}
+use Rattle.chain_examples.proofs.RingLemmas.{cut_and_merge}
 use Rattle.chain_examples.proofs.mesh.cut_and_merge_restore.Goals as goal
 
 pub returns : goal.returns

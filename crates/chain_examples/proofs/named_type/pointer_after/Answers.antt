@@ -2,12 +2,12 @@
 use Rattle.std.proofs.Common.{◌≡◌, Some, sym, ap, ◌∙◌, subst}
 use Rattle.std.specs.Prelude.{IfSome, is_some}
 use Rattle.chain_laws.specs.Chains.{next_of}
-use Rattle.chain_laws.proofs.Standing.{prev_valid}
+use Rattle.chain_laws.proofs.ChainLemmas.LinkedLists.{prev_valid}
 use Rattle.arena_base.specs.Arena.{IsValid}
 use Rattle.arena_ptr.specs.ToolPtr.{key_of}
 use Rattle.chain_links.specs.ChainArena.{entry, shown}
 use Rattle.chain_linking.specs.ChainArenaLaws.{links_stand}
-use Rattle.chain_traits.proofs.Looking.{looked, none_looked}
+use Rattle.chain_traits.proofs.NeighborPointerLemmas.{looked, none_looked}
 use Rattle.chain_examples.proofs.named_type.pointer_after.Goals as goal
 
 pub returns-in-Some-clause-some : goal.returns-in-Some-clause-some

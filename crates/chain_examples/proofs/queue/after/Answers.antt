@@ -4,7 +4,7 @@ use Rattle.std.specs.Option.{option_map, option_and_then}
 use Rattle.chain_laws.specs.Chains.{next_of}
 use Rattle.chain_links.specs.ChainArena.{ptr_at}
 use Rattle.arena_base.specs.Arena.{IsValid}
-use Rattle.chain_examples.proofs.Turns.{next_is}
+use Rattle.chain_examples.proofs.QueueOrderLemmas.{next_is}
 use Rattle.chain_examples.proofs.queue.after.Goals as goal
 
 pub returns-in-Some : goal.returns-in-Some

@@ -1,6 +1,6 @@
 -- A new link before the current one is the last in turn; where there is none, it is a ring of its own.
-use Rattle.chain_traits.proofs.Outcomes.{if_ok}
-use Rattle.chain_examples.proofs.Turns.{first_comes, last_comes}
+use Rattle.chain_traits.proofs.OutcomeLemmas.{if_ok}
+use Rattle.chain_examples.proofs.QueueOrderLemmas.{first_comes, last_comes}
 use Rattle.chain_examples.proofs.queue.come_last.Goals as goal
 
 pub returns-in-None-clause-last : goal.returns-in-None-clause-last

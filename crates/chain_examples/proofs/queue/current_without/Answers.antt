@@ -2,7 +2,7 @@
 use Rattle.std.proofs.Common.{◌≡◌, ◌∙◌, ap, sym, subst, List, ◌∷◌, ◌++◌, Some}
 use Rattle.arena_base.specs.Entries.{first_key}
 use Rattle.chain_examples.specs.Lists.{Item, IsTurn}
-use Rattle.chain_examples.proofs.Turns.{is_first, stays_first}
+use Rattle.chain_examples.proofs.QueueOrderLemmas.{is_first, stays_first}
 use Rattle.chain_examples.proofs.queue.current_without.Goals as goal
 
 pub returns-then-is_same : goal.returns-then-is_same

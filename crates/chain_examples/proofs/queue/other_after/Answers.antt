@@ -2,7 +2,7 @@
 use Rattle.std.proofs.Common.{◌≡◌, ◌∙◌, ap, sym, ◌∷◌, ◌++◌, [], Some}
 use Rattle.std.specs.Option.{option_map}
 use Rattle.arena_base.specs.Entries.{first_key}
-use Rattle.chain_examples.proofs.Turns.{after_alone, after_other, some_second}
+use Rattle.chain_examples.proofs.QueueOrderLemmas.{after_alone, after_other, some_second}
 use Rattle.chain_examples.proofs.queue.other_after.Goals as goal
 
 pub returns-then-is_same : goal.returns-then-is_same

@@ -1,4 +1,4 @@
-use Rattle.chain_laws.proofs.ExchangePairs.{exchanged_agrees}
+use Rattle.chain_laws.proofs.ExchangeLemmas.Pairs.{exchanged_agrees}
 use Rattle.chain_laws.proofs.exchange.exchange_agrees.Goals as goal
 
 pub returns : goal.returns

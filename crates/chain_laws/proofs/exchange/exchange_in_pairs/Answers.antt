@@ -1,4 +1,4 @@
-use Rattle.chain_laws.proofs.ExchangePairs.{exchanged_in_pairs}
+use Rattle.chain_laws.proofs.ExchangeLemmas.Pairs.{exchanged_in_pairs}
 use Rattle.chain_laws.proofs.exchange.exchange_in_pairs.Goals as goal
 
 pub returns : goal.returns

@@ -1,5 +1,5 @@
-use Rattle.chain_laws.proofs.Crossing.{exchange_is_determined}
-use Rattle.chain_laws.proofs.ExchangePairs.{exchange_is_determined_by_pairs}
+use Rattle.chain_laws.proofs.ExchangeLemmas.Determinacy.{exchange_is_determined}
+use Rattle.chain_laws.proofs.ExchangeLemmas.Pairs.{exchange_is_determined_by_pairs}
 use Rattle.chain_laws.proofs.exchange.exchange_is_determined.Goals as goal
 
 pub returns-clause-by_chains : goal.returns-clause-by_chains

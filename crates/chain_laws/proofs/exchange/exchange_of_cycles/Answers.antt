@@ -1,4 +1,4 @@
-use Rattle.chain_laws.proofs.Crossing.{exchange_splits, exchange_merges}
+use Rattle.chain_laws.proofs.ExchangeLemmas.Determinacy.{exchange_splits, exchange_merges}
 use Rattle.chain_laws.proofs.exchange.exchange_of_cycles.Goals as goal
 
 pub returns-clause-splits : goal.returns-clause-splits

@@ -1,4 +1,4 @@
-use Rattle.chain_laws.proofs.ExchangePairs.{exchanged_twice, exchanged_with_itself, exchanged_mutually}
+use Rattle.chain_laws.proofs.ExchangeLemmas.Pairs.{exchanged_twice, exchanged_with_itself, exchanged_mutually}
 use Rattle.chain_laws.proofs.exchange.exchange_restores.Goals as goal
 
 pub returns-clause-twice : goal.returns-clause-twice

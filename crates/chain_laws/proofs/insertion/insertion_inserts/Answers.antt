@@ -1,4 +1,4 @@
-use Rattle.chain_laws.proofs.Inserting.{inserted_inserts}
+use Rattle.chain_laws.proofs.InsertionLemmas.Chains.{inserted_inserts}
 use Rattle.chain_laws.proofs.insertion.insertion_inserts.Goals as goal
 
 pub returns : goal.returns

@@ -1,5 +1,5 @@
-use Rattle.chain_laws.proofs.InsertionPairs.{insertion_is_determined_by_pairs}
-use Rattle.chain_laws.proofs.Lengthening.{insertion_is_determined}
+use Rattle.chain_laws.proofs.InsertionLemmas.Pairs.{insertion_is_determined_by_pairs}
+use Rattle.chain_laws.proofs.InsertionLemmas.Determinacy.{insertion_is_determined}
 use Rattle.chain_laws.proofs.insertion.insertion_is_determined.Goals as goal
 
 pub returns-clause-by_chains : goal.returns-clause-by_chains

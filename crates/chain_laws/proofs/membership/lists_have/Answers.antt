@@ -1,6 +1,6 @@
 -- By induction on the list.
-use Rattle.chain_laws.proofs.Members.{Has-or_not}
-use Rattle.chain_laws.proofs.Listing.{has_in_join, has_in_turn, has_in_middle, has_is_written, has_is_filled}
+use Rattle.chain_laws.proofs.ListLemmas.Members.{Has-or_not}
+use Rattle.chain_laws.proofs.ListLemmas.MemberLaws.{has_in_join, has_in_turn, has_in_middle, has_is_written, has_is_filled}
 use Rattle.chain_laws.proofs.membership.lists_have.Goals as goal
 
 pub returns-clause-in_join : goal.returns-clause-in_join

@@ -1,7 +1,7 @@
 -- By induction on the list.
-use Rattle.chain_laws.proofs.Members.{written_once}
-use Rattle.chain_laws.proofs.Backing.{length_among}
-use Rattle.chain_laws.proofs.Listing.{once_in_join, once_in_turn, once_in_middle}
+use Rattle.chain_laws.proofs.ListLemmas.Members.{written_once}
+use Rattle.chain_laws.proofs.WalkLemmas.WalkBack.{length_among}
+use Rattle.chain_laws.proofs.ListLemmas.MemberLaws.{once_in_join, once_in_turn, once_in_middle}
 use Rattle.chain_laws.proofs.membership.lists_have_once.Goals as goal
 
 pub returns-clause-in_join : goal.returns-clause-in_join

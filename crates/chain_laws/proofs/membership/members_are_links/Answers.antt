@@ -1,6 +1,6 @@
 -- By what each item of a chain shows.
-use Rattle.chain_laws.proofs.Unique.{chain_once}
-use Rattle.chain_laws.proofs.Belonging.{members_are_links, free_is_in_no_chain}
+use Rattle.chain_laws.proofs.ChainLemmas.Uniqueness.{chain_once}
+use Rattle.chain_laws.proofs.ChainLemmas.MemberLaws.{members_are_links, free_is_in_no_chain}
 use Rattle.chain_laws.proofs.membership.members_are_links.Goals as goal
 
 pub returns-clause-valid : goal.returns-clause-valid

@@ -1,5 +1,5 @@
 -- By the pairs, which prev and next show alike.
-use Rattle.chain_laws.proofs.Neighboring.{agrees_from_pairs, agrees_from_chains}
+use Rattle.chain_laws.proofs.ChainLemmas.NeighborPairs.{agrees_from_pairs, agrees_from_chains}
 use Rattle.chain_laws.proofs.partition.agreement_from_chains.Goals as goal
 
 pub returns-clause-from_pairs : goal.returns-clause-from_pairs

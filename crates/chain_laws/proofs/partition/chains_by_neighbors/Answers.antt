@@ -1,5 +1,5 @@
 -- By what stands beside each index in the chains.
-use Rattle.chain_laws.proofs.Neighboring.{chains_by_pairs}
+use Rattle.chain_laws.proofs.ChainLemmas.NeighborPairs.{chains_by_pairs}
 use Rattle.chain_laws.proofs.partition.chains_by_neighbors.Goals as goal
 
 pub returns : goal.returns

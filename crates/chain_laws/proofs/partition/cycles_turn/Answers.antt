@@ -1,5 +1,5 @@
 -- By a cycle taken apart before an index.
-use Rattle.chain_laws.proofs.Turning.{turns, one_turned}
+use Rattle.chain_laws.proofs.ChainLemmas.Rotations.{turns, one_turned}
 use Rattle.chain_laws.proofs.partition.cycles_turn.Goals as goal
 
 pub returns-clause-turns : goal.returns-clause-turns

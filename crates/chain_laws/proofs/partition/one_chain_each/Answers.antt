@@ -1,5 +1,5 @@
 -- By the list of all chains, and since chains that share an index are one.
-use Rattle.chain_laws.proofs.Partitions.{chain_of_each, no_other_of_each}
+use Rattle.chain_laws.proofs.ChainLemmas.Partitions.{chain_of_each, no_other_of_each}
 use Rattle.chain_laws.proofs.partition.one_chain_each.Goals as goal
 
 pub returns-clause-there_is_one : goal.returns-clause-there_is_one

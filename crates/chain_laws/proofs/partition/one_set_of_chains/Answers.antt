@@ -1,5 +1,5 @@
 -- By the list built from index 1 on, and by the comparison of two lists in order.
-use Rattle.chain_laws.proofs.Partitions.{the_chains, no_others}
+use Rattle.chain_laws.proofs.ChainLemmas.Partitions.{the_chains, no_others}
 use Rattle.chain_laws.proofs.partition.one_set_of_chains.Goals as goal
 
 pub returns-clause-there_is_one : goal.returns-clause-there_is_one

@@ -1,5 +1,5 @@
 -- Since chains that share an index are one.
-use Rattle.chain_laws.proofs.Partitions.{same_members, same_turned}
+use Rattle.chain_laws.proofs.ChainLemmas.Partitions.{same_members, same_turned}
 use Rattle.chain_laws.proofs.partition.same_chains_in_any_order.Goals as goal
 
 pub returns-clause-written : goal.returns-clause-written

@@ -1,4 +1,4 @@
-use Rattle.chain_laws.proofs.RemovalPairs.{removed_agrees}
+use Rattle.chain_laws.proofs.RemovalLemmas.Pairs.{removed_agrees}
 use Rattle.chain_laws.proofs.removal.removal_agrees.Goals as goal
 
 pub returns : goal.returns

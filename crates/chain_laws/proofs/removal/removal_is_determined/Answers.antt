@@ -1,4 +1,4 @@
-use Rattle.chain_laws.proofs.Shortening.{removal_is_determined, removal_leaves_each_without, removal_is_determined_by_pairs}
+use Rattle.chain_laws.proofs.RemovalLemmas.Determinacy.{removal_is_determined, removal_leaves_each_without, removal_is_determined_by_pairs}
 use Rattle.chain_laws.proofs.removal.removal_is_determined.Goals as goal
 
 pub returns-clause-by_chains : goal.returns-clause-by_chains

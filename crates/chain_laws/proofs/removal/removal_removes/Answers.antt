@@ -1,4 +1,4 @@
-use Rattle.chain_laws.proofs.Removing.{removed_removes}
+use Rattle.chain_laws.proofs.RemovalLemmas.Chains.{removed_removes}
 use Rattle.chain_laws.proofs.removal.removal_removes.Goals as goal
 
 pub returns : goal.returns

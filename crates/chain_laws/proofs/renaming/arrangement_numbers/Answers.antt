@@ -1,5 +1,5 @@
 -- By the places in a list.
-use Rattle.chain_laws.proofs.Placing.{arrangement_numbers, places_are_apart}
+use Rattle.chain_laws.proofs.RenamingLemmas.Positions.{arrangement_numbers, places_are_apart}
 use Rattle.chain_laws.proofs.renaming.arrangement_numbers.Goals as goal
 
 pub returns-clause-numbers : goal.returns-clause-numbers

@@ -1,5 +1,5 @@
 -- Since the places in a list of chains are their runs, and both arenas have the chains.
-use Rattle.chain_laws.proofs.Runs.{canonical_arranges, lays_chains_in_runs, runs_are_renumbered}
+use Rattle.chain_laws.proofs.RenamingLemmas.ChainRuns.{canonical_arranges, lays_chains_in_runs, runs_are_renumbered}
 use Rattle.chain_laws.proofs.renaming.canonical_lays_runs.Goals as goal
 
 pub returns-clause-arranges : goal.returns-clause-arranges

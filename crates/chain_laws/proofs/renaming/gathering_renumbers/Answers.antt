@@ -1,5 +1,5 @@
 -- By where each link goes, before and after each step.
-use Rattle.chain_laws.proofs.Closing.{gathering_begins, gathering_skips, gathering_goes_on, gathering_ends}
+use Rattle.chain_laws.proofs.RenamingLemmas.HoleClosing.{gathering_begins, gathering_skips, gathering_goes_on, gathering_ends}
 use Rattle.chain_laws.proofs.renaming.gathering_renumbers.Goals as goal
 
 pub returns-clause-begins : goal.returns-clause-begins

@@ -1,6 +1,6 @@
 -- By the index that each link comes from, and since only its neighbors name the link that moves.
-use Rattle.chain_laws.proofs.Carrying.{renamings_compose}
-use Rattle.chain_laws.proofs.Moving.{move_renames, neighbors_tell_a_move}
+use Rattle.chain_laws.proofs.RenamingLemmas.Chains.{renamings_compose}
+use Rattle.chain_laws.proofs.RenamingLemmas.Moves.{move_renames, neighbors_tell_a_move}
 use Rattle.chain_laws.proofs.renaming.move_renames.Goals as goal
 
 pub returns-clause-renames : goal.returns-clause-renames

@@ -1,4 +1,4 @@
-use Rattle.chain_laws.proofs.Walking.{no_other_walk}
+use Rattle.chain_laws.proofs.WalkLemmas.Walker.{no_other_walk}
 use Rattle.chain_laws.proofs.walks.one_walk.Goals as goal
 
 pub returns : goal.returns

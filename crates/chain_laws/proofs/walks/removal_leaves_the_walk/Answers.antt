@@ -1,4 +1,4 @@
-use Rattle.chain_laws.proofs.Draining.{removal_leaves_the_walk}
+use Rattle.chain_laws.proofs.WalkLemmas.Drains.{removal_leaves_the_walk}
 use Rattle.chain_laws.proofs.walks.removal_leaves_the_walk.Goals as goal
 
 pub returns : goal.returns

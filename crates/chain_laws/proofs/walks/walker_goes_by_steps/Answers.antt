@@ -1,4 +1,4 @@
-use Rattle.chain_laws.proofs.Stepping.{steps_pass}
+use Rattle.chain_laws.proofs.WalkLemmas.Steps.{steps_pass}
 use Rattle.chain_laws.proofs.walks.walker_goes_by_steps.Goals as goal
 
 pub returns : goal.returns

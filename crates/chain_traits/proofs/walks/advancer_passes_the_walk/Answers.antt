@@ -1,6 +1,6 @@
 -- A walker that makes as many steps as there are links passes the walk.
-use Rattle.chain_traits.proofs.AnyArena.{entry_valid}
-use Rattle.chain_traits.proofs.WalkLemmas.{passes_walk}
+use Rattle.chain_traits.proofs.GenericArenaLemmas.{entry_valid}
+use Rattle.chain_traits.proofs.AdvancerWalkLemmas.{passes_walk}
 use Rattle.chain_traits.proofs.walks.advancer_passes_the_walk.Goals as goal
 
 pub returns : goal.returns

@@ -2,8 +2,8 @@
 use Rattle.std.proofs.Common.{◌≡◌, None, refl, sym, ap, ◌∙◌, subst, arith}
 use Rattle.arena_base.specs.Arena.{IsValid}
 use Rattle.chain_laws.specs.Walks.{IsWalk, passes_ahead}
-use Rattle.chain_laws.proofs.Stepping.{first_ahead, step_left}
-use Rattle.chain_traits.proofs.WalkLemmas.{all_with_last, walk_whole, passed_on}
+use Rattle.chain_laws.proofs.WalkLemmas.Steps.{first_ahead, step_left}
+use Rattle.chain_traits.proofs.AdvancerWalkLemmas.{all_with_last, walk_whole, passed_on}
 use Rattle.chain_traits.proofs.walks.walk.Goals as goal
 
 pub loop-q-smaller : goal.loop-q-smaller

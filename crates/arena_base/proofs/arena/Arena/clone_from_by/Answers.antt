@@ -2,10 +2,10 @@
 use Rattle.std.proofs.Common.{◌≡◌, length, min, false, true, refl, sym, ap, ◌∙◌, arith, inl, inr}
 use Rattle.std.proofs.lemmas.List.{length-map}
 use Rattle.arena_base.specs.Slots.{entry_of}
-use Rattle.arena_base.proofs.Soundness.{closed, none_sound}
-use Rattle.arena_base.proofs.Alike.{sound_too}
-use Rattle.arena_base.proofs.Copying.{has_slots_of, given_up, on_err_is, on_ok_is, same_room}
-use Rattle.arena_base.proofs.Reaching.{same_reach, stays_within_reach}
+use Rattle.arena_base.proofs.SoundnessLemmas.{closed, none_sound}
+use Rattle.arena_base.proofs.SlotShapeLemmas.{sound_too}
+use Rattle.arena_base.proofs.SlotCopyLemmas.{has_slots_of, given_up, on_err_is, on_ok_is, same_room}
+use Rattle.arena_base.proofs.ArenaGrowthLemmas.{same_reach, stays_within_reach}
 use Rattle.arena_base.proofs.arena.Arena.clone_from_by.Goals as goal
 
 pub invariant_of-self : goal.invariant_of-self

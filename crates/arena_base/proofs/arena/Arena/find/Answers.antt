@@ -1,7 +1,7 @@
 -- What lies ahead begins or ends at a position.
 use Rattle.std.proofs.Common.{◌∙◌, ap}
 use Rattle.arena_base.specs.Entries.{first_key, last_key}
-use Rattle.arena_base.proofs.Ranging.{ahead_up, ahead_down}
+use Rattle.arena_base.proofs.EntryRangeLemmas.{ahead_up, ahead_down}
 use Rattle.arena_base.proofs.arena.Arena.find.Goals as goal
 
 pub returns-in-Up-clause-key : goal.returns-in-Up-clause-key

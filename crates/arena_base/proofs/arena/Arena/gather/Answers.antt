@@ -1,6 +1,6 @@
 -- What is left of the slots is exactly the entries.
 use Rattle.std.proofs.Common.{rules, ap}
-use Rattle.arena_base.proofs.Gathering.{gathers}
+use Rattle.arena_base.proofs.CompactedArenaLemmas.{gathers}
 use Rattle.arena_base.proofs.arena.Arena.gather.Goals as goal
 
 pub returns : goal.returns

@@ -2,9 +2,9 @@
 use Rattle.std.proofs.Common.{refl, ap, arith}
 use Rattle.arena_ptr.specs.SlotStack.{IsWithinMaximum}
 use Rattle.arena_base.specs.Slots.{arena_of, freed_of}
-use Rattle.arena_base.proofs.Copying.{on_ok, on_err}
-use Rattle.arena_base.proofs.Filling.{room_for}
-use Rattle.arena_base.proofs.Reaching.{stack_reach}
+use Rattle.arena_base.proofs.SlotCopyLemmas.{on_ok, on_err}
+use Rattle.arena_base.proofs.SlotPartitionLemmas.{room_for}
+use Rattle.arena_base.proofs.ArenaGrowthLemmas.{stack_reach}
 use Rattle.arena_base.proofs.arena.Arena.grow_to.Goals as goal
 
 pub returns : goal.returns

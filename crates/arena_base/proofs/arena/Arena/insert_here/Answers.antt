@@ -1,7 +1,7 @@
 -- The entry goes into the slot that was freed last, or else into a new one.
 use Rattle.std.proofs.Common.{◌<◌, ap, ◌∙◌, arith}
 use Rattle.arena_base.specs.Arena.{insert_next}
-use Rattle.arena_base.proofs.Viewing.{filled_freed_view, filled_next_view}
+use Rattle.arena_base.proofs.ArenaModelLemmas.{filled_freed_view, filled_next_view}
 use Rattle.arena_base.proofs.arena.Arena.insert_here.Goals.{in-Some, in-None}
 use Rattle.arena_base.proofs.arena.Arena.insert_here.Goals as goal
 

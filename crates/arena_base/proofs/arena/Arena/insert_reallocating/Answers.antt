@@ -1,7 +1,7 @@
 -- The entry comes where room was made.
 use Rattle.std.proofs.Common.{◌≡◌, ◌+◌, Result, Err, false, true, refl, ap, ◌∙◌}
 use Rattle.arena_base.specs.Arena.{entry_count, next_index, insert_next}
-use Rattle.arena_base.proofs.Viewing.{inserted_grown, room_grown}
+use Rattle.arena_base.proofs.ArenaModelLemmas.{inserted_grown, room_grown}
 use Rattle.arena_base.proofs.arena.Arena.insert_reallocating.Goals as goal
 
 -- the same is refused, whatever else would be answered

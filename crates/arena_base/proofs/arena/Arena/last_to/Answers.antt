@@ -2,7 +2,7 @@
 use Rattle.std.proofs.Common.{◌≡◌, ◌<◌, ◌-◌, length, Some, None, sym, ◌∙◌, ap, arith}
 use Rattle.std.proofs.lemmas.List.{length-map}
 use Rattle.arena_base.specs.Slots.{entry_of}
-use Rattle.arena_base.proofs.Ranging.{last_key-step}
+use Rattle.arena_base.proofs.EntryRangeLemmas.{last_key-step}
 use Rattle.arena_base.proofs.arena.Arena.last_to.Goals as goal
 
 pub returns-in-Some-clause-key : goal.returns-in-Some-clause-key

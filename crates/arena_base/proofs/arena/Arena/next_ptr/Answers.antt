@@ -2,7 +2,7 @@
 use Rattle.std.proofs.Common.{◌+◌, ◌∙◌, ap, sym}
 use Rattle.std.proofs.lemmas.List.{length-map}
 use Rattle.arena_base.specs.Slots.{entry_of}
-use Rattle.arena_base.proofs.Soundness.{none_freed, first_freed, first_new}
+use Rattle.arena_base.proofs.SoundnessLemmas.{none_freed, first_freed, first_new}
 use Rattle.arena_base.proofs.arena.Arena.next_ptr.Goals.{in-Some, in-None}
 use Rattle.arena_base.proofs.arena.Arena.next_ptr.Goals as goal
 

@@ -1,6 +1,6 @@
 -- Nothing stands at a position behind the slots.
 use Rattle.std.proofs.Common.{refl}
-use Rattle.arena_base.proofs.Reading.{slice_index_or-map}
+use Rattle.arena_base.proofs.SlotLemmas.{slice_index_or-map}
 use Rattle.arena_base.proofs.arena.Arena.pair_at.Goals as goal
 
 pub returns-in-None : goal.returns-in-None

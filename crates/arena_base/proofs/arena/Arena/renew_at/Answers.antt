@@ -1,9 +1,9 @@
 -- The slot of the entry gets the next generation.
 use Rattle.std.specs.Prelude.{slice_get}
 use Rattle.arena_base.specs.Slots.{allocated_slot, entry_in}
-use Rattle.arena_base.proofs.Reading.{entry_at-position, allocated-at, the_value, with_generation_at-set}
-use Rattle.arena_base.proofs.Soundness.{rewritten, closed, walked_all}
-use Rattle.arena_base.proofs.Viewing.{seen_renewed_slot}
+use Rattle.arena_base.proofs.SlotLemmas.{entry_at-position, allocated-at, the_value, with_generation_at-set}
+use Rattle.arena_base.proofs.SoundnessLemmas.{rewritten, closed, walked_all}
+use Rattle.arena_base.proofs.ArenaModelLemmas.{seen_renewed_slot}
 use Rattle.arena_base.proofs.arena.Arena.renew_at.Goals as goal
 
 pub invariant_of-self : goal.invariant_of-self

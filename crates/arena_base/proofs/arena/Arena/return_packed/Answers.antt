@@ -1,10 +1,10 @@
 -- The first slots are the entries, and none of them is free.
 use Rattle.std.proofs.Common.{map, sym, None, subst}
 use Rattle.std.specs.Prelude.{[]}
-use Rattle.arena_base.specs.Compacting.{IsPacked}
+use Rattle.arena_base.specs.DetachedSlots.{IsPacked}
 use Rattle.arena_base.specs.Slots.{entry_of, IsSound}
-use Rattle.arena_base.proofs.Soundness.{closed, walked_all}
-use Rattle.arena_base.proofs.Packing.{packed-within, packed-entries, packed-none_free, packed_sound}
+use Rattle.arena_base.proofs.SoundnessLemmas.{closed, walked_all}
+use Rattle.arena_base.proofs.PackedSlotLemmas.{packed-within, packed-entries, packed-none_free, packed_sound}
 use Rattle.arena_base.proofs.arena.Arena.return_packed.Goals.{After-truncate}
 use Rattle.arena_base.proofs.arena.Arena.return_packed.Given.{Over}
 use Rattle.arena_base.proofs.arena.Arena.return_packed.Goals as goal

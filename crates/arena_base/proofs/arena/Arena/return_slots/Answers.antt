@@ -1,5 +1,5 @@
 -- The slots are listed anew.
-use Rattle.arena_base.proofs.Soundness.{closed, walked_all}
+use Rattle.arena_base.proofs.SoundnessLemmas.{closed, walked_all}
 use Rattle.arena_base.proofs.arena.Arena.return_slots.Goals as goal
 
 pub invariant_of-self : goal.invariant_of-self

@@ -3,9 +3,9 @@ use Rattle.std.proofs.Common.{◌≡◌, ◌-◌, Some, None, true, false, sym, 
 use Rattle.std.specs.Prelude.{slice_get, is_some}
 use Rattle.arena_ptr.specs.Invalidation.{invalidation_result}
 use Rattle.arena_base.specs.Arena.{entry_at, remove_at}
-use Rattle.arena_base.proofs.Reading.{entry_at-position, allocated-at}
-use Rattle.arena_base.proofs.Soundness.{slot_vacated, closed, some_taken}
-use Rattle.arena_base.proofs.Viewing.{vacated_view}
+use Rattle.arena_base.proofs.SlotLemmas.{entry_at-position, allocated-at}
+use Rattle.arena_base.proofs.SoundnessLemmas.{slot_vacated, closed, some_taken}
+use Rattle.arena_base.proofs.ArenaModelLemmas.{vacated_view}
 use Rattle.arena_base.proofs.arena.Arena.take_at.Goals as goal
 
 pub overflow_sub-self : goal.overflow_sub-self

@@ -1,7 +1,7 @@
 -- The maximum of the stack alone changes.
 use Rattle.std.proofs.Common.{ap}
 use Rattle.arena_base.specs.Slots.{arena_of, freed_of}
-use Rattle.arena_base.proofs.Copying.{on_ok, on_err}
+use Rattle.arena_base.proofs.SlotCopyLemmas.{on_ok, on_err}
 use Rattle.arena_base.proofs.arena.ArenaSetMaxCapacity.set_max_capacity.Goals as goal
 
 pub returns : goal.returns

@@ -3,9 +3,9 @@ use Rattle.std.proofs.Common.{ap, ◌∙◌}
 use Rattle.arena_base.specs.Arena.{cleared}
 use Rattle.arena_base.specs.Slots.{freed_of}
 use Rattle.arena_base.specs.Entries.{seen_of}
-use Rattle.arena_base.proofs.Seeing.{length-entries, seen_cleared}
-use Rattle.arena_base.proofs.Soundness.{none_sound}
-use Rattle.arena_base.proofs.Viewing.{cleared_view}
+use Rattle.arena_base.proofs.ArenaViewLemmas.{length-entries, seen_cleared}
+use Rattle.arena_base.proofs.SoundnessLemmas.{none_sound}
+use Rattle.arena_base.proofs.ArenaModelLemmas.{cleared_view}
 use Rattle.arena_base.proofs.arena_trait.ArenaArenaTrait.clear.Goals as goal
 
 pub invariant_of-self : goal.invariant_of-self

@@ -1,8 +1,8 @@
 -- The entries are brought together, each with the counter, which was set before.
 use Rattle.std.proofs.Common.{ap, ◌∙◌}
 use Rattle.arena_ptr.specs.Invalidation.{invalidation_option}
-use Rattle.arena_base.specs.Compressing.{counter_after_compression, overflows_after_compression}
-use Rattle.arena_base.proofs.Gathering.{compressing, compressing_visits}
+use Rattle.arena_base.specs.Compressions.{counter_after_compression, overflows_after_compression}
+use Rattle.arena_base.proofs.CompactedArenaLemmas.{compressing, compressing_visits}
 use Rattle.arena_base.proofs.arena_trait.ArenaArenaTrait.compress_with.Goals as goal
 
 pub returns : goal.returns

@@ -1,5 +1,5 @@
 -- The entry at an index is that of the slot at its position.
-use Rattle.arena_base.proofs.Reading.{entry_at-position}
+use Rattle.arena_base.proofs.SlotLemmas.{entry_at-position}
 use Rattle.arena_base.proofs.arena_trait.ArenaArenaTrait.get_inx.Goals as goal
 
 pub returns-in-Some-Allocated : goal.returns-in-Some-Allocated

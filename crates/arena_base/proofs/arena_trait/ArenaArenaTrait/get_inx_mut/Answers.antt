@@ -4,11 +4,11 @@ use Rattle.std.specs.Option.{option_map}
 use Rattle.arena_base.specs.Arena.{with_value}
 use Rattle.arena_base.specs.Slots.{entry_in, with_value_in}
 use Rattle.arena_base.specs.Entries.{seen_of}
-use Rattle.arena_base.proofs.Reading.{entry_at-position, slice_set-itself}
-use Rattle.arena_base.proofs.Soundness.{lent, closed}
-use Rattle.arena_base.proofs.Seeing.{seen_written}
-use Rattle.arena_base.proofs.Viewing.{lent_view, kept_view}
-use Rattle.arena_ptr.proofs.Options.{on_some}
+use Rattle.arena_base.proofs.SlotLemmas.{entry_at-position, slice_set-itself}
+use Rattle.arena_base.proofs.SoundnessLemmas.{lent, closed}
+use Rattle.arena_base.proofs.ArenaViewLemmas.{seen_written}
+use Rattle.arena_base.proofs.ArenaModelLemmas.{lent_view, kept_view}
+use Rattle.arena_ptr.proofs.OptionLemmas.{on_some}
 use Rattle.arena_base.proofs.arena_trait.ArenaArenaTrait.get_inx_mut.Goals as goal
 
 pub invariant_of-self-lent : goal.invariant_of-self-lent

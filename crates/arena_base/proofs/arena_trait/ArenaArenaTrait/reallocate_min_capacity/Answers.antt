@@ -1,7 +1,7 @@
 -- What grows is the room.
 use Rattle.std.proofs.Common.{ap, arith}
 use Rattle.arena_base.specs.Entries.{seen_of}
-use Rattle.arena_base.proofs.Copying.{on_ok}
+use Rattle.arena_base.proofs.SlotCopyLemmas.{on_ok}
 use Rattle.arena_base.proofs.arena_trait.ArenaArenaTrait.reallocate_min_capacity.Goals as goal
 
 pub returns : goal.returns

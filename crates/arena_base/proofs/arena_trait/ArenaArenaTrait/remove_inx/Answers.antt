@@ -1,7 +1,7 @@
 -- What is seen follows from the arena.
 use Rattle.std.proofs.Common.{◌∙◌, ap}
 use Rattle.arena_base.specs.Entries.{seen_of}
-use Rattle.arena_base.proofs.Seeing.{seen_removed}
+use Rattle.arena_base.proofs.ArenaViewLemmas.{seen_removed}
 use Rattle.arena_base.proofs.arena_trait.ArenaArenaTrait.remove_inx.Goals as goal
 
 pub returns-clause-valid : goal.returns-clause-valid

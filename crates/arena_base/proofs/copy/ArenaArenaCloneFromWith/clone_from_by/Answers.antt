@@ -1,5 +1,5 @@
 -- What the arena has become, as generic code sees it.
-use Rattle.arena_base.proofs.Copying.{copy_seen, given_up_seen, on_err_either, on_ok, on_ok_both}
+use Rattle.arena_base.proofs.SlotCopyLemmas.{copy_seen, given_up_seen, on_err_either, on_ok, on_ok_both}
 use Rattle.arena_base.proofs.copy.ArenaArenaCloneFromWith.clone_from_by.Goals as goal
 
 pub returns-clause-copied : goal.returns-clause-copied

@@ -1,6 +1,6 @@
 -- What the map of the closure has made, the closure has answered.
-use Rattle.arena_base.specs.Copying.{IsCopyCall}
-use Rattle.arena_base.proofs.Copying.{copy_by, on_err_by, on_ok, surely}
+use Rattle.arena_base.specs.Copies.{IsCopyCall}
+use Rattle.arena_base.proofs.SlotCopyLemmas.{copy_by, on_err_by, on_ok, surely}
 use Rattle.arena_base.proofs.traits.ArenaCloneFromWith.clone_from_with.Goals as goal
 
 pub returns-clause-within : goal.returns-clause-within

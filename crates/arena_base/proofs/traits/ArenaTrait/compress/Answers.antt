@@ -1,6 +1,6 @@
 -- The closure leaves each value as it is.
 use Rattle.std.proofs.Common.{rules}
-use Rattle.arena_base.proofs.Visiting.{values_kept}
+use Rattle.arena_base.proofs.ClosureLemmas.{values_kept}
 use Rattle.arena_base.proofs.traits.ArenaTrait.compress.Goals as goal
 
 pub returns-clause-values : goal.returns-clause-values

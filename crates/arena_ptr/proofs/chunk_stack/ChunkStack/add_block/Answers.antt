@@ -1,6 +1,6 @@
 -- The blocks with an empty one behind them, or as they were.
 use Rattle.std.specs.Prelude.{is_ok}
-use Rattle.arena_ptr.proofs.Chunks.{more_blocks}
+use Rattle.arena_ptr.proofs.ChunkStackLemmas.{more_blocks}
 use Rattle.arena_ptr.proofs.chunk_stack.ChunkStack.add_block.Goals as goal
 
 pub invariant_of-self : goal.invariant_of-self

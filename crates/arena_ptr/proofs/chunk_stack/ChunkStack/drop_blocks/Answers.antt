@@ -1,7 +1,7 @@
 -- The blocks that have items are left.
 use Rattle.std.proofs.Common.{ap, sym, subst, ◌∙◌, length, length-take, arith}
 use Rattle.arena_ptr.specs.Blocks.{items_in, AreFilled}
-use Rattle.arena_ptr.proofs.Blocks.{fewer_in}
+use Rattle.arena_ptr.proofs.BlockLemmas.{fewer_in}
 use Rattle.arena_ptr.proofs.chunk_stack.ChunkStack.drop_blocks.Goals as goal
 
 pub invariant_of-self : goal.invariant_of-self

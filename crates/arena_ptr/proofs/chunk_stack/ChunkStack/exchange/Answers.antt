@@ -1,7 +1,7 @@
 -- Both items in one block.
 use Rattle.std.proofs.Common.{slice_index_or, ap, ◌∙◌, arith}
-use Rattle.arena_ptr.proofs.Chunks.{within, found, inside_block, still_fits}
-use Rattle.arena_ptr.proofs.Exchanging.{exchanged_in}
+use Rattle.arena_ptr.proofs.ChunkStackLemmas.{within, found, inside_block, still_fits}
+use Rattle.arena_ptr.proofs.BlockSwapLemmas.{exchanged_in}
 use Rattle.arena_ptr.proofs.chunk_stack.ChunkStack.exchange.Goals as goal
 
 pub index_mut-requires : goal.index_mut-requires

@@ -1,7 +1,7 @@
 -- The items in two blocks, of which the first is taken out meanwhile.
 use Rattle.std.proofs.Common.{◌≡◌, ◌/◌, slice_index_or, sym, subst}
-use Rattle.arena_ptr.proofs.Chunks.{within}
-use Rattle.arena_ptr.proofs.Exchanging.{left_inside, right_inside, put_across, put_fits}
+use Rattle.arena_ptr.proofs.ChunkStackLemmas.{within}
+use Rattle.arena_ptr.proofs.BlockSwapLemmas.{left_inside, right_inside, put_across, put_fits}
 use Rattle.arena_ptr.proofs.chunk_stack.ChunkStack.exchange_between.Goals as goal
 
 pub index_mut-requires : goal.index_mut-requires

@@ -1,6 +1,6 @@
 -- The block of the last item loses it.
 use Rattle.std.proofs.Common.{◌-◌, arith}
-use Rattle.arena_ptr.proofs.Chunks.{within, still_fits, popped}
+use Rattle.arena_ptr.proofs.ChunkStackLemmas.{within, still_fits, popped}
 use Rattle.arena_ptr.proofs.chunk_stack.ChunkStack.pop.Goals as goal
 
 pub index_mut-requires : goal.index_mut-requires

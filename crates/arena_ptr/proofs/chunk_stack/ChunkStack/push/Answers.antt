@@ -1,6 +1,6 @@
 -- The block of the next place gets the item.
 use Rattle.std.proofs.Common.{◌<◌, ◌/◌, vec_len, refl, arith}
-use Rattle.arena_ptr.proofs.Chunks.{has_room, still_fits, pushed}
+use Rattle.arena_ptr.proofs.ChunkStackLemmas.{has_room, still_fits, pushed}
 use Rattle.arena_ptr.proofs.chunk_stack.ChunkStack.push.Goals as goal
 
 pub push_reserved-requires : goal.push_reserved-requires

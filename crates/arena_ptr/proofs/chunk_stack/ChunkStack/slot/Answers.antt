@@ -1,6 +1,6 @@
 -- The item, in its block.
 use Rattle.std.proofs.Common.{sym}
-use Rattle.arena_ptr.proofs.Chunks.{within, past, inside_block, item_at}
+use Rattle.arena_ptr.proofs.ChunkStackLemmas.{within, past, inside_block, item_at}
 use Rattle.arena_ptr.proofs.chunk_stack.ChunkStack.slot.Goals as goal
 
 pub returns-then-self-i : goal.returns-then-self-i

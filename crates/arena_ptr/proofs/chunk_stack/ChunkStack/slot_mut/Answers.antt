@@ -1,6 +1,6 @@
 -- The slot of the item, in its block.
 use Rattle.std.proofs.Common.{◌%◌, refl, sym}
-use Rattle.arena_ptr.proofs.Chunks.{within, past, inside_block, item_at, still_fits, written_filled, same_written}
+use Rattle.arena_ptr.proofs.ChunkStackLemmas.{within, past, inside_block, item_at, still_fits, written_filled, same_written}
 use Rattle.std.specs.Vec.{with_item}
 use Rattle.arena_ptr.proofs.chunk_stack.ChunkStack.slot_mut.Goals as goal
 

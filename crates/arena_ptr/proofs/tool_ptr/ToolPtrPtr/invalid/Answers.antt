@@ -1,7 +1,7 @@
 -- Counting goes from two up, and begins again there.
 use Rattle.std.proofs.Common.{◌≡◌, refl, subst}
 use Rattle.std.specs.Prelude.{IfSome}
-use Rattle.arena_ptr.specs.Counting.{one_is_never_counted}
+use Rattle.arena_ptr.specs.CountedGenerations.{one_is_never_counted}
 use Rattle.arena_ptr.specs.Generations.{number_of_gen32, two32, after32}
 use Rattle.arena_ptr.proofs.tool_ptr.ToolPtrPtr.invalid.Goals as goal
 

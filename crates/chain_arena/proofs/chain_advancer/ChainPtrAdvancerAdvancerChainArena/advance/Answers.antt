@@ -2,7 +2,7 @@
 use Rattle.std.specs.Option.{option_map}
 use Rattle.chain_links.specs.Links.{seen_links}
 use Rattle.chain_links.specs.ChainArena.{entry, shown}
-use Rattle.chain_linking.proofs.Advancing.{is_passed, is_ended}
+use Rattle.chain_linking.proofs.AdvancerLemmas.{is_passed, is_ended}
 use Rattle.chain_arena.proofs.chain_advancer.ChainPtrAdvancerAdvancerChainArena.advance.Goals as goal
 
 pub returns-in-Some : goal.returns-in-Some

@@ -1,12 +1,12 @@
 -- The links that are made look like those of the source.
 use Rattle.std.proofs.Common.{length, refl, ap, sym, ◌∙◌, subst}
 use Rattle.arena_base.specs.Arena.{Arena, new_arena, IsWithinReach}
-use Rattle.arena_base.proofs.Copying.{on_ok_is}
-use Rattle.chain_arena.specs.Copies.{IsClone}
+use Rattle.arena_base.proofs.SlotCopyLemmas.{on_ok_is}
+use Rattle.chain_arena.specs.LinkCopies.{IsClone}
 use Rattle.chain_links.specs.ChainArena.{LinkSeen}
 use Rattle.chain_links.specs.Links.{seen_link, seen_links}
-use Rattle.chain_links.proofs.Mapping.{length-with_each}
-use Rattle.chain_arena.proofs.Cloning.{clone_agrees, is_clone_of, no_room_needed}
+use Rattle.chain_links.proofs.MappedArenaLemmas.{length-with_each}
+use Rattle.chain_arena.proofs.LinkCopyLemmas.{clone_agrees, is_clone_of, no_room_needed}
 use Rattle.chain_arena.proofs.chain_arena.ChainArena.clone.Goals as goal
 
 pub returns-in-Err-clause-no_room : goal.returns-in-Err-clause-no_room

@@ -2,12 +2,12 @@
 use Rattle.std.proofs.Common.{◌≤◌, ap, subst, sym}
 use Rattle.chain_laws.specs.Chains.{Agrees}
 use Rattle.arena_base.specs.Arena.{IsWithinReach}
-use Rattle.arena_base.proofs.Copying.{either_as, on_err_either, on_ok_both}
+use Rattle.arena_base.proofs.SlotCopyLemmas.{either_as, on_err_either, on_ok_both}
 use Rattle.chain_links.specs.ChainArena.{shown}
 use Rattle.chain_links.specs.Links.{seen_link, seen_links}
-use Rattle.chain_links.proofs.Mapping.{length-with_each}
-use Rattle.chain_arena.specs.Copies.{MakesOf}
-use Rattle.chain_arena.proofs.Cloning.{agrees_copied, either_way, given_up_agrees, link_copied, refusable_seen}
+use Rattle.chain_links.proofs.MappedArenaLemmas.{length-with_each}
+use Rattle.chain_arena.specs.LinkCopies.{MakesOf}
+use Rattle.chain_arena.proofs.LinkCopyLemmas.{agrees_copied, either_way, given_up_agrees, link_copied, refusable_seen}
 use Rattle.chain_arena.proofs.chain_arena.ChainArena.clone_from_by.Goals as goal
 
 pub invariant_of-self : goal.invariant_of-self

@@ -1,8 +1,8 @@
 -- What the map of the closure has made, the closure has answered.
-use Rattle.arena_base.proofs.Copying.{on_err_by, surely}
+use Rattle.arena_base.proofs.SlotCopyLemmas.{on_err_by, surely}
 use Rattle.std.proofs.lemmas.Result.{on_ok_weaker}
 use Rattle.chain_links.specs.Links.{seen_link}
-use Rattle.chain_arena.proofs.Cloning.{called_copies}
+use Rattle.chain_arena.proofs.LinkCopyLemmas.{called_copies}
 use Rattle.chain_arena.proofs.chain_arena.ChainArena.clone_from_with.Goals as goal
 
 pub returns-clause-within : goal.returns-clause-within

@@ -1,10 +1,10 @@
 -- The arena of links is copied, and its links are as contracts see them.
 use Rattle.std.proofs.Common.{◌≤◌, subst}
 use Rattle.std.proofs.lemmas.Result.{on_ok_weaker}
-use Rattle.arena_base.proofs.Copying.{either_as, on_err_either}
+use Rattle.arena_base.proofs.SlotCopyLemmas.{either_as, on_err_either}
 use Rattle.chain_links.specs.Links.{seen_link}
-use Rattle.chain_links.proofs.Mapping.{length-with_each}
-use Rattle.chain_arena.proofs.Cloning.{copy_as_seen, refusable_seen}
+use Rattle.chain_links.proofs.MappedArenaLemmas.{length-with_each}
+use Rattle.chain_arena.proofs.LinkCopyLemmas.{copy_as_seen, refusable_seen}
 use Rattle.chain_arena.proofs.chain_arena.ChainArena.clone_to_arena_by.Goals as goal
 
 pub returns-clause-within : goal.returns-clause-within

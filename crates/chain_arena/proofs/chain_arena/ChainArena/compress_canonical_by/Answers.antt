@@ -2,11 +2,11 @@
 use Rattle.std.proofs.Common.{◌+◌, length, refl, ap, sym, ◌∙◌}
 use Rattle.arena_ptr.specs.Invalidation.{invalidation_option}
 use Rattle.arena_base.specs.Entries.{entries}
-use Rattle.arena_base.specs.Compressing.{overflows_after_compression}
-use Rattle.arena_base.proofs.Seeing.{length-entries}
+use Rattle.arena_base.specs.Compressions.{overflows_after_compression}
+use Rattle.arena_base.proofs.ArenaViewLemmas.{length-entries}
 use Rattle.chain_links.specs.Links.{seen_links}
-use Rattle.chain_arena.proofs.Canonizing.{laid_agree, laid_canonical, laid_stack_capacity, laid_shown}
-use Rattle.chain_links.proofs.Inserting.{count-values, entry_count-seen_links}
+use Rattle.chain_arena.proofs.CanonicalCompressionLemmas.{laid_agree, laid_canonical, laid_stack_capacity, laid_shown}
+use Rattle.chain_links.proofs.ArenaInsertionLemmas.{count-values, entry_count-seen_links}
 use Rattle.chain_arena.proofs.chain_arena.ChainArena.compress_canonical_by.Goals as goal
 
 pub invariant_of-self : goal.invariant_of-self

@@ -1,5 +1,5 @@
 -- The closure has seen what the visitor that calls it has seen.
-use Rattle.chain_compaction.proofs.Watching.{shown_to}
+use Rattle.chain_compaction.proofs.VisitorLemmas.{shown_to}
 use Rattle.chain_arena.proofs.chain_arena.ChainArena.compress_canonical_with.Goals as goal
 
 pub returns-clause-shows : goal.returns-clause-shows

@@ -1,5 +1,5 @@
 -- All links are left from the first index on.
-use Rattle.chain_arena.proofs.LinkDraining.{all_left}
+use Rattle.chain_arena.proofs.LinkDrainLemmas.{all_left}
 use Rattle.chain_arena.proofs.chain_arena.ChainArena.drain.Goals as goal
 
 pub returns-clause-left : goal.returns-clause-left

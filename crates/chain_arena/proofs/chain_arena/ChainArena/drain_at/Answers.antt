@@ -1,6 +1,6 @@
 -- The link goes, and the walk goes on.
 use Rattle.std.proofs.Common.{ap, sym, ◌∙◌}
-use Rattle.chain_arena.proofs.Draining.{drained_step, drained_none}
+use Rattle.chain_arena.proofs.ChainDrainLemmas.{drained_step, drained_none}
 use Rattle.chain_arena.proofs.chain_arena.ChainArena.drain_at.Goals as goal
 
 pub returns-in-Some-entry : goal.returns-in-Some-entry

@@ -1,6 +1,6 @@
 -- The drain stands at the pointer's link, and nothing has changed yet.
 use Rattle.std.proofs.Common.{refl, ◌∙◌}
-use Rattle.chain_arena.proofs.Draining.{index_from-is, walk_left-valid}
+use Rattle.chain_arena.proofs.ChainDrainLemmas.{index_from-is, walk_left-valid}
 use Rattle.chain_arena.proofs.chain_arena.ChainArena.drain_chain.Goals as goal
 
 pub returns : goal.returns

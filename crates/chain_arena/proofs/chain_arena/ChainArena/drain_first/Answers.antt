@@ -5,9 +5,9 @@ use Rattle.arena_ptr.specs.Invalidation.{value_within}
 use Rattle.arena_base.specs.Arena.{entry_at}
 use Rattle.arena_base.specs.Entries.{entry_removed}
 use Rattle.chain_links.specs.ChainArena.{seen, values_of, remove_link}
-use Rattle.chain_arena.proofs.Draining.{index_from-is}
-use Rattle.chain_arena.proofs.Taking.{value_alone_told, seen_at, removal_at}
-use Rattle.chain_arena.proofs.LinkDraining.{drained_has, drained_first, first_valid, overflow_told, IsBehind, is_behind}
+use Rattle.chain_arena.proofs.ChainDrainLemmas.{index_from-is}
+use Rattle.chain_arena.proofs.LinkRemovalLemmas.{value_alone_told, seen_at, removal_at}
+use Rattle.chain_arena.proofs.LinkDrainLemmas.{drained_has, drained_first, first_valid, overflow_told, IsBehind, is_behind}
 use Rattle.chain_arena.proofs.chain_arena.ChainArena.drain_first.Goals as goal
 
 pub excluded-assert_unchecked-requires : goal.excluded-assert_unchecked-requires

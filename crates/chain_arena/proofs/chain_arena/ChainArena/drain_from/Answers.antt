@@ -1,7 +1,7 @@
 -- Each step leaves what the whole walk leaves, until nothing is left.
 use Rattle.std.proofs.Common.{◌≡◌, rules, refl, ◌∙◌}
 use Rattle.chain_arena.specs.Drains.{walk_left, without_each}
-use Rattle.chain_arena.proofs.Draining.{without_each-step, walk_left-step, without_each-takes, without_each-counts}
+use Rattle.chain_arena.proofs.ChainDrainLemmas.{without_each-step, walk_left-step, without_each-takes, without_each-counts}
 use Rattle.chain_arena.proofs.chain_arena.ChainArena.drain_from.Goals as goal
 
 pub loop-next-init : goal.loop-next-init

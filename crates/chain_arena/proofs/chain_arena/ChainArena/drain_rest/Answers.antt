@@ -4,8 +4,8 @@ use Rattle.std.proofs.lemmas.List.{length-map}
 use Rattle.arena_base.specs.Entries.{entries, index_of}
 use Rattle.chain_links.specs.ChainArena.{values_of}
 use Rattle.chain_arena.specs.Drains.{entries_left, without_each, CountsUp}
-use Rattle.chain_arena.proofs.Draining.{without_each-counts}
-use Rattle.chain_arena.proofs.LinkDraining.{without_each-first, without_each-all, entries_left-step}
+use Rattle.chain_arena.proofs.ChainDrainLemmas.{without_each-counts}
+use Rattle.chain_arena.proofs.LinkDrainLemmas.{without_each-first, without_each-all, entries_left-step}
 use Rattle.chain_arena.proofs.chain_arena.ChainArena.drain_rest.Goals as goal
 
 pub loop-next-init : goal.loop-next-init

@@ -1,7 +1,7 @@
 -- No link stands from a number on that is no index.
 use Rattle.std.proofs.Common.{ap, sym}
 use Rattle.arena_base.specs.Entries.{first_key}
-use Rattle.chain_arena.proofs.LinkDraining.{none_left}
+use Rattle.chain_arena.proofs.LinkDrainLemmas.{none_left}
 use Rattle.chain_arena.proofs.chain_arena.ChainArena.first_from.Goals as goal
 
 pub returns-in-None : goal.returns-in-None

@@ -1,6 +1,6 @@
 -- The gap that a kind gives is its place, after a growth where there was no room.
 use Rattle.std.proofs.Common.{refl}
-use Rattle.chain_arena.proofs.Placing.{no_place, places_growing}
+use Rattle.chain_arena.proofs.NewLinkLemmas.{no_place, places_growing}
 use Rattle.chain_arena.proofs.chain_arena.ChainArena.gap_growing.Goals as goal
 
 pub returns-in-Some : goal.returns-in-Some

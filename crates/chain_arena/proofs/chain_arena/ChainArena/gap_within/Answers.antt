@@ -1,5 +1,5 @@
 -- The gap that a kind gives is its place, where there is room.
-use Rattle.chain_arena.proofs.Placing.{no_place, places_full, places_in_room}
+use Rattle.chain_arena.proofs.NewLinkLemmas.{no_place, places_full, places_in_room}
 use Rattle.chain_arena.proofs.chain_arena.ChainArena.gap_within.Goals as goal
 
 pub returns-then-len-capacity : goal.returns-then-len-capacity

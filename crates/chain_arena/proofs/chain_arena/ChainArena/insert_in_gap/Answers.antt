@@ -2,15 +2,15 @@
 use Rattle.std.proofs.Common.{◌≡◌, ◌<◌, refl, sym, ap, subst, arith}
 use Rattle.chain_laws.specs.Chains.{Agrees}
 use Rattle.chain_laws.specs.Insertions.{IsGap}
-use Rattle.chain_laws.proofs.InsertionPairs.{gap_between}
+use Rattle.chain_laws.proofs.InsertionLemmas.Pairs.{gap_between}
 use Rattle.arena_base.specs.Arena.{entry_count, next_index}
 use Rattle.chain_links.specs.Links.{seen_links}
-use Rattle.chain_linking.specs.Gaps.{before_in, after_in}
+use Rattle.chain_linking.specs.InsertPositions.{before_in, after_in}
 use Rattle.chain_links.specs.ChainArena.{shown, insert_between}
-use Rattle.chain_links.proofs.Inserting.{entry_count-seen_links, listed-seen_links, shown-next}
-use Rattle.chain_linking.proofs.Putting.{placed_in_room, before_stands, after_stands}
-use Rattle.chain_arena.proofs.Placing.{next_seen}
-use Rattle.chain_arena.proofs.Telling.{agrees-insert_between}
+use Rattle.chain_links.proofs.ArenaInsertionLemmas.{entry_count-seen_links, listed-seen_links, shown-next}
+use Rattle.chain_linking.proofs.LinkInsertionLemmas.{placed_in_room, before_stands, after_stands}
+use Rattle.chain_arena.proofs.NewLinkLemmas.{next_seen}
+use Rattle.chain_arena.proofs.InsertionEffectLemmas.{agrees-insert_between}
 use Rattle.chain_arena.proofs.chain_arena.ChainArena.insert_in_gap.Given.{Over}
 use Rattle.chain_arena.proofs.chain_arena.ChainArena.insert_in_gap.Goals.{After-tie}
 use Rattle.chain_arena.proofs.chain_arena.ChainArena.insert_in_gap.Goals as goal

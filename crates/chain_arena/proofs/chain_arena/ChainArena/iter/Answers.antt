@@ -1,7 +1,7 @@
 -- The values of all links.
 use Rattle.std.proofs.Common.{ap, ◌∙◌}
 use Rattle.chain_links.specs.Links.{held_entries}
-use Rattle.chain_compaction.proofs.Valuing.{held_entries-all}
+use Rattle.chain_compaction.proofs.ValueViewLemmas.{held_entries-all}
 use Rattle.chain_arena.proofs.chain_arena.ChainArena.iter.Goals as goal
 
 pub returns-clause-values : goal.returns-clause-values

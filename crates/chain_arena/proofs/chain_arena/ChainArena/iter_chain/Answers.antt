@@ -4,10 +4,10 @@ use Rattle.std.specs.Prelude.{IfSome}
 use Rattle.chain_laws.specs.Chains.{HasLink}
 use Rattle.chain_links.specs.Links.{seen_links}
 use Rattle.chain_links.specs.ChainArena.{IsWalkOf, shown}
-use Rattle.chain_links.proofs.Inserting.{entry_count-seen_links}
-use Rattle.chain_arena.proofs.Iterating.{walker-walk, length-walk}
-use Rattle.chain_linking.proofs.Connecting.{prev_of-seen, same_valid, valid_at}
-use Rattle.chain_linking.proofs.NamedLinks.{prev_named}
+use Rattle.chain_links.proofs.ArenaInsertionLemmas.{entry_count-seen_links}
+use Rattle.chain_arena.proofs.ChainIterLemmas.{walker-walk, length-walk}
+use Rattle.chain_linking.proofs.ConnectionLemmas.{prev_of-seen, same_valid, valid_at}
+use Rattle.chain_linking.proofs.NeighborLemmas.{prev_named}
 use Rattle.chain_arena.proofs.chain_arena.ChainArena.iter_chain.Goals as goal
 
 pub new-requires : goal.new-requires

@@ -1,7 +1,7 @@
 -- All links, seen.
 use Rattle.std.proofs.Common.{ap, ◌∙◌}
 use Rattle.chain_links.specs.Links.{seen_entries}
-use Rattle.chain_compaction.proofs.Valuing.{seen_entries-all}
+use Rattle.chain_compaction.proofs.ValueViewLemmas.{seen_entries-all}
 use Rattle.chain_arena.proofs.chain_arena.ChainArena.iter_link_no_gen.Goals as goal
 
 pub returns-clause-links : goal.returns-clause-links

@@ -1,5 +1,5 @@
 -- The growth is one to room for one link more.
-use Rattle.chain_arena.proofs.Placing.{grows_by_one}
+use Rattle.chain_arena.proofs.NewLinkLemmas.{grows_by_one}
 use Rattle.chain_arena.proofs.chain_arena.ChainArena.make_room.Goals as goal
 
 pub returns : goal.returns

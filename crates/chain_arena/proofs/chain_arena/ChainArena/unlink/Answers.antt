@@ -1,7 +1,7 @@
 -- The link goes, and its neighbours are linked.
 use Rattle.std.proofs.Common.{ap}
 use Rattle.chain_links.specs.Links.{seen_links}
-use Rattle.chain_arena.proofs.Taking.{agreed_after, removal_of}
+use Rattle.chain_arena.proofs.LinkRemovalLemmas.{agreed_after, removal_of}
 use Rattle.chain_arena.proofs.chain_arena.ChainArena.unlink.Goals as goal
 
 pub take_out-requires : goal.take_out-requires

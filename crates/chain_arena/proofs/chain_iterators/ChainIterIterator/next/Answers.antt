@@ -4,11 +4,11 @@ use Rattle.std.specs.Prelude.{◌-◌}
 use Rattle.std.specs.Option.{option_map}
 use Rattle.std.proofs.lemmas.Bool.{false≢true}
 use Rattle.arena_base.specs.Arena.{entry_at}
-use Rattle.chain_laws.proofs.Agreement.{one_some}
+use Rattle.chain_laws.proofs.InterlinkLemmas.Inverses.{one_some}
 use Rattle.chain_links.specs.ChainArena.{LinkSeen}
 use Rattle.chain_links.specs.Links.{seen_link, seen_links}
 use Rattle.chain_links.specs.Walkers.{index_and_entry, links_ahead}
-use Rattle.chain_arena.proofs.Following.{behind_stands, looked_some, onward_stands, passes_last, passes_on}
+use Rattle.chain_arena.proofs.WalkerLemmas.{behind_stands, looked_some, onward_stands, passes_last, passes_on}
 use Rattle.chain_arena.proofs.chain_iterators.ChainIterIterator.next.Goals.{then-is_index, else-is_index}
 use Rattle.chain_arena.proofs.chain_iterators.ChainIterIterator.next.Goals as goal
 

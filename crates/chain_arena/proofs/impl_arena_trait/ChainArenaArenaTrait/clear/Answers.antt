@@ -2,9 +2,9 @@
 use Rattle.std.proofs.Common.{ap, sym, ◌∙◌}
 use Rattle.arena_ptr.specs.Invalidation.{invalidation_option}
 use Rattle.arena_base.specs.Arena.{overflows_after_clear}
-use Rattle.arena_base.proofs.Seeing.{length-entries}
-use Rattle.chain_links.proofs.Inserting.{count-values}
-use Rattle.chain_arena.proofs.Writing.{cleared-seen}
+use Rattle.arena_base.proofs.ArenaViewLemmas.{length-entries}
+use Rattle.chain_links.proofs.ArenaInsertionLemmas.{count-values}
+use Rattle.chain_arena.proofs.EntryWriteLemmas.{cleared-seen}
 use Rattle.chain_arena.proofs.impl_arena_trait.ChainArenaArenaTrait.clear.Goals as goal
 
 pub returns-clause-overflow : goal.returns-clause-overflow

@@ -2,11 +2,11 @@
 use Rattle.std.proofs.Common.{length, refl, ap, sym, ◌∙◌}
 use Rattle.arena_ptr.specs.Invalidation.{invalidation_option}
 use Rattle.arena_base.specs.Entries.{entries}
-use Rattle.arena_base.specs.Compressing.{overflows_after_compression}
-use Rattle.arena_base.proofs.Seeing.{length-entries}
+use Rattle.arena_base.specs.Compressions.{overflows_after_compression}
+use Rattle.arena_base.proofs.ArenaViewLemmas.{length-entries}
 use Rattle.chain_links.specs.Links.{seen_links}
-use Rattle.chain_arena.proofs.Compressing.{links_compressed, links_visited, gaps_closed, links_agree}
-use Rattle.chain_links.proofs.Inserting.{count-values}
+use Rattle.chain_arena.proofs.ArenaCompressionLemmas.{links_compressed, links_visited, gaps_closed, links_agree}
+use Rattle.chain_links.proofs.ArenaInsertionLemmas.{count-values}
 use Rattle.chain_arena.proofs.impl_arena_trait.ChainArenaArenaTrait.compress_with.Goals as goal
 
 pub invariant_of-self : goal.invariant_of-self

@@ -1,5 +1,5 @@
 -- The same pointers are valid.
-use Rattle.chain_linking.proofs.Connecting.{same_valid}
+use Rattle.chain_linking.proofs.ConnectionLemmas.{same_valid}
 use Rattle.chain_arena.proofs.impl_arena_trait.ChainArenaArenaTrait.contains.Goals as goal
 
 pub returns : goal.returns

@@ -2,7 +2,7 @@
 use Rattle.std.proofs.Common.{ap, sym, ◌∙◌}
 use Rattle.arena_base.specs.Entries.{entries, first_key}
 use Rattle.chain_links.specs.Links.{held_in}
-use Rattle.chain_compaction.proofs.Valuing.{first-with_each, values_of-seen_links}
+use Rattle.chain_compaction.proofs.ValueViewLemmas.{first-with_each, values_of-seen_links}
 use Rattle.chain_arena.proofs.impl_arena_trait.ChainArenaArenaTrait.find_first_inx_ptr.Goals as goal
 
 pub returns : goal.returns

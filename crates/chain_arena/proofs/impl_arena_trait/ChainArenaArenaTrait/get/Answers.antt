@@ -2,7 +2,7 @@
 use Rattle.std.proofs.Common.{refl, ap, ◌∙◌}
 use Rattle.std.specs.Option.{option_map}
 use Rattle.chain_links.specs.ChainArena.{on_value}
-use Rattle.chain_linking.proofs.Connecting.{same_valid, value_at}
+use Rattle.chain_linking.proofs.ConnectionLemmas.{same_valid, value_at}
 use Rattle.chain_links.specs.Links.{held_in}
 use Rattle.chain_arena.proofs.impl_arena_trait.ChainArenaArenaTrait.get.Goals as goal
 

@@ -2,7 +2,7 @@
 use Rattle.std.proofs.Common.{ap, sym, ◌∙◌, of_calls}
 use Rattle.std.specs.Option.{option_map}
 use Rattle.chain_links.specs.ChainArena.{on_value}
-use Rattle.chain_linking.proofs.Connecting.{value_at}
+use Rattle.chain_linking.proofs.ConnectionLemmas.{value_at}
 use Rattle.chain_links.specs.Links.{held_in}
 use Rattle.chain_arena.proofs.impl_arena_trait.ChainArenaArenaTrait.get_inx.Goals as goal
 

@@ -2,8 +2,8 @@
 use Rattle.std.proofs.Common.{refl, ap, sym, ◌∙◌}
 use Rattle.std.specs.Option.{option_map}
 use Rattle.chain_links.specs.Links.{held_in, seen_links}
-use Rattle.chain_arena.proofs.Lending.{value_there}
-use Rattle.chain_arena.proofs.Writing.{written-state, written-shown, written-agrees, written-seen}
+use Rattle.chain_arena.proofs.ValueLoanLemmas.{value_there}
+use Rattle.chain_arena.proofs.EntryWriteLemmas.{written-state, written-shown, written-agrees, written-seen}
 use Rattle.chain_arena.proofs.impl_arena_trait.ChainArenaArenaTrait.get_inx_mut.Goals as goal
 
 pub invariant_of-self-lent : goal.invariant_of-self-lent

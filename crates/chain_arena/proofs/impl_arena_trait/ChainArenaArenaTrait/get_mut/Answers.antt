@@ -2,7 +2,7 @@
 use Rattle.std.proofs.Common.{refl}
 use Rattle.arena_base.specs.Arena.{entry_at}
 use Rattle.chain_links.specs.ChainArena.{values_of}
-use Rattle.chain_arena.proofs.Lending.{lent_some, lent_value}
+use Rattle.chain_arena.proofs.ValueLoanLemmas.{lent_some, lent_value}
 use Rattle.chain_arena.proofs.impl_arena_trait.ChainArenaArenaTrait.get_mut.Goals as goal
 
 pub returns-then-contains : goal.returns-then-contains

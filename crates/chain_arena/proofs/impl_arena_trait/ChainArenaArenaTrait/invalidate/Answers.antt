@@ -4,9 +4,9 @@ use Rattle.chain_laws.specs.Chains.{Agrees}
 use Rattle.chain_links.specs.ChainArena.{shown}
 use Rattle.chain_links.specs.Links.{seen_links}
 use Rattle.arena_ptr.specs.Invalidation.{value_within}
-use Rattle.chain_linking.proofs.Connecting.{same_valid}
-use Rattle.chain_arena.proofs.Lending.{valid_or_not}
-use Rattle.chain_arena.proofs.Writing.{renewed-state, renewed-shown, renewed-told}
+use Rattle.chain_linking.proofs.ConnectionLemmas.{same_valid}
+use Rattle.chain_arena.proofs.ValueLoanLemmas.{valid_or_not}
+use Rattle.chain_arena.proofs.EntryWriteLemmas.{renewed-state, renewed-shown, renewed-told}
 use Rattle.chain_arena.proofs.impl_arena_trait.ChainArenaArenaTrait.invalidate.Goals as goal
 
 pub invariant_of-self : goal.invariant_of-self

@@ -3,7 +3,7 @@ use Rattle.std.proofs.Common.{◌≡◌, ◌↔◌, [], subst}
 use Rattle.std.specs.Prelude.{IsTrue}
 use Rattle.arena_base.specs.Entries.{entries}
 use Rattle.chain_links.specs.Links.{held_in}
-use Rattle.chain_compaction.proofs.Valuing.{empty-with_each, values_of-seen_links}
+use Rattle.chain_compaction.proofs.ValueViewLemmas.{empty-with_each, values_of-seen_links}
 use Rattle.chain_arena.proofs.impl_arena_trait.ChainArenaArenaTrait.is_empty.Goals as goal
 
 pub returns : goal.returns

@@ -3,10 +3,10 @@ use Rattle.std.proofs.Common.{◌≤◌, sym, ◌∙◌, subst, arith}
 use Rattle.arena_base.specs.Arena.{HasRoom}
 use Rattle.chain_links.specs.Links.{seen_links}
 use Rattle.chain_links.specs.ChainArena.{values_of, shown}
-use Rattle.chain_links.proofs.Seeing.{length-seen_links}
-use Rattle.arena_base.proofs.Filling.{entries_within, they_fill}
-use Rattle.chain_links.proofs.Inserting.{count-values, entry_count-seen_links, shown-within, length-values, listed-seen_links, listed-values}
-use Rattle.chain_laws.proofs.Partitions.{one_set}
+use Rattle.chain_links.proofs.LinkStateLemmas.{length-seen_links}
+use Rattle.arena_base.proofs.SlotPartitionLemmas.{entries_within, they_fill}
+use Rattle.chain_links.proofs.ArenaInsertionLemmas.{count-values, entry_count-seen_links, shown-within, length-values, listed-seen_links, listed-values}
+use Rattle.chain_laws.proofs.ChainLemmas.Partitions.{one_set}
 use Rattle.chain_arena.proofs.impl_arena_trait.ChainArenaArenaTrait.len.Goals as goal
 
 pub returns : goal.returns

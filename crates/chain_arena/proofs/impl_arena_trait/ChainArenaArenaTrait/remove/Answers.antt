@@ -2,8 +2,8 @@
 use Rattle.std.proofs.Common.{ap, ◌∙◌}
 use Rattle.std.specs.Prelude.{is_some}
 use Rattle.arena_ptr.specs.Invalidation.{value_within}
-use Rattle.chain_links.proofs.Mapping.{is_some-map}
-use Rattle.chain_arena.proofs.Taking.{removal_at, same_overflow, seen_at, taken_at, value_alone_told}
+use Rattle.chain_links.proofs.MappedArenaLemmas.{is_some-map}
+use Rattle.chain_arena.proofs.LinkRemovalLemmas.{removal_at, same_overflow, seen_at, taken_at, value_alone_told}
 use Rattle.chain_arena.proofs.impl_arena_trait.ChainArenaArenaTrait.remove.Goals as goal
 
 pub returns-then-contains : goal.returns-then-contains

@@ -1,7 +1,7 @@
 -- The link goes, and its neighbours are linked.
 use Rattle.std.proofs.Common.{◌∙◌}
 use Rattle.arena_ptr.specs.Invalidation.{value_within}
-use Rattle.chain_arena.proofs.Taking.{none_taken, removal_there, same_overflow, seen_there, value_told}
+use Rattle.chain_arena.proofs.LinkRemovalLemmas.{none_taken, removal_there, same_overflow, seen_there, value_told}
 use Rattle.chain_arena.proofs.impl_arena_trait.ChainArenaArenaTrait.remove_inx.Goals as goal
 
 pub returns : goal.returns

@@ -2,9 +2,9 @@
 use Rattle.std.proofs.Common.{subst}
 use Rattle.std.specs.Option.{option_map}
 use Rattle.arena_base.specs.Entries.{entries}
-use Rattle.arena_base.specs.Advancing.{IsLook}
+use Rattle.arena_base.specs.Advancers.{IsLook}
 use Rattle.chain_links.specs.Links.{held_in}
-use Rattle.chain_compaction.proofs.Valuing.{look-with_each, values_of-seen_links}
+use Rattle.chain_compaction.proofs.ValueViewLemmas.{look-with_each, values_of-seen_links}
 use Rattle.chain_arena.proofs.impl_arena_trait.PtrAdvancerAdvancerChainArena.advance.Goals as goal
 
 pub returns : goal.returns

@@ -4,9 +4,9 @@ use Rattle.std.specs.Prelude.{Some}
 use Rattle.std.specs.Option.{option_map}
 use Rattle.std.proofs.lemmas.Bool.{false≢true}
 use Rattle.chain_links.specs.Links.{seen_links}
-use Rattle.chain_linking.proofs.Advancing.{same_walkers}
-use Rattle.chain_linking.proofs.Connecting.{prev_of-seen, same_valid}
-use Rattle.chain_links.proofs.Inserting.{entry_count-seen_links, values-count}
+use Rattle.chain_linking.proofs.AdvancerLemmas.{same_walkers}
+use Rattle.chain_linking.proofs.ConnectionLemmas.{prev_of-seen, same_valid}
+use Rattle.chain_links.proofs.ArenaInsertionLemmas.{entry_count-seen_links, values-count}
 use Rattle.chain_arena.proofs.impl_chain_arena_trait.ChainArenaChainArenaTrait.advancer_chain.Goals as goal
 
 pub returns-in-Some : goal.returns-in-Some

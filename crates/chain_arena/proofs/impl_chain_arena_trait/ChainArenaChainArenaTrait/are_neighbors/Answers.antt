@@ -5,7 +5,7 @@ use Rattle.chain_laws.specs.Neighbors.{AreNeighbors}
 use Rattle.arena_base.specs.Arena.{IsValid}
 use Rattle.chain_links.specs.Links.{seen_links}
 use Rattle.chain_links.specs.ChainArena.{entry, shown}
-use Rattle.chain_links.proofs.Mapping.{is_some-map}
+use Rattle.chain_links.proofs.MappedArenaLemmas.{is_some-map}
 use Rattle.chain_arena.proofs.impl_chain_arena_trait.ChainArenaChainArenaTrait.are_neighbors.Given.{Over}
 use Rattle.chain_arena.proofs.impl_chain_arena_trait.ChainArenaChainArenaTrait.are_neighbors.Goals.{After-is_index}
 use Rattle.chain_arena.proofs.impl_chain_arena_trait.ChainArenaChainArenaTrait.are_neighbors.Goals as goal

@@ -5,12 +5,12 @@ use Rattle.std.proofs.lemmas.Bool.{false≢true}
 use Rattle.chain_laws.specs.Chains.{HasLink, prev_of}
 use Rattle.chain_laws.specs.Cuts.{cut}
 use Rattle.chain_laws.specs.Neighbors.{AreNeighbors}
-use Rattle.chain_laws.proofs.Standing.{next_valid, prev_valid}
+use Rattle.chain_laws.proofs.ChainLemmas.LinkedLists.{next_valid, prev_valid}
 use Rattle.arena_base.specs.Arena.{Arena}
 use Rattle.arena_base.specs.Entries.{seen_of}
 use Rattle.chain_links.specs.Links.{seen_links}
 use Rattle.chain_links.specs.ChainArena.{LinkSeen, relinked, shown}
-use Rattle.chain_arena.proofs.Cutting.{at_told, cut_values, cut_shows, agrees_cut, cut_told}
+use Rattle.chain_arena.proofs.BreakAndExchangeLemmas.{at_told, cut_values, cut_shows, agrees_cut, cut_told}
 use Rattle.chain_arena.proofs.impl_chain_arena_trait.ChainArenaChainArenaTrait.break_prev.Given.{Over}
 use Rattle.chain_arena.proofs.impl_chain_arena_trait.ChainArenaChainArenaTrait.break_prev.Goals.{After-link_twice}
 use Rattle.chain_arena.proofs.impl_chain_arena_trait.ChainArenaChainArenaTrait.break_prev.Goals as goal

@@ -1,8 +1,8 @@
 -- The counter overflows as the number of links tells, which is that of the values.
 use Rattle.std.proofs.Common.{sym, ap, ◌∙◌}
 use Rattle.arena_ptr.specs.Invalidation.{invalidation_option}
-use Rattle.arena_base.specs.Compressing.{overflows_after_compression}
-use Rattle.chain_links.proofs.Inserting.{values-count}
+use Rattle.arena_base.specs.Compressions.{overflows_after_compression}
+use Rattle.chain_links.proofs.ArenaInsertionLemmas.{values-count}
 use Rattle.chain_arena.proofs.impl_chain_arena_trait.ChainArenaChainArenaTrait.compress_canonical.Goals as goal
 
 pub returns-clause-overflow : goal.returns-clause-overflow

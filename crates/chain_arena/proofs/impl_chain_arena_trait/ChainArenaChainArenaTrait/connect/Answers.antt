@@ -2,12 +2,12 @@
 use Rattle.std.proofs.Common.{◌≡◌, ◌↔◌, ℕ, Option, None, Some, refl, ap, sym, subst}
 use Rattle.std.specs.Prelude.{IsSome, OnSome, IfNone}
 use Rattle.chain_laws.specs.Chains.{Agrees}
-use Rattle.chain_laws.specs.Operations.{joined}
+use Rattle.chain_laws.specs.Joins.{joined}
 use Rattle.arena_base.specs.Arena.{entry_at}
 use Rattle.arena_base.specs.Entries.{seen_of}
 use Rattle.chain_links.specs.Links.{seen_links}
 use Rattle.chain_links.specs.ChainArena.{values_of, CanConnect, relinked, shown}
-use Rattle.chain_linking.proofs.Connecting.{shows, joined-values, joined-agrees, joined-pair, joined-chains}
+use Rattle.chain_linking.proofs.ConnectionLemmas.{shows, joined-values, joined-agrees, joined-pair, joined-chains}
 use Rattle.chain_arena.specs.Effects.{Links}
 use Rattle.chain_arena.proofs.impl_chain_arena_trait.ChainArenaChainArenaTrait.connect.Goals as goal
 

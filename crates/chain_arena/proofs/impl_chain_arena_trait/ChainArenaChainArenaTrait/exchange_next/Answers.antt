@@ -4,13 +4,13 @@ use Rattle.std.specs.Prelude.{is_some}
 use Rattle.std.proofs.lemmas.Bool.{false≢true}
 use Rattle.chain_laws.specs.Chains.{HasLink, next_of}
 use Rattle.chain_laws.specs.Exchanges.{exchanged}
-use Rattle.chain_laws.specs.Operations.{linked}
-use Rattle.chain_laws.proofs.Standing.{next_valid, prev_valid}
+use Rattle.chain_laws.specs.Joins.{linked}
+use Rattle.chain_laws.proofs.ChainLemmas.LinkedLists.{next_valid, prev_valid}
 use Rattle.arena_base.specs.Arena.{Arena}
 use Rattle.arena_base.specs.Entries.{seen_of}
 use Rattle.chain_links.specs.Links.{seen_links}
 use Rattle.chain_links.specs.ChainArena.{LinkSeen, relinked, shown}
-use Rattle.chain_arena.proofs.Cutting.{exchange_values, exchange_shows, agrees_exchange, exchange_told}
+use Rattle.chain_arena.proofs.BreakAndExchangeLemmas.{exchange_values, exchange_shows, agrees_exchange, exchange_told}
 use Rattle.chain_arena.proofs.impl_chain_arena_trait.ChainArenaChainArenaTrait.exchange_next.Given.{Over}
 use Rattle.chain_arena.proofs.impl_chain_arena_trait.ChainArenaChainArenaTrait.exchange_next.Goals.{After-link_twice}
 use Rattle.chain_arena.proofs.impl_chain_arena_trait.ChainArenaChainArenaTrait.exchange_next.Goals as goal

@@ -6,8 +6,8 @@ use Rattle.chain_laws.specs.Chains.{HasLink}
 use Rattle.arena_base.specs.Arena.{entry_at}
 use Rattle.chain_links.specs.Links.{seen_links}
 use Rattle.chain_links.specs.ChainArena.{ptr_at, shown, values_of}
-use Rattle.chain_linking.proofs.Connecting.{link_at_ptr, next_of-seen, prev_of-seen, same_valid}
-use Rattle.chain_linking.proofs.NamedLinks.{next_named, prev_named}
+use Rattle.chain_linking.proofs.ConnectionLemmas.{link_at_ptr, next_of-seen, prev_of-seen, same_valid}
+use Rattle.chain_linking.proofs.NeighborLemmas.{next_named, prev_named}
 use Rattle.chain_arena.proofs.impl_chain_arena_trait.ChainArenaChainArenaTrait.get_link.Goals as goal
 
 pub neighbor-prev-requires : goal.neighbor-prev-requires

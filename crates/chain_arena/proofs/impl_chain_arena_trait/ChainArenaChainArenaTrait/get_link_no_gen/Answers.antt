@@ -7,9 +7,9 @@ use Rattle.arena_base.specs.Arena.{Arena, entry_at}
 use Rattle.chain_links.specs.declared.links.LinkBody.{LinkBody}
 use Rattle.chain_links.specs.Links.{seen_link, seen_links}
 use Rattle.chain_links.specs.ChainArena.{on_value, shown, entry, link_at}
-use Rattle.chain_links.proofs.Mapping.{entry_at-with_each}
-use Rattle.chain_linking.proofs.Connecting.{same_valid}
-use Rattle.chain_arena.proofs.Draining.{link_at-entry}
+use Rattle.chain_links.proofs.MappedArenaLemmas.{entry_at-with_each}
+use Rattle.chain_linking.proofs.ConnectionLemmas.{same_valid}
+use Rattle.chain_arena.proofs.ChainDrainLemmas.{link_at-entry}
 use Rattle.chain_arena.proofs.impl_chain_arena_trait.ChainArenaChainArenaTrait.get_link_no_gen.Goals as goal
 
 -- what is lent of the arena below is the link

@@ -1,5 +1,5 @@
 -- An insertion of a kind whose links are as it asks answers as its growth does.
-use Rattle.chain_arena.proofs.Outcomes.{growth-if_ok, growth-on_ok, growth-on_err, growth-is_ok, growth-is_err, growth-beyond}
+use Rattle.chain_arena.proofs.GrowthResultLemmas.{growth-if_ok, growth-on_ok, growth-on_err, growth-is_ok, growth-is_err, growth-beyond}
 use Rattle.chain_arena.proofs.impl_chain_arena_trait.ChainArenaChainArenaTrait.insert.Goals as goal
 
 pub returns : goal.returns

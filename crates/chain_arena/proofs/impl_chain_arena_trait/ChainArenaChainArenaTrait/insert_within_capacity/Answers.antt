@@ -1,5 +1,5 @@
 -- A link of the kind comes into its gap.
-use Rattle.chain_arena.proofs.Placing.{TellsWithin, tells_within, within_fits, within_room}
+use Rattle.chain_arena.proofs.NewLinkLemmas.{TellsWithin, tells_within, within_fits, within_room}
 use Rattle.chain_arena.proofs.impl_chain_arena_trait.ChainArenaChainArenaTrait.insert_within_capacity.Given.{Over}
 use Rattle.chain_arena.proofs.impl_chain_arena_trait.ChainArenaChainArenaTrait.insert_within_capacity.Goals.{After-insert_at}
 use Rattle.chain_arena.proofs.impl_chain_arena_trait.ChainArenaChainArenaTrait.insert_within_capacity.Goals as goal

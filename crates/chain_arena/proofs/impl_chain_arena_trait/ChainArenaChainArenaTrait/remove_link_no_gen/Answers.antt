@@ -7,8 +7,8 @@ use Rattle.arena_ptr.specs.Invalidation.{value_within}
 use Rattle.arena_base.specs.Arena.{IsValid}
 use Rattle.chain_links.specs.ChainArena.{entry}
 use Rattle.chain_links.specs.Links.{seen_link}
-use Rattle.chain_links.proofs.Mapping.{is_some-map}
-use Rattle.chain_arena.proofs.Taking.{link_alone_told, removal_at, same_overflow, seen_at, taken_at}
+use Rattle.chain_links.proofs.MappedArenaLemmas.{is_some-map}
+use Rattle.chain_arena.proofs.LinkRemovalLemmas.{link_alone_told, removal_at, same_overflow, seen_at, taken_at}
 use Rattle.chain_arena.proofs.impl_chain_arena_trait.ChainArenaChainArenaTrait.remove_link_no_gen.Goals as goal
 
 pub returns-then-contains : goal.returns-then-contains

@@ -1,12 +1,12 @@
 -- The link comes into the gap that was kept for it.
 use Rattle.std.proofs.Common.{refl, ap, ◌∙◌, sym, subst₂}
 use Rattle.chain_laws.specs.Insertions.{IsGap}
-use Rattle.chain_laws.proofs.Gaps.{gap_had}
+use Rattle.chain_laws.proofs.InsertionLemmas.Positions.{gap_had}
 use Rattle.arena_base.specs.Arena.{next_index, with_capacity_of}
 use Rattle.chain_links.specs.ChainArena.{shown, insert_between}
 use Rattle.chain_links.specs.Insertions.{index_from}
-use Rattle.chain_arena.proofs.Placing.{inserted_between}
-use Rattle.chain_arena.proofs.Telling.{told_between}
+use Rattle.chain_arena.proofs.NewLinkLemmas.{inserted_between}
+use Rattle.chain_arena.proofs.InsertionEffectLemmas.{told_between}
 use Rattle.chain_arena.proofs.insert_entry.ChainArenaInsertEntry.insert.Goals as goal
 
 pub insert_in_gap-requires-clause-gap : goal.insert_in_gap-requires-clause-gap

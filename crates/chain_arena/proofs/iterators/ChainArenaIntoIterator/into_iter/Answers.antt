@@ -1,7 +1,7 @@
 -- All links, seen.
 use Rattle.std.proofs.Common.{ap, ◌∙◌, arith, length}
 use Rattle.chain_links.specs.Links.{seen_entries}
-use Rattle.chain_compaction.proofs.Valuing.{seen_entries-all}
+use Rattle.chain_compaction.proofs.ValueViewLemmas.{seen_entries-all}
 use Rattle.chain_arena.proofs.iterators.ChainArenaIntoIterator.into_iter.Goals as goal
 
 pub returns : goal.returns

@@ -2,8 +2,8 @@
 use Rattle.std.proofs.Common.{refl}
 use Rattle.chain_laws.specs.Chains.{linear}
 use Rattle.chain_laws.specs.Insertions.{disconnected}
-use Rattle.chain_traits.proofs.Outcomes.{if_ok}
-use Rattle.chain_examples.proofs.Changes.{keeps_others}
+use Rattle.chain_traits.proofs.OutcomeLemmas.{if_ok}
+use Rattle.chain_examples.proofs.ListChangeLemmas.{keeps_others}
 use Rattle.chain_examples.proofs.documents.Documents.begin.Goals as goal
 
 pub returns-clause-others : goal.returns-clause-others

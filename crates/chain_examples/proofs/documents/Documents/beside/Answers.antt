@@ -1,7 +1,7 @@
 -- What the link of a paragraph names are those beside it in its text.
 use Rattle.std.proofs.Common.{◌∙◌, ap}
 use Rattle.std.specs.Option.{option_map}
-use Rattle.chain_examples.proofs.Texts.{comes_from, goes_on, with_prev, with_next}
+use Rattle.chain_examples.proofs.DocumentLemmas.{comes_from, goes_on, with_prev, with_next}
 use Rattle.chain_examples.proofs.documents.Documents.beside.Goals as goal
 
 pub returns-in-Some-clause-between : goal.returns-in-Some-clause-between

@@ -2,7 +2,7 @@
 use Rattle.std.proofs.Common.{refl, subst, sym}
 use Rattle.std.specs.Option.{option_map}
 use Rattle.chain_examples.specs.Texts.{IsClosed}
-use Rattle.chain_examples.proofs.Moving.{closes_both, closes_left, closes_right}
+use Rattle.chain_examples.proofs.ItemMoveLemmas.{closes_both, closes_left, closes_right}
 use Rattle.chain_examples.proofs.documents.Documents.close.Goals as goal
 
 pub returns-in_err-p-clause-texts : goal.returns-in_err-p-clause-texts

@@ -1,6 +1,6 @@
 -- The value of the paragraph is written, and it stays in its place.
 use Rattle.std.proofs.Common.{refl, ◌∙◌}
-use Rattle.chain_examples.proofs.Writing.{has_new_value}
+use Rattle.chain_examples.proofs.ValueWriteLemmas.{has_new_value}
 use Rattle.chain_examples.proofs.documents.Documents.get_mut.Goals as goal
 
 pub returns-in-Some : goal.returns-in-Some

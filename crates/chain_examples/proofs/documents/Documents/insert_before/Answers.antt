@@ -2,9 +2,9 @@
 use Rattle.std.proofs.Common.{refl, ap}
 use Rattle.chain_laws.specs.Chains.{linear}
 use Rattle.chain_laws.specs.Insertions.{prev_to}
-use Rattle.chain_traits.proofs.AnyArena.{valid_link}
-use Rattle.chain_traits.proofs.Outcomes.{if_ok, either_ok}
-use Rattle.chain_examples.proofs.Changes.{comes_before, keeps_others}
+use Rattle.chain_traits.proofs.GenericArenaLemmas.{valid_link}
+use Rattle.chain_traits.proofs.OutcomeLemmas.{if_ok, either_ok}
+use Rattle.chain_examples.proofs.ListChangeLemmas.{comes_before, keeps_others}
 use Rattle.chain_examples.proofs.documents.Documents.insert_before.Goals as goal
 
 pub returns : goal.returns

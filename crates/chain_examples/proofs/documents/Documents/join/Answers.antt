@@ -1,8 +1,8 @@
 -- The end of one text and the start of another are tied.
 use Rattle.std.proofs.Common.{ap, ◌∙◌}
-use Rattle.chain_traits.proofs.Removing.{same_entry}
-use Rattle.chain_traits.proofs.Outcomes.{on_some, either_some}
-use Rattle.chain_examples.proofs.Texts.{joins, keeps_joined}
+use Rattle.chain_traits.proofs.GenericRemovalLemmas.{same_entry}
+use Rattle.chain_traits.proofs.OutcomeLemmas.{on_some, either_some}
+use Rattle.chain_examples.proofs.DocumentLemmas.{joins, keeps_joined}
 use Rattle.chain_examples.proofs.documents.Documents.join.Goals as goal
 
 pub returns : goal.returns

@@ -1,7 +1,7 @@
 -- The paragraph is set apart, and put after the other.
 use Rattle.std.proofs.Common.{ap, ◌∙◌}
-use Rattle.chain_traits.proofs.Removing.{same_entry}
-use Rattle.chain_examples.proofs.Moving.{moved_after, keeps_moved}
+use Rattle.chain_traits.proofs.GenericRemovalLemmas.{same_entry}
+use Rattle.chain_examples.proofs.ItemMoveLemmas.{moved_after, keeps_moved}
 use Rattle.chain_examples.proofs.documents.Documents.move_after.Goals as goal
 
 pub returns-clause-texts : goal.returns-clause-texts

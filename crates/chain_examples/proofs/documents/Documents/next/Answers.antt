@@ -1,8 +1,8 @@
 -- The link after a paragraph is that of the next one in its text.
 use Rattle.std.proofs.Common.{◌∙◌, ap}
 use Rattle.std.specs.Option.{option_map}
-use Rattle.chain_traits.proofs.Outcomes.{if_mapped}
-use Rattle.chain_examples.proofs.Texts.{goes_on, in_a_text, with_next}
+use Rattle.chain_traits.proofs.OutcomeLemmas.{if_mapped}
+use Rattle.chain_examples.proofs.DocumentLemmas.{goes_on, in_a_text, with_next}
 use Rattle.chain_examples.proofs.documents.Documents.next.Goals as goal
 
 pub returns-in-Some-clause-next : goal.returns-in-Some-clause-next

@@ -2,9 +2,9 @@
 use Rattle.std.proofs.Common.{ap, ◌∙◌}
 use Rattle.chain_laws.specs.Chains.{next_of}
 use Rattle.chain_laws.specs.Cuts.{Cuts}
-use Rattle.chain_traits.proofs.Removing.{same_entry}
-use Rattle.chain_traits.proofs.Outcomes.{on_some, either_some}
-use Rattle.chain_examples.proofs.Texts.{Breaks, breaks, ends_in, keeps_ended}
+use Rattle.chain_traits.proofs.GenericRemovalLemmas.{same_entry}
+use Rattle.chain_traits.proofs.OutcomeLemmas.{on_some, either_some}
+use Rattle.chain_examples.proofs.DocumentLemmas.{Breaks, breaks, ends_in, keeps_ended}
 use Rattle.chain_examples.proofs.documents.Documents.part_after.Given.{Over}
 use Rattle.chain_examples.proofs.documents.Documents.part_after.Goals.{After-break_next}
 use Rattle.chain_examples.proofs.documents.Documents.part_after.Goals as goal

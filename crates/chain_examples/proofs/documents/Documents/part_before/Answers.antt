@@ -2,9 +2,9 @@
 use Rattle.std.proofs.Common.{ap, ◌∙◌}
 use Rattle.chain_laws.specs.Chains.{prev_of}
 use Rattle.chain_laws.specs.Cuts.{Cuts}
-use Rattle.chain_traits.proofs.Removing.{same_entry}
-use Rattle.chain_traits.proofs.Outcomes.{on_some, either_some}
-use Rattle.chain_examples.proofs.Texts.{Breaks, breaks, begins_with, keeps_begun}
+use Rattle.chain_traits.proofs.GenericRemovalLemmas.{same_entry}
+use Rattle.chain_traits.proofs.OutcomeLemmas.{on_some, either_some}
+use Rattle.chain_examples.proofs.DocumentLemmas.{Breaks, breaks, begins_with, keeps_begun}
 use Rattle.chain_examples.proofs.documents.Documents.part_before.Given.{Over}
 use Rattle.chain_examples.proofs.documents.Documents.part_before.Goals.{After-break_prev}
 use Rattle.chain_examples.proofs.documents.Documents.part_before.Goals as goal

@@ -1,8 +1,8 @@
 -- The link before a paragraph is that of the previous one in its text.
 use Rattle.std.proofs.Common.{◌∙◌, ap}
 use Rattle.std.specs.Option.{option_map}
-use Rattle.chain_traits.proofs.Outcomes.{if_mapped}
-use Rattle.chain_examples.proofs.Texts.{comes_from, in_a_text, with_prev}
+use Rattle.chain_traits.proofs.OutcomeLemmas.{if_mapped}
+use Rattle.chain_examples.proofs.DocumentLemmas.{comes_from, in_a_text, with_prev}
 use Rattle.chain_examples.proofs.documents.Documents.prev.Goals as goal
 
 pub returns-in-Some-clause-prev : goal.returns-in-Some-clause-prev

@@ -1,6 +1,6 @@
 -- What came after the other paragraph is cut off, and both ends are joined to this one.
-use Rattle.chain_traits.proofs.Outcomes.{from_mapped}
-use Rattle.chain_examples.proofs.Moving.{put_after, keeps_put}
+use Rattle.chain_traits.proofs.OutcomeLemmas.{from_mapped}
+use Rattle.chain_examples.proofs.ItemMoveLemmas.{put_after, keeps_put}
 use Rattle.chain_examples.proofs.documents.Documents.put_after.Goals as goal
 
 pub returns-clause-texts : goal.returns-clause-texts

@@ -1,8 +1,8 @@
 -- The removed link leaves its text.
 use Rattle.std.proofs.Common.{refl, sym, subst}
 use Rattle.chain_laws.specs.Chains.{linear}
-use Rattle.chain_traits.proofs.Removing.{TakesEntry, removal, value_told, gone_of, less_of, same_of, kept_of}
-use Rattle.chain_examples.proofs.Removing.{leaves_of, keeps_of, where_some}
+use Rattle.chain_traits.proofs.GenericRemovalLemmas.{TakesEntry, removal, value_told, gone_of, less_of, same_of, kept_of}
+use Rattle.chain_examples.proofs.ItemRemovalLemmas.{leaves_of, keeps_of, where_some}
 use Rattle.chain_examples.proofs.documents.Documents.remove.Given.{Over}
 use Rattle.chain_examples.proofs.documents.Documents.remove.Goals.{After-allow}
 use Rattle.chain_examples.proofs.documents.Documents.remove.Goals as goal

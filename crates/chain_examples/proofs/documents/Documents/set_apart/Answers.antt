@@ -1,6 +1,6 @@
 -- What came before the paragraph and what came after it are cut off, and joined.
-use Rattle.chain_examples.proofs.Moving.{stands_alone, keeps_alone}
-use Rattle.chain_examples.proofs.Texts.{in_a_text}
+use Rattle.chain_examples.proofs.ItemMoveLemmas.{stands_alone, keeps_alone}
+use Rattle.chain_examples.proofs.DocumentLemmas.{in_a_text}
 use Rattle.chain_examples.proofs.documents.Documents.set_apart.Goals as goal
 
 pub returns-clause-texts : goal.returns-clause-texts

@@ -1,5 +1,5 @@
 -- Each link of the arena has one after it, so it stands in a ring.
-use Rattle.chain_examples.proofs.Rings.{all_in_rings}
+use Rattle.chain_examples.proofs.RingLemmas.{all_in_rings}
 use Rattle.chain_examples.proofs.mesh.Mesh.all_in_polygons.Goals as goal
 
 pub returns : goal.returns

@@ -2,10 +2,10 @@
 use Rattle.std.proofs.Common.{◌≡◌, ap, ◌∙◌}
 use Rattle.std.specs.Prelude.{◌↔◌, IsSome}
 use Rattle.arena_base.specs.Arena.{IsValid}
-use Rattle.chain_traits.proofs.AnyArena.{some_valid}
-use Rattle.chain_traits.proofs.Removing.{same_entry}
-use Rattle.chain_traits.proofs.Outcomes.{either_some}
-use Rattle.chain_examples.proofs.Rings.{can_exchange, cuts_in_two, merges, keeps_exchanged, exchanged_itself}
+use Rattle.chain_traits.proofs.GenericArenaLemmas.{some_valid}
+use Rattle.chain_traits.proofs.GenericRemovalLemmas.{same_entry}
+use Rattle.chain_traits.proofs.OutcomeLemmas.{either_some}
+use Rattle.chain_examples.proofs.RingLemmas.{can_exchange, cuts_in_two, merges, keeps_exchanged, exchanged_itself}
 use Rattle.chain_examples.proofs.mesh.Mesh.exchange.Given.{Over}
 use Rattle.chain_examples.proofs.mesh.Mesh.exchange.Goals.{After-exchange_next}
 use Rattle.chain_examples.proofs.mesh.Mesh.exchange.Goals as goal

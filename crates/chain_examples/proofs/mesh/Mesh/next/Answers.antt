@@ -1,7 +1,7 @@
 -- The link after a corner is that of the next one in its ring.
 use Rattle.std.proofs.Common.{◌∙◌, ap}
 use Rattle.std.specs.Option.{option_map}
-use Rattle.chain_examples.proofs.Rings.{ring_goes_on, in_a_ring}
+use Rattle.chain_examples.proofs.RingLemmas.{ring_goes_on, in_a_ring}
 use Rattle.chain_examples.proofs.mesh.Mesh.next.Goals as goal
 
 pub returns-in-Some-clause-next : goal.returns-in-Some-clause-next

@@ -2,8 +2,8 @@
 use Rattle.std.proofs.Common.{◌≡◌, Option, None, Some, refl, sym, subst}
 use Rattle.std.specs.Prelude.{is_some, true, OnSome}
 use Rattle.chain_laws.specs.Chains.{cyclic}
-use Rattle.chain_traits.proofs.Removing.{TakesEntry, removal, value_told, gone_of, less_of, same_of, kept_of}
-use Rattle.chain_examples.proofs.Removing.{leaves_of, keeps_of, round_of}
+use Rattle.chain_traits.proofs.GenericRemovalLemmas.{TakesEntry, removal, value_told, gone_of, less_of, same_of, kept_of}
+use Rattle.chain_examples.proofs.ItemRemovalLemmas.{leaves_of, keeps_of, round_of}
 use Rattle.chain_examples.proofs.mesh.Mesh.remove.Given.{Over}
 use Rattle.chain_examples.proofs.mesh.Mesh.remove.Goals.{After-allow}
 use Rattle.chain_examples.proofs.mesh.Mesh.remove.Goals as goal

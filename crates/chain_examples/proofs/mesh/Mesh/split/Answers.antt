@@ -1,8 +1,8 @@
 -- Where there is room for two more the same stands, and is linked.
 use Rattle.std.proofs.Common.{◌≡◌, List, ap}
-use Rattle.chain_traits.proofs.Removing.{same_entry}
+use Rattle.chain_traits.proofs.GenericRemovalLemmas.{same_entry}
 use Rattle.chain_examples.specs.Lists.{Item, IsRing}
-use Rattle.chain_examples.proofs.Rings.{ring_seen}
+use Rattle.chain_examples.proofs.RingLemmas.{ring_seen}
 use Rattle.chain_examples.proofs.mesh.Mesh.split.Given.{Over}
 use Rattle.chain_examples.proofs.mesh.Mesh.split.Goals.{After-split_in_room}
 use Rattle.chain_examples.proofs.mesh.Mesh.split.Goals as goal

@@ -2,8 +2,8 @@
 use Rattle.std.proofs.Common.{◌+◌, ◌∙◌, ap, sym, subst, ◌∷◌, [], arith}
 use Rattle.arena_base.specs.Entries.{count}
 use Rattle.chain_examples.specs.Rings.{AreCopied}
-use Rattle.chain_examples.proofs.Lists.{stand_kept}
-use Rattle.chain_examples.proofs.Rings.{splits, bridges, copies_come, keeps_split}
+use Rattle.chain_examples.proofs.ItemListLemmas.{stand_kept}
+use Rattle.chain_examples.proofs.RingLemmas.{splits, bridges, copies_come, keeps_split}
 use Rattle.chain_examples.proofs.mesh.Mesh.split_in_room.Goals as goal
 
 pub add_before-first-requires-clause-valid : goal.add_before-first-requires-clause-valid

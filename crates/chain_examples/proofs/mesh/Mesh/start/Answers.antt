@@ -3,9 +3,9 @@ use Rattle.std.proofs.Common.{refl, sym, ap, subst}
 use Rattle.chain_laws.specs.Chains.{cyclic}
 use Rattle.chain_laws.specs.Insertions.{single_link_cyclic}
 use Rattle.chain_examples.specs.Rings.{GoesRound}
-use Rattle.chain_traits.proofs.Outcomes.{if_ok, either_ok}
-use Rattle.chain_examples.proofs.Changes.{keeps_others}
-use Rattle.chain_examples.proofs.Rounds.{round_inserted}
+use Rattle.chain_traits.proofs.OutcomeLemmas.{if_ok, either_ok}
+use Rattle.chain_examples.proofs.ListChangeLemmas.{keeps_others}
+use Rattle.chain_examples.proofs.MeshInvariantLemmas.{round_inserted}
 use Rattle.chain_examples.proofs.mesh.Mesh.start.Goals as goal
 
 pub invariant_of-self : goal.invariant_of-self

@@ -3,10 +3,10 @@ use Rattle.std.proofs.Common.{◌≡◌, ◌∙◌, ap, subst, sym, List, Option
 use Rattle.std.specs.Option.{option_map}
 use Rattle.std.specs.Prelude.{is_some, true}
 use Rattle.chain_examples.specs.Lists.{Item, IsTurn}
-use Rattle.chain_examples.specs.Turns.{Queue, IsAmong, IsCancelled}
-use Rattle.chain_traits.proofs.Outcomes.{on_none}
-use Rattle.chain_traits.proofs.Removing.{TakesEntry, removal}
-use Rattle.chain_examples.proofs.Turns.{IsLeft, no_task, task_goes, queue_in, turn_in}
+use Rattle.chain_examples.specs.QueueOrder.{Queue, IsAmong, IsCancelled}
+use Rattle.chain_traits.proofs.OutcomeLemmas.{on_none}
+use Rattle.chain_traits.proofs.GenericRemovalLemmas.{TakesEntry, removal}
+use Rattle.chain_examples.proofs.QueueOrderLemmas.{IsLeft, no_task, task_goes, queue_in, turn_in}
 use Rattle.chain_examples.proofs.queue.RunQueue.cancel.Goals.{After-allow, After-from_residual-in_err-task, After-self-1}
 use Rattle.chain_examples.proofs.queue.RunQueue.cancel.Given.{Over}
 use Rattle.chain_examples.proofs.queue.RunQueue.cancel.Goals as goal

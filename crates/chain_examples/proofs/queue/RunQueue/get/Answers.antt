@@ -1,6 +1,6 @@
 -- A valid pointer is that of a task, which stands at its index.
 use Rattle.std.specs.Option.{option_map}
-use Rattle.chain_examples.proofs.Tasks.{valid_if_among, among_if_valid, task_shown}
+use Rattle.chain_examples.proofs.TaskLemmas.{valid_if_among, among_if_valid, task_shown}
 use Rattle.chain_examples.proofs.queue.RunQueue.get.Goals as goal
 
 pub returns : goal.returns

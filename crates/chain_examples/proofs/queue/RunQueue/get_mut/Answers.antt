@@ -1,9 +1,9 @@
 -- The value of the task is written, and the turn has it in the place of the old one.
 use Rattle.std.proofs.Common.{refl, ◌∙◌, ap}
 use Rattle.std.specs.Option.{option_map}
-use Rattle.chain_examples.specs.Turns.{with_task}
-use Rattle.chain_examples.proofs.Tasks.{task_written, valid_if_among, among_if_valid, task_found}
-use Rattle.chain_examples.proofs.Turns.{queue_in}
+use Rattle.chain_examples.specs.QueueOrder.{with_task}
+use Rattle.chain_examples.proofs.TaskLemmas.{task_written, valid_if_among, among_if_valid, task_found}
+use Rattle.chain_examples.proofs.QueueOrderLemmas.{queue_in}
 use Rattle.chain_examples.proofs.queue.RunQueue.get_mut.Goals.{After-get_mut}
 use Rattle.chain_examples.proofs.queue.RunQueue.get_mut.Goals as goal
 

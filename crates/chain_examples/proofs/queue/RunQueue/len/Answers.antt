@@ -1,8 +1,8 @@
 -- All that the arena holds stands in turn, once.
 use Rattle.std.proofs.Common.{◌≤◌, ◌∙◌, ap, length, subst}
 use Rattle.std.specs.Option.{option_map}
-use Rattle.chain_examples.specs.Turns.{Queue}
-use Rattle.chain_examples.proofs.Turns.{turn_length}
+use Rattle.chain_examples.specs.QueueOrder.{Queue}
+use Rattle.chain_examples.proofs.QueueOrderLemmas.{turn_length}
 use Rattle.chain_examples.proofs.queue.RunQueue.len.Goals as goal
 
 pub returns : goal.returns

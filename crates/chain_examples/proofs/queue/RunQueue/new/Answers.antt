@@ -1,6 +1,6 @@
 -- An arena without entries is a queue without tasks.
 use Rattle.std.proofs.Common.{[], None}
-use Rattle.chain_examples.proofs.Turns.{IsSettled, settle, begins}
+use Rattle.chain_examples.proofs.QueueOrderLemmas.{IsSettled, settle, begins}
 use Rattle.chain_examples.proofs.queue.RunQueue.new.Given.{Over}
 use Rattle.chain_examples.proofs.queue.RunQueue.new.Goals.{After-new}
 use Rattle.chain_examples.proofs.queue.RunQueue.new.Goals as goal

@@ -1,8 +1,8 @@
 -- The second in turn is current.
 use Rattle.std.proofs.Common.{◌∙◌, ap}
 use Rattle.std.specs.Option.{option_map}
-use Rattle.chain_examples.specs.Turns.{Queue, turned_once}
-use Rattle.chain_examples.proofs.Turns.{goes_on_in}
+use Rattle.chain_examples.specs.QueueOrder.{Queue, turned_once}
+use Rattle.chain_examples.proofs.QueueOrderLemmas.{goes_on_in}
 use Rattle.chain_examples.proofs.queue.RunQueue.next.Goals as goal
 
 pub invariant_of-self : goal.invariant_of-self

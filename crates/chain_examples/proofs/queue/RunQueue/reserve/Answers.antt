@@ -1,8 +1,8 @@
 -- There are as many tasks as entries, so the arena grows for as many as the queue does.
 use Rattle.std.proofs.Common.{◌∙◌, ap}
 use Rattle.std.specs.Option.{option_map}
-use Rattle.chain_examples.proofs.Tasks.{HasSize, has_size}
-use Rattle.chain_examples.proofs.Turns.{queue_in}
+use Rattle.chain_examples.proofs.TaskLemmas.{HasSize, has_size}
+use Rattle.chain_examples.proofs.QueueOrderLemmas.{queue_in}
 use Rattle.chain_examples.proofs.queue.RunQueue.reserve.Given.{Over}
 use Rattle.chain_examples.proofs.queue.RunQueue.reserve.Goals.{After-reserve}
 use Rattle.chain_examples.proofs.queue.RunQueue.reserve.Goals as goal

@@ -1,10 +1,10 @@
 -- The task comes last, and what is found in the arena is that turn.
 use Rattle.std.proofs.Common.{◌∙◌, ap}
 use Rattle.std.specs.Option.{option_map}
-use Rattle.chain_examples.specs.Turns.{Queue}
-use Rattle.chain_traits.proofs.Outcomes.{if_ok}
-use Rattle.chain_examples.proofs.Tasks.{HasSize, has_size, free_index}
-use Rattle.chain_examples.proofs.Turns.{IsTaskAdded, task_added, has_room, valid_current}
+use Rattle.chain_examples.specs.QueueOrder.{Queue}
+use Rattle.chain_traits.proofs.OutcomeLemmas.{if_ok}
+use Rattle.chain_examples.proofs.TaskLemmas.{HasSize, has_size, free_index}
+use Rattle.chain_examples.proofs.QueueOrderLemmas.{IsTaskAdded, task_added, has_room, valid_current}
 use Rattle.chain_examples.proofs.queue.RunQueue.spawn.Given.{Over}
 use Rattle.chain_examples.proofs.queue.RunQueue.spawn.Goals.{After-or-self-inside}
 use Rattle.chain_examples.proofs.queue.RunQueue.spawn.Goals as goal

@@ -2,8 +2,8 @@
 use Rattle.std.proofs.Common.{◌≡◌, ℕ, List, ◌∷◌, Option, None, Some}
 use Rattle.std.specs.Prelude.{IfSome}
 use Rattle.chain_examples.specs.Lists.{Item}
-use Rattle.chain_examples.specs.Turns.{IsCancelled}
-use Rattle.chain_examples.proofs.Turns.{first_cancelled}
+use Rattle.chain_examples.specs.QueueOrder.{IsCancelled}
+use Rattle.chain_examples.proofs.QueueOrderLemmas.{first_cancelled}
 use Rattle.chain_examples.proofs.queue.RunQueue.take_current.Goals as goal
 
 taken : {Gen T : Type 0} (p : ℕ × Gen) (o : Option T) (old new : List (Item Gen T)) → ((task : T) → IsCancelled p task old new → old ≡ (p, task) ∷ new) → IfSome o (λ task. IsCancelled p task old new)

@@ -1,5 +1,5 @@
 use Rattle.std.proofs.Common.{rules}
-use Rattle.chain_tests.proofs.Places.{place_used}
+use Rattle.chain_tests.proofs.EntryInsertionLemmas.{place_used}
 use Rattle.chain_tests.proofs.tests.entries.insert_by_entry.Goals as goal
 
 pub returns-clause-state : goal.returns-clause-state

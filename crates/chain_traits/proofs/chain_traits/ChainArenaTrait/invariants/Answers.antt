@@ -1,6 +1,6 @@
 -- The interlinks agree, and each link's index is one of the index type.
-use Rattle.chain_laws.proofs.Partitions.{one_set}
-use Rattle.chain_traits.proofs.AnyArena.{links_within}
+use Rattle.chain_laws.proofs.ChainLemmas.Partitions.{one_set}
+use Rattle.chain_traits.proofs.GenericArenaLemmas.{links_within}
 use Rattle.chain_traits.proofs.chain_traits.ChainArenaTrait.invariants.Goals as goal
 
 pub returns-clause-one : goal.returns-clause-one

@@ -1,0 +1,131 @@
+-- What an arena is once its entries are brought together.
+use Rattle.std.proofs.Common.{◌≡◌, ℕ, zero, suc, ◌+◌, ◌≤◌, List, [], ◌∷◌, map, length, Bool, Option, None, Some, refl, ap, sym, ◌∙◌, subst, arith}
+use Rattle.std.specs.Prelude.{min, replicate, All}
+use Rattle.std.specs.List.{range_with_len}
+use Rattle.std.specs.Fn.{Mut}
+use Rattle.std.proofs.lemmas.List.Elements.{All-nil, All-cons}
+use denote.Ref.{MutBor}
+use Rattle.arena_base.specs.Arena.{Arena, with_counter}
+use Rattle.arena_base.specs.Entries.{entries_from, entries, index_of, seen_of}
+use Rattle.arena_base.specs.DetachedSlots.{Held, before_cut, trimmed, free_from, held_of, lent_out, returned}
+use Rattle.arena_base.specs.Compressions.{IsCompressed, VisitsAll, counter_after_compression}
+use Rattle.arena_base.specs.GatheredSlots.{fronted, AreClosed, IsGathered, with_totals, gathered}
+use Rattle.arena_base.proofs.HoleClosingLemmas.{entries-closed, length-fronted}
+use Rattle.arena_base.proofs.TrimLemmas.{free_from-total}
+use Rattle.arena_base.proofs.ArenaViewLemmas.{length-entries}
+use Rattle.arena_base.proofs.ClosureLemmas.{visits_keep_count}
+
+module _ {Gen T : Type 0} (g : Gen) where
+  -- what is cut off closed slots is what is free
+  trimmed-closed : (values : List T) (n : ℕ) → trimmed (fronted g values (replicate n None)) ≡ fronted g values []
+  trimmed-closed [] zero = refl
+  trimmed-closed [] (suc n) = ap (before_cut None) (trimmed-closed [] n)
+  trimmed-closed (v ∷ values) n = ap (λ (es : List (Option (Gen × T))). Some (g, v) ∷ es) (trimmed-closed values n)
+
+  -- what closed slots show: their number, no free ones, and each entry with its index and generation
+  pub length-slots : (values : List T) → length (fronted g values []) ≡ length values
+  length-slots [] = refl
+  length-slots (v ∷ values) = ap suc (length-slots values)
+
+  none_free : (values : List T) (i : ℕ) → free_from i (fronted g values []) ≡ []
+  none_free [] i = refl
+  none_free (v ∷ values) i = none_free values (suc i)
+
+  pub indexes-fronted : (values : List T) (i : ℕ) → map index_of (entries_from i (fronted g values [])) ≡ range_with_len i (length values)
+  indexes-fronted [] i = refl
+  indexes-fronted (v ∷ values) i = ap (λ ns. i ∷ ns) (indexes-fronted values (suc i) ∙ ap (λ n. range_with_len n (length values)) (next i))
+    where
+      next : (n : ℕ) → suc n ≡ n + 1
+      next n = omega arith
+
+  pub generations-fronted : (values : List T) (i : ℕ) → All (λ (e : (ℕ × Gen) × T). e.0.1 ≡ g) (entries_from i (fronted g values []))
+  generations-fronted [] i = All-nil _
+  generations-fronted (v ∷ values) i = All-cons (λ (e : (ℕ × Gen) × T). e.0.1 ≡ g) ((i, g), v) (entries_from (suc i) (fronted g values [])) refl (generations-fronted values (suc i))
+
+module _ {F P T Gen : Type 0} (g : Mut F (P × (MutBor T × (P × Unit {0}))) (Unit {0} × (MutBor T × Unit {0}))) (key : P → ℕ × Gen) (f : F) where
+  -- an arena whose slots went out, were closed, and came back
+  pub gathers : (greatest : ℕ) (maximum : Option ℕ) (generation : Gen) (old start finish new : Arena Gen T) (before after : Held Gen T) → start ≡ lent_out maximum old → before ≡ held_of old → old.capacity ≡ min old.stack_capacity greatest
+      → generation ≡ old.counter → AreClosed generation before after → VisitsAll g key f (entries_from 1 before.slots) (entries_from 1 after.slots)
+      → finish ≡ with_totals start (length (entries_from 1 before.slots)) (length before.slots + length (entries_from 1 before.slots)) → new ≡ returned greatest finish after
+      → IsGathered g key f old new
+  gathers greatest maximum generation old start finish new before after is_start is_before room counter closed visits totals is_new =
+      record { values = values; arena = whole; visits = seen }
+    where
+      values : List T
+      values = closed.values
+
+      closed_slots : List (Option (Gen × T))
+      closed_slots = fronted old.counter values (replicate closed.free None)
+
+      is_after : after ≡ record (held_of old) { slots = closed_slots }
+      is_after = closed.held ∙ (λ i. let r : Held Gen T = record (is_before i) { slots = fronted (counter i) values (replicate closed.free None) } in r)
+
+      counted : length (entries_from 1 before.slots) ≡ length values
+      counted =
+          sym (visits_keep_count g key visits) ∙ (ap (λ (h : Held Gen T). length (entries_from 1 h.slots)) is_after
+          ∙ (ap length (entries-closed old.counter values closed.free 1) ∙ length-fronted old.counter values 1))
+
+      whole : new ≡ gathered old values
+      whole =
+          is_new ∙ (ap (λ (h : Held Gen T). returned greatest finish h) is_after
+          ∙ (ap (λ (a : Arena Gen T). returned greatest a (record (held_of old) { slots = closed_slots })) (totals ∙ ap (λ (a : Arena Gen T). with_totals a (length (entries_from 1 before.slots)) (length before.slots + length (entries_from 1 before.slots))) is_start)
+          ∙ (λ i. record old {
+            slots = trimmed-closed old.counter values closed.free i;
+            freed = (ap (free_from 1) (trimmed-closed old.counter values closed.free) ∙ none_free old.counter values 1) i;
+            capacity = sym room i;
+            placed = old.placed + counted i;
+            touched = old.touched + (length (is_before i).slots + counted i);
+          })))
+
+      seen : VisitsAll g key f (entries old) (entries new)
+      seen = subst (λ (p : List ((ℕ × Gen) × T) × List ((ℕ × Gen) × T)). VisitsAll g key f p.0 p.1) (λ i. (ap (λ (h : Held Gen T). entries_from 1 h.slots) is_before i, same i)) visits
+        where
+          same : entries_from 1 after.slots ≡ entries new
+          same = ap (λ (h : Held Gen T). entries_from 1 h.slots) is_after ∙ (entries-closed old.counter values closed.free 1 ∙ sym (ap entries whole))
+
+-- there are at most as many entries as slots
+pub few_entries : {Gen T : Type 0} (a : Arena Gen T) → length (entries a) ≤ length a.slots
+few_entries a = omega (arith, length-entries a, free_from-total a.slots 1)
+
+module _ {F P T Gen : Type 0} (g : Mut F (P × (MutBor T × (P × Unit {0}))) (Unit {0} × (MutBor T × Unit {0}))) (key : P → ℕ × Gen) (f : F) where
+  -- the entries of an arena whose counter was set come together
+  module _ (counter : Gen) (old mid new : Arena Gen T) (is_mid : mid ≡ with_counter old counter) (gathering : IsGathered g key f mid new) where
+    abbrev values : List T
+    values = gathering.values
+
+    abbrev after : Arena Gen T
+    after = gathered (with_counter old counter) values
+
+    is_new : new ≡ after
+    is_new = gathering.arena ∙ ap (λ (a : Arena Gen T). gathered a values) is_mid
+
+    counted : length values ≡ length (entries old)
+    counted =
+        sym (length-fronted counter values 1) ∙ (ap (λ (a : Arena Gen T). length (entries a)) (sym is_new)
+        ∙ (visits_keep_count g key gathering.visits ∙ ap (λ (a : Arena Gen T). length (entries a)) is_mid))
+
+    -- the closure saw the entries, and left them as they are
+    pub compressing_visits : VisitsAll g key f (entries old) (entries new)
+    compressing_visits = subst (λ es. VisitsAll g key f es (entries new)) (ap (λ (a : Arena Gen T). entries a) is_mid) gathering.visits
+
+    -- and the arena is compressed
+    pub compressing : (first : Gen) (following : Gen → Gen) (reset : Bool) (count : ℕ) → counter ≡ counter_after_compression first following reset count old.counter → count ≡ length (entries old)
+        → IsCompressed first following reset (seen_of old) (seen_of new)
+    compressing first following reset count is_counter is_count =
+        subst (λ (a : Arena Gen T). IsCompressed first following reset (seen_of old) (seen_of a)) (sym is_new) (record {
+          indexes = indexes-fronted counter values 1 ∙ ap (range_with_len 1) counted;
+          counter = ap (λ (h : Gen). Some h) (is_counter ∙ ap (λ n. counter_after_compression first following reset n old.counter) is_count);
+          generation = counter;
+          generations = generations-fronted counter values 1;
+          is_counter = refl;
+          slots = record {
+            count = length-slots counter values ∙ counted;
+            freed = refl;
+            placed = ap (λ n. old.placed + n) counted;
+            touches = length old.slots + length values;
+            few = omega (arith, counted, few_entries old);
+            touched = refl;
+          };
+          capacity = refl;
+          maximum = refl;
+        })

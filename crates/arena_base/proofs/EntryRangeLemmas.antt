@@ -1,0 +1,97 @@
+-- The entries of slots from a position on, and up to one.
+use Rattle.std.proofs.Common.{◌≡◌, ℕ, zero, suc, ◌+◌, ◌-◌, ◌<◌, ◌≤◌, cond, List, [], ◌∷◌, ◌++◌, length, take, drop, Option, None, Some, refl, ap, sym, ◌∙◌, arith}
+use Rattle.std.specs.Prelude.{slice_index_or}
+use Rattle.std.specs.Option.{option_map}
+use Rattle.std.proofs.lemmas.List.{append-nil, reverse-append}
+use Rattle.std.proofs.lemmas.Bool.{le-leb, lt-leb}
+use Rattle.arena_base.specs.Entries.{entries_from, key_at, first_key, last_key}
+use Rattle.arena_base.specs.Advancers.{from_index, up_to_index}
+
+-- the first, or else the second
+abbrev pub first_of : {K : Type 0} → Option K → Option K → Option K
+first_of None rest = rest
+first_of (Some p) rest = Some p
+
+module _ {Gen T : Type 0} where
+  -- the entries of one slot
+  abbrev pub entry_list : ℕ → Option (Gen × T) → List ((ℕ × Gen) × T)
+  entry_list i None = []
+  entry_list i (Some e) = ((i, e.0), e.1) ∷ []
+
+  pub entries_from-take : (slots : List (Option (Gen × T))) (i k n : ℕ) → k < length slots → i + k ≡ n
+      → entries_from i (take (suc k) slots) ≡ entries_from i (take k slots) ++ entry_list n (slice_index_or slots k None)
+  entries_from-take [] i k n below at = absurd (omega (arith, below))
+  entries_from-take (None ∷ slots) i zero n below at = refl
+  entries_from-take (Some e ∷ slots) i zero n below at = let same : i ≡ n = omega (arith, at) in ap (λ m. ((m, e.0), e.1) ∷ []) same
+  entries_from-take (None ∷ slots) i (suc k) n below at = entries_from-take slots (suc i) k n (omega (arith, below)) (omega (arith, at))
+  entries_from-take (Some e ∷ slots) i (suc k) n below at = ap (λ es. ((i, e.0), e.1) ∷ es) (entries_from-take slots (suc i) k n (omega (arith, below)) (omega (arith, at)))
+
+  -- the last key up to a position is that of the slot there, or else the last one before it
+  pub last_key-take : (slots : List (Option (Gen × T))) (k n : ℕ) → k < length slots → 1 + k ≡ n
+      → last_key (entries_from 1 (take (suc k) slots)) ≡ first_of (option_map (key_at n) (slice_index_or slots k None)) (last_key (entries_from 1 (take k slots)))
+  last_key-take slots k n below at = ap last_key (entries_from-take slots 1 k n below at) ∙ last_key-of (entries_from 1 (take k slots)) (slice_index_or slots k None)
+    where
+      last_key-of : (es : List ((ℕ × Gen) × T)) (o : Option (Gen × T)) → last_key (es ++ entry_list n o) ≡ first_of (option_map (key_at n) o) (last_key es)
+      last_key-of es None = ap last_key (append-nil es)
+      last_key-of es (Some e) = ap first_key (reverse-append es (((n, e.0), e.1) ∷ []))
+
+  pub take-all : (slots : List (Option (Gen × T))) (i k : ℕ) → length slots ≤ k → entries_from i (take k slots) ≡ entries_from i slots
+  take-all [] i zero past = refl
+  take-all [] i (suc k) past = refl
+  take-all (s ∷ slots) i zero past = absurd (omega (arith, past))
+  take-all (None ∷ slots) i (suc k) past = take-all slots (suc i) k (omega (arith, past))
+  take-all (Some e ∷ slots) i (suc k) past = ap (λ es. ((i, e.0), e.1) ∷ es) (take-all slots (suc i) k (omega (arith, past)))
+
+  -- all entries of slots stand from the first one's index on
+  from_index-all : (slots : List (Option (Gen × T))) (i j : ℕ) → i ≤ j → from_index i (entries_from j slots) ≡ entries_from j slots
+  from_index-all [] i j below = refl
+  from_index-all (None ∷ slots) i j below = from_index-all slots i (suc j) (omega (arith, below))
+  from_index-all (Some e ∷ slots) i j below =
+      ap (λ b. cond b (((j, e.0), e.1) ∷ entries_from (suc j) slots) (from_index i (entries_from (suc j) slots))) (le-leb i j below)
+
+  pub from_index-drop : (slots : List (Option (Gen × T))) (i j k : ℕ) → j + k ≡ i → from_index i (entries_from j slots) ≡ entries_from i (drop k slots)
+  from_index-drop slots i j zero at = let same : i ≡ j = omega (arith, at) in from_index-all slots i j (omega (arith, at)) ∙ ap (λ n. entries_from n slots) (sym same)
+  from_index-drop [] i j (suc k) at = refl
+  from_index-drop (None ∷ slots) i j (suc k) at = from_index-drop slots i (suc j) k (omega (arith, at))
+  from_index-drop (Some e ∷ slots) i j (suc k) at =
+      ap (λ b. cond b (((j, e.0), e.1) ∷ entries_from (suc j) slots) (from_index i (entries_from (suc j) slots))) (lt-leb i j (omega (arith, at)))
+      ∙ from_index-drop slots i (suc j) k (omega (arith, at))
+
+  -- no entry of slots stands before the first one's index
+  up_to_index-none : (slots : List (Option (Gen × T))) (i j : ℕ) → i < j → up_to_index i (entries_from j slots) ≡ []
+  up_to_index-none [] i j below = refl
+  up_to_index-none (None ∷ slots) i j below = up_to_index-none slots i (suc j) (omega (arith, below))
+  up_to_index-none (Some e ∷ slots) i j below =
+      ap (λ b. cond b (((j, e.0), e.1) ∷ up_to_index i (entries_from (suc j) slots)) []) (lt-leb j i below)
+
+  pub up_to_index-take : (slots : List (Option (Gen × T))) (i j k : ℕ) → j + k ≡ suc i → up_to_index i (entries_from j slots) ≡ entries_from j (take k slots)
+  up_to_index-take slots i j zero at = up_to_index-none slots i j (omega (arith, at))
+  up_to_index-take [] i j (suc k) at = refl
+  up_to_index-take (None ∷ slots) i j (suc k) at = up_to_index-take slots i (suc j) k (omega (arith, at))
+  up_to_index-take (Some e ∷ slots) i j (suc k) at =
+      ap (λ b. cond b (((j, e.0), e.1) ∷ up_to_index i (entries_from (suc j) slots)) []) (le-leb j i (omega (arith, at)))
+      ∙ ap (λ es. ((j, e.0), e.1) ∷ es) (up_to_index-take slots i (suc j) k (omega (arith, at)))
+
+  -- one step of a search down
+  pub last_key-step : (slots : List (Option (Gen × T))) (k n : ℕ) (o : Option (ℕ × Gen)) → k + 1 ≡ n → k < length slots → o ≡ option_map (key_at (k + 1)) (slice_index_or slots k None)
+      → last_key (entries_from 1 (take n slots)) ≡ first_of o (last_key (entries_from 1 (take k slots)))
+  last_key-step slots k n o at below is =
+      let next : suc k ≡ n = omega (arith, at) in
+      ap (λ m. last_key (entries_from 1 (take m slots))) (sym next)
+      ∙ (last_key-take slots k (k + 1) below (omega arith) ∙ ap (λ p. first_of p (last_key (entries_from 1 (take k slots)))) (sym is))
+
+  -- what lies ahead by rising index begins at a position
+  pub ahead_up : (slots : List (Option (Gen × T))) (from k : ℕ) → k ≡ from - 1 → entries_from (k + 1) (drop k slots) ≡ from_index from (entries_from 1 slots)
+  ahead_up slots zero k at =
+      let start : k ≡ 0 = omega (arith, at) in
+      ap (λ j. entries_from (j + 1) (drop j slots)) start ∙ (ap (λ j. entries_from j slots) (one 1) ∙ sym (from_index-all slots 0 1 (omega arith)))
+    where
+      one : (n : ℕ) → 0 + n ≡ n
+      one n = omega arith
+  ahead_up slots (suc n) k at =
+      let next : k + 1 ≡ suc n = omega (arith, at) in
+      ap (λ j. entries_from j (drop k slots)) next ∙ sym (from_index-drop slots (suc n) 1 k (omega (arith, next)))
+
+  -- what lies ahead by falling index ends at a position
+  pub ahead_down : (slots : List (Option (Gen × T))) (to : ℕ) → entries_from 1 (take to slots) ≡ up_to_index to (entries_from 1 slots)
+  ahead_down slots to = sym (up_to_index-take slots to 1 to (omega arith))

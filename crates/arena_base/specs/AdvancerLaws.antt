@@ -1,0 +1,26 @@
+-- An advancer of this crate that looks nowhere stays there, and it keeps what is asked of any.
+use Rattle.std.specs.Prelude.{◌≡◌, ℕ, List, [], ◌∷◌, Option, None, Some}
+use Rattle.std.specs.Option.{option_map}
+use Rattle.std.proofs.Common.{refl, ap, ◌∙◌}
+use Rattle.arena_base.specs.Advancers.{IsLook, IsLookUntilNone, ahead}
+use Rattle.arena_base.specs.Entries.{first_key}
+use Rattle.arena_base.specs.declared.cursor.Look.{Look}
+use Rattle.arena_base.specs.declared.cursor.Look.TheVariants.{Up, Down, Nowhere}
+
+pub nowhere_stays : {P Gen T : Type 0} (key : P → ℕ × Gen) (es : List ((ℕ × Gen) × T)) (look : Look) (answer : Option P) (after : Look)
+    → look ≡ Nowhere → IsLook es look (option_map key answer) after → (answer ≡ None) × (after ≡ Nowhere)
+nowhere_stays key es look None after spent given = (refl, given.moves)
+nowhere_stays key es look (Some p) after spent given =
+    let met : Some (key p) ≡ None = given.first ∙ ap (λ l. first_key (ahead l es)) spent in cc
+
+-- no first key, no entries
+pub no_first : {Gen T : Type 0} (es : List ((ℕ × Gen) × T)) → None ≡ first_key es → es ≡ []
+no_first [] none = refl
+no_first (e ∷ es) none = cc
+
+pub until_none : {Gen T : Type 0} (es : List ((ℕ × Gen) × T)) (look : Look) (answer : Option (ℕ × Gen)) (after : Look) → IsLook es look answer after → IsLookUntilNone es look answer after
+until_none es (Up i) (Some p) after given = given
+until_none es (Down i) (Some p) after given = given
+until_none es (Up i) None after given = no_first (ahead (Up i) es) given.first
+until_none es (Down i) None after given = no_first (ahead (Down i) es) given.first
+until_none es Nowhere answer after given = tt

@@ -1,0 +1,96 @@
+// The slots of an arena while entries are moved: the freed list is not kept.
+ghost use Rattle.std.specs.Prelude.{◌≡◌, ◌≢◌, ◌≤◌, ◌<◌, None, OnSome, IsSome, length};
+ghost use Rattle.std.specs.Option.{option_map, option_copied_mut};
+ghost use Rattle.std.specs.Borrow.{LendsSo, sem};
+ghost use Rattle.arena_base.specs.Arena.{slot_at};
+ghost use Rattle.arena_base.specs.DetachedSlots.{Held, seen_parts, placed, held_with_value};
+
+use crate::excluded;
+use crate::slot::{ArenaSlot, position_of, put_at, regenerate_at, vacate_at};
+use arena_ptr::{PtrKey, SlotStack};
+use std::marker::Model;
+
+#[derive(Drop)]
+pub(crate) struct HeldSlots<P: PtrKey, T: Drop, S: SlotStack<Item = ArenaSlot<P, T>>> {
+    pub(crate) slots: S,
+}
+
+impl<P: PtrKey, T: Drop, S: SlotStack<Item = ArenaSlot<P, T>>> Model for HeldSlots<P, T, S> {
+    ghost use Rattle.std.specs.Prelude.{◌≤◌, length};
+    ghost use Rattle.arena_base.specs.DetachedSlots.{Held};
+
+    ghost Value = { Held P.Gen T };
+
+    ghost use Rattle.arena_base.specs.Slots.{held_slots};
+
+    ghost view = { λ h. held_slots (S.items h.slots) (S.capacity h.slots) (S.maximum h.slots) };
+
+    ghost invariant = { λ h. length (S.items h.slots) ≤ P.Inx.greatest };
+}
+
+impl<P: PtrKey, T: Drop, S: SlotStack<Item = ArenaSlot<P, T>>> HeldSlots<P, T, S> {
+    // How many slots there are.
+    pub(crate) fn len(&self) -> usize
+        ensures { result ≡ length self.now.slots }
+    {
+        self.slots.len()
+    }
+
+    // The entry at an index.
+    pub(crate) fn look(&self, i: P::Inx) -> Option<(&P::Gen, &T)>
+        ensures { option_map seen_parts result ≡ slot_at self.now.slots (P.Inx.number i) }
+    {
+        match self.slots.get(position_of::<P>(i)) {
+            Some(ArenaSlot::Allocated(generation, t)) => Some((generation, t)),
+            Some(ArenaSlot::Free(_)) => None,
+            None => None,
+        }
+    }
+
+    // Exchanges two slots and gives the entry that came to the second a generation.
+    pub(crate) fn place(&mut self, from: P::Inx, to: P::Inx, generation: P::Gen)
+        requires from { P.Inx.number from ≤ length self.old.slots }
+        requires to { P.Inx.number to ≤ length self.old.slots }
+        ensures { self.new ≡ placed self.old (P.Inx.number from) (P.Inx.number to) generation }
+    {
+        let from = position_of::<P>(from);
+        regenerate_at(&mut self.slots, from, generation);
+        self.slots.swap(from, position_of::<P>(to));
+    }
+
+    // Takes an entry out of a slot, and puts it into a free one, or into its own, with a generation.
+    pub(crate) fn bring(&mut self, from: P::Inx, to: P::Inx, generation: P::Gen)
+        requires to { P.Inx.number to ≤ length self.old.slots }
+        requires entry { IsSome (slot_at self.old.slots (P.Inx.number from)) }
+        requires free { P.Inx.number to ≢ P.Inx.number from → slot_at self.old.slots (P.Inx.number to) ≡ None }
+        ensures { self.new ≡ placed self.old (P.Inx.number from) (P.Inx.number to) generation }
+    {
+        match vacate_at(&mut self.slots, position_of::<P>(from), None) {
+            Some((_, t)) => put_at(&mut self.slots, position_of::<P>(to), generation, t),
+            None => excluded!(),
+        }
+    }
+}
+
+// What the held slots lend.
+pub(crate) trait LendsValue<P: PtrKey, T: Drop> {
+    ghost lent: { Self → Held P.Gen T };
+
+    // The value at an index, for writing.
+    fn value_mut(&mut self, i: P::Inx) -> Option<&mut T>
+        ensures* writes_back { sem 𝓛 (LendsSo Self.row T.row self.entry result
+            (λ new t. OnSome result (lent new ≡ held_with_value (lent self.old) (P.Inx.number i) t)) (λ new. lent new ≡ lent self.old)) }
+        ensures value { option_copied_mut result ≡ option_map (λ e. e.1) (slot_at (lent self.old).slots (P.Inx.number i)) };
+}
+
+impl<P: PtrKey, T: Drop, S: SlotStack<Item = ArenaSlot<P, T>>> LendsValue<P, T>
+    for HeldSlots<P, T, S> {
+    ghost lent = { λ h. h };
+
+    fn value_mut(&mut self, i: P::Inx) -> Option<&mut T> {
+        match self.slots.get_mut(position_of::<P>(i)) {
+            Some(slot) => slot.value_mut(),
+            None => None,
+        }
+    }
+}

@@ -1,0 +1,43 @@
+// The freed list made anew, once entries were moved.
+ghost use Rattle.std.specs.Prelude.{◌≡◌, ◌≤◌, map, length};
+ghost use Rattle.arena_base.specs.Slots.{entry_of, IsSound};
+ghost use Rattle.arena_base.specs.DetachedSlots.{trimmed, free_from};
+
+use crate::slot::{ArenaSlot, is_free_at, list_at};
+use arena_ptr::{InxKey, PtrKey, SlotStack};
+
+// Cuts off the free slots at the end.
+pub(crate) fn trim<P: PtrKey, T: Drop, S: SlotStack<Item = ArenaSlot<P, T>>>(slots: &mut S)
+    ensures items { map entry_of (S.items slots.new) ≡ trimmed (map entry_of (S.items slots.old)) }
+    ensures length { length (S.items slots.new) ≤ length (S.items slots.old) }
+    ensures capacity { S.capacity slots.new ≡ S.capacity slots.old }
+    ensures maximum { S.maximum slots.new ≡ S.maximum slots.old }
+{
+    let mut count = slots.len();
+    while count > 0 && is_free_at::<P, T, S>(slots, count - 1) {
+        count -= 1;
+    }
+    slots.truncate(count);
+}
+
+// Lists the free slots, the least index first. Answers the number of entries and the first free index.
+pub(crate) fn relist<P: PtrKey, T: Drop, S: SlotStack<Item = ArenaSlot<P, T>>>(
+    slots: &mut S,
+) -> (usize, Option<P::Inx>)
+    requires { length (S.items slots.old) ≤ P.Inx.greatest }
+    ensures entries { map entry_of (S.items slots.new) ≡ map entry_of (S.items slots.old) }
+    ensures sound { IsSound P.Inx.number (S.items slots.new) P.Inx.greatest result.0 result.1 (free_from 1 (map entry_of (S.items slots.old))) }
+    ensures capacity { S.capacity slots.new ≡ S.capacity slots.old }
+    ensures maximum { S.maximum slots.new ≡ S.maximum slots.old }
+{
+    let mut len = 0;
+    let mut head = None;
+    for k in (0..slots.len()).rev() {
+        if is_free_at::<P, T, S>(slots, k) {
+            head = list_at::<P, T, S>(slots, k, head);
+        } else {
+            len += 1;
+        }
+    }
+    (len, head)
+}

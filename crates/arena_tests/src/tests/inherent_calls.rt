@@ -1,0 +1,165 @@
+// The calls that an arena has of its own, as rows of tables. What they need knows no type of pointers and of slots.
+ghost use Rattle.std.specs.Prelude.{◌≤◌, ◌↔◌, IsTrue, IsSome};
+ghost use Rattle.arena_base.specs.Arena.{slot_at};
+
+use crate::tests::entries::enter;
+use crate::tests::pointers::Numbered;
+use crate::tests::scripts::{Answers, Call, overwritten, trait_answer};
+use crate::tests::support::{Slot, index, text, text_of_all};
+use arena_base::{Arena, ArenaTrait, Compactor, SlotAccess, Work};
+use arena_ptr::{InxKey, PtrKey, SlotStack};
+use std::alloc::Global;
+use std::fmt::Debug;
+use std::mem;
+
+// Adds as many entries, the values from `first` on, and counts those that were added.
+pub(super) fn insert_many<P: PtrKey, S: SlotStack<Item = Slot<P>>>(
+    arena: &mut Arena<P, u32, S>,
+    first: u32,
+    n: u32,
+) -> u32 {
+    let mut added = 0u32;
+    for k in 0..n {
+        if arena.insert_reallocating(first.saturating_add(k)).is_ok() {
+            added = added.saturating_add(1);
+        }
+    }
+    added
+}
+
+// What an arena holds, as its iterator goes over it.
+fn iterated<P: PtrKey + Debug, S: SlotStack<Item = Slot<P>>>(
+    alloc: Global,
+    arena: &Arena<P, u32, S>,
+) -> String {
+    text_of_all(alloc, arena.into_iter())
+}
+
+// What is taken out of an arena that is used up. A new one is left.
+fn drained<P: PtrKey + Debug, S: SlotStack<Item = Slot<P>>>(
+    alloc: Global,
+    arena: &mut Arena<P, u32, S>,
+) -> String {
+    let old = mem::replace(arena, Arena::new(alloc));
+    text_of_all(alloc, old.into_iter())
+}
+
+// Whether an index is one of so many slots.
+fn is_within<I: InxKey>(i: I, slots: usize) -> bool
+    ensures { IsTrue result ↔ (I.number i ≤ slots) }
+{
+    match i.try_into_usize() {
+        Some(n) => n <= slots,
+        None => unreachable!(),
+    }
+}
+
+// The value at an index of slots that are looked into, over which another may be written before.
+fn looked<P: PtrKey, C: SlotAccess<P, u32>>(
+    slots: &mut C,
+    i: P::Inx,
+    value: Option<u32>,
+) -> Option<u32>
+    ensures { IsSome result ↔ IsSome (slot_at (C.held slots.new).slots (P.Inx.number i)) }
+{
+    if let Some(value) = value {
+        overwritten(slots.value_mut(i), value);
+    }
+    match slots.peek(i) {
+        Some((_, t)) => Some(*t),
+        None => None,
+    }
+}
+
+// .. and the number of slots. An entry there is moved where another index is one of the slots.
+fn moved<P: PtrKey, S: SlotStack<Item = Slot<P>>>(
+    compactor: &mut Compactor<'_, P, u32, S>,
+    from: P::Inx,
+    to: P::Inx,
+    generation: P::Gen,
+    value: Option<u32>,
+) -> (usize, Option<u32>) {
+    let value = looked(compactor, from, value);
+    let slots = compactor.slots();
+    if value.is_some() && is_within(from, slots) && is_within(to, slots) {
+        compactor.place(from, to, generation);
+    }
+    (slots, value)
+}
+
+// What a compactor of an arena shows, and what it counted.
+fn compacted<P: Numbered, S: SlotStack<Item = Slot<P>>>(
+    arena: &mut Arena<P, u32, S>,
+    (from, to, g): (u8, u8, u8),
+    value: Option<u32>,
+) -> ((usize, Option<u32>), Work) {
+    let (from, to) = (index::<P>(from), index::<P>(to));
+    let mut compactor = arena.compactor();
+    let seen = moved(&mut compactor, from, to, P::generation_of(g), value);
+    (seen, compactor.finish())
+}
+
+// A compactor does nothing, and is dropped or forgotten.
+fn compactor_idle<P: PtrKey, S: SlotStack<Item = Slot<P>>>(
+    arena: &mut Arena<P, u32, S>,
+    is_forgotten: bool,
+) {
+    let compactor = arena.compactor();
+    if is_forgotten {
+        mem::forget(compactor);
+    }
+}
+
+// The answer to a call of the arena's own, ...
+fn own_answer<P: Numbered, S: SlotStack<Item = Slot<P>>>(
+    alloc: Global,
+    arena: &mut Arena<P, u32, S>,
+    call: Call,
+) -> String {
+    match call {
+        Call::Insert(value) => text(alloc, arena.insert_reallocating(value)),
+        Call::InsertMany(n) => text(alloc, insert_many(arena, 0, n)),
+        Call::InsertWithin(value) => text(alloc, arena.insert_within_capacity(value)),
+        Call::Enter(value) => text(alloc, enter(arena, value)),
+        Call::Slots => text(alloc, arena.backing().len()),
+        Call::DropCompactor => text(alloc, compactor_idle(arena, false)),
+        Call::ForgetCompactor => text(alloc, compactor_idle(arena, true)),
+        other => whole_answer(alloc, arena, other),
+    }
+}
+
+// .. on its counter, or on all of its entries, ...
+fn whole_answer<P: Numbered, S: SlotStack<Item = Slot<P>>>(
+    alloc: Global,
+    arena: &mut Arena<P, u32, S>,
+    call: Call,
+) -> String {
+    match call {
+        Call::Generation => text(alloc, P::number_of(arena.generation())),
+        Call::SetGeneration(g) => text(alloc, arena.set_generation(P::generation_of(g))),
+        Call::IncGeneration => text(alloc, arena.inc_generation()),
+        Call::Entries => iterated(alloc, arena),
+        Call::Drain => drained(alloc, arena),
+        Call::Compact(from, to, g, value) => text(alloc, compacted(arena, (from, to, g), value)),
+        other => given_answer(alloc, arena, other),
+    }
+}
+
+// .. or of the traits, in the one place that hands such a body an arena.
+fn given_answer<P: Numbered, S: SlotStack<Item = Slot<P>>>(
+    alloc: Global,
+    arena: &mut Arena<P, u32, S>,
+    call: Call,
+) -> String {
+    trait_answer::<P, S, Arena<P, u32, S>>(alloc, arena, call)
+}
+
+impl<P: Numbered, S: SlotStack<Item = Slot<P>>> Answers for Arena<P, u32, S> {
+    fn fresh(alloc: Global) -> Self {
+        Arena::new(alloc)
+    }
+
+    fn answer(&mut self, alloc: Global, call: Call) -> String {
+        own_answer(alloc, self, call)
+    }
+}

@@ -1,0 +1,72 @@
+// The answers of calls that invalidate, and the errors.
+use crate::tests::support::equal;
+use arena_ptr::{AllocError, InvalidationOption, InvalidationResult};
+use std::alloc;
+
+fn is_above_three(n: i32) -> bool {
+    n > 3
+}
+
+// The value, the value with the overflow, and the answer to whether the value is above three.
+fn each_of_option(answer: InvalidationOption<i32>) -> (i32, (i32, bool), InvalidationOption<bool>) {
+    (
+        answer.allow(),
+        answer.overflowing(),
+        answer.map(is_above_three),
+    )
+}
+
+fn each_of_result(
+    answer: InvalidationResult<i32>,
+) -> (Option<i32>, (Option<i32>, bool), InvalidationResult<bool>) {
+    (
+        answer.allow(),
+        answer.overflowing(),
+        answer.map(is_above_three),
+    )
+}
+
+#[test]
+fn an_answer_gives_its_value_and_tells_overflow(rt: HostRuntime) {
+    let told = each_of_option(InvalidationOption::Success(3));
+    equal(
+        &rt,
+        "a value",
+        told,
+        (3, (3, false), InvalidationOption::Success(false)),
+    );
+    let told = each_of_option(InvalidationOption::GenerationOverflow(4));
+    let want = InvalidationOption::GenerationOverflow(true);
+    equal(&rt, "an overflow", told, (4, (4, true), want));
+}
+
+#[test]
+fn a_result_may_have_no_value(rt: HostRuntime) {
+    let told = each_of_result(InvalidationResult::Success(3));
+    let want = InvalidationResult::Success(false);
+    equal(&rt, "a value", told, (Some(3), (Some(3), false), want));
+    let told = each_of_result(InvalidationResult::GenerationOverflow(4));
+    let want = InvalidationResult::GenerationOverflow(true);
+    equal(&rt, "an overflow", told, (Some(4), (Some(4), true), want));
+    let told = each_of_result(InvalidationResult::InvalidPtr);
+    equal(
+        &rt,
+        "none",
+        told,
+        (None, (None, false), InvalidationResult::InvalidPtr),
+    );
+}
+
+#[test]
+fn an_answer_may_own_its_value(rt: HostRuntime) {
+    let owned = Vec::from_array(rt.alloc(), [5]).expect(&rt, "memory");
+    let answer = InvalidationResult::GenerationOverflow(owned);
+    let want = InvalidationResult::GenerationOverflow(1);
+    equal(&rt, "the length", answer.map(|v| v.len()), want);
+}
+
+#[test]
+fn refused_memory_of_std_is_an_error_here(rt: HostRuntime) {
+    let error = AllocError::from(alloc::AllocError);
+    equal(&rt, "the error", error, AllocError);
+}

@@ -1,0 +1,245 @@
+-- Copies of an arena of links: the interlinks, the values, and what is seen of them.
+use Rattle.std.proofs.Common.{◌≡◌, ℕ, zero, suc, ◌≤◌, List, [], ◌∷◌, ◌++◌, length, map, Option, None, Some, Result, Ok, Err, OnOk, OnErr, IsOk, ◌⊎◌, inl, inr, arith, refl, ap, sym, ◌∙◌, subst}
+use Rattle.std.specs.Prelude.{is_ok}
+use Rattle.std.specs.Option.{option_map}
+use Rattle.std.proofs.lemmas.Bool.{false≢true}
+use Rattle.std.specs.List.{FoldsTo}
+use Rattle.std.proofs.lemmas.List.{map-append}
+use Rattle.std.specs.Borrow.{Bor}
+use Rattle.std.specs.Fn.{Mut}
+use Rattle.arena_ptr.specs.declared.errors.ReallocationError.{ReallocationError}
+use Rattle.chain_laws.specs.Chains.{Interlinks, Agrees}
+use Rattle.arena_base.specs.Arena.{Arena, slot_at, new_arena}
+use Rattle.arena_base.specs.Entries.{Seen, Slots, entries_from, entries}
+use Rattle.arena_base.specs.Copies.{Copied, Makes, CopiesBy, IsCopyBy, IsCopyCall, HasRefusable, HasSlotsOf, IsGivenUp, generations}
+use Rattle.chain_links.specs.declared.links.LinkBody.{LinkBody}
+use Rattle.chain_links.specs.ChainArena.{LinkSeen, on_value, interlinks_in, interlinks_of, shown, values_of}
+use Rattle.chain_links.specs.Links.{seen_link, seen_links, seen_pair, held_in}
+use Rattle.chain_arena.specs.LinkCopies.{MakesLink, MakesOf, RefusesOf, IsLinkCopyBy, IsClone}
+use Rattle.arena_base.proofs.SlotCopyLemmas.{made_by, copy_by}
+use Rattle.arena_base.proofs.FoldLemmas.{folds_seen, folds_mapped}
+use Rattle.chain_links.proofs.MappedArenaLemmas.{slot_at-map, length-with_each}
+use Rattle.chain_compaction.proofs.ValueViewLemmas.{seen_entries-all, held_entries-all}
+
+-- a value that was made, where the value shown and the answer are looked at in some way
+abbrev made_as : {P U T W X : Type 0} → (U → W) → (T → X) → Copied P U T → Copied P W X
+made_as before after c = record { pointer = c.pointer; shown = before c.shown; answer = after c.answer }
+
+-- What makes the values is looked at in part, and so are the values before and after.
+module _ {V F P U W T X : Type 0} (makes : V → P → U → T → V → Type 0) (others : F → P → W → X → F → Type 0) (see : V → F) (before : U → W) (after : T → X)
+    (step : (v : V) (p : P) (u : U) (t : T) (next : V) → makes v p u t next → others (see v) p (before u) (after t) (see next)) where
+  module _ {Gen : Type 0} (key : P → ℕ × Gen) where
+    seen_before : (made : List (Copied P U T)) → map (λ c. (key c.pointer, c.shown)) (map (made_as before after) made) ≡ map (on_value before) (map (λ c. (key c.pointer, c.shown)) made)
+    seen_before [] = refl
+    seen_before (c ∷ made) = ap (λ es. (key c.pointer, before c.shown) ∷ es) (seen_before made)
+
+    seen_after : (made : List (Copied P U T)) → map (λ c. (key c.pointer, c.answer)) (map (made_as before after) made) ≡ map (on_value after) (map (λ c. (key c.pointer, c.answer)) made)
+    seen_after [] = refl
+    seen_after (c ∷ made) = ap (λ es. (key c.pointer, after c.answer) ∷ es) (seen_after made)
+
+    pub copies_seen : (f last : V) (source : List ((ℕ × Gen) × U)) (copy : List ((ℕ × Gen) × T)) → CopiesBy makes key f source copy last
+        → CopiesBy others key (see f) (map (on_value before) source) (map (on_value after) copy) (see last)
+    copies_seen f last source copy c = record {
+      made = map (made_as before after) c.made;
+      in_turn = folds_mapped (made_as before after) (Makes others) c.made (see f) (see last)
+          (folds_seen see (Makes makes) (λ s m t. Makes others s (made_as before after m) t) (λ s m t. step s m.pointer m.shown m.answer t) c.made f last c.in_turn);
+      before = seen_before c.made ∙ ap (map (on_value before)) c.before;
+      after = seen_after c.made ∙ ap (map (on_value after)) c.after;
+    }
+
+-- Each value that is made looks like the one that it is made of.
+module _ {V P U T Z Gen : Type 0} (makes : V → P → U → T → V → Type 0) (f : U → Z) (g : T → Z)
+    (same : (v : V) (p : P) (u : U) (t : T) (next : V) → makes v p u t next → g t ≡ f u) (key : P → ℕ × Gen) where
+  made_alike : (made : List (Copied P U T)) (v last : V) → FoldsTo (Makes makes) v made last
+      → map (on_value g) (map (λ c. (key c.pointer, c.answer)) made) ≡ map (on_value f) (map (λ c. (key c.pointer, c.shown)) made)
+  made_alike [] v last folds = refl
+  made_alike (c ∷ made) v last folds =
+      λ i. (key c.pointer, same v c.pointer c.shown c.answer folds.0 folds.1 i) ∷ made_alike made folds.0 last folds.2 i
+
+  pub copies_alike : (v last : V) (source : List ((ℕ × Gen) × U)) (copy : List ((ℕ × Gen) × T)) → CopiesBy makes key v source copy last → map (on_value g) copy ≡ map (on_value f) source
+  copies_alike v last source copy c = ap (map (on_value g)) (sym c.after) ∙ (made_alike c.made v last c.in_turn ∙ ap (map (on_value f)) c.before)
+
+abbrev first_value : {Gen Z : Type 0} → Z → List ((ℕ × Gen) × Z) → Z
+first_value z [] = z
+first_value z (e ∷ es) = e.1
+
+module _ {Gen U T Z : Type 0} (f : U → Z) (g : T → Z) where
+  -- slots with entries at the same places, and entries that look alike, look alike
+  pub slots_alike : (i : ℕ) (a : List (Option (Gen × U))) (b : List (Option (Gen × T))) → generations b ≡ generations a → map (on_value g) (entries_from i b) ≡ map (on_value f) (entries_from i a)
+      → map (option_map (on_value g)) b ≡ map (option_map (on_value f)) a
+  slots_alike i [] [] places same = refl
+  slots_alike i [] (e ∷ b) places same = absurd (let h = places in cc)
+  slots_alike i (d ∷ a) [] places same = absurd (let h = places in cc)
+  slots_alike i (None ∷ a) (None ∷ b) places same = ap (λ rest. None ∷ rest) (slots_alike (suc i) a b (let h = places in cc) same)
+  slots_alike i (None ∷ a) (Some e ∷ b) places same = absurd (let h = places in cc)
+  slots_alike i (Some d ∷ a) (None ∷ b) places same = absurd (let h = places in cc)
+  slots_alike i (Some d ∷ a) (Some e ∷ b) places same =
+      let generation : e.0 ≡ d.0 = let h = places in cc in
+      let value : g e.1 ≡ f d.1 = ap (first_value (g e.1)) same in
+      let rest = slots_alike (suc i) a b (let h = places in cc) (let h = same in cc) in
+      λ j. Some (generation j, value j) ∷ rest j
+
+module _ {Gen X Y : Type 0} (f : X → Y) where
+  generations-map : (slots : List (Option (Gen × X))) → generations (map (option_map (on_value f)) slots) ≡ generations slots
+  generations-map [] = refl
+  generations-map (None ∷ slots) = ap (λ gs. None ∷ gs) (generations-map slots)
+  generations-map (Some e ∷ slots) = ap (λ gs. Some e.0 ∷ gs) (generations-map slots)
+
+module _ {P K U Gen : Type 0} (number : K → Option ℕ) (may_refuse : P → LinkBody K U → Type 0) (key : P → ℕ × Gen) (source : Arena Gen (LinkBody K U)) where
+  -- a link that may be refused, as it is seen
+  pub refusable_seen : HasRefusable may_refuse key (entries source) → HasRefusable (RefusesOf (seen_link number) may_refuse) key (entries (seen_links number source))
+  refusable_seen has = record {
+    pointer = has.pointer;
+    value = seen_link number has.value;
+    before = map (on_value (seen_link number)) has.before;
+    after = map (on_value (seen_link number)) has.after;
+    stands = sym (seen_entries-all number source) ∙ (ap (map (on_value (seen_link number))) has.stands
+        ∙ map-append (on_value (seen_link number)) has.before ((key has.pointer, has.value) ∷ has.after));
+    refusable = (has.value, refl, has.refusable);
+  }
+
+-- no links agree
+module _ (Gen T : Type 0) where
+  nothing_at : (i : ℕ) → option_map (interlinks_of {Gen = Gen} {T = T}) (slot_at [] i) ≡ None
+  nothing_at zero = refl
+  nothing_at (suc k) = refl
+
+pub given_up_agrees : {Gen T : Type 0} (old new : Arena Gen (LinkSeen T)) → IsGivenUp old new → Agrees (shown new)
+given_up_agrees {Gen} {T} old new is =
+    subst (λ (a : Arena Gen (LinkSeen T)). Agrees (shown a)) (sym is)
+    (subst Agrees (λ j i. sym (nothing_at Gen T i) j) (record { both = λ i j. (λ never. cc, λ never. cc) }))
+
+module _ {Gen K U T : Type 0} (number : K → Option ℕ) where
+  -- an arena of links that has become a copy, as it is seen
+  pub has_slots_seen : (source : Arena Gen (LinkBody K U)) (old new : Arena Gen (LinkBody K T)) → HasSlotsOf source old new → HasSlotsOf (seen_links number source) (seen_links number old) (seen_links number new)
+  has_slots_seen source old new has = record {
+    state = ap (seen_links number) has.state;
+    generations = generations-map (seen_link number) new.slots ∙ (has.generations ∙ sym (generations-map (seen_link number) source.slots));
+    room = λ few. has.room (subst (λ n. n ≤ old.capacity) (length-with_each (seen_link number) source) few);
+  }
+
+abbrev interlinks_as : {K T : Type 0} → (K → Option ℕ) → LinkBody K T → Interlinks
+interlinks_as number link = interlinks_in (seen_link number link)
+
+module _ {Gen K T : Type 0} (number : K → Option ℕ) where
+  shown-slots : (a : Arena Gen (LinkBody K T)) (i : ℕ) → shown (seen_links number a) i ≡ option_map (λ e. e.1) (slot_at (map (option_map (on_value (interlinks_as number))) a.slots) i)
+  shown-slots a i =
+      ap (option_map interlinks_of) (slot_at-map (seen_pair number) a.slots i)
+      ∙ (both (slot_at a.slots i) ∙ ap (option_map (λ (e : Gen × Interlinks). e.1)) (sym (slot_at-map (on_value (interlinks_as number)) a.slots i)))
+    where
+      both : (o : Option (Gen × LinkBody K T)) → option_map interlinks_of (option_map (seen_pair number) o) ≡ option_map (λ (e : Gen × Interlinks). e.1) (option_map (on_value (interlinks_as number)) o)
+      both None = refl
+      both (Some e) = refl
+
+-- The links of a copy were made of those of the source.
+module _ {V F P K U T Gen : Type 0} (number : K → Option ℕ) (makes : F → P → LinkSeen U → T → F → Type 0) (see : V → F) (key : P → ℕ × Gen) (f last : V) (source : Arena Gen (LinkBody K U)) (old new : Arena Gen (LinkBody K T))
+    (made : CopiesBy (λ v p u t w. MakesLink number makes (see v) p u t (see w)) key f (entries source) (entries new) last) (has : HasSlotsOf source old new) where
+  pub interlinks_copied : shown (seen_links number new) ≡ shown (seen_links number source)
+  interlinks_copied j i = (shown-slots number new i
+      ∙ (ap (λ slots. option_map (λ (e : Gen × Interlinks). e.1) (slot_at slots i))
+      (slots_alike (interlinks_as number) (interlinks_as number) 1 source.slots new.slots has.generations
+      (copies_alike (λ v p u t w. MakesLink number makes (see v) p u t (see w)) (interlinks_as number) (interlinks_as number) (λ v p u t w m. m.interlinks) key f last (entries source) (entries new) made))
+      ∙ sym (shown-slots number source i))) j
+
+  pub values_copied : CopiesBy makes key (see f) (entries (seen_links number source)) (entries (values_of (seen_links number new))) (see last)
+  values_copied =
+      subst (λ es. CopiesBy makes key (see f) (entries (seen_links number source)) es (see last)) (held_entries-all number new)
+      (subst (λ es. CopiesBy makes key (see f) es (map (on_value held_in) (entries new)) (see last)) (seen_entries-all number source)
+      (copies_seen (λ v p u t w. MakesLink number makes (see v) p u t (see w)) makes see (seen_link number) held_in (λ v p u t w m. m.value) key f last (entries source) (entries new) made))
+
+  pub link_copied : IsLinkCopyBy makes key (see f) (seen_links number source) (seen_links number old) (seen_links number new) (see last)
+  link_copied = record {
+    slots = has_slots_seen number source old new has;
+    shows = interlinks_copied;
+    values = values_copied;
+  }
+
+  pub agrees_copied : Agrees (shown (seen_links number source)) → Agrees (shown (seen_links number new))
+  agrees_copied agrees = subst Agrees (sym interlinks_copied) agrees
+
+-- What is shown each link is shown it as contracts see it.
+module _ {F P K U T Gen : Type 0} (number : K → Option ℕ) (makes : F → P → LinkBody K U → T → F → Type 0) (key : P → ℕ × Gen) (f last : F) (source : Arena Gen (LinkBody K U)) (old new : Seen Gen T) where
+  as_it_is : (es : List ((ℕ × Gen) × T)) → map (on_value (λ t. t)) es ≡ es
+  as_it_is [] = refl
+  as_it_is (e ∷ es) = ap (λ rest. e ∷ rest) (as_it_is es)
+
+  pub copy_as_seen : IsCopyBy makes key f source old new last → IsCopyBy (MakesOf (seen_link number) makes) key f (seen_links number source) old new last
+  copy_as_seen copy = record {
+    entries = subst (λ es. CopiesBy (MakesOf (seen_link number) makes) key f (entries (seen_links number source)) es last) (as_it_is new.entries)
+        (subst (λ es. CopiesBy (MakesOf (seen_link number) makes) key f es (map (on_value (λ t. t)) new.entries) last) (seen_entries-all number source)
+        (copies_seen makes (MakesOf (seen_link number) makes) (λ h. h) (seen_link number) (λ t. t)
+        (λ v p u t w made. record { shown = u; looks = refl; made = made }) key f last (entries source) new.entries copy.entries));
+    counter = copy.counter;
+    slots = copy.slots ∙ ap (λ n. option_map (λ (s : Slots). let t : Slots = record s { count = n; freed = source.freed } in t) old.slots) (sym (length-with_each (seen_link number) source));
+    maximum = copy.maximum;
+  }
+
+-- What a closure makes of what it sees, where the closure is a part of what makes the values.
+pub called_of : {V F P K U T : Type 0} (g : Mut F (P × (Bor (LinkBody K U) × Unit {0})) T) (see : V → F) (look : LinkBody K U → LinkSeen U) (v : V) (p : P) (u : LinkSeen U) (t : T) (w : V)
+    → MakesOf look (λ x p u t y. IsCopyCall g (see x) p u t (see y)) v p u t w → MakesOf look (IsCopyCall g) (see v) p u t (see w)
+called_of g see look v p u t w makes = record { shown = makes.shown; looks = makes.looks; made = makes.made }
+
+-- .. in the copy of an arena of links
+pub called_copies : {V F P K U T Gen : Type 0} (g : Mut F (P × (Bor (LinkBody K U) × Unit {0})) T) (see : V → F) (look : LinkBody K U → LinkSeen U) (key : P → ℕ × Gen) (f last : V) (source : Arena Gen (LinkSeen U)) (old new : Arena Gen (LinkSeen T))
+    → IsLinkCopyBy (MakesOf look (λ x p u t y. IsCopyCall g (see x) p u t (see y))) key f source old new last → IsLinkCopyBy (MakesOf look (IsCopyCall g)) key (see f) source old new (see last)
+called_copies g see look key f last source old new copy = record {
+  slots = copy.slots;
+  shows = copy.shows;
+  values = made_by (MakesOf look (λ x p u t y. IsCopyCall g (see x) p u t (see y))) (MakesOf look (IsCopyCall g)) see (called_of g see look) key f last (entries source) (entries (values_of new)) copy.values;
+}
+
+-- .. and of any
+pub called_copy : {V F P K U T Gen : Type 0} (g : Mut F (P × (Bor (LinkBody K U) × Unit {0})) T) (see : V → F) (look : LinkBody K U → LinkSeen U) (key : P → ℕ × Gen) (f last : V) (source : Arena Gen (LinkSeen U)) (old new : Seen Gen T)
+    → IsCopyBy (MakesOf look (λ x p u t y. IsCopyCall g (see x) p u t (see y))) key f source old new last → IsCopyBy (MakesOf look (IsCopyCall g)) key (see f) source old new (see last)
+called_copy g see look key f last source old new copy =
+    copy_by (MakesOf look (λ x p u t y. IsCopyCall g (see x) p u t (see y))) (MakesOf look (IsCopyCall g)) see (called_of g see look) key f last source old new copy
+
+-- The links of a clone look like those of the source.
+module _ {F P K T Gen : Type 0} (number : K → Option ℕ) (is_clone : T → T → Type 0) (equal : (x y : T) → is_clone x y → y ≡ x) (key : P → ℕ × Gen) (f last : F) (source : Arena Gen (LinkBody K T)) (old new : Arena Gen (LinkBody K T))
+    (made : CopiesBy (MakesLink number (λ (_ : F) (_ : P) u t (_ : F). is_clone u.value t)) key f (entries source) (entries new) last) (has : HasSlotsOf source old new) where
+  pub links_cloned : (seen_links number new).slots ≡ (seen_links number source).slots
+  links_cloned = slots_alike (seen_link number) (seen_link number) 1 source.slots new.slots has.generations
+      (copies_alike (MakesLink number (λ (_ : F) (_ : P) u t (_ : F). is_clone u.value t)) (seen_link number) (seen_link number)
+      (λ v p u t w m. λ i. record { prev = (ap (λ (l : Interlinks). l.prev) m.interlinks) i; next = (ap (λ (l : Interlinks). l.next) m.interlinks) i; value = equal u.t t.t m.value i })
+      key f last (entries source) (entries new) made)
+
+  pub is_clone_of : (first : Gen) (maximum : Option ℕ) → old ≡ new_arena first maximum → IsClone first maximum (seen_links number source) (seen_links number new)
+  is_clone_of first maximum begins = λ i. record {
+    slots = links_cloned i;
+    counter = (ap (λ (a : Arena Gen (LinkBody K T)). a.counter) has.state) i;
+    freed = (ap (λ (a : Arena Gen (LinkBody K T)). a.freed) has.state) i;
+    capacity = new.capacity;
+    stack_capacity = new.stack_capacity;
+    maximum = (ap (λ (a : Arena Gen (LinkBody K T)). a.maximum) has.state ∙ ap (λ (a : Arena Gen (LinkBody K T)). a.maximum) begins) i;
+    placed = (ap (λ (a : Arena Gen (LinkBody K T)). a.placed) has.state ∙ ap (λ (a : Arena Gen (LinkBody K T)). a.placed) begins) i;
+    touched = (ap (λ (a : Arena Gen (LinkBody K T)). a.touched) has.state ∙ ap (λ (a : Arena Gen (LinkBody K T)). a.touched) begins) i;
+  }
+
+  pub clone_agrees : Agrees (shown (seen_links number source)) → Agrees (shown (seen_links number new))
+  clone_agrees agrees = subst (λ (slots : List (Option (Gen × LinkSeen T))). Agrees (λ i. option_map interlinks_of (slot_at slots i))) (sym links_cloned) agrees
+
+none_before : {X Y : Type 0} (f : X → Y) (xs : List X) → map f xs ≡ [] → xs ≡ []
+none_before f [] none = refl
+none_before f (x ∷ xs) none = absurd (let h = none in cc)
+
+-- where there are no slots, there is room for them, and no value is refused
+module _ {P K U Gen : Type 0} (number : K → Option ℕ) (may_refuse : P → LinkBody K U → Type 0) (key : P → ℕ × Gen) (source : Arena Gen (LinkBody K U)) where
+  none_among : {X : Type 0} (before after : List X) (x : X) → [] ≡ before ++ x ∷ after → ⊥
+  none_among [] after x same = cc
+  none_among (y ∷ before) after x same = cc
+
+  no_slots : (seen_links number source).slots ≡ [] → source.slots ≡ []
+  no_slots none = none_before (option_map (seen_pair number)) source.slots none
+
+  pub no_room_needed : {N : Type 0} (r : Result (Unit {0}) ReallocationError) (e : ReallocationError) (room : ℕ) → r ≡ Err e → (seen_links number source).slots ≡ []
+      → (length source.slots ≤ room → (IsOk r ⊎ HasRefusable may_refuse key (entries source)) × N) → ⊥
+  no_room_needed r e room is none within = by (within (let few = ap length (no_slots none) in omega (arith, few))).0 where
+    by : (IsOk r ⊎ HasRefusable may_refuse key (entries source)) → ⊥
+    by (inl ok) = false≢true (sym (ap is_ok is) ∙ ok)
+    by (inr refused) = none_among refused.before refused.after (key refused.pointer, refused.value) (sym (ap (entries_from 1) (no_slots none)) ∙ refused.stands)
+
+-- what holds after an answer and after a refusal of two sorts
+pub either_way : {X E A B C D N : Type 0} (r : Result X E) → (A → B → C) → (D → C) → (N → C) → OnOk r A → OnOk r B → OnErr r (D ⊎ N) → C
+either_way (Ok x) done refused gave_up a b d = done a b
+either_way (Err e) done refused gave_up a b (inl d) = refused d
+either_way (Err e) done refused gave_up a b (inr n) = gave_up n

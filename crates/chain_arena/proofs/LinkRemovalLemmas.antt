@@ -1,0 +1,105 @@
+-- A link was taken out at an index: what the removals tell of it.
+use Rattle.std.proofs.Common.{◌≡◌, ℕ, Bool, true, false, Option, None, Some, refl, ap, sym, ◌∙◌, subst}
+use Rattle.std.specs.Prelude.{is_some}
+use Rattle.std.specs.Option.{option_map}
+use Rattle.arena_ptr.specs.Invalidation.{value_within, is_overflow_result, invalidation_result}
+use Rattle.arena_ptr.specs.declared.invalidation.InvalidationResult.{InvalidationResult}
+use Rattle.arena_ptr.specs.declared.invalidation.InvalidationResult.TheVariants.{Success, GenerationOverflow, InvalidPtr}
+use Rattle.chain_laws.specs.Chains.{Agrees}
+use Rattle.arena_base.specs.Arena.{IsValid, entry_at}
+use Rattle.arena_base.specs.Entries.{entry_removed}
+use Rattle.chain_links.specs.ChainArena.{LinkSeen, on_value, shown, seen, entry, link_value, link_at, remove_link, IsRemoval}
+use Rattle.chain_links.specs.Links.{held_in, seen_link, seen_pair}
+use Rattle.chain_links.specs.declared.links.LinkBody.{LinkBody}
+use Rattle.chain_links.proofs.MappedArenaLemmas.{entry_at-with_each, generation_is}
+use Rattle.chain_links.proofs.MappedArenaLemmas.{is_some-map}
+use Rattle.chain_linking.proofs.UnlinkLemmas.{passes_over, removed-agrees, removed-chains, removed-pairs, seen-removed}
+use Rattle.chain_arena.specs.Effects.{Links}
+use Rattle.chain_arena.proofs.ChainDrainLemmas.{link_at-entry}
+
+-- an answer that holds a part of another one tells the same of the counter
+pub same_overflow : {X Y : Type 0} (f : X → Y) (b : Bool) (r : InvalidationResult X) (s : InvalidationResult Y) → value_within s ≡ option_map f (value_within r) → is_overflow_result s ≡ is_overflow_result r
+    → r ≡ invalidation_result b (value_within r) → s ≡ invalidation_result b (value_within s)
+same_overflow f b r InvalidPtr value overflow told = refl
+same_overflow f b InvalidPtr (Success y) value overflow told = absurd (let h = value in cc)
+same_overflow f b InvalidPtr (GenerationOverflow y) value overflow told = absurd (let h = value in cc)
+same_overflow f b (Success x) (GenerationOverflow y) value overflow told = absurd (let h = overflow in cc)
+same_overflow f b (GenerationOverflow x) (Success y) value overflow told = absurd (let h = overflow in cc)
+same_overflow f false (Success x) (Success y) value overflow told = refl
+same_overflow f true (Success x) (Success y) value overflow told = absurd (let h = told in cc)
+same_overflow f false (GenerationOverflow x) (GenerationOverflow y) value overflow told = absurd (let h = told in cc)
+same_overflow f true (GenerationOverflow x) (GenerationOverflow y) value overflow told = refl
+
+-- a removal leaves the interlinks in agreement, whether a link stood there or not
+pub agreed_after : {Gen T K : Type 0} (following : Gen → Gen) (a b : Links Gen T) (n : ℕ) (taken : Option K) → (is_some taken ≡ true → b ≡ remove_link following a n) → (taken ≡ None → b ≡ a) → Agrees (shown a) → Agrees (shown b)
+agreed_after following a b n None valid invalid agrees = subst (λ x. Agrees (shown x)) (sym (invalid refl)) agrees
+agreed_after following a b n (Some e) valid invalid agrees = removed-agrees following a b n (valid refl) agrees
+
+-- what is shown after a removal, by the state
+pub removal_of : {Gen T : Type 0} (following : Gen → Gen) (a b : Links Gen T) (n : ℕ) → Agrees (shown a) → b ≡ remove_link following a n → IsRemoval following a n b
+removal_of following a b n agrees state = record {
+  state = state;
+  shows = passes_over following a b n state;
+  chains = removed-chains following a b n state agrees;
+  pairs = removed-pairs following a b n state agrees;
+}
+
+module _ {Gen K T : Type 0} (packed : K → Option ℕ) (following : Gen → Gen) (a b : Links Gen T) (n : ℕ) (taken : Option (Gen × LinkBody K T))
+    (answer : option_map (seen_pair packed) taken ≡ entry_at a n) where
+  value : option_map (on_value held_in) taken ≡ entry a n
+  value = twice taken ∙ (ap (option_map (on_value link_value)) answer ∙ sym (entry_at-with_each link_value a n)) where
+    twice : (o : Option (Gen × LinkBody K T)) → option_map (on_value held_in) o ≡ option_map (on_value link_value) (option_map (seen_pair packed) o)
+    twice None = refl
+    twice (Some e) = refl
+
+  -- the link
+  pub link_told : option_map (on_value (seen_link packed)) taken ≡ link_at (entry a) (shown a) n
+  link_told = answer ∙ sym (link_at-entry a n)
+
+  -- .. with a generation that is known
+  pub link_alone_told : (g : Gen) (t : T) → entry a n ≡ Some (g, t) → option_map (λ (l : LinkBody K T). (g, seen_link packed l)) (option_map (λ (e : Gen × LinkBody K T). e.1) taken) ≡ link_at (entry a) (shown a) n
+  link_alone_told g t stands = alone taken (value ∙ stands) ∙ link_told where
+    alone : (o : Option (Gen × LinkBody K T)) → option_map (on_value held_in) o ≡ Some (g, t)
+        → option_map (λ (l : LinkBody K T). (g, seen_link packed l)) (option_map (λ (e : Gen × LinkBody K T). e.1) o) ≡ option_map (on_value (seen_link packed)) o
+    alone None is = absurd (let h = is in cc)
+    alone (Some e) is = ap (λ (h : Gen). let o : Option (Gen × LinkSeen T) = Some (h, seen_link packed e.1) in o) (sym (generation_is e.0 g _ _ is))
+
+  -- its value with its generation
+  pub value_told : option_map (λ (e : Gen × LinkBody K T). (e.0, e.1.t)) taken ≡ entry a n
+  value_told = value
+
+  -- .. and alone
+  pub value_alone_told : option_map (λ (e : Gen × LinkBody K T). e.1.t) taken ≡ option_map (λ (e : Gen × T). e.1) (entry a n)
+  value_alone_told = alone taken ∙ ap (option_map (λ (e : Gen × T). e.1)) value where
+    alone : (o : Option (Gen × LinkBody K T)) → option_map (λ (e : Gen × LinkBody K T). e.1.t) o ≡ option_map (λ (e : Gen × T). e.1) (option_map (on_value held_in) o)
+    alone None = refl
+    alone (Some e) = refl
+
+  -- where nothing stands, nothing was taken
+  pub none_taken : entry a n ≡ None → taken ≡ None
+  none_taken none = by taken (value ∙ none) where
+    by : (o : Option (Gen × LinkBody K T)) → option_map (on_value held_in) o ≡ None → o ≡ None
+    by None is = refl
+    by (Some e) is = absurd (let h = is in cc)
+
+  some_taken : is_some (entry a n) ≡ true → is_some taken ≡ true
+  some_taken stands = sym (is_some-map (on_value held_in) taken) ∙ (ap is_some value ∙ stands)
+
+  -- where a valid pointer names it, something was taken
+  pub taken_at : (p : ℕ × Gen) → n ≡ p.0 → IsValid (entry a) p → is_some taken ≡ true
+  taken_at p at valid = some_taken (ap (λ i. is_some (entry a i)) at ∙ ap is_some valid.stands)
+
+  module _ (removal : is_some taken ≡ true → IsRemoval following a n b) where
+    -- where a link stands, it is removed
+    pub removal_there : is_some (entry a n) ≡ true → IsRemoval following a n b
+    removal_there stands = removal (some_taken stands)
+
+    pub seen_there : is_some (entry a n) ≡ true → seen b ≡ entry_removed following (seen a) n
+    seen_there stands = seen-removed following a b n (removal_there stands).state
+
+    -- .. as that of a valid pointer
+    pub removal_at : (p : ℕ × Gen) → n ≡ p.0 → IsValid (entry a) p → IsRemoval following a n b
+    removal_at p at valid = removal_there (ap (λ i. is_some (entry a i)) at ∙ ap is_some valid.stands)
+
+    pub seen_at : (p : ℕ × Gen) → n ≡ p.0 → IsValid (entry a) p → seen b ≡ entry_removed following (seen a) n
+    seen_at p at valid = seen_there (ap (λ i. is_some (entry a i)) at ∙ ap is_some valid.stands)

@@ -1,0 +1,226 @@
+-- Values rewritten one after another, by rising index.
+use Rattle.std.proofs.Common.{◌≡◌, ℕ, zero, suc, ◌+◌, ◌≤◌, ◌<◌, cond, List, [], ◌∷◌, ◌++◌, map, length, Option, None, Some, refl, sym, ap, ap₂, ◌∙◌, subst, append_assoc, le_refl, arith}
+use Rattle.std.specs.Prelude.{slice_index_or, slice_set, Result, Ok, Err}
+use Rattle.std.specs.Option.{option_map}
+use Rattle.std.proofs.lemmas.List.{append-nil, map-append}
+use Rattle.std.proofs.lemmas.Bool.{lt-leb, eq-eqb, ne_eqb}
+use Rattle.arena_base.specs.Arena.{Arena, IsValid, slot_at, with_slot, entry_at}
+use Rattle.arena_base.specs.Entries.{found, replaced, first_key, RisesFrom}
+use Rattle.arena_base.specs.EntryLaws.{entries_rise, found-entries}
+use Rattle.arena_base.specs.Advancers.{from_index, ahead, look_after, IsLook}
+use Rattle.arena_base.specs.Compressions.{values_in}
+use Rattle.arena_base.specs.declared.cursor.Look.{Look}
+use Rattle.arena_base.specs.declared.cursor.Look.TheVariants.{Up}
+use Rattle.chain_links.specs.ChainArena.{LinkSeen, on_value, with_each, with_link_value, with_value_at, values_of, shown, seen, entry}
+use Rattle.chain_arena.specs.Recasts.{link_without_value, AreAllRecast, IsRecast, IsRecastAt}
+use Rattle.chain_traits.proofs.GenericArenaLemmas.{from_index-rises}
+use Rattle.chain_links.proofs.MappedArenaLemmas.{map-with_slot, slot_at-map}
+
+-- slots with what stands at an index put there again
+with_slot-own : {X : Type 0} (slots : List (Option X)) (n : ℕ) → with_slot slots n (slot_at slots n) ≡ slots
+with_slot-own slots zero = refl
+with_slot-own {X} slots (suc k) = by slots k where
+  by : (xs : List (Option X)) (j : ℕ) → slice_set xs j (slice_index_or xs j None) ≡ xs
+  by [] j = refl
+  by (x ∷ xs) zero = refl
+  by (x ∷ xs) (suc j) = ap (λ rest. x ∷ rest) (by xs j)
+
+module _ {Gen T : Type 0} where
+  -- an entry without its value
+  abbrev bare : Option (Gen × LinkSeen T) → Option (Gen × LinkSeen (Unit {0}))
+  bare o = option_map (on_value link_without_value) o
+
+  -- of a link whose value is written all but the value stays
+  pub value-written : (a : Arena Gen (LinkSeen T)) (i : ℕ) (t : T) → with_each link_without_value (with_value_at a i t) ≡ with_each link_without_value a
+  value-written a i t = ap (λ (slots : List (Option (Gen × LinkSeen (Unit {0})))). let b : Arena Gen (LinkSeen (Unit {0})) = record (with_each link_without_value a) { slots = slots } in b)
+      (map-with_slot bare a.slots i (option_map (on_value (with_link_value t)) (entry_at a i))
+      ∙ (ap (with_slot (map bare a.slots) i) (by (entry_at a i) ∙ sym (slot_at-map (on_value link_without_value) a.slots i)) ∙ with_slot-own (map bare a.slots) i))
+    where
+      by : (o : Option (Gen × LinkSeen T)) → option_map (on_value link_without_value) (option_map (on_value (with_link_value t)) o) ≡ option_map (on_value link_without_value) o
+      by None = refl
+      by (Some e) = refl
+
+  abbrev value_or : T → Option (Gen × T) → T
+  value_or other None = other
+  value_or other (Some e) = e.1
+
+  -- an entry behind others
+  rises_to : (front : List ((ℕ × Gen) × T)) (e : (ℕ × Gen) × T) (rest : List ((ℕ × Gen) × T)) (m : ℕ) → RisesFrom m (front ++ e ∷ rest) → m ≤ e.0.0
+  rises_to [] e rest m rises = rises.0
+  rises_to (f ∷ front) e rest m rises = let later = rises_to front e rest (suc f.0.0) rises.1 in omega (arith, rises.0, later)
+
+  found-behind : (front : List ((ℕ × Gen) × T)) (e : (ℕ × Gen) × T) (rest : List ((ℕ × Gen) × T)) (m : ℕ) → RisesFrom m (front ++ e ∷ rest) → found e.0.0 (front ++ e ∷ rest) ≡ Some (e.0.1, e.1)
+  found-behind [] e rest m rises = ap (λ b. cond b (Some (e.0.1, e.1)) (found e.0.0 rest)) (eq-eqb e.0.0 e.0.0 refl)
+  found-behind (f ∷ front) e rest m rises =
+      let below = rises_to front e rest (suc f.0.0) rises.1 in
+      ap (λ b. cond b (Some (f.0.1, f.1)) (found e.0.0 (front ++ e ∷ rest))) (ne_eqb f.0.0 e.0.0 (λ same. omega (arith, below, same)))
+      ∙ found-behind front e rest (suc f.0.0) rises.1
+
+  replaced-behind : (u : T) (front : List ((ℕ × Gen) × T)) (e : (ℕ × Gen) × T) (rest : List ((ℕ × Gen) × T)) (m : ℕ) → RisesFrom m (front ++ e ∷ rest)
+      → replaced e.0.0 (λ (x : Gen × T). (x.0, u)) (front ++ e ∷ rest) ≡ front ++ (e.0, u) ∷ rest
+  replaced-behind u [] e rest m rises =
+      ap (λ b. cond b ((e.0, u) ∷ rest) (e ∷ replaced e.0.0 (λ (x : Gen × T). (x.0, u)) rest)) (eq-eqb e.0.0 e.0.0 refl)
+  replaced-behind u (f ∷ front) e rest m rises =
+      let below = rises_to front e rest (suc f.0.0) rises.1 in
+      let left = replaced e.0.0 (λ (x : Gen × T). (x.0, u)) (front ++ e ∷ rest) in
+      ap (λ b. cond b (((e.0.0, f.0.1), u) ∷ front ++ e ∷ rest) (f ∷ left)) (ne_eqb f.0.0 e.0.0 (λ same. omega (arith, below, same)))
+      ∙ ap (λ es. f ∷ es) (replaced-behind u front e rest (suc f.0.0) rises.1)
+
+  from_index-behind : (front : List ((ℕ × Gen) × T)) (e : (ℕ × Gen) × T) (rest : List ((ℕ × Gen) × T)) (m : ℕ) → RisesFrom m (front ++ e ∷ rest) → from_index (e.0.0 + 1) (front ++ e ∷ rest) ≡ rest
+  from_index-behind [] e rest m rises =
+      ap (λ b. cond b (e ∷ rest) (from_index (e.0.0 + 1) rest)) (lt-leb (e.0.0 + 1) e.0.0 (omega arith)) ∙ from_index-rises (e.0.0 + 1) (suc e.0.0) rest (omega arith) rises.1
+  from_index-behind (f ∷ front) e rest m rises =
+      let below = rises_to front e rest (suc f.0.0) rises.1 in
+      ap (λ b. cond b (f ∷ front ++ e ∷ rest) (from_index (e.0.0 + 1) (front ++ e ∷ rest))) (lt-leb (e.0.0 + 1) f.0.0 (omega (arith, below)))
+      ∙ from_index-behind front e rest (suc f.0.0) rises.1
+
+  values-push : (front : List ((ℕ × Gen) × T)) (e : (ℕ × Gen) × T) (rest : List ((ℕ × Gen) × T)) → values_in (front ++ e ∷ rest) ≡ values_in front ++ e.1 ∷ values_in rest
+  values-push front e rest = map-append (λ (x : (ℕ × Gen) × T). x.1) front (e ∷ rest)
+
+module _ {T I : Type 0} (recasts : T → T → Result (Unit {0}) I → Type 0) where
+  all_pushed : (ts us : List T) (t u : T) → AreAllRecast recasts ts us → recasts t u (Ok tt) → AreAllRecast recasts (ts ++ t ∷ []) (us ++ u ∷ [])
+  all_pushed [] [] t u all recast = (recast, tt)
+  all_pushed (x ∷ ts) (y ∷ us) t u all recast = (all.0, all_pushed ts us t u all.1 recast)
+  all_pushed [] (y ∷ us) t u all recast = absurd all
+  all_pushed (x ∷ ts) [] t u all recast = absurd all
+
+  module _ {Gen : Type 0} where
+    -- so far: the values in front are recast, and the advancer looks at what is left
+    pub record IsRecasting (old now : Arena Gen (LinkSeen T)) (look : Look) : Type 0 where
+      pub were : List T
+      pub front : List ((ℕ × Gen) × T)
+      pub left : List ((ℕ × Gen) × T)
+      pub from : ℕ
+      pub olds : values_in (seen old).entries ≡ were ++ values_in left
+      pub news : (seen now).entries ≡ front ++ left
+      pub all : AreAllRecast recasts were (values_in front)
+      pub looks : look ≡ Up from
+      pub ahead : from_index from (seen now).entries ≡ left
+      pub rest : with_each link_without_value now ≡ with_each link_without_value old
+      pub shows : shown now ≡ shown old
+
+    pub recasting_begins : (old : Arena Gen (LinkSeen T)) (look : Look) → look ≡ Up 1 → IsRecasting old old look
+    recasting_begins old look up = record {
+      were = [];
+      front = [];
+      left = (seen old).entries;
+      from = 1;
+      olds = refl;
+      news = refl;
+      all = tt;
+      looks = up;
+      ahead = from_index-rises 1 1 (seen old).entries (le_refl 1) (entries_rise (values_of old));
+      rest = refl;
+      shows = refl;
+    }
+
+    module _ (old now : Arena Gen (LinkSeen T)) (look : Look) (at : IsRecasting old now look) where
+      left_ahead : ahead look (seen now).entries ≡ at.left
+      left_ahead = ap (λ (l : Look). ahead l (seen now).entries) at.looks ∙ at.ahead
+
+      -- where nothing is ahead all values are recast
+      pub recast_all : (after : Look) → IsLook (seen now).entries look None after → IsRecast recasts old now (Ok tt)
+      recast_all after none = by at.left refl where
+        by : (left : List ((ℕ × Gen) × T)) → at.left ≡ left → IsRecast recasts old now (Ok tt)
+        by [] empty = record {
+          rest = at.rest;
+          shows = at.shows;
+          values =
+              let olds = at.olds ∙ (ap (λ (l : List ((ℕ × Gen) × T)). at.were ++ values_in l) empty ∙ append-nil at.were) in
+              let news = ap values_in (at.news ∙ (ap (λ (l : List ((ℕ × Gen) × T)). at.front ++ l) empty ∙ append-nil at.front)) in
+              subst (λ ts. AreAllRecast recasts ts (values_in (seen now).entries)) (sym olds) (subst (AreAllRecast recasts at.were) (sym news) at.all);
+        }
+        by (e ∷ left) some = absurd (let met = none.first ∙ ap first_key (left_ahead ∙ some) in cc)
+
+      -- the next entry: the first of those that are left
+      record IsNext (p : ℕ × Gen) : Type 0 where
+        value : T
+        later : List ((ℕ × Gen) × T)
+        is : at.left ≡ (p, value) ∷ later
+
+      next_is : (p : ℕ × Gen) (after : Look) → IsLook (seen now).entries look (Some p) after → IsNext p
+      next_is p after met = by at.left refl where
+        by : (left : List ((ℕ × Gen) × T)) → at.left ≡ left → IsNext p
+        by [] empty = absurd (let none = met.first ∙ ap first_key (left_ahead ∙ empty) in cc)
+        by (e ∷ left) some =
+            let first : Some p ≡ Some e.0 = met.first ∙ ap first_key (left_ahead ∙ some) in
+            let same : p ≡ e.0 = cc in
+            record { value = e.1; later = left; is = some ∙ ap (λ (q : ℕ × Gen). let es : List ((ℕ × Gen) × T) = (q, e.1) ∷ left in es) (sym same) }
+
+      module _ (p : ℕ × Gen) (after : Look) (met : IsLook (seen now).entries look (Some p) after) where
+        abbrev next : IsNext p
+        next = next_is p after met
+
+        entries_are : (seen now).entries ≡ at.front ++ (p, next.value) ∷ next.later
+        entries_are = at.news ∙ ap (λ es. at.front ++ es) next.is
+
+        rises : RisesFrom 1 (at.front ++ (p, next.value) ∷ next.later)
+        rises = subst (RisesFrom 1) entries_are (entries_rise (values_of now))
+
+        stands : entry now p.0 ≡ Some (p.1, next.value)
+        stands = sym (found-entries (values_of now) p.0) ∙ (ap (found p.0) entries_are ∙ found-behind at.front (p, next.value) next.later 1 rises)
+
+        pub next_valid : IsValid (entry now) p
+        next_valid = record { value = next.value; stands = stands }
+
+        module _ (new : Arena Gen (LinkSeen T)) (answer : Result (Unit {0}) I) (is : IsRecastAt recasts now new p answer) where
+          was_value : is.was ≡ next.value
+          was_value = ap (value_or next.value) (sym is.stood ∙ stands)
+
+          entries_then : (seen new).entries ≡ at.front ++ (p, is.is) ∷ next.later
+          entries_then = is.entries ∙ (ap (replaced p.0 (λ (x : Gen × T). (x.0, is.is))) entries_are ∙ replaced-behind is.is at.front (p, next.value) next.later 1 rises)
+
+          rest_then : with_each link_without_value new ≡ with_each link_without_value old
+          rest_then = ap (with_each link_without_value) is.state ∙ (value-written now p.0 is.is ∙ at.rest)
+
+          olds_then : values_in (seen old).entries ≡ at.were ++ is.was ∷ values_in next.later
+          olds_then = at.olds ∙ (ap (λ (l : List ((ℕ × Gen) × T)). at.were ++ values_in l) next.is ∙ ap (λ t. at.were ++ t ∷ values_in next.later) (sym was_value))
+
+          shows_then : shown new ≡ shown old
+          shows_then = is.shows ∙ at.shows
+
+          left_then : ahead after (seen new).entries ≡ next.later
+          left_then =
+              let up : after ≡ Up (p.0 + 1) = met.moves ∙ ap (λ (l : Look). look_after l (Some p)) at.looks in
+              let es = at.front ++ (p, is.is) ∷ next.later in
+              ap₂ (λ (l : Look) (xs : List ((ℕ × Gen) × T)). ahead l xs) up entries_then
+              ∙ from_index-behind at.front (p, is.is) next.later 1 (subst (RisesFrom 1) entries_then (entries_rise (values_of new)))
+
+          -- fewer are left then
+          pub fewer_left : length (ahead after (seen new).entries) < length (ahead look (seen now).entries)
+          fewer_left = let few = ap (λ (l : List ((ℕ × Gen) × T)). length l) left_then in let many = ap (λ (l : List ((ℕ × Gen) × T)). length l) (left_ahead ∙ next.is) in omega (arith, few, many)
+
+          -- one value more is recast
+          pub recast_next : answer ≡ Ok tt → IsRecasting old new after
+          recast_next ok = record {
+            were = at.were ++ is.was ∷ [];
+            front = at.front ++ (p, is.is) ∷ [];
+            left = next.later;
+            from = p.0 + 1;
+            olds = olds_then ∙ sym (append_assoc at.were (is.was ∷ []) (values_in next.later));
+            news = entries_then ∙ sym (append_assoc at.front ((p, is.is) ∷ []) next.later);
+            all = subst (AreAllRecast recasts (at.were ++ is.was ∷ [])) (sym (values-push at.front (p, is.is) []))
+                (all_pushed at.were (values_in at.front) is.was is.is at.all (subst (recasts is.was is.is) ok is.recast));
+            looks = met.moves ∙ ap (λ (l : Look). look_after l (Some p)) at.looks;
+            ahead = sym (ap (λ (l : Look). ahead l (seen new).entries) (met.moves ∙ ap (λ (l : Look). look_after l (Some p)) at.looks)) ∙ left_then;
+            rest = rest_then;
+            shows = shows_then;
+          }
+
+          -- one refuses
+          pub recast_refused : (refusal : I) → answer ≡ Err refusal → IsRecast recasts old new (Err refusal)
+          recast_refused refusal err = record {
+            rest = rest_then;
+            shows = shows_then;
+            values = record {
+              before = at.were;
+              recast = values_in at.front;
+              was = is.was;
+              is = is.is;
+              after = values_in next.later;
+              old = olds_then;
+              new = ap values_in entries_then ∙ values-push at.front (p, is.is) next.later;
+              all = at.all;
+              refuses = subst (recasts is.was is.is) err is.recast;
+            };
+          }

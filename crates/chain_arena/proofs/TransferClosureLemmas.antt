@@ -1,0 +1,73 @@
+-- The calls of the closure of a transfer, one for each link that is carried over.
+use Rattle.std.proofs.Common.{◌≡◌, ℕ, zero, suc, ◌+◌, Bool, List, [], ◌∷◌, ◌++◌, length, map, Option, None, Some, refl, sym, ap, ap₂, ◌∙◌, arith}
+use Rattle.std.specs.Prelude.{All, IfSome}
+use Rattle.std.specs.Option.{option_map}
+use Rattle.std.specs.Fn.{Mut, Called}
+use Rattle.std.specs.List.{FoldsTo, range_with_len}
+use Rattle.std.proofs.lemmas.Fn.{FoldsTo-push}
+use Rattle.std.proofs.lemmas.List.{map-append, length-append}
+use Rattle.std.proofs.lemmas.List.Elements.{All-push, All-nil}
+use Rattle.arena_ptr.specs.Invalidation.{value_in, is_overflow}
+use Rattle.arena_ptr.specs.declared.invalidation.InvalidationOption.{InvalidationOption}
+use Rattle.chain_laws.proofs.ListLemmas.Ranges.{range_last}
+use Rattle.arena_base.specs.Entries.{Seen, found}
+use Rattle.chain_arena.specs.Drains.{after_times}
+use Rattle.chain_arena.specs.Transfers.{Carried, old_index, overflows}
+
+module _ {Gen : Type 0} (following : Gen → Gen) (wraps : Gen → Bool) where
+  -- the overflow of one removal more
+  overflows-append : (n : ℕ) (g : Gen) → overflows following wraps (n + 1) g ≡ overflows following wraps n g ++ wraps (after_times following n g) ∷ []
+  overflows-append n g = ap (λ m. overflows following wraps m g) (let e : n + 1 ≡ suc n = omega arith in e) ∙ longer n g
+    where
+      longer : (n : ℕ) (g : Gen) → overflows following wraps (suc n) g ≡ overflows following wraps n g ++ wraps (after_times following n g) ∷ []
+      longer zero g = refl
+      longer (suc n) g = ap (λ bs. wraps g ∷ bs) (longer n (following g))
+
+module _ {Q P G Gen U T F : Type 0} (key : Q → ℕ × G) (new_key : P → ℕ × Gen) (following : G → G) (wraps : G → Bool) (call : Mut F (Q × (InvalidationOption U × (P × Unit {0}))) T) where
+  -- the closure was called for the links at these indexes, in this order
+  pub record AreCalled (generation : Gen) (first : F) (source : Seen G U) (order : List ℕ) (f : F) (carried : List (Carried Q P U T)) : Type 0 where
+    pub ordered : map (old_index key) carried ≡ order
+    pub keys : map (λ c. new_key c.to) carried ≡ map (λ k. (k, generation)) (range_with_len 1 (length carried))
+    pub in_turn : FoldsTo (λ s c t. Called call s (c.from, (c.value, (c.to, tt))) c.answer t) first carried f
+    pub stood : All (λ c. found (old_index key c) source.entries ≡ Some ((key c.from).1, value_in c.value)) carried
+    pub overflow : IfSome source.counter (λ g. map (λ c. is_overflow c.value) carried ≡ overflows following wraps (length carried) g)
+
+  pub calls_begin : (generation : Gen) (f : F) (source : Seen G U) → AreCalled generation f source [] f []
+  calls_begin generation f source = record { ordered = refl; keys = refl; in_turn = refl; stood = All-nil (λ (d : Carried Q P U T). found (old_index key d) source.entries ≡ Some ((key d.from).1, value_in d.value)); overflow = none source.counter }
+    where
+      none : (o : Option G) → IfSome o (λ g. map {A = Carried Q P U T} (λ c. is_overflow c.value) [] ≡ overflows following wraps 0 g)
+      none None = tt
+      none (Some g) = refl
+
+  -- one call more
+  pub calls_go_on : (generation : Gen) (first : F) (source : Seen G U) (order : List ℕ) (f : F) (carried : List (Carried Q P U T)) → AreCalled generation first source order f carried
+      → (c : Carried Q P U T) (next : F) → found (old_index key c) source.entries ≡ Some ((key c.from).1, value_in c.value) → new_key c.to ≡ (length carried + 1, generation)
+      → Called call f (c.from, (c.value, (c.to, tt))) c.answer next
+      → IfSome (option_map (after_times following (length carried)) source.counter) (λ g. is_overflow c.value ≡ wraps g)
+      → AreCalled generation first source (order ++ old_index key c ∷ []) next (carried ++ c ∷ [])
+  calls_go_on generation first source order f carried are c next stood at called overflow = record {
+    ordered = map-append (old_index key) carried (c ∷ []) ∙ ap (λ (xs : List ℕ). xs ++ old_index key c ∷ []) are.ordered;
+    keys = keyed;
+    in_turn = FoldsTo-push _ first carried f c next are.in_turn called;
+    stood = All-push (λ (d : Carried Q P U T). found (old_index key d) source.entries ≡ Some ((key d.from).1, value_in d.value)) carried c are.stood stood;
+    overflow = told source.counter are.overflow overflow;
+  }
+    where
+      long : length (carried ++ c ∷ []) ≡ length carried + 1
+      long = length-append carried (c ∷ [])
+
+      keyed : map (λ (d : Carried Q P U T). new_key d.to) (carried ++ c ∷ []) ≡ map (λ k. (k, generation)) (range_with_len 1 (length (carried ++ c ∷ [])))
+      keyed =
+          map-append (λ (d : Carried Q P U T). new_key d.to) carried (c ∷ [])
+          ∙ (ap₂ (λ (ps : List (ℕ × Gen)) (p : ℕ × Gen). ps ++ p ∷ []) are.keys (at ∙ ap (λ n. let p : ℕ × Gen = (n, generation) in p) (let e : length carried + 1 ≡ 1 + length carried = omega arith in e))
+          ∙ (sym (map-append (λ k. let p : ℕ × Gen = (k, generation) in p) (range_with_len 1 (length carried)) ((1 + length carried) ∷ []))
+          ∙ ap (map (λ k. let p : ℕ × Gen = (k, generation) in p)) (sym (range_last 1 (length carried)) ∙ ap (range_with_len 1) (sym long))))
+
+      told : (o : Option G) → IfSome o (λ g. map (λ (d : Carried Q P U T). is_overflow d.value) carried ≡ overflows following wraps (length carried) g)
+          → IfSome (option_map (after_times following (length carried)) o) (λ g. is_overflow c.value ≡ wraps g)
+          → IfSome o (λ g. map (λ (d : Carried Q P U T). is_overflow d.value) (carried ++ c ∷ []) ≡ overflows following wraps (length (carried ++ c ∷ [])) g)
+      told None before now = tt
+      told (Some g) before now =
+          map-append (λ (d : Carried Q P U T). is_overflow d.value) carried (c ∷ [])
+          ∙ (ap₂ (λ (bs : List Bool) (b : Bool). bs ++ b ∷ []) before now
+          ∙ (sym (overflows-append following wraps (length carried) g) ∙ ap (λ n. overflows following wraps n g) (sym long)))

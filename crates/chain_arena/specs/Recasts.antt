@@ -1,0 +1,53 @@
+-- What a recast makes of a chain arena: other values, and nothing else.
+use Rattle.std.specs.Prelude.{◌≡◌, ℕ, List, [], ◌∷◌, ◌++◌, Some, Result, Ok, Err}
+use Rattle.arena_base.specs.Arena.{Arena}
+use Rattle.arena_base.specs.Entries.{replaced}
+use Rattle.arena_base.specs.Compressions.{values_in}
+use Rattle.chain_links.specs.ChainArena.{LinkSeen, new_link, with_each, with_value_at, shown, seen, entry}
+
+-- a link without its value
+abbrev pub link_without_value : {T : Type 0} → LinkSeen T → LinkSeen (Unit {0})
+link_without_value link = new_link tt link.prev link.next
+
+-- what recasts a value, from what it was to what it is, with the answer
+module _ {T I : Type 0} (recasts : T → T → Result (Unit {0}) I → Type 0) where
+  -- each value is recast
+  abbrev pub AreAllRecast : List T → List T → Type 0
+  AreAllRecast [] [] = Unit {0}
+  AreAllRecast (t ∷ ts) (u ∷ us) = recasts t u (Ok tt) × AreAllRecast ts us
+  AreAllRecast [] (u ∷ us) = ⊥
+  AreAllRecast (t ∷ ts) [] = ⊥
+
+  -- the values are recast up to one that refuses, which is as its own recast left it, and those after it stay
+  pub record AreRecastUpTo (ts us : List T) (refusal : I) : Type 0 where
+    pub before : List T
+    pub recast : List T
+    pub was : T
+    pub is : T
+    pub after : List T
+    pub old : ts ≡ before ++ was ∷ after
+    pub new : us ≡ recast ++ is ∷ after
+    pub all : AreAllRecast before recast
+    pub refuses : recasts was is (Err refusal)
+
+  -- all values are recast, or one refuses, whose answer is the answer
+  abbrev pub AreRecast : List T → List T → Result (Unit {0}) I → Type 0
+  AreRecast ts us (Ok _) = AreAllRecast ts us
+  AreRecast ts us (Err refusal) = AreRecastUpTo ts us refusal
+
+  module _ {Gen : Type 0} where
+    -- the values are recast by rising index. Generations and interlinks stay, and all else of the state
+    pub record IsRecast (old new : Arena Gen (LinkSeen T)) (answer : Result (Unit {0}) I) : Type 0 where
+      pub rest : with_each link_without_value new ≡ with_each link_without_value old
+      pub shows : shown new ≡ shown old
+      pub values : AreRecast (values_in (seen old).entries) (values_in (seen new).entries) answer
+
+    -- the value at a key is recast, and all else stays
+    pub record IsRecastAt (old new : Arena Gen (LinkSeen T)) (p : ℕ × Gen) (answer : Result (Unit {0}) I) : Type 0 where
+      pub was : T
+      pub is : T
+      pub stood : entry old p.0 ≡ Some (p.1, was)
+      pub state : new ≡ with_value_at old p.0 is
+      pub shows : shown new ≡ shown old
+      pub entries : (seen new).entries ≡ replaced p.0 (λ e. (e.0, is)) (seen old).entries
+      pub recast : recasts was is answer

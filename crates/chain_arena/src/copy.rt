@@ -1,0 +1,210 @@
+// Copies of a chain arena.
+ghost use Rattle.std.specs.Prelude.{◌≡◌, ◌≤◌, ◌↔◌, ◌⊎◌, [], length, IsOk, IfOk, OnOk, OnErr, Err};
+ghost use Rattle.arena_ptr.specs.SlotStack.{IsBeyond};
+ghost use Rattle.chain_laws.specs.Chains.{Agrees};
+ghost use Rattle.arena_base.specs.Arena.{HasRoom, IsRoom, IsWithinReach, new_arena};
+ghost use Rattle.arena_base.specs.Copies.{IsCopyBy, IsCopyCall, IsGivenUp, IsLeftEmpty};
+ghost use Rattle.chain_links.specs.ChainArena.{shown};
+ghost use Rattle.chain_links.specs.Links.{seen_link};
+ghost use Rattle.chain_arena.specs.LinkCopies.{MakesOf, HasRefusableLink, IsLinkCopy, IsLinkCopyBy, IsClone, IsCopyBelow};
+
+use crate::chain_arena::ChainArena;
+use arena_base::{Answering, Arena, ArenaCloneFromWith, ArenaSlot, ArenaTrait, ValueMap};
+use arena_ptr::{AllocError, InxKey, PackedOption, PtrKey, ReallocationError, SlotStack};
+use chain_links::{LinkBody, LinkNoGen};
+use std::alloc::Global;
+
+// Makes the links of a copy: each names the same neighbors, and has a value that the map makes.
+#[derive(Drop)]
+struct LinkMap<M> {
+    values: M,
+}
+
+impl<
+    P,
+    W: Copy,
+    I: InxKey<Word = W>,
+    U,
+    T,
+    M: ValueMap<P, LinkBody<PackedOption<I, W>, U>, T>,
+> ValueMap<P, LinkBody<PackedOption<I, W>, U>, LinkBody<PackedOption<I, W>, T>> for LinkMap<M> {
+    ghost use Rattle.chain_links.specs.Links.{seen_link};
+    ghost use Rattle.chain_arena.specs.LinkCopies.{MakesLink, MakesOf};
+
+    ghost is_ready = { λ m. M.is_ready m.values };
+
+    ghost makes = { λ m p u t n. MakesLink I.packed_number (MakesOf (seen_link I.packed_number) M.makes) m.values p u t n.values };
+
+    ghost may_refuse = { λ p u. M.may_refuse p u };
+
+    fn map_value(
+        &mut self,
+        p: P,
+        u: &LinkBody<PackedOption<I, W>, U>,
+    ) -> Result<LinkBody<PackedOption<I, W>, T>, AllocError> {
+        match self.values.map_value(p, u) {
+            Ok(t) => Ok(LinkBody::new(u.prev_next(), t)),
+            Err(why) => Err(why),
+        }
+    }
+}
+
+impl<P: PtrKey, T: Drop, S: SlotStack<Item = ArenaSlot<P, LinkNoGen<P, T>>>> ChainArena<P, T, S> {
+    /// Becomes a copy of the source: its indexes, generations, counter, number of slots, freed list and interlinks, with
+    /// values that the map makes. It is shown each link of the source once, by rising index, and handed back, ready for
+    /// more. The links that stood here are dropped. It grows only where the source has more slots than the capacity.
+    ///
+    /// `BeyondMaxCapacity`: the source has more slots than the maximum, which is tested first. `AllocError`: memory was
+    /// refused. After either nothing has changed, and the map was shown nothing; but where the memory was refused for a
+    /// value, the arena is left without links and slots.
+    pub fn clone_from_by<
+        U: Drop,
+        S1: SlotStack<Item = ArenaSlot<P, LinkNoGen<P, U>>>,
+        M: ValueMap<P, LinkNoGen<P, U>, T>,
+    >(&mut self, source: &ChainArena<P, U, S1>, values: M) -> (Result<(), ReallocationError>, M)
+        requires { M.is_ready values }
+        ensures within { length source.now.slots ≤ self.old.capacity →
+            (IsOk result.0 ⊎ HasRefusableLink P.Inx.packed_number M.may_refuse P.key source.now) × (self.new.capacity ≡ self.old.capacity) }
+        ensures beyond { (result.0 ≡ Err ReallocationError.BeyondMaxCapacity) ↔ IsBeyond self.old.maximum (length source.now.slots) }
+        ensures unchanged { result.0 ≡ Err ReallocationError.BeyondMaxCapacity
+            → (self.new ≡ self.old) × (result.1 ≡ values) }
+        ensures ok { OnOk result.0 (HasRoom P.Inx.greatest (length source.now.slots) self.new) }
+        ensures copied { OnOk result.0 (IsLinkCopyBy (MakesOf (seen_link P.Inx.packed_number) M.makes) P.key values source.now self.old self.new result.1) }
+        ensures ready { OnOk result.0 (M.is_ready result.1) }
+        ensures never_less { self.old.capacity ≤ self.new.capacity }
+        ensures reached { IsWithinReach S.may_reach (length source.now.slots) self.old self.new }
+        ensures err { OnErr result.0 (((self.new ≡ self.old) × (result.1 ≡ values))
+            ⊎ (HasRefusableLink P.Inx.packed_number M.may_refuse P.key source.now × IsGivenUp self.old self.new)) }
+        ensures agreed { Agrees (shown source.now) }
+    {
+        let (done, links) = self.arena.clone_from_by(&source.arena, LinkMap { values });
+        (done, links.values)
+    }
+
+    /// Becomes a copy of the source, as by `clone_from_by`, with the closure's answers as values. The closure sees each link
+    /// of the source by rising index.
+    ///
+    /// `BeyondMaxCapacity`: the source has more slots than the maximum, which is tested first. `AllocError`: memory was
+    /// refused. After either nothing has changed.
+    ///
+    /// Carries `clone_from_with` of `triple_arena`.
+    pub fn clone_from_with<
+        U: Drop,
+        S1: SlotStack<Item = ArenaSlot<P, LinkNoGen<P, U>>>,
+        F: FnMut(P, &LinkNoGen<P, U>) -> T + Drop,
+    >(&mut self, source: &ChainArena<P, U, S1>, map: F) -> Result<(), ReallocationError>
+        requires { F.IsAlwaysCallable map }
+        ensures within { length source.now.slots ≤ self.old.capacity → IsOk result × (self.new.capacity ≡ self.old.capacity) }
+        ensures beyond { (result ≡ Err ReallocationError.BeyondMaxCapacity) ↔ IsBeyond self.old.maximum (length source.now.slots) }
+        ensures ok { OnOk result (HasRoom P.Inx.greatest (length source.now.slots) self.new) }
+        ensures copied { OnOk result (IsLinkCopy F.FnMut P.Inx.packed_number P.key map source.now self.old self.new) }
+        ensures never_less { self.old.capacity ≤ self.new.capacity }
+        ensures reached { IsWithinReach S.may_reach (length source.now.slots) self.old self.new }
+        ensures err { OnErr result (self.new ≡ self.old) }
+        ensures agreed { Agrees (shown source.now) }
+    {
+        let (done, _) = self.clone_from_by(source, Answering { map });
+        done
+    }
+
+    /// Makes any arena a copy: with the indexes, generations, counter, number of slots and freed list of this one, and
+    /// values that the map makes. It is shown each link once, by rising index, and handed back, ready for more. What the
+    /// arena held is dropped. It grows only where there are more slots than its capacity.
+    ///
+    /// `BeyondMaxCapacity`: there are more slots than its maximum, which is tested first. `AllocError`: memory was
+    /// refused. After either nothing has changed, and the map was shown nothing; but where the memory was refused for a
+    /// value, that arena is left without entries and slots.
+    pub fn clone_to_arena_by<
+        U: Drop,
+        A: ArenaCloneFromWith<P, U>,
+        M: ValueMap<P, LinkNoGen<P, T>, U>,
+    >(&self, arena: &mut A, values: M) -> (Result<(), ReallocationError>, M)
+        requires { M.is_ready values }
+        ensures within { length self.now.slots ≤ (A.seen arena.old).capacity →
+            (IsOk result.0 ⊎ HasRefusableLink P.Inx.packed_number M.may_refuse P.key self.now) × ((A.seen arena.new).capacity ≡ (A.seen arena.old).capacity) }
+        ensures beyond { (result.0 ≡ Err ReallocationError.BeyondMaxCapacity) ↔ IsBeyond (A.seen arena.old).maximum (length self.now.slots) }
+        ensures unchanged { result.0 ≡ Err ReallocationError.BeyondMaxCapacity
+            → (arena.new ≡ arena.old) × (result.1 ≡ values) }
+        ensures ok { OnOk result.0 (IsRoom P.Inx.greatest (A.seen arena.new).maximum (length self.now.slots) (A.seen arena.new).capacity) }
+        ensures copied { OnOk result.0 (IsCopyBy (MakesOf (seen_link P.Inx.packed_number) M.makes) P.key values self.now (A.seen arena.old) (A.seen arena.new) result.1) }
+        ensures ready { OnOk result.0 (M.is_ready result.1) }
+        ensures never_less { (A.seen arena.old).capacity ≤ (A.seen arena.new).capacity }
+        ensures err { OnErr result.0 (((arena.new ≡ arena.old) × (result.1 ≡ values))
+            ⊎ (HasRefusableLink P.Inx.packed_number M.may_refuse P.key self.now × IsLeftEmpty (A.seen arena.old) (A.seen arena.new))) }
+        ensures more { OnOk result.0 (IsCopyBelow P.Inx.packed_number (A.copies _) self.now arena.old arena.new) }
+    {
+        arena.clone_from_by(&self.arena, values)
+    }
+
+    /// Makes any arena a copy, as by `clone_to_arena_by`, with the closure's answers as values. The closure sees each link
+    /// by rising index.
+    ///
+    /// `BeyondMaxCapacity`: there are more slots than its maximum, which is tested first. `AllocError`: memory was
+    /// refused. After either nothing has changed.
+    ///
+    /// Carries `clone_to_arena` of `triple_arena`.
+    pub fn clone_to_arena<
+        U: Drop,
+        A: ArenaCloneFromWith<P, U>,
+        F: FnMut(P, &LinkNoGen<P, T>) -> U + Drop,
+    >(&self, arena: &mut A, map: F) -> Result<(), ReallocationError>
+        requires { F.IsAlwaysCallable map }
+        ensures within { length self.now.slots ≤ (A.seen arena.old).capacity → IsOk result × ((A.seen arena.new).capacity ≡ (A.seen arena.old).capacity) }
+        ensures beyond { (result ≡ Err ReallocationError.BeyondMaxCapacity) ↔ IsBeyond (A.seen arena.old).maximum (length self.now.slots) }
+        ensures ok { OnOk result (IsRoom P.Inx.greatest (A.seen arena.new).maximum (length self.now.slots) (A.seen arena.new).capacity) }
+        ensures copied { OnOk result ((last : F) × IsCopyBy (MakesOf (seen_link P.Inx.packed_number) (IsCopyCall F.FnMut)) P.key map self.now (A.seen arena.old) (A.seen arena.new) last) }
+        ensures never_less { (A.seen arena.old).capacity ≤ (A.seen arena.new).capacity }
+        ensures err { OnErr result (arena.new ≡ arena.old) }
+        ensures more { OnOk result (IsCopyBelow P.Inx.packed_number (A.copies _) self.now arena.old arena.new) }
+    {
+        let (done, _) = self.clone_to_arena_by(arena, Answering { map });
+        done
+    }
+}
+
+// Makes the links of a copy: each names the same neighbors, and has a clone as its value.
+#[derive(Drop)]
+struct LinkClones;
+
+impl<P: PtrKey, T: Clone> ValueMap<P, LinkNoGen<P, T>, LinkNoGen<P, T>> for LinkClones {
+    ghost use Rattle.std.specs.Prelude.{⊤};
+    ghost use Rattle.chain_arena.specs.LinkCopies.{MakesLink};
+
+    ghost is_ready = { λ _. ⊤ };
+
+    ghost makes = { MakesLink P.Inx.packed_number (λ _ _ u t _. T.is_clone u.value t) };
+
+    ghost may_refuse = { λ _ u. ¬ (T.is_infallible u.t) };
+
+    fn map_value(&mut self, _p: P, u: &LinkNoGen<P, T>) -> Result<LinkNoGen<P, T>, AllocError> {
+        let t = u.t.clone()?;
+        Ok(LinkBody::new(u.prev_next(), t))
+    }
+}
+
+impl<P: PtrKey, T: Clone, S: SlotStack<Item = ArenaSlot<P, LinkNoGen<P, T>>>> ChainArena<P, T, S> {
+    /// A copy over a new stack that is made with the allocator: its indexes, generations, counter, freed list and
+    /// interlinks, and clones of its values, which are to equal them. A maximum is not carried over.
+    ///
+    /// `BeyondMaxCapacity`: there are more slots than the maximum that a new stack has, which is tested first.
+    /// `AllocError`: memory was refused, for the slots or by the clone of a value. After either nothing is left of the copy.
+    ///
+    /// Carries `clone` of `triple_arena`.
+    pub fn clone(&self, alloc: Global) -> Result<Self, ReallocationError>
+        requires clones_equal { (x y : T) → T.is_clone x y → y ≡ x }
+        ensures beyond { (result ≡ Err ReallocationError.BeyondMaxCapacity) ↔ IsBeyond S.initial_maximum (length self.now.slots) }
+        ensures copied { IfOk result (IsClone P.Gen.first S.initial_maximum self.now) }
+        ensures room { IfOk result (HasRoom P.Inx.greatest (length self.now.slots)) }
+        ensures reached { IfOk result (IsWithinReach S.may_reach (length self.now.slots)
+            (new_arena P.Gen.first S.initial_maximum)) }
+        ensures no_room { self.now.slots ≡ [] → IfOk result (λ copy. copy.stack_capacity ≡ 0) × IsOk result }
+        ensures agreed { Agrees (shown self.now) }
+    {
+        let mut arena: Arena<P, LinkNoGen<P, T>, S> = Arena::new(alloc);
+        let (done, _) = arena.clone_from_by(&self.arena, LinkClones);
+        match done {
+            Ok(()) => Ok(ChainArena { arena }),
+            Err(why) => Err(why),
+        }
+    }
+}

@@ -1,0 +1,121 @@
+// The place of a new link, which is a gap with room for one link more, and how a link comes there.
+ghost use Rattle.std.specs.Prelude.{◌≡◌, ◌<◌};
+ghost use Rattle.std.specs.Result.{ForOk};
+ghost use Rattle.chain_laws.specs.Chains.{Agrees};
+ghost use Rattle.chain_laws.specs.Insertions.{IsGap};
+ghost use Rattle.arena_base.specs.Arena.{entry_count, next_index};
+ghost use Rattle.chain_links.specs.ChainArena.{shown};
+ghost use Rattle.chain_linking.specs.InsertPositions.{before_in, after_in};
+ghost use Rattle.chain_arena.specs.NewLinks.{GrowsByOne, gap_unless_refused, refusal_of, PlacesGrowing, PlacesWithin, IsInsertedIn, InsertsAt};
+
+use crate::chain_arena::ChainArena;
+use arena_base::{ArenaSlot, ArenaTrait, excluded};
+use arena_ptr::{ChainInsertionError, PtrKey, ReallocationError, SlotStack};
+use chain_linking::insert_position::Gap;
+use chain_linking::link_writes::tie;
+use chain_linking::new_link::link_in;
+use chain_links::{LinkInsertKind, LinkNoGen};
+
+impl<P: PtrKey, T: Drop, S: SlotStack<Item = ArenaSlot<P, LinkNoGen<P, T>>>> ChainArena<P, T, S> {
+    // Grows a full arena to room for one link more.
+    pub(crate) fn make_room(&mut self) -> Result<(), ReallocationError>
+        ensures { GrowsByOne S.may_reach P.Inx.greatest self.old result self.new }
+    {
+        let n = self.len() + 1;
+        let grown = self.reallocate_min_capacity(n);
+        self.invariants();
+        grown
+    }
+
+    // The gap of a kind, within the capacity. Inlined, as the insertions are.
+    #[inline(always)]
+    pub(crate) fn gap_within(
+        &self,
+        kind: LinkInsertKind<P>,
+    ) -> Result<Gap<P::Inx>, ChainInsertionError>
+        ensures place { PlacesWithin P.key P.Inx.number self.now kind result }
+        ensures agree { Agrees (shown self.now) }
+    {
+        match self.gap_for(kind) {
+            Some(gap) => {
+                if self.len() == self.capacity() {
+                    return Err(ChainInsertionError::NotWithinCapacity);
+                }
+                Ok(gap)
+            }
+            None => Err(ChainInsertionError::FailedLinkRequirement),
+        }
+    }
+
+    // The gap of a kind. A full arena grows first. Inlined, as the insertions are.
+    #[inline(always)]
+    pub(crate) fn gap_growing(
+        &mut self,
+        kind: LinkInsertKind<P>,
+    ) -> Result<Gap<P::Inx>, ChainInsertionError>
+        ensures place { PlacesGrowing P.key P.Inx.number S.may_reach P.Inx.greatest self.old kind result self.new }
+        ensures agreed { Agrees (shown self.old) }
+    {
+        match self.gap_for(kind) {
+            Some(gap) => gap_unless_refused(gap, self.make_room()),
+            None => Err(ChainInsertionError::FailedLinkRequirement),
+        }
+    }
+
+    // Adds a link in a gap, where there is room. Inlined, the gap need not go through memory.
+    #[inline(always)]
+    pub(crate) fn insert_in_gap(&mut self, gap: Gap<P::Inx>, t: T) -> P
+        requires gap { IsGap (shown self.old) (next_index self.old) (before_in P.Inx.number gap (next_index self.old)) (after_in P.Inx.number gap (next_index self.old)) }
+        requires room { entry_count self.old < self.old.capacity }
+        ensures { IsInsertedIn P.key P.Inx.number self.old gap t result self.new }
+    {
+        self.arena.invariants();
+        match self.arena.insert_within_capacity(link_in::<P, T>(gap, t)) {
+            Ok(p) => {
+                tie(&mut self.arena, gap, p);
+                p
+            }
+            Err(_) => excluded!(),
+        }
+    }
+
+    // Adds a link in the gap that was answered, where there is room, if one was.
+    #[inline(always)]
+    pub(crate) fn insert_at(
+        &mut self,
+        asked: Result<Gap<P::Inx>, ChainInsertionError>,
+        t: T,
+    ) -> Result<P, ChainInsertionError>
+        requires gap { ForOk asked (λ gap. IsGap (shown self.old) (next_index self.old) (before_in P.Inx.number gap (next_index self.old)) (after_in P.Inx.number gap (next_index self.old))) }
+        requires room { ForOk asked (λ gap. entry_count self.old < self.old.capacity) }
+        ensures { InsertsAt P.key P.Inx.number self.old asked t result self.new }
+    {
+        match asked {
+            Ok(gap) => Ok(self.insert_in_gap(gap, t)),
+            Err(why) => Err(why),
+        }
+    }
+}
+
+// The gap, unless a growth was refused that was asked for it.
+fn gap_unless_refused<I: Drop>(
+    gap: Gap<I>,
+    grown: Result<(), ReallocationError>,
+) -> Result<Gap<I>, ChainInsertionError>
+    ensures { result ≡ gap_unless_refused gap grown }
+{
+    match grown {
+        Ok(()) => Ok(gap),
+        Err(why) => Err(refusal_of(why)),
+    }
+}
+
+// How an insertion is refused where a growth is.
+fn refusal_of(why: ReallocationError) -> ChainInsertionError
+    ensures { result ≡ refusal_of why }
+{
+    match why {
+        ReallocationError::BeyondMaxCapacity => ChainInsertionError::BeyondMaxCapacity,
+        ReallocationError::AllocError => ChainInsertionError::AllocError,
+    }
+}

@@ -1,0 +1,104 @@
+-- A step that was made is some answer's step, also where memory for the answer was refused.
+use Rattle.std.proofs.Common.{OnOk, ◌≡◌, ℕ, ◌⊎◌, List, [], ◌∷◌, ◌++◌, Result, Ok, Err, OnErr, IsOk, refl, sym, ap, ◌∙◌, inl, inr, subst, Bool, cond, append_assoc, append-nil, true, false}
+use Rattle.std.proofs.lemmas.Bool.{false≢true}
+use Rattle.arena_ptr.specs.declared.generation.gen32.Gen32.{Gen32}
+use Rattle.chain_links.specs.ChainArena.{LinkSeen}
+use Rattle.chain_commands.specs.declared.command.Command.{Command}
+use Rattle.chain_commands.specs.declared.command.Command.TheVariants.{Change, Show, Chain, Len, Moves}
+use Rattle.chain_commands.specs.declared.command.Line.{Line}
+use Rattle.chain_commands.specs.declared.command.Line.TheVariants.{Good}
+use Rattle.chain_commands.specs.Responses.{ToolLinks, Gives, LeavesStep, walked_text, walk_text}
+
+-- a text that was cleared and pushed to
+pushed_is : (old v_text new : List ℕ) → old ≡ [] → new ≡ old ++ v_text → new ≡ v_text
+pushed_is old text new none is = is ∙ ap (λ b. b ++ text) none
+
+module _ {T E : Type 0} where
+  -- what is said of a text is said of the same text pushed to one that was cleared
+  pub answers_ok : (P : List ℕ → ToolLinks → Type 0) (new : ToolLinks) (before after text : List ℕ) (r : Result T E) → before ≡ [] → OnOk r (after ≡ before ++ text) → P text new → OnOk r (P after new)
+  answers_ok P new before after text (Ok x) none is answer = subst (λ t. P t new) (sym (pushed_is before text after none is)) answer
+  answers_ok P new before after text (Err e) none is answer = tt
+
+  -- .. and where it was not pushed, some text is answered
+  pub answers_err : (P : List ℕ → ToolLinks → Type 0) (new : ToolLinks) (text : List ℕ) (r : Result T E) → P text new → OnErr r ((words : List ℕ) × P words new)
+  answers_err P new text (Ok x) answer = tt
+  answers_err P new text (Err e) answer = (text, answer)
+
+  -- where a call of a line leaves its step, the line does
+  pub line_err : (old new : ToolLinks) (line : Line) (command : Command) (r : Result T E) → Good command ≡ line → (new ≡ old) ⊎ LeavesStep old (Good command) new
+      → OnErr r ((new ≡ old) ⊎ LeavesStep old line new)
+  line_err old new line command (Ok x) is steps = tt
+  line_err old new line command (Err e) is steps = subst (λ l. (new ≡ old) ⊎ LeavesStep old l new) is steps
+
+  -- where an answer gets no line feed, its line is a call, or has changed nothing
+  pub unended_err : (old new : ToolLinks) (line : Line) (command : Command) (words : List ℕ) (r : Result T E) → Good command ≡ line → Gives old command words new
+      → ((reset : Bool) → command ≡ Moves reset → IsOk r) → OnErr r ((new ≡ old) ⊎ LeavesStep old line new)
+  unended_err old new line command words (Ok x) is gives ends = tt
+  unended_err old new line (Change call) words (Err e) is gives ends = inr (call, words, sym is, gives)
+  unended_err old new line (Show p) words (Err e) is gives ends = inl gives.1
+  unended_err old new line (Chain p) words (Err e) is gives ends = inl gives.1
+  unended_err old new line Len words (Err e) is gives ends = inl gives.1
+  unended_err old new line (Moves reset) words (Err e) is gives ends = absurd (let no = ends reset refl in cc)
+
+-- ---- the text of a walk
+
+abbrev pub Passed : Type 0
+Passed = ℕ × (Gen32 × LinkSeen ℕ)
+
+abbrev pub none_passed : List Passed → Bool
+none_passed [] = true
+none_passed (e ∷ links) = false
+
+-- the links passed are in the text, and the others are left
+pub record IsWalked (before text : List ℕ) (first : Bool) (all left : List Passed) : Type 0 where
+  pub passed : List Passed
+  pub walk : all ≡ passed ++ left
+  pub written : text ≡ before ++ walk_text passed
+  pub start : first ≡ none_passed passed
+
+pub walk_text-more : (passed : List Passed) (e : Passed) → walk_text (passed ++ e ∷ []) ≡ cond (none_passed passed) (walked_text e) (walk_text passed ++ 32 ∷ walked_text e)
+walk_text-more [] e = refl
+walk_text-more (d ∷ []) e = refl
+walk_text-more (d ∷ f ∷ passed) e =
+    ap (λ l. walked_text d ++ 32 ∷ l) (walk_text-more (f ∷ passed) e) ∙ sym (append_assoc (walked_text d) (32 ∷ walk_text (f ∷ passed)) (32 ∷ walked_text e))
+
+module _ (before text joined more : List ℕ) (first : Bool) (all left after : List Passed) (e : Passed)
+    (walked : IsWalked before text first all left) (next : left ≡ e ∷ after) (link : more ≡ joined ++ walked_text e) where
+  passes : all ≡ (walked.passed ++ e ∷ []) ++ after
+  passes = walked.walk ∙ ap (λ l. walked.passed ++ l) next ∙ sym (append_assoc walked.passed (e ∷ []) after)
+
+  some_passed : false ≡ none_passed (walked.passed ++ e ∷ [])
+  some_passed = by_list walked.passed
+    where
+      by_list : (passed : List Passed) → false ≡ none_passed (passed ++ e ∷ [])
+      by_list [] = refl
+      by_list (d ∷ passed) = refl
+
+  -- the first link stands in the text as it is
+  pub IsWalked-first : first ≡ true → joined ≡ text → IsWalked before more false all after
+  IsWalked-first none_yet same = record {
+    passed = walked.passed ++ e ∷ [];
+    walk = passes;
+    written = by_list walked.passed (sym none_yet ∙ walked.start) walked.written;
+    start = some_passed;
+  }
+    where
+      by_list : (passed : List Passed) → true ≡ none_passed passed → text ≡ before ++ walk_text passed → more ≡ before ++ walk_text (passed ++ e ∷ [])
+      by_list [] none written = link ∙ ap (λ l. l ++ walked_text e) (same ∙ written ∙ append-nil before)
+      by_list (d ∷ passed) none written = absurd (false≢true (sym none))
+
+  -- .. each other one after a space
+  pub IsWalked-next : first ≡ false → joined ≡ text ++ 32 ∷ [] → IsWalked before more false all after
+  IsWalked-next later spaced = record {
+    passed = walked.passed ++ e ∷ [];
+    walk = passes;
+    written = by_list walked.passed (sym later ∙ walked.start) walked.written;
+    start = some_passed;
+  }
+    where
+      by_list : (passed : List Passed) → false ≡ none_passed passed → text ≡ before ++ walk_text passed → more ≡ before ++ walk_text (passed ++ e ∷ [])
+      by_list [] some written = absurd (false≢true some)
+      by_list (d ∷ passed) some written =
+          link ∙ ap (λ l. l ++ walked_text e) (spaced ∙ ap (λ l. l ++ 32 ∷ []) written)
+          ∙ append_assoc (before ++ walk_text (d ∷ passed)) (32 ∷ []) (walked_text e) ∙ append_assoc before (walk_text (d ∷ passed)) (32 ∷ walked_text e)
+          ∙ ap (λ l. before ++ l) (sym (walk_text-more (d ∷ passed) e))

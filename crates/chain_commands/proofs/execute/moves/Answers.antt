@@ -1,0 +1,45 @@
+-- The pairs that the compression answers are told after its step, in the room that was taken before it.
+use Rattle.std.proofs.Common.{◌≡◌, ◌∙◌, ◌++◌, ◌+◌, ◌<◌, ◌≤◌, List, ℕ, [], sym, ap, length, arith, string_bytes, length-append}
+use Rattle.arena_ptr.specs.Generations.{two32, after32}
+use Rattle.arena_ptr.specs.ToolPtr.{key_of}
+use Rattle.chain_arena.specs.declared.calls.Reply.TheVariants.{Counted}
+use Rattle.chain_commands.specs.Responses.{moves_text}
+use Rattle.chain_compaction.proofs.VisitorLemmas.{moves_count}
+use Rattle.chain_commands.proofs.execute.moves.Goals as goal
+
+-- what was empty takes what fits ..
+fits_into : (before added : List ℕ) (n len room : ℕ) → before ≡ [] → length added < n → len + n ≤ room → length before + length added ≤ room
+fits_into before added n len room none less fits = omega (arith, ap length none, less, fits)
+
+-- .. and for one byte more
+room_after : (before text added : List ℕ) (n len room room_now : ℕ) → before ≡ [] → text ≡ before ++ added → length added < n → len + n ≤ room → room ≤ room_now → length text + 1 ≤ room_now
+room_after before text added n len room room_now none is less fits more =
+    omega (arith, ap length none, ap length is, length-append before added, less, fits, more)
+
+pub room_for_moves-requires : goal.room_for_moves-requires
+room_for_moves-requires g c = let len = c.len.ensures in omega (arith, len.fits, len.room.1)
+
+pub write_moves-requires : goal.write_moves-requires
+write_moves-requires g c =
+    let made = c.in-Ok.ensures in
+    let as_many = moves_count key_of two32 after32 c.args.reset _ _ _ _ _ c.in-Ok.moves.items made.canonical made.moves in
+    let less = c.room_for_moves.ensures c.as_slice.result.now c.in-Ok.told (ap length c.as_slice.ensures.value ∙ (as_many ∙ sym c.len.ensures.count)) in
+    fits_into (string_bytes c.reserve.new.self) (moves_text c.as_slice.result.now c.in-Ok.told) _ _ _ (c.reserve.ensures.bytes ∙ c.clear.ensures.bytes) less c.in_ok-reserve.ensures.ok
+
+pub returns-in-Ok : goal.returns-in-Ok
+returns-in-Ok g c =
+    let made = c.in-Ok.ensures in
+    let none : string_bytes c.reserve.new.self ≡ [] = c.reserve.ensures.bytes ∙ c.clear.ensures.bytes in
+    let as_many = moves_count key_of two32 after32 c.args.reset _ _ _ _ _ c.in-Ok.moves.items made.canonical made.moves in
+    let less = c.room_for_moves.ensures c.as_slice.result.now c.in-Ok.told (ap length c.as_slice.ensures.value ∙ (as_many ∙ sym c.len.ensures.count)) in
+    record {
+      ok = record {
+        told = c.in-Ok.told;
+        moves = c.in-Ok.moves.items;
+        step = (ap Counted made.overflow, record { layout = made.canonical; stack_capacity = made.stack_capacity });
+        all = made.moves;
+        words = c.write_moves.ensures.bytes ∙ (ap (λ b. b ++ moves_text c.as_slice.result.now c.in-Ok.told) none ∙ ap (λ items. moves_text items c.in-Ok.told) c.as_slice.ensures.value);
+      };
+      room = room_after (string_bytes c.reserve.new.self) _ _ _ _ _ _ none c.write_moves.ensures.bytes less c.in_ok-reserve.ensures.ok c.write_moves.ensures.capacity;
+      err = tt;
+    }

@@ -1,0 +1,6 @@
+use Rattle.std.proofs.Common.{sym, arith}
+use Rattle.chain_commands.proofs.PointerWordLemmas.{index_named-chain}
+use Rattle.chain_commands.proofs.lexer.index.Goals as goal
+
+pub returns : goal.returns
+returns c = index_named-chain _ c.in_ok-number.field-0 _ (sym c.in_ok-number.ensures) (omega arith) c.new.ensures.variant c.new.ensures.value

@@ -1,4 +1,0 @@
-use Rattle.chain_commands.proofs.told.+write_decimal.Given as goal
-
-abbrev pub decreases-write_decimal : goal.decreases-write_decimal
-decreases-write_decimal l = l.n

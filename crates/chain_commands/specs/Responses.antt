@@ -1,0 +1,188 @@
+-- What the program answers to a line, and the arena after it.
+use Rattle.std.specs.Prelude.{◌≡◌, ℕ, ◌+◌, ◌≤◌, List, ◌∷◌, [], ◌++◌, map, length, codes, decimal, String, string_bytes, Bool, true, false, Option, None, Some, Ok, Err}
+use Rattle.std.specs.List.{join_with_byte, concat}
+use Rattle.std.specs.String.{string_capacity}
+use Rattle.std.specs.declared.alloc.Global.{Global}
+use Rattle.arena_ptr.specs.Generations.{number_of_gen32, two32, after32, is_greatest32}
+use Rattle.arena_ptr.specs.Indexes.{number_of_inx32}
+use Rattle.arena_ptr.specs.PackedOptions.{zero_is_none}
+use Rattle.arena_ptr.specs.ToolPtr.{key_of}
+use Rattle.arena_ptr.specs.declared.errors.ChainInsertionError.{ChainInsertionError}
+use Rattle.arena_ptr.specs.declared.errors.ChainInsertionError.TheVariants as failed
+use Rattle.arena_ptr.specs.declared.errors.ReallocationError.{ReallocationError}
+use Rattle.arena_ptr.specs.declared.errors.ReallocationError.TheVariants as refused
+use Rattle.arena_ptr.specs.declared.generation.gen32.Gen32.{Gen32}
+use Rattle.arena_ptr.specs.declared.index.inx32.Inx32.{Inx32}
+use Rattle.arena_ptr.specs.declared.invalidation.InvalidationOption.{InvalidationOption}
+use Rattle.arena_ptr.specs.declared.invalidation.InvalidationOption.TheVariants as option
+use Rattle.arena_ptr.specs.declared.invalidation.InvalidationResult.{InvalidationResult}
+use Rattle.arena_ptr.specs.declared.invalidation.InvalidationResult.TheVariants as result
+use Rattle.arena_ptr.specs.declared.tool_ptr.ToolPtr.{ToolPtr}
+use Rattle.arena_base.specs.Arena.{Arena, IsValid, entry_count}
+use Rattle.chain_links.specs.ChainArena as chain
+use Rattle.chain_links.specs.ChainArena.{LinkSeen, shown, seen, entry, IsWalkOf}
+use Rattle.chain_compaction.specs.Layouts.{AreAllMoves}
+use Rattle.chain_arena.specs.PointerKinds.{PointerKind}
+use Rattle.chain_arena.specs.Steps.{Step}
+use Rattle.chain_arena.specs.declared.calls.Call.TheVariants.{CompressCanonical}
+use Rattle.chain_arena.specs.declared.calls.Reply.{Reply}
+use Rattle.chain_arena.specs.declared.calls.Reply.TheVariants.{Inserted, Done, Removed, RemovedInx, Renewed, Drained, Counted, Reserved, Set}
+use Rattle.chain_commands.specs.Commands.{LinkCall}
+use Rattle.chain_commands.specs.declared.command.Command.{Command}
+use Rattle.chain_commands.specs.declared.command.Command.TheVariants.{Change, Show, Chain, Len, Moves}
+use Rattle.chain_commands.specs.declared.command.Line.{Line}
+use Rattle.chain_commands.specs.declared.command.Line.TheVariants.{Blank, Bad, Good}
+
+-- the arenas of the program: links of numbers, with indexes and generations of 32 bits
+abbrev pub ToolLinks : Type 0
+ToolLinks = Arena Gen32 (LinkSeen ℕ)
+
+-- a pointer: its index, a dot and its generation
+abbrev pub pointer_text : ℕ × Gen32 → List ℕ
+pointer_text p = decimal p.0 ++ codes "." ++ decimal (number_of_gen32 p.1)
+
+-- a neighbour: its pointer, or a dash
+abbrev pub neighbor_text : Option (ℕ × Gen32) → List ℕ
+neighbor_text None = codes "-"
+neighbor_text (Some p) = pointer_text p
+
+-- a link: its neighbours and its value
+abbrev pub show_text : Option (ℕ × Gen32) → Option (ℕ × Gen32) → ℕ → List ℕ
+show_text prev next value = codes "prev " ++ neighbor_text prev ++ codes " next " ++ neighbor_text next ++ codes " value " ++ decimal value
+
+-- a link of a walk: its pointer and its value
+abbrev pub passed_text : ℕ × Gen32 → ℕ → List ℕ
+passed_text p value = pointer_text p ++ codes ":" ++ decimal value
+
+abbrev pub walked_text : ℕ × (Gen32 × LinkSeen ℕ) → List ℕ
+walked_text e = passed_text (e.0, e.1.0) e.1.1.value
+
+-- a walk: its links, with a space between
+abbrev pub walk_text : List (ℕ × (Gen32 × LinkSeen ℕ)) → List ℕ
+walk_text links = join_with_byte 32 (map walked_text links)
+
+-- a pointer is valid: a link stands at its index with its generation
+abbrev pub IsValidIn : ToolLinks → ℕ × Gen32 → Type 0
+IsValidIn a p = IsValid (entry a) p
+
+-- the link of a pointer, with the pointers of now to its neighbours, and its value
+abbrev pub IsLinkIn : ToolLinks → ℕ × Gen32 → Option (ℕ × Gen32) → Option (ℕ × Gen32) → ℕ → Type 0
+IsLinkIn a p prev next value = chain.IsLinkAt (entry a) (shown a) p prev next value
+
+-- the pointer of a link, and a value
+abbrev pub at_text : ToolPtr → List ℕ
+at_text p = codes "at " ++ pointer_text (key_of p)
+
+abbrev pub value_text : ℕ → List ℕ
+value_text value = codes "value " ++ decimal value
+
+-- an answer where the pointer or index may be invalid, and the counter may have overflowed
+abbrev pub told_text : {A : Type 0} → (A → List ℕ) → InvalidationResult A → List ℕ
+told_text text (result.Success x) = text x
+told_text text (result.GenerationOverflow x) = text x ++ codes " overflow"
+told_text text result.InvalidPtr = codes "none"
+
+-- whether the counter has overflowed, and nothing else
+abbrev pub counted_text : InvalidationOption Unit → List ℕ
+counted_text (option.Success done) = codes "ok"
+counted_text (option.GenerationOverflow done) = codes "ok overflow"
+
+-- why there is no new link
+abbrev pub refusal_text : ChainInsertionError → List ℕ
+refusal_text failed.FailedLinkRequirement = codes "refused link"
+refusal_text failed.NotWithinCapacity = codes "refused capacity"
+refusal_text failed.AllocError = codes "refused memory"
+refusal_text failed.BeyondMaxCapacity = codes "refused limit"
+
+-- why there is no more room
+abbrev pub growth_refusal_text : ReallocationError → List ℕ
+growth_refusal_text refused.AllocError = codes "refused memory"
+growth_refusal_text refused.BeyondMaxCapacity = codes "refused limit"
+
+-- the reply to a call
+abbrev pub reply_text : Reply ToolPtr ℕ Inx32 Gen32 ℕ → List ℕ
+reply_text (Inserted (Ok p)) = at_text p
+reply_text (Inserted (Err error)) = refusal_text error
+reply_text (Done true) = codes "ok"
+reply_text (Done false) = codes "none"
+reply_text (Removed answer) = told_text (λ link. value_text link.t) answer
+reply_text (RemovedInx answer) = told_text (λ e. value_text e.1.t) answer
+reply_text (Renewed answer) = told_text at_text answer
+reply_text (Drained (Some count)) = codes "count " ++ decimal count
+reply_text (Drained None) = codes "none"
+reply_text (Counted answer) = counted_text answer
+reply_text (Reserved (Ok done)) = codes "ok"
+reply_text (Reserved (Err error)) = growth_refusal_text error
+reply_text Set = codes "ok"
+
+-- the greatest index of 32 bits
+abbrev pub greatest_index : ℕ
+greatest_index = 0xffff_ffff
+
+-- the pointers of the program: indexes and generations of 32 bits
+abbrev pub tool_pointers : PointerKind ToolPtr Inx32 Gen32 ℕ
+tool_pointers = record {
+  key = key_of;
+  number = number_of_inx32;
+  packed = zero_is_none;
+  greatest = greatest_index;
+  first = two32;
+  following = after32;
+  wraps = is_greatest32;
+}
+
+-- a call is a step of the chain machine, and its answer is the text of the reply
+abbrev pub Changes : ToolLinks → LinkCall → List ℕ → ToolLinks → Type 0
+Changes old call text new = (reply : Reply ToolPtr ℕ Inx32 Gen32 ℕ) × Step tool_pointers old call reply new × (text ≡ reply_text reply)
+
+pub data Shows (old : ToolLinks) (p : ℕ × Gen32) (text : List ℕ) : Type 0 where
+  link : (prev next : Option (ℕ × Gen32)) (value : ℕ) → IsLinkIn old p prev next value → text ≡ show_text prev next value → Shows old p text
+  no_link : (IsValidIn old p → ⊥) → text ≡ codes "none" → Shows old p text
+
+pub data Walks (old : ToolLinks) (p : ℕ × Gen32) (text : List ℕ) : Type 0 where
+  walk : (links : List (ℕ × (Gen32 × LinkSeen ℕ))) → IsValidIn old p → IsWalkOf old p.0 links → text ≡ walk_text links → Walks old p text
+  no_walk : (IsValidIn old p → ⊥) → text ≡ codes "none" → Walks old p text
+
+-- a link that got another pointer: the one that it had and the one that it has
+abbrev pub move_text : ToolPtr × ToolPtr → List ℕ
+move_text m = codes " " ++ pointer_text (key_of m.0) ++ codes ">" ++ pointer_text (key_of m.1)
+
+-- at the end of an answer, whether the counter has overflowed
+abbrev pub overflow_text : InvalidationOption Unit → List ℕ
+overflow_text (option.Success done) = []
+overflow_text (option.GenerationOverflow done) = codes " overflow"
+
+-- how many links got other pointers, which, and whether the counter has overflowed
+abbrev pub moves_text : List (ToolPtr × ToolPtr) → InvalidationOption Unit → List ℕ
+moves_text moves told = codes "moved " ++ decimal (length moves) ++ concat (map move_text moves) ++ overflow_text told
+
+-- a text takes more bytes within the room that it has
+abbrev pub CanTake : String Global → List ℕ → Type 0
+CanTake text more = length (string_bytes text) + length more ≤ string_capacity text
+
+-- the chains are laid one after another by a step of the chain machine, and each link's old and new pointer is told, by
+-- rising new index
+pub record TellsMoves (old : ToolLinks) (reset : Bool) (text : List ℕ) (new : ToolLinks) : Type 0 where
+  pub told : InvalidationOption Unit
+  pub moves : List (ToolPtr × ToolPtr)
+  pub step : Step tool_pointers old (CompressCanonical reset) (Counted told) new
+  pub all : AreAllMoves key_of (seen old) (shown old) new.counter moves
+  pub words : text ≡ moves_text moves told
+
+-- what a command answers, and the arena after it
+abbrev pub Gives : ToolLinks → Command → List ℕ → ToolLinks → Type 0
+Gives old (Change call) text new = Changes old call text new
+Gives old (Show p) text new = Shows old (key_of p) text × (new ≡ old)
+Gives old (Chain p) text new = Walks old (key_of p) text × (new ≡ old)
+Gives old (Moves reset) text new = TellsMoves old reset text new
+Gives old Len text new = (text ≡ codes "count " ++ decimal (entry_count old)) × (new ≡ old)
+
+-- what a line is answered, and the arena after it; an answer ends with a line feed
+abbrev pub AnswersLine : ToolLinks → Line → List ℕ → ToolLinks → Type 0
+AnswersLine old Blank text new = (text ≡ []) × (new ≡ old)
+AnswersLine old Bad text new = (text ≡ codes "bad line" ++ 10 ∷ []) × (new ≡ old)
+AnswersLine old (Good command) text new = (words : List ℕ) × (text ≡ words ++ 10 ∷ []) × Gives old command words new
+
+-- a line is a call, and leaves its step
+abbrev pub LeavesStep : ToolLinks → Line → ToolLinks → Type 0
+LeavesStep old line new = (call : LinkCall) × (text : List ℕ) × (line ≡ Good (Change call)) × Changes old call text new

@@ -1,0 +1,121 @@
+//! The answers to lines: each command is one step of the arena or one lookup.
+ghost use Rattle.std.specs.Prelude.{◌≡◌, ℕ, List, ◌⊎◌, Bool, OnOk, OnErr, codes, string_bytes};
+ghost use Rattle.arena_ptr.specs.ToolPtr.{key_of};
+ghost use Rattle.chain_commands.specs.Commands.{line_of};
+ghost use Rattle.chain_commands.specs.Responses.{Changes, Shows, Walks, TellsMoves, Gives, AnswersLine, LeavesStep, CanTake};
+
+use crate::command::{Command, Line, parse};
+use crate::infallible_text::{room_for_moves, write_moves};
+use crate::reply_text::{push_link, push_reply, push_walk};
+use arena_base::{ArenaSlot, ArenaTrait};
+use arena_ptr::{SlotStack, ToolPtr};
+use chain_arena::{Call, ChainArena, ChainArenaTrait, LinkNoGen, apply};
+use std::alloc::AllocError;
+
+/// Carries out a line, and makes its answer in `text`. An `Err` is memory for the answer: the step of a call may be made
+/// then, and that of no other line.
+pub fn answer<S: SlotStack<Item = ArenaSlot<ToolPtr, LinkNoGen<ToolPtr, u32>>>>(
+    arena: &mut ChainArena<ToolPtr, u32, S>,
+    line: &[u8],
+    text: &mut String,
+) -> Result<(), AllocError>
+    ensures ok { OnOk result (AnswersLine arena.old (line_of line.now) (string_bytes text.new) arena.new) }
+    ensures err { OnErr result ((arena.new ≡ arena.old) ⊎ LeavesStep arena.old (line_of line.now) arena.new) }
+{
+    text.clear();
+    match parse(line) {
+        Line::Blank => Ok(()),
+        Line::Bad => text.push_str("bad line\n"),
+        Line::Good(command) => {
+            carry_out(arena, command, text)?;
+            text.push_str("\n")
+        }
+    }
+}
+
+/// Carries out a command, and makes its answer in `text`. After `moves F` there is room for a line feed.
+fn carry_out<S: SlotStack<Item = ArenaSlot<ToolPtr, LinkNoGen<ToolPtr, u32>>>>(
+    arena: &mut ChainArena<ToolPtr, u32, S>,
+    command: Command,
+    text: &mut String,
+) -> Result<(), AllocError>
+    ensures ok { OnOk result (Gives arena.old command (string_bytes text.new) arena.new) }
+    ensures room { OnOk result ((reset : Bool) → command ≡ Command.Moves reset → CanTake text.new (codes "\n")) }
+    ensures err { OnErr result ((arena.new ≡ arena.old) ⊎ LeavesStep arena.old (Line.Good command) arena.new) }
+{
+    match command {
+        Command::Change(call) => change(arena, call, text),
+        Command::Show(p) => show(arena, p, text),
+        Command::Chain(p) => chain(arena, p, text),
+        Command::Len => {
+            text.clear();
+            write!(text, "count {}", arena.len())
+        }
+        Command::Moves(reset) => moves(arena, reset, text),
+    }
+}
+
+/// The answer to a call: the text of its reply.
+fn change<S: SlotStack<Item = ArenaSlot<ToolPtr, LinkNoGen<ToolPtr, u32>>>>(
+    arena: &mut ChainArena<ToolPtr, u32, S>,
+    call: Call<ToolPtr, u32>,
+    text: &mut String,
+) -> Result<(), AllocError>
+    ensures ok { OnOk result (Changes arena.old call (string_bytes text.new) arena.new) }
+    ensures err { OnErr result ((words : List ℕ) × Changes arena.old call words arena.new) }
+{
+    text.clear();
+    let reply = apply(arena, call);
+    push_reply(text, reply)
+}
+
+/// The answer to `show P`.
+fn show<S: SlotStack<Item = ArenaSlot<ToolPtr, LinkNoGen<ToolPtr, u32>>>>(
+    arena: &ChainArena<ToolPtr, u32, S>,
+    p: ToolPtr,
+    text: &mut String,
+) -> Result<(), AllocError>
+    ensures { OnOk result (Shows arena.now (key_of p) (string_bytes text.new)) }
+{
+    text.clear();
+    match arena.get_link(p) {
+        Some(link) => push_link(text, link.prev(), link.next(), *link.t),
+        None => text.push_str("none"),
+    }
+}
+
+/// The answer to `chain P`.
+fn chain<S: SlotStack<Item = ArenaSlot<ToolPtr, LinkNoGen<ToolPtr, u32>>>>(
+    arena: &ChainArena<ToolPtr, u32, S>,
+    p: ToolPtr,
+    text: &mut String,
+) -> Result<(), AllocError>
+    ensures { OnOk result (Walks arena.now (key_of p) (string_bytes text.new)) }
+{
+    text.clear();
+    match arena.iter_chain(p) {
+        Some(links) => push_walk(text, links),
+        None => text.push_str("none"),
+    }
+}
+
+/// The answer to `moves F`. The room for it and its line feed is taken first, and nothing later asks for memory.
+fn moves<S: SlotStack<Item = ArenaSlot<ToolPtr, LinkNoGen<ToolPtr, u32>>>>(
+    arena: &mut ChainArena<ToolPtr, u32, S>,
+    reset: bool,
+    text: &mut String,
+) -> Result<(), AllocError>
+    ensures ok { OnOk result (TellsMoves arena.old reset (string_bytes text.new) arena.new) }
+    ensures room { OnOk result (CanTake text.new (codes "\n")) }
+    ensures err { OnErr result (arena.new ≡ arena.old) }
+{
+    text.clear();
+    text.reserve(room_for_moves(arena.len()))?;
+    match arena.compress_canonical_moves(*text.allocator(), reset) {
+        Ok((told, moves)) => {
+            write_moves(text, moves.as_slice(), told);
+            Ok(())
+        }
+        Err(_) => Err(AllocError),
+    }
+}

@@ -1,0 +1,207 @@
+//! The texts of answers.
+ghost use Rattle.std.specs.Prelude.{◌≡◌, ◌++◌, OnOk, string_bytes, option_map};
+ghost use Rattle.arena_ptr.specs.ToolPtr.{key_of};
+ghost use Rattle.chain_arena.specs.declared.calls.Reply.TheVariants.{Inserted, Drained, Reserved};
+ghost use Rattle.chain_commands.specs.Responses.{pointer_text, at_text, value_text, told_text, counted_text, refusal_text, growth_refusal_text, reply_text, neighbor_text, show_text, passed_text, walk_text};
+
+use arena_base::ArenaSlot;
+use arena_ptr::{
+    ChainInsertionError, Gen32, InvalidationOption, InvalidationResult, PtrKey, ReallocationError,
+    SlotStack, ToolPtr,
+};
+use chain_arena::{ChainIter, LinkNoGen, Reply};
+use std::alloc::AllocError;
+
+/// Adds a pointer to a text.
+fn push_pointer(text: &mut String, p: ToolPtr) -> Result<(), AllocError>
+    ensures { OnOk result (string_bytes text.new ≡ string_bytes text.old ++ pointer_text (key_of p)) }
+{
+    write!(text, "{}.{}", p.inx().get(), p.generation().get())
+}
+
+/// Adds the pointer of a neighbour to a text, or a dash.
+fn push_neighbor(text: &mut String, neighbor: Option<ToolPtr>) -> Result<(), AllocError>
+    ensures { OnOk result (string_bytes text.new ≡ string_bytes text.old ++ neighbor_text (option_map key_of neighbor)) }
+{
+    match neighbor {
+        Some(p) => push_pointer(text, p),
+        None => text.push_str("-"),
+    }
+}
+
+/// Adds a link to a text: its neighbours and its value.
+pub fn push_link(
+    text: &mut String,
+    prev: Option<ToolPtr>,
+    next: Option<ToolPtr>,
+    value: u32,
+) -> Result<(), AllocError>
+    ensures { OnOk result (string_bytes text.new
+        ≡ string_bytes text.old ++ show_text (option_map key_of prev) (option_map key_of next) value) }
+{
+    text.push_str("prev ")?;
+    push_neighbor(text, prev)?;
+    text.push_str(" next ")?;
+    push_neighbor(text, next)?;
+    write!(text, " value {value}")
+}
+
+/// Adds the reply to a call to a text.
+pub fn push_reply(text: &mut String, reply: Reply<ToolPtr, u32>) -> Result<(), AllocError>
+    ensures { OnOk result (string_bytes text.new ≡ string_bytes text.old ++ reply_text reply) }
+{
+    match reply {
+        Reply::Inserted(answer) => push_inserted(text, answer),
+        Reply::Done(done) => text.push_str(if done { "ok" } else { "none" }),
+        Reply::Removed(answer) => push_removed(text, answer),
+        Reply::RemovedInx(answer) => push_removed_inx(text, answer),
+        Reply::Renewed(answer) => push_renewed(text, answer),
+        Reply::Drained(answer) => push_drained(text, answer),
+        Reply::Counted(answer) => text.push_str(counted(answer)),
+        Reply::Reserved(answer) => text.push_str(reserved(answer)),
+        Reply::Set => text.push_str("ok"),
+    }
+}
+
+/// Adds the answer to an insertion to a text.
+fn push_inserted(
+    text: &mut String,
+    answer: Result<ToolPtr, ChainInsertionError>,
+) -> Result<(), AllocError>
+    ensures { OnOk result (string_bytes text.new ≡ string_bytes text.old ++ reply_text (Inserted answer)) }
+{
+    match answer {
+        Ok(p) => push_at(text, p),
+        Err(error) => text.push_str(refusal(error)),
+    }
+}
+
+/// Adds the answer to a drain to a text.
+fn push_drained(text: &mut String, answer: Option<usize>) -> Result<(), AllocError>
+    ensures { OnOk result (string_bytes text.new ≡ string_bytes text.old ++ reply_text (Drained answer)) }
+{
+    match answer {
+        Some(count) => write!(text, "count {count}"),
+        None => text.push_str("none"),
+    }
+}
+
+/// What a growth is answered.
+fn reserved(answer: Result<(), ReallocationError>) -> &'static str
+    ensures { result.now ≡ reply_text (Reserved answer) }
+{
+    match answer {
+        Ok(()) => "ok",
+        Err(error) => growth_refusal(error),
+    }
+}
+
+/// Adds the pointer of a new link to a text.
+fn push_at(text: &mut String, p: ToolPtr) -> Result<(), AllocError>
+    ensures { OnOk result (string_bytes text.new ≡ string_bytes text.old ++ at_text p) }
+{
+    text.push_str("at ")?;
+    push_pointer(text, p)
+}
+
+/// Why there is no new link.
+fn refusal(error: ChainInsertionError) -> &'static str
+    ensures { result.now ≡ refusal_text error }
+{
+    match error {
+        ChainInsertionError::FailedLinkRequirement => "refused link",
+        ChainInsertionError::NotWithinCapacity => "refused capacity",
+        ChainInsertionError::AllocError => "refused memory",
+        ChainInsertionError::BeyondMaxCapacity => "refused limit",
+    }
+}
+
+/// Why there is no more room.
+fn growth_refusal(error: ReallocationError) -> &'static str
+    ensures { result.now ≡ growth_refusal_text error }
+{
+    match error {
+        ReallocationError::AllocError => "refused memory",
+        ReallocationError::BeyondMaxCapacity => "refused limit",
+    }
+}
+
+/// Adds the value of a link that is gone to a text, and whether the counter has overflowed.
+fn push_removed(
+    text: &mut String,
+    answer: InvalidationResult<LinkNoGen<ToolPtr, u32>>,
+) -> Result<(), AllocError>
+    ensures { OnOk result (string_bytes text.new ≡ string_bytes text.old ++ told_text (λ link. value_text link.t) answer) }
+{
+    match answer {
+        InvalidationResult::Success(link) => write!(text, "value {}", link.t),
+        InvalidationResult::GenerationOverflow(link) => write!(text, "value {} overflow", link.t),
+        InvalidationResult::InvalidPtr => text.push_str("none"),
+    }
+}
+
+/// .. of one that was named by its index.
+fn push_removed_inx(
+    text: &mut String,
+    answer: InvalidationResult<(Gen32, LinkNoGen<ToolPtr, u32>)>,
+) -> Result<(), AllocError>
+    ensures { OnOk result (string_bytes text.new ≡ string_bytes text.old ++ told_text (λ e. value_text e.1.t) answer) }
+{
+    match answer {
+        InvalidationResult::Success((_, link)) => write!(text, "value {}", link.t),
+        InvalidationResult::GenerationOverflow((_, link)) => {
+            write!(text, "value {} overflow", link.t)
+        }
+        InvalidationResult::InvalidPtr => text.push_str("none"),
+    }
+}
+
+/// Adds the new pointer of a link to a text, and whether the counter has overflowed.
+fn push_renewed(text: &mut String, answer: InvalidationResult<ToolPtr>) -> Result<(), AllocError>
+    ensures { OnOk result (string_bytes text.new ≡ string_bytes text.old ++ told_text at_text answer) }
+{
+    match answer {
+        InvalidationResult::Success(p) => push_at(text, p),
+        InvalidationResult::GenerationOverflow(p) => {
+            push_at(text, p)?;
+            text.push_str(" overflow")
+        }
+        InvalidationResult::InvalidPtr => text.push_str("none"),
+    }
+}
+
+/// Whether the counter has overflowed in a call that has nothing else to tell.
+fn counted(answer: InvalidationOption<()>) -> &'static str
+    ensures { result.now ≡ counted_text answer }
+{
+    match answer {
+        InvalidationOption::Success(()) => "ok",
+        InvalidationOption::GenerationOverflow(()) => "ok overflow",
+    }
+}
+
+/// Adds a link of a walk to a text: its pointer and its value.
+fn push_passed(text: &mut String, p: ToolPtr, value: u32) -> Result<(), AllocError>
+    ensures { OnOk result (string_bytes text.new ≡ string_bytes text.old ++ passed_text (key_of p) value) }
+{
+    push_pointer(text, p)?;
+    write!(text, ":{value}")
+}
+
+/// Adds the links of a walk to a text, with a space between.
+pub fn push_walk<S: SlotStack<Item = ArenaSlot<ToolPtr, LinkNoGen<ToolPtr, u32>>>>(
+    text: &mut String,
+    links: ChainIter<'_, ToolPtr, u32, S>,
+) -> Result<(), AllocError>
+    ensures { OnOk result (string_bytes text.new ≡ string_bytes text.old ++ walk_text links.entry) }
+{
+    let mut is_first = true;
+    for (p, link) in links {
+        if !is_first {
+            text.push_str(" ")?;
+        }
+        is_first = false;
+        push_passed(text, p, link.t)?;
+    }
+    Ok(())
+}

@@ -1,0 +1,229 @@
+//! A run: lines come in from a reader, and their answers go out to a writer.
+ghost use Rattle.std.specs.Prelude.{◌≡◌, ℕ, List, [], ◌++◌, OnOk, OnErr, IfErr, IfSome, IfNone, All, take, length, Option, None, IfOk, ◌<◌, ◌≤◌, vec_len};
+ghost use Rattle.std.specs.Io.KnownBytes.{Appends, Consumes, Keeps, IsAtEnd};
+ghost use Rattle.arena_ptr.specs.Generations.{two32};
+ghost use Rattle.arena_base.specs.Arena.{new_arena};
+ghost use Rattle.chain_commands.specs.Responses.{ToolLinks};
+ghost use Rattle.chain_commands.specs.Progress.{AnswersOne, ComesOn, EndsFirst, IsNoEnd};
+ghost use Rattle.chain_commands.specs.Transcripts.{Ends};
+
+use crate::execute::answer;
+use crate::lexer::position;
+use arena_base::{ArenaSlot, ArenaTrait};
+use arena_ptr::{SlotStack, ToolPtr};
+use chain_arena::{ChainArena, LinkNoGen};
+use std::alloc::Global;
+use std::io::{ErrorKind, Read, Write};
+
+/// Why a run stopped before the end of its input.
+#[derive(Clone, Copy, Debug, PartialEq, Eq)]
+pub enum ToolError {
+    /// The reader failed.
+    Read,
+    /// The writer failed.
+    Write,
+    /// There is no memory for a line or an answer.
+    Memory,
+}
+
+/// Gives a text to a writer. A write that was interrupted is tried again.
+fn put<W: Write>(writer: &mut W, text: &[u8]) -> Result<(), ToolError>
+    ensures ok { OnOk result (Appends (W.contents writer.old) (W.contents writer.new) text.now) }
+    ensures err { OnErr result ((n : ℕ) × Appends (W.contents writer.old) (W.contents writer.new) (take n text.now)) }
+    ensures error { IfErr result (λ e. e ≡ ToolError.Write) }
+{
+    let mut written = 0;
+    for _ in 0..u64::MAX {
+        if written >= text.len() {
+            return Ok(());
+        }
+        let (_, rest) = text.split_at(written);
+        match writer.write(rest) {
+            Ok(0) => return Err(ToolError::Write),
+            Ok(n) => written += n,
+            Err(e) => {
+                if e.kind() != ErrorKind::Interrupted {
+                    return Err(ToolError::Write);
+                }
+            }
+        }
+    }
+    Err(ToolError::Write)
+}
+
+/// Carries out a line, and gives its answer to the writer.
+fn reply<W: Write, S: SlotStack<Item = ArenaSlot<ToolPtr, LinkNoGen<ToolPtr, u32>>>>(
+    arena: &mut ChainArena<ToolPtr, u32, S>,
+    line: &[u8],
+    text: &mut String,
+    writer: &mut W,
+) -> Result<(), ToolError>
+    ensures { AnswersOne result arena.old arena.new line.now (W.contents writer.old) (W.contents writer.new) }
+{
+    match answer(arena, line, text) {
+        Ok(()) => put(writer, text.as_bytes()),
+        Err(_) => Err(ToolError::Memory),
+    }
+}
+
+/// Keeps more of an unfinished line, up to 201 bytes in all.
+fn keep(line: &mut Vec<u8>, more: &[u8]) -> Result<(), ToolError>
+    ensures ok { OnOk result ((rest : List ℕ) → line.old.items ≡ take 201 rest → line.new.items ≡ take 201 (rest ++ more.now)) }
+    ensures error { IfErr result (λ e. e ≡ ToolError.Memory) }
+{
+    let (front, _) = more.split_at(more.len().min(201usize.saturating_sub(line.len())));
+    match line.extend_from_slice(front) {
+        Ok(()) => Ok(()),
+        Err(_) => Err(ToolError::Memory),
+    }
+}
+
+/// Answers a line of which something may have been kept, and the rest is the front of a piece. Where nothing was kept, it is
+/// read where it stands.
+fn end_line<W: Write, S: SlotStack<Item = ArenaSlot<ToolPtr, LinkNoGen<ToolPtr, u32>>>>(
+    arena: &mut ChainArena<ToolPtr, u32, S>,
+    line: &mut Vec<u8>,
+    front: &[u8],
+    text: &mut String,
+    writer: &mut W,
+) -> Result<(), ToolError>
+    ensures answered { (rest : List ℕ) → line.old.items ≡ take 201 rest → AnswersOne result arena.old arena.new (rest ++ front.now) (W.contents writer.old) (W.contents writer.new) }
+    ensures empty { OnOk result (line.new.items ≡ []) }
+{
+    if line.is_empty() {
+        return reply(arena, front, text, writer);
+    }
+    keep(line, front)?;
+    reply(arena, line, text, writer)?;
+    line.clear();
+    Ok(())
+}
+
+/// What stands before the first line feed of a text, and what stands after it. `None` where there is none.
+fn first_line(text: &[u8]) -> Option<(&[u8], &[u8])>
+    ensures some { IfSome result (λ parts. EndsFirst parts.0.now text.now parts.1.now) }
+    ensures none { IfNone result (All IsNoEnd text.now) }
+{
+    let (front, back) = text.split_at(position(b'\n', text));
+    match back.split_first() {
+        Some((_, back)) => Some((front, back)),
+        None => None,
+    }
+}
+
+/// Answers the lines that a piece of the input ends, and keeps what it has of the next.
+fn feed<W: Write, S: SlotStack<Item = ArenaSlot<ToolPtr, LinkNoGen<ToolPtr, u32>>>>(
+    arena: &mut ChainArena<ToolPtr, u32, S>,
+    piece: &[u8],
+    line: &mut Vec<u8>,
+    text: &mut String,
+    writer: &mut W,
+) -> Result<(), ToolError>
+    ensures { ComesOn result piece.now arena.old line.old.items (W.contents writer.old) arena.new line.new.items (W.contents writer.new) }
+{
+    let mut left = piece;
+    while let Some((front, back)) = first_line(left) {
+        end_line(arena, line, front, text, writer)?;
+        left = back;
+    }
+    keep(line, left)
+}
+
+/// Flushes a writer.
+fn flush<W: Write>(writer: &mut W) -> Result<(), ToolError>
+    ensures kept { Keeps (W.contents writer.old) (W.contents writer.new) }
+    ensures error { IfErr result (λ e. e ≡ ToolError.Write) }
+{
+    match writer.flush() {
+        Ok(()) => Ok(()),
+        Err(_) => Err(ToolError::Write),
+    }
+}
+
+/// Reads a piece of the input: how many bytes came, none only at the end.
+fn read_piece<R: Read>(reader: &mut R, piece: &mut [u8]) -> Result<usize, ToolError>
+    ensures bound { IfOk result (λ n. n ≤ length piece.new) }
+    ensures bytes { IfOk result (λ n. Consumes (R.remaining reader.old) (R.remaining reader.new) (take n piece.new)) }
+    ensures end { IfOk result (λ n. n ≡ 0 → 0 < length piece.new → IsAtEnd (R.remaining reader.new)) }
+    ensures err { OnErr result (Keeps (R.remaining reader.old) (R.remaining reader.new)) }
+    ensures error { IfErr result (λ e. e ≡ ToolError.Read) }
+{
+    match reader.read(piece) {
+        Ok(n) => Ok(n),
+        Err(_) => Err(ToolError::Read),
+    }
+}
+
+/// Answers the last line, which no line feed ended.
+fn finish<W: Write, S: SlotStack<Item = ArenaSlot<ToolPtr, LinkNoGen<ToolPtr, u32>>>>(
+    arena: &mut ChainArena<ToolPtr, u32, S>,
+    line: &[u8],
+    text: &mut String,
+    writer: &mut W,
+) -> Result<(), ToolError>
+    ensures { AnswersOne result arena.old arena.new line.now (W.contents writer.old) (W.contents writer.new) }
+{
+    reply(arena, line, text, writer)?;
+    flush(writer)
+}
+
+/// Room for a piece of the input.
+fn room(alloc: Global) -> Result<Vec<u8>, ToolError>
+    ensures some { IfOk result (λ piece. 0 < vec_len piece) }
+    ensures error { IfErr result (λ e. e ≡ ToolError.Memory) }
+{
+    match vec![in alloc; 0u8; 65536] {
+        Ok(piece) => Ok(piece),
+        Err(_) => Err(ToolError::Memory),
+    }
+}
+
+/// Carries out the lines of a reader, piece by piece.
+fn run_pieces<R: Read, W: Write, S: SlotStack<Item = ArenaSlot<ToolPtr, LinkNoGen<ToolPtr, u32>>>>(
+    alloc: Global,
+    arena: &mut ChainArena<ToolPtr, u32, S>,
+    reader: &mut R,
+    writer: &mut W,
+    piece: &mut [u8],
+) -> Result<(), ToolError>
+    requires { 0 < length piece.old }
+    ensures { Ends result arena.old arena.new (R.remaining reader.old) (R.remaining reader.new) (W.contents writer.old) (W.contents writer.new) }
+{
+    let mut line = Vec::new(alloc);
+    let mut text = String::new(alloc);
+    for _ in 0..u64::MAX {
+        flush(writer)?;
+        let n = read_piece(reader, piece)?;
+        if n == 0 {
+            return finish(arena, &line, &mut text, writer);
+        }
+        feed(arena, &piece[..n], &mut line, &mut text, writer)?;
+    }
+    Err(ToolError::Read)
+}
+
+/// Carries out the lines of a reader on an arena, and gives their answers to a writer, which is flushed before each
+/// read.
+pub fn run_on<R: Read, W: Write, S: SlotStack<Item = ArenaSlot<ToolPtr, LinkNoGen<ToolPtr, u32>>>>(
+    alloc: Global,
+    arena: &mut ChainArena<ToolPtr, u32, S>,
+    reader: &mut R,
+    writer: &mut W,
+) -> Result<(), ToolError>
+    ensures { Ends result arena.old arena.new (R.remaining reader.old) (R.remaining reader.new) (W.contents writer.old) (W.contents writer.new) }
+{
+    let mut piece = room(alloc)?;
+    run_pieces(alloc, arena, reader, writer, &mut piece)
+}
+
+/// Carries out the lines of a reader on a new arena: empty, with the counter two, no room and no maximum.
+pub fn run<R: Read, W: Write>(
+    alloc: Global,
+    reader: &mut R,
+    writer: &mut W,
+) -> Result<(), ToolError>
+    ensures { (new : ToolLinks) × Ends result (new_arena two32 None) new (R.remaining reader.old) (R.remaining reader.new) (W.contents writer.old) (W.contents writer.new) }
+{
+    let mut arena: ChainArena<ToolPtr, u32> = ChainArena::new(alloc);
+    run_on(alloc, &mut arena, reader, writer)
+}

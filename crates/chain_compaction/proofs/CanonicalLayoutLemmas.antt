@@ -1,0 +1,319 @@
+-- Links that are laid out: what the arena is once each has its destination, names those of its neighbors, and has moved there.
+use Rattle.std.proofs.Common.{◌≡◌, ℕ, suc, ◌+◌, ◌*◌, ◌^◌, ◌<◌, ◌≤◌, List, [], length, map, Option, None, Some, refl, ap, sym, ◌∙◌, subst, subst₂, arith}
+use Rattle.std.specs.Prelude.{count_by, is_some, slice_index_or, min}
+use Rattle.std.specs.Option.{option_map, option_and_then}
+use Rattle.std.specs.List.{range_with_len}
+use Rattle.std.proofs.lemmas.List.{length-map, append-nil}
+use mathlib.Core.Path.{fun_ext}
+use Rattle.chain_laws.specs.Chains.{Shown, Interlinks, Has, HasNoRepetition, Agrees}
+use Rattle.chain_laws.specs.Renamings.{IsRenaming}
+use Rattle.chain_laws.specs.Arrangements.{place_in, IsArrangement, IsLeastIndexOrder}
+use Rattle.chain_laws.proofs.ListLemmas.Members.{length_bound}
+use Rattle.chain_laws.proofs.RenamingLemmas.Images.{image_of}
+use Rattle.chain_laws.proofs.ListLemmas.Ranges.{range-Has}
+use Rattle.chain_laws.proofs.RenamingLemmas.Positions.{place-within, place-has, has-place, place-numbers, places_are_apart}
+use Rattle.chain_laws.proofs.RenamingLemmas.ChainRuns.{canonical_arranges}
+use Rattle.chain_laws.proofs.RenamingLemmas.LeastIndexOrder.{least_index_order_is_canonical}
+use Rattle.arena_base.specs.Arena.{Arena, slot_at}
+use Rattle.arena_base.specs.DetachedSlots.{Held, IsPacked, trimmed, free_from, held_of, lent_out, returned}
+use Rattle.arena_base.specs.GatheredSlots.{with_totals, fronted}
+use Rattle.chain_links.specs.declared.links.LinkBody.{LinkBody}
+use Rattle.chain_links.specs.ChainArena.{LinkSeen, on_value, link_value, interlinks_of, shown, values_of, entry, ptr_at}
+use Rattle.chain_links.specs.Links.{seen_pair, seen_links}
+use Rattle.chain_compaction.specs.DetachedLinks.{interlinks_seen, shown_in, IsWork}
+use Rattle.chain_compaction.specs.WorkCounts.{HasCounted, CountsOn}
+use Rattle.chain_compaction.specs.Layouts.{ShowsMoves, AreLaidOut}
+use Rattle.chain_compaction.specs.Permutations.{Waits, HaveMoved, CanMoveAll, GoToFront, goal_of, Settles}
+use Rattle.chain_compaction.specs.Destinations.{seen_held, renamed_link, renamed_held, given, AreAllNumbered}
+use Rattle.chain_links.proofs.MappedArenaLemmas.{slot_at-map}
+use Rattle.chain_links.proofs.ArenaInsertionLemmas.{some_entry, slots-within}
+use Rattle.chain_compaction.proofs.DetachedLinkLemmas.{work-more}
+use Rattle.chain_compaction.proofs.CompactedLinkLemmas.{trimmed-map, slot_at-trimmed}
+use Rattle.chain_compaction.proofs.CompactedFrontLemmas.{front-packed, front-length, front-none_free, moved_seen}
+use Rattle.chain_compaction.proofs.ChainDestinationLemmas.{length-seen}
+use Rattle.chain_compaction.proofs.WorkCountLemmas.{counted_none}
+use Rattle.chain_compaction.proofs.ArrangementLemmas.{count-standing, slots-filled, values-given}
+
+-- ---- links that have come to their places
+
+-- what links in slots show
+abbrev pub shown_slots : {Gen T : Type 0} → List (Option (Gen × LinkSeen T)) → Shown
+shown_slots slots i = option_map interlinks_of (slot_at slots i)
+
+module _ {Gen T : Type 0} (g : Gen) (old new : List (Option (Gen × LinkSeen T))) (indexes : List ℕ) (arranges : IsArrangement (shown_slots old) indexes) (long : length new ≡ length indexes)
+    (sent : (i d : ℕ) (x : Gen × LinkSeen T) → place_in indexes i ≡ Some d → slot_at old i ≡ Some x → slot_at new d ≡ Some (g, renamed_link (place_in indexes) x.1)) where
+  -- the entries of the values alone
+  abbrev value_at : ℕ → Option (Gen × T)
+  value_at i = slot_at (map (option_map (on_value link_value)) old) i
+
+  stands : (i : ℕ) → Has indexes i → (x : Gen × LinkSeen T) × (slot_at old i ≡ Some x)
+  stands i h = let v = (arranges.valid i).1 h in some_entry interlinks_of (slot_at old i) v.link v.shows
+
+  value_stands : (i : ℕ) → Has indexes i → (e : Gen × T) × (value_at i ≡ Some e)
+  value_stands i h = let x = stands i h in (on_value link_value x.0, slot_at-map (on_value link_value) old i ∙ ap (option_map (on_value link_value)) x.1)
+
+  laid_at : (i k : ℕ) → place_in indexes i ≡ Some (suc k) → slice_index_or (map (option_map (on_value link_value)) new) k None ≡ option_map (λ (e : Gen × T). (g, e.1)) (value_at i)
+  laid_at i k e =
+      let x = stands i (place-has 1 indexes i (suc k) e) in
+      slot_at-map (on_value link_value) new (suc k)
+      ∙ (ap (option_map (on_value link_value)) (sent i (suc k) x.0 e x.1)
+      ∙ sym (ap (option_map (λ (e : Gen × T). (g, e.1))) (slot_at-map (on_value link_value) old i ∙ ap (option_map (on_value link_value)) x.1)))
+
+  -- the slots are the values in the order of the list
+  laid_slots : map (option_map (on_value link_value)) new ≡ map (λ i. option_map (λ (e : Gen × T). (g, e.1)) (value_at i)) indexes
+  laid_slots =
+      slots-filled (λ i. option_map (λ (e : Gen × T). (g, e.1)) (value_at i)) indexes 0 (map (option_map (on_value link_value)) new) arranges.once (length-map new (option_map (on_value link_value)) ∙ long)
+      (λ i k e. laid_at i k (e ∙ ap (λ (m : ℕ). Some m) (let same : 1 + k ≡ suc k = omega arith in same)))
+
+  laid_renamed : IsRenaming (place_in indexes) (shown_slots old) (shown_slots new)
+  laid_renamed = record {
+    apart = places_are_apart indexes;
+    each = λ i v. has-place 1 indexes i ((arranges.valid i).0 v);
+    onto = λ k v.
+        let w = (slots-within interlinks_of new).within k v in
+        let from = image_of (place_in indexes) indexes (range_with_len 1 (length indexes)) k (place-numbers 1 indexes arranges.once) (range-Has 1 (length indexes) k w.0 (omega (arith, w.1, long))) in
+        (from.0, (arranges.valid from.0).1 from.1, from.2);
+    carries = λ i k before after shows e.
+        let x = some_entry interlinks_of (slot_at old i) (record { prev = before; next = after }) shows in
+        let same : interlinks_of x.0 ≡ record { prev = before; next = after } = some_link (sym (ap (option_map interlinks_of) x.1) ∙ shows) in
+        ap (option_map interlinks_of) (sent i k x.0 e x.1)
+        ∙ ap (λ (l : Interlinks). let o : Option Interlinks = Some (record { prev = option_and_then (place_in indexes) l.prev; next = option_and_then (place_in indexes) l.next }) in o) same;
+  }
+    where
+      some_link : {l m : Interlinks} → ◌≡◌ {A = Option Interlinks} (Some l) (Some m) → l ≡ m
+      some_link e = cc
+
+-- ---- the count
+
+-- three passes after one another, from the beginning of the count on
+pub three_counted : {Gen T : Type 0} (a0 a1 a2 a3 : Arena Gen T) (p0 p1 p2 p3 t0 t1 t2 t3 : ℕ) → p0 ≡ 0 → t0 ≡ 0 → CountsOn a0 a1 p0 t0 p1 t1 → CountsOn a1 a2 p1 t1 p2 t2 → CountsOn a2 a3 p2 t2 p3 t3 → HasCounted a0 a3 p3 t3
+three_counted a0 a1 a2 a3 p0 p1 p2 p3 t0 t1 t2 t3 no_placement no_touch one two three =
+    three.on a0 (two.on a0 (one.on a0 (subst₂ (λ (p t : ℕ). HasCounted a0 a0 p t) (sym no_placement) (sym no_touch) (counted_none a0))))
+
+-- ---- links that are to move
+
+module _ {Gen K T : Type 0} (number : K → Option ℕ) (slots : List (Option (Gen × LinkBody K T))) (indexes : List ℕ) (once : HasNoRepetition indexes)
+    (places : (j : ℕ) → given number slots j ≡ place_in indexes j) (each : (i : ℕ) (e : Gen × LinkBody K T) → slot_at slots i ≡ Some e → Has indexes i) where
+  waits_for : (i d : ℕ) → place_in indexes i ≡ Some d → (e : Gen × LinkBody K T) × Waits (goal_of number) (slot_at slots) i e d
+  waits_for i d at = by (slot_at slots i) refl (places i ∙ at)
+    where
+      by : (o : Option (Gen × LinkBody K T)) → slot_at slots i ≡ o → option_and_then (goal_of number) o ≡ Some d → (e : Gen × LinkBody K T) × Waits (goal_of number) (slot_at slots) i e d
+      by None is goes = absurd (let h = goes in cc)
+      by (Some e) is goes = (e, record { stands = is; to = goes })
+
+  place_of : (i d : ℕ) (e : Gen × LinkBody K T) → Waits (goal_of number) (slot_at slots) i e d → place_in indexes i ≡ Some d
+  place_of i d e w = sym (places i) ∙ (ap (option_and_then (goal_of number)) w.stands ∙ w.to)
+
+  has_entry : (i : ℕ) → Has indexes i → (e : Gen × LinkBody K T) × (slot_at slots i ≡ Some e)
+  has_entry i h =
+      let place = has-place 1 indexes i h in
+      let w = waits_for i place.0 place.1 in
+      (w.0, w.1.stands)
+
+  few_indexes : length indexes ≤ length slots
+  few_indexes =
+      length_bound indexes (length slots) once
+      (λ i h. let e = has_entry i h in (slots-within (interlinks_seen number) slots).within i (record { link = interlinks_seen number e.0; shows = ap (option_map (interlinks_seen number)) e.1 }))
+
+  can_move : CanMoveAll (goal_of number) slots
+  can_move = record {
+    apart = λ i j d e f w v. places_are_apart indexes i j d (place_of i d e w) (place_of j d f v);
+    within = record { within = λ i d e w. let p = place-within 1 indexes i d (place_of i d e w) in (p.0, omega (arith, p.1, few_indexes)) };
+    each = λ i e s. let p = has-place 1 indexes i (each i e s) in (p.0, sym (ap (option_and_then (goal_of number)) s) ∙ (places i ∙ p.1));
+  }
+
+  go_to_front : GoToFront (goal_of number) slots (length indexes)
+  go_to_front = record {
+    few = λ i d e w. let p = place-within 1 indexes i d (place_of i d e w) in omega (arith, p.1);
+    each = λ d low high.
+        let from = image_of (place_in indexes) indexes (range_with_len 1 (length indexes)) d (place-numbers 1 indexes once) (range-Has 1 (length indexes) d low (omega (arith, high))) in
+        let w = waits_for from.0 d from.2 in
+        (from.0, w.0, w.1);
+  }
+
+-- ---- the passes
+
+module _ {Gen K T : Type 0} (number : K → Option ℕ) where
+  -- what slots show is told by the links as contracts see them
+  pub shown-seen : (held : Held Gen (LinkBody K T)) → shown_in number held.slots ≡ shown_slots (seen_held number held).slots
+  shown-seen held = fun_ext (λ i. twice (slot_at held.slots i) ∙ sym (ap (option_map interlinks_of) (slot_at-map (seen_pair number) held.slots i)))
+    where
+      twice : (o : Option (Gen × LinkBody K T)) → option_map (interlinks_seen number) o ≡ option_map interlinks_of (option_map (seen_pair number) o)
+      twice None = refl
+      twice (Some e) = refl
+
+  -- .. and there are as many slots where the links are renamed
+  pub length-renamed : (to : ℕ → Option ℕ) (one other : Held Gen (LinkBody K T)) → seen_held number one ≡ renamed_held to (seen_held number other) → length one.slots ≡ length other.slots
+  length-renamed to one other renamed =
+      sym (length-map one.slots (option_map (seen_pair number)))
+      ∙ (ap (λ (h : Held Gen (LinkSeen T)). length h.slots) renamed
+      ∙ (length-map (seen_held number other).slots (option_map (on_value (renamed_link to))) ∙ length-map other.slots (option_map (seen_pair number))))
+
+  -- the pointers are told by what is seen
+  ptr-seen : (held : Held Gen (LinkBody K T)) (i : ℕ) → ptr_at (slot_at held.slots) i ≡ ptr_at (slot_at (map (option_map (on_value link_value)) (seen_held number held).slots)) i
+  ptr-seen held i =
+      twice (slot_at held.slots i)
+      ∙ sym (ap (option_map (λ (e : Gen × T). (i, e.0))) (slot_at-map (on_value link_value) (seen_held number held).slots i ∙ ap (option_map (on_value link_value)) (slot_at-map (seen_pair number) held.slots i)))
+    where
+      twice : (o : Option (Gen × LinkBody K T)) → option_map {U = ℕ × Gen} (λ (e : Gen × LinkBody K T). (i, e.0)) o ≡ option_map {U = ℕ × Gen} (λ (e : Gen × T). (i, e.0)) (option_map (on_value link_value) (option_map (seen_pair number) o))
+      twice None = refl
+      twice (Some e) = refl
+
+  -- links that are seen alike agree alike
+  pub agree-seen : (a : Arena Gen (LinkBody K T)) (before after : Held Gen (LinkBody K T)) → before ≡ held_of a → seen_held number after ≡ seen_held number before
+      → Agrees (shown (seen_links number a)) → Agrees (shown_in number after.slots)
+  agree-seen a before after is same agrees =
+      subst Agrees (ap (λ (h : Held Gen (LinkSeen T)). shown_slots h.slots) (sym (same ∙ ap (seen_held number) is)) ∙ sym (shown-seen after)) agrees
+
+module _ {F P Gen K T : Type 0} (g : F → P → P → F → Type 0) (key : P → ℕ × Gen) (f last : F) (number : K → Option ℕ) (generation : Gen) (h1 h2 : Held Gen (LinkBody K T))
+    (old a1 a2 : Arena Gen (LinkBody K T)) (total : ℕ) (emptied : seen_held number h1 ≡ seen_held number (held_of old)) (numbered : AreAllNumbered number g key generation f last h1 h2 a1 a2 total) where
+  abbrev first_slots : List (Option (Gen × LinkSeen T))
+  first_slots = (seen_links number old).slots
+
+  first_order : IsLeastIndexOrder (shown_slots first_slots) numbered.indexes
+  first_order = subst (λ (s : Shown). IsLeastIndexOrder s numbered.indexes) (shown-seen number h1 ∙ ap (λ (h : Held Gen (LinkSeen T)). shown_slots h.slots) emptied) numbered.order
+
+  first_arranges : IsArrangement (shown_slots first_slots) numbered.indexes
+  first_arranges = canonical_arranges (shown_slots first_slots) numbered.indexes (least_index_order_is_canonical (shown_slots first_slots) numbered.indexes first_order)
+
+  all_renamed : seen_held number h2 ≡ renamed_held (place_in numbered.indexes) (seen_held number (held_of old))
+  all_renamed = numbered.renamed ∙ ap (renamed_held (place_in numbered.indexes)) emptied
+
+  renamed_there : (i : ℕ) → option_map (seen_pair number) (slot_at h2.slots i) ≡ option_map (on_value (renamed_link (place_in numbered.indexes))) (slot_at first_slots i)
+  renamed_there i =
+      sym (slot_at-map (seen_pair number) h2.slots i)
+      ∙ (ap (λ (h : Held Gen (LinkSeen T)). slot_at h.slots i) all_renamed ∙ slot_at-map (on_value (renamed_link (place_in numbered.indexes))) first_slots i)
+
+  each_placed : (i : ℕ) (e : Gen × LinkBody K T) → slot_at h2.slots i ≡ Some e → Has numbered.indexes i
+  each_placed i e s = by (slot_at first_slots i) refl (sym (ap (option_map (seen_pair number)) s) ∙ renamed_there i)
+    where
+      by : (o : Option (Gen × LinkSeen T)) → slot_at first_slots i ≡ o → Some (seen_pair number e) ≡ option_map (on_value (renamed_link (place_in numbered.indexes))) o → Has numbered.indexes i
+      by None is both = absurd (let h = both in cc)
+      by (Some x) is both = (first_arranges.valid i).0 (record { link = interlinks_of x; shows = ap (option_map interlinks_of) is })
+
+  pub links_can_move : CanMoveAll (goal_of number) h2.slots
+  links_can_move = can_move number h2.slots numbered.indexes first_arranges.once numbered.places each_placed
+
+  links_to_front : GoToFront (goal_of number) h2.slots (length numbered.indexes)
+  links_to_front = go_to_front number h2.slots numbered.indexes first_arranges.once numbered.places each_placed
+
+  links_few : length numbered.indexes ≤ length h2.slots
+  links_few = few_indexes number h2.slots numbered.indexes first_arranges.once numbered.places each_placed
+
+  links_counted : count_by is_some h2.slots ≡ length numbered.indexes
+  links_counted = count-standing (record old { slots = h2.slots }) numbered.indexes first_arranges.once each_placed (has_entry number h2.slots numbered.indexes first_arranges.once numbered.places each_placed)
+
+  -- there are as many slots as at first
+  first-length : length h1.slots ≡ length old.slots
+  first-length = length-seen number h1 (held_of old) emptied
+
+  second-length : length h2.slots ≡ length old.slots
+  second-length = length-renamed number (place_in numbered.indexes) h2 (held_of old) all_renamed
+
+  -- once they have moved
+  module _ (h3 : Held Gen (LinkBody K T)) (moved : HaveMoved (goal_of number) (Settles number generation) (slot_at h2.slots) (slot_at h3.slots)) where
+    abbrev last_slots : List (Option (Gen × LinkSeen T))
+    last_slots = map (option_map (seen_pair number)) (trimmed h3.slots)
+
+    pub last-length : length last_slots ≡ length numbered.indexes
+    last-length = length-map (trimmed h3.slots) (option_map (seen_pair number)) ∙ front-length (goal_of number) (Settles number generation) (length numbered.indexes) h2.slots h3.slots links_to_front moved
+
+    -- the links stand in the first slots
+    pub last_packed : IsPacked h3.slots total
+    last_packed = subst (IsPacked h3.slots) (sym numbered.counted) (front-packed (goal_of number) (Settles number generation) (length numbered.indexes) h2.slots h3.slots links_to_front moved)
+
+    pub last-none_free : free_from 1 (trimmed h3.slots) ≡ []
+    last-none_free = front-none_free (goal_of number) (Settles number generation) (length numbered.indexes) h2.slots h3.slots links_to_front moved
+
+    pub all_sent : (i d : ℕ) (x : Gen × LinkSeen T) → place_in numbered.indexes i ≡ Some d → slot_at first_slots i ≡ Some x → slot_at last_slots d ≡ Some (generation, renamed_link (place_in numbered.indexes) x.1)
+    all_sent i d x at is =
+        let w = waits_for number h2.slots numbered.indexes first_arranges.once numbered.places each_placed i d at in
+        let both : ◌≡◌ {A = Option (Gen × LinkSeen T)} (Some (seen_pair number w.0)) (Some (x.0, renamed_link (place_in numbered.indexes) x.1)) =
+        sym (ap (option_map (seen_pair number)) w.1.stands) ∙ (renamed_there i ∙ ap (option_map (on_value (renamed_link (place_in numbered.indexes)))) is) in
+        ap (λ (s : List (Option (Gen × LinkSeen T))). slot_at s d) (trimmed-map (seen_pair number) h3.slots)
+        ∙ (slot_at-trimmed (map (option_map (seen_pair number)) h3.slots) d
+        ∙ (moved_seen number generation h2.slots h3.slots moved i d w.0 w.1 ∙ ap (λ (l : LinkSeen T). let o : Option (Gen × LinkSeen T) = Some (generation, l) in o) (link_is both)))
+      where
+        link_or : LinkSeen T → Option (Gen × LinkSeen T) → LinkSeen T
+        link_or l None = l
+        link_or l (Some e) = e.1
+
+        link_is : {e h : Gen × LinkSeen T} → ◌≡◌ {A = Option (Gen × LinkSeen T)} (Some e) (Some h) → e.1 ≡ h.1
+        link_is {e} {h} both = ap (link_or e.1) both
+
+    -- .. and the slots are given back
+    module _ (greatest : ℕ) (maximum : Option ℕ) (a3 : Arena Gen (LinkBody K T)) (capacity : h3.stack_capacity ≡ h2.stack_capacity) (is_maximum : h3.maximum ≡ h2.maximum)
+        (emptying : a1 ≡ with_totals (lent_out maximum old) 0 (length old.slots))
+        (moving : a3 ≡ with_totals a2 (count_by is_some h2.slots) (count_by is_some h2.slots + length h2.slots)) where
+      whole_work : IsWork (lent_out maximum old) a3 (length numbered.indexes) (4 * length old.slots + 12 * length numbered.indexes)
+      whole_work =
+          let first : IsWork (lent_out maximum old) a1 0 (length old.slots) = record { touches = length old.slots; few = omega arith; arena = emptying } in
+          let last : IsWork a2 a3 (count_by is_some h2.slots) (count_by is_some h2.slots + length h2.slots) = record { touches = count_by is_some h2.slots + length h2.slots; few = omega arith; arena = moving } in
+          work-more (work-more first numbered.work 0 (2 * length old.slots + 4 * length numbered.indexes) refl (omega (arith, first-length)))
+          last (length numbered.indexes) (4 * length old.slots + 12 * length numbered.indexes) (omega (arith, links_counted)) (omega (arith, links_counted, second-length))
+
+      abbrev laid_arena : Arena Gen (LinkBody K T)
+      laid_arena = returned greatest (with_totals (lent_out maximum old) (length numbered.indexes) whole_work.touches) h3
+
+      is_laid : (new : Arena Gen (LinkBody K T)) → new ≡ returned greatest a3 h3 → new ≡ laid_arena
+      is_laid new is_new = is_new ∙ ap (λ (a : Arena Gen (LinkBody K T)). returned greatest a h3) whole_work.arena
+
+      pub links_laid : old.capacity ≡ min old.stack_capacity greatest → generation ≡ old.counter → (new : Arena Gen (LinkBody K T)) → new ≡ returned greatest a3 h3
+          → AreLaidOut g key f last (seen_links number old) (seen_links number new)
+      links_laid room counter new is_new = record {
+        indexes = numbered.indexes;
+        order = first_order;
+        renamed = subst (λ (a : Arena Gen (LinkBody K T)). IsRenaming (place_in numbered.indexes) (shown (seen_links number old)) (shown (seen_links number a))) (sym (is_laid new is_new))
+            (laid_renamed generation first_slots last_slots numbered.indexes first_arranges last-length all_sent);
+        values = values.0;
+        stood = values.1;
+        touches = whole_work.touches;
+        few = omega (arith, whole_work.few, length-map old.slots (option_map (seen_pair number)));
+        arena = ap (λ (a : Arena Gen (LinkBody K T)). values_of (seen_links number a)) (is_laid new is_new) ∙ (λ i. record (values_of (seen_links number old)) {
+          slots = slots i;
+          freed = last-none_free i;
+          capacity = room_kept i;
+          stack_capacity = stack_kept i;
+          maximum = maximum_kept i;
+          placed = old.placed + count i;
+          touched = old.touched + whole_work.touches;
+        });
+        shows = subst (λ (p : (ℕ → Option (ℕ × Gen)) × Gen). ShowsMoves g key p.0 p.1 1 f numbered.indexes last) (λ i. (pointers i, counter i)) numbered.shows;
+      }
+        where
+          values : (values : List T) × (map (λ t. Some t) values ≡ map (λ i. option_map (λ (e : Gen × T). e.1) (entry (seen_links number old) i)) numbered.indexes)
+              × (map {B = Option (Gen × T)} (λ t. Some (generation, t)) values ≡ map {B = Option (Gen × T)} (λ i. option_map (λ (e : Gen × T). (generation, e.1)) (entry (seen_links number old) i)) numbered.indexes)
+              × (length values ≡ length numbered.indexes)
+          values = values-given generation (entry (seen_links number old)) numbered.indexes (value_stands generation first_slots last_slots numbered.indexes first_arranges last-length all_sent)
+
+          slots : map (option_map (on_value link_value)) last_slots ≡ fronted old.counter values.0 []
+          slots =
+              laid_slots generation first_slots last_slots numbered.indexes first_arranges last-length all_sent
+              ∙ (sym values.2 ∙ (ap (λ (h : Gen). map {B = Option (Gen × T)} (λ t. Some (h, t)) values.0) counter ∙ sym (append-nil (map {B = Option (Gen × T)} (λ t. Some (old.counter, t)) values.0))))
+
+          stack_kept : h3.stack_capacity ≡ old.stack_capacity
+          stack_kept = capacity ∙ ap (λ (h : Held Gen (LinkSeen T)). h.stack_capacity) all_renamed
+
+          maximum_kept : h3.maximum ≡ old.maximum
+          maximum_kept = is_maximum ∙ ap (λ (h : Held Gen (LinkSeen T)). h.maximum) all_renamed
+
+          room_kept : min h3.stack_capacity greatest ≡ old.capacity
+          room_kept = ap (λ (n : ℕ). min n greatest) stack_kept ∙ sym room
+
+          count : length numbered.indexes ≡ length values.0
+          count = sym values.3
+
+          pointers : ptr_at (slot_at h1.slots) ≡ ptr_at (entry (seen_links number old))
+          pointers = fun_ext (λ i. ptr-seen number h1 i ∙ ap (λ (h : Held Gen (LinkSeen T)). ptr_at (slot_at (map (option_map (on_value link_value)) h.slots)) i) emptied)
+
+      -- what was counted is the work
+      pub work_told : (first : Arena Gen (LinkBody K T)) (p t : ℕ) → first ≡ lent_out maximum old → HasCounted first a3 p t → length old.slots ≤ greatest → greatest < 2 ^ 64
+          → (a3.placed ≡ old.placed + p) × (a3.touched ≡ old.touched + t)
+      work_told first p t is had fits bound =
+          let placed : old.placed + had.placements ≡ a3.placed = ap (λ (a : Arena Gen (LinkBody K T)). a.placed + had.placements) (sym is) ∙ sym (ap (λ (a : Arena Gen (LinkBody K T)). a.placed) had.arena) in
+          let touched : old.touched + had.touches ≡ a3.touched = ap (λ (a : Arena Gen (LinkBody K T)). a.touched + had.touches) (sym is) ∙ sym (ap (λ (a : Arena Gen (LinkBody K T)). a.touched) had.arena) in
+          let now_placed : a3.placed ≡ old.placed + length numbered.indexes = ap (λ (a : Arena Gen (LinkBody K T)). a.placed) whole_work.arena in
+          let now_touched : a3.touched ≡ old.touched + whole_work.touches = ap (λ (a : Arena Gen (LinkBody K T)). a.touched) whole_work.arena in (
+            omega (arith, placed, now_placed, had.placements_counted, links_few, second-length, fits, bound),
+            omega (arith, touched, now_touched, had.touches_counted, links_few, second-length, fits, bound, whole_work.few),
+          )

@@ -1,0 +1,79 @@
+-- Entries that have moved: what they show, and, where they moved to the front, that the slots behind them are free and are
+-- cut off.
+use Rattle.std.proofs.Common.{◌≡◌, ℕ, zero, suc, ◌<◌, ◌≤◌, List, [], ◌∷◌, length, map, Option, None, Some, refl, ap, ap₂, ◌∙◌, arith}
+use Rattle.std.specs.Prelude.{slice_index_or, IsSome, is_some}
+use Rattle.std.specs.Option.{option_map}
+use Rattle.arena_base.specs.Arena.{slot_at}
+use Rattle.arena_base.specs.DetachedSlots.{IsPacked, before_cut, trimmed, free_from}
+use Rattle.chain_links.specs.declared.links.LinkBody.{LinkBody}
+use Rattle.chain_links.specs.ChainArena.{LinkSeen}
+use Rattle.chain_links.specs.Links.{seen_link, seen_pair}
+use Rattle.chain_compaction.specs.Permutations.{Waits, HaveMoved, GoToFront, goal_of, Settles}
+use Rattle.arena_base.proofs.PackedSlotLemmas.{all_cut}
+use Rattle.chain_links.proofs.MappedArenaLemmas.{slot_at-map}
+
+module _ {X : Type 0} where
+  -- n entries at the front, and nothing behind them
+  trimmed-front : (n : ℕ) (xs : List (Option X)) → ((k : ℕ) → k < n → (x : X) × (slice_index_or xs k None ≡ Some x)) → ((k : ℕ) → n ≤ k → slice_index_or xs k None ≡ None)
+      → (length (trimmed xs) ≡ n) × ((i : ℕ) → free_from i (trimmed xs) ≡ [])
+  trimmed-front zero xs front behind =
+      let none : trimmed xs ≡ [] = all_cut xs (λ k. behind k (omega arith)) in
+      (ap (λ (ys : List (Option X)). length ys) none, λ i. ap (free_from i) none)
+  trimmed-front (suc n) [] front behind = let first : None ≡ Some (front 0 (omega arith)).0 = (front 0 (omega arith)).1 in absurd (cc)
+  trimmed-front (suc n) (x ∷ xs) front behind =
+      let first = front 0 (omega arith) in
+      let is : x ≡ Some first.0 = first.1 in
+      let rest = trimmed-front n xs (λ k below. front (suc k) (omega arith)) (λ k above. behind (suc k) (omega arith)) in
+      let cut : trimmed (x ∷ xs) ≡ Some first.0 ∷ trimmed xs = ap (λ (o : Option X). before_cut o (trimmed xs)) is in
+      (ap (λ (ys : List (Option X)). length ys) cut ∙ ap suc rest.0, λ i. ap (free_from i) cut ∙ rest.1 (suc i))
+
+module _ {E : Type 0} (goal : E → Option ℕ) (Settles : E → E → Type 0) (n : ℕ) (old new : List (Option E))
+    (front : GoToFront goal old n) (moved : HaveMoved goal Settles (slot_at old) (slot_at new)) where
+  -- at each index up to n stands an entry, and at none above it
+  stands_in_front : (k : ℕ) → k < n → (e : E) × (slice_index_or new k None ≡ Some e)
+  stands_in_front k below =
+      let from = front.each (suc k) (omega arith) (omega arith) in
+      let there = moved.there from.0 (suc k) from.1 from.2 in
+      (there.entry, there.stands)
+
+  free_behind : (k : ℕ) → n ≤ k → slice_index_or new k None ≡ None
+  free_behind k above = by (slice_index_or new k None) refl
+    where
+      by : (o : Option E) → slice_index_or new k None ≡ o → o ≡ None
+      by None is = refl
+      by (Some e) is =
+          let come = moved.back (suc k) e is in
+          let few : suc k ≤ n = front.few come.from (suc k) come.entry come.waited in
+          absurd (omega arith)
+
+  -- so the entries are packed
+  pub front-packed : IsPacked new n
+  front-packed = record { taken = taken; free = free }
+    where
+      taken : (i : ℕ) → 1 ≤ i → i ≤ n → IsSome (slot_at new i)
+      taken zero low high = absurd (omega (arith, low))
+      taken (suc k) low high = ap (λ (o : Option E). is_some o) (stands_in_front k (omega (arith, high))).1
+
+      free : (i : ℕ) → n < i → slot_at new i ≡ None
+      free zero above = refl
+      free (suc k) above = free_behind k (omega (arith, above))
+
+  -- the slots that are left are exactly n, and none of them is free
+  pub front-length : length (trimmed new) ≡ n
+  front-length = (trimmed-front n new stands_in_front free_behind).0
+
+  pub front-none_free : free_from 1 (trimmed new) ≡ []
+  front-none_free = (trimmed-front n new stands_in_front free_behind).1 1
+
+module _ {Gen K T : Type 0} (number : K → Option ℕ) (g : Gen) where
+  -- what an entry shows once it has come
+  pub settled_seen : (e f : Gen × LinkBody K T) → Settles number g e f → seen_pair number f ≡ (g, seen_link number e.1)
+  settled_seen e f s = ap₂ (λ (h : Gen) (l : LinkSeen T). (h, l)) s.generation (ap (seen_link number) s.rest)
+
+  -- so at its destination an entry shows what it showed, with the generation
+  pub moved_seen : (old new : List (Option (Gen × LinkBody K T))) → HaveMoved (goal_of number) (Settles number g) (slot_at old) (slot_at new) → (i d : ℕ) (e : Gen × LinkBody K T)
+      → Waits (goal_of number) (slot_at old) i e d → slot_at (map (option_map (seen_pair number)) new) d ≡ Some (g, seen_link number e.1)
+  moved_seen old new moved i d e w =
+      let there = moved.there i d e w in
+      slot_at-map (seen_pair number) new d
+      ∙ (ap (option_map (seen_pair number)) there.stands ∙ ap (λ (x : Gen × LinkSeen T). let o : Option (Gen × LinkSeen T) = Some x in o) (settled_seen e there.entry there.settled))

@@ -1,0 +1,130 @@
+-- What an arena of links is once they are brought together and the slots are given back.
+use Rattle.std.proofs.Common.{◌≡◌, ℕ, zero, suc, ◌+◌, ◌*◌, ◌≤◌, List, [], ◌∷◌, length, map, Option, None, Some, refl, ap, sym, ◌∙◌, subst, arith}
+use Rattle.std.specs.Prelude.{slice_index_or, min}
+use Rattle.std.specs.Option.{option_map}
+use Rattle.std.specs.Fn.{Mut}
+use Rattle.std.proofs.lemmas.List.{length-map}
+use mathlib.Core.Path.{fun_ext}
+use denote.Ref.{MutBor}
+use Rattle.chain_laws.specs.Chains.{Shown}
+use Rattle.chain_laws.specs.Renamings.{IsRenaming}
+use Rattle.chain_laws.specs.Arrangements.{place_in}
+use Rattle.arena_base.specs.Arena.{Arena, slot_at}
+use Rattle.arena_base.specs.Entries.{entries_from, entries, index_of}
+use Rattle.arena_base.specs.DetachedSlots.{Held, before_cut, trimmed, free_from, held_of, lent_out, returned}
+use Rattle.arena_base.specs.Compressions.{VisitsAll}
+use Rattle.arena_base.specs.GatheredSlots.{AreClosed, IsGathered, gathered, with_totals}
+use Rattle.arena_base.proofs.CompactedArenaLemmas.{gathers, few_entries}
+use Rattle.chain_links.specs.declared.links.LinkBody.{LinkBody}
+use Rattle.chain_links.specs.ChainArena.{on_value, with_each, interlinks_of, shown, values_of}
+use Rattle.chain_links.specs.Links.{held_in, seen_links, seen_pair}
+use Rattle.chain_compaction.specs.DetachedLinks.{held_values, interlinks_seen, shown_in, indexes_in, IsWork}
+use Rattle.chain_compaction.specs.LinkCompressions.{AreGathered}
+use Rattle.chain_links.proofs.LinkStateLemmas.{entry_at-seen_links}
+use Rattle.chain_compaction.proofs.ValueViewLemmas.{values_of-seen_links}
+
+-- slots without the free ones at the end, mapped
+module _ {X Y : Type 0} (f : X → Y) where
+  cut-map : (o : Option X) (slots : List (Option X)) → map (option_map f) (before_cut o slots) ≡ before_cut (option_map f o) (map (option_map f) slots)
+  cut-map None [] = refl
+  cut-map None (o ∷ slots) = refl
+  cut-map (Some x) slots = refl
+
+  pub trimmed-map : (slots : List (Option X)) → map (option_map f) (trimmed slots) ≡ trimmed (map (option_map f) slots)
+  trimmed-map [] = refl
+  trimmed-map (o ∷ slots) = cut-map o (trimmed slots) ∙ ap (before_cut (option_map f o)) (trimmed-map slots)
+
+  free_from-map : (slots : List (Option X)) (i : ℕ) → free_from i slots ≡ free_from i (map (option_map f) slots)
+  free_from-map [] i = refl
+  free_from-map (None ∷ slots) i = ap (λ ns. i ∷ ns) (free_from-map slots (suc i))
+  free_from-map (Some x ∷ slots) i = free_from-map slots (suc i)
+
+-- what stands at an index stays
+module _ {X : Type 0} where
+  cut-at : (o : Option X) (slots : List (Option X)) (k : ℕ) → slice_index_or (before_cut o slots) k None ≡ slice_index_or (o ∷ slots) k None
+  cut-at None [] zero = refl
+  cut-at None [] (suc k) = refl
+  cut-at None (o ∷ slots) k = refl
+  cut-at (Some x) slots k = refl
+
+  trimmed-at : (slots : List (Option X)) (k : ℕ) → slice_index_or (trimmed slots) k None ≡ slice_index_or slots k None
+  trimmed-at [] k = refl
+  trimmed-at (o ∷ slots) zero = cut-at o (trimmed slots) zero
+  trimmed-at (o ∷ slots) (suc k) = cut-at o (trimmed slots) (suc k) ∙ trimmed-at slots k
+
+  pub slot_at-trimmed : (slots : List (Option X)) (i : ℕ) → slot_at (trimmed slots) i ≡ slot_at slots i
+  slot_at-trimmed slots zero = refl
+  slot_at-trimmed slots (suc k) = trimmed-at slots k
+
+module _ {Gen K T : Type 0} (number : K → Option ℕ) where
+  -- an arena of links shows what its slots show
+  pub shown-slots : (a : Arena Gen (LinkBody K T)) → shown (seen_links number a) ≡ shown_in number a.slots
+  shown-slots a = fun_ext (λ i. ap (option_map interlinks_of) (entry_at-seen_links number a i) ∙ twice (slot_at a.slots i))
+    where
+      twice : (o : Option (Gen × LinkBody K T)) → option_map interlinks_of (option_map (seen_pair number) o) ≡ option_map (interlinks_seen number) o
+      twice None = refl
+      twice (Some e) = refl
+
+  shown-trimmed : (slots : List (Option (Gen × LinkBody K T))) → shown_in number (trimmed slots) ≡ shown_in number slots
+  shown-trimmed slots = fun_ext (λ i. ap (option_map (interlinks_seen number)) (slot_at-trimmed slots i))
+
+-- the values of an arena that gets slots back
+values-returned : {Gen K T : Type 0} (greatest : ℕ) (a : Arena Gen (LinkBody K T)) (held : Held Gen (LinkBody K T)) → with_each held_in (returned greatest a held) ≡ returned greatest (with_each held_in a) (held_values held)
+values-returned greatest a held =
+    let slots = trimmed-map (on_value held_in) held.slots in
+    let freed = free_from-map (on_value held_in) (trimmed held.slots) 1 ∙ ap (free_from 1) slots in
+    λ i. record (returned greatest (with_each held_in a) (held_values held)) { slots = slots i; freed = freed i }
+
+module _ {F P T Gen K : Type 0} (g : Mut F (P × (MutBor T × (P × Unit {0}))) (Unit {0} × (MutBor T × Unit {0}))) (key : P → ℕ × Gen) (f : F) (number : K → Option ℕ) where
+  -- an arena whose links went out, were brought together, and came back
+  module _ (greatest : ℕ) (maximum : Option ℕ) (generation : Gen) (old start finish new : Arena Gen (LinkBody K T)) (before after : Held Gen (LinkBody K T))
+      (is_start : start ≡ lent_out maximum old) (is_before : before ≡ held_of old) (is_new : new ≡ returned greatest finish after)
+      (closed : AreClosed generation (held_values before) (held_values after)) (visits : VisitsAll g key f (entries_from 1 (held_values before).slots) (entries_from 1 (held_values after).slots))
+      (work : IsWork start finish (length (entries_from 1 (held_values before).slots)) (length before.slots + 3 * length (entries_from 1 (held_values before).slots))) where
+    -- the values alone, as if each slot had been touched as those of an arena without interlinks are
+    abbrev old_values : Arena Gen T
+    old_values = with_each held_in old
+
+    abbrev moved_count : ℕ
+    moved_count = length (entries_from 1 (held_values before).slots)
+
+    abbrev like : Arena Gen T
+    like = returned greatest (with_totals (with_each held_in start) moved_count (length (held_values before).slots + moved_count)) (held_values after)
+
+    like_gathered : old.capacity ≡ min old.stack_capacity greatest → generation ≡ old.counter → IsGathered g key f old_values like
+    like_gathered room counter =
+        gathers g key f greatest maximum generation old_values (with_each held_in start) (with_totals (with_each held_in start) moved_count (length (held_values before).slots + moved_count)) like
+        (held_values before) (held_values after) (ap (λ (a : Arena Gen (LinkBody K T)). with_each held_in a) is_start) (ap (λ (h : Held Gen (LinkBody K T)). held_values h) is_before) room counter closed visits refl refl
+
+    -- they differ in the touches alone
+    values_now : with_each held_in new ≡ record like { touched = old.touched + work.touches }
+    values_now =
+        ap (λ (a : Arena Gen (LinkBody K T)). with_each held_in a) (is_new ∙ ap (λ (a : Arena Gen (LinkBody K T)). returned greatest a after) work.arena)
+        ∙ (values-returned greatest (with_totals start moved_count work.touches) after ∙ (λ i. record like { touched = (is_start i).touched + work.touches }))
+
+    few_touches : work.touches ≤ 4 * length old.slots
+    few_touches =
+        let few : moved_count ≤ length old_values.slots = subst (λ (h : Held Gen (LinkBody K T)). length (entries_from 1 (held_values h).slots) ≤ length old_values.slots) (sym is_before) (few_entries old_values) in
+        let long : length old_values.slots ≡ length old.slots = length-map old.slots (option_map (on_value held_in)) in
+        let held : length before.slots ≡ length old.slots = ap (λ (h : Held Gen (LinkBody K T)). length h.slots) is_before in
+        omega (arith, work.few, few, long, held)
+
+    pub links_gathered : old.capacity ≡ min old.stack_capacity greatest → generation ≡ old.counter → IsRenaming (place_in (indexes_in (held_values before).slots)) (shown_in number before.slots) (shown_in number after.slots)
+        → AreGathered g key f (seen_links number old) (seen_links number new)
+    links_gathered room counter renamed =
+        let like = like_gathered room counter in
+        let old_same = values_of-seen_links number old in
+        let new_same = values_of-seen_links number new in
+        let shown_old : shown_in number before.slots ≡ shown (seen_links number old) = ap (λ (h : Held Gen (LinkBody K T)). shown_in number h.slots) is_before ∙ sym (shown-slots number old) in
+        let shown_new : shown_in number after.slots ≡ shown (seen_links number new) =
+        sym (shown-slots number new ∙ (ap (λ (a : Arena Gen (LinkBody K T)). shown_in number a.slots) is_new ∙ shown-trimmed number after.slots)) in
+        let indexes : indexes_in (held_values before).slots ≡ map index_of (entries (values_of (seen_links number old))) =
+        ap (λ (h : Held Gen (LinkBody K T)). indexes_in (held_values h).slots) is_before ∙ ap (λ (a : Arena Gen T). map index_of (entries a)) old_same in
+        record {
+          values = like.values;
+          touches = work.touches;
+          few = subst (λ (n : ℕ). work.touches ≤ 4 * n) (sym (length-map old.slots (option_map (seen_pair number)))) few_touches;
+          arena = sym new_same ∙ (values_now ∙ ((λ i. record (like.arena i) { touched = old.touched + work.touches }) ∙ ap (λ (a : Arena Gen T). record (gathered a like.values) { touched = old.touched + work.touches }) old_same));
+          visits = subst (λ (p : Arena Gen T × Arena Gen T). VisitsAll g key f (entries p.0) (entries p.1)) (λ i. (old_same i, (sym values_now ∙ new_same) i)) like.visits;
+          renamed = subst (λ (p : List ℕ × (Shown × Shown)). IsRenaming (place_in p.0) p.1.0 p.1.1) (λ i. (indexes i, (shown_old i, shown_new i))) renamed;
+        }

@@ -1,0 +1,74 @@
+-- A link that a compactor lent for writing.
+use Rattle.std.proofs.Common.{◌≡◌, ℕ, Option, None, Some, sym, ap, ◌∙◌}
+use Rattle.std.specs.Prelude.{OnSome}
+use Rattle.std.specs.Option.{option_map, option_copied_mut}
+use denote.Ref.{MutBor}
+use Rattle.arena_base.specs.Arena.{slot_at}
+use Rattle.arena_base.specs.DetachedSlots.{held_with_value, with_touch, one_more}
+use Rattle.arena_base.specs.declared.compactor.Compactor.{Compactor}
+use Rattle.chain_compaction.specs.WorkCounts.{CountsOn}
+use Rattle.chain_compaction.proofs.WorkCountLemmas.{counts_touch, counts_then}
+
+module _ {P T S Inx Gen Word : Type 0} (old new : Compactor P T S Inx Gen Word) (i : ℕ) where
+  -- the value l that stood at i was written over by w
+  pub record IsOverwritten (l w : T) : Type 0 where
+    pub same_reference : new.arena.ghost_name ≡ old.arena.ghost_name
+    pub stands : Some l ≡ option_map (λ e. e.1) (slot_at old.held.slots i)
+    pub held : new.held ≡ held_with_value old.held i w
+    pub arena : new.arena.now ≡ with_touch old.arena.now
+    pub counts : CountsOn old.arena.now new.arena.now old.placed old.touched new.placed new.touched
+
+  -- no value stood at i
+  pub record IsUntouched : Type 0 where
+    pub same_reference : new.arena.ghost_name ≡ old.arena.ghost_name
+    pub none : None ≡ option_map (λ e. e.1) (slot_at old.held.slots i)
+    pub held : new.held ≡ old.held
+    pub arena : new.arena.now ≡ with_touch old.arena.now
+    pub counts : CountsOn old.arena.now new.arena.now old.placed old.touched new.placed new.touched
+
+  abbrev Touched : Type 0
+  Touched = (new.arena.ghost_name ≡ old.arena.ghost_name) × (new.arena.now ≡ with_touch old.arena.now) × (new.placed ≡ old.placed) × (new.touched ≡ one_more old.touched)
+
+  pub lent : (lends : Option (MutBor T)) (m : MutBor T) (w : T) → lends ≡ Some m → option_copied_mut lends ≡ option_map (λ e. e.1) (slot_at old.held.slots i)
+      → OnSome lends ((new.held ≡ held_with_value old.held i w) × Touched) → IsOverwritten m.now w
+  lent lends m w is there wrote = record {
+    same_reference = made.1.0;
+    stands = sym (ap option_copied_mut is) ∙ there;
+    held = made.0;
+    arena = made.1.1;
+    counts = counts_touch old.arena.now new.arena.now old.placed new.placed old.touched new.touched made.1.1 made.1.2 made.1.3;
+  }
+    where
+      by : (o : Option (MutBor T)) → o ≡ Some m → OnSome o ((new.held ≡ held_with_value old.held i w) × Touched) → (new.held ≡ held_with_value old.held i w) × Touched
+      by None e h = absurd (let both = e in cc)
+      by (Some n) e h = h
+
+      made : (new.held ≡ held_with_value old.held i w) × Touched
+      made = by lends is wrote
+
+  pub lent_none : (lends : Option (MutBor T)) → lends ≡ None → option_copied_mut lends ≡ option_map (λ e. e.1) (slot_at old.held.slots i) → (new.held ≡ old.held) × Touched → IsUntouched
+  lent_none lends is there kept = record {
+    same_reference = kept.1.0;
+    none = sym (ap option_copied_mut is) ∙ there;
+    held = kept.0;
+    arena = kept.1.1;
+    counts = counts_touch old.arena.now new.arena.now old.placed new.placed old.touched new.touched kept.1.1 kept.1.2 kept.1.3;
+  }
+
+-- one call upon another
+module _ {P T S Inx Gen Word : Type 0} (a b c : Compactor P T S Inx Gen Word) where
+  pub same_then : b.arena.ghost_name ≡ a.arena.ghost_name → c.arena.ghost_name ≡ b.arena.ghost_name → c.arena.ghost_name ≡ a.arena.ghost_name
+  same_then one two = two ∙ one
+
+  pub counts_on : CountsOn a.arena.now b.arena.now a.placed a.touched b.placed b.touched → CountsOn b.arena.now c.arena.now b.placed b.touched c.placed c.touched
+      → CountsOn a.arena.now c.arena.now a.placed a.touched c.placed c.touched
+  counts_on one two = counts_then a.arena.now b.arena.now c.arena.now a.placed b.placed c.placed a.touched b.touched c.touched one two
+
+  pub held_then : b.held ≡ a.held → c.held ≡ b.held → c.held ≡ a.held
+  held_then one two = two ∙ one
+
+  pub capacity_then : b.held.stack_capacity ≡ a.held.stack_capacity → c.held.stack_capacity ≡ b.held.stack_capacity → c.held.stack_capacity ≡ a.held.stack_capacity
+  capacity_then one two = two ∙ one
+
+  pub maximum_then : b.held.maximum ≡ a.held.maximum → c.held.maximum ≡ b.held.maximum → c.held.maximum ≡ a.held.maximum
+  maximum_then one two = two ∙ one

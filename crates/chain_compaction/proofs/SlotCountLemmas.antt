@@ -1,0 +1,84 @@
+-- Slots that are written: what stands where, and how many entries wait.
+use Rattle.std.proofs.Common.{◌≡◌, ◌≢◌, ℕ, zero, suc, ◌+◌, ◌≤◌, List, [], ◌∷◌, length, Bool, cond, Option, None, Some, refl, sym, ap, ap₂, ◌∙◌, arith}
+use Rattle.std.specs.Prelude.{count_by, is_some}
+use Rattle.std.specs.Option.{option_map}
+use Rattle.std.proofs.lemmas.List.{set-get_or}
+use Rattle.std.proofs.lemmas.List.Sums.{sum_by-set, sum_by-cons}
+use Rattle.chain_laws.specs.Chains.{Interlinks}
+use Rattle.chain_laws.proofs.InterlinkLemmas.Inverses.{if_same, if_other}
+use Rattle.arena_base.specs.Arena.{slot_at, with_slot}
+use Rattle.chain_compaction.specs.Permutations.{Waits, waits, waiting}
+use Rattle.chain_links.proofs.ArenaInsertionLemmas.{slot_at-written, slots-within}
+
+module _ {X : Type 0} where
+  pub slot_at-same : (xs : List (Option X)) (i : ℕ) (x : Option X) → 1 ≤ i → i ≤ length xs → slot_at (with_slot xs i x) i ≡ x
+  slot_at-same xs i x low high = slot_at-written xs i i x low high ∙ if_same i i _ _ refl
+
+  pub slot_at-other : (xs : List (Option X)) (i j : ℕ) (x : Option X) → 1 ≤ i → i ≤ length xs → j ≢ i → slot_at (with_slot xs i x) j ≡ slot_at xs j
+  slot_at-other xs i j x low high differs = slot_at-written xs i j x low high ∙ if_other j i _ _ differs
+
+  -- what stands at an index is within the slots
+  pub stands-within : (xs : List (Option X)) (i : ℕ) (x : X) → slot_at xs i ≡ Some x → (1 ≤ i) × (i ≤ length xs)
+  stands-within xs i x is =
+      let lone : X → Interlinks = λ _. record { prev = None; next = None } in
+      (slots-within lone xs).within i (record { link = lone x; shows = ap (option_map lone) is })
+
+  -- a slot written over by itself
+  pub with_slot-own : (xs : List (Option X)) (i : ℕ) → with_slot xs i (slot_at xs i) ≡ xs
+  with_slot-own xs zero = refl
+  with_slot-own xs (suc k) = set-get_or xs k None
+
+  -- a count after a write
+  pub count-with_slot : (p : Option X → Bool) (xs : List (Option X)) (i : ℕ) (x : Option X) → 1 ≤ i → i ≤ length xs
+      → count_by p (with_slot xs i x) + cond (p (slot_at xs i)) 1 0 ≡ count_by p xs + cond (p x) 1 0
+  count-with_slot p xs zero x low high = absurd (omega arith)
+  count-with_slot p xs (suc k) x low high = sum_by-set (λ y. cond (p y) 1 0) xs k x None (omega arith)
+
+abbrev pub one_if : Bool → ℕ
+one_if b = cond b 1 0
+
+-- 1 for a slot in which one waits
+abbrev pub mark : {E : Type 0} → (E → Option ℕ) → Option E → ℕ
+mark goal slot = one_if (waits goal slot)
+
+module _ {E : Type 0} (goal : E → Option ℕ) where
+  -- one slot further on in a longer list
+  waits-behind : (x : Option E) (xs : List (Option E)) (i : ℕ) (e : E) (d : ℕ) → Waits goal (slot_at xs) i e d → Waits goal (slot_at (x ∷ xs)) (suc i) e d
+  waits-behind x xs zero e d w = let none : None ≡ Some e = w.stands in absurd (cc)
+  waits-behind x xs (suc k) e d w = record { stands = w.stands; to = w.to }
+
+  stands-behind : (x : Option E) (xs : List (Option E)) (i : ℕ) (e : E) → slot_at xs i ≡ Some e → slot_at (x ∷ xs) (suc i) ≡ Some e
+  stands-behind x xs zero e s = absurd (cc)
+  stands-behind x xs (suc k) e s = s
+
+  mark-none : (x : Option E) → ((e : E) (d : ℕ) → x ≡ Some e → goal e ≡ Some d → ⊥) → mark goal x ≡ 0
+  mark-none None not = refl
+  mark-none (Some e) not = by (goal e) refl
+    where
+      by : (o : Option ℕ) → goal e ≡ o → ◌≡◌ {A = ℕ} (one_if (is_some o)) 0
+      by None is = refl
+      by (Some d) is = absurd (not e d refl is)
+
+  mark-all : (x : Option E) → ((e : E) → x ≡ Some e → (d : ℕ) × (goal e ≡ Some d)) → mark goal x ≡ one_if (is_some x)
+  mark-all None all = refl
+  mark-all (Some e) all = let a = all e refl in ap (λ (o : Option ℕ). one_if (is_some o)) a.1
+
+  -- where none waits, the count is 0
+  pub waiting-none : (xs : List (Option E)) → ((i d : ℕ) (e : E) → Waits goal (slot_at xs) i e d → ⊥) → waiting goal xs ≡ 0
+  waiting-none [] not = refl
+  waiting-none (x ∷ xs) not =
+      let rest : waiting goal xs ≡ 0 = waiting-none xs (λ i d e w. not (suc i) d e (waits-behind x xs i e d w)) in
+      let first : mark goal x ≡ 0 = mark-none x (λ e d is to. not 1 d e (record { stands = is; to = to })) in
+      sum_by-cons (mark goal) x xs ∙ ap₂ (λ (a b : ℕ). a + b) first rest
+
+  -- where each waits, the count is that of the entries
+  pub waiting-all : (xs : List (Option E)) → ((i : ℕ) (e : E) → slot_at xs i ≡ Some e → (d : ℕ) × (goal e ≡ Some d)) → waiting goal xs ≡ count_by is_some xs
+  waiting-all [] all = refl
+  waiting-all (x ∷ xs) all =
+      let rest : waiting goal xs ≡ count_by is_some xs = waiting-all xs (λ i e s. all (suc i) e (stands-behind x xs i e s)) in
+      let first : mark goal x ≡ one_if (is_some x) = mark-all x (λ e s. all 1 e s) in
+      sum_by-cons (mark goal) x xs ∙ (ap₂ (λ (a b : ℕ). a + b) first rest ∙ sym (sum_by-cons (λ (y : Option E). one_if (is_some y)) x xs))
+
+-- a count that has come to the end
+pub at_end : (k end all : ℕ) → end ≡ all → k ≤ end → end ≤ k → k ≡ all
+at_end k end all is high low = omega (arith, is, high, low)

@@ -1,0 +1,56 @@
+-- What a compactor counts goes along with the totals of its arena.
+use Rattle.std.proofs.Common.{◌≡◌, ℕ, ◌+◌, refl, ap, ◌∙◌, arith}
+use Rattle.arena_base.specs.Arena.{Arena}
+use Rattle.arena_base.specs.DetachedSlots.{one_more, with_touch, with_placement}
+use Rattle.chain_compaction.specs.WorkCounts.{counted, HasCounted, CountsOn}
+
+-- one more is counted, up to the greatest count
+counted_more : (n : ℕ) → one_more (counted n) ≡ counted (n + 1)
+counted_more n = omega arith
+
+module _ {Gen T : Type 0} where
+  -- totals that are the same numbers
+  pub same_totals : (a : Arena Gen T) (p q t u : ℕ) → p ≡ q → t ≡ u → ◌≡◌ {A = Arena Gen T} (record a { placed = p; touched = t }) (record a { placed = q; touched = u })
+  same_totals a p q t u e f = λ j. record a { placed = e j; touched = f j }
+
+  -- nothing was done
+  pub counts_none : (a : Arena Gen T) (p t : ℕ) → CountsOn a a p t p t
+  counts_none a p t = record { on = λ first had. had }
+
+  -- one thing after another
+  pub counts_then : (a b c : Arena Gen T) (p q r t u v : ℕ) → CountsOn a b p t q u → CountsOn b c q u r v → CountsOn a c p t r v
+  counts_then a b c p q r t u v one two = record { on = λ first had. two.on first (one.on first had) }
+
+  -- a touch
+  pub counts_touch : (a b : Arena Gen T) (p q t u : ℕ) → b ≡ with_touch a → q ≡ p → u ≡ one_more t → CountsOn a b p t q u
+  counts_touch a b p q t u is same more = record {
+    on = λ first had. record {
+      placements = had.placements;
+      touches = had.touches + 1;
+      arena = is ∙ (ap with_touch had.arena ∙ same_totals first (first.placed + had.placements) (first.placed + had.placements) (first.touched + had.touches + 1) (first.touched + (had.touches + 1)) refl (omega arith));
+      placements_counted = same ∙ had.placements_counted;
+      touches_counted = more ∙ (ap one_more had.touches_counted ∙ counted_more had.touches);
+    };
+  }
+
+  -- a placement
+  pub counts_place : (a b : Arena Gen T) (p q t u : ℕ) → b ≡ with_placement a → q ≡ one_more p → u ≡ t → CountsOn a b p t q u
+  counts_place a b p q t u is more same = record {
+    on = λ first had. record {
+      placements = had.placements + 1;
+      touches = had.touches;
+      arena = is ∙ (ap with_placement had.arena ∙ same_totals first (first.placed + had.placements + 1) (first.placed + (had.placements + 1)) (first.touched + had.touches) (first.touched + had.touches) (omega arith) refl);
+      placements_counted = more ∙ (ap one_more had.placements_counted ∙ counted_more had.placements);
+      touches_counted = same ∙ had.touches_counted;
+    };
+  }
+
+  -- a compactor that begins has counted nothing
+  pub counted_none : (a : Arena Gen T) → HasCounted a a 0 0
+  counted_none a = record {
+    placements = 0;
+    touches = 0;
+    arena = same_totals a a.placed (a.placed + 0) a.touched (a.touched + 0) (omega arith) (omega arith);
+    placements_counted = omega arith;
+    touches_counted = omega arith;
+  }

@@ -1,0 +1,22 @@
+-- Links brought to the first free index, one after another.
+use Rattle.std.specs.Prelude.{◌≡◌, ℕ, ◌+◌, ◌*◌, length}
+use Rattle.chain_laws.specs.Chains.{Shown, Agrees}
+use Rattle.chain_laws.specs.Moves.{moved, CanMove}
+use Rattle.arena_base.specs.Arena.{Arena}
+use Rattle.arena_base.specs.Entries.{entries_from}
+use Rattle.arena_base.specs.DetachedSlots.{Held}
+use Rattle.chain_links.specs.declared.links.LinkBody.{LinkBody}
+use Rattle.chain_compaction.specs.DetachedLinks.{held_values, IsWork}
+
+-- where interlinks agree and the link at an index may move to another, it has moved
+abbrev pub ShowsMove : Shown → Shown → ℕ → ℕ → Type 0
+ShowsMove old new from to = Agrees old → CanMove old from to → new ≡ moved old from to
+
+module _ {Gen K T : Type 0} where
+  -- how many links there are
+  abbrev pub link_count : Held Gen (LinkBody K T) → ℕ
+  link_count held = length (entries_from 1 (held_values held).slots)
+
+  -- each link was placed once, and there was at most one touch for each slot and three for each link
+  abbrev pub IsClosingWork : Held Gen (LinkBody K T) → Arena Gen (LinkBody K T) → Arena Gen (LinkBody K T) → Type 0
+  IsClosingWork held old new = IsWork old new (link_count held) (length held.slots + 3 * link_count held)

@@ -1,0 +1,118 @@
+-- Entries that move to their destinations by exchanges of slots.
+use Rattle.std.specs.Prelude.{◌≡◌, ◌≢◌, ℕ, ◌+◌, ◌⊎◌, ◌≤◌, Bool, List, length, Option, None, Some, count_by, is_some}
+use Rattle.std.specs.Option.{option_map, option_and_then}
+use Rattle.arena_base.specs.Arena.{Arena, slot_at, with_slot}
+use Rattle.arena_base.specs.DetachedSlots.{Held}
+use Rattle.arena_base.specs.GatheredSlots.{with_totals}
+use Rattle.chain_links.specs.declared.links.LinkBody.{LinkBody}
+
+-- Any entries, some with a destination, their goal. What an entry becomes at its destination is told by a relation.
+module _ {E : Type 0} where
+  -- at i stands the entry e, which waits for d
+  pub record Waits (goal : E → Option ℕ) (now : ℕ → Option E) (i : ℕ) (e : E) (d : ℕ) : Type 0 where
+    pub stands : now i ≡ Some e
+    pub to : goal e ≡ Some d
+
+  -- at d stands what the entry e has become
+  pub record IsSettledAt (Settles : E → E → Type 0) (now : ℕ → Option E) (d : ℕ) (e : E) : Type 0 where
+    pub entry : E
+    pub stands : now d ≡ Some entry
+    pub settled : Settles e entry
+
+  -- the entry e, at j now, waits as it did at first
+  pub record StillWaits (goal : E → Option ℕ) (old now : ℕ → Option E) (j : ℕ) (e : E) : Type 0 where
+    pub from : ℕ
+    pub to : ℕ
+    pub waited : Waits goal old from e to
+    pub waits : Waits goal now j e to
+
+  -- e is what an entry has become that waited for j
+  pub record HasCome (goal : E → Option ℕ) (Settles : E → E → Type 0) (old : ℕ → Option E) (j : ℕ) (e : E) : Type 0 where
+    pub from : ℕ
+    pub entry : E
+    pub waited : Waits goal old from entry j
+    pub settled : Settles entry e
+
+  -- while entries move: each still waits, or is settled at its destination
+  pub record IsMoving (goal : E → Option ℕ) (Settles : E → E → Type 0) (old now : ℕ → Option E) : Type 0 where
+    -- no two wait for one slot
+    pub apart : (i j d : ℕ) (e f : E) → Waits goal now i e d → Waits goal now j f d → i ≡ j
+    -- in a slot that one waits for, none is settled
+    pub unsettled : (i d : ℕ) (e f : E) → Waits goal now i e d → now d ≡ Some f → goal f ≢ None
+    pub there : (i d : ℕ) (e : E) → Waits goal old i e d → ((j : ℕ) × Waits goal now j e d) ⊎ IsSettledAt Settles now d e
+    pub back : (j : ℕ) (e : E) → now j ≡ Some e → StillWaits goal old now j e ⊎ HasCome goal Settles old j e
+
+  -- all have moved: at each destination stands the entry that waited for it, settled, and nothing else stands anywhere
+  pub record HaveMoved (goal : E → Option ℕ) (Settles : E → E → Type 0) (old new : ℕ → Option E) : Type 0 where
+    pub there : (i d : ℕ) (e : E) → Waits goal old i e d → IsSettledAt Settles new d e
+    pub back : (j : ℕ) (e : E) → new j ≡ Some e → HasCome goal Settles old j e
+
+  -- whether an entry in a slot waits
+  abbrev pub waits : (E → Option ℕ) → Option E → Bool
+  waits goal slot = is_some (option_and_then goal slot)
+
+  -- how many entries wait
+  abbrev pub waiting : (E → Option ℕ) → List (Option E) → ℕ
+  waiting goal slots = count_by (waits goal) slots
+
+  -- each entry that waits waits for a slot that is there
+  pub record WaitsWithin (goal : E → Option ℕ) (slots : List (Option E)) : Type 0 where
+    pub within : (i d : ℕ) (e : E) → Waits goal (slot_at slots) i e d → (1 ≤ d) × (d ≤ length slots)
+
+  -- what the slots are while entries from slot i on move
+  pub record IsSettling (goal : E → Option ℕ) (Settles : E → E → Type 0) (i : ℕ) (old now : List (Option E)) : Type 0 where
+    pub moves : (first : ℕ → Option E) → IsMoving goal Settles first (slot_at old) → IsMoving goal Settles first (slot_at now)
+    pub within : WaitsWithin goal old → WaitsWithin goal now
+    pub length : length now ≡ length old
+    -- at another index than i none waits that did not wait there
+    pub stays : (j d : ℕ) (e : E) → (j ≢ i) → Waits goal (slot_at now) j e d → Waits goal (slot_at old) j e d
+
+  -- what the slots are once those up to k are passed: none there waits
+  pub record ArePassed (goal : E → Option ℕ) (Settles : E → E → Type 0) (old now : List (Option E)) (k : ℕ) : Type 0 where
+    pub moves : IsMoving goal Settles (slot_at old) (slot_at now)
+    pub within : WaitsWithin goal now
+    pub length : length now ≡ length old
+    pub passed : (j d : ℕ) (e : E) → j ≤ k → Waits goal (slot_at now) j e d → ⊥
+
+  -- all entries may move: no two wait for one slot, each waits, and for a slot that is there
+  pub record CanMoveAll (goal : E → Option ℕ) (old : List (Option E)) : Type 0 where
+    pub apart : (i j d : ℕ) (e f : E) → Waits goal (slot_at old) i e d → Waits goal (slot_at old) j f d → i ≡ j
+    pub within : WaitsWithin goal old
+    pub each : (i : ℕ) (e : E) → slot_at old i ≡ Some e → (d : ℕ) × (goal e ≡ Some d)
+
+  -- the entries are to stand in the first n slots, one in each
+  pub record GoToFront (goal : E → Option ℕ) (old : List (Option E)) (n : ℕ) : Type 0 where
+    pub few : (i d : ℕ) (e : E) → Waits goal (slot_at old) i e d → d ≤ n
+    pub each : (d : ℕ) → 1 ≤ d → d ≤ n → (i : ℕ) × (e : E) × Waits goal (slot_at old) i e d
+
+module _ {Gen K T : Type 0} where
+  -- where an entry is to go
+  abbrev pub goal_of : (K → Option ℕ) → Gen × LinkBody K T → Option ℕ
+  goal_of number e = number e.1.destination
+
+  -- what an entry becomes at its destination: it has the generation, and no destination any more
+  pub record Settles (number : K → Option ℕ) (g : Gen) (e f : Gen × LinkBody K T) : Type 0 where
+    pub generation : f.0 ≡ g
+    pub empty : number f.1.destination ≡ None
+    pub rest : f.1 ≡ record e.1 { destination = f.1.destination }
+
+  -- an entry with another destination
+  abbrev pub sent : K → Gen × LinkBody K T → Gen × LinkBody K T
+  sent k e = (e.0, record e.1 { destination = k })
+
+  -- the slots with another destination in the entry at an index
+  abbrev pub sent_at : K → List (Option (Gen × LinkBody K T)) → ℕ → List (Option (Gen × LinkBody K T))
+  sent_at k slots i = with_slot slots i (option_map (sent k) (slot_at slots i))
+
+  -- the destination of the entry at an index was taken out
+  pub record IsTakenOut (number : K → Option ℕ) (i : ℕ) (old new : Held Gen (LinkBody K T)) : Type 0 where
+    pub destination : K
+    pub empty : number destination ≡ None
+    pub held : new ≡ record old { slots = sent_at destination old.slots i }
+
+module _ {Gen T : Type 0} where
+  -- the work while fewer entries wait: one placement and one touch for each that waits no longer, and some looks beside
+  pub record IsWorkOn (old new : Arena Gen T) (waited wait looks : ℕ) : Type 0 where
+    pub moved : ℕ
+    pub arena : new ≡ with_totals old moved (moved + looks)
+    pub count : wait + moved ≡ waited

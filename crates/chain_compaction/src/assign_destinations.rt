@@ -1,0 +1,177 @@
+// Links numbered: the chains by their least index, each linear one from its start, each cyclic one from its least index.
+ghost use Rattle.std.specs.Prelude.{◌≡◌, ◌≤◌, ◌<◌, ℕ, ◌+◌, length, List, ◌∷◌, None, IsSome};
+ghost use Rattle.std.specs.Option.{option_map};
+ghost use Rattle.chain_laws.specs.Chains.{Chain, linear, cyclic, Has, IsChain, Agrees};
+ghost use Rattle.chain_laws.specs.ChainStart.{IsStart};
+ghost use Rattle.chain_compaction.specs.DetachedLinks.{shown_in, IsWork};
+ghost use Rattle.chain_compaction.specs.WorkCounts.{CountsOn};
+ghost use Rattle.chain_compaction.specs.Destinations.{HasChainFrom, number_after, given, IsRingClosed, CanNumber, NumbersFrom, AreAllNumbered};
+
+use crate::slot_access::{look_at, tie_at};
+use crate::visitor::Visitor;
+use arena_base::{ArenaSlot, Compactor, SlotAccess, excluded, inx_at};
+use arena_ptr::{InxKey, PtrKey, SlotStack};
+use chain_links::walk_direction::going_on;
+use chain_links::{LinkNoGen, link_access};
+
+// The link that the chain of one is written from: the start of a linear one, and itself in a cyclic one. There are no
+// more looks than links in the chain.
+fn start_at<P: PtrKey, T: Drop, S: SlotStack<Item = ArenaSlot<P, LinkNoGen<P, T>>>>(
+    compactor: &mut Compactor<'_, P, LinkNoGen<P, T>, S>,
+    i: P::Inx,
+) -> P::Inx
+    requires { HasChainFrom (shown_in P.Inx.packed_number compactor.old.held.slots) (P.Inx.number i) }
+    ensures same_reference { compactor.new.arena.ghost_name ≡ compactor.old.arena.ghost_name }
+    ensures start { IsStart (shown_in P.Inx.packed_number compactor.old.held.slots) (P.Inx.number i) (P.Inx.number result) }
+    ensures held { compactor.new.held ≡ compactor.old.held }
+    ensures linear { (xs : List ℕ) → IsChain (shown_in P.Inx.packed_number compactor.old.held.slots) (linear xs) → Has xs (P.Inx.number i)
+        → IsWork compactor.old.arena.now compactor.new.arena.now 0 (length xs) }
+    ensures cyclic { (xs : List ℕ) → IsChain (shown_in P.Inx.packed_number compactor.old.held.slots) (cyclic (P.Inx.number i ∷ xs))
+        → IsWork compactor.old.arena.now compactor.new.arena.now 0 (length xs + 1) }
+    ensures counts { CountsOn compactor.old.arena.now compactor.new.arena.now compactor.old.placed compactor.old.touched compactor.new.placed compactor.new.touched }
+{
+    let mut at = i;
+    for step in 0..compactor.slots() {
+        let (_, before, _, _) = look_at(compactor, at);
+        match before {
+            Some(k) => {
+                if k.is_same(i) {
+                    return i;
+                }
+                at = k;
+            }
+            None => return at,
+        }
+    }
+    excluded!()
+}
+
+// The index of the link after one, with so many numbered before its chain and so many up to it: where the walk goes on the
+// next one, and at the last of a ring that of the first.
+fn after_it<P: PtrKey>(
+    on: Option<P::Inx>,
+    named: Option<P::Inx>,
+    before: usize,
+    count: usize,
+) -> Option<P::Inx>
+    requires first { before < P.Inx.greatest }
+    requires next { IsSome on → count < P.Inx.greatest }
+    ensures { option_map P.Inx.number result ≡ number_after (option_map P.Inx.number on) (option_map P.Inx.number named) before count }
+{
+    match on {
+        Some(_) => Some(inx_at::<P>(count)),
+        None => match named {
+            Some(_) => Some(inx_at::<P>(before)),
+            None => None,
+        },
+    }
+}
+
+// Where the last link of a chain named the first, which stands at an index, that names the last.
+fn close_ring<P: PtrKey, T: Drop, S: SlotStack<Item = ArenaSlot<P, LinkNoGen<P, T>>>>(
+    compactor: &mut Compactor<'_, P, LinkNoGen<P, T>, S>,
+    start: P::Inx,
+    named: Option<P::Inx>,
+    last: Option<P::Inx>,
+)
+    ensures same_reference { compactor.new.arena.ghost_name ≡ compactor.old.arena.ghost_name }
+    ensures closed { IsRingClosed P.Inx.packed_number (P.Inx.number start) (option_map P.Inx.number named) (option_map P.Inx.number last) compactor.old.held compactor.new.held }
+    ensures work { IsWork compactor.old.arena.now compactor.new.arena.now 0 1 }
+    ensures counts { CountsOn compactor.old.arena.now compactor.new.arena.now compactor.old.placed compactor.old.touched compactor.new.placed compactor.new.touched }
+{
+    match named {
+        Some(_) => {}
+        None => return,
+    }
+    match compactor.value_mut(start) {
+        Some(link) => link_access::set_prev(link, last),
+        None => {}
+    }
+}
+
+// Numbers a chain from its start, where so many links were numbered before. Each link names the numbers of its neighbors
+// then, and the visitor sees it, by the pointer that it has and the one that it gets. Answers the visitor, and how many
+// are numbered then.
+fn number_chain<
+    P: PtrKey,
+    T: Drop,
+    S: SlotStack<Item = ArenaSlot<P, LinkNoGen<P, T>>>,
+    V: Visitor<P>,
+>(
+    compactor: &mut Compactor<'_, P, LinkNoGen<P, T>, S>,
+    start: P::Inx,
+    before: usize,
+    generation: P::Gen,
+    mut visitor: V,
+) -> (V, usize)
+    requires ready { V.is_ready visitor }
+    requires fits { length compactor.old.held.slots ≤ P.Inx.greatest }
+    requires can { (done : List ℕ) × (c : Chain) × CanNumber P.Inx.packed_number compactor.old.held.slots (P.Inx.number start) before done c }
+    ensures same_reference { compactor.new.arena.ghost_name ≡ compactor.old.arena.ghost_name }
+    ensures ready { V.is_ready result.0 }
+    ensures numbered { NumbersFrom P.Inx.packed_number V.sees P.key generation (P.Inx.number start) visitor result.0 compactor.old compactor.new before result.1 }
+    ensures counts { CountsOn compactor.old.arena.now compactor.new.arena.now compactor.old.placed compactor.old.touched compactor.new.placed compactor.new.touched }
+{
+    let mut count = before;
+    let mut prev = None;
+    let mut named = Some(start);
+    let mut on = Some(start);
+    while let Some(i) = on {
+        let destination = inx_at::<P>(count);
+        count += 1;
+        let (was, _, next, _) = look_at(compactor, i);
+        named = next;
+        on = going_on(start, next);
+        let after = after_it::<P>(on, next, before, count);
+        tie_at(compactor, i, prev, after, destination);
+        prev = Some(destination);
+        match was {
+            Some(was) => visitor.visit(P::_from_raw(i, was), P::_from_raw(destination, generation)),
+            None => excluded!(),
+        }
+    }
+    close_ring(compactor, start, named, prev);
+    (visitor, count)
+}
+
+/// Numbers all links: the chains by their least index, each linear one from its start, each cyclic one from its least
+/// index. Each names the numbers of its neighbors then. Shows each link to the visitor, by the pointer that it has and the
+/// one that it gets, by rising destination. Answers the visitor, and how many links there are.
+pub fn number_all<
+    P: PtrKey,
+    T: Drop,
+    S: SlotStack<Item = ArenaSlot<P, LinkNoGen<P, T>>>,
+    V: Visitor<P>,
+>(
+    compactor: &mut Compactor<'_, P, LinkNoGen<P, T>, S>,
+    generation: P::Gen,
+    mut visitor: V,
+) -> (V, usize)
+    requires ready { V.is_ready visitor }
+    requires fits { length compactor.old.held.slots ≤ P.Inx.greatest }
+    requires agree { Agrees (shown_in P.Inx.packed_number compactor.old.held.slots) }
+    requires empty { (j : ℕ) → given P.Inx.packed_number compactor.old.held.slots j ≡ None }
+    ensures ready { V.is_ready result.0 }
+    ensures same_reference { compactor.new.arena.ghost_name ≡ compactor.old.arena.ghost_name }
+    ensures numbered { AreAllNumbered P.Inx.packed_number V.sees P.key generation visitor result.0 compactor.old.held compactor.new.held compactor.old.arena.now compactor.new.arena.now result.1 }
+    ensures counts { CountsOn compactor.old.arena.now compactor.new.arena.now compactor.old.placed compactor.old.touched compactor.new.placed compactor.new.touched }
+{
+    let mut count = 0;
+    for k in 0..compactor.slots() {
+        let i = inx_at::<P>(k);
+        let (was, _, _, destination) = look_at(compactor, i);
+        match was {
+            Some(_) => {}
+            None => continue,
+        }
+        match destination {
+            Some(_) => continue,
+            None => {}
+        }
+        let start = start_at(compactor, i);
+        let (shown, numbered) = number_chain(compactor, start, count, generation, visitor);
+        visitor = shown;
+        count = numbered;
+    }
+    (visitor, count)
+}

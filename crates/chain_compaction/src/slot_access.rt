@@ -1,0 +1,83 @@
+// Looks and writes at one slot, which leave no borrow of it.
+ghost use Rattle.std.specs.Prelude.{◌≡◌, Some};
+ghost use Rattle.std.specs.Option.{option_map};
+ghost use Rattle.chain_laws.specs.Chains.{prev_of, next_of};
+ghost use Rattle.arena_base.specs.Arena.{slot_at};
+ghost use Rattle.arena_base.specs.DetachedSlots.{with_touch};
+ghost use Rattle.chain_compaction.specs.WorkCounts.{CountsOn};
+ghost use Rattle.chain_compaction.specs.DetachedLinks.{shown_in};
+ghost use Rattle.chain_compaction.specs.SlotReads.{HasLooked};
+ghost use Rattle.chain_compaction.specs.Destinations.{given, IsDirectedAt, IsTiedAt};
+
+use arena_base::{ArenaSlot, Compactor, SlotAccess};
+use arena_ptr::{InxKey, PtrKey, SlotStack};
+use chain_links::{LinkNoGen, link_access};
+
+// Of the link at an index, if one stands there: its generation, the indexes of the links before and after it, and its
+// destination.
+pub(crate) fn look_at<P: PtrKey, T: Drop, S: SlotStack<Item = ArenaSlot<P, LinkNoGen<P, T>>>>(
+    compactor: &mut Compactor<'_, P, LinkNoGen<P, T>, S>,
+    i: P::Inx,
+) -> (
+    Option<P::Gen>,
+    Option<P::Inx>,
+    Option<P::Inx>,
+    Option<P::Inx>,
+)
+    ensures looked { HasLooked compactor.old compactor.new }
+    ensures generation { result.0 ≡ option_map (λ e. e.0) (slot_at compactor.old.held.slots (P.Inx.number i)) }
+    ensures prev { option_map P.Inx.number result.1 ≡ prev_of (shown_in P.Inx.packed_number compactor.old.held.slots) (P.Inx.number i) }
+    ensures next { option_map P.Inx.number result.2 ≡ next_of (shown_in P.Inx.packed_number compactor.old.held.slots) (P.Inx.number i) }
+    ensures destination { option_map P.Inx.number result.3 ≡ given P.Inx.packed_number compactor.old.held.slots (P.Inx.number i) }
+{
+    match compactor.peek(i) {
+        Some((was, link)) => (
+            Some(*was),
+            link.prev(),
+            link.next(),
+            link_access::destination_of(link),
+        ),
+        None => (None, None, None, None),
+    }
+}
+
+// The link at an index, if one stands there, gets another destination, or none.
+pub(crate) fn direct_at<P: PtrKey, T: Drop, S: SlotStack<Item = ArenaSlot<P, LinkNoGen<P, T>>>>(
+    compactor: &mut Compactor<'_, P, LinkNoGen<P, T>, S>,
+    i: P::Inx,
+    destination: Option<P::Inx>,
+)
+    ensures same_reference { compactor.new.arena.ghost_name ≡ compactor.old.arena.ghost_name }
+    ensures directed { IsDirectedAt P.Inx.packed_number (P.Inx.number i) (option_map P.Inx.number destination) compactor.old.held compactor.new.held }
+    ensures arena { compactor.new.arena.now ≡ with_touch compactor.old.arena.now }
+    ensures counts { CountsOn compactor.old.arena.now compactor.new.arena.now compactor.old.placed compactor.old.touched compactor.new.placed compactor.new.touched }
+{
+    match compactor.value_mut(i) {
+        Some(link) => link_access::set_destination(link, destination),
+        None => {}
+    }
+}
+
+// The link at an index, if one stands there, names others, and gets a destination.
+pub(crate) fn tie_at<P: PtrKey, T: Drop, S: SlotStack<Item = ArenaSlot<P, LinkNoGen<P, T>>>>(
+    compactor: &mut Compactor<'_, P, LinkNoGen<P, T>, S>,
+    i: P::Inx,
+    prev: Option<P::Inx>,
+    next: Option<P::Inx>,
+    destination: P::Inx,
+)
+    ensures same_reference { compactor.new.arena.ghost_name ≡ compactor.old.arena.ghost_name }
+    ensures tied { IsTiedAt P.Inx.packed_number (P.Inx.number i) (option_map P.Inx.number prev) (option_map P.Inx.number next) (Some (P.Inx.number destination))
+        compactor.old.held compactor.new.held }
+    ensures arena { compactor.new.arena.now ≡ with_touch compactor.old.arena.now }
+    ensures counts { CountsOn compactor.old.arena.now compactor.new.arena.now compactor.old.placed compactor.old.touched compactor.new.placed compactor.new.touched }
+{
+    match compactor.value_mut(i) {
+        Some(link) => {
+            link_access::set_prev(link, prev);
+            link_access::set_next(link, next);
+            link_access::set_destination(link, Some(destination));
+        }
+        None => {}
+    }
+}

@@ -1,0 +1,206 @@
+-- Texts: what a break, a join, and a move that is made of these make of them.
+use Rattle.std.proofs.Common.{◌≡◌, ◌≢◌, ℕ, inl, inr, List, [], ◌∷◌, ◌++◌, Option, None, Some, refl, sym, ap, ◌∙◌, subst, append_assoc}
+use Rattle.std.specs.Prelude.{◌↔◌, ◌⊎◌, is_some, true, OnSome, IfNone, IfSome}
+use Rattle.std.specs.Option.{option_map, option_and_then}
+use Rattle.std.proofs.lemmas.List.{map-append, reverse-append}
+use Rattle.chain_laws.specs.Chains.{Shown, linear, IsChain, Has, HasNoRepetition, Agrees, next_of, prev_of, next_in, prev_in, first_or, last_or}
+use Rattle.chain_laws.specs.Cuts.{Cuts}
+use Rattle.chain_laws.specs.Joins.{Connects}
+use Rattle.chain_laws.proofs.ChainLemmas.MemberLaws.{places_in_a_line, neighbors_stand_together}
+use Rattle.chain_laws.proofs.ChainLemmas.Frame.{cut_keeps_others}
+use Rattle.chain_laws.proofs.ListLemmas.MemberLaws.{once_in_middle}
+use Rattle.chain_laws.proofs.ListLemmas.Members.{last_or-append, Has-left, Has-right, Has-parts}
+use Rattle.chain_laws.proofs.InterlinkLemmas.Inverses.{one_some}
+use Rattle.arena_base.specs.Arena.{IsValid}
+use Rattle.arena_base.specs.Entries.{index_of, first_key, last_key}
+use Rattle.chain_links.specs.ChainArena.{CanConnect, ptr_at}
+use Rattle.chain_examples.specs.Lists.{Item, Stand, indexes, IsText, KeepsWithout}
+use Rattle.chain_examples.specs.Texts.{EndsIn, BeginsWith, AreJoined}
+use Rattle.chain_examples.proofs.ItemListLemmas.{stand-append, stand-left, stand-right}
+use Rattle.chain_examples.proofs.ListChangeLemmas.{parts, whole, stays}
+
+module _ {Gen T : Type 0} where
+  -- a list with an item has a last one
+  pub last_apart : (e : Item Gen T) (es : List (Item Gen T)) → (before : List (Item Gen T)) × (last : Item Gen T) × (e ∷ es ≡ before ++ last ∷ [])
+  last_apart e [] = ([], e, refl)
+  last_apart e (f ∷ fs) =
+      let rest = last_apart f fs in
+      (e ∷ rest.0, rest.1, ap (λ (l : List (Item Gen T)). e ∷ l) rest.2)
+
+  pub last_is : (before : List (Item Gen T)) (e : Item Gen T) → last_key (before ++ e ∷ []) ≡ Some e.0
+  last_is before e = ap first_key (reverse-append before (e ∷ []))
+
+  pub filled : (before : List (Item Gen T)) (e : Item Gen T) (after : List (Item Gen T)) → before ++ e ∷ after ≢ []
+  filled [] e after none = cc
+  filled (b ∷ before) e after none = cc
+
+  -- no other item of a list without repetition has an item's index
+  pub apart : (before : List (Item Gen T)) (e : Item Gen T) (after : List (Item Gen T)) → HasNoRepetition (indexes (before ++ e ∷ after))
+      → (Has (indexes (before ++ after)) e.0.0 → ⊥) × HasNoRepetition (indexes (before ++ after))
+  apart before e after once =
+      let both = (once_in_middle (indexes before) (indexes after) e.0.0).0 (subst HasNoRepetition (map-append index_of before (e ∷ after)) once) in
+      (λ has. both.0 (subst (λ (l : List ℕ). Has l e.0.0) (map-append index_of before after) has), subst HasNoRepetition (sym (map-append index_of before after)) both.1)
+
+  pub has_left : (before after : List (Item Gen T)) (i : ℕ) → Has (indexes before) i → Has (indexes (before ++ after)) i
+  has_left before after i has = subst (λ (l : List ℕ). Has l i) (sym (map-append index_of before after)) (Has-left (indexes before) (indexes after) i has)
+
+  pub has_right : (before after : List (Item Gen T)) (i : ℕ) → Has (indexes after) i → Has (indexes (before ++ after)) i
+  has_right before after i has = subst (λ (l : List ℕ). Has l i) (sym (map-append index_of before after)) (Has-right (indexes before) (indexes after) i has)
+
+  pub has_parts : (before after : List (Item Gen T)) (i : ℕ) → Has (indexes (before ++ after)) i → Has (indexes before) i ⊎ Has (indexes after) i
+  has_parts before after i has = Has-parts (indexes before) (indexes after) i (subst (λ (l : List ℕ). Has l i) (map-append index_of before after) has)
+
+module _ {A Gen T : Type 0} (entry : A → ℕ → Option (Gen × T)) (links : A → Shown) where
+  -- a pointer, if there is one, is that of an item beside p: it stands in no text that p does not stand in
+  abbrev pub StandsWith : A → ℕ × Gen → Option (ℕ × Gen) → Type 0
+  StandsWith a p o = IfSome o (λ k. (xs : List (Item Gen T)) → IsText entry links a xs → Has (indexes xs) k.0 → Has (indexes xs) p.0)
+
+  -- the last index of a list with an item at its end
+  last_index : (xs : List (Item Gen T)) (u : Item Gen T) → last_or (indexes (xs ++ u ∷ [])) None ≡ Some u.0.0
+  last_index xs u = ap (λ (l : List ℕ). last_or l None) (map-append index_of xs (u ∷ [])) ∙ last_or-append (indexes xs) (u.0.0 ∷ []) None
+
+  module _ (a : A) (p : ℕ × Gen) (t : T) (before after : List (Item Gen T)) (is : IsText entry links a (before ++ (p, t) ∷ after)) where
+    pub in_a_text : IsValid (entry a) p
+    in_a_text = record { value = t; stands = (stand-right (entry a) before ((p, t) ∷ after) is.stand).0 }
+
+    -- what its link names are the items beside it
+    place : links a p.0 ≡ Some (record { prev = last_or (indexes before) None; next = first_or (indexes after) None })
+    place = places_in_a_line (links a) (indexes before) (indexes after) p.0 (parts entry links linear (λ xs. refl) a before ((p, t) ∷ after) is.chain)
+
+    pub goes_on : option_and_then (ptr_at (entry a)) (next_of (links a) p.0) ≡ first_key after
+    goes_on = ap (λ o. option_and_then (ptr_at (entry a)) (next_in o)) place ∙ key_of after (stand-right (entry a) before ((p, t) ∷ after) is.stand).1
+      where
+        key_of : (es : List (Item Gen T)) → Stand (entry a) es → option_and_then (ptr_at (entry a)) (first_or (indexes es) None) ≡ first_key es
+        key_of [] s = refl
+        key_of (e ∷ es) s = ap (option_map (λ (x : Gen × T). (e.0.0, x.0))) s.0
+
+    pub comes_from : option_and_then (ptr_at (entry a)) (prev_of (links a) p.0) ≡ last_key before
+    comes_from = ap (λ o. option_and_then (ptr_at (entry a)) (prev_in o)) place ∙ key_of before (stand-left (entry a) before ((p, t) ∷ after) is.stand)
+      where
+        at_end : (es : List (Item Gen T)) (e : Item Gen T) → Stand (entry a) (es ++ e ∷ []) → option_and_then (ptr_at (entry a)) (last_or (indexes (es ++ e ∷ [])) None) ≡ last_key (es ++ e ∷ [])
+        at_end es e s =
+            ap (option_and_then (ptr_at (entry a))) (last_index es e)
+            ∙ (ap (option_map (λ (x : Gen × T). (e.0.0, x.0))) (stand-right (entry a) es (e ∷ []) s).0 ∙ sym (last_is es e))
+
+        key_of : (es : List (Item Gen T)) → Stand (entry a) es → option_and_then (ptr_at (entry a)) (last_or (indexes es) None) ≡ last_key es
+        key_of [] s = refl
+        key_of (e ∷ es) s =
+            let l = last_apart e es in
+            subst (λ (xs : List (Item Gen T)). option_and_then (ptr_at (entry a)) (last_or (indexes xs) None) ≡ last_key xs) (sym l.2) (at_end l.0 l.1 (subst (Stand (entry a)) l.2 s))
+
+  -- a pointer of now to the link after p, or before it, is that of an item which stands with p
+  beside : (a : A) (p : ℕ × Gen) (o : Option ℕ) → ((j : ℕ) → o ≡ Some j → (xs : List (Item Gen T)) → IsText entry links a xs → Has (indexes xs) j → Has (indexes xs) p.0)
+      → StandsWith a p (option_and_then (ptr_at (entry a)) o)
+  beside a p None together = tt
+  beside a p (Some j) together = by (entry a j)
+    where
+      by : (e : Option (Gen × T)) → StandsWith a p (option_map (λ (x : Gen × T). (j, x.0)) e)
+      by None = tt
+      by (Some x) = together j refl
+
+  pub with_next : (a : A) (p : ℕ × Gen) (o : Option (ℕ × Gen)) → Agrees (links a) → o ≡ option_and_then (ptr_at (entry a)) (next_of (links a) p.0) → StandsWith a p o
+  with_next a p o agrees is = subst (StandsWith a p) (sym is)
+      (beside a p (next_of (links a) p.0) (λ j next xs text. (neighbors_stand_together (links a) (linear (indexes xs)) p.0 j agrees next text.chain).1))
+
+  pub with_prev : (a : A) (p : ℕ × Gen) (o : Option (ℕ × Gen)) → Agrees (links a) → o ≡ option_and_then (ptr_at (entry a)) (prev_of (links a) p.0) → StandsWith a p o
+  with_prev a p o agrees is = subst (StandsWith a p) (sym is)
+      (beside a p (prev_of (links a) p.0) (λ j prev xs text. (neighbors_stand_together (links a) (linear (indexes xs)) j p.0 agrees ((agrees.both j p.0).1 prev) text.chain).0))
+
+  -- something comes before an item that is not the first
+  comes_before : (a : A) (p : ℕ × Gen) (t : T) (e : Item Gen T) (es after : List (Item Gen T)) → IsText entry links a ((e ∷ es) ++ (p, t) ∷ after) → (k : ℕ) × (prev_of (links a) p.0 ≡ Some k)
+  comes_before a p t e es after is =
+      let l = last_apart e es in
+      (l.1.0.0, ap prev_in (place a p t (e ∷ es) after is) ∙ (ap (λ (xs : List (Item Gen T)). last_or (indexes xs) None) l.2 ∙ last_index l.0 l.1))
+
+  -- a break between the link of p and the one beside it: it cut them apart, or there was none, and nothing has changed
+  pub data Breaks (old new : A) (p : ℕ × Gen) (beside : Option ℕ) (Cut : ℕ → Type 0) : Type 0 where
+    broken : (b : ℕ) → beside ≡ Some b → Cut b → entry new ≡ entry old → Breaks old new p beside Cut
+    unbroken : (IsValid (entry old) p → beside ≡ None) → new ≡ old → Breaks old new p beside Cut
+
+  pub breaks : {R : Type 0} (old new : A) (p : ℕ × Gen) (beside : Option ℕ) (Cut : ℕ → Type 0) (r : Option R) → (is_some r ≡ true) ↔ (IsValid (entry old) p × (is_some beside ≡ true))
+      → OnSome r (IfSome beside Cut) → OnSome r (entry new ≡ entry old) → IfNone r (new ≡ old) → Breaks old new p beside Cut
+  breaks old new p None Cut None some cuts same none = unbroken (λ valid. refl) none
+  breaks old new p (Some b) Cut None some cuts same none = unbroken (λ valid. absurd (let h = some.1 (valid, refl) in cc)) none
+  breaks old new p None Cut (Some r) some cuts same none = absurd (let h = (some.0 refl).1 in cc)
+  breaks old new p (Some b) Cut (Some r) some cuts same none = broken b refl cuts same
+
+  module _ (old new : A) (p : ℕ × Gen) where
+    -- after a break after p its text ends in p ..
+    pub ends_in : Breaks old new p (next_of (links old) p.0) (λ b. Cuts (links old) (links new) p.0 b) → EndsIn entry links old new p
+    ends_in (unbroken none stay) t before [] is = (subst (λ (a : A). IsText entry links a (before ++ (p, t) ∷ [])) (sym stay) is, λ something. absurd (something refl))
+    ends_in (unbroken none stay) t before (f ∷ fs) is = absurd (let one = ap next_in (place old p t before (f ∷ fs) is) in let no = none (in_a_text old p t before (f ∷ fs) is) in cc)
+    ends_in (broken b next cuts same) t before [] is = absurd (let no = ap next_in (place old p t before [] is) in cc)
+    ends_in (broken b next cuts same) t before (f ∷ fs) is =
+        let b_is : b ≡ f.0.0 = one_some (sym next ∙ ap next_in (place old p t before (f ∷ fs) is)) in
+        let two = (subst (λ (j : ℕ). Cuts (links old) (links new) p.0 j) b_is cuts).two (indexes before) (indexes fs) (parts entry links linear (λ xs. refl) old before ((p, t) ∷ f ∷ fs) is.chain) in
+        let right = stand-right (entry old) before ((p, t) ∷ f ∷ fs) is.stand in (
+          stays entry links linear (λ xs. refl) old new same (before ++ (p, t) ∷ []) (stand-append (entry old) before ((p, t) ∷ []) (stand-left (entry old) before ((p, t) ∷ f ∷ fs) is.stand) (right.0, tt))
+              (whole entry links linear (λ xs. refl) new before ((p, t) ∷ []) two.0),
+          λ something. stays entry links linear (λ xs. refl) old new same (f ∷ fs) right.1 two.1,
+        )
+
+    -- .. and every text without p stays: it has not what came after p, either
+    pub keeps_ended : Agrees (links old) → Breaks old new p (next_of (links old) p.0) (λ b. Cuts (links old) (links new) p.0 b) → KeepsWithout entry links linear old new (p ∷ [])
+    keeps_ended agrees (unbroken none stay) xs lacks is = subst (λ (a : A). IsText entry links a xs) (sym stay) is
+    keeps_ended agrees (broken b next cuts same) xs lacks is =
+        stays entry links linear (λ xs. refl) old new same xs is.stand (cut_keeps_others (links old) (links new) p.0 b agrees next cuts (linear (indexes xs)) (inl lacks.0) is.chain)
+
+    -- after a break before p its text begins with p ..
+    pub begins_with : Breaks old new p (prev_of (links old) p.0) (λ a. Cuts (links old) (links new) a p.0) → BeginsWith entry links old new p
+    begins_with (unbroken none stay) t [] after is = (subst (λ (a : A). IsText entry links a ((p, t) ∷ after)) (sym stay) is, λ something. absurd (something refl))
+    begins_with (unbroken none stay) t (e ∷ es) after is = absurd (let one = comes_before old p t e es after is in let no = none (in_a_text old p t (e ∷ es) after is) in let both = sym one.1 ∙ no in cc)
+    begins_with (broken a prev cuts same) t [] after is = absurd (let no = ap prev_in (place old p t [] after is) in let both = sym prev ∙ no in cc)
+    begins_with (broken a prev cuts same) t (e ∷ es) after is =
+        let l = last_apart e es in
+        let both = behind l.0 l.1 (subst (λ (xs : List (Item Gen T)). IsText entry links old (xs ++ (p, t) ∷ after)) l.2 is) in
+        (both.0, λ something. subst (IsText entry links new) (sym l.2) both.1)
+      where
+        behind : (xs : List (Item Gen T)) (u : Item Gen T) → IsText entry links old ((xs ++ u ∷ []) ++ (p, t) ∷ after) → IsText entry links new ((p, t) ∷ after) × IsText entry links new (xs ++ u ∷ [])
+        behind xs u is =
+            let a_is : a ≡ u.0.0 = one_some (sym prev ∙ (ap prev_in (place old p t (xs ++ u ∷ []) after is) ∙ last_index xs u)) in
+            let as_one = subst (IsText entry links old) (append_assoc xs (u ∷ []) ((p, t) ∷ after)) is in
+            let two = (subst (λ (j : ℕ). Cuts (links old) (links new) j p.0) a_is cuts).two (indexes xs) (indexes after) (parts entry links linear (λ xs. refl) old xs (u ∷ (p, t) ∷ after) as_one.chain) in
+            let right = stand-right (entry old) xs (u ∷ (p, t) ∷ after) as_one.stand in (
+              stays entry links linear (λ xs. refl) old new same ((p, t) ∷ after) right.1 two.1,
+              stays entry links linear (λ xs. refl) old new same (xs ++ u ∷ []) (stand-append (entry old) xs (u ∷ []) (stand-left (entry old) xs (u ∷ (p, t) ∷ after) as_one.stand) (right.0, tt))
+                  (whole entry links linear (λ xs. refl) new xs (u ∷ []) two.0),
+            )
+
+    -- .. and every text without p stays
+    pub keeps_begun : Agrees (links old) → Breaks old new p (prev_of (links old) p.0) (λ a. Cuts (links old) (links new) a p.0) → KeepsWithout entry links linear old new (p ∷ [])
+    keeps_begun agrees (unbroken none stay) xs lacks is = subst (λ (a : A). IsText entry links a xs) (sym stay) is
+    keeps_begun agrees (broken a prev cuts same) xs lacks is = stays entry links linear (λ xs. refl) old new same xs is.stand
+        (cut_keeps_others (links old) (links new) a p.0 agrees ((agrees.both a p.0).1 prev) cuts (linear (indexes xs)) (inr lacks.0) is.chain)
+
+  module _ (old new : A) (p q : ℕ × Gen) where
+    -- a text that ends in p and one that begins with q can be joined ..
+    can_join : (s t : T) (before after : List (Item Gen T)) → IsText entry links old (before ++ (p, s) ∷ []) → IsText entry links old ((q, t) ∷ after) → CanConnect (entry old) (links old) p q
+    can_join s t before after first second = record {
+      first_valid = in_a_text old p s before [] first;
+      second_valid = in_a_text old q t [] after second;
+      no_next = ap next_in (place old p s before [] first);
+      no_prev = ap prev_in (place old q t [] after second);
+    }
+
+    module _ {R : Type 0} (r : Option R) (some : (is_some r ≡ true) ↔ CanConnect (entry old) (links old) p q) (connects : OnSome r (Connects (links old) (links new) p.0 q.0))
+        (same : OnSome r (entry new ≡ entry old)) (none : IfNone r (new ≡ old)) where
+      -- .. and are one text then ..
+      pub joins : AreJoined entry links old new p q
+      joins s t before after first second two_texts = by r (some.1 (can_join s t before after first second)) connects same
+        where
+          by : (o : Option R) → is_some o ≡ true → OnSome o (Connects (links old) (links new) p.0 q.0) → OnSome o (entry new ≡ entry old) → IsText entry links new (before ++ (p, s) ∷ (q, t) ∷ after)
+          by None one connects same = absurd (let h = one in cc)
+          by (Some x) one connects same =
+              let parted = map-append index_of before ((p, s) ∷ []) in
+              let chain = connects.two (indexes before) (indexes after) (parts entry links linear (λ xs. refl) old before ((p, s) ∷ []) first.chain) second.chain (λ has. two_texts (subst (λ (l : List ℕ). Has l q.0) (sym parted) has)) in
+              stays entry links linear (λ xs. refl) old new same (before ++ (p, s) ∷ (q, t) ∷ after)
+              (subst (Stand (entry old)) (append_assoc before ((p, s) ∷ []) ((q, t) ∷ after)) (stand-append (entry old) (before ++ (p, s) ∷ []) ((q, t) ∷ after) first.stand second.stand))
+              (whole entry links linear (λ xs. refl) new before ((p, s) ∷ (q, t) ∷ after) (subst (λ (l : List ℕ). IsChain (links new) (linear l)) (append_assoc (indexes before) (p.0 ∷ []) (q.0 ∷ indexes after)) chain))
+
+      -- .. and every text without the two stays
+      pub keeps_joined : KeepsWithout entry links linear old new (p ∷ q ∷ [])
+      keeps_joined xs lacks is = by r connects same none
+        where
+          by : (o : Option R) → OnSome o (Connects (links old) (links new) p.0 q.0) → OnSome o (entry new ≡ entry old) → IfNone o (new ≡ old) → IsText entry links new xs
+          by None connects same none = subst (λ (a : A). IsText entry links a xs) (sym none) is
+          by (Some x) connects same none = stays entry links linear (λ xs. refl) old new same xs is.stand ((connects.rest (linear (indexes xs)) lacks.0 lacks.1.0).0 is.chain)

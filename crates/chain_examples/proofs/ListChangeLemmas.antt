@@ -1,0 +1,105 @@
+-- What a change of an arena makes of the lists in it, whatever their shape.
+use Rattle.std.proofs.Common.{◌≡◌, ◌≢◌, ℕ, List, [], ◌∷◌, ◌++◌, Option, None, Some, refl, sym, ap, ◌∙◌, subst}
+use Rattle.std.specs.Prelude.{is_some, false}
+use Rattle.std.proofs.lemmas.List.{map-append}
+use Rattle.chain_laws.specs.Chains.{Shown, Interlinks, Chain, linear, cyclic, items, IsChain, Has, HasNoRepetition, Agrees}
+use Rattle.chain_laws.specs.Insertions.{InsertKind, Inserts, link_before, link_after}
+use Rattle.chain_laws.specs.Frame.{Lacks, named}
+use Rattle.chain_laws.proofs.ChainLemmas.Frame.{insertion_keeps_others}
+use Rattle.chain_laws.proofs.ListLemmas.MemberLaws.{once_in_middle}
+use Rattle.arena_base.specs.Entries.{index_of}
+use Rattle.chain_links.specs.ChainArena.{IsInserted}
+use Rattle.chain_examples.specs.Lists.{Item, Stand, indexes, Lies, KeepsWithout, ComesAfter, ComesBefore, Leaves}
+use Rattle.chain_examples.proofs.ItemListLemmas.{stand-append, stand-left, stand-right, stand-frame, stand_kept}
+
+-- where no entry stands no link does
+pub unlinked : {Gen T : Type 0} (entry : ℕ → Option (Gen × T)) (links : Shown) (i : ℕ) → is_some (links i) ≡ is_some (entry i) → entry i ≡ None → links i ≡ None
+unlinked entry links i alike free = by (links i) (alike ∙ ap is_some free)
+  where
+    by : (o : Option Interlinks) → is_some o ≡ false → o ≡ None
+    by None none = refl
+    by (Some link) none = absurd (cc)
+
+-- a list without indexes has no items
+pub no_items : {Gen T : Type 0} (xs : List (Item Gen T)) → indexes xs ≡ [] → xs ≡ []
+no_items [] none = refl
+no_items (x ∷ xs) none = absurd (cc)
+
+members_once : (links : Shown) (c : Chain) → IsChain links c → HasNoRepetition (items c)
+members_once links (linear xs) is = is.1
+members_once links (cyclic xs) is = is.1
+
+module _ {A Gen T : Type 0} (entry : A → ℕ → Option (Gen × T)) (links : A → Shown) (shape : List ℕ → Chain) (written : (xs : List ℕ) → items (shape xs) ≡ xs) where
+  -- an index of a list is one of its chain, once
+  of_chain : (xs : List ℕ) (i : ℕ) → Has xs i → Has (items (shape xs)) i
+  of_chain xs i = subst (λ (l : List ℕ). Has l i) (sym (written xs))
+
+  once : (a : A) (xs : List ℕ) → IsChain (links a) (shape xs) → HasNoRepetition xs
+  once a xs is = subst HasNoRepetition (written xs) (members_once (links a) (shape xs) is)
+
+  -- a list in two parts has the indexes of both
+  pub parts : (a : A) (xs ys : List (Item Gen T)) → IsChain (links a) (shape (indexes (xs ++ ys))) → IsChain (links a) (shape (indexes xs ++ indexes ys))
+  parts a xs ys = subst (λ (l : List ℕ). IsChain (links a) (shape l)) (map-append index_of xs ys)
+
+  pub whole : (a : A) (xs ys : List (Item Gen T)) → IsChain (links a) (shape (indexes xs ++ indexes ys)) → IsChain (links a) (shape (indexes (xs ++ ys)))
+  whole a xs ys = subst (λ (l : List ℕ). IsChain (links a) (shape l)) (sym (map-append index_of xs ys))
+
+  module _ (old new : A) where
+    -- an item has come ..
+    module _ (q : ℕ × Gen) (t : T) (came : IsInserted (entry old) (entry new) q t) where
+      kept : (xs : List (Item Gen T)) → Stand (entry old) xs → Stand (entry new) xs
+      kept = stand_kept (entry old) (entry new) q came.free came.rest
+
+      -- .. directly after another ..
+      pub comes_after : (p : ℕ × Gen) → ((x y : List ℕ) → IsChain (links old) (shape (x ++ p.0 ∷ y)) → IsChain (links new) (shape (x ++ p.0 ∷ q.0 ∷ y)))
+          → ComesAfter entry links shape old new p (q, t)
+      comes_after p grows s before after is =
+          let right = stand-right (entry old) before ((p, s) ∷ after) is.stand in
+          record {
+            chain = whole new before ((p, s) ∷ (q, t) ∷ after) (grows (indexes before) (indexes after) (parts old before ((p, s) ∷ after) is.chain));
+            stand = stand-append (entry new) before ((p, s) ∷ (q, t) ∷ after) (kept before (stand-left (entry old) before ((p, s) ∷ after) is.stand))
+                ((kept ((p, s) ∷ []) (right.0, tt)).0, (came.stands, kept after right.1));
+          }
+
+      -- .. or directly before it ..
+      pub comes_before : (p : ℕ × Gen) → ((x y : List ℕ) → IsChain (links old) (shape (x ++ p.0 ∷ y)) → IsChain (links new) (shape (x ++ q.0 ∷ p.0 ∷ y)))
+          → ComesBefore entry links shape old new p (q, t)
+      comes_before p grows s before after is = record {
+        chain = whole new before ((q, t) ∷ (p, s) ∷ after) (grows (indexes before) (indexes after) (parts old before ((p, s) ∷ after) is.chain));
+        stand = stand-append (entry new) before ((q, t) ∷ (p, s) ∷ after) (kept before (stand-left (entry old) before ((p, s) ∷ after) is.stand))
+            (came.stands, kept ((p, s) ∷ after) (stand-right (entry old) before ((p, s) ∷ after) is.stand));
+      }
+
+      -- .. and every list without those that it came beside stays
+      pub keeps_others : (kind : InsertKind ℕ) → Agrees (links old) → is_some (links old q.0) ≡ is_some (entry old q.0)
+          → Inserts (links old) (links new) q.0 (link_before (links old) kind q.0) (link_after (links old) kind q.0)
+          → (xs : List (Item Gen T)) → Lacks (shape (indexes xs)) (named kind) → Lies entry links shape old xs → Lies entry links shape new xs
+      keeps_others kind agrees alike inserts xs lacks is = record {
+        chain = insertion_keeps_others (links old) (links new) kind q.0 agrees (unlinked (entry old) (links old) q.0 alike came.free) inserts (shape (indexes xs)) lacks is.chain;
+        stand = kept xs is.stand;
+      }
+
+    -- an item has gone: it leaves its list ..
+    pub leaves : (e : Item Gen T) → ((i : ℕ) → i ≢ e.0.0 → entry new i ≡ entry old i)
+        → ((x y : List ℕ) → IsChain (links old) (shape (x ++ e.0.0 ∷ y)) → x ++ y ≢ [] → IsChain (links new) (shape (x ++ y))) → Leaves entry links shape old new e
+    leaves e same shrinks before after is filled =
+        let chain = parts old before (e ∷ after) is.chain in
+        let apart = ((once_in_middle (indexes before) (indexes after) e.0.0).0 (once old (indexes before ++ e.0.0 ∷ indexes after) chain)).0 in
+        record {
+          chain = whole new before after (shrinks (indexes before) (indexes after) chain (λ none. filled (no_items (before ++ after) (map-append index_of before after ∙ none))));
+          stand = stand-frame (entry old) (entry new) (before ++ after)
+              (λ i has. same i (λ is_e. apart (subst (λ (l : List ℕ). Has l e.0.0) (map-append index_of before after) (subst (Has (indexes (before ++ after))) is_e has))))
+              (stand-append (entry old) before after (stand-left (entry old) before (e ∷ after) is.stand) (stand-right (entry old) before (e ∷ after) is.stand).1);
+        }
+
+    -- .. and every list without it stays
+    pub keeps_left : (p : ℕ × Gen) → ((i : ℕ) → i ≢ p.0 → entry new i ≡ entry old i)
+        → ((c : Chain) → (Has (items c) p.0 → ⊥) → IsChain (links old) c → IsChain (links new) c) → KeepsWithout entry links shape old new (p ∷ [])
+    keeps_left p same rest xs lacks is = record {
+      chain = rest (shape (indexes xs)) lacks.0 is.chain;
+      stand = stand-frame (entry old) (entry new) xs (λ i has. same i (λ is_p. lacks.0 (of_chain (indexes xs) p.0 (subst (Has (indexes xs)) is_p has)))) is.stand;
+    }
+
+    -- where all that stood stands, a list lies there if its chain does
+    pub stays : entry new ≡ entry old → (xs : List (Item Gen T)) → Stand (entry old) xs → IsChain (links new) (shape (indexes xs)) → Lies entry links shape new xs
+    stays same xs stand chain = record { chain = chain; stand = subst (λ (f : ℕ → Option (Gen × T)). Stand f xs) (sym same) stand }

@@ -1,0 +1,126 @@
+-- The value at an index is written: what is found among items, and what becomes of lists and of texts.
+use Rattle.std.proofs.Common.{◌≡◌, ◌≢◌, ℕ, inl, inr, ⊎_elim, List, [], ◌∷◌, ◌++◌, Option, None, Some, refl, sym, ap, ◌∙◌, subst}
+use Rattle.std.specs.Prelude.{◌==◌, cond, is_some}
+use Rattle.std.specs.Option.{option_map}
+use Rattle.std.proofs.lemmas.Bool.{cases_eq, eq-eqb, ne_eqb}
+use Rattle.std.proofs.lemmas.List.{map-append}
+use Rattle.chain_laws.specs.Chains.{Shown, linear, IsChain, Has, HasNoRepetition}
+use Rattle.arena_base.specs.Entries.{Seen, found, first_key, index_of, replaced, written}
+use Rattle.chain_examples.specs.Lists.{Item, Stand, indexes}
+use Rattle.chain_examples.specs.Texts.{HasNewValue}
+use Rattle.chain_examples.proofs.ItemListLemmas.{stand-append, stand-left, stand-right, stand-frame}
+use Rattle.chain_examples.proofs.DocumentLemmas.{apart, has_left, has_right}
+
+module _ {Gen T : Type 0} where
+  -- an entry with another value
+  abbrev pub valued : T → Gen × T → Gen × T
+  valued t e = (e.0, t)
+
+  -- the first item is found by its index, and another one past it
+  at_first : (e : Item Gen T) (i : ℕ) (es : List (Item Gen T)) → e.0.0 ≡ i → found i (e ∷ es) ≡ Some (e.0.1, e.1)
+  at_first e i es is = ap (λ b. cond b (Some (e.0.1, e.1)) (found i es)) (eq-eqb e.0.0 i is)
+
+  past_first : (e : Item Gen T) (i : ℕ) (es : List (Item Gen T)) → e.0.0 ≢ i → found i (e ∷ es) ≡ found i es
+  past_first e i es other = ap (λ b. cond b (Some (e.0.1, e.1)) (found i es)) (ne_eqb e.0.0 i other)
+
+  -- the value is written to the first item, or past it
+  writes_first : (i : ℕ) (t : T) (e : Item Gen T) (es : List (Item Gen T)) → e.0.0 ≡ i → replaced i (valued t) (e ∷ es) ≡ ((i, e.0.1), t) ∷ es
+  writes_first i t e es is = ap (λ b. cond b (((i, e.0.1), t) ∷ es) (e ∷ replaced i (valued t) es)) (eq-eqb e.0.0 i is)
+
+  writes_later : (i : ℕ) (t : T) (e : Item Gen T) (es : List (Item Gen T)) → e.0.0 ≢ i → replaced i (valued t) (e ∷ es) ≡ e ∷ replaced i (valued t) es
+  writes_later i t e es other = ap (λ b. cond b (((i, e.0.1), t) ∷ es) (e ∷ replaced i (valued t) es)) (ne_eqb e.0.0 i other)
+
+  -- the index finds the new value, and every other one what it did
+  pub found-written : (i : ℕ) (t : T) (es : List (Item Gen T)) → found i (replaced i (valued t) es) ≡ option_map (valued t) (found i es)
+  found-written i t [] = refl
+  found-written i t (e ∷ es) = ⊎_elim
+      (λ is. ap (found i) (writes_first i t e es is) ∙ (at_first ((i, e.0.1), t) i es refl ∙ sym (ap (option_map (valued t)) (at_first e i es is))))
+      (λ other. ap (found i) (writes_later i t e es other) ∙ (past_first e i (replaced i (valued t) es) other ∙ (found-written i t es ∙ sym (ap (option_map (valued t)) (past_first e i es other)))))
+      (cases_eq e.0.0 i)
+
+  pub found-unwritten : (k i : ℕ) (t : T) (es : List (Item Gen T)) → k ≢ i → found k (replaced i (valued t) es) ≡ found k es
+  found-unwritten k i t [] other = refl
+  found-unwritten k i t (e ∷ es) other = ⊎_elim
+      (λ is. ap (found k) (writes_first i t e es is) ∙ (past_first ((i, e.0.1), t) k es (λ same. other (sym same)) ∙ sym (past_first e k es (λ same. other (sym same ∙ is)))))
+      (λ differs. ap (found k) (writes_later i t e es differs) ∙ ap (cond (e.0.0 == k) (Some (e.0.1, e.1))) (found-unwritten k i t es other))
+      (cases_eq e.0.0 i)
+
+  -- indexes stay, and so does the first pointer
+  pub indexes-written : (i : ℕ) (t : T) (es : List (Item Gen T)) → indexes (replaced i (valued t) es) ≡ indexes es
+  indexes-written i t [] = refl
+  indexes-written i t (e ∷ es) = ⊎_elim
+      (λ is. ap indexes (writes_first i t e es is) ∙ ap (λ (n : ℕ). n ∷ indexes es) (sym is))
+      (λ other. ap indexes (writes_later i t e es other) ∙ ap (λ (l : List ℕ). e.0.0 ∷ l) (indexes-written i t es))
+      (cases_eq e.0.0 i)
+
+  pub first_key-written : (i : ℕ) (t : T) (es : List (Item Gen T)) → first_key (replaced i (valued t) es) ≡ first_key es
+  first_key-written i t [] = refl
+  first_key-written i t (e ∷ es) = ⊎_elim
+      (λ is. ap first_key (writes_first i t e es is) ∙ ap (λ (n : ℕ). let k : Option (ℕ × Gen) = Some (n, e.0.1) in k) (sym is))
+      (λ other. ap first_key (writes_later i t e es other))
+      (cases_eq e.0.0 i)
+
+  -- what is found among items that stand is what stands there
+  pub found-standing : (entry : ℕ → Option (Gen × T)) (i : ℕ) (es : List (Item Gen T)) → Stand entry es → Has (indexes es) i → found i es ≡ entry i
+  found-standing entry i [] stand has = absurd has
+  found-standing entry i (e ∷ es) stand has = ⊎_elim
+      (λ is. at_first e i es is ∙ (sym stand.0 ∙ ap entry is))
+      (λ other. past_first e i es other ∙ found-standing entry i es stand.1 (later other has))
+      (cases_eq e.0.0 i)
+    where
+      later : e.0.0 ≢ i → Has (indexes (e ∷ es)) i → Has (indexes es) i
+      later other (inl is) = absurd (other is)
+      later other (inr h) = h
+
+  -- items that stood stand, where the value at an index was written
+  module _ (old new : ℕ → Option (Gen × T)) (i : ℕ) (t : T) (there : new i ≡ option_map (valued t) (old i)) (rest : (k : ℕ) → k ≢ i → new k ≡ old k) where
+    pub stand-written : (es : List (Item Gen T)) → HasNoRepetition (indexes es) → Stand old es → Stand new (replaced i (valued t) es)
+    stand-written [] once stand = tt
+    stand-written (e ∷ es) once stand = ⊎_elim
+        (λ is. subst (Stand new) (sym (writes_first i t e es is)) (
+          there ∙ ap (option_map (valued t)) (ap old (sym is) ∙ stand.0),
+          stand-frame old new es (λ k has. rest k (λ same. once.0 (subst (Has (indexes es)) (same ∙ sym is) has))) stand.1,
+        ))
+        (λ other. subst (Stand new) (sym (writes_later i t e es other)) (rest e.0.0 other ∙ stand.0, stand-written es once.1 stand.1))
+        (cases_eq e.0.0 i)
+
+    some_mapped : (o : Option (Gen × T)) → is_some (option_map (valued t) o) ≡ is_some o
+    some_mapped None = refl
+    some_mapped (Some e) = refl
+
+    -- something stands where something stood
+    pub some-written : (k : ℕ) → is_some (new k) ≡ is_some (old k)
+    some-written k = ⊎_elim
+        (λ is. ap (λ (n : ℕ). is_some (new n)) is ∙ (ap is_some there ∙ (some_mapped (old i) ∙ ap (λ (n : ℕ). is_some (old n)) (sym is))))
+        (λ other. ap is_some (rest k other))
+        (cases_eq k i)
+
+-- A value that is written in an arena, where these look at one.
+module _ {A Gen T : Type 0} (seen : A → Seen Gen T) (entry : A → ℕ → Option (Gen × T)) (links : A → Shown) (looked : (a : A) (i : ℕ) → found i (seen a).entries ≡ entry a i)
+    (a b : A) (i : ℕ) (t : T) (was : seen b ≡ written (seen a) i t) where
+  pub value_there : entry b i ≡ option_map (valued t) (entry a i)
+  value_there = sym (looked b i) ∙ (ap (λ (s : Seen Gen T). found i s.entries) was ∙ (found-written i t (seen a).entries ∙ ap (option_map (valued t)) (looked a i)))
+
+  pub values_elsewhere : (k : ℕ) → k ≢ i → entry b k ≡ entry a k
+  values_elsewhere k other = sym (looked b k) ∙ (ap (λ (s : Seen Gen T). found k s.entries) was ∙ (found-unwritten k i t (seen a).entries other ∙ looked a k))
+
+  -- an item of a text has the value, and every other one the value that it had
+  pub has_new_value : (g : Gen) → links b ≡ links a → HasNewValue seen entry links a b (i, g) t
+  has_new_value g same = record {
+    text = λ s before after is.
+        let right = stand-right (entry a) before (((i, g), s) ∷ after) is.stand in
+        let other = (apart before ((i, g), s) after is.chain.1).0 in
+        let indexes_stay : indexes (before ++ ((i, g), s) ∷ after) ≡ indexes (before ++ ((i, g), t) ∷ after) = map-append index_of before (((i, g), s) ∷ after) ∙ sym (map-append index_of before (((i, g), t) ∷ after)) in
+        record {
+          chain = subst (λ (l : List ℕ). IsChain (links b) (linear l)) indexes_stay (subst (λ (l : Shown). IsChain l (linear (indexes (before ++ ((i, g), s) ∷ after)))) (sym same) is.chain);
+          stand = stand-append (entry b) before (((i, g), t) ∷ after)
+              (stand-frame (entry a) (entry b) before (λ k has. values_elsewhere k (λ is_i. other (has_left before after i (subst (Has (indexes before)) is_i has)))) (stand-left (entry a) before (((i, g), s) ∷ after) is.stand))
+              (value_there ∙ ap (option_map (valued t)) right.0, stand-frame (entry a) (entry b) after (λ k has. values_elsewhere k (λ is_i. other (has_right before after i (subst (Has (indexes after)) is_i has)))) right.1);
+        };
+    others = λ items lacks is. record {
+      chain = subst (λ (l : Shown). IsChain l (linear (indexes items))) (sym same) is.chain;
+      stand = stand-frame (entry a) (entry b) items (λ k has. values_elsewhere k (λ is_i. lacks.0 (subst (Has (indexes items)) is_i has))) is.stand;
+    };
+    state = was;
+    order = same;
+  }

@@ -1,0 +1,102 @@
+-- Chains that a change leaves alone: since what stands beside a link of a chain stands in it too, it is enough that they lack one of two neighbours.
+use Rattle.std.proofs.Common.{◌≡◌, ℕ, inl, inr, ⊎_elim, Option, None, Some, refl, sym, subst}
+use Rattle.chain_laws.specs.Chains.{Shown, Chain, items, Has, IsChain, Agrees, prev_of, next_of}
+use Rattle.chain_laws.specs.Joins.{joined}
+use Rattle.chain_laws.specs.Cuts.{cut}
+use Rattle.chain_laws.specs.Removals.{vacated}
+use Rattle.chain_laws.specs.Insertions.{InsertKind, disconnected, single_link_cyclic, chain_end, chain_start, next_to, prev_to, at_interlink, bridge}
+use Rattle.chain_laws.specs.Insertions.{HasIndex, InsertsPairs, link_before, link_after, inserted}
+use Rattle.chain_laws.specs.Frame.{Lacks, named, SameLinksKeepAChain, InsertionKeepsOthers, InsertionMakesNoOthers, LoneKeepsEach, CutKeepsOthers, JoinMakesNoOthers, RemovalMakesNoOthers}
+use Rattle.chain_laws.proofs.ChainLemmas.LinkedLists.{IsChain-frame}
+use Rattle.chain_laws.proofs.JoinLemmas.Lists.{IsChain-linked}
+use Rattle.chain_laws.proofs.JoinLemmas.Chains.{joined_agrees}
+use Rattle.chain_laws.proofs.RemovalLemmas.Pairs.{vacated-at, vacated-off}
+use Rattle.chain_laws.proofs.CutLemmas.Pairs.{cut_of_join}
+use Rattle.chain_laws.proofs.CutLemmas.Chains.{cut_cuts}
+use Rattle.chain_laws.proofs.InsertionLemmas.Pairs.{inserted_agrees, inserted_in_pairs}
+use Rattle.chain_laws.proofs.InsertionLemmas.Chains.{HasIndex-apart, inserted_inserts}
+use Rattle.chain_laws.proofs.ChainLemmas.MemberLaws.{free_is_in_no_chain, neighbors_stand_together}
+
+-- a list that stands depends on what its own items show alone
+pub same_links_keep_a_chain : SameLinksKeepAChain
+same_links_keep_a_chain old new c same is = IsChain-frame old new c (λ i has. sym (same i has)) is
+
+-- a chain without a has nothing that comes after a ..
+lacks_next : (shown : Shown) (c : Chain) (a : ℕ) → Agrees shown → IsChain shown c → (Has (items c) a → ⊥) → HasIndex c (next_of shown a) → ⊥
+lacks_next shown c a agrees is lacks = at (next_of shown a) refl
+  where
+    at : (o : Option ℕ) → next_of shown a ≡ o → HasIndex c o → ⊥
+    at None next has = has
+    at (Some j) next has = lacks ((neighbors_stand_together shown c a j agrees next is).1 has)
+
+-- .. nor what comes before it
+lacks_prev : (shown : Shown) (c : Chain) (b : ℕ) → Agrees shown → IsChain shown c → (Has (items c) b → ⊥) → HasIndex c (prev_of shown b) → ⊥
+lacks_prev shown c b agrees is lacks = at (prev_of shown b) refl
+  where
+    at : (o : Option ℕ) → prev_of shown b ≡ o → HasIndex c o → ⊥
+    at None prev has = has
+    at (Some j) prev has = lacks ((neighbors_stand_together shown c j b agrees ((agrees.both j b).1 prev) is).0 has)
+
+-- a chain that lacks what a kind names lacks both links that the new one comes between
+lacks_beside : (shown : Shown) (kind : InsertKind ℕ) (q : ℕ) (c : Chain) → Agrees shown → IsChain shown c → (Has (items c) q → ⊥) → Lacks c (named kind)
+    → (HasIndex c (link_before shown kind q) → ⊥) × (HasIndex c (link_after shown kind q) → ⊥)
+lacks_beside shown disconnected q c agrees is off lacks = (λ h. h, λ h. h)
+lacks_beside shown single_link_cyclic q c agrees is off lacks = (off, off)
+lacks_beside shown (chain_end a) q c agrees is off lacks = (lacks.0, λ h. h)
+lacks_beside shown (chain_start b) q c agrees is off lacks = (λ h. h, lacks.0)
+lacks_beside shown (next_to a) q c agrees is off lacks = (lacks.0, lacks_next shown c a agrees is lacks.0)
+lacks_beside shown (prev_to b) q c agrees is off lacks = (lacks_prev shown c b agrees is lacks.0, lacks.0)
+lacks_beside shown (at_interlink a b) q c agrees is off lacks = (lacks.0, lacks.1.0)
+lacks_beside shown (bridge a b) q c agrees is off lacks = (lacks.0, lacks.1.0)
+
+-- .. so it stays where the new link comes
+pub insertion_keeps_others : InsertionKeepsOthers
+insertion_keeps_others old new kind q agrees free inserts c lacks is =
+    let off = free_is_in_no_chain old c q free is in
+    let beside = lacks_beside old kind q c agrees is off lacks in
+    (inserts.rest c off beside.0 beside.1).0 is
+
+-- the links beside a new one are its neighbours, so a chain without it lacks them
+pub insertion_makes_no_others : InsertionMakesNoOthers
+insertion_makes_no_others shown q u v agrees free gap c off is =
+    ((inserted_inserts shown q u v free).rest c off (before u refl) (after v refl)).1 is
+  where
+    agree : Agrees (inserted shown q u v)
+    agree = inserted_agrees shown q u v agrees free gap
+
+    inserts : InsertsPairs shown (inserted shown q u v) q u v
+    inserts = inserted_in_pairs shown q u v agrees free gap
+
+    before : (o : Option ℕ) → u ≡ o → HasIndex c o → ⊥
+    before None at_u has = has
+    before (Some i) at_u has = off ((neighbors_stand_together (inserted shown q u v) c i q agree ((inserts.pairs i q).1 (inr (inl (at_u, refl)))) is).0 has)
+
+    after : (o : Option ℕ) → v ≡ o → HasIndex c o → ⊥
+    after None at_v has = has
+    after (Some j) at_v has = off ((neighbors_stand_together (inserted shown q u v) c q j agree ((inserts.pairs q j).1 (inr (inr (refl, at_v)))) is).1 has)
+
+-- a chain has no free index
+pub lone_keeps_each : LoneKeepsEach
+lone_keeps_each old new q free adds c is = (adds.rest c (free_is_in_no_chain old c q free is)).0 is
+
+-- a chain that lacks one of two neighbours lacks both
+pub cut_keeps_others : CutKeepsOthers
+cut_keeps_others old new a b agrees pair cuts c lacks is =
+    let both = neighbors_stand_together old c a b agrees pair is in
+    ⊎_elim (λ no_a. (cuts.rest c no_a (λ h. no_a (both.1 h))).0 is) (λ no_b. (cuts.rest c (λ h. no_b (both.0 h)) no_b).0 is) lacks
+
+-- what is joined are neighbours, and cut apart they are as before
+pub join_makes_no_others : JoinMakesNoOthers
+join_makes_no_others shown a b agrees ends c lacks is =
+    let restored = cut_of_join shown a b agrees ends in
+    subst (λ (s : Shown). IsChain s c) restored.1
+    (cut_keeps_others (joined shown a b) (cut (joined shown a b) a b) a b (joined_agrees shown a b agrees ends) restored.0 (cut_cuts (joined shown a b) a b) c lacks is)
+
+-- a chain without the links that are tied together shows what it showed without the removed one, which it lacks
+pub removal_makes_no_others : RemovalMakesNoOthers
+removal_makes_no_others shown i c no_prev no_next is =
+    let left = (IsChain-linked (vacated shown i) (prev_of shown i) (next_of shown i) c (HasIndex-apart c (prev_of shown i) no_prev) (HasIndex-apart c (next_of shown i) no_next)).1 is in
+    same_links_keep_a_chain (vacated shown i) shown c (λ j has. sym (vacated-off shown i j (λ e. off left (subst (λ (k : ℕ). Has (items c) k) e has)))) left
+  where
+    off : IsChain (vacated shown i) c → Has (items c) i → ⊥
+    off left has = free_is_in_no_chain (vacated shown i) c i (vacated-at shown i i refl) left has

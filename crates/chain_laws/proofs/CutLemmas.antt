@@ -1,0 +1,3 @@
+-- Lemmas on cuts between two neighbors.
+pub mod Pairs
+pub mod Chains

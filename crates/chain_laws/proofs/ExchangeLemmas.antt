@@ -1,0 +1,5 @@
+-- Lemmas on exchanges of the links after two links.
+pub mod Swaps
+pub mod Pairs
+pub mod Chains
+pub mod Determinacy

@@ -1,0 +1,7 @@
+-- Lemmas on insertions.
+pub mod Positions
+pub mod Pairs
+pub mod Undo
+pub mod Chains
+pub mod Determinacy
+pub mod Writes

@@ -1,0 +1,4 @@
+-- Lemmas on lists of indexes.
+pub mod Members
+pub mod Ranges
+pub mod MemberLaws

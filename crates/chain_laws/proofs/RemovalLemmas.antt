@@ -1,0 +1,4 @@
+-- Lemmas on removals.
+pub mod Pairs
+pub mod Chains
+pub mod Determinacy

@@ -1,0 +1,6 @@
+-- Lemmas on walks along a chain.
+pub mod Walker
+pub mod Steps
+pub mod Members
+pub mod Drains
+pub mod WalkBack

@@ -1,0 +1,169 @@
+-- Worked rows: exchanges in linear chains and in cycles. Each is computed, link by link.
+use Rattle.std.specs.Prelude.{◌≡◌, ℕ, List, [], ◌∷◌, None, Some}
+use Rattle.std.proofs.Common.{refl}
+use Rattle.chain_laws.specs.Chains.{Shown, Stands, first_or, last_or, next_of}
+use Rattle.chain_laws.specs.Joins.{prev_set, next_set, joined, with_lone}
+use Rattle.chain_laws.specs.Exchanges.{exchanged}
+use Rattle.chain_laws.proofs.ChainLemmas.LinkedLists.{link}
+
+-- nothing stands anywhere
+abbrev bare : Shown
+bare i = None
+
+-- the lone links 1 to 5
+abbrev lone : Shown
+lone = with_lone (with_lone (with_lone (with_lone (with_lone bare 1) 2) 3) 4) 5
+
+-- the linear chain 1 2 3, and the lone links 4 and 5
+abbrev three : Shown
+three = joined (joined lone 1 2) 2 3
+
+-- the linear chain 1 2 3 4, and the lone link 5
+abbrev four : Shown
+four = joined three 3 4
+
+-- the linear chains 1 2 3 and 4 5
+abbrev three_and_two : Shown
+three_and_two = joined three 4 5
+
+-- the linear chain 1 2 3 and the cyclic chain 4 5
+abbrev three_and_ring : Shown
+three_and_ring = joined three_and_two 5 4
+
+-- the cyclic chains 1 2 3 and 4 5
+abbrev two_rings : Shown
+two_rings = joined three_and_ring 3 1
+
+-- the cyclic chain 1 2 3 4 5 6
+abbrev ring_of_six : Shown
+ring_of_six = joined (joined (joined (with_lone four 6) 4 5) 5 6) 6 1
+
+-- 1 and 2, each alone in a ring
+abbrev rings_of_one : Shown
+rings_of_one = joined (joined lone 1 1) 2 2
+
+-- the items stand as a linear chain ..
+abbrev StandsInLine : Shown → List ℕ → Type 0
+StandsInLine shown xs = Stands shown None xs None
+
+-- .. or as a cyclic one
+abbrev StandsInRing : Shown → List ℕ → Type 0
+StandsInRing shown xs = Stands shown (last_or xs None) xs (first_or xs None)
+
+-- an exchange is four writes
+exchanged_in_four_writes : (shown : Shown) (p q : ℕ)
+    → exchanged shown p q
+    ≡ prev_set (next_set (prev_set (next_set shown (Some p) (next_of shown q)) (next_of shown q) (Some p)) (Some q) (next_of shown p)) (next_of shown p) (Some q)
+exchanged_in_four_writes shown p q = refl
+
+-- two links of a cycle: it goes on past what stood between them ..
+six_with_first : StandsInRing (exchanged ring_of_six 2 5) (1 ∷ 2 ∷ 6 ∷ [])
+six_with_first = (refl, (refl, (refl, tt)))
+
+-- .. which is a cycle of its own
+six_with_second : StandsInRing (exchanged ring_of_six 2 5) (3 ∷ 4 ∷ 5 ∷ [])
+six_with_second = (refl, (refl, (refl, tt)))
+
+-- .. and again: all is as it was
+six_again : StandsInRing (exchanged (exchanged ring_of_six 2 5) 2 5) (1 ∷ 2 ∷ 3 ∷ 4 ∷ 5 ∷ 6 ∷ [])
+six_again = (refl, (refl, (refl, (refl, (refl, (refl, tt))))))
+
+-- neighbours in a cycle: the second is alone in a ring ..
+six_neighbours_second : StandsInRing (exchanged ring_of_six 2 3) (3 ∷ [])
+six_neighbours_second = (refl, tt)
+
+-- .. and the cycle goes on past it
+six_neighbours : StandsInRing (exchanged ring_of_six 2 3) (1 ∷ 2 ∷ 4 ∷ 5 ∷ 6 ∷ [])
+six_neighbours = (refl, (refl, (refl, (refl, (refl, tt)))))
+
+-- a link of a linear chain and one of a cycle: the cycle comes into the chain ..
+ring_taken_in : StandsInLine (exchanged three_and_ring 1 4) (1 ∷ 5 ∷ 4 ∷ 2 ∷ 3 ∷ [])
+ring_taken_in = (refl, (refl, (refl, (refl, (refl, tt)))))
+
+-- .. also from the cycle's side
+ring_taken_in_back : StandsInLine (exchanged three_and_ring 4 1) (1 ∷ 5 ∷ 4 ∷ 2 ∷ 3 ∷ [])
+ring_taken_in_back = (refl, (refl, (refl, (refl, (refl, tt)))))
+
+-- .. and after the end of the chain
+ring_taken_in_at_end : StandsInLine (exchanged three_and_ring 3 5) (1 ∷ 2 ∷ 3 ∷ 4 ∷ 5 ∷ [])
+ring_taken_in_at_end = (refl, (refl, (refl, (refl, (refl, tt)))))
+
+-- neighbours in a linear chain: the second leaves it ..
+second_left_out : StandsInLine (exchanged three 1 2) (1 ∷ 3 ∷ [])
+second_left_out = (refl, (refl, tt))
+
+-- .. and is alone in a ring
+second_in_ring : StandsInRing (exchanged three 1 2) (2 ∷ [])
+second_in_ring = (refl, tt)
+
+-- .. also where more follow
+four_without_second : StandsInLine (exchanged four 1 2) (1 ∷ 3 ∷ 4 ∷ [])
+four_without_second = (refl, (refl, (refl, tt)))
+
+-- .. which leave the second in its ring
+four_second_in_ring : StandsInRing (exchanged four 1 2) (2 ∷ [])
+four_second_in_ring = (refl, tt)
+
+-- .. and again: all is as it was
+four_again : StandsInLine (exchanged (exchanged four 1 2) 1 2) (1 ∷ 2 ∷ 3 ∷ 4 ∷ [])
+four_again = (refl, (refl, (refl, (refl, tt))))
+
+-- links with another between them, the later one named first: the other leaves the chain with that ..
+between_left_out : StandsInLine (exchanged four 3 1) (1 ∷ 4 ∷ [])
+between_left_out = (refl, (refl, tt))
+
+-- .. and they are a ring
+between_in_ring : StandsInRing (exchanged four 3 1) (2 ∷ 3 ∷ [])
+between_in_ring = (refl, (refl, tt))
+
+-- the start and the end of a linear chain: the start is alone ..
+start_and_end : StandsInLine (exchanged three 1 3) (1 ∷ [])
+start_and_end = (refl, tt)
+
+-- .. and all others are in a ring
+start_and_end_ring : StandsInRing (exchanged three 1 3) (2 ∷ 3 ∷ [])
+start_and_end_ring = (refl, (refl, tt))
+
+-- links of two linear chains: the first goes on with the rest of the second ..
+two_lines_first : StandsInLine (exchanged three_and_two 1 4) (1 ∷ 5 ∷ [])
+two_lines_first = (refl, (refl, tt))
+
+-- .. and the second with the rest of the first
+two_lines_second : StandsInLine (exchanged three_and_two 1 4) (4 ∷ 2 ∷ 3 ∷ [])
+two_lines_second = (refl, (refl, (refl, tt)))
+
+-- .. also where nothing followed in the second: the first ends there ..
+two_lines_end_first : StandsInLine (exchanged three_and_two 2 5) (1 ∷ 2 ∷ [])
+two_lines_end_first = (refl, (refl, tt))
+
+-- .. and the second goes on
+two_lines_end_second : StandsInLine (exchanged three_and_two 2 5) (4 ∷ 5 ∷ 3 ∷ [])
+two_lines_end_second = (refl, (refl, (refl, tt)))
+
+-- the ends of two linear chains: the one stays
+two_ends : StandsInLine (exchanged three_and_two 3 5) (1 ∷ 2 ∷ 3 ∷ [])
+two_ends = (refl, (refl, (refl, tt)))
+
+-- links of two cycles: they become one
+two_rings_merged : StandsInRing (exchanged two_rings 1 4) (1 ∷ 5 ∷ 4 ∷ 2 ∷ 3 ∷ [])
+two_rings_merged = (refl, (refl, (refl, (refl, (refl, tt)))))
+
+-- links that name themselves: a ring of the two
+rings_of_one_merged : StandsInRing (exchanged rings_of_one 1 2) (1 ∷ 2 ∷ [])
+rings_of_one_merged = (refl, (refl, tt))
+
+-- a link with itself: all stays, in a linear chain ..
+itself_in_line : StandsInLine (exchanged three 1 1) (1 ∷ 2 ∷ 3 ∷ [])
+itself_in_line = (refl, (refl, (refl, tt)))
+
+-- .. in a cycle ..
+itself_in_ring : StandsInRing (exchanged two_rings 5 5) (4 ∷ 5 ∷ [])
+itself_in_ring = (refl, (refl, tt))
+
+-- .. and where it names itself
+itself_alone : StandsInRing (exchanged rings_of_one 2 2) (2 ∷ [])
+itself_alone = (refl, tt)
+
+-- a chain with neither stays
+others_stay : exchanged two_rings 4 5 2 ≡ Some (link (Some 1) (Some 3))
+others_stay = refl

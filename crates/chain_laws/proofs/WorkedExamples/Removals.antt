@@ -1,0 +1,115 @@
+-- Worked rows: removals from each kind of chain. Each is computed.
+use Rattle.std.specs.Prelude.{◌≡◌, ℕ, [], ◌∷◌, Option, None, Some}
+use Rattle.std.proofs.Common.{refl}
+use Rattle.chain_laws.specs.Chains.{Shown, linear, cyclic}
+use Rattle.chain_laws.specs.Joins.{prev_set, next_set, linked, joined, with_lone}
+use Rattle.chain_laws.specs.Removals.{vacated, removed, list_without, chain_without}
+use Rattle.chain_laws.proofs.ChainLemmas.LinkedLists.{link}
+
+-- nothing stands anywhere
+abbrev bare : Shown
+bare i = None
+
+-- the lone links 1, 2 and 3
+abbrev lone : Shown
+lone = with_lone (with_lone (with_lone bare 1) 2) 3
+
+-- the linear chain 1 2 3
+abbrev three : Shown
+three = joined (joined lone 1 2) 2 3
+
+-- the cyclic chain 1 2 3
+abbrev ring : Shown
+ring = joined three 3 1
+
+-- the cyclic chain 1 2, and the lone link 3
+abbrev ring_of_two : Shown
+ring_of_two = joined (joined lone 1 2) 2 1
+
+-- 2 alone in a ring, and the lone links 1 and 3
+abbrev ring_of_one : Shown
+ring_of_one = joined lone 2 2
+
+-- the two writes of a removal are one linking
+linked_in_two_writes : (shown : Shown) (q : ℕ) (u v : Option ℕ) → prev_set (next_set (vacated shown q) u v) v u ≡ linked (vacated shown q) u v
+linked_in_two_writes shown q u v = refl
+
+-- out of the middle: the one before it
+middle_before : removed three 2 1 ≡ Some (link None (Some 3))
+middle_before = refl
+
+-- .. the one after it
+middle_after : removed three 2 3 ≡ Some (link (Some 1) None)
+middle_after = refl
+
+-- .. and nothing stands there
+middle_gone : removed three 2 2 ≡ None
+middle_gone = refl
+
+-- the start: the one after it starts
+start_after : removed three 1 2 ≡ Some (link None (Some 3))
+start_after = refl
+
+-- .. and the end stays
+start_end : removed three 1 3 ≡ Some (link (Some 2) None)
+start_end = refl
+
+-- the end: the one before it ends
+end_before : removed three 3 2 ≡ Some (link (Some 1) None)
+end_before = refl
+
+-- a lone link: nothing stands there
+lone_gone : removed lone 2 2 ≡ None
+lone_gone = refl
+
+-- .. and the others stay
+lone_other : removed lone 2 1 ≡ Some (link None None)
+lone_other = refl
+
+-- one of a cycle of two leaves a link that names itself
+two_leave_one : removed ring_of_two 1 2 ≡ Some (link (Some 2) (Some 2))
+two_leave_one = refl
+
+-- .. whichever of the two
+two_leave_other : removed ring_of_two 2 1 ≡ Some (link (Some 1) (Some 1))
+two_leave_other = refl
+
+-- a link that names itself: nothing stands there
+one_gone : removed ring_of_one 2 2 ≡ None
+one_gone = refl
+
+-- .. and the others stay
+one_other : removed ring_of_one 2 3 ≡ Some (link None None)
+one_other = refl
+
+-- one of a cycle of three leaves a cycle of two: the first
+three_leave_two_first : removed ring 2 1 ≡ Some (link (Some 3) (Some 3))
+three_leave_two_first = refl
+
+-- .. and the second
+three_leave_two_second : removed ring 2 3 ≡ Some (link (Some 1) (Some 1))
+three_leave_two_second = refl
+
+-- all of a cycle of three
+all_gone : removed (removed (removed ring 2) 3) 1 1 ≡ None
+all_gone = refl
+
+-- the removal of an index where no link stands changes nothing
+nothing_there : removed ring 7 2 ≡ Some (link (Some 1) (Some 3))
+nothing_there = refl
+
+-- a new link that stands alone, removed
+lone_again : removed (with_lone three 7) 7 2 ≡ Some (link (Some 1) (Some 3))
+lone_again = refl
+
+-- a list without one of its items
+list_row : list_without (4 ∷ 2 ∷ 9 ∷ 7 ∷ []) 9 ≡ 4 ∷ 2 ∷ 7 ∷ []
+list_row = refl
+
+-- .. and a chain, which stays cyclic
+chain_row : chain_without (cyclic (4 ∷ 2 ∷ 9 ∷ [])) 4 ≡ cyclic (2 ∷ 9 ∷ [])
+chain_row = refl
+
+-- .. and one that is left empty
+chain_emptied : chain_without (linear (4 ∷ [])) 4 ≡ linear []
+chain_emptied = refl

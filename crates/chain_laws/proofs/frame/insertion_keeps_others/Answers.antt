@@ -1,0 +1,12 @@
+-- Since what stands beside a link of a chain stands in it too.
+use Rattle.chain_laws.proofs.ChainLemmas.Frame.{insertion_keeps_others, insertion_makes_no_others, lone_keeps_each}
+use Rattle.chain_laws.proofs.frame.insertion_keeps_others.Goals as goal
+
+pub returns-clause-kept : goal.returns-clause-kept
+returns-clause-kept c = insertion_keeps_others
+
+pub returns-clause-no_others : goal.returns-clause-no_others
+returns-clause-no_others c = insertion_makes_no_others
+
+pub returns-clause-lone : goal.returns-clause-lone
+returns-clause-lone c = lone_keeps_each

@@ -1,5 +1,0 @@
-use Rattle.chain_laws.proofs.Joining.{joined_adds_a_pair}
-use Rattle.chain_laws.proofs.operations.join_adds_a_pair.Goals as goal
-
-pub returns : goal.returns
-returns c = joined_adds_a_pair

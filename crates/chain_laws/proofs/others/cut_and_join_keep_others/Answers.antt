@@ -1,9 +1,0 @@
--- A cut undoes a join.
-use Rattle.chain_laws.proofs.Staying.{cut_keeps_others, join_makes_no_others}
-use Rattle.chain_laws.proofs.others.cut_and_join_keep_others.Goals as goal
-
-pub returns-clause-cut : goal.returns-clause-cut
-returns-clause-cut c = cut_keeps_others
-
-pub returns-clause-joined : goal.returns-clause-joined
-returns-clause-joined c = join_makes_no_others

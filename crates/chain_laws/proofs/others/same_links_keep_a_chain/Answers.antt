@@ -1,5 +1,0 @@
-use Rattle.chain_laws.proofs.Staying.{same_links_keep_a_chain}
-use Rattle.chain_laws.proofs.others.same_links_keep_a_chain.Goals as goal
-
-pub returns : goal.returns
-returns c = same_links_keep_a_chain

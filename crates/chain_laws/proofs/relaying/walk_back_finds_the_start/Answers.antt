@@ -1,5 +1,0 @@
-use Rattle.chain_laws.proofs.Backing.{back_begins, back_goes_on, back_ends, back_comes_round, back_is_short}
-use Rattle.chain_laws.proofs.relaying.walk_back_finds_the_start.Goals as goal
-
-pub returns : goal.returns
-returns c = record { begins = back_begins; goes_on = back_goes_on; ends = back_ends; comes_round = back_comes_round; is_short = back_is_short }

@@ -1,8 +1,0 @@
--- Both directions are looked at.
-use Rattle.chain_linking.proofs.agreeing.agrees_at.Goals as goal
-
-pub returns-then-agrees_forth : goal.returns-then-agrees_forth
-returns-then-agrees_forth g c = (
-  λ told. record { forth = c.agrees_forth.ensures.0 c.if-agrees_forth.true; back = c.agrees_back.ensures.0 told },
-  λ at. c.agrees_back.ensures.1 at.back,
-)

@@ -1,0 +1,57 @@
+-- The first link names the second, which then may be named, or that is taken back.
+use Rattle.std.proofs.Common.{◌≡◌, ℕ, Some, None, ap, ap₂, ◌∙◌, sym, refl, subst}
+use Rattle.std.proofs.lemmas.Bool.{false≢true}
+use Rattle.chain_laws.specs.Chains.{HasLink}
+use Rattle.chain_laws.specs.Joins.{next_set, prev_set}
+use Rattle.chain_links.specs.Links.{seen_links}
+use Rattle.arena_base.specs.Arena.{Arena}
+use Rattle.chain_links.specs.ChainArena.{LinkSeen, relinked, shown}
+use Rattle.chain_linking.proofs.ConnectionLemmas.{named_may, named_may_not, taken_back}
+use Rattle.chain_linking.proofs.NeighborLemmas.{valid_link}
+use Rattle.chain_linking.proofs.LinkWriteLemmas.{linked_by_writes}
+use Rattle.chain_linking.proofs.connection.join.Goals as goal
+
+named : {Gen T : Type 0} (a b : Arena Gen (LinkSeen T)) {i j u v : ℕ} → b ≡ relinked a (next_set (shown a) (Some i) (Some j)) → i ≡ u → j ≡ v → b ≡ relinked a (next_set (shown a) (Some u) (Some v))
+named a b is first second = is ∙ ap₂ (λ (x y : ℕ). relinked a (next_set (shown a) (Some x) (Some y))) first second
+
+pub set_next-requires : goal.set_next-requires
+set_next-requires g c =
+    let a = seen_links g.P.Inx.InxKey.packed_number c.args.arena.now in
+    subst (HasLink (shown a)) (sym c.inx-i.ensures) (valid_link a _ (c.is_end.ensures.0 c.if-not-is_end.false).valid)
+
+pub set_prev-requires : goal.set_prev-requires
+set_prev-requires g c =
+    let b = seen_links g.P.Inx.InxKey.packed_number c.set_next.new.arena in
+    subst (HasLink (shown b)) (sym c.inx-j.ensures) (valid_link b _ (c.is_start.ensures.0 c.if-not-is_start.false).valid)
+
+pub returns-then-not-is_start-clause-some : goal.returns-then-not-is_start-clause-some
+returns-then-not-is_start-clause-some g c = (
+  λ h. absurd (false≢true h),
+  λ can. absurd (named_may_not _ _ _ _ (named _ _ c.set_next.ensures c.inx-i.ensures c.inx-j.ensures) (λ is. false≢true (sym c.if-not-is_start.true ∙ c.is_start.ensures.1 is)) can),
+)
+
+pub returns-then-not-is_start-clause-none : goal.returns-then-not-is_start-clause-none
+returns-then-not-is_start-clause-none g c =
+    let a = seen_links g.P.Inx.InxKey.packed_number c.args.arena.now in
+    let b = seen_links g.P.Inx.InxKey.packed_number c.set_next.new.arena in
+    let d = seen_links g.P.Inx.InxKey.packed_number c.take_back.new.arena in
+    let end = c.is_end.ensures.0 c.if-not-is_end.false in
+    let back : d ≡ relinked b (next_set (shown b) (Some (g.P.PtrKey.key c.args.p).0) None) =
+    c.take_back.ensures ∙ ap (λ (i : ℕ). relinked b (next_set (shown b) (Some i) None)) c.inx-i.ensures in
+    taken_back a b (g.P.PtrKey.key c.args.p) (g.P.PtrKey.key c.args.q) (named _ _ c.set_next.ensures c.inx-i.ensures c.inx-j.ensures) d end.end back
+
+pub returns-clause-some : goal.returns-clause-some
+returns-clause-some g c =
+    let may = named_may _ _ _ _ (named _ _ c.set_next.ensures c.inx-i.ensures c.inx-j.ensures) (c.is_end.ensures.0 c.if-not-is_end.false) (c.is_start.ensures.0 c.if-not-is_start.false) in
+    (λ _. may, λ _. refl)
+
+pub returns-clause-joined : goal.returns-clause-joined
+returns-clause-joined g c =
+    let a = seen_links g.P.Inx.InxKey.packed_number c.args.arena.now in
+    let b = seen_links g.P.Inx.InxKey.packed_number c.set_next.new.arena in
+    let d = seen_links g.P.Inx.InxKey.packed_number c.set_prev.new.arena in
+    let p = (g.P.PtrKey.key c.args.p).0 in
+    let q = (g.P.PtrKey.key c.args.q).0 in
+    let second : d ≡ relinked b (prev_set (shown b) (Some q) (Some p)) =
+    c.set_prev.ensures ∙ ap₂ (λ (i j : ℕ). relinked b (prev_set (shown b) (Some j) (Some i))) c.inx-i.ensures c.inx-j.ensures in
+    linked_by_writes a b d (Some p) (Some q) (named _ _ c.set_next.ensures c.inx-i.ensures c.inx-j.ensures) second

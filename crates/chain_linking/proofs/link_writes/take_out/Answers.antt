@@ -1,0 +1,61 @@
+-- The link goes, and those that it stood between are linked.
+use Rattle.std.proofs.Common.{of_calls, ◌≡◌, None, Some, sym, ap, ◌∙◌}
+use Rattle.std.specs.Prelude.{is_some}
+use Rattle.std.specs.Option.{option_map}
+use Rattle.arena_ptr.specs.Invalidation.{value_within}
+use Rattle.arena_base.specs.Arena.{entry_at}
+use Rattle.arena_base.proofs.ArenaViewLemmas.{value_within-made}
+use Rattle.chain_links.specs.Links.{seen_links, seen_link, seen_pair}
+use Rattle.chain_links.proofs.LinkStateLemmas.{entry_at-seen_links}
+use Rattle.chain_links.proofs.MappedArenaLemmas.{with_each-remove_at}
+use Rattle.chain_linking.proofs.ConnectionLemmas.{prev_of-seen, next_of-seen}
+use Rattle.chain_linking.proofs.UnlinkLemmas.{removal_by_steps, were_beside}
+use Rattle.chain_linking.proofs.link_writes.take_out.Goals as goal
+
+pub close_over-requires : goal.close_over-requires
+close_over-requires g c =
+    let number = g.P.Inx.InxKey.number in
+    let packed = g.P.Inx.InxKey.packed_number in
+    let a = c.args.arena.now in
+    let n = number c.args.i in
+    let link = c.in-Some.link in
+    let stands : entry_at a n ≡ Some (c.in-Some.generation, link) = sym c.remove_inx.ensures.answer ∙ (sym (ap (λ x. x.0) c.overflowing-entry.ensures) ∙ c.in-Some.is) in
+    let named_prev : option_map number c.prev.result ≡ packed link.prev = search of_calls in
+    let named_next : option_map number c.next.result ≡ packed link.next = search of_calls in
+    were_beside g.P.Gen.GenKey.following (seen_links packed a) (seen_links packed c.remove_inx.new.self) n _ _
+    (ap (seen_links packed) (c.remove_inx.ensures.more (ap is_some stands)) ∙ with_each-remove_at (seen_link packed) g.P.Gen.GenKey.following a n) c.requires
+    (named_prev ∙ sym (prev_of-seen packed a (n, c.in-Some.generation) link stands)) (named_next ∙ sym (next_of-seen packed a (n, c.in-Some.generation) link stands))
+
+pub returns-in-Some-clause-answer : goal.returns-in-Some-clause-answer
+returns-in-Some-clause-answer g c =
+    let packed = g.P.Inx.InxKey.packed_number in
+    let a = c.args.arena.now in
+    let n = g.P.Inx.InxKey.number c.args.i in
+    let stands : entry_at a n ≡ Some (c.in-Some.generation, c.in-Some.link) = sym c.remove_inx.ensures.answer ∙ (sym (ap (λ x. x.0) c.overflowing-entry.ensures) ∙ c.in-Some.is) in
+    let found : value_within c.outcome.result ≡ Some (c.in-Some.generation, c.in-Some.link) = search (of_calls, value_within-made) in
+    ap (option_map (seen_pair packed)) found ∙ sym (entry_at-seen_links packed a n ∙ ap (option_map (seen_pair packed)) stands)
+
+pub returns-in-Some-clause-valid : goal.returns-in-Some-clause-valid
+returns-in-Some-clause-valid g c =
+    let number = g.P.Inx.InxKey.number in
+    let packed = g.P.Inx.InxKey.packed_number in
+    let a = c.args.arena.now in
+    let n = number c.args.i in
+    let link = c.in-Some.link in
+    let stands : entry_at a n ≡ Some (c.in-Some.generation, link) = sym c.remove_inx.ensures.answer ∙ (sym (ap (λ x. x.0) c.overflowing-entry.ensures) ∙ c.in-Some.is) in
+    let named_prev : option_map number c.prev.result ≡ packed link.prev = search of_calls in
+    let named_next : option_map number c.next.result ≡ packed link.next = search of_calls in
+    λ _. removal_by_steps g.P.Gen.GenKey.following (seen_links packed a) (seen_links packed c.remove_inx.new.self) (seen_links packed c.close_over.new.arena) n
+    (option_map number c.prev.result) (option_map number c.next.result)
+    (ap (seen_links packed) (c.remove_inx.ensures.more (ap is_some stands)) ∙ with_each-remove_at (seen_link packed) g.P.Gen.GenKey.following a n)
+    c.close_over.ensures
+    (named_prev ∙ sym (prev_of-seen packed a (n, c.in-Some.generation) link stands))
+    (named_next ∙ sym (next_of-seen packed a (n, c.in-Some.generation) link stands))
+
+pub returns-in-None-clause-answer : goal.returns-in-None-clause-answer
+returns-in-None-clause-answer g c =
+    let packed = g.P.Inx.InxKey.packed_number in
+    let a = c.args.arena.now in
+    let n = g.P.Inx.InxKey.number c.args.i in
+    let none : entry_at a n ≡ None = sym c.remove_inx.ensures.answer ∙ (sym (ap (λ x. x.0) c.overflowing-entry.ensures) ∙ c.in-None.is) in
+    sym (entry_at-seen_links packed a n ∙ ap (option_map (seen_pair packed)) none)

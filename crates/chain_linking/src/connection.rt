@@ -1,0 +1,104 @@
+// Connects two links of a plain arena, and tests for the ends of its chains.
+ghost use Rattle.std.specs.Prelude.{◌≡◌, ◌↔◌, IsTrue, IsSome, IfSome, IfNone, OnSome, Some, None};
+ghost use Rattle.std.specs.Option.{option_map};
+ghost use Rattle.chain_laws.specs.Chains.{HasLink};
+ghost use Rattle.chain_links.specs.ChainArena.{shown, entry, CanConnect};
+ghost use Rattle.chain_links.specs.Links.{seen_links};
+ghost use Rattle.chain_linking.specs.LinkWrites.{next_written, linked_up, IsValidEnd, IsValidStart};
+
+use crate::link_writes;
+use arena_base::{Arena, ArenaSlot, ArenaTrait};
+use arena_ptr::{InxKey, PtrKey, SlotStack};
+use chain_links::LinkNoGen;
+
+/// Whether the pointer is valid and no link comes after its own.
+pub fn is_end<P: PtrKey, T: Drop, S: SlotStack<Item = ArenaSlot<P, LinkNoGen<P, T>>>>(
+    arena: &Arena<P, LinkNoGen<P, T>, S>,
+    p: P,
+) -> bool
+    ensures { IsTrue result ↔ IsValidEnd (entry (seen_links P.Inx.packed_number arena.now)) (shown (seen_links P.Inx.packed_number arena.now)) (P.key p) }
+{
+    match arena.get(p) {
+        Some(link) => link.next().is_none(),
+        None => false,
+    }
+}
+
+/// Whether the pointer is valid and no link comes before its own.
+pub fn is_start<P: PtrKey, T: Drop, S: SlotStack<Item = ArenaSlot<P, LinkNoGen<P, T>>>>(
+    arena: &Arena<P, LinkNoGen<P, T>, S>,
+    p: P,
+) -> bool
+    ensures { IsTrue result ↔ IsValidStart (entry (seen_links P.Inx.packed_number arena.now)) (shown (seen_links P.Inx.packed_number arena.now)) (P.key p) }
+{
+    match arena.get(p) {
+        Some(link) => link.prev().is_none(),
+        None => false,
+    }
+}
+
+// The index that is given, if a link stands there.
+fn standing_at<P: PtrKey, T: Drop, S: SlotStack<Item = ArenaSlot<P, LinkNoGen<P, T>>>>(
+    arena: &Arena<P, LinkNoGen<P, T>, S>,
+    i: Option<P::Inx>,
+) -> Option<P::Inx>
+    ensures stands { IfSome (option_map P.Inx.number result) (HasLink (shown (seen_links P.Inx.packed_number arena.now))) }
+    ensures some { OnSome result (option_map P.Inx.number result ≡ option_map P.Inx.number i) }
+    ensures none { IfNone result (IfSome (option_map P.Inx.number i) (λ n. shown (seen_links P.Inx.packed_number arena.now) n ≡ None)) }
+{
+    match i {
+        Some(k) => match arena.get_inx(k) {
+            Some(_) => Some(k),
+            None => None,
+        },
+        None => None,
+    }
+}
+
+// Sets the index after the link at i, if i is an index and a link is stored there.
+fn set_next<P: PtrKey, T: Drop, S: SlotStack<Item = ArenaSlot<P, LinkNoGen<P, T>>>>(
+    arena: &mut Arena<P, LinkNoGen<P, T>, S>,
+    i: Option<P::Inx>,
+    next: Option<P::Inx>,
+)
+    ensures { seen_links P.Inx.packed_number arena.new ≡ next_written (seen_links P.Inx.packed_number arena.old) (option_map P.Inx.number i) (option_map P.Inx.number next) }
+{
+    let i = standing_at(arena, i);
+    link_writes::set_next(arena, i, next);
+}
+
+// The link at i, if one stands there, names none as the one after it. It is not the likely way, so it stays out of line.
+#[cold]
+#[inline(never)]
+fn take_back<P: PtrKey, T: Drop, S: SlotStack<Item = ArenaSlot<P, LinkNoGen<P, T>>>>(
+    arena: &mut Arena<P, LinkNoGen<P, T>, S>,
+    i: P::Inx,
+)
+    ensures { seen_links P.Inx.packed_number arena.new ≡ next_written (seen_links P.Inx.packed_number arena.old) (Some (P.Inx.number i)) None }
+{
+    set_next(arena, Some(i), None);
+}
+
+/// q comes after p, if it may. So that each slot is looked at once, p names q before q is looked at, and where q may not be
+/// named takes that back.
+pub fn join<P: PtrKey, T: Drop, S: SlotStack<Item = ArenaSlot<P, LinkNoGen<P, T>>>>(
+    arena: &mut Arena<P, LinkNoGen<P, T>, S>,
+    p: P,
+    q: P,
+) -> Option<()>
+    ensures some { IsSome result ↔ CanConnect (entry (seen_links P.Inx.packed_number arena.old)) (shown (seen_links P.Inx.packed_number arena.old)) (P.key p) (P.key q) }
+    ensures joined { OnSome result (seen_links P.Inx.packed_number arena.new ≡ linked_up (seen_links P.Inx.packed_number arena.old) (Some (P.key p).0) (Some (P.key q).0)) }
+    ensures none { IfNone result (seen_links P.Inx.packed_number arena.new ≡ seen_links P.Inx.packed_number arena.old) }
+{
+    let (i, j) = (p.inx(), q.inx());
+    if !is_end(arena, p) {
+        return None;
+    }
+    link_writes::set_next(arena, Some(i), Some(j));
+    if !is_start(arena, q) {
+        take_back(arena, i);
+        return None;
+    }
+    link_writes::set_prev(arena, Some(j), Some(i));
+    Some(())
+}

@@ -1,0 +1,157 @@
+// How the interlinks of links are read and written that are known to stand: none is looked for where it is written.
+ghost use Rattle.std.specs.Prelude.{◌≡◌, IsSome, IfSome, None};
+ghost use Rattle.std.specs.Option.{option_map, option_and_then};
+ghost use Rattle.arena_ptr.specs.Invalidation.{value_within, invalidation_result};
+ghost use Rattle.arena_base.specs.Arena.{entry_at};
+ghost use Rattle.chain_laws.specs.Chains.{Agrees, HasLink};
+ghost use Rattle.chain_links.specs.ChainArena.{shown, remove_link, entry, named_by, ptr_at};
+ghost use Rattle.chain_links.specs.Links.{seen_links, seen_pair};
+ghost use Rattle.chain_linking.specs.InsertPositions.{before_in, after_in};
+ghost use Rattle.chain_linking.specs.LinkWrites.{next_written, prev_written, linked_up, linked_twice, numbers, WereBeside};
+
+use crate::insert_position::Gap;
+use crate::new_link::around;
+use arena_base::{Arena, ArenaSlot, ArenaTrait, excluded, outcome};
+use arena_ptr::{InvalidationResult, InxKey, PtrKey, SlotStack};
+use chain_links::{LinkNoGen, link_access};
+
+/// The pointer of now to the link that an interlink names.
+pub fn neighbor<P: PtrKey, T: Drop, S: SlotStack<Item = ArenaSlot<P, LinkNoGen<P, T>>>>(
+    arena: &Arena<P, LinkNoGen<P, T>, S>,
+    i: Option<P::Inx>,
+) -> Option<P>
+    requires { IfSome (option_map P.Inx.number i) (HasLink (shown (seen_links P.Inx.packed_number arena.now))) }
+    ensures { option_map P.key result ≡ option_and_then (ptr_at (entry (seen_links P.Inx.packed_number arena.now))) (option_map P.Inx.number i) }
+{
+    match i {
+        Some(i) => match arena.get_inx(i) {
+            Some((generation, _)) => Some(P::_from_raw(i, generation)),
+            None => excluded!(),
+        },
+        None => None,
+    }
+}
+
+/// The link at i, if i is an index, names another as the one after it.
+pub fn set_next<P: PtrKey, T: Drop, S: SlotStack<Item = ArenaSlot<P, LinkNoGen<P, T>>>>(
+    arena: &mut Arena<P, LinkNoGen<P, T>, S>,
+    i: Option<P::Inx>,
+    next: Option<P::Inx>,
+)
+    requires { IfSome (option_map P.Inx.number i) (HasLink (shown (seen_links P.Inx.packed_number arena.old))) }
+    ensures { seen_links P.Inx.packed_number arena.new ≡ next_written (seen_links P.Inx.packed_number arena.old) (option_map P.Inx.number i) (option_map P.Inx.number next) }
+{
+    match i {
+        Some(i) => match arena.get_inx_mut(i) {
+            Some(link) => link_access::set_next(link, next),
+            None => excluded!(),
+        },
+        None => {}
+    }
+}
+
+/// The link at i, if i is an index, names another as the one before it.
+pub fn set_prev<P: PtrKey, T: Drop, S: SlotStack<Item = ArenaSlot<P, LinkNoGen<P, T>>>>(
+    arena: &mut Arena<P, LinkNoGen<P, T>, S>,
+    i: Option<P::Inx>,
+    prev: Option<P::Inx>,
+)
+    requires { IfSome (option_map P.Inx.number i) (HasLink (shown (seen_links P.Inx.packed_number arena.old))) }
+    ensures { seen_links P.Inx.packed_number arena.new ≡ prev_written (seen_links P.Inx.packed_number arena.old) (option_map P.Inx.number i) (option_map P.Inx.number prev) }
+{
+    match i {
+        Some(i) => match arena.get_inx_mut(i) {
+            Some(link) => link_access::set_prev(link, prev),
+            None => excluded!(),
+        },
+        None => {}
+    }
+}
+
+/// One link follows another, each where it is some index.
+pub fn link_up<P: PtrKey, T: Drop, S: SlotStack<Item = ArenaSlot<P, LinkNoGen<P, T>>>>(
+    arena: &mut Arena<P, LinkNoGen<P, T>, S>,
+    prev: Option<P::Inx>,
+    next: Option<P::Inx>,
+)
+    requires prev { IfSome (option_map P.Inx.number prev) (HasLink (shown (seen_links P.Inx.packed_number arena.old))) }
+    requires next { IfSome (option_map P.Inx.number next) (HasLink (shown (seen_links P.Inx.packed_number arena.old))) }
+    ensures { seen_links P.Inx.packed_number arena.new ≡ linked_up (seen_links P.Inx.packed_number arena.old) (option_map P.Inx.number prev) (option_map P.Inx.number next) }
+{
+    set_next(arena, prev, next);
+    set_prev(arena, next, prev);
+}
+
+/// One link follows another, and then a third a fourth, each where it is some index.
+pub fn link_twice<P: PtrKey, T: Drop, S: SlotStack<Item = ArenaSlot<P, LinkNoGen<P, T>>>>(
+    arena: &mut Arena<P, LinkNoGen<P, T>, S>,
+    first: (Option<P::Inx>, Option<P::Inx>),
+    second: (Option<P::Inx>, Option<P::Inx>),
+)
+    requires first_prev { IfSome (option_map P.Inx.number first.0) (HasLink (shown (seen_links P.Inx.packed_number arena.old))) }
+    requires first_next { IfSome (option_map P.Inx.number first.1) (HasLink (shown (seen_links P.Inx.packed_number arena.old))) }
+    requires second_prev { IfSome (option_map P.Inx.number second.0) (HasLink (shown (seen_links P.Inx.packed_number arena.old))) }
+    requires second_next { IfSome (option_map P.Inx.number second.1) (HasLink (shown (seen_links P.Inx.packed_number arena.old))) }
+    ensures { seen_links P.Inx.packed_number arena.new ≡ linked_twice (seen_links P.Inx.packed_number arena.old) (numbers P.Inx.number first) (numbers P.Inx.number second) }
+{
+    link_up(arena, first.0, first.1);
+    link_up(arena, second.0, second.1);
+}
+
+/// The links of a gap name the new one.
+pub fn tie<P: PtrKey, T: Drop, S: SlotStack<Item = ArenaSlot<P, LinkNoGen<P, T>>>>(
+    arena: &mut Arena<P, LinkNoGen<P, T>, S>,
+    gap: Gap<P::Inx>,
+    p: P,
+)
+    requires before { IfSome (before_in P.Inx.number gap (P.key p).0) (HasLink (shown (seen_links P.Inx.packed_number arena.old))) }
+    requires after { IfSome (after_in P.Inx.number gap (P.key p).0) (HasLink (shown (seen_links P.Inx.packed_number arena.old))) }
+    ensures { seen_links P.Inx.packed_number arena.new ≡ named_by (seen_links P.Inx.packed_number arena.old)
+        (before_in P.Inx.number gap (P.key p).0) (after_in P.Inx.number gap (P.key p).0) (P.key p).0 }
+{
+    let i = p.inx();
+    let (prev, next) = around(gap, i);
+    set_next(arena, prev, Some(i));
+    set_prev(arena, next, Some(i));
+}
+
+// The links beside one that has gone from i follow one another. One that came before itself is gone with what it named.
+fn close_over<P: PtrKey, T: Drop, S: SlotStack<Item = ArenaSlot<P, LinkNoGen<P, T>>>>(
+    arena: &mut Arena<P, LinkNoGen<P, T>, S>,
+    i: P::Inx,
+    prev: Option<P::Inx>,
+    next: Option<P::Inx>,
+)
+    requires { WereBeside (shown (seen_links P.Inx.packed_number arena.old)) (P.Inx.number i) (option_map P.Inx.number prev) (option_map P.Inx.number next) }
+    ensures { seen_links P.Inx.packed_number arena.new ≡ linked_up (seen_links P.Inx.packed_number arena.old) (option_map P.Inx.number prev) (option_map P.Inx.number next) }
+{
+    match prev {
+        Some(before) => {
+            if !before.is_same(i) {
+                link_up(arena, Some(before), next);
+            }
+        }
+        None => link_up(arena, None, next),
+    }
+}
+
+/// Takes the link at an index out, and links those that it stood between.
+pub fn take_out<P: PtrKey, T: Drop, S: SlotStack<Item = ArenaSlot<P, LinkNoGen<P, T>>>>(
+    arena: &mut Arena<P, LinkNoGen<P, T>, S>,
+    i: P::Inx,
+) -> InvalidationResult<(P::Gen, LinkNoGen<P, T>)>
+    requires { Agrees (shown (seen_links P.Inx.packed_number arena.old)) }
+    ensures answer { option_map (seen_pair P.Inx.packed_number) (value_within result) ≡ entry_at (seen_links P.Inx.packed_number arena.old) (P.Inx.number i) }
+    ensures overflow { result ≡ invalidation_result (P.Gen.wraps arena.old.counter) (value_within result) }
+    ensures valid { IsSome (value_within result) → seen_links P.Inx.packed_number arena.new ≡ remove_link P.Gen.following (seen_links P.Inx.packed_number arena.old) (P.Inx.number i) }
+    ensures invalid { value_within result ≡ None → arena.new ≡ arena.old }
+{
+    let (entry, overflow) = arena.remove_inx(i).overflowing();
+    match entry {
+        Some((generation, link)) => {
+            close_over(arena, i, link.prev(), link.next());
+            outcome(overflow, (generation, link))
+        }
+        None => InvalidationResult::InvalidPtr,
+    }
+}

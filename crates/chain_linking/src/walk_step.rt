@@ -1,0 +1,56 @@
+// What a walker along a chain passes next, in any plain arena of links.
+ghost use Rattle.std.specs.Prelude.{◌≡◌, IfSome, IfNone};
+ghost use Rattle.std.specs.Option.{option_map};
+ghost use Rattle.arena_base.specs.Arena.{entry_at, IsValid};
+ghost use Rattle.chain_links.specs.ChainArena.{entry};
+ghost use Rattle.chain_links.specs.Links.{seen_links};
+ghost use Rattle.chain_links.specs.Walkers.{seen_item, index_and_entry};
+ghost use Rattle.chain_linking.specs.WalkSteps.{Passes, PassesNothing};
+
+use arena_base::{Arena, ArenaSlot, ArenaTrait};
+use arena_ptr::{PtrKey, SlotStack};
+use chain_links::LinkNoGen;
+use chain_links::walk_direction::going;
+
+/// The pointer and the link at an index.
+pub fn look<P: PtrKey, T: Drop, S: SlotStack<Item = ArenaSlot<P, LinkNoGen<P, T>>>>(
+    arena: &Arena<P, LinkNoGen<P, T>, S>,
+    i: P::Inx,
+) -> Option<(P, &LinkNoGen<P, T>)>
+    ensures link { option_map (seen_item P.key P.Inx.packed_number) result ≡ option_map (index_and_entry (P.Inx.number i)) (entry_at (seen_links P.Inx.packed_number arena.now) (P.Inx.number i)) }
+    ensures valid { IfSome result (λ item. IsValid (entry (seen_links P.Inx.packed_number arena.now)) (P.key item.0)) }
+{
+    match arena.get_inx(i) {
+        Some((generation, link)) => Some((P::_from_raw(i, generation), link)),
+        None => None,
+    }
+}
+
+/// The link that a walker passes next, by its pointer, and where it goes from there.
+pub fn step<P: PtrKey, T: Drop, S: SlotStack<Item = ArenaSlot<P, LinkNoGen<P, T>>>>(
+    arena: &Arena<P, LinkNoGen<P, T>, S>,
+    start: P::Inx,
+    forth: Option<P::Inx>,
+    back: Option<P::Inx>,
+) -> Option<(P, Option<P::Inx>, Option<P::Inx>)>
+    ensures valid { IfSome result (λ s. IsValid (entry (seen_links P.Inx.packed_number arena.now)) (P.key s.0)) }
+    ensures some { IfSome result (λ s. Passes P.Inx.number (seen_links P.Inx.packed_number arena.now) start forth back (P.key s.0).0 s.1 s.2) }
+    ensures none { IfNone result (PassesNothing P.Inx.number (seen_links P.Inx.packed_number arena.now) start forth back) }
+{
+    match forth {
+        Some(i) => match look(arena, i) {
+            Some((p, link)) => {
+                let (forth, back) = going(start, link.next(), back);
+                Some((p, forth, back))
+            }
+            None => None,
+        },
+        None => match back {
+            Some(i) => match look(arena, i) {
+                Some((p, link)) => Some((p, None, link.prev())),
+                None => None,
+            },
+            None => None,
+        },
+    }
+}

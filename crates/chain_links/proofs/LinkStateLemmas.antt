@@ -1,0 +1,83 @@
+-- Lemmas on the state of a chain arena, entry by entry.
+use Rattle.std.proofs.Common.{◌≡◌, ℕ, zero, suc, ◌+◌, List, [], ◌∷◌, length, true, false, Option, None, Some, refl, ap, sym, ◌∙◌, arith}
+use Rattle.std.specs.Prelude.{slice_index_or, slice_set, ◌==◌, if◌then◌else◌}
+use Rattle.std.proofs.Math.Dec.{eqb-suc-suc}
+use Rattle.std.specs.Option.{option_map}
+use Rattle.std.proofs.lemmas.List.{ext_get_or}
+use Rattle.chain_laws.specs.Chains.{Shown}
+use Rattle.chain_laws.proofs.InterlinkLemmas.Inverses.{if_same, if_other}
+use Rattle.arena_base.proofs.SlotLemmas.{length-with_slot}
+use Rattle.chain_links.proofs.MappedArenaLemmas.{entry_at-with_each, length-with_each}
+use Rattle.chain_links.specs.declared.links.LinkBody.{LinkBody}
+use Rattle.chain_links.specs.Links.{seen_link, seen_pair, seen_links}
+use Rattle.arena_base.specs.Arena.{Arena, slot_at, with_slot, entry_at, with_value}
+use Rattle.chain_links.specs.ChainArena.{LinkSeen, relink, relink_from, relinked}
+
+-- numbers are equal if those before them are
+pub if_suc : {A : Type 0} (j k : ℕ) (x y : A) → (if j == k then x else y) ≡ (if suc j == suc k then x else y)
+if_suc j k x y = ap (λ b. if b then x else y) (sym (eqb-suc-suc j k))
+
+-- a list with one item changed, at that item and elsewhere
+slice_index_or-slice_set : {X : Type 0} (xs : List (Option X)) (k j : ℕ) (f : Option X → Option X) → f None ≡ None
+    → slice_index_or (slice_set xs k (f (slice_index_or xs k None))) j None ≡ (if j == k then f (slice_index_or xs j None) else slice_index_or xs j None)
+slice_index_or-slice_set {X} [] k j f none = elim (j == k) as (λ b. let o : Option X = None in o ≡ (if b then f None else None)) [ true ↦ sym none | false ↦ refl ]
+slice_index_or-slice_set (y ∷ xs) zero zero f none = refl
+slice_index_or-slice_set (y ∷ xs) zero (suc j) f none = sym (if_other (suc j) 0 _ _ (λ is. absurd (omega (arith, is))))
+slice_index_or-slice_set (y ∷ xs) (suc k) zero f none = sym (if_other 0 (suc k) _ _ (λ is. absurd (omega (arith, is))))
+slice_index_or-slice_set (y ∷ xs) (suc k) (suc j) f none = slice_index_or-slice_set xs k j f none ∙ if_suc j k _ _
+
+-- slots with what stands at one index changed, at that index and elsewhere
+pub slot_at-changed : {X : Type 0} (slots : List (Option X)) (n i : ℕ) (f : Option X → Option X) → f None ≡ None
+    → slot_at (with_slot slots n (f (slot_at slots n))) i ≡ (if i == n then f (slot_at slots i) else slot_at slots i)
+slot_at-changed {X} slots zero zero f none = sym (if_same 0 0 (f None) None refl ∙ none)
+slot_at-changed slots zero (suc j) f none = sym (if_other (suc j) 0 _ _ (λ is. absurd (omega (arith, is))))
+slot_at-changed slots (suc k) zero f none = sym (if_other 0 (suc k) _ _ (λ is. absurd (omega (arith, is))))
+slot_at-changed slots (suc k) (suc j) f none = slice_index_or-slice_set slots k j f none ∙ if_suc j k _ _
+
+module _ {Gen T : Type 0} where
+  -- the entries of an arena with one value written
+  pub entry_at-with_value : (a : Arena Gen T) (n : ℕ) (t : T) (i : ℕ)
+      → entry_at (with_value a n t) i ≡ (if i == n then option_map (λ (e : Gen × T). (e.0, t)) (entry_at a i) else entry_at a i)
+  entry_at-with_value a n t i = slot_at-changed a.slots n i (option_map (λ (e : Gen × T). (e.0, t))) refl
+
+  pub no_entry : (o : Option (Gen × T)) → option_map (λ (e : Gen × T). e.1) o ≡ None → o ≡ None
+  no_entry None none = refl
+  no_entry (Some e) none = absurd (let h = none in cc)
+
+  pub length-with_value : (a : Arena Gen T) (n : ℕ) (t : T) → length (with_value a n t).slots ≡ length a.slots
+  length-with_value a n t = length-with_slot a.slots n _
+
+module _ {Gen T : Type 0} where
+  slice_index_or-relink_from : (interlinks : Shown) (k x j : ℕ) (slots : List (Option (Gen × LinkSeen T))) → x ≡ k + j
+      → slice_index_or (relink_from interlinks k slots) j None ≡ relink (interlinks x) (slice_index_or slots j None)
+  slice_index_or-relink_from interlinks k x j [] at = refl
+  slice_index_or-relink_from interlinks k x zero (e ∷ slots) at = ap (λ i. relink (interlinks i) e) (let same : k ≡ x = omega (arith, at) in same)
+  slice_index_or-relink_from interlinks k x (suc j) (e ∷ slots) at = slice_index_or-relink_from interlinks (suc k) x j slots (omega (arith, at))
+
+  -- the entries of an arena with other interlinks
+  pub entry_at-relinked : (a : Arena Gen (LinkSeen T)) (interlinks : Shown) (i : ℕ) → entry_at (relinked a interlinks) i ≡ relink (interlinks i) (entry_at a i)
+  entry_at-relinked a interlinks zero = refl
+  entry_at-relinked a interlinks (suc j) = slice_index_or-relink_from interlinks 1 (suc j) j a.slots (omega arith)
+
+  length-relink_from : (interlinks : Shown) (k : ℕ) (slots : List (Option (Gen × LinkSeen T))) → length (relink_from interlinks k slots) ≡ length slots
+  length-relink_from interlinks k [] = refl
+  length-relink_from interlinks k (e ∷ slots) = ap (λ n. suc n) (length-relink_from interlinks (suc k) slots)
+
+  pub length-relinked : (a : Arena Gen (LinkSeen T)) (interlinks : Shown) → length (relinked a interlinks).slots ≡ length a.slots
+  length-relinked a interlinks = length-relink_from interlinks 1 a.slots
+
+  -- an arena that has the entries of another with other interlinks, and else is as that, is that arena
+  pub is_relinked : (a b : Arena Gen (LinkSeen T)) (interlinks : Shown) → length b.slots ≡ length a.slots → b ≡ record a { slots = b.slots }
+      → ((i : ℕ) → entry_at b i ≡ relink (interlinks i) (entry_at a i)) → b ≡ relinked a interlinks
+  is_relinked a b interlinks long rest entries =
+      rest ∙ ap (λ (slots : List (Option (Gen × LinkSeen T))). let c : Arena Gen (LinkSeen T) = record a { slots = slots } in c)
+      (ext_get_or None b.slots (relink_from interlinks 1 a.slots) (long ∙ sym (length-relink_from interlinks 1 a.slots))
+      (λ k inside. entries (suc k) ∙ sym (entry_at-relinked a interlinks (suc k))))
+
+-- links as contracts see them
+module _ {Gen K T : Type 0} (number : K → Option ℕ) where
+  pub entry_at-seen_links : (a : Arena Gen (LinkBody K T)) (i : ℕ) → entry_at (seen_links number a) i ≡ option_map (seen_pair number) (entry_at a i)
+  entry_at-seen_links a i = entry_at-with_each (seen_link number) a i
+
+  pub length-seen_links : (a : Arena Gen (LinkBody K T)) → length (seen_links number a).slots ≡ length a.slots
+  length-seen_links a = length-with_each (seen_link number) a

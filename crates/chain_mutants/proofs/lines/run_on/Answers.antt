@@ -1,6 +1,0 @@
--- The facts of the call are all that is needed, so the search is a small one, and a wrong body soon fails it.
-use Rattle.std.proofs.Common.{rules}
-use Rattle.chain_mutants.proofs.lines.run_on.Goals as goal
-
-pub returns : goal.returns
-returns g c = search rules fits 100

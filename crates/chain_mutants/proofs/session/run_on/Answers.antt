@@ -1,0 +1,6 @@
+-- The facts of the call are all that is needed, so the search is a small one, and a wrong body soon fails it.
+use Rattle.std.proofs.Common.{rules}
+use Rattle.chain_mutants.proofs.session.run_on.Goals as goal
+
+pub returns : goal.returns
+returns g c = search rules fits 100

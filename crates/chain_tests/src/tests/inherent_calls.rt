@@ -1,0 +1,121 @@
+//! The calls that a chain arena has of its own, as rows of tables.
+
+use super::call_lists::{kind, two_calls};
+use super::canonical::{both_arranged, carried_in, counted, moves_listed, moves_seen, placed};
+use super::drains::{Ends, drained, drained_chain, remove_all};
+use super::entries::{
+    forget, give_up, insert_asked, insert_by_any_entry, insert_by_entry, place_refusals,
+};
+use super::fallible_insertion::{dig, fill};
+use super::indexing::{value_at, write_at, write_at_index};
+use super::iterators::{indexes, links, links_by_reference, links_used_up, values, walk};
+use super::scripts::{Answers, Do, answer};
+use super::{ChainsOver, Slot, at, fresh, index, text};
+use arena_base::ArenaTrait;
+use arena_ptr::SlotStack;
+use std::alloc::Global;
+
+// The answer to a call of the arena's own: to one on a value, a walk, or a loop over all links, ...
+fn own_answer<S: SlotStack<Item = Slot>>(
+    alloc: Global,
+    arena: &mut ChainsOver<S>,
+    row: Do,
+) -> String {
+    match row {
+        Do::Value(p) => text(alloc, value_at(arena, at(p))),
+        Do::WriteValue(p, t) => text(alloc, write_at(arena, at(p), t)),
+        Do::WriteValueInx(i, t) => text(alloc, write_at_index(arena, index(i), t)),
+        Do::Walk(p) => walk(alloc, arena, at(p)),
+        Do::Values => values(alloc, arena),
+        Do::Links => links(alloc, arena),
+        Do::LinksByReference => links_by_reference(alloc, arena),
+        Do::LinksUsedUp => links_used_up(alloc, arena),
+        Do::Indexes => text(alloc, indexes(alloc, arena)),
+        other => layout_answer(alloc, arena, other),
+    }
+}
+
+// .. to a canonical compression, ...
+fn layout_answer<S: SlotStack<Item = Slot>>(
+    alloc: Global,
+    arena: &mut ChainsOver<S>,
+    row: Do,
+) -> String {
+    match row {
+        Do::Placed(reset) => text(alloc, placed(arena, reset)),
+        Do::Counted(reset) => text(alloc, counted(arena, reset)),
+        Do::MovesSeen(reset) => text(alloc, moves_seen(alloc, arena, reset)),
+        Do::MovesListed(reset) => text(alloc, moves_listed(alloc, arena, reset)),
+        Do::BothArranged => text(alloc, both_arranged(alloc, arena)),
+        other => growth_answer(alloc, arena, other),
+    }
+}
+
+// Whether an arena that is born with room is empty, and has the room.
+fn born<S: SlotStack<Item = Slot>>(alloc: Global, n: usize) -> String {
+    match ChainsOver::<S>::with_min_capacity(alloc, n) {
+        Ok(arena) => text(alloc, arena.is_empty() && arena.capacity() >= n),
+        Err(error) => text(alloc, error),
+    }
+}
+
+// .. to what is tried where memory is refused, ...
+fn growth_answer<S: SlotStack<Item = Slot>>(
+    alloc: Global,
+    arena: &mut ChainsOver<S>,
+    row: Do,
+) -> String {
+    match row {
+        Do::Fill => text(alloc, fill(arena)),
+        Do::Dig => text(alloc, dig(arena)),
+        Do::CarryIn(count) => carried_in(alloc, arena, count),
+        Do::TwoCalls => text(alloc, two_calls(alloc, arena)),
+        Do::Birth(n) => born::<S>(alloc, n),
+        other => drain_answer(alloc, arena, other),
+    }
+}
+
+// .. to a drain, ...
+fn drain_answer<S: SlotStack<Item = Slot>>(
+    alloc: Global,
+    arena: &mut ChainsOver<S>,
+    row: Do,
+) -> String {
+    match row {
+        Do::DrainChain(p) => drained_chain(alloc, arena, at(p), Ends::Empty),
+        Do::DrainChainOne(p) => drained_chain(alloc, arena, at(p), Ends::Dropped),
+        Do::ForgetChainDrain(p) => drained_chain(alloc, arena, at(p), Ends::Forgotten),
+        Do::Drain => drained(alloc, arena, Ends::Empty),
+        Do::DrainOne => drained(alloc, arena, Ends::Dropped),
+        Do::ForgetDrain => drained(alloc, arena, Ends::Forgotten),
+        Do::RemoveAll => text(alloc, remove_all(arena)),
+        other => place_answer(alloc, arena, other),
+    }
+}
+
+// .. or a place for a link.
+fn place_answer<S: SlotStack<Item = Slot>>(
+    alloc: Global,
+    arena: &mut ChainsOver<S>,
+    row: Do,
+) -> String {
+    match row {
+        Do::GiveUp(k) => text(alloc, give_up(arena, kind(k))),
+        Do::Forget(k) => text(alloc, forget(arena, kind(k))),
+        Do::PlaceRefusals(k) => text(alloc, place_refusals(arena, kind(k))),
+        Do::InsertByEntry(k, t) => text(alloc, insert_by_entry(arena, kind(k), t)),
+        Do::InsertByAnyEntry(k, t) => text(alloc, insert_by_any_entry(arena, kind(k), t)),
+        Do::InsertAsked(k, t) => text(alloc, insert_asked(arena, kind(k), t)),
+        other => answer(alloc, arena, other),
+    }
+}
+
+impl<S: SlotStack<Item = Slot>> Answers for ChainsOver<S> {
+    fn fresh(alloc: Global) -> Self {
+        fresh(alloc)
+    }
+
+    fn answer(&mut self, alloc: Global, row: Do) -> String {
+        own_answer(alloc, self, row)
+    }
+}

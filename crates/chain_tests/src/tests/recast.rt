@@ -1,0 +1,138 @@
+//! Values recast in their places, by rising index, up to one that refuses.
+ghost use Rattle.std.specs.Prelude.{◌≡◌, OnErr, Err};
+
+use super::scripts::{Do, Kind};
+use super::setup::{Numbered, SlotOf, after};
+use super::{same, text};
+use arena_ptr::{HeapStack, Recast, Recaster, SlotStack, ToolPtr};
+use chain_arena::ChainArena;
+use std::alloc::Global;
+use std::process::Abort;
+
+// Adds ten to each number but two, which it refuses with itself.
+struct AddTen;
+
+impl Recaster for AddTen {
+    type Item = u32;
+
+    ghost recasts = { λ _ old new answer. OnErr answer ((answer ≡ Err old) × (new ≡ old)) };
+
+    fn recast_item(&self, item: &mut u32) -> Result<(), u32> {
+        if *item == 2 {
+            return Err(2);
+        }
+        *item = item.saturating_add(10);
+        Ok(())
+    }
+}
+
+// A number, and how often it was to be recast. No value can be cloned.
+#[derive(Debug, Drop)]
+struct Number(u32, u32);
+
+impl Recast<u32> for Number {
+    ghost recast_by = { λ recasts old new answer. recasts old.0 new.0 answer };
+
+    fn recast<R: Recaster<Item = u32>>(&mut self, recaster: &R) -> Result<(), u32> {
+        self.1 = self.1.saturating_add(1);
+        recaster.recast_item(&mut self.0)
+    }
+}
+
+// One that was not to be recast yet.
+impl Numbered for Number {
+    fn of(_: Global, n: u32) -> Number {
+        Number(n, 0)
+    }
+}
+
+// A lone link.
+const LONE: Kind = Kind::Disconnected;
+
+// Links with numbers, and what is told: the answer, the arena then and its counter. A refused recast leaves pointers, interlinks
+// and the counter, and by rising index the values before the refused one alone are new ones. The last are a row of 4 and 1 and a
+// ring of 3, between which a link is gone: the refused value comes last in its chain.
+static ROWS: [(&[Do], &str); 7] = [
+    (&[], "(Ok(()), {}, Gen32 { number: 2 })"),
+    (
+        &[
+            Do::Insert(LONE, 1),
+            Do::Insert(LONE, 2),
+            Do::Insert(LONE, 3),
+        ],
+        "(Err(2), {P0[1](2): {(start), (end)} Number(11, 1), P0[2](2): {(start), (end)} Number(2, 1), \
+            P0[3](2): {(start), (end)} Number(3, 0)}, Gen32 { number: 2 })",
+    ),
+    (
+        &[
+            Do::Insert(LONE, 2),
+            Do::Insert(LONE, 1),
+            Do::Insert(LONE, 3),
+        ],
+        "(Err(2), {P0[1](2): {(start), (end)} Number(2, 1), P0[2](2): {(start), (end)} Number(1, 0), \
+            P0[3](2): {(start), (end)} Number(3, 0)}, Gen32 { number: 2 })",
+    ),
+    (
+        &[
+            Do::Insert(LONE, 1),
+            Do::Insert(LONE, 3),
+            Do::Insert(LONE, 2),
+        ],
+        "(Err(2), {P0[1](2): {(start), (end)} Number(11, 1), P0[2](2): {(start), (end)} Number(13, 1), \
+            P0[3](2): {(start), (end)} Number(2, 1)}, Gen32 { number: 2 })",
+    ),
+    (
+        &[
+            Do::Insert(LONE, 1),
+            Do::Insert(LONE, 2),
+            Do::Insert(LONE, 2),
+        ],
+        "(Err(2), {P0[1](2): {(start), (end)} Number(11, 1), P0[2](2): {(start), (end)} Number(2, 1), \
+            P0[3](2): {(start), (end)} Number(2, 0)}, Gen32 { number: 2 })",
+    ),
+    (
+        &[
+            Do::Insert(LONE, 1),
+            Do::Insert(LONE, 3),
+            Do::Insert(LONE, 5),
+        ],
+        "(Ok(()), {P0[1](2): {(start), (end)} Number(11, 1), P0[2](2): {(start), (end)} Number(13, 1), \
+            P0[3](2): {(start), (end)} Number(15, 1)}, Gen32 { number: 2 })",
+    ),
+    (
+        &[
+            Do::Insert(LONE, 1),
+            Do::Insert(LONE, 9),
+            Do::Insert(Kind::SingleLinkCyclic, 2),
+            Do::Insert(Kind::ChainStart((1, 2)), 3),
+            Do::Remove((2, 2)),
+        ],
+        "(Err(2), {P0[1](2): {4, (end)} Number(11, 1), P0[3](2): {3, 3} Number(2, 1), \
+            P0[4](2): {(start), 1} Number(3, 0)}, Gen32 { number: 3 })",
+    ),
+];
+
+// All of them.
+fn rows() -> &'static [(&'static [Do], &'static str)] {
+    &ROWS
+}
+
+// Recasts an arena, and tells the answer, the arena then and its counter.
+fn recast<S: SlotStack<Item = SlotOf<Number>>>(alloc: Global, calls: &[Do]) -> String {
+    let mut arena: ChainArena<ToolPtr, Number, S> = after(alloc, calls);
+    let answer = arena.recast(&AddTen);
+    text(alloc, (answer, &arena, arena.generation()))
+}
+
+// Each row.
+fn check_recasts<S: SlotStack<Item = SlotOf<Number>>>(rt: &impl Abort, alloc: Global) {
+    for row in rows() {
+        let told = recast::<S>(alloc, row.0);
+        same(rt, "recast", told.as_str(), row.1);
+    }
+}
+
+#[test]
+fn recasters_that_refuse_and_that_do_not(rt: HostRuntime) {
+    check_recasts::<HeapStack<SlotOf<Number>>>(&rt, rt.alloc());
+}

@@ -1,0 +1,29 @@
+//! Refused memory, and long runs of random calls.
+
+mod alloc_failures;
+mod model;
+mod random;
+
+use super::failing_stack::Rationed;
+use super::{ChainsOver, Slot, same};
+use arena_ptr::{LimitStack, SlotStack};
+use std::alloc::Global;
+use std::process::Abort;
+
+// Each growth is refused once, and long runs of calls, over a stack and over one that refuses every other growth, where so many
+// calls are refused at least.
+pub(super) fn check_hostile<S: SlotStack<Item = Slot>>(
+    rt: &impl Abort,
+    alloc: Global,
+    refused: u32,
+) {
+    alloc_failures::check_all::<S>(rt, alloc);
+    random::check_runs::<S>(rt, alloc, 1);
+    random::check_runs::<Rationed<S>>(rt, alloc, refused);
+}
+
+// .. over one that may have a maximum.
+pub(super) fn check_limited<S: LimitStack<Item = Slot>>(rt: &impl Abort, alloc: Global) {
+    alloc_failures::check_all::<S>(rt, alloc);
+    random::check_limited_runs::<S>(rt, alloc, 50);
+}

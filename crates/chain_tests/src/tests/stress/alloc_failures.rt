@@ -1,0 +1,240 @@
+//! Requests for memory that are refused: nothing has changed then, and a second try answers what the first would have. Here
+//! each growth is refused, over a stack that refuses every other one; `tools/test_alloc_failures` refuses each request for memory in turn,
+//! in the tests that bear it.
+
+use super::{ChainsOver, Rationed, Slot, same};
+use crate::tests::call_lists::check_refused_list;
+use crate::tests::canonical::carry_over;
+use crate::tests::copies::{copied_twice, with_a_hole};
+use crate::tests::scripts::{Answers, Do, Kind, Script, plays_all};
+use crate::tests::{fresh_plain, generation};
+use arena_base::{Arena, ArenaSlot};
+use arena_ptr::{ChunkStack, HeapStack, LimitedStack, SlotStack, ToolPtr};
+use std::alloc::Global;
+use std::process::Abort;
+
+// Calls that need more room than there is, on an arena whose capacity is used up.
+const GROWTHS: [Do; 7] = [
+    Do::Reserve(100),
+    Do::InsertAsked(Kind::NextTo((1, 2)), 7),
+    Do::Insert(Kind::NextTo((1, 2)), 7),
+    Do::InsertByAnyEntry(Kind::NextTo((1, 2)), 7),
+    Do::InsertByEntry(Kind::NextTo((1, 2)), 7),
+    Do::CopyOver(70),
+    Do::CarryIn(70),
+];
+
+// Calls that need more room than an arena with holes has.
+const GROWTHS_BESIDE_HOLES: [Do; 3] = [Do::Reserve(100), Do::CopyOver(70), Do::CarryIn(70)];
+
+// .. that make an arena anew, ...
+const BIRTHS: [Do; 2] = [Do::Clone, Do::Birth(100)];
+
+// .. and that ask for memory, but not for more room.
+const LISTS: [Do; 2] = [Do::TwoCalls, Do::MovesListed(false)];
+
+// What asks for no memory, on an arena whose capacity is used up: gaps closed, chains laid, links removed and inserted within the
+// capacity, and links carried over to an arena with room for them.
+const NO_GROWTHS: [Do; 9] = [
+    Do::RemoveLink((1, 2)),
+    Do::Compress(false),
+    Do::Canonical(false),
+    Do::MovesSeen(true),
+    Do::InsertWithin(Kind::Disconnected, 7),
+    Do::RemoveLink((2, 2)),
+    Do::Insert(Kind::Disconnected, 7),
+    Do::Clear,
+    Do::CarryIn(2),
+];
+
+// A slot of a number alone.
+type Bare = ArenaSlot<ToolPtr, u32>;
+
+// On a new arena that refuses every other growth.
+static REFUSED: [Script; 1] = [(
+    "links that are carried over: neither arena has changed, and then both have",
+    0,
+    &[],
+    &[
+        (
+            Do::CarryIn(2),
+            "(Err(AllocError), {P0[1](2): {(start), (end)} 1, P0[2](2): {(start), (end)} 2})",
+        ),
+        (Do::Debug, "{}"),
+        (Do::Generation, "2"),
+        (Do::CarryIn(2), "(Ok(()), {})"),
+        (
+            Do::Debug,
+            "{P0[1](7): {(start), (end)} 1, P0[2](7): {(start), (end)} 2}",
+        ),
+        (Do::Generation, "7"),
+    ],
+)];
+
+fn refused() -> &'static [Script] {
+    &REFUSED
+}
+
+// Whether an answer tells of a refusal, or of what is not so.
+fn is_refused<A: Answers>(alloc: Global, arena: &mut A, call: Do) -> bool {
+    let answer = arena.answer(alloc, call);
+    answer.contains("Err") || answer.contains("false")
+}
+
+// An arena whose capacity is used up, or one with holes.
+fn begun<A: Answers>(alloc: Global, begin: Do) -> A {
+    let mut arena = A::fresh(alloc);
+    arena.answer(alloc, begin);
+    arena
+}
+
+// All that an arena shows: its links, its counter and room, and its slots, free ones too.
+type Shown = (String, String, String);
+
+fn shown<A: Answers>(alloc: Global, arena: &mut A) -> Shown {
+    let links = arena.answer(alloc, Do::Debug);
+    let room = arena.answer(alloc, Do::Room);
+    (links, room, arena.answer(alloc, Do::SlotsListed))
+}
+
+// Whether a call was refused at first, what the arena shows after it, and where the next link comes to. A refusal changes nothing,
+// and a second try is not refused.
+fn grown<A: Answers + Drop>(
+    rt: &impl Abort,
+    alloc: Global,
+    begin: Do,
+    call: Do,
+) -> (bool, Shown, String) {
+    let mut arena: A = begun(alloc, begin);
+    let before = shown(alloc, &mut arena);
+    let refused = is_refused(alloc, &mut arena, call);
+    if refused {
+        let after = shown(alloc, &mut arena);
+        same(rt, "nothing has changed", after, before);
+        let again = is_refused(alloc, &mut arena, call);
+        same(rt, "once more", again, false);
+    }
+    let after = shown(alloc, &mut arena);
+    (
+        refused,
+        after,
+        arena.answer(alloc, Do::InsertWithin(Kind::Disconnected, 7)),
+    )
+}
+
+// What asks for no memory is not refused, and the next growth is.
+fn next_is_refused<A: Answers + Drop>(rt: &impl Abort, alloc: Global) -> bool {
+    let mut arena: A = begun(alloc, Do::Fill);
+    for call in NO_GROWTHS {
+        let refused = is_refused(alloc, &mut arena, call);
+        same(rt, "no memory is asked for", refused, false);
+    }
+    is_refused(alloc, &mut arena, Do::Reserve(100))
+}
+
+// Calls on an arena that refuses each growth at first, and on one that does not.
+fn check_grown<A: Answers + Drop, B: Answers + Drop>(
+    rt: &impl Abort,
+    alloc: Global,
+    begin: Do,
+    calls: &[Do],
+) {
+    for call in calls {
+        let (_, shown, next) = grown::<B>(rt, alloc, begin, *call);
+        let got = grown::<A>(rt, alloc, begin, *call);
+        same(rt, "refused at first", got, (true, shown, next));
+    }
+}
+
+// Each growth. What makes an arena anew is refused each time.
+fn check_growths<A: Answers + Drop, B: Answers + Drop>(rt: &impl Abort, alloc: Global) {
+    check_grown::<A, B>(rt, alloc, Do::Fill, &GROWTHS);
+    check_grown::<A, B>(rt, alloc, Do::Dig, &GROWTHS_BESIDE_HOLES);
+    let mut arena: A = begun(alloc, Do::Dig);
+    for call in BIRTHS {
+        let first = is_refused(alloc, &mut arena, call);
+        let second = is_refused(alloc, &mut arena, call);
+        same(rt, "refused each time", (first, second), (true, true));
+    }
+    plays_all::<A>(rt, alloc, refused());
+    let next = next_is_refused::<A>(rt, alloc);
+    same(rt, "the next growth is refused", next, true);
+}
+
+// What two arenas show.
+type BothShown = (Shown, Shown);
+
+fn both_shown<A: Answers>(alloc: Global, source: &mut A, target: &mut A) -> BothShown {
+    let first = shown(alloc, source);
+    (first, shown(alloc, target))
+}
+
+// Whether a transfer of many links was refused at first, and what both arenas show after it. Both have holes. A refusal changes
+// neither, and a second try is not refused.
+fn carried<S: SlotStack<Item = Slot>>(rt: &impl Abort, alloc: Global) -> (bool, BothShown) {
+    let mut source: ChainsOver<S> = with_a_hole(alloc, 70);
+    let mut target: ChainsOver<S> = begun(alloc, Do::Dig);
+    let before = both_shown(alloc, &mut source, &mut target);
+    let refused = carry_over(&mut source, &mut target, generation(9)).is_err();
+    if refused {
+        let after = both_shown(alloc, &mut source, &mut target);
+        same(rt, "neither has changed", after, before);
+        let again = carry_over(&mut source, &mut target, generation(9));
+        same(rt, "once more", again, Ok(()));
+    }
+    (refused, both_shown(alloc, &mut source, &mut target))
+}
+
+// .. over a stack that refuses it at first, and over one that does not.
+fn check_carried<S: SlotStack<Item = Slot>>(rt: &impl Abort, alloc: Global) {
+    let (_, want) = carried::<S>(rt, alloc);
+    let got = carried::<Rationed<S>>(rt, alloc);
+    same(rt, "refused at first", got, (true, want));
+}
+
+// What is refused over any stack. Of a list of calls the first one is refused, and the second one is not.
+pub(super) fn check_all<S: SlotStack<Item = Slot>>(rt: &impl Abort, alloc: Global) {
+    check_growths::<ChainsOver<Rationed<S>>, ChainsOver<S>>(rt, alloc);
+    check_carried::<S>(rt, alloc);
+    check_refused_list::<Rationed<S>>(rt, alloc);
+}
+
+// Each call that may ask for memory. Wherever one request of all is refused, nothing has changed then, and a second try is not.
+fn check_bearing<A: Answers + Drop>(rt: &impl Abort, alloc: Global, begin: Do) {
+    for calls in [&GROWTHS[..], &BIRTHS[..], &LISTS[..]] {
+        for call in calls {
+            let _ = grown::<A>(rt, alloc, begin, *call);
+        }
+    }
+}
+
+// .. at a stack.
+fn check_bearing_links<S: SlotStack<Item = Slot>>(rt: &impl Abort, alloc: Global) {
+    for begin in [Do::Fill, Do::Dig] {
+        check_bearing::<ChainsOver<S>>(rt, alloc, begin);
+    }
+    let _ = carried::<S>(rt, alloc);
+}
+
+// .. and of a copy to a plain arena, which is not refused twice.
+fn check_bearing_copies<S: SlotStack<Item = Slot>, R: SlotStack<Item = Bare>>(
+    rt: &impl Abort,
+    alloc: Global,
+) {
+    check_bearing_links::<S>(rt, alloc);
+    let mut target: Arena<ToolPtr, u32, R> = fresh_plain(alloc);
+    let told = copied_twice::<S, R>(alloc, &mut target);
+    same(rt, "a copy", told.contains("(Ok(())"), true);
+}
+
+#[test]
+fn a_request_may_be_refused(rt: HostRuntime) {
+    check_bearing_copies::<HeapStack<Slot>, HeapStack<Bare>>(&rt, rt.alloc());
+    check_bearing_links::<LimitedStack<Slot>>(&rt, rt.alloc());
+    check_bearing_links::<ChunkStack<Slot>>(&rt, rt.alloc());
+}
+
+#[test]
+fn what_asks_for_no_memory(rt: HostRuntime) {
+    let _ = next_is_refused::<ChainsOver<HeapStack<Slot>>>(&rt, rt.alloc());
+}

@@ -1,0 +1,171 @@
+//! Values that tell how many of them there are, and how often they were cloned: none is lost, and none is cloned twice.
+
+use super::setup::SlotOf;
+use super::{add_plain, at, chained, fresh, fresh_plain, put, remove, same};
+use arena_base::{Arena, ArenaSlot, ArenaTrait};
+use arena_ptr::{ChunkStack, HeapStack, LimitedStack, PtrKey, SlotStack, ToolPtr};
+use chain_arena::{Call, ChainArena, ChainArenaTrait, LinkInsertKind, LinkNoGen, apply};
+use std::alloc::{AllocError, Global};
+use std::cell::Cell;
+use std::marker::Model;
+use std::process::Abort;
+use std::rc::Rc;
+
+// A value with a number that counts how often it was cloned, with its clones. Of the number 2 a clone is refused. Contracts see
+// neither, so all such values are equal.
+#[derive(Drop)]
+struct Counted {
+    number: u32,
+    clones: Rc<Cell<u32>>,
+}
+
+impl Model for Counted {
+    ghost use Rattle.std.specs.Prelude.{⊤};
+
+    ghost Value = { ⊤ };
+
+    ghost view = { λ _. tt };
+}
+
+impl Clone for Counted {
+    ghost use Rattle.std.specs.Prelude.{◌≡◌};
+
+    ghost is_clone = { λ x y. y ≡ x };
+
+    fn clone(&self) -> Result<Counted, AllocError> {
+        if self.number == 2 {
+            return Err(AllocError);
+        }
+        let clones = self.clones.clone()?;
+        clones.set(clones.get().saturating_add(1));
+        Ok(Counted {
+            number: self.number,
+            clones,
+        })
+    }
+}
+
+type ValuesOver<S> = ChainArena<ToolPtr, Counted, S>;
+
+// No clone yet. What is counted here is one more than there are values.
+fn no_clones(rt: &impl Abort, alloc: Global) -> Rc<Cell<u32>> {
+    let clones = Rc::new(alloc, Cell::new(0)).ok();
+    clones.expect(rt, "memory")
+}
+
+// A value with a number.
+fn value(rt: &impl Abort, clones: &Rc<Cell<u32>>, number: u32) -> Counted {
+    let clones = clones.clone().expect(rt, "one more");
+    Counted { number, clones }
+}
+
+// Lone links of values with these numbers.
+fn lone_values<S: SlotStack<Item = SlotOf<Counted>>>(
+    rt: &impl Abort,
+    alloc: Global,
+    clones: &Rc<Cell<u32>>,
+    numbers: &[u32],
+) -> ValuesOver<S> {
+    let mut arena: ValuesOver<S> = fresh(alloc);
+    for number in numbers {
+        let value = value(rt, clones, *number);
+        put(&mut arena, LinkInsertKind::Disconnected, value);
+    }
+    arena
+}
+
+// Ties three links, and drains them by a call as a value, which takes so many one by one. Named at any pointer and value, the
+// types cost its proof less.
+fn tie_and_drain<P: PtrKey, T: Drop, S: SlotStack<Item = ArenaSlot<P, LinkNoGen<P, T>>>>(
+    arena: &mut ChainArena<P, T, S>,
+    p: P,
+    q: P,
+    r: P,
+    take: usize,
+) -> usize {
+    arena.connect(p, q);
+    arena.connect(q, r);
+    drop(apply(arena, Call::DrainChain { p, take }));
+    arena.len()
+}
+
+// Three links in a row and a lone one, of which the row is drained: how many links are left, and what is counted.
+fn left_by_a_drain<S: SlotStack<Item = SlotOf<Counted>>>(
+    rt: &impl Abort,
+    alloc: Global,
+    take: usize,
+) -> (usize, usize) {
+    let clones = no_clones(rt, alloc);
+    let mut arena: ValuesOver<S> = lone_values(rt, alloc, &clones, &[0, 0, 0, 0]);
+    let left = tie_and_drain(&mut arena, at((1, 2)), at((2, 2)), at((3, 2)), take);
+    (left, Rc::strong_count(&clones))
+}
+
+// Whether a plain arena of two links is refused, of which the first names this index as the one after it, and what is counted
+// then.
+fn left_by_a_refusal<S: SlotStack<Item = SlotOf<Counted>>>(
+    rt: &impl Abort,
+    alloc: Global,
+    next: u32,
+) -> (bool, usize) {
+    let clones = no_clones(rt, alloc);
+    let mut arena: Arena<ToolPtr, LinkNoGen<ToolPtr, Counted>, S> = fresh_plain(alloc);
+    for next in [next, 0] {
+        add_plain(&mut arena, (0, next), value(rt, &clones, 0));
+    }
+    let made = chained(arena);
+    (made.is_err(), Rc::strong_count(&clones))
+}
+
+// A clone of an arena, if no value refuses, and how many links it has.
+fn cloned<S: SlotStack<Item = SlotOf<Counted>>>(
+    alloc: Global,
+    arena: &ValuesOver<S>,
+) -> (usize, Option<ValuesOver<S>>) {
+    match arena.clone(alloc) {
+        Ok(copy) => (copy.len(), Some(copy)),
+        Err(_) => (0, None),
+    }
+}
+
+// Of the values 1, 2 and 3 a clone is refused at the second; once it is removed there is one. Tells each time how many links
+// the clone has, how often values were cloned by then, and what is counted while the clone is there.
+fn cloned_once_more<S: SlotStack<Item = SlotOf<Counted>>>(
+    rt: &impl Abort,
+    alloc: Global,
+) -> [(usize, u32, usize); 2] {
+    let clones = no_clones(rt, alloc);
+    let mut arena: ValuesOver<S> = lone_values(rt, alloc, &clones, &[1, 2, 3]);
+    let refused = (
+        cloned(alloc, &arena).0,
+        clones.get(),
+        Rc::strong_count(&clones),
+    );
+    remove(&mut arena, (2, 2));
+    let (count, copy) = cloned(alloc, &arena);
+    let made = (count, clones.get(), Rc::strong_count(&clones));
+    drop(copy);
+    [refused, made]
+}
+
+// After a drain there is the value of the lone link. Of an arena that is refused, no value is left. A clone clones each value
+// once, and what was cloned before a refusal is dropped.
+fn check_counts<S: SlotStack<Item = SlotOf<Counted>>>(rt: &impl Abort, alloc: Global) {
+    for take in [0, 1, 5] {
+        let left = left_by_a_drain::<S>(rt, alloc, take);
+        same(rt, "links and values", left, (1, 2));
+    }
+    for (next, want) in [(2, (true, 1)), (0, (false, 3))] {
+        let left = left_by_a_refusal::<S>(rt, alloc, next);
+        same(rt, "refused, and values", left, want);
+    }
+    let made = cloned_once_more::<S>(rt, alloc);
+    same(rt, "a clone", made, [(0, 1, 4), (2, 3, 5)]);
+}
+
+#[test]
+fn values_are_dropped_and_cloned_once(rt: HostRuntime) {
+    check_counts::<HeapStack<SlotOf<Counted>>>(&rt, rt.alloc());
+    check_counts::<LimitedStack<SlotOf<Counted>>>(&rt, rt.alloc());
+    check_counts::<ChunkStack<SlotOf<Counted>>>(&rt, rt.alloc());
+}

@@ -1,0 +1,97 @@
+-- An entry that was removed from any arena of links, or none: what is gone, what stays, and what becomes of the links.
+use Rattle.std.proofs.Common.{◌≡◌, ◌≢◌, ℕ, suc, ◌+◌, List, [], ◌∷◌, length, Bool, true, false, Option, None, Some, refl, sym, ap, ◌∙◌, subst, arith}
+use Rattle.std.specs.Prelude.{◌↔◌, is_some, cond, ◌==◌, IsSome, IfSome, OnSome, IfNone}
+use Rattle.std.specs.Option.{option_map}
+use Rattle.chain_laws.specs.Chains.{Shown, Agrees}
+use Rattle.chain_laws.specs.Removals.{removed, Removes}
+use Rattle.chain_laws.proofs.RemovalLemmas.Chains.{removed_removes}
+use Rattle.arena_base.specs.Arena.{IsValid}
+use Rattle.arena_base.specs.Entries.{Seen, count, found, without, RisesFrom, entry_removed}
+use Rattle.arena_base.proofs.EntrySearchLemmas.{found-gone, found-kept}
+
+module _ {Gen T : Type 0} where
+  -- what stands after a removal: nothing at its index, and all else as it was
+  module _ (entry after : ℕ → Option (Gen × T)) (es fs : List ((ℕ × Gen) × T)) (n : ℕ) (rises : RisesFrom 1 es) (was : (i : ℕ) → found i es ≡ entry i) (finds : (i : ℕ) → found i fs ≡ after i) (gone : fs ≡ without n es) where
+    pub entry_gone : after n ≡ None
+    entry_gone = sym (finds n) ∙ (ap (found n) gone ∙ found-gone n 1 es rises)
+
+    pub entry_kept : (i : ℕ) → i ≢ n → after i ≡ entry i
+    entry_kept i other = sym (finds i) ∙ (ap (found i) gone ∙ (found-kept i n es other ∙ was i))
+
+  -- a removal leaves one entry less
+  pub one_less : (i : ℕ) (es : List ((ℕ × Gen) × T)) → is_some (found i es) ≡ true → suc (length (without i es)) ≡ length es
+  one_less i [] some = absurd (let h = some in cc)
+  one_less i (e ∷ es) some = by (e.0.0 == i) refl some (one_less i es)
+    where
+      by : (b : Bool) → (e.0.0 == i) ≡ b → is_some (cond b (Some (e.0.1, e.1)) (found i es)) ≡ true → (is_some (found i es) ≡ true → suc (length (without i es)) ≡ length es)
+          → suc (length (cond b es (e ∷ without i es))) ≡ suc (length es)
+      by true same some rest = refl
+      by false other some rest = ap suc (rest some)
+
+-- the same entries show the same at each index
+pub same_entry : {A Gen T : Type 0} (entries : A → List ((ℕ × Gen) × T)) (entry : A → ℕ → Option (Gen × T)) → ((a : A) (i : ℕ) → found i (entries a) ≡ entry a i) → (a b : A) → entries b ≡ entries a → entry b ≡ entry a
+same_entry entries entry looked a b same = λ k i. (sym (looked b i) ∙ (ap (found i) same ∙ looked a i)) k
+
+module _ {A Gen T : Type 0} (seen : A → Seen Gen T) (entry : A → ℕ → Option (Gen × T)) (links : A → Shown) where
+  -- the entry of a pointer has gone
+  pub record HasGone (old new : A) (p : ℕ × Gen) : Type 0 where
+    pub stood : IsValid (entry old) p
+    pub gone : entry new p.0 ≡ None
+    pub kept : (i : ℕ) → i ≢ p.0 → entry new i ≡ entry old i
+    pub shows : links new ≡ removed (links old) p.0
+    pub chains : Removes (links old) (links new) p.0
+    pub less : count (seen old) ≡ count (seen new) + 1
+
+  -- a removal answers the value of its pointer, whose entry has gone then, or none, and nothing has changed
+  pub record TakesEntry (old new : A) (p : ℕ × Gen) (o : Option T) : Type 0 where
+    pub valid : IsValid (entry old) p → is_some o ≡ true
+    pub value : (v : IsValid (entry old) p) → o ≡ Some v.value
+    pub some : is_some o ≡ true → HasGone old new p
+    pub same : o ≡ None → new ≡ old
+
+  pub removal : ((a : A) → RisesFrom 1 (seen a).entries) → ((a : A) (i : ℕ) → found i (seen a).entries ≡ entry a i) → (old new : A) (p : ℕ × Gen) (following : Gen → Gen) (o : Option T)
+      → IsSome o ↔ IsValid (entry old) p → (IsValid (entry old) p → (o ≡ option_map (λ e. e.1) (entry old p.0)) × (seen new ≡ entry_removed following (seen old) p.0))
+      → ((IsValid (entry old) p → ⊥) → (o ≡ None) × (new ≡ old)) → (IsValid (entry old) p → links new ≡ removed (links old) p.0) → Agrees (links old) → TakesEntry old new p o
+  removal rises looked old new p following o some valid invalid passed agrees = record {
+    valid = some.1;
+    value = λ v. (valid v).0 ∙ ap (option_map (λ (e : Gen × T). e.1)) v.stands;
+    some = λ is. has_gone (some.0 is);
+    same = λ none. (invalid (λ v. let is = some.1 v in let not = ap is_some none in let both = sym is ∙ not in cc)).1;
+  }
+    where
+      has_gone : IsValid (entry old) p → HasGone old new p
+      has_gone v =
+          let entries = ap (λ (s : Seen Gen T). s.entries) (valid v).1 in
+          record {
+            stood = v;
+            gone = entry_gone (entry old) (entry new) (seen old).entries (seen new).entries p.0 (rises old) (looked old) (looked new) entries;
+            kept = entry_kept (entry old) (entry new) (seen old).entries (seen new).entries p.0 (rises old) (looked old) (looked new) entries;
+            shows = passed v;
+            chains = subst (λ (l : Shown). Removes (links old) l p.0) (sym (passed v)) (removed_removes (links old) p.0 agrees);
+            less = let one = one_less p.0 (seen old).entries (ap is_some (looked old p.0) ∙ ap is_some v.stands) in let many = ap length entries in omega arith;
+          }
+
+  -- what follows of a removal, whichever it answers
+  module _ (old new : A) (p : ℕ × Gen) where
+    pub value_told : (o : Option T) → TakesEntry old new p o → IfSome o (λ t. entry old p.0 ≡ Some (p.1, t))
+    value_told None r = tt
+    value_told (Some t) r =
+        let v = (r.some refl).stood in
+        let same : t ≡ v.value = let h = r.value v in cc in
+        subst (λ (u : T). entry old p.0 ≡ Some (p.1, u)) (sym same) v.stands
+
+    pub gone_of : (o : Option T) → TakesEntry old new p o → OnSome o (entry new p.0 ≡ None)
+    gone_of None r = tt
+    gone_of (Some t) r = (r.some refl).gone
+
+    pub less_of : (o : Option T) → TakesEntry old new p o → OnSome o (count (seen old) ≡ count (seen new) + 1)
+    less_of None r = tt
+    less_of (Some t) r = (r.some refl).less
+
+    pub same_of : (o : Option T) → TakesEntry old new p o → IfNone o (new ≡ old)
+    same_of None r = r.same refl
+    same_of (Some t) r = tt
+
+    pub kept_of : (o : Option T) → TakesEntry old new p o → (i : ℕ) → i ≢ p.0 → entry new i ≡ entry old i
+    kept_of None r i other = ap (λ (a : A). entry a i) (r.same refl)
+    kept_of (Some t) r i other = (r.some refl).kept i other

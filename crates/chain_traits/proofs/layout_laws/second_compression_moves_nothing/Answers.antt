@@ -1,6 +1,0 @@
--- A second canonical layout has the same order, which is that of the indexes.
-use Rattle.chain_traits.proofs.LayoutLemmas.{moves_nothing}
-use Rattle.chain_traits.proofs.layout_laws.second_compression_moves_nothing.Goals as goal
-
-pub returns : goal.returns
-returns g c = moves_nothing

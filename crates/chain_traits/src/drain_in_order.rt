@@ -1,0 +1,156 @@
+// An arena of links that is known by its traits alone, whose chains are taken out one after another.
+ghost use Rattle.std.specs.Prelude.{◌≡◌, ◌≢◌, ℕ, [], IsSome, IfSome, IfNone, None, Some};
+ghost use Rattle.std.specs.Option.{option_map};
+ghost use Rattle.arena_ptr.specs.Invalidation.{value_in, is_overflow};
+ghost use Rattle.chain_laws.specs.Chains.{Agrees, prev_of, next_of};
+ghost use Rattle.chain_laws.specs.Removals.{removed};
+ghost use Rattle.chain_laws.specs.Walks.{going_on as goes_on};
+ghost use Rattle.chain_laws.specs.ChainStart.{IsStart};
+ghost use Rattle.arena_base.specs.Entries.{entry_removed, RisesFrom};
+ghost use Rattle.arena_base.specs.declared.cursor.Look.{Look};
+ghost use Rattle.chain_traits.specs.DrainOrder.{IsNextChain};
+
+use crate::chain_traits::ChainArenaTrait;
+use arena_base::{Advancer, excluded, invalidated};
+use arena_ptr::{InvalidationOption, InxKey, PtrKey};
+use chain_links::walk_direction::going_on;
+
+// The index of the link before the one at an index.
+fn before<Q: PtrKey, U: Drop, A: ChainArenaTrait<Q, U>>(source: &A, i: Q::Inx) -> Option<Q::Inx>
+    ensures { option_map Q.Inx.number result ≡ prev_of (A.interlinks source.now) (Q.Inx.number i) }
+{
+    match source.get_inx_link_no_gen(i) {
+        Some((_, link)) => link.prev(),
+        None => None,
+    }
+}
+
+// The link that the chain of one is written from: the start of a linear one, and itself in a cyclic one.
+fn start_of<Q: PtrKey, U: Drop, A: ChainArenaTrait<Q, U>>(source: &A, i: Q::Inx) -> Q::Inx
+    requires agree { Agrees (A.interlinks source.now) }
+    requires some { IsSome (A.entry source.now (Q.Inx.number i)) }
+    ensures start { IsStart (A.interlinks source.now) (Q.Inx.number i) (Q.Inx.number result) }
+    ensures some { IsSome (A.entry source.now (Q.Inx.number result)) }
+{
+    let mut at = i;
+    for step in 0..source.len() {
+        match before(source, at) {
+            Some(k) => {
+                if k.is_same(i) {
+                    return i;
+                }
+                at = k;
+            }
+            None => return at,
+        }
+    }
+    excluded!()
+}
+
+// The next chain of a source: the link that it is written from, and whether it is cyclic.
+fn next_chain<Q: PtrKey, U: Drop, A: ChainArenaTrait<Q, U>>(
+    source: &A,
+    advancer: &mut A::PtrAdvancer,
+) -> (Q::Inx, bool)
+    requires agree { Agrees (A.interlinks source.now) }
+    requires low { (from : ℕ) × (A.looks advancer.old ≡ Look.Up from) × RisesFrom from (A.seen source.now).entries }
+    requires some { (A.seen source.now).entries ≢ [] }
+    ensures next { IsNextChain (A.seen source.now) (A.interlinks source.now) (Q.Inx.number result.0) result.1 (A.looks advancer.new) }
+    ensures some { IsSome (A.entry source.now (Q.Inx.number result.0)) }
+{
+    match advancer.advance(source) {
+        Some(q) => {
+            let start = start_of(source, q.inx());
+            (start, before(source, start).is_some())
+        }
+        None => excluded!(),
+    }
+}
+
+// The next link to take: the one that a chain goes on to, or else that which the next chain is written from; with whether
+// its chain is cyclic, and the ends of what is laid of it.
+fn next_link<Q: PtrKey, U: Drop, A: ChainArenaTrait<Q, U>, I: Copy + Drop>(
+    source: &A,
+    advancer: &mut A::PtrAdvancer,
+    on: Option<Q::Inx>,
+    ring: bool,
+    ends: Option<(I, I)>,
+) -> (Q::Inx, bool, Option<(I, I)>)
+    requires agree { Agrees (A.interlinks source.now) }
+    requires low { on ≡ None → (from : ℕ) × (A.looks advancer.old ≡ Look.Up from) × RisesFrom from (A.seen source.now).entries }
+    requires some { on ≡ None → (A.seen source.now).entries ≢ [] }
+    requires stands { IfSome on (λ i. IsSome (A.entry source.now (Q.Inx.number i))) }
+    ensures goes_on { IfSome on (λ i. (result ≡ (i, ring, ends)) × (A.looks advancer.new ≡ A.looks advancer.old)) }
+    ensures begins { IfNone on (IsNextChain (A.seen source.now) (A.interlinks source.now) (Q.Inx.number result.0) result.1 (A.looks advancer.new) × (result.2 ≡ None)) }
+    ensures some { IsSome (A.entry source.now (Q.Inx.number result.0)) }
+{
+    match on {
+        Some(i) => (i, ring, ends),
+        None => {
+            let (start, ring) = next_chain(source, advancer);
+            (start, ring, None)
+        }
+    }
+}
+
+/// Takes the next link out: the one that a chain goes on to, or else that which the next chain is written from. Answers its
+/// pointer, its value, where it is told whether the counter overflowed, the index of the link after it, unless that is
+/// itself, whether its chain is cyclic, and the ends of what is laid of it.
+pub fn take_next<Q: PtrKey, U: Drop, A: ChainArenaTrait<Q, U>, I: Copy + Drop>(
+    source: &mut A,
+    advancer: &mut A::PtrAdvancer,
+    on: Option<Q::Inx>,
+    ring: bool,
+    ends: Option<(I, I)>,
+) -> (
+    Q,
+    InvalidationOption<U>,
+    Option<Q::Inx>,
+    bool,
+    Option<(I, I)>,
+)
+    requires agree { Agrees (A.interlinks source.old) }
+    requires low { on ≡ None → (from : ℕ) × (A.looks advancer.old ≡ Look.Up from) × RisesFrom from (A.seen source.old).entries }
+    requires some { on ≡ None → (A.seen source.old).entries ≢ [] }
+    requires stands { IfSome on (λ i. IsSome (A.entry source.old (Q.Inx.number i))) }
+    ensures goes_on { IfSome on (λ i. ((Q.key result.0).0 ≡ Q.Inx.number i) × (result.3 ≡ ring) × (result.4 ≡ ends) × (A.looks advancer.new ≡ A.looks advancer.old)) }
+    ensures begins { IfNone on (IsNextChain (A.seen source.old) (A.interlinks source.old) (Q.key result.0).0 result.3 (A.looks advancer.new) × (result.4 ≡ None)) }
+    ensures stood { A.entry source.old (Q.key result.0).0 ≡ Some ((Q.key result.0).1, value_in result.1) }
+    ensures overflow { IfSome (A.seen source.old).counter (λ g. is_overflow result.1 ≡ Q.Gen.wraps g) }
+    ensures next { option_map Q.Inx.number result.2 ≡ goes_on (Q.key result.0).0 (next_of (A.interlinks source.old) (Q.key result.0).0) }
+    ensures seen { A.seen source.new ≡ entry_removed Q.Gen.following (A.seen source.old) (Q.key result.0).0 }
+    ensures links { A.interlinks source.new ≡ removed (A.interlinks source.old) (Q.key result.0).0 }
+{
+    let (i, cyclic, laid) = next_link::<Q, U, A, I>(source, advancer, on, ring, ends);
+    let (q, value, next) = take_link(source, i);
+    (q, value, next, cyclic, laid)
+}
+
+// Takes the link at an index out, and answers its pointer, its value, where it is told whether the counter overflowed, and
+// the index of the link after it, unless that is itself.
+fn take_link<Q: PtrKey, U: Drop, A: ChainArenaTrait<Q, U>>(
+    source: &mut A,
+    i: Q::Inx,
+) -> (Q, InvalidationOption<U>, Option<Q::Inx>)
+    requires { IsSome (A.entry source.old (Q.Inx.number i)) }
+    ensures stood { A.entry source.old (Q.Inx.number i) ≡ Some ((Q.key result.0).1, value_in result.1) }
+    ensures index { (Q.key result.0).0 ≡ Q.Inx.number i }
+    ensures overflow { IfSome (A.seen source.old).counter (λ g. is_overflow result.1 ≡ Q.Gen.wraps g) }
+    ensures next { option_map Q.Inx.number result.2 ≡ goes_on (Q.Inx.number i) (next_of (A.interlinks source.old) (Q.Inx.number i)) }
+    ensures seen { A.seen source.new ≡ entry_removed Q.Gen.following (A.seen source.old) (Q.Inx.number i) }
+    ensures links { A.interlinks source.new ≡ removed (A.interlinks source.old) (Q.Inx.number i) }
+    ensures agreed { Agrees (A.interlinks source.old) }
+{
+    let (entry, overflow) = source.remove_inx_link_no_gen(i).overflowing();
+    match entry {
+        Some((generation, link)) => {
+            let next = going_on(i, link.next());
+            (
+                Q::_from_raw(i, generation),
+                invalidated(overflow, link.t),
+                next,
+            )
+        }
+        None => excluded!(),
+    }
+}

@@ -1,0 +1,338 @@
+//! Readers, writers and memory that fail.
+
+ghost use Rattle.std.specs.Prelude.{◌≤◌};
+
+use super::{LinksOver, SAMPLE, Slot, same};
+use arena_base::ArenaTrait;
+use arena_ptr::{ChunkStack, HeapStack, LimitedStack, SlotStack};
+use chain_arena::{ChainArenaTrait, LinkInsertKind};
+use chain_commands::{ToolError, run, run_on};
+use std::alloc::Global;
+use std::io;
+use std::io::{ErrorKind, Read, Write};
+use std::process::Abort;
+
+/// Gives its bytes, a few at a time, then fails once, and has later ones for who reads on.
+#[derive(Drop)]
+struct FailingReader<'a> {
+    left: &'a [u8],
+    later: &'a [u8],
+    step: usize,
+    fails_with: Option<ErrorKind>,
+}
+
+impl Read for FailingReader<'_> {
+    fn read(&mut self, buf: &mut [u8]) -> io::Result<usize> {
+        let n = self.step.min(buf.len()).min(self.left.len());
+        if n == 0 {
+            if let Some(kind) = self.fails_with.take() {
+                self.left = self.later;
+                return Err(io::Error::from(kind));
+            }
+        }
+        let (now, next) = self.left.split_at(n);
+        buf[..n].copy_from_slice(now);
+        self.left = next;
+        Ok(n)
+    }
+}
+
+/// A text, and what the program writes by the end of each line.
+const READ: &str = "add alone 1\nlen\nadd alone 25\nlen\n";
+
+const WRITTEN: [&str; 5] = [
+    "",
+    "at 1.2\n",
+    "at 1.2\ncount 1\n",
+    "at 1.2\ncount 1\nat 2.2\n",
+    "at 1.2\ncount 1\nat 2.2\ncount 2\n",
+];
+
+/// Runs the program on a reader that fails once, after so many bytes: whether it ends for that, whether the whole lines before it
+/// are answered and no other line is carried out, and whether nothing more is read.
+fn ends_at_the_fault<S: SlotStack<Item = Slot>>(
+    alloc: Global,
+    kind: ErrorKind,
+    step: usize,
+    bytes: usize,
+) -> (bool, bool, bool) {
+    let (left, later) = READ.as_bytes().split_at(bytes.min(READ.len()));
+    let mut reader = FailingReader {
+        left,
+        later,
+        step,
+        fails_with: Some(kind),
+    };
+    let mut written = Vec::new(alloc);
+    let mut arena = LinksOver::<S>::new(alloc);
+    let result = run_on(alloc, &mut arena, &mut reader, &mut written);
+    (
+        result == Err(ToolError::Read),
+        are_answered(left, written.as_slice(), arena.len()),
+        reader.left == later,
+    )
+}
+
+/// Whether what was written and the number of links are those of the whole lines that were read.
+fn are_answered(read: &[u8], written: &[u8], links: usize) -> bool {
+    let lines = read.iter().filter(|b| **b == b'\n').count();
+    let want = WRITTEN.get(lines).copied().unwrap_or("no such line");
+    written == want.as_bytes() && links == lines.saturating_add(1) / 2
+}
+
+/// Readers of each kind of fault, after each number of bytes.
+pub(super) fn check_readers<S: SlotStack<Item = Slot>>(rt: &impl Abort, alloc: Global) {
+    for kind in [
+        ErrorKind::Other,
+        ErrorKind::Interrupted,
+        ErrorKind::UnexpectedEof,
+    ] {
+        for step in [1, 2, 7, 100] {
+            for bytes in 0..34 {
+                let ended = ends_at_the_fault::<S>(alloc, kind, step, bytes);
+                assert!(rt; ended == (true, true, true));
+            }
+        }
+    }
+}
+
+/// Runs the program on a reader that gives its bytes one by one.
+#[test]
+fn a_reader_of_single_bytes(rt: HostRuntime) {
+    let (input, output) = SAMPLE;
+    let mut reader = FailingReader {
+        left: input.as_bytes(),
+        later: "".as_bytes(),
+        step: 1,
+        fails_with: None,
+    };
+    let mut written = Vec::new(rt.alloc());
+    let result = run(rt.alloc(), &mut reader, &mut written);
+    same(
+        &rt,
+        "each byte is read",
+        (result, reader.left.len()),
+        (Ok(()), 0),
+    );
+    same(&rt, "the sample", written.as_slice(), output.as_bytes());
+}
+
+/// Takes a few bytes at a time, up to a limit, then fails once, and has room again for who writes on. So do its flushes.
+/// Each second write is interrupted.
+#[derive(Drop)]
+struct FailingWriter {
+    held: Vec<u8>,
+    step: usize,
+    room: usize,
+    is_interrupted: bool,
+    fails_with: Option<ErrorKind>,
+    flushes: usize,
+}
+
+impl Write for FailingWriter {
+    fn write(&mut self, buf: &[u8]) -> io::Result<usize> {
+        self.is_interrupted = !self.is_interrupted;
+        if self.is_interrupted {
+            return Err(io::Error::from(ErrorKind::Interrupted));
+        }
+        let n = self.step.min(buf.len()).min(self.room);
+        if n == 0 {
+            self.room = 1000;
+            return match self.fails_with {
+                Some(kind) => Err(io::Error::from(kind)),
+                None => Ok(0),
+            };
+        }
+        let (now, _) = buf.split_at(n);
+        self.held.extend_from_slice(now)?;
+        self.room -= n;
+        Ok(n)
+    }
+
+    fn flush(&mut self) -> io::Result<()> {
+        if self.flushes == 0 {
+            self.flushes = 1000;
+            return Err(io::Error::from(ErrorKind::Other));
+        }
+        self.flushes -= 1;
+        Ok(())
+    }
+}
+
+fn failing_writer(
+    alloc: Global,
+    step: usize,
+    room: usize,
+    fails_with: Option<ErrorKind>,
+) -> FailingWriter {
+    FailingWriter {
+        held: Vec::new(alloc),
+        step,
+        room,
+        is_interrupted: false,
+        fails_with,
+        flushes: 1000,
+    }
+}
+
+/// Runs the program on a writer: how that ends, and how many links there are then.
+fn run_to<S: SlotStack<Item = Slot>>(
+    alloc: Global,
+    writer: &mut FailingWriter,
+) -> (Result<(), ToolError>, usize) {
+    let mut reader = "add alone 1\nadd alone 2\nadd alone 3\n".as_bytes();
+    let mut arena = LinksOver::<S>::new(alloc);
+    let result = run_on(alloc, &mut arena, &mut reader, writer);
+    (result, arena.len())
+}
+
+/// Whether the writer has what it took of the lines, where it has so much room, and no more.
+fn is_taken(held: &[u8], room: usize) -> bool {
+    let output = "at 1.2\nat 2.2\nat 3.2\n".as_bytes();
+    held == &output[..room.min(output.len())]
+}
+
+/// Runs the program on a writer that fails once, when it has no room: whether it ends for that, whether the writer has what it took
+/// before and no more, and whether the line of the last answer is carried out, and none behind it.
+fn ends_at_the_limit<S: SlotStack<Item = Slot>>(
+    alloc: Global,
+    fails_with: Option<ErrorKind>,
+    step: usize,
+    room: usize,
+) -> (bool, bool, bool) {
+    let mut writer = failing_writer(alloc, step, room, fails_with);
+    let (result, links) = run_to::<S>(alloc, &mut writer);
+    let is_taken = is_taken(writer.held.as_slice(), room);
+    (
+        result == Err(ToolError::Write),
+        is_taken,
+        links == room / 7 + 1,
+    )
+}
+
+/// Writers of each kind of fault, with each room.
+pub(super) fn check_writers<S: SlotStack<Item = Slot>>(rt: &impl Abort, alloc: Global) {
+    for fails_with in [None, Some(ErrorKind::Other), Some(ErrorKind::WriteZero)] {
+        for step in [1, 3, 100] {
+            for room in 0..21 {
+                let ended = ends_at_the_limit::<S>(alloc, fails_with, step, room);
+                assert!(rt; ended == (true, true, true));
+            }
+        }
+    }
+}
+
+/// Runs the program on a writer that takes single bytes and of which one flush fails, if so many are made: whether it ends for that,
+/// or else well, and whether the writer has these lines.
+fn ends_at_the_flush(alloc: Global, flushes: usize, fails: bool, output: &str) -> (bool, bool) {
+    let mut reader = "add alone 1\n".as_bytes();
+    let mut writer = failing_writer(alloc, 1, 1000, None);
+    writer.flushes = flushes;
+    let result = run(alloc, &mut reader, &mut writer);
+    let want = if fails { Err(ToolError::Write) } else { Ok(()) };
+    (result == want, writer.held.as_slice() == output.as_bytes())
+}
+
+#[test]
+fn a_flush_that_fails(rt: HostRuntime) {
+    for (flushes, fails, output) in [
+        (0, true, ""),
+        (1, true, "at 1.2\n"),
+        (2, true, "at 1.2\n"),
+        (1000, false, "at 1.2\n"),
+    ] {
+        let ended = ends_at_the_flush(rt.alloc(), flushes, fails, output);
+        assert!(rt; ended == (true, true));
+    }
+}
+
+/// Carries out `moves` on an arena of one link, where memory may be refused (`tools/test_alloc_failures` refuses each request in turn):
+/// whether it is answered, or the link keeps its pointer and nothing is written.
+fn moves_or_keeps<S: SlotStack<Item = Slot>>(alloc: Global) -> bool {
+    let mut arena = LinksOver::<S>::new(alloc);
+    let Ok(p) = arena.insert_reallocating(LinkInsertKind::Disconnected, 5) else {
+        return false;
+    };
+    let Ok(mut written) = Vec::with_capacity(alloc, 100) else {
+        return false;
+    };
+    let result = run_on(
+        alloc,
+        &mut arena,
+        &mut "moves keep\n".as_bytes(),
+        &mut written,
+    );
+    let answer = if result.is_ok() {
+        "moved 1 1.2>1.3\n"
+    } else {
+        ""
+    };
+    written.as_slice() == answer.as_bytes() && arena.contains(p) == result.is_err()
+}
+
+#[test]
+fn moves_or_nothing(rt: HostRuntime) {
+    assert!(rt; moves_or_keeps::<HeapStack<Slot>>(rt.alloc()));
+}
+
+/// Whether what was written answers the first lines, each as is wanted up to the first that was refused memory, from which on the
+/// others may differ.
+fn is_beginning(written: &str, want: &str) -> bool {
+    let before = match written.split_once("refused memory\n") {
+        Some((before, _)) => before,
+        None => written,
+    };
+    want.starts_with(before) && (before.is_empty() || before.ends_with('\n'))
+}
+
+/// Whether a run on the sample, where memory may be refused (`tools/test_alloc_failures` refuses each request in turn), has read to the end and
+/// answered each line, or ended for want of memory, having answered the first of them.
+fn is_sample(ended: Result<(), ToolError>, unread: usize, answered: &[u8]) -> bool {
+    let (_, output) = SAMPLE;
+    let Ok(answered) = str::from_utf8(answered) else {
+        return false;
+    };
+    let is_so = match ended {
+        Ok(()) => unread == 0 && answered.split('\n').count() == 12,
+        Err(why) => why == ToolError::Memory,
+    };
+    is_so && is_beginning(answered, output)
+}
+
+/// How many bytes were written, of so many for which there was room.
+fn written_of(room: usize, left: usize) -> usize
+    ensures { result ≤ room }
+{
+    room.saturating_sub(left)
+}
+
+/// .. on an arena over any stack, ...
+fn sample_on<S: SlotStack<Item = Slot>>(alloc: Global) -> bool {
+    let (input, _) = SAMPLE;
+    let mut reader = input.as_bytes();
+    let mut written = [0u8; 200];
+    let mut room = written.as_mut_slice();
+    let mut arena = LinksOver::<S>::new(alloc);
+    let result = run_on(alloc, &mut arena, &mut reader, &mut room);
+    let count = written_of(200, room.len());
+    is_sample(result, reader.len(), &written[..count])
+}
+
+/// .. and on the program's own.
+fn sample(alloc: Global) -> bool {
+    let (input, _) = SAMPLE;
+    let mut reader = input.as_bytes();
+    let mut written = [0u8; 200];
+    let mut room = written.as_mut_slice();
+    let result = run(alloc, &mut reader, &mut room);
+    let count = written_of(200, room.len());
+    is_sample(result, reader.len(), &written[..count])
+}
+
+#[test]
+fn a_sample_or_its_beginning(rt: HostRuntime) {
+    assert!(rt; sample(rt.alloc()));
+    assert!(rt; sample_on::<HeapStack<Slot>>(rt.alloc()));
+    assert!(rt; sample_on::<LimitedStack<Slot>>(rt.alloc()));
+    assert!(rt; sample_on::<ChunkStack<Slot>>(rt.alloc()));
+}

@@ -1,0 +1,365 @@
+//! A second arena of links for generic code: it hands each call on to another arena, of which it knows the contract
+//! alone, so that it is an arena of links by the clauses of the traits and nothing else.
+
+use arena_base::{Advancer, ArenaTrait, CompactArenaTrait};
+use arena_ptr::{
+    AllocError, ChainInsertionError, InvalidationOption, InvalidationResult, PtrKey,
+    ReallocationError,
+};
+use chain_links::{Link, LinkInsertKind, LinkNoGen};
+use chain_traits::ChainArenaTrait;
+use std::alloc::Global;
+
+/// An arena around an arena.
+#[derive(Drop)]
+pub struct ForwardingArena<A> {
+    inner: A,
+}
+
+/// An advancer around an advancer. It may have a second one, with which it goes on after its first `None`: no trait asks
+/// what an advancer of an arena does then.
+#[derive(Drop)]
+pub struct ForwardingAdvancer<V> {
+    inner: V,
+    again: Option<V>,
+}
+
+impl<A, V: Advancer<A>> Advancer<ForwardingArena<A>> for ForwardingAdvancer<V> {
+    ghost use Rattle.std.specs.Prelude.{◌≡◌, OnSome, None};
+    ghost use Rattle.std.proofs.Common.{subst, sym};
+
+    type Item = V::Item;
+
+    ghost gives = { λ a arena answer b. (mid : V) × V.gives a.inner arena.inner answer mid
+        × OnSome answer (b.inner ≡ mid) × (a.again ≡ None → (b.inner ≡ mid) × (b.again ≡ None)) };
+
+    ghost is_spent = { λ a. V.is_spent a.inner × (a.again ≡ None) };
+
+    ghost stays_spent = { λ a b arena answer spent given.
+        let still = V.stays_spent a.inner given.0 arena.inner answer spent.0 given.1 in
+        let kept = given.3 spent.1 in
+        (still.0, (subst V.is_spent (sym kept.0) still.1, kept.1)) };
+
+    fn advance(&mut self, collection: &ForwardingArena<A>) -> Option<V::Item> {
+        let answer = self.inner.advance(&collection.inner);
+        if answer.is_none() {
+            if let Some(again) = self.again.take() {
+                self.inner = again;
+            }
+        }
+        answer
+    }
+
+    fn empty() -> Self {
+        ForwardingAdvancer {
+            inner: V::empty(),
+            again: None,
+        }
+    }
+}
+
+/// An advancer along a chain around another.
+#[derive(Drop)]
+pub struct ForwardingWalk<V> {
+    inner: V,
+}
+
+impl<A, V: Advancer<A>> Advancer<ForwardingArena<A>> for ForwardingWalk<V> {
+    type Item = V::Item;
+
+    ghost gives = { λ a arena answer b. V.gives a.inner arena.inner answer b.inner };
+
+    ghost is_spent = { λ a. V.is_spent a.inner };
+
+    ghost stays_spent = { λ a b arena answer spent given. V.stays_spent a.inner b.inner arena.inner answer spent given };
+
+    fn advance(&mut self, collection: &ForwardingArena<A>) -> Option<V::Item> {
+        self.inner.advance(&collection.inner)
+    }
+
+    fn empty() -> Self {
+        ForwardingWalk { inner: V::empty() }
+    }
+}
+
+impl<P: PtrKey, T: Drop, A: ArenaTrait<P, T>> ArenaTrait<P, T> for ForwardingArena<A> {
+    ghost use Rattle.forwarding_arena.specs.ForwardedAdvancers.{until_none_after};
+
+    type PtrAdvancer = ForwardingAdvancer<A::PtrAdvancer>;
+
+    ghost seen = { λ w. A.seen w.inner };
+
+    ghost entry = { λ w. A.entry w.inner };
+
+    ghost looks = { λ v. A.looks v.inner };
+
+    ghost starts = { λ n w. A.starts n w.inner };
+
+    ghost grows = { λ n v w. A.grows n v.inner w.inner };
+
+    ghost writes = { λ v i t w. A.writes v.inner i t w.inner };
+
+    ghost renews = { λ v i w. A.renews v.inner i w.inner };
+
+    ghost removes = { λ v i w. A.removes v.inner i w.inner };
+
+    ghost clears = { λ v w. A.clears v.inner w.inner };
+
+    ghost compresses = { λ v w. A.compresses v.inner w.inner };
+
+    ghost rises = { λ w. A.rises w.inner };
+
+    ghost looked_up = { λ w. A.looked_up w.inner };
+
+    ghost advances = { λ a b w answer given. until_none_after (A.seen w.inner).entries (A.looks a.inner) P.key answer A.looks given.0 b.inner given.2
+        (A.advances a.inner given.0 w.inner answer given.1) };
+
+    fn new(alloc: Global) -> Self {
+        ForwardingArena {
+            inner: A::new(alloc),
+        }
+    }
+
+    fn with_min_capacity(alloc: Global, n: usize) -> Result<Self, AllocError> {
+        match A::with_min_capacity(alloc, n) {
+            Ok(inner) => Ok(ForwardingArena { inner }),
+            Err(refusal) => Err(refusal),
+        }
+    }
+
+    fn capacity(&self) -> usize {
+        self.inner.capacity()
+    }
+
+    fn max_capacity(&self) -> Option<usize> {
+        self.inner.max_capacity()
+    }
+
+    fn len(&self) -> usize {
+        self.inner.len()
+    }
+
+    fn is_empty(&self) -> bool {
+        self.inner.is_empty()
+    }
+
+    fn reallocate_min_capacity(&mut self, n: usize) -> Result<(), ReallocationError> {
+        self.inner.reallocate_min_capacity(n)
+    }
+
+    fn singular_generation(&self) -> Option<P::Gen> {
+        self.inner.singular_generation()
+    }
+
+    fn contains(&self, p: P) -> bool {
+        self.inner.contains(p)
+    }
+
+    fn get(&self, p: P) -> Option<&T> {
+        self.inner.get(p)
+    }
+
+    fn get_mut(&mut self, p: P) -> Option<&mut T> {
+        self.inner.get_mut(p)
+    }
+
+    fn get_inx(&self, i: P::Inx) -> Option<(P::Gen, &T)> {
+        self.inner.get_inx(i)
+    }
+
+    fn get_inx_mut(&mut self, i: P::Inx) -> Option<&mut T> {
+        self.inner.get_inx_mut(i)
+    }
+
+    fn find_first_inx_ptr(&self) -> Option<P> {
+        self.inner.find_first_inx_ptr()
+    }
+
+    fn find_last_inx_ptr(&self) -> Option<P> {
+        self.inner.find_last_inx_ptr()
+    }
+
+    fn advancer(&self) -> ForwardingAdvancer<A::PtrAdvancer> {
+        ForwardingAdvancer {
+            inner: self.inner.advancer(),
+            again: Some(self.inner.advancer()),
+        }
+    }
+
+    fn advancer_inx(&self, i: P::Inx, rev: bool) -> ForwardingAdvancer<A::PtrAdvancer> {
+        ForwardingAdvancer {
+            inner: self.inner.advancer_inx(i, rev),
+            again: Some(self.inner.advancer()),
+        }
+    }
+
+    fn invalidate(&mut self, p: P) -> InvalidationResult<P> {
+        self.inner.invalidate(p)
+    }
+
+    fn remove(&mut self, p: P) -> InvalidationResult<T> {
+        self.inner.remove(p)
+    }
+
+    fn remove_inx(&mut self, i: P::Inx) -> InvalidationResult<(P::Gen, T)> {
+        self.inner.remove_inx(i)
+    }
+
+    fn clear(&mut self) -> InvalidationOption<()> {
+        self.inner.clear()
+    }
+
+    fn compress_with<F: FnMut(P, &mut T, P) + Drop>(
+        &mut self,
+        reset: bool,
+        map: F,
+    ) -> InvalidationOption<()> {
+        self.inner.compress_with(reset, map)
+    }
+}
+
+impl<P: PtrKey, T: Drop, A: CompactArenaTrait<P, T>> CompactArenaTrait<P, T>
+    for ForwardingArena<A> {}
+
+impl<P: PtrKey, T: Drop, A: ChainArenaTrait<P, T>> ChainArenaTrait<P, T> for ForwardingArena<A> {
+    ghost use Rattle.std.specs.Prelude.{◌≡◌, ◌≢◌, ◌↔◌, ◌⊎◌, ◌+◌, IsTrue, IfOk, OnOk, IsErr, IfErr, OnErr, Err};
+    ghost use Rattle.arena_ptr.specs.declared.errors.ChainInsertionError.TheVariants as failed;
+    ghost use Rattle.chain_laws.specs.Chains.{Agrees};
+    ghost use Rattle.arena_base.specs.Arena.{IsRoom};
+    ghost use Rattle.arena_base.specs.Entries.{count, NeedsBeyondMaximum};
+    ghost use Rattle.chain_links.specs.CallEffects.{GainsLink, IsFull, SucceedsInRoom};
+    ghost use Rattle.chain_links.specs.Kinds.{names_in, MayInsert};
+
+    type ChainPtrAdvancer = ForwardingWalk<A::ChainPtrAdvancer>;
+
+    ghost interlinks = { λ w. A.interlinks w.inner };
+
+    ghost walker = { λ v. A.walker v.inner };
+
+    ghost passes = { λ v w arena answer given. A.passes v.inner w.inner arena.inner answer given };
+
+    ghost stand = { λ w i. A.stand w.inner i };
+
+    ghost grown = { λ n v w grows. A.grown n v.inner w.inner grows };
+
+    ghost written = { λ v w i t writes. A.written v.inner w.inner i t writes };
+
+    ghost renewed = { λ v w i renews. A.renewed v.inner w.inner i renews };
+
+    ghost passed_over = { λ v w i removes. A.passed_over v.inner w.inner i removes };
+
+    ghost compressed = { λ v w compresses. A.compressed v.inner w.inner compresses };
+
+    fn can_insert(&self, kind: LinkInsertKind<P>) -> bool
+        ensures { IsTrue result ↔ MayInsert (A.entry self.now.inner) (A.interlinks self.now.inner) (names_in P.key P.Inx.number kind) }
+    {
+        self.inner.can_insert(kind)
+    }
+
+    fn insert_within_capacity(
+        &mut self,
+        kind: LinkInsertKind<P>,
+        t: T,
+    ) -> Result<P, ChainInsertionError>
+        ensures may { OnOk result (MayInsert (A.entry self.old.inner) (A.interlinks self.old.inner) (names_in P.key P.Inx.number kind)) }
+        ensures inserted { IfOk result (λ p. GainsLink A.seen A.entry A.interlinks (names_in P.key P.Inx.number kind) t self.old.inner (P.key p) self.new.inner) }
+        ensures agreed { Agrees (A.interlinks self.old.inner) }
+        ensures capacity { (A.seen self.new.inner).capacity ≡ (A.seen self.old.inner).capacity }
+        ensures err { OnErr result (self.new ≡ self.old) }
+        ensures link { (result ≡ Err ChainInsertionError.FailedLinkRequirement) ↔ ¬ MayInsert (A.entry self.old.inner) (A.interlinks self.old.inner) (names_in P.key P.Inx.number kind) }
+        ensures full { (result ≡ Err ChainInsertionError.NotWithinCapacity) ↔ (MayInsert (A.entry self.old.inner) (A.interlinks self.old.inner) (names_in P.key P.Inx.number kind) × IsFull (A.seen self.old.inner)) }
+        ensures error { IfErr result (λ e. (e ≡ ChainInsertionError.FailedLinkRequirement) ⊎ (e ≡ ChainInsertionError.NotWithinCapacity)) }
+    {
+        self.inner.insert_within_capacity(kind, t)
+    }
+
+    fn insert_reallocating(
+        &mut self,
+        kind: LinkInsertKind<P>,
+        t: T,
+    ) -> Result<P, ChainInsertionError>
+        ensures may { OnOk result (MayInsert (A.entry self.old.inner) (A.interlinks self.old.inner) (names_in P.key P.Inx.number kind)) }
+        ensures inserted { IfOk result (λ p. GainsLink A.seen A.entry A.interlinks (names_in P.key P.Inx.number kind) t self.old.inner (P.key p) self.new.inner) }
+        ensures agreed { Agrees (A.interlinks self.old.inner) }
+        ensures err { OnErr result (self.new ≡ self.old) }
+        ensures link { (result ≡ Err ChainInsertionError.FailedLinkRequirement) ↔ ¬ MayInsert (A.entry self.old.inner) (A.interlinks self.old.inner) (names_in P.key P.Inx.number kind) }
+        ensures error { IfErr result (λ e. e ≢ ChainInsertionError.NotWithinCapacity) }
+        ensures room { MayInsert (A.entry self.old.inner) (A.interlinks self.old.inner) (names_in P.key P.Inx.number kind) → SucceedsInRoom (A.seen self.old.inner) result (A.seen self.new.inner) }
+        ensures grown { OnOk result (IsRoom P.Inx.greatest (A.seen self.new.inner).maximum (count (A.seen self.old.inner) + 1) (A.seen self.new.inner).capacity) }
+        ensures beyond { (result ≡ Err failed.BeyondMaxCapacity) ↔ (MayInsert (A.entry self.old.inner) (A.interlinks self.old.inner) (names_in P.key P.Inx.number kind) × NeedsBeyondMaximum (A.seen self.old.inner)) }
+        ensures greatest { count (A.seen self.old.inner) ≡ P.Inx.greatest → IsErr result }
+    {
+        self.inner.insert_reallocating(kind, t)
+    }
+
+    fn insert(&mut self, kind: LinkInsertKind<P>, t: T) -> Result<P, ReallocationError>
+        requires { MayInsert (A.entry self.old.inner) (A.interlinks self.old.inner) (names_in P.key P.Inx.number kind) }
+        ensures inserted { IfOk result (λ p. GainsLink A.seen A.entry A.interlinks (names_in P.key P.Inx.number kind) t self.old.inner (P.key p) self.new.inner) }
+        ensures agreed { Agrees (A.interlinks self.old.inner) }
+        ensures err { OnErr result (self.new ≡ self.old) }
+        ensures room { SucceedsInRoom (A.seen self.old.inner) result (A.seen self.new.inner) }
+        ensures grown { OnOk result (IsRoom P.Inx.greatest (A.seen self.new.inner).maximum (count (A.seen self.old.inner) + 1) (A.seen self.new.inner).capacity) }
+        ensures beyond { (result ≡ Err ReallocationError.BeyondMaxCapacity) ↔ NeedsBeyondMaximum (A.seen self.old.inner) }
+        ensures greatest { count (A.seen self.old.inner) ≡ P.Inx.greatest → IsErr result }
+    {
+        self.inner.insert(kind, t)
+    }
+
+    fn are_neighbors(&self, p: P, q: P) -> bool {
+        self.inner.are_neighbors(p, q)
+    }
+
+    fn are_neighbors_inx(&self, i: P::Inx, j: P::Inx) -> bool {
+        self.inner.are_neighbors_inx(i, j)
+    }
+
+    fn get_link(&self, p: P) -> Option<Link<P, &T>> {
+        self.inner.get_link(p)
+    }
+
+    fn get_link_no_gen(&self, p: P) -> Option<&LinkNoGen<P, T>> {
+        self.inner.get_link_no_gen(p)
+    }
+
+    fn get_inx_link_no_gen(&self, i: P::Inx) -> Option<(P::Gen, &LinkNoGen<P, T>)> {
+        self.inner.get_inx_link_no_gen(i)
+    }
+
+    fn advancer_chain(&self, p: P) -> Option<ForwardingWalk<A::ChainPtrAdvancer>> {
+        match self.inner.advancer_chain(p) {
+            Some(inner) => Some(ForwardingWalk { inner }),
+            None => None,
+        }
+    }
+
+    fn connect(&mut self, p: P, q: P) -> Option<()> {
+        self.inner.connect(p, q)
+    }
+
+    fn break_prev(&mut self, p: P) -> Option<()> {
+        self.inner.break_prev(p)
+    }
+
+    fn break_next(&mut self, p: P) -> Option<()> {
+        self.inner.break_next(p)
+    }
+
+    fn exchange_next(&mut self, p: P, q: P) -> Option<()> {
+        self.inner.exchange_next(p, q)
+    }
+
+    fn remove_link_no_gen(&mut self, p: P) -> InvalidationResult<LinkNoGen<P, T>> {
+        self.inner.remove_link_no_gen(p)
+    }
+
+    fn remove_inx_link_no_gen(
+        &mut self,
+        i: P::Inx,
+    ) -> InvalidationResult<(P::Gen, LinkNoGen<P, T>)> {
+        self.inner.remove_inx_link_no_gen(i)
+    }
+
+    fn compress_canonical(&mut self, reset: bool) -> InvalidationOption<()> {
+        self.inner.compress_canonical(reset)
+    }
+}
