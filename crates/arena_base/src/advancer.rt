@@ -55,11 +55,13 @@ impl<P: PtrKey, T: Drop, S: SlotStack<Item = ArenaSlot<P, T>>> Advancer<Arena<P,
 
     type Item = P;
 
-    ghost gives = { λ a arena answer b. IsLook (entries arena) a.look (option_map P.key answer) b.look };
+    ghost gives = { λ a arena answer b. IsLook (entries arena) a.look (option_map P.key answer)
+        b.look };
 
     ghost is_spent = { λ a. a.look ≡ Nowhere };
 
-    ghost stays_spent = { λ a b arena answer spent given. nowhere_stays P.key (entries arena) a.look answer b.look spent given };
+    ghost stays_spent = { λ a b arena answer spent given. nowhere_stays P.key
+        (entries arena) a.look answer b.look spent given };
 
     fn advance(&mut self, collection: &Arena<P, T, S>) -> Option<P> {
         match collection.find(self.look) {

@@ -52,17 +52,23 @@ impl<P: PtrKey, T: Drop, S: SlotStack<Item = ArenaSlot<P, T>>> Model for Arena<P
 
     ghost use Rattle.arena_base.specs.Slots.{arena_of, freed_of, IsSound};
 
-    ghost view = { λ a. arena_of (S.items a.slots) (freed_of P.Inx.number (S.items a.slots) a.first_free) a.counter
+    ghost view = { λ a. arena_of (S.items a.slots)
+        (freed_of P.Inx.number (S.items a.slots) a.first_free) a.counter
         P.Inx.greatest (S.capacity a.slots) (S.maximum a.slots) a.placed.count a.touched.count };
 
-    ghost invariant = { λ a. IsSound P.Inx.number (S.items a.slots) P.Inx.greatest a.len a.first_free (freed_of P.Inx.number (S.items a.slots) a.first_free) };
+    ghost invariant = { λ a. IsSound P.Inx.number (S.items a.slots) P.Inx.greatest a.len
+        a.first_free (freed_of P.Inx.number (S.items a.slots) a.first_free) };
 }
 
 impl<P: PtrKey, T: Drop, S: SlotStack<Item = ArenaSlot<P, T>>> Arena<P, T, S> {
     // An arena over an empty stack.
     pub(crate) fn over(slots: S) -> Self
         requires { S.items slots ≡ [] }
-        ensures { result ≡ record (new_arena P.Gen.first (S.maximum slots)) { capacity = min (S.capacity slots) P.Inx.greatest; stack_capacity = S.capacity slots } }
+        ensures { result ≡ record (new_arena P.Gen.first (S.maximum slots)) {
+          capacity = min
+              (S.capacity slots) P.Inx.greatest;
+          stack_capacity = S.capacity slots;
+        } }
     {
         Arena {
             slots,
@@ -133,11 +139,14 @@ impl<P: PtrKey, T: Drop, S: SlotStack<Item = ArenaSlot<P, T>>> Arena<P, T, S> {
     pub fn insert_reallocating(&mut self, t: T) -> Result<P, ReallocationError>
         ensures ptr { IfOk result (λ p. P.key p ≡ (next_index self.old, self.old.counter)) }
         ensures ok { OnOk result (self.new ≡ with_capacity_of (insert_next self.old t) self.new) }
-        ensures grown { OnOk result (HasGrownTo S.may_reach P.Inx.greatest (entry_count self.old + 1) self.old self.new) }
+        ensures grown { OnOk result (HasGrownTo S.may_reach P.Inx.greatest
+            (entry_count self.old + 1) self.old self.new) }
         ensures err { OnErr result (self.new ≡ self.old) }
-        ensures room { entry_count self.old < self.old.capacity → IsOk result × (self.new ≡ insert_next self.old t) }
+        ensures room { entry_count self.old < self.old.capacity
+            → IsOk result × (self.new ≡ insert_next self.old t) }
         ensures beyond { (result ≡ Err ReallocationError.BeyondMaxCapacity) ↔
-            ((entry_count self.old ≡ self.old.capacity) × IsBeyond self.old.maximum (entry_count self.old + 1)) }
+            ((entry_count self.old ≡ self.old.capacity) × IsBeyond self.old.maximum
+            (entry_count self.old + 1)) }
         ensures greatest { entry_count self.old ≡ P.Inx.greatest → IsErr result }
     {
         match self.make_room() {
@@ -148,11 +157,14 @@ impl<P: PtrKey, T: Drop, S: SlotStack<Item = ArenaSlot<P, T>>> Arena<P, T, S> {
 
     // Grows a full arena to room for one entry more.
     fn make_room(&mut self) -> Result<(), ReallocationError>
-        ensures room { entry_count self.old < self.old.capacity → IsOk result × (self.new ≡ self.old) }
+        ensures room { entry_count self.old < self.old.capacity
+            → IsOk result × (self.new ≡ self.old) }
         ensures beyond { (result ≡ Err ReallocationError.BeyondMaxCapacity) ↔
-            ((entry_count self.old ≡ self.old.capacity) × IsBeyond self.old.maximum (entry_count self.old + 1)) }
+            ((entry_count self.old ≡ self.old.capacity) × IsBeyond self.old.maximum
+            (entry_count self.old + 1)) }
         ensures greatest { entry_count self.old ≡ P.Inx.greatest → IsErr result }
-        ensures ok { OnOk result (HasGrownTo S.may_reach P.Inx.greatest (entry_count self.old + 1) self.old self.new) }
+        ensures ok { OnOk result (HasGrownTo S.may_reach P.Inx.greatest (entry_count self.old + 1)
+            self.old self.new) }
         ensures err { OnErr result (self.new ≡ self.old) }
         ensures after { self.new ≡ with_capacity_of self.old self.new }
     {
@@ -175,7 +187,8 @@ impl<P: PtrKey, T: Drop, S: SlotStack<Item = ArenaSlot<P, T>>> Arena<P, T, S> {
     #[cold]
     #[inline(never)]
     pub(crate) fn grow_to(&mut self, n: usize) -> Result<(), ReallocationError>
-        ensures beyond { (result ≡ Err ReallocationError.BeyondMaxCapacity) ↔ IsBeyond self.old.maximum n }
+        ensures beyond { (result ≡ Err ReallocationError.BeyondMaxCapacity)
+            ↔ IsBeyond self.old.maximum n }
         ensures greatest { P.Inx.greatest < n → IsErr result }
         ensures ok { OnOk result (HasGrownTo S.may_reach P.Inx.greatest n self.old self.new) }
         ensures reached { IsWithinReach S.may_reach n self.old self.new }
@@ -192,8 +205,10 @@ impl<P: PtrKey, T: Drop, S: SlotStack<Item = ArenaSlot<P, T>>> Arena<P, T, S> {
     // The pointer and the value of the entry at a position, from 0, if one stands there.
     pub(crate) fn pair_at(&self, k: usize) -> Option<(P, &T)>
         requires { k < P.Inx.greatest }
-        ensures key { option_map (λ e. P.key e.0) result ≡ option_map (key_at (k + 1)) (slice_index_or self.now.slots k None) }
-        ensures value { option_map (λ e. e.1.now) result ≡ option_map (λ e. e.1) (slice_index_or self.now.slots k None) }
+        ensures key { option_map (λ e. P.key e.0) result ≡ option_map (key_at (k + 1))
+            (slice_index_or self.now.slots k None) }
+        ensures value { option_map (λ e. e.1.now) result ≡ option_map (λ e. e.1)
+            (slice_index_or self.now.slots k None) }
     {
         match self.slots.get(k) {
             Some(ArenaSlot::Allocated(generation, t)) => {
@@ -209,7 +224,8 @@ impl<P: PtrKey, T: Drop, S: SlotStack<Item = ArenaSlot<P, T>>> Arena<P, T, S> {
     // as it would for an index out of a pointer.
     pub(crate) fn next_from(&self, from: usize) -> Option<(usize, P, &T)>
         ensures none { IfNone result (entries_from (from + 1) (drop from self.now.slots) ≡ []) }
-        ensures some { IfSome result (λ e. IsNextEntry self.now.slots from e.0 (P.key e.1) e.2.now) }
+        ensures some { IfSome result (λ e. IsNextEntry self.now.slots from e.0
+            (P.key e.1) e.2.now) }
         ensures fits { IfSome result (λ e. e.0 + 1 < 2 ^ 64) }
     {
         if from >= self.slots.len() {
@@ -224,7 +240,8 @@ impl<P: PtrKey, T: Drop, S: SlotStack<Item = ArenaSlot<P, T>>> Arena<P, T, S> {
     // .. slot by slot.
     fn search_from(&self, from: usize) -> Option<(usize, P, &T)>
         ensures none { IfNone result (entries_from (from + 1) (drop from self.now.slots) ≡ []) }
-        ensures some { IfSome result (λ e. IsNextEntry self.now.slots from e.0 (P.key e.1) e.2.now) }
+        ensures some { IfSome result (λ e. IsNextEntry self.now.slots from e.0
+            (P.key e.1) e.2.now) }
         ensures fits { IfSome result (λ e. e.0 + 1 < 2 ^ 64) }
     {
         for k in from..self.slots.len() {
@@ -237,7 +254,8 @@ impl<P: PtrKey, T: Drop, S: SlotStack<Item = ArenaSlot<P, T>>> Arena<P, T, S> {
 
     // The valid pointer of least index from a position on, from 0.
     pub(crate) fn first_from(&self, from: usize) -> Option<P>
-        ensures key { option_map P.key result ≡ first_key (entries_from (from + 1) (drop from self.now.slots)) }
+        ensures key { option_map P.key result ≡ first_key
+            (entries_from (from + 1) (drop from self.now.slots)) }
         ensures fits { IfSome result (λ p. (P.key p).0 + 1 < 2 ^ 64) }
     {
         match self.next_from(from) {
@@ -286,8 +304,10 @@ impl<P: PtrKey, T: Drop, S: SlotStack<Item = ArenaSlot<P, T>>> Arena<P, T, S> {
 
     // Takes out the entry at an index, if one stands there, and increments the counter.
     pub(crate) fn take_at(&mut self, i: P::Inx) -> InvalidationResult<(P::Gen, T)>
-        ensures answer { result ≡ invalidation_result (P.Gen.wraps self.old.counter) (entry_at self.old (P.Inx.number i)) }
-        ensures some { IsSome (entry_at self.old (P.Inx.number i)) → self.new ≡ remove_at P.Gen.following self.old (P.Inx.number i) }
+        ensures answer { result ≡ invalidation_result (P.Gen.wraps self.old.counter)
+            (entry_at self.old (P.Inx.number i)) }
+        ensures some { IsSome (entry_at self.old (P.Inx.number i))
+            → self.new ≡ remove_at P.Gen.following self.old (P.Inx.number i) }
         ensures none { entry_at self.old (P.Inx.number i) ≡ None → self.new ≡ self.old }
     {
         match vacate_at(&mut self.slots, position_of::<P>(i), self.first_free) {

@@ -51,7 +51,8 @@ impl<P: PtrKey, T: Drop, S: SlotStack<Item = ArenaSlot<P, T>>> ArenaTrait<P, T> 
 
     ghost looked_up = { found-entries };
 
-    ghost advances = { λ a b arena answer given. until_none (entries arena) a.look (option_map P.key answer) b.look given };
+    ghost advances = { λ a b arena answer given. until_none (entries arena) a.look
+        (option_map P.key answer) b.look given };
 
     fn new(alloc: Global) -> Self {
         Arena::over(S::new(alloc))
@@ -80,7 +81,8 @@ impl<P: PtrKey, T: Drop, S: SlotStack<Item = ArenaSlot<P, T>>> ArenaTrait<P, T> 
         ensures count { result ≡ length (seen_of self.now).entries }
         ensures fits { result ≤ (seen_of self.now).capacity }
         ensures one_more { result + 1 < 2 ^ 64 }
-        ensures indexes { All (λ e. IsWithin P.Inx.greatest (index_of e)) (seen_of self.now).entries }
+        ensures indexes { All (λ e. IsWithin P.Inx.greatest (index_of e))
+            (seen_of self.now).entries }
         ensures filled { IfSome (seen_of self.now).slots (AreTheSlots (seen_of self.now).entries) }
         ensures entries { result ≡ entry_count self.now }
 

@@ -68,7 +68,8 @@ impl<'a, P: PtrKey, T: Drop, S: SlotStack<Item = ArenaSlot<P, T>>> Compactor<'a,
         requires entry { IsSome (slot_at self.old.held.slots (P.Inx.number from)) }
         ensures same_reference { self.new.arena.ghost_name ≡ self.old.arena.ghost_name }
         ensures arena { self.new.arena.now ≡ with_placement self.old.arena.now }
-        ensures held { self.new.held ≡ placed self.old.held (P.Inx.number from) (P.Inx.number to) generation }
+        ensures held { self.new.held ≡ placed self.old.held (P.Inx.number from)
+            (P.Inx.number to) generation }
         ensures placed { self.new.placed ≡ one_more self.old.placed }
         ensures touched { self.new.touched ≡ self.old.touched }
     {
@@ -82,10 +83,12 @@ impl<'a, P: PtrKey, T: Drop, S: SlotStack<Item = ArenaSlot<P, T>>> Compactor<'a,
     pub fn bring(&mut self, from: P::Inx, to: P::Inx, generation: P::Gen)
         requires to { P.Inx.number to ≤ length self.old.held.slots }
         requires entry { IsSome (slot_at self.old.held.slots (P.Inx.number from)) }
-        requires free { P.Inx.number to ≢ P.Inx.number from → slot_at self.old.held.slots (P.Inx.number to) ≡ None }
+        requires free { P.Inx.number to ≢ P.Inx.number from
+            → slot_at self.old.held.slots (P.Inx.number to) ≡ None }
         ensures same_reference { self.new.arena.ghost_name ≡ self.old.arena.ghost_name }
         ensures arena { self.new.arena.now ≡ with_placement self.old.arena.now }
-        ensures held { self.new.held ≡ placed self.old.held (P.Inx.number from) (P.Inx.number to) generation }
+        ensures held { self.new.held ≡ placed self.old.held (P.Inx.number from)
+            (P.Inx.number to) generation }
         ensures placed { self.new.placed ≡ one_more self.old.placed }
         ensures touched { self.new.touched ≡ self.old.touched }
     {
@@ -97,7 +100,8 @@ impl<'a, P: PtrKey, T: Drop, S: SlotStack<Item = ArenaSlot<P, T>>> Compactor<'a,
     /// Cuts free slots off the end, lists the others, the least index to be used first, and gives the slots back to the
     /// arena. Answers what was counted.
     pub fn finish(self) -> Work
-        ensures arena { self.exit.0.now ≡ returned P.Inx.greatest self.entry.arena.now self.entry.held }
+        ensures arena { self.exit.0.now ≡ returned P.Inx.greatest self.entry.arena.now
+            self.entry.held }
         ensures placed { result.placed ≡ self.entry.placed }
         ensures touched { result.touched ≡ self.entry.touched }
     {
@@ -115,7 +119,8 @@ impl<'a, P: PtrKey, T: Drop, S: SlotStack<Item = ArenaSlot<P, T>>> Compactor<'a,
     /// of them. Answers what was counted.
     pub fn finish_packed(self, count: usize) -> Work
         requires { IsPacked self.held.slots count }
-        ensures arena { self.exit.0.now ≡ returned P.Inx.greatest self.entry.arena.now self.entry.held }
+        ensures arena { self.exit.0.now ≡ returned P.Inx.greatest self.entry.arena.now
+            self.entry.held }
         ensures placed { result.placed ≡ self.entry.placed }
         ensures touched { result.touched ≡ self.entry.touched }
     {
@@ -153,14 +158,18 @@ pub trait SlotAccess<P: PtrKey, T: Drop> {
 
     /// The generation and the value at an index. Counts one touch.
     fn peek(&mut self, i: P::Inx) -> Option<(&P::Gen, &T)>
-        ensures* after { sem 𝓛 (follows_so Self.row Self.row self.entry.ghost_name none (λ _ _. ⊤) (IsLookedAt held touches self.old)) }
-        ensures value { option_map seen_parts result ≡ slot_at (held self.old).slots (P.Inx.number i) };
+        ensures* after { sem 𝓛 (follows_so Self.row Self.row self.entry.ghost_name none (λ _ _. ⊤)
+            (IsLookedAt held touches self.old)) }
+        ensures value { option_map seen_parts result ≡ slot_at (held self.old).slots
+            (P.Inx.number i) };
 
     /// The value at an index, for writing. Counts one touch.
     fn value_mut(&mut self, i: P::Inx) -> Option<&mut T>
         ensures* writes_back { sem 𝓛 (LendsSo Self.row T.row self.entry result
-            (λ new t. OnSome result (IsWrittenAt held touches self.old (P.Inx.number i) new t)) (IsLookedAt held touches self.old)) }
-        ensures value { option_copied_mut result ≡ option_map (λ e. e.1) (slot_at (held self.old).slots (P.Inx.number i)) };
+            (λ new t. OnSome result (IsWrittenAt held touches self.old (P.Inx.number i) new t))
+            (IsLookedAt held touches self.old)) }
+        ensures value { option_copied_mut result ≡ option_map (λ e. e.1)
+            (slot_at (held self.old).slots (P.Inx.number i)) };
 }
 
 impl<'a, P: PtrKey, T: Drop, S: SlotStack<Item = ArenaSlot<P, T>>> SlotAccess<P, T>
@@ -170,7 +179,9 @@ impl<'a, P: PtrKey, T: Drop, S: SlotStack<Item = ArenaSlot<P, T>>> SlotAccess<P,
 
     ghost held = { λ c. c.held };
 
-    ghost touches = { λ a b. (b.arena.ghost_name ≡ a.arena.ghost_name) × (b.arena.now ≡ with_touch a.arena.now) × (b.placed ≡ a.placed) × (b.touched ≡ one_more a.touched) };
+    ghost touches = { λ a b. (b.arena.ghost_name ≡ a.arena.ghost_name)
+        × (b.arena.now ≡ with_touch a.arena.now) × (b.placed ≡ a.placed)
+        × (b.touched ≡ one_more a.touched) };
 
     fn peek(&mut self, i: P::Inx) -> Option<(&P::Gen, &T)> {
         self.arena.count_touch();

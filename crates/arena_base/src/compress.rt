@@ -22,12 +22,17 @@ fn close_gap<P: PtrKey, T: Drop, S: SlotStack<Item = ArenaSlot<P, T>>>(
     generation: P::Gen,
 ) -> Option<P::Gen>
     requires to { P.Inx.number to ≤ length compactor.old.held.slots }
-    requires free { P.Inx.number to ≢ P.Inx.number from → slot_at compactor.old.held.slots (P.Inx.number to) ≡ None }
+    requires free { P.Inx.number to ≢ P.Inx.number from
+        → slot_at compactor.old.held.slots (P.Inx.number to) ≡ None }
     ensures same_reference { compactor.new.arena.ghost_name ≡ compactor.old.arena.ghost_name }
-    ensures answer { result ≡ option_map (λ e. e.0) (slot_at compactor.old.held.slots (P.Inx.number from)) }
-    ensures some { OnSome result ((compactor.new.held ≡ placed compactor.old.held (P.Inx.number from) (P.Inx.number to) generation)
+    ensures answer { result ≡ option_map (λ e. e.0)
+        (slot_at compactor.old.held.slots (P.Inx.number from)) }
+    ensures some { OnSome result
+        ((compactor.new.held ≡ placed compactor.old.held (P.Inx.number from)
+        (P.Inx.number to) generation)
         × (compactor.new.arena.now ≡ with_placement (with_touch compactor.old.arena.now))) }
-    ensures none { IfNone result ((compactor.new.held ≡ compactor.old.held) × (compactor.new.arena.now ≡ with_touch compactor.old.arena.now)) }
+    ensures none { IfNone result ((compactor.new.held ≡ compactor.old.held)
+        × (compactor.new.arena.now ≡ with_touch compactor.old.arena.now)) }
 {
     let was = match compactor.peek(from) {
         Some((was, _)) => *was,
@@ -51,8 +56,10 @@ fn close_gaps<
     ensures same_reference { compactor.new.arena.ghost_name ≡ compactor.old.arena.ghost_name }
     ensures closed { AreClosed generation compactor.old.held compactor.new.held }
     ensures packed { IsPacked compactor.new.held.slots result }
-    ensures visits { VisitsAll F.FnMut P.key map (entries_from 1 compactor.old.held.slots) (entries_from 1 compactor.new.held.slots) }
-    ensures totals { compactor.new.arena.now ≡ with_totals compactor.old.arena.now (length (entries_from 1 compactor.old.held.slots))
+    ensures visits { VisitsAll F.FnMut P.key map (entries_from 1 compactor.old.held.slots)
+        (entries_from 1 compactor.new.held.slots) }
+    ensures totals { compactor.new.arena.now ≡ with_totals compactor.old.arena.now
+        (length (entries_from 1 compactor.old.held.slots))
         (length compactor.old.held.slots + length (entries_from 1 compactor.old.held.slots)) }
 {
     let mut count = 0;

@@ -48,12 +48,16 @@ fn copy_slots<
     requires empty { S.items slots.old ≡ [] }
     requires room { length (S1.items source.now) ≤ S.capacity slots.old }
     requires fits { length (S1.items source.now) ≤ P.Inx.greatest }
-    ensures alike { OnOk result.0 (without_values (S.items slots.new) ≡ without_values (S1.items source.now)) }
-    ensures copies { OnOk result.0 (CopiesBy M.makes P.key values (entries_from 1 (map entry_of (S1.items source.now))) (entries_from 1 (map entry_of (S.items slots.new))) result.1) }
+    ensures alike { OnOk result.0 (without_values (S.items slots.new) ≡ without_values
+        (S1.items source.now)) }
+    ensures copies { OnOk result.0
+        (CopiesBy M.makes P.key values (entries_from 1 (map entry_of (S1.items source.now)))
+        (entries_from 1 (map entry_of (S.items slots.new))) result.1) }
     ensures ready { OnOk result.0 (M.is_ready result.1) }
     ensures capacity { S.capacity slots.new ≡ S.capacity slots.old }
     ensures maximum { S.maximum slots.new ≡ S.maximum slots.old }
-    ensures refused { OnErr result.0 (HasRefusable M.may_refuse P.key (entries_from 1 (map entry_of (S1.items source.now)))) }
+    ensures refused { OnErr result.0
+        (HasRefusable M.may_refuse P.key (entries_from 1 (map entry_of (S1.items source.now)))) }
 {
     for k in 0..source.len() {
         let slot = match source.get(k) {
@@ -88,18 +92,22 @@ impl<P: PtrKey, T: Drop, S: SlotStack<Item = ArenaSlot<P, T>>> Arena<P, T, S> {
     ) -> (Result<(), ReallocationError>, M)
         requires { M.is_ready values }
         ensures within { length source.now.slots ≤ self.old.capacity →
-            (IsOk result.0 ⊎ HasRefusable M.may_refuse P.key (entries source.now)) × (self.new.capacity ≡ self.old.capacity) }
-        ensures beyond { (result.0 ≡ Err ReallocationError.BeyondMaxCapacity) ↔ IsBeyond self.old.maximum (length source.now.slots) }
+            (IsOk result.0 ⊎ HasRefusable M.may_refuse P.key (entries source.now))
+            × (self.new.capacity ≡ self.old.capacity) }
+        ensures beyond { (result.0 ≡ Err ReallocationError.BeyondMaxCapacity)
+            ↔ IsBeyond self.old.maximum (length source.now.slots) }
         ensures unchanged { result.0 ≡ Err ReallocationError.BeyondMaxCapacity
             → (self.new ≡ self.old) × (result.1 ≡ values) }
         ensures ok { OnOk result.0 (HasRoom P.Inx.greatest (length source.now.slots) self.new) }
-        ensures copied { OnOk result.0 (CopiesBy M.makes P.key values (entries source.now) (entries self.new) result.1) }
+        ensures copied { OnOk result.0 (CopiesBy M.makes P.key values (entries source.now)
+            (entries self.new) result.1) }
         ensures ready { OnOk result.0 (M.is_ready result.1) }
         ensures slots { OnOk result.0 (HasSlotsOf source.now self.old self.new) }
         ensures never_less { self.old.capacity ≤ self.new.capacity }
         ensures reached { IsWithinReach S.may_reach (length source.now.slots) self.old self.new }
         ensures err { OnErr result.0 (((self.new ≡ self.old) × (result.1 ≡ values))
-            ⊎ (HasRefusable M.may_refuse P.key (entries source.now) × IsGivenUp self.old self.new)) }
+            ⊎ (HasRefusable M.may_refuse P.key (entries source.now)
+            × IsGivenUp self.old self.new)) }
     {
         match self.reallocate_min_capacity(source.slots.len()) {
             Ok(()) => {
@@ -130,7 +138,8 @@ impl<P: PtrKey, T: Drop, S: SlotStack<Item = ArenaSlot<P, T>>> ArenaCloneFromWit
     ghost use Rattle.arena_base.specs.Copies.{HasSlotsOf};
     ghost use Rattle.arena_base.specs.Arena.{IsWithinReach};
 
-    ghost copies = { λ _ source old new. HasSlotsOf source old new × IsWithinReach S.may_reach (length source.slots) old new };
+    ghost copies = { λ _ source old new. HasSlotsOf source old new × IsWithinReach S.may_reach
+        (length source.slots) old new };
 
     fn clone_from_by<U: Drop, S1: SlotStack<Item = ArenaSlot<P, U>>, M: ValueMap<P, U, T>>(
         &mut self,

@@ -62,7 +62,8 @@ impl<P: PtrKey, T: Drop, S: SlotStack<Item = ArenaSlot<P, T>>> HeldSlots<P, T, S
     pub(crate) fn bring(&mut self, from: P::Inx, to: P::Inx, generation: P::Gen)
         requires to { P.Inx.number to ≤ length self.old.slots }
         requires entry { IsSome (slot_at self.old.slots (P.Inx.number from)) }
-        requires free { P.Inx.number to ≢ P.Inx.number from → slot_at self.old.slots (P.Inx.number to) ≡ None }
+        requires free { P.Inx.number to ≢ P.Inx.number from
+            → slot_at self.old.slots (P.Inx.number to) ≡ None }
         ensures { self.new ≡ placed self.old (P.Inx.number from) (P.Inx.number to) generation }
     {
         match vacate_at(&mut self.slots, position_of::<P>(from), None) {
@@ -79,8 +80,10 @@ pub(crate) trait LendsValue<P: PtrKey, T: Drop> {
     // The value at an index, for writing.
     fn value_mut(&mut self, i: P::Inx) -> Option<&mut T>
         ensures* writes_back { sem 𝓛 (LendsSo Self.row T.row self.entry result
-            (λ new t. OnSome result (lent new ≡ held_with_value (lent self.old) (P.Inx.number i) t)) (λ new. lent new ≡ lent self.old)) }
-        ensures value { option_copied_mut result ≡ option_map (λ e. e.1) (slot_at (lent self.old).slots (P.Inx.number i)) };
+            (λ new t. OnSome result (lent new ≡ held_with_value (lent self.old) (P.Inx.number i) t))
+            (λ new. lent new ≡ lent self.old)) }
+        ensures value { option_copied_mut result ≡ option_map (λ e. e.1)
+            (slot_at (lent self.old).slots (P.Inx.number i)) };
 }
 
 impl<P: PtrKey, T: Drop, S: SlotStack<Item = ArenaSlot<P, T>>> LendsValue<P, T>

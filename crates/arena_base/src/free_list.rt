@@ -26,7 +26,8 @@ pub(crate) fn relist<P: PtrKey, T: Drop, S: SlotStack<Item = ArenaSlot<P, T>>>(
 ) -> (usize, Option<P::Inx>)
     requires { length (S.items slots.old) ≤ P.Inx.greatest }
     ensures entries { map entry_of (S.items slots.new) ≡ map entry_of (S.items slots.old) }
-    ensures sound { IsSound P.Inx.number (S.items slots.new) P.Inx.greatest result.0 result.1 (free_from 1 (map entry_of (S.items slots.old))) }
+    ensures sound { IsSound P.Inx.number (S.items slots.new) P.Inx.greatest result.0 result.1
+        (free_from 1 (map entry_of (S.items slots.old))) }
     ensures capacity { S.capacity slots.new ≡ S.capacity slots.old }
     ensures maximum { S.maximum slots.new ≡ S.maximum slots.old }
 {

@@ -13,8 +13,10 @@ use std::marker::Model;
 impl<P: PtrKey, T: Drop, S: SlotStack<Item = ArenaSlot<P, T>>> Arena<P, T, S> {
     // Takes out the first entry from a position on, and answers it with the position behind it.
     fn take_from(&mut self, from: usize) -> Option<(usize, P, T)>
-        ensures none { IfNone result ((entries_from (from + 1) (drop from self.old.slots) ≡ []) × (self.new ≡ self.old)) }
-        ensures some { IfSome result (λ e. entries_from (from + 1) (drop from self.old.slots) ≡ (P.key e.1, e.2) ∷ entries_from (e.0 + 1) (drop e.0 self.new.slots)) }
+        ensures none { IfNone result ((entries_from (from + 1) (drop from self.old.slots) ≡ [])
+            × (self.new ≡ self.old)) }
+        ensures some { IfSome result (λ e. entries_from (from + 1) (drop from self.old.slots)
+            ≡ (P.key e.1, e.2) ∷ entries_from (e.0 + 1) (drop e.0 self.new.slots)) }
     {
         match self.next_from(from) {
             Some(next) => {

@@ -24,7 +24,8 @@ impl<P: PtrKey, T> ArenaSlot<P, T> {
 
     // The value of an entry, for writing.
     pub(crate) fn value_mut(&mut self) -> Option<&mut T>
-        ensures* lends { sem 𝓛 (LendsIf (the_row P.row T.row P.Inx.row P.Gen.row P.Inx.Word.row) T.row self.entry result (with_value_in self.old) self.old) }
+        ensures* lends { sem 𝓛 (LendsIf (the_row P.row T.row P.Inx.row P.Gen.row P.Inx.Word.row)
+            T.row self.entry result (with_value_in self.old) self.old) }
         ensures value { option_copied_mut result ≡ option_map (λ e. e.1) (entry_of self.old) }
     {
         match self {
@@ -97,7 +98,8 @@ pub(crate) fn fill<P: PtrKey, T: Drop, S: SlotStack<Item = ArenaSlot<P, T>>>(
 ) -> Option<P::Inx>
     requires { IsFree (slice_get (S.items slots.old) k) }
     ensures was { slice_get (S.items slots.old) k ≡ Some (free_slot result) }
-    ensures items { S.items slots.new ≡ slice_set (S.items slots.old) k (allocated_slot generation t) }
+    ensures items { S.items slots.new ≡ slice_set (S.items slots.old) k
+        (allocated_slot generation t) }
     ensures capacity { S.capacity slots.new ≡ S.capacity slots.old }
     ensures maximum { S.maximum slots.new ≡ S.maximum slots.old }
 {
@@ -121,7 +123,8 @@ pub(crate) fn vacate_at<P: PtrKey, T: Drop, S: SlotStack<Item = ArenaSlot<P, T>>
     next: Option<P::Inx>,
 ) -> Option<(P::Gen, T)>
     ensures entry { result ≡ entry_in (slice_get (S.items slots.old) k) }
-    ensures some { OnSome result (S.items slots.new ≡ slice_set (S.items slots.old) k (free_slot next)) }
+    ensures some { OnSome result (S.items slots.new ≡ slice_set (S.items slots.old) k
+        (free_slot next)) }
     ensures none { IfNone result (S.items slots.new ≡ S.items slots.old) }
     ensures capacity { S.capacity slots.new ≡ S.capacity slots.old }
     ensures maximum { S.maximum slots.new ≡ S.maximum slots.old }
@@ -140,7 +143,8 @@ pub(crate) fn put_at<P: PtrKey, T: Drop, S: SlotStack<Item = ArenaSlot<P, T>>>(
     t: T,
 )
     requires { k < length (S.items slots.old) }
-    ensures items { S.items slots.new ≡ slice_set (S.items slots.old) k (allocated_slot generation t) }
+    ensures items { S.items slots.new ≡ slice_set (S.items slots.old) k
+        (allocated_slot generation t) }
     ensures capacity { S.capacity slots.new ≡ S.capacity slots.old }
     ensures maximum { S.maximum slots.new ≡ S.maximum slots.old }
 {

@@ -42,7 +42,8 @@ pub trait Advancer<C>: Drop {
     fn empty() -> Self
         ensures { is_spent result };
 
-    ghost stays_spent: { (a b : Self) (c : C) (r : Option Self.Item) → is_spent a → gives a c r b → (r ≡ None) × is_spent b };
+    ghost stays_spent: { (a b : Self) (c : C) (r : Option Self.Item) → is_spent a → gives a c r b
+        → (r ≡ None) × is_spent b };
 }
 
 /// An arena: a finite map from indexes to entries, each a generation and a value, where a removed entry's pointer
@@ -126,9 +127,11 @@ pub trait ArenaTrait<P: PtrKey, T: Drop> {
     /// index, or memory was refused. After either nothing has changed.
     fn reallocate_min_capacity(&mut self, n: usize) -> Result<(), ReallocationError>
         ensures within { n ≤ (seen self.old).capacity → IsOk result × (self.new ≡ self.old) }
-        ensures beyond { (result ≡ Err ReallocationError.BeyondMaxCapacity) ↔ IsBeyond (seen self.old).maximum n }
+        ensures beyond { (result ≡ Err ReallocationError.BeyondMaxCapacity)
+            ↔ IsBeyond (seen self.old).maximum n }
         ensures greatest { P.Inx.greatest < n → IsErr result }
-        ensures ok { OnOk result (IsRoom P.Inx.greatest (seen self.new).maximum n (seen self.new).capacity) }
+        ensures ok { OnOk result (IsRoom P.Inx.greatest (seen self.new).maximum n
+            (seen self.new).capacity) }
         ensures err { OnErr result (self.new ≡ self.old) }
         ensures after { seen self.new ≡ with_capacity (seen self.old) (seen self.new).capacity }
         ensures never_less { (seen self.old).capacity ≤ (seen self.new).capacity }
@@ -145,14 +148,17 @@ pub trait ArenaTrait<P: PtrKey, T: Drop> {
     /// The value of an entry. `None`: the pointer is not valid.
     fn get(&self, p: P) -> Option<&T>
         ensures some { IsSome result ↔ IsValid (entry self.now) (P.key p) }
-        ensures value { IfSome result (λ t. entry self.now (P.key p).0 ≡ Some ((P.key p).1, t.now)) };
+        ensures value { IfSome result (λ t. entry self.now (P.key p).0 ≡ Some
+            ((P.key p).1, t.now)) };
 
     /// The value of an entry, for writing. `None`: the pointer is not valid.
     fn get_mut(&mut self, p: P) -> Option<&mut T>
         ensures* writes_back { sem 𝓛 (LendsSo Self.row T.row self.entry result
-            (λ new t. OnSome result ((seen new ≡ written (seen self.old) (P.key p).0 t) × writes self.old (P.key p).0 t new)) (λ new. new ≡ self.old)) }
+            (λ new t. OnSome result ((seen new ≡ written (seen self.old) (P.key p).0 t)
+            × writes self.old (P.key p).0 t new)) (λ new. new ≡ self.old)) }
         ensures some { IsSome result ↔ IsValid (entry self.old) (P.key p) }
-        ensures value { IfSome result (λ t. entry self.old (P.key p).0 ≡ Some ((P.key p).1, t.now)) };
+        ensures value { IfSome result (λ t. entry self.old (P.key p).0 ≡ Some
+            ((P.key p).1, t.now)) };
 
     /// The generation and the value at an index. `None`: no entry stands there.
     fn get_inx(&self, i: P::Inx) -> Option<(P::Gen, &T)>
@@ -161,8 +167,10 @@ pub trait ArenaTrait<P: PtrKey, T: Drop> {
     /// The value at an index, for writing. `None`: no entry stands there.
     fn get_inx_mut(&mut self, i: P::Inx) -> Option<&mut T>
         ensures* writes_back { sem 𝓛 (LendsSo Self.row T.row self.entry result
-            (λ new t. OnSome result ((seen new ≡ written (seen self.old) (P.Inx.number i) t) × writes self.old (P.Inx.number i) t new)) (λ new. new ≡ self.old)) }
-        ensures value { option_copied_mut result ≡ option_map (λ e. e.1) (entry self.old (P.Inx.number i)) };
+            (λ new t. OnSome result ((seen new ≡ written (seen self.old) (P.Inx.number i) t)
+            × writes self.old (P.Inx.number i) t new)) (λ new. new ≡ self.old)) }
+        ensures value { option_copied_mut result ≡ option_map (λ e. e.1)
+            (entry self.old (P.Inx.number i)) };
 
     /// The valid pointer of least index. `None`: there are no entries.
     fn find_first_inx_ptr(&self) -> Option<P>
@@ -179,7 +187,8 @@ pub trait ArenaTrait<P: PtrKey, T: Drop> {
 
     /// An advancer that begins at the index itself, by rising index or, with `rev`, by falling index.
     fn advancer_inx(&self, i: P::Inx, rev: bool) -> Self::PtrAdvancer
-        ensures { looks result ≡ (if rev then Look.Down (P.Inx.number i) else Look.Up (P.Inx.number i)) };
+        ensures { looks result ≡ (if rev then Look.Down (P.Inx.number i)
+            else Look.Up (P.Inx.number i)) };
 
     /// Increments the counter and gives it to an entry as its generation, and answers the entry's new pointer.
     ///
@@ -188,10 +197,13 @@ pub trait ArenaTrait<P: PtrKey, T: Drop> {
     fn invalidate(&mut self, p: P) -> InvalidationResult<P>
         ensures some { IsSome (value_within result) ↔ IsValid (entry self.old) (P.key p) }
         ensures valid { IsValid (entry self.old) (P.key p) → IfSome (value_within result) (λ q.
-            ((P.key q).0 ≡ (P.key p).0) × (seen self.new ≡ renewed (seen self.old) (P.key q))) × IsSome (value_within result) }
-        ensures counter { IfSome (seen self.old).counter (λ g. (result ≡ invalidation_result (P.Gen.wraps g) (value_within result))
+            ((P.key q).0 ≡ (P.key p).0) × (seen self.new ≡ renewed (seen self.old) (P.key q)))
+            × IsSome (value_within result) }
+        ensures counter { IfSome (seen self.old).counter
+            (λ g. (result ≡ invalidation_result (P.Gen.wraps g) (value_within result))
             × IfSome (value_within result) (λ q. (P.key q).1 ≡ P.Gen.following g)) }
-        ensures invalid { ¬ IsValid (entry self.old) (P.key p) → (value_within result ≡ None) × (self.new ≡ self.old) }
+        ensures invalid { ¬ IsValid (entry self.old) (P.key p) → (value_within result ≡ None)
+            × (self.new ≡ self.old) }
         ensures more { IsValid (entry self.old) (P.key p) → renews self.old (P.key p).0 self.new };
 
     /// Removes an entry, answers its value and increments the counter.
@@ -200,10 +212,13 @@ pub trait ArenaTrait<P: PtrKey, T: Drop> {
     /// greatest, and is two now.
     fn remove(&mut self, p: P) -> InvalidationResult<T>
         ensures some { IsSome (value_within result) ↔ IsValid (entry self.old) (P.key p) }
-        ensures valid { IsValid (entry self.old) (P.key p) → (value_within result ≡ option_map (λ e. e.1) (entry self.old (P.key p).0))
+        ensures valid { IsValid (entry self.old) (P.key p)
+            → (value_within result ≡ option_map (λ e. e.1) (entry self.old (P.key p).0))
             × (seen self.new ≡ entry_removed P.Gen.following (seen self.old) (P.key p).0) }
-        ensures overflow { IfSome (seen self.old).counter (λ g. result ≡ invalidation_result (P.Gen.wraps g) (value_within result)) }
-        ensures invalid { ¬ IsValid (entry self.old) (P.key p) → (value_within result ≡ None) × (self.new ≡ self.old) }
+        ensures overflow { IfSome (seen self.old).counter
+            (λ g. result ≡ invalidation_result (P.Gen.wraps g) (value_within result)) }
+        ensures invalid { ¬ IsValid (entry self.old) (P.key p) → (value_within result ≡ None)
+            × (self.new ≡ self.old) }
         ensures more { IsValid (entry self.old) (P.key p) → removes self.old (P.key p).0 self.new };
 
     /// Removes the entry at an index, answers its generation and value, and increments the counter.
@@ -212,16 +227,21 @@ pub trait ArenaTrait<P: PtrKey, T: Drop> {
     /// greatest, and is two now.
     fn remove_inx(&mut self, i: P::Inx) -> InvalidationResult<(P::Gen, T)>
         ensures answer { value_within result ≡ entry self.old (P.Inx.number i) }
-        ensures overflow { IfSome (seen self.old).counter (λ g. result ≡ invalidation_result (P.Gen.wraps g) (value_within result)) }
-        ensures valid { IsSome (entry self.old (P.Inx.number i)) → seen self.new ≡ entry_removed P.Gen.following (seen self.old) (P.Inx.number i) }
+        ensures overflow { IfSome (seen self.old).counter
+            (λ g. result ≡ invalidation_result (P.Gen.wraps g) (value_within result)) }
+        ensures valid { IsSome (entry self.old (P.Inx.number i))
+            → seen self.new ≡ entry_removed P.Gen.following (seen self.old) (P.Inx.number i) }
         ensures invalid { entry self.old (P.Inx.number i) ≡ None → self.new ≡ self.old }
-        ensures more { IsSome (entry self.old (P.Inx.number i)) → removes self.old (P.Inx.number i) self.new };
+        ensures more { IsSome (entry self.old (P.Inx.number i))
+            → removes self.old (P.Inx.number i) self.new };
 
     /// Removes all entries and slots, and increments the counter once where there were entries. The capacity stays.
     ///
     /// `GenerationOverflow`: the counter was at its greatest, and is two now.
     fn clear(&mut self) -> InvalidationOption<()>
-        ensures overflow { IfSome (seen self.old).counter (λ g. result ≡ invalidation_option (overflows_after_clear P.Gen.wraps (length (seen self.old).entries) g) tt) }
+        ensures overflow { IfSome (seen self.old).counter
+            (λ g. result ≡ invalidation_option
+            (overflows_after_clear P.Gen.wraps (length (seen self.old).entries) g) tt) }
         ensures after { seen self.new ≡ emptied P.Gen.following (seen self.old) }
         ensures more { clears self.old self.new };
 
@@ -238,18 +258,25 @@ pub trait ArenaTrait<P: PtrKey, T: Drop> {
         map: F,
     ) -> InvalidationOption<()>
         requires { F.IsAlwaysCallable map }
-        ensures compressed { IsCompressed P.Gen.first P.Gen.following reset (seen self.old) (seen self.new) }
-        ensures visits { VisitsAll F.FnMut P.key map (seen self.old).entries (seen self.new).entries }
-        ensures overflow { IfSome (seen self.old).counter (λ g. result ≡ invalidation_option (overflows_after_compression P.Gen.wraps reset (length (seen self.old).entries) g) tt) }
+        ensures compressed { IsCompressed P.Gen.first P.Gen.following reset (seen self.old)
+            (seen self.new) }
+        ensures visits { VisitsAll F.FnMut P.key map (seen self.old).entries
+            (seen self.new).entries }
+        ensures overflow { IfSome (seen self.old).counter
+            (λ g. result ≡ invalidation_option (overflows_after_compression P.Gen.wraps reset
+            (length (seen self.old).entries) g) tt) }
         ensures more { compresses self.old self.new };
 
     /// Closes the gaps, as `compress_with` does, with no closure: each value stays as it is.
     ///
     /// `GenerationOverflow`: the counter was at its greatest, and is two now.
     fn compress(&mut self, reset: bool) -> InvalidationOption<()>
-        ensures compressed { IsCompressed P.Gen.first P.Gen.following reset (seen self.old) (seen self.new) }
+        ensures compressed { IsCompressed P.Gen.first P.Gen.following reset (seen self.old)
+            (seen self.new) }
         ensures values { values_in (seen self.new).entries ≡ values_in (seen self.old).entries }
-        ensures overflow { IfSome (seen self.old).counter (λ g. result ≡ invalidation_option (overflows_after_compression P.Gen.wraps reset (length (seen self.old).entries) g) tt) }
+        ensures overflow { IfSome (seen self.old).counter
+            (λ g. result ≡ invalidation_option (overflows_after_compression P.Gen.wraps reset
+            (length (seen self.old).entries) g) tt) }
         ensures more { compresses self.old self.new }
     {
         self.compress_with(reset, |_p: P, _t: &mut T, _q: P| {})
@@ -259,7 +286,9 @@ pub trait ArenaTrait<P: PtrKey, T: Drop> {
 
     ghost looked_up: { (a : Self) (i : ℕ) → found i (seen a).entries ≡ entry a i };
 
-    ghost advances: { (a b : Self.PtrAdvancer) (c : Self) (r : Option P) → Self.PtrAdvancer.gives a c r b → IsLookUntilNone (seen c).entries (looks a) (option_map P.key r) (looks b) };
+    ghost advances: { (a b : Self.PtrAdvancer) (c : Self) (r : Option P)
+        → Self.PtrAdvancer.gives a c r b → IsLookUntilNone (seen c).entries (looks a)
+        (option_map P.key r) (looks b) };
 }
 
 /// An arena whose capacity grows with its entries alone, and not with their indexes.
@@ -314,16 +343,21 @@ pub trait ArenaCloneFromWith<P: PtrKey, T: Drop>: ArenaTrait<P, T> {
     ) -> (Result<(), ReallocationError>, M)
         requires { M.is_ready values }
         ensures within { length source.now.slots ≤ (Self.seen self.old).capacity →
-            (IsOk result.0 ⊎ HasRefusable M.may_refuse P.key (entries source.now)) × ((Self.seen self.new).capacity ≡ (Self.seen self.old).capacity) }
-        ensures beyond { (result.0 ≡ Err ReallocationError.BeyondMaxCapacity) ↔ IsBeyond (Self.seen self.old).maximum (length source.now.slots) }
+            (IsOk result.0 ⊎ HasRefusable M.may_refuse P.key (entries source.now))
+            × ((Self.seen self.new).capacity ≡ (Self.seen self.old).capacity) }
+        ensures beyond { (result.0 ≡ Err ReallocationError.BeyondMaxCapacity)
+            ↔ IsBeyond (Self.seen self.old).maximum (length source.now.slots) }
         ensures unchanged { result.0 ≡ Err ReallocationError.BeyondMaxCapacity
             → (self.new ≡ self.old) × (result.1 ≡ values) }
-        ensures ok { OnOk result.0 (IsRoom P.Inx.greatest (Self.seen self.new).maximum (length source.now.slots) (Self.seen self.new).capacity) }
-        ensures copied { OnOk result.0 (IsCopyBy M.makes P.key values source.now (Self.seen self.old) (Self.seen self.new) result.1) }
+        ensures ok { OnOk result.0 (IsRoom P.Inx.greatest (Self.seen self.new).maximum
+            (length source.now.slots) (Self.seen self.new).capacity) }
+        ensures copied { OnOk result.0 (IsCopyBy M.makes P.key values source.now
+            (Self.seen self.old) (Self.seen self.new) result.1) }
         ensures ready { OnOk result.0 (M.is_ready result.1) }
         ensures never_less { (Self.seen self.old).capacity ≤ (Self.seen self.new).capacity }
         ensures err { OnErr result.0 (((self.new ≡ self.old) × (result.1 ≡ values))
-            ⊎ (HasRefusable M.may_refuse P.key (entries source.now) × IsLeftEmpty (Self.seen self.old) (Self.seen self.new))) }
+            ⊎ (HasRefusable M.may_refuse P.key (entries source.now)
+            × IsLeftEmpty (Self.seen self.old) (Self.seen self.new))) }
         ensures more { OnOk result.0 (copies U source.now self.old self.new) };
 
     /// Becomes a copy of the source, as by `clone_from_by`, with the closure's answers as values. The closure sees each
@@ -337,10 +371,14 @@ pub trait ArenaCloneFromWith<P: PtrKey, T: Drop>: ArenaTrait<P, T> {
         F: FnMut(P, &U) -> T + Drop,
     >(&mut self, source: &Arena<P, U, S1>, map: F) -> Result<(), ReallocationError>
         requires { F.IsAlwaysCallable map }
-        ensures within { length source.now.slots ≤ (Self.seen self.old).capacity → IsOk result × ((Self.seen self.new).capacity ≡ (Self.seen self.old).capacity) }
-        ensures beyond { (result ≡ Err ReallocationError.BeyondMaxCapacity) ↔ IsBeyond (Self.seen self.old).maximum (length source.now.slots) }
-        ensures ok { OnOk result (IsRoom P.Inx.greatest (Self.seen self.new).maximum (length source.now.slots) (Self.seen self.new).capacity) }
-        ensures copied { OnOk result (IsCopy F.FnMut P.key map source.now (Self.seen self.old) (Self.seen self.new)) }
+        ensures within { length source.now.slots ≤ (Self.seen self.old).capacity
+            → IsOk result × ((Self.seen self.new).capacity ≡ (Self.seen self.old).capacity) }
+        ensures beyond { (result ≡ Err ReallocationError.BeyondMaxCapacity)
+            ↔ IsBeyond (Self.seen self.old).maximum (length source.now.slots) }
+        ensures ok { OnOk result (IsRoom P.Inx.greatest (Self.seen self.new).maximum
+            (length source.now.slots) (Self.seen self.new).capacity) }
+        ensures copied { OnOk result (IsCopy F.FnMut P.key map source.now (Self.seen self.old)
+            (Self.seen self.new)) }
         ensures never_less { (Self.seen self.old).capacity ≤ (Self.seen self.new).capacity }
         ensures err { OnErr result (self.new ≡ self.old) }
         ensures more { OnOk result (copies U source.now self.old self.new) }

@@ -42,8 +42,10 @@ fn new_block<E: Drop>(alloc: Global) -> Result<Vec<E>, AllocError>
 fn exchange_items<E>(one: &mut Vec<E>, i: usize, other: &mut Vec<E>, j: usize)
     requires i_in_bounds { i < length one.old.items }
     requires j_in_bounds { j < length other.old.items }
-    ensures one { (d : E) → one.new.items ≡ slice_set one.old.items i (slice_index_or other.old.items j d) }
-    ensures other { (d : E) → other.new.items ≡ slice_set other.old.items j (slice_index_or one.old.items i d) }
+    ensures one { (d : E) → one.new.items ≡ slice_set one.old.items i
+        (slice_index_or other.old.items j d) }
+    ensures other { (d : E) → other.new.items ≡ slice_set other.old.items j
+        (slice_index_or one.old.items i d) }
     ensures one_room { vec_capacity one.new ≡ vec_capacity one.old }
     ensures other_room { vec_capacity other.new ≡ vec_capacity other.old }
 {
@@ -80,7 +82,8 @@ impl<E: Drop> ChunkStack<E> {
     // Appends an item in the next place.
     fn push(&mut self, item: E)
         requires { self.old.len < 64 * length self.old.blocks.items }
-        ensures items { items_in self.new.blocks.items ≡ items_in self.old.blocks.items ++ item ∷ [] }
+        ensures items { items_in self.new.blocks.items ≡ items_in self.old.blocks.items
+            ++ item ∷ [] }
         ensures blocks { length self.new.blocks.items ≡ length self.old.blocks.items }
     {
         self.blocks[self.len / SLOTS].push_reserved(item);
@@ -91,7 +94,8 @@ impl<E: Drop> ChunkStack<E> {
     fn pop(&mut self)
         requires { 0 < self.old.len }
         ensures len { self.new.len + 1 ≡ self.old.len }
-        ensures items { items_in self.new.blocks.items ≡ take self.new.len (items_in self.old.blocks.items) }
+        ensures items { items_in self.new.blocks.items ≡ take self.new.len
+            (items_in self.old.blocks.items) }
         ensures blocks { length self.new.blocks.items ≡ length self.old.blocks.items }
     {
         self.len -= 1;

@@ -87,7 +87,8 @@ impl<T> InvalidationResult<T> {
     /// The same answer with `f` of its value. `InvalidPtr` stays, and `f` is not called.
     pub fn map<U, F: FnOnce(T) -> U + Drop>(self, f: F) -> InvalidationResult<U>
         requires { ForSome (value_within self) (F.pre f) }
-        ensures value { MatchOption (value_within self) (value_within result ≡ None) (λ t. IsSomeAnd (value_within result) (F.post f t)) }
+        ensures value { MatchOption (value_within self) (value_within result ≡ None)
+            (λ t. IsSomeAnd (value_within result) (F.post f t)) }
         ensures overflow { is_overflow_result result ≡ is_overflow_result self }
     {
         match self {

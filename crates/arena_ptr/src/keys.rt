@@ -62,7 +62,8 @@ pub trait InxKey: Copy {
 
     ghost same_is_equal: { (i j : Self) → (same i j ≡ true) ↔ (i ≡ j) };
 
-    ghost same_packed: { (o p : PackedOption Self Self.Word) → packed_number o ≡ packed_number p → o ≡ p };
+    ghost same_packed: { (o p : PackedOption Self Self.Word) → packed_number o ≡ packed_number p
+        → o ≡ p };
 }
 
 /// What an arena asks of the generations of its pointers. Each `PtrGen` is one, by the calls of the same names.

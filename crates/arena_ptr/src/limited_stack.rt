@@ -15,7 +15,8 @@ use std::alloc::Global;
 pub struct LimitedStack<E> {
     slots: Vec<E>,
     most: Option<usize>,
-    ghost within: { IsWithinMaximum most (vec_capacity slots) } by { IsWithinMaximum-prop most (vec_capacity slots) },
+    ghost within: { IsWithinMaximum most (vec_capacity slots) } by { IsWithinMaximum-prop most
+        (vec_capacity slots) },
 }
 
 impl<E> LimitedStack<E> {

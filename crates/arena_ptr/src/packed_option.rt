@@ -41,7 +41,8 @@ impl<W: Copy, I: PtrInx<Word = W>> fmt::Debug for PackedOption<I, W> {
 
     /// Writes the optional index that is packed, as `Option` writes it.
     fn fmt<F: fmt::Write>(&self, f: &mut fmt::Formatter<F>) -> fmt::Result
-        ensures { (i : Option I) → option_map I.number i ≡ I.packed_number self.now → DisplaysOnOk F.write_str_gives f.old result (debug_option I.debug_output i) f.new }
+        ensures { (i : Option I) → option_map I.number i ≡ I.packed_number self.now
+            → DisplaysOnOk F.write_str_gives f.old result (debug_option I.debug_output i) f.new }
     {
         fmt::Debug::fmt(&I::unpack(*self), f)
     }

@@ -115,7 +115,8 @@ pub trait PtrInx: Copy + Eq + Ord + Hash + Debug {
 
     ghost eq_is_same: { (i j : Self) → (Self.eq i j ≡ true) ↔ (i ≡ j) };
 
-    ghost same_packed: { (o p : PackedOption Self Self.Word) → packed_number o ≡ packed_number p → o ≡ p };
+    ghost same_packed: { (o p : PackedOption Self Self.Word) → packed_number o ≡ packed_number p
+        → o ≡ p };
 }
 
 /// A generation, which tells the entries that stood at one index apart.

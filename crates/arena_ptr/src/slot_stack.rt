@@ -58,10 +58,13 @@ pub trait SlotStack: Drop {
         ensures items { items self.new ≡ items self.old }
         ensures maximum { maximum self.new ≡ maximum self.old }
 
-        ensures within { n ≤ capacity self.old → (result ≡ Ok tt) × (capacity self.new ≡ capacity self.old) }
-        ensures beyond { (result ≡ Err ReallocationError.BeyondMaxCapacity) ↔ IsBeyond (maximum self.old) n }
+        ensures within { n ≤ capacity self.old → (result ≡ Ok tt)
+            × (capacity self.new ≡ capacity self.old) }
+        ensures beyond { (result ≡ Err ReallocationError.BeyondMaxCapacity)
+            ↔ IsBeyond (maximum self.old) n }
         ensures grown { OnOk result (n ≤ capacity self.new) }
-        ensures reached { OnOk result (capacity self.old < n → may_reach (capacity self.old) (maximum self.old) n (capacity self.new)) }
+        ensures reached { OnOk result (capacity self.old < n
+            → may_reach (capacity self.old) (maximum self.old) n (capacity self.new)) }
         ensures never_less { capacity self.old ≤ capacity self.new }
         ensures refused { OnErr result (capacity self.new ≡ capacity self.old) };
 
@@ -78,7 +81,8 @@ pub trait SlotStack: Drop {
 
     /// The item at position `i` for writing, from 0. `None` from the length on.
     fn get_mut(&mut self, i: usize) -> Option<&mut Self::Item>
-        ensures* lends { sem 𝓛 (LendsIf Self.row Self.Item.row self.entry result (with_item self.old i) self.old) }
+        ensures* lends { sem 𝓛 (LendsIf Self.row Self.Item.row self.entry result
+            (with_item self.old i) self.old) }
         ensures value { option_copied_mut result ≡ slice_get (items self.old) i };
 
     /// Exchanges the items at positions `i` and `j`. The capacity stays.
@@ -102,11 +106,14 @@ pub trait SlotStack: Drop {
 
     ghost within_maximum: { (s : Self) → IsWithinMaximum (maximum s) (capacity s) };
 
-    ghost items_written: { (s : Self) (i : ℕ) (e : Self.Item) → items (with_item s i e) ≡ slice_set (items s) i e };
+    ghost items_written: { (s : Self) (i : ℕ) (e : Self.Item)
+        → items (with_item s i e) ≡ slice_set (items s) i e };
 
-    ghost capacity_written: { (s : Self) (i : ℕ) (e : Self.Item) → capacity (with_item s i e) ≡ capacity s };
+    ghost capacity_written: { (s : Self) (i : ℕ) (e : Self.Item)
+        → capacity (with_item s i e) ≡ capacity s };
 
-    ghost maximum_written: { (s : Self) (i : ℕ) (e : Self.Item) → maximum (with_item s i e) ≡ maximum s };
+    ghost maximum_written: { (s : Self) (i : ℕ) (e : Self.Item)
+        → maximum (with_item s i e) ≡ maximum s };
 }
 
 /// A container whose greatest capacity can be set.
@@ -130,5 +137,6 @@ pub trait SetMaxCapacity {
 pub trait LimitStack: SlotStack + SetMaxCapacity {
     ghost same_capacity: { (s : Self) → Self.stack_capacity s ≡ Self.capacity s };
 
-    ghost limited: { (s t : Self) (n : ℕ) → Self.limits s n t → (Self.items t ≡ Self.items s) × (Self.capacity t ≡ Self.capacity s) × (Self.maximum t ≡ Some n) };
+    ghost limited: { (s t : Self) (n : ℕ) → Self.limits s n t → (Self.items t ≡ Self.items s)
+        × (Self.capacity t ≡ Self.capacity s) × (Self.maximum t ≡ Some n) };
 }

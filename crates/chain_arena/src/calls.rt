@@ -172,8 +172,10 @@ fn take_links<P: PtrKey, T: Drop, S: SlotStack<Item = ArenaSlot<P, LinkNoGen<P, 
 ) -> usize
     ensures same_reference { links.new.arena.ghost_name ≡ links.old.arena.ghost_name }
     ensures count { result ≡ min take (length (walk_left links.old.arena.now links.old.at)) }
-    ensures state { without_each P.Gen.following links.new.arena.now (walk_left links.new.arena.now links.new.at)
-        ≡ without_each P.Gen.following links.old.arena.now (walk_left links.old.arena.now links.old.at) }
+    ensures state { without_each P.Gen.following links.new.arena.now
+        (walk_left links.new.arena.now links.new.at)
+        ≡ without_each P.Gen.following links.old.arena.now
+        (walk_left links.old.arena.now links.old.at) }
 {
     let mut count = 0;
     while count < take {
@@ -215,7 +217,8 @@ fn replies_to<P: PtrKey, T: Drop, S: SlotStack<Item = ArenaSlot<P, LinkNoGen<P, 
     arena: &mut ChainArena<P, T, S>,
     calls: Vec<Call<P, T>>,
 ) -> Result<Vec<Reply<P, T>, A>, AllocError>
-    ensures run { IfOk result (λ replies. Run ⟦<P as AnyPointer>⟧.kind arena.old calls.items replies.items arena.new) }
+    ensures run { IfOk result (λ replies. Run ⟦<P as AnyPointer>⟧.kind arena.old calls.items
+        replies.items arena.new) }
     ensures err { OnErr result (arena.new ≡ arena.old) }
 {
     let mut replies = Vec::with_capacity(alloc, calls.len())?;

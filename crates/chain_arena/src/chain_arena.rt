@@ -96,7 +96,8 @@ impl<P: PtrKey, T: Drop, S: SlotStack<Item = ArenaSlot<P, LinkNoGen<P, T>>>> Cha
     // The gap of a kind. `None`: what the kind asks is not met.
     #[inline(always)]
     pub(crate) fn gap_for(&self, kind: LinkInsertKind<P>) -> Option<Gap<P::Inx>>
-        ensures gap { IsGapOf P.Inx.number (entry self.now) (shown self.now) (names_in P.key P.Inx.number kind) result }
+        ensures gap { IsGapOf P.Inx.number (entry self.now) (shown self.now)
+            (names_in P.key P.Inx.number kind) result }
         ensures agree { Agrees (shown self.now) }
     {
         gap_of(&self.arena, by_names(kind))
@@ -104,9 +105,12 @@ impl<P: PtrKey, T: Drop, S: SlotStack<Item = ArenaSlot<P, LinkNoGen<P, T>>>> Cha
 
     // Takes the link at an index out, as each removal does.
     pub(crate) fn unlink(&mut self, i: P::Inx) -> InvalidationResult<(P::Gen, LinkNoGen<P, T>)>
-        ensures answer { option_map (seen_pair P.Inx.packed_number) (value_within result) ≡ entry_at self.old (P.Inx.number i) }
-        ensures overflow { result ≡ invalidation_result (P.Gen.wraps self.old.counter) (value_within result) }
-        ensures removal { IsSome (value_within result) → IsRemoval P.Gen.following self.old (P.Inx.number i) self.new }
+        ensures answer { option_map (seen_pair P.Inx.packed_number) (value_within result)
+            ≡ entry_at self.old (P.Inx.number i) }
+        ensures overflow { result ≡ invalidation_result (P.Gen.wraps self.old.counter)
+            (value_within result) }
+        ensures removal { IsSome (value_within result)
+            → IsRemoval P.Gen.following self.old (P.Inx.number i) self.new }
         ensures invalid { value_within result ≡ None → self.new ≡ self.old }
         ensures agreed { Agrees (shown self.old) }
     {
@@ -147,11 +151,15 @@ impl<P: PtrKey, T: Drop, S: SlotStack<Item = ArenaSlot<P, LinkNoGen<P, T>>>> Cha
         visitor: V,
     ) -> (InvalidationOption<()>, V, Work)
         requires { V.is_ready visitor }
-        ensures canonical { IsCanonicalLayout P.Gen.first P.Gen.following reset (seen self.old) (shown self.old) (seen self.new) (shown self.new) }
+        ensures canonical { IsCanonicalLayout P.Gen.first P.Gen.following reset (seen self.old)
+            (shown self.old) (seen self.new) (shown self.new) }
         ensures stack_capacity { self.new.stack_capacity ≡ self.old.stack_capacity }
-        ensures shows { ShowsAll V.sees P.key (seen self.old) (shown self.old) self.new.counter visitor result.1 }
+        ensures shows { ShowsAll V.sees P.key (seen self.old) (shown self.old) self.new.counter
+            visitor result.1 }
         ensures ready { V.is_ready result.1 }
-        ensures overflow { result.0 ≡ invalidation_option (overflows_after_compression P.Gen.wraps reset (entry_count self.old) self.old.counter) tt }
+        ensures overflow { result.0 ≡ invalidation_option
+            (overflows_after_compression P.Gen.wraps reset (entry_count self.old) self.old.counter)
+            tt }
         ensures placed { self.new.placed ≡ self.old.placed + result.2.placed }
         ensures touched { self.new.touched ≡ self.old.touched + result.2.touched }
         ensures agreed { Agrees (shown self.old) }
@@ -171,10 +179,14 @@ impl<P: PtrKey, T: Drop, S: SlotStack<Item = ArenaSlot<P, LinkNoGen<P, T>>>> Cha
         map: F,
     ) -> InvalidationOption<()>
         requires { F.IsAlwaysCallable map }
-        ensures canonical { IsCanonicalLayout P.Gen.first P.Gen.following reset (seen self.old) (shown self.old) (seen self.new) (shown self.new) }
+        ensures canonical { IsCanonicalLayout P.Gen.first P.Gen.following reset (seen self.old)
+            (shown self.old) (seen self.new) (shown self.new) }
         ensures stack_capacity { self.new.stack_capacity ≡ self.old.stack_capacity }
-        ensures shows { ShowsLayout F.FnMut P.key (seen self.old) (shown self.old) self.new.counter map }
-        ensures overflow { result ≡ invalidation_option (overflows_after_compression P.Gen.wraps reset (entry_count self.old) self.old.counter) tt }
+        ensures shows { ShowsLayout F.FnMut P.key (seen self.old) (shown self.old) self.new.counter
+            map }
+        ensures overflow { result ≡ invalidation_option
+            (overflows_after_compression P.Gen.wraps reset (entry_count self.old) self.old.counter)
+            tt }
         ensures agreed { Agrees (shown self.old) }
     {
         let (overflow, _, _) = self.compress_canonical_by(reset, Showing { map });
@@ -192,11 +204,16 @@ impl<P: PtrKey, T: Drop, S: SlotStack<Item = ArenaSlot<P, LinkNoGen<P, T>>>> Cha
         alloc: A,
         reset: bool,
     ) -> Result<(InvalidationOption<()>, Vec<(P, P), A>), AllocError>
-        ensures canonical { OnOk result (IsCanonicalLayout P.Gen.first P.Gen.following reset (seen self.old) (shown self.old) (seen self.new) (shown self.new)) }
+        ensures canonical { OnOk result (IsCanonicalLayout P.Gen.first P.Gen.following reset
+            (seen self.old) (shown self.old) (seen self.new) (shown self.new)) }
         ensures stack_capacity { self.new.stack_capacity ≡ self.old.stack_capacity }
-        ensures moves { IfOk result (λ r. AreAllMoves P.key (seen self.old) (shown self.old) self.new.counter r.1.items) }
-        ensures by_pointer { IfOk result (λ r. ArePointerMoves P.key (entry self.old) (entry self.new) r.1.items) }
-        ensures overflow { IfOk result (λ r. r.0 ≡ invalidation_option (overflows_after_compression P.Gen.wraps reset (entry_count self.old) self.old.counter) tt) }
+        ensures moves { IfOk result (λ r. AreAllMoves P.key (seen self.old)
+            (shown self.old) self.new.counter r.1.items) }
+        ensures by_pointer { IfOk result (λ r. ArePointerMoves P.key (entry self.old)
+            (entry self.new) r.1.items) }
+        ensures overflow { IfOk result
+            (λ r. r.0 ≡ invalidation_option (overflows_after_compression P.Gen.wraps reset
+            (entry_count self.old) self.old.counter) tt) }
         ensures err { OnErr result (self.new ≡ self.old) }
         ensures agreed { Agrees (shown self.old) }
     {
@@ -210,9 +227,12 @@ impl<P: PtrKey, T: Drop, S: SlotStack<Item = ArenaSlot<P, LinkNoGen<P, T>>>> Cha
     ///
     /// `GenerationOverflow`: the counter was at its greatest, and is two now.
     pub fn compress_canonical_counted(&mut self, reset: bool) -> (InvalidationOption<()>, Work)
-        ensures canonical { IsCanonicalLayout P.Gen.first P.Gen.following reset (seen self.old) (shown self.old) (seen self.new) (shown self.new) }
+        ensures canonical { IsCanonicalLayout P.Gen.first P.Gen.following reset (seen self.old)
+            (shown self.old) (seen self.new) (shown self.new) }
         ensures stack_capacity { self.new.stack_capacity ≡ self.old.stack_capacity }
-        ensures overflow { result.0 ≡ invalidation_option (overflows_after_compression P.Gen.wraps reset (entry_count self.old) self.old.counter) tt }
+        ensures overflow { result.0 ≡ invalidation_option
+            (overflows_after_compression P.Gen.wraps reset (entry_count self.old) self.old.counter)
+            tt }
         ensures placed { self.new.placed ≡ self.old.placed + result.1.placed }
         ensures touched { self.new.touched ≡ self.old.touched + result.1.touched }
         ensures agreed { Agrees (shown self.old) }
@@ -228,7 +248,8 @@ impl<P: PtrKey, T: Drop, S: SlotStack<Item = ArenaSlot<P, LinkNoGen<P, T>>>> Cha
 
     /// The slots.
     pub fn backing(&self) -> &S
-        ensures slots { map (option_map (seen_pair P.Inx.packed_number)) (map entry_of (S.items result.now)) ≡ self.now.slots }
+        ensures slots { map (option_map (seen_pair P.Inx.packed_number))
+            (map entry_of (S.items result.now)) ≡ self.now.slots }
         ensures freed { ThreadsFreeList P.Inx.number (S.items result.now) self.now.freed }
         ensures capacity { S.capacity result.now ≡ self.now.stack_capacity }
         ensures room { self.now.capacity ≡ min (S.capacity result.now) P.Inx.greatest }

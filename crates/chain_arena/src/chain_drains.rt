@@ -54,7 +54,8 @@ impl<P: PtrKey, T: Drop, S: SlotStack<Item = ArenaSlot<P, LinkNoGen<P, T>>>> Cha
         ensures same_reference { IfSome result (λ d. d.arena.ghost_name ≡ self.entry.ghost_name) }
         ensures arena { IfSome result (λ d. d.arena.now ≡ self.old) }
         ensures at { IfSome result (λ d. d.at ≡ (P.key p).0) }
-        ensures walk { IfSome result (λ d. IsWalk (shown self.old) (P.key p).0 (walk_left self.old (P.key p).0)) }
+        ensures walk { IfSome result (λ d. IsWalk (shown self.old) (P.key p).0
+            (walk_left self.old (P.key p).0)) }
     {
         self.invariants();
         if !self.contains(p) {
@@ -77,7 +78,9 @@ impl<P: PtrKey, T: Drop, S: SlotStack<Item = ArenaSlot<P, LinkNoGen<P, T>>>> Cha
     // Removes the link at a number, and answers it with the number of the one that its walk goes on to.
     fn drain_at(&mut self, at: usize) -> Option<(usize, InvalidationOption<(P, LinkNoGen<P, T>)>)>
         ensures none { IfNone result ((walk_left self.old at ≡ []) × (self.new ≡ self.old)) }
-        ensures some { IfSome result (λ e. IsDrainStep P.key P.Inx.packed_number P.Gen.following P.Gen.wraps self.old at e.1 self.new e.0) }
+        ensures some { IfSome result
+            (λ e. IsDrainStep P.key P.Inx.packed_number P.Gen.following P.Gen.wraps self.old at e.1
+            self.new e.0) }
         ensures agreed { Agrees (shown self.old) }
     {
         self.invariants();
@@ -97,7 +100,8 @@ impl<P: PtrKey, T: Drop, S: SlotStack<Item = ArenaSlot<P, LinkNoGen<P, T>>>> Cha
     fn drain_from(&mut self, from: usize)
         ensures state { self.new ≡ without_each P.Gen.following self.old (walk_left self.old from) }
         ensures taken { TakesWalk (shown self.old) (shown self.new) (walk_left self.old from) }
-        ensures counts { CountsUp P.Gen.following (length (walk_left self.old from)) self.old self.new }
+        ensures counts { CountsUp P.Gen.following (length (walk_left self.old from)) self.old
+            self.new }
     {
         self.invariants();
         let mut at = from;
@@ -113,7 +117,8 @@ fn yielded<P: PtrKey, T>(
     entry: (P::Gen, LinkNoGen<P, T>),
     overflow: bool,
 ) -> (usize, InvalidationOption<(P, LinkNoGen<P, T>)>)
-    ensures next { index_from result.0 ≡ goes_on (P.Inx.number i) (P.Inx.packed_number entry.1.prev) (P.Inx.packed_number entry.1.next) }
+    ensures next { index_from result.0 ≡ goes_on (P.Inx.number i) (P.Inx.packed_number entry.1.prev)
+        (P.Inx.packed_number entry.1.next) }
     ensures ptr { P.key (value_in result.1).0 ≡ (P.Inx.number i, entry.0) }
     ensures link { (value_in result.1).1 ≡ entry.1 }
     ensures overflow { is_overflow result.1 ≡ overflow }
@@ -126,7 +131,8 @@ fn yielded<P: PtrKey, T>(
 
 // Where a walk goes on whose first link is removed: to the link after it, or else to the one before it.
 fn goes_on_to<I: InxKey>(i: I, prev: Option<I>, next: Option<I>) -> Option<I>
-    ensures { option_map I.number result ≡ goes_on (I.number i) (option_map I.number prev) (option_map I.number next) }
+    ensures { option_map I.number result ≡ goes_on (I.number i) (option_map I.number prev)
+        (option_map I.number next) }
 {
     match next {
         Some(k) => if k.is_same(i) {
@@ -143,7 +149,8 @@ impl<'a, P: PtrKey, T: Drop, S: SlotStack<Item = ArenaSlot<P, LinkNoGen<P, T>>>>
     type Item = InvalidationOption<(P, LinkNoGen<P, T>)>;
 
     ghost next_gives = { λ old r new. (new.arena.ghost_name ≡ old.arena.ghost_name)
-        × DrainSteps P.key P.Inx.packed_number P.Gen.following P.Gen.wraps old.arena.now old.at r new.arena.now new.at };
+        × DrainSteps P.key P.Inx.packed_number P.Gen.following P.Gen.wraps old.arena.now old.at r
+        new.arena.now new.at };
 
     ghost remaining = { item_count (λ d. walk_left d.arena.now d.at) };
 
@@ -161,9 +168,13 @@ impl<'a, P: PtrKey, T: Drop, S: SlotStack<Item = ArenaSlot<P, LinkNoGen<P, T>>>>
 impl<'a, P: PtrKey, T: Drop, S: SlotStack<Item = ArenaSlot<P, LinkNoGen<P, T>>>> Drop
     for ChainDrain<'a, P, T, S> {
     fn drop(self)
-        ensures state { self.exit.0.now ≡ without_each P.Gen.following self.entry.arena.now (walk_left self.entry.arena.now self.entry.at) }
-        ensures taken { TakesWalk (shown self.entry.arena.now) (shown self.exit.0.now) (walk_left self.entry.arena.now self.entry.at) }
-        ensures counts { CountsUp P.Gen.following (length (walk_left self.entry.arena.now self.entry.at)) self.entry.arena.now self.exit.0.now }
+        ensures state { self.exit.0.now ≡ without_each P.Gen.following self.entry.arena.now
+            (walk_left self.entry.arena.now self.entry.at) }
+        ensures taken { TakesWalk (shown self.entry.arena.now) (shown self.exit.0.now)
+            (walk_left self.entry.arena.now self.entry.at) }
+        ensures counts { CountsUp P.Gen.following
+            (length (walk_left self.entry.arena.now self.entry.at)) self.entry.arena.now
+            self.exit.0.now }
     {
         let ChainDrain { arena, at } = self;
         arena.drain_from(at);

@@ -45,7 +45,8 @@ impl<'a, P: PtrKey, T: Drop, S: SlotStack<Item = ArenaSlot<P, LinkNoGen<P, T>>>>
     ghost use Rattle.chain_links.specs.Walkers.{links_ahead};
     ghost use Rattle.chain_arena.specs.Iterators.{IsOnLinks};
 
-    ghost view = { λ it. links_ahead (seen_links P.Inx.packed_number it.arena.now) it.left (P.Inx.number it.start)
+    ghost view = { λ it. links_ahead (seen_links P.Inx.packed_number it.arena.now) it.left
+        (P.Inx.number it.start)
         (option_map P.Inx.number it.forth) (option_map P.Inx.number it.back) };
 
     ghost invariant = { λ it. IsOnLinks (shown (seen_links P.Inx.packed_number it.arena.now))
@@ -65,8 +66,10 @@ impl<'a, P: PtrKey, T: Drop, S: SlotStack<Item = ArenaSlot<P, LinkNoGen<P, T>>>>
         back: Option<P::Inx>,
         left: usize,
     ) -> Self
-        requires { IsOnLinks (shown (seen_links P.Inx.packed_number arena.now)) (Some (P.Inx.number start)) (option_map P.Inx.number back) }
-        ensures { result ≡ links_ahead (seen_links P.Inx.packed_number arena.now) left (P.Inx.number start)
+        requires { IsOnLinks (shown (seen_links P.Inx.packed_number arena.now))
+            (Some (P.Inx.number start)) (option_map P.Inx.number back) }
+        ensures { result ≡ links_ahead (seen_links P.Inx.packed_number arena.now) left
+            (P.Inx.number start)
             (Some (P.Inx.number start)) (option_map P.Inx.number back) }
     {
         ChainIter {

@@ -33,7 +33,8 @@ impl<
 
     ghost is_ready = { λ m. M.is_ready m.values };
 
-    ghost makes = { λ m p u t n. MakesLink I.packed_number (MakesOf (seen_link I.packed_number) M.makes) m.values p u t n.values };
+    ghost makes = { λ m p u t n. MakesLink I.packed_number
+        (MakesOf (seen_link I.packed_number) M.makes) m.values p u t n.values };
 
     ghost may_refuse = { λ p u. M.may_refuse p u };
 
@@ -64,17 +65,22 @@ impl<P: PtrKey, T: Drop, S: SlotStack<Item = ArenaSlot<P, LinkNoGen<P, T>>>> Cha
     >(&mut self, source: &ChainArena<P, U, S1>, values: M) -> (Result<(), ReallocationError>, M)
         requires { M.is_ready values }
         ensures within { length source.now.slots ≤ self.old.capacity →
-            (IsOk result.0 ⊎ HasRefusableLink P.Inx.packed_number M.may_refuse P.key source.now) × (self.new.capacity ≡ self.old.capacity) }
-        ensures beyond { (result.0 ≡ Err ReallocationError.BeyondMaxCapacity) ↔ IsBeyond self.old.maximum (length source.now.slots) }
+            (IsOk result.0 ⊎ HasRefusableLink P.Inx.packed_number M.may_refuse P.key source.now)
+            × (self.new.capacity ≡ self.old.capacity) }
+        ensures beyond { (result.0 ≡ Err ReallocationError.BeyondMaxCapacity)
+            ↔ IsBeyond self.old.maximum (length source.now.slots) }
         ensures unchanged { result.0 ≡ Err ReallocationError.BeyondMaxCapacity
             → (self.new ≡ self.old) × (result.1 ≡ values) }
         ensures ok { OnOk result.0 (HasRoom P.Inx.greatest (length source.now.slots) self.new) }
-        ensures copied { OnOk result.0 (IsLinkCopyBy (MakesOf (seen_link P.Inx.packed_number) M.makes) P.key values source.now self.old self.new result.1) }
+        ensures copied { OnOk result.0
+            (IsLinkCopyBy (MakesOf (seen_link P.Inx.packed_number) M.makes) P.key values source.now
+            self.old self.new result.1) }
         ensures ready { OnOk result.0 (M.is_ready result.1) }
         ensures never_less { self.old.capacity ≤ self.new.capacity }
         ensures reached { IsWithinReach S.may_reach (length source.now.slots) self.old self.new }
         ensures err { OnErr result.0 (((self.new ≡ self.old) × (result.1 ≡ values))
-            ⊎ (HasRefusableLink P.Inx.packed_number M.may_refuse P.key source.now × IsGivenUp self.old self.new)) }
+            ⊎ (HasRefusableLink P.Inx.packed_number M.may_refuse P.key source.now
+            × IsGivenUp self.old self.new)) }
         ensures agreed { Agrees (shown source.now) }
     {
         let (done, links) = self.arena.clone_from_by(&source.arena, LinkMap { values });
@@ -94,10 +100,13 @@ impl<P: PtrKey, T: Drop, S: SlotStack<Item = ArenaSlot<P, LinkNoGen<P, T>>>> Cha
         F: FnMut(P, &LinkNoGen<P, U>) -> T + Drop,
     >(&mut self, source: &ChainArena<P, U, S1>, map: F) -> Result<(), ReallocationError>
         requires { F.IsAlwaysCallable map }
-        ensures within { length source.now.slots ≤ self.old.capacity → IsOk result × (self.new.capacity ≡ self.old.capacity) }
-        ensures beyond { (result ≡ Err ReallocationError.BeyondMaxCapacity) ↔ IsBeyond self.old.maximum (length source.now.slots) }
+        ensures within { length source.now.slots ≤ self.old.capacity
+            → IsOk result × (self.new.capacity ≡ self.old.capacity) }
+        ensures beyond { (result ≡ Err ReallocationError.BeyondMaxCapacity)
+            ↔ IsBeyond self.old.maximum (length source.now.slots) }
         ensures ok { OnOk result (HasRoom P.Inx.greatest (length source.now.slots) self.new) }
-        ensures copied { OnOk result (IsLinkCopy F.FnMut P.Inx.packed_number P.key map source.now self.old self.new) }
+        ensures copied { OnOk result
+            (IsLinkCopy F.FnMut P.Inx.packed_number P.key map source.now self.old self.new) }
         ensures never_less { self.old.capacity ≤ self.new.capacity }
         ensures reached { IsWithinReach S.may_reach (length source.now.slots) self.old self.new }
         ensures err { OnErr result (self.new ≡ self.old) }
@@ -121,17 +130,24 @@ impl<P: PtrKey, T: Drop, S: SlotStack<Item = ArenaSlot<P, LinkNoGen<P, T>>>> Cha
     >(&self, arena: &mut A, values: M) -> (Result<(), ReallocationError>, M)
         requires { M.is_ready values }
         ensures within { length self.now.slots ≤ (A.seen arena.old).capacity →
-            (IsOk result.0 ⊎ HasRefusableLink P.Inx.packed_number M.may_refuse P.key self.now) × ((A.seen arena.new).capacity ≡ (A.seen arena.old).capacity) }
-        ensures beyond { (result.0 ≡ Err ReallocationError.BeyondMaxCapacity) ↔ IsBeyond (A.seen arena.old).maximum (length self.now.slots) }
+            (IsOk result.0 ⊎ HasRefusableLink P.Inx.packed_number M.may_refuse P.key self.now)
+            × ((A.seen arena.new).capacity ≡ (A.seen arena.old).capacity) }
+        ensures beyond { (result.0 ≡ Err ReallocationError.BeyondMaxCapacity)
+            ↔ IsBeyond (A.seen arena.old).maximum (length self.now.slots) }
         ensures unchanged { result.0 ≡ Err ReallocationError.BeyondMaxCapacity
             → (arena.new ≡ arena.old) × (result.1 ≡ values) }
-        ensures ok { OnOk result.0 (IsRoom P.Inx.greatest (A.seen arena.new).maximum (length self.now.slots) (A.seen arena.new).capacity) }
-        ensures copied { OnOk result.0 (IsCopyBy (MakesOf (seen_link P.Inx.packed_number) M.makes) P.key values self.now (A.seen arena.old) (A.seen arena.new) result.1) }
+        ensures ok { OnOk result.0 (IsRoom P.Inx.greatest (A.seen arena.new).maximum
+            (length self.now.slots) (A.seen arena.new).capacity) }
+        ensures copied { OnOk result.0
+            (IsCopyBy (MakesOf (seen_link P.Inx.packed_number) M.makes) P.key values self.now
+            (A.seen arena.old) (A.seen arena.new) result.1) }
         ensures ready { OnOk result.0 (M.is_ready result.1) }
         ensures never_less { (A.seen arena.old).capacity ≤ (A.seen arena.new).capacity }
         ensures err { OnErr result.0 (((arena.new ≡ arena.old) × (result.1 ≡ values))
-            ⊎ (HasRefusableLink P.Inx.packed_number M.may_refuse P.key self.now × IsLeftEmpty (A.seen arena.old) (A.seen arena.new))) }
-        ensures more { OnOk result.0 (IsCopyBelow P.Inx.packed_number (A.copies _) self.now arena.old arena.new) }
+            ⊎ (HasRefusableLink P.Inx.packed_number M.may_refuse P.key self.now
+            × IsLeftEmpty (A.seen arena.old) (A.seen arena.new))) }
+        ensures more { OnOk result.0
+            (IsCopyBelow P.Inx.packed_number (A.copies _) self.now arena.old arena.new) }
     {
         arena.clone_from_by(&self.arena, values)
     }
@@ -149,13 +165,19 @@ impl<P: PtrKey, T: Drop, S: SlotStack<Item = ArenaSlot<P, LinkNoGen<P, T>>>> Cha
         F: FnMut(P, &LinkNoGen<P, T>) -> U + Drop,
     >(&self, arena: &mut A, map: F) -> Result<(), ReallocationError>
         requires { F.IsAlwaysCallable map }
-        ensures within { length self.now.slots ≤ (A.seen arena.old).capacity → IsOk result × ((A.seen arena.new).capacity ≡ (A.seen arena.old).capacity) }
-        ensures beyond { (result ≡ Err ReallocationError.BeyondMaxCapacity) ↔ IsBeyond (A.seen arena.old).maximum (length self.now.slots) }
-        ensures ok { OnOk result (IsRoom P.Inx.greatest (A.seen arena.new).maximum (length self.now.slots) (A.seen arena.new).capacity) }
-        ensures copied { OnOk result ((last : F) × IsCopyBy (MakesOf (seen_link P.Inx.packed_number) (IsCopyCall F.FnMut)) P.key map self.now (A.seen arena.old) (A.seen arena.new) last) }
+        ensures within { length self.now.slots ≤ (A.seen arena.old).capacity
+            → IsOk result × ((A.seen arena.new).capacity ≡ (A.seen arena.old).capacity) }
+        ensures beyond { (result ≡ Err ReallocationError.BeyondMaxCapacity)
+            ↔ IsBeyond (A.seen arena.old).maximum (length self.now.slots) }
+        ensures ok { OnOk result (IsRoom P.Inx.greatest (A.seen arena.new).maximum
+            (length self.now.slots) (A.seen arena.new).capacity) }
+        ensures copied { OnOk result
+            ((last : F) × IsCopyBy (MakesOf (seen_link P.Inx.packed_number) (IsCopyCall F.FnMut))
+            P.key map self.now (A.seen arena.old) (A.seen arena.new) last) }
         ensures never_less { (A.seen arena.old).capacity ≤ (A.seen arena.new).capacity }
         ensures err { OnErr result (arena.new ≡ arena.old) }
-        ensures more { OnOk result (IsCopyBelow P.Inx.packed_number (A.copies _) self.now arena.old arena.new) }
+        ensures more { OnOk result (IsCopyBelow P.Inx.packed_number (A.copies _) self.now arena.old
+            arena.new) }
     {
         let (done, _) = self.clone_to_arena_by(arena, Answering { map });
         done
@@ -192,12 +214,14 @@ impl<P: PtrKey, T: Clone, S: SlotStack<Item = ArenaSlot<P, LinkNoGen<P, T>>>> Ch
     /// Carries `clone` of `triple_arena`.
     pub fn clone(&self, alloc: Global) -> Result<Self, ReallocationError>
         requires clones_equal { (x y : T) → T.is_clone x y → y ≡ x }
-        ensures beyond { (result ≡ Err ReallocationError.BeyondMaxCapacity) ↔ IsBeyond S.initial_maximum (length self.now.slots) }
+        ensures beyond { (result ≡ Err ReallocationError.BeyondMaxCapacity)
+            ↔ IsBeyond S.initial_maximum (length self.now.slots) }
         ensures copied { IfOk result (IsClone P.Gen.first S.initial_maximum self.now) }
         ensures room { IfOk result (HasRoom P.Inx.greatest (length self.now.slots)) }
         ensures reached { IfOk result (IsWithinReach S.may_reach (length self.now.slots)
             (new_arena P.Gen.first S.initial_maximum)) }
-        ensures no_room { self.now.slots ≡ [] → IfOk result (λ copy. copy.stack_capacity ≡ 0) × IsOk result }
+        ensures no_room { self.now.slots ≡ [] → IfOk result (λ copy. copy.stack_capacity ≡ 0)
+            × IsOk result }
         ensures agreed { Agrees (shown self.now) }
     {
         let mut arena: Arena<P, LinkNoGen<P, T>, S> = Arena::new(alloc);

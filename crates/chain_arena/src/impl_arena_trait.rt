@@ -40,7 +40,8 @@ impl<P: PtrKey, T: Drop, S: SlotStack<Item = ArenaSlot<P, LinkNoGen<P, T>>>> Are
 
     ghost starts = { IsNewWithRoom S.may_reach P.Gen.first S.initial_maximum };
 
-    ghost grows = { λ n a b. (b ≡ with_capacity_of a b) × (shown b ≡ shown a) × IsWithinReach S.may_reach n a b };
+    ghost grows = { λ n a b. (b ≡ with_capacity_of a b) × (shown b ≡ shown a)
+        × IsWithinReach S.may_reach n a b };
 
     ghost writes = { λ a i t b. (b ≡ with_value_at a i t) × (shown b ≡ shown a) };
 
@@ -56,7 +57,8 @@ impl<P: PtrKey, T: Drop, S: SlotStack<Item = ArenaSlot<P, LinkNoGen<P, T>>>> Are
 
     ghost looked_up = { λ a. found-entries (values_of a) };
 
-    ghost advances = { λ a b arena answer given. until_none (entries (values_of arena)) a.look (option_map P.key answer) b.look given };
+    ghost advances = { λ a b arena answer given. until_none (entries (values_of arena)) a.look
+        (option_map P.key answer) b.look given };
 
     fn new(alloc: Global) -> Self {
         ChainArena {
@@ -207,11 +209,13 @@ impl<P: PtrKey, T: Drop, S: SlotStack<Item = ArenaSlot<P, LinkNoGen<P, T>>>> Adv
 
     type Item = P;
 
-    ghost gives = { λ a arena answer b. IsLook (entries (values_of arena)) a.look (option_map P.key answer) b.look };
+    ghost gives = { λ a arena answer b. IsLook (entries (values_of arena)) a.look
+        (option_map P.key answer) b.look };
 
     ghost is_spent = { λ a. a.look ≡ Nowhere };
 
-    ghost stays_spent = { λ a b arena answer spent given. nowhere_stays P.key (entries (values_of arena)) a.look answer b.look spent given };
+    ghost stays_spent = { λ a b arena answer spent given. nowhere_stays P.key
+        (entries (values_of arena)) a.look answer b.look spent given };
 
     fn advance(&mut self, collection: &ChainArena<P, T, S>) -> Option<P> {
         self.advance(&collection.arena)

@@ -63,7 +63,8 @@ impl<P: PtrKey, T: Drop, S: SlotStack<Item = ArenaSlot<P, LinkNoGen<P, T>>>> Cha
     ghost compressed = { λ a b h. h.renamed };
 
     fn can_insert(&self, kind: LinkInsertKind<P>) -> bool
-        ensures { IsTrue result ↔ MayInsert (entry self.now) (interlinks self.now) (names_in P.key P.Inx.number kind) }
+        ensures { IsTrue result ↔ MayInsert (entry self.now) (interlinks self.now)
+            (names_in P.key P.Inx.number kind) }
     {
         self.gap_for(kind).is_some()
     }
@@ -75,16 +76,24 @@ impl<P: PtrKey, T: Drop, S: SlotStack<Item = ArenaSlot<P, LinkNoGen<P, T>>>> Cha
         kind: LinkInsertKind<P>,
         t: T,
     ) -> Result<P, ChainInsertionError>
-        ensures may { OnOk result (MayInsert (entry self.old) (interlinks self.old) (names_in P.key P.Inx.number kind)) }
-        ensures inserted { IfOk result (λ p. GainsLink seen entry interlinks (names_in P.key P.Inx.number kind) t self.old (P.key p) self.new) }
+        ensures may { OnOk result (MayInsert (entry self.old) (interlinks self.old)
+            (names_in P.key P.Inx.number kind)) }
+        ensures inserted { IfOk result (λ p. GainsLink seen entry interlinks
+            (names_in P.key P.Inx.number kind) t self.old (P.key p) self.new) }
         ensures agreed { Agrees (interlinks self.old) }
         ensures capacity { (seen self.new).capacity ≡ (seen self.old).capacity }
         ensures err { OnErr result (self.new ≡ self.old) }
-        ensures link { (result ≡ Err ChainInsertionError.FailedLinkRequirement) ↔ ¬ MayInsert (entry self.old) (interlinks self.old) (names_in P.key P.Inx.number kind) }
-        ensures full { (result ≡ Err ChainInsertionError.NotWithinCapacity) ↔ (MayInsert (entry self.old) (interlinks self.old) (names_in P.key P.Inx.number kind) × IsFull (seen self.old)) }
-        ensures error { IfErr result (λ e. (e ≡ ChainInsertionError.FailedLinkRequirement) ⊎ (e ≡ ChainInsertionError.NotWithinCapacity)) }
+        ensures link { (result ≡ Err ChainInsertionError.FailedLinkRequirement)
+            ↔ ¬ MayInsert (entry self.old) (interlinks self.old)
+            (names_in P.key P.Inx.number kind) }
+        ensures full { (result ≡ Err ChainInsertionError.NotWithinCapacity)
+            ↔ (MayInsert (entry self.old) (interlinks self.old) (names_in P.key P.Inx.number kind)
+            × IsFull (seen self.old)) }
+        ensures error { IfErr result (λ e. (e ≡ ChainInsertionError.FailedLinkRequirement)
+            ⊎ (e ≡ ChainInsertionError.NotWithinCapacity)) }
         ensures place { IfOk result (λ p. (P.key p).0 ≡ next_index self.old) }
-        ensures state { OnOk result (self.new ≡ insert_as self.old (kind_of P.key P.Inx.number kind) t) }
+        ensures state { OnOk result (self.new ≡ insert_as self.old (kind_of P.key P.Inx.number kind)
+            t) }
     {
         let asked = self.gap_within(kind);
         self.insert_at(asked, t)
@@ -96,20 +105,34 @@ impl<P: PtrKey, T: Drop, S: SlotStack<Item = ArenaSlot<P, LinkNoGen<P, T>>>> Cha
         kind: LinkInsertKind<P>,
         t: T,
     ) -> Result<P, ChainInsertionError>
-        ensures may { OnOk result (MayInsert (entry self.old) (interlinks self.old) (names_in P.key P.Inx.number kind)) }
-        ensures inserted { IfOk result (λ p. GainsLink seen entry interlinks (names_in P.key P.Inx.number kind) t self.old (P.key p) self.new) }
+        ensures may { OnOk result (MayInsert (entry self.old) (interlinks self.old)
+            (names_in P.key P.Inx.number kind)) }
+        ensures inserted { IfOk result (λ p. GainsLink seen entry interlinks
+            (names_in P.key P.Inx.number kind) t self.old (P.key p) self.new) }
         ensures agreed { Agrees (interlinks self.old) }
         ensures err { OnErr result (self.new ≡ self.old) }
-        ensures link { (result ≡ Err ChainInsertionError.FailedLinkRequirement) ↔ ¬ MayInsert (entry self.old) (interlinks self.old) (names_in P.key P.Inx.number kind) }
+        ensures link { (result ≡ Err ChainInsertionError.FailedLinkRequirement)
+            ↔ ¬ MayInsert (entry self.old) (interlinks self.old)
+            (names_in P.key P.Inx.number kind) }
         ensures error { IfErr result (λ e. e ≢ ChainInsertionError.NotWithinCapacity) }
-        ensures room { MayInsert (entry self.old) (interlinks self.old) (names_in P.key P.Inx.number kind) → SucceedsInRoom (seen self.old) result (seen self.new) }
-        ensures grown { OnOk result (IsRoom P.Inx.greatest (seen self.new).maximum (count (seen self.old) + 1) (seen self.new).capacity) }
-        ensures beyond { (result ≡ Err ChainInsertionError.BeyondMaxCapacity) ↔ (MayInsert (entry self.old) (interlinks self.old) (names_in P.key P.Inx.number kind) × NeedsBeyondMaximum (seen self.old)) }
+        ensures room { MayInsert (entry self.old) (interlinks self.old)
+            (names_in P.key P.Inx.number kind)
+            → SucceedsInRoom (seen self.old) result (seen self.new) }
+        ensures grown { OnOk result (IsRoom P.Inx.greatest (seen self.new).maximum
+            (count (seen self.old) + 1) (seen self.new).capacity) }
+        ensures beyond { (result ≡ Err ChainInsertionError.BeyondMaxCapacity)
+            ↔ (MayInsert (entry self.old) (interlinks self.old) (names_in P.key P.Inx.number kind)
+            × NeedsBeyondMaximum (seen self.old)) }
         ensures greatest { count (seen self.old) ≡ P.Inx.greatest → IsErr result }
         ensures place { IfOk result (λ p. (P.key p).0 ≡ next_index self.old) }
-        ensures state { OnOk result (self.new ≡ with_capacity_of (insert_as self.old (kind_of P.key P.Inx.number kind) t) self.new) }
-        ensures state_in_room { May P.key P.Inx.number self.old kind → entry_count self.old < self.old.capacity → self.new ≡ insert_as self.old (kind_of P.key P.Inx.number kind) t }
-        ensures state_grown { OnOk result (HasGrownTo S.may_reach P.Inx.greatest (entry_count self.old + 1) self.old self.new) }
+        ensures state { OnOk result
+            (self.new ≡ with_capacity_of (insert_as self.old (kind_of P.key P.Inx.number kind) t)
+            self.new) }
+        ensures state_in_room { May P.key P.Inx.number self.old kind
+            → entry_count self.old < self.old.capacity
+            → self.new ≡ insert_as self.old (kind_of P.key P.Inx.number kind) t }
+        ensures state_grown { OnOk result (HasGrownTo S.may_reach P.Inx.greatest
+            (entry_count self.old + 1) self.old self.new) }
     {
         let asked = self.gap_growing(kind);
         self.insert_at(asked, t)
@@ -117,37 +140,49 @@ impl<P: PtrKey, T: Drop, S: SlotStack<Item = ArenaSlot<P, LinkNoGen<P, T>>>> Cha
 
     #[inline(always)]
     fn insert(&mut self, kind: LinkInsertKind<P>, t: T) -> Result<P, ReallocationError>
-        requires { MayInsert (entry self.old) (interlinks self.old) (names_in P.key P.Inx.number kind) }
-        ensures inserted { IfOk result (λ p. GainsLink seen entry interlinks (names_in P.key P.Inx.number kind) t self.old (P.key p) self.new) }
+        requires { MayInsert (entry self.old) (interlinks self.old)
+            (names_in P.key P.Inx.number kind) }
+        ensures inserted { IfOk result (λ p. GainsLink seen entry interlinks
+            (names_in P.key P.Inx.number kind) t self.old (P.key p) self.new) }
         ensures agreed { Agrees (interlinks self.old) }
         ensures err { OnErr result (self.new ≡ self.old) }
         ensures room { SucceedsInRoom (seen self.old) result (seen self.new) }
-        ensures grown { OnOk result (IsRoom P.Inx.greatest (seen self.new).maximum (count (seen self.old) + 1) (seen self.new).capacity) }
-        ensures beyond { (result ≡ Err ReallocationError.BeyondMaxCapacity) ↔ NeedsBeyondMaximum (seen self.old) }
+        ensures grown { OnOk result (IsRoom P.Inx.greatest (seen self.new).maximum
+            (count (seen self.old) + 1) (seen self.new).capacity) }
+        ensures beyond { (result ≡ Err ReallocationError.BeyondMaxCapacity)
+            ↔ NeedsBeyondMaximum (seen self.old) }
         ensures greatest { count (seen self.old) ≡ P.Inx.greatest → IsErr result }
         ensures place { IfOk result (λ p. (P.key p).0 ≡ next_index self.old) }
-        ensures state { OnOk result (self.new ≡ with_capacity_of (insert_as self.old (kind_of P.key P.Inx.number kind) t) self.new) }
-        ensures state_in_room { entry_count self.old < self.old.capacity → self.new ≡ insert_as self.old (kind_of P.key P.Inx.number kind) t }
-        ensures state_grown { OnOk result (HasGrownTo S.may_reach P.Inx.greatest (entry_count self.old + 1) self.old self.new) }
+        ensures state { OnOk result
+            (self.new ≡ with_capacity_of (insert_as self.old (kind_of P.key P.Inx.number kind) t)
+            self.new) }
+        ensures state_in_room { entry_count self.old < self.old.capacity
+            → self.new ≡ insert_as self.old (kind_of P.key P.Inx.number kind) t }
+        ensures state_grown { OnOk result (HasGrownTo S.may_reach P.Inx.greatest
+            (entry_count self.old + 1) self.old self.new) }
     {
         growth_of(self.insert_reallocating(kind, t))
     }
 
     fn are_neighbors(&self, p: P, q: P) -> bool
-        ensures { IsTrue result ↔ (IsValid (entry self.now) (P.key p) × IsValid (entry self.now) (P.key q) × AreNeighbors (interlinks self.now) (P.key p).0 (P.key q).0) }
+        ensures { IsTrue result
+            ↔ (IsValid (entry self.now) (P.key p) × IsValid (entry self.now) (P.key q)
+            × AreNeighbors (interlinks self.now) (P.key p).0 (P.key q).0) }
     {
         self.contains(q) && is_index(next_of_link(&self.arena, Name::Pointer(p)), q.inx())
     }
 
     fn are_neighbors_inx(&self, i: P::Inx, j: P::Inx) -> bool
-        ensures { IsTrue result ↔ AreNeighbors (interlinks self.now) (P.Inx.number i) (P.Inx.number j) }
+        ensures { IsTrue result ↔ AreNeighbors (interlinks self.now) (P.Inx.number i)
+            (P.Inx.number j) }
     {
         is_index(next_of_link(&self.arena, Name::Index(i)), j)
     }
 
     fn get_link(&self, p: P) -> Option<Link<P, &T>>
         ensures some { IsSome result ↔ IsValid (entry self.now) (P.key p) }
-        ensures link { IfSome result (λ link. IsLinkAt (entry self.now) (interlinks self.now) (P.key p)
+        ensures link { IfSome result (λ link. IsLinkAt (entry self.now) (interlinks self.now)
+            (P.key p)
             (option_map P.key link.prev) (option_map P.key link.next) link.t.now) }
         ensures agree { Agrees (interlinks self.now) }
     {
@@ -163,14 +198,16 @@ impl<P: PtrKey, T: Drop, S: SlotStack<Item = ArenaSlot<P, LinkNoGen<P, T>>>> Cha
 
     fn get_link_no_gen(&self, p: P) -> Option<&LinkNoGen<P, T>>
         ensures some { IsSome result ↔ IsValid (entry self.now) (P.key p) }
-        ensures link { IfSome result (λ link. link_at (entry self.now) (interlinks self.now) (P.key p).0 ≡ Some ((P.key p).1, seen_link P.Inx.packed_number link.now)) }
+        ensures link { IfSome result (λ link. link_at (entry self.now) (interlinks self.now)
+            (P.key p).0 ≡ Some ((P.key p).1, seen_link P.Inx.packed_number link.now)) }
         ensures agree { Agrees (interlinks self.now) }
     {
         self.arena.get(p)
     }
 
     fn get_inx_link_no_gen(&self, i: P::Inx) -> Option<(P::Gen, &LinkNoGen<P, T>)>
-        ensures link { option_map (seen_lent P.Inx.packed_number) result ≡ link_at (entry self.now) (interlinks self.now) (P.Inx.number i) }
+        ensures link { option_map (seen_lent P.Inx.packed_number) result ≡ link_at (entry self.now)
+            (interlinks self.now) (P.Inx.number i) }
         ensures agree { Agrees (interlinks self.now) }
     {
         self.arena.get_inx(i)
@@ -189,26 +226,36 @@ impl<P: PtrKey, T: Drop, S: SlotStack<Item = ArenaSlot<P, LinkNoGen<P, T>>>> Cha
     }
 
     fn connect(&mut self, p: P, q: P) -> Option<()>
-        ensures some { IsSome result ↔ CanConnect (entry self.old) (interlinks self.old) (P.key p) (P.key q) }
-        ensures joined { OnSome result (interlinks self.new ≡ joined (interlinks self.old) (P.key p).0 (P.key q).0) }
+        ensures some { IsSome result ↔ CanConnect (entry self.old) (interlinks self.old) (P.key p)
+            (P.key q) }
+        ensures joined { OnSome result (interlinks self.new ≡ joined (interlinks self.old)
+            (P.key p).0 (P.key q).0) }
         ensures seen { OnSome result (seen self.new ≡ seen self.old) }
         ensures none { IfNone result (self.new ≡ self.old) }
         ensures agreed { Agrees (interlinks self.old) }
-        ensures state { OnSome result (self.new ≡ relinked self.old (joined (interlinks self.old) (P.key p).0 (P.key q).0)) }
-        ensures pair { OnSome result (AddsPair (interlinks self.old) (interlinks self.new) (P.key p).0 (P.key q).0) }
-        ensures chains { OnSome result (Connects (interlinks self.old) (interlinks self.new) (P.key p).0 (P.key q).0) }
+        ensures state { OnSome result
+            (self.new ≡ relinked self.old (joined (interlinks self.old) (P.key p).0 (P.key q).0)) }
+        ensures pair { OnSome result (AddsPair (interlinks self.old) (interlinks self.new)
+            (P.key p).0 (P.key q).0) }
+        ensures chains { OnSome result (Connects (interlinks self.old) (interlinks self.new)
+            (P.key p).0 (P.key q).0) }
     {
         join(&mut self.arena, p, q)
     }
 
     fn break_prev(&mut self, p: P) -> Option<()>
-        ensures some { IsSome result ↔ (IsValid (entry self.old) (P.key p) × IsSome (prev_of (interlinks self.old) (P.key p).0)) }
-        ensures cut { OnSome result (IfSome (prev_of (interlinks self.old) (P.key p).0) (λ a. interlinks self.new ≡ cut (interlinks self.old) a (P.key p).0)) }
-        ensures chains { OnSome result (IfSome (prev_of (interlinks self.old) (P.key p).0) (λ a. Cuts (interlinks self.old) (interlinks self.new) a (P.key p).0)) }
+        ensures some { IsSome result
+            ↔ (IsValid (entry self.old) (P.key p)
+            × IsSome (prev_of (interlinks self.old) (P.key p).0)) }
+        ensures cut { OnSome result (IfSome (prev_of (interlinks self.old) (P.key p).0)
+            (λ a. interlinks self.new ≡ cut (interlinks self.old) a (P.key p).0)) }
+        ensures chains { OnSome result (IfSome (prev_of (interlinks self.old) (P.key p).0)
+            (λ a. Cuts (interlinks self.old) (interlinks self.new) a (P.key p).0)) }
         ensures seen { OnSome result (seen self.new ≡ seen self.old) }
         ensures none { IfNone result (self.new ≡ self.old) }
         ensures agreed { Agrees (interlinks self.old) }
-        ensures state { OnSome result (IfSome (prev_of (interlinks self.old) (P.key p).0) (λ a. IsCut self.old self.new a (P.key p).0)) }
+        ensures state { OnSome result (IfSome (prev_of (interlinks self.old) (P.key p).0)
+            (λ a. IsCut self.old self.new a (P.key p).0)) }
     {
         match prev_of_link(&self.arena, Name::Pointer(p)) {
             Some(before) => {
@@ -220,13 +267,18 @@ impl<P: PtrKey, T: Drop, S: SlotStack<Item = ArenaSlot<P, LinkNoGen<P, T>>>> Cha
     }
 
     fn break_next(&mut self, p: P) -> Option<()>
-        ensures some { IsSome result ↔ (IsValid (entry self.old) (P.key p) × IsSome (next_of (interlinks self.old) (P.key p).0)) }
-        ensures cut { OnSome result (IfSome (next_of (interlinks self.old) (P.key p).0) (λ b. interlinks self.new ≡ cut (interlinks self.old) (P.key p).0 b)) }
-        ensures chains { OnSome result (IfSome (next_of (interlinks self.old) (P.key p).0) (λ b. Cuts (interlinks self.old) (interlinks self.new) (P.key p).0 b)) }
+        ensures some { IsSome result
+            ↔ (IsValid (entry self.old) (P.key p)
+            × IsSome (next_of (interlinks self.old) (P.key p).0)) }
+        ensures cut { OnSome result (IfSome (next_of (interlinks self.old) (P.key p).0)
+            (λ b. interlinks self.new ≡ cut (interlinks self.old) (P.key p).0 b)) }
+        ensures chains { OnSome result (IfSome (next_of (interlinks self.old) (P.key p).0)
+            (λ b. Cuts (interlinks self.old) (interlinks self.new) (P.key p).0 b)) }
         ensures seen { OnSome result (seen self.new ≡ seen self.old) }
         ensures none { IfNone result (self.new ≡ self.old) }
         ensures agreed { Agrees (interlinks self.old) }
-        ensures state { OnSome result (IfSome (next_of (interlinks self.old) (P.key p).0) (λ b. IsCut self.old self.new (P.key p).0 b)) }
+        ensures state { OnSome result (IfSome (next_of (interlinks self.old) (P.key p).0)
+            (λ b. IsCut self.old self.new (P.key p).0 b)) }
     {
         match next_of_link(&self.arena, Name::Pointer(p)) {
             Some(after) => {
@@ -238,9 +290,12 @@ impl<P: PtrKey, T: Drop, S: SlotStack<Item = ArenaSlot<P, LinkNoGen<P, T>>>> Cha
     }
 
     fn exchange_next(&mut self, p: P, q: P) -> Option<()>
-        ensures some { IsSome result ↔ CanExchange (entry self.old) (interlinks self.old) (P.key p) (P.key q) }
-        ensures exchanged { OnSome result (interlinks self.new ≡ exchanged (interlinks self.old) (P.key p).0 (P.key q).0) }
-        ensures chains { OnSome result (Exchanges (interlinks self.old) (interlinks self.new) (P.key p).0 (P.key q).0) }
+        ensures some { IsSome result ↔ CanExchange (entry self.old) (interlinks self.old) (P.key p)
+            (P.key q) }
+        ensures exchanged { OnSome result (interlinks self.new ≡ exchanged (interlinks self.old)
+            (P.key p).0 (P.key q).0) }
+        ensures chains { OnSome result (Exchanges (interlinks self.old) (interlinks self.new)
+            (P.key p).0 (P.key q).0) }
         ensures seen { OnSome result (seen self.new ≡ seen self.old) }
         ensures none { IfNone result (self.new ≡ self.old) }
         ensures agreed { Agrees (interlinks self.old) }
@@ -265,13 +320,20 @@ impl<P: PtrKey, T: Drop, S: SlotStack<Item = ArenaSlot<P, LinkNoGen<P, T>>>> Cha
 
     fn remove_link_no_gen(&mut self, p: P) -> InvalidationResult<LinkNoGen<P, T>>
         ensures some { IsSome (value_within result) ↔ IsValid (entry self.old) (P.key p) }
-        ensures valid { IsValid (entry self.old) (P.key p) → YieldsLink seen entry interlinks P.Inx.packed_number P.Gen.following (P.key p) self.old (value_within result) self.new }
-        ensures overflow { IfSome (seen self.old).counter (λ g. result ≡ invalidation_result (P.Gen.wraps g) (value_within result)) }
-        ensures invalid { ¬ IsValid (entry self.old) (P.key p) → (value_within result ≡ None) × (self.new ≡ self.old) }
+        ensures valid { IsValid (entry self.old) (P.key p)
+            → YieldsLink seen entry interlinks P.Inx.packed_number P.Gen.following
+            (P.key p) self.old (value_within result) self.new }
+        ensures overflow { IfSome (seen self.old).counter
+            (λ g. result ≡ invalidation_result (P.Gen.wraps g) (value_within result)) }
+        ensures invalid { ¬ IsValid (entry self.old) (P.key p) → (value_within result ≡ None)
+            × (self.new ≡ self.old) }
         ensures agreed { Agrees (interlinks self.old) }
-        ensures state { IsValid (entry self.old) (P.key p) → self.new ≡ remove_link P.Gen.following self.old (P.key p).0 }
-        ensures chains { IsValid (entry self.old) (P.key p) → Removes (interlinks self.old) (interlinks self.new) (P.key p).0 }
-        ensures pairs { IsValid (entry self.old) (P.key p) → RemovesPairs (interlinks self.old) (interlinks self.new) (P.key p).0 }
+        ensures state { IsValid (entry self.old) (P.key p)
+            → self.new ≡ remove_link P.Gen.following self.old (P.key p).0 }
+        ensures chains { IsValid (entry self.old) (P.key p)
+            → Removes (interlinks self.old) (interlinks self.new) (P.key p).0 }
+        ensures pairs { IsValid (entry self.old) (P.key p)
+            → RemovesPairs (interlinks self.old) (interlinks self.new) (P.key p).0 }
     {
         self.invariants();
         if self.contains(p) {
@@ -282,23 +344,32 @@ impl<P: PtrKey, T: Drop, S: SlotStack<Item = ArenaSlot<P, LinkNoGen<P, T>>>> Cha
     }
 
     fn remove_inx_link_no_gen(&mut self, i: P::Inx) -> InvalidationResult<(P::Gen, LinkNoGen<P, T>)>
-        ensures answer { option_map (on_value (seen_link P.Inx.packed_number)) (value_within result) ≡ link_at (entry self.old) (interlinks self.old) (P.Inx.number i) }
-        ensures overflow { IfSome (seen self.old).counter (λ g. result ≡ invalidation_result (P.Gen.wraps g) (value_within result)) }
-        ensures valid { IsSome (entry self.old (P.Inx.number i)) → LosesLink seen interlinks P.Gen.following (P.Inx.number i) self.old self.new }
+        ensures answer { option_map (on_value (seen_link P.Inx.packed_number)) (value_within result)
+            ≡ link_at (entry self.old) (interlinks self.old) (P.Inx.number i) }
+        ensures overflow { IfSome (seen self.old).counter
+            (λ g. result ≡ invalidation_result (P.Gen.wraps g) (value_within result)) }
+        ensures valid { IsSome (entry self.old (P.Inx.number i))
+            → LosesLink seen interlinks P.Gen.following (P.Inx.number i) self.old self.new }
         ensures invalid { entry self.old (P.Inx.number i) ≡ None → self.new ≡ self.old }
         ensures shows { IsSome (entry self.old (P.Inx.number i))
             → interlinks self.new ≡ removed (interlinks self.old) (P.Inx.number i) }
         ensures agreed { Agrees (interlinks self.old) }
-        ensures state { IsSome (entry self.old (P.Inx.number i)) → self.new ≡ remove_link P.Gen.following self.old (P.Inx.number i) }
-        ensures chains { IsSome (entry self.old (P.Inx.number i)) → Removes (interlinks self.old) (interlinks self.new) (P.Inx.number i) }
-        ensures pairs { IsSome (entry self.old (P.Inx.number i)) → RemovesPairs (interlinks self.old) (interlinks self.new) (P.Inx.number i) }
+        ensures state { IsSome (entry self.old (P.Inx.number i))
+            → self.new ≡ remove_link P.Gen.following self.old (P.Inx.number i) }
+        ensures chains { IsSome (entry self.old (P.Inx.number i))
+            → Removes (interlinks self.old) (interlinks self.new) (P.Inx.number i) }
+        ensures pairs { IsSome (entry self.old (P.Inx.number i))
+            → RemovesPairs (interlinks self.old) (interlinks self.new) (P.Inx.number i) }
     {
         self.unlink(i)
     }
 
     fn compress_canonical(&mut self, reset: bool) -> InvalidationOption<()>
-        ensures canonical { IsCanonicalLayout P.Gen.first P.Gen.following reset (seen self.old) (interlinks self.old) (seen self.new) (interlinks self.new) }
-        ensures overflow { IfSome (seen self.old).counter (λ g. result ≡ invalidation_option (overflows_after_compression P.Gen.wraps reset (length (seen self.old).entries) g) tt) }
+        ensures canonical { IsCanonicalLayout P.Gen.first P.Gen.following reset (seen self.old)
+            (interlinks self.old) (seen self.new) (interlinks self.new) }
+        ensures overflow { IfSome (seen self.old).counter
+            (λ g. result ≡ invalidation_option (overflows_after_compression P.Gen.wraps reset
+            (length (seen self.old).entries) g) tt) }
         ensures agreed { Agrees (interlinks self.old) }
         ensures stack_capacity { self.new.stack_capacity ≡ self.old.stack_capacity }
     {

@@ -53,7 +53,8 @@ impl<P: PtrKey, T: Drop, S: SlotStack<Item = ArenaSlot<P, LinkNoGen<P, T>>>> Cha
         &mut self,
         kind: LinkInsertKind<P>,
     ) -> Result<Gap<P::Inx>, ChainInsertionError>
-        ensures place { PlacesGrowing P.key P.Inx.number S.may_reach P.Inx.greatest self.old kind result self.new }
+        ensures place { PlacesGrowing P.key P.Inx.number S.may_reach P.Inx.greatest self.old kind
+            result self.new }
         ensures agreed { Agrees (shown self.old) }
     {
         match self.gap_for(kind) {
@@ -65,7 +66,9 @@ impl<P: PtrKey, T: Drop, S: SlotStack<Item = ArenaSlot<P, LinkNoGen<P, T>>>> Cha
     // Adds a link in a gap, where there is room. Inlined, the gap need not go through memory.
     #[inline(always)]
     pub(crate) fn insert_in_gap(&mut self, gap: Gap<P::Inx>, t: T) -> P
-        requires gap { IsGap (shown self.old) (next_index self.old) (before_in P.Inx.number gap (next_index self.old)) (after_in P.Inx.number gap (next_index self.old)) }
+        requires gap { IsGap (shown self.old) (next_index self.old)
+            (before_in P.Inx.number gap (next_index self.old))
+            (after_in P.Inx.number gap (next_index self.old)) }
         requires room { entry_count self.old < self.old.capacity }
         ensures { IsInsertedIn P.key P.Inx.number self.old gap t result self.new }
     {
@@ -86,7 +89,9 @@ impl<P: PtrKey, T: Drop, S: SlotStack<Item = ArenaSlot<P, LinkNoGen<P, T>>>> Cha
         asked: Result<Gap<P::Inx>, ChainInsertionError>,
         t: T,
     ) -> Result<P, ChainInsertionError>
-        requires gap { ForOk asked (λ gap. IsGap (shown self.old) (next_index self.old) (before_in P.Inx.number gap (next_index self.old)) (after_in P.Inx.number gap (next_index self.old))) }
+        requires gap { ForOk asked (λ gap. IsGap (shown self.old) (next_index self.old)
+            (before_in P.Inx.number gap (next_index self.old))
+            (after_in P.Inx.number gap (next_index self.old))) }
         requires room { ForOk asked (λ gap. entry_count self.old < self.old.capacity) }
         ensures { InsertsAt P.key P.Inx.number self.old asked t result self.new }
     {

@@ -37,7 +37,8 @@ pub struct ChainArenaInsertEntry<
     ghost place: { inx ≡ next_index arena.now },
     ghost index: { IsWithin P.Inx.greatest inx },
     ghost indexes: { (prev ≤ P.Inx.greatest) × (next ≤ P.Inx.greatest) },
-    ghost fits: { ∥ IsGap (shown arena.now) (next_index arena.now) (index_from prev) (index_from next) ∥₁ },
+    ghost fits: { ∥ IsGap (shown arena.now) (next_index arena.now) (index_from prev)
+        (index_from next) ∥₁ },
 }
 
 // An optional index as a number, 0 for none.
@@ -77,13 +78,18 @@ impl<P: PtrKey, T: Drop, S: SlotStack<Item = ArenaSlot<P, LinkNoGen<P, T>>>> Cha
             (arena_row P.row T.row S.row P.Inx.row P.Gen.row P.Inx.Word.row
             P.PtrKey P.Inx.InxKey P.Gen.GenKey S.SlotStack)
             self.entry (λ e. e.arena.ghost_name) result (λ n. n ≡ self.old)) }
-        ensures link { (result ≡ Err ChainInsertionError.FailedLinkRequirement) ↔ ¬ May P.key P.Inx.number self.old kind }
-        ensures full { (result ≡ Err ChainInsertionError.NotWithinCapacity) ↔ (May P.key P.Inx.number self.old kind × (entry_count self.old ≡ self.old.capacity)) }
-        ensures error { IfErr result (λ e. (e ≡ ChainInsertionError.FailedLinkRequirement) ⊎ (e ≡ ChainInsertionError.NotWithinCapacity)) }
+        ensures link { (result ≡ Err ChainInsertionError.FailedLinkRequirement)
+            ↔ ¬ May P.key P.Inx.number self.old kind }
+        ensures full { (result ≡ Err ChainInsertionError.NotWithinCapacity)
+            ↔ (May P.key P.Inx.number self.old kind × (entry_count self.old ≡ self.old.capacity)) }
+        ensures error { IfErr result (λ e. (e ≡ ChainInsertionError.FailedLinkRequirement)
+            ⊎ (e ≡ ChainInsertionError.NotWithinCapacity)) }
         ensures same_reference { IfOk result (λ e. e.arena.ghost_name ≡ self.entry.ghost_name) }
         ensures arena { IfOk result (λ e. e.arena.now ≡ self.old) }
-        ensures prev { IfOk result (λ e. index_from e.prev ≡ link_before (shown self.old) (kind_of P.key P.Inx.number kind) (next_index self.old)) }
-        ensures next { IfOk result (λ e. index_from e.next ≡ link_after (shown self.old) (kind_of P.key P.Inx.number kind) (next_index self.old)) }
+        ensures prev { IfOk result (λ e. index_from e.prev ≡ link_before (shown self.old)
+            (kind_of P.key P.Inx.number kind) (next_index self.old)) }
+        ensures next { IfOk result (λ e. index_from e.next ≡ link_after (shown self.old)
+            (kind_of P.key P.Inx.number kind) (next_index self.old)) }
     {
         match self.gap_within(kind) {
             Ok(gap) => Ok(self.entry_in(gap)),
@@ -104,16 +110,24 @@ impl<P: PtrKey, T: Drop, S: SlotStack<Item = ArenaSlot<P, LinkNoGen<P, T>>>> Cha
             (arena_row P.row T.row S.row P.Inx.row P.Gen.row P.Inx.Word.row
             P.PtrKey P.Inx.InxKey P.Gen.GenKey S.SlotStack)
             self.entry (λ e. e.arena.ghost_name) result (λ n. n ≡ self.old)) }
-        ensures link { (result ≡ Err ChainInsertionError.FailedLinkRequirement) ↔ ¬ May P.key P.Inx.number self.old kind }
+        ensures link { (result ≡ Err ChainInsertionError.FailedLinkRequirement)
+            ↔ ¬ May P.key P.Inx.number self.old kind }
         ensures error { IfErr result (λ e. e ≢ ChainInsertionError.NotWithinCapacity) }
-        ensures room { May P.key P.Inx.number self.old kind → entry_count self.old < self.old.capacity → IsOkAnd result (λ e. e.arena.now ≡ self.old) }
-        ensures grown { IfOk result (λ e. HasGrownTo S.may_reach P.Inx.greatest (entry_count self.old + 1) self.old e.arena.now) }
-        ensures beyond { (result ≡ Err ChainInsertionError.BeyondMaxCapacity) ↔ (May P.key P.Inx.number self.old kind × RefusesOneMore self.old ReallocationError.BeyondMaxCapacity) }
+        ensures room { May P.key P.Inx.number self.old kind
+            → entry_count self.old < self.old.capacity
+            → IsOkAnd result (λ e. e.arena.now ≡ self.old) }
+        ensures grown { IfOk result (λ e. HasGrownTo S.may_reach P.Inx.greatest
+            (entry_count self.old + 1) self.old e.arena.now) }
+        ensures beyond { (result ≡ Err ChainInsertionError.BeyondMaxCapacity)
+            ↔ (May P.key P.Inx.number self.old kind
+            × RefusesOneMore self.old ReallocationError.BeyondMaxCapacity) }
         ensures greatest { entry_count self.old ≡ P.Inx.greatest → IsErr result }
         ensures same_reference { IfOk result (λ e. e.arena.ghost_name ≡ self.entry.ghost_name) }
         ensures arena { IfOk result (λ e. e.arena.now ≡ with_capacity_of self.old e.arena.now) }
-        ensures prev { IfOk result (λ e. index_from e.prev ≡ link_before (shown self.old) (kind_of P.key P.Inx.number kind) (next_index self.old)) }
-        ensures next { IfOk result (λ e. index_from e.next ≡ link_after (shown self.old) (kind_of P.key P.Inx.number kind) (next_index self.old)) }
+        ensures prev { IfOk result (λ e. index_from e.prev ≡ link_before (shown self.old)
+            (kind_of P.key P.Inx.number kind) (next_index self.old)) }
+        ensures next { IfOk result (λ e. index_from e.next ≡ link_after (shown self.old)
+            (kind_of P.key P.Inx.number kind) (next_index self.old)) }
     {
         match self.gap_growing(kind) {
             Ok(gap) => Ok(self.entry_in(gap)),
@@ -134,14 +148,19 @@ impl<P: PtrKey, T: Drop, S: SlotStack<Item = ArenaSlot<P, LinkNoGen<P, T>>>> Cha
             (arena_row P.row T.row S.row P.Inx.row P.Gen.row P.Inx.Word.row
             P.PtrKey P.Inx.InxKey P.Gen.GenKey S.SlotStack)
             self.entry (λ e. e.arena.ghost_name) result (λ n. n ≡ self.old)) }
-        ensures room { entry_count self.old < self.old.capacity → IsOkAnd result (λ e. e.arena.now ≡ self.old) }
-        ensures grown { IfOk result (λ e. HasGrownTo S.may_reach P.Inx.greatest (entry_count self.old + 1) self.old e.arena.now) }
-        ensures beyond { (result ≡ Err ReallocationError.BeyondMaxCapacity) ↔ RefusesOneMore self.old ReallocationError.BeyondMaxCapacity }
+        ensures room { entry_count self.old < self.old.capacity
+            → IsOkAnd result (λ e. e.arena.now ≡ self.old) }
+        ensures grown { IfOk result (λ e. HasGrownTo S.may_reach P.Inx.greatest
+            (entry_count self.old + 1) self.old e.arena.now) }
+        ensures beyond { (result ≡ Err ReallocationError.BeyondMaxCapacity)
+            ↔ RefusesOneMore self.old ReallocationError.BeyondMaxCapacity }
         ensures greatest { entry_count self.old ≡ P.Inx.greatest → IsErr result }
         ensures same_reference { IfOk result (λ e. e.arena.ghost_name ≡ self.entry.ghost_name) }
         ensures arena { IfOk result (λ e. e.arena.now ≡ with_capacity_of self.old e.arena.now) }
-        ensures prev { IfOk result (λ e. index_from e.prev ≡ link_before (shown self.old) (kind_of P.key P.Inx.number kind) (next_index self.old)) }
-        ensures next { IfOk result (λ e. index_from e.next ≡ link_after (shown self.old) (kind_of P.key P.Inx.number kind) (next_index self.old)) }
+        ensures prev { IfOk result (λ e. index_from e.prev ≡ link_before (shown self.old)
+            (kind_of P.key P.Inx.number kind) (next_index self.old)) }
+        ensures next { IfOk result (λ e. index_from e.next ≡ link_after (shown self.old)
+            (kind_of P.key P.Inx.number kind) (next_index self.old)) }
     {
         match self.gap_for(kind) {
             Some(gap) => match self.make_room() {
@@ -167,7 +186,9 @@ impl<P: PtrKey, T: Drop, S: SlotStack<Item = ArenaSlot<P, LinkNoGen<P, T>>>> Cha
     // The entry of a gap, where there is room.
     fn entry_in(&mut self, gap: Gap<P::Inx>) -> ChainArenaInsertEntry<'_, P, T, S>
         requires room { entry_count self.old < self.old.capacity }
-        requires gap { IsGap (shown self.old) (next_index self.old) (before_in P.Inx.number gap (next_index self.old)) (after_in P.Inx.number gap (next_index self.old)) }
+        requires gap { IsGap (shown self.old) (next_index self.old)
+            (before_in P.Inx.number gap (next_index self.old))
+            (after_in P.Inx.number gap (next_index self.old)) }
         ensures same_reference { result.arena.ghost_name ≡ self.entry.ghost_name }
         ensures arena { result.arena.now ≡ self.old }
         ensures prev { index_from result.prev ≡ before_in P.Inx.number gap (next_index self.old) }
@@ -202,8 +223,10 @@ impl<
 
     /// Adds the link. It takes no memory.
     pub fn insert(self, t: T)
-        ensures state { self.exit.0.now ≡ insert_between self.entry.arena.now t (index_from self.entry.prev) (index_from self.entry.next) }
-        ensures inserted { ComesBetween (index_from self.entry.prev) (index_from self.entry.next) self.entry.arena.now t self.exit.0.now }
+        ensures state { self.exit.0.now ≡ insert_between self.entry.arena.now t
+            (index_from self.entry.prev) (index_from self.entry.next) }
+        ensures inserted { ComesBetween (index_from self.entry.prev) (index_from self.entry.next)
+            self.entry.arena.now t self.exit.0.now }
     {
         let (prev, next) = (self.prev, self.next);
         let gap = Gap::Between(index_or_none(prev), index_or_none(next));

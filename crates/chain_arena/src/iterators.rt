@@ -97,7 +97,8 @@ impl<P: PtrKey, T: Drop, S: SlotStack<Item = ArenaSlot<P, LinkNoGen<P, T>>>> Int
 
     type IntoIter = CapacityDrain<P, LinkNoGen<P, T>, S>;
 
-    ghost into_iter_gives = { λ a it. (seen_entries P.Inx.packed_number it ≡ entries a) × (length it < 2 ^ 64) };
+    ghost into_iter_gives = { λ a it. (seen_entries P.Inx.packed_number it ≡ entries a)
+        × (length it < 2 ^ 64) };
 
     /// All links of an arena that is used up, by rising index, each with its pointer, and with its interlinks as they
     /// stood.
@@ -123,7 +124,8 @@ where
 
     type IntoIter = Iter<'a, P, LinkNoGen<P, T>, S>;
 
-    ghost into_iter_gives = { λ a it. (seen_entries P.Inx.packed_number it ≡ entries a.now) × (length it < 2 ^ 64) };
+    ghost into_iter_gives = { λ a it. (seen_entries P.Inx.packed_number it ≡ entries a.now)
+        × (length it < 2 ^ 64) };
 
     /// All links by rising index, each with its pointer.
     fn into_iter(self) -> Iter<'a, P, LinkNoGen<P, T>, S> {

@@ -58,7 +58,8 @@ impl<P: PtrKey, T: Drop, S: SlotStack<Item = ArenaSlot<P, LinkNoGen<P, T>>>> Cha
     #[inline(always)]
     fn drain_first(&mut self, at: usize) -> Option<(usize, InvalidationOption<(P, T)>)>
         ensures none { IfNone result ((entries_left self.old at ≡ []) × (self.new ≡ self.old)) }
-        ensures some { IfSome result (λ e. IsLinkDrainStep P.key P.Gen.following P.Gen.wraps self.old at e.1 self.new e.0) }
+        ensures some { IfSome result
+            (λ e. IsLinkDrainStep P.key P.Gen.following P.Gen.wraps self.old at e.1 self.new e.0) }
     {
         match self.first_from(at) {
             Some(p) => {
@@ -77,9 +78,12 @@ impl<P: PtrKey, T: Drop, S: SlotStack<Item = ArenaSlot<P, LinkNoGen<P, T>>>> Cha
 
     // Removes the links from an index on.
     fn drain_rest(&mut self, from: usize)
-        ensures state { self.new ≡ without_each P.Gen.following self.old (map index_of (entries_left self.old from)) }
-        ensures counts { CountsUp P.Gen.following (length (entries_left self.old from)) self.old self.new }
-        ensures empties { entries_left self.old from ≡ entries (values_of self.old) → entries (values_of self.new) ≡ [] }
+        ensures state { self.new ≡ without_each P.Gen.following self.old
+            (map index_of (entries_left self.old from)) }
+        ensures counts { CountsUp P.Gen.following (length (entries_left self.old from)) self.old
+            self.new }
+        ensures empties { entries_left self.old from ≡ entries (values_of self.old)
+            → entries (values_of self.new) ≡ [] }
     {
         let mut at = from;
         while let Some((next, _)) = self.drain_first(at) {
@@ -93,7 +97,8 @@ impl<'a, P: PtrKey, T: Drop, S: SlotStack<Item = ArenaSlot<P, LinkNoGen<P, T>>>>
     type Item = InvalidationOption<(P, T)>;
 
     ghost next_gives = { λ old r new. (new.arena.ghost_name ≡ old.arena.ghost_name)
-        × LinkDrainSteps P.key P.Gen.following P.Gen.wraps old.arena.now old.at r new.arena.now new.at };
+        × LinkDrainSteps P.key P.Gen.following P.Gen.wraps old.arena.now old.at r new.arena.now
+        new.at };
 
     ghost remaining = { item_count (λ d. entries_left d.arena.now d.at) };
 
@@ -111,9 +116,13 @@ impl<'a, P: PtrKey, T: Drop, S: SlotStack<Item = ArenaSlot<P, LinkNoGen<P, T>>>>
 impl<'a, P: PtrKey, T: Drop, S: SlotStack<Item = ArenaSlot<P, LinkNoGen<P, T>>>> Drop
     for LinkDrain<'a, P, T, S> {
     fn drop(self)
-        ensures state { self.exit.0.now ≡ without_each P.Gen.following self.entry.arena.now (map index_of (entries_left self.entry.arena.now self.entry.at)) }
-        ensures counts { CountsUp P.Gen.following (length (entries_left self.entry.arena.now self.entry.at)) self.entry.arena.now self.exit.0.now }
-        ensures empties { entries_left self.entry.arena.now self.entry.at ≡ entries (values_of self.entry.arena.now) → entries (values_of self.exit.0.now) ≡ [] }
+        ensures state { self.exit.0.now ≡ without_each P.Gen.following self.entry.arena.now
+            (map index_of (entries_left self.entry.arena.now self.entry.at)) }
+        ensures counts { CountsUp P.Gen.following
+            (length (entries_left self.entry.arena.now self.entry.at)) self.entry.arena.now
+            self.exit.0.now }
+        ensures empties { entries_left self.entry.arena.now self.entry.at ≡ entries
+            (values_of self.entry.arena.now) → entries (values_of self.exit.0.now) ≡ [] }
     {
         let LinkDrain { arena, at } = self;
         arena.drain_rest(at);

@@ -16,7 +16,8 @@ fn recast_at<
     S: SlotStack<Item = ArenaSlot<P, LinkNoGen<P, T>>>,
     R: Recaster<Item = I>,
 >(arena: &mut ChainArena<P, T, S>, p: P, recaster: &R) -> Result<(), I>
-    ensures { IsValid (entry arena.old) (P.key p) → IsRecastAt (T.recast_by (R.recasts recaster.now)) arena.old arena.new (P.key p) result }
+    ensures { IsValid (entry arena.old) (P.key p)
+        → IsRecastAt (T.recast_by (R.recasts recaster.now)) arena.old arena.new (P.key p) result }
 {
     match arena.get_mut(p) {
         Some(t) => t.recast(recaster),

@@ -39,12 +39,20 @@ impl<P: PtrKey, T: Drop, S: SlotStack<Item = ArenaSlot<P, LinkNoGen<P, T>>>> Cha
         F: FnMut(Q, InvalidationOption<U>, P) -> T + Drop,
     >(&mut self, new_generation: P::Gen, source: &mut A, map: F) -> Result<(), ReallocationError>
         requires { F.IsAlwaysCallable map }
-        ensures transferred { OnOk result (IsTransfer Q.key P.key Q.Gen.following Q.Gen.wraps F.FnMut new_generation map (A.seen source.old) (A.interlinks source.old) (A.seen source.new) self.old self.new) }
+        ensures transferred { OnOk result
+            (IsTransfer Q.key P.key Q.Gen.following Q.Gen.wraps F.FnMut new_generation map
+            (A.seen source.old) (A.interlinks source.old) (A.seen source.new) self.old self.new) }
         ensures room { OnOk result (HasRoom P.Inx.greatest (count (A.seen source.old)) self.new) }
-        ensures reached { OnOk result (IsWithinReach S.may_reach (count (A.seen source.old)) self.old self.new) }
-        ensures within { count (A.seen source.old) ≤ self.old.capacity → IsOk result × (self.new.capacity ≡ self.old.capacity) × (self.new.stack_capacity ≡ self.old.stack_capacity) }
-        ensures greatest { P.Inx.greatest < count (A.seen source.old) → result ≡ Err ReallocationError.AllocError }
-        ensures beyond { (result ≡ Err ReallocationError.BeyondMaxCapacity) ↔ ((count (A.seen source.old) ≤ P.Inx.greatest) × IsBeyond self.old.maximum (count (A.seen source.old))) }
+        ensures reached { OnOk result
+            (IsWithinReach S.may_reach (count (A.seen source.old)) self.old self.new) }
+        ensures within { count (A.seen source.old) ≤ self.old.capacity
+            → IsOk result × (self.new.capacity ≡ self.old.capacity)
+            × (self.new.stack_capacity ≡ self.old.stack_capacity) }
+        ensures greatest { P.Inx.greatest < count (A.seen source.old)
+            → result ≡ Err ReallocationError.AllocError }
+        ensures beyond { (result ≡ Err ReallocationError.BeyondMaxCapacity)
+            ↔ ((count (A.seen source.old) ≤ P.Inx.greatest) × IsBeyond self.old.maximum
+            (count (A.seen source.old))) }
         ensures err { OnErr result ((self.new ≡ self.old) × (source.new ≡ source.old)) }
     {
         match self.make_room_for(source.len()) {
@@ -62,7 +70,8 @@ impl<P: PtrKey, T: Drop, S: SlotStack<Item = ArenaSlot<P, LinkNoGen<P, T>>>> Cha
     fn make_room_for(&mut self, n: usize) -> Result<(), ReallocationError>
         ensures within { n ≤ self.old.capacity → IsOk result × (self.new ≡ self.old) }
         ensures greatest { P.Inx.greatest < n → result ≡ Err ReallocationError.AllocError }
-        ensures beyond { (result ≡ Err ReallocationError.BeyondMaxCapacity) ↔ ((n ≤ P.Inx.greatest) × IsBeyond self.old.maximum n) }
+        ensures beyond { (result ≡ Err ReallocationError.BeyondMaxCapacity)
+            ↔ ((n ≤ P.Inx.greatest) × IsBeyond self.old.maximum n) }
         ensures err { OnErr result (self.new ≡ self.old) }
         ensures room { OnOk result (HasRoom P.Inx.greatest n self.new) }
         ensures reached { OnOk result (IsWithinReach S.may_reach n self.old self.new) }
@@ -96,7 +105,9 @@ fn carry_all<
     requires freed { target.old.freed ≡ [] }
     requires room { count (A.seen source.old) ≤ target.old.capacity }
     requires greatest { target.old.capacity ≤ P.Inx.greatest }
-    ensures transferred { IsTransfer Q.key P.key Q.Gen.following Q.Gen.wraps F.FnMut target.old.counter map (A.seen source.old) (A.interlinks source.old) (A.seen source.new) target.old target.new }
+    ensures transferred { IsTransfer Q.key P.key Q.Gen.following Q.Gen.wraps F.FnMut
+        target.old.counter map (A.seen source.old) (A.interlinks source.old)
+        (A.seen source.new) target.old target.new }
     ensures capacity { target.new.capacity ≡ target.old.capacity }
     ensures stack_capacity { target.new.stack_capacity ≡ target.old.stack_capacity }
 {
@@ -136,8 +147,10 @@ fn pointer_at<P: PtrKey>(index: usize, generation: P::Gen) -> P
 
 // Where a new link comes at the end of a chain: behind its last, and in a ring before its first.
 fn gap_behind<I: InxKey>(ring: bool, ends: Option<(I, I)>) -> Gap<I>
-    ensures before { (m q : ℕ) → AreEnds I.number ends m q → before_in I.number result q ≡ end_before ring m q }
-    ensures after { (m q : ℕ) → AreEnds I.number ends m q → after_in I.number result q ≡ end_after ring m q }
+    ensures before { (m q : ℕ) → AreEnds I.number ends m q
+        → before_in I.number result q ≡ end_before ring m q }
+    ensures after { (m q : ℕ) → AreEnds I.number ends m q
+        → after_in I.number result q ≡ end_after ring m q }
 {
     match ends {
         None => {
@@ -153,7 +166,8 @@ fn gap_behind<I: InxKey>(ring: bool, ends: Option<(I, I)>) -> Gap<I>
 
 // The ends of a chain with one more at its end.
 fn with_end<I: InxKey>(ends: Option<(I, I)>, i: I) -> Option<(I, I)>
-    ensures { (m : ℕ) → AreEnds I.number ends m (I.number i) → AreEnds I.number result (m + 1) (I.number i + 1) }
+    ensures { (m : ℕ) → AreEnds I.number ends m (I.number i)
+        → AreEnds I.number result (m + 1) (I.number i + 1) }
 {
     match ends {
         Some((first, _)) => Some((first, i)),
@@ -170,11 +184,13 @@ fn lay_behind<P: PtrKey, T: Drop, S: SlotStack<Item = ArenaSlot<P, LinkNoGen<P, 
     to: P,
     t: T,
 ) -> Option<(P::Inx, P::Inx)>
-    requires ends { (m : ℕ) × AreEnds P.Inx.number ends m (next_index target.old) × HasGapBehind ring m target.old }
+    requires ends { (m : ℕ) × AreEnds P.Inx.number ends m (next_index target.old)
+        × HasGapBehind ring m target.old }
     requires room { entry_count target.old < target.old.capacity }
     requires index { (P.key to).0 ≡ next_index target.old }
     ensures laid { (m : ℕ) → AreEnds P.Inx.number ends m (next_index target.old)
-        → (target.new ≡ laid_behind ring m target.old t) × AreEnds P.Inx.number result (m + 1) (next_index target.old + 1) }
+        → (target.new ≡ laid_behind ring m target.old t) × AreEnds P.Inx.number result (m + 1)
+        (next_index target.old + 1) }
     ensures listed { IsListed target.old }
 {
     target.insert_in_gap(gap_behind(ring, ends), t);

@@ -19,8 +19,10 @@ pub fn answer<S: SlotStack<Item = ArenaSlot<ToolPtr, LinkNoGen<ToolPtr, u32>>>>(
     line: &[u8],
     text: &mut String,
 ) -> Result<(), AllocError>
-    ensures ok { OnOk result (AnswersLine arena.old (line_of line.now) (string_bytes text.new) arena.new) }
-    ensures err { OnErr result ((arena.new ≡ arena.old) ⊎ LeavesStep arena.old (line_of line.now) arena.new) }
+    ensures ok { OnOk result (AnswersLine arena.old (line_of line.now)
+        (string_bytes text.new) arena.new) }
+    ensures err { OnErr result ((arena.new ≡ arena.old)
+        ⊎ LeavesStep arena.old (line_of line.now) arena.new) }
 {
     text.clear();
     match parse(line) {
@@ -40,8 +42,10 @@ fn carry_out<S: SlotStack<Item = ArenaSlot<ToolPtr, LinkNoGen<ToolPtr, u32>>>>(
     text: &mut String,
 ) -> Result<(), AllocError>
     ensures ok { OnOk result (Gives arena.old command (string_bytes text.new) arena.new) }
-    ensures room { OnOk result ((reset : Bool) → command ≡ Command.Moves reset → CanTake text.new (codes "\n")) }
-    ensures err { OnErr result ((arena.new ≡ arena.old) ⊎ LeavesStep arena.old (Line.Good command) arena.new) }
+    ensures room { OnOk result ((reset : Bool) → command ≡ Command.Moves reset
+        → CanTake text.new (codes "\n")) }
+    ensures err { OnErr result ((arena.new ≡ arena.old)
+        ⊎ LeavesStep arena.old (Line.Good command) arena.new) }
 {
     match command {
         Command::Change(call) => change(arena, call, text),

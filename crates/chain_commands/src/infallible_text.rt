@@ -76,7 +76,8 @@ fn write_move(text: &mut String, from: ToolPtr, to: ToolPtr)
 /// Adds the old and the new pointers of links to a text that has room for them.
 fn write_each(text: &mut String, moves: &[(ToolPtr, ToolPtr)])
     requires { CanTake text.old (concat (map move_text moves.now)) }
-    ensures bytes { string_bytes text.new ≡ string_bytes text.old ++ concat (map move_text moves.now) }
+    ensures bytes { string_bytes text.new ≡ string_bytes text.old ++ concat
+        (map move_text moves.now) }
     ensures capacity { string_capacity text.old ≤ string_capacity text.new }
 {
     let mut rest = moves;

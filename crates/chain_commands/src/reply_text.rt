@@ -14,14 +14,16 @@ use std::alloc::AllocError;
 
 /// Adds a pointer to a text.
 fn push_pointer(text: &mut String, p: ToolPtr) -> Result<(), AllocError>
-    ensures { OnOk result (string_bytes text.new ≡ string_bytes text.old ++ pointer_text (key_of p)) }
+    ensures { OnOk result (string_bytes text.new ≡ string_bytes text.old ++ pointer_text
+        (key_of p)) }
 {
     write!(text, "{}.{}", p.inx().get(), p.generation().get())
 }
 
 /// Adds the pointer of a neighbour to a text, or a dash.
 fn push_neighbor(text: &mut String, neighbor: Option<ToolPtr>) -> Result<(), AllocError>
-    ensures { OnOk result (string_bytes text.new ≡ string_bytes text.old ++ neighbor_text (option_map key_of neighbor)) }
+    ensures { OnOk result (string_bytes text.new ≡ string_bytes text.old ++ neighbor_text
+        (option_map key_of neighbor)) }
 {
     match neighbor {
         Some(p) => push_pointer(text, p),
@@ -37,7 +39,8 @@ pub fn push_link(
     value: u32,
 ) -> Result<(), AllocError>
     ensures { OnOk result (string_bytes text.new
-        ≡ string_bytes text.old ++ show_text (option_map key_of prev) (option_map key_of next) value) }
+        ≡ string_bytes text.old ++ show_text (option_map key_of prev)
+        (option_map key_of next) value) }
 {
     text.push_str("prev ")?;
     push_neighbor(text, prev)?;
@@ -68,7 +71,8 @@ fn push_inserted(
     text: &mut String,
     answer: Result<ToolPtr, ChainInsertionError>,
 ) -> Result<(), AllocError>
-    ensures { OnOk result (string_bytes text.new ≡ string_bytes text.old ++ reply_text (Inserted answer)) }
+    ensures { OnOk result (string_bytes text.new ≡ string_bytes text.old ++ reply_text
+        (Inserted answer)) }
 {
     match answer {
         Ok(p) => push_at(text, p),
@@ -78,7 +82,8 @@ fn push_inserted(
 
 /// Adds the answer to a drain to a text.
 fn push_drained(text: &mut String, answer: Option<usize>) -> Result<(), AllocError>
-    ensures { OnOk result (string_bytes text.new ≡ string_bytes text.old ++ reply_text (Drained answer)) }
+    ensures { OnOk result (string_bytes text.new ≡ string_bytes text.old ++ reply_text
+        (Drained answer)) }
 {
     match answer {
         Some(count) => write!(text, "count {count}"),
@@ -131,7 +136,8 @@ fn push_removed(
     text: &mut String,
     answer: InvalidationResult<LinkNoGen<ToolPtr, u32>>,
 ) -> Result<(), AllocError>
-    ensures { OnOk result (string_bytes text.new ≡ string_bytes text.old ++ told_text (λ link. value_text link.t) answer) }
+    ensures { OnOk result (string_bytes text.new ≡ string_bytes text.old ++ told_text
+        (λ link. value_text link.t) answer) }
 {
     match answer {
         InvalidationResult::Success(link) => write!(text, "value {}", link.t),
@@ -145,7 +151,8 @@ fn push_removed_inx(
     text: &mut String,
     answer: InvalidationResult<(Gen32, LinkNoGen<ToolPtr, u32>)>,
 ) -> Result<(), AllocError>
-    ensures { OnOk result (string_bytes text.new ≡ string_bytes text.old ++ told_text (λ e. value_text e.1.t) answer) }
+    ensures { OnOk result (string_bytes text.new ≡ string_bytes text.old ++ told_text
+        (λ e. value_text e.1.t) answer) }
 {
     match answer {
         InvalidationResult::Success((_, link)) => write!(text, "value {}", link.t),
@@ -158,7 +165,8 @@ fn push_removed_inx(
 
 /// Adds the new pointer of a link to a text, and whether the counter has overflowed.
 fn push_renewed(text: &mut String, answer: InvalidationResult<ToolPtr>) -> Result<(), AllocError>
-    ensures { OnOk result (string_bytes text.new ≡ string_bytes text.old ++ told_text at_text answer) }
+    ensures { OnOk result (string_bytes text.new ≡ string_bytes text.old ++ told_text at_text
+        answer) }
 {
     match answer {
         InvalidationResult::Success(p) => push_at(text, p),
@@ -182,7 +190,8 @@ fn counted(answer: InvalidationOption<()>) -> &'static str
 
 /// Adds a link of a walk to a text: its pointer and its value.
 fn push_passed(text: &mut String, p: ToolPtr, value: u32) -> Result<(), AllocError>
-    ensures { OnOk result (string_bytes text.new ≡ string_bytes text.old ++ passed_text (key_of p) value) }
+    ensures { OnOk result (string_bytes text.new ≡ string_bytes text.old ++ passed_text
+        (key_of p) value) }
 {
     push_pointer(text, p)?;
     write!(text, ":{value}")

@@ -29,7 +29,8 @@ pub enum ToolError {
 /// Gives a text to a writer. A write that was interrupted is tried again.
 fn put<W: Write>(writer: &mut W, text: &[u8]) -> Result<(), ToolError>
     ensures ok { OnOk result (Appends (W.contents writer.old) (W.contents writer.new) text.now) }
-    ensures err { OnErr result ((n : ℕ) × Appends (W.contents writer.old) (W.contents writer.new) (take n text.now)) }
+    ensures err { OnErr result ((n : ℕ) × Appends (W.contents writer.old) (W.contents writer.new)
+        (take n text.now)) }
     ensures error { IfErr result (λ e. e ≡ ToolError.Write) }
 {
     let mut written = 0;
@@ -58,7 +59,8 @@ fn reply<W: Write, S: SlotStack<Item = ArenaSlot<ToolPtr, LinkNoGen<ToolPtr, u32
     text: &mut String,
     writer: &mut W,
 ) -> Result<(), ToolError>
-    ensures { AnswersOne result arena.old arena.new line.now (W.contents writer.old) (W.contents writer.new) }
+    ensures { AnswersOne result arena.old arena.new line.now (W.contents writer.old)
+        (W.contents writer.new) }
 {
     match answer(arena, line, text) {
         Ok(()) => put(writer, text.as_bytes()),
@@ -68,7 +70,8 @@ fn reply<W: Write, S: SlotStack<Item = ArenaSlot<ToolPtr, LinkNoGen<ToolPtr, u32
 
 /// Keeps more of an unfinished line, up to 201 bytes in all.
 fn keep(line: &mut Vec<u8>, more: &[u8]) -> Result<(), ToolError>
-    ensures ok { OnOk result ((rest : List ℕ) → line.old.items ≡ take 201 rest → line.new.items ≡ take 201 (rest ++ more.now)) }
+    ensures ok { OnOk result ((rest : List ℕ) → line.old.items ≡ take 201 rest
+        → line.new.items ≡ take 201 (rest ++ more.now)) }
     ensures error { IfErr result (λ e. e ≡ ToolError.Memory) }
 {
     let (front, _) = more.split_at(more.len().min(201usize.saturating_sub(line.len())));
@@ -87,7 +90,9 @@ fn end_line<W: Write, S: SlotStack<Item = ArenaSlot<ToolPtr, LinkNoGen<ToolPtr, 
     text: &mut String,
     writer: &mut W,
 ) -> Result<(), ToolError>
-    ensures answered { (rest : List ℕ) → line.old.items ≡ take 201 rest → AnswersOne result arena.old arena.new (rest ++ front.now) (W.contents writer.old) (W.contents writer.new) }
+    ensures answered { (rest : List ℕ) → line.old.items ≡ take 201 rest
+        → AnswersOne result arena.old arena.new (rest ++ front.now) (W.contents writer.old)
+        (W.contents writer.new) }
     ensures empty { OnOk result (line.new.items ≡ []) }
 {
     if line.is_empty() {
@@ -119,7 +124,8 @@ fn feed<W: Write, S: SlotStack<Item = ArenaSlot<ToolPtr, LinkNoGen<ToolPtr, u32>
     text: &mut String,
     writer: &mut W,
 ) -> Result<(), ToolError>
-    ensures { ComesOn result piece.now arena.old line.old.items (W.contents writer.old) arena.new line.new.items (W.contents writer.new) }
+    ensures { ComesOn result piece.now arena.old line.old.items (W.contents writer.old) arena.new
+        line.new.items (W.contents writer.new) }
 {
     let mut left = piece;
     while let Some((front, back)) = first_line(left) {
@@ -143,8 +149,10 @@ fn flush<W: Write>(writer: &mut W) -> Result<(), ToolError>
 /// Reads a piece of the input: how many bytes came, none only at the end.
 fn read_piece<R: Read>(reader: &mut R, piece: &mut [u8]) -> Result<usize, ToolError>
     ensures bound { IfOk result (λ n. n ≤ length piece.new) }
-    ensures bytes { IfOk result (λ n. Consumes (R.remaining reader.old) (R.remaining reader.new) (take n piece.new)) }
-    ensures end { IfOk result (λ n. n ≡ 0 → 0 < length piece.new → IsAtEnd (R.remaining reader.new)) }
+    ensures bytes { IfOk result (λ n. Consumes (R.remaining reader.old) (R.remaining reader.new)
+        (take n piece.new)) }
+    ensures end { IfOk result (λ n. n ≡ 0 → 0 < length piece.new
+        → IsAtEnd (R.remaining reader.new)) }
     ensures err { OnErr result (Keeps (R.remaining reader.old) (R.remaining reader.new)) }
     ensures error { IfErr result (λ e. e ≡ ToolError.Read) }
 {
@@ -161,7 +169,8 @@ fn finish<W: Write, S: SlotStack<Item = ArenaSlot<ToolPtr, LinkNoGen<ToolPtr, u3
     text: &mut String,
     writer: &mut W,
 ) -> Result<(), ToolError>
-    ensures { AnswersOne result arena.old arena.new line.now (W.contents writer.old) (W.contents writer.new) }
+    ensures { AnswersOne result arena.old arena.new line.now (W.contents writer.old)
+        (W.contents writer.new) }
 {
     reply(arena, line, text, writer)?;
     flush(writer)
@@ -187,7 +196,8 @@ fn run_pieces<R: Read, W: Write, S: SlotStack<Item = ArenaSlot<ToolPtr, LinkNoGe
     piece: &mut [u8],
 ) -> Result<(), ToolError>
     requires { 0 < length piece.old }
-    ensures { Ends result arena.old arena.new (R.remaining reader.old) (R.remaining reader.new) (W.contents writer.old) (W.contents writer.new) }
+    ensures { Ends result arena.old arena.new (R.remaining reader.old) (R.remaining reader.new)
+        (W.contents writer.old) (W.contents writer.new) }
 {
     let mut line = Vec::new(alloc);
     let mut text = String::new(alloc);
@@ -210,7 +220,8 @@ pub fn run_on<R: Read, W: Write, S: SlotStack<Item = ArenaSlot<ToolPtr, LinkNoGe
     reader: &mut R,
     writer: &mut W,
 ) -> Result<(), ToolError>
-    ensures { Ends result arena.old arena.new (R.remaining reader.old) (R.remaining reader.new) (W.contents writer.old) (W.contents writer.new) }
+    ensures { Ends result arena.old arena.new (R.remaining reader.old) (R.remaining reader.new)
+        (W.contents writer.old) (W.contents writer.new) }
 {
     let mut piece = room(alloc)?;
     run_pieces(alloc, arena, reader, writer, &mut piece)
@@ -222,7 +233,8 @@ pub fn run<R: Read, W: Write>(
     reader: &mut R,
     writer: &mut W,
 ) -> Result<(), ToolError>
-    ensures { (new : ToolLinks) × Ends result (new_arena two32 None) new (R.remaining reader.old) (R.remaining reader.new) (W.contents writer.old) (W.contents writer.new) }
+    ensures { (new : ToolLinks) × Ends result (new_arena two32 None) new (R.remaining reader.old)
+        (R.remaining reader.new) (W.contents writer.old) (W.contents writer.new) }
 {
     let mut arena: ChainArena<ToolPtr, u32> = ChainArena::new(alloc);
     run_on(alloc, &mut arena, reader, writer)

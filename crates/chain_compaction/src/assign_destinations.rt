@@ -20,15 +20,20 @@ fn start_at<P: PtrKey, T: Drop, S: SlotStack<Item = ArenaSlot<P, LinkNoGen<P, T>
     compactor: &mut Compactor<'_, P, LinkNoGen<P, T>, S>,
     i: P::Inx,
 ) -> P::Inx
-    requires { HasChainFrom (shown_in P.Inx.packed_number compactor.old.held.slots) (P.Inx.number i) }
+    requires { HasChainFrom (shown_in P.Inx.packed_number compactor.old.held.slots)
+        (P.Inx.number i) }
     ensures same_reference { compactor.new.arena.ghost_name ≡ compactor.old.arena.ghost_name }
-    ensures start { IsStart (shown_in P.Inx.packed_number compactor.old.held.slots) (P.Inx.number i) (P.Inx.number result) }
+    ensures start { IsStart (shown_in P.Inx.packed_number compactor.old.held.slots) (P.Inx.number i)
+        (P.Inx.number result) }
     ensures held { compactor.new.held ≡ compactor.old.held }
-    ensures linear { (xs : List ℕ) → IsChain (shown_in P.Inx.packed_number compactor.old.held.slots) (linear xs) → Has xs (P.Inx.number i)
+    ensures linear { (xs : List ℕ) → IsChain (shown_in P.Inx.packed_number compactor.old.held.slots)
+        (linear xs) → Has xs (P.Inx.number i)
         → IsWork compactor.old.arena.now compactor.new.arena.now 0 (length xs) }
-    ensures cyclic { (xs : List ℕ) → IsChain (shown_in P.Inx.packed_number compactor.old.held.slots) (cyclic (P.Inx.number i ∷ xs))
+    ensures cyclic { (xs : List ℕ) → IsChain (shown_in P.Inx.packed_number compactor.old.held.slots)
+        (cyclic (P.Inx.number i ∷ xs))
         → IsWork compactor.old.arena.now compactor.new.arena.now 0 (length xs + 1) }
-    ensures counts { CountsOn compactor.old.arena.now compactor.new.arena.now compactor.old.placed compactor.old.touched compactor.new.placed compactor.new.touched }
+    ensures counts { CountsOn compactor.old.arena.now compactor.new.arena.now compactor.old.placed
+        compactor.old.touched compactor.new.placed compactor.new.touched }
 {
     let mut at = i;
     for step in 0..compactor.slots() {
@@ -56,7 +61,8 @@ fn after_it<P: PtrKey>(
 ) -> Option<P::Inx>
     requires first { before < P.Inx.greatest }
     requires next { IsSome on → count < P.Inx.greatest }
-    ensures { option_map P.Inx.number result ≡ number_after (option_map P.Inx.number on) (option_map P.Inx.number named) before count }
+    ensures { option_map P.Inx.number result ≡ number_after (option_map P.Inx.number on)
+        (option_map P.Inx.number named) before count }
 {
     match on {
         Some(_) => Some(inx_at::<P>(count)),
@@ -75,9 +81,12 @@ fn close_ring<P: PtrKey, T: Drop, S: SlotStack<Item = ArenaSlot<P, LinkNoGen<P, 
     last: Option<P::Inx>,
 )
     ensures same_reference { compactor.new.arena.ghost_name ≡ compactor.old.arena.ghost_name }
-    ensures closed { IsRingClosed P.Inx.packed_number (P.Inx.number start) (option_map P.Inx.number named) (option_map P.Inx.number last) compactor.old.held compactor.new.held }
+    ensures closed { IsRingClosed P.Inx.packed_number (P.Inx.number start)
+        (option_map P.Inx.number named) (option_map P.Inx.number last) compactor.old.held
+        compactor.new.held }
     ensures work { IsWork compactor.old.arena.now compactor.new.arena.now 0 1 }
-    ensures counts { CountsOn compactor.old.arena.now compactor.new.arena.now compactor.old.placed compactor.old.touched compactor.new.placed compactor.new.touched }
+    ensures counts { CountsOn compactor.old.arena.now compactor.new.arena.now compactor.old.placed
+        compactor.old.touched compactor.new.placed compactor.new.touched }
 {
     match named {
         Some(_) => {}
@@ -106,11 +115,15 @@ fn number_chain<
 ) -> (V, usize)
     requires ready { V.is_ready visitor }
     requires fits { length compactor.old.held.slots ≤ P.Inx.greatest }
-    requires can { (done : List ℕ) × (c : Chain) × CanNumber P.Inx.packed_number compactor.old.held.slots (P.Inx.number start) before done c }
+    requires can { (done : List ℕ) × (c : Chain)
+        × CanNumber P.Inx.packed_number compactor.old.held.slots (P.Inx.number start) before done
+        c }
     ensures same_reference { compactor.new.arena.ghost_name ≡ compactor.old.arena.ghost_name }
     ensures ready { V.is_ready result.0 }
-    ensures numbered { NumbersFrom P.Inx.packed_number V.sees P.key generation (P.Inx.number start) visitor result.0 compactor.old compactor.new before result.1 }
-    ensures counts { CountsOn compactor.old.arena.now compactor.new.arena.now compactor.old.placed compactor.old.touched compactor.new.placed compactor.new.touched }
+    ensures numbered { NumbersFrom P.Inx.packed_number V.sees P.key generation
+        (P.Inx.number start) visitor result.0 compactor.old compactor.new before result.1 }
+    ensures counts { CountsOn compactor.old.arena.now compactor.new.arena.now compactor.old.placed
+        compactor.old.touched compactor.new.placed compactor.new.touched }
 {
     let mut count = before;
     let mut prev = None;
@@ -153,8 +166,11 @@ pub fn number_all<
     requires empty { (j : ℕ) → given P.Inx.packed_number compactor.old.held.slots j ≡ None }
     ensures ready { V.is_ready result.0 }
     ensures same_reference { compactor.new.arena.ghost_name ≡ compactor.old.arena.ghost_name }
-    ensures numbered { AreAllNumbered P.Inx.packed_number V.sees P.key generation visitor result.0 compactor.old.held compactor.new.held compactor.old.arena.now compactor.new.arena.now result.1 }
-    ensures counts { CountsOn compactor.old.arena.now compactor.new.arena.now compactor.old.placed compactor.old.touched compactor.new.placed compactor.new.touched }
+    ensures numbered { AreAllNumbered P.Inx.packed_number V.sees P.key generation visitor result.0
+        compactor.old.held compactor.new.held compactor.old.arena.now compactor.new.arena.now
+        result.1 }
+    ensures counts { CountsOn compactor.old.arena.now compactor.new.arena.now compactor.old.placed
+        compactor.old.touched compactor.new.placed compactor.new.touched }
 {
     let mut count = 0;
     for k in 0..compactor.slots() {

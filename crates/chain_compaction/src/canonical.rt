@@ -22,10 +22,13 @@ pub fn empty_all<P: PtrKey, T: Drop, S: SlotStack<Item = ArenaSlot<P, LinkNoGen<
 )
     requires fits { length compactor.old.held.slots ≤ P.Inx.greatest }
     ensures same_reference { compactor.new.arena.ghost_name ≡ compactor.old.arena.ghost_name }
-    ensures seen { seen_held P.Inx.packed_number compactor.new.held ≡ seen_held P.Inx.packed_number compactor.old.held }
+    ensures seen { seen_held P.Inx.packed_number compactor.new.held ≡ seen_held P.Inx.packed_number
+        compactor.old.held }
     ensures empty { (j : ℕ) → given P.Inx.packed_number compactor.new.held.slots j ≡ None }
-    ensures totals { compactor.new.arena.now ≡ with_totals compactor.old.arena.now 0 (length compactor.old.held.slots) }
-    ensures counts { CountsOn compactor.old.arena.now compactor.new.arena.now compactor.old.placed compactor.old.touched compactor.new.placed compactor.new.touched }
+    ensures totals { compactor.new.arena.now ≡ with_totals compactor.old.arena.now 0
+        (length compactor.old.held.slots) }
+    ensures counts { CountsOn compactor.old.arena.now compactor.new.arena.now compactor.old.placed
+        compactor.old.touched compactor.new.placed compactor.new.touched }
 {
     for k in 0..compactor.slots() {
         direct_at(compactor, inx_at::<P>(k), None);
@@ -44,7 +47,8 @@ pub fn lay_out<
     requires ready { V.is_ready visitor }
     requires agree { Agrees (shown (seen_links P.Inx.packed_number arena.old)) }
     ensures ready { V.is_ready result.0 }
-    ensures laid { AreLaidOut V.sees P.key visitor result.0 (seen_links P.Inx.packed_number arena.old) (seen_links P.Inx.packed_number arena.new) }
+    ensures laid { AreLaidOut V.sees P.key visitor result.0
+        (seen_links P.Inx.packed_number arena.old) (seen_links P.Inx.packed_number arena.new) }
     ensures placed { arena.new.placed ≡ arena.old.placed + result.1.placed }
     ensures touched { arena.new.touched ≡ arena.old.touched + result.1.touched }
 {

@@ -24,7 +24,8 @@ use chain_links::{LinkNoGen, link_access};
 
 /// Where the link that an interlink names stands, once the one at `from` has come to `to`.
 fn index_now<I: InxKey>(named: Option<I>, from: I, to: I) -> Option<I>
-    ensures { option_map I.number result ≡ option_map (moved_index (I.number from) (I.number to)) (option_map I.number named) }
+    ensures { option_map I.number result ≡ option_map (moved_index (I.number from) (I.number to))
+        (option_map I.number named) }
 {
     match named {
         Some(k) => if k.is_same(from) { Some(to) } else { Some(k) },
@@ -42,7 +43,8 @@ fn tell<P: PtrKey, T: Drop, S: SlotStack<Item = ArenaSlot<P, LinkNoGen<P, T>>>>(
     ensures same_reference { compactor.new.arena.ghost_name ≡ compactor.old.arena.ghost_name }
     ensures values { held_values compactor.new.held ≡ held_values compactor.old.held }
     ensures shows { shown_in P.Inx.packed_number compactor.new.held.slots
-        ≡ told before (shown_in P.Inx.packed_number compactor.old.held.slots) (option_map P.Inx.number i) (Some (P.Inx.number named)) }
+        ≡ told before (shown_in P.Inx.packed_number compactor.old.held.slots)
+        (option_map P.Inx.number i) (Some (P.Inx.number named)) }
     ensures work { IsWork compactor.old.arena.now compactor.new.arena.now 0 1 }
 {
     match i {
@@ -68,14 +70,19 @@ fn move_link<P: PtrKey, T: Drop, S: SlotStack<Item = ArenaSlot<P, LinkNoGen<P, T
 ) -> Option<P::Gen>
     requires from { P.Inx.number from ≤ length compactor.old.held.slots }
     requires to { P.Inx.number to ≤ length compactor.old.held.slots }
-    requires free { P.Inx.number to ≢ P.Inx.number from → slot_at compactor.old.held.slots (P.Inx.number to) ≡ None }
+    requires free { P.Inx.number to ≢ P.Inx.number from
+        → slot_at compactor.old.held.slots (P.Inx.number to) ≡ None }
     ensures same_reference { compactor.new.arena.ghost_name ≡ compactor.old.arena.ghost_name }
-    ensures answer { result ≡ option_map (λ e. e.0) (slot_at compactor.old.held.slots (P.Inx.number from)) }
-    ensures values { OnSome result (held_values compactor.new.held ≡ placed (held_values compactor.old.held) (P.Inx.number from) (P.Inx.number to) generation) }
-    ensures moves { OnSome result (ShowsMove (shown_in P.Inx.packed_number compactor.old.held.slots) (shown_in P.Inx.packed_number compactor.new.held.slots)
+    ensures answer { result ≡ option_map (λ e. e.0)
+        (slot_at compactor.old.held.slots (P.Inx.number from)) }
+    ensures values { OnSome result (held_values compactor.new.held ≡ placed
+        (held_values compactor.old.held) (P.Inx.number from) (P.Inx.number to) generation) }
+    ensures moves { OnSome result (ShowsMove (shown_in P.Inx.packed_number compactor.old.held.slots)
+        (shown_in P.Inx.packed_number compactor.new.held.slots)
         (P.Inx.number from) (P.Inx.number to)) }
     ensures work { OnSome result (IsWork compactor.old.arena.now compactor.new.arena.now 1 3) }
-    ensures none { IfNone result ((compactor.new.held ≡ compactor.old.held) × (compactor.new.arena.now ≡ with_touch compactor.old.arena.now)) }
+    ensures none { IfNone result ((compactor.new.held ≡ compactor.old.held)
+        × (compactor.new.arena.now ≡ with_touch compactor.old.arena.now)) }
 {
     let (was, prev, next, _) = look_at(compactor, from);
     let was = match was {
@@ -101,12 +108,17 @@ fn close_gaps<
     requires fits { length compactor.old.held.slots ≤ P.Inx.greatest }
     requires agree { Agrees (shown_in P.Inx.packed_number compactor.old.held.slots) }
     ensures same_reference { compactor.new.arena.ghost_name ≡ compactor.old.arena.ghost_name }
-    ensures closed { AreClosed generation (held_values compactor.old.held) (held_values compactor.new.held) }
+    ensures closed { AreClosed generation (held_values compactor.old.held)
+        (held_values compactor.new.held) }
     ensures packed { IsPacked compactor.new.held.slots result }
-    ensures visits { VisitsAll F.FnMut P.key map (entries_from 1 (held_values compactor.old.held).slots) (entries_from 1 (held_values compactor.new.held).slots) }
+    ensures visits { VisitsAll F.FnMut P.key map
+        (entries_from 1 (held_values compactor.old.held).slots)
+        (entries_from 1 (held_values compactor.new.held).slots) }
     ensures renamed { IsRenaming (place_in (indexes_in (held_values compactor.old.held).slots))
-        (shown_in P.Inx.packed_number compactor.old.held.slots) (shown_in P.Inx.packed_number compactor.new.held.slots) }
-    ensures work { IsClosingWork compactor.old.held compactor.old.arena.now compactor.new.arena.now }
+        (shown_in P.Inx.packed_number compactor.old.held.slots)
+        (shown_in P.Inx.packed_number compactor.new.held.slots) }
+    ensures work { IsClosingWork compactor.old.held compactor.old.arena.now
+        compactor.new.arena.now }
 {
     let mut count = 0;
     for k in 0..compactor.slots() {
@@ -134,8 +146,11 @@ pub fn begin_generation<P: PtrKey, T: Drop, S: SlotStack<Item = ArenaSlot<P, T>>
     arena: &mut Arena<P, T, S>,
     reset: bool,
 ) -> InvalidationOption<()>
-    ensures after { arena.new ≡ with_counter arena.old (counter_after_compression P.Gen.first P.Gen.following reset (length (entries arena.old)) arena.old.counter) }
-    ensures overflow { result ≡ invalidation_option (overflows_after_compression P.Gen.wraps reset (length (entries arena.old)) arena.old.counter) tt }
+    ensures after { arena.new ≡ with_counter arena.old
+        (counter_after_compression P.Gen.first P.Gen.following reset (length (entries arena.old))
+        arena.old.counter) }
+    ensures overflow { result ≡ invalidation_option (overflows_after_compression P.Gen.wraps reset
+        (length (entries arena.old)) arena.old.counter) tt }
 {
     if reset {
         arena.set_generation(P::Gen::two());
@@ -157,7 +172,8 @@ pub fn gather<
 >(arena: &mut Arena<P, LinkNoGen<P, T>, S>, map: F)
     requires callable { F.IsAlwaysCallable map }
     requires agree { Agrees (shown (seen_links P.Inx.packed_number arena.old)) }
-    ensures { AreGathered F.FnMut P.key map (seen_links P.Inx.packed_number arena.old) (seen_links P.Inx.packed_number arena.new) }
+    ensures { AreGathered F.FnMut P.key map (seen_links P.Inx.packed_number arena.old)
+        (seen_links P.Inx.packed_number arena.new) }
 {
     arena.invariants();
     let generation = arena.generation();

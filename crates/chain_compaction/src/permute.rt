@@ -17,11 +17,14 @@ fn take_at<P: PtrKey, T: Drop, S: SlotStack<Item = ArenaSlot<P, LinkNoGen<P, T>>
     i: P::Inx,
 ) -> Option<P::Inx>
     ensures same_reference { compactor.new.arena.ghost_name ≡ compactor.old.arena.ghost_name }
-    ensures answer { option_map P.Inx.number result ≡ option_and_then (goal_of P.Inx.packed_number) (slot_at compactor.old.held.slots (P.Inx.number i)) }
-    ensures taken { OnSome result (IsTakenOut P.Inx.packed_number (P.Inx.number i) compactor.old.held compactor.new.held) }
+    ensures answer { option_map P.Inx.number result ≡ option_and_then (goal_of P.Inx.packed_number)
+        (slot_at compactor.old.held.slots (P.Inx.number i)) }
+    ensures taken { OnSome result
+        (IsTakenOut P.Inx.packed_number (P.Inx.number i) compactor.old.held compactor.new.held) }
     ensures none { IfNone result (compactor.new.held ≡ compactor.old.held) }
     ensures arena { compactor.new.arena.now ≡ with_touch compactor.old.arena.now }
-    ensures counts { CountsOn compactor.old.arena.now compactor.new.arena.now compactor.old.placed compactor.old.touched compactor.new.placed compactor.new.touched }
+    ensures counts { CountsOn compactor.old.arena.now compactor.new.arena.now compactor.old.placed
+        compactor.old.touched compactor.new.placed compactor.new.touched }
 {
     match compactor.value_mut(i) {
         Some(link) => link_access::take_destination(link),
@@ -39,13 +42,19 @@ fn settle<P: PtrKey, T: Drop, S: SlotStack<Item = ArenaSlot<P, LinkNoGen<P, T>>>
     requires index { P.Inx.number i ≤ length compactor.old.held.slots }
     requires within { WaitsWithin (goal_of P.Inx.packed_number) compactor.old.held.slots }
     ensures same_reference { compactor.new.arena.ghost_name ≡ compactor.old.arena.ghost_name }
-    ensures settles { IsSettling (goal_of P.Inx.packed_number) (Settles P.Inx.packed_number generation) (P.Inx.number i) compactor.old.held.slots compactor.new.held.slots }
-    ensures none { (d : ℕ) (e : _) → Waits (goal_of P.Inx.packed_number) (slot_at compactor.new.held.slots) (P.Inx.number i) e d → ⊥ }
+    ensures settles { IsSettling (goal_of P.Inx.packed_number)
+        (Settles P.Inx.packed_number generation) (P.Inx.number i) compactor.old.held.slots
+        compactor.new.held.slots }
+    ensures none { (d : ℕ) (e : _)
+        → Waits (goal_of P.Inx.packed_number) (slot_at compactor.new.held.slots)
+        (P.Inx.number i) e d → ⊥ }
     ensures capacity { compactor.new.held.stack_capacity ≡ compactor.old.held.stack_capacity }
     ensures maximum { compactor.new.held.maximum ≡ compactor.old.held.maximum }
     ensures work { IsWorkOn compactor.old.arena.now compactor.new.arena.now
-        (waiting (goal_of P.Inx.packed_number) compactor.old.held.slots) (waiting (goal_of P.Inx.packed_number) compactor.new.held.slots) 1 }
-    ensures counts { CountsOn compactor.old.arena.now compactor.new.arena.now compactor.old.placed compactor.old.touched compactor.new.placed compactor.new.touched }
+        (waiting (goal_of P.Inx.packed_number) compactor.old.held.slots)
+        (waiting (goal_of P.Inx.packed_number) compactor.new.held.slots) 1 }
+    ensures counts { CountsOn compactor.old.arena.now compactor.new.arena.now compactor.old.placed
+        compactor.old.touched compactor.new.placed compactor.new.touched }
 {
     while let Some(to) = take_at(compactor, i) {
         compactor.place(i, to, generation);
@@ -60,13 +69,16 @@ pub fn move_all<P: PtrKey, T: Drop, S: SlotStack<Item = ArenaSlot<P, LinkNoGen<P
     requires fits { length compactor.old.held.slots ≤ P.Inx.greatest }
     requires can { CanMoveAll (goal_of P.Inx.packed_number) compactor.old.held.slots }
     ensures same_reference { compactor.new.arena.ghost_name ≡ compactor.old.arena.ghost_name }
-    ensures moved { HaveMoved (goal_of P.Inx.packed_number) (Settles P.Inx.packed_number generation) (slot_at compactor.old.held.slots) (slot_at compactor.new.held.slots) }
+    ensures moved { HaveMoved (goal_of P.Inx.packed_number) (Settles P.Inx.packed_number generation)
+        (slot_at compactor.old.held.slots) (slot_at compactor.new.held.slots) }
     ensures length { length compactor.new.held.slots ≡ length compactor.old.held.slots }
     ensures capacity { compactor.new.held.stack_capacity ≡ compactor.old.held.stack_capacity }
     ensures maximum { compactor.new.held.maximum ≡ compactor.old.held.maximum }
-    ensures totals { compactor.new.arena.now ≡ with_totals compactor.old.arena.now (count_by is_some compactor.old.held.slots)
+    ensures totals { compactor.new.arena.now ≡ with_totals compactor.old.arena.now
+        (count_by is_some compactor.old.held.slots)
         (count_by is_some compactor.old.held.slots + length compactor.old.held.slots) }
-    ensures counts { CountsOn compactor.old.arena.now compactor.new.arena.now compactor.old.placed compactor.old.touched compactor.new.placed compactor.new.touched }
+    ensures counts { CountsOn compactor.old.arena.now compactor.new.arena.now compactor.old.placed
+        compactor.old.touched compactor.new.placed compactor.new.touched }
 {
     for k in 0..compactor.slots() {
         settle(compactor, inx_at::<P>(k), generation);

@@ -25,10 +25,14 @@ pub(crate) fn look_at<P: PtrKey, T: Drop, S: SlotStack<Item = ArenaSlot<P, LinkN
     Option<P::Inx>,
 )
     ensures looked { HasLooked compactor.old compactor.new }
-    ensures generation { result.0 ≡ option_map (λ e. e.0) (slot_at compactor.old.held.slots (P.Inx.number i)) }
-    ensures prev { option_map P.Inx.number result.1 ≡ prev_of (shown_in P.Inx.packed_number compactor.old.held.slots) (P.Inx.number i) }
-    ensures next { option_map P.Inx.number result.2 ≡ next_of (shown_in P.Inx.packed_number compactor.old.held.slots) (P.Inx.number i) }
-    ensures destination { option_map P.Inx.number result.3 ≡ given P.Inx.packed_number compactor.old.held.slots (P.Inx.number i) }
+    ensures generation { result.0 ≡ option_map (λ e. e.0)
+        (slot_at compactor.old.held.slots (P.Inx.number i)) }
+    ensures prev { option_map P.Inx.number result.1 ≡ prev_of
+        (shown_in P.Inx.packed_number compactor.old.held.slots) (P.Inx.number i) }
+    ensures next { option_map P.Inx.number result.2 ≡ next_of
+        (shown_in P.Inx.packed_number compactor.old.held.slots) (P.Inx.number i) }
+    ensures destination { option_map P.Inx.number result.3
+        ≡ given P.Inx.packed_number compactor.old.held.slots (P.Inx.number i) }
 {
     match compactor.peek(i) {
         Some((was, link)) => (
@@ -48,9 +52,11 @@ pub(crate) fn direct_at<P: PtrKey, T: Drop, S: SlotStack<Item = ArenaSlot<P, Lin
     destination: Option<P::Inx>,
 )
     ensures same_reference { compactor.new.arena.ghost_name ≡ compactor.old.arena.ghost_name }
-    ensures directed { IsDirectedAt P.Inx.packed_number (P.Inx.number i) (option_map P.Inx.number destination) compactor.old.held compactor.new.held }
+    ensures directed { IsDirectedAt P.Inx.packed_number (P.Inx.number i)
+        (option_map P.Inx.number destination) compactor.old.held compactor.new.held }
     ensures arena { compactor.new.arena.now ≡ with_touch compactor.old.arena.now }
-    ensures counts { CountsOn compactor.old.arena.now compactor.new.arena.now compactor.old.placed compactor.old.touched compactor.new.placed compactor.new.touched }
+    ensures counts { CountsOn compactor.old.arena.now compactor.new.arena.now compactor.old.placed
+        compactor.old.touched compactor.new.placed compactor.new.touched }
 {
     match compactor.value_mut(i) {
         Some(link) => link_access::set_destination(link, destination),
@@ -67,10 +73,12 @@ pub(crate) fn tie_at<P: PtrKey, T: Drop, S: SlotStack<Item = ArenaSlot<P, LinkNo
     destination: P::Inx,
 )
     ensures same_reference { compactor.new.arena.ghost_name ≡ compactor.old.arena.ghost_name }
-    ensures tied { IsTiedAt P.Inx.packed_number (P.Inx.number i) (option_map P.Inx.number prev) (option_map P.Inx.number next) (Some (P.Inx.number destination))
+    ensures tied { IsTiedAt P.Inx.packed_number (P.Inx.number i) (option_map P.Inx.number prev)
+        (option_map P.Inx.number next) (Some (P.Inx.number destination))
         compactor.old.held compactor.new.held }
     ensures arena { compactor.new.arena.now ≡ with_touch compactor.old.arena.now }
-    ensures counts { CountsOn compactor.old.arena.now compactor.new.arena.now compactor.old.placed compactor.old.touched compactor.new.placed compactor.new.touched }
+    ensures counts { CountsOn compactor.old.arena.now compactor.new.arena.now compactor.old.placed
+        compactor.old.touched compactor.new.placed compactor.new.touched }
 {
     match compactor.value_mut(i) {
         Some(link) => {

@@ -26,7 +26,8 @@ pub fn renumber<P: PtrKey, T: Drop, S: SlotStack<Item = ArenaSlot<P, LinkNoGen<P
     alloc: Global,
     bookmarks: &mut [Option<P>],
 ) -> Result<(), AllocError>
-    ensures canonical { OnOk result (IsCanonicalLayout P.Gen.first P.Gen.following false (seen arena.old) (shown arena.old) (seen arena.new) (shown arena.new)) }
+    ensures canonical { OnOk result (IsCanonicalLayout P.Gen.first P.Gen.following false
+        (seen arena.old) (shown arena.old) (seen arena.new) (shown arena.new)) }
     ensures renumbered { OnOk result (IsRenumbered P.Gen.first P.Gen.following seen entry shown
         arena.old arena.new
         (map (option_map P.key) bookmarks.old) (map (option_map P.key) bookmarks.new)) }
@@ -88,7 +89,8 @@ fn find<P: PtrKey>(table: &[Option<(P, P)>], bookmark: Option<P>) -> Option<P>
 
 /// Makes each bookmark the pointer to which the table has a move from it, or none.
 fn follow<P: PtrKey>(table: &[Option<(P, P)>], bookmarks: &mut [Option<P>])
-    ensures { bookmarks.new ≡ map (option_and_then (looked_up P.key P.same table.now)) bookmarks.old }
+    ensures { bookmarks.new ≡ map (option_and_then (looked_up P.key P.same table.now))
+        bookmarks.old }
 {
     for bookmark in bookmarks.iter_mut() {
         *bookmark = find(table, *bookmark);

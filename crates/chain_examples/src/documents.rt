@@ -121,9 +121,12 @@ impl<P: PtrKey, T: Drop, A: ChainArenaTrait<P, T> + Drop> Documents<P, T, A> {
     ///
     /// After an error nothing has changed, and the paragraph is dropped.
     pub fn begin(&mut self, paragraph: T) -> Result<P, ReallocationError>
-        ensures text { IfOk result (λ q. IsText A.entry A.interlinks self.new ((P.key q, paragraph) ∷ [])) }
-        ensures paragraph { IfOk result (λ q. IsInserted (A.entry self.old) (A.entry self.new) (P.key q) paragraph) }
-        ensures others { OnOk result (KeepsWithout A.entry A.interlinks linear self.old self.new []) }
+        ensures text { IfOk result (λ q. IsText A.entry A.interlinks self.new
+            ((P.key q, paragraph) ∷ [])) }
+        ensures paragraph { IfOk result (λ q. IsInserted (A.entry self.old) (A.entry self.new)
+            (P.key q) paragraph) }
+        ensures others { OnOk result
+            (KeepsWithout A.entry A.interlinks linear self.old self.new []) }
         ensures size { OnOk result (count (A.seen self.new) ≡ count (A.seen self.old) + 1) }
         ensures room { SucceedsInRoom (A.seen self.old) result (A.seen self.new) }
         ensures grown { OnOk result (IsRoom P.Inx.greatest (A.seen self.new).maximum
@@ -141,7 +144,8 @@ impl<P: PtrKey, T: Drop, A: ChainArenaTrait<P, T> + Drop> Documents<P, T, A> {
     /// A paragraph. `None`: the pointer is of none.
     pub fn get(&self, p: P) -> Option<&T>
         ensures some { IsSome result ↔ IsValid (A.entry self.now) (P.key p) }
-        ensures paragraph { IfSome result (λ t. A.entry self.now (P.key p).0 ≡ Some ((P.key p).1, t.now)) }
+        ensures paragraph { IfSome result (λ t. A.entry self.now (P.key p).0 ≡ Some
+            ((P.key p).1, t.now)) }
     {
         self.paragraphs.get(p)
     }
@@ -171,9 +175,12 @@ impl<P: PtrKey, T: Drop, A: ChainArenaTrait<P, T> + Drop> Documents<P, T, A> {
     /// The pointer of the paragraph after another in its text. `None`: the pointer is of no paragraph, or of the last of a text.
     pub fn next(&self, p: P) -> Option<P>
         ensures none { ¬ IsValid (A.entry self.now) (P.key p) → result ≡ None }
-        ensures next { (t : T) (before after : List (Item P.Gen T)) → IsText A.entry A.interlinks self.now (before ++ (P.key p, t) ∷ after)
+        ensures next { (t : T) (before after : List (Item P.Gen T))
+            → IsText A.entry A.interlinks self.now (before ++ (P.key p, t) ∷ after)
             → option_map P.key result ≡ first_key after }
-        ensures together { IfSome result (λ q. (text : List (Item P.Gen T)) → IsText A.entry A.interlinks self.now text → Has (indexes text) (P.key q).0 → Has (indexes text) (P.key p).0) }
+        ensures together { IfSome result (λ q. (text : List (Item P.Gen T))
+            → IsText A.entry A.interlinks self.now text → Has (indexes text) (P.key q).0
+            → Has (indexes text) (P.key p).0) }
     {
         match self.paragraphs.get_link(p) {
             Some(link) => link.next(),
@@ -184,9 +191,12 @@ impl<P: PtrKey, T: Drop, A: ChainArenaTrait<P, T> + Drop> Documents<P, T, A> {
     /// The pointer of the paragraph before another in its text. `None`: the pointer is of no paragraph, or of the first of a text.
     pub fn prev(&self, p: P) -> Option<P>
         ensures none { ¬ IsValid (A.entry self.now) (P.key p) → result ≡ None }
-        ensures prev { (t : T) (before after : List (Item P.Gen T)) → IsText A.entry A.interlinks self.now (before ++ (P.key p, t) ∷ after)
+        ensures prev { (t : T) (before after : List (Item P.Gen T))
+            → IsText A.entry A.interlinks self.now (before ++ (P.key p, t) ∷ after)
             → option_map P.key result ≡ last_key before }
-        ensures together { IfSome result (λ q. (text : List (Item P.Gen T)) → IsText A.entry A.interlinks self.now text → Has (indexes text) (P.key q).0 → Has (indexes text) (P.key p).0) }
+        ensures together { IfSome result (λ q. (text : List (Item P.Gen T))
+            → IsText A.entry A.interlinks self.now text → Has (indexes text) (P.key q).0
+            → Has (indexes text) (P.key p).0) }
     {
         match self.paragraphs.get_link(p) {
             Some(link) => link.prev(),
@@ -204,13 +214,18 @@ impl<P: PtrKey, T: Drop, A: ChainArenaTrait<P, T> + Drop> Documents<P, T, A> {
     ///
     /// After an error nothing has changed, and the paragraph is dropped.
     pub fn insert_after(&mut self, p: P, paragraph: T) -> Result<P, ChainInsertionError>
-        ensures text { IfOk result (λ q. ComesAfter A.entry A.interlinks linear self.old self.new (P.key p) (P.key q, paragraph)) }
-        ensures paragraph { IfOk result (λ q. IsInserted (A.entry self.old) (A.entry self.new) (P.key q) paragraph) }
-        ensures others { OnOk result (KeepsWithout A.entry A.interlinks linear self.old self.new (P.key p ∷ [])) }
+        ensures text { IfOk result (λ q. ComesAfter A.entry A.interlinks linear self.old self.new
+            (P.key p) (P.key q, paragraph)) }
+        ensures paragraph { IfOk result (λ q. IsInserted (A.entry self.old) (A.entry self.new)
+            (P.key q) paragraph) }
+        ensures others { OnOk result (KeepsWithout A.entry A.interlinks linear self.old self.new
+            (P.key p ∷ [])) }
         ensures size { OnOk result (count (A.seen self.new) ≡ count (A.seen self.old) + 1) }
-        ensures link { (result ≡ Err ChainInsertionError.FailedLinkRequirement) ↔ ¬ IsValid (A.entry self.old) (P.key p) }
+        ensures link { (result ≡ Err ChainInsertionError.FailedLinkRequirement)
+            ↔ ¬ IsValid (A.entry self.old) (P.key p) }
         ensures error { IfErr result (λ e. e ≢ ChainInsertionError.NotWithinCapacity) }
-        ensures room { IsValid (A.entry self.old) (P.key p) → SucceedsInRoom (A.seen self.old) result (A.seen self.new) }
+        ensures room { IsValid (A.entry self.old) (P.key p)
+            → SucceedsInRoom (A.seen self.old) result (A.seen self.new) }
         ensures grown { OnOk result (IsRoom P.Inx.greatest (A.seen self.new).maximum
             (count (A.seen self.old) + 1) (A.seen self.new).capacity) }
         ensures beyond { (result ≡ Err ChainInsertionError.BeyondMaxCapacity)
@@ -233,13 +248,18 @@ impl<P: PtrKey, T: Drop, A: ChainArenaTrait<P, T> + Drop> Documents<P, T, A> {
     ///
     /// After an error nothing has changed, and the paragraph is dropped.
     pub fn insert_before(&mut self, p: P, paragraph: T) -> Result<P, ChainInsertionError>
-        ensures text { IfOk result (λ q. ComesBefore A.entry A.interlinks linear self.old self.new (P.key p) (P.key q, paragraph)) }
-        ensures paragraph { IfOk result (λ q. IsInserted (A.entry self.old) (A.entry self.new) (P.key q) paragraph) }
-        ensures others { OnOk result (KeepsWithout A.entry A.interlinks linear self.old self.new (P.key p ∷ [])) }
+        ensures text { IfOk result (λ q. ComesBefore A.entry A.interlinks linear self.old self.new
+            (P.key p) (P.key q, paragraph)) }
+        ensures paragraph { IfOk result (λ q. IsInserted (A.entry self.old) (A.entry self.new)
+            (P.key q) paragraph) }
+        ensures others { OnOk result (KeepsWithout A.entry A.interlinks linear self.old self.new
+            (P.key p ∷ [])) }
         ensures size { OnOk result (count (A.seen self.new) ≡ count (A.seen self.old) + 1) }
-        ensures link { (result ≡ Err ChainInsertionError.FailedLinkRequirement) ↔ ¬ IsValid (A.entry self.old) (P.key p) }
+        ensures link { (result ≡ Err ChainInsertionError.FailedLinkRequirement)
+            ↔ ¬ IsValid (A.entry self.old) (P.key p) }
         ensures error { IfErr result (λ e. e ≢ ChainInsertionError.NotWithinCapacity) }
-        ensures room { IsValid (A.entry self.old) (P.key p) → SucceedsInRoom (A.seen self.old) result (A.seen self.new) }
+        ensures room { IsValid (A.entry self.old) (P.key p)
+            → SucceedsInRoom (A.seen self.old) result (A.seen self.new) }
         ensures grown { OnOk result (IsRoom P.Inx.greatest (A.seen self.new).maximum
             (count (A.seen self.old) + 1) (A.seen self.new).capacity) }
         ensures beyond { (result ≡ Err ChainInsertionError.BeyondMaxCapacity)
@@ -256,8 +276,10 @@ impl<P: PtrKey, T: Drop, A: ChainArenaTrait<P, T> + Drop> Documents<P, T, A> {
     /// capacity stays. `None`: the pointer is of no paragraph, and nothing has changed.
     pub fn remove(&mut self, p: P) -> Option<T>
         ensures some { IsSome result ↔ IsValid (A.entry self.old) (P.key p) }
-        ensures paragraph { IfSome result (λ t. A.entry self.old (P.key p).0 ≡ Some ((P.key p).1, t)) }
-        ensures text { IfSome result (λ t. Leaves A.entry A.interlinks linear self.old self.new (P.key p, t)) }
+        ensures paragraph { IfSome result (λ t. A.entry self.old (P.key p).0 ≡ Some
+            ((P.key p).1, t)) }
+        ensures text { IfSome result (λ t. Leaves A.entry A.interlinks linear self.old self.new
+            (P.key p, t)) }
         ensures gone { OnSome result (A.entry self.new (P.key p).0 ≡ None) }
         ensures paragraphs { (i : ℕ) → i ≢ (P.key p).0 → A.entry self.new i ≡ A.entry self.old i }
         ensures others { KeepsWithout A.entry A.interlinks linear self.old self.new (P.key p ∷ []) }
@@ -273,7 +295,9 @@ impl<P: PtrKey, T: Drop, A: ChainArenaTrait<P, T> + Drop> Documents<P, T, A> {
     /// Makes two texts of one: what comes after p is a text of its own. `None`: the pointer is of no paragraph, or nothing comes
     /// after it. Nothing has changed then.
     pub fn part_after(&mut self, p: P) -> Option<()>
-        ensures some { IsSome result ↔ (IsValid (A.entry self.old) (P.key p) × IsSome (next_of (A.interlinks self.old) (P.key p).0)) }
+        ensures some { IsSome result
+            ↔ (IsValid (A.entry self.old) (P.key p)
+            × IsSome (next_of (A.interlinks self.old) (P.key p).0)) }
         ensures texts { EndsIn A.entry A.interlinks self.old self.new (P.key p) }
         ensures others { KeepsWithout A.entry A.interlinks linear self.old self.new (P.key p ∷ []) }
         ensures paragraphs { A.entry self.new ≡ A.entry self.old }
@@ -285,7 +309,9 @@ impl<P: PtrKey, T: Drop, A: ChainArenaTrait<P, T> + Drop> Documents<P, T, A> {
 
     /// .. what comes before p.
     pub fn part_before(&mut self, p: P) -> Option<()>
-        ensures some { IsSome result ↔ (IsValid (A.entry self.old) (P.key p) × IsSome (prev_of (A.interlinks self.old) (P.key p).0)) }
+        ensures some { IsSome result
+            ↔ (IsValid (A.entry self.old) (P.key p)
+            × IsSome (prev_of (A.interlinks self.old) (P.key p).0)) }
         ensures texts { BeginsWith A.entry A.interlinks self.old self.new (P.key p) }
         ensures others { KeepsWithout A.entry A.interlinks linear self.old self.new (P.key p ∷ []) }
         ensures paragraphs { A.entry self.new ≡ A.entry self.old }
@@ -301,9 +327,11 @@ impl<P: PtrKey, T: Drop, A: ChainArenaTrait<P, T> + Drop> Documents<P, T, A> {
     /// p and q are of two texts. The end and the start of one text would be tied to a ring, which is no text: to find that out takes
     /// a walk, which is not made here.
     pub fn join(&mut self, p: P, q: P) -> Option<()>
-        ensures some { IsSome result ↔ CanConnect (A.entry self.old) (A.interlinks self.old) (P.key p) (P.key q) }
+        ensures some { IsSome result ↔ CanConnect (A.entry self.old) (A.interlinks self.old)
+            (P.key p) (P.key q) }
         ensures texts { AreJoined A.entry A.interlinks self.old self.new (P.key p) (P.key q) }
-        ensures others { KeepsWithout A.entry A.interlinks linear self.old self.new (P.key p ∷ P.key q ∷ []) }
+        ensures others { KeepsWithout A.entry A.interlinks linear self.old self.new
+            (P.key p ∷ P.key q ∷ []) }
         ensures paragraphs { A.entry self.new ≡ A.entry self.old }
         ensures seen { A.seen self.new ≡ A.seen self.old }
         ensures none { IfNone result (self.new ≡ self.old) }
@@ -313,7 +341,8 @@ impl<P: PtrKey, T: Drop, A: ChainArenaTrait<P, T> + Drop> Documents<P, T, A> {
 
     // Joins two texts at these ends, if both are there.
     fn close(&mut self, end: Option<P>, start: Option<P>) -> Option<()>
-        ensures texts { IsClosed A.entry A.interlinks self.old self.new (option_map P.key end) (option_map P.key start) }
+        ensures texts { IsClosed A.entry A.interlinks self.old self.new (option_map P.key end)
+            (option_map P.key start) }
         ensures seen { A.seen self.new ≡ A.seen self.old }
     {
         let p = end?;
@@ -324,7 +353,8 @@ impl<P: PtrKey, T: Drop, A: ChainArenaTrait<P, T> + Drop> Documents<P, T, A> {
     // The pointers of the paragraphs before and after another, by one look. `None`: the pointer is of no paragraph.
     fn beside(&self, p: P) -> Option<(Option<P>, Option<P>)>
         ensures some { IsSome result ↔ IsValid (A.entry self.now) (P.key p) }
-        ensures between { IfSome result (λ r. StandsBetween A.entry A.interlinks self.now (P.key p) (option_map P.key r.0) (option_map P.key r.1)) }
+        ensures between { IfSome result (λ r. StandsBetween A.entry A.interlinks self.now (P.key p)
+            (option_map P.key r.0) (option_map P.key r.1)) }
     {
         match self.paragraphs.get_link(p) {
             Some(link) => Some(link.prev_next()),
@@ -350,7 +380,8 @@ impl<P: PtrKey, T: Drop, A: ChainArenaTrait<P, T> + Drop> Documents<P, T, A> {
     // Puts a paragraph that is a text of its own directly after another.
     fn put_after(&mut self, p: P, q: P)
         ensures texts { IsPutAfter A.entry A.interlinks self.old self.new (P.key p) (P.key q) }
-        ensures others { KeepsWithout A.entry A.interlinks linear self.old self.new (P.key p ∷ P.key q ∷ []) }
+        ensures others { KeepsWithout A.entry A.interlinks linear self.old self.new
+            (P.key p ∷ P.key q ∷ []) }
         ensures seen { A.seen self.new ≡ A.seen self.old }
     {
         let after = self.next(q);
@@ -362,9 +393,13 @@ impl<P: PtrKey, T: Drop, A: ChainArenaTrait<P, T> + Drop> Documents<P, T, A> {
     /// Moves a paragraph, that of p, to directly after another, that of q, in the same text or from another one. Its pointer stays
     /// as it is. `None`: one of the pointers is of no paragraph, or both are of one, and nothing has changed.
     pub fn move_after(&mut self, p: P, q: P) -> Option<()>
-        ensures some { IsSome result ↔ (IsValid (A.entry self.old) (P.key p) × IsValid (A.entry self.old) (P.key q) × (P.key p ≢ P.key q)) }
-        ensures texts { OnSome result (IsMovedAfter A.entry A.interlinks self.old self.new (P.key p) (P.key q)) }
-        ensures others { KeepsWithout A.entry A.interlinks linear self.old self.new (P.key p ∷ P.key q ∷ []) }
+        ensures some { IsSome result
+            ↔ (IsValid (A.entry self.old) (P.key p) × IsValid (A.entry self.old) (P.key q)
+            × (P.key p ≢ P.key q)) }
+        ensures texts { OnSome result (IsMovedAfter A.entry A.interlinks self.old self.new (P.key p)
+            (P.key q)) }
+        ensures others { KeepsWithout A.entry A.interlinks linear self.old self.new
+            (P.key p ∷ P.key q ∷ []) }
         ensures paragraphs { A.entry self.new ≡ A.entry self.old }
         ensures seen { A.seen self.new ≡ A.seen self.old }
         ensures none { IfNone result (self.new ≡ self.old) }
@@ -394,7 +429,8 @@ impl<P: PtrKey, T: Drop, S: SlotStack<Item = ArenaSlot<P, LinkNoGen<P, T>>>> Doc
     ///
     /// - `AllocError`: memory was refused, and nothing has changed.
     pub fn renumber(&mut self, alloc: Global, bookmarks: &mut [Option<P>]) -> Result<(), AllocError>
-        ensures canonical { OnOk result (IsCanonicalLayout P.Gen.first P.Gen.following false (seen self.old) (shown self.old) (seen self.new) (shown self.new)) }
+        ensures canonical { OnOk result (IsCanonicalLayout P.Gen.first P.Gen.following false
+            (seen self.old) (shown self.old) (seen self.new) (shown self.new)) }
         ensures renumbered { OnOk result (IsRenumbered P.Gen.first P.Gen.following seen entry shown
             self.old self.new
             (map (option_map P.key) bookmarks.old) (map (option_map P.key) bookmarks.new)) }

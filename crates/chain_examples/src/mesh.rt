@@ -116,7 +116,8 @@ impl<P: PtrKey, T: Drop, A: ChainArenaTrait<P, T> + Drop> Mesh<P, T, A> {
     /// The point of a corner. `None`: the pointer is of no corner.
     pub fn get(&self, corner: P) -> Option<&T>
         ensures some { IsSome result ↔ IsValid (A.entry self.now) (P.key corner) }
-        ensures point { IfSome result (λ t. A.entry self.now (P.key corner).0 ≡ Some ((P.key corner).1, t.now)) }
+        ensures point { IfSome result (λ t. A.entry self.now (P.key corner).0 ≡ Some
+            ((P.key corner).1, t.now)) }
     {
         self.corners.get(corner)
     }
@@ -124,7 +125,8 @@ impl<P: PtrKey, T: Drop, A: ChainArenaTrait<P, T> + Drop> Mesh<P, T, A> {
     /// The pointer of the corner after another in its polygon: of the only one it is its own. `None`: the pointer is of no corner.
     pub fn next(&self, corner: P) -> Option<P>
         ensures none { ¬ IsValid (A.entry self.now) (P.key corner) → result ≡ None }
-        ensures next { (t : T) (others : List (Item P.Gen T)) → IsRing A.entry A.interlinks self.now ((P.key corner, t) ∷ others)
+        ensures next { (t : T) (others : List (Item P.Gen T))
+            → IsRing A.entry A.interlinks self.now ((P.key corner, t) ∷ others)
             → option_map P.key result ≡ first_key (others ++ (P.key corner, t) ∷ []) }
     {
         match self.corners.get_link(corner) {
@@ -142,9 +144,12 @@ impl<P: PtrKey, T: Drop, A: ChainArenaTrait<P, T> + Drop> Mesh<P, T, A> {
     ///
     /// After an error the mesh is unchanged, and the point is dropped.
     pub fn start(&mut self, point: T) -> Result<P, ReallocationError>
-        ensures ring { IfOk result (λ p. IsRing A.entry A.interlinks self.new ((P.key p, point) ∷ [])) }
-        ensures corner { IfOk result (λ p. IsInserted (A.entry self.old) (A.entry self.new) (P.key p) point) }
-        ensures others { OnOk result (KeepsWithout A.entry A.interlinks cyclic self.old self.new []) }
+        ensures ring { IfOk result (λ p. IsRing A.entry A.interlinks self.new
+            ((P.key p, point) ∷ [])) }
+        ensures corner { IfOk result (λ p. IsInserted (A.entry self.old) (A.entry self.new)
+            (P.key p) point) }
+        ensures others { OnOk result
+            (KeepsWithout A.entry A.interlinks cyclic self.old self.new []) }
         ensures size { OnOk result (count (A.seen self.new) ≡ count (A.seen self.old) + 1) }
         ensures room { SucceedsInRoom (A.seen self.old) result (A.seen self.new) }
         ensures grown { OnOk result (IsRoom P.Inx.greatest (A.seen self.new).maximum
@@ -168,13 +173,18 @@ impl<P: PtrKey, T: Drop, A: ChainArenaTrait<P, T> + Drop> Mesh<P, T, A> {
     ///
     /// After an error the mesh is unchanged, and the point is dropped.
     pub fn insert_after(&mut self, corner: P, point: T) -> Result<P, ChainInsertionError>
-        ensures ring { IfOk result (λ p. ComesAfter A.entry A.interlinks cyclic self.old self.new (P.key corner) (P.key p, point)) }
-        ensures corner { IfOk result (λ p. IsInserted (A.entry self.old) (A.entry self.new) (P.key p) point) }
-        ensures others { OnOk result (KeepsWithout A.entry A.interlinks cyclic self.old self.new (P.key corner ∷ [])) }
+        ensures ring { IfOk result (λ p. ComesAfter A.entry A.interlinks cyclic self.old self.new
+            (P.key corner) (P.key p, point)) }
+        ensures corner { IfOk result (λ p. IsInserted (A.entry self.old) (A.entry self.new)
+            (P.key p) point) }
+        ensures others { OnOk result (KeepsWithout A.entry A.interlinks cyclic self.old self.new
+            (P.key corner ∷ [])) }
         ensures size { OnOk result (count (A.seen self.new) ≡ count (A.seen self.old) + 1) }
-        ensures link { (result ≡ Err ChainInsertionError.FailedLinkRequirement) ↔ ¬ IsValid (A.entry self.old) (P.key corner) }
+        ensures link { (result ≡ Err ChainInsertionError.FailedLinkRequirement)
+            ↔ ¬ IsValid (A.entry self.old) (P.key corner) }
         ensures error { IfErr result (λ e. e ≢ ChainInsertionError.NotWithinCapacity) }
-        ensures room { IsValid (A.entry self.old) (P.key corner) → SucceedsInRoom (A.seen self.old) result (A.seen self.new) }
+        ensures room { IsValid (A.entry self.old) (P.key corner)
+            → SucceedsInRoom (A.seen self.old) result (A.seen self.new) }
         ensures grown { OnOk result (IsRoom P.Inx.greatest (A.seen self.new).maximum
             (count (A.seen self.old) + 1) (A.seen self.new).capacity) }
         ensures maximum { (A.seen self.new).maximum ≡ (A.seen self.old).maximum }
@@ -193,11 +203,14 @@ impl<P: PtrKey, T: Drop, A: ChainArenaTrait<P, T> + Drop> Mesh<P, T, A> {
     /// Returns `None` if `corner` is not valid. The mesh is unchanged then.
     pub fn remove(&mut self, corner: P) -> Option<T>
         ensures some { IsSome result ↔ IsValid (A.entry self.old) (P.key corner) }
-        ensures point { IfSome result (λ t. A.entry self.old (P.key corner).0 ≡ Some ((P.key corner).1, t)) }
-        ensures ring { IfSome result (λ t. Leaves A.entry A.interlinks cyclic self.old self.new (P.key corner, t)) }
+        ensures point { IfSome result (λ t. A.entry self.old (P.key corner).0 ≡ Some
+            ((P.key corner).1, t)) }
+        ensures ring { IfSome result (λ t. Leaves A.entry A.interlinks cyclic self.old self.new
+            (P.key corner, t)) }
         ensures gone { OnSome result (A.entry self.new (P.key corner).0 ≡ None) }
         ensures corners { (i : ℕ) → i ≢ (P.key corner).0 → A.entry self.new i ≡ A.entry self.old i }
-        ensures others { KeepsWithout A.entry A.interlinks cyclic self.old self.new (P.key corner ∷ []) }
+        ensures others { KeepsWithout A.entry A.interlinks cyclic self.old self.new
+            (P.key corner ∷ []) }
         ensures size { OnSome result (count (A.seen self.old) ≡ count (A.seen self.new) + 1) }
         ensures seen { OnSome result (A.seen self.new
             ≡ entry_removed P.Gen.following (A.seen self.old) (P.key corner).0) }
@@ -213,10 +226,12 @@ impl<P: PtrKey, T: Drop, A: ChainArenaTrait<P, T> + Drop> Mesh<P, T, A> {
     /// Changes nothing if both are one corner.
     /// Returns `None` if `u` or `v` is not valid. The mesh is unchanged then.
     pub fn cut(&mut self, u: P, v: P) -> Option<()>
-        ensures some { IsSome result ↔ (IsValid (A.entry self.old) (P.key u) × IsValid (A.entry self.old) (P.key v)) }
+        ensures some { IsSome result
+            ↔ (IsValid (A.entry self.old) (P.key u) × IsValid (A.entry self.old) (P.key v)) }
         ensures rings { IsCutInTwo A.entry A.interlinks self.old self.new (P.key u) (P.key v) }
         ensures merged { AreMerged A.entry A.interlinks self.old self.new (P.key u) (P.key v) }
-        ensures others { KeepsWithout A.entry A.interlinks cyclic self.old self.new (P.key u ∷ P.key v ∷ []) }
+        ensures others { KeepsWithout A.entry A.interlinks cyclic self.old self.new
+            (P.key u ∷ P.key v ∷ []) }
         ensures corners { A.entry self.new ≡ A.entry self.old }
         ensures seen { A.seen self.new ≡ A.seen self.old }
         ensures itself { P.key u ≡ P.key v → A.interlinks self.new ≡ A.interlinks self.old }
@@ -231,10 +246,12 @@ impl<P: PtrKey, T: Drop, A: ChainArenaTrait<P, T> + Drop> Mesh<P, T, A> {
     /// Changes nothing if both are one corner.
     /// Returns `None` if `u` or `v` is not valid. The mesh is unchanged then.
     pub fn merge(&mut self, u: P, v: P) -> Option<()>
-        ensures some { IsSome result ↔ (IsValid (A.entry self.old) (P.key u) × IsValid (A.entry self.old) (P.key v)) }
+        ensures some { IsSome result
+            ↔ (IsValid (A.entry self.old) (P.key u) × IsValid (A.entry self.old) (P.key v)) }
         ensures ring { AreMerged A.entry A.interlinks self.old self.new (P.key u) (P.key v) }
         ensures cut { IsCutInTwo A.entry A.interlinks self.old self.new (P.key u) (P.key v) }
-        ensures others { KeepsWithout A.entry A.interlinks cyclic self.old self.new (P.key u ∷ P.key v ∷ []) }
+        ensures others { KeepsWithout A.entry A.interlinks cyclic self.old self.new
+            (P.key u ∷ P.key v ∷ []) }
         ensures corners { A.entry self.new ≡ A.entry self.old }
         ensures seen { A.seen self.new ≡ A.seen self.old }
         ensures itself { P.key u ≡ P.key v → A.interlinks self.new ≡ A.interlinks self.old }
@@ -245,10 +262,12 @@ impl<P: PtrKey, T: Drop, A: ChainArenaTrait<P, T> + Drop> Mesh<P, T, A> {
 
     // Exchanges what comes after u with what comes after v: two polygons become one, or one two.
     fn exchange(&mut self, u: P, v: P) -> Option<()>
-        ensures some { IsSome result ↔ (IsValid (A.entry self.old) (P.key u) × IsValid (A.entry self.old) (P.key v)) }
+        ensures some { IsSome result
+            ↔ (IsValid (A.entry self.old) (P.key u) × IsValid (A.entry self.old) (P.key v)) }
         ensures cut { IsCutInTwo A.entry A.interlinks self.old self.new (P.key u) (P.key v) }
         ensures merged { AreMerged A.entry A.interlinks self.old self.new (P.key u) (P.key v) }
-        ensures others { KeepsWithout A.entry A.interlinks cyclic self.old self.new (P.key u ∷ P.key v ∷ []) }
+        ensures others { KeepsWithout A.entry A.interlinks cyclic self.old self.new
+            (P.key u ∷ P.key v ∷ []) }
         ensures corners { A.entry self.new ≡ A.entry self.old }
         ensures seen { A.seen self.new ≡ A.seen self.old }
         ensures itself { P.key u ≡ P.key v → A.interlinks self.new ≡ A.interlinks self.old }
@@ -287,8 +306,10 @@ impl<P: PtrKey, T: Copy + Drop, A: ChainArenaTrait<P, T> + Drop> Mesh<P, T, A> {
         ensures corners { IfOk result (λ r. IfSome r (λ copies.
             AreCopied (A.entry self.old) (A.entry self.new)
             (P.key u) (P.key v) (P.key copies.0) (P.key copies.1))) }
-        ensures others { OnOk result (KeepsWithout A.entry A.interlinks cyclic self.old self.new (P.key u ∷ P.key v ∷ [])) }
-        ensures size { IfOk result (λ r. OnSome r (count (A.seen self.new) ≡ count (A.seen self.old) + 2)) }
+        ensures others { OnOk result (KeepsWithout A.entry A.interlinks cyclic self.old self.new
+            (P.key u ∷ P.key v ∷ [])) }
+        ensures size { IfOk result
+            (λ r. OnSome r (count (A.seen self.new) ≡ count (A.seen self.old) + 2)) }
         ensures none { IfOk result (λ r. IfNone r (self.new ≡ self.old)) }
         ensures room { count (A.seen self.old) + 2 ≤ (A.seen self.old).capacity
             → IsOk result × ((A.seen self.new).capacity ≡ (A.seen self.old).capacity) }
@@ -323,7 +344,8 @@ impl<P: PtrKey, T: Copy + Drop, A: ChainArenaTrait<P, T> + Drop> Mesh<P, T, A> {
             (P.key u) (P.key v) (P.key result.0) (P.key result.1) }
         ensures corners { AreCopied (A.entry self.old) (A.entry self.new)
             (P.key u) (P.key v) (P.key result.0) (P.key result.1) }
-        ensures others { KeepsWithout A.entry A.interlinks cyclic self.old self.new (P.key u ∷ P.key v ∷ []) }
+        ensures others { KeepsWithout A.entry A.interlinks cyclic self.old self.new
+            (P.key u ∷ P.key v ∷ []) }
         ensures size { count (A.seen self.new) ≡ count (A.seen self.old) + 2 }
         ensures capacity { (A.seen self.new).capacity ≡ (A.seen self.old).capacity }
         ensures maximum { (A.seen self.new).maximum ≡ (A.seen self.old).maximum }
@@ -339,8 +361,10 @@ impl<P: PtrKey, T: Copy + Drop, A: ChainArenaTrait<P, T> + Drop> Mesh<P, T, A> {
         ensures some { IsSome result
             ↔ (IsValid (A.entry self.now) (P.key u) × IsValid (A.entry self.now) (P.key v)
             × (P.key u ≢ P.key v)) }
-        ensures first { IfSome result (λ r. A.entry self.now (P.key u).0 ≡ Some ((P.key u).1, r.0)) }
-        ensures second { IfSome result (λ r. A.entry self.now (P.key v).0 ≡ Some ((P.key v).1, r.1)) }
+        ensures first { IfSome result (λ r. A.entry self.now (P.key u).0 ≡ Some
+            ((P.key u).1, r.0)) }
+        ensures second { IfSome result (λ r. A.entry self.now (P.key v).0 ≡ Some
+            ((P.key v).1, r.1)) }
     {
         if u.is_same(v) {
             return None;
@@ -355,9 +379,11 @@ impl<P: PtrKey, T: Copy + Drop, A: ChainArenaTrait<P, T> + Drop> Mesh<P, T, A> {
 fn add_before<P: PtrKey, T: Drop, A: ChainArenaTrait<P, T>>(corners: &mut A, u: P, t: T) -> P
     requires valid { IsValid (A.entry corners.old) (P.key u) }
     requires room { HasRoomLeft (A.seen corners.old) }
-    ensures ring { ComesBefore A.entry A.interlinks cyclic corners.old corners.new (P.key u) (P.key result, t) }
+    ensures ring { ComesBefore A.entry A.interlinks cyclic corners.old corners.new (P.key u)
+        (P.key result, t) }
     ensures corner { IsInserted (A.entry corners.old) (A.entry corners.new) (P.key result) t }
-    ensures others { KeepsWithout A.entry A.interlinks cyclic corners.old corners.new (P.key u ∷ []) }
+    ensures others { KeepsWithout A.entry A.interlinks cyclic corners.old corners.new
+        (P.key u ∷ []) }
     ensures round { GoesRound (A.interlinks corners.old) → GoesRound (A.interlinks corners.new) }
     ensures size { count (A.seen corners.new) ≡ count (A.seen corners.old) + 1 }
     ensures capacity { (A.seen corners.new).capacity ≡ (A.seen corners.old).capacity }
@@ -374,9 +400,11 @@ fn add_before<P: PtrKey, T: Drop, A: ChainArenaTrait<P, T>>(corners: &mut A, u: 
 fn add_after<P: PtrKey, T: Drop, A: ChainArenaTrait<P, T>>(corners: &mut A, v: P, t: T) -> P
     requires valid { IsValid (A.entry corners.old) (P.key v) }
     requires room { HasRoomLeft (A.seen corners.old) }
-    ensures ring { ComesAfter A.entry A.interlinks cyclic corners.old corners.new (P.key v) (P.key result, t) }
+    ensures ring { ComesAfter A.entry A.interlinks cyclic corners.old corners.new (P.key v)
+        (P.key result, t) }
     ensures corner { IsInserted (A.entry corners.old) (A.entry corners.new) (P.key result) t }
-    ensures others { KeepsWithout A.entry A.interlinks cyclic corners.old corners.new (P.key v ∷ []) }
+    ensures others { KeepsWithout A.entry A.interlinks cyclic corners.old corners.new
+        (P.key v ∷ []) }
     ensures round { GoesRound (A.interlinks corners.old) → GoesRound (A.interlinks corners.new) }
     ensures size { count (A.seen corners.new) ≡ count (A.seen corners.old) + 1 }
     ensures capacity { (A.seen corners.new).capacity ≡ (A.seen corners.old).capacity }

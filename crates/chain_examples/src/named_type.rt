@@ -19,7 +19,8 @@ pub fn remove_value(arena: &mut ChainArena<ToolPtr, u32>, p: ToolPtr) -> Option<
     ensures value { IfSome result (λ t. entry arena.old (key_of p).0 ≡ Some ((key_of p).1, t)) }
     ensures links { IsValid (entry arena.old) (key_of p)
         → shown arena.new ≡ removed (shown arena.old) (key_of p).0 }
-    ensures none { ¬ IsValid (entry arena.old) (key_of p) → (result ≡ None) × (arena.new ≡ arena.old) }
+    ensures none { ¬ IsValid (entry arena.old) (key_of p)
+        → (result ≡ None) × (arena.new ≡ arena.old) }
 {
     arena.remove(p).allow()
 }

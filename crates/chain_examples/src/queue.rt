@@ -38,13 +38,16 @@ impl<P: PtrKey, T: Drop, A: ChainArenaTrait<P, T> + Drop> Model for RunQueue<P, 
     ghost Value = { Queue P.Gen T };
 
     ghost view = { λ q. record {
-      turn = turn_of (A.entry q.tasks) (A.interlinks q.tasks) (count (A.seen q.tasks)) (option_map P.key q.current);
+      turn = turn_of (A.entry q.tasks) (A.interlinks q.tasks) (count (A.seen q.tasks))
+          (option_map P.key q.current);
       room = (A.seen q.tasks).capacity;
       maximum = (A.seen q.tasks).maximum;
     } };
 
-    ghost invariant = { λ q. IsTurn (A.entry q.tasks) (A.interlinks q.tasks) (option_map P.key q.current)
-        (turn_of (A.entry q.tasks) (A.interlinks q.tasks) (count (A.seen q.tasks)) (option_map P.key q.current)) };
+    ghost invariant = { λ q. IsTurn (A.entry q.tasks) (A.interlinks q.tasks)
+        (option_map P.key q.current)
+        (turn_of (A.entry q.tasks) (A.interlinks q.tasks) (count (A.seen q.tasks))
+        (option_map P.key q.current)) };
 }
 
 impl<P: PtrKey, T: Drop, A: ChainArenaTrait<P, T> + Drop> RunQueue<P, T, A> {
@@ -167,7 +170,8 @@ impl<P: PtrKey, T: Drop, A: ChainArenaTrait<P, T> + Drop> RunQueue<P, T, A> {
     pub fn spawn(&mut self, task: T) -> Result<P, ReallocationError>
         ensures last { IfOk result (λ p. self.new.turn ≡ self.old.turn ++ (P.key p, task) ∷ []) }
         ensures fresh { IfOk result (λ p. ¬ Has (indexes self.old.turn) (P.key p).0) }
-        ensures room { length self.old.turn < self.old.room → IsOk result × (self.new.room ≡ self.old.room) }
+        ensures room { length self.old.turn < self.old.room
+            → IsOk result × (self.new.room ≡ self.old.room) }
         ensures grown { OnOk result (IsRoom P.Inx.greatest self.new.maximum
             (length self.old.turn + 1) self.new.room) }
         ensures beyond { (result ≡ Err ReallocationError.BeyondMaxCapacity)
@@ -200,7 +204,8 @@ impl<P: PtrKey, T: Drop, A: ChainArenaTrait<P, T> + Drop> RunQueue<P, T, A> {
     /// was current, the next one is.
     /// `None`: the pointer is of no task in the queue, and nothing has changed.
     pub fn cancel(&mut self, p: P) -> Option<T>
-        ensures some { IfSome result (λ task. IsCancelled (P.key p) task self.old.turn self.new.turn) }
+        ensures some { IfSome result
+            (λ task. IsCancelled (P.key p) task self.old.turn self.new.turn) }
         ensures none { IfNone result ((self.new ≡ self.old) × ¬ IsAmong (P.key p) self.old.turn) }
         ensures room { self.new.room ≡ self.old.room }
         ensures maximum { self.new.maximum ≡ self.old.maximum }
@@ -215,7 +220,8 @@ impl<P: PtrKey, T: Drop, A: ChainArenaTrait<P, T> + Drop> RunQueue<P, T, A> {
 
     // Takes the current task out. The next one is current then.
     fn take_current(&mut self) -> Option<T>
-        ensures some { IfSome result (λ task. (p : ℕ × P.Gen) × (self.old.turn ≡ (p, task) ∷ self.new.turn)) }
+        ensures some { IfSome result (λ task. (p : ℕ × P.Gen)
+            × (self.old.turn ≡ (p, task) ∷ self.new.turn)) }
         ensures none { IfNone result ((self.old.turn ≡ []) × (self.new ≡ self.old)) }
         ensures room { self.new.room ≡ self.old.room }
         ensures maximum { self.new.maximum ≡ self.old.maximum }
@@ -228,7 +234,8 @@ impl<P: PtrKey, T: Drop, A: ChainArenaTrait<P, T> + Drop> RunQueue<P, T, A> {
     ///
     /// `AllocError`: memory for the answer was refused, and nothing has changed.
     pub fn drain_all<B: Allocator>(&mut self, alloc: B) -> Result<Vec<T, B>, AllocError>
-        ensures drained { IfOk result (λ tasks. (tasks.items ≡ map (λ e. e.1) self.old.turn) × (self.new.turn ≡ [])) }
+        ensures drained { IfOk result (λ tasks. (tasks.items ≡ map (λ e. e.1) self.old.turn)
+            × (self.new.turn ≡ [])) }
         ensures room { self.new.room ≡ self.old.room }
         ensures maximum { self.new.maximum ≡ self.old.maximum }
         ensures err { OnErr result (self.new ≡ self.old) }
@@ -255,7 +262,9 @@ fn come_last<P: PtrKey, T: Drop, A: ChainArenaTrait<P, T>>(
     task: T,
 ) -> Result<P, ReallocationError>
     requires { IfSome current (λ p. IsValid (A.entry tasks.old) (P.key p)) }
-    ensures last { IfOk result (λ p. ComesLast A.entry A.interlinks tasks.old tasks.new (option_map P.key current) (option_map P.key (option_or current (Some p))) (P.key p, task)) }
+    ensures last { IfOk result (λ p. ComesLast A.entry A.interlinks tasks.old tasks.new
+        (option_map P.key current) (option_map P.key (option_or current (Some p)))
+        (P.key p, task)) }
     ensures fresh { IfOk result (λ p. A.entry tasks.old (P.key p).0 ≡ None) }
     ensures room { SucceedsInRoom (A.seen tasks.old) result (A.seen tasks.new) }
     ensures grown { OnOk result (IsRoom P.Inx.greatest (A.seen tasks.new).maximum
@@ -274,7 +283,8 @@ fn come_last<P: PtrKey, T: Drop, A: ChainArenaTrait<P, T>>(
 
 // The pointer of the task after the current one, p.
 fn after<P: PtrKey, T: Drop, A: ChainArenaTrait<P, T>>(tasks: &A, p: P) -> Option<P>
-    ensures { (task : Item P.Gen T) (rest : List (Item P.Gen T)) → IsTurn (A.entry tasks.now) (A.interlinks tasks.now) (Some (P.key p)) (task ∷ rest)
+    ensures { (task : Item P.Gen T) (rest : List (Item P.Gen T))
+        → IsTurn (A.entry tasks.now) (A.interlinks tasks.now) (Some (P.key p)) (task ∷ rest)
         → option_map P.key result ≡ first_key (rest ++ task ∷ []) }
 {
     match tasks.get_link(p) {
@@ -285,7 +295,8 @@ fn after<P: PtrKey, T: Drop, A: ChainArenaTrait<P, T>>(tasks: &A, p: P) -> Optio
 
 // The pointer of the task after the current one, p, if that is another.
 fn other_after<P: PtrKey, T: Drop, A: ChainArenaTrait<P, T>>(tasks: &A, p: P) -> Option<P>
-    ensures { (task : Item P.Gen T) (rest : List (Item P.Gen T)) → IsTurn (A.entry tasks.now) (A.interlinks tasks.now) (Some (P.key p)) (task ∷ rest)
+    ensures { (task : Item P.Gen T) (rest : List (Item P.Gen T))
+        → IsTurn (A.entry tasks.now) (A.interlinks tasks.now) (Some (P.key p)) (task ∷ rest)
         → option_map P.key result ≡ first_key rest }
 {
     let q = after(tasks, p)?;
@@ -301,7 +312,8 @@ fn current_without<P: PtrKey, T: Drop, A: ChainArenaTrait<P, T>>(
     current: P,
     p: P,
 ) -> Option<P>
-    ensures { IsFirstWithout A.entry A.interlinks tasks.now (P.key p) (P.key current) (option_map P.key result) }
+    ensures { IsFirstWithout A.entry A.interlinks tasks.now (P.key p) (P.key current)
+        (option_map P.key result) }
 {
     if current.is_same(p) {
         return other_after(tasks, p);

@@ -21,9 +21,12 @@ use chain_traits::ChainArenaTrait;
 /// Makes q the link after p, and returns whether it could. Every other chain stays, link for
 /// link, and so do all values. Where it could not, nothing has changed.
 pub fn tie<P: PtrKey, T: Drop, A: ChainArenaTrait<P, T>>(arena: &mut A, p: P, q: P) -> bool
-    ensures tied { IsTrue result ↔ CanConnect (A.entry arena.old) (A.interlinks arena.old) (P.key p) (P.key q) }
-    ensures links { IsTrue result → A.interlinks arena.new ≡ joined (A.interlinks arena.old) (P.key p).0 (P.key q).0 }
-    ensures others { IsTrue result → KeepsChainsWithout (A.interlinks arena.old) (A.interlinks arena.new) (P.key p).0 (P.key q).0 }
+    ensures tied { IsTrue result ↔ CanConnect (A.entry arena.old) (A.interlinks arena.old) (P.key p)
+        (P.key q) }
+    ensures links { IsTrue result → A.interlinks arena.new ≡ joined (A.interlinks arena.old)
+        (P.key p).0 (P.key q).0 }
+    ensures others { IsTrue result → KeepsChainsWithout (A.interlinks arena.old)
+        (A.interlinks arena.new) (P.key p).0 (P.key q).0 }
     ensures seen { IsTrue result → A.seen arena.new ≡ A.seen arena.old }
     ensures refused { IsFalse result → arena.new ≡ arena.old }
 {
@@ -63,7 +66,8 @@ pub fn close<P: PtrKey, T: Drop, A: ChainArenaTrait<P, T>>(arena: &mut A, p: P, 
         → first_or xs None ≡ Some (P.key q).0 → last_or xs None ≡ Some (P.key p).0
         → IsChain (A.interlinks arena.new) (cyclic xs) }
     ensures others { IsTrue result
-        → KeepsChainsWithout (A.interlinks arena.old) (A.interlinks arena.new) (P.key p).0 (P.key q).0 }
+        → KeepsChainsWithout (A.interlinks arena.old) (A.interlinks arena.new) (P.key p).0
+        (P.key q).0 }
     ensures seen { IsTrue result → A.seen arena.new ≡ A.seen arena.old }
     ensures refused { IsFalse result → arena.new ≡ arena.old }
 {
@@ -87,7 +91,8 @@ pub fn put_behind<P: PtrKey, T: Drop, A: ChainArenaTrait<P, T>>(
     p: P,
     t: T,
 ) -> Result<P, ChainInsertionError>
-    ensures behind { IfOk result (λ q. AreNeighbors (A.interlinks arena.new) (P.key p).0 (P.key q).0) }
+    ensures behind { IfOk result (λ q. AreNeighbors (A.interlinks arena.new) (P.key p).0
+        (P.key q).0) }
     ensures inserted { IfOk result (λ q. GainsLink A.seen A.entry A.interlinks
         (next_to (pointed P.key P.Inx.number p)) t arena.old (P.key q) arena.new) }
     ensures link { (result ≡ Err ChainInsertionError.FailedLinkRequirement)

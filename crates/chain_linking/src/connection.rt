@@ -16,7 +16,8 @@ pub fn is_end<P: PtrKey, T: Drop, S: SlotStack<Item = ArenaSlot<P, LinkNoGen<P, 
     arena: &Arena<P, LinkNoGen<P, T>, S>,
     p: P,
 ) -> bool
-    ensures { IsTrue result ↔ IsValidEnd (entry (seen_links P.Inx.packed_number arena.now)) (shown (seen_links P.Inx.packed_number arena.now)) (P.key p) }
+    ensures { IsTrue result ↔ IsValidEnd (entry (seen_links P.Inx.packed_number arena.now))
+        (shown (seen_links P.Inx.packed_number arena.now)) (P.key p) }
 {
     match arena.get(p) {
         Some(link) => link.next().is_none(),
@@ -29,7 +30,8 @@ pub fn is_start<P: PtrKey, T: Drop, S: SlotStack<Item = ArenaSlot<P, LinkNoGen<P
     arena: &Arena<P, LinkNoGen<P, T>, S>,
     p: P,
 ) -> bool
-    ensures { IsTrue result ↔ IsValidStart (entry (seen_links P.Inx.packed_number arena.now)) (shown (seen_links P.Inx.packed_number arena.now)) (P.key p) }
+    ensures { IsTrue result ↔ IsValidStart (entry (seen_links P.Inx.packed_number arena.now))
+        (shown (seen_links P.Inx.packed_number arena.now)) (P.key p) }
 {
     match arena.get(p) {
         Some(link) => link.prev().is_none(),
@@ -42,9 +44,12 @@ fn standing_at<P: PtrKey, T: Drop, S: SlotStack<Item = ArenaSlot<P, LinkNoGen<P,
     arena: &Arena<P, LinkNoGen<P, T>, S>,
     i: Option<P::Inx>,
 ) -> Option<P::Inx>
-    ensures stands { IfSome (option_map P.Inx.number result) (HasLink (shown (seen_links P.Inx.packed_number arena.now))) }
+    ensures stands { IfSome (option_map P.Inx.number result)
+        (HasLink (shown (seen_links P.Inx.packed_number arena.now))) }
     ensures some { OnSome result (option_map P.Inx.number result ≡ option_map P.Inx.number i) }
-    ensures none { IfNone result (IfSome (option_map P.Inx.number i) (λ n. shown (seen_links P.Inx.packed_number arena.now) n ≡ None)) }
+    ensures none { IfNone result
+        (IfSome (option_map P.Inx.number i) (λ n. shown (seen_links P.Inx.packed_number arena.now) n
+        ≡ None)) }
 {
     match i {
         Some(k) => match arena.get_inx(k) {
@@ -61,7 +66,9 @@ fn set_next<P: PtrKey, T: Drop, S: SlotStack<Item = ArenaSlot<P, LinkNoGen<P, T>
     i: Option<P::Inx>,
     next: Option<P::Inx>,
 )
-    ensures { seen_links P.Inx.packed_number arena.new ≡ next_written (seen_links P.Inx.packed_number arena.old) (option_map P.Inx.number i) (option_map P.Inx.number next) }
+    ensures { seen_links P.Inx.packed_number arena.new ≡ next_written
+        (seen_links P.Inx.packed_number arena.old) (option_map P.Inx.number i)
+        (option_map P.Inx.number next) }
 {
     let i = standing_at(arena, i);
     link_writes::set_next(arena, i, next);
@@ -74,7 +81,8 @@ fn take_back<P: PtrKey, T: Drop, S: SlotStack<Item = ArenaSlot<P, LinkNoGen<P, T
     arena: &mut Arena<P, LinkNoGen<P, T>, S>,
     i: P::Inx,
 )
-    ensures { seen_links P.Inx.packed_number arena.new ≡ next_written (seen_links P.Inx.packed_number arena.old) (Some (P.Inx.number i)) None }
+    ensures { seen_links P.Inx.packed_number arena.new ≡ next_written
+        (seen_links P.Inx.packed_number arena.old) (Some (P.Inx.number i)) None }
 {
     set_next(arena, Some(i), None);
 }
@@ -86,9 +94,12 @@ pub fn join<P: PtrKey, T: Drop, S: SlotStack<Item = ArenaSlot<P, LinkNoGen<P, T>
     p: P,
     q: P,
 ) -> Option<()>
-    ensures some { IsSome result ↔ CanConnect (entry (seen_links P.Inx.packed_number arena.old)) (shown (seen_links P.Inx.packed_number arena.old)) (P.key p) (P.key q) }
-    ensures joined { OnSome result (seen_links P.Inx.packed_number arena.new ≡ linked_up (seen_links P.Inx.packed_number arena.old) (Some (P.key p).0) (Some (P.key q).0)) }
-    ensures none { IfNone result (seen_links P.Inx.packed_number arena.new ≡ seen_links P.Inx.packed_number arena.old) }
+    ensures some { IsSome result ↔ CanConnect (entry (seen_links P.Inx.packed_number arena.old))
+        (shown (seen_links P.Inx.packed_number arena.old)) (P.key p) (P.key q) }
+    ensures joined { OnSome result (seen_links P.Inx.packed_number arena.new ≡ linked_up
+        (seen_links P.Inx.packed_number arena.old) (Some (P.key p).0) (Some (P.key q).0)) }
+    ensures none { IfNone result (seen_links P.Inx.packed_number arena.new
+        ≡ seen_links P.Inx.packed_number arena.old) }
 {
     let (i, j) = (p.inx(), q.inx());
     if !is_end(arena, p) {

@@ -16,8 +16,10 @@ pub fn neighbors_at<P: PtrKey, T: Drop, S: SlotStack<Item = ArenaSlot<P, LinkNoG
     arena: &Arena<P, LinkNoGen<P, T>, S>,
     i: P::Inx,
 ) -> (Option<P::Inx>, Option<P::Inx>)
-    ensures prev { option_map P.Inx.number result.0 ≡ prev_of (shown (seen_links P.Inx.packed_number arena.now)) (P.Inx.number i) }
-    ensures next { option_map P.Inx.number result.1 ≡ next_of (shown (seen_links P.Inx.packed_number arena.now)) (P.Inx.number i) }
+    ensures prev { option_map P.Inx.number result.0 ≡ prev_of
+        (shown (seen_links P.Inx.packed_number arena.now)) (P.Inx.number i) }
+    ensures next { option_map P.Inx.number result.1 ≡ next_of
+        (shown (seen_links P.Inx.packed_number arena.now)) (P.Inx.number i) }
 {
     match arena.get_inx(i) {
         Some((_, link)) => link.prev_next(),
@@ -30,7 +32,8 @@ pub fn agrees_forth<P: PtrKey, T: Drop, S: SlotStack<Item = ArenaSlot<P, LinkNoG
     arena: &Arena<P, LinkNoGen<P, T>, S>,
     i: P::Inx,
 ) -> bool
-    ensures { IsTrue result ↔ AgreesForth (shown (seen_links P.Inx.packed_number arena.now)) (P.Inx.number i) }
+    ensures { IsTrue result ↔ AgreesForth (shown (seen_links P.Inx.packed_number arena.now))
+        (P.Inx.number i) }
 {
     match neighbors_at(arena, i).1 {
         Some(j) => is_index(neighbors_at(arena, j).0, i),
@@ -43,7 +46,8 @@ fn agrees_back<P: PtrKey, T: Drop, S: SlotStack<Item = ArenaSlot<P, LinkNoGen<P,
     arena: &Arena<P, LinkNoGen<P, T>, S>,
     i: P::Inx,
 ) -> bool
-    ensures { IsTrue result ↔ AgreesBack (shown (seen_links P.Inx.packed_number arena.now)) (P.Inx.number i) }
+    ensures { IsTrue result ↔ AgreesBack (shown (seen_links P.Inx.packed_number arena.now))
+        (P.Inx.number i) }
 {
     match neighbors_at(arena, i).0 {
         Some(j) => is_index(neighbors_at(arena, j).1, i),
@@ -56,7 +60,8 @@ pub fn agrees_at<P: PtrKey, T: Drop, S: SlotStack<Item = ArenaSlot<P, LinkNoGen<
     arena: &Arena<P, LinkNoGen<P, T>, S>,
     i: P::Inx,
 ) -> bool
-    ensures { IsTrue result ↔ AgreesAt (shown (seen_links P.Inx.packed_number arena.now)) (P.Inx.number i) }
+    ensures { IsTrue result ↔ AgreesAt (shown (seen_links P.Inx.packed_number arena.now))
+        (P.Inx.number i) }
 {
     agrees_forth(arena, i) && agrees_back(arena, i)
 }

@@ -24,8 +24,11 @@ fn find<P: PtrKey, T: Drop, S: SlotStack<Item = ArenaSlot<P, LinkNoGen<P, T>>>>(
     arena: &Arena<P, LinkNoGen<P, T>, S>,
     name: Name<P, P::Inx>,
 ) -> Option<&LinkNoGen<P, T>>
-    ensures some { IsSome result ↔ HasName (entry (seen_links P.Inx.packed_number arena.now)) (name_of P.key P.Inx.number name) }
-    ensures link { IfSome result (λ link. shown (seen_links P.Inx.packed_number arena.now) (name_of P.key P.Inx.number name).0 ≡ Some (interlinks_in (seen_link P.Inx.packed_number link.now))) }
+    ensures some { IsSome result ↔ HasName (entry (seen_links P.Inx.packed_number arena.now))
+        (name_of P.key P.Inx.number name) }
+    ensures link { IfSome result (λ link. shown (seen_links P.Inx.packed_number arena.now)
+        (name_of P.key P.Inx.number name).0 ≡ Some
+        (interlinks_in (seen_link P.Inx.packed_number link.now))) }
 {
     match name {
         Name::Pointer(p) => arena.get(p),
@@ -41,8 +44,10 @@ pub fn next_of<P: PtrKey, T: Drop, S: SlotStack<Item = ArenaSlot<P, LinkNoGen<P,
     arena: &Arena<P, LinkNoGen<P, T>, S>,
     name: Name<P, P::Inx>,
 ) -> Option<P::Inx>
-    ensures named { IsNextOf P.Inx.number (seen_links P.Inx.packed_number arena.now) (name_of P.key P.Inx.number name) result }
-    ensures some { IsSome result → HasName (entry (seen_links P.Inx.packed_number arena.now)) (name_of P.key P.Inx.number name) }
+    ensures named { IsNextOf P.Inx.number (seen_links P.Inx.packed_number arena.now)
+        (name_of P.key P.Inx.number name) result }
+    ensures some { IsSome result → HasName (entry (seen_links P.Inx.packed_number arena.now))
+        (name_of P.key P.Inx.number name) }
 {
     match find(arena, name) {
         Some(link) => link.next(),
@@ -55,8 +60,10 @@ pub fn prev_of<P: PtrKey, T: Drop, S: SlotStack<Item = ArenaSlot<P, LinkNoGen<P,
     arena: &Arena<P, LinkNoGen<P, T>, S>,
     name: Name<P, P::Inx>,
 ) -> Option<P::Inx>
-    ensures named { IsPrevOf P.Inx.number (seen_links P.Inx.packed_number arena.now) (name_of P.key P.Inx.number name) result }
-    ensures some { IsSome result → HasName (entry (seen_links P.Inx.packed_number arena.now)) (name_of P.key P.Inx.number name) }
+    ensures named { IsPrevOf P.Inx.number (seen_links P.Inx.packed_number arena.now)
+        (name_of P.key P.Inx.number name) result }
+    ensures some { IsSome result → HasName (entry (seen_links P.Inx.packed_number arena.now))
+        (name_of P.key P.Inx.number name) }
 {
     match find(arena, name) {
         Some(link) => link.prev(),
@@ -79,7 +86,8 @@ fn after_end<P: PtrKey, T: Drop, S: SlotStack<Item = ArenaSlot<P, LinkNoGen<P, T
     arena: &Arena<P, LinkNoGen<P, T>, S>,
     a: Name<P, P::Inx>,
 ) -> Option<Gap<P::Inx>>
-    ensures { IsGapIn P.Inx.number (seen_links P.Inx.packed_number arena.now) (chain_end (name_of P.key P.Inx.number a)) result }
+    ensures { IsGapIn P.Inx.number (seen_links P.Inx.packed_number arena.now)
+        (chain_end (name_of P.key P.Inx.number a)) result }
 {
     match find(arena, a) {
         Some(link) => {
@@ -98,7 +106,8 @@ fn before_start<P: PtrKey, T: Drop, S: SlotStack<Item = ArenaSlot<P, LinkNoGen<P
     arena: &Arena<P, LinkNoGen<P, T>, S>,
     b: Name<P, P::Inx>,
 ) -> Option<Gap<P::Inx>>
-    ensures { IsGapIn P.Inx.number (seen_links P.Inx.packed_number arena.now) (chain_start (name_of P.key P.Inx.number b)) result }
+    ensures { IsGapIn P.Inx.number (seen_links P.Inx.packed_number arena.now)
+        (chain_start (name_of P.key P.Inx.number b)) result }
 {
     match find(arena, b) {
         Some(link) => {
@@ -117,7 +126,8 @@ fn after<P: PtrKey, T: Drop, S: SlotStack<Item = ArenaSlot<P, LinkNoGen<P, T>>>>
     arena: &Arena<P, LinkNoGen<P, T>, S>,
     a: Name<P, P::Inx>,
 ) -> Option<Gap<P::Inx>>
-    ensures { IsGapIn P.Inx.number (seen_links P.Inx.packed_number arena.now) (next_to (name_of P.key P.Inx.number a)) result }
+    ensures { IsGapIn P.Inx.number (seen_links P.Inx.packed_number arena.now)
+        (next_to (name_of P.key P.Inx.number a)) result }
 {
     match find(arena, a) {
         Some(link) => Some(Gap::Between(Some(index_of(a)), link.next())),
@@ -130,7 +140,8 @@ fn before<P: PtrKey, T: Drop, S: SlotStack<Item = ArenaSlot<P, LinkNoGen<P, T>>>
     arena: &Arena<P, LinkNoGen<P, T>, S>,
     b: Name<P, P::Inx>,
 ) -> Option<Gap<P::Inx>>
-    ensures { IsGapIn P.Inx.number (seen_links P.Inx.packed_number arena.now) (prev_to (name_of P.key P.Inx.number b)) result }
+    ensures { IsGapIn P.Inx.number (seen_links P.Inx.packed_number arena.now)
+        (prev_to (name_of P.key P.Inx.number b)) result }
 {
     match find(arena, b) {
         Some(link) => Some(Gap::Between(link.prev(), Some(index_of(b)))),
@@ -144,7 +155,8 @@ fn between<P: PtrKey, T: Drop, S: SlotStack<Item = ArenaSlot<P, LinkNoGen<P, T>>
     a: Name<P, P::Inx>,
     b: Name<P, P::Inx>,
 ) -> Option<Gap<P::Inx>>
-    ensures { IsGapIn P.Inx.number (seen_links P.Inx.packed_number arena.now) (at_interlink (name_of P.key P.Inx.number a) (name_of P.key P.Inx.number b)) result }
+    ensures { IsGapIn P.Inx.number (seen_links P.Inx.packed_number arena.now)
+        (at_interlink (name_of P.key P.Inx.number a) (name_of P.key P.Inx.number b)) result }
 {
     match find(arena, a) {
         Some(link) => {
@@ -164,7 +176,8 @@ fn bridging<P: PtrKey, T: Drop, S: SlotStack<Item = ArenaSlot<P, LinkNoGen<P, T>
     a: Name<P, P::Inx>,
     b: Name<P, P::Inx>,
 ) -> Option<Gap<P::Inx>>
-    ensures { IsGapIn P.Inx.number (seen_links P.Inx.packed_number arena.now) (bridge (name_of P.key P.Inx.number a) (name_of P.key P.Inx.number b)) result }
+    ensures { IsGapIn P.Inx.number (seen_links P.Inx.packed_number arena.now)
+        (bridge (name_of P.key P.Inx.number a) (name_of P.key P.Inx.number b)) result }
 {
     if after_end(arena, a).is_some() && before_start(arena, b).is_some() {
         Some(Gap::Between(Some(index_of(a)), Some(index_of(b))))
@@ -179,7 +192,8 @@ pub fn gap_of<P: PtrKey, T: Drop, S: SlotStack<Item = ArenaSlot<P, LinkNoGen<P, 
     arena: &Arena<P, LinkNoGen<P, T>, S>,
     kind: NamedKind<Name<P, P::Inx>>,
 ) -> Option<Gap<P::Inx>>
-    ensures { IsGapIn P.Inx.number (seen_links P.Inx.packed_number arena.now) (named_in P.key P.Inx.number kind) result }
+    ensures { IsGapIn P.Inx.number (seen_links P.Inx.packed_number arena.now)
+        (named_in P.key P.Inx.number kind) result }
 {
     match kind {
         NamedKind::Disconnected => Some(Gap::Between(None, None)),

@@ -20,8 +20,10 @@ pub fn neighbor<P: PtrKey, T: Drop, S: SlotStack<Item = ArenaSlot<P, LinkNoGen<P
     arena: &Arena<P, LinkNoGen<P, T>, S>,
     i: Option<P::Inx>,
 ) -> Option<P>
-    requires { IfSome (option_map P.Inx.number i) (HasLink (shown (seen_links P.Inx.packed_number arena.now))) }
-    ensures { option_map P.key result ≡ option_and_then (ptr_at (entry (seen_links P.Inx.packed_number arena.now))) (option_map P.Inx.number i) }
+    requires { IfSome (option_map P.Inx.number i)
+        (HasLink (shown (seen_links P.Inx.packed_number arena.now))) }
+    ensures { option_map P.key result ≡ option_and_then
+        (ptr_at (entry (seen_links P.Inx.packed_number arena.now))) (option_map P.Inx.number i) }
 {
     match i {
         Some(i) => match arena.get_inx(i) {
@@ -38,8 +40,11 @@ pub fn set_next<P: PtrKey, T: Drop, S: SlotStack<Item = ArenaSlot<P, LinkNoGen<P
     i: Option<P::Inx>,
     next: Option<P::Inx>,
 )
-    requires { IfSome (option_map P.Inx.number i) (HasLink (shown (seen_links P.Inx.packed_number arena.old))) }
-    ensures { seen_links P.Inx.packed_number arena.new ≡ next_written (seen_links P.Inx.packed_number arena.old) (option_map P.Inx.number i) (option_map P.Inx.number next) }
+    requires { IfSome (option_map P.Inx.number i)
+        (HasLink (shown (seen_links P.Inx.packed_number arena.old))) }
+    ensures { seen_links P.Inx.packed_number arena.new ≡ next_written
+        (seen_links P.Inx.packed_number arena.old) (option_map P.Inx.number i)
+        (option_map P.Inx.number next) }
 {
     match i {
         Some(i) => match arena.get_inx_mut(i) {
@@ -56,8 +61,11 @@ pub fn set_prev<P: PtrKey, T: Drop, S: SlotStack<Item = ArenaSlot<P, LinkNoGen<P
     i: Option<P::Inx>,
     prev: Option<P::Inx>,
 )
-    requires { IfSome (option_map P.Inx.number i) (HasLink (shown (seen_links P.Inx.packed_number arena.old))) }
-    ensures { seen_links P.Inx.packed_number arena.new ≡ prev_written (seen_links P.Inx.packed_number arena.old) (option_map P.Inx.number i) (option_map P.Inx.number prev) }
+    requires { IfSome (option_map P.Inx.number i)
+        (HasLink (shown (seen_links P.Inx.packed_number arena.old))) }
+    ensures { seen_links P.Inx.packed_number arena.new ≡ prev_written
+        (seen_links P.Inx.packed_number arena.old) (option_map P.Inx.number i)
+        (option_map P.Inx.number prev) }
 {
     match i {
         Some(i) => match arena.get_inx_mut(i) {
@@ -74,9 +82,13 @@ pub fn link_up<P: PtrKey, T: Drop, S: SlotStack<Item = ArenaSlot<P, LinkNoGen<P,
     prev: Option<P::Inx>,
     next: Option<P::Inx>,
 )
-    requires prev { IfSome (option_map P.Inx.number prev) (HasLink (shown (seen_links P.Inx.packed_number arena.old))) }
-    requires next { IfSome (option_map P.Inx.number next) (HasLink (shown (seen_links P.Inx.packed_number arena.old))) }
-    ensures { seen_links P.Inx.packed_number arena.new ≡ linked_up (seen_links P.Inx.packed_number arena.old) (option_map P.Inx.number prev) (option_map P.Inx.number next) }
+    requires prev { IfSome (option_map P.Inx.number prev)
+        (HasLink (shown (seen_links P.Inx.packed_number arena.old))) }
+    requires next { IfSome (option_map P.Inx.number next)
+        (HasLink (shown (seen_links P.Inx.packed_number arena.old))) }
+    ensures { seen_links P.Inx.packed_number arena.new ≡ linked_up
+        (seen_links P.Inx.packed_number arena.old) (option_map P.Inx.number prev)
+        (option_map P.Inx.number next) }
 {
     set_next(arena, prev, next);
     set_prev(arena, next, prev);
@@ -88,11 +100,17 @@ pub fn link_twice<P: PtrKey, T: Drop, S: SlotStack<Item = ArenaSlot<P, LinkNoGen
     first: (Option<P::Inx>, Option<P::Inx>),
     second: (Option<P::Inx>, Option<P::Inx>),
 )
-    requires first_prev { IfSome (option_map P.Inx.number first.0) (HasLink (shown (seen_links P.Inx.packed_number arena.old))) }
-    requires first_next { IfSome (option_map P.Inx.number first.1) (HasLink (shown (seen_links P.Inx.packed_number arena.old))) }
-    requires second_prev { IfSome (option_map P.Inx.number second.0) (HasLink (shown (seen_links P.Inx.packed_number arena.old))) }
-    requires second_next { IfSome (option_map P.Inx.number second.1) (HasLink (shown (seen_links P.Inx.packed_number arena.old))) }
-    ensures { seen_links P.Inx.packed_number arena.new ≡ linked_twice (seen_links P.Inx.packed_number arena.old) (numbers P.Inx.number first) (numbers P.Inx.number second) }
+    requires first_prev { IfSome (option_map P.Inx.number first.0)
+        (HasLink (shown (seen_links P.Inx.packed_number arena.old))) }
+    requires first_next { IfSome (option_map P.Inx.number first.1)
+        (HasLink (shown (seen_links P.Inx.packed_number arena.old))) }
+    requires second_prev { IfSome (option_map P.Inx.number second.0)
+        (HasLink (shown (seen_links P.Inx.packed_number arena.old))) }
+    requires second_next { IfSome (option_map P.Inx.number second.1)
+        (HasLink (shown (seen_links P.Inx.packed_number arena.old))) }
+    ensures { seen_links P.Inx.packed_number arena.new ≡ linked_twice
+        (seen_links P.Inx.packed_number arena.old) (numbers P.Inx.number first)
+        (numbers P.Inx.number second) }
 {
     link_up(arena, first.0, first.1);
     link_up(arena, second.0, second.1);
@@ -104,10 +122,14 @@ pub fn tie<P: PtrKey, T: Drop, S: SlotStack<Item = ArenaSlot<P, LinkNoGen<P, T>>
     gap: Gap<P::Inx>,
     p: P,
 )
-    requires before { IfSome (before_in P.Inx.number gap (P.key p).0) (HasLink (shown (seen_links P.Inx.packed_number arena.old))) }
-    requires after { IfSome (after_in P.Inx.number gap (P.key p).0) (HasLink (shown (seen_links P.Inx.packed_number arena.old))) }
-    ensures { seen_links P.Inx.packed_number arena.new ≡ named_by (seen_links P.Inx.packed_number arena.old)
-        (before_in P.Inx.number gap (P.key p).0) (after_in P.Inx.number gap (P.key p).0) (P.key p).0 }
+    requires before { IfSome (before_in P.Inx.number gap (P.key p).0)
+        (HasLink (shown (seen_links P.Inx.packed_number arena.old))) }
+    requires after { IfSome (after_in P.Inx.number gap (P.key p).0)
+        (HasLink (shown (seen_links P.Inx.packed_number arena.old))) }
+    ensures { seen_links P.Inx.packed_number arena.new ≡ named_by
+        (seen_links P.Inx.packed_number arena.old)
+        (before_in P.Inx.number gap (P.key p).0) (after_in P.Inx.number gap (P.key p).0)
+        (P.key p).0 }
 {
     let i = p.inx();
     let (prev, next) = around(gap, i);
@@ -122,8 +144,11 @@ fn close_over<P: PtrKey, T: Drop, S: SlotStack<Item = ArenaSlot<P, LinkNoGen<P, 
     prev: Option<P::Inx>,
     next: Option<P::Inx>,
 )
-    requires { WereBeside (shown (seen_links P.Inx.packed_number arena.old)) (P.Inx.number i) (option_map P.Inx.number prev) (option_map P.Inx.number next) }
-    ensures { seen_links P.Inx.packed_number arena.new ≡ linked_up (seen_links P.Inx.packed_number arena.old) (option_map P.Inx.number prev) (option_map P.Inx.number next) }
+    requires { WereBeside (shown (seen_links P.Inx.packed_number arena.old)) (P.Inx.number i)
+        (option_map P.Inx.number prev) (option_map P.Inx.number next) }
+    ensures { seen_links P.Inx.packed_number arena.new ≡ linked_up
+        (seen_links P.Inx.packed_number arena.old) (option_map P.Inx.number prev)
+        (option_map P.Inx.number next) }
 {
     match prev {
         Some(before) => {
@@ -141,9 +166,12 @@ pub fn take_out<P: PtrKey, T: Drop, S: SlotStack<Item = ArenaSlot<P, LinkNoGen<P
     i: P::Inx,
 ) -> InvalidationResult<(P::Gen, LinkNoGen<P, T>)>
     requires { Agrees (shown (seen_links P.Inx.packed_number arena.old)) }
-    ensures answer { option_map (seen_pair P.Inx.packed_number) (value_within result) ≡ entry_at (seen_links P.Inx.packed_number arena.old) (P.Inx.number i) }
-    ensures overflow { result ≡ invalidation_result (P.Gen.wraps arena.old.counter) (value_within result) }
-    ensures valid { IsSome (value_within result) → seen_links P.Inx.packed_number arena.new ≡ remove_link P.Gen.following (seen_links P.Inx.packed_number arena.old) (P.Inx.number i) }
+    ensures answer { option_map (seen_pair P.Inx.packed_number) (value_within result) ≡ entry_at
+        (seen_links P.Inx.packed_number arena.old) (P.Inx.number i) }
+    ensures overflow { result ≡ invalidation_result (P.Gen.wraps arena.old.counter)
+        (value_within result) }
+    ensures valid { IsSome (value_within result) → seen_links P.Inx.packed_number arena.new
+        ≡ remove_link P.Gen.following (seen_links P.Inx.packed_number arena.old) (P.Inx.number i) }
     ensures invalid { value_within result ≡ None → arena.new ≡ arena.old }
 {
     let (entry, overflow) = arena.remove_inx(i).overflowing();

@@ -11,7 +11,8 @@ use chain_links::{LinkBody, LinkNoGen};
 
 /// The new link of a gap. Where it is its own neighbor it names none yet, since its index is not known.
 pub fn link_in<P: PtrKey, T>(gap: Gap<P::Inx>, t: T) -> LinkNoGen<P, T>
-    ensures { seen_link P.Inx.packed_number result ≡ new_link t (named_before P.Inx.number gap) (named_after P.Inx.number gap) }
+    ensures { seen_link P.Inx.packed_number result ≡ new_link t (named_before P.Inx.number gap)
+        (named_after P.Inx.number gap) }
 {
     match gap {
         Gap::Itself => LinkBody::new((None, None), t),

@@ -17,8 +17,11 @@ pub fn look<P: PtrKey, T: Drop, S: SlotStack<Item = ArenaSlot<P, LinkNoGen<P, T>
     arena: &Arena<P, LinkNoGen<P, T>, S>,
     i: P::Inx,
 ) -> Option<(P, &LinkNoGen<P, T>)>
-    ensures link { option_map (seen_item P.key P.Inx.packed_number) result ≡ option_map (index_and_entry (P.Inx.number i)) (entry_at (seen_links P.Inx.packed_number arena.now) (P.Inx.number i)) }
-    ensures valid { IfSome result (λ item. IsValid (entry (seen_links P.Inx.packed_number arena.now)) (P.key item.0)) }
+    ensures link { option_map (seen_item P.key P.Inx.packed_number) result ≡ option_map
+        (index_and_entry (P.Inx.number i)) (entry_at (seen_links P.Inx.packed_number arena.now)
+        (P.Inx.number i)) }
+    ensures valid { IfSome result
+        (λ item. IsValid (entry (seen_links P.Inx.packed_number arena.now)) (P.key item.0)) }
 {
     match arena.get_inx(i) {
         Some((generation, link)) => Some((P::_from_raw(i, generation), link)),
@@ -33,9 +36,13 @@ pub fn step<P: PtrKey, T: Drop, S: SlotStack<Item = ArenaSlot<P, LinkNoGen<P, T>
     forth: Option<P::Inx>,
     back: Option<P::Inx>,
 ) -> Option<(P, Option<P::Inx>, Option<P::Inx>)>
-    ensures valid { IfSome result (λ s. IsValid (entry (seen_links P.Inx.packed_number arena.now)) (P.key s.0)) }
-    ensures some { IfSome result (λ s. Passes P.Inx.number (seen_links P.Inx.packed_number arena.now) start forth back (P.key s.0).0 s.1 s.2) }
-    ensures none { IfNone result (PassesNothing P.Inx.number (seen_links P.Inx.packed_number arena.now) start forth back) }
+    ensures valid { IfSome result (λ s. IsValid (entry (seen_links P.Inx.packed_number arena.now))
+        (P.key s.0)) }
+    ensures some { IfSome result
+        (λ s. Passes P.Inx.number (seen_links P.Inx.packed_number arena.now) start forth back
+        (P.key s.0).0 s.1 s.2) }
+    ensures none { IfNone result
+        (PassesNothing P.Inx.number (seen_links P.Inx.packed_number arena.now) start forth back) }
 {
     match forth {
         Some(i) => match look(arena, i) {

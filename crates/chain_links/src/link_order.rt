@@ -58,7 +58,8 @@ impl<W: Copy, I: InxKey<Word = W>, T: PartialOrd> PartialOrd for LinkBody<Packed
     ghost use Rattle.chain_links.specs.LinkOrderLaws.{links_po};
     ghost use Rattle.std.specs.Cmp.{on_po};
 
-    ghost partial_cmp = { λ l m. links_partial_cmp T.partial_cmp (seen_link I.packed_number l) (seen_link I.packed_number m) };
+    ghost partial_cmp = { λ l m. links_partial_cmp T.partial_cmp (seen_link I.packed_number l)
+        (seen_link I.packed_number m) };
 
     ghost laws = { on_po (seen_link I.packed_number) (links_po T.PartialOrd.laws) };
 
@@ -74,13 +75,16 @@ impl<W: Copy, I: InxKey<Word = W>, T: Ord> Ord for LinkBody<PackedOption<I, W>, 
     ghost use Rattle.chain_links.specs.LinkOrderLaws.{links_total, links_cmp_partial, links_tie};
     ghost use Rattle.std.specs.Cmp.{on_total};
 
-    ghost cmp = { λ l m. links_cmp T.cmp (seen_link I.packed_number l) (seen_link I.packed_number m) };
+    ghost cmp = { λ l m. links_cmp T.cmp (seen_link I.packed_number l)
+        (seen_link I.packed_number m) };
 
     ghost total = { on_total (seen_link I.packed_number) (links_total T.total) };
 
-    ghost matches_partial_cmp = { λ l m. links_cmp_partial T.partial_cmp T.cmp T.matches_partial_cmp (seen_link I.packed_number l) (seen_link I.packed_number m) };
+    ghost matches_partial_cmp = { λ l m. links_cmp_partial T.partial_cmp T.cmp T.matches_partial_cmp
+        (seen_link I.packed_number l) (seen_link I.packed_number m) };
 
-    ghost matches_eq = { λ l m. links_tie T.eq T.cmp T.matches_eq (seen_link I.packed_number l) (seen_link I.packed_number m) };
+    ghost matches_eq = { λ l m. links_tie T.eq T.cmp T.matches_eq (seen_link I.packed_number l)
+        (seen_link I.packed_number m) };
 
     fn cmp(&self, other: &Self) -> Ordering {
         let neighbors = self.numbers().cmp(&other.numbers());
@@ -95,7 +99,8 @@ impl<W: Copy, I: InxKey<Word = W>, T: Hash> Hash for LinkBody<PackedOption<I, W>
 
     ghost hash_input = { λ l. link_writes T.hash_input (seen_link I.packed_number l) };
 
-    ghost respects_eq = { λ l m. links_alike T.eq T.hash_input T.respects_eq (seen_link I.packed_number l) (seen_link I.packed_number m) };
+    ghost respects_eq = { λ l m. links_alike T.eq T.hash_input T.respects_eq
+        (seen_link I.packed_number l) (seen_link I.packed_number m) };
 
     fn hash<H: Hasher>(&self, state: &mut H) {
         self.numbers().hash(state);

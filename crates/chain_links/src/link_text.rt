@@ -13,7 +13,8 @@ fn write_index<I: PtrInx, F: fmt::Write>(
     i: Option<I>,
     none: &str,
 ) -> fmt::Result
-    ensures { WritesOnOk F.write_str_gives f.old result (index_text none.now (option_map I.number i)) f.new }
+    ensures { WritesOnOk F.write_str_gives f.old result
+        (index_text none.now (option_map I.number i)) f.new }
 {
     match i {
         Some(i) => i.fmt_hex(f),
@@ -27,7 +28,8 @@ fn write_neighbors<I: PtrInx, F: fmt::Write>(
     prev: Option<I>,
     next: Option<I>,
 ) -> fmt::Result
-    ensures { WritesOnOk F.write_str_gives f.old result (neighbors_text (option_map I.number prev) (option_map I.number next)) f.new }
+    ensures { WritesOnOk F.write_str_gives f.old result (neighbors_text (option_map I.number prev)
+        (option_map I.number next)) f.new }
 {
     f.write_str("{")?;
     write_index(f, prev, "(start)")?;
@@ -66,7 +68,8 @@ fn write_display<T: fmt::Display, F: fmt::Write>(
 impl<W: Copy, I: PtrInx<Word = W>, T: fmt::Debug> fmt::Debug for LinkBody<PackedOption<I, W>, T> {
     ghost use Rattle.chain_links.specs.LinkText.{link_text};
 
-    ghost debug_output = { λ l. link_text (I.packed_number l.prev) (I.packed_number l.next) (T.debug_output l.t) };
+    ghost debug_output = { λ l. link_text (I.packed_number l.prev) (I.packed_number l.next)
+        (T.debug_output l.t) };
 
     fn fmt<F: fmt::Write>(&self, f: &mut fmt::Formatter<F>) -> fmt::Result {
         write_neighbors(f, self.prev(), self.next())?;
@@ -79,7 +82,8 @@ impl<W: Copy, I: PtrInx<Word = W>, T: fmt::Display> fmt::Display
     for LinkBody<PackedOption<I, W>, T> {
     ghost use Rattle.chain_links.specs.LinkText.{link_text};
 
-    ghost output = { λ l. link_text (I.packed_number l.prev) (I.packed_number l.next) (T.output l.t) };
+    ghost output = { λ l. link_text (I.packed_number l.prev) (I.packed_number l.next)
+        (T.output l.t) };
 
     fn fmt<F: fmt::Write>(&self, f: &mut fmt::Formatter<F>) -> fmt::Result {
         write_neighbors(f, self.prev(), self.next())?;
@@ -93,7 +97,8 @@ impl<P: Ptr, T: fmt::Debug> fmt::Debug for Link<P, T> {
     ghost use Rattle.chain_links.specs.Links.{index_in};
     ghost use Rattle.chain_links.specs.LinkText.{link_text};
 
-    ghost debug_output = { λ l. link_text (option_map (index_in P.key) l.prev) (option_map (index_in P.key) l.next) (T.debug_output l.t) };
+    ghost debug_output = { λ l. link_text (option_map (index_in P.key) l.prev)
+        (option_map (index_in P.key) l.next) (T.debug_output l.t) };
 
     fn fmt<F: fmt::Write>(&self, f: &mut fmt::Formatter<F>) -> fmt::Result {
         write_neighbors(f, index_of(self.prev()), index_of(self.next()))?;
@@ -107,7 +112,8 @@ impl<P: Ptr, T: fmt::Display> fmt::Display for Link<P, T> {
     ghost use Rattle.chain_links.specs.Links.{index_in};
     ghost use Rattle.chain_links.specs.LinkText.{link_text};
 
-    ghost output = { λ l. link_text (option_map (index_in P.key) l.prev) (option_map (index_in P.key) l.next) (T.output l.t) };
+    ghost output = { λ l. link_text (option_map (index_in P.key) l.prev)
+        (option_map (index_in P.key) l.next) (T.output l.t) };
 
     fn fmt<F: fmt::Write>(&self, f: &mut fmt::Formatter<F>) -> fmt::Result {
         write_neighbors(f, index_of(self.prev()), index_of(self.next()))?;

@@ -84,7 +84,13 @@ impl<W: Copy, I: InxKey<Word = W>, T> LinkBody<PackedOption<I, W>, T> {
 
     /// A link of its parts.
     pub fn new(prev_next: (Option<I>, Option<I>), t: T) -> Self
-        ensures { seen_link I.packed_number result ≡ record { prev = option_map I.number prev_next.0; next = option_map I.number prev_next.1; value = t } }
+        ensures { seen_link I.packed_number result
+            ≡ record {
+              prev = option_map I.number prev_next.0;
+              next = option_map I.number
+                  prev_next.1;
+              value = t;
+            } }
     {
         LinkBody {
             prev: I::pack(prev_next.0),
@@ -162,15 +168,23 @@ impl<P: Copy, T> Link<P, T> {
 impl<P: PtrKey, T> Link<P, T> {
     /// The same link without the generations of its neighbours.
     pub fn no_gen(self) -> LinkNoGen<P, T>
-        ensures { seen_link P.Inx.packed_number result ≡ record { prev = option_map (index_in P.key) self.prev; next = option_map (index_in P.key) self.next; value = self.t } }
+        ensures { seen_link P.Inx.packed_number result
+            ≡ record {
+              prev = option_map (index_in P.key) self.prev;
+              next = option_map
+                  (index_in P.key) self.next;
+              value = self.t;
+            } }
     {
         LinkBody::new((index_of(self.prev), index_of(self.next)), self.t)
     }
 
     /// The same link without the generations of its neighbours, with its value by reference.
     pub fn no_gen_ref(&self) -> LinkNoGen<P, &T>
-        ensures prev { (seen_link P.Inx.packed_number result).prev ≡ option_map (index_in P.key) self.now.prev }
-        ensures next { (seen_link P.Inx.packed_number result).next ≡ option_map (index_in P.key) self.now.next }
+        ensures prev { (seen_link P.Inx.packed_number result).prev ≡ option_map
+            (index_in P.key) self.now.prev }
+        ensures next { (seen_link P.Inx.packed_number result).next ≡ option_map
+            (index_in P.key) self.now.next }
         ensures value { result.t.now ≡ self.now.t }
     {
         LinkBody::new((index_of(self.prev), index_of(self.next)), &self.t)

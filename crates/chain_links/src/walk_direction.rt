@@ -18,8 +18,10 @@ pub fn going_on<I: InxKey>(start: I, next: Option<I>) -> Option<I>
 /// Where a walk goes on to from a link, and where it goes back to from the end of the chain: nowhere, where it has come round
 /// to its start. Each case has an arm of its own, so that a walk takes branches, which are predicted, and no conditional moves.
 pub fn going<I: InxKey>(start: I, next: Option<I>, back: Option<I>) -> (Option<I>, Option<I>)
-    ensures on { option_map I.number result.0 ≡ goes_on (I.number start) (option_map I.number next) }
-    ensures back { option_map I.number result.1 ≡ goes_back (I.number start) (option_map I.number next) (option_map I.number back) }
+    ensures on { option_map I.number result.0 ≡ goes_on (I.number start)
+        (option_map I.number next) }
+    ensures back { option_map I.number result.1 ≡ goes_back (I.number start)
+        (option_map I.number next) (option_map I.number back) }
 {
     match next {
         Some(k) => if k.is_same(start) {

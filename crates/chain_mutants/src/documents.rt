@@ -18,7 +18,8 @@ pub fn move_after<P: PtrKey, T: Drop, A: ChainArenaTrait<P, T> + Drop>(
     p: P,
     q: P,
 ) -> Option<()>
-    ensures { OnSome result (IsMovedAfter A.entry A.interlinks documents.old documents.new (P.key p) (P.key q)) }
+    ensures { OnSome result (IsMovedAfter A.entry A.interlinks documents.old documents.new (P.key p)
+        (P.key q)) }
 {
     documents.move_after(p, q)
 }

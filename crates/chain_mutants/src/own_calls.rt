@@ -21,7 +21,8 @@ pub fn remove_chain<P: PtrKey, T: Drop, S: SlotStack<Item = ArenaSlot<P, LinkNoG
 ) -> Option<()>
     ensures some { IsSome result ↔ IsValid (entry arena.old) (P.key p) }
     ensures none { IfNone result (arena.new ≡ arena.old) }
-    ensures removed { OnSome result (arena.new ≡ without_each P.Gen.following arena.old (walk_left arena.old (P.key p).0)) }
+    ensures removed { OnSome result (arena.new ≡ without_each P.Gen.following arena.old
+        (walk_left arena.old (P.key p).0)) }
 {
     match arena.drain_chain(p) {
         Some(links) => {
@@ -38,8 +39,10 @@ pub fn compress_canonical_counted<
     T: Drop,
     S: SlotStack<Item = ArenaSlot<P, LinkNoGen<P, T>>>,
 >(arena: &mut ChainArena<P, T, S>, reset: bool) -> (InvalidationOption<()>, Work)
-    ensures canonical { IsCanonicalLayout P.Gen.first P.Gen.following reset (seen arena.old) (shown arena.old) (seen arena.new) (shown arena.new) }
-    ensures overflow { result.0 ≡ invalidation_option (overflows_after_compression P.Gen.wraps reset (entry_count arena.old) arena.old.counter) tt }
+    ensures canonical { IsCanonicalLayout P.Gen.first P.Gen.following reset (seen arena.old)
+        (shown arena.old) (seen arena.new) (shown arena.new) }
+    ensures overflow { result.0 ≡ invalidation_option (overflows_after_compression P.Gen.wraps reset
+        (entry_count arena.old) arena.old.counter) tt }
     ensures placed { arena.new.placed ≡ arena.old.placed + result.1.placed }
     ensures touched { arena.new.touched ≡ arena.old.touched + result.1.touched }
 {
@@ -62,8 +65,12 @@ pub fn transfer_canonical_reallocating<
     map: F,
 ) -> Result<(), ReallocationError>
     requires { F.IsAlwaysCallable map }
-    ensures transferred { OnOk result (IsTransfer Q.key P.key Q.Gen.following Q.Gen.wraps F.FnMut new_generation map (A.seen source.old) (A.interlinks source.old) (A.seen source.new) target.old target.new) }
-    ensures within { count (A.seen source.old) ≤ target.old.capacity → IsOk result × (target.new.capacity ≡ target.old.capacity) × (target.new.stack_capacity ≡ target.old.stack_capacity) }
+    ensures transferred { OnOk result
+        (IsTransfer Q.key P.key Q.Gen.following Q.Gen.wraps F.FnMut new_generation map
+        (A.seen source.old) (A.interlinks source.old) (A.seen source.new) target.old target.new) }
+    ensures within { count (A.seen source.old) ≤ target.old.capacity
+        → IsOk result × (target.new.capacity ≡ target.old.capacity)
+        × (target.new.stack_capacity ≡ target.old.stack_capacity) }
     ensures err { OnErr result ((target.new ≡ target.old) × (source.new ≡ source.old)) }
 {
     target.transfer_canonical_reallocating(new_generation, source, map)

@@ -17,7 +17,8 @@ pub fn spawn<P: PtrKey, T: Drop, A: ChainArenaTrait<P, T> + Drop>(
 ) -> Result<P, ReallocationError>
     ensures last { IfOk result (λ p. queue.new.turn ≡ queue.old.turn ++ (P.key p, task) ∷ []) }
     ensures fresh { IfOk result (λ p. ¬ Has (indexes queue.old.turn) (P.key p).0) }
-    ensures room { length queue.old.turn < queue.old.room → IsOk result × (queue.new.room ≡ queue.old.room) }
+    ensures room { length queue.old.turn < queue.old.room
+        → IsOk result × (queue.new.room ≡ queue.old.room) }
     ensures grown { OnOk result (IsRoom P.Inx.greatest queue.new.maximum
         (length queue.old.turn + 1) queue.new.room) }
     ensures beyond { (result ≡ Err ReallocationError.BeyondMaxCapacity)

@@ -15,7 +15,8 @@ pub fn run_on<R: Read, W: Write, S: SlotStack<Item = ArenaSlot<ToolPtr, LinkNoGe
     reader: &mut R,
     writer: &mut W,
 ) -> Result<(), ToolError>
-    ensures { Ends result arena.old arena.new (R.remaining reader.old) (R.remaining reader.new) (W.contents writer.old) (W.contents writer.new) }
+    ensures { Ends result arena.old arena.new (R.remaining reader.old) (R.remaining reader.new)
+        (W.contents writer.old) (W.contents writer.new) }
 {
     chain_commands::run_on(alloc, arena, reader, writer)
 }

@@ -13,8 +13,11 @@ pub fn compress_canonical<P: PtrKey, T: Drop, A: ChainArenaTrait<P, T>>(
     arena: &mut A,
     reset: bool,
 ) -> InvalidationOption<()>
-    ensures canonical { IsCanonicalLayout P.Gen.first P.Gen.following reset (A.seen arena.old) (A.interlinks arena.old) (A.seen arena.new) (A.interlinks arena.new) }
-    ensures overflow { IfSome (A.seen arena.old).counter (λ g. result ≡ invalidation_option (overflows_after_compression P.Gen.wraps reset (length (A.seen arena.old).entries) g) tt) }
+    ensures canonical { IsCanonicalLayout P.Gen.first P.Gen.following reset (A.seen arena.old)
+        (A.interlinks arena.old) (A.seen arena.new) (A.interlinks arena.new) }
+    ensures overflow { IfSome (A.seen arena.old).counter
+        (λ g. result ≡ invalidation_option (overflows_after_compression P.Gen.wraps reset
+        (length (A.seen arena.old).entries) g) tt) }
     ensures agreed { Agrees (A.interlinks arena.old) }
 {
     arena.compress_canonical(reset)

@@ -58,7 +58,8 @@ pub trait ChainArenaTrait<P: PtrKey, T: Drop>: ArenaTrait<P, T> {
         ensures agree { Agrees (interlinks self.now) }
         ensures one { HasOneSetOfChains (interlinks self.now) }
         ensures within { HasLinksWithin (interlinks self.now) P.Inx.greatest }
-        ensures indexes { All (λ e. IsWithin P.Inx.greatest (index_of e)) (Self.seen self.now).entries }
+        ensures indexes { All (λ e. IsWithin P.Inx.greatest (index_of e))
+            (Self.seen self.now).entries }
         ensures fits { count (Self.seen self.now) ≤ (Self.seen self.now).capacity }
     {
         self.agrees();
@@ -67,7 +68,8 @@ pub trait ChainArenaTrait<P: PtrKey, T: Drop>: ArenaTrait<P, T> {
 
     /// Whether a link of a kind may be inserted: what the kind asks of the links beside the new one holds.
     fn can_insert(&self, kind: LinkInsertKind<P>) -> bool
-        ensures { IsTrue result ↔ MayInsert (Self.entry self.now) (interlinks self.now) (names_in P.key P.Inx.number kind) };
+        ensures { IsTrue result ↔ MayInsert (Self.entry self.now) (interlinks self.now)
+            (names_in P.key P.Inx.number kind) };
 
     /// Adds a link of a kind within the capacity, and answers its pointer, which has the counter as its generation. It
     /// takes no memory.
@@ -79,14 +81,21 @@ pub trait ChainArenaTrait<P: PtrKey, T: Drop>: ArenaTrait<P, T> {
         kind: LinkInsertKind<P>,
         t: T,
     ) -> Result<P, ChainInsertionError>
-        ensures may { OnOk result (MayInsert (Self.entry self.old) (interlinks self.old) (names_in P.key P.Inx.number kind)) }
-        ensures inserted { IfOk result (λ p. GainsLink Self.seen Self.entry interlinks (names_in P.key P.Inx.number kind) t self.old (P.key p) self.new) }
+        ensures may { OnOk result (MayInsert (Self.entry self.old) (interlinks self.old)
+            (names_in P.key P.Inx.number kind)) }
+        ensures inserted { IfOk result (λ p. GainsLink Self.seen Self.entry interlinks
+            (names_in P.key P.Inx.number kind) t self.old (P.key p) self.new) }
         ensures agreed { Agrees (interlinks self.old) }
         ensures capacity { (Self.seen self.new).capacity ≡ (Self.seen self.old).capacity }
         ensures err { OnErr result (self.new ≡ self.old) }
-        ensures link { (result ≡ Err ChainInsertionError.FailedLinkRequirement) ↔ ¬ MayInsert (Self.entry self.old) (interlinks self.old) (names_in P.key P.Inx.number kind) }
-        ensures full { (result ≡ Err ChainInsertionError.NotWithinCapacity) ↔ (MayInsert (Self.entry self.old) (interlinks self.old) (names_in P.key P.Inx.number kind) × IsFull (Self.seen self.old)) }
-        ensures error { IfErr result (λ e. (e ≡ ChainInsertionError.FailedLinkRequirement) ⊎ (e ≡ ChainInsertionError.NotWithinCapacity)) };
+        ensures link { (result ≡ Err ChainInsertionError.FailedLinkRequirement)
+            ↔ ¬ MayInsert (Self.entry self.old) (interlinks self.old)
+            (names_in P.key P.Inx.number kind) }
+        ensures full { (result ≡ Err ChainInsertionError.NotWithinCapacity)
+            ↔ (MayInsert (Self.entry self.old) (interlinks self.old)
+            (names_in P.key P.Inx.number kind) × IsFull (Self.seen self.old)) }
+        ensures error { IfErr result (λ e. (e ≡ ChainInsertionError.FailedLinkRequirement)
+            ⊎ (e ≡ ChainInsertionError.NotWithinCapacity)) };
 
     /// Adds a link of a kind and answers its pointer, which has the counter as its generation. A full arena grows first.
     ///
@@ -98,15 +107,24 @@ pub trait ChainArenaTrait<P: PtrKey, T: Drop>: ArenaTrait<P, T> {
         kind: LinkInsertKind<P>,
         t: T,
     ) -> Result<P, ChainInsertionError>
-        ensures may { OnOk result (MayInsert (Self.entry self.old) (interlinks self.old) (names_in P.key P.Inx.number kind)) }
-        ensures inserted { IfOk result (λ p. GainsLink Self.seen Self.entry interlinks (names_in P.key P.Inx.number kind) t self.old (P.key p) self.new) }
+        ensures may { OnOk result (MayInsert (Self.entry self.old) (interlinks self.old)
+            (names_in P.key P.Inx.number kind)) }
+        ensures inserted { IfOk result (λ p. GainsLink Self.seen Self.entry interlinks
+            (names_in P.key P.Inx.number kind) t self.old (P.key p) self.new) }
         ensures agreed { Agrees (interlinks self.old) }
         ensures err { OnErr result (self.new ≡ self.old) }
-        ensures link { (result ≡ Err ChainInsertionError.FailedLinkRequirement) ↔ ¬ MayInsert (Self.entry self.old) (interlinks self.old) (names_in P.key P.Inx.number kind) }
+        ensures link { (result ≡ Err ChainInsertionError.FailedLinkRequirement)
+            ↔ ¬ MayInsert (Self.entry self.old) (interlinks self.old)
+            (names_in P.key P.Inx.number kind) }
         ensures error { IfErr result (λ e. e ≢ ChainInsertionError.NotWithinCapacity) }
-        ensures room { MayInsert (Self.entry self.old) (interlinks self.old) (names_in P.key P.Inx.number kind) → SucceedsInRoom (Self.seen self.old) result (Self.seen self.new) }
-        ensures grown { OnOk result (IsRoom P.Inx.greatest (Self.seen self.new).maximum (count (Self.seen self.old) + 1) (Self.seen self.new).capacity) }
-        ensures beyond { (result ≡ Err ChainInsertionError.BeyondMaxCapacity) ↔ (MayInsert (Self.entry self.old) (interlinks self.old) (names_in P.key P.Inx.number kind) × NeedsBeyondMaximum (Self.seen self.old)) }
+        ensures room { MayInsert (Self.entry self.old) (interlinks self.old)
+            (names_in P.key P.Inx.number kind) → SucceedsInRoom (Self.seen self.old) result
+            (Self.seen self.new) }
+        ensures grown { OnOk result (IsRoom P.Inx.greatest (Self.seen self.new).maximum
+            (count (Self.seen self.old) + 1) (Self.seen self.new).capacity) }
+        ensures beyond { (result ≡ Err ChainInsertionError.BeyondMaxCapacity)
+            ↔ (MayInsert (Self.entry self.old) (interlinks self.old)
+            (names_in P.key P.Inx.number kind) × NeedsBeyondMaximum (Self.seen self.old)) }
         ensures greatest { count (Self.seen self.old) ≡ P.Inx.greatest → IsErr result };
 
     /// Adds a link of a kind that may be inserted (`can_insert`), and answers its pointer, as `insert_reallocating` does.
@@ -114,39 +132,49 @@ pub trait ChainArenaTrait<P: PtrKey, T: Drop>: ArenaTrait<P, T> {
     /// `BeyondMaxCapacity`: the growth needed goes beyond the maximum, which is tested first. `AllocError`: it goes
     /// beyond the greatest index, or memory was refused. After either nothing has changed, and the value is dropped.
     fn insert(&mut self, kind: LinkInsertKind<P>, t: T) -> Result<P, ReallocationError>
-        requires { MayInsert (Self.entry self.old) (interlinks self.old) (names_in P.key P.Inx.number kind) }
-        ensures inserted { IfOk result (λ p. GainsLink Self.seen Self.entry interlinks (names_in P.key P.Inx.number kind) t self.old (P.key p) self.new) }
+        requires { MayInsert (Self.entry self.old) (interlinks self.old)
+            (names_in P.key P.Inx.number kind) }
+        ensures inserted { IfOk result (λ p. GainsLink Self.seen Self.entry interlinks
+            (names_in P.key P.Inx.number kind) t self.old (P.key p) self.new) }
         ensures agreed { Agrees (interlinks self.old) }
         ensures err { OnErr result (self.new ≡ self.old) }
         ensures room { SucceedsInRoom (Self.seen self.old) result (Self.seen self.new) }
-        ensures grown { OnOk result (IsRoom P.Inx.greatest (Self.seen self.new).maximum (count (Self.seen self.old) + 1) (Self.seen self.new).capacity) }
-        ensures beyond { (result ≡ Err ReallocationError.BeyondMaxCapacity) ↔ NeedsBeyondMaximum (Self.seen self.old) }
+        ensures grown { OnOk result (IsRoom P.Inx.greatest (Self.seen self.new).maximum
+            (count (Self.seen self.old) + 1) (Self.seen self.new).capacity) }
+        ensures beyond { (result ≡ Err ReallocationError.BeyondMaxCapacity)
+            ↔ NeedsBeyondMaximum (Self.seen self.old) }
         ensures greatest { count (Self.seen self.old) ≡ P.Inx.greatest → IsErr result };
 
     /// Whether q is the link after p: both pointers are valid, and the next link of p stands at q's index.
     fn are_neighbors(&self, p: P, q: P) -> bool
-        ensures { IsTrue result ↔ (IsValid (Self.entry self.now) (P.key p) × IsValid (Self.entry self.now) (P.key q) × AreNeighbors (interlinks self.now) (P.key p).0 (P.key q).0) };
+        ensures { IsTrue result
+            ↔ (IsValid (Self.entry self.now) (P.key p) × IsValid (Self.entry self.now) (P.key q)
+            × AreNeighbors (interlinks self.now) (P.key p).0 (P.key q).0) };
 
     /// Whether the link after the one at i stands at j.
     fn are_neighbors_inx(&self, i: P::Inx, j: P::Inx) -> bool
-        ensures { IsTrue result ↔ AreNeighbors (interlinks self.now) (P.Inx.number i) (P.Inx.number j) };
+        ensures { IsTrue result ↔ AreNeighbors (interlinks self.now) (P.Inx.number i)
+            (P.Inx.number j) };
 
     /// The link of a pointer, with the pointers to its neighbours as they are now. `None`: the pointer is not valid.
     fn get_link(&self, p: P) -> Option<Link<P, &T>>
         ensures some { IsSome result ↔ IsValid (Self.entry self.now) (P.key p) }
-        ensures link { IfSome result (λ link. IsLinkAt (Self.entry self.now) (interlinks self.now) (P.key p)
+        ensures link { IfSome result (λ link. IsLinkAt (Self.entry self.now) (interlinks self.now)
+            (P.key p)
             (option_map P.key link.prev) (option_map P.key link.next) link.t.now) }
         ensures agree { Agrees (interlinks self.now) };
 
     /// The link of a pointer. `None`: the pointer is not valid.
     fn get_link_no_gen(&self, p: P) -> Option<&LinkNoGen<P, T>>
         ensures some { IsSome result ↔ IsValid (Self.entry self.now) (P.key p) }
-        ensures link { IfSome result (λ link. link_at (Self.entry self.now) (interlinks self.now) (P.key p).0 ≡ Some ((P.key p).1, seen_link P.Inx.packed_number link.now)) }
+        ensures link { IfSome result (λ link. link_at (Self.entry self.now) (interlinks self.now)
+            (P.key p).0 ≡ Some ((P.key p).1, seen_link P.Inx.packed_number link.now)) }
         ensures agree { Agrees (interlinks self.now) };
 
     /// The generation and the link at an index. `None`: no link stands there.
     fn get_inx_link_no_gen(&self, i: P::Inx) -> Option<(P::Gen, &LinkNoGen<P, T>)>
-        ensures link { option_map (seen_lent P.Inx.packed_number) result ≡ link_at (Self.entry self.now) (interlinks self.now) (P.Inx.number i) }
+        ensures link { option_map (seen_lent P.Inx.packed_number) result ≡ link_at
+            (Self.entry self.now) (interlinks self.now) (P.Inx.number i) }
         ensures agree { Agrees (interlinks self.now) };
 
     /// Returns an advancer along the chain of `p`, in walk order: from `p` on to the end, and then from the link before
@@ -161,9 +189,12 @@ pub trait ChainArenaTrait<P: PtrKey, T: Drop>: ArenaTrait<P, T> {
     /// Makes q the link after p: two chains become one, or one chain becomes cyclic. `Some` exactly if both pointers
     /// are valid, p has no next link and q no previous one; otherwise nothing changes.
     fn connect(&mut self, p: P, q: P) -> Option<()>
-        ensures some { IsSome result ↔ CanConnect (Self.entry self.old) (interlinks self.old) (P.key p) (P.key q) }
-        ensures joined { OnSome result (interlinks self.new ≡ joined (interlinks self.old) (P.key p).0 (P.key q).0) }
-        ensures chains { OnSome result (Connects (interlinks self.old) (interlinks self.new) (P.key p).0 (P.key q).0) }
+        ensures some { IsSome result ↔ CanConnect (Self.entry self.old) (interlinks self.old)
+            (P.key p) (P.key q) }
+        ensures joined { OnSome result (interlinks self.new ≡ joined (interlinks self.old)
+            (P.key p).0 (P.key q).0) }
+        ensures chains { OnSome result (Connects (interlinks self.old) (interlinks self.new)
+            (P.key p).0 (P.key q).0) }
         ensures seen { OnSome result (Self.seen self.new ≡ Self.seen self.old) }
         ensures none { IfNone result (self.new ≡ self.old) }
         ensures agreed { Agrees (interlinks self.old) };
@@ -171,9 +202,13 @@ pub trait ChainArenaTrait<P: PtrKey, T: Drop>: ArenaTrait<P, T> {
     /// Cuts a link apart from the one before it: a linear chain becomes two, a cyclic one linear. `Some` exactly if the
     /// pointer is valid and its link has a previous one; otherwise nothing changes.
     fn break_prev(&mut self, p: P) -> Option<()>
-        ensures some { IsSome result ↔ (IsValid (Self.entry self.old) (P.key p) × IsSome (prev_of (interlinks self.old) (P.key p).0)) }
-        ensures cut { OnSome result (IfSome (prev_of (interlinks self.old) (P.key p).0) (λ a. interlinks self.new ≡ cut (interlinks self.old) a (P.key p).0)) }
-        ensures chains { OnSome result (IfSome (prev_of (interlinks self.old) (P.key p).0) (λ a. Cuts (interlinks self.old) (interlinks self.new) a (P.key p).0)) }
+        ensures some { IsSome result
+            ↔ (IsValid (Self.entry self.old) (P.key p)
+            × IsSome (prev_of (interlinks self.old) (P.key p).0)) }
+        ensures cut { OnSome result (IfSome (prev_of (interlinks self.old) (P.key p).0)
+            (λ a. interlinks self.new ≡ cut (interlinks self.old) a (P.key p).0)) }
+        ensures chains { OnSome result (IfSome (prev_of (interlinks self.old) (P.key p).0)
+            (λ a. Cuts (interlinks self.old) (interlinks self.new) a (P.key p).0)) }
         ensures seen { OnSome result (Self.seen self.new ≡ Self.seen self.old) }
         ensures none { IfNone result (self.new ≡ self.old) }
         ensures agreed { Agrees (interlinks self.old) };
@@ -181,9 +216,13 @@ pub trait ChainArenaTrait<P: PtrKey, T: Drop>: ArenaTrait<P, T> {
     /// Cuts a link apart from the one after it: a linear chain becomes two, a cyclic one linear. `Some` exactly if the
     /// pointer is valid and its link has a next one; otherwise nothing changes.
     fn break_next(&mut self, p: P) -> Option<()>
-        ensures some { IsSome result ↔ (IsValid (Self.entry self.old) (P.key p) × IsSome (next_of (interlinks self.old) (P.key p).0)) }
-        ensures cut { OnSome result (IfSome (next_of (interlinks self.old) (P.key p).0) (λ b. interlinks self.new ≡ cut (interlinks self.old) (P.key p).0 b)) }
-        ensures chains { OnSome result (IfSome (next_of (interlinks self.old) (P.key p).0) (λ b. Cuts (interlinks self.old) (interlinks self.new) (P.key p).0 b)) }
+        ensures some { IsSome result
+            ↔ (IsValid (Self.entry self.old) (P.key p)
+            × IsSome (next_of (interlinks self.old) (P.key p).0)) }
+        ensures cut { OnSome result (IfSome (next_of (interlinks self.old) (P.key p).0)
+            (λ b. interlinks self.new ≡ cut (interlinks self.old) (P.key p).0 b)) }
+        ensures chains { OnSome result (IfSome (next_of (interlinks self.old) (P.key p).0)
+            (λ b. Cuts (interlinks self.old) (interlinks self.new) (P.key p).0 b)) }
         ensures seen { OnSome result (Self.seen self.new ≡ Self.seen self.old) }
         ensures none { IfNone result (self.new ≡ self.old) }
         ensures agreed { Agrees (interlinks self.old) };
@@ -192,9 +231,12 @@ pub trait ChainArenaTrait<P: PtrKey, T: Drop>: ArenaTrait<P, T> {
     /// exchange their ends; of p with itself nothing changes. `Some` exactly if both pointers are valid and their links
     /// have next ones; otherwise nothing changes.
     fn exchange_next(&mut self, p: P, q: P) -> Option<()>
-        ensures some { IsSome result ↔ CanExchange (Self.entry self.old) (interlinks self.old) (P.key p) (P.key q) }
-        ensures exchanged { OnSome result (interlinks self.new ≡ exchanged (interlinks self.old) (P.key p).0 (P.key q).0) }
-        ensures chains { OnSome result (Exchanges (interlinks self.old) (interlinks self.new) (P.key p).0 (P.key q).0) }
+        ensures some { IsSome result ↔ CanExchange (Self.entry self.old) (interlinks self.old)
+            (P.key p) (P.key q) }
+        ensures exchanged { OnSome result (interlinks self.new ≡ exchanged (interlinks self.old)
+            (P.key p).0 (P.key q).0) }
+        ensures chains { OnSome result (Exchanges (interlinks self.old) (interlinks self.new)
+            (P.key p).0 (P.key q).0) }
         ensures seen { OnSome result (Self.seen self.new ≡ Self.seen self.old) }
         ensures none { IfNone result (self.new ≡ self.old) }
         ensures agreed { Agrees (interlinks self.old) };
@@ -206,10 +248,15 @@ pub trait ChainArenaTrait<P: PtrKey, T: Drop>: ArenaTrait<P, T> {
     /// greatest, and is two now.
     fn remove_link_no_gen(&mut self, p: P) -> InvalidationResult<LinkNoGen<P, T>>
         ensures some { IsSome (value_within result) ↔ IsValid (Self.entry self.old) (P.key p) }
-        ensures valid { IsValid (Self.entry self.old) (P.key p) → YieldsLink Self.seen Self.entry interlinks P.Inx.packed_number P.Gen.following (P.key p) self.old (value_within result) self.new }
-        ensures chains { IsValid (Self.entry self.old) (P.key p) → Removes (interlinks self.old) (interlinks self.new) (P.key p).0 }
-        ensures overflow { IfSome (Self.seen self.old).counter (λ g. result ≡ invalidation_result (P.Gen.wraps g) (value_within result)) }
-        ensures invalid { ¬ IsValid (Self.entry self.old) (P.key p) → (value_within result ≡ None) × (self.new ≡ self.old) }
+        ensures valid { IsValid (Self.entry self.old) (P.key p)
+            → YieldsLink Self.seen Self.entry interlinks P.Inx.packed_number P.Gen.following
+            (P.key p) self.old (value_within result) self.new }
+        ensures chains { IsValid (Self.entry self.old) (P.key p)
+            → Removes (interlinks self.old) (interlinks self.new) (P.key p).0 }
+        ensures overflow { IfSome (Self.seen self.old).counter
+            (λ g. result ≡ invalidation_result (P.Gen.wraps g) (value_within result)) }
+        ensures invalid { ¬ IsValid (Self.entry self.old) (P.key p) → (value_within result ≡ None)
+            × (self.new ≡ self.old) }
         ensures agreed { Agrees (interlinks self.old) };
 
     /// Removes the link at an index, answers its generation and the link with the interlinks that it had, increments
@@ -218,10 +265,14 @@ pub trait ChainArenaTrait<P: PtrKey, T: Drop>: ArenaTrait<P, T> {
     /// `InvalidPtr`: no link stands there, and nothing has changed. `GenerationOverflow`: the counter was at its
     /// greatest, and is two now.
     fn remove_inx_link_no_gen(&mut self, i: P::Inx) -> InvalidationResult<(P::Gen, LinkNoGen<P, T>)>
-        ensures answer { option_map (on_value (seen_link P.Inx.packed_number)) (value_within result) ≡ link_at (Self.entry self.old) (interlinks self.old) (P.Inx.number i) }
-        ensures overflow { IfSome (Self.seen self.old).counter (λ g. result ≡ invalidation_result (P.Gen.wraps g) (value_within result)) }
-        ensures valid { IsSome (Self.entry self.old (P.Inx.number i)) → LosesLink Self.seen interlinks P.Gen.following (P.Inx.number i) self.old self.new }
-        ensures chains { IsSome (Self.entry self.old (P.Inx.number i)) → Removes (interlinks self.old) (interlinks self.new) (P.Inx.number i) }
+        ensures answer { option_map (on_value (seen_link P.Inx.packed_number)) (value_within result)
+            ≡ link_at (Self.entry self.old) (interlinks self.old) (P.Inx.number i) }
+        ensures overflow { IfSome (Self.seen self.old).counter
+            (λ g. result ≡ invalidation_result (P.Gen.wraps g) (value_within result)) }
+        ensures valid { IsSome (Self.entry self.old (P.Inx.number i))
+            → LosesLink Self.seen interlinks P.Gen.following (P.Inx.number i) self.old self.new }
+        ensures chains { IsSome (Self.entry self.old (P.Inx.number i))
+            → Removes (interlinks self.old) (interlinks self.new) (P.Inx.number i) }
         ensures invalid { Self.entry self.old (P.Inx.number i) ≡ None → self.new ≡ self.old }
         ensures agreed { Agrees (interlinks self.old) };
 
@@ -232,12 +283,17 @@ pub trait ChainArenaTrait<P: PtrKey, T: Drop>: ArenaTrait<P, T> {
     /// The counter begins anew with `reset`, and else is incremented where there are links. `GenerationOverflow`: it was at
     /// its greatest, and is two now.
     fn compress_canonical(&mut self, reset: bool) -> InvalidationOption<()>
-        ensures canonical { IsCanonicalLayout P.Gen.first P.Gen.following reset (Self.seen self.old) (interlinks self.old) (Self.seen self.new) (interlinks self.new) }
-        ensures overflow { IfSome (Self.seen self.old).counter (λ g. result ≡ invalidation_option (overflows_after_compression P.Gen.wraps reset (length (Self.seen self.old).entries) g) tt) }
+        ensures canonical { IsCanonicalLayout P.Gen.first P.Gen.following reset (Self.seen self.old)
+            (interlinks self.old) (Self.seen self.new) (interlinks self.new) }
+        ensures overflow { IfSome (Self.seen self.old).counter
+            (λ g. result ≡ invalidation_option (overflows_after_compression P.Gen.wraps reset
+            (length (Self.seen self.old).entries) g) tt) }
         ensures agreed { Agrees (interlinks self.old) };
 
     // A call of an advancer along a chain passes the link before it, in the arena of that call, or nothing any more.
-    ghost passes: { (a b : Self.ChainPtrAdvancer) (c : Self) (r : Option P) → Self.ChainPtrAdvancer.gives a c r b → IsPassing (Self.entry c) (interlinks c) (walker a) (option_map P.key r) (walker b) };
+    ghost passes: { (a b : Self.ChainPtrAdvancer) (c : Self) (r : Option P)
+        → Self.ChainPtrAdvancer.gives a c r b → IsPassing (Self.entry c) (interlinks c) (walker a)
+        (option_map P.key r) (walker b) };
 
     // A link stands where an entry stands.
     ghost stand: { (a : Self) (i : ℕ) → is_some (interlinks a i) ≡ is_some (Self.entry a i) };
@@ -245,11 +301,15 @@ pub trait ChainArenaTrait<P: PtrKey, T: Drop>: ArenaTrait<P, T> {
     // What the calls of `ArenaTrait` do to chains.
     ghost grown: { (n : ℕ) (a b : Self) → Self.grows n a b → interlinks b ≡ interlinks a };
 
-    ghost written: { (a b : Self) (i : ℕ) (t : T) → Self.writes a i t b → interlinks b ≡ interlinks a };
+    ghost written: { (a b : Self) (i : ℕ) (t : T) → Self.writes a i t b
+        → interlinks b ≡ interlinks a };
 
     ghost renewed: { (a b : Self) (i : ℕ) → Self.renews a i b → interlinks b ≡ interlinks a };
 
-    ghost passed_over: { (a b : Self) (i : ℕ) → Self.removes a i b → interlinks b ≡ removed (interlinks a) i };
+    ghost passed_over: { (a b : Self) (i : ℕ) → Self.removes a i b
+        → interlinks b ≡ removed (interlinks a) i };
 
-    ghost compressed: { (a b : Self) → Self.compresses a b → IsRenaming (place_in (map index_of (Self.seen a).entries)) (interlinks a) (interlinks b) };
+    ghost compressed: { (a b : Self) → Self.compresses a b
+        → IsRenaming (place_in (map index_of (Self.seen a).entries)) (interlinks a)
+        (interlinks b) };
 }

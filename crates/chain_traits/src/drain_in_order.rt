@@ -53,9 +53,11 @@ fn next_chain<Q: PtrKey, U: Drop, A: ChainArenaTrait<Q, U>>(
     advancer: &mut A::PtrAdvancer,
 ) -> (Q::Inx, bool)
     requires agree { Agrees (A.interlinks source.now) }
-    requires low { (from : ℕ) × (A.looks advancer.old ≡ Look.Up from) × RisesFrom from (A.seen source.now).entries }
+    requires low { (from : ℕ) × (A.looks advancer.old ≡ Look.Up from)
+        × RisesFrom from (A.seen source.now).entries }
     requires some { (A.seen source.now).entries ≢ [] }
-    ensures next { IsNextChain (A.seen source.now) (A.interlinks source.now) (Q.Inx.number result.0) result.1 (A.looks advancer.new) }
+    ensures next { IsNextChain (A.seen source.now) (A.interlinks source.now)
+        (Q.Inx.number result.0) result.1 (A.looks advancer.new) }
     ensures some { IsSome (A.entry source.now (Q.Inx.number result.0)) }
 {
     match advancer.advance(source) {
@@ -77,11 +79,14 @@ fn next_link<Q: PtrKey, U: Drop, A: ChainArenaTrait<Q, U>, I: Copy + Drop>(
     ends: Option<(I, I)>,
 ) -> (Q::Inx, bool, Option<(I, I)>)
     requires agree { Agrees (A.interlinks source.now) }
-    requires low { on ≡ None → (from : ℕ) × (A.looks advancer.old ≡ Look.Up from) × RisesFrom from (A.seen source.now).entries }
+    requires low { on ≡ None → (from : ℕ) × (A.looks advancer.old ≡ Look.Up from)
+        × RisesFrom from (A.seen source.now).entries }
     requires some { on ≡ None → (A.seen source.now).entries ≢ [] }
     requires stands { IfSome on (λ i. IsSome (A.entry source.now (Q.Inx.number i))) }
-    ensures goes_on { IfSome on (λ i. (result ≡ (i, ring, ends)) × (A.looks advancer.new ≡ A.looks advancer.old)) }
-    ensures begins { IfNone on (IsNextChain (A.seen source.now) (A.interlinks source.now) (Q.Inx.number result.0) result.1 (A.looks advancer.new) × (result.2 ≡ None)) }
+    ensures goes_on { IfSome on (λ i. (result ≡ (i, ring, ends))
+        × (A.looks advancer.new ≡ A.looks advancer.old)) }
+    ensures begins { IfNone on (IsNextChain (A.seen source.now) (A.interlinks source.now)
+        (Q.Inx.number result.0) result.1 (A.looks advancer.new) × (result.2 ≡ None)) }
     ensures some { IsSome (A.entry source.now (Q.Inx.number result.0)) }
 {
     match on {
@@ -110,15 +115,22 @@ pub fn take_next<Q: PtrKey, U: Drop, A: ChainArenaTrait<Q, U>, I: Copy + Drop>(
     Option<(I, I)>,
 )
     requires agree { Agrees (A.interlinks source.old) }
-    requires low { on ≡ None → (from : ℕ) × (A.looks advancer.old ≡ Look.Up from) × RisesFrom from (A.seen source.old).entries }
+    requires low { on ≡ None → (from : ℕ) × (A.looks advancer.old ≡ Look.Up from)
+        × RisesFrom from (A.seen source.old).entries }
     requires some { on ≡ None → (A.seen source.old).entries ≢ [] }
     requires stands { IfSome on (λ i. IsSome (A.entry source.old (Q.Inx.number i))) }
-    ensures goes_on { IfSome on (λ i. ((Q.key result.0).0 ≡ Q.Inx.number i) × (result.3 ≡ ring) × (result.4 ≡ ends) × (A.looks advancer.new ≡ A.looks advancer.old)) }
-    ensures begins { IfNone on (IsNextChain (A.seen source.old) (A.interlinks source.old) (Q.key result.0).0 result.3 (A.looks advancer.new) × (result.4 ≡ None)) }
-    ensures stood { A.entry source.old (Q.key result.0).0 ≡ Some ((Q.key result.0).1, value_in result.1) }
-    ensures overflow { IfSome (A.seen source.old).counter (λ g. is_overflow result.1 ≡ Q.Gen.wraps g) }
-    ensures next { option_map Q.Inx.number result.2 ≡ goes_on (Q.key result.0).0 (next_of (A.interlinks source.old) (Q.key result.0).0) }
-    ensures seen { A.seen source.new ≡ entry_removed Q.Gen.following (A.seen source.old) (Q.key result.0).0 }
+    ensures goes_on { IfSome on (λ i. ((Q.key result.0).0 ≡ Q.Inx.number i) × (result.3 ≡ ring)
+        × (result.4 ≡ ends) × (A.looks advancer.new ≡ A.looks advancer.old)) }
+    ensures begins { IfNone on (IsNextChain (A.seen source.old) (A.interlinks source.old)
+        (Q.key result.0).0 result.3 (A.looks advancer.new) × (result.4 ≡ None)) }
+    ensures stood { A.entry source.old (Q.key result.0).0 ≡ Some
+        ((Q.key result.0).1, value_in result.1) }
+    ensures overflow { IfSome (A.seen source.old).counter
+        (λ g. is_overflow result.1 ≡ Q.Gen.wraps g) }
+    ensures next { option_map Q.Inx.number result.2 ≡ goes_on (Q.key result.0).0
+        (next_of (A.interlinks source.old) (Q.key result.0).0) }
+    ensures seen { A.seen source.new ≡ entry_removed Q.Gen.following (A.seen source.old)
+        (Q.key result.0).0 }
     ensures links { A.interlinks source.new ≡ removed (A.interlinks source.old) (Q.key result.0).0 }
 {
     let (i, cyclic, laid) = next_link::<Q, U, A, I>(source, advancer, on, ring, ends);
@@ -133,11 +145,15 @@ fn take_link<Q: PtrKey, U: Drop, A: ChainArenaTrait<Q, U>>(
     i: Q::Inx,
 ) -> (Q, InvalidationOption<U>, Option<Q::Inx>)
     requires { IsSome (A.entry source.old (Q.Inx.number i)) }
-    ensures stood { A.entry source.old (Q.Inx.number i) ≡ Some ((Q.key result.0).1, value_in result.1) }
+    ensures stood { A.entry source.old (Q.Inx.number i) ≡ Some
+        ((Q.key result.0).1, value_in result.1) }
     ensures index { (Q.key result.0).0 ≡ Q.Inx.number i }
-    ensures overflow { IfSome (A.seen source.old).counter (λ g. is_overflow result.1 ≡ Q.Gen.wraps g) }
-    ensures next { option_map Q.Inx.number result.2 ≡ goes_on (Q.Inx.number i) (next_of (A.interlinks source.old) (Q.Inx.number i)) }
-    ensures seen { A.seen source.new ≡ entry_removed Q.Gen.following (A.seen source.old) (Q.Inx.number i) }
+    ensures overflow { IfSome (A.seen source.old).counter
+        (λ g. is_overflow result.1 ≡ Q.Gen.wraps g) }
+    ensures next { option_map Q.Inx.number result.2 ≡ goes_on (Q.Inx.number i)
+        (next_of (A.interlinks source.old) (Q.Inx.number i)) }
+    ensures seen { A.seen source.new ≡ entry_removed Q.Gen.following (A.seen source.old)
+        (Q.Inx.number i) }
     ensures links { A.interlinks source.new ≡ removed (A.interlinks source.old) (Q.Inx.number i) }
     ensures agreed { Agrees (A.interlinks source.old) }
 {

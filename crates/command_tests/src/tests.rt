@@ -95,20 +95,29 @@ fn definitions()
     ensures no_digit { number_of (codes "7x") ≡ None }
     ensures no_number { number_of [] ≡ None }
     ensures index { option_map (λ p. p.inx.number) (pointer_of (codes "12.3")) ≡ Some 12 }
-    ensures generation { option_map (λ p. p.generation.number) (pointer_of (codes "12.3")) ≡ Some 3 }
+    ensures generation { option_map (λ p. p.generation.number) (pointer_of (codes "12.3"))
+        ≡ Some 3 }
     ensures index_zero { pointer_of (codes "0.3") ≡ None }
     ensures generation_zero { pointer_of (codes "12.0") ≡ None }
     ensures two_dots { pointer_of (codes "1.2.3") ≡ None }
     ensures len { line_of (codes " len ") ≡ Good Len }
     ensures add { line_of (codes "add alone 7") ≡ Good (Change (Insert Disconnected 7)) }
-    ensures add_within { line_of (codes "addwithin ring 7") ≡ Good (Change (InsertWithin SingleLinkCyclic 7)) }
-    ensures by_pointer { (p : ToolPtr) → pointer_of (codes "1.2") ≡ Some p → line_of (codes "add end 1.2 7") ≡ Good (Change (Insert (ChainEnd p) 7)) }
-    ensures by_index { (i : Inx32) → index_word (codes "1") ≡ Some i → line_of (codes "addwithin after 1 7") ≡ Good (Change (InsertWithin (NextToInx i) 7)) }
-    ensures by_indexes { (i j : Inx32) → index_word (codes "3") ≡ Some i → index_word (codes "1") ≡ Some j → line_of (codes "add bridge 3 1 7") ≡ Good (Change (Insert (BridgeInx i j) 7)) }
-    ensures remove_pointer { (p : ToolPtr) → pointer_of (codes "1.2") ≡ Some p → line_of (codes "remove 1.2") ≡ Good (Change (Remove p)) }
-    ensures remove_index { (i : Inx32) → index_word (codes "1") ≡ Some i → line_of (codes "remove 1") ≡ Good (Change (RemoveInx i)) }
+    ensures add_within { line_of (codes "addwithin ring 7") ≡ Good
+        (Change (InsertWithin SingleLinkCyclic 7)) }
+    ensures by_pointer { (p : ToolPtr) → pointer_of (codes "1.2") ≡ Some p
+        → line_of (codes "add end 1.2 7") ≡ Good (Change (Insert (ChainEnd p) 7)) }
+    ensures by_index { (i : Inx32) → index_word (codes "1") ≡ Some i
+        → line_of (codes "addwithin after 1 7") ≡ Good (Change (InsertWithin (NextToInx i) 7)) }
+    ensures by_indexes { (i j : Inx32) → index_word (codes "3") ≡ Some i
+        → index_word (codes "1") ≡ Some j → line_of (codes "add bridge 3 1 7") ≡ Good
+        (Change (Insert (BridgeInx i j) 7)) }
+    ensures remove_pointer { (p : ToolPtr) → pointer_of (codes "1.2") ≡ Some p
+        → line_of (codes "remove 1.2") ≡ Good (Change (Remove p)) }
+    ensures remove_index { (i : Inx32) → index_word (codes "1") ≡ Some i
+        → line_of (codes "remove 1") ≡ Good (Change (RemoveInx i)) }
     ensures mixed_forms { line_of (codes "add between 1.2 1 5") ≡ Bad }
-    ensures drain { (p : ToolPtr) → pointer_of (codes "1.2") ≡ Some p → line_of (codes "drain 1.2 3") ≡ Good (Change (DrainChain p 3)) }
+    ensures drain { (p : ToolPtr) → pointer_of (codes "1.2") ≡ Some p
+        → line_of (codes "drain 1.2 3") ≡ Good (Change (DrainChain p 3)) }
     ensures drain_alone { line_of (codes "drain") ≡ Bad }
     ensures compress { line_of (codes "compress reset") ≡ Good (Change (Compress true)) }
     ensures canonical { line_of (codes "canonical reset") ≡ Good (Change (CompressCanonical true)) }
@@ -117,7 +126,8 @@ fn definitions()
     ensures incgen { line_of (codes "incgen") ≡ Good (Change IncGeneration) }
     ensures setgen_zero { line_of (codes "setgen 0") ≡ Bad }
     ensures blank { line_of (codes " ") ≡ Blank }
-    ensures unfinished { (lines : List (List ℕ)) → AreComplete (codes "add alone 2") (Some (codes "5")) lines → lines ≡ [] }
+    ensures unfinished { (lines : List (List ℕ))
+        → AreComplete (codes "add alone 2") (Some (codes "5")) lines → lines ≡ [] }
     ensures finished { AreComplete (codes "add alone 2") (Some []) (codes "add alone 2" ∷ []) }
 {}
 

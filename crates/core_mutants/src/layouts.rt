@@ -19,7 +19,8 @@ pub fn lay_out<
 >(arena: &mut Arena<P, LinkNoGen<P, T>, S>, visitor: V) -> (V, Work)
     requires ready { V.is_ready visitor }
     requires agree { Agrees (shown (seen_links P.Inx.packed_number arena.old)) }
-    ensures laid { AreLaidOut V.sees P.key visitor result.0 (seen_links P.Inx.packed_number arena.old) (seen_links P.Inx.packed_number arena.new) }
+    ensures laid { AreLaidOut V.sees P.key visitor result.0
+        (seen_links P.Inx.packed_number arena.old) (seen_links P.Inx.packed_number arena.new) }
 {
     let done = canonical::lay_out(arena, visitor);
     done

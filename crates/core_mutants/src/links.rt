@@ -23,7 +23,9 @@ pub fn link_up<P: PtrKey, T: Drop, S: SlotStack<Item = ArenaSlot<P, LinkNoGen<P,
         (HasLink (shown (seen_links P.Inx.packed_number arena.old))) }
     requires next { IfSome (option_map P.Inx.number next)
         (HasLink (shown (seen_links P.Inx.packed_number arena.old))) }
-    ensures { seen_links P.Inx.packed_number arena.new ≡ linked_up (seen_links P.Inx.packed_number arena.old) (option_map P.Inx.number prev) (option_map P.Inx.number next) }
+    ensures { seen_links P.Inx.packed_number arena.new ≡ linked_up
+        (seen_links P.Inx.packed_number arena.old) (option_map P.Inx.number prev)
+        (option_map P.Inx.number next) }
 {
     link_writes::link_up(arena, prev, next);
 }
@@ -34,9 +36,12 @@ pub fn join<P: PtrKey, T: Drop, S: SlotStack<Item = ArenaSlot<P, LinkNoGen<P, T>
     p: P,
     q: P,
 ) -> Option<()>
-    ensures some { IsSome result ↔ CanConnect (entry (seen_links P.Inx.packed_number arena.old)) (shown (seen_links P.Inx.packed_number arena.old)) (P.key p) (P.key q) }
-    ensures joined { OnSome result (seen_links P.Inx.packed_number arena.new ≡ linked_up (seen_links P.Inx.packed_number arena.old) (Some (P.key p).0) (Some (P.key q).0)) }
-    ensures none { IfNone result (seen_links P.Inx.packed_number arena.new ≡ seen_links P.Inx.packed_number arena.old) }
+    ensures some { IsSome result ↔ CanConnect (entry (seen_links P.Inx.packed_number arena.old))
+        (shown (seen_links P.Inx.packed_number arena.old)) (P.key p) (P.key q) }
+    ensures joined { OnSome result (seen_links P.Inx.packed_number arena.new ≡ linked_up
+        (seen_links P.Inx.packed_number arena.old) (Some (P.key p).0) (Some (P.key q).0)) }
+    ensures none { IfNone result (seen_links P.Inx.packed_number arena.new
+        ≡ seen_links P.Inx.packed_number arena.old) }
 {
     connection::join(arena, p, q)
 }
@@ -47,9 +52,12 @@ pub fn take_out<P: PtrKey, T: Drop, S: SlotStack<Item = ArenaSlot<P, LinkNoGen<P
     i: P::Inx,
 ) -> InvalidationResult<(P::Gen, LinkNoGen<P, T>)>
     requires { Agrees (shown (seen_links P.Inx.packed_number arena.old)) }
-    ensures answer { option_map (seen_pair P.Inx.packed_number) (value_within result) ≡ entry_at (seen_links P.Inx.packed_number arena.old) (P.Inx.number i) }
-    ensures overflow { result ≡ invalidation_result (P.Gen.wraps arena.old.counter) (value_within result) }
-    ensures valid { IsSome (value_within result) → seen_links P.Inx.packed_number arena.new ≡ remove_link P.Gen.following (seen_links P.Inx.packed_number arena.old) (P.Inx.number i) }
+    ensures answer { option_map (seen_pair P.Inx.packed_number) (value_within result) ≡ entry_at
+        (seen_links P.Inx.packed_number arena.old) (P.Inx.number i) }
+    ensures overflow { result ≡ invalidation_result (P.Gen.wraps arena.old.counter)
+        (value_within result) }
+    ensures valid { IsSome (value_within result) → seen_links P.Inx.packed_number arena.new
+        ≡ remove_link P.Gen.following (seen_links P.Inx.packed_number arena.old) (P.Inx.number i) }
     ensures invalid { value_within result ≡ None → arena.new ≡ arena.old }
 {
     link_writes::take_out(arena, i)

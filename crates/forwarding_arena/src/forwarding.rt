@@ -71,7 +71,8 @@ impl<A, V: Advancer<A>> Advancer<ForwardingArena<A>> for ForwardingWalk<V> {
 
     ghost is_spent = { λ a. V.is_spent a.inner };
 
-    ghost stays_spent = { λ a b arena answer spent given. V.stays_spent a.inner b.inner arena.inner answer spent given };
+    ghost stays_spent = { λ a b arena answer spent given. V.stays_spent a.inner b.inner arena.inner
+        answer spent given };
 
     fn advance(&mut self, collection: &ForwardingArena<A>) -> Option<V::Item> {
         self.inner.advance(&collection.inner)
@@ -111,7 +112,8 @@ impl<P: PtrKey, T: Drop, A: ArenaTrait<P, T>> ArenaTrait<P, T> for ForwardingAre
 
     ghost looked_up = { λ w. A.looked_up w.inner };
 
-    ghost advances = { λ a b w answer given. until_none_after (A.seen w.inner).entries (A.looks a.inner) P.key answer A.looks given.0 b.inner given.2
+    ghost advances = { λ a b w answer given. until_none_after (A.seen w.inner).entries
+        (A.looks a.inner) P.key answer A.looks given.0 b.inner given.2
         (A.advances a.inner given.0 w.inner answer given.1) };
 
     fn new(alloc: Global) -> Self {
@@ -251,7 +253,8 @@ impl<P: PtrKey, T: Drop, A: ChainArenaTrait<P, T>> ChainArenaTrait<P, T> for For
     ghost compressed = { λ v w compresses. A.compressed v.inner w.inner compresses };
 
     fn can_insert(&self, kind: LinkInsertKind<P>) -> bool
-        ensures { IsTrue result ↔ MayInsert (A.entry self.now.inner) (A.interlinks self.now.inner) (names_in P.key P.Inx.number kind) }
+        ensures { IsTrue result ↔ MayInsert (A.entry self.now.inner) (A.interlinks self.now.inner)
+            (names_in P.key P.Inx.number kind) }
     {
         self.inner.can_insert(kind)
     }
@@ -261,14 +264,21 @@ impl<P: PtrKey, T: Drop, A: ChainArenaTrait<P, T>> ChainArenaTrait<P, T> for For
         kind: LinkInsertKind<P>,
         t: T,
     ) -> Result<P, ChainInsertionError>
-        ensures may { OnOk result (MayInsert (A.entry self.old.inner) (A.interlinks self.old.inner) (names_in P.key P.Inx.number kind)) }
-        ensures inserted { IfOk result (λ p. GainsLink A.seen A.entry A.interlinks (names_in P.key P.Inx.number kind) t self.old.inner (P.key p) self.new.inner) }
+        ensures may { OnOk result (MayInsert (A.entry self.old.inner) (A.interlinks self.old.inner)
+            (names_in P.key P.Inx.number kind)) }
+        ensures inserted { IfOk result (λ p. GainsLink A.seen A.entry A.interlinks
+            (names_in P.key P.Inx.number kind) t self.old.inner (P.key p) self.new.inner) }
         ensures agreed { Agrees (A.interlinks self.old.inner) }
         ensures capacity { (A.seen self.new.inner).capacity ≡ (A.seen self.old.inner).capacity }
         ensures err { OnErr result (self.new ≡ self.old) }
-        ensures link { (result ≡ Err ChainInsertionError.FailedLinkRequirement) ↔ ¬ MayInsert (A.entry self.old.inner) (A.interlinks self.old.inner) (names_in P.key P.Inx.number kind) }
-        ensures full { (result ≡ Err ChainInsertionError.NotWithinCapacity) ↔ (MayInsert (A.entry self.old.inner) (A.interlinks self.old.inner) (names_in P.key P.Inx.number kind) × IsFull (A.seen self.old.inner)) }
-        ensures error { IfErr result (λ e. (e ≡ ChainInsertionError.FailedLinkRequirement) ⊎ (e ≡ ChainInsertionError.NotWithinCapacity)) }
+        ensures link { (result ≡ Err ChainInsertionError.FailedLinkRequirement)
+            ↔ ¬ MayInsert (A.entry self.old.inner) (A.interlinks self.old.inner)
+            (names_in P.key P.Inx.number kind) }
+        ensures full { (result ≡ Err ChainInsertionError.NotWithinCapacity)
+            ↔ (MayInsert (A.entry self.old.inner) (A.interlinks self.old.inner)
+            (names_in P.key P.Inx.number kind) × IsFull (A.seen self.old.inner)) }
+        ensures error { IfErr result (λ e. (e ≡ ChainInsertionError.FailedLinkRequirement)
+            ⊎ (e ≡ ChainInsertionError.NotWithinCapacity)) }
     {
         self.inner.insert_within_capacity(kind, t)
     }
@@ -278,28 +288,41 @@ impl<P: PtrKey, T: Drop, A: ChainArenaTrait<P, T>> ChainArenaTrait<P, T> for For
         kind: LinkInsertKind<P>,
         t: T,
     ) -> Result<P, ChainInsertionError>
-        ensures may { OnOk result (MayInsert (A.entry self.old.inner) (A.interlinks self.old.inner) (names_in P.key P.Inx.number kind)) }
-        ensures inserted { IfOk result (λ p. GainsLink A.seen A.entry A.interlinks (names_in P.key P.Inx.number kind) t self.old.inner (P.key p) self.new.inner) }
+        ensures may { OnOk result (MayInsert (A.entry self.old.inner) (A.interlinks self.old.inner)
+            (names_in P.key P.Inx.number kind)) }
+        ensures inserted { IfOk result (λ p. GainsLink A.seen A.entry A.interlinks
+            (names_in P.key P.Inx.number kind) t self.old.inner (P.key p) self.new.inner) }
         ensures agreed { Agrees (A.interlinks self.old.inner) }
         ensures err { OnErr result (self.new ≡ self.old) }
-        ensures link { (result ≡ Err ChainInsertionError.FailedLinkRequirement) ↔ ¬ MayInsert (A.entry self.old.inner) (A.interlinks self.old.inner) (names_in P.key P.Inx.number kind) }
+        ensures link { (result ≡ Err ChainInsertionError.FailedLinkRequirement)
+            ↔ ¬ MayInsert (A.entry self.old.inner) (A.interlinks self.old.inner)
+            (names_in P.key P.Inx.number kind) }
         ensures error { IfErr result (λ e. e ≢ ChainInsertionError.NotWithinCapacity) }
-        ensures room { MayInsert (A.entry self.old.inner) (A.interlinks self.old.inner) (names_in P.key P.Inx.number kind) → SucceedsInRoom (A.seen self.old.inner) result (A.seen self.new.inner) }
-        ensures grown { OnOk result (IsRoom P.Inx.greatest (A.seen self.new.inner).maximum (count (A.seen self.old.inner) + 1) (A.seen self.new.inner).capacity) }
-        ensures beyond { (result ≡ Err failed.BeyondMaxCapacity) ↔ (MayInsert (A.entry self.old.inner) (A.interlinks self.old.inner) (names_in P.key P.Inx.number kind) × NeedsBeyondMaximum (A.seen self.old.inner)) }
+        ensures room { MayInsert (A.entry self.old.inner) (A.interlinks self.old.inner)
+            (names_in P.key P.Inx.number kind) → SucceedsInRoom (A.seen self.old.inner) result
+            (A.seen self.new.inner) }
+        ensures grown { OnOk result (IsRoom P.Inx.greatest (A.seen self.new.inner).maximum
+            (count (A.seen self.old.inner) + 1) (A.seen self.new.inner).capacity) }
+        ensures beyond { (result ≡ Err failed.BeyondMaxCapacity)
+            ↔ (MayInsert (A.entry self.old.inner) (A.interlinks self.old.inner)
+            (names_in P.key P.Inx.number kind) × NeedsBeyondMaximum (A.seen self.old.inner)) }
         ensures greatest { count (A.seen self.old.inner) ≡ P.Inx.greatest → IsErr result }
     {
         self.inner.insert_reallocating(kind, t)
     }
 
     fn insert(&mut self, kind: LinkInsertKind<P>, t: T) -> Result<P, ReallocationError>
-        requires { MayInsert (A.entry self.old.inner) (A.interlinks self.old.inner) (names_in P.key P.Inx.number kind) }
-        ensures inserted { IfOk result (λ p. GainsLink A.seen A.entry A.interlinks (names_in P.key P.Inx.number kind) t self.old.inner (P.key p) self.new.inner) }
+        requires { MayInsert (A.entry self.old.inner) (A.interlinks self.old.inner)
+            (names_in P.key P.Inx.number kind) }
+        ensures inserted { IfOk result (λ p. GainsLink A.seen A.entry A.interlinks
+            (names_in P.key P.Inx.number kind) t self.old.inner (P.key p) self.new.inner) }
         ensures agreed { Agrees (A.interlinks self.old.inner) }
         ensures err { OnErr result (self.new ≡ self.old) }
         ensures room { SucceedsInRoom (A.seen self.old.inner) result (A.seen self.new.inner) }
-        ensures grown { OnOk result (IsRoom P.Inx.greatest (A.seen self.new.inner).maximum (count (A.seen self.old.inner) + 1) (A.seen self.new.inner).capacity) }
-        ensures beyond { (result ≡ Err ReallocationError.BeyondMaxCapacity) ↔ NeedsBeyondMaximum (A.seen self.old.inner) }
+        ensures grown { OnOk result (IsRoom P.Inx.greatest (A.seen self.new.inner).maximum
+            (count (A.seen self.old.inner) + 1) (A.seen self.new.inner).capacity) }
+        ensures beyond { (result ≡ Err ReallocationError.BeyondMaxCapacity)
+            ↔ NeedsBeyondMaximum (A.seen self.old.inner) }
         ensures greatest { count (A.seen self.old.inner) ≡ P.Inx.greatest → IsErr result }
     {
         self.inner.insert(kind, t)

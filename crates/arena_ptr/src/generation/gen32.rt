@@ -71,7 +71,8 @@ impl PtrGen for Gen32 {
     }
 
     fn fmt_gen<W: fmt::Write>(self, f: &mut fmt::Formatter<W>) -> fmt::Result
-        ensures { WritesOnOk W.write_str_gives f.old result (in_parentheses (number_of_gen32 self)) f.new }
+        ensures { WritesOnOk W.write_str_gives f.old result (in_parentheses (number_of_gen32 self))
+            f.new }
     {
         write!(f, "({:x})", self.number)
     }

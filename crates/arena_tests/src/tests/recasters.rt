@@ -40,8 +40,10 @@ struct Two<T> {
 
 impl<I, T: Recast<I>> Recast<I> for Two<T> {
     // Both are recast, or else the first is refused and the second stays.
-    ghost recast_by = { λ recasts old new answer. (T.recast_by recasts old.first new.first (Ok tt) × T.recast_by recasts old.second new.second answer)
-        ⊎ (IsErr answer × T.recast_by recasts old.first new.first answer × (new.second ≡ old.second)) };
+    ghost recast_by = { λ recasts old new answer. (T.recast_by recasts old.first new.first (Ok tt)
+        × T.recast_by recasts old.second new.second answer)
+        ⊎ (IsErr answer × T.recast_by recasts old.first new.first answer
+        × (new.second ≡ old.second)) };
 
     fn recast<R: Recaster<Item = I>>(&mut self, recaster: &R) -> Result<(), I> {
         self.first.recast(recaster)?;

@@ -26,9 +26,12 @@ pub(super) fn insert_by_entry<S: SlotStack<Item = Slot>>(
     t: u32,
 ) -> Result<ToolPtr, ChainInsertionError>
     ensures place { IfOk result (λ p. key_of p ≡ (next_index arena.old, arena.old.counter)) }
-    ensures state { OnOk result (arena.new ≡ with_capacity_of (insert_as arena.old (by_index (names_in key_of number_of_inx32 kind)) t) arena.new) }
+    ensures state { OnOk result
+        (arena.new ≡ with_capacity_of
+        (insert_as arena.old (by_index (names_in key_of number_of_inx32 kind)) t) arena.new) }
     ensures err { OnErr result (arena.new ≡ arena.old) }
-    ensures link { (result ≡ Err ChainInsertionError.FailedLinkRequirement) ↔ ¬ MayInsert (entry arena.old) (shown arena.old) (names_in key_of number_of_inx32 kind) }
+    ensures link { (result ≡ Err ChainInsertionError.FailedLinkRequirement)
+        ↔ ¬ MayInsert (entry arena.old) (shown arena.old) (names_in key_of number_of_inx32 kind) }
 {
     let entry = arena.entry_insert_reallocating(kind)?;
     let p = entry.ptr();

@@ -27,7 +27,8 @@ pub(super) fn write_at<S: SlotStack<Item = Slot>>(
     p: ToolPtr,
     t: u32,
 ) -> bool
-    ensures { IsValid (entry arena.old) (key_of p) → arena.new ≡ with_value_at arena.old (key_of p).0 t }
+    ensures { IsValid (entry arena.old) (key_of p)
+        → arena.new ≡ with_value_at arena.old (key_of p).0 t }
 {
     if !arena.contains(p) {
         return false;

@@ -16,7 +16,8 @@ pub(super) fn indexes<S: SlotStack<Item = Slot>>(
     alloc: Global,
     arena: &ChainsOver<S>,
 ) -> Result<Vec<Inx32>, AllocError>
-    ensures { IfOk result (λ all. map number_of_inx32 all.items ≡ map index_of (entries arena.now)) }
+    ensures { IfOk result (λ all. map number_of_inx32 all.items ≡ map index_of
+        (entries arena.now)) }
 {
     let mut all = Vec::new(alloc);
     for (p, _) in arena {

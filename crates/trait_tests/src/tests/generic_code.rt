@@ -27,11 +27,20 @@ pub(super) fn add_behind<P: PtrKey, T: Drop, A: ChainArenaTrait<P, T>>(
     p: P,
     t: T,
 ) -> Result<Option<P>, ChainInsertionError>
-    ensures some { IfOk result (λ r. IsSome r ↔ (IsValid (A.entry arena.old) (P.key p) × (next_of (A.interlinks arena.old) (P.key p).0 ≡ None))) }
-    ensures added { IfOk result (λ r. IfSome r (λ q. IsInserted (A.entry arena.old) (A.entry arena.new) (P.key q) t)) }
-    ensures tied { IfOk result (λ r. IfSome r (λ q. A.interlinks arena.new ≡ joined (with_lone (A.interlinks arena.old) (P.key q).0) (P.key p).0 (P.key q).0)) }
-    ensures chains { IfOk result (λ r. IfSome r (λ q. Extends (A.interlinks arena.old) (A.interlinks arena.new) (P.key p).0 (P.key q).0)) }
-    ensures none { IfOk result (λ r. IfNone r (((i : ℕ) → A.entry arena.new i ≡ A.entry arena.old i) × (A.interlinks arena.new ≡ A.interlinks arena.old))) }
+    ensures some { IfOk result (λ r. IsSome r
+        ↔ (IsValid (A.entry arena.old) (P.key p)
+        × (next_of (A.interlinks arena.old) (P.key p).0 ≡ None))) }
+    ensures added { IfOk result
+        (λ r. IfSome r (λ q. IsInserted (A.entry arena.old) (A.entry arena.new) (P.key q) t)) }
+    ensures tied { IfOk result
+        (λ r.
+        IfSome r (λ q. A.interlinks arena.new ≡ joined
+        (with_lone (A.interlinks arena.old) (P.key q).0) (P.key p).0 (P.key q).0)) }
+    ensures chains { IfOk result
+        (λ r. IfSome r (λ q. Extends (A.interlinks arena.old) (A.interlinks arena.new) (P.key p).0
+        (P.key q).0)) }
+    ensures none { IfOk result (λ r. IfNone r (((i : ℕ) → A.entry arena.new i ≡ A.entry arena.old i)
+        × (A.interlinks arena.new ≡ A.interlinks arena.old))) }
     ensures err { OnErr result (arena.new ≡ arena.old) }
 {
     if !arena.contains(p) {

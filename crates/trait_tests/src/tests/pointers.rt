@@ -32,11 +32,14 @@ impl<I: PtrInx, G: PtrGen> Ptr for Pair<I, G> {
           let first : I.eq p.inx q.inx ≡ true = Prim.search rules in
           let second : G.eq p.generation q.generation ≡ true = Prim.search rules in
           let inx : p.inx ≡ q.inx = (I.eq_is_same p.inx q.inx).0 first in
-          let generation : p.generation ≡ q.generation = (G.eq_is_same p.generation q.generation).0 second in
+          let generation : p.generation ≡ q.generation = (G.eq_is_same p.generation q.generation).0
+          second in
           λ i. record { inx = inx i; generation = generation i },
       λ e.
-          let first : I.eq p.inx q.inx ≡ true = (I.eq_is_same p.inx q.inx).1 (ap (λ (r : _). r.inx) e) in
-          let second : G.eq p.generation q.generation ≡ true = (G.eq_is_same p.generation q.generation).1 (ap (λ (r : _). r.generation) e) in
+          let first : I.eq p.inx q.inx ≡ true = (I.eq_is_same p.inx q.inx).1
+          (ap (λ (r : _). r.inx) e) in
+          let second : G.eq p.generation q.generation ≡ true =
+          (G.eq_is_same p.generation q.generation).1 (ap (λ (r : _). r.generation) e) in
           Prim.search rules,
     ) };
 
