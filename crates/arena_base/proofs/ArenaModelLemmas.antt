@@ -2,7 +2,7 @@
 use Rattle.std.proofs.Common.{◌≡◌, ℕ, ◌+◌, ◌-◌, ◌<◌, List, [], ◌∷◌, ◌++◌, map, Option, None, Some, refl, ap, sym, ◌∙◌, subst, arith}
 use Rattle.std.specs.Prelude.{slice_get, slice_set, count_by, is_some}
 use Rattle.std.proofs.lemmas.List.{map-set}
-use Rattle.arena_base.specs.Arena.{Arena, slot_at, with_slot, insert_next, remove_at, with_value, renewed_at, cleared, counter_after_clear, with_capacity_of, HasGrownTo}
+use Rattle.arena_base.specs.Arena.{Arena, slot_at, with_slot, insert_next, remove_at, with_value, renewed_at, cleared, counter_after_clear, with_capacity_of, ReachesCapacity}
 use Rattle.std.specs.Option.{option_map}
 use Rattle.arena_base.specs.Slots.{entry_of, entry_in, with_value_in, allocated_slot, free_slot, arena_of, freed_of, IsSound}
 use Rattle.arena_base.specs.declared.slot.ArenaSlot.{ArenaSlot}
@@ -122,5 +122,5 @@ module _ {Gen T : Type 0} (old mid new : Arena Gen T) (t : T) (grown : mid ≡ w
   pub inserted_grown : new ≡ with_capacity_of (insert_next old t) new
   inserted_grown = inserted ∙ (ap (λ (a : Arena Gen T). insert_next a t) grown ∙ ap (λ (a : Arena Gen T). with_capacity_of (insert_next old t) a) (sym inserted))
 
-  pub room_grown : (may_reach : ℕ → Option ℕ → ℕ → ℕ → Type 0) (greatest n : ℕ) → HasGrownTo may_reach greatest n old mid → HasGrownTo may_reach greatest n old new
-  room_grown may_reach greatest n has = subst (HasGrownTo may_reach greatest n old) (sym inserted) (record { room = has.room; reached = has.reached })
+  pub room_grown : (may_reach : ℕ → Option ℕ → ℕ → ℕ → Type 0) (greatest n : ℕ) → ReachesCapacity may_reach greatest n old mid → ReachesCapacity may_reach greatest n old new
+  room_grown may_reach greatest n has = subst (ReachesCapacity may_reach greatest n old) (sym inserted) (record { room = has.room; reached = has.reached })

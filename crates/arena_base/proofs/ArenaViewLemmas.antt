@@ -5,8 +5,8 @@ use Rattle.std.specs.Option.{option_map}
 use Rattle.std.proofs.lemmas.Bool.{eq-eqb, ne_eqb}
 use Rattle.std.proofs.lemmas.List.Sums.{sum_by-cons, sum_by-set}
 use Rattle.arena_ptr.specs.Invalidation.{value_within, invalidation_result}
-use Rattle.arena_base.specs.Arena.{Arena, Has, filled, entry_count, slot_at, with_slot, remove_at, renewed_at, with_value, cleared, counter_after_clear}
-use Rattle.arena_base.specs.Entries.{Seen, entries_from, entries, seen_of, without, replaced, entry_removed, renewed, written, emptied}
+use Rattle.arena_base.specs.Arena.{Arena, IsMember, filled, entry_count, slot_at, with_slot, remove_at, renewed_at, with_value, cleared, counter_after_clear}
+use Rattle.arena_base.specs.Entries.{ArenaView, entries_from, entries, view_of, without, replaced, entry_removed, renewed, written, emptied}
 use Rattle.arena_base.proofs.SlotLemmas.{length-with_slot}
 
 module _ {Gen T : Type 0} where
@@ -21,7 +21,7 @@ module _ {Gen T : Type 0} where
   count-push [] e = omega (arith, sum_by-cons (λ (o : Option (Gen × T)). cond (is_some o) 1 0) (Some e) [])
   count-push (s ∷ slots) e = omega (arith, sum_by-cons (λ (o : Option (Gen × T)). cond (is_some o) 1 0) s slots, sum_by-cons (λ (o : Option (Gen × T)). cond (is_some o) 1 0) s (slots ++ Some e ∷ []), count-push slots e)
 
-  pub count-filled : (freed : List ℕ) (slots : List (Option (Gen × T))) (e : Gen × T) → ((i : ℕ) → Has freed i → (slot_at slots i ≡ None) × (1 ≤ i) × (i ≤ length slots))
+  pub count-filled : (freed : List ℕ) (slots : List (Option (Gen × T))) (e : Gen × T) → ((i : ℕ) → IsMember freed i → (slot_at slots i ≡ None) × (1 ≤ i) × (i ≤ length slots))
       → count_by is_some (filled freed slots e) ≡ count_by is_some slots + 1
   count-filled [] slots e free = count-push slots e
   count-filled (zero ∷ freed) slots e free = absurd (omega (arith, (free zero (inl refl)).1))
@@ -91,27 +91,27 @@ module _ {Gen T : Type 0} where
   entries-replaced f slots (suc k) = entries_from-replaced f (suc k) 1 k slots (omega arith)
 
   -- what is seen of an arena, by its entries, its number of slots, its freed list, its counter and its placements
-  abbrev shape : Arena Gen T → List ((ℕ × Gen) × T) → ℕ → List ℕ → Gen → ℕ → Seen Gen T
-  shape a es count freed counter placed = record (seen_of a) {
+  abbrev shape : Arena Gen T → List ((ℕ × Gen) × T) → ℕ → List ℕ → Gen → ℕ → ArenaView Gen T
+  shape a es count freed counter placed = record (view_of a) {
     entries = es;
     counter = Some counter;
     slots = Some (record { count = count; freed = freed; placed = placed; touched = a.touched });
   }
 
-  pub seen_removed : (following : Gen → Gen) (a : Arena Gen T) (n : ℕ) → seen_of (remove_at following a n) ≡ entry_removed following (seen_of a) n
+  pub seen_removed : (following : Gen → Gen) (a : Arena Gen T) (n : ℕ) → view_of (remove_at following a n) ≡ entry_removed following (view_of a) n
   seen_removed following a n = λ i. shape a (entries-freed a.slots n i) (length-with_slot a.slots n None i) (n ∷ a.freed) (following a.counter) (a.placed + 1)
 
-  pub seen_written : (a : Arena Gen T) (n : ℕ) (t : T) → seen_of (with_value a n t) ≡ written (seen_of a) n t
+  pub seen_written : (a : Arena Gen T) (n : ℕ) (t : T) → view_of (with_value a n t) ≡ written (view_of a) n t
   seen_written a n t =
       let f : Gen × T → Gen × T = λ e. (e.0, t) in
       λ i. shape a (entries-replaced f a.slots n i) (length-with_slot a.slots n (option_map f (slot_at a.slots n)) i) a.freed a.counter a.placed
 
-  pub seen_renewed : (following : Gen → Gen) (a : Arena Gen T) (n : ℕ) → seen_of (renewed_at following a n) ≡ renewed (seen_of a) (n, following a.counter)
+  pub seen_renewed : (following : Gen → Gen) (a : Arena Gen T) (n : ℕ) → view_of (renewed_at following a n) ≡ renewed (view_of a) (n, following a.counter)
   seen_renewed following a n =
       let f : Gen × T → Gen × T = λ e. (following a.counter, e.1) in
       λ i. shape a (entries-replaced f a.slots n i) (length-with_slot a.slots n (option_map f (slot_at a.slots n)) i) a.freed (following a.counter) a.placed
 
-  pub seen_cleared : (following : Gen → Gen) (a : Arena Gen T) → seen_of (cleared following a) ≡ emptied following (seen_of a)
+  pub seen_cleared : (following : Gen → Gen) (a : Arena Gen T) → view_of (cleared following a) ≡ emptied following (view_of a)
   seen_cleared following a = ap (λ count. shape a [] 0 [] (counter_after_clear following count a.counter) a.placed) (sym (length-entries a))
 
 -- an answer holds what it was made of
@@ -123,7 +123,7 @@ value_within-made true (Some x) = refl
 module _ {Gen T : Type 0} where
   -- the pointer of an entry that got the next generation
   pub renewed_key : (following : Gen → Gen) (a b : Arena Gen T) (key : ℕ × Gen) (m made n : ℕ) (g : Gen)
-      → key ≡ (made, g) → made ≡ n → m ≡ n → g ≡ following a.counter → b ≡ renewed_at following a m → (key.0 ≡ n) × (seen_of b ≡ renewed (seen_of a) key)
+      → key ≡ (made, g) → made ≡ n → m ≡ n → g ≡ following a.counter → b ≡ renewed_at following a m → (key.0 ≡ n) × (view_of b ≡ renewed (view_of a) key)
   renewed_key following a b key m made n g is at index next after =
       let same : key ≡ (m, following a.counter) = is ∙ (ap (λ i. let k : ℕ × Gen = (i, g) in k) (at ∙ sym index) ∙ ap (λ (h : Gen). let k : ℕ × Gen = (m, h) in k) next) in
-      (ap (λ (k : ℕ × Gen). k.0) is ∙ at, ap seen_of after ∙ (seen_renewed following a m ∙ ap (renewed (seen_of a)) (sym same)))
+      (ap (λ (k : ℕ × Gen). k.0) is ∙ at, ap view_of after ∙ (seen_renewed following a m ∙ ap (renewed (view_of a)) (sym same)))

@@ -6,7 +6,7 @@ use Rattle.std.specs.Fn.{Mut}
 use Rattle.std.proofs.lemmas.List.Elements.{All-nil, All-cons}
 use denote.Ref.{MutBor}
 use Rattle.arena_base.specs.Arena.{Arena, with_counter}
-use Rattle.arena_base.specs.Entries.{entries_from, entries, index_of, seen_of}
+use Rattle.arena_base.specs.Entries.{entries_from, entries, index_of, view_of}
 use Rattle.arena_base.specs.DetachedSlots.{Held, before_cut, trimmed, free_from, held_of, lent_out, returned}
 use Rattle.arena_base.specs.Compressions.{IsCompressed, VisitsAll, counter_after_compression}
 use Rattle.arena_base.specs.GatheredSlots.{fronted, AreClosed, IsGathered, with_totals, gathered}
@@ -110,9 +110,9 @@ module _ {F P T Gen : Type 0} (g : Mut F (P × (MutBor T × (P × Unit {0}))) (U
 
     -- and the arena is compressed
     pub compressing : (first : Gen) (following : Gen → Gen) (reset : Bool) (count : ℕ) → counter ≡ counter_after_compression first following reset count old.counter → count ≡ length (entries old)
-        → IsCompressed first following reset (seen_of old) (seen_of new)
+        → IsCompressed first following reset (view_of old) (view_of new)
     compressing first following reset count is_counter is_count =
-        subst (λ (a : Arena Gen T). IsCompressed first following reset (seen_of old) (seen_of a)) (sym is_new) (record {
+        subst (λ (a : Arena Gen T). IsCompressed first following reset (view_of old) (view_of a)) (sym is_new) (record {
           indexes = indexes-fronted counter values 1 ∙ ap (range_with_len 1) counted;
           counter = ap (λ (h : Gen). Some h) (is_counter ∙ ap (λ n. counter_after_compression first following reset n old.counter) is_count);
           generation = counter;

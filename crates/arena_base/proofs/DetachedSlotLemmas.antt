@@ -5,7 +5,7 @@ use Rattle.std.specs.Option.{option_map}
 use Rattle.std.proofs.Math.Decide.{ℕ_discrete}
 use Rattle.std.proofs.lemmas.List.{length-map, length-set, map-set, set-set, get_or-set_same, get_or-set_other}
 use Rattle.arena_base.specs.Arena.{slot_at, with_slot}
-use Rattle.arena_base.specs.DetachedSlots.{Held, placed, held_with_value}
+use Rattle.arena_base.specs.DetachedSlots.{Held, with_placed_entry, held_with_value}
 use Rattle.arena_base.specs.Slots.{entry_of, entry_in, allocated_slot, free_slot, with_value_in, with_generation_in, with_generation_at, held_slots}
 use Rattle.arena_base.specs.declared.slot.ArenaSlot.{ArenaSlot}
 use Rattle.arena_base.specs.declared.slot.ArenaSlot.TheVariants.{Allocated, Free}
@@ -62,7 +62,7 @@ module _ {P T Inx Gen Word : Type 0} where
   -- what a placement makes of the slots, by positions
   held_moved : (slots items : List (ArenaSlot P T Inx Gen Word)) (capacity : ℕ) (maximum : Option ℕ) (i j from to : ℕ) (g : Gen) → i + 1 ≡ from → j + 1 ≡ to
       → map entry_of items ≡ slice_set (slice_set (map entry_of slots) i (slice_index_or (map entry_of slots) j None)) j (regenerated g (slice_index_or (map entry_of slots) i None))
-      → held_slots items capacity maximum ≡ placed (held_slots slots capacity maximum) from to g
+      → held_slots items capacity maximum ≡ with_placed_entry (held_slots slots capacity maximum) from to g
   held_moved slots items capacity maximum i j from to g at_from at_to moved =
       let es = map entry_of slots in
       let a : Option (Gen × T) = slice_index_or es i None in
@@ -76,7 +76,7 @@ module _ {P T Inx Gen Word : Type 0} where
 
   -- the entry at the first gets a generation, and two slots are exchanged
   pub held_placed : (slots : List (ArenaSlot P T Inx Gen Word)) (capacity : ℕ) (maximum : Option ℕ) (i j from to : ℕ) (g : Gen) → i + 1 ≡ from → j + 1 ≡ to → i < length slots → j < length slots
-      → held_slots (swap (with_generation_at slots i g) i j) capacity maximum ≡ placed (held_slots slots capacity maximum) from to g
+      → held_slots (swap (with_generation_at slots i g) i j) capacity maximum ≡ with_placed_entry (held_slots slots capacity maximum) from to g
   held_placed slots capacity maximum i j from to g at_from at_to first second = held_moved slots (swap (with_generation_at slots i g) i j) capacity maximum i j from to g at_from at_to (all ∙ by (ℕ_discrete j i))
     where
       inside : i < length (map entry_of slots)
@@ -102,7 +102,7 @@ module _ {P T Inx Gen Word : Type 0} where
   -- an entry is taken out, and put into a free slot or its own
   pub held_brought : (slots : List (ArenaSlot P T Inx Gen Word)) (capacity : ℕ) (maximum : Option ℕ) (i j from to : ℕ) (g h : Gen) (t : T) (next : Option Inx) → i + 1 ≡ from → j + 1 ≡ to
       → Some (h, t) ≡ slice_index_or (map entry_of slots) i None → (j ≢ i → slice_index_or (map entry_of slots) j None ≡ None)
-      → held_slots (slice_set (slice_set slots i (free_slot next)) j (allocated_slot g t)) capacity maximum ≡ placed (held_slots slots capacity maximum) from to g
+      → held_slots (slice_set (slice_set slots i (free_slot next)) j (allocated_slot g t)) capacity maximum ≡ with_placed_entry (held_slots slots capacity maximum) from to g
   held_brought slots capacity maximum i j from to g h t next at_from at_to stands free =
       held_moved slots (slice_set (slice_set slots i (free_slot next)) j (allocated_slot g t)) capacity maximum i j from to g at_from at_to (all ∙ (by (ℕ_discrete j i) ∙ ap (λ o. slice_set (slice_set (map entry_of slots) i (slice_index_or (map entry_of slots) j None)) j (regenerated g o)) stands))
     where

@@ -5,7 +5,7 @@ use Rattle.std.specs.Option.{option_map}
 use Rattle.std.proofs.lemmas.List.{append-nil, reverse-append}
 use Rattle.std.proofs.lemmas.Bool.{le-leb, lt-leb}
 use Rattle.arena_base.specs.Entries.{entries_from, key_at, first_key, last_key}
-use Rattle.arena_base.specs.Advancers.{from_index, up_to_index}
+use Rattle.arena_base.specs.Advancers.{entries_at_or_above, entries_at_or_below}
 
 -- the first, or else the second
 abbrev pub first_of : {K : Type 0} → Option K → Option K → Option K
@@ -43,34 +43,34 @@ module _ {Gen T : Type 0} where
   take-all (Some e ∷ slots) i (suc k) past = ap (λ es. ((i, e.0), e.1) ∷ es) (take-all slots (suc i) k (omega (arith, past)))
 
   -- all entries of slots stand from the first one's index on
-  from_index-all : (slots : List (Option (Gen × T))) (i j : ℕ) → i ≤ j → from_index i (entries_from j slots) ≡ entries_from j slots
-  from_index-all [] i j below = refl
-  from_index-all (None ∷ slots) i j below = from_index-all slots i (suc j) (omega (arith, below))
-  from_index-all (Some e ∷ slots) i j below =
-      ap (λ b. cond b (((j, e.0), e.1) ∷ entries_from (suc j) slots) (from_index i (entries_from (suc j) slots))) (le-leb i j below)
+  entries_at_or_above-all : (slots : List (Option (Gen × T))) (i j : ℕ) → i ≤ j → entries_at_or_above i (entries_from j slots) ≡ entries_from j slots
+  entries_at_or_above-all [] i j below = refl
+  entries_at_or_above-all (None ∷ slots) i j below = entries_at_or_above-all slots i (suc j) (omega (arith, below))
+  entries_at_or_above-all (Some e ∷ slots) i j below =
+      ap (λ b. cond b (((j, e.0), e.1) ∷ entries_from (suc j) slots) (entries_at_or_above i (entries_from (suc j) slots))) (le-leb i j below)
 
-  pub from_index-drop : (slots : List (Option (Gen × T))) (i j k : ℕ) → j + k ≡ i → from_index i (entries_from j slots) ≡ entries_from i (drop k slots)
-  from_index-drop slots i j zero at = let same : i ≡ j = omega (arith, at) in from_index-all slots i j (omega (arith, at)) ∙ ap (λ n. entries_from n slots) (sym same)
-  from_index-drop [] i j (suc k) at = refl
-  from_index-drop (None ∷ slots) i j (suc k) at = from_index-drop slots i (suc j) k (omega (arith, at))
-  from_index-drop (Some e ∷ slots) i j (suc k) at =
-      ap (λ b. cond b (((j, e.0), e.1) ∷ entries_from (suc j) slots) (from_index i (entries_from (suc j) slots))) (lt-leb i j (omega (arith, at)))
-      ∙ from_index-drop slots i (suc j) k (omega (arith, at))
+  pub entries_at_or_above-drop : (slots : List (Option (Gen × T))) (i j k : ℕ) → j + k ≡ i → entries_at_or_above i (entries_from j slots) ≡ entries_from i (drop k slots)
+  entries_at_or_above-drop slots i j zero at = let same : i ≡ j = omega (arith, at) in entries_at_or_above-all slots i j (omega (arith, at)) ∙ ap (λ n. entries_from n slots) (sym same)
+  entries_at_or_above-drop [] i j (suc k) at = refl
+  entries_at_or_above-drop (None ∷ slots) i j (suc k) at = entries_at_or_above-drop slots i (suc j) k (omega (arith, at))
+  entries_at_or_above-drop (Some e ∷ slots) i j (suc k) at =
+      ap (λ b. cond b (((j, e.0), e.1) ∷ entries_from (suc j) slots) (entries_at_or_above i (entries_from (suc j) slots))) (lt-leb i j (omega (arith, at)))
+      ∙ entries_at_or_above-drop slots i (suc j) k (omega (arith, at))
 
   -- no entry of slots stands before the first one's index
-  up_to_index-none : (slots : List (Option (Gen × T))) (i j : ℕ) → i < j → up_to_index i (entries_from j slots) ≡ []
-  up_to_index-none [] i j below = refl
-  up_to_index-none (None ∷ slots) i j below = up_to_index-none slots i (suc j) (omega (arith, below))
-  up_to_index-none (Some e ∷ slots) i j below =
-      ap (λ b. cond b (((j, e.0), e.1) ∷ up_to_index i (entries_from (suc j) slots)) []) (lt-leb j i below)
+  entries_at_or_below-none : (slots : List (Option (Gen × T))) (i j : ℕ) → i < j → entries_at_or_below i (entries_from j slots) ≡ []
+  entries_at_or_below-none [] i j below = refl
+  entries_at_or_below-none (None ∷ slots) i j below = entries_at_or_below-none slots i (suc j) (omega (arith, below))
+  entries_at_or_below-none (Some e ∷ slots) i j below =
+      ap (λ b. cond b (((j, e.0), e.1) ∷ entries_at_or_below i (entries_from (suc j) slots)) []) (lt-leb j i below)
 
-  pub up_to_index-take : (slots : List (Option (Gen × T))) (i j k : ℕ) → j + k ≡ suc i → up_to_index i (entries_from j slots) ≡ entries_from j (take k slots)
-  up_to_index-take slots i j zero at = up_to_index-none slots i j (omega (arith, at))
-  up_to_index-take [] i j (suc k) at = refl
-  up_to_index-take (None ∷ slots) i j (suc k) at = up_to_index-take slots i (suc j) k (omega (arith, at))
-  up_to_index-take (Some e ∷ slots) i j (suc k) at =
-      ap (λ b. cond b (((j, e.0), e.1) ∷ up_to_index i (entries_from (suc j) slots)) []) (le-leb j i (omega (arith, at)))
-      ∙ ap (λ es. ((j, e.0), e.1) ∷ es) (up_to_index-take slots i (suc j) k (omega (arith, at)))
+  pub entries_at_or_below-take : (slots : List (Option (Gen × T))) (i j k : ℕ) → j + k ≡ suc i → entries_at_or_below i (entries_from j slots) ≡ entries_from j (take k slots)
+  entries_at_or_below-take slots i j zero at = entries_at_or_below-none slots i j (omega (arith, at))
+  entries_at_or_below-take [] i j (suc k) at = refl
+  entries_at_or_below-take (None ∷ slots) i j (suc k) at = entries_at_or_below-take slots i (suc j) k (omega (arith, at))
+  entries_at_or_below-take (Some e ∷ slots) i j (suc k) at =
+      ap (λ b. cond b (((j, e.0), e.1) ∷ entries_at_or_below i (entries_from (suc j) slots)) []) (le-leb j i (omega (arith, at)))
+      ∙ ap (λ es. ((j, e.0), e.1) ∷ es) (entries_at_or_below-take slots i (suc j) k (omega (arith, at)))
 
   -- one step of a search down
   pub last_key-step : (slots : List (Option (Gen × T))) (k n : ℕ) (o : Option (ℕ × Gen)) → k + 1 ≡ n → k < length slots → o ≡ option_map (key_at (k + 1)) (slice_index_or slots k None)
@@ -81,17 +81,17 @@ module _ {Gen T : Type 0} where
       ∙ (last_key-take slots k (k + 1) below (omega arith) ∙ ap (λ p. first_of p (last_key (entries_from 1 (take k slots)))) (sym is))
 
   -- what lies ahead by rising index begins at a position
-  pub ahead_up : (slots : List (Option (Gen × T))) (from k : ℕ) → k ≡ from - 1 → entries_from (k + 1) (drop k slots) ≡ from_index from (entries_from 1 slots)
+  pub ahead_up : (slots : List (Option (Gen × T))) (from k : ℕ) → k ≡ from - 1 → entries_from (k + 1) (drop k slots) ≡ entries_at_or_above from (entries_from 1 slots)
   ahead_up slots zero k at =
       let start : k ≡ 0 = omega (arith, at) in
-      ap (λ j. entries_from (j + 1) (drop j slots)) start ∙ (ap (λ j. entries_from j slots) (one 1) ∙ sym (from_index-all slots 0 1 (omega arith)))
+      ap (λ j. entries_from (j + 1) (drop j slots)) start ∙ (ap (λ j. entries_from j slots) (one 1) ∙ sym (entries_at_or_above-all slots 0 1 (omega arith)))
     where
       one : (n : ℕ) → 0 + n ≡ n
       one n = omega arith
   ahead_up slots (suc n) k at =
       let next : k + 1 ≡ suc n = omega (arith, at) in
-      ap (λ j. entries_from j (drop k slots)) next ∙ sym (from_index-drop slots (suc n) 1 k (omega (arith, next)))
+      ap (λ j. entries_from j (drop k slots)) next ∙ sym (entries_at_or_above-drop slots (suc n) 1 k (omega (arith, next)))
 
   -- what lies ahead by falling index ends at a position
-  pub ahead_down : (slots : List (Option (Gen × T))) (to : ℕ) → entries_from 1 (take to slots) ≡ up_to_index to (entries_from 1 slots)
-  ahead_down slots to = sym (up_to_index-take slots to 1 to (omega arith))
+  pub ahead_down : (slots : List (Option (Gen × T))) (to : ℕ) → entries_from 1 (take to slots) ≡ entries_at_or_below to (entries_from 1 slots)
+  ahead_down slots to = sym (entries_at_or_below-take slots to 1 to (omega arith))

@@ -4,10 +4,10 @@ use Rattle.std.specs.Prelude.{slice_get, min}
 use Rattle.std.specs.List.{FoldsTo}
 use Rattle.std.proofs.lemmas.List.{append-nil, map-append, length-map, drop_all}
 use Rattle.std.proofs.lemmas.Fn.{FoldsTo-push}
-use Rattle.arena_base.specs.Arena.{Arena, IsRoom, with_capacity_of}
-use Rattle.arena_base.specs.Entries.{Seen, entries_from, entries, seen_of}
+use Rattle.arena_base.specs.Arena.{Arena, IsCapacityFor, with_capacity_of}
+use Rattle.arena_base.specs.Entries.{ArenaView, entries_from, entries, view_of}
 use Rattle.arena_base.specs.Slots.{entry_of, allocated_slot, free_slot, without_value, without_values, freed_of, arena_of, IsSound}
-use Rattle.arena_base.specs.Copies.{Copied, Makes, CopiesBy, HasRefusable, IsCopyBy, HasSlotsOf, IsGivenUp, IsLeftEmpty, generations}
+use Rattle.arena_base.specs.Copies.{Copied, Makes, CopiesBy, HasRefusable, IsCopyBy, HasSlotsOf, IsAbandonedCopy, IsAbandonedView, generations}
 use Rattle.arena_base.specs.declared.slot.ArenaSlot.{ArenaSlot}
 use Rattle.arena_base.proofs.FoldLemmas.{folds_seen}
 use Rattle.arena_base.proofs.SlotLemmas.{map-push}
@@ -164,7 +164,7 @@ module _ {P T U Inx Gen Word : Type 0} (number : Inx → ℕ) (a : List (ArenaSl
 -- an arena that has lost its slots on the way
 pub given_up : {P T Inx Gen Word : Type 0} (number : Inx → ℕ) (items slots : List (ArenaSlot P T Inx Gen Word)) (ns : List ℕ) (counter : Gen) (greatest room capacity : ℕ) (most maximum : Option ℕ) (placed touched : ℕ) (old mid : Arena Gen T)
     → items ≡ [] → room ≡ capacity → most ≡ maximum → arena_of slots ns counter greatest capacity maximum placed touched ≡ mid → mid ≡ with_capacity_of old mid
-    → IsGivenUp old (arena_of items (freed_of number items None) counter greatest room most placed touched)
+    → IsAbandonedCopy old (arena_of items (freed_of number items None) counter greatest room most placed touched)
 given_up {T = T} {Gen = Gen} number items slots ns counter greatest room capacity most maximum placed touched old mid empty same_room same_most is_mid after =
     let same = is_mid ∙ after in
     rw empty (λ i. record {
@@ -179,12 +179,12 @@ given_up {T = T} {Gen = Gen} number items slots ns counter greatest room capacit
     })
 
 -- room for so many, in other words
-pub same_room : {greatest n m capacity room : ℕ} {maximum most : Option ℕ} → n ≡ m → room ≡ capacity → most ≡ maximum → IsRoom greatest maximum n capacity → IsRoom greatest most m room
+pub same_room : {greatest n m capacity room : ℕ} {maximum most : Option ℕ} → n ≡ m → room ≡ capacity → most ≡ maximum → IsCapacityFor greatest maximum n capacity → IsCapacityFor greatest most m room
 same_room count same_capacity same_maximum r = rw (← count, same_capacity, same_maximum) r
 
 -- what generic code sees of it
 pub copy_seen : {F P T U Gen : Type 0} (makes : F → P → U → T → F → Type 0) (key : P → ℕ × Gen) (f last : F) (source : Arena Gen U) (old new : Arena Gen T)
-    → HasSlotsOf source old new → CopiesBy makes key f (entries source) (entries new) last → IsCopyBy makes key f source (seen_of old) (seen_of new) last
+    → HasSlotsOf source old new → CopiesBy makes key f (entries source) (entries new) last → IsCopyBy makes key f source (view_of old) (view_of new) last
 copy_seen {T = T} {Gen = Gen} makes key f last source old new has made =
     let counted : length new.slots ≡ length source.slots = sym (length-map new.slots _) ∙ (ap length has.generations ∙ length-map source.slots _) in
     record {
@@ -212,7 +212,7 @@ module _ {V F P U T : Type 0} (makes : V → P → U → T → V → Type 0) (ot
   }
 
   -- .. of an arena
-  pub copy_by : {Gen : Type 0} (key : P → ℕ × Gen) (f last : V) (source : Arena Gen U) (old new : Seen Gen T)
+  pub copy_by : {Gen : Type 0} (key : P → ℕ × Gen) (f last : V) (source : Arena Gen U) (old new : ArenaView Gen T)
       → IsCopyBy makes key f source old new last → IsCopyBy others key (see f) source old new (see last)
   copy_by key f last source old new copy = record {
     entries = made_by key f last (entries source) new.entries copy.entries;
@@ -256,8 +256,8 @@ surely never (inl a, n) = (a, n)
 surely never (inr b, n) = absurd (never b)
 
 -- what generic code sees of an arena that has lost its slots
-pub given_up_seen : {Gen T : Type 0} (old new : Arena Gen T) → IsGivenUp old new → IsLeftEmpty (seen_of old) (seen_of new)
-given_up_seen old new is = ap seen_of is
+pub given_up_seen : {Gen T : Type 0} (old new : Arena Gen T) → IsAbandonedCopy old new → IsAbandonedView (view_of old) (view_of new)
+given_up_seen old new is = ap view_of is
 
 -- what holds of an answer, where the answer is known
 pub on_ok_is : {X E A : Type 0} (r : Result X E) (x : X) → r ≡ Ok x → OnOk r A → A

@@ -3,7 +3,7 @@ use Rattle.std.proofs.Common.{◌≡◌, ℕ, zero, suc, ◌+◌, ◌<◌, ◌�
 use Rattle.std.specs.Prelude.{slice_get, slice_set}
 use Rattle.std.proofs.lemmas.List.{length-set}
 use Rattle.std.proofs.lemmas.Bool.{cases_eq}
-use Rattle.arena_base.specs.Arena.{Has, first_or_next, without_first}
+use Rattle.arena_base.specs.Arena.{IsMember, first_or_next, without_first}
 use Rattle.arena_base.specs.Slots.{item_at, with_value_in, next_free, allocated_slot, free_slot, freed_from, freed_of, IsFreeList, IsSound}
 use Rattle.arena_base.specs.declared.slot.ArenaSlot.{ArenaSlot}
 use Rattle.arena_base.specs.declared.slot.ArenaSlot.TheVariants.{Allocated, Free}
@@ -16,17 +16,17 @@ module _ {P T Inx Gen Word : Type 0} where
 
 module _ {P T Inx Gen Word : Type 0} (number : Inx → ℕ) where
   -- what stands in the freed list is free
-  pub listed_is_free : (slots : List (ArenaSlot P T Inx Gen Word)) (ns : List ℕ) (head : Option Inx) (n : ℕ) → IsFreeList number slots ns head → Has ns n → (next : Option Inx) × (item_at slots n ≡ Some (free_slot next))
+  pub listed_is_free : (slots : List (ArenaSlot P T Inx Gen Word)) (ns : List ℕ) (head : Option Inx) (n : ℕ) → IsFreeList number slots ns head → IsMember ns n → (next : Option Inx) × (item_at slots n ≡ Some (free_slot next))
   listed_is_free slots [] head n l has = absurd has
   listed_is_free slots (m ∷ ns) head n l (inl same) = (l.1, subst (λ k. item_at slots k ≡ Some (free_slot l.1)) same l.4)
   listed_is_free slots (m ∷ ns) head n l (inr has) = listed_is_free slots ns l.1 n l.5 has
 
-  pub taken_is_not_listed : (slots : List (ArenaSlot P T Inx Gen Word)) (ns : List ℕ) (head : Option Inx) (n : ℕ) (g : Gen) (t : T) → IsFreeList number slots ns head → item_at slots n ≡ Some (allocated_slot g t) → Has ns n → ⊥
+  pub taken_is_not_listed : (slots : List (ArenaSlot P T Inx Gen Word)) (ns : List ℕ) (head : Option Inx) (n : ℕ) (g : Gen) (t : T) → IsFreeList number slots ns head → item_at slots n ≡ Some (allocated_slot g t) → IsMember ns n → ⊥
   taken_is_not_listed slots ns head n g t l is has =
       let free = listed_is_free slots ns head n l has in
       let both : Some (allocated_slot g t) ≡ Some (free_slot free.0) = sym is ∙ free.1 in cc
 
-  pub IsFreeList-set : (slots : List (ArenaSlot P T Inx Gen Word)) (k : ℕ) (slot : ArenaSlot P T Inx Gen Word) (ns : List ℕ) (head : Option Inx) → (Has ns (suc k) → ⊥) → IsFreeList number slots ns head → IsFreeList number (slice_set slots k slot) ns head
+  pub IsFreeList-set : (slots : List (ArenaSlot P T Inx Gen Word)) (k : ℕ) (slot : ArenaSlot P T Inx Gen Word) (ns : List ℕ) (head : Option Inx) → (IsMember ns (suc k) → ⊥) → IsFreeList number slots ns head → IsFreeList number (slice_set slots k slot) ns head
   IsFreeList-set slots k slot [] head out l = l
   IsFreeList-set slots k slot (n ∷ ns) head out l =
       (l.0, l.1, l.2, l.3, item_at-set-other slots k n slot (λ e. out (inl (sym e))) ∙ l.4, IsFreeList-set slots k slot ns l.1 (λ h. out (inr h)) l.5)
@@ -63,7 +63,7 @@ module _ {P T Inx Gen Word : Type 0} (number : Inx → ℕ) where
             refl,
             refl,
             at_position (slice_set slots k (free_slot head)) k (number i) at ∙ slice_get-set-same slots k (free_slot head) (allocated_slot g t) is,
-            IsFreeList-set slots k (free_slot head) ns head (λ h. out (subst (λ n. Has ns n) index h)) s.linked,
+            IsFreeList-set slots k (free_slot head) ns head (λ h. out (subst (λ n. IsMember ns n) index h)) s.linked,
           );
           apart = (out, s.apart);
           covers = λ n next free. elim (cases_eq (number i) n) [
@@ -107,7 +107,7 @@ module _ {P T Inx Gen Word : Type 0} (number : Inx → ℕ) where
       let stood : item_at slots n ≡ Some (free_slot next) = sym (ap (item_at slots) named) ∙ (at_position slots k (number i) at ∙ is) in
       let both : Some (free_slot s.linked.1) ≡ Some (free_slot next) = sym s.linked.4 ∙ stood in
       let rest : s.linked.1 ≡ next = cc in
-      let out : Has ns (suc k) → ⊥ = λ h. s.apart.0 (subst (λ m. Has ns m) (index ∙ named) h) in (
+      let out : IsMember ns (suc k) → ⊥ = λ h. s.apart.0 (subst (λ m. IsMember ns m) (index ∙ named) h) in (
         record {
           linked = IsFreeList-set slots k slot ns next out (subst (λ o. IsFreeList number slots ns o) rest s.linked.5);
           apart = s.apart.1;
@@ -122,7 +122,7 @@ module _ {P T Inx Gen Word : Type 0} (number : Inx → ℕ) where
         ap (λ m. m ∷ ns) (sym named),
       )
     where
-      elsewhere : (m : ℕ) → (n ≡ m → ⊥) → (n ≡ m) ⊎ Has ns m → Has ns m
+      elsewhere : (m : ℕ) → (n ≡ m → ⊥) → (n ≡ m) ⊎ IsMember ns m → IsMember ns m
       elsewhere m away (inl here) = absurd (away here)
       elsewhere m away (inr has) = has
 

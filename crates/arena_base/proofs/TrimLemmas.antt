@@ -3,7 +3,7 @@ use Rattle.std.proofs.Common.{◌≡◌, ℕ, zero, suc, ◌+◌, ◌<◌, ◌�
 use Rattle.std.specs.Prelude.{true, false, IsSome, IfSome, count_by, is_some, is_none, slice_index_or, slice_get, slice_set}
 use Rattle.std.proofs.lemmas.List.{length-map, map-set}
 use Rattle.std.proofs.lemmas.List.Sums.{sum_by-cons}
-use Rattle.arena_base.specs.Arena.{Has, HasNoRepetition}
+use Rattle.arena_base.specs.Arena.{IsMember, AreDistinct}
 use Rattle.arena_base.specs.DetachedSlots.{before_cut, trimmed, free_from}
 use Rattle.arena_base.specs.Slots.{item_at, entry_of, entry_in, free_slot, IsFreeList, IsSound}
 use Rattle.arena_base.specs.declared.slot.ArenaSlot.{ArenaSlot}
@@ -35,18 +35,18 @@ module _ {X : Type 0} where
   drop-at (x ∷ xs) zero below = refl
   drop-at (x ∷ xs) (suc k) below = drop-at xs k (omega (arith, below))
 
-  pub free_from-above : (xs : List (Option X)) (i n : ℕ) → Has (free_from i xs) n → i ≤ n
+  pub free_from-above : (xs : List (Option X)) (i n : ℕ) → IsMember (free_from i xs) n → i ≤ n
   free_from-above [] i n has = absurd has
   free_from-above (None ∷ xs) i n (inl same) = omega (arith, same)
   free_from-above (None ∷ xs) i n (inr has) = let more = free_from-above xs (suc i) n has in omega (arith, more)
   free_from-above (Some x ∷ xs) i n has = let more = free_from-above xs (suc i) n has in omega (arith, more)
 
-  pub free_from-apart : (xs : List (Option X)) (i : ℕ) → HasNoRepetition (free_from i xs)
+  pub free_from-apart : (xs : List (Option X)) (i : ℕ) → AreDistinct (free_from i xs)
   free_from-apart [] i = tt
   free_from-apart (None ∷ xs) i = (λ has. let more = free_from-above xs (suc i) i has in absurd (omega (arith, more)), free_from-apart xs (suc i))
   free_from-apart (Some x ∷ xs) i = free_from-apart xs (suc i)
 
-  pub free_from-has : (xs : List (Option X)) (i k n : ℕ) → i + k ≡ n → k < length xs → slice_index_or xs k None ≡ None → Has (free_from i xs) n
+  pub free_from-has : (xs : List (Option X)) (i k n : ℕ) → i + k ≡ n → k < length xs → slice_index_or xs k None ≡ None → IsMember (free_from i xs) n
   free_from-has [] i k n at below is = absurd (omega (arith, below))
   free_from-has (None ∷ xs) i zero n at below is = inl (omega (arith, at))
   free_from-has (Some x ∷ xs) i zero n at below is = cc
@@ -127,7 +127,7 @@ module _ {P T Inx Gen Word : Type 0} (number : Inx → ℕ) where
         let free = drop-at entries k within ∙ ap (λ o. o ∷ drop (suc k) entries) (entry_there ∙ ap entry_in is) in
         let rest = ap (λ i. drop i entries) at in
         let old_list = subst (λ es. IsFreeList number slots (free_from (suc (suc k)) es) head) (sym rest) (subst (λ i. IsFreeList number slots (free_from (suc i) (drop n entries)) head) (sym at) l.linked) in
-        let out : Has (free_from (suc (suc k)) (drop (suc k) entries)) (suc k) → ⊥ = λ has. let more = free_from-above (drop (suc k) entries) (suc (suc k)) (suc k) has in absurd (omega (arith, more)) in
+        let out : IsMember (free_from (suc (suc k)) (drop (suc k) entries)) (suc k) → ⊥ = λ has. let more = free_from-above (drop (suc k) entries) (suc (suc k)) (suc k) has in absurd (omega (arith, more)) in
         record {
           same = map-set entry_of slots k (free_slot head) ∙ (unchanged (map entry_of slots) k (slice_index_or-map slots k ∙ ap entry_in is) ∙ l.same);
           linked = subst (λ es. IsFreeList number (slice_set slots k (free_slot head)) (free_from (suc k) es) (Some i)) (sym free)
@@ -154,7 +154,7 @@ module _ {P T Inx Gen Word : Type 0} (number : Inx → ℕ) where
         fits = few;
       }
     where
-      listed : (n : ℕ) (next : Option Inx) → item_at slots n ≡ Some (free_slot next) → Has (free_from 1 entries) n
+      listed : (n : ℕ) (next : Option Inx) → item_at slots n ≡ Some (free_slot next) → IsMember (free_from 1 entries) n
       listed zero next free = cc
       listed (suc k) next free =
           let below = slice_get-below slots k (free_slot next) free in

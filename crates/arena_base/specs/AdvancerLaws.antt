@@ -2,13 +2,13 @@
 use Rattle.std.specs.Prelude.{◌≡◌, ℕ, List, [], ◌∷◌, Option, None, Some}
 use Rattle.std.specs.Option.{option_map}
 use Rattle.std.proofs.Common.{refl, ap, ◌∙◌}
-use Rattle.arena_base.specs.Advancers.{IsLook, IsLookUntilNone, ahead}
+use Rattle.arena_base.specs.Advancers.{IsAdvance, IsAdvanceUntilNone, ahead}
 use Rattle.arena_base.specs.Entries.{first_key}
-use Rattle.arena_base.specs.declared.cursor.Look.{Look}
-use Rattle.arena_base.specs.declared.cursor.Look.TheVariants.{Up, Down, Nowhere}
+use Rattle.arena_base.specs.declared.cursor.Cursor.{Cursor}
+use Rattle.arena_base.specs.declared.cursor.Cursor.TheVariants.{Up, Down, Nowhere}
 
-pub nowhere_stays : {P Gen T : Type 0} (key : P → ℕ × Gen) (es : List ((ℕ × Gen) × T)) (look : Look) (answer : Option P) (after : Look)
-    → look ≡ Nowhere → IsLook es look (option_map key answer) after → (answer ≡ None) × (after ≡ Nowhere)
+pub nowhere_stays : {P Gen T : Type 0} (key : P → ℕ × Gen) (es : List ((ℕ × Gen) × T)) (look : Cursor) (answer : Option P) (after : Cursor)
+    → look ≡ Nowhere → IsAdvance es look (option_map key answer) after → (answer ≡ None) × (after ≡ Nowhere)
 nowhere_stays key es look None after spent given = (refl, given.moves)
 nowhere_stays key es look (Some p) after spent given =
     let met : Some (key p) ≡ None = given.first ∙ ap (λ l. first_key (ahead l es)) spent in cc
@@ -18,7 +18,7 @@ pub no_first : {Gen T : Type 0} (es : List ((ℕ × Gen) × T)) → None ≡ fir
 no_first [] none = refl
 no_first (e ∷ es) none = cc
 
-pub until_none : {Gen T : Type 0} (es : List ((ℕ × Gen) × T)) (look : Look) (answer : Option (ℕ × Gen)) (after : Look) → IsLook es look answer after → IsLookUntilNone es look answer after
+pub until_none : {Gen T : Type 0} (es : List ((ℕ × Gen) × T)) (look : Cursor) (answer : Option (ℕ × Gen)) (after : Cursor) → IsAdvance es look answer after → IsAdvanceUntilNone es look answer after
 until_none es (Up i) (Some p) after given = given
 until_none es (Down i) (Some p) after given = given
 until_none es (Up i) None after given = no_first (ahead (Up i) es) given.first

@@ -45,17 +45,17 @@ without_first [] = []
 without_first (i ∷ freed) = freed
 
 -- a number stands in a list
-abbrev pub Has : List ℕ → ℕ → Type 0
-Has [] n = ⊥
-Has (m ∷ ms) n = (m ≡ n) ⊎ Has ms n
+abbrev pub IsMember : List ℕ → ℕ → Type 0
+IsMember [] n = ⊥
+IsMember (m ∷ ms) n = (m ≡ n) ⊎ IsMember ms n
 
 -- no number stands in a list twice
-abbrev pub HasNoRepetition : List ℕ → Type 0
-HasNoRepetition [] = ⊤
-HasNoRepetition (m ∷ ms) = (Has ms m → ⊥) × HasNoRepetition ms
+abbrev pub AreDistinct : List ℕ → Type 0
+AreDistinct [] = ⊤
+AreDistinct (m ∷ ms) = (IsMember ms m → ⊥) × AreDistinct ms
 
 -- a capacity leaves room for n entries, is at most the greatest index, and within the maximum
-pub record IsRoom (greatest : ℕ) (maximum : Option ℕ) (n capacity : ℕ) : Type 0 where
+pub record IsCapacityFor (greatest : ℕ) (maximum : Option ℕ) (n capacity : ℕ) : Type 0 where
   pub fits : n ≤ capacity
   pub at_most_greatest : capacity ≤ greatest
   pub within_maximum : IsWithinMaximum maximum capacity
@@ -91,8 +91,8 @@ module _ {Gen T : Type 0} where
     pub stands : entry p.0 ≡ Some (p.1, value)
 
   -- an entry as a look at it shows it
-  abbrev pub seen_entry : Gen × Bor T → Gen × T
-  seen_entry e = (e.0, e.1.now)
+  abbrev pub borrowed_entry : Gen × Bor T → Gen × T
+  borrowed_entry e = (e.0, e.1.now)
 
   abbrev pub entry_at : Arena Gen T → ℕ → Option (Gen × T)
   entry_at a i = slot_at a.slots i
@@ -140,26 +140,26 @@ module _ {Gen T : Type 0} where
 
   -- there is room for n entries; the capacity is the lesser of the stack's and the greatest index, and the stack's is within
   -- the maximum too
-  abbrev pub HasRoom : ℕ → ℕ → Arena Gen T → Type 0
-  HasRoom greatest n a = IsRoom greatest a.maximum n a.capacity × (a.capacity ≡ min a.stack_capacity greatest) × IsWithinMaximum a.maximum a.stack_capacity
+  abbrev pub HasCapacityFor : ℕ → ℕ → Arena Gen T → Type 0
+  HasCapacityFor greatest n a = IsCapacityFor greatest a.maximum n a.capacity × (a.capacity ≡ min a.stack_capacity greatest) × IsWithinMaximum a.maximum a.stack_capacity
 
   -- the capacity of the stack stays, or a growth to room for n may reach it
   abbrev pub IsWithinReach : (ℕ → Option ℕ → ℕ → ℕ → Type 0) → ℕ → Arena Gen T → Arena Gen T → Type 0
   IsWithinReach may_reach n old new = (new.stack_capacity ≡ old.stack_capacity) ⊎ may_reach old.stack_capacity old.maximum n new.stack_capacity
 
   -- a new arena with room for n entries: but for its room it is as one without room, and that it is without any where n is 0
-  pub record IsNewWithRoom (may_reach : ℕ → Option ℕ → ℕ → ℕ → Type 0) (first : Gen) (maximum : Option ℕ) (n : ℕ) (a : Arena Gen T) : Type 0 where
+  pub record IsNewWithCapacity (may_reach : ℕ → Option ℕ → ℕ → ℕ → Type 0) (first : Gen) (maximum : Option ℕ) (n : ℕ) (a : Arena Gen T) : Type 0 where
     pub state : a ≡ with_capacity_of (new_arena first maximum) a
     pub none : n ≡ 0 → a ≡ new_arena first maximum
     pub reached : IsWithinReach may_reach n (new_arena first maximum) a
 
   -- an arena has grown to room for n entries, if it had not that room, and as far as its stack may reach
-  pub record HasGrownTo (may_reach : ℕ → Option ℕ → ℕ → ℕ → Type 0) (greatest n : ℕ) (old new : Arena Gen T) : Type 0 where
-    pub room : HasRoom greatest n new
+  pub record ReachesCapacity (may_reach : ℕ → Option ℕ → ℕ → ℕ → Type 0) (greatest n : ℕ) (old new : Arena Gen T) : Type 0 where
+    pub room : HasCapacityFor greatest n new
     pub reached : IsWithinReach may_reach n old new
 
   -- each free slot stands in the freed list exactly once, and nothing else does
   pub record IsListed (a : Arena Gen T) : Type 0 where
-    pub apart : HasNoRepetition a.freed
-    pub free : (i : ℕ) → Has a.freed i → (entry_at a i ≡ None) × (1 ≤ i) × (i ≤ length a.slots)
-    pub listed : (i : ℕ) → 1 ≤ i → i ≤ length a.slots → entry_at a i ≡ None → Has a.freed i
+    pub apart : AreDistinct a.freed
+    pub free : (i : ℕ) → IsMember a.freed i → (entry_at a i ≡ None) × (1 ≤ i) × (i ≤ length a.slots)
+    pub listed : (i : ℕ) → 1 ≤ i → i ≤ length a.slots → entry_at a i ≡ None → IsMember a.freed i

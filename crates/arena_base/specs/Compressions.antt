@@ -5,7 +5,7 @@ use Rattle.std.specs.List.{FoldsTo, range_with_len}
 use Rattle.std.specs.Fn.{Mut, Called}
 use denote.Ref.{MutBor}
 use Rattle.arena_base.specs.Arena.{counter_after_clear, overflows_after_clear}
-use Rattle.arena_base.specs.Entries.{Seen, Slots, index_of}
+use Rattle.arena_base.specs.Entries.{ArenaView, Slots, index_of}
 
 -- the counter after a compression of so many entries: a reset begins it anew, and else none leave it as it is
 abbrev pub counter_after_compression : {Gen : Type 0} → Gen → (Gen → Gen) → Bool → ℕ → Gen → Gen
@@ -27,14 +27,14 @@ pub record AreFilledAnew (entries most : ℕ) (old new : Slots) : Type 0 where
   pub touched : new.touched ≡ old.touched + touches
 
 -- where the slots of an arena are told, before and after; else there is nothing to tell
-abbrev pub WhereTold : (Slots → Slots → Type 0) → Option Slots → Option Slots → Type 0
-WhereTold related None new = new ≡ None
-WhereTold related (Some old) None = ⊥
-WhereTold related (Some old) (Some new) = related old new
+abbrev pub IfKnown : (Slots → Slots → Type 0) → Option Slots → Option Slots → Type 0
+IfKnown related None new = new ≡ None
+IfKnown related (Some old) None = ⊥
+IfKnown related (Some old) (Some new) = related old new
 
 -- .. with at most four times as many touches as slots
 abbrev pub AreCompacted : ℕ → Option Slots → Option Slots → Type 0
-AreCompacted count = WhereTold (λ old. AreFilledAnew count (4 * old.count) old)
+AreCompacted count = IfKnown (λ old. AreFilledAnew count (4 * old.count) old)
 
 -- a call of the closure: the pointer that an entry had, the value that it was shown, the pointer that the entry has, and
 -- the value that it left
@@ -63,7 +63,7 @@ module _ {F P T : Type 0} (g : Mut F (P × (MutBor T × (P × Unit {0}))) (Unit 
 
 module _ {Gen T : Type 0} where
   -- an arena whose entries have come to the indexes from 1 to their number; values are not looked at
-  pub record IsCompressed (first : Gen) (following : Gen → Gen) (reset : Bool) (old new : Seen Gen T) : Type 0 where
+  pub record IsCompressed (first : Gen) (following : Gen → Gen) (reset : Bool) (old new : ArenaView Gen T) : Type 0 where
     pub indexes : map index_of new.entries ≡ range_with_len 1 (length old.entries)
     pub counter : new.counter ≡ option_map (counter_after_compression first following reset (length old.entries)) old.counter
     -- all entries have one generation, which is the counter where that is told

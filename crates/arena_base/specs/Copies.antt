@@ -5,7 +5,7 @@ use Rattle.std.specs.Borrow.{Bor}
 use Rattle.std.specs.List.{FoldsTo}
 use Rattle.std.specs.Fn.{Mut, Called}
 use Rattle.arena_base.specs.Arena.{Arena, with_capacity_of}
-use Rattle.arena_base.specs.Entries.{Seen, Slots, entries, without_slots}
+use Rattle.arena_base.specs.Entries.{ArenaView, Slots, entries, without_slots}
 
 -- a value that was made: the pointer of an entry, the value that was shown, and the value that was answered
 pub record Copied (P U T : Type 0) : Type 0 where
@@ -46,14 +46,14 @@ abbrev pub with_slots_of : {Gen U : Type 0} → Arena Gen U → Slots → Slots
 with_slots_of source slots = record slots { count = length source.slots; freed = source.freed }
 
 -- an arena that has become a copy, as generic code sees it, by what made the values
-pub record IsCopyBy {F P U T Gen : Type 0} (makes : F → P → U → T → F → Type 0) (key : P → ℕ × Gen) (f : F) (source : Arena Gen U) (old new : Seen Gen T) (last : F) : Type 0 where
+pub record IsCopyBy {F P U T Gen : Type 0} (makes : F → P → U → T → F → Type 0) (key : P → ℕ × Gen) (f : F) (source : Arena Gen U) (old new : ArenaView Gen T) (last : F) : Type 0 where
   pub entries : CopiesBy makes key f (entries source) new.entries last
   pub counter : new.counter ≡ option_map (λ _. source.counter) old.counter
   pub slots : new.slots ≡ option_map (with_slots_of source) old.slots
   pub maximum : new.maximum ≡ old.maximum
 
 -- .. where a closure makes the values
-abbrev pub IsCopy : {F P U T Gen : Type 0} → Mut F (P × (Bor U × Unit {0})) T → (P → ℕ × Gen) → F → Arena Gen U → Seen Gen T → Seen Gen T → Type 0
+abbrev pub IsCopy : {F P U T Gen : Type 0} → Mut F (P × (Bor U × Unit {0})) T → (P → ℕ × Gen) → F → Arena Gen U → ArenaView Gen T → ArenaView Gen T → Type 0
 IsCopy {F = F} g key f source old new = (last : F) × IsCopyBy (IsCopyCall g) key f source old new last
 
 -- the generation in each slot, where an entry stands there
@@ -68,9 +68,9 @@ pub record HasSlotsOf {Gen U T : Type 0} (source : Arena Gen U) (old new : Arena
   pub room : length source.slots ≤ old.capacity → new.stack_capacity ≡ old.stack_capacity
 
 -- the arena that was to become a copy, when a value could not be made: nothing but its counter and its room is left
-abbrev pub IsGivenUp : {Gen T : Type 0} → Arena Gen T → Arena Gen T → Type 0
-IsGivenUp old new = new ≡ record (with_capacity_of old new) { slots = []; freed = [] }
+abbrev pub IsAbandonedCopy : {Gen T : Type 0} → Arena Gen T → Arena Gen T → Type 0
+IsAbandonedCopy old new = new ≡ record (with_capacity_of old new) { slots = []; freed = [] }
 
 -- .. as generic code sees it
-abbrev pub IsLeftEmpty : {Gen T : Type 0} → Seen Gen T → Seen Gen T → Type 0
-IsLeftEmpty old new = new ≡ record old { entries = []; slots = option_map without_slots old.slots; capacity = new.capacity }
+abbrev pub IsAbandonedView : {Gen T : Type 0} → ArenaView Gen T → ArenaView Gen T → Type 0
+IsAbandonedView old new = new ≡ record old { entries = []; slots = option_map without_slots old.slots; capacity = new.capacity }

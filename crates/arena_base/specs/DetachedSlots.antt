@@ -39,8 +39,8 @@ pub record IsPacked {X : Type 0} (slots : List (Option X)) (n : ℕ) : Type 0 wh
 
 module _ {Gen T : Type 0} where
   -- an entry as a look at both its parts shows it
-  abbrev pub seen_parts : Bor Gen × Bor T → Gen × T
-  seen_parts e = (e.0.now, e.1.now)
+  abbrev pub borrowed_parts : Bor Gen × Bor T → Gen × T
+  borrowed_parts e = (e.0.now, e.1.now)
 
   abbrev pub held_of : Arena Gen T → Held Gen T
   held_of a = record { slots = a.slots; stack_capacity = a.stack_capacity; maximum = a.maximum }
@@ -66,8 +66,8 @@ module _ {Gen T : Type 0} where
   with_placement a = record a { placed = a.placed + 1 }
 
   -- the slots at two indexes exchanged, the entry from the first with a new generation
-  abbrev pub placed : Held Gen T → ℕ → ℕ → Gen → Held Gen T
-  placed held from to g = record held {
+  abbrev pub with_placed_entry : Held Gen T → ℕ → ℕ → Gen → Held Gen T
+  with_placed_entry held from to g = record held {
     slots = with_slot (with_slot held.slots from (slot_at held.slots to)) to (option_map (λ e. (g, e.1)) (slot_at held.slots from));
   }
 
@@ -77,8 +77,8 @@ module _ {Gen T : Type 0} where
 
   -- what holds slots after a look at one: they are as they were, and it was counted; where a value was written there, it stands there
   module _ {C : Type 0} (held : C → Held Gen T) (touches : C → C → Type 0) (old : C) where
-    abbrev pub IsLookedAt : C → Type 0
-    IsLookedAt new = (held new ≡ held old) × touches old new
+    abbrev pub IsTouched : C → Type 0
+    IsTouched new = (held new ≡ held old) × touches old new
 
     abbrev pub IsWrittenAt : ℕ → C → T → Type 0
     IsWrittenAt i new t = (held new ≡ held_with_value (held old) i t) × touches old new

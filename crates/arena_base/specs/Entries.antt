@@ -4,7 +4,7 @@ use Rattle.std.specs.Prelude.{◌≡◌, ◌↔◌, ℕ, suc, ◌+◌, ◌<◌, 
 use Rattle.std.specs.Option.{option_map}
 use Rattle.arena_ptr.specs.Numbers.{IsWithin}
 use Rattle.arena_ptr.specs.SlotStack.{IsBeyond}
-use Rattle.arena_base.specs.Arena.{Arena, slot_at, Has, HasNoRepetition, first_or_next, without_first, counter_after_clear}
+use Rattle.arena_base.specs.Arena.{Arena, slot_at, IsMember, AreDistinct, first_or_next, without_first, counter_after_clear}
 
 -- the number of slots, the freed list, next to be used first, and the totals of placements and touches
 pub record Slots : Type 0 where
@@ -15,7 +15,7 @@ pub record Slots : Type 0 where
 
 -- what generic code sees of an arena: its entries by rising index, its counter where there is one, its slots where they
 -- are told, its capacity and its maximum
-pub record Seen (Gen T : Type 0) : Type 0 where
+pub record ArenaView (Gen T : Type 0) : Type 0 where
   pub entries : List ((ℕ × Gen) × T)
   pub counter : Option Gen
   pub slots : Option Slots
@@ -67,13 +67,13 @@ module _ {Gen T : Type 0} where
   index_of e = e.0.0
 
   -- the indexes of the entries and the freed indexes together are 1 to the number of slots, each once
-  pub record AreTheSlots (es : List ((ℕ × Gen) × T)) (slots : Slots) : Type 0 where
-    pub apart : HasNoRepetition (map index_of es ++ slots.freed)
-    pub all : (i : ℕ) → Has (map index_of es ++ slots.freed) i ↔ IsWithin slots.count i
+  pub record CoverSlots (es : List ((ℕ × Gen) × T)) (slots : Slots) : Type 0 where
+    pub apart : AreDistinct (map index_of es ++ slots.freed)
+    pub all : (i : ℕ) → IsMember (map index_of es ++ slots.freed) i ↔ IsWithin slots.count i
 
   -- an arena as generic code sees it
-  abbrev pub seen_of : Arena Gen T → Seen Gen T
-  seen_of a = record {
+  abbrev pub view_of : Arena Gen T → ArenaView Gen T
+  view_of a = record {
     entries = entries a;
     counter = Some a.counter;
     slots = Some (record { count = length a.slots; freed = a.freed; placed = a.placed; touched = a.touched });
@@ -109,7 +109,7 @@ module _ {Gen T : Type 0} where
   last_key es = first_key (reverse es)
 
   -- what is seen after the removal of the entry at an index
-  abbrev pub entry_removed : (Gen → Gen) → Seen Gen T → ℕ → Seen Gen T
+  abbrev pub entry_removed : (Gen → Gen) → ArenaView Gen T → ℕ → ArenaView Gen T
   entry_removed following s i = record s {
     entries = without i s.entries;
     counter = option_map following s.counter;
@@ -117,15 +117,15 @@ module _ {Gen T : Type 0} where
   }
 
   -- what is seen after the entry at the index of a key got the key's generation, as the counter did
-  abbrev pub renewed : Seen Gen T → ℕ × Gen → Seen Gen T
+  abbrev pub renewed : ArenaView Gen T → ℕ × Gen → ArenaView Gen T
   renewed s p = record s { entries = replaced p.0 (λ e. (p.1, e.1)) s.entries; counter = option_map (λ _. p.1) s.counter }
 
   -- what is seen after a write of the value at an index
-  abbrev pub written : Seen Gen T → ℕ → T → Seen Gen T
+  abbrev pub written : ArenaView Gen T → ℕ → T → ArenaView Gen T
   written s i t = record s { entries = replaced i (λ e. (e.0, t)) s.entries }
 
   -- what is seen after a clear, which leaves no slots: the counter stays where there were no entries
-  abbrev pub emptied : (Gen → Gen) → Seen Gen T → Seen Gen T
+  abbrev pub emptied : (Gen → Gen) → ArenaView Gen T → ArenaView Gen T
   emptied following s = record s {
     entries = [];
     counter = option_map (counter_after_clear following (length s.entries)) s.counter;
@@ -133,22 +133,22 @@ module _ {Gen T : Type 0} where
   }
 
   -- the same but for room
-  abbrev pub with_capacity : Seen Gen T → ℕ → Seen Gen T
+  abbrev pub with_capacity : ArenaView Gen T → ℕ → ArenaView Gen T
   with_capacity s n = record s { capacity = n }
 
   -- how many entries there are
-  abbrev pub count : Seen Gen T → ℕ
+  abbrev pub count : ArenaView Gen T → ℕ
   count s = length s.entries
 
-  abbrev pub HasRoomLeft : Seen Gen T → Type 0
-  HasRoomLeft s = count s < s.capacity
+  abbrev pub HasFreeCapacity : ArenaView Gen T → Type 0
+  HasFreeCapacity s = count s < s.capacity
 
   -- one entry more asks for a growth beyond the maximum
-  abbrev pub NeedsBeyondMaximum : Seen Gen T → Type 0
+  abbrev pub NeedsBeyondMaximum : ArenaView Gen T → Type 0
   NeedsBeyondMaximum s = (count s ≡ s.capacity) × IsBeyond s.maximum (count s + 1)
 
   -- a new arena: no entries, a counter that begins at the first generation, no slots, and nothing counted
-  pub record IsNew (first : Gen) (s : Seen Gen T) : Type 0 where
+  pub record IsNew (first : Gen) (s : ArenaView Gen T) : Type 0 where
     pub entries : s.entries ≡ []
     pub counter : IfSome s.counter (λ g. g ≡ first)
     pub slots : IfSome s.slots (λ slots. slots ≡ record { count = 0; freed = []; placed = 0; touched = 0 })

@@ -1,7 +1,7 @@
 -- How an arena is stored in its slots. Public clauses cite `entry_of` and `ThreadsFreeList`, for the stack of slots.
 use Rattle.std.specs.Prelude.{◌≡◌, ℕ, zero, suc, ◌+◌, ◌≤◌, ⊤, List, [], ◌∷◌, map, min, length, count_by, is_some, slice_get, Option, None, Some}
 use Rattle.arena_base.specs.DetachedSlots.{Held}
-use Rattle.arena_base.specs.Arena.{Arena, Has, HasNoRepetition}
+use Rattle.arena_base.specs.Arena.{Arena, IsMember, AreDistinct}
 use Rattle.arena_base.specs.declared.slot.ArenaSlot.{ArenaSlot}
 use Rattle.arena_base.specs.declared.slot.ArenaSlot.TheVariants.{Allocated, Free}
 
@@ -88,8 +88,8 @@ module _ {P T Inx Gen Word : Type 0} (number : Inx → ℕ) (slots : List (Arena
   -- `len` counts the entries, and the freed list from `head` holds every free slot once
   pub record IsSound (greatest len : ℕ) (head : Option Inx) (freed : List ℕ) : Type 0 where
     pub linked : IsFreeList freed head
-    pub apart : HasNoRepetition freed
-    pub covers : (n : ℕ) (next : Option Inx) → item_at slots n ≡ Some (Free next) → Has freed n
+    pub apart : AreDistinct freed
+    pub covers : (n : ℕ) (next : Option Inx) → item_at slots n ≡ Some (Free next) → IsMember freed n
     pub counted : len ≡ count_by is_some (map entry_of slots)
     pub total : len + length freed ≡ length slots
     pub fits : length slots ≤ greatest

@@ -2,7 +2,7 @@
 ghost use Rattle.std.specs.Prelude.{◌≡◌, if◌then◌else◌};
 
 use crate::arena::Arena;
-use crate::cursor::Look;
+use crate::cursor::Cursor;
 use crate::slot::{ArenaSlot, number_of};
 use crate::traits::Advancer;
 use arena_ptr::{PtrKey, SlotStack};
@@ -14,30 +14,30 @@ use std::marker::PhantomData;
 /// Carries `PtrAdvancer` of `triple_arena`, with which one type serves the plain and the chain arena.
 #[derive(Drop)]
 pub struct PtrAdvancer<P> {
-    look: Look,
+    look: Cursor,
     of: PhantomData<P>,
 }
 
 impl<P> PtrAdvancer<P> {
     /// By rising index from an index on.
     pub(crate) fn up(from: usize) -> Self
-        ensures { result.look ≡ Look.Up from }
+        ensures { result.look ≡ Cursor.Up from }
     {
         PtrAdvancer {
-            look: Look::Up(from),
+            look: Cursor::Up(from),
             of: PhantomData,
         }
     }
 
     /// From an index on, by rising or, with `rev`, by falling index.
     pub(crate) fn begin(from: usize, rev: bool) -> Self
-        ensures { result.look ≡ (if rev then Look.Down from else Look.Up from) }
+        ensures { result.look ≡ (if rev then Cursor.Down from else Cursor.Up from) }
     {
         PtrAdvancer {
             look: if rev {
-                Look::Down(from)
+                Cursor::Down(from)
             } else {
-                Look::Up(from)
+                Cursor::Up(from)
             },
             of: PhantomData,
         }
@@ -49,13 +49,13 @@ impl<P: PtrKey, T: Drop, S: SlotStack<Item = ArenaSlot<P, T>>> Advancer<Arena<P,
     ghost use Rattle.std.specs.Prelude.{◌≡◌};
     ghost use Rattle.std.specs.Option.{option_map};
     ghost use Rattle.arena_base.specs.Entries.{entries};
-    ghost use Rattle.arena_base.specs.Advancers.{IsLook};
+    ghost use Rattle.arena_base.specs.Advancers.{IsAdvance};
     ghost use Rattle.arena_base.specs.AdvancerLaws.{nowhere_stays};
-    ghost use Rattle.arena_base.specs.declared.cursor.Look.TheVariants.{Nowhere};
+    ghost use Rattle.arena_base.specs.declared.cursor.Cursor.TheVariants.{Nowhere};
 
     type Item = P;
 
-    ghost gives = { λ a arena answer b. IsLook (entries arena) a.look (option_map P.key answer)
+    ghost gives = { λ a arena answer b. IsAdvance (entries arena) a.look (option_map P.key answer)
         b.look };
 
     ghost is_spent = { λ a. a.look ≡ Nowhere };
@@ -70,7 +70,7 @@ impl<P: PtrKey, T: Drop, S: SlotStack<Item = ArenaSlot<P, T>>> Advancer<Arena<P,
                 Some(p)
             }
             None => {
-                self.look = Look::Nowhere;
+                self.look = Cursor::Nowhere;
                 None
             }
         }
@@ -78,7 +78,7 @@ impl<P: PtrKey, T: Drop, S: SlotStack<Item = ArenaSlot<P, T>>> Advancer<Arena<P,
 
     fn empty() -> Self {
         PtrAdvancer {
-            look: Look::Nowhere,
+            look: Cursor::Nowhere,
             of: PhantomData,
         }
     }

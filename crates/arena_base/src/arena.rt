@@ -7,9 +7,9 @@ ghost use Rattle.arena_base.specs.Slots.{entry_of, ThreadsFreeList};
 ghost use Rattle.arena_base.specs.Entries.{entries, entries_from, key_at, first_key, last_key, IsNextEntry};
 ghost use Rattle.arena_base.specs.Advancers.{ahead};
 ghost use Rattle.arena_base.specs.DetachedSlots.{held_of, lent_out, returned, IsPacked, with_placement, with_touch};
-ghost use Rattle.arena_base.specs.Arena.{entry_at, entry_count, next_index, insert_next, remove_at, renewed_at, with_counter, with_capacity_of, with_maximum, new_arena, HasRoom, HasGrownTo, IsWithinReach};
+ghost use Rattle.arena_base.specs.Arena.{entry_at, entry_count, next_index, insert_next, remove_at, renewed_at, with_counter, with_capacity_of, with_maximum, new_arena, HasCapacityFor, ReachesCapacity, IsWithinReach};
 
-use crate::cursor::Look;
+use crate::cursor::Cursor;
 use crate::detached_slots::HeldSlots;
 use crate::free_list::{relist, trim};
 use crate::slot::{ArenaSlot, fill, inx_at, position_of, regenerate_at, vacate_at};
@@ -139,7 +139,7 @@ impl<P: PtrKey, T: Drop, S: SlotStack<Item = ArenaSlot<P, T>>> Arena<P, T, S> {
     pub fn insert_reallocating(&mut self, t: T) -> Result<P, ReallocationError>
         ensures ptr { IfOk result (λ p. P.key p ≡ (next_index self.old, self.old.counter)) }
         ensures ok { OnOk result (self.new ≡ with_capacity_of (insert_next self.old t) self.new) }
-        ensures grown { OnOk result (HasGrownTo S.may_reach P.Inx.greatest
+        ensures grown { OnOk result (ReachesCapacity S.may_reach P.Inx.greatest
             (entry_count self.old + 1) self.old self.new) }
         ensures err { OnErr result (self.new ≡ self.old) }
         ensures room { entry_count self.old < self.old.capacity
@@ -163,7 +163,7 @@ impl<P: PtrKey, T: Drop, S: SlotStack<Item = ArenaSlot<P, T>>> Arena<P, T, S> {
             ((entry_count self.old ≡ self.old.capacity) × IsBeyond self.old.maximum
             (entry_count self.old + 1)) }
         ensures greatest { entry_count self.old ≡ P.Inx.greatest → IsErr result }
-        ensures ok { OnOk result (HasGrownTo S.may_reach P.Inx.greatest (entry_count self.old + 1)
+        ensures ok { OnOk result (ReachesCapacity S.may_reach P.Inx.greatest (entry_count self.old + 1)
             self.old self.new) }
         ensures err { OnErr result (self.new ≡ self.old) }
         ensures after { self.new ≡ with_capacity_of self.old self.new }
@@ -178,7 +178,7 @@ impl<P: PtrKey, T: Drop, S: SlotStack<Item = ArenaSlot<P, T>>> Arena<P, T, S> {
     // Whether there are as many entries as the capacity.
     pub(crate) fn is_full(&self) -> bool
         ensures full { IsTrue result ↔ (entry_count self.now ≡ self.now.capacity) }
-        ensures room { HasRoom P.Inx.greatest (entry_count self.now) self.now }
+        ensures room { HasCapacityFor P.Inx.greatest (entry_count self.now) self.now }
     {
         self.len == self.slots.capacity().min(P::Inx::greatest())
     }
@@ -190,7 +190,7 @@ impl<P: PtrKey, T: Drop, S: SlotStack<Item = ArenaSlot<P, T>>> Arena<P, T, S> {
         ensures beyond { (result ≡ Err ReallocationError.BeyondMaxCapacity)
             ↔ IsBeyond self.old.maximum n }
         ensures greatest { P.Inx.greatest < n → IsErr result }
-        ensures ok { OnOk result (HasGrownTo S.may_reach P.Inx.greatest n self.old self.new) }
+        ensures ok { OnOk result (ReachesCapacity S.may_reach P.Inx.greatest n self.old self.new) }
         ensures reached { IsWithinReach S.may_reach n self.old self.new }
         ensures err { OnErr result (self.new ≡ self.old) }
         ensures after { self.new ≡ with_capacity_of self.old self.new }
@@ -278,14 +278,14 @@ impl<P: PtrKey, T: Drop, S: SlotStack<Item = ArenaSlot<P, T>>> Arena<P, T, S> {
     }
 
     // The pointer of the first entry ahead.
-    pub(crate) fn find(&self, look: Look) -> Option<P>
+    pub(crate) fn find(&self, look: Cursor) -> Option<P>
         ensures key { option_map P.key result ≡ first_key (ahead look (entries self.now)) }
         ensures fits { IfSome result (λ p. (P.key p).0 + 1 < 2 ^ 64) }
     {
         match look {
-            Look::Up(from) => self.first_from(from.saturating_sub(1)),
-            Look::Down(to) => self.last_to(to),
-            Look::Nowhere => None,
+            Cursor::Up(from) => self.first_from(from.saturating_sub(1)),
+            Cursor::Down(to) => self.last_to(to),
+            Cursor::Nowhere => None,
         }
     }
 

@@ -2,10 +2,10 @@
 ghost use Rattle.std.specs.Prelude.{◌≡◌, ◌≤◌, ◌<◌, ◌+◌, ◌^◌, length, All, IfSome};
 ghost use Rattle.arena_ptr.specs.Invalidation.{value_within, is_overflow_result};
 ghost use Rattle.std.specs.Option.{option_map};
-ghost use Rattle.arena_base.specs.Arena.{counter_after_clear, overflows_after_clear, entry_count, HasRoom, IsListed};
+ghost use Rattle.arena_base.specs.Arena.{counter_after_clear, overflows_after_clear, entry_count, HasCapacityFor, IsListed};
 ghost use Rattle.arena_base.specs.Compressions.{counter_after_compression, overflows_after_compression};
 ghost use Rattle.arena_ptr.specs.Numbers.{IsWithin};
-ghost use Rattle.arena_base.specs.Entries.{entries, seen_of, index_of, AreTheSlots};
+ghost use Rattle.arena_base.specs.Entries.{entries, view_of, index_of, CoverSlots};
 
 use crate::advancer::PtrAdvancer;
 use crate::arena::{Arena, invalidated, outcome};
@@ -19,21 +19,21 @@ use std::alloc::Global;
 
 impl<P: PtrKey, T: Drop, S: SlotStack<Item = ArenaSlot<P, T>>> ArenaTrait<P, T> for Arena<P, T, S> {
     ghost use Rattle.std.specs.Prelude.{◌≡◌};
-    ghost use Rattle.arena_base.specs.Arena.{entry_at, with_capacity_of, IsWithinReach, IsNewWithRoom, with_value, renewed_at, remove_at, cleared};
+    ghost use Rattle.arena_base.specs.Arena.{entry_at, with_capacity_of, IsWithinReach, IsNewWithCapacity, with_value, renewed_at, remove_at, cleared};
     ghost use Rattle.std.specs.Option.{option_map};
-    ghost use Rattle.arena_base.specs.Entries.{seen_of, entries};
+    ghost use Rattle.arena_base.specs.Entries.{view_of, entries};
     ghost use Rattle.arena_base.specs.EntryLaws.{entries_rise, found-entries};
     ghost use Rattle.arena_base.specs.AdvancerLaws.{until_none};
 
     type PtrAdvancer = PtrAdvancer<P>;
 
-    ghost seen = { seen_of };
+    ghost view = { view_of };
 
     ghost entry = { entry_at };
 
-    ghost looks = { λ a. a.look };
+    ghost cursor = { λ a. a.look };
 
-    ghost starts = { IsNewWithRoom S.may_reach P.Gen.first S.initial_maximum };
+    ghost starts = { IsNewWithCapacity S.may_reach P.Gen.first S.initial_maximum };
 
     ghost grows = { λ n a b. (b ≡ with_capacity_of a b) × IsWithinReach S.may_reach n a b };
 
@@ -78,17 +78,17 @@ impl<P: PtrKey, T: Drop, S: SlotStack<Item = ArenaSlot<P, T>>> ArenaTrait<P, T> 
     }
 
     fn len(&self) -> usize
-        ensures count { result ≡ length (seen_of self.now).entries }
-        ensures fits { result ≤ (seen_of self.now).capacity }
+        ensures count { result ≡ length (view_of self.now).entries }
+        ensures fits { result ≤ (view_of self.now).capacity }
         ensures one_more { result + 1 < 2 ^ 64 }
         ensures indexes { All (λ e. IsWithin P.Inx.greatest (index_of e))
-            (seen_of self.now).entries }
-        ensures filled { IfSome (seen_of self.now).slots (AreTheSlots (seen_of self.now).entries) }
+            (view_of self.now).entries }
+        ensures filled { IfSome (view_of self.now).slots (CoverSlots (view_of self.now).entries) }
         ensures entries { result ≡ entry_count self.now }
 
         // The slots, the freed list and the room, in every arena.
         ensures listed { IsListed self.now }
-        ensures room { HasRoom P.Inx.greatest (length self.now.slots) self.now }
+        ensures room { HasCapacityFor P.Inx.greatest (length self.now.slots) self.now }
     {
         self.len
     }
@@ -254,7 +254,7 @@ impl<P: PtrKey, T: Drop, S: SlotStack<Item = ArenaSlot<P, T>>> Arena<P, T, S> {
         ensures listed { IsListed self.now }
 
         // The capacity is the lesser of the stack's capacity and the greatest index.
-        ensures room { HasRoom P.Inx.greatest (length self.now.slots) self.now }
+        ensures room { HasCapacityFor P.Inx.greatest (length self.now.slots) self.now }
     {
         self.len();
     }

@@ -4,7 +4,7 @@ ghost use Rattle.std.specs.Option.{option_map, option_copied_mut};
 ghost use Rattle.std.specs.Borrow.{LendsSo, follows_so, sem};
 ghost use mathlib.Core.Option.{none};
 ghost use Rattle.arena_base.specs.Arena.{slot_at};
-ghost use Rattle.arena_base.specs.DetachedSlots.{Held, seen_parts, placed, held_of, IsLookedAt, IsWrittenAt, lent_out, returned, IsPacked, with_touch, with_placement, one_more};
+ghost use Rattle.arena_base.specs.DetachedSlots.{Held, borrowed_parts, with_placed_entry, held_of, IsTouched, IsWrittenAt, lent_out, returned, IsPacked, with_touch, with_placement, one_more};
 
 use crate::arena::Arena;
 use crate::detached_slots::{HeldSlots, LendsValue};
@@ -68,7 +68,7 @@ impl<'a, P: PtrKey, T: Drop, S: SlotStack<Item = ArenaSlot<P, T>>> Compactor<'a,
         requires entry { IsSome (slot_at self.old.held.slots (P.Inx.number from)) }
         ensures same_reference { self.new.arena.ghost_name ≡ self.old.arena.ghost_name }
         ensures arena { self.new.arena.now ≡ with_placement self.old.arena.now }
-        ensures held { self.new.held ≡ placed self.old.held (P.Inx.number from)
+        ensures held { self.new.held ≡ with_placed_entry self.old.held (P.Inx.number from)
             (P.Inx.number to) generation }
         ensures placed { self.new.placed ≡ one_more self.old.placed }
         ensures touched { self.new.touched ≡ self.old.touched }
@@ -87,7 +87,7 @@ impl<'a, P: PtrKey, T: Drop, S: SlotStack<Item = ArenaSlot<P, T>>> Compactor<'a,
             → slot_at self.old.held.slots (P.Inx.number to) ≡ None }
         ensures same_reference { self.new.arena.ghost_name ≡ self.old.arena.ghost_name }
         ensures arena { self.new.arena.now ≡ with_placement self.old.arena.now }
-        ensures held { self.new.held ≡ placed self.old.held (P.Inx.number from)
+        ensures held { self.new.held ≡ with_placed_entry self.old.held (P.Inx.number from)
             (P.Inx.number to) generation }
         ensures placed { self.new.placed ≡ one_more self.old.placed }
         ensures touched { self.new.touched ≡ self.old.touched }
@@ -159,15 +159,15 @@ pub trait SlotAccess<P: PtrKey, T: Drop> {
     /// The generation and the value at an index. Counts one touch.
     fn peek(&mut self, i: P::Inx) -> Option<(&P::Gen, &T)>
         ensures* after { sem 𝓛 (follows_so Self.row Self.row self.entry.ghost_name none (λ _ _. ⊤)
-            (IsLookedAt held touches self.old)) }
-        ensures value { option_map seen_parts result ≡ slot_at (held self.old).slots
+            (IsTouched held touches self.old)) }
+        ensures value { option_map borrowed_parts result ≡ slot_at (held self.old).slots
             (P.Inx.number i) };
 
     /// The value at an index, for writing. Counts one touch.
     fn value_mut(&mut self, i: P::Inx) -> Option<&mut T>
         ensures* writes_back { sem 𝓛 (LendsSo Self.row T.row self.entry result
             (λ new t. OnSome result (IsWrittenAt held touches self.old (P.Inx.number i) new t))
-            (IsLookedAt held touches self.old)) }
+            (IsTouched held touches self.old)) }
         ensures value { option_copied_mut result ≡ option_map (λ e. e.1)
             (slot_at (held self.old).slots (P.Inx.number i)) };
 }

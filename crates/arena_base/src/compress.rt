@@ -3,7 +3,7 @@ ghost use Rattle.std.specs.Prelude.{◌≡◌, ◌≢◌, ◌≤◌, ◌<◌, �
 ghost use Rattle.std.specs.Option.{option_map};
 ghost use Rattle.arena_base.specs.Arena.{slot_at};
 ghost use Rattle.arena_base.specs.Entries.{entries_from};
-ghost use Rattle.arena_base.specs.DetachedSlots.{placed, IsPacked, with_touch, with_placement};
+ghost use Rattle.arena_base.specs.DetachedSlots.{with_placed_entry, IsPacked, with_touch, with_placement};
 ghost use Rattle.arena_base.specs.Compressions.{VisitsAll};
 ghost use Rattle.arena_base.specs.GatheredSlots.{AreClosed, IsGathered, with_totals};
 
@@ -28,7 +28,7 @@ fn close_gap<P: PtrKey, T: Drop, S: SlotStack<Item = ArenaSlot<P, T>>>(
     ensures answer { result ≡ option_map (λ e. e.0)
         (slot_at compactor.old.held.slots (P.Inx.number from)) }
     ensures some { OnSome result
-        ((compactor.new.held ≡ placed compactor.old.held (P.Inx.number from)
+        ((compactor.new.held ≡ with_placed_entry compactor.old.held (P.Inx.number from)
         (P.Inx.number to) generation)
         × (compactor.new.arena.now ≡ with_placement (with_touch compactor.old.arena.now))) }
     ensures none { IfNone result ((compactor.new.held ≡ compactor.old.held)

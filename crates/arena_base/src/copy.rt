@@ -1,10 +1,10 @@
 // An arena made a copy of another, with other values.
 ghost use Rattle.std.specs.Prelude.{◌≡◌, ◌≤◌, ◌↔◌, ◌⊎◌, [], map, length, IsOk, OnOk, OnErr, Err};
 ghost use Rattle.arena_ptr.specs.SlotStack.{IsBeyond};
-ghost use Rattle.arena_base.specs.Arena.{HasRoom, IsWithinReach};
+ghost use Rattle.arena_base.specs.Arena.{HasCapacityFor, IsWithinReach};
 ghost use Rattle.arena_base.specs.Slots.{entry_of, without_values};
 ghost use Rattle.arena_base.specs.Entries.{entries, entries_from};
-ghost use Rattle.arena_base.specs.Copies.{CopiesBy, HasRefusable, HasSlotsOf, IsGivenUp};
+ghost use Rattle.arena_base.specs.Copies.{CopiesBy, HasRefusable, HasSlotsOf, IsAbandonedCopy};
 
 use crate::arena::Arena;
 use crate::excluded;
@@ -98,7 +98,7 @@ impl<P: PtrKey, T: Drop, S: SlotStack<Item = ArenaSlot<P, T>>> Arena<P, T, S> {
             ↔ IsBeyond self.old.maximum (length source.now.slots) }
         ensures unchanged { result.0 ≡ Err ReallocationError.BeyondMaxCapacity
             → (self.new ≡ self.old) × (result.1 ≡ values) }
-        ensures ok { OnOk result.0 (HasRoom P.Inx.greatest (length source.now.slots) self.new) }
+        ensures ok { OnOk result.0 (HasCapacityFor P.Inx.greatest (length source.now.slots) self.new) }
         ensures copied { OnOk result.0 (CopiesBy M.makes P.key values (entries source.now)
             (entries self.new) result.1) }
         ensures ready { OnOk result.0 (M.is_ready result.1) }
@@ -107,7 +107,7 @@ impl<P: PtrKey, T: Drop, S: SlotStack<Item = ArenaSlot<P, T>>> Arena<P, T, S> {
         ensures reached { IsWithinReach S.may_reach (length source.now.slots) self.old self.new }
         ensures err { OnErr result.0 (((self.new ≡ self.old) × (result.1 ≡ values))
             ⊎ (HasRefusable M.may_refuse P.key (entries source.now)
-            × IsGivenUp self.old self.new)) }
+            × IsAbandonedCopy self.old self.new)) }
     {
         match self.reallocate_min_capacity(source.slots.len()) {
             Ok(()) => {

@@ -3,7 +3,7 @@ ghost use Rattle.std.specs.Prelude.{◌≡◌, ◌≢◌, ◌≤◌, ◌<◌, No
 ghost use Rattle.std.specs.Option.{option_map, option_copied_mut};
 ghost use Rattle.std.specs.Borrow.{LendsSo, sem};
 ghost use Rattle.arena_base.specs.Arena.{slot_at};
-ghost use Rattle.arena_base.specs.DetachedSlots.{Held, seen_parts, placed, held_with_value};
+ghost use Rattle.arena_base.specs.DetachedSlots.{Held, borrowed_parts, with_placed_entry, held_with_value};
 
 use crate::excluded;
 use crate::slot::{ArenaSlot, position_of, put_at, regenerate_at, vacate_at};
@@ -38,7 +38,7 @@ impl<P: PtrKey, T: Drop, S: SlotStack<Item = ArenaSlot<P, T>>> HeldSlots<P, T, S
 
     // The entry at an index.
     pub(crate) fn look(&self, i: P::Inx) -> Option<(&P::Gen, &T)>
-        ensures { option_map seen_parts result ≡ slot_at self.now.slots (P.Inx.number i) }
+        ensures { option_map borrowed_parts result ≡ slot_at self.now.slots (P.Inx.number i) }
     {
         match self.slots.get(position_of::<P>(i)) {
             Some(ArenaSlot::Allocated(generation, t)) => Some((generation, t)),
@@ -51,7 +51,7 @@ impl<P: PtrKey, T: Drop, S: SlotStack<Item = ArenaSlot<P, T>>> HeldSlots<P, T, S
     pub(crate) fn place(&mut self, from: P::Inx, to: P::Inx, generation: P::Gen)
         requires from { P.Inx.number from ≤ length self.old.slots }
         requires to { P.Inx.number to ≤ length self.old.slots }
-        ensures { self.new ≡ placed self.old (P.Inx.number from) (P.Inx.number to) generation }
+        ensures { self.new ≡ with_placed_entry self.old (P.Inx.number from) (P.Inx.number to) generation }
     {
         let from = position_of::<P>(from);
         regenerate_at(&mut self.slots, from, generation);
@@ -64,7 +64,7 @@ impl<P: PtrKey, T: Drop, S: SlotStack<Item = ArenaSlot<P, T>>> HeldSlots<P, T, S
         requires entry { IsSome (slot_at self.old.slots (P.Inx.number from)) }
         requires free { P.Inx.number to ≢ P.Inx.number from
             → slot_at self.old.slots (P.Inx.number to) ≡ None }
-        ensures { self.new ≡ placed self.old (P.Inx.number from) (P.Inx.number to) generation }
+        ensures { self.new ≡ with_placed_entry self.old (P.Inx.number from) (P.Inx.number to) generation }
     {
         match vacate_at(&mut self.slots, position_of::<P>(from), None) {
             Some((_, t)) => put_at(&mut self.slots, position_of::<P>(to), generation, t),

@@ -8,10 +8,10 @@ use arena_ptr::PtrKey;
 /// Of any arena: where the same entries are seen, the same stands at each index (`same`). So after a removal, where the
 /// others are seen, nothing stands at the index that is gone (`gone`), and at each other one what stood there (`kept`).
 pub fn entries_tell_what_stands<P: PtrKey, T: Drop, A: ArenaTrait<P, T>>()
-    ensures same { (a b : A) (i : ℕ) → (A.seen b).entries ≡ (A.seen a).entries
+    ensures same { (a b : A) (i : ℕ) → (A.view b).entries ≡ (A.view a).entries
         → A.entry b i ≡ A.entry a i }
-    ensures gone { (a b : A) (i : ℕ) → (A.seen b).entries ≡ without i (A.seen a).entries
+    ensures gone { (a b : A) (i : ℕ) → (A.view b).entries ≡ without i (A.view a).entries
         → A.entry b i ≡ None }
-    ensures kept { (a b : A) (i j : ℕ) → (A.seen b).entries ≡ without i (A.seen a).entries → j ≢ i
+    ensures kept { (a b : A) (i j : ℕ) → (A.view b).entries ≡ without i (A.view a).entries → j ≢ i
         → A.entry b j ≡ A.entry a j }
 {}

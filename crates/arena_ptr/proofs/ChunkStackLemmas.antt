@@ -8,7 +8,7 @@ use Rattle.std.proofs.lemmas.Option.{slice_get_read, slice_get_past}
 use Rattle.std.specs.declared.vec.Vec.{Vec}
 use Rattle.std.specs.declared.alloc.Global.{Global}
 use Rattle.arena_ptr.specs.Blocks.{items_in, AreFilled, AreFilled-prop}
-use Rattle.arena_ptr.specs.BlockLaws.{filled_room, length-items_in, set_in}
+use Rattle.arena_ptr.specs.BlockLaws.{filled_capacity, length-items_in, set_in}
 use Rattle.arena_ptr.specs.ChunkStack.{with_item_in, with_item_at}
 use Rattle.arena_ptr.specs.declared.chunk_stack.ChunkStack.{ChunkStack}
 use Rattle.arena_ptr.proofs.BlockLemmas.{get_in, block_in, push_in, pop_in, more_in}
@@ -32,7 +32,7 @@ module _ {E : Type 0} (s : ChunkStack E) (i : ℕ) (e : E) where
 module _ {E : Type 0} (s : ChunkStack E) where
   -- a place of an item lies in a block
   pub within : (i : ℕ) → i < s.len → i / 64 < vec_len s.blocks
-  within i inside = let room = filled_room s.blocks.items s.len s.filled in omega (arith, inside, room, s.blocks.ok.0)
+  within i inside = let room = filled_capacity s.blocks.items s.len s.filled in omega (arith, inside, room, s.blocks.ok.0)
 
   -- no item lies beyond the last
   pub past : (i : ℕ) → s.len ≤ i → slice_get (items_in s.blocks.items) i ≡ None

@@ -39,9 +39,9 @@ module _ {E : Type 0} where
       length-append block.items (items_in blocks) ∙ (let rest = length-items_in blocks (n - 64) filled.1.1 in omega (arith, rest, filled.0))
 
   -- no more items than slots
-  pub filled_room : (blocks : List (Vec E Global)) (n : ℕ) → AreFilled blocks n → n ≤ 64 * length blocks
-  filled_room [] n filled = omega (arith, filled)
-  filled_room (block ∷ blocks) n filled = let rest = filled_room blocks (n - 64) filled.1.1 in omega (arith, rest)
+  pub filled_capacity : (blocks : List (Vec E Global)) (n : ℕ) → AreFilled blocks n → n ≤ 64 * length blocks
+  filled_capacity [] n filled = omega (arith, filled)
+  filled_capacity (block ∷ blocks) n filled = let rest = filled_capacity blocks (n - 64) filled.1.1 in omega (arith, rest)
 
   -- a block for another: as many slots, and the items by what became of those in it
   module _ (other : Vec E Global) (e : E) where
@@ -89,5 +89,5 @@ module _ {E : Type 0} where
             sym (set-append_right b.items (items_in blocks) 64 (64 * suc q + r) e (omega (arith, filled.0, many)) (omega arith) ∙ ap (λ (k : ℕ). b.items ++ slice_set (items_in blocks) k e) at)
 
   -- no more items than slots
-  pub blocks_have_room : (blocks : List (Vec E Global)) (n : ℕ) → AreFilled blocks n → length (items_in blocks) ≤ 64 * length blocks
-  blocks_have_room blocks n filled = let long = length-items_in blocks n filled in let room = filled_room blocks n filled in omega (arith, long, room)
+  pub blocks_have_capacity : (blocks : List (Vec E Global)) (n : ℕ) → AreFilled blocks n → length (items_in blocks) ≤ 64 * length blocks
+  blocks_have_capacity blocks n filled = let long = length-items_in blocks n filled in let room = filled_capacity blocks n filled in omega (arith, long, room)

@@ -6,7 +6,7 @@ use Rattle.std.specs.declared.alloc.Global.{Global}
 use Rattle.std.proofs.Common.{refl, sym, ap, ◌∙◌, subst, length-set, arith}
 use Rattle.std.proofs.lemmas.List.{set_past}
 use Rattle.arena_ptr.specs.Blocks.{items_in}
-use Rattle.arena_ptr.specs.BlockLaws.{set_in, length-items_in, filled_room, blocks_have_room}
+use Rattle.arena_ptr.specs.BlockLaws.{set_in, length-items_in, filled_capacity, blocks_have_capacity}
 use Rattle.arena_ptr.specs.declared.chunk_stack.ChunkStack.{ChunkStack}
 
 module _ {E : Type 0} where
@@ -32,7 +32,7 @@ module _ {E : Type 0} where
       at = omega arith
 
       by : (found : Option (Vec E Global)) (is : slice_get s.blocks.items (i / 64) ≡ found) → items_in (with_item_in s i e found is).blocks.items ≡ slice_set (items_in s.blocks.items) i e
-      by None is = sym (set_past (items_in s.blocks.items) i e (let long = length-items_in s.blocks.items s.len s.filled in let room = filled_room s.blocks.items s.len s.filled in let past = beyond s.blocks.items (i / 64) is in omega (arith, long, room, past)))
+      by None is = sym (set_past (items_in s.blocks.items) i e (let long = length-items_in s.blocks.items s.len s.filled in let room = filled_capacity s.blocks.items s.len s.filled in let past = beyond s.blocks.items (i / 64) is in omega (arith, long, room, past)))
         where
           beyond : (blocks : List (Vec E Global)) (q : ℕ) → slice_get blocks q ≡ None → length blocks ≤ q
           beyond [] q none = omega arith
@@ -51,5 +51,5 @@ module _ {E : Type 0} where
       by (Some block) is = length-set s.blocks.items (i / 64) (with_item block (i % 64) e)
 
   -- no more items than slots
-  pub has_room_in : (s : ChunkStack E) → length (items_in s.blocks.items) ≤ 64 * length s.blocks.items
-  has_room_in s = blocks_have_room s.blocks.items s.len s.filled
+  pub has_capacity_in : (s : ChunkStack E) → length (items_in s.blocks.items) ≤ 64 * length s.blocks.items
+  has_capacity_in s = blocks_have_capacity s.blocks.items s.len s.filled

@@ -187,7 +187,7 @@ impl<E: Drop> ChunkStack<E> {
 
 impl<E: Drop> SlotStack for ChunkStack<E> {
     ghost use Rattle.std.specs.Prelude.{None, refl};
-    ghost use Rattle.arena_ptr.specs.ChunkStack.{with_item_at, items_written_at, blocks_written_at, has_room_in};
+    ghost use Rattle.arena_ptr.specs.ChunkStack.{with_item_at, items_written_at, blocks_written_at, has_capacity_in};
 
     type Item = E;
 
@@ -203,7 +203,7 @@ impl<E: Drop> SlotStack for ChunkStack<E> {
 
     ghost with_item = { with_item_at };
 
-    ghost has_room = { has_room_in };
+    ghost has_room = { has_capacity_in };
 
     ghost room_fits = { λ s. s.fits };
 

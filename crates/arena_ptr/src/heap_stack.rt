@@ -14,7 +14,7 @@ pub struct HeapStack<E> {
 impl<E: Drop> SlotStack for HeapStack<E> {
     ghost use Rattle.std.specs.Prelude.{◌≡◌, ◌*◌, max, None, vec_capacity, refl};
     ghost use Rattle.std.specs.Vec.{with_item as vec_with_item};
-    ghost use Rattle.arena_ptr.specs.SlotVectors.{slots_have_room, slots_fit};
+    ghost use Rattle.arena_ptr.specs.SlotVectors.{slots_have_capacity, slots_fit};
 
     type Item = E;
 
@@ -30,7 +30,7 @@ impl<E: Drop> SlotStack for HeapStack<E> {
 
     ghost with_item = { λ s i e. record { slots = vec_with_item s.slots i e } };
 
-    ghost has_room = { λ s. slots_have_room s.slots };
+    ghost has_room = { λ s. slots_have_capacity s.slots };
 
     ghost room_fits = { λ s. slots_fit s.slots };
 

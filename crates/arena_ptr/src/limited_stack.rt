@@ -38,7 +38,7 @@ impl<E: Drop> SlotStack for LimitedStack<E> {
     ghost use Rattle.std.specs.Prelude.{◌*◌, max, None, refl};
     ghost use Rattle.arena_ptr.specs.LimitedStack.{with_item_at};
     ghost use Rattle.arena_ptr.specs.SlotStack.{capped};
-    ghost use Rattle.arena_ptr.specs.SlotVectors.{slots_have_room, slots_fit};
+    ghost use Rattle.arena_ptr.specs.SlotVectors.{slots_have_capacity, slots_fit};
 
     type Item = E;
 
@@ -54,7 +54,7 @@ impl<E: Drop> SlotStack for LimitedStack<E> {
 
     ghost with_item = { with_item_at };
 
-    ghost has_room = { λ s. slots_have_room s.slots };
+    ghost has_room = { λ s. slots_have_capacity s.slots };
 
     ghost room_fits = { λ s. slots_fit s.slots };
 

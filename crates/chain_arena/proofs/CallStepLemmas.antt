@@ -14,27 +14,27 @@ use Rattle.arena_ptr.specs.declared.packed_option.PackedOption.{PackedOption}
 use Rattle.arena_ptr.specs.declared.invalidation.InvalidationOption.{InvalidationOption}
 use Rattle.arena_ptr.specs.declared.invalidation.InvalidationResult.{InvalidationResult}
 use Rattle.arena_ptr.specs.declared.invalidation.InvalidationResult.TheVariants.{Success, GenerationOverflow, InvalidPtr}
-use Rattle.chain_laws.specs.Chains.{Shown, prev_of, next_of}
+use Rattle.chain_laws.specs.Chains.{LinkMap, prev_of, next_of}
 use Rattle.chain_laws.specs.Joins.{joined, AddsPair}
 use Rattle.chain_laws.specs.Joins.{Connects as ConnectsChains}
 use Rattle.chain_laws.specs.Insertions.{InsertKind, link_before, link_after, InsertsPairs, Inserts}
 use Rattle.chain_laws.specs.Walks.{IsWalk, TakesWalk}
 use Rattle.chain_laws.proofs.WalkLemmas.Drains.{walk_is_taken}
-use Rattle.arena_base.specs.Arena.{IsValid, IsRoom, HasRoom, entry_at, entry_count, next_index, with_capacity_of, renewed_at, overflows_after_clear}
+use Rattle.arena_base.specs.Arena.{IsValid, IsCapacityFor, HasCapacityFor, entry_at, entry_count, next_index, with_capacity_of, renewed_at, overflows_after_clear}
 use Rattle.arena_base.specs.Compressions.{overflows_after_compression}
-use Rattle.arena_base.specs.Entries.{count, renewed, HasRoomLeft, NeedsBeyondMaximum}
-use Rattle.chain_links.specs.ChainArena.{LinkSeen, on_value, shown, seen, entry, link_value, insert_as, link_at, relinked, CanConnect, CanExchange, IsJoin, IsCut, IsExchange, IsRemoval}
+use Rattle.arena_base.specs.Entries.{count, renewed, HasFreeCapacity, NeedsBeyondMaximum}
+use Rattle.chain_links.specs.ChainArena.{LinkView, on_value, link_map, value_view, entry, link_value, insert_as, link_at, relinked, CanConnect, CanExchange, IsJoin, IsCut, IsExchange, IsRemoval}
 use Rattle.chain_links.proofs.ArenaInsertionLemmas.{values-count}
 use Rattle.chain_arena.specs.Drains.{walk_left, without_each}
-use Rattle.chain_links.specs.Links.{seen_link}
-use Rattle.chain_arena.specs.Effects.{Links, stays, grown, IsDrained, IsAdded, Tells}
+use Rattle.chain_links.specs.Links.{link_view}
+use Rattle.chain_arena.specs.Effects.{Links, stays, grown, IsDrained, IsAdded, ReportsOverflow}
 use Rattle.chain_arena.specs.PointerKinds.{PointerKind}
-use Rattle.chain_arena.specs.Steps.{ConnectStep, BreakPrevStep, BreakNextStep, ExchangeStep, kind_named, IsAllowed, InsertStep, InsertWithinStep, IsTaken, IsRenewed, RemoveStep, RemoveInxStep, InvalidateStep, ReserveStep}
+use Rattle.chain_arena.specs.Steps.{ConnectStep, BreakPrevStep, BreakNextStep, ExchangeStep, indexed_kind_of, MayInsertKind, InsertStep, InsertWithinStep, IsTaken, IsRenewed, RemoveStep, RemoveInxStep, InvalidateStep, ReserveStep}
 use Rattle.chain_links.specs.declared.kinds.InsertKindBody.{InsertKindBody}
 use Rattle.chain_links.specs.declared.links.LinkBody.{LinkBody}
 use Rattle.chain_arena.proofs.DecidabilityLemmas.{Stable}
 use Rattle.chain_arena.proofs.NewLinkLemmas.{AnswersInsertion}
-use Rattle.chain_arena.proofs.ChainDrainLemmas.{shown-without_each, link_at-entry}
+use Rattle.chain_arena.proofs.ChainDrainLemmas.{link_map-without_each, link_at-entry}
 use Rattle.chain_links.proofs.MappedArenaLemmas.{entry_at-with_each}
 
 -- whether a call was done that is done where it can be
@@ -48,44 +48,44 @@ done_step P made not_made r b some done none is = subst P (sym is) (done_is P ma
 
 module _ {Gen T : Type 0} (old new : Links Gen T) where
   -- a join
-  pub joins : (p q : ℕ × Gen) (r : Option Unit) (b : Bool) → IsSome r ↔ CanConnect (entry old) (shown old) p q → OnSome r (new ≡ relinked old (joined (shown old) p.0 q.0))
-      → OnSome r (shown new ≡ joined (shown old) p.0 q.0) → OnSome r (AddsPair (shown old) (shown new) p.0 q.0) → OnSome r (ConnectsChains (shown old) (shown new) p.0 q.0) → IfNone r (new ≡ old) → b ≡ is_some r
+  pub joins : (p q : ℕ × Gen) (r : Option Unit) (b : Bool) → IsSome r ↔ CanConnect (entry old) (link_map old) p q → OnSome r (new ≡ relinked old (joined (link_map old) p.0 q.0))
+      → OnSome r (link_map new ≡ joined (link_map old) p.0 q.0) → OnSome r (AddsPair (link_map old) (link_map new) p.0 q.0) → OnSome r (ConnectsChains (link_map old) (link_map new) p.0 q.0) → IfNone r (new ≡ old) → b ≡ is_some r
       → ConnectStep old p q b new
   joins p q r b some state shows pair chains none is = done_step (λ b. ConnectStep old p q b new) (λ can made. (can, made)) (λ no same. (no, same)) r b some (all r state shows pair chains) none is
     where
-      all : (r : Option Unit) → OnSome r (new ≡ relinked old (joined (shown old) p.0 q.0)) → OnSome r (shown new ≡ joined (shown old) p.0 q.0) → OnSome r (AddsPair (shown old) (shown new) p.0 q.0)
-          → OnSome r (ConnectsChains (shown old) (shown new) p.0 q.0) → OnSome r (IsJoin old new p.0 q.0)
+      all : (r : Option Unit) → OnSome r (new ≡ relinked old (joined (link_map old) p.0 q.0)) → OnSome r (link_map new ≡ joined (link_map old) p.0 q.0) → OnSome r (AddsPair (link_map old) (link_map new) p.0 q.0)
+          → OnSome r (ConnectsChains (link_map old) (link_map new) p.0 q.0) → OnSome r (IsJoin old new p.0 q.0)
       all None state shows pair chains = tt
       all (Some u) state shows pair chains = record { state = state; shows = shows; pair = pair; chains = chains }
 
   -- a cut from the link before ..
-  pub breaks_prev : (p : ℕ × Gen) (r : Option Unit) (b : Bool) → IsSome r ↔ (IsValid (entry old) p × IsSome (prev_of (shown old) p.0)) → OnSome r (IfSome (prev_of (shown old) p.0) (λ a. IsCut old new a p.0))
+  pub breaks_prev : (p : ℕ × Gen) (r : Option Unit) (b : Bool) → IsSome r ↔ (IsValid (entry old) p × IsSome (prev_of (link_map old) p.0)) → OnSome r (IfSome (prev_of (link_map old) p.0) (λ a. IsCut old new a p.0))
       → IfNone r (new ≡ old) → b ≡ is_some r → BreakPrevStep old p b new
-  breaks_prev p r b some state none is = done_step (λ b. BreakPrevStep old p b new) (made (prev_of (shown old) p.0) refl) (not_made (prev_of (shown old) p.0) refl) r b some state none is
+  breaks_prev p r b some state none is = done_step (λ b. BreakPrevStep old p b new) (made (prev_of (link_map old) p.0) refl) (not_made (prev_of (link_map old) p.0) refl) r b some state none is
     where
-      made : (o : Option ℕ) → prev_of (shown old) p.0 ≡ o → IsValid (entry old) p × IsSome (prev_of (shown old) p.0) → IfSome (prev_of (shown old) p.0) (λ a. IsCut old new a p.0) → BreakPrevStep old p true new
+      made : (o : Option ℕ) → prev_of (link_map old) p.0 ≡ o → IsValid (entry old) p × IsSome (prev_of (link_map old) p.0) → IfSome (prev_of (link_map old) p.0) (λ a. IsCut old new a p.0) → BreakPrevStep old p true new
       made None at can done = absurd (false≢true (subst IsSome at can.1))
       made (Some a) at can done = (can.0, a, at, subst (λ o. IfSome o (λ a. IsCut old new a p.0)) at done)
 
-      not_made : (o : Option ℕ) → prev_of (shown old) p.0 ≡ o → (IsValid (entry old) p × IsSome (prev_of (shown old) p.0) → ⊥) → new ≡ old → BreakPrevStep old p false new
+      not_made : (o : Option ℕ) → prev_of (link_map old) p.0 ≡ o → (IsValid (entry old) p × IsSome (prev_of (link_map old) p.0) → ⊥) → new ≡ old → BreakPrevStep old p false new
       not_made None at cannot same = (λ valid. at, same)
       not_made (Some a) at cannot same = (λ valid. absurd (cannot (valid, ap (λ (o : Option ℕ). is_some o) at)), same)
 
   -- .. and from the one after
-  pub breaks_next : (p : ℕ × Gen) (r : Option Unit) (b : Bool) → IsSome r ↔ (IsValid (entry old) p × IsSome (next_of (shown old) p.0)) → OnSome r (IfSome (next_of (shown old) p.0) (λ c. IsCut old new p.0 c))
+  pub breaks_next : (p : ℕ × Gen) (r : Option Unit) (b : Bool) → IsSome r ↔ (IsValid (entry old) p × IsSome (next_of (link_map old) p.0)) → OnSome r (IfSome (next_of (link_map old) p.0) (λ c. IsCut old new p.0 c))
       → IfNone r (new ≡ old) → b ≡ is_some r → BreakNextStep old p b new
-  breaks_next p r b some state none is = done_step (λ b. BreakNextStep old p b new) (made (next_of (shown old) p.0) refl) (not_made (next_of (shown old) p.0) refl) r b some state none is
+  breaks_next p r b some state none is = done_step (λ b. BreakNextStep old p b new) (made (next_of (link_map old) p.0) refl) (not_made (next_of (link_map old) p.0) refl) r b some state none is
     where
-      made : (o : Option ℕ) → next_of (shown old) p.0 ≡ o → IsValid (entry old) p × IsSome (next_of (shown old) p.0) → IfSome (next_of (shown old) p.0) (λ c. IsCut old new p.0 c) → BreakNextStep old p true new
+      made : (o : Option ℕ) → next_of (link_map old) p.0 ≡ o → IsValid (entry old) p × IsSome (next_of (link_map old) p.0) → IfSome (next_of (link_map old) p.0) (λ c. IsCut old new p.0 c) → BreakNextStep old p true new
       made None at can done = absurd (false≢true (subst IsSome at can.1))
       made (Some c) at can done = (can.0, c, at, subst (λ o. IfSome o (λ c. IsCut old new p.0 c)) at done)
 
-      not_made : (o : Option ℕ) → next_of (shown old) p.0 ≡ o → (IsValid (entry old) p × IsSome (next_of (shown old) p.0) → ⊥) → new ≡ old → BreakNextStep old p false new
+      not_made : (o : Option ℕ) → next_of (link_map old) p.0 ≡ o → (IsValid (entry old) p × IsSome (next_of (link_map old) p.0) → ⊥) → new ≡ old → BreakNextStep old p false new
       not_made None at cannot same = (λ valid. at, same)
       not_made (Some c) at cannot same = (λ valid. absurd (cannot (valid, ap (λ (o : Option ℕ). is_some o) at)), same)
 
   -- an exchange
-  pub exchanges : (p q : ℕ × Gen) (r : Option Unit) (b : Bool) → IsSome r ↔ CanExchange (entry old) (shown old) p q → OnSome r (IsExchange old new p.0 q.0) → IfNone r (new ≡ old) → b ≡ is_some r → ExchangeStep old p q b new
+  pub exchanges : (p q : ℕ × Gen) (r : Option Unit) (b : Bool) → IsSome r ↔ CanExchange (entry old) (link_map old) p q → OnSome r (IsExchange old new p.0 q.0) → IfNone r (new ≡ old) → b ≡ is_some r → ExchangeStep old p q b new
   exchanges p q r b some state none is = done_step (λ b. ExchangeStep old p q b new) (λ can made. (can, made)) (λ no same. (no, same)) r b some state none is
 
 not_overflowed : {A : Type 0} (b : Bool) (x : A) → Success x ≡ invalidation_result b (Some x) → b ≡ false
@@ -98,14 +98,14 @@ overflowed false x told = absurd (let h = told in cc)
 
 -- an answer tells what was done where it was done, and else that nothing was
 pub tells : {X : Type 0} {Can Invalid : Type 0} (Done : X → Type 0) (overflow : Bool) (r : InvalidationResult X) → Can ⊎ (Can → ⊥) → r ≡ invalidation_result overflow (value_within r)
-    → (Can → IsSome (value_within r)) → (Can → (x : X) → value_within r ≡ Some x → Done x) → ((Can → ⊥) → (value_within r ≡ None) × Invalid) → Tells Invalid overflow Done r
+    → (Can → IsSome (value_within r)) → (Can → (x : X) → value_within r ≡ Some x → Done x) → ((Can → ⊥) → (value_within r ≡ None) × Invalid) → ReportsOverflow Invalid overflow Done r
 tells Done overflow (Success x) can told some done invalid = ⊎_elim (λ is. (not_overflowed overflow x told, done is x refl)) (λ no. absurd (let h = (invalid no).0 in cc)) can
 tells Done overflow (GenerationOverflow x) can told some done invalid = ⊎_elim (λ is. (overflowed overflow x told, done is x refl)) (λ no. absurd (let h = (invalid no).0 in cc)) can
 tells Done overflow InvalidPtr can told some done invalid = ⊎_elim (λ is. absurd (false≢true (some is))) (λ no. (invalid no).1) can
 
 module _ {Gen T : Type 0} where
   -- a drain that stood at a pointer's link, of which some links were taken and then the rest
-  pub drained_is : (following : Gen → Gen) (old held new : Links Gen T) (p : ℕ × Gen) (at take count : ℕ) → held ≡ old → at ≡ p.0 → IsValid (entry old) p → IsWalk (shown old) p.0 (walk_left old p.0)
+  pub drained_is : (following : Gen → Gen) (old held new : Links Gen T) (p : ℕ × Gen) (at take count : ℕ) → held ≡ old → at ≡ p.0 → IsValid (entry old) p → IsWalk (link_map old) p.0 (walk_left old p.0)
       → count ≡ min take (length (walk_left held at)) → new ≡ without_each following held (walk_left held at) → IsDrained following old p take count new
   drained_is following old held new p at take count same stood valid is_walk counted gone =
       let walk : List ℕ = walk_left old p.0 in
@@ -117,13 +117,13 @@ module _ {Gen T : Type 0} where
         is_walk = is_walk;
         counted = counted ∙ ap (λ (w : List ℕ). min take (length w)) walks;
         state = state;
-        chains = subst (λ (s : Shown). TakesWalk (shown old) s walk) (sym (ap (λ (x : Links Gen T). shown x) state ∙ shown-without_each following old walk)) (walk_is_taken (shown old) p.0 walk is_walk);
+        chains = subst (λ (s : LinkMap). TakesWalk (link_map old) s walk) (sym (ap (λ (x : Links Gen T). link_map x) state ∙ link_map-without_each following old walk)) (walk_is_taken (link_map old) p.0 walk is_walk);
       }
 
 module _ {P I Gen W T : Type 0} (pointers : PointerKind P I Gen W) where
   -- room that was asked for
   pub reserves : (n : ℕ) (old new : Links Gen T) (r : Result Unit ReallocationError) → (n ≤ old.capacity → IsOk r × (new ≡ old)) → (r ≡ Err refused.BeyondMaxCapacity) ↔ IsBeyond old.maximum n
-      → OnOk r (IsRoom pointers.greatest new.maximum n new.capacity) → OnErr r (new ≡ old) → new ≡ with_capacity_of old new → HasRoom pointers.greatest (length new.slots) new → ReserveStep pointers old n r new
+      → OnOk r (IsCapacityFor pointers.greatest new.maximum n new.capacity) → OnErr r (new ≡ old) → new ≡ with_capacity_of old new → HasCapacityFor pointers.greatest (length new.slots) new → ReserveStep pointers old n r new
   reserves n old new (Ok done) within beyond ok err state room =
       (state, ⊎_elim (λ less. grown less (ok, room.1, room.2)) (λ enough. stays enough (ap (λ (a : Links Gen T). a.capacity) (within enough).1) (ap (λ (a : Links Gen T). a.stack_capacity) (within enough).1)) (cases_lt old.capacity n))
   reserves n old new (Err refused.BeyondMaxCapacity) within beyond ok err state room = ((lacking, beyond.0 refl), err)
@@ -135,36 +135,36 @@ module _ {P I Gen W T : Type 0} (pointers : PointerKind P I Gen W) where
       lacking : old.capacity < n
       lacking = ⊎_elim (λ less. less) (λ enough. absurd (false≢true (within enough).0)) (cases_lt old.capacity n)
 
-module _ {P I Gen W T : Type 0} (pointers : PointerKind P I Gen W) (old new : Links Gen T) (kind : InsertKindBody P I) (t : T) (decides : Stable (IsAllowed pointers old kind))
-    (links : ℕ) (counted : links ≡ count (seen old)) (fits : links ≤ old.capacity) where
+module _ {P I Gen W T : Type 0} (pointers : PointerKind P I Gen W) (old new : Links Gen T) (kind : InsertKindBody P I) (t : T) (decides : Stable (MayInsertKind pointers old kind))
+    (links : ℕ) (counted : links ≡ count (value_view old)) (fits : links ≤ old.capacity) where
   abbrev by : InsertKind ℕ
-  by = kind_named pointers kind
+  by = indexed_kind_of pointers kind
 
   abbrev IsAnswer : Result P ChainInsertionError → Type 0
   IsAnswer = AnswersInsertion pointers.key pointers.number old kind t new
 
   -- a kind that is not refused for its links may be inserted
-  may : (r : Result P ChainInsertionError) → (r ≡ Err failed.FailedLinkRequirement) ↔ (IsAllowed pointers old kind → ⊥) → (r ≡ Err failed.FailedLinkRequirement → ⊥) → IsAllowed pointers old kind
+  may : (r : Result P ChainInsertionError) → (r ≡ Err failed.FailedLinkRequirement) ↔ (MayInsertKind pointers old kind → ⊥) → (r ≡ Err failed.FailedLinkRequirement → ⊥) → MayInsertKind pointers old kind
   may r link other = decides (λ no. other (link.1 no))
 
   added : (p : P) → IsAnswer (Ok p) → (pointers.key p).0 ≡ next_index old → new ≡ with_capacity_of (insert_as old by t) new → IsAdded pointers.key old by t p new
   added p inserted place state = record {
     pointer = ap₂ (λ (i : ℕ) (g : Gen). (i, g)) place inserted.generation;
     state = state;
-    pairs = subst (λ q. InsertsPairs (shown old) (shown new) q (link_before (shown old) by q) (link_after (shown old) by q)) place inserted.pairs;
-    chains = subst (λ q. Inserts (shown old) (shown new) q (link_before (shown old) by q) (link_after (shown old) by q)) place inserted.chains;
+    pairs = subst (λ q. InsertsPairs (link_map old) (link_map new) q (link_before (link_map old) by q) (link_after (link_map old) by q)) place inserted.pairs;
+    chains = subst (λ q. Inserts (link_map old) (link_map new) q (link_before (link_map old) by q) (link_after (link_map old) by q)) place inserted.chains;
   }
 
   -- in an arena that is not left room, one more is above the capacity
-  is_full : (more : Type 0) → (HasRoomLeft (seen old) → IsTrue false × more) → old.capacity < entry_count old + 1
-  is_full more room = let none : HasRoomLeft (seen old) → ⊥ = (λ left. false≢true (room left).0) in omega (arith, none, values-count old)
+  is_full : (more : Type 0) → (HasFreeCapacity (value_view old) → IsTrue false × more) → old.capacity < entry_count old + 1
+  is_full more room = let none : HasFreeCapacity (value_view old) → ⊥ = (λ left. false≢true (room left).0) in omega (arith, none, values-count old)
 
   -- an insertion that may grow
-  pub inserts_growing : (r : Result P ChainInsertionError) (more : Type 0) → IsAnswer r → OnErr r (new ≡ old) → (r ≡ Err failed.FailedLinkRequirement) ↔ (IsAllowed pointers old kind → ⊥)
-      → IfErr r (λ e. e ≢ failed.NotWithinCapacity) → (IsAllowed pointers old kind → HasRoomLeft (seen old) → IsOk r × more)
-      → (r ≡ Err failed.BeyondMaxCapacity) ↔ (IsAllowed pointers old kind × NeedsBeyondMaximum (seen old))
+  pub inserts_growing : (r : Result P ChainInsertionError) (more : Type 0) → IsAnswer r → OnErr r (new ≡ old) → (r ≡ Err failed.FailedLinkRequirement) ↔ (MayInsertKind pointers old kind → ⊥)
+      → IfErr r (λ e. e ≢ failed.NotWithinCapacity) → (MayInsertKind pointers old kind → HasFreeCapacity (value_view old) → IsOk r × more)
+      → (r ≡ Err failed.BeyondMaxCapacity) ↔ (MayInsertKind pointers old kind × NeedsBeyondMaximum (value_view old))
       → IfOk r (λ p. (pointers.key p).0 ≡ next_index old) → OnOk r (new ≡ with_capacity_of (insert_as old by t) new)
-      → (IsAllowed pointers old kind → entry_count old < old.capacity → new ≡ insert_as old by t) → OnOk r (HasRoom pointers.greatest (entry_count old + 1) new) → InsertStep pointers old kind t r new
+      → (MayInsertKind pointers old kind → entry_count old < old.capacity → new ≡ insert_as old by t) → OnOk r (HasCapacityFor pointers.greatest (entry_count old + 1) new) → InsertStep pointers old kind t r new
   inserts_growing (Ok p) more inserted same link error room beyond place state in_room has_room =
       let can = may (Ok p) link (λ failed. cc) in (
         can,
@@ -188,12 +188,12 @@ module _ {P I Gen W T : Type 0} (pointers : PointerKind P I Gen W) (old new : Li
       (past.0, (is_full more (room past.0), subst (λ n. IsBeyond old.maximum (n + 1)) (values-count old) past.1.1), same)
 
   -- .. and one within the capacity
-  pub inserts_within : (r : Result P ChainInsertionError) → IsAnswer r → OnErr r (new ≡ old) → (r ≡ Err failed.FailedLinkRequirement) ↔ (IsAllowed pointers old kind → ⊥)
-      → (r ≡ Err failed.NotWithinCapacity) ↔ (IsAllowed pointers old kind × (count (seen old) ≡ old.capacity)) → IfErr r (λ e. (e ≡ failed.FailedLinkRequirement) ⊎ (e ≡ failed.NotWithinCapacity))
+  pub inserts_within : (r : Result P ChainInsertionError) → IsAnswer r → OnErr r (new ≡ old) → (r ≡ Err failed.FailedLinkRequirement) ↔ (MayInsertKind pointers old kind → ⊥)
+      → (r ≡ Err failed.NotWithinCapacity) ↔ (MayInsertKind pointers old kind × (count (value_view old) ≡ old.capacity)) → IfErr r (λ e. (e ≡ failed.FailedLinkRequirement) ⊎ (e ≡ failed.NotWithinCapacity))
       → IfOk r (λ p. (pointers.key p).0 ≡ next_index old) → OnOk r (new ≡ insert_as old by t) → InsertWithinStep pointers old kind t r new
   inserts_within (Ok p) inserted same link full error place state =
       let can = may (Ok p) link (λ failed. cc) in
-      let room : count (seen old) ≡ old.capacity → ⊥ = (λ equal. let failed = full.1 (can, equal) in absurd (cc)) in (
+      let room : count (value_view old) ≡ old.capacity → ⊥ = (λ equal. let failed = full.1 (can, equal) in absurd (cc)) in (
         can,
         omega (arith, counted, fits, room, values-count old),
         added p inserted place (state ∙ sym (ap₂ (λ n m. record (insert_as old by t) { capacity = n; stack_capacity = m }) (ap (λ (a : Links Gen T). a.capacity) state) (ap (λ (a : Links Gen T). a.stack_capacity) state))),
@@ -210,38 +210,38 @@ module _ {P I Gen W T : Type 0} (pointers : PointerKind P I Gen W) (old new : Li
   some_link : (i : ℕ) (e : Gen × T) → entry old i ≡ Some e → is_some (entry_at old i) ≡ true
   some_link i e stands = by (entry_at old i) (sym (entry_at-with_each link_value old i) ∙ stands)
     where
-      by : (o : Option (Gen × LinkSeen T)) → option_map (on_value link_value) o ≡ Some e → is_some o ≡ true
+      by : (o : Option (Gen × LinkView T)) → option_map (on_value link_value) o ≡ Some e → is_some o ≡ true
       by None is = absurd (none-some e is)
       by (Some f) is = refl
 
   -- a removal by pointer
   pub removes_link : (p : ℕ × Gen) (r : InvalidationResult (LinkBody (PackedOption I W) T)) → IsValid (entry old) p ⊎ (IsValid (entry old) p → ⊥)
-      → (IsValid (entry old) p → option_map (λ (link : LinkBody (PackedOption I W) T). (p.1, seen_link pointers.packed link)) (value_within r) ≡ link_at (entry old) (shown old) p.0)
+      → (IsValid (entry old) p → option_map (λ (link : LinkBody (PackedOption I W) T). (p.1, link_view pointers.packed link)) (value_within r) ≡ link_at (entry old) (link_map old) p.0)
       → (IsValid (entry old) p → IsRemoval pointers.following old p.0 new) → r ≡ invalidation_result (pointers.wraps old.counter) (value_within r)
       → ((IsValid (entry old) p → ⊥) → (value_within r ≡ None) × (new ≡ old))
       → RemoveStep pointers old p r new
   removes_link p r decided told removal overflow invalid = tells (λ link. IsTaken pointers old p.0 p.1 link new) (pointers.wraps old.counter) r decided overflow
-      (λ valid. answers (value_within r) (ap (λ (o : Option (Gen × LinkSeen T)). is_some o) (sym (link_at-entry old p.0) ∙ sym (told valid))) (some_link p.0 (p.1, valid.value) valid.stands))
+      (λ valid. answers (value_within r) (ap (λ (o : Option (Gen × LinkView T)). is_some o) (sym (link_at-entry old p.0) ∙ sym (told valid))) (some_link p.0 (p.1, valid.value) valid.stands))
       (λ valid link is. record {
-        stood = sym (link_at-entry old p.0) ∙ (sym (told valid) ∙ ap (option_map (λ (l : LinkBody (PackedOption I W) T). (p.1, seen_link pointers.packed l))) is);
+        stood = sym (link_at-entry old p.0) ∙ (sym (told valid) ∙ ap (option_map (λ (l : LinkBody (PackedOption I W) T). (p.1, link_view pointers.packed l))) is);
         removal = removal valid;
       })
       (λ no. ((invalid no).0, (no, (invalid no).1)))
     where
-      answers : (o : Option (LinkBody (PackedOption I W) T)) → is_some (entry_at old p.0) ≡ is_some {T = Gen × LinkSeen T} (option_map (λ (l : LinkBody (PackedOption I W) T). (p.1, seen_link pointers.packed l)) o) → is_some (entry_at old p.0) ≡ true → IsSome o
+      answers : (o : Option (LinkBody (PackedOption I W) T)) → is_some (entry_at old p.0) ≡ is_some {T = Gen × LinkView T} (option_map (λ (l : LinkBody (PackedOption I W) T). (p.1, link_view pointers.packed l)) o) → is_some (entry_at old p.0) ≡ true → IsSome o
       answers None same stands = sym same ∙ stands
       answers (Some l) same stands = refl
 
   -- .. and by index
-  pub removes_inx : (i : ℕ) (r : InvalidationResult (Gen × LinkBody (PackedOption I W) T)) → option_map (on_value (seen_link pointers.packed)) (value_within r) ≡ link_at (entry old) (shown old) i
+  pub removes_inx : (i : ℕ) (r : InvalidationResult (Gen × LinkBody (PackedOption I W) T)) → option_map (on_value (link_view pointers.packed)) (value_within r) ≡ link_at (entry old) (link_map old) i
       → (IsSome (entry old i) → IsRemoval pointers.following old i new) → r ≡ invalidation_result (pointers.wraps old.counter) (value_within r) → (entry old i ≡ None → new ≡ old)
       → RemoveInxStep pointers old i r new
   removes_inx i r told removal overflow invalid = by (value_within r) refl
     where
-      stood : (o : Option (Gen × LinkBody (PackedOption I W) T)) → value_within r ≡ o → entry_at old i ≡ option_map (on_value (seen_link pointers.packed)) o
-      stood o is = sym (link_at-entry old i) ∙ (sym told ∙ ap (option_map (on_value (seen_link pointers.packed))) is)
+      stood : (o : Option (Gen × LinkBody (PackedOption I W) T)) → value_within r ≡ o → entry_at old i ≡ option_map (on_value (link_view pointers.packed)) o
+      stood o is = sym (link_at-entry old i) ∙ (sym told ∙ ap (option_map (on_value (link_view pointers.packed))) is)
 
-      held : (o : Option (Gen × LinkBody (PackedOption I W) T)) → value_within r ≡ o → entry old i ≡ option_map (on_value link_value) (option_map (on_value (seen_link pointers.packed)) o)
+      held : (o : Option (Gen × LinkBody (PackedOption I W) T)) → value_within r ≡ o → entry old i ≡ option_map (on_value link_value) (option_map (on_value (link_view pointers.packed)) o)
       held o is = entry_at-with_each link_value old i ∙ ap (option_map (on_value link_value)) (stood o is)
 
       by : (o : Option (Gen × LinkBody (PackedOption I W) T)) → value_within r ≡ o → RemoveInxStep pointers old i r new
@@ -251,20 +251,20 @@ module _ {P I Gen W T : Type 0} (pointers : PointerKind P I Gen W) (old new : Li
 
   -- the next generation for a link
   pub renews_link : (p : ℕ × Gen) (r : InvalidationResult P) → IsValid (entry old) p ⊎ (IsValid (entry old) p → ⊥)
-      → (IsValid (entry old) p → IfSome (value_within r) (λ q. ((pointers.key q).0 ≡ p.0) × (seen new ≡ renewed (seen old) (pointers.key q))) × IsSome (value_within r))
+      → (IsValid (entry old) p → IfSome (value_within r) (λ q. ((pointers.key q).0 ≡ p.0) × (value_view new ≡ renewed (value_view old) (pointers.key q))) × IsSome (value_within r))
       → (r ≡ invalidation_result (pointers.wraps old.counter) (value_within r)) × IfSome (value_within r) (λ q. (pointers.key q).1 ≡ pointers.following old.counter)
-      → ((IsValid (entry old) p → ⊥) → (value_within r ≡ None) × (new ≡ old)) → (IsValid (entry old) p → (new ≡ renewed_at pointers.following old p.0) × (shown new ≡ shown old))
+      → ((IsValid (entry old) p → ⊥) → (value_within r ≡ None) × (new ≡ old)) → (IsValid (entry old) p → (new ≡ renewed_at pointers.following old p.0) × (link_map new ≡ link_map old))
       → InvalidateStep pointers old p r new
   renews_link p r decided valid counter invalid state = tells (λ q. IsRenewed pointers old p q new) (pointers.wraps old.counter) r decided counter.0 (λ is. (valid is).1)
-      (λ is q at. (is, ap₂ (λ (i : ℕ) (g : Gen). (i, g)) (subst (λ o. IfSome o (λ q. ((pointers.key q).0 ≡ p.0) × (seen new ≡ renewed (seen old) (pointers.key q)))) at (valid is).0).0 (subst (λ o. IfSome o (λ q. (pointers.key q).1 ≡ pointers.following old.counter)) at counter.1), (state is).0, (state is).1))
+      (λ is q at. (is, ap₂ (λ (i : ℕ) (g : Gen). (i, g)) (subst (λ o. IfSome o (λ q. ((pointers.key q).0 ≡ p.0) × (value_view new ≡ renewed (value_view old) (pointers.key q)))) at (valid is).0).0 (subst (λ o. IfSome o (λ q. (pointers.key q).1 ≡ pointers.following old.counter)) at counter.1), (state is).0, (state is).1))
       (λ no. ((invalid no).0, (no, (invalid no).1)))
 
 -- the links counted and seen are as many, where a clear ..
-pub clears_all : {Gen T : Type 0} (wraps : Gen → Bool) (old : Links Gen T) (r : InvalidationOption Unit) → r ≡ invalidation_option (overflows_after_clear wraps (length (seen old).entries) old.counter) tt
+pub clears_all : {Gen T : Type 0} (wraps : Gen → Bool) (old : Links Gen T) (r : InvalidationOption Unit) → r ≡ invalidation_option (overflows_after_clear wraps (length (value_view old).entries) old.counter) tt
     → r ≡ invalidation_option (overflows_after_clear wraps (entry_count old) old.counter) tt
 clears_all wraps old r told = told ∙ ap (λ n. invalidation_option (overflows_after_clear wraps n old.counter) tt) (values-count old)
 
 -- .. or a compression tells of the counter
-pub compresses : {Gen T : Type 0} (wraps : Gen → Bool) (old : Links Gen T) (reset : Bool) (r : InvalidationOption Unit) → r ≡ invalidation_option (overflows_after_compression wraps reset (length (seen old).entries) old.counter) tt
+pub compresses : {Gen T : Type 0} (wraps : Gen → Bool) (old : Links Gen T) (reset : Bool) (r : InvalidationOption Unit) → r ≡ invalidation_option (overflows_after_compression wraps reset (length (value_view old).entries) old.counter) tt
     → r ≡ invalidation_option (overflows_after_compression wraps reset (entry_count old) old.counter) tt
 compresses wraps old reset r told = told ∙ ap (λ n. invalidation_option (overflows_after_compression wraps reset n old.counter) tt) (values-count old)

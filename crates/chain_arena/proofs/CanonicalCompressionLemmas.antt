@@ -4,7 +4,7 @@ use Rattle.std.specs.Option.{option_map}
 use Rattle.std.specs.List.{range_with_len}
 use Rattle.std.proofs.lemmas.List.{length-map}
 use mathlib.Core.Path.{fun_ext}
-use Rattle.chain_laws.specs.Chains.{Shown, Agrees, AreChains}
+use Rattle.chain_laws.specs.Chains.{LinkMap, IsWellLinked, AreChains}
 use Rattle.chain_laws.specs.Renamings.{IsRenaming}
 use Rattle.chain_laws.specs.Arrangements.{place_in, in_runs, IsArrangement, IsLeastIndexOrder}
 use Rattle.chain_laws.proofs.RenamingLemmas.Chains.{renaming_agrees}
@@ -12,13 +12,13 @@ use Rattle.chain_laws.proofs.ChainLemmas.NeighborPairs.{chains_from_pairs}
 use Rattle.chain_laws.proofs.RenamingLemmas.ChainRuns.{canonical_arranges, lays_chains_in_runs}
 use Rattle.chain_laws.proofs.RenamingLemmas.LeastIndexOrder.{least_index_order_is_canonical}
 use Rattle.arena_base.specs.Arena.{Arena, slot_at, with_counter}
-use Rattle.arena_base.specs.Entries.{entries_from, entries, found, seen_of}
+use Rattle.arena_base.specs.Entries.{entries_from, entries, found, view_of}
 use Rattle.arena_base.specs.EntryLaws.{found-entries}
 use Rattle.arena_base.specs.Compressions.{counter_after_compression, values_in}
 use Rattle.arena_base.specs.GatheredSlots.{fronted, gathered}
 use Rattle.arena_base.proofs.CompactedArenaLemmas.{length-slots, indexes-fronted, generations-fronted}
-use Rattle.chain_links.specs.ChainArena.{LinkSeen, on_value, link_value, interlinks_of, shown, seen, entry, values_of, ptr_at}
-use Rattle.chain_compaction.specs.Layouts.{ShowsMoves, ShowsAll, AreLaidOut}
+use Rattle.chain_links.specs.ChainArena.{LinkView, on_value, link_value, interlinks_of, link_map, value_view, entry, values_of, ptr_at}
+use Rattle.chain_compaction.specs.Layouts.{ReportsMoves, ReportsAll, AreArranged}
 use Rattle.chain_links.specs.CanonicalLayouts.{IsCanonicalLayout}
 use Rattle.chain_links.proofs.ArenaInsertionLemmas.{some_entry, values-count}
 use Rattle.chain_compaction.proofs.ArrangementLemmas.{count-standing}
@@ -28,29 +28,29 @@ values-fronted : {Gen T : Type 0} (g : Gen) (values : List T) (i : ℕ) → valu
 values-fronted g [] i = refl
 values-fronted {Gen} {T} g (t ∷ values) i = ap (λ (ts : List T). t ∷ ts) (values-fronted g values (suc i))
 
-module _ {F P T Gen : Type 0} (g : F → P → P → F → Type 0) (key : P → ℕ × Gen) (f last : F) (counter : Gen) (old mid new : Arena Gen (LinkSeen T)) (is_mid : mid ≡ with_counter old counter)
-    (laid : AreLaidOut g key f last mid new) where
-  same_shown : shown mid ≡ shown old
-  same_shown = ap (λ (a : Arena Gen (LinkSeen T)). shown a) is_mid
+module _ {F P T Gen : Type 0} (g : F → P → P → F → Type 0) (key : P → ℕ × Gen) (f last : F) (counter : Gen) (old mid new : Arena Gen (LinkView T)) (is_mid : mid ≡ with_counter old counter)
+    (laid : AreArranged g key f last mid new) where
+  same_shown : link_map mid ≡ link_map old
+  same_shown = ap (λ (a : Arena Gen (LinkView T)). link_map a) is_mid
 
-  links_ordered : IsLeastIndexOrder (shown old) laid.indexes
-  links_ordered = subst (λ (s : Shown). IsLeastIndexOrder s laid.indexes) same_shown laid.order
+  links_ordered : IsLeastIndexOrder (link_map old) laid.indexes
+  links_ordered = subst (λ (s : LinkMap). IsLeastIndexOrder s laid.indexes) same_shown laid.order
 
-  links_renamed : IsRenaming (place_in laid.indexes) (shown old) (shown new)
-  links_renamed = subst (λ (s : Shown). IsRenaming (place_in laid.indexes) s (shown new)) same_shown laid.renamed
+  links_renamed : IsRenaming (place_in laid.indexes) (link_map old) (link_map new)
+  links_renamed = subst (λ (s : LinkMap). IsRenaming (place_in laid.indexes) s (link_map new)) same_shown laid.renamed
 
   -- they agree as before
-  pub laid_agree : Agrees (shown old) → Agrees (shown new)
-  laid_agree agrees = renaming_agrees (place_in laid.indexes) (shown old) (shown new) links_renamed agrees
+  pub laid_agree : IsWellLinked (link_map old) → IsWellLinked (link_map new)
+  laid_agree agrees = renaming_agrees (place_in laid.indexes) (link_map old) (link_map new) links_renamed agrees
 
   -- their chains lie in runs
-  links_run : AreChains (shown new) (in_runs 1 links_ordered.chains)
+  links_run : AreChains (link_map new) (in_runs 1 links_ordered.chains)
   links_run =
-      (lays_chains_in_runs (shown old) (shown new) links_ordered.chains (chains_from_pairs (shown old) links_ordered.chains links_ordered.are.partition links_ordered.are.interlinks)
-      (subst (λ (is : List ℕ). IsRenaming (place_in is) (shown old) (shown new)) links_ordered.items links_renamed)).0
+      (lays_chains_in_runs (link_map old) (link_map new) links_ordered.chains (chains_from_pairs (link_map old) links_ordered.chains links_ordered.are.partition links_ordered.are.interlinks)
+      (subst (λ (is : List ℕ). IsRenaming (place_in is) (link_map old) (link_map new)) links_ordered.items links_renamed)).0
 
-  links_arranged : IsArrangement (shown old) laid.indexes
-  links_arranged = canonical_arranges (shown old) laid.indexes (least_index_order_is_canonical (shown old) laid.indexes links_ordered)
+  links_arranged : IsArrangement (link_map old) laid.indexes
+  links_arranged = canonical_arranges (link_map old) laid.indexes (least_index_order_is_canonical (link_map old) laid.indexes links_ordered)
 
   -- there is one index for each link, and one value
   indexes_counted : length (entries (values_of old)) ≡ length laid.indexes
@@ -72,13 +72,13 @@ module _ {F P T Gen : Type 0} (g : F → P → P → F → Type 0) (key : P → 
 
   -- what stands at each index is what is found there
   entry_found : entry mid ≡ (λ i. found i (entries (values_of old)))
-  entry_found = ap (λ (a : Arena Gen (LinkSeen T)). entry a) is_mid ∙ sym (fun_ext (λ i. found-entries (values_of old) i))
+  entry_found = ap (λ (a : Arena Gen (LinkView T)). entry a) is_mid ∙ sym (fun_ext (λ i. found-entries (values_of old) i))
 
   -- the arena is canonical
   pub laid_canonical : (first : Gen) (following : Gen → Gen) (reset : Bool) (count : ℕ) → counter ≡ counter_after_compression first following reset count old.counter → count ≡ length (entries (values_of old))
-      → IsCanonicalLayout first following reset (seen old) (shown old) (seen new) (shown new)
+      → IsCanonicalLayout first following reset (value_view old) (link_map old) (value_view new) (link_map new)
   laid_canonical first following reset count is_counter is_count =
-      subst (λ (a : Arena Gen T). IsCanonicalLayout first following reset (seen old) (shown old) (seen_of a) (shown new)) (sym is_after) (record {
+      subst (λ (a : Arena Gen T). IsCanonicalLayout first following reset (value_view old) (link_map old) (view_of a) (link_map new)) (sym is_after) (record {
         indexes = laid.indexes;
         order = links_ordered;
         renamed = links_renamed;
@@ -95,7 +95,7 @@ module _ {F P T Gen : Type 0} (g : F → P → P → F → Type 0) (key : P → 
           freed = refl;
           placed = ap (λ n. old.placed + n) values_counted;
           touches = laid.touches;
-          few = omega (arith, laid.few, indexes_counted, length-map old.slots (option_map (on_value link_value)), ap (λ (a : Arena Gen (LinkSeen T)). length a.slots) is_mid);
+          few = omega (arith, laid.few, indexes_counted, length-map old.slots (option_map (on_value link_value)), ap (λ (a : Arena Gen (LinkView T)). length a.slots) is_mid);
           touched = refl;
         };
         capacity = refl;
@@ -106,10 +106,10 @@ module _ {F P T Gen : Type 0} (g : F → P → P → F → Type 0) (key : P → 
   laid_stack_capacity = ap (λ (a : Arena Gen T). a.stack_capacity) is_after
 
   -- each link was seen
-  pub laid_shown : ShowsAll g key (seen old) (shown old) new.counter f last
+  pub laid_shown : ReportsAll g key (value_view old) (link_map old) new.counter f last
   laid_shown = record {
     indexes = laid.indexes;
     order = links_ordered;
-    shows = subst (λ (p : (ℕ → Option (Gen × T)) × Gen). ShowsMoves g key (ptr_at p.0) p.1 1 f laid.indexes last)
+    shows = subst (λ (p : (ℕ → Option (Gen × T)) × Gen). ReportsMoves g key (ptr_at p.0) p.1 1 f laid.indexes last)
         (λ i. (entry_found i, sym (ap (λ (a : Arena Gen T). a.counter) laid.arena) i)) laid.shows;
   }

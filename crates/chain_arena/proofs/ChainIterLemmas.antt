@@ -5,15 +5,15 @@ use Rattle.std.specs.List.{AllByRecursion}
 use Rattle.std.proofs.lemmas.List.{length-map}
 use Rattle.std.proofs.lemmas.List.Sums.{sum_by-cons}
 use Rattle.std.proofs.lemmas.List.Elements.{All-from_recursion}
-use Rattle.chain_laws.specs.Chains.{Agrees, HasLink, Has, HasNoRepetition, prev_of}
+use Rattle.chain_laws.specs.Chains.{IsWellLinked, HasLink, IsMember, AreDistinct, prev_of}
 use Rattle.chain_laws.specs.Walks.{IsWalk}
 use Rattle.chain_laws.proofs.WalkLemmas.WalkBack.{length_among}
 use Rattle.chain_laws.proofs.WalkLemmas.Members.{has_walk, walk_valid, walk_once}
 use Rattle.chain_laws.proofs.WalkLemmas.Walker.{walk_passed}
 use Rattle.arena_base.specs.Arena.{Arena, entry_at, entry_count}
-use Rattle.chain_links.specs.ChainArena.{LinkSeen, interlinks_of, shown, IsWalkOf}
+use Rattle.chain_links.specs.ChainArena.{LinkView, interlinks_of, link_map, IsWalkOf}
 use Rattle.chain_links.specs.Walkers.{links_at, links_ahead}
-use Rattle.chain_links.proofs.ArenaInsertionLemmas.{shown-within, some_entry}
+use Rattle.chain_links.proofs.ArenaInsertionLemmas.{link_map-within, some_entry}
 
 -- the indexes of the entries, counted from k
 abbrev taken : {X : Type 0} → ℕ → List (Option X) → List ℕ
@@ -26,62 +26,62 @@ length-taken k [] = refl
 length-taken {X} k (None ∷ slots) = let rest = length-taken (suc k) slots in let step = sum_by-cons (λ (o : Option X). cond (is_some o) 1 0) None slots in omega (arith, rest, step)
 length-taken {X} k (Some e ∷ slots) = let rest = length-taken (suc k) slots in let step = sum_by-cons (λ (o : Option X). cond (is_some o) 1 0) (Some e) slots in omega (arith, rest, step)
 
-Has-taken : {X : Type 0} (k x j : ℕ) (slots : List (Option X)) (e : X) → x ≡ k + j → slice_index_or slots j None ≡ Some e → Has (taken k slots) x
-Has-taken k x j [] e at stands = absurd (let h = stands in cc)
-Has-taken k x zero (None ∷ slots) e at stands = absurd (let h = stands in cc)
-Has-taken k x zero (Some f ∷ slots) e at stands = inl (omega (arith, at))
-Has-taken k x (suc j) (None ∷ slots) e at stands = Has-taken (suc k) x j slots e (omega (arith, at)) stands
-Has-taken k x (suc j) (Some f ∷ slots) e at stands = inr (Has-taken (suc k) x j slots e (omega (arith, at)) stands)
+IsMember-taken : {X : Type 0} (k x j : ℕ) (slots : List (Option X)) (e : X) → x ≡ k + j → slice_index_or slots j None ≡ Some e → IsMember (taken k slots) x
+IsMember-taken k x j [] e at stands = absurd (let h = stands in cc)
+IsMember-taken k x zero (None ∷ slots) e at stands = absurd (let h = stands in cc)
+IsMember-taken k x zero (Some f ∷ slots) e at stands = inl (omega (arith, at))
+IsMember-taken k x (suc j) (None ∷ slots) e at stands = IsMember-taken (suc k) x j slots e (omega (arith, at)) stands
+IsMember-taken k x (suc j) (Some f ∷ slots) e at stands = inr (IsMember-taken (suc k) x j slots e (omega (arith, at)) stands)
 
 module _ {Gen T : Type 0} where
   -- different valid indexes are no more than the entries
-  pub length-le_entries : (a : Arena Gen (LinkSeen T)) (xs : List ℕ) → HasNoRepetition xs → ((x : ℕ) → Has xs x → HasLink (shown a) x) → length xs ≤ entry_count a
+  pub length-le_entries : (a : Arena Gen (LinkView T)) (xs : List ℕ) → AreDistinct xs → ((x : ℕ) → IsMember xs x → HasLink (link_map a) x) → length xs ≤ entry_count a
   length-le_entries a xs once valid = subst (λ n. length xs ≤ n) (length-taken 1 a.slots) (length_among xs (taken 1 a.slots) once (λ x has. place x (valid x has))) where
-    place : (x : ℕ) → HasLink (shown a) x → Has (taken 1 a.slots) x
+    place : (x : ℕ) → HasLink (link_map a) x → IsMember (taken 1 a.slots) x
     place zero valid_at = absurd (let h = valid_at.shows in cc)
-    place (suc j) valid_at = let entry = some_entry interlinks_of (slice_index_or a.slots j None) valid_at.link valid_at.shows in Has-taken 1 (suc j) j a.slots entry.0 (omega arith) entry.1
+    place (suc j) valid_at = let entry = some_entry interlinks_of (slice_index_or a.slots j None) valid_at.link valid_at.shows in IsMember-taken 1 (suc j) j a.slots entry.0 (omega arith) entry.1
 
-  links_at-entry : (a : Arena Gen (LinkSeen T)) (i : ℕ) (indexes : List ℕ) (e : Gen × LinkSeen T) → entry_at a i ≡ Some e → links_at a (i ∷ indexes) ≡ (i, e) ∷ links_at a indexes
-  links_at-entry a i indexes e stands = ap (λ (o : Option (Gen × LinkSeen T)). let links : List (ℕ × (Gen × LinkSeen T)) = elim o [ None ↦ [] | Some f ↦ (i, f) ∷ links_at a indexes ] in links) stands
+  links_at-entry : (a : Arena Gen (LinkView T)) (i : ℕ) (indexes : List ℕ) (e : Gen × LinkView T) → entry_at a i ≡ Some e → links_at a (i ∷ indexes) ≡ (i, e) ∷ links_at a indexes
+  links_at-entry a i indexes e stands = ap (λ (o : Option (Gen × LinkView T)). let links : List (ℕ × (Gen × LinkView T)) = elim o [ None ↦ [] | Some f ↦ (i, f) ∷ links_at a indexes ] in links) stands
 
   -- the links at valid indexes stand at them
-  index-links_at : (a : Arena Gen (LinkSeen T)) (indexes : List ℕ) → ((j : ℕ) → Has indexes j → HasLink (shown a) j) → map (λ (e : ℕ × (Gen × LinkSeen T)). e.0) (links_at a indexes) ≡ indexes
+  index-links_at : (a : Arena Gen (LinkView T)) (indexes : List ℕ) → ((j : ℕ) → IsMember indexes j → HasLink (link_map a) j) → map (λ (e : ℕ × (Gen × LinkView T)). e.0) (links_at a indexes) ≡ indexes
   index-links_at a [] valid = refl
   index-links_at a (i ∷ indexes) valid =
       let here = valid i (inl refl) in
       let entry = some_entry interlinks_of (entry_at a i) here.link here.shows in
-      ap (map (λ (e : ℕ × (Gen × LinkSeen T)). e.0)) (links_at-entry a i indexes entry.0 entry.1) ∙ ap (λ l. i ∷ l) (index-links_at a indexes (λ j has. valid j (inr has)))
+      ap (map (λ (e : ℕ × (Gen × LinkView T)). e.0)) (links_at-entry a i indexes entry.0 entry.1) ∙ ap (λ l. i ∷ l) (index-links_at a indexes (λ j has. valid j (inr has)))
 
-  abbrev StandsAs : Arena Gen (LinkSeen T) → ℕ × (Gen × LinkSeen T) → Type 0
+  abbrev StandsAs : Arena Gen (LinkView T) → ℕ × (Gen × LinkView T) → Type 0
   StandsAs a e = entry_at a e.0 ≡ Some e.1
 
-  links_at-stand : (a : Arena Gen (LinkSeen T)) (indexes : List ℕ) → AllByRecursion (StandsAs a) (links_at a indexes)
+  links_at-stand : (a : Arena Gen (LinkView T)) (indexes : List ℕ) → AllByRecursion (StandsAs a) (links_at a indexes)
   links_at-stand a [] = tt
   links_at-stand a (i ∷ indexes) = by (links_at-stand a indexes) (entry_at a i) refl where
-    by : AllByRecursion (StandsAs a) (links_at a indexes) → (o : Option (Gen × LinkSeen T)) → entry_at a i ≡ o
-        → AllByRecursion (StandsAs a) (let links : List (ℕ × (Gen × LinkSeen T)) = elim o [ None ↦ [] | Some e ↦ (i, e) ∷ links_at a indexes ] in links)
+    by : AllByRecursion (StandsAs a) (links_at a indexes) → (o : Option (Gen × LinkView T)) → entry_at a i ≡ o
+        → AllByRecursion (StandsAs a) (let links : List (ℕ × (Gen × LinkView T)) = elim o [ None ↦ [] | Some e ↦ (i, e) ∷ links_at a indexes ] in links)
     by rest None stands = tt
     by rest (Some e) stands = (stands, rest)
 
   -- a walker that stands before a valid link passes its walk
-  pub links_ahead-walk : (a : Arena Gen (LinkSeen T)) (i : ℕ) → Agrees (shown a) → HasLink (shown a) i → IsWalkOf a i (links_ahead a (entry_count a) i (Some i) (prev_of (shown a) i))
+  pub links_ahead-walk : (a : Arena Gen (LinkView T)) (i : ℕ) → IsWellLinked (link_map a) → HasLink (link_map a) i → IsWalkOf a i (links_ahead a (entry_count a) i (Some i) (prev_of (link_map a) i))
   links_ahead-walk a i agrees valid =
-      let walk = has_walk (shown a) (length a.slots) i agrees (shown-within a) valid in
-      let each = walk_valid (shown a) i walk.0 walk.1 in
-      let passed = walk_passed (entry_count a) (shown a) i walk.0 walk.1 (length-le_entries a walk.0 (walk_once (shown a) i walk.0 walk.1) each) in
+      let walk = has_walk (link_map a) (length a.slots) i agrees (link_map-within a) valid in
+      let each = walk_valid (link_map a) i walk.0 walk.1 in
+      let passed = walk_passed (entry_count a) (link_map a) i walk.0 walk.1 (length-le_entries a walk.0 (walk_once (link_map a) i walk.0 walk.1) each) in
       subst (λ (w : List ℕ). IsWalkOf a i (links_at a w)) (sym passed) (record {
-        walk = subst (IsWalk (shown a) i) (sym (index-links_at a walk.0 each)) walk.1;
+        walk = subst (IsWalk (link_map a) i) (sym (index-links_at a walk.0 each)) walk.1;
         stands = All-from_recursion (StandsAs a) (links_at a walk.0) (links_at-stand a walk.0);
       })
 
   -- a walk has no more links than the arena
-  pub length-walk : (a : Arena Gen (LinkSeen T)) (i : ℕ) (links : List (ℕ × (Gen × LinkSeen T))) → IsWalkOf a i links → length links ≤ entry_count a
-  length-walk a i links is = subst (λ n. n ≤ entry_count a) (length-map links (λ (e : ℕ × (Gen × LinkSeen T)). e.0))
-      (length-le_entries a (map (λ (e : ℕ × (Gen × LinkSeen T)). e.0) links) (walk_once (shown a) i _ is.walk) (walk_valid (shown a) i _ is.walk))
+  pub length-walk : (a : Arena Gen (LinkView T)) (i : ℕ) (links : List (ℕ × (Gen × LinkView T))) → IsWalkOf a i links → length links ≤ entry_count a
+  length-walk a i links is = subst (λ n. n ≤ entry_count a) (length-map links (λ (e : ℕ × (Gen × LinkView T)). e.0))
+      (length-le_entries a (map (λ (e : ℕ × (Gen × LinkView T)). e.0) links) (walk_once (link_map a) i _ is.walk) (walk_valid (link_map a) i _ is.walk))
 
   -- the same of a walker whose parts are known by equations
-  pub walker-walk : (a : Arena Gen (LinkSeen T)) (i left start : ℕ) (back : Option ℕ) (links : List (ℕ × (Gen × LinkSeen T))) → links ≡ links_ahead a left start (Some start) back
-      → left ≡ entry_count a → start ≡ i → back ≡ prev_of (shown a) i → Agrees (shown a) → HasLink (shown a) i → IsWalkOf a i links
+  pub walker-walk : (a : Arena Gen (LinkView T)) (i left start : ℕ) (back : Option ℕ) (links : List (ℕ × (Gen × LinkView T))) → links ≡ links_ahead a left start (Some start) back
+      → left ≡ entry_count a → start ≡ i → back ≡ prev_of (link_map a) i → IsWellLinked (link_map a) → HasLink (link_map a) i → IsWalkOf a i links
   walker-walk a i left start back links are same_left same_start same_back agrees valid =
       subst (IsWalkOf a i) (sym (are
       ∙ (ap (λ n. links_ahead a n start (Some start) back) same_left

@@ -3,10 +3,10 @@ use Rattle.std.proofs.Common.{◌≡◌, ◌↔◌, ◌⊎◌, inl, inr, ℕ, Bo
 use Rattle.std.specs.Prelude.{IsSome}
 use Rattle.std.proofs.lemmas.Bool.{cases_eq, false≢true}
 use Rattle.std.proofs.lemmas.Option.{none-some}
-use Rattle.chain_laws.specs.Chains.{Shown, Interlinks, HasLink, prev_of, next_of}
+use Rattle.chain_laws.specs.Chains.{LinkMap, Interlinks, HasLink, prev_of, next_of}
 use Rattle.chain_laws.specs.Insertions.{InsertKind, disconnected, single_link_cyclic, chain_end, chain_start, next_to, prev_to, at_interlink, bridge}
 use Rattle.arena_base.specs.Arena.{Arena}
-use Rattle.chain_links.specs.ChainArena.{LinkSeen, shown, entry, values_of}
+use Rattle.chain_links.specs.ChainArena.{LinkView, link_map, entry, values_of}
 use Rattle.chain_links.specs.Kinds.{LinkName, HasName, MayInsert}
 use Rattle.chain_arena.proofs.ValueLoanLemmas.{valid_or_not}
 
@@ -31,11 +31,11 @@ stable-some : (o : Option ℕ) (j : ℕ) → Stable (o ≡ Some j)
 stable-some None j given = absurd (given (λ is. none-some j is))
 stable-some (Some i) j given = ⊎_elim (λ same. ap Some same) (λ other. absurd (given (λ is. other (ap (index_or i) is)))) (cases_eq i j)
 
-stable-valid : (interlinks : Shown) (i : ℕ) (o : Option Interlinks) → interlinks i ≡ o → Stable (HasLink interlinks i)
+stable-valid : (interlinks : LinkMap) (i : ℕ) (o : Option Interlinks) → interlinks i ≡ o → Stable (HasLink interlinks i)
 stable-valid interlinks i None is given = absurd (given (λ valid. none-some _ (sym is ∙ valid.shows)))
 stable-valid interlinks i (Some l) is given = record { link = l; shows = is }
 
-module _ {Gen T : Type 0} (eq : Gen → Gen → Bool) (law : (g h : Gen) → (eq g h ≡ true) ↔ (g ≡ h)) (a : Arena Gen (LinkSeen T)) where
+module _ {Gen T : Type 0} (eq : Gen → Gen → Bool) (law : (g h : Gen) → (eq g h ≡ true) ↔ (g ≡ h)) (a : Arena Gen (LinkView T)) where
   -- a link has a name, or none does
   named_or_not : (name : LinkName Gen) → HasName (entry a) name ⊎ (HasName (entry a) name → ⊥)
   named_or_not (i, Some g) = valid_or_not eq law (values_of a) (i, g)
@@ -48,11 +48,11 @@ module _ {Gen T : Type 0} (eq : Gen → Gen → Bool) (law : (g h : Gen) → (eq
   stable-name : (name : LinkName Gen) → Stable (HasName (entry a) name)
   stable-name name given = ⊎_elim (λ has. has) (λ no. absurd (given no)) (named_or_not name)
 
-  stable-link : (i : ℕ) → Stable (HasLink (shown a) i)
-  stable-link i = stable-valid (shown a) i (shown a i) refl
+  stable-link : (i : ℕ) → Stable (HasLink (link_map a) i)
+  stable-link i = stable-valid (link_map a) i (link_map a i) refl
 
   -- a link may be inserted, if it is not so that it may not
-  pub stable-insertion : (kind : InsertKind (LinkName Gen)) → Stable (MayInsert (entry a) (shown a) kind)
+  pub stable-insertion : (kind : InsertKind (LinkName Gen)) → Stable (MayInsert (entry a) (link_map a) kind)
   stable-insertion disconnected given = (tt, tt)
   stable-insertion single_link_cyclic given = (tt, tt)
   stable-insertion (chain_end p) given = stable_pair (stable-name p) (stable_pair (stable-link p.0) (stable-none _)) given
@@ -61,10 +61,10 @@ module _ {Gen T : Type 0} (eq : Gen → Gen → Bool) (law : (g h : Gen) → (eq
   stable-insertion (prev_to p) given = stable_pair (stable-name p) (stable-link p.0) given
   stable-insertion (at_interlink p q) given =
       stable_pair (stable_pair (stable-name p) (stable-name q))
-      (stable_triple (stable-link p.0) (stable-link q.0) (stable-some (next_of (shown a) p.0) q.0)) given
+      (stable_triple (stable-link p.0) (stable-link q.0) (stable-some (next_of (link_map a) p.0) q.0)) given
   stable-insertion (bridge p q) given = stable_pair (stable_pair (stable-name p) (stable-name q)) (λ ends. record {
     valid_end = stable-link p.0 (λ no. ends (λ are. no are.valid_end));
     valid_start = stable-link q.0 (λ no. ends (λ are. no are.valid_start));
-    end = stable-none (next_of (shown a) p.0) (λ no. ends (λ are. no are.end));
-    start = stable-none (prev_of (shown a) q.0) (λ no. ends (λ are. no are.start));
+    end = stable-none (next_of (link_map a) p.0) (λ no. ends (λ are. no are.end));
+    start = stable-none (prev_of (link_map a) q.0) (λ no. ends (λ are. no are.start));
   }) given

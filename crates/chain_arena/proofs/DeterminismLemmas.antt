@@ -16,13 +16,13 @@ use Rattle.chain_laws.specs.Cuts.{cut}
 use Rattle.chain_laws.specs.Insertions.{InsertKind}
 use Rattle.chain_laws.proofs.WalkLemmas.Walker.{no_other_walk}
 use Rattle.arena_base.specs.Arena.{IsValid, entry_at, entry_count, with_capacity_of}
-use Rattle.chain_links.specs.ChainArena.{LinkSeen, on_value, shown, entry, link_value, insert_as, relinked}
+use Rattle.chain_links.specs.ChainArena.{LinkView, on_value, link_map, entry, link_value, insert_as, relinked}
 use Rattle.chain_arena.specs.Drains.{without_each}
-use Rattle.chain_links.specs.Links.{seen_link, seen_pair}
-use Rattle.chain_arena.specs.Effects.{Links, HasRoomFor, stays, grown, Refuses, Tells, IsAdded}
+use Rattle.chain_links.specs.Links.{link_view, pair_view}
+use Rattle.chain_arena.specs.Effects.{Links, GrowsToFit, stays, grown, Refuses, ReportsOverflow, IsAdded}
 use Rattle.chain_arena.specs.PointerKinds.{PointerKind}
-use Rattle.chain_arena.specs.Runs.{AreSameButTouched, AreSameButRoomAndTouched, HaveSameRoom, TellSame, ShowSame, refused_memory, room_asked, HasRoomAlready, RunInSameRoom, EndSame, RunIsDetermined, StepIsDetermined, RunIsDeterminedByRoom}
-use Rattle.chain_arena.specs.Steps.{ConnectStep, BreakPrevStep, BreakNextStep, ExchangeStep, kind_named, InsertStep, InsertWithinStep, IsTaken, IsRenewed, DrainChainStep, ReserveStep, Step, Run}
+use Rattle.chain_arena.specs.Runs.{AreSameButTouched, AreSameButCapacityAndTouched, HaveSameCapacity, AreSameResults, AreSameReplies, refused_memory, capacity_needed, HasCapacityAlready, RunWithSameCapacity, EndSame, RunIsDetermined, StepIsDetermined, RunIsDeterminedByCapacity}
+use Rattle.chain_arena.specs.Steps.{ConnectStep, BreakPrevStep, BreakNextStep, ExchangeStep, indexed_kind_of, InsertStep, InsertWithinStep, IsTaken, IsRenewed, DrainChainStep, ReserveStep, Step, Run}
 use Rattle.chain_arena.specs.declared.calls.Call.{Call}
 use Rattle.chain_arena.specs.declared.calls.Call.TheVariants as call
 use Rattle.chain_arena.specs.declared.calls.Reply.{Reply}
@@ -46,11 +46,11 @@ same_but_touched {Gen} {T} a b is = is ∙ ap (λ (n : ℕ). touch n b) (sym (ap
 
 module _ {Gen T : Type 0} where
   -- where there is room already it stays
-  room_stays : (greatest n : ℕ) (old new : Links Gen T) → n ≤ old.capacity → HasRoomFor greatest n old new → HaveSameRoom new old
+  room_stays : (greatest n : ℕ) (old new : Links Gen T) → n ≤ old.capacity → GrowsToFit greatest n old new → HaveSameCapacity new old
   room_stays greatest n old new enough (stays within capacity stack_capacity) = (capacity, stack_capacity)
   room_stays greatest n old new enough (grown less room) = absurd (omega (arith, enough, less))
 
-  room_kept : (old new : Links Gen T) → new ≡ old → HaveSameRoom new old
+  room_kept : (old new : Links Gen T) → new ≡ old → HaveSameCapacity new old
   room_kept old new is = (ap (λ (a : Links Gen T). a.capacity) is, ap (λ (a : Links Gen T). a.stack_capacity) is)
 
   connects_same : (old a b : Links Gen T) (p q : ℕ × Gen) (r s : Bool) → ConnectStep old p q r a → ConnectStep old p q s b → Same r s a b
@@ -72,7 +72,7 @@ module _ {Gen T : Type 0} where
   breaks_prev_same old a b p true true one two =
       let met : Some one.1 ≡ Some two.1 = sym one.2 ∙ two.2 in
       let beside : one.1 ≡ two.1 = cc in
-      (refl, one.3.state ∙ (ap (λ (i : ℕ). relinked old (cut (shown old) i p.0)) beside ∙ sym two.3.state))
+      (refl, one.3.state ∙ (ap (λ (i : ℕ). relinked old (cut (link_map old) i p.0)) beside ∙ sym two.3.state))
 
   breaks_next_same : (old a b : Links Gen T) (p : ℕ × Gen) (r s : Bool) → BreakNextStep old p r a → BreakNextStep old p s b → Same r s a b
   breaks_next_same old a b p false false one two = (refl, same one.1 two.1)
@@ -81,29 +81,29 @@ module _ {Gen T : Type 0} where
   breaks_next_same old a b p true true one two =
       let met : Some one.1 ≡ Some two.1 = sym one.2 ∙ two.2 in
       let beside : one.1 ≡ two.1 = cc in
-      (refl, one.3.state ∙ (ap (λ (i : ℕ). relinked old (cut (shown old) p.0 i)) beside ∙ sym two.3.state))
+      (refl, one.3.state ∙ (ap (λ (i : ℕ). relinked old (cut (link_map old) p.0 i)) beside ∙ sym two.3.state))
 
   -- what is the same is so but for room
-  same_but_room : (a b : Links Gen T) → AreSameButTouched a b → AreSameButRoomAndTouched a b
+  same_but_room : (a b : Links Gen T) → AreSameButTouched a b → AreSameButCapacityAndTouched a b
   same_but_room a b is =
       let capacity = sym (ap (λ (x : Links Gen T). x.capacity) is) in
       let stack_capacity = sym (ap (λ (x : Links Gen T). x.stack_capacity) is) in
       is ∙ ap₂ (λ (c d : ℕ). touch a.touched (record b { capacity = c; stack_capacity = d })) capacity stack_capacity
 
   -- .. and the other way round where the room is the same
-  same_with_room : (a b : Links Gen T) → HaveSameRoom a b → AreSameButRoomAndTouched a b → AreSameButTouched a b
+  same_with_room : (a b : Links Gen T) → HaveSameCapacity a b → AreSameButCapacityAndTouched a b → AreSameButTouched a b
   same_with_room a b room is = is ∙ ap₂ (λ (c d : ℕ). touch a.touched (record b { capacity = c; stack_capacity = d })) room.0 room.1
 
   -- two are the same but for room that come of one, but for room
-  both_but_room : (base a b : Links Gen T) → a ≡ with_capacity_of base a → b ≡ with_capacity_of base b → AreSameButRoomAndTouched a b
+  both_but_room : (base a b : Links Gen T) → a ≡ with_capacity_of base a → b ≡ with_capacity_of base b → AreSameButCapacityAndTouched a b
   both_but_room base a b is_a is_b = same_but_touched a (with_capacity_of b a) (is_a ∙ sym (ap (λ (x : Links Gen T). with_capacity_of x a) is_b))
 
   -- .. or are one
-  kept_both : (old a b : Links Gen T) → a ≡ old → b ≡ old → AreSameButRoomAndTouched a b
+  kept_both : (old a b : Links Gen T) → a ≡ old → b ≡ old → AreSameButCapacityAndTouched a b
   kept_both old a b is_a is_b = same_but_room a b (same_but_touched a b (same is_a is_b))
 
   -- room that was made is within the maximum
-  made_within : (greatest n : ℕ) (old base new : Links Gen T) → base.maximum ≡ old.maximum → new ≡ with_capacity_of base new → HasRoomFor greatest n old new
+  made_within : (greatest n : ℕ) (old base new : Links Gen T) → base.maximum ≡ old.maximum → new ≡ with_capacity_of base new → GrowsToFit greatest n old new
       → Refuses n old refused.BeyondMaxCapacity → ⊥
   made_within greatest n old base new maximum is (stays within capacity stack_capacity) past = omega (arith, within, past.0)
   made_within greatest n old base new maximum is (grown less room) past =
@@ -111,12 +111,12 @@ module _ {Gen T : Type 0} where
       not_beyond old.maximum n new.capacity room.0.fits (subst (λ (o : Option ℕ). IsWithinMaximum o new.capacity) most room.0.within_maximum) past.1
 
   -- .. and up to the greatest index
-  made_up_to : (greatest n : ℕ) (old new : Links Gen T) → HasRoomFor greatest n old new → Refuses n old refused.AllocError → n ≤ greatest
+  made_up_to : (greatest n : ℕ) (old new : Links Gen T) → GrowsToFit greatest n old new → Refuses n old refused.AllocError → n ≤ greatest
   made_up_to greatest n old new (stays within capacity stack_capacity) lacks = absurd (omega (arith, within, lacks.0))
   made_up_to greatest n old new (grown less roomy) lacks = omega (arith, roomy.0.fits, roomy.0.at_most_greatest)
 
   -- .. and more than there was
-  made_more : (greatest n : ℕ) (old new other : Links Gen T) → HasRoomFor greatest n old new → Refuses n old refused.AllocError → other ≡ old → HaveSameRoom new other → ⊥
+  made_more : (greatest n : ℕ) (old new other : Links Gen T) → GrowsToFit greatest n old new → Refuses n old refused.AllocError → other ≡ old → HaveSameCapacity new other → ⊥
   made_more greatest n old new other (stays within capacity stack_capacity) lacks is room = omega (arith, within, lacks.0)
   made_more greatest n old new other (grown less roomy) lacks is room =
       let kept = ap (λ (x : Links Gen T). x.capacity) is in
@@ -124,7 +124,7 @@ module _ {Gen T : Type 0} where
 
 -- what is told is told once
 tells_same : {X Y S : Type 0} {No : Type 0} (see : X → Y) (Done : X → S → Type 0) (overflow : Bool) (old a b : S) (r s : InvalidationResult X) → ((x : X) (c : S) → Done x c → No → ⊥)
-    → ((x y : X) → Done x a → Done y b → Same (see x) (see y) a b) → Tells (No × (a ≡ old)) overflow (λ x. Done x a) r → Tells (No × (b ≡ old)) overflow (λ x. Done x b) s → TellSame see r s × (a ≡ b)
+    → ((x y : X) → Done x a → Done y b → Same (see x) (see y) a b) → ReportsOverflow (No × (a ≡ old)) overflow (λ x. Done x a) r → ReportsOverflow (No × (b ≡ old)) overflow (λ x. Done x b) s → AreSameResults see r s × (a ≡ b)
 tells_same see Done overflow old a b (Success x) (Success y) apart once one two = once x y one.1 two.1
 tells_same see Done overflow old a b (GenerationOverflow x) (GenerationOverflow y) apart once one two = once x y one.1 two.1
 tells_same see Done overflow old a b InvalidPtr InvalidPtr apart once one two = (tt, same one.1 two.1)
@@ -136,7 +136,7 @@ tells_same see Done overflow old a b InvalidPtr (Success y) apart once one two =
 tells_same see Done overflow old a b InvalidPtr (GenerationOverflow y) apart once one two = absurd (apart y b two.1 one.0)
 
 -- what tells the same, where all of it is seen, is the same
-same_told : {X : Type 0} (r s : InvalidationResult X) → TellSame (λ x. x) r s → r ≡ s
+same_told : {X : Type 0} (r s : InvalidationResult X) → AreSameResults (λ x. x) r s → r ≡ s
 same_told (Success x) (Success y) is = ap Success is
 same_told (GenerationOverflow x) (GenerationOverflow y) is = ap GenerationOverflow is
 same_told InvalidPtr InvalidPtr is = refl
@@ -147,17 +147,17 @@ same_told (GenerationOverflow x) InvalidPtr is = absurd is
 same_told InvalidPtr (Success y) is = absurd is
 same_told InvalidPtr (GenerationOverflow y) is = absurd is
 
-tells_itself : {X Y : Type 0} (see : X → Y) (r : InvalidationResult X) → TellSame see r r
+tells_itself : {X Y : Type 0} (see : X → Y) (r : InvalidationResult X) → AreSameResults see r r
 tells_itself see (Success x) = refl
 tells_itself see (GenerationOverflow x) = refl
 tells_itself see InvalidPtr = tt
 
 -- the same replies show the same
-shows_itself : {P T I Gen W : Type 0} (packed : PackedOption I W → Option ℕ) (r : Reply P T I Gen W) → ShowSame packed r r
+shows_itself : {P T I Gen W : Type 0} (packed : PackedOption I W → Option ℕ) (r : Reply P T I Gen W) → AreSameReplies packed r r
 shows_itself packed (reply.Inserted answer) = refl
 shows_itself packed (reply.Done answer) = refl
-shows_itself packed (reply.Removed answer) = tells_itself (seen_link packed) answer
-shows_itself packed (reply.RemovedInx answer) = tells_itself (seen_pair packed) answer
+shows_itself packed (reply.Removed answer) = tells_itself (link_view packed) answer
+shows_itself packed (reply.RemovedInx answer) = tells_itself (pair_view packed) answer
 shows_itself packed (reply.Renewed answer) = refl
 shows_itself packed (reply.Drained answer) = refl
 shows_itself packed (reply.Counted answer) = refl
@@ -167,19 +167,19 @@ shows_itself packed reply.Set = refl
 module _ {P T I Gen W : Type 0} (pointers : PointerKind P I Gen W) (same_key : (p q : P) → pointers.key p ≡ pointers.key q → p ≡ q) where
   -- two replies show the same, and the arenas are the same but for how many slots were touched
   abbrev SameButTouched : Reply P T I Gen W → Reply P T I Gen W → Links Gen T → Links Gen T → Type 0
-  SameButTouched r s a b = ShowSame pointers.packed r s × AreSameButTouched a b
+  SameButTouched r s a b = AreSameReplies pointers.packed r s × AreSameButTouched a b
 
-  shows_same : (r s : Reply P T I Gen W) → r ≡ s → ShowSame pointers.packed r s
-  shows_same r s is = subst (ShowSame pointers.packed r) is (shows_itself pointers.packed r)
+  shows_same : (r s : Reply P T I Gen W) → r ≡ s → AreSameReplies pointers.packed r s
+  shows_same r s is = subst (AreSameReplies pointers.packed r) is (shows_itself pointers.packed r)
 
   -- an entry that stands has a generation and a link
-  same_entry : (old : Links Gen T) (n : ℕ) (g h : Gen) (k l : LinkBody (PackedOption I W) T) → entry_at old n ≡ Some (g, seen_link pointers.packed k) → entry_at old n ≡ Some (h, seen_link pointers.packed l) → seen_pair pointers.packed (g, k) ≡ seen_pair pointers.packed (h, l)
+  same_entry : (old : Links Gen T) (n : ℕ) (g h : Gen) (k l : LinkBody (PackedOption I W) T) → entry_at old n ≡ Some (g, link_view pointers.packed k) → entry_at old n ≡ Some (h, link_view pointers.packed l) → pair_view pointers.packed (g, k) ≡ pair_view pointers.packed (h, l)
   same_entry old n g h k l one two =
-      let both : Some (g, seen_link pointers.packed k) ≡ Some (h, seen_link pointers.packed l) = sym one ∙ two in
-      let pair : (g, seen_link pointers.packed k) ≡ (h, seen_link pointers.packed l) = cc in
+      let both : Some (g, link_view pointers.packed k) ≡ Some (h, link_view pointers.packed l) = sym one ∙ two in
+      let pair : (g, link_view pointers.packed k) ≡ (h, link_view pointers.packed l) = cc in
       pair
 
-  stands : (old : Links Gen T) (n : ℕ) (g : Gen) (k : LinkBody (PackedOption I W) T) → entry_at old n ≡ Some (g, seen_link pointers.packed k) → entry old n ≡ Some (g, k.t)
+  stands : (old : Links Gen T) (n : ℕ) (g : Gen) (k : LinkBody (PackedOption I W) T) → entry_at old n ≡ Some (g, link_view pointers.packed k) → entry old n ≡ Some (g, k.t)
   stands old n g k is = entry_at-with_each link_value old n ∙ ap (option_map (on_value link_value)) is
 
   same_pointer : (old a b : Links Gen T) (kind : InsertKind ℕ) (t : T) (p q : P) → IsAdded pointers.key old kind t p a → IsAdded pointers.key old kind t q b → p ≡ q
@@ -187,7 +187,7 @@ module _ {P T I Gen W : Type 0} (pointers : PointerKind P I Gen W) (same_key : (
 
   inserts_within_same : (old a b : Links Gen T) (kind : InsertKindBody P I) (t : T) (r s : Result P ChainInsertionError)
       → InsertWithinStep pointers old kind t r a → InsertWithinStep pointers old kind t s b → Same r s a b
-  inserts_within_same old a b kind t (Ok p) (Ok q) one two = (ap Ok (same_pointer old a b (kind_named pointers kind) t p q one.2 two.2), same one.3 two.3)
+  inserts_within_same old a b kind t (Ok p) (Ok q) one two = (ap Ok (same_pointer old a b (indexed_kind_of pointers kind) t p q one.2 two.2), same one.3 two.3)
   inserts_within_same old a b kind t (Ok p) (Err failed.FailedLinkRequirement) one two = absurd (two.0 one.0)
   inserts_within_same old a b kind t (Ok p) (Err failed.NotWithinCapacity) one two = absurd (omega (arith, one.1, two.1))
   inserts_within_same old a b kind t (Err failed.FailedLinkRequirement) (Ok q) one two = absurd (one.0 two.0)
@@ -207,7 +207,7 @@ module _ {P T I Gen W : Type 0} (pointers : PointerKind P I Gen W) (same_key : (
   drains_same old a b p take None (Some k) one two = absurd (one.0 two.valid)
   drains_same old a b p take (Some k) None one two = absurd (two.0 one.valid)
   drains_same old a b p take (Some k) (Some l) one two =
-      let walks = no_other_walk (shown old) p.0 one.walk two.walk one.is_walk two.is_walk in
+      let walks = no_other_walk (link_map old) p.0 one.walk two.walk one.is_walk two.is_walk in
       (ap Some (one.counted ∙ (ap (λ (w : List ℕ). min take (length w)) walks ∙ sym two.counted)), one.state ∙ (ap (without_each pointers.following old) walks ∙ sym two.state))
 
   -- two replies are the same whose answers are
@@ -217,23 +217,23 @@ module _ {P T I Gen W : Type 0} (pointers : PointerKind P I Gen W) (same_key : (
   -- two replies show the same and the arenas are the same but for room; or memory for n links, up to the pointers.greatest index, is
   -- refused to one of them alone, and so the room is not the same
   abbrev AlikeOrApart : ℕ → Reply P T I Gen W → Reply P T I Gen W → Links Gen T → Links Gen T → Type 0
-  AlikeOrApart n r s a b = (ShowSame pointers.packed r s × AreSameButRoomAndTouched a b) ⊎ ((n ≤ pointers.greatest) × (refused_memory r ≡ refused_memory s → ⊥) × (HaveSameRoom a b → ⊥))
+  AlikeOrApart n r s a b = (AreSameReplies pointers.packed r s × AreSameButCapacityAndTouched a b) ⊎ ((n ≤ pointers.greatest) × (refused_memory r ≡ refused_memory s → ⊥) × (HaveSameCapacity a b → ⊥))
 
   inserts_apart : (old a b : Links Gen T) (kind : InsertKindBody P I) (t : T) (r s : Result P ChainInsertionError)
       → InsertStep pointers old kind t r a → InsertStep pointers old kind t s b → AlikeOrApart (entry_count old + 1) (reply.Inserted r) (reply.Inserted s) a b
   inserts_apart old a b kind t (Ok p) (Ok q) one two = inl (
-    ap (λ (x : P). reply.Inserted (Ok x)) (same_pointer old a b (kind_named pointers kind) t p q one.1 two.1),
-    both_but_room (insert_as old (kind_named pointers kind) t) a b one.1.state two.1.state,
+    ap (λ (x : P). reply.Inserted (Ok x)) (same_pointer old a b (indexed_kind_of pointers kind) t p q one.1 two.1),
+    both_but_room (insert_as old (indexed_kind_of pointers kind) t) a b one.1.state two.1.state,
   )
   inserts_apart old a b kind t (Ok p) (Err failed.FailedLinkRequirement) one two = absurd (two.0 one.0)
-  inserts_apart old a b kind t (Ok p) (Err failed.BeyondMaxCapacity) one two = absurd (made_within pointers.greatest (entry_count old + 1) old (insert_as old (kind_named pointers kind) t) a refl one.1.state one.2 two.1)
+  inserts_apart old a b kind t (Ok p) (Err failed.BeyondMaxCapacity) one two = absurd (made_within pointers.greatest (entry_count old + 1) old (insert_as old (indexed_kind_of pointers kind) t) a refl one.1.state one.2 two.1)
   inserts_apart old a b kind t (Ok p) (Err failed.AllocError) one two =
       inr (made_up_to pointers.greatest (entry_count old + 1) old a one.2 two.1, (λ alike. false≢true alike), made_more pointers.greatest (entry_count old + 1) old a b one.2 two.1 two.2)
   inserts_apart old a b kind t (Err failed.FailedLinkRequirement) (Ok q) one two = absurd (one.0 two.0)
   inserts_apart old a b kind t (Err failed.FailedLinkRequirement) (Err failed.FailedLinkRequirement) one two = inl (refl, kept_both old a b one.1 two.1)
   inserts_apart old a b kind t (Err failed.FailedLinkRequirement) (Err failed.BeyondMaxCapacity) one two = absurd (one.0 two.0)
   inserts_apart old a b kind t (Err failed.FailedLinkRequirement) (Err failed.AllocError) one two = absurd (one.0 two.0)
-  inserts_apart old a b kind t (Err failed.BeyondMaxCapacity) (Ok q) one two = absurd (made_within pointers.greatest (entry_count old + 1) old (insert_as old (kind_named pointers kind) t) b refl two.1.state two.2 one.1)
+  inserts_apart old a b kind t (Err failed.BeyondMaxCapacity) (Ok q) one two = absurd (made_within pointers.greatest (entry_count old + 1) old (insert_as old (indexed_kind_of pointers kind) t) b refl two.1.state two.2 one.1)
   inserts_apart old a b kind t (Err failed.BeyondMaxCapacity) (Err failed.FailedLinkRequirement) one two = absurd (two.0 one.0)
   inserts_apart old a b kind t (Err failed.BeyondMaxCapacity) (Err failed.BeyondMaxCapacity) one two = inl (refl, kept_both old a b one.2 two.2)
   inserts_apart old a b kind t (Err failed.BeyondMaxCapacity) (Err failed.AllocError) one two = absurd (two.1.1 one.1.1)
@@ -260,22 +260,22 @@ module _ {P T I Gen W : Type 0} (pointers : PointerKind P I Gen W) (same_key : (
   answered_apart n told r s x y a b is_r is_s both = subst (λ q. AlikeOrApart n q s a b) (sym is_r) (subst (λ q. AlikeOrApart n (told x) q a b) (sym is_s) both)
 
   -- .. and where they have the same room, all is
-  in_one_room : (n : ℕ) (r s : Reply P T I Gen W) (a b : Links Gen T) → HaveSameRoom a b → AlikeOrApart n r s a b → SameButTouched r s a b
+  in_one_room : (n : ℕ) (r s : Reply P T I Gen W) (a b : Links Gen T) → HaveSameCapacity a b → AlikeOrApart n r s a b → SameButTouched r s a b
   in_one_room n r s a b room both = ⊎_elim (λ alike. (alike.0, same_with_room a b room alike.1)) (λ apart. absurd (apart.2 room)) both
 
   -- there was room already, and it is as it was
-  inserts_in_room : (old new : Links Gen T) (kind : InsertKindBody P I) (t : T) (r : Result P ChainInsertionError) → entry_count old < old.capacity → InsertStep pointers old kind t r new → HaveSameRoom new old
+  inserts_in_room : (old new : Links Gen T) (kind : InsertKindBody P I) (t : T) (r : Result P ChainInsertionError) → entry_count old < old.capacity → InsertStep pointers old kind t r new → HaveSameCapacity new old
   inserts_in_room old new kind t (Ok p) room step = room_stays pointers.greatest (entry_count old + 1) old new (omega (arith, room)) step.2
   inserts_in_room old new kind t (Err failed.FailedLinkRequirement) room step = room_kept old new step.1
   inserts_in_room old new kind t (Err failed.BeyondMaxCapacity) room step = room_kept old new step.2
   inserts_in_room old new kind t (Err failed.AllocError) room step = room_kept old new step.2
   inserts_in_room old new kind t (Err failed.NotWithinCapacity) room step = absurd step
 
-  reserves_in_room : (old new : Links Gen T) (n : ℕ) (r : Result Unit ReallocationError) → n ≤ old.capacity → ReserveStep pointers old n r new → HaveSameRoom new old
+  reserves_in_room : (old new : Links Gen T) (n : ℕ) (r : Result Unit ReallocationError) → n ≤ old.capacity → ReserveStep pointers old n r new → HaveSameCapacity new old
   reserves_in_room old new n (Ok done) room step = room_stays pointers.greatest n old new room step.1
   reserves_in_room old new n (Err why) room step = room_kept old new step.1
 
-  step_same : (old : Links Gen T) (c : Call P T I Gen W) (r s : Reply P T I Gen W) (a b : Links Gen T) → HasRoomAlready old c
+  step_same : (old : Links Gen T) (c : Call P T I Gen W) (r s : Reply P T I Gen W) (a b : Links Gen T) → HasCapacityAlready old c
       → Step pointers old c r a → Step pointers old c s b → SameButTouched r s a b
   step_same old (call.Insert kind t) r s a b room one two =
       let left = inserts_in_room old a kind t one.0 room one.2 in
@@ -287,15 +287,15 @@ module _ {P T I Gen W : Type 0} (pointers : PointerKind P I Gen W) (same_key : (
   step_same old (call.BreakNext p) r s a b room one two = answered_same reply.Done r s one.0 two.0 a b one.1 two.1 (breaks_next_same old a b (pointers.key p) one.0 two.0 one.2 two.2)
   step_same old (call.ExchangeNext p q) r s a b room one two = answered_same reply.Done r s one.0 two.0 a b one.1 two.1 (exchanges_same old a b (pointers.key p) (pointers.key q) one.0 two.0 one.2 two.2)
   step_same old (call.Remove p) r s a b room one two =
-      let both = tells_same (seen_link pointers.packed) (λ link c. IsTaken pointers old (pointers.key p).0 (pointers.key p).1 link c) (pointers.wraps old.counter) old a b one.0 two.0
+      let both = tells_same (link_view pointers.packed) (λ link c. IsTaken pointers old (pointers.key p).0 (pointers.key p).1 link c) (pointers.wraps old.counter) old a b one.0 two.0
       (λ link c taken cannot. cannot (record { value = link.t; stands = stands old (pointers.key p).0 (pointers.key p).1 link taken.stood }))
-      (λ k l first second. (ap (λ (e : Gen × LinkSeen T). e.1) (same_entry old (pointers.key p).0 (pointers.key p).1 (pointers.key p).1 k l first.stood second.stood), same first.removal.state second.removal.state)) one.2 two.2 in
-      (subst (λ x. ShowSame pointers.packed x s) (sym one.1) (subst (λ x. ShowSame pointers.packed (reply.Removed one.0) x) (sym two.1) both.0), same_but_touched a b both.1)
+      (λ k l first second. (ap (λ (e : Gen × LinkView T). e.1) (same_entry old (pointers.key p).0 (pointers.key p).1 (pointers.key p).1 k l first.stood second.stood), same first.removal.state second.removal.state)) one.2 two.2 in
+      (subst (λ x. AreSameReplies pointers.packed x s) (sym one.1) (subst (λ x. AreSameReplies pointers.packed (reply.Removed one.0) x) (sym two.1) both.0), same_but_touched a b both.1)
   step_same old (call.RemoveInx i) r s a b room one two =
-      let both = tells_same (seen_pair pointers.packed) (λ (e : Gen × LinkBody (PackedOption I W) T) c. IsTaken pointers old (pointers.number i) e.0 e.1 c) (pointers.wraps old.counter) old a b one.0 two.0
+      let both = tells_same (pair_view pointers.packed) (λ (e : Gen × LinkBody (PackedOption I W) T) c. IsTaken pointers old (pointers.number i) e.0 e.1 c) (pointers.wraps old.counter) old a b one.0 two.0
       (λ e c taken none. none-some _ (sym none ∙ stands old (pointers.number i) e.0 e.1 taken.stood))
       (λ k l first second. (same_entry old (pointers.number i) k.0 l.0 k.1 l.1 first.stood second.stood, same first.removal.state second.removal.state)) one.2 two.2 in
-      (subst (λ x. ShowSame pointers.packed x s) (sym one.1) (subst (λ x. ShowSame pointers.packed (reply.RemovedInx one.0) x) (sym two.1) both.0), same_but_touched a b both.1)
+      (subst (λ x. AreSameReplies pointers.packed x s) (sym one.1) (subst (λ x. AreSameReplies pointers.packed (reply.RemovedInx one.0) x) (sym two.1) both.0), same_but_touched a b both.1)
   step_same old (call.Invalidate p) r s a b room one two =
       let both = tells_same {No = IsValid (entry old) (pointers.key p) → ⊥} (λ (q : P). q) (λ (q : P) (c : Links Gen T). IsRenewed pointers old (pointers.key p) q c)
       (pointers.wraps old.counter) old a b one.0 two.0 (λ q c done cannot. cannot done.0) (λ q m first second. (same_key q m (same first.1 second.1), same first.2 second.2)) one.2 two.2 in
@@ -327,7 +327,7 @@ module _ {P T I Gen W : Type 0} (pointers : PointerKind P I Gen W) (same_key : (
 
   -- two steps are alike, or memory is refused to one alone
   step_apart : (old : Links Gen T) (c : Call P T I Gen W) (r s : Reply P T I Gen W) (a b : Links Gen T) → Step pointers old c r a
-      → Step pointers old c s b → AlikeOrApart (room_asked old c) r s a b
+      → Step pointers old c s b → AlikeOrApart (capacity_needed old c) r s a b
   step_apart old (call.Insert kind t) r s a b one two = answered_apart (entry_count old + 1) reply.Inserted r s one.0 two.0 a b one.1 two.1 (inserts_apart old a b kind t one.0 two.0 one.2 two.2)
   step_apart old (call.Reserve n) r s a b one two = answered_apart n reply.Reserved r s one.0 two.0 a b one.1 two.1 (reserves_apart old a b n one.0 two.0 one.2 two.2)
   step_apart old c r s a b one two = let both = step_same old c r s a b tt one two in inl (both.0, same_but_room a b both.1)
@@ -337,7 +337,7 @@ module _ {P T I Gen W : Type 0} (pointers : PointerKind P I Gen W) (same_key : (
 
   -- a run that begins with other touches, too
   run_beside : (old before : Links Gen T) (calls : List (Call P T I Gen W)) (replies others : List (Reply P T I Gen W)) (new other : Links Gen T) → AreSameButTouched old before
-      → RunInSameRoom pointers old before calls replies others new other → EndSame pointers replies others new other
+      → RunWithSameCapacity pointers old before calls replies others new other → EndSame pointers replies others new other
   run_beside old before [] [] [] new other is runs = (tt, runs.0 ∙ (is ∙ ap₂ (λ (n : ℕ) (x : Links Gen T). touch n x) (ap (λ (x : Links Gen T). x.touched) (sym runs.0)) (sym runs.1)))
   run_beside old before (c ∷ calls) (r ∷ replies) (s ∷ others) new other is runs =
       let touches = old.touched in
@@ -349,5 +349,5 @@ module _ {P T I Gen W : Type 0} (pointers : PointerKind P I Gen W) (same_key : (
       ((step.0, rest.0), rest.1)
   run_beside old before calls replies others new other is runs = absurd runs
 
-  pub run_in_room : RunIsDeterminedByRoom pointers T
+  pub run_in_room : RunIsDeterminedByCapacity pointers T
   run_in_room old calls replies others new other = run_beside old old calls replies others new other refl

@@ -5,7 +5,7 @@ use Rattle.std.proofs.lemmas.List.Elements.{All-cons, All-nil, All-weaker}
 use Rattle.arena_ptr.specs.Invalidation.{value_in}
 use Rattle.arena_ptr.specs.declared.invalidation.InvalidationOption.{InvalidationOption}
 use Rattle.arena_base.specs.Arena.{Arena, entry_at, slot_at, with_slot, IsValid}
-use Rattle.chain_links.specs.ChainArena.{LinkSeen, entry, values_of, remove_link, link_value as held_value, on_value}
+use Rattle.chain_links.specs.ChainArena.{LinkView, entry, values_of, remove_link, link_value as held_value, on_value}
 use Rattle.chain_links.specs.declared.links.LinkBody.{LinkBody}
 use Rattle.chain_links.proofs.MappedArenaLemmas.{entry_at-with_each}
 use Rattle.chain_linking.proofs.UnlinkLemmas.{values_of-remove_link}
@@ -28,13 +28,13 @@ slot_cleared slots (suc k) (suc m) x is = item_cleared slots k m x is
 
 module _ {P Gen K T : Type 0} (key : P → ℕ × Gen) (number : K → Option ℕ) (following : Gen → Gen) (wraps : Gen → Bool) where
   -- a pointer that is valid after a removal was valid before it
-  valid_before : (old new : Arena Gen (LinkSeen T)) (i : ℕ) (p : ℕ × Gen) → new ≡ remove_link following old i → IsValid (entry new) p → IsValid (entry old) p
+  valid_before : (old new : Arena Gen (LinkView T)) (i : ℕ) (p : ℕ × Gen) → new ≡ remove_link following old i → IsValid (entry new) p → IsValid (entry old) p
   valid_before old new i p gone valid =
-      let values = ap (λ (a : Arena Gen (LinkSeen T)). values_of a) gone ∙ values_of-remove_link following old i in
+      let values = ap (λ (a : Arena Gen (LinkView T)). values_of a) gone ∙ values_of-remove_link following old i in
       record { value = valid.value; stands = slot_cleared (values_of old).slots i p.0 (p.1, valid.value) (sym (ap (λ (a : Arena Gen T). entry_at a p.0) values) ∙ valid.stands) }
 
   -- the link of a step was valid
-  step_valid : (old new : Arena Gen (LinkSeen T)) (at next : ℕ) (gone : InvalidationOption (P × LinkBody K T)) → IsDrainStep key number following wraps old at gone new next
+  step_valid : (old new : Arena Gen (LinkView T)) (at next : ℕ) (gone : InvalidationOption (P × LinkBody K T)) → IsDrainStep key number following wraps old at gone new next
       → IsValid (entry old) (key (value_in gone).0)
   step_valid old new at next gone step =
       let p = key (value_in gone).0 in
@@ -45,7 +45,7 @@ module _ {P Gen K T : Type 0} (key : P → ℕ × Gen) (number : K → Option �
 
   pub drain_gives_the_walk : DrainGivesTheWalk T key number following wraps
   drain_gives_the_walk old new at next [] drained spent =
-      (sym spent ∙ ap (λ (x : Arena Gen (LinkSeen T) × ℕ). walk_left x.0 x.1) (let both : (new, next) ≡ (old, at) = cc in both), All-nil _)
+      (sym spent ∙ ap (λ (x : Arena Gen (LinkView T) × ℕ). walk_left x.0 x.1) (let both : (new, next) ≡ (old, at) = cc in both), All-nil _)
   drain_gives_the_walk old new at next (gone ∷ rest) drained spent =
       let mid = drained.0 in
       let step = drained.2 in

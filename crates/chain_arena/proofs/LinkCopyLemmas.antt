@@ -8,18 +8,18 @@ use Rattle.std.proofs.lemmas.List.{map-append}
 use Rattle.std.specs.Borrow.{Bor}
 use Rattle.std.specs.Fn.{Mut}
 use Rattle.arena_ptr.specs.declared.errors.ReallocationError.{ReallocationError}
-use Rattle.chain_laws.specs.Chains.{Interlinks, Agrees}
+use Rattle.chain_laws.specs.Chains.{Interlinks, IsWellLinked}
 use Rattle.arena_base.specs.Arena.{Arena, slot_at, new_arena}
-use Rattle.arena_base.specs.Entries.{Seen, Slots, entries_from, entries}
-use Rattle.arena_base.specs.Copies.{Copied, Makes, CopiesBy, IsCopyBy, IsCopyCall, HasRefusable, HasSlotsOf, IsGivenUp, generations}
+use Rattle.arena_base.specs.Entries.{ArenaView, Slots, entries_from, entries}
+use Rattle.arena_base.specs.Copies.{Copied, Makes, CopiesBy, IsCopyBy, IsCopyCall, HasRefusable, HasSlotsOf, IsAbandonedCopy, generations}
 use Rattle.chain_links.specs.declared.links.LinkBody.{LinkBody}
-use Rattle.chain_links.specs.ChainArena.{LinkSeen, on_value, interlinks_in, interlinks_of, shown, values_of}
-use Rattle.chain_links.specs.Links.{seen_link, seen_links, seen_pair, held_in}
+use Rattle.chain_links.specs.ChainArena.{LinkView, on_value, interlinks_in, interlinks_of, link_map, values_of}
+use Rattle.chain_links.specs.Links.{link_view, links_view, pair_view, held_in}
 use Rattle.chain_arena.specs.LinkCopies.{MakesLink, MakesOf, RefusesOf, IsLinkCopyBy, IsClone}
 use Rattle.arena_base.proofs.SlotCopyLemmas.{made_by, copy_by}
 use Rattle.arena_base.proofs.FoldLemmas.{folds_seen, folds_mapped}
 use Rattle.chain_links.proofs.MappedArenaLemmas.{slot_at-map, length-with_each}
-use Rattle.chain_compaction.proofs.ValueViewLemmas.{seen_entries-all, held_entries-all}
+use Rattle.chain_compaction.proofs.ValueViewLemmas.{entry_views-all, held_entries-all}
 
 -- a value that was made, where the value shown and the answer are looked at in some way
 abbrev made_as : {P U T W X : Type 0} → (U → W) → (T → X) → Copied P U T → Copied P W X
@@ -87,14 +87,14 @@ module _ {Gen X Y : Type 0} (f : X → Y) where
 
 module _ {P K U Gen : Type 0} (number : K → Option ℕ) (may_refuse : P → LinkBody K U → Type 0) (key : P → ℕ × Gen) (source : Arena Gen (LinkBody K U)) where
   -- a link that may be refused, as it is seen
-  pub refusable_seen : HasRefusable may_refuse key (entries source) → HasRefusable (RefusesOf (seen_link number) may_refuse) key (entries (seen_links number source))
+  pub refusable_seen : HasRefusable may_refuse key (entries source) → HasRefusable (RefusesOf (link_view number) may_refuse) key (entries (links_view number source))
   refusable_seen has = record {
     pointer = has.pointer;
-    value = seen_link number has.value;
-    before = map (on_value (seen_link number)) has.before;
-    after = map (on_value (seen_link number)) has.after;
-    stands = sym (seen_entries-all number source) ∙ (ap (map (on_value (seen_link number))) has.stands
-        ∙ map-append (on_value (seen_link number)) has.before ((key has.pointer, has.value) ∷ has.after));
+    value = link_view number has.value;
+    before = map (on_value (link_view number)) has.before;
+    after = map (on_value (link_view number)) has.after;
+    stands = sym (entry_views-all number source) ∙ (ap (map (on_value (link_view number))) has.stands
+        ∙ map-append (on_value (link_view number)) has.before ((key has.pointer, has.value) ∷ has.after));
     refusable = (has.value, refl, has.refusable);
   }
 
@@ -104,83 +104,83 @@ module _ (Gen T : Type 0) where
   nothing_at zero = refl
   nothing_at (suc k) = refl
 
-pub given_up_agrees : {Gen T : Type 0} (old new : Arena Gen (LinkSeen T)) → IsGivenUp old new → Agrees (shown new)
+pub given_up_agrees : {Gen T : Type 0} (old new : Arena Gen (LinkView T)) → IsAbandonedCopy old new → IsWellLinked (link_map new)
 given_up_agrees {Gen} {T} old new is =
-    subst (λ (a : Arena Gen (LinkSeen T)). Agrees (shown a)) (sym is)
-    (subst Agrees (λ j i. sym (nothing_at Gen T i) j) (record { both = λ i j. (λ never. cc, λ never. cc) }))
+    subst (λ (a : Arena Gen (LinkView T)). IsWellLinked (link_map a)) (sym is)
+    (subst IsWellLinked (λ j i. sym (nothing_at Gen T i) j) (record { both = λ i j. (λ never. cc, λ never. cc) }))
 
 module _ {Gen K U T : Type 0} (number : K → Option ℕ) where
   -- an arena of links that has become a copy, as it is seen
-  pub has_slots_seen : (source : Arena Gen (LinkBody K U)) (old new : Arena Gen (LinkBody K T)) → HasSlotsOf source old new → HasSlotsOf (seen_links number source) (seen_links number old) (seen_links number new)
+  pub has_slots_seen : (source : Arena Gen (LinkBody K U)) (old new : Arena Gen (LinkBody K T)) → HasSlotsOf source old new → HasSlotsOf (links_view number source) (links_view number old) (links_view number new)
   has_slots_seen source old new has = record {
-    state = ap (seen_links number) has.state;
-    generations = generations-map (seen_link number) new.slots ∙ (has.generations ∙ sym (generations-map (seen_link number) source.slots));
-    room = λ few. has.room (subst (λ n. n ≤ old.capacity) (length-with_each (seen_link number) source) few);
+    state = ap (links_view number) has.state;
+    generations = generations-map (link_view number) new.slots ∙ (has.generations ∙ sym (generations-map (link_view number) source.slots));
+    room = λ few. has.room (subst (λ n. n ≤ old.capacity) (length-with_each (link_view number) source) few);
   }
 
 abbrev interlinks_as : {K T : Type 0} → (K → Option ℕ) → LinkBody K T → Interlinks
-interlinks_as number link = interlinks_in (seen_link number link)
+interlinks_as number link = interlinks_in (link_view number link)
 
 module _ {Gen K T : Type 0} (number : K → Option ℕ) where
-  shown-slots : (a : Arena Gen (LinkBody K T)) (i : ℕ) → shown (seen_links number a) i ≡ option_map (λ e. e.1) (slot_at (map (option_map (on_value (interlinks_as number))) a.slots) i)
-  shown-slots a i =
-      ap (option_map interlinks_of) (slot_at-map (seen_pair number) a.slots i)
+  link_map-slots : (a : Arena Gen (LinkBody K T)) (i : ℕ) → link_map (links_view number a) i ≡ option_map (λ e. e.1) (slot_at (map (option_map (on_value (interlinks_as number))) a.slots) i)
+  link_map-slots a i =
+      ap (option_map interlinks_of) (slot_at-map (pair_view number) a.slots i)
       ∙ (both (slot_at a.slots i) ∙ ap (option_map (λ (e : Gen × Interlinks). e.1)) (sym (slot_at-map (on_value (interlinks_as number)) a.slots i)))
     where
-      both : (o : Option (Gen × LinkBody K T)) → option_map interlinks_of (option_map (seen_pair number) o) ≡ option_map (λ (e : Gen × Interlinks). e.1) (option_map (on_value (interlinks_as number)) o)
+      both : (o : Option (Gen × LinkBody K T)) → option_map interlinks_of (option_map (pair_view number) o) ≡ option_map (λ (e : Gen × Interlinks). e.1) (option_map (on_value (interlinks_as number)) o)
       both None = refl
       both (Some e) = refl
 
 -- The links of a copy were made of those of the source.
-module _ {V F P K U T Gen : Type 0} (number : K → Option ℕ) (makes : F → P → LinkSeen U → T → F → Type 0) (see : V → F) (key : P → ℕ × Gen) (f last : V) (source : Arena Gen (LinkBody K U)) (old new : Arena Gen (LinkBody K T))
+module _ {V F P K U T Gen : Type 0} (number : K → Option ℕ) (makes : F → P → LinkView U → T → F → Type 0) (see : V → F) (key : P → ℕ × Gen) (f last : V) (source : Arena Gen (LinkBody K U)) (old new : Arena Gen (LinkBody K T))
     (made : CopiesBy (λ v p u t w. MakesLink number makes (see v) p u t (see w)) key f (entries source) (entries new) last) (has : HasSlotsOf source old new) where
-  pub interlinks_copied : shown (seen_links number new) ≡ shown (seen_links number source)
-  interlinks_copied j i = (shown-slots number new i
+  pub interlinks_copied : link_map (links_view number new) ≡ link_map (links_view number source)
+  interlinks_copied j i = (link_map-slots number new i
       ∙ (ap (λ slots. option_map (λ (e : Gen × Interlinks). e.1) (slot_at slots i))
       (slots_alike (interlinks_as number) (interlinks_as number) 1 source.slots new.slots has.generations
       (copies_alike (λ v p u t w. MakesLink number makes (see v) p u t (see w)) (interlinks_as number) (interlinks_as number) (λ v p u t w m. m.interlinks) key f last (entries source) (entries new) made))
-      ∙ sym (shown-slots number source i))) j
+      ∙ sym (link_map-slots number source i))) j
 
-  pub values_copied : CopiesBy makes key (see f) (entries (seen_links number source)) (entries (values_of (seen_links number new))) (see last)
+  pub values_copied : CopiesBy makes key (see f) (entries (links_view number source)) (entries (values_of (links_view number new))) (see last)
   values_copied =
-      subst (λ es. CopiesBy makes key (see f) (entries (seen_links number source)) es (see last)) (held_entries-all number new)
-      (subst (λ es. CopiesBy makes key (see f) es (map (on_value held_in) (entries new)) (see last)) (seen_entries-all number source)
-      (copies_seen (λ v p u t w. MakesLink number makes (see v) p u t (see w)) makes see (seen_link number) held_in (λ v p u t w m. m.value) key f last (entries source) (entries new) made))
+      subst (λ es. CopiesBy makes key (see f) (entries (links_view number source)) es (see last)) (held_entries-all number new)
+      (subst (λ es. CopiesBy makes key (see f) es (map (on_value held_in) (entries new)) (see last)) (entry_views-all number source)
+      (copies_seen (λ v p u t w. MakesLink number makes (see v) p u t (see w)) makes see (link_view number) held_in (λ v p u t w m. m.value) key f last (entries source) (entries new) made))
 
-  pub link_copied : IsLinkCopyBy makes key (see f) (seen_links number source) (seen_links number old) (seen_links number new) (see last)
+  pub link_copied : IsLinkCopyBy makes key (see f) (links_view number source) (links_view number old) (links_view number new) (see last)
   link_copied = record {
     slots = has_slots_seen number source old new has;
     shows = interlinks_copied;
     values = values_copied;
   }
 
-  pub agrees_copied : Agrees (shown (seen_links number source)) → Agrees (shown (seen_links number new))
-  agrees_copied agrees = subst Agrees (sym interlinks_copied) agrees
+  pub agrees_copied : IsWellLinked (link_map (links_view number source)) → IsWellLinked (link_map (links_view number new))
+  agrees_copied agrees = subst IsWellLinked (sym interlinks_copied) agrees
 
 -- What is shown each link is shown it as contracts see it.
-module _ {F P K U T Gen : Type 0} (number : K → Option ℕ) (makes : F → P → LinkBody K U → T → F → Type 0) (key : P → ℕ × Gen) (f last : F) (source : Arena Gen (LinkBody K U)) (old new : Seen Gen T) where
+module _ {F P K U T Gen : Type 0} (number : K → Option ℕ) (makes : F → P → LinkBody K U → T → F → Type 0) (key : P → ℕ × Gen) (f last : F) (source : Arena Gen (LinkBody K U)) (old new : ArenaView Gen T) where
   as_it_is : (es : List ((ℕ × Gen) × T)) → map (on_value (λ t. t)) es ≡ es
   as_it_is [] = refl
   as_it_is (e ∷ es) = ap (λ rest. e ∷ rest) (as_it_is es)
 
-  pub copy_as_seen : IsCopyBy makes key f source old new last → IsCopyBy (MakesOf (seen_link number) makes) key f (seen_links number source) old new last
+  pub copy_as_seen : IsCopyBy makes key f source old new last → IsCopyBy (MakesOf (link_view number) makes) key f (links_view number source) old new last
   copy_as_seen copy = record {
-    entries = subst (λ es. CopiesBy (MakesOf (seen_link number) makes) key f (entries (seen_links number source)) es last) (as_it_is new.entries)
-        (subst (λ es. CopiesBy (MakesOf (seen_link number) makes) key f es (map (on_value (λ t. t)) new.entries) last) (seen_entries-all number source)
-        (copies_seen makes (MakesOf (seen_link number) makes) (λ h. h) (seen_link number) (λ t. t)
+    entries = subst (λ es. CopiesBy (MakesOf (link_view number) makes) key f (entries (links_view number source)) es last) (as_it_is new.entries)
+        (subst (λ es. CopiesBy (MakesOf (link_view number) makes) key f es (map (on_value (λ t. t)) new.entries) last) (entry_views-all number source)
+        (copies_seen makes (MakesOf (link_view number) makes) (λ h. h) (link_view number) (λ t. t)
         (λ v p u t w made. record { shown = u; looks = refl; made = made }) key f last (entries source) new.entries copy.entries));
     counter = copy.counter;
-    slots = copy.slots ∙ ap (λ n. option_map (λ (s : Slots). let t : Slots = record s { count = n; freed = source.freed } in t) old.slots) (sym (length-with_each (seen_link number) source));
+    slots = copy.slots ∙ ap (λ n. option_map (λ (s : Slots). let t : Slots = record s { count = n; freed = source.freed } in t) old.slots) (sym (length-with_each (link_view number) source));
     maximum = copy.maximum;
   }
 
 -- What a closure makes of what it sees, where the closure is a part of what makes the values.
-pub called_of : {V F P K U T : Type 0} (g : Mut F (P × (Bor (LinkBody K U) × Unit {0})) T) (see : V → F) (look : LinkBody K U → LinkSeen U) (v : V) (p : P) (u : LinkSeen U) (t : T) (w : V)
+pub called_of : {V F P K U T : Type 0} (g : Mut F (P × (Bor (LinkBody K U) × Unit {0})) T) (see : V → F) (look : LinkBody K U → LinkView U) (v : V) (p : P) (u : LinkView U) (t : T) (w : V)
     → MakesOf look (λ x p u t y. IsCopyCall g (see x) p u t (see y)) v p u t w → MakesOf look (IsCopyCall g) (see v) p u t (see w)
 called_of g see look v p u t w makes = record { shown = makes.shown; looks = makes.looks; made = makes.made }
 
 -- .. in the copy of an arena of links
-pub called_copies : {V F P K U T Gen : Type 0} (g : Mut F (P × (Bor (LinkBody K U) × Unit {0})) T) (see : V → F) (look : LinkBody K U → LinkSeen U) (key : P → ℕ × Gen) (f last : V) (source : Arena Gen (LinkSeen U)) (old new : Arena Gen (LinkSeen T))
+pub called_copies : {V F P K U T Gen : Type 0} (g : Mut F (P × (Bor (LinkBody K U) × Unit {0})) T) (see : V → F) (look : LinkBody K U → LinkView U) (key : P → ℕ × Gen) (f last : V) (source : Arena Gen (LinkView U)) (old new : Arena Gen (LinkView T))
     → IsLinkCopyBy (MakesOf look (λ x p u t y. IsCopyCall g (see x) p u t (see y))) key f source old new last → IsLinkCopyBy (MakesOf look (IsCopyCall g)) key (see f) source old new (see last)
 called_copies g see look key f last source old new copy = record {
   slots = copy.slots;
@@ -189,7 +189,7 @@ called_copies g see look key f last source old new copy = record {
 }
 
 -- .. and of any
-pub called_copy : {V F P K U T Gen : Type 0} (g : Mut F (P × (Bor (LinkBody K U) × Unit {0})) T) (see : V → F) (look : LinkBody K U → LinkSeen U) (key : P → ℕ × Gen) (f last : V) (source : Arena Gen (LinkSeen U)) (old new : Seen Gen T)
+pub called_copy : {V F P K U T Gen : Type 0} (g : Mut F (P × (Bor (LinkBody K U) × Unit {0})) T) (see : V → F) (look : LinkBody K U → LinkView U) (key : P → ℕ × Gen) (f last : V) (source : Arena Gen (LinkView U)) (old new : ArenaView Gen T)
     → IsCopyBy (MakesOf look (λ x p u t y. IsCopyCall g (see x) p u t (see y))) key f source old new last → IsCopyBy (MakesOf look (IsCopyCall g)) key (see f) source old new (see last)
 called_copy g see look key f last source old new copy =
     copy_by (MakesOf look (λ x p u t y. IsCopyCall g (see x) p u t (see y))) (MakesOf look (IsCopyCall g)) see (called_of g see look) key f last source old new copy
@@ -197,13 +197,13 @@ called_copy g see look key f last source old new copy =
 -- The links of a clone look like those of the source.
 module _ {F P K T Gen : Type 0} (number : K → Option ℕ) (is_clone : T → T → Type 0) (equal : (x y : T) → is_clone x y → y ≡ x) (key : P → ℕ × Gen) (f last : F) (source : Arena Gen (LinkBody K T)) (old new : Arena Gen (LinkBody K T))
     (made : CopiesBy (MakesLink number (λ (_ : F) (_ : P) u t (_ : F). is_clone u.value t)) key f (entries source) (entries new) last) (has : HasSlotsOf source old new) where
-  pub links_cloned : (seen_links number new).slots ≡ (seen_links number source).slots
-  links_cloned = slots_alike (seen_link number) (seen_link number) 1 source.slots new.slots has.generations
-      (copies_alike (MakesLink number (λ (_ : F) (_ : P) u t (_ : F). is_clone u.value t)) (seen_link number) (seen_link number)
+  pub links_cloned : (links_view number new).slots ≡ (links_view number source).slots
+  links_cloned = slots_alike (link_view number) (link_view number) 1 source.slots new.slots has.generations
+      (copies_alike (MakesLink number (λ (_ : F) (_ : P) u t (_ : F). is_clone u.value t)) (link_view number) (link_view number)
       (λ v p u t w m. λ i. record { prev = (ap (λ (l : Interlinks). l.prev) m.interlinks) i; next = (ap (λ (l : Interlinks). l.next) m.interlinks) i; value = equal u.t t.t m.value i })
       key f last (entries source) (entries new) made)
 
-  pub is_clone_of : (first : Gen) (maximum : Option ℕ) → old ≡ new_arena first maximum → IsClone first maximum (seen_links number source) (seen_links number new)
+  pub is_clone_of : (first : Gen) (maximum : Option ℕ) → old ≡ new_arena first maximum → IsClone first maximum (links_view number source) (links_view number new)
   is_clone_of first maximum begins = λ i. record {
     slots = links_cloned i;
     counter = (ap (λ (a : Arena Gen (LinkBody K T)). a.counter) has.state) i;
@@ -215,8 +215,8 @@ module _ {F P K T Gen : Type 0} (number : K → Option ℕ) (is_clone : T → T 
     touched = (ap (λ (a : Arena Gen (LinkBody K T)). a.touched) has.state ∙ ap (λ (a : Arena Gen (LinkBody K T)). a.touched) begins) i;
   }
 
-  pub clone_agrees : Agrees (shown (seen_links number source)) → Agrees (shown (seen_links number new))
-  clone_agrees agrees = subst (λ (slots : List (Option (Gen × LinkSeen T))). Agrees (λ i. option_map interlinks_of (slot_at slots i))) (sym links_cloned) agrees
+  pub clone_agrees : IsWellLinked (link_map (links_view number source)) → IsWellLinked (link_map (links_view number new))
+  clone_agrees agrees = subst (λ (slots : List (Option (Gen × LinkView T))). IsWellLinked (λ i. option_map interlinks_of (slot_at slots i))) (sym links_cloned) agrees
 
 none_before : {X Y : Type 0} (f : X → Y) (xs : List X) → map f xs ≡ [] → xs ≡ []
 none_before f [] none = refl
@@ -228,10 +228,10 @@ module _ {P K U Gen : Type 0} (number : K → Option ℕ) (may_refuse : P → Li
   none_among [] after x same = cc
   none_among (y ∷ before) after x same = cc
 
-  no_slots : (seen_links number source).slots ≡ [] → source.slots ≡ []
-  no_slots none = none_before (option_map (seen_pair number)) source.slots none
+  no_slots : (links_view number source).slots ≡ [] → source.slots ≡ []
+  no_slots none = none_before (option_map (pair_view number)) source.slots none
 
-  pub no_room_needed : {N : Type 0} (r : Result (Unit {0}) ReallocationError) (e : ReallocationError) (room : ℕ) → r ≡ Err e → (seen_links number source).slots ≡ []
+  pub no_room_needed : {N : Type 0} (r : Result (Unit {0}) ReallocationError) (e : ReallocationError) (room : ℕ) → r ≡ Err e → (links_view number source).slots ≡ []
       → (length source.slots ≤ room → (IsOk r ⊎ HasRefusable may_refuse key (entries source)) × N) → ⊥
   no_room_needed r e room is none within = by (within (let few = ap length (no_slots none) in omega (arith, few))).0 where
     by : (IsOk r ⊎ HasRefusable may_refuse key (entries source)) → ⊥

@@ -9,12 +9,12 @@ use Rattle.arena_ptr.specs.Invalidation.{value_in, is_overflow, value_within, is
 use Rattle.arena_ptr.specs.declared.invalidation.InvalidationOption.{InvalidationOption}
 use Rattle.arena_ptr.specs.declared.invalidation.InvalidationResult.{InvalidationResult}
 use Rattle.arena_base.specs.Arena.{Arena, IsValid, entry_at}
-use Rattle.arena_base.specs.Entries.{Seen, entries, index_of, found, without, first_key, RisesFrom}
+use Rattle.arena_base.specs.Entries.{ArenaView, entries, index_of, found, without, first_key, RisesFrom}
 use Rattle.arena_base.specs.Entries.{entry_removed}
 use Rattle.arena_base.specs.EntryLaws.{entries_rise, found-entries}
-use Rattle.arena_base.specs.Advancers.{from_index}
-use Rattle.chain_links.specs.ChainArena.{LinkSeen, values_of, seen, remove_link}
-use Rattle.chain_traits.proofs.GenericArenaLemmas.{from_index-rises}
+use Rattle.arena_base.specs.Advancers.{entries_at_or_above}
+use Rattle.chain_links.specs.ChainArena.{LinkView, values_of, value_view, remove_link}
+use Rattle.chain_traits.proofs.GenericArenaLemmas.{entries_at_or_above-rises}
 use Rattle.chain_arena.specs.Drains.{entries_left, without_each, IsLinkDrainStep}
 use Rattle.chain_arena.proofs.ChainDrainLemmas.{is_overflow_result-made}
 use Rattle.chain_linking.proofs.UnlinkLemmas.{seen-removed}
@@ -30,23 +30,23 @@ is_overflow-made false x = refl
 
 module _ {Gen T : Type 0} where
   -- no entry stands behind the greatest index
-  from_index-beyond : (greatest i : ℕ) (es : List ((ℕ × Gen) × T)) → greatest < i → All (λ e. IsWithin greatest (index_of e)) es → from_index i es ≡ []
-  from_index-beyond greatest i [] beyond within = refl
-  from_index-beyond greatest i (e ∷ es) beyond within =
+  entries_at_or_above-beyond : (greatest i : ℕ) (es : List ((ℕ × Gen) × T)) → greatest < i → All (λ e. IsWithin greatest (index_of e)) es → entries_at_or_above i es ≡ []
+  entries_at_or_above-beyond greatest i [] beyond within = refl
+  entries_at_or_above-beyond greatest i (e ∷ es) beyond within =
       let here : IsWithin greatest (index_of e) = All-head (λ (x : (ℕ × Gen) × T). IsWithin greatest (index_of x)) e es within in
-      ap (λ b. cond b (e ∷ es) (from_index i es)) (lt-leb i e.0.0 (omega (arith, beyond, here.1))) ∙ from_index-beyond greatest i es beyond (All-tail (λ (x : (ℕ × Gen) × T). IsWithin greatest (index_of x)) e es within)
+      ap (λ b. cond b (e ∷ es) (entries_at_or_above i es)) (lt-leb i e.0.0 (omega (arith, beyond, here.1))) ∙ entries_at_or_above-beyond greatest i es beyond (All-tail (λ (x : (ℕ × Gen) × T). IsWithin greatest (index_of x)) e es within)
 
   -- the first entry from an index on, and those that come after it, which are what is left there once it is gone
   record IsFirst (i : ℕ) (p : ℕ × Gen) (es : List ((ℕ × Gen) × T)) : Type 0 where
     value : T
     stands : found p.0 es ≡ Some (p.1, value)
-    left : from_index i es ≡ (p, value) ∷ from_index p.0 (without p.0 es)
-    behind : from_index p.0 (without p.0 es) ≡ from_index (suc p.0) (without p.0 es)
+    left : entries_at_or_above i es ≡ (p, value) ∷ entries_at_or_above p.0 (without p.0 es)
+    behind : entries_at_or_above p.0 (without p.0 es) ≡ entries_at_or_above (suc p.0) (without p.0 es)
     from : i ≤ p.0
 
-  first_here : (i : ℕ) (p : ℕ × Gen) (e : (ℕ × Gen) × T) (es : List ((ℕ × Gen) × T)) → RisesFrom e.0.0 (e ∷ es) → leb i e.0.0 ≡ true → Some p ≡ first_key (from_index i (e ∷ es)) → IsFirst i p (e ∷ es)
+  first_here : (i : ℕ) (p : ℕ × Gen) (e : (ℕ × Gen) × T) (es : List ((ℕ × Gen) × T)) → RisesFrom e.0.0 (e ∷ es) → leb i e.0.0 ≡ true → Some p ≡ first_key (entries_at_or_above i (e ∷ es)) → IsFirst i p (e ∷ es)
   first_here i p e es rises here first =
-      let is : from_index i (e ∷ es) ≡ e ∷ es = ap (λ b. cond b (e ∷ es) (from_index i es)) here in
+      let is : entries_at_or_above i (e ∷ es) ≡ e ∷ es = ap (λ b. cond b (e ∷ es) (entries_at_or_above i es)) here in
       let met : Some p ≡ Some e.0 = first ∙ ap first_key is in
       let key : p ≡ e.0 = cc in
       let index : e.0.0 ≡ p.0 = ap (λ (k : ℕ × Gen). k.0) (sym key) in
@@ -56,11 +56,11 @@ module _ {Gen T : Type 0} where
         value = e.1;
         stands = ap (λ b. cond b (Some (e.0.1, e.1)) (found p.0 es)) same ∙ ap (λ (k : ℕ × Gen). let o : Option (Gen × T) = Some (k.1, e.1) in o) (sym key);
         left = is ∙ (ap (λ (k : ℕ × Gen). (k, e.1) ∷ es) (sym key)
-            ∙ ap (λ (l : List ((ℕ × Gen) × T)). (p, e.1) ∷ l) (sym (ap (λ b. from_index p.0 (cond b es (e ∷ without p.0 es))) same ∙ from_index-rises p.0 (suc e.0.0) es (omega (arith, index)) rises.1)));
-        behind = ap (λ b. from_index p.0 (cond b es (e ∷ without p.0 es))) same
-            ∙ (from_index-rises p.0 (suc e.0.0) es (omega (arith, index)) rises.1
-            ∙ (sym (from_index-rises (suc p.0) (suc e.0.0) es (omega (arith, index)) rises.1)
-            ∙ sym (ap (λ b. from_index (suc p.0) (cond b es (e ∷ without p.0 es))) same)));
+            ∙ ap (λ (l : List ((ℕ × Gen) × T)). (p, e.1) ∷ l) (sym (ap (λ b. entries_at_or_above p.0 (cond b es (e ∷ without p.0 es))) same ∙ entries_at_or_above-rises p.0 (suc e.0.0) es (omega (arith, index)) rises.1)));
+        behind = ap (λ b. entries_at_or_above p.0 (cond b es (e ∷ without p.0 es))) same
+            ∙ (entries_at_or_above-rises p.0 (suc e.0.0) es (omega (arith, index)) rises.1
+            ∙ (sym (entries_at_or_above-rises (suc p.0) (suc e.0.0) es (omega (arith, index)) rises.1)
+            ∙ sym (ap (λ b. entries_at_or_above (suc p.0) (cond b es (e ∷ without p.0 es))) same)));
         from = omega (arith, least, index);
       }
 
@@ -72,56 +72,56 @@ module _ {Gen T : Type 0} where
       record {
         value = rest.value;
         stands = ap (λ b. cond b (Some (e.0.1, e.1)) (found p.0 es)) other ∙ rest.stands;
-        left = ap (λ b. cond b (e ∷ es) (from_index i es)) later
+        left = ap (λ b. cond b (e ∷ es) (entries_at_or_above i es)) later
             ∙ (rest.left
-            ∙ ap (λ (l : List ((ℕ × Gen) × T)). (p, rest.value) ∷ l) (sym (ap (λ b. from_index p.0 (cond b es (e ∷ without p.0 es))) other
-            ∙ ap (λ b. cond b (e ∷ without p.0 es) (from_index p.0 (without p.0 es))) (lt-leb p.0 e.0.0 before))));
-        behind = ap (λ b. from_index p.0 (cond b es (e ∷ without p.0 es))) other
-            ∙ (ap (λ b. cond b (e ∷ without p.0 es) (from_index p.0 (without p.0 es))) (lt-leb p.0 e.0.0 before)
+            ∙ ap (λ (l : List ((ℕ × Gen) × T)). (p, rest.value) ∷ l) (sym (ap (λ b. entries_at_or_above p.0 (cond b es (e ∷ without p.0 es))) other
+            ∙ ap (λ b. cond b (e ∷ without p.0 es) (entries_at_or_above p.0 (without p.0 es))) (lt-leb p.0 e.0.0 before))));
+        behind = ap (λ b. entries_at_or_above p.0 (cond b es (e ∷ without p.0 es))) other
+            ∙ (ap (λ b. cond b (e ∷ without p.0 es) (entries_at_or_above p.0 (without p.0 es))) (lt-leb p.0 e.0.0 before)
             ∙ (rest.behind
-            ∙ (sym (ap (λ b. cond b (e ∷ without p.0 es) (from_index (suc p.0) (without p.0 es))) (lt-leb (suc p.0) e.0.0 (omega (arith, before))))
-            ∙ sym (ap (λ b. from_index (suc p.0) (cond b es (e ∷ without p.0 es))) other))));
+            ∙ (sym (ap (λ b. cond b (e ∷ without p.0 es) (entries_at_or_above (suc p.0) (without p.0 es))) (lt-leb (suc p.0) e.0.0 (omega (arith, before))))
+            ∙ sym (ap (λ b. entries_at_or_above (suc p.0) (cond b es (e ∷ without p.0 es))) other))));
         from = rest.from;
       }
 
-  first_in : (i m : ℕ) (p : ℕ × Gen) (es : List ((ℕ × Gen) × T)) → RisesFrom m es → Some p ≡ first_key (from_index i es) → IsFirst i p es
+  first_in : (i m : ℕ) (p : ℕ × Gen) (es : List ((ℕ × Gen) × T)) → RisesFrom m es → Some p ≡ first_key (entries_at_or_above i es) → IsFirst i p es
   first_in i m p [] rises first = absurd (cc)
   first_in i m p (e ∷ es) rises first = by (leb i e.0.0) refl (first_in i (suc e.0.0) p es rises.1)
     where
-      by : (b : Bool) → leb i e.0.0 ≡ b → (Some p ≡ first_key (from_index i es) → IsFirst i p es) → IsFirst i p (e ∷ es)
+      by : (b : Bool) → leb i e.0.0 ≡ b → (Some p ≡ first_key (entries_at_or_above i es) → IsFirst i p es) → IsFirst i p (e ∷ es)
       by true here rest = first_here i p e es (omega arith, rises.1) here first
-      by false later rest = first_later i p e es later (rest (first ∙ ap (λ b. first_key (cond b (e ∷ es) (from_index i es))) later))
+      by false later rest = first_later i p e es later (rest (first ∙ ap (λ b. first_key (cond b (e ∷ es) (entries_at_or_above i es))) later))
 
   -- the same for an arena
-  pub first_left : (a : Arena Gen (LinkSeen T)) (at : ℕ) (p : ℕ × Gen) → Some p ≡ first_key (entries_left a at)
-      → (t : T) × (entry_at (values_of a) p.0 ≡ Some (p.1, t)) × (entries_left a at ≡ (p, t) ∷ from_index p.0 (without p.0 (entries (values_of a)))) × (1 ≤ p.0)
-      × (from_index p.0 (without p.0 (entries (values_of a))) ≡ from_index (suc p.0) (without p.0 (entries (values_of a))))
+  pub first_left : (a : Arena Gen (LinkView T)) (at : ℕ) (p : ℕ × Gen) → Some p ≡ first_key (entries_left a at)
+      → (t : T) × (entry_at (values_of a) p.0 ≡ Some (p.1, t)) × (entries_left a at ≡ (p, t) ∷ entries_at_or_above p.0 (without p.0 (entries (values_of a)))) × (1 ≤ p.0)
+      × (entries_at_or_above p.0 (without p.0 (entries (values_of a))) ≡ entries_at_or_above (suc p.0) (without p.0 (entries (values_of a))))
   first_left a zero p first = absurd (cc)
   first_left a (suc k) p first =
       let met = first_in (suc k) 1 p (entries (values_of a)) (entries_rise (values_of a)) first in
       (met.value, sym (found-entries (values_of a) p.0) ∙ met.stands, met.left, omega (arith, met.from), met.behind)
 
-  pub first_valid : (a : Arena Gen (LinkSeen T)) (at : ℕ) (p : ℕ × Gen) → Some p ≡ first_key (entries_left a at) → IsValid (entry_at (values_of a)) p
+  pub first_valid : (a : Arena Gen (LinkView T)) (at : ℕ) (p : ℕ × Gen) → Some p ≡ first_key (entries_left a at) → IsValid (entry_at (values_of a)) p
   first_valid a at p first = let met = first_left a at p first in record { value = met.0; stands = met.1 }
 
   -- nothing is left from a number on that is no index
-  pub none_left : (greatest : ℕ) (a : Arena Gen (LinkSeen T)) (at : ℕ) → (IsWithin greatest at → ⊥) → All (λ e. IsWithin greatest (index_of e)) (entries (values_of a)) → entries_left a at ≡ []
+  pub none_left : (greatest : ℕ) (a : Arena Gen (LinkView T)) (at : ℕ) → (IsWithin greatest at → ⊥) → All (λ e. IsWithin greatest (index_of e)) (entries (values_of a)) → entries_left a at ≡ []
   none_left greatest a zero beyond within = refl
-  none_left greatest a (suc k) beyond within = from_index-beyond greatest (suc k) (entries (values_of a)) (omega (arith, λ (le : suc k ≤ greatest). beyond (omega arith, le))) within
+  none_left greatest a (suc k) beyond within = entries_at_or_above-beyond greatest (suc k) (entries (values_of a)) (omega (arith, λ (le : suc k ≤ greatest). beyond (omega arith, le))) within
 
-  entries_left-at : (a : Arena Gen (LinkSeen T)) (n : ℕ) → 1 ≤ n → entries_left a n ≡ from_index n (entries (values_of a))
+  entries_left-at : (a : Arena Gen (LinkView T)) (n : ℕ) → 1 ≤ n → entries_left a n ≡ entries_at_or_above n (entries (values_of a))
   entries_left-at a zero some = absurd (omega (arith, some))
   entries_left-at a (suc k) some = refl
 
   -- all are left from the first index on
-  pub all_left : (a : Arena Gen (LinkSeen T)) → entries_left a 1 ≡ entries (values_of a)
-  all_left a = from_index-rises 1 1 (entries (values_of a)) (omega arith) (entries_rise (values_of a))
+  pub all_left : (a : Arena Gen (LinkView T)) → entries_left a 1 ≡ entries (values_of a)
+  all_left a = entries_at_or_above-rises 1 1 (entries (values_of a)) (omega arith) (entries_rise (values_of a))
 
   -- where all links are removed, none is left
-  pub without_each-all : (following : Gen → Gen) (a : Arena Gen (LinkSeen T)) (es : List ((ℕ × Gen) × T)) → entries (values_of a) ≡ es → entries (values_of (without_each following a (map index_of es))) ≡ []
+  pub without_each-all : (following : Gen → Gen) (a : Arena Gen (LinkView T)) (es : List ((ℕ × Gen) × T)) → entries (values_of a) ≡ es → entries (values_of (without_each following a (map index_of es))) ≡ []
   without_each-all following a [] all = all
   without_each-all following a (e ∷ es) all = without_each-all following (remove_link following a e.0.0) es
-      (ap (λ (s : Seen Gen T). s.entries) (seen-removed following a (remove_link following a e.0.0) e.0.0 refl)
+      (ap (λ (s : ArenaView Gen T). s.entries) (seen-removed following a (remove_link following a e.0.0) e.0.0 refl)
       ∙ (ap (without e.0.0) all ∙ ap (λ b. cond b es (e ∷ without e.0.0 es)) (eq-eqb e.0.0 e.0.0 refl)))
 
 -- an answer by the counter tells whether it overflowed
@@ -141,7 +141,7 @@ is_behind most i next is within = by (leb (i + 1) most) refl
 
 module _ {P Gen T : Type 0} (key : P → ℕ × Gen) (following : Gen → Gen) (wraps : Gen → Bool) where
   -- the removal of the first link that is left is a step
-  module _ (old new : Arena Gen (LinkSeen T)) (at next : ℕ) (p : P) (first : Some (key p) ≡ first_key (entries_left old at)) (taken : Option T)
+  module _ (old new : Arena Gen (LinkView T)) (at next : ℕ) (p : P) (first : Some (key p) ≡ first_key (entries_left old at)) (taken : Option T)
       (value : taken ≡ option_map (λ (e : Gen × T). e.1) (entry_at (values_of old) (key p).0)) where
     value_is : taken ≡ Some (first_left old at (key p) first).0
     value_is = value ∙ ap (option_map (λ (e : Gen × T). e.1)) (first_left old at (key p) first).1
@@ -150,26 +150,26 @@ module _ {P Gen T : Type 0} (key : P → ℕ × Gen) (following : Gen → Gen) (
     drained_has none = let both = sym none ∙ value_is in cc
 
     -- what was left behind the first link is left
-    left_behind : IsBehind (key p).0 next → entries (values_of new) ≡ without (key p).0 (entries (values_of old)) → from_index (key p).0 (without (key p).0 (entries (values_of old))) ≡ entries_left new next
+    left_behind : IsBehind (key p).0 next → entries (values_of new) ≡ without (key p).0 (entries (values_of old)) → entries_at_or_above (key p).0 (without (key p).0 (entries (values_of old))) ≡ entries_left new next
     left_behind index es =
         let met = first_left old at (key p) first in
         ⊎_elim
-        (λ (same : next ≡ (key p).0). ap (λ n. from_index n (without (key p).0 (entries (values_of old)))) (sym same) ∙ (ap (from_index next) (sym es) ∙ sym (entries_left-at new next (omega (arith, met.3, same)))))
-        (λ (after : next ≡ suc (key p).0). met.4 ∙ (ap (λ n. from_index n (without (key p).0 (entries (values_of old)))) (sym after) ∙ (ap (from_index next) (sym es) ∙ sym (entries_left-at new next (omega (arith, after))))))
+        (λ (same : next ≡ (key p).0). ap (λ n. entries_at_or_above n (without (key p).0 (entries (values_of old)))) (sym same) ∙ (ap (entries_at_or_above next) (sym es) ∙ sym (entries_left-at new next (omega (arith, met.3, same)))))
+        (λ (after : next ≡ suc (key p).0). met.4 ∙ (ap (λ n. entries_at_or_above n (without (key p).0 (entries (values_of old)))) (sym after) ∙ (ap (entries_at_or_above next) (sym es) ∙ sym (entries_left-at new next (omega (arith, after))))))
         index
 
-    pub drained_first : (t : T) (overflow : Bool) (gone : InvalidationOption (P × T)) → seen new ≡ entry_removed following (seen old) (key p).0 → new ≡ remove_link following old (key p).0
+    pub drained_first : (t : T) (overflow : Bool) (gone : InvalidationOption (P × T)) → value_view new ≡ entry_removed following (value_view old) (key p).0 → new ≡ remove_link following old (key p).0
         → taken ≡ Some t → overflow ≡ wraps old.counter → gone ≡ invalidation_option overflow (p, t) → IsBehind (key p).0 next → IsLinkDrainStep key following wraps old at gone new next
     drained_first t overflow gone loses removal has told answered index =
         let met = first_left old at (key p) first in
         let both : Some t ≡ Some met.0 = sym has ∙ value_is in
         let same : t ≡ met.0 = cc in
         let item : value_in gone ≡ (p, t) = ap value_in answered ∙ value_in-made overflow (p, t) in
-        let es : entries (values_of new) ≡ without (key p).0 (entries (values_of old)) = ap (λ (s : Seen Gen T). s.entries) loses in
+        let es : entries (values_of new) ≡ without (key p).0 (entries (values_of old)) = ap (λ (s : ArenaView Gen T). s.entries) loses in
         let keyed : key (value_in gone).0 ≡ key p = ap (λ (x : P × T). key x.0) item in
         let left : entries_left old at ≡ (key (value_in gone).0, (value_in gone).1) ∷ entries_left new next = met.2
-        ∙ (ap (λ (u : T). (key p, u) ∷ from_index (key p).0 (without (key p).0 (entries (values_of old)))) (sym same)
-        ∙ (ap (λ (x : P × T). (key x.0, x.1) ∷ from_index (key p).0 (without (key p).0 (entries (values_of old)))) (sym item)
+        ∙ (ap (λ (u : T). (key p, u) ∷ entries_at_or_above (key p).0 (without (key p).0 (entries (values_of old)))) (sym same)
+        ∙ (ap (λ (x : P × T). (key x.0, x.1) ∷ entries_at_or_above (key p).0 (without (key p).0 (entries (values_of old)))) (sym item)
         ∙ ap (λ (l : List ((ℕ × Gen) × T)). (key (value_in gone).0, (value_in gone).1) ∷ l) (left_behind index es))) in
         record {
           left = left;
@@ -182,13 +182,13 @@ module _ {P Gen T : Type 0} (key : P → ℕ × Gen) (following : Gen → Gen) (
         }
 
   -- what a step leaves is what all removals leave ..
-  pub without_each-first : (old new : Arena Gen (LinkSeen T)) (at next : ℕ) (gone : InvalidationOption (P × T)) → IsLinkDrainStep key following wraps old at gone new next
+  pub without_each-first : (old new : Arena Gen (LinkView T)) (at next : ℕ) (gone : InvalidationOption (P × T)) → IsLinkDrainStep key following wraps old at gone new next
       → without_each following new (map index_of (entries_left new next)) ≡ without_each following old (map index_of (entries_left old at))
   without_each-first old new at next gone step =
-      ap (λ (a : Arena Gen (LinkSeen T)). without_each following a (map index_of (entries_left new next))) step.state
+      ap (λ (a : Arena Gen (LinkView T)). without_each following a (map index_of (entries_left new next))) step.state
       ∙ sym (ap (λ (es : List ((ℕ × Gen) × T)). without_each following old (map index_of es)) step.left)
 
   -- .. and one link less
-  pub entries_left-step : (old new : Arena Gen (LinkSeen T)) (at next : ℕ) (gone : InvalidationOption (P × T)) → IsLinkDrainStep key following wraps old at gone new next
+  pub entries_left-step : (old new : Arena Gen (LinkView T)) (at next : ℕ) (gone : InvalidationOption (P × T)) → IsLinkDrainStep key following wraps old at gone new next
       → length (entries_left new next) < length (entries_left old at)
   entries_left-step old new at next gone step = let longer = ap (length {A = (ℕ × Gen) × T}) step.left in omega (arith, longer)

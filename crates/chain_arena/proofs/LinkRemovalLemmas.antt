@@ -5,11 +5,11 @@ use Rattle.std.specs.Option.{option_map}
 use Rattle.arena_ptr.specs.Invalidation.{value_within, is_overflow_result, invalidation_result}
 use Rattle.arena_ptr.specs.declared.invalidation.InvalidationResult.{InvalidationResult}
 use Rattle.arena_ptr.specs.declared.invalidation.InvalidationResult.TheVariants.{Success, GenerationOverflow, InvalidPtr}
-use Rattle.chain_laws.specs.Chains.{Agrees}
+use Rattle.chain_laws.specs.Chains.{IsWellLinked}
 use Rattle.arena_base.specs.Arena.{IsValid, entry_at}
 use Rattle.arena_base.specs.Entries.{entry_removed}
-use Rattle.chain_links.specs.ChainArena.{LinkSeen, on_value, shown, seen, entry, link_value, link_at, remove_link, IsRemoval}
-use Rattle.chain_links.specs.Links.{held_in, seen_link, seen_pair}
+use Rattle.chain_links.specs.ChainArena.{LinkView, on_value, link_map, value_view, entry, link_value, link_at, remove_link, IsRemoval}
+use Rattle.chain_links.specs.Links.{held_in, link_view, pair_view}
 use Rattle.chain_links.specs.declared.links.LinkBody.{LinkBody}
 use Rattle.chain_links.proofs.MappedArenaLemmas.{entry_at-with_each, generation_is}
 use Rattle.chain_links.proofs.MappedArenaLemmas.{is_some-map}
@@ -31,12 +31,12 @@ same_overflow f false (GenerationOverflow x) (GenerationOverflow y) value overfl
 same_overflow f true (GenerationOverflow x) (GenerationOverflow y) value overflow told = refl
 
 -- a removal leaves the interlinks in agreement, whether a link stood there or not
-pub agreed_after : {Gen T K : Type 0} (following : Gen → Gen) (a b : Links Gen T) (n : ℕ) (taken : Option K) → (is_some taken ≡ true → b ≡ remove_link following a n) → (taken ≡ None → b ≡ a) → Agrees (shown a) → Agrees (shown b)
-agreed_after following a b n None valid invalid agrees = subst (λ x. Agrees (shown x)) (sym (invalid refl)) agrees
+pub agreed_after : {Gen T K : Type 0} (following : Gen → Gen) (a b : Links Gen T) (n : ℕ) (taken : Option K) → (is_some taken ≡ true → b ≡ remove_link following a n) → (taken ≡ None → b ≡ a) → IsWellLinked (link_map a) → IsWellLinked (link_map b)
+agreed_after following a b n None valid invalid agrees = subst (λ x. IsWellLinked (link_map x)) (sym (invalid refl)) agrees
 agreed_after following a b n (Some e) valid invalid agrees = removed-agrees following a b n (valid refl) agrees
 
 -- what is shown after a removal, by the state
-pub removal_of : {Gen T : Type 0} (following : Gen → Gen) (a b : Links Gen T) (n : ℕ) → Agrees (shown a) → b ≡ remove_link following a n → IsRemoval following a n b
+pub removal_of : {Gen T : Type 0} (following : Gen → Gen) (a b : Links Gen T) (n : ℕ) → IsWellLinked (link_map a) → b ≡ remove_link following a n → IsRemoval following a n b
 removal_of following a b n agrees state = record {
   state = state;
   shows = passes_over following a b n state;
@@ -45,24 +45,24 @@ removal_of following a b n agrees state = record {
 }
 
 module _ {Gen K T : Type 0} (packed : K → Option ℕ) (following : Gen → Gen) (a b : Links Gen T) (n : ℕ) (taken : Option (Gen × LinkBody K T))
-    (answer : option_map (seen_pair packed) taken ≡ entry_at a n) where
+    (answer : option_map (pair_view packed) taken ≡ entry_at a n) where
   value : option_map (on_value held_in) taken ≡ entry a n
   value = twice taken ∙ (ap (option_map (on_value link_value)) answer ∙ sym (entry_at-with_each link_value a n)) where
-    twice : (o : Option (Gen × LinkBody K T)) → option_map (on_value held_in) o ≡ option_map (on_value link_value) (option_map (seen_pair packed) o)
+    twice : (o : Option (Gen × LinkBody K T)) → option_map (on_value held_in) o ≡ option_map (on_value link_value) (option_map (pair_view packed) o)
     twice None = refl
     twice (Some e) = refl
 
   -- the link
-  pub link_told : option_map (on_value (seen_link packed)) taken ≡ link_at (entry a) (shown a) n
+  pub link_told : option_map (on_value (link_view packed)) taken ≡ link_at (entry a) (link_map a) n
   link_told = answer ∙ sym (link_at-entry a n)
 
   -- .. with a generation that is known
-  pub link_alone_told : (g : Gen) (t : T) → entry a n ≡ Some (g, t) → option_map (λ (l : LinkBody K T). (g, seen_link packed l)) (option_map (λ (e : Gen × LinkBody K T). e.1) taken) ≡ link_at (entry a) (shown a) n
+  pub link_alone_told : (g : Gen) (t : T) → entry a n ≡ Some (g, t) → option_map (λ (l : LinkBody K T). (g, link_view packed l)) (option_map (λ (e : Gen × LinkBody K T). e.1) taken) ≡ link_at (entry a) (link_map a) n
   link_alone_told g t stands = alone taken (value ∙ stands) ∙ link_told where
     alone : (o : Option (Gen × LinkBody K T)) → option_map (on_value held_in) o ≡ Some (g, t)
-        → option_map (λ (l : LinkBody K T). (g, seen_link packed l)) (option_map (λ (e : Gen × LinkBody K T). e.1) o) ≡ option_map (on_value (seen_link packed)) o
+        → option_map (λ (l : LinkBody K T). (g, link_view packed l)) (option_map (λ (e : Gen × LinkBody K T). e.1) o) ≡ option_map (on_value (link_view packed)) o
     alone None is = absurd (let h = is in cc)
-    alone (Some e) is = ap (λ (h : Gen). let o : Option (Gen × LinkSeen T) = Some (h, seen_link packed e.1) in o) (sym (generation_is e.0 g _ _ is))
+    alone (Some e) is = ap (λ (h : Gen). let o : Option (Gen × LinkView T) = Some (h, link_view packed e.1) in o) (sym (generation_is e.0 g _ _ is))
 
   -- its value with its generation
   pub value_told : option_map (λ (e : Gen × LinkBody K T). (e.0, e.1.t)) taken ≡ entry a n
@@ -94,12 +94,12 @@ module _ {Gen K T : Type 0} (packed : K → Option ℕ) (following : Gen → Gen
     pub removal_there : is_some (entry a n) ≡ true → IsRemoval following a n b
     removal_there stands = removal (some_taken stands)
 
-    pub seen_there : is_some (entry a n) ≡ true → seen b ≡ entry_removed following (seen a) n
+    pub seen_there : is_some (entry a n) ≡ true → value_view b ≡ entry_removed following (value_view a) n
     seen_there stands = seen-removed following a b n (removal_there stands).state
 
     -- .. as that of a valid pointer
     pub removal_at : (p : ℕ × Gen) → n ≡ p.0 → IsValid (entry a) p → IsRemoval following a n b
     removal_at p at valid = removal_there (ap (λ i. is_some (entry a i)) at ∙ ap is_some valid.stands)
 
-    pub seen_at : (p : ℕ × Gen) → n ≡ p.0 → IsValid (entry a) p → seen b ≡ entry_removed following (seen a) n
+    pub seen_at : (p : ℕ × Gen) → n ≡ p.0 → IsValid (entry a) p → value_view b ≡ entry_removed following (value_view a) n
     seen_at p at valid = seen_there (ap (λ i. is_some (entry a i)) at ∙ ap is_some valid.stands)

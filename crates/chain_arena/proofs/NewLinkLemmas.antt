@@ -8,21 +8,21 @@ use Rattle.arena_ptr.specs.declared.errors.ChainInsertionError.{ChainInsertionEr
 use Rattle.arena_ptr.specs.declared.errors.ChainInsertionError.TheVariants as failed
 use Rattle.arena_ptr.specs.declared.errors.ReallocationError.{ReallocationError}
 use Rattle.arena_ptr.specs.declared.errors.ReallocationError.TheVariants as refused
-use Rattle.chain_laws.specs.Chains.{Agrees}
-use Rattle.chain_laws.specs.Insertions.{InsertKind, IsGap}
-use Rattle.arena_base.specs.Arena.{Arena, IsRoom, IsListed, HasRoom, HasGrownTo, IsWithinReach, entry_count, next_index, with_capacity_of}
-use Rattle.arena_base.specs.Entries.{count, HasRoomLeft, NeedsBeyondMaximum}
-use Rattle.chain_links.specs.ChainArena.{shown, seen, entry, insert_between, insert_as}
+use Rattle.chain_laws.specs.Chains.{IsWellLinked}
+use Rattle.chain_laws.specs.Insertions.{InsertKind, IsInsertPosition}
+use Rattle.arena_base.specs.Arena.{Arena, IsCapacityFor, IsListed, HasCapacityFor, ReachesCapacity, IsWithinReach, entry_count, next_index, with_capacity_of}
+use Rattle.arena_base.specs.Entries.{count, HasFreeCapacity, NeedsBeyondMaximum}
+use Rattle.chain_links.specs.ChainArena.{link_map, value_view, entry, insert_between, insert_as}
 use Rattle.chain_links.specs.Kinds.{names_in}
-use Rattle.chain_links.specs.Links.{seen_links}
+use Rattle.chain_links.specs.Links.{links_view}
 use Rattle.chain_links.specs.declared.links.LinkBody.{LinkBody}
-use Rattle.chain_links.proofs.ArenaInsertionLemmas.{next_index-seen_links, values-count}
+use Rattle.chain_links.proofs.ArenaInsertionLemmas.{next_index-links_view, values-count}
 use Rattle.chain_links.specs.declared.kinds.InsertKindBody.{InsertKindBody}
-use Rattle.chain_linking.specs.InsertPositions.{before_in, after_in, IsGapOf}
+use Rattle.chain_linking.specs.InsertPositions.{before_in, after_in, IsPositionOf}
 use Rattle.chain_links.specs.Insertions.{IsInsertion}
-use Rattle.chain_linking.specs.declared.insert_position.Gap.{Gap}
-use Rattle.chain_arena.specs.NewLinks.{HasGrown, GrowsByOne, gap_unless_refused, IsPlace, PlacesWithin, PlacesGrowing, IsInsertedIn, InsertsAt}
-use Rattle.chain_arena.specs.Effects.{Links, kind_of, May}
+use Rattle.chain_linking.specs.declared.insert_position.InsertPosition.{InsertPosition}
+use Rattle.chain_arena.specs.NewLinks.{HasGrown, GrowsByOne, position_unless_refused, IsPositionFor, FindsPositionWithin, FindsPositionGrowing, IsInsertedIn, InsertsAt}
+use Rattle.chain_arena.specs.Effects.{Links, indexed_kind, MayInsertInto}
 use Rattle.chain_arena.proofs.InsertionEffectLemmas.{gap_told, insertion_told}
 
 -- what is not above a number that is within a maximum is not beyond it
@@ -34,10 +34,10 @@ module _ {Gen T : Type 0} where
   -- a growth to room for as many links as there are, and one more
   pub grows_by_one : (may_reach : ℕ → Option ℕ → ℕ → ℕ → Type 0) (greatest m : ℕ) (old new : Links Gen T) (r : Result Unit ReallocationError) → m ≡ entry_count old → m ≤ old.capacity
       → (m + 1 ≤ old.capacity → IsOk r × (new ≡ old)) → (r ≡ Err refused.BeyondMaxCapacity) ↔ IsBeyond old.maximum (m + 1)
-      → OnOk r (IsRoom greatest new.maximum (m + 1) new.capacity) → OnErr r (new ≡ old) → new ≡ with_capacity_of old new → IsWithinReach may_reach (m + 1) old new → HasRoom greatest (length new.slots) new
+      → OnOk r (IsCapacityFor greatest new.maximum (m + 1) new.capacity) → OnErr r (new ≡ old) → new ≡ with_capacity_of old new → IsWithinReach may_reach (m + 1) old new → HasCapacityFor greatest (length new.slots) new
       → GrowsByOne may_reach greatest old r new
   grows_by_one may_reach greatest m old new (Ok done) same fits within beyond ok err state reached room = record {
-    grown = subst (λ (k : ℕ). HasGrownTo may_reach greatest (k + 1) old new) same (record { room = (ok, room.1, room.2); reached = reached });
+    grown = subst (λ (k : ℕ). ReachesCapacity may_reach greatest (k + 1) old new) same (record { room = (ok, room.1, room.2); reached = reached });
     state = state;
     stays = λ less. (within (omega (arith, less, same))).1;
   }
@@ -49,12 +49,12 @@ module _ {Gen T : Type 0} where
       ((omega (arith, same, fits, no_room), λ past. let h = beyond.1 (subst (λ (k : ℕ). IsBeyond old.maximum (k + 1)) (sym same) past) in absurd (cc)), err)
 
 -- the next index, where the links are looked at
-pub next_seen : {K Gen T : Type 0} (packed : K → Option ℕ) (a : Arena Gen (LinkBody K T)) (p : ℕ × Gen) → p ≡ (next_index a, a.counter) → p ≡ (next_index (seen_links packed a), a.counter)
-next_seen packed a p at = subst (λ (q : ℕ). p ≡ (q, a.counter)) (sym (next_index-seen_links packed a)) at
+pub next_seen : {K Gen T : Type 0} (packed : K → Option ℕ) (a : Arena Gen (LinkBody K T)) (p : ℕ × Gen) → p ≡ (next_index a, a.counter) → p ≡ (next_index (links_view packed a), a.counter)
+next_seen packed a p at = subst (λ (q : ℕ). p ≡ (q, a.counter)) (sym (next_index-links_view packed a)) at
 
 module _ {P I Gen T : Type 0} (key : P → ℕ × Gen) (number : I → ℕ) where
   -- the gap of a kind is its place
-  pub is_place : (old : Links Gen T) (kind : InsertKindBody P I) (gap : Gap I) → IsGapOf number (entry old) (shown old) (names_in key number kind) (Some gap) → IsPlace key number old kind gap
+  pub is_place : (old : Links Gen T) (kind : InsertKindBody P I) (gap : InsertPosition I) → IsPositionOf number (entry old) (link_map old) (names_in key number kind) (Some gap) → IsPositionFor key number old kind gap
   is_place old kind gap is = record {
     may = is.some.0 refl;
     before = is.before (next_index old);
@@ -62,99 +62,99 @@ module _ {P I Gen T : Type 0} (key : P → ℕ × Gen) (number : I → ℕ) wher
   }
 
   -- .. and where there is none, none may be inserted
-  pub no_place : (old : Links Gen T) (kind : InsertKindBody P I) → IsGapOf number (entry old) (shown old) (names_in key number kind) None → May key number old kind → ⊥
+  pub no_place : (old : Links Gen T) (kind : InsertKindBody P I) → IsPositionOf number (entry old) (link_map old) (names_in key number kind) None → MayInsertInto key number old kind → ⊥
   no_place old kind is may = false≢true (is.some.1 may)
 
-  place_grows : (may_reach : ℕ → Option ℕ → ℕ → ℕ → Type 0) (greatest : ℕ) (old new : Links Gen T) (kind : InsertKindBody P I) (gap : Gap I) (grown : Result Unit ReallocationError) → IsPlace key number old kind gap
-      → GrowsByOne may_reach greatest old grown new → PlacesGrowing key number may_reach greatest old kind (gap_unless_refused gap grown) new
+  place_grows : (may_reach : ℕ → Option ℕ → ℕ → ℕ → Type 0) (greatest : ℕ) (old new : Links Gen T) (kind : InsertKindBody P I) (gap : InsertPosition I) (grown : Result Unit ReallocationError) → IsPositionFor key number old kind gap
+      → GrowsByOne may_reach greatest old grown new → FindsPositionGrowing key number may_reach greatest old kind (position_unless_refused gap grown) new
   place_grows may_reach greatest old new kind gap (Ok done) place grows = (place, grows)
   place_grows may_reach greatest old new kind gap (Err refused.BeyondMaxCapacity) place grows = (place.may, grows.0, grows.1)
   place_grows may_reach greatest old new kind gap (Err refused.AllocError) place grows = (place.may, grows.0, grows.1)
 
-  pub places_growing : (may_reach : ℕ → Option ℕ → ℕ → ℕ → Type 0) (greatest : ℕ) (old new : Links Gen T) (kind : InsertKindBody P I) (gap : Gap I) (grown : Result Unit ReallocationError) (answer : Result (Gap I) ChainInsertionError)
-      → answer ≡ gap_unless_refused gap grown → IsGapOf number (entry old) (shown old) (names_in key number kind) (Some gap) → GrowsByOne may_reach greatest old grown new → PlacesGrowing key number may_reach greatest old kind answer new
+  pub places_growing : (may_reach : ℕ → Option ℕ → ℕ → ℕ → Type 0) (greatest : ℕ) (old new : Links Gen T) (kind : InsertKindBody P I) (gap : InsertPosition I) (grown : Result Unit ReallocationError) (answer : Result (InsertPosition I) ChainInsertionError)
+      → answer ≡ position_unless_refused gap grown → IsPositionOf number (entry old) (link_map old) (names_in key number kind) (Some gap) → GrowsByOne may_reach greatest old grown new → FindsPositionGrowing key number may_reach greatest old kind answer new
   places_growing may_reach greatest old new kind gap grown answer is given grows =
-      subst (λ (r : Result (Gap I) ChainInsertionError). PlacesGrowing key number may_reach greatest old kind r new) (sym is) (place_grows may_reach greatest old new kind gap grown (is_place old kind gap given) grows)
+      subst (λ (r : Result (InsertPosition I) ChainInsertionError). FindsPositionGrowing key number may_reach greatest old kind r new) (sym is) (place_grows may_reach greatest old new kind gap grown (is_place old kind gap given) grows)
 
   -- the place of a kind within the capacity, by how many links there are
-  pub places_full : (old : Links Gen T) (kind : InsertKindBody P I) (gap : Gap I) (links room : ℕ) → IsGapOf number (entry old) (shown old) (names_in key number kind) (Some gap) → links ≡ entry_count old → room ≡ old.capacity
-      → links ≡ room → PlacesWithin key number old kind (Err failed.NotWithinCapacity)
+  pub places_full : (old : Links Gen T) (kind : InsertKindBody P I) (gap : InsertPosition I) (links room : ℕ) → IsPositionOf number (entry old) (link_map old) (names_in key number kind) (Some gap) → links ≡ entry_count old → room ≡ old.capacity
+      → links ≡ room → FindsPositionWithin key number old kind (Err failed.NotWithinCapacity)
   places_full old kind gap links room given counted capacity full = (given.some.0 refl, omega (arith, counted, capacity, full))
 
-  pub places_in_room : (old : Links Gen T) (kind : InsertKindBody P I) (gap : Gap I) (links room : ℕ) → IsGapOf number (entry old) (shown old) (names_in key number kind) (Some gap) → links ≡ entry_count old → room ≡ old.capacity
-      → links ≤ old.capacity → (links ≡ room → ⊥) → PlacesWithin key number old kind (Ok gap)
+  pub places_in_room : (old : Links Gen T) (kind : InsertKindBody P I) (gap : InsertPosition I) (links room : ℕ) → IsPositionOf number (entry old) (link_map old) (names_in key number kind) (Some gap) → links ≡ entry_count old → room ≡ old.capacity
+      → links ≤ old.capacity → (links ≡ room → ⊥) → FindsPositionWithin key number old kind (Ok gap)
   places_in_room old kind gap links room given counted capacity fits apart = (is_place old kind gap given, omega (arith, counted, capacity, fits, apart))
 
   -- a link of the gap may come there
-  abbrev FitsIn : Links Gen T → Gap I → Type 0
-  FitsIn a gap = IsGap (shown a) (next_index a) (before_in number gap (next_index a)) (after_in number gap (next_index a))
+  abbrev FitsIn : Links Gen T → InsertPosition I → Type 0
+  FitsIn a gap = IsInsertPosition (link_map a) (next_index a) (before_in number gap (next_index a)) (after_in number gap (next_index a))
 
-  pub place_fits : (old : Links Gen T) (kind : InsertKindBody P I) (gap : Gap I) → Agrees (shown old) → IsPlace key number old kind gap → FitsIn old gap
-  place_fits old kind gap agrees place = gap_told (shown old) (kind_of key number kind) (next_index old) place.before place.after agrees place.may.1
+  pub place_fits : (old : Links Gen T) (kind : InsertKindBody P I) (gap : InsertPosition I) → IsWellLinked (link_map old) → IsPositionFor key number old kind gap → FitsIn old gap
+  place_fits old kind gap agrees place = gap_told (link_map old) (indexed_kind key number kind) (next_index old) place.before place.after agrees place.may.1
 
-  pub within_fits : (old : Links Gen T) (kind : InsertKindBody P I) (asked : Result (Gap I) ChainInsertionError) → Agrees (shown old) → PlacesWithin key number old kind asked → ForOk asked (FitsIn old)
-  within_fits old kind asked agrees told gap is = place_fits old kind gap agrees (subst (PlacesWithin key number old kind) is told).0
+  pub within_fits : (old : Links Gen T) (kind : InsertKindBody P I) (asked : Result (InsertPosition I) ChainInsertionError) → IsWellLinked (link_map old) → FindsPositionWithin key number old kind asked → ForOk asked (FitsIn old)
+  within_fits old kind asked agrees told gap is = place_fits old kind gap agrees (subst (FindsPositionWithin key number old kind) is told).0
 
-  pub within_room : (old : Links Gen T) (kind : InsertKindBody P I) (asked : Result (Gap I) ChainInsertionError) → PlacesWithin key number old kind asked → ForOk asked (λ gap. entry_count old < old.capacity)
-  within_room old kind asked told gap is = (subst (PlacesWithin key number old kind) is told).1
+  pub within_room : (old : Links Gen T) (kind : InsertKindBody P I) (asked : Result (InsertPosition I) ChainInsertionError) → FindsPositionWithin key number old kind asked → ForOk asked (λ gap. entry_count old < old.capacity)
+  within_room old kind asked told gap is = (subst (FindsPositionWithin key number old kind) is told).1
 
   -- a link in a gap stands between the links that the gap names
-  pub inserted_between : (old new : Links Gen T) (gap : Gap I) (t : T) (p : P) (u v : Option ℕ) → IsInsertedIn key number old gap t p new → before_in number gap (next_index old) ≡ u → after_in number gap (next_index old) ≡ v → new ≡ insert_between old t u v
+  pub inserted_between : (old new : Links Gen T) (gap : InsertPosition I) (t : T) (p : P) (u v : Option ℕ) → IsInsertedIn key number old gap t p new → before_in number gap (next_index old) ≡ u → after_in number gap (next_index old) ≡ v → new ≡ insert_between old t u v
   inserted_between old new gap t p u v insertion before after = insertion.state ∙ ap₂ (insert_between old t) before after
 
-  pub growing_fits : (may_reach : ℕ → Option ℕ → ℕ → ℕ → Type 0) (greatest : ℕ) (old new : Links Gen T) (kind : InsertKindBody P I) (asked : Result (Gap I) ChainInsertionError) → Agrees (shown old) → PlacesGrowing key number may_reach greatest old kind asked new → ForOk asked (FitsIn new)
+  pub growing_fits : (may_reach : ℕ → Option ℕ → ℕ → ℕ → Type 0) (greatest : ℕ) (old new : Links Gen T) (kind : InsertKindBody P I) (asked : Result (InsertPosition I) ChainInsertionError) → IsWellLinked (link_map old) → FindsPositionGrowing key number may_reach greatest old kind asked new → ForOk asked (FitsIn new)
   growing_fits may_reach greatest old new kind asked agrees told gap is =
-      let placed = subst (λ (r : Result (Gap I) ChainInsertionError). PlacesGrowing key number may_reach greatest old kind r new) is told in
+      let placed = subst (λ (r : Result (InsertPosition I) ChainInsertionError). FindsPositionGrowing key number may_reach greatest old kind r new) is told in
       subst (λ (a : Links Gen T). FitsIn a gap) (sym placed.1.state) (place_fits old kind gap agrees placed.0)
 
-  pub growing_room : (may_reach : ℕ → Option ℕ → ℕ → ℕ → Type 0) (greatest : ℕ) (old new : Links Gen T) (kind : InsertKindBody P I) (asked : Result (Gap I) ChainInsertionError) → PlacesGrowing key number may_reach greatest old kind asked new → ForOk asked (λ gap. entry_count new < new.capacity)
+  pub growing_room : (may_reach : ℕ → Option ℕ → ℕ → ℕ → Type 0) (greatest : ℕ) (old new : Links Gen T) (kind : InsertKindBody P I) (asked : Result (InsertPosition I) ChainInsertionError) → FindsPositionGrowing key number may_reach greatest old kind asked new → ForOk asked (λ gap. entry_count new < new.capacity)
   growing_room may_reach greatest old new kind asked told gap is =
-      let placed = subst (λ (r : Result (Gap I) ChainInsertionError). PlacesGrowing key number may_reach greatest old kind r new) is told in
+      let placed = subst (λ (r : Result (InsertPosition I) ChainInsertionError). FindsPositionGrowing key number may_reach greatest old kind r new) is told in
       let same : entry_count new ≡ entry_count old = ap (λ (a : Links Gen T). entry_count a) placed.1.state in
       let room = placed.1.grown.room.0.fits in
       omega (arith, same, room)
 
 module _ {P I Gen T : Type 0} (key : P → ℕ × Gen) (number : I → ℕ) (old : Links Gen T) (kind : InsertKindBody P I) (t : T) (new : Links Gen T) where
   abbrev by : InsertKind ℕ
-  by = kind_of key number kind
+  by = indexed_kind key number kind
 
   -- an answer `Ok` is that of an insertion
   abbrev pub AnswersInsertion : Result P ChainInsertionError → Type 0
-  AnswersInsertion r = IfOk r (λ p. IsInsertion by (seen old) (seen new) (entry old) (entry new) (shown old) (shown new) (key p) t)
+  AnswersInsertion r = IfOk r (λ p. IsInsertion by (value_view old) (value_view new) (entry old) (entry new) (link_map old) (link_map new) (key p) t)
 
   -- what an insertion within the capacity tells
   pub record TellsWithin (r : Result P ChainInsertionError) : Type 0 where
-    pub may : OnOk r (May key number old kind)
+    pub may : OnOk r (MayInsertInto key number old kind)
     pub inserted : AnswersInsertion r
-    pub capacity : (seen new).capacity ≡ (seen old).capacity
+    pub capacity : (value_view new).capacity ≡ (value_view old).capacity
     pub err : OnErr r (new ≡ old)
-    pub link : (r ≡ Err failed.FailedLinkRequirement) ↔ (May key number old kind → ⊥)
-    pub full : (r ≡ Err failed.NotWithinCapacity) ↔ (May key number old kind × (count (seen old) ≡ (seen old).capacity))
+    pub link : (r ≡ Err failed.FailedLinkRequirement) ↔ (MayInsertInto key number old kind → ⊥)
+    pub full : (r ≡ Err failed.NotWithinCapacity) ↔ (MayInsertInto key number old kind × (count (value_view old) ≡ (value_view old).capacity))
     pub error : IfErr r (λ e. (e ≡ failed.FailedLinkRequirement) ⊎ (e ≡ failed.NotWithinCapacity))
     pub place : IfOk r (λ p. (key p).0 ≡ next_index old)
     pub state : OnOk r (new ≡ insert_as old by t)
 
   -- .. and where a full arena grows
   pub record TellsGrowing (may_reach : ℕ → Option ℕ → ℕ → ℕ → Type 0) (greatest : ℕ) (r : Result P ChainInsertionError) : Type 0 where
-    pub may : OnOk r (May key number old kind)
+    pub may : OnOk r (MayInsertInto key number old kind)
     pub inserted : AnswersInsertion r
     pub err : OnErr r (new ≡ old)
-    pub link : (r ≡ Err failed.FailedLinkRequirement) ↔ (May key number old kind → ⊥)
+    pub link : (r ≡ Err failed.FailedLinkRequirement) ↔ (MayInsertInto key number old kind → ⊥)
     pub error : IfErr r (λ e. e ≢ failed.NotWithinCapacity)
-    pub room : May key number old kind → HasRoomLeft (seen old) → IsOk r × ((seen new).capacity ≡ (seen old).capacity)
-    pub grown : OnOk r (IsRoom greatest (seen new).maximum (count (seen old) + 1) (seen new).capacity)
-    pub beyond : (r ≡ Err failed.BeyondMaxCapacity) ↔ (May key number old kind × NeedsBeyondMaximum (seen old))
-    pub at_greatest : count (seen old) ≡ greatest → IsErr r
+    pub room : MayInsertInto key number old kind → HasFreeCapacity (value_view old) → IsOk r × ((value_view new).capacity ≡ (value_view old).capacity)
+    pub grown : OnOk r (IsCapacityFor greatest (value_view new).maximum (count (value_view old) + 1) (value_view new).capacity)
+    pub beyond : (r ≡ Err failed.BeyondMaxCapacity) ↔ (MayInsertInto key number old kind × NeedsBeyondMaximum (value_view old))
+    pub at_greatest : count (value_view old) ≡ greatest → IsErr r
     pub place : IfOk r (λ p. (key p).0 ≡ next_index old)
     pub state : OnOk r (new ≡ with_capacity_of (insert_as old by t) new)
-    pub state_in_room : May key number old kind → entry_count old < old.capacity → new ≡ insert_as old by t
-    pub state_grown : OnOk r (HasGrownTo may_reach greatest (entry_count old + 1) old new)
+    pub state_in_room : MayInsertInto key number old kind → entry_count old < old.capacity → new ≡ insert_as old by t
+    pub state_grown : OnOk r (ReachesCapacity may_reach greatest (entry_count old + 1) old new)
 
   -- the state after a link came to the place of its kind
-  inserted_at : (gap : Gap I) (p : P) → IsPlace key number old kind gap → IsInsertedIn key number old gap t p new → new ≡ insert_as old by t
+  inserted_at : (gap : InsertPosition I) (p : P) → IsPositionFor key number old kind gap → IsInsertedIn key number old gap t p new → new ≡ insert_as old by t
   inserted_at gap p place insertion = inserted_between key number old new gap t p _ _ insertion place.before place.after
 
-  not_within : (why : ChainInsertionError) → PlacesWithin key number old kind (Err why) → new ≡ old → TellsWithin (Err why)
+  not_within : (why : ChainInsertionError) → FindsPositionWithin key number old kind (Err why) → new ≡ old → TellsWithin (Err why)
   not_within failed.FailedLinkRequirement lacks same = record {
     may = tt;
     inserted = tt;
@@ -180,7 +180,7 @@ module _ {P I Gen T : Type 0} (key : P → ℕ × Gen) (number : I → ℕ) (old
   not_within failed.BeyondMaxCapacity never same = absurd never
   not_within failed.AllocError never same = absurd never
 
-  pub tells_within : (agrees : Agrees (shown old)) (asked : Result (Gap I) ChainInsertionError) (r : Result P ChainInsertionError) → PlacesWithin key number old kind asked → InsertsAt key number old asked t r new → TellsWithin r
+  pub tells_within : (agrees : IsWellLinked (link_map old)) (asked : Result (InsertPosition I) ChainInsertionError) (r : Result P ChainInsertionError) → FindsPositionWithin key number old kind asked → InsertsAt key number old asked t r new → TellsWithin r
   tells_within agrees (Ok gap) (Ok p) placed insertion =
       let state = inserted_at gap p placed.0 insertion in record {
         may = placed.0.may;
@@ -199,13 +199,13 @@ module _ {P I Gen T : Type 0} (key : P → ℕ × Gen) (number : I → ℕ) (old
 
   -- the same after a growth
   module _ (mid : Links Gen T) where
-    inserted_grown : (may_reach : ℕ → Option ℕ → ℕ → ℕ → Type 0) (greatest : ℕ) (gap : Gap I) (p : P) → IsPlace key number old kind gap → HasGrown may_reach greatest old mid → IsInsertedIn key number mid gap t p new → new ≡ with_capacity_of (insert_as old by t) mid
+    inserted_grown : (may_reach : ℕ → Option ℕ → ℕ → ℕ → Type 0) (greatest : ℕ) (gap : InsertPosition I) (p : P) → IsPositionFor key number old kind gap → HasGrown may_reach greatest old mid → IsInsertedIn key number mid gap t p new → new ≡ with_capacity_of (insert_as old by t) mid
     inserted_grown may_reach greatest gap p place grown insertion =
         insertion.state
         ∙ ap (λ (a : Links Gen T). insert_between a t (before_in number gap (next_index a)) (after_in number gap (next_index a))) grown.state
         ∙ ap₂ (λ (u v : Option ℕ). with_capacity_of (insert_between old t u v) mid) place.before place.after
 
-    inserted_in_room : (may_reach : ℕ → Option ℕ → ℕ → ℕ → Type 0) (greatest : ℕ) (gap : Gap I) (p : P) → IsPlace key number old kind gap → HasGrown may_reach greatest old mid → IsInsertedIn key number mid gap t p new → entry_count old < old.capacity → new ≡ insert_as old by t
+    inserted_in_room : (may_reach : ℕ → Option ℕ → ℕ → ℕ → Type 0) (greatest : ℕ) (gap : InsertPosition I) (p : P) → IsPositionFor key number old kind gap → HasGrown may_reach greatest old mid → IsInsertedIn key number mid gap t p new → entry_count old < old.capacity → new ≡ insert_as old by t
     inserted_in_room may_reach greatest gap p place grown insertion room =
         insertion.state
         ∙ ap (λ (a : Links Gen T). insert_between a t (before_in number gap (next_index a)) (after_in number gap (next_index a))) (grown.stays room)
@@ -216,7 +216,7 @@ module _ {P I Gen T : Type 0} (key : P → ℕ × Gen) (number : I → ℕ) (old
         let told = subst (λ (a : Links Gen T). IsListed a) grown.state listed in
         record { apart = told.apart; free = told.free; listed = told.listed }
 
-    not_growing : (may_reach : ℕ → Option ℕ → ℕ → ℕ → Type 0) (greatest : ℕ) (why : ChainInsertionError) → PlacesGrowing key number may_reach greatest old kind (Err why) mid → new ≡ mid → TellsGrowing may_reach greatest (Err why)
+    not_growing : (may_reach : ℕ → Option ℕ → ℕ → ℕ → Type 0) (greatest : ℕ) (why : ChainInsertionError) → FindsPositionGrowing key number may_reach greatest old kind (Err why) mid → new ≡ mid → TellsGrowing may_reach greatest (Err why)
     not_growing may_reach greatest failed.FailedLinkRequirement told same = record {
       may = tt;
       inserted = tt;
@@ -264,7 +264,7 @@ module _ {P I Gen T : Type 0} (key : P → ℕ × Gen) (number : I → ℕ) (old
     }
     not_growing may_reach greatest failed.NotWithinCapacity told same = absurd told
 
-    pub tells_growing : (may_reach : ℕ → Option ℕ → ℕ → ℕ → Type 0) (greatest : ℕ) (agrees : Agrees (shown old)) (asked : Result (Gap I) ChainInsertionError) (r : Result P ChainInsertionError) → PlacesGrowing key number may_reach greatest old kind asked mid → InsertsAt key number mid asked t r new
+    pub tells_growing : (may_reach : ℕ → Option ℕ → ℕ → ℕ → Type 0) (greatest : ℕ) (agrees : IsWellLinked (link_map old)) (asked : Result (InsertPosition I) ChainInsertionError) (r : Result P ChainInsertionError) → FindsPositionGrowing key number may_reach greatest old kind asked mid → InsertsAt key number mid asked t r new
         → TellsGrowing may_reach greatest r
     tells_growing may_reach greatest agrees (Ok gap) (Ok p) placed insertion =
         let place = placed.0 in
@@ -272,11 +272,11 @@ module _ {P I Gen T : Type 0} (key : P → ℕ × Gen) (number : I → ℕ) (old
         let is = inserted_grown may_reach greatest gap p place grown insertion in
         let state : new ≡ with_capacity_of (insert_as old by t) new = is ∙ ap (with_capacity_of (insert_as old by t)) (sym is) in
         let pointer : key p ≡ (next_index old, old.counter) = insertion.pointer ∙ ap (λ (a : Links Gen T). (next_index a, a.counter)) grown.state in
-        let held : HasGrownTo may_reach greatest (entry_count old + 1) old (with_capacity_of old mid) = subst (HasGrownTo may_reach greatest (entry_count old + 1) old) grown.state grown.grown in
-        let room : HasGrownTo may_reach greatest (entry_count old + 1) old new =
-        subst (HasGrownTo may_reach greatest (entry_count old + 1) old) (sym is) (record { room = held.room; reached = held.reached }) in
+        let held : ReachesCapacity may_reach greatest (entry_count old + 1) old (with_capacity_of old mid) = subst (ReachesCapacity may_reach greatest (entry_count old + 1) old) grown.state grown.grown in
+        let room : ReachesCapacity may_reach greatest (entry_count old + 1) old new =
+        subst (ReachesCapacity may_reach greatest (entry_count old + 1) old) (sym is) (record { room = held.room; reached = held.reached }) in
         let counted = values-count old in
-        let roomy : IsRoom greatest old.maximum (entry_count old + 1) mid.capacity = held.room.0 in
+        let roomy : IsCapacityFor greatest old.maximum (entry_count old + 1) mid.capacity = held.room.0 in
         let fits = roomy.fits in
         let most = roomy.at_most_greatest in record {
           may = place.may;
@@ -285,7 +285,7 @@ module _ {P I Gen T : Type 0} (key : P → ℕ × Gen) (number : I → ℕ) (old
           link = ((λ h. absurd (let k = h in cc)), λ lacks. absurd (lacks place.may));
           error = tt;
           room = λ may left. (refl, ap (λ (a : Links Gen T). a.capacity) (inserted_in_room may_reach greatest gap p place grown insertion (subst (λ (n : ℕ). n < old.capacity) counted left)));
-          grown = subst (λ (n : ℕ). IsRoom greatest new.maximum (n + 1) new.capacity) (sym counted) room.room.0;
+          grown = subst (λ (n : ℕ). IsCapacityFor greatest new.maximum (n + 1) new.capacity) (sym counted) room.room.0;
           beyond = (
             (λ h. absurd (let k = h in cc)),
             λ h. absurd (not_beyond old.maximum (entry_count old + 1) mid.capacity fits roomy.within_maximum (subst (λ (n : ℕ). IsBeyond old.maximum (n + 1)) counted h.1.1)),

@@ -9,25 +9,25 @@ use Rattle.arena_ptr.specs.declared.invalidation.InvalidationOption.{Invalidatio
 use Rattle.arena_base.specs.Arena.{Arena, slot_at}
 use Rattle.arena_base.specs.Entries.{entries, found}
 use Rattle.arena_base.specs.EntryLaws.{entries_rise, found-entries}
-use Rattle.chain_links.specs.ChainArena.{LinkSeen, on_value, link_value, interlinks_of, shown, seen, entry, values_of}
+use Rattle.chain_links.specs.ChainArena.{LinkView, on_value, link_value, interlinks_of, link_map, value_view, entry, values_of}
 use Rattle.chain_links.specs.CanonicalLayouts.{IsCanonicalLayout}
 use Rattle.chain_links.proofs.MappedArenaLemmas.{is_some-map, entry_at-with_each}
 use Rattle.chain_compaction.specs.Layouts.{AreAllMoves}
-use Rattle.chain_compaction.specs.PointerMoves.{ArePointerMoves, IsMove, StandsWhere}
+use Rattle.chain_compaction.specs.PointerMoves.{ArePointerMoves, IsMove, HasLinksWhere}
 use Rattle.chain_compaction.proofs.PointerMoveLemmas.{each_found, all_moved, compression_moves_pointers}
 use Rattle.chain_arena.specs.Transfers.{Carried, old_index}
-use Rattle.chain_arena.specs.PointerTransfers.{IsAnswered, TransferMovesPointers}
+use Rattle.chain_arena.specs.PointerTransfers.{IsMapped, TransferMovesPointers}
 
-module _ {P Gen T : Type 0} (key : P → ℕ × Gen) (first : Gen) (following : Gen → Gen) (reset : Bool) (old new : Arena Gen (LinkSeen T)) (moves : List (P × P)) where
+module _ {P Gen T : Type 0} (key : P → ℕ × Gen) (first : Gen) (following : Gen → Gen) (reset : Bool) (old new : Arena Gen (LinkView T)) (moves : List (P × P)) where
   -- a link stands where an entry stands
-  links_stand : StandsWhere (shown old) (entry old)
+  links_stand : HasLinksWhere (link_map old) (entry old)
   links_stand i = is_some-map interlinks_of (slot_at old.slots i) ∙ sym (ap is_some (entry_at-with_each link_value old i) ∙ is_some-map (on_value link_value) (slot_at old.slots i))
 
   -- the pointers that all links had and have are moves
-  pub arena_moves_pointers : IsCanonicalLayout first following reset (seen old) (shown old) (seen new) (shown new) → AreAllMoves key (seen old) (shown old) new.counter moves → ArePointerMoves key (entry old) (entry new) moves
+  pub arena_moves_pointers : IsCanonicalLayout first following reset (value_view old) (link_map old) (value_view new) (link_map new) → AreAllMoves key (value_view old) (link_map old) new.counter moves → ArePointerMoves key (entry old) (entry new) moves
   arena_moves_pointers layout all =
-      compression_moves_pointers key first following reset (seen old) (seen new) (shown old) (shown new) (entry old) (entry new) moves (found-entries (values_of old)) (found-entries (values_of new)) links_stand layout
-      (subst (λ (g : Gen). AreAllMoves key (seen old) (shown old) g moves) layout.is_counter all)
+      compression_moves_pointers key first following reset (value_view old) (value_view new) (link_map old) (link_map new) (entry old) (entry new) moves (found-entries (values_of old)) (found-entries (values_of new)) links_stand layout
+      (subst (λ (g : Gen). AreAllMoves key (value_view old) (link_map old) g moves) layout.is_counter all)
 
 module _ {Q P G Gen U T : Type 0} (key : Q → ℕ × G) (new_key : P → ℕ × Gen) (before : ℕ → Option (G × U)) (after : ℕ → Option (Gen × T)) where
   -- the entries that the links have become, by their pointers
@@ -41,7 +41,7 @@ module _ {Q P G Gen U T : Type 0} (key : Q → ℕ × G) (new_key : P → ℕ ×
   -- each link that was carried over has gone from a pointer to a pointer
   each_goes : (es : List ((ℕ × G) × U)) (carried : List (Carried Q P U T)) → ((i : ℕ) → found i es ≡ before i)
       → AllByRecursion (λ (c : Carried Q P U T). found (old_index key c) es ≡ Some ((key c.from).1, value_in c.value)) carried
-      → AllByRecursion (λ (e : (ℕ × Gen) × T). after e.0.0 ≡ Some (e.0.1, e.1)) (arrived carried) → AllByRecursion (IsMove (λ (c : Carried Q P U T). key c.from) (λ (c : Carried Q P U T). new_key c.to) IsAnswered before after) carried
+      → AllByRecursion (λ (e : (ℕ × Gen) × T). after e.0.0 ≡ Some (e.0.1, e.1)) (arrived carried) → AllByRecursion (IsMove (λ (c : Carried Q P U T). key c.from) (λ (c : Carried Q P U T). new_key c.to) IsMapped before after) carried
   each_goes es [] looked stood stand = tt
   each_goes es (c ∷ carried) looked stood stand = (
     (
@@ -56,7 +56,7 @@ module _ {Q P G Gen U T : Type 0} (key : Q → ℕ × G) (new_key : P → ℕ ×
 pub transfer_moves_pointers : {Q P G Gen U T F : Type 0} (key : Q → ℕ × G) (new_key : P → ℕ × Gen) (following : G → G) (wraps : G → Bool) (call : Mut F (Q × (InvalidationOption U × (P × Unit {0}))) T)
     → TransferMovesPointers key new_key following wraps call
 transfer_moves_pointers {Q} {P} {G} {Gen} {U} {T} {F} key new_key following wraps call generation f source source_after links old new before looked stand transfer =
-    all_moved (λ (c : Carried Q P U T). key c.from) (λ (c : Carried Q P U T). new_key c.to) (λ c u t. IsAnswered c u t) before (entry new) links (map (old_index key) transfer.carried) (entries (values_of new)) transfer.carried
+    all_moved (λ (c : Carried Q P U T). key c.from) (λ (c : Carried Q P U T). new_key c.to) (λ c u t. IsMapped c u t) before (entry new) links (map (old_index key) transfer.carried) (entries (values_of new)) transfer.carried
     transfer.order stand (entries_rise (values_of new)) (found-entries (values_of new)) refl (keys_arrived key new_key before (entry new) transfer.carried ∙ sym (ap (map (λ (e : (ℕ × Gen) × T). e.0)) transfer.values))
     (each_goes key new_key before (entry new) source.entries transfer.carried looked (recursion_from_All _ transfer.carried transfer.stood)
     (subst (AllByRecursion (λ (e : (ℕ × Gen) × T). entry new e.0.0 ≡ Some (e.0.1, e.1))) transfer.values

@@ -7,13 +7,13 @@ use Rattle.std.proofs.lemmas.Bool.{lt-leb, eq-eqb, ne_eqb}
 use Rattle.arena_base.specs.Arena.{Arena, IsValid, slot_at, with_slot, entry_at}
 use Rattle.arena_base.specs.Entries.{found, replaced, first_key, RisesFrom}
 use Rattle.arena_base.specs.EntryLaws.{entries_rise, found-entries}
-use Rattle.arena_base.specs.Advancers.{from_index, ahead, look_after, IsLook}
+use Rattle.arena_base.specs.Advancers.{entries_at_or_above, ahead, cursor_after, IsAdvance}
 use Rattle.arena_base.specs.Compressions.{values_in}
-use Rattle.arena_base.specs.declared.cursor.Look.{Look}
-use Rattle.arena_base.specs.declared.cursor.Look.TheVariants.{Up}
-use Rattle.chain_links.specs.ChainArena.{LinkSeen, on_value, with_each, with_link_value, with_value_at, values_of, shown, seen, entry}
+use Rattle.arena_base.specs.declared.cursor.Cursor.{Cursor}
+use Rattle.arena_base.specs.declared.cursor.Cursor.TheVariants.{Up}
+use Rattle.chain_links.specs.ChainArena.{LinkView, on_value, with_each, with_link_value, with_value_at, values_of, link_map, value_view, entry}
 use Rattle.chain_arena.specs.Recasts.{link_without_value, AreAllRecast, IsRecast, IsRecastAt}
-use Rattle.chain_traits.proofs.GenericArenaLemmas.{from_index-rises}
+use Rattle.chain_traits.proofs.GenericArenaLemmas.{entries_at_or_above-rises}
 use Rattle.chain_links.proofs.MappedArenaLemmas.{map-with_slot, slot_at-map}
 
 -- slots with what stands at an index put there again
@@ -27,16 +27,16 @@ with_slot-own {X} slots (suc k) = by slots k where
 
 module _ {Gen T : Type 0} where
   -- an entry without its value
-  abbrev bare : Option (Gen × LinkSeen T) → Option (Gen × LinkSeen (Unit {0}))
+  abbrev bare : Option (Gen × LinkView T) → Option (Gen × LinkView (Unit {0}))
   bare o = option_map (on_value link_without_value) o
 
   -- of a link whose value is written all but the value stays
-  pub value-written : (a : Arena Gen (LinkSeen T)) (i : ℕ) (t : T) → with_each link_without_value (with_value_at a i t) ≡ with_each link_without_value a
-  value-written a i t = ap (λ (slots : List (Option (Gen × LinkSeen (Unit {0})))). let b : Arena Gen (LinkSeen (Unit {0})) = record (with_each link_without_value a) { slots = slots } in b)
+  pub value-written : (a : Arena Gen (LinkView T)) (i : ℕ) (t : T) → with_each link_without_value (with_value_at a i t) ≡ with_each link_without_value a
+  value-written a i t = ap (λ (slots : List (Option (Gen × LinkView (Unit {0})))). let b : Arena Gen (LinkView (Unit {0})) = record (with_each link_without_value a) { slots = slots } in b)
       (map-with_slot bare a.slots i (option_map (on_value (with_link_value t)) (entry_at a i))
       ∙ (ap (with_slot (map bare a.slots) i) (by (entry_at a i) ∙ sym (slot_at-map (on_value link_without_value) a.slots i)) ∙ with_slot-own (map bare a.slots) i))
     where
-      by : (o : Option (Gen × LinkSeen T)) → option_map (on_value link_without_value) (option_map (on_value (with_link_value t)) o) ≡ option_map (on_value link_without_value) o
+      by : (o : Option (Gen × LinkView T)) → option_map (on_value link_without_value) (option_map (on_value (with_link_value t)) o) ≡ option_map (on_value link_without_value) o
       by None = refl
       by (Some e) = refl
 
@@ -66,13 +66,13 @@ module _ {Gen T : Type 0} where
       ap (λ b. cond b (((e.0.0, f.0.1), u) ∷ front ++ e ∷ rest) (f ∷ left)) (ne_eqb f.0.0 e.0.0 (λ same. omega (arith, below, same)))
       ∙ ap (λ es. f ∷ es) (replaced-behind u front e rest (suc f.0.0) rises.1)
 
-  from_index-behind : (front : List ((ℕ × Gen) × T)) (e : (ℕ × Gen) × T) (rest : List ((ℕ × Gen) × T)) (m : ℕ) → RisesFrom m (front ++ e ∷ rest) → from_index (e.0.0 + 1) (front ++ e ∷ rest) ≡ rest
-  from_index-behind [] e rest m rises =
-      ap (λ b. cond b (e ∷ rest) (from_index (e.0.0 + 1) rest)) (lt-leb (e.0.0 + 1) e.0.0 (omega arith)) ∙ from_index-rises (e.0.0 + 1) (suc e.0.0) rest (omega arith) rises.1
-  from_index-behind (f ∷ front) e rest m rises =
+  entries_at_or_above-behind : (front : List ((ℕ × Gen) × T)) (e : (ℕ × Gen) × T) (rest : List ((ℕ × Gen) × T)) (m : ℕ) → RisesFrom m (front ++ e ∷ rest) → entries_at_or_above (e.0.0 + 1) (front ++ e ∷ rest) ≡ rest
+  entries_at_or_above-behind [] e rest m rises =
+      ap (λ b. cond b (e ∷ rest) (entries_at_or_above (e.0.0 + 1) rest)) (lt-leb (e.0.0 + 1) e.0.0 (omega arith)) ∙ entries_at_or_above-rises (e.0.0 + 1) (suc e.0.0) rest (omega arith) rises.1
+  entries_at_or_above-behind (f ∷ front) e rest m rises =
       let below = rises_to front e rest (suc f.0.0) rises.1 in
-      ap (λ b. cond b (f ∷ front ++ e ∷ rest) (from_index (e.0.0 + 1) (front ++ e ∷ rest))) (lt-leb (e.0.0 + 1) f.0.0 (omega (arith, below)))
-      ∙ from_index-behind front e rest (suc f.0.0) rises.1
+      ap (λ b. cond b (f ∷ front ++ e ∷ rest) (entries_at_or_above (e.0.0 + 1) (front ++ e ∷ rest))) (lt-leb (e.0.0 + 1) f.0.0 (omega (arith, below)))
+      ∙ entries_at_or_above-behind front e rest (suc f.0.0) rises.1
 
   values-push : (front : List ((ℕ × Gen) × T)) (e : (ℕ × Gen) × T) (rest : List ((ℕ × Gen) × T)) → values_in (front ++ e ∷ rest) ≡ values_in front ++ e.1 ∷ values_in rest
   values-push front e rest = map-append (λ (x : (ℕ × Gen) × T). x.1) front (e ∷ rest)
@@ -86,40 +86,40 @@ module _ {T I : Type 0} (recasts : T → T → Result (Unit {0}) I → Type 0) w
 
   module _ {Gen : Type 0} where
     -- so far: the values in front are recast, and the advancer looks at what is left
-    pub record IsRecasting (old now : Arena Gen (LinkSeen T)) (look : Look) : Type 0 where
+    pub record IsRecasting (old now : Arena Gen (LinkView T)) (look : Cursor) : Type 0 where
       pub were : List T
       pub front : List ((ℕ × Gen) × T)
       pub left : List ((ℕ × Gen) × T)
       pub from : ℕ
-      pub olds : values_in (seen old).entries ≡ were ++ values_in left
-      pub news : (seen now).entries ≡ front ++ left
+      pub olds : values_in (value_view old).entries ≡ were ++ values_in left
+      pub news : (value_view now).entries ≡ front ++ left
       pub all : AreAllRecast recasts were (values_in front)
       pub looks : look ≡ Up from
-      pub ahead : from_index from (seen now).entries ≡ left
+      pub ahead : entries_at_or_above from (value_view now).entries ≡ left
       pub rest : with_each link_without_value now ≡ with_each link_without_value old
-      pub shows : shown now ≡ shown old
+      pub shows : link_map now ≡ link_map old
 
-    pub recasting_begins : (old : Arena Gen (LinkSeen T)) (look : Look) → look ≡ Up 1 → IsRecasting old old look
+    pub recasting_begins : (old : Arena Gen (LinkView T)) (look : Cursor) → look ≡ Up 1 → IsRecasting old old look
     recasting_begins old look up = record {
       were = [];
       front = [];
-      left = (seen old).entries;
+      left = (value_view old).entries;
       from = 1;
       olds = refl;
       news = refl;
       all = tt;
       looks = up;
-      ahead = from_index-rises 1 1 (seen old).entries (le_refl 1) (entries_rise (values_of old));
+      ahead = entries_at_or_above-rises 1 1 (value_view old).entries (le_refl 1) (entries_rise (values_of old));
       rest = refl;
       shows = refl;
     }
 
-    module _ (old now : Arena Gen (LinkSeen T)) (look : Look) (at : IsRecasting old now look) where
-      left_ahead : ahead look (seen now).entries ≡ at.left
-      left_ahead = ap (λ (l : Look). ahead l (seen now).entries) at.looks ∙ at.ahead
+    module _ (old now : Arena Gen (LinkView T)) (look : Cursor) (at : IsRecasting old now look) where
+      left_ahead : ahead look (value_view now).entries ≡ at.left
+      left_ahead = ap (λ (l : Cursor). ahead l (value_view now).entries) at.looks ∙ at.ahead
 
       -- where nothing is ahead all values are recast
-      pub recast_all : (after : Look) → IsLook (seen now).entries look None after → IsRecast recasts old now (Ok tt)
+      pub recast_all : (after : Cursor) → IsAdvance (value_view now).entries look None after → IsRecast recasts old now (Ok tt)
       recast_all after none = by at.left refl where
         by : (left : List ((ℕ × Gen) × T)) → at.left ≡ left → IsRecast recasts old now (Ok tt)
         by [] empty = record {
@@ -128,7 +128,7 @@ module _ {T I : Type 0} (recasts : T → T → Result (Unit {0}) I → Type 0) w
           values =
               let olds = at.olds ∙ (ap (λ (l : List ((ℕ × Gen) × T)). at.were ++ values_in l) empty ∙ append-nil at.were) in
               let news = ap values_in (at.news ∙ (ap (λ (l : List ((ℕ × Gen) × T)). at.front ++ l) empty ∙ append-nil at.front)) in
-              subst (λ ts. AreAllRecast recasts ts (values_in (seen now).entries)) (sym olds) (subst (AreAllRecast recasts at.were) (sym news) at.all);
+              subst (λ ts. AreAllRecast recasts ts (values_in (value_view now).entries)) (sym olds) (subst (AreAllRecast recasts at.were) (sym news) at.all);
         }
         by (e ∷ left) some = absurd (let met = none.first ∙ ap first_key (left_ahead ∙ some) in cc)
 
@@ -138,7 +138,7 @@ module _ {T I : Type 0} (recasts : T → T → Result (Unit {0}) I → Type 0) w
         later : List ((ℕ × Gen) × T)
         is : at.left ≡ (p, value) ∷ later
 
-      next_is : (p : ℕ × Gen) (after : Look) → IsLook (seen now).entries look (Some p) after → IsNext p
+      next_is : (p : ℕ × Gen) (after : Cursor) → IsAdvance (value_view now).entries look (Some p) after → IsNext p
       next_is p after met = by at.left refl where
         by : (left : List ((ℕ × Gen) × T)) → at.left ≡ left → IsNext p
         by [] empty = absurd (let none = met.first ∙ ap first_key (left_ahead ∙ empty) in cc)
@@ -147,11 +147,11 @@ module _ {T I : Type 0} (recasts : T → T → Result (Unit {0}) I → Type 0) w
             let same : p ≡ e.0 = cc in
             record { value = e.1; later = left; is = some ∙ ap (λ (q : ℕ × Gen). let es : List ((ℕ × Gen) × T) = (q, e.1) ∷ left in es) (sym same) }
 
-      module _ (p : ℕ × Gen) (after : Look) (met : IsLook (seen now).entries look (Some p) after) where
+      module _ (p : ℕ × Gen) (after : Cursor) (met : IsAdvance (value_view now).entries look (Some p) after) where
         abbrev next : IsNext p
         next = next_is p after met
 
-        entries_are : (seen now).entries ≡ at.front ++ (p, next.value) ∷ next.later
+        entries_are : (value_view now).entries ≡ at.front ++ (p, next.value) ∷ next.later
         entries_are = at.news ∙ ap (λ es. at.front ++ es) next.is
 
         rises : RisesFrom 1 (at.front ++ (p, next.value) ∷ next.later)
@@ -163,31 +163,31 @@ module _ {T I : Type 0} (recasts : T → T → Result (Unit {0}) I → Type 0) w
         pub next_valid : IsValid (entry now) p
         next_valid = record { value = next.value; stands = stands }
 
-        module _ (new : Arena Gen (LinkSeen T)) (answer : Result (Unit {0}) I) (is : IsRecastAt recasts now new p answer) where
+        module _ (new : Arena Gen (LinkView T)) (answer : Result (Unit {0}) I) (is : IsRecastAt recasts now new p answer) where
           was_value : is.was ≡ next.value
           was_value = ap (value_or next.value) (sym is.stood ∙ stands)
 
-          entries_then : (seen new).entries ≡ at.front ++ (p, is.is) ∷ next.later
+          entries_then : (value_view new).entries ≡ at.front ++ (p, is.is) ∷ next.later
           entries_then = is.entries ∙ (ap (replaced p.0 (λ (x : Gen × T). (x.0, is.is))) entries_are ∙ replaced-behind is.is at.front (p, next.value) next.later 1 rises)
 
           rest_then : with_each link_without_value new ≡ with_each link_without_value old
           rest_then = ap (with_each link_without_value) is.state ∙ (value-written now p.0 is.is ∙ at.rest)
 
-          olds_then : values_in (seen old).entries ≡ at.were ++ is.was ∷ values_in next.later
+          olds_then : values_in (value_view old).entries ≡ at.were ++ is.was ∷ values_in next.later
           olds_then = at.olds ∙ (ap (λ (l : List ((ℕ × Gen) × T)). at.were ++ values_in l) next.is ∙ ap (λ t. at.were ++ t ∷ values_in next.later) (sym was_value))
 
-          shows_then : shown new ≡ shown old
+          shows_then : link_map new ≡ link_map old
           shows_then = is.shows ∙ at.shows
 
-          left_then : ahead after (seen new).entries ≡ next.later
+          left_then : ahead after (value_view new).entries ≡ next.later
           left_then =
-              let up : after ≡ Up (p.0 + 1) = met.moves ∙ ap (λ (l : Look). look_after l (Some p)) at.looks in
+              let up : after ≡ Up (p.0 + 1) = met.moves ∙ ap (λ (l : Cursor). cursor_after l (Some p)) at.looks in
               let es = at.front ++ (p, is.is) ∷ next.later in
-              ap₂ (λ (l : Look) (xs : List ((ℕ × Gen) × T)). ahead l xs) up entries_then
-              ∙ from_index-behind at.front (p, is.is) next.later 1 (subst (RisesFrom 1) entries_then (entries_rise (values_of new)))
+              ap₂ (λ (l : Cursor) (xs : List ((ℕ × Gen) × T)). ahead l xs) up entries_then
+              ∙ entries_at_or_above-behind at.front (p, is.is) next.later 1 (subst (RisesFrom 1) entries_then (entries_rise (values_of new)))
 
           -- fewer are left then
-          pub fewer_left : length (ahead after (seen new).entries) < length (ahead look (seen now).entries)
+          pub fewer_left : length (ahead after (value_view new).entries) < length (ahead look (value_view now).entries)
           fewer_left = let few = ap (λ (l : List ((ℕ × Gen) × T)). length l) left_then in let many = ap (λ (l : List ((ℕ × Gen) × T)). length l) (left_ahead ∙ next.is) in omega (arith, few, many)
 
           -- one value more is recast
@@ -201,8 +201,8 @@ module _ {T I : Type 0} (recasts : T → T → Result (Unit {0}) I → Type 0) w
             news = entries_then ∙ sym (append_assoc at.front ((p, is.is) ∷ []) next.later);
             all = subst (AreAllRecast recasts (at.were ++ is.was ∷ [])) (sym (values-push at.front (p, is.is) []))
                 (all_pushed at.were (values_in at.front) is.was is.is at.all (subst (recasts is.was is.is) ok is.recast));
-            looks = met.moves ∙ ap (λ (l : Look). look_after l (Some p)) at.looks;
-            ahead = sym (ap (λ (l : Look). ahead l (seen new).entries) (met.moves ∙ ap (λ (l : Look). look_after l (Some p)) at.looks)) ∙ left_then;
+            looks = met.moves ∙ ap (λ (l : Cursor). cursor_after l (Some p)) at.looks;
+            ahead = sym (ap (λ (l : Cursor). ahead l (value_view new).entries) (met.moves ∙ ap (λ (l : Cursor). cursor_after l (Some p)) at.looks)) ∙ left_then;
             rest = rest_then;
             shows = shows_then;
           }

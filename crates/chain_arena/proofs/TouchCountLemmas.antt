@@ -9,7 +9,7 @@ use Rattle.arena_ptr.specs.declared.errors.ChainInsertionError.TheVariants as fa
 use Rattle.arena_ptr.specs.declared.errors.ReallocationError.{ReallocationError}
 use Rattle.arena_ptr.specs.declared.invalidation.InvalidationResult.{InvalidationResult}
 use Rattle.arena_ptr.specs.declared.invalidation.InvalidationResult.TheVariants.{Success, GenerationOverflow, InvalidPtr}
-use Rattle.chain_laws.specs.Chains.{Shown, all_items}
+use Rattle.chain_laws.specs.Chains.{LinkMap, all_items}
 use Rattle.chain_laws.specs.Renamings.{IsRenaming}
 use Rattle.chain_laws.specs.Arrangements.{place_in}
 use Rattle.chain_laws.proofs.RenamingLemmas.Chains.{renaming_is_determined}
@@ -18,9 +18,9 @@ use Rattle.arena_base.specs.Arena.{entry_at}
 use Rattle.arena_base.specs.Compressions.{values_in, AreFilledAnew}
 use Rattle.arena_base.specs.Entries.{Slots, entries, index_of, found}
 use Rattle.arena_base.specs.EntryLaws.{found-entries}
-use Rattle.chain_links.specs.ChainArena.{shown, seen, entry, link_value, values_of, link_of, remove_link, IsJoin, IsCut, IsExchange, IsRemoval}
+use Rattle.chain_links.specs.ChainArena.{link_map, value_view, entry, link_value, values_of, link_of, remove_link, IsJoin, IsCut, IsExchange, IsRemoval}
 use Rattle.chain_arena.specs.Drains.{without_each}
-use Rattle.chain_arena.specs.Effects.{Links, HasRoomFor, stays, grown, IsCompression, IsCanonicalCompression, Tells}
+use Rattle.chain_arena.specs.Effects.{Links, GrowsToFit, stays, grown, IsCompression, IsCanonicalCompression, ReportsOverflow}
 use Rattle.chain_arena.specs.PointerKinds.{PointerKind}
 use Rattle.chain_arena.specs.Runs.{AreSameButTouched}
 use Rattle.chain_arena.specs.Steps.{ConnectStep, BreakPrevStep, BreakNextStep, ExchangeStep, InsertStep, InsertWithinStep, DrainChainStep, ReserveStep, Step, Run}
@@ -64,7 +64,7 @@ module _ {Gen T : Type 0} where
   slots_told a = record { count = length (values_of a).slots; freed = a.freed; placed = a.placed; touched = a.touched }
 
   -- two arenas are the same but for touches, whose entries, interlinks and room are, and whose slots are told alike
-  same_told_alike : (a b : Links Gen T) (count most : ℕ) (old : Slots) → entries (values_of a) ≡ entries (values_of b) → shown a ≡ shown b
+  same_told_alike : (a b : Links Gen T) (count most : ℕ) (old : Slots) → entries (values_of a) ≡ entries (values_of b) → link_map a ≡ link_map b
       → AreFilledAnew count most old (slots_told a) → AreFilledAnew count most old (slots_told b)
       → a.counter ≡ b.counter → a.capacity ≡ b.capacity → a.stack_capacity ≡ b.stack_capacity → a.maximum ≡ b.maximum → AreSameButTouched a b
   same_told_alike a b count most old links interlinks left right counter capacity stack_capacity maximum =
@@ -86,7 +86,7 @@ module _ {Gen T : Type 0} where
       same_entry_at : (i : ℕ) → entry_at a i ≡ entry_at b i
       same_entry_at i =
           let values : entry a i ≡ entry b i = sym (found-entries (values_of a) i) ∙ (ap (found i) links ∙ found-entries (values_of b) i) in
-          sym (link_at-entry a i) ∙ (ap₂ link_of values (ap (λ (s : Shown). s i) interlinks) ∙ link_at-entry b i)
+          sym (link_at-entry a i) ∙ (ap₂ link_of values (ap (λ (s : LinkMap). s i) interlinks) ∙ link_at-entry b i)
 
   of_counter : (g counter : Gen) (es : List ((ℕ × Gen) × T)) → g ≡ counter → All (HasGeneration g) es → All (HasGeneration counter) es
   of_counter g counter es same all = subst (λ (h : Gen). All (HasGeneration h) es) same all
@@ -97,10 +97,10 @@ module _ {Gen T : Type 0} where
     compression_same one two =
         let both : Some a.counter ≡ Some b.counter = one.seen.counter ∙ sym two.seen.counter in
         let counter : a.counter ≡ b.counter = cc in
-        same_told_alike a b (length (seen old).entries) _ (slots_told old)
+        same_told_alike a b (length (value_view old).entries) _ (slots_told old)
         (same_entries b.counter (entries (values_of a)) (entries (values_of b)) (one.seen.indexes ∙ sym two.seen.indexes) (one.values ∙ sym two.values)
         (of_counter one.seen.generation b.counter (entries (values_of a)) (sym one.seen.is_counter ∙ counter) one.seen.generations) (of_counter two.seen.generation b.counter (entries (values_of b)) (sym two.seen.is_counter) two.seen.generations))
-        (renaming_is_determined _ (shown old) (shown a) (shown b) one.links.renamed two.links.renamed) one.seen.slots two.seen.slots counter
+        (renaming_is_determined _ (link_map old) (link_map a) (link_map b) one.links.renamed two.links.renamed) one.seen.slots two.seen.slots counter
         (one.seen.capacity ∙ sym two.seen.capacity) (one.links.stack_capacity ∙ sym two.links.stack_capacity) (one.seen.maximum ∙ sym two.seen.maximum)
 
     -- .. and so is a canonical one
@@ -110,17 +110,17 @@ module _ {Gen T : Type 0} where
         let y = two.layout in
         let both : Some a.counter ≡ Some b.counter = x.counter ∙ sym y.counter in
         let counter : a.counter ≡ b.counter = cc in
-        let order : x.indexes ≡ y.indexes = x.order.items ∙ (ap all_items (no_others (shown old) x.order.chains y.order.chains x.order.are y.order.are) ∙ sym y.order.items) in
+        let order : x.indexes ≡ y.indexes = x.order.items ∙ (ap all_items (no_others (link_map old) x.order.chains y.order.chains x.order.are y.order.are) ∙ sym y.order.items) in
         let values = same_values (values_in (entries (values_of a))) (values_in (entries (values_of b)))
-        (x.values ∙ (ap (λ (is : List ℕ). map (λ i. option_map (λ (e : Gen × T). e.1) (found i (seen old).entries)) is) order ∙ sym y.values)) in
-        same_told_alike a b (length (seen old).entries) _ (slots_told old)
+        (x.values ∙ (ap (λ (is : List ℕ). map (λ i. option_map (λ (e : Gen × T). e.1) (found i (value_view old).entries)) is) order ∙ sym y.values)) in
+        same_told_alike a b (length (value_view old).entries) _ (slots_told old)
         (same_entries b.counter (entries (values_of a)) (entries (values_of b)) (x.keys ∙ sym y.keys) values
         (of_counter x.generation b.counter (entries (values_of a)) (sym x.is_counter ∙ counter) x.generations) (of_counter y.generation b.counter (entries (values_of b)) (sym y.is_counter) y.generations))
-        (renaming_is_determined _ (shown old) (shown a) (shown b) (subst (λ (is : List ℕ). IsRenaming (place_in is) (shown old) (shown a)) order x.renamed) y.renamed) x.slots y.slots counter
+        (renaming_is_determined _ (link_map old) (link_map a) (link_map b) (subst (λ (is : List ℕ). IsRenaming (place_in is) (link_map old) (link_map a)) order x.renamed) y.renamed) x.slots y.slots counter
         (x.capacity ∙ sym y.capacity) (one.stack_capacity ∙ sym two.stack_capacity) (x.maximum ∙ sym y.maximum)
 
 -- what is told of an answer tells what follows from it
-tells_so : {X : Type 0} {No Not : Type 0} (Done Made : X → Type 0) (overflow : Bool) (r : InvalidationResult X) → (No → Not) → ((x : X) → Done x → Made x) → Tells No overflow Done r → Tells Not overflow Made r
+tells_so : {X : Type 0} {No Not : Type 0} (Done Made : X → Type 0) (overflow : Bool) (r : InvalidationResult X) → (No → Not) → ((x : X) → Done x → Made x) → ReportsOverflow No overflow Done r → ReportsOverflow Not overflow Made r
 tells_so Done Made overflow (Success x) not_made made told = (told.0, made x told.1)
 tells_so Done Made overflow (GenerationOverflow x) not_made made told = (told.0, made x told.1)
 tells_so Done Made overflow InvalidPtr not_made made told = not_made told
@@ -163,7 +163,7 @@ module _ (n : ℕ) where
     exchanges_touched p q false step = (step.0, ap touch step.1)
     exchanges_touched p q true step = (step.0, exchange_touched p.0 q.0 step.1)
 
-    room_touched : (greatest m : ℕ) → HasRoomFor greatest m old new → HasRoomFor greatest m (touch old) (touch new)
+    room_touched : (greatest m : ℕ) → GrowsToFit greatest m old new → GrowsToFit greatest m (touch old) (touch new)
     room_touched greatest m (stays within capacity stack_capacity) = stays within capacity stack_capacity
     room_touched greatest m (grown less room) = grown less room
 

@@ -10,7 +10,7 @@ use Rattle.std.proofs.lemmas.List.Elements.{All-push, All-nil}
 use Rattle.arena_ptr.specs.Invalidation.{value_in, is_overflow}
 use Rattle.arena_ptr.specs.declared.invalidation.InvalidationOption.{InvalidationOption}
 use Rattle.chain_laws.proofs.ListLemmas.Ranges.{range_last}
-use Rattle.arena_base.specs.Entries.{Seen, found}
+use Rattle.arena_base.specs.Entries.{ArenaView, found}
 use Rattle.chain_arena.specs.Drains.{after_times}
 use Rattle.chain_arena.specs.Transfers.{Carried, old_index, overflows}
 
@@ -25,14 +25,14 @@ module _ {Gen : Type 0} (following : Gen → Gen) (wraps : Gen → Bool) where
 
 module _ {Q P G Gen U T F : Type 0} (key : Q → ℕ × G) (new_key : P → ℕ × Gen) (following : G → G) (wraps : G → Bool) (call : Mut F (Q × (InvalidationOption U × (P × Unit {0}))) T) where
   -- the closure was called for the links at these indexes, in this order
-  pub record AreCalled (generation : Gen) (first : F) (source : Seen G U) (order : List ℕ) (f : F) (carried : List (Carried Q P U T)) : Type 0 where
+  pub record AreCalled (generation : Gen) (first : F) (source : ArenaView G U) (order : List ℕ) (f : F) (carried : List (Carried Q P U T)) : Type 0 where
     pub ordered : map (old_index key) carried ≡ order
     pub keys : map (λ c. new_key c.to) carried ≡ map (λ k. (k, generation)) (range_with_len 1 (length carried))
     pub in_turn : FoldsTo (λ s c t. Called call s (c.from, (c.value, (c.to, tt))) c.answer t) first carried f
     pub stood : All (λ c. found (old_index key c) source.entries ≡ Some ((key c.from).1, value_in c.value)) carried
     pub overflow : IfSome source.counter (λ g. map (λ c. is_overflow c.value) carried ≡ overflows following wraps (length carried) g)
 
-  pub calls_begin : (generation : Gen) (f : F) (source : Seen G U) → AreCalled generation f source [] f []
+  pub calls_begin : (generation : Gen) (f : F) (source : ArenaView G U) → AreCalled generation f source [] f []
   calls_begin generation f source = record { ordered = refl; keys = refl; in_turn = refl; stood = All-nil (λ (d : Carried Q P U T). found (old_index key d) source.entries ≡ Some ((key d.from).1, value_in d.value)); overflow = none source.counter }
     where
       none : (o : Option G) → IfSome o (λ g. map {A = Carried Q P U T} (λ c. is_overflow c.value) [] ≡ overflows following wraps 0 g)
@@ -40,7 +40,7 @@ module _ {Q P G Gen U T F : Type 0} (key : Q → ℕ × G) (new_key : P → ℕ 
       none (Some g) = refl
 
   -- one call more
-  pub calls_go_on : (generation : Gen) (first : F) (source : Seen G U) (order : List ℕ) (f : F) (carried : List (Carried Q P U T)) → AreCalled generation first source order f carried
+  pub calls_go_on : (generation : Gen) (first : F) (source : ArenaView G U) (order : List ℕ) (f : F) (carried : List (Carried Q P U T)) → AreCalled generation first source order f carried
       → (c : Carried Q P U T) (next : F) → found (old_index key c) source.entries ≡ Some ((key c.from).1, value_in c.value) → new_key c.to ≡ (length carried + 1, generation)
       → Called call f (c.from, (c.value, (c.to, tt))) c.answer next
       → IfSome (option_map (after_times following (length carried)) source.counter) (λ g. is_overflow c.value ≡ wraps g)

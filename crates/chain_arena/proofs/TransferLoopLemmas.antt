@@ -6,25 +6,25 @@ use Rattle.std.specs.Fn.{Mut, Called}
 use Rattle.std.proofs.lemmas.List.{length-map, map-append}
 use Rattle.arena_ptr.specs.Invalidation.{value_in, is_overflow}
 use Rattle.arena_ptr.specs.declared.invalidation.InvalidationOption.{InvalidationOption}
-use Rattle.chain_laws.specs.Chains.{Shown, Chain, all_items, Has, HasNoRepetition, HasLinksWithin, Agrees, AreChains, first_or, next_of}
+use Rattle.chain_laws.specs.Chains.{LinkMap, Chain, all_items, IsMember, AreDistinct, HasLinksWithin, IsWellLinked, AreChains, first_or, next_of}
 use Rattle.chain_laws.specs.Neighbors.{AreTheChains}
-use Rattle.chain_laws.specs.Insertions.{IsGap}
+use Rattle.chain_laws.specs.Insertions.{IsInsertPosition}
 use Rattle.chain_laws.specs.Removals.{removed}
 use Rattle.chain_laws.specs.Renamings.{IsRenaming}
 use Rattle.chain_laws.specs.Arrangements.{place_in, in_runs}
-use Rattle.chain_laws.specs.Walks.{going_on}
-use Rattle.chain_laws.specs.Transfer.{with_left, with_laid, end_before, end_after}
-use Rattle.chain_laws.proofs.ListLemmas.Members.{HasNoRepetition-apart}
+use Rattle.chain_laws.specs.Walks.{step_forward}
+use Rattle.chain_laws.specs.Transfer.{with_rest, with_appended, end_before, end_after}
+use Rattle.chain_laws.proofs.ListLemmas.Members.{AreDistinct-apart}
 use Rattle.chain_laws.proofs.ChainLemmas.NeighborPairs.{agrees_from_chains, chains_from_pairs}
 use Rattle.chain_laws.proofs.ChainLemmas.Partitions.{the_chains}
 use Rattle.chain_laws.proofs.TransferLemmas.Source.{items_left}
 use Rattle.chain_laws.proofs.TransferLemmas.Target.{all_items-append, items_laid, laid-length, laid_between}
 use Rattle.chain_laws.proofs.RenamingLemmas.ChainRuns.{runs_are_renumbered}
 use Rattle.arena_base.specs.Arena.{Arena, IsListed, entry_count, next_index}
-use Rattle.arena_base.specs.Entries.{Seen, found, entry_removed, RisesFrom}
-use Rattle.arena_base.specs.declared.cursor.Look.{Look}
-use Rattle.arena_base.specs.declared.cursor.Look.TheVariants.{Up}
-use Rattle.chain_links.specs.ChainArena.{LinkSeen, shown, insert_between}
+use Rattle.arena_base.specs.Entries.{ArenaView, found, entry_removed, RisesFrom}
+use Rattle.arena_base.specs.declared.cursor.Cursor.{Cursor}
+use Rattle.arena_base.specs.declared.cursor.Cursor.TheVariants.{Up}
+use Rattle.chain_links.specs.ChainArena.{LinkView, link_map, insert_between}
 use Rattle.chain_arena.specs.Drains.{after_times}
 use Rattle.chain_arena.specs.Transfers.{Carried, old_index, entries_removed, AreEnds, IsTransfer}
 use Rattle.chain_traits.specs.DrainOrder.{IsNextChain}
@@ -41,34 +41,34 @@ left_some [] i e = absurd (cc)
 left_some (x ∷ xs) i e = (xs, cc)
 
 -- where no chain is left, no part of one is
-none_left : (ring : Bool) (left : List ℕ) (rest : List Chain) → with_left ring left rest ≡ [] → (left ≡ []) × (rest ≡ [])
+none_left : (ring : Bool) (left : List ℕ) (rest : List Chain) → with_rest ring left rest ≡ [] → (left ≡ []) × (rest ≡ [])
 none_left ring [] rest e = (refl, e)
 none_left ring (x ∷ xs) rest e = absurd (cc)
 
 module _ {Q P G Gen I U T F : Type 0} (key : Q → ℕ × G) (new_key : P → ℕ × Gen) (following : G → G) (wraps : G → Bool) (call : Mut F (Q × (InvalidationOption U × (P × Unit {0}))) T)
-    (number : I → ℕ) (source : Seen G U) (interlinks : Shown) (first : F) (start : Arena Gen (LinkSeen T)) where
+    (number : I → ℕ) (source : ArenaView G U) (interlinks : LinkMap) (first : F) (start : Arena Gen (LinkView T)) where
   abbrev entered : List (Carried Q P U T) → List ((ℕ × Gen) × T)
   entered carried = map (λ (c : Carried Q P U T). (new_key c.to, c.answer)) carried
 
   -- k links are carried over: some whole chains, and of the next a part
-  pub record IsCarrying (k : ℕ) (seen : Seen G U) (links : Shown) (looks : Look) (on : Option ℕ) (ring : Bool) (ends : Option (I × I)) (f : F) (now : Arena Gen (LinkSeen T)) : Type 0 where
+  pub record IsCarrying (k : ℕ) (seen : ArenaView G U) (links : LinkMap) (looks : Cursor) (on : Option ℕ) (ring : Bool) (ends : Option (I × I)) (f : F) (now : Arena Gen (LinkView T)) : Type 0 where
     pub chains : List Chain
     pub are : AreTheChains interlinks chains
     pub done : List Chain
     pub taken : List ℕ
     pub left : List ℕ
     pub rest : List Chain
-    pub parts : chains ≡ done ++ with_left ring (taken ++ left) rest
-    pub departing : IsDeparting following source seen links looks ring left rest (all_items (with_laid done ring taken))
+    pub parts : chains ≡ done ++ with_rest ring (taken ++ left) rest
+    pub departing : IsDeparting following source seen links looks ring left rest (all_items (with_appended done ring taken))
     pub next : on ≡ first_or left None
     pub carried : List (Carried Q P U T)
-    pub called : AreCalled key new_key following wraps call start.counter first source (all_items (with_laid done ring taken)) f carried
-    pub landed : IsLanded start now (with_laid done ring taken) (entered carried)
+    pub called : AreCalled key new_key following wraps call start.counter first source (all_items (with_appended done ring taken)) f carried
+    pub landed : IsLanded start now (with_appended done ring taken) (entered carried)
     pub count : k ≡ length carried
     pub bounds : AreEnds number ends (length taken) (k + 1)
 
   -- nothing is carried yet
-  pub carrying_begins : (greatest : ℕ) (looks : Look) (ring : Bool) → Agrees interlinks → HasLinksWithin interlinks greatest → start.slots ≡ [] → looks ≡ Up 1
+  pub carrying_begins : (greatest : ℕ) (looks : Cursor) (ring : Bool) → IsWellLinked interlinks → HasLinksWithin interlinks greatest → start.slots ≡ [] → looks ≡ Up 1
       → IsCarrying 0 source interlinks looks None ring None first start
   carrying_begins greatest looks ring agrees within none up =
       let all = the_chains interlinks greatest agrees within in
@@ -97,25 +97,25 @@ module _ {Q P G Gen I U T F : Type 0} (key : Q → ℕ × G) (new_key : P → �
         bounds = refl;
       }
 
-  module _ (k : ℕ) (seen : Seen G U) (links : Shown) (looks : Look) (ring : Bool) (ends : Option (I × I)) (f : F) (now : Arena Gen (LinkSeen T)) (stands : StandsFound links seen) where
+  module _ (k : ℕ) (seen : ArenaView G U) (links : LinkMap) (looks : Cursor) (ring : Bool) (ends : Option (I × I)) (f : F) (now : Arena Gen (LinkView T)) (stands : StandsFound links seen) where
     -- the next chain begins
-    pub carries_next : IsCarrying k seen links looks None ring ends f now → (here : ℕ) (cyclic : Bool) (after : Look) → IsNextChain seen links here cyclic after
+    pub carries_next : IsCarrying k seen links looks None ring ends f now → (here : ℕ) (cyclic : Bool) (after : Cursor) → IsNextChain seen links here cyclic after
         → IsCarrying k seen links after (Some here) cyclic None f now
     carries_next c here cyclic after next =
         let none = left_none c.left c.next in
-        let departing : IsDeparting following source seen links looks ring [] c.rest (all_items (with_laid c.done ring c.taken)) =
-        subst (λ (l : List ℕ). IsDeparting following source seen links looks ring l c.rest (all_items (with_laid c.done ring c.taken))) none c.departing in
-        let w = departs_next following source seen links looks ring c.rest (all_items (with_laid c.done ring c.taken)) stands departing here cyclic after next in
+        let departing : IsDeparting following source seen links looks ring [] c.rest (all_items (with_appended c.done ring c.taken)) =
+        subst (λ (l : List ℕ). IsDeparting following source seen links looks ring l c.rest (all_items (with_appended c.done ring c.taken))) none c.departing in
+        let w = departs_next following source seen links looks ring c.rest (all_items (with_appended c.done ring c.taken)) stands departing here cyclic after next in
         record {
           chains = c.chains;
           are = c.are;
-          done = with_laid c.done ring c.taken;
+          done = with_appended c.done ring c.taken;
           taken = [];
           left = here ∷ w.0;
           rest = w.1;
-          parts = c.parts ∙ (ap (λ (l : List ℕ). c.done ++ with_left ring (c.taken ++ l) c.rest) none
-              ∙ (ap (λ (l : List ℕ). c.done ++ with_left ring l c.rest) (append-nil c.taken)
-              ∙ (laid_between c.done ring c.taken c.rest ∙ ap (λ (cs : List Chain). with_laid c.done ring c.taken ++ cs) w.2)));
+          parts = c.parts ∙ (ap (λ (l : List ℕ). c.done ++ with_rest ring (c.taken ++ l) c.rest) none
+              ∙ (ap (λ (l : List ℕ). c.done ++ with_rest ring l c.rest) (append-nil c.taken)
+              ∙ (laid_between c.done ring c.taken c.rest ∙ ap (λ (cs : List Chain). with_appended c.done ring c.taken ++ cs) w.2)));
           departing = w.3;
           next = refl;
           carried = c.carried;
@@ -126,27 +126,27 @@ module _ {Q P G Gen I U T F : Type 0} (key : Q → ℕ × G) (new_key : P → �
         }
 
     -- the interlinks of what is left agree
-    pub agrees_left : (on : Option ℕ) → IsCarrying k seen links looks on ring ends f now → Agrees links
-    agrees_left on c = agrees_from_chains links (with_left ring c.left c.rest) c.departing.chains
+    pub agrees_left : (on : Option ℕ) → IsCarrying k seen links looks on ring ends f now → IsWellLinked links
+    agrees_left on c = agrees_from_chains links (with_rest ring c.left c.rest) c.departing.chains
 
     -- between two chains the advancer looks from where the entries begin ..
     pub looks_up : (on : Option ℕ) → on ≡ None → IsCarrying k seen links looks on ring ends f now → RisesFrom 1 seen.entries → (from : ℕ) × (looks ≡ Up from) × RisesFrom from seen.entries
     looks_up on none c rises =
-        let departing = subst (λ (l : List ℕ). IsDeparting following source seen links looks ring l c.rest (all_items (with_laid c.done ring c.taken))) (left_none c.left (sym none ∙ c.next)) c.departing in
-        (departing.from, departing.up, rises_up following source seen links looks ring c.rest (all_items (with_laid c.done ring c.taken)) stands departing rises)
+        let departing = subst (λ (l : List ℕ). IsDeparting following source seen links looks ring l c.rest (all_items (with_appended c.done ring c.taken))) (left_none c.left (sym none ∙ c.next)) c.departing in
+        (departing.from, departing.up, rises_up following source seen links looks ring c.rest (all_items (with_appended c.done ring c.taken)) stands departing rises)
 
     -- .. and some are left where not all links are carried
     pub some_left : (on : Option ℕ) → IsCarrying k seen links looks on ring ends f now → k < length source.entries → seen.entries ≢ []
     some_left on c few =
-        entries_left following source seen links looks ring c.rest (all_items (with_laid c.done ring c.taken)) stands c.left c.departing
+        entries_left following source seen links looks ring c.rest (all_items (with_appended c.done ring c.taken)) stands c.left c.departing
         (subst (λ n. n < length source.entries) (c.count ∙ (sym (length-map c.carried (old_index key)) ∙ ap length c.called.ordered)) few)
 
     -- the next link to take, in the chain that is taken or in the next
-    pub carries_next_link : {J : Type 0} (index : J → ℕ) (on : Option J) (i : ℕ) (cyclic : Bool) (laid : Option (I × I)) (after : Look) → IsCarrying k seen links looks (option_map index on) ring ends f now
+    pub carries_next_link : {J : Type 0} (index : J → ℕ) (on : Option J) (i : ℕ) (cyclic : Bool) (laid : Option (I × I)) (after : Cursor) → IsCarrying k seen links looks (option_map index on) ring ends f now
         → IfSome on (λ j. (i ≡ index j) × (cyclic ≡ ring) × (laid ≡ ends) × (after ≡ looks)) → IfNone on (IsNextChain seen links i cyclic after × (laid ≡ None))
         → IsCarrying k seen links after (Some i) cyclic laid f now
     carries_next_link index (Some j) i cyclic laid after c goes begins =
-        subst (λ (l : Look). IsCarrying k seen links l (Some i) cyclic laid f now) (sym goes.3)
+        subst (λ (l : Cursor). IsCarrying k seen links l (Some i) cyclic laid f now) (sym goes.3)
         (subst (λ (e : Option (I × I)). IsCarrying k seen links looks (Some i) cyclic e f now) (sym goes.2)
         (subst (λ (r : Bool). IsCarrying k seen links looks (Some i) r ends f now) (sym goes.1)
         (subst (λ (n : ℕ). IsCarrying k seen links looks (Some n) ring ends f now) (sym goes.0) c)))
@@ -161,34 +161,34 @@ module _ {Q P G Gen I U T F : Type 0} (key : Q → ℕ × G) (new_key : P → �
       is_left : c.left ≡ i ∷ xs
       is_left = (left_some c.left i c.next).1
 
-      departing : IsDeparting following source seen links looks ring (i ∷ xs) c.rest (all_items (with_laid c.done ring c.taken))
-      departing = subst (λ (l : List ℕ). IsDeparting following source seen links looks ring l c.rest (all_items (with_laid c.done ring c.taken))) is_left c.departing
+      departing : IsDeparting following source seen links looks ring (i ∷ xs) c.rest (all_items (with_appended c.done ring c.taken))
+      departing = subst (λ (l : List ℕ). IsDeparting following source seen links looks ring l c.rest (all_items (with_appended c.done ring c.taken))) is_left c.departing
 
       pub link_stands : is_some (found i seen.entries) ≡ true
-      link_stands = first_found following source seen links looks ring c.rest (all_items (with_laid c.done ring c.taken)) stands i xs departing
+      link_stands = first_found following source seen links looks ring c.rest (all_items (with_appended c.done ring c.taken)) stands i xs departing
 
       -- no link that was carried had its index
-      apart : Has (all_items (with_laid c.done ring c.taken)) i → ⊥
+      apart : IsMember (all_items (with_appended c.done ring c.taken)) i → ⊥
       apart h =
           let all : all_items c.chains ≡ all_items c.done ++ ((c.taken ++ i ∷ xs) ++ all_items c.rest) =
-          ap all_items (c.parts ∙ ap (λ (l : List ℕ). c.done ++ with_left ring (c.taken ++ l) c.rest) is_left)
-          ∙ (all_items-append c.done (with_left ring (c.taken ++ i ∷ xs) c.rest) ∙ ap (λ (zs : List ℕ). all_items c.done ++ zs) (items_left ring (c.taken ++ i ∷ xs) c.rest)) in
-          let before : all_items c.done ++ ((c.taken ++ i ∷ xs) ++ all_items c.rest) ≡ all_items (with_laid c.done ring c.taken) ++ (i ∷ xs ++ all_items c.rest) =
+          ap all_items (c.parts ∙ ap (λ (l : List ℕ). c.done ++ with_rest ring (c.taken ++ l) c.rest) is_left)
+          ∙ (all_items-append c.done (with_rest ring (c.taken ++ i ∷ xs) c.rest) ∙ ap (λ (zs : List ℕ). all_items c.done ++ zs) (items_left ring (c.taken ++ i ∷ xs) c.rest)) in
+          let before : all_items c.done ++ ((c.taken ++ i ∷ xs) ++ all_items c.rest) ≡ all_items (with_appended c.done ring c.taken) ++ (i ∷ xs ++ all_items c.rest) =
           ap (λ (zs : List ℕ). all_items c.done ++ zs) (append_assoc c.taken (i ∷ xs) (all_items c.rest))
           ∙ (sym (append_assoc (all_items c.done) c.taken (i ∷ xs ++ all_items c.rest)) ∙ ap (λ (zs : List ℕ). zs ++ (i ∷ xs ++ all_items c.rest)) (sym (items_laid c.done ring c.taken))) in
-          HasNoRepetition-apart (all_items (with_laid c.done ring c.taken)) (i ∷ xs ++ all_items c.rest) i (subst HasNoRepetition (all ∙ before) c.are.partition.once) h (inl refl)
+          AreDistinct-apart (all_items (with_appended c.done ring c.taken)) (i ∷ xs ++ all_items c.rest) i (subst AreDistinct (all ∙ before) c.are.partition.once) h (inl refl)
 
       -- its entry is as it was in the source
       pub as_before : found i seen.entries ≡ found i source.entries
-      as_before = ap (λ (s : Seen G U). found i s.entries) c.departing.same ∙ found-entries_removed following source (all_items (with_laid c.done ring c.taken)) i apart
+      as_before = ap (λ (s : ArenaView G U). found i s.entries) c.departing.same ∙ found-entries_removed following source (all_items (with_appended c.done ring c.taken)) i apart
 
-      long : length (all_items (with_laid c.done ring c.taken)) ≡ length c.carried
+      long : length (all_items (with_appended c.done ring c.taken)) ≡ length c.carried
       long = ap length (sym c.called.ordered) ∙ length-map c.carried (old_index key)
 
       pub counted : seen.counter ≡ option_map (after_times following (length c.carried)) source.counter
       counted =
-          ap (λ (s : Seen G U). s.counter) c.departing.same
-          ∙ (counter-entries_removed following source (all_items (with_laid c.done ring c.taken)) ∙ ap (λ n. option_map (after_times following n) source.counter) long)
+          ap (λ (s : ArenaView G U). s.counter) c.departing.same
+          ∙ (counter-entries_removed following source (all_items (with_appended c.done ring c.taken)) ∙ ap (λ n. option_map (after_times following n) source.counter) long)
 
       values_long : length (entered c.carried) ≡ length (all_items c.done) + length c.taken
       values_long = length-map c.carried (λ (d : Carried Q P U T). (new_key d.to, d.answer)) ∙ (sym long ∙ laid-length c.done ring c.taken)
@@ -197,13 +197,13 @@ module _ {Q P G Gen I U T F : Type 0} (key : Q → ℕ × G) (new_key : P → �
       come : length (entered c.carried) ≡ k
       come = length-map c.carried (λ (d : Carried Q P U T). (new_key d.to, d.answer)) ∙ sym c.count
 
-      laid_more : all_items (with_laid c.done ring (c.taken ++ i ∷ [])) ≡ all_items (with_laid c.done ring c.taken) ++ i ∷ []
+      laid_more : all_items (with_appended c.done ring (c.taken ++ i ∷ [])) ≡ all_items (with_appended c.done ring c.taken) ++ i ∷ []
       laid_more =
           items_laid c.done ring (c.taken ++ i ∷ [])
           ∙ (sym (append_assoc (all_items c.done) c.taken (i ∷ [])) ∙ ap (λ (zs : List ℕ). zs ++ i ∷ []) (sym (items_laid c.done ring c.taken)))
 
-      parts_more : c.chains ≡ c.done ++ with_left ring ((c.taken ++ i ∷ []) ++ xs) c.rest
-      parts_more = c.parts ∙ ap (λ (l : List ℕ). c.done ++ with_left ring l c.rest) (ap (λ (l : List ℕ). c.taken ++ l) is_left ∙ sym (append_assoc c.taken (i ∷ []) xs))
+      parts_more : c.chains ≡ c.done ++ with_rest ring ((c.taken ++ i ∷ []) ++ xs) c.rest
+      parts_more = c.parts ∙ ap (λ (l : List ℕ). c.done ++ with_rest ring l c.rest) (ap (λ (l : List ℕ). c.taken ++ l) is_left ∙ sym (append_assoc c.taken (i ∷ []) xs))
 
       -- where the next link comes
       pub comes_at : start.freed ≡ [] → next_index now ≡ k + 1
@@ -212,15 +212,15 @@ module _ {Q P G Gen I U T F : Type 0} (key : Q → ℕ × G) (new_key : P → �
       pub bounds_at : start.freed ≡ [] → AreEnds number ends (length c.taken) (next_index now)
       bounds_at unfreed = subst (AreEnds number ends (length c.taken)) (sym (comes_at unfreed)) c.bounds
 
-      pub gap_at : start.freed ≡ [] → (u v : Option ℕ) → u ≡ end_before ring (length c.taken) (next_index now) → v ≡ end_after ring (length c.taken) (next_index now) → IsGap (shown now) (next_index now) u v
+      pub gap_at : start.freed ≡ [] → (u v : Option ℕ) → u ≡ end_before ring (length c.taken) (next_index now) → v ≡ end_after ring (length c.taken) (next_index now) → IsInsertPosition (link_map now) (next_index now) u v
       gap_at unfreed u v before after =
-          subst₂ (IsGap (shown now) (next_index now)) (sym before) (sym after) (gap_at_end start now c.done ring c.taken (entered c.carried) c.landed unfreed values_long)
+          subst₂ (IsInsertPosition (link_map now) (next_index now)) (sym before) (sym after) (gap_at_end start now c.done ring c.taken (entered c.carried) c.landed unfreed values_long)
 
       -- there is room for it
       pub room_at : start.freed ≡ [] → (room : ℕ) → k < room → room ≤ start.capacity → entry_count now < now.capacity
       room_at unfreed room few fits =
           let have : entry_count now ≡ length (entered c.carried) = count_landed start now c.done ring c.taken (entered c.carried) c.landed unfreed in
-          let same : now.capacity ≡ start.capacity = ap (λ (a : Arena Gen (LinkSeen T)). a.capacity) c.landed.state in
+          let same : now.capacity ≡ start.capacity = ap (λ (a : Arena Gen (LinkView T)). a.capacity) c.landed.state in
           omega (arith, have, come, same, few, fits)
 
       module _ (unfreed : start.freed ≡ []) (listed : IsListed now) (q : Q) (value : InvalidationOption U) (to : P) (t : T) (next : F)
@@ -238,29 +238,29 @@ module _ {Q P G Gen I U T F : Type 0} (key : Q → ℕ × G) (new_key : P → �
             ∙ ap (λ (p : ℕ × Gen). entered c.carried ++ (p, t) ∷ []) (at ∙ ap (λ n. let p : ℕ × Gen = (n + 1, start.counter) in p) (sym come))
 
         called_more : IfSome seen.counter (λ g. is_overflow value ≡ wraps g)
-            → AreCalled key new_key following wraps call start.counter first source (all_items (with_laid c.done ring (c.taken ++ i ∷ []))) next (c.carried ++ link ∷ [])
+            → AreCalled key new_key following wraps call start.counter first source (all_items (with_appended c.done ring (c.taken ++ i ∷ []))) next (c.carried ++ link ∷ [])
         called_more overflow =
             subst (λ (order : List ℕ). AreCalled key new_key following wraps call start.counter first source order next (c.carried ++ link ∷ []))
-            (ap (λ n. all_items (with_laid c.done ring c.taken) ++ n ∷ []) index ∙ sym laid_more)
-            (calls_go_on key new_key following wraps call start.counter first source (all_items (with_laid c.done ring c.taken)) f c.carried c.called link next
+            (ap (λ n. all_items (with_appended c.done ring c.taken) ++ n ∷ []) index ∙ sym laid_more)
+            (calls_go_on key new_key following wraps call start.counter first source (all_items (with_appended c.done ring c.taken)) f c.carried c.called link next
             (ap (λ n. found n source.entries) index ∙ (sym as_before ∙ stood)) keyed called
             (subst (λ (o : Option G). IfSome o (λ g. is_overflow value ≡ wraps g)) counted overflow))
 
-        landed_more : (after : Arena Gen (LinkSeen T)) → after ≡ insert_between now t (end_before ring (length c.taken) (next_index now)) (end_after ring (length c.taken) (next_index now))
-            → IsLanded start after (with_laid c.done ring (c.taken ++ i ∷ [])) (entered (c.carried ++ link ∷ []))
+        landed_more : (after : Arena Gen (LinkView T)) → after ≡ insert_between now t (end_before ring (length c.taken) (next_index now)) (end_after ring (length c.taken) (next_index now))
+            → IsLanded start after (with_appended c.done ring (c.taken ++ i ∷ [])) (entered (c.carried ++ link ∷ []))
         landed_more after is =
-            subst (λ (es : List ((ℕ × Gen) × T)). IsLanded start after (with_laid c.done ring (c.taken ++ i ∷ [])) es) (sym entered_more)
-            (subst (λ (a : Arena Gen (LinkSeen T)). IsLanded start a (with_laid c.done ring (c.taken ++ i ∷ [])) (entered c.carried ++ ((length (entered c.carried) + 1, start.counter), t) ∷ [])) (sym is)
+            subst (λ (es : List ((ℕ × Gen) × T)). IsLanded start after (with_appended c.done ring (c.taken ++ i ∷ [])) es) (sym entered_more)
+            (subst (λ (a : Arena Gen (LinkView T)). IsLanded start a (with_appended c.done ring (c.taken ++ i ∷ [])) (entered c.carried ++ ((length (entered c.carried) + 1, start.counter), t) ∷ [])) (sym is)
             (landing_goes_on start now c.done ring c.taken (entered c.carried) c.landed unfreed values_long t listed i))
 
         -- the link is carried over
-        pub carries_link : Agrees links → (after : Seen G U) (shows : Shown) (on : Option ℕ) (bounds : Option (I × I)) (then_now : Arena Gen (LinkSeen T))
-            → IfSome seen.counter (λ g. is_overflow value ≡ wraps g) → on ≡ going_on i (next_of links i) → after ≡ entry_removed following seen i → shows ≡ removed links i
+        pub carries_link : IsWellLinked links → (after : ArenaView G U) (shows : LinkMap) (on : Option ℕ) (bounds : Option (I × I)) (then_now : Arena Gen (LinkView T))
+            → IfSome seen.counter (λ g. is_overflow value ≡ wraps g) → on ≡ step_forward i (next_of links i) → after ≡ entry_removed following seen i → shows ≡ removed links i
             → then_now ≡ insert_between now t (end_before ring (length c.taken) (next_index now)) (end_after ring (length c.taken) (next_index now))
             → AreEnds number bounds (length c.taken + 1) (k + 1 + 1)
             → IsCarrying (k + 1) after shows looks on ring bounds next then_now
         carries_link agrees after shows on bounds then_now overflow goes is passed inserted ends_are =
-            let w = departs_on following source seen links looks ring c.rest (all_items (with_laid c.done ring c.taken)) stands i xs departing agrees after shows is passed in
+            let w = departs_on following source seen links looks ring c.rest (all_items (with_appended c.done ring c.taken)) stands i xs departing agrees after shows is passed in
             record {
               chains = c.chains;
               are = c.are;
@@ -287,22 +287,22 @@ module _ {Q P G Gen I U T F : Type 0} (key : Q → ℕ × G) (new_key : P → �
     pub carries_all : (on : Option ℕ) → IsCarrying k seen links looks on ring ends f now → start.freed ≡ [] → k ≡ length source.entries
         → IsTransfer key new_key following wraps call start.counter first source interlinks seen start now
     carries_all on c unfreed all =
-        let long : length (all_items (with_laid c.done ring c.taken)) ≡ length source.entries = ap length (sym c.called.ordered) ∙ (length-map c.carried (old_index key) ∙ (sym c.count ∙ all)) in
-        let gone = all_departed following source seen links looks ring c.rest (all_items (with_laid c.done ring c.taken)) stands c.left c.departing long in
+        let long : length (all_items (with_appended c.done ring c.taken)) ≡ length source.entries = ap length (sym c.called.ordered) ∙ (length-map c.carried (old_index key) ∙ (sym c.count ∙ all)) in
+        let gone = all_departed following source seen links looks ring c.rest (all_items (with_appended c.done ring c.taken)) stands c.left c.departing long in
         let none = none_left ring c.left c.rest gone.1 in
-        let laid : c.chains ≡ with_laid c.done ring c.taken =
+        let laid : c.chains ≡ with_appended c.done ring c.taken =
         c.parts
-        ∙ (ap₂ (λ (l : List ℕ) (r : List Chain). c.done ++ with_left ring (c.taken ++ l) r) none.0 none.1
-        ∙ (ap (λ (l : List ℕ). c.done ++ with_left ring l []) (append-nil c.taken)
-        ∙ (laid_between c.done ring c.taken [] ∙ append-nil (with_laid c.done ring c.taken)))) in
+        ∙ (ap₂ (λ (l : List ℕ) (r : List Chain). c.done ++ with_rest ring (c.taken ++ l) r) none.0 none.1
+        ∙ (ap (λ (l : List ℕ). c.done ++ with_rest ring l []) (append-nil c.taken)
+        ∙ (laid_between c.done ring c.taken [] ∙ append-nil (with_appended c.done ring c.taken)))) in
         let items : map (old_index key) c.carried ≡ all_items c.chains = c.called.ordered ∙ sym (ap all_items laid) in
         record {
           carried = c.carried;
           order = record { chains = c.chains; are = c.are; items = items };
           keys = c.called.keys;
-          renamed = subst (λ (order : List ℕ). IsRenaming (place_in order) interlinks (shown now)) (sym items)
-              (runs_are_renumbered interlinks (shown now) c.chains (chains_from_pairs interlinks c.chains c.are.partition c.are.interlinks)
-              (subst (λ (cs : List Chain). AreChains (shown now) (in_runs 1 cs)) (sym laid) c.landed.chains));
+          renamed = subst (λ (order : List ℕ). IsRenaming (place_in order) interlinks (link_map now)) (sym items)
+              (runs_are_renumbered interlinks (link_map now) c.chains (chains_from_pairs interlinks c.chains c.are.partition c.are.interlinks)
+              (subst (λ (cs : List Chain). AreChains (link_map now) (in_runs 1 cs)) (sym laid) c.landed.chains));
           last = f;
           in_turn = c.called.in_turn;
           stood = c.called.stood;
@@ -323,9 +323,9 @@ module _ {Q P G Gen I U T F : Type 0} (key : Q → ℕ × G) (new_key : P → �
           placed = start.placed + length c.carried;
         }
         state_of c =
-            let made = (λ (f : List ℕ) (m n p : ℕ). let a : Arena Gen (LinkSeen T) = record start { slots = now.slots; freed = f; capacity = m; stack_capacity = n; placed = p } in a) in
+            let made = (λ (f : List ℕ) (m n p : ℕ). let a : Arena Gen (LinkView T) = record start { slots = now.slots; freed = f; capacity = m; stack_capacity = n; placed = p } in a) in
             c.landed.state
             ∙ (ap (λ p. made start.freed start.capacity start.stack_capacity p)
             (ap (λ n. start.placed + n) (length-map c.carried (λ (d : Carried Q P U T). (new_key d.to, d.answer))))
             ∙ (ap (λ f. made f start.capacity start.stack_capacity (start.placed + length c.carried)) unfreed
-            ∙ ap₂ (λ m n. made [] m n (start.placed + length c.carried)) (sym (ap (λ (a : Arena Gen (LinkSeen T)). a.capacity) c.landed.state)) (sym (ap (λ (a : Arena Gen (LinkSeen T)). a.stack_capacity) c.landed.state))))
+            ∙ ap₂ (λ m n. made [] m n (start.placed + length c.carried)) (sym (ap (λ (a : Arena Gen (LinkView T)). a.capacity) c.landed.state)) (sym (ap (λ (a : Arena Gen (LinkView T)). a.stack_capacity) c.landed.state))))

@@ -4,19 +4,19 @@ use Rattle.std.specs.Prelude.{is_some, cond, ◌==◌}
 use Rattle.std.specs.Option.{option_map}
 use Rattle.std.proofs.lemmas.Bool.{eqb-true}
 use Rattle.std.proofs.Math.Decide.{ℕ_discrete}
-use Rattle.chain_laws.specs.Chains.{Shown, Interlinks, Chain, items, Has, HasLink, IsInOrder, Agrees, AreChains, first_or, next_of}
+use Rattle.chain_laws.specs.Chains.{LinkMap, Interlinks, Chain, items, IsMember, HasLink, IsInOrder, IsWellLinked, AreChains, first_or, next_of}
 use Rattle.chain_laws.specs.Removals.{removed}
-use Rattle.chain_laws.specs.Walks.{going_on}
+use Rattle.chain_laws.specs.Walks.{step_forward}
 use Rattle.chain_laws.specs.ChainStart.{chain_of}
-use Rattle.chain_laws.specs.Transfer.{with_left}
+use Rattle.chain_laws.specs.Transfer.{with_rest}
 use Rattle.chain_laws.proofs.InterlinkLemmas.Inverses.{if_same, if_other}
-use Rattle.chain_laws.proofs.ListLemmas.Members.{filled-Has}
+use Rattle.chain_laws.proofs.ListLemmas.Members.{filled-IsMember}
 use Rattle.chain_laws.proofs.ChainLemmas.Uniqueness.{chain_valid, chain_filled}
 use Rattle.chain_laws.proofs.TransferLemmas.Source.{items_of, least_is_next, first_is_taken}
 use Rattle.chain_laws.proofs.RemovalLemmas.Pairs.{HasLink-removed}
-use Rattle.arena_base.specs.Entries.{Seen, found, without, entry_removed, RisesFrom}
-use Rattle.arena_base.specs.declared.cursor.Look.{Look}
-use Rattle.arena_base.specs.declared.cursor.Look.TheVariants.{Up}
+use Rattle.arena_base.specs.Entries.{ArenaView, found, without, entry_removed, RisesFrom}
+use Rattle.arena_base.specs.declared.cursor.Cursor.{Cursor}
+use Rattle.arena_base.specs.declared.cursor.Cursor.TheVariants.{Up}
 use Rattle.chain_arena.specs.Drains.{after_times}
 use Rattle.chain_arena.specs.Transfers.{entries_removed}
 use Rattle.chain_traits.specs.DrainOrder.{IsNextChain}
@@ -49,25 +49,25 @@ module _ {Gen T : Type 0} where
   rises_from from low (e ∷ es) rises found_low = (found_low e.0.0 (ap is_some (if_same e.0.0 e.0.0 (Some (e.0.1, e.1)) (found e.0.0 es) refl)), rises.1)
 
   -- a link stands where an entry is found
-  abbrev pub StandsFound : Shown → Seen Gen T → Type 0
+  abbrev pub StandsFound : LinkMap → ArenaView Gen T → Type 0
   StandsFound links seen = (i : ℕ) → is_some (links i) ≡ is_some (found i seen.entries)
 
-  found_valid : (links : Shown) (seen : Seen Gen T) → StandsFound links seen → (i : ℕ) → is_some (found i seen.entries) ≡ true → HasLink links i
+  found_valid : (links : LinkMap) (seen : ArenaView Gen T) → StandsFound links seen → (i : ℕ) → is_some (found i seen.entries) ≡ true → HasLink links i
   found_valid links seen stands i there = by (links i) refl (stands i ∙ there) where
     by : (o : Option Interlinks) → links i ≡ o → is_some (links i) ≡ true → HasLink links i
     by None is some = absurd (let none = ap is_some is in let both = sym some ∙ none in cc)
     by (Some link) is some = record { link = link; shows = is }
 
-  valid_found : (links : Shown) (seen : Seen Gen T) → StandsFound links seen → (i : ℕ) → HasLink links i → is_some (found i seen.entries) ≡ true
+  valid_found : (links : LinkMap) (seen : ArenaView Gen T) → StandsFound links seen → (i : ℕ) → HasLink links i → is_some (found i seen.entries) ≡ true
   valid_found links seen stands i valid = sym (stands i) ∙ ap is_some valid.shows
 
 module _ {Gen T : Type 0} (following : Gen → Gen) where
-  entries_removed-append : (s : Seen Gen T) (xs : List ℕ) (i : ℕ) → entries_removed following s (xs ++ i ∷ []) ≡ entry_removed following (entries_removed following s xs) i
+  entries_removed-append : (s : ArenaView Gen T) (xs : List ℕ) (i : ℕ) → entries_removed following s (xs ++ i ∷ []) ≡ entry_removed following (entries_removed following s xs) i
   entries_removed-append s [] i = refl
   entries_removed-append s (x ∷ xs) i = entries_removed-append (entry_removed following s x) xs i
 
   -- the counter goes up once for each
-  pub counter-entries_removed : (s : Seen Gen T) (xs : List ℕ) → (entries_removed following s xs).counter ≡ option_map (after_times following (length xs)) s.counter
+  pub counter-entries_removed : (s : ArenaView Gen T) (xs : List ℕ) → (entries_removed following s xs).counter ≡ option_map (after_times following (length xs)) s.counter
   counter-entries_removed s [] = own s.counter
     where
       own : (o : Option Gen) → o ≡ option_map (after_times following 0) o
@@ -80,28 +80,28 @@ module _ {Gen T : Type 0} (following : Gen → Gen) where
       once (Some g) = refl
 
   -- what was not removed is found as before
-  pub found-entries_removed : (s : Seen Gen T) (xs : List ℕ) (i : ℕ) → (Has xs i → ⊥) → found i (entries_removed following s xs).entries ≡ found i s.entries
+  pub found-entries_removed : (s : ArenaView Gen T) (xs : List ℕ) (i : ℕ) → (IsMember xs i → ⊥) → found i (entries_removed following s xs).entries ≡ found i s.entries
   found-entries_removed s [] i none = refl
   found-entries_removed s (x ∷ xs) i none =
       found-entries_removed (entry_removed following s x) xs i (λ h. none (inr h)) ∙ found-without i x s.entries (λ same. none (inl (sym same)))
 
   -- links were taken out of a source, and these chains are left, of the first of them a part. An advancer has met what
   -- is not left and stands below it.
-  pub record IsDeparting (source seen : Seen Gen T) (links : Shown) (looks : Look) (ring : Bool) (left : List ℕ) (rest : List Chain) (taken : List ℕ) : Type 0 where
-    pub chains : AreChains links (with_left ring left rest)
+  pub record IsDeparting (source seen : ArenaView Gen T) (links : LinkMap) (looks : Cursor) (ring : Bool) (left : List ℕ) (rest : List Chain) (taken : List ℕ) : Type 0 where
+    pub chains : AreChains links (with_rest ring left rest)
     pub order : IsInOrder rest
     pub same : seen ≡ entries_removed following source taken
     pub size : length seen.entries + length taken ≡ length source.entries
     pub from : ℕ
     pub up : looks ≡ Up from
-    pub low : (j : ℕ) → HasLink links j → (from ≤ j) ⊎ Has left j
+    pub low : (j : ℕ) → HasLink links j → (from ≤ j) ⊎ IsMember left j
 
-  module _ (source seen : Seen Gen T) (links : Shown) (looks : Look) (ring : Bool) (rest : List Chain) (taken : List ℕ) (stands : StandsFound links seen) where
+  module _ (source seen : ArenaView Gen T) (links : LinkMap) (looks : Cursor) (ring : Bool) (rest : List Chain) (taken : List ℕ) (stands : StandsFound links seen) where
     -- where no chain is left in part, the entries rise from where the advancer looks
     pub rises_up : (d : IsDeparting source seen links looks ring [] rest taken) → RisesFrom 1 seen.entries → RisesFrom d.from seen.entries
     rises_up d rises = rises_from d.from 1 seen.entries rises (λ j there. above (d.low j (found_valid links seen stands j there)))
       where
-        above : {j : ℕ} → (d.from ≤ j) ⊎ Has [] j → d.from ≤ j
+        above : {j : ℕ} → (d.from ≤ j) ⊎ IsMember [] j → d.from ≤ j
         above (inl le) = le
         above (inr h) = absurd h
 
@@ -110,7 +110,7 @@ module _ {Gen T : Type 0} (following : Gen → Gen) where
     entries_left left d few none = let long : length seen.entries ≡ 0 = ap length none in omega (arith, d.size, long)
 
     -- the next chain is the first of those that are left
-    pub departs_next : IsDeparting source seen links looks ring [] rest taken → (here : ℕ) (cyclic : Bool) (after : Look) → IsNextChain seen links here cyclic after
+    pub departs_next : IsDeparting source seen links looks ring [] rest taken → (here : ℕ) (cyclic : Bool) (after : Cursor) → IsNextChain seen links here cyclic after
         → (xs : List ℕ) × (others : List Chain) × (rest ≡ chain_of cyclic (here ∷ xs) ∷ others) × IsDeparting source seen links after cyclic (here ∷ xs) others taken
     departs_next d here cyclic after next =
         let valid = found_valid links seen stands next.least next.stands in
@@ -130,41 +130,41 @@ module _ {Gen T : Type 0} (following : Gen → Gen) where
           },
         )
       where
-        above : (j : ℕ) → next.least ≤ j → (left : List ℕ) → Has left next.least → Dec (next.least ≡ j) → (next.least + 1 ≤ j) ⊎ Has left j
-        above j le left has (yes same) = inr (subst (Has left) same has)
+        above : (j : ℕ) → next.least ≤ j → (left : List ℕ) → IsMember left next.least → Dec (next.least ≡ j) → (next.least + 1 ≤ j) ⊎ IsMember left j
+        above j le left has (yes same) = inr (subst (IsMember left) same has)
         above j le left has (no ne) = inl (omega arith)
 
     module _ (i : ℕ) (xs : List ℕ) (d : IsDeparting source seen links looks ring (i ∷ xs) rest taken) where
       -- the first link of the chain stands
       pub first_found : is_some (found i seen.entries) ≡ true
-      first_found = valid_found links seen stands i (chain_valid links (chain_of ring (i ∷ xs)) i (d.chains.each (chain_of ring (i ∷ xs)) (inl refl)) (subst (λ (zs : List ℕ). Has zs i) (sym (items_of ring (i ∷ xs))) (inl refl)))
+      first_found = valid_found links seen stands i (chain_valid links (chain_of ring (i ∷ xs)) i (d.chains.each (chain_of ring (i ∷ xs)) (inl refl)) (subst (λ (zs : List ℕ). IsMember zs i) (sym (items_of ring (i ∷ xs))) (inl refl)))
 
       -- once it is taken out, the rest of the chain is left
-      pub departs_on : Agrees links → (after : Seen Gen T) (shows : Shown) → after ≡ entry_removed following seen i → shows ≡ removed links i
-          → IsDeparting source after shows looks ring xs rest (taken ++ i ∷ []) × (going_on i (next_of links i) ≡ first_or xs None)
+      pub departs_on : IsWellLinked links → (after : ArenaView Gen T) (shows : LinkMap) → after ≡ entry_removed following seen i → shows ≡ removed links i
+          → IsDeparting source after shows looks ring xs rest (taken ++ i ∷ []) × (step_forward i (next_of links i) ≡ first_or xs None)
       departs_on agrees after shows is passed =
           let w = first_is_taken links ring i xs rest agrees d.chains in (
             record {
-              chains = subst (λ (m : Shown). AreChains m (with_left ring xs rest)) (sym passed) w.0;
+              chains = subst (λ (m : LinkMap). AreChains m (with_rest ring xs rest)) (sym passed) w.0;
               order = d.order;
-              same = is ∙ (ap (λ (s : Seen Gen T). entry_removed following s i) d.same ∙ sym (entries_removed-append source taken i));
-              size = omega (arith, d.size, ap (λ (s : Seen Gen T). length s.entries) is, length-without i seen.entries first_found, length-append taken (i ∷ []));
+              same = is ∙ (ap (λ (s : ArenaView Gen T). entry_removed following s i) d.same ∙ sym (entries_removed-append source taken i));
+              size = omega (arith, d.size, ap (λ (s : ArenaView Gen T). length s.entries) is, length-without i seen.entries first_found, length-append taken (i ∷ []));
               from = d.from;
               up = d.up;
-              low = λ j v. let u = (HasLink-removed links i j).0 (subst (λ (m : Shown). HasLink m j) passed v) in stays j u.1 (d.low j u.0);
+              low = λ j v. let u = (HasLink-removed links i j).0 (subst (λ (m : LinkMap). HasLink m j) passed v) in stays j u.1 (d.low j u.0);
             },
             w.1,
           )
         where
-          stays : (j : ℕ) → j ≢ i → (d.from ≤ j) ⊎ Has (i ∷ xs) j → (d.from ≤ j) ⊎ Has xs j
+          stays : (j : ℕ) → j ≢ i → (d.from ≤ j) ⊎ IsMember (i ∷ xs) j → (d.from ≤ j) ⊎ IsMember xs j
           stays j ne (inl le) = inl le
           stays j ne (inr (inl same)) = absurd (ne (sym same))
           stays j ne (inr (inr h)) = inr h
 
     -- once as many were taken as there were, none is left
     pub all_departed : (left : List ℕ) → IsDeparting source seen links looks ring left rest taken → length taken ≡ length source.entries
-        → (seen.entries ≡ []) × (with_left ring left rest ≡ [])
-    all_departed left d all = (gone, nothing (with_left ring left rest) d.chains)
+        → (seen.entries ≡ []) × (with_rest ring left rest ≡ [])
+    all_departed left d all = (gone, nothing (with_rest ring left rest) d.chains)
       where
         empty : (es : List ((ℕ × Gen) × T)) → length es ≡ 0 → es ≡ []
         empty [] e = refl
@@ -180,5 +180,5 @@ module _ {Gen T : Type 0} (following : Gen → Gen) where
         nothing [] are = refl
         nothing (c ∷ chains) are =
             let h = are.each c (inl refl) in
-            let some = filled-Has (items c) (chain_filled links c h) in
+            let some = filled-IsMember (items c) (chain_filled links c h) in
             absurd (unfound some.0 (valid_found links seen stands some.0 (chain_valid links c some.0 h some.1)))

@@ -1,18 +1,18 @@
 -- The arena into which links are carried: each comes behind the last one, and the chains lie in runs.
 use Rattle.std.proofs.Common.{◌≡◌, ℕ, zero, suc, ◌+◌, Bool, List, [], ◌∷◌, ◌++◌, length, Option, None, Some, refl, sym, ap, ap₂, ◌∙◌, subst, length-append, arith}
 use Rattle.std.specs.Option.{option_map}
-use Rattle.chain_laws.specs.Chains.{Shown, Interlinks, Chain, all_items, AreChains}
-use Rattle.chain_laws.specs.Insertions.{IsGap, inserted}
+use Rattle.chain_laws.specs.Chains.{LinkMap, Interlinks, Chain, all_items, AreChains}
+use Rattle.chain_laws.specs.Insertions.{IsInsertPosition, inserted}
 use Rattle.chain_laws.specs.Arrangements.{in_runs}
-use Rattle.chain_laws.specs.Transfer.{with_laid, end_before, end_after}
+use Rattle.chain_laws.specs.Transfer.{with_appended, end_before, end_after}
 use Rattle.chain_laws.proofs.TransferLemmas.Target.{last_is_laid}
 use Rattle.arena_base.specs.Arena.{Arena, IsListed, slot_at, entry_count, filled, first_or_next, next_index, without_first}
 use Rattle.arena_base.specs.Entries.{entries, entries_from}
-use Rattle.chain_links.specs.ChainArena.{LinkSeen, link_value, values_of, interlinks_of, shown, lone, insert_lone, insert_between}
+use Rattle.chain_links.specs.ChainArena.{LinkView, link_value, values_of, interlinks_of, link_map, lone, insert_lone, insert_between}
 use Rattle.chain_links.proofs.MappedArenaLemmas.{length-with_each}
 use Rattle.chain_links.proofs.LinkStateLemmas.{length-relinked}
 use Rattle.chain_links.proofs.ArenaInsertionLemmas.{values-count}
-use Rattle.chain_arena.proofs.InsertionEffectLemmas.{shown-insert_between, values_of-insert_between}
+use Rattle.chain_arena.proofs.InsertionEffectLemmas.{link_map-insert_between, values_of-insert_between}
 
 module _ {Gen T : Type 0} where
   -- entries behind others
@@ -25,37 +25,37 @@ module _ {Gen T : Type 0} where
 module _ {Gen T : Type 0} where
   -- so many links have come, with these entries, and lie in the runs of these chains; but for slots and placements the
   -- arena is as it was
-  pub record IsLanded (start now : Arena Gen (LinkSeen T)) (laid : List Chain) (values : List ((ℕ × Gen) × T)) : Type 0 where
-    pub chains : AreChains (shown now) (in_runs 1 laid)
+  pub record IsLanded (start now : Arena Gen (LinkView T)) (laid : List Chain) (values : List ((ℕ × Gen) × T)) : Type 0 where
+    pub chains : AreChains (link_map now) (in_runs 1 laid)
     pub entered : entries (values_of now) ≡ values
     pub slots : length now.slots ≡ length values
     pub state : now ≡ record start { slots = now.slots; placed = start.placed + length values }
 
   -- no link has come to an arena without slots
-  pub landing_begins : (start : Arena Gen (LinkSeen T)) → start.slots ≡ [] → IsLanded start start [] []
+  pub landing_begins : (start : Arena Gen (LinkView T)) → start.slots ≡ [] → IsLanded start start [] []
   landing_begins start none = record {
     chains = record {
       each = λ c h. absurd h;
       once = tt;
       all = λ i v. absurd (nothing i v.link v.shows);
     };
-    entered = ap (λ (s : List (Option (Gen × LinkSeen T))). entries (values_of (record start { slots = s }))) none;
+    entered = ap (λ (s : List (Option (Gen × LinkView T))). entries (values_of (record start { slots = s }))) none;
     slots = ap length none;
-    state = ap (λ n. let a : Arena Gen (LinkSeen T) = record start { placed = n } in a) (let e : start.placed ≡ start.placed + 0 = omega arith in e);
+    state = ap (λ n. let a : Arena Gen (LinkView T) = record start { placed = n } in a) (let e : start.placed ≡ start.placed + 0 = omega arith in e);
   }
     where
-      at_none : (i : ℕ) → slot_at {X = Gen × LinkSeen T} [] i ≡ None
+      at_none : (i : ℕ) → slot_at {X = Gen × LinkView T} [] i ≡ None
       at_none zero = refl
       at_none (suc k) = refl
 
-      nothing : (i : ℕ) (l : Interlinks) → shown start i ≡ Some l → ⊥
+      nothing : (i : ℕ) (l : Interlinks) → link_map start i ≡ Some l → ⊥
       nothing i l e =
-          let empty : shown start i ≡ None = ap (λ (s : List (Option (Gen × LinkSeen T))). option_map interlinks_of (slot_at s i)) none ∙ ap (option_map interlinks_of) (at_none i) in
+          let empty : link_map start i ≡ None = ap (λ (s : List (Option (Gen × LinkView T))). option_map interlinks_of (slot_at s i)) none ∙ ap (option_map interlinks_of) (at_none i) in
           cc
 
-  module _ (start now : Arena Gen (LinkSeen T)) (done : List Chain) (ring : Bool) (xs : List ℕ) (values : List ((ℕ × Gen) × T)) (landed : IsLanded start now (with_laid done ring xs) values) (unfreed : start.freed ≡ []) where
+  module _ (start now : Arena Gen (LinkView T)) (done : List Chain) (ring : Bool) (xs : List ℕ) (values : List ((ℕ × Gen) × T)) (landed : IsLanded start now (with_appended done ring xs) values) (unfreed : start.freed ≡ []) where
     pub now_unfreed : now.freed ≡ []
-    now_unfreed = ap (λ (a : Arena Gen (LinkSeen T)). a.freed) landed.state ∙ unfreed
+    now_unfreed = ap (λ (a : Arena Gen (LinkView T)). a.freed) landed.state ∙ unfreed
 
     -- the index of the next link
     pub next_behind : next_index now ≡ length values + 1
@@ -70,15 +70,15 @@ module _ {Gen T : Type 0} where
       at_end = next_behind ∙ ap (λ n. n + 1) long
 
       -- there is a gap behind the last link
-      pub gap_at_end : IsGap (shown now) (next_index now) (end_before ring (length xs) (next_index now)) (end_after ring (length xs) (next_index now))
-      gap_at_end = (last_is_laid (shown now) done ring xs 0 (next_index now) landed.chains at_end).1
+      pub gap_at_end : IsInsertPosition (link_map now) (next_index now) (end_before ring (length xs) (next_index now)) (end_after ring (length xs) (next_index now))
+      gap_at_end = (last_is_laid (link_map now) done ring xs 0 (next_index now) landed.chains at_end).1
 
       module _ (t : T) (listed : IsListed now) where
-        abbrev there : Arena Gen (LinkSeen T)
+        abbrev there : Arena Gen (LinkView T)
         there = insert_between now t (end_before ring (length xs) (next_index now)) (end_after ring (length xs) (next_index now))
 
-        shown_there : shown there ≡ inserted (shown now) (next_index now) (end_before ring (length xs) (next_index now)) (end_after ring (length xs) (next_index now))
-        shown_there = shown-insert_between now t listed (end_before ring (length xs) (next_index now)) (end_after ring (length xs) (next_index now))
+        shown_there : link_map there ≡ inserted (link_map now) (next_index now) (end_before ring (length xs) (next_index now)) (end_after ring (length xs) (next_index now))
+        shown_there = link_map-insert_between now t listed (end_before ring (length xs) (next_index now)) (end_after ring (length xs) (next_index now))
 
         values_there : entries (values_of there) ≡ values ++ ((length values + 1, start.counter), t) ∷ []
         values_there =
@@ -86,7 +86,7 @@ module _ {Gen T : Type 0} where
             ∙ (ap (λ (f : List ℕ). entries_from 1 (filled f (values_of now).slots (now.counter, t))) now_unfreed
             ∙ (entries_from-append 1 (values_of now).slots (now.counter, t)
             ∙ ap₂ (λ (es : List ((ℕ × Gen) × T)) (p : ℕ × Gen). es ++ (p, t) ∷ []) landed.entered
-            (ap₂ (λ (n : ℕ) (g : Gen). (n, g)) (let e : 1 + length (values_of now).slots ≡ length values + 1 = omega (arith, length-with_each link_value now, landed.slots) in e) (ap (λ (a : Arena Gen (LinkSeen T)). a.counter) landed.state))))
+            (ap₂ (λ (n : ℕ) (g : Gen). (n, g)) (let e : 1 + length (values_of now).slots ≡ length values + 1 = omega (arith, length-with_each link_value now, landed.slots) in e) (ap (λ (a : Arena Gen (LinkView T)). a.counter) landed.state))))
 
         slots_there : length there.slots ≡ length (values ++ ((length values + 1, start.counter), t) ∷ [])
         slots_there =
@@ -96,17 +96,17 @@ module _ {Gen T : Type 0} where
 
         state_there : there ≡ record start { slots = there.slots; placed = start.placed + length (values ++ ((length values + 1, start.counter), t) ∷ []) }
         state_there =
-            let made = (λ (s : List (Option (Gen × LinkSeen T))) (f : List ℕ) (n : ℕ). let a : Arena Gen (LinkSeen T) = record start { slots = s; freed = f; placed = n } in a) in
-            let fields : there ≡ made there.slots (without_first now.freed) (now.placed + 1) = ap (λ (a : Arena Gen (LinkSeen T)). let b : Arena Gen (LinkSeen T) = record a { slots = there.slots; freed = without_first now.freed; placed = now.placed + 1 } in b) landed.state in
+            let made = (λ (s : List (Option (Gen × LinkView T))) (f : List ℕ) (n : ℕ). let a : Arena Gen (LinkView T) = record start { slots = s; freed = f; placed = n } in a) in
+            let fields : there ≡ made there.slots (without_first now.freed) (now.placed + 1) = ap (λ (a : Arena Gen (LinkView T)). let b : Arena Gen (LinkView T) = record a { slots = there.slots; freed = without_first now.freed; placed = now.placed + 1 } in b) landed.state in
             fields
             ∙ (ap (λ f. made there.slots f (now.placed + 1)) (ap without_first now_unfreed ∙ sym unfreed)
             ∙ ap (λ n. made there.slots start.freed n)
-            (let e : now.placed + 1 ≡ start.placed + length (values ++ ((length values + 1, start.counter), t) ∷ []) = omega (arith, ap (λ (a : Arena Gen (LinkSeen T)). a.placed) landed.state, length-append values (((length values + 1, start.counter), t) ∷ [])) in e))
+            (let e : now.placed + 1 ≡ start.placed + length (values ++ ((length values + 1, start.counter), t) ∷ []) = omega (arith, ap (λ (a : Arena Gen (LinkView T)). a.placed) landed.state, length-append values (((length values + 1, start.counter), t) ∷ [])) in e))
 
         -- a link that comes behind the last one
-        pub landing_goes_on : (x : ℕ) → IsLanded start there (with_laid done ring (xs ++ x ∷ [])) (values ++ ((length values + 1, start.counter), t) ∷ [])
+        pub landing_goes_on : (x : ℕ) → IsLanded start there (with_appended done ring (xs ++ x ∷ [])) (values ++ ((length values + 1, start.counter), t) ∷ [])
         landing_goes_on x = record {
-          chains = subst (λ (m : Shown). AreChains m (in_runs 1 (with_laid done ring (xs ++ x ∷ [])))) (sym shown_there) (last_is_laid (shown now) done ring xs x (next_index now) landed.chains at_end).2;
+          chains = subst (λ (m : LinkMap). AreChains m (in_runs 1 (with_appended done ring (xs ++ x ∷ [])))) (sym shown_there) (last_is_laid (link_map now) done ring xs x (next_index now) landed.chains at_end).2;
           entered = values_there;
           slots = slots_there;
           state = state_there;

@@ -2,36 +2,36 @@
 use Rattle.std.proofs.Common.{◌≡◌, ℕ, zero, suc, List, [], ◌∷◌, Option, None, Some, refl, ap, ap₂, sym, ◌∙◌, subst, IfSome, arith}
 use Rattle.std.specs.Prelude.{◌-◌}
 use Rattle.std.specs.Option.{option_map}
-use Rattle.chain_laws.specs.Chains.{Agrees, HasLink, next_in, next_of, prev_in}
-use Rattle.chain_laws.specs.Walks.{going_back, going_on}
+use Rattle.chain_laws.specs.Chains.{IsWellLinked, HasLink, next_in, next_of, prev_in}
+use Rattle.chain_laws.specs.Walks.{step_back, step_forward}
 use Rattle.chain_laws.proofs.InterlinkLemmas.Inverses.{if_other, if_same, one_some}
 use Rattle.arena_base.specs.Arena.{Arena, entry_at}
-use Rattle.chain_links.specs.ChainArena.{LinkSeen, shown, interlinks_of}
+use Rattle.chain_links.specs.ChainArena.{LinkView, link_map, interlinks_of}
 use Rattle.chain_links.specs.Walkers.{index_and_entry, links_ahead}
 use Rattle.chain_linking.proofs.NeighborLemmas.{next_named, prev_named}
 use Rattle.chain_arena.specs.Iterators.{IsOnLinks}
 
 module _ {Gen T : Type 0} (i : ℕ) where
   -- a look at an index that tells a link tells what stands there
-  pub looked_some : (k : ℕ) (e : Gen × LinkSeen T) (o : Option (Gen × LinkSeen T)) → Some (k, e) ≡ option_map (index_and_entry i) o → o ≡ Some e
+  pub looked_some : (k : ℕ) (e : Gen × LinkView T) (o : Option (Gen × LinkView T)) → Some (k, e) ≡ option_map (index_and_entry i) o → o ≡ Some e
   looked_some k e None tells = absurd (let h = tells in cc)
-  looked_some k e (Some f) tells = ap (λ (p : ℕ × (Gen × LinkSeen T)). let o : Option (Gen × LinkSeen T) = Some p.1 in o) (sym (one_some tells))
+  looked_some k e (Some f) tells = ap (λ (p : ℕ × (Gen × LinkView T)). let o : Option (Gen × LinkView T) = Some p.1 in o) (sym (one_some tells))
 
-module _ {Gen T : Type 0} (a : Arena Gen (LinkSeen T)) where
+module _ {Gen T : Type 0} (a : Arena Gen (LinkView T)) where
   -- from a link that stands a walker comes to links that stand, forth ..
-  pub onward_stands : (i : ℕ) (back : Option ℕ) (e : Gen × LinkSeen T) → entry_at a i ≡ Some e → Agrees (shown a) → IfSome back (HasLink (shown a)) → IsOnLinks (shown a) e.1.next back
+  pub onward_stands : (i : ℕ) (back : Option ℕ) (e : Gen × LinkView T) → entry_at a i ≡ Some e → IsWellLinked (link_map a) → IfSome back (HasLink (link_map a)) → IsOnLinks (link_map a) e.1.next back
   onward_stands i back e stands agrees behind = record {
     agrees = agrees;
-    onward = subst (λ (o : Option ℕ). IfSome o (HasLink (shown a))) (ap (λ (o : Option (Gen × LinkSeen T)). next_in (option_map interlinks_of o)) stands) (next_named (shown a) i agrees);
+    onward = subst (λ (o : Option ℕ). IfSome o (HasLink (link_map a))) (ap (λ (o : Option (Gen × LinkView T)). next_in (option_map interlinks_of o)) stands) (next_named (link_map a) i agrees);
     behind = behind;
   }
 
   -- .. and back
-  pub behind_stands : (i : ℕ) (e : Gen × LinkSeen T) → entry_at a i ≡ Some e → Agrees (shown a) → IsOnLinks (shown a) None e.1.prev
+  pub behind_stands : (i : ℕ) (e : Gen × LinkView T) → entry_at a i ≡ Some e → IsWellLinked (link_map a) → IsOnLinks (link_map a) None e.1.prev
   behind_stands i e stands agrees = record {
     agrees = agrees;
     onward = tt;
-    behind = subst (λ (o : Option ℕ). IfSome o (HasLink (shown a))) (ap (λ (o : Option (Gen × LinkSeen T)). prev_in (option_map interlinks_of o)) stands) (prev_named (shown a) i agrees);
+    behind = subst (λ (o : Option ℕ). IfSome o (HasLink (link_map a))) (ap (λ (o : Option (Gen × LinkView T)). prev_in (option_map interlinks_of o)) stands) (prev_named (link_map a) i agrees);
   }
 
   -- one that goes nowhere passes nothing
@@ -39,35 +39,35 @@ module _ {Gen T : Type 0} (a : Arena Gen (LinkSeen T)) where
   nowhere zero start = refl
   nowhere (suc left) start = refl
 
-  module _ (start i : ℕ) (back : Option ℕ) (e : Gen × LinkSeen T) (stands : entry_at a i ≡ Some e) where
+  module _ (start i : ℕ) (back : Option ℕ) (e : Gen × LinkView T) (stands : entry_at a i ≡ Some e) where
     -- one with steps left passes the link that it is at
-    passes_first : (left : ℕ) → (left ≡ 0 → ⊥) → links_ahead a left start (Some i) back ≡ (i, e) ∷ links_ahead a (left - 1) start (going_on start e.1.next) (going_back start e.1.next back)
+    passes_first : (left : ℕ) → (left ≡ 0 → ⊥) → links_ahead a left start (Some i) back ≡ (i, e) ∷ links_ahead a (left - 1) start (step_forward start e.1.next) (step_back start e.1.next back)
     passes_first zero some = absurd (some refl)
     passes_first (suc n) some =
-        let ahead : Option ℕ → ℕ → List (ℕ × (Gen × LinkSeen T)) = λ next left. links_ahead a left start (going_on start next) (going_back start next back) in
+        let ahead : Option ℕ → ℕ → List (ℕ × (Gen × LinkView T)) = λ next left. links_ahead a left start (step_forward start next) (step_back start next back) in
         let less : n ≡ suc n - 1 = omega arith in
-        ap (λ (o : Option (Gen × LinkSeen T)). elim o [ None ↦ [] | Some f ↦ (i, f) ∷ ahead (next_of (shown a) i) n ]) stands
-        ∙ ap₂ (λ (next : Option ℕ) (left : ℕ). (i, e) ∷ ahead next left) (ap (λ (o : Option (Gen × LinkSeen T)). next_in (option_map interlinks_of o)) stands) less
+        ap (λ (o : Option (Gen × LinkView T)). elim o [ None ↦ [] | Some f ↦ (i, f) ∷ ahead (next_of (link_map a) i) n ]) stands
+        ∙ ap₂ (λ (next : Option ℕ) (left : ℕ). (i, e) ∷ ahead next left) (ap (λ (o : Option (Gen × LinkView T)). next_in (option_map interlinks_of o)) stands) less
 
     -- .. and that is its last, where it has come round
     pub passes_last : (left : ℕ) (next : Option ℕ) → (left ≡ 0 → ⊥) → next ≡ e.1.next → next ≡ Some start → links_ahead a left start (Some i) back ≡ (i, e) ∷ links_ahead a 0 start next back
     passes_last left next some named round =
         let closed : e.1.next ≡ Some start = sym named ∙ round in
         passes_first left some
-        ∙ ap (λ (rest : List (ℕ × (Gen × LinkSeen T))). (i, e) ∷ rest)
+        ∙ ap (λ (rest : List (ℕ × (Gen × LinkView T))). (i, e) ∷ rest)
         (ap₂ (λ (forth behind : Option ℕ). links_ahead a (left - 1) start forth behind)
-        (ap (going_on start) closed ∙ if_same start start None (Some start) refl) (ap (λ (n : Option ℕ). going_back start n back) closed ∙ if_same start start None back refl)
+        (ap (step_forward start) closed ∙ if_same start start None (Some start) refl) (ap (λ (n : Option ℕ). step_back start n back) closed ∙ if_same start start None back refl)
         ∙ nowhere (left - 1) start)
 
     -- .. or else it goes on
     pub passes_on : (left : ℕ) (next : Option ℕ) → (left ≡ 0 → ⊥) → next ≡ e.1.next → (next ≡ Some start → ⊥) → links_ahead a left start (Some i) back ≡ (i, e) ∷ links_ahead a (left - 1) start next back
     passes_on left next some named apart =
         passes_first left some
-        ∙ ap (λ (n : Option ℕ). (i, e) ∷ links_ahead a (left - 1) start (going_on start n) (going_back start n back)) (sym named)
+        ∙ ap (λ (n : Option ℕ). (i, e) ∷ links_ahead a (left - 1) start (step_forward start n) (step_back start n back)) (sym named)
         ∙ straight next apart
       where
         straight : (n : Option ℕ) → (n ≡ Some start → ⊥)
-            → ◌≡◌ {A = List (ℕ × (Gen × LinkSeen T))} ((i, e) ∷ links_ahead a (left - 1) start (going_on start n) (going_back start n back)) ((i, e) ∷ links_ahead a (left - 1) start n back)
+            → ◌≡◌ {A = List (ℕ × (Gen × LinkView T))} ((i, e) ∷ links_ahead a (left - 1) start (step_forward start n) (step_back start n back)) ((i, e) ∷ links_ahead a (left - 1) start n back)
         straight None other = refl
         straight (Some k) other =
             ap₂ (λ (forth behind : Option ℕ). (i, e) ∷ links_ahead a (left - 1) start forth behind)

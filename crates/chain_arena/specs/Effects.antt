@@ -7,26 +7,26 @@ use Rattle.arena_ptr.specs.declared.invalidation.InvalidationResult.{Invalidatio
 use Rattle.arena_ptr.specs.declared.invalidation.InvalidationResult.TheVariants.{Success, GenerationOverflow, InvalidPtr}
 use Rattle.chain_laws.specs.Insertions.{InsertKind, link_before, link_after, InsertsPairs, Inserts}
 use Rattle.chain_laws.specs.Walks.{IsWalk, TakesWalk}
-use Rattle.arena_base.specs.Arena.{Arena, IsValid, HasRoom, next_index, with_capacity_of}
+use Rattle.arena_base.specs.Arena.{Arena, IsValid, HasCapacityFor, next_index, with_capacity_of}
 use Rattle.arena_base.specs.Compressions.{IsCompressed, values_in}
 use Rattle.arena_base.specs.Entries.{entries}
 use Rattle.chain_links.specs.CanonicalLayouts.{IsCanonicalLayout}
-use Rattle.chain_links.specs.ChainArena.{LinkSeen, shown, entry, values_of, seen, insert_as}
+use Rattle.chain_links.specs.ChainArena.{LinkView, link_map, entry, values_of, value_view, insert_as}
 use Rattle.chain_links.specs.Kinds.{names_in, by_index, MayInsert}
 use Rattle.chain_links.specs.declared.kinds.InsertKindBody.{InsertKindBody}
-use Rattle.chain_compaction.specs.LinkCompressions.{ClosesGaps}
+use Rattle.chain_compaction.specs.LinkCompressions.{ClosesHoles}
 use Rattle.chain_arena.specs.Drains.{without_each}
 
 -- the links of an arena
 abbrev pub Links : Type 0 → Type 0 → Type 0
-Links Gen T = Arena Gen (LinkSeen T)
+Links Gen T = Arena Gen (LinkView T)
 
 module _ {Gen T : Type 0} where
   -- room for n: where there was enough it stays as it is, and else the arena has grown to it, up to the greatest index
   -- and within the maximum
-  pub data HasRoomFor (greatest n : ℕ) (old new : Links Gen T) : Type 0 where
-    stays : n ≤ old.capacity → new.capacity ≡ old.capacity → new.stack_capacity ≡ old.stack_capacity → HasRoomFor greatest n old new
-    grown : old.capacity < n → HasRoom greatest n new → HasRoomFor greatest n old new
+  pub data GrowsToFit (greatest n : ℕ) (old new : Links Gen T) : Type 0 where
+    stays : n ≤ old.capacity → new.capacity ≡ old.capacity → new.stack_capacity ≡ old.stack_capacity → GrowsToFit greatest n old new
+    grown : old.capacity < n → HasCapacityFor greatest n new → GrowsToFit greatest n old new
 
   -- why it is not made: it would go beyond the maximum; or memory is refused, or an index above the greatest needed
   abbrev pub Refuses : ℕ → Links Gen T → ReallocationError → Type 0
@@ -37,41 +37,41 @@ module _ {Gen T : Type 0} where
   pub record IsDrained (following : Gen → Gen) (old : Links Gen T) (p : ℕ × Gen) (take count : ℕ) (new : Links Gen T) : Type 0 where
     pub valid : IsValid (entry old) p
     pub walk : List ℕ
-    pub is_walk : IsWalk (shown old) p.0 walk
+    pub is_walk : IsWalk (link_map old) p.0 walk
     pub counted : count ≡ min take (length walk)
     pub state : new ≡ without_each following old walk
-    pub chains : TakesWalk (shown old) (shown new) walk
+    pub chains : TakesWalk (link_map old) (link_map new) walk
 
   -- the gaps are closed: the links come to the indexes from 1 on, in the order of their indexes, each with its value, and
   -- name the new indexes of their neighbors
   pub record IsCompression (first : Gen) (following : Gen → Gen) (reset : Bool) (old new : Links Gen T) : Type 0 where
-    pub seen : IsCompressed first following reset (seen old) (seen new)
+    pub seen : IsCompressed first following reset (value_view old) (value_view new)
     pub values : values_in (entries (values_of new)) ≡ values_in (entries (values_of old))
-    pub links : ClosesGaps old new
+    pub links : ClosesHoles old new
 
   -- the chains are laid one after another
   pub record IsCanonicalCompression (first : Gen) (following : Gen → Gen) (reset : Bool) (old new : Links Gen T) : Type 0 where
-    pub layout : IsCanonicalLayout first following reset (seen old) (shown old) (seen new) (shown new)
+    pub layout : IsCanonicalLayout first following reset (value_view old) (link_map old) (value_view new) (link_map new)
     pub stack_capacity : new.stack_capacity ≡ old.stack_capacity
 
 module _ {P I Gen : Type 0} (key : P → ℕ × Gen) (number : I → ℕ) where
   -- a kind by the indexes that it names
-  abbrev pub kind_of : InsertKindBody P I → InsertKind ℕ
-  kind_of kind = by_index (names_in key number kind)
+  abbrev pub indexed_kind : InsertKindBody P I → InsertKind ℕ
+  indexed_kind kind = by_index (names_in key number kind)
 
   -- a link of the kind may be inserted
-  abbrev pub May : {T : Type 0} → Links Gen T → InsertKindBody P I → Type 0
-  May old kind = MayInsert (entry old) (shown old) (names_in key number kind)
+  abbrev pub MayInsertInto : {T : Type 0} → Links Gen T → InsertKindBody P I → Type 0
+  MayInsertInto old kind = MayInsert (entry old) (link_map old) (names_in key number kind)
 
 -- there is a new link of a kind, at this pointer: it stands between the two that the kind gives
 pub record IsAdded {P Gen T : Type 0} (key : P → ℕ × Gen) (old : Links Gen T) (kind : InsertKind ℕ) (t : T) (p : P) (new : Links Gen T) : Type 0 where
   pub pointer : key p ≡ (next_index old, old.counter)
   pub state : new ≡ with_capacity_of (insert_as old kind t) new
-  pub pairs : InsertsPairs (shown old) (shown new) (next_index old) (link_before (shown old) kind (next_index old)) (link_after (shown old) kind (next_index old))
-  pub chains : Inserts (shown old) (shown new) (next_index old) (link_before (shown old) kind (next_index old)) (link_after (shown old) kind (next_index old))
+  pub pairs : InsertsPairs (link_map old) (link_map new) (next_index old) (link_before (link_map old) kind (next_index old)) (link_after (link_map old) kind (next_index old))
+  pub chains : Inserts (link_map old) (link_map new) (next_index old) (link_before (link_map old) kind (next_index old)) (link_after (link_map old) kind (next_index old))
 
 -- an answer where something may be invalid: it is told whether the counter overflowed
-abbrev pub Tells : {X : Type 0} → Type 0 → Bool → (X → Type 0) → InvalidationResult X → Type 0
-Tells invalid overflow done InvalidPtr = invalid
-Tells invalid overflow done (Success x) = (overflow ≡ false) × done x
-Tells invalid overflow done (GenerationOverflow x) = (overflow ≡ true) × done x
+abbrev pub ReportsOverflow : {X : Type 0} → Type 0 → Bool → (X → Type 0) → InvalidationResult X → Type 0
+ReportsOverflow invalid overflow done InvalidPtr = invalid
+ReportsOverflow invalid overflow done (Success x) = (overflow ≡ false) × done x
+ReportsOverflow invalid overflow done (GenerationOverflow x) = (overflow ≡ true) × done x

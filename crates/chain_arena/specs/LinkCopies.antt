@@ -6,14 +6,14 @@ use Rattle.arena_base.specs.Arena.{Arena, new_arena}
 use Rattle.arena_base.specs.Entries.{entries}
 use Rattle.arena_base.specs.Copies.{CopiesBy, IsCopyCall, HasRefusable, HasSlotsOf}
 use Rattle.chain_links.specs.declared.links.LinkBody.{LinkBody}
-use Rattle.chain_links.specs.ChainArena.{LinkSeen, interlinks_in, shown, values_of}
-use Rattle.chain_links.specs.Links.{seen_link, seen_links}
+use Rattle.chain_links.specs.ChainArena.{LinkView, interlinks_in, link_map, values_of}
+use Rattle.chain_links.specs.Links.{link_view, links_view}
 
 -- A link is made of another: it names the same neighbors, and its value is made of a pointer and that link, where it is
 -- told how each changes what makes the values.
-pub record MakesLink {F P K U T : Type 0} (number : K → Option ℕ) (makes : F → P → LinkSeen U → T → F → Type 0) (f : F) (p : P) (u : LinkBody K U) (t : LinkBody K T) (next : F) : Type 0 where
-  pub interlinks : interlinks_in (seen_link number t) ≡ interlinks_in (seen_link number u)
-  pub value : makes f p (seen_link number u) t.t next
+pub record MakesLink {F P K U T : Type 0} (number : K → Option ℕ) (makes : F → P → LinkView U → T → F → Type 0) (f : F) (p : P) (u : LinkBody K U) (t : LinkBody K T) (next : F) : Type 0 where
+  pub interlinks : interlinks_in (link_view number t) ≡ interlinks_in (link_view number u)
+  pub value : makes f p (link_view number u) t.t next
 
 -- what makes values of what it is shown, told by what that looks like
 pub record MakesOf {F P V U T : Type 0} (look : V → U) (makes : F → P → V → T → F → Type 0) (f : F) (p : P) (u : U) (t : T) (next : F) : Type 0 where
@@ -23,27 +23,27 @@ pub record MakesOf {F P V U T : Type 0} (look : V → U) (makes : F → P → V 
 
 -- .. and which of them may be refused
 abbrev pub RefusesOf : {P V U : Type 0} → (V → U) → (P → V → Type 0) → P → U → Type 0
-RefusesOf {V = V} look may_refuse p u = (shown : V) × (look shown ≡ u) × may_refuse p shown
+RefusesOf {V = V} look may_refuse p u = (link_map : V) × (look link_map ≡ u) × may_refuse p link_map
 
 -- one of the links of a source may be refused a value
-abbrev pub HasRefusableLink : {P K U Gen : Type 0} → (K → Option ℕ) → (P → LinkBody K U → Type 0) → (P → ℕ × Gen) → Arena Gen (LinkSeen U) → Type 0
-HasRefusableLink number may_refuse key source = HasRefusable (RefusesOf (seen_link number) may_refuse) key (entries source)
+abbrev pub HasRefusableLink : {P K U Gen : Type 0} → (K → Option ℕ) → (P → LinkBody K U → Type 0) → (P → ℕ × Gen) → Arena Gen (LinkView U) → Type 0
+HasRefusableLink number may_refuse key source = HasRefusable (RefusesOf (link_view number) may_refuse) key (entries source)
 
 -- a chain arena has become a copy of another, with values that were made of its links
-pub record IsLinkCopyBy {F P U T Gen : Type 0} (makes : F → P → LinkSeen U → T → F → Type 0) (key : P → ℕ × Gen) (f : F) (source : Arena Gen (LinkSeen U)) (old new : Arena Gen (LinkSeen T)) (last : F) : Type 0 where
+pub record IsLinkCopyBy {F P U T Gen : Type 0} (makes : F → P → LinkView U → T → F → Type 0) (key : P → ℕ × Gen) (f : F) (source : Arena Gen (LinkView U)) (old new : Arena Gen (LinkView T)) (last : F) : Type 0 where
   -- the slots are those of the source but for the values, the counter and the freed list are the same ..
   pub slots : HasSlotsOf source old new
   -- .. and each link names the same neighbors
-  pub shows : shown new ≡ shown source
+  pub shows : link_map new ≡ link_map source
   -- what makes the values was shown each link of the source once, by rising index, and so came to be what it is last
   pub values : CopiesBy makes key f (entries source) (entries (values_of new)) last
 
 -- .. that a closure answered
-abbrev pub IsLinkCopy : {F P K U T Gen : Type 0} → Mut F (P × (Bor (LinkBody K U) × Unit {0})) T → (K → Option ℕ) → (P → ℕ × Gen) → F → Arena Gen (LinkSeen U) → Arena Gen (LinkSeen T) → Arena Gen (LinkSeen T) → Type 0
-IsLinkCopy {F = F} g number key f source old new = (last : F) × IsLinkCopyBy (MakesOf (seen_link number) (IsCopyCall g)) key f source old new last
+abbrev pub IsLinkCopy : {F P K U T Gen : Type 0} → Mut F (P × (Bor (LinkBody K U) × Unit {0})) T → (K → Option ℕ) → (P → ℕ × Gen) → F → Arena Gen (LinkView U) → Arena Gen (LinkView T) → Arena Gen (LinkView T) → Type 0
+IsLinkCopy {F = F} g number key f source old new = (last : F) × IsLinkCopyBy (MakesOf (link_view number) (IsCopyCall g)) key f source old new last
 
 -- a new arena that has the links, the counter and the freed list of another, with room of its own
-abbrev pub IsClone : {Gen T : Type 0} → Gen → Option ℕ → Arena Gen (LinkSeen T) → Arena Gen (LinkSeen T) → Type 0
+abbrev pub IsClone : {Gen T : Type 0} → Gen → Option ℕ → Arena Gen (LinkView T) → Arena Gen (LinkView T) → Type 0
 IsClone first maximum source copy = copy ≡ record (new_arena first maximum) {
   slots = source.slots;
   counter = source.counter;
@@ -53,7 +53,7 @@ IsClone first maximum source copy = copy ≡ record (new_arena first maximum) {
 }
 
 -- an arena that has become a copy of the arena of links below a chain arena, where more is known of it than what is seen
-pub record IsCopyBelow {K T Gen A : Type 0} (number : K → Option ℕ) (copies : Arena Gen (LinkBody K T) → A → A → Type 0) (source : Arena Gen (LinkSeen T)) (old new : A) : Type 0 where
+pub record IsCopyBelow {K T Gen A : Type 0} (number : K → Option ℕ) (copies : Arena Gen (LinkBody K T) → A → A → Type 0) (source : Arena Gen (LinkView T)) (old new : A) : Type 0 where
   pub links : Arena Gen (LinkBody K T)
-  pub seen : seen_links number links ≡ source
+  pub seen : links_view number links ≡ source
   pub copied : copies links old new

@@ -6,21 +6,21 @@ use Rattle.arena_ptr.specs.declared.errors.ChainInsertionError.{ChainInsertionEr
 use Rattle.arena_ptr.specs.declared.errors.ChainInsertionError.TheVariants as failed
 use Rattle.arena_ptr.specs.declared.errors.ReallocationError.{ReallocationError}
 use Rattle.arena_ptr.specs.declared.errors.ReallocationError.TheVariants as refused
-use Rattle.chain_laws.specs.Chains.{Agrees}
+use Rattle.chain_laws.specs.Chains.{IsWellLinked}
 use Rattle.chain_laws.specs.Insertions.{link_before, link_after}
-use Rattle.arena_base.specs.Arena.{HasGrownTo, IsListed, entry_count, next_index, with_capacity_of}
-use Rattle.chain_links.specs.ChainArena.{shown, seen, entry, insert_between}
+use Rattle.arena_base.specs.Arena.{ReachesCapacity, IsListed, entry_count, next_index, with_capacity_of}
+use Rattle.chain_links.specs.ChainArena.{link_map, value_view, entry, insert_between}
 use Rattle.chain_links.specs.Insertions.{IsInsertionBetween}
 use Rattle.chain_links.specs.declared.kinds.InsertKindBody.{InsertKindBody}
 use Rattle.chain_linking.specs.InsertPositions.{before_in, after_in}
-use Rattle.chain_linking.specs.declared.insert_position.Gap.{Gap}
-use Rattle.chain_arena.specs.Effects.{Links, kind_of, May}
+use Rattle.chain_linking.specs.declared.insert_position.InsertPosition.{InsertPosition}
+use Rattle.chain_arena.specs.Effects.{Links, indexed_kind, MayInsertInto}
 
 module _ {Gen T : Type 0} where
   -- an arena with room for one link more, which a full one has after a growth
   pub record HasGrown (may_reach : ℕ → Option ℕ → ℕ → ℕ → Type 0) (greatest : ℕ) (old new : Links Gen T) : Type 0 where
     -- there is room for the link, and a growth to it went as far as the stack may reach
-    pub grown : HasGrownTo may_reach greatest (entry_count old + 1) old new
+    pub grown : ReachesCapacity may_reach greatest (entry_count old + 1) old new
     -- nothing else has changed ..
     pub state : new ≡ with_capacity_of old new
     -- .. and where there was room, nothing has
@@ -37,8 +37,8 @@ module _ {Gen T : Type 0} where
   GrowsByOne may_reach greatest old (Err why) new = RefusesOneMore old why × (new ≡ old)
 
 -- a link came between two, where they are, to the next index
-abbrev pub ComesBetween : {Gen T : Type 0} → Option ℕ → Option ℕ → Links Gen T → T → Links Gen T → Type 0
-ComesBetween before after old t new = IsInsertionBetween before after (seen old) (seen new) (entry old) (entry new) (shown old) (shown new) (next_index old, old.counter) t
+abbrev pub IsInsertedBetween : {Gen T : Type 0} → Option ℕ → Option ℕ → Links Gen T → T → Links Gen T → Type 0
+IsInsertedBetween before after old t new = IsInsertionBetween before after (value_view old) (value_view new) (entry old) (entry new) (link_map old) (link_map new) (next_index old, old.counter) t
 
 -- how an insertion is refused where a growth is
 abbrev pub refusal_of : ReallocationError → ChainInsertionError
@@ -46,47 +46,47 @@ refusal_of refused.BeyondMaxCapacity = failed.BeyondMaxCapacity
 refusal_of refused.AllocError = failed.AllocError
 
 -- a gap, unless a growth was refused
-abbrev pub gap_unless_refused : {I : Type 0} → Gap I → Result Unit ReallocationError → Result (Gap I) ChainInsertionError
-gap_unless_refused gap grown = result_map_both (λ done. gap) refusal_of grown
+abbrev pub position_unless_refused : {I : Type 0} → InsertPosition I → Result Unit ReallocationError → Result (InsertPosition I) ChainInsertionError
+position_unless_refused gap grown = result_map_both (λ done. gap) refusal_of grown
 
 module _ {P I Gen T : Type 0} (key : P → ℕ × Gen) (number : I → ℕ) where
   -- a gap is that of a kind
-  pub record IsPlace (old : Links Gen T) (kind : InsertKindBody P I) (gap : Gap I) : Type 0 where
+  pub record IsPositionFor (old : Links Gen T) (kind : InsertKindBody P I) (gap : InsertPosition I) : Type 0 where
     -- a link of the kind may be inserted
-    pub may : May key number old kind
+    pub may : MayInsertInto key number old kind
     -- it comes after the link that the kind gives ..
-    pub before : before_in number gap (next_index old) ≡ link_before (shown old) (kind_of key number kind) (next_index old)
+    pub before : before_in number gap (next_index old) ≡ link_before (link_map old) (indexed_kind key number kind) (next_index old)
     -- .. and before the other one
-    pub after : after_in number gap (next_index old) ≡ link_after (shown old) (kind_of key number kind) (next_index old)
+    pub after : after_in number gap (next_index old) ≡ link_after (link_map old) (indexed_kind key number kind) (next_index old)
 
   -- the answer to who asks for the place of a kind within the capacity
-  abbrev pub PlacesWithin : Links Gen T → InsertKindBody P I → Result (Gap I) ChainInsertionError → Type 0
-  PlacesWithin old kind (Ok gap) = IsPlace old kind gap × (entry_count old < old.capacity)
-  PlacesWithin old kind (Err failed.FailedLinkRequirement) = May key number old kind → ⊥
-  PlacesWithin old kind (Err failed.NotWithinCapacity) = May key number old kind × (entry_count old ≡ old.capacity)
-  PlacesWithin old kind (Err failed.BeyondMaxCapacity) = ⊥
-  PlacesWithin old kind (Err failed.AllocError) = ⊥
+  abbrev pub FindsPositionWithin : Links Gen T → InsertKindBody P I → Result (InsertPosition I) ChainInsertionError → Type 0
+  FindsPositionWithin old kind (Ok gap) = IsPositionFor old kind gap × (entry_count old < old.capacity)
+  FindsPositionWithin old kind (Err failed.FailedLinkRequirement) = MayInsertInto key number old kind → ⊥
+  FindsPositionWithin old kind (Err failed.NotWithinCapacity) = MayInsertInto key number old kind × (entry_count old ≡ old.capacity)
+  FindsPositionWithin old kind (Err failed.BeyondMaxCapacity) = ⊥
+  FindsPositionWithin old kind (Err failed.AllocError) = ⊥
 
   -- .. and to who asks for it where a full arena grows, with the arena after that
-  abbrev pub PlacesGrowing : (ℕ → Option ℕ → ℕ → ℕ → Type 0) → ℕ → Links Gen T → InsertKindBody P I → Result (Gap I) ChainInsertionError → Links Gen T → Type 0
-  PlacesGrowing may_reach greatest old kind (Ok gap) new = IsPlace old kind gap × HasGrown may_reach greatest old new
-  PlacesGrowing may_reach greatest old kind (Err failed.FailedLinkRequirement) new = (May key number old kind → ⊥) × (new ≡ old)
-  PlacesGrowing may_reach greatest old kind (Err failed.BeyondMaxCapacity) new = May key number old kind × RefusesOneMore old refused.BeyondMaxCapacity × (new ≡ old)
-  PlacesGrowing may_reach greatest old kind (Err failed.AllocError) new = May key number old kind × RefusesOneMore old refused.AllocError × (new ≡ old)
-  PlacesGrowing may_reach greatest old kind (Err failed.NotWithinCapacity) new = ⊥
+  abbrev pub FindsPositionGrowing : (ℕ → Option ℕ → ℕ → ℕ → Type 0) → ℕ → Links Gen T → InsertKindBody P I → Result (InsertPosition I) ChainInsertionError → Links Gen T → Type 0
+  FindsPositionGrowing may_reach greatest old kind (Ok gap) new = IsPositionFor old kind gap × HasGrown may_reach greatest old new
+  FindsPositionGrowing may_reach greatest old kind (Err failed.FailedLinkRequirement) new = (MayInsertInto key number old kind → ⊥) × (new ≡ old)
+  FindsPositionGrowing may_reach greatest old kind (Err failed.BeyondMaxCapacity) new = MayInsertInto key number old kind × RefusesOneMore old refused.BeyondMaxCapacity × (new ≡ old)
+  FindsPositionGrowing may_reach greatest old kind (Err failed.AllocError) new = MayInsertInto key number old kind × RefusesOneMore old refused.AllocError × (new ≡ old)
+  FindsPositionGrowing may_reach greatest old kind (Err failed.NotWithinCapacity) new = ⊥
 
   -- a link came into a gap
-  pub record IsInsertedIn (old : Links Gen T) (gap : Gap I) (t : T) (p : P) (new : Links Gen T) : Type 0 where
+  pub record IsInsertedIn (old : Links Gen T) (gap : InsertPosition I) (t : T) (p : P) (new : Links Gen T) : Type 0 where
     -- its pointer is that of the next insertion
     pub pointer : key p ≡ (next_index old, old.counter)
     -- it stands between the links of the gap
     pub state : new ≡ insert_between old t (before_in number gap (next_index old)) (after_in number gap (next_index old))
     -- each free slot was listed, and the interlinks agreed, as in every arena
     pub listed : IsListed old
-    pub agreed : Agrees (shown old)
+    pub agreed : IsWellLinked (link_map old)
 
   -- a link came into the gap that was answered, or nothing did where none was
-  abbrev pub InsertsAt : Links Gen T → Result (Gap I) ChainInsertionError → T → Result P ChainInsertionError → Links Gen T → Type 0
+  abbrev pub InsertsAt : Links Gen T → Result (InsertPosition I) ChainInsertionError → T → Result P ChainInsertionError → Links Gen T → Type 0
   InsertsAt old (Ok gap) t (Ok p) new = IsInsertedIn old gap t p new
   InsertsAt old (Ok gap) t (Err why) new = ⊥
   InsertsAt old (Err why) t (Ok p) new = ⊥

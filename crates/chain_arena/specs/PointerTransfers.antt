@@ -3,21 +3,21 @@ use Rattle.std.specs.Prelude.{◌≡◌, ℕ, Bool, Option}
 use Rattle.std.specs.Fn.{Mut}
 use Rattle.arena_ptr.specs.Invalidation.{value_in}
 use Rattle.arena_ptr.specs.declared.invalidation.InvalidationOption.{InvalidationOption}
-use Rattle.chain_laws.specs.Chains.{Shown}
+use Rattle.chain_laws.specs.Chains.{LinkMap}
 use Rattle.arena_base.specs.Arena.{Arena}
-use Rattle.arena_base.specs.Entries.{Seen}
-use Rattle.chain_links.specs.ChainArena.{LinkSeen, entry}
-use Rattle.chain_compaction.specs.PointerMoves.{AreMoved, LooksUp, StandsWhere}
+use Rattle.arena_base.specs.Entries.{ArenaView}
+use Rattle.chain_links.specs.ChainArena.{LinkView, entry}
+use Rattle.chain_compaction.specs.PointerMoves.{AreMoved, FindsEntries, HasLinksWhere}
 use Rattle.chain_arena.specs.Transfers.{Carried, IsTransfer}
 
 -- the closure was told the value that a link had, and its answer is the one that it has
-abbrev pub IsAnswered : {Q P U T : Type 0} → Carried Q P U T → U → T → Type 0
-IsAnswered c u t = (value_in c.value ≡ u) × (c.answer ≡ t)
+abbrev pub IsMapped : {Q P U T : Type 0} → Carried Q P U T → U → T → Type 0
+IsMapped c u t = (value_in c.value ≡ u) × (c.answer ≡ t)
 
 -- the links that were carried over, from whatever arena, are moves from the pointers of the source to those of the target
 abbrev pub TransferMovesPointers : {Q P G Gen U T F : Type 0} → (Q → ℕ × G) → (P → ℕ × Gen) → (G → G) → (G → Bool)
     → Mut F (Q × (InvalidationOption U × (P × Unit {0}))) T → Type 0
 TransferMovesPointers {Q} {P} {G} {Gen} {U} {T} {F} key new_key following wraps call =
-    (generation : Gen) (f : F) (source source_after : Seen G U) (links : Shown) (old new : Arena Gen (LinkSeen T)) (before : ℕ → Option (G × U))
-    → LooksUp source before → StandsWhere links before → (transfer : IsTransfer key new_key following wraps call generation f source links source_after old new)
-    → AreMoved (λ c. key c.from) (λ c. new_key c.to) IsAnswered before (entry new) transfer.carried
+    (generation : Gen) (f : F) (source source_after : ArenaView G U) (links : LinkMap) (old new : Arena Gen (LinkView T)) (before : ℕ → Option (G × U))
+    → FindsEntries source before → HasLinksWhere links before → (transfer : IsTransfer key new_key following wraps call generation f source links source_after old new)
+    → AreMoved (λ c. key c.from) (λ c. new_key c.to) IsMapped before (entry new) transfer.carried

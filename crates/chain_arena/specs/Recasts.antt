@@ -3,10 +3,10 @@ use Rattle.std.specs.Prelude.{◌≡◌, ℕ, List, [], ◌∷◌, ◌++◌, Som
 use Rattle.arena_base.specs.Arena.{Arena}
 use Rattle.arena_base.specs.Entries.{replaced}
 use Rattle.arena_base.specs.Compressions.{values_in}
-use Rattle.chain_links.specs.ChainArena.{LinkSeen, new_link, with_each, with_value_at, shown, seen, entry}
+use Rattle.chain_links.specs.ChainArena.{LinkView, new_link, with_each, with_value_at, link_map, value_view, entry}
 
 -- a link without its value
-abbrev pub link_without_value : {T : Type 0} → LinkSeen T → LinkSeen (Unit {0})
+abbrev pub link_without_value : {T : Type 0} → LinkView T → LinkView (Unit {0})
 link_without_value link = new_link tt link.prev link.next
 
 -- what recasts a value, from what it was to what it is, with the answer
@@ -37,17 +37,17 @@ module _ {T I : Type 0} (recasts : T → T → Result (Unit {0}) I → Type 0) w
 
   module _ {Gen : Type 0} where
     -- the values are recast by rising index. Generations and interlinks stay, and all else of the state
-    pub record IsRecast (old new : Arena Gen (LinkSeen T)) (answer : Result (Unit {0}) I) : Type 0 where
+    pub record IsRecast (old new : Arena Gen (LinkView T)) (answer : Result (Unit {0}) I) : Type 0 where
       pub rest : with_each link_without_value new ≡ with_each link_without_value old
-      pub shows : shown new ≡ shown old
-      pub values : AreRecast (values_in (seen old).entries) (values_in (seen new).entries) answer
+      pub shows : link_map new ≡ link_map old
+      pub values : AreRecast (values_in (value_view old).entries) (values_in (value_view new).entries) answer
 
     -- the value at a key is recast, and all else stays
-    pub record IsRecastAt (old new : Arena Gen (LinkSeen T)) (p : ℕ × Gen) (answer : Result (Unit {0}) I) : Type 0 where
+    pub record IsRecastAt (old new : Arena Gen (LinkView T)) (p : ℕ × Gen) (answer : Result (Unit {0}) I) : Type 0 where
       pub was : T
       pub is : T
       pub stood : entry old p.0 ≡ Some (p.1, was)
       pub state : new ≡ with_value_at old p.0 is
-      pub shows : shown new ≡ shown old
-      pub entries : (seen new).entries ≡ replaced p.0 (λ e. (e.0, is)) (seen old).entries
+      pub shows : link_map new ≡ link_map old
+      pub entries : (value_view new).entries ≡ replaced p.0 (λ e. (e.0, is)) (value_view old).entries
       pub recast : recasts was is answer

@@ -7,7 +7,7 @@ use Rattle.arena_ptr.specs.declared.invalidation.InvalidationResult.{Invalidatio
 use Rattle.arena_ptr.specs.declared.invalidation.InvalidationResult.TheVariants.{Success, GenerationOverflow, InvalidPtr}
 use Rattle.arena_ptr.specs.declared.packed_option.PackedOption.{PackedOption}
 use Rattle.arena_base.specs.Arena.{entry_count, with_capacity_of}
-use Rattle.chain_links.specs.Links.{seen_link, seen_pair}
+use Rattle.chain_links.specs.Links.{link_view, pair_view}
 use Rattle.chain_arena.specs.Effects.{Links}
 use Rattle.chain_arena.specs.PointerKinds.{PointerKind}
 use Rattle.chain_arena.specs.Steps.{Step, Run}
@@ -22,26 +22,26 @@ module _ {Gen T : Type 0} where
   AreSameButTouched a b = a ≡ record b { touched = a.touched }
 
   -- .. and for room
-  abbrev pub AreSameButRoomAndTouched : Links Gen T → Links Gen T → Type 0
-  AreSameButRoomAndTouched a b = AreSameButTouched a (with_capacity_of b a)
+  abbrev pub AreSameButCapacityAndTouched : Links Gen T → Links Gen T → Type 0
+  AreSameButCapacityAndTouched a b = AreSameButTouched a (with_capacity_of b a)
 
   -- two arenas with the same room
-  abbrev pub HaveSameRoom : Links Gen T → Links Gen T → Type 0
-  HaveSameRoom a b = (a.capacity ≡ b.capacity) × (a.stack_capacity ≡ b.stack_capacity)
+  abbrev pub HaveSameCapacity : Links Gen T → Links Gen T → Type 0
+  HaveSameCapacity a b = (a.capacity ≡ b.capacity) × (a.stack_capacity ≡ b.stack_capacity)
 
 -- two answers that tell the same, as it is seen
-abbrev pub TellSame : {X Y : Type 0} → (X → Y) → InvalidationResult X → InvalidationResult X → Type 0
-TellSame see InvalidPtr InvalidPtr = ⊤
-TellSame see (Success x) (Success y) = see x ≡ see y
-TellSame see (GenerationOverflow x) (GenerationOverflow y) = see x ≡ see y
-TellSame see answer other = ⊥
+abbrev pub AreSameResults : {X Y : Type 0} → (X → Y) → InvalidationResult X → InvalidationResult X → Type 0
+AreSameResults see InvalidPtr InvalidPtr = ⊤
+AreSameResults see (Success x) (Success y) = see x ≡ see y
+AreSameResults see (GenerationOverflow x) (GenerationOverflow y) = see x ≡ see y
+AreSameResults see answer other = ⊥
 
 module _ {P I Gen W T : Type 0} where
   -- two replies are the same, where a link is looked at by its neighbors and its value
-  abbrev pub ShowSame : (PackedOption I W → Option ℕ) → Reply P T I Gen W → Reply P T I Gen W → Type 0
-  ShowSame packed (reply.Removed answer) (reply.Removed other) = TellSame (seen_link packed) answer other
-  ShowSame packed (reply.RemovedInx answer) (reply.RemovedInx other) = TellSame (seen_pair packed) answer other
-  ShowSame packed r s = r ≡ s
+  abbrev pub AreSameReplies : (PackedOption I W → Option ℕ) → Reply P T I Gen W → Reply P T I Gen W → Type 0
+  AreSameReplies packed (reply.Removed answer) (reply.Removed other) = AreSameResults (link_view packed) answer other
+  AreSameReplies packed (reply.RemovedInx answer) (reply.RemovedInx other) = AreSameResults (pair_view packed) answer other
+  AreSameReplies packed r s = r ≡ s
 
   -- whether a reply is a refusal of memory, or of an index above the greatest
   abbrev pub refused_memory : Reply P T I Gen W → Bool
@@ -50,51 +50,51 @@ module _ {P I Gen W T : Type 0} where
   refused_memory r = false
 
   -- how many links a call asks room for
-  abbrev pub room_asked : Links Gen T → Call P T I Gen W → ℕ
-  room_asked old (call.Insert kind t) = entry_count old + 1
-  room_asked old (call.Reserve n) = n
-  room_asked old call = 0
+  abbrev pub capacity_needed : Links Gen T → Call P T I Gen W → ℕ
+  capacity_needed old (call.Insert kind t) = entry_count old + 1
+  capacity_needed old (call.Reserve n) = n
+  capacity_needed old call = 0
 
   -- a call that asks for no more room than there is
-  abbrev pub HasRoomAlready : Links Gen T → Call P T I Gen W → Type 0
-  HasRoomAlready old (call.Insert kind t) = entry_count old < old.capacity
-  HasRoomAlready old (call.Reserve n) = n ≤ old.capacity
-  HasRoomAlready old call = ⊤
+  abbrev pub HasCapacityAlready : Links Gen T → Call P T I Gen W → Type 0
+  HasCapacityAlready old (call.Insert kind t) = entry_count old < old.capacity
+  HasCapacityAlready old (call.Reserve n) = n ≤ old.capacity
+  HasCapacityAlready old call = ⊤
 
 module _ {P I Gen W : Type 0} (pointers : PointerKind P I Gen W) where
   module _ {T : Type 0} where
     -- a run of calls that ask for no more room than there is
-    abbrev pub RunInRoom : Links Gen T → List (Call P T I Gen W) → List (Reply P T I Gen W) → Links Gen T → Type 0
-    RunInRoom old [] [] new = new ≡ old
-    RunInRoom old (call ∷ calls) (reply ∷ replies) new = (between : Links Gen T) × HasRoomAlready old call × Step pointers old call reply between × RunInRoom between calls replies new
-    RunInRoom old calls replies new = ⊥
+    abbrev pub RunWithinCapacity : Links Gen T → List (Call P T I Gen W) → List (Reply P T I Gen W) → Links Gen T → Type 0
+    RunWithinCapacity old [] [] new = new ≡ old
+    RunWithinCapacity old (call ∷ calls) (reply ∷ replies) new = (between : Links Gen T) × HasCapacityAlready old call × Step pointers old call reply between × RunWithinCapacity between calls replies new
+    RunWithinCapacity old calls replies new = ⊥
 
     -- two runs of the same calls, from two arenas, that have the same room after each step
-    abbrev pub RunInSameRoom : Links Gen T → Links Gen T → List (Call P T I Gen W) → List (Reply P T I Gen W) → List (Reply P T I Gen W) → Links Gen T → Links Gen T → Type 0
-    RunInSameRoom old before [] [] [] new other = (new ≡ old) × (other ≡ before)
-    RunInSameRoom old before (c ∷ calls) (r ∷ replies) (s ∷ others) new other = (between : Links Gen T) × (beside : Links Gen T)
-        × Step pointers old c r between × Step pointers before c s beside × HaveSameRoom between beside × RunInSameRoom between beside calls replies others new other
-    RunInSameRoom old before calls replies others new other = ⊥
+    abbrev pub RunWithSameCapacity : Links Gen T → Links Gen T → List (Call P T I Gen W) → List (Reply P T I Gen W) → List (Reply P T I Gen W) → Links Gen T → Links Gen T → Type 0
+    RunWithSameCapacity old before [] [] [] new other = (new ≡ old) × (other ≡ before)
+    RunWithSameCapacity old before (c ∷ calls) (r ∷ replies) (s ∷ others) new other = (between : Links Gen T) × (beside : Links Gen T)
+        × Step pointers old c r between × Step pointers before c s beside × HaveSameCapacity between beside × RunWithSameCapacity between beside calls replies others new other
+    RunWithSameCapacity old before calls replies others new other = ⊥
 
     -- two runs answered the same, and ended the same but for how many slots were touched
     abbrev pub EndSame : List (Reply P T I Gen W) → List (Reply P T I Gen W) → Links Gen T → Links Gen T → Type 0
-    EndSame replies others new other = AllZip (ShowSame pointers.packed) replies others × AreSameButTouched new other
+    EndSame replies others new other = AllZip (AreSameReplies pointers.packed) replies others × AreSameButTouched new other
 
   -- But for growth and memory a state and a list of calls determine the replies, and the state after them but for how many
   -- slots were touched, which a compression alone leaves open.
   abbrev pub RunIsDetermined : Type 0 → Type 0
   RunIsDetermined T = (old : Links Gen T) (calls : List (Call P T I Gen W)) (replies others : List (Reply P T I Gen W)) (new other : Links Gen T)
-      → RunInRoom old calls replies new → Run pointers old calls others other → EndSame replies others new other
+      → RunWithinCapacity old calls replies new → Run pointers old calls others other → EndSame replies others new other
 
   -- Where memory is refused to both or to neither, a state and a call determine the reply, and the state after it but for
   -- room and touches. Where more links are asked for than the greatest index, they do so in any case.
   abbrev pub StepIsDetermined : Type 0 → Type 0
   StepIsDetermined T = (old : Links Gen T) (c : Call P T I Gen W) (r s : Reply P T I Gen W) (new other : Links Gen T)
       → Step pointers old c r new → Step pointers old c s other
-      → (room_asked old c ≤ pointers.greatest → refused_memory r ≡ refused_memory s) → ShowSame pointers.packed r s × AreSameButRoomAndTouched new other
+      → (capacity_needed old c ≤ pointers.greatest → refused_memory r ≡ refused_memory s) → AreSameReplies pointers.packed r s × AreSameButCapacityAndTouched new other
 
   -- Two such runs from one state answer the same, and end the same but for how many slots were touched: no more is left open
   -- than that and the room after each step.
-  abbrev pub RunIsDeterminedByRoom : Type 0 → Type 0
-  RunIsDeterminedByRoom T = (old : Links Gen T) (calls : List (Call P T I Gen W)) (replies others : List (Reply P T I Gen W)) (new other : Links Gen T)
-      → RunInSameRoom old old calls replies others new other → EndSame replies others new other
+  abbrev pub RunIsDeterminedByCapacity : Type 0 → Type 0
+  RunIsDeterminedByCapacity T = (old : Links Gen T) (calls : List (Call P T I Gen W)) (replies others : List (Reply P T I Gen W)) (new other : Links Gen T)
+      → RunWithSameCapacity old old calls replies others new other → EndSame replies others new other

@@ -13,11 +13,11 @@ use Rattle.chain_laws.specs.Chains.{prev_of, next_of}
 use Rattle.chain_laws.specs.Insertions.{InsertKind}
 use Rattle.arena_base.specs.Arena.{IsValid, entry_at, entry_count, with_capacity_of, with_counter, renewed_at, cleared, overflows_after_clear}
 use Rattle.arena_base.specs.Compressions.{overflows_after_compression}
-use Rattle.chain_links.specs.ChainArena.{shown, entry, insert_as, CanConnect, CanExchange, IsJoin, IsCut, IsExchange, IsRemoval}
-use Rattle.chain_links.specs.Links.{seen_link}
+use Rattle.chain_links.specs.ChainArena.{link_map, entry, insert_as, CanConnect, CanExchange, IsJoin, IsCut, IsExchange, IsRemoval}
+use Rattle.chain_links.specs.Links.{link_view}
 use Rattle.chain_links.specs.declared.kinds.InsertKindBody.{InsertKindBody}
 use Rattle.chain_links.specs.declared.links.LinkBody.{LinkBody}
-use Rattle.chain_arena.specs.Effects.{Links, HasRoomFor, Refuses, IsDrained, IsCompression, IsCanonicalCompression, kind_of, May, IsAdded, Tells}
+use Rattle.chain_arena.specs.Effects.{Links, GrowsToFit, Refuses, IsDrained, IsCompression, IsCanonicalCompression, indexed_kind, MayInsertInto, IsAdded, ReportsOverflow}
 use Rattle.chain_arena.specs.PointerKinds.{PointerKind}
 use Rattle.chain_arena.specs.declared.calls.Call.{Call}
 use Rattle.chain_arena.specs.declared.calls.Call.TheVariants as call
@@ -27,25 +27,25 @@ use Rattle.chain_arena.specs.declared.calls.Reply.TheVariants as reply
 module _ {Gen T : Type 0} where
   -- two links are joined, cut apart, or what comes after them is exchanged, exactly where that can be
   abbrev pub ConnectStep : Links Gen T → ℕ × Gen → ℕ × Gen → Bool → Links Gen T → Type 0
-  ConnectStep old p q false new = (CanConnect (entry old) (shown old) p q → ⊥) × (new ≡ old)
-  ConnectStep old p q true new = CanConnect (entry old) (shown old) p q × IsJoin old new p.0 q.0
+  ConnectStep old p q false new = (CanConnect (entry old) (link_map old) p q → ⊥) × (new ≡ old)
+  ConnectStep old p q true new = CanConnect (entry old) (link_map old) p q × IsJoin old new p.0 q.0
 
   abbrev pub BreakPrevStep : Links Gen T → ℕ × Gen → Bool → Links Gen T → Type 0
-  BreakPrevStep old p false new = (IsValid (entry old) p → prev_of (shown old) p.0 ≡ None) × (new ≡ old)
-  BreakPrevStep old p true new = IsValid (entry old) p × (a : ℕ) × (prev_of (shown old) p.0 ≡ Some a) × IsCut old new a p.0
+  BreakPrevStep old p false new = (IsValid (entry old) p → prev_of (link_map old) p.0 ≡ None) × (new ≡ old)
+  BreakPrevStep old p true new = IsValid (entry old) p × (a : ℕ) × (prev_of (link_map old) p.0 ≡ Some a) × IsCut old new a p.0
 
   abbrev pub BreakNextStep : Links Gen T → ℕ × Gen → Bool → Links Gen T → Type 0
-  BreakNextStep old p false new = (IsValid (entry old) p → next_of (shown old) p.0 ≡ None) × (new ≡ old)
-  BreakNextStep old p true new = IsValid (entry old) p × (b : ℕ) × (next_of (shown old) p.0 ≡ Some b) × IsCut old new p.0 b
+  BreakNextStep old p false new = (IsValid (entry old) p → next_of (link_map old) p.0 ≡ None) × (new ≡ old)
+  BreakNextStep old p true new = IsValid (entry old) p × (b : ℕ) × (next_of (link_map old) p.0 ≡ Some b) × IsCut old new p.0 b
 
   abbrev pub ExchangeStep : Links Gen T → ℕ × Gen → ℕ × Gen → Bool → Links Gen T → Type 0
-  ExchangeStep old p q false new = (CanExchange (entry old) (shown old) p q → ⊥) × (new ≡ old)
-  ExchangeStep old p q true new = CanExchange (entry old) (shown old) p q × IsExchange old new p.0 q.0
+  ExchangeStep old p q false new = (CanExchange (entry old) (link_map old) p q → ⊥) × (new ≡ old)
+  ExchangeStep old p q true new = CanExchange (entry old) (link_map old) p q × IsExchange old new p.0 q.0
 
 module _ {P I Gen W : Type 0} (pointers : PointerKind P I Gen W) where
   -- a kind by the indexes that it names
-  abbrev pub kind_named : InsertKindBody P I → InsertKind ℕ
-  kind_named kind = kind_of pointers.key pointers.number kind
+  abbrev pub indexed_kind_of : InsertKindBody P I → InsertKind ℕ
+  indexed_kind_of kind = indexed_kind pointers.key pointers.number kind
 
   -- a link as an arena holds it, with a value of this type
   abbrev pub HeldLink : Type 0 → Type 0
@@ -53,44 +53,44 @@ module _ {P I Gen W : Type 0} (pointers : PointerKind P I Gen W) where
 
   module _ {T : Type 0} where
     -- a link of the kind may be inserted
-    abbrev pub IsAllowed : Links Gen T → InsertKindBody P I → Type 0
-    IsAllowed old kind = May pointers.key pointers.number old kind
+    abbrev pub MayInsertKind : Links Gen T → InsertKindBody P I → Type 0
+    MayInsertKind old kind = MayInsertInto pointers.key pointers.number old kind
 
     -- an insertion that may grow
     abbrev pub InsertStep : Links Gen T → InsertKindBody P I → T → Result P ChainInsertionError → Links Gen T → Type 0
-    InsertStep old kind t (Err failed.FailedLinkRequirement) new = (IsAllowed old kind → ⊥) × (new ≡ old)
-    InsertStep old kind t (Err failed.BeyondMaxCapacity) new = IsAllowed old kind × Refuses (entry_count old + 1) old refused.BeyondMaxCapacity × (new ≡ old)
-    InsertStep old kind t (Err failed.AllocError) new = IsAllowed old kind × Refuses (entry_count old + 1) old refused.AllocError × (new ≡ old)
+    InsertStep old kind t (Err failed.FailedLinkRequirement) new = (MayInsertKind old kind → ⊥) × (new ≡ old)
+    InsertStep old kind t (Err failed.BeyondMaxCapacity) new = MayInsertKind old kind × Refuses (entry_count old + 1) old refused.BeyondMaxCapacity × (new ≡ old)
+    InsertStep old kind t (Err failed.AllocError) new = MayInsertKind old kind × Refuses (entry_count old + 1) old refused.AllocError × (new ≡ old)
     InsertStep old kind t (Err failed.NotWithinCapacity) new = ⊥
-    InsertStep old kind t (Ok p) new = IsAllowed old kind × IsAdded pointers.key old (kind_named kind) t p new × HasRoomFor pointers.greatest (entry_count old + 1) old new
+    InsertStep old kind t (Ok p) new = MayInsertKind old kind × IsAdded pointers.key old (indexed_kind_of kind) t p new × GrowsToFit pointers.greatest (entry_count old + 1) old new
 
     -- .. and one within the capacity
     abbrev pub InsertWithinStep : Links Gen T → InsertKindBody P I → T → Result P ChainInsertionError → Links Gen T → Type 0
-    InsertWithinStep old kind t (Err failed.FailedLinkRequirement) new = (IsAllowed old kind → ⊥) × (new ≡ old)
-    InsertWithinStep old kind t (Err failed.NotWithinCapacity) new = IsAllowed old kind × (old.capacity ≤ entry_count old) × (new ≡ old)
+    InsertWithinStep old kind t (Err failed.FailedLinkRequirement) new = (MayInsertKind old kind → ⊥) × (new ≡ old)
+    InsertWithinStep old kind t (Err failed.NotWithinCapacity) new = MayInsertKind old kind × (old.capacity ≤ entry_count old) × (new ≡ old)
     InsertWithinStep old kind t (Err failed.BeyondMaxCapacity) new = ⊥
     InsertWithinStep old kind t (Err failed.AllocError) new = ⊥
-    InsertWithinStep old kind t (Ok p) new = IsAllowed old kind × (entry_count old < old.capacity) × IsAdded pointers.key old (kind_named kind) t p new × (new ≡ insert_as old (kind_named kind) t)
+    InsertWithinStep old kind t (Ok p) new = MayInsertKind old kind × (entry_count old < old.capacity) × IsAdded pointers.key old (indexed_kind_of kind) t p new × (new ≡ insert_as old (indexed_kind_of kind) t)
 
     -- the link at an index is gone, and answered as it stood
     pub record IsTaken (old : Links Gen T) (i : ℕ) (g : Gen) (link : HeldLink T) (new : Links Gen T) : Type 0 where
-      pub stood : entry_at old i ≡ Some (g, seen_link pointers.packed link)
+      pub stood : entry_at old i ≡ Some (g, link_view pointers.packed link)
       pub removal : IsRemoval pointers.following old i new
 
     -- a removal, by pointer or by index
     abbrev pub RemoveStep : Links Gen T → ℕ × Gen → InvalidationResult (HeldLink T) → Links Gen T → Type 0
-    RemoveStep old p answer new = Tells ((IsValid (entry old) p → ⊥) × (new ≡ old)) (pointers.wraps old.counter) (λ link. IsTaken old p.0 p.1 link new) answer
+    RemoveStep old p answer new = ReportsOverflow ((IsValid (entry old) p → ⊥) × (new ≡ old)) (pointers.wraps old.counter) (λ link. IsTaken old p.0 p.1 link new) answer
 
     abbrev pub RemoveInxStep : Links Gen T → ℕ → InvalidationResult (Gen × HeldLink T) → Links Gen T → Type 0
-    RemoveInxStep old i answer new = Tells ((entry old i ≡ None) × (new ≡ old)) (pointers.wraps old.counter) (λ e. IsTaken old i e.0 e.1 new) answer
+    RemoveInxStep old i answer new = ReportsOverflow ((entry old i ≡ None) × (new ≡ old)) (pointers.wraps old.counter) (λ e. IsTaken old i e.0 e.1 new) answer
 
     -- a link has the next generation, with this pointer, and stays in its chain
     abbrev pub IsRenewed : Links Gen T → ℕ × Gen → P → Links Gen T → Type 0
     IsRenewed old p q new =
-        IsValid (entry old) p × (pointers.key q ≡ (p.0, pointers.following old.counter)) × (new ≡ renewed_at pointers.following old p.0) × (shown new ≡ shown old)
+        IsValid (entry old) p × (pointers.key q ≡ (p.0, pointers.following old.counter)) × (new ≡ renewed_at pointers.following old p.0) × (link_map new ≡ link_map old)
 
     abbrev pub InvalidateStep : Links Gen T → ℕ × Gen → InvalidationResult P → Links Gen T → Type 0
-    InvalidateStep old p answer new = Tells ((IsValid (entry old) p → ⊥) × (new ≡ old)) (pointers.wraps old.counter) (λ q. IsRenewed old p q new) answer
+    InvalidateStep old p answer new = ReportsOverflow ((IsValid (entry old) p → ⊥) × (new ≡ old)) (pointers.wraps old.counter) (λ q. IsRenewed old p q new) answer
 
     -- a drain of a chain
     abbrev pub DrainChainStep : Links Gen T → ℕ × Gen → ℕ → Option ℕ → Links Gen T → Type 0
@@ -100,15 +100,15 @@ module _ {P I Gen W : Type 0} (pointers : PointerKind P I Gen W) where
     -- a growth to room for n
     abbrev pub ReserveStep : Links Gen T → ℕ → Result Unit ReallocationError → Links Gen T → Type 0
     ReserveStep old n (Err why) new = Refuses n old why × (new ≡ old)
-    ReserveStep old n (Ok done) new = (new ≡ with_capacity_of old new) × HasRoomFor pointers.greatest n old new
+    ReserveStep old n (Ok done) new = (new ≡ with_capacity_of old new) × GrowsToFit pointers.greatest n old new
 
     -- the reply that tells whether the counter overflowed
-    abbrev pub overflow_told : Bool → Reply P T I Gen W
-    overflow_told overflow = reply.Counted (invalidation_option overflow tt)
+    abbrev pub overflow_reply : Bool → Reply P T I Gen W
+    overflow_reply overflow = reply.Counted (invalidation_option overflow tt)
 
     -- .. that of a compression
-    abbrev pub compressed : Links Gen T → Bool → Reply P T I Gen W
-    compressed old reset = overflow_told (overflows_after_compression pointers.wraps reset (entry_count old) old.counter)
+    abbrev pub compression_reply : Links Gen T → Bool → Reply P T I Gen W
+    compression_reply old reset = overflow_reply (overflows_after_compression pointers.wraps reset (entry_count old) old.counter)
 
     -- a step of the machine: the reply to a call, and the arena after it
     abbrev pub Step : Links Gen T → Call P T I Gen W → Reply P T I Gen W → Links Gen T → Type 0
@@ -122,12 +122,12 @@ module _ {P I Gen W : Type 0} (pointers : PointerKind P I Gen W) where
     Step old (call.RemoveInx i) r new = (answer : InvalidationResult (Gen × HeldLink T)) × (r ≡ reply.RemovedInx answer) × RemoveInxStep old (pointers.number i) answer new
     Step old (call.Invalidate p) r new = (answer : InvalidationResult P) × (r ≡ reply.Renewed answer) × InvalidateStep old (pointers.key p) answer new
     Step old (call.DrainChain p take) r new = (answer : Option ℕ) × (r ≡ reply.Drained answer) × DrainChainStep old (pointers.key p) take answer new
-    Step old call.Clear r new = (r ≡ overflow_told (overflows_after_clear pointers.wraps (entry_count old) old.counter)) × (new ≡ cleared pointers.following old)
-    Step old (call.Compress reset) r new = (r ≡ compressed old reset) × IsCompression pointers.first pointers.following reset old new
-    Step old (call.CompressCanonical reset) r new = (r ≡ compressed old reset) × IsCanonicalCompression pointers.first pointers.following reset old new
+    Step old call.Clear r new = (r ≡ overflow_reply (overflows_after_clear pointers.wraps (entry_count old) old.counter)) × (new ≡ cleared pointers.following old)
+    Step old (call.Compress reset) r new = (r ≡ compression_reply old reset) × IsCompression pointers.first pointers.following reset old new
+    Step old (call.CompressCanonical reset) r new = (r ≡ compression_reply old reset) × IsCanonicalCompression pointers.first pointers.following reset old new
     Step old (call.Reserve n) r new = (answer : Result Unit ReallocationError) × (r ≡ reply.Reserved answer) × ReserveStep old n answer new
     Step old (call.SetGeneration g) r new = (r ≡ reply.Set) × (new ≡ with_counter old g)
-    Step old call.IncGeneration r new = (r ≡ overflow_told (pointers.wraps old.counter)) × (new ≡ with_counter old (pointers.following old.counter))
+    Step old call.IncGeneration r new = (r ≡ overflow_reply (pointers.wraps old.counter)) × (new ≡ with_counter old (pointers.following old.counter))
 
     -- steps one after another, one reply a call
     abbrev pub Run : Links Gen T → List (Call P T I Gen W) → List (Reply P T I Gen W) → Links Gen T → Type 0

@@ -4,14 +4,14 @@ use Rattle.std.specs.Fn.{Mut, Called}
 use Rattle.std.specs.List.{FoldsTo, range_with_len}
 use Rattle.arena_ptr.specs.Invalidation.{value_in, is_overflow}
 use Rattle.arena_ptr.specs.declared.invalidation.InvalidationOption.{InvalidationOption}
-use Rattle.chain_laws.specs.Chains.{Shown}
-use Rattle.chain_laws.specs.Insertions.{IsGap}
+use Rattle.chain_laws.specs.Chains.{LinkMap}
+use Rattle.chain_laws.specs.Insertions.{IsInsertPosition}
 use Rattle.chain_laws.specs.Transfer.{end_before, end_after}
 use Rattle.chain_laws.specs.Renamings.{IsRenaming}
 use Rattle.chain_laws.specs.Arrangements.{place_in, IsLeastIndexOrder}
 use Rattle.arena_base.specs.Arena.{Arena, next_index}
-use Rattle.arena_base.specs.Entries.{Seen, entries, found, entry_removed}
-use Rattle.chain_links.specs.ChainArena.{LinkSeen, shown, values_of, insert_between}
+use Rattle.arena_base.specs.Entries.{ArenaView, entries, found, entry_removed}
+use Rattle.chain_links.specs.ChainArena.{LinkView, link_map, values_of, insert_between}
 use Rattle.chain_links.specs.CanonicalLayouts.{IsCanonicalLayout}
 
 -- a link that was carried over: the pointer that it had, its value with whether its removal overflowed the counter, the
@@ -28,7 +28,7 @@ overflows following wraps zero g = []
 overflows following wraps (suc n) g = wraps g ∷ overflows following wraps n (following g)
 
 -- what is seen after the removal of the entries at these indexes, one after another
-abbrev pub entries_removed : {Gen T : Type 0} → (Gen → Gen) → Seen Gen T → List ℕ → Seen Gen T
+abbrev pub entries_removed : {Gen T : Type 0} → (Gen → Gen) → ArenaView Gen T → List ℕ → ArenaView Gen T
 entries_removed following s [] = s
 entries_removed following s (i ∷ rest) = entries_removed following (entry_removed following s i) rest
 
@@ -43,14 +43,14 @@ module _ {Q P G Gen U T F : Type 0} (key : Q → ℕ × G) (new_key : P → ℕ 
   IsCarryCall f c next = Called call f (c.from, (c.value, (c.to, tt))) c.answer next
 
   -- all links of a source, seen as it was and with the interlinks that it showed, came to another arena
-  pub record IsTransfer (generation : Gen) (f : F) (source : Seen G U) (interlinks : Shown) (source_after : Seen G U) (old new : Arena Gen (LinkSeen T)) : Type 0 where
+  pub record IsTransfer (generation : Gen) (f : F) (source : ArenaView G U) (interlinks : LinkMap) (source_after : ArenaView G U) (old new : Arena Gen (LinkView T)) : Type 0 where
     -- the links in the order in which they came: the chains by their least index, each linear one from its start, each
     -- cyclic one from its least index ..
     pub carried : List (Carried Q P U T)
     pub order : IsLeastIndexOrder interlinks (map (old_index key) carried)
     -- .. to the indexes from 1 on, with the generation, where each names the new indexes of its neighbors
     pub keys : map (λ c. new_key c.to) carried ≡ map (λ k. (k, generation)) (range_with_len 1 (length carried))
-    pub renamed : IsRenaming (place_in (map (old_index key) carried)) interlinks (shown new)
+    pub renamed : IsRenaming (place_in (map (old_index key) carried)) interlinks (link_map new)
     -- the closure was called once for each, in that order, with its pointer, its value and the overflow of its removal
     pub last : F
     pub in_turn : FoldsTo IsCarryCall f carried last
@@ -73,22 +73,22 @@ module _ {Q P G Gen U T F : Type 0} (key : Q → ℕ × G) (new_key : P → ℕ 
 
 -- A compression and a transfer of the same links lay them out alike: each comes to the same index, and names the same
 -- neighbors.
-abbrev pub LaysOutAlike : {Q P G Gen U T F : Type 0} → (Q → ℕ × G) → (P → ℕ × Gen) → G → (G → G) → (G → Bool) → Mut F (Q × (InvalidationOption U × (P × Unit {0}))) T → Type 0
-LaysOutAlike {Q} {P} {G} {Gen} {U} {T} {F} key new_key first following wraps call =
-    (reset : Bool) (generation : Gen) (f : F) (source compressed source_after : Seen G U) (links compressed_links : Shown) (old new : Arena Gen (LinkSeen T))
+abbrev pub ArrangesAlike : {Q P G Gen U T F : Type 0} → (Q → ℕ × G) → (P → ℕ × Gen) → G → (G → G) → (G → Bool) → Mut F (Q × (InvalidationOption U × (P × Unit {0}))) T → Type 0
+ArrangesAlike {Q} {P} {G} {Gen} {U} {T} {F} key new_key first following wraps call =
+    (reset : Bool) (generation : Gen) (f : F) (source compressed source_after : ArenaView G U) (links compressed_links : LinkMap) (old new : Arena Gen (LinkView T))
     (layout : IsCanonicalLayout first following reset source links compressed compressed_links) (transfer : IsTransfer key new_key following wraps call generation f source links source_after old new)
-    → (layout.indexes ≡ map (old_index key) transfer.carried) × (compressed_links ≡ shown new)
+    → (layout.indexes ≡ map (old_index key) transfer.carried) × (compressed_links ≡ link_map new)
 
 -- the first and the last index of a chain that lies in the so many indexes before q; none where it lies in none
 abbrev pub AreEnds : {I : Type 0} → (I → ℕ) → Option (I × I) → ℕ → ℕ → Type 0
 AreEnds number None m q = m ≡ 0
 AreEnds number (Some ends) m q = (1 ≤ m) × (number ends.0 + m ≡ q) × (number ends.1 + 1 ≡ q)
 
-module _ {Gen T : Type 0} (ring : Bool) (m : ℕ) (now : Arena Gen (LinkSeen T)) where
+module _ {Gen T : Type 0} (ring : Bool) (m : ℕ) (now : Arena Gen (LinkView T)) where
   -- behind so many links of a chain that lie last there is a gap
-  abbrev pub HasGapBehind : Type 0
-  HasGapBehind = IsGap (shown now) (next_index now) (end_before ring m (next_index now)) (end_after ring m (next_index now))
+  abbrev pub HasPositionAtEnd : Type 0
+  HasPositionAtEnd = IsInsertPosition (link_map now) (next_index now) (end_before ring m (next_index now)) (end_after ring m (next_index now))
 
   -- the arena with a link there
-  abbrev pub laid_behind : T → Arena Gen (LinkSeen T)
-  laid_behind t = insert_between now t (end_before ring m (next_index now)) (end_after ring m (next_index now))
+  abbrev pub with_link_at_end : T → Arena Gen (LinkView T)
+  with_link_at_end t = insert_between now t (end_before ring m (next_index now)) (end_after ring m (next_index now))

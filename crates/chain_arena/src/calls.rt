@@ -1,10 +1,10 @@
 // Calls on an arena of links as values, each with its reply, and lists of them.
 ghost use Rattle.std.specs.Prelude.{◌≡◌, min, length, IfOk, OnErr, MatchResult};
 ghost use Rattle.chain_laws.specs.Neighbors.{HasOneSetOfChains};
-ghost use Rattle.chain_links.specs.ChainArena.{shown};
+ghost use Rattle.chain_links.specs.ChainArena.{link_map};
 ghost use Rattle.chain_arena.specs.Drains.{walk_left, without_each};
 ghost use Rattle.chain_arena.specs.Steps.{InsertStep, InsertWithinStep, ReserveStep, DrainChainStep, Step, Run};
-ghost use Rattle.chain_arena.specs.Runs.{RunIsDetermined, StepIsDetermined, RunIsDeterminedByRoom};
+ghost use Rattle.chain_arena.specs.Runs.{RunIsDetermined, StepIsDetermined, RunIsDeterminedByCapacity};
 
 use crate::any_pointer::AnyPointer;
 use crate::chain_arena::ChainArena;
@@ -201,7 +201,7 @@ pub fn run_calls<
     arena: &mut ChainArena<P, T, S>,
     calls: Vec<Call<P, T>>,
 ) -> Result<Vec<Reply<P, T>, A>, AllocError>
-    ensures ends { HasOneSetOfChains (shown arena.new) × MatchResult result
+    ensures ends { HasOneSetOfChains (link_map arena.new) × MatchResult result
         (λ replies. Run ⟦<P as AnyPointer>⟧.kind arena.old calls.items replies.items arena.new)
         (λ refused. arena.new ≡ arena.old) }
 {
@@ -240,5 +240,5 @@ fn replies_to<P: PtrKey, T: Drop, S: SlotStack<Item = ArenaSlot<P, LinkNoGen<P, 
 pub fn runs_are_determined<P: PtrKey, T: Drop>()
     ensures in_room { RunIsDetermined ⟦<P as AnyPointer>⟧.kind T }
     ensures step { StepIsDetermined ⟦<P as AnyPointer>⟧.kind T }
-    ensures by_room { RunIsDeterminedByRoom ⟦<P as AnyPointer>⟧.kind T }
+    ensures by_room { RunIsDeterminedByCapacity ⟦<P as AnyPointer>⟧.kind T }
 {}

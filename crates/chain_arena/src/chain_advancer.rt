@@ -43,20 +43,20 @@ impl<P: PtrKey, T: Drop, S: SlotStack<Item = ArenaSlot<P, LinkNoGen<P, T>>>> Adv
 > for ChainPtrAdvancer<P> {
     ghost use Rattle.std.specs.Prelude.{◌≡◌};
     ghost use Rattle.std.specs.Option.{option_map};
-    ghost use Rattle.chain_links.specs.ChainArena.{entry, shown};
+    ghost use Rattle.chain_links.specs.ChainArena.{entry, link_map};
     ghost use Rattle.chain_links.specs.Walkers.{walker_of, IsPassing};
     ghost use Rattle.chain_linking.specs.ChainArenaLaws.{spent_stays};
 
     type Item = P;
 
-    ghost gives = { λ a arena answer b. IsPassing (entry arena) (shown arena)
+    ghost gives = { λ a arena answer b. IsPassing (entry arena) (link_map arena)
         (walker_of P.Inx.number a.left a.start a.forth a.back) (option_map P.key answer)
         (walker_of P.Inx.number b.left b.start b.forth b.back) };
 
     ghost is_spent = { λ a. a.left ≡ 0 };
 
     ghost stays_spent = { λ a b arena answer spent given. spent_stays P.key (entry arena)
-        (shown arena) answer spent given };
+        (link_map arena) answer spent given };
 
     fn advance(&mut self, collection: &ChainArena<P, T, S>) -> Option<P> {
         if self.left == 0 {

@@ -1,20 +1,20 @@
 ghost use Rattle.std.specs.Prelude.{◌≡◌, ◌≤◌, ◌+◌, ◌↔◌, length, map, min, All, IsSome, IfSome, IfOk, OnOk, OnErr, None};
-ghost use Rattle.chain_laws.specs.Chains.{Agrees};
+ghost use Rattle.chain_laws.specs.Chains.{IsWellLinked};
 ghost use Rattle.chain_laws.specs.Neighbors.{HasOneSetOfChains};
 ghost use Rattle.std.specs.Option.{option_map};
 ghost use Rattle.arena_ptr.specs.Invalidation.{value_within, invalidation_option, invalidation_result};
 ghost use Rattle.arena_ptr.specs.Numbers.{IsWithin};
-ghost use Rattle.arena_base.specs.Arena.{entry_at, entry_count, with_counter, with_maximum, HasRoom, IsListed, IsValid};
+ghost use Rattle.arena_base.specs.Arena.{entry_at, entry_count, with_counter, with_maximum, HasCapacityFor, IsListed, IsValid};
 ghost use Rattle.arena_base.specs.Entries.{count, index_of};
 ghost use Rattle.arena_base.specs.Compressions.{overflows_after_compression};
 ghost use Rattle.arena_base.specs.Slots.{entry_of, ThreadsFreeList};
-ghost use Rattle.chain_links.specs.ChainArena.{entry, seen, shown, IsRemoval, IsWalkOf};
+ghost use Rattle.chain_links.specs.ChainArena.{entry, value_view, link_map, IsRemoval, IsWalkOf};
 ghost use Rattle.chain_links.specs.Kinds.{names_in};
-ghost use Rattle.chain_linking.specs.InsertPositions.{IsGapOf};
-ghost use Rattle.chain_compaction.specs.Layouts.{ShowsAll, ShowsLayout, AreAllMoves};
+ghost use Rattle.chain_linking.specs.InsertPositions.{IsPositionOf};
+ghost use Rattle.chain_compaction.specs.Layouts.{ReportsAll, ReportsLayout, AreAllMoves};
 ghost use Rattle.chain_compaction.specs.PointerMoves.{ArePointerMoves};
 ghost use Rattle.chain_links.specs.CanonicalLayouts.{IsCanonicalLayout};
-ghost use Rattle.chain_links.specs.Links.{seen_pair};
+ghost use Rattle.chain_links.specs.Links.{pair_view};
 
 use crate::chain_iterators::ChainIter;
 use crate::visitors::{Listing, Showing};
@@ -26,7 +26,7 @@ use arena_ptr::{
 use chain_compaction::canonical::lay_out;
 use chain_compaction::compress::begin_generation;
 use chain_compaction::visitor::Visitor;
-use chain_linking::insert_position::{Gap, gap_of};
+use chain_linking::insert_position::{InsertPosition, gap_of};
 use chain_linking::link_writes::take_out;
 use chain_links::kinds::by_names;
 use chain_links::{LinkInsertKind, LinkNoGen};
@@ -48,17 +48,17 @@ pub struct ChainArena<
 
 impl<P: PtrKey, T: Drop, S: SlotStack<Item = ArenaSlot<P, LinkNoGen<P, T>>>> Model
     for ChainArena<P, T, S> {
-    ghost use Rattle.chain_laws.specs.Chains.{Agrees};
+    ghost use Rattle.chain_laws.specs.Chains.{IsWellLinked};
     ghost use Rattle.arena_base.specs.Arena.{Arena as State};
-    ghost use Rattle.chain_links.specs.ChainArena.{LinkSeen, shown};
+    ghost use Rattle.chain_links.specs.ChainArena.{LinkView, link_map};
 
-    ghost Value = { State P.Gen (LinkSeen T) };
+    ghost Value = { State P.Gen (LinkView T) };
 
-    ghost use Rattle.chain_links.specs.Links.{seen_links};
+    ghost use Rattle.chain_links.specs.Links.{links_view};
 
-    ghost view = { λ a. seen_links P.Inx.packed_number a.arena };
+    ghost view = { λ a. links_view P.Inx.packed_number a.arena };
 
-    ghost invariant = { λ a. Agrees (shown (seen_links P.Inx.packed_number a.arena)) };
+    ghost invariant = { λ a. IsWellLinked (link_map (links_view P.Inx.packed_number a.arena)) };
 }
 
 impl<P: PtrKey, T: Drop, S: SlotStack<Item = ArenaSlot<P, LinkNoGen<P, T>>>> ChainArena<P, T, S> {
@@ -77,16 +77,16 @@ impl<P: PtrKey, T: Drop, S: SlotStack<Item = ArenaSlot<P, LinkNoGen<P, T>>>> Cha
     /// Shows what holds of every chain arena. It has no effect: a function calls it where its proof needs one of these
     /// facts.
     pub fn invariants(&self)
-        ensures agree { Agrees (shown self.now) }
-        ensures one { HasOneSetOfChains (shown self.now) }
-        ensures fits { count (seen self.now) ≤ (seen self.now).capacity }
-        ensures indexes { All (λ e. IsWithin P.Inx.greatest (index_of e)) (seen self.now).entries }
+        ensures agree { IsWellLinked (link_map self.now) }
+        ensures one { HasOneSetOfChains (link_map self.now) }
+        ensures fits { count (value_view self.now) ≤ (value_view self.now).capacity }
+        ensures indexes { All (λ e. IsWithin P.Inx.greatest (index_of e)) (value_view self.now).entries }
 
         // The freed list has each free slot once, so an insertion overwrites no link.
         ensures listed { IsListed self.now }
 
         // The capacity is the lesser of the stack's capacity and the greatest index.
-        ensures room { HasRoom P.Inx.greatest (length self.now.slots) self.now }
+        ensures room { HasCapacityFor P.Inx.greatest (length self.now.slots) self.now }
     {
         // Naming the field opens the invariant of the type, that the interlinks agree.
         let _ = &self.arena;
@@ -95,24 +95,24 @@ impl<P: PtrKey, T: Drop, S: SlotStack<Item = ArenaSlot<P, LinkNoGen<P, T>>>> Cha
 
     // The gap of a kind. `None`: what the kind asks is not met.
     #[inline(always)]
-    pub(crate) fn gap_for(&self, kind: LinkInsertKind<P>) -> Option<Gap<P::Inx>>
-        ensures gap { IsGapOf P.Inx.number (entry self.now) (shown self.now)
+    pub(crate) fn gap_for(&self, kind: LinkInsertKind<P>) -> Option<InsertPosition<P::Inx>>
+        ensures gap { IsPositionOf P.Inx.number (entry self.now) (link_map self.now)
             (names_in P.key P.Inx.number kind) result }
-        ensures agree { Agrees (shown self.now) }
+        ensures agree { IsWellLinked (link_map self.now) }
     {
         gap_of(&self.arena, by_names(kind))
     }
 
     // Takes the link at an index out, as each removal does.
     pub(crate) fn unlink(&mut self, i: P::Inx) -> InvalidationResult<(P::Gen, LinkNoGen<P, T>)>
-        ensures answer { option_map (seen_pair P.Inx.packed_number) (value_within result)
+        ensures answer { option_map (pair_view P.Inx.packed_number) (value_within result)
             ≡ entry_at self.old (P.Inx.number i) }
         ensures overflow { result ≡ invalidation_result (P.Gen.wraps self.old.counter)
             (value_within result) }
         ensures removal { IsSome (value_within result)
             → IsRemoval P.Gen.following self.old (P.Inx.number i) self.new }
         ensures invalid { value_within result ≡ None → self.new ≡ self.old }
-        ensures agreed { Agrees (shown self.old) }
+        ensures agreed { IsWellLinked (link_map self.old) }
     {
         take_out(&mut self.arena, i)
     }
@@ -151,10 +151,10 @@ impl<P: PtrKey, T: Drop, S: SlotStack<Item = ArenaSlot<P, LinkNoGen<P, T>>>> Cha
         visitor: V,
     ) -> (InvalidationOption<()>, V, Work)
         requires { V.is_ready visitor }
-        ensures canonical { IsCanonicalLayout P.Gen.first P.Gen.following reset (seen self.old)
-            (shown self.old) (seen self.new) (shown self.new) }
+        ensures canonical { IsCanonicalLayout P.Gen.first P.Gen.following reset (value_view self.old)
+            (link_map self.old) (value_view self.new) (link_map self.new) }
         ensures stack_capacity { self.new.stack_capacity ≡ self.old.stack_capacity }
-        ensures shows { ShowsAll V.sees P.key (seen self.old) (shown self.old) self.new.counter
+        ensures shows { ReportsAll V.sees P.key (value_view self.old) (link_map self.old) self.new.counter
             visitor result.1 }
         ensures ready { V.is_ready result.1 }
         ensures overflow { result.0 ≡ invalidation_option
@@ -162,7 +162,7 @@ impl<P: PtrKey, T: Drop, S: SlotStack<Item = ArenaSlot<P, LinkNoGen<P, T>>>> Cha
             tt }
         ensures placed { self.new.placed ≡ self.old.placed + result.2.placed }
         ensures touched { self.new.touched ≡ self.old.touched + result.2.touched }
-        ensures agreed { Agrees (shown self.old) }
+        ensures agreed { IsWellLinked (link_map self.old) }
     {
         let overflow = begin_generation(&mut self.arena, reset);
         let (visitor, work) = lay_out(&mut self.arena, visitor);
@@ -179,15 +179,15 @@ impl<P: PtrKey, T: Drop, S: SlotStack<Item = ArenaSlot<P, LinkNoGen<P, T>>>> Cha
         map: F,
     ) -> InvalidationOption<()>
         requires { F.IsAlwaysCallable map }
-        ensures canonical { IsCanonicalLayout P.Gen.first P.Gen.following reset (seen self.old)
-            (shown self.old) (seen self.new) (shown self.new) }
+        ensures canonical { IsCanonicalLayout P.Gen.first P.Gen.following reset (value_view self.old)
+            (link_map self.old) (value_view self.new) (link_map self.new) }
         ensures stack_capacity { self.new.stack_capacity ≡ self.old.stack_capacity }
-        ensures shows { ShowsLayout F.FnMut P.key (seen self.old) (shown self.old) self.new.counter
+        ensures shows { ReportsLayout F.FnMut P.key (value_view self.old) (link_map self.old) self.new.counter
             map }
         ensures overflow { result ≡ invalidation_option
             (overflows_after_compression P.Gen.wraps reset (entry_count self.old) self.old.counter)
             tt }
-        ensures agreed { Agrees (shown self.old) }
+        ensures agreed { IsWellLinked (link_map self.old) }
     {
         let (overflow, _, _) = self.compress_canonical_by(reset, Showing { map });
         overflow
@@ -205,17 +205,17 @@ impl<P: PtrKey, T: Drop, S: SlotStack<Item = ArenaSlot<P, LinkNoGen<P, T>>>> Cha
         reset: bool,
     ) -> Result<(InvalidationOption<()>, Vec<(P, P), A>), AllocError>
         ensures canonical { OnOk result (IsCanonicalLayout P.Gen.first P.Gen.following reset
-            (seen self.old) (shown self.old) (seen self.new) (shown self.new)) }
+            (value_view self.old) (link_map self.old) (value_view self.new) (link_map self.new)) }
         ensures stack_capacity { self.new.stack_capacity ≡ self.old.stack_capacity }
-        ensures moves { IfOk result (λ r. AreAllMoves P.key (seen self.old)
-            (shown self.old) self.new.counter r.1.items) }
+        ensures moves { IfOk result (λ r. AreAllMoves P.key (value_view self.old)
+            (link_map self.old) self.new.counter r.1.items) }
         ensures by_pointer { IfOk result (λ r. ArePointerMoves P.key (entry self.old)
             (entry self.new) r.1.items) }
         ensures overflow { IfOk result
             (λ r. r.0 ≡ invalidation_option (overflows_after_compression P.Gen.wraps reset
             (entry_count self.old) self.old.counter) tt) }
         ensures err { OnErr result (self.new ≡ self.old) }
-        ensures agreed { Agrees (shown self.old) }
+        ensures agreed { IsWellLinked (link_map self.old) }
     {
         let moves = Vec::with_capacity(alloc, self.len())?;
         let (overflow, listing, _) = self.compress_canonical_by(reset, Listing { moves });
@@ -227,15 +227,15 @@ impl<P: PtrKey, T: Drop, S: SlotStack<Item = ArenaSlot<P, LinkNoGen<P, T>>>> Cha
     ///
     /// `GenerationOverflow`: the counter was at its greatest, and is two now.
     pub fn compress_canonical_counted(&mut self, reset: bool) -> (InvalidationOption<()>, Work)
-        ensures canonical { IsCanonicalLayout P.Gen.first P.Gen.following reset (seen self.old)
-            (shown self.old) (seen self.new) (shown self.new) }
+        ensures canonical { IsCanonicalLayout P.Gen.first P.Gen.following reset (value_view self.old)
+            (link_map self.old) (value_view self.new) (link_map self.new) }
         ensures stack_capacity { self.new.stack_capacity ≡ self.old.stack_capacity }
         ensures overflow { result.0 ≡ invalidation_option
             (overflows_after_compression P.Gen.wraps reset (entry_count self.old) self.old.counter)
             tt }
         ensures placed { self.new.placed ≡ self.old.placed + result.1.placed }
         ensures touched { self.new.touched ≡ self.old.touched + result.1.touched }
-        ensures agreed { Agrees (shown self.old) }
+        ensures agreed { IsWellLinked (link_map self.old) }
     {
         let (overflow, _, work) = self.compress_canonical_by(
             reset,
@@ -248,7 +248,7 @@ impl<P: PtrKey, T: Drop, S: SlotStack<Item = ArenaSlot<P, LinkNoGen<P, T>>>> Cha
 
     /// The slots.
     pub fn backing(&self) -> &S
-        ensures slots { map (option_map (seen_pair P.Inx.packed_number))
+        ensures slots { map (option_map (pair_view P.Inx.packed_number))
             (map entry_of (S.items result.now)) ≡ self.now.slots }
         ensures freed { ThreadsFreeList P.Inx.number (S.items result.now) self.now.freed }
         ensures capacity { S.capacity result.now ≡ self.now.stack_capacity }

@@ -4,11 +4,11 @@ ghost use Rattle.std.specs.Borrow.{RestsIfNone, sem};
 ghost use Rattle.std.specs.Option.{option_map};
 ghost use Rattle.std.specs.Iterator.{item_count};
 ghost use Rattle.arena_ptr.specs.Invalidation.{value_in, is_overflow};
-ghost use Rattle.chain_laws.specs.Chains.{Agrees};
-ghost use Rattle.chain_laws.specs.Walks.{goes_on, IsWalk, TakesWalk};
+ghost use Rattle.chain_laws.specs.Chains.{IsWellLinked};
+ghost use Rattle.chain_laws.specs.Walks.{rest_start, IsWalk, TakesWalk};
 ghost use Rattle.arena_base.specs.Arena.{IsValid};
-ghost use Rattle.chain_links.specs.ChainArena.{entry, shown};
-ghost use Rattle.chain_links.specs.Insertions.{index_from};
+ghost use Rattle.chain_links.specs.ChainArena.{entry, link_map};
+ghost use Rattle.chain_links.specs.Insertions.{nonzero_index};
 ghost use Rattle.chain_arena.specs.DrainLaws.{DrainGivesTheWalk};
 ghost use Rattle.chain_arena.specs.Drains.{walk_left, without_each, IsDrainStep, DrainSteps, CountsUp};
 
@@ -54,7 +54,7 @@ impl<P: PtrKey, T: Drop, S: SlotStack<Item = ArenaSlot<P, LinkNoGen<P, T>>>> Cha
         ensures same_reference { IfSome result (λ d. d.arena.ghost_name ≡ self.entry.ghost_name) }
         ensures arena { IfSome result (λ d. d.arena.now ≡ self.old) }
         ensures at { IfSome result (λ d. d.at ≡ (P.key p).0) }
-        ensures walk { IfSome result (λ d. IsWalk (shown self.old) (P.key p).0
+        ensures walk { IfSome result (λ d. IsWalk (link_map self.old) (P.key p).0
             (walk_left self.old (P.key p).0)) }
     {
         self.invariants();
@@ -81,7 +81,7 @@ impl<P: PtrKey, T: Drop, S: SlotStack<Item = ArenaSlot<P, LinkNoGen<P, T>>>> Cha
         ensures some { IfSome result
             (λ e. IsDrainStep P.key P.Inx.packed_number P.Gen.following P.Gen.wraps self.old at e.1
             self.new e.0) }
-        ensures agreed { Agrees (shown self.old) }
+        ensures agreed { IsWellLinked (link_map self.old) }
     {
         self.invariants();
         match self.index_at(at) {
@@ -99,7 +99,7 @@ impl<P: PtrKey, T: Drop, S: SlotStack<Item = ArenaSlot<P, LinkNoGen<P, T>>>> Cha
     // Removes the links of the walk from a number.
     fn drain_from(&mut self, from: usize)
         ensures state { self.new ≡ without_each P.Gen.following self.old (walk_left self.old from) }
-        ensures taken { TakesWalk (shown self.old) (shown self.new) (walk_left self.old from) }
+        ensures taken { TakesWalk (link_map self.old) (link_map self.new) (walk_left self.old from) }
         ensures counts { CountsUp P.Gen.following (length (walk_left self.old from)) self.old
             self.new }
     {
@@ -117,7 +117,7 @@ fn yielded<P: PtrKey, T>(
     entry: (P::Gen, LinkNoGen<P, T>),
     overflow: bool,
 ) -> (usize, InvalidationOption<(P, LinkNoGen<P, T>)>)
-    ensures next { index_from result.0 ≡ goes_on (P.Inx.number i) (P.Inx.packed_number entry.1.prev)
+    ensures next { nonzero_index result.0 ≡ rest_start (P.Inx.number i) (P.Inx.packed_number entry.1.prev)
         (P.Inx.packed_number entry.1.next) }
     ensures ptr { P.key (value_in result.1).0 ≡ (P.Inx.number i, entry.0) }
     ensures link { (value_in result.1).1 ≡ entry.1 }
@@ -131,7 +131,7 @@ fn yielded<P: PtrKey, T>(
 
 // Where a walk goes on whose first link is removed: to the link after it, or else to the one before it.
 fn goes_on_to<I: InxKey>(i: I, prev: Option<I>, next: Option<I>) -> Option<I>
-    ensures { option_map I.number result ≡ goes_on (I.number i) (option_map I.number prev)
+    ensures { option_map I.number result ≡ rest_start (I.number i) (option_map I.number prev)
         (option_map I.number next) }
 {
     match next {
@@ -170,7 +170,7 @@ impl<'a, P: PtrKey, T: Drop, S: SlotStack<Item = ArenaSlot<P, LinkNoGen<P, T>>>>
     fn drop(self)
         ensures state { self.exit.0.now ≡ without_each P.Gen.following self.entry.arena.now
             (walk_left self.entry.arena.now self.entry.at) }
-        ensures taken { TakesWalk (shown self.entry.arena.now) (shown self.exit.0.now)
+        ensures taken { TakesWalk (link_map self.entry.arena.now) (link_map self.exit.0.now)
             (walk_left self.entry.arena.now self.entry.at) }
         ensures counts { CountsUp P.Gen.following
             (length (walk_left self.entry.arena.now self.entry.at)) self.entry.arena.now

@@ -1,9 +1,9 @@
 ghost use Rattle.std.specs.Prelude.{◌≡◌, Some};
 ghost use Rattle.std.specs.Option.{option_map};
 ghost use Rattle.std.specs.Iterator.{YieldsFirstBy, item_count};
-ghost use Rattle.chain_links.specs.ChainArena.{shown};
-ghost use Rattle.chain_links.specs.Links.{seen_links};
-ghost use Rattle.chain_links.specs.Walkers.{links_ahead, seen_item};
+ghost use Rattle.chain_links.specs.ChainArena.{link_map};
+ghost use Rattle.chain_links.specs.Links.{links_view};
+ghost use Rattle.chain_links.specs.Walkers.{links_ahead, item_view};
 ghost use Rattle.chain_arena.specs.Iterators.{IsOnLinks};
 
 use arena_base::{Arena, ArenaSlot, ArenaTrait, excluded};
@@ -37,19 +37,19 @@ impl<'a, P: PtrKey, T: Drop, S: SlotStack<Item = ArenaSlot<P, LinkNoGen<P, T>>>>
     for ChainIter<'a, P, T, S> {
     ghost use Rattle.std.specs.Prelude.{ℕ, List};
     ghost use Rattle.std.specs.Option.{option_map};
-    ghost use Rattle.chain_links.specs.ChainArena.{LinkSeen, shown};
+    ghost use Rattle.chain_links.specs.ChainArena.{LinkView, link_map};
 
-    ghost Value = { List (ℕ × (P.Gen × LinkSeen T)) };
+    ghost Value = { List (ℕ × (P.Gen × LinkView T)) };
 
-    ghost use Rattle.chain_links.specs.Links.{seen_links};
+    ghost use Rattle.chain_links.specs.Links.{links_view};
     ghost use Rattle.chain_links.specs.Walkers.{links_ahead};
     ghost use Rattle.chain_arena.specs.Iterators.{IsOnLinks};
 
-    ghost view = { λ it. links_ahead (seen_links P.Inx.packed_number it.arena.now) it.left
+    ghost view = { λ it. links_ahead (links_view P.Inx.packed_number it.arena.now) it.left
         (P.Inx.number it.start)
         (option_map P.Inx.number it.forth) (option_map P.Inx.number it.back) };
 
-    ghost invariant = { λ it. IsOnLinks (shown (seen_links P.Inx.packed_number it.arena.now))
+    ghost invariant = { λ it. IsOnLinks (link_map (links_view P.Inx.packed_number it.arena.now))
         (option_map P.Inx.number it.forth) (option_map P.Inx.number it.back) };
 }
 
@@ -66,9 +66,9 @@ impl<'a, P: PtrKey, T: Drop, S: SlotStack<Item = ArenaSlot<P, LinkNoGen<P, T>>>>
         back: Option<P::Inx>,
         left: usize,
     ) -> Self
-        requires { IsOnLinks (shown (seen_links P.Inx.packed_number arena.now))
+        requires { IsOnLinks (link_map (links_view P.Inx.packed_number arena.now))
             (Some (P.Inx.number start)) (option_map P.Inx.number back) }
-        ensures { result ≡ links_ahead (seen_links P.Inx.packed_number arena.now) left
+        ensures { result ≡ links_ahead (links_view P.Inx.packed_number arena.now) left
             (P.Inx.number start)
             (Some (P.Inx.number start)) (option_map P.Inx.number back) }
     {
@@ -86,7 +86,7 @@ impl<'a, P: PtrKey, T: Drop, S: SlotStack<Item = ArenaSlot<P, LinkNoGen<P, T>>>>
     for ChainIter<'a, P, T, S> {
     type Item = (P, &'a LinkNoGen<P, T>);
 
-    ghost next_gives = { YieldsFirstBy (seen_item P.key P.Inx.packed_number) (λ rest. rest) };
+    ghost next_gives = { YieldsFirstBy (item_view P.key P.Inx.packed_number) (λ rest. rest) };
 
     ghost remaining = { item_count (λ rest. rest) };
 

@@ -1,11 +1,11 @@
 // Copies of a chain arena.
 ghost use Rattle.std.specs.Prelude.{◌≡◌, ◌≤◌, ◌↔◌, ◌⊎◌, [], length, IsOk, IfOk, OnOk, OnErr, Err};
 ghost use Rattle.arena_ptr.specs.SlotStack.{IsBeyond};
-ghost use Rattle.chain_laws.specs.Chains.{Agrees};
-ghost use Rattle.arena_base.specs.Arena.{HasRoom, IsRoom, IsWithinReach, new_arena};
-ghost use Rattle.arena_base.specs.Copies.{IsCopyBy, IsCopyCall, IsGivenUp, IsLeftEmpty};
-ghost use Rattle.chain_links.specs.ChainArena.{shown};
-ghost use Rattle.chain_links.specs.Links.{seen_link};
+ghost use Rattle.chain_laws.specs.Chains.{IsWellLinked};
+ghost use Rattle.arena_base.specs.Arena.{HasCapacityFor, IsCapacityFor, IsWithinReach, new_arena};
+ghost use Rattle.arena_base.specs.Copies.{IsCopyBy, IsCopyCall, IsAbandonedCopy, IsAbandonedView};
+ghost use Rattle.chain_links.specs.ChainArena.{link_map};
+ghost use Rattle.chain_links.specs.Links.{link_view};
 ghost use Rattle.chain_arena.specs.LinkCopies.{MakesOf, HasRefusableLink, IsLinkCopy, IsLinkCopyBy, IsClone, IsCopyBelow};
 
 use crate::chain_arena::ChainArena;
@@ -16,7 +16,7 @@ use std::alloc::Global;
 
 // Makes the links of a copy: each names the same neighbors, and has a value that the map makes.
 #[derive(Drop)]
-struct LinkMap<M> {
+struct LinkMapper<M> {
     values: M,
 }
 
@@ -27,14 +27,14 @@ impl<
     U,
     T,
     M: ValueMap<P, LinkBody<PackedOption<I, W>, U>, T>,
-> ValueMap<P, LinkBody<PackedOption<I, W>, U>, LinkBody<PackedOption<I, W>, T>> for LinkMap<M> {
-    ghost use Rattle.chain_links.specs.Links.{seen_link};
+> ValueMap<P, LinkBody<PackedOption<I, W>, U>, LinkBody<PackedOption<I, W>, T>> for LinkMapper<M> {
+    ghost use Rattle.chain_links.specs.Links.{link_view};
     ghost use Rattle.chain_arena.specs.LinkCopies.{MakesLink, MakesOf};
 
     ghost is_ready = { λ m. M.is_ready m.values };
 
     ghost makes = { λ m p u t n. MakesLink I.packed_number
-        (MakesOf (seen_link I.packed_number) M.makes) m.values p u t n.values };
+        (MakesOf (link_view I.packed_number) M.makes) m.values p u t n.values };
 
     ghost may_refuse = { λ p u. M.may_refuse p u };
 
@@ -71,19 +71,21 @@ impl<P: PtrKey, T: Drop, S: SlotStack<Item = ArenaSlot<P, LinkNoGen<P, T>>>> Cha
             ↔ IsBeyond self.old.maximum (length source.now.slots) }
         ensures unchanged { result.0 ≡ Err ReallocationError.BeyondMaxCapacity
             → (self.new ≡ self.old) × (result.1 ≡ values) }
-        ensures ok { OnOk result.0 (HasRoom P.Inx.greatest (length source.now.slots) self.new) }
+        ensures ok { OnOk result.0 (HasCapacityFor P.Inx.greatest (length source.now.slots) self.new) }
         ensures copied { OnOk result.0
-            (IsLinkCopyBy (MakesOf (seen_link P.Inx.packed_number) M.makes) P.key values source.now
+            (IsLinkCopyBy (MakesOf (link_view P.Inx.packed_number) M.makes) P.key values source.now
             self.old self.new result.1) }
         ensures ready { OnOk result.0 (M.is_ready result.1) }
         ensures never_less { self.old.capacity ≤ self.new.capacity }
         ensures reached { IsWithinReach S.may_reach (length source.now.slots) self.old self.new }
         ensures err { OnErr result.0 (((self.new ≡ self.old) × (result.1 ≡ values))
             ⊎ (HasRefusableLink P.Inx.packed_number M.may_refuse P.key source.now
-            × IsGivenUp self.old self.new)) }
-        ensures agreed { Agrees (shown source.now) }
+            × IsAbandonedCopy self.old self.new)) }
+        ensures agreed { IsWellLinked (link_map source.now) }
     {
-        let (done, links) = self.arena.clone_from_by(&source.arena, LinkMap { values });
+        let (done, links) = self
+            .arena
+            .clone_from_by(&source.arena, LinkMapper { values });
         (done, links.values)
     }
 
@@ -104,13 +106,13 @@ impl<P: PtrKey, T: Drop, S: SlotStack<Item = ArenaSlot<P, LinkNoGen<P, T>>>> Cha
             → IsOk result × (self.new.capacity ≡ self.old.capacity) }
         ensures beyond { (result ≡ Err ReallocationError.BeyondMaxCapacity)
             ↔ IsBeyond self.old.maximum (length source.now.slots) }
-        ensures ok { OnOk result (HasRoom P.Inx.greatest (length source.now.slots) self.new) }
+        ensures ok { OnOk result (HasCapacityFor P.Inx.greatest (length source.now.slots) self.new) }
         ensures copied { OnOk result
             (IsLinkCopy F.FnMut P.Inx.packed_number P.key map source.now self.old self.new) }
         ensures never_less { self.old.capacity ≤ self.new.capacity }
         ensures reached { IsWithinReach S.may_reach (length source.now.slots) self.old self.new }
         ensures err { OnErr result (self.new ≡ self.old) }
-        ensures agreed { Agrees (shown source.now) }
+        ensures agreed { IsWellLinked (link_map source.now) }
     {
         let (done, _) = self.clone_from_by(source, Answering { map });
         done
@@ -129,23 +131,23 @@ impl<P: PtrKey, T: Drop, S: SlotStack<Item = ArenaSlot<P, LinkNoGen<P, T>>>> Cha
         M: ValueMap<P, LinkNoGen<P, T>, U>,
     >(&self, arena: &mut A, values: M) -> (Result<(), ReallocationError>, M)
         requires { M.is_ready values }
-        ensures within { length self.now.slots ≤ (A.seen arena.old).capacity →
+        ensures within { length self.now.slots ≤ (A.view arena.old).capacity →
             (IsOk result.0 ⊎ HasRefusableLink P.Inx.packed_number M.may_refuse P.key self.now)
-            × ((A.seen arena.new).capacity ≡ (A.seen arena.old).capacity) }
+            × ((A.view arena.new).capacity ≡ (A.view arena.old).capacity) }
         ensures beyond { (result.0 ≡ Err ReallocationError.BeyondMaxCapacity)
-            ↔ IsBeyond (A.seen arena.old).maximum (length self.now.slots) }
+            ↔ IsBeyond (A.view arena.old).maximum (length self.now.slots) }
         ensures unchanged { result.0 ≡ Err ReallocationError.BeyondMaxCapacity
             → (arena.new ≡ arena.old) × (result.1 ≡ values) }
-        ensures ok { OnOk result.0 (IsRoom P.Inx.greatest (A.seen arena.new).maximum
-            (length self.now.slots) (A.seen arena.new).capacity) }
+        ensures ok { OnOk result.0 (IsCapacityFor P.Inx.greatest (A.view arena.new).maximum
+            (length self.now.slots) (A.view arena.new).capacity) }
         ensures copied { OnOk result.0
-            (IsCopyBy (MakesOf (seen_link P.Inx.packed_number) M.makes) P.key values self.now
-            (A.seen arena.old) (A.seen arena.new) result.1) }
+            (IsCopyBy (MakesOf (link_view P.Inx.packed_number) M.makes) P.key values self.now
+            (A.view arena.old) (A.view arena.new) result.1) }
         ensures ready { OnOk result.0 (M.is_ready result.1) }
-        ensures never_less { (A.seen arena.old).capacity ≤ (A.seen arena.new).capacity }
+        ensures never_less { (A.view arena.old).capacity ≤ (A.view arena.new).capacity }
         ensures err { OnErr result.0 (((arena.new ≡ arena.old) × (result.1 ≡ values))
             ⊎ (HasRefusableLink P.Inx.packed_number M.may_refuse P.key self.now
-            × IsLeftEmpty (A.seen arena.old) (A.seen arena.new))) }
+            × IsAbandonedView (A.view arena.old) (A.view arena.new))) }
         ensures more { OnOk result.0
             (IsCopyBelow P.Inx.packed_number (A.copies _) self.now arena.old arena.new) }
     {
@@ -165,16 +167,16 @@ impl<P: PtrKey, T: Drop, S: SlotStack<Item = ArenaSlot<P, LinkNoGen<P, T>>>> Cha
         F: FnMut(P, &LinkNoGen<P, T>) -> U + Drop,
     >(&self, arena: &mut A, map: F) -> Result<(), ReallocationError>
         requires { F.IsAlwaysCallable map }
-        ensures within { length self.now.slots ≤ (A.seen arena.old).capacity
-            → IsOk result × ((A.seen arena.new).capacity ≡ (A.seen arena.old).capacity) }
+        ensures within { length self.now.slots ≤ (A.view arena.old).capacity
+            → IsOk result × ((A.view arena.new).capacity ≡ (A.view arena.old).capacity) }
         ensures beyond { (result ≡ Err ReallocationError.BeyondMaxCapacity)
-            ↔ IsBeyond (A.seen arena.old).maximum (length self.now.slots) }
-        ensures ok { OnOk result (IsRoom P.Inx.greatest (A.seen arena.new).maximum
-            (length self.now.slots) (A.seen arena.new).capacity) }
+            ↔ IsBeyond (A.view arena.old).maximum (length self.now.slots) }
+        ensures ok { OnOk result (IsCapacityFor P.Inx.greatest (A.view arena.new).maximum
+            (length self.now.slots) (A.view arena.new).capacity) }
         ensures copied { OnOk result
-            ((last : F) × IsCopyBy (MakesOf (seen_link P.Inx.packed_number) (IsCopyCall F.FnMut))
-            P.key map self.now (A.seen arena.old) (A.seen arena.new) last) }
-        ensures never_less { (A.seen arena.old).capacity ≤ (A.seen arena.new).capacity }
+            ((last : F) × IsCopyBy (MakesOf (link_view P.Inx.packed_number) (IsCopyCall F.FnMut))
+            P.key map self.now (A.view arena.old) (A.view arena.new) last) }
+        ensures never_less { (A.view arena.old).capacity ≤ (A.view arena.new).capacity }
         ensures err { OnErr result (arena.new ≡ arena.old) }
         ensures more { OnOk result (IsCopyBelow P.Inx.packed_number (A.copies _) self.now arena.old
             arena.new) }
@@ -217,12 +219,12 @@ impl<P: PtrKey, T: Clone, S: SlotStack<Item = ArenaSlot<P, LinkNoGen<P, T>>>> Ch
         ensures beyond { (result ≡ Err ReallocationError.BeyondMaxCapacity)
             ↔ IsBeyond S.initial_maximum (length self.now.slots) }
         ensures copied { IfOk result (IsClone P.Gen.first S.initial_maximum self.now) }
-        ensures room { IfOk result (HasRoom P.Inx.greatest (length self.now.slots)) }
+        ensures room { IfOk result (HasCapacityFor P.Inx.greatest (length self.now.slots)) }
         ensures reached { IfOk result (IsWithinReach S.may_reach (length self.now.slots)
             (new_arena P.Gen.first S.initial_maximum)) }
         ensures no_room { self.now.slots ≡ [] → IfOk result (λ copy. copy.stack_capacity ≡ 0)
             × IsOk result }
-        ensures agreed { Agrees (shown self.now) }
+        ensures agreed { IsWellLinked (link_map self.now) }
     {
         let mut arena: Arena<P, LinkNoGen<P, T>, S> = Arena::new(alloc);
         let (done, _) = arena.clone_from_by(&self.arena, LinkClones);

@@ -1,8 +1,8 @@
 // A chain arena made of an arena of links.
 ghost use Rattle.std.specs.Prelude.{◌≡◌, ◌↔◌, IsOk, IfOk, IfErr, codes};
-ghost use Rattle.chain_laws.specs.Chains.{Agrees};
-ghost use Rattle.chain_links.specs.ChainArena.{shown};
-ghost use Rattle.chain_links.specs.Links.{seen_links};
+ghost use Rattle.chain_laws.specs.Chains.{IsWellLinked};
+ghost use Rattle.chain_links.specs.ChainArena.{link_map};
+ghost use Rattle.chain_links.specs.Links.{links_view};
 
 use crate::chain_arena::ChainArena;
 use arena_base::{Arena, ArenaSlot};
@@ -19,8 +19,8 @@ impl<P: PtrKey, T: Drop, S: SlotStack<Item = ArenaSlot<P, LinkNoGen<P, T>>>> Cha
     ///
     /// Carries `from_arena` of `triple_arena`.
     pub fn from_arena(arena: Arena<P, LinkNoGen<P, T>, S>) -> Result<Self, &'static str>
-        ensures decides { IsOk result ↔ Agrees (shown (seen_links P.Inx.packed_number arena)) }
-        ensures same { IfOk result (λ c. c ≡ seen_links P.Inx.packed_number arena) }
+        ensures decides { IsOk result ↔ IsWellLinked (link_map (links_view P.Inx.packed_number arena)) }
+        ensures same { IfOk result (λ c. c ≡ links_view P.Inx.packed_number arena) }
         ensures refused { IfErr result (λ e. e.now ≡ codes "interlink transitivity does not hold") }
     {
         if links_agree(&arena) {

@@ -4,9 +4,9 @@ ghost use Rattle.std.specs.Option.{option_map};
 ghost use Rattle.arena_ptr.specs.Invalidation.{value_within, is_overflow_result};
 ghost use Rattle.chain_laws.specs.Neighbors.{HasOneSetOfChains};
 ghost use Rattle.arena_ptr.specs.Numbers.{IsWithin};
-ghost use Rattle.arena_base.specs.Arena.{entry_count, HasRoom, IsListed};
-ghost use Rattle.arena_base.specs.Entries.{index_of, AreTheSlots};
-ghost use Rattle.chain_links.specs.ChainArena.{seen, shown};
+ghost use Rattle.arena_base.specs.Arena.{entry_count, HasCapacityFor, IsListed};
+ghost use Rattle.arena_base.specs.Entries.{index_of, CoverSlots};
+ghost use Rattle.chain_links.specs.ChainArena.{value_view, link_map};
 
 use crate::chain_arena::ChainArena;
 use arena_base::{Advancer, Arena, ArenaSlot, ArenaTrait, CompactArenaTrait, PtrAdvancer};
@@ -22,36 +22,36 @@ use std::alloc::Global;
 impl<P: PtrKey, T: Drop, S: SlotStack<Item = ArenaSlot<P, LinkNoGen<P, T>>>> ArenaTrait<P, T>
     for ChainArena<P, T, S> {
     ghost use Rattle.std.specs.Prelude.{◌≡◌};
-    ghost use Rattle.arena_base.specs.Arena.{entry_at, with_capacity_of, IsWithinReach, IsNewWithRoom, renewed_at, cleared};
+    ghost use Rattle.arena_base.specs.Arena.{entry_at, with_capacity_of, IsWithinReach, IsNewWithCapacity, renewed_at, cleared};
     ghost use Rattle.std.specs.Option.{option_map};
-    ghost use Rattle.arena_base.specs.Entries.{seen_of, entries};
+    ghost use Rattle.arena_base.specs.Entries.{view_of, entries};
     ghost use Rattle.arena_base.specs.EntryLaws.{entries_rise, found-entries};
     ghost use Rattle.arena_base.specs.AdvancerLaws.{until_none};
-    ghost use Rattle.chain_links.specs.ChainArena.{shown, values_of, with_value_at, IsRemoval};
-    ghost use Rattle.chain_compaction.specs.LinkCompressions.{ClosesGaps};
+    ghost use Rattle.chain_links.specs.ChainArena.{link_map, values_of, with_value_at, IsRemoval};
+    ghost use Rattle.chain_compaction.specs.LinkCompressions.{ClosesHoles};
 
     type PtrAdvancer = PtrAdvancer<P>;
 
-    ghost seen = { λ a. seen_of (values_of a) };
+    ghost view = { λ a. view_of (values_of a) };
 
     ghost entry = { λ a. entry_at (values_of a) };
 
-    ghost looks = { λ a. a.look };
+    ghost cursor = { λ a. a.look };
 
-    ghost starts = { IsNewWithRoom S.may_reach P.Gen.first S.initial_maximum };
+    ghost starts = { IsNewWithCapacity S.may_reach P.Gen.first S.initial_maximum };
 
-    ghost grows = { λ n a b. (b ≡ with_capacity_of a b) × (shown b ≡ shown a)
+    ghost grows = { λ n a b. (b ≡ with_capacity_of a b) × (link_map b ≡ link_map a)
         × IsWithinReach S.may_reach n a b };
 
-    ghost writes = { λ a i t b. (b ≡ with_value_at a i t) × (shown b ≡ shown a) };
+    ghost writes = { λ a i t b. (b ≡ with_value_at a i t) × (link_map b ≡ link_map a) };
 
-    ghost renews = { λ a i b. (b ≡ renewed_at P.Gen.following a i) × (shown b ≡ shown a) };
+    ghost renews = { λ a i b. (b ≡ renewed_at P.Gen.following a i) × (link_map b ≡ link_map a) };
 
     ghost removes = { λ a i b. IsRemoval P.Gen.following a i b };
 
     ghost clears = { λ a b. b ≡ cleared P.Gen.following a };
 
-    ghost compresses = { ClosesGaps };
+    ghost compresses = { ClosesHoles };
 
     ghost rises = { λ a. entries_rise (values_of a) };
 
@@ -84,17 +84,17 @@ impl<P: PtrKey, T: Drop, S: SlotStack<Item = ArenaSlot<P, LinkNoGen<P, T>>>> Are
     /// How many links there are. Each of them stands in exactly one chain, at one place, and no two sets of chains
     /// say what the arena shows.
     fn len(&self) -> usize
-        ensures count { result ≡ length (seen self.now).entries }
-        ensures fits { result ≤ (seen self.now).capacity }
+        ensures count { result ≡ length (value_view self.now).entries }
+        ensures fits { result ≤ (value_view self.now).capacity }
         ensures one_more { result + 1 < 2 ^ 64 }
-        ensures indexes { All (λ e. IsWithin P.Inx.greatest (index_of e)) (seen self.now).entries }
-        ensures filled { IfSome (seen self.now).slots (AreTheSlots (seen self.now).entries) }
+        ensures indexes { All (λ e. IsWithin P.Inx.greatest (index_of e)) (value_view self.now).entries }
+        ensures filled { IfSome (value_view self.now).slots (CoverSlots (value_view self.now).entries) }
         ensures links { result ≡ entry_count self.now }
-        ensures chains { HasOneSetOfChains (shown self.now) }
+        ensures chains { HasOneSetOfChains (link_map self.now) }
 
         // The slots, the freed list and the room, in every arena.
         ensures listed { IsListed self.now }
-        ensures room { HasRoom P.Inx.greatest (length self.now.slots) self.now }
+        ensures room { HasCapacityFor P.Inx.greatest (length self.now.slots) self.now }
     {
         self.arena.len()
     }
@@ -202,14 +202,14 @@ impl<P: PtrKey, T: Drop, S: SlotStack<Item = ArenaSlot<P, LinkNoGen<P, T>>>> Adv
     ghost use Rattle.std.specs.Prelude.{◌≡◌};
     ghost use Rattle.std.specs.Option.{option_map};
     ghost use Rattle.arena_base.specs.Entries.{entries};
-    ghost use Rattle.arena_base.specs.Advancers.{IsLook};
+    ghost use Rattle.arena_base.specs.Advancers.{IsAdvance};
     ghost use Rattle.arena_base.specs.AdvancerLaws.{nowhere_stays};
-    ghost use Rattle.arena_base.specs.declared.cursor.Look.TheVariants.{Nowhere};
+    ghost use Rattle.arena_base.specs.declared.cursor.Cursor.TheVariants.{Nowhere};
     ghost use Rattle.chain_links.specs.ChainArena.{values_of};
 
     type Item = P;
 
-    ghost gives = { λ a arena answer b. IsLook (entries (values_of arena)) a.look
+    ghost gives = { λ a arena answer b. IsAdvance (entries (values_of arena)) a.look
         (option_map P.key answer) b.look };
 
     ghost is_spent = { λ a. a.look ≡ Nowhere };

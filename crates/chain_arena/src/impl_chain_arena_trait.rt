@@ -2,23 +2,23 @@
 ghost use Rattle.std.specs.Prelude.{◌≡◌, ◌≢◌, ◌↔◌, ◌<◌, ◌+◌, ◌⊎◌, length, IsTrue, IsSome, IfSome, OnSome, IfNone, IfOk, IsErr, IfErr, OnOk, OnErr, Err, None, Some};
 ghost use Rattle.std.specs.Option.{option_map};
 ghost use Rattle.arena_ptr.specs.Invalidation.{value_within, is_overflow_result, invalidation_option, invalidation_result};
-ghost use Rattle.chain_laws.specs.Chains.{Agrees, prev_of, next_of};
+ghost use Rattle.chain_laws.specs.Chains.{IsWellLinked, prev_of, next_of};
 ghost use Rattle.chain_laws.specs.Cuts.{cut, Cuts};
 ghost use Rattle.chain_laws.specs.Exchanges.{exchanged, Exchanges};
 ghost use Rattle.chain_laws.specs.Neighbors.{AreNeighbors};
 ghost use Rattle.chain_laws.specs.Joins.{joined, Connects, AddsPair};
 ghost use Rattle.chain_laws.specs.Removals.{removed, Removes, RemovesPairs};
-ghost use Rattle.arena_base.specs.Arena.{entry_count, next_index, with_capacity_of, IsValid, IsRoom, HasGrownTo};
+ghost use Rattle.arena_base.specs.Arena.{entry_count, next_index, with_capacity_of, IsValid, IsCapacityFor, ReachesCapacity};
 ghost use Rattle.arena_base.specs.Entries.{count, NeedsBeyondMaximum};
 ghost use Rattle.arena_base.specs.Compressions.{overflows_after_compression};
-ghost use Rattle.chain_links.specs.CallEffects.{GainsLink, IsFull, LosesLink, SucceedsInRoom, YieldsLink};
-ghost use Rattle.chain_links.specs.ChainArena.{shown as interlinks};
-ghost use Rattle.chain_links.specs.ChainArena.{seen, entry, relinked, insert_as, remove_link, link_at, on_value, CanConnect, CanExchange, IsCut, IsExchange, IsLinkAt};
+ghost use Rattle.chain_links.specs.CallEffects.{GainsLink, IsFull, LosesLink, SucceedsWithinCapacity, YieldsLink};
+ghost use Rattle.chain_links.specs.ChainArena.{link_map as interlinks};
+ghost use Rattle.chain_links.specs.ChainArena.{value_view, entry, relinked, insert_as, remove_link, link_at, on_value, CanConnect, CanExchange, IsCut, IsExchange, IsLinkAt};
 ghost use Rattle.chain_links.specs.Kinds.{names_in, MayInsert};
 ghost use Rattle.chain_links.specs.CanonicalLayouts.{IsCanonicalLayout};
-ghost use Rattle.chain_arena.specs.Effects.{kind_of, May};
+ghost use Rattle.chain_arena.specs.Effects.{indexed_kind, MayInsertInto};
 ghost use Rattle.chain_arena.specs.Growths.{growth_of};
-ghost use Rattle.chain_links.specs.Links.{seen_link, seen_lent};
+ghost use Rattle.chain_links.specs.Links.{link_view, borrowed_link};
 ghost use Rattle.chain_laws.specs.Walks.{walker_at};
 ghost use Rattle.chain_links.specs.Walkers.{walker_of};
 
@@ -38,19 +38,19 @@ use chain_traits::ChainArenaTrait;
 
 impl<P: PtrKey, T: Drop, S: SlotStack<Item = ArenaSlot<P, LinkNoGen<P, T>>>> ChainArenaTrait<P, T>
     for ChainArena<P, T, S> {
-    ghost use Rattle.chain_links.specs.ChainArena.{shown};
-    ghost use Rattle.chain_linking.specs.ChainArenaLaws.{links_stand};
+    ghost use Rattle.chain_links.specs.ChainArena.{link_map};
+    ghost use Rattle.chain_linking.specs.ChainArenaLaws.{links_exist};
     ghost use Rattle.chain_links.specs.Walkers.{walker_of};
 
     type ChainPtrAdvancer = ChainPtrAdvancer<P>;
 
-    ghost interlinks = { shown };
+    ghost interlinks = { link_map };
 
     ghost walker = { λ a. walker_of P.Inx.number a.left a.start a.forth a.back };
 
     ghost passes = { λ a b c r given. given };
 
-    ghost stand = { links_stand };
+    ghost stand = { links_exist };
 
     ghost grown = { λ n a b h. h.1 };
 
@@ -78,21 +78,21 @@ impl<P: PtrKey, T: Drop, S: SlotStack<Item = ArenaSlot<P, LinkNoGen<P, T>>>> Cha
     ) -> Result<P, ChainInsertionError>
         ensures may { OnOk result (MayInsert (entry self.old) (interlinks self.old)
             (names_in P.key P.Inx.number kind)) }
-        ensures inserted { IfOk result (λ p. GainsLink seen entry interlinks
+        ensures inserted { IfOk result (λ p. GainsLink value_view entry interlinks
             (names_in P.key P.Inx.number kind) t self.old (P.key p) self.new) }
-        ensures agreed { Agrees (interlinks self.old) }
-        ensures capacity { (seen self.new).capacity ≡ (seen self.old).capacity }
+        ensures agreed { IsWellLinked (interlinks self.old) }
+        ensures capacity { (value_view self.new).capacity ≡ (value_view self.old).capacity }
         ensures err { OnErr result (self.new ≡ self.old) }
         ensures link { (result ≡ Err ChainInsertionError.FailedLinkRequirement)
             ↔ ¬ MayInsert (entry self.old) (interlinks self.old)
             (names_in P.key P.Inx.number kind) }
         ensures full { (result ≡ Err ChainInsertionError.NotWithinCapacity)
             ↔ (MayInsert (entry self.old) (interlinks self.old) (names_in P.key P.Inx.number kind)
-            × IsFull (seen self.old)) }
+            × IsFull (value_view self.old)) }
         ensures error { IfErr result (λ e. (e ≡ ChainInsertionError.FailedLinkRequirement)
             ⊎ (e ≡ ChainInsertionError.NotWithinCapacity)) }
         ensures place { IfOk result (λ p. (P.key p).0 ≡ next_index self.old) }
-        ensures state { OnOk result (self.new ≡ insert_as self.old (kind_of P.key P.Inx.number kind)
+        ensures state { OnOk result (self.new ≡ insert_as self.old (indexed_kind P.key P.Inx.number kind)
             t) }
     {
         let asked = self.gap_within(kind);
@@ -107,9 +107,9 @@ impl<P: PtrKey, T: Drop, S: SlotStack<Item = ArenaSlot<P, LinkNoGen<P, T>>>> Cha
     ) -> Result<P, ChainInsertionError>
         ensures may { OnOk result (MayInsert (entry self.old) (interlinks self.old)
             (names_in P.key P.Inx.number kind)) }
-        ensures inserted { IfOk result (λ p. GainsLink seen entry interlinks
+        ensures inserted { IfOk result (λ p. GainsLink value_view entry interlinks
             (names_in P.key P.Inx.number kind) t self.old (P.key p) self.new) }
-        ensures agreed { Agrees (interlinks self.old) }
+        ensures agreed { IsWellLinked (interlinks self.old) }
         ensures err { OnErr result (self.new ≡ self.old) }
         ensures link { (result ≡ Err ChainInsertionError.FailedLinkRequirement)
             ↔ ¬ MayInsert (entry self.old) (interlinks self.old)
@@ -117,21 +117,21 @@ impl<P: PtrKey, T: Drop, S: SlotStack<Item = ArenaSlot<P, LinkNoGen<P, T>>>> Cha
         ensures error { IfErr result (λ e. e ≢ ChainInsertionError.NotWithinCapacity) }
         ensures room { MayInsert (entry self.old) (interlinks self.old)
             (names_in P.key P.Inx.number kind)
-            → SucceedsInRoom (seen self.old) result (seen self.new) }
-        ensures grown { OnOk result (IsRoom P.Inx.greatest (seen self.new).maximum
-            (count (seen self.old) + 1) (seen self.new).capacity) }
+            → SucceedsWithinCapacity (value_view self.old) result (value_view self.new) }
+        ensures grown { OnOk result (IsCapacityFor P.Inx.greatest (value_view self.new).maximum
+            (count (value_view self.old) + 1) (value_view self.new).capacity) }
         ensures beyond { (result ≡ Err ChainInsertionError.BeyondMaxCapacity)
             ↔ (MayInsert (entry self.old) (interlinks self.old) (names_in P.key P.Inx.number kind)
-            × NeedsBeyondMaximum (seen self.old)) }
-        ensures greatest { count (seen self.old) ≡ P.Inx.greatest → IsErr result }
+            × NeedsBeyondMaximum (value_view self.old)) }
+        ensures greatest { count (value_view self.old) ≡ P.Inx.greatest → IsErr result }
         ensures place { IfOk result (λ p. (P.key p).0 ≡ next_index self.old) }
         ensures state { OnOk result
-            (self.new ≡ with_capacity_of (insert_as self.old (kind_of P.key P.Inx.number kind) t)
+            (self.new ≡ with_capacity_of (insert_as self.old (indexed_kind P.key P.Inx.number kind) t)
             self.new) }
-        ensures state_in_room { May P.key P.Inx.number self.old kind
+        ensures state_in_room { MayInsertInto P.key P.Inx.number self.old kind
             → entry_count self.old < self.old.capacity
-            → self.new ≡ insert_as self.old (kind_of P.key P.Inx.number kind) t }
-        ensures state_grown { OnOk result (HasGrownTo S.may_reach P.Inx.greatest
+            → self.new ≡ insert_as self.old (indexed_kind P.key P.Inx.number kind) t }
+        ensures state_grown { OnOk result (ReachesCapacity S.may_reach P.Inx.greatest
             (entry_count self.old + 1) self.old self.new) }
     {
         let asked = self.gap_growing(kind);
@@ -142,23 +142,23 @@ impl<P: PtrKey, T: Drop, S: SlotStack<Item = ArenaSlot<P, LinkNoGen<P, T>>>> Cha
     fn insert(&mut self, kind: LinkInsertKind<P>, t: T) -> Result<P, ReallocationError>
         requires { MayInsert (entry self.old) (interlinks self.old)
             (names_in P.key P.Inx.number kind) }
-        ensures inserted { IfOk result (λ p. GainsLink seen entry interlinks
+        ensures inserted { IfOk result (λ p. GainsLink value_view entry interlinks
             (names_in P.key P.Inx.number kind) t self.old (P.key p) self.new) }
-        ensures agreed { Agrees (interlinks self.old) }
+        ensures agreed { IsWellLinked (interlinks self.old) }
         ensures err { OnErr result (self.new ≡ self.old) }
-        ensures room { SucceedsInRoom (seen self.old) result (seen self.new) }
-        ensures grown { OnOk result (IsRoom P.Inx.greatest (seen self.new).maximum
-            (count (seen self.old) + 1) (seen self.new).capacity) }
+        ensures room { SucceedsWithinCapacity (value_view self.old) result (value_view self.new) }
+        ensures grown { OnOk result (IsCapacityFor P.Inx.greatest (value_view self.new).maximum
+            (count (value_view self.old) + 1) (value_view self.new).capacity) }
         ensures beyond { (result ≡ Err ReallocationError.BeyondMaxCapacity)
-            ↔ NeedsBeyondMaximum (seen self.old) }
-        ensures greatest { count (seen self.old) ≡ P.Inx.greatest → IsErr result }
+            ↔ NeedsBeyondMaximum (value_view self.old) }
+        ensures greatest { count (value_view self.old) ≡ P.Inx.greatest → IsErr result }
         ensures place { IfOk result (λ p. (P.key p).0 ≡ next_index self.old) }
         ensures state { OnOk result
-            (self.new ≡ with_capacity_of (insert_as self.old (kind_of P.key P.Inx.number kind) t)
+            (self.new ≡ with_capacity_of (insert_as self.old (indexed_kind P.key P.Inx.number kind) t)
             self.new) }
         ensures state_in_room { entry_count self.old < self.old.capacity
-            → self.new ≡ insert_as self.old (kind_of P.key P.Inx.number kind) t }
-        ensures state_grown { OnOk result (HasGrownTo S.may_reach P.Inx.greatest
+            → self.new ≡ insert_as self.old (indexed_kind P.key P.Inx.number kind) t }
+        ensures state_grown { OnOk result (ReachesCapacity S.may_reach P.Inx.greatest
             (entry_count self.old + 1) self.old self.new) }
     {
         growth_of(self.insert_reallocating(kind, t))
@@ -184,7 +184,7 @@ impl<P: PtrKey, T: Drop, S: SlotStack<Item = ArenaSlot<P, LinkNoGen<P, T>>>> Cha
         ensures link { IfSome result (λ link. IsLinkAt (entry self.now) (interlinks self.now)
             (P.key p)
             (option_map P.key link.prev) (option_map P.key link.next) link.t.now) }
-        ensures agree { Agrees (interlinks self.now) }
+        ensures agree { IsWellLinked (interlinks self.now) }
     {
         match self.arena.get(p) {
             Some(link) => {
@@ -199,16 +199,16 @@ impl<P: PtrKey, T: Drop, S: SlotStack<Item = ArenaSlot<P, LinkNoGen<P, T>>>> Cha
     fn get_link_no_gen(&self, p: P) -> Option<&LinkNoGen<P, T>>
         ensures some { IsSome result ↔ IsValid (entry self.now) (P.key p) }
         ensures link { IfSome result (λ link. link_at (entry self.now) (interlinks self.now)
-            (P.key p).0 ≡ Some ((P.key p).1, seen_link P.Inx.packed_number link.now)) }
-        ensures agree { Agrees (interlinks self.now) }
+            (P.key p).0 ≡ Some ((P.key p).1, link_view P.Inx.packed_number link.now)) }
+        ensures agree { IsWellLinked (interlinks self.now) }
     {
         self.arena.get(p)
     }
 
     fn get_inx_link_no_gen(&self, i: P::Inx) -> Option<(P::Gen, &LinkNoGen<P, T>)>
-        ensures link { option_map (seen_lent P.Inx.packed_number) result ≡ link_at (entry self.now)
+        ensures link { option_map (borrowed_link P.Inx.packed_number) result ≡ link_at (entry self.now)
             (interlinks self.now) (P.Inx.number i) }
-        ensures agree { Agrees (interlinks self.now) }
+        ensures agree { IsWellLinked (interlinks self.now) }
     {
         self.arena.get_inx(i)
     }
@@ -216,8 +216,8 @@ impl<P: PtrKey, T: Drop, S: SlotStack<Item = ArenaSlot<P, LinkNoGen<P, T>>>> Cha
     fn advancer_chain(&self, p: P) -> Option<ChainPtrAdvancer<P>>
         ensures some { IsSome result ↔ IsValid (entry self.now) (P.key p) }
         ensures walker { IfSome result (λ v. walker_of P.Inx.number v.left v.start v.forth v.back
-            ≡ walker_at (interlinks self.now) (count (seen self.now)) (P.key p).0) }
-        ensures agree { Agrees (interlinks self.now) }
+            ≡ walker_at (interlinks self.now) (count (value_view self.now)) (P.key p).0) }
+        ensures agree { IsWellLinked (interlinks self.now) }
     {
         match self.arena.get(p) {
             Some(link) => Some(ChainPtrAdvancer::new(self.arena.len(), p.inx(), link.prev())),
@@ -230,9 +230,9 @@ impl<P: PtrKey, T: Drop, S: SlotStack<Item = ArenaSlot<P, LinkNoGen<P, T>>>> Cha
             (P.key q) }
         ensures joined { OnSome result (interlinks self.new ≡ joined (interlinks self.old)
             (P.key p).0 (P.key q).0) }
-        ensures seen { OnSome result (seen self.new ≡ seen self.old) }
+        ensures seen { OnSome result (value_view self.new ≡ value_view self.old) }
         ensures none { IfNone result (self.new ≡ self.old) }
-        ensures agreed { Agrees (interlinks self.old) }
+        ensures agreed { IsWellLinked (interlinks self.old) }
         ensures state { OnSome result
             (self.new ≡ relinked self.old (joined (interlinks self.old) (P.key p).0 (P.key q).0)) }
         ensures pair { OnSome result (AddsPair (interlinks self.old) (interlinks self.new)
@@ -251,9 +251,9 @@ impl<P: PtrKey, T: Drop, S: SlotStack<Item = ArenaSlot<P, LinkNoGen<P, T>>>> Cha
             (λ a. interlinks self.new ≡ cut (interlinks self.old) a (P.key p).0)) }
         ensures chains { OnSome result (IfSome (prev_of (interlinks self.old) (P.key p).0)
             (λ a. Cuts (interlinks self.old) (interlinks self.new) a (P.key p).0)) }
-        ensures seen { OnSome result (seen self.new ≡ seen self.old) }
+        ensures seen { OnSome result (value_view self.new ≡ value_view self.old) }
         ensures none { IfNone result (self.new ≡ self.old) }
-        ensures agreed { Agrees (interlinks self.old) }
+        ensures agreed { IsWellLinked (interlinks self.old) }
         ensures state { OnSome result (IfSome (prev_of (interlinks self.old) (P.key p).0)
             (λ a. IsCut self.old self.new a (P.key p).0)) }
     {
@@ -274,9 +274,9 @@ impl<P: PtrKey, T: Drop, S: SlotStack<Item = ArenaSlot<P, LinkNoGen<P, T>>>> Cha
             (λ b. interlinks self.new ≡ cut (interlinks self.old) (P.key p).0 b)) }
         ensures chains { OnSome result (IfSome (next_of (interlinks self.old) (P.key p).0)
             (λ b. Cuts (interlinks self.old) (interlinks self.new) (P.key p).0 b)) }
-        ensures seen { OnSome result (seen self.new ≡ seen self.old) }
+        ensures seen { OnSome result (value_view self.new ≡ value_view self.old) }
         ensures none { IfNone result (self.new ≡ self.old) }
-        ensures agreed { Agrees (interlinks self.old) }
+        ensures agreed { IsWellLinked (interlinks self.old) }
         ensures state { OnSome result (IfSome (next_of (interlinks self.old) (P.key p).0)
             (λ b. IsCut self.old self.new (P.key p).0 b)) }
     {
@@ -296,9 +296,9 @@ impl<P: PtrKey, T: Drop, S: SlotStack<Item = ArenaSlot<P, LinkNoGen<P, T>>>> Cha
             (P.key p).0 (P.key q).0) }
         ensures chains { OnSome result (Exchanges (interlinks self.old) (interlinks self.new)
             (P.key p).0 (P.key q).0) }
-        ensures seen { OnSome result (seen self.new ≡ seen self.old) }
+        ensures seen { OnSome result (value_view self.new ≡ value_view self.old) }
         ensures none { IfNone result (self.new ≡ self.old) }
-        ensures agreed { Agrees (interlinks self.old) }
+        ensures agreed { IsWellLinked (interlinks self.old) }
         ensures state { OnSome result (IsExchange self.old self.new (P.key p).0 (P.key q).0) }
     {
         match next_of_link(&self.arena, Name::Pointer(p)) {
@@ -321,13 +321,13 @@ impl<P: PtrKey, T: Drop, S: SlotStack<Item = ArenaSlot<P, LinkNoGen<P, T>>>> Cha
     fn remove_link_no_gen(&mut self, p: P) -> InvalidationResult<LinkNoGen<P, T>>
         ensures some { IsSome (value_within result) ↔ IsValid (entry self.old) (P.key p) }
         ensures valid { IsValid (entry self.old) (P.key p)
-            → YieldsLink seen entry interlinks P.Inx.packed_number P.Gen.following
+            → YieldsLink value_view entry interlinks P.Inx.packed_number P.Gen.following
             (P.key p) self.old (value_within result) self.new }
-        ensures overflow { IfSome (seen self.old).counter
+        ensures overflow { IfSome (value_view self.old).counter
             (λ g. result ≡ invalidation_result (P.Gen.wraps g) (value_within result)) }
         ensures invalid { ¬ IsValid (entry self.old) (P.key p) → (value_within result ≡ None)
             × (self.new ≡ self.old) }
-        ensures agreed { Agrees (interlinks self.old) }
+        ensures agreed { IsWellLinked (interlinks self.old) }
         ensures state { IsValid (entry self.old) (P.key p)
             → self.new ≡ remove_link P.Gen.following self.old (P.key p).0 }
         ensures chains { IsValid (entry self.old) (P.key p)
@@ -344,16 +344,16 @@ impl<P: PtrKey, T: Drop, S: SlotStack<Item = ArenaSlot<P, LinkNoGen<P, T>>>> Cha
     }
 
     fn remove_inx_link_no_gen(&mut self, i: P::Inx) -> InvalidationResult<(P::Gen, LinkNoGen<P, T>)>
-        ensures answer { option_map (on_value (seen_link P.Inx.packed_number)) (value_within result)
+        ensures answer { option_map (on_value (link_view P.Inx.packed_number)) (value_within result)
             ≡ link_at (entry self.old) (interlinks self.old) (P.Inx.number i) }
-        ensures overflow { IfSome (seen self.old).counter
+        ensures overflow { IfSome (value_view self.old).counter
             (λ g. result ≡ invalidation_result (P.Gen.wraps g) (value_within result)) }
         ensures valid { IsSome (entry self.old (P.Inx.number i))
-            → LosesLink seen interlinks P.Gen.following (P.Inx.number i) self.old self.new }
+            → LosesLink value_view interlinks P.Gen.following (P.Inx.number i) self.old self.new }
         ensures invalid { entry self.old (P.Inx.number i) ≡ None → self.new ≡ self.old }
         ensures shows { IsSome (entry self.old (P.Inx.number i))
             → interlinks self.new ≡ removed (interlinks self.old) (P.Inx.number i) }
-        ensures agreed { Agrees (interlinks self.old) }
+        ensures agreed { IsWellLinked (interlinks self.old) }
         ensures state { IsSome (entry self.old (P.Inx.number i))
             → self.new ≡ remove_link P.Gen.following self.old (P.Inx.number i) }
         ensures chains { IsSome (entry self.old (P.Inx.number i))
@@ -365,12 +365,12 @@ impl<P: PtrKey, T: Drop, S: SlotStack<Item = ArenaSlot<P, LinkNoGen<P, T>>>> Cha
     }
 
     fn compress_canonical(&mut self, reset: bool) -> InvalidationOption<()>
-        ensures canonical { IsCanonicalLayout P.Gen.first P.Gen.following reset (seen self.old)
-            (interlinks self.old) (seen self.new) (interlinks self.new) }
-        ensures overflow { IfSome (seen self.old).counter
+        ensures canonical { IsCanonicalLayout P.Gen.first P.Gen.following reset (value_view self.old)
+            (interlinks self.old) (value_view self.new) (interlinks self.new) }
+        ensures overflow { IfSome (value_view self.old).counter
             (λ g. result ≡ invalidation_option (overflows_after_compression P.Gen.wraps reset
-            (length (seen self.old).entries) g) tt) }
-        ensures agreed { Agrees (interlinks self.old) }
+            (length (value_view self.old).entries) g) tt) }
+        ensures agreed { IsWellLinked (interlinks self.old) }
         ensures stack_capacity { self.new.stack_capacity ≡ self.old.stack_capacity }
     {
         self.compress_canonical_with(reset, |_p: P, _q: P| {})

@@ -1,17 +1,17 @@
 // The place of a new link, which is a gap with room for one link more, and how a link comes there.
 ghost use Rattle.std.specs.Prelude.{◌≡◌, ◌<◌};
 ghost use Rattle.std.specs.Result.{ForOk};
-ghost use Rattle.chain_laws.specs.Chains.{Agrees};
-ghost use Rattle.chain_laws.specs.Insertions.{IsGap};
+ghost use Rattle.chain_laws.specs.Chains.{IsWellLinked};
+ghost use Rattle.chain_laws.specs.Insertions.{IsInsertPosition};
 ghost use Rattle.arena_base.specs.Arena.{entry_count, next_index};
-ghost use Rattle.chain_links.specs.ChainArena.{shown};
+ghost use Rattle.chain_links.specs.ChainArena.{link_map};
 ghost use Rattle.chain_linking.specs.InsertPositions.{before_in, after_in};
-ghost use Rattle.chain_arena.specs.NewLinks.{GrowsByOne, gap_unless_refused, refusal_of, PlacesGrowing, PlacesWithin, IsInsertedIn, InsertsAt};
+ghost use Rattle.chain_arena.specs.NewLinks.{GrowsByOne, position_unless_refused, refusal_of, FindsPositionGrowing, FindsPositionWithin, IsInsertedIn, InsertsAt};
 
 use crate::chain_arena::ChainArena;
 use arena_base::{ArenaSlot, ArenaTrait, excluded};
 use arena_ptr::{ChainInsertionError, PtrKey, ReallocationError, SlotStack};
-use chain_linking::insert_position::Gap;
+use chain_linking::insert_position::InsertPosition;
 use chain_linking::link_writes::tie;
 use chain_linking::new_link::link_in;
 use chain_links::{LinkInsertKind, LinkNoGen};
@@ -32,9 +32,9 @@ impl<P: PtrKey, T: Drop, S: SlotStack<Item = ArenaSlot<P, LinkNoGen<P, T>>>> Cha
     pub(crate) fn gap_within(
         &self,
         kind: LinkInsertKind<P>,
-    ) -> Result<Gap<P::Inx>, ChainInsertionError>
-        ensures place { PlacesWithin P.key P.Inx.number self.now kind result }
-        ensures agree { Agrees (shown self.now) }
+    ) -> Result<InsertPosition<P::Inx>, ChainInsertionError>
+        ensures place { FindsPositionWithin P.key P.Inx.number self.now kind result }
+        ensures agree { IsWellLinked (link_map self.now) }
     {
         match self.gap_for(kind) {
             Some(gap) => {
@@ -52,10 +52,10 @@ impl<P: PtrKey, T: Drop, S: SlotStack<Item = ArenaSlot<P, LinkNoGen<P, T>>>> Cha
     pub(crate) fn gap_growing(
         &mut self,
         kind: LinkInsertKind<P>,
-    ) -> Result<Gap<P::Inx>, ChainInsertionError>
-        ensures place { PlacesGrowing P.key P.Inx.number S.may_reach P.Inx.greatest self.old kind
+    ) -> Result<InsertPosition<P::Inx>, ChainInsertionError>
+        ensures place { FindsPositionGrowing P.key P.Inx.number S.may_reach P.Inx.greatest self.old kind
             result self.new }
-        ensures agreed { Agrees (shown self.old) }
+        ensures agreed { IsWellLinked (link_map self.old) }
     {
         match self.gap_for(kind) {
             Some(gap) => gap_unless_refused(gap, self.make_room()),
@@ -65,8 +65,8 @@ impl<P: PtrKey, T: Drop, S: SlotStack<Item = ArenaSlot<P, LinkNoGen<P, T>>>> Cha
 
     // Adds a link in a gap, where there is room. Inlined, the gap need not go through memory.
     #[inline(always)]
-    pub(crate) fn insert_in_gap(&mut self, gap: Gap<P::Inx>, t: T) -> P
-        requires gap { IsGap (shown self.old) (next_index self.old)
+    pub(crate) fn insert_in_gap(&mut self, gap: InsertPosition<P::Inx>, t: T) -> P
+        requires gap { IsInsertPosition (link_map self.old) (next_index self.old)
             (before_in P.Inx.number gap (next_index self.old))
             (after_in P.Inx.number gap (next_index self.old)) }
         requires room { entry_count self.old < self.old.capacity }
@@ -86,10 +86,10 @@ impl<P: PtrKey, T: Drop, S: SlotStack<Item = ArenaSlot<P, LinkNoGen<P, T>>>> Cha
     #[inline(always)]
     pub(crate) fn insert_at(
         &mut self,
-        asked: Result<Gap<P::Inx>, ChainInsertionError>,
+        asked: Result<InsertPosition<P::Inx>, ChainInsertionError>,
         t: T,
     ) -> Result<P, ChainInsertionError>
-        requires gap { ForOk asked (λ gap. IsGap (shown self.old) (next_index self.old)
+        requires gap { ForOk asked (λ gap. IsInsertPosition (link_map self.old) (next_index self.old)
             (before_in P.Inx.number gap (next_index self.old))
             (after_in P.Inx.number gap (next_index self.old))) }
         requires room { ForOk asked (λ gap. entry_count self.old < self.old.capacity) }
@@ -104,10 +104,10 @@ impl<P: PtrKey, T: Drop, S: SlotStack<Item = ArenaSlot<P, LinkNoGen<P, T>>>> Cha
 
 // The gap, unless a growth was refused that was asked for it.
 fn gap_unless_refused<I: Drop>(
-    gap: Gap<I>,
+    gap: InsertPosition<I>,
     grown: Result<(), ReallocationError>,
-) -> Result<Gap<I>, ChainInsertionError>
-    ensures { result ≡ gap_unless_refused gap grown }
+) -> Result<InsertPosition<I>, ChainInsertionError>
+    ensures { result ≡ position_unless_refused gap grown }
 {
     match grown {
         Ok(()) => Ok(gap),

@@ -3,18 +3,18 @@ ghost use Rattle.std.specs.Prelude.{◌≡◌, ◌≢◌, ◌↔◌, ◌<◌, �
 ghost use Rattle.std.specs.Borrow.{RestsIfErr, sem};
 ghost use Rattle.std.specs.Option.{option_map};
 ghost use Rattle.arena_ptr.specs.Numbers.{IsWithin};
-ghost use Rattle.chain_laws.specs.Insertions.{IsGap, link_before, link_after};
-ghost use Rattle.arena_base.specs.Arena.{entry_count, next_index, with_capacity_of, HasGrownTo};
-ghost use Rattle.chain_links.specs.ChainArena.{entry, shown, insert_between};
-ghost use Rattle.chain_links.specs.Insertions.{index_from};
+ghost use Rattle.chain_laws.specs.Insertions.{IsInsertPosition, link_before, link_after};
+ghost use Rattle.arena_base.specs.Arena.{entry_count, next_index, with_capacity_of, ReachesCapacity};
+ghost use Rattle.chain_links.specs.ChainArena.{entry, link_map, insert_between};
+ghost use Rattle.chain_links.specs.Insertions.{nonzero_index};
 ghost use Rattle.chain_linking.specs.InsertPositions.{before_in, after_in};
-ghost use Rattle.chain_arena.specs.Effects.{kind_of, May};
-ghost use Rattle.chain_arena.specs.NewLinks.{ComesBetween, RefusesOneMore};
+ghost use Rattle.chain_arena.specs.Effects.{indexed_kind, MayInsertInto};
+ghost use Rattle.chain_arena.specs.NewLinks.{IsInsertedBetween, RefusesOneMore};
 
 use crate::chain_arena::ChainArena;
 use arena_base::{ArenaSlot, ArenaTrait, excluded};
 use arena_ptr::{ChainInsertionError, HeapStack, InxKey, PtrKey, ReallocationError, SlotStack};
-use chain_linking::insert_position::Gap;
+use chain_linking::insert_position::InsertPosition;
 use chain_linking::new_link::around;
 use chain_links::{LinkInsertKind, LinkNoGen};
 
@@ -37,13 +37,13 @@ pub struct ChainArenaInsertEntry<
     ghost place: { inx ≡ next_index arena.now },
     ghost index: { IsWithin P.Inx.greatest inx },
     ghost indexes: { (prev ≤ P.Inx.greatest) × (next ≤ P.Inx.greatest) },
-    ghost fits: { ∥ IsGap (shown arena.now) (next_index arena.now) (index_from prev)
-        (index_from next) ∥₁ },
+    ghost fits: { ∥ IsInsertPosition (link_map arena.now) (next_index arena.now) (nonzero_index prev)
+        (nonzero_index next) ∥₁ },
 }
 
 // An optional index as a number, 0 for none.
 pub(crate) fn number_or_zero<I: InxKey>(i: Option<I>) -> usize
-    ensures index { index_from result ≡ option_map I.number i }
+    ensures index { nonzero_index result ≡ option_map I.number i }
     ensures within { result ≤ I.greatest }
 {
     match i {
@@ -58,7 +58,7 @@ pub(crate) fn number_or_zero<I: InxKey>(i: Option<I>) -> usize
 // .. and back.
 fn index_or_none<I: InxKey>(n: usize) -> Option<I>
     requires { n ≤ I.greatest }
-    ensures { option_map I.number result ≡ index_from n }
+    ensures { option_map I.number result ≡ nonzero_index n }
 {
     I::try_from_usize(n)
 }
@@ -79,17 +79,17 @@ impl<P: PtrKey, T: Drop, S: SlotStack<Item = ArenaSlot<P, LinkNoGen<P, T>>>> Cha
             P.PtrKey P.Inx.InxKey P.Gen.GenKey S.SlotStack)
             self.entry (λ e. e.arena.ghost_name) result (λ n. n ≡ self.old)) }
         ensures link { (result ≡ Err ChainInsertionError.FailedLinkRequirement)
-            ↔ ¬ May P.key P.Inx.number self.old kind }
+            ↔ ¬ MayInsertInto P.key P.Inx.number self.old kind }
         ensures full { (result ≡ Err ChainInsertionError.NotWithinCapacity)
-            ↔ (May P.key P.Inx.number self.old kind × (entry_count self.old ≡ self.old.capacity)) }
+            ↔ (MayInsertInto P.key P.Inx.number self.old kind × (entry_count self.old ≡ self.old.capacity)) }
         ensures error { IfErr result (λ e. (e ≡ ChainInsertionError.FailedLinkRequirement)
             ⊎ (e ≡ ChainInsertionError.NotWithinCapacity)) }
         ensures same_reference { IfOk result (λ e. e.arena.ghost_name ≡ self.entry.ghost_name) }
         ensures arena { IfOk result (λ e. e.arena.now ≡ self.old) }
-        ensures prev { IfOk result (λ e. index_from e.prev ≡ link_before (shown self.old)
-            (kind_of P.key P.Inx.number kind) (next_index self.old)) }
-        ensures next { IfOk result (λ e. index_from e.next ≡ link_after (shown self.old)
-            (kind_of P.key P.Inx.number kind) (next_index self.old)) }
+        ensures prev { IfOk result (λ e. nonzero_index e.prev ≡ link_before (link_map self.old)
+            (indexed_kind P.key P.Inx.number kind) (next_index self.old)) }
+        ensures next { IfOk result (λ e. nonzero_index e.next ≡ link_after (link_map self.old)
+            (indexed_kind P.key P.Inx.number kind) (next_index self.old)) }
     {
         match self.gap_within(kind) {
             Ok(gap) => Ok(self.entry_in(gap)),
@@ -111,23 +111,23 @@ impl<P: PtrKey, T: Drop, S: SlotStack<Item = ArenaSlot<P, LinkNoGen<P, T>>>> Cha
             P.PtrKey P.Inx.InxKey P.Gen.GenKey S.SlotStack)
             self.entry (λ e. e.arena.ghost_name) result (λ n. n ≡ self.old)) }
         ensures link { (result ≡ Err ChainInsertionError.FailedLinkRequirement)
-            ↔ ¬ May P.key P.Inx.number self.old kind }
+            ↔ ¬ MayInsertInto P.key P.Inx.number self.old kind }
         ensures error { IfErr result (λ e. e ≢ ChainInsertionError.NotWithinCapacity) }
-        ensures room { May P.key P.Inx.number self.old kind
+        ensures room { MayInsertInto P.key P.Inx.number self.old kind
             → entry_count self.old < self.old.capacity
             → IsOkAnd result (λ e. e.arena.now ≡ self.old) }
-        ensures grown { IfOk result (λ e. HasGrownTo S.may_reach P.Inx.greatest
+        ensures grown { IfOk result (λ e. ReachesCapacity S.may_reach P.Inx.greatest
             (entry_count self.old + 1) self.old e.arena.now) }
         ensures beyond { (result ≡ Err ChainInsertionError.BeyondMaxCapacity)
-            ↔ (May P.key P.Inx.number self.old kind
+            ↔ (MayInsertInto P.key P.Inx.number self.old kind
             × RefusesOneMore self.old ReallocationError.BeyondMaxCapacity) }
         ensures greatest { entry_count self.old ≡ P.Inx.greatest → IsErr result }
         ensures same_reference { IfOk result (λ e. e.arena.ghost_name ≡ self.entry.ghost_name) }
         ensures arena { IfOk result (λ e. e.arena.now ≡ with_capacity_of self.old e.arena.now) }
-        ensures prev { IfOk result (λ e. index_from e.prev ≡ link_before (shown self.old)
-            (kind_of P.key P.Inx.number kind) (next_index self.old)) }
-        ensures next { IfOk result (λ e. index_from e.next ≡ link_after (shown self.old)
-            (kind_of P.key P.Inx.number kind) (next_index self.old)) }
+        ensures prev { IfOk result (λ e. nonzero_index e.prev ≡ link_before (link_map self.old)
+            (indexed_kind P.key P.Inx.number kind) (next_index self.old)) }
+        ensures next { IfOk result (λ e. nonzero_index e.next ≡ link_after (link_map self.old)
+            (indexed_kind P.key P.Inx.number kind) (next_index self.old)) }
     {
         match self.gap_growing(kind) {
             Ok(gap) => Ok(self.entry_in(gap)),
@@ -143,24 +143,24 @@ impl<P: PtrKey, T: Drop, S: SlotStack<Item = ArenaSlot<P, LinkNoGen<P, T>>>> Cha
         &mut self,
         kind: LinkInsertKind<P>,
     ) -> Result<ChainArenaInsertEntry<'_, P, T, S>, ReallocationError>
-        requires { May P.key P.Inx.number self.old kind }
+        requires { MayInsertInto P.key P.Inx.number self.old kind }
         ensures* unchanged_at_err { sem 𝓛 (RestsIfErr
             (arena_row P.row T.row S.row P.Inx.row P.Gen.row P.Inx.Word.row
             P.PtrKey P.Inx.InxKey P.Gen.GenKey S.SlotStack)
             self.entry (λ e. e.arena.ghost_name) result (λ n. n ≡ self.old)) }
         ensures room { entry_count self.old < self.old.capacity
             → IsOkAnd result (λ e. e.arena.now ≡ self.old) }
-        ensures grown { IfOk result (λ e. HasGrownTo S.may_reach P.Inx.greatest
+        ensures grown { IfOk result (λ e. ReachesCapacity S.may_reach P.Inx.greatest
             (entry_count self.old + 1) self.old e.arena.now) }
         ensures beyond { (result ≡ Err ReallocationError.BeyondMaxCapacity)
             ↔ RefusesOneMore self.old ReallocationError.BeyondMaxCapacity }
         ensures greatest { entry_count self.old ≡ P.Inx.greatest → IsErr result }
         ensures same_reference { IfOk result (λ e. e.arena.ghost_name ≡ self.entry.ghost_name) }
         ensures arena { IfOk result (λ e. e.arena.now ≡ with_capacity_of self.old e.arena.now) }
-        ensures prev { IfOk result (λ e. index_from e.prev ≡ link_before (shown self.old)
-            (kind_of P.key P.Inx.number kind) (next_index self.old)) }
-        ensures next { IfOk result (λ e. index_from e.next ≡ link_after (shown self.old)
-            (kind_of P.key P.Inx.number kind) (next_index self.old)) }
+        ensures prev { IfOk result (λ e. nonzero_index e.prev ≡ link_before (link_map self.old)
+            (indexed_kind P.key P.Inx.number kind) (next_index self.old)) }
+        ensures next { IfOk result (λ e. nonzero_index e.next ≡ link_after (link_map self.old)
+            (indexed_kind P.key P.Inx.number kind) (next_index self.old)) }
     {
         match self.gap_for(kind) {
             Some(gap) => match self.make_room() {
@@ -184,15 +184,15 @@ impl<P: PtrKey, T: Drop, S: SlotStack<Item = ArenaSlot<P, LinkNoGen<P, T>>>> Cha
     }
 
     // The entry of a gap, where there is room.
-    fn entry_in(&mut self, gap: Gap<P::Inx>) -> ChainArenaInsertEntry<'_, P, T, S>
+    fn entry_in(&mut self, gap: InsertPosition<P::Inx>) -> ChainArenaInsertEntry<'_, P, T, S>
         requires room { entry_count self.old < self.old.capacity }
-        requires gap { IsGap (shown self.old) (next_index self.old)
+        requires gap { IsInsertPosition (link_map self.old) (next_index self.old)
             (before_in P.Inx.number gap (next_index self.old))
             (after_in P.Inx.number gap (next_index self.old)) }
         ensures same_reference { result.arena.ghost_name ≡ self.entry.ghost_name }
         ensures arena { result.arena.now ≡ self.old }
-        ensures prev { index_from result.prev ≡ before_in P.Inx.number gap (next_index self.old) }
-        ensures next { index_from result.next ≡ after_in P.Inx.number gap (next_index self.old) }
+        ensures prev { nonzero_index result.prev ≡ before_in P.Inx.number gap (next_index self.old) }
+        ensures next { nonzero_index result.next ≡ after_in P.Inx.number gap (next_index self.old) }
     {
         let i = self.next_ptr().inx();
         let (prev, next) = around(gap, i);
@@ -224,12 +224,12 @@ impl<
     /// Adds the link. It takes no memory.
     pub fn insert(self, t: T)
         ensures state { self.exit.0.now ≡ insert_between self.entry.arena.now t
-            (index_from self.entry.prev) (index_from self.entry.next) }
-        ensures inserted { ComesBetween (index_from self.entry.prev) (index_from self.entry.next)
+            (nonzero_index self.entry.prev) (nonzero_index self.entry.next) }
+        ensures inserted { IsInsertedBetween (nonzero_index self.entry.prev) (nonzero_index self.entry.next)
             self.entry.arena.now t self.exit.0.now }
     {
         let (prev, next) = (self.prev, self.next);
-        let gap = Gap::Between(index_or_none(prev), index_or_none(next));
+        let gap = InsertPosition::Between(index_or_none(prev), index_or_none(next));
         self.arena.insert_in_gap(gap, t);
         let ChainArenaInsertEntry {
             arena: _,

@@ -3,7 +3,7 @@ ghost use Rattle.std.specs.Prelude.{◌≡◌, ◌<◌, ◌^◌, length};
 ghost use Rattle.std.specs.Iterator.{YieldsFirstBy, item_count};
 ghost use Rattle.arena_base.specs.Entries.{entries};
 ghost use Rattle.chain_links.specs.ChainArena.{values_of};
-ghost use Rattle.chain_links.specs.Links.{seen_entries};
+ghost use Rattle.chain_links.specs.Links.{entry_views};
 
 use crate::chain_arena::ChainArena;
 use arena_base::{Arena, ArenaSlot, ArenaTrait, CapacityDrain, Iter};
@@ -69,7 +69,7 @@ impl<P: PtrKey, T: Drop, S: SlotStack<Item = ArenaSlot<P, LinkNoGen<P, T>>>> Cha
     ///
     /// Carries `iter_link_no_gen` of `triple_arena`'s chain arena.
     pub fn iter_link_no_gen(&self) -> Iter<'_, P, LinkNoGen<P, T>, S>
-        ensures links { seen_entries P.Inx.packed_number result ≡ entries self.now }
+        ensures links { entry_views P.Inx.packed_number result ≡ entries self.now }
         ensures fits { length result < 2 ^ 64 }
     {
         links_of(&self.arena)
@@ -91,13 +91,13 @@ impl<P: PtrKey, T: Drop, S: SlotStack<Item = ArenaSlot<P, LinkNoGen<P, T>>>> Int
     for ChainArena<P, T, S> {
     ghost use Rattle.std.specs.Prelude.{◌≡◌, ◌<◌, ◌^◌, length};
     ghost use Rattle.arena_base.specs.Entries.{entries};
-    ghost use Rattle.chain_links.specs.Links.{seen_entries};
+    ghost use Rattle.chain_links.specs.Links.{entry_views};
 
     type Item = (P, LinkNoGen<P, T>);
 
     type IntoIter = CapacityDrain<P, LinkNoGen<P, T>, S>;
 
-    ghost into_iter_gives = { λ a it. (seen_entries P.Inx.packed_number it ≡ entries a)
+    ghost into_iter_gives = { λ a it. (entry_views P.Inx.packed_number it ≡ entries a)
         × (length it < 2 ^ 64) };
 
     /// All links of an arena that is used up, by rising index, each with its pointer, and with its interlinks as they
@@ -118,13 +118,13 @@ where
 {
     ghost use Rattle.std.specs.Prelude.{◌≡◌, ◌<◌, ◌^◌, length};
     ghost use Rattle.arena_base.specs.Entries.{entries};
-    ghost use Rattle.chain_links.specs.Links.{seen_entries};
+    ghost use Rattle.chain_links.specs.Links.{entry_views};
 
     type Item = (P, &'a LinkNoGen<P, T>);
 
     type IntoIter = Iter<'a, P, LinkNoGen<P, T>, S>;
 
-    ghost into_iter_gives = { λ a it. (seen_entries P.Inx.packed_number it ≡ entries a.now)
+    ghost into_iter_gives = { λ a it. (entry_views P.Inx.packed_number it ≡ entries a.now)
         × (length it < 2 ^ 64) };
 
     /// All links by rising index, each with its pointer.

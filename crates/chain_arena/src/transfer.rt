@@ -2,17 +2,17 @@
 ghost use Rattle.std.specs.Prelude.{◌≡◌, ◌↔◌, ◌≤◌, ◌<◌, ◌+◌, ℕ, [], IsOk, OnOk, OnErr, Err, None, Some};
 ghost use Rattle.arena_ptr.specs.SlotStack.{IsBeyond};
 ghost use Rattle.chain_laws.specs.Transfer.{end_before, end_after};
-ghost use Rattle.arena_base.specs.Arena.{HasRoom, IsWithinReach, IsListed, with_capacity_of, entry_count, next_index};
+ghost use Rattle.arena_base.specs.Arena.{HasCapacityFor, IsWithinReach, IsListed, with_capacity_of, entry_count, next_index};
 ghost use Rattle.arena_base.specs.Entries.{count};
 ghost use Rattle.chain_linking.specs.InsertPositions.{before_in, after_in};
 ghost use Rattle.chain_compaction.specs.PointerMoves.{CompressionMovesPointers, CompressionHasMoves};
-ghost use Rattle.chain_arena.specs.Transfers.{LaysOutAlike, IsTransfer, AreEnds, HasGapBehind, laid_behind};
+ghost use Rattle.chain_arena.specs.Transfers.{ArrangesAlike, IsTransfer, AreEnds, HasPositionAtEnd, with_link_at_end};
 ghost use Rattle.chain_arena.specs.PointerTransfers.{TransferMovesPointers};
 
 use crate::chain_arena::ChainArena;
 use arena_base::{Advancer, ArenaSlot, ArenaTrait, CompactArenaTrait, excluded};
 use arena_ptr::{InvalidationOption, InxKey, PtrKey, ReallocationError, SlotStack};
-use chain_linking::insert_position::Gap;
+use chain_linking::insert_position::InsertPosition;
 use chain_links::LinkNoGen;
 use chain_traits::ChainArenaTrait;
 use chain_traits::drain_in_order::take_next;
@@ -41,18 +41,18 @@ impl<P: PtrKey, T: Drop, S: SlotStack<Item = ArenaSlot<P, LinkNoGen<P, T>>>> Cha
         requires { F.IsAlwaysCallable map }
         ensures transferred { OnOk result
             (IsTransfer Q.key P.key Q.Gen.following Q.Gen.wraps F.FnMut new_generation map
-            (A.seen source.old) (A.interlinks source.old) (A.seen source.new) self.old self.new) }
-        ensures room { OnOk result (HasRoom P.Inx.greatest (count (A.seen source.old)) self.new) }
+            (A.view source.old) (A.interlinks source.old) (A.view source.new) self.old self.new) }
+        ensures room { OnOk result (HasCapacityFor P.Inx.greatest (count (A.view source.old)) self.new) }
         ensures reached { OnOk result
-            (IsWithinReach S.may_reach (count (A.seen source.old)) self.old self.new) }
-        ensures within { count (A.seen source.old) ≤ self.old.capacity
+            (IsWithinReach S.may_reach (count (A.view source.old)) self.old self.new) }
+        ensures within { count (A.view source.old) ≤ self.old.capacity
             → IsOk result × (self.new.capacity ≡ self.old.capacity)
             × (self.new.stack_capacity ≡ self.old.stack_capacity) }
-        ensures greatest { P.Inx.greatest < count (A.seen source.old)
+        ensures greatest { P.Inx.greatest < count (A.view source.old)
             → result ≡ Err ReallocationError.AllocError }
         ensures beyond { (result ≡ Err ReallocationError.BeyondMaxCapacity)
-            ↔ ((count (A.seen source.old) ≤ P.Inx.greatest) × IsBeyond self.old.maximum
-            (count (A.seen source.old))) }
+            ↔ ((count (A.view source.old) ≤ P.Inx.greatest) × IsBeyond self.old.maximum
+            (count (A.view source.old))) }
         ensures err { OnErr result ((self.new ≡ self.old) × (source.new ≡ source.old)) }
     {
         match self.make_room_for(source.len()) {
@@ -73,7 +73,7 @@ impl<P: PtrKey, T: Drop, S: SlotStack<Item = ArenaSlot<P, LinkNoGen<P, T>>>> Cha
         ensures beyond { (result ≡ Err ReallocationError.BeyondMaxCapacity)
             ↔ ((n ≤ P.Inx.greatest) × IsBeyond self.old.maximum n) }
         ensures err { OnErr result (self.new ≡ self.old) }
-        ensures room { OnOk result (HasRoom P.Inx.greatest n self.new) }
+        ensures room { OnOk result (HasCapacityFor P.Inx.greatest n self.new) }
         ensures reached { OnOk result (IsWithinReach S.may_reach n self.old self.new) }
         ensures after { self.new ≡ with_capacity_of self.old self.new }
     {
@@ -103,11 +103,11 @@ fn carry_all<
     requires callable { F.IsAlwaysCallable map }
     requires slots { target.old.slots ≡ [] }
     requires freed { target.old.freed ≡ [] }
-    requires room { count (A.seen source.old) ≤ target.old.capacity }
+    requires room { count (A.view source.old) ≤ target.old.capacity }
     requires greatest { target.old.capacity ≤ P.Inx.greatest }
     ensures transferred { IsTransfer Q.key P.key Q.Gen.following Q.Gen.wraps F.FnMut
-        target.old.counter map (A.seen source.old) (A.interlinks source.old)
-        (A.seen source.new) target.old target.new }
+        target.old.counter map (A.view source.old) (A.interlinks source.old)
+        (A.view source.new) target.old target.new }
     ensures capacity { target.new.capacity ≡ target.old.capacity }
     ensures stack_capacity { target.new.stack_capacity ≡ target.old.stack_capacity }
 {
@@ -146,7 +146,7 @@ fn pointer_at<P: PtrKey>(index: usize, generation: P::Gen) -> P
 }
 
 // Where a new link comes at the end of a chain: behind its last, and in a ring before its first.
-fn gap_behind<I: InxKey>(ring: bool, ends: Option<(I, I)>) -> Gap<I>
+fn gap_behind<I: InxKey>(ring: bool, ends: Option<(I, I)>) -> InsertPosition<I>
     ensures before { (m q : ℕ) → AreEnds I.number ends m q
         → before_in I.number result q ≡ end_before ring m q }
     ensures after { (m q : ℕ) → AreEnds I.number ends m q
@@ -155,12 +155,15 @@ fn gap_behind<I: InxKey>(ring: bool, ends: Option<(I, I)>) -> Gap<I>
     match ends {
         None => {
             if ring {
-                Gap::Itself
+                InsertPosition::Itself
             } else {
-                Gap::Between(None, None)
+                InsertPosition::Between(None, None)
             }
         }
-        Some((first, last)) => Gap::Between(Some(last), if ring { Some(first) } else { None }),
+        Some((first, last)) => InsertPosition::Between(
+            Some(last),
+            if ring { Some(first) } else { None },
+        ),
     }
 }
 
@@ -185,11 +188,11 @@ fn lay_behind<P: PtrKey, T: Drop, S: SlotStack<Item = ArenaSlot<P, LinkNoGen<P, 
     t: T,
 ) -> Option<(P::Inx, P::Inx)>
     requires ends { (m : ℕ) × AreEnds P.Inx.number ends m (next_index target.old)
-        × HasGapBehind ring m target.old }
+        × HasPositionAtEnd ring m target.old }
     requires room { entry_count target.old < target.old.capacity }
     requires index { (P.key to).0 ≡ next_index target.old }
     ensures laid { (m : ℕ) → AreEnds P.Inx.number ends m (next_index target.old)
-        → (target.new ≡ laid_behind ring m target.old t) × AreEnds P.Inx.number result (m + 1)
+        → (target.new ≡ with_link_at_end ring m target.old t) × AreEnds P.Inx.number result (m + 1)
         (next_index target.old + 1) }
     ensures listed { IsListed target.old }
 {
@@ -206,7 +209,7 @@ pub fn compression_and_transfer_agree<
     U: Drop,
     F: FnMut(Q, InvalidationOption<U>, P) -> T + Drop,
 >()
-    ensures { LaysOutAlike Q.key P.key Q.Gen.first Q.Gen.following Q.Gen.wraps F.FnMut }
+    ensures { ArrangesAlike Q.key P.key Q.Gen.first Q.Gen.following Q.Gen.wraps F.FnMut }
 {}
 
 /// A canonical compression moves each value from a pointer that was valid to one that is, and no other pointer was or is

@@ -6,29 +6,29 @@ use Rattle.chain_commands.specs.declared.session.ToolError.{ToolError}
 use Rattle.chain_commands.specs.declared.session.ToolError.TheVariants as errors
 use Rattle.chain_commands.specs.Words.{lines_of, whole_lines}
 use Rattle.chain_commands.specs.Commands.{line_of}
-use Rattle.chain_commands.specs.Responses.{ToolLinks, AnswersLine, LeavesStep}
-use Rattle.chain_commands.specs.Transcripts.{Answers, IsCutShort, within, AnswersSome, before, after}
-use Rattle.chain_commands.specs.Progress.{AnswersOne, Progress, Comes, EndsFirst, IsNoEnd}
+use Rattle.chain_commands.specs.Responses.{ToolLinks, RespondsToLine, LeavesStep}
+use Rattle.chain_commands.specs.Transcripts.{Transcribes, IsCutShort, within, TranscribesSome, before, after}
+use Rattle.chain_commands.specs.Progress.{TranscribesOne, Progress, HasProgressed, EndsFirst, IsNoEnd}
 use Rattle.chain_commands.proofs.LineSplitLemmas.{line_of-take, lines_of-end, whole_lines-end, whole_lines-more, cut-more}
 
 -- one line more is answered
-pub Answers-more : (old mid new : ToolLinks) (lines : List (List ℕ)) (line text more : List ℕ) → Answers old lines text mid → AnswersLine mid (line_of line) more new
-    → Answers old (lines ++ line ∷ []) (text ++ more) new
-Answers-more old mid new [] line text more answers next =
-    let first : AnswersLine old (line_of line) more new = subst (λ m. AnswersLine m (line_of line) more new) answers.1 next in
+pub Transcribes-more : (old mid new : ToolLinks) (lines : List (List ℕ)) (line text more : List ℕ) → Transcribes old lines text mid → RespondsToLine mid (line_of line) more new
+    → Transcribes old (lines ++ line ∷ []) (text ++ more) new
+Transcribes-more old mid new [] line text more answers next =
+    let first : RespondsToLine old (line_of line) more new = subst (λ m. RespondsToLine m (line_of line) more new) answers.1 next in
     (new, more, [], first, (refl, refl), ap (λ t. t ++ more) answers.0 ∙ sym (append-nil more))
-Answers-more old mid new (first ∷ lines) line text more answers next = (
+Transcribes-more old mid new (first ∷ lines) line text more answers next = (
   answers.0,
   answers.1,
   answers.2 ++ more,
   answers.3,
-  Answers-more answers.0 mid new lines line answers.2 more answers.4 next,
+  Transcribes-more answers.0 mid new lines line answers.2 more answers.4 next,
   ap (λ t. t ++ more) answers.5 ∙ append_assoc answers.1 answers.2 more,
 )
 
 -- what an answer to what is kept is, is an answer to the line
-pub of_kept : (old new : ToolLinks) (kept rest text : List ℕ) → kept ≡ take 201 rest → AnswersLine old (line_of kept) text new → AnswersLine old (line_of rest) text new
-of_kept old new kept rest text keeps answers = subst (λ l. AnswersLine old l text new) (ap line_of keeps ∙ line_of-take rest) answers
+pub of_kept : (old new : ToolLinks) (kept rest text : List ℕ) → kept ≡ take 201 rest → RespondsToLine old (line_of kept) text new → RespondsToLine old (line_of rest) text new
+of_kept old new kept rest text keeps answers = subst (λ l. RespondsToLine old l text new) (ap line_of keeps ∙ line_of-take rest) answers
 
 -- .. and the step that it leaves is that of the line
 pub step_of_kept : (old new : ToolLinks) (kept rest : List ℕ) → kept ≡ take 201 rest → LeavesStep old (line_of kept) new → LeavesStep old (line_of rest) new
@@ -38,42 +38,42 @@ module _ (old mid new : ToolLinks) (read kept : List ℕ) (held held_mid held_af
   ended : (more : List ℕ) → lines_of (read ++ 10 ∷ more) ≡ come.lines ++ come.rest ∷ lines_of more
   ended more = lines_of-end read more ∙ ap (λ l. l ++ lines_of more) come.cut ∙ append_assoc come.lines (come.rest ∷ []) (lines_of more)
 
-  pub Progress-line : {A : Type 0} (x : A) → AnswersOne (Ok x) mid new kept held_mid held_after → Progress old (read ++ 10 ∷ []) new [] held held_after
+  pub Progress-line : {A : Type 0} (x : A) → TranscribesOne (Ok x) mid new kept held_mid held_after → Progress old (read ++ 10 ∷ []) new [] held held_after
   Progress-line x answered = record {
     lines = come.lines ++ come.rest ∷ [];
     rest = [];
     text = come.text ++ answered.0;
     cut = ended [] ∙ sym (append_assoc come.lines (come.rest ∷ []) ([] ∷ []));
     keeps = refl;
-    answers = Answers-more old mid new come.lines come.rest come.text answered.0 come.answers (of_kept mid new kept come.rest answered.0 come.keeps answered.1);
+    answers = Transcribes-more old mid new come.lines come.rest come.text answered.0 come.answers (of_kept mid new kept come.rest answered.0 come.keeps answered.1);
     writes = Appends-trans held held_mid held_after _ _ come.writes answered.2;
   }
 
   whole : (more : List ℕ) → whole_lines (read ++ 10 ∷ more) ≡ come.lines ++ come.rest ∷ whole_lines more
   whole more = whole_lines-end read more come.lines come.rest come.cut
 
-  given_up : (more : List ℕ) → (new ≡ mid) ⊎ LeavesStep mid (line_of kept) new → AnswersSome old new (come.lines ++ come.rest ∷ whole_lines more) come.text
-  given_up more (inl same) = before come.lines (come.rest ∷ whole_lines more) come.text (subst (λ m. Answers old come.lines come.text m) (sym same) come.answers)
+  given_up : (more : List ℕ) → (new ≡ mid) ⊎ LeavesStep mid (line_of kept) new → TranscribesSome old new (come.lines ++ come.rest ∷ whole_lines more) come.text
+  given_up more (inl same) = before come.lines (come.rest ∷ whole_lines more) come.text (subst (λ m. Transcribes old come.lines come.text m) (sym same) come.answers)
   given_up more (inr step) = after come.lines (whole_lines more) come.rest mid come.text come.answers (step_of_kept mid new kept come.rest come.keeps step)
 
-  pub Comes-stopped : (A B : Type 0) (error : ToolError) (more kept_after : List ℕ) → AnswersOne {A = A} (Err error) mid new kept held_mid held_after
-      → Comes {A = B} (Err error) old (read ++ 10 ∷ more) new kept_after held held_after
-  Comes-stopped A B errors.Read more kept_after stopped = stopped
-  Comes-stopped A B errors.Write more kept_after stopped = (
+  pub HasProgressed-stopped : (A B : Type 0) (error : ToolError) (more kept_after : List ℕ) → TranscribesOne {A = A} (Err error) mid new kept held_mid held_after
+      → HasProgressed {A = B} (Err error) old (read ++ 10 ∷ more) new kept_after held held_after
+  HasProgressed-stopped A B errors.Read more kept_after stopped = stopped
+  HasProgressed-stopped A B errors.Write more kept_after stopped = (
     come.text ++ stopped.0,
     subst (λ l. IsCutShort old new l (come.text ++ stopped.0)) (sym (whole more))
         (within come.lines (whole_lines more) come.rest mid come.text stopped.0 stopped.1 come.answers (of_kept mid new kept come.rest (stopped.0 ++ stopped.1) come.keeps stopped.2)),
     Appends-trans held held_mid held_after _ _ come.writes stopped.3,
   )
-  Comes-stopped A B errors.Memory more kept_after stopped =
-      (come.text, subst (λ l. AnswersSome old new l come.text) (sym (whole more)) (given_up more stopped.1), Appends-kept held held_mid held_after _ come.writes stopped.0)
+  HasProgressed-stopped A B errors.Memory more kept_after stopped =
+      (come.text, subst (λ l. TranscribesSome old new l come.text) (sym (whole more)) (given_up more stopped.1), Appends-kept held held_mid held_after _ come.writes stopped.0)
 
 -- a run that stops between two lines
 pub Progress-stopped : (old new : ToolLinks) (read kept more : List ℕ) (held held_after : Option (List ℕ)) (come : Progress old read new kept held held_after)
-    → AnswersSome old new (whole_lines (read ++ more)) come.text
+    → TranscribesSome old new (whole_lines (read ++ more)) come.text
 Progress-stopped old new read kept more held held_after come =
     let found = whole_lines-more more read come.lines come.rest come.cut in
-    subst (λ l. AnswersSome old new l come.text) (sym found.1) (before come.lines found.0 come.text come.answers)
+    subst (λ l. TranscribesSome old new l come.text) (sym found.1) (before come.lines found.0 come.text come.answers)
 
 -- more of a line, of which enough is kept
 pub Progress-front : (old new : ToolLinks) (read kept kept_after front : List ℕ) (held held_after : Option (List ℕ)) (come : Progress old read new kept held held_after) → All IsNoEnd front
@@ -91,12 +91,12 @@ Progress-front old new read kept kept_after front held held_after come all keep 
 -- ---- a piece, line by line
 
 -- what is an answer to a line is one to what is kept of it
-answers_kept : {A : Type 0} (r : Result A ToolError) (old new : ToolLinks) (line : List ℕ) (held held_after : Option (List ℕ)) → AnswersOne r old new line held held_after
-    → AnswersOne r old new (take 201 line) held held_after
-answers_kept (Ok x) old new line held held_after answered = (answered.0, subst (λ l. AnswersLine old l answered.0 new) (sym (line_of-take line)) answered.1, answered.2)
+answers_kept : {A : Type 0} (r : Result A ToolError) (old new : ToolLinks) (line : List ℕ) (held held_after : Option (List ℕ)) → TranscribesOne r old new line held held_after
+    → TranscribesOne r old new (take 201 line) held held_after
+answers_kept (Ok x) old new line held held_after answered = (answered.0, subst (λ l. RespondsToLine old l answered.0 new) (sym (line_of-take line)) answered.1, answered.2)
 answers_kept (Err errors.Read) old new line held held_after answered = answered
 answers_kept (Err errors.Write) old new line held held_after answered =
-    (answered.0, answered.1, subst (λ l. AnswersLine old l (answered.0 ++ answered.1) new) (sym (line_of-take line)) answered.2, answered.3)
+    (answered.0, answered.1, subst (λ l. RespondsToLine old l (answered.0 ++ answered.1) new) (sym (line_of-take line)) answered.2, answered.3)
 answers_kept (Err errors.Memory) old new line held held_after answered = (answered.0, step answered.1)
   where
     step : (new ≡ old) ⊎ LeavesStep old (line_of line) new → (new ≡ old) ⊎ LeavesStep old (line_of (take 201 line)) new
@@ -104,8 +104,8 @@ answers_kept (Err errors.Memory) old new line held held_after answered = (answer
     step (inr leaves) = inr (subst (λ l. LeavesStep old l new) (sym (line_of-take line)) leaves)
 
 -- A line is answered of which something was kept ..
-pub answers-line : {A : Type 0} (r : Result A ToolError) (old new : ToolLinks) (kept line : List ℕ) (held held_after : Option (List ℕ)) → kept ≡ take 201 line → AnswersOne r old new kept held held_after
-    → AnswersOne r old new line held held_after
+pub answers-line : {A : Type 0} (r : Result A ToolError) (old new : ToolLinks) (kept line : List ℕ) (held held_after : Option (List ℕ)) → kept ≡ take 201 line → TranscribesOne r old new kept held held_after
+    → TranscribesOne r old new line held held_after
 answers-line (Ok x) old new kept line held held_after is answered = (answered.0, of_kept old new kept line answered.0 is answered.1, answered.2)
 answers-line (Err errors.Read) old new kept line held held_after is answered = answered
 answers-line (Err errors.Write) old new kept line held held_after is answered = (answered.0, answered.1, of_kept old new kept line (answered.0 ++ answered.1) is answered.2, answered.3)
@@ -123,7 +123,7 @@ module _ (old now : ToolLinks) (read done left kept : List ℕ) (held held_now :
   module _ (front back : List ℕ) (ends : EndsFirst front left back) where
     -- the line is answered
     pub feed-line : {A : Type 0} (new : ToolLinks) (kept_after : List ℕ) (held_new : Option (List ℕ)) (x : A)
-        → ((rest : List ℕ) → kept ≡ take 201 rest → AnswersOne (Ok x) now new (rest ++ front) held_now held_new) → kept_after ≡ []
+        → ((rest : List ℕ) → kept ≡ take 201 rest → TranscribesOne (Ok x) now new (rest ++ front) held_now held_new) → kept_after ≡ []
         → Progress old (read ++ (done ++ (front ++ 10 ∷ []))) new kept_after held held_new
     feed-line new kept_after held_new x answered is_empty =
         let kept_answered = answers_kept (Ok x) now new (come.rest ++ front) held_now held_new (answered come.rest come.keeps) in
@@ -133,24 +133,24 @@ module _ (old now : ToolLinks) (read done left kept : List ℕ) (held held_now :
 
     -- the answer to the line stops the run
     pub feed-stopped : (A B : Type 0) (error : ToolError) (r : Result B ToolError) (piece : List ℕ) (new : ToolLinks) (kept_after : List ℕ) (held_new : Option (List ℕ)) → piece ≡ done ++ left
-        → ((rest : List ℕ) → kept ≡ take 201 rest → AnswersOne {A = A} (Err error) now new (rest ++ front) held_now held_new) → r ≡ Err error
-        → Comes r old (read ++ piece) new kept_after held held_new
+        → ((rest : List ℕ) → kept ≡ take 201 rest → TranscribesOne {A = A} (Err error) now new (rest ++ front) held_now held_new) → r ≡ Err error
+        → HasProgressed r old (read ++ piece) new kept_after held held_new
     feed-stopped A B error r piece new kept_after held_new parts stopped is =
         let kept_stopped = answers_kept {A = A} (Err error) now new (come.rest ++ front) held_now held_new (stopped come.rest come.keeps) in
-        let here = Comes-stopped old now new ((read ++ done) ++ front) (take 201 (come.rest ++ front)) held held_now held_new (come_front front ends.first) A B error back kept_after kept_stopped in
+        let here = HasProgressed-stopped old now new ((read ++ done) ++ front) (take 201 (come.rest ++ front)) held held_now held_new (come_front front ends.first) A B error back kept_after kept_stopped in
         let whole : ((read ++ done) ++ front) ++ 10 ∷ back ≡ read ++ piece = append_assoc (read ++ done) front (10 ∷ back) ∙ (append_assoc read done (front ++ 10 ∷ back)
         ∙ ap (λ l. read ++ l) (ap (λ l. done ++ l) (sym ends.parts) ∙ sym parts)) in
-        subst (λ q. Comes q old (read ++ piece) new kept_after held held_new) (sym is)
-        (subst (λ l. Comes {A = B} (Err error) old l new kept_after held held_new) whole here)
+        subst (λ q. HasProgressed q old (read ++ piece) new kept_after held held_new) (sym is)
+        (subst (λ l. HasProgressed {A = B} (Err error) old l new kept_after held held_new) whole here)
 
   -- what is left is kept, or memory for it stops the run
   pub feed-kept : {A : Type 0} (r : Result A ToolError) (piece kept_after : List ℕ) → piece ≡ done ++ left → All IsNoEnd left
-      → OnOk r ((rest : List ℕ) → kept ≡ take 201 rest → kept_after ≡ take 201 (rest ++ left)) → IfErr r (λ e. e ≡ errors.Memory) → Comes r old (read ++ piece) now kept_after held held_now
+      → OnOk r ((rest : List ℕ) → kept ≡ take 201 rest → kept_after ≡ take 201 (rest ++ left)) → IfErr r (λ e. e ≡ errors.Memory) → HasProgressed r old (read ++ piece) now kept_after held held_now
   feed-kept (Ok x) piece kept_after parts all keeps error =
       subst (λ l. Progress old l now kept_after held held_now) (append_assoc read done left ∙ ap (λ l. read ++ l) (sym parts))
       (Progress-front old now (read ++ done) kept kept_after left held held_now come all (keeps come.rest come.keeps))
   feed-kept (Err errors.Memory) piece kept_after parts all keeps error =
       let whole : (read ++ done) ++ left ≡ read ++ piece = append_assoc read done left ∙ ap (λ l. read ++ l) (sym parts) in
-      (come.text, subst (λ l. AnswersSome old now (whole_lines l) come.text) whole (Progress-stopped old now (read ++ done) kept left held held_now come), come.writes)
+      (come.text, subst (λ l. TranscribesSome old now (whole_lines l) come.text) whole (Progress-stopped old now (read ++ done) kept left held held_now come), come.writes)
   feed-kept (Err errors.Read) piece kept_after parts all keeps error = absurd (cc)
   feed-kept (Err errors.Write) piece kept_after parts all keeps error = absurd (cc)

@@ -2,12 +2,12 @@
 use Rattle.std.proofs.Common.{OnOk, ◌≡◌, ℕ, ◌⊎◌, List, [], ◌∷◌, ◌++◌, Result, Ok, Err, OnErr, IsOk, refl, sym, ap, ◌∙◌, inl, inr, subst, Bool, cond, append_assoc, append-nil, true, false}
 use Rattle.std.proofs.lemmas.Bool.{false≢true}
 use Rattle.arena_ptr.specs.declared.generation.gen32.Gen32.{Gen32}
-use Rattle.chain_links.specs.ChainArena.{LinkSeen}
+use Rattle.chain_links.specs.ChainArena.{LinkView}
 use Rattle.chain_commands.specs.declared.command.Command.{Command}
 use Rattle.chain_commands.specs.declared.command.Command.TheVariants.{Change, Show, Chain, Len, Moves}
 use Rattle.chain_commands.specs.declared.command.Line.{Line}
 use Rattle.chain_commands.specs.declared.command.Line.TheVariants.{Good}
-use Rattle.chain_commands.specs.Responses.{ToolLinks, Gives, LeavesStep, walked_text, walk_text}
+use Rattle.chain_commands.specs.Responses.{ToolLinks, RespondsToCommand, LeavesStep, walked_text, walk_text}
 
 -- a text that was cleared and pushed to
 pushed_is : (old v_text new : List ℕ) → old ≡ [] → new ≡ old ++ v_text → new ≡ v_text
@@ -31,7 +31,7 @@ module _ {T E : Type 0} where
   line_err old new line command (Err e) is steps = subst (λ l. (new ≡ old) ⊎ LeavesStep old l new) is steps
 
   -- where an answer gets no line feed, its line is a call, or has changed nothing
-  pub unended_err : (old new : ToolLinks) (line : Line) (command : Command) (words : List ℕ) (r : Result T E) → Good command ≡ line → Gives old command words new
+  pub unended_err : (old new : ToolLinks) (line : Line) (command : Command) (words : List ℕ) (r : Result T E) → Good command ≡ line → RespondsToCommand old command words new
       → ((reset : Bool) → command ≡ Moves reset → IsOk r) → OnErr r ((new ≡ old) ⊎ LeavesStep old line new)
   unended_err old new line command words (Ok x) is gives ends = tt
   unended_err old new line (Change call) words (Err e) is gives ends = inr (call, words, sym is, gives)
@@ -43,7 +43,7 @@ module _ {T E : Type 0} where
 -- ---- the text of a walk
 
 abbrev pub Passed : Type 0
-Passed = ℕ × (Gen32 × LinkSeen ℕ)
+Passed = ℕ × (Gen32 × LinkView ℕ)
 
 abbrev pub none_passed : List Passed → Bool
 none_passed [] = true

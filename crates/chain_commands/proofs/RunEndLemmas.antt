@@ -6,11 +6,11 @@ use Rattle.chain_commands.specs.declared.session.ToolError.{ToolError}
 use Rattle.chain_commands.specs.declared.session.ToolError.TheVariants as errors
 use Rattle.chain_commands.specs.Words.{all_but_last, lines_of, whole_lines}
 use Rattle.chain_commands.specs.Commands.{line_of}
-use Rattle.chain_commands.specs.Responses.{ToolLinks, AnswersLine, LeavesStep}
-use Rattle.chain_commands.specs.Transcripts.{Answers, by_line_feed, by_the_end, IsCutShort, between, within, AnswersSome, before, after, Ends}
-use Rattle.chain_commands.specs.Progress.{AnswersOne, Progress, Comes}
+use Rattle.chain_commands.specs.Responses.{ToolLinks, RespondsToLine, LeavesStep}
+use Rattle.chain_commands.specs.Transcripts.{Transcribes, by_line_feed, by_the_end, IsCutShort, between, within, TranscribesSome, before, after, Ends}
+use Rattle.chain_commands.specs.Progress.{TranscribesOne, Progress, HasProgressed}
 use Rattle.chain_commands.proofs.LineSplitLemmas.{all_but_last-append}
-use Rattle.chain_commands.proofs.ProgressLemmas.{Answers-more, of_kept, step_of_kept}
+use Rattle.chain_commands.proofs.ProgressLemmas.{Transcribes-more, of_kept, step_of_kept}
 
 -- the run has come on by what was read so far
 pub record HasRead (old new : ToolLinks) (kept : List ℕ) (left left_after held held_after : Option (List ℕ)) : Type 0 where
@@ -45,7 +45,7 @@ module _ (old now : ToolLinks) (kept : List ℕ) (left left_now held held_now : 
 
   -- one piece more
   pub HasRead-fed : {A : Type 0} (x : A) (new : ToolLinks) (kept_after piece : List ℕ) (left_after held_after : Option (List ℕ)) → Consumes left_now left_after piece
-      → Comes (Ok x) old (has.read ++ piece) new kept_after held held_after → HasRead old new kept_after left left_after held held_after
+      → HasProgressed (Ok x) old (has.read ++ piece) new kept_after held held_after → HasRead old new kept_after left left_after held held_after
   HasRead-fed x new kept_after piece left_after held_after reads come = record {
     read = has.read ++ piece;
     reads = Consumes-trans left left_now left_after _ _ has.reads reads;
@@ -54,13 +54,13 @@ module _ (old now : ToolLinks) (kept : List ℕ) (left left_now held held_now : 
 
   -- .. at which the run stops
   pub Ends-fed : (A B : Type 0) (error : ToolError) (r : Result B ToolError) (new : ToolLinks) (kept_after piece : List ℕ) (left_after held_after : Option (List ℕ)) → Consumes left_now left_after piece
-      → Comes {A = A} (Err error) old (has.read ++ piece) new kept_after held held_after → r ≡ Err error → Ends r old new left left_after held held_after
+      → HasProgressed {A = A} (Err error) old (has.read ++ piece) new kept_after held held_after → r ≡ Err error → Ends r old new left left_after held held_after
   Ends-fed A B error r new kept_after piece left_after held_after reads comes is = subst (λ q. Ends q old new left left_after held held_after) (sym is) (by_error error comes)
     where
       all : Consumes left left_after (has.read ++ piece)
       all = Consumes-trans left left_now left_after _ _ has.reads reads
 
-      by_error : (error : ToolError) → Comes {A = A} (Err error) old (has.read ++ piece) new kept_after held held_after → Ends {A = B} (Err error) old new left left_after held held_after
+      by_error : (error : ToolError) → HasProgressed {A = A} (Err error) old (has.read ++ piece) new kept_after held held_after → Ends {A = B} (Err error) old new left left_after held held_after
       by_error errors.Read comes = absurd comes
       by_error errors.Write comes =
           record { read = has.read ++ piece; lines = whole_lines (has.read ++ piece); text = comes.0; reads = all; complete = by_line_feed; writes = comes.2; answers = comes.1 }
@@ -78,7 +78,7 @@ module _ (old now : ToolLinks) (kept : List ℕ) (left left_now held held_now : 
     text = has.come.text;
     reads = Consumes-kept left left_now left_after _ has.reads keeps;
     writes = has.come.writes;
-    answers = subst (λ l. Answers old l has.come.text now) (sym whole) has.come.answers;
+    answers = subst (λ l. Transcribes old l has.come.text now) (sym whole) has.come.answers;
   })
 
   -- the writer cannot be flushed
@@ -95,29 +95,29 @@ module _ (old now : ToolLinks) (kept : List ℕ) (left left_now held held_now : 
 
   -- the last line is answered
   pub Ends-finished : (B : Type 0) (r : Result B ToolError) (new : ToolLinks) (line : List ℕ) (left_after held_after : Option (List ℕ)) → line ≡ kept → Consumes left_now left_after [] → IsAtEnd left_after
-      → AnswersOne r now new line held_now held_after → Ends r old new left left_after held held_after
+      → TranscribesOne r now new line held_now held_after → Ends r old new left left_after held held_after
   Ends-finished B r new line left_after held_after same reads end answered = by_result r answered
     where
       all : Consumes left left_after has.read
       all = subst (Consumes left left_after) (append-nil has.read) (Consumes-trans left left_now left_after _ _ has.reads reads)
 
-      last : (text : List ℕ) → AnswersLine now (line_of line) text new → AnswersLine now (line_of has.come.rest) text new
-      last text answers = of_kept now new kept has.come.rest text has.come.keeps (subst (λ l. AnswersLine now (line_of l) text new) same answers)
+      last : (text : List ℕ) → RespondsToLine now (line_of line) text new → RespondsToLine now (line_of has.come.rest) text new
+      last text answers = of_kept now new kept has.come.rest text has.come.keeps (subst (λ l. RespondsToLine now (line_of l) text new) same answers)
 
-      given_up : (new ≡ now) ⊎ LeavesStep now (line_of line) new → AnswersSome old new (has.come.lines ++ has.come.rest ∷ []) has.come.text
-      given_up (inl stays) = before has.come.lines (has.come.rest ∷ []) has.come.text (subst (λ m. Answers old has.come.lines has.come.text m) (sym stays) has.come.answers)
+      given_up : (new ≡ now) ⊎ LeavesStep now (line_of line) new → TranscribesSome old new (has.come.lines ++ has.come.rest ∷ []) has.come.text
+      given_up (inl stays) = before has.come.lines (has.come.rest ∷ []) has.come.text (subst (λ m. Transcribes old has.come.lines has.come.text m) (sym stays) has.come.answers)
       given_up (inr step) = after has.come.lines [] has.come.rest now has.come.text has.come.answers
           (step_of_kept now new kept has.come.rest has.come.keeps (subst (λ l. LeavesStep now (line_of l) new) same step))
 
-      by_result : (r : Result B ToolError) → AnswersOne r now new line held_now held_after → Ends r old new left left_after held held_after
+      by_result : (r : Result B ToolError) → TranscribesOne r now new line held_now held_after → Ends r old new left left_after held held_after
       by_result (Ok x) answered = record {
         read = has.read;
         text = has.come.text ++ answered.0;
         reads = all;
         ended = end;
         writes = Appends-trans held held_now held_after _ _ has.come.writes answered.2;
-        answers = subst (λ l. Answers old l (has.come.text ++ answered.0) new) (sym has.come.cut)
-            (Answers-more old now new has.come.lines has.come.rest has.come.text answered.0 has.come.answers (last answered.0 answered.1));
+        answers = subst (λ l. Transcribes old l (has.come.text ++ answered.0) new) (sym has.come.cut)
+            (Transcribes-more old now new has.come.lines has.come.rest has.come.text answered.0 has.come.answers (last answered.0 answered.1));
       }
       by_result (Err errors.Read) answered = absurd answered
       by_result (Err errors.Write) answered = record {
@@ -137,7 +137,7 @@ module _ (old now : ToolLinks) (kept : List ℕ) (left left_now held held_now : 
         reads = all;
         complete = by_the_end end;
         writes = Appends-kept held held_now held_after _ has.come.writes answered.0;
-        answers = subst (λ l. AnswersSome old new l has.come.text) (sym has.come.cut) (given_up answered.1);
+        answers = subst (λ l. TranscribesSome old new l has.come.text) (sym has.come.cut) (given_up answered.1);
       }
 
 -- there is no room for a piece: nothing is read and nothing written

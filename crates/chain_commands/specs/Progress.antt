@@ -5,8 +5,8 @@ use Rattle.chain_commands.specs.declared.session.ToolError.{ToolError}
 use Rattle.chain_commands.specs.declared.session.ToolError.TheVariants as errors
 use Rattle.chain_commands.specs.Words.{lines_of, whole_lines}
 use Rattle.chain_commands.specs.Commands.{line_of}
-use Rattle.chain_commands.specs.Responses.{ToolLinks, AnswersLine, LeavesStep}
-use Rattle.chain_commands.specs.Transcripts.{Answers, IsCutShort, AnswersSome}
+use Rattle.chain_commands.specs.Responses.{ToolLinks, RespondsToLine, LeavesStep}
+use Rattle.chain_commands.specs.Transcripts.{Transcribes, IsCutShort, TranscribesSome}
 
 -- no line feed
 abbrev pub IsNoEnd : ℕ → Type 0
@@ -18,11 +18,11 @@ pub record EndsFirst (front text back : List ℕ) : Type 0 where
   pub first : All IsNoEnd front
 
 -- a line answered: the answer is written, or a front of it, or nothing for want of memory, where a call alone leaves its step
-abbrev pub AnswersOne : {A : Type 0} → Result A ToolError → ToolLinks → ToolLinks → List ℕ → Option (List ℕ) → Option (List ℕ) → Type 0
-AnswersOne (Ok x) old new line held held_after = (text : List ℕ) × AnswersLine old (line_of line) text new × Appends held held_after text
-AnswersOne (Err errors.Read) old new line held held_after = ⊥
-AnswersOne (Err errors.Write) old new line held held_after = (front : List ℕ) × (rest : List ℕ) × AnswersLine old (line_of line) (front ++ rest) new × Appends held held_after front
-AnswersOne (Err errors.Memory) old new line held held_after = Keeps held held_after × ((new ≡ old) ⊎ LeavesStep old (line_of line) new)
+abbrev pub TranscribesOne : {A : Type 0} → Result A ToolError → ToolLinks → ToolLinks → List ℕ → Option (List ℕ) → Option (List ℕ) → Type 0
+TranscribesOne (Ok x) old new line held held_after = (text : List ℕ) × RespondsToLine old (line_of line) text new × Appends held held_after text
+TranscribesOne (Err errors.Read) old new line held held_after = ⊥
+TranscribesOne (Err errors.Write) old new line held held_after = (front : List ℕ) × (rest : List ℕ) × RespondsToLine old (line_of line) (front ++ rest) new × Appends held held_after front
+TranscribesOne (Err errors.Memory) old new line held held_after = Keeps held held_after × ((new ≡ old) ⊎ LeavesStep old (line_of line) new)
 
 -- Of what was read, the whole lines are answered, and of the rest enough is kept to tell what line it becomes:
 -- of a line of more than 200 bytes no more than 201.
@@ -32,17 +32,17 @@ pub record Progress (old : ToolLinks) (read : List ℕ) (new : ToolLinks) (kept 
   pub text : List ℕ
   pub cut : lines_of read ≡ lines ++ rest ∷ []
   pub keeps : kept ≡ take 201 rest
-  pub answers : Answers old lines text new
+  pub answers : Transcribes old lines text new
   pub writes : Appends held held_after text
 
 -- how far a run has come after more was read: where it stops, no line is carried out but whole ones
-abbrev pub Comes : {A : Type 0} → Result A ToolError → ToolLinks → List ℕ → ToolLinks → List ℕ → Option (List ℕ) → Option (List ℕ) → Type 0
-Comes (Ok x) old read new kept held held_after = Progress old read new kept held held_after
-Comes (Err errors.Read) old read new kept held held_after = ⊥
-Comes (Err errors.Write) old read new kept held held_after = (text : List ℕ) × IsCutShort old new (whole_lines read) text × Appends held held_after text
-Comes (Err errors.Memory) old read new kept held held_after = (text : List ℕ) × AnswersSome old new (whole_lines read) text × Appends held held_after text
+abbrev pub HasProgressed : {A : Type 0} → Result A ToolError → ToolLinks → List ℕ → ToolLinks → List ℕ → Option (List ℕ) → Option (List ℕ) → Type 0
+HasProgressed (Ok x) old read new kept held held_after = Progress old read new kept held held_after
+HasProgressed (Err errors.Read) old read new kept held held_after = ⊥
+HasProgressed (Err errors.Write) old read new kept held held_after = (text : List ℕ) × IsCutShort old new (whole_lines read) text × Appends held held_after text
+HasProgressed (Err errors.Memory) old read new kept held held_after = (text : List ℕ) × TranscribesSome old new (whole_lines read) text × Appends held held_after text
 
 -- a piece more was read: how far a run had come before it tells how far it has come with it
-abbrev pub ComesOn : {A : Type 0} → Result A ToolError → List ℕ → ToolLinks → List ℕ → Option (List ℕ) → ToolLinks → List ℕ → Option (List ℕ) → Type 0
-ComesOn answer piece now kept held_now new kept_after held_after =
-    (old : ToolLinks) (read : List ℕ) (held : Option (List ℕ)) → Progress old read now kept held held_now → Comes answer old (read ++ piece) new kept_after held held_after
+abbrev pub ExtendsProgress : {A : Type 0} → Result A ToolError → List ℕ → ToolLinks → List ℕ → Option (List ℕ) → ToolLinks → List ℕ → Option (List ℕ) → Type 0
+ExtendsProgress answer piece now kept held_now new kept_after held_after =
+    (old : ToolLinks) (read : List ℕ) (held : Option (List ℕ)) → Progress old read now kept held held_now → HasProgressed answer old (read ++ piece) new kept_after held held_after

@@ -20,7 +20,7 @@ use Rattle.arena_ptr.specs.declared.invalidation.InvalidationResult.TheVariants 
 use Rattle.arena_ptr.specs.declared.tool_ptr.ToolPtr.{ToolPtr}
 use Rattle.arena_base.specs.Arena.{Arena, IsValid, entry_count}
 use Rattle.chain_links.specs.ChainArena as chain
-use Rattle.chain_links.specs.ChainArena.{LinkSeen, shown, seen, entry, IsWalkOf}
+use Rattle.chain_links.specs.ChainArena.{LinkView, link_map, value_view, entry, IsWalkOf}
 use Rattle.chain_compaction.specs.Layouts.{AreAllMoves}
 use Rattle.chain_arena.specs.PointerKinds.{PointerKind}
 use Rattle.chain_arena.specs.Steps.{Step}
@@ -35,7 +35,7 @@ use Rattle.chain_commands.specs.declared.command.Line.TheVariants.{Blank, Bad, G
 
 -- the arenas of the program: links of numbers, with indexes and generations of 32 bits
 abbrev pub ToolLinks : Type 0
-ToolLinks = Arena Gen32 (LinkSeen ℕ)
+ToolLinks = Arena Gen32 (LinkView ℕ)
 
 -- a pointer: its index, a dot and its generation
 abbrev pub pointer_text : ℕ × Gen32 → List ℕ
@@ -54,11 +54,11 @@ show_text prev next value = codes "prev " ++ neighbor_text prev ++ codes " next 
 abbrev pub passed_text : ℕ × Gen32 → ℕ → List ℕ
 passed_text p value = pointer_text p ++ codes ":" ++ decimal value
 
-abbrev pub walked_text : ℕ × (Gen32 × LinkSeen ℕ) → List ℕ
+abbrev pub walked_text : ℕ × (Gen32 × LinkView ℕ) → List ℕ
 walked_text e = passed_text (e.0, e.1.0) e.1.1.value
 
 -- a walk: its links, with a space between
-abbrev pub walk_text : List (ℕ × (Gen32 × LinkSeen ℕ)) → List ℕ
+abbrev pub walk_text : List (ℕ × (Gen32 × LinkView ℕ)) → List ℕ
 walk_text links = join_with_byte 32 (map walked_text links)
 
 -- a pointer is valid: a link stands at its index with its generation
@@ -67,7 +67,7 @@ IsValidIn a p = IsValid (entry a) p
 
 -- the link of a pointer, with the pointers of now to its neighbours, and its value
 abbrev pub IsLinkIn : ToolLinks → ℕ × Gen32 → Option (ℕ × Gen32) → Option (ℕ × Gen32) → ℕ → Type 0
-IsLinkIn a p prev next value = chain.IsLinkAt (entry a) (shown a) p prev next value
+IsLinkIn a p prev next value = chain.IsLinkAt (entry a) (link_map a) p prev next value
 
 -- the pointer of a link, and a value
 abbrev pub at_text : ToolPtr → List ℕ
@@ -77,10 +77,10 @@ abbrev pub value_text : ℕ → List ℕ
 value_text value = codes "value " ++ decimal value
 
 -- an answer where the pointer or index may be invalid, and the counter may have overflowed
-abbrev pub told_text : {A : Type 0} → (A → List ℕ) → InvalidationResult A → List ℕ
-told_text text (result.Success x) = text x
-told_text text (result.GenerationOverflow x) = text x ++ codes " overflow"
-told_text text result.InvalidPtr = codes "none"
+abbrev pub invalidation_text : {A : Type 0} → (A → List ℕ) → InvalidationResult A → List ℕ
+invalidation_text text (result.Success x) = text x
+invalidation_text text (result.GenerationOverflow x) = text x ++ codes " overflow"
+invalidation_text text result.InvalidPtr = codes "none"
 
 -- whether the counter has overflowed, and nothing else
 abbrev pub counted_text : InvalidationOption Unit → List ℕ
@@ -105,9 +105,9 @@ reply_text (Inserted (Ok p)) = at_text p
 reply_text (Inserted (Err error)) = refusal_text error
 reply_text (Done true) = codes "ok"
 reply_text (Done false) = codes "none"
-reply_text (Removed answer) = told_text (λ link. value_text link.t) answer
-reply_text (RemovedInx answer) = told_text (λ e. value_text e.1.t) answer
-reply_text (Renewed answer) = told_text at_text answer
+reply_text (Removed answer) = invalidation_text (λ link. value_text link.t) answer
+reply_text (RemovedInx answer) = invalidation_text (λ e. value_text e.1.t) answer
+reply_text (Renewed answer) = invalidation_text at_text answer
 reply_text (Drained (Some count)) = codes "count " ++ decimal count
 reply_text (Drained None) = codes "none"
 reply_text (Counted answer) = counted_text answer
@@ -132,16 +132,16 @@ tool_pointers = record {
 }
 
 -- a call is a step of the chain machine, and its answer is the text of the reply
-abbrev pub Changes : ToolLinks → LinkCall → List ℕ → ToolLinks → Type 0
-Changes old call text new = (reply : Reply ToolPtr ℕ Inx32 Gen32 ℕ) × Step tool_pointers old call reply new × (text ≡ reply_text reply)
+abbrev pub RespondsToCall : ToolLinks → LinkCall → List ℕ → ToolLinks → Type 0
+RespondsToCall old call text new = (reply : Reply ToolPtr ℕ Inx32 Gen32 ℕ) × Step tool_pointers old call reply new × (text ≡ reply_text reply)
 
-pub data Shows (old : ToolLinks) (p : ℕ × Gen32) (text : List ℕ) : Type 0 where
-  link : (prev next : Option (ℕ × Gen32)) (value : ℕ) → IsLinkIn old p prev next value → text ≡ show_text prev next value → Shows old p text
-  no_link : (IsValidIn old p → ⊥) → text ≡ codes "none" → Shows old p text
+pub data RespondsToShow (old : ToolLinks) (p : ℕ × Gen32) (text : List ℕ) : Type 0 where
+  link : (prev next : Option (ℕ × Gen32)) (value : ℕ) → IsLinkIn old p prev next value → text ≡ show_text prev next value → RespondsToShow old p text
+  no_link : (IsValidIn old p → ⊥) → text ≡ codes "none" → RespondsToShow old p text
 
-pub data Walks (old : ToolLinks) (p : ℕ × Gen32) (text : List ℕ) : Type 0 where
-  walk : (links : List (ℕ × (Gen32 × LinkSeen ℕ))) → IsValidIn old p → IsWalkOf old p.0 links → text ≡ walk_text links → Walks old p text
-  no_walk : (IsValidIn old p → ⊥) → text ≡ codes "none" → Walks old p text
+pub data RespondsToChain (old : ToolLinks) (p : ℕ × Gen32) (text : List ℕ) : Type 0 where
+  walk : (links : List (ℕ × (Gen32 × LinkView ℕ))) → IsValidIn old p → IsWalkOf old p.0 links → text ≡ walk_text links → RespondsToChain old p text
+  no_walk : (IsValidIn old p → ⊥) → text ≡ codes "none" → RespondsToChain old p text
 
 -- a link that got another pointer: the one that it had and the one that it has
 abbrev pub move_text : ToolPtr × ToolPtr → List ℕ
@@ -157,32 +157,32 @@ abbrev pub moves_text : List (ToolPtr × ToolPtr) → InvalidationOption Unit �
 moves_text moves told = codes "moved " ++ decimal (length moves) ++ concat (map move_text moves) ++ overflow_text told
 
 -- a text takes more bytes within the room that it has
-abbrev pub CanTake : String Global → List ℕ → Type 0
-CanTake text more = length (string_bytes text) + length more ≤ string_capacity text
+abbrev pub HasCapacityForText : String Global → List ℕ → Type 0
+HasCapacityForText text more = length (string_bytes text) + length more ≤ string_capacity text
 
 -- the chains are laid one after another by a step of the chain machine, and each link's old and new pointer is told, by
 -- rising new index
-pub record TellsMoves (old : ToolLinks) (reset : Bool) (text : List ℕ) (new : ToolLinks) : Type 0 where
+pub record RespondsToMoves (old : ToolLinks) (reset : Bool) (text : List ℕ) (new : ToolLinks) : Type 0 where
   pub told : InvalidationOption Unit
   pub moves : List (ToolPtr × ToolPtr)
   pub step : Step tool_pointers old (CompressCanonical reset) (Counted told) new
-  pub all : AreAllMoves key_of (seen old) (shown old) new.counter moves
+  pub all : AreAllMoves key_of (value_view old) (link_map old) new.counter moves
   pub words : text ≡ moves_text moves told
 
 -- what a command answers, and the arena after it
-abbrev pub Gives : ToolLinks → Command → List ℕ → ToolLinks → Type 0
-Gives old (Change call) text new = Changes old call text new
-Gives old (Show p) text new = Shows old (key_of p) text × (new ≡ old)
-Gives old (Chain p) text new = Walks old (key_of p) text × (new ≡ old)
-Gives old (Moves reset) text new = TellsMoves old reset text new
-Gives old Len text new = (text ≡ codes "count " ++ decimal (entry_count old)) × (new ≡ old)
+abbrev pub RespondsToCommand : ToolLinks → Command → List ℕ → ToolLinks → Type 0
+RespondsToCommand old (Change call) text new = RespondsToCall old call text new
+RespondsToCommand old (Show p) text new = RespondsToShow old (key_of p) text × (new ≡ old)
+RespondsToCommand old (Chain p) text new = RespondsToChain old (key_of p) text × (new ≡ old)
+RespondsToCommand old (Moves reset) text new = RespondsToMoves old reset text new
+RespondsToCommand old Len text new = (text ≡ codes "count " ++ decimal (entry_count old)) × (new ≡ old)
 
 -- what a line is answered, and the arena after it; an answer ends with a line feed
-abbrev pub AnswersLine : ToolLinks → Line → List ℕ → ToolLinks → Type 0
-AnswersLine old Blank text new = (text ≡ []) × (new ≡ old)
-AnswersLine old Bad text new = (text ≡ codes "bad line" ++ 10 ∷ []) × (new ≡ old)
-AnswersLine old (Good command) text new = (words : List ℕ) × (text ≡ words ++ 10 ∷ []) × Gives old command words new
+abbrev pub RespondsToLine : ToolLinks → Line → List ℕ → ToolLinks → Type 0
+RespondsToLine old Blank text new = (text ≡ []) × (new ≡ old)
+RespondsToLine old Bad text new = (text ≡ codes "bad line" ++ 10 ∷ []) × (new ≡ old)
+RespondsToLine old (Good command) text new = (words : List ℕ) × (text ≡ words ++ 10 ∷ []) × RespondsToCommand old command words new
 
 -- a line is a call, and leaves its step
 abbrev pub LeavesStep : ToolLinks → Line → ToolLinks → Type 0
-LeavesStep old line new = (call : LinkCall) × (text : List ℕ) × (line ≡ Good (Change call)) × Changes old call text new
+LeavesStep old line new = (call : LinkCall) × (text : List ℕ) × (line ≡ Good (Change call)) × RespondsToCall old call text new

@@ -5,22 +5,22 @@ use Rattle.chain_commands.specs.declared.session.ToolError.{ToolError}
 use Rattle.chain_commands.specs.declared.session.ToolError.TheVariants as errors
 use Rattle.chain_commands.specs.Words.{lines_of, whole_lines}
 use Rattle.chain_commands.specs.Commands.{line_of}
-use Rattle.chain_commands.specs.Responses.{ToolLinks, AnswersLine, LeavesStep}
+use Rattle.chain_commands.specs.Responses.{ToolLinks, RespondsToLine, LeavesStep}
 
 -- the answers to lines, one after another, and the arena after them
-abbrev pub Answers : ToolLinks → List (List ℕ) → List ℕ → ToolLinks → Type 0
-Answers old [] text new = (text ≡ []) × (new ≡ old)
-Answers old (line ∷ lines) text new = (mid : ToolLinks) × (first : List ℕ) × (rest : List ℕ) × AnswersLine old (line_of line) first mid × Answers mid lines rest new × (text ≡ first ++ rest)
+abbrev pub Transcribes : ToolLinks → List (List ℕ) → List ℕ → ToolLinks → Type 0
+Transcribes old [] text new = (text ≡ []) × (new ≡ old)
+Transcribes old (line ∷ lines) text new = (mid : ToolLinks) × (first : List ℕ) × (rest : List ℕ) × RespondsToLine old (line_of line) first mid × Transcribes mid lines rest new × (text ≡ first ++ rest)
 
 -- A run, from what the reader had left and the writer held to what they have left and hold, as far as they tell it.
 -- Nothing is left unread, and what is written is the answers to all the lines that were read, and nothing else.
-pub record AnswersAll (old new : ToolLinks) (left left_after held held_after : Option (List ℕ)) : Type 0 where
+pub record TranscribesAll (old new : ToolLinks) (left left_after held held_after : Option (List ℕ)) : Type 0 where
   pub read : List ℕ
   pub text : List ℕ
   pub reads : Consumes left left_after read
   pub ended : IsAtEnd left_after
   pub writes : Appends held held_after text
-  pub answers : Answers old (lines_of read) text new
+  pub answers : Transcribes old (lines_of read) text new
 
 -- A run that cannot read on: what is written is the answers to all the whole lines that were read.
 pub record StopsReading (old new : ToolLinks) (left left_after held held_after : Option (List ℕ)) : Type 0 where
@@ -28,7 +28,7 @@ pub record StopsReading (old new : ToolLinks) (left left_after held held_after :
   pub text : List ℕ
   pub reads : Consumes left left_after read
   pub writes : Appends held held_after text
-  pub answers : Answers old (whole_lines read) text new
+  pub answers : Transcribes old (whole_lines read) text new
 
 -- The complete lines of what was read: the whole ones, and where the reader is at its end the last one too. A line of
 -- which more may come is not carried out.
@@ -38,9 +38,9 @@ pub data AreComplete (read : List ℕ) (left_after : Option (List ℕ)) : List (
 
 -- the answers to some first lines, the last of them perhaps in part alone
 pub data IsCutShort (old new : ToolLinks) : List (List ℕ) → List ℕ → Type 0 where
-  between : (answered others : List (List ℕ)) (text : List ℕ) → Answers old answered text new → IsCutShort old new (answered ++ others) text
+  between : (answered others : List (List ℕ)) (text : List ℕ) → Transcribes old answered text new → IsCutShort old new (answered ++ others) text
   within : (answered others : List (List ℕ)) (line : List ℕ) (mid : ToolLinks) (text front rest : List ℕ)
-      → Answers old answered text mid → AnswersLine mid (line_of line) (front ++ rest) new → IsCutShort old new (answered ++ line ∷ others) (text ++ front)
+      → Transcribes old answered text mid → RespondsToLine mid (line_of line) (front ++ rest) new → IsCutShort old new (answered ++ line ∷ others) (text ++ front)
 
 -- A run that cannot write on: the arena is as the steps of the complete lines answered leave it, the last one included.
 pub record StopsWriting (old new : ToolLinks) (left left_after held held_after : Option (List ℕ)) : Type 0 where
@@ -53,10 +53,10 @@ pub record StopsWriting (old new : ToolLinks) (left left_after held held_after :
   pub answers : IsCutShort old new lines text
 
 -- the answers to some first lines; the next line, if it is a call, has left its step, or not
-pub data AnswersSome (old new : ToolLinks) : List (List ℕ) → List ℕ → Type 0 where
-  before : (answered others : List (List ℕ)) (text : List ℕ) → Answers old answered text new → AnswersSome old new (answered ++ others) text
+pub data TranscribesSome (old new : ToolLinks) : List (List ℕ) → List ℕ → Type 0 where
+  before : (answered others : List (List ℕ)) (text : List ℕ) → Transcribes old answered text new → TranscribesSome old new (answered ++ others) text
   after : (answered others : List (List ℕ)) (line : List ℕ) (mid : ToolLinks) (text : List ℕ)
-      → Answers old answered text mid → LeavesStep mid (line_of line) new → AnswersSome old new (answered ++ line ∷ others) text
+      → Transcribes old answered text mid → LeavesStep mid (line_of line) new → TranscribesSome old new (answered ++ line ∷ others) text
 
 -- A run without memory for a line or an answer: of the complete lines some first ones are answered.
 pub record StopsForMemory (old new : ToolLinks) (left left_after held held_after : Option (List ℕ)) : Type 0 where
@@ -66,11 +66,11 @@ pub record StopsForMemory (old new : ToolLinks) (left left_after held held_after
   pub reads : Consumes left left_after read
   pub complete : AreComplete read left_after lines
   pub writes : Appends held held_after text
-  pub answers : AnswersSome old new lines text
+  pub answers : TranscribesSome old new lines text
 
 -- how a run ends, by its result
 abbrev pub Ends : {A : Type 0} → Result A ToolError → ToolLinks → ToolLinks → Option (List ℕ) → Option (List ℕ) → Option (List ℕ) → Option (List ℕ) → Type 0
-Ends (Ok x) old new left left_after held held_after = AnswersAll old new left left_after held held_after
+Ends (Ok x) old new left left_after held held_after = TranscribesAll old new left left_after held held_after
 Ends (Err errors.Read) old new left left_after held held_after = StopsReading old new left left_after held held_after
 Ends (Err errors.Write) old new left left_after held held_after = StopsWriting old new left left_after held held_after
 Ends (Err errors.Memory) old new left left_after held held_after = StopsForMemory old new left left_after held held_after

@@ -2,7 +2,7 @@
 ghost use Rattle.std.specs.Prelude.{◌≡◌, ℕ, List, ◌⊎◌, Bool, OnOk, OnErr, codes, string_bytes};
 ghost use Rattle.arena_ptr.specs.ToolPtr.{key_of};
 ghost use Rattle.chain_commands.specs.Commands.{line_of};
-ghost use Rattle.chain_commands.specs.Responses.{Changes, Shows, Walks, TellsMoves, Gives, AnswersLine, LeavesStep, CanTake};
+ghost use Rattle.chain_commands.specs.Responses.{RespondsToCall, RespondsToShow, RespondsToChain, RespondsToMoves, RespondsToCommand, RespondsToLine, LeavesStep, HasCapacityForText};
 
 use crate::command::{Command, Line, parse};
 use crate::infallible_text::{room_for_moves, write_moves};
@@ -19,7 +19,7 @@ pub fn answer<S: SlotStack<Item = ArenaSlot<ToolPtr, LinkNoGen<ToolPtr, u32>>>>(
     line: &[u8],
     text: &mut String,
 ) -> Result<(), AllocError>
-    ensures ok { OnOk result (AnswersLine arena.old (line_of line.now)
+    ensures ok { OnOk result (RespondsToLine arena.old (line_of line.now)
         (string_bytes text.new) arena.new) }
     ensures err { OnErr result ((arena.new ≡ arena.old)
         ⊎ LeavesStep arena.old (line_of line.now) arena.new) }
@@ -41,9 +41,9 @@ fn carry_out<S: SlotStack<Item = ArenaSlot<ToolPtr, LinkNoGen<ToolPtr, u32>>>>(
     command: Command,
     text: &mut String,
 ) -> Result<(), AllocError>
-    ensures ok { OnOk result (Gives arena.old command (string_bytes text.new) arena.new) }
+    ensures ok { OnOk result (RespondsToCommand arena.old command (string_bytes text.new) arena.new) }
     ensures room { OnOk result ((reset : Bool) → command ≡ Command.Moves reset
-        → CanTake text.new (codes "\n")) }
+        → HasCapacityForText text.new (codes "\n")) }
     ensures err { OnErr result ((arena.new ≡ arena.old)
         ⊎ LeavesStep arena.old (Line.Good command) arena.new) }
 {
@@ -65,8 +65,8 @@ fn change<S: SlotStack<Item = ArenaSlot<ToolPtr, LinkNoGen<ToolPtr, u32>>>>(
     call: Call<ToolPtr, u32>,
     text: &mut String,
 ) -> Result<(), AllocError>
-    ensures ok { OnOk result (Changes arena.old call (string_bytes text.new) arena.new) }
-    ensures err { OnErr result ((words : List ℕ) × Changes arena.old call words arena.new) }
+    ensures ok { OnOk result (RespondsToCall arena.old call (string_bytes text.new) arena.new) }
+    ensures err { OnErr result ((words : List ℕ) × RespondsToCall arena.old call words arena.new) }
 {
     text.clear();
     let reply = apply(arena, call);
@@ -79,7 +79,7 @@ fn show<S: SlotStack<Item = ArenaSlot<ToolPtr, LinkNoGen<ToolPtr, u32>>>>(
     p: ToolPtr,
     text: &mut String,
 ) -> Result<(), AllocError>
-    ensures { OnOk result (Shows arena.now (key_of p) (string_bytes text.new)) }
+    ensures { OnOk result (RespondsToShow arena.now (key_of p) (string_bytes text.new)) }
 {
     text.clear();
     match arena.get_link(p) {
@@ -94,7 +94,7 @@ fn chain<S: SlotStack<Item = ArenaSlot<ToolPtr, LinkNoGen<ToolPtr, u32>>>>(
     p: ToolPtr,
     text: &mut String,
 ) -> Result<(), AllocError>
-    ensures { OnOk result (Walks arena.now (key_of p) (string_bytes text.new)) }
+    ensures { OnOk result (RespondsToChain arena.now (key_of p) (string_bytes text.new)) }
 {
     text.clear();
     match arena.iter_chain(p) {
@@ -109,8 +109,8 @@ fn moves<S: SlotStack<Item = ArenaSlot<ToolPtr, LinkNoGen<ToolPtr, u32>>>>(
     reset: bool,
     text: &mut String,
 ) -> Result<(), AllocError>
-    ensures ok { OnOk result (TellsMoves arena.old reset (string_bytes text.new) arena.new) }
-    ensures room { OnOk result (CanTake text.new (codes "\n")) }
+    ensures ok { OnOk result (RespondsToMoves arena.old reset (string_bytes text.new) arena.new) }
+    ensures room { OnOk result (HasCapacityForText text.new (codes "\n")) }
     ensures err { OnErr result (arena.new ≡ arena.old) }
 {
     text.clear();

@@ -3,7 +3,7 @@ ghost use Rattle.std.specs.Prelude.{◌≡◌, ◌+◌, ◌<◌, ◌≤◌, ◌�
 ghost use Rattle.std.specs.List.{concat};
 ghost use Rattle.std.specs.String.{string_capacity};
 ghost use Rattle.arena_ptr.specs.ToolPtr.{key_of};
-ghost use Rattle.chain_commands.specs.Responses.{greatest_index, pointer_text, move_text, moves_text, overflow_text, CanTake};
+ghost use Rattle.chain_commands.specs.Responses.{greatest_index, pointer_text, move_text, moves_text, overflow_text, HasCapacityForText};
 
 use arena_ptr::{InvalidationOption, PtrKey, ToolPtr};
 
@@ -18,7 +18,7 @@ pub fn room_for_moves(links: usize) -> usize
 
 /// Adds words to a text that has room for them.
 fn write_words(text: &mut String, words: &str)
-    requires { CanTake text.old words.now }
+    requires { HasCapacityForText text.old words.now }
     ensures bytes { string_bytes text.new ≡ string_bytes text.old ++ words.now }
     ensures capacity { string_capacity text.old ≤ string_capacity text.new }
 {
@@ -28,7 +28,7 @@ fn write_words(text: &mut String, words: &str)
 /// Adds a digit to a text that has room for it.
 fn write_digit(text: &mut String, digit: usize)
     requires below { digit < 10 }
-    requires room { CanTake text.old ((48 + digit) ∷ []) }
+    requires room { HasCapacityForText text.old ((48 + digit) ∷ []) }
     ensures bytes { string_bytes text.new ≡ string_bytes text.old ++ (48 + digit) ∷ [] }
     ensures capacity { string_capacity text.old ≤ string_capacity text.new }
 {
@@ -38,7 +38,7 @@ fn write_digit(text: &mut String, digit: usize)
 
 /// Adds a number, in decimal digits, to a text that has room for them.
 fn write_decimal(text: &mut String, n: usize)
-    requires { CanTake text.old (decimal n) }
+    requires { HasCapacityForText text.old (decimal n) }
     ensures bytes { string_bytes text.new ≡ string_bytes text.old ++ decimal n }
     ensures capacity { string_capacity text.old ≤ string_capacity text.new }
 {
@@ -52,7 +52,7 @@ fn write_decimal(text: &mut String, n: usize)
 
 /// Adds a pointer to a text that has room for it.
 fn write_pointer(text: &mut String, p: ToolPtr)
-    requires { CanTake text.old (pointer_text (key_of p)) }
+    requires { HasCapacityForText text.old (pointer_text (key_of p)) }
     ensures bytes { string_bytes text.new ≡ string_bytes text.old ++ pointer_text (key_of p) }
     ensures capacity { string_capacity text.old ≤ string_capacity text.new }
 {
@@ -63,7 +63,7 @@ fn write_pointer(text: &mut String, p: ToolPtr)
 
 /// Adds the old and the new pointer of a link to a text that has room for them.
 fn write_move(text: &mut String, from: ToolPtr, to: ToolPtr)
-    requires { CanTake text.old (move_text (from, to)) }
+    requires { HasCapacityForText text.old (move_text (from, to)) }
     ensures bytes { string_bytes text.new ≡ string_bytes text.old ++ move_text (from, to) }
     ensures capacity { string_capacity text.old ≤ string_capacity text.new }
 {
@@ -75,7 +75,7 @@ fn write_move(text: &mut String, from: ToolPtr, to: ToolPtr)
 
 /// Adds the old and the new pointers of links to a text that has room for them.
 fn write_each(text: &mut String, moves: &[(ToolPtr, ToolPtr)])
-    requires { CanTake text.old (concat (map move_text moves.now)) }
+    requires { HasCapacityForText text.old (concat (map move_text moves.now)) }
     ensures bytes { string_bytes text.new ≡ string_bytes text.old ++ concat
         (map move_text moves.now) }
     ensures capacity { string_capacity text.old ≤ string_capacity text.new }
@@ -99,7 +99,7 @@ fn overflow(told: InvalidationOption<()>) -> &'static str
 
 /// Adds to a text that has room for it how many links got other pointers, which, and whether the counter has overflowed.
 pub fn write_moves(text: &mut String, moves: &[(ToolPtr, ToolPtr)], told: InvalidationOption<()>)
-    requires { CanTake text.old (moves_text moves.now told) }
+    requires { HasCapacityForText text.old (moves_text moves.now told) }
     ensures bytes { string_bytes text.new ≡ string_bytes text.old ++ moves_text moves.now told }
     ensures capacity { string_capacity text.old ≤ string_capacity text.new }
 {

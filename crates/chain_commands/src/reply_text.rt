@@ -2,7 +2,7 @@
 ghost use Rattle.std.specs.Prelude.{◌≡◌, ◌++◌, OnOk, string_bytes, option_map};
 ghost use Rattle.arena_ptr.specs.ToolPtr.{key_of};
 ghost use Rattle.chain_arena.specs.declared.calls.Reply.TheVariants.{Inserted, Drained, Reserved};
-ghost use Rattle.chain_commands.specs.Responses.{pointer_text, at_text, value_text, told_text, counted_text, refusal_text, growth_refusal_text, reply_text, neighbor_text, show_text, passed_text, walk_text};
+ghost use Rattle.chain_commands.specs.Responses.{pointer_text, at_text, value_text, invalidation_text, counted_text, refusal_text, growth_refusal_text, reply_text, neighbor_text, show_text, passed_text, walk_text};
 
 use arena_base::ArenaSlot;
 use arena_ptr::{
@@ -136,7 +136,7 @@ fn push_removed(
     text: &mut String,
     answer: InvalidationResult<LinkNoGen<ToolPtr, u32>>,
 ) -> Result<(), AllocError>
-    ensures { OnOk result (string_bytes text.new ≡ string_bytes text.old ++ told_text
+    ensures { OnOk result (string_bytes text.new ≡ string_bytes text.old ++ invalidation_text
         (λ link. value_text link.t) answer) }
 {
     match answer {
@@ -151,7 +151,7 @@ fn push_removed_inx(
     text: &mut String,
     answer: InvalidationResult<(Gen32, LinkNoGen<ToolPtr, u32>)>,
 ) -> Result<(), AllocError>
-    ensures { OnOk result (string_bytes text.new ≡ string_bytes text.old ++ told_text
+    ensures { OnOk result (string_bytes text.new ≡ string_bytes text.old ++ invalidation_text
         (λ e. value_text e.1.t) answer) }
 {
     match answer {
@@ -165,7 +165,7 @@ fn push_removed_inx(
 
 /// Adds the new pointer of a link to a text, and whether the counter has overflowed.
 fn push_renewed(text: &mut String, answer: InvalidationResult<ToolPtr>) -> Result<(), AllocError>
-    ensures { OnOk result (string_bytes text.new ≡ string_bytes text.old ++ told_text at_text
+    ensures { OnOk result (string_bytes text.new ≡ string_bytes text.old ++ invalidation_text at_text
         answer) }
 {
     match answer {

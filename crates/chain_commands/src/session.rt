@@ -4,7 +4,7 @@ ghost use Rattle.std.specs.Io.KnownBytes.{Appends, Consumes, Keeps, IsAtEnd};
 ghost use Rattle.arena_ptr.specs.Generations.{two32};
 ghost use Rattle.arena_base.specs.Arena.{new_arena};
 ghost use Rattle.chain_commands.specs.Responses.{ToolLinks};
-ghost use Rattle.chain_commands.specs.Progress.{AnswersOne, ComesOn, EndsFirst, IsNoEnd};
+ghost use Rattle.chain_commands.specs.Progress.{TranscribesOne, ExtendsProgress, EndsFirst, IsNoEnd};
 ghost use Rattle.chain_commands.specs.Transcripts.{Ends};
 
 use crate::execute::answer;
@@ -59,7 +59,7 @@ fn reply<W: Write, S: SlotStack<Item = ArenaSlot<ToolPtr, LinkNoGen<ToolPtr, u32
     text: &mut String,
     writer: &mut W,
 ) -> Result<(), ToolError>
-    ensures { AnswersOne result arena.old arena.new line.now (W.contents writer.old)
+    ensures { TranscribesOne result arena.old arena.new line.now (W.contents writer.old)
         (W.contents writer.new) }
 {
     match answer(arena, line, text) {
@@ -91,7 +91,7 @@ fn end_line<W: Write, S: SlotStack<Item = ArenaSlot<ToolPtr, LinkNoGen<ToolPtr, 
     writer: &mut W,
 ) -> Result<(), ToolError>
     ensures answered { (rest : List ℕ) → line.old.items ≡ take 201 rest
-        → AnswersOne result arena.old arena.new (rest ++ front.now) (W.contents writer.old)
+        → TranscribesOne result arena.old arena.new (rest ++ front.now) (W.contents writer.old)
         (W.contents writer.new) }
     ensures empty { OnOk result (line.new.items ≡ []) }
 {
@@ -124,7 +124,7 @@ fn feed<W: Write, S: SlotStack<Item = ArenaSlot<ToolPtr, LinkNoGen<ToolPtr, u32>
     text: &mut String,
     writer: &mut W,
 ) -> Result<(), ToolError>
-    ensures { ComesOn result piece.now arena.old line.old.items (W.contents writer.old) arena.new
+    ensures { ExtendsProgress result piece.now arena.old line.old.items (W.contents writer.old) arena.new
         line.new.items (W.contents writer.new) }
 {
     let mut left = piece;
@@ -169,7 +169,7 @@ fn finish<W: Write, S: SlotStack<Item = ArenaSlot<ToolPtr, LinkNoGen<ToolPtr, u3
     text: &mut String,
     writer: &mut W,
 ) -> Result<(), ToolError>
-    ensures { AnswersOne result arena.old arena.new line.now (W.contents writer.old)
+    ensures { TranscribesOne result arena.old arena.new line.now (W.contents writer.old)
         (W.contents writer.new) }
 {
     reply(arena, line, text, writer)?;

@@ -3,7 +3,7 @@ use Rattle.std.proofs.Common.{◌≡◌, ℕ, zero, suc, ◌+◌, ◌≤◌, inl
 use Rattle.std.specs.Prelude.{slice_index_or}
 use Rattle.std.specs.Option.{option_map}
 use Rattle.std.proofs.lemmas.List.{length-map}
-use Rattle.chain_laws.specs.Chains.{Has, HasNoRepetition}
+use Rattle.chain_laws.specs.Chains.{IsMember, AreDistinct}
 use Rattle.chain_laws.specs.Arrangements.{place_from}
 use Rattle.chain_laws.proofs.WalkLemmas.WalkBack.{length_among}
 use Rattle.chain_laws.proofs.RenamingLemmas.Positions.{place-same, place-other, place-has}
@@ -13,25 +13,25 @@ use Rattle.arena_base.proofs.ArenaViewLemmas.{length-entries}
 
 module _ {Gen X : Type 0} where
   -- the indexes of the entries in slots rise
-  indexes-low : (slots : List (Option (Gen × X))) (i j : ℕ) → Has (map index_of (entries_from i slots)) j → i ≤ j
+  indexes-low : (slots : List (Option (Gen × X))) (i j : ℕ) → IsMember (map index_of (entries_from i slots)) j → i ≤ j
   indexes-low [] i j h = absurd h
   indexes-low (None ∷ slots) i j h = let low = indexes-low slots (suc i) j h in omega (arith, low)
   indexes-low (Some e ∷ slots) i j (inl same) = omega (arith, same)
   indexes-low (Some e ∷ slots) i j (inr h) = let low = indexes-low slots (suc i) j h in omega (arith, low)
 
-  indexes-once : (slots : List (Option (Gen × X))) (i : ℕ) → HasNoRepetition (map index_of (entries_from i slots))
+  indexes-once : (slots : List (Option (Gen × X))) (i : ℕ) → AreDistinct (map index_of (entries_from i slots))
   indexes-once [] i = tt
   indexes-once (None ∷ slots) i = indexes-once slots (suc i)
   indexes-once (Some e ∷ slots) i = (λ h. let low = indexes-low slots (suc i) i h in omega (arith, low), indexes-once slots (suc i))
 
   -- and are exactly those where an entry stands
-  indexes-stand : (slots : List (Option (Gen × X))) (i j : ℕ) → Has (map index_of (entries_from i slots)) j → (k : ℕ) × (e : Gen × X) × (i + k ≡ j) × (slice_index_or slots k None ≡ Some e)
+  indexes-stand : (slots : List (Option (Gen × X))) (i j : ℕ) → IsMember (map index_of (entries_from i slots)) j → (k : ℕ) × (e : Gen × X) × (i + k ≡ j) × (slice_index_or slots k None ≡ Some e)
   indexes-stand [] i j h = absurd h
   indexes-stand (None ∷ slots) i j h = let w = indexes-stand slots (suc i) j h in (suc w.0, w.1, omega (arith, w.2), w.3)
   indexes-stand (Some e ∷ slots) i j (inl same) = (0, e, omega (arith, same), refl)
   indexes-stand (Some e ∷ slots) i j (inr h) = let w = indexes-stand slots (suc i) j h in (suc w.0, w.1, omega (arith, w.2), w.3)
 
-  stand-indexes : (slots : List (Option (Gen × X))) (i j k : ℕ) (e : Gen × X) → i + k ≡ j → slice_index_or slots k None ≡ Some e → Has (map index_of (entries_from i slots)) j
+  stand-indexes : (slots : List (Option (Gen × X))) (i j k : ℕ) (e : Gen × X) → i + k ≡ j → slice_index_or slots k None ≡ Some e → IsMember (map index_of (entries_from i slots)) j
   stand-indexes [] i j k e at is = absurd (let h = is in cc)
   stand-indexes (None ∷ slots) i j zero e at is = absurd (let h = is in cc)
   stand-indexes (None ∷ slots) i j (suc k) e at is = stand-indexes slots (suc i) j k e (omega (arith, at)) is
@@ -39,8 +39,8 @@ module _ {Gen X : Type 0} where
   stand-indexes (Some d ∷ slots) i j (suc k) e at is = inr (stand-indexes slots (suc i) j k e (omega (arith, at)) is)
 
   -- a list that has the index of each entry, once, and no other, is as long as there are entries
-  pub count-standing : (a : Arena Gen X) (indexes : List ℕ) → HasNoRepetition indexes → ((i : ℕ) (e : Gen × X) → slot_at a.slots i ≡ Some e → Has indexes i)
-      → ((i : ℕ) → Has indexes i → (e : Gen × X) × (slot_at a.slots i ≡ Some e)) → entry_count a ≡ length indexes
+  pub count-standing : (a : Arena Gen X) (indexes : List ℕ) → AreDistinct indexes → ((i : ℕ) (e : Gen × X) → slot_at a.slots i ≡ Some e → IsMember indexes i)
+      → ((i : ℕ) → IsMember indexes i → (e : Gen × X) × (slot_at a.slots i ≡ Some e)) → entry_count a ≡ length indexes
   count-standing a indexes once each all = omega (arith, length-entries a, length-map (entries_from 1 a.slots) index_of, most, least)
     where
       most : length (map index_of (entries_from 1 a.slots)) ≤ length indexes
@@ -50,12 +50,12 @@ module _ {Gen X : Type 0} where
       least : length indexes ≤ length (map index_of (entries_from 1 a.slots))
       least = length_among indexes (map index_of (entries_from 1 a.slots)) once (λ i h. let w = all i h in by i w.0 w.1)
         where
-          by : (i : ℕ) (e : Gen × X) → slot_at a.slots i ≡ Some e → Has (map index_of (entries_from 1 a.slots)) i
+          by : (i : ℕ) (e : Gen × X) → slot_at a.slots i ≡ Some e → IsMember (map index_of (entries_from 1 a.slots)) i
           by zero e is = absurd (let h = is in cc)
           by (suc k) e is = stand-indexes a.slots 1 (suc k) k e (omega arith) is
 
 -- slots in which at the place of each item stands what is given at it
-pub slots-filled : {X : Type 0} (given : ℕ → Option X) (xs : List ℕ) (n : ℕ) (slots : List (Option X)) → HasNoRepetition xs → length slots ≡ length xs
+pub slots-filled : {X : Type 0} (given : ℕ → Option X) (xs : List ℕ) (n : ℕ) (slots : List (Option X)) → AreDistinct xs → length slots ≡ length xs
     → ((i k : ℕ) → place_from (suc n) xs i ≡ Some (suc n + k) → slice_index_or slots k None ≡ given i) → slots ≡ map given xs
 slots-filled given [] n [] once same each = refl
 slots-filled given [] n (s ∷ slots) once same each = absurd (omega (arith, same))
@@ -68,11 +68,11 @@ slots-filled {X} given (x ∷ xs) n (s ∷ slots) once same each =
 
     rest : (i k : ℕ) → place_from (suc (suc n)) xs i ≡ Some (suc (suc n) + k) → slice_index_or slots k None ≡ given i
     rest i k e =
-        each i (suc k) (place-other (suc n) x xs i (λ same. once.0 (subst (Has xs) (sym same) (place-has (suc (suc n)) xs i (suc (suc n) + k) e)))
+        each i (suc k) (place-other (suc n) x xs i (λ same. once.0 (subst (IsMember xs) (sym same) (place-has (suc (suc n)) xs i (suc (suc n) + k) e)))
         ∙ (e ∙ ap (λ (m : ℕ). Some m) (let e : suc (suc n) + k ≡ suc n + suc k = omega arith in e)))
 
 -- the values at some indexes, where something stands at each
-pub values-given : {Gen T : Type 0} (g : Gen) (given : ℕ → Option (Gen × T)) (xs : List ℕ) → ((i : ℕ) → Has xs i → (e : Gen × T) × (given i ≡ Some e))
+pub values-given : {Gen T : Type 0} (g : Gen) (given : ℕ → Option (Gen × T)) (xs : List ℕ) → ((i : ℕ) → IsMember xs i → (e : Gen × T) × (given i ≡ Some e))
     → (values : List T) × (map (λ t. Some t) values ≡ map (λ i. option_map (λ (e : Gen × T). e.1) (given i)) xs)
     × (map {B = Option (Gen × T)} (λ t. Some (g, t)) values ≡ map {B = Option (Gen × T)} (λ i. option_map (λ (e : Gen × T). (g, e.1)) (given i)) xs) × (length values ≡ length xs)
 values-given g given [] all = ([], refl, refl, refl)

@@ -5,12 +5,12 @@ use Rattle.std.specs.Option.{option_map, option_and_then}
 use Rattle.std.specs.List.{range_with_len}
 use Rattle.std.proofs.lemmas.List.{length-map, append-nil}
 use mathlib.Core.Path.{fun_ext}
-use Rattle.chain_laws.specs.Chains.{Shown, Interlinks, Has, HasNoRepetition, Agrees}
+use Rattle.chain_laws.specs.Chains.{LinkMap, Interlinks, IsMember, AreDistinct, IsWellLinked}
 use Rattle.chain_laws.specs.Renamings.{IsRenaming}
 use Rattle.chain_laws.specs.Arrangements.{place_in, IsArrangement, IsLeastIndexOrder}
 use Rattle.chain_laws.proofs.ListLemmas.Members.{length_bound}
 use Rattle.chain_laws.proofs.RenamingLemmas.Images.{image_of}
-use Rattle.chain_laws.proofs.ListLemmas.Ranges.{range-Has}
+use Rattle.chain_laws.proofs.ListLemmas.Ranges.{range-IsMember}
 use Rattle.chain_laws.proofs.RenamingLemmas.Positions.{place-within, place-has, has-place, place-numbers, places_are_apart}
 use Rattle.chain_laws.proofs.RenamingLemmas.ChainRuns.{canonical_arranges}
 use Rattle.chain_laws.proofs.RenamingLemmas.LeastIndexOrder.{least_index_order_is_canonical}
@@ -18,13 +18,13 @@ use Rattle.arena_base.specs.Arena.{Arena, slot_at}
 use Rattle.arena_base.specs.DetachedSlots.{Held, IsPacked, trimmed, free_from, held_of, lent_out, returned}
 use Rattle.arena_base.specs.GatheredSlots.{with_totals, fronted}
 use Rattle.chain_links.specs.declared.links.LinkBody.{LinkBody}
-use Rattle.chain_links.specs.ChainArena.{LinkSeen, on_value, link_value, interlinks_of, shown, values_of, entry, ptr_at}
-use Rattle.chain_links.specs.Links.{seen_pair, seen_links}
-use Rattle.chain_compaction.specs.DetachedLinks.{interlinks_seen, shown_in, IsWork}
+use Rattle.chain_links.specs.ChainArena.{LinkView, on_value, link_value, interlinks_of, link_map, values_of, entry, ptr_at}
+use Rattle.chain_links.specs.Links.{pair_view, links_view}
+use Rattle.chain_compaction.specs.DetachedLinks.{body_interlinks, link_map_in, IsWork}
 use Rattle.chain_compaction.specs.WorkCounts.{HasCounted, CountsOn}
-use Rattle.chain_compaction.specs.Layouts.{ShowsMoves, AreLaidOut}
-use Rattle.chain_compaction.specs.Permutations.{Waits, HaveMoved, CanMoveAll, GoToFront, goal_of, Settles}
-use Rattle.chain_compaction.specs.Destinations.{seen_held, renamed_link, renamed_held, given, AreAllNumbered}
+use Rattle.chain_compaction.specs.Layouts.{ReportsMoves, AreArranged}
+use Rattle.chain_compaction.specs.Permutations.{Waits, HaveMoved, CanMoveAll, GoToFront, destination_of, Settles}
+use Rattle.chain_compaction.specs.Destinations.{held_view, renamed_link, renamed_held, destination_at, AreAllNumbered}
 use Rattle.chain_links.proofs.MappedArenaLemmas.{slot_at-map}
 use Rattle.chain_links.proofs.ArenaInsertionLemmas.{some_entry, slots-within}
 use Rattle.chain_compaction.proofs.DetachedLinkLemmas.{work-more}
@@ -37,19 +37,19 @@ use Rattle.chain_compaction.proofs.ArrangementLemmas.{count-standing, slots-fill
 -- ---- links that have come to their places
 
 -- what links in slots show
-abbrev pub shown_slots : {Gen T : Type 0} → List (Option (Gen × LinkSeen T)) → Shown
+abbrev pub shown_slots : {Gen T : Type 0} → List (Option (Gen × LinkView T)) → LinkMap
 shown_slots slots i = option_map interlinks_of (slot_at slots i)
 
-module _ {Gen T : Type 0} (g : Gen) (old new : List (Option (Gen × LinkSeen T))) (indexes : List ℕ) (arranges : IsArrangement (shown_slots old) indexes) (long : length new ≡ length indexes)
-    (sent : (i d : ℕ) (x : Gen × LinkSeen T) → place_in indexes i ≡ Some d → slot_at old i ≡ Some x → slot_at new d ≡ Some (g, renamed_link (place_in indexes) x.1)) where
+module _ {Gen T : Type 0} (g : Gen) (old new : List (Option (Gen × LinkView T))) (indexes : List ℕ) (arranges : IsArrangement (shown_slots old) indexes) (long : length new ≡ length indexes)
+    (sent : (i d : ℕ) (x : Gen × LinkView T) → place_in indexes i ≡ Some d → slot_at old i ≡ Some x → slot_at new d ≡ Some (g, renamed_link (place_in indexes) x.1)) where
   -- the entries of the values alone
   abbrev value_at : ℕ → Option (Gen × T)
   value_at i = slot_at (map (option_map (on_value link_value)) old) i
 
-  stands : (i : ℕ) → Has indexes i → (x : Gen × LinkSeen T) × (slot_at old i ≡ Some x)
+  stands : (i : ℕ) → IsMember indexes i → (x : Gen × LinkView T) × (slot_at old i ≡ Some x)
   stands i h = let v = (arranges.valid i).1 h in some_entry interlinks_of (slot_at old i) v.link v.shows
 
-  value_stands : (i : ℕ) → Has indexes i → (e : Gen × T) × (value_at i ≡ Some e)
+  value_stands : (i : ℕ) → IsMember indexes i → (e : Gen × T) × (value_at i ≡ Some e)
   value_stands i h = let x = stands i h in (on_value link_value x.0, slot_at-map (on_value link_value) old i ∙ ap (option_map (on_value link_value)) x.1)
 
   laid_at : (i k : ℕ) → place_in indexes i ≡ Some (suc k) → slice_index_or (map (option_map (on_value link_value)) new) k None ≡ option_map (λ (e : Gen × T). (g, e.1)) (value_at i)
@@ -71,7 +71,7 @@ module _ {Gen T : Type 0} (g : Gen) (old new : List (Option (Gen × LinkSeen T))
     each = λ i v. has-place 1 indexes i ((arranges.valid i).0 v);
     onto = λ k v.
         let w = (slots-within interlinks_of new).within k v in
-        let from = image_of (place_in indexes) indexes (range_with_len 1 (length indexes)) k (place-numbers 1 indexes arranges.once) (range-Has 1 (length indexes) k w.0 (omega (arith, w.1, long))) in
+        let from = image_of (place_in indexes) indexes (range_with_len 1 (length indexes)) k (place-numbers 1 indexes arranges.once) (range-IsMember 1 (length indexes) k w.0 (omega (arith, w.1, long))) in
         (from.0, (arranges.valid from.0).1 from.1, from.2);
     carries = λ i k before after shows e.
         let x = some_entry interlinks_of (slot_at old i) (record { prev = before; next = after }) shows in
@@ -92,19 +92,19 @@ three_counted a0 a1 a2 a3 p0 p1 p2 p3 t0 t1 t2 t3 no_placement no_touch one two 
 
 -- ---- links that are to move
 
-module _ {Gen K T : Type 0} (number : K → Option ℕ) (slots : List (Option (Gen × LinkBody K T))) (indexes : List ℕ) (once : HasNoRepetition indexes)
-    (places : (j : ℕ) → given number slots j ≡ place_in indexes j) (each : (i : ℕ) (e : Gen × LinkBody K T) → slot_at slots i ≡ Some e → Has indexes i) where
-  waits_for : (i d : ℕ) → place_in indexes i ≡ Some d → (e : Gen × LinkBody K T) × Waits (goal_of number) (slot_at slots) i e d
+module _ {Gen K T : Type 0} (number : K → Option ℕ) (slots : List (Option (Gen × LinkBody K T))) (indexes : List ℕ) (once : AreDistinct indexes)
+    (places : (j : ℕ) → destination_at number slots j ≡ place_in indexes j) (each : (i : ℕ) (e : Gen × LinkBody K T) → slot_at slots i ≡ Some e → IsMember indexes i) where
+  waits_for : (i d : ℕ) → place_in indexes i ≡ Some d → (e : Gen × LinkBody K T) × Waits (destination_of number) (slot_at slots) i e d
   waits_for i d at = by (slot_at slots i) refl (places i ∙ at)
     where
-      by : (o : Option (Gen × LinkBody K T)) → slot_at slots i ≡ o → option_and_then (goal_of number) o ≡ Some d → (e : Gen × LinkBody K T) × Waits (goal_of number) (slot_at slots) i e d
+      by : (o : Option (Gen × LinkBody K T)) → slot_at slots i ≡ o → option_and_then (destination_of number) o ≡ Some d → (e : Gen × LinkBody K T) × Waits (destination_of number) (slot_at slots) i e d
       by None is goes = absurd (let h = goes in cc)
       by (Some e) is goes = (e, record { stands = is; to = goes })
 
-  place_of : (i d : ℕ) (e : Gen × LinkBody K T) → Waits (goal_of number) (slot_at slots) i e d → place_in indexes i ≡ Some d
-  place_of i d e w = sym (places i) ∙ (ap (option_and_then (goal_of number)) w.stands ∙ w.to)
+  place_of : (i d : ℕ) (e : Gen × LinkBody K T) → Waits (destination_of number) (slot_at slots) i e d → place_in indexes i ≡ Some d
+  place_of i d e w = sym (places i) ∙ (ap (option_and_then (destination_of number)) w.stands ∙ w.to)
 
-  has_entry : (i : ℕ) → Has indexes i → (e : Gen × LinkBody K T) × (slot_at slots i ≡ Some e)
+  has_entry : (i : ℕ) → IsMember indexes i → (e : Gen × LinkBody K T) × (slot_at slots i ≡ Some e)
   has_entry i h =
       let place = has-place 1 indexes i h in
       let w = waits_for i place.0 place.1 in
@@ -113,20 +113,20 @@ module _ {Gen K T : Type 0} (number : K → Option ℕ) (slots : List (Option (G
   few_indexes : length indexes ≤ length slots
   few_indexes =
       length_bound indexes (length slots) once
-      (λ i h. let e = has_entry i h in (slots-within (interlinks_seen number) slots).within i (record { link = interlinks_seen number e.0; shows = ap (option_map (interlinks_seen number)) e.1 }))
+      (λ i h. let e = has_entry i h in (slots-within (body_interlinks number) slots).within i (record { link = body_interlinks number e.0; shows = ap (option_map (body_interlinks number)) e.1 }))
 
-  can_move : CanMoveAll (goal_of number) slots
+  can_move : CanMoveAll (destination_of number) slots
   can_move = record {
     apart = λ i j d e f w v. places_are_apart indexes i j d (place_of i d e w) (place_of j d f v);
     within = record { within = λ i d e w. let p = place-within 1 indexes i d (place_of i d e w) in (p.0, omega (arith, p.1, few_indexes)) };
-    each = λ i e s. let p = has-place 1 indexes i (each i e s) in (p.0, sym (ap (option_and_then (goal_of number)) s) ∙ (places i ∙ p.1));
+    each = λ i e s. let p = has-place 1 indexes i (each i e s) in (p.0, sym (ap (option_and_then (destination_of number)) s) ∙ (places i ∙ p.1));
   }
 
-  go_to_front : GoToFront (goal_of number) slots (length indexes)
+  go_to_front : GoToFront (destination_of number) slots (length indexes)
   go_to_front = record {
     few = λ i d e w. let p = place-within 1 indexes i d (place_of i d e w) in omega (arith, p.1);
     each = λ d low high.
-        let from = image_of (place_in indexes) indexes (range_with_len 1 (length indexes)) d (place-numbers 1 indexes once) (range-Has 1 (length indexes) d low (omega (arith, high))) in
+        let from = image_of (place_in indexes) indexes (range_with_len 1 (length indexes)) d (place-numbers 1 indexes once) (range-IsMember 1 (length indexes) d low (omega (arith, high))) in
         let w = waits_for from.0 d from.2 in
         (from.0, w.0, w.1);
   }
@@ -135,66 +135,66 @@ module _ {Gen K T : Type 0} (number : K → Option ℕ) (slots : List (Option (G
 
 module _ {Gen K T : Type 0} (number : K → Option ℕ) where
   -- what slots show is told by the links as contracts see them
-  pub shown-seen : (held : Held Gen (LinkBody K T)) → shown_in number held.slots ≡ shown_slots (seen_held number held).slots
-  shown-seen held = fun_ext (λ i. twice (slot_at held.slots i) ∙ sym (ap (option_map interlinks_of) (slot_at-map (seen_pair number) held.slots i)))
+  pub link_map-seen : (held : Held Gen (LinkBody K T)) → link_map_in number held.slots ≡ shown_slots (held_view number held).slots
+  link_map-seen held = fun_ext (λ i. twice (slot_at held.slots i) ∙ sym (ap (option_map interlinks_of) (slot_at-map (pair_view number) held.slots i)))
     where
-      twice : (o : Option (Gen × LinkBody K T)) → option_map (interlinks_seen number) o ≡ option_map interlinks_of (option_map (seen_pair number) o)
+      twice : (o : Option (Gen × LinkBody K T)) → option_map (body_interlinks number) o ≡ option_map interlinks_of (option_map (pair_view number) o)
       twice None = refl
       twice (Some e) = refl
 
   -- .. and there are as many slots where the links are renamed
-  pub length-renamed : (to : ℕ → Option ℕ) (one other : Held Gen (LinkBody K T)) → seen_held number one ≡ renamed_held to (seen_held number other) → length one.slots ≡ length other.slots
+  pub length-renamed : (to : ℕ → Option ℕ) (one other : Held Gen (LinkBody K T)) → held_view number one ≡ renamed_held to (held_view number other) → length one.slots ≡ length other.slots
   length-renamed to one other renamed =
-      sym (length-map one.slots (option_map (seen_pair number)))
-      ∙ (ap (λ (h : Held Gen (LinkSeen T)). length h.slots) renamed
-      ∙ (length-map (seen_held number other).slots (option_map (on_value (renamed_link to))) ∙ length-map other.slots (option_map (seen_pair number))))
+      sym (length-map one.slots (option_map (pair_view number)))
+      ∙ (ap (λ (h : Held Gen (LinkView T)). length h.slots) renamed
+      ∙ (length-map (held_view number other).slots (option_map (on_value (renamed_link to))) ∙ length-map other.slots (option_map (pair_view number))))
 
   -- the pointers are told by what is seen
-  ptr-seen : (held : Held Gen (LinkBody K T)) (i : ℕ) → ptr_at (slot_at held.slots) i ≡ ptr_at (slot_at (map (option_map (on_value link_value)) (seen_held number held).slots)) i
+  ptr-seen : (held : Held Gen (LinkBody K T)) (i : ℕ) → ptr_at (slot_at held.slots) i ≡ ptr_at (slot_at (map (option_map (on_value link_value)) (held_view number held).slots)) i
   ptr-seen held i =
       twice (slot_at held.slots i)
-      ∙ sym (ap (option_map (λ (e : Gen × T). (i, e.0))) (slot_at-map (on_value link_value) (seen_held number held).slots i ∙ ap (option_map (on_value link_value)) (slot_at-map (seen_pair number) held.slots i)))
+      ∙ sym (ap (option_map (λ (e : Gen × T). (i, e.0))) (slot_at-map (on_value link_value) (held_view number held).slots i ∙ ap (option_map (on_value link_value)) (slot_at-map (pair_view number) held.slots i)))
     where
-      twice : (o : Option (Gen × LinkBody K T)) → option_map {U = ℕ × Gen} (λ (e : Gen × LinkBody K T). (i, e.0)) o ≡ option_map {U = ℕ × Gen} (λ (e : Gen × T). (i, e.0)) (option_map (on_value link_value) (option_map (seen_pair number) o))
+      twice : (o : Option (Gen × LinkBody K T)) → option_map {U = ℕ × Gen} (λ (e : Gen × LinkBody K T). (i, e.0)) o ≡ option_map {U = ℕ × Gen} (λ (e : Gen × T). (i, e.0)) (option_map (on_value link_value) (option_map (pair_view number) o))
       twice None = refl
       twice (Some e) = refl
 
   -- links that are seen alike agree alike
-  pub agree-seen : (a : Arena Gen (LinkBody K T)) (before after : Held Gen (LinkBody K T)) → before ≡ held_of a → seen_held number after ≡ seen_held number before
-      → Agrees (shown (seen_links number a)) → Agrees (shown_in number after.slots)
+  pub agree-seen : (a : Arena Gen (LinkBody K T)) (before after : Held Gen (LinkBody K T)) → before ≡ held_of a → held_view number after ≡ held_view number before
+      → IsWellLinked (link_map (links_view number a)) → IsWellLinked (link_map_in number after.slots)
   agree-seen a before after is same agrees =
-      subst Agrees (ap (λ (h : Held Gen (LinkSeen T)). shown_slots h.slots) (sym (same ∙ ap (seen_held number) is)) ∙ sym (shown-seen after)) agrees
+      subst IsWellLinked (ap (λ (h : Held Gen (LinkView T)). shown_slots h.slots) (sym (same ∙ ap (held_view number) is)) ∙ sym (link_map-seen after)) agrees
 
 module _ {F P Gen K T : Type 0} (g : F → P → P → F → Type 0) (key : P → ℕ × Gen) (f last : F) (number : K → Option ℕ) (generation : Gen) (h1 h2 : Held Gen (LinkBody K T))
-    (old a1 a2 : Arena Gen (LinkBody K T)) (total : ℕ) (emptied : seen_held number h1 ≡ seen_held number (held_of old)) (numbered : AreAllNumbered number g key generation f last h1 h2 a1 a2 total) where
-  abbrev first_slots : List (Option (Gen × LinkSeen T))
-  first_slots = (seen_links number old).slots
+    (old a1 a2 : Arena Gen (LinkBody K T)) (total : ℕ) (emptied : held_view number h1 ≡ held_view number (held_of old)) (numbered : AreAllNumbered number g key generation f last h1 h2 a1 a2 total) where
+  abbrev first_slots : List (Option (Gen × LinkView T))
+  first_slots = (links_view number old).slots
 
   first_order : IsLeastIndexOrder (shown_slots first_slots) numbered.indexes
-  first_order = subst (λ (s : Shown). IsLeastIndexOrder s numbered.indexes) (shown-seen number h1 ∙ ap (λ (h : Held Gen (LinkSeen T)). shown_slots h.slots) emptied) numbered.order
+  first_order = subst (λ (s : LinkMap). IsLeastIndexOrder s numbered.indexes) (link_map-seen number h1 ∙ ap (λ (h : Held Gen (LinkView T)). shown_slots h.slots) emptied) numbered.order
 
   first_arranges : IsArrangement (shown_slots first_slots) numbered.indexes
   first_arranges = canonical_arranges (shown_slots first_slots) numbered.indexes (least_index_order_is_canonical (shown_slots first_slots) numbered.indexes first_order)
 
-  all_renamed : seen_held number h2 ≡ renamed_held (place_in numbered.indexes) (seen_held number (held_of old))
+  all_renamed : held_view number h2 ≡ renamed_held (place_in numbered.indexes) (held_view number (held_of old))
   all_renamed = numbered.renamed ∙ ap (renamed_held (place_in numbered.indexes)) emptied
 
-  renamed_there : (i : ℕ) → option_map (seen_pair number) (slot_at h2.slots i) ≡ option_map (on_value (renamed_link (place_in numbered.indexes))) (slot_at first_slots i)
+  renamed_there : (i : ℕ) → option_map (pair_view number) (slot_at h2.slots i) ≡ option_map (on_value (renamed_link (place_in numbered.indexes))) (slot_at first_slots i)
   renamed_there i =
-      sym (slot_at-map (seen_pair number) h2.slots i)
-      ∙ (ap (λ (h : Held Gen (LinkSeen T)). slot_at h.slots i) all_renamed ∙ slot_at-map (on_value (renamed_link (place_in numbered.indexes))) first_slots i)
+      sym (slot_at-map (pair_view number) h2.slots i)
+      ∙ (ap (λ (h : Held Gen (LinkView T)). slot_at h.slots i) all_renamed ∙ slot_at-map (on_value (renamed_link (place_in numbered.indexes))) first_slots i)
 
-  each_placed : (i : ℕ) (e : Gen × LinkBody K T) → slot_at h2.slots i ≡ Some e → Has numbered.indexes i
-  each_placed i e s = by (slot_at first_slots i) refl (sym (ap (option_map (seen_pair number)) s) ∙ renamed_there i)
+  each_placed : (i : ℕ) (e : Gen × LinkBody K T) → slot_at h2.slots i ≡ Some e → IsMember numbered.indexes i
+  each_placed i e s = by (slot_at first_slots i) refl (sym (ap (option_map (pair_view number)) s) ∙ renamed_there i)
     where
-      by : (o : Option (Gen × LinkSeen T)) → slot_at first_slots i ≡ o → Some (seen_pair number e) ≡ option_map (on_value (renamed_link (place_in numbered.indexes))) o → Has numbered.indexes i
+      by : (o : Option (Gen × LinkView T)) → slot_at first_slots i ≡ o → Some (pair_view number e) ≡ option_map (on_value (renamed_link (place_in numbered.indexes))) o → IsMember numbered.indexes i
       by None is both = absurd (let h = both in cc)
       by (Some x) is both = (first_arranges.valid i).0 (record { link = interlinks_of x; shows = ap (option_map interlinks_of) is })
 
-  pub links_can_move : CanMoveAll (goal_of number) h2.slots
+  pub links_can_move : CanMoveAll (destination_of number) h2.slots
   links_can_move = can_move number h2.slots numbered.indexes first_arranges.once numbered.places each_placed
 
-  links_to_front : GoToFront (goal_of number) h2.slots (length numbered.indexes)
+  links_to_front : GoToFront (destination_of number) h2.slots (length numbered.indexes)
   links_to_front = go_to_front number h2.slots numbered.indexes first_arranges.once numbered.places each_placed
 
   links_few : length numbered.indexes ≤ length h2.slots
@@ -211,34 +211,34 @@ module _ {F P Gen K T : Type 0} (g : F → P → P → F → Type 0) (key : P �
   second-length = length-renamed number (place_in numbered.indexes) h2 (held_of old) all_renamed
 
   -- once they have moved
-  module _ (h3 : Held Gen (LinkBody K T)) (moved : HaveMoved (goal_of number) (Settles number generation) (slot_at h2.slots) (slot_at h3.slots)) where
-    abbrev last_slots : List (Option (Gen × LinkSeen T))
-    last_slots = map (option_map (seen_pair number)) (trimmed h3.slots)
+  module _ (h3 : Held Gen (LinkBody K T)) (moved : HaveMoved (destination_of number) (Settles number generation) (slot_at h2.slots) (slot_at h3.slots)) where
+    abbrev last_slots : List (Option (Gen × LinkView T))
+    last_slots = map (option_map (pair_view number)) (trimmed h3.slots)
 
     pub last-length : length last_slots ≡ length numbered.indexes
-    last-length = length-map (trimmed h3.slots) (option_map (seen_pair number)) ∙ front-length (goal_of number) (Settles number generation) (length numbered.indexes) h2.slots h3.slots links_to_front moved
+    last-length = length-map (trimmed h3.slots) (option_map (pair_view number)) ∙ front-length (destination_of number) (Settles number generation) (length numbered.indexes) h2.slots h3.slots links_to_front moved
 
     -- the links stand in the first slots
     pub last_packed : IsPacked h3.slots total
-    last_packed = subst (IsPacked h3.slots) (sym numbered.counted) (front-packed (goal_of number) (Settles number generation) (length numbered.indexes) h2.slots h3.slots links_to_front moved)
+    last_packed = subst (IsPacked h3.slots) (sym numbered.counted) (front-packed (destination_of number) (Settles number generation) (length numbered.indexes) h2.slots h3.slots links_to_front moved)
 
     pub last-none_free : free_from 1 (trimmed h3.slots) ≡ []
-    last-none_free = front-none_free (goal_of number) (Settles number generation) (length numbered.indexes) h2.slots h3.slots links_to_front moved
+    last-none_free = front-none_free (destination_of number) (Settles number generation) (length numbered.indexes) h2.slots h3.slots links_to_front moved
 
-    pub all_sent : (i d : ℕ) (x : Gen × LinkSeen T) → place_in numbered.indexes i ≡ Some d → slot_at first_slots i ≡ Some x → slot_at last_slots d ≡ Some (generation, renamed_link (place_in numbered.indexes) x.1)
+    pub all_sent : (i d : ℕ) (x : Gen × LinkView T) → place_in numbered.indexes i ≡ Some d → slot_at first_slots i ≡ Some x → slot_at last_slots d ≡ Some (generation, renamed_link (place_in numbered.indexes) x.1)
     all_sent i d x at is =
         let w = waits_for number h2.slots numbered.indexes first_arranges.once numbered.places each_placed i d at in
-        let both : ◌≡◌ {A = Option (Gen × LinkSeen T)} (Some (seen_pair number w.0)) (Some (x.0, renamed_link (place_in numbered.indexes) x.1)) =
-        sym (ap (option_map (seen_pair number)) w.1.stands) ∙ (renamed_there i ∙ ap (option_map (on_value (renamed_link (place_in numbered.indexes)))) is) in
-        ap (λ (s : List (Option (Gen × LinkSeen T))). slot_at s d) (trimmed-map (seen_pair number) h3.slots)
-        ∙ (slot_at-trimmed (map (option_map (seen_pair number)) h3.slots) d
-        ∙ (moved_seen number generation h2.slots h3.slots moved i d w.0 w.1 ∙ ap (λ (l : LinkSeen T). let o : Option (Gen × LinkSeen T) = Some (generation, l) in o) (link_is both)))
+        let both : ◌≡◌ {A = Option (Gen × LinkView T)} (Some (pair_view number w.0)) (Some (x.0, renamed_link (place_in numbered.indexes) x.1)) =
+        sym (ap (option_map (pair_view number)) w.1.stands) ∙ (renamed_there i ∙ ap (option_map (on_value (renamed_link (place_in numbered.indexes)))) is) in
+        ap (λ (s : List (Option (Gen × LinkView T))). slot_at s d) (trimmed-map (pair_view number) h3.slots)
+        ∙ (slot_at-trimmed (map (option_map (pair_view number)) h3.slots) d
+        ∙ (moved_seen number generation h2.slots h3.slots moved i d w.0 w.1 ∙ ap (λ (l : LinkView T). let o : Option (Gen × LinkView T) = Some (generation, l) in o) (link_is both)))
       where
-        link_or : LinkSeen T → Option (Gen × LinkSeen T) → LinkSeen T
+        link_or : LinkView T → Option (Gen × LinkView T) → LinkView T
         link_or l None = l
         link_or l (Some e) = e.1
 
-        link_is : {e h : Gen × LinkSeen T} → ◌≡◌ {A = Option (Gen × LinkSeen T)} (Some e) (Some h) → e.1 ≡ h.1
+        link_is : {e h : Gen × LinkView T} → ◌≡◌ {A = Option (Gen × LinkView T)} (Some e) (Some h) → e.1 ≡ h.1
         link_is {e} {h} both = ap (link_or e.1) both
 
     -- .. and the slots are given back
@@ -259,17 +259,17 @@ module _ {F P Gen K T : Type 0} (g : F → P → P → F → Type 0) (key : P �
       is_laid new is_new = is_new ∙ ap (λ (a : Arena Gen (LinkBody K T)). returned greatest a h3) whole_work.arena
 
       pub links_laid : old.capacity ≡ min old.stack_capacity greatest → generation ≡ old.counter → (new : Arena Gen (LinkBody K T)) → new ≡ returned greatest a3 h3
-          → AreLaidOut g key f last (seen_links number old) (seen_links number new)
+          → AreArranged g key f last (links_view number old) (links_view number new)
       links_laid room counter new is_new = record {
         indexes = numbered.indexes;
         order = first_order;
-        renamed = subst (λ (a : Arena Gen (LinkBody K T)). IsRenaming (place_in numbered.indexes) (shown (seen_links number old)) (shown (seen_links number a))) (sym (is_laid new is_new))
+        renamed = subst (λ (a : Arena Gen (LinkBody K T)). IsRenaming (place_in numbered.indexes) (link_map (links_view number old)) (link_map (links_view number a))) (sym (is_laid new is_new))
             (laid_renamed generation first_slots last_slots numbered.indexes first_arranges last-length all_sent);
         values = values.0;
         stood = values.1;
         touches = whole_work.touches;
-        few = omega (arith, whole_work.few, length-map old.slots (option_map (seen_pair number)));
-        arena = ap (λ (a : Arena Gen (LinkBody K T)). values_of (seen_links number a)) (is_laid new is_new) ∙ (λ i. record (values_of (seen_links number old)) {
+        few = omega (arith, whole_work.few, length-map old.slots (option_map (pair_view number)));
+        arena = ap (λ (a : Arena Gen (LinkBody K T)). values_of (links_view number a)) (is_laid new is_new) ∙ (λ i. record (values_of (links_view number old)) {
           slots = slots i;
           freed = last-none_free i;
           capacity = room_kept i;
@@ -278,13 +278,13 @@ module _ {F P Gen K T : Type 0} (g : F → P → P → F → Type 0) (key : P �
           placed = old.placed + count i;
           touched = old.touched + whole_work.touches;
         });
-        shows = subst (λ (p : (ℕ → Option (ℕ × Gen)) × Gen). ShowsMoves g key p.0 p.1 1 f numbered.indexes last) (λ i. (pointers i, counter i)) numbered.shows;
+        shows = subst (λ (p : (ℕ → Option (ℕ × Gen)) × Gen). ReportsMoves g key p.0 p.1 1 f numbered.indexes last) (λ i. (pointers i, counter i)) numbered.shows;
       }
         where
-          values : (values : List T) × (map (λ t. Some t) values ≡ map (λ i. option_map (λ (e : Gen × T). e.1) (entry (seen_links number old) i)) numbered.indexes)
-              × (map {B = Option (Gen × T)} (λ t. Some (generation, t)) values ≡ map {B = Option (Gen × T)} (λ i. option_map (λ (e : Gen × T). (generation, e.1)) (entry (seen_links number old) i)) numbered.indexes)
+          values : (values : List T) × (map (λ t. Some t) values ≡ map (λ i. option_map (λ (e : Gen × T). e.1) (entry (links_view number old) i)) numbered.indexes)
+              × (map {B = Option (Gen × T)} (λ t. Some (generation, t)) values ≡ map {B = Option (Gen × T)} (λ i. option_map (λ (e : Gen × T). (generation, e.1)) (entry (links_view number old) i)) numbered.indexes)
               × (length values ≡ length numbered.indexes)
-          values = values-given generation (entry (seen_links number old)) numbered.indexes (value_stands generation first_slots last_slots numbered.indexes first_arranges last-length all_sent)
+          values = values-given generation (entry (links_view number old)) numbered.indexes (value_stands generation first_slots last_slots numbered.indexes first_arranges last-length all_sent)
 
           slots : map (option_map (on_value link_value)) last_slots ≡ fronted old.counter values.0 []
           slots =
@@ -292,10 +292,10 @@ module _ {F P Gen K T : Type 0} (g : F → P → P → F → Type 0) (key : P �
               ∙ (sym values.2 ∙ (ap (λ (h : Gen). map {B = Option (Gen × T)} (λ t. Some (h, t)) values.0) counter ∙ sym (append-nil (map {B = Option (Gen × T)} (λ t. Some (old.counter, t)) values.0))))
 
           stack_kept : h3.stack_capacity ≡ old.stack_capacity
-          stack_kept = capacity ∙ ap (λ (h : Held Gen (LinkSeen T)). h.stack_capacity) all_renamed
+          stack_kept = capacity ∙ ap (λ (h : Held Gen (LinkView T)). h.stack_capacity) all_renamed
 
           maximum_kept : h3.maximum ≡ old.maximum
-          maximum_kept = is_maximum ∙ ap (λ (h : Held Gen (LinkSeen T)). h.maximum) all_renamed
+          maximum_kept = is_maximum ∙ ap (λ (h : Held Gen (LinkView T)). h.maximum) all_renamed
 
           room_kept : min h3.stack_capacity greatest ≡ old.capacity
           room_kept = ap (λ (n : ℕ). min n greatest) stack_kept ∙ sym room
@@ -303,8 +303,8 @@ module _ {F P Gen K T : Type 0} (g : F → P → P → F → Type 0) (key : P �
           count : length numbered.indexes ≡ length values.0
           count = sym values.3
 
-          pointers : ptr_at (slot_at h1.slots) ≡ ptr_at (entry (seen_links number old))
-          pointers = fun_ext (λ i. ptr-seen number h1 i ∙ ap (λ (h : Held Gen (LinkSeen T)). ptr_at (slot_at (map (option_map (on_value link_value)) h.slots)) i) emptied)
+          pointers : ptr_at (slot_at h1.slots) ≡ ptr_at (entry (links_view number old))
+          pointers = fun_ext (λ i. ptr-seen number h1 i ∙ ap (λ (h : Held Gen (LinkView T)). ptr_at (slot_at (map (option_map (on_value link_value)) h.slots)) i) emptied)
 
       -- what was counted is the work
       pub work_told : (first : Arena Gen (LinkBody K T)) (p t : ℕ) → first ≡ lent_out maximum old → HasCounted first a3 p t → length old.slots ≤ greatest → greatest < 2 ^ 64

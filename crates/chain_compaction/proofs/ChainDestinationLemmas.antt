@@ -6,11 +6,11 @@ use Rattle.std.specs.List.{FoldsTo, range_with_len}
 use Rattle.std.proofs.lemmas.List.{length-append, length-map, map-append, append-nil}
 use Rattle.std.proofs.Math.Decide.{ℕ_discrete}
 use mathlib.Core.Path.{fun_ext}
-use Rattle.chain_laws.specs.Chains.{Shown, Interlinks, Chain, linear, cyclic, items, Has, HasNoRepetition, IsChain, HasLink, Stands, first_or, last_or, prev_in, next_in, next_of}
-use Rattle.chain_laws.specs.Walks.{going_on}
+use Rattle.chain_laws.specs.Chains.{LinkMap, Interlinks, Chain, linear, cyclic, items, IsMember, AreDistinct, IsChain, HasLink, AreLinked, first_or, last_or, prev_in, next_in, next_of}
+use Rattle.chain_laws.specs.Walks.{step_forward}
 use Rattle.chain_laws.specs.Arrangements.{place_from, place_in}
-use Rattle.chain_laws.proofs.ListLemmas.Members.{Has-right, Has-middle, Has-parts, HasNoRepetition-apart, last_or-append}
-use Rattle.chain_laws.proofs.ChainLemmas.LinkedLists.{Stands-at}
+use Rattle.chain_laws.proofs.ListLemmas.Members.{IsMember-right, IsMember-middle, IsMember-parts, AreDistinct-apart, last_or-append}
+use Rattle.chain_laws.proofs.ChainLemmas.LinkedLists.{AreLinked-at}
 use Rattle.chain_laws.proofs.ChainLemmas.Uniqueness.{chain_once}
 use Rattle.chain_laws.proofs.InterlinkLemmas.Inverses.{if_same, if_other, one_some}
 use Rattle.chain_laws.proofs.RenamingLemmas.Positions.{place-last, place-before_last, place-append, place-same}
@@ -18,41 +18,41 @@ use Rattle.chain_laws.proofs.RenamingLemmas.ChainRuns.{range_with_len-append}
 use Rattle.arena_base.specs.Arena.{Arena, slot_at}
 use Rattle.arena_base.specs.DetachedSlots.{Held, held_with_value}
 use Rattle.chain_links.specs.declared.links.LinkBody.{LinkBody}
-use Rattle.chain_links.specs.ChainArena.{LinkSeen, on_value, ptr_at}
-use Rattle.chain_links.specs.Links.{seen_link, seen_pair}
-use Rattle.chain_compaction.specs.DetachedLinks.{interlinks_seen, shown_in, IsWork}
-use Rattle.chain_compaction.specs.Layouts.{ShowsMoves}
-use Rattle.chain_compaction.specs.Permutations.{goal_of}
-use Rattle.chain_compaction.specs.Destinations.{renamed_link, number_after, seen_held, given, AreNumbered, IsTiedAt, IsRingClosed, AreRetied, CanNumber, IsChainNumbered}
+use Rattle.chain_links.specs.ChainArena.{LinkView, on_value, ptr_at}
+use Rattle.chain_links.specs.Links.{link_view, pair_view}
+use Rattle.chain_compaction.specs.DetachedLinks.{body_interlinks, link_map_in, IsWork}
+use Rattle.chain_compaction.specs.Layouts.{ReportsMoves}
+use Rattle.chain_compaction.specs.Permutations.{destination_of}
+use Rattle.chain_compaction.specs.Destinations.{renamed_link, number_after, held_view, destination_at, AreNumbered, IsRelinkedAt, IsRingClosed, AreRelinked, CanNumber, IsChainNumbered}
 use Rattle.chain_compaction.proofs.DetachedLinkLemmas.{work-none, work-more}
 use Rattle.chain_compaction.proofs.LinkRewriteLemmas.{seen_as, written_given, written_own, seen_at, retied_none, retied_as, retied_more, retied_over}
 
 -- ---- a walk along a chain
 
 -- what comes after the first of a list is not the first
-not_first : (ys : List ℕ) (i z : ℕ) (ws : List ℕ) (start : ℕ) → HasNoRepetition (ys ++ i ∷ z ∷ ws) → first_or (ys ++ i ∷ z ∷ ws) None ≡ Some start → z ≢ start
+not_first : (ys : List ℕ) (i z : ℕ) (ws : List ℕ) (start : ℕ) → AreDistinct (ys ++ i ∷ z ∷ ws) → first_or (ys ++ i ∷ z ∷ ws) None ≡ Some start → z ≢ start
 not_first [] i z ws start once first s = let same : i ≡ start = cc in once.0 (inl (s ∙ sym same))
 not_first (y ∷ ys) i z ws start once first s =
     let same : y ≡ start = cc in
-    once.0 (subst (Has (ys ++ i ∷ z ∷ ws)) (s ∙ sym same) (Has-right ys (i ∷ z ∷ ws) z (inr (inl refl))))
+    once.0 (subst (IsMember (ys ++ i ∷ z ∷ ws)) (s ∙ sym same) (IsMember-right ys (i ∷ z ∷ ws) z (inr (inl refl))))
 
-goes_to : (start : ℕ) (ys : List ℕ) (i : ℕ) (zs : List ℕ) (after : Option ℕ) → HasNoRepetition (ys ++ i ∷ zs) → first_or (ys ++ i ∷ zs) None ≡ Some start
-    → (after ≡ None) ⊎ (after ≡ Some start) → going_on start (first_or zs after) ≡ first_or zs None
-goes_to start ys i [] after once first (inl e) = ap (going_on start) e
-goes_to start ys i [] after once first (inr e) = ap (going_on start) e ∙ if_same start start None (Some start) refl
+goes_to : (start : ℕ) (ys : List ℕ) (i : ℕ) (zs : List ℕ) (after : Option ℕ) → AreDistinct (ys ++ i ∷ zs) → first_or (ys ++ i ∷ zs) None ≡ Some start
+    → (after ≡ None) ⊎ (after ≡ Some start) → step_forward start (first_or zs after) ≡ first_or zs None
+goes_to start ys i [] after once first (inl e) = ap (step_forward start) e
+goes_to start ys i [] after once first (inr e) = ap (step_forward start) e ∙ if_same start start None (Some start) refl
 goes_to start ys i (z ∷ ws) after once first e = if_other z start None (Some z) (not_first ys i z ws start once first)
 
 -- from the item i of a chain a walker goes on to what stands behind it in the list
-pub chain_goes_on : (shown : Shown) (c : Chain) (start : ℕ) (ys : List ℕ) (i : ℕ) (zs : List ℕ) → IsChain shown c → first_or (items c) None ≡ Some start → items c ≡ ys ++ i ∷ zs
-    → going_on start (next_of shown i) ≡ first_or zs None
+pub chain_goes_on : (shown : LinkMap) (c : Chain) (start : ℕ) (ys : List ℕ) (i : ℕ) (zs : List ℕ) → IsChain shown c → first_or (items c) None ≡ Some start → items c ≡ ys ++ i ∷ zs
+    → step_forward start (next_of shown i) ≡ first_or zs None
 chain_goes_on shown (linear xs) start ys i zs h first parts =
-    let stands = subst (λ (l : List ℕ). Stands shown None l None) parts h.2 in
-    ap (λ (o : Option Interlinks). going_on start (next_in o)) (Stands-at shown None ys zs None i stands)
-    ∙ goes_to start ys i zs None (subst HasNoRepetition parts h.1) (ap (λ (l : List ℕ). first_or l None) (sym parts) ∙ first) (inl refl)
+    let stands = subst (λ (l : List ℕ). AreLinked shown None l None) parts h.2 in
+    ap (λ (o : Option Interlinks). step_forward start (next_in o)) (AreLinked-at shown None ys zs None i stands)
+    ∙ goes_to start ys i zs None (subst AreDistinct parts h.1) (ap (λ (l : List ℕ). first_or l None) (sym parts) ∙ first) (inl refl)
 chain_goes_on shown (cyclic xs) start ys i zs h first parts =
-    let stands = subst (λ (l : List ℕ). Stands shown (last_or xs None) l (first_or xs None)) parts h.2 in
-    ap (λ (o : Option Interlinks). going_on start (next_in o)) (Stands-at shown (last_or xs None) ys zs (first_or xs None) i stands)
-    ∙ goes_to start ys i zs (first_or xs None) (subst HasNoRepetition parts h.1) (ap (λ (l : List ℕ). first_or l None) (sym parts) ∙ first) (inr first)
+    let stands = subst (λ (l : List ℕ). AreLinked shown (last_or xs None) l (first_or xs None)) parts h.2 in
+    ap (λ (o : Option Interlinks). step_forward start (next_in o)) (AreLinked-at shown (last_or xs None) ys zs (first_or xs None) i stands)
+    ∙ goes_to start ys i zs (first_or xs None) (subst AreDistinct parts h.1) (ap (λ (l : List ℕ). first_or l None) (sym parts) ∙ first) (inr first)
 
 -- ---- a closure that sees links
 
@@ -62,12 +62,12 @@ folds_append R p q r (x ∷ xs) ys first second = (first.0, first.1, folds_appen
 
 module _ {F P Gen : Type 0} (g : F → P → P → F → Type 0) (key : P → ℕ × Gen) (pointer : ℕ → Option (ℕ × Gen)) (generation : Gen) where
   -- it has seen none
-  pub shows_none : (n : ℕ) (f : F) → ShowsMoves g key pointer generation n f [] f
+  pub shows_none : (n : ℕ) (f : F) → ReportsMoves g key pointer generation n f [] f
   shows_none n f = record { moves = []; in_turn = refl; from = refl; to = refl }
 
   -- it sees one
   pub shows_one : (n : ℕ) (f next : F) (i : ℕ) (p q : P) → Some (key p) ≡ pointer i → key q ≡ (n, generation) → g f p q next
-      → ShowsMoves g key pointer generation n f (i ∷ []) next
+      → ReportsMoves g key pointer generation n f (i ∷ []) next
   shows_one n f next i p q from to called = record {
     moves = (p, q) ∷ [];
     in_turn = (next, called, refl);
@@ -76,8 +76,8 @@ module _ {F P Gen : Type 0} (g : F → P → P → F → Type 0) (key : P → �
   }
 
   -- it sees some, and then others
-  pub shows_then : (n : ℕ) (f mid last : F) (xs ys : List ℕ) → ShowsMoves g key pointer generation n f xs mid → ShowsMoves g key pointer generation (n + length xs) mid ys last
-      → ShowsMoves g key pointer generation n f (xs ++ ys) last
+  pub shows_then : (n : ℕ) (f mid last : F) (xs ys : List ℕ) → ReportsMoves g key pointer generation n f xs mid → ReportsMoves g key pointer generation (n + length xs) mid ys last
+      → ReportsMoves g key pointer generation n f (xs ++ ys) last
   shows_then n f mid last xs ys one two = record {
     moves = one.moves ++ two.moves;
     in_turn = folds_append (λ s (m : P × P) t. g s m.0 m.1 t) f mid last one.moves two.moves one.in_turn two.in_turn;
@@ -93,28 +93,28 @@ module _ {F P Gen : Type 0} (g : F → P → P → F → Type 0) (key : P → �
 
 module _ {Gen K T : Type 0} (number : K → Option ℕ) where
   -- where what is seen is alike, there are as many slots
-  pub length-seen : (a b : Held Gen (LinkBody K T)) → seen_held number a ≡ seen_held number b → length a.slots ≡ length b.slots
-  length-seen a b same = sym (length-map a.slots (option_map (seen_pair number))) ∙ (ap (λ (h : Held Gen (LinkSeen T)). length h.slots) same ∙ length-map b.slots (option_map (seen_pair number)))
+  pub length-seen : (a b : Held Gen (LinkBody K T)) → held_view number a ≡ held_view number b → length a.slots ≡ length b.slots
+  length-seen a b same = sym (length-map a.slots (option_map (pair_view number))) ∙ (ap (λ (h : Held Gen (LinkView T)). length h.slots) same ∙ length-map b.slots (option_map (pair_view number)))
 
   -- where a link stands
-  pub stands_at : (slots : List (Option (Gen × LinkBody K T))) (i : ℕ) → HasLink (shown_in number slots) i → (e : Gen × LinkBody K T) × (slot_at slots i ≡ Some e)
+  pub stands_at : (slots : List (Option (Gen × LinkBody K T))) (i : ℕ) → HasLink (link_map_in number slots) i → (e : Gen × LinkBody K T) × (slot_at slots i ≡ Some e)
   stands_at slots i v = by (slot_at slots i) refl v.shows
     where
-      by : (s : Option (Gen × LinkBody K T)) → slot_at slots i ≡ s → option_map (interlinks_seen number) s ≡ Some v.link → (e : Gen × LinkBody K T) × (slot_at slots i ≡ Some e)
+      by : (s : Option (Gen × LinkBody K T)) → slot_at slots i ≡ s → option_map (body_interlinks number) s ≡ Some v.link → (e : Gen × LinkBody K T) × (slot_at slots i ≡ Some e)
       by None is e = absurd (cc)
       by (Some x) is e = (x, is)
 
   -- one more has a destination
   pub one_numbered : (now new : Held Gen (LinkBody K T)) (i : ℕ) (e : Gen × LinkBody K T) (w : LinkBody K T) → slot_at now.slots i ≡ Some e → new ≡ held_with_value now i w → (count : ℕ) (done : List ℕ) → AreNumbered number now.slots count done
-      → (Has done i → ⊥) → number w.destination ≡ Some (count + 1) → AreNumbered number new.slots (count + 1) (done ++ i ∷ [])
+      → (IsMember done i → ⊥) → number w.destination ≡ Some (count + 1) → AreNumbered number new.slots (count + 1) (done ++ i ∷ [])
   one_numbered now new i e w stands wrote count done n fresh value = record {
     places = λ j. after j (ℕ_discrete j i);
     counts = ap (λ (m : ℕ). m + 1) n.counts ∙ sym (length-append done (i ∷ []));
   }
     where
-      after : (j : ℕ) → Dec (j ≡ i) → given number new.slots j ≡ place_in (done ++ i ∷ []) j
+      after : (j : ℕ) → Dec (j ≡ i) → destination_at number new.slots j ≡ place_in (done ++ i ∷ []) j
       after j (yes s) =
-          ap (given number new.slots) s ∙ (written_own now new i e w stands wrote number
+          ap (destination_at number new.slots) s ∙ (written_own now new i e w stands wrote number
           ∙ (value ∙ (ap (λ (m : ℕ). Some (m + 1)) n.counts ∙ (sym (place-last done i fresh) ∙ ap (place_in (done ++ i ∷ [])) (sym s)))))
       after j (no ne) = written_given now new i e w stands wrote number j ne ∙ (n.places j ∙ sym (place-before_last done i j (λ s. ne (sym s))))
 
@@ -123,10 +123,10 @@ module _ {Gen K T : Type 0} (number : K → Option ℕ) where
       → number w.destination ≡ number e.1.destination → AreNumbered number new.slots count done
   still_numbered now new i e w stands wrote count done n same = record { places = λ j. after j (ℕ_discrete j i); counts = n.counts }
     where
-      after : (j : ℕ) → Dec (j ≡ i) → given number new.slots j ≡ place_in done j
+      after : (j : ℕ) → Dec (j ≡ i) → destination_at number new.slots j ≡ place_in done j
       after j (yes s) =
-          ap (given number new.slots) s
-          ∙ (written_own now new i e w stands wrote number ∙ (same ∙ (sym (ap (option_and_then (goal_of number)) stands) ∙ (n.places i ∙ ap (place_in done) (sym s)))))
+          ap (destination_at number new.slots) s
+          ∙ (written_own now new i e w stands wrote number ∙ (same ∙ (sym (ap (option_and_then (destination_of number)) stands) ∙ (n.places i ∙ ap (place_in done) (sym s)))))
       after j (no ne) = written_given now new i e w stands wrote number j ne ∙ n.places j
 
 -- ---- what the links of a chain name, and what they are to name
@@ -140,45 +140,45 @@ abbrev pub ahead_of : Chain → Option ℕ
 ahead_of (linear xs) = None
 ahead_of (cyclic xs) = first_or xs None
 
-chain_stands : (shown : Shown) (c : Chain) → IsChain shown c → Stands shown (behind_of c) (items c) (ahead_of c)
+chain_stands : (shown : LinkMap) (c : Chain) → IsChain shown c → AreLinked shown (behind_of c) (items c) (ahead_of c)
 chain_stands shown (linear xs) h = h.2
 chain_stands shown (cyclic xs) h = h.2
 
 -- the item i of a chain names the items beside it
-chain_names : (shown : Shown) (c : Chain) (ys : List ℕ) (i : ℕ) (zs : List ℕ) → IsChain shown c → items c ≡ ys ++ i ∷ zs
+chain_names : (shown : LinkMap) (c : Chain) (ys : List ℕ) (i : ℕ) (zs : List ℕ) → IsChain shown c → items c ≡ ys ++ i ∷ zs
     → shown i ≡ Some (record { prev = last_or ys (behind_of c); next = first_or zs (ahead_of c) })
-chain_names shown c ys i zs h parts = Stands-at shown (behind_of c) ys zs (ahead_of c) i (subst (λ (l : List ℕ). Stands shown (behind_of c) l (ahead_of c)) parts (chain_stands shown c h))
+chain_names shown c ys i zs h parts = AreLinked-at shown (behind_of c) ys zs (ahead_of c) i (subst (λ (l : List ℕ). AreLinked shown (behind_of c) l (ahead_of c)) parts (chain_stands shown c h))
 
 -- the place of an item
-place-middle : (n : ℕ) (ys : List ℕ) (z : ℕ) (ws : List ℕ) → HasNoRepetition (ys ++ z ∷ ws) → place_from n (ys ++ z ∷ ws) z ≡ Some (n + length ys)
-place-middle n ys z ws once = place-append n ys (z ∷ ws) z (λ h. HasNoRepetition-apart ys (z ∷ ws) z once h (inl refl)) ∙ place-same (n + length ys) ws z
+place-middle : (n : ℕ) (ys : List ℕ) (z : ℕ) (ws : List ℕ) → AreDistinct (ys ++ z ∷ ws) → place_from n (ys ++ z ∷ ws) z ≡ Some (n + length ys)
+place-middle n ys z ws once = place-append n ys (z ∷ ws) z (λ h. AreDistinct-apart ys (z ∷ ws) z once h (inl refl)) ∙ place-same (n + length ys) ws z
 
 -- a link of a chain that is being numbered: the start names none before it yet
-abbrev pub begun_link : {T : Type 0} → (ℕ → Option ℕ) → ℕ → ℕ → LinkSeen T → LinkSeen T
+abbrev pub begun_link : {T : Type 0} → (ℕ → Option ℕ) → ℕ → ℕ → LinkView T → LinkView T
 begun_link to start j link = record { prev = if j == start then None else option_and_then to link.prev; next = option_and_then to link.next; value = link.value }
 
 -- any other than the start is renamed
 begun_other : {T : Type 0} (to : ℕ → Option ℕ) (start j : ℕ) → j ≢ start → begun_link {T = T} to start j ≡ renamed_link to
 begun_other {T} to start j differs = fun_ext (λ l k. record { prev = if_other j start None (option_and_then to l.prev) differs k; next = option_and_then to l.next; value = l.value })
 
-begun_first : {T : Type 0} (to : ℕ → Option ℕ) (start j : ℕ) (l : LinkSeen T) → j ≡ start → option_and_then to l.prev ≡ None → begun_link to start j l ≡ renamed_link to l
+begun_first : {T : Type 0} (to : ℕ → Option ℕ) (start j : ℕ) (l : LinkView T) → j ≡ start → option_and_then to l.prev ≡ None → begun_link to start j l ≡ renamed_link to l
 begun_first to start j l same none = λ k. record { prev = (if_same j start None (option_and_then to l.prev) same ∙ sym none) k; next = option_and_then to l.next; value = l.value }
 
 -- what a link of a chain names once it is numbered: in front of it ..
-named_before : (to : ℕ → Option ℕ) (start : ℕ) (ys : List ℕ) (i : ℕ) (zs : List ℕ) (behind : Option ℕ) → HasNoRepetition (ys ++ i ∷ zs) → first_or (ys ++ i ∷ zs) None ≡ Some start
+named_before : (to : ℕ → Option ℕ) (start : ℕ) (ys : List ℕ) (i : ℕ) (zs : List ℕ) (behind : Option ℕ) → AreDistinct (ys ++ i ∷ zs) → first_or (ys ++ i ∷ zs) None ≡ Some start
     → option_and_then to (last_or ys None) ≡ (if i == start then None else option_and_then to (last_or ys behind))
 named_before to start [] i zs behind once first = sym (if_same i start None _ (one_some first))
 named_before to start (y ∷ ys) i zs behind once first =
-    sym (if_other i start None _ (λ s. once.0 (subst (Has (ys ++ i ∷ zs)) (s ∙ sym (one_some first)) (Has-middle ys zs i))))
+    sym (if_other i start None _ (λ s. once.0 (subst (IsMember (ys ++ i ∷ zs)) (s ∙ sym (one_some first)) (IsMember-middle ys zs i))))
 
 -- .. and behind it
-named_after : (c : Chain) (n : ℕ) (start : ℕ) (ys : List ℕ) (i : ℕ) (zs : List ℕ) → items c ≡ ys ++ i ∷ zs → HasNoRepetition (items c) → first_or (items c) None ≡ Some start → (count : ℕ) → count ≡ n + length ys
+named_after : (c : Chain) (n : ℕ) (start : ℕ) (ys : List ℕ) (i : ℕ) (zs : List ℕ) → items c ≡ ys ++ i ∷ zs → AreDistinct (items c) → first_or (items c) None ≡ Some start → (count : ℕ) → count ≡ n + length ys
     → number_after (first_or zs None) (first_or zs (ahead_of c)) n (count + 1) ≡ option_and_then (place_from (n + 1) (items c)) (first_or zs (ahead_of c))
 named_after c n start ys i (z ∷ ws) parts once first count at =
     let again : items c ≡ (ys ++ i ∷ []) ++ z ∷ ws = parts ∙ sym (append_assoc ys (i ∷ []) (z ∷ ws)) in
     let long : length (ys ++ i ∷ []) ≡ length ys + 1 = length-append ys (i ∷ []) in
     let place : n + 1 + length (ys ++ i ∷ []) ≡ count + 1 + 1 = omega (arith, at, long) in
-    sym (ap (λ (xs : List ℕ). place_from (n + 1) xs z) again ∙ (place-middle (n + 1) (ys ++ i ∷ []) z ws (subst HasNoRepetition again once) ∙ ap (λ (m : ℕ). Some m) place))
+    sym (ap (λ (xs : List ℕ). place_from (n + 1) xs z) again ∙ (place-middle (n + 1) (ys ++ i ∷ []) z ws (subst AreDistinct again once) ∙ ap (λ (m : ℕ). Some m) place))
 named_after (linear xs) n start ys i [] parts once first count at = refl
 named_after (cyclic []) n start ys i [] parts once first count at = refl
 named_after (cyclic (x ∷ xs)) n start ys i [] parts once first count at = sym (place-same (n + 1) xs x)
@@ -196,8 +196,8 @@ pub record IsWalking {Gen K T F P : Type 0} (number : K → Option ℕ) (g : F �
   pub names : named ≡ first_or ahead (ahead_of c)
   pub behind : prev ≡ option_and_then (place_from (length done + 1) (items c)) (last_or passed None)
   pub numbered : AreNumbered number now.slots count (done ++ passed)
-  pub retied : AreRetied number (begun_link (place_from (length done + 1) (items c)) start) old now passed
-  pub shows : ShowsMoves g key (ptr_at (slot_at old.slots)) generation (length done + 1) f passed last
+  pub retied : AreRelinked number (begun_link (place_from (length done + 1) (items c)) start) old now passed
+  pub shows : ReportsMoves g key (ptr_at (slot_at old.slots)) generation (length done + 1) f passed last
   pub work : IsWork before after 0 (2 * length passed)
 
 module _ {Gen K T F P : Type 0} (number : K → Option ℕ) (g : F → P → P → F → Type 0) (key : P → ℕ × Gen) (generation : Gen) (f : F) (old : Held Gen (LinkBody K T)) (first : Arena Gen (LinkBody K T))
@@ -206,8 +206,8 @@ module _ {Gen K T F P : Type 0} (number : K → Option ℕ) (g : F → P → P �
   abbrev to : ℕ → Option ℕ
   to = place_from (length done + 1) (items c)
 
-  chain_is_once : HasNoRepetition (items c)
-  chain_is_once = chain_once (shown_in number old.slots) c can.chain
+  chain_is_once : AreDistinct (items c)
+  chain_is_once = chain_once (link_map_in number old.slots) c can.chain
 
   -- the walk begins
   pub walk_begins : IsWalking number g key generation f f old old first first before start (Some start) (Some start) None done c
@@ -255,8 +255,8 @@ module _ {Gen K T F P : Type 0} (number : K → Option ℕ) (g : F → P → P �
       numbered_all : AreNumbered number now.slots count (done ++ items c)
       numbered_all = subst (λ (xs : List ℕ). AreNumbered number now.slots count (done ++ xs)) all_passed w.numbered
 
-      begun_all : AreRetied number (begun_link to start) old now (items c)
-      begun_all = subst (AreRetied number (begun_link to start) old now) all_passed w.retied
+      begun_all : AreRelinked number (begun_link to start) old now (items c)
+      begun_all = subst (AreRelinked number (begun_link to start) old now) all_passed w.retied
 
       -- the start is the first item, and stands
       begins : (xs : List ℕ) × (items c ≡ start ∷ xs)
@@ -266,68 +266,68 @@ module _ {Gen K T F P : Type 0} (number : K → Option ℕ) (g : F → P → P �
           by [] e = absurd (cc)
           by (x ∷ xs) e = (xs, ap (λ (y : ℕ). y ∷ xs) (one_some e))
 
-      start_shows : shown_in number old.slots start ≡ Some (record { prev = behind_of c; next = first_or begins.0 (ahead_of c) })
-      start_shows = chain_names (shown_in number old.slots) c [] start begins.0 can.chain begins.1
+      start_shows : link_map_in number old.slots start ≡ Some (record { prev = behind_of c; next = first_or begins.0 (ahead_of c) })
+      start_shows = chain_names (link_map_in number old.slots) c [] start begins.0 can.chain begins.1
 
       start_stood : (e : Gen × LinkBody K T) × (slot_at old.slots start ≡ Some e)
       start_stood = stands_at number old.slots start (record { link = _; shows = start_shows })
 
       start_prev : number start_stood.0.1.prev ≡ behind_of c
-      start_prev = ap prev_in (sym (ap (option_map (interlinks_seen number)) start_stood.1) ∙ start_shows)
+      start_prev = ap prev_in (sym (ap (option_map (body_interlinks number)) start_stood.1) ∙ start_shows)
 
-      has_start : Has (items c) start
-      has_start = subst (λ (xs : List ℕ). Has xs start) (sym begins.1) (inl refl)
+      has_start : IsMember (items c) start
+      has_start = subst (λ (xs : List ℕ). IsMember xs start) (sym begins.1) (inl refl)
 
       -- nothing was written over where the chain is linear
-      stays_linear : behind_of c ≡ None → new ≡ now → AreNumbered number new.slots count (done ++ items c) × AreRetied number (λ _. renamed_link to) old new (items c)
+      stays_linear : behind_of c ≡ None → new ≡ now → AreNumbered number new.slots count (done ++ items c) × AreRelinked number (λ _. renamed_link to) old new (items c)
       stays_linear none same = (
         subst (λ (h : Held Gen (LinkBody K T)). AreNumbered number h.slots count (done ++ items c)) (sym same) numbered_all,
-        subst (λ (h : Held Gen (LinkBody K T)). AreRetied number (λ _. renamed_link to) old h (items c)) (sym same)
+        subst (λ (h : Held Gen (LinkBody K T)). AreRelinked number (λ _. renamed_link to) old h (items c)) (sym same)
             (retied_as number (begun_link to start) old now (items c) begun_all (λ _. renamed_link to) (λ j h. by j (ℕ_discrete j start))),
       )
         where
-          own : (j : ℕ) → j ≡ start → (o : Option (Gen × LinkBody K T)) → slot_at old.slots j ≡ o → option_map (on_value (begun_link to start j)) (option_map (seen_pair number) o) ≡ option_map (on_value (renamed_link to)) (option_map (seen_pair number) o)
+          own : (j : ℕ) → j ≡ start → (o : Option (Gen × LinkBody K T)) → slot_at old.slots j ≡ o → option_map (on_value (begun_link to start j)) (option_map (pair_view number) o) ≡ option_map (on_value (renamed_link to)) (option_map (pair_view number) o)
           own j s None is = refl
           own j s (Some e) is =
               let stood : ◌≡◌ {A = Option (Gen × LinkBody K T)} (Some e) (Some start_stood.0) = sym is ∙ (ap (slot_at old.slots) s ∙ start_stood.1) in
               let no_prev : number e.1.prev ≡ None = prev_same stood ∙ (start_prev ∙ none) in
-              ap (seen_as e.0) (begun_first to start j (seen_link number e.1) s (ap (option_and_then to) no_prev))
+              ap (seen_as e.0) (begun_first to start j (link_view number e.1) s (ap (option_and_then to) no_prev))
             where
               prev_same : {a b : Gen × LinkBody K T} → ◌≡◌ {A = Option (Gen × LinkBody K T)} (Some a) (Some b) → number a.1.prev ≡ number b.1.prev
               prev_same e = ap (λ (o : Option (Gen × LinkBody K T)). option_and_then (λ (x : Gen × LinkBody K T). number x.1.prev) o) e
 
           by : (j : ℕ) → Dec (j ≡ start) → option_map (on_value (begun_link to start j)) (seen_at number old j) ≡ option_map (on_value (renamed_link to)) (seen_at number old j)
           by j (yes s) = own j s (slot_at old.slots j) refl
-          by j (no differs) = ap (λ (f : LinkSeen T → LinkSeen T). option_map (on_value f) (seen_at number old j)) (begun_other to start j differs)
+          by j (no differs) = ap (λ (f : LinkView T → LinkView T). option_map (on_value f) (seen_at number old j)) (begun_other to start j differs)
 
       -- the start was written over where it is cyclic
-      closes_ring : (k : ℕ) → named ≡ Some k → prev ≡ option_and_then to (behind_of c) → AreNumbered number new.slots count (done ++ items c) × AreRetied number (λ _. renamed_link to) old new (items c)
+      closes_ring : (k : ℕ) → named ≡ Some k → prev ≡ option_and_then to (behind_of c) → AreNumbered number new.slots count (done ++ items c) × AreRelinked number (λ _. renamed_link to) old new (items c)
       closes_ring k some is_last = by (slot_at now.slots start) refl
         where
-          by : (o : Option (Gen × LinkBody K T)) → slot_at now.slots start ≡ o → AreNumbered number new.slots count (done ++ items c) × AreRetied number (λ _. renamed_link to) old new (items c)
+          by : (o : Option (Gen × LinkBody K T)) → slot_at now.slots start ≡ o → AreNumbered number new.slots count (done ++ items c) × AreRelinked number (λ _. renamed_link to) old new (items c)
           by None is =
-              let none = sym (ap (option_map (seen_pair number)) is) ∙ (begun_all.there start has_start ∙ ap (λ (o : Option (Gen × LinkBody K T)). option_map (on_value (begun_link to start start)) (option_map (seen_pair number) o)) start_stood.1) in
+              let none = sym (ap (option_map (pair_view number)) is) ∙ (begun_all.there start has_start ∙ ap (λ (o : Option (Gen × LinkBody K T)). option_map (on_value (begun_link to start start)) (option_map (pair_view number) o)) start_stood.1) in
               absurd (cc)
           by (Some e) is =
               let wrote = closed.ring k e.1 some (sym (ap (option_map (λ (x : Gen × LinkBody K T). x.1)) is)) in
               let x = wrote.0 in
-              let seen : seen_as e.0 (seen_link number e.1) ≡ seen_as start_stood.0.0 (begun_link to start start (seen_link number start_stood.0.1)) =
-              sym (ap (option_map (seen_pair number)) is) ∙ (begun_all.there start has_start ∙ ap (λ (o : Option (Gen × LinkBody K T)). option_map (on_value (begun_link to start start)) (option_map (seen_pair number) o)) start_stood.1) in
+              let seen : seen_as e.0 (link_view number e.1) ≡ seen_as start_stood.0.0 (begun_link to start start (link_view number start_stood.0.1)) =
+              sym (ap (option_map (pair_view number)) is) ∙ (begun_all.there start has_start ∙ ap (λ (o : Option (Gen × LinkBody K T)). option_map (on_value (begun_link to start start)) (option_map (pair_view number) o)) start_stood.1) in
               let last : number x.prev ≡ option_and_then to (number start_stood.0.1.prev) = wrote.1 ∙ (is_last ∙ sym (ap (option_and_then to) start_prev)) in
-              let again : seen_link number x ≡ record (seen_link number e.1) { prev = number x.prev } = ap (seen_link number) wrote.2 in
-              let here : seen_as e.0 (seen_link number x) ≡ seen_as start_stood.0.0 (renamed_link to (seen_link number start_stood.0.1)) =
-              ap (seen_as e.0) again ∙ (ap (λ (o : Option (Gen × LinkSeen T)). option_map (on_value (λ (l : LinkSeen T). record l { prev = number x.prev })) o) seen
-              ∙ ap (λ (p : Option ℕ). seen_as start_stood.0.0 (record (renamed_link to (seen_link number start_stood.0.1)) { prev = p })) last) in (
+              let again : link_view number x ≡ record (link_view number e.1) { prev = number x.prev } = ap (link_view number) wrote.2 in
+              let here : seen_as e.0 (link_view number x) ≡ seen_as start_stood.0.0 (renamed_link to (link_view number start_stood.0.1)) =
+              ap (seen_as e.0) again ∙ (ap (λ (o : Option (Gen × LinkView T)). option_map (on_value (λ (l : LinkView T). record l { prev = number x.prev })) o) seen
+              ∙ ap (λ (p : Option ℕ). seen_as start_stood.0.0 (record (renamed_link to (link_view number start_stood.0.1)) { prev = p })) last) in (
                 still_numbered number now new start e x is wrote.3 count (done ++ items c) numbered_all (ap (λ (l : LinkBody K T). number l.destination) wrote.2),
                 retied_over number (begun_link to start) old now (items c) begun_all new start e x is wrote.3 has_start (λ _. renamed_link to) (λ j differs. begun_other to start j differs)
-                    (here ∙ sym (ap (λ (o : Option (Gen × LinkBody K T)). option_map (on_value (renamed_link to)) (option_map (seen_pair number) o)) start_stood.1)),
+                    (here ∙ sym (ap (λ (o : Option (Gen × LinkBody K T)). option_map (on_value (renamed_link to)) (option_map (pair_view number) o)) start_stood.1)),
               )
 
       -- so in each case
-      ended : AreNumbered number new.slots count (done ++ items c) × AreRetied number (λ _. renamed_link to) old new (items c)
+      ended : AreNumbered number new.slots count (done ++ items c) × AreRelinked number (λ _. renamed_link to) old new (items c)
       ended = by c refl
         where
-          by : (d : Chain) → c ≡ d → AreNumbered number new.slots count (done ++ items c) × AreRetied number (λ _. renamed_link to) old new (items c)
+          by : (d : Chain) → c ≡ d → AreNumbered number new.slots count (done ++ items c) × AreRelinked number (λ _. renamed_link to) old new (items c)
           by (linear xs) is = stays_linear (ap behind_of is) (closed.linear (names_round ∙ ap ahead_of is))
           by (cyclic xs) is =
               let same : items c ≡ xs = ap items is in
@@ -339,7 +339,7 @@ module _ {Gen K T F P : Type 0} (number : K → Option ℕ) (g : F → P → P �
       walk_ends final closing = record {
         numbered = ended.0;
         retied = ended.1;
-        shows = subst (λ (xs : List ℕ). ShowsMoves g key (ptr_at (slot_at old.slots)) generation (length done + 1) f xs last) all_passed w.shows;
+        shows = subst (λ (xs : List ℕ). ReportsMoves g key (ptr_at (slot_at old.slots)) generation (length done + 1) f xs last) all_passed w.shows;
         work = work-more w.work closing 0 (3 * length (items c)) refl
             (let a : length w.passed ≡ length (items c) = ap length all_passed in let b : length (items c) ≡ suc (length begins.0) = ap length begins.1 in omega arith);
       }
@@ -364,16 +364,16 @@ module _ {Gen K T F P : Type 0} (number : K → Option ℕ) (g : F → P → P �
           let r : length done + length (items c) ≤ length old.slots = can.room in
           omega (arith, counted, l, r)
 
-      has : Has (items c) i
-      has = subst (λ (xs : List ℕ). Has xs i) (sym here.1) (Has-middle w.passed here.0 i)
+      has : IsMember (items c) i
+      has = subst (λ (xs : List ℕ). IsMember xs i) (sym here.1) (IsMember-middle w.passed here.0 i)
 
-      not_passed : Has w.passed i → ⊥
-      not_passed m = HasNoRepetition-apart w.passed (i ∷ here.0) i (subst HasNoRepetition here.1 chain_is_once) m (inl refl)
+      not_passed : IsMember w.passed i → ⊥
+      not_passed m = AreDistinct-apart w.passed (i ∷ here.0) i (subst AreDistinct here.1 chain_is_once) m (inl refl)
 
-      fresh : Has (done ++ w.passed) i → ⊥
-      fresh h = by (Has-parts done w.passed i h)
+      fresh : IsMember (done ++ w.passed) i → ⊥
+      fresh h = by (IsMember-parts done w.passed i h)
         where
-          by : Has done i ⊎ Has w.passed i → ⊥
+          by : IsMember done i ⊎ IsMember w.passed i → ⊥
           by (inl m) = can.apart i has m
           by (inr m) = not_passed m
 
@@ -381,8 +381,8 @@ module _ {Gen K T F P : Type 0} (number : K → Option ℕ) (g : F → P → P �
       as_first : slot_at now.slots i ≡ slot_at old.slots i
       as_first = w.retied.stay i not_passed
 
-      shows_here : shown_in number now.slots i ≡ Some (record { prev = last_or w.passed (behind_of c); next = first_or here.0 (ahead_of c) })
-      shows_here = ap (option_map (interlinks_seen number)) as_first ∙ chain_names (shown_in number old.slots) c w.passed i here.0 can.chain here.1
+      shows_here : link_map_in number now.slots i ≡ Some (record { prev = last_or w.passed (behind_of c); next = first_or here.0 (ahead_of c) })
+      shows_here = ap (option_map (body_interlinks number)) as_first ∙ chain_names (link_map_in number old.slots) c w.passed i here.0 can.chain here.1
 
       pub walk_stands : (e : Gen × LinkBody K T) × (slot_at now.slots i ≡ Some e)
       walk_stands = stands_at number now.slots i (record { link = _; shows = shows_here })
@@ -391,15 +391,15 @@ module _ {Gen K T F P : Type 0} (number : K → Option ℕ) (g : F → P → P �
       pub walk_answers : None ≡ option_map (λ (e : Gen × LinkBody K T). e.0) (slot_at now.slots i) → ⊥
       walk_answers none = let both = none ∙ ap (option_map (λ (e : Gen × LinkBody K T). e.0)) walk_stands.1 in cc
 
-      module _ (follows on : Option ℕ) (is_next : follows ≡ next_of (shown_in number now.slots) i) (goes : on ≡ going_on start follows) where
+      module _ (follows on : Option ℕ) (is_next : follows ≡ next_of (link_map_in number now.slots) i) (goes : on ≡ step_forward start follows) where
         names_next : follows ≡ first_or here.0 (ahead_of c)
         names_next = is_next ∙ ap next_in shows_here
 
         goes_next : on ≡ first_or here.0 None
         goes_next =
             goes
-            ∙ (ap (going_on start) (is_next ∙ ap (λ (o : Option (Gen × LinkBody K T)). next_in (option_map (interlinks_seen number) o)) as_first)
-            ∙ chain_goes_on (shown_in number old.slots) c start w.passed i here.0 can.chain can.starts here.1)
+            ∙ (ap (step_forward start) (is_next ∙ ap (λ (o : Option (Gen × LinkBody K T)). next_in (option_map (body_interlinks number) o)) as_first)
+            ∙ chain_goes_on (link_map_in number old.slots) c start w.passed i here.0 can.chain can.starts here.1)
 
         -- where it goes on there is room for the next link too
         pub walk_more : (k : ℕ) → on ≡ Some k → count + 1 < length old.slots
@@ -415,7 +415,7 @@ module _ {Gen K T F P : Type 0} (number : K → Option ℕ) (g : F → P → P �
 
         -- the walk goes on
         pub walk_goes_on : (d : ℕ) (new : Held Gen (LinkBody K T)) (last_work : Arena Gen (LinkBody K T)) (was : Gen) (p q : P) (next : F)
-            → IsTiedAt number i prev (number_after on follows before (count + 1)) (Some d) now new → d ≡ count + 1 → IsWork later last_work 0 2 → Some was ≡ option_map (λ (e : Gen × LinkBody K T). e.0) (slot_at now.slots i)
+            → IsRelinkedAt number i prev (number_after on follows before (count + 1)) (Some d) now new → d ≡ count + 1 → IsWork later last_work 0 2 → Some was ≡ option_map (λ (e : Gen × LinkBody K T). e.0) (slot_at now.slots i)
             → key p ≡ (i, was) → key q ≡ (d, generation) → g last p q next
             → IsWalking number g key generation f next old new first last_work (count + 1) start on follows (Some d) done c
         walk_goes_on d new last_work was p q next tied at work generates from goes_to called = record {
@@ -433,7 +433,7 @@ module _ {Gen K T F P : Type 0} (number : K → Option ℕ) (g : F → P → P �
           work = work-more w.work work 0 (2 * length (w.passed ++ i ∷ [])) refl (let l : length (w.passed ++ i ∷ []) ≡ length w.passed + 1 = length-append w.passed (i ∷ []) in omega arith);
         }
           where
-            wrote : (x : LinkBody K T) × (seen_link number x ≡ record { prev = prev; next = number_after on follows before (count + 1); value = walk_stands.0.1.t }) × (number x.destination ≡ Some d) × (new ≡ held_with_value now i x)
+            wrote : (x : LinkBody K T) × (link_view number x ≡ record { prev = prev; next = number_after on follows before (count + 1); value = walk_stands.0.1.t }) × (number x.destination ≡ Some d) × (new ≡ held_with_value now i x)
             wrote = tied.there walk_stands.0.1 (sym (ap (option_map (λ (e : Gen × LinkBody K T). e.1)) walk_stands.1))
 
             x : LinkBody K T
@@ -443,14 +443,14 @@ module _ {Gen K T F P : Type 0} (number : K → Option ℕ) (g : F → P → P �
             place = omega (arith, at, counted)
 
             own_place : to i ≡ Some (length done + 1 + length w.passed)
-            own_place = ap (λ (xs : List ℕ). place_from (length done + 1) xs i) here.1 ∙ place-middle (length done + 1) w.passed i here.0 (subst HasNoRepetition here.1 chain_is_once)
+            own_place = ap (λ (xs : List ℕ). place_from (length done + 1) xs i) here.1 ∙ place-middle (length done + 1) w.passed i here.0 (subst AreDistinct here.1 chain_is_once)
 
-            own_links : Some (interlinks_seen number walk_stands.0) ≡ Some (record { prev = last_or w.passed (behind_of c); next = first_or here.0 (ahead_of c) })
-            own_links = sym (ap (option_map (interlinks_seen number)) walk_stands.1) ∙ shows_here
+            own_links : Some (body_interlinks number walk_stands.0) ≡ Some (record { prev = last_or w.passed (behind_of c); next = first_or here.0 (ahead_of c) })
+            own_links = sym (ap (option_map (body_interlinks number)) walk_stands.1) ∙ shows_here
 
             is_prev : prev ≡ (if i == start then None else option_and_then to (number walk_stands.0.1.prev))
             is_prev =
-                w.behind ∙ (named_before to start w.passed i here.0 (behind_of c) (subst HasNoRepetition here.1 chain_is_once) (ap (λ (xs : List ℕ). first_or xs None) (sym here.1) ∙ can.starts)
+                w.behind ∙ (named_before to start w.passed i here.0 (behind_of c) (subst AreDistinct here.1 chain_is_once) (ap (λ (xs : List ℕ). first_or xs None) (sym here.1) ∙ can.starts)
                 ∙ ap (λ (o : Option Interlinks). if i == start then None else option_and_then to (prev_in o)) (sym own_links))
 
             is_after : number_after on follows before (count + 1) ≡ option_and_then to (number walk_stands.0.1.next)

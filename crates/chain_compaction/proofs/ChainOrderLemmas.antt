@@ -4,11 +4,11 @@ use Rattle.std.specs.Prelude.{is_none}
 use Rattle.std.specs.Option.{option_map, option_and_then}
 use Rattle.std.proofs.lemmas.List.{length-append, append-nil}
 use Rattle.std.proofs.Math.Decide.{ℕ_discrete}
-use Rattle.chain_laws.specs.Chains.{Interlinks, Chain, linear, cyclic, items, all_items, HasChain, Has, HasNoRepetition, IsChain, HasLink, Agrees, AreChains, IsWritten, Rises, first_or, prev_in, next_in}
+use Rattle.chain_laws.specs.Chains.{Interlinks, Chain, linear, cyclic, items, all_items, HasChain, IsMember, AreDistinct, IsChain, HasLink, IsWellLinked, AreChains, StartsAtLeast, IsSortedByLeast, first_or, prev_in, next_in}
 use Rattle.chain_laws.specs.Arrangements.{place_from, place_in}
 use Rattle.chain_laws.specs.Neighbors.{AreTheChains}
 use Rattle.chain_laws.specs.ChainStart.{IsStart}
-use Rattle.chain_laws.proofs.ListLemmas.Members.{Has-left, Has-right, Has-parts, HasNoRepetition-apart, length_bound}
+use Rattle.chain_laws.proofs.ListLemmas.Members.{IsMember-left, IsMember-right, IsMember-parts, AreDistinct-apart, length_bound}
 use Rattle.chain_laws.proofs.ChainLemmas.LinkedLists.{IsChain-frame}
 use Rattle.chain_laws.proofs.ChainLemmas.Uniqueness.{HasAllNeighbors, chain_closed, written_least}
 use Rattle.chain_laws.proofs.ChainLemmas.NeighborPairs.{chains_from_pairs}
@@ -19,11 +19,11 @@ use Rattle.arena_base.specs.Arena.{Arena, slot_at}
 use Rattle.arena_base.specs.DetachedSlots.{Held}
 use Rattle.chain_links.specs.declared.links.LinkBody.{LinkBody}
 use Rattle.chain_links.specs.ChainArena.{on_value, ptr_at}
-use Rattle.chain_links.specs.Links.{seen_pair}
-use Rattle.chain_compaction.specs.DetachedLinks.{interlinks_seen, shown_in, IsWork}
-use Rattle.chain_compaction.specs.Layouts.{ShowsMoves}
-use Rattle.chain_compaction.specs.Permutations.{goal_of}
-use Rattle.chain_compaction.specs.Destinations.{HasChainFrom, renamed_link, given, is_fresh, AreNumbered, AreRetied, CanNumber, IsChainNumbered, AreAllNumbered}
+use Rattle.chain_links.specs.Links.{pair_view}
+use Rattle.chain_compaction.specs.DetachedLinks.{body_interlinks, link_map_in, IsWork}
+use Rattle.chain_compaction.specs.Layouts.{ReportsMoves}
+use Rattle.chain_compaction.specs.Permutations.{destination_of}
+use Rattle.chain_compaction.specs.Destinations.{HasChainFrom, renamed_link, destination_at, is_fresh, AreNumbered, AreRelinked, CanNumber, IsChainNumbered, AreAllNumbered}
 use Rattle.chain_links.proofs.ArenaInsertionLemmas.{slots-within}
 use Rattle.chain_compaction.proofs.DetachedLinkLemmas.{work-none, work-more}
 use Rattle.chain_compaction.proofs.ChainDestinationLemmas.{shows_none, shows_then}
@@ -31,7 +31,7 @@ use Rattle.chain_compaction.proofs.LinkRewriteLemmas.{seen_as, retied_none, reti
 
 -- ---- chains in order
 
-rises-right : (cs ds : List Chain) → Rises (cs ++ ds) → Rises ds
+rises-right : (cs ds : List Chain) → IsSortedByLeast (cs ++ ds) → IsSortedByLeast ds
 rises-right [] ds r = r
 rises-right (c ∷ cs) ds r = rises-right cs ds r.1
 
@@ -43,7 +43,7 @@ chains_assoc : (cs : List Chain) (c : Chain) (ds : List Chain) → (cs ++ c ∷ 
 chains_assoc [] c ds = refl
 chains_assoc (b ∷ cs) c ds = ap (λ (es : List Chain). b ∷ es) (chains_assoc cs c ds)
 
-no_items : (xs : List ℕ) → ((y : ℕ) → Has xs y → ⊥) → xs ≡ []
+no_items : (xs : List ℕ) → ((y : ℕ) → IsMember xs y → ⊥) → xs ≡ []
 no_items [] none = refl
 no_items (x ∷ xs) none = absurd (none x (inl refl))
 
@@ -52,71 +52,71 @@ record IsNext (rest : List Chain) (i : ℕ) : Type 0 where
   first : Chain
   others : List Chain
   rest_is : rest ≡ first ∷ others
-  has : Has (items first) i
-  above : (y : ℕ) → Has (all_items others) y → i < y
-  least : (y : ℕ) → Has (items first) y → i ≤ y
+  has : IsMember (items first) i
+  above : (y : ℕ) → IsMember (all_items others) y → i < y
+  least : (y : ℕ) → IsMember (items first) y → i ≤ y
 
-next_chain : (rest : List Chain) (k i : ℕ) → i ≡ k + 1 → Rises rest → ((y : ℕ) → Has (all_items rest) y → k < y) → Has (all_items rest) i → IsNext rest i
+next_chain : (rest : List Chain) (k i : ℕ) → i ≡ k + 1 → IsSortedByLeast rest → ((y : ℕ) → IsMember (all_items rest) y → k < y) → IsMember (all_items rest) i → IsNext rest i
 next_chain [] k i is rises low h = absurd h
-next_chain (c ∷ cs) k i is rises low h = chosen (Has-parts (items c) (all_items cs) i h)
+next_chain (c ∷ cs) k i is rises low h = chosen (IsMember-parts (items c) (all_items cs) i h)
   where
-    above : (y : ℕ) → Has (all_items cs) y → i < y
+    above : (y : ℕ) → IsMember (all_items cs) y → i < y
     above y h =
         let m : rises.0.0 < y = rises.0.2 y h in
-        let l : k < rises.0.0 = low rises.0.0 (Has-left (items c) (all_items cs) rises.0.0 rises.0.1) in
+        let l : k < rises.0.0 = low rises.0.0 (IsMember-left (items c) (all_items cs) rises.0.0 rises.0.1) in
         omega arith
 
-    chosen : Has (items c) i ⊎ Has (all_items cs) i → IsNext (c ∷ cs) i
+    chosen : IsMember (items c) i ⊎ IsMember (all_items cs) i → IsNext (c ∷ cs) i
     chosen (inl h) = record {
       first = c;
       others = cs;
       rest_is = refl;
       has = h;
       above = above;
-      least = λ y m. (let l : k < y = low y (Has-left (items c) (all_items cs) y m) in omega arith);
+      least = λ y m. (let l : k < y = low y (IsMember-left (items c) (all_items cs) y m) in omega arith);
     }
     chosen (inr h) = absurd (let a : i < i = above i h in omega arith)
 
 -- ---- slots with and without destinations
 
 module _ {Gen K T : Type 0} (number : K → Option ℕ) where
-  fresh_shown : (s : Option (Gen × LinkBody K T)) → is_fresh number s ≡ true → (link : Interlinks) × (option_map (interlinks_seen number) s ≡ Some link)
+  fresh_shown : (s : Option (Gen × LinkBody K T)) → is_fresh number s ≡ true → (link : Interlinks) × (option_map (body_interlinks number) s ≡ Some link)
   fresh_shown None e = absurd (cc)
-  fresh_shown (Some x) e = (interlinks_seen number x, refl)
+  fresh_shown (Some x) e = (body_interlinks number x, refl)
 
-  fresh_none : (s : Option (Gen × LinkBody K T)) → is_fresh number s ≡ true → option_and_then (goal_of number) s ≡ None
+  fresh_none : (s : Option (Gen × LinkBody K T)) → is_fresh number s ≡ true → option_and_then (destination_of number) s ≡ None
   fresh_none None e = refl
-  fresh_none (Some x) e = by (goal_of number x) e
+  fresh_none (Some x) e = by (destination_of number x) e
     where
       by : (o : Option ℕ) → is_none o ≡ true → o ≡ None
       by None e = refl
       by (Some i) e = absurd (cc)
 
-  stale_some : (s : Option (Gen × LinkBody K T)) (link : Interlinks) → option_map (interlinks_seen number) s ≡ Some link → is_fresh number s ≡ false → option_and_then (goal_of number) s ≡ None → ⊥
+  stale_some : (s : Option (Gen × LinkBody K T)) (link : Interlinks) → option_map (body_interlinks number) s ≡ Some link → is_fresh number s ≡ false → option_and_then (destination_of number) s ≡ None → ⊥
   stale_some None link shows e none = cc
-  stale_some (Some x) link shows e none = by (goal_of number x) e none
+  stale_some (Some x) link shows e none = by (destination_of number x) e none
     where
       by : (o : Option ℕ) → is_none o ≡ false → o ≡ None → ⊥
       by None e none = cc
       by (Some i) e none = cc
 
   -- the links of a chain name its links, so they are renamed alike by what names those alike
-  renamed_alike : (to also : ℕ → Option ℕ) (slots : List (Option (Gen × LinkBody K T))) (c : Chain) → IsChain (shown_in number slots) c → ((j : ℕ) → Has (items c) j → to j ≡ also j) → (i : ℕ) → Has (items c) i
-      → option_map (on_value (renamed_link to)) (option_map (seen_pair number) (slot_at slots i)) ≡ option_map (on_value (renamed_link also)) (option_map (seen_pair number) (slot_at slots i))
+  renamed_alike : (to also : ℕ → Option ℕ) (slots : List (Option (Gen × LinkBody K T))) (c : Chain) → IsChain (link_map_in number slots) c → ((j : ℕ) → IsMember (items c) j → to j ≡ also j) → (i : ℕ) → IsMember (items c) i
+      → option_map (on_value (renamed_link to)) (option_map (pair_view number) (slot_at slots i)) ≡ option_map (on_value (renamed_link also)) (option_map (pair_view number) (slot_at slots i))
   renamed_alike to also slots c h same i m = by (slot_at slots i) refl
     where
-      closed : HasAllNeighbors (shown_in number slots) (Has (items c))
-      closed = chain_closed (shown_in number slots) c h
+      closed : HasAllNeighbors (link_map_in number slots) (IsMember (items c))
+      closed = chain_closed (link_map_in number slots) c h
 
-      alike : (o : Option ℕ) → ((j : ℕ) → o ≡ Some j → Has (items c) j) → option_and_then to o ≡ option_and_then also o
+      alike : (o : Option ℕ) → ((j : ℕ) → o ≡ Some j → IsMember (items c) j) → option_and_then to o ≡ option_and_then also o
       alike None inside = refl
       alike (Some j) inside = same j (inside j refl)
 
-      by : (o : Option (Gen × LinkBody K T)) → slot_at slots i ≡ o → option_map (on_value (renamed_link to)) (option_map (seen_pair number) o) ≡ option_map (on_value (renamed_link also)) (option_map (seen_pair number) o)
+      by : (o : Option (Gen × LinkBody K T)) → slot_at slots i ≡ o → option_map (on_value (renamed_link to)) (option_map (pair_view number) o) ≡ option_map (on_value (renamed_link also)) (option_map (pair_view number) o)
       by None is = refl
       by (Some e) is =
-          let prev = alike (number e.1.prev) (λ j s. closed.back i j m (ap (λ (o : Option (Gen × LinkBody K T)). prev_in (option_map (interlinks_seen number) o)) is ∙ s)) in
-          let next = alike (number e.1.next) (λ j s. closed.forth i j m (ap (λ (o : Option (Gen × LinkBody K T)). next_in (option_map (interlinks_seen number) o)) is ∙ s)) in
+          let prev = alike (number e.1.prev) (λ j s. closed.back i j m (ap (λ (o : Option (Gen × LinkBody K T)). prev_in (option_map (body_interlinks number) o)) is ∙ s)) in
+          let next = alike (number e.1.next) (λ j s. closed.forth i j m (ap (λ (o : Option (Gen × LinkBody K T)). next_in (option_map (body_interlinks number) o)) is ∙ s)) in
           ap (seen_as e.0) (λ k. record { prev = prev k; next = next k; value = e.1.t })
 
 -- ---- the loop over all slots
@@ -125,22 +125,22 @@ module _ {Gen K T : Type 0} (number : K → Option ℕ) where
 pub record IsOrdering {Gen K T F P : Type 0} (number : K → Option ℕ) (g : F → P → P → F → Type 0) (key : P → ℕ × Gen) (generation : Gen) (f last : F) (old now : Held Gen (LinkBody K T))
     (before after : Arena Gen (LinkBody K T)) (count k : ℕ) : Type 0 where
   pub chains : List Chain
-  pub are : AreTheChains (shown_in number old.slots) chains
+  pub are : AreTheChains (link_map_in number old.slots) chains
   pub done : List Chain
   pub rest : List Chain
   pub parts : chains ≡ done ++ rest
-  pub low : (y : ℕ) → Has (all_items rest) y → k < y
-  pub retied : AreRetied number (λ _. renamed_link (place_in (all_items chains))) old now (all_items done)
+  pub low : (y : ℕ) → IsMember (all_items rest) y → k < y
+  pub retied : AreRelinked number (λ _. renamed_link (place_in (all_items chains))) old now (all_items done)
   pub numbered : AreNumbered number now.slots count (all_items done)
-  pub shows : ShowsMoves g key (ptr_at (slot_at old.slots)) generation 1 f (all_items done) last
+  pub shows : ReportsMoves g key (ptr_at (slot_at old.slots)) generation 1 f (all_items done) last
   pub work : IsWork before after 0 (k + 4 * length (all_items done))
 
 module _ {Gen K T F P : Type 0} (number : K → Option ℕ) (g : F → P → P → F → Type 0) (key : P → ℕ × Gen) (generation : Gen) (f : F) (old : Held Gen (LinkBody K T)) (before : Arena Gen (LinkBody K T)) where
   -- no slot is passed yet
-  pub order_begins : Agrees (shown_in number old.slots) → ((j : ℕ) → given number old.slots j ≡ None) → IsOrdering number g key generation f f old old before before 0 0
+  pub order_begins : IsWellLinked (link_map_in number old.slots) → ((j : ℕ) → destination_at number old.slots j ≡ None) → IsOrdering number g key generation f f old old before before 0 0
   order_begins agrees none =
-      let within = slots-within (interlinks_seen number) old.slots in
-      let all = the_chains (shown_in number old.slots) (length old.slots) agrees within in
+      let within = slots-within (body_interlinks number) old.slots in
+      let all = the_chains (link_map_in number old.slots) (length old.slots) agrees within in
       record {
         chains = all.0;
         are = all.1;
@@ -156,20 +156,20 @@ module _ {Gen K T F P : Type 0} (number : K → Option ℕ) (g : F → P → P �
 
   module _ (last : F) (now : Held Gen (LinkBody K T)) (after : Arena Gen (LinkBody K T)) (count k : ℕ) (o : IsOrdering number g key generation f last old now before after count k) where
     -- a link that is not numbered yet is as it was
-    as_old : (j : ℕ) → (Has (all_items o.done) j → ⊥) → shown_in number now.slots j ≡ shown_in number old.slots j
-    as_old j out = ap (option_map (interlinks_seen number)) (o.retied.stay j out)
+    as_old : (j : ℕ) → (IsMember (all_items o.done) j → ⊥) → link_map_in number now.slots j ≡ link_map_in number old.slots j
+    as_old j out = ap (option_map (body_interlinks number)) (o.retied.stay j out)
 
-    are : AreChains (shown_in number old.slots) o.chains
-    are = chains_from_pairs (shown_in number old.slots) o.chains o.are.partition o.are.interlinks
+    are : AreChains (link_map_in number old.slots) o.chains
+    are = chains_from_pairs (link_map_in number old.slots) o.chains o.are.partition o.are.interlinks
 
     all_parts : all_items o.chains ≡ all_items o.done ++ all_items o.rest
     all_parts = ap all_items o.parts ∙ all_items-append o.done o.rest
 
-    once : HasNoRepetition (all_items o.done ++ all_items o.rest)
-    once = subst HasNoRepetition all_parts are.once
+    once : AreDistinct (all_items o.done ++ all_items o.rest)
+    once = subst AreDistinct all_parts are.once
 
-    rest_valid : (j : ℕ) → Has (all_items o.rest) j → HasLink (shown_in number old.slots) j
-    rest_valid j h = (o.are.partition.valid j).1 (subst (λ (xs : List ℕ). Has xs j) (sym all_parts) (Has-right (all_items o.done) (all_items o.rest) j h))
+    rest_valid : (j : ℕ) → IsMember (all_items o.rest) j → HasLink (link_map_in number old.slots) j
+    rest_valid j h = (o.are.partition.valid j).1 (subst (λ (xs : List ℕ). IsMember xs j) (sym all_parts) (IsMember-right (all_items o.done) (all_items o.rest) j h))
 
     -- all slots are passed
     pub order_ends : k ≡ length old.slots → AreAllNumbered number g key generation f last old now before after count
@@ -179,23 +179,23 @@ module _ {Gen K T F P : Type 0} (number : K → Option ℕ) (g : F → P → P �
       counted = o.numbered.counts;
       places = o.numbered.places;
       renamed = all_retied number (place_in (all_items o.done)) old now (all_items o.done)
-          (subst (λ (xs : List ℕ). AreRetied number (λ _. renamed_link (place_in xs)) old now (all_items o.done)) whole o.retied) each;
+          (subst (λ (xs : List ℕ). AreRelinked number (λ _. renamed_link (place_in xs)) old now (all_items o.done)) whole o.retied) each;
       shows = o.shows;
       work = subst (λ (n : ℕ). IsWork before after 0 (n + 4 * length (all_items o.done))) all o.work;
     }
       where
-        none : (y : ℕ) → Has (all_items o.rest) y → ⊥
+        none : (y : ℕ) → IsMember (all_items o.rest) y → ⊥
         none y h =
             let low : k < y = o.low y h in
-            let high : y ≤ length old.slots = ((slots-within (interlinks_seen number) old.slots).within y (rest_valid y h)).1 in
+            let high : y ≤ length old.slots = ((slots-within (body_interlinks number) old.slots).within y (rest_valid y h)).1 in
             omega (arith, all)
 
         whole : all_items o.chains ≡ all_items o.done
         whole = all_parts ∙ (ap (λ (xs : List ℕ). all_items o.done ++ xs) (no_items (all_items o.rest) none) ∙ append-nil (all_items o.done))
 
-        each : (j : ℕ) (e : Gen × LinkBody K T) → slot_at old.slots j ≡ Some e → Has (all_items o.done) j
+        each : (j : ℕ) (e : Gen × LinkBody K T) → slot_at old.slots j ≡ Some e → IsMember (all_items o.done) j
         each j e is =
-            subst (λ (xs : List ℕ). Has xs j) whole ((o.are.partition.valid j).0 (record { link = interlinks_seen number e; shows = ap (option_map (interlinks_seen number)) is }))
+            subst (λ (xs : List ℕ). IsMember xs j) whole ((o.are.partition.valid j).0 (record { link = body_interlinks number e; shows = ap (option_map (body_interlinks number)) is }))
 
     module _ (i : ℕ) (is : i ≡ k + 1) where
       -- no link without a destination stands in the next slot
@@ -208,90 +208,90 @@ module _ {Gen K T F P : Type 0} (number : K → Option ℕ) (g : F → P → P �
         rest = o.rest;
         parts = o.parts;
         low = λ y h. lower y h (ℕ_discrete y i);
-        retied = subst (λ (h : Held Gen (LinkBody K T)). AreRetied number (λ _. renamed_link (place_in (all_items o.chains))) old h (all_items o.done)) (sym same) o.retied;
+        retied = subst (λ (h : Held Gen (LinkBody K T)). AreRelinked number (λ _. renamed_link (place_in (all_items o.chains))) old h (all_items o.done)) (sym same) o.retied;
         numbered = subst (λ (h : Held Gen (LinkBody K T)). AreNumbered number h.slots count (all_items o.done)) (sym same) o.numbered;
         shows = o.shows;
         work = work-more o.work look 0 (k + 1 + 4 * length (all_items o.done)) refl (omega arith);
       }
         where
-          not_here : Has (all_items o.rest) i → ⊥
+          not_here : IsMember (all_items o.rest) i → ⊥
           not_here h =
               let v = rest_valid i h in
-              let out = λ (m : Has (all_items o.done) i). HasNoRepetition-apart (all_items o.done) (all_items o.rest) i once m h in
+              let out = λ (m : IsMember (all_items o.done) i). AreDistinct-apart (all_items o.done) (all_items o.rest) i once m h in
               stale_some number (slot_at now.slots i) v.link (as_old i out ∙ v.shows) stale (o.numbered.places i ∙ place-none 1 (all_items o.done) i out)
 
-          lower : (y : ℕ) → Has (all_items o.rest) y → Dec (y ≡ i) → k + 1 < y
-          lower y h (yes s) = absurd (not_here (subst (Has (all_items o.rest)) s h))
+          lower : (y : ℕ) → IsMember (all_items o.rest) y → Dec (y ≡ i) → k + 1 < y
+          lower y h (yes s) = absurd (not_here (subst (IsMember (all_items o.rest)) s h))
           lower y h (no ne) = let low : k < y = o.low y h in omega arith
 
       -- the first link of the next chain stands there
       module _ (fresh : is_fresh number (slot_at now.slots i) ≡ true) where
-        not_done : Has (all_items o.done) i → ⊥
+        not_done : IsMember (all_items o.done) i → ⊥
         not_done h =
             let p = has-place 1 (all_items o.done) i h in
             let none : None ≡ Some p.0 = sym (fresh_none number (slot_at now.slots i) fresh) ∙ (o.numbered.places i ∙ p.1) in
             absurd (cc)
 
-        stands : HasLink (shown_in number old.slots) i
+        stands : HasLink (link_map_in number old.slots) i
         stands = let s = fresh_shown number (slot_at now.slots i) fresh in record { link = s.0; shows = sym (as_old i not_done) ∙ s.1 }
 
-        in_rest : Has (all_items o.rest) i
-        in_rest = by (Has-parts (all_items o.done) (all_items o.rest) i (subst (λ (xs : List ℕ). Has xs i) all_parts (are.all i stands)))
+        in_rest : IsMember (all_items o.rest) i
+        in_rest = by (IsMember-parts (all_items o.done) (all_items o.rest) i (subst (λ (xs : List ℕ). IsMember xs i) all_parts (are.all i stands)))
           where
-            by : Has (all_items o.done) i ⊎ Has (all_items o.rest) i → Has (all_items o.rest) i
+            by : IsMember (all_items o.done) i ⊎ IsMember (all_items o.rest) i → IsMember (all_items o.rest) i
             by (inr h) = h
             by (inl h) = absurd (not_done h)
 
         the_next : IsNext o.rest i
-        the_next = next_chain o.rest k i is (rises-right o.done o.rest (subst Rises o.parts o.are.order.rises)) o.low in_rest
+        the_next = next_chain o.rest k i is (rises-right o.done o.rest (subst IsSortedByLeast o.parts o.are.order.rises)) o.low in_rest
 
         first_here : HasChain o.chains the_next.first
         first_here = subst (λ (cs : List Chain). HasChain cs the_next.first) (sym o.parts)
             (has_chain-right o.done o.rest the_next.first (subst (λ (cs : List Chain). HasChain cs the_next.first) (sym the_next.rest_is) (inl refl)))
 
-        apart : (j : ℕ) → Has (items the_next.first) j → Has (all_items o.done) j → ⊥
-        apart j h m = HasNoRepetition-apart (all_items o.done) (all_items o.rest) j once m
-            (subst (λ (cs : List Chain). Has (all_items cs) j) (sym the_next.rest_is) (Has-left (items the_next.first) (all_items the_next.others) j h))
+        apart : (j : ℕ) → IsMember (items the_next.first) j → IsMember (all_items o.done) j → ⊥
+        apart j h m = AreDistinct-apart (all_items o.done) (all_items o.rest) j once m
+            (subst (λ (cs : List Chain). IsMember (all_items cs) j) (sym the_next.rest_is) (IsMember-left (items the_next.first) (all_items the_next.others) j h))
 
-        first_chain : IsChain (shown_in number now.slots) the_next.first
-        first_chain = IsChain-frame (shown_in number old.slots) (shown_in number now.slots) the_next.first (λ j h. sym (as_old j (apart j h))) (are.each the_next.first first_here)
+        first_chain : IsChain (link_map_in number now.slots) the_next.first
+        first_chain = IsChain-frame (link_map_in number old.slots) (link_map_in number now.slots) the_next.first (λ j h. sym (as_old j (apart j h))) (are.each the_next.first first_here)
 
-        first_written : IsWritten the_next.first
+        first_written : StartsAtLeast the_next.first
         first_written = o.are.order.written the_next.first first_here
 
         -- it is written from where the walk back ended
-        starts : (start : ℕ) → IsStart (shown_in number now.slots) i start → first_or (items the_next.first) None ≡ Some start
+        starts : (start : ℕ) → IsStart (link_map_in number now.slots) i start → first_or (items the_next.first) None ≡ Some start
         starts start from = by the_next.first first_chain first_written the_next.has the_next.least
           where
-            by : (c : Chain) → IsChain (shown_in number now.slots) c → IsWritten c → Has (items c) i → ((y : ℕ) → Has (items c) y → i ≤ y) → first_or (items c) None ≡ Some start
+            by : (c : Chain) → IsChain (link_map_in number now.slots) c → StartsAtLeast c → IsMember (items c) i → ((y : ℕ) → IsMember (items c) y → i ≤ y) → first_or (items c) None ≡ Some start
             by (linear xs) h w m least = from.in_linear xs h m
             by (cyclic []) h w m least = absurd m
             by (cyclic (x ∷ xs)) h w m least =
                 let low : x ≤ i = written_least x xs i w m in
                 let high : i ≤ x = least x (inl refl) in
                 let same : x ≡ i = omega arith in
-                let at : start ≡ i = from.in_cyclic xs (subst (λ (z : ℕ). IsChain (shown_in number now.slots) (cyclic (z ∷ xs))) same h) in
+                let at : start ≡ i = from.in_cyclic xs (subst (λ (z : ℕ). IsChain (link_map_in number now.slots) (cyclic (z ∷ xs))) same h) in
                 ap (λ (z : ℕ). Some z) (same ∙ sym at)
 
         -- it is found from i
-        found_from : HasChainFrom (shown_in number now.slots) i
+        found_from : HasChainFrom (link_map_in number now.slots) i
         found_from = by the_next.first first_chain first_written the_next.has the_next.least
           where
-            by : (c : Chain) → IsChain (shown_in number now.slots) c → IsWritten c → Has (items c) i → ((y : ℕ) → Has (items c) y → i ≤ y) → HasChainFrom (shown_in number now.slots) i
+            by : (c : Chain) → IsChain (link_map_in number now.slots) c → StartsAtLeast c → IsMember (items c) i → ((y : ℕ) → IsMember (items c) y → i ≤ y) → HasChainFrom (link_map_in number now.slots) i
             by (linear xs) h w m least = (xs, inl (h, m))
             by (cyclic []) h w m least = absurd m
             by (cyclic (x ∷ xs)) h w m least =
                 let low : x ≤ i = written_least x xs i w m in
                 let high : i ≤ x = least x (inl refl) in
                 let same : x ≡ i = omega arith in
-                (xs, inr (subst (λ (z : ℕ). IsChain (shown_in number now.slots) (cyclic (z ∷ xs))) same h))
+                (xs, inr (subst (λ (z : ℕ). IsChain (link_map_in number now.slots) (cyclic (z ∷ xs))) same h))
 
         -- the walk back looked at no more links than it has
-        start_work : (a b : Arena Gen (LinkBody K T)) → ((xs : List ℕ) → IsChain (shown_in number now.slots) (linear xs) → Has xs i → IsWork a b 0 (length xs))
-            → ((xs : List ℕ) → IsChain (shown_in number now.slots) (cyclic (i ∷ xs)) → IsWork a b 0 (length xs + 1)) → IsWork a b 0 (length (items the_next.first))
+        start_work : (a b : Arena Gen (LinkBody K T)) → ((xs : List ℕ) → IsChain (link_map_in number now.slots) (linear xs) → IsMember xs i → IsWork a b 0 (length xs))
+            → ((xs : List ℕ) → IsChain (link_map_in number now.slots) (cyclic (i ∷ xs)) → IsWork a b 0 (length xs + 1)) → IsWork a b 0 (length (items the_next.first))
         start_work a b in_linear in_cyclic = by the_next.first first_chain first_written the_next.has the_next.least
           where
-            by : (c : Chain) → IsChain (shown_in number now.slots) c → IsWritten c → Has (items c) i → ((y : ℕ) → Has (items c) y → i ≤ y) → IsWork a b 0 (length (items c))
+            by : (c : Chain) → IsChain (link_map_in number now.slots) c → StartsAtLeast c → IsMember (items c) i → ((y : ℕ) → IsMember (items c) y → i ≤ y) → IsWork a b 0 (length (items c))
             by (linear xs) h w m least = in_linear xs h m
             by (cyclic []) h w m least = absurd m
             by (cyclic (x ∷ xs)) h w m least =
@@ -299,7 +299,7 @@ module _ {Gen K T F P : Type 0} (number : K → Option ℕ) (g : F → P → P �
                 let high : i ≤ x = least x (inl refl) in
                 let same : x ≡ i = omega arith in
                 let long : length xs + 1 ≡ length (x ∷ xs) = omega arith in
-                subst (IsWork a b 0) long (in_cyclic xs (subst (λ (z : ℕ). IsChain (shown_in number now.slots) (cyclic (z ∷ xs))) same h))
+                subst (IsWork a b 0) long (in_cyclic xs (subst (λ (z : ℕ). IsChain (link_map_in number now.slots) (cyclic (z ∷ xs))) same h))
 
         with_first : all_items o.done ++ items the_next.first ≡ all_items (o.done ++ the_next.first ∷ [])
         with_first = sym (all_items-append o.done (the_next.first ∷ []) ∙ ap (λ (xs : List ℕ). all_items o.done ++ xs) (append-nil (items the_next.first)))
@@ -308,7 +308,7 @@ module _ {Gen K T F P : Type 0} (number : K → Option ℕ) (g : F → P → P �
         room =
             let long : length now.slots ≡ length old.slots = o.retied.long in
             let bound : length (all_items o.chains) ≤ length old.slots = length_bound (all_items o.chains) (length old.slots) are.once
-            (λ j h. (slots-within (interlinks_seen number) old.slots).within j ((o.are.partition.valid j).1 h)) in
+            (λ j h. (slots-within (body_interlinks number) old.slots).within j ((o.are.partition.valid j).1 h)) in
             let a : length (all_items o.chains) ≡ length (all_items o.done ++ all_items o.rest) = ap length all_parts in
             let b : length (all_items o.done ++ all_items o.rest) ≡ length (all_items o.done) + length (all_items o.rest) = length-append (all_items o.done) (all_items o.rest) in
             let c : length (all_items o.rest) ≡ length (items the_next.first ++ all_items the_next.others) = ap (λ (cs : List Chain). length (all_items cs)) the_next.rest_is in
@@ -317,16 +317,16 @@ module _ {Gen K T F P : Type 0} (number : K → Option ℕ) (g : F → P → P �
 
         -- the same over what the look left as it was
         module _ (mid : Held Gen (LinkBody K T)) (look : mid ≡ now) where
-          pub order_found : HasChainFrom (shown_in number mid.slots) i
-          order_found = subst (λ (h : Held Gen (LinkBody K T)). HasChainFrom (shown_in number h.slots) i) (sym look) found_from
+          pub order_found : HasChainFrom (link_map_in number mid.slots) i
+          order_found = subst (λ (h : Held Gen (LinkBody K T)). HasChainFrom (link_map_in number h.slots) i) (sym look) found_from
 
           -- .. and the walk back
-          module _ (stood : Held Gen (LinkBody K T)) (walked : stood ≡ mid) (start : ℕ) (from : IsStart (shown_in number mid.slots) i start) where
+          module _ (stood : Held Gen (LinkBody K T)) (walked : stood ≡ mid) (start : ℕ) (from : IsStart (link_map_in number mid.slots) i start) where
             can_here : CanNumber number stood.slots start count (all_items o.done) the_next.first
             can_here = subst (λ (h : Held Gen (LinkBody K T)). CanNumber number h.slots start count (all_items o.done) the_next.first) (sym (walked ∙ look)) (record {
               numbered = o.numbered;
               chain = first_chain;
-              starts = starts start (subst (λ (h : Held Gen (LinkBody K T)). IsStart (shown_in number h.slots) i start) look from);
+              starts = starts start (subst (λ (h : Held Gen (LinkBody K T)). IsStart (link_map_in number h.slots) i start) look from);
               apart = apart;
               room = room;
             })
@@ -337,8 +337,8 @@ module _ {Gen K T F P : Type 0} (number : K → Option ℕ) (g : F → P → P �
             -- the next chain is numbered
             pub order_goes_on : (a b d : Arena Gen (LinkBody K T)) (next : F) (new : Held Gen (LinkBody K T)) (more : ℕ)
                 → IsWork after a 0 1
-                → ((xs : List ℕ) → IsChain (shown_in number mid.slots) (linear xs) → Has xs i → IsWork a b 0 (length xs))
-                → ((xs : List ℕ) → IsChain (shown_in number mid.slots) (cyclic (i ∷ xs)) → IsWork a b 0 (length xs + 1))
+                → ((xs : List ℕ) → IsChain (link_map_in number mid.slots) (linear xs) → IsMember xs i → IsWork a b 0 (length xs))
+                → ((xs : List ℕ) → IsChain (link_map_in number mid.slots) (cyclic (i ∷ xs)) → IsWork a b 0 (length xs + 1))
                 → ((done : List ℕ) (c : Chain) → CanNumber number stood.slots start count done c → IsChainNumbered number g key generation last next stood new b d more done c)
                 → IsOrdering number g key generation f next old new before d more (k + 1)
             order_goes_on a b d next new more looked in_linear in_cyclic numbers = record {
@@ -348,13 +348,13 @@ module _ {Gen K T F P : Type 0} (number : K → Option ℕ) (g : F → P → P �
               rest = the_next.others;
               parts = o.parts ∙ (ap (λ (cs : List Chain). o.done ++ cs) the_next.rest_is ∙ sym (chains_assoc o.done the_next.first the_next.others));
               low = λ y h. (let low : i < y = the_next.above y h in omega arith);
-              retied = subst (AreRetied number (λ _. renamed_link (place_in (all_items o.chains))) old new) with_first
+              retied = subst (AreRelinked number (λ _. renamed_link (place_in (all_items o.chains))) old new) with_first
                   (retied_then number (λ _. renamed_link (place_in (all_items o.chains))) old now (all_items o.done) o.retied new (items the_next.first) first_retied apart);
               numbered = subst (AreNumbered number new.slots more) with_first chain.numbered;
-              shows = subst (λ (xs : List ℕ). ShowsMoves g key (ptr_at (slot_at old.slots)) generation 1 f xs next) with_first
+              shows = subst (λ (xs : List ℕ). ReportsMoves g key (ptr_at (slot_at old.slots)) generation 1 f xs next) with_first
                   (shows_then g key (ptr_at (slot_at old.slots)) generation 1 f last next (all_items o.done) (items the_next.first) o.shows
-                  (subst (λ (n : ℕ). ShowsMoves g key (ptr_at (slot_at old.slots)) generation n last (items the_next.first) next) place
-                  (subst (λ (pointer : ℕ → Option (ℕ × Gen)). ShowsMoves g key pointer generation (length (all_items o.done) + 1) last (items the_next.first) next) pointers chain.shows)));
+                  (subst (λ (n : ℕ). ReportsMoves g key (ptr_at (slot_at old.slots)) generation n last (items the_next.first) next) place
+                  (subst (λ (pointer : ℕ → Option (ℕ × Gen)). ReportsMoves g key pointer generation (length (all_items o.done) + 1) last (items the_next.first) next) pointers chain.shows)));
               work = work-more (work-more (work-more o.work looked 0 (k + 1 + 4 * length (all_items o.done)) refl (omega arith)) walk 0 (k + 1 + 4 * length (all_items o.done) + length (items the_next.first)) refl (omega arith))
                   chain.work 0 (k + 1 + 4 * length (all_items (o.done ++ the_next.first ∷ []))) refl (omega (arith, long));
             }
@@ -371,17 +371,17 @@ module _ {Gen K T F P : Type 0} (number : K → Option ℕ) (g : F → P → P �
                 place = omega arith
 
                 -- a neighbor's place in its chain is its place among all
-                in_all : (j : ℕ) → Has (items the_next.first) j → place_from (length (all_items o.done) + 1) (items the_next.first) j ≡ place_in (all_items o.chains) j
+                in_all : (j : ℕ) → IsMember (items the_next.first) j → place_from (length (all_items o.done) + 1) (items the_next.first) j ≡ place_in (all_items o.chains) j
                 in_all j h =
                     ap (λ (n : ℕ). place_from n (items the_next.first) j) place
                     ∙ (sym (place-front (1 + length (all_items o.done)) (items the_next.first) (all_items the_next.others) j h)
                     ∙ (sym (place-append 1 (all_items o.done) (items the_next.first ++ all_items the_next.others) j (apart j h))
                     ∙ ap (λ (xs : List ℕ). place_in xs j) (ap (λ (cs : List Chain). all_items o.done ++ all_items cs) (sym the_next.rest_is) ∙ sym all_parts)))
 
-                now_retied : AreRetied number (λ _. renamed_link (place_from (length (all_items o.done) + 1) (items the_next.first))) now new (items the_next.first)
-                now_retied = subst (λ (h : Held Gen (LinkBody K T)). AreRetied number (λ _. renamed_link (place_from (length (all_items o.done) + 1) (items the_next.first))) h new (items the_next.first)) (walked ∙ look) chain.retied
+                now_retied : AreRelinked number (λ _. renamed_link (place_from (length (all_items o.done) + 1) (items the_next.first))) now new (items the_next.first)
+                now_retied = subst (λ (h : Held Gen (LinkBody K T)). AreRelinked number (λ _. renamed_link (place_from (length (all_items o.done) + 1) (items the_next.first))) h new (items the_next.first)) (walked ∙ look) chain.retied
 
-                first_retied : AreRetied number (λ _. renamed_link (place_in (all_items o.chains))) now new (items the_next.first)
+                first_retied : AreRelinked number (λ _. renamed_link (place_in (all_items o.chains))) now new (items the_next.first)
                 first_retied =
                     retied_as number (λ _. renamed_link (place_from (length (all_items o.done) + 1) (items the_next.first))) now new (items the_next.first) now_retied
                     (λ _. renamed_link (place_in (all_items o.chains))) (λ j h. renamed_alike number (place_from (length (all_items o.done) + 1) (items the_next.first)) (place_in (all_items o.chains)) now.slots the_next.first first_chain in_all j h)
@@ -391,5 +391,5 @@ module _ {Gen K T F P : Type 0} (number : K → Option ℕ) (g : F → P → P �
 
                 walk : IsWork a b 0 (length (items the_next.first))
                 walk = start_work a b
-                    (subst (λ (h : Held Gen (LinkBody K T)). (xs : List ℕ) → IsChain (shown_in number h.slots) (linear xs) → Has xs i → IsWork a b 0 (length xs)) look in_linear)
-                    (subst (λ (h : Held Gen (LinkBody K T)). (xs : List ℕ) → IsChain (shown_in number h.slots) (cyclic (i ∷ xs)) → IsWork a b 0 (length xs + 1)) look in_cyclic)
+                    (subst (λ (h : Held Gen (LinkBody K T)). (xs : List ℕ) → IsChain (link_map_in number h.slots) (linear xs) → IsMember xs i → IsWork a b 0 (length xs)) look in_linear)
+                    (subst (λ (h : Held Gen (LinkBody K T)). (xs : List ℕ) → IsChain (link_map_in number h.slots) (cyclic (i ∷ xs)) → IsWork a b 0 (length xs + 1)) look in_cyclic)

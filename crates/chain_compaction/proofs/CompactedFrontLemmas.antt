@@ -6,9 +6,9 @@ use Rattle.std.specs.Option.{option_map}
 use Rattle.arena_base.specs.Arena.{slot_at}
 use Rattle.arena_base.specs.DetachedSlots.{IsPacked, before_cut, trimmed, free_from}
 use Rattle.chain_links.specs.declared.links.LinkBody.{LinkBody}
-use Rattle.chain_links.specs.ChainArena.{LinkSeen}
-use Rattle.chain_links.specs.Links.{seen_link, seen_pair}
-use Rattle.chain_compaction.specs.Permutations.{Waits, HaveMoved, GoToFront, goal_of, Settles}
+use Rattle.chain_links.specs.ChainArena.{LinkView}
+use Rattle.chain_links.specs.Links.{link_view, pair_view}
+use Rattle.chain_compaction.specs.Permutations.{Waits, HaveMoved, GoToFront, destination_of, Settles}
 use Rattle.arena_base.proofs.PackedSlotLemmas.{all_cut}
 use Rattle.chain_links.proofs.MappedArenaLemmas.{slot_at-map}
 
@@ -67,13 +67,13 @@ module _ {E : Type 0} (goal : E → Option ℕ) (Settles : E → E → Type 0) (
 
 module _ {Gen K T : Type 0} (number : K → Option ℕ) (g : Gen) where
   -- what an entry shows once it has come
-  pub settled_seen : (e f : Gen × LinkBody K T) → Settles number g e f → seen_pair number f ≡ (g, seen_link number e.1)
-  settled_seen e f s = ap₂ (λ (h : Gen) (l : LinkSeen T). (h, l)) s.generation (ap (seen_link number) s.rest)
+  pub settled_seen : (e f : Gen × LinkBody K T) → Settles number g e f → pair_view number f ≡ (g, link_view number e.1)
+  settled_seen e f s = ap₂ (λ (h : Gen) (l : LinkView T). (h, l)) s.generation (ap (link_view number) s.rest)
 
   -- so at its destination an entry shows what it showed, with the generation
-  pub moved_seen : (old new : List (Option (Gen × LinkBody K T))) → HaveMoved (goal_of number) (Settles number g) (slot_at old) (slot_at new) → (i d : ℕ) (e : Gen × LinkBody K T)
-      → Waits (goal_of number) (slot_at old) i e d → slot_at (map (option_map (seen_pair number)) new) d ≡ Some (g, seen_link number e.1)
+  pub moved_seen : (old new : List (Option (Gen × LinkBody K T))) → HaveMoved (destination_of number) (Settles number g) (slot_at old) (slot_at new) → (i d : ℕ) (e : Gen × LinkBody K T)
+      → Waits (destination_of number) (slot_at old) i e d → slot_at (map (option_map (pair_view number)) new) d ≡ Some (g, link_view number e.1)
   moved_seen old new moved i d e w =
       let there = moved.there i d e w in
-      slot_at-map (seen_pair number) new d
-      ∙ (ap (option_map (seen_pair number)) there.stands ∙ ap (λ (x : Gen × LinkSeen T). let o : Option (Gen × LinkSeen T) = Some x in o) (settled_seen e there.entry there.settled))
+      slot_at-map (pair_view number) new d
+      ∙ (ap (option_map (pair_view number)) there.stands ∙ ap (λ (x : Gen × LinkView T). let o : Option (Gen × LinkView T) = Some x in o) (settled_seen e there.entry there.settled))

@@ -6,7 +6,7 @@ use Rattle.std.specs.Fn.{Mut}
 use Rattle.std.proofs.lemmas.List.{length-map}
 use mathlib.Core.Path.{fun_ext}
 use denote.Ref.{MutBor}
-use Rattle.chain_laws.specs.Chains.{Shown}
+use Rattle.chain_laws.specs.Chains.{LinkMap}
 use Rattle.chain_laws.specs.Renamings.{IsRenaming}
 use Rattle.chain_laws.specs.Arrangements.{place_in}
 use Rattle.arena_base.specs.Arena.{Arena, slot_at}
@@ -16,12 +16,12 @@ use Rattle.arena_base.specs.Compressions.{VisitsAll}
 use Rattle.arena_base.specs.GatheredSlots.{AreClosed, IsGathered, gathered, with_totals}
 use Rattle.arena_base.proofs.CompactedArenaLemmas.{gathers, few_entries}
 use Rattle.chain_links.specs.declared.links.LinkBody.{LinkBody}
-use Rattle.chain_links.specs.ChainArena.{on_value, with_each, interlinks_of, shown, values_of}
-use Rattle.chain_links.specs.Links.{held_in, seen_links, seen_pair}
-use Rattle.chain_compaction.specs.DetachedLinks.{held_values, interlinks_seen, shown_in, indexes_in, IsWork}
+use Rattle.chain_links.specs.ChainArena.{on_value, with_each, interlinks_of, link_map, values_of}
+use Rattle.chain_links.specs.Links.{held_in, links_view, pair_view}
+use Rattle.chain_compaction.specs.DetachedLinks.{held_values, body_interlinks, link_map_in, indexes_in, IsWork}
 use Rattle.chain_compaction.specs.LinkCompressions.{AreGathered}
-use Rattle.chain_links.proofs.LinkStateLemmas.{entry_at-seen_links}
-use Rattle.chain_compaction.proofs.ValueViewLemmas.{values_of-seen_links}
+use Rattle.chain_links.proofs.LinkStateLemmas.{entry_at-links_view}
+use Rattle.chain_compaction.proofs.ValueViewLemmas.{values_of-links_view}
 
 -- slots without the free ones at the end, mapped
 module _ {X Y : Type 0} (f : X → Y) where
@@ -58,15 +58,15 @@ module _ {X : Type 0} where
 
 module _ {Gen K T : Type 0} (number : K → Option ℕ) where
   -- an arena of links shows what its slots show
-  pub shown-slots : (a : Arena Gen (LinkBody K T)) → shown (seen_links number a) ≡ shown_in number a.slots
-  shown-slots a = fun_ext (λ i. ap (option_map interlinks_of) (entry_at-seen_links number a i) ∙ twice (slot_at a.slots i))
+  pub link_map-slots : (a : Arena Gen (LinkBody K T)) → link_map (links_view number a) ≡ link_map_in number a.slots
+  link_map-slots a = fun_ext (λ i. ap (option_map interlinks_of) (entry_at-links_view number a i) ∙ twice (slot_at a.slots i))
     where
-      twice : (o : Option (Gen × LinkBody K T)) → option_map interlinks_of (option_map (seen_pair number) o) ≡ option_map (interlinks_seen number) o
+      twice : (o : Option (Gen × LinkBody K T)) → option_map interlinks_of (option_map (pair_view number) o) ≡ option_map (body_interlinks number) o
       twice None = refl
       twice (Some e) = refl
 
-  shown-trimmed : (slots : List (Option (Gen × LinkBody K T))) → shown_in number (trimmed slots) ≡ shown_in number slots
-  shown-trimmed slots = fun_ext (λ i. ap (option_map (interlinks_seen number)) (slot_at-trimmed slots i))
+  link_map-trimmed : (slots : List (Option (Gen × LinkBody K T))) → link_map_in number (trimmed slots) ≡ link_map_in number slots
+  link_map-trimmed slots = fun_ext (λ i. ap (option_map (body_interlinks number)) (slot_at-trimmed slots i))
 
 -- the values of an arena that gets slots back
 values-returned : {Gen K T : Type 0} (greatest : ℕ) (a : Arena Gen (LinkBody K T)) (held : Held Gen (LinkBody K T)) → with_each held_in (returned greatest a held) ≡ returned greatest (with_each held_in a) (held_values held)
@@ -109,22 +109,22 @@ module _ {F P T Gen K : Type 0} (g : Mut F (P × (MutBor T × (P × Unit {0}))) 
         let held : length before.slots ≡ length old.slots = ap (λ (h : Held Gen (LinkBody K T)). length h.slots) is_before in
         omega (arith, work.few, few, long, held)
 
-    pub links_gathered : old.capacity ≡ min old.stack_capacity greatest → generation ≡ old.counter → IsRenaming (place_in (indexes_in (held_values before).slots)) (shown_in number before.slots) (shown_in number after.slots)
-        → AreGathered g key f (seen_links number old) (seen_links number new)
+    pub links_gathered : old.capacity ≡ min old.stack_capacity greatest → generation ≡ old.counter → IsRenaming (place_in (indexes_in (held_values before).slots)) (link_map_in number before.slots) (link_map_in number after.slots)
+        → AreGathered g key f (links_view number old) (links_view number new)
     links_gathered room counter renamed =
         let like = like_gathered room counter in
-        let old_same = values_of-seen_links number old in
-        let new_same = values_of-seen_links number new in
-        let shown_old : shown_in number before.slots ≡ shown (seen_links number old) = ap (λ (h : Held Gen (LinkBody K T)). shown_in number h.slots) is_before ∙ sym (shown-slots number old) in
-        let shown_new : shown_in number after.slots ≡ shown (seen_links number new) =
-        sym (shown-slots number new ∙ (ap (λ (a : Arena Gen (LinkBody K T)). shown_in number a.slots) is_new ∙ shown-trimmed number after.slots)) in
-        let indexes : indexes_in (held_values before).slots ≡ map index_of (entries (values_of (seen_links number old))) =
+        let old_same = values_of-links_view number old in
+        let new_same = values_of-links_view number new in
+        let shown_old : link_map_in number before.slots ≡ link_map (links_view number old) = ap (λ (h : Held Gen (LinkBody K T)). link_map_in number h.slots) is_before ∙ sym (link_map-slots number old) in
+        let shown_new : link_map_in number after.slots ≡ link_map (links_view number new) =
+        sym (link_map-slots number new ∙ (ap (λ (a : Arena Gen (LinkBody K T)). link_map_in number a.slots) is_new ∙ link_map-trimmed number after.slots)) in
+        let indexes : indexes_in (held_values before).slots ≡ map index_of (entries (values_of (links_view number old))) =
         ap (λ (h : Held Gen (LinkBody K T)). indexes_in (held_values h).slots) is_before ∙ ap (λ (a : Arena Gen T). map index_of (entries a)) old_same in
         record {
           values = like.values;
           touches = work.touches;
-          few = subst (λ (n : ℕ). work.touches ≤ 4 * n) (sym (length-map old.slots (option_map (seen_pair number)))) few_touches;
+          few = subst (λ (n : ℕ). work.touches ≤ 4 * n) (sym (length-map old.slots (option_map (pair_view number)))) few_touches;
           arena = sym new_same ∙ (values_now ∙ ((λ i. record (like.arena i) { touched = old.touched + work.touches }) ∙ ap (λ (a : Arena Gen T). record (gathered a like.values) { touched = old.touched + work.touches }) old_same));
           visits = subst (λ (p : Arena Gen T × Arena Gen T). VisitsAll g key f (entries p.0) (entries p.1)) (λ i. (old_same i, (sym values_now ∙ new_same) i)) like.visits;
-          renamed = subst (λ (p : List ℕ × (Shown × Shown)). IsRenaming (place_in p.0) p.1.0 p.1.1) (λ i. (indexes i, (shown_old i, shown_new i))) renamed;
+          renamed = subst (λ (p : List ℕ × (LinkMap × LinkMap)). IsRenaming (place_in p.0) p.1.0 p.1.1) (λ i. (indexes i, (shown_old i, shown_new i))) renamed;
         }

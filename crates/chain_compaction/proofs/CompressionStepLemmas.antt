@@ -5,13 +5,13 @@ use Rattle.std.specs.Option.{option_map}
 use Rattle.std.specs.Fn.{Mut}
 use Rattle.std.proofs.lemmas.List.{length-map}
 use denote.Ref.{MutBor}
-use Rattle.chain_laws.specs.Chains.{Agrees}
+use Rattle.chain_laws.specs.Chains.{IsWellLinked}
 use Rattle.chain_laws.specs.Renamings.{IsRenaming}
 use Rattle.chain_laws.specs.Arrangements.{place_in}
 use Rattle.chain_laws.specs.Moves.{moved, CanMove}
 use Rattle.arena_base.specs.Arena.{Arena, slot_at}
 use Rattle.arena_base.specs.Entries.{entries_from}
-use Rattle.arena_base.specs.DetachedSlots.{Held, IsPacked, placed, held_with_value, with_touch}
+use Rattle.arena_base.specs.DetachedSlots.{Held, IsPacked, with_placed_entry, held_with_value, with_touch}
 use Rattle.arena_base.specs.Compressions.{IsVisit, VisitsAll}
 use Rattle.arena_base.specs.GatheredSlots.{AreClosed}
 use Rattle.arena_base.proofs.HoleClosingLemmas.{IsClosing, none_there, brought_stands, closing_free, closing_frees, closing_brings, closing_visits, closing_counts, closing_closes, closing_packs, next_slot}
@@ -20,12 +20,12 @@ use Rattle.chain_links.specs.ChainArena.{on_value}
 use Rattle.chain_links.specs.Links.{held_in}
 use Rattle.chain_links.proofs.ArenaInsertionLemmas.{slots-within}
 use Rattle.chain_links.proofs.MappedArenaLemmas.{slot_at-map}
-use Rattle.chain_compaction.specs.DetachedLinks.{slot_values, held_values, interlinks_seen, shown_in, indexes_in, IsWork}
+use Rattle.chain_compaction.specs.DetachedLinks.{slot_values, held_values, body_interlinks, link_map_in, indexes_in, IsWork}
 use Rattle.chain_compaction.proofs.DetachedLinkLemmas.{values-written, shown-kept, work-touched, work-more}
 use Rattle.chain_compaction.proofs.LinkCompressionLemmas.{AreComing, generation-there, value-there, coming_skips, coming_goes_on, coming_ends}
 
 module _ {F P Gen K T : Type 0} (g : Mut F (P × (MutBor T × (P × Unit {0}))) (Unit {0} × (MutBor T × Unit {0}))) (key : P → ℕ × Gen) (generation : Gen) (number : K → Option ℕ)
-    (first f : F) (old now : Held Gen (LinkBody K T)) (agrees : Agrees (shown_in number old.slots)) (k count : ℕ)
+    (first f : F) (old now : Held Gen (LinkBody K T)) (agrees : IsWellLinked (link_map_in number old.slots)) (k count : ℕ)
     (closing : IsClosing g key generation first (slot_values old.slots) k count f (slot_values now.slots)) (coming : AreComing number old.slots now.slots k count) where
   module _ (end : ℕ) (is_end : end ≡ length old.slots) (before : k < end) (from : ℕ) (at_from : from ≡ k + 1) where
     inside : k < length old.slots
@@ -68,11 +68,11 @@ module _ {F P Gen K T : Type 0} (g : Mut F (P × (MutBor T × (P × Unit {0}))) 
 
     -- the link of the next slot was moved
     module _ (to : ℕ) (at_to : to ≡ count + 1) (was : Gen) (told : Some was ≡ option_map (λ (e : Gen × LinkBody K T). e.0) (slot_at now.slots from)) (mid : Held Gen (LinkBody K T))
-        (values : held_values mid ≡ placed (held_values now) from to generation) where
+        (values : held_values mid ≡ with_placed_entry (held_values now) from to generation) where
       seen : Some was ≡ option_map (λ (e : Gen × T). e.0) (slot_at (slot_values now.slots) from)
       seen = told ∙ generation-there now.slots from
 
-      is_placed : slot_values mid.slots ≡ (placed (held_values now) from to generation).slots
+      is_placed : slot_values mid.slots ≡ (with_placed_entry (held_values now) from to generation).slots
       is_placed = ap (λ (h : Held Gen T). h.slots) values
 
       -- it stands there
@@ -92,7 +92,7 @@ module _ {F P Gen K T : Type 0} (g : Mut F (P × (MutBor T × (P × Unit {0}))) 
             (record { from = before_ptr; shown = l.t; to = after_ptr; left = left }) next (slot_values after.slots) (ap (option_map held_in) stands ∙ value-there mid.slots to)
             (ap (λ (h : Held Gen T). h.slots) (values-written mid after to l (record l { t = left }) stands wrote)) from_key to_key visit
 
-        pub comes : (Agrees (shown_in number now.slots) → CanMove (shown_in number now.slots) from to → shown_in number mid.slots ≡ moved (shown_in number now.slots) from to)
+        pub comes : (IsWellLinked (link_map_in number now.slots) → CanMove (link_map_in number now.slots) from to → link_map_in number mid.slots ≡ moved (link_map_in number now.slots) from to)
             → AreComing number old.slots after.slots (k + 1) (count + 1)
         comes moves =
             coming_goes_on number old.slots agrees now.slots k count coming inside was
@@ -136,8 +136,8 @@ module _ {F P Gen K T : Type 0} (g : Mut F (P × (MutBor T × (P × Unit {0}))) 
     pub ends_visits : VisitsAll g key first (entries_from 1 (held_values old).slots) (entries_from 1 (held_values now).slots)
     ends_visits = closing_visits g key generation first (slot_values old.slots) k count f (slot_values now.slots) closing ended
 
-    pub ends_renamed : IsRenaming (place_in (indexes_in (held_values old).slots)) (shown_in number old.slots) (shown_in number now.slots)
-    ends_renamed = coming_ends number old.slots agrees now.slots k count coming all (slots-within (interlinks_seen number) old.slots)
+    pub ends_renamed : IsRenaming (place_in (indexes_in (held_values old).slots)) (link_map_in number old.slots) (link_map_in number now.slots)
+    ends_renamed = coming_ends number old.slots agrees now.slots k count coming all (slots-within (body_interlinks number) old.slots)
 
     pub ends_work : (a b : Arena Gen (LinkBody K T)) → IsWork a b count (k + 3 * count)
         → IsWork a b (length (entries_from 1 (held_values old).slots)) (length old.slots + 3 * length (entries_from 1 (held_values old).slots))

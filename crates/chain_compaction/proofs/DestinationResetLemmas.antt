@@ -9,9 +9,9 @@ use Rattle.arena_base.specs.Arena.{Arena, slot_at}
 use Rattle.arena_base.specs.DetachedSlots.{Held, held_with_value, with_touch}
 use Rattle.arena_base.specs.GatheredSlots.{with_totals}
 use Rattle.chain_links.specs.declared.links.LinkBody.{LinkBody}
-use Rattle.chain_links.specs.Links.{seen_link, seen_pair}
-use Rattle.chain_compaction.specs.Permutations.{goal_of}
-use Rattle.chain_compaction.specs.Destinations.{seen_held, given, IsDirectedAt}
+use Rattle.chain_links.specs.Links.{link_view, pair_view}
+use Rattle.chain_compaction.specs.Permutations.{destination_of}
+use Rattle.chain_compaction.specs.Destinations.{held_view, destination_at, IsDirectedAt}
 use Rattle.chain_compaction.proofs.SlotCountLemmas.{stands-within}
 use Rattle.chain_compaction.proofs.DetachedLinkLemmas.{kept_map}
 use Rattle.chain_links.proofs.LinkStateLemmas.{slot_at-changed}
@@ -20,40 +20,40 @@ use Rattle.chain_links.proofs.LinkStateLemmas.{slot_at-changed}
 module _ {Gen K T : Type 0} (number : K → Option ℕ) (held new : Held Gen (LinkBody K T)) (i : ℕ) (l w : LinkBody K T)
     (stands : Some l ≡ option_map (λ (e : Gen × LinkBody K T). e.1) (slot_at held.slots i)) (wrote : new ≡ held_with_value held i w)
     (empty : number w.destination ≡ None) (rest : w ≡ record l { destination = w.destination }) where
-  seen_emptied : seen_held number new ≡ seen_held number held
+  seen_emptied : held_view number new ≡ held_view number held
   seen_emptied =
-      let same : seen_link number w ≡ seen_link number l = ap (seen_link number) rest in
-      let slots = kept_map (seen_pair number) held.slots i l w stands (λ g j. (g, same j)) in
-      ap (λ (h : Held Gen (LinkBody K T)). seen_held number h) wrote ∙ (λ j. record (seen_held number held) { slots = slots j })
+      let same : link_view number w ≡ link_view number l = ap (link_view number) rest in
+      let slots = kept_map (pair_view number) held.slots i l w stands (λ g j. (g, same j)) in
+      ap (λ (h : Held Gen (LinkBody K T)). held_view number h) wrote ∙ (λ j. record (held_view number held) { slots = slots j })
 
   abbrev written : Option (Gen × LinkBody K T) → Option (Gen × LinkBody K T)
   written o = option_map (λ (e : Gen × LinkBody K T). (e.0, w)) o
 
-  no_goal : (o : Option (Gen × LinkBody K T)) → option_and_then (goal_of number) (written o) ≡ None
+  no_goal : (o : Option (Gen × LinkBody K T)) → option_and_then (destination_of number) (written o) ≡ None
   no_goal None = refl
   no_goal (Some e) = empty
 
-  at : (j : ℕ) → given number new.slots j ≡ option_and_then (goal_of number) (if j == i then written (slot_at held.slots j) else slot_at held.slots j)
-  at j = ap (λ (h : Held Gen (LinkBody K T)). given number h.slots j) wrote ∙ ap (option_and_then (goal_of number)) (slot_at-changed held.slots i j written refl)
+  at : (j : ℕ) → destination_at number new.slots j ≡ option_and_then (destination_of number) (if j == i then written (slot_at held.slots j) else slot_at held.slots j)
+  at j = ap (λ (h : Held Gen (LinkBody K T)). destination_at number h.slots j) wrote ∙ ap (option_and_then (destination_of number)) (slot_at-changed held.slots i j written refl)
 
-  here : (j : ℕ) → j ≡ i → given number new.slots j ≡ None
-  here j e = at j ∙ (ap (option_and_then (goal_of number)) (if_same j i _ _ e) ∙ no_goal (slot_at held.slots j))
+  here : (j : ℕ) → j ≡ i → destination_at number new.slots j ≡ None
+  here j e = at j ∙ (ap (option_and_then (destination_of number)) (if_same j i _ _ e) ∙ no_goal (slot_at held.slots j))
 
-  given_emptied : given number new.slots i ≡ None
+  given_emptied : destination_at number new.slots i ≡ None
   given_emptied = here i refl
 
-  others_emptied : (j : ℕ) → given number held.slots j ≡ None → given number new.slots j ≡ None
+  others_emptied : (j : ℕ) → destination_at number held.slots j ≡ None → destination_at number new.slots j ≡ None
   others_emptied j none = by (ℕ_discrete j i)
     where
-      by : Dec (j ≡ i) → given number new.slots j ≡ None
+      by : Dec (j ≡ i) → destination_at number new.slots j ≡ None
       by (yes e) = here j e
-      by (no differs) = at j ∙ (ap (option_and_then (goal_of number)) (if_other j i _ _ differs) ∙ none)
+      by (no differs) = at j ∙ (ap (option_and_then (destination_of number)) (if_other j i _ _ differs) ∙ none)
 
 -- the link at an index has no destination any more, if one stands there
 module _ {Gen K T : Type 0} (number : K → Option ℕ) (i : ℕ) (held new : Held Gen (LinkBody K T)) (directed : IsDirectedAt number i None held new) where
   -- a link stands there, or none
   told : (l : LinkBody K T) → Some l ≡ option_map (λ (e : Gen × LinkBody K T). e.1) (slot_at held.slots i)
-      → (seen_held number new ≡ seen_held number held) × (given number new.slots i ≡ None) × ((j : ℕ) → given number held.slots j ≡ None → given number new.slots j ≡ None)
+      → (held_view number new ≡ held_view number held) × (destination_at number new.slots i ≡ None) × ((j : ℕ) → destination_at number held.slots j ≡ None → destination_at number new.slots j ≡ None)
   told l stands =
       let w = directed.there l stands in (
         seen_emptied number held new i l w.0 stands w.3 w.1 w.2,
@@ -61,49 +61,49 @@ module _ {Gen K T : Type 0} (number : K → Option ℕ) (i : ℕ) (held new : He
         others_emptied number held new i l w.0 stands w.3 w.1 w.2,
       )
 
-  untold : (o : Option (Gen × LinkBody K T)) → None ≡ option_map (λ (e : Gen × LinkBody K T). e.1) o → option_and_then (goal_of number) o ≡ None
+  untold : (o : Option (Gen × LinkBody K T)) → None ≡ option_map (λ (e : Gen × LinkBody K T). e.1) o → option_and_then (destination_of number) o ≡ None
   untold None is = refl
   untold (Some e) is = cc
 
-  pub emptied : (seen_held number new ≡ seen_held number held) × (given number new.slots i ≡ None) × ((j : ℕ) → given number held.slots j ≡ None → given number new.slots j ≡ None)
+  pub emptied : (held_view number new ≡ held_view number held) × (destination_at number new.slots i ≡ None) × ((j : ℕ) → destination_at number held.slots j ≡ None → destination_at number new.slots j ≡ None)
   emptied = by (slot_at held.slots i) refl
     where
       by : (o : Option (Gen × LinkBody K T)) → slot_at held.slots i ≡ o
-          → (seen_held number new ≡ seen_held number held) × (given number new.slots i ≡ None) × ((j : ℕ) → given number held.slots j ≡ None → given number new.slots j ≡ None)
+          → (held_view number new ≡ held_view number held) × (destination_at number new.slots i ≡ None) × ((j : ℕ) → destination_at number held.slots j ≡ None → destination_at number new.slots j ≡ None)
       by (Some e) is = told e.1 (sym (ap (option_map (λ (e : Gen × LinkBody K T). e.1)) is))
       by None is =
           let none : None ≡ option_map (λ (e : Gen × LinkBody K T). e.1) (slot_at held.slots i) = sym (ap (option_map (λ (e : Gen × LinkBody K T). e.1)) is) in
           let same : new ≡ held = directed.none none in (
-            ap (λ (h : Held Gen (LinkBody K T)). seen_held number h) same,
-            ap (λ (h : Held Gen (LinkBody K T)). given number h.slots i) same ∙ untold (slot_at held.slots i) none,
-            λ j was. ap (λ (h : Held Gen (LinkBody K T)). given number h.slots j) same ∙ was,
+            ap (λ (h : Held Gen (LinkBody K T)). held_view number h) same,
+            ap (λ (h : Held Gen (LinkBody K T)). destination_at number h.slots i) same ∙ untold (slot_at held.slots i) none,
+            λ j was. ap (λ (h : Held Gen (LinkBody K T)). destination_at number h.slots j) same ∙ was,
           )
 
 -- the round over all
 module _ {Gen K T : Type 0} (number : K → Option ℕ) where
   -- no link stands at index 0
-  pub emptying_begins : (slots : List (Option (Gen × LinkBody K T))) (j : ℕ) → j ≤ 0 → given number slots j ≡ None
+  pub emptying_begins : (slots : List (Option (Gen × LinkBody K T))) (j : ℕ) → j ≤ 0 → destination_at number slots j ≡ None
   emptying_begins slots zero low = refl
   emptying_begins slots (suc k) low = absurd (omega arith)
 
-  pub emptying_goes_on : (now next : List (Option (Gen × LinkBody K T))) (k i : ℕ) → i ≡ k + 1 → ((j : ℕ) → j ≤ k → given number now j ≡ None) → given number next i ≡ None
-      → ((j : ℕ) → given number now j ≡ None → given number next j ≡ None) → (j : ℕ) → j ≤ k + 1 → given number next j ≡ None
+  pub emptying_goes_on : (now next : List (Option (Gen × LinkBody K T))) (k i : ℕ) → i ≡ k + 1 → ((j : ℕ) → j ≤ k → destination_at number now j ≡ None) → destination_at number next i ≡ None
+      → ((j : ℕ) → destination_at number now j ≡ None → destination_at number next j ≡ None) → (j : ℕ) → j ≤ k + 1 → destination_at number next j ≡ None
   emptying_goes_on now next k i is was one others j low = by (ℕ_discrete j i)
     where
-      by : Dec (j ≡ i) → given number next j ≡ None
-      by (yes e) = ap (given number next) e ∙ one
+      by : Dec (j ≡ i) → destination_at number next j ≡ None
+      by (yes e) = ap (destination_at number next) e ∙ one
       by (no differs) = others j (was j (omega arith))
 
   -- behind the slots no link stands
-  pub emptying_ends : (old now : Held Gen (LinkBody K T)) → seen_held number now ≡ seen_held number old → ((j : ℕ) → j ≤ length old.slots → given number now.slots j ≡ None)
-      → (j : ℕ) → given number now.slots j ≡ None
+  pub emptying_ends : (old now : Held Gen (LinkBody K T)) → held_view number now ≡ held_view number old → ((j : ℕ) → j ≤ length old.slots → destination_at number now.slots j ≡ None)
+      → (j : ℕ) → destination_at number now.slots j ≡ None
   emptying_ends old now seen empty j = by (slot_at now.slots j) refl
     where
       long : length now.slots ≡ length old.slots
-      long = sym (length-map now.slots (option_map (seen_pair number))) ∙ (ap (λ h. length h.slots) seen ∙ length-map old.slots (option_map (seen_pair number)))
+      long = sym (length-map now.slots (option_map (pair_view number))) ∙ (ap (λ h. length h.slots) seen ∙ length-map old.slots (option_map (pair_view number)))
 
-      by : (o : Option (Gen × LinkBody K T)) → slot_at now.slots j ≡ o → given number now.slots j ≡ None
-      by None is = ap (option_and_then (goal_of number)) is
+      by : (o : Option (Gen × LinkBody K T)) → slot_at now.slots j ≡ o → destination_at number now.slots j ≡ None
+      by None is = ap (option_and_then (destination_of number)) is
       by (Some e) is = empty j (let inside = stands-within now.slots j e is in omega (arith, inside.1, long))
 
 -- one touch more

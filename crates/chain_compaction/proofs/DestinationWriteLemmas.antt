@@ -5,8 +5,8 @@ use Rattle.arena_base.specs.Arena.{slot_at}
 use Rattle.arena_base.specs.DetachedSlots.{Held, held_with_value}
 use Rattle.arena_base.proofs.SlotLemmas.{length-with_slot}
 use Rattle.chain_links.specs.declared.links.LinkBody.{LinkBody}
-use Rattle.chain_links.specs.Links.{seen_link}
-use Rattle.chain_compaction.specs.Destinations.{IsDirectedAt, IsTiedAt, IsRingClosed}
+use Rattle.chain_links.specs.Links.{link_view}
+use Rattle.chain_compaction.specs.Destinations.{IsDirectedAt, IsRelinkedAt, IsRingClosed}
 
 one_link : {K T : Type 0} {a b : LinkBody K T} → ◌≡◌ {A = Option (LinkBody K T)} (Some a) (Some b) → a ≡ b
 one_link e = cc
@@ -33,23 +33,23 @@ module _ {Gen K T : Type 0} where
   module _ (number : K → Option ℕ) (i : ℕ) (prev next goes : Option ℕ) (old new : Held Gen (LinkBody K T)) where
     -- a link that was lent names others, and got a destination
     pub ties : (l m n w : LinkBody K T) → Some l ≡ link_at old i → new ≡ held_with_value old i w → number m.prev ≡ prev → m ≡ record l { prev = m.prev } → number n.next ≡ next → n ≡ record m { next = n.next }
-        → number w.destination ≡ goes → w ≡ record n { destination = w.destination } → IsTiedAt number i prev next goes old new
+        → number w.destination ≡ goes → w ≡ record n { destination = w.destination } → IsRelinkedAt number i prev next goes old new
     ties l m n w stands wrote is_prev set_prev is_next set_next sent rest = record {
       there = λ k there. (w, seen k (one_link (stands ∙ sym there)), sent, wrote);
       none = λ empty. absurd (let both = stands ∙ sym empty in cc);
     }
       where
-        seen : (k : LinkBody K T) → l ≡ k → seen_link number w ≡ record { prev = prev; next = next; value = k.t }
+        seen : (k : LinkBody K T) → l ≡ k → link_view number w ≡ record { prev = prev; next = next; value = k.t }
         seen k same =
-            ap (seen_link number) rest ∙ (ap (seen_link number) (λ j. record (set_next j) { destination = w.destination })
+            ap (link_view number) rest ∙ (ap (link_view number) (λ j. record (set_next j) { destination = w.destination })
             ∙ ((λ j. record { prev = number (set_prev j).prev; next = number n.next; value = (set_prev j).t }) ∙ (λ j. record { prev = is_prev j; next = is_next j; value = (same j).t })))
 
     -- none stands there
-    pub ties_none : new ≡ old → None ≡ link_at old i → IsTiedAt number i prev next goes old new
+    pub ties_none : new ≡ old → None ≡ link_at old i → IsRelinkedAt number i prev next goes old new
     ties_none same empty = record { there = λ k there. absurd (let both = there ∙ sym empty in cc); none = λ e. same }
 
     -- the slots are as many
-    pub tied_long : IsTiedAt number i prev next goes old new → length new.slots ≡ length old.slots
+    pub tied_long : IsRelinkedAt number i prev next goes old new → length new.slots ≡ length old.slots
     tied_long tied = by (link_at old i) refl
       where
         by : (o : Option (LinkBody K T)) → link_at old i ≡ o → length new.slots ≡ length old.slots
@@ -59,8 +59,8 @@ module _ {Gen K T : Type 0} where
             ap (λ (h : Held Gen (LinkBody K T)). length h.slots) w.3 ∙ length-with_slot old.slots i _
 
   -- a link that was looked at before
-  pub tied_looked : (number : K → Option ℕ) (i : ℕ) (prev named next goes : Option ℕ) (old looked new : Held Gen (LinkBody K T)) → looked ≡ old → named ≡ next → IsTiedAt number i prev named goes looked new → IsTiedAt number i prev next goes old new
-  tied_looked number i prev named next goes old looked new same is tied = subst (λ (p : Held Gen (LinkBody K T) × Option ℕ). IsTiedAt number i prev p.1 goes p.0 new) (λ j. (same j, is j)) tied
+  pub tied_looked : (number : K → Option ℕ) (i : ℕ) (prev named next goes : Option ℕ) (old looked new : Held Gen (LinkBody K T)) → looked ≡ old → named ≡ next → IsRelinkedAt number i prev named goes looked new → IsRelinkedAt number i prev next goes old new
+  tied_looked number i prev named next goes old looked new same is tied = subst (λ (p : Held Gen (LinkBody K T) × Option ℕ). IsRelinkedAt number i prev p.1 goes p.0 new) (λ j. (same j, is j)) tied
 
   module _ (number : K → Option ℕ) (i : ℕ) (first last : Option ℕ) (old new : Held Gen (LinkBody K T)) where
     -- where the last link of a ring names the first, that was lent, and names the last

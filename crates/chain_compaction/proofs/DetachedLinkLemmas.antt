@@ -5,19 +5,19 @@ use Rattle.std.specs.Option.{option_map}
 use Rattle.std.proofs.Math.Decide.{ℕ_discrete}
 use Rattle.std.proofs.Math.Seq.{map-set_same}
 use mathlib.Core.Path.{fun_ext}
-use Rattle.chain_laws.specs.Chains.{Shown, Interlinks, Agrees, prev_of, next_of}
+use Rattle.chain_laws.specs.Chains.{LinkMap, Interlinks, IsWellLinked, prev_of, next_of}
 use Rattle.chain_laws.specs.Joins.{next_set, prev_set, with_next, with_prev}
 use Rattle.chain_laws.specs.Moves.{moved_index, moved, put, CanMove}
 use Rattle.chain_laws.proofs.InterlinkLemmas.Inverses.{if_same, if_other, one_some}
 use Rattle.chain_laws.proofs.RenamingLemmas.Moves.{neighbors_tell_a_move}
 use Rattle.arena_base.specs.Arena.{Arena, slot_at, with_slot}
-use Rattle.arena_base.specs.DetachedSlots.{Held, placed, held_with_value, with_touch, with_placement}
+use Rattle.arena_base.specs.DetachedSlots.{Held, with_placed_entry, held_with_value, with_touch, with_placement}
 use Rattle.arena_base.specs.GatheredSlots.{with_totals}
 use Rattle.arena_base.proofs.SlotLemmas.{length-with_slot}
 use Rattle.chain_links.specs.declared.links.LinkBody.{LinkBody}
 use Rattle.chain_links.specs.ChainArena.{on_value, interlinks_in}
-use Rattle.chain_links.specs.Links.{seen_link, held_in}
-use Rattle.chain_compaction.specs.DetachedLinks.{held_values, interlinks_seen, shown_in, IsWork}
+use Rattle.chain_links.specs.Links.{link_view, held_in}
+use Rattle.chain_compaction.specs.DetachedLinks.{held_values, body_interlinks, link_map_in, IsWork}
 use Rattle.chain_links.proofs.MappedArenaLemmas.{map-with_slot, slot_at-map}
 use Rattle.chain_links.proofs.LinkStateLemmas.{slot_at-changed}
 use Rattle.chain_links.proofs.ArenaInsertionLemmas.{slot_at-written}
@@ -47,11 +47,11 @@ module _ {Gen K T : Type 0} (held new : Held Gen (LinkBody K T)) (n : ℕ) (l w 
       ap (λ (h : Held Gen (LinkBody K T)). held_values h) wrote ∙ (λ i. record (held_values held) { slots = slots i })
 
   -- a write that leaves the interlinks leaves all that is shown
-  pub shown-kept : (number : K → Option ℕ) → interlinks_in (seen_link number w) ≡ interlinks_in (seen_link number l)
-      → shown_in number new.slots ≡ shown_in number held.slots
-  shown-kept number same = ap (λ (h : Held Gen (LinkBody K T)). shown_in number h.slots) wrote ∙ fun_ext (λ i.
-      sym (slot_at-map (interlinks_seen number) (held_with_value held n w).slots i)
-      ∙ (ap (λ slots. slot_at slots i) (kept_map (interlinks_seen number) held.slots n l w stands (λ g. same)) ∙ slot_at-map (interlinks_seen number) held.slots i))
+  pub shown-kept : (number : K → Option ℕ) → interlinks_in (link_view number w) ≡ interlinks_in (link_view number l)
+      → link_map_in number new.slots ≡ link_map_in number held.slots
+  shown-kept number same = ap (λ (h : Held Gen (LinkBody K T)). link_map_in number h.slots) wrote ∙ fun_ext (λ i.
+      sym (slot_at-map (body_interlinks number) (held_with_value held n w).slots i)
+      ∙ (ap (λ slots. slot_at slots i) (kept_map (body_interlinks number) held.slots n l w stands (λ g. same)) ∙ slot_at-map (body_interlinks number) held.slots i))
 
   -- a write of the value writes it among the values
   pub values-written : held_values new ≡ held_with_value (held_values held) n w.t
@@ -67,63 +67,63 @@ module _ {Gen K T : Type 0} (held new : Held Gen (LinkBody K T)) (n : ℕ) (l w 
       at (Some e) = refl
 
   -- what is shown after a write of interlinks
-  shown-changed : (number : K → Option ℕ) (change : Interlinks → Interlinks) → interlinks_in (seen_link number w) ≡ change (interlinks_in (seen_link number l))
-      → (i : ℕ) → shown_in number (held_with_value held n w).slots i ≡ (if i == n then option_map change (shown_in number held.slots i) else shown_in number held.slots i)
+  shown-changed : (number : K → Option ℕ) (change : Interlinks → Interlinks) → interlinks_in (link_view number w) ≡ change (interlinks_in (link_view number l))
+      → (i : ℕ) → link_map_in number (held_with_value held n w).slots i ≡ (if i == n then option_map change (link_map_in number held.slots i) else link_map_in number held.slots i)
   shown-changed number change is i = by (ℕ_discrete i n)
     where
       at : (o : Option (Gen × LinkBody K T)) → Some l ≡ option_map (λ (e : Gen × LinkBody K T). e.1) o
-          → option_map (interlinks_seen number) (option_map (λ (e : Gen × LinkBody K T). (e.0, w)) o) ≡ option_map change (option_map (interlinks_seen number) o)
+          → option_map (body_interlinks number) (option_map (λ (e : Gen × LinkBody K T). (e.0, w)) o) ≡ option_map change (option_map (body_interlinks number) o)
       at None there = refl
-      at (Some e) there = ap (λ (x : Interlinks). Some x) (is ∙ ap (λ (x : LinkBody K T). change (interlinks_in (seen_link number x))) (one_some there))
+      at (Some e) there = ap (λ (x : Interlinks). Some x) (is ∙ ap (λ (x : LinkBody K T). change (interlinks_in (link_view number x))) (one_some there))
 
-      by : Dec (i ≡ n) → shown_in number (held_with_value held n w).slots i ≡ (if i == n then option_map change (shown_in number held.slots i) else shown_in number held.slots i)
+      by : Dec (i ≡ n) → link_map_in number (held_with_value held n w).slots i ≡ (if i == n then option_map change (link_map_in number held.slots i) else link_map_in number held.slots i)
       by (yes e) =
-          ap (option_map (interlinks_seen number)) (slot_at-changed held.slots n i (option_map (λ (e : Gen × LinkBody K T). (e.0, w))) refl ∙ if_same i n _ _ e)
+          ap (option_map (body_interlinks number)) (slot_at-changed held.slots n i (option_map (λ (e : Gen × LinkBody K T). (e.0, w))) refl ∙ if_same i n _ _ e)
           ∙ (at (slot_at held.slots i) (stands ∙ ap (λ (j : ℕ). option_map (λ (e : Gen × LinkBody K T). e.1) (slot_at held.slots j)) (sym e)) ∙ sym (if_same i n _ _ e))
       by (no differs) =
-          ap (option_map (interlinks_seen number)) (slot_at-changed held.slots n i (option_map (λ (e : Gen × LinkBody K T). (e.0, w))) refl ∙ if_other i n _ _ differs) ∙ sym (if_other i n _ _ differs)
+          ap (option_map (body_interlinks number)) (slot_at-changed held.slots n i (option_map (λ (e : Gen × LinkBody K T). (e.0, w))) refl ∙ if_other i n _ _ differs) ∙ sym (if_other i n _ _ differs)
 
   -- the link names another as the one after it ..
   pub shown-next_set : (number : K → Option ℕ) (next : Option ℕ) → w ≡ record l { next = w.next } → number w.next ≡ next
-      → shown_in number new.slots ≡ next_set (shown_in number held.slots) (Some n) next
+      → link_map_in number new.slots ≡ next_set (link_map_in number held.slots) (Some n) next
   shown-next_set number next rest named =
-      ap (λ (h : Held Gen (LinkBody K T)). shown_in number h.slots) wrote ∙ fun_ext (shown-changed number (with_next next) (λ i. record { prev = number (rest i).prev; next = named i }))
+      ap (λ (h : Held Gen (LinkBody K T)). link_map_in number h.slots) wrote ∙ fun_ext (shown-changed number (with_next next) (λ i. record { prev = number (rest i).prev; next = named i }))
 
   -- .. and as the one before it
   pub shown-prev_set : (number : K → Option ℕ) (prev : Option ℕ) → w ≡ record l { prev = w.prev } → number w.prev ≡ prev
-      → shown_in number new.slots ≡ prev_set (shown_in number held.slots) (Some n) prev
+      → link_map_in number new.slots ≡ prev_set (link_map_in number held.slots) (Some n) prev
   shown-prev_set number prev rest named =
-      ap (λ (h : Held Gen (LinkBody K T)). shown_in number h.slots) wrote ∙ fun_ext (shown-changed number (with_prev prev) (λ i. record { prev = named i; next = number (rest i).next }))
+      ap (λ (h : Held Gen (LinkBody K T)). link_map_in number h.slots) wrote ∙ fun_ext (shown-changed number (with_prev prev) (λ i. record { prev = named i; next = number (rest i).next }))
 
 -- where no link stands, none is told
 module _ {Gen K T : Type 0} (number : K → Option ℕ) (slots : List (Option (Gen × LinkBody K T))) (n : ℕ)
     (none : None ≡ option_map (λ (e : Gen × LinkBody K T). e.1) (slot_at slots n)) where
-  nothing_shown : shown_in number slots n ≡ None
+  nothing_shown : link_map_in number slots n ≡ None
   nothing_shown = by (slot_at slots n) none
     where
-      by : (o : Option (Gen × LinkBody K T)) → None ≡ option_map (λ (e : Gen × LinkBody K T). e.1) o → option_map (interlinks_seen number) o ≡ None
+      by : (o : Option (Gen × LinkBody K T)) → None ≡ option_map (λ (e : Gen × LinkBody K T). e.1) o → option_map (body_interlinks number) o ≡ None
       by None is = refl
       by (Some e) is = cc
 
-  untold : (change : Interlinks → Interlinks) (i : ℕ) → shown_in number slots i ≡ (if i == n then option_map change (shown_in number slots i) else shown_in number slots i)
+  untold : (change : Interlinks → Interlinks) (i : ℕ) → link_map_in number slots i ≡ (if i == n then option_map change (link_map_in number slots i) else link_map_in number slots i)
   untold change i = by (ℕ_discrete i n)
     where
-      by : Dec (i ≡ n) → shown_in number slots i ≡ (if i == n then option_map change (shown_in number slots i) else shown_in number slots i)
+      by : Dec (i ≡ n) → link_map_in number slots i ≡ (if i == n then option_map change (link_map_in number slots i) else link_map_in number slots i)
       by (yes e) =
-          let nothing = ap (shown_in number slots) e ∙ nothing_shown in
+          let nothing = ap (link_map_in number slots) e ∙ nothing_shown in
           nothing ∙ (sym (ap (option_map change) nothing) ∙ sym (if_same i n _ _ e))
       by (no differs) = sym (if_other i n _ _ differs)
 
-  pub next_set-untold : (next : Option ℕ) → shown_in number slots ≡ next_set (shown_in number slots) (Some n) next
+  pub next_set-untold : (next : Option ℕ) → link_map_in number slots ≡ next_set (link_map_in number slots) (Some n) next
   next_set-untold next = fun_ext (untold (with_next next))
 
-  pub prev_set-untold : (prev : Option ℕ) → shown_in number slots ≡ prev_set (shown_in number slots) (Some n) prev
+  pub prev_set-untold : (prev : Option ℕ) → link_map_in number slots ≡ prev_set (link_map_in number slots) (Some n) prev
   prev_set-untold prev = fun_ext (untold (with_prev prev))
 
 module _ {Gen K T : Type 0} (held : Held Gen (LinkBody K T)) (from to : ℕ) (generation : Gen) where
   -- a placement places the value
-  pub values-placed : held_values (placed held from to generation) ≡ placed (held_values held) from to generation
-  values-placed =
+  pub values-with_placed_entry : held_values (with_placed_entry held from to generation) ≡ with_placed_entry (held_values held) from to generation
+  values-with_placed_entry =
       let slots =
       map-with_slot value (with_slot held.slots from (slot_at held.slots to)) to (option_map (λ (e : Gen × LinkBody K T). (generation, e.1)) (slot_at held.slots from))
       ∙ ap₂ (λ (es : List (Option (Gen × T))) (o : Option (Gen × T)). with_slot es to o)
@@ -140,9 +140,9 @@ module _ {Gen K T : Type 0} (held : Held Gen (LinkBody K T)) (from to : ℕ) (ge
       at (Some e) = refl
 
   -- and puts the interlinks, untold, where no other link stands
-  pub shown-placed : (number : K → Option ℕ) → 1 ≤ from → from ≤ length held.slots → 1 ≤ to → to ≤ length held.slots
-      → (to ≡ from) ⊎ (shown_in number held.slots to ≡ None) → shown_in number (placed held from to generation).slots ≡ put (shown_in number held.slots) from to
-  shown-placed number first within first_to within_to free = fun_ext (λ j. by j (ℕ_discrete j to) (ℕ_discrete j from))
+  pub shown-with_placed_entry : (number : K → Option ℕ) → 1 ≤ from → from ≤ length held.slots → 1 ≤ to → to ≤ length held.slots
+      → (to ≡ from) ⊎ (link_map_in number held.slots to ≡ None) → link_map_in number (with_placed_entry held from to generation).slots ≡ put (link_map_in number held.slots) from to
+  shown-with_placed_entry number first within first_to within_to free = fun_ext (λ j. by j (ℕ_discrete j to) (ℕ_discrete j from))
     where
       middle : List (Option (Gen × LinkBody K T))
       middle = with_slot held.slots from (slot_at held.slots to)
@@ -150,54 +150,54 @@ module _ {Gen K T : Type 0} (held : Held Gen (LinkBody K T)) (from to : ℕ) (ge
       brought : Option (Gen × LinkBody K T)
       brought = option_map (λ (e : Gen × LinkBody K T). (generation, e.1)) (slot_at held.slots from)
 
-      at_to : (j : ℕ) → slot_at (placed held from to generation).slots j ≡ (if j == to then brought else slot_at middle j)
+      at_to : (j : ℕ) → slot_at (with_placed_entry held from to generation).slots j ≡ (if j == to then brought else slot_at middle j)
       at_to j = slot_at-written middle to j brought first_to (omega (arith, within_to, length-with_slot held.slots from (slot_at held.slots to)))
 
       at_from : (j : ℕ) → slot_at middle j ≡ (if j == from then slot_at held.slots to else slot_at held.slots j)
       at_from j = slot_at-written held.slots from j (slot_at held.slots to) first within
 
       seen : Option (Gen × LinkBody K T) → Option Interlinks
-      seen o = option_map (interlinks_seen number) o
+      seen o = option_map (body_interlinks number) o
 
-      same : (o : Option (Gen × LinkBody K T)) → option_map (interlinks_seen number) (option_map (λ (e : Gen × LinkBody K T). (generation, e.1)) o) ≡ option_map (interlinks_seen number) o
+      same : (o : Option (Gen × LinkBody K T)) → option_map (body_interlinks number) (option_map (λ (e : Gen × LinkBody K T). (generation, e.1)) o) ≡ option_map (body_interlinks number) o
       same None = refl
       same (Some e) = refl
 
-      left : (j : ℕ) → j ≢ to → j ≡ from → (to ≡ from) ⊎ (shown_in number held.slots to ≡ None) → shown_in number held.slots to ≡ None
+      left : (j : ℕ) → j ≢ to → j ≡ from → (to ≡ from) ⊎ (link_map_in number held.slots to ≡ None) → link_map_in number held.slots to ≡ None
       left j differs e (inl here) = absurd (differs (e ∙ sym here))
       left j differs e (inr none) = none
 
-      by : (j : ℕ) → Dec (j ≡ to) → Dec (j ≡ from) → shown_in number (placed held from to generation).slots j ≡ put (shown_in number held.slots) from to j
-      by j (yes e) rest = ap (option_map (interlinks_seen number)) (at_to j ∙ if_same j to _ _ e) ∙ (same (slot_at held.slots from) ∙ sym (if_same j to _ _ e))
+      by : (j : ℕ) → Dec (j ≡ to) → Dec (j ≡ from) → link_map_in number (with_placed_entry held from to generation).slots j ≡ put (link_map_in number held.slots) from to j
+      by j (yes e) rest = ap (option_map (body_interlinks number)) (at_to j ∙ if_same j to _ _ e) ∙ (same (slot_at held.slots from) ∙ sym (if_same j to _ _ e))
       by j (no c) (yes e) =
-          ap (option_map (interlinks_seen number)) (at_to j ∙ (if_other j to _ _ c ∙ (at_from j ∙ if_same j from _ _ e)))
+          ap (option_map (body_interlinks number)) (at_to j ∙ (if_other j to _ _ c ∙ (at_from j ∙ if_same j from _ _ e)))
           ∙ (left j c e free ∙ sym (if_other j to _ _ c ∙ if_same j from _ _ e))
       by j (no c) (no d) =
-          ap (option_map (interlinks_seen number)) (at_to j ∙ (if_other j to _ _ c ∙ (at_from j ∙ if_other j from _ _ d)))
+          ap (option_map (body_interlinks number)) (at_to j ∙ (if_other j to _ _ c ∙ (at_from j ∙ if_other j from _ _ d)))
           ∙ sym (if_other j to _ _ c ∙ if_other j from _ _ d)
 
 -- a link is looked at, placed, and its neighbors are told
 module _ {Gen K T : Type 0} (number : K → Option ℕ) (old looked brought told new : Held Gen (LinkBody K T)) (from to : ℕ) (generation : Gen)
-    (is_looked : looked ≡ old) (is_brought : brought ≡ placed looked from to generation) where
-  pub move-values : held_values told ≡ held_values brought → held_values new ≡ held_values told → held_values new ≡ placed (held_values old) from to generation
+    (is_looked : looked ≡ old) (is_brought : brought ≡ with_placed_entry looked from to generation) where
+  pub move-values : held_values told ≡ held_values brought → held_values new ≡ held_values told → held_values new ≡ with_placed_entry (held_values old) from to generation
   move-values first second =
-      second ∙ (first ∙ (ap (λ (h : Held Gen (LinkBody K T)). held_values h) (is_brought ∙ ap (λ (h : Held Gen (LinkBody K T)). placed h from to generation) is_looked)
-      ∙ values-placed old from to generation))
+      second ∙ (first ∙ (ap (λ (h : Held Gen (LinkBody K T)). held_values h) (is_brought ∙ ap (λ (h : Held Gen (LinkBody K T)). with_placed_entry h from to generation) is_looked)
+      ∙ values-with_placed_entry old from to generation))
 
   pub move-shown : (before after prev next : Option ℕ) → 1 ≤ from → from ≤ length old.slots → 1 ≤ to → to ≤ length old.slots
-      → prev ≡ prev_of (shown_in number old.slots) from → next ≡ next_of (shown_in number old.slots) from → before ≡ option_map (moved_index from to) prev → after ≡ option_map (moved_index from to) next
-      → shown_in number told.slots ≡ next_set (shown_in number brought.slots) before (Some to) → shown_in number new.slots ≡ prev_set (shown_in number told.slots) after (Some to)
-      → Agrees (shown_in number old.slots) → CanMove (shown_in number old.slots) from to → shown_in number new.slots ≡ moved (shown_in number old.slots) from to
+      → prev ≡ prev_of (link_map_in number old.slots) from → next ≡ next_of (link_map_in number old.slots) from → before ≡ option_map (moved_index from to) prev → after ≡ option_map (moved_index from to) next
+      → link_map_in number told.slots ≡ next_set (link_map_in number brought.slots) before (Some to) → link_map_in number new.slots ≡ prev_set (link_map_in number told.slots) after (Some to)
+      → IsWellLinked (link_map_in number old.slots) → CanMove (link_map_in number old.slots) from to → link_map_in number new.slots ≡ moved (link_map_in number old.slots) from to
   move-shown before after prev next first within first_to within_to is_prev is_next is_before is_after first_told second_told agrees can =
-      let shown : Shown = shown_in number old.slots in
-      let is_put : shown_in number brought.slots ≡ put shown from to =
-      ap (λ (h : Held Gen (LinkBody K T)). shown_in number h.slots) (is_brought ∙ ap (λ (h : Held Gen (LinkBody K T)). placed h from to generation) is_looked)
-      ∙ shown-placed old from to generation number first within first_to within_to can.free in
-      let names_before : before ≡ option_map (moved_index from to) (prev_of shown from) = is_before ∙ ap (option_map (moved_index from to)) is_prev in
-      let names_after : after ≡ option_map (moved_index from to) (next_of shown from) = is_after ∙ ap (option_map (moved_index from to)) is_next in
+      let link_map : LinkMap = link_map_in number old.slots in
+      let is_put : link_map_in number brought.slots ≡ put link_map from to =
+      ap (λ (h : Held Gen (LinkBody K T)). link_map_in number h.slots) (is_brought ∙ ap (λ (h : Held Gen (LinkBody K T)). with_placed_entry h from to generation) is_looked)
+      ∙ shown-with_placed_entry old from to generation number first within first_to within_to can.free in
+      let names_before : before ≡ option_map (moved_index from to) (prev_of link_map from) = is_before ∙ ap (option_map (moved_index from to)) is_prev in
+      let names_after : after ≡ option_map (moved_index from to) (next_of link_map from) = is_after ∙ ap (option_map (moved_index from to)) is_next in
       second_told
-      ∙ (ap₂ (λ (m : Shown) (o : Option ℕ). prev_set m o (Some to)) (first_told ∙ ap₂ (λ (m : Shown) (o : Option ℕ). next_set m o (Some to)) is_put names_before) names_after
-      ∙ neighbors_tell_a_move shown from to agrees can)
+      ∙ (ap₂ (λ (m : LinkMap) (o : Option ℕ). prev_set m o (Some to)) (first_told ∙ ap₂ (λ (m : LinkMap) (o : Option ℕ). next_set m o (Some to)) is_put names_before) names_after
+      ∙ neighbors_tell_a_move link_map from to agrees can)
 
 -- what a look has seen is there
 pub entry-seen : {Gen X : Type 0} (old looked : Held Gen X) (n : ℕ) (r : Option Gen) (was : Gen) → looked ≡ old → r ≡ Some was → r ≡ option_map (λ (e : Gen × X). e.0) (slot_at old.slots n)
@@ -232,8 +232,8 @@ module _ {Gen T : Type 0} where
   }
 
   -- one placement
-  pub work-placed : (a b : Arena Gen T) → b ≡ with_placement a → IsWork a b 1 0
-  work-placed a b is = record {
+  pub work-with_placed_entry : (a b : Arena Gen T) → b ≡ with_placement a → IsWork a b 1 0
+  work-with_placed_entry a b is = record {
     touches = 0;
     few = omega arith;
     arena = (let touches : a.touched ≡ a.touched + 0 = omega arith in is ∙ (λ i. record a { placed = a.placed + 1; touched = touches i }));
@@ -245,16 +245,16 @@ module _ {Gen T : Type 0} where
     touches = first.touches + second.touches;
     few = omega (arith, first.few, second.few, most);
     arena = (
-        let placed : (a.placed + p) + q ≡ a.placed + o = omega (arith, placements) in
+        let with_placed_entry : (a.placed + p) + q ≡ a.placed + o = omega (arith, placements) in
         let touched : (a.touched + first.touches) + second.touches ≡ a.touched + (first.touches + second.touches) = omega arith in
-        second.arena ∙ (ap (λ (x : Arena Gen T). with_totals x q second.touches) first.arena ∙ (λ i. record a { placed = placed i; touched = touched i }))
+        second.arena ∙ (ap (λ (x : Arena Gen T). with_totals x q second.touches) first.arena ∙ (λ i. record a { placed = with_placed_entry i; touched = touched i }))
         );
   }
 
   -- a look, a placement, and two neighbors told
   pub work-moved : {a b c d e : Arena Gen T} → b ≡ with_touch a → c ≡ with_placement b → IsWork c d 0 1 → IsWork d e 0 1 → IsWork a e 1 3
-  work-moved {a} {b} {c} looked placed first second =
-      work-more (work-more (work-more (work-touched a b looked) (work-placed b c placed) 1 1 refl (omega arith)) first 1 2 refl (omega arith)) second 1 3 refl (omega arith)
+  work-moved {a} {b} {c} looked with_placed_entry first second =
+      work-more (work-more (work-more (work-touched a b looked) (work-with_placed_entry b c with_placed_entry) 1 1 refl (omega arith)) first 1 2 refl (omega arith)) second 1 3 refl (omega arith)
 
   -- two touches
   pub work-twice : (a b c : Arena Gen T) → b ≡ with_touch a → c ≡ with_touch b → IsWork a c 0 2

@@ -3,7 +3,7 @@ use Rattle.std.proofs.Common.{◌≡◌, ℕ, suc, ◌+◌, ◌<◌, List, [], �
 use Rattle.std.specs.Prelude.{slice_index_or}
 use Rattle.std.specs.Option.{option_map}
 use Rattle.std.proofs.lemmas.List.{length-append, length-map, map-append, append-nil}
-use Rattle.chain_laws.specs.Chains.{Shown, HasLink, HasLinksWithin, Agrees}
+use Rattle.chain_laws.specs.Chains.{LinkMap, HasLink, HasLinksWithin, IsWellLinked}
 use Rattle.chain_laws.specs.Renamings.{IsRenaming}
 use Rattle.chain_laws.specs.Arrangements.{place_in}
 use Rattle.chain_laws.specs.Moves.{moved, CanMove, IsGathering}
@@ -14,7 +14,7 @@ use Rattle.arena_base.proofs.EntryRangeLemmas.{entry_list, entries_from-take, ta
 use Rattle.chain_links.specs.declared.links.LinkBody.{LinkBody}
 use Rattle.chain_links.specs.ChainArena.{on_value}
 use Rattle.chain_links.specs.Links.{held_in}
-use Rattle.chain_compaction.specs.DetachedLinks.{slot_values, interlinks_seen, shown_in, indexes_in}
+use Rattle.chain_compaction.specs.DetachedLinks.{slot_values, body_interlinks, link_map_in, indexes_in}
 use Rattle.chain_links.proofs.MappedArenaLemmas.{slot_at-map}
 
 -- the indexes of the entries in the first slots
@@ -60,30 +60,30 @@ module _ {Gen K T : Type 0} (number : K → Option ℕ) (slots : List (Option (G
   next_index = omega arith
 
   -- where no value stands nothing is shown ..
-  none-shown : slice_index_or (slot_values slots) k None ≡ None → shown_in number slots (k + 1) ≡ None
-  none-shown none = sym (ap (shown_in number slots) next_index) ∙ by (slice_index_or slots k None) (sym at_slot ∙ none)
+  none-shown : slice_index_or (slot_values slots) k None ≡ None → link_map_in number slots (k + 1) ≡ None
+  none-shown none = sym (ap (link_map_in number slots) next_index) ∙ by (slice_index_or slots k None) (sym at_slot ∙ none)
     where
-      by : (o : Option (Gen × LinkBody K T)) → option_map (on_value held_in) o ≡ None → option_map (interlinks_seen number) o ≡ None
+      by : (o : Option (Gen × LinkBody K T)) → option_map (on_value held_in) o ≡ None → option_map (body_interlinks number) o ≡ None
       by None is = refl
       by (Some e) is = cc
 
   -- .. and where one stands, a link does
-  some-valid : (e : Gen × T) → slice_index_or (slot_values slots) k None ≡ Some e → HasLink (shown_in number slots) (k + 1)
-  some-valid e some = subst (λ (i : ℕ). HasLink (shown_in number slots) i) next_index (by (slice_index_or slots k None) refl)
+  some-valid : (e : Gen × T) → slice_index_or (slot_values slots) k None ≡ Some e → HasLink (link_map_in number slots) (k + 1)
+  some-valid e some = subst (λ (i : ℕ). HasLink (link_map_in number slots) i) next_index (by (slice_index_or slots k None) refl)
     where
-      by : (o : Option (Gen × LinkBody K T)) → slice_index_or slots k None ≡ o → HasLink (shown_in number slots) (suc k)
+      by : (o : Option (Gen × LinkBody K T)) → slice_index_or slots k None ≡ o → HasLink (link_map_in number slots) (suc k)
       by None is = absurd (let both = sym some ∙ (at_slot ∙ ap (option_map (on_value held_in)) is) in cc)
-      by (Some d) is = record { link = interlinks_seen number d; shows = ap (option_map (interlinks_seen number)) is }
+      by (Some d) is = record { link = body_interlinks number d; shows = ap (option_map (body_interlinks number)) is }
 
 -- how far the links have come: those up to k, so many, stand at the indexes from 1 on
 pub record AreComing {Gen K T : Type 0} (number : K → Option ℕ) (old now : List (Option (Gen × LinkBody K T))) (k count : ℕ) : Type 0 where
-  pub gathering : IsGathering (shown_in number old) (shown_in number now) (indexes_to k (slot_values old)) k
+  pub gathering : IsGathering (link_map_in number old) (link_map_in number now) (indexes_to k (slot_values old)) k
   pub counted : length (indexes_to k (slot_values old)) ≡ count
 
-module _ {Gen K T : Type 0} (number : K → Option ℕ) (old : List (Option (Gen × LinkBody K T))) (agrees : Agrees (shown_in number old)) where
+module _ {Gen K T : Type 0} (number : K → Option ℕ) (old : List (Option (Gen × LinkBody K T))) (agrees : IsWellLinked (link_map_in number old)) where
   -- at the beginning
-  pub coming_begins : HasLinksWithin (shown_in number old) (length old) → AreComing number old old 0 0
-  coming_begins within = record { gathering = gathering_begins (shown_in number old) (length old) agrees within; counted = refl }
+  pub coming_begins : HasLinksWithin (link_map_in number old) (length old) → AreComing number old old 0 0
+  coming_begins within = record { gathering = gathering_begins (link_map_in number old) (length old) agrees within; counted = refl }
 
   module _ (now : List (Option (Gen × LinkBody K T))) (k count : ℕ) (c : AreComing number old now k count) (below : k < length old) where
     inside : k < length (slot_values old)
@@ -94,8 +94,8 @@ module _ {Gen K T : Type 0} (number : K → Option ℕ) (old : List (Option (Gen
     coming_skips none =
         let same = indexes-passed (slot_values old) k inside none in
         record {
-          gathering = subst (λ done. IsGathering (shown_in number old) (shown_in number now) done (k + 1)) (sym same)
-              (gathering_skips (shown_in number old) (shown_in number now) (indexes_to k (slot_values old)) k c.gathering (none-shown number old k none));
+          gathering = subst (λ done. IsGathering (link_map_in number old) (link_map_in number now) done (k + 1)) (sym same)
+              (gathering_skips (link_map_in number old) (link_map_in number now) (indexes_to k (slot_values old)) k c.gathering (none-shown number old k none));
           counted = ap (λ done. length done) same ∙ c.counted;
         }
 
@@ -108,30 +108,30 @@ module _ {Gen K T : Type 0} (number : K → Option ℕ) (old : List (Option (Gen
           by None is = cc
           by (Some e) is = (e, refl)
 
-      goes : Agrees (shown_in number now) × CanMove (shown_in number now) (k + 1) (length (indexes_to k (slot_values old)) + 1)
-          × IsGathering (shown_in number old) (moved (shown_in number now) (k + 1) (length (indexes_to k (slot_values old)) + 1)) (indexes_to k (slot_values old) ++ (k + 1) ∷ []) (k + 1)
-      goes = gathering_goes_on (shown_in number old) (shown_in number now) (indexes_to k (slot_values old)) k agrees c.gathering (some-valid number old k comes.0 comes.1)
+      goes : IsWellLinked (link_map_in number now) × CanMove (link_map_in number now) (k + 1) (length (indexes_to k (slot_values old)) + 1)
+          × IsGathering (link_map_in number old) (moved (link_map_in number now) (k + 1) (length (indexes_to k (slot_values old)) + 1)) (indexes_to k (slot_values old) ++ (k + 1) ∷ []) (k + 1)
+      goes = gathering_goes_on (link_map_in number old) (link_map_in number now) (indexes_to k (slot_values old)) k agrees c.gathering (some-valid number old k comes.0 comes.1)
 
       pub coming_goes_on : (from to : ℕ) (mid after : List (Option (Gen × LinkBody K T))) → from ≡ k + 1 → to ≡ count + 1
-          → (Agrees (shown_in number now) → CanMove (shown_in number now) from to → shown_in number mid ≡ moved (shown_in number now) from to)
-          → shown_in number after ≡ shown_in number mid → AreComing number old after (k + 1) (count + 1)
+          → (IsWellLinked (link_map_in number now) → CanMove (link_map_in number now) from to → link_map_in number mid ≡ moved (link_map_in number now) from to)
+          → link_map_in number after ≡ link_map_in number mid → AreComing number old after (k + 1) (count + 1)
       coming_goes_on from to mid after at_from at_to moves kept =
           let met = indexes-met (slot_values old) k inside comes.0 comes.1 in
           let first : k + 1 ≡ from = sym at_from in
           let last : length (indexes_to k (slot_values old)) + 1 ≡ to = ap (λ (n : ℕ). n + 1) c.counted ∙ sym at_to in
-          let can : CanMove (shown_in number now) from to = subst (λ (p : ℕ × ℕ). CanMove (shown_in number now) p.0 p.1) (λ i. (first i, last i)) goes.1 in
-          let shows : moved (shown_in number now) (k + 1) (length (indexes_to k (slot_values old)) + 1) ≡ shown_in number after =
-          (λ i. moved (shown_in number now) (first i) (last i)) ∙ (sym (moves goes.0 can) ∙ sym kept) in
+          let can : CanMove (link_map_in number now) from to = subst (λ (p : ℕ × ℕ). CanMove (link_map_in number now) p.0 p.1) (λ i. (first i, last i)) goes.1 in
+          let shows : moved (link_map_in number now) (k + 1) (length (indexes_to k (slot_values old)) + 1) ≡ link_map_in number after =
+          (λ i. moved (link_map_in number now) (first i) (last i)) ∙ (sym (moves goes.0 can) ∙ sym kept) in
           record {
-            gathering = subst (λ (p : Shown × List ℕ). IsGathering (shown_in number old) p.0 p.1 (k + 1)) (λ i. (shows i, sym met i)) goes.2;
+            gathering = subst (λ (p : LinkMap × List ℕ). IsGathering (link_map_in number old) p.0 p.1 (k + 1)) (λ i. (shows i, sym met i)) goes.2;
             counted = ap (λ done. length done) met ∙ (length-append (indexes_to k (slot_values old)) ((k + 1) ∷ []) ∙ ap (λ (n : ℕ). n + 1) c.counted);
           }
 
   -- once all slots are passed, the links are renamed by the order of their indexes
-  pub coming_ends : (now : List (Option (Gen × LinkBody K T))) (k count : ℕ) → AreComing number old now k count → k ≡ length old → HasLinksWithin (shown_in number old) (length old)
-      → IsRenaming (place_in (indexes_in (slot_values old))) (shown_in number old) (shown_in number now)
+  pub coming_ends : (now : List (Option (Gen × LinkBody K T))) (k count : ℕ) → AreComing number old now k count → k ≡ length old → HasLinksWithin (link_map_in number old) (length old)
+      → IsRenaming (place_in (indexes_in (slot_values old))) (link_map_in number old) (link_map_in number now)
   coming_ends now k count c all within =
       let same : indexes_to k (slot_values old) ≡ indexes_in (slot_values old) =
       ap (λ es. map index_of es) (take-all (slot_values old) 1 k (omega (arith, all, length-map old (option_map (on_value held_in))))) in
-      subst (λ done. IsRenaming (place_in done) (shown_in number old) (shown_in number now)) same
-      (gathering_ends (shown_in number old) (shown_in number now) (indexes_to k (slot_values old)) k (subst (λ (n : ℕ). HasLinksWithin (shown_in number old) n) (sym all) within) c.gathering)
+      subst (λ done. IsRenaming (place_in done) (link_map_in number old) (link_map_in number now)) same
+      (gathering_ends (link_map_in number old) (link_map_in number now) (indexes_to k (slot_values old)) k (subst (λ (n : ℕ). HasLinksWithin (link_map_in number old) n) (sym all) within) c.gathering)

@@ -5,22 +5,22 @@ use Rattle.std.specs.Option.{option_map, option_and_then}
 use Rattle.std.proofs.Math.Decide.{ℕ_discrete}
 use Rattle.std.proofs.lemmas.List.{ext_get_or, length-map}
 use mathlib.Core.Path.{fun_ext}
-use Rattle.chain_laws.specs.Chains.{Has}
-use Rattle.chain_laws.proofs.ListLemmas.Members.{Has-left, Has-right, Has-parts, Has-or_not}
+use Rattle.chain_laws.specs.Chains.{IsMember}
+use Rattle.chain_laws.proofs.ListLemmas.Members.{IsMember-left, IsMember-right, IsMember-parts, IsMember-or_not}
 use Rattle.chain_laws.proofs.InterlinkLemmas.Inverses.{if_same, if_other}
 use Rattle.arena_base.specs.Arena.{slot_at}
 use Rattle.arena_base.specs.DetachedSlots.{Held, held_with_value}
 use Rattle.arena_base.proofs.SlotLemmas.{length-with_slot}
 use Rattle.chain_links.specs.declared.links.LinkBody.{LinkBody}
-use Rattle.chain_links.specs.ChainArena.{LinkSeen, on_value, ptr_at}
-use Rattle.chain_links.specs.Links.{seen_link, seen_pair}
-use Rattle.chain_compaction.specs.Permutations.{goal_of}
-use Rattle.chain_compaction.specs.Destinations.{renamed_link, renamed_held, seen_held, given, AreRetied}
+use Rattle.chain_links.specs.ChainArena.{LinkView, on_value, ptr_at}
+use Rattle.chain_links.specs.Links.{link_view, pair_view}
+use Rattle.chain_compaction.specs.Permutations.{destination_of}
+use Rattle.chain_compaction.specs.Destinations.{renamed_link, renamed_held, held_view, destination_at, AreRelinked}
 use Rattle.chain_links.proofs.MappedArenaLemmas.{slot_at-map}
 use Rattle.chain_links.proofs.LinkStateLemmas.{slot_at-changed}
 
 -- what is seen of an entry, with another link
-abbrev pub seen_as : {Gen T : Type 0} → Gen → LinkSeen T → Option (Gen × LinkSeen T)
+abbrev pub seen_as : {Gen T : Type 0} → Gen → LinkView T → Option (Gen × LinkView T)
 seen_as g l = Some (g, l)
 
 -- a link that stands was written over
@@ -49,49 +49,49 @@ module _ {Gen K T : Type 0} (now new : Held Gen (LinkBody K T)) (i : ℕ) (e : G
   written_maximum = ap (λ (h : Held Gen (LinkBody K T)). h.maximum) wrote
 
   -- the destinations too, but for its own
-  pub written_given : (number : K → Option ℕ) (j : ℕ) → j ≢ i → given number new.slots j ≡ given number now.slots j
-  written_given number j differs = ap (option_and_then (goal_of number)) (written_other j differs)
+  pub written_given : (number : K → Option ℕ) (j : ℕ) → j ≢ i → destination_at number new.slots j ≡ destination_at number now.slots j
+  written_given number j differs = ap (option_and_then (destination_of number)) (written_other j differs)
 
-  pub written_own : (number : K → Option ℕ) → given number new.slots i ≡ number w.destination
-  written_own number = ap (option_and_then (goal_of number)) written_there
+  pub written_own : (number : K → Option ℕ) → destination_at number new.slots i ≡ number w.destination
+  written_own number = ap (option_and_then (destination_of number)) written_there
 
 module _ {Gen K T : Type 0} (number : K → Option ℕ) where
   -- what is seen at an index
-  abbrev pub seen_at : Held Gen (LinkBody K T) → ℕ → Option (Gen × LinkSeen T)
-  seen_at h j = option_map (seen_pair number) (slot_at h.slots j)
+  abbrev pub seen_at : Held Gen (LinkBody K T) → ℕ → Option (Gen × LinkView T)
+  seen_at h j = option_map (pair_view number) (slot_at h.slots j)
 
   -- none is written over yet
-  pub retied_none : (becomes : ℕ → LinkSeen T → LinkSeen T) (h : Held Gen (LinkBody K T)) → AreRetied number becomes h h []
+  pub retied_none : (becomes : ℕ → LinkView T → LinkView T) (h : Held Gen (LinkBody K T)) → AreRelinked number becomes h h []
   retied_none becomes h = record { there = λ j has. absurd has; stay = λ j out. refl; long = refl; capacity = refl; maximum = refl }
 
-  module _ (becomes : ℕ → LinkSeen T → LinkSeen T) (old now : Held Gen (LinkBody K T)) (xs : List ℕ) (was : AreRetied number becomes old now xs) where
+  module _ (becomes : ℕ → LinkView T → LinkView T) (old now : Held Gen (LinkBody K T)) (xs : List ℕ) (was : AreRelinked number becomes old now xs) where
     -- so many are as they were, or changed alike
-    pub retied_as : (instead : ℕ → LinkSeen T → LinkSeen T) → ((j : ℕ) → Has xs j → option_map (on_value (becomes j)) (seen_at old j) ≡ option_map (on_value (instead j)) (seen_at old j)) → AreRetied number instead old now xs
+    pub retied_as : (instead : ℕ → LinkView T → LinkView T) → ((j : ℕ) → IsMember xs j → option_map (on_value (becomes j)) (seen_at old j) ≡ option_map (on_value (instead j)) (seen_at old j)) → AreRelinked number instead old now xs
     retied_as instead same = record { there = λ j h. was.there j h ∙ same j h; stay = was.stay; long = was.long; capacity = was.capacity; maximum = was.maximum }
 
     -- each pointer is what it was
     pub retied_ptr : ptr_at (slot_at now.slots) ≡ ptr_at (slot_at old.slots)
-    retied_ptr = fun_ext (λ i. by i (Has-or_not xs i))
+    retied_ptr = fun_ext (λ i. by i (IsMember-or_not xs i))
       where
-        seen : (i : ℕ) (s : Option (Gen × LinkBody K T)) → option_map {U = ℕ × Gen} (λ (e : Gen × LinkBody K T). (i, e.0)) s ≡ option_map {U = ℕ × Gen} (λ (e : Gen × LinkSeen T). (i, e.0)) (option_map (seen_pair number) s)
+        seen : (i : ℕ) (s : Option (Gen × LinkBody K T)) → option_map {U = ℕ × Gen} (λ (e : Gen × LinkBody K T). (i, e.0)) s ≡ option_map {U = ℕ × Gen} (λ (e : Gen × LinkView T). (i, e.0)) (option_map (pair_view number) s)
         seen i None = refl
         seen i (Some e) = refl
 
-        valued : (i : ℕ) (f : LinkSeen T → LinkSeen T) (o : Option (Gen × LinkSeen T)) → option_map {U = ℕ × Gen} (λ (e : Gen × LinkSeen T). (i, e.0)) (option_map (on_value f) o) ≡ option_map {U = ℕ × Gen} (λ (e : Gen × LinkSeen T). (i, e.0)) o
+        valued : (i : ℕ) (f : LinkView T → LinkView T) (o : Option (Gen × LinkView T)) → option_map {U = ℕ × Gen} (λ (e : Gen × LinkView T). (i, e.0)) (option_map (on_value f) o) ≡ option_map {U = ℕ × Gen} (λ (e : Gen × LinkView T). (i, e.0)) o
         valued i f None = refl
         valued i f (Some e) = refl
 
-        by : (i : ℕ) → Has xs i ⊎ (Has xs i → ⊥) → ptr_at (slot_at now.slots) i ≡ ptr_at (slot_at old.slots) i
+        by : (i : ℕ) → IsMember xs i ⊎ (IsMember xs i → ⊥) → ptr_at (slot_at now.slots) i ≡ ptr_at (slot_at old.slots) i
         by i (inl h) =
-            seen i (slot_at now.slots i) ∙ (ap (option_map {U = ℕ × Gen} (λ (e : Gen × LinkSeen T). (i, e.0))) (was.there i h) ∙ (valued i (becomes i) (seen_at old i) ∙ sym (seen i (slot_at old.slots i))))
+            seen i (slot_at now.slots i) ∙ (ap (option_map {U = ℕ × Gen} (λ (e : Gen × LinkView T). (i, e.0))) (was.there i h) ∙ (valued i (becomes i) (seen_at old i) ∙ sym (seen i (slot_at old.slots i))))
         by i (inr out) = ap (option_map {U = ℕ × Gen} (λ (e : Gen × LinkBody K T). (i, e.0))) (was.stay i out)
 
     module _ (new : Held Gen (LinkBody K T)) (i : ℕ) (e : Gen × LinkBody K T) (w : LinkBody K T) (stands : slot_at now.slots i ≡ Some e) (wrote : new ≡ held_with_value now i w) where
       -- one more is written over
-      pub retied_more : (Has xs i → ⊥) → seen_link number w ≡ becomes i (seen_link number e.1) → AreRetied number becomes old new (xs ++ i ∷ [])
+      pub retied_more : (IsMember xs i → ⊥) → link_view number w ≡ becomes i (link_view number e.1) → AreRelinked number becomes old new (xs ++ i ∷ [])
       retied_more fresh same = record {
         there = λ j h. there j h (ℕ_discrete j i);
-        stay = λ j out. written_other now new i e w stands wrote j (λ s. out (subst (Has (xs ++ i ∷ [])) (sym s) (Has-right xs (i ∷ []) i (inl refl)))) ∙ was.stay j (λ h. out (Has-left xs (i ∷ []) j h));
+        stay = λ j out. written_other now new i e w stands wrote j (λ s. out (subst (IsMember (xs ++ i ∷ [])) (sym s) (IsMember-right xs (i ∷ []) i (inl refl)))) ∙ was.stay j (λ h. out (IsMember-left xs (i ∷ []) j h));
         long = written_long now new i e w stands wrote ∙ was.long;
         capacity = written_capacity now new i e w stands wrote ∙ was.capacity;
         maximum = written_maximum now new i e w stands wrote ∙ was.maximum;
@@ -99,68 +99,68 @@ module _ {Gen K T : Type 0} (number : K → Option ℕ) where
         where
           here : seen_at new i ≡ option_map (on_value (becomes i)) (seen_at old i)
           here =
-              ap (option_map (seen_pair number)) (written_there now new i e w stands wrote)
-              ∙ (ap (seen_as e.0) same ∙ sym (ap (λ (o : Option (Gen × LinkBody K T)). option_map (on_value (becomes i)) (option_map (seen_pair number) o)) (sym (was.stay i fresh) ∙ stands)))
+              ap (option_map (pair_view number)) (written_there now new i e w stands wrote)
+              ∙ (ap (seen_as e.0) same ∙ sym (ap (λ (o : Option (Gen × LinkBody K T)). option_map (on_value (becomes i)) (option_map (pair_view number) o)) (sym (was.stay i fresh) ∙ stands)))
 
-          before : (j : ℕ) → j ≢ i → Has xs j ⊎ Has (i ∷ []) j → Has xs j
+          before : (j : ℕ) → j ≢ i → IsMember xs j ⊎ IsMember (i ∷ []) j → IsMember xs j
           before j differs (inl h) = h
           before j differs (inr (inl s)) = absurd (differs (sym s))
           before j differs (inr (inr none)) = absurd none
 
-          there : (j : ℕ) → Has (xs ++ i ∷ []) j → Dec (j ≡ i) → seen_at new j ≡ option_map (on_value (becomes j)) (seen_at old j)
+          there : (j : ℕ) → IsMember (xs ++ i ∷ []) j → Dec (j ≡ i) → seen_at new j ≡ option_map (on_value (becomes j)) (seen_at old j)
           there j h (yes s) = subst (λ (n : ℕ). seen_at new n ≡ option_map (on_value (becomes n)) (seen_at old n)) (sym s) here
-          there j h (no differs) = ap (option_map (seen_pair number)) (written_other now new i e w stands wrote j differs) ∙ was.there j (before j differs (Has-parts xs (i ∷ []) j h))
+          there j h (no differs) = ap (option_map (pair_view number)) (written_other now new i e w stands wrote j differs) ∙ was.there j (before j differs (IsMember-parts xs (i ∷ []) j h))
 
       -- one of them is written over again
-      pub retied_over : Has xs i → (instead : ℕ → LinkSeen T → LinkSeen T) → ((j : ℕ) → j ≢ i → becomes j ≡ instead j) → seen_as e.0 (seen_link number w) ≡ option_map (on_value (instead i)) (seen_at old i) → AreRetied number instead old new xs
+      pub retied_over : IsMember xs i → (instead : ℕ → LinkView T → LinkView T) → ((j : ℕ) → j ≢ i → becomes j ≡ instead j) → seen_as e.0 (link_view number w) ≡ option_map (on_value (instead i)) (seen_at old i) → AreRelinked number instead old new xs
       retied_over has instead others here = record {
         there = λ j h. there j h (ℕ_discrete j i);
-        stay = λ j out. written_other now new i e w stands wrote j (λ s. out (subst (Has xs) (sym s) has)) ∙ was.stay j out;
+        stay = λ j out. written_other now new i e w stands wrote j (λ s. out (subst (IsMember xs) (sym s) has)) ∙ was.stay j out;
         long = written_long now new i e w stands wrote ∙ was.long;
         capacity = written_capacity now new i e w stands wrote ∙ was.capacity;
         maximum = written_maximum now new i e w stands wrote ∙ was.maximum;
       }
         where
-          there : (j : ℕ) → Has xs j → Dec (j ≡ i) → seen_at new j ≡ option_map (on_value (instead j)) (seen_at old j)
-          there j h (yes s) = subst (λ (n : ℕ). seen_at new n ≡ option_map (on_value (instead n)) (seen_at old n)) (sym s) (ap (option_map (seen_pair number)) (written_there now new i e w stands wrote) ∙ here)
+          there : (j : ℕ) → IsMember xs j → Dec (j ≡ i) → seen_at new j ≡ option_map (on_value (instead j)) (seen_at old j)
+          there j h (yes s) = subst (λ (n : ℕ). seen_at new n ≡ option_map (on_value (instead n)) (seen_at old n)) (sym s) (ap (option_map (pair_view number)) (written_there now new i e w stands wrote) ∙ here)
           there j h (no differs) =
-              ap (option_map (seen_pair number)) (written_other now new i e w stands wrote j differs)
-              ∙ (was.there j h ∙ ap (λ (f : LinkSeen T → LinkSeen T). option_map (on_value f) (seen_at old j)) (others j differs))
+              ap (option_map (pair_view number)) (written_other now new i e w stands wrote j differs)
+              ∙ (was.there j h ∙ ap (λ (f : LinkView T → LinkView T). option_map (on_value f) (seen_at old j)) (others j differs))
 
     -- others are written over then
-    pub retied_then : (new : Held Gen (LinkBody K T)) (ys : List ℕ) → AreRetied number becomes now new ys → ((j : ℕ) → Has ys j → Has xs j → ⊥) → AreRetied number becomes old new (xs ++ ys)
+    pub retied_then : (new : Held Gen (LinkBody K T)) (ys : List ℕ) → AreRelinked number becomes now new ys → ((j : ℕ) → IsMember ys j → IsMember xs j → ⊥) → AreRelinked number becomes old new (xs ++ ys)
     retied_then new ys more apart = record {
-      there = λ j h. there j (Has-parts xs ys j h);
-      stay = λ j out. more.stay j (λ h. out (Has-right xs ys j h)) ∙ was.stay j (λ h. out (Has-left xs ys j h));
+      there = λ j h. there j (IsMember-parts xs ys j h);
+      stay = λ j out. more.stay j (λ h. out (IsMember-right xs ys j h)) ∙ was.stay j (λ h. out (IsMember-left xs ys j h));
       long = more.long ∙ was.long;
       capacity = more.capacity ∙ was.capacity;
       maximum = more.maximum ∙ was.maximum;
     }
       where
-        there : (j : ℕ) → Has xs j ⊎ Has ys j → seen_at new j ≡ option_map (on_value (becomes j)) (seen_at old j)
-        there j (inl h) = ap (option_map (seen_pair number)) (more.stay j (λ m. apart j m h)) ∙ was.there j h
-        there j (inr h) = more.there j h ∙ ap (λ (o : Option (Gen × LinkBody K T)). option_map (on_value (becomes j)) (option_map (seen_pair number) o)) (was.stay j (λ m. apart j h m))
+        there : (j : ℕ) → IsMember xs j ⊎ IsMember ys j → seen_at new j ≡ option_map (on_value (becomes j)) (seen_at old j)
+        there j (inl h) = ap (option_map (pair_view number)) (more.stay j (λ m. apart j m h)) ∙ was.there j h
+        there j (inr h) = more.there j h ∙ ap (λ (o : Option (Gen × LinkBody K T)). option_map (on_value (becomes j)) (option_map (pair_view number) o)) (was.stay j (λ m. apart j h m))
 
   -- once all are renamed, so is all that is held
-  pub all_retied : (to : ℕ → Option ℕ) (old now : Held Gen (LinkBody K T)) (xs : List ℕ) → AreRetied number (λ _. renamed_link to) old now xs → ((j : ℕ) (e : Gen × LinkBody K T) → slot_at old.slots j ≡ Some e → Has xs j)
-      → seen_held number now ≡ renamed_held to (seen_held number old)
+  pub all_retied : (to : ℕ → Option ℕ) (old now : Held Gen (LinkBody K T)) (xs : List ℕ) → AreRelinked number (λ _. renamed_link to) old now xs → ((j : ℕ) (e : Gen × LinkBody K T) → slot_at old.slots j ≡ Some e → IsMember xs j)
+      → held_view number now ≡ renamed_held to (held_view number old)
   all_retied to old now xs was each = λ j. record { slots = slots j; stack_capacity = was.capacity j; maximum = was.maximum j }
     where
-      free : (j : ℕ) → (Has xs j → ⊥) → (o : Option (Gen × LinkBody K T)) → slot_at old.slots j ≡ o → option_map (seen_pair number) o ≡ option_map (on_value (renamed_link to)) (option_map (seen_pair number) o)
+      free : (j : ℕ) → (IsMember xs j → ⊥) → (o : Option (Gen × LinkBody K T)) → slot_at old.slots j ≡ o → option_map (pair_view number) o ≡ option_map (on_value (renamed_link to)) (option_map (pair_view number) o)
       free j out None is = refl
       free j out (Some e) is = absurd (out (each j e is))
 
-      by : (j : ℕ) → Has xs j ⊎ (Has xs j → ⊥) → seen_at now j ≡ option_map (on_value (renamed_link to)) (seen_at old j)
+      by : (j : ℕ) → IsMember xs j ⊎ (IsMember xs j → ⊥) → seen_at now j ≡ option_map (on_value (renamed_link to)) (seen_at old j)
       by j (inl h) = was.there j h
-      by j (inr out) = ap (option_map (seen_pair number)) (was.stay j out) ∙ free j out (slot_at old.slots j) refl
+      by j (inr out) = ap (option_map (pair_view number)) (was.stay j out) ∙ free j out (slot_at old.slots j) refl
 
-      at : (j : ℕ) → slot_at (seen_held number now).slots j ≡ slot_at (renamed_held to (seen_held number old)).slots j
+      at : (j : ℕ) → slot_at (held_view number now).slots j ≡ slot_at (renamed_held to (held_view number old)).slots j
       at j =
-          slot_at-map (seen_pair number) now.slots j
-          ∙ (by j (Has-or_not xs j) ∙ sym (slot_at-map (on_value (renamed_link to)) (seen_held number old).slots j ∙ ap (option_map (on_value (renamed_link to))) (slot_at-map (seen_pair number) old.slots j)))
+          slot_at-map (pair_view number) now.slots j
+          ∙ (by j (IsMember-or_not xs j) ∙ sym (slot_at-map (on_value (renamed_link to)) (held_view number old).slots j ∙ ap (option_map (on_value (renamed_link to))) (slot_at-map (pair_view number) old.slots j)))
 
-      slots : (seen_held number now).slots ≡ (renamed_held to (seen_held number old)).slots
+      slots : (held_view number now).slots ≡ (renamed_held to (held_view number old)).slots
       slots =
-          ext_get_or None (seen_held number now).slots (renamed_held to (seen_held number old)).slots
-          (length-map now.slots (option_map (seen_pair number)) ∙ (was.long ∙ sym (length-map (seen_held number old).slots (option_map (on_value (renamed_link to))) ∙ length-map old.slots (option_map (seen_pair number)))))
+          ext_get_or None (held_view number now).slots (renamed_held to (held_view number old)).slots
+          (length-map now.slots (option_map (pair_view number)) ∙ (was.long ∙ sym (length-map (held_view number old).slots (option_map (on_value (renamed_link to))) ∙ length-map old.slots (option_map (pair_view number)))))
           (λ k inside. at (suc k))

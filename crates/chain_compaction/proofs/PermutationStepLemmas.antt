@@ -5,22 +5,22 @@ use Rattle.std.specs.Prelude.{is_some, OnSome, IfNone}
 use Rattle.std.specs.Option.{option_map, option_and_then}
 use Rattle.std.proofs.Math.Decide.{ℕ_discrete}
 use Rattle.arena_base.specs.Arena.{slot_at, with_slot}
-use Rattle.arena_base.specs.DetachedSlots.{Held, placed, held_with_value}
+use Rattle.arena_base.specs.DetachedSlots.{Held, with_placed_entry, held_with_value}
 use Rattle.arena_base.proofs.SlotLemmas.{length-with_slot}
 use Rattle.chain_links.specs.declared.links.LinkBody.{LinkBody}
-use Rattle.chain_compaction.specs.Permutations.{Waits, IsSettledAt, WaitsWithin, IsSettling, waiting, waits, goal_of, Settles, sent, sent_at, IsTakenOut}
+use Rattle.chain_compaction.specs.Permutations.{Waits, IsSettledAt, WaitsWithin, IsSettling, waiting, waits, destination_of, Settles, with_destination, with_destination_at, IsTakenOut}
 use Rattle.chain_compaction.proofs.SlotCountLemmas.{slot_at-same, slot_at-other, stands-within, with_slot-own, count-with_slot, mark, one_if}
 use Rattle.chain_compaction.proofs.SlotSwapLemmas.{moving_goes_on, came_from, waited_there}
 
 -- an entry that has come has no destination
-pub settled_rests : {Gen K T : Type 0} (number : K → Option ℕ) (g : Gen) (e f : Gen × LinkBody K T) → Settles number g e f → goal_of number f ≡ None
+pub settled_rests : {Gen K T : Type 0} (number : K → Option ℕ) (g : Gen) (e f : Gen × LinkBody K T) → Settles number g e f → destination_of number f ≡ None
 settled_rests number g e f s = s.empty
 
 -- the destination of the link that was lent was taken out
 module _ {Gen K T : Type 0} (number : K → Option ℕ) (held new : Held Gen (LinkBody K T)) (i : ℕ) (l w : LinkBody K T)
     (stands : Some l ≡ option_map (λ (e : Gen × LinkBody K T). e.1) (slot_at held.slots i)) (wrote : new ≡ held_with_value held i w)
     (empty : number w.destination ≡ None) (rest : w ≡ record l { destination = w.destination }) where
-  slot_taken : (o : Option (Gen × LinkBody K T)) → Some l ≡ option_map (λ (e : Gen × LinkBody K T). e.1) o → option_map (λ (e : Gen × LinkBody K T). (e.0, w)) o ≡ option_map (sent w.destination) o
+  slot_taken : (o : Option (Gen × LinkBody K T)) → Some l ≡ option_map (λ (e : Gen × LinkBody K T). e.1) o → option_map (λ (e : Gen × LinkBody K T). (e.0, w)) o ≡ option_map (with_destination w.destination) o
   slot_taken None is = refl
   slot_taken (Some e) is =
       let same : l ≡ e.1 = cc in
@@ -56,16 +56,16 @@ module _ {Gen K T : Type 0} (number : K → Option ℕ) (held new : Held Gen (Li
 -- what is answered is the destination of the entry that stands there
 module _ {Gen K T : Type 0} (number : K → Option ℕ) where
   pub tells_goal : (slot : Option (Gen × LinkBody K T)) (l : LinkBody K T) (answer : Option ℕ) → Some l ≡ option_map (λ (e : Gen × LinkBody K T). e.1) slot
-      → answer ≡ number l.destination → answer ≡ option_and_then (goal_of number) slot
+      → answer ≡ number l.destination → answer ≡ option_and_then (destination_of number) slot
   tells_goal None l answer is told = absurd (cc)
   tells_goal (Some e) l answer is told = let same : l ≡ e.1 = cc in told ∙ ap (λ (k : LinkBody K T). number k.destination) same
 
-  pub tells_no_goal : (slot : Option (Gen × LinkBody K T)) → None ≡ option_map (λ (e : Gen × LinkBody K T). e.1) slot → None ≡ option_and_then (goal_of number) slot
+  pub tells_no_goal : (slot : Option (Gen × LinkBody K T)) → None ≡ option_map (λ (e : Gen × LinkBody K T). e.1) slot → None ≡ option_and_then (destination_of number) slot
   tells_no_goal None is = refl
   tells_no_goal (Some e) is = absurd (cc)
 
 module _ {Gen K T : Type 0} (number : K → Option ℕ) (g : Gen) (k : K) (empty : number k ≡ None) (slots : List (Option (Gen × LinkBody K T))) (i d : ℕ) (e : Gen × LinkBody K T)
-    (w : Waits (goal_of number) (slot_at slots) i e d) (low : 1 ≤ d) (high : d ≤ length slots) where
+    (w : Waits (destination_of number) (slot_at slots) i e d) (low : 1 ≤ d) (high : d ≤ length slots) where
   abbrev Entry : Type 0
   Entry = Gen × LinkBody K T
 
@@ -75,7 +75,7 @@ module _ {Gen K T : Type 0} (number : K → Option ℕ) (g : Gen) (k : K) (empty
 
   -- the slots once the destination is taken out, once the first of the two slots is written, and once both are
   abbrev one : List (Option Entry)
-  one = sent_at k slots i
+  one = with_destination_at k slots i
 
   abbrev mid : List (Option Entry)
   mid = with_slot one i (slot_at one d)
@@ -87,7 +87,7 @@ module _ {Gen K T : Type 0} (number : K → Option ℕ) (g : Gen) (k : K) (empty
   here = stands-within slots i e w.stands
 
   length-one : length one ≡ length slots
-  length-one = length-with_slot slots i (option_map (sent k) (slot_at slots i))
+  length-one = length-with_slot slots i (option_map (with_destination k) (slot_at slots i))
 
   length-mid : length mid ≡ length slots
   length-mid = length-with_slot one i (slot_at one d) ∙ length-one
@@ -101,11 +101,11 @@ module _ {Gen K T : Type 0} (number : K → Option ℕ) (g : Gen) (k : K) (empty
   within_mid : d ≤ length mid
   within_mid = let l : length mid ≡ length slots = length-mid in omega arith
 
-  one_at : slot_at one i ≡ Some (sent k e)
-  one_at = slot_at-same slots i (option_map (sent k) (slot_at slots i)) here.0 here.1 ∙ ap (option_map (sent k)) w.stands
+  one_at : slot_at one i ≡ Some (with_destination k e)
+  one_at = slot_at-same slots i (option_map (with_destination k) (slot_at slots i)) here.0 here.1 ∙ ap (option_map (with_destination k)) w.stands
 
   one_other : (j : ℕ) → (j ≢ i) → slot_at one j ≡ slot_at slots j
-  one_other j ne = slot_at-other slots i j (option_map (sent k) (slot_at slots i)) here.0 here.1 ne
+  one_other j ne = slot_at-other slots i j (option_map (with_destination k) (slot_at slots i)) here.0 here.1 ne
 
   mid_same : slot_at mid i ≡ slot_at one d
   mid_same = slot_at-same one i (slot_at one d) here.0 within_one
@@ -120,11 +120,11 @@ module _ {Gen K T : Type 0} (number : K → Option ℕ) (g : Gen) (k : K) (empty
       by (yes s) = ap (slot_at mid) s ∙ mid_same
       by (no n) = mid_other d n
 
-  two_at_d : slot_at two d ≡ Some (renewed (sent k e))
+  two_at_d : slot_at two d ≡ Some (renewed (with_destination k e))
   two_at_d = slot_at-same mid d (option_map renewed (slot_at one i)) low within_mid ∙ ap (option_map renewed) one_at
 
   settled_at_d : IsSettledAt (Settles number g) (slot_at two) d e
-  settled_at_d = record { entry = renewed (sent k e); stands = two_at_d; settled = record { generation = refl; empty = empty; rest = refl } }
+  settled_at_d = record { entry = renewed (with_destination k e); stands = two_at_d; settled = record { generation = refl; empty = empty; rest = refl } }
 
   two_at_i : (i ≢ d) → slot_at two i ≡ slot_at slots d
   two_at_i ne =
@@ -137,35 +137,35 @@ module _ {Gen K T : Type 0} (number : K → Option ℕ) (g : Gen) (k : K) (empty
       ∙ (mid_other j n ∙ one_other j n)
 
   -- an entry that has lost its destination does not wait
-  marks_none : (x : Option Entry) → x ≡ Some (sent k e) → mark (goal_of number) x ≡ 0
-  marks_none x is = ap (mark (goal_of number)) is ∙ ap (λ (o : Option ℕ). one_if (is_some o)) empty
+  marks_none : (x : Option Entry) → x ≡ Some (with_destination k e) → mark (destination_of number) x ≡ 0
+  marks_none x is = ap (mark (destination_of number)) is ∙ ap (λ (o : Option ℕ). one_if (is_some o)) empty
 
-  pub one_less : waiting (goal_of number) two + 1 ≡ waiting (goal_of number) slots
+  pub one_less : waiting (destination_of number) two + 1 ≡ waiting (destination_of number) slots
   one_less =
-      let a : waiting (goal_of number) one + mark (goal_of number) (slot_at slots i) ≡ waiting (goal_of number) slots + mark (goal_of number) (option_map (sent k) (slot_at slots i))
-      = count-with_slot (waits (goal_of number)) slots i (option_map (sent k) (slot_at slots i)) here.0 here.1 in
-      let b : waiting (goal_of number) mid + mark (goal_of number) (slot_at one i) ≡ waiting (goal_of number) one + mark (goal_of number) (slot_at one d)
-      = count-with_slot (waits (goal_of number)) one i (slot_at one d) here.0 within_one in
-      let c : waiting (goal_of number) two + mark (goal_of number) (slot_at mid d) ≡ waiting (goal_of number) mid + mark (goal_of number) (option_map renewed (slot_at one i))
-      = count-with_slot (waits (goal_of number)) mid d (option_map renewed (slot_at one i)) low within_mid in
-      let m1 : mark (goal_of number) (slot_at slots i) ≡ 1 = ap (mark (goal_of number)) w.stands ∙ ap (λ (o : Option ℕ). one_if (is_some o)) w.to in
-      let m2 : mark (goal_of number) (option_map (sent k) (slot_at slots i)) ≡ 0 = marks_none (option_map (sent k) (slot_at slots i)) (ap (option_map (sent k)) w.stands) in
-      let m3 : mark (goal_of number) (slot_at one i) ≡ 0 = marks_none (slot_at one i) one_at in
-      let m4 : mark (goal_of number) (slot_at mid d) ≡ mark (goal_of number) (slot_at one d) = ap (mark (goal_of number)) mid_at_d in
-      let m5 : mark (goal_of number) (option_map renewed (slot_at one i)) ≡ 0 = ap (λ (x : Option Entry). mark (goal_of number) (option_map renewed x)) one_at ∙ ap (λ (o : Option ℕ). one_if (is_some o)) empty in
+      let a : waiting (destination_of number) one + mark (destination_of number) (slot_at slots i) ≡ waiting (destination_of number) slots + mark (destination_of number) (option_map (with_destination k) (slot_at slots i))
+      = count-with_slot (waits (destination_of number)) slots i (option_map (with_destination k) (slot_at slots i)) here.0 here.1 in
+      let b : waiting (destination_of number) mid + mark (destination_of number) (slot_at one i) ≡ waiting (destination_of number) one + mark (destination_of number) (slot_at one d)
+      = count-with_slot (waits (destination_of number)) one i (slot_at one d) here.0 within_one in
+      let c : waiting (destination_of number) two + mark (destination_of number) (slot_at mid d) ≡ waiting (destination_of number) mid + mark (destination_of number) (option_map renewed (slot_at one i))
+      = count-with_slot (waits (destination_of number)) mid d (option_map renewed (slot_at one i)) low within_mid in
+      let m1 : mark (destination_of number) (slot_at slots i) ≡ 1 = ap (mark (destination_of number)) w.stands ∙ ap (λ (o : Option ℕ). one_if (is_some o)) w.to in
+      let m2 : mark (destination_of number) (option_map (with_destination k) (slot_at slots i)) ≡ 0 = marks_none (option_map (with_destination k) (slot_at slots i)) (ap (option_map (with_destination k)) w.stands) in
+      let m3 : mark (destination_of number) (slot_at one i) ≡ 0 = marks_none (slot_at one i) one_at in
+      let m4 : mark (destination_of number) (slot_at mid d) ≡ mark (destination_of number) (slot_at one d) = ap (mark (destination_of number)) mid_at_d in
+      let m5 : mark (destination_of number) (option_map renewed (slot_at one i)) ≡ 0 = ap (λ (x : Option Entry). mark (destination_of number) (option_map renewed x)) one_at ∙ ap (λ (o : Option ℕ). one_if (is_some o)) empty in
       omega arith
 
-  pub settles_on : (old : List (Option Entry)) → IsSettling (goal_of number) (Settles number g) i old slots → IsSettling (goal_of number) (Settles number g) i old two
+  pub settles_on : (old : List (Option Entry)) → IsSettling (destination_of number) (Settles number g) i old slots → IsSettling (destination_of number) (Settles number g) i old two
   settles_on old s = record {
-    moves = λ first m. moving_goes_on (goal_of number) (Settles number g) (settled_rests number g) (slot_at slots) (slot_at two) i d e settled_at_d two_at_i two_other first (s.moves first m) w;
+    moves = λ first m. moving_goes_on (destination_of number) (Settles number g) (settled_rests number g) (slot_at slots) (slot_at two) i d e settled_at_d two_at_i two_other first (s.moves first m) w;
     within = λ b. record { within = bound (s.within b) };
     length = length-two ∙ s.length;
-    stays = λ j h f ne v. s.stays j h f ne (waited_there (goal_of number) (Settles number g) (settled_rests number g) (slot_at slots) (slot_at two) i d e settled_at_d two_at_i two_other j f h ne v);
+    stays = λ j h f ne v. s.stays j h f ne (waited_there (destination_of number) (Settles number g) (settled_rests number g) (slot_at slots) (slot_at two) i d e settled_at_d two_at_i two_other j f h ne v);
   }
     where
-      bound : WaitsWithin (goal_of number) slots → (j h : ℕ) (f : Entry) → Waits (goal_of number) (slot_at two) j f h → (1 ≤ h) × (h ≤ length two)
+      bound : WaitsWithin (destination_of number) slots → (j h : ℕ) (f : Entry) → Waits (destination_of number) (slot_at two) j f h → (1 ≤ h) × (h ≤ length two)
       bound b j h f v =
-          let u = came_from (goal_of number) (Settles number g) (settled_rests number g) (slot_at slots) (slot_at two) i d e settled_at_d two_at_i two_other j f h v in
+          let u = came_from (destination_of number) (Settles number g) (settled_rests number g) (slot_at slots) (slot_at two) i d e settled_at_d two_at_i two_other j f h v in
           let at = b.within u.0 h f u.1 in
           let first : 1 ≤ h = at.0 in
           let last : h ≤ length slots = at.1 in
@@ -185,14 +185,14 @@ none_waits goal slots i is d e w =
 
 -- the step, over what the compactor holds before it, once the destination is taken out, and after it
 module _ {Gen K T : Type 0} (number : K → Option ℕ) (g : Gen) (i d : ℕ) (before taken after : Held Gen (LinkBody K T))
-    (is : Some d ≡ option_and_then (goal_of number) (slot_at before.slots i)) (out : IsTakenOut number i before taken) (all : WaitsWithin (goal_of number) before.slots) where
+    (is : Some d ≡ option_and_then (destination_of number) (slot_at before.slots i)) (out : IsTakenOut number i before taken) (all : WaitsWithin (destination_of number) before.slots) where
   abbrev Entries : Type 0
   Entries = List (Option (Gen × LinkBody K T))
 
-  who : (e : Gen × LinkBody K T) × Waits (goal_of number) (slot_at before.slots) i e d
+  who : (e : Gen × LinkBody K T) × Waits (destination_of number) (slot_at before.slots) i e d
   who = by (slot_at before.slots i) refl is
     where
-      by : (s : Option (Gen × LinkBody K T)) → slot_at before.slots i ≡ s → Some d ≡ option_and_then (goal_of number) s → (e : Gen × LinkBody K T) × Waits (goal_of number) (slot_at before.slots) i e d
+      by : (s : Option (Gen × LinkBody K T)) → slot_at before.slots i ≡ s → Some d ≡ option_and_then (destination_of number) s → (e : Gen × LinkBody K T) × Waits (destination_of number) (slot_at before.slots) i e d
       by None at is = absurd (cc)
       by (Some e) at is = (e, record { stands = at; to = sym is })
 
@@ -200,7 +200,7 @@ module _ {Gen K T : Type 0} (number : K → Option ℕ) (g : Gen) (i d : ℕ) (b
   bounds = all.within i d who.0 who.1
 
   length-taken : length taken.slots ≡ length before.slots
-  length-taken = ap (λ (h : Held Gen (LinkBody K T)). length h.slots) out.held ∙ length-with_slot before.slots i (option_map (sent out.destination) (slot_at before.slots i))
+  length-taken = ap (λ (h : Held Gen (LinkBody K T)). length h.slots) out.held ∙ length-with_slot before.slots i (option_map (with_destination out.destination) (slot_at before.slots i))
 
   -- both slots are there, and an entry stands in the first
   pub from_within : i ≤ length taken.slots
@@ -213,10 +213,10 @@ module _ {Gen K T : Type 0} (number : K → Option ℕ) (g : Gen) (i d : ℕ) (b
   entry_there =
       let at = stands-within before.slots i who.0 who.1.stands in
       ap (λ (h : Held Gen (LinkBody K T)). is_some (slot_at h.slots i)) out.held
-      ∙ (ap (λ (o : Option (Gen × LinkBody K T)). is_some o) (slot_at-same before.slots i (option_map (sent out.destination) (slot_at before.slots i)) at.0 at.1)
-      ∙ ap (λ (o : Option (Gen × LinkBody K T)). is_some (option_map (sent out.destination) o)) who.1.stands)
+      ∙ (ap (λ (o : Option (Gen × LinkBody K T)). is_some o) (slot_at-same before.slots i (option_map (with_destination out.destination) (slot_at before.slots i)) at.0 at.1)
+      ∙ ap (λ (o : Option (Gen × LinkBody K T)). is_some (option_map (with_destination out.destination) o)) who.1.stands)
 
-  module _ (moved : after ≡ placed taken i d g) where
+  module _ (moved : after ≡ with_placed_entry taken i d g) where
     pub capacity_after : after.stack_capacity ≡ before.stack_capacity
     capacity_after = ap (λ (h : Held Gen (LinkBody K T)). h.stack_capacity) moved ∙ ap (λ (h : Held Gen (LinkBody K T)). h.stack_capacity) out.held
 
@@ -224,12 +224,12 @@ module _ {Gen K T : Type 0} (number : K → Option ℕ) (g : Gen) (i d : ℕ) (b
     maximum_after = ap (λ (h : Held Gen (LinkBody K T)). h.maximum) moved ∙ ap (λ (h : Held Gen (LinkBody K T)). h.maximum) out.held
 
     slots_after : two number g out.destination out.empty before.slots i d who.0 who.1 bounds.0 bounds.1 ≡ after.slots
-    slots_after = sym (ap (λ (h : Held Gen (LinkBody K T)). h.slots) moved ∙ ap (λ (h : Held Gen (LinkBody K T)). (placed h i d g).slots) out.held)
+    slots_after = sym (ap (λ (h : Held Gen (LinkBody K T)). h.slots) moved ∙ ap (λ (h : Held Gen (LinkBody K T)). (with_placed_entry h i d g).slots) out.held)
 
-    pub one_less_after : waiting (goal_of number) after.slots + 1 ≡ waiting (goal_of number) before.slots
-    one_less_after = subst (λ (s : Entries). waiting (goal_of number) s + 1 ≡ waiting (goal_of number) before.slots) slots_after
+    pub one_less_after : waiting (destination_of number) after.slots + 1 ≡ waiting (destination_of number) before.slots
+    one_less_after = subst (λ (s : Entries). waiting (destination_of number) s + 1 ≡ waiting (destination_of number) before.slots) slots_after
         (one_less number g out.destination out.empty before.slots i d who.0 who.1 bounds.0 bounds.1)
 
-    pub settles_after : (old : Entries) → IsSettling (goal_of number) (Settles number g) i old before.slots → IsSettling (goal_of number) (Settles number g) i old after.slots
-    settles_after old s = subst (IsSettling (goal_of number) (Settles number g) i old) slots_after
+    pub settles_after : (old : Entries) → IsSettling (destination_of number) (Settles number g) i old before.slots → IsSettling (destination_of number) (Settles number g) i old after.slots
+    settles_after old s = subst (IsSettling (destination_of number) (Settles number g) i old) slots_after
         (settles_on number g out.destination out.empty before.slots i d who.0 who.1 bounds.0 bounds.1 old s)

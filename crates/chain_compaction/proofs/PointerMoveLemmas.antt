@@ -9,7 +9,7 @@ use Rattle.std.proofs.lemmas.List.FromFn.{length-range_with_len}
 use mathlib.Core.Path.{fun_ext}
 use Rattle.std.proofs.lemmas.List.Elements.{All-from_recursion, recursion_from_All, Contains-append_right}
 use Rattle.chain_laws.specs.Chains as chains
-use Rattle.chain_laws.specs.Chains.{Shown, Interlinks, Has, HasNoRepetition, all_items}
+use Rattle.chain_laws.specs.Chains.{LinkMap, Interlinks, IsMember, AreDistinct, all_items}
 use Rattle.chain_laws.specs.Arrangements.{IsLeastIndexOrder}
 use Rattle.chain_laws.proofs.ChainLemmas.Partitions.{no_others}
 use Rattle.arena_base.specs.Arena.{IsValid}
@@ -18,7 +18,7 @@ use Rattle.arena_base.specs.Compressions.{values_in}
 use Rattle.chain_links.specs.ChainArena.{ptr_at}
 use Rattle.chain_links.proofs.MappedArenaLemmas.{generation_is}
 use Rattle.chain_compaction.specs.Layouts.{AreAllMoves}
-use Rattle.chain_compaction.specs.PointerMoves.{AreMoved, IsPointerMove, StandsWhere, CompressionMovesPointers, CompressionHasMoves}
+use Rattle.chain_compaction.specs.PointerMoves.{AreMoved, IsPointerMove, HasLinksWhere, CompressionMovesPointers, CompressionHasMoves}
 
 module _ {Gen T : Type 0} where
   -- entries at the indexes of a run rise
@@ -51,12 +51,12 @@ module _ {Gen T : Type 0} where
     by false other is rest = Contains-append_right (e.0 ∷ []) (map (λ (f : (ℕ × Gen) × T). f.0) es) q (rest is)
 
   -- entries that rise have indexes apart
-  rises-low : (i j : ℕ) (es : List ((ℕ × Gen) × T)) → RisesFrom j es → Has (map index_of es) i → j ≤ i
+  rises-low : (i j : ℕ) (es : List ((ℕ × Gen) × T)) → RisesFrom j es → IsMember (map index_of es) i → j ≤ i
   rises-low i j [] rises has = absurd has
   rises-low i j (e ∷ es) rises (inl same) = omega (arith, rises.0, same)
   rises-low i j (e ∷ es) rises (inr has) = omega (arith, rises.0, rises-low i (suc e.0.0) es rises.1 has)
 
-  rises-apart : (j : ℕ) (es : List ((ℕ × Gen) × T)) → RisesFrom j es → HasNoRepetition (map index_of es)
+  rises-apart : (j : ℕ) (es : List ((ℕ × Gen) × T)) → RisesFrom j es → AreDistinct (map index_of es)
   rises-apart j [] rises = tt
   rises-apart j (e ∷ es) rises = ((λ has. omega (arith, rises-low e.0.0 (suc e.0.0) es rises.1 has)), rises-apart (suc e.0.0) es rises.1)
 
@@ -74,7 +74,7 @@ module _ {X G Gen U T : Type 0} (from : X → ℕ × G) (to : X → ℕ × Gen) 
   Moves m = (was : IsValid before (from m)) × (is : IsValid after (to m)) × Becomes m was.value is.value
 
   -- a pointer that was valid is the old one of the move from its index
-  old_has : (p : ℕ × G) (u : U) (moves : List X) → before p.0 ≡ Some (p.1, u) → AllByRecursion Moves moves → Has (map (λ (m : X). (from m).0) moves) p.0 → Contains (map from moves) p
+  old_has : (p : ℕ × G) (u : U) (moves : List X) → before p.0 ≡ Some (p.1, u) → AllByRecursion Moves moves → IsMember (map (λ (m : X). (from m).0) moves) p.0 → Contains (map from moves) p
   old_has p u [] stands all has = absurd has
   old_has p u (m ∷ moves) stands all (inl same) =
       (0, omega arith, λ i. (same i, generation_is (from m).1 p.1 all.0.0.value u (sym all.0.0.stands ∙ (ap before same ∙ stands)) i))
@@ -90,14 +90,14 @@ module _ {X G Gen U T : Type 0} (from : X → ℕ × G) (to : X → ℕ × Gen) 
       ap₂ (λ (n : ℕ) (ns : List ℕ). n ∷ ns) (ap (λ (q : ℕ × Gen). q.0) first) (indexes-mapped moves es rest)
 
   -- moves from the links in their least-index order, to entries that rise
-  pub all_moved : (links : Shown) (indexes : List ℕ) (es : List ((ℕ × Gen) × T)) (moves : List X) → IsLeastIndexOrder links indexes → StandsWhere links before → RisesFrom 1 es → ((i : ℕ) → found i es ≡ after i)
+  pub all_moved : (links : LinkMap) (indexes : List ℕ) (es : List ((ℕ × Gen) × T)) (moves : List X) → IsLeastIndexOrder links indexes → HasLinksWhere links before → RisesFrom 1 es → ((i : ℕ) → found i es ≡ after i)
       → map (λ (m : X). (from m).0) moves ≡ indexes → map to moves ≡ map (λ (e : (ℕ × Gen) × T). e.0) es → AllByRecursion Moves moves → AreMoved from to Becomes before after moves
   all_moved links indexes es moves order stand rises looked comes goes values = record {
     values = All-from_recursion Moves moves values;
-    old = λ p was. old_has p was.value moves was.stands values (subst (λ (is : List ℕ). Has is p.0) (sym (comes ∙ order.items)) ((order.are.partition.valid p.0).0 (shows p was)));
-    old_apart = subst HasNoRepetition (sym (comes ∙ order.items)) order.are.partition.once;
+    old = λ p was. old_has p was.value moves was.stands values (subst (λ (is : List ℕ). IsMember is p.0) (sym (comes ∙ order.items)) ((order.are.partition.valid p.0).0 (shows p was)));
+    old_apart = subst AreDistinct (sym (comes ∙ order.items)) order.are.partition.once;
     new = λ q is. subst (λ (qs : List (ℕ × Gen)). Contains qs q) (sym goes) (found_key q is.value es (looked q.0 ∙ is.stands));
-    new_apart = subst HasNoRepetition (sym (indexes-mapped moves es goes)) (rises-apart 1 es rises);
+    new_apart = subst AreDistinct (sym (indexes-mapped moves es goes)) (rises-apart 1 es rises);
   }
     where
       shows : (p : ℕ × G) → IsValid before p → chains.HasLink links p.0
@@ -186,7 +186,7 @@ module _ {Gen T : Type 0} (entry : ℕ → Option (Gen × T)) where
   what_stands (Some e) some = (e, refl)
 
   -- the pointers at some indexes, where something stands at each, and those of a run
-  pairs_of : (g : Gen) (n : ℕ) (indexes : List ℕ) → ((i : ℕ) → Has indexes i → is_some (entry i) ≡ true)
+  pairs_of : (g : Gen) (n : ℕ) (indexes : List ℕ) → ((i : ℕ) → IsMember indexes i → is_some (entry i) ≡ true)
       → (moves : List ((ℕ × Gen) × (ℕ × Gen))) × (map (λ (m : (ℕ × Gen) × (ℕ × Gen)). Some m.0) moves ≡ map (ptr_at entry) indexes)
       × (map (λ (m : (ℕ × Gen) × (ℕ × Gen)). m.1) moves ≡ map (λ k. (k, g)) (range_with_len n (length indexes)))
   pairs_of g n [] there = ([], refl, refl)
@@ -207,7 +207,7 @@ compression_has_moves {Gen} {T} first following reset old new links new_links be
         × (map (λ (m : (ℕ × Gen) × (ℕ × Gen)). m.1) moves ≡ map (λ k. (k, layout.generation)) (range_with_len 1 (length layout.indexes)))
     pairs =
         pairs_of (λ i. found i old.entries) layout.generation 1 layout.indexes
-        (λ i has. ap is_some (looked_before i) ∙ (sym (stand i) ∙ ap is_some ((layout.order.are.partition.valid i).1 (subst (λ (is : List ℕ). Has is i) layout.order.items has)).shows))
+        (λ i has. ap is_some (looked_before i) ∙ (sym (stand i) ∙ ap is_some ((layout.order.are.partition.valid i).1 (subst (λ (is : List ℕ). IsMember is i) layout.order.items has)).shows))
 
     all : AreAllMoves (λ (p : ℕ × Gen). p) old links layout.generation pairs.0
     all = record { indexes = layout.indexes; order = layout.order; from = pairs.1; to = pairs.2 }

@@ -6,9 +6,9 @@ use Rattle.arena_base.specs.DetachedSlots.{with_touch, one_more}
 use Rattle.arena_base.specs.declared.compactor.Compactor.{Compactor}
 use Rattle.chain_laws.specs.Chains.{prev_in, next_in}
 use Rattle.chain_links.specs.declared.links.LinkBody.{LinkBody}
-use Rattle.chain_compaction.specs.DetachedLinks.{interlinks_seen}
-use Rattle.chain_compaction.specs.SlotReads.{HasLooked}
-use Rattle.chain_compaction.specs.Permutations.{goal_of}
+use Rattle.chain_compaction.specs.DetachedLinks.{body_interlinks}
+use Rattle.chain_compaction.specs.SlotReads.{HasReadSlot}
+use Rattle.chain_compaction.specs.Permutations.{destination_of}
 use Rattle.chain_compaction.specs.Destinations.{is_fresh}
 use Rattle.chain_compaction.proofs.WorkCountLemmas.{counts_touch}
 
@@ -16,35 +16,35 @@ module _ {P T S Inx Gen Word : Type 0} where
   -- it is one touch, and leaves the slots
   pub has_looked : (old new : Compactor P T S Inx Gen Word)
       → (new.held ≡ old.held) × ((new.arena.ghost_name ≡ old.arena.ghost_name) × (new.arena.now ≡ with_touch old.arena.now) × (new.placed ≡ old.placed) × (new.touched ≡ one_more old.touched))
-      → HasLooked old new
+      → HasReadSlot old new
   has_looked old new h = record { same_reference = h.1.0; held = h.0; arena = h.1.1; counts = counts_touch _ _ _ _ _ _ h.1.1 h.1.2 h.1.3 }
 
 module _ {Gen K T : Type 0} (packed : K → Option ℕ) where
   -- an entry shows its generation, its interlinks and its destination
   pub entry_shown : (e : Gen × LinkBody K T) (o : Option (Gen × LinkBody K T)) → Some e ≡ o
-      → (Some e.0 ≡ option_map (λ (x : Gen × LinkBody K T). x.0) o) × (packed e.1.prev ≡ prev_in (option_map (interlinks_seen packed) o))
-      × (packed e.1.next ≡ next_in (option_map (interlinks_seen packed) o)) × (packed e.1.destination ≡ option_and_then (goal_of packed) o)
+      → (Some e.0 ≡ option_map (λ (x : Gen × LinkBody K T). x.0) o) × (packed e.1.prev ≡ prev_in (option_map (body_interlinks packed) o))
+      × (packed e.1.next ≡ next_in (option_map (body_interlinks packed) o)) × (packed e.1.destination ≡ option_and_then (destination_of packed) o)
   entry_shown e o is = (
     ap (option_map (λ (x : Gen × LinkBody K T). x.0)) is,
-    ap (λ (x : Option (Gen × LinkBody K T)). prev_in (option_map (interlinks_seen packed) x)) is,
-    ap (λ (x : Option (Gen × LinkBody K T)). next_in (option_map (interlinks_seen packed) x)) is,
-    ap (option_and_then (goal_of packed)) is,
+    ap (λ (x : Option (Gen × LinkBody K T)). prev_in (option_map (body_interlinks packed) x)) is,
+    ap (λ (x : Option (Gen × LinkBody K T)). next_in (option_map (body_interlinks packed) x)) is,
+    ap (option_and_then (destination_of packed)) is,
   )
 
   -- .. and a free slot nothing
   pub nothing_shown : (o : Option (Gen × LinkBody K T)) → None ≡ o
-      → (None ≡ option_map (λ (x : Gen × LinkBody K T). x.0) o) × (None ≡ prev_in (option_map (interlinks_seen packed) o))
-      × (None ≡ next_in (option_map (interlinks_seen packed) o)) × (None ≡ option_and_then (goal_of packed) o)
+      → (None ≡ option_map (λ (x : Gen × LinkBody K T). x.0) o) × (None ≡ prev_in (option_map (body_interlinks packed) o))
+      × (None ≡ next_in (option_map (body_interlinks packed) o)) × (None ≡ option_and_then (destination_of packed) o)
   nothing_shown o is = (
     ap (option_map (λ (x : Gen × LinkBody K T). x.0)) is,
-    ap (λ (x : Option (Gen × LinkBody K T)). prev_in (option_map (interlinks_seen packed) x)) is,
-    ap (λ (x : Option (Gen × LinkBody K T)). next_in (option_map (interlinks_seen packed) x)) is,
-    ap (option_and_then (goal_of packed)) is,
+    ap (λ (x : Option (Gen × LinkBody K T)). prev_in (option_map (body_interlinks packed) x)) is,
+    ap (λ (x : Option (Gen × LinkBody K T)). next_in (option_map (body_interlinks packed) x)) is,
+    ap (option_and_then (destination_of packed)) is,
   )
 
   -- whether a fresh link stands in a slot, by what a look at it answers
   fresh_there : {I : Type 0} (number : I → ℕ) (o : Option (Gen × LinkBody K T)) (r : Option Gen) (g : Gen) (d : Option I) (b : Bool) → r ≡ Some g
-      → r ≡ option_map (λ (x : Gen × LinkBody K T). x.0) o → option_map number d ≡ option_and_then (goal_of packed) o → is_some d ≡ not b → b ≡ is_fresh packed o
+      → r ≡ option_map (λ (x : Gen × LinkBody K T). x.0) o → option_map number d ≡ option_and_then (destination_of packed) o → is_some d ≡ not b → b ≡ is_fresh packed o
   fresh_there number None r g d b is stands to none = cc
   fresh_there number (Some e) r g None true is stands to none = ap is_none to
   fresh_there number (Some e) r g None false is stands to none = cc
@@ -57,12 +57,12 @@ module _ {Gen K T : Type 0} (packed : K → Option ℕ) where
 
   -- what a look tells: a fresh link ..
   pub told_fresh : {I : Type 0} (number : I → ℕ) (o : Option (Gen × LinkBody K T)) (r : Option Gen) (g : Gen) (d : Option I) → r ≡ Some g → r ≡ option_map (λ (x : Gen × LinkBody K T). x.0) o
-      → option_map number d ≡ option_and_then (goal_of packed) o → d ≡ None → is_fresh packed o ≡ true
+      → option_map number d ≡ option_and_then (destination_of packed) o → d ≡ None → is_fresh packed o ≡ true
   told_fresh number o r g d is stands to none = sym (fresh_there number o r g d true is stands to (ap is_some none))
 
   -- .. one that has a destination ..
   pub told_directed : {I : Type 0} (number : I → ℕ) (o : Option (Gen × LinkBody K T)) (r : Option Gen) (g : Gen) (d : Option I) (i : I) → r ≡ Some g → r ≡ option_map (λ (x : Gen × LinkBody K T). x.0) o
-      → option_map number d ≡ option_and_then (goal_of packed) o → d ≡ Some i → is_fresh packed o ≡ false
+      → option_map number d ≡ option_and_then (destination_of packed) o → d ≡ Some i → is_fresh packed o ≡ false
   told_directed number o r g d i is stands to some = sym (fresh_there number o r g d false is stands to (ap is_some some))
 
   -- .. or none

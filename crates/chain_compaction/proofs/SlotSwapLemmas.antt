@@ -1,7 +1,7 @@
 -- One exchange keeps what moves, over what the slots show.
 use Rattle.std.proofs.Common.{◌≡◌, ◌≢◌, ℕ, ◌⊎◌, inl, inr, Option, None, Some, refl, sym, ap, ◌∙◌, subst}
 use Rattle.std.proofs.Math.Decide.{ℕ_discrete}
-use Rattle.chain_compaction.specs.Permutations.{Waits, IsSettledAt, StillWaits, HasCome, IsMoving, HaveMoved}
+use Rattle.chain_compaction.specs.Permutations.{Waits, IsSettledAt, StillWaits, HasArrived, IsMoving, HaveMoved}
 
 module _ {E : Type 0} (goal : E → Option ℕ) (Settles : E → E → Type 0) (done : (e f : E) → Settles e f → goal f ≡ None) where
   -- before the first exchange
@@ -137,18 +137,18 @@ module _ {E : Type 0} (goal : E → Option ℕ) (Settles : E → E → Type 0) (
 
       -- where an entry at j comes from
       abbrev Origin : ℕ → E → Type 0
-      Origin j f = StillWaits goal old next j f ⊎ HasCome goal Settles old j f
+      Origin j f = StillWaits goal old next j f ⊎ HasArrived goal Settles old j f
 
       back_after : (j : ℕ) (f : E) → next j ≡ Some f → Origin j f
       back_after j f s = by (ℕ_discrete j d) (ℕ_discrete j i)
         where
           moved : (m : ℕ) → ((k : ℕ) → Waits goal now m f k → Waits goal next j f k) → ((g : E) → Settles g f → m ≡ j)
-              → StillWaits goal old now m f ⊎ HasCome goal Settles old m f → Origin j f
+              → StillWaits goal old now m f ⊎ HasArrived goal Settles old m f → Origin j f
           moved m carry same (inl o) = inl (record { from = o.from; to = o.to; waited = o.waited; waits = carry o.to o.waits })
           moved m carry same (inr o) = inr (record { from = o.from; entry = o.entry; waited = subst (Waits goal old o.from o.entry) (same o.entry o.settled) o.waited; settled = o.settled })
 
           -- what was settled now is e, which waited
-          own : StillWaits goal old now i e ⊎ HasCome goal Settles old i e → j ≡ d → Settles e f → Origin j f
+          own : StillWaits goal old now i e ⊎ HasArrived goal Settles old i e → j ≡ d → Settles e f → Origin j f
           own (inl o) here settled =
               let to : goal e ≡ Some d = w.to in
               let too : goal e ≡ Some o.to = o.waits.to in
@@ -182,6 +182,6 @@ module _ {E : Type 0} (goal : E → Option ℕ) (Settles : E → E → Type 0) (
       by_there i d e (inl u) = absurd (none u.0 d e u.1)
       by_there i d e (inr s) = s
 
-      by_back : (j : ℕ) (e : E) → StillWaits goal old new j e ⊎ HasCome goal Settles old j e → HasCome goal Settles old j e
+      by_back : (j : ℕ) (e : E) → StillWaits goal old new j e ⊎ HasArrived goal Settles old j e → HasArrived goal Settles old j e
       by_back j e (inl u) = absurd (none j u.to e u.waits)
       by_back j e (inr s) = s

@@ -5,12 +5,12 @@ use Rattle.std.specs.Option.{option_map}
 use Rattle.std.proofs.lemmas.List.{reverse-append, map-append}
 use Rattle.arena_base.specs.Arena.{Arena}
 use Rattle.arena_base.specs.Entries.{entries_from, entries, first_key, last_key}
-use Rattle.arena_base.specs.Advancers.{from_index, up_to_index, ahead, IsLook}
-use Rattle.arena_base.specs.declared.cursor.Look.{Look}
-use Rattle.arena_base.specs.declared.cursor.Look.TheVariants.{Up, Down, Nowhere}
+use Rattle.arena_base.specs.Advancers.{entries_at_or_above, entries_at_or_below, ahead, IsAdvance}
+use Rattle.arena_base.specs.declared.cursor.Cursor.{Cursor}
+use Rattle.arena_base.specs.declared.cursor.Cursor.TheVariants.{Up, Down, Nowhere}
 use Rattle.chain_links.specs.ChainArena.{on_value, with_each, link_value, values_of}
 use Rattle.chain_links.specs.declared.links.LinkBody.{LinkBody}
-use Rattle.chain_links.specs.Links.{seen_link, held_in, held_entries, seen_links, seen_pair, seen_entries}
+use Rattle.chain_links.specs.Links.{link_view, held_in, held_entries, links_view, pair_view, entry_views}
 
 module _ {Gen X Y : Type 0} (f : X → Y) where
   -- an entry with something else for its value
@@ -43,17 +43,17 @@ module _ {Gen X Y : Type 0} (f : X → Y) where
   cond-map true es rest = refl
   cond-map false es rest = refl
 
-  from-map : (i : ℕ) (es : List ((ℕ × Gen) × X)) → from_index i (map on_entry es) ≡ map on_entry (from_index i es)
+  from-map : (i : ℕ) (es : List ((ℕ × Gen) × X)) → entries_at_or_above i (map on_entry es) ≡ map on_entry (entries_at_or_above i es)
   from-map i [] = refl
-  from-map i (e ∷ es) = ap (cond (leb i e.0.0) (on_entry e ∷ map on_entry es)) (from-map i es) ∙ cond-map (leb i e.0.0) (e ∷ es) (from_index i es)
+  from-map i (e ∷ es) = ap (cond (leb i e.0.0) (on_entry e ∷ map on_entry es)) (from-map i es) ∙ cond-map (leb i e.0.0) (e ∷ es) (entries_at_or_above i es)
 
-  up_to-map : (i : ℕ) (es : List ((ℕ × Gen) × X)) → up_to_index i (map on_entry es) ≡ map on_entry (up_to_index i es)
+  up_to-map : (i : ℕ) (es : List ((ℕ × Gen) × X)) → entries_at_or_below i (map on_entry es) ≡ map on_entry (entries_at_or_below i es)
   up_to-map i [] = refl
-  up_to-map i (e ∷ es) = ap (λ rest. cond (leb e.0.0 i) (on_entry e ∷ rest) []) (up_to-map i es) ∙ cond-map (leb e.0.0 i) (e ∷ up_to_index i es) []
+  up_to-map i (e ∷ es) = ap (λ rest. cond (leb e.0.0 i) (on_entry e ∷ rest) []) (up_to-map i es) ∙ cond-map (leb e.0.0 i) (e ∷ entries_at_or_below i es) []
 
-  ahead-map : (look : Look) (es : List ((ℕ × Gen) × X)) → ahead look (map on_entry es) ≡ map on_entry (ahead look es)
+  ahead-map : (look : Cursor) (es : List ((ℕ × Gen) × X)) → ahead look (map on_entry es) ≡ map on_entry (ahead look es)
   ahead-map (Up i) es = from-map i es
-  ahead-map (Down i) es = ap (λ rest. reverse rest) (up_to-map i es) ∙ reverse-map (up_to_index i es)
+  ahead-map (Down i) es = ap (λ rest. reverse rest) (up_to-map i es) ∙ reverse-map (entries_at_or_below i es)
   ahead-map Nowhere es = refl
 
   pub empty-with_each : (a : Arena Gen X) → (entries a ≡ []) ↔ (entries (with_each f a) ≡ [])
@@ -65,7 +65,7 @@ module _ {Gen X Y : Type 0} (f : X → Y) where
   pub last-with_each : (a : Arena Gen X) → last_key (entries (with_each f a)) ≡ last_key (entries a)
   last-with_each a = ap (λ es. last_key es) (entries-with_each a) ∙ (ap (λ es. first_key es) (reverse-map (entries a)) ∙ first-map (reverse (entries a)))
 
-  pub look-with_each : (a : Arena Gen X) (look after : Look) (answer : Option (ℕ × Gen)) → IsLook (entries a) look answer after → IsLook (entries (with_each f a)) look answer after
+  pub look-with_each : (a : Arena Gen X) (look after : Cursor) (answer : Option (ℕ × Gen)) → IsAdvance (entries a) look answer after → IsAdvance (entries (with_each f a)) look answer after
   look-with_each a look after answer is = record {
     first = is.first ∙ sym (ap (λ es. first_key (ahead look es)) (entries-with_each a) ∙ (ap (λ es. first_key es) (ahead-map look (entries a)) ∙ first-map (ahead look (entries a))));
     moves = is.moves;
@@ -73,16 +73,16 @@ module _ {Gen X Y : Type 0} (f : X → Y) where
 
 module _ {Gen K T : Type 0} (number : K → Option ℕ) where
   -- the values of the links
-  pub values_of-seen_links : (a : Arena Gen (LinkBody K T)) → with_each held_in a ≡ values_of (seen_links number a)
-  values_of-seen_links a = ap (λ (slots : List (Option (Gen × T))). let b : Arena Gen T = record (with_each held_in a) { slots = slots } in b) (twice a.slots) where
-    twice : (slots : List (Option (Gen × LinkBody K T))) → map (option_map (on_value held_in)) slots ≡ map (option_map (on_value link_value)) (map (option_map (seen_pair number)) slots)
+  pub values_of-links_view : (a : Arena Gen (LinkBody K T)) → with_each held_in a ≡ values_of (links_view number a)
+  values_of-links_view a = ap (λ (slots : List (Option (Gen × T))). let b : Arena Gen T = record (with_each held_in a) { slots = slots } in b) (twice a.slots) where
+    twice : (slots : List (Option (Gen × LinkBody K T))) → map (option_map (on_value held_in)) slots ≡ map (option_map (on_value link_value)) (map (option_map (pair_view number)) slots)
     twice [] = refl
     twice (None ∷ slots) = ap (λ rest. None ∷ rest) (twice slots)
     twice (Some e ∷ slots) = ap (λ rest. Some (e.0, e.1.t) ∷ rest) (twice slots)
 
   -- the entries of an arena of links, seen, and their values
-  pub seen_entries-all : (a : Arena Gen (LinkBody K T)) → seen_entries number (entries a) ≡ entries (seen_links number a)
-  seen_entries-all a = sym (entries-with_each (seen_link number) a)
+  pub entry_views-all : (a : Arena Gen (LinkBody K T)) → entry_views number (entries a) ≡ entries (links_view number a)
+  entry_views-all a = sym (entries-with_each (link_view number) a)
 
-  pub held_entries-all : (a : Arena Gen (LinkBody K T)) → held_entries (entries a) ≡ entries (values_of (seen_links number a))
-  held_entries-all a = sym (entries-with_each held_in a) ∙ ap (λ v. entries v) (values_of-seen_links a)
+  pub held_entries-all : (a : Arena Gen (LinkBody K T)) → held_entries (entries a) ≡ entries (values_of (links_view number a))
+  held_entries-all a = sym (entries-with_each held_in a) ∙ ap (λ v. entries v) (values_of-links_view a)

@@ -5,13 +5,13 @@ use Rattle.std.specs.Fn.{Mut, Called}
 use Rattle.std.specs.Option.{option_map}
 use Rattle.std.proofs.lemmas.List.{length-map}
 use Rattle.std.proofs.lemmas.List.FromFn.{length-range_with_len}
-use Rattle.chain_laws.specs.Chains.{Shown, all_items}
+use Rattle.chain_laws.specs.Chains.{LinkMap, all_items}
 use Rattle.chain_laws.proofs.ChainLemmas.Partitions.{no_others}
-use Rattle.arena_base.specs.Entries.{Seen, found, index_of}
+use Rattle.arena_base.specs.Entries.{ArenaView, found, index_of}
 use Rattle.arena_base.specs.Compressions.{values_in}
 use Rattle.arena_base.proofs.FoldLemmas.{folds_seen}
 use Rattle.chain_links.specs.ChainArena.{ptr_at}
-use Rattle.chain_compaction.specs.Layouts.{IsPairListed, ShowsAll, ShowsLayout, AreAllMoves, IsShownMove}
+use Rattle.chain_compaction.specs.Layouts.{IsPairListed, ReportsAll, ReportsLayout, AreAllMoves, IsReportedMove}
 use Rattle.chain_links.specs.CanonicalLayouts.{IsCanonicalLayout}
 
 module _ {P A : Type 0} where
@@ -33,7 +33,7 @@ module _ {P A : Type 0} where
 
 -- as many moves are told as there are links
 module _ {P Gen T : Type 0} (key : P → ℕ × Gen) (first : Gen) (following : Gen → Gen) where
-  pub moves_count : (reset : Bool) (old new : Seen Gen T) (links new_links : Shown) (generation : Gen) (moves : List (P × P)) → IsCanonicalLayout first following reset old links new new_links
+  pub moves_count : (reset : Bool) (old new : ArenaView Gen T) (links new_links : LinkMap) (generation : Gen) (moves : List (P × P)) → IsCanonicalLayout first following reset old links new new_links
       → AreAllMoves key old links generation moves → length moves ≡ length old.entries
   moves_count reset old new links new_links generation moves layout all =
       sym (length-map moves (λ (m : P × P). Some (key m.0)))
@@ -44,24 +44,24 @@ module _ {P Gen T : Type 0} (key : P → ℕ × Gen) (first : Gen) (following : 
       same_order : all.indexes ≡ layout.indexes
       same_order = all.order.items ∙ (ap all_items (no_others links all.order.chains layout.order.chains all.order.are layout.order.are) ∙ sym layout.order.items)
 
-module _ {V P Gen T : Type 0} (key : P → ℕ × Gen) (old : Seen Gen T) (links : Shown) (generation : Gen) (f last : V) where
+module _ {V P Gen T : Type 0} (key : P → ℕ × Gen) (old : ArenaView Gen T) (links : LinkMap) (generation : Gen) (f last : V) where
   -- what was seen are the moves of all links
-  moves_seen : {g : V → P → P → V → Type 0} (all : ShowsAll g key old links generation f last) → AreAllMoves key old links generation all.shows.moves
+  moves_seen : {g : V → P → P → V → Type 0} (all : ReportsAll g key old links generation f last) → AreAllMoves key old links generation all.shows.moves
   moves_seen all = record { indexes = all.indexes; order = all.order; from = all.shows.from; to = all.shows.to }
 
   -- a closure has seen them
-  pub shown_to : {F : Type 0} (g : Mut F (P × (P × Unit {0})) (Unit {0})) (see : V → F) → ShowsAll (λ s p q t. Called g (see s) (p, (q, tt)) tt (see t)) key old links generation f last
-      → ShowsLayout g key old links generation (see f)
+  pub shown_to : {F : Type 0} (g : Mut F (P × (P × Unit {0})) (Unit {0})) (see : V → F) → ReportsAll (λ s p q t. Called g (see s) (p, (q, tt)) tt (see t)) key old links generation f last
+      → ReportsLayout g key old links generation (see f)
   shown_to g see all = record {
     moves = all.shows.moves;
     last = see last;
-    in_turn = folds_seen see (λ s (m : P × P) t. IsShownMove g (see s) m (see t)) (IsShownMove g) (λ s m t called. called) all.shows.moves f last all.shows.in_turn;
+    in_turn = folds_seen see (λ s (m : P × P) t. IsReportedMove g (see s) m (see t)) (IsReportedMove g) (λ s m t called. called) all.shows.moves f last all.shows.in_turn;
     all = moves_seen all;
   }
 
   -- they are listed
-  pub listed_all : {A : Type 0} (list : V → Vec (P × P) A) (first : Gen) (following : Gen → Gen) (reset : Bool) (new : Seen Gen T) (new_links : Shown) → IsCanonicalLayout first following reset old links new new_links
-      → ShowsAll (λ s p q t. IsPairListed (list s) p q (list t)) key old links generation f last → (list f).items ≡ [] → vec_len (list f) ≡ 0 → length old.entries ≤ vec_capacity (list f)
+  pub listed_all : {A : Type 0} (list : V → Vec (P × P) A) (first : Gen) (following : Gen → Gen) (reset : Bool) (new : ArenaView Gen T) (new_links : LinkMap) → IsCanonicalLayout first following reset old links new new_links
+      → ReportsAll (λ s p q t. IsPairListed (list s) p q (list t)) key old links generation f last → (list f).items ≡ [] → vec_len (list f) ≡ 0 → length old.entries ≤ vec_capacity (list f)
       → AreAllMoves key old links generation (list last).items
   listed_all list first following reset new new_links layout all none empty room =
       let as_many = moves_count key first following reset old new links new_links generation all.shows.moves layout (moves_seen all) in

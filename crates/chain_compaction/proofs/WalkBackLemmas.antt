@@ -1,17 +1,17 @@
 -- The walk back from a link, among the slots that a compactor holds: how many looks it takes.
 use Rattle.std.proofs.Common.{◌≡◌, ℕ, suc, ◌+◌, ◌∙◌, ◌<◌, ◌≤◌, ◌⊎◌, inl, inr, List, ◌∷◌, length, Option, ap, length-append, arith}
-use Rattle.chain_laws.specs.Chains.{Shown, Chain, linear, cyclic, items, Has, IsChain}
+use Rattle.chain_laws.specs.Chains.{LinkMap, Chain, linear, cyclic, items, IsMember, IsChain}
 use Rattle.chain_laws.specs.ChainStart.{IsBack}
 use Rattle.chain_laws.proofs.ListLemmas.Members.{length_bound}
 use Rattle.chain_laws.proofs.ChainLemmas.Uniqueness.{chain_once, chain_valid}
 use Rattle.chain_links.specs.declared.links.LinkBody.{LinkBody}
-use Rattle.chain_compaction.specs.DetachedLinks.{interlinks_seen, shown_in}
+use Rattle.chain_compaction.specs.DetachedLinks.{body_interlinks, link_map_in}
 use Rattle.chain_compaction.specs.Destinations.{HasChainFrom}
 use Rattle.chain_links.proofs.ArenaInsertionLemmas.{slots-within}
 
-module _ (shown : Shown) (i steps here : ℕ) (back : IsBack shown i steps here) where
+module _ (link_map : LinkMap) (i steps here : ℕ) (back : IsBack link_map i steps here) where
   -- one look more, and there are no more than links in a linear chain ..
-  pub looks_linear : (xs : List ℕ) → IsChain shown (linear xs) → Has xs i → steps + 1 ≤ length xs
+  pub looks_linear : (xs : List ℕ) → IsChain link_map (linear xs) → IsMember xs i → steps + 1 ≤ length xs
   looks_linear xs h m =
       let b = back.in_linear xs h m in
       let long : length xs ≡ length b.0 + suc (length b.1) = ap length b.2 ∙ length-append b.0 (here ∷ b.1) in
@@ -19,7 +19,7 @@ module _ (shown : Shown) (i steps here : ℕ) (back : IsBack shown i steps here)
       omega arith
 
   -- .. or a cyclic one
-  pub looks_cyclic : (xs : List ℕ) → IsChain shown (cyclic (i ∷ xs)) → steps + 1 ≤ length xs + 1
+  pub looks_cyclic : (xs : List ℕ) → IsChain link_map (cyclic (i ∷ xs)) → steps + 1 ≤ length xs + 1
   looks_cyclic xs h =
       let b = back.in_cyclic xs h in
       let long : length xs ≡ length b.0 + length b.1 = ap length b.2 ∙ length-append b.0 b.1 in
@@ -27,15 +27,15 @@ module _ (shown : Shown) (i steps here : ℕ) (back : IsBack shown i steps here)
       omega arith
 
 -- a walk back takes fewer steps than there are slots
-pub back_within : {Gen K T : Type 0} (number : K → Option ℕ) (slots : List (Option (Gen × LinkBody K T))) (i steps here : ℕ) → HasChainFrom (shown_in number slots) i → IsBack (shown_in number slots) i steps here
+pub back_within : {Gen K T : Type 0} (number : K → Option ℕ) (slots : List (Option (Gen × LinkBody K T))) (i steps here : ℕ) → HasChainFrom (link_map_in number slots) i → IsBack (link_map_in number slots) i steps here
     → steps < length slots
 back_within {Gen} {K} {T} number slots i steps here found back = by found.1
   where
-    few : (c : Chain) → IsChain (shown_in number slots) c → length (items c) ≤ length slots
+    few : (c : Chain) → IsChain (link_map_in number slots) c → length (items c) ≤ length slots
     few c h =
-        length_bound (items c) (length slots) (chain_once (shown_in number slots) c h)
-        (λ j m. (slots-within (interlinks_seen number) slots).within j (chain_valid (shown_in number slots) c j h m))
+        length_bound (items c) (length slots) (chain_once (link_map_in number slots) c h)
+        (λ j m. (slots-within (body_interlinks number) slots).within j (chain_valid (link_map_in number slots) c j h m))
 
-    by : (IsChain (shown_in number slots) (linear found.0) × Has found.0 i) ⊎ IsChain (shown_in number slots) (cyclic (i ∷ found.0)) → steps < length slots
-    by (inl h) = omega (arith, looks_linear (shown_in number slots) i steps here back found.0 h.0 h.1, few (linear found.0) h.0)
-    by (inr h) = let all : length (i ∷ found.0) ≤ length slots = few (cyclic (i ∷ found.0)) h in omega (arith, looks_cyclic (shown_in number slots) i steps here back found.0 h, all)
+    by : (IsChain (link_map_in number slots) (linear found.0) × IsMember found.0 i) ⊎ IsChain (link_map_in number slots) (cyclic (i ∷ found.0)) → steps < length slots
+    by (inl h) = omega (arith, looks_linear (link_map_in number slots) i steps here back found.0 h.0 h.1, few (linear found.0) h.0)
+    by (inr h) = let all : length (i ∷ found.0) ≤ length slots = few (cyclic (i ∷ found.0)) h in omega (arith, looks_cyclic (link_map_in number slots) i steps here back found.0 h, all)

@@ -1,6 +1,6 @@
 -- Links brought to the first free index, one after another.
 use Rattle.std.specs.Prelude.{◌≡◌, ℕ, ◌+◌, ◌*◌, length}
-use Rattle.chain_laws.specs.Chains.{Shown, Agrees}
+use Rattle.chain_laws.specs.Chains.{LinkMap, IsWellLinked}
 use Rattle.chain_laws.specs.Moves.{moved, CanMove}
 use Rattle.arena_base.specs.Arena.{Arena}
 use Rattle.arena_base.specs.Entries.{entries_from}
@@ -9,8 +9,8 @@ use Rattle.chain_links.specs.declared.links.LinkBody.{LinkBody}
 use Rattle.chain_compaction.specs.DetachedLinks.{held_values, IsWork}
 
 -- where interlinks agree and the link at an index may move to another, it has moved
-abbrev pub ShowsMove : Shown → Shown → ℕ → ℕ → Type 0
-ShowsMove old new from to = Agrees old → CanMove old from to → new ≡ moved old from to
+abbrev pub IsLinkMove : LinkMap → LinkMap → ℕ → ℕ → Type 0
+IsLinkMove old new from to = IsWellLinked old → CanMove old from to → new ≡ moved old from to
 
 module _ {Gen K T : Type 0} where
   -- how many links there are

@@ -1,28 +1,28 @@
 -- Links that get their destinations: the places of a list.
 use Rattle.std.specs.Prelude.{◌≡◌, ℕ, ◌+◌, ◌*◌, ◌≤◌, ◌⊎◌, Bool, false, List, ◌∷◌, ◌++◌, map, length, Option, None, Some, is_none}
 use Rattle.std.specs.Option.{option_map, option_and_then}
-use Rattle.chain_laws.specs.Chains.{Shown, Chain, linear, cyclic, items, Has, IsChain, first_or}
+use Rattle.chain_laws.specs.Chains.{LinkMap, Chain, linear, cyclic, items, IsMember, IsChain, first_or}
 use Rattle.chain_laws.specs.Arrangements.{place_from, place_in, IsLeastIndexOrder}
 use Rattle.arena_base.specs.Arena.{Arena, slot_at}
 use Rattle.arena_base.specs.DetachedSlots.{Held, held_with_value}
 use Rattle.arena_base.specs.declared.compactor.Compactor.{Compactor}
-use Rattle.chain_links.specs.ChainArena.{LinkSeen, on_value, ptr_at}
-use Rattle.chain_links.specs.Links.{seen_link, seen_pair}
-use Rattle.chain_compaction.specs.DetachedLinks.{shown_in, IsWork}
-use Rattle.chain_compaction.specs.Layouts.{ShowsMoves}
-use Rattle.chain_compaction.specs.Permutations.{goal_of}
+use Rattle.chain_links.specs.ChainArena.{LinkView, on_value, ptr_at}
+use Rattle.chain_links.specs.Links.{link_view, pair_view}
+use Rattle.chain_compaction.specs.DetachedLinks.{link_map_in, IsWork}
+use Rattle.chain_compaction.specs.Layouts.{ReportsMoves}
+use Rattle.chain_compaction.specs.Permutations.{destination_of}
 use Rattle.chain_links.specs.declared.links.LinkBody.{LinkBody}
 
 -- a chain that is found from i: a linear one that has it, or a cyclic one that is written from it
-abbrev pub HasChainFrom : Shown → ℕ → Type 0
-HasChainFrom shown i = (xs : List ℕ) × ((IsChain shown (linear xs) × Has xs i) ⊎ IsChain shown (cyclic (i ∷ xs)))
+abbrev pub HasChainFrom : LinkMap → ℕ → Type 0
+HasChainFrom shown i = (xs : List ℕ) × ((IsChain shown (linear xs) × IsMember xs i) ⊎ IsChain shown (cyclic (i ∷ xs)))
 
 -- a link that names other indexes for those that it named
-abbrev pub renamed_link : {T : Type 0} → (ℕ → Option ℕ) → LinkSeen T → LinkSeen T
+abbrev pub renamed_link : {T : Type 0} → (ℕ → Option ℕ) → LinkView T → LinkView T
 renamed_link to link = record link { prev = option_and_then to link.prev; next = option_and_then to link.next }
 
 -- .. and so each link
-abbrev pub renamed_held : {Gen T : Type 0} → (ℕ → Option ℕ) → Held Gen (LinkSeen T) → Held Gen (LinkSeen T)
+abbrev pub renamed_held : {Gen T : Type 0} → (ℕ → Option ℕ) → Held Gen (LinkView T) → Held Gen (LinkView T)
 renamed_held to held = record held { slots = map (option_map (on_value (renamed_link to))) held.slots }
 
 -- the index of the link after one that was numbered, with so many before its chain and so many up to it: where the walk goes
@@ -34,21 +34,21 @@ number_after None None before count = None
 
 module _ {Gen K T : Type 0} (number : K → Option ℕ) where
   -- the slots with each link as contracts see it
-  abbrev pub seen_held : Held Gen (LinkBody K T) → Held Gen (LinkSeen T)
-  seen_held held = record { slots = map (option_map (seen_pair number)) held.slots; stack_capacity = held.stack_capacity; maximum = held.maximum }
+  abbrev pub held_view : Held Gen (LinkBody K T) → Held Gen (LinkView T)
+  held_view held = record { slots = map (option_map (pair_view number)) held.slots; stack_capacity = held.stack_capacity; maximum = held.maximum }
 
   -- the destination of the link at an index
-  abbrev pub given : List (Option (Gen × LinkBody K T)) → ℕ → Option ℕ
-  given slots i = option_and_then (goal_of number) (slot_at slots i)
+  abbrev pub destination_at : List (Option (Gen × LinkBody K T)) → ℕ → Option ℕ
+  destination_at slots i = option_and_then (destination_of number) (slot_at slots i)
 
   -- a link without a destination stands in the slot
   abbrev pub is_fresh : Option (Gen × LinkBody K T) → Bool
   is_fresh None = false
-  is_fresh (Some e) = is_none (goal_of number e)
+  is_fresh (Some e) = is_none (destination_of number e)
 
   -- so many links have destinations, their places in a list
   pub record AreNumbered (slots : List (Option (Gen × LinkBody K T))) (count : ℕ) (done : List ℕ) : Type 0 where
-    pub places : (j : ℕ) → given slots j ≡ place_in done j
+    pub places : (j : ℕ) → destination_at slots j ≡ place_in done j
     pub counts : count ≡ length done
 
   -- the link at i, if one stands there, got another destination or none, and nothing else has changed
@@ -58,9 +58,9 @@ module _ {Gen K T : Type 0} (number : K → Option ℕ) where
     pub none : None ≡ option_map (λ e. e.1) (slot_at old.slots i) → new ≡ old
 
   -- the link at i, if one stands there, names other indexes and got a destination, and nothing else has changed
-  pub record IsTiedAt (i : ℕ) (prev next goes : Option ℕ) (old new : Held Gen (LinkBody K T)) : Type 0 where
+  pub record IsRelinkedAt (i : ℕ) (prev next goes : Option ℕ) (old new : Held Gen (LinkBody K T)) : Type 0 where
     pub there : (l : LinkBody K T) → Some l ≡ option_map (λ e. e.1) (slot_at old.slots i)
-        → (w : LinkBody K T) × (seen_link number w ≡ record { prev = prev; next = next; value = l.t }) × (number w.destination ≡ goes) × (new ≡ held_with_value old i w)
+        → (w : LinkBody K T) × (link_view number w ≡ record { prev = prev; next = next; value = l.t }) × (number w.destination ≡ goes) × (new ≡ held_with_value old i w)
     pub none : None ≡ option_map (λ e. e.1) (slot_at old.slots i) → new ≡ old
 
   -- where a last link names a first, at i, that names the last, and nothing else has changed
@@ -70,9 +70,9 @@ module _ {Gen K T : Type 0} (number : K → Option ℕ) where
     pub linear : first ≡ None → new ≡ old
 
   -- the links of a list are seen as others, and all else is as it was
-  pub record AreRetied (becomes : ℕ → LinkSeen T → LinkSeen T) (old now : Held Gen (LinkBody K T)) (xs : List ℕ) : Type 0 where
-    pub there : (j : ℕ) → Has xs j → option_map (seen_pair number) (slot_at now.slots j) ≡ option_map (on_value (becomes j)) (option_map (seen_pair number) (slot_at old.slots j))
-    pub stay : (j : ℕ) → (Has xs j → ⊥) → slot_at now.slots j ≡ slot_at old.slots j
+  pub record AreRelinked (becomes : ℕ → LinkView T → LinkView T) (old now : Held Gen (LinkBody K T)) (xs : List ℕ) : Type 0 where
+    pub there : (j : ℕ) → IsMember xs j → option_map (pair_view number) (slot_at now.slots j) ≡ option_map (on_value (becomes j)) (option_map (pair_view number) (slot_at old.slots j))
+    pub stay : (j : ℕ) → (IsMember xs j → ⊥) → slot_at now.slots j ≡ slot_at old.slots j
     pub long : length now.slots ≡ length old.slots
     pub capacity : now.stack_capacity ≡ old.stack_capacity
     pub maximum : now.maximum ≡ old.maximum
@@ -80,17 +80,17 @@ module _ {Gen K T : Type 0} (number : K → Option ℕ) where
   -- a chain whose links have no destinations yet may be numbered from its start
   pub record CanNumber (slots : List (Option (Gen × LinkBody K T))) (start count : ℕ) (done : List ℕ) (c : Chain) : Type 0 where
     pub numbered : AreNumbered slots count done
-    pub chain : IsChain (shown_in number slots) c
+    pub chain : IsChain (link_map_in number slots) c
     pub starts : first_or (items c) None ≡ Some start
-    pub apart : (j : ℕ) → Has (items c) j → Has done j → ⊥
+    pub apart : (j : ℕ) → IsMember (items c) j → IsMember done j → ⊥
     pub room : length done + length (items c) ≤ length slots
 
   module _ {F P : Type 0} (g : F → P → P → F → Type 0) (key : P → ℕ × Gen) where
     -- a chain is numbered behind others, its links name the places of their neighbors, and the closure has seen them
     pub record IsChainNumbered (generation : Gen) (f last : F) (old new : Held Gen (LinkBody K T)) (before after : Arena Gen (LinkBody K T)) (count : ℕ) (done : List ℕ) (c : Chain) : Type 0 where
       pub numbered : AreNumbered new.slots count (done ++ items c)
-      pub retied : AreRetied (λ _. renamed_link (place_from (length done + 1) (items c))) old new (items c)
-      pub shows : ShowsMoves g key (ptr_at (slot_at old.slots)) generation (length done + 1) f (items c) last
+      pub retied : AreRelinked (λ _. renamed_link (place_from (length done + 1) (items c))) old new (items c)
+      pub shows : ReportsMoves g key (ptr_at (slot_at old.slots)) generation (length done + 1) f (items c) last
       pub work : IsWork before after 0 (3 * length (items c))
 
     -- from a start on, behind so many links, a chain that may be numbered is, and so many are numbered then
@@ -102,9 +102,9 @@ module _ {Gen K T : Type 0} (number : K → Option ℕ) where
     -- neighbors, and the closure has seen them in that order
     pub record AreAllNumbered (generation : Gen) (f last : F) (old new : Held Gen (LinkBody K T)) (before after : Arena Gen (LinkBody K T)) (count : ℕ) : Type 0 where
       pub indexes : List ℕ
-      pub order : IsLeastIndexOrder (shown_in number old.slots) indexes
+      pub order : IsLeastIndexOrder (link_map_in number old.slots) indexes
       pub counted : count ≡ length indexes
-      pub places : (j : ℕ) → given new.slots j ≡ place_in indexes j
-      pub renamed : seen_held new ≡ renamed_held (place_in indexes) (seen_held old)
-      pub shows : ShowsMoves g key (ptr_at (slot_at old.slots)) generation 1 f indexes last
+      pub places : (j : ℕ) → destination_at new.slots j ≡ place_in indexes j
+      pub renamed : held_view new ≡ renamed_held (place_in indexes) (held_view old)
+      pub shows : ReportsMoves g key (ptr_at (slot_at old.slots)) generation 1 f indexes last
       pub work : IsWork before after 0 (length old.slots + 4 * length indexes)

@@ -1,7 +1,7 @@
 -- Links in the slots that a compactor holds: their values, their interlinks, and the work that is counted.
 use Rattle.std.specs.Prelude.{◌≡◌, ℕ, ◌≤◌, Bool, true, false, List, map, Option}
 use Rattle.std.specs.Option.{option_map}
-use Rattle.chain_laws.specs.Chains.{Shown, Interlinks}
+use Rattle.chain_laws.specs.Chains.{LinkMap, Interlinks}
 use Rattle.chain_laws.specs.Joins.{next_set, prev_set}
 use Rattle.arena_base.specs.Arena.{Arena, slot_at}
 use Rattle.arena_base.specs.Entries.{entries_from, index_of}
@@ -9,7 +9,7 @@ use Rattle.arena_base.specs.DetachedSlots.{Held}
 use Rattle.arena_base.specs.GatheredSlots.{with_totals}
 use Rattle.chain_links.specs.declared.links.LinkBody.{LinkBody}
 use Rattle.chain_links.specs.ChainArena.{on_value, interlinks_in}
-use Rattle.chain_links.specs.Links.{seen_link, held_in}
+use Rattle.chain_links.specs.Links.{link_view, held_in}
 
 module _ {Gen K T : Type 0} where
   -- the values of the links in slots
@@ -21,17 +21,17 @@ module _ {Gen K T : Type 0} where
   held_values held = record { slots = slot_values held.slots; stack_capacity = held.stack_capacity; maximum = held.maximum }
 
   -- the interlinks of an entry
-  abbrev pub interlinks_seen : (K → Option ℕ) → Gen × LinkBody K T → Interlinks
-  interlinks_seen number e = interlinks_in (seen_link number e.1)
+  abbrev pub body_interlinks : (K → Option ℕ) → Gen × LinkBody K T → Interlinks
+  body_interlinks number e = interlinks_in (link_view number e.1)
 
   -- what the slots show at each index
-  abbrev pub shown_in : (K → Option ℕ) → List (Option (Gen × LinkBody K T)) → Shown
-  shown_in number slots i = option_map (interlinks_seen number) (slot_at slots i)
+  abbrev pub link_map_in : (K → Option ℕ) → List (Option (Gen × LinkBody K T)) → LinkMap
+  link_map_in number slots i = option_map (body_interlinks number) (slot_at slots i)
 
 -- what is shown once the link at an index, if there is one, names another as the one before it, or as the one after it
-abbrev pub told : Bool → Shown → Option ℕ → Option ℕ → Shown
-told true shown i named = prev_set shown i named
-told false shown i named = next_set shown i named
+abbrev pub with_neighbor : Bool → LinkMap → Option ℕ → Option ℕ → LinkMap
+with_neighbor true shown i named = prev_set shown i named
+with_neighbor false shown i named = next_set shown i named
 
 -- the indexes of the entries in slots, by rising index
 abbrev pub indexes_in : {Gen T : Type 0} → List (Option (Gen × T)) → List ℕ

@@ -3,31 +3,31 @@ use Rattle.std.specs.Prelude.{◌≡◌, ℕ, ◌+◌, ◌*◌, ◌≤◌, ◌<�
 use Rattle.std.specs.Option.{option_map}
 use Rattle.std.specs.Fn.{Mut, Called}
 use Rattle.std.specs.List.{FoldsTo, range_with_len}
-use Rattle.chain_laws.specs.Chains.{Shown}
+use Rattle.chain_laws.specs.Chains.{LinkMap}
 use Rattle.chain_laws.specs.Renamings.{IsRenaming}
 use Rattle.chain_laws.specs.Arrangements.{place_in, IsLeastIndexOrder}
 use Rattle.arena_base.specs.Arena.{Arena}
-use Rattle.arena_base.specs.Entries.{Seen, found}
+use Rattle.arena_base.specs.Entries.{ArenaView, found}
 use Rattle.arena_base.specs.GatheredSlots.{gathered}
-use Rattle.chain_links.specs.ChainArena.{LinkSeen, shown, entry, values_of, ptr_at}
+use Rattle.chain_links.specs.ChainArena.{LinkView, link_map, entry, values_of, ptr_at}
 
 -- the pointers that all links had and those that they have, in their least-index order: the indexes from 1 on, with a
 -- generation
-pub record AreAllMoves {P Gen T : Type 0} (key : P → ℕ × Gen) (old : Seen Gen T) (links : Shown) (generation : Gen) (moves : List (P × P)) : Type 0 where
+pub record AreAllMoves {P Gen T : Type 0} (key : P → ℕ × Gen) (old : ArenaView Gen T) (links : LinkMap) (generation : Gen) (moves : List (P × P)) : Type 0 where
   pub indexes : List ℕ
   pub order : IsLeastIndexOrder links indexes
   pub from : map (λ m. Some (key m.0)) moves ≡ map (ptr_at (λ i. found i old.entries)) indexes
   pub to : map (λ m. key m.1) moves ≡ map (λ k. (k, generation)) (range_with_len 1 (length indexes))
 
 -- a call of a closure, with the pointer that a link had and the one that it has
-abbrev pub IsShownMove : {F P : Type 0} → Mut F (P × (P × Unit {0})) (Unit {0}) → F → P × P → F → Type 0
-IsShownMove g f move next = Called g f (move.0, (move.1, tt)) tt next
+abbrev pub IsReportedMove : {F P : Type 0} → Mut F (P × (P × Unit {0})) (Unit {0}) → F → P × P → F → Type 0
+IsReportedMove g f move next = Called g f (move.0, (move.1, tt)) tt next
 
 -- a closure sees all links, in their least-index order, each by the pointer that it had and the one that it has
-pub record ShowsLayout {F P Gen T : Type 0} (g : Mut F (P × (P × Unit {0})) (Unit {0})) (key : P → ℕ × Gen) (old : Seen Gen T) (links : Shown) (generation : Gen) (f : F) : Type 0 where
+pub record ReportsLayout {F P Gen T : Type 0} (g : Mut F (P × (P × Unit {0})) (Unit {0})) (key : P → ℕ × Gen) (old : ArenaView Gen T) (links : LinkMap) (generation : Gen) (f : F) : Type 0 where
   pub moves : List (P × P)
   pub last : F
-  pub in_turn : FoldsTo (IsShownMove g) f moves last
+  pub in_turn : FoldsTo (IsReportedMove g) f moves last
   pub all : AreAllMoves key old links generation moves
 
 -- What the passes say of one another: what sees links that get other pointers, in turn, each by the one that it had and the one
@@ -35,29 +35,29 @@ pub record ShowsLayout {F P Gen T : Type 0} (g : Mut F (P × (P × Unit {0})) (U
 module _ {F P Gen : Type 0} (g : F → P → P → F → Type 0) (key : P → ℕ × Gen) where
   -- it sees the links at some indexes, each by the pointer that it had and the one that it gets: the next index from n on,
   -- with a generation
-  pub record ShowsMoves (pointer : ℕ → Option (ℕ × Gen)) (generation : Gen) (n : ℕ) (f : F) (indexes : List ℕ) (last : F) : Type 0 where
+  pub record ReportsMoves (pointer : ℕ → Option (ℕ × Gen)) (generation : Gen) (n : ℕ) (f : F) (indexes : List ℕ) (last : F) : Type 0 where
     pub moves : List (P × P)
     pub in_turn : FoldsTo (λ s m t. g s m.0 m.1 t) f moves last
     pub from : map (λ m. Some (key m.0)) moves ≡ map pointer indexes
     pub to : map (λ m. key m.1) moves ≡ map (λ k. (k, generation)) (range_with_len n (length indexes))
 
   -- it sees all links, in their least-index order
-  pub record ShowsAll {T : Type 0} (old : Seen Gen T) (links : Shown) (generation : Gen) (f last : F) : Type 0 where
+  pub record ReportsAll {T : Type 0} (old : ArenaView Gen T) (links : LinkMap) (generation : Gen) (f last : F) : Type 0 where
     pub indexes : List ℕ
     pub order : IsLeastIndexOrder links indexes
-    pub shows : ShowsMoves (ptr_at (λ i. found i old.entries)) generation 1 f indexes last
+    pub shows : ReportsMoves (ptr_at (λ i. found i old.entries)) generation 1 f indexes last
 
   -- the links of an arena are laid out, each with its value and the counter as its generation
-  pub record AreLaidOut {T : Type 0} (f last : F) (old new : Arena Gen (LinkSeen T)) : Type 0 where
+  pub record AreArranged {T : Type 0} (f last : F) (old new : Arena Gen (LinkView T)) : Type 0 where
     pub indexes : List ℕ
-    pub order : IsLeastIndexOrder (shown old) indexes
-    pub renamed : IsRenaming (place_in indexes) (shown old) (shown new)
+    pub order : IsLeastIndexOrder (link_map old) indexes
+    pub renamed : IsRenaming (place_in indexes) (link_map old) (link_map new)
     pub values : List T
     pub stood : map (λ t. Some t) values ≡ map (λ i. option_map (λ e. e.1) (entry old i)) indexes
     pub touches : ℕ
     pub few : touches ≤ 4 * length old.slots + 12 * length indexes
     pub arena : values_of new ≡ record (gathered (values_of old) values) { touched = old.touched + touches }
-    pub shows : ShowsMoves (ptr_at (entry old)) old.counter 1 f indexes last
+    pub shows : ReportsMoves (ptr_at (entry old)) old.counter 1 f indexes last
 
 -- a pair is listed behind others, where there is room
 pub record IsPairListed {P A : Type 0} (old : Vec (P × P) A) (from to : P) (new : Vec (P × P) A) : Type 0 where

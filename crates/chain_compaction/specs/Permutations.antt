@@ -27,7 +27,7 @@ module _ {E : Type 0} where
     pub waits : Waits goal now j e to
 
   -- e is what an entry has become that waited for j
-  pub record HasCome (goal : E → Option ℕ) (Settles : E → E → Type 0) (old : ℕ → Option E) (j : ℕ) (e : E) : Type 0 where
+  pub record HasArrived (goal : E → Option ℕ) (Settles : E → E → Type 0) (old : ℕ → Option E) (j : ℕ) (e : E) : Type 0 where
     pub from : ℕ
     pub entry : E
     pub waited : Waits goal old from entry j
@@ -40,12 +40,12 @@ module _ {E : Type 0} where
     -- in a slot that one waits for, none is settled
     pub unsettled : (i d : ℕ) (e f : E) → Waits goal now i e d → now d ≡ Some f → goal f ≢ None
     pub there : (i d : ℕ) (e : E) → Waits goal old i e d → ((j : ℕ) × Waits goal now j e d) ⊎ IsSettledAt Settles now d e
-    pub back : (j : ℕ) (e : E) → now j ≡ Some e → StillWaits goal old now j e ⊎ HasCome goal Settles old j e
+    pub back : (j : ℕ) (e : E) → now j ≡ Some e → StillWaits goal old now j e ⊎ HasArrived goal Settles old j e
 
   -- all have moved: at each destination stands the entry that waited for it, settled, and nothing else stands anywhere
   pub record HaveMoved (goal : E → Option ℕ) (Settles : E → E → Type 0) (old new : ℕ → Option E) : Type 0 where
     pub there : (i d : ℕ) (e : E) → Waits goal old i e d → IsSettledAt Settles new d e
-    pub back : (j : ℕ) (e : E) → new j ≡ Some e → HasCome goal Settles old j e
+    pub back : (j : ℕ) (e : E) → new j ≡ Some e → HasArrived goal Settles old j e
 
   -- whether an entry in a slot waits
   abbrev pub waits : (E → Option ℕ) → Option E → Bool
@@ -87,8 +87,8 @@ module _ {E : Type 0} where
 
 module _ {Gen K T : Type 0} where
   -- where an entry is to go
-  abbrev pub goal_of : (K → Option ℕ) → Gen × LinkBody K T → Option ℕ
-  goal_of number e = number e.1.destination
+  abbrev pub destination_of : (K → Option ℕ) → Gen × LinkBody K T → Option ℕ
+  destination_of number e = number e.1.destination
 
   -- what an entry becomes at its destination: it has the generation, and no destination any more
   pub record Settles (number : K → Option ℕ) (g : Gen) (e f : Gen × LinkBody K T) : Type 0 where
@@ -97,18 +97,18 @@ module _ {Gen K T : Type 0} where
     pub rest : f.1 ≡ record e.1 { destination = f.1.destination }
 
   -- an entry with another destination
-  abbrev pub sent : K → Gen × LinkBody K T → Gen × LinkBody K T
-  sent k e = (e.0, record e.1 { destination = k })
+  abbrev pub with_destination : K → Gen × LinkBody K T → Gen × LinkBody K T
+  with_destination k e = (e.0, record e.1 { destination = k })
 
   -- the slots with another destination in the entry at an index
-  abbrev pub sent_at : K → List (Option (Gen × LinkBody K T)) → ℕ → List (Option (Gen × LinkBody K T))
-  sent_at k slots i = with_slot slots i (option_map (sent k) (slot_at slots i))
+  abbrev pub with_destination_at : K → List (Option (Gen × LinkBody K T)) → ℕ → List (Option (Gen × LinkBody K T))
+  with_destination_at k slots i = with_slot slots i (option_map (with_destination k) (slot_at slots i))
 
   -- the destination of the entry at an index was taken out
   pub record IsTakenOut (number : K → Option ℕ) (i : ℕ) (old new : Held Gen (LinkBody K T)) : Type 0 where
     pub destination : K
     pub empty : number destination ≡ None
-    pub held : new ≡ record old { slots = sent_at destination old.slots i }
+    pub held : new ≡ record old { slots = with_destination_at destination old.slots i }
 
 module _ {Gen T : Type 0} where
   -- the work while fewer entries wait: one placement and one touch for each that waits no longer, and some looks beside

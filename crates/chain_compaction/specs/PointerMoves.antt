@@ -1,8 +1,8 @@
 -- Values that have other pointers than before, said by pointer.
 use Rattle.std.specs.Prelude.{◌≡◌, ℕ, Bool, List, map, All, Contains, Option, is_some}
-use Rattle.chain_laws.specs.Chains.{Shown, HasNoRepetition}
+use Rattle.chain_laws.specs.Chains.{LinkMap, AreDistinct}
 use Rattle.arena_base.specs.Arena.{IsValid}
-use Rattle.arena_base.specs.Entries.{Seen, found}
+use Rattle.arena_base.specs.Entries.{ArenaView, found}
 use Rattle.chain_links.specs.CanonicalLayouts.{IsCanonicalLayout}
 use Rattle.chain_compaction.specs.Layouts.{AreAllMoves}
 
@@ -17,10 +17,10 @@ module _ {X G Gen U T : Type 0} (from : X → ℕ × G) (to : X → ℕ × Gen) 
     pub values : All (IsMove before after) moves
     -- each pointer that was valid is the old one of a move, and no index is that of two ..
     pub old : (p : ℕ × G) → IsValid before p → Contains (map from moves) p
-    pub old_apart : HasNoRepetition (map (λ m. (from m).0) moves)
+    pub old_apart : AreDistinct (map (λ m. (from m).0) moves)
     -- .. and each that is valid is the new one of a move, and no index is that of two
     pub new : (q : ℕ × Gen) → IsValid after q → Contains (map to moves) q
-    pub new_apart : HasNoRepetition (map (λ m. (to m).0) moves)
+    pub new_apart : AreDistinct (map (λ m. (to m).0) moves)
 
 -- pairs of pointers are moves, and each value is as it was
 abbrev pub IsPointerMove : {P Gen T : Type 0} → (P → ℕ × Gen) → (before after : ℕ → Option (Gen × T)) → P × P → Type 0
@@ -30,24 +30,24 @@ abbrev pub ArePointerMoves : {P Gen T : Type 0} → (P → ℕ × Gen) → (befo
 ArePointerMoves key = AreMoved (λ m. key m.0) (λ m. key m.1) (λ m t u. t ≡ u)
 
 -- what stands at each index is what is found there
-abbrev pub LooksUp : {Gen T : Type 0} → Seen Gen T → (ℕ → Option (Gen × T)) → Type 0
-LooksUp seen entry = (i : ℕ) → found i seen.entries ≡ entry i
+abbrev pub FindsEntries : {Gen T : Type 0} → ArenaView Gen T → (ℕ → Option (Gen × T)) → Type 0
+FindsEntries seen entry = (i : ℕ) → found i seen.entries ≡ entry i
 
 -- a link stands where an entry stands
-abbrev pub StandsWhere : {Gen T : Type 0} → Shown → (ℕ → Option (Gen × T)) → Type 0
-StandsWhere links entry = (i : ℕ) → is_some (links i) ≡ is_some (entry i)
+abbrev pub HasLinksWhere : {Gen T : Type 0} → LinkMap → (ℕ → Option (Gen × T)) → Type 0
+HasLinksWhere links entry = (i : ℕ) → is_some (links i) ≡ is_some (entry i)
 
 -- the pointers that all links had and have in a canonical compression of any arena are moves
 abbrev pub CompressionMovesPointers : {P Gen : Type 0} → Type 0 → (P → ℕ × Gen) → Gen → (Gen → Gen) → Type 0
 CompressionMovesPointers {P} {Gen} T key first following =
-    (reset : Bool) (old new : Seen Gen T) (links new_links : Shown) (before after : ℕ → Option (Gen × T)) (moves : List (P × P))
-    → LooksUp old before → LooksUp new after → StandsWhere links before
+    (reset : Bool) (old new : ArenaView Gen T) (links new_links : LinkMap) (before after : ℕ → Option (Gen × T)) (moves : List (P × P))
+    → FindsEntries old before → FindsEntries new after → HasLinksWhere links before
     → (layout : IsCanonicalLayout first following reset old links new new_links) → AreAllMoves key old links layout.generation moves
     → ArePointerMoves key before after moves
 
 -- .. and there are such pointers, also where they are not told
 abbrev pub CompressionHasMoves : {Gen : Type 0} → Type 0 → Gen → (Gen → Gen) → Type 0
 CompressionHasMoves {Gen} T first following =
-    (reset : Bool) (old new : Seen Gen T) (links new_links : Shown) (before after : ℕ → Option (Gen × T))
-    → LooksUp old before → LooksUp new after → StandsWhere links before → (layout : IsCanonicalLayout first following reset old links new new_links)
+    (reset : Bool) (old new : ArenaView Gen T) (links new_links : LinkMap) (before after : ℕ → Option (Gen × T))
+    → FindsEntries old before → FindsEntries new after → HasLinksWhere links before → (layout : IsCanonicalLayout first following reset old links new new_links)
     → (moves : List ((ℕ × Gen) × (ℕ × Gen))) × AreAllMoves (λ p. p) old links layout.generation moves × ArePointerMoves (λ p. p) before after moves

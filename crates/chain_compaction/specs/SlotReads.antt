@@ -6,7 +6,7 @@ use Rattle.chain_compaction.specs.WorkCounts.{CountsOn}
 
 module _ {P T S Inx Gen Word : Type 0} where
   -- a compactor has looked at a slot: its arena is the same, the slots are as they were, and it counted one touch
-  pub record HasLooked (old new : Compactor P T S Inx Gen Word) : Type 0 where
+  pub record HasReadSlot (old new : Compactor P T S Inx Gen Word) : Type 0 where
     pub same_reference : new.arena.ghost_name ≡ old.arena.ghost_name
     pub held : new.held ≡ old.held
     pub arena : new.arena.now ≡ with_touch old.arena.now

@@ -1,11 +1,11 @@
 // Links numbered: the chains by their least index, each linear one from its start, each cyclic one from its least index.
 ghost use Rattle.std.specs.Prelude.{◌≡◌, ◌≤◌, ◌<◌, ℕ, ◌+◌, length, List, ◌∷◌, None, IsSome};
 ghost use Rattle.std.specs.Option.{option_map};
-ghost use Rattle.chain_laws.specs.Chains.{Chain, linear, cyclic, Has, IsChain, Agrees};
+ghost use Rattle.chain_laws.specs.Chains.{Chain, linear, cyclic, IsMember, IsChain, IsWellLinked};
 ghost use Rattle.chain_laws.specs.ChainStart.{IsStart};
-ghost use Rattle.chain_compaction.specs.DetachedLinks.{shown_in, IsWork};
+ghost use Rattle.chain_compaction.specs.DetachedLinks.{link_map_in, IsWork};
 ghost use Rattle.chain_compaction.specs.WorkCounts.{CountsOn};
-ghost use Rattle.chain_compaction.specs.Destinations.{HasChainFrom, number_after, given, IsRingClosed, CanNumber, NumbersFrom, AreAllNumbered};
+ghost use Rattle.chain_compaction.specs.Destinations.{HasChainFrom, number_after, destination_at, IsRingClosed, CanNumber, NumbersFrom, AreAllNumbered};
 
 use crate::slot_access::{look_at, tie_at};
 use crate::visitor::Visitor;
@@ -20,16 +20,16 @@ fn start_at<P: PtrKey, T: Drop, S: SlotStack<Item = ArenaSlot<P, LinkNoGen<P, T>
     compactor: &mut Compactor<'_, P, LinkNoGen<P, T>, S>,
     i: P::Inx,
 ) -> P::Inx
-    requires { HasChainFrom (shown_in P.Inx.packed_number compactor.old.held.slots)
+    requires { HasChainFrom (link_map_in P.Inx.packed_number compactor.old.held.slots)
         (P.Inx.number i) }
     ensures same_reference { compactor.new.arena.ghost_name ≡ compactor.old.arena.ghost_name }
-    ensures start { IsStart (shown_in P.Inx.packed_number compactor.old.held.slots) (P.Inx.number i)
+    ensures start { IsStart (link_map_in P.Inx.packed_number compactor.old.held.slots) (P.Inx.number i)
         (P.Inx.number result) }
     ensures held { compactor.new.held ≡ compactor.old.held }
-    ensures linear { (xs : List ℕ) → IsChain (shown_in P.Inx.packed_number compactor.old.held.slots)
-        (linear xs) → Has xs (P.Inx.number i)
+    ensures linear { (xs : List ℕ) → IsChain (link_map_in P.Inx.packed_number compactor.old.held.slots)
+        (linear xs) → IsMember xs (P.Inx.number i)
         → IsWork compactor.old.arena.now compactor.new.arena.now 0 (length xs) }
-    ensures cyclic { (xs : List ℕ) → IsChain (shown_in P.Inx.packed_number compactor.old.held.slots)
+    ensures cyclic { (xs : List ℕ) → IsChain (link_map_in P.Inx.packed_number compactor.old.held.slots)
         (cyclic (P.Inx.number i ∷ xs))
         → IsWork compactor.old.arena.now compactor.new.arena.now 0 (length xs + 1) }
     ensures counts { CountsOn compactor.old.arena.now compactor.new.arena.now compactor.old.placed
@@ -162,8 +162,8 @@ pub fn number_all<
 ) -> (V, usize)
     requires ready { V.is_ready visitor }
     requires fits { length compactor.old.held.slots ≤ P.Inx.greatest }
-    requires agree { Agrees (shown_in P.Inx.packed_number compactor.old.held.slots) }
-    requires empty { (j : ℕ) → given P.Inx.packed_number compactor.old.held.slots j ≡ None }
+    requires agree { IsWellLinked (link_map_in P.Inx.packed_number compactor.old.held.slots) }
+    requires empty { (j : ℕ) → destination_at P.Inx.packed_number compactor.old.held.slots j ≡ None }
     ensures ready { V.is_ready result.0 }
     ensures same_reference { compactor.new.arena.ghost_name ≡ compactor.old.arena.ghost_name }
     ensures numbered { AreAllNumbered P.Inx.packed_number V.sees P.key generation visitor result.0

@@ -1,12 +1,12 @@
 // Links laid out canonically in place: each chain one run, the chains one after another from index 1 on.
 ghost use Rattle.std.specs.Prelude.{◌≡◌, ◌≤◌, ◌+◌, ℕ, None, length};
-ghost use Rattle.chain_laws.specs.Chains.{Agrees};
+ghost use Rattle.chain_laws.specs.Chains.{IsWellLinked};
 ghost use Rattle.arena_base.specs.GatheredSlots.{with_totals};
-ghost use Rattle.chain_links.specs.ChainArena.{shown};
-ghost use Rattle.chain_links.specs.Links.{seen_links};
+ghost use Rattle.chain_links.specs.ChainArena.{link_map};
+ghost use Rattle.chain_links.specs.Links.{links_view};
 ghost use Rattle.chain_compaction.specs.WorkCounts.{CountsOn};
-ghost use Rattle.chain_compaction.specs.Layouts.{AreLaidOut};
-ghost use Rattle.chain_compaction.specs.Destinations.{seen_held, given};
+ghost use Rattle.chain_compaction.specs.Layouts.{AreArranged};
+ghost use Rattle.chain_compaction.specs.Destinations.{held_view, destination_at};
 
 use crate::assign_destinations::number_all;
 use crate::permute::move_all;
@@ -22,9 +22,9 @@ pub fn empty_all<P: PtrKey, T: Drop, S: SlotStack<Item = ArenaSlot<P, LinkNoGen<
 )
     requires fits { length compactor.old.held.slots ≤ P.Inx.greatest }
     ensures same_reference { compactor.new.arena.ghost_name ≡ compactor.old.arena.ghost_name }
-    ensures seen { seen_held P.Inx.packed_number compactor.new.held ≡ seen_held P.Inx.packed_number
+    ensures seen { held_view P.Inx.packed_number compactor.new.held ≡ held_view P.Inx.packed_number
         compactor.old.held }
-    ensures empty { (j : ℕ) → given P.Inx.packed_number compactor.new.held.slots j ≡ None }
+    ensures empty { (j : ℕ) → destination_at P.Inx.packed_number compactor.new.held.slots j ≡ None }
     ensures totals { compactor.new.arena.now ≡ with_totals compactor.old.arena.now 0
         (length compactor.old.held.slots) }
     ensures counts { CountsOn compactor.old.arena.now compactor.new.arena.now compactor.old.placed
@@ -45,10 +45,10 @@ pub fn lay_out<
     V: Visitor<P>,
 >(arena: &mut Arena<P, LinkNoGen<P, T>, S>, visitor: V) -> (V, Work)
     requires ready { V.is_ready visitor }
-    requires agree { Agrees (shown (seen_links P.Inx.packed_number arena.old)) }
+    requires agree { IsWellLinked (link_map (links_view P.Inx.packed_number arena.old)) }
     ensures ready { V.is_ready result.0 }
-    ensures laid { AreLaidOut V.sees P.key visitor result.0
-        (seen_links P.Inx.packed_number arena.old) (seen_links P.Inx.packed_number arena.new) }
+    ensures laid { AreArranged V.sees P.key visitor result.0
+        (links_view P.Inx.packed_number arena.old) (links_view P.Inx.packed_number arena.new) }
     ensures placed { arena.new.placed ≡ arena.old.placed + result.1.placed }
     ensures touched { arena.new.touched ≡ arena.old.touched + result.1.touched }
 {

@@ -2,19 +2,19 @@
 ghost use Rattle.std.specs.Prelude.{◌≡◌, ◌≢◌, ◌≤◌, length, None, Some, OnSome, IfNone};
 ghost use Rattle.std.specs.Option.{option_map};
 ghost use Rattle.arena_ptr.specs.Invalidation.{invalidation_option};
-ghost use Rattle.chain_laws.specs.Chains.{Agrees};
+ghost use Rattle.chain_laws.specs.Chains.{IsWellLinked};
 ghost use Rattle.chain_laws.specs.Renamings.{IsRenaming};
 ghost use Rattle.chain_laws.specs.Arrangements.{place_in};
 ghost use Rattle.chain_laws.specs.Moves.{moved_index};
 ghost use Rattle.arena_base.specs.Arena.{slot_at, with_counter};
 ghost use Rattle.arena_base.specs.Entries.{entries, entries_from};
-ghost use Rattle.arena_base.specs.DetachedSlots.{placed, IsPacked, with_touch};
+ghost use Rattle.arena_base.specs.DetachedSlots.{with_placed_entry, IsPacked, with_touch};
 ghost use Rattle.arena_base.specs.Compressions.{VisitsAll, counter_after_compression, overflows_after_compression};
 ghost use Rattle.arena_base.specs.GatheredSlots.{AreClosed};
-ghost use Rattle.chain_links.specs.ChainArena.{shown};
-ghost use Rattle.chain_links.specs.Links.{seen_links};
-ghost use Rattle.chain_compaction.specs.DetachedLinks.{held_values, shown_in, told, indexes_in, IsWork};
-ghost use Rattle.chain_compaction.specs.CompressionSteps.{ShowsMove, IsClosingWork};
+ghost use Rattle.chain_links.specs.ChainArena.{link_map};
+ghost use Rattle.chain_links.specs.Links.{links_view};
+ghost use Rattle.chain_compaction.specs.DetachedLinks.{held_values, link_map_in, with_neighbor, indexes_in, IsWork};
+ghost use Rattle.chain_compaction.specs.CompressionSteps.{IsLinkMove, IsClosingWork};
 ghost use Rattle.chain_compaction.specs.LinkCompressions.{AreGathered};
 
 use crate::slot_access::look_at;
@@ -42,8 +42,8 @@ fn tell<P: PtrKey, T: Drop, S: SlotStack<Item = ArenaSlot<P, LinkNoGen<P, T>>>>(
 )
     ensures same_reference { compactor.new.arena.ghost_name ≡ compactor.old.arena.ghost_name }
     ensures values { held_values compactor.new.held ≡ held_values compactor.old.held }
-    ensures shows { shown_in P.Inx.packed_number compactor.new.held.slots
-        ≡ told before (shown_in P.Inx.packed_number compactor.old.held.slots)
+    ensures shows { link_map_in P.Inx.packed_number compactor.new.held.slots
+        ≡ with_neighbor before (link_map_in P.Inx.packed_number compactor.old.held.slots)
         (option_map P.Inx.number i) (Some (P.Inx.number named)) }
     ensures work { IsWork compactor.old.arena.now compactor.new.arena.now 0 1 }
 {
@@ -75,10 +75,10 @@ fn move_link<P: PtrKey, T: Drop, S: SlotStack<Item = ArenaSlot<P, LinkNoGen<P, T
     ensures same_reference { compactor.new.arena.ghost_name ≡ compactor.old.arena.ghost_name }
     ensures answer { result ≡ option_map (λ e. e.0)
         (slot_at compactor.old.held.slots (P.Inx.number from)) }
-    ensures values { OnSome result (held_values compactor.new.held ≡ placed
+    ensures values { OnSome result (held_values compactor.new.held ≡ with_placed_entry
         (held_values compactor.old.held) (P.Inx.number from) (P.Inx.number to) generation) }
-    ensures moves { OnSome result (ShowsMove (shown_in P.Inx.packed_number compactor.old.held.slots)
-        (shown_in P.Inx.packed_number compactor.new.held.slots)
+    ensures moves { OnSome result (IsLinkMove (link_map_in P.Inx.packed_number compactor.old.held.slots)
+        (link_map_in P.Inx.packed_number compactor.new.held.slots)
         (P.Inx.number from) (P.Inx.number to)) }
     ensures work { OnSome result (IsWork compactor.old.arena.now compactor.new.arena.now 1 3) }
     ensures none { IfNone result ((compactor.new.held ≡ compactor.old.held)
@@ -106,7 +106,7 @@ fn close_gaps<
 >(compactor: &mut Compactor<'_, P, LinkNoGen<P, T>, S>, generation: P::Gen, mut map: F) -> usize
     requires callable { F.IsAlwaysCallable map }
     requires fits { length compactor.old.held.slots ≤ P.Inx.greatest }
-    requires agree { Agrees (shown_in P.Inx.packed_number compactor.old.held.slots) }
+    requires agree { IsWellLinked (link_map_in P.Inx.packed_number compactor.old.held.slots) }
     ensures same_reference { compactor.new.arena.ghost_name ≡ compactor.old.arena.ghost_name }
     ensures closed { AreClosed generation (held_values compactor.old.held)
         (held_values compactor.new.held) }
@@ -115,8 +115,8 @@ fn close_gaps<
         (entries_from 1 (held_values compactor.old.held).slots)
         (entries_from 1 (held_values compactor.new.held).slots) }
     ensures renamed { IsRenaming (place_in (indexes_in (held_values compactor.old.held).slots))
-        (shown_in P.Inx.packed_number compactor.old.held.slots)
-        (shown_in P.Inx.packed_number compactor.new.held.slots) }
+        (link_map_in P.Inx.packed_number compactor.old.held.slots)
+        (link_map_in P.Inx.packed_number compactor.new.held.slots) }
     ensures work { IsClosingWork compactor.old.held compactor.old.arena.now
         compactor.new.arena.now }
 {
@@ -171,9 +171,9 @@ pub fn gather<
     F: FnMut(P, &mut T, P) + Drop,
 >(arena: &mut Arena<P, LinkNoGen<P, T>, S>, map: F)
     requires callable { F.IsAlwaysCallable map }
-    requires agree { Agrees (shown (seen_links P.Inx.packed_number arena.old)) }
-    ensures { AreGathered F.FnMut P.key map (seen_links P.Inx.packed_number arena.old)
-        (seen_links P.Inx.packed_number arena.new) }
+    requires agree { IsWellLinked (link_map (links_view P.Inx.packed_number arena.old)) }
+    ensures { AreGathered F.FnMut P.key map (links_view P.Inx.packed_number arena.old)
+        (links_view P.Inx.packed_number arena.new) }
 {
     arena.invariants();
     let generation = arena.generation();

@@ -5,7 +5,7 @@ ghost use Rattle.arena_base.specs.Arena.{slot_at};
 ghost use Rattle.arena_base.specs.DetachedSlots.{with_touch};
 ghost use Rattle.arena_base.specs.GatheredSlots.{with_totals};
 ghost use Rattle.chain_compaction.specs.WorkCounts.{CountsOn};
-ghost use Rattle.chain_compaction.specs.Permutations.{Waits, WaitsWithin, IsSettling, HaveMoved, CanMoveAll, waiting, goal_of, Settles, IsTakenOut, IsWorkOn};
+ghost use Rattle.chain_compaction.specs.Permutations.{Waits, WaitsWithin, IsSettling, HaveMoved, CanMoveAll, waiting, destination_of, Settles, IsTakenOut, IsWorkOn};
 
 use arena_base::{ArenaSlot, Compactor, SlotAccess, inx_at};
 use arena_ptr::{InxKey, PtrKey, SlotStack};
@@ -17,7 +17,7 @@ fn take_at<P: PtrKey, T: Drop, S: SlotStack<Item = ArenaSlot<P, LinkNoGen<P, T>>
     i: P::Inx,
 ) -> Option<P::Inx>
     ensures same_reference { compactor.new.arena.ghost_name ≡ compactor.old.arena.ghost_name }
-    ensures answer { option_map P.Inx.number result ≡ option_and_then (goal_of P.Inx.packed_number)
+    ensures answer { option_map P.Inx.number result ≡ option_and_then (destination_of P.Inx.packed_number)
         (slot_at compactor.old.held.slots (P.Inx.number i)) }
     ensures taken { OnSome result
         (IsTakenOut P.Inx.packed_number (P.Inx.number i) compactor.old.held compactor.new.held) }
@@ -40,19 +40,19 @@ fn settle<P: PtrKey, T: Drop, S: SlotStack<Item = ArenaSlot<P, LinkNoGen<P, T>>>
     generation: P::Gen,
 )
     requires index { P.Inx.number i ≤ length compactor.old.held.slots }
-    requires within { WaitsWithin (goal_of P.Inx.packed_number) compactor.old.held.slots }
+    requires within { WaitsWithin (destination_of P.Inx.packed_number) compactor.old.held.slots }
     ensures same_reference { compactor.new.arena.ghost_name ≡ compactor.old.arena.ghost_name }
-    ensures settles { IsSettling (goal_of P.Inx.packed_number)
+    ensures settles { IsSettling (destination_of P.Inx.packed_number)
         (Settles P.Inx.packed_number generation) (P.Inx.number i) compactor.old.held.slots
         compactor.new.held.slots }
     ensures none { (d : ℕ) (e : _)
-        → Waits (goal_of P.Inx.packed_number) (slot_at compactor.new.held.slots)
+        → Waits (destination_of P.Inx.packed_number) (slot_at compactor.new.held.slots)
         (P.Inx.number i) e d → ⊥ }
     ensures capacity { compactor.new.held.stack_capacity ≡ compactor.old.held.stack_capacity }
     ensures maximum { compactor.new.held.maximum ≡ compactor.old.held.maximum }
     ensures work { IsWorkOn compactor.old.arena.now compactor.new.arena.now
-        (waiting (goal_of P.Inx.packed_number) compactor.old.held.slots)
-        (waiting (goal_of P.Inx.packed_number) compactor.new.held.slots) 1 }
+        (waiting (destination_of P.Inx.packed_number) compactor.old.held.slots)
+        (waiting (destination_of P.Inx.packed_number) compactor.new.held.slots) 1 }
     ensures counts { CountsOn compactor.old.arena.now compactor.new.arena.now compactor.old.placed
         compactor.old.touched compactor.new.placed compactor.new.touched }
 {
@@ -67,9 +67,9 @@ pub fn move_all<P: PtrKey, T: Drop, S: SlotStack<Item = ArenaSlot<P, LinkNoGen<P
     generation: P::Gen,
 )
     requires fits { length compactor.old.held.slots ≤ P.Inx.greatest }
-    requires can { CanMoveAll (goal_of P.Inx.packed_number) compactor.old.held.slots }
+    requires can { CanMoveAll (destination_of P.Inx.packed_number) compactor.old.held.slots }
     ensures same_reference { compactor.new.arena.ghost_name ≡ compactor.old.arena.ghost_name }
-    ensures moved { HaveMoved (goal_of P.Inx.packed_number) (Settles P.Inx.packed_number generation)
+    ensures moved { HaveMoved (destination_of P.Inx.packed_number) (Settles P.Inx.packed_number generation)
         (slot_at compactor.old.held.slots) (slot_at compactor.new.held.slots) }
     ensures length { length compactor.new.held.slots ≡ length compactor.old.held.slots }
     ensures capacity { compactor.new.held.stack_capacity ≡ compactor.old.held.stack_capacity }

@@ -5,9 +5,9 @@ ghost use Rattle.chain_laws.specs.Chains.{prev_of, next_of};
 ghost use Rattle.arena_base.specs.Arena.{slot_at};
 ghost use Rattle.arena_base.specs.DetachedSlots.{with_touch};
 ghost use Rattle.chain_compaction.specs.WorkCounts.{CountsOn};
-ghost use Rattle.chain_compaction.specs.DetachedLinks.{shown_in};
-ghost use Rattle.chain_compaction.specs.SlotReads.{HasLooked};
-ghost use Rattle.chain_compaction.specs.Destinations.{given, IsDirectedAt, IsTiedAt};
+ghost use Rattle.chain_compaction.specs.DetachedLinks.{link_map_in};
+ghost use Rattle.chain_compaction.specs.SlotReads.{HasReadSlot};
+ghost use Rattle.chain_compaction.specs.Destinations.{destination_at, IsDirectedAt, IsRelinkedAt};
 
 use arena_base::{ArenaSlot, Compactor, SlotAccess};
 use arena_ptr::{InxKey, PtrKey, SlotStack};
@@ -24,15 +24,15 @@ pub(crate) fn look_at<P: PtrKey, T: Drop, S: SlotStack<Item = ArenaSlot<P, LinkN
     Option<P::Inx>,
     Option<P::Inx>,
 )
-    ensures looked { HasLooked compactor.old compactor.new }
+    ensures looked { HasReadSlot compactor.old compactor.new }
     ensures generation { result.0 ≡ option_map (λ e. e.0)
         (slot_at compactor.old.held.slots (P.Inx.number i)) }
     ensures prev { option_map P.Inx.number result.1 ≡ prev_of
-        (shown_in P.Inx.packed_number compactor.old.held.slots) (P.Inx.number i) }
+        (link_map_in P.Inx.packed_number compactor.old.held.slots) (P.Inx.number i) }
     ensures next { option_map P.Inx.number result.2 ≡ next_of
-        (shown_in P.Inx.packed_number compactor.old.held.slots) (P.Inx.number i) }
+        (link_map_in P.Inx.packed_number compactor.old.held.slots) (P.Inx.number i) }
     ensures destination { option_map P.Inx.number result.3
-        ≡ given P.Inx.packed_number compactor.old.held.slots (P.Inx.number i) }
+        ≡ destination_at P.Inx.packed_number compactor.old.held.slots (P.Inx.number i) }
 {
     match compactor.peek(i) {
         Some((was, link)) => (
@@ -73,7 +73,7 @@ pub(crate) fn tie_at<P: PtrKey, T: Drop, S: SlotStack<Item = ArenaSlot<P, LinkNo
     destination: P::Inx,
 )
     ensures same_reference { compactor.new.arena.ghost_name ≡ compactor.old.arena.ghost_name }
-    ensures tied { IsTiedAt P.Inx.packed_number (P.Inx.number i) (option_map P.Inx.number prev)
+    ensures tied { IsRelinkedAt P.Inx.packed_number (P.Inx.number i) (option_map P.Inx.number prev)
         (option_map P.Inx.number next) (Some (P.Inx.number destination))
         compactor.old.held compactor.new.held }
     ensures arena { compactor.new.arena.now ≡ with_touch compactor.old.arena.now }

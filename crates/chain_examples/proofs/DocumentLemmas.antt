@@ -3,18 +3,18 @@ use Rattle.std.proofs.Common.{◌≡◌, ◌≢◌, ℕ, inl, inr, List, [], ◌
 use Rattle.std.specs.Prelude.{◌↔◌, ◌⊎◌, is_some, true, OnSome, IfNone, IfSome}
 use Rattle.std.specs.Option.{option_map, option_and_then}
 use Rattle.std.proofs.lemmas.List.{map-append, reverse-append}
-use Rattle.chain_laws.specs.Chains.{Shown, linear, IsChain, Has, HasNoRepetition, Agrees, next_of, prev_of, next_in, prev_in, first_or, last_or}
+use Rattle.chain_laws.specs.Chains.{LinkMap, linear, IsChain, IsMember, AreDistinct, IsWellLinked, next_of, prev_of, next_in, prev_in, first_or, last_or}
 use Rattle.chain_laws.specs.Cuts.{Cuts}
 use Rattle.chain_laws.specs.Joins.{Connects}
 use Rattle.chain_laws.proofs.ChainLemmas.MemberLaws.{places_in_a_line, neighbors_stand_together}
 use Rattle.chain_laws.proofs.ChainLemmas.Frame.{cut_keeps_others}
 use Rattle.chain_laws.proofs.ListLemmas.MemberLaws.{once_in_middle}
-use Rattle.chain_laws.proofs.ListLemmas.Members.{last_or-append, Has-left, Has-right, Has-parts}
+use Rattle.chain_laws.proofs.ListLemmas.Members.{last_or-append, IsMember-left, IsMember-right, IsMember-parts}
 use Rattle.chain_laws.proofs.InterlinkLemmas.Inverses.{one_some}
 use Rattle.arena_base.specs.Arena.{IsValid}
 use Rattle.arena_base.specs.Entries.{index_of, first_key, last_key}
 use Rattle.chain_links.specs.ChainArena.{CanConnect, ptr_at}
-use Rattle.chain_examples.specs.Lists.{Item, Stand, indexes, IsText, KeepsWithout}
+use Rattle.chain_examples.specs.Lists.{Item, AreEntries, indexes, IsText, KeepsWithout}
 use Rattle.chain_examples.specs.Texts.{EndsIn, BeginsWith, AreJoined}
 use Rattle.chain_examples.proofs.ItemListLemmas.{stand-append, stand-left, stand-right}
 use Rattle.chain_examples.proofs.ListChangeLemmas.{parts, whole, stays}
@@ -35,25 +35,25 @@ module _ {Gen T : Type 0} where
   filled (b ∷ before) e after none = cc
 
   -- no other item of a list without repetition has an item's index
-  pub apart : (before : List (Item Gen T)) (e : Item Gen T) (after : List (Item Gen T)) → HasNoRepetition (indexes (before ++ e ∷ after))
-      → (Has (indexes (before ++ after)) e.0.0 → ⊥) × HasNoRepetition (indexes (before ++ after))
+  pub apart : (before : List (Item Gen T)) (e : Item Gen T) (after : List (Item Gen T)) → AreDistinct (indexes (before ++ e ∷ after))
+      → (IsMember (indexes (before ++ after)) e.0.0 → ⊥) × AreDistinct (indexes (before ++ after))
   apart before e after once =
-      let both = (once_in_middle (indexes before) (indexes after) e.0.0).0 (subst HasNoRepetition (map-append index_of before (e ∷ after)) once) in
-      (λ has. both.0 (subst (λ (l : List ℕ). Has l e.0.0) (map-append index_of before after) has), subst HasNoRepetition (sym (map-append index_of before after)) both.1)
+      let both = (once_in_middle (indexes before) (indexes after) e.0.0).0 (subst AreDistinct (map-append index_of before (e ∷ after)) once) in
+      (λ has. both.0 (subst (λ (l : List ℕ). IsMember l e.0.0) (map-append index_of before after) has), subst AreDistinct (sym (map-append index_of before after)) both.1)
 
-  pub has_left : (before after : List (Item Gen T)) (i : ℕ) → Has (indexes before) i → Has (indexes (before ++ after)) i
-  has_left before after i has = subst (λ (l : List ℕ). Has l i) (sym (map-append index_of before after)) (Has-left (indexes before) (indexes after) i has)
+  pub has_left : (before after : List (Item Gen T)) (i : ℕ) → IsMember (indexes before) i → IsMember (indexes (before ++ after)) i
+  has_left before after i has = subst (λ (l : List ℕ). IsMember l i) (sym (map-append index_of before after)) (IsMember-left (indexes before) (indexes after) i has)
 
-  pub has_right : (before after : List (Item Gen T)) (i : ℕ) → Has (indexes after) i → Has (indexes (before ++ after)) i
-  has_right before after i has = subst (λ (l : List ℕ). Has l i) (sym (map-append index_of before after)) (Has-right (indexes before) (indexes after) i has)
+  pub has_right : (before after : List (Item Gen T)) (i : ℕ) → IsMember (indexes after) i → IsMember (indexes (before ++ after)) i
+  has_right before after i has = subst (λ (l : List ℕ). IsMember l i) (sym (map-append index_of before after)) (IsMember-right (indexes before) (indexes after) i has)
 
-  pub has_parts : (before after : List (Item Gen T)) (i : ℕ) → Has (indexes (before ++ after)) i → Has (indexes before) i ⊎ Has (indexes after) i
-  has_parts before after i has = Has-parts (indexes before) (indexes after) i (subst (λ (l : List ℕ). Has l i) (map-append index_of before after) has)
+  pub has_parts : (before after : List (Item Gen T)) (i : ℕ) → IsMember (indexes (before ++ after)) i → IsMember (indexes before) i ⊎ IsMember (indexes after) i
+  has_parts before after i has = IsMember-parts (indexes before) (indexes after) i (subst (λ (l : List ℕ). IsMember l i) (map-append index_of before after) has)
 
-module _ {A Gen T : Type 0} (entry : A → ℕ → Option (Gen × T)) (links : A → Shown) where
+module _ {A Gen T : Type 0} (entry : A → ℕ → Option (Gen × T)) (links : A → LinkMap) where
   -- a pointer, if there is one, is that of an item beside p: it stands in no text that p does not stand in
   abbrev pub StandsWith : A → ℕ × Gen → Option (ℕ × Gen) → Type 0
-  StandsWith a p o = IfSome o (λ k. (xs : List (Item Gen T)) → IsText entry links a xs → Has (indexes xs) k.0 → Has (indexes xs) p.0)
+  StandsWith a p o = IfSome o (λ k. (xs : List (Item Gen T)) → IsText entry links a xs → IsMember (indexes xs) k.0 → IsMember (indexes xs) p.0)
 
   -- the last index of a list with an item at its end
   last_index : (xs : List (Item Gen T)) (u : Item Gen T) → last_or (indexes (xs ++ u ∷ [])) None ≡ Some u.0.0
@@ -70,26 +70,26 @@ module _ {A Gen T : Type 0} (entry : A → ℕ → Option (Gen × T)) (links : A
     pub goes_on : option_and_then (ptr_at (entry a)) (next_of (links a) p.0) ≡ first_key after
     goes_on = ap (λ o. option_and_then (ptr_at (entry a)) (next_in o)) place ∙ key_of after (stand-right (entry a) before ((p, t) ∷ after) is.stand).1
       where
-        key_of : (es : List (Item Gen T)) → Stand (entry a) es → option_and_then (ptr_at (entry a)) (first_or (indexes es) None) ≡ first_key es
+        key_of : (es : List (Item Gen T)) → AreEntries (entry a) es → option_and_then (ptr_at (entry a)) (first_or (indexes es) None) ≡ first_key es
         key_of [] s = refl
         key_of (e ∷ es) s = ap (option_map (λ (x : Gen × T). (e.0.0, x.0))) s.0
 
     pub comes_from : option_and_then (ptr_at (entry a)) (prev_of (links a) p.0) ≡ last_key before
     comes_from = ap (λ o. option_and_then (ptr_at (entry a)) (prev_in o)) place ∙ key_of before (stand-left (entry a) before ((p, t) ∷ after) is.stand)
       where
-        at_end : (es : List (Item Gen T)) (e : Item Gen T) → Stand (entry a) (es ++ e ∷ []) → option_and_then (ptr_at (entry a)) (last_or (indexes (es ++ e ∷ [])) None) ≡ last_key (es ++ e ∷ [])
+        at_end : (es : List (Item Gen T)) (e : Item Gen T) → AreEntries (entry a) (es ++ e ∷ []) → option_and_then (ptr_at (entry a)) (last_or (indexes (es ++ e ∷ [])) None) ≡ last_key (es ++ e ∷ [])
         at_end es e s =
             ap (option_and_then (ptr_at (entry a))) (last_index es e)
             ∙ (ap (option_map (λ (x : Gen × T). (e.0.0, x.0))) (stand-right (entry a) es (e ∷ []) s).0 ∙ sym (last_is es e))
 
-        key_of : (es : List (Item Gen T)) → Stand (entry a) es → option_and_then (ptr_at (entry a)) (last_or (indexes es) None) ≡ last_key es
+        key_of : (es : List (Item Gen T)) → AreEntries (entry a) es → option_and_then (ptr_at (entry a)) (last_or (indexes es) None) ≡ last_key es
         key_of [] s = refl
         key_of (e ∷ es) s =
             let l = last_apart e es in
-            subst (λ (xs : List (Item Gen T)). option_and_then (ptr_at (entry a)) (last_or (indexes xs) None) ≡ last_key xs) (sym l.2) (at_end l.0 l.1 (subst (Stand (entry a)) l.2 s))
+            subst (λ (xs : List (Item Gen T)). option_and_then (ptr_at (entry a)) (last_or (indexes xs) None) ≡ last_key xs) (sym l.2) (at_end l.0 l.1 (subst (AreEntries (entry a)) l.2 s))
 
   -- a pointer of now to the link after p, or before it, is that of an item which stands with p
-  beside : (a : A) (p : ℕ × Gen) (o : Option ℕ) → ((j : ℕ) → o ≡ Some j → (xs : List (Item Gen T)) → IsText entry links a xs → Has (indexes xs) j → Has (indexes xs) p.0)
+  beside : (a : A) (p : ℕ × Gen) (o : Option ℕ) → ((j : ℕ) → o ≡ Some j → (xs : List (Item Gen T)) → IsText entry links a xs → IsMember (indexes xs) j → IsMember (indexes xs) p.0)
       → StandsWith a p (option_and_then (ptr_at (entry a)) o)
   beside a p None together = tt
   beside a p (Some j) together = by (entry a j)
@@ -98,11 +98,11 @@ module _ {A Gen T : Type 0} (entry : A → ℕ → Option (Gen × T)) (links : A
       by None = tt
       by (Some x) = together j refl
 
-  pub with_next : (a : A) (p : ℕ × Gen) (o : Option (ℕ × Gen)) → Agrees (links a) → o ≡ option_and_then (ptr_at (entry a)) (next_of (links a) p.0) → StandsWith a p o
+  pub with_next : (a : A) (p : ℕ × Gen) (o : Option (ℕ × Gen)) → IsWellLinked (links a) → o ≡ option_and_then (ptr_at (entry a)) (next_of (links a) p.0) → StandsWith a p o
   with_next a p o agrees is = subst (StandsWith a p) (sym is)
       (beside a p (next_of (links a) p.0) (λ j next xs text. (neighbors_stand_together (links a) (linear (indexes xs)) p.0 j agrees next text.chain).1))
 
-  pub with_prev : (a : A) (p : ℕ × Gen) (o : Option (ℕ × Gen)) → Agrees (links a) → o ≡ option_and_then (ptr_at (entry a)) (prev_of (links a) p.0) → StandsWith a p o
+  pub with_prev : (a : A) (p : ℕ × Gen) (o : Option (ℕ × Gen)) → IsWellLinked (links a) → o ≡ option_and_then (ptr_at (entry a)) (prev_of (links a) p.0) → StandsWith a p o
   with_prev a p o agrees is = subst (StandsWith a p) (sym is)
       (beside a p (prev_of (links a) p.0) (λ j prev xs text. (neighbors_stand_together (links a) (linear (indexes xs)) j p.0 agrees ((agrees.both j p.0).1 prev) text.chain).0))
 
@@ -140,7 +140,7 @@ module _ {A Gen T : Type 0} (entry : A → ℕ → Option (Gen × T)) (links : A
         )
 
     -- .. and every text without p stays: it has not what came after p, either
-    pub keeps_ended : Agrees (links old) → Breaks old new p (next_of (links old) p.0) (λ b. Cuts (links old) (links new) p.0 b) → KeepsWithout entry links linear old new (p ∷ [])
+    pub keeps_ended : IsWellLinked (links old) → Breaks old new p (next_of (links old) p.0) (λ b. Cuts (links old) (links new) p.0 b) → KeepsWithout entry links linear old new (p ∷ [])
     keeps_ended agrees (unbroken none stay) xs lacks is = subst (λ (a : A). IsText entry links a xs) (sym stay) is
     keeps_ended agrees (broken b next cuts same) xs lacks is =
         stays entry links linear (λ xs. refl) old new same xs is.stand (cut_keeps_others (links old) (links new) p.0 b agrees next cuts (linear (indexes xs)) (inl lacks.0) is.chain)
@@ -167,7 +167,7 @@ module _ {A Gen T : Type 0} (entry : A → ℕ → Option (Gen × T)) (links : A
             )
 
     -- .. and every text without p stays
-    pub keeps_begun : Agrees (links old) → Breaks old new p (prev_of (links old) p.0) (λ a. Cuts (links old) (links new) a p.0) → KeepsWithout entry links linear old new (p ∷ [])
+    pub keeps_begun : IsWellLinked (links old) → Breaks old new p (prev_of (links old) p.0) (λ a. Cuts (links old) (links new) a p.0) → KeepsWithout entry links linear old new (p ∷ [])
     keeps_begun agrees (unbroken none stay) xs lacks is = subst (λ (a : A). IsText entry links a xs) (sym stay) is
     keeps_begun agrees (broken a prev cuts same) xs lacks is = stays entry links linear (λ xs. refl) old new same xs is.stand
         (cut_keeps_others (links old) (links new) a p.0 agrees ((agrees.both a p.0).1 prev) cuts (linear (indexes xs)) (inr lacks.0) is.chain)
@@ -192,9 +192,9 @@ module _ {A Gen T : Type 0} (entry : A → ℕ → Option (Gen × T)) (links : A
           by None one connects same = absurd (let h = one in cc)
           by (Some x) one connects same =
               let parted = map-append index_of before ((p, s) ∷ []) in
-              let chain = connects.two (indexes before) (indexes after) (parts entry links linear (λ xs. refl) old before ((p, s) ∷ []) first.chain) second.chain (λ has. two_texts (subst (λ (l : List ℕ). Has l q.0) (sym parted) has)) in
+              let chain = connects.two (indexes before) (indexes after) (parts entry links linear (λ xs. refl) old before ((p, s) ∷ []) first.chain) second.chain (λ has. two_texts (subst (λ (l : List ℕ). IsMember l q.0) (sym parted) has)) in
               stays entry links linear (λ xs. refl) old new same (before ++ (p, s) ∷ (q, t) ∷ after)
-              (subst (Stand (entry old)) (append_assoc before ((p, s) ∷ []) ((q, t) ∷ after)) (stand-append (entry old) (before ++ (p, s) ∷ []) ((q, t) ∷ after) first.stand second.stand))
+              (subst (AreEntries (entry old)) (append_assoc before ((p, s) ∷ []) ((q, t) ∷ after)) (stand-append (entry old) (before ++ (p, s) ∷ []) ((q, t) ∷ after) first.stand second.stand))
               (whole entry links linear (λ xs. refl) new before ((p, s) ∷ (q, t) ∷ after) (subst (λ (l : List ℕ). IsChain (links new) (linear l)) (append_assoc (indexes before) (p.0 ∷ []) (q.0 ∷ indexes after)) chain))
 
       -- .. and every text without the two stays

@@ -3,12 +3,12 @@ use Rattle.std.proofs.Common.{◌≡◌, ℕ, List, [], ◌∷◌, map, All, Con
 use Rattle.std.specs.List.{AllByRecursion}
 use Rattle.std.specs.Option.{option_map}
 use Rattle.std.proofs.lemmas.List.Elements.{All-contains}
-use Rattle.chain_laws.specs.Chains.{Shown, linear}
+use Rattle.chain_laws.specs.Chains.{LinkMap, linear}
 use Rattle.chain_laws.specs.Renamings.{IsRenaming, AreImages}
 use Rattle.chain_laws.proofs.RenamingLemmas.Chains.{renaming_carries_chains}
 use Rattle.chain_links.specs.ChainArena.{ptr_at}
 use Rattle.chain_compaction.specs.PointerMoves.{ArePointerMoves}
-use Rattle.chain_examples.specs.Lists.{Item, Stand, indexes, IsText}
+use Rattle.chain_examples.specs.Lists.{Item, AreEntries, indexes, IsText}
 use Rattle.chain_examples.specs.Renumbering.{Move, AreMovedTo}
 use Rattle.chain_examples.proofs.MappedListLemmas.{map_has_of}
 use Rattle.chain_examples.proofs.PointerPairLemmas.{move_keeps}
@@ -43,7 +43,7 @@ module _ {Gen T : Type 0} (entry : ℕ → Option (Gen × T)) (to : ℕ → Opti
 
 module _ {Gen T : Type 0} (before after : ℕ → Option (Gen × T)) (moves : List (Move Gen)) (moved : ArePointerMoves (λ (p : ℕ × Gen). p) before after moves) (to : ℕ → Option ℕ) (go : All (λ (m : Move Gen). to m.0.0 ≡ Some m.1.0) moves) where
   -- items that stand move to items that stand, at the images of their indexes
-  items_move : (text : List (Item Gen T)) → Stand before text → (items : List (Item Gen T)) × AreMovedTo moves text items × AreImages to (indexes text) (indexes items) × Stand after items
+  items_move : (text : List (Item Gen T)) → AreEntries before text → (items : List (Item Gen T)) × AreMovedTo moves text items × AreImages to (indexes text) (indexes items) × AreEntries after items
   items_move [] stand = ([], tt, tt, tt)
   items_move (e ∷ text) stand =
       let rest = items_move text stand.1 in
@@ -58,7 +58,7 @@ module _ {Gen T : Type 0} (before after : ℕ → Option (Gen × T)) (moves : Li
       )
 
 -- where links are renamed, and the entries move with them, each text is the text of the same items
-pub texts_move : {A Gen T : Type 0} (entry : A → ℕ → Option (Gen × T)) (links : A → Shown) (old new : A) (moves : List (Move Gen)) (to : ℕ → Option ℕ) → ArePointerMoves (λ (p : ℕ × Gen). p) (entry old) (entry new) moves
+pub texts_move : {A Gen T : Type 0} (entry : A → ℕ → Option (Gen × T)) (links : A → LinkMap) (old new : A) (moves : List (Move Gen)) (to : ℕ → Option ℕ) → ArePointerMoves (λ (p : ℕ × Gen). p) (entry old) (entry new) moves
     → All (λ (m : Move Gen). to m.0.0 ≡ Some m.1.0) moves → IsRenaming to (links old) (links new) → (text : List (Item Gen T)) → IsText entry links old text
     → (after : List (Item Gen T)) × AreMovedTo moves text after × IsText entry links new after
 texts_move entry links old new moves to moved go renaming text is =

@@ -2,63 +2,63 @@
 use Rattle.std.proofs.Common.{◌≡◌, ◌≢◌, ℕ, suc, ◌≤◌, inl, inr, List, [], ◌∷◌, ◌++◌, map, Option, None, Some, refl, sym, ap, ◌∙◌, subst, arith, eq-eqb}
 use Rattle.std.specs.Prelude.{is_some, Bool, true, false, cond, ◌==◌}
 use Rattle.std.proofs.lemmas.List.{map-append}
-use Rattle.chain_laws.specs.Chains.{Has, HasNoRepetition}
-use Rattle.chain_laws.proofs.ListLemmas.Members.{Has-left, Has-right}
+use Rattle.chain_laws.specs.Chains.{IsMember, AreDistinct}
+use Rattle.chain_laws.proofs.ListLemmas.Members.{IsMember-left, IsMember-right}
 use Rattle.arena_base.specs.Entries.{index_of, found, RisesFrom}
-use Rattle.chain_examples.specs.Lists.{Item, Stand, indexes}
+use Rattle.chain_examples.specs.Lists.{Item, AreEntries, indexes}
 
 module _ {Gen T : Type 0} where
-  pub stand-append : (entry : ℕ → Option (Gen × T)) (xs ys : List (Item Gen T)) → Stand entry xs → Stand entry ys → Stand entry (xs ++ ys)
+  pub stand-append : (entry : ℕ → Option (Gen × T)) (xs ys : List (Item Gen T)) → AreEntries entry xs → AreEntries entry ys → AreEntries entry (xs ++ ys)
   stand-append entry [] ys a b = b
   stand-append entry (x ∷ xs) ys a b = (a.0, stand-append entry xs ys a.1 b)
 
-  pub stand-left : (entry : ℕ → Option (Gen × T)) (xs ys : List (Item Gen T)) → Stand entry (xs ++ ys) → Stand entry xs
+  pub stand-left : (entry : ℕ → Option (Gen × T)) (xs ys : List (Item Gen T)) → AreEntries entry (xs ++ ys) → AreEntries entry xs
   stand-left entry [] ys a = tt
   stand-left entry (x ∷ xs) ys a = (a.0, stand-left entry xs ys a.1)
 
-  pub stand-right : (entry : ℕ → Option (Gen × T)) (xs ys : List (Item Gen T)) → Stand entry (xs ++ ys) → Stand entry ys
+  pub stand-right : (entry : ℕ → Option (Gen × T)) (xs ys : List (Item Gen T)) → AreEntries entry (xs ++ ys) → AreEntries entry ys
   stand-right entry [] ys a = a
   stand-right entry (x ∷ xs) ys a = stand-right entry xs ys a.1
 
   -- items stand where nothing at their indexes has changed
-  pub stand-frame : (old new : ℕ → Option (Gen × T)) (xs : List (Item Gen T)) → ((i : ℕ) → Has (indexes xs) i → new i ≡ old i) → Stand old xs → Stand new xs
+  pub stand-frame : (old new : ℕ → Option (Gen × T)) (xs : List (Item Gen T)) → ((i : ℕ) → IsMember (indexes xs) i → new i ≡ old i) → AreEntries old xs → AreEntries new xs
   stand-frame old new [] same s = tt
   stand-frame old new (x ∷ xs) same s = (same x.0.0 (inl refl) ∙ s.0, stand-frame old new xs (λ i has. same i (inr has)) s.1)
 
   -- what has the index of an item stands
-  pub stand-some : (entry : ℕ → Option (Gen × T)) (xs : List (Item Gen T)) (i : ℕ) → Stand entry xs → Has (indexes xs) i → is_some (entry i) ≡ true
+  pub stand-some : (entry : ℕ → Option (Gen × T)) (xs : List (Item Gen T)) (i : ℕ) → AreEntries entry xs → IsMember (indexes xs) i → is_some (entry i) ≡ true
   stand-some entry [] i s has = absurd has
   stand-some entry (x ∷ xs) i s (inl is) = ap (λ k. is_some (entry k)) (sym is) ∙ ap is_some s.0
   stand-some entry (x ∷ xs) i s (inr has) = stand-some entry xs i s.1 has
 
-  pub among-left : (xs ys : List (Item Gen T)) (i : ℕ) → Has (indexes xs) i → Has (indexes (xs ++ ys)) i
-  among-left xs ys i has = subst (λ (l : List ℕ). Has l i) (sym (map-append index_of xs ys)) (Has-left (map index_of xs) (map index_of ys) i has)
+  pub among-left : (xs ys : List (Item Gen T)) (i : ℕ) → IsMember (indexes xs) i → IsMember (indexes (xs ++ ys)) i
+  among-left xs ys i has = subst (λ (l : List ℕ). IsMember l i) (sym (map-append index_of xs ys)) (IsMember-left (map index_of xs) (map index_of ys) i has)
 
-  pub among-right : (xs ys : List (Item Gen T)) (i : ℕ) → Has (indexes ys) i → Has (indexes (xs ++ ys)) i
-  among-right xs ys i has = subst (λ (l : List ℕ). Has l i) (sym (map-append index_of xs ys)) (Has-right (map index_of xs) (map index_of ys) i has)
+  pub among-right : (xs ys : List (Item Gen T)) (i : ℕ) → IsMember (indexes ys) i → IsMember (indexes (xs ++ ys)) i
+  among-right xs ys i has = subst (λ (l : List ℕ). IsMember l i) (sym (map-append index_of xs ys)) (IsMember-right (map index_of xs) (map index_of ys) i has)
 
   -- an item has come to a free index: what stood stands
-  pub stand_kept : (entry after : ℕ → Option (Gen × T)) (p : ℕ × Gen) → entry p.0 ≡ None → ((i : ℕ) → i ≢ p.0 → after i ≡ entry i) → (xs : List (Item Gen T)) → Stand entry xs → Stand after xs
-  stand_kept entry after p free rest xs s = stand-frame entry after xs (λ i has. rest i (λ is. not_among (subst (λ (k : ℕ). Has (indexes xs) k) is has))) s
+  pub stand_kept : (entry after : ℕ → Option (Gen × T)) (p : ℕ × Gen) → entry p.0 ≡ None → ((i : ℕ) → i ≢ p.0 → after i ≡ entry i) → (xs : List (Item Gen T)) → AreEntries entry xs → AreEntries after xs
+  stand_kept entry after p free rest xs s = stand-frame entry after xs (λ i has. rest i (λ is. not_among (subst (λ (k : ℕ). IsMember (indexes xs) k) is has))) s
     where
-      not_among : Has (indexes xs) p.0 → ⊥
+      not_among : IsMember (indexes xs) p.0 → ⊥
       not_among has = let some = stand-some entry xs p.0 s has in let none = ap is_some free in let both = sym some ∙ none in cc
 
   -- entries by rising index have each index once
-  rises_low : (from i : ℕ) (es : List (Item Gen T)) → RisesFrom from es → Has (indexes es) i → from ≤ i
+  rises_low : (from i : ℕ) (es : List (Item Gen T)) → RisesFrom from es → IsMember (indexes es) i → from ≤ i
   rises_low from i [] rises has = absurd has
   rises_low from i (e ∷ es) rises (inl is) = omega (arith, rises.0, is)
   rises_low from i (e ∷ es) rises (inr has) = omega (arith, rises.0, rises_low (suc e.0.0) i es rises.1 has)
 
-  pub rises_once : (from : ℕ) (es : List (Item Gen T)) → RisesFrom from es → HasNoRepetition (indexes es)
+  pub rises_once : (from : ℕ) (es : List (Item Gen T)) → RisesFrom from es → AreDistinct (indexes es)
   rises_once from [] rises = tt
   rises_once from (e ∷ es) rises = (λ has. absurd (omega (arith, rises_low (suc e.0.0) e.0.0 es rises.1 has)), rises_once (suc e.0.0) es rises.1)
 
-  pub has_found : (i : ℕ) (es : List (Item Gen T)) → Has (indexes es) i → is_some (found i es) ≡ true
+  pub has_found : (i : ℕ) (es : List (Item Gen T)) → IsMember (indexes es) i → is_some (found i es) ≡ true
   has_found i [] has = absurd has
   has_found i (e ∷ es) has = by (e.0.0 == i) refl has (has_found i es)
     where
-      by : (b : Bool) → (e.0.0 == i) ≡ b → Has (indexes (e ∷ es)) i → (Has (indexes es) i → is_some (found i es) ≡ true) → is_some (cond b (Some (e.0.1, e.1)) (found i es)) ≡ true
+      by : (b : Bool) → (e.0.0 == i) ≡ b → IsMember (indexes (e ∷ es)) i → (IsMember (indexes es) i → is_some (found i es) ≡ true) → is_some (cond b (Some (e.0.1, e.1)) (found i es)) ≡ true
       by true same has rest = refl
       by false other (inl is) rest = absurd (let yes = eq-eqb e.0.0 i is in let both = sym yes ∙ other in cc)
       by false other (inr has) rest = rest has

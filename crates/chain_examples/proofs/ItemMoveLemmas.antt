@@ -2,67 +2,67 @@
 use Rattle.std.proofs.Common.{◌≡◌, ◌≢◌, ℕ, inl, inr, ⊎_elim, List, [], ◌∷◌, ◌++◌, Option, None, Some, refl, sym, ap, ◌∙◌, subst, subst₂, append_assoc, append-nil}
 use Rattle.std.specs.Prelude.{◌⊎◌, IfSome}
 use Rattle.std.proofs.lemmas.List.{map-append, reverse-append}
-use Rattle.chain_laws.specs.Chains.{Shown, linear, Has, HasNoRepetition}
+use Rattle.chain_laws.specs.Chains.{LinkMap, linear, IsMember, AreDistinct}
 use Rattle.chain_laws.proofs.ChainLemmas.MemberLaws.{chains_share_each}
-use Rattle.chain_laws.proofs.ListLemmas.Members.{HasNoRepetition-apart}
+use Rattle.chain_laws.proofs.ListLemmas.Members.{AreDistinct-apart}
 use Rattle.chain_laws.proofs.InterlinkLemmas.Inverses.{one_some}
 use Rattle.arena_base.specs.Entries.{index_of, first_key, last_key}
 use Rattle.chain_examples.specs.Lists.{Item, indexes, IsText, KeepsWithout}
-use Rattle.chain_examples.specs.Texts.{EndsIn, BeginsWith, AreJoined, IsClosed, StandsAlone, IsPutAfter, IsMovedAfter}
+use Rattle.chain_examples.specs.Texts.{EndsIn, BeginsWith, AreJoined, IsClosed, IsSeparated, IsPutAfter, IsMovedAfter}
 use Rattle.chain_examples.proofs.DocumentLemmas.{StandsWith, last_apart, last_is, filled, apart, has_left, has_right, has_parts}
 
 module _ {Gen T : Type 0} where
   -- the first and the last of a list stand in it
-  first_has : (k : ℕ × Gen) (xs : List (Item Gen T)) → Some k ≡ first_key xs → Has (indexes xs) k.0
+  first_has : (k : ℕ × Gen) (xs : List (Item Gen T)) → Some k ≡ first_key xs → IsMember (indexes xs) k.0
   first_has k [] first = absurd (cc)
   first_has k (x ∷ xs) first = inl (ap (λ (p : ℕ × Gen). p.0) (sym (one_some first)))
 
-  last_has : (k : ℕ × Gen) (xs : List (Item Gen T)) → Some k ≡ last_key xs → Has (indexes xs) k.0
+  last_has : (k : ℕ × Gen) (xs : List (Item Gen T)) → Some k ≡ last_key xs → IsMember (indexes xs) k.0
   last_has k [] last = absurd (cc)
   last_has k (x ∷ xs) last =
       let l = last_apart x xs in
       let same = one_some (last ∙ (ap last_key l.2 ∙ last_is l.0 l.1)) in
-      subst (λ (ys : List (Item Gen T)). Has (indexes ys) k.0) (sym l.2) (has_right l.0 (l.1 ∷ []) k.0 (inl (ap (λ (p : ℕ × Gen). p.0) (sym same))))
+      subst (λ (ys : List (Item Gen T)). IsMember (indexes ys) k.0) (sym l.2) (has_right l.0 (l.1 ∷ []) k.0 (inl (ap (λ (p : ℕ × Gen). p.0) (sym same))))
 
   -- an item more behind another: its index alone is new, and nothing is repeated
-  has_without : (before : List (Item Gen T)) (e f : Item Gen T) (after : List (Item Gen T)) (i : ℕ) → Has (indexes (before ++ e ∷ f ∷ after)) i → (f.0.0 ≡ i) ⊎ Has (indexes (before ++ e ∷ after)) i
+  has_without : (before : List (Item Gen T)) (e f : Item Gen T) (after : List (Item Gen T)) (i : ℕ) → IsMember (indexes (before ++ e ∷ f ∷ after)) i → (f.0.0 ≡ i) ⊎ IsMember (indexes (before ++ e ∷ after)) i
   has_without [] e f after i (inl is) = inr (inl is)
   has_without [] e f after i (inr (inl is)) = inl is
   has_without [] e f after i (inr (inr has)) = inr (inr has)
   has_without (b ∷ before) e f after i (inl is) = inr (inl is)
   has_without (b ∷ before) e f after i (inr has) = ⊎_elim (λ is. inl is) (λ h. inr (inr h)) (has_without before e f after i has)
 
-  once_with : (before : List (Item Gen T)) (e f : Item Gen T) (after : List (Item Gen T)) → HasNoRepetition (indexes (before ++ e ∷ after)) → (Has (indexes (before ++ e ∷ after)) f.0.0 → ⊥)
-      → HasNoRepetition (indexes (before ++ e ∷ f ∷ after))
+  once_with : (before : List (Item Gen T)) (e f : Item Gen T) (after : List (Item Gen T)) → AreDistinct (indexes (before ++ e ∷ after)) → (IsMember (indexes (before ++ e ∷ after)) f.0.0 → ⊥)
+      → AreDistinct (indexes (before ++ e ∷ f ∷ after))
   once_with [] e f after once new = (λ has. ⊎_elim (λ is. new (inl (sym is))) once.0 has, (λ has. new (inr has), once.1))
   once_with (b ∷ before) e f after once new =
       (λ has. ⊎_elim (λ is. new (inl (sym is))) once.0 (has_without before e f after b.0.0 has), once_with before e f after once.1 (λ has. new (inr has)))
 
-module _ {A Gen T : Type 0} (entry : A → ℕ → Option (Gen × T)) (links : A → Shown) where
+module _ {A Gen T : Type 0} (entry : A → ℕ → Option (Gen × T)) (links : A → LinkMap) where
   module _ (old new : A) where
     -- the texts of two pointers are joined ..
     pub closes_both : (p q : ℕ × Gen) → AreJoined entry links old new p q → KeepsWithout entry links linear old new (p ∷ q ∷ []) → IsClosed entry links old new (Some p) (Some q)
     closes_both p q joined kept = record { texts = texts; others = λ xs lacks_p lacks_q is. kept xs (lacks_p, (lacks_q, tt)) is }
       where
         texts : (before after : List (Item Gen T)) → Some p ≡ last_key before → Some q ≡ first_key after → (before ≢ [] → IsText entry links old before) → (after ≢ [] → IsText entry links old after)
-            → HasNoRepetition (indexes (before ++ after)) → before ++ after ≢ [] → IsText entry links new (before ++ after)
+            → AreDistinct (indexes (before ++ after)) → before ++ after ≢ [] → IsText entry links new (before ++ after)
         texts [] after last first left right once something = absurd (cc)
         texts (b ∷ bs) [] last first left right once something = absurd (cc)
         texts (b ∷ bs) (f ∷ fs) last first left right once something =
             let l = last_apart b bs in
             let p_is : p ≡ l.1.0 = one_some (last ∙ (ap last_key l.2 ∙ last_is l.0 l.1)) in
             let here = subst₂ (AreJoined entry links old new) p_is (one_some first) joined in
-            let two = subst HasNoRepetition (map-append index_of (b ∷ bs) (f ∷ fs)) once in
+            let two = subst AreDistinct (map-append index_of (b ∷ bs) (f ∷ fs)) once in
             subst (IsText entry links new) (sym (ap (λ (xs : List (Item Gen T)). xs ++ f ∷ fs) l.2 ∙ append_assoc l.0 (l.1 ∷ []) (f ∷ fs)))
             (here l.1.1 f.1 l.0 fs (subst (IsText entry links old) l.2 (left (λ h. cc))) (right (λ h. cc))
-            (λ has. HasNoRepetition-apart (indexes (b ∷ bs)) (indexes (f ∷ fs)) f.0.0 two (subst (λ (xs : List (Item Gen T)). Has (indexes xs) f.0.0) (sym l.2) has) (inl refl)))
+            (λ has. AreDistinct-apart (indexes (b ∷ bs)) (indexes (f ∷ fs)) f.0.0 two (subst (λ (xs : List (Item Gen T)). IsMember (indexes xs) f.0.0) (sym l.2) has) (inl refl)))
 
     -- .. and where either is missing nothing has to change
     pub closes_left : (u : Option (ℕ × Gen)) → new ≡ old → IsClosed entry links old new u None
     closes_left u stay = record { texts = texts; others = λ xs lacks_u lacks_v is. subst (λ (a : A). IsText entry links a xs) (sym stay) is }
       where
         texts : (before after : List (Item Gen T)) → u ≡ last_key before → None ≡ first_key after → (before ≢ [] → IsText entry links old before) → (after ≢ [] → IsText entry links old after)
-            → HasNoRepetition (indexes (before ++ after)) → before ++ after ≢ [] → IsText entry links new (before ++ after)
+            → AreDistinct (indexes (before ++ after)) → before ++ after ≢ [] → IsText entry links new (before ++ after)
         texts before [] last first left right once something =
             let all = append-nil before in
             subst₂ (IsText entry links) (sym stay) (sym all) (left (λ none. something (all ∙ none)))
@@ -72,12 +72,12 @@ module _ {A Gen T : Type 0} (entry : A → ℕ → Option (Gen × T)) (links : A
     closes_right v stay = record { texts = texts; others = λ xs lacks_u lacks_v is. subst (λ (a : A). IsText entry links a xs) (sym stay) is }
       where
         texts : (before after : List (Item Gen T)) → None ≡ last_key before → v ≡ first_key after → (before ≢ [] → IsText entry links old before) → (after ≢ [] → IsText entry links old after)
-            → HasNoRepetition (indexes (before ++ after)) → before ++ after ≢ [] → IsText entry links new (before ++ after)
+            → AreDistinct (indexes (before ++ after)) → before ++ after ≢ [] → IsText entry links new (before ++ after)
         texts [] after last first left right once something = subst (λ (a : A). IsText entry links a after) (sym stay) (right something)
         texts (b ∷ bs) after last first left right once something = absurd (let l = last_apart b bs in let some = ap last_key l.2 ∙ last_is l.0 l.1 in let both = last ∙ some in cc)
 
   -- such an item stands in no text without p
-  apart_from : (a : A) (p : ℕ × Gen) (o : Option (ℕ × Gen)) (xs : List (Item Gen T)) → StandsWith entry links a p o → IsText entry links a xs → (Has (indexes xs) p.0 → ⊥) → IfSome o (λ k. ¬ Has (indexes xs) k.0)
+  apart_from : (a : A) (p : ℕ × Gen) (o : Option (ℕ × Gen)) (xs : List (Item Gen T)) → StandsWith entry links a p o → IsText entry links a xs → (IsMember (indexes xs) p.0 → ⊥) → IfSome o (λ k. ¬ IsMember (indexes xs) k.0)
   apart_from a p None xs with is lacks = tt
   apart_from a p (Some k) xs with is lacks = λ has. lacks (with xs is has)
 
@@ -85,20 +85,20 @@ module _ {A Gen T : Type 0} (entry : A → ℕ → Option (Gen × T)) (links : A
     -- breaks before and after p, and a join of what it stood between: p stands alone ..
     pub stands_alone : BeginsWith entry links old begun p → EndsIn entry links begun ended p → KeepsWithout entry links linear begun ended (p ∷ []) → IsClosed entry links ended new u v
         → ((t : T) (before after : List (Item Gen T)) → IsText entry links old (before ++ (p, t) ∷ after) → u ≡ last_key before)
-        → ((t : T) (before after : List (Item Gen T)) → IsText entry links old (before ++ (p, t) ∷ after) → v ≡ first_key after) → StandsAlone entry links old new p
+        → ((t : T) (before after : List (Item Gen T)) → IsText entry links old (before ++ (p, t) ∷ after) → v ≡ first_key after) → IsSeparated entry links old new p
     stands_alone begins ends kept closed u_is v_is t before after is =
         let begin = begins t before after is in
         let end = ends t [] after begin.0 in
         let two = apart before (p, t) after is.chain.1 in
         let last = u_is t before after is in
         let first = v_is t before after is in (
-          closed.others ((p, t) ∷ []) (off u (λ k is_u. two.0 (has_left before after p.0 (subst (Has (indexes before)) (sym (is_u.0)) (last_has k before (sym is_u.1 ∙ last))))))
-              (off v (λ k is_v. two.0 (has_right before after p.0 (subst (Has (indexes after)) (sym (is_v.0)) (first_has k after (sym is_v.1 ∙ first))))))
+          closed.others ((p, t) ∷ []) (off u (λ k is_u. two.0 (has_left before after p.0 (subst (IsMember (indexes before)) (sym (is_u.0)) (last_has k before (sym is_u.1 ∙ last))))))
+              (off v (λ k is_v. two.0 (has_right before after p.0 (subst (IsMember (indexes after)) (sym (is_v.0)) (first_has k after (sym is_v.1 ∙ first))))))
               end.0,
           λ something. closed.texts before after last first (λ some. kept before ((λ has. two.0 (has_left before after p.0 has)), tt) (begin.1 some)) end.1 two.1 something,
         )
       where
-        off : (o : Option (ℕ × Gen)) → ((k : ℕ × Gen) → (p.0 ≡ k.0) × (o ≡ Some k) → ⊥) → IfSome o (λ k. ¬ Has (indexes ((p, t) ∷ [])) k.0)
+        off : (o : Option (ℕ × Gen)) → ((k : ℕ × Gen) → (p.0 ≡ k.0) × (o ≡ Some k) → ⊥) → IfSome o (λ k. ¬ IsMember (indexes ((p, t) ∷ [])) k.0)
         off None never = tt
         off (Some k) never = λ has. ⊎_elim (λ same. never k (same, refl)) (λ none. none) has
 
@@ -116,17 +116,17 @@ module _ {A Gen T : Type 0} (entry : A → ℕ → Option (Gen × T)) (links : A
         let end = ends s before after is in
         let once = is.chain.1 in
         let two = apart before (q, s) after once in
-        let no_q : Has (indexes ((p, t) ∷ [])) q.0 → ⊥ = λ has. ⊎_elim other (λ none. none) has in
-        let no_p : Has (indexes (before ++ (q, s) ∷ after)) p.0 → ⊥ =
+        let no_q : IsMember (indexes ((p, t) ∷ [])) q.0 → ⊥ = λ has. ⊎_elim other (λ none. none) has in
+        let no_p : IsMember (indexes (before ++ (q, s) ∷ after)) p.0 → ⊥ =
         λ has. no_q ((chains_share_each (links old) (linear (p.0 ∷ [])) (linear (indexes (before ++ (q, s) ∷ after))) p.0 q.0 alone.chain is.chain (inl refl) has).1 (has_right before ((q, s) ∷ after) q.0 (inl refl))) in
         let left = joins s t before [] end.0 (kept ((p, t) ∷ []) (no_q, tt) alone) (λ has. no_p (in_both has)) in
         subst (IsText entry links new) (append_assoc before ((q, s) ∷ (p, t) ∷ []) after)
         (closed.texts (before ++ (q, s) ∷ (p, t) ∷ []) after (sym (ap first_key (reverse-append before ((q, s) ∷ (p, t) ∷ [])))) (v_is s before after is) (λ some. left)
         (λ some. stay after ((λ has. two.0 (has_right before after q.0 has)), ((λ has. no_p (has_right before ((q, s) ∷ after) p.0 (inr has))), tt)) (end.1 some))
-        (subst (λ (xs : List (Item Gen T)). HasNoRepetition (indexes xs)) (sym (append_assoc before ((q, s) ∷ (p, t) ∷ []) after)) (once_with before (q, s) (p, t) after once no_p))
+        (subst (λ (xs : List (Item Gen T)). AreDistinct (indexes xs)) (sym (append_assoc before ((q, s) ∷ (p, t) ∷ []) after)) (once_with before (q, s) (p, t) after once no_p))
         (λ none. filled before (q, s) ((p, t) ∷ after) (sym (append_assoc before ((q, s) ∷ (p, t) ∷ []) after) ∙ none)))
       where
-        in_both : Has (indexes (before ++ (q, s) ∷ [])) p.0 → Has (indexes (before ++ (q, s) ∷ after)) p.0
+        in_both : IsMember (indexes (before ++ (q, s) ∷ [])) p.0 → IsMember (indexes (before ++ (q, s) ∷ after)) p.0
         in_both has = ⊎_elim (λ l. has_left before ((q, s) ∷ after) p.0 l) (λ r. ⊎_elim (λ same. has_right before ((q, s) ∷ after) p.0 (inl same)) (λ none. absurd none) r) (has_parts before ((q, s) ∷ []) p.0 has)
 
     -- .. and every text without the two stays
@@ -134,7 +134,7 @@ module _ {A Gen T : Type 0} (entry : A → ℕ → Option (Gen × T)) (links : A
         → StandsWith entry links old q v → KeepsWithout entry links linear old new (p ∷ q ∷ [])
     keeps_put end join closed with_v xs lacks is = closed.others xs lacks.0 (apart_from old q v xs with_v is lacks.1.0) (join xs (lacks.1.0, (lacks.0, tt)) (end xs (lacks.1.0, tt) is))
 
-  module _ (old alone new : A) (p q : ℕ × Gen) (stands : StandsAlone entry links old alone p) (others : KeepsWithout entry links linear old alone (p ∷ [])) (put : IsPutAfter entry links alone new p q)
+  module _ (old alone new : A) (p q : ℕ × Gen) (stands : IsSeparated entry links old alone p) (others : KeepsWithout entry links linear old alone (p ∷ [])) (put : IsPutAfter entry links alone new p q)
       (rest : KeepsWithout entry links linear alone new (p ∷ q ∷ [])) where
     -- the item of p stands alone, and then comes after q: it is moved
     pub moved_after : IsMovedAfter entry links old new p q
@@ -143,11 +143,11 @@ module _ {A Gen T : Type 0} (entry : A → ℕ → Option (Gen × T)) (links : A
           let one = stands t before after is in
           let two = apart before (p, t) after is.chain.1 in
           put s t left right one.0 (subst (IsText entry links alone) same (one.1 (λ none. filled left (q, s) right (sym same ∙ none))))
-          (λ is_q. two.0 (subst (λ (xs : List (Item Gen T)). Has (indexes xs) p.0) (sym same) (has_right left ((q, s) ∷ right) p.0 (inl (sym is_q)))));
+          (λ is_q. two.0 (subst (λ (xs : List (Item Gen T)). IsMember (indexes xs) p.0) (sym same) (has_right left ((q, s) ∷ right) p.0 (inl (sym is_q)))));
       across = λ s t before after left right is there apart_q.
           let one = stands t before after is in
           let two = apart before (p, t) after is.chain.1 in
-          let no_p : Has (indexes (left ++ (q, s) ∷ right)) p.0 → ⊥ = λ has. apart_q ((chains_share_each (links old) (linear (indexes (before ++ (p, t) ∷ after))) (linear (indexes (left ++ (q, s) ∷ right))) p.0 q.0
+          let no_p : IsMember (indexes (left ++ (q, s) ∷ right)) p.0 → ⊥ = λ has. apart_q ((chains_share_each (links old) (linear (indexes (before ++ (p, t) ∷ after))) (linear (indexes (left ++ (q, s) ∷ right))) p.0 q.0
           is.chain there.chain (has_right before ((p, t) ∷ after) p.0 (inl refl)) has).1 (has_right left ((q, s) ∷ right) q.0 (inl refl))) in (
             put s t left right one.0 (others (left ++ (q, s) ∷ right) (no_p, tt) there) (λ is_q. apart_q (has_right before ((p, t) ∷ after) q.0 (inl is_q))),
             λ something. rest (before ++ after) (two.0, ((λ has. apart_q (⊎_elim (λ l. has_left before ((p, t) ∷ after) q.0 l) (λ r. has_right before ((p, t) ∷ after) q.0 (inr r)) (has_parts before after q.0 has))), tt))

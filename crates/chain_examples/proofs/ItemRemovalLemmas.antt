@@ -1,12 +1,12 @@
 -- An entry that was removed from an arena of links, or none: what becomes of lists.
 use Rattle.std.proofs.Common.{◌≡◌, ◌≢◌, ℕ, List, [], ◌∷◌, ◌++◌, Option, None, Some, refl, sym, subst}
 use Rattle.std.specs.Prelude.{is_some, true, IfSome, OnSome}
-use Rattle.chain_laws.specs.Chains.{Shown, Chain, items, IsChain, Agrees}
+use Rattle.chain_laws.specs.Chains.{LinkMap, Chain, items, IsChain, IsWellLinked}
 use Rattle.chain_laws.specs.Removals.{Removes}
-use Rattle.arena_base.specs.Entries.{Seen}
+use Rattle.arena_base.specs.Entries.{ArenaView}
 use Rattle.chain_traits.proofs.GenericRemovalLemmas.{TakesEntry}
 use Rattle.chain_examples.specs.Lists.{KeepsWithout, Leaves}
-use Rattle.chain_examples.specs.Rings.{GoesRound}
+use Rattle.chain_examples.specs.Rings.{AllCyclic}
 use Rattle.chain_examples.proofs.ListChangeLemmas.{leaves, keeps_left}
 use Rattle.chain_examples.proofs.MeshInvariantLemmas.{round_removed}
 
@@ -15,10 +15,10 @@ pub where_some : {R Z : Type 0} (o : Option R) → (is_some o ≡ true → Z) �
 where_some None so = tt
 where_some (Some r) so = so refl
 
-module _ {A Gen T : Type 0} (seen : A → Seen Gen T) (entry : A → ℕ → Option (Gen × T)) (links : A → Shown) (old new : A) (p : ℕ × Gen) where
-  pub round_of : (o : Option T) → TakesEntry seen entry links old new p o → Agrees (links old) → GoesRound (links old) → GoesRound (links new)
-  round_of None r agrees round = subst (λ (a : A). GoesRound (links a)) (sym (r.same refl)) round
-  round_of (Some t) r agrees round = subst GoesRound (sym (r.some refl).shows) (round_removed (links old) p.0 agrees round)
+module _ {A Gen T : Type 0} (seen : A → ArenaView Gen T) (entry : A → ℕ → Option (Gen × T)) (links : A → LinkMap) (old new : A) (p : ℕ × Gen) where
+  pub round_of : (o : Option T) → TakesEntry seen entry links old new p o → IsWellLinked (links old) → AllCyclic (links old) → AllCyclic (links new)
+  round_of None r agrees round = subst (λ (a : A). AllCyclic (links a)) (sym (r.same refl)) round
+  round_of (Some t) r agrees round = subst AllCyclic (sym (r.some refl).shows) (round_removed (links old) p.0 agrees round)
 
   module _ (shape : List ℕ → Chain) (written : (xs : List ℕ) → items (shape xs) ≡ xs) where
     pub leaves_of : (o : Option T) → TakesEntry seen entry links old new p o

@@ -2,18 +2,18 @@
 use Rattle.std.proofs.Common.{◌≡◌, ◌≢◌, ℕ, List, [], ◌∷◌, ◌++◌, Option, None, Some, refl, sym, ap, ◌∙◌, subst}
 use Rattle.std.specs.Prelude.{is_some, false}
 use Rattle.std.proofs.lemmas.List.{map-append}
-use Rattle.chain_laws.specs.Chains.{Shown, Interlinks, Chain, linear, cyclic, items, IsChain, Has, HasNoRepetition, Agrees}
+use Rattle.chain_laws.specs.Chains.{LinkMap, Interlinks, Chain, linear, cyclic, items, IsChain, IsMember, AreDistinct, IsWellLinked}
 use Rattle.chain_laws.specs.Insertions.{InsertKind, Inserts, link_before, link_after}
-use Rattle.chain_laws.specs.Frame.{Lacks, named}
+use Rattle.chain_laws.specs.Frame.{IsDisjointFrom, indexes_of_kind}
 use Rattle.chain_laws.proofs.ChainLemmas.Frame.{insertion_keeps_others}
 use Rattle.chain_laws.proofs.ListLemmas.MemberLaws.{once_in_middle}
 use Rattle.arena_base.specs.Entries.{index_of}
 use Rattle.chain_links.specs.ChainArena.{IsInserted}
-use Rattle.chain_examples.specs.Lists.{Item, Stand, indexes, Lies, KeepsWithout, ComesAfter, ComesBefore, Leaves}
+use Rattle.chain_examples.specs.Lists.{Item, AreEntries, indexes, IsListOf, KeepsWithout, InsertsAfter, InsertsBefore, Leaves}
 use Rattle.chain_examples.proofs.ItemListLemmas.{stand-append, stand-left, stand-right, stand-frame, stand_kept}
 
 -- where no entry stands no link does
-pub unlinked : {Gen T : Type 0} (entry : ℕ → Option (Gen × T)) (links : Shown) (i : ℕ) → is_some (links i) ≡ is_some (entry i) → entry i ≡ None → links i ≡ None
+pub unlinked : {Gen T : Type 0} (entry : ℕ → Option (Gen × T)) (links : LinkMap) (i : ℕ) → is_some (links i) ≡ is_some (entry i) → entry i ≡ None → links i ≡ None
 unlinked entry links i alike free = by (links i) (alike ∙ ap is_some free)
   where
     by : (o : Option Interlinks) → is_some o ≡ false → o ≡ None
@@ -25,17 +25,17 @@ pub no_items : {Gen T : Type 0} (xs : List (Item Gen T)) → indexes xs ≡ [] �
 no_items [] none = refl
 no_items (x ∷ xs) none = absurd (cc)
 
-members_once : (links : Shown) (c : Chain) → IsChain links c → HasNoRepetition (items c)
+members_once : (links : LinkMap) (c : Chain) → IsChain links c → AreDistinct (items c)
 members_once links (linear xs) is = is.1
 members_once links (cyclic xs) is = is.1
 
-module _ {A Gen T : Type 0} (entry : A → ℕ → Option (Gen × T)) (links : A → Shown) (shape : List ℕ → Chain) (written : (xs : List ℕ) → items (shape xs) ≡ xs) where
+module _ {A Gen T : Type 0} (entry : A → ℕ → Option (Gen × T)) (links : A → LinkMap) (shape : List ℕ → Chain) (written : (xs : List ℕ) → items (shape xs) ≡ xs) where
   -- an index of a list is one of its chain, once
-  of_chain : (xs : List ℕ) (i : ℕ) → Has xs i → Has (items (shape xs)) i
-  of_chain xs i = subst (λ (l : List ℕ). Has l i) (sym (written xs))
+  of_chain : (xs : List ℕ) (i : ℕ) → IsMember xs i → IsMember (items (shape xs)) i
+  of_chain xs i = subst (λ (l : List ℕ). IsMember l i) (sym (written xs))
 
-  once : (a : A) (xs : List ℕ) → IsChain (links a) (shape xs) → HasNoRepetition xs
-  once a xs is = subst HasNoRepetition (written xs) (members_once (links a) (shape xs) is)
+  once : (a : A) (xs : List ℕ) → IsChain (links a) (shape xs) → AreDistinct xs
+  once a xs is = subst AreDistinct (written xs) (members_once (links a) (shape xs) is)
 
   -- a list in two parts has the indexes of both
   pub parts : (a : A) (xs ys : List (Item Gen T)) → IsChain (links a) (shape (indexes (xs ++ ys))) → IsChain (links a) (shape (indexes xs ++ indexes ys))
@@ -47,12 +47,12 @@ module _ {A Gen T : Type 0} (entry : A → ℕ → Option (Gen × T)) (links : A
   module _ (old new : A) where
     -- an item has come ..
     module _ (q : ℕ × Gen) (t : T) (came : IsInserted (entry old) (entry new) q t) where
-      kept : (xs : List (Item Gen T)) → Stand (entry old) xs → Stand (entry new) xs
+      kept : (xs : List (Item Gen T)) → AreEntries (entry old) xs → AreEntries (entry new) xs
       kept = stand_kept (entry old) (entry new) q came.free came.rest
 
       -- .. directly after another ..
       pub comes_after : (p : ℕ × Gen) → ((x y : List ℕ) → IsChain (links old) (shape (x ++ p.0 ∷ y)) → IsChain (links new) (shape (x ++ p.0 ∷ q.0 ∷ y)))
-          → ComesAfter entry links shape old new p (q, t)
+          → InsertsAfter entry links shape old new p (q, t)
       comes_after p grows s before after is =
           let right = stand-right (entry old) before ((p, s) ∷ after) is.stand in
           record {
@@ -63,7 +63,7 @@ module _ {A Gen T : Type 0} (entry : A → ℕ → Option (Gen × T)) (links : A
 
       -- .. or directly before it ..
       pub comes_before : (p : ℕ × Gen) → ((x y : List ℕ) → IsChain (links old) (shape (x ++ p.0 ∷ y)) → IsChain (links new) (shape (x ++ q.0 ∷ p.0 ∷ y)))
-          → ComesBefore entry links shape old new p (q, t)
+          → InsertsBefore entry links shape old new p (q, t)
       comes_before p grows s before after is = record {
         chain = whole new before ((q, t) ∷ (p, s) ∷ after) (grows (indexes before) (indexes after) (parts old before ((p, s) ∷ after) is.chain));
         stand = stand-append (entry new) before ((q, t) ∷ (p, s) ∷ after) (kept before (stand-left (entry old) before ((p, s) ∷ after) is.stand))
@@ -71,9 +71,9 @@ module _ {A Gen T : Type 0} (entry : A → ℕ → Option (Gen × T)) (links : A
       }
 
       -- .. and every list without those that it came beside stays
-      pub keeps_others : (kind : InsertKind ℕ) → Agrees (links old) → is_some (links old q.0) ≡ is_some (entry old q.0)
+      pub keeps_others : (kind : InsertKind ℕ) → IsWellLinked (links old) → is_some (links old q.0) ≡ is_some (entry old q.0)
           → Inserts (links old) (links new) q.0 (link_before (links old) kind q.0) (link_after (links old) kind q.0)
-          → (xs : List (Item Gen T)) → Lacks (shape (indexes xs)) (named kind) → Lies entry links shape old xs → Lies entry links shape new xs
+          → (xs : List (Item Gen T)) → IsDisjointFrom (shape (indexes xs)) (indexes_of_kind kind) → IsListOf entry links shape old xs → IsListOf entry links shape new xs
       keeps_others kind agrees alike inserts xs lacks is = record {
         chain = insertion_keeps_others (links old) (links new) kind q.0 agrees (unlinked (entry old) (links old) q.0 alike came.free) inserts (shape (indexes xs)) lacks is.chain;
         stand = kept xs is.stand;
@@ -88,18 +88,18 @@ module _ {A Gen T : Type 0} (entry : A → ℕ → Option (Gen × T)) (links : A
         record {
           chain = whole new before after (shrinks (indexes before) (indexes after) chain (λ none. filled (no_items (before ++ after) (map-append index_of before after ∙ none))));
           stand = stand-frame (entry old) (entry new) (before ++ after)
-              (λ i has. same i (λ is_e. apart (subst (λ (l : List ℕ). Has l e.0.0) (map-append index_of before after) (subst (Has (indexes (before ++ after))) is_e has))))
+              (λ i has. same i (λ is_e. apart (subst (λ (l : List ℕ). IsMember l e.0.0) (map-append index_of before after) (subst (IsMember (indexes (before ++ after))) is_e has))))
               (stand-append (entry old) before after (stand-left (entry old) before (e ∷ after) is.stand) (stand-right (entry old) before (e ∷ after) is.stand).1);
         }
 
     -- .. and every list without it stays
     pub keeps_left : (p : ℕ × Gen) → ((i : ℕ) → i ≢ p.0 → entry new i ≡ entry old i)
-        → ((c : Chain) → (Has (items c) p.0 → ⊥) → IsChain (links old) c → IsChain (links new) c) → KeepsWithout entry links shape old new (p ∷ [])
+        → ((c : Chain) → (IsMember (items c) p.0 → ⊥) → IsChain (links old) c → IsChain (links new) c) → KeepsWithout entry links shape old new (p ∷ [])
     keeps_left p same rest xs lacks is = record {
       chain = rest (shape (indexes xs)) lacks.0 is.chain;
-      stand = stand-frame (entry old) (entry new) xs (λ i has. same i (λ is_p. lacks.0 (of_chain (indexes xs) p.0 (subst (Has (indexes xs)) is_p has)))) is.stand;
+      stand = stand-frame (entry old) (entry new) xs (λ i has. same i (λ is_p. lacks.0 (of_chain (indexes xs) p.0 (subst (IsMember (indexes xs)) is_p has)))) is.stand;
     }
 
     -- where all that stood stands, a list lies there if its chain does
-    pub stays : entry new ≡ entry old → (xs : List (Item Gen T)) → Stand (entry old) xs → IsChain (links new) (shape (indexes xs)) → Lies entry links shape new xs
-    stays same xs stand chain = record { chain = chain; stand = subst (λ (f : ℕ → Option (Gen × T)). Stand f xs) (sym same) stand }
+    pub stays : entry new ≡ entry old → (xs : List (Item Gen T)) → AreEntries (entry old) xs → IsChain (links new) (shape (indexes xs)) → IsListOf entry links shape new xs
+    stays same xs stand chain = record { chain = chain; stand = subst (λ (f : ℕ → Option (Gen × T)). AreEntries f xs) (sym same) stand }

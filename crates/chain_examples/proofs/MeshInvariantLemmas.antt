@@ -2,7 +2,7 @@
 use Rattle.std.proofs.Common.{◌≡◌, ◌≢◌, ℕ, inl, inr, ⊎_elim, List, [], ◌∷◌, Option, None, Some, refl, sym, ap, ◌∙◌, subst}
 use Rattle.std.specs.Prelude.{◌⊎◌, is_some, true}
 use Rattle.std.proofs.lemmas.Bool.{cases_eq}
-use Rattle.chain_laws.specs.Chains.{Shown, Interlinks, linear, last_or, HasLinksWithin, cyclic, IsChain, Has, HasLink, Agrees, next_of, prev_of, prev_in}
+use Rattle.chain_laws.specs.Chains.{LinkMap, Interlinks, linear, last_or, HasLinksWithin, cyclic, IsChain, IsMember, HasLink, IsWellLinked, next_of, prev_of, prev_in}
 use Rattle.chain_laws.specs.Insertions.{InsertsPairs}
 use Rattle.chain_laws.specs.Removals.{RemovesPairs, removed}
 use Rattle.chain_laws.proofs.ChainLemmas.Existence.{ChainOf, stands_in, has_chain}
@@ -10,7 +10,7 @@ use Rattle.chain_laws.proofs.ChainLemmas.Rotations.{turned_to}
 use Rattle.chain_laws.proofs.ChainLemmas.MemberLaws.{lines_end, rings_go_round, members_are_links}
 use Rattle.chain_laws.proofs.InterlinkLemmas.Inverses.{one_some}
 use Rattle.chain_laws.proofs.RemovalLemmas.Pairs.{removed_in_pairs}
-use Rattle.chain_examples.specs.Rings.{GoesRound}
+use Rattle.chain_examples.specs.Rings.{AllCyclic}
 
 -- what is some, is some item
 pub some_item : {X : Type 0} (o : Option X) → is_some o ≡ true → (x : X) × (o ≡ Some x)
@@ -18,7 +18,7 @@ some_item None some = absurd (cc)
 some_item (Some x) some = (x, refl)
 
 -- where a link comes between two, one comes after each still
-pub round_inserted : (old new : Shown) (q a b : ℕ) → InsertsPairs old new q (Some a) (Some b) → ((i : ℕ) → i ≢ q → HasLink old i → is_some (next_of old i) ≡ true) → GoesRound new
+pub round_inserted : (old new : LinkMap) (q a b : ℕ) → InsertsPairs old new q (Some a) (Some b) → ((i : ℕ) → i ≢ q → HasLink old i → is_some (next_of old i) ≡ true) → AllCyclic new
 round_inserted old new q a b inserts round i has = ⊎_elim
     (λ is_a. ap is_some ((inserts.pairs i q).1 (inr (inl (ap Some (sym is_a), refl)))))
     (λ not_a. ⊎_elim (λ is_q. ap is_some ((inserts.pairs i b).1 (inr (inr (is_q, refl))))) (λ not_q. stays not_a not_q ((inserts.links i).0 has)) (cases_eq i q))
@@ -29,41 +29,41 @@ round_inserted old new q a b inserts round i has = ⊎_elim
     stays not_a not_q (inr is_q) = absurd (not_q is_q)
 
 -- .. and so where one comes after another
-pub round_after : (old new : Shown) (q a : ℕ) → InsertsPairs old new q (Some a) (next_of old a) → HasLink old a → GoesRound old → GoesRound new
+pub round_after : (old new : LinkMap) (q a : ℕ) → InsertsPairs old new q (Some a) (next_of old a) → HasLink old a → AllCyclic old → AllCyclic new
 round_after old new q a inserts has round =
     let next = some_item (next_of old a) (round a has) in
     round_inserted old new q a next.0 (subst (InsertsPairs old new q (Some a)) next.1 inserts) (λ i other at. round i at)
 
 -- .. where one goes
-pub round_removed : (shown : Shown) (q : ℕ) → Agrees shown → GoesRound shown → GoesRound (removed shown q)
-round_removed shown q agrees round i has = goes_on (some_item (next_of shown i) (round i was.0))
+pub round_removed : (link_map : LinkMap) (q : ℕ) → IsWellLinked link_map → AllCyclic link_map → AllCyclic (removed link_map q)
+round_removed link_map q agrees round i has = goes_on (some_item (next_of link_map i) (round i was.0))
   where
-    removes : RemovesPairs shown (removed shown q) q
-    removes = removed_in_pairs shown q agrees
+    removes : RemovesPairs link_map (removed link_map q) q
+    removes = removed_in_pairs link_map q agrees
 
-    was : HasLink shown i × (i ≢ q)
+    was : HasLink link_map i × (i ≢ q)
     was = (removes.links i).0 has
 
-    linked_back : (o : Option Interlinks) → shown q ≡ o → prev_in o ≡ Some i → HasLink shown q
+    linked_back : (o : Option Interlinks) → link_map q ≡ o → prev_in o ≡ Some i → HasLink link_map q
     linked_back None is prev = absurd (cc)
     linked_back (Some link) is prev = record { link = link; shows = is }
 
-    goes_over : prev_of shown q ≡ Some i → (on : (k : ℕ) × (next_of shown q ≡ Some k)) → is_some (next_of (removed shown q) i) ≡ true
+    goes_over : prev_of link_map q ≡ Some i → (on : (k : ℕ) × (next_of link_map q ≡ Some k)) → is_some (next_of (removed link_map q) i) ≡ true
     goes_over prev (k, on) = ap is_some ((removes.pairs i k).1 (inr (prev, on, was.1, λ back. was.1 (one_some (sym prev ∙ (agrees.both q q).0 (on ∙ ap Some back))))))
 
-    over : (j : ℕ) → next_of shown i ≡ Some j → j ≡ q → is_some (next_of (removed shown q) i) ≡ true
-    over j next is_q = let prev = (agrees.both i q).0 (next ∙ ap Some is_q) in goes_over prev (some_item (next_of shown q) (round q (linked_back (shown q) refl prev)))
+    over : (j : ℕ) → next_of link_map i ≡ Some j → j ≡ q → is_some (next_of (removed link_map q) i) ≡ true
+    over j next is_q = let prev = (agrees.both i q).0 (next ∙ ap Some is_q) in goes_over prev (some_item (next_of link_map q) (round q (linked_back (link_map q) refl prev)))
 
-    goes_on : (j : ℕ) × (next_of shown i ≡ Some j) → is_some (next_of (removed shown q) i) ≡ true
+    goes_on : (j : ℕ) × (next_of link_map i ≡ Some j) → is_some (next_of (removed link_map q) i) ≡ true
     goes_on (j, next) = ⊎_elim (over j next) (λ other. ap is_some ((removes.pairs i j).1 (inl (next, was.1, other)))) (cases_eq j q)
 
 -- the last of a list stands in it
-last_in : (xs : List ℕ) (b : ℕ) → (k : ℕ) × (last_or xs (Some b) ≡ Some k) × ((b ≡ k) ⊎ Has xs k)
+last_in : (xs : List ℕ) (b : ℕ) → (k : ℕ) × (last_or xs (Some b) ≡ Some k) × ((b ≡ k) ⊎ IsMember xs k)
 last_in [] b = (b, refl, inl refl)
 last_in (x ∷ xs) b = let last = last_in xs x in (last.0, last.1, inr last.2)
 
 -- where one comes after each there are no linear chains ..
-no_line : (links : Shown) (xs : List ℕ) → GoesRound links → IsChain links (linear xs) → ⊥
+no_line : (links : LinkMap) (xs : List ℕ) → AllCyclic links → IsChain links (linear xs) → ⊥
 no_line links [] round is = is.0 refl
 no_line links (x ∷ xs) round is =
     let last = last_in xs x in
@@ -72,7 +72,7 @@ no_line links (x ∷ xs) round is =
     absurd (let both = sym some ∙ ap is_some none in cc)
 
 -- .. so each link stands in a cyclic one
-pub ring_from : (links : Shown) (greatest i : ℕ) → Agrees links → HasLinksWithin links greatest → GoesRound links → HasLink links i → (rest : List ℕ) × IsChain links (cyclic (i ∷ rest))
+pub ring_from : (links : LinkMap) (greatest i : ℕ) → IsWellLinked links → HasLinksWithin links greatest → AllCyclic links → HasLink links i → (rest : List ℕ) × IsChain links (cyclic (i ∷ rest))
 ring_from links greatest i agrees within round has = by (has_chain links greatest agrees within i has)
   where
     by : ChainOf links i → (rest : List ℕ) × IsChain links (cyclic (i ∷ rest))
@@ -80,7 +80,7 @@ ring_from links greatest i agrees within round has = by (has_chain links greates
     by (stands_in (cyclic xs) is at) = let ring = turned_to links xs i is at in (ring.0, ring.1)
 
 -- .. and one comes before each, so one may come between still
-pub round_before : (old new : Shown) (greatest q b : ℕ) → InsertsPairs old new q (prev_of old b) (Some b) → Agrees old → HasLinksWithin old greatest → HasLink old b → GoesRound old → GoesRound new
+pub round_before : (old new : LinkMap) (greatest q b : ℕ) → InsertsPairs old new q (prev_of old b) (Some b) → IsWellLinked old → HasLinksWithin old greatest → HasLink old b → AllCyclic old → AllCyclic new
 round_before old new greatest q b inserts agrees within has round =
     let ring = ring_from old greatest b agrees within round has in
     let prev = (rings_go_round old (b ∷ ring.0) b ring.1 (inl refl)).1 in

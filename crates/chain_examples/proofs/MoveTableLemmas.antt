@@ -5,7 +5,7 @@ use Rattle.std.proofs.Math.Decide.{ℕ_discrete}
 use Rattle.std.proofs.lemmas.List.{length-replicate}
 use Rattle.std.proofs.lemmas.List.Sums.{fold_more}
 use Rattle.std.proofs.lemmas.List.Elements.{Contains-append_right}
-use Rattle.chain_laws.specs.Chains.{Has, HasNoRepetition}
+use Rattle.chain_laws.specs.Chains.{IsMember, AreDistinct}
 use Rattle.chain_laws.proofs.InterlinkLemmas.Inverses.{if_same, if_other}
 use Rattle.std.specs.Prelude.{slice_set}
 use Rattle.arena_base.specs.Arena.{slot_at, with_slot}
@@ -58,18 +58,18 @@ module _ {P Gen : Type 0} (key : P → ℕ × Gen) where
     elsewhere table m i long within other = slot_at-written table (from_index m) i (Some m) within.0 (omega (arith, long, within.1)) ∙ if_other i (from_index m) _ _ other
 
     -- at an index that no move is from it stays as it was
-    keeps : (table : List (Option (P × P))) (moves : List (P × P)) (i : ℕ) → length table ≡ n → HasPlaces n moves → (Has (map from_index moves) i → ⊥) → slot_at (noted key table moves) i ≡ slot_at table i
+    keeps : (table : List (Option (P × P))) (moves : List (P × P)) (i : ℕ) → length table ≡ n → HasPlaces n moves → (IsMember (map from_index moves) i → ⊥) → slot_at (noted key table moves) i ≡ slot_at table i
     keeps table [] i long within lacks = refl
     keeps table (m ∷ moves) i long within lacks =
         keeps (with_move key table m) moves i (stays table m long) within.1 (λ has. lacks (inr has)) ∙ elsewhere table m i long within.0 (λ is. lacks (inl (sym is)))
 
     -- each move stands at its index ..
-    noted_has : (table : List (Option (P × P))) (moves : List (P × P)) (m : P × P) (k : ℕ) → length table ≡ n → HasPlaces n moves → HasNoRepetition (map from_index moves)
+    noted_has : (table : List (Option (P × P))) (moves : List (P × P)) (m : P × P) (k : ℕ) → length table ≡ n → HasPlaces n moves → AreDistinct (map from_index moves)
         → k < length moves → slice_index_or moves k m ≡ m → slot_at (noted key table moves) (from_index m) ≡ Some m
     noted_has table [] m k long within apart below is = absurd (omega (arith, below))
     noted_has table (x ∷ moves) m zero long within apart below is =
         let index = ap from_index is in
-        keeps (with_move key table x) moves (from_index m) (stays table x long) within.1 (λ has. apart.0 (subst (Has (map from_index moves)) (sym index) has))
+        keeps (with_move key table x) moves (from_index m) (stays table x long) within.1 (λ has. apart.0 (subst (IsMember (map from_index moves)) (sym index) has))
         ∙ (subst (λ (i : ℕ). slot_at (with_move key table x) i ≡ Some x) index (there table x long within.0) ∙ ap (λ (y : P × P). Some y) is)
     noted_has table (x ∷ moves) m (suc k) long within apart below is =
         noted_has (with_move key table x) moves m k (stays table x long) within.1 apart.1 (omega (arith, below)) is
@@ -88,7 +88,7 @@ module _ {P Gen : Type 0} (key : P → ℕ × Gen) where
         by (no other) stands = inl (sym (elsewhere table x i long within.0 other) ∙ stands)
 
     -- an empty table into which moves were written has them
-    pub noted_table : (moves : List (P × P)) → HasPlaces n moves → HasNoRepetition (map from_index moves) → IsTable moves (noted key (replicate n None) moves)
+    pub noted_table : (moves : List (P × P)) → HasPlaces n moves → AreDistinct (map from_index moves) → IsTable moves (noted key (replicate n None) moves)
     noted_table moves within apart = record {
       has = λ m has. noted_has (replicate n None) moves m has.0 (length-replicate n None) within apart has.1 has.2;
       only = λ i m is. ⊎_elim (λ stood. absurd (let none = sym (none_stands n i) ∙ stood in cc)) (λ has. has) (noted_only (replicate n None) moves i m (length-replicate n None) within is);

@@ -6,31 +6,31 @@ use Rattle.std.specs.Result.{result_ok}
 use Rattle.std.proofs.Common.{unwrap_or}
 use Rattle.std.proofs.lemmas.List.{map-append, length-map}
 use Rattle.std.proofs.lemmas.Bool.{cases_eq}
-use Rattle.chain_laws.specs.Chains.{Shown, cyclic, IsChain, Has, HasNoRepetition, next_of, next_in, first_or, Interlinks, Stands}
+use Rattle.chain_laws.specs.Chains.{LinkMap, cyclic, IsChain, IsMember, AreDistinct, next_of, next_in, first_or, Interlinks, AreLinked}
 use Rattle.chain_laws.specs.Removals.{Removes}
 use Rattle.chain_laws.proofs.ChainLemmas.Rotations.{turned}
-use Rattle.chain_laws.proofs.ListLemmas.Members.{Has-parts, Has-turned, HasNoRepetition-turned}
+use Rattle.chain_laws.proofs.ListLemmas.Members.{IsMember-parts, IsMember-turned, AreDistinct-turned}
 use Rattle.arena_base.specs.Arena.{IsValid}
-use Rattle.arena_base.specs.Entries.{Seen, count, HasRoomLeft, index_of, first_key, found, RisesFrom}
+use Rattle.arena_base.specs.Entries.{ArenaView, count, HasFreeCapacity, index_of, first_key, found, RisesFrom}
 use Rattle.chain_laws.specs.Insertions.{single_link_cyclic, prev_to}
 use Rattle.chain_links.specs.CallEffects.{GainsLink}
 use Rattle.chain_laws.proofs.WalkLemmas.WalkBack.{length_among}
 use Rattle.chain_traits.proofs.GenericArenaLemmas.{found_has}
-use Rattle.chain_examples.specs.Lists.{Item, Stand, indexes, IsTurn}
-use Rattle.chain_examples.specs.QueueOrder.{Queue, IsAmong, IsCancelled, items_from, put_first, turn_of, turned_once}
+use Rattle.chain_examples.specs.Lists.{Item, AreEntries, indexes, IsQueueOrder}
+use Rattle.chain_examples.specs.QueueOrder.{Queue, IsAmong, IsCancelled, items_from, with_entry_first, queue_order, rotation}
 use Rattle.chain_traits.proofs.GenericRemovalLemmas.{HasGone}
 use Rattle.chain_examples.proofs.ItemListLemmas.{stand-append, stand-left, stand-right, stand-frame, among-left, among-right, stand_kept, stand-some, rises_once, has_found}
 
 module _ {Gen T : Type 0} where
   -- a task came behind the last in turn
-  module _ (entry after : ℕ → Option (Gen × T)) (links changed : Shown) (p : ℕ × Gen) (t : T) (free : entry p.0 ≡ None) (stands : after p.0 ≡ Some (p.1, t)) (rest : (i : ℕ) → i ≢ p.0 → after i ≡ entry i) where
-    all_with : (turn : List (Item Gen T)) → ((i : ℕ) → is_some (entry i) ≡ true → Has (indexes turn) i) → (i : ℕ) → is_some (after i) ≡ true → Has (indexes (turn ++ (p, t) ∷ [])) i
+  module _ (entry after : ℕ → Option (Gen × T)) (links changed : LinkMap) (p : ℕ × Gen) (t : T) (free : entry p.0 ≡ None) (stands : after p.0 ≡ Some (p.1, t)) (rest : (i : ℕ) → i ≢ p.0 → after i ≡ entry i) where
+    all_with : (turn : List (Item Gen T)) → ((i : ℕ) → is_some (entry i) ≡ true → IsMember (indexes turn) i) → (i : ℕ) → is_some (after i) ≡ true → IsMember (indexes (turn ++ (p, t) ∷ [])) i
     all_with turn all i some = ⊎_elim
         (λ is. among-right turn ((p, t) ∷ []) i (inl (sym is)))
         (λ other. among-left turn ((p, t) ∷ []) i (all i (ap is_some (sym (rest i other)) ∙ some)))
         (cases_eq i p.0)
 
-    pub spawned_first : IsChain changed (cyclic (p.0 ∷ [])) → (turn : List (Item Gen T)) → IsTurn entry links None turn → IsTurn after changed (Some p) (turn ++ (p, t) ∷ [])
+    pub spawned_first : IsChain changed (cyclic (p.0 ∷ [])) → (turn : List (Item Gen T)) → IsQueueOrder entry links None turn → IsQueueOrder after changed (Some p) (turn ++ (p, t) ∷ [])
     spawned_first ring [] is = record {
       first = refl;
       ring = λ filled. ring;
@@ -40,7 +40,7 @@ module _ {Gen T : Type 0} where
     spawned_first ring (e ∷ es) is = let h = is.first in absurd (cc)
 
     pub spawned_last : (c : ℕ × Gen) → ((y : List ℕ) → IsChain links (cyclic (c.0 ∷ y)) → IsChain changed (cyclic (p.0 ∷ c.0 ∷ y))) → (turn : List (Item Gen T))
-        → IsTurn entry links (Some c) turn → IsTurn after changed (Some c) (turn ++ (p, t) ∷ [])
+        → IsQueueOrder entry links (Some c) turn → IsQueueOrder after changed (Some c) (turn ++ (p, t) ∷ [])
     spawned_last c inserts [] is = let h = is.first in absurd (cc)
     spawned_last c inserts (e ∷ es) is =
         let same : e.0 ≡ c = let h = is.first in cc in
@@ -55,45 +55,45 @@ module _ {Gen T : Type 0} where
         }
 
   -- the turn goes on to the next task
-  module _ (entry : ℕ → Option (Gen × T)) (links : Shown) where
-    pub turn_on : (current : Option (ℕ × Gen)) (e : Item Gen T) (es : List (Item Gen T)) → IsTurn entry links current (e ∷ es) → IsTurn entry links (first_key (es ++ e ∷ [])) (es ++ e ∷ [])
+  module _ (entry : ℕ → Option (Gen × T)) (links : LinkMap) where
+    pub turn_on : (current : Option (ℕ × Gen)) (e : Item Gen T) (es : List (Item Gen T)) → IsQueueOrder entry links current (e ∷ es) → IsQueueOrder entry links (first_key (es ++ e ∷ [])) (es ++ e ∷ [])
     turn_on current e es is = record {
       first = refl;
       ring = λ filled. subst (λ (l : List ℕ). IsChain links (cyclic l)) (sym (map-append index_of es (e ∷ []))) (turned links (e.0.0 ∷ []) (indexes es) (is.ring (λ h. cc)));
       stand = stand-append entry es (e ∷ []) is.stand.1 (is.stand.0, tt);
-      all = λ i some. subst (λ (l : List ℕ). Has l i) (sym (map-append index_of es (e ∷ []))) (Has-turned (e.0.0 ∷ []) (indexes es) i (is.all i some));
+      all = λ i some. subst (λ (l : List ℕ). IsMember l i) (sym (map-append index_of es (e ∷ []))) (IsMember-turned (e.0.0 ∷ []) (indexes es) i (is.all i some));
     }
 
     -- the pointer to the link after the current one is that of the second in turn
-    pub next_is : (current : Option (ℕ × Gen)) (e : Item Gen T) (es : List (Item Gen T)) → IsTurn entry links current (e ∷ es)
+    pub next_is : (current : Option (ℕ × Gen)) (e : Item Gen T) (es : List (Item Gen T)) → IsQueueOrder entry links current (e ∷ es)
         → option_and_then (λ i. option_map (λ (x : Gen × T). (i, x.0)) (entry i)) (next_of links e.0.0) ≡ first_key (es ++ e ∷ [])
     next_is current e es is =
         let chain = (is.ring (λ h. cc)).2 in
         ap (λ o. option_and_then (λ i. option_map (λ (x : Gen × T). (i, x.0)) (entry i)) (next_in o)) chain.0 ∙ key_of es is.stand.1
       where
-        key_of : (fs : List (Item Gen T)) → Stand entry fs → option_and_then (λ i. option_map (λ (x : Gen × T). (i, x.0)) (entry i)) (first_or (indexes fs) (Some e.0.0)) ≡ first_key (fs ++ e ∷ [])
+        key_of : (fs : List (Item Gen T)) → AreEntries entry fs → option_and_then (λ i. option_map (λ (x : Gen × T). (i, x.0)) (entry i)) (first_or (indexes fs) (Some e.0.0)) ≡ first_key (fs ++ e ∷ [])
         key_of [] s = ap (option_map (λ (x : Gen × T). (e.0.0, x.0))) is.stand.0
         key_of (f ∷ fs) s = ap (option_map (λ (x : Gen × T). (f.0.0, x.0))) s.0
 
     -- an index stands in a turn once
-    pub stands_once : (current : Option (ℕ × Gen)) (xs ys : List (Item Gen T)) (e : Item Gen T) → IsTurn entry links current (xs ++ e ∷ ys) → Has (indexes (xs ++ ys)) e.0.0 → ⊥
+    pub stands_once : (current : Option (ℕ × Gen)) (xs ys : List (Item Gen T)) (e : Item Gen T) → IsQueueOrder entry links current (xs ++ e ∷ ys) → IsMember (indexes (xs ++ ys)) e.0.0 → ⊥
     stands_once current xs ys e is has =
         let filled : xs ++ e ∷ ys ≢ [] = not_empty xs e ys in
-        let once : HasNoRepetition (indexes xs ++ e.0.0 ∷ indexes ys) = subst HasNoRepetition (map-append index_of xs (e ∷ ys)) (is.ring filled).1 in
-        (HasNoRepetition-turned (indexes xs) (e.0.0 ∷ indexes ys) once).0 (Has-turned (indexes xs) (indexes ys) e.0.0 (subst (λ (l : List ℕ). Has l e.0.0) (map-append index_of xs ys) has))
+        let once : AreDistinct (indexes xs ++ e.0.0 ∷ indexes ys) = subst AreDistinct (map-append index_of xs (e ∷ ys)) (is.ring filled).1 in
+        (AreDistinct-turned (indexes xs) (e.0.0 ∷ indexes ys) once).0 (IsMember-turned (indexes xs) (indexes ys) e.0.0 (subst (λ (l : List ℕ). IsMember l e.0.0) (map-append index_of xs ys) has))
       where
         not_empty : (left : List (Item Gen T)) (b : Item Gen T) (right : List (Item Gen T)) → left ++ b ∷ right ≢ []
         not_empty [] b right h = cc
         not_empty (a ∷ left) b right h = cc
 
     -- a task is cancelled: it leaves the turn, and the others keep their order
-    pub cancelled : (after : ℕ → Option (Gen × T)) (changed : Shown) (current next : Option (ℕ × Gen)) (xs ys : List (Item Gen T)) (e : Item Gen T)
-        → IsTurn entry links current (xs ++ e ∷ ys) → next ≡ first_key (xs ++ ys) → after e.0.0 ≡ None → ((i : ℕ) → i ≢ e.0.0 → after i ≡ entry i) → Removes links changed e.0.0
-        → IsTurn after changed next (xs ++ ys)
+    pub cancelled : (after : ℕ → Option (Gen × T)) (changed : LinkMap) (current next : Option (ℕ × Gen)) (xs ys : List (Item Gen T)) (e : Item Gen T)
+        → IsQueueOrder entry links current (xs ++ e ∷ ys) → next ≡ first_key (xs ++ ys) → after e.0.0 ≡ None → ((i : ℕ) → i ≢ e.0.0 → after i ≡ entry i) → Removes links changed e.0.0
+        → IsQueueOrder after changed next (xs ++ ys)
     cancelled after changed current next xs ys e is first gone kept removes = record {
       first = first;
       ring = λ filled. subst (λ (l : List ℕ). IsChain changed (cyclic l)) (sym (map-append index_of xs ys)) (removes.from_cyclic (indexes xs) (indexes ys) old (λ none. filled (empty (xs ++ ys) (map-append index_of xs ys ∙ none))));
-      stand = stand-frame entry after (xs ++ ys) (λ i has. kept i (λ is_e. stands_once current xs ys e is (subst (λ (k : ℕ). Has (indexes (xs ++ ys)) k) is_e has)))
+      stand = stand-frame entry after (xs ++ ys) (λ i has. kept i (λ is_e. stands_once current xs ys e is (subst (λ (k : ℕ). IsMember (indexes (xs ++ ys)) k) is_e has)))
           (stand-append entry xs ys (stand-left entry xs (e ∷ ys) is.stand) (stand-right entry xs (e ∷ ys) is.stand).1);
       all = λ i some. ⊎_elim
           (λ is_e. absurd (let none = ap is_some (ap after is_e ∙ gone) in let both = sym some ∙ none in cc))
@@ -112,33 +112,33 @@ module _ {Gen T : Type 0} where
         empty [] h = refl
         empty (z ∷ zs) h = absurd (cc)
 
-        left_of : (i : ℕ) → i ≢ e.0.0 → Has (indexes (xs ++ e ∷ ys)) i → Has (indexes (xs ++ ys)) i
+        left_of : (i : ℕ) → i ≢ e.0.0 → IsMember (indexes (xs ++ e ∷ ys)) i → IsMember (indexes (xs ++ ys)) i
         left_of i other has = ⊎_elim
             (λ l. among-left xs ys i l)
             (λ r. ⊎_elim (λ is_e. absurd (other (sym is_e))) (λ r. among-right xs ys i r) r)
-            (Has-parts (indexes xs) (e.0.0 ∷ indexes ys) i (subst (λ (l : List ℕ). Has l i) (map-append index_of xs (e ∷ ys)) has))
+            (IsMember-parts (indexes xs) (e.0.0 ∷ indexes ys) i (subst (λ (l : List ℕ). IsMember l i) (map-append index_of xs (e ∷ ys)) has))
 
     -- the second in turn, where it is the current one again: there is no other
-    pub after_alone : (k : ℕ × Gen) (e : Item Gen T) (es : List (Item Gen T)) → IsTurn entry links (Some k) (e ∷ es) → Some k ≡ first_key (es ++ e ∷ []) → None ≡ first_key es
+    pub after_alone : (k : ℕ × Gen) (e : Item Gen T) (es : List (Item Gen T)) → IsQueueOrder entry links (Some k) (e ∷ es) → Some k ≡ first_key (es ++ e ∷ []) → None ≡ first_key es
     after_alone k e [] is second = refl
     after_alone k e (f ∷ fs) is second =
         let same : e.0 ≡ f.0 = let first = is.first in cc in
         absurd (stands_once (Some k) [] (f ∷ fs) e is (inl (ap (λ (p : ℕ × Gen). p.0) (sym same))))
 
     -- .. and where it is another
-    pub after_other : (k q : ℕ × Gen) (e : Item Gen T) (es : List (Item Gen T)) → IsTurn entry links (Some k) (e ∷ es) → Some q ≡ first_key (es ++ e ∷ []) → q ≢ k → Some q ≡ first_key es
+    pub after_other : (k q : ℕ × Gen) (e : Item Gen T) (es : List (Item Gen T)) → IsQueueOrder entry links (Some k) (e ∷ es) → Some q ≡ first_key (es ++ e ∷ []) → q ≢ k → Some q ≡ first_key es
     after_other k q e [] is second other = absurd (other (let first = is.first in cc))
     after_other k q e (f ∷ fs) is second other = second
 
     -- the current task stands first
-    pub is_first : (k : ℕ × Gen) (t : T) (xs ys : List (Item Gen T)) → IsTurn entry links (Some k) (xs ++ (k, t) ∷ ys) → xs ≡ []
+    pub is_first : (k : ℕ × Gen) (t : T) (xs ys : List (Item Gen T)) → IsQueueOrder entry links (Some k) (xs ++ (k, t) ∷ ys) → xs ≡ []
     is_first k t [] ys is = refl
     is_first k t (x ∷ xs) ys is =
         let same : x.0 ≡ k = let first = is.first in cc in
         absurd (stands_once (Some k) (x ∷ xs) ys (k, t) is (inl (ap (λ (p : ℕ × Gen). p.0) same)))
 
     -- .. and stays first where another goes
-    pub stays_first : (k q : ℕ × Gen) (t : T) (xs ys : List (Item Gen T)) → IsTurn entry links (Some k) (xs ++ (q, t) ∷ ys) → k ≢ q → Some k ≡ first_key (xs ++ ys)
+    pub stays_first : (k q : ℕ × Gen) (t : T) (xs ys : List (Item Gen T)) → IsQueueOrder entry links (Some k) (xs ++ (q, t) ∷ ys) → k ≢ q → Some k ≡ first_key (xs ++ ys)
     stays_first k q t [] ys is other = absurd (other (let first = is.first in cc))
     stays_first k q t (x ∷ xs) ys is other = is.first
 
@@ -147,42 +147,42 @@ module _ {Gen T : Type 0} where
     some_second e (f ∷ fs) none = cc
 
     -- there are as many tasks as entries
-    pub turn_length : (current : Option (ℕ × Gen)) (turn es : List (Item Gen T)) → IsTurn entry links current turn → RisesFrom 1 es → ((i : ℕ) → found i es ≡ entry i) → length es ≡ length turn
+    pub turn_length : (current : Option (ℕ × Gen)) (turn es : List (Item Gen T)) → IsQueueOrder entry links current turn → RisesFrom 1 es → ((i : ℕ) → found i es ≡ entry i) → length es ≡ length turn
     turn_length current turn es is rises looked =
         let fewer = length_among (indexes es) (indexes turn) (rises_once 1 es rises) (λ i has. is.all i (ap is_some (sym (looked i)) ∙ has_found i es has)) in
         let more = length_among (indexes turn) (indexes es) (once turn is.ring) (λ i has. found_has i es (ap is_some (looked i) ∙ stand-some entry turn i is.stand has)) in
         omega (arith, fewer, more, length-map es index_of, length-map turn index_of)
       where
-        once : (xs : List (Item Gen T)) → (xs ≢ [] → IsChain links (cyclic (indexes xs))) → HasNoRepetition (indexes xs)
+        once : (xs : List (Item Gen T)) → (xs ≢ [] → IsChain links (cyclic (indexes xs))) → AreDistinct (indexes xs)
         once [] ring = tt
         once (x ∷ xs) ring = (ring (λ h. cc)).1
 
     -- items that stand one after another are found from the first of them on
-    from_items : (before after : Option ℕ) (xs : List (Item Gen T)) → Stands links before (indexes xs) after → Stand entry xs
+    from_items : (before after : Option ℕ) (xs : List (Item Gen T)) → AreLinked links before (indexes xs) after → AreEntries entry xs
         → items_from entry links (length xs) (first_or (indexes xs) after) ≡ xs
     unfolding items_from
     from_items before after [] chain stand = refl
     from_items before after (x ∷ xs) chain stand =
-        ap (λ (e : Option (Gen × T)). put_first x.0.0 e (items_from entry links (length xs) (next_of links x.0.0))) stand.0
+        ap (λ (e : Option (Gen × T)). with_entry_first x.0.0 e (items_from entry links (length xs) (next_of links x.0.0))) stand.0
         ∙ ap (λ (others : List (Item Gen T)). x ∷ others) (ap (λ (l : Option Interlinks). items_from entry links (length xs) (next_in l)) chain.0 ∙ from_items (Some x.0.0) after xs chain.1 stand.1)
 
-    turn_found : (current : Option (ℕ × Gen)) (turn : List (Item Gen T)) → IsTurn entry links current turn → turn_of entry links (length turn) current ≡ turn
+    turn_found : (current : Option (ℕ × Gen)) (turn : List (Item Gen T)) → IsQueueOrder entry links current turn → queue_order entry links (length turn) current ≡ turn
     unfolding items_from
     turn_found current [] is = refl
     turn_found current (e ∷ es) is =
-        ap (λ (c : Option (ℕ × Gen)). turn_of entry links (length (e ∷ es)) c) is.first ∙ from_items _ _ (e ∷ es) (is.ring (λ h. cc)).2 is.stand
+        ap (λ (c : Option (ℕ × Gen)). queue_order entry links (length (e ∷ es)) c) is.first ∙ from_items _ _ (e ∷ es) (is.ring (λ h. cc)).2 is.stand
 
     -- so a turn is what is found from the current task on, as many tasks as there are entries
-    pub settles : (current : Option (ℕ × Gen)) (turn es : List (Item Gen T)) → IsTurn entry links current turn → RisesFrom 1 es → ((i : ℕ) → found i es ≡ entry i)
-        → turn_of entry links (length es) current ≡ turn
-    settles current turn es is rises looked = ap (λ (n : ℕ). turn_of entry links n current) (turn_length current turn es is rises looked) ∙ turn_found current turn is
+    pub settles : (current : Option (ℕ × Gen)) (turn es : List (Item Gen T)) → IsQueueOrder entry links current turn → RisesFrom 1 es → ((i : ℕ) → found i es ≡ entry i)
+        → queue_order entry links (length es) current ≡ turn
+    settles current turn es is rises looked = ap (λ (n : ℕ). queue_order entry links n current) (turn_length current turn es is rises looked) ∙ turn_found current turn is
 
-    pub settled : (current : Option (ℕ × Gen)) (turn es : List (Item Gen T)) → IsTurn entry links current turn → RisesFrom 1 es → ((i : ℕ) → found i es ≡ entry i)
-        → IsTurn entry links current (turn_of entry links (length es) current)
-    settled current turn es is rises looked = subst (IsTurn entry links current) (sym (settles current turn es is rises looked)) is
+    pub settled : (current : Option (ℕ × Gen)) (turn es : List (Item Gen T)) → IsQueueOrder entry links current turn → RisesFrom 1 es → ((i : ℕ) → found i es ≡ entry i)
+        → IsQueueOrder entry links current (queue_order entry links (length es) current)
+    settled current turn es is rises looked = subst (IsQueueOrder entry links current) (sym (settles current turn es is rises looked)) is
 
     -- an arena without entries is a queue without tasks
-    pub begins : (es : List (Item Gen T)) → es ≡ [] → ((i : ℕ) → found i es ≡ entry i) → IsTurn entry links None []
+    pub begins : (es : List (Item Gen T)) → es ≡ [] → ((i : ℕ) → found i es ≡ entry i) → IsQueueOrder entry links None []
     begins es none looked = record {
       first = refl;
       ring = λ filled. absurd (filled refl);
@@ -191,20 +191,20 @@ module _ {Gen T : Type 0} where
     }
 
     -- an item of the turn stands: its pointer is valid
-    pub among_stands : (turn : List (Item Gen T)) (p : ℕ × Gen) → Stand entry turn → IsAmong p turn → IsValid entry p
+    pub among_stands : (turn : List (Item Gen T)) (p : ℕ × Gen) → AreEntries entry turn → IsAmong p turn → IsValid entry p
     among_stands [] p stand among = absurd among
     among_stands (e ∷ es) p stand (inl same) = subst (IsValid entry) same (record { value = e.1; stands = stand.0 })
     among_stands (e ∷ es) p stand (inr among) = among_stands es p stand.1 among
 
-    pub no_task : (current : Option (ℕ × Gen)) (turn : List (Item Gen T)) (p : ℕ × Gen) → IsTurn entry links current turn → (IsValid entry p → ⊥) → IsAmong p turn → ⊥
+    pub no_task : (current : Option (ℕ × Gen)) (turn : List (Item Gen T)) (p : ℕ × Gen) → IsQueueOrder entry links current turn → (IsValid entry p → ⊥) → IsAmong p turn → ⊥
     no_task current turn p is invalid among = invalid (among_stands turn p is.stand among)
 
     -- a valid pointer is of a task of the turn
-    pub valid_task : (current : Option (ℕ × Gen)) (turn : List (Item Gen T)) (p : ℕ × Gen) → IsTurn entry links current turn → (valid : IsValid entry p)
+    pub valid_task : (current : Option (ℕ × Gen)) (turn : List (Item Gen T)) (p : ℕ × Gen) → IsQueueOrder entry links current turn → (valid : IsValid entry p)
         → (before : List (Item Gen T)) × (after : List (Item Gen T)) × (turn ≡ before ++ (p, valid.value) ∷ after)
     valid_task current turn p is valid = found_at turn is.stand (is.all p.0 (ap is_some valid.stands))
       where
-        found_at : (xs : List (Item Gen T)) → Stand entry xs → Has (indexes xs) p.0 → (before : List (Item Gen T)) × (after : List (Item Gen T)) × (xs ≡ before ++ (p, valid.value) ∷ after)
+        found_at : (xs : List (Item Gen T)) → AreEntries entry xs → IsMember (indexes xs) p.0 → (before : List (Item Gen T)) × (after : List (Item Gen T)) × (xs ≡ before ++ (p, valid.value) ∷ after)
         found_at [] stand has = absurd has
         found_at (x ∷ xs) stand (inl same) =
             let both : Some (x.0.1, x.1) ≡ Some (p.1, valid.value) = sym stand.0 ∙ (ap entry same ∙ valid.stands) in
@@ -217,22 +217,22 @@ module _ {Gen T : Type 0} where
             (x ∷ there.0, there.1, ap (λ (l : List (Item Gen T)). x ∷ l) there.2)
 
     -- the turn goes on, whoever is current
-    pub goes_on : (k : ℕ × Gen) (next : Option (ℕ × Gen)) (turn : List (Item Gen T)) → IsTurn entry links (Some k) turn
-        → ((task : Item Gen T) (rest : List (Item Gen T)) → IsTurn entry links (Some k) (task ∷ rest) → next ≡ first_key (rest ++ task ∷ [])) → IsTurn entry links next (turned_once turn)
+    pub goes_on : (k : ℕ × Gen) (next : Option (ℕ × Gen)) (turn : List (Item Gen T)) → IsQueueOrder entry links (Some k) turn
+        → ((task : Item Gen T) (rest : List (Item Gen T)) → IsQueueOrder entry links (Some k) (task ∷ rest) → next ≡ first_key (rest ++ task ∷ [])) → IsQueueOrder entry links next (rotation turn)
     goes_on k next [] is second = let first = is.first in absurd (cc)
-    goes_on k next (e ∷ es) is second = subst (λ (o : Option (ℕ × Gen)). IsTurn entry links o (es ++ e ∷ [])) (sym (second e es is)) (turn_on (Some k) e es is)
+    goes_on k next (e ∷ es) is second = subst (λ (o : Option (ℕ × Gen)). IsQueueOrder entry links o (es ++ e ∷ [])) (sym (second e es is)) (turn_on (Some k) e es is)
 
     -- a task that is gone is not among the others
-    pub not_among : (current : Option (ℕ × Gen)) (xs ys : List (Item Gen T)) (e : Item Gen T) → IsTurn entry links current (xs ++ e ∷ ys) → IsAmong e.0 (xs ++ ys) → ⊥
+    pub not_among : (current : Option (ℕ × Gen)) (xs ys : List (Item Gen T)) (e : Item Gen T) → IsQueueOrder entry links current (xs ++ e ∷ ys) → IsAmong e.0 (xs ++ ys) → ⊥
     not_among current xs ys e is among = stands_once current xs ys e is (has_index (xs ++ ys) among)
       where
-        has_index : (zs : List (Item Gen T)) → IsAmong e.0 zs → Has (indexes zs) e.0.0
+        has_index : (zs : List (Item Gen T)) → IsAmong e.0 zs → IsMember (indexes zs) e.0.0
         has_index [] h = absurd h
         has_index (z ∷ zs) (inl same) = inl (ap (λ (k : ℕ × Gen). k.0) same)
         has_index (z ∷ zs) (inr h) = inr (has_index zs h)
 
     -- the current task stands
-    pub valid_current : {P : Type 0} (key : P → ℕ × Gen) (current : Option P) (turn : List (Item Gen T)) → IsTurn entry links (option_map key current) turn → IfSome current (λ p. IsValid entry (key p))
+    pub valid_current : {P : Type 0} (key : P → ℕ × Gen) (current : Option P) (turn : List (Item Gen T)) → IsQueueOrder entry links (option_map key current) turn → IfSome current (λ p. IsValid entry (key p))
     valid_current key None turn is = tt
     valid_current key (Some p) [] is = let first = is.first in absurd (cc)
     valid_current key (Some p) (e ∷ es) is =
@@ -251,16 +251,16 @@ first_cancelled p task old new first is = by is.before is.stood is.left
         absurd (is.gone (subst (IsAmong p) (sym left) (inl key)))
 
 -- The turn of a queue as it is found in an arena, where these look at one.
-module _ {A Gen T : Type 0} (seen : A → Seen Gen T) (entry : A → ℕ → Option (Gen × T)) (links : A → Shown) (rises : (a : A) → RisesFrom 1 (seen a).entries) (looked : (a : A) (i : ℕ) → found i (seen a).entries ≡ entry a i) where
+module _ {A Gen T : Type 0} (seen : A → ArenaView Gen T) (entry : A → ℕ → Option (Gen × T)) (links : A → LinkMap) (rises : (a : A) → RisesFrom 1 (seen a).entries) (looked : (a : A) (i : ℕ) → found i (seen a).entries ≡ entry a i) where
   abbrev pub turn_in : A → Option (ℕ × Gen) → List (Item Gen T)
-  turn_in a current = turn_of (entry a) (links a) (count (seen a)) current
+  turn_in a current = queue_order (entry a) (links a) (count (seen a)) current
 
   -- these are the tasks in turn: they are what is found, and that is a turn
   pub record IsSettled (a : A) (current : Option (ℕ × Gen)) (turn : List (Item Gen T)) : Type 0 where
     pub is_found : turn_in a current ≡ turn
-    pub holds : IsTurn (entry a) (links a) current (turn_in a current)
+    pub holds : IsQueueOrder (entry a) (links a) current (turn_in a current)
 
-  pub settle : (a : A) (current : Option (ℕ × Gen)) (turn : List (Item Gen T)) → IsTurn (entry a) (links a) current turn → IsSettled a current turn
+  pub settle : (a : A) (current : Option (ℕ × Gen)) (turn : List (Item Gen T)) → IsQueueOrder (entry a) (links a) current turn → IsSettled a current turn
   settle a current turn is = record {
     is_found = settles (entry a) (links a) current turn (seen a).entries is (rises a) (looked a);
     holds = settled (entry a) (links a) current turn (seen a).entries is (rises a) (looked a);
@@ -271,7 +271,7 @@ module _ {A Gen T : Type 0} (seen : A → Seen Gen T) (entry : A → ℕ → Opt
   queue_in a current = record { turn = turn_in a current; room = (seen a).capacity; maximum = (seen a).maximum }
 
   -- where a queue has room for one task more, its arena has
-  pub has_room : (a : A) (current : Option (ℕ × Gen)) (q : Queue Gen T) → IsTurn (entry a) (links a) current (turn_in a current) → queue_in a current ≡ q → length q.turn < q.room → HasRoomLeft (seen a)
+  pub has_room : (a : A) (current : Option (ℕ × Gen)) (q : Queue Gen T) → IsQueueOrder (entry a) (links a) current (turn_in a current) → queue_in a current ≡ q → length q.turn < q.room → HasFreeCapacity (seen a)
   has_room a current q is same less =
       let many = turn_length (entry a) (links a) current (turn_in a current) (seen a).entries is (rises a) (looked a) in
       let turn = ap (λ (s : Queue Gen T). length s.turn) same in
@@ -280,25 +280,25 @@ module _ {A Gen T : Type 0} (seen : A → Seen Gen T) (entry : A → ℕ → Opt
 
   -- a task comes to a queue without tasks, or before the current one: it is the last in turn
   module _ (a b : A) (p : ℕ × Gen) (t : T) where
-    pub first_comes : GainsLink seen entry links single_link_cyclic t a p b → (turn : List (Item Gen T)) → IsTurn (entry a) (links a) None turn → IsTurn (entry b) (links b) (Some p) (turn ++ (p, t) ∷ [])
+    pub first_comes : GainsLink seen entry links single_link_cyclic t a p b → (turn : List (Item Gen T)) → IsQueueOrder (entry a) (links a) None turn → IsQueueOrder (entry b) (links b) (Some p) (turn ++ (p, t) ∷ [])
     first_comes came = spawned_first (entry a) (entry b) (links a) (links b) p t came.entries.free came.entries.stands came.entries.rest (came.chains.ring refl refl)
 
-    pub last_comes : (k : ℕ × Gen) → GainsLink seen entry links (prev_to (k.0, Some k.1)) t a p b → (turn : List (Item Gen T)) → IsTurn (entry a) (links a) (Some k) turn → IsTurn (entry b) (links b) (Some k) (turn ++ (p, t) ∷ [])
+    pub last_comes : (k : ℕ × Gen) → GainsLink seen entry links (prev_to (k.0, Some k.1)) t a p b → (turn : List (Item Gen T)) → IsQueueOrder (entry a) (links a) (Some k) turn → IsQueueOrder (entry b) (links b) (Some k) (turn ++ (p, t) ∷ [])
     last_comes k came = spawned_last (entry a) (entry b) (links a) (links b) p t came.entries.free came.entries.stands came.entries.rest k (λ y. (came.chains.before k.0 refl refl [] y).1)
 
   -- so it is where the call that adds it answers, and else the queue is as it was
   module _ {P E : Type 0} (key : P → ℕ × Gen) (a b : A) (current : Option P) (t : T) where
     pub record IsTaskAdded (result : Result P E) (next : Option P) : Type 0 where
-      pub holds : IsTurn (entry b) (links b) (option_map key next) (turn_in b (option_map key next))
+      pub holds : IsQueueOrder (entry b) (links b) (option_map key next) (turn_in b (option_map key next))
       pub last : IfOk result (λ p. turn_in b (option_map key next) ≡ turn_in a (option_map key current) ++ (key p, t) ∷ [])
       pub err : OnErr result (queue_in b (option_map key next) ≡ queue_in a (option_map key current))
 
-    pub task_added : (result : Result P E) → IsTurn (entry a) (links a) (option_map key current) (turn_in a (option_map key current))
-        → IfOk result (λ p. (turn : List (Item Gen T)) → IsTurn (entry a) (links a) (option_map key current) turn → IsTurn (entry b) (links b) (option_map key (option_or current (Some p))) (turn ++ (key p, t) ∷ []))
+    pub task_added : (result : Result P E) → IsQueueOrder (entry a) (links a) (option_map key current) (turn_in a (option_map key current))
+        → IfOk result (λ p. (turn : List (Item Gen T)) → IsQueueOrder (entry a) (links a) (option_map key current) turn → IsQueueOrder (entry b) (links b) (option_map key (option_or current (Some p))) (turn ++ (key p, t) ∷ []))
         → OnErr result (b ≡ a) → IsTaskAdded result (option_or current (result_ok result))
     task_added (Ok p) is comes same = let now = settle b (option_map key (option_or current (Some p))) _ (comes _ is) in record { holds = now.holds; last = now.is_found; err = tt }
     task_added (Err e) is comes same = subst (IsTaskAdded (Err e)) (sym (as_it_was current)) (record {
-      holds = subst (λ (x : A). IsTurn (entry x) (links x) (option_map key current) (turn_in x (option_map key current))) (sym same) is;
+      holds = subst (λ (x : A). IsQueueOrder (entry x) (links x) (option_map key current) (turn_in x (option_map key current))) (sym same) is;
       last = tt;
       err = ap (λ (x : A). queue_in x (option_map key current)) same;
     })
@@ -308,22 +308,22 @@ module _ {A Gen T : Type 0} (seen : A → Seen Gen T) (entry : A → ℕ → Opt
         as_it_was (Some p) = refl
 
   -- the next task is current
-  pub goes_on_in : (a : A) (current next : Option (ℕ × Gen)) (k : ℕ × Gen) → current ≡ Some k → IsTurn (entry a) (links a) current (turn_in a current)
-      → ((task : Item Gen T) (rest : List (Item Gen T)) → IsTurn (entry a) (links a) (Some k) (task ∷ rest) → next ≡ first_key (rest ++ task ∷ [])) → IsSettled a next (turned_once (turn_in a current))
+  pub goes_on_in : (a : A) (current next : Option (ℕ × Gen)) (k : ℕ × Gen) → current ≡ Some k → IsQueueOrder (entry a) (links a) current (turn_in a current)
+      → ((task : Item Gen T) (rest : List (Item Gen T)) → IsQueueOrder (entry a) (links a) (Some k) (task ∷ rest) → next ≡ first_key (rest ++ task ∷ [])) → IsSettled a next (rotation (turn_in a current))
   goes_on_in a current next k known is second =
-      settle a next (turned_once (turn_in a current)) (goes_on (entry a) (links a) k next (turn_in a current) (subst (λ (o : Option (ℕ × Gen)). IsTurn (entry a) (links a) o (turn_in a current)) known is) second)
+      settle a next (rotation (turn_in a current)) (goes_on (entry a) (links a) k next (turn_in a current) (subst (λ (o : Option (ℕ × Gen)). IsQueueOrder (entry a) (links a) o (turn_in a current)) known is) second)
 
   -- a task is cancelled, and the turn is what is left of it
   pub record IsLeft (a b : A) (current next : Option (ℕ × Gen)) (p : ℕ × Gen) (t : T) : Type 0 where
     pub cancelled : IsCancelled p t (turn_in a current) (turn_in b next)
-    pub holds : IsTurn (entry b) (links b) next (turn_in b next)
+    pub holds : IsQueueOrder (entry b) (links b) next (turn_in b next)
 
-  pub task_goes : (a b : A) (current next : Option (ℕ × Gen)) (k p : ℕ × Gen) → current ≡ Some k → IsTurn (entry a) (links a) current (turn_in a current) → (gone : HasGone seen entry links a b p)
-      → ((before after : List (Item Gen T)) (task : T) → IsTurn (entry a) (links a) (Some k) (before ++ (p, task) ∷ after) → next ≡ first_key (before ++ after)) → IsLeft a b current next p gone.stood.value
+  pub task_goes : (a b : A) (current next : Option (ℕ × Gen)) (k p : ℕ × Gen) → current ≡ Some k → IsQueueOrder (entry a) (links a) current (turn_in a current) → (gone : HasGone seen entry links a b p)
+      → ((before after : List (Item Gen T)) (task : T) → IsQueueOrder (entry a) (links a) (Some k) (before ++ (p, task) ∷ after) → next ≡ first_key (before ++ after)) → IsLeft a b current next p gone.stood.value
   task_goes a b current next k p known is gone follows =
-      let turn = subst (λ (o : Option (ℕ × Gen)). IsTurn (entry a) (links a) o (turn_in a current)) known is in
+      let turn = subst (λ (o : Option (ℕ × Gen)). IsQueueOrder (entry a) (links a) o (turn_in a current)) known is in
       let split = valid_task (entry a) (links a) (Some k) (turn_in a current) p turn gone.stood in
-      let stood = subst (IsTurn (entry a) (links a) (Some k)) split.2 turn in
+      let stood = subst (IsQueueOrder (entry a) (links a) (Some k)) split.2 turn in
       let left = cancelled (entry a) (links a) (entry b) (links b) (Some k) next split.0 split.1 (p, gone.stood.value) stood (follows split.0 split.1 gone.stood.value stood) gone.gone gone.kept gone.chains in
       let now = settle b next (split.0 ++ split.1) left in
       record {

@@ -4,7 +4,7 @@ use Rattle.std.specs.Option.{option_map, option_and_then}
 use Rattle.std.specs.List.{range_with_len}
 use Rattle.std.proofs.lemmas.Simd.{map-map}
 use Rattle.std.proofs.lemmas.List.Elements.{All-from_recursion, recursion_from_All}
-use Rattle.chain_laws.specs.Chains.{Interlinks, HasNoRepetition, all_items}
+use Rattle.chain_laws.specs.Chains.{Interlinks, AreDistinct, all_items}
 use Rattle.chain_laws.specs.Renamings.{IsRenaming}
 use Rattle.chain_laws.specs.Arrangements.{place_in}
 use Rattle.chain_laws.proofs.ChainLemmas.Partitions.{no_others}
@@ -12,7 +12,7 @@ use Rattle.chain_laws.proofs.RenamingLemmas.Positions.{place-numbers}
 use Rattle.arena_base.specs.Arena.{Arena, IsValid}
 use Rattle.arena_base.specs.Entries.{found}
 use Rattle.chain_links.specs.CanonicalLayouts.{IsCanonicalLayout}
-use Rattle.chain_links.specs.ChainArena.{LinkSeen, link_value, values_of, entry, seen, shown}
+use Rattle.chain_links.specs.ChainArena.{LinkView, link_value, values_of, entry, value_view, link_map}
 use Rattle.chain_links.proofs.ArenaInsertionLemmas.{slots-within}
 use Rattle.chain_links.proofs.MappedArenaLemmas.{length-with_each}
 use Rattle.chain_compaction.specs.Layouts.{AreAllMoves}
@@ -28,7 +28,7 @@ use Rattle.chain_examples.proofs.DocumentRenamingLemmas.{moves_go, moves_end_at,
 abbrev no_neighbors : Interlinks
 no_neighbors = record { prev = None; next = None }
 
-module _ {P Gen T : Type 0} (key : P → ℕ × Gen) (old new : Arena Gen (LinkSeen T)) (moves : List (P × P)) where
+module _ {P Gen T : Type 0} (key : P → ℕ × Gen) (old new : Arena Gen (LinkView T)) (moves : List (P × P)) where
   -- a valid pointer has the index of a slot
   within : (p : ℕ × Gen) → IsValid (entry old) p → (1 ≤ p.0) × (p.0 ≤ length old.slots)
   within p valid =
@@ -44,34 +44,34 @@ module _ {P Gen T : Type 0} (key : P → ℕ × Gen) (old new : Arena Gen (LinkS
   fits moved told count is long =
       subst (All (λ (m : P × P). (key m.0).0 ≤ count)) (sym is) (λ k d below. omega (arith, long, (within (key (slice_index_or moves k d).0) (moved.values k d below).0).1))
 
-  module _ (first : Gen) (following : Gen → Gen) (layout : IsCanonicalLayout first following false (seen old) (shown old) (seen new) (shown new)) (all : AreAllMoves key (seen old) (shown old) new.counter moves) where
+  module _ (first : Gen) (following : Gen → Gen) (layout : IsCanonicalLayout first following false (value_view old) (link_map old) (value_view new) (link_map new)) (all : AreAllMoves key (value_view old) (link_map old) new.counter moves) where
     -- the moves by their keys
-    abbrev all_keys : AreAllMoves (λ (p : ℕ × Gen). p) (seen old) (shown old) new.counter (map (keys_of key) moves)
+    abbrev all_keys : AreAllMoves (λ (p : ℕ × Gen). p) (value_view old) (link_map old) new.counter (map (keys_of key) moves)
     all_keys = record { indexes = all.indexes; order = all.order; from = map-map (λ (m : Move Gen). Some m.0) (keys_of key) moves ∙ all.from; to = map-map (λ (m : Move Gen). m.1) (keys_of key) moves ∙ all.to }
 
     -- they go where the renaming sends their indexes
     all_go : All (λ (m : Move Gen). place_in all.indexes m.0.0 ≡ Some m.1.0) (map (keys_of key) moves)
     all_go =
-        All-from_recursion _ (map (keys_of key) moves) (moves_go (λ i. found i (seen old).entries) (place_in all.indexes) new.counter (map (keys_of key) moves) all.indexes (range_with_len 1 (length all.indexes)) all_keys.from all_keys.to
-        (place-numbers 1 all.indexes (subst HasNoRepetition (sym all.order.items) all.order.are.partition.once)))
+        All-from_recursion _ (map (keys_of key) moves) (moves_go (λ i. found i (value_view old).entries) (place_in all.indexes) new.counter (map (keys_of key) moves) all.indexes (range_with_len 1 (length all.indexes)) all_keys.from all_keys.to
+        (place-numbers 1 all.indexes (subst AreDistinct (sym all.order.items) all.order.are.partition.once)))
 
     -- which is by the one least-index order
     same_order : layout.indexes ≡ all.indexes
-    same_order = layout.order.items ∙ (ap all_items (no_others (shown old) layout.order.chains all.order.chains layout.order.are all.order.are) ∙ sym all.order.items)
+    same_order = layout.order.items ∙ (ap all_items (no_others (link_map old) layout.order.chains all.order.chains layout.order.are all.order.are) ∙ sym all.order.items)
 
-    renaming : IsRenaming (place_in all.indexes) (shown old) (shown new)
-    renaming = subst (λ (is : List ℕ). IsRenaming (place_in is) (shown old) (shown new)) same_order layout.renamed
+    renaming : IsRenaming (place_in all.indexes) (link_map old) (link_map new)
+    renaming = subst (λ (is : List ℕ). IsRenaming (place_in is) (link_map old) (link_map new)) same_order layout.renamed
 
     -- so they go where the layout places their links
     all_placed : All (λ (m : Move Gen). (place_in layout.indexes m.0.0 ≡ Some m.1.0) × (m.1.1 ≡ layout.generation)) (map (keys_of key) moves)
     all_placed =
-        let at = All-from_recursion _ (map (keys_of key) moves) (moves_end_at (λ i. found i (seen old).entries) (place_in all.indexes) new.counter (map (keys_of key) moves) (range_with_len 1 (length all.indexes)) all_keys.to) in
+        let at = All-from_recursion _ (map (keys_of key) moves) (moves_end_at (λ i. found i (value_view old).entries) (place_in all.indexes) new.counter (map (keys_of key) moves) (range_with_len 1 (length all.indexes)) all_keys.to) in
         let go = subst (λ (is : List ℕ). All (λ (m : Move Gen). place_in is m.0.0 ≡ Some m.1.0) (map (keys_of key) moves)) (sym same_order) all_go in
         λ k d below. (go k d below, at k d below ∙ layout.is_counter)
 
     -- the links were renumbered, and bookmarks that are looked up in the table are followed
     pub renumbered : (eq : P → P → Bool) → ((p q : P) → key p ≡ key q → p ≡ q) → ((p q : P) → (eq p q ≡ true) ↔ (p ≡ q)) → ArePointerMoves key (entry old) (entry new) moves → (bookmarks : List (Option P))
-        → IsRenumbered first following seen entry shown old new (map (option_map key) bookmarks) (map (option_map key) (map (option_and_then (looked_up key eq (noted key (replicate (length old.slots) None) moves))) bookmarks))
+        → IsRenumbered first following value_view entry link_map old new (map (option_map key) bookmarks) (map (option_map key) (map (option_and_then (looked_up key eq (noted key (replicate (length old.slots) None) moves))) bookmarks))
     renumbered eq same_key eq_is_same moved bookmarks =
         let moved_keys = arena_moves_pointers (λ (p : ℕ × Gen). p) first following false old new (map (keys_of key) moves) layout all_keys in
         record {
@@ -79,6 +79,6 @@ module _ {P Gen T : Type 0} (key : P → ℕ × Gen) (old new : Arena Gen (LinkS
           moves = map (keys_of key) moves;
           moved = moved_keys;
           placed = all_placed;
-          texts = texts_move entry shown old new (map (keys_of key) moves) (place_in all.indexes) moved_keys all_go renaming;
+          texts = texts_move entry link_map old new (map (keys_of key) moves) (place_in all.indexes) moved_keys all_go renaming;
           bookmarks = all_followed key eq same_key eq_is_same (entry old) (entry new) moves moved (noted key (replicate (length old.slots) None) moves) (noted_table key (length old.slots) moves (has_places moved) moved.old_apart) bookmarks;
         }

@@ -3,10 +3,10 @@ use Rattle.std.proofs.Common.{◌≡◌, ◌≢◌, ℕ, inl, inr, ⊎_elim, Lis
 use Rattle.std.specs.Prelude.{◌↔◌, All, is_some, true, OnSome, IfNone}
 use Rattle.std.specs.Option.{option_map, option_and_then}
 use Rattle.std.proofs.lemmas.List.{map-append}
-use Rattle.chain_laws.specs.Chains.{Shown, cyclic, IsChain, Has, HasNoRepetition, HasLink, Agrees, next_of, next_in, first_or}
+use Rattle.chain_laws.specs.Chains.{LinkMap, cyclic, IsChain, IsMember, AreDistinct, HasLink, IsWellLinked, next_of, next_in, first_or}
 use Rattle.chain_laws.specs.Exchanges.{Exchanges, exchanged}
 use Rattle.chain_laws.proofs.ChainLemmas.Rotations.{turned}
-use Rattle.chain_laws.proofs.ListLemmas.Members.{Has-right}
+use Rattle.chain_laws.proofs.ListLemmas.Members.{IsMember-right}
 use Rattle.chain_laws.proofs.ListLemmas.MemberLaws.{once_in_middle}
 use Rattle.chain_laws.proofs.InterlinkLemmas.Inverses.{one_some}
 use Rattle.chain_laws.proofs.ChainLemmas.MemberLaws.{chains_share_each, members_are_links}
@@ -16,14 +16,14 @@ use Rattle.arena_base.specs.Arena.{IsValid}
 use Rattle.arena_base.specs.Entries.{index_of, found, first_key}
 use Rattle.chain_links.specs.ChainArena.{CanExchange, IsInserted, ptr_at}
 use Rattle.chain_traits.proofs.GenericArenaLemmas.{some_valid, valid_some, links_within}
-use Rattle.chain_examples.specs.Lists.{Item, Stand, indexes, IsRing, KeepsWithout, ComesAfter, ComesBefore}
-use Rattle.chain_examples.specs.Rings.{GoesRound, AllInRings, IsCutInTwo, AreMerged, AreCopied, IsSplit, IsBridged, CutAndMergeRestore}
+use Rattle.chain_examples.specs.Lists.{Item, AreEntries, indexes, IsRing, KeepsWithout, InsertsAfter, InsertsBefore}
+use Rattle.chain_examples.specs.Rings.{AllCyclic, AllInRings, IsCutInTwo, AreMerged, AreCopied, IsSplit, IsBridged, CutAndMergeRestore}
 use Rattle.chain_examples.proofs.ItemListLemmas.{stand-append, stand-left, stand-right, stand-some}
 use Rattle.chain_examples.proofs.ListChangeLemmas.{parts, whole, stays}
 use Rattle.chain_examples.proofs.MeshInvariantLemmas.{some_item, ring_from}
 
 -- the items at indexes where entries stand
-items_at : {Gen T : Type 0} (entry : ℕ → Option (Gen × T)) (ks : List ℕ) → ((k : ℕ) → Has ks k → is_some (entry k) ≡ true) → (es : List (Item Gen T)) × (indexes es ≡ ks) × Stand entry es
+items_at : {Gen T : Type 0} (entry : ℕ → Option (Gen × T)) (ks : List ℕ) → ((k : ℕ) → IsMember ks k → is_some (entry k) ≡ true) → (es : List (Item Gen T)) × (indexes es ≡ ks) × AreEntries entry es
 items_at entry [] some = ([], refl, tt)
 items_at entry (k ∷ ks) some =
     let e = some_item (entry k) (some k (inl refl)) in
@@ -45,7 +45,7 @@ module _ {Gen T : Type 0} (entry mid after : ℕ → Option (Gen × T)) (c d : �
     rest = λ i not_c not_d. also.rest i not_d ∙ came.rest i not_c;
   }
 
-module _ {A Gen T : Type 0} (entry : A → ℕ → Option (Gen × T)) (links : A → Shown) where
+module _ {A Gen T : Type 0} (entry : A → ℕ → Option (Gen × T)) (links : A → LinkMap) where
   -- the corner after another is the next one in their ring
   module _ (a : A) (p : ℕ × Gen) (t : T) (others : List (Item Gen T)) (is : IsRing entry links a ((p, t) ∷ others)) where
     pub in_a_ring : IsValid (entry a) p
@@ -54,7 +54,7 @@ module _ {A Gen T : Type 0} (entry : A → ℕ → Option (Gen × T)) (links : A
     pub ring_goes_on : option_and_then (ptr_at (entry a)) (next_of (links a) p.0) ≡ first_key (others ++ (p, t) ∷ [])
     ring_goes_on = ap (λ o. option_and_then (ptr_at (entry a)) (next_in o)) is.chain.2.0 ∙ key_of others is.stand.1
       where
-        key_of : (es : List (Item Gen T)) → Stand (entry a) es → option_and_then (ptr_at (entry a)) (first_or (indexes es) (Some p.0)) ≡ first_key (es ++ (p, t) ∷ [])
+        key_of : (es : List (Item Gen T)) → AreEntries (entry a) es → option_and_then (ptr_at (entry a)) (first_or (indexes es) (Some p.0)) ≡ first_key (es ++ (p, t) ∷ [])
         key_of [] s = ap (option_map (λ (x : Gen × T). (p.0, x.0))) is.stand.0
         key_of (e ∷ es) s = ap (option_map (λ (x : Gen × T). (e.0.0, x.0))) s.0
 
@@ -66,7 +66,7 @@ module _ {A Gen T : Type 0} (entry : A → ℕ → Option (Gen × T)) (links : A
   }
 
   -- where one comes after each, what comes after any two can be exchanged
-  pub can_exchange : (a : A) → ((i : ℕ) → is_some (entry a i) ≡ true → HasLink (links a) i) → GoesRound (links a) → (p q : ℕ × Gen)
+  pub can_exchange : (a : A) → ((i : ℕ) → is_some (entry a i) ≡ true → HasLink (links a) i) → AllCyclic (links a) → (p q : ℕ × Gen)
       → CanExchange (entry a) (links a) p q ↔ (IsValid (entry a) p × IsValid (entry a) q)
   can_exchange a linked round p q = (
     λ can. (can.first_valid, can.second_valid),
@@ -111,18 +111,18 @@ module _ {A Gen T : Type 0} (entry : A → ℕ → Option (Gen × T)) (links : A
         by (Some x) exchanges none = stays entry links cyclic (λ l. refl) old new same xs is.stand ((exchanges.rest (cyclic (indexes xs)) lacks.0 lacks.1.0).0 is.chain)
 
   -- an exchange of a corner with itself changes nothing
-  pub exchanged_itself : (old new : A) → ((i : ℕ) → is_some (entry old i) ≡ true → HasLink (links old) i) → (p q : ℕ × Gen) → IsValid (entry old) p → Agrees (links old) → p ≡ q
+  pub exchanged_itself : (old new : A) → ((i : ℕ) → is_some (entry old i) ≡ true → HasLink (links old) i) → (p q : ℕ × Gen) → IsValid (entry old) p → IsWellLinked (links old) → p ≡ q
       → links new ≡ exchanged (links old) p.0 q.0 → links new ≡ links old
   exchanged_itself old new linked p q valid agrees same changed =
       changed ∙ subst (λ (k : ℕ × Gen). exchanged (links old) p.0 k.0 ≡ links old) same (exchanged_with_itself (links old) p.0 agrees (linked p.0 (ap is_some valid.stands)))
 
   -- a ring stands where the same is seen
   pub ring_seen : (old new : A) → entry new ≡ entry old → links new ≡ links old → (xs : List (Item Gen T)) → IsRing entry links old xs → IsRing entry links new xs
-  ring_seen old new same linked xs is = stays entry links cyclic (λ l. refl) old new same xs is.stand (subst (λ (l : Shown). IsChain l (cyclic (indexes xs))) (sym linked) is.chain)
+  ring_seen old new same linked xs is = stays entry links cyclic (λ l. refl) old new same xs is.stand (subst (λ (l : LinkMap). IsChain l (cyclic (indexes xs))) (sym linked) is.chain)
 
   module _ (old first second new : A) (u v c d : ℕ × Gen) (a b : T) where
     -- copies of the ends of a line come beside them, and one ring becomes two ..
-    pub splits : entry old u.0 ≡ Some (u.1, a) → entry old v.0 ≡ Some (v.1, b) → ComesBefore entry links cyclic old first u (c, a) → ComesAfter entry links cyclic first second v (d, b)
+    pub splits : entry old u.0 ≡ Some (u.1, a) → entry old v.0 ≡ Some (v.1, b) → InsertsBefore entry links cyclic old first u (c, a) → InsertsAfter entry links cyclic first second v (d, b)
         → IsCutInTwo entry links second new v c → IsSplit entry links old new u v c d
     splits at_u at_v before after cut s t x y is =
         let one = before s [] (x ++ (v, t) ∷ y) is in
@@ -134,8 +134,8 @@ module _ {A Gen T : Type 0} (entry : A → ℕ → Option (Gen × T)) (links : A
 
     -- .. or two become one: the first corner's copy is in no ring of the second ..
     pub bridges : entry old u.0 ≡ Some (u.1, a) → entry old v.0 ≡ Some (v.1, b) → IsInserted (entry old) (entry first) c a → IsInserted (entry first) (entry second) d b
-        → ComesBefore entry links cyclic old first u (c, a) → KeepsWithout entry links cyclic old first (u ∷ [])
-        → ComesAfter entry links cyclic first second v (d, b) → KeepsWithout entry links cyclic first second (v ∷ [])
+        → InsertsBefore entry links cyclic old first u (c, a) → KeepsWithout entry links cyclic old first (u ∷ [])
+        → InsertsAfter entry links cyclic first second v (d, b) → KeepsWithout entry links cyclic first second (v ∷ [])
         → AreMerged entry links second new v c → IsBridged entry links old new u v c d
     bridges at_u at_v came also before kept after kept_too merged s t x y one two apart =
         let same_u : a ≡ s = ap (λ (e : Gen × T). e.1) (one_some (sym at_u ∙ one.stand.0)) in
@@ -146,17 +146,17 @@ module _ {A Gen T : Type 0} (entry : A → ℕ → Option (Gen × T)) (links : A
         subst (λ (w : T). IsRing entry links new ((v, t) ∷ (u, s) ∷ x ++ (c, s) ∷ (d, w) ∷ y)) same_v
         (subst (λ (w : T). IsRing entry links new ((v, t) ∷ (u, s) ∷ x ++ (c, w) ∷ (d, b) ∷ y)) same_u ring)
       where
-        free : (xs : List (Item Gen T)) → Stand (entry old) xs → Has (indexes xs) c.0 → ⊥
+        free : (xs : List (Item Gen T)) → AreEntries (entry old) xs → IsMember (indexes xs) c.0 → ⊥
         free xs stand has = let some = stand-some (entry old) xs c.0 stand has in let none = ap is_some came.free in let both = sym some ∙ none in cc
 
-        other_lacks : Has (indexes ((v, t) ∷ y)) u.0 → ⊥
+        other_lacks : IsMember (indexes ((v, t) ∷ y)) u.0 → ⊥
         other_lacks has = apart ((chains_share_each (links old) (cyclic (indexes ((u, s) ∷ x))) (cyclic (indexes ((v, t) ∷ y))) u.0 v.0 one.chain two.chain (inl refl) has).1 (inl refl))
 
-        not_among : Has (indexes ((c, a) ∷ (u, s) ∷ x)) v.0 → ⊥
+        not_among : IsMember (indexes ((c, a) ∷ (u, s) ∷ x)) v.0 → ⊥
         not_among (inl is) = free ((v, t) ∷ y) two.stand (inl (sym is))
         not_among (inr has) = apart has
 
-        new_among : Has (indexes ((v, t) ∷ (d, b) ∷ y)) c.0 → ⊥
+        new_among : IsMember (indexes ((v, t) ∷ (d, b) ∷ y)) c.0 → ⊥
         new_among (inl is) = free ((v, t) ∷ y) two.stand (inl is)
         new_among (inr (inl is)) = come_apart (entry old) (entry first) (entry second) c d a b came also (sym is)
         new_among (inr (inr has)) = free ((v, t) ∷ y) two.stand (inr has)
@@ -169,7 +169,7 @@ module _ {A Gen T : Type 0} (entry : A → ℕ → Option (Gen × T)) (links : A
 
   -- each entry stands in a ring
   pub all_in_rings : (a : A) (es : List (Item Gen T)) → ((i : ℕ) → found i es ≡ entry a i) → ((i : ℕ) → is_some (links a i) ≡ is_some (entry a i)) → (greatest : ℕ)
-      → All (λ e. IsWithin greatest (index_of e)) es → Agrees (links a) → GoesRound (links a) → AllInRings entry links a
+      → All (λ e. IsWithin greatest (index_of e)) es → IsWellLinked (links a) → AllCyclic (links a) → AllInRings entry links a
   all_in_rings a es looked stand greatest within agrees round e at =
       let ring = ring_from (links a) greatest e.0.0 agrees (links_within (links a) (entry a) es stand looked greatest within) round (some_valid (links a) (entry a) es stand looked e.0.0 (ap is_some at)) in
       let items = items_at (entry a) ring.0 (λ k has. valid_some (links a) (entry a) es stand looked k (members_are_links (links a) (cyclic (e.0.0 ∷ ring.0)) k ring.1 (inr has))) in
@@ -180,7 +180,7 @@ module _ {A Gen T : Type 0} (entry : A → ℕ → Option (Gen × T)) (links : A
   cut_and_merge = record {
     merge = λ old mid new p q cut merged s t x y is.
         let two = cut s t x y is in
-        let once = (once_in_middle (p.0 ∷ indexes x) (indexes y) q.0).0 (subst (λ (l : List ℕ). HasNoRepetition (p.0 ∷ l)) (map-append index_of x ((q, t) ∷ y)) is.chain.1) in
-        merged s t y x two.0 two.1 (λ has. once.0 (⊎_elim (λ is_p. inl is_p) (λ in_y. inr (Has-right (indexes x) (indexes y) q.0 in_y)) has));
+        let once = (once_in_middle (p.0 ∷ indexes x) (indexes y) q.0).0 (subst (λ (l : List ℕ). AreDistinct (p.0 ∷ l)) (map-append index_of x ((q, t) ∷ y)) is.chain.1) in
+        merged s t y x two.0 two.1 (λ has. once.0 (⊎_elim (λ is_p. inl is_p) (λ in_y. inr (IsMember-right (indexes x) (indexes y) q.0 in_y)) has));
     cut = λ old mid new p q merged cut s t x y first second apart. cut s t y x (merged s t x y first second apart);
   }

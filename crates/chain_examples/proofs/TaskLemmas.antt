@@ -2,10 +2,10 @@
 use Rattle.std.proofs.Common.{◌≡◌, ◌≢◌, ℕ, inl, inr, List, [], ◌∷◌, ◌++◌, length, Option, None, Some, refl, sym, ap, ◌∙◌, subst}
 use Rattle.std.specs.Prelude.{is_some, IfSome}
 use Rattle.std.specs.Option.{option_map}
-use Rattle.chain_laws.specs.Chains.{Shown, cyclic, IsChain, Has, HasNoRepetition}
+use Rattle.chain_laws.specs.Chains.{LinkMap, cyclic, IsChain, IsMember, AreDistinct}
 use Rattle.arena_base.specs.Arena.{IsValid}
-use Rattle.arena_base.specs.Entries.{Seen, count, found, replaced, written, RisesFrom}
-use Rattle.chain_examples.specs.Lists.{Item, indexes, IsTurn}
+use Rattle.arena_base.specs.Entries.{ArenaView, count, found, replaced, written, RisesFrom}
+use Rattle.chain_examples.specs.Lists.{Item, indexes, IsQueueOrder}
 use Rattle.chain_examples.specs.QueueOrder.{Queue, IsAmong, with_task}
 use Rattle.chain_examples.proofs.ItemListLemmas.{stand-some}
 use Rattle.chain_examples.proofs.ValueWriteLemmas.{valued, found-standing, indexes-written, first_key-written, stand-written, some-written, value_there, values_elsewhere}
@@ -16,7 +16,7 @@ module _ {Gen T : Type 0} where
   among_parts [] after e = inl refl
   among_parts (x ∷ before) after e = inr (among_parts before after e)
 
-  module _ (entry : ℕ → Option (Gen × T)) (links : Shown) (current : Option (ℕ × Gen)) (turn : List (Item Gen T)) (is : IsTurn entry links current turn) where
+  module _ (entry : ℕ → Option (Gen × T)) (links : LinkMap) (current : Option (ℕ × Gen)) (turn : List (Item Gen T)) (is : IsQueueOrder entry links current turn) where
     -- a pointer is valid exactly if it is that of a task
     pub among_if_valid : (p : ℕ × Gen) → IsValid entry p → IsAmong p turn
     among_if_valid p valid =
@@ -35,31 +35,31 @@ module _ {Gen T : Type 0} where
     task_shown p value (Some r) stands = task_found p (value r) stands
 
     -- a free index is that of no task
-    pub free_index : (i : ℕ) → entry i ≡ None → Has (indexes turn) i → ⊥
+    pub free_index : (i : ℕ) → entry i ≡ None → IsMember (indexes turn) i → ⊥
     free_index i free has = let some = stand-some entry turn i is.stand has in let none = ap is_some free in let both = sym some ∙ none in cc
 
     -- a value is written at an index
-    pub turn-written : (new : ℕ → Option (Gen × T)) (changed : Shown) (i : ℕ) (t : T) → new i ≡ option_map (valued t) (entry i) → ((k : ℕ) → k ≢ i → new k ≡ entry k) → changed ≡ links
-        → IsTurn new changed current (replaced i (valued t) turn)
+    pub turn-written : (new : ℕ → Option (Gen × T)) (changed : LinkMap) (i : ℕ) (t : T) → new i ≡ option_map (valued t) (entry i) → ((k : ℕ) → k ≢ i → new k ≡ entry k) → changed ≡ links
+        → IsQueueOrder new changed current (replaced i (valued t) turn)
     turn-written new changed i t there rest same = record {
       first = is.first ∙ sym (first_key-written i t turn);
-      ring = λ filled. subst (λ (l : List ℕ). IsChain changed (cyclic l)) (sym (indexes-written i t turn)) (subst (λ (l : Shown). IsChain l (cyclic (indexes turn))) (sym same) (is.ring (λ none. filled (ap (replaced i (valued t)) none))));
+      ring = λ filled. subst (λ (l : List ℕ). IsChain changed (cyclic l)) (sym (indexes-written i t turn)) (subst (λ (l : LinkMap). IsChain l (cyclic (indexes turn))) (sym same) (is.ring (λ none. filled (ap (replaced i (valued t)) none))));
       stand = stand-written entry new i t there rest turn (once turn is.ring) is.stand;
-      all = λ k some. subst (λ (l : List ℕ). Has l k) (sym (indexes-written i t turn)) (is.all k (sym (some-written entry new i t there rest k) ∙ some));
+      all = λ k some. subst (λ (l : List ℕ). IsMember l k) (sym (indexes-written i t turn)) (is.all k (sym (some-written entry new i t there rest k) ∙ some));
     }
       where
-        once : (xs : List (Item Gen T)) → (xs ≢ [] → IsChain links (cyclic (indexes xs))) → HasNoRepetition (indexes xs)
+        once : (xs : List (Item Gen T)) → (xs ≢ [] → IsChain links (cyclic (indexes xs))) → AreDistinct (indexes xs)
         once [] ring = tt
         once (x ∷ xs) ring = (ring (λ h. cc)).1
 
 -- a queue as its arena shows it: how many tasks it has, its capacity and the maximum of that
-pub record HasSize {Gen T : Type 0} (s : Seen Gen T) (q : Queue Gen T) : Type 0 where
+pub record HasSize {Gen T : Type 0} (s : ArenaView Gen T) (q : Queue Gen T) : Type 0 where
   pub tasks : count s ≡ length q.turn
   pub room : s.capacity ≡ q.room
   pub maximum : s.maximum ≡ q.maximum
 
-pub has_size : {A Gen T : Type 0} (seen : A → Seen Gen T) (entry : A → ℕ → Option (Gen × T)) (links : A → Shown) (rises : (a : A) → RisesFrom 1 (seen a).entries) (looked : (a : A) (i : ℕ) → found i (seen a).entries ≡ entry a i)
-    (a : A) (current : Option (ℕ × Gen)) (q : Queue Gen T) → IsTurn (entry a) (links a) current (turn_in seen entry links rises looked a current) → queue_in seen entry links rises looked a current ≡ q → HasSize (seen a) q
+pub has_size : {A Gen T : Type 0} (seen : A → ArenaView Gen T) (entry : A → ℕ → Option (Gen × T)) (links : A → LinkMap) (rises : (a : A) → RisesFrom 1 (seen a).entries) (looked : (a : A) (i : ℕ) → found i (seen a).entries ≡ entry a i)
+    (a : A) (current : Option (ℕ × Gen)) (q : Queue Gen T) → IsQueueOrder (entry a) (links a) current (turn_in seen entry links rises looked a current) → queue_in seen entry links rises looked a current ≡ q → HasSize (seen a) q
 has_size {Gen = Gen} {T = T} seen entry links rises looked a current q is shows = record {
   tasks = turn_length (entry a) (links a) current (turn_in seen entry links rises looked a current) (seen a).entries is (rises a) (looked a) ∙ ap (λ (r : Queue Gen T). length r.turn) shows;
   room = ap (λ (r : Queue Gen T). r.room) shows;
@@ -67,14 +67,14 @@ has_size {Gen = Gen} {T = T} seen entry links rises looked a current q is shows 
 }
 
 -- The queue as it is found in an arena, where these look at one.
-module _ {A Gen T : Type 0} (seen : A → Seen Gen T) (entry : A → ℕ → Option (Gen × T)) (links : A → Shown) (rises : (a : A) → RisesFrom 1 (seen a).entries) (looked : (a : A) (i : ℕ) → found i (seen a).entries ≡ entry a i)
-    (a b : A) (current : Option (ℕ × Gen)) (is : IsTurn (entry a) (links a) current (turn_in seen entry links rises looked a current)) where
+module _ {A Gen T : Type 0} (seen : A → ArenaView Gen T) (entry : A → ℕ → Option (Gen × T)) (links : A → LinkMap) (rises : (a : A) → RisesFrom 1 (seen a).entries) (looked : (a : A) (i : ℕ) → found i (seen a).entries ≡ entry a i)
+    (a b : A) (current : Option (ℕ × Gen)) (is : IsQueueOrder (entry a) (links a) current (turn_in seen entry links rises looked a current)) where
   -- the queue is that of the first arena with something else for its parts
   pub record IsQueue (q : Queue Gen T) : Type 0 where
-    pub holds : IsTurn (entry b) (links b) current (turn_in seen entry links rises looked b current)
+    pub holds : IsQueueOrder (entry b) (links b) current (turn_in seen entry links rises looked b current)
     pub shows : queue_in seen entry links rises looked b current ≡ q
 
   pub task_written : (i : ℕ) (t : T) → seen b ≡ written (seen a) i t → links b ≡ links a → IsQueue (with_task (queue_in seen entry links rises looked a current) i t)
   task_written i t was same =
       let now = settle seen entry links rises looked b current _ (turn-written (entry a) (links a) current _ is (entry b) (links b) i t (value_there seen entry links looked a b i t was) (values_elsewhere seen entry links looked a b i t was) same) in
-      record { holds = now.holds; shows = λ k. record { turn = now.is_found k; room = (ap (λ (s : Seen Gen T). s.capacity) was) k; maximum = (ap (λ (s : Seen Gen T). s.maximum) was) k } }
+      record { holds = now.holds; shows = λ k. record { turn = now.is_found k; room = (ap (λ (s : ArenaView Gen T). s.capacity) was) k; maximum = (ap (λ (s : ArenaView Gen T). s.maximum) was) k } }

@@ -4,9 +4,9 @@ use Rattle.std.specs.Prelude.{◌==◌, cond, is_some}
 use Rattle.std.specs.Option.{option_map}
 use Rattle.std.proofs.lemmas.Bool.{cases_eq, eq-eqb, ne_eqb}
 use Rattle.std.proofs.lemmas.List.{map-append}
-use Rattle.chain_laws.specs.Chains.{Shown, linear, IsChain, Has, HasNoRepetition}
-use Rattle.arena_base.specs.Entries.{Seen, found, first_key, index_of, replaced, written}
-use Rattle.chain_examples.specs.Lists.{Item, Stand, indexes}
+use Rattle.chain_laws.specs.Chains.{LinkMap, linear, IsChain, IsMember, AreDistinct}
+use Rattle.arena_base.specs.Entries.{ArenaView, found, first_key, index_of, replaced, written}
+use Rattle.chain_examples.specs.Lists.{Item, AreEntries, indexes}
 use Rattle.chain_examples.specs.Texts.{HasNewValue}
 use Rattle.chain_examples.proofs.ItemListLemmas.{stand-append, stand-left, stand-right, stand-frame}
 use Rattle.chain_examples.proofs.DocumentLemmas.{apart, has_left, has_right}
@@ -61,27 +61,27 @@ module _ {Gen T : Type 0} where
       (cases_eq e.0.0 i)
 
   -- what is found among items that stand is what stands there
-  pub found-standing : (entry : ℕ → Option (Gen × T)) (i : ℕ) (es : List (Item Gen T)) → Stand entry es → Has (indexes es) i → found i es ≡ entry i
+  pub found-standing : (entry : ℕ → Option (Gen × T)) (i : ℕ) (es : List (Item Gen T)) → AreEntries entry es → IsMember (indexes es) i → found i es ≡ entry i
   found-standing entry i [] stand has = absurd has
   found-standing entry i (e ∷ es) stand has = ⊎_elim
       (λ is. at_first e i es is ∙ (sym stand.0 ∙ ap entry is))
       (λ other. past_first e i es other ∙ found-standing entry i es stand.1 (later other has))
       (cases_eq e.0.0 i)
     where
-      later : e.0.0 ≢ i → Has (indexes (e ∷ es)) i → Has (indexes es) i
+      later : e.0.0 ≢ i → IsMember (indexes (e ∷ es)) i → IsMember (indexes es) i
       later other (inl is) = absurd (other is)
       later other (inr h) = h
 
   -- items that stood stand, where the value at an index was written
   module _ (old new : ℕ → Option (Gen × T)) (i : ℕ) (t : T) (there : new i ≡ option_map (valued t) (old i)) (rest : (k : ℕ) → k ≢ i → new k ≡ old k) where
-    pub stand-written : (es : List (Item Gen T)) → HasNoRepetition (indexes es) → Stand old es → Stand new (replaced i (valued t) es)
+    pub stand-written : (es : List (Item Gen T)) → AreDistinct (indexes es) → AreEntries old es → AreEntries new (replaced i (valued t) es)
     stand-written [] once stand = tt
     stand-written (e ∷ es) once stand = ⊎_elim
-        (λ is. subst (Stand new) (sym (writes_first i t e es is)) (
+        (λ is. subst (AreEntries new) (sym (writes_first i t e es is)) (
           there ∙ ap (option_map (valued t)) (ap old (sym is) ∙ stand.0),
-          stand-frame old new es (λ k has. rest k (λ same. once.0 (subst (Has (indexes es)) (same ∙ sym is) has))) stand.1,
+          stand-frame old new es (λ k has. rest k (λ same. once.0 (subst (IsMember (indexes es)) (same ∙ sym is) has))) stand.1,
         ))
-        (λ other. subst (Stand new) (sym (writes_later i t e es other)) (rest e.0.0 other ∙ stand.0, stand-written es once.1 stand.1))
+        (λ other. subst (AreEntries new) (sym (writes_later i t e es other)) (rest e.0.0 other ∙ stand.0, stand-written es once.1 stand.1))
         (cases_eq e.0.0 i)
 
     some_mapped : (o : Option (Gen × T)) → is_some (option_map (valued t) o) ≡ is_some o
@@ -96,13 +96,13 @@ module _ {Gen T : Type 0} where
         (cases_eq k i)
 
 -- A value that is written in an arena, where these look at one.
-module _ {A Gen T : Type 0} (seen : A → Seen Gen T) (entry : A → ℕ → Option (Gen × T)) (links : A → Shown) (looked : (a : A) (i : ℕ) → found i (seen a).entries ≡ entry a i)
+module _ {A Gen T : Type 0} (seen : A → ArenaView Gen T) (entry : A → ℕ → Option (Gen × T)) (links : A → LinkMap) (looked : (a : A) (i : ℕ) → found i (seen a).entries ≡ entry a i)
     (a b : A) (i : ℕ) (t : T) (was : seen b ≡ written (seen a) i t) where
   pub value_there : entry b i ≡ option_map (valued t) (entry a i)
-  value_there = sym (looked b i) ∙ (ap (λ (s : Seen Gen T). found i s.entries) was ∙ (found-written i t (seen a).entries ∙ ap (option_map (valued t)) (looked a i)))
+  value_there = sym (looked b i) ∙ (ap (λ (s : ArenaView Gen T). found i s.entries) was ∙ (found-written i t (seen a).entries ∙ ap (option_map (valued t)) (looked a i)))
 
   pub values_elsewhere : (k : ℕ) → k ≢ i → entry b k ≡ entry a k
-  values_elsewhere k other = sym (looked b k) ∙ (ap (λ (s : Seen Gen T). found k s.entries) was ∙ (found-unwritten k i t (seen a).entries other ∙ looked a k))
+  values_elsewhere k other = sym (looked b k) ∙ (ap (λ (s : ArenaView Gen T). found k s.entries) was ∙ (found-unwritten k i t (seen a).entries other ∙ looked a k))
 
   -- an item of a text has the value, and every other one the value that it had
   pub has_new_value : (g : Gen) → links b ≡ links a → HasNewValue seen entry links a b (i, g) t
@@ -112,14 +112,14 @@ module _ {A Gen T : Type 0} (seen : A → Seen Gen T) (entry : A → ℕ → Opt
         let other = (apart before ((i, g), s) after is.chain.1).0 in
         let indexes_stay : indexes (before ++ ((i, g), s) ∷ after) ≡ indexes (before ++ ((i, g), t) ∷ after) = map-append index_of before (((i, g), s) ∷ after) ∙ sym (map-append index_of before (((i, g), t) ∷ after)) in
         record {
-          chain = subst (λ (l : List ℕ). IsChain (links b) (linear l)) indexes_stay (subst (λ (l : Shown). IsChain l (linear (indexes (before ++ ((i, g), s) ∷ after)))) (sym same) is.chain);
+          chain = subst (λ (l : List ℕ). IsChain (links b) (linear l)) indexes_stay (subst (λ (l : LinkMap). IsChain l (linear (indexes (before ++ ((i, g), s) ∷ after)))) (sym same) is.chain);
           stand = stand-append (entry b) before (((i, g), t) ∷ after)
-              (stand-frame (entry a) (entry b) before (λ k has. values_elsewhere k (λ is_i. other (has_left before after i (subst (Has (indexes before)) is_i has)))) (stand-left (entry a) before (((i, g), s) ∷ after) is.stand))
-              (value_there ∙ ap (option_map (valued t)) right.0, stand-frame (entry a) (entry b) after (λ k has. values_elsewhere k (λ is_i. other (has_right before after i (subst (Has (indexes after)) is_i has)))) right.1);
+              (stand-frame (entry a) (entry b) before (λ k has. values_elsewhere k (λ is_i. other (has_left before after i (subst (IsMember (indexes before)) is_i has)))) (stand-left (entry a) before (((i, g), s) ∷ after) is.stand))
+              (value_there ∙ ap (option_map (valued t)) right.0, stand-frame (entry a) (entry b) after (λ k has. values_elsewhere k (λ is_i. other (has_right before after i (subst (IsMember (indexes after)) is_i has)))) right.1);
         };
     others = λ items lacks is. record {
-      chain = subst (λ (l : Shown). IsChain l (linear (indexes items))) (sym same) is.chain;
-      stand = stand-frame (entry a) (entry b) items (λ k has. values_elsewhere k (λ is_i. lacks.0 (subst (Has (indexes items)) is_i has))) is.stand;
+      chain = subst (λ (l : LinkMap). IsChain l (linear (indexes items))) (sym same) is.chain;
+      stand = stand-frame (entry a) (entry b) items (λ k has. values_elsewhere k (λ is_i. lacks.0 (subst (IsMember (indexes items)) is_i has))) is.stand;
     };
     state = was;
     order = same;

@@ -1,7 +1,7 @@
 -- Lists that lie in an arena: rings, which go round, texts, which go from a first item to a last one, and the turn of a queue.
 use Rattle.std.specs.Prelude.{◌≡◌, ◌≢◌, ℕ, List, [], ◌∷◌, ◌++◌, map, Option, Some, is_some, true}
-use Rattle.chain_laws.specs.Chains.{Shown, Chain, linear, cyclic, IsChain, Has}
-use Rattle.chain_laws.specs.Frame.{Lacks}
+use Rattle.chain_laws.specs.Chains.{LinkMap, Chain, linear, cyclic, IsChain, IsMember}
+use Rattle.chain_laws.specs.Frame.{IsDisjointFrom}
 use Rattle.arena_base.specs.Entries.{index_of, first_key}
 
 -- an item: the index and the generation of its pointer, and its value
@@ -13,44 +13,44 @@ module _ {Gen T : Type 0} where
   indexes items = map index_of items
 
   -- each item stands at its index, with its generation
-  abbrev pub Stand : (ℕ → Option (Gen × T)) → List (Item Gen T) → Type 0
-  Stand entry [] = Unit {0}
-  Stand entry (e ∷ items) = (entry e.0.0 ≡ Some (e.0.1, e.1)) × Stand entry items
+  abbrev pub AreEntries : (ℕ → Option (Gen × T)) → List (Item Gen T) → Type 0
+  AreEntries entry [] = Unit {0}
+  AreEntries entry (e ∷ items) = (entry e.0.0 ≡ Some (e.0.1, e.1)) × AreEntries entry items
 
-module _ {Gen T : Type 0} (entry : ℕ → Option (Gen × T)) (links : Shown) where
+module _ {Gen T : Type 0} (entry : ℕ → Option (Gen × T)) (links : LinkMap) where
   -- the tasks of a queue in turn: all that the arena holds, in one ring, the current one first
-  pub record IsTurn (current : Option (ℕ × Gen)) (turn : List (Item Gen T)) : Type 0 where
+  pub record IsQueueOrder (current : Option (ℕ × Gen)) (turn : List (Item Gen T)) : Type 0 where
     pub first : current ≡ first_key turn
     pub ring : turn ≢ [] → IsChain links (cyclic (indexes turn))
-    pub stand : Stand entry turn
-    pub all : (i : ℕ) → is_some (entry i) ≡ true → Has (indexes turn) i
+    pub stand : AreEntries entry turn
+    pub all : (i : ℕ) → is_some (entry i) ≡ true → IsMember (indexes turn) i
 
 -- two looks at an arena: what stands at each index, and what is linked there
-module _ {A Gen T : Type 0} (entry : A → ℕ → Option (Gen × T)) (links : A → Shown) where
+module _ {A Gen T : Type 0} (entry : A → ℕ → Option (Gen × T)) (links : A → LinkMap) where
   -- the items lie in the arena as a list of a shape, linear or cyclic, and nothing else is in it
-  pub record Lies (shape : List ℕ → Chain) (arena : A) (items : List (Item Gen T)) : Type 0 where
+  pub record IsListOf (shape : List ℕ → Chain) (arena : A) (items : List (Item Gen T)) : Type 0 where
     pub chain : IsChain (links arena) (shape (indexes items))
-    pub stand : Stand (entry arena) items
+    pub stand : AreEntries (entry arena) items
 
   -- a text, from its first item to its last; a ring, from any of its items once round
   abbrev pub IsText : A → List (Item Gen T) → Type 0
-  IsText = Lies linear
+  IsText = IsListOf linear
 
   abbrev pub IsRing : A → List (Item Gen T) → Type 0
-  IsRing = Lies cyclic
+  IsRing = IsListOf cyclic
 
   module _ (shape : List ℕ → Chain) (old new : A) where
     -- every list that has none of these pointers stays, item for item
     abbrev pub KeepsWithout : List (ℕ × Gen) → Type 0
-    KeepsWithout pointers = (items : List (Item Gen T)) → Lacks (shape (indexes items)) (map (λ (p : ℕ × Gen). p.0) pointers) → Lies shape old items → Lies shape new items
+    KeepsWithout pointers = (items : List (Item Gen T)) → IsDisjointFrom (shape (indexes items)) (map (λ (p : ℕ × Gen). p.0) pointers) → IsListOf shape old items → IsListOf shape new items
 
     -- an item comes directly after that of a pointer, in its list; or before it
-    abbrev pub ComesAfter : ℕ × Gen → Item Gen T → Type 0
-    ComesAfter p e = (t : T) (before after : List (Item Gen T)) → Lies shape old (before ++ (p, t) ∷ after) → Lies shape new (before ++ (p, t) ∷ e ∷ after)
+    abbrev pub InsertsAfter : ℕ × Gen → Item Gen T → Type 0
+    InsertsAfter p e = (t : T) (before after : List (Item Gen T)) → IsListOf shape old (before ++ (p, t) ∷ after) → IsListOf shape new (before ++ (p, t) ∷ e ∷ after)
 
-    abbrev pub ComesBefore : ℕ × Gen → Item Gen T → Type 0
-    ComesBefore p e = (t : T) (before after : List (Item Gen T)) → Lies shape old (before ++ (p, t) ∷ after) → Lies shape new (before ++ e ∷ (p, t) ∷ after)
+    abbrev pub InsertsBefore : ℕ × Gen → Item Gen T → Type 0
+    InsertsBefore p e = (t : T) (before after : List (Item Gen T)) → IsListOf shape old (before ++ (p, t) ∷ after) → IsListOf shape new (before ++ e ∷ (p, t) ∷ after)
 
     -- an item leaves its list, which is gone if it had no other
     abbrev pub Leaves : Item Gen T → Type 0
-    Leaves e = (before after : List (Item Gen T)) → Lies shape old (before ++ e ∷ after) → before ++ after ≢ [] → Lies shape new (before ++ after)
+    Leaves e = (before after : List (Item Gen T)) → IsListOf shape old (before ++ e ∷ after) → before ++ after ≢ [] → IsListOf shape new (before ++ after)

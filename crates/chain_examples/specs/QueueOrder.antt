@@ -1,9 +1,9 @@
 -- The tasks of a run queue in turn, its capacity and the maximum of that.
 use Rattle.std.specs.Prelude.{◌≡◌, ◌⊎◌, ℕ, zero, suc, List, [], ◌∷◌, ◌++◌, Option, None, Some}
 use Rattle.std.specs.Option.{option_map}
-use Rattle.chain_laws.specs.Chains.{Shown, next_of}
+use Rattle.chain_laws.specs.Chains.{LinkMap, next_of}
 use Rattle.arena_base.specs.Entries.{first_key, replaced}
-use Rattle.chain_examples.specs.Lists.{Item, IsTurn}
+use Rattle.chain_examples.specs.Lists.{Item, IsQueueOrder}
 
 -- a run queue: its tasks in turn, the current one first, its capacity, and the maximum of that, if there is one
 pub record Queue (Gen T : Type 0) : Type 0 where
@@ -16,9 +16,9 @@ abbrev pub with_task : {Gen T : Type 0} → Queue Gen T → ℕ → T → Queue 
 with_task q i t = record q { turn = replaced i (λ e. (e.0, t)) q.turn }
 
 -- the first item goes behind the others
-abbrev pub turned_once : {X : Type 0} → List X → List X
-turned_once [] = []
-turned_once (x ∷ xs) = xs ++ x ∷ []
+abbrev pub rotation : {X : Type 0} → List X → List X
+rotation [] = []
+rotation (x ∷ xs) = xs ++ x ∷ []
 
 -- the pointer is that of one of the items
 abbrev pub IsAmong : {Gen T : Type 0} → ℕ × Gen → List (Item Gen T) → Type 0
@@ -34,26 +34,26 @@ pub record IsCancelled {Gen T : Type 0} (p : ℕ × Gen) (task : T) (old new : L
   pub gone : ¬ IsAmong p new
 
 -- what stands at an index, before others
-abbrev pub put_first : {Gen T : Type 0} → ℕ → Option (Gen × T) → List (Item Gen T) → List (Item Gen T)
-put_first i None others = []
-put_first i (Some e) others = ((i, e.0), e.1) ∷ others
+abbrev pub with_entry_first : {Gen T : Type 0} → ℕ → Option (Gen × T) → List (Item Gen T) → List (Item Gen T)
+with_entry_first i None others = []
+with_entry_first i (Some e) others = ((i, e.0), e.1) ∷ others
 
-module _ {Gen T : Type 0} (entry : ℕ → Option (Gen × T)) (links : Shown) where
+module _ {Gen T : Type 0} (entry : ℕ → Option (Gen × T)) (links : LinkMap) where
   -- so many items from an index on, each that of the link after the one before
   unfoldable pub items_from : ℕ → Option ℕ → List (Item Gen T)
   items_from zero at = []
   items_from (suc n) None = []
-  items_from (suc n) (Some i) = put_first i (entry i) (items_from n (next_of links i))
+  items_from (suc n) (Some i) = with_entry_first i (entry i) (items_from n (next_of links i))
 
-  abbrev pub turn_of : ℕ → Option (ℕ × Gen) → List (Item Gen T)
-  turn_of n current = items_from n (option_map (λ (p : ℕ × Gen). p.0) current)
+  abbrev pub queue_order : ℕ → Option (ℕ × Gen) → List (Item Gen T)
+  queue_order n current = items_from n (option_map (λ (p : ℕ × Gen). p.0) current)
 
-module _ {A Gen T : Type 0} (entry : A → ℕ → Option (Gen × T)) (links : A → Shown) where
+module _ {A Gen T : Type 0} (entry : A → ℕ → Option (Gen × T)) (links : A → LinkMap) where
   -- a task comes last, whatever the turn was; these were current before and after
-  abbrev pub ComesLast : (old new : A) → (was is : Option (ℕ × Gen)) → Item Gen T → Type 0
-  ComesLast old new was is e = (turn : List (Item Gen T)) → IsTurn (entry old) (links old) was turn → IsTurn (entry new) (links new) is (turn ++ e ∷ [])
+  abbrev pub AppendsTask : (old new : A) → (was is : Option (ℕ × Gen)) → Item Gen T → Type 0
+  AppendsTask old new was is e = (turn : List (Item Gen T)) → IsQueueOrder (entry old) (links old) was turn → IsQueueOrder (entry new) (links new) is (turn ++ e ∷ [])
 
   -- the first in turn once p is gone, where another pointer, or p itself, is current still
   abbrev pub IsFirstWithout : (arena : A) → (p current : ℕ × Gen) → Option (ℕ × Gen) → Type 0
   IsFirstWithout arena p current first = (before after : List (Item Gen T)) (task : T)
-      → IsTurn (entry arena) (links arena) (Some current) (before ++ (p, task) ∷ after) → first ≡ first_key (before ++ after)
+      → IsQueueOrder (entry arena) (links arena) (Some current) (before ++ (p, task) ∷ after) → first ≡ first_key (before ++ after)

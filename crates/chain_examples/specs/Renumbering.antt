@@ -1,9 +1,9 @@
 -- A renumbering of texts: each item has another pointer than before, and each text its items in their order.
 use Rattle.std.specs.Prelude.{◌≡◌, ℕ, false, List, [], ◌∷◌, All, Contains, IsSome, IfSome, Option, None, Some}
-use Rattle.chain_laws.specs.Chains.{Shown}
+use Rattle.chain_laws.specs.Chains.{LinkMap}
 use Rattle.chain_laws.specs.Arrangements.{place_in}
 use Rattle.arena_base.specs.Arena.{IsValid}
-use Rattle.arena_base.specs.Entries.{Seen}
+use Rattle.arena_base.specs.Entries.{ArenaView}
 use Rattle.chain_links.specs.CanonicalLayouts.{IsCanonicalLayout}
 use Rattle.chain_compaction.specs.PointerMoves.{ArePointerMoves}
 use Rattle.chain_examples.specs.Lists.{Item, IsText}
@@ -33,8 +33,8 @@ module _ {Gen T : Type 0} (entry : ℕ → Option (Gen × T)) (moves : List (Mov
   AreFollowed (p ∷ before) (q ∷ after) = IsFollowed p q × AreFollowed before after
 
 -- the items were arranged canonically, and bookmarks follow them
-pub record IsRenumbered {A Gen T : Type 0} (first : Gen) (following : Gen → Gen) (seen : A → Seen Gen T)
-    (entry : A → ℕ → Option (Gen × T)) (links : A → Shown) (old new : A) (before after : List (Option (ℕ × Gen))) : Type 0 where
+pub record IsRenumbered {A Gen T : Type 0} (first : Gen) (following : Gen → Gen) (seen : A → ArenaView Gen T)
+    (entry : A → ℕ → Option (Gen × T)) (links : A → LinkMap) (old new : A) (before after : List (Option (ℕ × Gen))) : Type 0 where
   pub layout : IsCanonicalLayout first following false (seen old) (links old) (seen new) (links new)
   pub moves : List (Move Gen)
   -- each pointer that was valid was moved to one that is, with its value, and no two to one

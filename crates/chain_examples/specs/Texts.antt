@@ -1,18 +1,18 @@
 -- What becomes of texts where they are parted, joined, or an item is moved.
 use Rattle.std.specs.Prelude.{◌≡◌, ◌≢◌, ℕ, List, [], ◌∷◌, ◌++◌, Option, IfSome}
-use Rattle.chain_laws.specs.Chains.{Shown, linear, Has, HasNoRepetition}
-use Rattle.arena_base.specs.Entries.{Seen, first_key, last_key, written}
+use Rattle.chain_laws.specs.Chains.{LinkMap, linear, IsMember, AreDistinct}
+use Rattle.arena_base.specs.Entries.{ArenaView, first_key, last_key, written}
 use Rattle.chain_examples.specs.Lists.{Item, indexes, IsText, KeepsWithout}
 
-module _ {A Gen T : Type 0} (entry : A → ℕ → Option (Gen × T)) (links : A → Shown) (arena : A) where
+module _ {A Gen T : Type 0} (entry : A → ℕ → Option (Gen × T)) (links : A → LinkMap) (arena : A) where
   -- p stands between these two in its text, and neither, where there is one, stands in a text without p
-  pub record StandsBetween (p : ℕ × Gen) (u v : Option (ℕ × Gen)) : Type 0 where
+  pub record HasTextNeighbors (p : ℕ × Gen) (u v : Option (ℕ × Gen)) : Type 0 where
     pub before : (t : T) (before after : List (Item Gen T)) → IsText entry links arena (before ++ (p, t) ∷ after) → u ≡ last_key before
     pub after : (t : T) (before after : List (Item Gen T)) → IsText entry links arena (before ++ (p, t) ∷ after) → v ≡ first_key after
-    pub with_before : IfSome u (λ q. (text : List (Item Gen T)) → IsText entry links arena text → Has (indexes text) q.0 → Has (indexes text) p.0)
-    pub with_after : IfSome v (λ q. (text : List (Item Gen T)) → IsText entry links arena text → Has (indexes text) q.0 → Has (indexes text) p.0)
+    pub with_before : IfSome u (λ q. (text : List (Item Gen T)) → IsText entry links arena text → IsMember (indexes text) q.0 → IsMember (indexes text) p.0)
+    pub with_after : IfSome v (λ q. (text : List (Item Gen T)) → IsText entry links arena text → IsMember (indexes text) q.0 → IsMember (indexes text) p.0)
 
-module _ {A Gen T : Type 0} (entry : A → ℕ → Option (Gen × T)) (links : A → Shown) (old new : A) where
+module _ {A Gen T : Type 0} (entry : A → ℕ → Option (Gen × T)) (links : A → LinkMap) (old new : A) where
   -- the text of p ends in p, and what came after it, if something did, is a text of its own
   abbrev pub EndsIn : ℕ × Gen → Type 0
   EndsIn p = (t : T) (before after : List (Item Gen T)) → IsText entry links old (before ++ (p, t) ∷ after)
@@ -26,11 +26,11 @@ module _ {A Gen T : Type 0} (entry : A → ℕ → Option (Gen × T)) (links : A
   -- a text that ends in p and another that begins with q become one
   abbrev pub AreJoined : ℕ × Gen → ℕ × Gen → Type 0
   AreJoined p q = (s t : T) (before after : List (Item Gen T)) → IsText entry links old (before ++ (p, s) ∷ []) → IsText entry links old ((q, t) ∷ after)
-      → (Has (indexes (before ++ (p, s) ∷ [])) q.0 → ⊥) → IsText entry links new (before ++ (p, s) ∷ (q, t) ∷ after)
+      → (IsMember (indexes (before ++ (p, s) ∷ [])) q.0 → ⊥) → IsText entry links new (before ++ (p, s) ∷ (q, t) ∷ after)
 
   -- an item leaves its text, and is a text of its own
-  abbrev pub StandsAlone : ℕ × Gen → Type 0
-  StandsAlone p = (t : T) (before after : List (Item Gen T)) → IsText entry links old (before ++ (p, t) ∷ after)
+  abbrev pub IsSeparated : ℕ × Gen → Type 0
+  IsSeparated p = (t : T) (before after : List (Item Gen T)) → IsText entry links old (before ++ (p, t) ∷ after)
       → IsText entry links new ((p, t) ∷ []) × (before ++ after ≢ [] → IsText entry links new (before ++ after))
 
   -- an item that is a text of its own comes directly after another
@@ -43,18 +43,18 @@ module _ {A Gen T : Type 0} (entry : A → ℕ → Option (Gen × T)) (links : A
     pub within : (s t : T) (before after left right : List (Item Gen T)) → IsText entry links old (before ++ (p, t) ∷ after) → before ++ after ≡ left ++ (q, s) ∷ right
         → IsText entry links new (left ++ (q, s) ∷ (p, t) ∷ right)
     pub across : (s t : T) (before after left right : List (Item Gen T)) → IsText entry links old (before ++ (p, t) ∷ after) → IsText entry links old (left ++ (q, s) ∷ right)
-        → (Has (indexes (before ++ (p, t) ∷ after)) q.0 → ⊥)
+        → (IsMember (indexes (before ++ (p, t) ∷ after)) q.0 → ⊥)
         → IsText entry links new (left ++ (q, s) ∷ (p, t) ∷ right) × (before ++ after ≢ [] → IsText entry links new (before ++ after))
 
   -- the texts that end and begin with these two become one; where either is missing there is one already
   pub record IsClosed (u v : Option (ℕ × Gen)) : Type 0 where
     pub texts : (before after : List (Item Gen T)) → u ≡ last_key before → v ≡ first_key after → (before ≢ [] → IsText entry links old before) → (after ≢ [] → IsText entry links old after)
-        → HasNoRepetition (indexes (before ++ after)) → before ++ after ≢ [] → IsText entry links new (before ++ after)
+        → AreDistinct (indexes (before ++ after)) → before ++ after ≢ [] → IsText entry links new (before ++ after)
     -- every other text stays
-    pub others : (items : List (Item Gen T)) → IfSome u (λ p. ¬ Has (indexes items) p.0) → IfSome v (λ q. ¬ Has (indexes items) q.0) → IsText entry links old items → IsText entry links new items
+    pub others : (items : List (Item Gen T)) → IfSome u (λ p. ¬ IsMember (indexes items) p.0) → IfSome v (λ q. ¬ IsMember (indexes items) q.0) → IsText entry links old items → IsText entry links new items
 
 -- the item of p has another value; all pointers and the order of each text stay
-pub record HasNewValue {A Gen T : Type 0} (seen : A → Seen Gen T) (entry : A → ℕ → Option (Gen × T)) (links : A → Shown) (old new : A)
+pub record HasNewValue {A Gen T : Type 0} (seen : A → ArenaView Gen T) (entry : A → ℕ → Option (Gen × T)) (links : A → LinkMap) (old new : A)
     (p : ℕ × Gen) (t : T) : Type 0 where
   pub text : (s : T) (before after : List (Item Gen T)) → IsText entry links old (before ++ (p, s) ∷ after)
       → IsText entry links new (before ++ (p, t) ∷ after)

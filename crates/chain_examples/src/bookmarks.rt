@@ -2,7 +2,7 @@
 
 ghost use Rattle.std.specs.Prelude.{◌≡◌, ◌≤◌, ◌+◌, length, replicate, OnOk, OnErr, IfOk, All, map, false, None};
 ghost use Rattle.std.specs.Option.{option_map, option_and_then};
-ghost use Rattle.chain_links.specs.ChainArena.{entry, seen, shown};
+ghost use Rattle.chain_links.specs.ChainArena.{entry, value_view, link_map};
 ghost use Rattle.chain_links.specs.CanonicalLayouts.{IsCanonicalLayout};
 ghost use Rattle.chain_examples.specs.Renumbering.{IsRenumbered};
 ghost use Rattle.chain_examples.specs.MoveTables.{noted, looked_up};
@@ -27,8 +27,8 @@ pub fn renumber<P: PtrKey, T: Drop, S: SlotStack<Item = ArenaSlot<P, LinkNoGen<P
     bookmarks: &mut [Option<P>],
 ) -> Result<(), AllocError>
     ensures canonical { OnOk result (IsCanonicalLayout P.Gen.first P.Gen.following false
-        (seen arena.old) (shown arena.old) (seen arena.new) (shown arena.new)) }
-    ensures renumbered { OnOk result (IsRenumbered P.Gen.first P.Gen.following seen entry shown
+        (value_view arena.old) (link_map arena.old) (value_view arena.new) (link_map arena.new)) }
+    ensures renumbered { OnOk result (IsRenumbered P.Gen.first P.Gen.following value_view entry link_map
         arena.old arena.new
         (map (option_map P.key) bookmarks.old) (map (option_map P.key) bookmarks.new)) }
     ensures err { OnErr result ((arena.new ≡ arena.old) × (bookmarks.new ≡ bookmarks.old)) }

@@ -4,15 +4,15 @@ ghost use Rattle.std.specs.Prelude.{◌≡◌, ◌≢◌, ◌↔◌, ℕ, ◌+�
 ghost use Rattle.std.specs.Option.{option_map};
 ghost use Rattle.std.specs.Borrow.{LendsSo, sem};
 ghost use Rattle.arena_ptr.specs.SlotStack.{IsBeyond, IsWithinMaximum};
-ghost use Rattle.chain_laws.specs.Chains.{linear, Has, next_of, prev_of};
-ghost use Rattle.arena_base.specs.Arena.{IsRoom, IsValid};
+ghost use Rattle.chain_laws.specs.Chains.{linear, IsMember, next_of, prev_of};
+ghost use Rattle.arena_base.specs.Arena.{IsCapacityFor, IsValid};
 ghost use Rattle.arena_base.specs.Entries.{count, entry_removed, first_key, last_key, with_capacity, NeedsBeyondMaximum};
 ghost use Rattle.chain_links.specs.CanonicalLayouts.{IsCanonicalLayout};
-ghost use Rattle.chain_links.specs.CallEffects.{SucceedsInRoom};
-ghost use Rattle.chain_links.specs.ChainArena.{IsInserted, CanConnect, entry, seen, shown};
+ghost use Rattle.chain_links.specs.CallEffects.{SucceedsWithinCapacity};
+ghost use Rattle.chain_links.specs.ChainArena.{IsInserted, CanConnect, entry, value_view, link_map};
 ghost use Rattle.chain_examples.specs.Renumbering.{IsRenumbered};
-ghost use Rattle.chain_examples.specs.Lists.{Item, indexes, IsText, KeepsWithout, ComesAfter, ComesBefore, Leaves};
-ghost use Rattle.chain_examples.specs.Texts.{StandsBetween, EndsIn, BeginsWith, AreJoined, IsClosed, StandsAlone, IsPutAfter, IsMovedAfter, HasNewValue};
+ghost use Rattle.chain_examples.specs.Lists.{Item, indexes, IsText, KeepsWithout, InsertsAfter, InsertsBefore, Leaves};
+ghost use Rattle.chain_examples.specs.Texts.{HasTextNeighbors, EndsIn, BeginsWith, AreJoined, IsClosed, IsSeparated, IsPutAfter, IsMovedAfter, HasNewValue};
 
 use crate::bookmarks::renumber;
 use crate::growth::reserve;
@@ -45,8 +45,8 @@ impl<P: PtrKey, T: Drop, A: ChainArenaTrait<P, T> + Drop> Documents<P, T, A> {
 
     /// Returns documents without a text. It takes no memory.
     pub fn new(alloc: Global) -> Self
-        ensures paragraphs { (A.seen result).entries ≡ [] }
-        ensures capacity { (A.seen result).capacity ≡ 0 }
+        ensures paragraphs { (A.view result).entries ≡ [] }
+        ensures capacity { (A.view result).capacity ≡ 0 }
     {
         Documents {
             paragraphs: A::new(alloc),
@@ -56,15 +56,15 @@ impl<P: PtrKey, T: Drop, A: ChainArenaTrait<P, T> + Drop> Documents<P, T, A> {
 
     /// Returns the number of paragraphs, which is at most the capacity.
     pub fn len(&self) -> usize
-        ensures count { result ≡ count (A.seen self.now) }
-        ensures fits { result ≤ (A.seen self.now).capacity }
+        ensures count { result ≡ count (A.view self.now) }
+        ensures fits { result ≤ (A.view self.now).capacity }
     {
         self.paragraphs.len()
     }
 
     /// Returns whether there are no paragraphs, and so no texts.
     pub fn is_empty(&self) -> bool
-        ensures { IsTrue result ↔ ((A.seen self.now).entries ≡ []) }
+        ensures { IsTrue result ↔ ((A.view self.now).entries ≡ []) }
     {
         self.paragraphs.is_empty()
     }
@@ -72,16 +72,16 @@ impl<P: PtrKey, T: Drop, A: ChainArenaTrait<P, T> + Drop> Documents<P, T, A> {
     /// Returns how many paragraphs fit before the arena has to grow. This is at most the
     /// greatest index and the maximum.
     pub fn capacity(&self) -> usize
-        ensures value { result ≡ (A.seen self.now).capacity }
+        ensures value { result ≡ (A.view self.now).capacity }
         ensures greatest { result ≤ P.Inx.greatest }
-        ensures maximum { IsWithinMaximum (A.seen self.now).maximum result }
+        ensures maximum { IsWithinMaximum (A.view self.now).maximum result }
     {
         self.paragraphs.capacity()
     }
 
     /// Returns the greatest capacity that the arena may have, if there is a limit.
     pub fn max_capacity(&self) -> Option<usize>
-        ensures { result ≡ (A.seen self.now).maximum }
+        ensures { result ≡ (A.view self.now).maximum }
     {
         self.paragraphs.max_capacity()
     }
@@ -95,16 +95,16 @@ impl<P: PtrKey, T: Drop, A: ChainArenaTrait<P, T> + Drop> Documents<P, T, A> {
     ///
     /// After an error nothing has changed.
     pub fn reserve(&mut self, additional: usize) -> Result<(), ReallocationError>
-        ensures within { count (A.seen self.old) + additional ≤ (A.seen self.old).capacity
+        ensures within { count (A.view self.old) + additional ≤ (A.view self.old).capacity
             → IsOk result × (self.new ≡ self.old) }
         ensures beyond { (result ≡ Err ReallocationError.BeyondMaxCapacity)
-            ↔ IsBeyond (A.seen self.old).maximum (count (A.seen self.old) + additional) }
-        ensures greatest { P.Inx.greatest < count (A.seen self.old) + additional → IsErr result }
-        ensures ok { OnOk result (IsRoom P.Inx.greatest (A.seen self.new).maximum
-            (count (A.seen self.old) + additional) (A.seen self.new).capacity) }
-        ensures seen { A.seen self.new
-            ≡ with_capacity (A.seen self.old) (A.seen self.new).capacity }
-        ensures never_less { (A.seen self.old).capacity ≤ (A.seen self.new).capacity }
+            ↔ IsBeyond (A.view self.old).maximum (count (A.view self.old) + additional) }
+        ensures greatest { P.Inx.greatest < count (A.view self.old) + additional → IsErr result }
+        ensures ok { OnOk result (IsCapacityFor P.Inx.greatest (A.view self.new).maximum
+            (count (A.view self.old) + additional) (A.view self.new).capacity) }
+        ensures seen { A.view self.new
+            ≡ with_capacity (A.view self.old) (A.view self.new).capacity }
+        ensures never_less { (A.view self.old).capacity ≤ (A.view self.new).capacity }
         ensures paragraphs { A.entry self.new ≡ A.entry self.old }
         ensures texts { A.interlinks self.new ≡ A.interlinks self.old }
         ensures err { OnErr result (self.new ≡ self.old) }
@@ -127,14 +127,14 @@ impl<P: PtrKey, T: Drop, A: ChainArenaTrait<P, T> + Drop> Documents<P, T, A> {
             (P.key q) paragraph) }
         ensures others { OnOk result
             (KeepsWithout A.entry A.interlinks linear self.old self.new []) }
-        ensures size { OnOk result (count (A.seen self.new) ≡ count (A.seen self.old) + 1) }
-        ensures room { SucceedsInRoom (A.seen self.old) result (A.seen self.new) }
-        ensures grown { OnOk result (IsRoom P.Inx.greatest (A.seen self.new).maximum
-            (count (A.seen self.old) + 1) (A.seen self.new).capacity) }
+        ensures size { OnOk result (count (A.view self.new) ≡ count (A.view self.old) + 1) }
+        ensures room { SucceedsWithinCapacity (A.view self.old) result (A.view self.new) }
+        ensures grown { OnOk result (IsCapacityFor P.Inx.greatest (A.view self.new).maximum
+            (count (A.view self.old) + 1) (A.view self.new).capacity) }
         ensures beyond { (result ≡ Err ReallocationError.BeyondMaxCapacity)
-            ↔ NeedsBeyondMaximum (A.seen self.old) }
-        ensures greatest { count (A.seen self.old) ≡ P.Inx.greatest → IsErr result }
-        ensures maximum { (A.seen self.new).maximum ≡ (A.seen self.old).maximum }
+            ↔ NeedsBeyondMaximum (A.view self.old) }
+        ensures greatest { count (A.view self.old) ≡ P.Inx.greatest → IsErr result }
+        ensures maximum { (A.view self.new).maximum ≡ (A.view self.old).maximum }
         ensures err { OnErr result (self.new ≡ self.old) }
     {
         self.paragraphs
@@ -160,7 +160,7 @@ impl<P: PtrKey, T: Drop, A: ChainArenaTrait<P, T> + Drop> Documents<P, T, A> {
             A.PtrAdvancer.Advancer A.ChainPtrAdvancer.Advancer)
             T.row self.entry result
             (λ new t. OnSome result
-            (HasNewValue A.seen A.entry A.interlinks self.old new (P.key p) t))
+            (HasNewValue A.view A.entry A.interlinks self.old new (P.key p) t))
             (λ new. new ≡ self.old)) }
         ensures some { IsSome result ↔ IsValid (A.entry self.old) (P.key p) }
         ensures paragraph { IfSome result (λ t. A.entry self.old (P.key p).0
@@ -179,8 +179,8 @@ impl<P: PtrKey, T: Drop, A: ChainArenaTrait<P, T> + Drop> Documents<P, T, A> {
             → IsText A.entry A.interlinks self.now (before ++ (P.key p, t) ∷ after)
             → option_map P.key result ≡ first_key after }
         ensures together { IfSome result (λ q. (text : List (Item P.Gen T))
-            → IsText A.entry A.interlinks self.now text → Has (indexes text) (P.key q).0
-            → Has (indexes text) (P.key p).0) }
+            → IsText A.entry A.interlinks self.now text → IsMember (indexes text) (P.key q).0
+            → IsMember (indexes text) (P.key p).0) }
     {
         match self.paragraphs.get_link(p) {
             Some(link) => link.next(),
@@ -195,8 +195,8 @@ impl<P: PtrKey, T: Drop, A: ChainArenaTrait<P, T> + Drop> Documents<P, T, A> {
             → IsText A.entry A.interlinks self.now (before ++ (P.key p, t) ∷ after)
             → option_map P.key result ≡ last_key before }
         ensures together { IfSome result (λ q. (text : List (Item P.Gen T))
-            → IsText A.entry A.interlinks self.now text → Has (indexes text) (P.key q).0
-            → Has (indexes text) (P.key p).0) }
+            → IsText A.entry A.interlinks self.now text → IsMember (indexes text) (P.key q).0
+            → IsMember (indexes text) (P.key p).0) }
     {
         match self.paragraphs.get_link(p) {
             Some(link) => link.prev(),
@@ -214,24 +214,24 @@ impl<P: PtrKey, T: Drop, A: ChainArenaTrait<P, T> + Drop> Documents<P, T, A> {
     ///
     /// After an error nothing has changed, and the paragraph is dropped.
     pub fn insert_after(&mut self, p: P, paragraph: T) -> Result<P, ChainInsertionError>
-        ensures text { IfOk result (λ q. ComesAfter A.entry A.interlinks linear self.old self.new
+        ensures text { IfOk result (λ q. InsertsAfter A.entry A.interlinks linear self.old self.new
             (P.key p) (P.key q, paragraph)) }
         ensures paragraph { IfOk result (λ q. IsInserted (A.entry self.old) (A.entry self.new)
             (P.key q) paragraph) }
         ensures others { OnOk result (KeepsWithout A.entry A.interlinks linear self.old self.new
             (P.key p ∷ [])) }
-        ensures size { OnOk result (count (A.seen self.new) ≡ count (A.seen self.old) + 1) }
+        ensures size { OnOk result (count (A.view self.new) ≡ count (A.view self.old) + 1) }
         ensures link { (result ≡ Err ChainInsertionError.FailedLinkRequirement)
             ↔ ¬ IsValid (A.entry self.old) (P.key p) }
         ensures error { IfErr result (λ e. e ≢ ChainInsertionError.NotWithinCapacity) }
         ensures room { IsValid (A.entry self.old) (P.key p)
-            → SucceedsInRoom (A.seen self.old) result (A.seen self.new) }
-        ensures grown { OnOk result (IsRoom P.Inx.greatest (A.seen self.new).maximum
-            (count (A.seen self.old) + 1) (A.seen self.new).capacity) }
+            → SucceedsWithinCapacity (A.view self.old) result (A.view self.new) }
+        ensures grown { OnOk result (IsCapacityFor P.Inx.greatest (A.view self.new).maximum
+            (count (A.view self.old) + 1) (A.view self.new).capacity) }
         ensures beyond { (result ≡ Err ChainInsertionError.BeyondMaxCapacity)
-            ↔ (IsValid (A.entry self.old) (P.key p) × NeedsBeyondMaximum (A.seen self.old)) }
-        ensures greatest { count (A.seen self.old) ≡ P.Inx.greatest → IsErr result }
-        ensures maximum { (A.seen self.new).maximum ≡ (A.seen self.old).maximum }
+            ↔ (IsValid (A.entry self.old) (P.key p) × NeedsBeyondMaximum (A.view self.old)) }
+        ensures greatest { count (A.view self.old) ≡ P.Inx.greatest → IsErr result }
+        ensures maximum { (A.view self.new).maximum ≡ (A.view self.old).maximum }
         ensures err { OnErr result (self.new ≡ self.old) }
     {
         self.paragraphs
@@ -248,24 +248,24 @@ impl<P: PtrKey, T: Drop, A: ChainArenaTrait<P, T> + Drop> Documents<P, T, A> {
     ///
     /// After an error nothing has changed, and the paragraph is dropped.
     pub fn insert_before(&mut self, p: P, paragraph: T) -> Result<P, ChainInsertionError>
-        ensures text { IfOk result (λ q. ComesBefore A.entry A.interlinks linear self.old self.new
+        ensures text { IfOk result (λ q. InsertsBefore A.entry A.interlinks linear self.old self.new
             (P.key p) (P.key q, paragraph)) }
         ensures paragraph { IfOk result (λ q. IsInserted (A.entry self.old) (A.entry self.new)
             (P.key q) paragraph) }
         ensures others { OnOk result (KeepsWithout A.entry A.interlinks linear self.old self.new
             (P.key p ∷ [])) }
-        ensures size { OnOk result (count (A.seen self.new) ≡ count (A.seen self.old) + 1) }
+        ensures size { OnOk result (count (A.view self.new) ≡ count (A.view self.old) + 1) }
         ensures link { (result ≡ Err ChainInsertionError.FailedLinkRequirement)
             ↔ ¬ IsValid (A.entry self.old) (P.key p) }
         ensures error { IfErr result (λ e. e ≢ ChainInsertionError.NotWithinCapacity) }
         ensures room { IsValid (A.entry self.old) (P.key p)
-            → SucceedsInRoom (A.seen self.old) result (A.seen self.new) }
-        ensures grown { OnOk result (IsRoom P.Inx.greatest (A.seen self.new).maximum
-            (count (A.seen self.old) + 1) (A.seen self.new).capacity) }
+            → SucceedsWithinCapacity (A.view self.old) result (A.view self.new) }
+        ensures grown { OnOk result (IsCapacityFor P.Inx.greatest (A.view self.new).maximum
+            (count (A.view self.old) + 1) (A.view self.new).capacity) }
         ensures beyond { (result ≡ Err ChainInsertionError.BeyondMaxCapacity)
-            ↔ (IsValid (A.entry self.old) (P.key p) × NeedsBeyondMaximum (A.seen self.old)) }
-        ensures greatest { count (A.seen self.old) ≡ P.Inx.greatest → IsErr result }
-        ensures maximum { (A.seen self.new).maximum ≡ (A.seen self.old).maximum }
+            ↔ (IsValid (A.entry self.old) (P.key p) × NeedsBeyondMaximum (A.view self.old)) }
+        ensures greatest { count (A.view self.old) ≡ P.Inx.greatest → IsErr result }
+        ensures maximum { (A.view self.new).maximum ≡ (A.view self.old).maximum }
         ensures err { OnErr result (self.new ≡ self.old) }
     {
         self.paragraphs
@@ -283,9 +283,9 @@ impl<P: PtrKey, T: Drop, A: ChainArenaTrait<P, T> + Drop> Documents<P, T, A> {
         ensures gone { OnSome result (A.entry self.new (P.key p).0 ≡ None) }
         ensures paragraphs { (i : ℕ) → i ≢ (P.key p).0 → A.entry self.new i ≡ A.entry self.old i }
         ensures others { KeepsWithout A.entry A.interlinks linear self.old self.new (P.key p ∷ []) }
-        ensures size { OnSome result (count (A.seen self.old) ≡ count (A.seen self.new) + 1) }
-        ensures seen { OnSome result (A.seen self.new
-            ≡ entry_removed P.Gen.following (A.seen self.old) (P.key p).0) }
+        ensures size { OnSome result (count (A.view self.old) ≡ count (A.view self.new) + 1) }
+        ensures seen { OnSome result (A.view self.new
+            ≡ entry_removed P.Gen.following (A.view self.old) (P.key p).0) }
         ensures none { IfNone result (self.new ≡ self.old) }
     {
         self.paragraphs.agrees();
@@ -301,7 +301,7 @@ impl<P: PtrKey, T: Drop, A: ChainArenaTrait<P, T> + Drop> Documents<P, T, A> {
         ensures texts { EndsIn A.entry A.interlinks self.old self.new (P.key p) }
         ensures others { KeepsWithout A.entry A.interlinks linear self.old self.new (P.key p ∷ []) }
         ensures paragraphs { A.entry self.new ≡ A.entry self.old }
-        ensures seen { A.seen self.new ≡ A.seen self.old }
+        ensures seen { A.view self.new ≡ A.view self.old }
         ensures none { IfNone result (self.new ≡ self.old) }
     {
         self.paragraphs.break_next(p)
@@ -315,7 +315,7 @@ impl<P: PtrKey, T: Drop, A: ChainArenaTrait<P, T> + Drop> Documents<P, T, A> {
         ensures texts { BeginsWith A.entry A.interlinks self.old self.new (P.key p) }
         ensures others { KeepsWithout A.entry A.interlinks linear self.old self.new (P.key p ∷ []) }
         ensures paragraphs { A.entry self.new ≡ A.entry self.old }
-        ensures seen { A.seen self.new ≡ A.seen self.old }
+        ensures seen { A.view self.new ≡ A.view self.old }
         ensures none { IfNone result (self.new ≡ self.old) }
     {
         self.paragraphs.break_prev(p)
@@ -333,7 +333,7 @@ impl<P: PtrKey, T: Drop, A: ChainArenaTrait<P, T> + Drop> Documents<P, T, A> {
         ensures others { KeepsWithout A.entry A.interlinks linear self.old self.new
             (P.key p ∷ P.key q ∷ []) }
         ensures paragraphs { A.entry self.new ≡ A.entry self.old }
-        ensures seen { A.seen self.new ≡ A.seen self.old }
+        ensures seen { A.view self.new ≡ A.view self.old }
         ensures none { IfNone result (self.new ≡ self.old) }
     {
         self.paragraphs.connect(p, q)
@@ -343,7 +343,7 @@ impl<P: PtrKey, T: Drop, A: ChainArenaTrait<P, T> + Drop> Documents<P, T, A> {
     fn close(&mut self, end: Option<P>, start: Option<P>) -> Option<()>
         ensures texts { IsClosed A.entry A.interlinks self.old self.new (option_map P.key end)
             (option_map P.key start) }
-        ensures seen { A.seen self.new ≡ A.seen self.old }
+        ensures seen { A.view self.new ≡ A.view self.old }
     {
         let p = end?;
         let q = start?;
@@ -353,7 +353,7 @@ impl<P: PtrKey, T: Drop, A: ChainArenaTrait<P, T> + Drop> Documents<P, T, A> {
     // The pointers of the paragraphs before and after another, by one look. `None`: the pointer is of no paragraph.
     fn beside(&self, p: P) -> Option<(Option<P>, Option<P>)>
         ensures some { IsSome result ↔ IsValid (A.entry self.now) (P.key p) }
-        ensures between { IfSome result (λ r. StandsBetween A.entry A.interlinks self.now (P.key p)
+        ensures between { IfSome result (λ r. HasTextNeighbors A.entry A.interlinks self.now (P.key p)
             (option_map P.key r.0) (option_map P.key r.1)) }
     {
         match self.paragraphs.get_link(p) {
@@ -365,9 +365,9 @@ impl<P: PtrKey, T: Drop, A: ChainArenaTrait<P, T> + Drop> Documents<P, T, A> {
     // Takes a paragraph out of its text: it is a text of its own. `None`: the pointer is of no paragraph, and nothing has changed.
     fn set_apart(&mut self, p: P) -> Option<()>
         ensures some { IsSome result ↔ IsValid (A.entry self.old) (P.key p) }
-        ensures texts { StandsAlone A.entry A.interlinks self.old self.new (P.key p) }
+        ensures texts { IsSeparated A.entry A.interlinks self.old self.new (P.key p) }
         ensures others { KeepsWithout A.entry A.interlinks linear self.old self.new (P.key p ∷ []) }
-        ensures seen { A.seen self.new ≡ A.seen self.old }
+        ensures seen { A.view self.new ≡ A.view self.old }
         ensures none { IfNone result (self.new ≡ self.old) }
     {
         let (before, after) = self.beside(p)?;
@@ -382,7 +382,7 @@ impl<P: PtrKey, T: Drop, A: ChainArenaTrait<P, T> + Drop> Documents<P, T, A> {
         ensures texts { IsPutAfter A.entry A.interlinks self.old self.new (P.key p) (P.key q) }
         ensures others { KeepsWithout A.entry A.interlinks linear self.old self.new
             (P.key p ∷ P.key q ∷ []) }
-        ensures seen { A.seen self.new ≡ A.seen self.old }
+        ensures seen { A.view self.new ≡ A.view self.old }
     {
         let after = self.next(q);
         self.part_after(q);
@@ -401,7 +401,7 @@ impl<P: PtrKey, T: Drop, A: ChainArenaTrait<P, T> + Drop> Documents<P, T, A> {
         ensures others { KeepsWithout A.entry A.interlinks linear self.old self.new
             (P.key p ∷ P.key q ∷ []) }
         ensures paragraphs { A.entry self.new ≡ A.entry self.old }
-        ensures seen { A.seen self.new ≡ A.seen self.old }
+        ensures seen { A.view self.new ≡ A.view self.old }
         ensures none { IfNone result (self.new ≡ self.old) }
     {
         if p.is_same(q) || !self.paragraphs.contains(q) {
@@ -430,8 +430,8 @@ impl<P: PtrKey, T: Drop, S: SlotStack<Item = ArenaSlot<P, LinkNoGen<P, T>>>> Doc
     /// - `AllocError`: memory was refused, and nothing has changed.
     pub fn renumber(&mut self, alloc: Global, bookmarks: &mut [Option<P>]) -> Result<(), AllocError>
         ensures canonical { OnOk result (IsCanonicalLayout P.Gen.first P.Gen.following false
-            (seen self.old) (shown self.old) (seen self.new) (shown self.new)) }
-        ensures renumbered { OnOk result (IsRenumbered P.Gen.first P.Gen.following seen entry shown
+            (value_view self.old) (link_map self.old) (value_view self.new) (link_map self.new)) }
+        ensures renumbered { OnOk result (IsRenumbered P.Gen.first P.Gen.following value_view entry link_map
             self.old self.new
             (map (option_map P.key) bookmarks.old) (map (option_map P.key) bookmarks.new)) }
         ensures err { OnErr result ((self.new ≡ self.old) × (bookmarks.new ≡ bookmarks.old)) }

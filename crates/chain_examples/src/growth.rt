@@ -2,7 +2,7 @@
 
 ghost use Rattle.std.specs.Prelude.{◌≡◌, ◌↔◌, ◌≤◌, ◌<◌, ◌+◌, IsOk, OnOk, IsErr, OnErr, Err};
 ghost use Rattle.arena_ptr.specs.SlotStack.{IsBeyond};
-ghost use Rattle.arena_base.specs.Arena.{IsRoom};
+ghost use Rattle.arena_base.specs.Arena.{IsCapacityFor};
 ghost use Rattle.arena_base.specs.Entries.{count, with_capacity};
 
 use arena_ptr::{InxKey, PtrKey, ReallocationError};
@@ -20,16 +20,16 @@ pub(crate) fn reserve<P: PtrKey, T: Drop, A: ChainArenaTrait<P, T>>(
     arena: &mut A,
     additional: usize,
 ) -> Result<(), ReallocationError>
-    ensures within { count (A.seen arena.old) + additional ≤ (A.seen arena.old).capacity
+    ensures within { count (A.view arena.old) + additional ≤ (A.view arena.old).capacity
         → IsOk result × (arena.new ≡ arena.old) }
     ensures beyond { (result ≡ Err ReallocationError.BeyondMaxCapacity)
-        ↔ IsBeyond (A.seen arena.old).maximum (count (A.seen arena.old) + additional) }
-    ensures greatest { P.Inx.greatest < count (A.seen arena.old) + additional → IsErr result }
-    ensures ok { OnOk result (IsRoom P.Inx.greatest (A.seen arena.new).maximum
-        (count (A.seen arena.old) + additional) (A.seen arena.new).capacity) }
-    ensures after { A.seen arena.new
-        ≡ with_capacity (A.seen arena.old) (A.seen arena.new).capacity }
-    ensures never_less { (A.seen arena.old).capacity ≤ (A.seen arena.new).capacity }
+        ↔ IsBeyond (A.view arena.old).maximum (count (A.view arena.old) + additional) }
+    ensures greatest { P.Inx.greatest < count (A.view arena.old) + additional → IsErr result }
+    ensures ok { OnOk result (IsCapacityFor P.Inx.greatest (A.view arena.new).maximum
+        (count (A.view arena.old) + additional) (A.view arena.new).capacity) }
+    ensures after { A.view arena.new
+        ≡ with_capacity (A.view arena.old) (A.view arena.new).capacity }
+    ensures never_less { (A.view arena.old).capacity ≤ (A.view arena.new).capacity }
     ensures entries { A.entry arena.new ≡ A.entry arena.old }
     ensures links { A.interlinks arena.new ≡ A.interlinks arena.old }
     ensures err { OnErr result (arena.new ≡ arena.old) }

@@ -4,12 +4,12 @@ ghost use Rattle.std.specs.Prelude.{◌≡◌, ◌≢◌, ◌↔◌, ℕ, ◌+�
 ghost use Rattle.std.specs.Option.{option_map};
 ghost use Rattle.arena_ptr.specs.SlotStack.{IsBeyond, IsWithinMaximum};
 ghost use Rattle.chain_laws.specs.Chains.{cyclic};
-ghost use Rattle.arena_base.specs.Arena.{IsRoom, IsValid};
-ghost use Rattle.arena_base.specs.Entries.{count, entry_removed, first_key, with_capacity, HasRoomLeft, NeedsBeyondMaximum};
-ghost use Rattle.chain_links.specs.CallEffects.{SucceedsInRoom};
+ghost use Rattle.arena_base.specs.Arena.{IsCapacityFor, IsValid};
+ghost use Rattle.arena_base.specs.Entries.{count, entry_removed, first_key, with_capacity, HasFreeCapacity, NeedsBeyondMaximum};
+ghost use Rattle.chain_links.specs.CallEffects.{SucceedsWithinCapacity};
 ghost use Rattle.chain_links.specs.ChainArena.{IsInserted};
-ghost use Rattle.chain_examples.specs.Lists.{Item, IsRing, KeepsWithout, ComesAfter, ComesBefore, Leaves};
-ghost use Rattle.chain_examples.specs.Rings.{GoesRound, AllInRings, IsCutInTwo, AreMerged, AreCopied, IsSplit, IsBridged, CutAndMergeRestore};
+ghost use Rattle.chain_examples.specs.Lists.{Item, IsRing, KeepsWithout, InsertsAfter, InsertsBefore, Leaves};
+ghost use Rattle.chain_examples.specs.Rings.{AllCyclic, AllInRings, IsCutInTwo, AreMerged, AreCopied, IsSplit, IsBridged, CutAndMergeRestore};
 
 use crate::growth::reserve;
 use arena_ptr::{ChainInsertionError, PtrKey, ReallocationError};
@@ -29,20 +29,20 @@ pub struct Mesh<P: PtrKey, T: Drop, A: ChainArenaTrait<P, T> + Drop> {
 }
 
 impl<P: PtrKey, T: Drop, A: ChainArenaTrait<P, T> + Drop> Model for Mesh<P, T, A> {
-    ghost use Rattle.chain_examples.specs.Rings.{GoesRound};
+    ghost use Rattle.chain_examples.specs.Rings.{AllCyclic};
 
     ghost Value = { A };
 
     ghost view = { λ m. m.corners };
 
-    ghost invariant = { λ m. GoesRound (A.interlinks m.corners) };
+    ghost invariant = { λ m. AllCyclic (A.interlinks m.corners) };
 }
 
 impl<P: PtrKey, T: Drop, A: ChainArenaTrait<P, T> + Drop> Mesh<P, T, A> {
     /// Returns a mesh without polygons. It takes no memory.
     pub fn new(alloc: Global) -> Self
-        ensures corners { (A.seen result).entries ≡ [] }
-        ensures capacity { (A.seen result).capacity ≡ 0 }
+        ensures corners { (A.view result).entries ≡ [] }
+        ensures capacity { (A.view result).capacity ≡ 0 }
     {
         Mesh {
             corners: A::new(alloc),
@@ -52,31 +52,31 @@ impl<P: PtrKey, T: Drop, A: ChainArenaTrait<P, T> + Drop> Mesh<P, T, A> {
 
     /// Returns the number of corners.
     pub fn len(&self) -> usize
-        ensures count { result ≡ count (A.seen self.now) }
-        ensures fits { result ≤ (A.seen self.now).capacity }
+        ensures count { result ≡ count (A.view self.now) }
+        ensures fits { result ≤ (A.view self.now).capacity }
     {
         self.corners.len()
     }
 
     /// Returns `true` if there are no corners.
     pub fn is_empty(&self) -> bool
-        ensures { IsTrue result ↔ ((A.seen self.now).entries ≡ []) }
+        ensures { IsTrue result ↔ ((A.view self.now).entries ≡ []) }
     {
         self.corners.is_empty()
     }
 
     /// Returns the number of corners that the mesh can hold before it has to grow.
     pub fn capacity(&self) -> usize
-        ensures value { result ≡ (A.seen self.now).capacity }
+        ensures value { result ≡ (A.view self.now).capacity }
         ensures greatest { result ≤ P.Inx.greatest }
-        ensures maximum { IsWithinMaximum (A.seen self.now).maximum result }
+        ensures maximum { IsWithinMaximum (A.view self.now).maximum result }
     {
         self.corners.capacity()
     }
 
     /// Returns the greatest capacity that the mesh can have, or `None` if it has no limit.
     pub fn max_capacity(&self) -> Option<usize>
-        ensures { result ≡ (A.seen self.now).maximum }
+        ensures { result ≡ (A.view self.now).maximum }
     {
         self.corners.max_capacity()
     }
@@ -90,17 +90,17 @@ impl<P: PtrKey, T: Drop, A: ChainArenaTrait<P, T> + Drop> Mesh<P, T, A> {
     ///
     /// After an error the mesh is unchanged.
     pub fn reserve(&mut self, additional: usize) -> Result<(), ReallocationError>
-        ensures within { count (A.seen self.old) + additional ≤ (A.seen self.old).capacity
+        ensures within { count (A.view self.old) + additional ≤ (A.view self.old).capacity
             → IsOk result × (self.new ≡ self.old) }
         ensures beyond { (result ≡ Err ReallocationError.BeyondMaxCapacity)
-            ↔ IsBeyond (A.seen self.old).maximum (count (A.seen self.old) + additional) }
-        ensures greatest { P.Inx.greatest < count (A.seen self.old) + additional → IsErr result }
-        ensures grown { OnOk result (IsRoom P.Inx.greatest (A.seen self.new).maximum
-            (count (A.seen self.old) + additional) (A.seen self.new).capacity) }
-        ensures after { A.seen self.new
-            ≡ with_capacity (A.seen self.old) (A.seen self.new).capacity }
+            ↔ IsBeyond (A.view self.old).maximum (count (A.view self.old) + additional) }
+        ensures greatest { P.Inx.greatest < count (A.view self.old) + additional → IsErr result }
+        ensures grown { OnOk result (IsCapacityFor P.Inx.greatest (A.view self.new).maximum
+            (count (A.view self.old) + additional) (A.view self.new).capacity) }
+        ensures after { A.view self.new
+            ≡ with_capacity (A.view self.old) (A.view self.new).capacity }
         ensures links { A.interlinks self.new ≡ A.interlinks self.old }
-        ensures never_less { (A.seen self.old).capacity ≤ (A.seen self.new).capacity }
+        ensures never_less { (A.view self.old).capacity ≤ (A.view self.new).capacity }
         ensures err { OnErr result (self.new ≡ self.old) }
     {
         reserve(&mut self.corners, additional)
@@ -150,14 +150,14 @@ impl<P: PtrKey, T: Drop, A: ChainArenaTrait<P, T> + Drop> Mesh<P, T, A> {
             (P.key p) point) }
         ensures others { OnOk result
             (KeepsWithout A.entry A.interlinks cyclic self.old self.new []) }
-        ensures size { OnOk result (count (A.seen self.new) ≡ count (A.seen self.old) + 1) }
-        ensures room { SucceedsInRoom (A.seen self.old) result (A.seen self.new) }
-        ensures grown { OnOk result (IsRoom P.Inx.greatest (A.seen self.new).maximum
-            (count (A.seen self.old) + 1) (A.seen self.new).capacity) }
-        ensures maximum { (A.seen self.new).maximum ≡ (A.seen self.old).maximum }
+        ensures size { OnOk result (count (A.view self.new) ≡ count (A.view self.old) + 1) }
+        ensures room { SucceedsWithinCapacity (A.view self.old) result (A.view self.new) }
+        ensures grown { OnOk result (IsCapacityFor P.Inx.greatest (A.view self.new).maximum
+            (count (A.view self.old) + 1) (A.view self.new).capacity) }
+        ensures maximum { (A.view self.new).maximum ≡ (A.view self.old).maximum }
         ensures beyond { (result ≡ Err ReallocationError.BeyondMaxCapacity)
-            ↔ NeedsBeyondMaximum (A.seen self.old) }
-        ensures greatest { count (A.seen self.old) ≡ P.Inx.greatest → IsErr result }
+            ↔ NeedsBeyondMaximum (A.view self.old) }
+        ensures greatest { count (A.view self.old) ≡ P.Inx.greatest → IsErr result }
         ensures err { OnErr result (self.new ≡ self.old) }
     {
         self.corners.insert(LinkInsertKind::SingleLinkCyclic, point)
@@ -173,24 +173,24 @@ impl<P: PtrKey, T: Drop, A: ChainArenaTrait<P, T> + Drop> Mesh<P, T, A> {
     ///
     /// After an error the mesh is unchanged, and the point is dropped.
     pub fn insert_after(&mut self, corner: P, point: T) -> Result<P, ChainInsertionError>
-        ensures ring { IfOk result (λ p. ComesAfter A.entry A.interlinks cyclic self.old self.new
+        ensures ring { IfOk result (λ p. InsertsAfter A.entry A.interlinks cyclic self.old self.new
             (P.key corner) (P.key p, point)) }
         ensures corner { IfOk result (λ p. IsInserted (A.entry self.old) (A.entry self.new)
             (P.key p) point) }
         ensures others { OnOk result (KeepsWithout A.entry A.interlinks cyclic self.old self.new
             (P.key corner ∷ [])) }
-        ensures size { OnOk result (count (A.seen self.new) ≡ count (A.seen self.old) + 1) }
+        ensures size { OnOk result (count (A.view self.new) ≡ count (A.view self.old) + 1) }
         ensures link { (result ≡ Err ChainInsertionError.FailedLinkRequirement)
             ↔ ¬ IsValid (A.entry self.old) (P.key corner) }
         ensures error { IfErr result (λ e. e ≢ ChainInsertionError.NotWithinCapacity) }
         ensures room { IsValid (A.entry self.old) (P.key corner)
-            → SucceedsInRoom (A.seen self.old) result (A.seen self.new) }
-        ensures grown { OnOk result (IsRoom P.Inx.greatest (A.seen self.new).maximum
-            (count (A.seen self.old) + 1) (A.seen self.new).capacity) }
-        ensures maximum { (A.seen self.new).maximum ≡ (A.seen self.old).maximum }
+            → SucceedsWithinCapacity (A.view self.old) result (A.view self.new) }
+        ensures grown { OnOk result (IsCapacityFor P.Inx.greatest (A.view self.new).maximum
+            (count (A.view self.old) + 1) (A.view self.new).capacity) }
+        ensures maximum { (A.view self.new).maximum ≡ (A.view self.old).maximum }
         ensures beyond { (result ≡ Err ChainInsertionError.BeyondMaxCapacity)
-            ↔ (IsValid (A.entry self.old) (P.key corner) × NeedsBeyondMaximum (A.seen self.old)) }
-        ensures greatest { count (A.seen self.old) ≡ P.Inx.greatest → IsErr result }
+            ↔ (IsValid (A.entry self.old) (P.key corner) × NeedsBeyondMaximum (A.view self.old)) }
+        ensures greatest { count (A.view self.old) ≡ P.Inx.greatest → IsErr result }
         ensures err { OnErr result (self.new ≡ self.old) }
     {
         self.corners
@@ -211,9 +211,9 @@ impl<P: PtrKey, T: Drop, A: ChainArenaTrait<P, T> + Drop> Mesh<P, T, A> {
         ensures corners { (i : ℕ) → i ≢ (P.key corner).0 → A.entry self.new i ≡ A.entry self.old i }
         ensures others { KeepsWithout A.entry A.interlinks cyclic self.old self.new
             (P.key corner ∷ []) }
-        ensures size { OnSome result (count (A.seen self.old) ≡ count (A.seen self.new) + 1) }
-        ensures seen { OnSome result (A.seen self.new
-            ≡ entry_removed P.Gen.following (A.seen self.old) (P.key corner).0) }
+        ensures size { OnSome result (count (A.view self.old) ≡ count (A.view self.new) + 1) }
+        ensures seen { OnSome result (A.view self.new
+            ≡ entry_removed P.Gen.following (A.view self.old) (P.key corner).0) }
         ensures none { IfNone result (self.new ≡ self.old) }
     {
         self.corners.agrees();
@@ -233,7 +233,7 @@ impl<P: PtrKey, T: Drop, A: ChainArenaTrait<P, T> + Drop> Mesh<P, T, A> {
         ensures others { KeepsWithout A.entry A.interlinks cyclic self.old self.new
             (P.key u ∷ P.key v ∷ []) }
         ensures corners { A.entry self.new ≡ A.entry self.old }
-        ensures seen { A.seen self.new ≡ A.seen self.old }
+        ensures seen { A.view self.new ≡ A.view self.old }
         ensures itself { P.key u ≡ P.key v → A.interlinks self.new ≡ A.interlinks self.old }
         ensures none { IfNone result (self.new ≡ self.old) }
     {
@@ -253,7 +253,7 @@ impl<P: PtrKey, T: Drop, A: ChainArenaTrait<P, T> + Drop> Mesh<P, T, A> {
         ensures others { KeepsWithout A.entry A.interlinks cyclic self.old self.new
             (P.key u ∷ P.key v ∷ []) }
         ensures corners { A.entry self.new ≡ A.entry self.old }
-        ensures seen { A.seen self.new ≡ A.seen self.old }
+        ensures seen { A.view self.new ≡ A.view self.old }
         ensures itself { P.key u ≡ P.key v → A.interlinks self.new ≡ A.interlinks self.old }
         ensures none { IfNone result (self.new ≡ self.old) }
     {
@@ -269,7 +269,7 @@ impl<P: PtrKey, T: Drop, A: ChainArenaTrait<P, T> + Drop> Mesh<P, T, A> {
         ensures others { KeepsWithout A.entry A.interlinks cyclic self.old self.new
             (P.key u ∷ P.key v ∷ []) }
         ensures corners { A.entry self.new ≡ A.entry self.old }
-        ensures seen { A.seen self.new ≡ A.seen self.old }
+        ensures seen { A.view self.new ≡ A.view self.old }
         ensures itself { P.key u ≡ P.key v → A.interlinks self.new ≡ A.interlinks self.old }
         ensures none { IfNone result (self.new ≡ self.old) }
     {
@@ -309,18 +309,18 @@ impl<P: PtrKey, T: Copy + Drop, A: ChainArenaTrait<P, T> + Drop> Mesh<P, T, A> {
         ensures others { OnOk result (KeepsWithout A.entry A.interlinks cyclic self.old self.new
             (P.key u ∷ P.key v ∷ [])) }
         ensures size { IfOk result
-            (λ r. OnSome r (count (A.seen self.new) ≡ count (A.seen self.old) + 2)) }
+            (λ r. OnSome r (count (A.view self.new) ≡ count (A.view self.old) + 2)) }
         ensures none { IfOk result (λ r. IfNone r (self.new ≡ self.old)) }
-        ensures room { count (A.seen self.old) + 2 ≤ (A.seen self.old).capacity
-            → IsOk result × ((A.seen self.new).capacity ≡ (A.seen self.old).capacity) }
-        ensures grown { IfOk result (λ r. OnSome r (IsRoom P.Inx.greatest (A.seen self.new).maximum
-            (count (A.seen self.old) + 2) (A.seen self.new).capacity)) }
-        ensures maximum { (A.seen self.new).maximum ≡ (A.seen self.old).maximum }
+        ensures room { count (A.view self.old) + 2 ≤ (A.view self.old).capacity
+            → IsOk result × ((A.view self.new).capacity ≡ (A.view self.old).capacity) }
+        ensures grown { IfOk result (λ r. OnSome r (IsCapacityFor P.Inx.greatest (A.view self.new).maximum
+            (count (A.view self.old) + 2) (A.view self.new).capacity)) }
+        ensures maximum { (A.view self.new).maximum ≡ (A.view self.old).maximum }
         ensures beyond { (result ≡ Err ReallocationError.BeyondMaxCapacity)
             ↔ ((IsValid (A.entry self.old) (P.key u) × IsValid (A.entry self.old) (P.key v)
             × (P.key u ≢ P.key v))
-            × IsBeyond (A.seen self.old).maximum (count (A.seen self.old) + 2)) }
-        ensures greatest { P.Inx.greatest < count (A.seen self.old) + 2
+            × IsBeyond (A.view self.old).maximum (count (A.view self.old) + 2)) }
+        ensures greatest { P.Inx.greatest < count (A.view self.old) + 2
             → IfOk result (λ r. r ≡ None) }
         ensures err { OnErr result (self.new ≡ self.old) }
     {
@@ -335,7 +335,7 @@ impl<P: PtrKey, T: Copy + Drop, A: ChainArenaTrait<P, T> + Drop> Mesh<P, T, A> {
 
     // Splits as `split` does, where there is room for the copies. These are the points of u and v.
     fn split_in_room(&mut self, u: P, v: P, both: (T, T)) -> (P, P)
-        requires room { count (A.seen self.old) + 2 ≤ (A.seen self.old).capacity }
+        requires room { count (A.view self.old) + 2 ≤ (A.view self.old).capacity }
         requires first { A.entry self.old (P.key u).0 ≡ Some ((P.key u).1, both.0) }
         requires second { A.entry self.old (P.key v).0 ≡ Some ((P.key v).1, both.1) }
         ensures rings { IsSplit A.entry A.interlinks self.old self.new
@@ -346,9 +346,9 @@ impl<P: PtrKey, T: Copy + Drop, A: ChainArenaTrait<P, T> + Drop> Mesh<P, T, A> {
             (P.key u) (P.key v) (P.key result.0) (P.key result.1) }
         ensures others { KeepsWithout A.entry A.interlinks cyclic self.old self.new
             (P.key u ∷ P.key v ∷ []) }
-        ensures size { count (A.seen self.new) ≡ count (A.seen self.old) + 2 }
-        ensures capacity { (A.seen self.new).capacity ≡ (A.seen self.old).capacity }
-        ensures maximum { (A.seen self.new).maximum ≡ (A.seen self.old).maximum }
+        ensures size { count (A.view self.new) ≡ count (A.view self.old) + 2 }
+        ensures capacity { (A.view self.new).capacity ≡ (A.view self.old).capacity }
+        ensures maximum { (A.view self.new).maximum ≡ (A.view self.old).maximum }
     {
         let first = add_before(&mut self.corners, u, both.0);
         let second = add_after(&mut self.corners, v, both.1);
@@ -378,16 +378,16 @@ impl<P: PtrKey, T: Copy + Drop, A: ChainArenaTrait<P, T> + Drop> Mesh<P, T, A> {
 // Adds a corner directly before another, where there is room.
 fn add_before<P: PtrKey, T: Drop, A: ChainArenaTrait<P, T>>(corners: &mut A, u: P, t: T) -> P
     requires valid { IsValid (A.entry corners.old) (P.key u) }
-    requires room { HasRoomLeft (A.seen corners.old) }
-    ensures ring { ComesBefore A.entry A.interlinks cyclic corners.old corners.new (P.key u)
+    requires room { HasFreeCapacity (A.view corners.old) }
+    ensures ring { InsertsBefore A.entry A.interlinks cyclic corners.old corners.new (P.key u)
         (P.key result, t) }
     ensures corner { IsInserted (A.entry corners.old) (A.entry corners.new) (P.key result) t }
     ensures others { KeepsWithout A.entry A.interlinks cyclic corners.old corners.new
         (P.key u ∷ []) }
-    ensures round { GoesRound (A.interlinks corners.old) → GoesRound (A.interlinks corners.new) }
-    ensures size { count (A.seen corners.new) ≡ count (A.seen corners.old) + 1 }
-    ensures capacity { (A.seen corners.new).capacity ≡ (A.seen corners.old).capacity }
-    ensures maximum { (A.seen corners.new).maximum ≡ (A.seen corners.old).maximum }
+    ensures round { AllCyclic (A.interlinks corners.old) → AllCyclic (A.interlinks corners.new) }
+    ensures size { count (A.view corners.new) ≡ count (A.view corners.old) + 1 }
+    ensures capacity { (A.view corners.new).capacity ≡ (A.view corners.old).capacity }
+    ensures maximum { (A.view corners.new).maximum ≡ (A.view corners.old).maximum }
 {
     corners.invariants();
     match corners.insert(LinkInsertKind::PrevTo(u), t) {
@@ -399,16 +399,16 @@ fn add_before<P: PtrKey, T: Drop, A: ChainArenaTrait<P, T>>(corners: &mut A, u: 
 // Adds a corner directly after another, where there is room.
 fn add_after<P: PtrKey, T: Drop, A: ChainArenaTrait<P, T>>(corners: &mut A, v: P, t: T) -> P
     requires valid { IsValid (A.entry corners.old) (P.key v) }
-    requires room { HasRoomLeft (A.seen corners.old) }
-    ensures ring { ComesAfter A.entry A.interlinks cyclic corners.old corners.new (P.key v)
+    requires room { HasFreeCapacity (A.view corners.old) }
+    ensures ring { InsertsAfter A.entry A.interlinks cyclic corners.old corners.new (P.key v)
         (P.key result, t) }
     ensures corner { IsInserted (A.entry corners.old) (A.entry corners.new) (P.key result) t }
     ensures others { KeepsWithout A.entry A.interlinks cyclic corners.old corners.new
         (P.key v ∷ []) }
-    ensures round { GoesRound (A.interlinks corners.old) → GoesRound (A.interlinks corners.new) }
-    ensures size { count (A.seen corners.new) ≡ count (A.seen corners.old) + 1 }
-    ensures capacity { (A.seen corners.new).capacity ≡ (A.seen corners.old).capacity }
-    ensures maximum { (A.seen corners.new).maximum ≡ (A.seen corners.old).maximum }
+    ensures round { AllCyclic (A.interlinks corners.old) → AllCyclic (A.interlinks corners.new) }
+    ensures size { count (A.view corners.new) ≡ count (A.view corners.old) + 1 }
+    ensures capacity { (A.view corners.new).capacity ≡ (A.view corners.old).capacity }
+    ensures maximum { (A.view corners.new).maximum ≡ (A.view corners.old).maximum }
 {
     match corners.insert(LinkInsertKind::NextTo(v), t) {
         Ok(p) => p,

@@ -2,12 +2,12 @@
 
 ghost use Rattle.std.specs.Prelude.{◌≡◌, ◌↔◌, None, Some, Err, IsSome, IfSome, IsOk, IfOk, OnErr};
 ghost use Rattle.arena_base.specs.Arena.{IsValid};
-ghost use Rattle.arena_base.specs.Entries.{HasRoomLeft};
+ghost use Rattle.arena_base.specs.Entries.{HasFreeCapacity};
 ghost use Rattle.arena_ptr.specs.ToolPtr.{key_of};
 ghost use Rattle.chain_laws.specs.Chains.{next_of};
 ghost use Rattle.chain_laws.specs.Neighbors.{AreNeighbors};
 ghost use Rattle.chain_laws.specs.Removals.{removed};
-ghost use Rattle.chain_links.specs.ChainArena.{entry, seen, shown};
+ghost use Rattle.chain_links.specs.ChainArena.{entry, value_view, link_map};
 
 use arena_base::ArenaTrait;
 use arena_ptr::{ChainInsertionError, ToolPtr};
@@ -18,7 +18,7 @@ pub fn remove_value(arena: &mut ChainArena<ToolPtr, u32>, p: ToolPtr) -> Option<
     ensures some { IsSome result ↔ IsValid (entry arena.old) (key_of p) }
     ensures value { IfSome result (λ t. entry arena.old (key_of p).0 ≡ Some ((key_of p).1, t)) }
     ensures links { IsValid (entry arena.old) (key_of p)
-        → shown arena.new ≡ removed (shown arena.old) (key_of p).0 }
+        → link_map arena.new ≡ removed (link_map arena.old) (key_of p).0 }
     ensures none { ¬ IsValid (entry arena.old) (key_of p)
         → (result ≡ None) × (arena.new ≡ arena.old) }
 {
@@ -40,9 +40,9 @@ pub fn insert_behind(
 ) -> Result<ToolPtr, ChainInsertionError>
     ensures link { (result ≡ Err ChainInsertionError.FailedLinkRequirement)
         ↔ ¬ IsValid (entry arena.old) (key_of p) }
-    ensures room { IsValid (entry arena.old) (key_of p) → HasRoomLeft (seen arena.old)
+    ensures room { IsValid (entry arena.old) (key_of p) → HasFreeCapacity (value_view arena.old)
         → IsOk result }
-    ensures behind { IfOk result (λ q. AreNeighbors (shown arena.new) (key_of p).0 (key_of q).0) }
+    ensures behind { IfOk result (λ q. AreNeighbors (link_map arena.new) (key_of p).0 (key_of q).0) }
     ensures err { OnErr result (arena.new ≡ arena.old) }
 {
     arena.insert_reallocating(LinkInsertKind::NextTo(p), t)
@@ -51,10 +51,10 @@ pub fn insert_behind(
 /// Returns the pointer of the link after `p`, if there is one.
 pub fn pointer_after(arena: &ChainArena<ToolPtr, u32>, p: ToolPtr) -> Option<ToolPtr>
     ensures some { IfSome result (λ q. IsValid (entry arena.now) (key_of q)
-        × (next_of (shown arena.now) (key_of p).0 ≡ Some (key_of q).0)) }
+        × (next_of (link_map arena.now) (key_of p).0 ≡ Some (key_of q).0)) }
     ensures invalid { ¬ IsValid (entry arena.now) (key_of p) → result ≡ None }
     ensures none { IsValid (entry arena.now) (key_of p) → result ≡ None
-        → next_of (shown arena.now) (key_of p).0 ≡ None }
+        → next_of (link_map arena.now) (key_of p).0 ≡ None }
 {
     match arena.get_link(p) {
         Some(link) => link.next(),

@@ -4,12 +4,12 @@ ghost use Rattle.std.specs.Prelude.{◌≡◌, ◌↔◌, ◌<◌, ◌≤◌, �
 ghost use Rattle.std.specs.Option.{option_map, option_or};
 ghost use Rattle.std.specs.Borrow.{LendsSo, sem};
 ghost use Rattle.arena_ptr.specs.SlotStack.{IsBeyond, IsWithinMaximum};
-ghost use Rattle.arena_base.specs.Arena.{IsRoom, IsValid};
+ghost use Rattle.arena_base.specs.Arena.{IsCapacityFor, IsValid};
 ghost use Rattle.arena_base.specs.Entries.{count, first_key, found, NeedsBeyondMaximum};
-ghost use Rattle.chain_laws.specs.Chains.{Has};
-ghost use Rattle.chain_links.specs.CallEffects.{SucceedsInRoom};
-ghost use Rattle.chain_examples.specs.QueueOrder.{ComesLast, IsAmong, IsCancelled, IsFirstWithout, turned_once, with_task};
-ghost use Rattle.chain_examples.specs.Lists.{Item, IsTurn, indexes};
+ghost use Rattle.chain_laws.specs.Chains.{IsMember};
+ghost use Rattle.chain_links.specs.CallEffects.{SucceedsWithinCapacity};
+ghost use Rattle.chain_examples.specs.QueueOrder.{AppendsTask, IsAmong, IsCancelled, IsFirstWithout, rotation, with_task};
+ghost use Rattle.chain_examples.specs.Lists.{Item, IsQueueOrder, indexes};
 
 use crate::growth::reserve;
 use arena_ptr::{GenKey, InxKey, PtrKey, ReallocationError};
@@ -32,21 +32,21 @@ pub struct RunQueue<P: PtrKey, T: Drop, A: ChainArenaTrait<P, T> + Drop> {
 impl<P: PtrKey, T: Drop, A: ChainArenaTrait<P, T> + Drop> Model for RunQueue<P, T, A> {
     ghost use Rattle.std.specs.Option.{option_map};
     ghost use Rattle.arena_base.specs.Entries.{count};
-    ghost use Rattle.chain_examples.specs.Lists.{IsTurn};
-    ghost use Rattle.chain_examples.specs.QueueOrder.{Queue, turn_of};
+    ghost use Rattle.chain_examples.specs.Lists.{IsQueueOrder};
+    ghost use Rattle.chain_examples.specs.QueueOrder.{Queue, queue_order};
 
     ghost Value = { Queue P.Gen T };
 
     ghost view = { λ q. record {
-      turn = turn_of (A.entry q.tasks) (A.interlinks q.tasks) (count (A.seen q.tasks))
+      turn = queue_order (A.entry q.tasks) (A.interlinks q.tasks) (count (A.view q.tasks))
           (option_map P.key q.current);
-      room = (A.seen q.tasks).capacity;
-      maximum = (A.seen q.tasks).maximum;
+      room = (A.view q.tasks).capacity;
+      maximum = (A.view q.tasks).maximum;
     } };
 
-    ghost invariant = { λ q. IsTurn (A.entry q.tasks) (A.interlinks q.tasks)
+    ghost invariant = { λ q. IsQueueOrder (A.entry q.tasks) (A.interlinks q.tasks)
         (option_map P.key q.current)
-        (turn_of (A.entry q.tasks) (A.interlinks q.tasks) (count (A.seen q.tasks))
+        (queue_order (A.entry q.tasks) (A.interlinks q.tasks) (count (A.view q.tasks))
         (option_map P.key q.current)) };
 }
 
@@ -111,7 +111,7 @@ impl<P: PtrKey, T: Drop, A: ChainArenaTrait<P, T> + Drop> RunQueue<P, T, A> {
         ensures beyond { (result ≡ Err ReallocationError.BeyondMaxCapacity)
             ↔ IsBeyond self.old.maximum (length self.old.turn + additional) }
         ensures greatest { P.Inx.greatest < length self.old.turn + additional → IsErr result }
-        ensures ok { OnOk result (IsRoom P.Inx.greatest self.new.maximum
+        ensures ok { OnOk result (IsCapacityFor P.Inx.greatest self.new.maximum
             (length self.old.turn + additional) self.new.room) }
         ensures turn { self.new.turn ≡ self.old.turn }
         ensures maximum { self.new.maximum ≡ self.old.maximum }
@@ -169,10 +169,10 @@ impl<P: PtrKey, T: Drop, A: ChainArenaTrait<P, T> + Drop> RunQueue<P, T, A> {
     /// After an error nothing has changed, and the task is dropped.
     pub fn spawn(&mut self, task: T) -> Result<P, ReallocationError>
         ensures last { IfOk result (λ p. self.new.turn ≡ self.old.turn ++ (P.key p, task) ∷ []) }
-        ensures fresh { IfOk result (λ p. ¬ Has (indexes self.old.turn) (P.key p).0) }
+        ensures fresh { IfOk result (λ p. ¬ IsMember (indexes self.old.turn) (P.key p).0) }
         ensures room { length self.old.turn < self.old.room
             → IsOk result × (self.new.room ≡ self.old.room) }
-        ensures grown { OnOk result (IsRoom P.Inx.greatest self.new.maximum
+        ensures grown { OnOk result (IsCapacityFor P.Inx.greatest self.new.maximum
             (length self.old.turn + 1) self.new.room) }
         ensures beyond { (result ≡ Err ReallocationError.BeyondMaxCapacity)
             ↔ ((length self.old.turn ≡ self.old.room)
@@ -189,7 +189,7 @@ impl<P: PtrKey, T: Drop, A: ChainArenaTrait<P, T> + Drop> RunQueue<P, T, A> {
     /// Goes on to the next task in turn, and answers its pointer: the one that was current is the last then. `None`: there are
     /// no tasks.
     pub fn next(&mut self) -> Option<P>
-        ensures turned { self.new.turn ≡ turned_once self.old.turn }
+        ensures turned { self.new.turn ≡ rotation self.old.turn }
         ensures current { option_map P.key result ≡ first_key self.new.turn }
         ensures room { self.new.room ≡ self.old.room }
         ensures maximum { self.new.maximum ≡ self.old.maximum }
@@ -262,17 +262,17 @@ fn come_last<P: PtrKey, T: Drop, A: ChainArenaTrait<P, T>>(
     task: T,
 ) -> Result<P, ReallocationError>
     requires { IfSome current (λ p. IsValid (A.entry tasks.old) (P.key p)) }
-    ensures last { IfOk result (λ p. ComesLast A.entry A.interlinks tasks.old tasks.new
+    ensures last { IfOk result (λ p. AppendsTask A.entry A.interlinks tasks.old tasks.new
         (option_map P.key current) (option_map P.key (option_or current (Some p)))
         (P.key p, task)) }
     ensures fresh { IfOk result (λ p. A.entry tasks.old (P.key p).0 ≡ None) }
-    ensures room { SucceedsInRoom (A.seen tasks.old) result (A.seen tasks.new) }
-    ensures grown { OnOk result (IsRoom P.Inx.greatest (A.seen tasks.new).maximum
-        (count (A.seen tasks.old) + 1) (A.seen tasks.new).capacity) }
+    ensures room { SucceedsWithinCapacity (A.view tasks.old) result (A.view tasks.new) }
+    ensures grown { OnOk result (IsCapacityFor P.Inx.greatest (A.view tasks.new).maximum
+        (count (A.view tasks.old) + 1) (A.view tasks.new).capacity) }
     ensures beyond { (result ≡ Err ReallocationError.BeyondMaxCapacity)
-        ↔ NeedsBeyondMaximum (A.seen tasks.old) }
-    ensures greatest { count (A.seen tasks.old) ≡ P.Inx.greatest → IsErr result }
-    ensures maximum { (A.seen tasks.new).maximum ≡ (A.seen tasks.old).maximum }
+        ↔ NeedsBeyondMaximum (A.view tasks.old) }
+    ensures greatest { count (A.view tasks.old) ≡ P.Inx.greatest → IsErr result }
+    ensures maximum { (A.view tasks.new).maximum ≡ (A.view tasks.old).maximum }
     ensures err { OnErr result (tasks.new ≡ tasks.old) }
 {
     match current {
@@ -284,7 +284,7 @@ fn come_last<P: PtrKey, T: Drop, A: ChainArenaTrait<P, T>>(
 // The pointer of the task after the current one, p.
 fn after<P: PtrKey, T: Drop, A: ChainArenaTrait<P, T>>(tasks: &A, p: P) -> Option<P>
     ensures { (task : Item P.Gen T) (rest : List (Item P.Gen T))
-        → IsTurn (A.entry tasks.now) (A.interlinks tasks.now) (Some (P.key p)) (task ∷ rest)
+        → IsQueueOrder (A.entry tasks.now) (A.interlinks tasks.now) (Some (P.key p)) (task ∷ rest)
         → option_map P.key result ≡ first_key (rest ++ task ∷ []) }
 {
     match tasks.get_link(p) {
@@ -296,7 +296,7 @@ fn after<P: PtrKey, T: Drop, A: ChainArenaTrait<P, T>>(tasks: &A, p: P) -> Optio
 // The pointer of the task after the current one, p, if that is another.
 fn other_after<P: PtrKey, T: Drop, A: ChainArenaTrait<P, T>>(tasks: &A, p: P) -> Option<P>
     ensures { (task : Item P.Gen T) (rest : List (Item P.Gen T))
-        → IsTurn (A.entry tasks.now) (A.interlinks tasks.now) (Some (P.key p)) (task ∷ rest)
+        → IsQueueOrder (A.entry tasks.now) (A.interlinks tasks.now) (Some (P.key p)) (task ∷ rest)
         → option_map P.key result ≡ first_key rest }
 {
     let q = after(tasks, p)?;

@@ -9,7 +9,7 @@ ghost use Rattle.chain_laws.specs.Neighbors.{AreNeighbors};
 ghost use Rattle.chain_laws.specs.Joins.{joined, KeepsChainsWithout};
 ghost use Rattle.chain_laws.specs.Removals.{removed};
 ghost use Rattle.arena_base.specs.Arena.{IsValid};
-ghost use Rattle.arena_base.specs.Entries.{entry_removed, HasRoomLeft, NeedsBeyondMaximum};
+ghost use Rattle.arena_base.specs.Entries.{entry_removed, HasFreeCapacity, NeedsBeyondMaximum};
 ghost use Rattle.chain_links.specs.CallEffects.{GainsLink};
 ghost use Rattle.chain_links.specs.ChainArena.{CanConnect};
 ghost use Rattle.chain_links.specs.Kinds.{pointed};
@@ -27,7 +27,7 @@ pub fn tie<P: PtrKey, T: Drop, A: ChainArenaTrait<P, T>>(arena: &mut A, p: P, q:
         (P.key p).0 (P.key q).0 }
     ensures others { IsTrue result → KeepsChainsWithout (A.interlinks arena.old)
         (A.interlinks arena.new) (P.key p).0 (P.key q).0 }
-    ensures seen { IsTrue result → A.seen arena.new ≡ A.seen arena.old }
+    ensures seen { IsTrue result → A.view arena.new ≡ A.view arena.old }
     ensures refused { IsFalse result → arena.new ≡ arena.old }
 {
     match arena.connect(p, q) {
@@ -47,7 +47,7 @@ pub fn take_next<P: PtrKey, T: Drop, A: ChainArenaTrait<P, T>>(
     ensures links { IsSome (A.entry arena.old (P.Inx.number i))
         → A.interlinks arena.new ≡ removed (A.interlinks arena.old) (P.Inx.number i) }
     ensures seen { IsSome (A.entry arena.old (P.Inx.number i))
-        → A.seen arena.new ≡ entry_removed P.Gen.following (A.seen arena.old) (P.Inx.number i) }
+        → A.view arena.new ≡ entry_removed P.Gen.following (A.view arena.old) (P.Inx.number i) }
     ensures none { A.entry arena.old (P.Inx.number i) ≡ None
         → (result ≡ None) × (arena.new ≡ arena.old) }
 {
@@ -68,7 +68,7 @@ pub fn close<P: PtrKey, T: Drop, A: ChainArenaTrait<P, T>>(arena: &mut A, p: P, 
     ensures others { IsTrue result
         → KeepsChainsWithout (A.interlinks arena.old) (A.interlinks arena.new) (P.key p).0
         (P.key q).0 }
-    ensures seen { IsTrue result → A.seen arena.new ≡ A.seen arena.old }
+    ensures seen { IsTrue result → A.view arena.new ≡ A.view arena.old }
     ensures refused { IsFalse result → arena.new ≡ arena.old }
 {
     match arena.connect(p, q) {
@@ -93,16 +93,16 @@ pub fn put_behind<P: PtrKey, T: Drop, A: ChainArenaTrait<P, T>>(
 ) -> Result<P, ChainInsertionError>
     ensures behind { IfOk result (λ q. AreNeighbors (A.interlinks arena.new) (P.key p).0
         (P.key q).0) }
-    ensures inserted { IfOk result (λ q. GainsLink A.seen A.entry A.interlinks
+    ensures inserted { IfOk result (λ q. GainsLink A.view A.entry A.interlinks
         (next_to (pointed P.key P.Inx.number p)) t arena.old (P.key q) arena.new) }
     ensures link { (result ≡ Err ChainInsertionError.FailedLinkRequirement)
         ↔ ¬ IsValid (A.entry arena.old) (P.key p) }
-    ensures room { IsValid (A.entry arena.old) (P.key p) × HasRoomLeft (A.seen arena.old)
+    ensures room { IsValid (A.entry arena.old) (P.key p) × HasFreeCapacity (A.view arena.old)
         → IsOk result }
-    ensures capacity { HasRoomLeft (A.seen arena.old)
-        → (A.seen arena.new).capacity ≡ (A.seen arena.old).capacity }
+    ensures capacity { HasFreeCapacity (A.view arena.old)
+        → (A.view arena.new).capacity ≡ (A.view arena.old).capacity }
     ensures beyond { (result ≡ Err ChainInsertionError.BeyondMaxCapacity)
-        ↔ (IsValid (A.entry arena.old) (P.key p) × NeedsBeyondMaximum (A.seen arena.old)) }
+        ↔ (IsValid (A.entry arena.old) (P.key p) × NeedsBeyondMaximum (A.view arena.old)) }
     ensures error { IfErr result (λ e. e ≢ ChainInsertionError.NotWithinCapacity) }
     ensures err { OnErr result (arena.new ≡ arena.old) }
 {

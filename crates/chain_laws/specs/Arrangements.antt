@@ -1,14 +1,14 @@
 -- Arrangements: lists of all links, and the renumberings that they give, where the k-th link goes to index k.
 use Rattle.std.specs.Prelude.{◌≡◌, ◌↔◌, ℕ, suc, ◌+◌, ◌≤◌, ◌==◌, if◌then◌else◌, List, [], ◌∷◌, length, Option, None, Some}
 use Rattle.std.specs.List.{range_with_len}
-use Rattle.chain_laws.specs.Chains.{Shown, Chain, linear, cyclic, all_items, Has, HasNoRepetition, HasLink, HasLinksWithin, Agrees, AreChains}
+use Rattle.chain_laws.specs.Chains.{LinkMap, Chain, linear, cyclic, all_items, IsMember, AreDistinct, HasLink, HasLinksWithin, IsWellLinked, AreChains}
 use Rattle.chain_laws.specs.Neighbors.{AreTheChains, HasOneSetOfChains}
 use Rattle.chain_laws.specs.Renamings.{IsRenaming, AreImages}
 
 -- a list that holds each valid index once, and nothing else
-pub record IsArrangement (shown : Shown) (indexes : List ℕ) : Type 0 where
-  pub once : HasNoRepetition indexes
-  pub valid : (i : ℕ) → HasLink shown i ↔ Has indexes i
+pub record IsArrangement (link_map : LinkMap) (indexes : List ℕ) : Type 0 where
+  pub once : AreDistinct indexes
+  pub valid : (i : ℕ) → HasLink link_map i ↔ IsMember indexes i
 
 -- the place of an index in a list whose first place is n
 abbrev pub place_from : ℕ → List ℕ → ℕ → Option ℕ
@@ -20,19 +20,19 @@ abbrev pub place_in : List ℕ → ℕ → Option ℕ
 place_in indexes i = place_from 1 indexes i
 
 -- the chains one after another, each linear one from its start, each cyclic one from one of its links
-pub record IsCanonical (shown : Shown) (indexes : List ℕ) : Type 0 where
+pub record IsCanonical (link_map : LinkMap) (indexes : List ℕ) : Type 0 where
   pub chains : List Chain
-  pub are : AreChains shown chains
+  pub are : AreChains link_map chains
   pub items : indexes ≡ all_items chains
 
 -- the chains one after another by their least index, each linear one from its start, each cyclic one from its least index
-pub record IsLeastIndexOrder (shown : Shown) (indexes : List ℕ) : Type 0 where
+pub record IsLeastIndexOrder (link_map : LinkMap) (indexes : List ℕ) : Type 0 where
   pub chains : List Chain
-  pub are : AreTheChains shown chains
+  pub are : AreTheChains link_map chains
   pub items : indexes ≡ all_items chains
 
 -- the same as a function of the one set of chains
-abbrev pub ordered : {shown : Shown} → HasOneSetOfChains shown → List ℕ
+abbrev pub ordered : {link_map : LinkMap} → HasOneSetOfChains link_map → List ℕ
 ordered one = all_items one.chains
 
 -- the chains, each of so many links, as runs of consecutive indexes from k on
@@ -43,7 +43,7 @@ in_runs k (cyclic xs ∷ chains) = cyclic (range_with_len k (length xs)) ∷ in_
 
 -- by an arrangement the k-th link goes to index k, and so the links to the indexes from 1 to their number ..
 abbrev pub ArrangementNumbers : Type 0
-ArrangementNumbers = (shown : Shown) (indexes : List ℕ) → IsArrangement shown indexes → AreImages (place_in indexes) indexes (range_with_len 1 (length indexes))
+ArrangementNumbers = (link_map : LinkMap) (indexes : List ℕ) → IsArrangement link_map indexes → AreImages (place_in indexes) indexes (range_with_len 1 (length indexes))
 
 -- .. and no two to one
 abbrev pub PlacesAreApart : Type 0
@@ -51,37 +51,37 @@ PlacesAreApart = (indexes : List ℕ) (i j k : ℕ) → place_in indexes i ≡ S
 
 -- the chains one after another are an arrangement
 abbrev pub CanonicalArranges : Type 0
-CanonicalArranges = (shown : Shown) (indexes : List ℕ) → IsCanonical shown indexes → IsArrangement shown indexes
+CanonicalArranges = (link_map : LinkMap) (indexes : List ℕ) → IsCanonical link_map indexes → IsArrangement link_map indexes
 
 -- the renumbering by chains one after another lays each of them in a run, in that order, from 1 on ..
-abbrev pub LaysChainsInRuns : Type 0
-LaysChainsInRuns = (old new : Shown) (chains : List Chain) → AreChains old chains → IsRenaming (place_in (all_items chains)) old new
+abbrev pub PlacesChainsInRuns : Type 0
+PlacesChainsInRuns = (old new : LinkMap) (chains : List Chain) → AreChains old chains → IsRenaming (place_in (all_items chains)) old new
     → AreChains new (in_runs 1 chains) × (all_items (in_runs 1 chains) ≡ range_with_len 1 (length (all_items chains)))
 
 -- .. and what has the chains in these runs is that renumbering
 abbrev pub RunsAreRenumbered : Type 0
-RunsAreRenumbered = (old new : Shown) (chains : List Chain) → AreChains old chains → AreChains new (in_runs 1 chains)
+RunsAreRenumbered = (old new : LinkMap) (chains : List Chain) → AreChains old chains → AreChains new (in_runs 1 chains)
     → IsRenaming (place_in (all_items chains)) old new
 
 -- there is a least-index order ..
 abbrev pub HasLeastIndexOrder : Type 0
-HasLeastIndexOrder = (shown : Shown) (slots : ℕ) → Agrees shown → HasLinksWithin shown slots → (indexes : List ℕ) × IsLeastIndexOrder shown indexes
+HasLeastIndexOrder = (link_map : LinkMap) (slots : ℕ) → IsWellLinked link_map → HasLinksWithin link_map slots → (indexes : List ℕ) × IsLeastIndexOrder link_map indexes
 
 -- .. and it is that function
 abbrev pub LeastIndexOrderIsOrdered : Type 0
-LeastIndexOrderIsOrdered = (shown : Shown) (one : HasOneSetOfChains shown) (indexes : List ℕ) → IsLeastIndexOrder shown indexes ↔ (indexes ≡ ordered one)
+LeastIndexOrderIsOrdered = (link_map : LinkMap) (one : HasOneSetOfChains link_map) (indexes : List ℕ) → IsLeastIndexOrder link_map indexes ↔ (indexes ≡ ordered one)
 
 -- it is canonical ..
 abbrev pub LeastIndexOrderIsCanonical : Type 0
-LeastIndexOrderIsCanonical = (shown : Shown) (indexes : List ℕ) → IsLeastIndexOrder shown indexes → IsCanonical shown indexes
+LeastIndexOrderIsCanonical = (link_map : LinkMap) (indexes : List ℕ) → IsLeastIndexOrder link_map indexes → IsCanonical link_map indexes
 
 -- .. and where the links lie canonically as they stand, it leaves each in its place
 abbrev pub LeastIndexOrderRests : Type 0
-LeastIndexOrderRests = (shown : Shown) (n : ℕ) → IsCanonical shown (range_with_len 1 n) → IsLeastIndexOrder shown (range_with_len 1 n)
+LeastIndexOrderRests = (link_map : LinkMap) (n : ℕ) → IsCanonical link_map (range_with_len 1 n) → IsLeastIndexOrder link_map (range_with_len 1 n)
 
 -- .. so once the links are laid out in it, it leaves each in its place ..
 abbrev pub LayoutRests : Type 0
-LayoutRests = (old new : Shown) (indexes : List ℕ) → IsLeastIndexOrder old indexes → IsRenaming (place_in indexes) old new
+LayoutRests = (old new : LinkMap) (indexes : List ℕ) → IsLeastIndexOrder old indexes → IsRenaming (place_in indexes) old new
     → IsLeastIndexOrder new (range_with_len 1 (length indexes))
 
 -- .. which is where it stands

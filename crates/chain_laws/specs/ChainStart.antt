@@ -1,38 +1,38 @@
 -- Where a chain is written from, and the walk back to there.
 use Rattle.std.specs.Prelude.{◌≡◌, ◌≢◌, ℕ, ◌+◌, ◌≤◌, ◌<◌, is_some, Bool, if◌then◌else◌, List, ◌∷◌, ◌++◌, length, None, Some}
-use Rattle.chain_laws.specs.Chains.{Shown, Chain, linear, cyclic, Has, IsChain, HasLink, HasLinksWithin, IsInOrder, Agrees, AreChains, first_or, prev_of}
+use Rattle.chain_laws.specs.Chains.{LinkMap, Chain, linear, cyclic, IsMember, IsChain, HasLink, HasLinksWithin, IsInOrder, IsWellLinked, AreChains, first_or, prev_of}
 
 -- a walker has gone so many steps back from i, and stands here
-pub record IsBack (shown : Shown) (i steps here : ℕ) : Type 0 where
-  pub in_linear : (xs : List ℕ) → IsChain shown (linear xs) → Has xs i
-      → (before : List ℕ) × (after : List ℕ) × (xs ≡ before ++ here ∷ after) × Has (here ∷ after) i × (steps ≤ length after)
-  pub in_cyclic : (xs : List ℕ) → IsChain shown (cyclic (i ∷ xs))
+pub record IsBack (link_map : LinkMap) (i steps here : ℕ) : Type 0 where
+  pub in_linear : (xs : List ℕ) → IsChain link_map (linear xs) → IsMember xs i
+      → (before : List ℕ) × (after : List ℕ) × (xs ≡ before ++ here ∷ after) × IsMember (here ∷ after) i × (steps ≤ length after)
+  pub in_cyclic : (xs : List ℕ) → IsChain link_map (cyclic (i ∷ xs))
       → (before : List ℕ) × (after : List ℕ) × (xs ≡ before ++ after) × (first_or after (Some i) ≡ Some here) × (steps ≤ length after)
 
 -- the chain of i is written from here: a linear one from its start, a cyclic one from i
-pub record IsStart (shown : Shown) (i here : ℕ) : Type 0 where
-  pub in_linear : (xs : List ℕ) → IsChain shown (linear xs) → Has xs i → first_or xs None ≡ Some here
-  pub in_cyclic : (xs : List ℕ) → IsChain shown (cyclic (i ∷ xs)) → here ≡ i
+pub record IsStart (link_map : LinkMap) (i here : ℕ) : Type 0 where
+  pub in_linear : (xs : List ℕ) → IsChain link_map (linear xs) → IsMember xs i → first_or xs None ≡ Some here
+  pub in_cyclic : (xs : List ℕ) → IsChain link_map (cyclic (i ∷ xs)) → here ≡ i
 
 -- a walk back begins at its link ..
 abbrev pub WalkBackBegins : Type 0
-WalkBackBegins = (shown : Shown) (i : ℕ) → IsBack shown i 0 i
+WalkBackBegins = (link_map : LinkMap) (i : ℕ) → IsBack link_map i 0 i
 
 -- .. goes on to the link before, unless that is where it began ..
-abbrev pub WalkBackGoesOn : Type 0
-WalkBackGoesOn = (shown : Shown) (i steps here k : ℕ) → IsBack shown i steps here → prev_of shown here ≡ Some k → k ≢ i → IsBack shown i (steps + 1) k
+abbrev pub WalkBackContinues : Type 0
+WalkBackContinues = (link_map : LinkMap) (i steps here k : ℕ) → IsBack link_map i steps here → prev_of link_map here ≡ Some k → k ≢ i → IsBack link_map i (steps + 1) k
 
 -- .. has found where the chain is written from where there is none, or it has come round ..
 abbrev pub WalkBackEnds : Type 0
-WalkBackEnds = (shown : Shown) (i steps here : ℕ) → IsBack shown i steps here → prev_of shown here ≡ None → IsStart shown i here
+WalkBackEnds = (link_map : LinkMap) (i steps here : ℕ) → IsBack link_map i steps here → prev_of link_map here ≡ None → IsStart link_map i here
 
-abbrev pub WalkBackComesRound : Type 0
-WalkBackComesRound = (shown : Shown) (i steps here : ℕ) → IsBack shown i steps here → prev_of shown here ≡ Some i → IsStart shown i i
+abbrev pub WalkBackIsCyclic : Type 0
+WalkBackIsCyclic = (link_map : LinkMap) (i steps here : ℕ) → IsBack link_map i steps here → prev_of link_map here ≡ Some i → IsStart link_map i i
 
 -- .. and makes fewer steps than there are links
 abbrev pub WalkBackIsShort : Type 0
-WalkBackIsShort = (shown : Shown) (slots i steps here : ℕ) (links : List ℕ) → Agrees shown → HasLinksWithin shown slots → HasLink shown i
-    → ((j : ℕ) → HasLink shown j → Has links j) → IsBack shown i steps here → steps < length links
+WalkBackIsShort = (link_map : LinkMap) (slots i steps here : ℕ) (links : List ℕ) → IsWellLinked link_map → HasLinksWithin link_map slots → HasLink link_map i
+    → ((j : ℕ) → HasLink link_map j → IsMember links j) → IsBack link_map i steps here → steps < length links
 
 -- a chain of these items, cyclic or linear
 abbrev pub chain_of : Bool → List ℕ → Chain
@@ -40,6 +40,6 @@ chain_of ring xs = if ring then cyclic xs else linear xs
 
 -- where no link has a lower index, the chain of a link is the next in order, and where it is written from its first item
 abbrev pub LeastIsNext : Type 0
-LeastIsNext = (shown : Shown) (chains : List Chain) (i here : ℕ) → AreChains shown chains → IsInOrder chains
-    → HasLink shown i → ((j : ℕ) → HasLink shown j → i ≤ j) → IsStart shown i here
-    → (xs : List ℕ) × (rest : List Chain) × (chains ≡ chain_of (is_some (prev_of shown here)) (here ∷ xs) ∷ rest) × Has (here ∷ xs) i
+LeastIsNext = (link_map : LinkMap) (chains : List Chain) (i here : ℕ) → AreChains link_map chains → IsInOrder chains
+    → HasLink link_map i → ((j : ℕ) → HasLink link_map j → i ≤ j) → IsStart link_map i here
+    → (xs : List ℕ) × (rest : List Chain) × (chains ≡ chain_of (is_some (prev_of link_map here)) (here ∷ xs) ∷ rest) × IsMember (here ∷ xs) i

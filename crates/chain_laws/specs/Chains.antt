@@ -7,8 +7,8 @@ pub record Interlinks : Type 0 where
   pub next : Option ℕ
 
 -- what an arena shows: at each index the interlinks of the link there, if one stands there
-abbrev pub Shown : Type 0
-Shown = ℕ → Option Interlinks
+abbrev pub LinkMap : Type 0
+LinkMap = ℕ → Option Interlinks
 
 abbrev pub prev_in : Option Interlinks → Option ℕ
 prev_in None = None
@@ -18,34 +18,34 @@ abbrev pub next_in : Option Interlinks → Option ℕ
 next_in None = None
 next_in (Some link) = link.next
 
-abbrev pub prev_of : Shown → ℕ → Option ℕ
-prev_of shown i = prev_in (shown i)
+abbrev pub prev_of : LinkMap → ℕ → Option ℕ
+prev_of link_map i = prev_in (link_map i)
 
-abbrev pub next_of : Shown → ℕ → Option ℕ
-next_of shown i = next_in (shown i)
+abbrev pub next_of : LinkMap → ℕ → Option ℕ
+next_of link_map i = next_in (link_map i)
 
 -- a link stands at i
-pub record HasLink (shown : Shown) (i : ℕ) : Type 0 where
+pub record HasLink (link_map : LinkMap) (i : ℕ) : Type 0 where
   pub link : Interlinks
-  pub shows : shown i ≡ Some link
+  pub shows : link_map i ≡ Some link
 
 -- the one rule of interlinks: j comes after i exactly if i comes before j.
 -- So whatever an interlink names is valid, since an invalid index names nothing.
-pub record Agrees (shown : Shown) : Type 0 where
-  pub both : (i j : ℕ) → (next_of shown i ≡ Some j) ↔ (prev_of shown j ≡ Some i)
+pub record IsWellLinked (link_map : LinkMap) : Type 0 where
+  pub both : (i j : ℕ) → (next_of link_map i ≡ Some j) ↔ (prev_of link_map j ≡ Some i)
 
 -- links stand at no other indexes than 1 to the number of slots
-pub record HasLinksWithin (shown : Shown) (slots : ℕ) : Type 0 where
-  pub within : (i : ℕ) → HasLink shown i → (1 ≤ i) × (i ≤ slots)
+pub record HasLinksWithin (link_map : LinkMap) (slots : ℕ) : Type 0 where
+  pub within : (i : ℕ) → HasLink link_map i → (1 ≤ i) × (i ≤ slots)
 
 -- y is among the items
-abbrev pub Has : List ℕ → ℕ → Type 0
-Has [] y = ⊥
-Has (x ∷ xs) y = (x ≡ y) ⊎ Has xs y
+abbrev pub IsMember : List ℕ → ℕ → Type 0
+IsMember [] y = ⊥
+IsMember (x ∷ xs) y = (x ≡ y) ⊎ IsMember xs y
 
-abbrev pub HasNoRepetition : List ℕ → Type 0
-HasNoRepetition [] = Unit {0}
-HasNoRepetition (x ∷ xs) = (Has xs x → ⊥) × HasNoRepetition xs
+abbrev pub AreDistinct : List ℕ → Type 0
+AreDistinct [] = Unit {0}
+AreDistinct (x ∷ xs) = (IsMember xs x → ⊥) × AreDistinct xs
 
 -- a linear chain from its start to its end, or a cyclic one from one of its links once round
 pub data Chain : Type 0 where
@@ -67,15 +67,15 @@ last_or [] before = before
 last_or (x ∷ xs) before = last_or xs (Some x)
 
 -- each item shows as prev the item before it, and as next the item after it
-abbrev pub Stands : Shown → Option ℕ → List ℕ → Option ℕ → Type 0
-Stands shown before [] after = Unit {0}
-Stands shown before (x ∷ xs) after =
-    (shown x ≡ Some (record { prev = before; next = first_or xs after })) × Stands shown (Some x) xs after
+abbrev pub AreLinked : LinkMap → Option ℕ → List ℕ → Option ℕ → Type 0
+AreLinked link_map before [] after = Unit {0}
+AreLinked link_map before (x ∷ xs) after =
+    (link_map x ≡ Some (record { prev = before; next = first_or xs after })) × AreLinked link_map (Some x) xs after
 
 -- the arena has this chain; a cyclic one may be written from any of its links
-abbrev pub IsChain : Shown → Chain → Type 0
-IsChain shown (linear xs) = (xs ≢ []) × HasNoRepetition xs × Stands shown None xs None
-IsChain shown (cyclic xs) = (xs ≢ []) × HasNoRepetition xs × Stands shown (last_or xs None) xs (first_or xs None)
+abbrev pub IsChain : LinkMap → Chain → Type 0
+IsChain link_map (linear xs) = (xs ≢ []) × AreDistinct xs × AreLinked link_map None xs None
+IsChain link_map (cyclic xs) = (xs ≢ []) × AreDistinct xs × AreLinked link_map (last_or xs None) xs (first_or xs None)
 
 abbrev pub HasChain : List Chain → Chain → Type 0
 HasChain [] c = ⊥
@@ -87,27 +87,27 @@ all_items [] = []
 all_items (c ∷ chains) = items c ++ all_items chains
 
 -- these are the chains of the arena, in some order
-pub record AreChains (shown : Shown) (chains : List Chain) : Type 0 where
-  pub each : (c : Chain) → HasChain chains c → IsChain shown c
-  pub once : HasNoRepetition (all_items chains)
-  pub all : (i : ℕ) → HasLink shown i → Has (all_items chains) i
+pub record AreChains (link_map : LinkMap) (chains : List Chain) : Type 0 where
+  pub each : (c : Chain) → HasChain chains c → IsChain link_map c
+  pub once : AreDistinct (all_items chains)
+  pub all : (i : ℕ) → HasLink link_map i → IsMember (all_items chains) i
 
 abbrev pub IsAtMostEach : ℕ → List ℕ → Type 0
 IsAtMostEach x [] = Unit {0}
 IsAtMostEach x (y ∷ ys) = (x ≤ y) × IsAtMostEach x ys
 
 -- a cyclic chain is written from its least index
-abbrev pub IsWritten : Chain → Type 0
-IsWritten (linear xs) = Unit {0}
-IsWritten (cyclic []) = Unit {0}
-IsWritten (cyclic (x ∷ xs)) = IsAtMostEach x xs
+abbrev pub StartsAtLeast : Chain → Type 0
+StartsAtLeast (linear xs) = Unit {0}
+StartsAtLeast (cyclic []) = Unit {0}
+StartsAtLeast (cyclic (x ∷ xs)) = IsAtMostEach x xs
 
 -- each chain has an index below all indexes of the chains after it
-abbrev pub Rises : List Chain → Type 0
-Rises [] = Unit {0}
-Rises (c ∷ chains) = ((m : ℕ) × Has (items c) m × ((y : ℕ) → Has (all_items chains) y → m < y)) × Rises chains
+abbrev pub IsSortedByLeast : List Chain → Type 0
+IsSortedByLeast [] = Unit {0}
+IsSortedByLeast (c ∷ chains) = ((m : ℕ) × IsMember (items c) m × ((y : ℕ) → IsMember (all_items chains) y → m < y)) × IsSortedByLeast chains
 
 -- the set of chains, written in one way: the chains by their least index, each cyclic one from its least index
 pub record IsInOrder (chains : List Chain) : Type 0 where
-  pub written : (c : Chain) → HasChain chains c → IsWritten c
-  pub rises : Rises chains
+  pub written : (c : Chain) → HasChain chains c → StartsAtLeast c
+  pub rises : IsSortedByLeast chains

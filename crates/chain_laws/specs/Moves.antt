@@ -1,7 +1,7 @@
 -- What becomes of the interlinks where links go to lower indexes, one after another, so that no gaps are left.
 use Rattle.std.specs.Prelude.{◌≡◌, ◌↔◌, ℕ, ◌+◌, ◌≤◌, ◌==◌, leb, if◌then◌else◌, ◌⊎◌, List, [], ◌∷◌, ◌++◌, length, Option, None, Some}
 use Rattle.std.specs.Option.{option_map, option_and_then}
-use Rattle.chain_laws.specs.Chains.{Shown, Interlinks, Has, HasNoRepetition, HasLink, HasLinksWithin, Agrees, prev_of, next_of}
+use Rattle.chain_laws.specs.Chains.{LinkMap, Interlinks, IsMember, AreDistinct, HasLink, HasLinksWithin, IsWellLinked, prev_of, next_of}
 use Rattle.chain_laws.specs.Joins.{next_set, prev_set}
 use Rattle.chain_laws.specs.Renamings.{IsRenaming}
 use Rattle.chain_laws.specs.Arrangements.{place_in}
@@ -14,60 +14,60 @@ abbrev pub with_moved : ℕ → ℕ → Interlinks → Interlinks
 with_moved i k link = record { prev = option_map (moved_index i k) link.prev; next = option_map (moved_index i k) link.next }
 
 -- the link at i stands at k, and what named i names k
-abbrev pub moved : Shown → ℕ → ℕ → Shown
-moved shown i k j = if j == k then option_map (with_moved i k) (shown i) else if j == i then None else option_map (with_moved i k) (shown j)
+abbrev pub moved : LinkMap → ℕ → ℕ → LinkMap
+moved link_map i k j = if j == k then option_map (with_moved i k) (link_map i) else if j == i then None else option_map (with_moved i k) (link_map j)
 
 -- the same before any link is told of it
-abbrev pub put : Shown → ℕ → ℕ → Shown
-put shown i k j = if j == k then shown i else if j == i then None else shown j
+abbrev pub put : LinkMap → ℕ → ℕ → LinkMap
+put link_map i k j = if j == k then link_map i else if j == i then None else link_map j
 
 -- a link stands at i, and may go to k: no other stands there
-pub record CanMove (shown : Shown) (i k : ℕ) : Type 0 where
-  pub valid : HasLink shown i
-  pub free : (k ≡ i) ⊎ (shown k ≡ None)
+pub record CanMove (link_map : LinkMap) (i k : ℕ) : Type 0 where
+  pub valid : HasLink link_map i
+  pub free : (k ≡ i) ⊎ (link_map k ≡ None)
 
 -- where each link goes then
-abbrev pub moving : Shown → ℕ → ℕ → ℕ → Option ℕ
-moving shown i k j = option_map (λ _. moved_index i k j) (shown j)
+abbrev pub moving : LinkMap → ℕ → ℕ → ℕ → Option ℕ
+moving link_map i k j = option_map (λ _. moved_index i k j) (link_map j)
 
 -- it is a renaming ..
 abbrev pub MoveRenames : Type 0
-MoveRenames = (shown : Shown) (i k : ℕ) → Agrees shown → CanMove shown i k → IsRenaming (moving shown i k) shown (moved shown i k)
+MoveRenames = (link_map : LinkMap) (i k : ℕ) → IsWellLinked link_map → CanMove link_map i k → IsRenaming (moving link_map i k) link_map (moved link_map i k)
 
 -- .. for which only the two neighbors have to be told
-abbrev pub NeighborsTellAMove : Type 0
-NeighborsTellAMove = (shown : Shown) (i k : ℕ) → Agrees shown → CanMove shown i k
-    → prev_set (next_set (put shown i k) (option_map (moved_index i k) (prev_of shown i)) (Some k)) (option_map (moved_index i k) (next_of shown i)) (Some k) ≡ moved shown i k
+abbrev pub NeighborsDetermineAMove : Type 0
+NeighborsDetermineAMove = (link_map : LinkMap) (i k : ℕ) → IsWellLinked link_map → CanMove link_map i k
+    → prev_set (next_set (put link_map i k) (option_map (moved_index i k) (prev_of link_map i)) (Some k)) (option_map (moved_index i k) (next_of link_map i)) (Some k) ≡ moved link_map i k
 
 -- one renaming after another is a renaming
 abbrev pub RenamingsCompose : Type 0
-RenamingsCompose = (first second : ℕ → Option ℕ) (old between new : Shown) → IsRenaming first old between → IsRenaming second between new
+RenamingsCompose = (first second : ℕ → Option ℕ) (old between new : LinkMap) → IsRenaming first old between → IsRenaming second between new
     → IsRenaming (λ i. option_and_then second (first i)) old new
 
 -- where each link stands once those up to k have gone to the indexes from 1 on, in the order of a list
-abbrev pub gathered_place : Shown → List ℕ → ℕ → ℕ → Option ℕ
-gathered_place shown done k i = if leb i k then place_in done i else option_map (λ _. i) (shown i)
+abbrev pub gathered_place : LinkMap → List ℕ → ℕ → ℕ → Option ℕ
+gathered_place link_map done k i = if leb i k then place_in done i else option_map (λ _. i) (link_map i)
 
 -- while the gaps are closed: the links up to k, which the list holds by rising index, have gone to the indexes from 1 on
-pub record IsGathering (old now : Shown) (done : List ℕ) (k : ℕ) : Type 0 where
+pub record IsGathering (old now : LinkMap) (done : List ℕ) (k : ℕ) : Type 0 where
   pub renamed : IsRenaming (gathered_place old done k) old now
-  pub once : HasNoRepetition done
-  pub holds : (i : ℕ) → Has done i ↔ (HasLink old i × (i ≤ k))
+  pub once : AreDistinct done
+  pub holds : (i : ℕ) → IsMember done i ↔ (HasLink old i × (i ≤ k))
   pub below : length done ≤ k
 
 -- no link has gone yet ..
 abbrev pub GatheringBegins : Type 0
-GatheringBegins = (shown : Shown) (slots : ℕ) → Agrees shown → HasLinksWithin shown slots → IsGathering shown shown [] 0
+GatheringBegins = (link_map : LinkMap) (slots : ℕ) → IsWellLinked link_map → HasLinksWithin link_map slots → IsGathering link_map link_map [] 0
 
 -- .. a free slot is passed over ..
 abbrev pub GatheringSkips : Type 0
-GatheringSkips = (old now : Shown) (done : List ℕ) (k : ℕ) → IsGathering old now done k → old (k + 1) ≡ None → IsGathering old now done (k + 1)
+GatheringSkips = (old now : LinkMap) (done : List ℕ) (k : ℕ) → IsGathering old now done k → old (k + 1) ≡ None → IsGathering old now done (k + 1)
 
 -- .. the next link may go, which stands where it stood, and goes ..
-abbrev pub GatheringGoesOn : Type 0
-GatheringGoesOn = (old now : Shown) (done : List ℕ) (k : ℕ) → Agrees old → IsGathering old now done k → HasLink old (k + 1)
-    → Agrees now × CanMove now (k + 1) (length done + 1) × IsGathering old (moved now (k + 1) (length done + 1)) (done ++ (k + 1) ∷ []) (k + 1)
+abbrev pub GatheringContinues : Type 0
+GatheringContinues = (old now : LinkMap) (done : List ℕ) (k : ℕ) → IsWellLinked old → IsGathering old now done k → HasLink old (k + 1)
+    → IsWellLinked now × CanMove now (k + 1) (length done + 1) × IsGathering old (moved now (k + 1) (length done + 1)) (done ++ (k + 1) ∷ []) (k + 1)
 
 -- .. and at the end all are renumbered by their order
 abbrev pub GatheringEnds : Type 0
-GatheringEnds = (old now : Shown) (done : List ℕ) (slots : ℕ) → HasLinksWithin old slots → IsGathering old now done slots → IsRenaming (place_in done) old now
+GatheringEnds = (old now : LinkMap) (done : List ℕ) (slots : ℕ) → HasLinksWithin old slots → IsGathering old now done slots → IsRenaming (place_in done) old now

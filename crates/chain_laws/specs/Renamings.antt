@@ -1,12 +1,12 @@
 -- What becomes of the interlinks and of the chains where each link goes to another index.
 use Rattle.std.specs.Prelude.{◌≡◌, ◌↔◌, ℕ, List, [], ◌∷◌, Option, Some}
 use Rattle.std.specs.Option.{option_and_then}
-use Rattle.chain_laws.specs.Chains.{Shown, Chain, linear, cyclic, HasLink, Agrees, IsChain, AreChains}
+use Rattle.chain_laws.specs.Chains.{LinkMap, Chain, linear, cyclic, HasLink, IsWellLinked, IsChain, AreChains}
 use Rattle.chain_laws.specs.Neighbors.{AreNeighbors}
 
 -- each link of the old arena stands at its new index, where it names the new indexes of its neighbors; no two come to
 -- one index, and no other link stands in the new arena
-pub record IsRenaming (to : ℕ → Option ℕ) (old new : Shown) : Type 0 where
+pub record IsRenaming (to : ℕ → Option ℕ) (old new : LinkMap) : Type 0 where
   pub apart : (i j k : ℕ) → to i ≡ Some k → to j ≡ Some k → i ≡ j
   pub each : (i : ℕ) → HasLink old i → (k : ℕ) × (to i ≡ Some k)
   pub onto : (k : ℕ) → HasLink new k → (i : ℕ) × HasLink old i × (to i ≡ Some k)
@@ -35,22 +35,22 @@ AreImagesOf to (c ∷ chains) (d ∷ others) = IsImage to c d × AreImagesOf to 
 
 -- after a renaming the interlinks still agree ..
 abbrev pub RenamingAgrees : Type 0
-RenamingAgrees = (to : ℕ → Option ℕ) (old new : Shown) → IsRenaming to old new → Agrees old → Agrees new
+RenamingAgrees = (to : ℕ → Option ℕ) (old new : LinkMap) → IsRenaming to old new → IsWellLinked old → IsWellLinked new
 
 -- .. the neighbor pairs are the old ones under their new indexes ..
 abbrev pub RenamingCarriesPairs : Type 0
-RenamingCarriesPairs = (to : ℕ → Option ℕ) (old new : Shown) (i j k m : ℕ) → IsRenaming to old new → HasLink old i → to i ≡ Some k → to j ≡ Some m
+RenamingCarriesPairs = (to : ℕ → Option ℕ) (old new : LinkMap) (i j k m : ℕ) → IsRenaming to old new → HasLink old i → to i ≡ Some k → to j ≡ Some m
     → AreNeighbors old i j ↔ AreNeighbors new k m
 
 -- .. so is each chain, linear or cyclic as it was ..
 abbrev pub RenamingCarriesChains : Type 0
-RenamingCarriesChains = (to : ℕ → Option ℕ) (old new : Shown) (c d : Chain) → IsRenaming to old new → IsChain old c → IsImage to c d → IsChain new d
+RenamingCarriesChains = (to : ℕ → Option ℕ) (old new : LinkMap) (c d : Chain) → IsRenaming to old new → IsChain old c → IsImage to c d → IsChain new d
 
 -- .. and so is the set of chains
 abbrev pub RenamingCarriesAll : Type 0
-RenamingCarriesAll = (to : ℕ → Option ℕ) (old new : Shown) (chains others : List Chain) → IsRenaming to old new → AreChains old chains → AreImagesOf to chains others
+RenamingCarriesAll = (to : ℕ → Option ℕ) (old new : LinkMap) (chains others : List Chain) → IsRenaming to old new → AreChains old chains → AreImagesOf to chains others
     → AreChains new others
 
 -- where the links go to leaves no choice
 abbrev pub RenamingIsDetermined : Type 0
-RenamingIsDetermined = (to : ℕ → Option ℕ) (old new other : Shown) → IsRenaming to old new → IsRenaming to old other → new ≡ other
+RenamingIsDetermined = (to : ℕ → Option ℕ) (old new other : LinkMap) → IsRenaming to old new → IsRenaming to old other → new ≡ other

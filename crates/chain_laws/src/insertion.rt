@@ -1,10 +1,10 @@
 //! What a new link does to the interlinks and to the chains, whatever its kind.
 
-ghost use Rattle.chain_laws.specs.Insertions.{KindGivesAGap, InsertionAgrees, InsertionInPairs, InsertionInserts, InsertionIsDetermined, InsertionIsDeterminedByPairs, RemovalOfInsertedRestores};
+ghost use Rattle.chain_laws.specs.Insertions.{KindGivesAPosition, InsertionAgrees, InsertionInPairs, InsertionInserts, InsertionIsDetermined, InsertionIsDeterminedByPairs, RemovalOfInsertedRestores};
 
 /// What a kind asks for is a gap between the two links that it gives the new one.
 pub fn kind_gives_a_gap()
-    ensures { KindGivesAGap }
+    ensures { KindGivesAPosition }
 {}
 
 /// With a new link in a gap the interlinks still agree.

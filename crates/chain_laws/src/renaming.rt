@@ -1,8 +1,8 @@
 //! What a renaming does to the interlinks and to the chains, and the renumberings that lists of all links give.
 
 ghost use Rattle.chain_laws.specs.Renamings.{RenamingAgrees, RenamingCarriesPairs, RenamingCarriesChains, RenamingCarriesAll, RenamingIsDetermined};
-ghost use Rattle.chain_laws.specs.Arrangements.{ArrangementNumbers, PlacesAreApart, CanonicalArranges, LaysChainsInRuns, RunsAreRenumbered};
-ghost use Rattle.chain_laws.specs.Moves.{MoveRenames, NeighborsTellAMove, RenamingsCompose, GatheringBegins, GatheringSkips, GatheringGoesOn, GatheringEnds};
+ghost use Rattle.chain_laws.specs.Arrangements.{ArrangementNumbers, PlacesAreApart, CanonicalArranges, PlacesChainsInRuns, RunsAreRenumbered};
+ghost use Rattle.chain_laws.specs.Moves.{MoveRenames, NeighborsDetermineAMove, RenamingsCompose, GatheringBegins, GatheringSkips, GatheringContinues, GatheringEnds};
 ghost use Rattle.chain_laws.specs.Arrangements.{HasLeastIndexOrder, LeastIndexOrderIsOrdered, LeastIndexOrderIsCanonical, LeastIndexOrderRests, LayoutRests, PlacesRest};
 
 /// After a renaming the interlinks agree as before, and the pairs and the chains are those of before under their new indexes,
@@ -26,7 +26,7 @@ pub fn arrangement_numbers()
 /// run, and no other arena has the chains in these runs.
 pub fn canonical_lays_runs()
     ensures arranges { CanonicalArranges }
-    ensures lays { LaysChainsInRuns }
+    ensures lays { PlacesChainsInRuns }
     ensures renumbered { RunsAreRenumbered }
 {}
 
@@ -45,7 +45,7 @@ pub fn least_index_order()
 /// one after another.
 pub fn move_renames()
     ensures renames { MoveRenames }
-    ensures neighbors { NeighborsTellAMove }
+    ensures neighbors { NeighborsDetermineAMove }
     ensures compose { RenamingsCompose }
 {}
 
@@ -53,6 +53,6 @@ pub fn move_renames()
 pub fn gathering_renumbers()
     ensures begins { GatheringBegins }
     ensures skips { GatheringSkips }
-    ensures goes_on { GatheringGoesOn }
+    ensures goes_on { GatheringContinues }
     ensures ends { GatheringEnds }
 {}

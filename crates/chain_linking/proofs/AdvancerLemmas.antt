@@ -2,22 +2,22 @@
 use Rattle.std.proofs.Common.{◌≡◌, ℕ, zero, suc, Option, None, Some, refl, ap, ap₂, ◌∙◌, subst, IfSome, arith}
 use Rattle.std.specs.Prelude.{◌-◌}
 use Rattle.std.specs.Option.{option_map}
-use Rattle.chain_laws.specs.Chains.{Shown}
+use Rattle.chain_laws.specs.Chains.{LinkMap}
 use Rattle.chain_laws.specs.Walks.{Walker, next_step}
 use Rattle.arena_base.specs.Arena.{Arena, IsValid, entry_at}
-use Rattle.chain_links.specs.ChainArena.{LinkSeen, shown, entry, link_value, on_value}
+use Rattle.chain_links.specs.ChainArena.{LinkView, link_map, entry, link_value, on_value}
 use Rattle.chain_links.specs.Walkers.{index_and_entry, IsPassing}
 use Rattle.chain_links.proofs.MappedArenaLemmas.{entry_at-with_each}
 
 -- a look at an index that tells nothing tells that nothing stands there
 module _ {Gen T : Type 0} (i : ℕ) where
-  pub looked_none : (o : Option (Gen × LinkSeen T)) → None ≡ option_map (index_and_entry i) o → o ≡ None
+  pub looked_none : (o : Option (Gen × LinkView T)) → None ≡ option_map (index_and_entry i) o → o ≡ None
   looked_none None tells = refl
   looked_none (Some e) tells = absurd (let h = tells in cc)
 
-module _ {Gen T : Type 0} (a : Arena Gen (LinkSeen T)) where
+module _ {Gen T : Type 0} (a : Arena Gen (LinkView T)) where
   -- the pointer to a link that stands is valid
-  pub valid_there : (i : ℕ) (p : ℕ × Gen) (link : LinkSeen T) → entry_at a i ≡ Some (p.1, link) → p.0 ≡ i → IsValid (entry a) p
+  pub valid_there : (i : ℕ) (p : ℕ × Gen) (link : LinkView T) → entry_at a i ≡ Some (p.1, link) → p.0 ≡ i → IsValid (entry a) p
   valid_there i p link stands at = record {
     value = link.value;
     stands = ap (entry a) at ∙ entry_at-with_each link_value a i ∙ ap (option_map (on_value link_value)) stands;
@@ -28,16 +28,16 @@ module _ {Gen T : Type 0} (a : Arena Gen (LinkSeen T)) where
     no_entry : entry a i ≡ None
     no_entry = entry_at-with_each link_value a i ∙ ap (option_map (on_value link_value)) none
 
-    pub ends_forth : (back : Option ℕ) (left : ℕ) → IfSome (next_step left (shown a) start (Some i) back) (λ step. entry a step.0 ≡ None)
+    pub ends_forth : (back : Option ℕ) (left : ℕ) → IfSome (next_step left (link_map a) start (Some i) back) (λ step. entry a step.0 ≡ None)
     ends_forth back zero = tt
     ends_forth back (suc left) = no_entry
 
-    pub ends_back : (left : ℕ) → IfSome (next_step left (shown a) start None (Some i)) (λ step. entry a step.0 ≡ None)
+    pub ends_back : (left : ℕ) → IfSome (next_step left (link_map a) start None (Some i)) (λ step. entry a step.0 ≡ None)
     ends_back zero = tt
     ends_back (suc left) = no_entry
 
 -- one call, by what its step told
-module _ {Gen T : Type 0} (entry : ℕ → Option (Gen × T)) (interlinks : Shown) (start : ℕ) (forth back : Option ℕ) where
+module _ {Gen T : Type 0} (entry : ℕ → Option (Gen × T)) (interlinks : LinkMap) (start : ℕ) (forth back : Option ℕ) where
   pub is_passed : (left : ℕ) (p : ℕ × Gen) (forth_then back_then : Option ℕ) → (left ≡ 0 → ⊥) → IsValid entry p
       → ((n : ℕ) → next_step (suc n) interlinks start forth back ≡ Some (p.0, record { left = n; start = start; forth = forth_then; back = back_then }))
       → IsPassing entry interlinks (record { left = left; start = start; forth = forth; back = back }) (Some p) (record { left = left - 1; start = start; forth = forth_then; back = back_then })

@@ -4,19 +4,19 @@ use Rattle.std.specs.Prelude.{◌==◌, if◌then◌else◌, is_some, not, IsTru
 use Rattle.std.specs.Option.{option_map, option_and_then}
 use Rattle.std.proofs.lemmas.Bool.{cases_eq}
 use mathlib.Core.Path.{fun_ext}
-use Rattle.chain_laws.specs.Chains.{Shown, Interlinks, Agrees, HasLink, prev_of, next_of, prev_in, next_in}
+use Rattle.chain_laws.specs.Chains.{LinkMap, Interlinks, IsWellLinked, HasLink, prev_of, next_of, prev_in, next_in}
 use Rattle.chain_laws.specs.Joins.{AddsPair, Connects, joined, AreEndAndStart, next_set, with_next}
 use Rattle.chain_laws.proofs.InterlinkLemmas.Inverses.{if_same, if_other}
 use Rattle.chain_laws.proofs.JoinLemmas.Chains.{joined_agrees, joined_adds_a_pair, joined_connects}
 use Rattle.chain_links.specs.declared.links.LinkBody.{LinkBody}
-use Rattle.chain_links.specs.Links.{seen_link, seen_pair, seen_links}
+use Rattle.chain_links.specs.Links.{link_view, pair_view, links_view}
 use Rattle.arena_base.specs.Arena.{Arena, entry_at}
-use Rattle.chain_links.specs.ChainArena.{on_value, LinkSeen, link_value, shown, values_of, relinked, interlinks_of, CanConnect, IsLinkAt, ptr_at}
+use Rattle.chain_links.specs.ChainArena.{on_value, LinkView, link_value, link_map, values_of, relinked, interlinks_of, CanConnect, IsLinkAt, ptr_at}
 use Rattle.chain_links.proofs.MappedArenaLemmas.{IsValidPtr, entry_at-with_each, IsValidPtr-with_each}
-use Rattle.chain_links.proofs.LinkStateLemmas.{entry_at-seen_links}
+use Rattle.chain_links.proofs.LinkStateLemmas.{entry_at-links_view}
 use Rattle.chain_linking.specs.LinkWrites.{IsValidEnd, IsValidStart}
 use Rattle.chain_linking.proofs.NeighborLemmas.{valid_link}
-use Rattle.chain_linking.proofs.LinkWriteLemmas.{FitsLinks, shown-relinked, values_of-relinked, relinked-again, relinked-own, FitsLinks-shown, FitsLinks-next_set, FitsLinks-linked}
+use Rattle.chain_linking.proofs.LinkWriteLemmas.{FitsLinks, link_map-relinked, values_of-relinked, relinked-again, relinked-own, FitsLinks-link_map, FitsLinks-next_set, FitsLinks-linked}
 
 pub none_unless_some : {A : Type 0} (o : Option A) → is_some o ≡ false → o ≡ None
 none_unless_some None none = refl
@@ -28,29 +28,29 @@ truth_of_not false h = absurd (let k = h in cc)
 
 module _ {Gen K T : Type 0} (number : K → Option ℕ) where
   -- what a link that stands shows
-  pub next_of-seen : (a : Arena Gen (LinkBody K T)) (p : ℕ × Gen) (link : LinkBody K T) → entry_at a p.0 ≡ Some (p.1, link) → next_of (shown (seen_links number a)) p.0 ≡ number link.next
-  next_of-seen a p link stands = ap (λ (o : Option (Gen × LinkSeen T)). next_in (option_map interlinks_of o)) (entry_at-seen_links number a p.0 ∙ ap (option_map (seen_pair number)) stands)
+  pub next_of-seen : (a : Arena Gen (LinkBody K T)) (p : ℕ × Gen) (link : LinkBody K T) → entry_at a p.0 ≡ Some (p.1, link) → next_of (link_map (links_view number a)) p.0 ≡ number link.next
+  next_of-seen a p link stands = ap (λ (o : Option (Gen × LinkView T)). next_in (option_map interlinks_of o)) (entry_at-links_view number a p.0 ∙ ap (option_map (pair_view number)) stands)
 
-  pub prev_of-seen : (a : Arena Gen (LinkBody K T)) (p : ℕ × Gen) (link : LinkBody K T) → entry_at a p.0 ≡ Some (p.1, link) → prev_of (shown (seen_links number a)) p.0 ≡ number link.prev
-  prev_of-seen a p link stands = ap (λ (o : Option (Gen × LinkSeen T)). prev_in (option_map interlinks_of o)) (entry_at-seen_links number a p.0 ∙ ap (option_map (seen_pair number)) stands)
+  pub prev_of-seen : (a : Arena Gen (LinkBody K T)) (p : ℕ × Gen) (link : LinkBody K T) → entry_at a p.0 ≡ Some (p.1, link) → prev_of (link_map (links_view number a)) p.0 ≡ number link.prev
+  prev_of-seen a p link stands = ap (λ (o : Option (Gen × LinkView T)). prev_in (option_map interlinks_of o)) (entry_at-links_view number a p.0 ∙ ap (option_map (pair_view number)) stands)
 
   -- the same pointers are valid, whether links or values are seen
-  pub same_valid : (a : Arena Gen (LinkBody K T)) (p : ℕ × Gen) → IsValidPtr a p ↔ IsValidPtr (values_of (seen_links number a)) p
+  pub same_valid : (a : Arena Gen (LinkBody K T)) (p : ℕ × Gen) → IsValidPtr a p ↔ IsValidPtr (values_of (links_view number a)) p
   same_valid a p =
-      let first = IsValidPtr-with_each (seen_link number) a p in
-      let second = IsValidPtr-with_each link_value (seen_links number a) p in
+      let first = IsValidPtr-with_each (link_view number) a p in
+      let second = IsValidPtr-with_each link_value (links_view number a) p in
       (λ valid. second.0 (first.0 valid), λ valid. first.1 (second.1 valid))
 
-  valid-seen : (a : Arena Gen (LinkBody K T)) (p : ℕ × Gen) (link : LinkBody K T) → entry_at a p.0 ≡ Some (p.1, link) → IsValidPtr (values_of (seen_links number a)) p
+  valid-seen : (a : Arena Gen (LinkBody K T)) (p : ℕ × Gen) (link : LinkBody K T) → entry_at a p.0 ≡ Some (p.1, link) → IsValidPtr (values_of (links_view number a)) p
   valid-seen a p link stands = (same_valid a p).0 (record { value = link; stands = stands })
 
   -- a link stands at the index of a valid pointer
-  pub valid_at : (a : Arena Gen (LinkBody K T)) (p : ℕ × Gen) (link : LinkBody K T) → entry_at a p.0 ≡ Some (p.1, link) → HasLink (shown (seen_links number a)) p.0
-  valid_at a p link stands = record { link = interlinks_of (p.1, seen_link number link); shows = ap (option_map interlinks_of) (entry_at-seen_links number a p.0 ∙ ap (option_map (seen_pair number)) stands) }
+  pub valid_at : (a : Arena Gen (LinkBody K T)) (p : ℕ × Gen) (link : LinkBody K T) → entry_at a p.0 ≡ Some (p.1, link) → HasLink (link_map (links_view number a)) p.0
+  valid_at a p link stands = record { link = interlinks_of (p.1, link_view number link); shows = ap (option_map interlinks_of) (entry_at-links_view number a p.0 ∙ ap (option_map (pair_view number)) stands) }
 
   -- a link is an end exactly if it has no next
   pub ends : (a : Arena Gen (LinkBody K T)) (p : ℕ × Gen) (link : LinkBody K T) (b : Bool) → entry_at a p.0 ≡ Some (p.1, link) → is_some (number link.next) ≡ not b
-      → IsTrue b ↔ IsValidEnd (entry_at (values_of (seen_links number a))) (shown (seen_links number a)) p
+      → IsTrue b ↔ IsValidEnd (entry_at (values_of (links_view number a))) (link_map (links_view number a)) p
   ends a p link b at tells = (
     (λ yes. record { valid = valid-seen a p link at; end = next_of-seen a p link at ∙ none_unless_some (number link.next) (tells ∙ ap not yes) }),
     (λ is. truth_of_not b (sym (ap is_some (sym (next_of-seen a p link at) ∙ is.end)) ∙ tells)),
@@ -58,50 +58,50 @@ module _ {Gen K T : Type 0} (number : K → Option ℕ) where
 
   -- .. and a start exactly if it has no prev
   pub starts : (a : Arena Gen (LinkBody K T)) (p : ℕ × Gen) (link : LinkBody K T) (b : Bool) → entry_at a p.0 ≡ Some (p.1, link) → is_some (number link.prev) ≡ not b
-      → IsTrue b ↔ IsValidStart (entry_at (values_of (seen_links number a))) (shown (seen_links number a)) p
+      → IsTrue b ↔ IsValidStart (entry_at (values_of (links_view number a))) (link_map (links_view number a)) p
   starts a p link b at tells = (
     (λ yes. record { valid = valid-seen a p link at; start = prev_of-seen a p link at ∙ none_unless_some (number link.prev) (tells ∙ ap not yes) }),
     (λ is. truth_of_not b (sym (ap is_some (sym (prev_of-seen a p link at) ∙ is.start)) ∙ tells)),
   )
 
   -- it is neither where the pointer is not valid
-  pub not_valid : (a : Arena Gen (LinkBody K T)) (p : ℕ × Gen) → (IsValidPtr a p → ⊥) → IsValidPtr (values_of (seen_links number a)) p → ⊥
+  pub not_valid : (a : Arena Gen (LinkBody K T)) (p : ℕ × Gen) → (IsValidPtr a p → ⊥) → IsValidPtr (values_of (links_view number a)) p → ⊥
   not_valid a p invalid valid = invalid ((same_valid a p).1 valid)
 
 module _ {Gen T : Type 0} where
-  end_and_start : (a : Arena Gen (LinkSeen T)) (p q : ℕ × Gen) → CanConnect (entry_at (values_of a)) (shown a) p q → AreEndAndStart (shown a) p.0 q.0
+  end_and_start : (a : Arena Gen (LinkView T)) (p q : ℕ × Gen) → CanConnect (entry_at (values_of a)) (link_map a) p q → AreEndAndStart (link_map a) p.0 q.0
   end_and_start a p q can = record { valid_end = valid_link a p can.first_valid; valid_start = valid_link a q can.second_valid; end = can.no_next; start = can.no_prev }
 
-  shown-joined : (a : Arena Gen (LinkSeen T)) (i j : ℕ) → shown (relinked a (joined (shown a) i j)) ≡ joined (shown a) i j
-  shown-joined a i j = shown-relinked a (joined (shown a) i j) (FitsLinks-linked a (Some i) (Some j))
+  link_map-joined : (a : Arena Gen (LinkView T)) (i j : ℕ) → link_map (relinked a (joined (link_map a) i j)) ≡ joined (link_map a) i j
+  link_map-joined a i j = link_map-relinked a (joined (link_map a) i j) (FitsLinks-linked a (Some i) (Some j))
 
   -- after the join of two links that may be joined ..
-  module _ (a b : Arena Gen (LinkSeen T)) (p q : ℕ × Gen) (can : CanConnect (entry_at (values_of a)) (shown a) p q) (is_joined : b ≡ relinked a (joined (shown a) p.0 q.0)) where
-    pub shows : shown b ≡ joined (shown a) p.0 q.0
-    shows = ap (λ (x : Arena Gen (LinkSeen T)). shown x) is_joined ∙ shown-joined a p.0 q.0
+  module _ (a b : Arena Gen (LinkView T)) (p q : ℕ × Gen) (can : CanConnect (entry_at (values_of a)) (link_map a) p q) (is_joined : b ≡ relinked a (joined (link_map a) p.0 q.0)) where
+    pub shows : link_map b ≡ joined (link_map a) p.0 q.0
+    shows = ap (λ (x : Arena Gen (LinkView T)). link_map x) is_joined ∙ link_map-joined a p.0 q.0
 
     -- .. the values stay
     pub joined-values : values_of b ≡ values_of a
-    joined-values = ap (λ (x : Arena Gen (LinkSeen T)). values_of x) is_joined ∙ values_of-relinked a (joined (shown a) p.0 q.0) (FitsLinks-linked a (Some p.0) (Some q.0))
+    joined-values = ap (λ (x : Arena Gen (LinkView T)). values_of x) is_joined ∙ values_of-relinked a (joined (link_map a) p.0 q.0) (FitsLinks-linked a (Some p.0) (Some q.0))
 
     -- .. the interlinks agree
-    pub joined-agrees : Agrees (shown a) → Agrees (shown b)
-    joined-agrees agrees = subst Agrees (sym shows) (joined_agrees (shown a) p.0 q.0 agrees (end_and_start a p q can))
+    pub joined-agrees : IsWellLinked (link_map a) → IsWellLinked (link_map b)
+    joined-agrees agrees = subst IsWellLinked (sym shows) (joined_agrees (link_map a) p.0 q.0 agrees (end_and_start a p q can))
 
     -- .. one pair is added
-    pub joined-pair : AddsPair (shown a) (shown b) p.0 q.0
-    joined-pair = subst (λ (new : Shown). AddsPair (shown a) new p.0 q.0) (sym shows) (joined_adds_a_pair (shown a) p.0 q.0 (end_and_start a p q can))
+    pub joined-pair : AddsPair (link_map a) (link_map b) p.0 q.0
+    joined-pair = subst (λ (new : LinkMap). AddsPair (link_map a) new p.0 q.0) (sym shows) (joined_adds_a_pair (link_map a) p.0 q.0 (end_and_start a p q can))
 
     -- .. and the chains are connected
-    pub joined-chains : Connects (shown a) (shown b) p.0 q.0
-    joined-chains = subst (λ (new : Shown). Connects (shown a) new p.0 q.0) (sym shows) (joined_connects (shown a) p.0 q.0)
+    pub joined-chains : Connects (link_map a) (link_map b) p.0 q.0
+    joined-chains = subst (λ (new : LinkMap). Connects (link_map a) new p.0 q.0) (sym shows) (joined_connects (link_map a) p.0 q.0)
 
 -- what was written as the next of a link that had none may be taken back
 cleared : (l : Option Interlinks) (v : Option ℕ) → next_in l ≡ None → option_map (with_next None) (option_map (with_next v) l) ≡ l
 cleared None v none = refl
 cleared (Some l) v none = ap (λ (o : Option ℕ). let x : Option Interlinks = Some (with_next o l) in x) (sym none)
 
-undone : (m : Shown) (i : ℕ) (v : Option ℕ) → next_of m i ≡ None → next_set (next_set m (Some i) v) (Some i) None ≡ m
+undone : (m : LinkMap) (i : ℕ) (v : Option ℕ) → next_of m i ≡ None → next_set (next_set m (Some i) v) (Some i) None ≡ m
 undone m i v none = fun_ext (λ j. ⊎_elim (at j) (off j) (cases_eq j i))
   where
     at : (j : ℕ) → j ≡ i → next_set (next_set m (Some i) v) (Some i) None j ≡ m j
@@ -117,24 +117,24 @@ prev_kept true (Some l) v = refl
 prev_kept false l v = refl
 
 -- p names q, whether it may or not
-module _ {Gen T : Type 0} (a b : Arena Gen (LinkSeen T)) (p q : ℕ × Gen) (named : b ≡ relinked a (next_set (shown a) (Some p.0) (Some q.0))) where
-  abbrev names : Shown
-  names = next_set (shown a) (Some p.0) (Some q.0)
+module _ {Gen T : Type 0} (a b : Arena Gen (LinkView T)) (p q : ℕ × Gen) (named : b ≡ relinked a (next_set (link_map a) (Some p.0) (Some q.0))) where
+  abbrev names : LinkMap
+  names = next_set (link_map a) (Some p.0) (Some q.0)
 
   fits : FitsLinks names a
-  fits = FitsLinks-next_set a (shown a) (Some p.0) (Some q.0) (FitsLinks-shown a)
+  fits = FitsLinks-next_set a (link_map a) (Some p.0) (Some q.0) (FitsLinks-link_map a)
 
-  shows_names : shown b ≡ names
-  shows_names = ap (λ (x : Arena Gen (LinkSeen T)). shown x) named ∙ shown-relinked a names fits
+  shows_names : link_map b ≡ names
+  shows_names = ap (λ (x : Arena Gen (LinkView T)). link_map x) named ∙ link_map-relinked a names fits
 
   same_values : values_of b ≡ values_of a
-  same_values = ap (λ (x : Arena Gen (LinkSeen T)). values_of x) named ∙ values_of-relinked a names fits
+  same_values = ap (λ (x : Arena Gen (LinkView T)). values_of x) named ∙ values_of-relinked a names fits
 
-  same_prev : prev_of (shown b) q.0 ≡ prev_of (shown a) q.0
-  same_prev = ap (λ (m : Shown). prev_of m q.0) shows_names ∙ prev_kept (q.0 == p.0) (shown a q.0) (Some q.0)
+  same_prev : prev_of (link_map b) q.0 ≡ prev_of (link_map a) q.0
+  same_prev = ap (λ (m : LinkMap). prev_of m q.0) shows_names ∙ prev_kept (q.0 == p.0) (link_map a q.0) (Some q.0)
 
   -- it may, where q then is a start ..
-  pub named_may : IsValidEnd (entry_at (values_of a)) (shown a) p → IsValidStart (entry_at (values_of b)) (shown b) q → CanConnect (entry_at (values_of a)) (shown a) p q
+  pub named_may : IsValidEnd (entry_at (values_of a)) (link_map a) p → IsValidStart (entry_at (values_of b)) (link_map b) q → CanConnect (entry_at (values_of a)) (link_map a) p q
   named_may first second = record {
     first_valid = first.valid;
     second_valid = subst (λ (v : Arena Gen T). IsValidPtr v q) same_values second.valid;
@@ -143,36 +143,36 @@ module _ {Gen T : Type 0} (a b : Arena Gen (LinkSeen T)) (p q : ℕ × Gen) (nam
   }
 
   -- .. and may not, where it is none
-  pub named_may_not : (IsValidStart (entry_at (values_of b)) (shown b) q → ⊥) → CanConnect (entry_at (values_of a)) (shown a) p q → ⊥
+  pub named_may_not : (IsValidStart (entry_at (values_of b)) (link_map b) q → ⊥) → CanConnect (entry_at (values_of a)) (link_map a) p q → ⊥
   named_may_not fails can = fails (record { valid = subst (λ (v : Arena Gen T). IsValidPtr v q) (sym same_values) can.second_valid; start = same_prev ∙ can.no_prev })
 
   -- taken back, it leaves what was
-  pub taken_back : (c : Arena Gen (LinkSeen T)) → next_of (shown a) p.0 ≡ None → c ≡ relinked b (next_set (shown b) (Some p.0) None) → c ≡ a
+  pub taken_back : (c : Arena Gen (LinkView T)) → next_of (link_map a) p.0 ≡ None → c ≡ relinked b (next_set (link_map b) (Some p.0) None) → c ≡ a
   taken_back c none back =
-      back ∙ (ap (λ (m : Shown). relinked b (next_set m (Some p.0) None)) shows_names
-      ∙ (ap (λ (x : Arena Gen (LinkSeen T)). relinked x (next_set names (Some p.0) None)) named
+      back ∙ (ap (λ (m : LinkMap). relinked b (next_set m (Some p.0) None)) shows_names
+      ∙ (ap (λ (x : Arena Gen (LinkView T)). relinked x (next_set names (Some p.0) None)) named
       ∙ (relinked-again a names (next_set names (Some p.0) None) fits
-      ∙ (ap (relinked a) (undone (shown a) p.0 (Some q.0) none) ∙ sym (relinked-own a)))))
+      ∙ (ap (relinked a) (undone (link_map a) p.0 (Some q.0) none) ∙ sym (relinked-own a)))))
 
 module _ {Gen K T : Type 0} (number : K → Option ℕ) where
   -- the value of a link that stands
-  pub value_at : (a : Arena Gen (LinkBody K T)) (i : ℕ) → entry_at (values_of (seen_links number a)) i ≡ option_map (on_value (λ l. l.t)) (entry_at a i)
-  value_at a i = entry_at-with_each link_value (seen_links number a) i ∙ (ap (option_map (on_value link_value)) (entry_at-seen_links number a i) ∙ twice (entry_at a i)) where
-    twice : (o : Option (Gen × LinkBody K T)) → option_map (on_value link_value) (option_map (seen_pair number) o) ≡ option_map (on_value (λ l. l.t)) o
+  pub value_at : (a : Arena Gen (LinkBody K T)) (i : ℕ) → entry_at (values_of (links_view number a)) i ≡ option_map (on_value (λ l. l.t)) (entry_at a i)
+  value_at a i = entry_at-with_each link_value (links_view number a) i ∙ (ap (option_map (on_value link_value)) (entry_at-links_view number a i) ∙ twice (entry_at a i)) where
+    twice : (o : Option (Gen × LinkBody K T)) → option_map (on_value link_value) (option_map (pair_view number) o) ≡ option_map (on_value (λ l. l.t)) o
     twice None = refl
     twice (Some e) = refl
 
   -- the pointer of now to a link that stands
-  pub ptr_at-some : (a : Arena Gen (LinkBody K T)) (i : ℕ) (g : Gen) (link : LinkBody K T) → entry_at a i ≡ Some (g, link) → ptr_at (entry_at (values_of (seen_links number a))) i ≡ Some (i, g)
+  pub ptr_at-some : (a : Arena Gen (LinkBody K T)) (i : ℕ) (g : Gen) (link : LinkBody K T) → entry_at a i ≡ Some (g, link) → ptr_at (entry_at (values_of (links_view number a))) i ≡ Some (i, g)
   ptr_at-some a i g link stands = ap (λ (o : Option (Gen × T)). let p : Option (ℕ × Gen) = option_map (λ e. (i, e.0)) o in p) (value_at a i ∙ ap (option_map (on_value (λ l. l.t))) stands)
 
   -- the link of a pointer, with the pointers of now to its neighbours
   pub link_at_ptr : (a : Arena Gen (LinkBody K T)) (p : ℕ × Gen) (link : LinkBody K T) (prev next : Option (ℕ × Gen)) → entry_at a p.0 ≡ Some (p.1, link)
-      → prev ≡ option_and_then (ptr_at (entry_at (values_of (seen_links number a)))) (number link.prev)
-      → next ≡ option_and_then (ptr_at (entry_at (values_of (seen_links number a)))) (number link.next)
-      → IsLinkAt (entry_at (values_of (seen_links number a))) (shown (seen_links number a)) p prev next link.t
+      → prev ≡ option_and_then (ptr_at (entry_at (values_of (links_view number a)))) (number link.prev)
+      → next ≡ option_and_then (ptr_at (entry_at (values_of (links_view number a)))) (number link.next)
+      → IsLinkAt (entry_at (values_of (links_view number a))) (link_map (links_view number a)) p prev next link.t
   link_at_ptr a p link prev next stands before after = record {
     stands = value_at a p.0 ∙ ap (option_map (on_value (λ l. l.t))) stands;
-    before = before ∙ ap (option_and_then (ptr_at (entry_at (values_of (seen_links number a))))) (sym (prev_of-seen number a p link stands));
-    after = after ∙ ap (option_and_then (ptr_at (entry_at (values_of (seen_links number a))))) (sym (next_of-seen number a p link stands));
+    before = before ∙ ap (option_and_then (ptr_at (entry_at (values_of (links_view number a))))) (sym (prev_of-seen number a p link stands));
+    after = after ∙ ap (option_and_then (ptr_at (entry_at (values_of (links_view number a))))) (sym (next_of-seen number a p link stands));
   }

@@ -1,8 +1,8 @@
 -- Interlinks that are answered, index by index, agree.
 use Rattle.std.proofs.Common.{◌≡◌, ◌↔◌, ℕ, zero, suc, ◌+◌, ◌≤◌, ◌<◌, Bool, Option, None, Some, refl, sym, ap, ◌∙◌, subst, arith}
 use Rattle.std.specs.Prelude.{IsTrue}
-use Rattle.chain_laws.specs.Chains.{Shown, Interlinks, Agrees, HasLinksWithin, prev_in, next_in}
-use Rattle.chain_linking.specs.Consistency.{AgreesAt}
+use Rattle.chain_laws.specs.Chains.{LinkMap, Interlinks, IsWellLinked, HasLinksWithin, prev_in, next_in}
+use Rattle.chain_linking.specs.Consistency.{IsWellLinkedAt}
 
 -- a look at the one index that an interlink names tells whether that interlink is answered
 pub is_answered : (named naming : ℕ → Option ℕ) (i j : ℕ) (look : Option ℕ) (answer : Bool) → Some j ≡ named i → look ≡ naming j → (IsTrue answer ↔ (look ≡ Some i))
@@ -12,24 +12,24 @@ is_answered named naming i j look answer names looked test = (
   (λ given. test.1 (looked ∙ given j (sym names))),
 )
 
-module _ (shown : Shown) where
+module _ (link_map : LinkMap) where
   -- where no link stands there is nothing to answer
-  nothing_there : (i : ℕ) → shown i ≡ None → AgreesAt shown i
+  nothing_there : (i : ℕ) → link_map i ≡ None → IsWellLinkedAt link_map i
   nothing_there i none = record {
     forth = λ j at. absurd (let both = sym (ap next_in none) ∙ at in cc);
     back = λ j at. absurd (let both = sym (ap prev_in none) ∙ at in cc);
   }
 
   -- all links stand within so many slots, so no more has to be looked at
-  pub agrees_all : (slots : ℕ) → HasLinksWithin shown slots → ((k : ℕ) → k < slots → AgreesAt shown (k + 1)) → Agrees shown
+  pub agrees_all : (slots : ℕ) → HasLinksWithin link_map slots → ((k : ℕ) → k < slots → IsWellLinkedAt link_map (k + 1)) → IsWellLinked link_map
   agrees_all slots within each = record { both = λ i j. ((at i).forth j, (at j).back i) } where
-    there : (i : ℕ) → (1 ≤ i) × (i ≤ slots) → AgreesAt shown i
+    there : (i : ℕ) → (1 ≤ i) × (i ≤ slots) → IsWellLinkedAt link_map i
     there zero inside = absurd (omega (arith, inside.0))
-    there (suc k) inside = let same : k + 1 ≡ suc k = omega arith in subst (AgreesAt shown) same (each k (omega (arith, inside.1)))
+    there (suc k) inside = let same : k + 1 ≡ suc k = omega arith in subst (IsWellLinkedAt link_map) same (each k (omega (arith, inside.1)))
 
-    by : (i : ℕ) (o : Option Interlinks) → shown i ≡ o → AgreesAt shown i
+    by : (i : ℕ) (o : Option Interlinks) → link_map i ≡ o → IsWellLinkedAt link_map i
     by i None is = nothing_there i is
     by i (Some link) is = there i (within.within i (record { link = link; shows = is }))
 
-    at : (i : ℕ) → AgreesAt shown i
-    at i = by i (shown i) refl
+    at : (i : ℕ) → IsWellLinkedAt link_map i
+    at i = by i (link_map i) refl

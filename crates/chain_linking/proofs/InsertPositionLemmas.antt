@@ -3,15 +3,15 @@ use Rattle.std.proofs.Common.{◌≡◌, ℕ, true, Option, None, Some, ap, sym,
 use Rattle.std.specs.Prelude.{is_some, IfSome}
 use Rattle.std.specs.Option.{option_map}
 use Rattle.std.proofs.lemmas.Bool.{false≢true}
-use Rattle.chain_laws.specs.Chains.{Shown, Interlinks, HasLink, next_in, prev_in}
+use Rattle.chain_laws.specs.Chains.{LinkMap, Interlinks, HasLink, next_in, prev_in}
 use Rattle.chain_laws.specs.Insertions.{InsertKind, chain_end, chain_start, next_to, prev_to, at_interlink}
 use Rattle.chain_links.specs.declared.links.LinkBody.{LinkBody}
-use Rattle.chain_links.specs.Links.{seen_link, seen_pair, seen_links}
+use Rattle.chain_links.specs.Links.{link_view, pair_view, links_view}
 use Rattle.arena_base.specs.Arena.{Arena, entry_at}
-use Rattle.chain_links.specs.ChainArena.{on_value, shown, entry, interlinks_in, interlinks_of}
+use Rattle.chain_links.specs.ChainArena.{on_value, link_map, entry, interlinks_in, interlinks_of}
 use Rattle.chain_links.specs.Kinds.{LinkName, HasName, MayInsert}
-use Rattle.chain_links.proofs.LinkStateLemmas.{entry_at-seen_links}
-use Rattle.chain_linking.specs.InsertPositions.{IsGapOf}
+use Rattle.chain_links.proofs.LinkStateLemmas.{entry_at-links_view}
+use Rattle.chain_linking.specs.InsertPositions.{IsPositionOf}
 use Rattle.chain_linking.proofs.ConnectionLemmas.{value_at}
 
 -- what follows where there is some
@@ -21,20 +21,20 @@ if_some (Some x) then given = then x given
 
 -- what a link that stands shows
 module _ {Gen K T : Type 0} (number : K → Option ℕ) (a : Arena Gen (LinkBody K T)) (i : ℕ) where
-  pub stands-seen : (g : Gen) (link : LinkBody K T) → entry_at a i ≡ Some (g, link) → entry (seen_links number a) i ≡ Some (g, link.t)
+  pub stands-seen : (g : Gen) (link : LinkBody K T) → entry_at a i ≡ Some (g, link) → entry (links_view number a) i ≡ Some (g, link.t)
   stands-seen g link stands = value_at number a i ∙ ap (option_map (on_value (λ l. l.t))) stands
 
-  pub shows-seen : (g : Gen) (link : LinkBody K T) → entry_at a i ≡ Some (g, link) → shown (seen_links number a) i ≡ Some (interlinks_in (seen_link number link))
-  shows-seen g link stands = ap (option_map interlinks_of) (entry_at-seen_links number a i ∙ ap (option_map (seen_pair number)) stands)
+  pub shows-seen : (g : Gen) (link : LinkBody K T) → entry_at a i ≡ Some (g, link) → link_map (links_view number a) i ≡ Some (interlinks_in (link_view number link))
+  shows-seen g link stands = ap (option_map interlinks_of) (entry_at-links_view number a i ∙ ap (option_map (pair_view number)) stands)
 
-  pub shows_nothing : entry_at a i ≡ None → shown (seen_links number a) i ≡ None
-  shows_nothing none = ap (option_map interlinks_of) (entry_at-seen_links number a i ∙ ap (option_map (seen_pair number)) none)
+  pub shows_nothing : entry_at a i ≡ None → link_map (links_view number a) i ≡ None
+  shows_nothing none = ap (option_map interlinks_of) (entry_at-links_view number a i ∙ ap (option_map (pair_view number)) none)
 
-  pub nothing-seen : entry_at a i ≡ None → entry (seen_links number a) i ≡ None
+  pub nothing-seen : entry_at a i ≡ None → entry (links_view number a) i ≡ None
   nothing-seen none = value_at number a i ∙ ap (option_map (on_value (λ l. l.t))) none
 
 -- what kinds ask of a link that stands
-module _ {Gen T : Type 0} (entry : ℕ → Option (Gen × T)) (interlinks : Shown) (a : LinkName Gen) (l : Interlinks) (has : HasName entry a) (shows : interlinks a.0 ≡ Some l) where
+module _ {Gen T : Type 0} (entry : ℕ → Option (Gen × T)) (interlinks : LinkMap) (a : LinkName Gen) (l : Interlinks) (has : HasName entry a) (shows : interlinks a.0 ≡ Some l) where
   pub may_follow : l.next ≡ None → MayInsert entry interlinks (chain_end a)
   may_follow none = (has, (record { link = l; shows = shows }, ap next_in shows ∙ none))
 
@@ -55,15 +55,15 @@ module _ {Gen T : Type 0} (entry : ℕ → Option (Gen × T)) (interlinks : Show
   not_a_start some may = false≢true (sym (ap is_some (sym (ap prev_in shows) ∙ may.1.1)) ∙ some)
 
 -- where a kind may not be inserted there is no gap
-pub no_gap : {I Gen T : Type 0} (number : I → ℕ) (entry : ℕ → Option (Gen × T)) (interlinks : Shown) (kind : InsertKind (LinkName Gen)) → (MayInsert entry interlinks kind → ⊥) → IsGapOf number entry interlinks kind None
+pub no_gap : {I Gen T : Type 0} (number : I → ℕ) (entry : ℕ → Option (Gen × T)) (interlinks : LinkMap) (kind : InsertKind (LinkName Gen)) → (MayInsert entry interlinks kind → ⊥) → IsPositionOf number entry interlinks kind None
 no_gap number entry interlinks kind never = record { some = (λ is. absurd (false≢true is), λ may. absurd (never may)); before = tt; after = tt }
 
 -- a link that was found is valid
-pub found_valid : {A : Type 0} (interlinks : Shown) (i : ℕ) (f : A → Interlinks) (o : Option A) → is_some o ≡ true → IfSome o (λ x. interlinks i ≡ Some (f x)) → HasLink interlinks i
+pub found_valid : {A : Type 0} (interlinks : LinkMap) (i : ℕ) (f : A → Interlinks) (o : Option A) → is_some o ≡ true → IfSome o (λ x. interlinks i ≡ Some (f x)) → HasLink interlinks i
 found_valid interlinks i f None some shows = cc
 found_valid interlinks i f (Some x) some shows = record { link = f x; shows = shows }
 
 -- two links that stand, the one before the other
-pub may_come_between : {Gen T : Type 0} (at : ℕ → Option (Gen × T)) (interlinks : Shown) (a b : LinkName Gen) (l : Interlinks) → HasName at a → HasName at b
+pub may_come_between : {Gen T : Type 0} (at : ℕ → Option (Gen × T)) (interlinks : LinkMap) (a b : LinkName Gen) (l : Interlinks) → HasName at a → HasName at b
     → interlinks a.0 ≡ Some l → HasLink interlinks b.0 → l.next ≡ Some b.0 → MayInsert at interlinks (at_interlink a b)
 may_come_between at interlinks a b l has_a has_b shows valid next = ((has_a, has_b), (record { link = l; shows = shows }, valid, ap next_in shows ∙ next))

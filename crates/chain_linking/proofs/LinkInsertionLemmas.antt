@@ -3,54 +3,54 @@ use Rattle.std.proofs.Common.{◌≡◌, ℕ, Bool, true, false, Option, Some, r
 use Rattle.std.specs.Prelude.{◌==◌, if◌then◌else◌, is_some, IfSome}
 use Rattle.std.proofs.lemmas.Bool.{cases_eq}
 use Rattle.std.specs.Option.{option_map}
-use Rattle.chain_laws.specs.Chains.{Shown, Agrees, HasLink}
-use Rattle.chain_laws.specs.Insertions.{IsGap}
+use Rattle.chain_laws.specs.Chains.{LinkMap, IsWellLinked, HasLink}
+use Rattle.chain_laws.specs.Insertions.{IsInsertPosition}
 use Rattle.chain_laws.specs.Joins.{next_set, prev_set, linked}
 use Rattle.chain_laws.proofs.InterlinkLemmas.Inverses.{if_same, if_other}
 use Rattle.chain_laws.proofs.InsertionLemmas.Pairs.{gap_between}
 use Rattle.chain_laws.proofs.ChainLemmas.LinkedLists.{link}
 use Rattle.chain_laws.proofs.InsertionLemmas.Writes.{with_link, inserted_by_writes, ringed_by_writes}
 use Rattle.chain_links.specs.declared.links.LinkBody.{LinkBody}
-use Rattle.chain_links.specs.Links.{seen_link, seen_links}
+use Rattle.chain_links.specs.Links.{link_view, links_view}
 use Rattle.arena_base.specs.Arena.{Arena, entry_at, next_index, insert_next, IsListed}
-use Rattle.chain_linking.specs.declared.insert_position.Gap.{Gap}
-use Rattle.chain_linking.specs.declared.insert_position.Gap.TheVariants.{Itself, Between}
+use Rattle.chain_linking.specs.declared.insert_position.InsertPosition.{InsertPosition}
+use Rattle.chain_linking.specs.declared.insert_position.InsertPosition.TheVariants.{Itself, Between}
 use Rattle.chain_linking.specs.InsertPositions.{before_in, after_in, named_before, named_after}
-use Rattle.chain_links.specs.ChainArena.{LinkSeen, lone, new_link, named_by, insert_lone, insert_between, shown, relink, relinked, interlinks_of}
+use Rattle.chain_links.specs.ChainArena.{LinkView, lone, new_link, named_by, insert_lone, insert_between, link_map, relink, relinked, interlinks_of}
 use Rattle.chain_links.proofs.LinkStateLemmas.{is_relinked}
 use Rattle.chain_linking.proofs.NeighborLemmas.{if_each}
-use Rattle.chain_links.proofs.ArenaInsertionLemmas.{shown-next, AreFree, slot_at-filled, length-filled, shown-insert_lone, listed-seen_links, seen_links-insert_next, next_index-seen_links}
-use Rattle.chain_linking.proofs.LinkWriteLemmas.{relink-own, FitsLinks, FitsLinks-shown, FitsLinks-next_set, shown-relinked, relinked-again}
+use Rattle.chain_links.proofs.ArenaInsertionLemmas.{link_map-next, AreFree, slot_at-filled, length-filled, link_map-insert_lone, listed-links_view, links_view-insert_next, next_index-links_view}
+use Rattle.chain_linking.proofs.LinkWriteLemmas.{relink-own, FitsLinks, FitsLinks-link_map, FitsLinks-next_set, link_map-relinked, relinked-again}
 use Rattle.chain_links.proofs.MappedArenaLemmas.{is_some-map}
 
 module _ {Gen T : Type 0} where
   -- two writes make u and v name q
-  pub named_by_writes : (a b c : Arena Gen (LinkSeen T)) (u v : Option ℕ) (q : ℕ) → b ≡ relinked a (next_set (shown a) u (Some q)) → c ≡ relinked b (prev_set (shown b) v (Some q)) → c ≡ named_by a u v q
+  pub named_by_writes : (a b c : Arena Gen (LinkView T)) (u v : Option ℕ) (q : ℕ) → b ≡ relinked a (next_set (link_map a) u (Some q)) → c ≡ relinked b (prev_set (link_map b) v (Some q)) → c ≡ named_by a u v q
   named_by_writes a b c u v q first second =
-      let followed = next_set (shown a) u (Some q) in
-      let fits : FitsLinks followed a = FitsLinks-next_set a (shown a) u (Some q) (FitsLinks-shown a) in
-      second ∙ (ap (λ (x : Arena Gen (LinkSeen T)). relinked x (prev_set (shown x) v (Some q))) first
-      ∙ (ap (λ (m : Shown). relinked (relinked a followed) (prev_set m v (Some q))) (shown-relinked a followed fits)
+      let followed = next_set (link_map a) u (Some q) in
+      let fits : FitsLinks followed a = FitsLinks-next_set a (link_map a) u (Some q) (FitsLinks-link_map a) in
+      second ∙ (ap (λ (x : Arena Gen (LinkView T)). relinked x (prev_set (link_map x) v (Some q))) first
+      ∙ (ap (λ (m : LinkMap). relinked (relinked a followed) (prev_set m v (Some q))) (link_map-relinked a followed fits)
       ∙ relinked-again a followed (prev_set followed v (Some q)) fits))
 
-module _ {Gen T : Type 0} (a : Arena Gen (LinkSeen T)) (free : AreFree a.slots a.freed) (t : T) where
+module _ {Gen T : Type 0} (a : Arena Gen (LinkView T)) (free : AreFree a.slots a.freed) (t : T) where
   -- a link that names others is a lone link with its interlinks written, where b tells whether it is looked at
-  named_at : (b : Bool) (u v : Option ℕ) (e : Option (Gen × LinkSeen T)) → (if b then Some (a.counter, new_link t u v) else e)
+  named_at : (b : Bool) (u v : Option ℕ) (e : Option (Gen × LinkView T)) → (if b then Some (a.counter, new_link t u v) else e)
       ≡ relink (if b then Some (link u v) else option_map interlinks_of e) (if b then Some (a.counter, lone t) else e)
   named_at true u v e = refl
   named_at false u v e = relink-own e
 
-  inserted_named : (u v : Option ℕ) → insert_next a (new_link t u v) ≡ relinked (insert_lone a t) (with_link (shown a) (next_index a) u v)
-  inserted_named u v = is_relinked (insert_lone a t) (insert_next a (new_link t u v)) (with_link (shown a) (next_index a) u v)
+  inserted_named : (u v : Option ℕ) → insert_next a (new_link t u v) ≡ relinked (insert_lone a t) (with_link (link_map a) (next_index a) u v)
+  inserted_named u v = is_relinked (insert_lone a t) (insert_next a (new_link t u v)) (with_link (link_map a) (next_index a) u v)
       (length-filled a.freed a.slots (a.counter, new_link t u v) ∙ sym (length-filled a.freed a.slots (a.counter, lone t))) refl
       (λ i. slot_at-filled a.freed a.slots (a.counter, new_link t u v) i free
-      ∙ (named_at (i == next_index a) u v (entry_at a i) ∙ ap (relink (with_link (shown a) (next_index a) u v i)) (sym (slot_at-filled a.freed a.slots (a.counter, lone t) i free))))
+      ∙ (named_at (i == next_index a) u v (entry_at a i) ∙ ap (relink (with_link (link_map a) (next_index a) u v i)) (sym (slot_at-filled a.freed a.slots (a.counter, lone t) i free))))
 
-  fits_at : (b : Bool) (u v : Option ℕ) (e : Option (Gen × LinkSeen T)) → is_some (if b then Some (link u v) else option_map interlinks_of e) ≡ is_some (if b then Some (a.counter, lone t) else e)
+  fits_at : (b : Bool) (u v : Option ℕ) (e : Option (Gen × LinkView T)) → is_some (if b then Some (link u v) else option_map interlinks_of e) ≡ is_some (if b then Some (a.counter, lone t) else e)
   fits_at true u v e = refl
   fits_at false u v e = is_some-map interlinks_of e
 
-  FitsLinks-with_link : (u v : Option ℕ) → FitsLinks (with_link (shown a) (next_index a) u v) (insert_lone a t)
+  FitsLinks-with_link : (u v : Option ℕ) → FitsLinks (with_link (link_map a) (next_index a) u v) (insert_lone a t)
   FitsLinks-with_link u v i = fits_at (i == next_index a) u v (entry_at a i) ∙ ap is_some (sym (slot_at-filled a.freed a.slots (a.counter, lone t) i free))
 
   -- a link that names u and v, and is then named by them, is inserted between them
@@ -58,85 +58,85 @@ module _ {Gen T : Type 0} (a : Arena Gen (LinkSeen T)) (free : AreFree a.slots a
   placed u v itself =
       let base = insert_lone a t in
       let q = next_index a in
-      let named = with_link (shown a) q u v in
+      let named = with_link (link_map a) q u v in
       let fits : FitsLinks named base = FitsLinks-with_link u v in
-      ap (λ (x : Arena Gen (LinkSeen T)). named_by x u v q) (inserted_named u v)
-      ∙ (ap (λ (m : Shown). relinked (relinked base named) (prev_set (next_set m u (Some q)) v (Some q))) (shown-relinked base named fits)
-      ∙ (relinked-again base named (prev_set (next_set named u (Some q)) v (Some q)) fits ∙ ap (relinked base) (inserted_by_writes (shown a) q u v itself)))
+      ap (λ (x : Arena Gen (LinkView T)). named_by x u v q) (inserted_named u v)
+      ∙ (ap (λ (m : LinkMap). relinked (relinked base named) (prev_set (next_set m u (Some q)) v (Some q))) (link_map-relinked base named fits)
+      ∙ (relinked-again base named (prev_set (next_set named u (Some q)) v (Some q)) fits ∙ ap (relinked base) (inserted_by_writes (link_map a) q u v itself)))
 
   -- a link that names none, and is then named by itself, is inserted in a ring of its own
   pub ringed : named_by (insert_lone a t) (Some (next_index a)) (Some (next_index a)) (next_index a) ≡ insert_between a t (Some (next_index a)) (Some (next_index a))
   ringed =
       let q = next_index a in
-      ap (λ (m : Shown). relinked (insert_lone a t) (linked m (Some q) (Some q))) (shown-insert_lone a t free)
-      ∙ ap (relinked (insert_lone a t)) (ringed_by_writes (shown a) q)
+      ap (λ (m : LinkMap). relinked (insert_lone a t) (linked m (Some q) (Some q))) (link_map-insert_lone a t free)
+      ∙ ap (relinked (insert_lone a t)) (ringed_by_writes (link_map a) q)
 
   -- the new link of a gap, named by the links of the gap, is inserted in it
-  pub placed_in : {I : Type 0} (number : I → ℕ) (gap : Gap I) → (before_in number gap (next_index a) ≡ Some (next_index a) → after_in number gap (next_index a) ≡ Some (next_index a))
+  pub placed_in : {I : Type 0} (number : I → ℕ) (gap : InsertPosition I) → (before_in number gap (next_index a) ≡ Some (next_index a) → after_in number gap (next_index a) ≡ Some (next_index a))
       → named_by (insert_next a (new_link t (named_before number gap) (named_after number gap))) (before_in number gap (next_index a)) (after_in number gap (next_index a)) (next_index a)
       ≡ insert_between a t (before_in number gap (next_index a)) (after_in number gap (next_index a))
   placed_in number Itself itself = ringed
   placed_in number (Between u v) itself = placed (option_map number u) (option_map number v) itself
 
 -- an insertion into the arena that holds the links, where those of the gap then name the new one
-module _ {Gen K T I : Type 0} (packed : K → Option ℕ) (number : I → ℕ) (a b : Arena Gen (LinkBody K T)) (d : Arena Gen (LinkSeen T)) (gap : Gap I) (t : T) (link : LinkBody K T)
-    (listed : IsListed a) (link_is : seen_link packed link ≡ new_link t (named_before number gap) (named_after number gap))
-    (itself : before_in number gap (next_index (seen_links packed a)) ≡ Some (next_index (seen_links packed a)) → after_in number gap (next_index (seen_links packed a)) ≡ Some (next_index (seen_links packed a)))
-    (i : ℕ) (at : i ≡ next_index a) (tied : d ≡ named_by (seen_links packed b) (before_in number gap i) (after_in number gap i) i) where
-  abbrev in_gap : Arena Gen (LinkSeen T)
-  in_gap = insert_between (seen_links packed a) t (before_in number gap (next_index (seen_links packed a))) (after_in number gap (next_index (seen_links packed a)))
+module _ {Gen K T I : Type 0} (packed : K → Option ℕ) (number : I → ℕ) (a b : Arena Gen (LinkBody K T)) (d : Arena Gen (LinkView T)) (gap : InsertPosition I) (t : T) (link : LinkBody K T)
+    (listed : IsListed a) (link_is : link_view packed link ≡ new_link t (named_before number gap) (named_after number gap))
+    (itself : before_in number gap (next_index (links_view packed a)) ≡ Some (next_index (links_view packed a)) → after_in number gap (next_index (links_view packed a)) ≡ Some (next_index (links_view packed a)))
+    (i : ℕ) (at : i ≡ next_index a) (tied : d ≡ named_by (links_view packed b) (before_in number gap i) (after_in number gap i) i) where
+  abbrev in_gap : Arena Gen (LinkView T)
+  in_gap = insert_between (links_view packed a) t (before_in number gap (next_index (links_view packed a))) (after_in number gap (next_index (links_view packed a)))
 
-  abbrev tied_at_next : Arena Gen (LinkSeen T) → Arena Gen (LinkSeen T)
-  tied_at_next x = named_by x (before_in number gap (next_index (seen_links packed a))) (after_in number gap (next_index (seen_links packed a))) (next_index (seen_links packed a))
+  abbrev tied_at_next : Arena Gen (LinkView T) → Arena Gen (LinkView T)
+  tied_at_next x = named_by x (before_in number gap (next_index (links_view packed a))) (after_in number gap (next_index (links_view packed a))) (next_index (links_view packed a))
 
-  tied_next : d ≡ tied_at_next (seen_links packed b)
-  tied_next = tied ∙ ap (λ (j : ℕ). named_by (seen_links packed b) (before_in number gap j) (after_in number gap j) j) (at ∙ sym (next_index-seen_links packed a))
+  tied_next : d ≡ tied_at_next (links_view packed b)
+  tied_next = tied ∙ ap (λ (j : ℕ). named_by (links_view packed b) (before_in number gap j) (after_in number gap j) j) (at ∙ sym (next_index-links_view packed a))
 
-  named_next : tied_at_next (seen_links packed (insert_next a link)) ≡ in_gap
-  named_next = ap tied_at_next (seen_links-insert_next packed a link ∙ ap (insert_next (seen_links packed a)) link_is)
-      ∙ placed_in (seen_links packed a) (listed-seen_links packed a listed).free t number gap itself
+  named_next : tied_at_next (links_view packed (insert_next a link)) ≡ in_gap
+  named_next = ap tied_at_next (links_view-insert_next packed a link ∙ ap (insert_next (links_view packed a)) link_is)
+      ∙ placed_in (links_view packed a) (listed-links_view packed a listed).free t number gap itself
 
   pub placed_in_room : b ≡ insert_next a link → d ≡ in_gap
-  placed_in_room is = tied_next ∙ (ap (λ (x : Arena Gen (LinkBody K T)). tied_at_next (seen_links packed x)) is ∙ named_next)
+  placed_in_room is = tied_next ∙ (ap (λ (x : Arena Gen (LinkBody K T)). tied_at_next (links_view packed x)) is ∙ named_next)
 
 -- what stands after the insertion of a link
-module _ {Gen T : Type 0} (a : Arena Gen (LinkSeen T)) (free : AreFree a.slots a.freed) (l : LinkSeen T) where
-  abbrev entry_after : ℕ → Option (Gen × LinkSeen T)
+module _ {Gen T : Type 0} (a : Arena Gen (LinkView T)) (free : AreFree a.slots a.freed) (l : LinkView T) where
+  abbrev entry_after : ℕ → Option (Gen × LinkView T)
   entry_after i = if i == next_index a then Some (a.counter, l) else entry_at a i
 
-  shows_after : (i : ℕ) → shown (insert_next a l) i ≡ option_map interlinks_of (entry_after i)
+  shows_after : (i : ℕ) → link_map (insert_next a l) i ≡ option_map interlinks_of (entry_after i)
   shows_after i = ap (option_map interlinks_of) (slot_at-filled a.freed a.slots (a.counter, l) i free)
 
-  new_stands : (i : ℕ) → i ≡ next_index a → HasLink (shown (insert_next a l)) i
+  new_stands : (i : ℕ) → i ≡ next_index a → HasLink (link_map (insert_next a l)) i
   new_stands i same = record { link = interlinks_of (a.counter, l); shows = shows_after i ∙ ap (option_map interlinks_of) (if_same i (next_index a) _ _ same) }
 
-  old_stands : (i : ℕ) → HasLink (shown a) i → HasLink (shown (insert_next a l)) i
+  old_stands : (i : ℕ) → HasLink (link_map a) i → HasLink (link_map (insert_next a l)) i
   old_stands i has = ⊎_elim (new_stands i) (λ other. record { link = has.link; shows = shows_after i ∙ (ap (option_map interlinks_of) (if_other i (next_index a) _ _ other) ∙ has.shows) }) (cases_eq i (next_index a))
 
   -- the links of a gap stand
-  gap_stands : (u v : Option ℕ) → Agrees (shown a) → IsGap (shown a) (next_index a) u v → IfSome u (HasLink (shown (insert_next a l))) × IfSome v (HasLink (shown (insert_next a l)))
+  gap_stands : (u v : Option ℕ) → IsWellLinked (link_map a) → IsInsertPosition (link_map a) (next_index a) u v → IfSome u (HasLink (link_map (insert_next a l))) × IfSome v (HasLink (link_map (insert_next a l)))
   gap_stands u v agrees gap =
-      let between = gap_between (shown a) (next_index a) u v agrees (shown-next a free) gap in (
-        if_each u (HasLink (shown (insert_next a l))) (λ i is. ⊎_elim (old_stands i) (new_stands i) (between.valid_before i is)),
-        if_each v (HasLink (shown (insert_next a l))) (λ i is. ⊎_elim (old_stands i) (new_stands i) (between.valid_after i is)),
+      let between = gap_between (link_map a) (next_index a) u v agrees (link_map-next a free) gap in (
+        if_each u (HasLink (link_map (insert_next a l))) (λ i is. ⊎_elim (old_stands i) (new_stands i) (between.valid_before i is)),
+        if_each v (HasLink (link_map (insert_next a l))) (λ i is. ⊎_elim (old_stands i) (new_stands i) (between.valid_after i is)),
       )
 
 -- the links of a gap stand in the arena that holds the links, when the new one is there
-module _ {Gen K T I : Type 0} (packed : K → Option ℕ) (number : I → ℕ) (a b : Arena Gen (LinkBody K T)) (gap : Gap I) (link : LinkBody K T) (listed : IsListed a) (agrees : Agrees (shown (seen_links packed a)))
-    (is_gap : IsGap (shown (seen_links packed a)) (next_index (seen_links packed a)) (before_in number gap (next_index (seen_links packed a))) (after_in number gap (next_index (seen_links packed a))))
+module _ {Gen K T I : Type 0} (packed : K → Option ℕ) (number : I → ℕ) (a b : Arena Gen (LinkBody K T)) (gap : InsertPosition I) (link : LinkBody K T) (listed : IsListed a) (agrees : IsWellLinked (link_map (links_view packed a)))
+    (is_gap : IsInsertPosition (link_map (links_view packed a)) (next_index (links_view packed a)) (before_in number gap (next_index (links_view packed a))) (after_in number gap (next_index (links_view packed a))))
     (i : ℕ) (at : i ≡ next_index a) (is : b ≡ insert_next a link) where
   abbrev StandsNow : Option ℕ → Type 0
-  StandsNow o = IfSome o (HasLink (shown (seen_links packed b)))
+  StandsNow o = IfSome o (HasLink (link_map (links_view packed b)))
 
-  both_stand : StandsNow (before_in number gap (next_index (seen_links packed a))) × StandsNow (after_in number gap (next_index (seen_links packed a)))
+  both_stand : StandsNow (before_in number gap (next_index (links_view packed a))) × StandsNow (after_in number gap (next_index (links_view packed a)))
   both_stand =
-      let s = seen_links packed a in
-      subst (λ (x : Arena Gen (LinkSeen T)). IfSome (before_in number gap (next_index s)) (HasLink (shown x)) × IfSome (after_in number gap (next_index s)) (HasLink (shown x)))
-      (sym (ap (seen_links packed) is ∙ seen_links-insert_next packed a link))
-      (gap_stands s (listed-seen_links packed a listed).free (seen_link packed link) _ _ agrees is_gap)
+      let s = links_view packed a in
+      subst (λ (x : Arena Gen (LinkView T)). IfSome (before_in number gap (next_index s)) (HasLink (link_map x)) × IfSome (after_in number gap (next_index s)) (HasLink (link_map x)))
+      (sym (ap (links_view packed) is ∙ links_view-insert_next packed a link))
+      (gap_stands s (listed-links_view packed a listed).free (link_view packed link) _ _ agrees is_gap)
 
   pub before_stands : StandsNow (before_in number gap i)
-  before_stands = subst (λ (j : ℕ). StandsNow (before_in number gap j)) (sym (at ∙ sym (next_index-seen_links packed a))) both_stand.0
+  before_stands = subst (λ (j : ℕ). StandsNow (before_in number gap j)) (sym (at ∙ sym (next_index-links_view packed a))) both_stand.0
 
   pub after_stands : StandsNow (after_in number gap i)
-  after_stands = subst (λ (j : ℕ). StandsNow (after_in number gap j)) (sym (at ∙ sym (next_index-seen_links packed a))) both_stand.1
+  after_stands = subst (λ (j : ℕ). StandsNow (after_in number gap j)) (sym (at ∙ sym (next_index-links_view packed a))) both_stand.1

@@ -2,18 +2,18 @@
 use Rattle.std.proofs.Common.{◌≡◌, ◌≢◌, ℕ, suc, List, Bool, true, false, Option, None, Some, refl, ap, ap₂, sym, ◌∙◌, ⊎_elim}
 use Rattle.std.specs.Prelude.{◌==◌, if◌then◌else◌, is_some}
 use Rattle.std.specs.Option.{option_map}
-use Rattle.chain_laws.specs.Chains.{Shown, Interlinks}
+use Rattle.chain_laws.specs.Chains.{LinkMap, Interlinks}
 use Rattle.chain_laws.specs.Joins.{next_set, prev_set, linked, with_next, with_prev}
 use Rattle.std.proofs.lemmas.Bool.{cases_eq}
 use Rattle.std.proofs.lemmas.List.{ext_get_or}
 use mathlib.Core.Path.{fun_ext}
 use Rattle.chain_laws.proofs.InterlinkLemmas.Inverses.{if_same, if_other, one_some}
 use Rattle.chain_links.specs.declared.links.LinkBody.{LinkBody}
-use Rattle.chain_links.specs.Links.{seen_link, seen_pair, seen_links}
+use Rattle.chain_links.specs.Links.{link_view, pair_view, links_view}
 use Rattle.arena_base.specs.Arena.{Arena, entry_at, with_value}
-use Rattle.chain_links.specs.ChainArena.{on_value, link_value, values_of, LinkSeen, shown, relink, relinked, interlinks_of, interlinks_in, with_interlinks}
+use Rattle.chain_links.specs.ChainArena.{on_value, link_value, values_of, LinkView, link_map, relink, relinked, interlinks_of, interlinks_in, with_interlinks}
 use Rattle.chain_links.proofs.MappedArenaLemmas.{is_some-map, entry_at-with_each, length-with_each}
-use Rattle.chain_links.proofs.LinkStateLemmas.{is_relinked, entry_at-relinked, entry_at-with_value, entry_at-seen_links, length-with_value, length-seen_links, length-relinked}
+use Rattle.chain_links.proofs.LinkStateLemmas.{is_relinked, entry_at-relinked, entry_at-with_value, entry_at-links_view, length-with_value, length-links_view, length-relinked}
 
 is_some-if : (b : Bool) (change : Interlinks → Interlinks) (l : Option Interlinks) → is_some (if b then option_map change l else l) ≡ is_some l
 is_some-if true change l = is_some-map change l
@@ -21,58 +21,58 @@ is_some-if false change l = refl
 
 module _ {Gen T : Type 0} where
   -- an entry with its own interlinks is itself
-  pub relink-own : (o : Option (Gen × LinkSeen T)) → o ≡ relink (option_map interlinks_of o) o
+  pub relink-own : (o : Option (Gen × LinkView T)) → o ≡ relink (option_map interlinks_of o) o
   relink-own None = refl
   relink-own (Some e) = refl
 
   -- an arena with its own interlinks is itself
-  pub relinked-own : (a : Arena Gen (LinkSeen T)) → a ≡ relinked a (shown a)
-  relinked-own a = is_relinked a a (shown a) refl refl (λ i. relink-own (entry_at a i))
+  pub relinked-own : (a : Arena Gen (LinkView T)) → a ≡ relinked a (link_map a)
+  relinked-own a = is_relinked a a (link_map a) refl refl (λ i. relink-own (entry_at a i))
 
   -- interlinks for just the links that stand
-  abbrev pub FitsLinks : Shown → Arena Gen (LinkSeen T) → Type 0
+  abbrev pub FitsLinks : LinkMap → Arena Gen (LinkView T) → Type 0
   FitsLinks interlinks a = (i : ℕ) → is_some (interlinks i) ≡ is_some (entry_at a i)
 
-  interlinks-relink : (l : Option Interlinks) (o : Option (Gen × LinkSeen T)) → is_some l ≡ is_some o → option_map interlinks_of (relink l o) ≡ l
+  interlinks-relink : (l : Option Interlinks) (o : Option (Gen × LinkView T)) → is_some l ≡ is_some o → option_map interlinks_of (relink l o) ≡ l
   interlinks-relink None None same = refl
   interlinks-relink (Some l) None same = absurd (let h = same in cc)
   interlinks-relink None (Some e) same = absurd (let h = same in cc)
   interlinks-relink (Some l) (Some e) same = refl
 
-  relink-again : (l m : Option Interlinks) (o : Option (Gen × LinkSeen T)) → is_some l ≡ is_some o → relink m (relink l o) ≡ relink m o
+  relink-again : (l m : Option Interlinks) (o : Option (Gen × LinkView T)) → is_some l ≡ is_some o → relink m (relink l o) ≡ relink m o
   relink-again l m None same = refl
   relink-again None m (Some e) same = absurd (let h = same in cc)
   relink-again (Some l) None (Some e) same = refl
   relink-again (Some l) (Some m) (Some e) same = refl
 
   -- an arena with other interlinks shows them
-  pub shown-relinked : (a : Arena Gen (LinkSeen T)) (interlinks : Shown) → FitsLinks interlinks a → shown (relinked a interlinks) ≡ interlinks
-  shown-relinked a interlinks fits = fun_ext (λ i. ap (option_map interlinks_of) (entry_at-relinked a interlinks i) ∙ interlinks-relink (interlinks i) (entry_at a i) (fits i))
+  pub link_map-relinked : (a : Arena Gen (LinkView T)) (interlinks : LinkMap) → FitsLinks interlinks a → link_map (relinked a interlinks) ≡ interlinks
+  link_map-relinked a interlinks fits = fun_ext (λ i. ap (option_map interlinks_of) (entry_at-relinked a interlinks i) ∙ interlinks-relink (interlinks i) (entry_at a i) (fits i))
 
   -- of interlinks written twice the second count
-  pub relinked-again : (a : Arena Gen (LinkSeen T)) (first second : Shown) → FitsLinks first a → relinked (relinked a first) second ≡ relinked a second
+  pub relinked-again : (a : Arena Gen (LinkView T)) (first second : LinkMap) → FitsLinks first a → relinked (relinked a first) second ≡ relinked a second
   relinked-again a first second fits = is_relinked a (relinked (relinked a first) second) second
       (length-relinked (relinked a first) second ∙ length-relinked a first) refl
       (λ i. entry_at-relinked (relinked a first) second i ∙ (ap (relink (second i)) (entry_at-relinked a first i) ∙ relink-again (first i) (second i) (entry_at a i) (fits i)))
 
-  pub FitsLinks-shown : (a : Arena Gen (LinkSeen T)) → FitsLinks (shown a) a
-  FitsLinks-shown a i = is_some-map interlinks_of (entry_at a i)
+  pub FitsLinks-link_map : (a : Arena Gen (LinkView T)) → FitsLinks (link_map a) a
+  FitsLinks-link_map a i = is_some-map interlinks_of (entry_at a i)
 
-  pub FitsLinks-next_set : (a : Arena Gen (LinkSeen T)) (interlinks : Shown) (u v : Option ℕ) → FitsLinks interlinks a → FitsLinks (next_set interlinks u v) a
+  pub FitsLinks-next_set : (a : Arena Gen (LinkView T)) (interlinks : LinkMap) (u v : Option ℕ) → FitsLinks interlinks a → FitsLinks (next_set interlinks u v) a
   FitsLinks-next_set a interlinks None v fits i = fits i
   FitsLinks-next_set a interlinks (Some u) v fits i = is_some-if (i == u) (with_next v) (interlinks i) ∙ fits i
 
-  pub FitsLinks-prev_set : (a : Arena Gen (LinkSeen T)) (interlinks : Shown) (u v : Option ℕ) → FitsLinks interlinks a → FitsLinks (prev_set interlinks u v) a
+  pub FitsLinks-prev_set : (a : Arena Gen (LinkView T)) (interlinks : LinkMap) (u v : Option ℕ) → FitsLinks interlinks a → FitsLinks (prev_set interlinks u v) a
   FitsLinks-prev_set a interlinks None v fits i = fits i
   FitsLinks-prev_set a interlinks (Some u) v fits i = is_some-if (i == u) (with_prev v) (interlinks i) ∙ fits i
 
-  value-relink : (l : Option Interlinks) (o : Option (Gen × LinkSeen T)) → is_some l ≡ is_some o → option_map (on_value link_value) (relink l o) ≡ option_map (on_value link_value) o
+  value-relink : (l : Option Interlinks) (o : Option (Gen × LinkView T)) → is_some l ≡ is_some o → option_map (on_value link_value) (relink l o) ≡ option_map (on_value link_value) o
   value-relink l None same = refl
   value-relink None (Some e) same = absurd (let h = same in cc)
   value-relink (Some l) (Some e) same = refl
 
   -- the values stay
-  pub values_of-relinked : (a : Arena Gen (LinkSeen T)) (interlinks : Shown) → FitsLinks interlinks a → values_of (relinked a interlinks) ≡ values_of a
+  pub values_of-relinked : (a : Arena Gen (LinkView T)) (interlinks : LinkMap) → FitsLinks interlinks a → values_of (relinked a interlinks) ≡ values_of a
   values_of-relinked a interlinks fits =
       ap (λ (slots : List (Option (Gen × T))). let b : Arena Gen T = record (values_of a) { slots = slots } in b)
       (ext_get_or None (values_of (relinked a interlinks)).slots (values_of a).slots
@@ -81,62 +81,62 @@ module _ {Gen T : Type 0} where
       ∙ (ap (option_map (on_value link_value)) (entry_at-relinked a interlinks (suc k))
       ∙ (value-relink (interlinks (suc k)) (entry_at a (suc k)) (fits (suc k)) ∙ sym (entry_at-with_each link_value a (suc k))))))
 
-  pub FitsLinks-linked : (a : Arena Gen (LinkSeen T)) (u v : Option ℕ) → FitsLinks (linked (shown a) u v) a
-  FitsLinks-linked a u v = FitsLinks-prev_set a (next_set (shown a) u v) v u (FitsLinks-next_set a (shown a) u v (FitsLinks-shown a))
+  pub FitsLinks-linked : (a : Arena Gen (LinkView T)) (u v : Option ℕ) → FitsLinks (linked (link_map a) u v) a
+  FitsLinks-linked a u v = FitsLinks-prev_set a (next_set (link_map a) u v) v u (FitsLinks-next_set a (link_map a) u v (FitsLinks-link_map a))
 
   -- a write to a `next` and then to a `prev` makes one link follow another
-  pub linked_by_writes : (a b c : Arena Gen (LinkSeen T)) (u v : Option ℕ) → b ≡ relinked a (next_set (shown a) u v) → c ≡ relinked b (prev_set (shown b) v u)
-      → c ≡ relinked a (linked (shown a) u v)
+  pub linked_by_writes : (a b c : Arena Gen (LinkView T)) (u v : Option ℕ) → b ≡ relinked a (next_set (link_map a) u v) → c ≡ relinked b (prev_set (link_map b) v u)
+      → c ≡ relinked a (linked (link_map a) u v)
   linked_by_writes a b c u v first second =
-      let fits = FitsLinks-next_set a (shown a) u v (FitsLinks-shown a) in
+      let fits = FitsLinks-next_set a (link_map a) u v (FitsLinks-link_map a) in
       second
-      ∙ (ap (λ (x : Arena Gen (LinkSeen T)). relinked x (prev_set (shown x) v u)) first
-      ∙ (ap (λ (m : Shown). relinked (relinked a (next_set (shown a) u v)) (prev_set m v u)) (shown-relinked a (next_set (shown a) u v) fits)
-      ∙ relinked-again a (next_set (shown a) u v) (linked (shown a) u v) fits))
+      ∙ (ap (λ (x : Arena Gen (LinkView T)). relinked x (prev_set (link_map x) v u)) first
+      ∙ (ap (λ (m : LinkMap). relinked (relinked a (next_set (link_map a) u v)) (prev_set m v u)) (link_map-relinked a (next_set (link_map a) u v) fits)
+      ∙ relinked-again a (next_set (link_map a) u v) (linked (link_map a) u v) fits))
 
   -- .. and two pairs of writes, one after another, two links
-  pub linked_twice : (a b c : Arena Gen (LinkSeen T)) (u v w x : Option ℕ) → b ≡ relinked a (linked (shown a) u v) → c ≡ relinked b (linked (shown b) w x)
-      → c ≡ relinked a (linked (linked (shown a) u v) w x)
+  pub linked_twice : (a b c : Arena Gen (LinkView T)) (u v w x : Option ℕ) → b ≡ relinked a (linked (link_map a) u v) → c ≡ relinked b (linked (link_map b) w x)
+      → c ≡ relinked a (linked (linked (link_map a) u v) w x)
   linked_twice a b c u v w x first second =
-      let one : Shown = linked (shown a) u v in
+      let one : LinkMap = linked (link_map a) u v in
       let fits : FitsLinks one a = FitsLinks-linked a u v in
-      second ∙ (ap (λ (y : Arena Gen (LinkSeen T)). relinked y (linked (shown y) w x)) first
-      ∙ (ap (λ (m : Shown). relinked (relinked a one) (linked m w x)) (shown-relinked a one fits) ∙ relinked-again a one (linked one w x) fits))
+      second ∙ (ap (λ (y : Arena Gen (LinkView T)). relinked y (linked (link_map y) w x)) first
+      ∙ (ap (λ (m : LinkMap). relinked (relinked a one) (linked m w x)) (link_map-relinked a one fits) ∙ relinked-again a one (linked one w x) fits))
 
-  pub FitsLinks-twice : (a : Arena Gen (LinkSeen T)) (u v w x : Option ℕ) → FitsLinks (linked (linked (shown a) u v) w x) a
-  FitsLinks-twice a u v w x = FitsLinks-prev_set a (next_set (linked (shown a) u v) w x) x w (FitsLinks-next_set a (linked (shown a) u v) w x (FitsLinks-linked a u v))
+  pub FitsLinks-twice : (a : Arena Gen (LinkView T)) (u v w x : Option ℕ) → FitsLinks (linked (linked (link_map a) u v) w x) a
+  FitsLinks-twice a u v w x = FitsLinks-prev_set a (next_set (linked (link_map a) u v) w x) x w (FitsLinks-next_set a (linked (link_map a) u v) w x (FitsLinks-linked a u v))
 
 -- the interlinks were changed in a link that was written
 abbrev pub IsWrite : {K T : Type 0} → (K → Option ℕ) → (LinkBody K T → LinkBody K T) → (Interlinks → Interlinks) → Type 0
-IsWrite {K} {T} number write change = (l : LinkBody K T) → seen_link number (write l) ≡ with_interlinks (change (interlinks_in (seen_link number l))) (seen_link number l)
+IsWrite {K} {T} number write change = (l : LinkBody K T) → link_view number (write l) ≡ with_interlinks (change (interlinks_in (link_view number l))) (link_view number l)
 
 module _ {Gen K T : Type 0} (number : K → Option ℕ) where
   seen-write : (o : Option (Gen × LinkBody K T)) (link : LinkBody K T) (write : LinkBody K T → LinkBody K T) (change : Interlinks → Interlinks) → IsWrite number write change
       → option_map (λ (e : Gen × LinkBody K T). e.1) o ≡ Some link
-      → option_map (seen_pair number) (option_map (λ (e : Gen × LinkBody K T). (e.0, write link)) o)
-      ≡ relink (option_map change (option_map interlinks_of (option_map (seen_pair number) o))) (option_map (seen_pair number) o)
+      → option_map (pair_view number) (option_map (λ (e : Gen × LinkBody K T). (e.0, write link)) o)
+      ≡ relink (option_map change (option_map interlinks_of (option_map (pair_view number) o))) (option_map (pair_view number) o)
   seen-write None link write change is stands = refl
   seen-write (Some e) link write change is stands =
-      ap (λ (l : LinkBody K T). let o : Option (Gen × LinkSeen T) = Some (e.0, seen_link number (write l)) in o) (sym (one_some stands)) ∙ ap (λ (l : LinkSeen T). let o : Option (Gen × LinkSeen T) = Some (e.0, l) in o) (is e.1)
+      ap (λ (l : LinkBody K T). let o : Option (Gen × LinkView T) = Some (e.0, link_view number (write l)) in o) (sym (one_some stands)) ∙ ap (λ (l : LinkView T). let o : Option (Gen × LinkView T) = Some (e.0, l) in o) (is e.1)
 
   -- a link that was written, in an arena of links
-  pub seen_links-write : (a : Arena Gen (LinkBody K T)) (n : ℕ) (link : LinkBody K T) (write : LinkBody K T → LinkBody K T) (change : Interlinks → Interlinks) (interlinks : Shown) → IsWrite number write change
+  pub links_view-write : (a : Arena Gen (LinkBody K T)) (n : ℕ) (link : LinkBody K T) (write : LinkBody K T → LinkBody K T) (change : Interlinks → Interlinks) (interlinks : LinkMap) → IsWrite number write change
       → option_map (λ (e : Gen × LinkBody K T). e.1) (entry_at a n) ≡ Some link
-      → ((i : ℕ) → interlinks i ≡ (if i == n then option_map change (shown (seen_links number a) i) else shown (seen_links number a) i))
-      → seen_links number (with_value a n (write link)) ≡ relinked (seen_links number a) interlinks
-  seen_links-write a n link write change interlinks is stands are =
-      let seen = seen_links number a in
+      → ((i : ℕ) → interlinks i ≡ (if i == n then option_map change (link_map (links_view number a) i) else link_map (links_view number a) i))
+      → links_view number (with_value a n (write link)) ≡ relinked (links_view number a) interlinks
+  links_view-write a n link write change interlinks is stands are =
+      let seen = links_view number a in
       let w = write link in
-      let at : (i : ℕ) → i ≡ n → entry_at (seen_links number (with_value a n w)) i ≡ relink (interlinks i) (entry_at seen i) =
-      (λ i same. entry_at-seen_links number (with_value a n w) i
-      ∙ (ap (option_map (seen_pair number)) (entry_at-with_value a n w i ∙ if_same i n _ _ same)
+      let at : (i : ℕ) → i ≡ n → entry_at (links_view number (with_value a n w)) i ≡ relink (interlinks i) (entry_at seen i) =
+      (λ i same. entry_at-links_view number (with_value a n w) i
+      ∙ (ap (option_map (pair_view number)) (entry_at-with_value a n w i ∙ if_same i n _ _ same)
       ∙ (seen-write (entry_at a i) link write change is (ap (λ k. option_map (λ (e : Gen × LinkBody K T). e.1) (entry_at a k)) same ∙ stands)
-      ∙ ap₂ relink (ap (λ o. option_map change (option_map interlinks_of o)) (sym (entry_at-seen_links number a i)) ∙ sym (are i ∙ if_same i n _ _ same)) (sym (entry_at-seen_links number a i))))) in
-      let off : (i : ℕ) → i ≢ n → entry_at (seen_links number (with_value a n w)) i ≡ relink (interlinks i) (entry_at seen i) =
-      (λ i other. entry_at-seen_links number (with_value a n w) i
-      ∙ (ap (option_map (seen_pair number)) (entry_at-with_value a n w i ∙ if_other i n _ _ other)
-      ∙ (sym (entry_at-seen_links number a i)
+      ∙ ap₂ relink (ap (λ o. option_map change (option_map interlinks_of o)) (sym (entry_at-links_view number a i)) ∙ sym (are i ∙ if_same i n _ _ same)) (sym (entry_at-links_view number a i))))) in
+      let off : (i : ℕ) → i ≢ n → entry_at (links_view number (with_value a n w)) i ≡ relink (interlinks i) (entry_at seen i) =
+      (λ i other. entry_at-links_view number (with_value a n w) i
+      ∙ (ap (option_map (pair_view number)) (entry_at-with_value a n w i ∙ if_other i n _ _ other)
+      ∙ (sym (entry_at-links_view number a i)
       ∙ (relink-own (entry_at seen i) ∙ ap (λ l. relink l (entry_at seen i)) (sym (are i ∙ if_other i n _ _ other)))))) in
-      is_relinked seen (seen_links number (with_value a n w)) interlinks
-      (length-seen_links number (with_value a n w) ∙ (length-with_value a n w ∙ sym (length-seen_links number a))) refl
+      is_relinked seen (links_view number (with_value a n w)) interlinks
+      (length-links_view number (with_value a n w) ∙ (length-with_value a n w ∙ sym (length-links_view number a))) refl
       (λ i. ⊎_elim (at i) (off i) (cases_eq i n))

@@ -2,25 +2,25 @@
 use Rattle.std.specs.Prelude.{◌≡◌, ℕ, zero, suc, List, [], ◌∷◌, map, Option, None, Some, is_some, slice_index_or}
 use Rattle.std.specs.Option.{option_map}
 use Rattle.std.proofs.Common.{refl, subst}
-use Rattle.chain_laws.specs.Chains.{Shown}
+use Rattle.chain_laws.specs.Chains.{LinkMap}
 use Rattle.chain_laws.specs.Walks.{Walker, next_step}
 use Rattle.arena_base.specs.Arena.{Arena, entry_at}
 use Rattle.chain_links.specs.Walkers.{IsPassing}
-use Rattle.chain_links.specs.ChainArena.{LinkSeen, shown, values_of, on_value, link_value, interlinks_of}
+use Rattle.chain_links.specs.ChainArena.{LinkView, link_map, values_of, on_value, link_value, interlinks_of}
 
 module _ {Gen T : Type 0} where
-  stand_in : (slots : List (Option (Gen × LinkSeen T))) (k : ℕ)
+  stand_in : (slots : List (Option (Gen × LinkView T))) (k : ℕ)
       → is_some (option_map interlinks_of (slice_index_or slots k None)) ≡ is_some (slice_index_or (map (option_map (on_value link_value)) slots) k None)
   stand_in [] k = refl
   stand_in (None ∷ slots) zero = refl
   stand_in (Some e ∷ slots) zero = refl
   stand_in (e ∷ slots) (suc k) = stand_in slots k
 
-  pub links_stand : (a : Arena Gen (LinkSeen T)) (i : ℕ) → is_some (shown a i) ≡ is_some (entry_at (values_of a) i)
-  links_stand a zero = refl
-  links_stand a (suc k) = stand_in a.slots k
+  pub links_exist : (a : Arena Gen (LinkView T)) (i : ℕ) → is_some (link_map a i) ≡ is_some (entry_at (values_of a) i)
+  links_exist a zero = refl
+  links_exist a (suc k) = stand_in a.slots k
 
-module _ {P Gen T : Type 0} (key : P → ℕ × Gen) (entry : ℕ → Option (Gen × T)) (interlinks : Shown) {old new : Walker} where
+module _ {P Gen T : Type 0} (key : P → ℕ × Gen) (entry : ℕ → Option (Gen × T)) (interlinks : LinkMap) {old new : Walker} where
   pub spent_stays : (answer : Option P) → old.left ≡ 0 → IsPassing entry interlinks old (option_map key answer) new → (answer ≡ None) × (new.left ≡ 0)
   spent_stays None none passing = (refl, passing.spent)
   spent_stays (Some p) none passing = absurd (let step = subst (λ n. next_step n interlinks old.start old.forth old.back ≡ Some ((key p).0, new)) none passing.passed.1 in cc)

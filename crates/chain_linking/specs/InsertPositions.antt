@@ -1,48 +1,48 @@
 -- The gap that a kind of insertion gives: the two links that a new one comes between.
 use Rattle.std.specs.Prelude.{◌≡◌, ◌↔◌, ℕ, IsSome, IfSome, Option, None, Some}
 use Rattle.std.specs.Option.{option_map}
-use Rattle.chain_laws.specs.Chains.{Shown, prev_of, next_of}
+use Rattle.chain_laws.specs.Chains.{LinkMap, prev_of, next_of}
 use Rattle.chain_laws.specs.Insertions.{InsertKind, link_before, link_after}
 use Rattle.arena_base.specs.Arena.{Arena}
-use Rattle.chain_links.specs.ChainArena.{LinkSeen, shown, entry}
+use Rattle.chain_links.specs.ChainArena.{LinkView, link_map, entry}
 use Rattle.chain_links.specs.Kinds.{LinkName, HasName, MayInsert, by_index}
-use Rattle.chain_linking.specs.declared.insert_position.Gap.{Gap}
-use Rattle.chain_linking.specs.declared.insert_position.Gap.TheVariants.{Itself, Between}
+use Rattle.chain_linking.specs.declared.insert_position.InsertPosition.{InsertPosition}
+use Rattle.chain_linking.specs.declared.insert_position.InsertPosition.TheVariants.{Itself, Between}
 
 module _ {I : Type 0} (number : I → ℕ) where
   -- the two links beside a new one at q
-  abbrev pub before_in : Gap I → ℕ → Option ℕ
+  abbrev pub before_in : InsertPosition I → ℕ → Option ℕ
   before_in Itself q = Some q
   before_in (Between u v) q = option_map number u
 
-  abbrev pub after_in : Gap I → ℕ → Option ℕ
+  abbrev pub after_in : InsertPosition I → ℕ → Option ℕ
   after_in Itself q = Some q
   after_in (Between u v) q = option_map number v
 
   -- the links that the new one names before its index is known
-  abbrev pub named_before : Gap I → Option ℕ
+  abbrev pub named_before : InsertPosition I → Option ℕ
   named_before Itself = None
   named_before (Between u v) = option_map number u
 
-  abbrev pub named_after : Gap I → Option ℕ
+  abbrev pub named_after : InsertPosition I → Option ℕ
   named_after Itself = None
   named_after (Between u v) = option_map number v
 
   -- the answer is the gap of the kind, where that may be inserted
-  pub record IsGapOf {Gen T : Type 0} (entry : ℕ → Option (Gen × T)) (interlinks : Shown) (kind : InsertKind (LinkName Gen)) (answer : Option (Gap I)) : Type 0 where
+  pub record IsPositionOf {Gen T : Type 0} (entry : ℕ → Option (Gen × T)) (interlinks : LinkMap) (kind : InsertKind (LinkName Gen)) (answer : Option (InsertPosition I)) : Type 0 where
     pub some : IsSome answer ↔ MayInsert entry interlinks kind
     pub before : IfSome answer (λ gap. (q : ℕ) → before_in gap q ≡ link_before interlinks (by_index kind) q)
     pub after : IfSome answer (λ gap. (q : ℕ) → after_in gap q ≡ link_after interlinks (by_index kind) q)
 
   module _ {Gen T : Type 0} where
     -- .. in an arena of links
-    abbrev pub IsGapIn : Arena Gen (LinkSeen T) → InsertKind (LinkName Gen) → Option (Gap I) → Type 0
-    IsGapIn a kind answer = IsGapOf (entry a) (shown a) kind answer
+    abbrev pub IsPositionIn : Arena Gen (LinkView T) → InsertKind (LinkName Gen) → Option (InsertPosition I) → Type 0
+    IsPositionIn a kind answer = IsPositionOf (entry a) (link_map a) kind answer
 
     -- where a link has the name, the answer is the index of the link after it
-    abbrev pub IsNextOf : Arena Gen (LinkSeen T) → LinkName Gen → Option I → Type 0
-    IsNextOf a name answer = HasName (entry a) name → option_map number answer ≡ next_of (shown a) name.0
+    abbrev pub IsNextOf : Arena Gen (LinkView T) → LinkName Gen → Option I → Type 0
+    IsNextOf a name answer = HasName (entry a) name → option_map number answer ≡ next_of (link_map a) name.0
 
     -- .. and of the link before it
-    abbrev pub IsPrevOf : Arena Gen (LinkSeen T) → LinkName Gen → Option I → Type 0
-    IsPrevOf a name answer = HasName (entry a) name → option_map number answer ≡ prev_of (shown a) name.0
+    abbrev pub IsPrevOf : Arena Gen (LinkView T) → LinkName Gen → Option I → Type 0
+    IsPrevOf a name answer = HasName (entry a) name → option_map number answer ≡ prev_of (link_map a) name.0

@@ -2,8 +2,8 @@
 ghost use Rattle.std.specs.Prelude.{◌≡◌, ◌↔◌, IsTrue, IsSome, IfSome, IfNone, OnSome, Some, None};
 ghost use Rattle.std.specs.Option.{option_map};
 ghost use Rattle.chain_laws.specs.Chains.{HasLink};
-ghost use Rattle.chain_links.specs.ChainArena.{shown, entry, CanConnect};
-ghost use Rattle.chain_links.specs.Links.{seen_links};
+ghost use Rattle.chain_links.specs.ChainArena.{link_map, entry, CanConnect};
+ghost use Rattle.chain_links.specs.Links.{links_view};
 ghost use Rattle.chain_linking.specs.LinkWrites.{next_written, linked_up, IsValidEnd, IsValidStart};
 
 use crate::link_writes;
@@ -16,8 +16,8 @@ pub fn is_end<P: PtrKey, T: Drop, S: SlotStack<Item = ArenaSlot<P, LinkNoGen<P, 
     arena: &Arena<P, LinkNoGen<P, T>, S>,
     p: P,
 ) -> bool
-    ensures { IsTrue result ↔ IsValidEnd (entry (seen_links P.Inx.packed_number arena.now))
-        (shown (seen_links P.Inx.packed_number arena.now)) (P.key p) }
+    ensures { IsTrue result ↔ IsValidEnd (entry (links_view P.Inx.packed_number arena.now))
+        (link_map (links_view P.Inx.packed_number arena.now)) (P.key p) }
 {
     match arena.get(p) {
         Some(link) => link.next().is_none(),
@@ -30,8 +30,8 @@ pub fn is_start<P: PtrKey, T: Drop, S: SlotStack<Item = ArenaSlot<P, LinkNoGen<P
     arena: &Arena<P, LinkNoGen<P, T>, S>,
     p: P,
 ) -> bool
-    ensures { IsTrue result ↔ IsValidStart (entry (seen_links P.Inx.packed_number arena.now))
-        (shown (seen_links P.Inx.packed_number arena.now)) (P.key p) }
+    ensures { IsTrue result ↔ IsValidStart (entry (links_view P.Inx.packed_number arena.now))
+        (link_map (links_view P.Inx.packed_number arena.now)) (P.key p) }
 {
     match arena.get(p) {
         Some(link) => link.prev().is_none(),
@@ -45,10 +45,10 @@ fn standing_at<P: PtrKey, T: Drop, S: SlotStack<Item = ArenaSlot<P, LinkNoGen<P,
     i: Option<P::Inx>,
 ) -> Option<P::Inx>
     ensures stands { IfSome (option_map P.Inx.number result)
-        (HasLink (shown (seen_links P.Inx.packed_number arena.now))) }
+        (HasLink (link_map (links_view P.Inx.packed_number arena.now))) }
     ensures some { OnSome result (option_map P.Inx.number result ≡ option_map P.Inx.number i) }
     ensures none { IfNone result
-        (IfSome (option_map P.Inx.number i) (λ n. shown (seen_links P.Inx.packed_number arena.now) n
+        (IfSome (option_map P.Inx.number i) (λ n. link_map (links_view P.Inx.packed_number arena.now) n
         ≡ None)) }
 {
     match i {
@@ -66,8 +66,8 @@ fn set_next<P: PtrKey, T: Drop, S: SlotStack<Item = ArenaSlot<P, LinkNoGen<P, T>
     i: Option<P::Inx>,
     next: Option<P::Inx>,
 )
-    ensures { seen_links P.Inx.packed_number arena.new ≡ next_written
-        (seen_links P.Inx.packed_number arena.old) (option_map P.Inx.number i)
+    ensures { links_view P.Inx.packed_number arena.new ≡ next_written
+        (links_view P.Inx.packed_number arena.old) (option_map P.Inx.number i)
         (option_map P.Inx.number next) }
 {
     let i = standing_at(arena, i);
@@ -81,8 +81,8 @@ fn take_back<P: PtrKey, T: Drop, S: SlotStack<Item = ArenaSlot<P, LinkNoGen<P, T
     arena: &mut Arena<P, LinkNoGen<P, T>, S>,
     i: P::Inx,
 )
-    ensures { seen_links P.Inx.packed_number arena.new ≡ next_written
-        (seen_links P.Inx.packed_number arena.old) (Some (P.Inx.number i)) None }
+    ensures { links_view P.Inx.packed_number arena.new ≡ next_written
+        (links_view P.Inx.packed_number arena.old) (Some (P.Inx.number i)) None }
 {
     set_next(arena, Some(i), None);
 }
@@ -94,12 +94,12 @@ pub fn join<P: PtrKey, T: Drop, S: SlotStack<Item = ArenaSlot<P, LinkNoGen<P, T>
     p: P,
     q: P,
 ) -> Option<()>
-    ensures some { IsSome result ↔ CanConnect (entry (seen_links P.Inx.packed_number arena.old))
-        (shown (seen_links P.Inx.packed_number arena.old)) (P.key p) (P.key q) }
-    ensures joined { OnSome result (seen_links P.Inx.packed_number arena.new ≡ linked_up
-        (seen_links P.Inx.packed_number arena.old) (Some (P.key p).0) (Some (P.key q).0)) }
-    ensures none { IfNone result (seen_links P.Inx.packed_number arena.new
-        ≡ seen_links P.Inx.packed_number arena.old) }
+    ensures some { IsSome result ↔ CanConnect (entry (links_view P.Inx.packed_number arena.old))
+        (link_map (links_view P.Inx.packed_number arena.old)) (P.key p) (P.key q) }
+    ensures joined { OnSome result (links_view P.Inx.packed_number arena.new ≡ linked_up
+        (links_view P.Inx.packed_number arena.old) (Some (P.key p).0) (Some (P.key q).0)) }
+    ensures none { IfNone result (links_view P.Inx.packed_number arena.new
+        ≡ links_view P.Inx.packed_number arena.old) }
 {
     let (i, j) = (p.inx(), q.inx());
     if !is_end(arena, p) {

@@ -1,10 +1,10 @@
 // Whether the interlinks of an arena of links agree.
 ghost use Rattle.std.specs.Prelude.{◌≡◌, ◌↔◌, IsTrue};
 ghost use Rattle.std.specs.Option.{option_map};
-ghost use Rattle.chain_laws.specs.Chains.{Agrees, prev_of, next_of};
-ghost use Rattle.chain_linking.specs.Consistency.{AgreesForth, AgreesBack, AgreesAt};
-ghost use Rattle.chain_links.specs.ChainArena.{shown};
-ghost use Rattle.chain_links.specs.Links.{seen_links};
+ghost use Rattle.chain_laws.specs.Chains.{IsWellLinked, prev_of, next_of};
+ghost use Rattle.chain_linking.specs.Consistency.{IsWellLinkedForth, IsWellLinkedBack, IsWellLinkedAt};
+ghost use Rattle.chain_links.specs.ChainArena.{link_map};
+ghost use Rattle.chain_links.specs.Links.{links_view};
 
 use crate::insert_position::is_index;
 use arena_base::{Arena, ArenaSlot, ArenaTrait, inx_at};
@@ -17,9 +17,9 @@ pub fn neighbors_at<P: PtrKey, T: Drop, S: SlotStack<Item = ArenaSlot<P, LinkNoG
     i: P::Inx,
 ) -> (Option<P::Inx>, Option<P::Inx>)
     ensures prev { option_map P.Inx.number result.0 ≡ prev_of
-        (shown (seen_links P.Inx.packed_number arena.now)) (P.Inx.number i) }
+        (link_map (links_view P.Inx.packed_number arena.now)) (P.Inx.number i) }
     ensures next { option_map P.Inx.number result.1 ≡ next_of
-        (shown (seen_links P.Inx.packed_number arena.now)) (P.Inx.number i) }
+        (link_map (links_view P.Inx.packed_number arena.now)) (P.Inx.number i) }
 {
     match arena.get_inx(i) {
         Some((_, link)) => link.prev_next(),
@@ -32,7 +32,7 @@ pub fn agrees_forth<P: PtrKey, T: Drop, S: SlotStack<Item = ArenaSlot<P, LinkNoG
     arena: &Arena<P, LinkNoGen<P, T>, S>,
     i: P::Inx,
 ) -> bool
-    ensures { IsTrue result ↔ AgreesForth (shown (seen_links P.Inx.packed_number arena.now))
+    ensures { IsTrue result ↔ IsWellLinkedForth (link_map (links_view P.Inx.packed_number arena.now))
         (P.Inx.number i) }
 {
     match neighbors_at(arena, i).1 {
@@ -46,7 +46,7 @@ fn agrees_back<P: PtrKey, T: Drop, S: SlotStack<Item = ArenaSlot<P, LinkNoGen<P,
     arena: &Arena<P, LinkNoGen<P, T>, S>,
     i: P::Inx,
 ) -> bool
-    ensures { IsTrue result ↔ AgreesBack (shown (seen_links P.Inx.packed_number arena.now))
+    ensures { IsTrue result ↔ IsWellLinkedBack (link_map (links_view P.Inx.packed_number arena.now))
         (P.Inx.number i) }
 {
     match neighbors_at(arena, i).0 {
@@ -60,7 +60,7 @@ pub fn agrees_at<P: PtrKey, T: Drop, S: SlotStack<Item = ArenaSlot<P, LinkNoGen<
     arena: &Arena<P, LinkNoGen<P, T>, S>,
     i: P::Inx,
 ) -> bool
-    ensures { IsTrue result ↔ AgreesAt (shown (seen_links P.Inx.packed_number arena.now))
+    ensures { IsTrue result ↔ IsWellLinkedAt (link_map (links_view P.Inx.packed_number arena.now))
         (P.Inx.number i) }
 {
     agrees_forth(arena, i) && agrees_back(arena, i)
@@ -73,7 +73,7 @@ pub fn agrees_at<P: PtrKey, T: Drop, S: SlotStack<Item = ArenaSlot<P, LinkNoGen<
 pub fn links_agree<P: PtrKey, T: Drop, S: SlotStack<Item = ArenaSlot<P, LinkNoGen<P, T>>>>(
     arena: &Arena<P, LinkNoGen<P, T>, S>,
 ) -> bool
-    ensures { IsTrue result ↔ Agrees (shown (seen_links P.Inx.packed_number arena.now)) }
+    ensures { IsTrue result ↔ IsWellLinked (link_map (links_view P.Inx.packed_number arena.now)) }
 {
     arena.invariants();
     for k in 0..arena.backing().len() {

@@ -2,10 +2,10 @@
 ghost use Rattle.std.specs.Prelude.{◌≡◌, IsTrue, IsSome, IfSome, ◌↔◌, Some, None};
 ghost use Rattle.std.specs.Option.{option_map};
 ghost use Rattle.chain_laws.specs.Insertions.{chain_end, chain_start, next_to, prev_to, at_interlink, bridge};
-ghost use Rattle.chain_links.specs.ChainArena.{shown, entry, interlinks_in};
-ghost use Rattle.chain_links.specs.Links.{seen_links, seen_link};
+ghost use Rattle.chain_links.specs.ChainArena.{link_map, entry, interlinks_in};
+ghost use Rattle.chain_links.specs.Links.{links_view, link_view};
 ghost use Rattle.chain_links.specs.Kinds.{HasName, name_of, named_in};
-ghost use Rattle.chain_linking.specs.InsertPositions.{IsGapIn, IsNextOf, IsPrevOf};
+ghost use Rattle.chain_linking.specs.InsertPositions.{IsPositionIn, IsNextOf, IsPrevOf};
 
 use arena_base::{Arena, ArenaSlot, ArenaTrait};
 use arena_ptr::{InxKey, PtrKey, SlotStack};
@@ -14,7 +14,7 @@ use chain_links::kinds::{Name, NamedKind, index_of};
 
 /// The two links that a new one comes between: itself on both sides, or others, of which each may be missing.
 #[derive(Clone, Copy)]
-pub enum Gap<I> {
+pub enum InsertPosition<I> {
     Itself,
     Between(Option<I>, Option<I>),
 }
@@ -24,11 +24,11 @@ fn find<P: PtrKey, T: Drop, S: SlotStack<Item = ArenaSlot<P, LinkNoGen<P, T>>>>(
     arena: &Arena<P, LinkNoGen<P, T>, S>,
     name: Name<P, P::Inx>,
 ) -> Option<&LinkNoGen<P, T>>
-    ensures some { IsSome result ↔ HasName (entry (seen_links P.Inx.packed_number arena.now))
+    ensures some { IsSome result ↔ HasName (entry (links_view P.Inx.packed_number arena.now))
         (name_of P.key P.Inx.number name) }
-    ensures link { IfSome result (λ link. shown (seen_links P.Inx.packed_number arena.now)
+    ensures link { IfSome result (λ link. link_map (links_view P.Inx.packed_number arena.now)
         (name_of P.key P.Inx.number name).0 ≡ Some
-        (interlinks_in (seen_link P.Inx.packed_number link.now))) }
+        (interlinks_in (link_view P.Inx.packed_number link.now))) }
 {
     match name {
         Name::Pointer(p) => arena.get(p),
@@ -44,9 +44,9 @@ pub fn next_of<P: PtrKey, T: Drop, S: SlotStack<Item = ArenaSlot<P, LinkNoGen<P,
     arena: &Arena<P, LinkNoGen<P, T>, S>,
     name: Name<P, P::Inx>,
 ) -> Option<P::Inx>
-    ensures named { IsNextOf P.Inx.number (seen_links P.Inx.packed_number arena.now)
+    ensures named { IsNextOf P.Inx.number (links_view P.Inx.packed_number arena.now)
         (name_of P.key P.Inx.number name) result }
-    ensures some { IsSome result → HasName (entry (seen_links P.Inx.packed_number arena.now))
+    ensures some { IsSome result → HasName (entry (links_view P.Inx.packed_number arena.now))
         (name_of P.key P.Inx.number name) }
 {
     match find(arena, name) {
@@ -60,9 +60,9 @@ pub fn prev_of<P: PtrKey, T: Drop, S: SlotStack<Item = ArenaSlot<P, LinkNoGen<P,
     arena: &Arena<P, LinkNoGen<P, T>, S>,
     name: Name<P, P::Inx>,
 ) -> Option<P::Inx>
-    ensures named { IsPrevOf P.Inx.number (seen_links P.Inx.packed_number arena.now)
+    ensures named { IsPrevOf P.Inx.number (links_view P.Inx.packed_number arena.now)
         (name_of P.key P.Inx.number name) result }
-    ensures some { IsSome result → HasName (entry (seen_links P.Inx.packed_number arena.now))
+    ensures some { IsSome result → HasName (entry (links_view P.Inx.packed_number arena.now))
         (name_of P.key P.Inx.number name) }
 {
     match find(arena, name) {
@@ -85,14 +85,14 @@ pub fn is_index<I: InxKey>(i: Option<I>, j: I) -> bool
 fn after_end<P: PtrKey, T: Drop, S: SlotStack<Item = ArenaSlot<P, LinkNoGen<P, T>>>>(
     arena: &Arena<P, LinkNoGen<P, T>, S>,
     a: Name<P, P::Inx>,
-) -> Option<Gap<P::Inx>>
-    ensures { IsGapIn P.Inx.number (seen_links P.Inx.packed_number arena.now)
+) -> Option<InsertPosition<P::Inx>>
+    ensures { IsPositionIn P.Inx.number (links_view P.Inx.packed_number arena.now)
         (chain_end (name_of P.key P.Inx.number a)) result }
 {
     match find(arena, a) {
         Some(link) => {
             if link.next().is_none() {
-                Some(Gap::Between(Some(index_of(a)), None))
+                Some(InsertPosition::Between(Some(index_of(a)), None))
             } else {
                 None
             }
@@ -105,14 +105,14 @@ fn after_end<P: PtrKey, T: Drop, S: SlotStack<Item = ArenaSlot<P, LinkNoGen<P, T
 fn before_start<P: PtrKey, T: Drop, S: SlotStack<Item = ArenaSlot<P, LinkNoGen<P, T>>>>(
     arena: &Arena<P, LinkNoGen<P, T>, S>,
     b: Name<P, P::Inx>,
-) -> Option<Gap<P::Inx>>
-    ensures { IsGapIn P.Inx.number (seen_links P.Inx.packed_number arena.now)
+) -> Option<InsertPosition<P::Inx>>
+    ensures { IsPositionIn P.Inx.number (links_view P.Inx.packed_number arena.now)
         (chain_start (name_of P.key P.Inx.number b)) result }
 {
     match find(arena, b) {
         Some(link) => {
             if link.prev().is_none() {
-                Some(Gap::Between(None, Some(index_of(b))))
+                Some(InsertPosition::Between(None, Some(index_of(b))))
             } else {
                 None
             }
@@ -125,12 +125,12 @@ fn before_start<P: PtrKey, T: Drop, S: SlotStack<Item = ArenaSlot<P, LinkNoGen<P
 fn after<P: PtrKey, T: Drop, S: SlotStack<Item = ArenaSlot<P, LinkNoGen<P, T>>>>(
     arena: &Arena<P, LinkNoGen<P, T>, S>,
     a: Name<P, P::Inx>,
-) -> Option<Gap<P::Inx>>
-    ensures { IsGapIn P.Inx.number (seen_links P.Inx.packed_number arena.now)
+) -> Option<InsertPosition<P::Inx>>
+    ensures { IsPositionIn P.Inx.number (links_view P.Inx.packed_number arena.now)
         (next_to (name_of P.key P.Inx.number a)) result }
 {
     match find(arena, a) {
-        Some(link) => Some(Gap::Between(Some(index_of(a)), link.next())),
+        Some(link) => Some(InsertPosition::Between(Some(index_of(a)), link.next())),
         None => None,
     }
 }
@@ -139,12 +139,12 @@ fn after<P: PtrKey, T: Drop, S: SlotStack<Item = ArenaSlot<P, LinkNoGen<P, T>>>>
 fn before<P: PtrKey, T: Drop, S: SlotStack<Item = ArenaSlot<P, LinkNoGen<P, T>>>>(
     arena: &Arena<P, LinkNoGen<P, T>, S>,
     b: Name<P, P::Inx>,
-) -> Option<Gap<P::Inx>>
-    ensures { IsGapIn P.Inx.number (seen_links P.Inx.packed_number arena.now)
+) -> Option<InsertPosition<P::Inx>>
+    ensures { IsPositionIn P.Inx.number (links_view P.Inx.packed_number arena.now)
         (prev_to (name_of P.key P.Inx.number b)) result }
 {
     match find(arena, b) {
-        Some(link) => Some(Gap::Between(link.prev(), Some(index_of(b)))),
+        Some(link) => Some(InsertPosition::Between(link.prev(), Some(index_of(b)))),
         None => None,
     }
 }
@@ -154,14 +154,14 @@ fn between<P: PtrKey, T: Drop, S: SlotStack<Item = ArenaSlot<P, LinkNoGen<P, T>>
     arena: &Arena<P, LinkNoGen<P, T>, S>,
     a: Name<P, P::Inx>,
     b: Name<P, P::Inx>,
-) -> Option<Gap<P::Inx>>
-    ensures { IsGapIn P.Inx.number (seen_links P.Inx.packed_number arena.now)
+) -> Option<InsertPosition<P::Inx>>
+    ensures { IsPositionIn P.Inx.number (links_view P.Inx.packed_number arena.now)
         (at_interlink (name_of P.key P.Inx.number a) (name_of P.key P.Inx.number b)) result }
 {
     match find(arena, a) {
         Some(link) => {
             if is_index(link.next(), index_of(b)) && find(arena, b).is_some() {
-                Some(Gap::Between(Some(index_of(a)), Some(index_of(b))))
+                Some(InsertPosition::Between(Some(index_of(a)), Some(index_of(b))))
             } else {
                 None
             }
@@ -175,12 +175,12 @@ fn bridging<P: PtrKey, T: Drop, S: SlotStack<Item = ArenaSlot<P, LinkNoGen<P, T>
     arena: &Arena<P, LinkNoGen<P, T>, S>,
     a: Name<P, P::Inx>,
     b: Name<P, P::Inx>,
-) -> Option<Gap<P::Inx>>
-    ensures { IsGapIn P.Inx.number (seen_links P.Inx.packed_number arena.now)
+) -> Option<InsertPosition<P::Inx>>
+    ensures { IsPositionIn P.Inx.number (links_view P.Inx.packed_number arena.now)
         (bridge (name_of P.key P.Inx.number a) (name_of P.key P.Inx.number b)) result }
 {
     if after_end(arena, a).is_some() && before_start(arena, b).is_some() {
-        Some(Gap::Between(Some(index_of(a)), Some(index_of(b))))
+        Some(InsertPosition::Between(Some(index_of(a)), Some(index_of(b))))
     } else {
         None
     }
@@ -191,13 +191,13 @@ fn bridging<P: PtrKey, T: Drop, S: SlotStack<Item = ArenaSlot<P, LinkNoGen<P, T>
 pub fn gap_of<P: PtrKey, T: Drop, S: SlotStack<Item = ArenaSlot<P, LinkNoGen<P, T>>>>(
     arena: &Arena<P, LinkNoGen<P, T>, S>,
     kind: NamedKind<Name<P, P::Inx>>,
-) -> Option<Gap<P::Inx>>
-    ensures { IsGapIn P.Inx.number (seen_links P.Inx.packed_number arena.now)
+) -> Option<InsertPosition<P::Inx>>
+    ensures { IsPositionIn P.Inx.number (links_view P.Inx.packed_number arena.now)
         (named_in P.key P.Inx.number kind) result }
 {
     match kind {
-        NamedKind::Disconnected => Some(Gap::Between(None, None)),
-        NamedKind::SingleLinkCyclic => Some(Gap::Itself),
+        NamedKind::Disconnected => Some(InsertPosition::Between(None, None)),
+        NamedKind::SingleLinkCyclic => Some(InsertPosition::Itself),
         NamedKind::ChainEnd(a) => after_end(arena, a),
         NamedKind::ChainStart(b) => before_start(arena, b),
         NamedKind::NextTo(a) => after(arena, a),

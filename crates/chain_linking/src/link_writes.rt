@@ -3,13 +3,13 @@ ghost use Rattle.std.specs.Prelude.{◌≡◌, IsSome, IfSome, None};
 ghost use Rattle.std.specs.Option.{option_map, option_and_then};
 ghost use Rattle.arena_ptr.specs.Invalidation.{value_within, invalidation_result};
 ghost use Rattle.arena_base.specs.Arena.{entry_at};
-ghost use Rattle.chain_laws.specs.Chains.{Agrees, HasLink};
-ghost use Rattle.chain_links.specs.ChainArena.{shown, remove_link, entry, named_by, ptr_at};
-ghost use Rattle.chain_links.specs.Links.{seen_links, seen_pair};
+ghost use Rattle.chain_laws.specs.Chains.{IsWellLinked, HasLink};
+ghost use Rattle.chain_links.specs.ChainArena.{link_map, remove_link, entry, named_by, ptr_at};
+ghost use Rattle.chain_links.specs.Links.{links_view, pair_view};
 ghost use Rattle.chain_linking.specs.InsertPositions.{before_in, after_in};
 ghost use Rattle.chain_linking.specs.LinkWrites.{next_written, prev_written, linked_up, linked_twice, numbers, WereBeside};
 
-use crate::insert_position::Gap;
+use crate::insert_position::InsertPosition;
 use crate::new_link::around;
 use arena_base::{Arena, ArenaSlot, ArenaTrait, excluded, outcome};
 use arena_ptr::{InvalidationResult, InxKey, PtrKey, SlotStack};
@@ -21,9 +21,9 @@ pub fn neighbor<P: PtrKey, T: Drop, S: SlotStack<Item = ArenaSlot<P, LinkNoGen<P
     i: Option<P::Inx>,
 ) -> Option<P>
     requires { IfSome (option_map P.Inx.number i)
-        (HasLink (shown (seen_links P.Inx.packed_number arena.now))) }
+        (HasLink (link_map (links_view P.Inx.packed_number arena.now))) }
     ensures { option_map P.key result ≡ option_and_then
-        (ptr_at (entry (seen_links P.Inx.packed_number arena.now))) (option_map P.Inx.number i) }
+        (ptr_at (entry (links_view P.Inx.packed_number arena.now))) (option_map P.Inx.number i) }
 {
     match i {
         Some(i) => match arena.get_inx(i) {
@@ -41,9 +41,9 @@ pub fn set_next<P: PtrKey, T: Drop, S: SlotStack<Item = ArenaSlot<P, LinkNoGen<P
     next: Option<P::Inx>,
 )
     requires { IfSome (option_map P.Inx.number i)
-        (HasLink (shown (seen_links P.Inx.packed_number arena.old))) }
-    ensures { seen_links P.Inx.packed_number arena.new ≡ next_written
-        (seen_links P.Inx.packed_number arena.old) (option_map P.Inx.number i)
+        (HasLink (link_map (links_view P.Inx.packed_number arena.old))) }
+    ensures { links_view P.Inx.packed_number arena.new ≡ next_written
+        (links_view P.Inx.packed_number arena.old) (option_map P.Inx.number i)
         (option_map P.Inx.number next) }
 {
     match i {
@@ -62,9 +62,9 @@ pub fn set_prev<P: PtrKey, T: Drop, S: SlotStack<Item = ArenaSlot<P, LinkNoGen<P
     prev: Option<P::Inx>,
 )
     requires { IfSome (option_map P.Inx.number i)
-        (HasLink (shown (seen_links P.Inx.packed_number arena.old))) }
-    ensures { seen_links P.Inx.packed_number arena.new ≡ prev_written
-        (seen_links P.Inx.packed_number arena.old) (option_map P.Inx.number i)
+        (HasLink (link_map (links_view P.Inx.packed_number arena.old))) }
+    ensures { links_view P.Inx.packed_number arena.new ≡ prev_written
+        (links_view P.Inx.packed_number arena.old) (option_map P.Inx.number i)
         (option_map P.Inx.number prev) }
 {
     match i {
@@ -83,11 +83,11 @@ pub fn link_up<P: PtrKey, T: Drop, S: SlotStack<Item = ArenaSlot<P, LinkNoGen<P,
     next: Option<P::Inx>,
 )
     requires prev { IfSome (option_map P.Inx.number prev)
-        (HasLink (shown (seen_links P.Inx.packed_number arena.old))) }
+        (HasLink (link_map (links_view P.Inx.packed_number arena.old))) }
     requires next { IfSome (option_map P.Inx.number next)
-        (HasLink (shown (seen_links P.Inx.packed_number arena.old))) }
-    ensures { seen_links P.Inx.packed_number arena.new ≡ linked_up
-        (seen_links P.Inx.packed_number arena.old) (option_map P.Inx.number prev)
+        (HasLink (link_map (links_view P.Inx.packed_number arena.old))) }
+    ensures { links_view P.Inx.packed_number arena.new ≡ linked_up
+        (links_view P.Inx.packed_number arena.old) (option_map P.Inx.number prev)
         (option_map P.Inx.number next) }
 {
     set_next(arena, prev, next);
@@ -101,15 +101,15 @@ pub fn link_twice<P: PtrKey, T: Drop, S: SlotStack<Item = ArenaSlot<P, LinkNoGen
     second: (Option<P::Inx>, Option<P::Inx>),
 )
     requires first_prev { IfSome (option_map P.Inx.number first.0)
-        (HasLink (shown (seen_links P.Inx.packed_number arena.old))) }
+        (HasLink (link_map (links_view P.Inx.packed_number arena.old))) }
     requires first_next { IfSome (option_map P.Inx.number first.1)
-        (HasLink (shown (seen_links P.Inx.packed_number arena.old))) }
+        (HasLink (link_map (links_view P.Inx.packed_number arena.old))) }
     requires second_prev { IfSome (option_map P.Inx.number second.0)
-        (HasLink (shown (seen_links P.Inx.packed_number arena.old))) }
+        (HasLink (link_map (links_view P.Inx.packed_number arena.old))) }
     requires second_next { IfSome (option_map P.Inx.number second.1)
-        (HasLink (shown (seen_links P.Inx.packed_number arena.old))) }
-    ensures { seen_links P.Inx.packed_number arena.new ≡ linked_twice
-        (seen_links P.Inx.packed_number arena.old) (numbers P.Inx.number first)
+        (HasLink (link_map (links_view P.Inx.packed_number arena.old))) }
+    ensures { links_view P.Inx.packed_number arena.new ≡ linked_twice
+        (links_view P.Inx.packed_number arena.old) (numbers P.Inx.number first)
         (numbers P.Inx.number second) }
 {
     link_up(arena, first.0, first.1);
@@ -119,15 +119,15 @@ pub fn link_twice<P: PtrKey, T: Drop, S: SlotStack<Item = ArenaSlot<P, LinkNoGen
 /// The links of a gap name the new one.
 pub fn tie<P: PtrKey, T: Drop, S: SlotStack<Item = ArenaSlot<P, LinkNoGen<P, T>>>>(
     arena: &mut Arena<P, LinkNoGen<P, T>, S>,
-    gap: Gap<P::Inx>,
+    gap: InsertPosition<P::Inx>,
     p: P,
 )
     requires before { IfSome (before_in P.Inx.number gap (P.key p).0)
-        (HasLink (shown (seen_links P.Inx.packed_number arena.old))) }
+        (HasLink (link_map (links_view P.Inx.packed_number arena.old))) }
     requires after { IfSome (after_in P.Inx.number gap (P.key p).0)
-        (HasLink (shown (seen_links P.Inx.packed_number arena.old))) }
-    ensures { seen_links P.Inx.packed_number arena.new ≡ named_by
-        (seen_links P.Inx.packed_number arena.old)
+        (HasLink (link_map (links_view P.Inx.packed_number arena.old))) }
+    ensures { links_view P.Inx.packed_number arena.new ≡ named_by
+        (links_view P.Inx.packed_number arena.old)
         (before_in P.Inx.number gap (P.key p).0) (after_in P.Inx.number gap (P.key p).0)
         (P.key p).0 }
 {
@@ -144,10 +144,10 @@ fn close_over<P: PtrKey, T: Drop, S: SlotStack<Item = ArenaSlot<P, LinkNoGen<P, 
     prev: Option<P::Inx>,
     next: Option<P::Inx>,
 )
-    requires { WereBeside (shown (seen_links P.Inx.packed_number arena.old)) (P.Inx.number i)
+    requires { WereBeside (link_map (links_view P.Inx.packed_number arena.old)) (P.Inx.number i)
         (option_map P.Inx.number prev) (option_map P.Inx.number next) }
-    ensures { seen_links P.Inx.packed_number arena.new ≡ linked_up
-        (seen_links P.Inx.packed_number arena.old) (option_map P.Inx.number prev)
+    ensures { links_view P.Inx.packed_number arena.new ≡ linked_up
+        (links_view P.Inx.packed_number arena.old) (option_map P.Inx.number prev)
         (option_map P.Inx.number next) }
 {
     match prev {
@@ -165,13 +165,13 @@ pub fn take_out<P: PtrKey, T: Drop, S: SlotStack<Item = ArenaSlot<P, LinkNoGen<P
     arena: &mut Arena<P, LinkNoGen<P, T>, S>,
     i: P::Inx,
 ) -> InvalidationResult<(P::Gen, LinkNoGen<P, T>)>
-    requires { Agrees (shown (seen_links P.Inx.packed_number arena.old)) }
-    ensures answer { option_map (seen_pair P.Inx.packed_number) (value_within result) ≡ entry_at
-        (seen_links P.Inx.packed_number arena.old) (P.Inx.number i) }
+    requires { IsWellLinked (link_map (links_view P.Inx.packed_number arena.old)) }
+    ensures answer { option_map (pair_view P.Inx.packed_number) (value_within result) ≡ entry_at
+        (links_view P.Inx.packed_number arena.old) (P.Inx.number i) }
     ensures overflow { result ≡ invalidation_result (P.Gen.wraps arena.old.counter)
         (value_within result) }
-    ensures valid { IsSome (value_within result) → seen_links P.Inx.packed_number arena.new
-        ≡ remove_link P.Gen.following (seen_links P.Inx.packed_number arena.old) (P.Inx.number i) }
+    ensures valid { IsSome (value_within result) → links_view P.Inx.packed_number arena.new
+        ≡ remove_link P.Gen.following (links_view P.Inx.packed_number arena.old) (P.Inx.number i) }
     ensures invalid { value_within result ≡ None → arena.new ≡ arena.old }
 {
     let (entry, overflow) = arena.remove_inx(i).overflowing();

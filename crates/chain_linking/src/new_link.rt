@@ -2,31 +2,31 @@
 ghost use Rattle.std.specs.Prelude.{◌≡◌};
 ghost use Rattle.std.specs.Option.{option_map};
 ghost use Rattle.chain_links.specs.ChainArena.{new_link};
-ghost use Rattle.chain_links.specs.Links.{seen_link};
+ghost use Rattle.chain_links.specs.Links.{link_view};
 ghost use Rattle.chain_linking.specs.InsertPositions.{before_in, after_in, named_before, named_after};
 
-use crate::insert_position::Gap;
+use crate::insert_position::InsertPosition;
 use arena_ptr::{InxKey, PtrKey};
 use chain_links::{LinkBody, LinkNoGen};
 
 /// The new link of a gap. Where it is its own neighbor it names none yet, since its index is not known.
-pub fn link_in<P: PtrKey, T>(gap: Gap<P::Inx>, t: T) -> LinkNoGen<P, T>
-    ensures { seen_link P.Inx.packed_number result ≡ new_link t (named_before P.Inx.number gap)
+pub fn link_in<P: PtrKey, T>(gap: InsertPosition<P::Inx>, t: T) -> LinkNoGen<P, T>
+    ensures { link_view P.Inx.packed_number result ≡ new_link t (named_before P.Inx.number gap)
         (named_after P.Inx.number gap) }
 {
     match gap {
-        Gap::Itself => LinkBody::new((None, None), t),
-        Gap::Between(prev, next) => LinkBody::new((prev, next), t),
+        InsertPosition::Itself => LinkBody::new((None, None), t),
+        InsertPosition::Between(prev, next) => LinkBody::new((prev, next), t),
     }
 }
 
 /// The links beside a new one at an index.
-pub fn around<I: InxKey>(gap: Gap<I>, i: I) -> (Option<I>, Option<I>)
+pub fn around<I: InxKey>(gap: InsertPosition<I>, i: I) -> (Option<I>, Option<I>)
     ensures before { option_map I.number result.0 ≡ before_in I.number gap (I.number i) }
     ensures after { option_map I.number result.1 ≡ after_in I.number gap (I.number i) }
 {
     match gap {
-        Gap::Itself => (Some(i), Some(i)),
-        Gap::Between(prev, next) => (prev, next),
+        InsertPosition::Itself => (Some(i), Some(i)),
+        InsertPosition::Between(prev, next) => (prev, next),
     }
 }

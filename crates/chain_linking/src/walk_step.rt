@@ -3,8 +3,8 @@ ghost use Rattle.std.specs.Prelude.{◌≡◌, IfSome, IfNone};
 ghost use Rattle.std.specs.Option.{option_map};
 ghost use Rattle.arena_base.specs.Arena.{entry_at, IsValid};
 ghost use Rattle.chain_links.specs.ChainArena.{entry};
-ghost use Rattle.chain_links.specs.Links.{seen_links};
-ghost use Rattle.chain_links.specs.Walkers.{seen_item, index_and_entry};
+ghost use Rattle.chain_links.specs.Links.{links_view};
+ghost use Rattle.chain_links.specs.Walkers.{item_view, index_and_entry};
 ghost use Rattle.chain_linking.specs.WalkSteps.{Passes, PassesNothing};
 
 use arena_base::{Arena, ArenaSlot, ArenaTrait};
@@ -17,11 +17,11 @@ pub fn look<P: PtrKey, T: Drop, S: SlotStack<Item = ArenaSlot<P, LinkNoGen<P, T>
     arena: &Arena<P, LinkNoGen<P, T>, S>,
     i: P::Inx,
 ) -> Option<(P, &LinkNoGen<P, T>)>
-    ensures link { option_map (seen_item P.key P.Inx.packed_number) result ≡ option_map
-        (index_and_entry (P.Inx.number i)) (entry_at (seen_links P.Inx.packed_number arena.now)
+    ensures link { option_map (item_view P.key P.Inx.packed_number) result ≡ option_map
+        (index_and_entry (P.Inx.number i)) (entry_at (links_view P.Inx.packed_number arena.now)
         (P.Inx.number i)) }
     ensures valid { IfSome result
-        (λ item. IsValid (entry (seen_links P.Inx.packed_number arena.now)) (P.key item.0)) }
+        (λ item. IsValid (entry (links_view P.Inx.packed_number arena.now)) (P.key item.0)) }
 {
     match arena.get_inx(i) {
         Some((generation, link)) => Some((P::_from_raw(i, generation), link)),
@@ -36,13 +36,13 @@ pub fn step<P: PtrKey, T: Drop, S: SlotStack<Item = ArenaSlot<P, LinkNoGen<P, T>
     forth: Option<P::Inx>,
     back: Option<P::Inx>,
 ) -> Option<(P, Option<P::Inx>, Option<P::Inx>)>
-    ensures valid { IfSome result (λ s. IsValid (entry (seen_links P.Inx.packed_number arena.now))
+    ensures valid { IfSome result (λ s. IsValid (entry (links_view P.Inx.packed_number arena.now))
         (P.key s.0)) }
     ensures some { IfSome result
-        (λ s. Passes P.Inx.number (seen_links P.Inx.packed_number arena.now) start forth back
+        (λ s. Passes P.Inx.number (links_view P.Inx.packed_number arena.now) start forth back
         (P.key s.0).0 s.1 s.2) }
     ensures none { IfNone result
-        (PassesNothing P.Inx.number (seen_links P.Inx.packed_number arena.now) start forth back) }
+        (PassesNothing P.Inx.number (links_view P.Inx.packed_number arena.now) start forth back) }
 {
     match forth {
         Some(i) => match look(arena, i) {

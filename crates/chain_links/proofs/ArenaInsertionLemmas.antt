@@ -8,9 +8,9 @@ use Rattle.chain_laws.specs.Chains.{Interlinks, HasLink, HasLinksWithin}
 use Rattle.chain_laws.specs.Joins.{with_lone}
 use Rattle.chain_laws.proofs.InterlinkLemmas.Inverses.{if_same, if_other}
 use Rattle.chain_links.specs.declared.links.LinkBody.{LinkBody}
-use Rattle.chain_links.specs.Links.{seen_link, seen_links}
-use Rattle.arena_base.specs.Arena.{Arena, slot_at, with_slot, filled, first_or_next, Has, IsListed, entry_at, entry_count, next_index, insert_next, with_capacity_of}
-use Rattle.chain_links.specs.ChainArena.{LinkSeen, link_value, values_of, shown, IsInserted, interlinks_of, lone, insert_lone}
+use Rattle.chain_links.specs.Links.{link_view, links_view}
+use Rattle.arena_base.specs.Arena.{Arena, slot_at, with_slot, filled, first_or_next, IsMember, IsListed, entry_at, entry_count, next_index, insert_next, with_capacity_of}
+use Rattle.chain_links.specs.ChainArena.{LinkView, link_value, values_of, link_map, IsInserted, interlinks_of, lone, insert_lone}
 use Rattle.arena_base.specs.Entries.{entries, count_with_next}
 use Rattle.arena_base.proofs.ArenaViewLemmas.{length-entries}
 use Rattle.chain_links.proofs.MappedArenaLemmas.{with_each-insert_next, entry_count-with_each, length-with_each, listed-with_each}
@@ -61,7 +61,7 @@ slot_at-written slots (suc k) (suc j) x some inside = slice_index_or-written slo
 
 -- the freed indexes are those of free slots
 abbrev pub AreFree : {X : Type 0} → List (Option X) → List ℕ → Type 0
-AreFree slots freed = (i : ℕ) → Has freed i → (slot_at slots i ≡ None) × (1 ≤ i) × (i ≤ length slots)
+AreFree slots freed = (i : ℕ) → IsMember freed i → (slot_at slots i ≡ None) × (1 ≤ i) × (i ≤ length slots)
 
 -- what an insertion leaves at each index
 pub slot_at-filled : {X : Type 0} (freed : List ℕ) (slots : List (Option X)) (x : X) (j : ℕ) → AreFree slots freed
@@ -83,21 +83,21 @@ slot_at-next (i ∷ freed) slots free = (free i (inl refl)).0
 
 module _ {Gen T : Type 0} where
   -- no link stands at the next index yet
-  pub shown-next : (a : Arena Gen (LinkSeen T)) → AreFree a.slots a.freed → shown a (next_index a) ≡ None
-  shown-next a free = ap (option_map interlinks_of) (slot_at-next a.freed a.slots free)
+  pub link_map-next : (a : Arena Gen (LinkView T)) → AreFree a.slots a.freed → link_map a (next_index a) ≡ None
+  link_map-next a free = ap (option_map interlinks_of) (slot_at-next a.freed a.slots free)
 
-  pub map-if : (b : Bool) (x y : Option (Gen × LinkSeen T)) → option_map interlinks_of (if b then x else y) ≡ (if b then option_map interlinks_of x else option_map interlinks_of y)
+  pub map-if : (b : Bool) (x y : Option (Gen × LinkView T)) → option_map interlinks_of (if b then x else y) ≡ (if b then option_map interlinks_of x else option_map interlinks_of y)
   map-if true x y = refl
   map-if false x y = refl
 
   -- the arena with a new link shows that link alone beside what it showed
-  pub shown-insert_lone : (a : Arena Gen (LinkSeen T)) (t : T) → AreFree a.slots a.freed → shown (insert_lone a t) ≡ with_lone (shown a) (next_index a)
-  shown-insert_lone a t free = fun_ext (λ i. ap (option_map interlinks_of) (slot_at-filled a.freed a.slots (a.counter, lone t) i free)
+  pub link_map-insert_lone : (a : Arena Gen (LinkView T)) (t : T) → AreFree a.slots a.freed → link_map (insert_lone a t) ≡ with_lone (link_map a) (next_index a)
+  link_map-insert_lone a t free = fun_ext (λ i. ap (option_map interlinks_of) (slot_at-filled a.freed a.slots (a.counter, lone t) i free)
       ∙ map-if (i == next_index a) (Some (a.counter, lone t)) (entry_at a i))
 
   -- every valid index is one of the slots'
-  pub shown-within : (a : Arena Gen (LinkSeen T)) → HasLinksWithin (shown a) (length a.slots)
-  shown-within a = slots-within interlinks_of a.slots
+  pub link_map-within : (a : Arena Gen (LinkView T)) → HasLinksWithin (link_map a) (length a.slots)
+  link_map-within a = slots-within interlinks_of a.slots
 
 module _ {Gen T : Type 0} where
   -- an insertion, entry by entry
@@ -114,30 +114,30 @@ module _ {Gen T : Type 0} where
 
 module _ {Gen T : Type 0} where
   -- there are as many values as links
-  pub values-count : (a : Arena Gen (LinkSeen T)) → length (entries (values_of a)) ≡ entry_count a
+  pub values-count : (a : Arena Gen (LinkView T)) → length (entries (values_of a)) ≡ entry_count a
   values-count a = length-entries (values_of a) ∙ entry_count-with_each link_value a
 
 module _ {Gen K T : Type 0} (number : K → Option ℕ) where
   -- an insertion, seen
-  pub seen_links-insert_next : (a : Arena Gen (LinkBody K T)) (link : LinkBody K T) → seen_links number (insert_next a link) ≡ insert_next (seen_links number a) (seen_link number link)
-  seen_links-insert_next a link = with_each-insert_next (seen_link number) a link
+  pub links_view-insert_next : (a : Arena Gen (LinkBody K T)) (link : LinkBody K T) → links_view number (insert_next a link) ≡ insert_next (links_view number a) (link_view number link)
+  links_view-insert_next a link = with_each-insert_next (link_view number) a link
 
-  pub entry_count-seen_links : (a : Arena Gen (LinkBody K T)) → entry_count (seen_links number a) ≡ entry_count a
-  entry_count-seen_links a = entry_count-with_each (seen_link number) a
+  pub entry_count-links_view : (a : Arena Gen (LinkBody K T)) → entry_count (links_view number a) ≡ entry_count a
+  entry_count-links_view a = entry_count-with_each (link_view number) a
 
-  pub next_index-seen_links : (a : Arena Gen (LinkBody K T)) → next_index (seen_links number a) ≡ next_index a
-  next_index-seen_links a = ap (first_or_next a.freed) (length-with_each (seen_link number) a)
+  pub next_index-links_view : (a : Arena Gen (LinkBody K T)) → next_index (links_view number a) ≡ next_index a
+  next_index-links_view a = ap (first_or_next a.freed) (length-with_each (link_view number) a)
 
   -- the arena of values lists its free slots too
-  pub listed-seen_links : (a : Arena Gen (LinkBody K T)) → IsListed a → IsListed (seen_links number a)
-  listed-seen_links a listed = listed-with_each (seen_link number) a listed
+  pub listed-links_view : (a : Arena Gen (LinkBody K T)) → IsListed a → IsListed (links_view number a)
+  listed-links_view a listed = listed-with_each (link_view number) a listed
 
-  pub listed-values : (a : Arena Gen (LinkBody K T)) → IsListed a → IsListed (values_of (seen_links number a))
-  listed-values a listed = listed-with_each link_value (seen_links number a) (listed-seen_links a listed)
+  pub listed-values : (a : Arena Gen (LinkBody K T)) → IsListed a → IsListed (values_of (links_view number a))
+  listed-values a listed = listed-with_each link_value (links_view number a) (listed-links_view a listed)
 
-  pub length-values : (a : Arena Gen (LinkBody K T)) → length (values_of (seen_links number a)).slots ≡ length a.slots
-  length-values a = length-with_each link_value (seen_links number a) ∙ length-with_each (seen_link number) a
+  pub length-values : (a : Arena Gen (LinkBody K T)) → length (values_of (links_view number a)).slots ≡ length a.slots
+  length-values a = length-with_each link_value (links_view number a) ∙ length-with_each (link_view number) a
 
   -- how many values there are
-  pub count-values : (a : Arena Gen (LinkBody K T)) → length (entries (values_of (seen_links number a))) ≡ entry_count a
-  count-values a = values-count (seen_links number a) ∙ entry_count-seen_links a
+  pub count-values : (a : Arena Gen (LinkBody K T)) → length (entries (values_of (links_view number a))) ≡ entry_count a
+  count-values a = values-count (links_view number a) ∙ entry_count-links_view a

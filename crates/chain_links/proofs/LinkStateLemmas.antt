@@ -4,14 +4,14 @@ use Rattle.std.specs.Prelude.{slice_index_or, slice_set, ◌==◌, if◌then◌e
 use Rattle.std.proofs.Math.Dec.{eqb-suc-suc}
 use Rattle.std.specs.Option.{option_map}
 use Rattle.std.proofs.lemmas.List.{ext_get_or}
-use Rattle.chain_laws.specs.Chains.{Shown}
+use Rattle.chain_laws.specs.Chains.{LinkMap}
 use Rattle.chain_laws.proofs.InterlinkLemmas.Inverses.{if_same, if_other}
 use Rattle.arena_base.proofs.SlotLemmas.{length-with_slot}
 use Rattle.chain_links.proofs.MappedArenaLemmas.{entry_at-with_each, length-with_each}
 use Rattle.chain_links.specs.declared.links.LinkBody.{LinkBody}
-use Rattle.chain_links.specs.Links.{seen_link, seen_pair, seen_links}
+use Rattle.chain_links.specs.Links.{link_view, pair_view, links_view}
 use Rattle.arena_base.specs.Arena.{Arena, slot_at, with_slot, entry_at, with_value}
-use Rattle.chain_links.specs.ChainArena.{LinkSeen, relink, relink_from, relinked}
+use Rattle.chain_links.specs.ChainArena.{LinkView, relink, relink_from, relinked}
 
 -- numbers are equal if those before them are
 pub if_suc : {A : Type 0} (j k : ℕ) (x y : A) → (if j == k then x else y) ≡ (if suc j == suc k then x else y)
@@ -48,36 +48,36 @@ module _ {Gen T : Type 0} where
   length-with_value a n t = length-with_slot a.slots n _
 
 module _ {Gen T : Type 0} where
-  slice_index_or-relink_from : (interlinks : Shown) (k x j : ℕ) (slots : List (Option (Gen × LinkSeen T))) → x ≡ k + j
+  slice_index_or-relink_from : (interlinks : LinkMap) (k x j : ℕ) (slots : List (Option (Gen × LinkView T))) → x ≡ k + j
       → slice_index_or (relink_from interlinks k slots) j None ≡ relink (interlinks x) (slice_index_or slots j None)
   slice_index_or-relink_from interlinks k x j [] at = refl
   slice_index_or-relink_from interlinks k x zero (e ∷ slots) at = ap (λ i. relink (interlinks i) e) (let same : k ≡ x = omega (arith, at) in same)
   slice_index_or-relink_from interlinks k x (suc j) (e ∷ slots) at = slice_index_or-relink_from interlinks (suc k) x j slots (omega (arith, at))
 
   -- the entries of an arena with other interlinks
-  pub entry_at-relinked : (a : Arena Gen (LinkSeen T)) (interlinks : Shown) (i : ℕ) → entry_at (relinked a interlinks) i ≡ relink (interlinks i) (entry_at a i)
+  pub entry_at-relinked : (a : Arena Gen (LinkView T)) (interlinks : LinkMap) (i : ℕ) → entry_at (relinked a interlinks) i ≡ relink (interlinks i) (entry_at a i)
   entry_at-relinked a interlinks zero = refl
   entry_at-relinked a interlinks (suc j) = slice_index_or-relink_from interlinks 1 (suc j) j a.slots (omega arith)
 
-  length-relink_from : (interlinks : Shown) (k : ℕ) (slots : List (Option (Gen × LinkSeen T))) → length (relink_from interlinks k slots) ≡ length slots
+  length-relink_from : (interlinks : LinkMap) (k : ℕ) (slots : List (Option (Gen × LinkView T))) → length (relink_from interlinks k slots) ≡ length slots
   length-relink_from interlinks k [] = refl
   length-relink_from interlinks k (e ∷ slots) = ap (λ n. suc n) (length-relink_from interlinks (suc k) slots)
 
-  pub length-relinked : (a : Arena Gen (LinkSeen T)) (interlinks : Shown) → length (relinked a interlinks).slots ≡ length a.slots
+  pub length-relinked : (a : Arena Gen (LinkView T)) (interlinks : LinkMap) → length (relinked a interlinks).slots ≡ length a.slots
   length-relinked a interlinks = length-relink_from interlinks 1 a.slots
 
   -- an arena that has the entries of another with other interlinks, and else is as that, is that arena
-  pub is_relinked : (a b : Arena Gen (LinkSeen T)) (interlinks : Shown) → length b.slots ≡ length a.slots → b ≡ record a { slots = b.slots }
+  pub is_relinked : (a b : Arena Gen (LinkView T)) (interlinks : LinkMap) → length b.slots ≡ length a.slots → b ≡ record a { slots = b.slots }
       → ((i : ℕ) → entry_at b i ≡ relink (interlinks i) (entry_at a i)) → b ≡ relinked a interlinks
   is_relinked a b interlinks long rest entries =
-      rest ∙ ap (λ (slots : List (Option (Gen × LinkSeen T))). let c : Arena Gen (LinkSeen T) = record a { slots = slots } in c)
+      rest ∙ ap (λ (slots : List (Option (Gen × LinkView T))). let c : Arena Gen (LinkView T) = record a { slots = slots } in c)
       (ext_get_or None b.slots (relink_from interlinks 1 a.slots) (long ∙ sym (length-relink_from interlinks 1 a.slots))
       (λ k inside. entries (suc k) ∙ sym (entry_at-relinked a interlinks (suc k))))
 
 -- links as contracts see them
 module _ {Gen K T : Type 0} (number : K → Option ℕ) where
-  pub entry_at-seen_links : (a : Arena Gen (LinkBody K T)) (i : ℕ) → entry_at (seen_links number a) i ≡ option_map (seen_pair number) (entry_at a i)
-  entry_at-seen_links a i = entry_at-with_each (seen_link number) a i
+  pub entry_at-links_view : (a : Arena Gen (LinkBody K T)) (i : ℕ) → entry_at (links_view number a) i ≡ option_map (pair_view number) (entry_at a i)
+  entry_at-links_view a i = entry_at-with_each (link_view number) a i
 
-  pub length-seen_links : (a : Arena Gen (LinkBody K T)) → length (seen_links number a).slots ≡ length a.slots
-  length-seen_links a = length-with_each (seen_link number) a
+  pub length-links_view : (a : Arena Gen (LinkBody K T)) → length (links_view number a).slots ≡ length a.slots
+  length-links_view a = length-with_each (link_view number) a

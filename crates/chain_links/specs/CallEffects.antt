@@ -2,31 +2,31 @@
 -- the entry at each index, and the interlinks at each.
 use Rattle.std.specs.Prelude.{◌≡◌, ℕ, IsOk, Option, Result}
 use Rattle.std.specs.Option.{option_map}
-use Rattle.chain_laws.specs.Chains.{Shown}
+use Rattle.chain_laws.specs.Chains.{LinkMap}
 use Rattle.chain_laws.specs.Insertions.{InsertKind}
 use Rattle.chain_laws.specs.Removals.{removed}
-use Rattle.arena_base.specs.Entries.{Seen, count, HasRoomLeft, entry_removed}
+use Rattle.arena_base.specs.Entries.{ArenaView, count, HasFreeCapacity, entry_removed}
 use Rattle.chain_links.specs.ChainArena.{link_at}
 use Rattle.chain_links.specs.Insertions.{IsInsertion}
 use Rattle.chain_links.specs.Kinds.{LinkName, by_index}
-use Rattle.chain_links.specs.Links.{seen_link}
+use Rattle.chain_links.specs.Links.{link_view}
 use Rattle.chain_links.specs.declared.links.LinkBody.{LinkBody}
 
 module _ {Gen T : Type 0} where
   -- there are as many entries as the capacity
-  abbrev pub IsFull : Seen Gen T → Type 0
+  abbrev pub IsFull : ArenaView Gen T → Type 0
   IsFull s = count s ≡ s.capacity
 
   -- where there is room for one entry more, the call succeeds, and the capacity stays
-  abbrev pub SucceedsInRoom : {X E : Type 0} → Seen Gen T → Result X E → Seen Gen T → Type 0
-  SucceedsInRoom old result new = HasRoomLeft old → IsOk result × (new.capacity ≡ old.capacity)
+  abbrev pub SucceedsWithinCapacity : {X E : Type 0} → ArenaView Gen T → Result X E → ArenaView Gen T → Type 0
+  SucceedsWithinCapacity old result new = HasFreeCapacity old → IsOk result × (new.capacity ≡ old.capacity)
 
-module _ {A Gen T : Type 0} (seen : A → Seen Gen T) (interlinks : A → Shown) where
+module _ {A Gen T : Type 0} (seen : A → ArenaView Gen T) (interlinks : A → LinkMap) where
   -- the link at an index is gone: those that it stood between are linked, and the counter is the next
   abbrev pub LosesLink : (Gen → Gen) → ℕ → A → A → Type 0
   LosesLink following i old new = (seen new ≡ entry_removed following (seen old) i) × (interlinks new ≡ removed (interlinks old) i)
 
-module _ {A Gen T : Type 0} (seen : A → Seen Gen T) (entry : A → ℕ → Option (Gen × T)) (interlinks : A → Shown) where
+module _ {A Gen T : Type 0} (seen : A → ArenaView Gen T) (entry : A → ℕ → Option (Gen × T)) (interlinks : A → LinkMap) where
   -- a link of a kind, with a value, came to p
   abbrev pub GainsLink : InsertKind (LinkName Gen) → T → A → ℕ × Gen → A → Type 0
   GainsLink kind t old p new = IsInsertion (by_index kind) (seen old) (seen new) (entry old) (entry new) (interlinks old) (interlinks new) p t
@@ -34,4 +34,4 @@ module _ {A Gen T : Type 0} (seen : A → Seen Gen T) (entry : A → ℕ → Opt
   -- the link of a pointer is gone, and answered as it stood
   abbrev pub YieldsLink : {K : Type 0} → (K → Option ℕ) → (Gen → Gen) → ℕ × Gen → A → Option (LinkBody K T) → A → Type 0
   YieldsLink packed following p old answer new =
-      (option_map (λ link. (p.1, seen_link packed link)) answer ≡ link_at (entry old) (interlinks old) p.0) × LosesLink seen interlinks following p.0 old new
+      (option_map (λ link. (p.1, link_view packed link)) answer ≡ link_at (entry old) (interlinks old) p.0) × LosesLink seen interlinks following p.0 old new

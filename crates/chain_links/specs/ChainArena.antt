@@ -1,7 +1,7 @@
 -- The state of a chain arena: an arena of links.
 use Rattle.std.specs.Prelude.{◌≡◌, ◌≢◌, ℕ, suc, List, [], ◌∷◌, map, All, IsSome, Option, None, Some}
 use Rattle.std.specs.Option.{option_map, option_and_then}
-use Rattle.chain_laws.specs.Chains.{Shown, Interlinks, prev_of, next_of}
+use Rattle.chain_laws.specs.Chains.{LinkMap, Interlinks, prev_of, next_of}
 use Rattle.chain_laws.specs.Walks.{IsWalk}
 use Rattle.chain_laws.specs.Removals.{removed, Removes, RemovesPairs}
 use Rattle.chain_laws.specs.Cuts.{cut, Cuts, TakesPair}
@@ -9,7 +9,7 @@ use Rattle.chain_laws.specs.Exchanges.{exchanged, Exchanges, ExchangesPairs}
 use Rattle.chain_laws.specs.Joins.{next_set, prev_set, joined, AddsPair, Connects}
 use Rattle.chain_laws.specs.Insertions.{InsertKind, inserted, inserted_as}
 use Rattle.arena_base.specs.Arena.{Arena, with_slot, entry_at, next_index, insert_next, remove_at, IsValid}
-use Rattle.arena_base.specs.Entries.{Seen, seen_of}
+use Rattle.arena_base.specs.Entries.{ArenaView, view_of}
 
 -- a pair of a generation and a value, with something else for the value
 abbrev pub on_value : {Gen X Y : Type 0} → (X → Y) → Gen × X → Gen × Y
@@ -29,128 +29,128 @@ with_each f a = record {
 }
 
 -- a link: the indexes of its neighbours, where it has them, and its value
-pub record LinkSeen (T : Type 0) : Type 0 where
+pub record LinkView (T : Type 0) : Type 0 where
   pub prev : Option ℕ
   pub next : Option ℕ
   pub value : T
 
 -- a link with these neighbours
-abbrev pub new_link : {T : Type 0} → T → Option ℕ → Option ℕ → LinkSeen T
+abbrev pub new_link : {T : Type 0} → T → Option ℕ → Option ℕ → LinkView T
 new_link t u v = record { prev = u; next = v; value = t }
 
 -- a link without neighbours
-abbrev pub lone : {T : Type 0} → T → LinkSeen T
+abbrev pub lone : {T : Type 0} → T → LinkView T
 lone t = record { prev = None; next = None; value = t }
 
 module _ {T : Type 0} where
-  abbrev pub link_value : LinkSeen T → T
+  abbrev pub link_value : LinkView T → T
   link_value link = link.value
 
   -- the link with another value
-  abbrev pub with_link_value : T → LinkSeen T → LinkSeen T
+  abbrev pub with_link_value : T → LinkView T → LinkView T
   with_link_value t link = record link { value = t }
 
-  abbrev pub interlinks_in : LinkSeen T → Interlinks
+  abbrev pub interlinks_in : LinkView T → Interlinks
   interlinks_in link = record { prev = link.prev; next = link.next }
 
   -- the link with other interlinks
-  abbrev pub with_interlinks : Interlinks → LinkSeen T → LinkSeen T
+  abbrev pub with_interlinks : Interlinks → LinkView T → LinkView T
   with_interlinks interlinks link = record link { prev = interlinks.prev; next = interlinks.next }
 
 module _ {Gen T : Type 0} where
-  abbrev pub interlinks_of : Gen × LinkSeen T → Interlinks
+  abbrev pub interlinks_of : Gen × LinkView T → Interlinks
   interlinks_of e = interlinks_in e.1
 
   -- the interlinks that the arena shows
-  abbrev pub shown : Arena Gen (LinkSeen T) → Shown
-  shown a i = option_map interlinks_of (entry_at a i)
+  abbrev pub link_map : Arena Gen (LinkView T) → LinkMap
+  link_map a i = option_map interlinks_of (entry_at a i)
 
   -- the arena of the values alone
-  abbrev pub values_of : Arena Gen (LinkSeen T) → Arena Gen T
+  abbrev pub values_of : Arena Gen (LinkView T) → Arena Gen T
   values_of a = with_each link_value a
 
   -- the values as generic code sees them, and what stands at each index
-  abbrev pub seen : Arena Gen (LinkSeen T) → Seen Gen T
-  seen a = seen_of (values_of a)
+  abbrev pub value_view : Arena Gen (LinkView T) → ArenaView Gen T
+  value_view a = view_of (values_of a)
 
-  abbrev pub entry : Arena Gen (LinkSeen T) → ℕ → Option (Gen × T)
+  abbrev pub entry : Arena Gen (LinkView T) → ℕ → Option (Gen × T)
   entry a i = entry_at (values_of a) i
 
   -- the entry with other interlinks
-  abbrev pub relink : Option Interlinks → Option (Gen × LinkSeen T) → Option (Gen × LinkSeen T)
+  abbrev pub relink : Option Interlinks → Option (Gen × LinkView T) → Option (Gen × LinkView T)
   relink interlinks None = None
   relink None (Some e) = None
   relink (Some l) (Some e) = Some (e.0, with_interlinks l e.1)
 
   -- the entries from an index on, with other interlinks
-  abbrev pub relink_from : Shown → ℕ → List (Option (Gen × LinkSeen T)) → List (Option (Gen × LinkSeen T))
+  abbrev pub relink_from : LinkMap → ℕ → List (Option (Gen × LinkView T)) → List (Option (Gen × LinkView T))
   relink_from interlinks i [] = []
   relink_from interlinks i (e ∷ es) = relink (interlinks i) e ∷ relink_from interlinks (suc i) es
 
   -- the arena with other interlinks: values, generations, counter, freed list, room and totals stay
-  abbrev pub relinked : Arena Gen (LinkSeen T) → Shown → Arena Gen (LinkSeen T)
+  abbrev pub relinked : Arena Gen (LinkView T) → LinkMap → Arena Gen (LinkView T)
   relinked a interlinks = record a { slots = relink_from interlinks 1 a.slots }
 
   -- the arena after the insertion of a link that stands alone
-  abbrev pub insert_lone : Arena Gen (LinkSeen T) → T → Arena Gen (LinkSeen T)
+  abbrev pub insert_lone : Arena Gen (LinkView T) → T → Arena Gen (LinkView T)
   insert_lone a t = insert_next a (lone t)
 
   -- u and v name q, the one as the link after it, the other as the link before it
-  abbrev pub named_by : Arena Gen (LinkSeen T) → Option ℕ → Option ℕ → ℕ → Arena Gen (LinkSeen T)
-  named_by a u v q = relinked a (prev_set (next_set (shown a) u (Some q)) v (Some q))
+  abbrev pub named_by : Arena Gen (LinkView T) → Option ℕ → Option ℕ → ℕ → Arena Gen (LinkView T)
+  named_by a u v q = relinked a (prev_set (next_set (link_map a) u (Some q)) v (Some q))
 
   -- the arena after the insertion of a link between u and v
-  abbrev pub insert_between : Arena Gen (LinkSeen T) → T → Option ℕ → Option ℕ → Arena Gen (LinkSeen T)
-  insert_between a t u v = relinked (insert_lone a t) (inserted (shown a) (next_index a) u v)
+  abbrev pub insert_between : Arena Gen (LinkView T) → T → Option ℕ → Option ℕ → Arena Gen (LinkView T)
+  insert_between a t u v = relinked (insert_lone a t) (inserted (link_map a) (next_index a) u v)
 
   -- .. and of one of a kind
-  abbrev pub insert_as : Arena Gen (LinkSeen T) → InsertKind ℕ → T → Arena Gen (LinkSeen T)
-  insert_as a kind t = relinked (insert_lone a t) (inserted_as (shown a) kind (next_index a))
+  abbrev pub insert_as : Arena Gen (LinkView T) → InsertKind ℕ → T → Arena Gen (LinkView T)
+  insert_as a kind t = relinked (insert_lone a t) (inserted_as (link_map a) kind (next_index a))
 
   -- the arena with another value in the link at an index, if one stands there
-  abbrev pub with_value_at : Arena Gen (LinkSeen T) → ℕ → T → Arena Gen (LinkSeen T)
+  abbrev pub with_value_at : Arena Gen (LinkView T) → ℕ → T → Arena Gen (LinkView T)
   with_value_at a i t = record a { slots = with_slot a.slots i (option_map (on_value (with_link_value t)) (entry_at a i)) }
 
   -- the arena after the removal of the link at an index, where those that it stood between are linked
-  abbrev pub remove_link : (Gen → Gen) → Arena Gen (LinkSeen T) → ℕ → Arena Gen (LinkSeen T)
-  remove_link following a i = relinked (remove_at following a i) (removed (shown a) i)
+  abbrev pub remove_link : (Gen → Gen) → Arena Gen (LinkView T) → ℕ → Arena Gen (LinkView T)
+  remove_link following a i = relinked (remove_at following a i) (removed (link_map a) i)
 
   -- the link at an index was removed: in the state, and so in what is shown, in chains and in pairs
-  pub record IsRemoval (following : Gen → Gen) (old : Arena Gen (LinkSeen T)) (i : ℕ) (new : Arena Gen (LinkSeen T)) : Type 0 where
+  pub record IsRemoval (following : Gen → Gen) (old : Arena Gen (LinkView T)) (i : ℕ) (new : Arena Gen (LinkView T)) : Type 0 where
     pub state : new ≡ remove_link following old i
-    pub shows : shown new ≡ removed (shown old) i
-    pub chains : Removes (shown old) (shown new) i
-    pub pairs : RemovesPairs (shown old) (shown new) i
+    pub shows : link_map new ≡ removed (link_map old) i
+    pub chains : Removes (link_map old) (link_map new) i
+    pub pairs : RemovesPairs (link_map old) (link_map new) i
 
   -- a start was joined to an end: in the state, and so in what is shown, in pairs and in chains
-  pub record IsJoin (old new : Arena Gen (LinkSeen T)) (a b : ℕ) : Type 0 where
-    pub state : new ≡ relinked old (joined (shown old) a b)
-    pub shows : shown new ≡ joined (shown old) a b
-    pub pair : AddsPair (shown old) (shown new) a b
-    pub chains : Connects (shown old) (shown new) a b
+  pub record IsJoin (old new : Arena Gen (LinkView T)) (a b : ℕ) : Type 0 where
+    pub state : new ≡ relinked old (joined (link_map old) a b)
+    pub shows : link_map new ≡ joined (link_map old) a b
+    pub pair : AddsPair (link_map old) (link_map new) a b
+    pub chains : Connects (link_map old) (link_map new) a b
 
   -- two neighbours were cut apart: in the state, and so in what is shown, in pairs and in chains
-  pub record IsCut (old new : Arena Gen (LinkSeen T)) (a b : ℕ) : Type 0 where
-    pub state : new ≡ relinked old (cut (shown old) a b)
-    pub shows : shown new ≡ cut (shown old) a b
-    pub pair : TakesPair (shown old) (shown new) a b
-    pub chains : Cuts (shown old) (shown new) a b
+  pub record IsCut (old new : Arena Gen (LinkView T)) (a b : ℕ) : Type 0 where
+    pub state : new ≡ relinked old (cut (link_map old) a b)
+    pub shows : link_map new ≡ cut (link_map old) a b
+    pub pair : TakesPair (link_map old) (link_map new) a b
+    pub chains : Cuts (link_map old) (link_map new) a b
 
   -- what comes after two links was exchanged
-  pub record IsExchange (old new : Arena Gen (LinkSeen T)) (p q : ℕ) : Type 0 where
-    pub state : new ≡ relinked old (exchanged (shown old) p q)
-    pub shows : shown new ≡ exchanged (shown old) p q
-    pub pairs : ExchangesPairs (shown old) (shown new) p q
-    pub chains : Exchanges (shown old) (shown new) p q
+  pub record IsExchange (old new : Arena Gen (LinkView T)) (p q : ℕ) : Type 0 where
+    pub state : new ≡ relinked old (exchanged (link_map old) p q)
+    pub shows : link_map new ≡ exchanged (link_map old) p q
+    pub pairs : ExchangesPairs (link_map old) (link_map new) p q
+    pub chains : Exchanges (link_map old) (link_map new) p q
 
   -- the links of the walk from an index, each with its index and generation
-  pub record IsWalkOf (a : Arena Gen (LinkSeen T)) (i : ℕ) (links : List (ℕ × (Gen × LinkSeen T))) : Type 0 where
-    pub walk : IsWalk (shown a) i (map (λ e. e.0) links)
+  pub record IsWalkOf (a : Arena Gen (LinkView T)) (i : ℕ) (links : List (ℕ × (Gen × LinkView T))) : Type 0 where
+    pub walk : IsWalk (link_map a) i (map (λ e. e.0) links)
     pub stands : All (λ e. entry_at a e.0 ≡ Some e.1) links
 
 -- Links of any arena, where the entry and the interlinks at each index are given.
 module _ {Gen T : Type 0} where
-  abbrev pub link_of : Option (Gen × T) → Option Interlinks → Option (Gen × LinkSeen T)
+  abbrev pub link_of : Option (Gen × T) → Option Interlinks → Option (Gen × LinkView T)
   link_of None interlinks = None
   link_of (Some e) None = None
   link_of (Some e) (Some l) = Some (e.0, record { prev = l.prev; next = l.next; value = e.1 })
@@ -166,9 +166,9 @@ module _ {Gen T : Type 0} (entry : ℕ → Option (Gen × T)) where
     pub stands : after p.0 ≡ Some (p.1, t)
     pub rest : (i : ℕ) → i ≢ p.0 → after i ≡ entry i
 
-module _ {Gen T : Type 0} (entry : ℕ → Option (Gen × T)) (interlinks : Shown) where
+module _ {Gen T : Type 0} (entry : ℕ → Option (Gen × T)) (interlinks : LinkMap) where
   -- the link at an index
-  abbrev pub link_at : ℕ → Option (Gen × LinkSeen T)
+  abbrev pub link_at : ℕ → Option (Gen × LinkView T)
   link_at i = link_of (entry i) (interlinks i)
 
   -- q may come after p: both are valid, p has no next and q no prev

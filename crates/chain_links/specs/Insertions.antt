@@ -1,18 +1,18 @@
 -- What an insertion makes of an arena of links, whatever its kind.
 use Rattle.std.specs.Prelude.{◌≡◌, ℕ, zero, suc, ◌+◌, length, IfSome, Option, None, Some}
 use Rattle.std.specs.Option.{option_map}
-use Rattle.chain_laws.specs.Chains.{Shown}
+use Rattle.chain_laws.specs.Chains.{LinkMap}
 use Rattle.chain_laws.specs.Insertions.{InsertKind, link_before, link_after, inserted, InsertsPairs, Inserts}
-use Rattle.arena_base.specs.Entries.{Seen, next_slot, with_next_filled}
+use Rattle.arena_base.specs.Entries.{ArenaView, next_slot, with_next_filled}
 use Rattle.chain_links.specs.ChainArena.{IsInserted}
 
 -- a number as an optional index, 0 for none
-abbrev pub index_from : ℕ → Option ℕ
-index_from zero = None
-index_from (suc n) = Some (suc n)
+abbrev pub nonzero_index : ℕ → Option ℕ
+nonzero_index zero = None
+nonzero_index (suc n) = Some (suc n)
 
 -- a link came to p, by index, between u and v, with a value: in the entries, in the interlinks, in pairs and in chains
-pub record IsInsertionBetween {Gen T : Type 0} (u v : Option ℕ) (old new : Seen Gen T) (entry after : ℕ → Option (Gen × T)) (interlinks changed : Shown) (p : ℕ × Gen) (t : T) : Type 0 where
+pub record IsInsertionBetween {Gen T : Type 0} (u v : Option ℕ) (old new : ArenaView Gen T) (entry after : ℕ → Option (Gen × T)) (interlinks changed : LinkMap) (p : ℕ × Gen) (t : T) : Type 0 where
   pub entries : IsInserted entry after p t
   pub shows : changed ≡ inserted interlinks p.0 u v
   pub pairs : InsertsPairs interlinks changed p.0 u v
@@ -26,6 +26,6 @@ pub record IsInsertionBetween {Gen T : Type 0} (u v : Option ℕ) (old new : See
   pub maximum : new.maximum ≡ old.maximum
 
 -- a link of a kind came to p: between the links that the kind gives
-abbrev pub IsInsertion : {Gen T : Type 0} → InsertKind ℕ → Seen Gen T → Seen Gen T → (ℕ → Option (Gen × T)) → (ℕ → Option (Gen × T)) → Shown → Shown → ℕ × Gen → T → Type 0
+abbrev pub IsInsertion : {Gen T : Type 0} → InsertKind ℕ → ArenaView Gen T → ArenaView Gen T → (ℕ → Option (Gen × T)) → (ℕ → Option (Gen × T)) → LinkMap → LinkMap → ℕ × Gen → T → Type 0
 IsInsertion kind old new entry after interlinks changed p t =
     IsInsertionBetween (link_before interlinks kind p.0) (link_after interlinks kind p.0) old new entry after interlinks changed p t

@@ -1,6 +1,6 @@
 -- Kinds of insertion, as contracts see them: what they name, and what they ask.
 use Rattle.std.specs.Prelude.{ℕ, IsSome, Option, None, Some}
-use Rattle.chain_laws.specs.Chains.{Shown}
+use Rattle.chain_laws.specs.Chains.{LinkMap}
 use Rattle.chain_laws.specs.Insertions.{InsertKind, disconnected, single_link_cyclic, chain_end, chain_start, next_to, prev_to, at_interlink, bridge}
 use Rattle.chain_laws.specs.Insertions.{CanInsert}
 use Rattle.arena_base.specs.Arena.{IsValid}
@@ -69,7 +69,7 @@ module _ {Gen T : Type 0} (entry : ℕ → Option (Gen × T)) where
   HasNames (bridge a b) = HasName a × HasName b
 
   -- a link of the kind may be inserted
-  abbrev pub MayInsert : Shown → InsertKind (LinkName Gen) → Type 0
+  abbrev pub MayInsert : LinkMap → InsertKind (LinkName Gen) → Type 0
   MayInsert interlinks kind = HasNames kind × CanInsert interlinks (by_index kind)
 
 -- the code's own forms of names and kinds

@@ -7,31 +7,31 @@ use Rattle.std.specs.Ordering.{nat_cmp, ordering_then, partial_ordering_then}
 use Rattle.std.specs.Hash.{HashWrites}
 use Rattle.std.specs.Hash as fed
 use Rattle.std.specs.declared.cmp.Ordering.TheVariants.{Less, Equal}
-use Rattle.chain_links.specs.ChainArena.{LinkSeen}
+use Rattle.chain_links.specs.ChainArena.{LinkView}
 use Rattle.chain_links.specs.declared.links.LinkBody.{LinkBody}
 use Rattle.chain_links.specs.declared.links.Link.{Link}
 
 module _ {T : Type 0} where
-  abbrev pub neighbors_eq : LinkSeen T → LinkSeen T → Bool
+  abbrev pub neighbors_eq : LinkView T → LinkView T → Bool
   neighbors_eq l m = option_eq ◌==◌ l.prev m.prev && option_eq ◌==◌ l.next m.next
 
-  abbrev pub neighbors_cmp : LinkSeen T → LinkSeen T → Ordering
+  abbrev pub neighbors_cmp : LinkView T → LinkView T → Ordering
   neighbors_cmp l m = ordering_then (option_cmp nat_cmp l.prev m.prev) (option_cmp nat_cmp l.next m.next)
 
   -- what `==` answers, where this is what it answers of their values
-  abbrev pub links_eq : (T → T → Bool) → LinkSeen T → LinkSeen T → Bool
+  abbrev pub links_eq : (T → T → Bool) → LinkView T → LinkView T → Bool
   links_eq eq l m = neighbors_eq l m && eq l.value m.value
 
   -- .. `cmp`
-  abbrev pub links_cmp : (T → T → Ordering) → LinkSeen T → LinkSeen T → Ordering
+  abbrev pub links_cmp : (T → T → Ordering) → LinkView T → LinkView T → Ordering
   links_cmp cmp l m = ordering_then (neighbors_cmp l m) (cmp l.value m.value)
 
   -- .. and `partial_cmp`
-  abbrev pub links_partial_cmp : (T → T → Option Ordering) → LinkSeen T → LinkSeen T → Option Ordering
+  abbrev pub links_partial_cmp : (T → T → Option Ordering) → LinkView T → LinkView T → Option Ordering
   links_partial_cmp cmp l m = partial_ordering_then (Some (neighbors_cmp l m)) (cmp l.value m.value)
 
   -- what a hash of a link writes, where this is what one of its value writes
-  abbrev pub link_writes : (T → HashWrites) → LinkSeen T → HashWrites
+  abbrev pub link_writes : (T → HashWrites) → LinkView T → HashWrites
   link_writes writes l = (fed.option fed.usize l.prev ++ fed.option fed.usize l.next) ++ writes l.value
 
 -- none is below each index or pointer, and of two of these this says which is below
@@ -47,8 +47,8 @@ pub record Parts (X T : Type 0) : Type 0 where
   pub next : Option X
   pub value : T
 
-abbrev pub parts_seen : {K T : Type 0} → (K → Option ℕ) → LinkBody K T → Parts ℕ T
-parts_seen number l = record { prev = number l.prev; next = number l.next; value = l.t }
+abbrev pub body_parts : {K T : Type 0} → (K → Option ℕ) → LinkBody K T → Parts ℕ T
+body_parts number l = record { prev = number l.prev; next = number l.next; value = l.t }
 
 abbrev pub parts_of : {P T : Type 0} → Link P T → Parts P T
 parts_of l = record { prev = l.prev; next = l.next; value = l.t }

@@ -2,12 +2,12 @@
 use Rattle.std.specs.Prelude.{ℕ, List, map, Option}
 use Rattle.std.specs.Borrow.{Bor}
 use Rattle.arena_base.specs.Arena.{Arena}
-use Rattle.chain_links.specs.ChainArena.{LinkSeen, on_value, with_each}
+use Rattle.chain_links.specs.ChainArena.{LinkView, on_value, with_each}
 use Rattle.chain_links.specs.declared.links.LinkBody.{LinkBody}
 
 module _ {K T : Type 0} where
-  abbrev pub seen_link : (K → Option ℕ) → LinkBody K T → LinkSeen T
-  seen_link number link = record { prev = number link.prev; next = number link.next; value = link.t }
+  abbrev pub link_view : (K → Option ℕ) → LinkBody K T → LinkView T
+  link_view number link = record { prev = number link.prev; next = number link.next; value = link.t }
 
   -- the value of a link
   abbrev pub held_in : LinkBody K T → T
@@ -18,20 +18,20 @@ abbrev pub index_in : {P Gen : Type 0} → (P → ℕ × Gen) → P → ℕ
 index_in key p = (key p).0
 
 module _ {Gen K T : Type 0} where
-  abbrev pub seen_pair : (K → Option ℕ) → Gen × LinkBody K T → Gen × LinkSeen T
-  seen_pair number e = on_value (seen_link number) e
+  abbrev pub pair_view : (K → Option ℕ) → Gen × LinkBody K T → Gen × LinkView T
+  pair_view number e = on_value (link_view number) e
 
   -- a generation and a link as a look at them shows them
-  abbrev pub seen_lent : (K → Option ℕ) → Gen × Bor (LinkBody K T) → Gen × LinkSeen T
-  seen_lent number e = (e.0, seen_link number e.1.now)
+  abbrev pub borrowed_link : (K → Option ℕ) → Gen × Bor (LinkBody K T) → Gen × LinkView T
+  borrowed_link number e = (e.0, link_view number e.1.now)
 
   -- an arena of links
-  abbrev pub seen_links : (K → Option ℕ) → Arena Gen (LinkBody K T) → Arena Gen (LinkSeen T)
-  seen_links number a = with_each (seen_link number) a
+  abbrev pub links_view : (K → Option ℕ) → Arena Gen (LinkBody K T) → Arena Gen (LinkView T)
+  links_view number a = with_each (link_view number) a
 
   -- entries of links by rising index, each link as contracts see it
-  abbrev pub seen_entries : (K → Option ℕ) → List ((ℕ × Gen) × LinkBody K T) → List ((ℕ × Gen) × LinkSeen T)
-  seen_entries number es = map (on_value (seen_link number)) es
+  abbrev pub entry_views : (K → Option ℕ) → List ((ℕ × Gen) × LinkBody K T) → List ((ℕ × Gen) × LinkView T)
+  entry_views number es = map (on_value (link_view number)) es
 
   -- .. and the value of each alone
   abbrev pub held_entries : List ((ℕ × Gen) × LinkBody K T) → List ((ℕ × Gen) × T)

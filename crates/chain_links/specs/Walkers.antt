@@ -2,35 +2,35 @@
 use Rattle.std.specs.Prelude.{◌≡◌, ℕ, List, [], ◌∷◌, Option, None, Some, IfSome, IfNone}
 use Rattle.std.specs.Option.{option_map}
 use Rattle.std.specs.Borrow.{Bor}
-use Rattle.chain_laws.specs.Chains.{Shown}
+use Rattle.chain_laws.specs.Chains.{LinkMap}
 use Rattle.chain_laws.specs.Walks.{Walker, walk_ahead, step_of}
 use Rattle.chain_links.specs.declared.links.LinkBody.{LinkBody}
 use Rattle.arena_base.specs.Arena.{Arena, entry_at, IsValid}
-use Rattle.chain_links.specs.ChainArena.{LinkSeen, shown}
-use Rattle.chain_links.specs.Links.{seen_link}
+use Rattle.chain_links.specs.ChainArena.{LinkView, link_map}
+use Rattle.chain_links.specs.Links.{link_view}
 
 module _ {Gen T : Type 0} where
   -- the links at these indexes, up to the first where none stands
-  abbrev pub links_at : Arena Gen (LinkSeen T) → List ℕ → List (ℕ × (Gen × LinkSeen T))
+  abbrev pub links_at : Arena Gen (LinkView T) → List ℕ → List (ℕ × (Gen × LinkView T))
   links_at a [] = []
   links_at a (i ∷ indexes) = elim (entry_at a i) [ None ↦ [] | Some e ↦ (i, e) ∷ links_at a indexes ]
 
   -- the links that a walker passes that began at `start`, has `forth` and `back` before it, and makes at most `left` steps
-  abbrev pub links_ahead : Arena Gen (LinkSeen T) → ℕ → ℕ → Option ℕ → Option ℕ → List (ℕ × (Gen × LinkSeen T))
-  links_ahead a left start forth back = links_at a (walk_ahead left (shown a) start forth back)
+  abbrev pub links_ahead : Arena Gen (LinkView T) → ℕ → ℕ → Option ℕ → Option ℕ → List (ℕ × (Gen × LinkView T))
+  links_ahead a left start forth back = links_at a (walk_ahead left (link_map a) start forth back)
 
 module _ {Gen T : Type 0} where
-  abbrev pub index_and_entry : ℕ → Gen × LinkSeen T → ℕ × (Gen × LinkSeen T)
+  abbrev pub index_and_entry : ℕ → Gen × LinkView T → ℕ × (Gen × LinkView T)
   index_and_entry i e = (i, e)
 
 module _ {P Gen K T : Type 0} where
   -- a yielded pointer and link, as contracts see them
-  abbrev pub seen_item : (P → ℕ × Gen) → (K → Option ℕ) → P × Bor (LinkBody K T) → ℕ × (Gen × LinkSeen T)
-  seen_item key number item = ((key item.0).0, ((key item.0).1, seen_link number item.1.now))
+  abbrev pub item_view : (P → ℕ × Gen) → (K → Option ℕ) → P × Bor (LinkBody K T) → ℕ × (Gen × LinkView T)
+  item_view key number item = ((key item.0).0, ((key item.0).1, link_view number item.1.now))
 
 -- one call of an advancer along a chain: where a link stands at its next step, it passes that and takes the step, in the arena of
 -- the call; and else it passes nothing any more
-pub record IsPassing {Gen T : Type 0} (entry : ℕ → Option (Gen × T)) (interlinks : Shown) (old : Walker) (answer : Option (ℕ × Gen)) (new : Walker) : Type 0 where
+pub record IsPassing {Gen T : Type 0} (entry : ℕ → Option (Gen × T)) (interlinks : LinkMap) (old : Walker) (answer : Option (ℕ × Gen)) (new : Walker) : Type 0 where
   pub passed : IfSome answer (λ p. IsValid entry p × (step_of interlinks old ≡ Some (p.0, new)))
   pub spent : IfNone answer (new.left ≡ 0)
   pub end : IfNone answer (IfSome (step_of interlinks old) (λ step. entry step.0 ≡ None))

@@ -2,7 +2,7 @@
 ghost use Rattle.std.specs.Prelude.{◌≡◌, ◌<◌};
 ghost use Rattle.std.specs.Option.{option_map};
 ghost use Rattle.std.specs.declared.cmp.Ordering.TheVariants.{Less};
-ghost use Rattle.chain_links.specs.LinkOrder.{CompareByParts, parts_seen, parts_of};
+ghost use Rattle.chain_links.specs.LinkOrder.{CompareByParts, body_parts, parts_of};
 
 use crate::links::{Link, LinkBody, LinkNoGen};
 use arena_ptr::{InxKey, PackedOption, Ptr};
@@ -30,14 +30,14 @@ impl<W: Copy, I: InxKey<Word = W>, T> LinkBody<PackedOption<I, W>, T> {
 }
 
 impl<W: Copy, I: InxKey<Word = W>, T: PartialEq> PartialEq for LinkBody<PackedOption<I, W>, T> {
-    ghost use Rattle.chain_links.specs.Links.{seen_link};
+    ghost use Rattle.chain_links.specs.Links.{link_view};
     ghost use Rattle.chain_links.specs.LinkOrder.{links_eq};
     ghost use Rattle.chain_links.specs.LinkOrderLaws.{links_per};
     ghost use Rattle.std.specs.Cmp.{on_per};
 
-    ghost eq = { λ l m. links_eq T.eq (seen_link I.packed_number l) (seen_link I.packed_number m) };
+    ghost eq = { λ l m. links_eq T.eq (link_view I.packed_number l) (link_view I.packed_number m) };
 
-    ghost laws = { on_per (seen_link I.packed_number) (links_per T.laws) };
+    ghost laws = { on_per (link_view I.packed_number) (links_per T.laws) };
 
     fn eq(&self, other: &Self) -> bool {
         self.numbers() == other.numbers() && self.t == other.t
@@ -45,23 +45,23 @@ impl<W: Copy, I: InxKey<Word = W>, T: PartialEq> PartialEq for LinkBody<PackedOp
 }
 
 impl<W: Copy, I: InxKey<Word = W>, T: Eq> Eq for LinkBody<PackedOption<I, W>, T> {
-    ghost use Rattle.chain_links.specs.Links.{seen_link};
+    ghost use Rattle.chain_links.specs.Links.{link_view};
     ghost use Rattle.chain_links.specs.LinkOrderLaws.{links_equiv};
     ghost use Rattle.std.specs.Cmp.{on_equiv};
 
-    ghost laws = { on_equiv (seen_link I.packed_number) (links_equiv T.Eq.laws) };
+    ghost laws = { on_equiv (link_view I.packed_number) (links_equiv T.Eq.laws) };
 }
 
 impl<W: Copy, I: InxKey<Word = W>, T: PartialOrd> PartialOrd for LinkBody<PackedOption<I, W>, T> {
-    ghost use Rattle.chain_links.specs.Links.{seen_link};
+    ghost use Rattle.chain_links.specs.Links.{link_view};
     ghost use Rattle.chain_links.specs.LinkOrder.{links_partial_cmp};
     ghost use Rattle.chain_links.specs.LinkOrderLaws.{links_po};
     ghost use Rattle.std.specs.Cmp.{on_po};
 
-    ghost partial_cmp = { λ l m. links_partial_cmp T.partial_cmp (seen_link I.packed_number l)
-        (seen_link I.packed_number m) };
+    ghost partial_cmp = { λ l m. links_partial_cmp T.partial_cmp (link_view I.packed_number l)
+        (link_view I.packed_number m) };
 
-    ghost laws = { on_po (seen_link I.packed_number) (links_po T.PartialOrd.laws) };
+    ghost laws = { on_po (link_view I.packed_number) (links_po T.PartialOrd.laws) };
 
     fn partial_cmp(&self, other: &Self) -> Option<Ordering> {
         let neighbors = self.numbers().cmp(&other.numbers());
@@ -70,21 +70,21 @@ impl<W: Copy, I: InxKey<Word = W>, T: PartialOrd> PartialOrd for LinkBody<Packed
 }
 
 impl<W: Copy, I: InxKey<Word = W>, T: Ord> Ord for LinkBody<PackedOption<I, W>, T> {
-    ghost use Rattle.chain_links.specs.Links.{seen_link};
+    ghost use Rattle.chain_links.specs.Links.{link_view};
     ghost use Rattle.chain_links.specs.LinkOrder.{links_cmp};
-    ghost use Rattle.chain_links.specs.LinkOrderLaws.{links_total, links_cmp_partial, links_tie};
+    ghost use Rattle.chain_links.specs.LinkOrderLaws.{links_total, links_cmp_partial, links_are_equivalent};
     ghost use Rattle.std.specs.Cmp.{on_total};
 
-    ghost cmp = { λ l m. links_cmp T.cmp (seen_link I.packed_number l)
-        (seen_link I.packed_number m) };
+    ghost cmp = { λ l m. links_cmp T.cmp (link_view I.packed_number l)
+        (link_view I.packed_number m) };
 
-    ghost total = { on_total (seen_link I.packed_number) (links_total T.total) };
+    ghost total = { on_total (link_view I.packed_number) (links_total T.total) };
 
     ghost matches_partial_cmp = { λ l m. links_cmp_partial T.partial_cmp T.cmp T.matches_partial_cmp
-        (seen_link I.packed_number l) (seen_link I.packed_number m) };
+        (link_view I.packed_number l) (link_view I.packed_number m) };
 
-    ghost matches_eq = { λ l m. links_tie T.eq T.cmp T.matches_eq (seen_link I.packed_number l)
-        (seen_link I.packed_number m) };
+    ghost matches_eq = { λ l m. links_are_equivalent T.eq T.cmp T.matches_eq (link_view I.packed_number l)
+        (link_view I.packed_number m) };
 
     fn cmp(&self, other: &Self) -> Ordering {
         let neighbors = self.numbers().cmp(&other.numbers());
@@ -93,14 +93,14 @@ impl<W: Copy, I: InxKey<Word = W>, T: Ord> Ord for LinkBody<PackedOption<I, W>, 
 }
 
 impl<W: Copy, I: InxKey<Word = W>, T: Hash> Hash for LinkBody<PackedOption<I, W>, T> {
-    ghost use Rattle.chain_links.specs.Links.{seen_link};
+    ghost use Rattle.chain_links.specs.Links.{link_view};
     ghost use Rattle.chain_links.specs.LinkOrder.{link_writes};
     ghost use Rattle.chain_links.specs.LinkOrderLaws.{links_alike};
 
-    ghost hash_input = { λ l. link_writes T.hash_input (seen_link I.packed_number l) };
+    ghost hash_input = { λ l. link_writes T.hash_input (link_view I.packed_number l) };
 
     ghost respects_eq = { λ l m. links_alike T.eq T.hash_input T.respects_eq
-        (seen_link I.packed_number l) (seen_link I.packed_number m) };
+        (link_view I.packed_number l) (link_view I.packed_number m) };
 
     fn hash<H: Hasher>(&self, state: &mut H) {
         self.numbers().hash(state);
@@ -112,6 +112,6 @@ impl<W: Copy, I: InxKey<Word = W>, T: Hash> Hash for LinkBody<PackedOption<I, W>
 /// and equal values, and the order goes by the link before, then by the one after, then by the value, where none is
 /// below each index or pointer. Indexes go by their numbers, pointers by their own order.
 pub fn links_compare_by_neighbors<P: Ptr, T: Ord>()
-    ensures no_gen { CompareByParts (parts_seen P.Inx.packed_number) ◌<◌ T.eq T.cmp ⟦<LinkNoGen<P, T> as PartialEq>⟧.eq ⟦<LinkNoGen<P, T> as Ord>⟧.cmp }
+    ensures no_gen { CompareByParts (body_parts P.Inx.packed_number) ◌<◌ T.eq T.cmp ⟦<LinkNoGen<P, T> as PartialEq>⟧.eq ⟦<LinkNoGen<P, T> as Ord>⟧.cmp }
     ensures pointers { CompareByParts parts_of (λ p q. P.cmp p q ≡ Less) T.eq T.cmp ⟦<Link<P, T> as PartialEq>⟧.eq ⟦<Link<P, T> as Ord>⟧.cmp }
 {}

@@ -1,6 +1,6 @@
 ghost use Rattle.std.specs.Prelude.{◌≡◌, None};
 ghost use Rattle.std.specs.Option.{option_map};
-ghost use Rattle.chain_links.specs.Links.{seen_link, index_in};
+ghost use Rattle.chain_links.specs.Links.{link_view, index_in};
 
 use arena_ptr::{InxKey, PackedOption, PtrKey, ToolPtr};
 use std::alloc::AllocError;
@@ -62,29 +62,29 @@ const _: () = prove!(size_of::<LinkNoGen<ToolPtr, u32>>() == 16);
 impl<W: Copy, I: InxKey<Word = W>, T> LinkBody<PackedOption<I, W>, T> {
     /// The index of the link before this one in its chain. `None` at the start of the chain.
     pub fn prev(&self) -> Option<I>
-        ensures { option_map I.number result ≡ (seen_link I.packed_number self.now).prev }
+        ensures { option_map I.number result ≡ (link_view I.packed_number self.now).prev }
     {
         I::unpack(self.prev)
     }
 
     /// The index of the link after this one in its chain. `None` at the end of the chain.
     pub fn next(&self) -> Option<I>
-        ensures { option_map I.number result ≡ (seen_link I.packed_number self.now).next }
+        ensures { option_map I.number result ≡ (link_view I.packed_number self.now).next }
     {
         I::unpack(self.next)
     }
 
     /// Both interlinks: `(self.prev(), self.next())`.
     pub fn prev_next(&self) -> (Option<I>, Option<I>)
-        ensures prev { option_map I.number result.0 ≡ (seen_link I.packed_number self.now).prev }
-        ensures next { option_map I.number result.1 ≡ (seen_link I.packed_number self.now).next }
+        ensures prev { option_map I.number result.0 ≡ (link_view I.packed_number self.now).prev }
+        ensures next { option_map I.number result.1 ≡ (link_view I.packed_number self.now).next }
     {
         (self.prev(), self.next())
     }
 
     /// A link of its parts.
     pub fn new(prev_next: (Option<I>, Option<I>), t: T) -> Self
-        ensures { seen_link I.packed_number result
+        ensures { link_view I.packed_number result
             ≡ record {
               prev = option_map I.number prev_next.0;
               next = option_map I.number
@@ -168,7 +168,7 @@ impl<P: Copy, T> Link<P, T> {
 impl<P: PtrKey, T> Link<P, T> {
     /// The same link without the generations of its neighbours.
     pub fn no_gen(self) -> LinkNoGen<P, T>
-        ensures { seen_link P.Inx.packed_number result
+        ensures { link_view P.Inx.packed_number result
             ≡ record {
               prev = option_map (index_in P.key) self.prev;
               next = option_map
@@ -181,9 +181,9 @@ impl<P: PtrKey, T> Link<P, T> {
 
     /// The same link without the generations of its neighbours, with its value by reference.
     pub fn no_gen_ref(&self) -> LinkNoGen<P, &T>
-        ensures prev { (seen_link P.Inx.packed_number result).prev ≡ option_map
+        ensures prev { (link_view P.Inx.packed_number result).prev ≡ option_map
             (index_in P.key) self.now.prev }
-        ensures next { (seen_link P.Inx.packed_number result).next ≡ option_map
+        ensures next { (link_view P.Inx.packed_number result).next ≡ option_map
             (index_in P.key) self.now.next }
         ensures value { result.t.now ≡ self.now.t }
     {

@@ -1,7 +1,7 @@
 // Calls of ordered documents.
 ghost use Rattle.std.specs.Prelude.{OnOk, OnSome, map};
 ghost use Rattle.std.specs.Option.{option_map};
-ghost use Rattle.chain_links.specs.ChainArena.{entry, seen, shown};
+ghost use Rattle.chain_links.specs.ChainArena.{entry, value_view, link_map};
 ghost use Rattle.chain_examples.specs.Renumbering.{IsRenumbered};
 ghost use Rattle.chain_examples.specs.Texts.{IsMovedAfter};
 
@@ -30,7 +30,7 @@ pub fn renumber<P: PtrKey, T: Drop, S: SlotStack<Item = ArenaSlot<P, LinkNoGen<P
     alloc: Global,
     bookmarks: &mut [Option<P>],
 ) -> Result<(), AllocError>
-    ensures { OnOk result (IsRenumbered P.Gen.first P.Gen.following seen entry shown
+    ensures { OnOk result (IsRenumbered P.Gen.first P.Gen.following value_view entry link_map
         documents.old documents.new
         (map (option_map P.key) bookmarks.old) (map (option_map P.key) bookmarks.new)) }
 {

@@ -4,7 +4,7 @@ ghost use Rattle.arena_ptr.specs.Invalidation.{invalidation_option};
 ghost use Rattle.arena_base.specs.Arena.{IsValid, entry_count};
 ghost use Rattle.arena_base.specs.Entries.{count};
 ghost use Rattle.arena_base.specs.Compressions.{overflows_after_compression};
-ghost use Rattle.chain_links.specs.ChainArena.{entry, seen, shown};
+ghost use Rattle.chain_links.specs.ChainArena.{entry, value_view, link_map};
 ghost use Rattle.chain_links.specs.CanonicalLayouts.{IsCanonicalLayout};
 ghost use Rattle.chain_arena.specs.Drains.{walk_left, without_each};
 ghost use Rattle.chain_arena.specs.Transfers.{IsTransfer};
@@ -39,8 +39,8 @@ pub fn compress_canonical_counted<
     T: Drop,
     S: SlotStack<Item = ArenaSlot<P, LinkNoGen<P, T>>>,
 >(arena: &mut ChainArena<P, T, S>, reset: bool) -> (InvalidationOption<()>, Work)
-    ensures canonical { IsCanonicalLayout P.Gen.first P.Gen.following reset (seen arena.old)
-        (shown arena.old) (seen arena.new) (shown arena.new) }
+    ensures canonical { IsCanonicalLayout P.Gen.first P.Gen.following reset (value_view arena.old)
+        (link_map arena.old) (value_view arena.new) (link_map arena.new) }
     ensures overflow { result.0 ≡ invalidation_option (overflows_after_compression P.Gen.wraps reset
         (entry_count arena.old) arena.old.counter) tt }
     ensures placed { arena.new.placed ≡ arena.old.placed + result.1.placed }
@@ -67,8 +67,8 @@ pub fn transfer_canonical_reallocating<
     requires { F.IsAlwaysCallable map }
     ensures transferred { OnOk result
         (IsTransfer Q.key P.key Q.Gen.following Q.Gen.wraps F.FnMut new_generation map
-        (A.seen source.old) (A.interlinks source.old) (A.seen source.new) target.old target.new) }
-    ensures within { count (A.seen source.old) ≤ target.old.capacity
+        (A.view source.old) (A.interlinks source.old) (A.view source.new) target.old target.new) }
+    ensures within { count (A.view source.old) ≤ target.old.capacity
         → IsOk result × (target.new.capacity ≡ target.old.capacity)
         × (target.new.stack_capacity ≡ target.old.stack_capacity) }
     ensures err { OnErr result ((target.new ≡ target.old) × (source.new ≡ source.old)) }

@@ -1,8 +1,8 @@
 // Calls of the run queue.
 ghost use Rattle.std.specs.Prelude.{◌≡◌, ◌↔◌, ◌<◌, ◌+◌, ◌∷◌, [], ◌++◌, length, IfSome, IsOk, IfOk, OnOk, IsErr, OnErr, Err};
 ghost use Rattle.arena_ptr.specs.SlotStack.{IsBeyond};
-ghost use Rattle.arena_base.specs.Arena.{IsRoom};
-ghost use Rattle.chain_laws.specs.Chains.{Has};
+ghost use Rattle.arena_base.specs.Arena.{IsCapacityFor};
+ghost use Rattle.chain_laws.specs.Chains.{IsMember};
 ghost use Rattle.chain_examples.specs.Lists.{indexes};
 ghost use Rattle.chain_examples.specs.QueueOrder.{IsCancelled};
 
@@ -16,10 +16,10 @@ pub fn spawn<P: PtrKey, T: Drop, A: ChainArenaTrait<P, T> + Drop>(
     task: T,
 ) -> Result<P, ReallocationError>
     ensures last { IfOk result (λ p. queue.new.turn ≡ queue.old.turn ++ (P.key p, task) ∷ []) }
-    ensures fresh { IfOk result (λ p. ¬ Has (indexes queue.old.turn) (P.key p).0) }
+    ensures fresh { IfOk result (λ p. ¬ IsMember (indexes queue.old.turn) (P.key p).0) }
     ensures room { length queue.old.turn < queue.old.room
         → IsOk result × (queue.new.room ≡ queue.old.room) }
-    ensures grown { OnOk result (IsRoom P.Inx.greatest queue.new.maximum
+    ensures grown { OnOk result (IsCapacityFor P.Inx.greatest queue.new.maximum
         (length queue.old.turn + 1) queue.new.room) }
     ensures beyond { (result ≡ Err ReallocationError.BeyondMaxCapacity)
         ↔ ((length queue.old.turn ≡ queue.old.room)

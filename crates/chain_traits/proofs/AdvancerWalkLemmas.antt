@@ -5,9 +5,9 @@ use Rattle.std.proofs.lemmas.List.{length-map, append-nil}
 use Rattle.std.proofs.lemmas.List.Elements.{All-append, All-cons, All-nil}
 use Rattle.arena_ptr.specs.Numbers.{IsWithin}
 use Rattle.chain_laws.specs.Chains as chains
-use Rattle.chain_laws.specs.Chains.{Shown, Agrees, prev_of}
+use Rattle.chain_laws.specs.Chains.{LinkMap, IsWellLinked, prev_of}
 use Rattle.chain_laws.specs.Walks.{Walker, IsWalk, walk_ahead, passes_ahead, step_of}
-use Rattle.chain_laws.proofs.ListLemmas.Members.{Has-right}
+use Rattle.chain_laws.proofs.ListLemmas.Members.{IsMember-right}
 use Rattle.chain_laws.proofs.WalkLemmas.Members.{has_walk, walk_valid, walk_once}
 use Rattle.chain_laws.proofs.WalkLemmas.Steps.{step_ahead}
 use Rattle.chain_laws.proofs.WalkLemmas.Walker.{walk_passed}
@@ -15,10 +15,10 @@ use Rattle.arena_base.specs.Entries.{found, index_of}
 use Rattle.chain_laws.proofs.WalkLemmas.WalkBack.{length_among}
 use Rattle.chain_traits.proofs.GenericArenaLemmas.{valid_some, valid_has, links_within}
 
-module _ {Gen T : Type 0} (interlinks : Shown) (entry : ℕ → Option (Gen × T)) (es : List ((ℕ × Gen) × T)) (stands : (i : ℕ) → is_some (interlinks i) ≡ is_some (entry i))
+module _ {Gen T : Type 0} (interlinks : LinkMap) (entry : ℕ → Option (Gen × T)) (es : List ((ℕ × Gen) × T)) (stands : (i : ℕ) → is_some (interlinks i) ≡ is_some (entry i))
     (looked : (i : ℕ) → found i es ≡ entry i) where
   -- a walker that makes as many steps as there are entries passes the walk
-  pub passes_walk : (greatest i : ℕ) → Agrees interlinks → All (λ e. IsWithin greatest (index_of e)) es → chains.HasLink interlinks i
+  pub passes_walk : (greatest i : ℕ) → IsWellLinked interlinks → All (λ e. IsWithin greatest (index_of e)) es → chains.HasLink interlinks i
       → IsWalk interlinks i (walk_ahead (length es) interlinks i (Some i) (prev_of interlinks i))
   passes_walk greatest i agrees within valid =
       let inside = links_within interlinks entry es stands looked greatest within in
@@ -30,7 +30,7 @@ module _ {Gen T : Type 0} (interlinks : Shown) (entry : ℕ → Option (Gen × T
   pub walk_whole : (i : ℕ) (passed left : List ℕ) → IsWalk interlinks i (passed ++ left) → ((j : ℕ) (rest : List ℕ) → left ≡ j ∷ rest → entry j ≡ None) → IsWalk interlinks i passed
   walk_whole i passed [] walk none = subst (IsWalk interlinks i) (append-nil passed) walk
   walk_whole i passed (j ∷ rest) walk none =
-      let valid = walk_valid interlinks i (passed ++ j ∷ rest) walk j (Has-right passed (j ∷ rest) j (inl refl)) in
+      let valid = walk_valid interlinks i (passed ++ j ∷ rest) walk j (IsMember-right passed (j ∷ rest) j (inl refl)) in
       absurd (let some = valid_some interlinks entry es stands looked j valid in let no = none j rest refl in let both = sym some ∙ ap is_some no in cc)
 
 -- a last item is passed before what is ahead
@@ -39,7 +39,7 @@ passed_last name [] q ahead = refl
 passed_last name (x ∷ all) q ahead = ap (λ l. name x ∷ l) (passed_last name all q ahead)
 
 -- by a step the link of it goes from what is ahead to what was passed
-pub passed_on : {Q : Type 0} (name : Q → ℕ) (links : Shown) (old new : Walker) (all after : List Q) (q : Q) (whole : List ℕ) → map name all ++ passes_ahead links old ≡ whole → after ≡ all ++ q ∷ []
+pub passed_on : {Q : Type 0} (name : Q → ℕ) (links : LinkMap) (old new : Walker) (all after : List Q) (q : Q) (whole : List ℕ) → map name all ++ passes_ahead links old ≡ whole → after ≡ all ++ q ∷ []
     → step_of links old ≡ Some (name q, new) → map name after ++ passes_ahead links new ≡ whole
 passed_on name links old new all after q whole before is step =
     ap (λ l. map name l ++ passes_ahead links new) is ∙ (passed_last name all q (passes_ahead links new) ∙ (ap (λ l. map name all ++ l) (sym (step_ahead links old new (name q) step)) ∙ before))

@@ -7,30 +7,30 @@ use Rattle.std.proofs.lemmas.List.Elements.{recursion_from_All}
 use Rattle.std.proofs.lemmas.Bool.{eqb-true, eq-eqb, le-leb}
 use Rattle.arena_ptr.specs.Numbers.{IsWithin}
 use Rattle.chain_laws.specs.Chains as chains
-use Rattle.chain_laws.specs.Chains.{Shown, Interlinks, Agrees, Has}
+use Rattle.chain_laws.specs.Chains.{LinkMap, Interlinks, IsWellLinked, IsMember}
 use Rattle.chain_laws.specs.ChainStart.{IsBack}
 use Rattle.chain_laws.proofs.WalkLemmas.WalkBack.{back_is_short}
 use Rattle.arena_base.specs.Arena.{IsValid}
 use Rattle.arena_base.specs.Entries.{found, first_key, index_of, RisesFrom}
-use Rattle.arena_base.specs.Advancers.{from_index, IsLookUntilNone}
-use Rattle.arena_base.specs.declared.cursor.Look.{Look}
-use Rattle.arena_base.specs.declared.cursor.Look.TheVariants.{Up}
+use Rattle.arena_base.specs.Advancers.{entries_at_or_above, IsAdvanceUntilNone}
+use Rattle.arena_base.specs.declared.cursor.Cursor.{Cursor}
+use Rattle.arena_base.specs.declared.cursor.Cursor.TheVariants.{Up}
 
 module _ {Gen T : Type 0} where
   -- entries that rise from an index on stand there
-  pub from_index-rises : (i j : ℕ) (es : List ((ℕ × Gen) × T)) → i ≤ j → RisesFrom j es → from_index i es ≡ es
-  from_index-rises i j [] below rises = refl
-  from_index-rises i j (e ∷ es) below rises = ap (λ b. cond b (e ∷ es) (from_index i es)) (le-leb i e.0.0 (omega (arith, below, rises.0)))
+  pub entries_at_or_above-rises : (i j : ℕ) (es : List ((ℕ × Gen) × T)) → i ≤ j → RisesFrom j es → entries_at_or_above i es ≡ es
+  entries_at_or_above-rises i j [] below rises = refl
+  entries_at_or_above-rises i j (e ∷ es) below rises = ap (λ b. cond b (e ∷ es) (entries_at_or_above i es)) (le-leb i e.0.0 (omega (arith, below, rises.0)))
 
   -- what is found among entries is one of them
-  pub found_has : (i : ℕ) (es : List ((ℕ × Gen) × T)) → is_some (found i es) ≡ true → Has (map index_of es) i
+  pub found_has : (i : ℕ) (es : List ((ℕ × Gen) × T)) → is_some (found i es) ≡ true → IsMember (map index_of es) i
   found_has i [] some = absurd (let h = some in cc)
   found_has i (e ∷ es) some = by (e.0.0 == i) refl some (found_has i es) where
-    by : (b : Bool) → (e.0.0 == i) ≡ b → is_some (cond b (Some (e.0.1, e.1)) (found i es)) ≡ true → (is_some (found i es) ≡ true → Has (map index_of es) i) → Has (map index_of (e ∷ es)) i
+    by : (b : Bool) → (e.0.0 == i) ≡ b → is_some (cond b (Some (e.0.1, e.1)) (found i es)) ≡ true → (is_some (found i es) ≡ true → IsMember (map index_of es) i) → IsMember (map index_of (e ∷ es)) i
     by true same some rest = inl (eqb-true e.0.0 i same)
     by false other some rest = inr (rest some)
 
-  pub has_within : (greatest i : ℕ) (es : List ((ℕ × Gen) × T)) → AllByRecursion (λ e. IsWithin greatest (index_of e)) es → Has (map index_of es) i → IsWithin greatest i
+  pub has_within : (greatest i : ℕ) (es : List ((ℕ × Gen) × T)) → AllByRecursion (λ e. IsWithin greatest (index_of e)) es → IsMember (map index_of es) i → IsWithin greatest i
   has_within greatest i [] within has = absurd has
   has_within greatest i (e ∷ es) within (inl same) = subst (IsWithin greatest) same within.0
   has_within greatest i (e ∷ es) within (inr has) = has_within greatest i es within.1 has
@@ -58,22 +58,22 @@ module _ {Gen T : Type 0} where
       })
 
   -- an advancer that looks from where the entries begin answers the first of them
-  pub next_is : (es : List ((ℕ × Gen) × T)) (look after : Look) (from : ℕ) (p : ℕ × Gen) → look ≡ Up from → RisesFrom from es → IsLookUntilNone es look (Some p) after
+  pub next_is : (es : List ((ℕ × Gen) × T)) (look after : Cursor) (from : ℕ) (p : ℕ × Gen) → look ≡ Up from → RisesFrom from es → IsAdvanceUntilNone es look (Some p) after
       → IsLeast es p.0 × (after ≡ Up (p.0 + 1))
   next_is es look after from p up rises given =
-      let at = subst (λ (l : Look). IsLookUntilNone es l (Some p) after) up given in
-      (first_least from p es rises (at.first ∙ ap first_key (from_index-rises from from es (le_refl from) rises)), at.moves)
+      let at = subst (λ (l : Cursor). IsAdvanceUntilNone es l (Some p) after) up given in
+      (first_least from p es rises (at.first ∙ ap first_key (entries_at_or_above-rises from from es (le_refl from) rises)), at.moves)
 
-  pub none_is : (es : List ((ℕ × Gen) × T)) (look after : Look) (from : ℕ) → look ≡ Up from → RisesFrom from es → IsLookUntilNone es look None after → es ≡ []
+  pub none_is : (es : List ((ℕ × Gen) × T)) (look after : Cursor) (from : ℕ) → look ≡ Up from → RisesFrom from es → IsAdvanceUntilNone es look None after → es ≡ []
   none_is es look after from up rises given =
-      sym (from_index-rises from from es (le_refl from) rises) ∙ subst (λ (l : Look). IsLookUntilNone es l None after) up given
+      sym (entries_at_or_above-rises from from es (le_refl from) rises) ∙ subst (λ (l : Cursor). IsAdvanceUntilNone es l None after) up given
 
-module _ {Gen T : Type 0} (interlinks : Shown) (entry : ℕ → Option (Gen × T)) (es : List ((ℕ × Gen) × T)) (stands : (i : ℕ) → is_some (interlinks i) ≡ is_some (entry i))
+module _ {Gen T : Type 0} (interlinks : LinkMap) (entry : ℕ → Option (Gen × T)) (es : List ((ℕ × Gen) × T)) (stands : (i : ℕ) → is_some (interlinks i) ≡ is_some (entry i))
     (looked : (i : ℕ) → found i es ≡ entry i) where
   pub valid_some : (i : ℕ) → chains.HasLink interlinks i → is_some (entry i) ≡ true
   valid_some i valid = sym (stands i) ∙ ap is_some valid.shows
 
-  pub valid_has : (i : ℕ) → chains.HasLink interlinks i → Has (map index_of es) i
+  pub valid_has : (i : ℕ) → chains.HasLink interlinks i → IsMember (map index_of es) i
   valid_has i valid = found_has i es (ap is_some (looked i) ∙ valid_some i valid)
 
   -- a link stands where an entry does
@@ -95,6 +95,6 @@ module _ {Gen T : Type 0} (interlinks : Shown) (entry : ℕ → Option (Gen × T
     links_within = record { within = λ j v. has_within greatest j es (recursion_from_All _ es within) (valid_has j v) }
 
     -- a walk back makes fewer steps than there are entries
-    pub few_back : (i steps here : ℕ) → Agrees interlinks → is_some (entry i) ≡ true → IsBack interlinks i steps here → steps < length es
+    pub few_back : (i steps here : ℕ) → IsWellLinked interlinks → is_some (entry i) ≡ true → IsBack interlinks i steps here → steps < length es
     few_back i steps here agrees there back =
         subst (λ n. steps < n) (length-map es index_of) (back_is_short interlinks greatest i steps here (map index_of es) agrees links_within (some_valid i there) valid_has back)

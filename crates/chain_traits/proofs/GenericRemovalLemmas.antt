@@ -2,11 +2,11 @@
 use Rattle.std.proofs.Common.{◌≡◌, ◌≢◌, ℕ, suc, ◌+◌, List, [], ◌∷◌, length, Bool, true, false, Option, None, Some, refl, sym, ap, ◌∙◌, subst, arith}
 use Rattle.std.specs.Prelude.{◌↔◌, is_some, cond, ◌==◌, IsSome, IfSome, OnSome, IfNone}
 use Rattle.std.specs.Option.{option_map}
-use Rattle.chain_laws.specs.Chains.{Shown, Agrees}
+use Rattle.chain_laws.specs.Chains.{LinkMap, IsWellLinked}
 use Rattle.chain_laws.specs.Removals.{removed, Removes}
 use Rattle.chain_laws.proofs.RemovalLemmas.Chains.{removed_removes}
 use Rattle.arena_base.specs.Arena.{IsValid}
-use Rattle.arena_base.specs.Entries.{Seen, count, found, without, RisesFrom, entry_removed}
+use Rattle.arena_base.specs.Entries.{ArenaView, count, found, without, RisesFrom, entry_removed}
 use Rattle.arena_base.proofs.EntrySearchLemmas.{found-gone, found-kept}
 
 module _ {Gen T : Type 0} where
@@ -32,7 +32,7 @@ module _ {Gen T : Type 0} where
 pub same_entry : {A Gen T : Type 0} (entries : A → List ((ℕ × Gen) × T)) (entry : A → ℕ → Option (Gen × T)) → ((a : A) (i : ℕ) → found i (entries a) ≡ entry a i) → (a b : A) → entries b ≡ entries a → entry b ≡ entry a
 same_entry entries entry looked a b same = λ k i. (sym (looked b i) ∙ (ap (found i) same ∙ looked a i)) k
 
-module _ {A Gen T : Type 0} (seen : A → Seen Gen T) (entry : A → ℕ → Option (Gen × T)) (links : A → Shown) where
+module _ {A Gen T : Type 0} (seen : A → ArenaView Gen T) (entry : A → ℕ → Option (Gen × T)) (links : A → LinkMap) where
   -- the entry of a pointer has gone
   pub record HasGone (old new : A) (p : ℕ × Gen) : Type 0 where
     pub stood : IsValid (entry old) p
@@ -51,7 +51,7 @@ module _ {A Gen T : Type 0} (seen : A → Seen Gen T) (entry : A → ℕ → Opt
 
   pub removal : ((a : A) → RisesFrom 1 (seen a).entries) → ((a : A) (i : ℕ) → found i (seen a).entries ≡ entry a i) → (old new : A) (p : ℕ × Gen) (following : Gen → Gen) (o : Option T)
       → IsSome o ↔ IsValid (entry old) p → (IsValid (entry old) p → (o ≡ option_map (λ e. e.1) (entry old p.0)) × (seen new ≡ entry_removed following (seen old) p.0))
-      → ((IsValid (entry old) p → ⊥) → (o ≡ None) × (new ≡ old)) → (IsValid (entry old) p → links new ≡ removed (links old) p.0) → Agrees (links old) → TakesEntry old new p o
+      → ((IsValid (entry old) p → ⊥) → (o ≡ None) × (new ≡ old)) → (IsValid (entry old) p → links new ≡ removed (links old) p.0) → IsWellLinked (links old) → TakesEntry old new p o
   removal rises looked old new p following o some valid invalid passed agrees = record {
     valid = some.1;
     value = λ v. (valid v).0 ∙ ap (option_map (λ (e : Gen × T). e.1)) v.stands;
@@ -61,13 +61,13 @@ module _ {A Gen T : Type 0} (seen : A → Seen Gen T) (entry : A → ℕ → Opt
     where
       has_gone : IsValid (entry old) p → HasGone old new p
       has_gone v =
-          let entries = ap (λ (s : Seen Gen T). s.entries) (valid v).1 in
+          let entries = ap (λ (s : ArenaView Gen T). s.entries) (valid v).1 in
           record {
             stood = v;
             gone = entry_gone (entry old) (entry new) (seen old).entries (seen new).entries p.0 (rises old) (looked old) (looked new) entries;
             kept = entry_kept (entry old) (entry new) (seen old).entries (seen new).entries p.0 (rises old) (looked old) (looked new) entries;
             shows = passed v;
-            chains = subst (λ (l : Shown). Removes (links old) l p.0) (sym (passed v)) (removed_removes (links old) p.0 agrees);
+            chains = subst (λ (l : LinkMap). Removes (links old) l p.0) (sym (passed v)) (removed_removes (links old) p.0 agrees);
             less = let one = one_less p.0 (seen old).entries (ap is_some (looked old p.0) ∙ ap is_some v.stands) in let many = ap length entries in omega arith;
           }
 

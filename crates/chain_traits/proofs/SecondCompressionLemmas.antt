@@ -6,7 +6,7 @@ use Rattle.std.specs.List.{range_with_len}
 use Rattle.std.proofs.lemmas.List.{length-map}
 use Rattle.std.proofs.lemmas.List.FromFn.{length-range_with_len}
 use Rattle.std.proofs.lemmas.Bool.{eqb-true, eq-eqb}
-use Rattle.chain_laws.specs.Chains.{Shown, Chain, linear, cyclic, all_items, AreChains}
+use Rattle.chain_laws.specs.Chains.{LinkMap, Chain, linear, cyclic, all_items, AreChains}
 use Rattle.chain_laws.specs.Renamings.{IsRenaming}
 use Rattle.chain_laws.specs.Arrangements.{place_in, in_runs, IsLeastIndexOrder}
 use Rattle.chain_laws.proofs.RenamingLemmas.Chains.{renaming_is_determined}
@@ -26,15 +26,15 @@ runs_in_runs k (cyclic xs ∷ chains) =
     rw (length-range_with_len k (length xs)) (ap (λ cs. cyclic (range_with_len k (length xs)) ∷ cs) (runs_in_runs (k + length xs) chains))
 
 -- links in runs are renamed to themselves by their order
-renamed_to_itself : (shown : Shown) (chains : List Chain) → AreChains shown (in_runs 1 chains) → IsRenaming (place_in (range_with_len 1 (length (all_items chains)))) shown shown
-renamed_to_itself shown chains are =
-    subst (λ (is : List ℕ). IsRenaming (place_in is) shown shown) (items_in_runs 1 chains)
-    (runs_are_renumbered shown shown (in_runs 1 chains) are (subst (AreChains shown) (sym (runs_in_runs 1 chains)) are))
+renamed_to_itself : (link_map : LinkMap) (chains : List Chain) → AreChains link_map (in_runs 1 chains) → IsRenaming (place_in (range_with_len 1 (length (all_items chains)))) link_map link_map
+renamed_to_itself link_map chains are =
+    subst (λ (is : List ℕ). IsRenaming (place_in is) link_map link_map) (items_in_runs 1 chains)
+    (runs_are_renumbered link_map link_map (in_runs 1 chains) are (subst (AreChains link_map) (sym (runs_in_runs 1 chains)) are))
 
 -- two least-index orders of the same links are one
-one_order : (shown : Shown) (indexes others : List ℕ) → IsLeastIndexOrder shown indexes → IsLeastIndexOrder shown others → indexes ≡ others
-one_order shown indexes others is also =
-    is.items ∙ (ap all_items (no_others shown is.chains also.chains is.are also.are) ∙ sym also.items)
+one_order : (link_map : LinkMap) (indexes others : List ℕ) → IsLeastIndexOrder link_map indexes → IsLeastIndexOrder link_map others → indexes ≡ others
+one_order link_map indexes others is also =
+    is.items ∙ (ap all_items (no_others link_map is.chains also.chains is.are also.are) ∙ sym also.items)
 
 some_equal : {X : Type 0} (xs ys : List X) → map (λ (x : X). Some x) xs ≡ map (λ (x : X). Some x) ys → xs ≡ ys
 some_equal [] [] is = refl

@@ -2,7 +2,7 @@ ghost use Rattle.std.specs.Prelude.{◌≡◌, ◌≢◌, ◌↔◌, ◌<◌, �
 ghost use Rattle.std.specs.Option.{option_map};
 ghost use Rattle.arena_ptr.specs.Numbers.{IsWithin};
 ghost use Rattle.arena_ptr.specs.Invalidation.{value_within, invalidation_option, invalidation_result};
-ghost use Rattle.chain_laws.specs.Chains.{Shown, Agrees, HasLinksWithin, prev_of, next_of};
+ghost use Rattle.chain_laws.specs.Chains.{LinkMap, IsWellLinked, HasLinksWithin, prev_of, next_of};
 ghost use Rattle.chain_laws.specs.Cuts.{cut, Cuts};
 ghost use Rattle.chain_laws.specs.Exchanges.{exchanged, Exchanges};
 ghost use Rattle.chain_laws.specs.Neighbors.{AreNeighbors, HasOneSetOfChains};
@@ -10,14 +10,14 @@ ghost use Rattle.chain_laws.specs.Joins.{joined, Connects};
 ghost use Rattle.chain_laws.specs.Removals.{removed, Removes};
 ghost use Rattle.chain_laws.specs.Renamings.{IsRenaming};
 ghost use Rattle.chain_laws.specs.Arrangements.{place_in};
-ghost use Rattle.arena_base.specs.Arena.{IsValid, IsRoom};
+ghost use Rattle.arena_base.specs.Arena.{IsValid, IsCapacityFor};
 ghost use Rattle.arena_base.specs.Entries.{count, index_of, NeedsBeyondMaximum};
 ghost use Rattle.arena_base.specs.Compressions.{overflows_after_compression};
 ghost use Rattle.chain_links.specs.ChainArena.{link_at, on_value, CanConnect, CanExchange, IsLinkAt};
-ghost use Rattle.chain_links.specs.CallEffects.{GainsLink, IsFull, LosesLink, SucceedsInRoom, YieldsLink};
+ghost use Rattle.chain_links.specs.CallEffects.{GainsLink, IsFull, LosesLink, SucceedsWithinCapacity, YieldsLink};
 ghost use Rattle.chain_links.specs.Kinds.{names_in, MayInsert};
 ghost use Rattle.chain_links.specs.CanonicalLayouts.{IsCanonicalLayout};
-ghost use Rattle.chain_links.specs.Links.{seen_link, seen_lent};
+ghost use Rattle.chain_links.specs.Links.{link_view, borrowed_link};
 ghost use Rattle.chain_laws.specs.Walks.{Walker, walker_at};
 ghost use Rattle.chain_links.specs.Walkers.{IsPassing};
 
@@ -39,7 +39,7 @@ pub trait ChainArenaTrait<P: PtrKey, T: Drop>: ArenaTrait<P, T> {
     type ChainPtrAdvancer: Advancer<Self, Item = P>;
 
     // The interlinks of the link at each index.
-    ghost interlinks: { Self → Shown };
+    ghost interlinks: { Self → LinkMap };
 
     // Where an advancer along a chain stands, and how many steps it still makes at most.
     ghost walker: { Self.ChainPtrAdvancer → Walker };
@@ -47,7 +47,7 @@ pub trait ChainArenaTrait<P: PtrKey, T: Drop>: ArenaTrait<P, T> {
     /// Shows that the interlinks agree: j comes after i exactly if i comes before j. It has no effect: a function calls it
     /// where its proof needs this and no other call has shown it.
     final fn agrees(&self)
-        ensures { Agrees (interlinks self.now) }
+        ensures { IsWellLinked (interlinks self.now) }
     {
         self.get_inx_link_no_gen(P::invalid().inx());
     }
@@ -55,12 +55,12 @@ pub trait ChainArenaTrait<P: PtrKey, T: Drop>: ArenaTrait<P, T> {
     /// Shows what holds of every arena of links: the interlinks agree, and there is exactly one set of chains that has
     /// each link once. It has no effect.
     final fn invariants(&self)
-        ensures agree { Agrees (interlinks self.now) }
+        ensures agree { IsWellLinked (interlinks self.now) }
         ensures one { HasOneSetOfChains (interlinks self.now) }
         ensures within { HasLinksWithin (interlinks self.now) P.Inx.greatest }
         ensures indexes { All (λ e. IsWithin P.Inx.greatest (index_of e))
-            (Self.seen self.now).entries }
-        ensures fits { count (Self.seen self.now) ≤ (Self.seen self.now).capacity }
+            (Self.view self.now).entries }
+        ensures fits { count (Self.view self.now) ≤ (Self.view self.now).capacity }
     {
         self.agrees();
         self.len();
@@ -83,17 +83,17 @@ pub trait ChainArenaTrait<P: PtrKey, T: Drop>: ArenaTrait<P, T> {
     ) -> Result<P, ChainInsertionError>
         ensures may { OnOk result (MayInsert (Self.entry self.old) (interlinks self.old)
             (names_in P.key P.Inx.number kind)) }
-        ensures inserted { IfOk result (λ p. GainsLink Self.seen Self.entry interlinks
+        ensures inserted { IfOk result (λ p. GainsLink Self.view Self.entry interlinks
             (names_in P.key P.Inx.number kind) t self.old (P.key p) self.new) }
-        ensures agreed { Agrees (interlinks self.old) }
-        ensures capacity { (Self.seen self.new).capacity ≡ (Self.seen self.old).capacity }
+        ensures agreed { IsWellLinked (interlinks self.old) }
+        ensures capacity { (Self.view self.new).capacity ≡ (Self.view self.old).capacity }
         ensures err { OnErr result (self.new ≡ self.old) }
         ensures link { (result ≡ Err ChainInsertionError.FailedLinkRequirement)
             ↔ ¬ MayInsert (Self.entry self.old) (interlinks self.old)
             (names_in P.key P.Inx.number kind) }
         ensures full { (result ≡ Err ChainInsertionError.NotWithinCapacity)
             ↔ (MayInsert (Self.entry self.old) (interlinks self.old)
-            (names_in P.key P.Inx.number kind) × IsFull (Self.seen self.old)) }
+            (names_in P.key P.Inx.number kind) × IsFull (Self.view self.old)) }
         ensures error { IfErr result (λ e. (e ≡ ChainInsertionError.FailedLinkRequirement)
             ⊎ (e ≡ ChainInsertionError.NotWithinCapacity)) };
 
@@ -109,23 +109,23 @@ pub trait ChainArenaTrait<P: PtrKey, T: Drop>: ArenaTrait<P, T> {
     ) -> Result<P, ChainInsertionError>
         ensures may { OnOk result (MayInsert (Self.entry self.old) (interlinks self.old)
             (names_in P.key P.Inx.number kind)) }
-        ensures inserted { IfOk result (λ p. GainsLink Self.seen Self.entry interlinks
+        ensures inserted { IfOk result (λ p. GainsLink Self.view Self.entry interlinks
             (names_in P.key P.Inx.number kind) t self.old (P.key p) self.new) }
-        ensures agreed { Agrees (interlinks self.old) }
+        ensures agreed { IsWellLinked (interlinks self.old) }
         ensures err { OnErr result (self.new ≡ self.old) }
         ensures link { (result ≡ Err ChainInsertionError.FailedLinkRequirement)
             ↔ ¬ MayInsert (Self.entry self.old) (interlinks self.old)
             (names_in P.key P.Inx.number kind) }
         ensures error { IfErr result (λ e. e ≢ ChainInsertionError.NotWithinCapacity) }
         ensures room { MayInsert (Self.entry self.old) (interlinks self.old)
-            (names_in P.key P.Inx.number kind) → SucceedsInRoom (Self.seen self.old) result
-            (Self.seen self.new) }
-        ensures grown { OnOk result (IsRoom P.Inx.greatest (Self.seen self.new).maximum
-            (count (Self.seen self.old) + 1) (Self.seen self.new).capacity) }
+            (names_in P.key P.Inx.number kind) → SucceedsWithinCapacity (Self.view self.old) result
+            (Self.view self.new) }
+        ensures grown { OnOk result (IsCapacityFor P.Inx.greatest (Self.view self.new).maximum
+            (count (Self.view self.old) + 1) (Self.view self.new).capacity) }
         ensures beyond { (result ≡ Err ChainInsertionError.BeyondMaxCapacity)
             ↔ (MayInsert (Self.entry self.old) (interlinks self.old)
-            (names_in P.key P.Inx.number kind) × NeedsBeyondMaximum (Self.seen self.old)) }
-        ensures greatest { count (Self.seen self.old) ≡ P.Inx.greatest → IsErr result };
+            (names_in P.key P.Inx.number kind) × NeedsBeyondMaximum (Self.view self.old)) }
+        ensures greatest { count (Self.view self.old) ≡ P.Inx.greatest → IsErr result };
 
     /// Adds a link of a kind that may be inserted (`can_insert`), and answers its pointer, as `insert_reallocating` does.
     ///
@@ -134,16 +134,16 @@ pub trait ChainArenaTrait<P: PtrKey, T: Drop>: ArenaTrait<P, T> {
     fn insert(&mut self, kind: LinkInsertKind<P>, t: T) -> Result<P, ReallocationError>
         requires { MayInsert (Self.entry self.old) (interlinks self.old)
             (names_in P.key P.Inx.number kind) }
-        ensures inserted { IfOk result (λ p. GainsLink Self.seen Self.entry interlinks
+        ensures inserted { IfOk result (λ p. GainsLink Self.view Self.entry interlinks
             (names_in P.key P.Inx.number kind) t self.old (P.key p) self.new) }
-        ensures agreed { Agrees (interlinks self.old) }
+        ensures agreed { IsWellLinked (interlinks self.old) }
         ensures err { OnErr result (self.new ≡ self.old) }
-        ensures room { SucceedsInRoom (Self.seen self.old) result (Self.seen self.new) }
-        ensures grown { OnOk result (IsRoom P.Inx.greatest (Self.seen self.new).maximum
-            (count (Self.seen self.old) + 1) (Self.seen self.new).capacity) }
+        ensures room { SucceedsWithinCapacity (Self.view self.old) result (Self.view self.new) }
+        ensures grown { OnOk result (IsCapacityFor P.Inx.greatest (Self.view self.new).maximum
+            (count (Self.view self.old) + 1) (Self.view self.new).capacity) }
         ensures beyond { (result ≡ Err ReallocationError.BeyondMaxCapacity)
-            ↔ NeedsBeyondMaximum (Self.seen self.old) }
-        ensures greatest { count (Self.seen self.old) ≡ P.Inx.greatest → IsErr result };
+            ↔ NeedsBeyondMaximum (Self.view self.old) }
+        ensures greatest { count (Self.view self.old) ≡ P.Inx.greatest → IsErr result };
 
     /// Whether q is the link after p: both pointers are valid, and the next link of p stands at q's index.
     fn are_neighbors(&self, p: P, q: P) -> bool
@@ -162,20 +162,20 @@ pub trait ChainArenaTrait<P: PtrKey, T: Drop>: ArenaTrait<P, T> {
         ensures link { IfSome result (λ link. IsLinkAt (Self.entry self.now) (interlinks self.now)
             (P.key p)
             (option_map P.key link.prev) (option_map P.key link.next) link.t.now) }
-        ensures agree { Agrees (interlinks self.now) };
+        ensures agree { IsWellLinked (interlinks self.now) };
 
     /// The link of a pointer. `None`: the pointer is not valid.
     fn get_link_no_gen(&self, p: P) -> Option<&LinkNoGen<P, T>>
         ensures some { IsSome result ↔ IsValid (Self.entry self.now) (P.key p) }
         ensures link { IfSome result (λ link. link_at (Self.entry self.now) (interlinks self.now)
-            (P.key p).0 ≡ Some ((P.key p).1, seen_link P.Inx.packed_number link.now)) }
-        ensures agree { Agrees (interlinks self.now) };
+            (P.key p).0 ≡ Some ((P.key p).1, link_view P.Inx.packed_number link.now)) }
+        ensures agree { IsWellLinked (interlinks self.now) };
 
     /// The generation and the link at an index. `None`: no link stands there.
     fn get_inx_link_no_gen(&self, i: P::Inx) -> Option<(P::Gen, &LinkNoGen<P, T>)>
-        ensures link { option_map (seen_lent P.Inx.packed_number) result ≡ link_at
+        ensures link { option_map (borrowed_link P.Inx.packed_number) result ≡ link_at
             (Self.entry self.now) (interlinks self.now) (P.Inx.number i) }
-        ensures agree { Agrees (interlinks self.now) };
+        ensures agree { IsWellLinked (interlinks self.now) };
 
     /// Returns an advancer along the chain of `p`, in walk order: from `p` on to the end, and then from the link before
     /// `p` back to the start; a cyclic chain once around. It makes no more steps than there are links now, whatever
@@ -183,8 +183,8 @@ pub trait ChainArenaTrait<P: PtrKey, T: Drop>: ArenaTrait<P, T> {
     fn advancer_chain(&self, p: P) -> Option<Self::ChainPtrAdvancer>
         ensures some { IsSome result ↔ IsValid (Self.entry self.now) (P.key p) }
         ensures walker { IfSome result (λ v. walker v
-            ≡ walker_at (interlinks self.now) (count (Self.seen self.now)) (P.key p).0) }
-        ensures agree { Agrees (interlinks self.now) };
+            ≡ walker_at (interlinks self.now) (count (Self.view self.now)) (P.key p).0) }
+        ensures agree { IsWellLinked (interlinks self.now) };
 
     /// Makes q the link after p: two chains become one, or one chain becomes cyclic. `Some` exactly if both pointers
     /// are valid, p has no next link and q no previous one; otherwise nothing changes.
@@ -195,9 +195,9 @@ pub trait ChainArenaTrait<P: PtrKey, T: Drop>: ArenaTrait<P, T> {
             (P.key p).0 (P.key q).0) }
         ensures chains { OnSome result (Connects (interlinks self.old) (interlinks self.new)
             (P.key p).0 (P.key q).0) }
-        ensures seen { OnSome result (Self.seen self.new ≡ Self.seen self.old) }
+        ensures seen { OnSome result (Self.view self.new ≡ Self.view self.old) }
         ensures none { IfNone result (self.new ≡ self.old) }
-        ensures agreed { Agrees (interlinks self.old) };
+        ensures agreed { IsWellLinked (interlinks self.old) };
 
     /// Cuts a link apart from the one before it: a linear chain becomes two, a cyclic one linear. `Some` exactly if the
     /// pointer is valid and its link has a previous one; otherwise nothing changes.
@@ -209,9 +209,9 @@ pub trait ChainArenaTrait<P: PtrKey, T: Drop>: ArenaTrait<P, T> {
             (λ a. interlinks self.new ≡ cut (interlinks self.old) a (P.key p).0)) }
         ensures chains { OnSome result (IfSome (prev_of (interlinks self.old) (P.key p).0)
             (λ a. Cuts (interlinks self.old) (interlinks self.new) a (P.key p).0)) }
-        ensures seen { OnSome result (Self.seen self.new ≡ Self.seen self.old) }
+        ensures seen { OnSome result (Self.view self.new ≡ Self.view self.old) }
         ensures none { IfNone result (self.new ≡ self.old) }
-        ensures agreed { Agrees (interlinks self.old) };
+        ensures agreed { IsWellLinked (interlinks self.old) };
 
     /// Cuts a link apart from the one after it: a linear chain becomes two, a cyclic one linear. `Some` exactly if the
     /// pointer is valid and its link has a next one; otherwise nothing changes.
@@ -223,9 +223,9 @@ pub trait ChainArenaTrait<P: PtrKey, T: Drop>: ArenaTrait<P, T> {
             (λ b. interlinks self.new ≡ cut (interlinks self.old) (P.key p).0 b)) }
         ensures chains { OnSome result (IfSome (next_of (interlinks self.old) (P.key p).0)
             (λ b. Cuts (interlinks self.old) (interlinks self.new) (P.key p).0 b)) }
-        ensures seen { OnSome result (Self.seen self.new ≡ Self.seen self.old) }
+        ensures seen { OnSome result (Self.view self.new ≡ Self.view self.old) }
         ensures none { IfNone result (self.new ≡ self.old) }
-        ensures agreed { Agrees (interlinks self.old) };
+        ensures agreed { IsWellLinked (interlinks self.old) };
 
     /// Exchanges what comes after p with what comes after q: one chain becomes two, or two become one, or two linear ones
     /// exchange their ends; of p with itself nothing changes. `Some` exactly if both pointers are valid and their links
@@ -237,9 +237,9 @@ pub trait ChainArenaTrait<P: PtrKey, T: Drop>: ArenaTrait<P, T> {
             (P.key p).0 (P.key q).0) }
         ensures chains { OnSome result (Exchanges (interlinks self.old) (interlinks self.new)
             (P.key p).0 (P.key q).0) }
-        ensures seen { OnSome result (Self.seen self.new ≡ Self.seen self.old) }
+        ensures seen { OnSome result (Self.view self.new ≡ Self.view self.old) }
         ensures none { IfNone result (self.new ≡ self.old) }
-        ensures agreed { Agrees (interlinks self.old) };
+        ensures agreed { IsWellLinked (interlinks self.old) };
 
     /// Removes a link, answers it with the interlinks that it had, increments the counter, and links its neighbours:
     /// the rest of its chain stays linear or cyclic.
@@ -249,15 +249,15 @@ pub trait ChainArenaTrait<P: PtrKey, T: Drop>: ArenaTrait<P, T> {
     fn remove_link_no_gen(&mut self, p: P) -> InvalidationResult<LinkNoGen<P, T>>
         ensures some { IsSome (value_within result) ↔ IsValid (Self.entry self.old) (P.key p) }
         ensures valid { IsValid (Self.entry self.old) (P.key p)
-            → YieldsLink Self.seen Self.entry interlinks P.Inx.packed_number P.Gen.following
+            → YieldsLink Self.view Self.entry interlinks P.Inx.packed_number P.Gen.following
             (P.key p) self.old (value_within result) self.new }
         ensures chains { IsValid (Self.entry self.old) (P.key p)
             → Removes (interlinks self.old) (interlinks self.new) (P.key p).0 }
-        ensures overflow { IfSome (Self.seen self.old).counter
+        ensures overflow { IfSome (Self.view self.old).counter
             (λ g. result ≡ invalidation_result (P.Gen.wraps g) (value_within result)) }
         ensures invalid { ¬ IsValid (Self.entry self.old) (P.key p) → (value_within result ≡ None)
             × (self.new ≡ self.old) }
-        ensures agreed { Agrees (interlinks self.old) };
+        ensures agreed { IsWellLinked (interlinks self.old) };
 
     /// Removes the link at an index, answers its generation and the link with the interlinks that it had, increments
     /// the counter, and links its neighbours: the rest of its chain stays linear or cyclic.
@@ -265,16 +265,16 @@ pub trait ChainArenaTrait<P: PtrKey, T: Drop>: ArenaTrait<P, T> {
     /// `InvalidPtr`: no link stands there, and nothing has changed. `GenerationOverflow`: the counter was at its
     /// greatest, and is two now.
     fn remove_inx_link_no_gen(&mut self, i: P::Inx) -> InvalidationResult<(P::Gen, LinkNoGen<P, T>)>
-        ensures answer { option_map (on_value (seen_link P.Inx.packed_number)) (value_within result)
+        ensures answer { option_map (on_value (link_view P.Inx.packed_number)) (value_within result)
             ≡ link_at (Self.entry self.old) (interlinks self.old) (P.Inx.number i) }
-        ensures overflow { IfSome (Self.seen self.old).counter
+        ensures overflow { IfSome (Self.view self.old).counter
             (λ g. result ≡ invalidation_result (P.Gen.wraps g) (value_within result)) }
         ensures valid { IsSome (Self.entry self.old (P.Inx.number i))
-            → LosesLink Self.seen interlinks P.Gen.following (P.Inx.number i) self.old self.new }
+            → LosesLink Self.view interlinks P.Gen.following (P.Inx.number i) self.old self.new }
         ensures chains { IsSome (Self.entry self.old (P.Inx.number i))
             → Removes (interlinks self.old) (interlinks self.new) (P.Inx.number i) }
         ensures invalid { Self.entry self.old (P.Inx.number i) ≡ None → self.new ≡ self.old }
-        ensures agreed { Agrees (interlinks self.old) };
+        ensures agreed { IsWellLinked (interlinks self.old) };
 
     /// Lays the chains one after another from index 1 on, in the order of their least indexes: each comes to one run of
     /// indexes in `next` order, a linear one from its start, a cyclic one from its least index. Each link keeps its value
@@ -283,12 +283,12 @@ pub trait ChainArenaTrait<P: PtrKey, T: Drop>: ArenaTrait<P, T> {
     /// The counter begins anew with `reset`, and else is incremented where there are links. `GenerationOverflow`: it was at
     /// its greatest, and is two now.
     fn compress_canonical(&mut self, reset: bool) -> InvalidationOption<()>
-        ensures canonical { IsCanonicalLayout P.Gen.first P.Gen.following reset (Self.seen self.old)
-            (interlinks self.old) (Self.seen self.new) (interlinks self.new) }
-        ensures overflow { IfSome (Self.seen self.old).counter
+        ensures canonical { IsCanonicalLayout P.Gen.first P.Gen.following reset (Self.view self.old)
+            (interlinks self.old) (Self.view self.new) (interlinks self.new) }
+        ensures overflow { IfSome (Self.view self.old).counter
             (λ g. result ≡ invalidation_option (overflows_after_compression P.Gen.wraps reset
-            (length (Self.seen self.old).entries) g) tt) }
-        ensures agreed { Agrees (interlinks self.old) };
+            (length (Self.view self.old).entries) g) tt) }
+        ensures agreed { IsWellLinked (interlinks self.old) };
 
     // A call of an advancer along a chain passes the link before it, in the arena of that call, or nothing any more.
     ghost passes: { (a b : Self.ChainPtrAdvancer) (c : Self) (r : Option P)
@@ -310,6 +310,6 @@ pub trait ChainArenaTrait<P: PtrKey, T: Drop>: ArenaTrait<P, T> {
         → interlinks b ≡ removed (interlinks a) i };
 
     ghost compressed: { (a b : Self) → Self.compresses a b
-        → IsRenaming (place_in (map index_of (Self.seen a).entries)) (interlinks a)
+        → IsRenaming (place_in (map index_of (Self.view a).entries)) (interlinks a)
         (interlinks b) };
 }

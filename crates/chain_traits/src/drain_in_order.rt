@@ -2,12 +2,12 @@
 ghost use Rattle.std.specs.Prelude.{◌≡◌, ◌≢◌, ℕ, [], IsSome, IfSome, IfNone, None, Some};
 ghost use Rattle.std.specs.Option.{option_map};
 ghost use Rattle.arena_ptr.specs.Invalidation.{value_in, is_overflow};
-ghost use Rattle.chain_laws.specs.Chains.{Agrees, prev_of, next_of};
+ghost use Rattle.chain_laws.specs.Chains.{IsWellLinked, prev_of, next_of};
 ghost use Rattle.chain_laws.specs.Removals.{removed};
-ghost use Rattle.chain_laws.specs.Walks.{going_on as goes_on};
+ghost use Rattle.chain_laws.specs.Walks.{step_forward};
 ghost use Rattle.chain_laws.specs.ChainStart.{IsStart};
 ghost use Rattle.arena_base.specs.Entries.{entry_removed, RisesFrom};
-ghost use Rattle.arena_base.specs.declared.cursor.Look.{Look};
+ghost use Rattle.arena_base.specs.declared.cursor.Cursor.{Cursor};
 ghost use Rattle.chain_traits.specs.DrainOrder.{IsNextChain};
 
 use crate::chain_traits::ChainArenaTrait;
@@ -27,7 +27,7 @@ fn before<Q: PtrKey, U: Drop, A: ChainArenaTrait<Q, U>>(source: &A, i: Q::Inx) -
 
 // The link that the chain of one is written from: the start of a linear one, and itself in a cyclic one.
 fn start_of<Q: PtrKey, U: Drop, A: ChainArenaTrait<Q, U>>(source: &A, i: Q::Inx) -> Q::Inx
-    requires agree { Agrees (A.interlinks source.now) }
+    requires agree { IsWellLinked (A.interlinks source.now) }
     requires some { IsSome (A.entry source.now (Q.Inx.number i)) }
     ensures start { IsStart (A.interlinks source.now) (Q.Inx.number i) (Q.Inx.number result) }
     ensures some { IsSome (A.entry source.now (Q.Inx.number result)) }
@@ -52,12 +52,12 @@ fn next_chain<Q: PtrKey, U: Drop, A: ChainArenaTrait<Q, U>>(
     source: &A,
     advancer: &mut A::PtrAdvancer,
 ) -> (Q::Inx, bool)
-    requires agree { Agrees (A.interlinks source.now) }
-    requires low { (from : ℕ) × (A.looks advancer.old ≡ Look.Up from)
-        × RisesFrom from (A.seen source.now).entries }
-    requires some { (A.seen source.now).entries ≢ [] }
-    ensures next { IsNextChain (A.seen source.now) (A.interlinks source.now)
-        (Q.Inx.number result.0) result.1 (A.looks advancer.new) }
+    requires agree { IsWellLinked (A.interlinks source.now) }
+    requires low { (from : ℕ) × (A.cursor advancer.old ≡ Cursor.Up from)
+        × RisesFrom from (A.view source.now).entries }
+    requires some { (A.view source.now).entries ≢ [] }
+    ensures next { IsNextChain (A.view source.now) (A.interlinks source.now)
+        (Q.Inx.number result.0) result.1 (A.cursor advancer.new) }
     ensures some { IsSome (A.entry source.now (Q.Inx.number result.0)) }
 {
     match advancer.advance(source) {
@@ -78,15 +78,15 @@ fn next_link<Q: PtrKey, U: Drop, A: ChainArenaTrait<Q, U>, I: Copy + Drop>(
     ring: bool,
     ends: Option<(I, I)>,
 ) -> (Q::Inx, bool, Option<(I, I)>)
-    requires agree { Agrees (A.interlinks source.now) }
-    requires low { on ≡ None → (from : ℕ) × (A.looks advancer.old ≡ Look.Up from)
-        × RisesFrom from (A.seen source.now).entries }
-    requires some { on ≡ None → (A.seen source.now).entries ≢ [] }
+    requires agree { IsWellLinked (A.interlinks source.now) }
+    requires low { on ≡ None → (from : ℕ) × (A.cursor advancer.old ≡ Cursor.Up from)
+        × RisesFrom from (A.view source.now).entries }
+    requires some { on ≡ None → (A.view source.now).entries ≢ [] }
     requires stands { IfSome on (λ i. IsSome (A.entry source.now (Q.Inx.number i))) }
     ensures goes_on { IfSome on (λ i. (result ≡ (i, ring, ends))
-        × (A.looks advancer.new ≡ A.looks advancer.old)) }
-    ensures begins { IfNone on (IsNextChain (A.seen source.now) (A.interlinks source.now)
-        (Q.Inx.number result.0) result.1 (A.looks advancer.new) × (result.2 ≡ None)) }
+        × (A.cursor advancer.new ≡ A.cursor advancer.old)) }
+    ensures begins { IfNone on (IsNextChain (A.view source.now) (A.interlinks source.now)
+        (Q.Inx.number result.0) result.1 (A.cursor advancer.new) × (result.2 ≡ None)) }
     ensures some { IsSome (A.entry source.now (Q.Inx.number result.0)) }
 {
     match on {
@@ -114,22 +114,22 @@ pub fn take_next<Q: PtrKey, U: Drop, A: ChainArenaTrait<Q, U>, I: Copy + Drop>(
     bool,
     Option<(I, I)>,
 )
-    requires agree { Agrees (A.interlinks source.old) }
-    requires low { on ≡ None → (from : ℕ) × (A.looks advancer.old ≡ Look.Up from)
-        × RisesFrom from (A.seen source.old).entries }
-    requires some { on ≡ None → (A.seen source.old).entries ≢ [] }
+    requires agree { IsWellLinked (A.interlinks source.old) }
+    requires low { on ≡ None → (from : ℕ) × (A.cursor advancer.old ≡ Cursor.Up from)
+        × RisesFrom from (A.view source.old).entries }
+    requires some { on ≡ None → (A.view source.old).entries ≢ [] }
     requires stands { IfSome on (λ i. IsSome (A.entry source.old (Q.Inx.number i))) }
     ensures goes_on { IfSome on (λ i. ((Q.key result.0).0 ≡ Q.Inx.number i) × (result.3 ≡ ring)
-        × (result.4 ≡ ends) × (A.looks advancer.new ≡ A.looks advancer.old)) }
-    ensures begins { IfNone on (IsNextChain (A.seen source.old) (A.interlinks source.old)
-        (Q.key result.0).0 result.3 (A.looks advancer.new) × (result.4 ≡ None)) }
+        × (result.4 ≡ ends) × (A.cursor advancer.new ≡ A.cursor advancer.old)) }
+    ensures begins { IfNone on (IsNextChain (A.view source.old) (A.interlinks source.old)
+        (Q.key result.0).0 result.3 (A.cursor advancer.new) × (result.4 ≡ None)) }
     ensures stood { A.entry source.old (Q.key result.0).0 ≡ Some
         ((Q.key result.0).1, value_in result.1) }
-    ensures overflow { IfSome (A.seen source.old).counter
+    ensures overflow { IfSome (A.view source.old).counter
         (λ g. is_overflow result.1 ≡ Q.Gen.wraps g) }
-    ensures next { option_map Q.Inx.number result.2 ≡ goes_on (Q.key result.0).0
+    ensures next { option_map Q.Inx.number result.2 ≡ step_forward (Q.key result.0).0
         (next_of (A.interlinks source.old) (Q.key result.0).0) }
-    ensures seen { A.seen source.new ≡ entry_removed Q.Gen.following (A.seen source.old)
+    ensures seen { A.view source.new ≡ entry_removed Q.Gen.following (A.view source.old)
         (Q.key result.0).0 }
     ensures links { A.interlinks source.new ≡ removed (A.interlinks source.old) (Q.key result.0).0 }
 {
@@ -148,14 +148,14 @@ fn take_link<Q: PtrKey, U: Drop, A: ChainArenaTrait<Q, U>>(
     ensures stood { A.entry source.old (Q.Inx.number i) ≡ Some
         ((Q.key result.0).1, value_in result.1) }
     ensures index { (Q.key result.0).0 ≡ Q.Inx.number i }
-    ensures overflow { IfSome (A.seen source.old).counter
+    ensures overflow { IfSome (A.view source.old).counter
         (λ g. is_overflow result.1 ≡ Q.Gen.wraps g) }
-    ensures next { option_map Q.Inx.number result.2 ≡ goes_on (Q.Inx.number i)
+    ensures next { option_map Q.Inx.number result.2 ≡ step_forward (Q.Inx.number i)
         (next_of (A.interlinks source.old) (Q.Inx.number i)) }
-    ensures seen { A.seen source.new ≡ entry_removed Q.Gen.following (A.seen source.old)
+    ensures seen { A.view source.new ≡ entry_removed Q.Gen.following (A.view source.old)
         (Q.Inx.number i) }
     ensures links { A.interlinks source.new ≡ removed (A.interlinks source.old) (Q.Inx.number i) }
-    ensures agreed { Agrees (A.interlinks source.old) }
+    ensures agreed { IsWellLinked (A.interlinks source.old) }
 {
     let (entry, overflow) = source.remove_inx_link_no_gen(i).overflowing();
     match entry {

@@ -17,7 +17,7 @@ use std::alloc::{AllocError, Global};
 pub fn advancer_passes_the_walk<P: PtrKey, T: Drop, A: ChainArenaTrait<P, T>>(arena: &A, p: P)
     ensures { IsValid (A.entry arena.now) (P.key p) → IsWalk (A.interlinks arena.now) (P.key p).0
         (passes_ahead (A.interlinks arena.now)
-        (walker_at (A.interlinks arena.now) (count (A.seen arena.now)) (P.key p).0)) }
+        (walker_at (A.interlinks arena.now) (count (A.view arena.now)) (P.key p).0)) }
 {
     arena.invariants();
 }

@@ -1,8 +1,8 @@
 // The layout of chains, one after another.
-ghost use Rattle.chain_laws.specs.Chains.{Agrees};
-ghost use Rattle.chain_links.specs.ChainArena.{shown};
-ghost use Rattle.chain_links.specs.Links.{seen_links};
-ghost use Rattle.chain_compaction.specs.Layouts.{AreLaidOut};
+ghost use Rattle.chain_laws.specs.Chains.{IsWellLinked};
+ghost use Rattle.chain_links.specs.ChainArena.{link_map};
+ghost use Rattle.chain_links.specs.Links.{links_view};
+ghost use Rattle.chain_compaction.specs.Layouts.{AreArranged};
 
 use arena_base::{Arena, ArenaSlot, Work};
 use arena_ptr::{InxKey, PtrKey, SlotStack};
@@ -18,9 +18,9 @@ pub fn lay_out<
     V: Visitor<P>,
 >(arena: &mut Arena<P, LinkNoGen<P, T>, S>, visitor: V) -> (V, Work)
     requires ready { V.is_ready visitor }
-    requires agree { Agrees (shown (seen_links P.Inx.packed_number arena.old)) }
-    ensures laid { AreLaidOut V.sees P.key visitor result.0
-        (seen_links P.Inx.packed_number arena.old) (seen_links P.Inx.packed_number arena.new) }
+    requires agree { IsWellLinked (link_map (links_view P.Inx.packed_number arena.old)) }
+    ensures laid { AreArranged V.sees P.key visitor result.0
+        (links_view P.Inx.packed_number arena.old) (links_view P.Inx.packed_number arena.new) }
 {
     let done = canonical::lay_out(arena, visitor);
     done

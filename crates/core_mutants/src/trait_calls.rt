@@ -1,6 +1,6 @@
 // Calls of the trait of arenas of links.
 ghost use Rattle.std.specs.Prelude.{◌≡◌, ◌↔◌, IsSome, IfSome, OnSome, IfNone};
-ghost use Rattle.chain_laws.specs.Chains.{Agrees, next_of};
+ghost use Rattle.chain_laws.specs.Chains.{IsWellLinked, next_of};
 ghost use Rattle.chain_laws.specs.Cuts.{cut, Cuts};
 ghost use Rattle.arena_base.specs.Arena.{IsValid};
 
@@ -15,9 +15,9 @@ pub fn break_next<P: PtrKey, T: Drop, A: ChainArenaTrait<P, T>>(arena: &mut A, p
         (λ b. A.interlinks arena.new ≡ cut (A.interlinks arena.old) (P.key p).0 b)) }
     ensures chains { OnSome result (IfSome (next_of (A.interlinks arena.old) (P.key p).0)
         (λ b. Cuts (A.interlinks arena.old) (A.interlinks arena.new) (P.key p).0 b)) }
-    ensures seen { OnSome result (A.seen arena.new ≡ A.seen arena.old) }
+    ensures seen { OnSome result (A.view arena.new ≡ A.view arena.old) }
     ensures none { IfNone result (arena.new ≡ arena.old) }
-    ensures agreed { Agrees (A.interlinks arena.old) }
+    ensures agreed { IsWellLinked (A.interlinks arena.old) }
 {
     arena.break_next(p)
 }

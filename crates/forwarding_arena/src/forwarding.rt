@@ -88,11 +88,11 @@ impl<P: PtrKey, T: Drop, A: ArenaTrait<P, T>> ArenaTrait<P, T> for ForwardingAre
 
     type PtrAdvancer = ForwardingAdvancer<A::PtrAdvancer>;
 
-    ghost seen = { λ w. A.seen w.inner };
+    ghost view = { λ w. A.view w.inner };
 
     ghost entry = { λ w. A.entry w.inner };
 
-    ghost looks = { λ v. A.looks v.inner };
+    ghost cursor = { λ v. A.cursor v.inner };
 
     ghost starts = { λ n w. A.starts n w.inner };
 
@@ -112,8 +112,8 @@ impl<P: PtrKey, T: Drop, A: ArenaTrait<P, T>> ArenaTrait<P, T> for ForwardingAre
 
     ghost looked_up = { λ w. A.looked_up w.inner };
 
-    ghost advances = { λ a b w answer given. until_none_after (A.seen w.inner).entries
-        (A.looks a.inner) P.key answer A.looks given.0 b.inner given.2
+    ghost advances = { λ a b w answer given. until_none_after (A.view w.inner).entries
+        (A.cursor a.inner) P.key answer A.cursor given.0 b.inner given.2
         (A.advances a.inner given.0 w.inner answer given.1) };
 
     fn new(alloc: Global) -> Self {
@@ -226,10 +226,10 @@ impl<P: PtrKey, T: Drop, A: CompactArenaTrait<P, T>> CompactArenaTrait<P, T>
 impl<P: PtrKey, T: Drop, A: ChainArenaTrait<P, T>> ChainArenaTrait<P, T> for ForwardingArena<A> {
     ghost use Rattle.std.specs.Prelude.{◌≡◌, ◌≢◌, ◌↔◌, ◌⊎◌, ◌+◌, IsTrue, IfOk, OnOk, IsErr, IfErr, OnErr, Err};
     ghost use Rattle.arena_ptr.specs.declared.errors.ChainInsertionError.TheVariants as failed;
-    ghost use Rattle.chain_laws.specs.Chains.{Agrees};
-    ghost use Rattle.arena_base.specs.Arena.{IsRoom};
+    ghost use Rattle.chain_laws.specs.Chains.{IsWellLinked};
+    ghost use Rattle.arena_base.specs.Arena.{IsCapacityFor};
     ghost use Rattle.arena_base.specs.Entries.{count, NeedsBeyondMaximum};
-    ghost use Rattle.chain_links.specs.CallEffects.{GainsLink, IsFull, SucceedsInRoom};
+    ghost use Rattle.chain_links.specs.CallEffects.{GainsLink, IsFull, SucceedsWithinCapacity};
     ghost use Rattle.chain_links.specs.Kinds.{names_in, MayInsert};
 
     type ChainPtrAdvancer = ForwardingWalk<A::ChainPtrAdvancer>;
@@ -266,17 +266,17 @@ impl<P: PtrKey, T: Drop, A: ChainArenaTrait<P, T>> ChainArenaTrait<P, T> for For
     ) -> Result<P, ChainInsertionError>
         ensures may { OnOk result (MayInsert (A.entry self.old.inner) (A.interlinks self.old.inner)
             (names_in P.key P.Inx.number kind)) }
-        ensures inserted { IfOk result (λ p. GainsLink A.seen A.entry A.interlinks
+        ensures inserted { IfOk result (λ p. GainsLink A.view A.entry A.interlinks
             (names_in P.key P.Inx.number kind) t self.old.inner (P.key p) self.new.inner) }
-        ensures agreed { Agrees (A.interlinks self.old.inner) }
-        ensures capacity { (A.seen self.new.inner).capacity ≡ (A.seen self.old.inner).capacity }
+        ensures agreed { IsWellLinked (A.interlinks self.old.inner) }
+        ensures capacity { (A.view self.new.inner).capacity ≡ (A.view self.old.inner).capacity }
         ensures err { OnErr result (self.new ≡ self.old) }
         ensures link { (result ≡ Err ChainInsertionError.FailedLinkRequirement)
             ↔ ¬ MayInsert (A.entry self.old.inner) (A.interlinks self.old.inner)
             (names_in P.key P.Inx.number kind) }
         ensures full { (result ≡ Err ChainInsertionError.NotWithinCapacity)
             ↔ (MayInsert (A.entry self.old.inner) (A.interlinks self.old.inner)
-            (names_in P.key P.Inx.number kind) × IsFull (A.seen self.old.inner)) }
+            (names_in P.key P.Inx.number kind) × IsFull (A.view self.old.inner)) }
         ensures error { IfErr result (λ e. (e ≡ ChainInsertionError.FailedLinkRequirement)
             ⊎ (e ≡ ChainInsertionError.NotWithinCapacity)) }
     {
@@ -290,23 +290,23 @@ impl<P: PtrKey, T: Drop, A: ChainArenaTrait<P, T>> ChainArenaTrait<P, T> for For
     ) -> Result<P, ChainInsertionError>
         ensures may { OnOk result (MayInsert (A.entry self.old.inner) (A.interlinks self.old.inner)
             (names_in P.key P.Inx.number kind)) }
-        ensures inserted { IfOk result (λ p. GainsLink A.seen A.entry A.interlinks
+        ensures inserted { IfOk result (λ p. GainsLink A.view A.entry A.interlinks
             (names_in P.key P.Inx.number kind) t self.old.inner (P.key p) self.new.inner) }
-        ensures agreed { Agrees (A.interlinks self.old.inner) }
+        ensures agreed { IsWellLinked (A.interlinks self.old.inner) }
         ensures err { OnErr result (self.new ≡ self.old) }
         ensures link { (result ≡ Err ChainInsertionError.FailedLinkRequirement)
             ↔ ¬ MayInsert (A.entry self.old.inner) (A.interlinks self.old.inner)
             (names_in P.key P.Inx.number kind) }
         ensures error { IfErr result (λ e. e ≢ ChainInsertionError.NotWithinCapacity) }
         ensures room { MayInsert (A.entry self.old.inner) (A.interlinks self.old.inner)
-            (names_in P.key P.Inx.number kind) → SucceedsInRoom (A.seen self.old.inner) result
-            (A.seen self.new.inner) }
-        ensures grown { OnOk result (IsRoom P.Inx.greatest (A.seen self.new.inner).maximum
-            (count (A.seen self.old.inner) + 1) (A.seen self.new.inner).capacity) }
+            (names_in P.key P.Inx.number kind) → SucceedsWithinCapacity (A.view self.old.inner) result
+            (A.view self.new.inner) }
+        ensures grown { OnOk result (IsCapacityFor P.Inx.greatest (A.view self.new.inner).maximum
+            (count (A.view self.old.inner) + 1) (A.view self.new.inner).capacity) }
         ensures beyond { (result ≡ Err failed.BeyondMaxCapacity)
             ↔ (MayInsert (A.entry self.old.inner) (A.interlinks self.old.inner)
-            (names_in P.key P.Inx.number kind) × NeedsBeyondMaximum (A.seen self.old.inner)) }
-        ensures greatest { count (A.seen self.old.inner) ≡ P.Inx.greatest → IsErr result }
+            (names_in P.key P.Inx.number kind) × NeedsBeyondMaximum (A.view self.old.inner)) }
+        ensures greatest { count (A.view self.old.inner) ≡ P.Inx.greatest → IsErr result }
     {
         self.inner.insert_reallocating(kind, t)
     }
@@ -314,16 +314,16 @@ impl<P: PtrKey, T: Drop, A: ChainArenaTrait<P, T>> ChainArenaTrait<P, T> for For
     fn insert(&mut self, kind: LinkInsertKind<P>, t: T) -> Result<P, ReallocationError>
         requires { MayInsert (A.entry self.old.inner) (A.interlinks self.old.inner)
             (names_in P.key P.Inx.number kind) }
-        ensures inserted { IfOk result (λ p. GainsLink A.seen A.entry A.interlinks
+        ensures inserted { IfOk result (λ p. GainsLink A.view A.entry A.interlinks
             (names_in P.key P.Inx.number kind) t self.old.inner (P.key p) self.new.inner) }
-        ensures agreed { Agrees (A.interlinks self.old.inner) }
+        ensures agreed { IsWellLinked (A.interlinks self.old.inner) }
         ensures err { OnErr result (self.new ≡ self.old) }
-        ensures room { SucceedsInRoom (A.seen self.old.inner) result (A.seen self.new.inner) }
-        ensures grown { OnOk result (IsRoom P.Inx.greatest (A.seen self.new.inner).maximum
-            (count (A.seen self.old.inner) + 1) (A.seen self.new.inner).capacity) }
+        ensures room { SucceedsWithinCapacity (A.view self.old.inner) result (A.view self.new.inner) }
+        ensures grown { OnOk result (IsCapacityFor P.Inx.greatest (A.view self.new.inner).maximum
+            (count (A.view self.old.inner) + 1) (A.view self.new.inner).capacity) }
         ensures beyond { (result ≡ Err ReallocationError.BeyondMaxCapacity)
-            ↔ NeedsBeyondMaximum (A.seen self.old.inner) }
-        ensures greatest { count (A.seen self.old.inner) ≡ P.Inx.greatest → IsErr result }
+            ↔ NeedsBeyondMaximum (A.view self.old.inner) }
+        ensures greatest { count (A.view self.old.inner) ≡ P.Inx.greatest → IsErr result }
     {
         self.inner.insert(kind, t)
     }

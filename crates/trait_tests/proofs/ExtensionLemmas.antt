@@ -2,7 +2,7 @@
 use Rattle.std.proofs.Common.{◌≡◌, ◌≢◌, ℕ, List, [], ◌∷◌, ◌++◌, Option, None, Some, refl, ap, sym, ◌∙◌, subst, ⊎_elim}
 use Rattle.std.specs.Prelude.{is_some, true, false, OnSome}
 use Rattle.std.proofs.lemmas.Bool.{cases_eq}
-use Rattle.chain_laws.specs.Chains.{Shown, Chain, linear, items, Has, IsChain, prev_in, prev_of, next_of}
+use Rattle.chain_laws.specs.Chains.{LinkMap, Chain, linear, items, IsMember, IsChain, prev_in, prev_of, next_of}
 use Rattle.chain_laws.specs.Joins.{joined, with_lone}
 use Rattle.chain_laws.proofs.JoinLemmas.LoneLinks.{with_lone_adds, next_of-with_lone, prev_of-with_lone}
 use Rattle.chain_laws.proofs.JoinLemmas.Chains.{joined_connects}
@@ -29,28 +29,28 @@ module _ {Gen T : Type 0} (old mid : ℕ → Option (Gen × T)) (q : ℕ × Gen)
       (cases_eq i q.0)
 
   -- nothing was shown where it went
-  pub not_shown : (interlinks : Shown) → is_some (interlinks q.0) ≡ is_some (old q.0) → interlinks q.0 ≡ None
+  pub not_shown : (interlinks : LinkMap) → is_some (interlinks q.0) ≡ is_some (old q.0) → interlinks q.0 ≡ None
   not_shown interlinks stands = none_of (interlinks q.0) (stands ∙ ap is_some inserted.free)
 
   -- it can be joined behind a link that names none after it
-  pub joinable : (interlinks changed : Shown) → interlinks q.0 ≡ None → changed ≡ with_lone interlinks q.0 → (p : ℕ × Gen) → IsValid old p → next_of interlinks p.0 ≡ None
+  pub joinable : (interlinks changed : LinkMap) → interlinks q.0 ≡ None → changed ≡ with_lone interlinks q.0 → (p : ℕ × Gen) → IsValid old p → next_of interlinks p.0 ≡ None
       → CanConnect mid changed p q
   joinable interlinks changed none alone p valid end =
       let other : p.0 ≢ q.0 = λ same. let both = sym valid.stands ∙ (ap old same ∙ inserted.free) in absurd (cc) in
       record {
         first_valid = record { value = valid.value; stands = inserted.rest p.0 other ∙ valid.stands };
         second_valid = record { value = t; stands = inserted.stands };
-        no_next = ap (λ (s : Shown). next_of s p.0) alone ∙ (next_of-with_lone interlinks q.0 none p.0 ∙ end);
-        no_prev = ap (λ (s : Shown). prev_of s q.0) alone ∙ (prev_of-with_lone interlinks q.0 none q.0 ∙ ap prev_in none);
+        no_next = ap (λ (s : LinkMap). next_of s p.0) alone ∙ (next_of-with_lone interlinks q.0 none p.0 ∙ end);
+        no_prev = ap (λ (s : LinkMap). prev_of s q.0) alone ∙ (prev_of-with_lone interlinks q.0 none q.0 ∙ ap prev_in none);
       }
 
 -- a link that was added alone and joined makes the chain longer
-pub extends : (old mid new : Shown) (p q : ℕ) → old q ≡ None → mid ≡ with_lone old q → new ≡ joined mid p q → Extends old new p q
+pub extends : (old mid new : LinkMap) (p q : ℕ) → old q ≡ None → mid ≡ with_lone old q → new ≡ joined mid p q → Extends old new p q
 extends old mid new p q none alone joins =
     let lone = with_lone_adds old q none in
     let tied = joined_connects (with_lone old q) p q in
-    let absent : (c : Chain) → IsChain old c → Has (items c) q → ⊥ = λ c is has. let both = sym none ∙ (chain_valid old c q is has).shows in absurd (cc) in
-    subst (λ (s : Shown). Extends old s p q) (sym (joins ∙ ap (λ (m : Shown). joined m p q) alone)) (record {
+    let absent : (c : Chain) → IsChain old c → IsMember (items c) q → ⊥ = λ c is has. let both = sym none ∙ (chain_valid old c q is has).shows in absurd (cc) in
+    subst (λ (s : LinkMap). Extends old s p q) (sym (joins ∙ ap (λ (m : LinkMap). joined m p q) alone)) (record {
       longer = λ x is.
           tied.two x [] ((lone.rest (linear (x ++ p ∷ [])) (absent (linear (x ++ p ∷ [])) is)).0 is) lone.alone (absent (linear (x ++ p ∷ [])) is);
       rest = λ c without_p without_q.
@@ -63,5 +63,5 @@ some_holds None some q = absurd (let h = some in cc)
 some_holds (Some x) some q = q
 
 -- a link that ends a chain where another was added alone ended it before
-pub ended : (old mid : Shown) (q : ℕ) → old q ≡ None → mid ≡ with_lone old q → (p : ℕ) → next_of mid p ≡ None → next_of old p ≡ None
-ended old mid q none alone p end = sym (next_of-with_lone old q none p) ∙ (sym (ap (λ (s : Shown). next_of s p) alone) ∙ end)
+pub ended : (old mid : LinkMap) (q : ℕ) → old q ≡ None → mid ≡ with_lone old q → (p : ℕ) → next_of mid p ≡ None → next_of old p ≡ None
+ended old mid q none alone p end = sym (next_of-with_lone old q none p) ∙ (sym (ap (λ (s : LinkMap). next_of s p) alone) ∙ end)

@@ -2,11 +2,11 @@
 use Rattle.std.specs.Prelude.{◌≡◌, ℕ, ◌⊎◌, List, [], ◌∷◌, ◌++◌, Option, None, Some}
 use Rattle.std.proofs.Common.{sym, refl, ap, ◌∙◌, subst, inl, inr}
 use mathlib.Core.Path.{fun_ext}
-use Rattle.chain_laws.specs.Chains.{Shown, Interlinks, Chain, linear, cyclic, items, IsChain, HasLink, HasLinksWithin, Agrees, Has, Stands, prev_of, next_of, first_or, last_or}
+use Rattle.chain_laws.specs.Chains.{LinkMap, Interlinks, Chain, linear, cyclic, items, IsChain, HasLink, HasLinksWithin, IsWellLinked, IsMember, AreLinked, prev_of, next_of, first_or, last_or}
 use Rattle.chain_laws.specs.Joins.{joined, with_lone, Connects, AddsLone, KeepsChainsWithout, HaveSameChains, ChainsDecide, PairsDecide, JoinIsDetermined, LoneIsDetermined}
 use Rattle.chain_laws.proofs.ChainLemmas.NeighborPairs.{same_named}
-use Rattle.chain_laws.proofs.ListLemmas.Members.{Has-left, Has-middle, Has-written, Has-or_not, last_or-filled, last_or-append}
-use Rattle.chain_laws.proofs.ChainLemmas.LinkedLists.{Stands-at, shows_next, shows_prev, shows_both}
+use Rattle.chain_laws.proofs.ListLemmas.Members.{IsMember-left, IsMember-middle, IsMember-written, IsMember-or_not, last_or-filled, last_or-append}
+use Rattle.chain_laws.proofs.ChainLemmas.LinkedLists.{AreLinked-at, shows_next, shows_prev, shows_both}
 use Rattle.chain_laws.proofs.ChainLemmas.Uniqueness.{chains_share, not_both, one_linear, one_cyclic}
 use Rattle.chain_laws.proofs.ChainLemmas.Rotations.{turned, turned_to}
 use Rattle.chain_laws.proofs.ChainLemmas.Existence.{ChainOf, stands_in, has_chain}
@@ -14,26 +14,26 @@ use Rattle.chain_laws.proofs.JoinLemmas.Chains.{joined_connects}
 use Rattle.chain_laws.proofs.JoinLemmas.LoneLinks.{with_lone_adds}
 
 -- a list that stands in two arenas shows the same in both
-pub Stands-same : (left right : Shown) (before : Option ℕ) (xs : List ℕ) (after : Option ℕ) (i : ℕ)
-    → Stands left before xs after → Stands right before xs after → Has xs i → left i ≡ right i
-Stands-same left right before [] after i s t h = elim h [ ]
-Stands-same left right before (x ∷ xs) after i s t (inl e) = subst (λ (j : ℕ). left j ≡ right j) e (s.0 ∙ sym t.0)
-Stands-same left right before (x ∷ xs) after i s t (inr h) = Stands-same left right (Some x) xs after i s.1 t.1 h
+pub AreLinked-same : (left right : LinkMap) (before : Option ℕ) (xs : List ℕ) (after : Option ℕ) (i : ℕ)
+    → AreLinked left before xs after → AreLinked right before xs after → IsMember xs i → left i ≡ right i
+AreLinked-same left right before [] after i s t h = elim h [ ]
+AreLinked-same left right before (x ∷ xs) after i s t (inl e) = subst (λ (j : ℕ). left j ≡ right j) e (s.0 ∙ sym t.0)
+AreLinked-same left right before (x ∷ xs) after i s t (inr h) = AreLinked-same left right (Some x) xs after i s.1 t.1 h
 
 -- a chain of two arenas shows the same in both
-pub IsChain-same : (left right : Shown) (c : Chain) (i : ℕ) → IsChain left c → IsChain right c → Has (items c) i → left i ≡ right i
-IsChain-same left right (linear xs) i s t h = Stands-same left right None xs None i s.2 t.2 h
-IsChain-same left right (cyclic xs) i s t h = Stands-same left right (last_or xs None) xs (first_or xs None) i s.2 t.2 h
+pub IsChain-same : (left right : LinkMap) (c : Chain) (i : ℕ) → IsChain left c → IsChain right c → IsMember (items c) i → left i ≡ right i
+IsChain-same left right (linear xs) i s t h = AreLinked-same left right None xs None i s.2 t.2 h
+IsChain-same left right (cyclic xs) i s t h = AreLinked-same left right (last_or xs None) xs (first_or xs None) i s.2 t.2 h
 
 -- where one of two chains that share an index also stands elsewhere, so does the other
-pub chain_elsewhere : (left right : Shown) (c d : Chain) (i : ℕ) → IsChain left c → IsChain left d → IsChain right d → Has (items c) i → Has (items d) i → IsChain right c
+pub chain_elsewhere : (left right : LinkMap) (c d : Chain) (i : ℕ) → IsChain left c → IsChain left d → IsChain right d → IsMember (items c) i → IsMember (items d) i → IsChain right c
 chain_elsewhere left right (linear xs) (linear ys) i c d there h k =
     subst (λ (zs : List ℕ). IsChain right (linear zs)) (sym (one_linear left xs ys i c d h k)) there
 chain_elsewhere left right (linear xs) (cyclic ys) i c d there h k = absurd (not_both left xs ys i c d h k)
 chain_elsewhere left right (cyclic xs) (linear ys) i c d there h k = absurd (not_both left ys xs i d c k h)
 chain_elsewhere left right (cyclic []) (cyclic ys) i c d there h k = elim h [ ]
 chain_elsewhere left right (cyclic (x ∷ xs)) (cyclic ys) i c d there h k =
-    let w = Has-written ys x (chains_share left (cyclic (x ∷ xs)) (cyclic ys) i x c d h k (inl refl)) in
+    let w = IsMember-written ys x (chains_share left (cyclic (x ∷ xs)) (cyclic ys) i x c d h k (inl refl)) in
     around w.0 w.1 w.2
   where
     around : (before after : List ℕ) → ys ≡ before ++ x ∷ after → IsChain right (cyclic (x ∷ xs))
@@ -43,79 +43,79 @@ chain_elsewhere left right (cyclic (x ∷ xs)) (cyclic ys) i c d there h k =
         subst (λ (zs : List ℕ). IsChain right (cyclic (x ∷ zs))) (sym (one_cyclic left x xs (after ++ before) c here)) that
 
 -- what holds of an arena says which chains have a and b in it
-pub record NamesChains (Holds : Shown → Type 0) (a b : ℕ) : Type 0 where
+pub record NamesChains (Holds : LinkMap → Type 0) (a b : ℕ) : Type 0 where
   pub left : Chain
   pub right : Chain
-  pub has_a : Has (items left) a
-  pub has_b : Has (items right) b
-  pub left_stands : (new : Shown) → Holds new → IsChain new left
-  pub right_stands : (new : Shown) → Holds new → IsChain new right
+  pub has_a : IsMember (items left) a
+  pub has_b : IsMember (items right) b
+  pub left_stands : (new : LinkMap) → Holds new → IsChain new left
+  pub right_stands : (new : LinkMap) → Holds new → IsChain new right
 
 -- two arenas of which it holds have the same chains, where each chain with neither stays
-pub settled : (old one other : Shown) (Holds : Shown → Type 0) (a b : ℕ) → ((new : Shown) → Holds new → KeepsChainsWithout old new a b)
+pub settled : (old one other : LinkMap) (Holds : LinkMap → Type 0) (a b : ℕ) → ((new : LinkMap) → Holds new → KeepsChainsWithout old new a b)
     → NamesChains Holds a b → Holds one → Holds other → HaveSameChains one other
 settled old one other Holds a b keeps settles m n c = (alike one other m n, alike other one n m)
   where
-    alike : (left right : Shown) → Holds left → Holds right → IsChain left c → IsChain right c
-    alike left right l r chain = by (Has-or_not (items c) a) (Has-or_not (items c) b)
+    alike : (left right : LinkMap) → Holds left → Holds right → IsChain left c → IsChain right c
+    alike left right l r chain = by (IsMember-or_not (items c) a) (IsMember-or_not (items c) b)
       where
-        by : Has (items c) a ⊎ (Has (items c) a → ⊥) → Has (items c) b ⊎ (Has (items c) b → ⊥) → IsChain right c
+        by : IsMember (items c) a ⊎ (IsMember (items c) a → ⊥) → IsMember (items c) b ⊎ (IsMember (items c) b → ⊥) → IsChain right c
         by (inl h) _ = chain_elsewhere left right c settles.left a chain (settles.left_stands left l) (settles.left_stands right r) h settles.has_a
         by (inr none_a) (inl h) =
             chain_elsewhere left right c settles.right b chain (settles.right_stands left l) (settles.right_stands right r) h settles.has_b
         by (inr none_a) (inr none_b) = (keeps right r c none_a none_b).0 ((keeps left l c none_a none_b).1 chain)
 
 -- the chain of an index with none after it is linear and ends there
-pub end_chain : (shown : Shown) (a : ℕ) → ChainOf shown a → next_of shown a ≡ None → (x : List ℕ) × IsChain shown (linear (x ++ a ∷ []))
-end_chain shown a (stands_in (linear xs) chain has) end = let w = Has-written xs a has in by w.0 w.1 w.2
+pub end_chain : (link_map : LinkMap) (a : ℕ) → ChainOf link_map a → next_of link_map a ≡ None → (x : List ℕ) × IsChain link_map (linear (x ++ a ∷ []))
+end_chain link_map a (stands_in (linear xs) chain has) end = let w = IsMember-written xs a has in by w.0 w.1 w.2
   where
-    by : (before after : List ℕ) → xs ≡ before ++ a ∷ after → (x : List ℕ) × IsChain shown (linear (x ++ a ∷ []))
-    by before [] e = (before, subst (λ (zs : List ℕ). IsChain shown (linear zs)) e chain)
+    by : (before after : List ℕ) → xs ≡ before ++ a ∷ after → (x : List ℕ) × IsChain link_map (linear (x ++ a ∷ []))
+    by before [] e = (before, subst (λ (zs : List ℕ). IsChain link_map (linear zs)) e chain)
     by before (k ∷ after) e =
-        let on = shows_next shown a _ _ (Stands-at shown None before (k ∷ after) None a (subst (λ (zs : List ℕ). Stands shown None zs None) e chain.2)) in
+        let on = shows_next link_map a _ _ (AreLinked-at link_map None before (k ∷ after) None a (subst (λ (zs : List ℕ). AreLinked link_map None zs None) e chain.2)) in
         absurd (cc)
-end_chain shown a (stands_in (cyclic xs) chain has) end =
-    let t = turned_to shown xs a chain has in
+end_chain link_map a (stands_in (cyclic xs) chain has) end =
+    let t = turned_to link_map xs a chain has in
     by t.0 t.1
   where
-    by : (rest : List ℕ) → IsChain shown (cyclic (a ∷ rest)) → (x : List ℕ) × IsChain shown (linear (x ++ a ∷ []))
-    by [] ring = let on = shows_next shown a _ _ ring.2.0 in absurd (cc)
-    by (k ∷ rest) ring = let on = shows_next shown a _ _ ring.2.0 in absurd (cc)
+    by : (rest : List ℕ) → IsChain link_map (cyclic (a ∷ rest)) → (x : List ℕ) × IsChain link_map (linear (x ++ a ∷ []))
+    by [] ring = let on = shows_next link_map a _ _ ring.2.0 in absurd (cc)
+    by (k ∷ rest) ring = let on = shows_next link_map a _ _ ring.2.0 in absurd (cc)
 
 -- the chain of an index with none before it is linear and starts there
-pub start_chain : (shown : Shown) (b : ℕ) → ChainOf shown b → prev_of shown b ≡ None → (y : List ℕ) × IsChain shown (linear (b ∷ y))
-start_chain shown b (stands_in (linear xs) chain has) start = let w = Has-written xs b has in by w.0 w.1 w.2
+pub start_chain : (link_map : LinkMap) (b : ℕ) → ChainOf link_map b → prev_of link_map b ≡ None → (y : List ℕ) × IsChain link_map (linear (b ∷ y))
+start_chain link_map b (stands_in (linear xs) chain has) start = let w = IsMember-written xs b has in by w.0 w.1 w.2
   where
-    by : (before after : List ℕ) → xs ≡ before ++ b ∷ after → (y : List ℕ) × IsChain shown (linear (b ∷ y))
-    by [] after e = (after, subst (λ (zs : List ℕ). IsChain shown (linear zs)) e chain)
+    by : (before after : List ℕ) → xs ≡ before ++ b ∷ after → (y : List ℕ) × IsChain link_map (linear (b ∷ y))
+    by [] after e = (after, subst (λ (zs : List ℕ). IsChain link_map (linear zs)) e chain)
     by (k ∷ before) after e =
-        let back = shows_prev shown b _ _ (Stands-at shown None (k ∷ before) after None b (subst (λ (zs : List ℕ). Stands shown None zs None) e chain.2)) in
+        let back = shows_prev link_map b _ _ (AreLinked-at link_map None (k ∷ before) after None b (subst (λ (zs : List ℕ). AreLinked link_map None zs None) e chain.2)) in
         let last = last_or-filled (k ∷ before) k (inl refl) in
         let some = last.1 None in
         absurd (cc)
-start_chain shown b (stands_in (cyclic xs) chain has) start =
-    let t = turned_to shown xs b chain has in
-    let back = shows_prev shown b _ _ t.1.2.0 in
+start_chain link_map b (stands_in (cyclic xs) chain has) start =
+    let t = turned_to link_map xs b chain has in
+    let back = shows_prev link_map b _ _ t.1.2.0 in
     let last = last_or-filled (b ∷ t.0) b (inl refl) in
     let some = last.1 None in
     absurd (cc)
 
 -- the chain of a and b wherever they are connected
-connected : (old : Shown) (a b : ℕ) (x y : List ℕ) → IsChain old (linear (x ++ a ∷ [])) → IsChain old (linear (b ∷ y))
-    → NamesChains (λ (new : Shown). Connects old new a b) a b
-connected old a b x y left right = by (Has-or_not (x ++ a ∷ []) b)
+connected : (old : LinkMap) (a b : ℕ) (x y : List ℕ) → IsChain old (linear (x ++ a ∷ [])) → IsChain old (linear (b ∷ y))
+    → NamesChains (λ (new : LinkMap). Connects old new a b) a b
+connected old a b x y left right = by (IsMember-or_not (x ++ a ∷ []) b)
   where
-    in_one : (d : Chain) → Has (items d) a → Has (items d) b → ((new : Shown) → Connects old new a b → IsChain new d)
-        → NamesChains (λ (new : Shown). Connects old new a b) a b
+    in_one : (d : Chain) → IsMember (items d) a → IsMember (items d) b → ((new : LinkMap) → Connects old new a b → IsChain new d)
+        → NamesChains (λ (new : LinkMap). Connects old new a b) a b
     in_one d has_a has_b stands = record { left = d; right = d; has_a = has_a; has_b = has_b; left_stands = stands; right_stands = stands }
 
-    by : Has (x ++ a ∷ []) b ⊎ (Has (x ++ a ∷ []) b → ⊥) → NamesChains (λ (new : Shown). Connects old new a b) a b
+    by : IsMember (x ++ a ∷ []) b ⊎ (IsMember (x ++ a ∷ []) b → ⊥) → NamesChains (λ (new : LinkMap). Connects old new a b) a b
     by (inl h) =
         let same : x ++ a ∷ [] ≡ b ∷ y = one_linear old (x ++ a ∷ []) (b ∷ y) b left right h (inl refl) in
-        in_one (cyclic (x ++ a ∷ [])) (Has-middle x [] a) h
+        in_one (cyclic (x ++ a ∷ [])) (IsMember-middle x [] a) h
         (λ new connects. connects.one (x ++ a ∷ []) left (ap (λ (zs : List ℕ). first_or zs None) same) (last_or-append x (a ∷ []) None))
     by (inr none) =
-        in_one (linear ((x ++ a ∷ []) ++ b ∷ y)) (Has-left (x ++ a ∷ []) (b ∷ y) a (Has-middle x [] a)) (Has-middle (x ++ a ∷ []) y b)
+        in_one (linear ((x ++ a ∷ []) ++ b ∷ y)) (IsMember-left (x ++ a ∷ []) (b ∷ y) a (IsMember-middle x [] a)) (IsMember-middle (x ++ a ∷ []) y b)
         (λ new connects. connects.two x y left right none)
 
 -- what connects an end and a start has the chains of their join
@@ -123,14 +123,14 @@ pub join_is_determined : JoinIsDetermined
 join_is_determined old new slots a b agrees within ends connects =
     let x = end_chain old a (has_chain old slots agrees within a ends.valid_end) ends.end in
     let y = start_chain old b (has_chain old slots agrees within b ends.valid_start) ends.start in
-    settled old new (joined old a b) (λ (s : Shown). Connects old s a b) a b (λ s made. made.rest)
+    settled old new (joined old a b) (λ (s : LinkMap). Connects old s a b) a b (λ s made. made.rest)
     (connected old a b x.0 y.0 x.1 y.1) connects (joined_connects old a b)
 
 -- two arenas to which q comes alone have the same chains
-added_alike : (old left right : Shown) (q : ℕ) → AddsLone old left q → AddsLone old right q → (c : Chain) → IsChain left c → IsChain right c
-added_alike old left right q l r c chain = by (Has-or_not (items c) q)
+added_alike : (old left right : LinkMap) (q : ℕ) → AddsLone old left q → AddsLone old right q → (c : Chain) → IsChain left c → IsChain right c
+added_alike old left right q l r c chain = by (IsMember-or_not (items c) q)
   where
-    by : Has (items c) q ⊎ (Has (items c) q → ⊥) → IsChain right c
+    by : IsMember (items c) q ⊎ (IsMember (items c) q → ⊥) → IsChain right c
     by (inl h) = chain_elsewhere left right c (linear (q ∷ [])) q chain l.alone r.alone h (inl refl)
     by (inr none) = (r.rest c none).0 ((l.rest c none).1 chain)
 
@@ -141,7 +141,7 @@ lone_is_determined old new q free adds c =
     (added_alike old new (with_lone old q) q adds lone c, added_alike old (with_lone old q) new q lone adds c)
 
 -- a valid index shows the same in an arena that has its chains
-shows_alike : (left right : Shown) (slots : ℕ) → Agrees left → HasLinksWithin left slots → HaveSameChains left right → (i : ℕ) → HasLink left i → left i ≡ right i
+shows_alike : (left right : LinkMap) (slots : ℕ) → IsWellLinked left → HasLinksWithin left slots → HaveSameChains left right → (i : ℕ) → HasLink left i → left i ≡ right i
 shows_alike left right slots agrees within same i valid = by (has_chain left slots agrees within i valid)
   where
     by : ChainOf left i → left i ≡ right i

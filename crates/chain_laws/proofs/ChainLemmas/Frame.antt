@@ -1,12 +1,12 @@
 -- Chains that a change leaves alone: since what stands beside a link of a chain stands in it too, it is enough that they lack one of two neighbours.
 use Rattle.std.proofs.Common.{◌≡◌, ℕ, inl, inr, ⊎_elim, Option, None, Some, refl, sym, subst}
-use Rattle.chain_laws.specs.Chains.{Shown, Chain, items, Has, IsChain, Agrees, prev_of, next_of}
+use Rattle.chain_laws.specs.Chains.{LinkMap, Chain, items, IsMember, IsChain, IsWellLinked, prev_of, next_of}
 use Rattle.chain_laws.specs.Joins.{joined}
 use Rattle.chain_laws.specs.Cuts.{cut}
 use Rattle.chain_laws.specs.Removals.{vacated}
 use Rattle.chain_laws.specs.Insertions.{InsertKind, disconnected, single_link_cyclic, chain_end, chain_start, next_to, prev_to, at_interlink, bridge}
 use Rattle.chain_laws.specs.Insertions.{HasIndex, InsertsPairs, link_before, link_after, inserted}
-use Rattle.chain_laws.specs.Frame.{Lacks, named, SameLinksKeepAChain, InsertionKeepsOthers, InsertionMakesNoOthers, LoneKeepsEach, CutKeepsOthers, JoinMakesNoOthers, RemovalMakesNoOthers}
+use Rattle.chain_laws.specs.Frame.{IsDisjointFrom, indexes_of_kind, SameLinksKeepAChain, InsertionKeepsOthers, InsertionMakesNoOthers, LoneKeepsEach, CutKeepsOthers, JoinMakesNoOthers, RemovalMakesNoOthers}
 use Rattle.chain_laws.proofs.ChainLemmas.LinkedLists.{IsChain-frame}
 use Rattle.chain_laws.proofs.JoinLemmas.Lists.{IsChain-linked}
 use Rattle.chain_laws.proofs.JoinLemmas.Chains.{joined_agrees}
@@ -22,32 +22,32 @@ pub same_links_keep_a_chain : SameLinksKeepAChain
 same_links_keep_a_chain old new c same is = IsChain-frame old new c (λ i has. sym (same i has)) is
 
 -- a chain without a has nothing that comes after a ..
-lacks_next : (shown : Shown) (c : Chain) (a : ℕ) → Agrees shown → IsChain shown c → (Has (items c) a → ⊥) → HasIndex c (next_of shown a) → ⊥
-lacks_next shown c a agrees is lacks = at (next_of shown a) refl
+lacks_next : (link_map : LinkMap) (c : Chain) (a : ℕ) → IsWellLinked link_map → IsChain link_map c → (IsMember (items c) a → ⊥) → HasIndex c (next_of link_map a) → ⊥
+lacks_next link_map c a agrees is lacks = at (next_of link_map a) refl
   where
-    at : (o : Option ℕ) → next_of shown a ≡ o → HasIndex c o → ⊥
+    at : (o : Option ℕ) → next_of link_map a ≡ o → HasIndex c o → ⊥
     at None next has = has
-    at (Some j) next has = lacks ((neighbors_stand_together shown c a j agrees next is).1 has)
+    at (Some j) next has = lacks ((neighbors_stand_together link_map c a j agrees next is).1 has)
 
 -- .. nor what comes before it
-lacks_prev : (shown : Shown) (c : Chain) (b : ℕ) → Agrees shown → IsChain shown c → (Has (items c) b → ⊥) → HasIndex c (prev_of shown b) → ⊥
-lacks_prev shown c b agrees is lacks = at (prev_of shown b) refl
+lacks_prev : (link_map : LinkMap) (c : Chain) (b : ℕ) → IsWellLinked link_map → IsChain link_map c → (IsMember (items c) b → ⊥) → HasIndex c (prev_of link_map b) → ⊥
+lacks_prev link_map c b agrees is lacks = at (prev_of link_map b) refl
   where
-    at : (o : Option ℕ) → prev_of shown b ≡ o → HasIndex c o → ⊥
+    at : (o : Option ℕ) → prev_of link_map b ≡ o → HasIndex c o → ⊥
     at None prev has = has
-    at (Some j) prev has = lacks ((neighbors_stand_together shown c j b agrees ((agrees.both j b).1 prev) is).0 has)
+    at (Some j) prev has = lacks ((neighbors_stand_together link_map c j b agrees ((agrees.both j b).1 prev) is).0 has)
 
 -- a chain that lacks what a kind names lacks both links that the new one comes between
-lacks_beside : (shown : Shown) (kind : InsertKind ℕ) (q : ℕ) (c : Chain) → Agrees shown → IsChain shown c → (Has (items c) q → ⊥) → Lacks c (named kind)
-    → (HasIndex c (link_before shown kind q) → ⊥) × (HasIndex c (link_after shown kind q) → ⊥)
-lacks_beside shown disconnected q c agrees is off lacks = (λ h. h, λ h. h)
-lacks_beside shown single_link_cyclic q c agrees is off lacks = (off, off)
-lacks_beside shown (chain_end a) q c agrees is off lacks = (lacks.0, λ h. h)
-lacks_beside shown (chain_start b) q c agrees is off lacks = (λ h. h, lacks.0)
-lacks_beside shown (next_to a) q c agrees is off lacks = (lacks.0, lacks_next shown c a agrees is lacks.0)
-lacks_beside shown (prev_to b) q c agrees is off lacks = (lacks_prev shown c b agrees is lacks.0, lacks.0)
-lacks_beside shown (at_interlink a b) q c agrees is off lacks = (lacks.0, lacks.1.0)
-lacks_beside shown (bridge a b) q c agrees is off lacks = (lacks.0, lacks.1.0)
+lacks_beside : (link_map : LinkMap) (kind : InsertKind ℕ) (q : ℕ) (c : Chain) → IsWellLinked link_map → IsChain link_map c → (IsMember (items c) q → ⊥) → IsDisjointFrom c (indexes_of_kind kind)
+    → (HasIndex c (link_before link_map kind q) → ⊥) × (HasIndex c (link_after link_map kind q) → ⊥)
+lacks_beside link_map disconnected q c agrees is off lacks = (λ h. h, λ h. h)
+lacks_beside link_map single_link_cyclic q c agrees is off lacks = (off, off)
+lacks_beside link_map (chain_end a) q c agrees is off lacks = (lacks.0, λ h. h)
+lacks_beside link_map (chain_start b) q c agrees is off lacks = (λ h. h, lacks.0)
+lacks_beside link_map (next_to a) q c agrees is off lacks = (lacks.0, lacks_next link_map c a agrees is lacks.0)
+lacks_beside link_map (prev_to b) q c agrees is off lacks = (lacks_prev link_map c b agrees is lacks.0, lacks.0)
+lacks_beside link_map (at_interlink a b) q c agrees is off lacks = (lacks.0, lacks.1.0)
+lacks_beside link_map (bridge a b) q c agrees is off lacks = (lacks.0, lacks.1.0)
 
 -- .. so it stays where the new link comes
 pub insertion_keeps_others : InsertionKeepsOthers
@@ -58,22 +58,22 @@ insertion_keeps_others old new kind q agrees free inserts c lacks is =
 
 -- the links beside a new one are its neighbours, so a chain without it lacks them
 pub insertion_makes_no_others : InsertionMakesNoOthers
-insertion_makes_no_others shown q u v agrees free gap c off is =
-    ((inserted_inserts shown q u v free).rest c off (before u refl) (after v refl)).1 is
+insertion_makes_no_others link_map q u v agrees free gap c off is =
+    ((inserted_inserts link_map q u v free).rest c off (before u refl) (after v refl)).1 is
   where
-    agree : Agrees (inserted shown q u v)
-    agree = inserted_agrees shown q u v agrees free gap
+    agree : IsWellLinked (inserted link_map q u v)
+    agree = inserted_agrees link_map q u v agrees free gap
 
-    inserts : InsertsPairs shown (inserted shown q u v) q u v
-    inserts = inserted_in_pairs shown q u v agrees free gap
+    inserts : InsertsPairs link_map (inserted link_map q u v) q u v
+    inserts = inserted_in_pairs link_map q u v agrees free gap
 
     before : (o : Option ℕ) → u ≡ o → HasIndex c o → ⊥
     before None at_u has = has
-    before (Some i) at_u has = off ((neighbors_stand_together (inserted shown q u v) c i q agree ((inserts.pairs i q).1 (inr (inl (at_u, refl)))) is).0 has)
+    before (Some i) at_u has = off ((neighbors_stand_together (inserted link_map q u v) c i q agree ((inserts.pairs i q).1 (inr (inl (at_u, refl)))) is).0 has)
 
     after : (o : Option ℕ) → v ≡ o → HasIndex c o → ⊥
     after None at_v has = has
-    after (Some j) at_v has = off ((neighbors_stand_together (inserted shown q u v) c q j agree ((inserts.pairs q j).1 (inr (inr (refl, at_v)))) is).1 has)
+    after (Some j) at_v has = off ((neighbors_stand_together (inserted link_map q u v) c q j agree ((inserts.pairs q j).1 (inr (inr (refl, at_v)))) is).1 has)
 
 -- a chain has no free index
 pub lone_keeps_each : LoneKeepsEach
@@ -87,16 +87,16 @@ cut_keeps_others old new a b agrees pair cuts c lacks is =
 
 -- what is joined are neighbours, and cut apart they are as before
 pub join_makes_no_others : JoinMakesNoOthers
-join_makes_no_others shown a b agrees ends c lacks is =
-    let restored = cut_of_join shown a b agrees ends in
-    subst (λ (s : Shown). IsChain s c) restored.1
-    (cut_keeps_others (joined shown a b) (cut (joined shown a b) a b) a b (joined_agrees shown a b agrees ends) restored.0 (cut_cuts (joined shown a b) a b) c lacks is)
+join_makes_no_others link_map a b agrees ends c lacks is =
+    let restored = cut_of_join link_map a b agrees ends in
+    subst (λ (s : LinkMap). IsChain s c) restored.1
+    (cut_keeps_others (joined link_map a b) (cut (joined link_map a b) a b) a b (joined_agrees link_map a b agrees ends) restored.0 (cut_cuts (joined link_map a b) a b) c lacks is)
 
 -- a chain without the links that are tied together shows what it showed without the removed one, which it lacks
 pub removal_makes_no_others : RemovalMakesNoOthers
-removal_makes_no_others shown i c no_prev no_next is =
-    let left = (IsChain-linked (vacated shown i) (prev_of shown i) (next_of shown i) c (HasIndex-apart c (prev_of shown i) no_prev) (HasIndex-apart c (next_of shown i) no_next)).1 is in
-    same_links_keep_a_chain (vacated shown i) shown c (λ j has. sym (vacated-off shown i j (λ e. off left (subst (λ (k : ℕ). Has (items c) k) e has)))) left
+removal_makes_no_others link_map i c no_prev no_next is =
+    let left = (IsChain-linked (vacated link_map i) (prev_of link_map i) (next_of link_map i) c (HasIndex-apart c (prev_of link_map i) no_prev) (HasIndex-apart c (next_of link_map i) no_next)).1 is in
+    same_links_keep_a_chain (vacated link_map i) link_map c (λ j has. sym (vacated-off link_map i j (λ e. off left (subst (λ (k : ℕ). IsMember (items c) k) e has)))) left
   where
-    off : IsChain (vacated shown i) c → Has (items c) i → ⊥
-    off left has = free_is_in_no_chain (vacated shown i) c i (vacated-at shown i i refl) left has
+    off : IsChain (vacated link_map i) c → IsMember (items c) i → ⊥
+    off left has = free_is_in_no_chain (vacated link_map i) c i (vacated-at link_map i i refl) left has

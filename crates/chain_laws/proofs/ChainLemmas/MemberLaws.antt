@@ -1,54 +1,54 @@
 -- What stands in a chain, and beside what.
 use Rattle.std.proofs.Common.{◌≡◌, ℕ, List, [], ◌∷◌, ◌++◌, Option, None, Some, refl, sym, ap, ◌∙◌, subst, subst₂}
-use Rattle.chain_laws.specs.Chains.{linear, cyclic, Has, IsChain, Stands, first_or, last_or, prev_in, next_in, prev_of, next_of}
-use Rattle.chain_laws.specs.Members.{MembersAreLinks, FreeIsInNoChain, MembersNameNeighbors, PlacesInALine, PlacesInARing, LinesEnd, RingsGoRound}
-use Rattle.chain_laws.specs.Members.{NeighborsStandTogether, ChainsShareEach, TurnsHaveTheSame, HasInAll}
-use Rattle.chain_laws.proofs.ListLemmas.Members.{Has-turned, Has-written, first_or-append, last_or-append}
+use Rattle.chain_laws.specs.Chains.{linear, cyclic, IsMember, IsChain, AreLinked, first_or, last_or, prev_in, next_in, prev_of, next_of}
+use Rattle.chain_laws.specs.Members.{MembersAreLinks, FreeIsInNoChain, MembersNameNeighbors, PlacesInALine, PlacesInARing, LinesEnd, RingsAreCyclic}
+use Rattle.chain_laws.specs.Members.{NeighborsShareAChain, ChainsShareEach, RotationsHaveTheSame, HasInAll}
+use Rattle.chain_laws.proofs.ListLemmas.Members.{IsMember-turned, IsMember-written, first_or-append, last_or-append}
 use Rattle.chain_laws.proofs.InterlinkLemmas.Inverses.{one_some}
-use Rattle.chain_laws.proofs.ChainLemmas.LinkedLists.{link, Stands-first, Stands-last}
+use Rattle.chain_laws.proofs.ChainLemmas.LinkedLists.{link, AreLinked-first, AreLinked-last}
 use Rattle.chain_laws.proofs.ChainLemmas.Uniqueness.{chain_valid, chain_closed, chains_share, cyclic_prev_some}
-use Rattle.chain_laws.proofs.ChainLemmas.ChainLists.{Has-all_items, chain_at}
+use Rattle.chain_laws.proofs.ChainLemmas.ChainLists.{IsMember-all_items, chain_at}
 use Rattle.chain_laws.proofs.InsertionLemmas.Pairs.{free_invalid}
 use Rattle.chain_laws.proofs.ChainLemmas.NeighborPairs.{chain_next, chain_prev, chain_shows}
 
 -- the items of a chain show interlinks
 pub members_are_links : MembersAreLinks
-members_are_links shown c i is has = chain_valid shown c i is has
+members_are_links link_map c i is has = chain_valid link_map c i is has
 
 -- .. and a free index shows none
 pub free_is_in_no_chain : FreeIsInNoChain
-free_is_in_no_chain shown c q free is has = free_invalid shown q free (chain_valid shown c q is has)
+free_is_in_no_chain link_map c q free is has = free_invalid link_map q free (chain_valid link_map c q is has)
 
 -- an item of a chain shows what stands beside its place
 pub members_name_neighbors : MembersNameNeighbors
-members_name_neighbors shown c i j is has = (chain_next shown c i j is has, chain_prev shown c i j is has)
+members_name_neighbors link_map c i j is has = (chain_next link_map c i j is has, chain_prev link_map c i j is has)
 
 -- the place of an item, in a linear chain
 pub places_in_a_line : PlacesInALine
-places_in_a_line shown x y i is = chain_shows shown (linear (x ++ i ∷ y)) x y i is refl
+places_in_a_line link_map x y i is = chain_shows link_map (linear (x ++ i ∷ y)) x y i is refl
 
 -- what comes before the first of a ring is its last, and what comes after that the first
 pub places_in_a_ring : PlacesInARing
-places_in_a_ring shown x y i is = subst₂ (λ (before after : Option ℕ). shown i ≡ Some (link (last_or x before) (first_or y after)))
-    (last_or-append x (i ∷ y) None) (first_or-append x (i ∷ y) None) (chain_shows shown (cyclic (x ++ i ∷ y)) x y i is refl)
+places_in_a_ring link_map x y i is = subst₂ (λ (before after : Option ℕ). link_map i ≡ Some (link (last_or x before) (first_or y after)))
+    (last_or-append x (i ∷ y) None) (first_or-append x (i ∷ y) None) (chain_shows link_map (cyclic (x ++ i ∷ y)) x y i is refl)
 
 -- what comes before i in a linear chain, or after it, decides whether it is written first, or last
 pub lines_end : LinesEnd
-lines_end shown xs i is has = (
-  (λ none. ends (Has-written xs i has) none, λ last. Stands-last shown None xs None i is.2 is.0 last),
-  (λ none. Stands-first shown xs None i is.2 has none None, λ first. starts xs is.2 first),
+lines_end link_map xs i is has = (
+  (λ none. ends (IsMember-written xs i has) none, λ last. AreLinked-last link_map None xs None i is.2 is.0 last),
+  (λ none. AreLinked-first link_map xs None i is.2 has none None, λ first. starts xs is.2 first),
 )
   where
-    ends : (before : List ℕ) × (after : List ℕ) × (xs ≡ before ++ i ∷ after) → next_of shown i ≡ None → last_or xs None ≡ Some i
-    ends w none = nothing_after w.1 w.2 (sym (ap next_in (chain_shows shown (linear xs) w.0 w.1 i is w.2)) ∙ none)
+    ends : (before : List ℕ) × (after : List ℕ) × (xs ≡ before ++ i ∷ after) → next_of link_map i ≡ None → last_or xs None ≡ Some i
+    ends w none = nothing_after w.1 w.2 (sym (ap next_in (chain_shows link_map (linear xs) w.0 w.1 i is w.2)) ∙ none)
       where
         nothing_after : (after : List ℕ) → xs ≡ w.0 ++ i ∷ after → first_or after None ≡ None → last_or xs None ≡ Some i
         nothing_after [] e first = ap (λ (zs : List ℕ). last_or zs None) e ∙ last_or-append w.0 (i ∷ []) None
         nothing_after (y ∷ ys) e first = absurd (cc)
 
-    starts : (zs : List ℕ) → Stands shown None zs None → first_or zs None ≡ Some i → prev_of shown i ≡ None
+    starts : (zs : List ℕ) → AreLinked link_map None zs None → first_or zs None ≡ Some i → prev_of link_map i ≡ None
     starts [] stands first = absurd (cc)
-    starts (z ∷ zs) stands first = subst (λ (k : ℕ). prev_of shown k ≡ None) (one_some first) (ap prev_in stands.0)
+    starts (z ∷ zs) stands first = subst (λ (k : ℕ). prev_of link_map k ≡ None) (one_some first) (ap prev_in stands.0)
 
 -- the first of what is written, and then of what comes round
 some_first : (xs : List ℕ) (after : ℕ) → (j : ℕ) × (first_or xs (Some after) ≡ Some j)
@@ -56,37 +56,37 @@ some_first [] after = (after, refl)
 some_first (x ∷ xs) after = (x, refl)
 
 -- the place of an item, in a cyclic chain, has something on both sides
-pub rings_go_round : RingsGoRound
-rings_go_round shown xs i is has =
-    let closed = chain_closed shown (cyclic xs) is in
-    let w = Has-written xs i has in
-    let shows = places_in_a_ring shown w.0 w.1 i (subst (λ (zs : List ℕ). IsChain shown (cyclic zs)) w.2 is) in
+pub rings_go_round : RingsAreCyclic
+rings_go_round link_map xs i is has =
+    let closed = chain_closed link_map (cyclic xs) is in
+    let w = IsMember-written xs i has in
+    let shows = places_in_a_ring link_map w.0 w.1 i (subst (λ (zs : List ℕ). IsChain link_map (cyclic zs)) w.2 is) in
     let round = some_first w.0 i in
     let after = some_first w.1 round.0 in
     let next = ap next_in shows ∙ (ap (first_or w.1) round.1 ∙ after.1) in
-    let prev = cyclic_prev_some shown xs i is has in
+    let prev = cyclic_prev_some link_map xs i is has in
     ((after.0, next, closed.forth i after.0 has next), (prev.0, prev.1, closed.back i prev.0 has prev.1))
 
 -- the items of a chain are closed, and agreement turns the pair round
-pub neighbors_stand_together : NeighborsStandTogether
-neighbors_stand_together shown c a b agrees pair is =
-    let closed = chain_closed shown c is in
+pub neighbors_stand_together : NeighborsShareAChain
+neighbors_stand_together link_map c a b agrees pair is =
+    let closed = chain_closed link_map c is in
     (λ has. closed.forth a b has pair, λ has. closed.back b a has ((agrees.both a b).0 pair))
 
 -- of two chains that share an index each has what the other has
 pub chains_share_each : ChainsShareEach
-chains_share_each shown c other i j is also has too = (chains_share shown c other i j is also has too, chains_share shown other c i j also is too has)
+chains_share_each link_map c other i j is also has too = (chains_share link_map c other i j is also has too, chains_share link_map other c i j also is too has)
 
 -- two parts have the same in either order
-pub turns_have_the_same : TurnsHaveTheSame
-turns_have_the_same (linear xs) (linear ys) i same = (subst (λ (zs : List ℕ). Has zs i) same, subst (λ (zs : List ℕ). Has zs i) (sym same))
+pub turns_have_the_same : RotationsHaveTheSame
+turns_have_the_same (linear xs) (linear ys) i same = (subst (λ (zs : List ℕ). IsMember zs i) same, subst (λ (zs : List ℕ). IsMember zs i) (sym same))
 turns_have_the_same (linear xs) (cyclic ys) i same = absurd same
 turns_have_the_same (cyclic xs) (linear ys) i same = absurd same
 turns_have_the_same (cyclic xs) (cyclic ys) i same = (
-  λ has. subst (λ (zs : List ℕ). Has zs i) (sym same.3) (Has-turned same.0 same.1 i (subst (λ (zs : List ℕ). Has zs i) same.2 has)),
-  λ has. subst (λ (zs : List ℕ). Has zs i) (sym same.2) (Has-turned same.1 same.0 i (subst (λ (zs : List ℕ). Has zs i) same.3 has)),
+  λ has. subst (λ (zs : List ℕ). IsMember zs i) (sym same.3) (IsMember-turned same.0 same.1 i (subst (λ (zs : List ℕ). IsMember zs i) same.2 has)),
+  λ has. subst (λ (zs : List ℕ). IsMember zs i) (sym same.2) (IsMember-turned same.1 same.0 i (subst (λ (zs : List ℕ). IsMember zs i) same.3 has)),
 )
 
 -- the items of all chains, looked for and found in one
 pub has_in_all : HasInAll
-has_in_all chains i = (chain_at chains i, λ w. Has-all_items chains w.0 i w.1 w.2)
+has_in_all chains i = (chain_at chains i, λ w. IsMember-all_items chains w.0 i w.1 w.2)

@@ -1,12 +1,12 @@
 -- Neighbour pairs: what stands beside an index in a list, in a chain, in the chains, and in the arena.
 use Rattle.std.proofs.Common.{◌≡◌, ◌≢◌, ◌↔◌, ℕ, inl, inr, ⊎_elim, List, [], ◌∷◌, ◌++◌, Option, None, Some, refl, sym, ap, ◌∙◌, subst, append_assoc}
-use Rattle.chain_laws.specs.Chains.{Shown, Agrees, Has, HasNoRepetition, Chain, linear, cyclic, items, first_or, last_or, prev_in, next_in, prev_of, next_of, Stands, IsChain, HasChain, AreChains}
+use Rattle.chain_laws.specs.Chains.{LinkMap, IsWellLinked, IsMember, AreDistinct, Chain, linear, cyclic, items, first_or, last_or, prev_in, next_in, prev_of, next_of, AreLinked, IsChain, HasChain, AreChains}
 use Rattle.chain_laws.specs.Neighbors.{IsBeside, AreNeighborsIn, Partition, HasInterlinks}
-use Rattle.chain_laws.proofs.ListLemmas.Members.{Has-right, Has-middle, Has-written, HasNoRepetition-right, first_or-Has, last_or-Has, last_or-append, last_apart, written_once}
+use Rattle.chain_laws.proofs.ListLemmas.Members.{IsMember-right, IsMember-middle, IsMember-written, AreDistinct-right, first_or-IsMember, last_or-IsMember, last_or-append, last_apart, written_once}
 use Rattle.chain_laws.proofs.InterlinkLemmas.Inverses.{one_some}
-use Rattle.chain_laws.proofs.ChainLemmas.LinkedLists.{link, shows_both, next_valid, prev_valid, Stands-at, Stands-each}
+use Rattle.chain_laws.proofs.ChainLemmas.LinkedLists.{link, shows_both, next_valid, prev_valid, AreLinked-at, AreLinked-each}
 use Rattle.chain_laws.proofs.ChainLemmas.Uniqueness.{chain_once, chain_filled}
-use Rattle.chain_laws.proofs.ChainLemmas.ChainLists.{Has-all_items, chain_at, once_each, once_chain, all_items_valid}
+use Rattle.chain_laws.proofs.ChainLemmas.ChainLists.{IsMember-all_items, chain_at, once_each, once_chain, all_items_valid}
 
 -- what comes before the first item of a chain
 abbrev pub before_first : Chain → Option ℕ
@@ -19,14 +19,14 @@ after_last (linear xs) = None
 after_last (cyclic xs) = first_or xs None
 
 -- the items of a chain stand between its ends
-pub chain_stands : (shown : Shown) (c : Chain) → IsChain shown c → Stands shown (before_first c) (items c) (after_last c)
-chain_stands shown (linear xs) h = h.2
-chain_stands shown (cyclic xs) h = h.2
+pub chain_stands : (link_map : LinkMap) (c : Chain) → IsChain link_map c → AreLinked link_map (before_first c) (items c) (after_last c)
+chain_stands link_map (linear xs) h = h.2
+chain_stands link_map (cyclic xs) h = h.2
 
 -- items that stand between the ends of a chain make it one
-pub stands_chain : (shown : Shown) (c : Chain) → items c ≢ [] → HasNoRepetition (items c) → Stands shown (before_first c) (items c) (after_last c) → IsChain shown c
-stands_chain shown (linear xs) filled once s = (filled, once, s)
-stands_chain shown (cyclic xs) filled once s = (filled, once, s)
+pub stands_chain : (link_map : LinkMap) (c : Chain) → items c ≢ [] → AreDistinct (items c) → AreLinked link_map (before_first c) (items c) (after_last c) → IsChain link_map c
+stands_chain link_map (linear xs) filled once s = (filled, once, s)
+stands_chain link_map (cyclic xs) filled once s = (filled, once, s)
 
 -- ---- in a list
 
@@ -46,10 +46,10 @@ beside_next xs before (y ∷ ys) i j e n =
     (before, ys, e ∙ ap (λ (z : ℕ). before ++ i ∷ z ∷ ys) same)
 
 -- what stands beside i comes after it
-pub next_beside : (xs before after : List ℕ) (i j : ℕ) → HasNoRepetition xs → xs ≡ before ++ i ∷ after → IsBeside xs i j
+pub next_beside : (xs before after : List ℕ) (i j : ℕ) → AreDistinct xs → xs ≡ before ++ i ∷ after → IsBeside xs i j
     → (others : Option ℕ) → first_or after others ≡ Some j
 next_beside xs before after i j once e b others =
-    let same = written_once before after b.0 (j ∷ b.1) i (subst HasNoRepetition e once) (sym e ∙ b.2) in
+    let same = written_once before after b.0 (j ∷ b.1) i (subst AreDistinct e once) (sym e ∙ b.2) in
     ap (λ (zs : List ℕ). first_or zs others) same.1
 
 -- i stands beside the last of what is before it
@@ -59,26 +59,26 @@ beside_prev xs before after i j e p =
     (w.0, after, e ∙ (ap (λ (zs : List ℕ). zs ++ i ∷ after) w.1 ∙ append_assoc w.0 (j ∷ []) (i ∷ after)))
 
 -- what i stands beside comes before it
-pub prev_beside : (xs before after : List ℕ) (i j : ℕ) → HasNoRepetition xs → xs ≡ before ++ i ∷ after → IsBeside xs j i
+pub prev_beside : (xs before after : List ℕ) (i j : ℕ) → AreDistinct xs → xs ≡ before ++ i ∷ after → IsBeside xs j i
     → (others : Option ℕ) → last_or before others ≡ Some j
 prev_beside xs before after i j once e b others =
-    let same = written_once before after (b.0 ++ j ∷ []) b.1 i (subst HasNoRepetition e once) (sym e ∙ (b.2 ∙ sym (append_assoc b.0 (j ∷ []) (i ∷ b.1)))) in
+    let same = written_once before after (b.0 ++ j ∷ []) b.1 i (subst AreDistinct e once) (sym e ∙ (b.2 ∙ sym (append_assoc b.0 (j ∷ []) (i ∷ b.1)))) in
     ap (λ (zs : List ℕ). last_or zs others) same.0 ∙ last_or-append b.0 (j ∷ []) others
 
 -- an index that is the last of a list without repetition has nothing after it
-pub last_ends : (xs before : List ℕ) (i y : ℕ) (ys : List ℕ) → HasNoRepetition xs → xs ≡ before ++ i ∷ y ∷ ys → last_or xs None ≡ Some i → ⊥
+pub last_ends : (xs before : List ℕ) (i y : ℕ) (ys : List ℕ) → AreDistinct xs → xs ≡ before ++ i ∷ y ∷ ys → last_or xs None ≡ Some i → ⊥
 last_ends xs before i y ys once e l =
-    let parts : HasNoRepetition (i ∷ y ∷ ys) = HasNoRepetition-right before (i ∷ y ∷ ys) (subst HasNoRepetition e once) in
+    let parts : AreDistinct (i ∷ y ∷ ys) = AreDistinct-right before (i ∷ y ∷ ys) (subst AreDistinct e once) in
     let end : last_or ys (Some y) ≡ Some i = sym (ap (λ (zs : List ℕ). last_or zs None) e ∙ last_or-append before (i ∷ y ∷ ys) None) ∙ l in
-    parts.0 (⊎_elim (λ (h : Has ys i). let k : Has (y ∷ ys) i = inr h in k) (λ (f : Some y ≡ Some i). let same : y ≡ i = cc in inl same) (last_or-Has ys (Some y) i end))
+    parts.0 (⊎_elim (λ (h : IsMember ys i). let k : IsMember (y ∷ ys) i = inr h in k) (λ (f : Some y ≡ Some i). let same : y ≡ i = cc in inl same) (last_or-IsMember ys (Some y) i end))
 
 -- an index that is the first of a list without repetition has nothing before it
-pub first_begins : (xs : List ℕ) (b : ℕ) (before after : List ℕ) (i : ℕ) → HasNoRepetition xs → xs ≡ b ∷ before ++ i ∷ after → first_or xs None ≡ Some i → ⊥
+pub first_begins : (xs : List ℕ) (b : ℕ) (before after : List ℕ) (i : ℕ) → AreDistinct xs → xs ≡ b ∷ before ++ i ∷ after → first_or xs None ≡ Some i → ⊥
 first_begins xs b before after i once e f =
-    let parts : HasNoRepetition (b ∷ before ++ i ∷ after) = subst HasNoRepetition e once in
+    let parts : AreDistinct (b ∷ before ++ i ∷ after) = subst AreDistinct e once in
     let start : Some b ≡ Some i = sym (ap (λ (zs : List ℕ). first_or zs None) e) ∙ f in
     let same : b ≡ i = cc in
-    parts.0 (subst (Has (before ++ i ∷ after)) (sym same) (Has-middle before after i))
+    parts.0 (subst (IsMember (before ++ i ∷ after)) (sym same) (IsMember-middle before after i))
 
 -- ---- in a chain
 
@@ -89,7 +89,7 @@ after_neighbors (cyclic xs) before [] i j e n = inr (ap (λ (zs : List ℕ). las
 after_neighbors (cyclic xs) before (y ∷ ys) i j e n = inl (beside_next xs before (y ∷ ys) i j e n)
 
 -- a neighbour comes after i in the chain
-pub neighbors_after : (c : Chain) (before after : List ℕ) (i j : ℕ) → HasNoRepetition (items c) → items c ≡ before ++ i ∷ after → AreNeighborsIn c i j
+pub neighbors_after : (c : Chain) (before after : List ℕ) (i j : ℕ) → AreDistinct (items c) → items c ≡ before ++ i ∷ after → AreNeighborsIn c i j
     → first_or after (after_last c) ≡ Some j
 neighbors_after (linear xs) before after i j once e b = next_beside xs before after i j once e b None
 neighbors_after (cyclic xs) before after i j once e (inl b) = next_beside xs before after i j once e b (first_or xs None)
@@ -103,7 +103,7 @@ before_neighbors (cyclic xs) [] after i j e p = inr (p, ap (λ (zs : List ℕ). 
 before_neighbors (cyclic xs) (b ∷ before) after i j e p = inl (beside_prev xs (b ∷ before) after i j e p)
 
 -- what has i as a neighbour comes before it in the chain
-pub neighbors_before : (c : Chain) (before after : List ℕ) (i j : ℕ) → HasNoRepetition (items c) → items c ≡ before ++ i ∷ after → AreNeighborsIn c j i
+pub neighbors_before : (c : Chain) (before after : List ℕ) (i j : ℕ) → AreDistinct (items c) → items c ≡ before ++ i ∷ after → AreNeighborsIn c j i
     → last_or before (before_first c) ≡ Some j
 neighbors_before (linear xs) before after i j once e b = prev_beside xs before after i j once e b None
 neighbors_before (cyclic xs) before after i j once e (inl b) = prev_beside xs before after i j once e b (last_or xs None)
@@ -111,65 +111,65 @@ neighbors_before (cyclic xs) [] after i j once e (inr w) = w.0
 neighbors_before (cyclic xs) (b ∷ before) after i j once e (inr w) = absurd (first_begins xs b before after i once e w.1)
 
 -- neighbours stand in the list
-pub beside_Has : (xs : List ℕ) (i j : ℕ) → IsBeside xs i j → Has xs i × Has xs j
+pub beside_Has : (xs : List ℕ) (i j : ℕ) → IsBeside xs i j → IsMember xs i × IsMember xs j
 beside_Has xs i j b = (
-  subst (λ (zs : List ℕ). Has zs i) (sym b.2) (Has-middle b.0 (j ∷ b.1) i),
-  subst (λ (zs : List ℕ). Has zs j) (sym b.2) (Has-right b.0 (i ∷ j ∷ b.1) j (inr (inl refl))),
+  subst (λ (zs : List ℕ). IsMember zs i) (sym b.2) (IsMember-middle b.0 (j ∷ b.1) i),
+  subst (λ (zs : List ℕ). IsMember zs j) (sym b.2) (IsMember-right b.0 (i ∷ j ∷ b.1) j (inr (inl refl))),
 )
 
 -- neighbours stand in the chain
-pub neighbors_Has : (c : Chain) (i j : ℕ) → AreNeighborsIn c i j → Has (items c) i × Has (items c) j
+pub neighbors_Has : (c : Chain) (i j : ℕ) → AreNeighborsIn c i j → IsMember (items c) i × IsMember (items c) j
 neighbors_Has (linear xs) i j b = beside_Has xs i j b
 neighbors_Has (cyclic xs) i j (inl b) = beside_Has xs i j b
 neighbors_Has (cyclic xs) i j (inr w) = (
-  ⊎_elim (λ (h : Has xs i). h) (λ (n : None ≡ Some i). absurd (cc)) (last_or-Has xs None i w.0),
-  ⊎_elim (λ (h : Has xs j). h) (λ (n : None ≡ Some j). absurd (cc)) (first_or-Has xs None j w.1),
+  ⊎_elim (λ (h : IsMember xs i). h) (λ (n : None ≡ Some i). absurd (cc)) (last_or-IsMember xs None i w.0),
+  ⊎_elim (λ (h : IsMember xs j). h) (λ (n : None ≡ Some j). absurd (cc)) (first_or-IsMember xs None j w.1),
 )
 
 -- what an item of a chain shows, by its place
-pub chain_shows : (shown : Shown) (c : Chain) (before after : List ℕ) (i : ℕ) → IsChain shown c → items c ≡ before ++ i ∷ after
-    → shown i ≡ Some (link (last_or before (before_first c)) (first_or after (after_last c)))
-chain_shows shown c before after i h e =
-    Stands-at shown (before_first c) before after (after_last c) i (subst (λ (zs : List ℕ). Stands shown (before_first c) zs (after_last c)) e (chain_stands shown c h))
+pub chain_shows : (link_map : LinkMap) (c : Chain) (before after : List ℕ) (i : ℕ) → IsChain link_map c → items c ≡ before ++ i ∷ after
+    → link_map i ≡ Some (link (last_or before (before_first c)) (first_or after (after_last c)))
+chain_shows link_map c before after i h e =
+    AreLinked-at link_map (before_first c) before after (after_last c) i (subst (λ (zs : List ℕ). AreLinked link_map (before_first c) zs (after_last c)) e (chain_stands link_map c h))
 
 -- an item of a chain shows its neighbour as next, and nothing else
-pub chain_next : (shown : Shown) (c : Chain) (i j : ℕ) → IsChain shown c → Has (items c) i → (next_of shown i ≡ Some j) ↔ AreNeighborsIn c i j
-chain_next shown c i j h m =
-    let w = Has-written (items c) i m in
-    let shows : next_of shown i ≡ first_or w.1 (after_last c) = ap next_in (chain_shows shown c w.0 w.1 i h w.2) in (
+pub chain_next : (link_map : LinkMap) (c : Chain) (i j : ℕ) → IsChain link_map c → IsMember (items c) i → (next_of link_map i ≡ Some j) ↔ AreNeighborsIn c i j
+chain_next link_map c i j h m =
+    let w = IsMember-written (items c) i m in
+    let shows : next_of link_map i ≡ first_or w.1 (after_last c) = ap next_in (chain_shows link_map c w.0 w.1 i h w.2) in (
       (λ e. after_neighbors c w.0 w.1 i j w.2 (sym shows ∙ e)),
-      (λ n. shows ∙ neighbors_after c w.0 w.1 i j (chain_once shown c h) w.2 n),
+      (λ n. shows ∙ neighbors_after c w.0 w.1 i j (chain_once link_map c h) w.2 n),
     )
 
 -- an item of a chain shows as prev what has it as a neighbour, and nothing else
-pub chain_prev : (shown : Shown) (c : Chain) (i j : ℕ) → IsChain shown c → Has (items c) i → (prev_of shown i ≡ Some j) ↔ AreNeighborsIn c j i
-chain_prev shown c i j h m =
-    let w = Has-written (items c) i m in
-    let shows : prev_of shown i ≡ last_or w.0 (before_first c) = ap prev_in (chain_shows shown c w.0 w.1 i h w.2) in (
+pub chain_prev : (link_map : LinkMap) (c : Chain) (i j : ℕ) → IsChain link_map c → IsMember (items c) i → (prev_of link_map i ≡ Some j) ↔ AreNeighborsIn c j i
+chain_prev link_map c i j h m =
+    let w = IsMember-written (items c) i m in
+    let shows : prev_of link_map i ≡ last_or w.0 (before_first c) = ap prev_in (chain_shows link_map c w.0 w.1 i h w.2) in (
       (λ e. before_neighbors c w.0 w.1 i j w.2 (sym shows ∙ e)),
-      (λ n. shows ∙ neighbors_before c w.0 w.1 i j (chain_once shown c h) w.2 n),
+      (λ n. shows ∙ neighbors_before c w.0 w.1 i j (chain_once link_map c h) w.2 n),
     )
 
 -- ---- in the arena
 
 -- the chains of an arena partition its links
-pub partitions : (shown : Shown) (chains : List Chain) → AreChains shown chains → Partition shown chains
-partitions shown chains are = record {
-  filled = λ c m. chain_filled shown c (are.each c m);
+pub partitions : (link_map : LinkMap) (chains : List Chain) → AreChains link_map chains → Partition link_map chains
+partitions link_map chains are = record {
+  filled = λ c m. chain_filled link_map c (are.each c m);
   once = are.once;
-  valid = λ i. (are.all i, all_items_valid shown chains i are.each);
+  valid = λ i. (are.all i, all_items_valid link_map chains i are.each);
 }
 
 -- the chains of an arena have its interlinks
-pub interlinks : (shown : Shown) (chains : List Chain) → AreChains shown chains → HasInterlinks shown chains
-interlinks shown chains are = record {
+pub interlinks : (link_map : LinkMap) (chains : List Chain) → AreChains link_map chains → HasInterlinks link_map chains
+interlinks link_map chains are = record {
   next = λ a b. (
-    (λ e. let w = chain_at chains a (are.all a (next_valid shown a b e)) in (w.0, w.1, (chain_next shown w.0 a b (are.each w.0 w.1) w.2).0 e)),
-    (λ n. (chain_next shown n.0 a b (are.each n.0 n.1) (neighbors_Has n.0 a b n.2).0).1 n.2),
+    (λ e. let w = chain_at chains a (are.all a (next_valid link_map a b e)) in (w.0, w.1, (chain_next link_map w.0 a b (are.each w.0 w.1) w.2).0 e)),
+    (λ n. (chain_next link_map n.0 a b (are.each n.0 n.1) (neighbors_Has n.0 a b n.2).0).1 n.2),
   );
   prev = λ a b. (
-    (λ e. let w = chain_at chains b (are.all b (prev_valid shown b a e)) in (w.0, w.1, (chain_prev shown w.0 b a (are.each w.0 w.1) w.2).0 e)),
-    (λ n. (chain_prev shown n.0 b a (are.each n.0 n.1) (neighbors_Has n.0 a b n.2).1).1 n.2),
+    (λ e. let w = chain_at chains b (are.all b (prev_valid link_map b a e)) in (w.0, w.1, (chain_prev link_map w.0 b a (are.each w.0 w.1) w.2).0 e)),
+    (λ n. (chain_prev link_map n.0 b a (are.each n.0 n.1) (neighbors_Has n.0 a b n.2).1).1 n.2),
   );
 }
 
@@ -180,22 +180,22 @@ same_named None (Some j) same = (same j).1 refl
 same_named (Some j) p same = sym ((same j).0 refl)
 
 -- what partitions the links and has the interlinks are the chains
-pub chains_from_pairs : (shown : Shown) (chains : List Chain) → Partition shown chains → HasInterlinks shown chains → AreChains shown chains
-chains_from_pairs shown chains partition pairs = record {
-  each = λ c m. stands_chain shown c (partition.filled c m) (once_each chains c partition.once m)
-      (Stands-each shown (before_first c) (items c) (after_last c) (λ left right i e. shows c m left right i e));
+pub chains_from_pairs : (link_map : LinkMap) (chains : List Chain) → Partition link_map chains → HasInterlinks link_map chains → AreChains link_map chains
+chains_from_pairs link_map chains partition pairs = record {
+  each = λ c m. stands_chain link_map c (partition.filled c m) (once_each chains c partition.once m)
+      (AreLinked-each link_map (before_first c) (items c) (after_last c) (λ left right i e. shows c m left right i e));
   once = partition.once;
   all = λ i v. (partition.valid i).0 v;
 }
   where
-    member : (c : Chain) (left right : List ℕ) (i : ℕ) → items c ≡ left ++ i ∷ right → Has (items c) i
-    member c left right i e = subst (λ (zs : List ℕ). Has zs i) (sym e) (Has-middle left right i)
+    member : (c : Chain) (left right : List ℕ) (i : ℕ) → items c ≡ left ++ i ∷ right → IsMember (items c) i
+    member c left right i e = subst (λ (zs : List ℕ). IsMember zs i) (sym e) (IsMember-middle left right i)
 
-    same_chain : (c d : Chain) (i : ℕ) → HasChain chains c → HasChain chains d → Has (items c) i → Has (items d) i → d ≡ c
+    same_chain : (c d : Chain) (i : ℕ) → HasChain chains c → HasChain chains d → IsMember (items c) i → IsMember (items d) i → d ≡ c
     same_chain c d i m n h k = once_chain chains d c i partition.once n m k h
 
     next_is : (c : Chain) → HasChain chains c → (left right : List ℕ) (i : ℕ) → items c ≡ left ++ i ∷ right → (j : ℕ)
-        → (next_of shown i ≡ Some j) ↔ (first_or right (after_last c) ≡ Some j)
+        → (next_of link_map i ≡ Some j) ↔ (first_or right (after_last c) ≡ Some j)
     next_is c m left right i e j = (
       (λ n. let w = (pairs.next i j).0 n in
           neighbors_after c left right i j (once_each chains c partition.once m) e
@@ -204,7 +204,7 @@ chains_from_pairs shown chains partition pairs = record {
     )
 
     prev_is : (c : Chain) → HasChain chains c → (left right : List ℕ) (i : ℕ) → items c ≡ left ++ i ∷ right → (j : ℕ)
-        → (prev_of shown i ≡ Some j) ↔ (last_or left (before_first c) ≡ Some j)
+        → (prev_of link_map i ≡ Some j) ↔ (last_or left (before_first c) ≡ Some j)
     prev_is c m left right i e j = (
       (λ n. let w = (pairs.prev j i).0 n in
           neighbors_before c left right i j (once_each chains c partition.once m) e
@@ -213,23 +213,23 @@ chains_from_pairs shown chains partition pairs = record {
     )
 
     shows : (c : Chain) → HasChain chains c → (left right : List ℕ) (i : ℕ) → items c ≡ left ++ i ∷ right
-        → shown i ≡ Some (link (last_or left (before_first c)) (first_or right (after_last c)))
+        → link_map i ≡ Some (link (last_or left (before_first c)) (first_or right (after_last c)))
     shows c m left right i e =
-        shows_both shown i (last_or left (before_first c)) (first_or right (after_last c))
-        ((partition.valid i).1 (Has-all_items chains c i m (member c left right i e)))
-        (same_named (prev_of shown i) (last_or left (before_first c)) (prev_is c m left right i e))
-        (same_named (next_of shown i) (first_or right (after_last c)) (next_is c m left right i e))
+        shows_both link_map i (last_or left (before_first c)) (first_or right (after_last c))
+        ((partition.valid i).1 (IsMember-all_items chains c i m (member c left right i e)))
+        (same_named (prev_of link_map i) (last_or left (before_first c)) (prev_is c m left right i e))
+        (same_named (next_of link_map i) (first_or right (after_last c)) (next_is c m left right i e))
 
 -- an arena whose interlinks are the neighbour pairs of some chains has interlinks that agree
-pub agrees_from_pairs : (shown : Shown) (chains : List Chain) → HasInterlinks shown chains → Agrees shown
-agrees_from_pairs shown chains pairs = record {
+pub agrees_from_pairs : (link_map : LinkMap) (chains : List Chain) → HasInterlinks link_map chains → IsWellLinked link_map
+agrees_from_pairs link_map chains pairs = record {
   both = λ i j. ((λ e. (pairs.prev i j).1 ((pairs.next i j).0 e)), (λ e. (pairs.next i j).1 ((pairs.prev i j).0 e)));
 }
 
 -- .. and so has an arena with chains
-pub agrees_from_chains : (shown : Shown) (chains : List Chain) → AreChains shown chains → Agrees shown
-agrees_from_chains shown chains are = agrees_from_pairs shown chains (interlinks shown chains are)
+pub agrees_from_chains : (link_map : LinkMap) (chains : List Chain) → AreChains link_map chains → IsWellLinked link_map
+agrees_from_chains link_map chains are = agrees_from_pairs link_map chains (interlinks link_map chains are)
 
 -- chains item by item and by neighbour pairs are the same
-pub chains_by_pairs : (shown : Shown) (chains : List Chain) → AreChains shown chains ↔ (Partition shown chains × HasInterlinks shown chains)
-chains_by_pairs shown chains = ((λ are. (partitions shown chains are, interlinks shown chains are)), (λ both. chains_from_pairs shown chains both.0 both.1))
+pub chains_by_pairs : (link_map : LinkMap) (chains : List Chain) → AreChains link_map chains ↔ (Partition link_map chains × HasInterlinks link_map chains)
+chains_by_pairs link_map chains = ((λ are. (partitions link_map chains are, interlinks link_map chains are)), (λ both. chains_from_pairs link_map chains both.0 both.1))

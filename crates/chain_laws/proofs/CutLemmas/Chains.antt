@@ -2,60 +2,60 @@
 use Rattle.std.specs.Prelude.{◌≡◌, ◌≢◌, ◌↔◌, ℕ, List, [], ◌∷◌, ◌++◌, Option, None, Some}
 use Rattle.std.proofs.Common.{sym, refl, ap, ◌∙◌, subst, inl, ⊎_elim}
 use Rattle.std.proofs.lemmas.List.{append_assoc}
-use Rattle.chain_laws.specs.Chains.{Shown, Chain, linear, cyclic, items, IsChain, Agrees, Has, HasNoRepetition, Stands, prev_of, first_or, last_or}
+use Rattle.chain_laws.specs.Chains.{LinkMap, Chain, linear, cyclic, items, IsChain, IsWellLinked, IsMember, AreDistinct, AreLinked, prev_of, first_or, last_or}
 use Rattle.chain_laws.specs.Neighbors.{AreNeighbors}
 use Rattle.chain_laws.specs.Joins.{prev_set, next_set, linked}
 use Rattle.chain_laws.specs.Cuts.{cut, Cuts, CutIsDetermined}
 use Rattle.chain_laws.proofs.InterlinkLemmas.Inverses.{one_some}
-use Rattle.chain_laws.proofs.ListLemmas.Members.{Has-written, Has-middle, Has-filled, last_or-append, last_or-Has, HasNoRepetition-left, HasNoRepetition-right, HasNoRepetition-apart}
-use Rattle.chain_laws.proofs.ChainLemmas.LinkedLists.{Stands-left, Stands-right, Stands-at, shows_next, shows_prev, next_valid}
+use Rattle.chain_laws.proofs.ListLemmas.Members.{IsMember-written, IsMember-middle, IsMember-filled, last_or-append, last_or-IsMember, AreDistinct-left, AreDistinct-right, AreDistinct-apart}
+use Rattle.chain_laws.proofs.ChainLemmas.LinkedLists.{AreLinked-left, AreLinked-right, AreLinked-at, shows_next, shows_prev, next_valid}
 use Rattle.chain_laws.proofs.ChainLemmas.Uniqueness.{chain_closed}
 use Rattle.chain_laws.proofs.ChainLemmas.Rotations.{turned_to}
 use Rattle.chain_laws.proofs.ChainLemmas.Existence.{ChainOf, stands_in, has_chain}
-use Rattle.chain_laws.proofs.JoinLemmas.Lists.{IsOutside, IsOutside-Some, Stands-next_set, Stands-prev_set, Stands-next_of_last, Stands-prev_of_first, IsChain-linked}
+use Rattle.chain_laws.proofs.JoinLemmas.Lists.{IsOutside, IsOutside-Some, AreLinked-next_set, AreLinked-prev_set, AreLinked-next_of_last, AreLinked-prev_of_first, IsChain-linked}
 use Rattle.chain_laws.proofs.ChainLemmas.Determinacy.{NamesChains, settled}
 
 -- the two parts of a linear list that is cut after its left part
-parts_stand : (shown : Shown) (a b : ℕ) (xs y : List ℕ) → xs ≢ [] → last_or xs None ≡ Some a → HasNoRepetition (xs ++ b ∷ y) → Stands shown None (xs ++ b ∷ y) None
-    → IsChain (cut shown a b) (linear xs) × IsChain (cut shown a b) (linear (b ∷ y))
-parts_stand shown a b xs y filled ends once stands =
-    let ended = next_set shown (Some a) None in
-    let xs_once : HasNoRepetition xs = HasNoRepetition-left xs (b ∷ y) once in
-    let ys_once : HasNoRepetition (b ∷ y) = HasNoRepetition-right xs (b ∷ y) once in
-    let left : Stands ended None xs None =
-    subst (λ (o : Option ℕ). Stands (next_set shown o None) None xs None) ends
-    (Stands-next_of_last shown None None xs (Some b) xs_once (Stands-left shown None xs (b ∷ y) None stands)) in
-    let right : Stands ended (last_or xs None) (b ∷ y) None =
-    Stands-next_set shown (Some a) None (last_or xs None) (b ∷ y) None (IsOutside-Some a (b ∷ y) a_apart) (Stands-right shown None xs (b ∷ y) None stands) in (
-      (filled, xs_once, Stands-prev_set ended (Some b) None None xs None (IsOutside-Some b xs b_apart) left),
-      (Has-filled (b ∷ y) b (inl refl), ys_once, Stands-prev_of_first ended None (last_or xs None) (b ∷ y) None ys_once right),
+parts_stand : (link_map : LinkMap) (a b : ℕ) (xs y : List ℕ) → xs ≢ [] → last_or xs None ≡ Some a → AreDistinct (xs ++ b ∷ y) → AreLinked link_map None (xs ++ b ∷ y) None
+    → IsChain (cut link_map a b) (linear xs) × IsChain (cut link_map a b) (linear (b ∷ y))
+parts_stand link_map a b xs y filled ends once stands =
+    let ended = next_set link_map (Some a) None in
+    let xs_once : AreDistinct xs = AreDistinct-left xs (b ∷ y) once in
+    let ys_once : AreDistinct (b ∷ y) = AreDistinct-right xs (b ∷ y) once in
+    let left : AreLinked ended None xs None =
+    subst (λ (o : Option ℕ). AreLinked (next_set link_map o None) None xs None) ends
+    (AreLinked-next_of_last link_map None None xs (Some b) xs_once (AreLinked-left link_map None xs (b ∷ y) None stands)) in
+    let right : AreLinked ended (last_or xs None) (b ∷ y) None =
+    AreLinked-next_set link_map (Some a) None (last_or xs None) (b ∷ y) None (IsOutside-Some a (b ∷ y) a_apart) (AreLinked-right link_map None xs (b ∷ y) None stands) in (
+      (filled, xs_once, AreLinked-prev_set ended (Some b) None None xs None (IsOutside-Some b xs b_apart) left),
+      (IsMember-filled (b ∷ y) b (inl refl), ys_once, AreLinked-prev_of_first ended None (last_or xs None) (b ∷ y) None ys_once right),
     )
   where
-    a_apart : Has (b ∷ y) a → ⊥
-    a_apart h = ⊎_elim (λ k. HasNoRepetition-apart xs (b ∷ y) a once k h) (λ e. absurd (cc)) (last_or-Has xs None a ends)
+    a_apart : IsMember (b ∷ y) a → ⊥
+    a_apart h = ⊎_elim (λ k. AreDistinct-apart xs (b ∷ y) a once k h) (λ e. absurd (cc)) (last_or-IsMember xs None a ends)
 
-    b_apart : Has xs b → ⊥
-    b_apart h = HasNoRepetition-apart xs (b ∷ y) b once h (inl refl)
+    b_apart : IsMember xs b → ⊥
+    b_apart h = AreDistinct-apart xs (b ∷ y) b once h (inl refl)
 
 -- a linear chain becomes two
-pub cut_two : (shown : Shown) (a b : ℕ) (x y : List ℕ) → IsChain shown (linear (x ++ a ∷ b ∷ y))
-    → IsChain (cut shown a b) (linear (x ++ a ∷ [])) × IsChain (cut shown a b) (linear (b ∷ y))
-cut_two shown a b x y chain =
-    let split : IsChain shown (linear ((x ++ a ∷ []) ++ b ∷ y)) = subst (λ (zs : List ℕ). IsChain shown (linear zs)) (sym (append_assoc x (a ∷ []) (b ∷ y))) chain in
-    parts_stand shown a b (x ++ a ∷ []) y (Has-filled (x ++ a ∷ []) a (Has-middle x [] a)) (last_or-append x (a ∷ []) None) split.1 split.2
+pub cut_two : (link_map : LinkMap) (a b : ℕ) (x y : List ℕ) → IsChain link_map (linear (x ++ a ∷ b ∷ y))
+    → IsChain (cut link_map a b) (linear (x ++ a ∷ [])) × IsChain (cut link_map a b) (linear (b ∷ y))
+cut_two link_map a b x y chain =
+    let split : IsChain link_map (linear ((x ++ a ∷ []) ++ b ∷ y)) = subst (λ (zs : List ℕ). IsChain link_map (linear zs)) (sym (append_assoc x (a ∷ []) (b ∷ y))) chain in
+    parts_stand link_map a b (x ++ a ∷ []) y (IsMember-filled (x ++ a ∷ []) a (IsMember-middle x [] a)) (last_or-append x (a ∷ []) None) split.1 split.2
 
 -- a cyclic chain becomes linear
-pub cut_one : (shown : Shown) (a b : ℕ) (xs : List ℕ) → IsChain shown (cyclic xs) → first_or xs None ≡ Some b → last_or xs None ≡ Some a
-    → IsChain (cut shown a b) (linear xs)
-cut_one shown a b [] chain starts ends = absurd (chain.0 refl)
-cut_one shown a b (x ∷ xs) chain starts ends =
-    let ended : Stands (next_set shown (Some a) None) (last_or xs (Some x)) (x ∷ xs) None =
-    subst (λ (o : Option ℕ). Stands (next_set shown o None) (last_or xs (Some x)) (x ∷ xs) None) ends
-    (Stands-next_of_last shown None (last_or xs (Some x)) (x ∷ xs) (Some x) chain.1 chain.2) in (
+pub cut_one : (link_map : LinkMap) (a b : ℕ) (xs : List ℕ) → IsChain link_map (cyclic xs) → first_or xs None ≡ Some b → last_or xs None ≡ Some a
+    → IsChain (cut link_map a b) (linear xs)
+cut_one link_map a b [] chain starts ends = absurd (chain.0 refl)
+cut_one link_map a b (x ∷ xs) chain starts ends =
+    let ended : AreLinked (next_set link_map (Some a) None) (last_or xs (Some x)) (x ∷ xs) None =
+    subst (λ (o : Option ℕ). AreLinked (next_set link_map o None) (last_or xs (Some x)) (x ∷ xs) None) ends
+    (AreLinked-next_of_last link_map None (last_or xs (Some x)) (x ∷ xs) (Some x) chain.1 chain.2) in (
       chain.0,
       chain.1,
-      subst (λ (o : Option ℕ). Stands (prev_set (next_set shown (Some a) None) o None) None (x ∷ xs) None) starts
-          (Stands-prev_of_first (next_set shown (Some a) None) None (last_or xs (Some x)) (x ∷ xs) None chain.1 ended),
+      subst (λ (o : Option ℕ). AreLinked (prev_set (next_set link_map (Some a) None) o None) None (x ∷ xs) None) starts
+          (AreLinked-prev_of_first (next_set link_map (Some a) None) None (last_or xs (Some x)) (x ∷ xs) None chain.1 ended),
     )
 
 -- no index is apart from any list
@@ -63,22 +63,22 @@ nowhere_apart : (xs : List ℕ) → IsOutside None xs
 nowhere_apart xs k e h = cc
 
 -- a chain with neither index stays
-cut_rest : (shown : Shown) (a b : ℕ) (c : Chain) → (Has (items c) a → ⊥) → (Has (items c) b → ⊥) → IsChain shown c ↔ IsChain (cut shown a b) c
-cut_rest shown a b c none_a none_b =
-    let inner = IsChain-linked shown (Some a) None c (IsOutside-Some a (items c) none_a) (nowhere_apart (items c)) in
-    let outer = IsChain-linked (linked shown (Some a) None) None (Some b) c (nowhere_apart (items c)) (IsOutside-Some b (items c) none_b) in
+cut_rest : (link_map : LinkMap) (a b : ℕ) (c : Chain) → (IsMember (items c) a → ⊥) → (IsMember (items c) b → ⊥) → IsChain link_map c ↔ IsChain (cut link_map a b) c
+cut_rest link_map a b c none_a none_b =
+    let inner = IsChain-linked link_map (Some a) None c (IsOutside-Some a (items c) none_a) (nowhere_apart (items c)) in
+    let outer = IsChain-linked (linked link_map (Some a) None) None (Some b) c (nowhere_apart (items c)) (IsOutside-Some b (items c) none_b) in
     (λ h. outer.0 (inner.0 h), λ h. inner.1 (outer.1 h))
 
 -- a cut cuts the chain of its pair
-pub cut_cuts : (shown : Shown) (a b : ℕ) → Cuts shown (cut shown a b) a b
-cut_cuts shown a b = record { two = cut_two shown a b; one = cut_one shown a b; rest = cut_rest shown a b }
+pub cut_cuts : (link_map : LinkMap) (a b : ℕ) → Cuts link_map (cut link_map a b) a b
+cut_cuts link_map a b = record { two = cut_two link_map a b; one = cut_one link_map a b; rest = cut_rest link_map a b }
 
 -- the chains of a and of b wherever they are cut apart
-abbrev Parted : Shown → ℕ → ℕ → Type 0
-Parted old a b = NamesChains (λ (new : Shown). Cuts old new a b) a b
+abbrev Parted : LinkMap → ℕ → ℕ → Type 0
+Parted old a b = NamesChains (λ (new : LinkMap). Cuts old new a b) a b
 
 -- a cyclic chain that is written from b, of which a is the last
-parted_ring : (old : Shown) (a b : ℕ) (rest : List ℕ) → IsChain old (cyclic (b ∷ rest)) → prev_of old b ≡ Some a → Has (b ∷ rest) a → Parted old a b
+parted_ring : (old : LinkMap) (a b : ℕ) (rest : List ℕ) → IsChain old (cyclic (b ∷ rest)) → prev_of old b ≡ Some a → IsMember (b ∷ rest) a → Parted old a b
 parted_ring old a b rest ring before has =
     let ends : last_or (b ∷ rest) None ≡ Some a = sym (shows_prev old b _ _ ring.2.0) ∙ before in
     record {
@@ -91,13 +91,13 @@ parted_ring old a b rest ring before has =
     }
 
 -- they are parts of the chain of a
-parted : (old : Shown) (a b : ℕ) → Agrees old → AreNeighbors old a b → ChainOf old a → Parted old a b
-parted old a b agrees pair (stands_in (linear xs) chain has) = let w = Has-written xs a has in by w.0 w.1 w.2
+parted : (old : LinkMap) (a b : ℕ) → IsWellLinked old → AreNeighbors old a b → ChainOf old a → Parted old a b
+parted old a b agrees pair (stands_in (linear xs) chain has) = let w = IsMember-written xs a has in by w.0 w.1 w.2
   where
     shows : (x rest : List ℕ) → xs ≡ x ++ a ∷ rest → first_or rest None ≡ Some b
     shows x rest e =
-        let here : Stands old None (x ++ a ∷ rest) None = subst (λ (zs : List ℕ). Stands old None zs None) e chain.2 in
-        sym (shows_next old a _ _ (Stands-at old None x rest None a here)) ∙ pair
+        let here : AreLinked old None (x ++ a ∷ rest) None = subst (λ (zs : List ℕ). AreLinked old None zs None) e chain.2 in
+        sym (shows_next old a _ _ (AreLinked-at old None x rest None a here)) ∙ pair
 
     by : (x rest : List ℕ) → xs ≡ x ++ a ∷ rest → Parted old a b
     by x [] e = let none : None ≡ Some b = shows x [] e in absurd (cc)
@@ -108,7 +108,7 @@ parted old a b agrees pair (stands_in (linear xs) chain has) = let w = Has-writt
         record {
           left = linear (x ++ a ∷ []);
           right = linear (b ∷ y);
-          has_a = Has-middle x [] a;
+          has_a = IsMember-middle x [] a;
           has_b = inl refl;
           left_stands = λ new cuts. (cuts.two x y here).0;
           right_stands = λ new cuts. (cuts.two x y here).1;
@@ -121,5 +121,5 @@ parted old a b agrees pair (stands_in (cyclic xs) chain has) =
 -- what cuts two neighbours apart has the chains of their cut
 pub cut_is_determined : CutIsDetermined
 cut_is_determined old new slots a b agrees within pair cuts =
-    settled old new (cut old a b) (λ (s : Shown). Cuts old s a b) a b (λ s made. made.rest)
+    settled old new (cut old a b) (λ (s : LinkMap). Cuts old s a b) a b (λ s made. made.rest)
     (parted old a b agrees pair (has_chain old slots agrees within a (next_valid old a b pair))) cuts (cut_cuts old a b)

@@ -3,9 +3,9 @@ use Rattle.std.specs.Prelude.{◌≡◌, ◌≢◌, ◌↔◌, ℕ, ◌⊎◌, L
 use Rattle.std.proofs.Common.{sym, refl, ap, ◌∙◌, subst, inl, inr, ⊎_elim}
 use Rattle.std.proofs.lemmas.Bool.{cases_eq}
 use Rattle.std.proofs.lemmas.List.{append_assoc}
-use Rattle.chain_laws.specs.Chains.{Shown, Chain, linear, cyclic, items, IsChain, Has}
+use Rattle.chain_laws.specs.Chains.{LinkMap, Chain, linear, cyclic, items, IsChain, IsMember}
 use Rattle.chain_laws.specs.Exchanges.{exchanged, Exchanges, ExchangesInOrder, ExchangeIsDetermined, ExchangeSplitsACycle, ExchangeMergesCycles}
-use Rattle.chain_laws.proofs.ListLemmas.Members.{Has-left, Has-parts, Has-middle, Has-written, Has-or_not}
+use Rattle.chain_laws.proofs.ListLemmas.Members.{IsMember-left, IsMember-parts, IsMember-middle, IsMember-written, IsMember-or_not}
 use Rattle.chain_laws.proofs.ChainLemmas.Uniqueness.{chain_valid}
 use Rattle.chain_laws.proofs.ChainLemmas.Rotations.{turned, turned_to, one_ring}
 use Rattle.chain_laws.proofs.ChainLemmas.Existence.{ChainOf, stands_in, has_chain}
@@ -13,15 +13,15 @@ use Rattle.chain_laws.proofs.ChainLemmas.Determinacy.{NamesChains, settled}
 use Rattle.chain_laws.proofs.ExchangeLemmas.Chains.{exchanged_exchanges}
 
 -- the links after p and after q are exchanged, as a word for the new arena
-abbrev Crosses : Shown → ℕ → ℕ → Shown → Type 0
+abbrev Crosses : LinkMap → ℕ → ℕ → LinkMap → Type 0
 Crosses old p q new = Exchanges old new p q
 
 -- the chains of p and of q wherever they are
-abbrev Crossed : Shown → ℕ → ℕ → Type 0
+abbrev Crossed : LinkMap → ℕ → ℕ → Type 0
 Crossed old p q = NamesChains (Crosses old p q) p q
 
 -- what settles the chains of two indexes settles them in either order
-settles_mutually : (Holds : Shown → Type 0) (a b : ℕ) → NamesChains Holds a b → NamesChains Holds b a
+settles_mutually : (Holds : LinkMap → Type 0) (a b : ℕ) → NamesChains Holds a b → NamesChains Holds b a
 settles_mutually Holds a b settles =
     record {
       left = settles.right;
@@ -33,87 +33,87 @@ settles_mutually Holds a b settles =
     }
 
 -- one linear chain, a before b
-taken_out_settles : (old : Shown) (Holds : Shown → Type 0) (a b : ℕ) → ((new : Shown) → Holds new → ExchangesInOrder old new a b)
+taken_out_settles : (old : LinkMap) (Holds : LinkMap → Type 0) (a b : ℕ) → ((new : LinkMap) → Holds new → ExchangesInOrder old new a b)
     → (x m y : List ℕ) → IsChain old (linear (x ++ a ∷ m ++ b ∷ y)) → NamesChains Holds a b
 taken_out_settles old Holds a b in_order x m y chain =
     record {
       left = linear (x ++ a ∷ y);
       right = cyclic (m ++ b ∷ []);
-      has_a = Has-middle x y a;
-      has_b = Has-middle m [] b;
+      has_a = IsMember-middle x y a;
+      has_b = IsMember-middle m [] b;
       left_stands = λ new holds. ((in_order new holds).taken_out x m y chain).0;
       right_stands = λ new holds. ((in_order new holds).taken_out x m y chain).1;
     }
 
 -- a in a linear chain, b in a cyclic one
-taken_in_settles : (old : Shown) (Holds : Shown → Type 0) (a b : ℕ) → ((new : Shown) → Holds new → ExchangesInOrder old new a b)
-    → (xs ys : List ℕ) → IsChain old (linear xs) → IsChain old (cyclic ys) → Has xs a → Has ys b → NamesChains Holds a b
+taken_in_settles : (old : LinkMap) (Holds : LinkMap → Type 0) (a b : ℕ) → ((new : LinkMap) → Holds new → ExchangesInOrder old new a b)
+    → (xs ys : List ℕ) → IsChain old (linear xs) → IsChain old (cyclic ys) → IsMember xs a → IsMember ys b → NamesChains Holds a b
 taken_in_settles old Holds a b in_order xs ys left right has_a has_b =
-    let w = Has-written xs a has_a in
+    let w = IsMember-written xs a has_a in
     let t = turned_to old ys b right has_b in
     let whole = w.0 ++ a ∷ t.0 ++ b ∷ w.1 in
-    let stands : (new : Shown) → Holds new → IsChain new (linear whole) = λ new holds.
+    let stands : (new : LinkMap) → Holds new → IsChain new (linear whole) = λ new holds.
     (in_order new holds).taken_in w.0 w.1 t.0 (subst (λ (zs : List ℕ). IsChain old (linear zs)) w.2 left) (turned old (b ∷ []) t.0 t.1) in
     record {
       left = linear whole;
       right = linear whole;
-      has_a = Has-left (w.0 ++ a ∷ t.0) (b ∷ w.1) a (Has-middle w.0 t.0 a);
-      has_b = Has-middle (w.0 ++ a ∷ t.0) w.1 b;
+      has_a = IsMember-left (w.0 ++ a ∷ t.0) (b ∷ w.1) a (IsMember-middle w.0 t.0 a);
+      has_b = IsMember-middle (w.0 ++ a ∷ t.0) w.1 b;
       left_stands = stands;
       right_stands = stands;
     }
 
 -- two linear chains
-two_linear_settle : (old : Shown) (p q : ℕ) (xs ys : List ℕ) → IsChain old (linear xs) → IsChain old (linear ys) → Has xs p → Has ys q
-    → (Has xs q → ⊥) → Crossed old p q
+two_linear_settle : (old : LinkMap) (p q : ℕ) (xs ys : List ℕ) → IsChain old (linear xs) → IsChain old (linear ys) → IsMember xs p → IsMember ys q
+    → (IsMember xs q → ⊥) → Crossed old p q
 two_linear_settle old p q xs ys left right has_p has_q none =
-    let v = Has-written xs p has_p in
-    let w = Has-written ys q has_q in
-    let parts : (new : Shown) → Exchanges old new p q → IsChain new (linear (v.0 ++ p ∷ w.1)) × IsChain new (linear (w.0 ++ q ∷ v.1)) = λ new exchanges.
+    let v = IsMember-written xs p has_p in
+    let w = IsMember-written ys q has_q in
+    let parts : (new : LinkMap) → Exchanges old new p q → IsChain new (linear (v.0 ++ p ∷ w.1)) × IsChain new (linear (w.0 ++ q ∷ v.1)) = λ new exchanges.
     exchanges.two_linear v.0 v.1 w.0 w.1
     (subst (λ (zs : List ℕ). IsChain old (linear zs)) v.2 left) (subst (λ (zs : List ℕ). IsChain old (linear zs)) w.2 right)
-    (λ h. none (subst (λ (zs : List ℕ). Has zs q) (sym v.2) h)) in
+    (λ h. none (subst (λ (zs : List ℕ). IsMember zs q) (sym v.2) h)) in
     record {
       left = linear (v.0 ++ p ∷ w.1);
       right = linear (w.0 ++ q ∷ v.1);
-      has_a = Has-middle v.0 w.1 p;
-      has_b = Has-middle w.0 v.1 q;
+      has_a = IsMember-middle v.0 w.1 p;
+      has_b = IsMember-middle w.0 v.1 q;
       left_stands = λ new exchanges. (parts new exchanges).0;
       right_stands = λ new exchanges. (parts new exchanges).1;
     }
 
 -- two cyclic chains
-two_cyclic_settle : (old : Shown) (p q : ℕ) (xs ys : List ℕ) → IsChain old (cyclic xs) → IsChain old (cyclic ys) → Has xs p → Has ys q
-    → (Has xs q → ⊥) → Crossed old p q
+two_cyclic_settle : (old : LinkMap) (p q : ℕ) (xs ys : List ℕ) → IsChain old (cyclic xs) → IsChain old (cyclic ys) → IsMember xs p → IsMember ys q
+    → (IsMember xs q → ⊥) → Crossed old p q
 two_cyclic_settle old p q xs ys left right has_p has_q none =
     let v = turned_to old xs p left has_p in
     let w = turned_to old ys q right has_q in
     let ring = p ∷ w.0 ++ q ∷ v.0 in
-    let stands : (new : Shown) → Exchanges old new p q → IsChain new (cyclic ring) = λ new exchanges.
+    let stands : (new : LinkMap) → Exchanges old new p q → IsChain new (cyclic ring) = λ new exchanges.
     exchanges.two_cyclic v.0 w.0 v.1 w.1 (λ h. none ((v.2 q).1 h)) in
     record {
       left = cyclic ring;
       right = cyclic ring;
       has_a = inl refl;
-      has_b = Has-middle (p ∷ w.0) v.0 q;
+      has_b = IsMember-middle (p ∷ w.0) v.0 q;
       left_stands = stands;
       right_stands = stands;
     }
 
 -- a cyclic chain with two links, written from the one
-written_round : (shown : Shown) (p q : ℕ) (xs : List ℕ) → p ≢ q → IsChain shown (cyclic xs) → Has xs p → Has xs q
-    → (x : List ℕ) × (y : List ℕ) × IsChain shown (cyclic (p ∷ x ++ q ∷ y))
-written_round shown p q xs ne chain has_p has_q = by ((t.2 q).0 has_q)
+written_round : (link_map : LinkMap) (p q : ℕ) (xs : List ℕ) → p ≢ q → IsChain link_map (cyclic xs) → IsMember xs p → IsMember xs q
+    → (x : List ℕ) × (y : List ℕ) × IsChain link_map (cyclic (p ∷ x ++ q ∷ y))
+written_round link_map p q xs ne chain has_p has_q = by ((t.2 q).0 has_q)
   where
-    t : (rest : List ℕ) × IsChain shown (cyclic (p ∷ rest)) × ((y : ℕ) → Has xs y ↔ Has (p ∷ rest) y)
-    t = turned_to shown xs p chain has_p
+    t : (rest : List ℕ) × IsChain link_map (cyclic (p ∷ rest)) × ((y : ℕ) → IsMember xs y ↔ IsMember (p ∷ rest) y)
+    t = turned_to link_map xs p chain has_p
 
-    by : Has (p ∷ t.0) q → (x : List ℕ) × (y : List ℕ) × IsChain shown (cyclic (p ∷ x ++ q ∷ y))
+    by : IsMember (p ∷ t.0) q → (x : List ℕ) × (y : List ℕ) × IsChain link_map (cyclic (p ∷ x ++ q ∷ y))
     by (inl e) = absurd (ne e)
-    by (inr h) = let w = Has-written t.0 q h in (w.0, w.1, subst (λ (zs : List ℕ). IsChain shown (cyclic (p ∷ zs))) w.2 t.1)
+    by (inr h) = let w = IsMember-written t.0 q h in (w.0, w.1, subst (λ (zs : List ℕ). IsChain link_map (cyclic (p ∷ zs))) w.2 t.1)
 
 -- one cyclic chain
-one_cyclic_settles : (old : Shown) (p q : ℕ) (xs : List ℕ) → p ≢ q → IsChain old (cyclic xs) → Has xs p → Has xs q → Crossed old p q
+one_cyclic_settles : (old : LinkMap) (p q : ℕ) (xs : List ℕ) → p ≢ q → IsChain old (cyclic xs) → IsMember xs p → IsMember xs q → Crossed old p q
 one_cyclic_settles old p q xs ne chain has_p has_q =
     let w = written_round old p q xs ne chain has_p has_q in
     record {
@@ -126,37 +126,37 @@ one_cyclic_settles old p q xs ne chain has_p has_q =
     }
 
 -- one linear chain
-one_linear_settles : (old : Shown) (p q : ℕ) (xs : List ℕ) → p ≢ q → IsChain old (linear xs) → Has xs p → Has xs q → Crossed old p q
-one_linear_settles old p q xs ne chain has_p has_q = let w = Has-written xs p has_p in by w.0 w.1 w.2
+one_linear_settles : (old : LinkMap) (p q : ℕ) (xs : List ℕ) → p ≢ q → IsChain old (linear xs) → IsMember xs p → IsMember xs q → Crossed old p q
+one_linear_settles old p q xs ne chain has_p has_q = let w = IsMember-written xs p has_p in by w.0 w.1 w.2
   where
     by : (before after : List ℕ) → xs ≡ before ++ p ∷ after → Crossed old p q
-    by before after e = side (Has-parts before (p ∷ after) q (subst (λ (zs : List ℕ). Has zs q) e has_q))
+    by before after e = side (IsMember-parts before (p ∷ after) q (subst (λ (zs : List ℕ). IsMember zs q) e has_q))
       where
-        side : Has before q ⊎ Has (p ∷ after) q → Crossed old p q
+        side : IsMember before q ⊎ IsMember (p ∷ after) q → Crossed old p q
         side (inl h) =
-            let v = Has-written before q h in
+            let v = IsMember-written before q h in
             settles_mutually (Crosses old p q) q p
             (taken_out_settles old (Crosses old p q) q p (λ new exchanges. exchanges.in_other_order) v.0 v.1 after
             (subst (λ (zs : List ℕ). IsChain old (linear zs)) (e ∙ ap (λ (zs : List ℕ). zs ++ p ∷ after) v.2) chain))
         side (inr (inl s)) = absurd (ne s)
         side (inr (inr h)) =
-            let v = Has-written after q h in
+            let v = IsMember-written after q h in
             taken_out_settles old (Crosses old p q) p q (λ new exchanges. exchanges.in_order) before v.0 v.1
             (subst (λ (zs : List ℕ). IsChain old (linear zs))
             (e ∙ ap (λ (zs : List ℕ). before ++ p ∷ zs) v.2 ∙ sym (append_assoc before (p ∷ v.0) (q ∷ v.1))) chain)
 
 -- two different links, in one chain or in two
-crossed_apart : (old : Shown) (p q : ℕ) → p ≢ q → ChainOf old p → ChainOf old q → Crossed old p q
-crossed_apart old p q ne (stands_in (linear xs) left has_p) (stands_in d right has_q) = by d right has_q (Has-or_not xs q)
+crossed_apart : (old : LinkMap) (p q : ℕ) → p ≢ q → ChainOf old p → ChainOf old q → Crossed old p q
+crossed_apart old p q ne (stands_in (linear xs) left has_p) (stands_in d right has_q) = by d right has_q (IsMember-or_not xs q)
   where
-    by : (d : Chain) → IsChain old d → Has (items d) q → Has xs q ⊎ (Has xs q → ⊥) → Crossed old p q
+    by : (d : Chain) → IsChain old d → IsMember (items d) q → IsMember xs q ⊎ (IsMember xs q → ⊥) → Crossed old p q
     by d right has_q (inl h) = one_linear_settles old p q xs ne left has_p h
     by (linear ys) right has_q (inr none) = two_linear_settle old p q xs ys left right has_p has_q none
     by (cyclic ys) right has_q (inr none) =
         taken_in_settles old (Crosses old p q) p q (λ new exchanges. exchanges.in_order) xs ys left right has_p has_q
-crossed_apart old p q ne (stands_in (cyclic xs) left has_p) (stands_in d right has_q) = by d right has_q (Has-or_not xs q)
+crossed_apart old p q ne (stands_in (cyclic xs) left has_p) (stands_in d right has_q) = by d right has_q (IsMember-or_not xs q)
   where
-    by : (d : Chain) → IsChain old d → Has (items d) q → Has xs q ⊎ (Has xs q → ⊥) → Crossed old p q
+    by : (d : Chain) → IsChain old d → IsMember (items d) q → IsMember xs q ⊎ (IsMember xs q → ⊥) → Crossed old p q
     by d right has_q (inl h) = one_cyclic_settles old p q xs ne left has_p h
     by (linear ys) right has_q (inr none) =
         settles_mutually (Crosses old p q) q p
@@ -164,13 +164,13 @@ crossed_apart old p q ne (stands_in (cyclic xs) left has_p) (stands_in d right h
     by (cyclic ys) right has_q (inr none) = two_cyclic_settle old p q xs ys left right has_p has_q none
 
 -- one and the same link
-crossed_itself : (old : Shown) (p q : ℕ) → p ≡ q → ChainOf old p → Crossed old p q
+crossed_itself : (old : LinkMap) (p q : ℕ) → p ≡ q → ChainOf old p → Crossed old p q
 crossed_itself old p q e (stands_in c chain has) =
     record {
       left = c;
       right = c;
       has_a = has;
-      has_b = subst (Has (items c)) e has;
+      has_b = subst (IsMember (items c)) e has;
       left_stands = λ new exchanges. (exchanges.itself e c).0 chain;
       right_stands = λ new exchanges. (exchanges.itself e c).0 chain;
     }
@@ -186,21 +186,21 @@ exchange_is_determined old new slots p q agrees within valid_p valid_q exchanges
 
 -- two links of one cyclic chain stand in two after the exchange
 pub exchange_splits : ExchangeSplitsACycle
-exchange_splits shown p q xs agrees ne chain has_p has_q =
-    let w = written_round shown p q xs ne chain has_p has_q in
-    let exchanges = exchanged_exchanges shown p q agrees (chain_valid shown (cyclic xs) p chain has_p) (chain_valid shown (cyclic xs) q chain has_q) in
+exchange_splits link_map p q xs agrees ne chain has_p has_q =
+    let w = written_round link_map p q xs ne chain has_p has_q in
+    let exchanges = exchanged_exchanges link_map p q agrees (chain_valid link_map (cyclic xs) p chain has_p) (chain_valid link_map (cyclic xs) q chain has_q) in
     let parts = exchanges.one_cyclic w.0 w.1 w.2 in
-    (w.0, w.1, one_ring shown xs (p ∷ w.0 ++ q ∷ w.1) p chain w.2 has_p (inl refl), parts.0, parts.1)
+    (w.0, w.1, one_ring link_map xs (p ∷ w.0 ++ q ∷ w.1) p chain w.2 has_p (inl refl), parts.0, parts.1)
 
 -- links of two cyclic chains stand in one after the exchange
 pub exchange_merges : ExchangeMergesCycles
-exchange_merges shown p q xs ys agrees left right has_p has_q none =
-    let v = turned_to shown xs p left has_p in
-    let w = turned_to shown ys q right has_q in
-    let exchanges = exchanged_exchanges shown p q agrees (chain_valid shown (cyclic xs) p left has_p) (chain_valid shown (cyclic ys) q right has_q) in (
+exchange_merges link_map p q xs ys agrees left right has_p has_q none =
+    let v = turned_to link_map xs p left has_p in
+    let w = turned_to link_map ys q right has_q in
+    let exchanges = exchanged_exchanges link_map p q agrees (chain_valid link_map (cyclic xs) p left has_p) (chain_valid link_map (cyclic ys) q right has_q) in (
       v.0,
       w.0,
-      one_ring shown xs (p ∷ v.0) p left v.1 has_p (inl refl),
-      one_ring shown ys (q ∷ w.0) q right w.1 has_q (inl refl),
+      one_ring link_map xs (p ∷ v.0) p left v.1 has_p (inl refl),
+      one_ring link_map ys (q ∷ w.0) q right w.1 has_q (inl refl),
       exchanges.two_cyclic v.0 w.0 v.1 w.1 (λ h. none ((v.2 q).1 h)),
     )

@@ -2,7 +2,7 @@
 use Rattle.std.specs.Prelude.{◌≡◌, ◌≢◌, ◌↔◌, ℕ, ◌⊎◌, Option, Some}
 use Rattle.std.proofs.Common.{sym, refl, ap, ◌∙◌, inl, inr}
 use Rattle.std.proofs.lemmas.Bool.{cases_eq}
-use Rattle.chain_laws.specs.Chains.{Shown, HasLink, Agrees, prev_of, next_of}
+use Rattle.chain_laws.specs.Chains.{LinkMap, HasLink, IsWellLinked, prev_of, next_of}
 use Rattle.chain_laws.specs.Neighbors.{AreNeighbors}
 use Rattle.chain_laws.specs.Joins.{linked}
 use Rattle.chain_laws.specs.Exchanges.{exchanged, ExchangeAgrees, ExchangeInPairs, ExchangeIsDeterminedByPairs}
@@ -17,13 +17,13 @@ use Rattle.chain_laws.proofs.ExchangeLemmas.Swaps.{swapped, swapped_in, is_eithe
 use Rattle.chain_laws.proofs.ExchangeLemmas.Swaps.{swapped-mutual, swapped_in-mutual, swapped-itself, swapped_in-other, swapped_in-twice}
 
 -- what comes after p and what comes after q has changed places
-pub record AreExchanged (old new : Shown) (p q : ℕ) : Type 0 where
+pub record AreExchanged (old new : LinkMap) (p q : ℕ) : Type 0 where
   pub forth : (i : ℕ) → next_of new i ≡ next_of old (swapped p q i)
   pub back : (i : ℕ) → prev_of new i ≡ swapped_in p q (prev_of old i)
   pub links : (i : ℕ) → HasLink new i ↔ HasLink old i
 
 -- so it has the other way round
-pub are_exchanged_back : (old new : Shown) (p q : ℕ) → AreExchanged old new p q → AreExchanged new old p q
+pub are_exchanged_back : (old new : LinkMap) (p q : ℕ) → AreExchanged old new p q → AreExchanged new old p q
 are_exchanged_back old new p q are =
     record {
       forth = λ i. sym (are.forth (swapped p q i) ∙ ap (next_of old) (swapped-twice p q i));
@@ -32,7 +32,7 @@ are_exchanged_back old new p q are =
     }
 
 -- .. and whichever of the two is named first
-pub are_exchanged_mutually : (old new : Shown) (p q : ℕ) → AreExchanged old new p q → AreExchanged old new q p
+pub are_exchanged_mutually : (old new : LinkMap) (p q : ℕ) → AreExchanged old new p q → AreExchanged old new q p
 are_exchanged_mutually old new p q are =
     record {
       forth = λ i. are.forth i ∙ ap (next_of old) (swapped-mutual p q i);
@@ -41,63 +41,63 @@ are_exchanged_mutually old new p q are =
     }
 
 -- an exchange exchanges them
-pub exchanged_are : (shown : Shown) (p q : ℕ) → Agrees shown → HasLink shown p → HasLink shown q → AreExchanged shown (exchanged shown p q) p q
-exchanged_are shown p q agrees valid_p valid_q =
+pub exchanged_are : (link_map : LinkMap) (p q : ℕ) → IsWellLinked link_map → HasLink link_map p → HasLink link_map q → AreExchanged link_map (exchanged link_map p q) p q
+exchanged_are link_map p q agrees valid_p valid_q =
     record {
       forth = λ i. outer_next i ∙ next_by i (cases_eq i q) (cases_eq i p);
       back = λ i. outer_prev i ∙ prev_by i (names_or_not a i) (names_or_not b i);
       links = λ i.
           let outer = HasLink-linked half (Some q) a i in
-          let inner = HasLink-linked shown (Some p) b i in
+          let inner = HasLink-linked link_map (Some p) b i in
           (λ v. inner.0 (outer.0 v), λ v. outer.1 (inner.1 v));
     }
   where
     a : Option ℕ
-    a = next_of shown p
+    a = next_of link_map p
 
     b : Option ℕ
-    b = next_of shown q
+    b = next_of link_map q
 
-    half : Shown
-    half = linked shown (Some p) b
+    half : LinkMap
+    half = linked link_map (Some p) b
 
-    named_valid : (k : ℕ) → IsValidAt shown (next_of shown k)
-    named_valid k i e = prev_valid shown i k ((agrees.both k i).0 e)
+    named_valid : (k : ℕ) → IsValidAt link_map (next_of link_map k)
+    named_valid k i e = prev_valid link_map i k ((agrees.both k i).0 e)
 
-    outer_next : (i : ℕ) → next_of (exchanged shown p q) i ≡ altered (next_of half) q a i
-    outer_next i = next_of-linked half (Some q) a i (IsValidAt-Some half q ((HasLink-linked shown (Some p) b q).1 valid_q))
+    outer_next : (i : ℕ) → next_of (exchanged link_map p q) i ≡ altered (next_of half) q a i
+    outer_next i = next_of-linked half (Some q) a i (IsValidAt-Some half q ((HasLink-linked link_map (Some p) b q).1 valid_q))
 
-    inner_next : (i : ℕ) → next_of half i ≡ altered (next_of shown) p b i
-    inner_next i = next_of-linked shown (Some p) b i (IsValidAt-Some shown p valid_p)
+    inner_next : (i : ℕ) → next_of half i ≡ altered (next_of link_map) p b i
+    inner_next i = next_of-linked link_map (Some p) b i (IsValidAt-Some link_map p valid_p)
 
-    next_by : (i : ℕ) → (i ≡ q) ⊎ (i ≢ q) → (i ≡ p) ⊎ (i ≢ p) → altered (next_of half) q a i ≡ next_of shown (swapped p q i)
-    next_by i (inl e) _ = altered-same (next_of half) q a i e ∙ ap (next_of shown) (sym (swapped-second p q i e))
+    next_by : (i : ℕ) → (i ≡ q) ⊎ (i ≢ q) → (i ≡ p) ⊎ (i ≢ p) → altered (next_of half) q a i ≡ next_of link_map (swapped p q i)
+    next_by i (inl e) _ = altered-same (next_of half) q a i e ∙ ap (next_of link_map) (sym (swapped-second p q i e))
     next_by i (inr not_q) (inl e) =
-        altered-other (next_of half) q a i not_q ∙ inner_next i ∙ altered-same (next_of shown) p b i e ∙ ap (next_of shown) (sym (swapped-first p q i e))
+        altered-other (next_of half) q a i not_q ∙ inner_next i ∙ altered-same (next_of link_map) p b i e ∙ ap (next_of link_map) (sym (swapped-first p q i e))
     next_by i (inr not_q) (inr not_p) =
-        altered-other (next_of half) q a i not_q ∙ inner_next i ∙ altered-other (next_of shown) p b i not_p
-        ∙ ap (next_of shown) (sym (swapped-other p q i not_p not_q))
+        altered-other (next_of half) q a i not_q ∙ inner_next i ∙ altered-other (next_of link_map) p b i not_p
+        ∙ ap (next_of link_map) (sym (swapped-other p q i not_p not_q))
 
-    outer_prev : (i : ℕ) → prev_of (exchanged shown p q) i ≡ put_at (prev_of half) a (Some q) i
-    outer_prev i = prev_of-linked half (Some q) a i (λ k e. (HasLink-linked shown (Some p) b k).1 (named_valid p k e))
+    outer_prev : (i : ℕ) → prev_of (exchanged link_map p q) i ≡ put_at (prev_of half) a (Some q) i
+    outer_prev i = prev_of-linked half (Some q) a i (λ k e. (HasLink-linked link_map (Some p) b k).1 (named_valid p k e))
 
-    inner_prev : (i : ℕ) → prev_of half i ≡ put_at (prev_of shown) b (Some p) i
-    inner_prev i = prev_of-linked shown (Some p) b i (named_valid q)
+    inner_prev : (i : ℕ) → prev_of half i ≡ put_at (prev_of link_map) b (Some p) i
+    inner_prev i = prev_of-linked link_map (Some p) b i (named_valid q)
 
     prev_by : (i : ℕ) → (a ≡ Some i) ⊎ (a ≢ Some i) → (b ≡ Some i) ⊎ (b ≢ Some i)
-        → put_at (prev_of half) a (Some q) i ≡ swapped_in p q (prev_of shown i)
+        → put_at (prev_of half) a (Some q) i ≡ swapped_in p q (prev_of link_map i)
     prev_by i (inl e) _ =
         put_at-same (prev_of half) a (Some q) i e ∙ ap Some (sym (swapped-first p q p refl)) ∙ ap (swapped_in p q) (sym ((agrees.both p i).0 e))
     prev_by i (inr not_a) (inl e) =
-        put_at-other (prev_of half) a (Some q) i not_a ∙ inner_prev i ∙ put_at-same (prev_of shown) b (Some p) i e
+        put_at-other (prev_of half) a (Some q) i not_a ∙ inner_prev i ∙ put_at-same (prev_of link_map) b (Some p) i e
         ∙ ap Some (sym (swapped-second p q q refl)) ∙ ap (swapped_in p q) (sym ((agrees.both q i).0 e))
     prev_by i (inr not_a) (inr not_b) =
-        put_at-other (prev_of half) a (Some q) i not_a ∙ inner_prev i ∙ put_at-other (prev_of shown) b (Some p) i not_b
-        ∙ sym (swapped_in-other p q (prev_of shown i) (λ e. not_a ((agrees.both p i).1 e)) (λ e. not_b ((agrees.both q i).1 e)))
+        put_at-other (prev_of half) a (Some q) i not_a ∙ inner_prev i ∙ put_at-other (prev_of link_map) b (Some p) i not_b
+        ∙ sym (swapped_in-other p q (prev_of link_map i) (λ e. not_a ((agrees.both p i).1 e)) (λ e. not_b ((agrees.both q i).1 e)))
 
 -- an exchange keeps agreement
 pub exchanged_agrees : ExchangeAgrees
-exchanged_agrees shown p q agrees valid_p valid_q =
+exchanged_agrees link_map p q agrees valid_p valid_q =
     record {
       both = λ i j. (
         λ e. are.back j ∙ ap (swapped_in p q) ((agrees.both (swapped p q i) j).0 (sym (are.forth i) ∙ e)) ∙ ap Some (swapped-twice p q i),
@@ -105,34 +105,34 @@ exchanged_agrees shown p q agrees valid_p valid_q =
       );
     }
   where
-    are : AreExchanged shown (exchanged shown p q) p q
-    are = exchanged_are shown p q agrees valid_p valid_q
+    are : AreExchanged link_map (exchanged link_map p q) p q
+    are = exchanged_are link_map p q agrees valid_p valid_q
 
-    there : AreExchanged (exchanged shown p q) shown p q
-    there = are_exchanged_back shown (exchanged shown p q) p q are
+    there : AreExchanged (exchanged link_map p q) link_map p q
+    there = are_exchanged_back link_map (exchanged link_map p q) p q are
 
 -- the pairs and links after an exchange
 pub exchanged_in_pairs : ExchangeInPairs
-exchanged_in_pairs shown p q agrees valid_p valid_q =
+exchanged_in_pairs link_map p q agrees valid_p valid_q =
     record {
       pairs = λ i j. (λ e. there i j (sym (are.forth i) ∙ e) (is_either_or_neither p q i), λ s. are.forth i ∙ back i j s);
       links = are.links;
     }
   where
-    are : AreExchanged shown (exchanged shown p q) p q
-    are = exchanged_are shown p q agrees valid_p valid_q
+    are : AreExchanged link_map (exchanged link_map p q) p q
+    are = exchanged_are link_map p q agrees valid_p valid_q
 
-    there : (i j : ℕ) → AreNeighbors shown (swapped p q i) j → (i ≡ p) ⊎ (i ≡ q) ⊎ ((i ≢ p) × (i ≢ q))
-        → (AreNeighbors shown i j × (i ≢ p) × (i ≢ q)) ⊎ ((i ≡ p) × AreNeighbors shown q j) ⊎ ((i ≡ q) × AreNeighbors shown p j)
-    there i j e (inl s) = inr (inl (s, ap (next_of shown) (sym (swapped-first p q i s)) ∙ e))
-    there i j e (inr (inl s)) = inr (inr (s, ap (next_of shown) (sym (swapped-second p q i s)) ∙ e))
-    there i j e (inr (inr ne)) = inl (ap (next_of shown) (sym (swapped-other p q i ne.0 ne.1)) ∙ e, ne.0, ne.1)
+    there : (i j : ℕ) → AreNeighbors link_map (swapped p q i) j → (i ≡ p) ⊎ (i ≡ q) ⊎ ((i ≢ p) × (i ≢ q))
+        → (AreNeighbors link_map i j × (i ≢ p) × (i ≢ q)) ⊎ ((i ≡ p) × AreNeighbors link_map q j) ⊎ ((i ≡ q) × AreNeighbors link_map p j)
+    there i j e (inl s) = inr (inl (s, ap (next_of link_map) (sym (swapped-first p q i s)) ∙ e))
+    there i j e (inr (inl s)) = inr (inr (s, ap (next_of link_map) (sym (swapped-second p q i s)) ∙ e))
+    there i j e (inr (inr ne)) = inl (ap (next_of link_map) (sym (swapped-other p q i ne.0 ne.1)) ∙ e, ne.0, ne.1)
 
-    back : (i j : ℕ) → (AreNeighbors shown i j × (i ≢ p) × (i ≢ q)) ⊎ ((i ≡ p) × AreNeighbors shown q j) ⊎ ((i ≡ q) × AreNeighbors shown p j)
-        → AreNeighbors shown (swapped p q i) j
-    back i j (inl s) = ap (next_of shown) (swapped-other p q i s.1 s.2) ∙ s.0
-    back i j (inr (inl s)) = ap (next_of shown) (swapped-first p q i s.0) ∙ s.1
-    back i j (inr (inr s)) = ap (next_of shown) (swapped-second p q i s.0) ∙ s.1
+    back : (i j : ℕ) → (AreNeighbors link_map i j × (i ≢ p) × (i ≢ q)) ⊎ ((i ≡ p) × AreNeighbors link_map q j) ⊎ ((i ≡ q) × AreNeighbors link_map p j)
+        → AreNeighbors link_map (swapped p q i) j
+    back i j (inl s) = ap (next_of link_map) (swapped-other p q i s.1 s.2) ∙ s.0
+    back i j (inr (inl s)) = ap (next_of link_map) (swapped-first p q i s.0) ∙ s.1
+    back i j (inr (inr s)) = ap (next_of link_map) (swapped-second p q i s.0) ∙ s.1
 
 -- what exchanges by pairs, and agrees, is the exchange
 pub exchange_is_determined_by_pairs : ExchangeIsDeterminedByPairs
@@ -143,37 +143,37 @@ exchange_is_determined_by_pairs old new p q agrees agrees_new valid_p valid_q ex
     (λ i j. (λ e. (that.pairs i j).1 ((exchanges.pairs i j).0 e), λ e. (exchanges.pairs i j).1 ((that.pairs i j).0 e)))
 
 -- two arenas that agree, with the same links and with the same after each index, show the same
-same_after : (left right : Shown) → Agrees left → Agrees right → ((i : ℕ) → HasLink left i ↔ HasLink right i)
+same_after : (left right : LinkMap) → IsWellLinked left → IsWellLinked right → ((i : ℕ) → HasLink left i ↔ HasLink right i)
     → ((i : ℕ) → next_of left i ≡ next_of right i) → left ≡ right
 same_after left right agrees_left agrees_right links same =
     pairs_decide left right agrees_left agrees_right links (λ i j. (λ e. sym (same i) ∙ e, λ e. same i ∙ e))
 
 -- an exchange with itself
 pub exchanged_with_itself : ExchangeWithItselfKeeps
-exchanged_with_itself shown p agrees valid =
-    let are = exchanged_are shown p p agrees valid valid in
-    same_after (exchanged shown p p) shown (exchanged_agrees shown p p agrees valid valid) agrees are.links
-    (λ i. are.forth i ∙ ap (next_of shown) (swapped-itself p i))
+exchanged_with_itself link_map p agrees valid =
+    let are = exchanged_are link_map p p agrees valid valid in
+    same_after (exchanged link_map p p) link_map (exchanged_agrees link_map p p agrees valid valid) agrees are.links
+    (λ i. are.forth i ∙ ap (next_of link_map) (swapped-itself p i))
 
 -- an exchange from either of the two
 pub exchanged_mutually : ExchangeIsMutual
-exchanged_mutually shown p q agrees valid_p valid_q =
-    let are = exchanged_are shown p q agrees valid_p valid_q in
-    let that = exchanged_are shown q p agrees valid_q valid_p in
-    same_after (exchanged shown p q) (exchanged shown q p)
-    (exchanged_agrees shown p q agrees valid_p valid_q) (exchanged_agrees shown q p agrees valid_q valid_p)
+exchanged_mutually link_map p q agrees valid_p valid_q =
+    let are = exchanged_are link_map p q agrees valid_p valid_q in
+    let that = exchanged_are link_map q p agrees valid_q valid_p in
+    same_after (exchanged link_map p q) (exchanged link_map q p)
+    (exchanged_agrees link_map p q agrees valid_p valid_q) (exchanged_agrees link_map q p agrees valid_q valid_p)
     (λ i. (λ v. (that.links i).1 ((are.links i).0 v), λ v. (are.links i).1 ((that.links i).0 v)))
-    (λ i. are.forth i ∙ ap (next_of shown) (swapped-mutual p q i) ∙ sym (that.forth i))
+    (λ i. are.forth i ∙ ap (next_of link_map) (swapped-mutual p q i) ∙ sym (that.forth i))
 
 -- two exchanges of the same two
 pub exchanged_twice : ExchangeTwiceRestores
-exchanged_twice shown p q agrees valid_p valid_q =
-    let once = exchanged shown p q in
-    let are = exchanged_are shown p q agrees valid_p valid_q in
-    let agrees_once = exchanged_agrees shown p q agrees valid_p valid_q in
+exchanged_twice link_map p q agrees valid_p valid_q =
+    let once = exchanged link_map p q in
+    let are = exchanged_are link_map p q agrees valid_p valid_q in
+    let agrees_once = exchanged_agrees link_map p q agrees valid_p valid_q in
     let valid_p_once = (are.links p).1 valid_p in
     let valid_q_once = (are.links q).1 valid_q in
     let again = exchanged_are once p q agrees_once valid_p_once valid_q_once in
-    same_after (exchanged once p q) shown (exchanged_agrees once p q agrees_once valid_p_once valid_q_once) agrees
+    same_after (exchanged once p q) link_map (exchanged_agrees once p q agrees_once valid_p_once valid_q_once) agrees
     (λ i. (λ v. (are.links i).0 ((again.links i).0 v), λ v. (again.links i).1 ((are.links i).1 v)))
-    (λ i. again.forth i ∙ are.forth (swapped p q i) ∙ ap (next_of shown) (swapped-twice p q i))
+    (λ i. again.forth i ∙ are.forth (swapped p q i) ∙ ap (next_of link_map) (swapped-twice p q i))

@@ -1,10 +1,10 @@
 -- The chains after an insertion are that of the new link and those that stay: what inserts leaves no choice.
 use Rattle.std.specs.Prelude.{◌≡◌, ℕ, ◌⊎◌, List, [], ◌∷◌, ◌++◌, Option, None, Some}
 use Rattle.std.proofs.Common.{sym, refl, ap, ◌∙◌, subst, inl, inr, ⊎_elim}
-use Rattle.chain_laws.specs.Chains.{Shown, Chain, linear, cyclic, items, IsChain, HasLinksWithin, Agrees, Has, prev_of, next_of, first_or}
-use Rattle.chain_laws.specs.Insertions.{inserted, IsGap, HasIndex, Inserts, InsertionIsDetermined}
+use Rattle.chain_laws.specs.Chains.{LinkMap, Chain, linear, cyclic, items, IsChain, HasLinksWithin, IsWellLinked, IsMember, prev_of, next_of, first_or}
+use Rattle.chain_laws.specs.Insertions.{inserted, IsInsertPosition, HasIndex, Inserts, InsertionIsDetermined}
 use Rattle.chain_laws.proofs.InterlinkLemmas.Inverses.{one_some}
-use Rattle.chain_laws.proofs.ListLemmas.Members.{Has-left, Has-right, Has-middle, Has-written, Has-or_not, last_or-append}
+use Rattle.chain_laws.proofs.ListLemmas.Members.{IsMember-left, IsMember-right, IsMember-middle, IsMember-written, IsMember-or_not, last_or-append}
 use Rattle.chain_laws.proofs.ChainLemmas.LinkedLists.{prev_valid}
 use Rattle.chain_laws.proofs.ChainLemmas.Uniqueness.{chain_closed, one_linear}
 use Rattle.chain_laws.proofs.ChainLemmas.Existence.{ChainOf, stands_in, has_chain}
@@ -12,104 +12,104 @@ use Rattle.chain_laws.proofs.ChainLemmas.Determinacy.{chain_elsewhere, end_chain
 use Rattle.chain_laws.proofs.InsertionLemmas.Chains.{inserted_inserts}
 
 -- the chain of q wherever that is inserted between u and v, which stand in it too
-record Lengthened (old : Shown) (q : ℕ) (u v : Option ℕ) : Type 0 where
+record Lengthened (old : LinkMap) (q : ℕ) (u v : Option ℕ) : Type 0 where
   chain : Chain
-  has_new : Has (items chain) q
-  has_before : (i : ℕ) → u ≡ Some i → Has (items chain) i
-  has_after : (i : ℕ) → v ≡ Some i → Has (items chain) i
-  stands : (new : Shown) → Inserts old new q u v → IsChain new chain
+  has_new : IsMember (items chain) q
+  has_before : (i : ℕ) → u ≡ Some i → IsMember (items chain) i
+  has_after : (i : ℕ) → v ≡ Some i → IsMember (items chain) i
+  stands : (new : LinkMap) → Inserts old new q u v → IsChain new chain
 
 -- an index that is named, as some index
-Has-Some : (xs : List ℕ) (a i : ℕ) → Has xs a → Some a ≡ Some i → Has xs i
-Has-Some xs a i h e = subst (Has xs) (one_some e) h
+IsMember-Some : (xs : List ℕ) (a i : ℕ) → IsMember xs a → Some a ≡ Some i → IsMember xs i
+IsMember-Some xs a i h e = subst (IsMember xs) (one_some e) h
 
 -- a list has what it had, with a new item in it
-Has-inserted : (xs ys : List ℕ) (q i : ℕ) → Has (xs ++ ys) i → Has (xs ++ q ∷ ys) i
-Has-inserted [] ys q i h = inr h
-Has-inserted (x ∷ xs) ys q i (inl e) = inl e
-Has-inserted (x ∷ xs) ys q i (inr h) = inr (Has-inserted xs ys q i h)
+IsMember-inserted : (xs ys : List ℕ) (q i : ℕ) → IsMember (xs ++ ys) i → IsMember (xs ++ q ∷ ys) i
+IsMember-inserted [] ys q i h = inr h
+IsMember-inserted (x ∷ xs) ys q i (inl e) = inl e
+IsMember-inserted (x ∷ xs) ys q i (inr h) = inr (IsMember-inserted xs ys q i h)
 
 -- after an end
-lengthened_end : (old : Shown) (a q : ℕ) → next_of old a ≡ None → (x : List ℕ) → IsChain old (linear (x ++ a ∷ [])) → Lengthened old q (Some a) None
+lengthened_end : (old : LinkMap) (a q : ℕ) → next_of old a ≡ None → (x : List ℕ) → IsChain old (linear (x ++ a ∷ [])) → Lengthened old q (Some a) None
 lengthened_end old a q end x chain =
     record {
       chain = linear (x ++ a ∷ q ∷ []);
-      has_new = Has-right x (a ∷ q ∷ []) q (inr (inl refl));
-      has_before = λ i e. Has-Some (x ++ a ∷ q ∷ []) a i (Has-middle x (q ∷ []) a) e;
+      has_new = IsMember-right x (a ∷ q ∷ []) q (inr (inl refl));
+      has_before = λ i e. IsMember-Some (x ++ a ∷ q ∷ []) a i (IsMember-middle x (q ∷ []) a) e;
       has_after = λ i e. absurd (cc);
       stands = λ new inserts. (inserts.after a refl (sym end) x []).0 chain;
     }
 
 -- before a start
-lengthened_start : (old : Shown) (b q : ℕ) → prev_of old b ≡ None → (y : List ℕ) → IsChain old (linear (b ∷ y)) → Lengthened old q None (Some b)
+lengthened_start : (old : LinkMap) (b q : ℕ) → prev_of old b ≡ None → (y : List ℕ) → IsChain old (linear (b ∷ y)) → Lengthened old q None (Some b)
 lengthened_start old b q start y chain =
     record {
       chain = linear (q ∷ b ∷ y);
       has_new = inl refl;
       has_before = λ i e. absurd (cc);
-      has_after = λ i e. Has-Some (q ∷ b ∷ y) b i (inr (inl refl)) e;
+      has_after = λ i e. IsMember-Some (q ∷ b ∷ y) b i (inr (inl refl)) e;
       stands = λ new inserts. (inserts.before b refl (sym start) [] y).0 chain;
     }
 
 -- between neighbours, of which the second stands in a list that has the first
-lengthened_list : (old : Shown) (a b q : ℕ) (x y : List ℕ) → Has (x ++ b ∷ y) a → (c : Chain) → items c ≡ x ++ q ∷ b ∷ y
-    → ((new : Shown) → Inserts old new q (Some a) (Some b) → IsChain new c) → Lengthened old q (Some a) (Some b)
+lengthened_list : (old : LinkMap) (a b q : ℕ) (x y : List ℕ) → IsMember (x ++ b ∷ y) a → (c : Chain) → items c ≡ x ++ q ∷ b ∷ y
+    → ((new : LinkMap) → Inserts old new q (Some a) (Some b) → IsChain new c) → Lengthened old q (Some a) (Some b)
 lengthened_list old a b q x y has_a c same stands =
-    let has : (k : ℕ) → Has (x ++ q ∷ b ∷ y) k → Has (items c) k = λ k h. subst (λ (zs : List ℕ). Has zs k) (sym same) h in
+    let has : (k : ℕ) → IsMember (x ++ q ∷ b ∷ y) k → IsMember (items c) k = λ k h. subst (λ (zs : List ℕ). IsMember zs k) (sym same) h in
     record {
       chain = c;
-      has_new = has q (Has-middle x (b ∷ y) q);
-      has_before = λ i e. Has-Some (items c) a i (has a (Has-inserted x (b ∷ y) q a has_a)) e;
-      has_after = λ i e. Has-Some (items c) b i (has b (Has-right x (q ∷ b ∷ y) b (inr (inl refl)))) e;
+      has_new = has q (IsMember-middle x (b ∷ y) q);
+      has_before = λ i e. IsMember-Some (items c) a i (has a (IsMember-inserted x (b ∷ y) q a has_a)) e;
+      has_after = λ i e. IsMember-Some (items c) b i (has b (IsMember-right x (q ∷ b ∷ y) b (inr (inl refl)))) e;
       stands = stands;
     }
 
 -- between neighbours
-lengthened_pair : (old : Shown) (a b q : ℕ) → prev_of old b ≡ Some a → ChainOf old b → Lengthened old q (Some a) (Some b)
-lengthened_pair old a b q before (stands_in (linear xs) chain has) = let w = Has-written xs b has in by w.0 w.1 w.2
+lengthened_pair : (old : LinkMap) (a b q : ℕ) → prev_of old b ≡ Some a → ChainOf old b → Lengthened old q (Some a) (Some b)
+lengthened_pair old a b q before (stands_in (linear xs) chain has) = let w = IsMember-written xs b has in by w.0 w.1 w.2
   where
     by : (x y : List ℕ) → xs ≡ x ++ b ∷ y → Lengthened old q (Some a) (Some b)
     by x y e =
         let here : IsChain old (linear (x ++ b ∷ y)) = subst (λ (zs : List ℕ). IsChain old (linear zs)) e chain in
-        let has_a : Has (x ++ b ∷ y) a = (chain_closed old (linear (x ++ b ∷ y)) here).back b a (Has-middle x y b) before in
+        let has_a : IsMember (x ++ b ∷ y) a = (chain_closed old (linear (x ++ b ∷ y)) here).back b a (IsMember-middle x y b) before in
         lengthened_list old a b q x y has_a (linear (x ++ q ∷ b ∷ y)) refl (λ new inserts. (inserts.before b refl (sym before) x y).0 here)
-lengthened_pair old a b q before (stands_in (cyclic xs) chain has) = let w = Has-written xs b has in by w.0 w.1 w.2
+lengthened_pair old a b q before (stands_in (cyclic xs) chain has) = let w = IsMember-written xs b has in by w.0 w.1 w.2
   where
     by : (x y : List ℕ) → xs ≡ x ++ b ∷ y → Lengthened old q (Some a) (Some b)
     by x y e =
         let here : IsChain old (cyclic (x ++ b ∷ y)) = subst (λ (zs : List ℕ). IsChain old (cyclic zs)) e chain in
-        let has_a : Has (x ++ b ∷ y) a = (chain_closed old (cyclic (x ++ b ∷ y)) here).back b a (Has-middle x y b) before in
+        let has_a : IsMember (x ++ b ∷ y) a = (chain_closed old (cyclic (x ++ b ∷ y)) here).back b a (IsMember-middle x y b) before in
         lengthened_list old a b q x y has_a (cyclic (x ++ q ∷ b ∷ y)) refl (λ new inserts. (inserts.before b refl (sym before) x y).1 here)
 
 -- between an end and a start
-lengthened_bridge : (old : Shown) (a b q : ℕ) (x y : List ℕ) → IsChain old (linear (x ++ a ∷ [])) → IsChain old (linear (b ∷ y))
+lengthened_bridge : (old : LinkMap) (a b q : ℕ) (x y : List ℕ) → IsChain old (linear (x ++ a ∷ [])) → IsChain old (linear (b ∷ y))
     → Lengthened old q (Some a) (Some b)
-lengthened_bridge old a b q x y left right = by (Has-or_not (x ++ a ∷ []) b)
+lengthened_bridge old a b q x y left right = by (IsMember-or_not (x ++ a ∷ []) b)
   where
-    by : Has (x ++ a ∷ []) b ⊎ (Has (x ++ a ∷ []) b → ⊥) → Lengthened old q (Some a) (Some b)
+    by : IsMember (x ++ a ∷ []) b ⊎ (IsMember (x ++ a ∷ []) b → ⊥) → Lengthened old q (Some a) (Some b)
     by (inl h) =
         let xs = x ++ a ∷ [] in
         let same : xs ≡ b ∷ y = one_linear old xs (b ∷ y) b left right h (inl refl) in
         let starts : first_or xs None ≡ Some b = ap (λ (zs : List ℕ). first_or zs None) same in
         record {
           chain = cyclic (xs ++ q ∷ []);
-          has_new = Has-middle xs [] q;
-          has_before = λ i e. Has-Some (xs ++ q ∷ []) a i (Has-left xs (q ∷ []) a (Has-middle x [] a)) e;
-          has_after = λ i e. Has-Some (xs ++ q ∷ []) b i (Has-left xs (q ∷ []) b h) e;
+          has_new = IsMember-middle xs [] q;
+          has_before = λ i e. IsMember-Some (xs ++ q ∷ []) a i (IsMember-left xs (q ∷ []) a (IsMember-middle x [] a)) e;
+          has_after = λ i e. IsMember-Some (xs ++ q ∷ []) b i (IsMember-left xs (q ∷ []) b h) e;
           stands = λ new inserts. inserts.one a b refl refl xs left starts (last_or-append x (a ∷ []) None);
         }
     by (inr none) =
         let xs = x ++ a ∷ q ∷ [] in
         record {
           chain = linear (xs ++ b ∷ y);
-          has_new = Has-left xs (b ∷ y) q (Has-right x (a ∷ q ∷ []) q (inr (inl refl)));
-          has_before = λ i e. Has-Some (xs ++ b ∷ y) a i (Has-left xs (b ∷ y) a (Has-middle x (q ∷ []) a)) e;
-          has_after = λ i e. Has-Some (xs ++ b ∷ y) b i (Has-middle xs y b) e;
+          has_new = IsMember-left xs (b ∷ y) q (IsMember-right x (a ∷ q ∷ []) q (inr (inl refl)));
+          has_before = λ i e. IsMember-Some (xs ++ b ∷ y) a i (IsMember-left xs (b ∷ y) a (IsMember-middle x (q ∷ []) a)) e;
+          has_after = λ i e. IsMember-Some (xs ++ b ∷ y) b i (IsMember-middle xs y b) e;
           stands = λ new inserts. inserts.two a b refl refl x y left right none;
         }
 
 -- in any gap
-lengthened : (old : Shown) (slots q : ℕ) (u v : Option ℕ) → Agrees old → HasLinksWithin old slots → IsGap old q u v → Lengthened old q u v
+lengthened : (old : LinkMap) (slots q : ℕ) (u v : Option ℕ) → IsWellLinked old → HasLinksWithin old slots → IsInsertPosition old q u v → Lengthened old q u v
 lengthened old slots q None None agrees within gap =
     record {
       chain = linear (q ∷ []);
@@ -141,20 +141,20 @@ lengthened old slots q (Some a) (Some b) agrees within (inr (inr ring)) =
     }
 
 -- a chain has the index, where it is one, or has it not
-HasIndex-or_not : (c : Chain) (u : Option ℕ) → ((i : ℕ) × (u ≡ Some i) × Has (items c) i) ⊎ (HasIndex c u → ⊥)
+HasIndex-or_not : (c : Chain) (u : Option ℕ) → ((i : ℕ) × (u ≡ Some i) × IsMember (items c) i) ⊎ (HasIndex c u → ⊥)
 HasIndex-or_not c None = inr (λ h. h)
-HasIndex-or_not c (Some i) = ⊎_elim (λ h. inl (i, refl, h)) (λ none. inr none) (Has-or_not (items c) i)
+HasIndex-or_not c (Some i) = ⊎_elim (λ h. inl (i, refl, h)) (λ none. inr none) (IsMember-or_not (items c) i)
 
 -- two arenas in which q is inserted between u and v have the same chains
-inserted_alike : (old left right : Shown) (q : ℕ) (u v : Option ℕ) → Lengthened old q u v → Inserts old left q u v → Inserts old right q u v
+inserted_alike : (old left right : LinkMap) (q : ℕ) (u v : Option ℕ) → Lengthened old q u v → Inserts old left q u v → Inserts old right q u v
     → (c : Chain) → IsChain left c → IsChain right c
-inserted_alike old left right q u v longer l r c chain = by (Has-or_not (items c) q) (HasIndex-or_not c u) (HasIndex-or_not c v)
+inserted_alike old left right q u v longer l r c chain = by (IsMember-or_not (items c) q) (HasIndex-or_not c u) (HasIndex-or_not c v)
   where
-    shared : (i : ℕ) → Has (items c) i → Has (items longer.chain) i → IsChain right c
+    shared : (i : ℕ) → IsMember (items c) i → IsMember (items longer.chain) i → IsChain right c
     shared i h k = chain_elsewhere left right c longer.chain i chain (longer.stands left l) (longer.stands right r) h k
 
-    by : Has (items c) q ⊎ (Has (items c) q → ⊥) → ((i : ℕ) × (u ≡ Some i) × Has (items c) i) ⊎ (HasIndex c u → ⊥)
-        → ((i : ℕ) × (v ≡ Some i) × Has (items c) i) ⊎ (HasIndex c v → ⊥) → IsChain right c
+    by : IsMember (items c) q ⊎ (IsMember (items c) q → ⊥) → ((i : ℕ) × (u ≡ Some i) × IsMember (items c) i) ⊎ (HasIndex c u → ⊥)
+        → ((i : ℕ) × (v ≡ Some i) × IsMember (items c) i) ⊎ (HasIndex c v → ⊥) → IsChain right c
     by (inl h) _ _ = shared q h longer.has_new
     by (inr none_q) (inl s) _ = shared s.0 s.2 (longer.has_before s.0 s.1)
     by (inr none_q) (inr none_u) (inl t) = shared t.0 t.2 (longer.has_after t.0 t.1)

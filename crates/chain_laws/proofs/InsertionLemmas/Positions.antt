@@ -2,42 +2,42 @@
 use Rattle.std.proofs.Common.{◌≡◌, ℕ, inl, inr, Option, None, Some, refl, sym, ap, ◌∙◌}
 use Rattle.std.proofs.Math.Decide.{ℕ_discrete}
 use Rattle.std.proofs.Math.Logic.{∥∥₁_elim}
-use Rattle.chain_laws.specs.Chains.{Shown, Interlinks, HasLink, prev_of, next_of}
+use Rattle.chain_laws.specs.Chains.{LinkMap, Interlinks, HasLink, prev_of, next_of}
 use Rattle.chain_laws.specs.Joins.{AreEndAndStart}
-use Rattle.chain_laws.specs.Insertions.{IsGap}
+use Rattle.chain_laws.specs.Insertions.{IsInsertPosition}
 
 -- where it cannot be that no link stands, one does; and so with the want of an index
-stands_had : (shown : Shown) (i : ℕ) (link : Option Interlinks) → shown i ≡ link → ((HasLink shown i → ⊥) → ⊥) → HasLink shown i
-stands_had shown i None none some = absurd (some (λ v. let no = sym none ∙ v.shows in cc))
-stands_had shown i (Some l) is some = record { link = l; shows = is }
+stands_had : (link_map : LinkMap) (i : ℕ) (link : Option Interlinks) → link_map i ≡ link → ((HasLink link_map i → ⊥) → ⊥) → HasLink link_map i
+stands_had link_map i None none some = absurd (some (λ v. let no = sym none ∙ v.shows in cc))
+stands_had link_map i (Some l) is some = record { link = l; shows = is }
 
 none_had : (o p : Option ℕ) → o ≡ p → ((o ≡ None → ⊥) → ⊥) → o ≡ None
 none_had o None is none = is
 none_had o (Some n) is none = absurd (none (λ no. let both = sym is ∙ no in cc))
 
-module _ (shown : Shown) (q a b : ℕ) (h : (IsGap shown q (Some a) (Some b) → ⊥) → ⊥) where
+module _ (link_map : LinkMap) (q a b : ℕ) (h : (IsInsertPosition link_map q (Some a) (Some b) → ⊥) → ⊥) where
   -- neither neighbors nor the new link, so an end and a start
-  only_ends : next_of shown a ≡ None → ((a ≡ q) × (b ≡ q) → ⊥) → (AreEndAndStart shown a b → ⊥) → ⊥
+  only_ends : next_of link_map a ≡ None → ((a ≡ q) × (b ≡ q) → ⊥) → (AreEndAndStart link_map a b → ⊥) → ⊥
   only_ends none other not = h (λ gap. elim gap [
     | inl pair ↦ (let both = sym none ∙ pair in cc)
     | inr (inl ends) ↦ not ends
     | inr (inr new) ↦ other new
   ])
 
-  ends_had : next_of shown a ≡ None → ((a ≡ q) × (b ≡ q) → ⊥) → AreEndAndStart shown a b
+  ends_had : next_of link_map a ≡ None → ((a ≡ q) × (b ≡ q) → ⊥) → AreEndAndStart link_map a b
   ends_had none other = record {
-    valid_end = stands_had shown a (shown a) refl (λ no. only_ends none other (λ e. no e.valid_end));
-    valid_start = stands_had shown b (shown b) refl (λ no. only_ends none other (λ e. no e.valid_start));
+    valid_end = stands_had link_map a (link_map a) refl (λ no. only_ends none other (λ e. no e.valid_end));
+    valid_start = stands_had link_map b (link_map b) refl (λ no. only_ends none other (λ e. no e.valid_start));
     end = none;
-    start = none_had (prev_of shown b) (prev_of shown b) refl (λ no. only_ends none other (λ e. no e.start));
+    start = none_had (prev_of link_map b) (prev_of link_map b) refl (λ no. only_ends none other (λ e. no e.start));
   }
 
-  by_number : next_of shown a ≡ None → Dec (a ≡ q) → Dec (b ≡ q) → IsGap shown q (Some a) (Some b)
+  by_number : next_of link_map a ≡ None → Dec (a ≡ q) → Dec (b ≡ q) → IsInsertPosition link_map q (Some a) (Some b)
   by_number none (yes first) (yes second) = inr (inr (first, second))
   by_number none (no other) second = inr (inl (ends_had none (λ new. other new.0)))
   by_number none (yes first) (no other) = inr (inl (ends_had none (λ new. other new.1)))
 
-  by_equal : (n : ℕ) → next_of shown a ≡ Some n → Dec (n ≡ b) → Dec (a ≡ q) → Dec (b ≡ q) → IsGap shown q (Some a) (Some b)
+  by_equal : (n : ℕ) → next_of link_map a ≡ Some n → Dec (n ≡ b) → Dec (a ≡ q) → Dec (b ≡ q) → IsInsertPosition link_map q (Some a) (Some b)
   by_equal n is (yes same) first second = inl (is ∙ ap (λ (m : ℕ). Some m) same)
   by_equal n is (no other) (yes first) (yes second) = inr (inr (first, second))
   by_equal n is (no other) (no past) second = absurd (h (λ gap. elim gap [
@@ -51,17 +51,17 @@ module _ (shown : Shown) (q a b : ℕ) (h : (IsGap shown q (Some a) (Some b) →
     | inr (inr new) ↦ past new.1
   ]))
 
-  by_next : (o : Option ℕ) → next_of shown a ≡ o → IsGap shown q (Some a) (Some b)
+  by_next : (o : Option ℕ) → next_of link_map a ≡ o → IsInsertPosition link_map q (Some a) (Some b)
   by_next None none = by_number none (ℕ_discrete a q) (ℕ_discrete b q)
   by_next (Some n) is = by_equal n is (ℕ_discrete n b) (ℕ_discrete a q) (ℕ_discrete b q)
 
-by_links : (shown : Shown) (q : ℕ) (u v : Option ℕ) → ((IsGap shown q u v → ⊥) → ⊥) → IsGap shown q u v
-by_links shown q None None h = tt
-by_links shown q (Some a) None h =
-    (stands_had shown a (shown a) refl (λ no. h (λ gap. no gap.0)), none_had (next_of shown a) (next_of shown a) refl (λ no. h (λ gap. no gap.1)))
-by_links shown q None (Some b) h =
-    (stands_had shown b (shown b) refl (λ no. h (λ gap. no gap.0)), none_had (prev_of shown b) (prev_of shown b) refl (λ no. h (λ gap. no gap.1)))
-by_links shown q (Some a) (Some b) h = by_next shown q a b h (next_of shown a) refl
+by_links : (link_map : LinkMap) (q : ℕ) (u v : Option ℕ) → ((IsInsertPosition link_map q u v → ⊥) → ⊥) → IsInsertPosition link_map q u v
+by_links link_map q None None h = tt
+by_links link_map q (Some a) None h =
+    (stands_had link_map a (link_map a) refl (λ no. h (λ gap. no gap.0)), none_had (next_of link_map a) (next_of link_map a) refl (λ no. h (λ gap. no gap.1)))
+by_links link_map q None (Some b) h =
+    (stands_had link_map b (link_map b) refl (λ no. h (λ gap. no gap.0)), none_had (prev_of link_map b) (prev_of link_map b) refl (λ no. h (λ gap. no gap.1)))
+by_links link_map q (Some a) (Some b) h = by_next link_map q a b h (next_of link_map a) refl
 
-pub gap_had : (shown : Shown) (q : ℕ) (u v : Option ℕ) → ∥ IsGap shown q u v ∥₁ → IsGap shown q u v
-gap_had shown q u v h = by_links shown q u v (λ not_one. ∥∥₁_elim h (λ x y. absurd x) not_one)
+pub gap_had : (link_map : LinkMap) (q : ℕ) (u v : Option ℕ) → ∥ IsInsertPosition link_map q u v ∥₁ → IsInsertPosition link_map q u v
+gap_had link_map q u v h = by_links link_map q u v (λ not_one. ∥∥₁_elim h (λ x y. absurd x) not_one)

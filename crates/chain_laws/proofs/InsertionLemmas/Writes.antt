@@ -4,14 +4,14 @@ use Rattle.std.specs.Option.{option_map}
 use Rattle.std.proofs.Common.{refl, sym, ap, ◌∙◌}
 use mathlib.Core.Path.{fun_ext}
 use Rattle.std.proofs.lemmas.Bool.{eqb-true}
-use Rattle.chain_laws.specs.Chains.{Shown, Interlinks}
+use Rattle.chain_laws.specs.Chains.{LinkMap, Interlinks}
 use Rattle.chain_laws.specs.Joins.{with_prev, with_next, prev_set, next_set, linked, with_lone}
 use Rattle.chain_laws.specs.Insertions.{inserted}
 use Rattle.chain_laws.proofs.ChainLemmas.LinkedLists.{link}
 
 -- a link that names u and v is added at q
-abbrev pub with_link : Shown → ℕ → Option ℕ → Option ℕ → Shown
-with_link shown q u v j = if j == q then Some (link u v) else shown j
+abbrev pub with_link : LinkMap → ℕ → Option ℕ → Option ℕ → LinkMap
+with_link link_map q u v j = if j == q then Some (link u v) else link_map j
 
 -- a new link, written after none ..
 alone_at : (b : Bool) (v : Option ℕ) (s : Option Interlinks)
@@ -34,16 +34,16 @@ after_at false true a q v s itself = refl
 after_at false false a q v s itself = refl
 
 -- what names the new link's neighbours by writes, and what names them at once
-named_alike : (shown : Shown) (q : ℕ) (u v : Option ℕ) → (u ≡ Some q → v ≡ Some q) → (j : ℕ)
-    → next_set (prev_set (next_set (with_lone shown q) u (Some q)) (Some q) u) (Some q) v j ≡ next_set (with_link shown q u v) u (Some q) j
-named_alike shown q None v itself j = alone_at (j == q) v (shown j)
-named_alike shown q (Some a) v itself j =
-    after_at (j == q) (j == a) a q v (shown j) (λ at_q at_a. itself (ap Some (sym (eqb-true j a at_a) ∙ eqb-true j q at_q)))
+named_alike : (link_map : LinkMap) (q : ℕ) (u v : Option ℕ) → (u ≡ Some q → v ≡ Some q) → (j : ℕ)
+    → next_set (prev_set (next_set (with_lone link_map q) u (Some q)) (Some q) u) (Some q) v j ≡ next_set (with_link link_map q u v) u (Some q) j
+named_alike link_map q None v itself j = alone_at (j == q) v (link_map j)
+named_alike link_map q (Some a) v itself j =
+    after_at (j == q) (j == a) a q v (link_map j) (λ at_q at_a. itself (ap Some (sym (eqb-true j a at_a) ∙ eqb-true j q at_q)))
 
 -- a link that names u and v, and is then named by them, is inserted; one that comes after itself comes before itself
-pub inserted_by_writes : (shown : Shown) (q : ℕ) (u v : Option ℕ) → (u ≡ Some q → v ≡ Some q)
-    → prev_set (next_set (with_link shown q u v) u (Some q)) v (Some q) ≡ inserted shown q u v
-inserted_by_writes shown q u v itself = ap (λ (s : Shown). prev_set s v (Some q)) (sym (fun_ext (named_alike shown q u v itself)))
+pub inserted_by_writes : (link_map : LinkMap) (q : ℕ) (u v : Option ℕ) → (u ≡ Some q → v ≡ Some q)
+    → prev_set (next_set (with_link link_map q u v) u (Some q)) v (Some q) ≡ inserted link_map q u v
+inserted_by_writes link_map q u v itself = ap (λ (s : LinkMap). prev_set s v (Some q)) (sym (fun_ext (named_alike link_map q u v itself)))
 
 -- a lone link at q, where b tells whether q is looked at, that then names itself twice, and once
 ringed_at : (b : Bool) (q : ℕ) (s : Option Interlinks) → (let lone = (if b then Some (link None None) else s) in let named = (if b then option_map (with_next (Some q)) lone else lone) in if b then option_map (with_prev (Some q)) named else named)
@@ -52,8 +52,8 @@ ringed_at true q s = refl
 ringed_at false q s = refl
 
 -- a lone link that then names itself is a ring
-pub ringed_by_writes : (shown : Shown) (q : ℕ) → linked (with_lone shown q) (Some q) (Some q) ≡ inserted shown q (Some q) (Some q)
-ringed_by_writes shown q = fun_ext (λ j. ringed_at (j == q) q (shown j)) ∙ fun_ext (λ j. ringed_twice (j == q) q (shown j)) where
+pub ringed_by_writes : (link_map : LinkMap) (q : ℕ) → linked (with_lone link_map q) (Some q) (Some q) ≡ inserted link_map q (Some q) (Some q)
+ringed_by_writes link_map q = fun_ext (λ j. ringed_at (j == q) q (link_map j)) ∙ fun_ext (λ j. ringed_twice (j == q) q (link_map j)) where
   ringed_twice : (b : Bool) (q : ℕ) (s : Option Interlinks) → (if b then Some (link (Some q) (Some q)) else s)
       ≡ (let lone = (if b then Some (link None None) else s) in let named = (if b then option_map (with_next (Some q)) lone else lone) in let both = (if b then option_map (with_prev (Some q)) named else named) in
       let again = (if b then option_map (with_next (Some q)) both else both) in if b then option_map (with_prev (Some q)) again else again)
@@ -61,8 +61,8 @@ ringed_by_writes shown q = fun_ext (λ j. ringed_at (j == q) q (shown j)) ∙ fu
   ringed_twice false q s = refl
 
 -- a link that comes between none stands alone
-pub alone_by_writes : (shown : Shown) (q : ℕ) → inserted shown q None None ≡ with_lone shown q
-alone_by_writes shown q = fun_ext (λ j. alone_written (j == q) (shown j)) where
+pub alone_by_writes : (link_map : LinkMap) (q : ℕ) → inserted link_map q None None ≡ with_lone link_map q
+alone_by_writes link_map q = fun_ext (λ j. alone_written (j == q) (link_map j)) where
   alone_written : (b : Bool) (s : Option Interlinks)
       → (let lone = (if b then Some (link None None) else s) in let before = (if b then option_map (with_prev None) lone else lone) in if b then option_map (with_next None) before else before)
       ≡ (if b then Some (link None None) else s)

@@ -3,7 +3,7 @@ use Rattle.std.specs.Prelude.{◌≡◌, ◌≢◌, ◌↔◌, ℕ, ◌==◌, if
 use Rattle.std.specs.Option.{option_map}
 use Rattle.std.proofs.Common.{sym, refl, ap, ◌∙◌, subst, ⊎_elim}
 use Rattle.std.proofs.lemmas.Bool.{cases_eq}
-use Rattle.chain_laws.specs.Chains.{Shown, Interlinks, prev_in, next_in, prev_of, next_of, HasLink}
+use Rattle.chain_laws.specs.Chains.{LinkMap, Interlinks, prev_in, next_in, prev_of, next_of, HasLink}
 use Rattle.chain_laws.specs.Joins.{with_prev, with_next, prev_set, next_set, linked}
 use Rattle.chain_laws.proofs.InterlinkLemmas.Inverses.{altered, if_same, if_other, altered-same, altered-other, one_some}
 
@@ -12,12 +12,12 @@ abbrev pub IsOff : Option ℕ → ℕ → Type 0
 IsOff u j = (i : ℕ) → u ≡ Some i → j ≢ i
 
 -- the index, where it is one, is valid
-abbrev pub IsValidAt : Shown → Option ℕ → Type 0
-IsValidAt shown u = (i : ℕ) → u ≡ Some i → HasLink shown i
+abbrev pub IsValidAt : LinkMap → Option ℕ → Type 0
+IsValidAt link_map u = (i : ℕ) → u ≡ Some i → HasLink link_map i
 
 -- a valid index, as some index
-pub IsValidAt-Some : (shown : Shown) (i : ℕ) → HasLink shown i → IsValidAt shown (Some i)
-IsValidAt-Some shown i valid k e = subst (HasLink shown) (one_some e) valid
+pub IsValidAt-Some : (link_map : LinkMap) (i : ℕ) → HasLink link_map i → IsValidAt link_map (Some i)
+IsValidAt-Some link_map i valid k e = subst (HasLink link_map) (one_some e) valid
 
 -- what a function names, but o at u
 abbrev pub put_at : (ℕ → Option ℕ) → Option ℕ → Option ℕ → ℕ → Option ℕ
@@ -25,26 +25,26 @@ put_at f None o j = f j
 put_at f (Some i) o j = altered f i o j
 
 -- another index shows what it showed, after a write of `next` ..
-pub next_set-off : (shown : Shown) (u v : Option ℕ) (j : ℕ) → IsOff u j → next_set shown u v j ≡ shown j
-next_set-off shown None v j off = refl
-next_set-off shown (Some i) v j off = if_other j i _ _ (off i refl)
+pub next_set-off : (link_map : LinkMap) (u v : Option ℕ) (j : ℕ) → IsOff u j → next_set link_map u v j ≡ link_map j
+next_set-off link_map None v j off = refl
+next_set-off link_map (Some i) v j off = if_other j i _ _ (off i refl)
 
 -- .. of `prev` ..
-pub prev_set-off : (shown : Shown) (u v : Option ℕ) (j : ℕ) → IsOff u j → prev_set shown u v j ≡ shown j
-prev_set-off shown None v j off = refl
-prev_set-off shown (Some i) v j off = if_other j i _ _ (off i refl)
+pub prev_set-off : (link_map : LinkMap) (u v : Option ℕ) (j : ℕ) → IsOff u j → prev_set link_map u v j ≡ link_map j
+prev_set-off link_map None v j off = refl
+prev_set-off link_map (Some i) v j off = if_other j i _ _ (off i refl)
 
 -- .. and of both
-pub linked-off : (shown : Shown) (u v : Option ℕ) (j : ℕ) → IsOff u j → IsOff v j → linked shown u v j ≡ shown j
-linked-off shown u v j off_u off_v = prev_set-off (next_set shown u v) v u j off_v ∙ next_set-off shown u v j off_u
+pub linked-off : (link_map : LinkMap) (u v : Option ℕ) (j : ℕ) → IsOff u j → IsOff v j → linked link_map u v j ≡ link_map j
+linked-off link_map u v j off_u off_v = prev_set-off (next_set link_map u v) v u j off_v ∙ next_set-off link_map u v j off_u
 
 -- what the link shows whose `next` is written ..
-pub next_set-at : (shown : Shown) (i : ℕ) (v : Option ℕ) (link : Interlinks) → shown i ≡ Some link → next_set shown (Some i) v i ≡ Some (with_next v link)
-next_set-at shown i v link e = if_same i i _ _ refl ∙ ap (option_map (with_next v)) e
+pub next_set-at : (link_map : LinkMap) (i : ℕ) (v : Option ℕ) (link : Interlinks) → link_map i ≡ Some link → next_set link_map (Some i) v i ≡ Some (with_next v link)
+next_set-at link_map i v link e = if_same i i _ _ refl ∙ ap (option_map (with_next v)) e
 
 -- .. and whose `prev` is
-pub prev_set-at : (shown : Shown) (i : ℕ) (u : Option ℕ) (link : Interlinks) → shown i ≡ Some link → prev_set shown (Some i) u i ≡ Some (with_prev u link)
-prev_set-at shown i u link e = if_same i i _ _ refl ∙ ap (option_map (with_prev u)) e
+pub prev_set-at : (link_map : LinkMap) (i : ℕ) (u : Option ℕ) (link : Interlinks) → link_map i ≡ Some link → prev_set link_map (Some i) u i ≡ Some (with_prev u link)
+prev_set-at link_map i u link e = if_same i i _ _ refl ∙ ap (option_map (with_prev u)) e
 
 -- a link with another `next` has its `prev`
 prev_in-with_next : (v : Option ℕ) (o : Option Interlinks) → prev_in (option_map (with_next v) o) ≡ prev_in o
@@ -57,46 +57,46 @@ next_in-with_prev u None = refl
 next_in-with_prev u (Some link) = refl
 
 -- a write of `next` leaves each `prev`
-pub prev_of-next_set : (shown : Shown) (u v : Option ℕ) (j : ℕ) → prev_of (next_set shown u v) j ≡ prev_of shown j
-prev_of-next_set shown None v j = refl
-prev_of-next_set shown (Some i) v j = ⊎_elim
-    (λ e. ap prev_in (if_same j i _ _ e) ∙ prev_in-with_next v (shown j))
+pub prev_of-next_set : (link_map : LinkMap) (u v : Option ℕ) (j : ℕ) → prev_of (next_set link_map u v) j ≡ prev_of link_map j
+prev_of-next_set link_map None v j = refl
+prev_of-next_set link_map (Some i) v j = ⊎_elim
+    (λ e. ap prev_in (if_same j i _ _ e) ∙ prev_in-with_next v (link_map j))
     (λ ne. ap prev_in (if_other j i _ _ ne))
     (cases_eq j i)
 
 -- .. and the other way round
-pub next_of-prev_set : (shown : Shown) (u v : Option ℕ) (j : ℕ) → next_of (prev_set shown u v) j ≡ next_of shown j
-next_of-prev_set shown None v j = refl
-next_of-prev_set shown (Some i) v j = ⊎_elim
-    (λ e. ap next_in (if_same j i _ _ e) ∙ next_in-with_prev v (shown j))
+pub next_of-prev_set : (link_map : LinkMap) (u v : Option ℕ) (j : ℕ) → next_of (prev_set link_map u v) j ≡ next_of link_map j
+next_of-prev_set link_map None v j = refl
+next_of-prev_set link_map (Some i) v j = ⊎_elim
+    (λ e. ap next_in (if_same j i _ _ e) ∙ next_in-with_prev v (link_map j))
     (λ ne. ap next_in (if_other j i _ _ ne))
     (cases_eq j i)
 
 -- a write of `next` at a valid index
-pub next_of-next_set : (shown : Shown) (u v : Option ℕ) (j : ℕ) → IsValidAt shown u → next_of (next_set shown u v) j ≡ put_at (next_of shown) u v j
-next_of-next_set shown None v j valid = refl
-next_of-next_set shown (Some i) v j valid = ⊎_elim
+pub next_of-next_set : (link_map : LinkMap) (u v : Option ℕ) (j : ℕ) → IsValidAt link_map u → next_of (next_set link_map u v) j ≡ put_at (next_of link_map) u v j
+next_of-next_set link_map None v j valid = refl
+next_of-next_set link_map (Some i) v j valid = ⊎_elim
     (λ e. let at_i = valid i refl in
-    subst (λ k. next_of (next_set shown (Some i) v) k ≡ v) (sym e) (ap next_in (next_set-at shown i v at_i.link at_i.shows)) ∙ sym (altered-same (next_of shown) i v j e))
-    (λ ne. ap next_in (if_other j i _ _ ne) ∙ sym (altered-other (next_of shown) i v j ne))
+    subst (λ k. next_of (next_set link_map (Some i) v) k ≡ v) (sym e) (ap next_in (next_set-at link_map i v at_i.link at_i.shows)) ∙ sym (altered-same (next_of link_map) i v j e))
+    (λ ne. ap next_in (if_other j i _ _ ne) ∙ sym (altered-other (next_of link_map) i v j ne))
     (cases_eq j i)
 
 -- .. and of `prev`
-pub prev_of-prev_set : (shown : Shown) (u v : Option ℕ) (j : ℕ) → IsValidAt shown u → prev_of (prev_set shown u v) j ≡ put_at (prev_of shown) u v j
-prev_of-prev_set shown None v j valid = refl
-prev_of-prev_set shown (Some i) v j valid = ⊎_elim
+pub prev_of-prev_set : (link_map : LinkMap) (u v : Option ℕ) (j : ℕ) → IsValidAt link_map u → prev_of (prev_set link_map u v) j ≡ put_at (prev_of link_map) u v j
+prev_of-prev_set link_map None v j valid = refl
+prev_of-prev_set link_map (Some i) v j valid = ⊎_elim
     (λ e. let at_i = valid i refl in
-    subst (λ k. prev_of (prev_set shown (Some i) v) k ≡ v) (sym e) (ap prev_in (prev_set-at shown i v at_i.link at_i.shows)) ∙ sym (altered-same (prev_of shown) i v j e))
-    (λ ne. ap prev_in (if_other j i _ _ ne) ∙ sym (altered-other (prev_of shown) i v j ne))
+    subst (λ k. prev_of (prev_set link_map (Some i) v) k ≡ v) (sym e) (ap prev_in (prev_set-at link_map i v at_i.link at_i.shows)) ∙ sym (altered-same (prev_of link_map) i v j e))
+    (λ ne. ap prev_in (if_other j i _ _ ne) ∙ sym (altered-other (prev_of link_map) i v j ne))
     (cases_eq j i)
 
 -- indexes that show the same are valid alike
-pub HasLink-same : (left right : Shown) (j : ℕ) → left j ≡ right j → HasLink left j ↔ HasLink right j
+pub HasLink-same : (left right : LinkMap) (j : ℕ) → left j ≡ right j → HasLink left j ↔ HasLink right j
 HasLink-same left right j e =
     (λ h. record { link = h.link; shows = sym e ∙ h.shows }, λ h. record { link = h.link; shows = e ∙ h.shows })
 
 -- a link that is changed is a link
-pub HasLink-changed : (left right : Shown) (change : Interlinks → Interlinks) (j : ℕ) → left j ≡ option_map change (right j) → HasLink left j ↔ HasLink right j
+pub HasLink-changed : (left right : LinkMap) (change : Interlinks → Interlinks) (j : ℕ) → left j ≡ option_map change (right j) → HasLink left j ↔ HasLink right j
 HasLink-changed left right change j e =
     (λ h. by (right j) refl (sym e ∙ h.shows), λ h. record { link = change h.link; shows = e ∙ ap (option_map change) h.shows })
   where
@@ -105,37 +105,37 @@ HasLink-changed left right change j e =
     by (Some l) shows h = record { link = l; shows = shows }
 
 -- a write of `next` leaves no index invalid and makes none valid
-pub HasLink-next_set : (shown : Shown) (u v : Option ℕ) (j : ℕ) → HasLink (next_set shown u v) j ↔ HasLink shown j
-HasLink-next_set shown None v j = (λ h. h, λ h. h)
-HasLink-next_set shown (Some i) v j = ⊎_elim
-    (λ e. HasLink-changed (next_set shown (Some i) v) shown (with_next v) j (if_same j i _ _ e))
-    (λ ne. HasLink-same (next_set shown (Some i) v) shown j (if_other j i _ _ ne))
+pub HasLink-next_set : (link_map : LinkMap) (u v : Option ℕ) (j : ℕ) → HasLink (next_set link_map u v) j ↔ HasLink link_map j
+HasLink-next_set link_map None v j = (λ h. h, λ h. h)
+HasLink-next_set link_map (Some i) v j = ⊎_elim
+    (λ e. HasLink-changed (next_set link_map (Some i) v) link_map (with_next v) j (if_same j i _ _ e))
+    (λ ne. HasLink-same (next_set link_map (Some i) v) link_map j (if_other j i _ _ ne))
     (cases_eq j i)
 
 -- nor does one of `prev`
-pub HasLink-prev_set : (shown : Shown) (u v : Option ℕ) (j : ℕ) → HasLink (prev_set shown u v) j ↔ HasLink shown j
-HasLink-prev_set shown None v j = (λ h. h, λ h. h)
-HasLink-prev_set shown (Some i) v j = ⊎_elim
-    (λ e. HasLink-changed (prev_set shown (Some i) v) shown (with_prev v) j (if_same j i _ _ e))
-    (λ ne. HasLink-same (prev_set shown (Some i) v) shown j (if_other j i _ _ ne))
+pub HasLink-prev_set : (link_map : LinkMap) (u v : Option ℕ) (j : ℕ) → HasLink (prev_set link_map u v) j ↔ HasLink link_map j
+HasLink-prev_set link_map None v j = (λ h. h, λ h. h)
+HasLink-prev_set link_map (Some i) v j = ⊎_elim
+    (λ e. HasLink-changed (prev_set link_map (Some i) v) link_map (with_prev v) j (if_same j i _ _ e))
+    (λ ne. HasLink-same (prev_set link_map (Some i) v) link_map j (if_other j i _ _ ne))
     (cases_eq j i)
 
 -- nor does linking
-pub HasLink-linked : (shown : Shown) (u v : Option ℕ) (j : ℕ) → HasLink (linked shown u v) j ↔ HasLink shown j
-HasLink-linked shown u v j =
-    let outer = HasLink-prev_set (next_set shown u v) v u j in
-    let inner = HasLink-next_set shown u v j in
+pub HasLink-linked : (link_map : LinkMap) (u v : Option ℕ) (j : ℕ) → HasLink (linked link_map u v) j ↔ HasLink link_map j
+HasLink-linked link_map u v j =
+    let outer = HasLink-prev_set (next_set link_map u v) v u j in
+    let inner = HasLink-next_set link_map u v j in
     (λ h. inner.0 (outer.0 h), λ h. outer.1 (inner.1 h))
 
 -- what comes after each index once v comes after u
-pub next_of-linked : (shown : Shown) (u v : Option ℕ) (j : ℕ) → IsValidAt shown u → next_of (linked shown u v) j ≡ put_at (next_of shown) u v j
-next_of-linked shown u v j valid = next_of-prev_set (next_set shown u v) v u j ∙ next_of-next_set shown u v j valid
+pub next_of-linked : (link_map : LinkMap) (u v : Option ℕ) (j : ℕ) → IsValidAt link_map u → next_of (linked link_map u v) j ≡ put_at (next_of link_map) u v j
+next_of-linked link_map u v j valid = next_of-prev_set (next_set link_map u v) v u j ∙ next_of-next_set link_map u v j valid
 
 -- .. and what comes before each
-pub prev_of-linked : (shown : Shown) (u v : Option ℕ) (j : ℕ) → IsValidAt shown v → prev_of (linked shown u v) j ≡ put_at (prev_of shown) v u j
-prev_of-linked shown u v j valid =
-    prev_of-prev_set (next_set shown u v) v u j (λ i e. (HasLink-next_set shown u v i).1 (valid i e)) ∙ same v
+pub prev_of-linked : (link_map : LinkMap) (u v : Option ℕ) (j : ℕ) → IsValidAt link_map v → prev_of (linked link_map u v) j ≡ put_at (prev_of link_map) v u j
+prev_of-linked link_map u v j valid =
+    prev_of-prev_set (next_set link_map u v) v u j (λ i e. (HasLink-next_set link_map u v i).1 (valid i e)) ∙ same v
   where
-    same : (w : Option ℕ) → put_at (prev_of (next_set shown u v)) w u j ≡ put_at (prev_of shown) w u j
-    same None = prev_of-next_set shown u v j
-    same (Some i) = ap (λ o. if j == i then u else o) (prev_of-next_set shown u v j)
+    same : (w : Option ℕ) → put_at (prev_of (next_set link_map u v)) w u j ≡ put_at (prev_of link_map) w u j
+    same None = prev_of-next_set link_map u v j
+    same (Some i) = ap (λ o. if j == i then u else o) (prev_of-next_set link_map u v j)

@@ -1,17 +1,17 @@
 -- Laws of what lists have, both ways.
 use Rattle.std.proofs.Common.{ℕ, inl, inr, ⊎_elim, List, [], ◌∷◌, sym, subst}
-use Rattle.chain_laws.specs.Chains.{Has}
-use Rattle.chain_laws.specs.Members.{HasInJoin, HasInTurn, HasInMiddle, HasIsWritten, HasIsFilled, OnceInJoin, OnceInTurn, OnceInMiddle}
-use Rattle.chain_laws.proofs.ListLemmas.Members.{Has-left, Has-right, Has-parts, Has-middle, Has-turned, Has-written, Has-filled, filled-Has}
-use Rattle.chain_laws.proofs.ListLemmas.Members.{HasNoRepetition-left, HasNoRepetition-right, HasNoRepetition-apart, HasNoRepetition-append, HasNoRepetition-turned}
+use Rattle.chain_laws.specs.Chains.{IsMember}
+use Rattle.chain_laws.specs.Members.{HasInJoin, HasInRotation, HasInMiddle, MembersSplitAList, HasIsFilled, OnceInJoin, OnceInRotation, OnceInMiddle}
+use Rattle.chain_laws.proofs.ListLemmas.Members.{IsMember-left, IsMember-right, IsMember-parts, IsMember-middle, IsMember-turned, IsMember-written, IsMember-filled, filled-IsMember}
+use Rattle.chain_laws.proofs.ListLemmas.Members.{AreDistinct-left, AreDistinct-right, AreDistinct-apart, AreDistinct-append, AreDistinct-turned}
 
 -- what stands in one of two lists stands in both as one, and back
 pub has_in_join : HasInJoin
-has_in_join xs ys i = (Has-parts xs ys i, ⊎_elim (Has-left xs ys i) (Has-right xs ys i))
+has_in_join xs ys i = (IsMember-parts xs ys i, ⊎_elim (IsMember-left xs ys i) (IsMember-right xs ys i))
 
 -- whichever of the two comes first
-pub has_in_turn : HasInTurn
-has_in_turn xs ys i = (Has-turned xs ys i, Has-turned ys xs i)
+pub has_in_turn : HasInRotation
+has_in_turn xs ys i = (IsMember-turned xs ys i, IsMember-turned ys xs i)
 
 -- an item between two lists, seen past each item of the left one
 pub has_in_middle : HasInMiddle
@@ -23,27 +23,27 @@ has_in_middle (y ∷ xs) ys x i =
     )
 
 -- a list is written around what it has, and has what it is written around
-pub has_is_written : HasIsWritten
-has_is_written xs i = (Has-written xs i, λ w. subst (λ (zs : List ℕ). Has zs i) (sym w.2) (Has-middle w.0 w.1 i))
+pub has_is_written : MembersSplitAList
+has_is_written xs i = (IsMember-written xs i, λ w. subst (λ (zs : List ℕ). IsMember zs i) (sym w.2) (IsMember-middle w.0 w.1 i))
 
 -- a list that is not empty has its first item
 pub has_is_filled : HasIsFilled
-has_is_filled xs = (filled-Has xs, λ w. Has-filled xs w.0 w.1)
+has_is_filled xs = (filled-IsMember xs, λ w. IsMember-filled xs w.0 w.1)
 
 -- two lists as one, taken apart and put together
 pub once_in_join : OnceInJoin
 once_in_join xs ys = (
-  λ once. (HasNoRepetition-left xs ys once, HasNoRepetition-right xs ys once, λ i. HasNoRepetition-apart xs ys i once),
-  λ parts. HasNoRepetition-append xs ys parts.0 parts.1 parts.2,
+  λ once. (AreDistinct-left xs ys once, AreDistinct-right xs ys once, λ i. AreDistinct-apart xs ys i once),
+  λ parts. AreDistinct-append xs ys parts.0 parts.1 parts.2,
 )
 
 -- whichever of the two comes first
-pub once_in_turn : OnceInTurn
-once_in_turn xs ys = (HasNoRepetition-turned xs ys, HasNoRepetition-turned ys xs)
+pub once_in_turn : OnceInRotation
+once_in_turn xs ys = (AreDistinct-turned xs ys, AreDistinct-turned ys xs)
 
 -- x comes to the front of the two lists in the other order, and back
 pub once_in_middle : OnceInMiddle
 once_in_middle xs ys x = (
-  λ once. let front = HasNoRepetition-turned xs (x ∷ ys) once in (λ h. front.0 (Has-turned xs ys x h), HasNoRepetition-turned ys xs front.1),
-  λ parts. HasNoRepetition-turned (x ∷ ys) xs (λ h. parts.0 (Has-turned ys xs x h), HasNoRepetition-turned xs ys parts.1),
+  λ once. let front = AreDistinct-turned xs (x ∷ ys) once in (λ h. front.0 (IsMember-turned xs ys x h), AreDistinct-turned ys xs front.1),
+  λ parts. AreDistinct-turned (x ∷ ys) xs (λ h. parts.0 (IsMember-turned ys xs x h), AreDistinct-turned xs ys parts.1),
 )

@@ -2,28 +2,28 @@
 use Rattle.std.proofs.Common.{◌≡◌, ℕ, zero, suc, ◌+◌, ◌<◌, ◌≤◌, inl, inr, Bool, true, false, List, [], ◌∷◌, ◌++◌, length, refl, sym, ap, ◌∙◌, length-append, arith}
 use Rattle.std.specs.List.{range_with_len}
 use Rattle.std.proofs.Math.Decide.{ℕ_discrete}
-use Rattle.chain_laws.specs.Chains.{Chain, linear, cyclic, all_items, Has, HasNoRepetition}
+use Rattle.chain_laws.specs.Chains.{Chain, linear, cyclic, all_items, IsMember, AreDistinct}
 use Rattle.chain_laws.specs.Arrangements.{in_runs}
 use Rattle.chain_laws.specs.ChainStart.{chain_of}
 use Rattle.chain_laws.proofs.RenamingLemmas.ChainRuns.{range_with_len-append}
 
 -- what is in a run
-pub Has-range : (k n i : ℕ) → Has (range_with_len k n) i → (k ≤ i) × (i < k + n)
-Has-range k zero i h = absurd h
-Has-range k (suc n) i (inl e) = (omega (arith, e), omega (arith, e))
-Has-range k (suc n) i (inr h) = let w = Has-range (k + 1) n i h in (omega (arith, w.0), omega (arith, w.1))
+pub IsMember-range : (k n i : ℕ) → IsMember (range_with_len k n) i → (k ≤ i) × (i < k + n)
+IsMember-range k zero i h = absurd h
+IsMember-range k (suc n) i (inl e) = (omega (arith, e), omega (arith, e))
+IsMember-range k (suc n) i (inr h) = let w = IsMember-range (k + 1) n i h in (omega (arith, w.0), omega (arith, w.1))
 
-pub range-Has : (k n i : ℕ) → k ≤ i → i < k + n → Has (range_with_len k n) i
-range-Has k zero i low high = absurd (omega arith)
-range-Has k (suc n) i low high = by (ℕ_discrete k i) (range-Has (k + 1) n i)
+pub range-IsMember : (k n i : ℕ) → k ≤ i → i < k + n → IsMember (range_with_len k n) i
+range-IsMember k zero i low high = absurd (omega arith)
+range-IsMember k (suc n) i low high = by (ℕ_discrete k i) (range-IsMember (k + 1) n i)
   where
-    by : Dec (k ≡ i) → (k + 1 ≤ i → i < (k + 1) + n → Has (range_with_len (k + 1) n) i) → Has (range_with_len k (suc n)) i
+    by : Dec (k ≡ i) → (k + 1 ≤ i → i < (k + 1) + n → IsMember (range_with_len (k + 1) n) i) → IsMember (range_with_len k (suc n)) i
     by (yes e) rest = inl e
     by (no ne) rest = inr (rest (omega arith) (omega arith))
 
-pub HasNoRepetition-range : (k n : ℕ) → HasNoRepetition (range_with_len k n)
-HasNoRepetition-range k zero = tt
-HasNoRepetition-range k (suc n) = ((λ h. let w = Has-range (k + 1) n k h in omega (arith, w.0)), HasNoRepetition-range (k + 1) n)
+pub AreDistinct-range : (k n : ℕ) → AreDistinct (range_with_len k n)
+AreDistinct-range k zero = tt
+AreDistinct-range k (suc n) = ((λ h. let w = IsMember-range (k + 1) n k h in omega (arith, w.0)), AreDistinct-range (k + 1) n)
 
 -- the last of a run
 pub range_last : (k n : ℕ) → range_with_len k (n + 1) ≡ range_with_len k n ++ (k + n) ∷ []

@@ -1,22 +1,22 @@
 -- The chains one after another are an arrangement, and the renumbering by it lays each of them in a run.
 use Rattle.std.proofs.Common.{◌≡◌, ℕ, zero, suc, ◌+◌, List, [], ◌∷◌, ◌++◌, length, refl, sym, ap, ap₂, ◌∙◌, subst, length-append, arith}
 use Rattle.std.specs.List.{range_with_len}
-use Rattle.chain_laws.specs.Chains.{Shown, Chain, linear, cyclic, all_items, HasNoRepetition, AreChains}
+use Rattle.chain_laws.specs.Chains.{LinkMap, Chain, linear, cyclic, all_items, AreDistinct, AreChains}
 use Rattle.chain_laws.specs.Renamings.{AreImages, AreImagesOf}
-use Rattle.chain_laws.specs.Arrangements.{IsArrangement, place_from, place_in, in_runs, CanonicalArranges, LaysChainsInRuns, RunsAreRenumbered}
-use Rattle.chain_laws.proofs.ListLemmas.Members.{HasNoRepetition-left, HasNoRepetition-right, HasNoRepetition-apart}
+use Rattle.chain_laws.specs.Arrangements.{IsArrangement, place_from, place_in, in_runs, CanonicalArranges, PlacesChainsInRuns, RunsAreRenumbered}
+use Rattle.chain_laws.proofs.ListLemmas.Members.{AreDistinct-left, AreDistinct-right, AreDistinct-apart}
 use Rattle.chain_laws.proofs.ChainLemmas.ChainLists.{all_items_valid}
 use Rattle.chain_laws.proofs.RenamingLemmas.Images.{images-same, images_of-same}
 use Rattle.chain_laws.proofs.RenamingLemmas.Chains.{renaming_carries_all, renames_by_chains}
 use Rattle.chain_laws.proofs.RenamingLemmas.Positions.{place-front, place-append, place-numbers, places_are_apart}
 
 -- the items of all chains are an arrangement
-pub chains_arrange : (shown : Shown) (chains : List Chain) → AreChains shown chains → IsArrangement shown (all_items chains)
-chains_arrange shown chains are = record { once = are.once; valid = λ i. (are.all i, all_items_valid shown chains i are.each) }
+pub chains_arrange : (link_map : LinkMap) (chains : List Chain) → AreChains link_map chains → IsArrangement link_map (all_items chains)
+chains_arrange link_map chains are = record { once = are.once; valid = λ i. (are.all i, all_items_valid link_map chains i are.each) }
 
 -- chains one after another are an arrangement
 pub canonical_arranges : CanonicalArranges
-canonical_arranges shown indexes canonical = subst (IsArrangement shown) (sym canonical.items) (chains_arrange shown canonical.chains canonical.are)
+canonical_arranges link_map indexes canonical = subst (IsArrangement link_map) (sym canonical.items) (chains_arrange link_map canonical.chains canonical.are)
 
 -- two runs, one after the other, are one
 pub range_with_len-append : (k a b : ℕ) → range_with_len k a ++ range_with_len (k + a) b ≡ range_with_len k (a + b)
@@ -39,32 +39,32 @@ items_in_runs k (linear xs ∷ chains) = run_in_front k xs chains (items_in_runs
 items_in_runs k (cyclic xs ∷ chains) = run_in_front k xs chains (items_in_runs (k + length xs) chains)
 
 -- the first list of two goes to the run that it goes to alone
-front_run : (k : ℕ) (xs ys : List ℕ) → HasNoRepetition (xs ++ ys) → AreImages (place_from k (xs ++ ys)) xs (range_with_len k (length xs))
+front_run : (k : ℕ) (xs ys : List ℕ) → AreDistinct (xs ++ ys) → AreImages (place_from k (xs ++ ys)) xs (range_with_len k (length xs))
 front_run k xs ys once =
     images-same (place_from k xs) (place_from k (xs ++ ys)) xs (range_with_len k (length xs)) (λ i h. sym (place-front k xs ys i h))
-    (place-numbers k xs (HasNoRepetition-left xs ys once))
+    (place-numbers k xs (AreDistinct-left xs ys once))
 
 -- the chains behind a list go to the runs that they go to alone, from the end of the list on
-later_runs : (k : ℕ) (xs : List ℕ) (chains others : List Chain) → HasNoRepetition (xs ++ all_items chains)
+later_runs : (k : ℕ) (xs : List ℕ) (chains others : List Chain) → AreDistinct (xs ++ all_items chains)
     → AreImagesOf (place_from (k + length xs) (all_items chains)) chains others → AreImagesOf (place_from k (xs ++ all_items chains)) chains others
 later_runs k xs chains others once images =
     images_of-same (place_from (k + length xs) (all_items chains)) (place_from k (xs ++ all_items chains)) chains others
-    (λ i h. sym (place-append k xs (all_items chains) i (λ m. HasNoRepetition-apart xs (all_items chains) i once m h))) images
+    (λ i h. sym (place-append k xs (all_items chains) i (λ m. AreDistinct-apart xs (all_items chains) i once m h))) images
 
 -- each chain goes to its run
-pub placed_in_runs : (k : ℕ) (chains : List Chain) → HasNoRepetition (all_items chains) → AreImagesOf (place_from k (all_items chains)) chains (in_runs k chains)
+pub placed_in_runs : (k : ℕ) (chains : List Chain) → AreDistinct (all_items chains) → AreImagesOf (place_from k (all_items chains)) chains (in_runs k chains)
 placed_in_runs k [] once = tt
 placed_in_runs k (linear xs ∷ chains) once = (
   front_run k xs (all_items chains) once,
-  later_runs k xs chains (in_runs (k + length xs) chains) once (placed_in_runs (k + length xs) chains (HasNoRepetition-right xs (all_items chains) once)),
+  later_runs k xs chains (in_runs (k + length xs) chains) once (placed_in_runs (k + length xs) chains (AreDistinct-right xs (all_items chains) once)),
 )
 placed_in_runs k (cyclic xs ∷ chains) once = (
   front_run k xs (all_items chains) once,
-  later_runs k xs chains (in_runs (k + length xs) chains) once (placed_in_runs (k + length xs) chains (HasNoRepetition-right xs (all_items chains) once)),
+  later_runs k xs chains (in_runs (k + length xs) chains) once (placed_in_runs (k + length xs) chains (AreDistinct-right xs (all_items chains) once)),
 )
 
 -- the renumbering by chains one after another lays them in runs
-pub lays_chains_in_runs : LaysChainsInRuns
+pub lays_chains_in_runs : PlacesChainsInRuns
 lays_chains_in_runs old new chains are renaming =
     (renaming_carries_all (place_in (all_items chains)) old new chains (in_runs 1 chains) renaming are (placed_in_runs 1 chains are.once), items_in_runs 1 chains)
 

@@ -2,7 +2,7 @@
 use Rattle.std.proofs.Common.{◌≡◌, ◌↔◌, ℕ, inl, inr, List, [], ◌∷◌, Option, None, Some, refl, sym, ap, ◌∙◌, subst, ap₂}
 use Rattle.std.specs.Option.{option_and_then}
 use mathlib.Core.Path.{fun_ext}
-use Rattle.chain_laws.specs.Chains.{Shown, Interlinks, Chain, linear, cyclic, items, all_items, Has, HasLink, Agrees, IsChain, AreChains, Stands, first_or, last_or, prev_in, next_in, prev_of, next_of}
+use Rattle.chain_laws.specs.Chains.{LinkMap, Interlinks, Chain, linear, cyclic, items, all_items, IsMember, HasLink, IsWellLinked, IsChain, AreChains, AreLinked, first_or, last_or, prev_in, next_in, prev_of, next_of}
 use Rattle.chain_laws.specs.Neighbors.{AreNeighbors}
 use Rattle.chain_laws.specs.Renamings.{IsRenaming, AreImages, IsImage, AreImagesOf, RenamingAgrees, RenamingCarriesPairs, RenamingCarriesChains, RenamingCarriesAll, RenamingIsDetermined}
 use Rattle.chain_laws.specs.Moves.{RenamingsCompose}
@@ -10,7 +10,7 @@ use Rattle.chain_laws.proofs.ChainLemmas.LinkedLists.{link, shows_both, shows_va
 use Rattle.chain_laws.proofs.ChainLemmas.ChainLists.{chain_at, all_items_valid}
 use Rattle.chain_laws.proofs.RenamingLemmas.Images.{comes_from, images-first, images-last, images-filled, images-once, images-items, has_image, image_has, image_of, chain_image, image_of_chain}
 
-module _ (to : ℕ → Option ℕ) (old new : Shown) (renaming : IsRenaming to old new) where
+module _ (to : ℕ → Option ℕ) (old new : LinkMap) (renaming : IsRenaming to old new) where
   -- what a link shows at its new index
   pub shows_renamed : (i k : ℕ) → HasLink old i → to i ≡ Some k → new k ≡ Some (link (option_and_then to (prev_of old i)) (option_and_then to (next_of old i)))
   shows_renamed i k valid e = renaming.carries i k (prev_of old i) (next_of old i) (shows_both old i (prev_of old i) (next_of old i) valid refl refl) e
@@ -40,7 +40,7 @@ module _ (to : ℕ → Option ℕ) (old new : Shown) (renaming : IsRenaming to o
           w.1 ∙ ap (λ (x : ℕ). Some x) (renaming.apart w.0 j m w.2 f)
 
   -- what comes after an index names it back ..
-  next_then_prev : Agrees old → (k m : ℕ) → next_of new k ≡ Some m → prev_of new m ≡ Some k
+  next_then_prev : IsWellLinked old → (k m : ℕ) → next_of new k ≡ Some m → prev_of new m ≡ Some k
   next_then_prev agrees k m n =
       let i = renaming.onto k (next_valid new k m n) in
       let j = comes_from to (next_of old i.0) m (sym (next_renamed i.0 k i.1 i.2) ∙ n) in
@@ -48,7 +48,7 @@ module _ (to : ℕ → Option ℕ) (old new : Shown) (renaming : IsRenaming to o
       prev_renamed j.0 m (prev_valid old j.0 i.0 p) j.2 ∙ (ap (option_and_then to) p ∙ i.2)
 
   -- .. and so does what comes before it
-  prev_then_next : Agrees old → (k m : ℕ) → prev_of new m ≡ Some k → next_of new k ≡ Some m
+  prev_then_next : IsWellLinked old → (k m : ℕ) → prev_of new m ≡ Some k → next_of new k ≡ Some m
   prev_then_next agrees k m p =
       let j = renaming.onto m (prev_valid new m k p) in
       let i = comes_from to (prev_of old j.0) k (sym (prev_renamed j.0 m j.1 j.2) ∙ p) in
@@ -56,13 +56,13 @@ module _ (to : ℕ → Option ℕ) (old new : Shown) (renaming : IsRenaming to o
       next_renamed i.0 k (next_valid old i.0 j.0 n) i.2 ∙ (ap (option_and_then to) n ∙ j.2)
 
   -- a list that stands, stands at its new indexes between the new indexes of its ends
-  stands_renamed : (before : Option ℕ) (xs ys : List ℕ) (after : Option ℕ) → AreImages to xs ys → Stands old before xs after
-      → Stands new (option_and_then to before) ys (option_and_then to after)
+  stands_renamed : (before : Option ℕ) (xs ys : List ℕ) (after : Option ℕ) → AreImages to xs ys → AreLinked old before xs after
+      → AreLinked new (option_and_then to before) ys (option_and_then to after)
   stands_renamed before xs [] after images s = tt
   stands_renamed before [] (y ∷ ys) after images s = absurd images
   stands_renamed before (x ∷ xs) (y ∷ ys) after images s = (
     renaming.carries x y before (first_or xs after) s.0 images.0 ∙ ap (λ (o : Option ℕ). Some (link (option_and_then to before) o)) (images-first to xs ys after images.1),
-    subst (λ (o : Option ℕ). Stands new o ys (option_and_then to after)) images.0 (stands_renamed (Some x) xs ys after images.1 s.1),
+    subst (λ (o : Option ℕ). AreLinked new o ys (option_and_then to after)) images.0 (stands_renamed (Some x) xs ys after images.1 s.1),
   )
 
   -- a chain is a chain at its new indexes
@@ -71,10 +71,10 @@ module _ (to : ℕ → Option ℕ) (old new : Shown) (renaming : IsRenaming to o
       (images-filled to xs ys image h.0, images-once to xs ys renaming.apart image h.1, stands_renamed None xs ys None image h.2)
   chain_renamed (cyclic xs) (cyclic ys) h image = (images-filled to xs ys image h.0, images-once to xs ys renaming.apart image h.1, ring)
     where
-      ring : Stands new (last_or ys None) ys (first_or ys None)
+      ring : AreLinked new (last_or ys None) ys (first_or ys None)
       ring =
-          subst (λ (o : Option ℕ). Stands new o ys (first_or ys None)) (images-last to xs ys None image)
-          (subst (λ (o : Option ℕ). Stands new (option_and_then to (last_or xs None)) ys o) (images-first to xs ys None image)
+          subst (λ (o : Option ℕ). AreLinked new o ys (first_or ys None)) (images-last to xs ys None image)
+          (subst (λ (o : Option ℕ). AreLinked new (option_and_then to (last_or xs None)) ys o) (images-first to xs ys None image)
           (stands_renamed (last_or xs None) xs ys (first_or xs None) image h.2))
   chain_renamed (linear xs) (cyclic ys) h image = absurd image
   chain_renamed (cyclic xs) (linear ys) h image = absurd image
@@ -100,7 +100,7 @@ renaming_carries_all to old new chains others renaming are images = record {
 }
 
 -- two arenas that show the same where a link stands in either show the same
-pub same_shown : (left right : Shown) → ((k : ℕ) → HasLink left k → left k ≡ right k) → ((k : ℕ) → HasLink right k → left k ≡ right k) → left ≡ right
+pub same_shown : (left right : LinkMap) → ((k : ℕ) → HasLink left k → left k ≡ right k) → ((k : ℕ) → HasLink right k → left k ≡ right k) → left ≡ right
 same_shown left right in_left in_right = fun_ext (λ k. by k (left k) refl (right k) refl)
   where
     by : (k : ℕ) (o : Option Interlinks) → left k ≡ o → (p : Option Interlinks) → right k ≡ p → left k ≡ right k
@@ -109,7 +109,7 @@ same_shown left right in_left in_right = fun_ext (λ k. by k (left k) refl (righ
     by k None e (Some l) f = in_right k (shows_valid right k l f)
 
 -- a renaming, by a function that sends each index to the same
-pub renaming-same : (to by : ℕ → Option ℕ) (old new : Shown) → ((i : ℕ) → to i ≡ by i) → IsRenaming to old new → IsRenaming by old new
+pub renaming-same : (to by : ℕ → Option ℕ) (old new : LinkMap) → ((i : ℕ) → to i ≡ by i) → IsRenaming to old new → IsRenaming by old new
 renaming-same to by old new same renaming = subst (λ (f : ℕ → Option ℕ). IsRenaming f old new) (fun_ext same) renaming
 
 -- where the links go to leaves no choice
@@ -146,11 +146,11 @@ renamings_compose first second old between new one next = record {
 
 -- ---- by the chains
 
-module _ (to : ℕ → Option ℕ) (old new : Shown) where
+module _ (to : ℕ → Option ℕ) (old new : LinkMap) where
   -- a list that stands in both shows at each new index the new indexes of the neighbors
   stands_tells : (before : Option ℕ) (xs ys : List ℕ) (after : Option ℕ) (i k : ℕ) (u v : Option ℕ) → AreImages to xs ys
-      → Stands old before xs after → Stands new (option_and_then to before) ys (option_and_then to after)
-      → Has xs i → old i ≡ Some (link u v) → to i ≡ Some k → new k ≡ Some (link (option_and_then to u) (option_and_then to v))
+      → AreLinked old before xs after → AreLinked new (option_and_then to before) ys (option_and_then to after)
+      → IsMember xs i → old i ≡ Some (link u v) → to i ≡ Some k → new k ≡ Some (link (option_and_then to u) (option_and_then to v))
   stands_tells before [] ys after i k u v images s t h shows e = absurd h
   stands_tells before (x ∷ xs) [] after i k u v images s t h shows e = absurd images
   stands_tells before (x ∷ xs) (y ∷ ys) after i k u v images s t (inl same) shows e =
@@ -166,16 +166,16 @@ module _ (to : ℕ → Option ℕ) (old new : Shown) where
       renamed_link None = None
       renamed_link (Some l) = Some (link (option_and_then to l.prev) (option_and_then to l.next))
   stands_tells before (x ∷ xs) (y ∷ ys) after i k u v images s t (inr h) shows e =
-      stands_tells (Some x) xs ys after i k u v images.1 s.1 (subst (λ (o : Option ℕ). Stands new o ys (option_and_then to after)) (sym images.0) t.1) h shows e
+      stands_tells (Some x) xs ys after i k u v images.1 s.1 (subst (λ (o : Option ℕ). AreLinked new o ys (option_and_then to after)) (sym images.0) t.1) h shows e
 
   -- so does a chain with its image
   chain_tells : (c d : Chain) (i k : ℕ) (u v : Option ℕ) → IsImage to c d → IsChain old c → IsChain new d
-      → Has (items c) i → old i ≡ Some (link u v) → to i ≡ Some k → new k ≡ Some (link (option_and_then to u) (option_and_then to v))
+      → IsMember (items c) i → old i ≡ Some (link u v) → to i ≡ Some k → new k ≡ Some (link (option_and_then to u) (option_and_then to v))
   chain_tells (linear xs) (linear ys) i k u v image h n m shows e = stands_tells None xs ys None i k u v image h.2 n.2 m shows e
   chain_tells (cyclic xs) (cyclic ys) i k u v image h n m shows e =
       stands_tells (last_or xs None) xs ys (first_or xs None) i k u v image h.2
-      (subst (λ (o : Option ℕ). Stands new o ys (option_and_then to (first_or xs None))) (sym (images-last to xs ys None image))
-      (subst (λ (o : Option ℕ). Stands new (last_or ys None) ys o) (sym (images-first to xs ys None image)) n.2))
+      (subst (λ (o : Option ℕ). AreLinked new o ys (option_and_then to (first_or xs None))) (sym (images-last to xs ys None image))
+      (subst (λ (o : Option ℕ). AreLinked new (last_or ys None) ys o) (sym (images-first to xs ys None image)) n.2))
       m shows e
   chain_tells (linear xs) (cyclic ys) i k u v image h n m shows e = absurd image
   chain_tells (cyclic xs) (linear ys) i k u v image h n m shows e = absurd image

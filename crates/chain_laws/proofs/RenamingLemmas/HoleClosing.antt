@@ -4,11 +4,11 @@ use Rattle.std.specs.Prelude.{if◌then◌else◌}
 use Rattle.std.specs.Option.{option_map, option_and_then}
 use Rattle.std.proofs.Math.Decide.{ℕ_discrete}
 use Rattle.std.proofs.lemmas.Bool.{cases_lt, le-leb, lt-leb}
-use Rattle.chain_laws.specs.Chains.{Shown, Interlinks, Has, HasLink, HasLinksWithin, Agrees, prev_in, next_in}
+use Rattle.chain_laws.specs.Chains.{LinkMap, Interlinks, IsMember, HasLink, HasLinksWithin, IsWellLinked, prev_in, next_in}
 use Rattle.chain_laws.specs.Renamings.{IsRenaming}
 use Rattle.chain_laws.specs.Arrangements.{place_in}
-use Rattle.chain_laws.specs.Moves.{moved_index, moved, CanMove, moving, gathered_place, IsGathering, GatheringBegins, GatheringSkips, GatheringGoesOn, GatheringEnds}
-use Rattle.chain_laws.proofs.ListLemmas.Members.{Has-left, Has-middle, Has-parts, Has-or_not, HasNoRepetition-append}
+use Rattle.chain_laws.specs.Moves.{moved_index, moved, CanMove, moving, gathered_place, IsGathering, GatheringBegins, GatheringSkips, GatheringContinues, GatheringEnds}
+use Rattle.chain_laws.proofs.ListLemmas.Members.{IsMember-left, IsMember-middle, IsMember-parts, IsMember-or_not, AreDistinct-append}
 use Rattle.chain_laws.proofs.ChainLemmas.LinkedLists.{link, shows_valid}
 use Rattle.chain_laws.proofs.InterlinkLemmas.Inverses.{not_both_ways}
 use Rattle.chain_laws.proofs.InterlinkLemmas.Linked.{IsValidAt}
@@ -17,20 +17,20 @@ use Rattle.chain_laws.proofs.RenamingLemmas.Positions.{place-within, place-has, 
 use Rattle.chain_laws.proofs.RenamingLemmas.Moves.{moved_index-same, moved_index-other, sent-valid, sent-from, next_named, prev_named, move_renames}
 
 -- an index up to k has its place in the list ..
-pub gathered_place-low : (shown : Shown) (done : List ℕ) (k i : ℕ) → i ≤ k → gathered_place shown done k i ≡ place_in done i
-gathered_place-low shown done k i low = ap (λ t. if t then place_in done i else option_map (λ _. i) (shown i)) (le-leb i k low)
+pub gathered_place-low : (link_map : LinkMap) (done : List ℕ) (k i : ℕ) → i ≤ k → gathered_place link_map done k i ≡ place_in done i
+gathered_place-low link_map done k i low = ap (λ t. if t then place_in done i else option_map (λ _. i) (link_map i)) (le-leb i k low)
 
 -- .. and a link above k stands where it stood
-pub gathered_place-high : (shown : Shown) (done : List ℕ) (k i : ℕ) → k < i → gathered_place shown done k i ≡ option_map (λ _. i) (shown i)
-gathered_place-high shown done k i high = ap (λ t. if t then place_in done i else option_map (λ _. i) (shown i)) (lt-leb i k high)
+pub gathered_place-high : (link_map : LinkMap) (done : List ℕ) (k i : ℕ) → k < i → gathered_place link_map done k i ≡ option_map (λ _. i) (link_map i)
+gathered_place-high link_map done k i high = ap (λ t. if t then place_in done i else option_map (λ _. i) (link_map i)) (lt-leb i k high)
 
 -- where each link stands once the next one has gone too
-abbrev gathered_on : Shown → Shown → List ℕ → ℕ → ℕ → Option ℕ
+abbrev gathered_on : LinkMap → LinkMap → List ℕ → ℕ → ℕ → Option ℕ
 gathered_on old now done k i = option_and_then (moving now (k + 1) (length done + 1)) (gathered_place old done k i)
 
-module _ (old now : Shown) (done : List ℕ) (k : ℕ) (gathering : IsGathering old now done k) where
+module _ (old now : LinkMap) (done : List ℕ) (k : ℕ) (gathering : IsGathering old now done k) where
   -- the list holds indexes up to k alone
-  holds_low : (i : ℕ) → Has done i → i ≤ k
+  holds_low : (i : ℕ) → IsMember done i → i ≤ k
   holds_low i h = ((gathering.holds i).0 h).1
 
   -- what goes anywhere is a link
@@ -47,7 +47,7 @@ module _ (old now : Shown) (done : List ℕ) (k : ℕ) (gathering : IsGathering 
   skipped_same : old (k + 1) ≡ None → (i : ℕ) → gathered_place old done k i ≡ gathered_place old done (k + 1) i
   skipped_same free i = by (cases_lt k i) (ℕ_discrete i (k + 1))
     where
-      not_held : i ≡ k + 1 → Has done i → ⊥
+      not_held : i ≡ k + 1 → IsMember done i → ⊥
       not_held e h = let low : i ≤ k = holds_low i h in omega arith
 
       by : (k < i) ⊎ (i ≤ k) → Dec (i ≡ k + 1) → gathered_place old done k i ≡ gathered_place old done (k + 1) i
@@ -67,13 +67,13 @@ module _ (old now : Shown) (done : List ℕ) (k : ℕ) (gathering : IsGathering 
     below = (let b : length done ≤ k = gathering.below in omega arith);
   }
     where
-      held : (i : ℕ) → Has done i → HasLink old i × (i ≤ k + 1)
+      held : (i : ℕ) → IsMember done i → HasLink old i × (i ≤ k + 1)
       held i h = let w = (gathering.holds i).0 h in let low : i ≤ k = w.1 in (w.0, omega arith)
 
-      holds : (i : ℕ) → HasLink old i × (i ≤ k + 1) → Has done i
+      holds : (i : ℕ) → HasLink old i × (i ≤ k + 1) → IsMember done i
       holds i w = by (ℕ_discrete i (k + 1))
         where
-          by : Dec (i ≡ k + 1) → Has done i
+          by : Dec (i ≡ k + 1) → IsMember done i
           by (yes e) = absurd (not_both_ways (old i) w.0.link (ap old e ∙ free) w.0.shows)
           by (no differs) = let low : i ≤ k + 1 = w.1 in (gathering.holds i).1 (w.0, omega arith)
 
@@ -96,7 +96,7 @@ module _ (old now : Shown) (done : List ℕ) (k : ℕ) (gathering : IsGathering 
 
   -- ---- the next link goes
 
-  module _ (agrees : Agrees old) (valid : HasLink old (k + 1)) where
+  module _ (agrees : IsWellLinked old) (valid : HasLink old (k + 1)) where
     -- it has not gone yet
     here : gathered_place old done k (k + 1) ≡ Some (k + 1)
     here = gathered_place-high old done k (k + 1) (omega arith) ∙ ap (option_map (λ _. k + 1)) valid.shows
@@ -132,7 +132,7 @@ module _ (old now : Shown) (done : List ℕ) (k : ℕ) (gathering : IsGathering 
     can_move = record { valid = valid_renamed (gathered_place old done k) old now gathering.renamed (k + 1) (k + 1) valid here; free = free }
 
     -- the interlinks agree
-    agrees_now : Agrees now
+    agrees_now : IsWellLinked now
     agrees_now = renaming_agrees (gathered_place old done k) old now gathering.renamed agrees
 
     -- where a link stands that stood at m
@@ -150,14 +150,14 @@ module _ (old now : Shown) (done : List ℕ) (k : ℕ) (gathering : IsGathering 
     moved_nowhere i e = ap (option_and_then (moving now (k + 1) (length done + 1))) e
 
     -- the link that goes is not in the list
-    not_held : Has done (k + 1) → ⊥
+    not_held : IsMember done (k + 1) → ⊥
     not_held h = let low : k + 1 ≤ k = holds_low (k + 1) h in omega arith
 
     -- each link stands where the longer list says
     moved_same : (i : ℕ) → gathered_on old now done k i ≡ gathered_place old (done ++ (k + 1) ∷ []) (k + 1) i
     moved_same i = by (cases_lt k i) (ℕ_discrete i (k + 1))
       where
-        low_held : i ≤ k → Has done i ⊎ (Has done i → ⊥) → gathered_on old now done k i ≡ place_in done i
+        low_held : i ≤ k → IsMember done i ⊎ (IsMember done i → ⊥) → gathered_on old now done k i ≡ place_in done i
         low_held low (inl h) =
             let m = has-place 1 done i h in
             let w = place-within 1 done i m.0 m.1 in
@@ -180,7 +180,7 @@ module _ (old now : Shown) (done : List ℕ) (k : ℕ) (gathering : IsGathering 
         by (inl high) (no differs) =
             high_link high differs (old i) refl ∙ sym (gathered_place-high old (done ++ (k + 1) ∷ []) (k + 1) i (omega arith))
         by (inr low) at =
-            low_held low (Has-or_not done i)
+            low_held low (IsMember-or_not done i)
             ∙ (sym (place-before_last done (k + 1) i (λ e. omega arith)) ∙ sym (gathered_place-low old (done ++ (k + 1) ∷ []) (k + 1) i (omega arith)))
 
     -- the link has gone
@@ -190,75 +190,75 @@ module _ (old now : Shown) (done : List ℕ) (k : ℕ) (gathering : IsGathering 
           renaming-same (gathered_on old now done k) (gathered_place old (done ++ (k + 1) ∷ []) (k + 1)) old (moved now (k + 1) (length done + 1)) moved_same
           (renamings_compose (gathered_place old done k) (moving now (k + 1) (length done + 1)) old now (moved now (k + 1) (length done + 1)) gathering.renamed
           (move_renames now (k + 1) (length done + 1) agrees_now can_move));
-      once = HasNoRepetition-append done ((k + 1) ∷ []) gathering.once ((λ h. h), tt) apart;
+      once = AreDistinct-append done ((k + 1) ∷ []) gathering.once ((λ h. h), tt) apart;
       holds = λ i. (held i, holds i);
       below = (let b : length done ≤ k = gathering.below in let l : length (done ++ (k + 1) ∷ []) ≡ length done + 1 = length-append done ((k + 1) ∷ []) in omega arith);
     }
       where
-        apart : (y : ℕ) → Has done y → Has ((k + 1) ∷ []) y → ⊥
-        apart y h (inl e) = not_held (subst (Has done) (sym e) h)
+        apart : (y : ℕ) → IsMember done y → IsMember ((k + 1) ∷ []) y → ⊥
+        apart y h (inl e) = not_held (subst (IsMember done) (sym e) h)
         apart y h (inr n) = n
 
-        held_in : (i : ℕ) → Has done i ⊎ Has ((k + 1) ∷ []) i → HasLink old i × (i ≤ k + 1)
+        held_in : (i : ℕ) → IsMember done i ⊎ IsMember ((k + 1) ∷ []) i → HasLink old i × (i ≤ k + 1)
         held_in i (inl h) = let w = (gathering.holds i).0 h in let low : i ≤ k = w.1 in (w.0, omega arith)
         held_in i (inr (inl e)) = (subst (HasLink old) e valid, omega arith)
         held_in i (inr (inr n)) = absurd n
 
-        held : (i : ℕ) → Has (done ++ (k + 1) ∷ []) i → HasLink old i × (i ≤ k + 1)
-        held i h = held_in i (Has-parts done ((k + 1) ∷ []) i h)
+        held : (i : ℕ) → IsMember (done ++ (k + 1) ∷ []) i → HasLink old i × (i ≤ k + 1)
+        held i h = held_in i (IsMember-parts done ((k + 1) ∷ []) i h)
 
-        holds : (i : ℕ) → HasLink old i × (i ≤ k + 1) → Has (done ++ (k + 1) ∷ []) i
+        holds : (i : ℕ) → HasLink old i × (i ≤ k + 1) → IsMember (done ++ (k + 1) ∷ []) i
         holds i w = by (ℕ_discrete i (k + 1))
           where
-            by : Dec (i ≡ k + 1) → Has (done ++ (k + 1) ∷ []) i
-            by (yes e) = subst (Has (done ++ (k + 1) ∷ [])) (sym e) (Has-middle done [] (k + 1))
-            by (no differs) = let low : i ≤ k + 1 = w.1 in Has-left done ((k + 1) ∷ []) i ((gathering.holds i).1 (w.0, omega arith))
+            by : Dec (i ≡ k + 1) → IsMember (done ++ (k + 1) ∷ []) i
+            by (yes e) = subst (IsMember (done ++ (k + 1) ∷ [])) (sym e) (IsMember-middle done [] (k + 1))
+            by (no differs) = let low : i ≤ k + 1 = w.1 in IsMember-left done ((k + 1) ∷ []) i ((gathering.holds i).1 (w.0, omega arith))
 
 -- where each link stays, the arena stays
-pub rests : (shown : Shown) → Agrees shown → IsRenaming (λ i. option_map (λ _. i) (shown i)) shown shown
-rests shown agrees = record {
-  apart = λ i j k e f. (sent-from shown i i k e).1 ∙ sym (sent-from shown j j k f).1;
-  each = λ i valid. (i, sent-valid shown i i valid);
-  onto = λ i valid. (i, valid, sent-valid shown i i valid);
+pub rests : (link_map : LinkMap) → IsWellLinked link_map → IsRenaming (λ i. option_map (λ _. i) (link_map i)) link_map link_map
+rests link_map agrees = record {
+  apart = λ i j k e f. (sent-from link_map i i k e).1 ∙ sym (sent-from link_map j j k f).1;
+  each = λ i valid. (i, sent-valid link_map i i valid);
+  onto = λ i valid. (i, valid, sent-valid link_map i i valid);
   carries = λ i k u v shows e.
-      ap shown (sym (sent-from shown i i k e).1)
+      ap link_map (sym (sent-from link_map i i k e).1)
       ∙ (shows
-      ∙ ap₂ (λ (o p : Option ℕ). Some (link o p)) (stays u (λ q s. prev_named shown i agrees q (ap prev_in shows ∙ s))) (stays v (λ q s. next_named shown i agrees q (ap next_in shows ∙ s))));
+      ∙ ap₂ (λ (o p : Option ℕ). Some (link o p)) (stays u (λ q s. prev_named link_map i agrees q (ap prev_in shows ∙ s))) (stays v (λ q s. next_named link_map i agrees q (ap next_in shows ∙ s))));
 }
   where
-    stays : (o : Option ℕ) → IsValidAt shown o → o ≡ option_and_then (λ i. option_map (λ _. i) (shown i)) o
+    stays : (o : Option ℕ) → IsValidAt link_map o → o ≡ option_and_then (λ i. option_map (λ _. i) (link_map i)) o
     stays None valid = refl
-    stays (Some q) valid = sym (sent-valid shown q q (valid q refl))
+    stays (Some q) valid = sym (sent-valid link_map q q (valid q refl))
 
 -- no link has gone yet
 pub gathering_begins : GatheringBegins
-gathering_begins shown slots agrees within = record {
-  renamed = renaming-same (λ i. option_map (λ _. i) (shown i)) (gathered_place shown [] 0) shown shown same (rests shown agrees);
+gathering_begins link_map slots agrees within = record {
+  renamed = renaming-same (λ i. option_map (λ _. i) (link_map i)) (gathered_place link_map [] 0) link_map link_map same (rests link_map agrees);
   once = tt;
   holds = λ i. (λ h. absurd h, λ w. none i w.0 w.1);
   below = omega arith;
 }
   where
-    none : (i : ℕ) → HasLink shown i → i ≤ 0 → ⊥
+    none : (i : ℕ) → HasLink link_map i → i ≤ 0 → ⊥
     none i valid low = let w = within.within i valid in let high : 1 ≤ i = w.0 in omega arith
 
-    unsent : (i : ℕ) (o : Option Interlinks) → shown i ≡ o → i ≤ 0 → option_map (λ _. i) o ≡ None
+    unsent : (i : ℕ) (o : Option Interlinks) → link_map i ≡ o → i ≤ 0 → option_map (λ _. i) o ≡ None
     unsent i None is low = refl
-    unsent i (Some l) is low = absurd (none i (shows_valid shown i l is) low)
+    unsent i (Some l) is low = absurd (none i (shows_valid link_map i l is) low)
 
-    same : (i : ℕ) → option_map (λ _. i) (shown i) ≡ gathered_place shown [] 0 i
+    same : (i : ℕ) → option_map (λ _. i) (link_map i) ≡ gathered_place link_map [] 0 i
     same i = by (cases_lt 0 i)
       where
-        by : (0 < i) ⊎ (i ≤ 0) → option_map (λ _. i) (shown i) ≡ gathered_place shown [] 0 i
-        by (inl high) = sym (gathered_place-high shown [] 0 i high)
-        by (inr low) = unsent i (shown i) refl low ∙ sym (gathered_place-low shown [] 0 i low)
+        by : (0 < i) ⊎ (i ≤ 0) → option_map (λ _. i) (link_map i) ≡ gathered_place link_map [] 0 i
+        by (inl high) = sym (gathered_place-high link_map [] 0 i high)
+        by (inr low) = unsent i (link_map i) refl low ∙ sym (gathered_place-low link_map [] 0 i low)
 
 -- a free slot is passed over
 pub gathering_skips : GatheringSkips
 gathering_skips old now done k gathering free = skipped old now done k gathering free
 
 -- the next link may go, and goes
-pub gathering_goes_on : GatheringGoesOn
+pub gathering_goes_on : GatheringContinues
 gathering_goes_on old now done k agrees gathering valid =
     (agrees_now old now done k gathering agrees valid, can_move old now done k gathering agrees valid, gone old now done k gathering agrees valid)
 

@@ -1,9 +1,9 @@
 -- New indexes, one after another: of the items of a list, of a chain, and of a list of chains.
 use Rattle.std.proofs.Common.{◌≡◌, ◌≢◌, ℕ, inl, inr, List, [], ◌∷◌, ◌++◌, Option, None, Some, refl, sym, ap, ◌∙◌, subst}
 use Rattle.std.specs.Option.{option_and_then}
-use Rattle.chain_laws.specs.Chains.{Chain, linear, cyclic, items, HasChain, all_items, Has, HasNoRepetition, first_or, last_or}
+use Rattle.chain_laws.specs.Chains.{Chain, linear, cyclic, items, HasChain, all_items, IsMember, AreDistinct, first_or, last_or}
 use Rattle.chain_laws.specs.Renamings.{AreImages, IsImage, AreImagesOf}
-use Rattle.chain_laws.proofs.ListLemmas.Members.{Has-left, Has-right}
+use Rattle.chain_laws.proofs.ListLemmas.Members.{IsMember-left, IsMember-right}
 
 module _ (to : ℕ → Option ℕ) where
   -- what goes to k, if it is some index, goes there from an index
@@ -34,34 +34,34 @@ module _ (to : ℕ → Option ℕ) where
   images-filled (x ∷ xs) (y ∷ ys) images filled = λ e. cc
 
   -- each item has an image
-  pub has_image : (xs ys : List ℕ) (i : ℕ) → AreImages to xs ys → Has xs i → (k : ℕ) × (to i ≡ Some k)
+  pub has_image : (xs ys : List ℕ) (i : ℕ) → AreImages to xs ys → IsMember xs i → (k : ℕ) × (to i ≡ Some k)
   has_image [] ys i images h = absurd h
   has_image (x ∷ xs) [] i images h = absurd images
   has_image (x ∷ xs) (y ∷ ys) i images (inl e) = (y, ap to (sym e) ∙ images.0)
   has_image (x ∷ xs) (y ∷ ys) i images (inr h) = has_image xs ys i images.1 h
 
   -- the image of an item is among the images
-  pub image_has : (xs ys : List ℕ) (i k : ℕ) → AreImages to xs ys → Has xs i → to i ≡ Some k → Has ys k
+  pub image_has : (xs ys : List ℕ) (i k : ℕ) → AreImages to xs ys → IsMember xs i → to i ≡ Some k → IsMember ys k
   image_has [] ys i k images h e = absurd h
   image_has (x ∷ xs) [] i k images h e = absurd images
   image_has (x ∷ xs) (y ∷ ys) i k images (inl s) e = let there : to i ≡ Some y = ap to (sym s) ∙ images.0 in inl (cc)
   image_has (x ∷ xs) (y ∷ ys) i k images (inr h) e = inr (image_has xs ys i k images.1 h e)
 
   -- what is among the images is the image of an item
-  pub image_of : (xs ys : List ℕ) (k : ℕ) → AreImages to xs ys → Has ys k → (i : ℕ) × Has xs i × (to i ≡ Some k)
+  pub image_of : (xs ys : List ℕ) (k : ℕ) → AreImages to xs ys → IsMember ys k → (i : ℕ) × IsMember xs i × (to i ≡ Some k)
   image_of xs [] k images h = absurd h
   image_of [] (y ∷ ys) k images h = absurd images
   image_of (x ∷ xs) (y ∷ ys) k images (inl e) = (x, inl refl, images.0 ∙ ap (λ (z : ℕ). Some z) e)
   image_of (x ∷ xs) (y ∷ ys) k images (inr h) = let w = image_of xs ys k images.1 h in (w.0, inr w.1, w.2)
 
   -- items without repetition have images without repetition, where no two go to one index
-  pub images-once : (xs ys : List ℕ) → ((i j k : ℕ) → to i ≡ Some k → to j ≡ Some k → i ≡ j) → AreImages to xs ys → HasNoRepetition xs → HasNoRepetition ys
+  pub images-once : (xs ys : List ℕ) → ((i j k : ℕ) → to i ≡ Some k → to j ≡ Some k → i ≡ j) → AreImages to xs ys → AreDistinct xs → AreDistinct ys
   images-once xs [] apart images once = tt
   images-once [] (y ∷ ys) apart images once = absurd images
   images-once (x ∷ xs) (y ∷ ys) apart images once = (again, images-once xs ys apart images.1 once.1)
     where
-      again : Has ys y → ⊥
-      again h = let w = image_of xs ys y images.1 h in once.0 (subst (Has xs) (apart w.0 x y w.2 images.0) w.1)
+      again : IsMember ys y → ⊥
+      again h = let w = image_of xs ys y images.1 h in once.0 (subst (IsMember xs) (apart w.0 x y w.2 images.0) w.1)
 
   -- the images of two lists one after the other
   pub images-append : (xs ys left right : List ℕ) → AreImages to xs left → AreImages to ys right → AreImages to (xs ++ ys) (left ++ right)
@@ -104,26 +104,26 @@ module _ (to : ℕ → Option ℕ) where
 -- ---- by another function that sends the items to the same indexes
 
 -- of a list ..
-pub images-same : (to by : ℕ → Option ℕ) (xs ys : List ℕ) → ((i : ℕ) → Has xs i → to i ≡ by i) → AreImages to xs ys → AreImages by xs ys
+pub images-same : (to by : ℕ → Option ℕ) (xs ys : List ℕ) → ((i : ℕ) → IsMember xs i → to i ≡ by i) → AreImages to xs ys → AreImages by xs ys
 images-same to by [] [] same images = tt
 images-same to by [] (y ∷ ys) same images = absurd images
 images-same to by (x ∷ xs) [] same images = absurd images
 images-same to by (x ∷ xs) (y ∷ ys) same images = (sym (same x (inl refl)) ∙ images.0, images-same to by xs ys (λ i h. same i (inr h)) images.1)
 
 -- .. of a chain ..
-image-same : (to by : ℕ → Option ℕ) (c d : Chain) → ((i : ℕ) → Has (items c) i → to i ≡ by i) → IsImage to c d → IsImage by c d
+image-same : (to by : ℕ → Option ℕ) (c d : Chain) → ((i : ℕ) → IsMember (items c) i → to i ≡ by i) → IsImage to c d → IsImage by c d
 image-same to by (linear xs) (linear ys) same image = images-same to by xs ys same image
 image-same to by (cyclic xs) (cyclic ys) same image = images-same to by xs ys same image
 image-same to by (linear xs) (cyclic ys) same image = absurd image
 image-same to by (cyclic xs) (linear ys) same image = absurd image
 
 -- .. and of chains
-pub images_of-same : (to by : ℕ → Option ℕ) (chains others : List Chain) → ((i : ℕ) → Has (all_items chains) i → to i ≡ by i) → AreImagesOf to chains others
+pub images_of-same : (to by : ℕ → Option ℕ) (chains others : List Chain) → ((i : ℕ) → IsMember (all_items chains) i → to i ≡ by i) → AreImagesOf to chains others
     → AreImagesOf by chains others
 images_of-same to by [] [] same images = tt
 images_of-same to by [] (d ∷ others) same images = absurd images
 images_of-same to by (c ∷ chains) [] same images = absurd images
 images_of-same to by (c ∷ chains) (d ∷ others) same images = (
-  image-same to by c d (λ i h. same i (Has-left (items c) (all_items chains) i h)) images.0,
-  images_of-same to by chains others (λ i h. same i (Has-right (items c) (all_items chains) i h)) images.1,
+  image-same to by c d (λ i h. same i (IsMember-left (items c) (all_items chains) i h)) images.0,
+  images_of-same to by chains others (λ i h. same i (IsMember-right (items c) (all_items chains) i h)) images.1,
 )

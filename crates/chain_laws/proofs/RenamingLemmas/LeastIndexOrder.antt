@@ -1,12 +1,12 @@
 -- The least-index order of an arena: that there is one, and that links that lie canonically lie in it.
 use Rattle.std.proofs.Common.{◌≡◌, ◌≢◌, ℕ, zero, suc, ◌+◌, ◌<◌, ◌≤◌, inl, inr, List, [], ◌∷◌, ◌++◌, length, Some, refl, sym, ap, ◌∙◌, subst, arith}
 use Rattle.std.specs.List.{range_with_len}
-use Rattle.chain_laws.specs.Chains.{Chain, linear, cyclic, items, HasChain, all_items, Has, IsWritten, Rises, IsInOrder}
+use Rattle.chain_laws.specs.Chains.{Chain, linear, cyclic, items, HasChain, all_items, IsMember, StartsAtLeast, IsSortedByLeast, IsInOrder}
 use Rattle.std.proofs.Math.Decide.{ℕ_discrete}
 use Rattle.chain_laws.specs.Renamings.{IsRenaming}
 use Rattle.chain_laws.specs.Arrangements.{place_from, place_in, in_runs, LayoutRests, PlacesRest, HasLeastIndexOrder, LeastIndexOrderIsOrdered, LeastIndexOrderIsCanonical, LeastIndexOrderRests}
-use Rattle.chain_laws.proofs.ListLemmas.Members.{Has-left, Has-right}
-use Rattle.chain_laws.proofs.ChainLemmas.Uniqueness.{Has-at_most, chain_filled}
+use Rattle.chain_laws.proofs.ListLemmas.Members.{IsMember-left, IsMember-right}
+use Rattle.chain_laws.proofs.ChainLemmas.Uniqueness.{IsMember-at_most, chain_filled}
 use Rattle.chain_laws.proofs.ChainLemmas.NeighborPairs.{partitions, interlinks, chains_from_pairs}
 use Rattle.chain_laws.proofs.ChainLemmas.Partitions.{the_chains}
 use Rattle.chain_laws.proofs.RenamingLemmas.Positions.{place-first, place-other}
@@ -14,22 +14,22 @@ use Rattle.chain_laws.proofs.RenamingLemmas.ChainRuns.{lays_chains_in_runs}
 
 -- there is a least-index order
 pub has_least_index_order : HasLeastIndexOrder
-has_least_index_order shown slots agrees within =
-    let all = the_chains shown slots agrees within in
+has_least_index_order link_map slots agrees within =
+    let all = the_chains link_map slots agrees within in
     (all_items all.0, record { chains = all.0; are = all.1; items = refl })
 
 -- it is the order of the one set of chains
 pub least_index_order_is_ordered : LeastIndexOrderIsOrdered
-least_index_order_is_ordered shown one indexes = (
+least_index_order_is_ordered link_map one indexes = (
   (λ order. order.items ∙ ap all_items (one.only order.chains order.are)),
   (λ e. record { chains = one.chains; are = one.are; items = e }),
 )
 
 -- it is canonical
 pub least_index_order_is_canonical : LeastIndexOrderIsCanonical
-least_index_order_is_canonical shown indexes order = record {
+least_index_order_is_canonical link_map indexes order = record {
   chains = order.chains;
-  are = chains_from_pairs shown order.chains order.are.partition order.are.interlinks;
+  are = chains_from_pairs link_map order.chains order.are.partition order.are.interlinks;
   items = order.items;
 }
 
@@ -38,12 +38,12 @@ least_index_order_is_canonical shown indexes order = record {
 -- each item is below all items after it
 abbrev pub IsRising : List ℕ → Type 0
 IsRising [] = Unit {0}
-IsRising (x ∷ xs) = ((y : ℕ) → Has xs y → x < y) × IsRising xs
+IsRising (x ∷ xs) = ((y : ℕ) → IsMember xs y → x < y) × IsRising xs
 
 -- the left part of a rising list rises
 rising-left : (xs ys : List ℕ) → IsRising (xs ++ ys) → IsRising xs
 rising-left [] ys rising = tt
-rising-left (x ∷ xs) ys rising = (λ y h. rising.0 y (Has-left xs ys y h), rising-left xs ys rising.1)
+rising-left (x ∷ xs) ys rising = (λ y h. rising.0 y (IsMember-left xs ys y h), rising-left xs ys rising.1)
 
 -- .. and so does the right part
 rising-right : (xs ys : List ℕ) → IsRising (xs ++ ys) → IsRising ys
@@ -51,7 +51,7 @@ rising-right [] ys rising = rising
 rising-right (x ∷ xs) ys rising = rising-right xs ys rising.1
 
 -- an item of a run is at least its first
-run_low : (k n y : ℕ) → Has (range_with_len k n) y → k ≤ y
+run_low : (k n y : ℕ) → IsMember (range_with_len k n) y → k ≤ y
 run_low k zero y h = absurd h
 run_low k (suc n) y (inl e) = let same : k ≡ y = e in omega arith
 run_low k (suc n) y (inr h) = let low : k + 1 ≤ y = run_low (k + 1) n y h in omega arith
@@ -68,18 +68,18 @@ rising_each (d ∷ chains) c rising (inl e) = subst (λ (x : Chain). IsRising (i
 rising_each (d ∷ chains) c rising (inr m) = rising_each chains c (rising-right (items d) (all_items chains) rising) m
 
 -- a chain that rises is written from its least index
-rising_written : (c : Chain) → IsRising (items c) → IsWritten c
+rising_written : (c : Chain) → IsRising (items c) → StartsAtLeast c
 rising_written (linear xs) rising = tt
 rising_written (cyclic []) rising = tt
-rising_written (cyclic (x ∷ xs)) rising = Has-at_most x xs (λ y h. let above : x < y = rising.0 y h in omega arith)
+rising_written (cyclic (x ∷ xs)) rising = IsMember-at_most x xs (λ y h. let above : x < y = rising.0 y h in omega arith)
 
 -- of a rising list that is not empty, the first item of the left part is below the right part
-rising_below : (xs ys : List ℕ) → xs ≢ [] → IsRising (xs ++ ys) → (m : ℕ) × Has xs m × ((y : ℕ) → Has ys y → m < y)
+rising_below : (xs ys : List ℕ) → xs ≢ [] → IsRising (xs ++ ys) → (m : ℕ) × IsMember xs m × ((y : ℕ) → IsMember ys y → m < y)
 rising_below [] ys filled rising = absurd (filled refl)
-rising_below (x ∷ xs) ys filled rising = (x, inl refl, λ y h. rising.0 y (Has-right xs ys y h))
+rising_below (x ∷ xs) ys filled rising = (x, inl refl, λ y h. rising.0 y (IsMember-right xs ys y h))
 
 -- chains that rise, one after the other, are in order
-rising_rises : (chains : List Chain) → ((c : Chain) → HasChain chains c → items c ≢ []) → IsRising (all_items chains) → Rises chains
+rising_rises : (chains : List Chain) → ((c : Chain) → HasChain chains c → items c ≢ []) → IsRising (all_items chains) → IsSortedByLeast chains
 rising_rises [] filled rising = tt
 rising_rises (c ∷ chains) filled rising = (
   rising_below (items c) (all_items chains) (filled c (inl refl)) rising,
@@ -92,12 +92,12 @@ rising_in_order chains filled rising = record { written = λ c m. rising_written
 
 -- links that lie canonically lie in their least-index order
 pub least_index_order_rests : LeastIndexOrderRests
-least_index_order_rests shown n canonical = record {
+least_index_order_rests link_map n canonical = record {
   chains = canonical.chains;
   are = record {
-    partition = partitions shown canonical.chains canonical.are;
-    interlinks = interlinks shown canonical.chains canonical.are;
-    order = rising_in_order canonical.chains (λ c m. chain_filled shown c (canonical.are.each c m)) (subst IsRising canonical.items (run_rises 1 n));
+    partition = partitions link_map canonical.chains canonical.are;
+    interlinks = interlinks link_map canonical.chains canonical.are;
+    order = rising_in_order canonical.chains (λ c m. chain_filled link_map c (canonical.are.each c m)) (subst IsRising canonical.items (run_rises 1 n));
   };
   items = canonical.items;
 }

@@ -2,10 +2,10 @@
 use Rattle.std.proofs.Common.{◌≡◌, ◌≢◌, ◌↔◌, ℕ, ◌⊎◌, inl, inr, Option, None, Some, refl, sym, ap, ap₂, ◌∙◌, subst}
 use Rattle.std.specs.Option.{option_map, option_and_then}
 use Rattle.std.proofs.Math.Decide.{ℕ_discrete}
-use Rattle.chain_laws.specs.Chains.{Shown, Interlinks, HasLink, Agrees, prev_in, next_in, prev_of, next_of}
+use Rattle.chain_laws.specs.Chains.{LinkMap, Interlinks, HasLink, IsWellLinked, prev_in, next_in, prev_of, next_of}
 use Rattle.chain_laws.specs.Joins.{next_set, prev_set}
 use Rattle.chain_laws.specs.Renamings.{IsRenaming}
-use Rattle.chain_laws.specs.Moves.{moved_index, with_moved, moved, put, CanMove, moving, MoveRenames, NeighborsTellAMove}
+use Rattle.chain_laws.specs.Moves.{moved_index, with_moved, moved, put, CanMove, moving, MoveRenames, NeighborsDetermineAMove}
 use Rattle.chain_laws.proofs.ChainLemmas.LinkedLists.{link, shows_both, shows_valid, next_valid, prev_valid}
 use Rattle.chain_laws.proofs.InterlinkLemmas.Inverses.{if_same, if_other, altered-same, altered-other, one_some, not_both_ways}
 use Rattle.chain_laws.proofs.InterlinkLemmas.Linked.{IsValidAt, put_at, prev_of-next_set, next_of-prev_set, next_of-next_set, prev_of-prev_set, HasLink-next_set, HasLink-prev_set, HasLink-changed}
@@ -20,45 +20,45 @@ pub moved_index-other : (i k j : ℕ) → j ≢ i → moved_index i k j ≡ j
 moved_index-other i k j differs = if_other j i k j differs
 
 -- a link that is sent to n goes there
-pub sent-valid : (shown : Shown) (j n : ℕ) → HasLink shown j → option_map (λ _. n) (shown j) ≡ Some n
-sent-valid shown j n valid = ap (option_map (λ _. n)) valid.shows
+pub sent-valid : (link_map : LinkMap) (j n : ℕ) → HasLink link_map j → option_map (λ _. n) (link_map j) ≡ Some n
+sent-valid link_map j n valid = ap (option_map (λ _. n)) valid.shows
 
 -- what goes anywhere is a link
-pub sent-from : (shown : Shown) (j n m : ℕ) → option_map (λ _. n) (shown j) ≡ Some m → HasLink shown j × (n ≡ m)
-sent-from shown j n m e = by (shown j) refl e
+pub sent-from : (link_map : LinkMap) (j n m : ℕ) → option_map (λ _. n) (link_map j) ≡ Some m → HasLink link_map j × (n ≡ m)
+sent-from link_map j n m e = by (link_map j) refl e
   where
-    by : (o : Option Interlinks) → shown j ≡ o → option_map (λ _. n) o ≡ Some m → HasLink shown j × (n ≡ m)
+    by : (o : Option Interlinks) → link_map j ≡ o → option_map (λ _. n) o ≡ Some m → HasLink link_map j × (n ≡ m)
     by None is goes = absurd (cc)
-    by (Some l) is goes = (shows_valid shown j l is, one_some goes)
+    by (Some l) is goes = (shows_valid link_map j l is, one_some goes)
 
 -- what stands at an index after a move stood at the index before it
-put_from : (shown : Shown) (i k m : ℕ) → HasLink (put shown i k) m → (j : ℕ) × HasLink shown j × (moved_index i k j ≡ m)
-put_from shown i k m valid = by (ℕ_discrete m k) (ℕ_discrete m i)
+put_from : (link_map : LinkMap) (i k m : ℕ) → HasLink (put link_map i k) m → (j : ℕ) × HasLink link_map j × (moved_index i k j ≡ m)
+put_from link_map i k m valid = by (ℕ_discrete m k) (ℕ_discrete m i)
   where
-    by : Dec (m ≡ k) → Dec (m ≡ i) → (j : ℕ) × HasLink shown j × (moved_index i k j ≡ m)
-    by (yes e) rest = (i, shows_valid shown i valid.link (sym (if_same m k _ _ e) ∙ valid.shows), moved_index-same i k i refl ∙ sym e)
-    by (no c) (yes e) = absurd (not_both_ways (put shown i k m) valid.link (if_other m k _ _ c ∙ if_same m i _ _ e) valid.shows)
-    by (no c) (no d) = (m, shows_valid shown m valid.link (sym (if_other m k _ _ c ∙ if_other m i _ _ d) ∙ valid.shows), moved_index-other i k m d)
+    by : Dec (m ≡ k) → Dec (m ≡ i) → (j : ℕ) × HasLink link_map j × (moved_index i k j ≡ m)
+    by (yes e) rest = (i, shows_valid link_map i valid.link (sym (if_same m k _ _ e) ∙ valid.shows), moved_index-same i k i refl ∙ sym e)
+    by (no c) (yes e) = absurd (not_both_ways (put link_map i k m) valid.link (if_other m k _ _ c ∙ if_same m i _ _ e) valid.shows)
+    by (no c) (no d) = (m, shows_valid link_map m valid.link (sym (if_other m k _ _ c ∙ if_other m i _ _ d) ∙ valid.shows), moved_index-other i k m d)
 
 -- what a link names as the one after it is valid ..
-pub next_named : (shown : Shown) (j : ℕ) → Agrees shown → IsValidAt shown (next_of shown j)
-next_named shown j agrees q e = prev_valid shown q j ((agrees.both j q).0 e)
+pub next_named : (link_map : LinkMap) (j : ℕ) → IsWellLinked link_map → IsValidAt link_map (next_of link_map j)
+next_named link_map j agrees q e = prev_valid link_map q j ((agrees.both j q).0 e)
 
 -- .. and so is what it names as the one before it
-pub prev_named : (shown : Shown) (j : ℕ) → Agrees shown → IsValidAt shown (prev_of shown j)
-prev_named shown j agrees q e = next_valid shown q j ((agrees.both q j).1 e)
+pub prev_named : (link_map : LinkMap) (j : ℕ) → IsWellLinked link_map → IsValidAt link_map (prev_of link_map j)
+prev_named link_map j agrees q e = next_valid link_map q j ((agrees.both q j).1 e)
 
-module _ (shown : Shown) (i k : ℕ) (agrees : Agrees shown) (can : CanMove shown i k) where
+module _ (link_map : LinkMap) (i k : ℕ) (agrees : IsWellLinked link_map) (can : CanMove link_map i k) where
   -- no other link stands where the link goes
-  goes_elsewhere : (j : ℕ) → HasLink shown j → j ≢ i → j ≢ k
+  goes_elsewhere : (j : ℕ) → HasLink link_map j → j ≢ i → j ≢ k
   goes_elsewhere j valid differs e = by can.free
     where
-      by : (k ≡ i) ⊎ (shown k ≡ None) → ⊥
+      by : (k ≡ i) ⊎ (link_map k ≡ None) → ⊥
       by (inl same) = differs (e ∙ same)
-      by (inr none) = not_both_ways (shown j) valid.link (ap shown e ∙ none) valid.shows
+      by (inr none) = not_both_ways (link_map j) valid.link (ap link_map e ∙ none) valid.shows
 
   -- no two links come to one index
-  index_apart : (a b : ℕ) → HasLink shown a → HasLink shown b → moved_index i k a ≡ moved_index i k b → a ≡ b
+  index_apart : (a b : ℕ) → HasLink link_map a → HasLink link_map b → moved_index i k a ≡ moved_index i k b → a ≡ b
   index_apart a b valid also e = by (ℕ_discrete a i) (ℕ_discrete b i)
     where
       by : Dec (a ≡ i) → Dec (b ≡ i) → a ≡ b
@@ -68,7 +68,7 @@ module _ (shown : Shown) (i k : ℕ) (agrees : Agrees shown) (can : CanMove show
       by (no c) (no d) = sym (moved_index-other i k a c) ∙ (e ∙ moved_index-other i k b d)
 
   -- whatever stood at the index of a link stands at its new index
-  put_to : (other : Shown) (j : ℕ) → HasLink shown j → put other i k (moved_index i k j) ≡ other j
+  put_to : (other : LinkMap) (j : ℕ) → HasLink link_map j → put other i k (moved_index i k j) ≡ other j
   put_to other j valid = by (ℕ_discrete j i)
     where
       by : Dec (j ≡ i) → put other i k (moved_index i k j) ≡ other j
@@ -79,45 +79,45 @@ module _ (shown : Shown) (i k : ℕ) (agrees : Agrees shown) (can : CanMove show
   -- ---- a renaming
 
   -- the new index of a link that is named, if any is
-  goes_to : (o : Option ℕ) → IsValidAt shown o → option_map (moved_index i k) o ≡ option_and_then (moving shown i k) o
+  goes_to : (o : Option ℕ) → IsValidAt link_map o → option_map (moved_index i k) o ≡ option_and_then (moving link_map i k) o
   goes_to None valid = refl
-  goes_to (Some q) valid = sym (sent-valid shown q (moved_index i k q) (valid q refl))
+  goes_to (Some q) valid = sym (sent-valid link_map q (moved_index i k q) (valid q refl))
 
   -- what the link shows that stood at j, each of its neighbors at its new index
-  moved_to : (j : ℕ) (u v : Option ℕ) → shown j ≡ Some (link u v)
-      → moved shown i k (moved_index i k j) ≡ Some (link (option_map (moved_index i k) u) (option_map (moved_index i k) v))
+  moved_to : (j : ℕ) (u v : Option ℕ) → link_map j ≡ Some (link u v)
+      → moved link_map i k (moved_index i k j) ≡ Some (link (option_map (moved_index i k) u) (option_map (moved_index i k) v))
   moved_to j u v shows =
-      put_to (λ m. option_map (with_moved i k) (shown m)) j (shows_valid shown j (link u v) shows) ∙ ap (option_map (with_moved i k)) shows
+      put_to (λ m. option_map (with_moved i k) (link_map m)) j (shows_valid link_map j (link u v) shows) ∙ ap (option_map (with_moved i k)) shows
 
   -- what stands after the move, stood before it
-  moved_from : (m : ℕ) → HasLink (moved shown i k) m → (j : ℕ) × HasLink shown j × (moved_index i k j ≡ m)
+  moved_from : (m : ℕ) → HasLink (moved link_map i k) m → (j : ℕ) × HasLink link_map j × (moved_index i k j ≡ m)
   moved_from m valid =
-      let j = put_from (λ (a : ℕ). option_map (with_moved i k) (shown a)) i k m (record { link = valid.link; shows = valid.shows }) in
-      (j.0, (HasLink-changed (λ (a : ℕ). option_map (with_moved i k) (shown a)) shown (with_moved i k) j.0 refl).0 j.1, j.2)
+      let j = put_from (λ (a : ℕ). option_map (with_moved i k) (link_map a)) i k m (record { link = valid.link; shows = valid.shows }) in
+      (j.0, (HasLink-changed (λ (a : ℕ). option_map (with_moved i k) (link_map a)) link_map (with_moved i k) j.0 refl).0 j.1, j.2)
 
   -- a move is a renaming
-  is_renaming : IsRenaming (moving shown i k) shown (moved shown i k)
+  is_renaming : IsRenaming (moving link_map i k) link_map (moved link_map i k)
   is_renaming = record {
     apart = λ a b m e f.
-        let x = sent-from shown a (moved_index i k a) m e in
-        let y = sent-from shown b (moved_index i k b) m f in
+        let x = sent-from link_map a (moved_index i k a) m e in
+        let y = sent-from link_map b (moved_index i k b) m f in
         index_apart a b x.0 y.0 (x.1 ∙ sym y.1);
-    each = λ j valid. (moved_index i k j, sent-valid shown j (moved_index i k j) valid);
-    onto = λ m valid. let j = moved_from m valid in (j.0, j.1, sent-valid shown j.0 (moved_index i k j.0) j.1 ∙ ap Some j.2);
+    each = λ j valid. (moved_index i k j, sent-valid link_map j (moved_index i k j) valid);
+    onto = λ m valid. let j = moved_from m valid in (j.0, j.1, sent-valid link_map j.0 (moved_index i k j.0) j.1 ∙ ap Some j.2);
     carries = λ j m u v shows e.
-        ap (moved shown i k) (sym (sent-from shown j (moved_index i k j) m e).1)
+        ap (moved link_map i k) (sym (sent-from link_map j (moved_index i k j) m e).1)
         ∙ (moved_to j u v shows
-        ∙ ap₂ (λ (o p : Option ℕ). Some (link o p)) (goes_to u (λ q s. prev_named shown j agrees q (ap prev_in shows ∙ s))) (goes_to v (λ q s. next_named shown j agrees q (ap next_in shows ∙ s))));
+        ∙ ap₂ (λ (o p : Option ℕ). Some (link o p)) (goes_to u (λ q s. prev_named link_map j agrees q (ap prev_in shows ∙ s))) (goes_to v (λ q s. next_named link_map j agrees q (ap next_in shows ∙ s))));
   }
 
   -- ---- what the neighbors are told
 
   -- the neighbors stand
-  neighbor_stands : (o : Option ℕ) → IsValidAt shown o → IsValidAt (put shown i k) (option_map (moved_index i k) o)
+  neighbor_stands : (o : Option ℕ) → IsValidAt link_map o → IsValidAt (put link_map i k) (option_map (moved_index i k) o)
   neighbor_stands None valid m e = absurd (cc)
   neighbor_stands (Some q) valid m e =
       let stands = valid q refl in
-      shows_valid (put shown i k) m stands.link (ap (put shown i k) (sym (one_some e)) ∙ (put_to shown q stands ∙ stands.shows))
+      shows_valid (put link_map i k) m stands.link (ap (put link_map i k) (sym (one_some e)) ∙ (put_to link_map q stands ∙ stands.shows))
 
   -- an index that is not i is named as before
   named_as_before : (o : Option ℕ) → o ≢ Some i → option_map (moved_index i k) o ≡ o
@@ -125,7 +125,7 @@ module _ (shown : Shown) (i k : ℕ) (agrees : Agrees shown) (can : CanMove show
   named_as_before (Some q) differs = ap Some (moved_index-other i k q (λ e. differs (ap Some e)))
 
   -- where o is the one link that names i, and it is told k, each link names the new index of what it named
-  told : (names now : ℕ → Option ℕ) (o : Option ℕ) (j : ℕ) → ((q : ℕ) → (o ≡ Some q) ↔ (names q ≡ Some i)) → IsValidAt shown o → HasLink shown j
+  told : (names now : ℕ → Option ℕ) (o : Option ℕ) (j : ℕ) → ((q : ℕ) → (o ≡ Some q) ↔ (names q ≡ Some i)) → IsValidAt link_map o → HasLink link_map j
       → now (moved_index i k j) ≡ names j → put_at now (option_map (moved_index i k) o) (Some k) (moved_index i k j) ≡ option_map (moved_index i k) (names j)
   told names now None j only valid here as_before = as_before ∙ sym (named_as_before (names j) (λ e. absurd (not_both_ways None j refl ((only j).1 e))))
   told names now (Some q) j only valid here as_before = by (ℕ_discrete j q)
@@ -139,56 +139,56 @@ module _ (shown : Shown) (i k : ℕ) (agrees : Agrees shown) (can : CanMove show
           ∙ (as_before ∙ sym (named_as_before (names j) (λ e. differs (sym (one_some ((only j).1 e))))))
 
   -- the arena once the link before i is told ..
-  abbrev next_told : Shown
-  next_told = next_set (put shown i k) (option_map (moved_index i k) (prev_of shown i)) (Some k)
+  abbrev next_told : LinkMap
+  next_told = next_set (put link_map i k) (option_map (moved_index i k) (prev_of link_map i)) (Some k)
 
   -- .. and the link after i too
-  abbrev both_told : Shown
-  both_told = prev_set next_told (option_map (moved_index i k) (next_of shown i)) (Some k)
+  abbrev both_told : LinkMap
+  both_told = prev_set next_told (option_map (moved_index i k) (next_of link_map i)) (Some k)
 
   -- what stands then
-  told_valid : (m : ℕ) → HasLink both_told m ↔ HasLink (put shown i k) m
+  told_valid : (m : ℕ) → HasLink both_told m ↔ HasLink (put link_map i k) m
   told_valid m =
-      let after = HasLink-prev_set next_told (option_map (moved_index i k) (next_of shown i)) (Some k) m in
-      let before = HasLink-next_set (put shown i k) (option_map (moved_index i k) (prev_of shown i)) (Some k) m in
+      let after = HasLink-prev_set next_told (option_map (moved_index i k) (next_of link_map i)) (Some k) m in
+      let before = HasLink-next_set (put link_map i k) (option_map (moved_index i k) (prev_of link_map i)) (Some k) m in
       (λ v. before.0 (after.0 v), λ v. after.1 (before.1 v))
 
   -- what each link names then as the one after it ..
-  told_next : (j : ℕ) → HasLink shown j → next_of both_told (moved_index i k j) ≡ option_map (moved_index i k) (next_of shown j)
+  told_next : (j : ℕ) → HasLink link_map j → next_of both_told (moved_index i k j) ≡ option_map (moved_index i k) (next_of link_map j)
   told_next j valid =
-      next_of-prev_set next_told (option_map (moved_index i k) (next_of shown i)) (Some k) (moved_index i k j)
-      ∙ (next_of-next_set (put shown i k) (option_map (moved_index i k) (prev_of shown i)) (Some k) (moved_index i k j) (neighbor_stands (prev_of shown i) (prev_named shown i agrees))
-      ∙ told (next_of shown) (next_of (put shown i k)) (prev_of shown i) j (λ q. ((agrees.both q i).1, (agrees.both q i).0)) (prev_named shown i agrees) valid (ap next_in (put_to shown j valid)))
+      next_of-prev_set next_told (option_map (moved_index i k) (next_of link_map i)) (Some k) (moved_index i k j)
+      ∙ (next_of-next_set (put link_map i k) (option_map (moved_index i k) (prev_of link_map i)) (Some k) (moved_index i k j) (neighbor_stands (prev_of link_map i) (prev_named link_map i agrees))
+      ∙ told (next_of link_map) (next_of (put link_map i k)) (prev_of link_map i) j (λ q. ((agrees.both q i).1, (agrees.both q i).0)) (prev_named link_map i agrees) valid (ap next_in (put_to link_map j valid)))
 
   -- .. and as the one before it
-  told_prev : (j : ℕ) → HasLink shown j → prev_of both_told (moved_index i k j) ≡ option_map (moved_index i k) (prev_of shown j)
+  told_prev : (j : ℕ) → HasLink link_map j → prev_of both_told (moved_index i k j) ≡ option_map (moved_index i k) (prev_of link_map j)
   told_prev j valid =
-      prev_of-prev_set next_told (option_map (moved_index i k) (next_of shown i)) (Some k) (moved_index i k j) after_stands
-      ∙ told (prev_of shown) (prev_of next_told) (next_of shown i) j (agrees.both i) (next_named shown i agrees) valid
-      (prev_of-next_set (put shown i k) (option_map (moved_index i k) (prev_of shown i)) (Some k) (moved_index i k j) ∙ ap prev_in (put_to shown j valid))
+      prev_of-prev_set next_told (option_map (moved_index i k) (next_of link_map i)) (Some k) (moved_index i k j) after_stands
+      ∙ told (prev_of link_map) (prev_of next_told) (next_of link_map i) j (agrees.both i) (next_named link_map i agrees) valid
+      (prev_of-next_set (put link_map i k) (option_map (moved_index i k) (prev_of link_map i)) (Some k) (moved_index i k j) ∙ ap prev_in (put_to link_map j valid))
     where
-      after_stands : IsValidAt next_told (option_map (moved_index i k) (next_of shown i))
+      after_stands : IsValidAt next_told (option_map (moved_index i k) (next_of link_map i))
       after_stands m e =
-          (HasLink-next_set (put shown i k) (option_map (moved_index i k) (prev_of shown i)) (Some k) m).1 (neighbor_stands (next_of shown i) (next_named shown i agrees) m e)
+          (HasLink-next_set (put link_map i k) (option_map (moved_index i k) (prev_of link_map i)) (Some k) m).1 (neighbor_stands (next_of link_map i) (next_named link_map i agrees) m e)
 
   -- each link shows then what it shows after the move
-  told_shows : (j : ℕ) → HasLink shown j → both_told (moved_index i k j) ≡ moved shown i k (moved_index i k j)
+  told_shows : (j : ℕ) → HasLink link_map j → both_told (moved_index i k j) ≡ moved link_map i k (moved_index i k j)
   told_shows j valid =
-      let stands = shows_valid (put shown i k) (moved_index i k j) valid.link (put_to shown j valid ∙ valid.shows) in
+      let stands = shows_valid (put link_map i k) (moved_index i k j) valid.link (put_to link_map j valid ∙ valid.shows) in
       shows_both both_told (moved_index i k j) _ _ ((told_valid (moved_index i k j)).1 stands) (told_prev j valid) (told_next j valid)
-      ∙ sym (moved_to j (prev_of shown j) (next_of shown j) (shows_both shown j (prev_of shown j) (next_of shown j) valid refl refl))
+      ∙ sym (moved_to j (prev_of link_map j) (next_of link_map j) (shows_both link_map j (prev_of link_map j) (next_of link_map j) valid refl refl))
 
   -- so the arena is as after the move
-  is_told : both_told ≡ moved shown i k
-  is_told = same_shown both_told (moved shown i k) (λ m v. at m (put_from shown i k m ((told_valid m).0 v))) (λ m v. at m (moved_from m v))
+  is_told : both_told ≡ moved link_map i k
+  is_told = same_shown both_told (moved link_map i k) (λ m v. at m (put_from link_map i k m ((told_valid m).0 v))) (λ m v. at m (moved_from m v))
     where
-      at : (m : ℕ) → (j : ℕ) × HasLink shown j × (moved_index i k j ≡ m) → both_told m ≡ moved shown i k m
-      at m j = subst (λ (a : ℕ). both_told a ≡ moved shown i k a) j.2 (told_shows j.0 j.1)
+      at : (m : ℕ) → (j : ℕ) × HasLink link_map j × (moved_index i k j ≡ m) → both_told m ≡ moved link_map i k m
+      at m j = subst (λ (a : ℕ). both_told a ≡ moved link_map i k a) j.2 (told_shows j.0 j.1)
 
 -- a move to a free index is a renaming
 pub move_renames : MoveRenames
-move_renames shown i k agrees can = is_renaming shown i k agrees can
+move_renames link_map i k agrees can = is_renaming link_map i k agrees can
 
 -- only the two neighbors have to be told
-pub neighbors_tell_a_move : NeighborsTellAMove
-neighbors_tell_a_move shown i k agrees can = is_told shown i k agrees can
+pub neighbors_tell_a_move : NeighborsDetermineAMove
+neighbors_tell_a_move link_map i k agrees can = is_told link_map i k agrees can

@@ -2,10 +2,10 @@
 use Rattle.std.proofs.Common.{◌≡◌, ◌≢◌, ℕ, suc, ◌+◌, ◌<◌, ◌≤◌, ◌⊎◌, inl, inr, List, [], ◌∷◌, ◌++◌, length, None, Some, refl, sym, ap, ◌∙◌, subst, add-one, arith}
 use Rattle.std.specs.List.{range_with_len}
 use Rattle.std.proofs.Math.Decide.{ℕ_discrete}
-use Rattle.chain_laws.specs.Chains.{Has, HasNoRepetition}
+use Rattle.chain_laws.specs.Chains.{IsMember, AreDistinct}
 use Rattle.chain_laws.specs.Renamings.{AreImages}
 use Rattle.chain_laws.specs.Arrangements.{place_from, place_in, ArrangementNumbers, PlacesAreApart}
-use Rattle.chain_laws.proofs.ListLemmas.Members.{Has-or_not}
+use Rattle.chain_laws.proofs.ListLemmas.Members.{IsMember-or_not}
 use Rattle.chain_laws.proofs.InterlinkLemmas.Inverses.{if_same, if_other}
 use Rattle.chain_laws.proofs.RenamingLemmas.Images.{images-same}
 
@@ -57,43 +57,43 @@ place-apart n (x ∷ xs) i j k e f = by (ℕ_discrete x i) (ℕ_discrete x j) (p
     by (no c) (no d) rest = rest (sym (place-other n x xs i c) ∙ e) (sym (place-other n x xs j d) ∙ f)
 
 -- what has a place is in the list
-pub place-has : (n : ℕ) (xs : List ℕ) (i k : ℕ) → place_from n xs i ≡ Some k → Has xs i
+pub place-has : (n : ℕ) (xs : List ℕ) (i k : ℕ) → place_from n xs i ≡ Some k → IsMember xs i
 place-has n [] i k e = absurd (cc)
 place-has n (x ∷ xs) i k e = by (ℕ_discrete x i) (place-has (suc n) xs i k)
   where
-    by : Dec (x ≡ i) → (place_from (suc n) xs i ≡ Some k → Has xs i) → Has (x ∷ xs) i
+    by : Dec (x ≡ i) → (place_from (suc n) xs i ≡ Some k → IsMember xs i) → IsMember (x ∷ xs) i
     by (yes s) rest = inl s
     by (no differs) rest = inr (rest (sym (place-other n x xs i differs) ∙ e))
 
 -- what is in the list has a place
-pub has-place : (n : ℕ) (xs : List ℕ) (i : ℕ) → Has xs i → (k : ℕ) × (place_from n xs i ≡ Some k)
+pub has-place : (n : ℕ) (xs : List ℕ) (i : ℕ) → IsMember xs i → (k : ℕ) × (place_from n xs i ≡ Some k)
 has-place n [] i h = absurd h
 has-place n (x ∷ xs) i h = by (ℕ_discrete x i) h (has-place (suc n) xs i)
   where
-    by : Dec (x ≡ i) → Has (x ∷ xs) i → (Has xs i → (k : ℕ) × (place_from (suc n) xs i ≡ Some k)) → (k : ℕ) × (place_from n (x ∷ xs) i ≡ Some k)
+    by : Dec (x ≡ i) → IsMember (x ∷ xs) i → (IsMember xs i → (k : ℕ) × (place_from (suc n) xs i ≡ Some k)) → (k : ℕ) × (place_from n (x ∷ xs) i ≡ Some k)
     by (yes s) m rest = (n, place-first n x xs i s)
     by (no differs) (inl s) rest = absurd (differs s)
     by (no differs) (inr m) rest = let w = rest m in (w.0, place-other n x xs i differs ∙ w.1)
 
 -- what is not in the list has no place
-pub place-none : (n : ℕ) (xs : List ℕ) (i : ℕ) → (Has xs i → ⊥) → place_from n xs i ≡ None
+pub place-none : (n : ℕ) (xs : List ℕ) (i : ℕ) → (IsMember xs i → ⊥) → place_from n xs i ≡ None
 place-none n [] i not = refl
 place-none n (x ∷ xs) i not = place-other n x xs i (λ s. not (inl s)) ∙ place-none (suc n) xs i (λ h. not (inr h))
 
 -- ---- two lists, one after the other
 
 -- an item of the first keeps its place
-pub place-front : (n : ℕ) (xs ys : List ℕ) (i : ℕ) → Has xs i → place_from n (xs ++ ys) i ≡ place_from n xs i
+pub place-front : (n : ℕ) (xs ys : List ℕ) (i : ℕ) → IsMember xs i → place_from n (xs ++ ys) i ≡ place_from n xs i
 place-front n [] ys i h = absurd h
 place-front n (x ∷ xs) ys i h = by (ℕ_discrete x i) h (place-front (suc n) xs ys i)
   where
-    by : Dec (x ≡ i) → Has (x ∷ xs) i → (Has xs i → place_from (suc n) (xs ++ ys) i ≡ place_from (suc n) xs i) → place_from n (x ∷ xs ++ ys) i ≡ place_from n (x ∷ xs) i
+    by : Dec (x ≡ i) → IsMember (x ∷ xs) i → (IsMember xs i → place_from (suc n) (xs ++ ys) i ≡ place_from (suc n) xs i) → place_from n (x ∷ xs ++ ys) i ≡ place_from n (x ∷ xs) i
     by (yes s) m rest = place-first n x (xs ++ ys) i s ∙ sym (place-first n x xs i s)
     by (no differs) (inl s) rest = absurd (differs s)
     by (no differs) (inr m) rest = place-other n x (xs ++ ys) i differs ∙ (rest m ∙ sym (place-other n x xs i differs))
 
 -- any other index has the place that it has in the second, counted from the end of the first
-pub place-append : (n : ℕ) (xs ys : List ℕ) (i : ℕ) → (Has xs i → ⊥) → place_from n (xs ++ ys) i ≡ place_from (n + length xs) ys i
+pub place-append : (n : ℕ) (xs ys : List ℕ) (i : ℕ) → (IsMember xs i → ⊥) → place_from n (xs ++ ys) i ≡ place_from (n + length xs) ys i
 place-append n [] ys i not = ap (λ (m : ℕ). place_from m ys i) (let e : n ≡ n + 0 = omega arith in e)
 place-append n (x ∷ xs) ys i not =
     place-other n x (xs ++ ys) i (λ s. not (inl s))
@@ -101,33 +101,33 @@ place-append n (x ∷ xs) ys i not =
     ∙ ap (λ (m : ℕ). place_from m ys i) (let e : suc n + length xs ≡ n + length (x ∷ xs) = omega arith in e))
 
 -- one more at the end: its place is the length ..
-pub place-last : (xs : List ℕ) (x : ℕ) → (Has xs x → ⊥) → place_in (xs ++ x ∷ []) x ≡ Some (length xs + 1)
+pub place-last : (xs : List ℕ) (x : ℕ) → (IsMember xs x → ⊥) → place_in (xs ++ x ∷ []) x ≡ Some (length xs + 1)
 place-last xs x not = place-append 1 xs (x ∷ []) x not ∙ (place-same (1 + length xs) [] x ∙ ap Some (let e : 1 + length xs ≡ length xs + 1 = omega arith in e))
 
 -- .. and every other place is what it was
 pub place-before_last : (xs : List ℕ) (x i : ℕ) → x ≢ i → place_in (xs ++ x ∷ []) i ≡ place_in xs i
-place-before_last xs x i differs = by (Has-or_not xs i)
+place-before_last xs x i differs = by (IsMember-or_not xs i)
   where
-    by : Has xs i ⊎ (Has xs i → ⊥) → place_in (xs ++ x ∷ []) i ≡ place_in xs i
+    by : IsMember xs i ⊎ (IsMember xs i → ⊥) → place_in (xs ++ x ∷ []) i ≡ place_in xs i
     by (inl h) = place-front 1 xs (x ∷ []) i h
     by (inr not) = place-append 1 xs (x ∷ []) i not ∙ (place-other (1 + length xs) x [] i differs ∙ sym (place-none 1 xs i not))
 
 -- ---- the numbers
 
 -- the items of a list without repetition have the numbers from the first place on, in order
-pub place-numbers : (n : ℕ) (xs : List ℕ) → HasNoRepetition xs → AreImages (place_from n xs) xs (range_with_len n (length xs))
+pub place-numbers : (n : ℕ) (xs : List ℕ) → AreDistinct xs → AreImages (place_from n xs) xs (range_with_len n (length xs))
 place-numbers n [] once = tt
 place-numbers n (x ∷ xs) once = (
   place-same n xs x,
   images-same (place_from (suc n) xs) (place_from n (x ∷ xs)) xs (range_with_len (n + 1) (length xs)) later (rw add-one (place-numbers (suc n) xs once.1)),
 )
   where
-    later : (i : ℕ) → Has xs i → place_from (suc n) xs i ≡ place_from n (x ∷ xs) i
-    later i h = sym (place-other n x xs i (λ s. once.0 (subst (Has xs) (sym s) h)))
+    later : (i : ℕ) → IsMember xs i → place_from (suc n) xs i ≡ place_from n (x ∷ xs) i
+    later i h = sym (place-other n x xs i (λ s. once.0 (subst (IsMember xs) (sym s) h)))
 
 -- the k-th item of an arrangement goes to k
 pub arrangement_numbers : ArrangementNumbers
-arrangement_numbers shown indexes arranges = place-numbers 1 indexes arranges.once
+arrangement_numbers link_map indexes arranges = place-numbers 1 indexes arranges.once
 
 -- no two go to one index
 pub places_are_apart : PlacesAreApart

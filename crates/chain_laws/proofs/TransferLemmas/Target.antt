@@ -1,16 +1,16 @@
 -- A new link at the end of the last of some runs.
 use Rattle.std.proofs.Common.{◌≡◌, ℕ, suc, ◌+◌, ◌-◌, ◌<◌, ◌≤◌, ◌⊎◌, inl, inr, Bool, true, false, if◌then◌else◌, List, [], ◌∷◌, ◌++◌, length, Option, None, Some, refl, sym, ap, ap₂, ◌∙◌, subst, length-append, append_assoc, append-nil, arith}
 use Rattle.std.specs.List.{range_with_len}
-use Rattle.chain_laws.specs.Chains.{Shown, Chain, linear, cyclic, items, all_items, HasChain, Has, HasNoRepetition, IsChain, HasLink, AreChains, first_or, last_or, next_in, next_of}
-use Rattle.chain_laws.specs.Insertions.{inserted, IsGap, Inserts, HasIndex}
+use Rattle.chain_laws.specs.Chains.{LinkMap, Chain, linear, cyclic, items, all_items, HasChain, IsMember, AreDistinct, IsChain, HasLink, AreChains, first_or, last_or, next_in, next_of}
+use Rattle.chain_laws.specs.Insertions.{inserted, IsInsertPosition, Inserts, HasIndex}
 use Rattle.chain_laws.specs.Arrangements.{in_runs}
 use Rattle.chain_laws.specs.ChainStart.{chain_of}
-use Rattle.chain_laws.specs.Transfer.{with_left, with_laid, end_before, end_after, LastIsLaid}
-use Rattle.chain_laws.proofs.ChainLemmas.LinkedLists.{Stands-at, shows_valid}
-use Rattle.chain_laws.proofs.ChainLemmas.ChainLists.{Has-all_items}
+use Rattle.chain_laws.specs.Transfer.{with_rest, with_appended, end_before, end_after, LastIsAppended}
+use Rattle.chain_laws.proofs.ChainLemmas.LinkedLists.{AreLinked-at, shows_valid}
+use Rattle.chain_laws.proofs.ChainLemmas.ChainLists.{IsMember-all_items}
 use Rattle.chain_laws.proofs.InsertionLemmas.Chains.{inserted_inserts}
 use Rattle.chain_laws.proofs.TransferLemmas.Source.{items_of}
-use Rattle.chain_laws.proofs.ListLemmas.Ranges.{Has-range, range-Has, HasNoRepetition-range, range_last, in_runs-append, one_run}
+use Rattle.chain_laws.proofs.ListLemmas.Ranges.{IsMember-range, range-IsMember, AreDistinct-range, range_last, in_runs-append, one_run}
 use Rattle.chain_laws.proofs.RenamingLemmas.ChainRuns.{items_in_runs}
 
 -- a chain among others, in either part
@@ -37,83 +37,83 @@ all_items-append [] ds = refl
 all_items-append (c ∷ cs) ds = ap (λ (xs : List ℕ). items c ++ xs) (all_items-append cs ds) ∙ sym (append_assoc (items c) (all_items cs) (all_items ds))
 
 -- the links that are laid ..
-pub items_laid : (done : List Chain) (ring : Bool) (xs : List ℕ) → all_items (with_laid done ring xs) ≡ all_items done ++ xs
+pub items_laid : (done : List Chain) (ring : Bool) (xs : List ℕ) → all_items (with_appended done ring xs) ≡ all_items done ++ xs
 items_laid done ring [] = sym (append-nil (all_items done))
 items_laid done ring (x ∷ xs) =
     all_items-append done (chain_of ring (x ∷ xs) ∷ [])
     ∙ ap (λ (ys : List ℕ). all_items done ++ ys) (append-nil (items (chain_of ring (x ∷ xs))) ∙ items_of ring (x ∷ xs))
 
 -- .. and how many they are
-pub laid-length : (done : List Chain) (ring : Bool) (xs : List ℕ) → length (all_items (with_laid done ring xs)) ≡ length (all_items done) + length xs
+pub laid-length : (done : List Chain) (ring : Bool) (xs : List ℕ) → length (all_items (with_appended done ring xs)) ≡ length (all_items done) + length xs
 laid-length done ring xs = ap length (items_laid done ring xs) ∙ length-append (all_items done) xs
 
 -- a chain between others, with those behind it or with those before it
-pub laid_between : (done : List Chain) (ring : Bool) (xs : List ℕ) (rest : List Chain) → done ++ with_left ring xs rest ≡ with_laid done ring xs ++ rest
+pub laid_between : (done : List Chain) (ring : Bool) (xs : List ℕ) (rest : List Chain) → done ++ with_rest ring xs rest ≡ with_appended done ring xs ++ rest
 laid_between done ring [] rest = refl
 laid_between done ring (x ∷ xs) rest = sym (append_assoc done (chain_of ring (x ∷ xs) ∷ []) rest)
 
 -- the runs that are laid: those of the chains before, and that of the last
 laid_runs : (done : List Chain) (ring : Bool) (x : ℕ) (xs : List ℕ)
-    → in_runs 1 (with_laid done ring (x ∷ xs)) ≡ in_runs 1 done ++ chain_of ring (range_with_len (1 + length (all_items done)) (length (x ∷ xs))) ∷ []
+    → in_runs 1 (with_appended done ring (x ∷ xs)) ≡ in_runs 1 done ++ chain_of ring (range_with_len (1 + length (all_items done)) (length (x ∷ xs))) ∷ []
 laid_runs done ring x xs =
     in_runs-append 1 done (chain_of ring (x ∷ xs) ∷ [])
     ∙ ap (λ (ds : List Chain). in_runs 1 done ++ ds) (one_run (1 + length (all_items done)) ring (x ∷ xs))
 
 filled_laid : (done : List Chain) (ring : Bool) (xs : List ℕ) (x : ℕ)
-    → in_runs 1 (with_laid done ring (xs ++ x ∷ [])) ≡ in_runs 1 done ++ chain_of ring (range_with_len (1 + length (all_items done)) (length xs + 1)) ∷ []
+    → in_runs 1 (with_appended done ring (xs ++ x ∷ [])) ≡ in_runs 1 done ++ chain_of ring (range_with_len (1 + length (all_items done)) (length xs + 1)) ∷ []
 filled_laid done ring [] x = laid_runs done ring x []
 filled_laid done ring (y ∷ xs) x =
     laid_runs done ring y (xs ++ x ∷ [])
     ∙ ap (λ (n : ℕ). in_runs 1 done ++ chain_of ring (range_with_len (1 + length (all_items done)) n) ∷ []) (length-append (y ∷ xs) (x ∷ []))
 
 -- the last link of a run shows what comes after it
-last_next : (shown : Shown) (ring : Bool) (k n : ℕ) → IsChain shown (chain_of ring (range_with_len k (n + 1)))
-    → HasLink shown (k + n) × (next_of shown (k + n) ≡ (if ring then Some k else None))
-last_next shown false k n h =
-    let s = Stands-at shown None (range_with_len k n) [] None (k + n) (subst (λ (zs : List ℕ). IsChain shown (linear zs)) (range_last k n) h).2 in
-    (shows_valid shown (k + n) _ s, ap next_in s)
-last_next shown true k n h =
+last_next : (link_map : LinkMap) (ring : Bool) (k n : ℕ) → IsChain link_map (chain_of ring (range_with_len k (n + 1)))
+    → HasLink link_map (k + n) × (next_of link_map (k + n) ≡ (if ring then Some k else None))
+last_next link_map false k n h =
+    let s = AreLinked-at link_map None (range_with_len k n) [] None (k + n) (subst (λ (zs : List ℕ). IsChain link_map (linear zs)) (range_last k n) h).2 in
+    (shows_valid link_map (k + n) _ s, ap next_in s)
+last_next link_map true k n h =
     let all = range_with_len k n ++ (k + n) ∷ [] in
-    let s = Stands-at shown (last_or all None) (range_with_len k n) [] (first_or all None) (k + n) (subst (λ (zs : List ℕ). IsChain shown (cyclic zs)) (range_last k n) h).2 in
-    (shows_valid shown (k + n) _ s, ap next_in s ∙ sym (ap (λ (zs : List ℕ). first_or zs None) (range_last k n)) ∙ first k n)
+    let s = AreLinked-at link_map (last_or all None) (range_with_len k n) [] (first_or all None) (k + n) (subst (λ (zs : List ℕ). IsChain link_map (cyclic zs)) (range_last k n) h).2 in
+    (shows_valid link_map (k + n) _ s, ap next_in s ∙ sym (ap (λ (zs : List ℕ). first_or zs None) (range_last k n)) ∙ first k n)
   where
     first : (k n : ℕ) → first_or (range_with_len k (n + 1)) None ≡ Some k
     first k n = ap (λ (m : ℕ). first_or (range_with_len k m) None) (let e : n + 1 ≡ suc n = omega arith in e)
 
 -- the run of the last chain, longer by one
-longer_run : (new : Shown) (ring : Bool) (k n a q : ℕ) → a ≡ k + n → q ≡ a + 1 → IsChain new (chain_of ring (range_with_len k n ++ a ∷ q ∷ [])) → IsChain new (chain_of ring (range_with_len k (suc n + 1)))
+longer_run : (new : LinkMap) (ring : Bool) (k n a q : ℕ) → a ≡ k + n → q ≡ a + 1 → IsChain new (chain_of ring (range_with_len k n ++ a ∷ q ∷ [])) → IsChain new (chain_of ring (range_with_len k (suc n + 1)))
 longer_run new ring k n a q last after h =
     subst (λ (zs : List ℕ). IsChain new (chain_of ring zs)) (sym (ap (range_with_len k) (let e : suc n + 1 ≡ (n + 1) + 1 = omega arith in e) ∙ range_last k (n + 1) ∙ ap₂ (λ (zs : List ℕ) (z : ℕ). zs ++ z ∷ []) (range_last k n) (let e : k + (n + 1) ≡ q = omega arith in e)
     ∙ (append_assoc (range_with_len k n) ((k + n) ∷ []) (q ∷ []) ∙ ap (λ (z : ℕ). range_with_len k n ++ z ∷ q ∷ []) (sym last)))) h
 
 -- what the last chain becomes, and that there is a place for the new link
-record IsEnd (shown : Shown) (ring : Bool) (k m q : ℕ) : Type 0 where
-  gap : IsGap shown q (end_before ring m q) (end_after ring m q)
-  longer : (new : Shown) → Inserts shown new q (end_before ring m q) (end_after ring m q) → IsChain new (chain_of ring (range_with_len k (m + 1)))
-  low : (c : Chain) → ((i : ℕ) → Has (items c) i → i < k) → (HasIndex c (end_before ring m q) → ⊥) × (HasIndex c (end_after ring m q) → ⊥)
+record IsEnd (link_map : LinkMap) (ring : Bool) (k m q : ℕ) : Type 0 where
+  gap : IsInsertPosition link_map q (end_before ring m q) (end_after ring m q)
+  longer : (new : LinkMap) → Inserts link_map new q (end_before ring m q) (end_after ring m q) → IsChain new (chain_of ring (range_with_len k (m + 1)))
+  low : (c : Chain) → ((i : ℕ) → IsMember (items c) i → i < k) → (HasIndex c (end_before ring m q) → ⊥) × (HasIndex c (end_after ring m q) → ⊥)
 
 -- a chain begins
-first_end : (shown : Shown) (ring : Bool) (k q : ℕ) → q ≡ k → IsEnd shown ring k 0 q
-first_end shown false k q is = record {
+first_end : (link_map : LinkMap) (ring : Bool) (k q : ℕ) → q ≡ k → IsEnd link_map ring k 0 q
+first_end link_map false k q is = record {
   gap = tt;
   longer = λ new ins. subst (λ (z : ℕ). IsChain new (linear (z ∷ []))) is (ins.alone refl refl);
   low = λ c below. ((λ h. h), (λ h. h));
 }
-first_end shown true k q is = record {
+first_end link_map true k q is = record {
   gap = inr (inr (refl, refl));
   longer = λ new ins. subst (λ (z : ℕ). IsChain new (cyclic (z ∷ []))) is (ins.ring refl refl);
   low = λ c below. ((λ h. above c below h), (λ h. above c below h));
 }
   where
-    above : (c : Chain) → ((i : ℕ) → Has (items c) i → i < k) → Has (items c) q → ⊥
+    above : (c : Chain) → ((i : ℕ) → IsMember (items c) i → i < k) → IsMember (items c) q → ⊥
     above c below h = let l = below q h in omega (arith, l)
 
 -- .. or goes on
-next_end : (shown : Shown) (ring : Bool) (k n q : ℕ) → q ≡ (k + n) + 1 → IsChain shown (chain_of ring (range_with_len k (suc n))) → IsEnd shown ring k (suc n) q
-next_end shown ring k n q is h = by ring (last_next shown ring k n own_run) own_run
+next_end : (link_map : LinkMap) (ring : Bool) (k n q : ℕ) → q ≡ (k + n) + 1 → IsChain link_map (chain_of ring (range_with_len k (suc n))) → IsEnd link_map ring k (suc n) q
+next_end link_map ring k n q is h = by ring (last_next link_map ring k n own_run) own_run
   where
-    own_run : IsChain shown (chain_of ring (range_with_len k (n + 1)))
-    own_run = subst (λ (m : ℕ). IsChain shown (chain_of ring (range_with_len k m))) (let e : suc n ≡ n + 1 = omega arith in e) h
+    own_run : IsChain link_map (chain_of ring (range_with_len k (n + 1)))
+    own_run = subst (λ (m : ℕ). IsChain link_map (chain_of ring (range_with_len k m))) (let e : suc n ≡ n + 1 = omega arith in e) h
 
     last : q - 1 ≡ k + n
     last = omega arith
@@ -124,68 +124,68 @@ next_end shown ring k n q is h = by ring (last_next shown ring k n own_run) own_
     after : q ≡ (q - 1) + 1
     after = omega arith
 
-    above : (c : Chain) → ((i : ℕ) → Has (items c) i → i < k) → (j : ℕ) → k ≤ j → Has (items c) j → ⊥
+    above : (c : Chain) → ((i : ℕ) → IsMember (items c) i → i < k) → (j : ℕ) → k ≤ j → IsMember (items c) j → ⊥
     above c below j high m = let l = below j m in omega (arith, l)
 
-    written : (r : Bool) → IsChain shown (chain_of r (range_with_len k (n + 1))) → IsChain shown (chain_of r (range_with_len k n ++ (q - 1) ∷ []))
-    written r own = subst (λ (zs : List ℕ). IsChain shown (chain_of r zs)) (range_last k n ∙ ap (λ (z : ℕ). range_with_len k n ++ z ∷ []) (sym last)) own
+    written : (r : Bool) → IsChain link_map (chain_of r (range_with_len k (n + 1))) → IsChain link_map (chain_of r (range_with_len k n ++ (q - 1) ∷ []))
+    written r own = subst (λ (zs : List ℕ). IsChain link_map (chain_of r zs)) (range_last k n ∙ ap (λ (z : ℕ). range_with_len k n ++ z ∷ []) (sym last)) own
 
-    by : (r : Bool) → HasLink shown (k + n) × (next_of shown (k + n) ≡ (if r then Some k else None)) → IsChain shown (chain_of r (range_with_len k (n + 1))) → IsEnd shown r k (suc n) q
+    by : (r : Bool) → HasLink link_map (k + n) × (next_of link_map (k + n) ≡ (if r then Some k else None)) → IsChain link_map (chain_of r (range_with_len k (n + 1))) → IsEnd link_map r k (suc n) q
     by false (valid, next) own = record {
-      gap = (subst (HasLink shown) (sym last) valid, ap (next_of shown) last ∙ next);
-      longer = λ new ins. longer_run new false k n (q - 1) q last after ((ins.after (q - 1) refl (sym (ap (next_of shown) last ∙ next)) (range_with_len k n) []).0 (written false own));
+      gap = (subst (HasLink link_map) (sym last) valid, ap (next_of link_map) last ∙ next);
+      longer = λ new ins. longer_run new false k n (q - 1) q last after ((ins.after (q - 1) refl (sym (ap (next_of link_map) last ∙ next)) (range_with_len k n) []).0 (written false own));
       low = λ c below. ((λ m. above c below (q - 1) (omega arith) m), (λ m. m));
     }
     by true (valid, next) own =
-        let round : next_of shown (q - 1) ≡ Some (q - suc n) = ap (next_of shown) last ∙ (next ∙ ap (λ (z : ℕ). Some z) (sym first)) in
+        let round : next_of link_map (q - 1) ≡ Some (q - suc n) = ap (next_of link_map) last ∙ (next ∙ ap (λ (z : ℕ). Some z) (sym first)) in
         record {
           gap = inl round;
           longer = λ new ins. longer_run new true k n (q - 1) q last after ((ins.after (q - 1) refl (sym round) (range_with_len k n) []).1 (written true own));
           low = λ c below. ((λ m. above c below (q - 1) (omega arith) m), (λ m. above c below (q - suc n) (omega arith) m));
         }
 
-module _ (shown : Shown) (done : List Chain) (ring : Bool) (xs : List ℕ) (x q : ℕ) (are : AreChains shown (in_runs 1 (with_laid done ring xs))) (is : q ≡ length (all_items done) + length xs + 1) where
+module _ (link_map : LinkMap) (done : List Chain) (ring : Bool) (xs : List ℕ) (x q : ℕ) (are : AreChains link_map (in_runs 1 (with_appended done ring xs))) (is : q ≡ length (all_items done) + length xs + 1) where
   -- the indexes before q are those of the links
-  laid : all_items (in_runs 1 (with_laid done ring xs)) ≡ range_with_len 1 (length (all_items done) + length xs)
-  laid = items_in_runs 1 (with_laid done ring xs) ∙ ap (range_with_len 1) (laid-length done ring xs)
+  laid : all_items (in_runs 1 (with_appended done ring xs)) ≡ range_with_len 1 (length (all_items done) + length xs)
+  laid = items_in_runs 1 (with_appended done ring xs) ∙ ap (range_with_len 1) (laid-length done ring xs)
 
-  before_q : (i : ℕ) → HasLink shown i → (1 ≤ i) × (i < q)
-  before_q i v = let w = Has-range 1 (length (all_items done) + length xs) i (subst (λ (zs : List ℕ). Has zs i) laid (are.all i v)) in (w.0, omega (arith, w.1, is))
+  before_q : (i : ℕ) → HasLink link_map i → (1 ≤ i) × (i < q)
+  before_q i v = let w = IsMember-range 1 (length (all_items done) + length xs) i (subst (λ (zs : List ℕ). IsMember zs i) laid (are.all i v)) in (w.0, omega (arith, w.1, is))
 
-  free : shown q ≡ None
-  free = by (shown q) refl
+  free : link_map q ≡ None
+  free = by (link_map q) refl
     where
-      by : (o : Option _) → shown q ≡ o → o ≡ None
+      by : (o : Option _) → link_map q ≡ o → o ≡ None
       by None e = refl
-      by (Some l) e = let w = before_q q (shows_valid shown q l e) in absurd (omega (arith, w.1))
+      by (Some l) e = let w = before_q q (shows_valid link_map q l e) in absurd (omega (arith, w.1))
 
-  below : (c : Chain) → HasChain (in_runs 1 done) c → (i : ℕ) → Has (items c) i → i < 1 + length (all_items done)
+  below : (c : Chain) → HasChain (in_runs 1 done) c → (i : ℕ) → IsMember (items c) i → i < 1 + length (all_items done)
   below c h i m =
-      let w = Has-range 1 (length (all_items done)) i (subst (λ (zs : List ℕ). Has zs i) (items_in_runs 1 done) (Has-all_items (in_runs 1 done) c i h m)) in
+      let w = IsMember-range 1 (length (all_items done)) i (subst (λ (zs : List ℕ). IsMember zs i) (items_in_runs 1 done) (IsMember-all_items (in_runs 1 done) c i h m)) in
       omega (arith, w.1)
 
-  old_chain : (ys : List ℕ) → xs ≡ ys → (c : Chain) → HasChain (in_runs 1 done) c → IsChain shown c
-  old_chain [] e c h = are.each c (subst (λ (zs : List ℕ). HasChain (in_runs 1 (with_laid done ring zs)) c) (sym e) h)
+  old_chain : (ys : List ℕ) → xs ≡ ys → (c : Chain) → HasChain (in_runs 1 done) c → IsChain link_map c
+  old_chain [] e c h = are.each c (subst (λ (zs : List ℕ). HasChain (in_runs 1 (with_appended done ring zs)) c) (sym e) h)
   old_chain (y ∷ ys) e c h =
-      are.each c (subst (λ (zs : List ℕ). HasChain (in_runs 1 (with_laid done ring zs)) c) (sym e)
+      are.each c (subst (λ (zs : List ℕ). HasChain (in_runs 1 (with_appended done ring zs)) c) (sym e)
       (subst (λ (cs : List Chain). HasChain cs c) (sym (laid_runs done ring y ys)) (chain-left (in_runs 1 done) _ c h)))
 
-  end : (ys : List ℕ) → xs ≡ ys → IsEnd shown ring (1 + length (all_items done)) (length ys) q
-  end [] e = let long : length xs ≡ 0 = ap length e in first_end shown ring (1 + length (all_items done)) q (omega arith)
+  end : (ys : List ℕ) → xs ≡ ys → IsEnd link_map ring (1 + length (all_items done)) (length ys) q
+  end [] e = let long : length xs ≡ 0 = ap length e in first_end link_map ring (1 + length (all_items done)) q (omega arith)
   end (y ∷ ys) e =
       let run = chain_of ring (range_with_len (1 + length (all_items done)) (length (y ∷ ys))) in
       let long : length xs ≡ suc (length ys) = ap length e in
-      next_end shown ring (1 + length (all_items done)) (length ys) q (omega arith)
-      (are.each run (subst (λ (zs : List ℕ). HasChain (in_runs 1 (with_laid done ring zs)) run) (sym e)
+      next_end link_map ring (1 + length (all_items done)) (length ys) q (omega arith)
+      (are.each run (subst (λ (zs : List ℕ). HasChain (in_runs 1 (with_appended done ring zs)) run) (sym e)
       (subst (λ (cs : List Chain). HasChain cs run) (sym (laid_runs done ring y ys)) (chain-right (in_runs 1 done) (run ∷ []) run (inl refl)))))
 
-  abbrev new : Shown
-  new = inserted shown q (end_before ring (length xs) q) (end_after ring (length xs) q)
+  abbrev new : LinkMap
+  new = inserted link_map q (end_before ring (length xs) q) (end_after ring (length xs) q)
 
-  ins : Inserts shown new q (end_before ring (length xs) q) (end_after ring (length xs) q)
-  ins = inserted_inserts shown q (end_before ring (length xs) q) (end_after ring (length xs) q) free
+  ins : Inserts link_map new q (end_before ring (length xs) q) (end_after ring (length xs) q)
+  ins = inserted_inserts link_map q (end_before ring (length xs) q) (end_after ring (length xs) q) free
 
-  each : (c : Chain) → HasChain (in_runs 1 (with_laid done ring (xs ++ x ∷ []))) c → IsChain new c
+  each : (c : Chain) → HasChain (in_runs 1 (with_appended done ring (xs ++ x ∷ []))) c → IsChain new c
   each c h = by (chain-parts (in_runs 1 done) (chain_of ring (range_with_len (1 + length (all_items done)) (length xs + 1)) ∷ []) c (subst (λ (cs : List Chain). HasChain cs c) (filled_laid done ring xs x) h))
     where
       by : HasChain (in_runs 1 done) c ⊎ HasChain (chain_of ring (range_with_len (1 + length (all_items done)) (length xs + 1)) ∷ []) c → IsChain new c
@@ -195,22 +195,22 @@ module _ (shown : Shown) (done : List Chain) (ring : Bool) (xs : List ℕ) (x q 
       by (inr (inl e)) = subst (IsChain new) e ((end xs refl).longer new ins)
       by (inr (inr m)) = absurd m
 
-  all : (i : ℕ) → HasLink new i → Has (all_items (in_runs 1 (with_laid done ring (xs ++ x ∷ [])))) i
-  all i v = subst (λ (zs : List ℕ). Has zs i) (sym now_laid) (by ((ins.links i).0 v))
+  all : (i : ℕ) → HasLink new i → IsMember (all_items (in_runs 1 (with_appended done ring (xs ++ x ∷ [])))) i
+  all i v = subst (λ (zs : List ℕ). IsMember zs i) (sym now_laid) (by ((ins.links i).0 v))
     where
-      now_laid : all_items (in_runs 1 (with_laid done ring (xs ++ x ∷ []))) ≡ range_with_len 1 q
-      now_laid = items_in_runs 1 (with_laid done ring (xs ++ x ∷ [])) ∙ ap (range_with_len 1) (laid-length done ring (xs ++ x ∷ []) ∙ (let e : length (xs ++ x ∷ []) ≡ length xs + 1 = length-append xs (x ∷ []) in omega arith))
+      now_laid : all_items (in_runs 1 (with_appended done ring (xs ++ x ∷ []))) ≡ range_with_len 1 q
+      now_laid = items_in_runs 1 (with_appended done ring (xs ++ x ∷ [])) ∙ ap (range_with_len 1) (laid-length done ring (xs ++ x ∷ []) ∙ (let e : length (xs ++ x ∷ []) ≡ length xs + 1 = length-append xs (x ∷ []) in omega arith))
 
-      by : HasLink shown i ⊎ (i ≡ q) → Has (range_with_len 1 q) i
-      by (inl w) = let b = before_q i w in range-Has 1 q i b.0 (omega (arith, b.1))
-      by (inr e) = range-Has 1 q i (omega arith) (omega arith)
+      by : HasLink link_map i ⊎ (i ≡ q) → IsMember (range_with_len 1 q) i
+      by (inl w) = let b = before_q i w in range-IsMember 1 q i b.0 (omega (arith, b.1))
+      by (inr e) = range-IsMember 1 q i (omega arith) (omega arith)
 
-  once : HasNoRepetition (all_items (in_runs 1 (with_laid done ring (xs ++ x ∷ []))))
-  once = subst HasNoRepetition (sym (items_in_runs 1 (with_laid done ring (xs ++ x ∷ [])))) (HasNoRepetition-range 1 _)
+  once : AreDistinct (all_items (in_runs 1 (with_appended done ring (xs ++ x ∷ []))))
+  once = subst AreDistinct (sym (items_in_runs 1 (with_appended done ring (xs ++ x ∷ [])))) (AreDistinct-range 1 _)
 
-pub last_is_laid : LastIsLaid
-last_is_laid shown done ring xs x q are is = (
-  free shown done ring xs x q are is,
-  (end shown done ring xs x q are is xs refl).gap,
-  record { each = each shown done ring xs x q are is; once = once shown done ring xs x q are is; all = all shown done ring xs x q are is },
+pub last_is_laid : LastIsAppended
+last_is_laid link_map done ring xs x q are is = (
+  free link_map done ring xs x q are is,
+  (end link_map done ring xs x q are is xs refl).gap,
+  record { each = each link_map done ring xs x q are is; once = once link_map done ring xs x q are is; all = all link_map done ring xs x q are is },
 )

@@ -1,30 +1,30 @@
 -- Worked rows: cuts in linear chains and in cycles. Each is computed.
 use Rattle.std.specs.Prelude.{◌≡◌, None, Some}
 use Rattle.std.proofs.Common.{refl}
-use Rattle.chain_laws.specs.Chains.{Shown}
+use Rattle.chain_laws.specs.Chains.{LinkMap}
 use Rattle.chain_laws.specs.Joins.{prev_set, next_set, joined, with_lone}
 use Rattle.chain_laws.specs.Cuts.{cut}
 use Rattle.chain_laws.proofs.ChainLemmas.LinkedLists.{link}
 
 -- nothing stands anywhere
-abbrev bare : Shown
+abbrev bare : LinkMap
 bare i = None
 
 -- the lone links 1, 2 and 3
-abbrev lone : Shown
+abbrev lone : LinkMap
 lone = with_lone (with_lone (with_lone bare 1) 2) 3
 
 -- the linear chain 1 2 3
-abbrev three : Shown
+abbrev three : LinkMap
 three = joined (joined lone 1 2) 2 3
 
 -- the cyclic chain 1 2 3
-abbrev ring : Shown
+abbrev ring : LinkMap
 ring = joined three 3 1
 
 -- a cut is two writes
-cut_in_two_writes : (shown : Shown) → cut shown 1 2 ≡ prev_set (next_set shown (Some 1) None) (Some 2) None
-cut_in_two_writes shown = refl
+cut_in_two_writes : (link_map : LinkMap) → cut link_map 1 2 ≡ prev_set (next_set link_map (Some 1) None) (Some 2) None
+cut_in_two_writes link_map = refl
 
 -- a linear chain, cut after its start: the start is alone
 start_alone : cut three 1 2 1 ≡ Some (link None None)

@@ -1,13 +1,13 @@
 -- The definitions on small worked examples, by computing.
 use Rattle.std.proofs.Common.{◌≡◌, ℕ, ◌<◌, ◌≤◌, Bool, true, false, ◌==◌, if◌then◌else◌, inl, inr, List, [], ◌∷◌, ◌++◌, None, Some, refl, sym, ap, subst, eqb-true, arith}
-use Rattle.chain_laws.specs.Chains.{Shown, Interlinks, HasLink, HasLinksWithin, Agrees, Has, Chain, linear, cyclic, prev_in, next_in, prev_of, next_of, IsChain, HasChain, all_items, AreChains, IsWritten, Rises, IsInOrder}
-use Rattle.chain_laws.specs.Neighbors.{IsBeside, AreNeighborsIn, AreSameButTurned, AreTheChains}
+use Rattle.chain_laws.specs.Chains.{LinkMap, Interlinks, HasLink, HasLinksWithin, IsWellLinked, IsMember, Chain, linear, cyclic, prev_in, next_in, prev_of, next_of, IsChain, HasChain, all_items, AreChains, StartsAtLeast, IsSortedByLeast, IsInOrder}
+use Rattle.chain_laws.specs.Neighbors.{IsBeside, AreNeighborsIn, IsRotation, AreTheChains}
 use Rattle.chain_laws.proofs.ChainLemmas.LinkedLists.{link}
 use Rattle.chain_laws.proofs.ChainLemmas.NeighborPairs.{partitions, interlinks, agrees_from_chains}
 use Rattle.chain_laws.proofs.ChainLemmas.Partitions.{no_others}
 
 -- an arena in rows: each has an index, the one before it and the one after it
-abbrev rows : List (ℕ × Interlinks) → Shown
+abbrev rows : List (ℕ × Interlinks) → LinkMap
 rows [] i = None
 rows (r ∷ rs) i = if i == r.0 then Some r.1 else rows rs i
 
@@ -16,11 +16,11 @@ indexes [] = []
 indexes (r ∷ rs) = r.0 ∷ indexes rs
 
 -- what is valid has a row
-rows_valid : (rs : List (ℕ × Interlinks)) (i : ℕ) → HasLink (rows rs) i → Has (indexes rs) i
+rows_valid : (rs : List (ℕ × Interlinks)) (i : ℕ) → HasLink (rows rs) i → IsMember (indexes rs) i
 rows_valid [] i v = let shows : None ≡ Some v.link = v.shows in absurd (cc)
 rows_valid (r ∷ rs) i v = by_test (i == r.0) refl v.shows (λ e. rows_valid rs i (record { link = v.link; shows = e }))
   where
-    by_test : (b : Bool) → (i == r.0) ≡ b → (if b then Some r.1 else rows rs i) ≡ Some v.link → (rows rs i ≡ Some v.link → Has (indexes rs) i) → Has (r.0 ∷ indexes rs) i
+    by_test : (b : Bool) → (i == r.0) ≡ b → (if b then Some r.1 else rows rs i) ≡ Some v.link → (rows rs i ≡ Some v.link → IsMember (indexes rs) i) → IsMember (r.0 ∷ indexes rs) i
     by_test true is e rest = inl (sym (eqb-true i r.0 is))
     by_test false is e rest = inr (rest e)
 
@@ -61,7 +61,7 @@ three_free = refl
 three_linear : IsChain (rows three) (linear (1 ∷ 2 ∷ []))
 three_linear = ((λ e. cc), (two_apart, ((λ h. h), tt)), (refl, (refl, tt)))
   where
-    two_apart : Has (2 ∷ []) 1 → ⊥
+    two_apart : IsMember (2 ∷ []) 1 → ⊥
     two_apart (inl e) = omega arith
     two_apart (inr h) = h
 
@@ -82,11 +82,11 @@ three_not_cyclic : IsChain (rows three) (cyclic (1 ∷ 2 ∷ [])) → ⊥
 three_not_cyclic h = let shows : prev_of (rows three) 1 ≡ Some 2 = ap prev_in h.2.0 in cc
 
 -- no chain is empty
-no_empty_chain : (shown : Shown) → IsChain shown (linear []) → ⊥
-no_empty_chain shown h = h.0 refl
+no_empty_chain : (link_map : LinkMap) → IsChain link_map (linear []) → ⊥
+no_empty_chain link_map h = h.0 refl
 
 -- three is not two
-three_is_apart : Has (3 ∷ []) 2 → ⊥
+three_is_apart : IsMember (3 ∷ []) 2 → ⊥
 three_is_apart (inl e) = omega arith
 three_is_apart (inr h) = h
 
@@ -97,18 +97,18 @@ ring_from_two = ((λ e. cc), (three_is_apart, ((λ h. h), tt)), (refl, (refl, tt
 ring_from_three : IsChain (rows ring) (cyclic (3 ∷ 2 ∷ []))
 ring_from_three = ((λ e. cc), (apart, ((λ h. h), tt)), (refl, (refl, tt)))
   where
-    apart : Has (2 ∷ []) 3 → ⊥
+    apart : IsMember (2 ∷ []) 3 → ⊥
     apart (inl e) = omega arith
     apart (inr h) = h
 
 -- .. and is written from the least
-ring_written : IsWritten (cyclic (2 ∷ 3 ∷ []))
+ring_written : StartsAtLeast (cyclic (2 ∷ 3 ∷ []))
 ring_written = (omega arith, tt)
 
-ring_not_written : IsWritten (cyclic (3 ∷ 2 ∷ [])) → ⊥
+ring_not_written : StartsAtLeast (cyclic (3 ∷ 2 ∷ [])) → ⊥
 ring_not_written w = let high : 3 ≤ 2 = w.0 in omega arith
 
-ring_turned : AreSameButTurned (cyclic (3 ∷ 2 ∷ [])) (cyclic (2 ∷ 3 ∷ []))
+ring_turned : IsRotation (cyclic (3 ∷ 2 ∷ [])) (cyclic (2 ∷ 3 ∷ []))
 ring_turned = (3 ∷ [], 2 ∷ [], refl, refl)
 
 -- neighbours in a list, and in a ring from the last to the first
@@ -136,18 +136,18 @@ not_beside b = by_before b.0 b.1 b.2
 three_items : all_items (linear (1 ∷ 2 ∷ []) ∷ cyclic (3 ∷ []) ∷ []) ≡ 1 ∷ 2 ∷ 3 ∷ []
 three_items = refl
 
-crossed_rises : Rises (linear (4 ∷ 1 ∷ []) ∷ linear (3 ∷ 2 ∷ []) ∷ [])
+crossed_rises : IsSortedByLeast (linear (4 ∷ 1 ∷ []) ∷ linear (3 ∷ 2 ∷ []) ∷ [])
 crossed_rises = ((1, inr (inl refl), above), ((2, inr (inl refl), λ y h. absurd h), tt))
   where
-    above : (y : ℕ) → Has (3 ∷ 2 ∷ []) y → 1 < y
+    above : (y : ℕ) → IsMember (3 ∷ 2 ∷ []) y → 1 < y
     above y (inl e) = let is : 3 ≡ y = e in omega arith
     above y (inr (inl e)) = let is : 2 ≡ y = e in omega arith
     above y (inr (inr h)) = absurd h
 
-crossed_not_rises : Rises (linear (3 ∷ 2 ∷ []) ∷ linear (4 ∷ 1 ∷ []) ∷ []) → ⊥
+crossed_not_rises : IsSortedByLeast (linear (3 ∷ 2 ∷ []) ∷ linear (4 ∷ 1 ∷ []) ∷ []) → ⊥
 crossed_not_rises r = by_member r.0.0 r.0.1 (r.0.2 1 (inr (inl refl)))
   where
-    by_member : (m : ℕ) → Has (3 ∷ 2 ∷ []) m → m < 1 → ⊥
+    by_member : (m : ℕ) → IsMember (3 ∷ 2 ∷ []) m → m < 1 → ⊥
     by_member m (inl e) l = let is : 3 ≡ m = e in omega arith
     by_member m (inr (inl e)) l = let is : 2 ≡ m = e in omega arith
     by_member m (inr (inr h)) l = h
@@ -165,7 +165,7 @@ three_chains = record {
     each c (inr (inl e)) = subst (IsChain (rows three)) e three_cyclic
     each c (inr (inr h)) = absurd h
 
-    apart : Has (2 ∷ 3 ∷ []) 1 → ⊥
+    apart : IsMember (2 ∷ 3 ∷ []) 1 → ⊥
     apart (inl e) = omega arith
     apart (inr (inl e)) = omega arith
     apart (inr (inr h)) = h
@@ -173,12 +173,12 @@ three_chains = record {
 three_in_order : IsInOrder (linear (1 ∷ 2 ∷ []) ∷ cyclic (3 ∷ []) ∷ [])
 three_in_order = record { written = written; rises = ((1, inl refl, above), ((3, inl refl, λ y h. absurd h), tt)) }
   where
-    written : (c : Chain) → HasChain (linear (1 ∷ 2 ∷ []) ∷ cyclic (3 ∷ []) ∷ []) c → IsWritten c
-    written c (inl e) = subst IsWritten e tt
-    written c (inr (inl e)) = subst IsWritten e tt
+    written : (c : Chain) → HasChain (linear (1 ∷ 2 ∷ []) ∷ cyclic (3 ∷ []) ∷ []) c → StartsAtLeast c
+    written c (inl e) = subst StartsAtLeast e tt
+    written c (inr (inl e)) = subst StartsAtLeast e tt
     written c (inr (inr h)) = absurd h
 
-    above : (y : ℕ) → Has (3 ∷ []) y → 1 < y
+    above : (y : ℕ) → IsMember (3 ∷ []) y → 1 < y
     above y (inl e) = let is : 3 ≡ y = e in omega arith
     above y (inr h) = absurd h
 
@@ -189,23 +189,23 @@ three_only : (chains : List Chain) → AreTheChains (rows three) chains → chai
 three_only chains are = no_others (rows three) chains _ are three_the_chains
 
 -- the rows agree, and stand within three slots
-three_agrees : Agrees (rows three)
+three_agrees : IsWellLinked (rows three)
 three_agrees = agrees_from_chains (rows three) _ three_chains
 
 three_within : HasLinksWithin (rows three) 3
 three_within = record { within = λ i v. by_row i (rows_valid three i v) }
   where
-    by_row : (i : ℕ) → Has (1 ∷ 2 ∷ 3 ∷ []) i → (1 ≤ i) × (i ≤ 3)
+    by_row : (i : ℕ) → IsMember (1 ∷ 2 ∷ 3 ∷ []) i → (1 ≤ i) × (i ≤ 3)
     by_row i (inl e) = let is : 1 ≡ i = e in omega arith
     by_row i (inr (inl e)) = let is : 2 ≡ i = e in omega arith
     by_row i (inr (inr (inl e))) = let is : 3 ≡ i = e in omega arith
     by_row i (inr (inr (inr h))) = absurd h
 
 -- rows of which one names another and is not named do not agree, nor do rows that name an index without a link
-broken_disagrees : Agrees (rows broken) → ⊥
+broken_disagrees : IsWellLinked (rows broken) → ⊥
 broken_disagrees agrees = let back : prev_of (rows broken) 2 ≡ Some 1 = (agrees.both 1 2).0 refl in cc
 
-stray_disagrees : Agrees (rows stray) → ⊥
+stray_disagrees : IsWellLinked (rows stray) → ⊥
 stray_disagrees agrees = let back : prev_of (rows stray) 2 ≡ Some 1 = (agrees.both 1 2).0 refl in cc
 
 -- an arena without links has no chain

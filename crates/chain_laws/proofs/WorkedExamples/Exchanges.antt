@@ -1,60 +1,60 @@
 -- Worked rows: exchanges in linear chains and in cycles. Each is computed, link by link.
 use Rattle.std.specs.Prelude.{◌≡◌, ℕ, List, [], ◌∷◌, None, Some}
 use Rattle.std.proofs.Common.{refl}
-use Rattle.chain_laws.specs.Chains.{Shown, Stands, first_or, last_or, next_of}
+use Rattle.chain_laws.specs.Chains.{LinkMap, AreLinked, first_or, last_or, next_of}
 use Rattle.chain_laws.specs.Joins.{prev_set, next_set, joined, with_lone}
 use Rattle.chain_laws.specs.Exchanges.{exchanged}
 use Rattle.chain_laws.proofs.ChainLemmas.LinkedLists.{link}
 
 -- nothing stands anywhere
-abbrev bare : Shown
+abbrev bare : LinkMap
 bare i = None
 
 -- the lone links 1 to 5
-abbrev lone : Shown
+abbrev lone : LinkMap
 lone = with_lone (with_lone (with_lone (with_lone (with_lone bare 1) 2) 3) 4) 5
 
 -- the linear chain 1 2 3, and the lone links 4 and 5
-abbrev three : Shown
+abbrev three : LinkMap
 three = joined (joined lone 1 2) 2 3
 
 -- the linear chain 1 2 3 4, and the lone link 5
-abbrev four : Shown
+abbrev four : LinkMap
 four = joined three 3 4
 
 -- the linear chains 1 2 3 and 4 5
-abbrev three_and_two : Shown
+abbrev three_and_two : LinkMap
 three_and_two = joined three 4 5
 
 -- the linear chain 1 2 3 and the cyclic chain 4 5
-abbrev three_and_ring : Shown
+abbrev three_and_ring : LinkMap
 three_and_ring = joined three_and_two 5 4
 
 -- the cyclic chains 1 2 3 and 4 5
-abbrev two_rings : Shown
+abbrev two_rings : LinkMap
 two_rings = joined three_and_ring 3 1
 
 -- the cyclic chain 1 2 3 4 5 6
-abbrev ring_of_six : Shown
+abbrev ring_of_six : LinkMap
 ring_of_six = joined (joined (joined (with_lone four 6) 4 5) 5 6) 6 1
 
 -- 1 and 2, each alone in a ring
-abbrev rings_of_one : Shown
+abbrev rings_of_one : LinkMap
 rings_of_one = joined (joined lone 1 1) 2 2
 
 -- the items stand as a linear chain ..
-abbrev StandsInLine : Shown → List ℕ → Type 0
-StandsInLine shown xs = Stands shown None xs None
+abbrev StandsInLine : LinkMap → List ℕ → Type 0
+StandsInLine link_map xs = AreLinked link_map None xs None
 
 -- .. or as a cyclic one
-abbrev StandsInRing : Shown → List ℕ → Type 0
-StandsInRing shown xs = Stands shown (last_or xs None) xs (first_or xs None)
+abbrev StandsInRing : LinkMap → List ℕ → Type 0
+StandsInRing link_map xs = AreLinked link_map (last_or xs None) xs (first_or xs None)
 
 -- an exchange is four writes
-exchanged_in_four_writes : (shown : Shown) (p q : ℕ)
-    → exchanged shown p q
-    ≡ prev_set (next_set (prev_set (next_set shown (Some p) (next_of shown q)) (next_of shown q) (Some p)) (Some q) (next_of shown p)) (next_of shown p) (Some q)
-exchanged_in_four_writes shown p q = refl
+exchanged_in_four_writes : (link_map : LinkMap) (p q : ℕ)
+    → exchanged link_map p q
+    ≡ prev_set (next_set (prev_set (next_set link_map (Some p) (next_of link_map q)) (next_of link_map q) (Some p)) (Some q) (next_of link_map p)) (next_of link_map p) (Some q)
+exchanged_in_four_writes link_map p q = refl
 
 -- two links of a cycle: it goes on past what stood between them ..
 six_with_first : StandsInRing (exchanged ring_of_six 2 5) (1 ∷ 2 ∷ 6 ∷ [])

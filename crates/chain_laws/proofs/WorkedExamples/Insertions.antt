@@ -1,45 +1,45 @@
 -- Worked rows: insertions of each kind. Each is computed.
 use Rattle.std.specs.Prelude.{◌≡◌, None, Some}
 use Rattle.std.proofs.Common.{refl}
-use Rattle.chain_laws.specs.Chains.{Shown}
+use Rattle.chain_laws.specs.Chains.{LinkMap}
 use Rattle.chain_laws.specs.Joins.{prev_set, next_set, joined, with_lone}
 use Rattle.chain_laws.specs.Removals.{removed}
 use Rattle.chain_laws.specs.Insertions.{disconnected, single_link_cyclic, chain_end, chain_start, next_to, prev_to, at_interlink, bridge, inserted, inserted_as}
 use Rattle.chain_laws.proofs.ChainLemmas.LinkedLists.{link}
 
 -- nothing stands anywhere
-abbrev bare : Shown
+abbrev bare : LinkMap
 bare i = None
 
 -- the lone links 1, 2 and 3
-abbrev lone : Shown
+abbrev lone : LinkMap
 lone = with_lone (with_lone (with_lone bare 1) 2) 3
 
 -- the linear chain 1 2, and the lone link 3
-abbrev two_and_lone : Shown
+abbrev two_and_lone : LinkMap
 two_and_lone = joined lone 1 2
 
 -- the linear chain 1 2 3
-abbrev three : Shown
+abbrev three : LinkMap
 three = joined two_and_lone 2 3
 
 -- the cyclic chain 1 2 3
-abbrev ring : Shown
+abbrev ring : LinkMap
 ring = joined three 3 1
 
 -- the cyclic chain 1 2, and the lone link 3
-abbrev ring_of_two : Shown
+abbrev ring_of_two : LinkMap
 ring_of_two = joined two_and_lone 2 1
 
 -- 2 alone in a ring, and the lone links 1 and 3
-abbrev ring_of_one : Shown
+abbrev ring_of_one : LinkMap
 ring_of_one = joined lone 2 2
 
 -- an insertion is a lone link and four writes
-inserted_in_four_writes : (shown : Shown)
-    → inserted shown 7 (Some 1) (Some 2)
-    ≡ prev_set (next_set (prev_set (next_set (with_lone shown 7) (Some 1) (Some 7)) (Some 7) (Some 1)) (Some 7) (Some 2)) (Some 2) (Some 7)
-inserted_in_four_writes shown = refl
+inserted_in_four_writes : (link_map : LinkMap)
+    → inserted link_map 7 (Some 1) (Some 2)
+    ≡ prev_set (next_set (prev_set (next_set (with_lone link_map 7) (Some 1) (Some 7)) (Some 7) (Some 1)) (Some 7) (Some 2)) (Some 2) (Some 7)
+inserted_in_four_writes link_map = refl
 
 -- a new link that stands alone names no other
 alone_new : inserted_as three disconnected 7 7 ≡ Some (link None None)

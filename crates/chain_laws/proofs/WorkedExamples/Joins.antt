@@ -1,33 +1,33 @@
 -- Worked rows: joins, and walks as a walker passes them. Each is computed.
 use Rattle.std.specs.Prelude.{◌≡◌, [], ◌∷◌, None, Some}
 use Rattle.std.proofs.Common.{refl, inl, inr, arith}
-use Rattle.chain_laws.specs.Chains.{Shown, IsChain, linear, cyclic, prev_of}
+use Rattle.chain_laws.specs.Chains.{LinkMap, IsChain, linear, cyclic, prev_of}
 use Rattle.chain_laws.specs.Joins.{joined, linked, with_lone}
 use Rattle.chain_laws.specs.Walks.{IsWalk, there_and_back, round, walk_ahead}
 use Rattle.chain_laws.proofs.ChainLemmas.LinkedLists.{link, first_no_repetition}
 
 -- nothing stands anywhere
-abbrev bare : Shown
+abbrev bare : LinkMap
 bare i = None
 
 -- two lone links, 1 and 2
-abbrev two_lone : Shown
+abbrev two_lone : LinkMap
 two_lone = with_lone (with_lone bare 1) 2
 
 -- the linear chain 1 2, and the lone link 3
-abbrev pair_and_lone : Shown
+abbrev pair_and_lone : LinkMap
 pair_and_lone = with_lone (joined two_lone 1 2) 3
 
 -- the linear chain 1 2 3
-abbrev three : Shown
+abbrev three : LinkMap
 three = joined pair_and_lone 2 3
 
 -- the cyclic chain 1 2 3
-abbrev ring : Shown
+abbrev ring : LinkMap
 ring = joined three 3 1
 
 -- the linear chain 4 2 9 7
-abbrev four : Shown
+abbrev four : LinkMap
 four = joined (joined (joined (with_lone (with_lone (with_lone (with_lone bare 2) 4) 7) 9) 4 2) 9 7) 2 9
 
 -- two lone links, joined: the first
@@ -99,13 +99,13 @@ walker_in_a_cycle_of_one : walk_ahead 3 (joined two_lone 1 1) 1 (Some 1) (prev_o
 walker_in_a_cycle_of_one = refl
 
 -- the walk from the second link of a linear chain 4 2 9 7
-walk_from_second : (shown : Shown) → IsChain shown (linear (4 ∷ 2 ∷ 9 ∷ 7 ∷ [])) → IsWalk shown 2 (2 ∷ 9 ∷ 7 ∷ 4 ∷ [])
-walk_from_second shown chain = there_and_back (4 ∷ []) (9 ∷ 7 ∷ []) chain
+walk_from_second : (link_map : LinkMap) → IsChain link_map (linear (4 ∷ 2 ∷ 9 ∷ 7 ∷ [])) → IsWalk link_map 2 (2 ∷ 9 ∷ 7 ∷ 4 ∷ [])
+walk_from_second link_map chain = there_and_back (4 ∷ []) (9 ∷ 7 ∷ []) chain
 
 -- .. and from its end
-walk_from_end : (shown : Shown) → IsChain shown (linear (4 ∷ 2 ∷ 9 ∷ 7 ∷ [])) → IsWalk shown 7 (7 ∷ 9 ∷ 2 ∷ 4 ∷ [])
-walk_from_end shown chain = there_and_back (4 ∷ 2 ∷ 9 ∷ []) [] chain
+walk_from_end : (link_map : LinkMap) → IsChain link_map (linear (4 ∷ 2 ∷ 9 ∷ 7 ∷ [])) → IsWalk link_map 7 (7 ∷ 9 ∷ 2 ∷ 4 ∷ [])
+walk_from_end link_map chain = there_and_back (4 ∷ 2 ∷ 9 ∷ []) [] chain
 
 -- the walk from the second link of a cyclic chain 1 2 3
-walk_in_a_cycle : (shown : Shown) → IsChain shown (cyclic (2 ∷ 3 ∷ 1 ∷ [])) → IsWalk shown 2 (2 ∷ 3 ∷ 1 ∷ [])
-walk_in_a_cycle shown chain = round (3 ∷ 1 ∷ []) chain
+walk_in_a_cycle : (link_map : LinkMap) → IsChain link_map (cyclic (2 ∷ 3 ∷ 1 ∷ [])) → IsWalk link_map 2 (2 ∷ 3 ∷ 1 ∷ [])
+walk_in_a_cycle link_map chain = round (3 ∷ 1 ∷ []) chain

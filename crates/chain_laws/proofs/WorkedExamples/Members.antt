@@ -1,7 +1,7 @@
 -- Worked rows: what an arena shows beside a link, and that the laws of members and of other chains need what they ask. Each is computed.
 use Rattle.std.specs.Prelude.{◌≡◌, [], ◌∷◌, None, Some}
 use Rattle.std.proofs.Common.{refl, ap, inl, inr, arith}
-use Rattle.chain_laws.specs.Chains.{Shown, IsChain, linear, cyclic, Has, next_in, next_of}
+use Rattle.chain_laws.specs.Chains.{LinkMap, IsChain, linear, cyclic, IsMember, next_in, next_of}
 use Rattle.chain_laws.specs.Neighbors.{AreNeighbors}
 use Rattle.chain_laws.specs.Joins.{joined, next_set, with_lone}
 use Rattle.chain_laws.specs.Cuts.{cut}
@@ -12,26 +12,26 @@ use Rattle.chain_laws.proofs.InterlinkLemmas.Inverses.{not_both_ways}
 use Rattle.chain_laws.proofs.ChainLemmas.LinkedLists.{link, first_no_repetition}
 
 -- two lone links, 1 and 2
-abbrev two_lone : Shown
+abbrev two_lone : LinkMap
 two_lone = with_lone (with_lone (λ i. None) 1) 2
 
 -- the linear chain 1 2
-abbrev pair : Shown
+abbrev pair : LinkMap
 pair = joined two_lone 1 2
 
 -- 1 names 2 after it, but 2 names none before it
-abbrev torn : Shown
+abbrev torn : LinkMap
 torn = next_set two_lone (Some 1) (Some 2)
 
 pair_is_a_chain : IsChain pair (linear (1 ∷ 2 ∷ []))
 pair_is_a_chain = (λ e. cc, first_no_repetition pair (1 ∷ 2 ∷ []) None (refl, (refl, tt)), (refl, (refl, tt)))
 
 -- the places in a ring of two, and in a ring of one, which names itself
-ring_of_two_places : PlacesInARing → (shown : Shown) → IsChain shown (cyclic (1 ∷ 2 ∷ [])) → shown 2 ≡ Some (link (Some 1) (Some 1))
-ring_of_two_places places shown is = places shown (1 ∷ []) [] 2 is
+ring_of_two_places : PlacesInARing → (link_map : LinkMap) → IsChain link_map (cyclic (1 ∷ 2 ∷ [])) → link_map 2 ≡ Some (link (Some 1) (Some 1))
+ring_of_two_places places link_map is = places link_map (1 ∷ []) [] 2 is
 
-ring_of_one_places : PlacesInARing → (shown : Shown) → IsChain shown (cyclic (1 ∷ [])) → shown 1 ≡ Some (link (Some 1) (Some 1))
-ring_of_one_places places shown is = places shown [] [] 1 is
+ring_of_one_places : PlacesInARing → (link_map : LinkMap) → IsChain link_map (cyclic (1 ∷ [])) → link_map 1 ≡ Some (link (Some 1) (Some 1))
+ring_of_one_places places link_map is = places link_map [] [] 1 is
 
 -- where interlinks do not agree, a chain has one of two neighbours alone
 torn_neighbors : AreNeighbors torn 1 2
@@ -40,7 +40,7 @@ torn_neighbors = refl
 torn_chain : IsChain torn (linear (2 ∷ []))
 torn_chain = (λ e. cc, (λ h. h, tt), (refl, tt))
 
-torn_apart : Has (2 ∷ []) 1 → ⊥
+torn_apart : IsMember (2 ∷ []) 1 → ⊥
 torn_apart (inl e) = omega arith
 torn_apart (inr h) = h
 

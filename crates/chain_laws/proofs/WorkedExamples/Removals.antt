@@ -1,38 +1,38 @@
 -- Worked rows: removals from each kind of chain. Each is computed.
 use Rattle.std.specs.Prelude.{◌≡◌, ℕ, [], ◌∷◌, Option, None, Some}
 use Rattle.std.proofs.Common.{refl}
-use Rattle.chain_laws.specs.Chains.{Shown, linear, cyclic}
+use Rattle.chain_laws.specs.Chains.{LinkMap, linear, cyclic}
 use Rattle.chain_laws.specs.Joins.{prev_set, next_set, linked, joined, with_lone}
 use Rattle.chain_laws.specs.Removals.{vacated, removed, list_without, chain_without}
 use Rattle.chain_laws.proofs.ChainLemmas.LinkedLists.{link}
 
 -- nothing stands anywhere
-abbrev bare : Shown
+abbrev bare : LinkMap
 bare i = None
 
 -- the lone links 1, 2 and 3
-abbrev lone : Shown
+abbrev lone : LinkMap
 lone = with_lone (with_lone (with_lone bare 1) 2) 3
 
 -- the linear chain 1 2 3
-abbrev three : Shown
+abbrev three : LinkMap
 three = joined (joined lone 1 2) 2 3
 
 -- the cyclic chain 1 2 3
-abbrev ring : Shown
+abbrev ring : LinkMap
 ring = joined three 3 1
 
 -- the cyclic chain 1 2, and the lone link 3
-abbrev ring_of_two : Shown
+abbrev ring_of_two : LinkMap
 ring_of_two = joined (joined lone 1 2) 2 1
 
 -- 2 alone in a ring, and the lone links 1 and 3
-abbrev ring_of_one : Shown
+abbrev ring_of_one : LinkMap
 ring_of_one = joined lone 2 2
 
 -- the two writes of a removal are one linking
-linked_in_two_writes : (shown : Shown) (q : ℕ) (u v : Option ℕ) → prev_set (next_set (vacated shown q) u v) v u ≡ linked (vacated shown q) u v
-linked_in_two_writes shown q u v = refl
+linked_in_two_writes : (link_map : LinkMap) (q : ℕ) (u v : Option ℕ) → prev_set (next_set (vacated link_map q) u v) v u ≡ linked (vacated link_map q) u v
+linked_in_two_writes link_map q u v = refl
 
 -- out of the middle: the one before it
 middle_before : removed three 2 1 ≡ Some (link None (Some 3))

@@ -3,26 +3,26 @@ use Rattle.std.specs.Prelude.{◌≡◌, [], ◌∷◌, None, Some}
 use Rattle.std.specs.Option.{option_map}
 use Rattle.std.specs.List.{range_with_len}
 use Rattle.std.proofs.Common.{refl}
-use Rattle.chain_laws.specs.Chains.{Shown, linear, cyclic, all_items, prev_of, next_of}
+use Rattle.chain_laws.specs.Chains.{LinkMap, linear, cyclic, all_items, prev_of, next_of}
 use Rattle.chain_laws.specs.Joins.{prev_set, next_set, joined, with_lone}
 use Rattle.chain_laws.specs.Arrangements.{place_in, in_runs}
 use Rattle.chain_laws.specs.Moves.{moved_index, moved, put, gathered_place}
 use Rattle.chain_laws.proofs.ChainLemmas.LinkedLists.{link}
 
 -- nothing stands anywhere
-abbrev bare : Shown
+abbrev bare : LinkMap
 bare i = None
 
 -- the linear chain 1 4, and the cyclic chain 2 3
-abbrev two_chains : Shown
+abbrev two_chains : LinkMap
 two_chains = joined (joined (joined (with_lone (with_lone (with_lone (with_lone bare 1) 2) 3) 4) 1 4) 2 3) 3 2
 
 -- 2 alone in a ring
-abbrev ring_of_one : Shown
+abbrev ring_of_one : LinkMap
 ring_of_one = joined (with_lone bare 2) 2 2
 
 -- the linear chain 3 4
-abbrev pair : Shown
+abbrev pair : LinkMap
 pair = joined (with_lone (with_lone bare 3) 4) 3 4
 
 -- ---- an order of all links

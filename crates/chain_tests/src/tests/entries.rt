@@ -4,7 +4,7 @@ ghost use Rattle.std.specs.Prelude.{◌≡◌, ◌↔◌, IfOk, OnOk, OnErr, Err
 ghost use Rattle.arena_ptr.specs.Indexes.{number_of_inx32};
 ghost use Rattle.arena_ptr.specs.ToolPtr.{key_of};
 ghost use Rattle.arena_base.specs.Arena.{next_index, with_capacity_of};
-ghost use Rattle.chain_links.specs.ChainArena.{entry, shown, insert_as};
+ghost use Rattle.chain_links.specs.ChainArena.{entry, link_map, insert_as};
 ghost use Rattle.chain_links.specs.Kinds.{names_in, by_index, MayInsert};
 
 use super::scripts::{Do, Kind, Line, plays};
@@ -31,7 +31,7 @@ pub(super) fn insert_by_entry<S: SlotStack<Item = Slot>>(
         (insert_as arena.old (by_index (names_in key_of number_of_inx32 kind)) t) arena.new) }
     ensures err { OnErr result (arena.new ≡ arena.old) }
     ensures link { (result ≡ Err ChainInsertionError.FailedLinkRequirement)
-        ↔ ¬ MayInsert (entry arena.old) (shown arena.old) (names_in key_of number_of_inx32 kind) }
+        ↔ ¬ MayInsert (entry arena.old) (link_map arena.old) (names_in key_of number_of_inx32 kind) }
 {
     let entry = arena.entry_insert_reallocating(kind)?;
     let p = entry.ptr();

@@ -13,7 +13,7 @@ use chain_arena::{ChainArenaTrait, LinkInsertKind};
 
 // The number of links of any arena: each stands in one chain, and no two sets of chains say what the arena shows.
 pub(super) fn count_of_links<P: PtrKey, T: Drop, A: ChainArenaTrait<P, T>>(arena: &A) -> usize
-    ensures count { result ≡ length (A.seen arena.now).entries }
+    ensures count { result ≡ length (A.view arena.now).entries }
     ensures chains { HasOneSetOfChains (A.interlinks arena.now) }
 {
     arena.invariants();

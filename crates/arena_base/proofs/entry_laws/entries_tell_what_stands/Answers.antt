@@ -11,9 +11,9 @@ returns-clause-same g c a b i is =
 
 pub returns-clause-gone : goal.returns-clause-gone
 returns-clause-gone g c a b i is =
-    sym (g.met.A.ArenaTrait.looked_up b i) ∙ (ap (found i) is ∙ found-gone i 1 (g.A.ArenaTrait.seen a).entries (g.met.A.ArenaTrait.rises a))
+    sym (g.met.A.ArenaTrait.looked_up b i) ∙ (ap (found i) is ∙ found-gone i 1 (g.A.ArenaTrait.view a).entries (g.met.A.ArenaTrait.rises a))
 
 pub returns-clause-kept : goal.returns-clause-kept
 returns-clause-kept g c a b i j is other =
     let looked = g.met.A.ArenaTrait.looked_up in
-    sym (looked b j) ∙ (ap (found j) is ∙ (found-kept j i (g.A.ArenaTrait.seen a).entries other ∙ looked a j))
+    sym (looked b j) ∙ (ap (found j) is ∙ (found-kept j i (g.A.ArenaTrait.view a).entries other ∙ looked a j))

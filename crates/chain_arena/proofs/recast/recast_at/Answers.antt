@@ -1,6 +1,6 @@
 -- The value that is lent is recast.
 use Rattle.std.proofs.Common.{ap}
-use Rattle.arena_base.specs.Entries.{Seen}
+use Rattle.arena_base.specs.Entries.{ArenaView}
 use Rattle.chain_arena.proofs.recast.recast_at.Goals as goal
 
 pub returns-in-Some : goal.returns-in-Some
@@ -12,6 +12,6 @@ returns-in-Some g c = λ valid.
       stood = c.in-Some.ensures.value;
       state = held.1.0;
       shows = held.1.1;
-      entries = ap (λ (s : Seen _ _). s.entries) held.0;
+      entries = ap (λ (s : ArenaView _ _). s.entries) held.0;
       recast = c.recast.ensures;
     }

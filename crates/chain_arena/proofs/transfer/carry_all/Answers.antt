@@ -12,11 +12,11 @@ use Rattle.chain_arena.proofs.transfer.carry_all.Goals.{After-take_next-q}
 use Rattle.chain_arena.proofs.transfer.carry_all.Goals as goal
 
 -- a link stands where an entry is found
-stands : (g : Over) (a : g.row.A.Denot) (i : ℕ) → is_some (g.A.ChainArenaTrait.interlinks a i) ≡ is_some (found i (g.A.ArenaTrait.seen a).entries)
+stands : (g : Over) (a : g.row.A.Denot) (i : ℕ) → is_some (g.A.ChainArenaTrait.interlinks a i) ≡ is_some (found i (g.A.ArenaTrait.view a).entries)
 stands g a i = g.met.A.ChainArenaTrait.stand a i ∙ ap is_some (sym (g.met.A.ArenaTrait.looked_up a i))
 
 -- the same of an entry at an index
-stands_entry : (g : Over) (a : g.row.A.Denot) (on : Option g.row.Q-Inx.Denot) → IfSome on (λ j. is_some (found (g.Q.Inx.InxKey.number j) (g.A.ArenaTrait.seen a).entries) ≡ true)
+stands_entry : (g : Over) (a : g.row.A.Denot) (on : Option g.row.Q-Inx.Denot) → IfSome on (λ j. is_some (found (g.Q.Inx.InxKey.number j) (g.A.ArenaTrait.view a).entries) ≡ true)
     → IfSome on (λ j. is_some (g.A.ArenaTrait.entry a (g.Q.Inx.InxKey.number j)) ≡ true)
 stands_entry g a None there = tt
 stands_entry g a (Some j) there = ap is_some (sym (g.met.A.ArenaTrait.looked_up a (g.Q.Inx.InxKey.number j))) ∙ there
@@ -26,9 +26,9 @@ loop-k-init g c =
     let source = c.args.source.now in
     record {
       callable = c.requires.callable;
-      carrying = carrying_begins g.Q.PtrKey.key g.P.PtrKey.key g.Q.Gen.GenKey.following g.Q.Gen.GenKey.wraps g.F.FnMut g.P.Inx.InxKey.number (g.A.ArenaTrait.seen source) (g.A.ChainArenaTrait.interlinks source) c.args.map c.args.target.now
-          g.Q.Inx.InxKey.greatest (g.A.ArenaTrait.looks c.advancer-advancer.result) _ c.agrees.ensures
-          (links_within (g.A.ChainArenaTrait.interlinks source) (g.A.ArenaTrait.entry source) (g.A.ArenaTrait.seen source).entries (g.met.A.ChainArenaTrait.stand source) (g.met.A.ArenaTrait.looked_up source) g.Q.Inx.InxKey.greatest c.len-k-end.ensures.indexes)
+      carrying = carrying_begins g.Q.PtrKey.key g.P.PtrKey.key g.Q.Gen.GenKey.following g.Q.Gen.GenKey.wraps g.F.FnMut g.P.Inx.InxKey.number (g.A.ArenaTrait.view source) (g.A.ChainArenaTrait.interlinks source) c.args.map c.args.target.now
+          g.Q.Inx.InxKey.greatest (g.A.ArenaTrait.cursor c.advancer-advancer.result) _ c.agrees.ensures
+          (links_within (g.A.ChainArenaTrait.interlinks source) (g.A.ArenaTrait.entry source) (g.A.ArenaTrait.view source).entries (g.met.A.ChainArenaTrait.stand source) (g.met.A.ArenaTrait.looked_up source) g.Q.Inx.InxKey.greatest c.len-k-end.ensures.indexes)
           c.requires.slots c.advancer-advancer.ensures;
     }
 
@@ -48,8 +48,8 @@ take_next-q-requires-clause-stands g c = stands_entry g c.loop-k.source c.loop-k
 
 -- the link that was taken
 carrying_it : (g : Over) (c : After-take_next-q g) → IsCarrying g.Q.PtrKey.key g.P.PtrKey.key g.Q.Gen.GenKey.following g.Q.Gen.GenKey.wraps g.F.FnMut g.P.Inx.InxKey.number
-    (g.A.ArenaTrait.seen c.args.source.now) (g.A.ChainArenaTrait.interlinks c.args.source.now) c.args.map c.args.target.now
-    c.loop-k.k (g.A.ArenaTrait.seen c.loop-k.source) (g.A.ChainArenaTrait.interlinks c.loop-k.source) (g.A.ArenaTrait.looks c.take_next-q.new.advancer)
+    (g.A.ArenaTrait.view c.args.source.now) (g.A.ChainArenaTrait.interlinks c.args.source.now) c.args.map c.args.target.now
+    c.loop-k.k (g.A.ArenaTrait.view c.loop-k.source) (g.A.ChainArenaTrait.interlinks c.loop-k.source) (g.A.ArenaTrait.cursor c.take_next-q.new.advancer)
     (Some (g.Q.PtrKey.key c.take_next-q.result.0).0) c.take_next-q.result.3 c.take_next-q.result.4 c.loop-k.map c.loop-k.target
 carrying_it g c =
     carries_next_link _ _ _ _ _ _ _ _ _ _ _ _ _ _ _ _ _ _ (stands g c.loop-k.source) g.Q.Inx.InxKey.number c.loop-k.on _ _ _ _ c.loop-k.invariant.carrying c.take_next-q.ensures.goes_on c.take_next-q.ensures.begins

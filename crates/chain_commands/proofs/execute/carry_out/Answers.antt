@@ -1,21 +1,21 @@
 use Rattle.std.proofs.Common.{◌≡◌, ◌⊎◌, inr, refl, OnOk, OnErr, Result, Ok, Err, List, ℕ}
 use Rattle.arena_ptr.specs.ToolPtr.{key_of}
 use Rattle.arena_ptr.specs.declared.tool_ptr.ToolPtr.{ToolPtr}
-use Rattle.chain_commands.specs.Responses.{ToolLinks, Changes, Gives, LeavesStep, Shows, Walks}
+use Rattle.chain_commands.specs.Responses.{ToolLinks, RespondsToCall, RespondsToCommand, LeavesStep, RespondsToShow, RespondsToChain}
 use Rattle.chain_commands.specs.Commands.{LinkCall}
 use Rattle.chain_commands.specs.declared.command.Command.TheVariants.{Change, Show, Chain}
 use Rattle.chain_commands.specs.declared.command.Line.TheVariants.{Good}
 use Rattle.chain_commands.proofs.execute.carry_out.Goals as goal
 
-shows_ok : {T E : Type 0} (old : ToolLinks) (p : ToolPtr) (text : List ℕ) (r : Result T E) → OnOk r (Shows old (key_of p) text) → OnOk r (Gives old (Show p) text old)
+shows_ok : {T E : Type 0} (old : ToolLinks) (p : ToolPtr) (text : List ℕ) (r : Result T E) → OnOk r (RespondsToShow old (key_of p) text) → OnOk r (RespondsToCommand old (Show p) text old)
 shows_ok old p text (Ok x) shows = (shows, refl)
 shows_ok old p text (Err e) shows = tt
 
-walks_ok : {T E : Type 0} (old : ToolLinks) (p : ToolPtr) (text : List ℕ) (r : Result T E) → OnOk r (Walks old (key_of p) text) → OnOk r (Gives old (Chain p) text old)
+walks_ok : {T E : Type 0} (old : ToolLinks) (p : ToolPtr) (text : List ℕ) (r : Result T E) → OnOk r (RespondsToChain old (key_of p) text) → OnOk r (RespondsToCommand old (Chain p) text old)
 walks_ok old p text (Ok x) walks = (walks, refl)
 walks_ok old p text (Err e) walks = tt
 
-step_or : {T E : Type 0} (old new : ToolLinks) (call : LinkCall) (r : Result T E) → OnErr r ((words : List ℕ) × Changes old call words new)
+step_or : {T E : Type 0} (old new : ToolLinks) (call : LinkCall) (r : Result T E) → OnErr r ((words : List ℕ) × RespondsToCall old call words new)
     → OnErr r ((new ≡ old) ⊎ LeavesStep old (Good (Change call)) new)
 step_or old new call (Ok x) steps = tt
 step_or old new call (Err e) steps = inr (call, steps.0, refl, steps.1)

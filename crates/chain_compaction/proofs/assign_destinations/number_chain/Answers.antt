@@ -3,7 +3,7 @@ use Rattle.std.proofs.Common.{◌≡◌, ◌+◌, ◌<◌, ℕ, List, length, Op
 use Rattle.std.specs.Prelude.{true, false, IsSome}
 use Rattle.std.specs.Option.{option_map}
 use Rattle.chain_laws.specs.Chains.{Chain}
-use Rattle.chain_compaction.specs.Destinations.{CanNumber, IsTiedAt, number_after}
+use Rattle.chain_compaction.specs.Destinations.{CanNumber, IsRelinkedAt, number_after}
 use Rattle.chain_compaction.proofs.DestinationWriteLemmas.{tied_long, tied_looked}
 use Rattle.chain_compaction.proofs.DetachedLinkLemmas.{work-twice}
 use Rattle.chain_compaction.proofs.LinkLoanLemmas.{same_then, counts_on}
@@ -73,7 +73,7 @@ excluded-assert_unchecked-requires g c = absurd (
     (sym c.in-None.is ∙ c.look_at.ensures.generation))
 
 -- the slots that the write left
-tied_now : (g : Over) (c : After-tie_at g) → IsTiedAt g.P.Inx.InxKey.packed_number (g.P.Inx.InxKey.number c.in-Some.i) (option_map g.P.Inx.InxKey.number c.loop-on.prev)
+tied_now : (g : Over) (c : After-tie_at g) → IsRelinkedAt g.P.Inx.InxKey.packed_number (g.P.Inx.InxKey.number c.in-Some.i) (option_map g.P.Inx.InxKey.number c.loop-on.prev)
     (number_after (option_map g.P.Inx.InxKey.number c.going_on-on.result) (option_map g.P.Inx.InxKey.number c.look_at.result.2) c.args.before (c.loop-on.count + 1)) (Some (g.P.Inx.InxKey.number c.inx_at-destination.result))
     c.loop-on.compactor.held c.tie_at.new.compactor.held
 tied_now g c =

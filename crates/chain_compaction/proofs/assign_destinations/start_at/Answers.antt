@@ -3,7 +3,7 @@ use Rattle.std.proofs.Common.{◌≡◌, Bool, true, false, Some, refl, sym, ap,
 use Rattle.std.specs.Option.{option_map}
 use Rattle.chain_laws.specs.Chains.{prev_of}
 use Rattle.chain_laws.proofs.WalkLemmas.WalkBack.{back_begins, back_goes_on, back_ends, back_comes_round}
-use Rattle.chain_compaction.specs.DetachedLinks.{shown_in}
+use Rattle.chain_compaction.specs.DetachedLinks.{link_map_in}
 use Rattle.chain_compaction.proofs.WalkBackLemmas.{looks_linear, looks_cyclic, back_within}
 use Rattle.chain_compaction.proofs.DetachedLinkLemmas.{work-none, work-touched, work-more}
 use Rattle.chain_compaction.proofs.LinkLoanLemmas.{same_then, held_then, counts_on}
@@ -19,7 +19,7 @@ loop-step-init g c =
     record {
       same_reference = refl;
       held = refl;
-      back = back_begins (shown_in g.P.Inx.InxKey.packed_number old.held.slots) (g.P.Inx.InxKey.number c.args.i);
+      back = back_begins (link_map_in g.P.Inx.InxKey.packed_number old.held.slots) (g.P.Inx.InxKey.number c.args.i);
       work = work-none old.arena.now 0;
       counts = counts_none old.arena.now old.placed old.touched;
     }
@@ -32,8 +32,8 @@ returns-then-is_same g c =
     let old = c.args.compactor.now in
     let now = c.loop-step.compactor in
     let new = c.look_at-before.new.compactor in
-    let shown = shown_in g.P.Inx.InxKey.packed_number c.args.compactor.now.held.slots in
-    let came = ap (λ h. prev_of (shown_in g.P.Inx.InxKey.packed_number h.slots) (number c.loop-step.at)) at.held in
+    let shown = link_map_in g.P.Inx.InxKey.packed_number c.args.compactor.now.held.slots in
+    let came = ap (λ h. prev_of (link_map_in g.P.Inx.InxKey.packed_number h.slots) (number c.loop-step.at)) at.held in
     let told = c.is_same.ensures in
     let same = (g.met.P.Inx.InxKey.same_is_equal c.in-Some.k c.args.i).0 (sym told ∙ c.if-is_same.true) in
     record {
@@ -54,8 +54,8 @@ returns-in-None g c =
     let old = c.args.compactor.now in
     let now = c.loop-step.compactor in
     let new = c.look_at-before.new.compactor in
-    let shown = shown_in g.P.Inx.InxKey.packed_number c.args.compactor.now.held.slots in
-    let came = ap (λ h. prev_of (shown_in g.P.Inx.InxKey.packed_number h.slots) (number c.loop-step.at)) at.held in
+    let shown = link_map_in g.P.Inx.InxKey.packed_number c.args.compactor.now.held.slots in
+    let came = ap (λ h. prev_of (link_map_in g.P.Inx.InxKey.packed_number h.slots) (number c.loop-step.at)) at.held in
     record {
       same_reference = same_then old now new at.same_reference look.looked.same_reference;
       start = back_ends shown (number c.args.i) c.loop-step.step (number c.loop-step.at) at.back (sym came ∙ (sym look.prev ∙ ap (option_map number) c.in-None.is));
@@ -78,8 +78,8 @@ loop-step-preserved g c =
     record {
       same_reference = same_then old now new at.same_reference look.looked.same_reference;
       held = held_then old now new at.held look.looked.held;
-      back = back_goes_on (shown_in packed_number c.args.compactor.now.held.slots) (number c.args.i) c.loop-step.step (number c.loop-step.at) (number c.in-Some.k) at.back
-          (sym (ap (λ h. prev_of (shown_in packed_number h.slots) (number c.loop-step.at)) at.held) ∙ sym c.look_at-before.ensures.prev ∙ ap (option_map number) c.in-Some.is)
+      back = back_goes_on (link_map_in packed_number c.args.compactor.now.held.slots) (number c.args.i) c.loop-step.step (number c.loop-step.at) (number c.in-Some.k) at.back
+          (sym (ap (λ h. prev_of (link_map_in packed_number h.slots) (number c.loop-step.at)) at.held) ∙ sym c.look_at-before.ensures.prev ∙ ap (option_map number) c.in-Some.is)
           (λ e. not_both _ ((g.met.P.Inx.InxKey.same_is_equal c.in-Some.k c.args.i).1 (g.met.P.Inx.InxKey.same_number c.in-Some.k c.args.i e)) (sym told ∙ c.if-is_same.false));
       work = work-more at.work (work-touched now.arena.now new.arena.now look.looked.arena) 0 _ refl (omega arith);
       counts = counts_on old now new at.counts look.looked.counts;

@@ -2,7 +2,7 @@
 use Rattle.std.proofs.Common.{◌≡◌}
 use Rattle.chain_laws.specs.ChainStart.{IsBack}
 use Rattle.chain_compaction.specs.WorkCounts.{CountsOn}
-use Rattle.chain_compaction.specs.DetachedLinks.{shown_in, IsWork}
+use Rattle.chain_compaction.specs.DetachedLinks.{link_map_in, IsWork}
 use Rattle.chain_compaction.proofs.assign_destinations.start_at.Given as goal
 
 abbrev pub invariant-loop-step : goal.invariant-loop-step
@@ -11,7 +11,7 @@ invariant-loop-step g l =
     record {
       same_reference : l.compactor.arena.ghost_name ≡ l.fn.compactor.arena.ghost_name;
       held : l.compactor.held ≡ l.fn.compactor.held;
-      back : IsBack (shown_in g.P.Inx.InxKey.packed_number l.fn.compactor.held.slots) (number l.i) l.step (number l.at);
+      back : IsBack (link_map_in g.P.Inx.InxKey.packed_number l.fn.compactor.held.slots) (number l.i) l.step (number l.at);
       work : IsWork l.fn.compactor.arena.now l.compactor.arena.now 0 l.step;
       counts : CountsOn l.fn.compactor.arena.now l.compactor.arena.now l.fn.compactor.placed l.fn.compactor.touched l.compactor.placed l.compactor.touched;
     }

@@ -1,7 +1,7 @@
 -- One more has no destination, and at the end none has.
 use Rattle.std.proofs.Common.{◌≡◌, length, refl, ap, ◌∙◌, arith}
 use Rattle.arena_base.specs.GatheredSlots.{with_totals}
-use Rattle.chain_compaction.specs.Destinations.{seen_held}
+use Rattle.chain_compaction.specs.Destinations.{held_view}
 use Rattle.chain_compaction.proofs.DestinationResetLemmas.{emptied, emptying_begins, emptying_goes_on, emptying_ends, touches_none, touches_more}
 use Rattle.chain_compaction.proofs.LinkLoanLemmas.{same_then, counts_on}
 use Rattle.chain_compaction.proofs.WorkCountLemmas.{counts_none}
@@ -12,7 +12,7 @@ loop-k-init g c =
     let old = c.args.compactor.now in
     record {
       same_reference = refl {a = old.arena.ghost_name};
-      seen = refl {a = seen_held g.P.Inx.InxKey.packed_number old.held};
+      seen = refl {a = held_view g.P.Inx.InxKey.packed_number old.held};
       empty = emptying_begins g.P.Inx.InxKey.packed_number old.held.slots;
       totals = touches_none old.arena.now;
       counts = counts_none old.arena.now old.placed old.touched;

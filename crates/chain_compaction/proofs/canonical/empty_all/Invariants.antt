@@ -2,7 +2,7 @@
 use Rattle.std.proofs.Common.{◌≡◌, ℕ, ◌≤◌, None}
 use Rattle.arena_base.specs.GatheredSlots.{with_totals}
 use Rattle.chain_compaction.specs.WorkCounts.{CountsOn}
-use Rattle.chain_compaction.specs.Destinations.{seen_held, given}
+use Rattle.chain_compaction.specs.Destinations.{held_view, destination_at}
 use Rattle.chain_compaction.proofs.canonical.empty_all.Given as goal
 
 abbrev pub invariant-loop-k : goal.invariant-loop-k
@@ -10,8 +10,8 @@ invariant-loop-k g l =
     let packed_number = g.P.Inx.InxKey.packed_number in
     record {
       same_reference : l.compactor.arena.ghost_name ≡ l.fn.compactor.arena.ghost_name;
-      seen : seen_held packed_number l.compactor.held ≡ seen_held packed_number l.fn.compactor.held;
-      empty : (j : ℕ) → j ≤ l.k → given packed_number l.compactor.held.slots j ≡ None;
+      seen : held_view packed_number l.compactor.held ≡ held_view packed_number l.fn.compactor.held;
+      empty : (j : ℕ) → j ≤ l.k → destination_at packed_number l.compactor.held.slots j ≡ None;
       totals : l.compactor.arena.now ≡ with_totals l.fn.compactor.arena.now 0 l.k;
       counts : CountsOn l.fn.compactor.arena.now l.compactor.arena.now l.fn.compactor.placed l.fn.compactor.touched l.compactor.placed l.compactor.touched;
     }

@@ -2,7 +2,7 @@
 -- links, and the work is what the arena has counted.
 use Rattle.std.proofs.Common.{rules, ◌≡◌, ◌+◌, length, sym, ap, ◌∙◌, arith}
 use Rattle.arena_base.specs.GatheredSlots.{with_totals}
-use Rattle.chain_compaction.specs.Destinations.{seen_held}
+use Rattle.chain_compaction.specs.Destinations.{held_view}
 use Rattle.chain_compaction.proofs.ChainDestinationLemmas.{length-seen}
 use Rattle.chain_compaction.proofs.CanonicalLayoutLemmas.{three_counted, length-renamed, agree-seen, links_can_move, last_packed, links_laid, work_told}
 use Rattle.chain_compaction.proofs.canonical.lay_out.Goals as goal
@@ -33,13 +33,13 @@ pub move_all-requires-clause-can : goal.move_all-requires-clause-can
 move_all-requires-clause-can g c =
     links_can_move g.V.Visitor.sees g.P.PtrKey.key c.args.visitor c.number_all-visitor.result.0 g.P.Inx.InxKey.packed_number c.generation-generation.result
     c.empty_all.new.compactor.held c.number_all-visitor.new.compactor.held c.args.arena.now c.empty_all.new.compactor.arena.now c.number_all-visitor.new.compactor.arena.now c.number_all-visitor.result.1
-    (c.empty_all.ensures.seen ∙ ap (seen_held g.P.Inx.InxKey.packed_number) c.compactor-compactor.ensures.held) c.number_all-visitor.ensures.numbered
+    (c.empty_all.ensures.seen ∙ ap (held_view g.P.Inx.InxKey.packed_number) c.compactor-compactor.ensures.held) c.number_all-visitor.ensures.numbered
 
 pub finish_packed-requires : goal.finish_packed-requires
 finish_packed-requires g c =
     last_packed g.V.Visitor.sees g.P.PtrKey.key c.args.visitor c.number_all-visitor.result.0 g.P.Inx.InxKey.packed_number c.generation-generation.result
     c.empty_all.new.compactor.held c.number_all-visitor.new.compactor.held c.args.arena.now c.empty_all.new.compactor.arena.now c.number_all-visitor.new.compactor.arena.now c.number_all-visitor.result.1
-    (c.empty_all.ensures.seen ∙ ap (seen_held g.P.Inx.InxKey.packed_number) c.compactor-compactor.ensures.held) c.number_all-visitor.ensures.numbered c.move_all.new.compactor.held c.move_all.ensures.moved
+    (c.empty_all.ensures.seen ∙ ap (held_view g.P.Inx.InxKey.packed_number) c.compactor-compactor.ensures.held) c.number_all-visitor.ensures.numbered c.move_all.new.compactor.held c.move_all.ensures.moved
 
 pub returns : goal.returns
 returns g c =
@@ -50,7 +50,7 @@ returns g c =
     let numbered = c.number_all-visitor.new.compactor in
     let visitor = c.number_all-visitor.result.0 in
     let moved = c.move_all.new.compactor in
-    let seen = c.empty_all.ensures.seen ∙ ap (seen_held number) first.ensures.held in
+    let seen = c.empty_all.ensures.seen ∙ ap (held_view number) first.ensures.held in
     let emptying = c.empty_all.ensures.totals ∙ (λ i. with_totals (first.ensures.arena i) 0 (length (first.ensures.held i).slots)) in
     let told =
     work_told g.V.Visitor.sees g.P.PtrKey.key c.args.visitor visitor number generation empty.held numbered.held c.args.arena.now empty.arena.now numbered.arena.now c.number_all-visitor.result.1

@@ -2,7 +2,7 @@
 use Rattle.std.proofs.Common.{refl, ◌∙◌, of_calls}
 use Rattle.arena_base.proofs.HoleClosingLemmas.{closing_begins}
 use Rattle.chain_links.proofs.ArenaInsertionLemmas.{slots-within}
-use Rattle.chain_compaction.specs.DetachedLinks.{slot_values, interlinks_seen}
+use Rattle.chain_compaction.specs.DetachedLinks.{slot_values, body_interlinks}
 use Rattle.chain_compaction.proofs.DetachedLinkLemmas.{work-none}
 use Rattle.chain_compaction.proofs.LinkCompressionLemmas.{coming_begins}
 use Rattle.chain_compaction.proofs.LinkLoanLemmas.{lent, lent_none}
@@ -19,7 +19,7 @@ loop-k-init g c =
       capacity = refl;
       maximum = refl;
       closing = closing_begins g.F.FnMut g.P.PtrKey.key c.args.generation c.args.map (slot_values old.held.slots);
-      coming = coming_begins number old.held.slots c.requires.agree (slots-within (interlinks_seen number) old.held.slots);
+      coming = coming_begins number old.held.slots c.requires.agree (slots-within (body_interlinks number) old.held.slots);
       work = work-none old.arena.now 0;
     }
 

@@ -1,12 +1,12 @@
 -- What is left of the slots is exactly the links.
 use Rattle.std.proofs.Common.{rules, ap, sym, ◌∙◌, subst}
-use Rattle.chain_laws.specs.Chains.{Agrees}
-use Rattle.chain_compaction.specs.DetachedLinks.{shown_in}
-use Rattle.chain_compaction.proofs.CompactedLinkLemmas.{shown-slots, links_gathered}
+use Rattle.chain_laws.specs.Chains.{IsWellLinked}
+use Rattle.chain_compaction.specs.DetachedLinks.{link_map_in}
+use Rattle.chain_compaction.proofs.CompactedLinkLemmas.{link_map-slots, links_gathered}
 use Rattle.chain_compaction.proofs.compress.gather.Goals as goal
 
 pub close_gaps-count-requires-clause-agree : goal.close_gaps-count-requires-clause-agree
-close_gaps-count-requires-clause-agree g c = subst Agrees (shown-slots g.P.Inx.InxKey.packed_number c.args.arena.now ∙ sym (ap (λ h. shown_in g.P.Inx.InxKey.packed_number h.slots) c.compactor-compactor.ensures.held)) c.requires.agree
+close_gaps-count-requires-clause-agree g c = subst IsWellLinked (link_map-slots g.P.Inx.InxKey.packed_number c.args.arena.now ∙ sym (ap (λ h. link_map_in g.P.Inx.InxKey.packed_number h.slots) c.compactor-compactor.ensures.held)) c.requires.agree
 
 pub returns : goal.returns
 returns g c =

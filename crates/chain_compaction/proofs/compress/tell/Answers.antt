@@ -1,6 +1,6 @@
 -- The link that was lent is written, and where none stands nothing is.
 use Rattle.std.proofs.Common.{Some, refl}
-use Rattle.chain_compaction.specs.DetachedLinks.{shown_in}
+use Rattle.chain_compaction.specs.DetachedLinks.{link_map_in}
 use Rattle.chain_compaction.proofs.DetachedLinkLemmas.{work-none, work-touched}
 use Rattle.chain_compaction.proofs.LinkLoanLemmas.{lent, lent_none}
 use Rattle.chain_compaction.proofs.NeighborUpdateLemmas.{tells_none, kept_values, tells_nowhere, prev_values, tells_prev, next_values, tells_next}
@@ -64,6 +64,6 @@ returns-in-None g c =
     record {
       same_reference = refl;
       values = refl;
-      shows = tells_none number (shown_in g.P.Inx.InxKey.packed_number old.held.slots) c.args.before c.args.i (Some (number c.args.named)) c.in-None.is;
+      shows = tells_none number (link_map_in g.P.Inx.InxKey.packed_number old.held.slots) c.args.before c.args.i (Some (number c.args.named)) c.in-None.is;
       work = work-none old.arena.now 1;
     }

@@ -1,6 +1,6 @@
 -- One more slot is passed, and at the end all are.
 use Rattle.std.proofs.Common.{◌≡◌, length, refl, subst, arith}
-use Rattle.chain_compaction.specs.Permutations.{ArePassed, waiting, goal_of, Settles, IsWorkOn}
+use Rattle.chain_compaction.specs.Permutations.{ArePassed, waiting, destination_of, Settles, IsWorkOn}
 use Rattle.chain_compaction.proofs.SlotCountLemmas.{waiting-all}
 use Rattle.chain_compaction.proofs.PermutationStepLemmas.{settled_rests}
 use Rattle.chain_compaction.proofs.PermutationLoopLemmas.{passing_begins, passing_goes_on, passing_ends, passing_leaves_none, work_on-begins, work_on-after, work_on-ends}
@@ -14,10 +14,10 @@ loop-k-init g c =
     let old = c.args.compactor.now in
     record {
       same_reference = refl;
-      passed = passing_begins (goal_of packed_number) (Settles packed_number c.args.generation) (settled_rests packed_number c.args.generation) old.held.slots c.requires.can;
+      passed = passing_begins (destination_of packed_number) (Settles packed_number c.args.generation) (settled_rests packed_number c.args.generation) old.held.slots c.requires.can;
       capacity = refl;
       maximum = refl;
-      work = work_on-begins old.arena.now (waiting (goal_of packed_number) old.held.slots);
+      work = work_on-begins old.arena.now (waiting (destination_of packed_number) old.held.slots);
       counts = counts_none old.arena.now old.placed old.touched;
     }
 
@@ -37,12 +37,12 @@ loop-k-preserved g c =
     let next = c.settle.new.compactor in
     record {
       same_reference = same_then old now next inv.same_reference after.same_reference;
-      passed = passing_goes_on (goal_of packed_number) (Settles packed_number c.args.generation) (settled_rests packed_number c.args.generation) old.held.slots now.held.slots next.held.slots
+      passed = passing_goes_on (destination_of packed_number) (Settles packed_number c.args.generation) (settled_rests packed_number c.args.generation) old.held.slots now.held.slots next.held.slots
           c.loop-k.k (g.P.Inx.InxKey.number c.inx_at.result) inv.passed c.inx_at.ensures after.settles after.none;
       capacity = capacity_then old now next inv.capacity after.capacity;
       maximum = maximum_then old now next inv.maximum after.maximum;
-      work = work_on-after old.arena.now now.arena.now next.arena.now (waiting (goal_of packed_number) old.held.slots) (waiting (goal_of packed_number) now.held.slots)
-          (waiting (goal_of packed_number) next.held.slots) c.loop-k.k 1 inv.work after.work;
+      work = work_on-after old.arena.now now.arena.now next.arena.now (waiting (destination_of packed_number) old.held.slots) (waiting (destination_of packed_number) now.held.slots)
+          (waiting (destination_of packed_number) next.held.slots) c.loop-k.k 1 inv.work after.work;
       counts = counts_on old now next inv.counts after.counts;
     }
 
@@ -50,7 +50,7 @@ pub returns : goal.returns
 returns g c =
     let old = c.args.compactor.now in
     let all : c.loop-k.k ≡ length old.held.slots = omega arith in
-    let goes = goal_of g.P.Inx.InxKey.packed_number in
+    let goes = destination_of g.P.Inx.InxKey.packed_number in
     let settles = Settles g.P.Inx.InxKey.packed_number c.args.generation in
     let rests = settled_rests g.P.Inx.InxKey.packed_number c.args.generation in
     let now = c.loop-k.compactor in

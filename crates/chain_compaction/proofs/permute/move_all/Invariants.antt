@@ -1,7 +1,7 @@
 -- The slots up to k are passed.
 use Rattle.std.proofs.Common.{◌≡◌}
 use Rattle.chain_compaction.specs.WorkCounts.{CountsOn}
-use Rattle.chain_compaction.specs.Permutations.{ArePassed, waiting, goal_of, Settles, IsWorkOn}
+use Rattle.chain_compaction.specs.Permutations.{ArePassed, waiting, destination_of, Settles, IsWorkOn}
 use Rattle.chain_compaction.proofs.permute.move_all.Given as goal
 
 abbrev pub invariant-loop-k : goal.invariant-loop-k
@@ -9,9 +9,9 @@ invariant-loop-k g l =
     let packed_number = g.P.Inx.InxKey.packed_number in
     record {
       same_reference : l.compactor.arena.ghost_name ≡ l.fn.compactor.arena.ghost_name;
-      passed : ArePassed (goal_of packed_number) (Settles packed_number l.generation) l.fn.compactor.held.slots l.compactor.held.slots l.k;
+      passed : ArePassed (destination_of packed_number) (Settles packed_number l.generation) l.fn.compactor.held.slots l.compactor.held.slots l.k;
       capacity : l.compactor.held.stack_capacity ≡ l.fn.compactor.held.stack_capacity;
       maximum : l.compactor.held.maximum ≡ l.fn.compactor.held.maximum;
-      work : IsWorkOn l.fn.compactor.arena.now l.compactor.arena.now (waiting (goal_of packed_number) l.fn.compactor.held.slots) (waiting (goal_of packed_number) l.compactor.held.slots) l.k;
+      work : IsWorkOn l.fn.compactor.arena.now l.compactor.arena.now (waiting (destination_of packed_number) l.fn.compactor.held.slots) (waiting (destination_of packed_number) l.compactor.held.slots) l.k;
       counts : CountsOn l.fn.compactor.arena.now l.compactor.arena.now l.fn.compactor.placed l.fn.compactor.touched l.compactor.placed l.compactor.touched;
     }

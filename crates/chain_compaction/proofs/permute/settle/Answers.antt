@@ -3,7 +3,7 @@ use Rattle.std.proofs.Common.{◌≡◌, refl, sym, ap, ◌∙◌, subst, arith}
 use Rattle.std.specs.Prelude.{IfNone}
 use Rattle.std.specs.Option.{option_map, option_and_then}
 use Rattle.arena_base.specs.Arena.{slot_at}
-use Rattle.chain_compaction.specs.Permutations.{IsSettling, waiting, goal_of, Settles, IsWorkOn}
+use Rattle.chain_compaction.specs.Permutations.{IsSettling, waiting, destination_of, Settles, IsWorkOn}
 use Rattle.chain_compaction.proofs.PermutationStepLemmas.{settling_begins, from_within, to_within, entry_there, one_less_after, settles_after, capacity_after, maximum_after, none_waits}
 use Rattle.chain_compaction.proofs.PermutationLoopLemmas.{work_on-begins, work_on-more, work_on-looked}
 use Rattle.chain_compaction.proofs.LinkLoanLemmas.{same_then, counts_on, capacity_then, maximum_then}
@@ -16,10 +16,10 @@ loop-to-init g c =
     let old = c.args.compactor.now in
     record {
       same_reference = refl;
-      settles = settling_begins (goal_of packed_number) (Settles packed_number c.args.generation) (g.P.Inx.InxKey.number c.args.i) old.held.slots;
+      settles = settling_begins (destination_of packed_number) (Settles packed_number c.args.generation) (g.P.Inx.InxKey.number c.args.i) old.held.slots;
       capacity = refl;
       maximum = refl;
-      work = work_on-begins old.arena.now (waiting (goal_of packed_number) old.held.slots);
+      work = work_on-begins old.arena.now (waiting (destination_of packed_number) old.held.slots);
       counts = counts_none old.arena.now old.placed old.touched;
     }
 
@@ -61,8 +61,8 @@ loop-to-preserved g c =
       settles = settles_after packed_number c.args.generation i d before.held taken.held after.held made.answer made.taken within c.place.ensures.held c.args.compactor.now.held.slots inv.settles;
       capacity = capacity_then old before after inv.capacity (capacity_after packed_number c.args.generation i d before.held taken.held after.held made.answer made.taken within c.place.ensures.held);
       maximum = maximum_then old before after inv.maximum (maximum_after packed_number c.args.generation i d before.held taken.held after.held made.answer made.taken within c.place.ensures.held);
-      work = work_on-more old.arena.now before.arena.now taken.arena.now after.arena.now (waiting (goal_of packed_number) old.held.slots) (waiting (goal_of packed_number) before.held.slots)
-          (waiting (goal_of packed_number) after.held.slots) 0 inv.work made.arena c.place.ensures.arena
+      work = work_on-more old.arena.now before.arena.now taken.arena.now after.arena.now (waiting (destination_of packed_number) old.held.slots) (waiting (destination_of packed_number) before.held.slots)
+          (waiting (destination_of packed_number) after.held.slots) 0 inv.work made.arena c.place.ensures.arena
           (one_less_after packed_number c.args.generation i d before.held taken.held after.held made.answer made.taken within c.place.ensures.held);
       counts = counts_on old before after inv.counts (counts_on before taken after made.counts (counts_place taken.arena.now after.arena.now taken.placed after.placed taken.touched after.touched c.place.ensures.arena c.place.ensures.placed c.place.ensures.touched));
     }
@@ -79,12 +79,12 @@ returns g c =
     let slots = ap (λ h. h.slots) kept in
     record {
       same_reference = same_then old before after inv.same_reference c.take_at.ensures.same_reference;
-      settles = subst (IsSettling (goal_of packed_number) (Settles packed_number c.args.generation) (number c.args.i) old.held.slots) (sym slots) inv.settles;
-      none = none_waits (goal_of packed_number) after.held.slots (number c.args.i)
-          (ap (option_map number) (sym c.in_default.is) ∙ (c.take_at.ensures.answer ∙ ap (λ h. option_and_then (goal_of packed_number) (slot_at h.slots (number c.args.i))) (sym kept)));
+      settles = subst (IsSettling (destination_of packed_number) (Settles packed_number c.args.generation) (number c.args.i) old.held.slots) (sym slots) inv.settles;
+      none = none_waits (destination_of packed_number) after.held.slots (number c.args.i)
+          (ap (option_map number) (sym c.in_default.is) ∙ (c.take_at.ensures.answer ∙ ap (λ h. option_and_then (destination_of packed_number) (slot_at h.slots (number c.args.i))) (sym kept)));
       capacity = capacity_then old before after inv.capacity (λ j. (kept j).stack_capacity);
       maximum = maximum_then old before after inv.maximum (λ j. (kept j).maximum);
-      work = subst (λ s. IsWorkOn old.arena.now after.arena.now (waiting (goal_of packed_number) old.held.slots) (waiting (goal_of packed_number) s) 1) (sym slots)
-          (work_on-looked old.arena.now before.arena.now after.arena.now (waiting (goal_of packed_number) old.held.slots) (waiting (goal_of packed_number) before.held.slots) 0 inv.work c.take_at.ensures.arena);
+      work = subst (λ s. IsWorkOn old.arena.now after.arena.now (waiting (destination_of packed_number) old.held.slots) (waiting (destination_of packed_number) s) 1) (sym slots)
+          (work_on-looked old.arena.now before.arena.now after.arena.now (waiting (destination_of packed_number) old.held.slots) (waiting (destination_of packed_number) before.held.slots) 0 inv.work c.take_at.ensures.arena);
       counts = counts_on old before after inv.counts c.take_at.ensures.counts;
     }

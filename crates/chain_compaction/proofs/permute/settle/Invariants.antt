@@ -1,7 +1,7 @@
 -- What moved so far, and the work of it.
 use Rattle.std.proofs.Common.{◌≡◌}
 use Rattle.chain_compaction.specs.WorkCounts.{CountsOn}
-use Rattle.chain_compaction.specs.Permutations.{IsSettling, waiting, goal_of, Settles, IsWorkOn}
+use Rattle.chain_compaction.specs.Permutations.{IsSettling, waiting, destination_of, Settles, IsWorkOn}
 use Rattle.chain_compaction.proofs.permute.settle.Given as goal
 
 abbrev pub invariant-loop-to : goal.invariant-loop-to
@@ -9,12 +9,12 @@ invariant-loop-to g l =
     let packed_number = g.P.Inx.InxKey.packed_number in
     record {
       same_reference : l.compactor.arena.ghost_name ≡ l.fn.compactor.arena.ghost_name;
-      settles : IsSettling (goal_of packed_number) (Settles packed_number l.generation) (g.P.Inx.InxKey.number l.i) l.fn.compactor.held.slots l.compactor.held.slots;
+      settles : IsSettling (destination_of packed_number) (Settles packed_number l.generation) (g.P.Inx.InxKey.number l.i) l.fn.compactor.held.slots l.compactor.held.slots;
       capacity : l.compactor.held.stack_capacity ≡ l.fn.compactor.held.stack_capacity;
       maximum : l.compactor.held.maximum ≡ l.fn.compactor.held.maximum;
-      work : IsWorkOn l.fn.compactor.arena.now l.compactor.arena.now (waiting (goal_of packed_number) l.fn.compactor.held.slots) (waiting (goal_of packed_number) l.compactor.held.slots) 0;
+      work : IsWorkOn l.fn.compactor.arena.now l.compactor.arena.now (waiting (destination_of packed_number) l.fn.compactor.held.slots) (waiting (destination_of packed_number) l.compactor.held.slots) 0;
       counts : CountsOn l.fn.compactor.arena.now l.compactor.arena.now l.fn.compactor.placed l.fn.compactor.touched l.compactor.placed l.compactor.touched;
     }
 
 abbrev pub decreases-loop-to : goal.decreases-loop-to
-decreases-loop-to g l = waiting (goal_of g.P.Inx.InxKey.packed_number) l.compactor.held.slots
+decreases-loop-to g l = waiting (destination_of g.P.Inx.InxKey.packed_number) l.compactor.held.slots

@@ -32,7 +32,7 @@ pub returns-clause-round : goal.returns-clause-round
 returns-clause-round g c =
     let a = c.args.corners.now in
     let v = g.P.PtrKey.key c.args.v in
-    round_after (g.A.ChainArenaTrait.interlinks a) (g.A.ChainArenaTrait.interlinks c.insert.new.self) (g.P.PtrKey.key c.in-Ok.p).0 v.0 c.in-Ok.ensures.inserted.pairs (valid_link (g.A.ChainArenaTrait.interlinks a) (g.A.ArenaTrait.entry a) (g.A.ArenaTrait.seen a).entries (g.met.A.ChainArenaTrait.stand a) (g.met.A.ArenaTrait.looked_up a) v c.requires.valid)
+    round_after (g.A.ChainArenaTrait.interlinks a) (g.A.ChainArenaTrait.interlinks c.insert.new.self) (g.P.PtrKey.key c.in-Ok.p).0 v.0 c.in-Ok.ensures.inserted.pairs (valid_link (g.A.ChainArenaTrait.interlinks a) (g.A.ArenaTrait.entry a) (g.A.ArenaTrait.view a).entries (g.met.A.ChainArenaTrait.stand a) (g.met.A.ArenaTrait.looked_up a) v c.requires.valid)
 
 pub unreachable-requires : goal.unreachable-requires
 unreachable-requires g c = absurd (let succeeds = (c.in-Err.ensures.room c.requires.room).0 in cc)

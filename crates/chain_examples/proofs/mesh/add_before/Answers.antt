@@ -33,8 +33,8 @@ returns-clause-round g c =
     let a = c.args.corners.now in
     let u = g.P.PtrKey.key c.args.u in
     round_before (g.A.ChainArenaTrait.interlinks a) (g.A.ChainArenaTrait.interlinks c.insert.new.self) _ (g.P.PtrKey.key c.in-Ok.p).0 u.0 c.in-Ok.ensures.inserted.pairs c.insert.ensures.agreed
-    (links_within (g.A.ChainArenaTrait.interlinks a) (g.A.ArenaTrait.entry a) (g.A.ArenaTrait.seen a).entries (g.met.A.ChainArenaTrait.stand a) (g.met.A.ArenaTrait.looked_up a) _ c.invariants.ensures.indexes)
-    (valid_link (g.A.ChainArenaTrait.interlinks a) (g.A.ArenaTrait.entry a) (g.A.ArenaTrait.seen a).entries (g.met.A.ChainArenaTrait.stand a) (g.met.A.ArenaTrait.looked_up a) u c.requires.valid)
+    (links_within (g.A.ChainArenaTrait.interlinks a) (g.A.ArenaTrait.entry a) (g.A.ArenaTrait.view a).entries (g.met.A.ChainArenaTrait.stand a) (g.met.A.ArenaTrait.looked_up a) _ c.invariants.ensures.indexes)
+    (valid_link (g.A.ChainArenaTrait.interlinks a) (g.A.ArenaTrait.entry a) (g.A.ArenaTrait.view a).entries (g.met.A.ChainArenaTrait.stand a) (g.met.A.ArenaTrait.looked_up a) u c.requires.valid)
 
 pub unreachable-requires : goal.unreachable-requires
 unreachable-requires g c = absurd (let succeeds = (c.in-Err.ensures.room c.requires.room).0 in cc)

@@ -1,7 +1,7 @@
 -- By where the task that goes stands in turn.
 use Rattle.std.proofs.Common.{◌≡◌, ◌∙◌, ap, sym, subst, List, ◌∷◌, ◌++◌, Some}
 use Rattle.arena_base.specs.Entries.{first_key}
-use Rattle.chain_examples.specs.Lists.{Item, IsTurn}
+use Rattle.chain_examples.specs.Lists.{Item, IsQueueOrder}
 use Rattle.chain_examples.proofs.QueueOrderLemmas.{is_first, stays_first}
 use Rattle.chain_examples.proofs.queue.current_without.Goals as goal
 
@@ -11,9 +11,9 @@ returns-then-is_same g c = λ before after task is.
     let links = g.A.ChainArenaTrait.interlinks c.args.tasks.now in
     let p = g.P.PtrKey.key c.args.p in
     let same : c.args.current ≡ c.args.p = (g.met.P.PtrKey.same_is_equal c.args.current c.args.p).0 (sym c.is_same.ensures ∙ c.if-is_same.true) in
-    let turn = subst (λ (q : g.row.P.Denot). IsTurn entry links (Some (g.P.PtrKey.key q)) (before ++ (p, task) ∷ after)) same is in
+    let turn = subst (λ (q : g.row.P.Denot). IsQueueOrder entry links (Some (g.P.PtrKey.key q)) (before ++ (p, task) ∷ after)) same is in
     let empty = is_first entry links p task before after turn in
-    c.other_after.ensures (p, task) after (subst (λ (xs : List (Item g.row.P-Gen.Denot g.row.T.Denot)). IsTurn entry links (Some p) (xs ++ (p, task) ∷ after)) empty turn)
+    c.other_after.ensures (p, task) after (subst (λ (xs : List (Item g.row.P-Gen.Denot g.row.T.Denot)). IsQueueOrder entry links (Some p) (xs ++ (p, task) ∷ after)) empty turn)
     ∙ ap (λ (xs : List (Item g.row.P-Gen.Denot g.row.T.Denot)). first_key (xs ++ after)) (sym empty)
 
 pub returns : goal.returns

@@ -1,5 +1,5 @@
 -- By induction on the list.
-use Rattle.chain_laws.proofs.ListLemmas.Members.{Has-or_not}
+use Rattle.chain_laws.proofs.ListLemmas.Members.{IsMember-or_not}
 use Rattle.chain_laws.proofs.ListLemmas.MemberLaws.{has_in_join, has_in_turn, has_in_middle, has_is_written, has_is_filled}
 use Rattle.chain_laws.proofs.membership.lists_have.Goals as goal
 
@@ -16,7 +16,7 @@ pub returns-clause-written : goal.returns-clause-written
 returns-clause-written c = has_is_written
 
 pub returns-clause-decided : goal.returns-clause-decided
-returns-clause-decided c = Has-or_not
+returns-clause-decided c = IsMember-or_not
 
 pub returns-clause-filled : goal.returns-clause-filled
 returns-clause-filled c = has_is_filled

@@ -1,9 +1,9 @@
 -- The interlinks up to index k are answered.
 use Rattle.std.proofs.Common.{ℕ, ◌+◌, ◌<◌}
-use Rattle.chain_linking.specs.Consistency.{AgreesAt}
-use Rattle.chain_links.specs.ChainArena.{shown}
-use Rattle.chain_links.specs.Links.{seen_links}
+use Rattle.chain_linking.specs.Consistency.{IsWellLinkedAt}
+use Rattle.chain_links.specs.ChainArena.{link_map}
+use Rattle.chain_links.specs.Links.{links_view}
 use Rattle.chain_linking.proofs.consistency.links_agree.Given as goal
 
 abbrev pub invariant-loop-k : goal.invariant-loop-k
-invariant-loop-k g l = (k : ℕ) → k < l.k → AgreesAt (shown (seen_links g.P.Inx.InxKey.packed_number l.arena)) (k + 1)
+invariant-loop-k g l = (k : ℕ) → k < l.k → IsWellLinkedAt (link_map (links_view g.P.Inx.InxKey.packed_number l.arena)) (k + 1)

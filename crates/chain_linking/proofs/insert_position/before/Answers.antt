@@ -2,22 +2,22 @@
 use Rattle.std.proofs.Common.{Some, refl, sym, ap, ◌∙◌}
 use Rattle.std.proofs.lemmas.Bool.{false≢true}
 use Rattle.chain_laws.specs.Chains.{prev_in}
-use Rattle.chain_links.specs.ChainArena.{shown, entry}
-use Rattle.chain_links.specs.Links.{seen_links}
+use Rattle.chain_links.specs.ChainArena.{link_map, entry}
+use Rattle.chain_links.specs.Links.{links_view}
 use Rattle.chain_links.specs.Kinds.{name_of}
 use Rattle.chain_linking.proofs.InsertPositionLemmas.{may_come_before, no_gap}
 use Rattle.chain_linking.proofs.insert_position.before.Goals as goal
 
 pub returns-in-Some : goal.returns-in-Some
 returns-in-Some g c =
-    let seen = seen_links g.P.Inx.InxKey.packed_number c.args.arena.now in
+    let seen = links_view g.P.Inx.InxKey.packed_number c.args.arena.now in
     record {
-      some = (λ _. may_come_before (entry seen) (shown seen) (name_of g.P.PtrKey.key g.P.Inx.InxKey.number c.args.b) _ (c.in-Some.ensures.some.0 refl) c.in-Some.ensures.link, λ _. refl);
+      some = (λ _. may_come_before (entry seen) (link_map seen) (name_of g.P.PtrKey.key g.P.Inx.InxKey.number c.args.b) _ (c.in-Some.ensures.some.0 refl) c.in-Some.ensures.link, λ _. refl);
       before = λ q. c.prev.ensures ∙ sym (ap prev_in c.in-Some.ensures.link);
       after = λ q. ap Some c.index_of.ensures;
     }
 
 pub returns-in-None : goal.returns-in-None
 returns-in-None g c =
-    let seen = seen_links g.P.Inx.InxKey.packed_number c.args.arena.now in
-    no_gap g.P.Inx.InxKey.number (entry seen) (shown seen) _ (λ may. false≢true (c.in-None.ensures.some.1 may.0))
+    let seen = links_view g.P.Inx.InxKey.packed_number c.args.arena.now in
+    no_gap g.P.Inx.InxKey.number (entry seen) (link_map seen) _ (λ may. false≢true (c.in-None.ensures.some.1 may.0))

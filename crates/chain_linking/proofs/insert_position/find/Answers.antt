@@ -3,7 +3,7 @@ use Rattle.std.proofs.Common.{◌↔◌, refl, sym, ap, ◌∙◌, subst}
 use Rattle.std.specs.Prelude.{is_some, IsSome}
 use Rattle.std.proofs.lemmas.Bool.{false≢true}
 use Rattle.chain_links.specs.ChainArena.{entry}
-use Rattle.chain_links.specs.Links.{seen_links}
+use Rattle.chain_links.specs.Links.{links_view}
 use Rattle.chain_links.specs.Kinds.{HasName, name_of}
 use Rattle.chain_linking.proofs.ConnectionLemmas.{same_valid}
 use Rattle.chain_linking.proofs.InsertPositionLemmas.{if_some, stands-seen, shows-seen, nothing-seen}
@@ -15,7 +15,7 @@ returns-in-Pointer g c =
     let packed = g.P.Inx.InxKey.packed_number in
     let same = same_valid packed a (g.P.PtrKey.key c.in-Pointer.p) in
     record {
-      some = subst (λ n. IsSome c.get.result ↔ HasName (entry (seen_links packed a)) (name_of g.P.PtrKey.key g.P.Inx.InxKey.number n)) (sym c.in-Pointer.is)
+      some = subst (λ n. IsSome c.get.result ↔ HasName (entry (links_view packed a)) (name_of g.P.PtrKey.key g.P.Inx.InxKey.number n)) (sym c.in-Pointer.is)
           (λ h. same.0 (c.get.ensures.some.0 h), λ valid. c.get.ensures.some.1 (same.1 valid));
       link = rw c.in-Pointer.is (if_some c.get.result (λ link stands. shows-seen packed a (g.P.PtrKey.key c.in-Pointer.p).0 (g.P.PtrKey.key c.in-Pointer.p).1 link.now stands) c.get.ensures.value);
     }
@@ -27,7 +27,7 @@ returns-in-Some g c =
     let i = g.P.Inx.InxKey.number c.in-Index.i in
     let stands = sym c.in-Some.ensures in
     record {
-      some = (λ _. subst (λ n. HasName (entry (seen_links packed a)) (name_of g.P.PtrKey.key g.P.Inx.InxKey.number n)) (sym c.in-Index.is) (ap is_some (stands-seen packed a i _ _ stands)), λ _. refl);
+      some = (λ _. subst (λ n. HasName (entry (links_view packed a)) (name_of g.P.PtrKey.key g.P.Inx.InxKey.number n)) (sym c.in-Index.is) (ap is_some (stands-seen packed a i _ _ stands)), λ _. refl);
       link = rw c.in-Index.is (shows-seen packed a i _ _ stands);
     }
 
@@ -39,7 +39,7 @@ returns-in-None g c =
     record {
       some = (
         λ h. absurd (false≢true h),
-        λ h. absurd (false≢true (sym (ap is_some none) ∙ subst (λ n. HasName (entry (seen_links packed a)) (name_of g.P.PtrKey.key g.P.Inx.InxKey.number n)) c.in-Index.is h)),
+        λ h. absurd (false≢true (sym (ap is_some none) ∙ subst (λ n. HasName (entry (links_view packed a)) (name_of g.P.PtrKey.key g.P.Inx.InxKey.number n)) c.in-Index.is h)),
       );
       link = tt;
     }

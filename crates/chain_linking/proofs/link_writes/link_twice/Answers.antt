@@ -1,8 +1,8 @@
 -- Two links are made, the one after the other.
 use Rattle.std.specs.Option.{option_map}
-use Rattle.chain_links.specs.Links.{seen_links}
+use Rattle.chain_links.specs.Links.{links_view}
 use Rattle.chain_laws.specs.Joins.{linked}
-use Rattle.chain_links.specs.ChainArena.{shown}
+use Rattle.chain_links.specs.ChainArena.{link_map}
 use Rattle.chain_linking.proofs.NeighborLemmas.{still_named}
 use Rattle.chain_linking.proofs.LinkWriteLemmas.{FitsLinks-linked, linked_twice}
 use Rattle.chain_linking.proofs.link_writes.link_twice.Goals as goal
@@ -11,18 +11,18 @@ pub link_up-requires-2 : goal.link_up-requires-2
 link_up-requires-2 g c =
     let number = g.P.Inx.InxKey.number in
     let packed_number = g.P.Inx.InxKey.packed_number in
-    let a = seen_links packed_number c.args.arena.now in
-    let b = seen_links packed_number c.link_up.new.arena in
+    let a = links_view packed_number c.args.arena.now in
+    let b = links_view packed_number c.link_up.new.arena in
     let prev = option_map number c.args.first.0 in
     let next = option_map number c.args.first.1 in
     record {
-      prev = still_named a b (linked (shown a) prev next) (option_map number c.args.second.0) (FitsLinks-linked a prev next) c.link_up.ensures c.requires.second_prev;
-      next = still_named a b (linked (shown a) prev next) (option_map number c.args.second.1) (FitsLinks-linked a prev next) c.link_up.ensures c.requires.second_next;
+      prev = still_named a b (linked (link_map a) prev next) (option_map number c.args.second.0) (FitsLinks-linked a prev next) c.link_up.ensures c.requires.second_prev;
+      next = still_named a b (linked (link_map a) prev next) (option_map number c.args.second.1) (FitsLinks-linked a prev next) c.link_up.ensures c.requires.second_next;
     }
 
 pub returns : goal.returns
 returns g c =
     let number = g.P.Inx.InxKey.number in
     let packed_number = g.P.Inx.InxKey.packed_number in
-    linked_twice (seen_links packed_number c.args.arena.now) (seen_links packed_number c.link_up.new.arena) (seen_links packed_number c.link_up-2.new.arena)
+    linked_twice (links_view packed_number c.args.arena.now) (links_view packed_number c.link_up.new.arena) (links_view packed_number c.link_up-2.new.arena)
     (option_map number c.args.first.0) (option_map number c.args.first.1) (option_map number c.args.second.0) (option_map number c.args.second.1) c.link_up.ensures c.link_up-2.ensures

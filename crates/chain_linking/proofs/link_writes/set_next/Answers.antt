@@ -5,10 +5,10 @@ use Rattle.chain_laws.specs.Joins.{with_next}
 use Rattle.arena_ptr.specs.declared.packed_option.PackedOption.{PackedOption}
 use Rattle.chain_links.specs.declared.links.LinkBody.{LinkBody}
 use Rattle.arena_base.specs.Arena.{with_value}
-use Rattle.chain_links.specs.Links.{seen_links, seen_link}
+use Rattle.chain_links.specs.Links.{links_view, link_view}
 use Rattle.chain_links.specs.ChainArena.{interlinks_in, with_interlinks}
 use Rattle.chain_linking.proofs.NeighborLemmas.{nothing_named}
-use Rattle.chain_linking.proofs.LinkWriteLemmas.{IsWrite, seen_links-write, relinked-own}
+use Rattle.chain_linking.proofs.LinkWriteLemmas.{IsWrite, links_view-write, relinked-own}
 use Rattle.chain_linking.proofs.link_writes.set_next.Goals as goal
 
 pub returns-in-Some-get_inx_mut : goal.returns-in-Some-get_inx_mut
@@ -19,11 +19,11 @@ returns-in-Some-get_inx_mut g c =
     let n = number c.in-Some.i in
     let packed : PackedOption g.row.P-Inx.Denot g.row.P-Inx-Word.Denot = c.set_next.new.link.next in
     let write : LinkBody (PackedOption g.row.P-Inx.Denot g.row.P-Inx-Word.Denot) g.row.T.Denot → LinkBody (PackedOption g.row.P-Inx.Denot g.row.P-Inx-Word.Denot) g.row.T.Denot = λ l. record l { next = packed } in
-    let says : IsWrite packed_number write (with_next (option_map number c.args.next)) = λ l. ap (λ o. with_interlinks (with_next o (interlinks_in (seen_link packed_number l))) (seen_link packed_number l)) c.set_next.ensures.next in
+    let says : IsWrite packed_number write (with_next (option_map number c.args.next)) = λ l. ap (λ o. with_interlinks (with_next o (interlinks_in (link_view packed_number l))) (link_view packed_number l)) c.set_next.ensures.next in
     let held = rw c.in-Some-get_inx_mut.is at (c.get_inx_mut.follows.holds c.set_next.new.link) in
-    rw c.in-Some.is (ap (seen_links packed_number) held.1
-    ∙ (ap (λ l. seen_links packed_number (with_value a n l)) c.set_next.ensures.rest
-    ∙ seen_links-write packed_number a n c.in-Some-get_inx_mut.link.now write (with_next (option_map number c.args.next)) _ says
+    rw c.in-Some.is (ap (links_view packed_number) held.1
+    ∙ (ap (λ l. links_view packed_number (with_value a n l)) c.set_next.ensures.rest
+    ∙ links_view-write packed_number a n c.in-Some-get_inx_mut.link.now write (with_next (option_map number c.args.next)) _ says
     (sym c.get_inx_mut.ensures.value ∙ ap option_copied_mut c.in-Some-get_inx_mut.is) (λ i. refl)))
 
 pub excluded-assert_unchecked-requires : goal.excluded-assert_unchecked-requires
@@ -32,4 +32,4 @@ excluded-assert_unchecked-requires g c = absurd (
     (sym c.get_inx_mut.ensures.value ∙ ap option_copied_mut c.in-None-get_inx_mut.is) (rw c.in-Some.is at c.requires))
 
 pub returns-in-None : goal.returns-in-None
-returns-in-None g c = rw c.in-None.is (relinked-own (seen_links g.P.Inx.InxKey.packed_number c.args.arena.now))
+returns-in-None g c = rw c.in-None.is (relinked-own (links_view g.P.Inx.InxKey.packed_number c.args.arena.now))

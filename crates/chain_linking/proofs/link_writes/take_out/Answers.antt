@@ -5,8 +5,8 @@ use Rattle.std.specs.Option.{option_map}
 use Rattle.arena_ptr.specs.Invalidation.{value_within}
 use Rattle.arena_base.specs.Arena.{entry_at}
 use Rattle.arena_base.proofs.ArenaViewLemmas.{value_within-made}
-use Rattle.chain_links.specs.Links.{seen_links, seen_link, seen_pair}
-use Rattle.chain_links.proofs.LinkStateLemmas.{entry_at-seen_links}
+use Rattle.chain_links.specs.Links.{links_view, link_view, pair_view}
+use Rattle.chain_links.proofs.LinkStateLemmas.{entry_at-links_view}
 use Rattle.chain_links.proofs.MappedArenaLemmas.{with_each-remove_at}
 use Rattle.chain_linking.proofs.ConnectionLemmas.{prev_of-seen, next_of-seen}
 use Rattle.chain_linking.proofs.UnlinkLemmas.{removal_by_steps, were_beside}
@@ -22,8 +22,8 @@ close_over-requires g c =
     let stands : entry_at a n ≡ Some (c.in-Some.generation, link) = sym c.remove_inx.ensures.answer ∙ (sym (ap (λ x. x.0) c.overflowing-entry.ensures) ∙ c.in-Some.is) in
     let named_prev : option_map number c.prev.result ≡ packed link.prev = search of_calls in
     let named_next : option_map number c.next.result ≡ packed link.next = search of_calls in
-    were_beside g.P.Gen.GenKey.following (seen_links packed a) (seen_links packed c.remove_inx.new.self) n _ _
-    (ap (seen_links packed) (c.remove_inx.ensures.more (ap is_some stands)) ∙ with_each-remove_at (seen_link packed) g.P.Gen.GenKey.following a n) c.requires
+    were_beside g.P.Gen.GenKey.following (links_view packed a) (links_view packed c.remove_inx.new.self) n _ _
+    (ap (links_view packed) (c.remove_inx.ensures.more (ap is_some stands)) ∙ with_each-remove_at (link_view packed) g.P.Gen.GenKey.following a n) c.requires
     (named_prev ∙ sym (prev_of-seen packed a (n, c.in-Some.generation) link stands)) (named_next ∙ sym (next_of-seen packed a (n, c.in-Some.generation) link stands))
 
 pub returns-in-Some-clause-answer : goal.returns-in-Some-clause-answer
@@ -33,7 +33,7 @@ returns-in-Some-clause-answer g c =
     let n = g.P.Inx.InxKey.number c.args.i in
     let stands : entry_at a n ≡ Some (c.in-Some.generation, c.in-Some.link) = sym c.remove_inx.ensures.answer ∙ (sym (ap (λ x. x.0) c.overflowing-entry.ensures) ∙ c.in-Some.is) in
     let found : value_within c.outcome.result ≡ Some (c.in-Some.generation, c.in-Some.link) = search (of_calls, value_within-made) in
-    ap (option_map (seen_pair packed)) found ∙ sym (entry_at-seen_links packed a n ∙ ap (option_map (seen_pair packed)) stands)
+    ap (option_map (pair_view packed)) found ∙ sym (entry_at-links_view packed a n ∙ ap (option_map (pair_view packed)) stands)
 
 pub returns-in-Some-clause-valid : goal.returns-in-Some-clause-valid
 returns-in-Some-clause-valid g c =
@@ -45,9 +45,9 @@ returns-in-Some-clause-valid g c =
     let stands : entry_at a n ≡ Some (c.in-Some.generation, link) = sym c.remove_inx.ensures.answer ∙ (sym (ap (λ x. x.0) c.overflowing-entry.ensures) ∙ c.in-Some.is) in
     let named_prev : option_map number c.prev.result ≡ packed link.prev = search of_calls in
     let named_next : option_map number c.next.result ≡ packed link.next = search of_calls in
-    λ _. removal_by_steps g.P.Gen.GenKey.following (seen_links packed a) (seen_links packed c.remove_inx.new.self) (seen_links packed c.close_over.new.arena) n
+    λ _. removal_by_steps g.P.Gen.GenKey.following (links_view packed a) (links_view packed c.remove_inx.new.self) (links_view packed c.close_over.new.arena) n
     (option_map number c.prev.result) (option_map number c.next.result)
-    (ap (seen_links packed) (c.remove_inx.ensures.more (ap is_some stands)) ∙ with_each-remove_at (seen_link packed) g.P.Gen.GenKey.following a n)
+    (ap (links_view packed) (c.remove_inx.ensures.more (ap is_some stands)) ∙ with_each-remove_at (link_view packed) g.P.Gen.GenKey.following a n)
     c.close_over.ensures
     (named_prev ∙ sym (prev_of-seen packed a (n, c.in-Some.generation) link stands))
     (named_next ∙ sym (next_of-seen packed a (n, c.in-Some.generation) link stands))
@@ -58,4 +58,4 @@ returns-in-None-clause-answer g c =
     let a = c.args.arena.now in
     let n = g.P.Inx.InxKey.number c.args.i in
     let none : entry_at a n ≡ None = sym c.remove_inx.ensures.answer ∙ (sym (ap (λ x. x.0) c.overflowing-entry.ensures) ∙ c.in-None.is) in
-    sym (entry_at-seen_links packed a n ∙ ap (option_map (seen_pair packed)) none)
+    sym (entry_at-links_view packed a n ∙ ap (option_map (pair_view packed)) none)

@@ -10,7 +10,7 @@ pub start_of-start-requires-clause-some : goal.start_of-start-requires-clause-so
 start_of-start-requires-clause-some g c =
     let source = c.args.source.now in
     let low = c.requires.low in
-    let first = next_is (g.A.ArenaTrait.seen source).entries (g.A.ArenaTrait.looks c.args.advancer.now) (g.A.ArenaTrait.looks c.advance.new.self) low.0 (g.Q.PtrKey.key c.in-Some.q) low.1 low.2
+    let first = next_is (g.A.ArenaTrait.view source).entries (g.A.ArenaTrait.cursor c.args.advancer.now) (g.A.ArenaTrait.cursor c.advance.new.self) low.0 (g.Q.PtrKey.key c.in-Some.q) low.1 low.2
     (g.met.A.ArenaTrait.advances c.args.advancer.now c.advance.new.self source (Some c.in-Some.q) c.in-Some.ensures) in
     ap is_some (ap (g.A.ArenaTrait.entry source) c.inx.ensures ∙ sym (g.met.A.ArenaTrait.looked_up source (g.Q.PtrKey.key c.in-Some.q).0)) ∙ first.0.stands
 
@@ -18,7 +18,7 @@ pub excluded-assert_unchecked-requires : goal.excluded-assert_unchecked-requires
 excluded-assert_unchecked-requires g c = absurd (
     let source = c.args.source.now in
     let low = c.requires.low in
-    c.requires.some (none_is (g.A.ArenaTrait.seen source).entries (g.A.ArenaTrait.looks c.args.advancer.now) (g.A.ArenaTrait.looks c.advance.new.self) low.0 low.1 low.2
+    c.requires.some (none_is (g.A.ArenaTrait.view source).entries (g.A.ArenaTrait.cursor c.args.advancer.now) (g.A.ArenaTrait.cursor c.advance.new.self) low.0 low.1 low.2
     (g.met.A.ArenaTrait.advances c.args.advancer.now c.advance.new.self source None c.in-None.ensures)))
 
 pub returns-clause-next : goal.returns-clause-next
@@ -26,7 +26,7 @@ returns-clause-next g c =
     let source = c.args.source.now in
     let low = c.requires.low in
     let links = g.A.ChainArenaTrait.interlinks source in
-    let first = next_is (g.A.ArenaTrait.seen source).entries (g.A.ArenaTrait.looks c.args.advancer.now) (g.A.ArenaTrait.looks c.advance.new.self) low.0 (g.Q.PtrKey.key c.in-Some.q) low.1 low.2
+    let first = next_is (g.A.ArenaTrait.view source).entries (g.A.ArenaTrait.cursor c.args.advancer.now) (g.A.ArenaTrait.cursor c.advance.new.self) low.0 (g.Q.PtrKey.key c.in-Some.q) low.1 low.2
     (g.met.A.ArenaTrait.advances c.args.advancer.now c.advance.new.self source (Some c.in-Some.q) c.in-Some.ensures) in
     record {
       least = (g.Q.PtrKey.key c.in-Some.q).0;

@@ -34,7 +34,7 @@ loop-step-preserved g c =
     record {
       back = back_goes_on links (number c.args.i) c.loop-step.step (number c.loop-step.at) (number c.in-Some.k) c.loop-step.invariant.back before
           (λ e. not_both _ ((g.met.Q.Inx.InxKey.same_is_equal c.in-Some.k c.args.i).1 (g.met.Q.Inx.InxKey.same_number c.in-Some.k c.args.i e)) (sym told ∙ c.if-is_same.false));
-      some = valid_some links (g.A.ArenaTrait.entry source) (g.A.ArenaTrait.seen source).entries (g.met.A.ChainArenaTrait.stand source) (g.met.A.ArenaTrait.looked_up source) (number c.in-Some.k)
+      some = valid_some links (g.A.ArenaTrait.entry source) (g.A.ArenaTrait.view source).entries (g.met.A.ChainArenaTrait.stand source) (g.met.A.ArenaTrait.looked_up source) (number c.in-Some.k)
           (next_valid links (number c.in-Some.k) (number c.loop-step.at) ((c.requires.agree.both (number c.in-Some.k) (number c.loop-step.at)).1 before));
     }
 
@@ -42,6 +42,6 @@ pub excluded-assert_unchecked-requires : goal.excluded-assert_unchecked-requires
 excluded-assert_unchecked-requires g c = absurd (
     let number = g.Q.Inx.InxKey.number in
     let source = c.args.source.now in
-    let few = few_back (g.A.ChainArenaTrait.interlinks source) (g.A.ArenaTrait.entry source) (g.A.ArenaTrait.seen source).entries (g.met.A.ChainArenaTrait.stand source) (g.met.A.ArenaTrait.looked_up source)
+    let few = few_back (g.A.ChainArenaTrait.interlinks source) (g.A.ArenaTrait.entry source) (g.A.ArenaTrait.view source).entries (g.met.A.ChainArenaTrait.stand source) (g.met.A.ArenaTrait.looked_up source)
     g.Q.Inx.InxKey.greatest c.len-step-end.ensures.indexes (number c.args.i) c.loop-step.step (number c.loop-step.at) c.requires.agree c.requires.some c.loop-step.invariant.back in
     omega (arith, few, c.len-step-end.ensures.count))

@@ -1,6 +1,6 @@
 -- What grows is the room.
 use Rattle.std.proofs.Common.{ap, arith}
-use Rattle.arena_base.specs.Entries.{seen_of}
+use Rattle.arena_base.specs.Entries.{view_of}
 use Rattle.arena_base.proofs.SlotCopyLemmas.{on_ok}
 use Rattle.arena_base.proofs.arena_trait.ArenaArenaTrait.reallocate_min_capacity.Goals as goal
 
@@ -14,7 +14,7 @@ returns g c =
       greatest = made.greatest;
       ok = on_ok c.grow_to.result (λ has. has.room.0) made.ok;
       err = made.err;
-      after = ap seen_of made.after;
+      after = ap view_of made.after;
       never_less = made.never_less;
       more = (made.after, made.reached);
     }

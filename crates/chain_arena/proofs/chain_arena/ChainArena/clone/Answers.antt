@@ -3,8 +3,8 @@ use Rattle.std.proofs.Common.{length, refl, ap, sym, ◌∙◌, subst}
 use Rattle.arena_base.specs.Arena.{Arena, new_arena, IsWithinReach}
 use Rattle.arena_base.proofs.SlotCopyLemmas.{on_ok_is}
 use Rattle.chain_arena.specs.LinkCopies.{IsClone}
-use Rattle.chain_links.specs.ChainArena.{LinkSeen}
-use Rattle.chain_links.specs.Links.{seen_link, seen_links}
+use Rattle.chain_links.specs.ChainArena.{LinkView}
+use Rattle.chain_links.specs.Links.{link_view, links_view}
 use Rattle.chain_links.proofs.MappedArenaLemmas.{length-with_each}
 use Rattle.chain_arena.proofs.LinkCopyLemmas.{clone_agrees, is_clone_of, no_room_needed}
 use Rattle.chain_arena.proofs.chain_arena.ChainArena.clone.Goals as goal
@@ -24,7 +24,7 @@ pub returns-in-Ok-clause-copied : goal.returns-in-Ok-clause-copied
 returns-in-Ok-clause-copied g c =
     let number = g.P.Inx.InxKey.packed_number in
     let made = c.clone_from_by-done in
-    subst (λ a. IsClone g.P.Gen.GenKey.first g.S.SlotStack.initial_maximum a (seen_links number made.new.self)) c.self.view_is
+    subst (λ a. IsClone g.P.Gen.GenKey.first g.S.SlotStack.initial_maximum a (links_view number made.new.self)) c.self.view_is
     (is_clone_of number g.T.Clone.is_clone c.requires.clones_equal g.P.PtrKey.key _ made.result.1 c.self.inside.arena c.new-arena.result made.new.self
     (on_ok_is made.result.0 _ c.in-Ok.is made.ensures.copied) (on_ok_is made.result.0 _ c.in-Ok.is made.ensures.slots) g.P.Gen.GenKey.first g.S.SlotStack.initial_maximum (c.new-arena.ensures.more.none refl))
 
@@ -34,7 +34,7 @@ returns-in-Ok-clause-reached g c =
     let source = c.self.inside.arena in
     let made = c.clone_from_by-done in
     let may_reach = g.S.SlotStack.may_reach in
-    let empty : Arena g.row.P-Gen.Denot (LinkSeen g.row.T.Denot) = new_arena g.P.Gen.GenKey.first g.S.SlotStack.initial_maximum in
+    let empty : Arena g.row.P-Gen.Denot (LinkView g.row.T.Denot) = new_arena g.P.Gen.GenKey.first g.S.SlotStack.initial_maximum in
     let over = subst (λ a. IsWithinReach may_reach (length source.slots) a made.new.self) (c.new-arena.ensures.more.none refl) made.ensures.reached in
     rw (← c.self.view_is)
-    (subst (λ n. IsWithinReach may_reach n empty (seen_links number made.new.self)) (sym (length-with_each (seen_link number) source)) over)
+    (subst (λ n. IsWithinReach may_reach n empty (links_view number made.new.self)) (sym (length-with_each (link_view number) source)) over)

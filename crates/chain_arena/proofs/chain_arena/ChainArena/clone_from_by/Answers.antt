@@ -1,10 +1,10 @@
 -- The links that are made of those of the source name the same neighbors.
 use Rattle.std.proofs.Common.{◌≤◌, ap, subst, sym}
-use Rattle.chain_laws.specs.Chains.{Agrees}
+use Rattle.chain_laws.specs.Chains.{IsWellLinked}
 use Rattle.arena_base.specs.Arena.{IsWithinReach}
 use Rattle.arena_base.proofs.SlotCopyLemmas.{either_as, on_err_either, on_ok_both}
-use Rattle.chain_links.specs.ChainArena.{shown}
-use Rattle.chain_links.specs.Links.{seen_link, seen_links}
+use Rattle.chain_links.specs.ChainArena.{link_map}
+use Rattle.chain_links.specs.Links.{link_view, links_view}
 use Rattle.chain_links.proofs.MappedArenaLemmas.{length-with_each}
 use Rattle.chain_arena.specs.LinkCopies.{MakesOf}
 use Rattle.chain_arena.proofs.LinkCopyLemmas.{agrees_copied, either_way, given_up_agrees, link_copied, refusable_seen}
@@ -17,9 +17,9 @@ invariant_of-self g c =
     let old = c.self.inside.arena in
     let called = c.clone_from_by-done in
     let new = called.new.self in
-    either_way called.result.0 (λ made has. agrees_copied number (MakesOf (seen_link number) g.M.ValueMap.makes) (λ m. m.values) g.P.PtrKey.key _ called.result.1 source old new made has c.source.invariant)
-    (λ same. subst (λ a. Agrees (shown (seen_links number a))) (sym same.0) c.self.invariant)
-    (λ gave_up. given_up_agrees (seen_links number old) (seen_links number new) (ap (seen_links number) gave_up.1)) called.ensures.copied called.ensures.slots called.ensures.err
+    either_way called.result.0 (λ made has. agrees_copied number (MakesOf (link_view number) g.M.ValueMap.makes) (λ m. m.values) g.P.PtrKey.key _ called.result.1 source old new made has c.source.invariant)
+    (λ same. subst (λ a. IsWellLinked (link_map (links_view number a))) (sym same.0) c.self.invariant)
+    (λ gave_up. given_up_agrees (links_view number old) (links_view number new) (ap (links_view number) gave_up.1)) called.ensures.copied called.ensures.slots called.ensures.err
 
 pub returns-clause-within : goal.returns-clause-within
 returns-clause-within g c =
@@ -27,14 +27,14 @@ returns-clause-within g c =
     let source = c.source.inside.arena in
     rw (← c.source.view_is, ← c.self.view_is)
     (λ few. either_as (refusable_seen number g.M.ValueMap.may_refuse g.P.PtrKey.key source)
-    (c.clone_from_by-done.ensures.within (subst (λ n. n ≤ c.self.inside.arena.capacity) (length-with_each (seen_link number) source) few)))
+    (c.clone_from_by-done.ensures.within (subst (λ n. n ≤ c.self.inside.arena.capacity) (length-with_each (link_view number) source) few)))
 
 pub returns-clause-copied : goal.returns-clause-copied
 returns-clause-copied g c =
     let number = g.P.Inx.InxKey.packed_number in
     let called = c.clone_from_by-done in
     rw (← c.source.view_is, ← c.self.view_is)
-    (on_ok_both called.result.0 (link_copied number (MakesOf (seen_link number) g.M.ValueMap.makes) (λ m. m.values) g.P.PtrKey.key _ called.result.1 c.source.inside.arena c.self.inside.arena called.new.self)
+    (on_ok_both called.result.0 (link_copied number (MakesOf (link_view number) g.M.ValueMap.makes) (λ m. m.values) g.P.PtrKey.key _ called.result.1 c.source.inside.arena c.self.inside.arena called.new.self)
     called.ensures.copied called.ensures.slots)
 
 pub returns-clause-err : goal.returns-clause-err
@@ -42,19 +42,19 @@ returns-clause-err g c =
     let number = g.P.Inx.InxKey.packed_number in
     let called = c.clone_from_by-done in
     rw (← c.source.view_is, ← c.self.view_is)
-    (on_err_either called.result.0 (λ same. (ap (seen_links number) same.0, ap (λ m. m.values) same.1))
-    (λ gave_up. (refusable_seen number g.M.ValueMap.may_refuse g.P.PtrKey.key c.source.inside.arena gave_up.0, ap (seen_links number) gave_up.1)) called.ensures.err)
+    (on_err_either called.result.0 (λ same. (ap (links_view number) same.0, ap (λ m. m.values) same.1))
+    (λ gave_up. (refusable_seen number g.M.ValueMap.may_refuse g.P.PtrKey.key c.source.inside.arena gave_up.0, ap (links_view number) gave_up.1)) called.ensures.err)
 
 pub returns-clause-reached : goal.returns-clause-reached
 returns-clause-reached g c =
     let number = g.P.Inx.InxKey.packed_number in
     let source = c.source.inside.arena in
     rw (← c.source.view_is, ← c.self.view_is)
-    (subst (λ n. IsWithinReach g.S.SlotStack.may_reach n c.self.inside.arena c.clone_from_by-done.new.self) (sym (length-with_each (seen_link number) source)) c.clone_from_by-done.ensures.reached)
+    (subst (λ n. IsWithinReach g.S.SlotStack.may_reach n c.self.inside.arena c.clone_from_by-done.new.self) (sym (length-with_each (link_view number) source)) c.clone_from_by-done.ensures.reached)
 
 pub returns-clause-unchanged : goal.returns-clause-unchanged
 returns-clause-unchanged g c =
     let number = g.P.Inx.InxKey.packed_number in
     rw (← c.self.view_is) (λ is.
     let same = c.clone_from_by-done.ensures.unchanged is in
-    (ap (seen_links number) same.0, ap (λ m. m.values) same.1))
+    (ap (links_view number) same.0, ap (λ m. m.values) same.1))

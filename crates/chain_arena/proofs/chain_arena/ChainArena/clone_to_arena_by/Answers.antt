@@ -2,7 +2,7 @@
 use Rattle.std.proofs.Common.{◌≤◌, subst}
 use Rattle.std.proofs.lemmas.Result.{on_ok_weaker}
 use Rattle.arena_base.proofs.SlotCopyLemmas.{either_as, on_err_either}
-use Rattle.chain_links.specs.Links.{seen_link}
+use Rattle.chain_links.specs.Links.{link_view}
 use Rattle.chain_links.proofs.MappedArenaLemmas.{length-with_each}
 use Rattle.chain_arena.proofs.LinkCopyLemmas.{copy_as_seen, refusable_seen}
 use Rattle.chain_arena.proofs.chain_arena.ChainArena.clone_to_arena_by.Goals as goal
@@ -13,7 +13,7 @@ returns-clause-within g c =
     let links = c.self.inside.arena in
     rw (← c.self.view_is)
     (λ few. either_as (refusable_seen number g.M.ValueMap.may_refuse g.P.PtrKey.key links)
-    (c.clone_from_by.ensures.within (subst (λ n. n ≤ (g.A.ArenaTrait.seen c.args.arena.now).capacity) (length-with_each (seen_link number) links) few)))
+    (c.clone_from_by.ensures.within (subst (λ n. n ≤ (g.A.ArenaTrait.view c.args.arena.now).capacity) (length-with_each (link_view number) links) few)))
 
 pub returns-clause-copied : goal.returns-clause-copied
 returns-clause-copied g c =

@@ -1,6 +1,6 @@
 -- The drain stands at the pointer's link, and nothing has changed yet.
 use Rattle.std.proofs.Common.{refl, ◌∙◌}
-use Rattle.chain_arena.proofs.ChainDrainLemmas.{index_from-is, walk_left-valid}
+use Rattle.chain_arena.proofs.ChainDrainLemmas.{nonzero_index-is, walk_left-valid}
 use Rattle.chain_arena.proofs.chain_arena.ChainArena.drain_chain.Goals as goal
 
 pub returns : goal.returns
@@ -12,7 +12,7 @@ returns g c =
         some = (λ _. valid, λ _. refl);
         same_reference = refl;
         arena = refl;
-        at = index_from-is c.number_or_zero-at.result _ c.number_or_zero-at.ensures.index ∙ c.inx.ensures;
+        at = nonzero_index-is c.number_or_zero-at.result _ c.number_or_zero-at.ensures.index ∙ c.inx.ensures;
         walk = walk_left-valid c.args.self.now (g.P.PtrKey.key c.args.p) c.invariants.ensures.agree valid;
       },
     )

@@ -4,8 +4,8 @@ use Rattle.std.specs.Option.{option_map}
 use Rattle.arena_ptr.specs.Invalidation.{value_within}
 use Rattle.arena_base.specs.Arena.{entry_at}
 use Rattle.arena_base.specs.Entries.{entry_removed}
-use Rattle.chain_links.specs.ChainArena.{seen, values_of, remove_link}
-use Rattle.chain_arena.proofs.ChainDrainLemmas.{index_from-is}
+use Rattle.chain_links.specs.ChainArena.{value_view, values_of, remove_link}
+use Rattle.chain_arena.proofs.ChainDrainLemmas.{nonzero_index-is}
 use Rattle.chain_arena.proofs.LinkRemovalLemmas.{value_alone_told, seen_at, removal_at}
 use Rattle.chain_arena.proofs.LinkDrainLemmas.{drained_has, drained_first, first_valid, overflow_told, IsBehind, is_behind}
 use Rattle.chain_arena.proofs.chain_arena.ChainArena.drain_first.Goals as goal
@@ -34,11 +34,11 @@ returns-in-Some-entry-clause-some g c =
     let made = c.unlink.ensures in
     let valid = first_valid a c.args.at (key p) c.in-Some.ensures in
     let has = sym (ap (λ x. x.0) c.overflowing-entry.ensures) ∙ c.in-Some-entry.is in
-    let index : c.number_or_zero.result ≡ (key p).0 = index_from-is c.number_or_zero.result _ c.number_or_zero.ensures.index ∙ c.inx-in-Some-entry.ensures in
+    let index : c.number_or_zero.result ≡ (key p).0 = nonzero_index-is c.number_or_zero.result _ c.number_or_zero.ensures.index ∙ c.inx-in-Some-entry.ensures in
     drained_first key following wraps a b c.args.at c.saturating_add-behind.result p c.in-Some.ensures (option_map (λ e. e.1.t) v)
     (value_alone_told packed following a b _ v made.answer ∙ ap (λ (n : ℕ). option_map (λ e. e.1) (entry_at (values_of a) n)) c.inx.ensures)
     c.in-Some-entry.link.t c.overflowing-entry.result.1 c.invalidated.result
-    (seen_at packed following a b _ v made.answer made.removal (key p) c.inx.ensures valid ∙ ap (entry_removed following (seen a)) c.inx.ensures)
+    (seen_at packed following a b _ v made.answer made.removal (key p) c.inx.ensures valid ∙ ap (entry_removed following (value_view a)) c.inx.ensures)
     ((removal_at packed following a b _ v made.answer made.removal (key p) c.inx.ensures valid).state ∙ ap (remove_link following a) c.inx.ensures)
     (ap (option_map (λ e. e.1.t)) has)
     (ap (λ x. x.1) c.overflowing-entry.ensures ∙ overflow_told (wraps a.counter) c.unlink.result _ made.overflow has)

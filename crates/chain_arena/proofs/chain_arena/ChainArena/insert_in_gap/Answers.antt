@@ -1,13 +1,13 @@
 -- The link comes into the gap, and the interlinks still agree.
 use Rattle.std.proofs.Common.{◌≡◌, ◌<◌, refl, sym, ap, subst, arith}
-use Rattle.chain_laws.specs.Chains.{Agrees}
-use Rattle.chain_laws.specs.Insertions.{IsGap}
+use Rattle.chain_laws.specs.Chains.{IsWellLinked}
+use Rattle.chain_laws.specs.Insertions.{IsInsertPosition}
 use Rattle.chain_laws.proofs.InsertionLemmas.Pairs.{gap_between}
 use Rattle.arena_base.specs.Arena.{entry_count, next_index}
-use Rattle.chain_links.specs.Links.{seen_links}
+use Rattle.chain_links.specs.Links.{links_view}
 use Rattle.chain_linking.specs.InsertPositions.{before_in, after_in}
-use Rattle.chain_links.specs.ChainArena.{shown, insert_between}
-use Rattle.chain_links.proofs.ArenaInsertionLemmas.{entry_count-seen_links, listed-seen_links, shown-next}
+use Rattle.chain_links.specs.ChainArena.{link_map, insert_between}
+use Rattle.chain_links.proofs.ArenaInsertionLemmas.{entry_count-links_view, listed-links_view, link_map-next}
 use Rattle.chain_linking.proofs.LinkInsertionLemmas.{placed_in_room, before_stands, after_stands}
 use Rattle.chain_arena.proofs.NewLinkLemmas.{next_seen}
 use Rattle.chain_arena.proofs.InsertionEffectLemmas.{agrees-insert_between}
@@ -16,30 +16,30 @@ use Rattle.chain_arena.proofs.chain_arena.ChainArena.insert_in_gap.Goals.{After-
 use Rattle.chain_arena.proofs.chain_arena.ChainArena.insert_in_gap.Goals as goal
 
 -- the gap, in the links that the arena holds
-gap : (g : Over) (c : After-tie g) → let s = seen_links g.P.Inx.InxKey.packed_number c.self.inside.arena in
-    IsGap (shown s) (next_index s) (before_in g.P.Inx.InxKey.number c.args.gap (next_index s)) (after_in g.P.Inx.InxKey.number c.args.gap (next_index s))
+gap : (g : Over) (c : After-tie g) → let s = links_view g.P.Inx.InxKey.packed_number c.self.inside.arena in
+    IsInsertPosition (link_map s) (next_index s) (before_in g.P.Inx.InxKey.number c.args.gap (next_index s)) (after_in g.P.Inx.InxKey.number c.args.gap (next_index s))
 gap g c = rw (← c.self.view_is) at c.requires.gap
 
 -- what stands then
-inserted : (g : Over) (c : After-tie g) → let s = seen_links g.P.Inx.InxKey.packed_number c.self.inside.arena in let d = seen_links g.P.Inx.InxKey.packed_number c.tie.new.arena in
+inserted : (g : Over) (c : After-tie g) → let s = links_view g.P.Inx.InxKey.packed_number c.self.inside.arena in let d = links_view g.P.Inx.InxKey.packed_number c.tie.new.arena in
     d ≡ insert_between s c.args.t (before_in g.P.Inx.InxKey.number c.args.gap (next_index s)) (after_in g.P.Inx.InxKey.number c.args.gap (next_index s))
 inserted g c =
     let packed = g.P.Inx.InxKey.packed_number in
     let number = g.P.Inx.InxKey.number in
     let a = c.self.inside.arena in
-    let s = seen_links packed a in
+    let s = links_view packed a in
     let q = next_index s in
-    placed_in_room packed number a c.insert_within_capacity.new.self (seen_links packed c.tie.new.arena) c.args.gap c.args.t c.link_in.result c.invariants.ensures.listed c.link_in.ensures
-    (gap_between (shown s) q (before_in number c.args.gap q) (after_in number c.args.gap q) c.self.invariant (shown-next s (listed-seen_links packed a c.invariants.ensures.listed).free) (gap g c)).forth.itself
+    placed_in_room packed number a c.insert_within_capacity.new.self (links_view packed c.tie.new.arena) c.args.gap c.args.t c.link_in.result c.invariants.ensures.listed c.link_in.ensures
+    (gap_between (link_map s) q (before_in number c.args.gap q) (after_in number c.args.gap q) c.self.invariant (link_map-next s (listed-links_view packed a c.invariants.ensures.listed).free) (gap g c)).forth.itself
     (g.P.PtrKey.key c.in-Ok.p).0 (ap (λ p. p.0) {y = (next_index a, a.counter)} c.in-Ok.ensures.ptr) c.tie.ensures c.in-Ok.ensures.ok
 
 pub excluded-assert_unchecked-requires : goal.excluded-assert_unchecked-requires
 excluded-assert_unchecked-requires g c =
     let packed = g.P.Inx.InxKey.packed_number in
     let a = c.self.inside.arena in
-    let room : entry_count (seen_links packed a) < a.capacity = rw (← c.self.view_is) at c.requires.room in
+    let room : entry_count (links_view packed a) < a.capacity = rw (← c.self.view_is) at c.requires.room in
     let full : entry_count a ≡ a.capacity = c.in-Err.ensures.refused.0 refl in
-    absurd (omega (arith, room, full, entry_count-seen_links packed a))
+    absurd (omega (arith, room, full, entry_count-links_view packed a))
 
 pub tie-requires : goal.tie-requires
 tie-requires g c =
@@ -55,10 +55,10 @@ tie-requires g c =
 
 pub invariant_of-self : goal.invariant_of-self
 invariant_of-self g c =
-    let s = seen_links g.P.Inx.InxKey.packed_number c.self.inside.arena in
+    let s = links_view g.P.Inx.InxKey.packed_number c.self.inside.arena in
     let q = next_index s in
-    subst Agrees (sym (ap (λ a. shown a) (inserted g c)))
-    (agrees-insert_between s c.args.t (listed-seen_links g.P.Inx.InxKey.packed_number c.self.inside.arena c.invariants.ensures.listed)
+    subst IsWellLinked (sym (ap (λ a. link_map a) (inserted g c)))
+    (agrees-insert_between s c.args.t (listed-links_view g.P.Inx.InxKey.packed_number c.self.inside.arena c.invariants.ensures.listed)
     (before_in g.P.Inx.InxKey.number c.args.gap q) (after_in g.P.Inx.InxKey.number c.args.gap q) c.self.invariant (gap g c))
 
 pub returns : goal.returns
@@ -68,6 +68,6 @@ returns g c =
     rw (← c.self.view_is) (record {
       pointer = next_seen packed a (g.P.PtrKey.key c.in-Ok.p) c.in-Ok.ensures.ptr;
       state = inserted g c;
-      listed = listed-seen_links packed a c.invariants.ensures.listed;
+      listed = listed-links_view packed a c.invariants.ensures.listed;
       agreed = c.self.invariant;
     })

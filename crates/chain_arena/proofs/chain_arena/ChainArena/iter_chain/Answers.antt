@@ -2,9 +2,9 @@
 use Rattle.std.proofs.Common.{Option, ℕ, refl, sym, ◌∙◌, subst}
 use Rattle.std.specs.Prelude.{IfSome}
 use Rattle.chain_laws.specs.Chains.{HasLink}
-use Rattle.chain_links.specs.Links.{seen_links}
-use Rattle.chain_links.specs.ChainArena.{IsWalkOf, shown}
-use Rattle.chain_links.proofs.ArenaInsertionLemmas.{entry_count-seen_links}
+use Rattle.chain_links.specs.Links.{links_view}
+use Rattle.chain_links.specs.ChainArena.{IsWalkOf, link_map}
+use Rattle.chain_links.proofs.ArenaInsertionLemmas.{entry_count-links_view}
 use Rattle.chain_arena.proofs.ChainIterLemmas.{walker-walk, length-walk}
 use Rattle.chain_linking.proofs.ConnectionLemmas.{prev_of-seen, same_valid, valid_at}
 use Rattle.chain_linking.proofs.NeighborLemmas.{prev_named}
@@ -14,7 +14,7 @@ pub new-requires : goal.new-requires
 new-requires g c =
     let number = g.P.Inx.InxKey.packed_number in
     let a = c.self.inside.arena in
-    let s = shown (seen_links number a) in
+    let s = link_map (links_view number a) in
     let p = g.P.PtrKey.key c.args.p in
     let at = c.in-Some.ensures.value in
     record {
@@ -27,11 +27,11 @@ pub returns-in-Some : goal.returns-in-Some
 returns-in-Some g c =
     let number = g.P.Inx.InxKey.packed_number in
     let a = c.self.inside.arena in
-    let links = seen_links number a in
+    let links = links_view number a in
     let p = g.P.PtrKey.key c.args.p in
     let at = c.in-Some.ensures.value in
     let walk : IsWalkOf links p.0 c.new.result =
-    walker-walk links p.0 _ _ _ _ c.new.ensures (c.len.ensures.entries ∙ sym (entry_count-seen_links number a)) c.inx.ensures (c.prev.ensures ∙ sym (prev_of-seen number a p c.in-Some.link.now at)) c.self.invariant (valid_at number a p c.in-Some.link.now at) in
+    walker-walk links p.0 _ _ _ _ c.new.ensures (c.len.ensures.entries ∙ sym (entry_count-links_view number a)) c.inx.ensures (c.prev.ensures ∙ sym (prev_of-seen number a p c.in-Some.link.now at)) c.self.invariant (valid_at number a p c.in-Some.link.now at) in
     rw (← c.self.view_is) (record {
       some = (λ _. (same_valid number a p).0 (c.in-Some.ensures.some.0 refl), λ _. refl);
       walk = walk;

@@ -1,6 +1,6 @@
 -- The link goes, and its neighbours are linked.
 use Rattle.std.proofs.Common.{ap}
-use Rattle.chain_links.specs.Links.{seen_links}
+use Rattle.chain_links.specs.Links.{links_view}
 use Rattle.chain_arena.proofs.LinkRemovalLemmas.{agreed_after, removal_of}
 use Rattle.chain_arena.proofs.chain_arena.ChainArena.unlink.Goals as goal
 
@@ -11,7 +11,7 @@ pub invariant_of-self : goal.invariant_of-self
 invariant_of-self g c =
     let packed = g.P.Inx.InxKey.packed_number in
     let made = c.take_out.ensures in
-    agreed_after g.P.Gen.GenKey.following (seen_links packed c.self.inside.arena) (seen_links packed c.take_out.new.arena) _ _ made.valid (λ none. ap (seen_links packed) (made.invalid none)) c.self.invariant
+    agreed_after g.P.Gen.GenKey.following (links_view packed c.self.inside.arena) (links_view packed c.take_out.new.arena) _ _ made.valid (λ none. ap (links_view packed) (made.invalid none)) c.self.invariant
 
 pub returns : goal.returns
 returns g c =
@@ -21,7 +21,7 @@ returns g c =
     rw (← c.self.view_is) (record {
       answer = made.answer;
       overflow = made.overflow;
-      removal = λ some. removal_of g.P.Gen.GenKey.following (seen_links packed a) (seen_links packed c.take_out.new.arena) (g.P.Inx.InxKey.number c.args.i) c.self.invariant (made.valid some);
-      invalid = λ none. ap (seen_links packed) (made.invalid none);
+      removal = λ some. removal_of g.P.Gen.GenKey.following (links_view packed a) (links_view packed c.take_out.new.arena) (g.P.Inx.InxKey.number c.args.i) c.self.invariant (made.valid some);
+      invalid = λ none. ap (links_view packed) (made.invalid none);
       agreed = c.self.invariant;
     })

@@ -5,8 +5,8 @@ use Rattle.std.specs.Option.{option_map}
 use Rattle.std.proofs.lemmas.Bool.{false≢true}
 use Rattle.arena_base.specs.Arena.{entry_at}
 use Rattle.chain_laws.proofs.InterlinkLemmas.Inverses.{one_some}
-use Rattle.chain_links.specs.ChainArena.{LinkSeen}
-use Rattle.chain_links.specs.Links.{seen_link, seen_links}
+use Rattle.chain_links.specs.ChainArena.{LinkView}
+use Rattle.chain_links.specs.Links.{link_view, links_view}
 use Rattle.chain_links.specs.Walkers.{index_and_entry, links_ahead}
 use Rattle.chain_arena.proofs.WalkerLemmas.{behind_stands, looked_some, onward_stands, passes_last, passes_on}
 use Rattle.chain_arena.proofs.chain_iterators.ChainIterIterator.next.Goals.{then-is_index, else-is_index}
@@ -19,7 +19,7 @@ invariant_of-self g c =
     let i = number c.in-Some.i in
     let link = c.in-Some-look.item.1.now in
     let named : option_map number c.next-self-inside.result ≡ packed link.next = search of_calls in
-    rw named (onward_stands (seen_links packed c.self.inside.arena.now) i (option_map number c.self.inside.back) ((g.P.PtrKey.key c.in-Some-look.item.0).1, seen_link packed link)
+    rw named (onward_stands (links_view packed c.self.inside.arena.now) i (option_map number c.self.inside.back) ((g.P.PtrKey.key c.in-Some-look.item.0).1, link_view packed link)
     (looked_some i _ _ _ c.in-Some-look.ensures.link) c.self.invariant.agrees c.self.invariant.behind)
 
 pub invariant_of-self-else-is_index : goal.invariant_of-self-else-is_index
@@ -29,36 +29,36 @@ invariant_of-self-else-is_index g c =
     let i = number c.in-Some.i in
     let link = c.in-Some-look.item.1.now in
     let named : option_map number c.next-self-inside.result ≡ packed link.next = search of_calls in
-    rw named (onward_stands (seen_links packed c.self.inside.arena.now) i (option_map number c.self.inside.back) ((g.P.PtrKey.key c.in-Some-look.item.0).1, seen_link packed link)
+    rw named (onward_stands (links_view packed c.self.inside.arena.now) i (option_map number c.self.inside.back) ((g.P.PtrKey.key c.in-Some-look.item.0).1, link_view packed link)
     (looked_some i _ _ _ c.in-Some-look.ensures.link) c.self.invariant.agrees c.self.invariant.behind)
 
 pub invariant_of-self-in-Some-look-2 : goal.invariant_of-self-in-Some-look-2
 invariant_of-self-in-Some-look-2 g c =
     let number = g.P.Inx.InxKey.number in
     let packed = g.P.Inx.InxKey.packed_number in
-    let a = seen_links packed c.self.inside.arena.now in
+    let a = links_view packed c.self.inside.arena.now in
     let i = number c.in-Some-back.i in
     let link = c.in-Some-look-2.item.1.now in
     let named : option_map number c.prev-self-inside.result ≡ packed link.prev = search of_calls in
     rw (c.in-None.is, named)
-    (behind_stands a i ((g.P.PtrKey.key c.in-Some-look-2.item.0).1, seen_link packed link)
+    (behind_stands a i ((g.P.PtrKey.key c.in-Some-look-2.item.0).1, link_view packed link)
     (looked_some i _ _ _ c.in-Some-look-2.ensures.link) c.self.invariant.agrees)
 
 pub returns-after-is_index-clause-steps : goal.returns-after-is_index-clause-steps
 returns-after-is_index-clause-steps g c =
     let number = g.P.Inx.InxKey.number in
     let packed = g.P.Inx.InxKey.packed_number in
-    let a = seen_links packed c.self.inside.arena.now in
+    let a = links_view packed c.self.inside.arena.now in
     let start = number c.self.inside.start in
     let back = option_map number c.self.inside.back in
     let left = c.self.inside.left in
     let i = number c.in-Some.i in
     let link = c.in-Some-look.item.1.now in
     let next = option_map number c.next-self-inside.result in
-    let e : g.row.P-Gen.Denot × LinkSeen g.row.T.Denot = ((g.P.PtrKey.key c.in-Some-look.item.0).1, seen_link packed link) in
+    let e : g.row.P-Gen.Denot × LinkView g.row.T.Denot = ((g.P.PtrKey.key c.in-Some-look.item.0).1, link_view packed link) in
     let named : next ≡ packed link.next = search of_calls in
     let stands : entry_at a i ≡ Some e = looked_some i _ _ _ c.in-Some-look.ensures.link in
-    let item : (let x : ℕ × (g.row.P-Gen.Denot × LinkSeen g.row.T.Denot) = ((g.P.PtrKey.key c.in-Some-look.item.0).0, e) in x) ≡ (i, e) =
+    let item : (let x : ℕ × (g.row.P-Gen.Denot × LinkView g.row.T.Denot) = ((g.P.PtrKey.key c.in-Some-look.item.0).0, e) in x) ≡ (i, e) =
     one_some (c.in-Some-look.ensures.link ∙ ap (option_map (index_and_entry i)) stands) in
     sym c.self.view_is ∙ rw c.in-Some.is (elim c.if-is_index.branch [
       | then-is_index w ↦

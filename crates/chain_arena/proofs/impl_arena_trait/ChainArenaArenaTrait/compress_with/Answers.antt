@@ -4,14 +4,14 @@ use Rattle.arena_ptr.specs.Invalidation.{invalidation_option}
 use Rattle.arena_base.specs.Entries.{entries}
 use Rattle.arena_base.specs.Compressions.{overflows_after_compression}
 use Rattle.arena_base.proofs.ArenaViewLemmas.{length-entries}
-use Rattle.chain_links.specs.Links.{seen_links}
+use Rattle.chain_links.specs.Links.{links_view}
 use Rattle.chain_arena.proofs.ArenaCompressionLemmas.{links_compressed, links_visited, gaps_closed, links_agree}
 use Rattle.chain_links.proofs.ArenaInsertionLemmas.{count-values}
 use Rattle.chain_arena.proofs.impl_arena_trait.ChainArenaArenaTrait.compress_with.Goals as goal
 
 pub invariant_of-self : goal.invariant_of-self
 invariant_of-self g c =
-    let seen = seen_links g.P.Inx.InxKey.packed_number in
+    let seen = links_view g.P.Inx.InxKey.packed_number in
     links_agree g.F.FnMut g.P.PtrKey.key c.args.map _ (seen c.self.inside.arena) (seen c.begin_generation-overflow.new.arena) (seen c.gather.new.arena)
     (ap seen c.begin_generation-overflow.ensures.after) c.gather.ensures c.self.invariant
 
@@ -19,10 +19,10 @@ pub returns : goal.returns
 returns g c =
     let number = g.P.Inx.InxKey.packed_number in
     let a = c.self.inside.arena in
-    let old = seen_links number a in
-    let mid = seen_links number c.begin_generation-overflow.new.arena in
-    let new = seen_links number c.gather.new.arena in
-    let begun = ap (seen_links number) c.begin_generation-overflow.ensures.after in
+    let old = links_view number a in
+    let mid = links_view number c.begin_generation-overflow.new.arena in
+    let new = links_view number c.gather.new.arena in
+    let begun = ap (links_view number) c.begin_generation-overflow.ensures.after in
     let counted = length-entries a ∙ sym (count-values number a) in
     rw (← c.self.view_is) (record {
       compressed = links_compressed g.F.FnMut g.P.PtrKey.key c.args.map _ old mid new begun c.gather.ensures g.P.Gen.GenKey.first g.P.Gen.GenKey.following c.args.reset (length (entries a)) refl counted;

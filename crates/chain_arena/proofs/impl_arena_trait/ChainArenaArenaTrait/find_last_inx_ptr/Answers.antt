@@ -2,9 +2,9 @@
 use Rattle.std.proofs.Common.{ap, sym, ◌∙◌}
 use Rattle.arena_base.specs.Entries.{entries, last_key}
 use Rattle.chain_links.specs.Links.{held_in}
-use Rattle.chain_compaction.proofs.ValueViewLemmas.{last-with_each, values_of-seen_links}
+use Rattle.chain_compaction.proofs.ValueViewLemmas.{last-with_each, values_of-links_view}
 use Rattle.chain_arena.proofs.impl_arena_trait.ChainArenaArenaTrait.find_last_inx_ptr.Goals as goal
 
 pub returns : goal.returns
 returns g c = rw (← c.self.view_is) (c.find_last_inx_ptr.ensures
-    ∙ (sym (last-with_each held_in c.self.inside.arena) ∙ ap (λ v. last_key (entries v)) (values_of-seen_links g.P.Inx.InxKey.packed_number c.self.inside.arena)))
+    ∙ (sym (last-with_each held_in c.self.inside.arena) ∙ ap (λ v. last_key (entries v)) (values_of-links_view g.P.Inx.InxKey.packed_number c.self.inside.arena)))

@@ -1,9 +1,9 @@
 -- The value of the link that was lent is written.
 use Rattle.std.proofs.Common.{refl, ap, sym, ◌∙◌}
 use Rattle.std.specs.Option.{option_map}
-use Rattle.chain_links.specs.Links.{held_in, seen_links}
+use Rattle.chain_links.specs.Links.{held_in, links_view}
 use Rattle.chain_arena.proofs.ValueLoanLemmas.{value_there}
-use Rattle.chain_arena.proofs.EntryWriteLemmas.{written-state, written-shown, written-agrees, written-seen}
+use Rattle.chain_arena.proofs.EntryWriteLemmas.{written-state, written-link_map, written-agrees, written-seen}
 use Rattle.chain_arena.proofs.impl_arena_trait.ChainArenaArenaTrait.get_inx_mut.Goals as goal
 
 pub invariant_of-self-lent : goal.invariant_of-self-lent
@@ -22,7 +22,7 @@ returns-in-Some g c =
             let held = rw c.in-Some.is at (c.get_inx_mut.follows.holds (record l { t = w })) in
             rw (← c.self.view_is) (
               written-seen g.P.Inx.InxKey.packed_number a _ n l w (sym c.in-Some.ensures.value) held.1,
-              (written-state g.P.Inx.InxKey.packed_number a _ n l w (sym c.in-Some.ensures.value) held.1, written-shown g.P.Inx.InxKey.packed_number a _ n l w (sym c.in-Some.ensures.value) held.1),
+              (written-state g.P.Inx.InxKey.packed_number a _ n l w (sym c.in-Some.ensures.value) held.1, written-link_map g.P.Inx.InxKey.packed_number a _ n l w (sym c.in-Some.ensures.value) held.1),
             )),
         refl,
       ),
@@ -30,4 +30,4 @@ returns-in-Some g c =
     )
 
 pub returns-in-None : goal.returns-in-None
-returns-in-None g c = ((refl, (λ w. tt), ap (seen_links g.P.Inx.InxKey.packed_number) c.get_inx_mut.follows.holds-at-none ∙ c.self.view_is), record { writes_back = tt; value = rw (← c.self.view_is) (sym (value_there g.P.Inx.InxKey.packed_number c.self.inside.arena (g.P.Inx.InxKey.number c.args.i) ∙ ap (option_map held_in) (sym c.in-None.ensures.value))) })
+returns-in-None g c = ((refl, (λ w. tt), ap (links_view g.P.Inx.InxKey.packed_number) c.get_inx_mut.follows.holds-at-none ∙ c.self.view_is), record { writes_back = tt; value = rw (← c.self.view_is) (sym (value_there g.P.Inx.InxKey.packed_number c.self.inside.arena (g.P.Inx.InxKey.number c.args.i) ∙ ap (option_map held_in) (sym c.in-None.ensures.value))) })

@@ -1,20 +1,20 @@
 -- The link has a new generation, and stays in its chain.
 use Rattle.std.proofs.Common.{ap, sym, subst, ⊎_elim}
-use Rattle.chain_laws.specs.Chains.{Agrees}
-use Rattle.chain_links.specs.ChainArena.{shown}
-use Rattle.chain_links.specs.Links.{seen_links}
+use Rattle.chain_laws.specs.Chains.{IsWellLinked}
+use Rattle.chain_links.specs.ChainArena.{link_map}
+use Rattle.chain_links.specs.Links.{links_view}
 use Rattle.arena_ptr.specs.Invalidation.{value_within}
 use Rattle.chain_linking.proofs.ConnectionLemmas.{same_valid}
 use Rattle.chain_arena.proofs.ValueLoanLemmas.{valid_or_not}
-use Rattle.chain_arena.proofs.EntryWriteLemmas.{renewed-state, renewed-shown, renewed-told}
+use Rattle.chain_arena.proofs.EntryWriteLemmas.{renewed-state, renewed-link_map, renewed-told}
 use Rattle.chain_arena.proofs.impl_arena_trait.ChainArenaArenaTrait.invalidate.Goals as goal
 
 pub invariant_of-self : goal.invariant_of-self
 invariant_of-self g c =
     let p = g.P.PtrKey.key c.args.p in
     ⊎_elim
-    (λ valid. subst Agrees (sym (renewed-shown g.P.Inx.InxKey.packed_number g.P.Gen.GenKey.following c.self.inside.arena _ _ (c.invalidate.ensures.more valid))) c.self.invariant)
-    (λ invalid. subst (λ a. Agrees (shown (seen_links g.P.Inx.InxKey.packed_number a))) (sym (c.invalidate.ensures.invalid invalid).1) c.self.invariant)
+    (λ valid. subst IsWellLinked (sym (renewed-link_map g.P.Inx.InxKey.packed_number g.P.Gen.GenKey.following c.self.inside.arena _ _ (c.invalidate.ensures.more valid))) c.self.invariant)
+    (λ invalid. subst (λ a. IsWellLinked (link_map (links_view g.P.Inx.InxKey.packed_number a))) (sym (c.invalidate.ensures.invalid invalid).1) c.self.invariant)
     (valid_or_not _ g.met.P.Gen.GenKey.same_is_equal c.self.inside.arena p)
 
 pub returns : goal.returns
@@ -30,6 +30,6 @@ returns g c =
           let stands = same.1 valid in
           renewed-told number following a _ _ (made.more stands) _ g.P.PtrKey.key (value_within c.invalidate.result) (made.valid stands) made.counter.1;
       counter = made.counter;
-      invalid = λ invalid. let told = made.invalid (λ valid. invalid (same.0 valid)) in (told.0, ap (seen_links number) told.1);
-      more = λ valid. let stands = same.1 valid in (renewed-state number following a _ _ (made.more stands), renewed-shown number following a _ _ (made.more stands));
+      invalid = λ invalid. let told = made.invalid (λ valid. invalid (same.0 valid)) in (told.0, ap (links_view number) told.1);
+      more = λ valid. let stands = same.1 valid in (renewed-state number following a _ _ (made.more stands), renewed-link_map number following a _ _ (made.more stands));
     })

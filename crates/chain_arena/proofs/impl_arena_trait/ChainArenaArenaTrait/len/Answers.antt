@@ -1,11 +1,11 @@
 -- The interlinks agree, so there is one set of chains.
 use Rattle.std.proofs.Common.{◌≤◌, sym, ◌∙◌, subst, arith}
-use Rattle.arena_base.specs.Arena.{HasRoom}
-use Rattle.chain_links.specs.Links.{seen_links}
-use Rattle.chain_links.specs.ChainArena.{values_of, shown}
-use Rattle.chain_links.proofs.LinkStateLemmas.{length-seen_links}
+use Rattle.arena_base.specs.Arena.{HasCapacityFor}
+use Rattle.chain_links.specs.Links.{links_view}
+use Rattle.chain_links.specs.ChainArena.{values_of, link_map}
+use Rattle.chain_links.proofs.LinkStateLemmas.{length-links_view}
 use Rattle.arena_base.proofs.SlotPartitionLemmas.{entries_within, they_fill}
-use Rattle.chain_links.proofs.ArenaInsertionLemmas.{count-values, entry_count-seen_links, shown-within, length-values, listed-seen_links, listed-values}
+use Rattle.chain_links.proofs.ArenaInsertionLemmas.{count-values, entry_count-links_view, link_map-within, length-values, listed-links_view, listed-values}
 use Rattle.chain_laws.proofs.ChainLemmas.Partitions.{one_set}
 use Rattle.chain_arena.proofs.impl_arena_trait.ChainArenaArenaTrait.len.Goals as goal
 
@@ -14,7 +14,7 @@ returns g c =
     let number = g.P.Inx.InxKey.packed_number in
     let greatest = g.P.Inx.InxKey.greatest in
     let a = c.self.inside.arena in
-    let links = seen_links number a in
+    let links = links_view number a in
     let told = c.len.ensures in
     let counted = told.entries ∙ sym (count-values number a) in
     rw (← c.self.view_is) (record {
@@ -23,8 +23,8 @@ returns g c =
       one_more = told.one_more;
       indexes = entries_within (values_of links).slots greatest (subst (λ n. n ≤ greatest) (sym (length-values number a)) (omega (arith, told.room.0.fits, told.room.0.at_most_greatest)));
       filled = they_fill (values_of links) (listed-values number a told.listed) a.placed a.touched;
-      links = told.entries ∙ sym (entry_count-seen_links number a);
-      chains = one_set (shown links) _ c.self.invariant (shown-within links);
-      listed = listed-seen_links number a told.listed;
-      room = subst (λ n. HasRoom greatest n links) (sym (length-seen_links number a)) told.room;
+      links = told.entries ∙ sym (entry_count-links_view number a);
+      chains = one_set (link_map links) _ c.self.invariant (link_map-within links);
+      listed = listed-links_view number a told.listed;
+      room = subst (λ n. HasCapacityFor greatest n links) (sym (length-links_view number a)) told.room;
     })

@@ -3,10 +3,10 @@ use Rattle.std.proofs.Common.{ap, sym, ◌∙◌, refl}
 use Rattle.std.specs.Prelude.{Some}
 use Rattle.std.specs.Option.{option_map}
 use Rattle.std.proofs.lemmas.Bool.{false≢true}
-use Rattle.chain_links.specs.Links.{seen_links}
+use Rattle.chain_links.specs.Links.{links_view}
 use Rattle.chain_linking.proofs.AdvancerLemmas.{same_walkers}
 use Rattle.chain_linking.proofs.ConnectionLemmas.{prev_of-seen, same_valid}
-use Rattle.chain_links.proofs.ArenaInsertionLemmas.{entry_count-seen_links, values-count}
+use Rattle.chain_links.proofs.ArenaInsertionLemmas.{entry_count-links_view, values-count}
 use Rattle.chain_arena.proofs.impl_chain_arena_trait.ChainArenaChainArenaTrait.advancer_chain.Goals as goal
 
 pub returns-in-Some : goal.returns-in-Some
@@ -19,7 +19,7 @@ returns-in-Some g c =
     rw (← c.self.view_is) (record {
       some = (λ _. (same_valid packed a p).0 (c.in-Some.ensures.some.0 refl), λ _. refl);
       walker = same_walkers
-          (made.left ∙ (c.len.ensures.entries ∙ (sym (entry_count-seen_links packed a) ∙ sym (values-count (seen_links packed a)))))
+          (made.left ∙ (c.len.ensures.entries ∙ (sym (entry_count-links_view packed a) ∙ sym (values-count (links_view packed a)))))
           (ap number made.start ∙ c.inx.ensures)
           (ap (option_map number) made.forth ∙ ap Some c.inx.ensures)
           (ap (option_map number) made.back ∙ (c.prev.ensures ∙ sym (prev_of-seen packed a p c.in-Some.link.now c.in-Some.ensures.value)));

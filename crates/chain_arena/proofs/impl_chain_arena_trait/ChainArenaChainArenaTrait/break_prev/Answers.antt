@@ -7,35 +7,35 @@ use Rattle.chain_laws.specs.Cuts.{cut}
 use Rattle.chain_laws.specs.Neighbors.{AreNeighbors}
 use Rattle.chain_laws.proofs.ChainLemmas.LinkedLists.{next_valid, prev_valid}
 use Rattle.arena_base.specs.Arena.{Arena}
-use Rattle.arena_base.specs.Entries.{seen_of}
-use Rattle.chain_links.specs.Links.{seen_links}
-use Rattle.chain_links.specs.ChainArena.{LinkSeen, relinked, shown}
+use Rattle.arena_base.specs.Entries.{view_of}
+use Rattle.chain_links.specs.Links.{links_view}
+use Rattle.chain_links.specs.ChainArena.{LinkView, relinked, link_map}
 use Rattle.chain_arena.proofs.BreakAndExchangeLemmas.{at_told, cut_values, cut_shows, agrees_cut, cut_told}
 use Rattle.chain_arena.proofs.impl_chain_arena_trait.ChainArenaChainArenaTrait.break_prev.Given.{Over}
 use Rattle.chain_arena.proofs.impl_chain_arena_trait.ChainArenaChainArenaTrait.break_prev.Goals.{After-link_twice}
 use Rattle.chain_arena.proofs.impl_chain_arena_trait.ChainArenaChainArenaTrait.break_prev.Goals as goal
 
 -- the links before the cut, and after it
-abbrev links : (g : Over) → After-link_twice g → Arena g.row.P-Gen.Denot (LinkSeen g.row.T.Denot)
-links g c = seen_links g.P.Inx.InxKey.packed_number c.self.inside.arena
+abbrev links : (g : Over) → After-link_twice g → Arena g.row.P-Gen.Denot (LinkView g.row.T.Denot)
+links g c = links_view g.P.Inx.InxKey.packed_number c.self.inside.arena
 
-abbrev cut_links : (g : Over) → After-link_twice g → Arena g.row.P-Gen.Denot (LinkSeen g.row.T.Denot)
-cut_links g c = seen_links g.P.Inx.InxKey.packed_number c.link_twice.new.arena
+abbrev cut_links : (g : Over) → After-link_twice g → Arena g.row.P-Gen.Denot (LinkView g.row.T.Denot)
+cut_links g c = links_view g.P.Inx.InxKey.packed_number c.link_twice.new.arena
 
 -- the link beside
-told : (g : Over) (c : After-link_twice g) → prev_of (shown (links g c)) (g.P.PtrKey.key c.args.p).0 ≡ Some (g.P.Inx.InxKey.number c.in-Some.before)
+told : (g : Over) (c : After-link_twice g) → prev_of (link_map (links g c)) (g.P.PtrKey.key c.args.p).0 ≡ Some (g.P.Inx.InxKey.number c.in-Some.before)
 told g c = sym (c.in-Some.ensures.named (c.in-Some.ensures.some refl))
 
-pair : (g : Over) (c : After-link_twice g) → AreNeighbors (shown (links g c)) (g.P.Inx.InxKey.number c.in-Some.before) (g.P.PtrKey.key c.args.p).0
+pair : (g : Over) (c : After-link_twice g) → AreNeighbors (link_map (links g c)) (g.P.Inx.InxKey.number c.in-Some.before) (g.P.PtrKey.key c.args.p).0
 pair g c = (c.self.invariant.both (g.P.Inx.InxKey.number c.in-Some.before) (g.P.PtrKey.key c.args.p).0).1 (told g c)
 
 -- what is written is the cut
-is_cut : (g : Over) (c : After-link_twice g) → cut_links g c ≡ relinked (links g c) (cut (shown (links g c)) (g.P.Inx.InxKey.number c.in-Some.before) (g.P.PtrKey.key c.args.p).0)
-is_cut g c = c.link_twice.ensures ∙ ap (λ (i : ℕ). relinked (links g c) (cut (shown (links g c)) (g.P.Inx.InxKey.number c.in-Some.before) i)) c.inx.ensures
+is_cut : (g : Over) (c : After-link_twice g) → cut_links g c ≡ relinked (links g c) (cut (link_map (links g c)) (g.P.Inx.InxKey.number c.in-Some.before) (g.P.PtrKey.key c.args.p).0)
+is_cut g c = c.link_twice.ensures ∙ ap (λ (i : ℕ). relinked (links g c) (cut (link_map (links g c)) (g.P.Inx.InxKey.number c.in-Some.before) i)) c.inx.ensures
 
 pub link_twice-requires : goal.link_twice-requires
 link_twice-requires g c =
-    let s = shown (seen_links g.P.Inx.InxKey.packed_number c.self.inside.arena) in
+    let s = link_map (links_view g.P.Inx.InxKey.packed_number c.self.inside.arena) in
     let p = (g.P.PtrKey.key c.args.p).0 in
     let before = g.P.Inx.InxKey.number c.in-Some.before in
     let at : prev_of s p ≡ Some before = sym (c.in-Some.ensures.named (c.in-Some.ensures.some refl)) in
@@ -61,7 +61,7 @@ returns-in-Some g c =
       some = (λ _. (c.in-Some.ensures.some refl, ap is_some at), λ _. refl);
       cut = at_told _ _ _ at (cut_shows a b i j is);
       chains = at_told _ _ _ at (cut_told a b i j is (pair g c)).chains;
-      seen = ap (λ x. seen_of x) (cut_values a b i j is);
+      seen = ap (λ x. view_of x) (cut_values a b i j is);
       none = tt;
       agreed = c.self.invariant;
       state = at_told _ _ _ at (cut_told a b i j is (pair g c));

@@ -1,24 +1,24 @@
 -- The links are joined if they may be, and the laws of joins say the rest.
 use Rattle.std.proofs.Common.{◌≡◌, ◌↔◌, ℕ, Option, None, Some, refl, ap, sym, subst}
 use Rattle.std.specs.Prelude.{IsSome, OnSome, IfNone}
-use Rattle.chain_laws.specs.Chains.{Agrees}
+use Rattle.chain_laws.specs.Chains.{IsWellLinked}
 use Rattle.chain_laws.specs.Joins.{joined}
 use Rattle.arena_base.specs.Arena.{entry_at}
-use Rattle.arena_base.specs.Entries.{seen_of}
-use Rattle.chain_links.specs.Links.{seen_links}
-use Rattle.chain_links.specs.ChainArena.{values_of, CanConnect, relinked, shown}
+use Rattle.arena_base.specs.Entries.{view_of}
+use Rattle.chain_links.specs.Links.{links_view}
+use Rattle.chain_links.specs.ChainArena.{values_of, CanConnect, relinked, link_map}
 use Rattle.chain_linking.proofs.ConnectionLemmas.{shows, joined-values, joined-agrees, joined-pair, joined-chains}
 use Rattle.chain_arena.specs.Effects.{Links}
 use Rattle.chain_arena.proofs.impl_chain_arena_trait.ChainArenaChainArenaTrait.connect.Goals as goal
 
 module _ {X Gen T : Type 0} (a b : Links Gen T) (p q : ℕ × Gen) where
-  agrees_after : (o : Option X) → IsSome o ↔ CanConnect (entry_at (values_of a)) (shown a) p q → OnSome o (b ≡ relinked a (joined (shown a) p.0 q.0)) → IfNone o (b ≡ a) → Agrees (shown a) → Agrees (shown b)
-  agrees_after None may is none agrees = subst (λ (x : Links Gen T). Agrees (shown x)) (sym none) agrees
+  agrees_after : (o : Option X) → IsSome o ↔ CanConnect (entry_at (values_of a)) (link_map a) p q → OnSome o (b ≡ relinked a (joined (link_map a) p.0 q.0)) → IfNone o (b ≡ a) → IsWellLinked (link_map a) → IsWellLinked (link_map b)
+  agrees_after None may is none agrees = subst (λ (x : Links Gen T). IsWellLinked (link_map x)) (sym none) agrees
   agrees_after (Some x) may is none agrees = joined-agrees a b p q (may.0 refl) is agrees
 
   -- where they may be joined, the join tells more
-  told : {Y : Type 0} (o : Option X) → IsSome o ↔ CanConnect (entry_at (values_of a)) (shown a) p q → OnSome o (b ≡ relinked a (joined (shown a) p.0 q.0))
-      → (CanConnect (entry_at (values_of a)) (shown a) p q → b ≡ relinked a (joined (shown a) p.0 q.0) → Y) → OnSome o Y
+  told : {Y : Type 0} (o : Option X) → IsSome o ↔ CanConnect (entry_at (values_of a)) (link_map a) p q → OnSome o (b ≡ relinked a (joined (link_map a) p.0 q.0))
+      → (CanConnect (entry_at (values_of a)) (link_map a) p q → b ≡ relinked a (joined (link_map a) p.0 q.0) → Y) → OnSome o Y
   told None may is tells = tt
   told (Some x) may is tells = tells (may.0 refl) is
 
@@ -27,8 +27,8 @@ invariant_of-self g c = agrees_after _ _ _ _ c.join.result c.join.ensures.some c
 
 pub returns : goal.returns
 returns g c =
-    let a = seen_links g.P.Inx.InxKey.packed_number c.self.inside.arena in
-    let b = seen_links g.P.Inx.InxKey.packed_number c.join.new.arena in
+    let a = links_view g.P.Inx.InxKey.packed_number c.self.inside.arena in
+    let b = links_view g.P.Inx.InxKey.packed_number c.join.new.arena in
     let p = g.P.PtrKey.key c.args.p in
     let q = g.P.PtrKey.key c.args.q in
     let may = c.join.ensures.some in
@@ -37,7 +37,7 @@ returns g c =
     rw (← c.self.view_is) (record {
       some = may;
       joined = told a b p q o may is (λ may is. shows a b p q may is);
-      seen = told a b p q o may is (λ may is. ap (λ x. seen_of x) (joined-values a b p q may is));
+      seen = told a b p q o may is (λ may is. ap (λ x. view_of x) (joined-values a b p q may is));
       none = c.join.ensures.none;
       agreed = c.self.invariant;
       state = is;

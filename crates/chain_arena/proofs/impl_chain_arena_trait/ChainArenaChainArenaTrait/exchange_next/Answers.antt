@@ -7,46 +7,46 @@ use Rattle.chain_laws.specs.Exchanges.{exchanged}
 use Rattle.chain_laws.specs.Joins.{linked}
 use Rattle.chain_laws.proofs.ChainLemmas.LinkedLists.{next_valid, prev_valid}
 use Rattle.arena_base.specs.Arena.{Arena}
-use Rattle.arena_base.specs.Entries.{seen_of}
-use Rattle.chain_links.specs.Links.{seen_links}
-use Rattle.chain_links.specs.ChainArena.{LinkSeen, relinked, shown}
+use Rattle.arena_base.specs.Entries.{view_of}
+use Rattle.chain_links.specs.Links.{links_view}
+use Rattle.chain_links.specs.ChainArena.{LinkView, relinked, link_map}
 use Rattle.chain_arena.proofs.BreakAndExchangeLemmas.{exchange_values, exchange_shows, agrees_exchange, exchange_told}
 use Rattle.chain_arena.proofs.impl_chain_arena_trait.ChainArenaChainArenaTrait.exchange_next.Given.{Over}
 use Rattle.chain_arena.proofs.impl_chain_arena_trait.ChainArenaChainArenaTrait.exchange_next.Goals.{After-link_twice}
 use Rattle.chain_arena.proofs.impl_chain_arena_trait.ChainArenaChainArenaTrait.exchange_next.Goals as goal
 
 -- the links before the exchange, and after it
-abbrev links : (g : Over) → After-link_twice g → Arena g.row.P-Gen.Denot (LinkSeen g.row.T.Denot)
-links g c = seen_links g.P.Inx.InxKey.packed_number c.self.inside.arena
+abbrev links : (g : Over) → After-link_twice g → Arena g.row.P-Gen.Denot (LinkView g.row.T.Denot)
+links g c = links_view g.P.Inx.InxKey.packed_number c.self.inside.arena
 
-abbrev exchanged_links : (g : Over) → After-link_twice g → Arena g.row.P-Gen.Denot (LinkSeen g.row.T.Denot)
-exchanged_links g c = seen_links g.P.Inx.InxKey.packed_number c.link_twice.new.arena
+abbrev exchanged_links : (g : Over) → After-link_twice g → Arena g.row.P-Gen.Denot (LinkView g.row.T.Denot)
+exchanged_links g c = links_view g.P.Inx.InxKey.packed_number c.link_twice.new.arena
 
 -- the links after the two
-after_p : (g : Over) (c : After-link_twice g) → Some (g.P.Inx.InxKey.number c.in-Some.after_p) ≡ next_of (shown (links g c)) (g.P.PtrKey.key c.args.p).0
+after_p : (g : Over) (c : After-link_twice g) → Some (g.P.Inx.InxKey.number c.in-Some.after_p) ≡ next_of (link_map (links g c)) (g.P.PtrKey.key c.args.p).0
 after_p g c = c.in-Some.ensures.named (c.in-Some.ensures.some refl)
 
-after_q : (g : Over) (c : After-link_twice g) → Some (g.P.Inx.InxKey.number c.in-Some-next_of_link.after_q) ≡ next_of (shown (links g c)) (g.P.PtrKey.key c.args.q).0
+after_q : (g : Over) (c : After-link_twice g) → Some (g.P.Inx.InxKey.number c.in-Some-next_of_link.after_q) ≡ next_of (link_map (links g c)) (g.P.PtrKey.key c.args.q).0
 after_q g c = c.in-Some-next_of_link.ensures.named (c.in-Some-next_of_link.ensures.some refl)
 
-valid_p : (g : Over) (c : After-link_twice g) → HasLink (shown (links g c)) (g.P.PtrKey.key c.args.p).0
-valid_p g c = next_valid (shown (links g c)) _ _ (sym (after_p g c))
+valid_p : (g : Over) (c : After-link_twice g) → HasLink (link_map (links g c)) (g.P.PtrKey.key c.args.p).0
+valid_p g c = next_valid (link_map (links g c)) _ _ (sym (after_p g c))
 
-valid_q : (g : Over) (c : After-link_twice g) → HasLink (shown (links g c)) (g.P.PtrKey.key c.args.q).0
-valid_q g c = next_valid (shown (links g c)) _ _ (sym (after_q g c))
+valid_q : (g : Over) (c : After-link_twice g) → HasLink (link_map (links g c)) (g.P.PtrKey.key c.args.q).0
+valid_q g c = next_valid (link_map (links g c)) _ _ (sym (after_q g c))
 
 -- what is written is the exchange
-is_exchanged : (g : Over) (c : After-link_twice g) → exchanged_links g c ≡ relinked (links g c) (exchanged (shown (links g c)) (g.P.PtrKey.key c.args.p).0 (g.P.PtrKey.key c.args.q).0)
+is_exchanged : (g : Over) (c : After-link_twice g) → exchanged_links g c ≡ relinked (links g c) (exchanged (link_map (links g c)) (g.P.PtrKey.key c.args.p).0 (g.P.PtrKey.key c.args.q).0)
 is_exchanged g c =
     let s = links g c in
     c.link_twice.ensures
-    ∙ (ap₂ (λ (i j : ℕ). relinked s (linked (linked (shown s) (Some i) (Some (g.P.Inx.InxKey.number c.in-Some-next_of_link.after_q))) (Some j) (Some (g.P.Inx.InxKey.number c.in-Some.after_p)))) c.inx-i.ensures c.inx-j.ensures
-    ∙ ap₂ (λ (a b : Option ℕ). relinked s (linked (linked (shown s) (Some (g.P.PtrKey.key c.args.p).0) b) (Some (g.P.PtrKey.key c.args.q).0) a)) (after_p g c) (after_q g c))
+    ∙ (ap₂ (λ (i j : ℕ). relinked s (linked (linked (link_map s) (Some i) (Some (g.P.Inx.InxKey.number c.in-Some-next_of_link.after_q))) (Some j) (Some (g.P.Inx.InxKey.number c.in-Some.after_p)))) c.inx-i.ensures c.inx-j.ensures
+    ∙ ap₂ (λ (a b : Option ℕ). relinked s (linked (linked (link_map s) (Some (g.P.PtrKey.key c.args.p).0) b) (Some (g.P.PtrKey.key c.args.q).0) a)) (after_p g c) (after_q g c))
 
 pub link_twice-requires : goal.link_twice-requires
 link_twice-requires g c =
     let number = g.P.Inx.InxKey.number in
-    let s = shown (seen_links g.P.Inx.InxKey.packed_number c.self.inside.arena) in
+    let s = link_map (links_view g.P.Inx.InxKey.packed_number c.self.inside.arena) in
     let p = (g.P.PtrKey.key c.args.p).0 in
     let q = (g.P.PtrKey.key c.args.q).0 in
     let after_one : next_of s p ≡ Some (number c.in-Some.after_p) = sym (c.in-Some.ensures.named (c.in-Some.ensures.some refl)) in
@@ -75,7 +75,7 @@ returns-in-Some-next_of_link g c =
       );
       exchanged = exchange_shows a b i j is;
       chains = (exchange_told a b i j is c.self.invariant (valid_p g c) (valid_q g c)).chains;
-      seen = ap (λ x. seen_of x) (exchange_values a b i j is);
+      seen = ap (λ x. view_of x) (exchange_values a b i j is);
       none = tt;
       agreed = c.self.invariant;
       state = exchange_told a b i j is c.self.invariant (valid_p g c) (valid_q g c);

@@ -2,21 +2,21 @@
 use Rattle.std.proofs.Common.{◌≡◌, ℕ, Option, Some, None, refl, sym, ap, ◌∙◌}
 use Rattle.std.specs.Borrow.{Bor}
 use Rattle.std.specs.Option.{option_map}
-use Rattle.arena_base.specs.Arena.{Arena, entry_at, seen_entry}
+use Rattle.arena_base.specs.Arena.{Arena, entry_at, borrowed_entry}
 use Rattle.chain_links.specs.declared.links.LinkBody.{LinkBody}
-use Rattle.chain_links.specs.Links.{seen_link, seen_links, seen_lent}
-use Rattle.chain_links.specs.ChainArena.{on_value, shown, entry, link_at}
+use Rattle.chain_links.specs.Links.{link_view, links_view, borrowed_link}
+use Rattle.chain_links.specs.ChainArena.{on_value, link_map, entry, link_at}
 use Rattle.chain_links.proofs.MappedArenaLemmas.{entry_at-with_each}
 use Rattle.chain_arena.proofs.ChainDrainLemmas.{link_at-entry}
 use Rattle.chain_arena.proofs.impl_chain_arena_trait.ChainArenaChainArenaTrait.get_inx_link_no_gen.Goals as goal
 
 -- what is lent of the arena below is the link
-lent : {K Gen T : Type 0} (number : K → Option ℕ) (a : Arena Gen (LinkBody K T)) (i : ℕ) (r : Option (Gen × Bor (LinkBody K T))) → option_map seen_entry r ≡ entry_at a i
-    → option_map (seen_lent number) r ≡ link_at (entry (seen_links number a)) (shown (seen_links number a)) i
+lent : {K Gen T : Type 0} (number : K → Option ℕ) (a : Arena Gen (LinkBody K T)) (i : ℕ) (r : Option (Gen × Bor (LinkBody K T))) → option_map borrowed_entry r ≡ entry_at a i
+    → option_map (borrowed_link number) r ≡ link_at (entry (links_view number a)) (link_map (links_view number a)) i
 lent {K} {Gen} {T} number a i r stands =
-    seen r ∙ (ap (option_map (on_value (seen_link number))) stands ∙ (sym (entry_at-with_each (seen_link number) a i) ∙ sym (link_at-entry (seen_links number a) i)))
+    seen r ∙ (ap (option_map (on_value (link_view number))) stands ∙ (sym (entry_at-with_each (link_view number) a i) ∙ sym (link_at-entry (links_view number a) i)))
   where
-    seen : (r : Option (Gen × Bor (LinkBody K T))) → option_map (seen_lent number) r ≡ option_map (on_value (seen_link number)) (option_map seen_entry r)
+    seen : (r : Option (Gen × Bor (LinkBody K T))) → option_map (borrowed_link number) r ≡ option_map (on_value (link_view number)) (option_map borrowed_entry r)
     seen None = refl
     seen (Some e) = refl
 

@@ -4,8 +4,8 @@ use Rattle.std.specs.Prelude.{IfSome}
 use Rattle.std.specs.Option.{option_and_then}
 use Rattle.chain_laws.specs.Chains.{HasLink}
 use Rattle.arena_base.specs.Arena.{entry_at}
-use Rattle.chain_links.specs.Links.{seen_links}
-use Rattle.chain_links.specs.ChainArena.{ptr_at, shown, values_of}
+use Rattle.chain_links.specs.Links.{links_view}
+use Rattle.chain_links.specs.ChainArena.{ptr_at, link_map, values_of}
 use Rattle.chain_linking.proofs.ConnectionLemmas.{link_at_ptr, next_of-seen, prev_of-seen, same_valid}
 use Rattle.chain_linking.proofs.NeighborLemmas.{next_named, prev_named}
 use Rattle.chain_arena.proofs.impl_chain_arena_trait.ChainArenaChainArenaTrait.get_link.Goals as goal
@@ -15,7 +15,7 @@ neighbor-prev-requires g c =
     let number = g.P.Inx.InxKey.packed_number in
     let a = c.self.inside.arena in
     let p = g.P.PtrKey.key c.args.p in
-    let s = shown (seen_links number a) in
+    let s = link_map (links_view number a) in
     subst (λ (o : Option ℕ). IfSome o (HasLink s)) (prev_of-seen number a p c.in-Some.link.now c.in-Some.ensures.value ∙ sym c.prev.ensures) (prev_named s p.0 c.self.invariant)
 
 pub neighbor-next-requires : goal.neighbor-next-requires
@@ -23,7 +23,7 @@ neighbor-next-requires g c =
     let number = g.P.Inx.InxKey.packed_number in
     let a = c.self.inside.arena in
     let p = g.P.PtrKey.key c.args.p in
-    let s = shown (seen_links number a) in
+    let s = link_map (links_view number a) in
     subst (λ (o : Option ℕ). IfSome o (HasLink s)) (next_of-seen number a p c.in-Some.link.now c.in-Some.ensures.value ∙ sym c.next.ensures) (next_named s p.0 c.self.invariant)
 
 pub returns-in-Some : goal.returns-in-Some
@@ -32,7 +32,7 @@ returns-in-Some g c =
     let a = c.self.inside.arena in
     let p = g.P.PtrKey.key c.args.p in
     let same = same_valid number a p in
-    let ptr_of = option_and_then (ptr_at (entry_at (values_of (seen_links number a)))) in
+    let ptr_of = option_and_then (ptr_at (entry_at (values_of (links_view number a)))) in
     rw (← c.self.view_is) (record {
       some = (λ _. same.0 (c.in-Some.ensures.some.0 refl), λ _. refl);
       link = rw (c.new.ensures.prev, c.new.ensures.next, c.new.ensures.value)

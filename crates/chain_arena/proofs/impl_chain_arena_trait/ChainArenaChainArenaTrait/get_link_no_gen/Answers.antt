@@ -5,8 +5,8 @@ use Rattle.std.specs.Borrow.{Bor}
 use Rattle.std.specs.Option.{option_map}
 use Rattle.arena_base.specs.Arena.{Arena, entry_at}
 use Rattle.chain_links.specs.declared.links.LinkBody.{LinkBody}
-use Rattle.chain_links.specs.Links.{seen_link, seen_links}
-use Rattle.chain_links.specs.ChainArena.{on_value, shown, entry, link_at}
+use Rattle.chain_links.specs.Links.{link_view, links_view}
+use Rattle.chain_links.specs.ChainArena.{on_value, link_map, entry, link_at}
 use Rattle.chain_links.proofs.MappedArenaLemmas.{entry_at-with_each}
 use Rattle.chain_linking.proofs.ConnectionLemmas.{same_valid}
 use Rattle.chain_arena.proofs.ChainDrainLemmas.{link_at-entry}
@@ -14,10 +14,10 @@ use Rattle.chain_arena.proofs.impl_chain_arena_trait.ChainArenaChainArenaTrait.g
 
 -- what is lent of the arena below is the link
 lent : {K Gen T : Type 0} (number : K → Option ℕ) (a : Arena Gen (LinkBody K T)) (p : ℕ × Gen) (r : Option (Bor (LinkBody K T))) → IfSome r (λ link. entry_at a p.0 ≡ Some (p.1, link.now))
-    → IfSome r (λ link. link_at (entry (seen_links number a)) (shown (seen_links number a)) p.0 ≡ Some (p.1, seen_link number link.now))
+    → IfSome r (λ link. link_at (entry (links_view number a)) (link_map (links_view number a)) p.0 ≡ Some (p.1, link_view number link.now))
 lent number a p None stands = tt
 lent number a p (Some link) stands =
-    link_at-entry (seen_links number a) p.0 ∙ (entry_at-with_each (seen_link number) a p.0 ∙ ap (option_map (on_value (seen_link number))) stands)
+    link_at-entry (links_view number a) p.0 ∙ (entry_at-with_each (link_view number) a p.0 ∙ ap (option_map (on_value (link_view number))) stands)
 
 pub returns : goal.returns
 returns g c =

@@ -6,7 +6,7 @@ use Rattle.std.specs.Prelude.{is_some}
 use Rattle.arena_ptr.specs.Invalidation.{value_within}
 use Rattle.arena_base.specs.Arena.{IsValid}
 use Rattle.chain_links.specs.ChainArena.{entry}
-use Rattle.chain_links.specs.Links.{seen_link}
+use Rattle.chain_links.specs.Links.{link_view}
 use Rattle.chain_links.proofs.MappedArenaLemmas.{is_some-map}
 use Rattle.chain_arena.proofs.LinkRemovalLemmas.{link_alone_told, removal_at, same_overflow, seen_at, taken_at}
 use Rattle.chain_arena.proofs.impl_chain_arena_trait.ChainArenaChainArenaTrait.remove_link_no_gen.Goals as goal
@@ -27,7 +27,7 @@ returns-then-contains g c =
     rw (← c.inx.ensures) (record {
       some = (λ _. stood, λ _. ap is_some alone.value ∙ (is_some-map (λ e. e.1) taken ∙ taken_at packed following a b i taken made.answer p c.inx.ensures stood));
       valid = λ _. (
-        ap (option_map (λ link. (p.1, seen_link packed link))) alone.value
+        ap (option_map (λ link. (p.1, link_view packed link))) alone.value
             ∙ link_alone_told packed following a b i taken made.answer p.1 stood.value (ap (entry a) c.inx.ensures ∙ stood.stands),
         (seen_at packed following a b i taken made.answer made.removal p c.inx.ensures stood, removal.shows),
       );

@@ -1,7 +1,7 @@
 -- The values up to where the advancer looks are recast.
 use Rattle.std.proofs.Common.{length}
 use Rattle.arena_base.specs.Advancers.{ahead}
-use Rattle.chain_links.specs.ChainArena.{seen}
+use Rattle.chain_links.specs.ChainArena.{value_view}
 use Rattle.chain_arena.proofs.RecastLemmas.{IsRecasting}
 use Rattle.chain_arena.proofs.recast.ChainArenaRecast.recast.Given as goal
 
@@ -9,4 +9,4 @@ abbrev pub invariant-loop-p : goal.invariant-loop-p
 invariant-loop-p g l = IsRecasting (g.T.Recast.recast_by (g.R.Recaster.recasts l.fn.recaster)) l.fn.self l.self l.all.look
 
 abbrev pub decreases-loop-p : goal.decreases-loop-p
-decreases-loop-p g l = length (ahead l.all.look (seen l.self).entries)
+decreases-loop-p g l = length (ahead l.all.look (value_view l.self).entries)

@@ -10,7 +10,7 @@ use Rattle.chain_examples.proofs.documents.Documents.insert_after.Goals as goal
 pub returns : goal.returns
 returns g c =
     let a = c.self.inside.paragraphs in
-    let linked = valid_link (g.A.ChainArenaTrait.interlinks a) (g.A.ArenaTrait.entry a) (g.A.ArenaTrait.seen a).entries (g.met.A.ChainArenaTrait.stand a) (g.met.A.ArenaTrait.looked_up a) (g.P.PtrKey.key c.args.p) in
+    let linked = valid_link (g.A.ChainArenaTrait.interlinks a) (g.A.ArenaTrait.entry a) (g.A.ArenaTrait.view a).entries (g.met.A.ChainArenaTrait.stand a) (g.met.A.ArenaTrait.looked_up a) (g.P.PtrKey.key c.args.p) in
     record {
       text = rw (← c.self.view_is) (if_ok c.insert_reallocating.result c.insert_reallocating.ensures.inserted (λ q came.
           comes_after g.A.ArenaTrait.entry g.A.ChainArenaTrait.interlinks linear (λ l. refl) c.self.inside.paragraphs c.insert_reallocating.new.self (g.P.PtrKey.key q) c.args.paragraph came.entries (g.P.PtrKey.key c.args.p)
@@ -33,6 +33,6 @@ returns g c =
       );
       greatest = rw (← c.self.view_is) c.insert_reallocating.ensures.greatest;
       maximum = rw (← c.self.view_is) (either_ok c.insert_reallocating.result c.insert_reallocating.ensures.inserted c.insert_reallocating.ensures.may c.insert_reallocating.ensures.err
-          (λ q came may. came.maximum) (λ same. ap (λ x. (g.A.ArenaTrait.seen x).maximum) same));
+          (λ q came may. came.maximum) (λ same. ap (λ x. (g.A.ArenaTrait.view x).maximum) same));
       err = rw (← c.self.view_is) c.insert_reallocating.ensures.err;
     }

@@ -20,7 +20,7 @@ returns-clause-others g c = rw (← c.self.view_is) (if_ok c.insert_reallocating
 pub returns-clause-room : goal.returns-clause-room
 returns-clause-room g c =
     let a = c.self.inside.corners in
-    rw (← c.self.view_is) (λ valid. c.insert_reallocating.ensures.room (valid, valid_link (g.A.ChainArenaTrait.interlinks a) (g.A.ArenaTrait.entry a) (g.A.ArenaTrait.seen a).entries (g.met.A.ChainArenaTrait.stand a) (g.met.A.ArenaTrait.looked_up a) (g.P.PtrKey.key c.args.corner) valid))
+    rw (← c.self.view_is) (λ valid. c.insert_reallocating.ensures.room (valid, valid_link (g.A.ChainArenaTrait.interlinks a) (g.A.ArenaTrait.entry a) (g.A.ArenaTrait.view a).entries (g.met.A.ChainArenaTrait.stand a) (g.met.A.ArenaTrait.looked_up a) (g.P.PtrKey.key c.args.corner) valid))
 
 pub returns-clause-corner : goal.returns-clause-corner
 returns-clause-corner g c = rw (← c.self.view_is) (if_ok c.insert_reallocating.result c.insert_reallocating.ensures.inserted (λ q came. came.entries))
@@ -36,7 +36,7 @@ returns-clause-grown g c = rw (← c.self.view_is) c.insert_reallocating.ensures
 
 pub returns-clause-maximum : goal.returns-clause-maximum
 returns-clause-maximum g c = rw (← c.self.view_is) (either_ok c.insert_reallocating.result c.insert_reallocating.ensures.inserted c.insert_reallocating.ensures.grown c.insert_reallocating.ensures.err
-    (λ q came grown. came.maximum) (λ same. ap (λ a. (g.A.ArenaTrait.seen a).maximum) same))
+    (λ q came grown. came.maximum) (λ same. ap (λ a. (g.A.ArenaTrait.view a).maximum) same))
 
 pub returns-clause-beyond : goal.returns-clause-beyond
 returns-clause-beyond g c =
@@ -44,7 +44,7 @@ returns-clause-beyond g c =
     let beyond = c.insert_reallocating.ensures.beyond in
     rw (← c.self.view_is) (
       λ is. let told = beyond.0 is in (told.0.0, told.1),
-      λ past. beyond.1 ((past.0, valid_link (g.A.ChainArenaTrait.interlinks a) (g.A.ArenaTrait.entry a) (g.A.ArenaTrait.seen a).entries (g.met.A.ChainArenaTrait.stand a) (g.met.A.ArenaTrait.looked_up a) (g.P.PtrKey.key c.args.corner) past.0), past.1),
+      λ past. beyond.1 ((past.0, valid_link (g.A.ChainArenaTrait.interlinks a) (g.A.ArenaTrait.entry a) (g.A.ArenaTrait.view a).entries (g.met.A.ChainArenaTrait.stand a) (g.met.A.ArenaTrait.looked_up a) (g.P.PtrKey.key c.args.corner) past.0), past.1),
     )
 
 pub returns-clause-greatest : goal.returns-clause-greatest

@@ -13,27 +13,27 @@ if_valid : {R V Z : Type 0} (o : Option R) → (is_some o ≡ true → V) → (V
 if_valid None valid so = tt
 if_valid (Some r) valid so = so (valid refl)
 
-it : (g : Over) (c : After-allow g) → TakesEntry g.A.ArenaTrait.seen g.A.ArenaTrait.entry g.A.ChainArenaTrait.interlinks c.self.inside.corners c.remove.new.self (g.P.PtrKey.key c.args.corner) c.allow.result
+it : (g : Over) (c : After-allow g) → TakesEntry g.A.ArenaTrait.view g.A.ArenaTrait.entry g.A.ChainArenaTrait.interlinks c.self.inside.corners c.remove.new.self (g.P.PtrKey.key c.args.corner) c.allow.result
 it g c =
     let old = c.self.inside.corners in
     let new = c.remove.new.self in
     let p = g.P.PtrKey.key c.args.corner in
-    subst (TakesEntry g.A.ArenaTrait.seen g.A.ArenaTrait.entry g.A.ChainArenaTrait.interlinks old new p) (sym c.allow.ensures)
-    (removal g.A.ArenaTrait.seen g.A.ArenaTrait.entry g.A.ChainArenaTrait.interlinks g.met.A.ArenaTrait.rises g.met.A.ArenaTrait.looked_up old new p _ _ c.remove.ensures.some c.remove.ensures.valid c.remove.ensures.invalid
+    subst (TakesEntry g.A.ArenaTrait.view g.A.ArenaTrait.entry g.A.ChainArenaTrait.interlinks old new p) (sym c.allow.ensures)
+    (removal g.A.ArenaTrait.view g.A.ArenaTrait.entry g.A.ChainArenaTrait.interlinks g.met.A.ArenaTrait.rises g.met.A.ArenaTrait.looked_up old new p _ _ c.remove.ensures.some c.remove.ensures.valid c.remove.ensures.invalid
     (λ valid. g.met.A.ChainArenaTrait.passed_over old new p.0 (c.remove.ensures.more valid)) c.agrees.ensures)
 
 pub invariant_of-self : goal.invariant_of-self
-invariant_of-self g c = round_of g.A.ArenaTrait.seen g.A.ArenaTrait.entry g.A.ChainArenaTrait.interlinks _ _ _ c.allow.result (it g c) c.agrees.ensures c.self.invariant
+invariant_of-self g c = round_of g.A.ArenaTrait.view g.A.ArenaTrait.entry g.A.ChainArenaTrait.interlinks _ _ _ c.allow.result (it g c) c.agrees.ensures c.self.invariant
 
 pub returns : goal.returns
 returns g c = record {
   some = rw (← c.self.view_is) (λ some. ((it g c).some some).stood, (it g c).valid);
-  point = rw (← c.self.view_is) (value_told g.A.ArenaTrait.seen g.A.ArenaTrait.entry g.A.ChainArenaTrait.interlinks _ _ _ c.allow.result (it g c));
-  ring = rw (← c.self.view_is) (leaves_of g.A.ArenaTrait.seen g.A.ArenaTrait.entry g.A.ChainArenaTrait.interlinks _ _ _ cyclic (λ l. refl) c.allow.result (it g c) (λ chains. chains.from_cyclic));
-  gone = gone_of g.A.ArenaTrait.seen g.A.ArenaTrait.entry g.A.ChainArenaTrait.interlinks _ _ _ c.allow.result (it g c);
-  corners = rw (← c.self.view_is) (kept_of g.A.ArenaTrait.seen g.A.ArenaTrait.entry g.A.ChainArenaTrait.interlinks _ _ _ c.allow.result (it g c));
-  others = rw (← c.self.view_is) (keeps_of g.A.ArenaTrait.seen g.A.ArenaTrait.entry g.A.ChainArenaTrait.interlinks _ _ _ cyclic (λ l. refl) c.allow.result (it g c));
-  size = rw (← c.self.view_is) (less_of g.A.ArenaTrait.seen g.A.ArenaTrait.entry g.A.ChainArenaTrait.interlinks _ _ _ c.allow.result (it g c));
+  point = rw (← c.self.view_is) (value_told g.A.ArenaTrait.view g.A.ArenaTrait.entry g.A.ChainArenaTrait.interlinks _ _ _ c.allow.result (it g c));
+  ring = rw (← c.self.view_is) (leaves_of g.A.ArenaTrait.view g.A.ArenaTrait.entry g.A.ChainArenaTrait.interlinks _ _ _ cyclic (λ l. refl) c.allow.result (it g c) (λ chains. chains.from_cyclic));
+  gone = gone_of g.A.ArenaTrait.view g.A.ArenaTrait.entry g.A.ChainArenaTrait.interlinks _ _ _ c.allow.result (it g c);
+  corners = rw (← c.self.view_is) (kept_of g.A.ArenaTrait.view g.A.ArenaTrait.entry g.A.ChainArenaTrait.interlinks _ _ _ c.allow.result (it g c));
+  others = rw (← c.self.view_is) (keeps_of g.A.ArenaTrait.view g.A.ArenaTrait.entry g.A.ChainArenaTrait.interlinks _ _ _ cyclic (λ l. refl) c.allow.result (it g c));
+  size = rw (← c.self.view_is) (less_of g.A.ArenaTrait.view g.A.ArenaTrait.entry g.A.ChainArenaTrait.interlinks _ _ _ c.allow.result (it g c));
   seen = rw (← c.self.view_is) (if_valid c.allow.result (λ some. ((it g c).some some).stood) (λ valid. (c.remove.ensures.valid valid).1));
-  none = rw (← c.self.view_is) (same_of g.A.ArenaTrait.seen g.A.ArenaTrait.entry g.A.ChainArenaTrait.interlinks _ _ _ c.allow.result (it g c));
+  none = rw (← c.self.view_is) (same_of g.A.ArenaTrait.view g.A.ArenaTrait.entry g.A.ChainArenaTrait.interlinks _ _ _ c.allow.result (it g c));
 }

@@ -9,7 +9,7 @@ use Rattle.chain_examples.proofs.mesh.Mesh.split.Goals as goal
 
 module _ (g : Over) (c : After-split_in_room g) where
   same : g.A.ArenaTrait.entry c.reserve.new.self ≡ g.A.ArenaTrait.entry c.args.self.now
-  same = same_entry (λ x. (g.A.ArenaTrait.seen x).entries) g.A.ArenaTrait.entry g.met.A.ArenaTrait.looked_up c.args.self.now c.reserve.new.self (ap (λ s. s.entries) c.reserve.ensures.after)
+  same = same_entry (λ x. (g.A.ArenaTrait.view x).entries) g.A.ArenaTrait.entry g.met.A.ArenaTrait.looked_up c.args.self.now c.reserve.new.self (ap (λ s. s.entries) c.reserve.ensures.after)
 
   seen : (xs : List (Item g.row.P-Gen.Denot g.row.T.Denot)) → IsRing g.A.ArenaTrait.entry g.A.ChainArenaTrait.interlinks c.args.self.now xs
       → IsRing g.A.ArenaTrait.entry g.A.ChainArenaTrait.interlinks c.reserve.new.self xs

@@ -21,8 +21,8 @@ add_after-second-requires-clause-valid g c =
 
 pub add_after-second-requires-clause-room : goal.add_after-second-requires-clause-room
 add_after-second-requires-clause-room g c =
-    let size = c.add_before-first.ensures.size ∙ ap (λ (a : g.row.A.Denot). count (g.A.ArenaTrait.seen a) + 1) c.self.view_is in
-    let capacity = c.add_before-first.ensures.capacity ∙ ap (λ (a : g.row.A.Denot). (g.A.ArenaTrait.seen a).capacity) c.self.view_is in
+    let size = c.add_before-first.ensures.size ∙ ap (λ (a : g.row.A.Denot). count (g.A.ArenaTrait.view a) + 1) c.self.view_is in
+    let capacity = c.add_before-first.ensures.capacity ∙ ap (λ (a : g.row.A.Denot). (g.A.ArenaTrait.view a).capacity) c.self.view_is in
     let room = c.requires.room in
     omega arith
 

@@ -2,7 +2,7 @@
 use Rattle.std.proofs.Common.{refl, sym, ap, subst}
 use Rattle.chain_laws.specs.Chains.{cyclic}
 use Rattle.chain_laws.specs.Insertions.{single_link_cyclic}
-use Rattle.chain_examples.specs.Rings.{GoesRound}
+use Rattle.chain_examples.specs.Rings.{AllCyclic}
 use Rattle.chain_traits.proofs.OutcomeLemmas.{if_ok, either_ok}
 use Rattle.chain_examples.proofs.ListChangeLemmas.{keeps_others}
 use Rattle.chain_examples.proofs.MeshInvariantLemmas.{round_inserted}
@@ -11,7 +11,7 @@ use Rattle.chain_examples.proofs.mesh.Mesh.start.Goals as goal
 pub invariant_of-self : goal.invariant_of-self
 invariant_of-self g c = either_ok c.insert.result c.insert.ensures.inserted c.insert.ensures.grown c.insert.ensures.err
     (λ q came grown. round_inserted (g.A.ChainArenaTrait.interlinks c.self.inside.corners) (g.A.ChainArenaTrait.interlinks c.insert.new.self) (g.P.PtrKey.key q).0 _ _ came.pairs (λ i other at. c.self.invariant i at))
-    (λ same. subst (λ a. GoesRound (g.A.ChainArenaTrait.interlinks a)) (sym same) c.self.invariant)
+    (λ same. subst (λ a. AllCyclic (g.A.ChainArenaTrait.interlinks a)) (sym same) c.self.invariant)
 
 pub returns : goal.returns
 returns g c = record {
@@ -24,7 +24,7 @@ returns g c = record {
   room = rw (← c.self.view_is) c.insert.ensures.room;
   grown = rw (← c.self.view_is) c.insert.ensures.grown;
   maximum = rw (← c.self.view_is) (either_ok c.insert.result c.insert.ensures.inserted c.insert.ensures.grown c.insert.ensures.err
-      (λ q came grown. came.maximum) (λ same. ap (λ a. (g.A.ArenaTrait.seen a).maximum) same));
+      (λ q came grown. came.maximum) (λ same. ap (λ a. (g.A.ArenaTrait.view a).maximum) same));
   beyond = rw (← c.self.view_is) c.insert.ensures.beyond;
   greatest = rw (← c.self.view_is) c.insert.ensures.greatest;
   err = rw (← c.self.view_is) c.insert.ensures.err;

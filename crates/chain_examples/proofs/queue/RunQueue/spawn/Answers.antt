@@ -12,8 +12,8 @@ use Rattle.chain_examples.proofs.queue.RunQueue.spawn.Goals as goal
 pub come_last-added-requires : goal.come_last-added-requires
 come_last-added-requires g c = valid_current (g.A.ArenaTrait.entry c.self.inside.tasks) (g.A.ChainArenaTrait.interlinks c.self.inside.tasks) g.P.PtrKey.key c.self.inside.current _ c.self.invariant
 
-it : (g : Over) (c : After-or-self-inside g) → IsTaskAdded g.A.ArenaTrait.seen g.A.ArenaTrait.entry g.A.ChainArenaTrait.interlinks g.met.A.ArenaTrait.rises g.met.A.ArenaTrait.looked_up g.P.PtrKey.key c.self.inside.tasks c.come_last-added.new.tasks c.self.inside.current c.args.task c.come_last-added.result c.or-self-inside.result
-it g c = rw (c.or-self-inside.ensures, c.ok.ensures.value) (task_added g.A.ArenaTrait.seen g.A.ArenaTrait.entry g.A.ChainArenaTrait.interlinks g.met.A.ArenaTrait.rises g.met.A.ArenaTrait.looked_up g.P.PtrKey.key c.self.inside.tasks c.come_last-added.new.tasks c.self.inside.current c.args.task
+it : (g : Over) (c : After-or-self-inside g) → IsTaskAdded g.A.ArenaTrait.view g.A.ArenaTrait.entry g.A.ChainArenaTrait.interlinks g.met.A.ArenaTrait.rises g.met.A.ArenaTrait.looked_up g.P.PtrKey.key c.self.inside.tasks c.come_last-added.new.tasks c.self.inside.current c.args.task c.come_last-added.result c.or-self-inside.result
+it g c = rw (c.or-self-inside.ensures, c.ok.ensures.value) (task_added g.A.ArenaTrait.view g.A.ArenaTrait.entry g.A.ChainArenaTrait.interlinks g.met.A.ArenaTrait.rises g.met.A.ArenaTrait.looked_up g.P.PtrKey.key c.self.inside.tasks c.come_last-added.new.tasks c.self.inside.current c.args.task
     c.come_last-added.result c.self.invariant c.come_last-added.ensures.last c.come_last-added.ensures.err)
 
 pub invariant_of-self : goal.invariant_of-self
@@ -23,8 +23,8 @@ pub returns-clause-last : goal.returns-clause-last
 returns-clause-last g c = rw (← c.self.view_is) (it g c.before).last
 
 -- there are as many tasks as entries
-size : (g : Over) (c : After-or-self-inside g) → HasSize (g.A.ArenaTrait.seen c.self.inside.tasks) c.args.self.now
-size g c = has_size g.A.ArenaTrait.seen g.A.ArenaTrait.entry g.A.ChainArenaTrait.interlinks g.met.A.ArenaTrait.rises g.met.A.ArenaTrait.looked_up c.self.inside.tasks (option_map g.P.PtrKey.key c.self.inside.current) c.args.self.now c.self.invariant c.self.view_is
+size : (g : Over) (c : After-or-self-inside g) → HasSize (g.A.ArenaTrait.view c.self.inside.tasks) c.args.self.now
+size g c = has_size g.A.ArenaTrait.view g.A.ArenaTrait.entry g.A.ChainArenaTrait.interlinks g.met.A.ArenaTrait.rises g.met.A.ArenaTrait.looked_up c.self.inside.tasks (option_map g.P.PtrKey.key c.self.inside.current) c.args.self.now c.self.invariant c.self.view_is
 
 -- a free index is that of no task
 pub returns-clause-fresh : goal.returns-clause-fresh
@@ -43,5 +43,5 @@ returns-clause-greatest g c = rw (← (size g c.before).tasks) c.come_last-added
 -- where there is room in the queue, the arena has room, so that the call succeeds
 pub returns-clause-room : goal.returns-clause-room
 returns-clause-room g c = λ less.
-    let kept = c.come_last-added.ensures.room (has_room g.A.ArenaTrait.seen g.A.ArenaTrait.entry g.A.ChainArenaTrait.interlinks g.met.A.ArenaTrait.rises g.met.A.ArenaTrait.looked_up c.self.inside.tasks (option_map g.P.PtrKey.key c.self.inside.current) c.args.self.now c.self.invariant c.self.view_is less) in
+    let kept = c.come_last-added.ensures.room (has_room g.A.ArenaTrait.view g.A.ArenaTrait.entry g.A.ChainArenaTrait.interlinks g.met.A.ArenaTrait.rises g.met.A.ArenaTrait.looked_up c.self.inside.tasks (option_map g.P.PtrKey.key c.self.inside.current) c.args.self.now c.self.invariant c.self.view_is less) in
     (kept.0, kept.1 ∙ ap (λ (q : Queue g.row.P-Gen.Denot g.row.T.Denot). q.room) c.self.view_is)

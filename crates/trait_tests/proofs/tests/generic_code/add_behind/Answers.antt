@@ -38,8 +38,8 @@ returns-clause-none g c =
     let same : c.connect.new.self ≡ mid = none_holds c.connect.result (sym c.is_some.ensures ∙ c.if-is_some.false) c.connect.ensures.none in
     let valid : IsValid (g.A.ArenaTrait.entry c.connect.new.self) q = subst (λ a. IsValid (g.A.ArenaTrait.entry a) q) (sym same) (record { value = c.args.t; stands = inserted.stands }) in
     let gone = c.remove_link_no_gen.ensures.valid valid in (
-      taken_back (g.A.ArenaTrait.entry old) (g.A.ArenaTrait.entry mid) q c.args.t inserted (g.A.ArenaTrait.entry new) (g.A.ArenaTrait.seen mid).entries (g.A.ArenaTrait.seen new).entries (g.met.A.ArenaTrait.rises mid)
-          (g.met.A.ArenaTrait.looked_up mid) (g.met.A.ArenaTrait.looked_up new) (ap (λ s. s.entries) gone.1.0 ∙ ap (λ a. without q.0 (g.A.ArenaTrait.seen a).entries) same),
+      taken_back (g.A.ArenaTrait.entry old) (g.A.ArenaTrait.entry mid) q c.args.t inserted (g.A.ArenaTrait.entry new) (g.A.ArenaTrait.view mid).entries (g.A.ArenaTrait.view new).entries (g.met.A.ArenaTrait.rises mid)
+          (g.met.A.ArenaTrait.looked_up mid) (g.met.A.ArenaTrait.looked_up new) (ap (λ s. s.entries) gone.1.0 ∙ ap (λ a. without q.0 (g.A.ArenaTrait.view a).entries) same),
       gone.1.1 ∙ (ap (λ a. removed (g.A.ChainArenaTrait.interlinks a) q.0) same ∙ (ap (λ s. removed s q.0) (c.in_ok-q.ensures.inserted.shows ∙ alone_by_writes (g.A.ChainArenaTrait.interlinks old) q.0)
           ∙ removed_of_lone (g.A.ChainArenaTrait.interlinks old) q.0 (not_shown (g.A.ArenaTrait.entry old) (g.A.ArenaTrait.entry mid) q c.args.t inserted (g.A.ChainArenaTrait.interlinks old) (g.met.A.ChainArenaTrait.stand old q.0)))),
     )

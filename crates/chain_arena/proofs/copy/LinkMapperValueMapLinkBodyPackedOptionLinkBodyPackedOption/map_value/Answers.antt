@@ -1,13 +1,13 @@
 -- The link is made of the interlinks of the other and of the value that was made.
 use Rattle.std.proofs.Common.{refl, ap, sym, ◌∙◌, subst}
 use Rattle.chain_links.specs.ChainArena.{interlinks_in, link_value}
-use Rattle.chain_links.specs.Links.{seen_link}
+use Rattle.chain_links.specs.Links.{link_view}
 use Rattle.chain_arena.specs.LinkCopies.{MakesOf}
-use Rattle.chain_arena.proofs.copy.LinkMapValueMapLinkBodyPackedOptionLinkBodyPackedOption.map_value.Goals as goal
+use Rattle.chain_arena.proofs.copy.LinkMapperValueMapLinkBodyPackedOptionLinkBodyPackedOption.map_value.Goals as goal
 
 pub returns-in-Ok-clause-made : goal.returns-in-Ok-clause-made
 returns-in-Ok-clause-made g c =
-    let look = seen_link g.I.InxKey.packed_number in
+    let look = link_view g.I.InxKey.packed_number in
     record {
       interlinks = ap interlinks_in c.new.ensures ∙ (λ i. record { prev = c.prev_next.ensures.prev i; next = c.prev_next.ensures.next i });
       value = subst (λ t. MakesOf look g.M.ValueMap.makes c.args.self.now.values c.args.p (look c.args.u.now) t c.map_value.new.self) (sym (ap link_value c.new.ensures))
