@@ -163,7 +163,8 @@ impl<P: PtrKey, T: Drop, S: SlotStack<Item = ArenaSlot<P, T>>> Arena<P, T, S> {
             ((entry_count self.old ≡ self.old.capacity) × IsBeyond self.old.maximum
             (entry_count self.old + 1)) }
         ensures greatest { entry_count self.old ≡ P.Inx.greatest → IsErr result }
-        ensures ok { OnOk result (ReachesCapacity S.may_reach P.Inx.greatest (entry_count self.old + 1)
+        ensures ok { OnOk result (ReachesCapacity S.may_reach P.Inx.greatest
+            (entry_count self.old + 1)
             self.old self.new) }
         ensures err { OnErr result (self.new ≡ self.old) }
         ensures after { self.new ≡ with_capacity_of self.old self.new }

@@ -98,7 +98,8 @@ impl<P: PtrKey, T: Drop, S: SlotStack<Item = ArenaSlot<P, T>>> Arena<P, T, S> {
             ↔ IsBeyond self.old.maximum (length source.now.slots) }
         ensures unchanged { result.0 ≡ Err ReallocationError.BeyondMaxCapacity
             → (self.new ≡ self.old) × (result.1 ≡ values) }
-        ensures ok { OnOk result.0 (HasCapacityFor P.Inx.greatest (length source.now.slots) self.new) }
+        ensures ok { OnOk result.0
+            (HasCapacityFor P.Inx.greatest (length source.now.slots) self.new) }
         ensures copied { OnOk result.0 (CopiesBy M.makes P.key values (entries source.now)
             (entries self.new) result.1) }
         ensures ready { OnOk result.0 (M.is_ready result.1) }

@@ -51,7 +51,8 @@ impl<P: PtrKey, T: Drop, S: SlotStack<Item = ArenaSlot<P, T>>> HeldSlots<P, T, S
     pub(crate) fn place(&mut self, from: P::Inx, to: P::Inx, generation: P::Gen)
         requires from { P.Inx.number from ≤ length self.old.slots }
         requires to { P.Inx.number to ≤ length self.old.slots }
-        ensures { self.new ≡ with_placed_entry self.old (P.Inx.number from) (P.Inx.number to) generation }
+        ensures { self.new ≡ with_placed_entry self.old (P.Inx.number from)
+            (P.Inx.number to) generation }
     {
         let from = position_of::<P>(from);
         regenerate_at(&mut self.slots, from, generation);
@@ -64,7 +65,8 @@ impl<P: PtrKey, T: Drop, S: SlotStack<Item = ArenaSlot<P, T>>> HeldSlots<P, T, S
         requires entry { IsSome (slot_at self.old.slots (P.Inx.number from)) }
         requires free { P.Inx.number to ≢ P.Inx.number from
             → slot_at self.old.slots (P.Inx.number to) ≡ None }
-        ensures { self.new ≡ with_placed_entry self.old (P.Inx.number from) (P.Inx.number to) generation }
+        ensures { self.new ≡ with_placed_entry self.old (P.Inx.number from)
+            (P.Inx.number to) generation }
     {
         match vacate_at(&mut self.slots, position_of::<P>(from), None) {
             Some((_, t)) => put_at(&mut self.slots, position_of::<P>(to), generation, t),

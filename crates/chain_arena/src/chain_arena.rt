@@ -80,7 +80,8 @@ impl<P: PtrKey, T: Drop, S: SlotStack<Item = ArenaSlot<P, LinkNoGen<P, T>>>> Cha
         ensures agree { IsWellLinked (link_map self.now) }
         ensures one { HasOneSetOfChains (link_map self.now) }
         ensures fits { count (value_view self.now) ≤ (value_view self.now).capacity }
-        ensures indexes { All (λ e. IsWithin P.Inx.greatest (index_of e)) (value_view self.now).entries }
+        ensures indexes { All (λ e. IsWithin P.Inx.greatest (index_of e))
+            (value_view self.now).entries }
 
         // The freed list has each free slot once, so an insertion overwrites no link.
         ensures listed { IsListed self.now }
@@ -151,10 +152,12 @@ impl<P: PtrKey, T: Drop, S: SlotStack<Item = ArenaSlot<P, LinkNoGen<P, T>>>> Cha
         visitor: V,
     ) -> (InvalidationOption<()>, V, Work)
         requires { V.is_ready visitor }
-        ensures canonical { IsCanonicalLayout P.Gen.first P.Gen.following reset (value_view self.old)
+        ensures canonical { IsCanonicalLayout P.Gen.first P.Gen.following reset
+            (value_view self.old)
             (link_map self.old) (value_view self.new) (link_map self.new) }
         ensures stack_capacity { self.new.stack_capacity ≡ self.old.stack_capacity }
-        ensures shows { ReportsAll V.sees P.key (value_view self.old) (link_map self.old) self.new.counter
+        ensures shows { ReportsAll V.sees P.key (value_view self.old)
+            (link_map self.old) self.new.counter
             visitor result.1 }
         ensures ready { V.is_ready result.1 }
         ensures overflow { result.0 ≡ invalidation_option
@@ -179,10 +182,12 @@ impl<P: PtrKey, T: Drop, S: SlotStack<Item = ArenaSlot<P, LinkNoGen<P, T>>>> Cha
         map: F,
     ) -> InvalidationOption<()>
         requires { F.IsAlwaysCallable map }
-        ensures canonical { IsCanonicalLayout P.Gen.first P.Gen.following reset (value_view self.old)
+        ensures canonical { IsCanonicalLayout P.Gen.first P.Gen.following reset
+            (value_view self.old)
             (link_map self.old) (value_view self.new) (link_map self.new) }
         ensures stack_capacity { self.new.stack_capacity ≡ self.old.stack_capacity }
-        ensures shows { ReportsLayout F.FnMut P.key (value_view self.old) (link_map self.old) self.new.counter
+        ensures shows { ReportsLayout F.FnMut P.key (value_view self.old)
+            (link_map self.old) self.new.counter
             map }
         ensures overflow { result ≡ invalidation_option
             (overflows_after_compression P.Gen.wraps reset (entry_count self.old) self.old.counter)
@@ -227,7 +232,8 @@ impl<P: PtrKey, T: Drop, S: SlotStack<Item = ArenaSlot<P, LinkNoGen<P, T>>>> Cha
     ///
     /// `GenerationOverflow`: the counter was at its greatest, and is two now.
     pub fn compress_canonical_counted(&mut self, reset: bool) -> (InvalidationOption<()>, Work)
-        ensures canonical { IsCanonicalLayout P.Gen.first P.Gen.following reset (value_view self.old)
+        ensures canonical { IsCanonicalLayout P.Gen.first P.Gen.following reset
+            (value_view self.old)
             (link_map self.old) (value_view self.new) (link_map self.new) }
         ensures stack_capacity { self.new.stack_capacity ≡ self.old.stack_capacity }
         ensures overflow { result.0 ≡ invalidation_option

@@ -99,7 +99,8 @@ impl<P: PtrKey, T: Drop, S: SlotStack<Item = ArenaSlot<P, LinkNoGen<P, T>>>> Cha
     // Removes the links of the walk from a number.
     fn drain_from(&mut self, from: usize)
         ensures state { self.new ≡ without_each P.Gen.following self.old (walk_left self.old from) }
-        ensures taken { TakesWalk (link_map self.old) (link_map self.new) (walk_left self.old from) }
+        ensures taken { TakesWalk (link_map self.old) (link_map self.new)
+            (walk_left self.old from) }
         ensures counts { CountsUp P.Gen.following (length (walk_left self.old from)) self.old
             self.new }
     {
@@ -117,7 +118,8 @@ fn yielded<P: PtrKey, T>(
     entry: (P::Gen, LinkNoGen<P, T>),
     overflow: bool,
 ) -> (usize, InvalidationOption<(P, LinkNoGen<P, T>)>)
-    ensures next { nonzero_index result.0 ≡ rest_start (P.Inx.number i) (P.Inx.packed_number entry.1.prev)
+    ensures next { nonzero_index result.0 ≡ rest_start (P.Inx.number i)
+        (P.Inx.packed_number entry.1.prev)
         (P.Inx.packed_number entry.1.next) }
     ensures ptr { P.key (value_in result.1).0 ≡ (P.Inx.number i, entry.0) }
     ensures link { (value_in result.1).1 ≡ entry.1 }

@@ -71,7 +71,8 @@ impl<P: PtrKey, T: Drop, S: SlotStack<Item = ArenaSlot<P, LinkNoGen<P, T>>>> Cha
             ↔ IsBeyond self.old.maximum (length source.now.slots) }
         ensures unchanged { result.0 ≡ Err ReallocationError.BeyondMaxCapacity
             → (self.new ≡ self.old) × (result.1 ≡ values) }
-        ensures ok { OnOk result.0 (HasCapacityFor P.Inx.greatest (length source.now.slots) self.new) }
+        ensures ok { OnOk result.0
+            (HasCapacityFor P.Inx.greatest (length source.now.slots) self.new) }
         ensures copied { OnOk result.0
             (IsLinkCopyBy (MakesOf (link_view P.Inx.packed_number) M.makes) P.key values source.now
             self.old self.new result.1) }
@@ -106,7 +107,8 @@ impl<P: PtrKey, T: Drop, S: SlotStack<Item = ArenaSlot<P, LinkNoGen<P, T>>>> Cha
             → IsOk result × (self.new.capacity ≡ self.old.capacity) }
         ensures beyond { (result ≡ Err ReallocationError.BeyondMaxCapacity)
             ↔ IsBeyond self.old.maximum (length source.now.slots) }
-        ensures ok { OnOk result (HasCapacityFor P.Inx.greatest (length source.now.slots) self.new) }
+        ensures ok { OnOk result
+            (HasCapacityFor P.Inx.greatest (length source.now.slots) self.new) }
         ensures copied { OnOk result
             (IsLinkCopy F.FnMut P.Inx.packed_number P.key map source.now self.old self.new) }
         ensures never_less { self.old.capacity ≤ self.new.capacity }

@@ -19,7 +19,8 @@ impl<P: PtrKey, T: Drop, S: SlotStack<Item = ArenaSlot<P, LinkNoGen<P, T>>>> Cha
     ///
     /// Carries `from_arena` of `triple_arena`.
     pub fn from_arena(arena: Arena<P, LinkNoGen<P, T>, S>) -> Result<Self, &'static str>
-        ensures decides { IsOk result ↔ IsWellLinked (link_map (links_view P.Inx.packed_number arena)) }
+        ensures decides { IsOk result
+            ↔ IsWellLinked (link_map (links_view P.Inx.packed_number arena)) }
         ensures same { IfOk result (λ c. c ≡ links_view P.Inx.packed_number arena) }
         ensures refused { IfErr result (λ e. e.now ≡ codes "interlink transitivity does not hold") }
     {

@@ -87,8 +87,10 @@ impl<P: PtrKey, T: Drop, S: SlotStack<Item = ArenaSlot<P, LinkNoGen<P, T>>>> Are
         ensures count { result ≡ length (value_view self.now).entries }
         ensures fits { result ≤ (value_view self.now).capacity }
         ensures one_more { result + 1 < 2 ^ 64 }
-        ensures indexes { All (λ e. IsWithin P.Inx.greatest (index_of e)) (value_view self.now).entries }
-        ensures filled { IfSome (value_view self.now).slots (CoverSlots (value_view self.now).entries) }
+        ensures indexes { All (λ e. IsWithin P.Inx.greatest (index_of e))
+            (value_view self.now).entries }
+        ensures filled { IfSome (value_view self.now).slots
+            (CoverSlots (value_view self.now).entries) }
         ensures links { result ≡ entry_count self.now }
         ensures chains { HasOneSetOfChains (link_map self.now) }
 

@@ -92,7 +92,8 @@ impl<P: PtrKey, T: Drop, S: SlotStack<Item = ArenaSlot<P, LinkNoGen<P, T>>>> Cha
         ensures error { IfErr result (λ e. (e ≡ ChainInsertionError.FailedLinkRequirement)
             ⊎ (e ≡ ChainInsertionError.NotWithinCapacity)) }
         ensures place { IfOk result (λ p. (P.key p).0 ≡ next_index self.old) }
-        ensures state { OnOk result (self.new ≡ insert_as self.old (indexed_kind P.key P.Inx.number kind)
+        ensures state { OnOk result
+            (self.new ≡ insert_as self.old (indexed_kind P.key P.Inx.number kind)
             t) }
     {
         let asked = self.gap_within(kind);
@@ -126,7 +127,8 @@ impl<P: PtrKey, T: Drop, S: SlotStack<Item = ArenaSlot<P, LinkNoGen<P, T>>>> Cha
         ensures greatest { count (value_view self.old) ≡ P.Inx.greatest → IsErr result }
         ensures place { IfOk result (λ p. (P.key p).0 ≡ next_index self.old) }
         ensures state { OnOk result
-            (self.new ≡ with_capacity_of (insert_as self.old (indexed_kind P.key P.Inx.number kind) t)
+            (self.new ≡ with_capacity_of
+            (insert_as self.old (indexed_kind P.key P.Inx.number kind) t)
             self.new) }
         ensures state_in_room { MayInsertInto P.key P.Inx.number self.old kind
             → entry_count self.old < self.old.capacity
@@ -154,7 +156,8 @@ impl<P: PtrKey, T: Drop, S: SlotStack<Item = ArenaSlot<P, LinkNoGen<P, T>>>> Cha
         ensures greatest { count (value_view self.old) ≡ P.Inx.greatest → IsErr result }
         ensures place { IfOk result (λ p. (P.key p).0 ≡ next_index self.old) }
         ensures state { OnOk result
-            (self.new ≡ with_capacity_of (insert_as self.old (indexed_kind P.key P.Inx.number kind) t)
+            (self.new ≡ with_capacity_of
+            (insert_as self.old (indexed_kind P.key P.Inx.number kind) t)
             self.new) }
         ensures state_in_room { entry_count self.old < self.old.capacity
             → self.new ≡ insert_as self.old (indexed_kind P.key P.Inx.number kind) t }
@@ -206,7 +209,8 @@ impl<P: PtrKey, T: Drop, S: SlotStack<Item = ArenaSlot<P, LinkNoGen<P, T>>>> Cha
     }
 
     fn get_inx_link_no_gen(&self, i: P::Inx) -> Option<(P::Gen, &LinkNoGen<P, T>)>
-        ensures link { option_map (borrowed_link P.Inx.packed_number) result ≡ link_at (entry self.now)
+        ensures link { option_map (borrowed_link P.Inx.packed_number) result ≡ link_at
+            (entry self.now)
             (interlinks self.now) (P.Inx.number i) }
         ensures agree { IsWellLinked (interlinks self.now) }
     {
@@ -365,7 +369,8 @@ impl<P: PtrKey, T: Drop, S: SlotStack<Item = ArenaSlot<P, LinkNoGen<P, T>>>> Cha
     }
 
     fn compress_canonical(&mut self, reset: bool) -> InvalidationOption<()>
-        ensures canonical { IsCanonicalLayout P.Gen.first P.Gen.following reset (value_view self.old)
+        ensures canonical { IsCanonicalLayout P.Gen.first P.Gen.following reset
+            (value_view self.old)
             (interlinks self.old) (value_view self.new) (interlinks self.new) }
         ensures overflow { IfSome (value_view self.old).counter
             (λ g. result ≡ invalidation_option (overflows_after_compression P.Gen.wraps reset

@@ -53,7 +53,8 @@ impl<P: PtrKey, T: Drop, S: SlotStack<Item = ArenaSlot<P, LinkNoGen<P, T>>>> Cha
         &mut self,
         kind: LinkInsertKind<P>,
     ) -> Result<InsertPosition<P::Inx>, ChainInsertionError>
-        ensures place { FindsPositionGrowing P.key P.Inx.number S.may_reach P.Inx.greatest self.old kind
+        ensures place { FindsPositionGrowing P.key P.Inx.number S.may_reach P.Inx.greatest self.old
+            kind
             result self.new }
         ensures agreed { IsWellLinked (link_map self.old) }
     {
@@ -89,7 +90,8 @@ impl<P: PtrKey, T: Drop, S: SlotStack<Item = ArenaSlot<P, LinkNoGen<P, T>>>> Cha
         asked: Result<InsertPosition<P::Inx>, ChainInsertionError>,
         t: T,
     ) -> Result<P, ChainInsertionError>
-        requires gap { ForOk asked (λ gap. IsInsertPosition (link_map self.old) (next_index self.old)
+        requires gap { ForOk asked (λ gap. IsInsertPosition (link_map self.old)
+            (next_index self.old)
             (before_in P.Inx.number gap (next_index self.old))
             (after_in P.Inx.number gap (next_index self.old))) }
         requires room { ForOk asked (λ gap. entry_count self.old < self.old.capacity) }

@@ -37,7 +37,8 @@ pub struct ChainArenaInsertEntry<
     ghost place: { inx ≡ next_index arena.now },
     ghost index: { IsWithin P.Inx.greatest inx },
     ghost indexes: { (prev ≤ P.Inx.greatest) × (next ≤ P.Inx.greatest) },
-    ghost fits: { ∥ IsInsertPosition (link_map arena.now) (next_index arena.now) (nonzero_index prev)
+    ghost fits: { ∥ IsInsertPosition (link_map arena.now) (next_index arena.now)
+        (nonzero_index prev)
         (nonzero_index next) ∥₁ },
 }
 
@@ -81,7 +82,8 @@ impl<P: PtrKey, T: Drop, S: SlotStack<Item = ArenaSlot<P, LinkNoGen<P, T>>>> Cha
         ensures link { (result ≡ Err ChainInsertionError.FailedLinkRequirement)
             ↔ ¬ MayInsertInto P.key P.Inx.number self.old kind }
         ensures full { (result ≡ Err ChainInsertionError.NotWithinCapacity)
-            ↔ (MayInsertInto P.key P.Inx.number self.old kind × (entry_count self.old ≡ self.old.capacity)) }
+            ↔ (MayInsertInto P.key P.Inx.number self.old kind
+            × (entry_count self.old ≡ self.old.capacity)) }
         ensures error { IfErr result (λ e. (e ≡ ChainInsertionError.FailedLinkRequirement)
             ⊎ (e ≡ ChainInsertionError.NotWithinCapacity)) }
         ensures same_reference { IfOk result (λ e. e.arena.ghost_name ≡ self.entry.ghost_name) }
@@ -191,7 +193,8 @@ impl<P: PtrKey, T: Drop, S: SlotStack<Item = ArenaSlot<P, LinkNoGen<P, T>>>> Cha
             (after_in P.Inx.number gap (next_index self.old)) }
         ensures same_reference { result.arena.ghost_name ≡ self.entry.ghost_name }
         ensures arena { result.arena.now ≡ self.old }
-        ensures prev { nonzero_index result.prev ≡ before_in P.Inx.number gap (next_index self.old) }
+        ensures prev { nonzero_index result.prev ≡ before_in P.Inx.number gap
+            (next_index self.old) }
         ensures next { nonzero_index result.next ≡ after_in P.Inx.number gap (next_index self.old) }
     {
         let i = self.next_ptr().inx();
@@ -225,7 +228,8 @@ impl<
     pub fn insert(self, t: T)
         ensures state { self.exit.0.now ≡ insert_between self.entry.arena.now t
             (nonzero_index self.entry.prev) (nonzero_index self.entry.next) }
-        ensures inserted { IsInsertedBetween (nonzero_index self.entry.prev) (nonzero_index self.entry.next)
+        ensures inserted { IsInsertedBetween (nonzero_index self.entry.prev)
+            (nonzero_index self.entry.next)
             self.entry.arena.now t self.exit.0.now }
     {
         let (prev, next) = (self.prev, self.next);

@@ -42,7 +42,8 @@ impl<P: PtrKey, T: Drop, S: SlotStack<Item = ArenaSlot<P, LinkNoGen<P, T>>>> Cha
         ensures transferred { OnOk result
             (IsTransfer Q.key P.key Q.Gen.following Q.Gen.wraps F.FnMut new_generation map
             (A.view source.old) (A.interlinks source.old) (A.view source.new) self.old self.new) }
-        ensures room { OnOk result (HasCapacityFor P.Inx.greatest (count (A.view source.old)) self.new) }
+        ensures room { OnOk result
+            (HasCapacityFor P.Inx.greatest (count (A.view source.old)) self.new) }
         ensures reached { OnOk result
             (IsWithinReach S.may_reach (count (A.view source.old)) self.old self.new) }
         ensures within { count (A.view source.old) ≤ self.old.capacity

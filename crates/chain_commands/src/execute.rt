@@ -41,7 +41,8 @@ fn carry_out<S: SlotStack<Item = ArenaSlot<ToolPtr, LinkNoGen<ToolPtr, u32>>>>(
     command: Command,
     text: &mut String,
 ) -> Result<(), AllocError>
-    ensures ok { OnOk result (RespondsToCommand arena.old command (string_bytes text.new) arena.new) }
+    ensures ok { OnOk result
+        (RespondsToCommand arena.old command (string_bytes text.new) arena.new) }
     ensures room { OnOk result ((reset : Bool) → command ≡ Command.Moves reset
         → HasCapacityForText text.new (codes "\n")) }
     ensures err { OnErr result ((arena.new ≡ arena.old)

@@ -165,7 +165,8 @@ fn push_removed_inx(
 
 /// Adds the new pointer of a link to a text, and whether the counter has overflowed.
 fn push_renewed(text: &mut String, answer: InvalidationResult<ToolPtr>) -> Result<(), AllocError>
-    ensures { OnOk result (string_bytes text.new ≡ string_bytes text.old ++ invalidation_text at_text
+    ensures { OnOk result (string_bytes text.new ≡ string_bytes text.old ++ invalidation_text
+        at_text
         answer) }
 {
     match answer {

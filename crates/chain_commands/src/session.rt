@@ -124,7 +124,8 @@ fn feed<W: Write, S: SlotStack<Item = ArenaSlot<ToolPtr, LinkNoGen<ToolPtr, u32>
     text: &mut String,
     writer: &mut W,
 ) -> Result<(), ToolError>
-    ensures { ExtendsProgress result piece.now arena.old line.old.items (W.contents writer.old) arena.new
+    ensures { ExtendsProgress result piece.now arena.old line.old.items
+        (W.contents writer.old) arena.new
         line.new.items (W.contents writer.new) }
 {
     let mut left = piece;

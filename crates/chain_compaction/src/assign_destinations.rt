@@ -23,13 +23,16 @@ fn start_at<P: PtrKey, T: Drop, S: SlotStack<Item = ArenaSlot<P, LinkNoGen<P, T>
     requires { HasChainFrom (link_map_in P.Inx.packed_number compactor.old.held.slots)
         (P.Inx.number i) }
     ensures same_reference { compactor.new.arena.ghost_name ≡ compactor.old.arena.ghost_name }
-    ensures start { IsStart (link_map_in P.Inx.packed_number compactor.old.held.slots) (P.Inx.number i)
+    ensures start { IsStart (link_map_in P.Inx.packed_number compactor.old.held.slots)
+        (P.Inx.number i)
         (P.Inx.number result) }
     ensures held { compactor.new.held ≡ compactor.old.held }
-    ensures linear { (xs : List ℕ) → IsChain (link_map_in P.Inx.packed_number compactor.old.held.slots)
+    ensures linear { (xs : List ℕ)
+        → IsChain (link_map_in P.Inx.packed_number compactor.old.held.slots)
         (linear xs) → IsMember xs (P.Inx.number i)
         → IsWork compactor.old.arena.now compactor.new.arena.now 0 (length xs) }
-    ensures cyclic { (xs : List ℕ) → IsChain (link_map_in P.Inx.packed_number compactor.old.held.slots)
+    ensures cyclic { (xs : List ℕ)
+        → IsChain (link_map_in P.Inx.packed_number compactor.old.held.slots)
         (cyclic (P.Inx.number i ∷ xs))
         → IsWork compactor.old.arena.now compactor.new.arena.now 0 (length xs + 1) }
     ensures counts { CountsOn compactor.old.arena.now compactor.new.arena.now compactor.old.placed
@@ -163,7 +166,8 @@ pub fn number_all<
     requires ready { V.is_ready visitor }
     requires fits { length compactor.old.held.slots ≤ P.Inx.greatest }
     requires agree { IsWellLinked (link_map_in P.Inx.packed_number compactor.old.held.slots) }
-    requires empty { (j : ℕ) → destination_at P.Inx.packed_number compactor.old.held.slots j ≡ None }
+    requires empty { (j : ℕ) → destination_at P.Inx.packed_number compactor.old.held.slots j
+        ≡ None }
     ensures ready { V.is_ready result.0 }
     ensures same_reference { compactor.new.arena.ghost_name ≡ compactor.old.arena.ghost_name }
     ensures numbered { AreAllNumbered P.Inx.packed_number V.sees P.key generation visitor result.0

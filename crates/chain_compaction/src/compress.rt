@@ -77,7 +77,8 @@ fn move_link<P: PtrKey, T: Drop, S: SlotStack<Item = ArenaSlot<P, LinkNoGen<P, T
         (slot_at compactor.old.held.slots (P.Inx.number from)) }
     ensures values { OnSome result (held_values compactor.new.held ≡ with_placed_entry
         (held_values compactor.old.held) (P.Inx.number from) (P.Inx.number to) generation) }
-    ensures moves { OnSome result (IsLinkMove (link_map_in P.Inx.packed_number compactor.old.held.slots)
+    ensures moves { OnSome result
+        (IsLinkMove (link_map_in P.Inx.packed_number compactor.old.held.slots)
         (link_map_in P.Inx.packed_number compactor.new.held.slots)
         (P.Inx.number from) (P.Inx.number to)) }
     ensures work { OnSome result (IsWork compactor.old.arena.now compactor.new.arena.now 1 3) }

@@ -17,7 +17,8 @@ fn take_at<P: PtrKey, T: Drop, S: SlotStack<Item = ArenaSlot<P, LinkNoGen<P, T>>
     i: P::Inx,
 ) -> Option<P::Inx>
     ensures same_reference { compactor.new.arena.ghost_name ≡ compactor.old.arena.ghost_name }
-    ensures answer { option_map P.Inx.number result ≡ option_and_then (destination_of P.Inx.packed_number)
+    ensures answer { option_map P.Inx.number result ≡ option_and_then
+        (destination_of P.Inx.packed_number)
         (slot_at compactor.old.held.slots (P.Inx.number i)) }
     ensures taken { OnSome result
         (IsTakenOut P.Inx.packed_number (P.Inx.number i) compactor.old.held compactor.new.held) }
@@ -69,7 +70,8 @@ pub fn move_all<P: PtrKey, T: Drop, S: SlotStack<Item = ArenaSlot<P, LinkNoGen<P
     requires fits { length compactor.old.held.slots ≤ P.Inx.greatest }
     requires can { CanMoveAll (destination_of P.Inx.packed_number) compactor.old.held.slots }
     ensures same_reference { compactor.new.arena.ghost_name ≡ compactor.old.arena.ghost_name }
-    ensures moved { HaveMoved (destination_of P.Inx.packed_number) (Settles P.Inx.packed_number generation)
+    ensures moved { HaveMoved (destination_of P.Inx.packed_number)
+        (Settles P.Inx.packed_number generation)
         (slot_at compactor.old.held.slots) (slot_at compactor.new.held.slots) }
     ensures length { length compactor.new.held.slots ≡ length compactor.old.held.slots }
     ensures capacity { compactor.new.held.stack_capacity ≡ compactor.old.held.stack_capacity }

@@ -28,7 +28,8 @@ pub fn renumber<P: PtrKey, T: Drop, S: SlotStack<Item = ArenaSlot<P, LinkNoGen<P
 ) -> Result<(), AllocError>
     ensures canonical { OnOk result (IsCanonicalLayout P.Gen.first P.Gen.following false
         (value_view arena.old) (link_map arena.old) (value_view arena.new) (link_map arena.new)) }
-    ensures renumbered { OnOk result (IsRenumbered P.Gen.first P.Gen.following value_view entry link_map
+    ensures renumbered { OnOk result
+        (IsRenumbered P.Gen.first P.Gen.following value_view entry link_map
         arena.old arena.new
         (map (option_map P.key) bookmarks.old) (map (option_map P.key) bookmarks.new)) }
     ensures err { OnErr result ((arena.new ≡ arena.old) × (bookmarks.new ≡ bookmarks.old)) }

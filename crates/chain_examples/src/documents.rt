@@ -353,7 +353,8 @@ impl<P: PtrKey, T: Drop, A: ChainArenaTrait<P, T> + Drop> Documents<P, T, A> {
     // The pointers of the paragraphs before and after another, by one look. `None`: the pointer is of no paragraph.
     fn beside(&self, p: P) -> Option<(Option<P>, Option<P>)>
         ensures some { IsSome result ↔ IsValid (A.entry self.now) (P.key p) }
-        ensures between { IfSome result (λ r. HasTextNeighbors A.entry A.interlinks self.now (P.key p)
+        ensures between { IfSome result (λ r. HasTextNeighbors A.entry A.interlinks self.now
+            (P.key p)
             (option_map P.key r.0) (option_map P.key r.1)) }
     {
         match self.paragraphs.get_link(p) {
@@ -431,7 +432,8 @@ impl<P: PtrKey, T: Drop, S: SlotStack<Item = ArenaSlot<P, LinkNoGen<P, T>>>> Doc
     pub fn renumber(&mut self, alloc: Global, bookmarks: &mut [Option<P>]) -> Result<(), AllocError>
         ensures canonical { OnOk result (IsCanonicalLayout P.Gen.first P.Gen.following false
             (value_view self.old) (link_map self.old) (value_view self.new) (link_map self.new)) }
-        ensures renumbered { OnOk result (IsRenumbered P.Gen.first P.Gen.following value_view entry link_map
+        ensures renumbered { OnOk result
+            (IsRenumbered P.Gen.first P.Gen.following value_view entry link_map
             self.old self.new
             (map (option_map P.key) bookmarks.old) (map (option_map P.key) bookmarks.new)) }
         ensures err { OnErr result ((self.new ≡ self.old) × (bookmarks.new ≡ bookmarks.old)) }

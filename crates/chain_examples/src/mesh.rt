@@ -313,7 +313,8 @@ impl<P: PtrKey, T: Copy + Drop, A: ChainArenaTrait<P, T> + Drop> Mesh<P, T, A> {
         ensures none { IfOk result (λ r. IfNone r (self.new ≡ self.old)) }
         ensures room { count (A.view self.old) + 2 ≤ (A.view self.old).capacity
             → IsOk result × ((A.view self.new).capacity ≡ (A.view self.old).capacity) }
-        ensures grown { IfOk result (λ r. OnSome r (IsCapacityFor P.Inx.greatest (A.view self.new).maximum
+        ensures grown { IfOk result
+            (λ r. OnSome r (IsCapacityFor P.Inx.greatest (A.view self.new).maximum
             (count (A.view self.old) + 2) (A.view self.new).capacity)) }
         ensures maximum { (A.view self.new).maximum ≡ (A.view self.old).maximum }
         ensures beyond { (result ≡ Err ReallocationError.BeyondMaxCapacity)

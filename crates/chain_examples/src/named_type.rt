@@ -42,7 +42,8 @@ pub fn insert_behind(
         ↔ ¬ IsValid (entry arena.old) (key_of p) }
     ensures room { IsValid (entry arena.old) (key_of p) → HasFreeCapacity (value_view arena.old)
         → IsOk result }
-    ensures behind { IfOk result (λ q. AreNeighbors (link_map arena.new) (key_of p).0 (key_of q).0) }
+    ensures behind { IfOk result (λ q. AreNeighbors (link_map arena.new) (key_of p).0
+        (key_of q).0) }
     ensures err { OnErr result (arena.new ≡ arena.old) }
 {
     arena.insert_reallocating(LinkInsertKind::NextTo(p), t)

@@ -48,7 +48,8 @@ fn standing_at<P: PtrKey, T: Drop, S: SlotStack<Item = ArenaSlot<P, LinkNoGen<P,
         (HasLink (link_map (links_view P.Inx.packed_number arena.now))) }
     ensures some { OnSome result (option_map P.Inx.number result ≡ option_map P.Inx.number i) }
     ensures none { IfNone result
-        (IfSome (option_map P.Inx.number i) (λ n. link_map (links_view P.Inx.packed_number arena.now) n
+        (IfSome (option_map P.Inx.number i)
+        (λ n. link_map (links_view P.Inx.packed_number arena.now) n
         ≡ None)) }
 {
     match i {

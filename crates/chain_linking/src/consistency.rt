@@ -32,7 +32,8 @@ pub fn agrees_forth<P: PtrKey, T: Drop, S: SlotStack<Item = ArenaSlot<P, LinkNoG
     arena: &Arena<P, LinkNoGen<P, T>, S>,
     i: P::Inx,
 ) -> bool
-    ensures { IsTrue result ↔ IsWellLinkedForth (link_map (links_view P.Inx.packed_number arena.now))
+    ensures { IsTrue result
+        ↔ IsWellLinkedForth (link_map (links_view P.Inx.packed_number arena.now))
         (P.Inx.number i) }
 {
     match neighbors_at(arena, i).1 {

@@ -83,7 +83,8 @@ impl<W: Copy, I: InxKey<Word = W>, T: Ord> Ord for LinkBody<PackedOption<I, W>, 
     ghost matches_partial_cmp = { λ l m. links_cmp_partial T.partial_cmp T.cmp T.matches_partial_cmp
         (link_view I.packed_number l) (link_view I.packed_number m) };
 
-    ghost matches_eq = { λ l m. links_are_equivalent T.eq T.cmp T.matches_eq (link_view I.packed_number l)
+    ghost matches_eq = { λ l m. links_are_equivalent T.eq T.cmp T.matches_eq
+        (link_view I.packed_number l)
         (link_view I.packed_number m) };
 
     fn cmp(&self, other: &Self) -> Ordering {

@@ -7,7 +7,8 @@ use arena_ptr::InxKey;
 
 /// Where a walk goes on to from a link: to the next one, unless it has come round to its start.
 pub fn going_on<I: InxKey>(start: I, next: Option<I>) -> Option<I>
-    ensures { option_map I.number result ≡ step_forward (I.number start) (option_map I.number next) }
+    ensures { option_map I.number result ≡ step_forward (I.number start)
+        (option_map I.number next) }
 {
     match next {
         Some(k) => if k.is_same(start) { None } else { Some(k) },

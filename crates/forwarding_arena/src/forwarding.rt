@@ -299,7 +299,8 @@ impl<P: PtrKey, T: Drop, A: ChainArenaTrait<P, T>> ChainArenaTrait<P, T> for For
             (names_in P.key P.Inx.number kind) }
         ensures error { IfErr result (λ e. e ≢ ChainInsertionError.NotWithinCapacity) }
         ensures room { MayInsert (A.entry self.old.inner) (A.interlinks self.old.inner)
-            (names_in P.key P.Inx.number kind) → SucceedsWithinCapacity (A.view self.old.inner) result
+            (names_in P.key P.Inx.number kind)
+            → SucceedsWithinCapacity (A.view self.old.inner) result
             (A.view self.new.inner) }
         ensures grown { OnOk result (IsCapacityFor P.Inx.greatest (A.view self.new.inner).maximum
             (count (A.view self.old.inner) + 1) (A.view self.new.inner).capacity) }
@@ -318,7 +319,8 @@ impl<P: PtrKey, T: Drop, A: ChainArenaTrait<P, T>> ChainArenaTrait<P, T> for For
             (names_in P.key P.Inx.number kind) t self.old.inner (P.key p) self.new.inner) }
         ensures agreed { IsWellLinked (A.interlinks self.old.inner) }
         ensures err { OnErr result (self.new ≡ self.old) }
-        ensures room { SucceedsWithinCapacity (A.view self.old.inner) result (A.view self.new.inner) }
+        ensures room { SucceedsWithinCapacity (A.view self.old.inner) result
+            (A.view self.new.inner) }
         ensures grown { OnOk result (IsCapacityFor P.Inx.greatest (A.view self.new.inner).maximum
             (count (A.view self.old.inner) + 1) (A.view self.new.inner).capacity) }
         ensures beyond { (result ≡ Err ReallocationError.BeyondMaxCapacity)

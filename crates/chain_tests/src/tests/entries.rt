@@ -31,7 +31,8 @@ pub(super) fn insert_by_entry<S: SlotStack<Item = Slot>>(
         (insert_as arena.old (by_index (names_in key_of number_of_inx32 kind)) t) arena.new) }
     ensures err { OnErr result (arena.new ≡ arena.old) }
     ensures link { (result ≡ Err ChainInsertionError.FailedLinkRequirement)
-        ↔ ¬ MayInsert (entry arena.old) (link_map arena.old) (names_in key_of number_of_inx32 kind) }
+        ↔ ¬ MayInsert (entry arena.old) (link_map arena.old)
+        (names_in key_of number_of_inx32 kind) }
 {
     let entry = arena.entry_insert_reallocating(kind)?;
     let p = entry.ptr();
