@@ -1,4 +1,4 @@
--- What each step on slots makes of the arena that contracts see.
+-- The effect of each step on slots on the model of the arena.
 use Rattle.std.proofs.Common.{◌≡◌, ℕ, ◌+◌, ◌-◌, ◌<◌, List, [], ◌∷◌, ◌++◌, map, Option, None, Some, refl, ap, sym, ◌∙◌, subst, arith}
 use Rattle.std.specs.Prelude.{slice_get, slice_set, count_by, is_some}
 use Rattle.std.proofs.lemmas.List.{map-set}
@@ -18,7 +18,7 @@ module _ {P T Inx Gen Word : Type 0} (slots : List (ArenaSlot P T Inx Gen Word))
   abbrev now : Arena Gen T
   now = arena_of slots ns counter greatest capacity maximum placed touched
 
-  -- the slots that are seen after a write of a slot
+  -- The model's slots after a slot is written.
   pub seen_slots : (k n : ℕ) (slot : ArenaSlot P T Inx Gen Word) → k + 1 ≡ n → map entry_of (slice_set slots k slot) ≡ with_slot (map entry_of slots) n (entry_of slot)
   seen_slots k n slot at = map-set entry_of slots k slot ∙ sym (with_slot-position (map entry_of slots) k n (entry_of slot) at)
 
@@ -39,7 +39,7 @@ module _ {P T Inx Gen Word : Type 0} (slots : List (ArenaSlot P T Inx Gen Word))
   seen_vacated following k n next at =
       ap (λ (es : List (Option (Gen × T))). let a : Arena Gen T = record now { slots = es; counter = following counter; freed = n ∷ ns; placed = placed + 1 } in a) (seen_slots k n (free_slot next) at)
 
-  -- the entry that is seen at an index
+  -- The model's entry at an index.
   entry_seen : (k n : ℕ) (g : Gen) (t : T) → k + 1 ≡ n → slice_get slots k ≡ Some (allocated_slot g t) → slot_at (map entry_of slots) n ≡ Some (g, t)
   entry_seen k n g t at is = entry_at-position slots k n at ∙ ap entry_in is
 
@@ -59,7 +59,7 @@ module _ {P T Inx Gen Word : Type 0} (slots : List (ArenaSlot P T Inx Gen Word))
       ∙ ap (λ (o : Option (Gen × T)). with_slot (map entry_of slots) n (option_map (λ (e : Gen × T). (following counter, e.1)) o)) (sym (entry_seen k n g t at is)))
 
 module _ {P T Inx Gen Word : Type 0} (number : Inx → ℕ) where
-  -- the arena after a write of a value
+  -- The arena after a value is written.
   pub lent_view : {slots : List (ArenaSlot P T Inx Gen Word)} {greatest len : ℕ} {head : Option Inx} → IsSound number slots greatest len head (freed_of number slots head)
       → (counter : Gen) (capacity : ℕ) (maximum : Option ℕ) (placed touched : ℕ) (k n : ℕ) (slot : ArenaSlot P T Inx Gen Word) (w : T)
       → (items : List (ArenaSlot P T Inx Gen Word)) (room : ℕ) (most : Option ℕ) → k + 1 ≡ n → slice_get slots k ≡ Some slot → items ≡ slice_set slots k (with_value_in slot w) → room ≡ capacity → most ≡ maximum
@@ -68,7 +68,7 @@ module _ {P T Inx Gen Word : Type 0} (number : Inx → ℕ) where
       rw (written, same_room, same_most, walked_all number (lent number k slot w s is))
       (seen_with_value slots (freed_of number slots head) counter greatest capacity maximum placed touched k n slot w at is)
 
-  -- the arena after an entry was taken out
+  -- The arena after an entry is removed.
   pub vacated_view : {slots : List (ArenaSlot P T Inx Gen Word)} {greatest len : ℕ} {head : Option Inx} → IsSound number slots greatest len head (freed_of number slots head)
       → (counter after : Gen) (capacity room : ℕ) (maximum most : Option ℕ) (placed total touched : ℕ) (following : Gen → Gen) (k : ℕ) (i : Inx) (g : Gen) (t : T) (items : List (ArenaSlot P T Inx Gen Word))
       → k + 1 ≡ number i → slice_get slots k ≡ Some (allocated_slot g t) → items ≡ slice_set slots k (free_slot head) → room ≡ capacity → most ≡ maximum → after ≡ following counter → total ≡ placed + 1
@@ -78,13 +78,13 @@ module _ {P T Inx Gen Word : Type 0} (number : Inx → ℕ) where
       rw (written, same_room, same_most, same_after, same_total, walked_all number (slot_vacated number s k i g t (len - 1) at is (omega (arith, some))))
       (seen_vacated slots (freed_of number slots head) counter greatest capacity maximum placed touched following k (number i) head at)
 
-  -- the arena after its slots were dropped
+  -- The arena after its slots are dropped.
   pub cleared_view : (slots items : List (ArenaSlot P T Inx Gen Word)) (ns : List ℕ) (counter after : Gen) (greatest capacity room : ℕ) (maximum most : Option ℕ) (placed touched len : ℕ) (following : Gen → Gen)
       → items ≡ [] → room ≡ capacity → most ≡ maximum → len ≡ count_by is_some (map entry_of slots) → after ≡ counter_after_clear following len counter
       → arena_of items (freed_of number items None) after greatest room most placed touched ≡ cleared following (arena_of slots ns counter greatest capacity maximum placed touched)
   cleared_view slots items ns counter after greatest capacity room maximum most placed touched len following none same_room same_most counted same_after = rw (none, same_room, same_most, same_after, counted)
 
-  -- the arena after a slot was written as it was
+  -- The arena after a slot is written back unchanged.
   pub kept_view : (slots items : List (ArenaSlot P T Inx Gen Word)) (head : Option Inx) (counter : Gen) (greatest capacity room : ℕ) (maximum most : Option ℕ) (placed touched : ℕ) (k : ℕ) (slot : ArenaSlot P T Inx Gen Word)
       → slice_get slots k ≡ Some slot → items ≡ slice_set slots k slot → room ≡ capacity → most ≡ maximum
       → arena_of items (freed_of number items head) counter greatest room most placed touched ≡ arena_of slots (freed_of number slots head) counter greatest capacity maximum placed touched
@@ -92,7 +92,7 @@ module _ {P T Inx Gen Word : Type 0} (number : Inx → ℕ) where
       let same : items ≡ slots = written ∙ slice_set-itself slots k slot is in
       rw (same, same_room, same_most)
 
-  -- the arena after an entry came into the slot that was freed last
+  -- The arena after an insertion into the first freed slot.
   pub filled_freed_view : {slots : List (ArenaSlot P T Inx Gen Word)} {greatest len : ℕ} {head : Option Inx} → IsSound number slots greatest len head (freed_of number slots head)
       → (counter : Gen) (capacity room : ℕ) (maximum most : Option ℕ) (placed total touched : ℕ) (k : ℕ) (i : Inx) (next : Option Inx) (t : T) (items : List (ArenaSlot P T Inx Gen Word))
       → head ≡ Some i → k + 1 ≡ number i → slice_get slots k ≡ Some (free_slot next) → items ≡ slice_set slots k (allocated_slot counter t) → room ≡ capacity → most ≡ maximum → total ≡ placed + 1
@@ -104,7 +104,7 @@ module _ {P T Inx Gen Word : Type 0} (number : Inx → ℕ) where
         rw (written, same_room, same_most, same_total, walked_all number filled.0, first) (seen_filled_freed slots (freed_of number slots (Some i)) counter greatest capacity maximum placed touched k (number i) _ t at filled.1),
       )
 
-  -- and after one came into a new slot
+  -- The arena after an insertion into a new slot.
   pub filled_next_view : {slots : List (ArenaSlot P T Inx Gen Word)} {greatest len : ℕ} {head : Option Inx} → IsSound number slots greatest len head (freed_of number slots head)
       → (counter : Gen) (capacity room : ℕ) (maximum most : Option ℕ) (placed total touched : ℕ) (t : T) (items : List (ArenaSlot P T Inx Gen Word))
       → head ≡ None → len < greatest → items ≡ slots ++ allocated_slot counter t ∷ [] → room ≡ capacity → most ≡ maximum → total ≡ placed + 1
@@ -118,7 +118,7 @@ module _ {P T Inx Gen Word : Type 0} (number : Inx → ℕ) where
       )
 
 module _ {Gen T : Type 0} (old mid new : Arena Gen T) (t : T) (grown : mid ≡ with_capacity_of old mid) (inserted : new ≡ insert_next mid t) where
-  -- an insertion after a growth
+  -- An insertion after growth.
   pub inserted_grown : new ≡ with_capacity_of (insert_next old t) new
   inserted_grown = inserted ∙ (ap (λ (a : Arena Gen T). insert_next a t) grown ∙ ap (λ (a : Arena Gen T). with_capacity_of (insert_next old t) a) (sym inserted))
 

@@ -1,4 +1,4 @@
--- What generic code sees after each call of an arena.
+-- The view of an arena after each call.
 use Rattle.std.proofs.Common.{◌≡◌, ℕ, zero, suc, ◌+◌, ◌<◌, ◌≤◌, Bool, true, false, cond, List, [], ◌∷◌, ◌++◌, length, Option, None, Some, inl, refl, ap, sym, ◌∙◌, arith}
 use Rattle.std.specs.Prelude.{is_some, count_by, slice_index_or, slice_set}
 use Rattle.std.specs.Option.{option_map}
@@ -16,7 +16,7 @@ module _ {Gen T : Type 0} where
   length-entries_from i (Some e ∷ slots) =
       ap suc (length-entries_from (suc i) slots) ∙ omega (arith, sum_by-cons (λ (o : Option (Gen × T)). cond (is_some o) 1 0) (Some e) slots)
 
-  -- an entry more is counted where one comes to a free slot, or behind the others
+  -- An entry in a free slot, or appended, adds one to the count.
   count-push : (slots : List (Option (Gen × T))) (e : Gen × T) → count_by is_some (slots ++ Some e ∷ []) ≡ count_by is_some slots + 1
   count-push [] e = omega (arith, sum_by-cons (λ (o : Option (Gen × T)). cond (is_some o) 1 0) (Some e) [])
   count-push (s ∷ slots) e = omega (arith, sum_by-cons (λ (o : Option (Gen × T)). cond (is_some o) 1 0) s slots, sum_by-cons (λ (o : Option (Gen × T)). cond (is_some o) 1 0) s (slots ++ Some e ∷ []), count-push slots e)
@@ -29,7 +29,7 @@ module _ {Gen T : Type 0} where
       let at = free (suc k) (inl refl) in
       omega (arith, sum_by-set (λ (o : Option (Gen × T)). cond (is_some o) 1 0) slots k (Some e) None (omega (arith, at.2)), ap {B = ℕ} (λ (o : Option (Gen × T)). cond (is_some o) 1 0) at.0)
 
-  -- there are as many entries as are counted
+  -- The entries are as many as counted.
   pub length-entries : (a : Arena Gen T) → length (entries a) ≡ entry_count a
   length-entries a = length-entries_from 1 a.slots
 
@@ -90,7 +90,7 @@ module _ {Gen T : Type 0} where
   entries-replaced f slots zero = sym (replaced-below f 0 1 slots (omega arith))
   entries-replaced f slots (suc k) = entries_from-replaced f (suc k) 1 k slots (omega arith)
 
-  -- what is seen of an arena, by its entries, its number of slots, its freed list, its counter and its placements
+  -- The view of an arena from its entries, number of slots, freed list, counter and placements.
   abbrev shape : Arena Gen T → List ((ℕ × Gen) × T) → ℕ → List ℕ → Gen → ℕ → ArenaView Gen T
   shape a es count freed counter placed = record (view_of a) {
     entries = es;
@@ -114,14 +114,14 @@ module _ {Gen T : Type 0} where
   pub seen_cleared : (following : Gen → Gen) (a : Arena Gen T) → view_of (cleared following a) ≡ emptied following (view_of a)
   seen_cleared following a = ap (λ count. shape a [] 0 [] (counter_after_clear following count a.counter) a.placed) (sym (length-entries a))
 
--- an answer holds what it was made of
+-- A result contains the value it is made from.
 pub value_within-made : {X : Type 0} (overflow : Bool) (o : Option X) → value_within (invalidation_result overflow o) ≡ o
 value_within-made overflow None = refl
 value_within-made false (Some x) = refl
 value_within-made true (Some x) = refl
 
 module _ {Gen T : Type 0} where
-  -- the pointer of an entry that got the next generation
+  -- The pointer of an entry that got the next generation.
   pub renewed_key : (following : Gen → Gen) (a b : Arena Gen T) (key : ℕ × Gen) (m made n : ℕ) (g : Gen)
       → key ≡ (made, g) → made ≡ n → m ≡ n → g ≡ following a.counter → b ≡ renewed_at following a m → (key.0 ≡ n) × (view_of b ≡ renewed (view_of a) key)
   renewed_key following a b key m made n g is at index next after =

@@ -1,4 +1,4 @@
--- What an arena is once its entries are brought together.
+-- The arena after its entries were compacted.
 use Rattle.std.proofs.Common.{◌≡◌, ℕ, zero, suc, ◌+◌, ◌≤◌, List, [], ◌∷◌, map, length, Bool, Option, None, Some, refl, ap, sym, ◌∙◌, subst, arith}
 use Rattle.std.specs.Prelude.{min, replicate, All}
 use Rattle.std.specs.List.{range_with_len}
@@ -16,13 +16,13 @@ use Rattle.arena_base.proofs.ArenaViewLemmas.{length-entries}
 use Rattle.arena_base.proofs.ClosureLemmas.{visits_keep_count}
 
 module _ {Gen T : Type 0} (g : Gen) where
-  -- what is cut off closed slots is what is free
+  -- Trimming removes the free slots of closed slots.
   trimmed-closed : (values : List T) (n : ℕ) → trimmed (fronted g values (replicate n None)) ≡ fronted g values []
   trimmed-closed [] zero = refl
   trimmed-closed [] (suc n) = ap (before_cut None) (trimmed-closed [] n)
   trimmed-closed (v ∷ values) n = ap (λ (es : List (Option (Gen × T))). Some (g, v) ∷ es) (trimmed-closed values n)
 
-  -- what closed slots show: their number, no free ones, and each entry with its index and generation
+  -- The number, the free slots and the entries of closed slots.
   pub length-slots : (values : List T) → length (fronted g values []) ≡ length values
   length-slots [] = refl
   length-slots (v ∷ values) = ap suc (length-slots values)
@@ -43,7 +43,7 @@ module _ {Gen T : Type 0} (g : Gen) where
   generations-fronted (v ∷ values) i = All-cons (λ (e : (ℕ × Gen) × T). e.0.1 ≡ g) ((i, g), v) (entries_from (suc i) (fronted g values [])) refl (generations-fronted values (suc i))
 
 module _ {F P T Gen : Type 0} (g : Mut F (P × (MutBor T × (P × Unit {0}))) (Unit {0} × (MutBor T × Unit {0}))) (key : P → ℕ × Gen) (f : F) where
-  -- an arena whose slots went out, were closed, and came back
+  -- Taking the slots out, closing the holes and returning them compacts the arena.
   pub gathers : (greatest : ℕ) (maximum : Option ℕ) (generation : Gen) (old start finish new : Arena Gen T) (before after : Held Gen T) → start ≡ lent_out maximum old → before ≡ held_of old → old.capacity ≡ min old.stack_capacity greatest
       → generation ≡ old.counter → AreClosed generation before after → VisitsAll g key f (entries_from 1 before.slots) (entries_from 1 after.slots)
       → finish ≡ with_totals start (length (entries_from 1 before.slots)) (length before.slots + length (entries_from 1 before.slots)) → new ≡ returned greatest finish after
@@ -83,12 +83,12 @@ module _ {F P T Gen : Type 0} (g : Mut F (P × (MutBor T × (P × Unit {0}))) (U
           same : entries_from 1 after.slots ≡ entries new
           same = ap (λ (h : Held Gen T). entries_from 1 h.slots) is_after ∙ (entries-closed old.counter values closed.free 1 ∙ sym (ap entries whole))
 
--- there are at most as many entries as slots
+-- There are at most as many entries as slots.
 pub few_entries : {Gen T : Type 0} (a : Arena Gen T) → length (entries a) ≤ length a.slots
 few_entries a = omega (arith, length-entries a, free_from-total a.slots 1)
 
 module _ {F P T Gen : Type 0} (g : Mut F (P × (MutBor T × (P × Unit {0}))) (Unit {0} × (MutBor T × Unit {0}))) (key : P → ℕ × Gen) (f : F) where
-  -- the entries of an arena whose counter was set come together
+  -- Compaction of an arena whose counter was set before.
   module _ (counter : Gen) (old mid new : Arena Gen T) (is_mid : mid ≡ with_counter old counter) (gathering : IsGathered g key f mid new) where
     abbrev values : List T
     values = gathering.values
@@ -104,11 +104,11 @@ module _ {F P T Gen : Type 0} (g : Mut F (P × (MutBor T × (P × Unit {0}))) (U
         sym (length-fronted counter values 1) ∙ (ap (λ (a : Arena Gen T). length (entries a)) (sym is_new)
         ∙ (visits_keep_count g key gathering.visits ∙ ap (λ (a : Arena Gen T). length (entries a)) is_mid))
 
-    -- the closure saw the entries, and left them as they are
+    -- The closure visits the entries.
     pub compressing_visits : VisitsAll g key f (entries old) (entries new)
     compressing_visits = subst (λ es. VisitsAll g key f es (entries new)) (ap (λ (a : Arena Gen T). entries a) is_mid) gathering.visits
 
-    -- and the arena is compressed
+    -- The arena is compressed.
     pub compressing : (first : Gen) (following : Gen → Gen) (reset : Bool) (count : ℕ) → counter ≡ counter_after_compression first following reset count old.counter → count ≡ length (entries old)
         → IsCompressed first following reset (view_of old) (view_of new)
     compressing first following reset count is_counter is_count =

@@ -1,4 +1,4 @@
--- What each step on held slots makes of what contracts see of them.
+-- The effect of each step on the model of held slots.
 use Rattle.std.proofs.Common.{◌≡◌, ◌≢◌, ℕ, zero, suc, ◌+◌, ◌<◌, List, [], ◌∷◌, length, map, Option, None, Some, refl, ap, sym, ◌∙◌, subst, arith}
 use Rattle.std.specs.Prelude.{true, false, IsSome, slice_index_or, slice_get, slice_set, swap}
 use Rattle.std.specs.Option.{option_map}
@@ -16,7 +16,7 @@ module _ {X : Type 0} where
   slot_at-position : (xs : List (Option X)) (k n : ℕ) → k + 1 ≡ n → slice_index_or xs k None ≡ slot_at xs n
   slot_at-position xs k n at = let next : suc k ≡ n = omega (arith, at) in ap (slot_at xs) next
 
--- a slot that is written twice is what was written last
+-- The last of two writes to a slot counts.
 at_one : {X : Type 0} (xs : List X) (i j : ℕ) → j ≡ i → (x y z : X) → slice_set (slice_set xs i x) j z ≡ slice_set (slice_set xs i y) j z
 at_one xs i j same x y z = ap (λ n. slice_set (slice_set xs i x) n z) same ∙ (set-set xs i x z ∙ (sym (set-set xs i y z) ∙ ap (λ n. slice_set (slice_set xs i y) n z) (sym same)))
 
@@ -59,7 +59,7 @@ module _ {P T Inx Gen Word : Type 0} where
       let slots : List (ArenaSlot P T Inx Gen Word) = d ∷ rest in
       length-set (slice_set slots i (slice_index_or slots j d)) j (slice_index_or slots i d) ∙ length-set slots i (slice_index_or slots j d)
 
-  -- what a placement makes of the slots, by positions
+  -- A placement, in terms of positions.
   held_moved : (slots items : List (ArenaSlot P T Inx Gen Word)) (capacity : ℕ) (maximum : Option ℕ) (i j from to : ℕ) (g : Gen) → i + 1 ≡ from → j + 1 ≡ to
       → map entry_of items ≡ slice_set (slice_set (map entry_of slots) i (slice_index_or (map entry_of slots) j None)) j (regenerated g (slice_index_or (map entry_of slots) i None))
       → held_slots items capacity maximum ≡ with_placed_entry (held_slots slots capacity maximum) from to g
@@ -74,7 +74,7 @@ module _ {P T Inx Gen Word : Type 0} where
       ∙ sym (with_slot-position (with_slot es from (slot_at es to)) j to (regenerated g (slot_at es from)) at_to)))) in
       ap (λ fs. let h : Held Gen T = record { slots = fs; stack_capacity = capacity; maximum = maximum } in h) all
 
-  -- the entry at the first gets a generation, and two slots are exchanged
+  -- Setting a generation and swapping is a placement.
   pub held_placed : (slots : List (ArenaSlot P T Inx Gen Word)) (capacity : ℕ) (maximum : Option ℕ) (i j from to : ℕ) (g : Gen) → i + 1 ≡ from → j + 1 ≡ to → i < length slots → j < length slots
       → held_slots (swap (with_generation_at slots i g) i j) capacity maximum ≡ with_placed_entry (held_slots slots capacity maximum) from to g
   held_placed slots capacity maximum i j from to g at_from at_to first second = held_moved slots (swap (with_generation_at slots i g) i j) capacity maximum i j from to g at_from at_to (all ∙ by (ℕ_discrete j i))
@@ -99,7 +99,7 @@ module _ {P T Inx Gen Word : Type 0} where
       by (yes s) = at_one (map entry_of slots) i j s (slice_index_or (slice_set (map entry_of slots) i (regenerated g (slice_index_or (map entry_of slots) i None))) j None) (slice_index_or (map entry_of slots) j None) (regenerated g (slice_index_or (map entry_of slots) i None))
       by (no differs) = ap (λ o. slice_set (slice_set (map entry_of slots) i o) j (regenerated g (slice_index_or (map entry_of slots) i None))) (get_or-set_other (map entry_of slots) i j (regenerated g (slice_index_or (map entry_of slots) i None)) None differs)
 
-  -- an entry is taken out, and put into a free slot or its own
+  -- Moving an entry to a free slot or its own is a placement.
   pub held_brought : (slots : List (ArenaSlot P T Inx Gen Word)) (capacity : ℕ) (maximum : Option ℕ) (i j from to : ℕ) (g h : Gen) (t : T) (next : Option Inx) → i + 1 ≡ from → j + 1 ≡ to
       → Some (h, t) ≡ slice_index_or (map entry_of slots) i None → (j ≢ i → slice_index_or (map entry_of slots) j None ≡ None)
       → held_slots (slice_set (slice_set slots i (free_slot next)) j (allocated_slot g t)) capacity maximum ≡ with_placed_entry (held_slots slots capacity maximum) from to g
@@ -114,19 +114,19 @@ module _ {P T Inx Gen Word : Type 0} where
       by (no differs) = ap (λ o. slice_set (slice_set (map entry_of slots) i o) j (Some (g, t))) (sym (free differs))
 
   module _ (slots : List (ArenaSlot P T Inx Gen Word)) (es : List (Option (Gen × T))) (same : map entry_of slots ≡ es) (i from : ℕ) (at_from : i + 1 ≡ from) where
-    -- an entry that contracts see is there
+    -- An entry of the model is in the slots.
     pub brought_there : None ≡ entry_in (slice_get slots i) → IsSome (slot_at es from) → ⊥
     brought_there none some =
         let free : slot_at es from ≡ None = sym (ap (λ fs. slot_at fs from) same) ∙ (entry_at-position slots i from at_from ∙ sym none) in
         let both : false ≡ true = subst IsSome free some in
         cc
 
-    -- and a free slot is free
+    -- A slot that is free in the model is free.
     pub brought_free : (j to : ℕ) → j + 1 ≡ to → (to ≢ from → slot_at es to ≡ None) → j ≢ i → slice_index_or (map entry_of slots) j None ≡ None
     brought_free j to at_to free differs =
         slot_at-position (map entry_of slots) j to at_to ∙ (ap (λ fs. slot_at fs to) same ∙ free (λ s. differs (omega (arith, s, at_to, at_from))))
 
-  -- a value is written
+  -- A value is written.
   pub held_lent : (slots items : List (ArenaSlot P T Inx Gen Word)) (capacity room : ℕ) (maximum most : Option ℕ) (k n : ℕ) (slot : ArenaSlot P T Inx Gen Word) (w : T) → k + 1 ≡ n → slice_get slots k ≡ Some slot
       → items ≡ slice_set slots k (with_value_in slot w) → room ≡ capacity → most ≡ maximum
       → held_slots items room most ≡ held_with_value (held_slots slots capacity maximum) n w

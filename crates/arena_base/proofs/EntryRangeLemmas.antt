@@ -1,4 +1,4 @@
--- The entries of slots from a position on, and up to one.
+-- The entries of slots from a position on, or up to one.
 use Rattle.std.proofs.Common.{◌≡◌, ℕ, zero, suc, ◌+◌, ◌-◌, ◌<◌, ◌≤◌, cond, List, [], ◌∷◌, ◌++◌, length, take, drop, Option, None, Some, refl, ap, sym, ◌∙◌, arith}
 use Rattle.std.specs.Prelude.{slice_index_or}
 use Rattle.std.specs.Option.{option_map}
@@ -7,13 +7,13 @@ use Rattle.std.proofs.lemmas.Bool.{le-leb, lt-leb}
 use Rattle.arena_base.specs.Entries.{entries_from, key_at, first_key, last_key}
 use Rattle.arena_base.specs.Advancers.{entries_at_or_above, entries_at_or_below}
 
--- the first, or else the second
+-- The first, or else the second.
 abbrev pub first_of : {K : Type 0} → Option K → Option K → Option K
 first_of None rest = rest
 first_of (Some p) rest = Some p
 
 module _ {Gen T : Type 0} where
-  -- the entries of one slot
+  -- The entries of one slot.
   abbrev pub entry_list : ℕ → Option (Gen × T) → List ((ℕ × Gen) × T)
   entry_list i None = []
   entry_list i (Some e) = ((i, e.0), e.1) ∷ []
@@ -26,7 +26,7 @@ module _ {Gen T : Type 0} where
   entries_from-take (None ∷ slots) i (suc k) n below at = entries_from-take slots (suc i) k n (omega (arith, below)) (omega (arith, at))
   entries_from-take (Some e ∷ slots) i (suc k) n below at = ap (λ es. ((i, e.0), e.1) ∷ es) (entries_from-take slots (suc i) k n (omega (arith, below)) (omega (arith, at)))
 
-  -- the last key up to a position is that of the slot there, or else the last one before it
+  -- The last key up to a position is the slot's there, or else the last one before it.
   pub last_key-take : (slots : List (Option (Gen × T))) (k n : ℕ) → k < length slots → 1 + k ≡ n
       → last_key (entries_from 1 (take (suc k) slots)) ≡ first_of (option_map (key_at n) (slice_index_or slots k None)) (last_key (entries_from 1 (take k slots)))
   last_key-take slots k n below at = ap last_key (entries_from-take slots 1 k n below at) ∙ last_key-of (entries_from 1 (take k slots)) (slice_index_or slots k None)
@@ -42,7 +42,7 @@ module _ {Gen T : Type 0} where
   take-all (None ∷ slots) i (suc k) past = take-all slots (suc i) k (omega (arith, past))
   take-all (Some e ∷ slots) i (suc k) past = ap (λ es. ((i, e.0), e.1) ∷ es) (take-all slots (suc i) k (omega (arith, past)))
 
-  -- all entries of slots stand from the first one's index on
+  -- All entries of slots have at least the first slot's index.
   entries_at_or_above-all : (slots : List (Option (Gen × T))) (i j : ℕ) → i ≤ j → entries_at_or_above i (entries_from j slots) ≡ entries_from j slots
   entries_at_or_above-all [] i j below = refl
   entries_at_or_above-all (None ∷ slots) i j below = entries_at_or_above-all slots i (suc j) (omega (arith, below))
@@ -57,7 +57,7 @@ module _ {Gen T : Type 0} where
       ap (λ b. cond b (((j, e.0), e.1) ∷ entries_from (suc j) slots) (entries_at_or_above i (entries_from (suc j) slots))) (lt-leb i j (omega (arith, at)))
       ∙ entries_at_or_above-drop slots i (suc j) k (omega (arith, at))
 
-  -- no entry of slots stands before the first one's index
+  -- No entry of slots has an index below the first slot's.
   entries_at_or_below-none : (slots : List (Option (Gen × T))) (i j : ℕ) → i < j → entries_at_or_below i (entries_from j slots) ≡ []
   entries_at_or_below-none [] i j below = refl
   entries_at_or_below-none (None ∷ slots) i j below = entries_at_or_below-none slots i (suc j) (omega (arith, below))
@@ -72,7 +72,7 @@ module _ {Gen T : Type 0} where
       ap (λ b. cond b (((j, e.0), e.1) ∷ entries_at_or_below i (entries_from (suc j) slots)) []) (le-leb j i (omega (arith, at)))
       ∙ ap (λ es. ((j, e.0), e.1) ∷ es) (entries_at_or_below-take slots i (suc j) k (omega (arith, at)))
 
-  -- one step of a search down
+  -- A step of a downward search.
   pub last_key-step : (slots : List (Option (Gen × T))) (k n : ℕ) (o : Option (ℕ × Gen)) → k + 1 ≡ n → k < length slots → o ≡ option_map (key_at (k + 1)) (slice_index_or slots k None)
       → last_key (entries_from 1 (take n slots)) ≡ first_of o (last_key (entries_from 1 (take k slots)))
   last_key-step slots k n o at below is =
@@ -80,7 +80,7 @@ module _ {Gen T : Type 0} where
       ap (λ m. last_key (entries_from 1 (take m slots))) (sym next)
       ∙ (last_key-take slots k (k + 1) below (omega arith) ∙ ap (λ p. first_of p (last_key (entries_from 1 (take k slots)))) (sym is))
 
-  -- what lies ahead by rising index begins at a position
+  -- The entries ahead by rising index start at a position.
   pub ahead_up : (slots : List (Option (Gen × T))) (from k : ℕ) → k ≡ from - 1 → entries_from (k + 1) (drop k slots) ≡ entries_at_or_above from (entries_from 1 slots)
   ahead_up slots zero k at =
       let start : k ≡ 0 = omega (arith, at) in
@@ -92,6 +92,6 @@ module _ {Gen T : Type 0} where
       let next : k + 1 ≡ suc n = omega (arith, at) in
       ap (λ j. entries_from j (drop k slots)) next ∙ sym (entries_at_or_above-drop slots (suc n) 1 k (omega (arith, next)))
 
-  -- what lies ahead by falling index ends at a position
+  -- The entries ahead by falling index end at a position.
   pub ahead_down : (slots : List (Option (Gen × T))) (to : ℕ) → entries_from 1 (take to slots) ≡ entries_at_or_below to (entries_from 1 slots)
   ahead_down slots to = sym (entries_at_or_below-take slots to 1 to (omega arith))

@@ -1,4 +1,4 @@
--- What is found among entries that rise, once one of them is gone.
+-- Lookups in rising entries after one is removed.
 use Rattle.std.proofs.Common.{◌≡◌, ◌≢◌, ℕ, suc, ◌<◌, List, [], ◌∷◌, None, Some, refl, ap, sym, ◌∙◌, arith, ⊎_elim}
 use Rattle.std.specs.Prelude.{◌==◌, cond}
 use Rattle.std.proofs.lemmas.Bool.{cases_eq, eq-eqb, ne_eqb}
@@ -17,12 +17,12 @@ module _ {Gen T : Type 0} where
   without_later : (e : (ℕ × Gen) × T) (n : ℕ) (es : List ((ℕ × Gen) × T)) → e.0.0 ≢ n → without n (e ∷ es) ≡ e ∷ without n es
   without_later e n es other = ap (λ b. cond b es (e ∷ without n es)) (ne_eqb e.0.0 n other)
 
-  -- an index below the entries finds none
+  -- An index below the entries has none.
   found-low : (i j : ℕ) (es : List ((ℕ × Gen) × T)) → i < j → RisesFrom j es → found i es ≡ None
   found-low i j [] below rises = refl
   found-low i j (e ∷ es) below rises = past_first e i es (λ is. absurd (omega (arith, is, below, rises.0))) ∙ found-low i (suc e.0.0) es (omega (arith, below, rises.0)) rises.1
 
-  -- the index that is gone finds nothing, and every other one what it did
+  -- The removed index has no entry, and every other index is unchanged.
   pub found-gone : (n j : ℕ) (es : List ((ℕ × Gen) × T)) → RisesFrom j es → found n (without n es) ≡ None
   found-gone n j [] rises = refl
   found-gone n j (e ∷ es) rises = ⊎_elim

@@ -1,4 +1,5 @@
--- Slots whose gaps are closed one by one: the entries passed stand at the front, then free slots, and then those to come.
+-- The closing of holes one by one: passed entries are at the front, then free slots, then slots not
+-- yet passed.
 use Rattle.std.proofs.Common.{◌≡◌, ◌≢◌, ℕ, zero, suc, ◌+◌, ◌<◌, ◌≤◌, List, [], ◌∷◌, ◌++◌, map, length, drop, Option, None, Some, refl, ap, sym, ◌∙◌, subst, append_assoc, arith}
 use Rattle.std.specs.Prelude.{replicate, slice_index_or, slice_set, IsSome}
 use Rattle.std.specs.Option.{option_map}
@@ -15,20 +16,20 @@ use Rattle.arena_base.specs.GatheredSlots.{fronted, AreClosed, with_totals}
 use Rattle.arena_base.proofs.TrimLemmas.{drop-at}
 
 module _ {X : Type 0} where
-  -- a slot behind free ones is freed
+  -- A slot after free ones is freed.
   freed_behind : (n k : ℕ) (slot : Option X) (rest : List (Option X)) → n ≡ k → slice_set (replicate n None ++ slot ∷ rest) k None ≡ replicate (suc n) None ++ rest
   freed_behind zero zero slot rest at = refl
   freed_behind zero (suc k) slot rest at = absurd (omega (arith, at))
   freed_behind (suc n) zero slot rest at = absurd (omega (arith, at))
   freed_behind (suc n) (suc k) slot rest at = ap (λ es. None ∷ es) (freed_behind n k slot rest (omega (arith, at)))
 
-  -- a free slot is passed
+  -- A free slot is passed.
   free_passed : (n : ℕ) (rest : List (Option X)) → replicate n None ++ None ∷ rest ≡ replicate (suc n) None ++ rest
   free_passed zero rest = refl
   free_passed (suc n) rest = ap (λ es. None ∷ es) (free_passed n rest)
 
 module _ {Gen T : Type 0} (g : Gen) where
-  -- the first slot to come
+  -- The next slot to pass.
   slot_to_come : (values : List T) (n k : ℕ) (slot : Option (Gen × T)) (rest : List (Option (Gen × T))) → length values + n ≡ k → slice_index_or (fronted g values (replicate n None ++ slot ∷ rest)) k None ≡ slot
   slot_to_come [] zero zero slot rest at = refl
   slot_to_come [] zero (suc k) slot rest at = absurd (omega (arith, at))
@@ -37,18 +38,18 @@ module _ {Gen T : Type 0} (g : Gen) where
   slot_to_come (v ∷ values) n zero slot rest at = absurd (omega (arith, at))
   slot_to_come (v ∷ values) n (suc k) slot rest at = slot_to_come values n k slot rest (omega (arith, at))
 
-  -- a free slot behind the front
+  -- A free slot after the front.
   free_behind : (values : List T) (n : ℕ) (rest : List (Option (Gen × T))) → 1 ≤ n → slice_index_or (fronted g values (replicate n None ++ rest)) (length values) None ≡ None
   free_behind [] zero rest some = absurd (omega (arith, some))
   free_behind [] (suc n) rest some = refl
   free_behind (v ∷ values) n rest some = free_behind values n rest some
 
-  -- the first slot behind the front
+  -- The first slot after the front.
   slot_behind : (values : List T) (slot : Option (Gen × T)) (rest : List (Option (Gen × T))) → slice_index_or (fronted g values (slot ∷ rest)) (length values) None ≡ slot
   slot_behind [] slot rest = refl
   slot_behind (v ∷ values) slot rest = slot_behind values slot rest
 
-  -- the first slot to come is exchanged with the first behind the front, which then is written
+  -- The next slot is swapped with the first one after the front, which is then written.
   brought : (values : List T) (n k : ℕ) (slot x : Option (Gen × T)) (rest : List (Option (Gen × T))) → length values + n ≡ k
       → slice_set (slice_set (fronted g values (replicate n None ++ slot ∷ rest)) k (slice_index_or (fronted g values (replicate n None ++ slot ∷ rest)) (length values) None)) (length values) x
       ≡ fronted g values (x ∷ (replicate n None ++ rest))
@@ -59,12 +60,12 @@ module _ {Gen T : Type 0} (g : Gen) where
   brought (v ∷ values) n zero slot x rest at = absurd (omega (arith, at))
   brought (v ∷ values) n (suc k) slot x rest at = ap (λ (es : List (Option (Gen × T))). Some (g, v) ∷ es) (brought values n k slot x rest (omega (arith, at)))
 
-  -- one value more is at the front
+  -- One more value is at the front.
   joined : (values : List T) (t w : T) (rest : List (Option (Gen × T))) → slice_set (fronted g values (Some (g, t) ∷ rest)) (length values) (Some (g, w)) ≡ fronted g (values ++ w ∷ []) rest
   joined [] t w rest = refl
   joined (v ∷ values) t w rest = ap (λ (es : List (Option (Gen × T))). Some (g, v) ∷ es) (joined values t w rest)
 
-  -- what a placement of the first entry to come makes of the slots
+  -- Placing the next entry puts it at the end of the front.
   placed_fronted : (values : List T) (n k from to : ℕ) (slots rest : List (Option (Gen × T))) (e : Gen × T) → slots ≡ fronted g values (replicate n None ++ Some e ∷ rest) → length values + n ≡ k → suc k ≡ from → suc (length values) ≡ to
       → with_slot (with_slot slots from (slot_at slots to)) to (option_map (λ (x : Gen × T). (g, x.1)) (slot_at slots from)) ≡ fronted g values (Some (g, e.1) ∷ (replicate n None ++ rest))
   placed_fronted values n k from to slots rest e is at at_from at_to =
@@ -74,7 +75,7 @@ module _ {Gen T : Type 0} (g : Gen) where
       ∙ (ap (λ o. slice_set (slice_set old k (slice_index_or old (length values) None)) (length values) (option_map (λ (x : Gen × T). (g, x.1)) o)) (slot_to_come values n k (Some e) rest at)
       ∙ brought values n k (Some e) (Some (g, e.1)) rest at)))
 
-  -- and what a write of its value makes of them then
+  -- Writing its value then replaces the value there.
   written_fronted : (values : List T) (to : ℕ) (slots rest : List (Option (Gen × T))) (t w : T) → slots ≡ fronted g values (Some (g, t) ∷ rest) → suc (length values) ≡ to
       → with_slot slots to (option_map (λ (x : Gen × T). (x.0, w)) (slot_at slots to)) ≡ fronted g (values ++ w ∷ []) rest
   written_fronted values to slots rest t w is at =
@@ -83,23 +84,23 @@ module _ {Gen T : Type 0} (g : Gen) where
       ap (written to) is ∙ (ap (λ j. written j old) (sym at)
       ∙ (ap (λ o. slice_set old (length values) (option_map (λ (x : Gen × T). (x.0, w)) o)) (slot_behind values (Some (g, t)) rest) ∙ joined values t w rest))
 
-  -- the entry of that value is the last
+  -- That value's entry is the last.
   entries-joined : (values : List T) (i j : ℕ) (w : T) → i + length values ≡ j → entries_from i (fronted g (values ++ w ∷ []) []) ≡ entries_from i (fronted g values []) ++ ((j, g), w) ∷ []
   entries-joined [] i j w at = let same : i ≡ j = omega (arith, at) in ap (λ n. ((n, g), w) ∷ []) same
   entries-joined (v ∷ values) i j w at = ap (λ es. ((i, g), v) ∷ es) (entries-joined values (suc i) j w (omega (arith, at)))
 
-  -- each value has an entry
+  -- Each value has an entry.
   pub length-fronted : (values : List T) (i : ℕ) → length (entries_from i (fronted g values [])) ≡ length values
   length-fronted [] i = refl
   length-fronted (v ∷ values) i = ap suc (length-fronted values (suc i))
 
-  -- free slots show no entries
+  -- Free slots have no entries.
   pub entries-closed : (values : List T) (n i : ℕ) → entries_from i (fronted g values (replicate n None)) ≡ entries_from i (fronted g values [])
   entries-closed [] zero i = refl
   entries-closed [] (suc n) i = entries-closed [] n (suc i)
   entries-closed (v ∷ values) n i = ap (λ es. ((i, g), v) ∷ es) (entries-closed values n (suc i))
 
-  -- values before free slots are packed
+  -- Values followed by free slots are packed.
   packed-fronted : (values : List T) (n : ℕ) → IsPacked (fronted g values (replicate n None)) (length values)
   packed-fronted values n = record { taken = λ i low high. taken values i low high; free = λ i above. free values i above }
     where
@@ -126,7 +127,7 @@ module _ {Gen T : Type 0} (g : Gen) where
       free values zero above = refl
       free values (suc k) above = free_at values k (omega (arith, above))
 
--- the entry of a slot that has a generation
+-- A slot with a generation has an entry.
 entry_there : {Gen T : Type 0} (o : Option (Gen × T)) (g : Gen) → Some g ≡ option_map (λ (e : Gen × T). e.0) o → (e : Gen × T) × (o ≡ Some e) × (e.0 ≡ g)
 entry_there None g is = cc
 entry_there (Some e) g is = (e, refl, cc)
@@ -139,14 +140,14 @@ value_there : {Gen T : Type 0} (o : Option (Gen × T)) (t : T) (e : Gen × T) �
 value_there None t e is there = cc
 value_there (Some d) t e is there = cc
 
--- the parts of a call of the closure, as an entry
+-- A visit as an entry, before and after.
 abbrev pub before_visit : {P T Gen : Type 0} → (P → ℕ × Gen) → Visit P T → (ℕ × Gen) × T
 before_visit key v = (key v.from, v.shown)
 
 abbrev pub after_visit : {P T Gen : Type 0} → (P → ℕ × Gen) → Visit P T → (ℕ × Gen) × T
 after_visit key v = (key v.to, v.left)
 
--- how far the closing has come: the slots up to k are passed, and so many entries were seen
+-- The state of the closing: the slots up to `k` are passed, and `count` entries visited.
 pub record IsClosing {F P T Gen : Type 0} (g : Mut F (P × (MutBor T × (P × Unit {0}))) (Unit {0} × (MutBor T × Unit {0}))) (key : P → ℕ × Gen) (generation : Gen) (first : F) (old : List (Option (Gen × T))) (k count : ℕ) (f : F) (slots : List (Option (Gen × T))) : Type 0 where
   pub visits : List (Visit P T)
   pub values : List T
@@ -159,18 +160,18 @@ pub record IsClosing {F P T Gen : Type 0} (g : Mut F (P × (MutBor T × (P × Un
   pub passed : count + free ≡ k
 
 module _ {F P T Gen : Type 0} (g : Mut F (P × (MutBor T × (P × Unit {0}))) (Unit {0} × (MutBor T × Unit {0}))) (key : P → ℕ × Gen) (generation : Gen) (first : F) (old : List (Option (Gen × T))) where
-  -- there are as many slots as before
+  -- The number of slots stays.
   pub closing_length : (k count : ℕ) (f : F) (slots : List (Option (Gen × T))) (c : IsClosing g key generation first old k count f slots) → k ≤ length old → length slots ≡ length old
   closing_length k count f slots c below =
       let front = length-append (map (λ (t : T). let o : Option (Gen × T) = Some (generation, t) in o) c.values) (replicate c.free None ++ drop k old) in
       let rest = length-append (replicate {A = Option (Gen × T)} c.free None) (drop k old) in
       ap length c.now ∙ omega (arith, front, rest, length-map c.values (λ (t : T). let o : Option (Gen × T) = Some (generation, t) in o), length-replicate {A = Option (Gen × T)} c.free None, length-drop k old, c.seen, c.passed, below)
 
-  -- at the beginning
+  -- The initial state.
   pub closing_begins : IsClosing g key generation first old 0 0 first old
   closing_begins = record { visits = []; values = []; free = 0; in_turn = refl; before = refl; after = refl; now = refl; seen = refl; passed = refl }
 
-  -- the slot behind the front is the next one, or free
+  -- The slot after the front is the next one, or free.
   pub closing_free : (k count : ℕ) (f : F) (slots : List (Option (Gen × T))) → IsClosing g key generation first old k count f slots → (from to : ℕ) → from ≡ k + 1 → to ≡ count + 1 → to ≢ from → slot_at slots to ≡ None
   closing_free k count f slots c from to at_from at_to differs =
       let next : suc (length c.values) ≡ to = omega (arith, at_to, c.seen) in
@@ -184,14 +185,14 @@ module _ {F P T Gen : Type 0} (g : Mut F (P × (MutBor T × (P × Unit {0}))) (U
     come : (slot : Option (Gen × T)) (is : drop k old ≡ slot ∷ drop (suc k) old) → slots ≡ fronted generation c.values (replicate c.free None ++ slot ∷ drop (suc k) old)
     come slot is = c.now ∙ ap (λ es. fronted generation c.values (replicate c.free None ++ es)) is
 
-    -- the next slot is that of the old slots
+    -- The next slot is the old one.
     pub next_slot : (n : ℕ) → n ≡ k + 1 → slot_at slots n ≡ slice_index_or old k None
     next_slot n at =
         let next : suc k ≡ n = omega (arith, at) in
         sym (ap (slot_at slots) next) ∙ (ap (λ es. slice_index_or es k None) (come (slice_index_or old k None) (drop-at old k below))
         ∙ slot_to_come generation c.values c.free k (slice_index_or old k None) (drop (suc k) old) (omega (arith, c.seen, c.passed)))
 
-    -- a free slot is passed
+    -- A free slot is passed.
     pub closing_frees : (from : ℕ) → from ≡ k + 1 → slot_at slots from ≡ None → IsClosing g key generation first old (k + 1) count f slots
     closing_frees from at none =
         let free : slice_index_or old k None ≡ None = sym (next_slot from at) ∙ none in
@@ -209,7 +210,7 @@ module _ {F P T Gen : Type 0} (g : Mut F (P × (MutBor T × (P × Unit {0}))) (U
           passed = omega (arith, c.passed);
         })
 
-    -- the entry of the next slot goes to the end of the front
+    -- The entry of the next slot is moved to the end of the front.
     module _ (from to : ℕ) (was : Gen) (mid : List (Option (Gen × T))) (at_from : from ≡ k + 1) (at_to : to ≡ count + 1) (answer : Some was ≡ option_map (λ (e : Gen × T). e.0) (slot_at slots from))
         (placed : mid ≡ with_slot (with_slot slots from (slot_at slots to)) to (option_map (λ (e : Gen × T). (generation, e.1)) (slot_at slots from))) where
       come_entry : (e : Gen × T) × (slot_at slots from ≡ Some e) × (e.0 ≡ was)
@@ -235,11 +236,11 @@ module _ {F P T Gen : Type 0} (g : Mut F (P × (MutBor T × (P × Unit {0}))) (U
           let now = fronted generation c.values (Some (generation, come_entry.0.1) ∷ (replicate c.free None ++ later)) in
           ap (λ es. slot_at es to) is_mid ∙ (sym (ap (slot_at now) to_number) ∙ slot_behind generation c.values (Some (generation, come_entry.0.1)) (replicate c.free None ++ later))
 
-      -- it stands there
+      -- The entry is in its new slot.
       pub brought_stands : None ≡ option_map (λ (e : Gen × T). e.1) (slot_at mid to) → ⊥
       brought_stands none = let both = none ∙ ap (option_map (λ (e : Gen × T). e.1)) stands in cc
 
-      -- and is seen there
+      -- The closure visits the entry there.
       pub closing_brings : (v : Visit P T) (next : F) (after : List (Option (Gen × T))) → Some v.shown ≡ option_map (λ (e : Gen × T). e.1) (slot_at mid to)
           → after ≡ with_slot mid to (option_map (λ (e : Gen × T). (e.0, v.left)) (slot_at mid to)) → key v.from ≡ (from, was) → key v.to ≡ (to, generation) → IsVisit g f v next
           → IsClosing g key generation first old (k + 1) (count + 1) next after
@@ -264,7 +265,7 @@ module _ {F P T Gen : Type 0} (g : Mut F (P × (MutBor T × (P × Unit {0}))) (U
             passed = omega (arith, c.passed);
           })
 
-  -- once all slots are passed, each entry was seen once
+  -- When all slots are passed, each entry was visited once.
   module _ (k count : ℕ) (f : F) (slots : List (Option (Gen × T))) (c : IsClosing g key generation first old k count f slots) (all : k ≡ length old) where
     nothing_left : drop k old ≡ []
     nothing_left = drop_all k old (omega (arith, all))
@@ -278,7 +279,7 @@ module _ {F P T Gen : Type 0} (g : Mut F (P × (MutBor T × (P × Unit {0}))) (U
     after_all : map (after_visit key) c.visits ≡ entries_from 1 slots
     after_all = c.after ∙ (sym (entries-closed generation c.values c.free 1) ∙ ap (entries_from 1) (sym closed_now))
 
-    -- .. and stands at the front
+    -- When all slots are passed, the entries are packed.
     pub closing_packs : IsPacked slots count
     closing_packs = subst (λ (p : List (Option (Gen × T)) × ℕ). IsPacked p.0 p.1) (λ i. (sym closed_now i, c.seen i)) (packed-fronted generation c.values c.free)
 
@@ -299,20 +300,20 @@ module _ {F P T Gen : Type 0} (g : Mut F (P × (MutBor T × (P × Unit {0}))) (U
     }
 
 module _ {Gen T : Type 0} (old now next : Arena Gen T) (k count : ℕ) where
-  -- a look more
+  -- One more touch.
   pub totals_looked : now ≡ with_totals old count (k + count) → next ≡ with_touch now → next ≡ with_totals old count ((k + 1) + count)
   totals_looked is looked =
       let touches : (old.touched + (k + count)) + 1 ≡ old.touched + ((k + 1) + count) = omega arith in
       looked ∙ (ap with_touch is ∙ (λ i. record old { placed = old.placed + count; touched = touches i }))
 
-  -- a look, a placement and another look more
+  -- One more placement, between two more touches.
   pub totals_brought : (mid : Arena Gen T) → now ≡ with_totals old count (k + count) → mid ≡ with_placement (with_touch now) → next ≡ with_touch mid → next ≡ with_totals old (count + 1) ((k + 1) + (count + 1))
   totals_brought mid is placed looked =
       let placements : (old.placed + count) + 1 ≡ old.placed + (count + 1) = omega arith in
       let touches : ((old.touched + (k + count)) + 1) + 1 ≡ old.touched + ((k + 1) + (count + 1)) = omega arith in
       looked ∙ (ap with_touch (placed ∙ ap (λ (a : Arena Gen T). with_placement (with_touch a)) is) ∙ (λ i. record old { placed = placements i; touched = touches i }))
 
--- no work so far
+-- No work yet.
 pub totals_begin : {Gen T : Type 0} (old : Arena Gen T) → old ≡ with_totals old 0 (0 + 0)
 totals_begin old =
     let placements : old.placed ≡ old.placed + 0 = omega arith in

@@ -1,4 +1,4 @@
--- Slots of which the first so many are the entries: what is left once the others are cut off.
+-- Trimming of slots of which exactly the first `n` are entries.
 use Rattle.std.proofs.Common.{◌≡◌, ℕ, zero, suc, ◌<◌, ◌≤◌, cond, List, [], ◌∷◌, length, map, take, Option, None, Some, refl, ap, sym, ◌∙◌, arith}
 use Rattle.std.specs.Prelude.{true, false, IsSome, count_by, is_some, slice_index_or, slice_get}
 use Rattle.std.proofs.lemmas.List.{length-take}
@@ -10,14 +10,14 @@ use Rattle.arena_base.specs.declared.slot.ArenaSlot.TheVariants.{Allocated, Free
 use Rattle.arena_base.proofs.TrimLemmas.{map-take}
 
 module _ {X : Type 0} where
-  -- free slots are all cut off
+  -- Trimming removes all of the slots if they are free.
   pub all_cut : (xs : List (Option X)) → ((k : ℕ) → slice_index_or xs k None ≡ None) → trimmed xs ≡ []
   all_cut [] none = refl
   all_cut (x ∷ xs) none =
       let first : x ≡ None = none 0 in
       ap (λ (o : Option X). before_cut o (trimmed xs)) first ∙ ap (before_cut None) (all_cut xs (λ k. none (suc k)))
 
-  -- a slot that is taken
+  -- A taken slot has an entry.
   some_there : (x : Option X) → IsSome x → (y : X) × (x ≡ Some y)
   some_there None some = let both : false ≡ true = some in absurd cc
   some_there (Some y) some = (y, refl)
@@ -43,11 +43,11 @@ module _ {X : Type 0} where
     in_front : (k : ℕ) → k < n → IsSome (slice_index_or xs k None)
     in_front k below = packed.taken (suc k) (omega arith) (omega (arith, below))
 
-    -- the entries are left
+    -- The first `n` slots remain.
     pub packed-trimmed : trimmed xs ≡ take n xs
     packed-trimmed = cut_behind n xs in_front (λ k above. packed.free (suc k) (omega (arith, above)))
 
-    -- and no free slot
+    -- No free slot remains.
     pub packed-none_free : free_from 1 (trimmed xs) ≡ []
     packed-none_free = ap (free_from 1) packed-trimmed ∙ none_left n 1 xs in_front
 
@@ -77,15 +77,15 @@ module _ {P T Inx Gen Word : Type 0} where
     front : (k : ℕ) → k < n → IsSome (slice_index_or (map entry_of slots) k None)
     front k below = packed.taken (suc k) (omega arith) (omega (arith, below))
 
-    -- what is left of the slots shows the entries
+    -- The remaining slots hold the entries.
     pub packed-entries : map entry_of (take n slots) ≡ trimmed (map entry_of slots)
     packed-entries = map-take slots n ∙ sym (packed-trimmed n (map entry_of slots) packed)
 
-    -- there are no fewer slots
+    -- There are at least `n` slots.
     pub packed-within : n ≤ length slots
     packed-within = omega (arith, (taken_count n slots front).1, length-take n slots)
 
-    -- what is left is sound
+    -- The remaining slots are sound.
     pub packed_sound : (number : Inx → ℕ) (greatest : ℕ) → length slots ≤ greatest → IsSound number (take n slots) greatest n None []
     packed_sound number greatest fits =
         let counts = taken_count n slots front in

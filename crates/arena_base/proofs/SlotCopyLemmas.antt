@@ -1,4 +1,4 @@
--- Slots that are copied one by one: the values made so far, and the slots that are still to come.
+-- The copying of slots one by one: the values made so far, and the slots not yet copied.
 use Rattle.std.proofs.Common.{◌≡◌, ℕ, zero, suc, ◌+◌, ◌≤◌, List, [], ◌∷◌, ◌++◌, map, length, length-append, drop, Option, None, Some, Result, Ok, Err, OnOk, OnErr, ◌⊎◌, inl, inr, refl, ap, sym, ◌∙◌, subst, append_assoc, arith}
 use Rattle.std.specs.Prelude.{slice_get, min}
 use Rattle.std.specs.List.{FoldsTo}
@@ -19,20 +19,20 @@ drop-slot [] k x is = cc
 drop-slot (y ∷ xs) zero x is = let same : y ≡ x = cc in ap (λ z. z ∷ xs) same
 drop-slot (y ∷ xs) (suc k) x is = drop-slot xs k x is
 
--- a slot behind others adds its entry, if one stands there
+-- Appending a slot appends its entry, if it has one.
 entries_from-push : {Gen T : Type 0} (slots : List (Option (Gen × T))) (i j : ℕ) (slot : Option (Gen × T)) → i + length slots ≡ j → entries_from i (slots ++ slot ∷ []) ≡ entries_from i slots ++ entries_from j (slot ∷ [])
 entries_from-push [] i j slot at = let same : i ≡ j = omega (arith, at) in ap (λ n. entries_from n (slot ∷ [])) same
 entries_from-push (None ∷ slots) i j slot at = entries_from-push slots (suc i) j slot (omega (arith, at))
 entries_from-push (Some e ∷ slots) i j slot at = ap (λ es. ((i, e.0), e.1) ∷ es) (entries_from-push slots (suc i) j slot (omega (arith, at)))
 
--- the parts of a value that was made, as an entry
+-- A value that was made, as an entry.
 abbrev pub before_call : {P U T Gen : Type 0} → (P → ℕ × Gen) → Copied P U T → (ℕ × Gen) × U
 before_call key c = (key c.pointer, c.shown)
 
 abbrev pub after_call : {P U T Gen : Type 0} → (P → ℕ × Gen) → Copied P U T → (ℕ × Gen) × T
 after_call key c = (key c.pointer, c.answer)
 
--- how far the copying has come: the slots up to k are copied
+-- The state of the copying: the slots up to `k` are copied.
 pub record IsCopying {F P U T Inx Gen Word : Type 0} (makes : F → P → U → T → F → Type 0) (key : P → ℕ × Gen) (first : F) (old : List (ArenaSlot P U Inx Gen Word)) (k : ℕ) (f : F) (slots : List (ArenaSlot P T Inx Gen Word)) : Type 0 where
   pub calls : List (Copied P U T)
   pub in_turn : FoldsTo (Makes makes) first calls f
@@ -42,7 +42,7 @@ pub record IsCopying {F P U T Inx Gen Word : Type 0} (makes : F → P → U → 
   pub copied : length slots ≡ k
 
 module _ {F P U T Inx Gen Word : Type 0} (makes : F → P → U → T → F → Type 0) (key : P → ℕ × Gen) (first : F) (old : List (ArenaSlot P U Inx Gen Word)) where
-  -- at the beginning
+  -- The initial state.
   pub copying_begins : (slots : List (ArenaSlot P T Inx Gen Word)) → slots ≡ [] → IsCopying makes key first old 0 first slots
   copying_begins slots empty = subst (IsCopying makes key first old 0 first) (sym empty) (record { calls = []; in_turn = refl; before = refl; after = refl; alike = refl; copied = refl })
 
@@ -50,7 +50,7 @@ module _ {F P U T Inx Gen Word : Type 0} (makes : F → P → U → T → F → 
     abbrev later : List (ArenaSlot P U Inx Gen Word)
     later = drop (suc k) old
 
-    -- one slot more is alike
+    -- One more slot is alike.
     alike_pushed : (slot : ArenaSlot P U Inx Gen Word) (copy : ArenaSlot P T Inx Gen Word) → slice_get old k ≡ Some slot → without_value copy ≡ without_value slot
         → without_values (slots ++ copy ∷ []) ++ without_values later ≡ without_values old
     alike_pushed slot copy is same =
@@ -62,13 +62,13 @@ module _ {F P U T Inx Gen Word : Type 0} (makes : F → P → U → T → F → 
     length_pushed : (copy : ArenaSlot P T Inx Gen Word) → length (slots ++ copy ∷ []) ≡ suc k
     length_pushed copy = omega (arith, length-append slots (copy ∷ []), c.copied)
 
-    -- the entries of one slot more
+    -- The entries after one more slot.
     entries_pushed : (copy : ArenaSlot P T Inx Gen Word) → entries_from 1 (map entry_of (slots ++ copy ∷ [])) ≡ entries_from 1 (map entry_of slots) ++ entries_from (suc k) (entry_of copy ∷ [])
     entries_pushed copy =
         ap (entries_from 1) (map-push slots copy)
         ∙ entries_from-push (map entry_of slots) 1 (suc k) (entry_of copy) (omega (arith, length-map slots entry_of, c.copied))
 
-    -- a free slot is copied
+    -- A free slot is copied.
     pub copying_frees : (next : Option Inx) (after : List (ArenaSlot P T Inx Gen Word)) → slice_get old k ≡ Some (free_slot next) → after ≡ slots ++ free_slot next ∷ [] → IsCopying makes key first old (k + 1) f after
     copying_frees next after is pushed =
         let number : suc k ≡ k + 1 = omega arith in
@@ -83,7 +83,7 @@ module _ {F P U T Inx Gen Word : Type 0} (makes : F → P → U → T → F → 
           copied = length_pushed copy;
         }))
 
-    -- an entry is copied
+    -- An entry is copied.
     pub copying_answers : (generation : Gen) (u : U) (call : Copied P U T) (next : F) (after : List (ArenaSlot P T Inx Gen Word)) → slice_get old k ≡ Some (allocated_slot generation u)
         → call.shown ≡ u → key call.pointer ≡ (k + 1, generation) → Makes makes f call next → after ≡ slots ++ allocated_slot generation call.answer ∷ []
         → IsCopying makes key first old (k + 1) next after
@@ -107,7 +107,7 @@ module _ {F P U T Inx Gen Word : Type 0} (makes : F → P → U → T → F → 
           copied = length_pushed copy;
         }))
 
-    -- the value of an entry is refused
+    -- The value of an entry is refused.
     pub copying_refused : (generation : Gen) (u : U) (p : P) (may_refuse : P → U → Type 0) → slice_get old k ≡ Some (allocated_slot generation u) → key p ≡ (k + 1, generation) → may_refuse p u
         → HasRefusable may_refuse key (entries_from 1 (map entry_of old))
     copying_refused generation u p may_refuse is pointer refused = record {
@@ -121,7 +121,7 @@ module _ {F P U T Inx Gen Word : Type 0} (makes : F → P → U → T → F → 
       refusable = refused;
     }
 
-    -- once all slots are copied
+    -- The state after all slots are copied.
     module _ (all : k ≡ length old) where
       nothing_left : drop k old ≡ []
       nothing_left = drop_all k old (omega (arith, all))
@@ -138,7 +138,7 @@ module _ {F P U T Inx Gen Word : Type 0} (makes : F → P → U → T → F → 
       }
 
 module _ {P T U Inx Gen Word : Type 0} (number : Inx → ℕ) (a : List (ArenaSlot P U Inx Gen Word)) (b : List (ArenaSlot P T Inx Gen Word)) (alike : without_values b ≡ without_values a) (greatest len : ℕ) (head : Option Inx) where
-  -- an arena that got slots like the source's, its freed list and its counter
+  -- An arena with slots like the source's, its freed list and its counter.
   pub has_slots_of : IsSound number a greatest len head (freed_of number a head)
       → (source : Arena Gen U) (old mid : Arena Gen T) (counter before : Gen) (ns : List ℕ) (slots : List (ArenaSlot P T Inx Gen Word)) (room capacity has : ℕ) (limit maximum most : Option ℕ) (p t placed touched n : ℕ) → has ≡ capacity → most ≡ maximum
       → arena_of a (freed_of number a head) counter greatest room limit p t ≡ source → arena_of slots ns before greatest capacity maximum placed touched ≡ mid
@@ -161,7 +161,7 @@ module _ {P T U Inx Gen Word : Type 0} (number : Inx → ℕ) (a : List (ArenaSl
         room = λ few. same_capacity ∙ (ap (λ (s : Arena Gen T). s.stack_capacity) is_mid ∙ ap (λ (s : Arena Gen T). s.stack_capacity) (within (omega (arith, few, count, length-map a entry_of, ap (λ (s : Arena Gen U). length s.slots) is_source))));
       }
 
--- an arena that has lost its slots on the way
+-- An arena that lost its slots when the copy failed.
 pub given_up : {P T Inx Gen Word : Type 0} (number : Inx → ℕ) (items slots : List (ArenaSlot P T Inx Gen Word)) (ns : List ℕ) (counter : Gen) (greatest room capacity : ℕ) (most maximum : Option ℕ) (placed touched : ℕ) (old mid : Arena Gen T)
     → items ≡ [] → room ≡ capacity → most ≡ maximum → arena_of slots ns counter greatest capacity maximum placed touched ≡ mid → mid ≡ with_capacity_of old mid
     → IsAbandonedCopy old (arena_of items (freed_of number items None) counter greatest room most placed touched)
@@ -178,11 +178,11 @@ given_up {T = T} {Gen = Gen} number items slots ns counter greatest room capacit
       touched = (ap (λ (s : Arena Gen T). s.touched) same) i;
     })
 
--- room for so many, in other words
+-- The same capacity under equal numbers.
 pub same_room : {greatest n m capacity room : ℕ} {maximum most : Option ℕ} → n ≡ m → room ≡ capacity → most ≡ maximum → IsCapacityFor greatest maximum n capacity → IsCapacityFor greatest most m room
 same_room count same_capacity same_maximum r = rw (← count, same_capacity, same_maximum) r
 
--- what generic code sees of it
+-- The view of a copy.
 pub copy_seen : {F P T U Gen : Type 0} (makes : F → P → U → T → F → Type 0) (key : P → ℕ × Gen) (f last : F) (source : Arena Gen U) (old new : Arena Gen T)
     → HasSlotsOf source old new → CopiesBy makes key f (entries source) (entries new) last → IsCopyBy makes key f source (view_of old) (view_of new) last
 copy_seen {T = T} {Gen = Gen} makes key f last source old new has made =
@@ -199,7 +199,7 @@ copy_seen {T = T} {Gen = Gen} makes key f last source old new has made =
       maximum = ap (λ (s : Arena Gen T). s.maximum) has.state;
     }
 
--- what makes the values, looked at in part, has made them
+-- Values made by a maker are made by its mapped states.
 module _ {V F P U T : Type 0} (makes : V → P → U → T → V → Type 0) (others : F → P → U → T → F → Type 0) (see : V → F)
     (step : (v : V) (p : P) (u : U) (t : T) (w : V) → makes v p u t w → others (see v) p u t (see w)) where
   pub made_by : {Gen : Type 0} (key : P → ℕ × Gen) (f last : V) (source : List ((ℕ × Gen) × U)) (copy : List ((ℕ × Gen) × T))
@@ -211,7 +211,7 @@ module _ {V F P U T : Type 0} (makes : V → P → U → T → V → Type 0) (ot
     after = c.after;
   }
 
-  -- .. of an arena
+  -- The same for the copy of an arena.
   pub copy_by : {Gen : Type 0} (key : P → ℕ × Gen) (f last : V) (source : Arena Gen U) (old new : ArenaView Gen T)
       → IsCopyBy makes key f source old new last → IsCopyBy others key (see f) source old new (see last)
   copy_by key f last source old new copy = record {
@@ -221,12 +221,12 @@ module _ {V F P U T : Type 0} (makes : V → P → U → T → V → Type 0) (ot
     maximum = copy.maximum;
   }
 
--- what holds of an answer, by two things that do
+-- A fact on `Ok` from two facts.
 pub on_ok_both : {X E A B C : Type 0} (r : Result X E) → (A → B → C) → OnOk r A → OnOk r B → OnOk r C
 on_ok_both (Ok x) both a b = both a b
 on_ok_both (Err e) both a b = tt
 
--- what holds of an answer, by a thing that does
+-- A fact on `Ok` from another.
 pub on_ok : {X E A B : Type 0} (r : Result X E) → (A → B) → OnOk r A → OnOk r B
 on_ok (Ok x) f a = f a
 on_ok (Err e) f a = tt
@@ -235,7 +235,7 @@ pub on_err : {X E A B : Type 0} (r : Result X E) → (A → B) → OnErr r A →
 on_err (Ok x) f a = tt
 on_err (Err e) f a = f a
 
--- a refusal of two sorts, by what each sort says
+-- A fact on `Err` by cases.
 pub on_err_either : {X E A B C D : Type 0} (r : Result X E) → (A → C) → (B → D) → OnErr r (A ⊎ B) → OnErr r (C ⊎ D)
 on_err_either (Ok x) first second d = tt
 on_err_either (Err e) first second (inl a) = inl (first a)
@@ -246,7 +246,7 @@ on_err_by (Ok x) first second d = tt
 on_err_by (Err e) first second (inl a) = first a
 on_err_by (Err e) first second (inr b) = second b
 
--- one of two, where the other is told in other words, or never comes
+-- The second case of an alternative is replaced.
 pub either_as : {A B C N : Type 0} → (B → C) → (A ⊎ B) × N → (A ⊎ C) × N
 either_as other (inl a, n) = (inl a, n)
 either_as other (inr b, n) = (inr (other b), n)
@@ -255,11 +255,11 @@ pub surely : {A B N : Type 0} → (B → ⊥) → (A ⊎ B) × N → A × N
 surely never (inl a, n) = (a, n)
 surely never (inr b, n) = absurd (never b)
 
--- what generic code sees of an arena that has lost its slots
+-- The view of an arena that lost its slots.
 pub given_up_seen : {Gen T : Type 0} (old new : Arena Gen T) → IsAbandonedCopy old new → IsAbandonedView (view_of old) (view_of new)
 given_up_seen old new is = ap view_of is
 
--- what holds of an answer, where the answer is known
+-- A fact on a known `Ok` result.
 pub on_ok_is : {X E A : Type 0} (r : Result X E) (x : X) → r ≡ Ok x → OnOk r A → A
 on_ok_is {A = A} r x is holds = subst (λ q. OnOk q A) is holds
 

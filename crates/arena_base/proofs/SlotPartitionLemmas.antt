@@ -1,5 +1,4 @@
--- The entries of an arena and its freed list fill its slots: each index from 1 to their number is that of an entry or
--- a freed one, and of one alone.
+-- The entries and the freed list of an arena partition the indexes of its slots.
 use Rattle.std.proofs.Common.{◌≡◌, ℕ, zero, suc, ◌+◌, ◌<◌, ◌≤◌, List, [], ◌∷◌, ◌++◌, length, map, Option, None, Some, refl, ap, sym, ◌∙◌, arith, rules, inl, inr, ◌⊎◌}
 use Rattle.std.specs.Prelude.{slice_index_or, All, min}
 use Rattle.std.proofs.lemmas.List.Elements.{All-nil, All-cons}
@@ -8,7 +7,7 @@ use Rattle.arena_ptr.specs.SlotStack.{IsWithinMaximum}
 use Rattle.arena_base.specs.Arena.{Arena, IsMember, AreDistinct, IsListed, IsCapacityFor}
 use Rattle.arena_base.specs.Entries.{entries_from, entries, index_of, CoverSlots}
 
--- a number of the first list, or of the second, stands in both together, and no other does
+-- A number is in an append exactly if it is in one of the lists.
 IsMember-append : (xs ys : List ℕ) (n : ℕ) → IsMember xs n ⊎ IsMember ys n → IsMember (xs ++ ys) n
 IsMember-append [] ys n (inl has) = absurd has
 IsMember-append [] ys n (inr has) = has
@@ -21,7 +20,7 @@ IsMember-of [] ys n has = inr has
 IsMember-of (x ∷ xs) ys n (inl same) = inl (inl same)
 IsMember-of (x ∷ xs) ys n (inr has) = elim (IsMember-of xs ys n has) [ inl first ↦ inl (inr first) | inr second ↦ inr second ]
 
--- two lists without a common number
+-- The append of two disjoint lists of distinct numbers is distinct.
 AreDistinct-append : (xs ys : List ℕ) → AreDistinct xs → AreDistinct ys → ((n : ℕ) → IsMember xs n → IsMember ys n → ⊥) → AreDistinct (xs ++ ys)
 AreDistinct-append [] ys first second none = second
 AreDistinct-append (x ∷ xs) ys first second none = (
@@ -29,7 +28,7 @@ AreDistinct-append (x ∷ xs) ys first second none = (
   AreDistinct-append xs ys first.1 second (λ n here there. none n (inr here) there),
 )
 
--- there is room for the slots, of which there are no more than the greatest index
+-- The capacity suffices for the slots, which are at most the greatest index.
 pub room_for : (greatest n capacity : ℕ) (maximum : Option ℕ) → n ≤ capacity → n ≤ greatest → IsWithinMaximum maximum capacity → IsCapacityFor greatest maximum n (min capacity greatest)
 room_for greatest n capacity maximum fits most within = record {
   fits = search rules;
@@ -44,7 +43,7 @@ module _ {Gen T : Type 0} where
   abbrev indexes : ℕ → List (Option (Gen × T)) → List ℕ
   indexes i slots = map index_of (entries_from i slots)
 
-  -- no index of an entry is below that of the first slot
+  -- No entry has an index below the first slot's.
   indexes-above : (slots : List (Option (Gen × T))) (i n : ℕ) → IsMember (indexes i slots) n → i ≤ n
   indexes-above [] i n has = absurd has
   indexes-above (None ∷ slots) i n has = let above = indexes-above slots (suc i) n has in omega arith
@@ -56,14 +55,14 @@ module _ {Gen T : Type 0} where
   indexes-apart (None ∷ slots) i = indexes-apart slots (suc i)
   indexes-apart (Some e ∷ slots) i = (λ has. let above = indexes-above slots (suc i) i has in absurd (omega (arith, above)), indexes-apart slots (suc i))
 
-  -- at the index of an entry one stands
+  -- The index of an entry has an entry.
   indexes-taken : (slots : List (Option (Gen × T))) (i n : ℕ) → IsMember (indexes i slots) n → (k : ℕ) × (e : Gen × T) × (i + k ≡ n) × (k < length slots) × (slice_index_or slots k None ≡ Some e)
   indexes-taken [] i n has = absurd has
   indexes-taken (None ∷ slots) i n has = let later = indexes-taken slots (suc i) n has in (suc later.0, later.1, omega (arith, later.2), omega (arith, later.3), later.4)
   indexes-taken (Some e ∷ slots) i n (inl same) = (0, e, omega (arith, same), omega arith, refl)
   indexes-taken (Some e ∷ slots) i n (inr has) = let later = indexes-taken slots (suc i) n has in (suc later.0, later.1, omega (arith, later.2), omega (arith, later.3), later.4)
 
-  -- at each index an entry stands or none does
+  -- Each index is an entry's or free.
   indexes-all : (slots : List (Option (Gen × T))) (i k n : ℕ) → i + k ≡ n → k < length slots → IsMember (indexes i slots) n ⊎ (slice_index_or slots k None ≡ None)
   indexes-all [] i k n at below = absurd (omega (arith, below))
   indexes-all (None ∷ slots) i zero n at below = inr refl
@@ -104,6 +103,6 @@ module _ {Gen T : Type 0} where
       let here : IsWithin greatest i = (some, omega (arith, fits)) in
       All-cons (λ x. IsWithin greatest (index_of x)) ((i, e.0), e.1) (entries_from (suc i) slots) here (indexes_within slots (suc i) greatest (omega arith) (omega (arith, fits)))
 
-  -- each entry's index is one of its pointer's type
+  -- The index of each entry is within the pointer type's range.
   pub entries_within : (slots : List (Option (Gen × T))) (greatest : ℕ) → length slots ≤ greatest → All (λ e. IsWithin greatest (index_of e)) (entries_from 1 slots)
   entries_within slots greatest fits = indexes_within slots 1 greatest (omega arith) (omega (arith, fits))

@@ -1,4 +1,4 @@
--- Slots that are the same but for their values: they have the same freed list, and are sound together.
+-- Slots equal apart from their values have the same freed list, and are equally sound.
 use Rattle.std.proofs.Common.{◌≡◌, ℕ, zero, suc, cond, List, [], ◌∷◌, map, length, Option, None, Some, refl, ap, sym, ◌∙◌, arith}
 use Rattle.std.specs.Prelude.{slice_get, is_some}
 use Rattle.std.specs.Option.{option_map}
@@ -21,7 +21,7 @@ module _ {X Y : Type 0} (f : X → Y) where
   item_at-map xs (suc k) = slice_get-map xs k
 
 module _ {P T Inx Gen Word : Type 0} where
-  -- a slot that is free without its value is free
+  -- A slot that is free without its value is free.
   free_before : (o : Option (ArenaSlot P T Inx Gen Word)) (next : Option Inx) → option_map without_value o ≡ Some (free_slot next) → o ≡ Some (free_slot next)
   free_before None next is = cc
   free_before (Some (Allocated g t)) next is = cc
@@ -31,7 +31,7 @@ module _ {P T Inx Gen Word : Type 0} where
   same_taken (Allocated g t) = refl
   same_taken (Free next) = refl
 
-  -- as many entries stand in slots without their values
+  -- Slots without their values have as many entries.
   same_count : (slots : List (ArenaSlot P T Inx Gen Word)) → taken_count (without_values slots) ≡ taken_count slots
   same_count [] = refl
   same_count (s ∷ slots) =
@@ -39,21 +39,21 @@ module _ {P T Inx Gen Word : Type 0} where
       let after = sum_by-cons (λ (o : Option (Gen × Unit {0})). cond (is_some o) 1 0) (entry_of (without_value s)) (map entry_of (without_values slots)) in
       omega (arith, before, after, same_taken s, same_count slots)
 
-  -- and with the same generations
+  -- Slots without their values have the same generations.
   generations_kept : (slots : List (ArenaSlot P T Inx Gen Word)) → generations (map entry_of slots) ≡ generations (map entry_of (without_values slots))
   generations_kept [] = refl
   generations_kept (Allocated g t ∷ slots) = ap (λ gs. Some g ∷ gs) (generations_kept slots)
   generations_kept (Free next ∷ slots) = ap (λ gs. None ∷ gs) (generations_kept slots)
 
 module _ {P T U Inx Gen Word : Type 0} (a : List (ArenaSlot P U Inx Gen Word)) (b : List (ArenaSlot P T Inx Gen Word)) (alike : without_values b ≡ without_values a) where
-  -- there are as many slots
+  -- The numbers of slots are equal.
   pub same_length : length b ≡ length a
   same_length = sym (length-map b without_value) ∙ (ap length alike ∙ length-map a without_value)
 
   pub same_generations : generations (map entry_of b) ≡ generations (map entry_of a)
   same_generations = generations_kept b ∙ (ap (λ s. generations (map entry_of s)) alike ∙ sym (generations_kept a))
 
-  -- what is free in one is free in the other, before the same next
+  -- A slot free in one is free in the other, with the same next.
   free_too : (n : ℕ) (next : Option Inx) → item_at a n ≡ Some (free_slot next) → item_at b n ≡ Some (free_slot next)
   free_too n next is =
       free_before (item_at b n) next
@@ -64,7 +64,7 @@ module _ {P T U Inx Gen Word : Type 0} (a : List (ArenaSlot P U Inx Gen Word)) (
   linked_too number (n ∷ ns) head l = (l.0, l.1, l.2, l.3, free_too n l.1 l.4, linked_too number ns l.1 l.5)
 
 module _ {P T U Inx Gen Word : Type 0} (number : Inx → ℕ) {a : List (ArenaSlot P U Inx Gen Word)} {b : List (ArenaSlot P T Inx Gen Word)} (alike : without_values b ≡ without_values a) where
-  -- the other slots are sound with the same freed list
+  -- The other slots are sound with the same freed list.
   pub sound_too : {greatest len : ℕ} {head : Option Inx} {ns : List ℕ} → IsSound number a greatest len head ns → IsSound number b greatest len head ns
   sound_too {head = head} {ns = ns} s = record {
     linked = linked_too a b alike number ns head s.linked;

@@ -1,4 +1,4 @@
--- Each step on slots keeps them sound: the count right, and every free slot in the freed list once.
+-- Each step on slots keeps the count right, and every free slot in the freed list once.
 use Rattle.std.proofs.Common.{◌≡◌, ℕ, zero, suc, ◌+◌, ◌<◌, ◌≤◌, List, [], ◌∷◌, ◌++◌, length, length-append, Option, None, Some, refl, ap, sym, ◌∙◌, subst, arith, inl, inr, ◌⊎◌}
 use Rattle.std.specs.Prelude.{slice_get, slice_set}
 use Rattle.std.proofs.lemmas.List.{length-set}
@@ -10,12 +10,12 @@ use Rattle.arena_base.specs.declared.slot.ArenaSlot.TheVariants.{Allocated, Free
 use Rattle.arena_base.proofs.SlotLemmas.{slice_get-set-same, slice_set-itself, item_at-set-other, item_at-push, at_position, taken_count-set, taken_count-push}
 
 module _ {P T Inx Gen Word : Type 0} where
-  -- a taken slot is not free
+  -- A slot with an entry is not free.
   not_free : (slot : ArenaSlot P T Inx Gen Word) (g : Gen) (t : T) (next : Option Inx) → slot ≡ Allocated g t → Some slot ≡ Some (free_slot next) → ⊥
   not_free slot g t next taken free = cc
 
 module _ {P T Inx Gen Word : Type 0} (number : Inx → ℕ) where
-  -- what stands in the freed list is free
+  -- A slot in the freed list is free.
   pub listed_is_free : (slots : List (ArenaSlot P T Inx Gen Word)) (ns : List ℕ) (head : Option Inx) (n : ℕ) → IsFreeList number slots ns head → IsMember ns n → (next : Option Inx) × (item_at slots n ≡ Some (free_slot next))
   listed_is_free slots [] head n l has = absurd has
   listed_is_free slots (m ∷ ns) head n l (inl same) = (l.1, subst (λ k. item_at slots k ≡ Some (free_slot l.1)) same l.4)
@@ -31,7 +31,7 @@ module _ {P T Inx Gen Word : Type 0} (number : Inx → ℕ) where
   IsFreeList-set slots k slot (n ∷ ns) head out l =
       (l.0, l.1, l.2, l.3, item_at-set-other slots k n slot (λ e. out (inl (sym e))) ∙ l.4, IsFreeList-set slots k slot ns l.1 (λ h. out (inr h)) l.5)
 
-  -- the walk along the freed list finds it
+  -- A walk along the freed list yields it.
   pub walked : (slots : List (ArenaSlot P T Inx Gen Word)) (ns : List ℕ) (most : ℕ) (head : Option Inx) → IsFreeList number slots ns head → length ns ≤ most → freed_from number slots most head ≡ ns
   walked slots [] zero head l few = refl
   walked slots [] (suc most) head l few = ap (freed_from number slots (suc most)) l
@@ -45,11 +45,11 @@ module _ {P T Inx Gen Word : Type 0} (number : Inx → ℕ) where
     pub walked_all : freed_of number slots head ≡ ns
     walked_all = walked slots ns (length slots) head s.linked (omega (arith, s.total))
 
-    -- the invariant of an arena
+    -- The invariant of an arena.
     pub closed : IsSound number slots greatest len head (freed_of number slots head)
     closed = subst (IsSound number slots greatest len head) (sym walked_all) s
 
-    -- an entry's slot is freed
+    -- The slot of an entry is freed.
     pub slot_vacated : (k : ℕ) (i : Inx) (g : Gen) (t : T) (left : ℕ) → k + 1 ≡ number i → slice_get slots k ≡ Some (allocated_slot g t) → left + 1 ≡ len
         → IsSound number (slice_set slots k (free_slot head)) greatest left (Some i) (number i ∷ ns)
     slot_vacated k i g t left at is one =
@@ -75,7 +75,7 @@ module _ {P T Inx Gen Word : Type 0} (number : Inx → ℕ) where
           fits = omega (arith, s.fits, length-set slots k (free_slot head));
         }
 
-    -- an entry is written over another
+    -- An entry is overwritten.
     pub rewritten : (k : ℕ) (g new_g : Gen) (t new_t : T) → slice_get slots k ≡ Some (allocated_slot g t)
         → IsSound number (slice_set slots k (allocated_slot new_g new_t)) greatest len head ns
     rewritten k g new_g t new_t is =
@@ -93,7 +93,7 @@ module _ {P T Inx Gen Word : Type 0} (number : Inx → ℕ) where
           fits = omega (arith, s.fits, length-set slots k slot);
         }
 
-  -- an entry is written into the slot that was freed last
+  -- An entry is written into the first freed slot.
   pub filled_freed : {slots : List (ArenaSlot P T Inx Gen Word)} {greatest len : ℕ} {ns : List ℕ} (i : Inx) (next : Option Inx) (k : ℕ) (g : Gen) (t : T)
       → IsSound number slots greatest len (Some i) ns → k + 1 ≡ number i → slice_get slots k ≡ Some (free_slot next)
       → IsSound number (slice_set slots k (allocated_slot g t)) greatest (len + 1) next (without_first ns) × (ns ≡ number i ∷ without_first ns)
@@ -126,7 +126,7 @@ module _ {P T Inx Gen Word : Type 0} (number : Inx → ℕ) where
       elsewhere m away (inl here) = absurd (away here)
       elsewhere m away (inr has) = has
 
-  -- an entry is appended where no slot is free
+  -- An entry is appended if no slot is free.
   pub filled_next : {slots : List (ArenaSlot P T Inx Gen Word)} {greatest len : ℕ} {ns : List ℕ} (g : Gen) (t : T)
       → IsSound number slots greatest len None ns → length slots < greatest
       → IsSound number (slots ++ allocated_slot g t ∷ []) greatest (len + 1) None [] × (ns ≡ [])
@@ -152,12 +152,12 @@ module _ {P T Inx Gen Word : Type 0} (number : Inx → ℕ) where
   none_listed [] (suc k) next empty is = cc
   none_listed (s ∷ slots) (suc k) next empty is = cc
 
-  -- no slots are sound
+  -- An empty list of slots is sound.
   pub none_sound : (slots : List (ArenaSlot P T Inx Gen Word)) (greatest : ℕ) → slots ≡ [] → IsSound number slots greatest 0 None (freed_of number slots None)
   none_sound [] greatest is = record { linked = refl; apart = tt; covers = λ n next free. absurd (none_listed [] n next refl free); counted = refl; total = refl; fits = omega arith }
   none_sound (s ∷ slots) greatest is = cc
 
-  -- the next insertion takes the slot that was freed last
+  -- The next insertion takes the first freed slot.
   pub first_freed : {slots : List (ArenaSlot P T Inx Gen Word)} {greatest len : ℕ} {ns : List ℕ} (i : Inx) → IsSound number slots greatest len (Some i) ns → (count : ℕ) → number i ≡ first_or_next ns count
   first_freed {ns = []} i s count = let none : Some i ≡ None = s.linked in cc
   first_freed {ns = n ∷ ns} i s count =
@@ -165,22 +165,22 @@ module _ {P T Inx Gen Word : Type 0} (number : Inx → ℕ) where
       let same : i ≡ s.linked.0 = cc in
       ap number same ∙ s.linked.3
 
-  -- or else a new one
+  -- The next insertion takes a new slot if none is freed.
   pub first_new : {slots : List (ArenaSlot P T Inx Gen Word)} {greatest len : ℕ} {ns : List ℕ} → IsSound number slots greatest len None ns → (count : ℕ) → count + 1 ≡ first_or_next ns count
   first_new {ns = []} s count = refl
   first_new {ns = n ∷ ns} s count = let some : None ≡ Some s.linked.0 = s.linked.2 in cc
 
-  -- where no slot is freed there are as many entries as slots
+  -- Without freed slots there are as many entries as slots.
   pub none_freed : {slots : List (ArenaSlot P T Inx Gen Word)} {greatest len : ℕ} {ns : List ℕ} → IsSound number slots greatest len None ns → len ≡ length slots
   none_freed {ns = []} s = omega (arith, s.total)
   none_freed {ns = n ∷ ns} s = let some : None ≡ Some s.linked.0 = s.linked.2 in cc
 
-  -- where an entry stands one is counted
+  -- If there is an entry, the count is positive.
   pub some_taken : {slots : List (ArenaSlot P T Inx Gen Word)} {greatest len : ℕ} {head : Option Inx} {ns : List ℕ} → IsSound number slots greatest len head ns
       → (k : ℕ) (g : Gen) (t : T) → slice_get slots k ≡ Some (allocated_slot g t) → 1 ≤ len
   some_taken {slots = slots} {head = head} s k g t is = omega (arith, s.counted, taken_count-set slots k (allocated_slot g t) (free_slot head) is)
 
-  -- a value is written
+  -- A value is written.
   pub lent : {slots : List (ArenaSlot P T Inx Gen Word)} {greatest len : ℕ} {head : Option Inx} {ns : List ℕ} (k : ℕ) (slot : ArenaSlot P T Inx Gen Word) (w : T)
       → IsSound number slots greatest len head ns → slice_get slots k ≡ Some slot → IsSound number (slice_set slots k (with_value_in slot w)) greatest len head ns
   lent k (Allocated g t) w s is = rewritten s k g g t w is

@@ -1,4 +1,4 @@
--- A step that the walks of `src/tally.rt` share. Assumes `Logic`.
+-- A step shared by the proofs of `src/tally.rt`. Assumes `Logic`.
 use Rattle.std.proofs.Common.{List, [], ◌∷◌, refl}
 use seplogic.Ra.Ura.{Ura}
 use mir.Val.{Val, vstruct, vnil}

@@ -1,4 +1,4 @@
--- Free slots cut off the end, and the free slots that are left listed by rising index.
+-- Trimming of free slots at the end, and listing of the others by rising index.
 use Rattle.std.proofs.Common.{◌≡◌, ℕ, zero, suc, ◌+◌, ◌<◌, ◌≤◌, cond, List, [], ◌∷◌, length, map, take, drop, Option, None, Some, refl, ap, sym, ◌∙◌, subst, arith, inl, inr}
 use Rattle.std.specs.Prelude.{true, false, IsSome, IfSome, count_by, is_some, is_none, slice_index_or, slice_get, slice_set}
 use Rattle.std.proofs.lemmas.List.{length-map, map-set}
@@ -16,7 +16,7 @@ module _ {X : Type 0} where
   keep None m xs = refl
   keep (Some x) m xs = refl
 
-  -- slots that end in a taken one stay
+  -- Slots that end in an entry stay.
   pub trimmed-ends : (xs : List (Option X)) (k : ℕ) (x : X) → slice_index_or xs k None ≡ Some x → trimmed (take (suc k) xs) ≡ take (suc k) xs
   trimmed-ends [] k x is = cc
   trimmed-ends (s ∷ xs) zero x is =
@@ -24,7 +24,7 @@ module _ {X : Type 0} where
   trimmed-ends (s ∷ []) (suc k) x is = cc
   trimmed-ends (s ∷ m ∷ xs) (suc k) x is = ap (before_cut s) (trimmed-ends (m ∷ xs) k x is) ∙ keep s m (take k xs)
 
-  -- a free slot at the end goes
+  -- A free slot at the end is removed.
   pub trimmed-cut : (xs : List (Option X)) (k : ℕ) → k < length xs → slice_index_or xs k None ≡ None → trimmed (take (suc k) xs) ≡ trimmed (take k xs)
   trimmed-cut [] k below is = absurd (omega (arith, below))
   trimmed-cut (s ∷ xs) zero below is = ap (λ o. before_cut o (trimmed (take 0 xs))) is
@@ -73,7 +73,7 @@ module _ {P T Inx Gen Word : Type 0} where
   map-take (s ∷ slots) zero = refl
   map-take (s ∷ slots) (suc k) = ap (λ es. entry_of s ∷ es) (map-take slots k)
 
-  -- one step of the cut
+  -- One step of trimming.
   pub cut_more : (slots : List (ArenaSlot P T Inx Gen Word)) (k n : ℕ) → k + 1 ≡ n → k < length slots → is_none (entry_in (slice_get slots k)) ≡ true → trimmed (take n (map entry_of slots)) ≡ trimmed (map entry_of slots)
       → trimmed (take k (map entry_of slots)) ≡ trimmed (map entry_of slots)
   cut_more slots k n at below free rest =
@@ -81,7 +81,7 @@ module _ {P T Inx Gen Word : Type 0} where
       sym (trimmed-cut (map entry_of slots) k (omega (arith, below, length-map slots entry_of)) (slice_index_or-map slots k ∙ none_of (entry_in (slice_get slots k)) free))
       ∙ (ap (λ m. trimmed (take m (map entry_of slots))) next ∙ rest)
 
-  -- the cut ends behind an entry
+  -- Trimming ends after an entry.
   pub cut_ends : (slots : List (ArenaSlot P T Inx Gen Word)) (k n : ℕ) → k + 1 ≡ n → is_none (entry_in (slice_get slots k)) ≡ false → trimmed (take n (map entry_of slots)) ≡ trimmed (map entry_of slots)
       → map entry_of (take n slots) ≡ trimmed (map entry_of slots)
   cut_ends slots k n at taken rest =
@@ -90,13 +90,13 @@ module _ {P T Inx Gen Word : Type 0} where
       map-take slots n ∙ (ap (λ m. take m (map entry_of slots)) (sym next) ∙ (sym (trimmed-ends (map entry_of slots) k entry.0 (slice_index_or-map slots k ∙ entry.1))
       ∙ (ap (λ m. trimmed (take m (map entry_of slots))) next ∙ rest)))
 
-  -- or nothing is left
+  -- Trimming leaves no slots.
   pub cut_all : (slots : List (ArenaSlot P T Inx Gen Word)) (n : ℕ) → n ≡ 0 → trimmed (take n (map entry_of slots)) ≡ trimmed (map entry_of slots) → map entry_of (take n slots) ≡ trimmed (map entry_of slots)
   cut_all slots n none rest =
       map-take slots n ∙ (ap (λ m. take m (map entry_of slots)) none ∙ (ap (λ m. trimmed (take m (map entry_of slots))) (sym none) ∙ rest))
 
 module _ {P T Inx Gen Word : Type 0} (number : Inx → ℕ) where
-  -- how far a listing has come, down to a position
+  -- The state of a listing down to position `k`.
   pub record IsListing (slots : List (ArenaSlot P T Inx Gen Word)) (entries : List (Option (Gen × T))) (k len : ℕ) (head : Option Inx) : Type 0 where
     pub same : map entry_of slots ≡ entries
     pub linked : IsFreeList number slots (free_from (suc k) (drop k entries)) head
@@ -109,7 +109,7 @@ module _ {P T Inx Gen Word : Type 0} (number : Inx → ℕ) where
     within : k < length entries
     within = omega (arith, below, length-map slots entry_of, ap length l.same)
 
-    -- an entry is counted
+    -- An entry is counted.
     pub listing_counts : (e : Gen × T) → entry_in (slice_get slots k) ≡ Some e → IsListing slots entries k (len + 1) head
     listing_counts e is =
         let taken = drop-at entries k within ∙ ap (λ o. o ∷ drop (suc k) entries) (entry_there ∙ is) in
@@ -121,7 +121,7 @@ module _ {P T Inx Gen Word : Type 0} (number : Inx → ℕ) where
           counted = omega (arith, l.counted, ap (count_by is_some) rest, ap (count_by is_some) taken, sum_by-cons (λ (o : Option (Gen × T)). cond (is_some o) 1 0) (Some e) (drop (suc k) entries));
         }
 
-    -- a free slot is listed
+    -- A free slot is listed.
     pub listing_lists : (old : Option Inx) (i : Inx) → slice_get slots k ≡ Some (free_slot old) → number i ≡ suc k → IsListing (slice_set slots k (free_slot head)) entries k len (Some i)
     listing_lists old i is index =
         let free = drop-at entries k within ∙ ap (λ o. o ∷ drop (suc k) entries) (entry_there ∙ ap entry_in is) in
@@ -140,7 +140,7 @@ module _ {P T Inx Gen Word : Type 0} (number : Inx → ℕ) where
         unchanged (e ∷ es) zero none = ap (λ o. o ∷ es) (sym none)
         unchanged (e ∷ es) (suc j) none = ap (λ fs. e ∷ fs) (unchanged es j none)
 
-  -- once all slots are listed they are sound
+  -- Completely listed slots are sound.
   pub listing_ends : {slots : List (ArenaSlot P T Inx Gen Word)} {entries : List (Option (Gen × T))} {len greatest : ℕ} {head : Option Inx} → IsListing slots entries 0 len head → length slots ≤ greatest
       → IsSound number slots greatest len head (free_from 1 entries)
   listing_ends {slots = slots} {entries = entries} {len = len} l few =
@@ -161,7 +161,7 @@ module _ {P T Inx Gen Word : Type 0} (number : Inx → ℕ) where
           free_from-has entries 1 k (suc k) (omega arith) (omega (arith, below, length-map slots entry_of, ap length l.same))
           (ap (λ es. slice_index_or es k None) (sym l.same) ∙ (slice_index_or-map slots k ∙ ap entry_in free))
 
-  -- one step of the listing, at a free slot
+  -- A listing step at a free slot.
   pub listing_frees : {slots items : List (ArenaSlot P T Inx Gen Word)} {entries : List (Option (Gen × T))} {n len : ℕ} {head : Option Inx} → IsListing slots entries n len head
       → (k : ℕ) (o : Option Inx) → k + 1 ≡ n → k < length slots → is_none (entry_in (slice_get slots k)) ≡ true → IsSome o → IfSome o (λ i. number i ≡ k + 1) → items ≡ slice_set slots k (free_slot head)
       → IsListing items entries k len o
@@ -172,7 +172,7 @@ module _ {P T Inx Gen Word : Type 0} (number : Inx → ℕ) where
       subst (λ es. IsListing es entries k len (Some i)) (sym written)
       (listing_lists l k (omega (arith, at)) below old.0 i (slot.1 ∙ ap (λ s. Some s) old.1) (omega (arith, index)))
 
-  -- and at a taken one
+  -- A listing step at an entry.
   pub listing_takes : {slots : List (ArenaSlot P T Inx Gen Word)} {entries : List (Option (Gen × T))} {n len : ℕ} {head : Option Inx} → IsListing slots entries n len head
       → (k : ℕ) → k + 1 ≡ n → k < length slots → is_none (entry_in (slice_get slots k)) ≡ false → IsListing slots entries k (len + 1) head
   listing_takes {slots = slots} l k at below taken =

@@ -1,4 +1,5 @@
--- An advancer of this crate that looks nowhere stays there, and it keeps what is asked of any.
+-- An advancer at its end stays there, and the advancer of this crate satisfies the law of all
+-- advancers.
 use Rattle.std.specs.Prelude.{◌≡◌, ℕ, List, [], ◌∷◌, Option, None, Some}
 use Rattle.std.specs.Option.{option_map}
 use Rattle.std.proofs.Common.{refl, ap, ◌∙◌}
@@ -13,7 +14,7 @@ nowhere_stays key es look None after spent given = (refl, given.moves)
 nowhere_stays key es look (Some p) after spent given =
     let met : Some (key p) ≡ None = given.first ∙ ap (λ l. first_key (ahead l es)) spent in cc
 
--- no first key, no entries
+-- Without a first key there are no entries.
 pub no_first : {Gen T : Type 0} (es : List ((ℕ × Gen) × T)) → None ≡ first_key es → es ≡ []
 no_first [] none = refl
 no_first (e ∷ es) none = cc

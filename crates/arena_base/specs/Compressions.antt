@@ -1,4 +1,4 @@
--- A compression: the entries come to the indexes from 1 on, in the order of their indexes.
+-- A compression: the entries are moved to the indexes from 1, in the order of their indexes.
 use Rattle.std.specs.Prelude.{◌≡◌, ℕ, ◌+◌, ◌*◌, ◌≤◌, Bool, true, false, List, [], map, length, All, Option, None, Some, IfSome}
 use Rattle.std.specs.Option.{option_map}
 use Rattle.std.specs.List.{FoldsTo, range_with_len}
@@ -7,17 +7,19 @@ use denote.Ref.{MutBor}
 use Rattle.arena_base.specs.Arena.{counter_after_clear, overflows_after_clear}
 use Rattle.arena_base.specs.Entries.{ArenaView, Slots, index_of}
 
--- the counter after a compression of so many entries: a reset begins it anew, and else none leave it as it is
+-- The counter after `count` entries were compressed. A reset restarts it; otherwise it stays if
+-- there are no entries.
 abbrev pub counter_after_compression : {Gen : Type 0} → Gen → (Gen → Gen) → Bool → ℕ → Gen → Gen
 counter_after_compression first following true count g = first
 counter_after_compression first following false count g = counter_after_clear following count g
 
--- whether it overflows then
+-- Whether that counter overflows.
 abbrev pub overflows_after_compression : {Gen : Type 0} → (Gen → Bool) → Bool → ℕ → Gen → Bool
 overflows_after_compression wraps true count g = false
 overflows_after_compression wraps false count g = overflows_after_clear wraps count g
 
--- so many entries are in exactly as many slots, none is freed, each was placed once, and there were at most so many touches
+-- The entries fill exactly as many slots, none freed, each placed once, with at most `most`
+-- touches.
 pub record AreFilledAnew (entries most : ℕ) (old new : Slots) : Type 0 where
   pub count : new.count ≡ entries
   pub freed : new.freed ≡ []
@@ -26,18 +28,18 @@ pub record AreFilledAnew (entries most : ℕ) (old new : Slots) : Type 0 where
   pub few : touches ≤ most
   pub touched : new.touched ≡ old.touched + touches
 
--- where the slots of an arena are told, before and after; else there is nothing to tell
+-- The slots before and after are related, if they are known.
 abbrev pub IfKnown : (Slots → Slots → Type 0) → Option Slots → Option Slots → Type 0
 IfKnown related None new = new ≡ None
 IfKnown related (Some old) None = ⊥
 IfKnown related (Some old) (Some new) = related old new
 
--- .. with at most four times as many touches as slots
+-- Slots, if known, are filled anew with at most four times as many touches as there were slots.
 abbrev pub AreCompacted : ℕ → Option Slots → Option Slots → Type 0
 AreCompacted count = IfKnown (λ old. AreFilledAnew count (4 * old.count) old)
 
--- a call of the closure: the pointer that an entry had, the value that it was shown, the pointer that the entry has, and
--- the value that it left
+-- A call of the closure: the entry's old pointer, the value passed, the new pointer, and the value
+-- left.
 pub record Visit (P T : Type 0) : Type 0 where
   pub from : P
   pub shown : T
@@ -45,7 +47,7 @@ pub record Visit (P T : Type 0) : Type 0 where
   pub left : T
 
 module _ {F P T : Type 0} (g : Mut F (P × (MutBor T × (P × Unit {0}))) (Unit {0} × (MutBor T × Unit {0}))) where
-  -- such a call takes the closure from the one state to the other
+  -- Such a call changes the closure from `f` to `next`.
   pub record IsVisit (f : F) (visit : Visit P T) (next : F) : Type 0 where
     pub lent : MutBor T
     pub shows : lent.now ≡ visit.shown
@@ -53,7 +55,7 @@ module _ {F P T : Type 0} (g : Mut F (P × (MutBor T × (P × Unit {0}))) (Unit 
     pub called : Called g f (visit.from, (lent, (visit.to, tt))) (tt, (back, tt)) next
     pub leaves : back.now ≡ visit.left
 
-  -- the closure sees each entry once, in the order of the entries, and the entries afterwards are as it left them
+  -- The closure visits each entry once, in order, and the new entries are as it left them.
   pub record VisitsAll {Gen : Type 0} (key : P → ℕ × Gen) (f : F) (old new : List ((ℕ × Gen) × T)) : Type 0 where
     pub visits : List (Visit P T)
     pub last : F
@@ -62,11 +64,12 @@ module _ {F P T : Type 0} (g : Mut F (P × (MutBor T × (P × Unit {0}))) (Unit 
     pub after : map (λ v. (key v.to, v.left)) visits ≡ new
 
 module _ {Gen T : Type 0} where
-  -- an arena whose entries have come to the indexes from 1 to their number; values are not looked at
+  -- An arena whose entries were moved to the indexes from 1 to their number. Values are not
+  -- compared.
   pub record IsCompressed (first : Gen) (following : Gen → Gen) (reset : Bool) (old new : ArenaView Gen T) : Type 0 where
     pub indexes : map index_of new.entries ≡ range_with_len 1 (length old.entries)
     pub counter : new.counter ≡ option_map (counter_after_compression first following reset (length old.entries)) old.counter
-    -- all entries have one generation, which is the counter where that is told
+    -- All entries have one generation, which is the counter, if that is known.
     pub generation : Gen
     pub generations : All (λ e. e.0.1 ≡ generation) new.entries
     pub is_counter : IfSome new.counter (λ g. g ≡ generation)
@@ -74,6 +77,6 @@ module _ {Gen T : Type 0} where
     pub capacity : new.capacity ≡ old.capacity
     pub maximum : new.maximum ≡ old.maximum
 
-  -- the values of entries
+  -- The values of entries.
   abbrev pub values_in : List ((ℕ × Gen) × T) → List T
   values_in es = map (λ e. e.1) es

@@ -1,55 +1,56 @@
--- The slots of an arena while entries are moved, and what the arena is before and after.
+-- The slots of an arena while entries are moved, and the arena before and after.
 use Rattle.std.specs.Prelude.{◌≡◌, ℕ, suc, ◌+◌, ◌-◌, ◌^◌, ◌≤◌, ◌<◌, min, List, [], ◌∷◌, Option, None, Some, IsSome}
 use Rattle.std.specs.Option.{option_map}
 use Rattle.std.specs.Borrow.{Bor}
 use Rattle.arena_base.specs.Arena.{Arena, slot_at, with_slot}
 
--- the slots that a compactor holds, with the capacity and the maximum of their stack
+-- The slots that a compactor holds, with the capacity and the maximum of their stack.
 pub record Held (Gen T : Type 0) : Type 0 where
   pub slots : List (Option (Gen × T))
   pub stack_capacity : ℕ
   pub maximum : Option ℕ
 
--- a count of work: it stays at its greatest value
+-- A saturating count of work, plus one.
 abbrev pub one_more : ℕ → ℕ
 one_more n = min (n + 1) (2 ^ 128 - 1)
 
 module _ {X : Type 0} where
-  -- a free slot at the end is cut off
+  -- A slot before trimmed slots, removed if it is free and last.
   abbrev pub before_cut : Option X → List (Option X) → List (Option X)
   before_cut None [] = []
   before_cut None (slot ∷ slots) = None ∷ slot ∷ slots
   before_cut (Some x) slots = Some x ∷ slots
 
-  -- the slots without the free ones at the end
+  -- The slots without the free ones at the end.
   abbrev pub trimmed : List (Option X) → List (Option X)
   trimmed [] = []
   trimmed (slot ∷ slots) = before_cut slot (trimmed slots)
 
-  -- the indexes of the free slots by rising index, where the first slot has index i
+  -- The rising indexes of the free slots, where the first slot has index `i`.
   abbrev pub free_from : ℕ → List (Option X) → List ℕ
   free_from i [] = []
   free_from i (None ∷ slots) = i ∷ free_from (suc i) slots
   free_from i (Some x ∷ slots) = free_from (suc i) slots
 
--- entries stand at the indexes from 1 to n, and at no others
+-- Exactly the indexes from 1 to `n` have entries.
 pub record IsPacked {X : Type 0} (slots : List (Option X)) (n : ℕ) : Type 0 where
   pub taken : (i : ℕ) → 1 ≤ i → i ≤ n → IsSome (slot_at slots i)
   pub free : (i : ℕ) → n < i → slot_at slots i ≡ None
 
 module _ {Gen T : Type 0} where
-  -- an entry as a look at both its parts shows it
+  -- An entry read through borrows of both its parts.
   abbrev pub borrowed_parts : Bor Gen × Bor T → Gen × T
   borrowed_parts e = (e.0.now, e.1.now)
 
   abbrev pub held_of : Arena Gen T → Held Gen T
   held_of a = record { slots = a.slots; stack_capacity = a.stack_capacity; maximum = a.maximum }
 
-  -- the arena whose slots are taken out: empty over a new stack, with its counter and totals
+  -- The arena without its slots: empty over a new stack, with its counter and totals.
   abbrev pub lent_out : Option ℕ → Arena Gen T → Arena Gen T
   lent_out maximum a = record a { slots = []; freed = []; capacity = 0; stack_capacity = 0; maximum = maximum }
 
-  -- the arena that got slots back: those at the end that are free are cut off, and the others listed, the least index first
+  -- The arena after slots are returned: free slots at the end are removed, and the others listed by
+  -- rising index.
   abbrev pub returned : ℕ → Arena Gen T → Held Gen T → Arena Gen T
   returned greatest a held = record a {
     slots = trimmed held.slots;
@@ -65,17 +66,18 @@ module _ {Gen T : Type 0} where
   abbrev pub with_placement : Arena Gen T → Arena Gen T
   with_placement a = record a { placed = a.placed + 1 }
 
-  -- the slots at two indexes exchanged, the entry from the first with a new generation
+  -- The slots at two indexes are swapped, and the entry from the first gets a generation.
   abbrev pub with_placed_entry : Held Gen T → ℕ → ℕ → Gen → Held Gen T
   with_placed_entry held from to g = record held {
     slots = with_slot (with_slot held.slots from (slot_at held.slots to)) to (option_map (λ e. (g, e.1)) (slot_at held.slots from));
   }
 
-  -- the slots with another value at an index, if an entry stands there
+  -- The slots with the value at an index replaced, if it has an entry.
   abbrev pub held_with_value : Held Gen T → ℕ → T → Held Gen T
   held_with_value held i t = record held { slots = with_slot held.slots i (option_map (λ e. (e.0, t)) (slot_at held.slots i)) }
 
-  -- what holds slots after a look at one: they are as they were, and it was counted; where a value was written there, it stands there
+  -- After an access the held slots are unchanged, or have the written value, and one touch is
+  -- counted.
   module _ {C : Type 0} (held : C → Held Gen T) (touches : C → C → Type 0) (old : C) where
     abbrev pub IsTouched : C → Type 0
     IsTouched new = (held new ≡ held old) × touches old new

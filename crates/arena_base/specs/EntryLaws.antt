@@ -1,4 +1,4 @@
--- The entries of slots rise, and an index finds among them what stands in its slot.
+-- The entries of slots rise, and a lookup by index among them finds the entry of the slot.
 use Rattle.std.specs.Prelude.{◌≡◌, ℕ, zero, suc, ◌+◌, ◌<◌, ◌≤◌, cond, List, [], ◌∷◌, Option, None, Some, slice_index_or}
 use Rattle.std.proofs.Common.{refl, ap, ◌∙◌, arith}
 use Rattle.std.proofs.lemmas.Bool.{eq-eqb, ne_eqb}
@@ -14,7 +14,7 @@ module _ {Gen T : Type 0} where
   pub entries_rise : (a : Arena Gen T) → RisesFrom 1 (entries a)
   entries_rise a = rises_later 1 1 a.slots (omega arith)
 
-  -- no entry has an index below that of the first slot
+  -- No entry has an index below the first slot's.
   pub found-below : (i j : ℕ) (slots : List (Option (Gen × T))) → i < j → found i (entries_from j slots) ≡ None
   found-below i j [] below = refl
   found-below i j (None ∷ slots) below = found-below i (suc j) slots (omega (arith, below))

@@ -1,4 +1,4 @@
--- Slots whose gaps are closed: the entries stand at the front.
+-- Slots after holes are closed: the entries are at the front.
 use Rattle.std.specs.Prelude.{◌≡◌, ℕ, ◌+◌, List, [], ◌++◌, map, replicate, length, Option, None, Some}
 use Rattle.std.specs.Fn.{Mut}
 use denote.Ref.{MutBor}
@@ -8,23 +8,24 @@ use Rattle.arena_base.specs.DetachedSlots.{Held}
 use Rattle.arena_base.specs.Compressions.{VisitsAll}
 
 module _ {Gen T : Type 0} where
-  -- values that all have one generation, in slots before others
+  -- Entries of one generation with these values, followed by `slots`.
   abbrev pub fronted : Gen → List T → List (Option (Gen × T)) → List (Option (Gen × T))
   fronted g values slots = map (λ t. Some (g, t)) values ++ slots
 
-  -- the slots once the gaps are closed, as many as before: entries with the generation at the front, and then free ones
+  -- The slots after holes are closed, as many as before: entries of generation `g`, and then free
+  -- slots.
   pub record AreClosed (g : Gen) (old new : Held Gen T) : Type 0 where
     pub values : List T
     pub free : ℕ
     pub held : new ≡ record old { slots = fronted g values (replicate free None) }
     pub same_length : length values + free ≡ length old.slots
 
-  -- the arena after some more placements and touches
+  -- The arena after more placements and touches.
   abbrev pub with_totals : Arena Gen T → ℕ → ℕ → Arena Gen T
   with_totals a placements touches = record a { placed = a.placed + placements; touched = a.touched + touches }
 
-  -- the arena whose slots are exactly some values, each placed once with the counter as its generation. Each slot was
-  -- looked at once, and each value lent once
+  -- The arena whose slots are exactly `values`, each placed once with the counter as its
+  -- generation. Each slot was read once, and each value lent once.
   abbrev pub gathered : Arena Gen T → List T → Arena Gen T
   gathered a values = record a {
     slots = fronted a.counter values [];
@@ -33,7 +34,7 @@ module _ {Gen T : Type 0} where
     touched = a.touched + (length a.slots + length values);
   }
 
--- the entries of an arena are brought together, and are as the closure left them
+-- The entries are compacted, and are as the closure left them.
 pub record IsGathered {F P T Gen : Type 0} (g : Mut F (P × (MutBor T × (P × Unit {0}))) (Unit {0} × (MutBor T × Unit {0}))) (key : P → ℕ × Gen) (f : F) (old new : Arena Gen T) : Type 0 where
   pub values : List T
   pub arena : new ≡ gathered old values

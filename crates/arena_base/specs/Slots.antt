@@ -1,27 +1,28 @@
--- How an arena is stored in its slots. Public clauses cite `entry_of` and `ThreadsFreeList`, for the stack of slots.
+-- The representation of an arena in its slots. Public clauses cite `entry_of` and
+-- `ThreadsFreeList`.
 use Rattle.std.specs.Prelude.{◌≡◌, ℕ, zero, suc, ◌+◌, ◌≤◌, ⊤, List, [], ◌∷◌, map, min, length, count_by, is_some, slice_get, Option, None, Some}
 use Rattle.arena_base.specs.DetachedSlots.{Held}
 use Rattle.arena_base.specs.Arena.{Arena, IsMember, AreDistinct}
 use Rattle.arena_base.specs.declared.slot.ArenaSlot.{ArenaSlot}
 use Rattle.arena_base.specs.declared.slot.ArenaSlot.TheVariants.{Allocated, Free}
 
--- the item at an index: no index is 0
+-- The item at an index; none at index 0.
 abbrev pub item_at : {X : Type 0} → List X → ℕ → Option X
 item_at items zero = None
 item_at items (suc k) = slice_get items k
 
 module _ {P T Inx Gen Word : Type 0} where
-  -- the entry of a slot
+  -- The entry of a slot.
   abbrev pub entry_of : ArenaSlot P T Inx Gen Word → Option (Gen × T)
   entry_of (Allocated generation t) = Some (generation, t)
   entry_of (Free next) = None
 
-  -- the slot with another value, if it has one
+  -- The slot with its value replaced, if it has one.
   abbrev pub with_value_in : ArenaSlot P T Inx Gen Word → T → ArenaSlot P T Inx Gen Word
   with_value_in (Allocated generation t) w = Allocated generation w
   with_value_in (Free next) w = Free next
 
-  -- the slot with another generation, if it has one
+  -- The slot with its generation replaced, if it has one.
   abbrev pub with_generation_in : ArenaSlot P T Inx Gen Word → Gen → ArenaSlot P T Inx Gen Word
   with_generation_in (Allocated generation t) g = Allocated g t
   with_generation_in (Free next) g = Free next
@@ -32,60 +33,60 @@ module _ {P T Inx Gen Word : Type 0} where
   abbrev pub free_slot : Option Inx → ArenaSlot P T Inx Gen Word
   free_slot next = Free next
 
-  -- the slot without its entry, if it has one
+  -- The slot with its entry, if it has one, removed.
   abbrev pub freed_slot : ArenaSlot P T Inx Gen Word → Option Inx → ArenaSlot P T Inx Gen Word
   freed_slot (Allocated generation t) next = Free next
   freed_slot (Free other) next = Free other
 
-  -- the entry of a slot that may be none
+  -- The entry of an optional slot.
   abbrev pub entry_in : Option (ArenaSlot P T Inx Gen Word) → Option (Gen × T)
   entry_in None = None
   entry_in (Some slot) = entry_of slot
 
-  -- there is a slot, and it is free
+  -- There is a slot, and it is free.
   abbrev pub IsFree : Option (ArenaSlot P T Inx Gen Word) → Type 0
   IsFree None = ⊥
   IsFree (Some (Allocated generation t)) = ⊥
   IsFree (Some (Free next)) = ⊤
 
-  -- the slots with another generation at a position
+  -- The slots with the generation at a position replaced.
   abbrev pub with_generation_at : List (ArenaSlot P T Inx Gen Word) → ℕ → Gen → List (ArenaSlot P T Inx Gen Word)
   with_generation_at [] k g = []
   with_generation_at (slot ∷ slots) zero g = with_generation_in slot g ∷ slots
   with_generation_at (slot ∷ slots) (suc k) g = slot ∷ with_generation_at slots k g
 
-  -- the free slot that a slot names as the next
+  -- The next free slot that a slot names.
   abbrev pub next_free : Option (ArenaSlot P T Inx Gen Word) → Option Inx
   next_free None = None
   next_free (Some (Allocated generation t)) = None
   next_free (Some (Free next)) = next
 
--- the slot with its value, if it has one, left out
+-- The slot without its value, if it has one.
 abbrev pub without_value : {P T Inx Gen Word : Type 0} → ArenaSlot P T Inx Gen Word → ArenaSlot P (Unit {0}) Inx Gen Word
 without_value (Allocated generation t) = Allocated generation tt
 without_value (Free next) = Free next
 
--- slots with their values left out
+-- The slots without their values.
 abbrev pub without_values : {P T Inx Gen Word : Type 0} → List (ArenaSlot P T Inx Gen Word) → List (ArenaSlot P (Unit {0}) Inx Gen Word)
 without_values slots = map without_value slots
 
 module _ {P T Inx Gen Word : Type 0} (number : Inx → ℕ) (slots : List (ArenaSlot P T Inx Gen Word)) where
-  -- the freed indexes from a first one on, at most so many
+  -- The freed indexes from a first one, at most so many.
   abbrev pub freed_from : ℕ → Option Inx → List ℕ
   freed_from zero head = []
   freed_from (suc most) None = []
   freed_from (suc most) (Some i) = number i ∷ freed_from most (next_free (item_at slots (number i)))
 
-  -- these are the freed indexes from a first one on: each names the next
+  -- The list is that of the freed indexes from `head`: each names the next.
   abbrev pub IsFreeList : List ℕ → Option Inx → Type 0
   IsFreeList [] head = head ≡ None
   IsFreeList (n ∷ ns) head = (i : Inx) × (next : Option Inx) × (head ≡ Some i) × (number i ≡ n) × (item_at slots n ≡ Some (Free next)) × IsFreeList ns next
 
-  -- the free slots thread these indexes: the slot at each one names the one after it
+  -- The list threads the free slots: each one's slot names the next.
   abbrev pub ThreadsFreeList : List ℕ → Type 0
   ThreadsFreeList freed = (head : Option Inx) × IsFreeList freed head
 
-  -- `len` counts the entries, and the freed list from `head` holds every free slot once
+  -- `len` counts the entries, and the freed list from `head` holds every free slot once.
   pub record IsSound (greatest len : ℕ) (head : Option Inx) (freed : List ℕ) : Type 0 where
     pub linked : IsFreeList freed head
     pub apart : AreDistinct freed
@@ -94,11 +95,11 @@ module _ {P T Inx Gen Word : Type 0} (number : Inx → ℕ) (slots : List (Arena
     pub total : len + length freed ≡ length slots
     pub fits : length slots ≤ greatest
 
-  -- the freed list of all slots
+  -- The freed list of all slots.
   abbrev pub freed_of : Option Inx → List ℕ
   freed_of head = freed_from (length slots) head
 
--- an arena of slots, with its freed list
+-- An arena of slots, with its freed list.
 abbrev pub arena_of : {P T Inx Gen Word : Type 0} → List (ArenaSlot P T Inx Gen Word) → List ℕ → Gen → ℕ → ℕ → Option ℕ → ℕ → ℕ → Arena Gen T
 arena_of slots freed counter greatest capacity maximum placed touched = record {
   slots = map entry_of slots;
@@ -111,6 +112,6 @@ arena_of slots freed counter greatest capacity maximum placed touched = record {
   touched = touched;
 }
 
--- slots that a compactor holds
+-- The slots that a compactor holds.
 abbrev pub held_slots : {P T Inx Gen Word : Type 0} → List (ArenaSlot P T Inx Gen Word) → ℕ → Option ℕ → Held Gen T
 held_slots slots capacity maximum = record { slots = map entry_of slots; stack_capacity = capacity; maximum = maximum }

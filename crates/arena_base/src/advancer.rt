@@ -1,4 +1,4 @@
-// Advancers over the pointers of arenas, by rising or falling index.
+// The advancer over the pointers of an arena, by rising or falling index.
 ghost use Rattle.std.specs.Prelude.{◌≡◌, if◌then◌else◌};
 
 use crate::arena::Arena;
@@ -8,10 +8,11 @@ use crate::traits::Advancer;
 use arena_ptr::{PtrKey, SlotStack};
 use std::marker::PhantomData;
 
-/// Goes over the valid pointers of an arena by rising or falling index. Once it has answered `None` it answers nothing
-/// else.
+/// An advancer over the valid pointers of an arena, by rising or falling index.
 ///
-/// Carries `PtrAdvancer` of `triple_arena`, with which one type serves the plain and the chain arena.
+/// After its first `None` it returns only `None`.
+///
+/// Port of `PtrAdvancer`. One type serves the plain arena and the chain arena.
 #[derive(Drop)]
 pub struct PtrAdvancer<P> {
     look: Cursor,
@@ -19,7 +20,7 @@ pub struct PtrAdvancer<P> {
 }
 
 impl<P> PtrAdvancer<P> {
-    /// By rising index from an index on.
+    /// Returns an advancer by rising index that starts at index `from`.
     pub(crate) fn up(from: usize) -> Self
         ensures { result.look ≡ Cursor.Up from }
     {
@@ -29,7 +30,7 @@ impl<P> PtrAdvancer<P> {
         }
     }
 
-    /// From an index on, by rising or, with `rev`, by falling index.
+    /// Returns an advancer that starts at index `from`, by rising or, with `rev`, by falling index.
     pub(crate) fn begin(from: usize, rev: bool) -> Self
         ensures { result.look ≡ (if rev then Cursor.Down from else Cursor.Up from) }
     {

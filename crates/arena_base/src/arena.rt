@@ -1,4 +1,4 @@
-// The generational arena and its own calls.
+// The generational arena and its inherent functions.
 ghost use Rattle.std.specs.Prelude.{◌≡◌, [], min, ◌<◌, ◌≤◌, ◌+◌, ◌↔◌, IsTrue, IsSome, IfSome, IfNone, IsErr, IfOk, IsOk, OnOk, OnErr, Some, None, Ok, Err, length, drop, take, slice_index_or, map, ◌^◌};
 ghost use Rattle.std.specs.Option.{option_map};
 ghost use Rattle.arena_ptr.specs.SlotStack.{IsBeyond};
@@ -22,13 +22,14 @@ use arena_ptr::{
 use std::marker::Model;
 use std::mem;
 
-/// An arena: entries under indexes from 1 on, each with a generation, in a stack of slots.
+/// A generational arena: entries at indexes from 1, each with a generation, in a stack of slots.
 ///
-/// A freed index is used again, the last freed first; else the next index is the number of slots plus one. The one
-/// counter of generations begins at two; an insertion gives it to its entry, and a removal increments it. No
-/// clause tells time: as they are written, insertion, look-up and removal take constant time, but where an insertion grows.
+/// An insertion reuses the index freed last; if none is free, the next index is the number of slots
+/// plus one. A single generation counter starts at two: an insertion gives it to the new entry, and
+/// a removal increments it. Insertion, lookup and removal take constant time, unless an insertion
+/// grows the arena; no clause states the time.
 ///
-/// Carries `Arena` of `triple_arena`.
+/// Port of `Arena`.
 #[derive(Drop)]
 pub struct Arena<
     P: PtrKey,
@@ -38,7 +39,7 @@ pub struct Arena<
     pub(crate) slots: S,
     // The number of entries.
     pub(crate) len: usize,
-    // The index to be used next, where a slot is free.
+    // The index to use next, if a slot is free.
     pub(crate) first_free: Option<P::Inx>,
     pub(crate) counter: P::Gen,
     pub(crate) placed: Tally,
@@ -61,7 +62,7 @@ impl<P: PtrKey, T: Drop, S: SlotStack<Item = ArenaSlot<P, T>>> Model for Arena<P
 }
 
 impl<P: PtrKey, T: Drop, S: SlotStack<Item = ArenaSlot<P, T>>> Arena<P, T, S> {
-    // An arena over an empty stack.
+    // Returns an arena over an empty stack.
     pub(crate) fn over(slots: S) -> Self
         requires { S.items slots ≡ [] }
         ensures { result ≡ record (new_arena P.Gen.first (S.maximum slots)) {
@@ -80,7 +81,7 @@ impl<P: PtrKey, T: Drop, S: SlotStack<Item = ArenaSlot<P, T>>> Arena<P, T, S> {
         }
     }
 
-    /// The counter: the generation of the next entry.
+    /// Returns the counter: the generation of the next entry.
     pub fn generation(&self) -> P::Gen
         ensures { result ≡ self.now.counter }
     {
@@ -94,7 +95,7 @@ impl<P: PtrKey, T: Drop, S: SlotStack<Item = ArenaSlot<P, T>>> Arena<P, T, S> {
         self.counter = counter;
     }
 
-    /// Increments the counter. `GenerationOverflow`: it was at its greatest, and is two now.
+    /// Increments the counter. Returns `GenerationOverflow` if it wrapped to two.
     pub fn inc_generation(&mut self) -> InvalidationOption<()>
         ensures overflow { result ≡ invalidation_option (P.Gen.wraps self.old.counter) tt }
         ensures after { self.new ≡ with_counter self.old (P.Gen.following self.old.counter) }
@@ -104,7 +105,7 @@ impl<P: PtrKey, T: Drop, S: SlotStack<Item = ArenaSlot<P, T>>> Arena<P, T, S> {
         invalidated(overflow, ())
     }
 
-    /// The slots.
+    /// Returns the slots.
     pub fn backing(&self) -> &S
         ensures slots { map entry_of (S.items result.now) ≡ self.now.slots }
         ensures freed { ThreadsFreeList P.Inx.number (S.items result.now) self.now.freed }
@@ -115,10 +116,15 @@ impl<P: PtrKey, T: Drop, S: SlotStack<Item = ArenaSlot<P, T>>> Arena<P, T, S> {
         &self.slots
     }
 
-    /// Adds an entry at the next index, with the counter as its generation, and answers its pointer. It takes no memory.
+    /// Inserts an entry at the next index, with the counter as its generation, and returns its
+    /// pointer.
     ///
-    /// `NotWithinCapacityError`: there are as many entries as the capacity. Then nothing has changed, and the value is
-    /// dropped.
+    /// No memory is allocated.
+    ///
+    /// # Errors
+    ///
+    /// `NotWithinCapacityError`: there are as many entries as the capacity. Nothing changes then,
+    /// and the value is dropped.
     pub fn insert_within_capacity(&mut self, t: T) -> Result<P, NotWithinCapacityError>
         ensures refused { IsErr result ↔ (entry_count self.old ≡ self.old.capacity) }
         ensures ptr { IfOk result (λ p. P.key p ≡ (next_index self.old, self.old.counter)) }
@@ -131,11 +137,17 @@ impl<P: PtrKey, T: Drop, S: SlotStack<Item = ArenaSlot<P, T>>> Arena<P, T, S> {
         Ok(self.insert_here(t))
     }
 
-    /// Adds an entry at the next index, with the counter as its generation, and answers its pointer. An arena with as
-    /// many entries as its capacity grows first, as far as its stack goes.
+    /// Inserts an entry at the next index, with the counter as its generation, and returns its
+    /// pointer.
     ///
-    /// `BeyondMaxCapacity`: the growth needed goes beyond the maximum, which is tested first. `AllocError`: it goes
-    /// beyond the greatest index, or memory was refused. After either nothing has changed, and the value is dropped.
+    /// An arena with as many entries as its capacity grows first, as far as its stack does.
+    ///
+    /// # Errors
+    ///
+    /// - `BeyondMaxCapacity`: the growth needed is beyond the maximum.
+    /// - `AllocError`: the growth needed is beyond the greatest index, or memory was refused.
+    ///
+    /// Nothing changes on error, and the value is dropped.
     pub fn insert_reallocating(&mut self, t: T) -> Result<P, ReallocationError>
         ensures ptr { IfOk result (λ p. P.key p ≡ (next_index self.old, self.old.counter)) }
         ensures ok { OnOk result (self.new ≡ with_capacity_of (insert_next self.old t) self.new) }
@@ -155,7 +167,7 @@ impl<P: PtrKey, T: Drop, S: SlotStack<Item = ArenaSlot<P, T>>> Arena<P, T, S> {
         }
     }
 
-    // Grows a full arena to room for one entry more.
+    // Grows a full arena to a capacity for one more entry.
     fn make_room(&mut self) -> Result<(), ReallocationError>
         ensures room { entry_count self.old < self.old.capacity
             → IsOk result × (self.new ≡ self.old) }
@@ -176,7 +188,7 @@ impl<P: PtrKey, T: Drop, S: SlotStack<Item = ArenaSlot<P, T>>> Arena<P, T, S> {
         }
     }
 
-    // Whether there are as many entries as the capacity.
+    // Returns whether there are as many entries as the capacity.
     pub(crate) fn is_full(&self) -> bool
         ensures full { IsTrue result ↔ (entry_count self.now ≡ self.now.capacity) }
         ensures room { HasCapacityFor P.Inx.greatest (entry_count self.now) self.now }
@@ -184,7 +196,8 @@ impl<P: PtrKey, T: Drop, S: SlotStack<Item = ArenaSlot<P, T>>> Arena<P, T, S> {
         self.len == self.slots.capacity().min(P::Inx::greatest())
     }
 
-    // Grows to room for so many entries, more than there is room for. It is not the likely way, so it stays out of line.
+    // Grows to a capacity of at least `n`, which is above the capacity. This is the unlikely path,
+    // so it is not inlined.
     #[cold]
     #[inline(never)]
     pub(crate) fn grow_to(&mut self, n: usize) -> Result<(), ReallocationError>
@@ -203,7 +216,7 @@ impl<P: PtrKey, T: Drop, S: SlotStack<Item = ArenaSlot<P, T>>> Arena<P, T, S> {
         self.slots.reserve_to(n)
     }
 
-    // The pointer and the value of the entry at a position, from 0, if one stands there.
+    // Returns the pointer and the value of the entry at position `k`, from 0, if there is one.
     pub(crate) fn pair_at(&self, k: usize) -> Option<(P, &T)>
         requires { k < P.Inx.greatest }
         ensures key { option_map (λ e. P.key e.0) result ≡ option_map (key_at (k + 1))
@@ -220,9 +233,10 @@ impl<P: PtrKey, T: Drop, S: SlotStack<Item = ArenaSlot<P, T>>> Arena<P, T, S> {
         }
     }
 
-    // The first entry from a position on, from 0: the position behind it, its pointer and its value. The first slot is looked at
-    // alone, since an iteration mostly ends there; and one that goes on from a position does not wait for the generation at it,
-    // as it would for an index out of a pointer.
+    // Returns the first entry at position `from` or later: the position after it, its pointer and
+    // its value. The first slot is tested separately, since the search mostly ends there.
+    // Continuing from a position does not wait for a generation to load, as an index out of a
+    // pointer would.
     pub(crate) fn next_from(&self, from: usize) -> Option<(usize, P, &T)>
         ensures none { IfNone result (entries_from (from + 1) (drop from self.now.slots) ≡ []) }
         ensures some { IfSome result (λ e. IsNextEntry self.now.slots from e.0
@@ -238,7 +252,7 @@ impl<P: PtrKey, T: Drop, S: SlotStack<Item = ArenaSlot<P, T>>> Arena<P, T, S> {
         }
     }
 
-    // .. slot by slot.
+    // Searches slot by slot for the first entry at position `from` or later.
     fn search_from(&self, from: usize) -> Option<(usize, P, &T)>
         ensures none { IfNone result (entries_from (from + 1) (drop from self.now.slots) ≡ []) }
         ensures some { IfSome result (λ e. IsNextEntry self.now.slots from e.0
@@ -253,7 +267,7 @@ impl<P: PtrKey, T: Drop, S: SlotStack<Item = ArenaSlot<P, T>>> Arena<P, T, S> {
         None
     }
 
-    // The valid pointer of least index from a position on, from 0.
+    // Returns the valid pointer of least index at position `from` or later.
     pub(crate) fn first_from(&self, from: usize) -> Option<P>
         ensures key { option_map P.key result ≡ first_key
             (entries_from (from + 1) (drop from self.now.slots)) }
@@ -265,7 +279,7 @@ impl<P: PtrKey, T: Drop, S: SlotStack<Item = ArenaSlot<P, T>>> Arena<P, T, S> {
         }
     }
 
-    // The valid pointer of greatest index up to an index.
+    // Returns the valid pointer of greatest index up to index `to`.
     pub(crate) fn last_to(&self, to: usize) -> Option<P>
         ensures key { option_map P.key result ≡ last_key (entries_from 1 (take to self.now.slots)) }
         ensures fits { IfSome result (λ p. (P.key p).0 + 1 < 2 ^ 64) }
@@ -278,7 +292,7 @@ impl<P: PtrKey, T: Drop, S: SlotStack<Item = ArenaSlot<P, T>>> Arena<P, T, S> {
         None
     }
 
-    // The pointer of the first entry ahead.
+    // Returns the pointer of the first entry ahead of a cursor.
     pub(crate) fn find(&self, look: Cursor) -> Option<P>
         ensures key { option_map P.key result ≡ first_key (ahead look (entries self.now)) }
         ensures fits { IfSome result (λ p. (P.key p).0 + 1 < 2 ^ 64) }
@@ -290,7 +304,7 @@ impl<P: PtrKey, T: Drop, S: SlotStack<Item = ArenaSlot<P, T>>> Arena<P, T, S> {
         }
     }
 
-    // The pointer of the next insertion.
+    // Returns the pointer of the next insertion.
     pub(crate) fn next_ptr(&self) -> P
         requires { entry_count self.now < self.now.capacity }
         ensures { P.key result ≡ (next_index self.now, self.now.counter) }
@@ -303,7 +317,7 @@ impl<P: PtrKey, T: Drop, S: SlotStack<Item = ArenaSlot<P, T>>> Arena<P, T, S> {
         P::_from_raw(i, self.counter)
     }
 
-    // Takes out the entry at an index, if one stands there, and increments the counter.
+    // Removes the entry at an index, if there is one, and increments the counter.
     pub(crate) fn take_at(&mut self, i: P::Inx) -> InvalidationResult<(P::Gen, T)>
         ensures answer { result ≡ invalidation_result (P.Gen.wraps self.old.counter)
             (entry_at self.old (P.Inx.number i)) }
@@ -324,7 +338,7 @@ impl<P: PtrKey, T: Drop, S: SlotStack<Item = ArenaSlot<P, T>>> Arena<P, T, S> {
         }
     }
 
-    // Increments the counter and gives it to the entry at an index.
+    // Increments the counter and makes it the generation of the entry at an index.
     pub(crate) fn renew_at(&mut self, i: P::Inx) -> (P::Gen, bool)
         requires { IsSome (entry_at self.old (P.Inx.number i)) }
         ensures next { result.0 ≡ P.Gen.following self.old.counter }
@@ -337,7 +351,7 @@ impl<P: PtrKey, T: Drop, S: SlotStack<Item = ArenaSlot<P, T>>> Arena<P, T, S> {
         (generation, overflow)
     }
 
-    // Takes the slots out, and leaves the arena empty over a new stack.
+    // Takes the slots, and leaves the arena empty over a new stack.
     pub(crate) fn take_slots(&mut self) -> HeldSlots<P, T, S>
         ensures held { result ≡ held_of self.old }
         ensures after { self.new ≡ lent_out S.initial_maximum self.old }
@@ -350,7 +364,8 @@ impl<P: PtrKey, T: Drop, S: SlotStack<Item = ArenaSlot<P, T>>> Arena<P, T, S> {
         HeldSlots { slots }
     }
 
-    // Takes slots back: those at the end that are free are cut off, and the others listed.
+    // Returns slots to the arena: free slots at the end are removed, and the other free slots are
+    // listed.
     pub(crate) fn return_slots(&mut self, held: HeldSlots<P, T, S>)
         ensures { self.new ≡ returned P.Inx.greatest self.old held }
     {
@@ -362,7 +377,8 @@ impl<P: PtrKey, T: Drop, S: SlotStack<Item = ArenaSlot<P, T>>> Arena<P, T, S> {
         self.first_free = first_free;
     }
 
-    // Takes slots back of which the first so many are the entries: the others are cut off, and none is looked at.
+    // Returns slots to the arena, of which exactly the first `count` are entries. The others are
+    // removed, without reading any.
     pub(crate) fn return_packed(&mut self, held: HeldSlots<P, T, S>, count: usize)
         requires { IsPacked held.slots count }
         ensures { self.new ≡ returned P.Inx.greatest self.old held }
@@ -388,7 +404,7 @@ impl<P: PtrKey, T: Drop, S: SlotStack<Item = ArenaSlot<P, T>>> Arena<P, T, S> {
         self.touched = self.touched.one_more();
     }
 
-    // Adds an entry where there is room.
+    // Inserts an entry within the capacity.
     pub(crate) fn insert_here(&mut self, t: T) -> P
         requires { entry_count self.old < self.old.capacity }
         ensures ptr { P.key result ≡ (next_index self.old, self.old.counter) }
@@ -410,7 +426,7 @@ impl<P: PtrKey, T: Drop, S: SlotStack<Item = ArenaSlot<P, T>>> Arena<P, T, S> {
     }
 }
 
-// Why a growth to so many entries is refused, more than there are indexes.
+// Returns why growth to `n` entries is refused, more than there are indexes.
 fn refusal(maximum: Option<usize>, n: usize) -> ReallocationError
     ensures { (result ≡ ReallocationError.BeyondMaxCapacity) ↔ IsBeyond maximum n }
 {
@@ -426,7 +442,7 @@ fn refusal(maximum: Option<usize>, n: usize) -> ReallocationError
     }
 }
 
-/// The answer of a call that invalidated an entry, or gave out what it was.
+/// Returns `t` as an `InvalidationResult` with this overflow.
 pub fn outcome<T>(overflow: bool, t: T) -> InvalidationResult<T>
     ensures { result ≡ invalidation_result overflow (Some t) }
 {
@@ -437,7 +453,7 @@ pub fn outcome<T>(overflow: bool, t: T) -> InvalidationResult<T>
     }
 }
 
-/// The answer of a call that invalidates.
+/// Returns `t` as an `InvalidationOption` with this overflow.
 pub fn invalidated<T>(overflow: bool, t: T) -> InvalidationOption<T>
     ensures { result ≡ invalidation_option overflow t }
 {
@@ -453,7 +469,12 @@ impl<P: PtrKey, T: Drop, S: LimitStack<Item = ArenaSlot<P, T>>> SetMaxCapacity f
 
     ghost limits = { λ a n b. b ≡ with_maximum a n };
 
-    /// Sets the maximum to `n`. Refused exactly if `n` is below the capacity of the stack, and then nothing changes.
+    /// Sets the maximum to `n`.
+    ///
+    /// # Errors
+    ///
+    /// `MaxCapacityReductionError` exactly if `n` is below the capacity of the stack; nothing
+    /// changes then.
     fn set_max_capacity(&mut self, n: usize) -> Result<(), MaxCapacityReductionError> {
         self.slots.set_max_capacity(n)
     }

@@ -1,4 +1,4 @@
-// The calls that an arena shares with other arenas.
+// The implementation of the arena traits for `Arena`.
 ghost use Rattle.std.specs.Prelude.{◌≡◌, ◌≤◌, ◌<◌, ◌+◌, ◌^◌, length, All, IfSome};
 ghost use Rattle.arena_ptr.specs.Invalidation.{value_within, is_overflow_result};
 ghost use Rattle.std.specs.Option.{option_map};
@@ -86,7 +86,7 @@ impl<P: PtrKey, T: Drop, S: SlotStack<Item = ArenaSlot<P, T>>> ArenaTrait<P, T> 
         ensures filled { IfSome (view_of self.now).slots (CoverSlots (view_of self.now).entries) }
         ensures entries { result ≡ entry_count self.now }
 
-        // The slots, the freed list and the room, in every arena.
+        // The slots, the freed list and the capacity of every arena.
         ensures listed { IsListed self.now }
         ensures room { HasCapacityFor P.Inx.greatest (length self.now.slots) self.now }
     {
@@ -207,7 +207,7 @@ impl<P: PtrKey, T: Drop, S: SlotStack<Item = ArenaSlot<P, T>>> ArenaTrait<P, T> 
 impl<P: PtrKey, T: Drop, S: SlotStack<Item = ArenaSlot<P, T>>> CompactArenaTrait<P, T>
     for Arena<P, T, S> {}
 
-// The answer of a removal without the generation.
+// Drops the generation from the result of a removal.
 fn value_alone<G: Drop, T>(removed: InvalidationResult<(G, T)>) -> InvalidationResult<T>
     ensures value { value_within result ≡ option_map (λ e. e.1) (value_within removed) }
     ensures overflow { is_overflow_result result ≡ is_overflow_result removed }
@@ -219,7 +219,7 @@ fn value_alone<G: Drop, T>(removed: InvalidationResult<(G, T)>) -> InvalidationR
     }
 }
 
-// The counter after so many entries were cleared, and whether it overflowed.
+// Returns the counter after `count` entries were cleared, and whether it overflowed.
 fn after_clear<G: GenKey>(counter: G, count: usize) -> (G, bool)
     ensures next { result.0 ≡ counter_after_clear G.following count counter }
     ensures overflow { result.1 ≡ overflows_after_clear G.wraps count counter }
@@ -231,7 +231,7 @@ fn after_clear<G: GenKey>(counter: G, count: usize) -> (G, bool)
     }
 }
 
-// The counter after a compression of so many entries, and whether it overflowed.
+// Returns the counter after a compression of `count` entries, and whether it overflowed.
 pub(crate) fn after_compression<G: GenKey>(counter: G, count: usize, reset: bool) -> (G, bool)
     ensures next { result.0 ≡ counter_after_compression G.first G.following reset count counter }
     ensures overflow { result.1 ≡ overflows_after_compression G.wraps reset count counter }
@@ -244,7 +244,9 @@ pub(crate) fn after_compression<G: GenKey>(counter: G, count: usize, reset: bool
 }
 
 impl<P: PtrKey, T: Drop, S: SlotStack<Item = ArenaSlot<P, T>>> Arena<P, T, S> {
-    /// Shows what holds of every arena. It has no effect: a function calls it where its proof needs one of these facts.
+    /// Establishes facts that hold for every arena.
+    ///
+    /// It has no effect: a function calls it where its proof needs one of these facts.
     pub fn invariants(&self)
         ensures fits { entry_count self.now ≤ self.now.capacity }
         ensures one_more { length (entries self.now) + 1 < 2 ^ 64 }

@@ -1,4 +1,4 @@
-// The compactor: it holds the slots of an arena while entries are moved.
+// The compactor, which holds the slots of an arena while entries are moved.
 ghost use Rattle.std.specs.Prelude.{◌≡◌, ◌≢◌, ◌≤◌, ◌<◌, ⊤, None, OnSome, IsSome, length};
 ghost use Rattle.std.specs.Option.{option_map, option_copied_mut};
 ghost use Rattle.std.specs.Borrow.{LendsSo, follows_so, sem};
@@ -11,16 +11,19 @@ use crate::detached_slots::{HeldSlots, LendsValue};
 use crate::slot::ArenaSlot;
 use arena_ptr::{HeapStack, PtrKey, SlotStack};
 
-/// What a compactor did: how many entries it placed, and how many slots it was asked for. Each count stays at 2^128 - 1
-/// once it is there.
+/// The work of a compactor: the number of placed entries, and of accesses to slots.
+///
+/// Each count saturates at 2^128 - 1.
 #[derive(Debug, Clone, Copy, PartialEq, Eq)]
 pub struct Work {
     pub placed: u128,
     pub touched: u128,
 }
 
-/// The slots of an arena, out of it while entries are moved. `finish`, `finish_packed` and the drop put them back; until
-/// then the arena is empty, over a new stack. None of its calls takes memory or changes the counter.
+/// The slots of an arena, taken out of it while entries are moved.
+///
+/// `finish`, `finish_packed` and dropping return the slots. Until then the arena is empty, over a
+/// new stack. None of the calls allocates or changes the counter.
 pub struct Compactor<
     'a,
     P: PtrKey,
@@ -34,7 +37,7 @@ pub struct Compactor<
 }
 
 impl<P: PtrKey, T: Drop, S: SlotStack<Item = ArenaSlot<P, T>>> Arena<P, T, S> {
-    /// Takes the slots out, for moving entries.
+    /// Takes the slots out of the arena into a compactor, to move entries.
     pub fn compactor(&mut self) -> Compactor<'_, P, T, S>
         ensures same_reference { result.arena.ghost_name ≡ self.entry.ghost_name }
         ensures arena { result.arena.now ≡ lent_out S.initial_maximum self.old }
@@ -54,14 +57,14 @@ impl<P: PtrKey, T: Drop, S: SlotStack<Item = ArenaSlot<P, T>>> Arena<P, T, S> {
 }
 
 impl<'a, P: PtrKey, T: Drop, S: SlotStack<Item = ArenaSlot<P, T>>> Compactor<'a, P, T, S> {
-    /// How many slots there are. No call but those that put them back changes it.
+    /// Returns the number of slots, which only the calls that return the slots change.
     pub fn slots(&self) -> usize
         ensures { result ≡ length self.now.held.slots }
     {
         self.held.len()
     }
 
-    /// Exchanges two slots, gives the entry now at `to` a generation, and counts one placement.
+    /// Swaps two slots, sets the generation of the entry now at `to`, and counts one placement.
     pub fn place(&mut self, from: P::Inx, to: P::Inx, generation: P::Gen)
         requires from { P.Inx.number from ≤ length self.old.held.slots }
         requires to { P.Inx.number to ≤ length self.old.held.slots }
@@ -78,8 +81,10 @@ impl<'a, P: PtrKey, T: Drop, S: SlotStack<Item = ArenaSlot<P, T>>> Compactor<'a,
         self.held.place(from, to, generation);
     }
 
-    /// Brings an entry to a free slot, or leaves it in its own, gives it a generation, and counts one placement. That is what
-    /// `place` does there.
+    /// Moves an entry to a free slot, or keeps it in its own, sets its generation, and counts one
+    /// placement.
+    ///
+    /// `place` has the same effect there.
     pub fn bring(&mut self, from: P::Inx, to: P::Inx, generation: P::Gen)
         requires to { P.Inx.number to ≤ length self.old.held.slots }
         requires entry { IsSome (slot_at self.old.held.slots (P.Inx.number from)) }
@@ -97,8 +102,10 @@ impl<'a, P: PtrKey, T: Drop, S: SlotStack<Item = ArenaSlot<P, T>>> Compactor<'a,
         self.held.bring(from, to, generation);
     }
 
-    /// Cuts free slots off the end, lists the others, the least index to be used first, and gives the slots back to the
-    /// arena. Answers what was counted.
+    /// Returns the slots to the arena, and what was counted.
+    ///
+    /// Free slots at the end are removed. The other free slots are listed, with the least index to
+    /// be used first.
     pub fn finish(self) -> Work
         ensures arena { self.exit.0.now ≡ returned P.Inx.greatest self.entry.arena.now
             self.entry.held }
@@ -115,8 +122,9 @@ impl<'a, P: PtrKey, T: Drop, S: SlotStack<Item = ArenaSlot<P, T>>> Compactor<'a,
         Work { placed, touched }
     }
 
-    /// Gives the slots back as `finish` does, where the first so many are the entries and no others: then it looks at none
-    /// of them. Answers what was counted.
+    /// Returns the slots to the arena as `finish` does, and what was counted, but reads no slot.
+    ///
+    /// Exactly the first `count` slots must be entries.
     pub fn finish_packed(self, count: usize) -> Work
         requires { IsPacked self.held.slots count }
         ensures arena { self.exit.0.now ≡ returned P.Inx.greatest self.entry.arena.now
@@ -149,21 +157,21 @@ impl<'a, P: PtrKey, T: Drop, S: SlotStack<Item = ArenaSlot<P, T>>> Drop for Comp
     }
 }
 
-/// The looks into the slots that a compactor holds.
+/// Access to the slots that a compactor holds.
 pub trait SlotAccess<P: PtrKey, T: Drop> {
     ghost held: { Self → Held P.Gen T };
 
-    // The second is the first after one touch, but for what it holds.
+    // The second is the first after one touch, apart from what it holds.
     ghost touches: { Self → Self → Type 0 };
 
-    /// The generation and the value at an index. Counts one touch.
+    /// Returns the generation and the value at an index. Counts one touch.
     fn peek(&mut self, i: P::Inx) -> Option<(&P::Gen, &T)>
         ensures* after { sem 𝓛 (follows_so Self.row Self.row self.entry.ghost_name none (λ _ _. ⊤)
             (IsTouched held touches self.old)) }
         ensures value { option_map borrowed_parts result ≡ slot_at (held self.old).slots
             (P.Inx.number i) };
 
-    /// The value at an index, for writing. Counts one touch.
+    /// Returns the value at an index, for writing. Counts one touch.
     fn value_mut(&mut self, i: P::Inx) -> Option<&mut T>
         ensures* writes_back { sem 𝓛 (LendsSo Self.row T.row self.entry result
             (λ new t. OnSome result (IsWrittenAt held touches self.old (P.Inx.number i) new t))

@@ -1,4 +1,4 @@
-// Entries brought together at the indexes from 1 on, in the order of their indexes.
+// Compaction of the entries to the indexes from 1, in the order of their indexes.
 ghost use Rattle.std.specs.Prelude.{◌≡◌, ◌≢◌, ◌≤◌, ◌<◌, ◌+◌, length, None, OnSome, IfNone};
 ghost use Rattle.std.specs.Option.{option_map};
 ghost use Rattle.arena_base.specs.Arena.{slot_at};
@@ -13,8 +13,8 @@ use crate::excluded;
 use crate::slot::{ArenaSlot, inx_at};
 use arena_ptr::{PtrKey, SlotStack};
 
-// Brings the entry at an index to a free one, where one stands there, and gives it a generation. Answers the generation
-// that it had.
+// Moves the entry at index `from`, if there is one, to index `to`, free or its own. Sets its
+// generation and returns the old one.
 fn close_gap<P: PtrKey, T: Drop, S: SlotStack<Item = ArenaSlot<P, T>>>(
     compactor: &mut Compactor<'_, P, T, S>,
     from: P::Inx,
@@ -42,9 +42,9 @@ fn close_gap<P: PtrKey, T: Drop, S: SlotStack<Item = ArenaSlot<P, T>>>(
     Some(was)
 }
 
-// Brings each entry to the first index that is free, by rising index, gives it the generation, and shows it to the
-// closure: with the pointer that it had, its value, for writing, and the pointer that it has. Each slot is looked at
-// once, and each value lent once. Answers the number of entries, which stand in the first slots then.
+// Moves each entry, by rising index, to the first free index, and sets its generation. Calls `map`
+// with the entry's old pointer, its value, for writing, and its new pointer. Each slot is read
+// once, and each value lent once. Returns the number of entries, which then are in the first slots.
 fn close_gaps<
     P: PtrKey,
     T: Drop,
@@ -78,8 +78,8 @@ fn close_gaps<
 }
 
 impl<P: PtrKey, T: Drop, S: SlotStack<Item = ArenaSlot<P, T>>> Arena<P, T, S> {
-    // Brings the entries together, gives each the counter as its generation, and shows each to the closure. The slots are
-    // exactly the entries then.
+    // Compacts the entries, makes the counter the generation of each, and calls `map` for each. The
+    // slots are exactly the entries then.
     pub(crate) fn gather<F: FnMut(P, &mut T, P) + Drop>(&mut self, map: F)
         requires { F.IsAlwaysCallable map }
         ensures { IsGathered F.FnMut P.key map self.old self.new }

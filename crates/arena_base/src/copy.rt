@@ -1,4 +1,4 @@
-// An arena made a copy of another, with other values.
+// Copying of an arena into another, with other values.
 ghost use Rattle.std.specs.Prelude.{◌≡◌, ◌≤◌, ◌↔◌, ◌⊎◌, [], map, length, IsOk, OnOk, OnErr, Err};
 ghost use Rattle.arena_ptr.specs.SlotStack.{IsBeyond};
 ghost use Rattle.arena_base.specs.Arena.{HasCapacityFor, IsWithinReach};
@@ -12,7 +12,7 @@ use crate::slot::{ArenaSlot, inx_at};
 use crate::traits::{ArenaCloneFromWith, ArenaTrait, ValueMap};
 use arena_ptr::{AllocError, PtrKey, ReallocationError, SlotStack};
 
-/// Makes the values of a copy by a closure, which sees the pointer and the value of each entry.
+/// A `ValueMap` by a closure, which is called with the pointer and the value of each entry.
 #[derive(Drop)]
 pub struct Answering<F> {
     /// The closure.
@@ -33,9 +33,9 @@ impl<P, U, T, F: FnMut(P, &U) -> T + Drop> ValueMap<P, U, T> for Answering<F> {
     }
 }
 
-// Appends a copy of each slot to an empty stack: a free one names the same next, and an entry has the same generation,
-// and a value that the map makes. It is shown each entry once, by rising index, up to the first value that is refused, and
-// handed back.
+// Appends a copy of each slot to an empty stack. A free slot names the same next one; an entry
+// keeps its generation and has a value made by `values`. `values` is called once for each entry, by
+// rising index, up to the first value that is refused, and is returned.
 fn copy_slots<
     P: PtrKey,
     T: Drop,
@@ -78,13 +78,9 @@ fn copy_slots<
 }
 
 impl<P: PtrKey, T: Drop, S: SlotStack<Item = ArenaSlot<P, T>>> Arena<P, T, S> {
-    /// Becomes a copy of the source: its indexes, generations, counter, number of slots and freed list, with values that
-    /// the map makes. It is shown each entry of the source once, by rising index, and handed back, ready for more. What the
-    /// arena held is dropped. It grows only where the source has more slots than its capacity.
+    /// Becomes a copy of `source`, with values made by `values`, which is returned.
     ///
-    /// `BeyondMaxCapacity`: the source has more slots than the maximum, which is tested first. `AllocError`: memory was
-    /// refused. After either nothing has changed, and the map was shown nothing; but where the memory was refused for a
-    /// value, the arena is left without entries and slots.
+    /// Changes and errors are those of `ArenaCloneFromWith::clone_from_by`.
     pub fn clone_from_by<U: Drop, S1: SlotStack<Item = ArenaSlot<P, U>>, M: ValueMap<P, U, T>>(
         &mut self,
         source: &Arena<P, U, S1>,

@@ -1,8 +1,8 @@
-// Where an advancer over indexes looks next.
+// The cursor of an advancer over indexes.
 ghost use Rattle.std.specs.Prelude.{◌≡◌, ◌+◌, ◌<◌, ◌^◌};
 ghost use Rattle.arena_base.specs.Advancers.{cursor_past};
 
-/// By rising index from one on, by falling index from one on, or nowhere any more.
+/// The position of an advancer: rising from an index, falling from an index, or at the end.
 #[derive(Clone, Copy, Debug, PartialEq, Eq)]
 pub enum Cursor {
     Up(usize),
@@ -11,7 +11,7 @@ pub enum Cursor {
 }
 
 impl Cursor {
-    // The look behind an index, that of an entry that was met.
+    // Returns the cursor past the index of an entry that was found.
     pub(crate) fn after(self, index: usize) -> Cursor
         requires { index + 1 < 2 ^ 64 }
         ensures { result ≡ cursor_past self index }

@@ -1,4 +1,4 @@
-// The slots of an arena while entries are moved: the freed list is not kept.
+// The slots of an arena while entries are moved, without a freed list.
 ghost use Rattle.std.specs.Prelude.{◌≡◌, ◌≢◌, ◌≤◌, ◌<◌, None, OnSome, IsSome, length};
 ghost use Rattle.std.specs.Option.{option_map, option_copied_mut};
 ghost use Rattle.std.specs.Borrow.{LendsSo, sem};
@@ -29,14 +29,14 @@ impl<P: PtrKey, T: Drop, S: SlotStack<Item = ArenaSlot<P, T>>> Model for HeldSlo
 }
 
 impl<P: PtrKey, T: Drop, S: SlotStack<Item = ArenaSlot<P, T>>> HeldSlots<P, T, S> {
-    // How many slots there are.
+    // Returns the number of slots.
     pub(crate) fn len(&self) -> usize
         ensures { result ≡ length self.now.slots }
     {
         self.slots.len()
     }
 
-    // The entry at an index.
+    // Returns the entry at an index.
     pub(crate) fn look(&self, i: P::Inx) -> Option<(&P::Gen, &T)>
         ensures { option_map borrowed_parts result ≡ slot_at self.now.slots (P.Inx.number i) }
     {
@@ -47,7 +47,7 @@ impl<P: PtrKey, T: Drop, S: SlotStack<Item = ArenaSlot<P, T>>> HeldSlots<P, T, S
         }
     }
 
-    // Exchanges two slots and gives the entry that came to the second a generation.
+    // Swaps two slots and sets the generation of the entry that is moved to the second.
     pub(crate) fn place(&mut self, from: P::Inx, to: P::Inx, generation: P::Gen)
         requires from { P.Inx.number from ≤ length self.old.slots }
         requires to { P.Inx.number to ≤ length self.old.slots }
@@ -59,7 +59,7 @@ impl<P: PtrKey, T: Drop, S: SlotStack<Item = ArenaSlot<P, T>>> HeldSlots<P, T, S
         self.slots.swap(from, position_of::<P>(to));
     }
 
-    // Takes an entry out of a slot, and puts it into a free one, or into its own, with a generation.
+    // Moves an entry to a free slot, or keeps it in its own, and sets its generation.
     pub(crate) fn bring(&mut self, from: P::Inx, to: P::Inx, generation: P::Gen)
         requires to { P.Inx.number to ≤ length self.old.slots }
         requires entry { IsSome (slot_at self.old.slots (P.Inx.number from)) }
@@ -75,11 +75,11 @@ impl<P: PtrKey, T: Drop, S: SlotStack<Item = ArenaSlot<P, T>>> HeldSlots<P, T, S
     }
 }
 
-// What the held slots lend.
+// A holder of slots that lends the values in them.
 pub(crate) trait LendsValue<P: PtrKey, T: Drop> {
     ghost lent: { Self → Held P.Gen T };
 
-    // The value at an index, for writing.
+    // Returns the value at an index, for writing.
     fn value_mut(&mut self, i: P::Inx) -> Option<&mut T>
         ensures* writes_back { sem 𝓛 (LendsSo Self.row T.row self.entry result
             (λ new t. OnSome result (lent new ≡ held_with_value (lent self.old) (P.Inx.number i) t))

@@ -1,4 +1,4 @@
-// An insertion that is made ready before its value.
+// An insertion whose pointer is known before its value.
 ghost use Rattle.std.specs.Prelude.{◌≡◌, ◌↔◌, ◌<◌, IsErr, IfOk};
 ghost use Rattle.std.specs.Borrow.{RestsIfErr, sem};
 ghost use Rattle.arena_base.specs.Arena.{entry_count, next_index, insert_next};
@@ -7,9 +7,9 @@ use crate::arena::Arena;
 use crate::slot::ArenaSlot;
 use arena_ptr::{HeapStack, NotWithinCapacityError, PtrKey, SlotStack};
 
-/// A place for an entry, whose pointer is known before its value. Dropping it changes nothing.
+/// A vacant entry, whose pointer is known before its value. Dropping it changes nothing.
 ///
-/// Carries `ArenaInsertEntry` of `triple_arena`.
+/// Port of `ArenaInsertEntry`.
 pub struct ArenaInsertEntry<
     'a,
     P: PtrKey,
@@ -23,9 +23,11 @@ pub struct ArenaInsertEntry<
 impl<P: PtrKey, T: Drop, S: SlotStack<Item = ArenaSlot<P, T>>> Arena<P, T, S> {
     ghost use Rattle.arena_base.specs.contracts.arena.Arena.{the_row as arena_row};
 
-    /// A place for an entry within the capacity.
+    /// Returns a vacant entry within the capacity.
     ///
-    /// `NotWithinCapacityError`: there are as many entries as the capacity. Then nothing has changed.
+    /// # Errors
+    ///
+    /// `NotWithinCapacityError`: there are as many entries as the capacity. Nothing changes then.
     pub fn entry_insert_within_capacity(
         &mut self,
     ) -> Result<ArenaInsertEntry<'_, P, T, S>, NotWithinCapacityError>
@@ -45,14 +47,14 @@ impl<P: PtrKey, T: Drop, S: SlotStack<Item = ArenaSlot<P, T>>> Arena<P, T, S> {
 }
 
 impl<'a, P: PtrKey, T: Drop, S: SlotStack<Item = ArenaSlot<P, T>>> ArenaInsertEntry<'a, P, T, S> {
-    /// The pointer that the entry gets.
+    /// Returns the pointer that the entry will have.
     pub fn ptr(&self) -> P
         ensures { P.key result ≡ (next_index self.now.arena.now, self.now.arena.now.counter) }
     {
         self.arena.next_ptr()
     }
 
-    /// Adds the entry. It takes no memory.
+    /// Inserts the entry, without allocating.
     pub fn insert(self, t: T)
         ensures { self.exit.0.now ≡ insert_next self.entry.arena.now t }
     {

@@ -1,12 +1,14 @@
-// What the entries of any arena tell of what stands in it.
+// Laws that hold for the entries of any arena.
 ghost use Rattle.std.specs.Prelude.{◌≡◌, ◌≢◌, ℕ, None};
 ghost use Rattle.arena_base.specs.Entries.{without};
 
 use crate::traits::ArenaTrait;
 use arena_ptr::PtrKey;
 
-/// Of any arena: where the same entries are seen, the same stands at each index (`same`). So after a removal, where the
-/// others are seen, nothing stands at the index that is gone (`gone`), and at each other one what stood there (`kept`).
+/// Proves that the entry list of any arena determines the entry at each index (`same`).
+///
+/// So after a removal from the list, the removed index has no entry (`gone`), and every other index
+/// is unchanged (`kept`).
 pub fn entries_tell_what_stands<P: PtrKey, T: Drop, A: ArenaTrait<P, T>>()
     ensures same { (a b : A) (i : ℕ) → (A.view b).entries ≡ (A.view a).entries
         → A.entry b i ≡ A.entry a i }

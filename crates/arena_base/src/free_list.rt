@@ -1,4 +1,4 @@
-// The freed list made anew, once entries were moved.
+// Rebuilding of the freed list after entries were moved.
 ghost use Rattle.std.specs.Prelude.{◌≡◌, ◌≤◌, map, length};
 ghost use Rattle.arena_base.specs.Slots.{entry_of, IsSound};
 ghost use Rattle.arena_base.specs.DetachedSlots.{trimmed, free_from};
@@ -6,7 +6,7 @@ ghost use Rattle.arena_base.specs.DetachedSlots.{trimmed, free_from};
 use crate::slot::{ArenaSlot, is_free_at, list_at};
 use arena_ptr::{InxKey, PtrKey, SlotStack};
 
-// Cuts off the free slots at the end.
+// Removes the free slots at the end.
 pub(crate) fn trim<P: PtrKey, T: Drop, S: SlotStack<Item = ArenaSlot<P, T>>>(slots: &mut S)
     ensures items { map entry_of (S.items slots.new) ≡ trimmed (map entry_of (S.items slots.old)) }
     ensures length { length (S.items slots.new) ≤ length (S.items slots.old) }
@@ -20,7 +20,7 @@ pub(crate) fn trim<P: PtrKey, T: Drop, S: SlotStack<Item = ArenaSlot<P, T>>>(slo
     slots.truncate(count);
 }
 
-// Lists the free slots, the least index first. Answers the number of entries and the first free index.
+// Lists the free slots by rising index. Returns the number of entries and the first free index.
 pub(crate) fn relist<P: PtrKey, T: Drop, S: SlotStack<Item = ArenaSlot<P, T>>>(
     slots: &mut S,
 ) -> (usize, Option<P::Inx>)

@@ -1,10 +1,10 @@
 ghost use Rattle.std.specs.Prelude.{IsTrue};
 
-/// Tells LLVM a fact that a proof at each call shows. It does nothing.
+/// Gives LLVM a fact that each call proves. It has no effect.
 ///
-/// Std's `assert_unchecked` is built as nothing at all, and `unreachable!()` as a jump to a trap. Here the other case writes to
-/// the first item of an empty array, from which LLVM concludes that it does not come. So an arm that begins with a fact that is
-/// false is left out, with its branch, and with what decided that branch.
+/// Std's `assert_unchecked` compiles to nothing, and `unreachable!()` to a jump to a trap. Here a
+/// false fact writes to the first item of an empty array, so LLVM concludes that it does not occur.
+/// A branch that begins with a false fact is thus removed, with its jump and its condition.
 #[inline(always)]
 pub fn assert_unchecked(fact: bool)
     requires { IsTrue fact }
@@ -16,8 +16,9 @@ pub fn assert_unchecked(fact: bool)
     }
 }
 
-/// An arm to which control does not come, as a proof shows at each place where it stands. In place of `unreachable!()`, which is
-/// built as a jump to a trap, so that the branch to it stays.
+/// Marks an unreachable branch, which is proved at each use.
+///
+/// It replaces `unreachable!()`, which compiles to a jump to a trap, so that the jump remains.
 #[macro_export]
 macro_rules! excluded {
     () => {{

@@ -1,4 +1,4 @@
-// The iterators over the entries of an arena. Each goes by rising index, and looks at each slot once.
+// Iterators over the entries of an arena, by rising index. Each passes every slot once.
 ghost use Rattle.std.specs.Prelude.{◌≡◌, ◌+◌, [], ◌∷◌, drop, IfNone, IfSome};
 ghost use Rattle.arena_ptr.specs.Invalidation.{value_within};
 ghost use Rattle.arena_base.specs.Entries.{entries_from};
@@ -11,7 +11,8 @@ use arena_ptr::{HeapStack, InvalidationResult, PtrKey, SlotStack};
 use std::marker::Model;
 
 impl<P: PtrKey, T: Drop, S: SlotStack<Item = ArenaSlot<P, T>>> Arena<P, T, S> {
-    // Takes out the first entry from a position on, and answers it with the position behind it.
+    // Removes the first entry at position `from` or later, and returns it with the position after
+    // it.
     fn take_from(&mut self, from: usize) -> Option<(usize, P, T)>
         ensures none { IfNone result ((entries_from (from + 1) (drop from self.old.slots) ≡ [])
             × (self.new ≡ self.old)) }
@@ -31,7 +32,7 @@ impl<P: PtrKey, T: Drop, S: SlotStack<Item = ArenaSlot<P, T>>> Arena<P, T, S> {
     }
 }
 
-// What an answer holds.
+// Returns the value of a result, if there is one.
 pub(crate) fn value_of<T>(outcome: InvalidationResult<T>) -> Option<T>
     ensures { result ≡ value_within outcome }
 {
@@ -42,9 +43,10 @@ pub(crate) fn value_of<T>(outcome: InvalidationResult<T>) -> Option<T>
     }
 }
 
-/// The pointers and values of an arena, seen as the list of the entries that are left.
+/// An iterator over the pointers and values of an arena, whose model is the list of remaining
+/// entries.
 ///
-/// Carries `Iter` of `triple_arena`.
+/// Port of `Iter`.
 #[derive(Drop)]
 pub struct Iter<
     'a,
@@ -53,7 +55,7 @@ pub struct Iter<
     S: SlotStack<Item = ArenaSlot<P, T>> = HeapStack<ArenaSlot<P, T>>,
 > {
     arena: &'a Arena<P, T, S>,
-    // The position of the first slot to look at.
+    // The position of the next slot to read.
     next: usize,
 }
 
@@ -85,9 +87,10 @@ impl<'a, P: PtrKey, T: Drop, S: SlotStack<Item = ArenaSlot<P, T>>> Iterator for 
     }
 }
 
-/// The pointers and values of an arena that is used up, seen as the list of the entries that are left.
+/// A consuming iterator over the pointers and values of an arena, whose model is the list of
+/// remaining entries.
 ///
-/// Carries `CapacityDrain` of `triple_arena`.
+/// Port of `CapacityDrain`.
 #[derive(Drop)]
 pub struct CapacityDrain<
     P: PtrKey,
@@ -95,7 +98,7 @@ pub struct CapacityDrain<
     S: SlotStack<Item = ArenaSlot<P, T>> = HeapStack<ArenaSlot<P, T>>,
 > {
     arena: Arena<P, T, S>,
-    // The position of the first slot to look at.
+    // The position of the next slot to read.
     next: usize,
 }
 

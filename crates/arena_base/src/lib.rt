@@ -1,4 +1,5 @@
-//! The generational arena: entries under indexes from 1 on, each with a generation, in slots that are used again.
+//! A generational arena: entries at indexes from 1, each with a generation, in slots that are
+//! reused.
 #![tactic(auto)]
 
 mod advancer;

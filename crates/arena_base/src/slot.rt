@@ -1,4 +1,4 @@
-// One slot of an arena, and the steps on a stack of them.
+// A slot of an arena, and the operations on a stack of slots.
 ghost use Rattle.std.specs.Prelude.{◌≡◌, ◌+◌, ◌<◌, length, slice_get, slice_set, Some, None, OnSome, IfNone, IfSome, IsSome, is_none};
 ghost use Rattle.std.specs.Option.{option_map, option_copied_mut};
 ghost use Rattle.std.specs.Borrow.{LendsIf, sem};
@@ -8,12 +8,13 @@ use crate::excluded;
 use arena_ptr::{InxKey, PtrKey, SlotStack};
 use std::mem;
 
-/// One slot of an arena: an entry with its generation, or a free one, which names the slot that was freed before it.
+/// A slot of an arena: an entry with its generation, or a free slot that names the slot freed
+/// before it.
 ///
-/// Carries the slots of `triple_arena`'s backings.
+/// Port of the slots of the backings of `triple_arena`.
 #[derive(Drop)]
 pub enum ArenaSlot<P: PtrKey, T> {
-    /// The generation and the value of the entry.
+    /// The generation and the value of an entry.
     Allocated(P::Gen, T),
     /// The next freed index, if there is one.
     Free(Option<P::Inx>),
@@ -22,7 +23,7 @@ pub enum ArenaSlot<P: PtrKey, T> {
 impl<P: PtrKey, T> ArenaSlot<P, T> {
     ghost use Rattle.arena_base.specs.contracts.slot.ArenaSlot.{the_row};
 
-    // The value of an entry, for writing.
+    // Returns the value of an entry, for writing.
     pub(crate) fn value_mut(&mut self) -> Option<&mut T>
         ensures* lends { sem 𝓛 (LendsIf (the_row P.row T.row P.Inx.row P.Gen.row P.Inx.Word.row)
             T.row self.entry result (with_value_in self.old) self.old) }
@@ -34,7 +35,7 @@ impl<P: PtrKey, T> ArenaSlot<P, T> {
         }
     }
 
-    // Gives an entry another generation.
+    // Sets the generation of an entry.
     pub(crate) fn set_generation(&mut self, generation: P::Gen)
         ensures { self.new ≡ with_generation_in self.old generation }
     {
@@ -46,7 +47,7 @@ impl<P: PtrKey, T> ArenaSlot<P, T> {
         }
     }
 
-    // Takes an entry out, and leaves the slot free before the next freed one.
+    // Removes an entry, and makes the slot free, before the freed slot `next`.
     fn vacate(&mut self, next: Option<P::Inx>) -> Option<(P::Gen, T)>
         ensures entry { result ≡ entry_of self.old }
         ensures after { self.new ≡ freed_slot self.old next }
@@ -61,14 +62,14 @@ impl<P: PtrKey, T> ArenaSlot<P, T> {
     }
 }
 
-// The position of an index in the list of slots, from 0.
+// Returns the position of an index in the list of slots, from 0.
 pub(crate) fn position_of<P: PtrKey>(i: P::Inx) -> usize
     ensures { result + 1 ≡ P.Inx.number i }
 {
     number_of::<P>(i) - 1
 }
 
-// The number of an index.
+// Returns the number of an index.
 pub(crate) fn number_of<P: PtrKey>(i: P::Inx) -> usize
     ensures { result ≡ P.Inx.number i }
 {
@@ -78,7 +79,7 @@ pub(crate) fn number_of<P: PtrKey>(i: P::Inx) -> usize
     }
 }
 
-/// The index at a position, from 0: position k is index k + 1.
+/// Returns the index at position `k`, from 0, which is index `k + 1`.
 pub fn inx_at<P: PtrKey>(k: usize) -> P::Inx
     requires { k < P.Inx.greatest }
     ensures { P.Inx.number result ≡ k + 1 }
@@ -89,7 +90,7 @@ pub fn inx_at<P: PtrKey>(k: usize) -> P::Inx
     }
 }
 
-// Writes an entry into a free slot, and answers the next freed index that it named.
+// Writes an entry into a free slot, and returns the next freed index that the slot named.
 pub(crate) fn fill<P: PtrKey, T: Drop, S: SlotStack<Item = ArenaSlot<P, T>>>(
     slots: &mut S,
     k: usize,
@@ -116,7 +117,8 @@ pub(crate) fn fill<P: PtrKey, T: Drop, S: SlotStack<Item = ArenaSlot<P, T>>>(
     }
 }
 
-// Takes the entry at a position out, if one stands there, and leaves its slot free before the next freed one.
+// Removes the entry at position `k`, if there is one, and makes its slot free, before the freed
+// slot `next`.
 pub(crate) fn vacate_at<P: PtrKey, T: Drop, S: SlotStack<Item = ArenaSlot<P, T>>>(
     slots: &mut S,
     k: usize,
@@ -135,7 +137,7 @@ pub(crate) fn vacate_at<P: PtrKey, T: Drop, S: SlotStack<Item = ArenaSlot<P, T>>
     }
 }
 
-// Writes an entry at a position.
+// Writes an entry at position `k`.
 pub(crate) fn put_at<P: PtrKey, T: Drop, S: SlotStack<Item = ArenaSlot<P, T>>>(
     slots: &mut S,
     k: usize,
@@ -156,7 +158,7 @@ pub(crate) fn put_at<P: PtrKey, T: Drop, S: SlotStack<Item = ArenaSlot<P, T>>>(
     }
 }
 
-// Gives the entry at a position another generation, if one stands there, and tells whether one does.
+// Sets the generation of the entry at position `k`, if there is one.
 pub(crate) fn regenerate_at<P: PtrKey, T: Drop, S: SlotStack<Item = ArenaSlot<P, T>>>(
     slots: &mut S,
     k: usize,
@@ -172,7 +174,7 @@ pub(crate) fn regenerate_at<P: PtrKey, T: Drop, S: SlotStack<Item = ArenaSlot<P,
     }
 }
 
-// Whether no entry stands at a position.
+// Returns whether no entry is at position `k`.
 pub(crate) fn is_free_at<P: PtrKey, T: Drop, S: SlotStack<Item = ArenaSlot<P, T>>>(
     slots: &S,
     k: usize,
@@ -186,7 +188,7 @@ pub(crate) fn is_free_at<P: PtrKey, T: Drop, S: SlotStack<Item = ArenaSlot<P, T>
     }
 }
 
-// Puts a free slot before the freed list, and answers its index.
+// Adds a free slot to the front of the freed list, and returns its index.
 pub(crate) fn list_at<P: PtrKey, T: Drop, S: SlotStack<Item = ArenaSlot<P, T>>>(
     slots: &mut S,
     k: usize,

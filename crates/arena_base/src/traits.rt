@@ -1,4 +1,4 @@
-// What arenas share, so that code may be generic over them.
+// The traits by which code can be generic over arenas.
 ghost use Rattle.std.specs.Prelude.{◌≡◌, ℕ, ◌<◌, ◌≤◌, ◌+◌, ◌^◌, ◌↔◌, ◌⊎◌, ⊤, [], length, All, IsTrue, IsSome, IfSome, OnSome, IsOk, IfOk, IsErr, OnOk, OnErr, Some, None, Option, if◌then◌else◌};
 ghost use Rattle.std.specs.Option.{option_map, option_copied_mut};
 ghost use Rattle.std.specs.Borrow.{LendsSo, sem};
@@ -22,23 +22,24 @@ use arena_ptr::{
 };
 use std::alloc::Global;
 
-/// Goes over a collection without borrowing it: each call is handed the collection anew.
+/// A walk over a collection that is passed to each call, so no borrow is kept.
 ///
-/// Carries `Advancer` of `triple_arena`.
+/// Port of `Advancer`.
 pub trait Advancer<C>: Drop {
-    /// What a call answers.
+    /// The item that a call returns.
     type Item;
 
-    // A call over a collection takes the first to the second and gives the answer.
+    // A call over this collection returns this item and changes the advancer from the first to the
+    // second.
     ghost gives: { Self → C → Option Self.Item → Self → Type 0 };
 
     ghost is_spent: { Self → Type 0 };
 
-    /// The next item, if there is one.
+    /// Returns the next item, if there is one.
     fn advance(&mut self, collection: &C) -> Option<Self::Item>
         ensures { gives self.old collection.now result self.new };
 
-    /// An advancer that answers `None` always.
+    /// Returns an advancer that always returns `None`.
     fn empty() -> Self
         ensures { is_spent result };
 
@@ -46,13 +47,13 @@ pub trait Advancer<C>: Drop {
         → (r ≡ None) × is_spent b };
 }
 
-/// An arena: a finite map from indexes to entries, each a generation and a value, where a removed entry's pointer
-/// stops to be valid.
+/// An arena: a finite map from indexes to entries, each a generation and a value.
 ///
-/// Carries `ArenaTrait` of `triple_arena`. The generation that upstream answers beside a `&mut` is left to the calls
-/// that read.
+/// The pointer of a removed entry is no longer valid.
+///
+/// Port of `ArenaTrait`, which also returns a generation beside a `&mut`; here only the reads do.
 pub trait ArenaTrait<P: PtrKey, T: Drop> {
-    /// An advancer over the pointers of the arena, by rising or falling index.
+    /// The advancer over the pointers of the arena, by rising or falling index.
     type PtrAdvancer: Advancer<Self, Item = P>;
 
     ghost view: { Self → ArenaView P.Gen T };
@@ -60,15 +61,14 @@ pub trait ArenaTrait<P: PtrKey, T: Drop> {
     // The generation and the value at each index.
     ghost entry: { Self → ℕ → Option (P.Gen × T) };
 
-    // Where an advancer looks next.
+    // The cursor of an advancer: where it continues.
     ghost cursor: { Self.PtrAdvancer → Cursor };
 
-    // What more is known of a new arena with room for so many entries.
+    // An arena's own guarantee for a new arena with capacity for so many entries.
     ghost starts: { ℕ → Self → Type 0 } = { λ _ _. ⊤ };
 
-    // What more is known of the second arena than what is seen, after a growth of the first to room for so many entries;
-    // after a write of a value at an index; after the entry there got the next generation; after its removal; after a clear;
-    // after a compression.
+    // An arena's own guarantees beyond its view, after calls on the first arena. In turn: growth
+    // for so many entries, writing, invalidation and removal at an index, `clear`, `compress_with`.
     ghost grows: { ℕ → Self → Self → Type 0 } = { λ _ _ _. ⊤ };
 
     ghost writes: { Self → ℕ → T → Self → Type 0 } = { λ _ _ _ _. ⊤ };
@@ -81,15 +81,18 @@ pub trait ArenaTrait<P: PtrKey, T: Drop> {
 
     ghost compresses: { Self → Self → Type 0 } = { λ _ _. ⊤ };
 
-    /// Returns an empty arena with the counter two and the capacity 0. It takes no memory.
+    /// Returns an empty arena with the counter at two and capacity 0, without allocating.
     fn new(alloc: Global) -> Self
         ensures new { IsNew P.Gen.first (view result) }
         ensures capacity { (view result).capacity ≡ 0 }
         ensures more { starts 0 result };
 
-    /// An empty arena with the counter two and room for at least `n` entries.
+    /// Returns an empty arena with the counter at two and a capacity of at least `n`.
     ///
-    /// `AllocError`: `n` is above the greatest index or the maximum of a new stack, or memory was refused.
+    /// # Errors
+    ///
+    /// `AllocError`: `n` is above the greatest index or the maximum of a new stack, or memory was
+    /// refused.
     fn with_min_capacity(alloc: Global, n: usize) -> Result<Self, AllocError>
         ensures new { IfOk result (λ a. IsNew P.Gen.first (view a)) }
         ensures room { IfOk result (λ a. n ≤ (view a).capacity) }
@@ -98,18 +101,21 @@ pub trait ArenaTrait<P: PtrKey, T: Drop> {
         ensures no_room { n ≡ 0 → IsOk result }
         ensures more { IfOk result (starts n) };
 
-    /// How many entries there may be before the arena has to grow, at most the greatest index and the maximum.
+    /// Returns the number of entries that fit without growth, at most the greatest index and the
+    /// maximum.
     fn capacity(&self) -> usize
         ensures value { result ≡ (view self.now).capacity }
         ensures greatest { result ≤ P.Inx.greatest }
         ensures maximum { IsWithinMaximum (view self.now).maximum result };
 
-    /// The greatest capacity that the slots may have, if there is a limit.
+    /// Returns the greatest capacity that the slots may have, if there is a limit.
     fn max_capacity(&self) -> Option<usize>
         ensures { result ≡ (view self.now).maximum };
 
-    /// How many entries there are, each at an index of the pointers' type, and always fewer than `usize::MAX`: one more
-    /// can be counted. Where the slots are told, the entries and the freed list fill them.
+    /// Returns the number of entries, always fewer than `usize::MAX`, so one more can be counted.
+    ///
+    /// Each entry is at an index of the pointer type. If the view has slots, the entries and the
+    /// freed list cover them.
     fn len(&self) -> usize
         ensures count { result ≡ length (view self.now).entries }
         ensures fits { result ≤ (view self.now).capacity }
@@ -117,14 +123,18 @@ pub trait ArenaTrait<P: PtrKey, T: Drop> {
         ensures indexes { All (λ e. IsWithin P.Inx.greatest (index_of e)) (view self.now).entries }
         ensures filled { IfSome (view self.now).slots (CoverSlots (view self.now).entries) };
 
-    /// Whether there are no entries.
+    /// Returns whether there are no entries.
     fn is_empty(&self) -> bool
         ensures { IsTrue result ↔ ((view self.now).entries ≡ []) };
 
-    /// Grows to room for at least `n` entries. Up to the capacity nothing changes.
+    /// Grows to a capacity of at least `n`, or changes nothing if the capacity suffices.
     ///
-    /// `BeyondMaxCapacity`: `n` is above the maximum, which is tested first. `AllocError`: `n` is above the greatest
-    /// index, or memory was refused. After either nothing has changed.
+    /// # Errors
+    ///
+    /// - `BeyondMaxCapacity`: `n` is above the maximum.
+    /// - `AllocError`: `n` is above the greatest index, or memory was refused.
+    ///
+    /// Nothing changes on error.
     fn reallocate_min_capacity(&mut self, n: usize) -> Result<(), ReallocationError>
         ensures within { n ≤ (view self.old).capacity → IsOk result × (self.new ≡ self.old) }
         ensures beyond { (result ≡ Err ReallocationError.BeyondMaxCapacity)
@@ -137,21 +147,21 @@ pub trait ArenaTrait<P: PtrKey, T: Drop> {
         ensures never_less { (view self.old).capacity ≤ (view self.new).capacity }
         ensures more { grows n self.old self.new };
 
-    /// The counter of generations, where there is a single one.
+    /// Returns the generation counter, if the arena has a single one.
     fn singular_generation(&self) -> Option<P::Gen>
         ensures { result ≡ (view self.now).counter };
 
-    /// Whether a pointer is valid: an entry stands at its index, with its generation.
+    /// Returns whether `p` is valid: an entry with its generation is at its index.
     fn contains(&self, p: P) -> bool
         ensures { IsTrue result ↔ IsValid (entry self.now) (P.key p) };
 
-    /// The value of an entry. `None`: the pointer is not valid.
+    /// Returns the value of an entry, or `None` if `p` is not valid.
     fn get(&self, p: P) -> Option<&T>
         ensures some { IsSome result ↔ IsValid (entry self.now) (P.key p) }
         ensures value { IfSome result (λ t. entry self.now (P.key p).0 ≡ Some
             ((P.key p).1, t.now)) };
 
-    /// The value of an entry, for writing. `None`: the pointer is not valid.
+    /// Returns the value of an entry, for writing, or `None` if `p` is not valid.
     fn get_mut(&mut self, p: P) -> Option<&mut T>
         ensures* writes_back { sem 𝓛 (LendsSo Self.row T.row self.entry result
             (λ new t. OnSome result ((view new ≡ written (view self.old) (P.key p).0 t)
@@ -160,11 +170,11 @@ pub trait ArenaTrait<P: PtrKey, T: Drop> {
         ensures value { IfSome result (λ t. entry self.old (P.key p).0 ≡ Some
             ((P.key p).1, t.now)) };
 
-    /// The generation and the value at an index. `None`: no entry stands there.
+    /// Returns the generation and the value at an index, or `None` if no entry is there.
     fn get_inx(&self, i: P::Inx) -> Option<(P::Gen, &T)>
         ensures { option_map borrowed_entry result ≡ entry self.now (P.Inx.number i) };
 
-    /// The value at an index, for writing. `None`: no entry stands there.
+    /// Returns the value at an index, for writing, or `None` if no entry is there.
     fn get_inx_mut(&mut self, i: P::Inx) -> Option<&mut T>
         ensures* writes_back { sem 𝓛 (LendsSo Self.row T.row self.entry result
             (λ new t. OnSome result ((view new ≡ written (view self.old) (P.Inx.number i) t)
@@ -172,28 +182,32 @@ pub trait ArenaTrait<P: PtrKey, T: Drop> {
         ensures value { option_copied_mut result ≡ option_map (λ e. e.1)
             (entry self.old (P.Inx.number i)) };
 
-    /// The valid pointer of least index. `None`: there are no entries.
+    /// Returns the valid pointer of least index, or `None` if there are no entries.
     fn find_first_inx_ptr(&self) -> Option<P>
         ensures { option_map P.key result ≡ first_key (view self.now).entries };
 
-    /// The valid pointer of greatest index. `None`: there are no entries.
+    /// Returns the valid pointer of greatest index, or `None` if there are no entries.
     fn find_last_inx_ptr(&self) -> Option<P>
         ensures { option_map P.key result ≡ last_key (view self.now).entries };
 
-    /// An advancer by rising index: each answer up to the first `None` is the valid pointer of least index above the
-    /// last answer, in the arena handed to that call, and `None` where there is none.
+    /// Returns an advancer by rising index.
+    ///
+    /// Up to its first `None`, each call returns the valid pointer of least index above the last
+    /// one, in the arena given to that call. If there is none it returns `None`.
     fn advancer(&self) -> Self::PtrAdvancer
         ensures { cursor result ≡ Cursor.Up 1 };
 
-    /// An advancer that begins at the index itself, by rising index or, with `rev`, by falling index.
+    /// Returns an advancer that starts at index `i` itself, by rising index or, with `rev`, by
+    /// falling index.
     fn advancer_inx(&self, i: P::Inx, rev: bool) -> Self::PtrAdvancer
         ensures { cursor result ≡ (if rev then Cursor.Down (P.Inx.number i)
             else Cursor.Up (P.Inx.number i)) };
 
-    /// Increments the counter and gives it to an entry as its generation, and answers the entry's new pointer.
+    /// Increments the counter, makes it the generation of an entry, and returns the entry's new
+    /// pointer.
     ///
-    /// `InvalidPtr`: the pointer is not valid, and nothing has changed. `GenerationOverflow`: the counter was at its
-    /// greatest, and is two now.
+    /// Returns `InvalidPtr`, without a change, if `p` is not valid, and `GenerationOverflow` if the
+    /// counter wrapped to two.
     fn invalidate(&mut self, p: P) -> InvalidationResult<P>
         ensures some { IsSome (value_within result) ↔ IsValid (entry self.old) (P.key p) }
         ensures valid { IsValid (entry self.old) (P.key p) → IfSome (value_within result) (λ q.
@@ -206,10 +220,10 @@ pub trait ArenaTrait<P: PtrKey, T: Drop> {
             × (self.new ≡ self.old) }
         ensures more { IsValid (entry self.old) (P.key p) → renews self.old (P.key p).0 self.new };
 
-    /// Removes an entry, answers its value and increments the counter.
+    /// Removes an entry, returns its value and increments the counter.
     ///
-    /// `InvalidPtr`: the pointer is not valid, and nothing has changed. `GenerationOverflow`: the counter was at its
-    /// greatest, and is two now.
+    /// Returns `InvalidPtr`, without a change, if `p` is not valid, and `GenerationOverflow` if the
+    /// counter wrapped to two.
     fn remove(&mut self, p: P) -> InvalidationResult<T>
         ensures some { IsSome (value_within result) ↔ IsValid (entry self.old) (P.key p) }
         ensures valid { IsValid (entry self.old) (P.key p)
@@ -221,10 +235,10 @@ pub trait ArenaTrait<P: PtrKey, T: Drop> {
             × (self.new ≡ self.old) }
         ensures more { IsValid (entry self.old) (P.key p) → removes self.old (P.key p).0 self.new };
 
-    /// Removes the entry at an index, answers its generation and value, and increments the counter.
+    /// Removes the entry at an index, returns its generation and value, and increments the counter.
     ///
-    /// `InvalidPtr`: no entry stands there, and nothing has changed. `GenerationOverflow`: the counter was at its
-    /// greatest, and is two now.
+    /// Returns `InvalidPtr`, without a change, if no entry is there, and `GenerationOverflow` if
+    /// the counter wrapped to two.
     fn remove_inx(&mut self, i: P::Inx) -> InvalidationResult<(P::Gen, T)>
         ensures answer { value_within result ≡ entry self.old (P.Inx.number i) }
         ensures overflow { IfSome (view self.old).counter
@@ -235,9 +249,9 @@ pub trait ArenaTrait<P: PtrKey, T: Drop> {
         ensures more { IsSome (entry self.old (P.Inx.number i))
             → removes self.old (P.Inx.number i) self.new };
 
-    /// Removes all entries and slots, and increments the counter once where there were entries. The capacity stays.
+    /// Removes all entries and slots, and increments the counter once if there were entries.
     ///
-    /// `GenerationOverflow`: the counter was at its greatest, and is two now.
+    /// The capacity stays the same. Returns `GenerationOverflow` if the counter wrapped to two.
     fn clear(&mut self) -> InvalidationOption<()>
         ensures overflow { IfSome (view self.old).counter
             (λ g. result ≡ invalidation_option
@@ -245,13 +259,16 @@ pub trait ArenaTrait<P: PtrKey, T: Drop> {
         ensures after { view self.new ≡ emptied P.Gen.following (view self.old) }
         ensures more { clears self.old self.new };
 
-    /// Closes the gaps: the entry of the k-th least index comes to index k. The closure sees each entry once, in that
-    /// order: the pointer that it had, its value, for writing, and the pointer that it has. With `reset` the counter becomes
-    /// two; else it is incremented once where there are entries. Each entry gets the counter as its generation. The slots
-    /// are exactly the entries then, and none is freed; the capacity stays. It takes no memory.
-    /// No clause tells its time: as it is written, that is in proportion to the slots.
+    /// Compacts the entries: the entry of the k-th least index is moved to index k.
     ///
-    /// `GenerationOverflow`: the counter was at its greatest, and is two now.
+    /// In that order, `map` is called once for each entry, with its old pointer, its value, for
+    /// writing, and its new pointer. The counter becomes two with `reset`; otherwise it is
+    /// incremented once if there are entries. It is the new generation of every entry.
+    ///
+    /// Afterwards the slots are exactly the entries, and none is free. The capacity stays the same,
+    /// and no memory is allocated. The time is in proportion to the slots; no clause states it.
+    ///
+    /// Returns `GenerationOverflow` if the counter wrapped to two.
     fn compress_with<F: FnMut(P, &mut T, P) + Drop>(
         &mut self,
         reset: bool,
@@ -267,9 +284,9 @@ pub trait ArenaTrait<P: PtrKey, T: Drop> {
             (length (view self.old).entries) g) tt) }
         ensures more { compresses self.old self.new };
 
-    /// Closes the gaps, as `compress_with` does, with no closure: each value stays as it is.
+    /// Compacts the entries as `compress_with` does, without a closure. Each value stays the same.
     ///
-    /// `GenerationOverflow`: the counter was at its greatest, and is two now.
+    /// Returns `GenerationOverflow` if the counter wrapped to two.
     fn compress(&mut self, reset: bool) -> InvalidationOption<()>
         ensures compressed { IsCompressed P.Gen.first P.Gen.following reset (view self.old)
             (view self.new) }
@@ -291,26 +308,29 @@ pub trait ArenaTrait<P: PtrKey, T: Drop> {
         (option_map P.key r) (cursor b) };
 }
 
-/// An arena whose capacity grows with its entries alone, and not with their indexes.
+/// An arena whose capacity grows with the number of its entries, not with their indexes.
 ///
-/// Carries `CompactArenaTrait` of `triple_arena`, a mark without functions.
+/// Port of `CompactArenaTrait`, a marker without functions.
 pub trait CompactArenaTrait<P: PtrKey, T: Drop>: ArenaTrait<P, T> {}
 
-/// Makes the values of a copy of an arena, one after another.
+/// A source of the values for a copy of an arena, made one after another.
 ///
-/// It stands where a closure can not: where the values are made by a closure and by something else beside it, or where
-/// one may be refused.
+/// It serves where a closure cannot: where more than a closure makes the values, or where one may
+/// be refused.
 pub trait ValueMap<P, U, T>: Drop {
-    // It may make a value now, and then another.
+    // It can make a value now, and then another.
     ghost is_ready: { Self → Type 0 };
 
-    // It has made a value, of a pointer and a value.
+    // It has made a value from a pointer and a value.
     ghost makes: { Self → P → U → T → Self → Type 0 };
 
-    // A value may be refused, of a pointer and a value.
+    // A value may be refused for a pointer and a value.
     ghost may_refuse: { P → U → Type 0 };
 
-    /// The value in the copy of an entry, given its pointer and its value in the source.
+    /// Returns the value for the copy of an entry, given the entry's pointer and value in the
+    /// source.
+    ///
+    /// # Errors
     ///
     /// `AllocError`: memory for the value was refused.
     fn map_value(&mut self, p: P, u: &U) -> Result<T, AllocError>
@@ -320,22 +340,30 @@ pub trait ValueMap<P, U, T>: Drop {
         ensures refused { OnErr result (may_refuse p u.now) };
 }
 
-/// An arena that can become a copy of an `Arena`, with values that are made of the values there.
+/// An arena that can become a copy of an `Arena`, with values made from the values there.
 ///
-/// Carries `ArenaCloneFromWith` of `triple_arena`.
+/// Port of `ArenaCloneFromWith`.
 pub trait ArenaCloneFromWith<P: PtrKey, T: Drop>: ArenaTrait<P, T> {
     ghost use Rattle.arena_base.specs.Arena.{Arena as State};
 
-    // What more is known than what is seen, where the second arena became the third as a copy of the first.
+    // An arena's own guarantee beyond its view, when the second arena became the third as a copy of
+    // the first.
     ghost copies: { (U : Type 0) → State P.Gen U → Self → Self → Type 0 } = { λ _ _ _ _. ⊤ };
 
-    /// Becomes a copy of the source: its indexes, generations, counter, number of slots and freed list, with values that
-    /// the map makes. It is shown each entry of the source once, by rising index, and handed back, ready for more. What the
-    /// arena held is dropped. It grows only where the source has more slots than its capacity.
+    /// Becomes a copy of `source`, with values made by `values`, which is returned.
     ///
-    /// `BeyondMaxCapacity`: the source has more slots than the maximum, which is tested first. `AllocError`: memory was
-    /// refused. After either nothing has changed, and the map was shown nothing; but where the memory was refused for a
-    /// value, the arena is left without entries and slots.
+    /// Indexes, generations, counter, number of slots and freed list are the source's. `values` is
+    /// called once for each entry of the source, by rising index, and can be called again
+    /// afterwards. Old entries are dropped. The arena grows only if the source has more slots than
+    /// its capacity.
+    ///
+    /// # Errors
+    ///
+    /// - `BeyondMaxCapacity`: the source has more slots than the maximum.
+    /// - `AllocError`: memory was refused.
+    ///
+    /// Nothing changes on error, and `values` is not called. But if memory for a value was refused,
+    /// the arena has no entries and slots left.
     fn clone_from_by<U: Drop, S1: SlotStack<Item = ArenaSlot<P, U>>, M: ValueMap<P, U, T>>(
         &mut self,
         source: &Arena<P, U, S1>,
@@ -360,11 +388,16 @@ pub trait ArenaCloneFromWith<P: PtrKey, T: Drop>: ArenaTrait<P, T> {
             × IsAbandonedView (Self.view self.old) (Self.view self.new))) }
         ensures more { OnOk result.0 (copies U source.now self.old self.new) };
 
-    /// Becomes a copy of the source, as by `clone_from_by`, with the closure's answers as values. The closure sees each
-    /// entry of the source by rising index.
+    /// Becomes a copy of `source` as by `clone_from_by`, with the values that `map` returns.
     ///
-    /// `BeyondMaxCapacity`: the source has more slots than the maximum, which is tested first. `AllocError`: memory was
-    /// refused. After either nothing has changed.
+    /// `map` is called for each entry of the source, by rising index.
+    ///
+    /// # Errors
+    ///
+    /// - `BeyondMaxCapacity`: the source has more slots than the maximum.
+    /// - `AllocError`: memory was refused.
+    ///
+    /// Nothing changes on error.
     final fn clone_from_with<
         U: Drop,
         S1: SlotStack<Item = ArenaSlot<P, U>>,

@@ -1,4 +1,4 @@
--- Reads and writes in blocks, as in the list of their items.
+-- Reads and writes in blocks correspond to those in the list of all items.
 use Rattle.std.proofs.Common.{◌≡◌, ℕ, zero, suc, ◌+◌, ◌-◌, ◌*◌, ◌≤◌, ◌<◌, ◌⊎◌, inl, inr, min, List, [], ◌∷◌, ◌++◌, length, length-append, length-take, take, Some, vec_capacity, slice_set, refl, sym, ap, ◌∙◌, subst, append_assoc, append-nil, arith}
 use Rattle.std.specs.Prelude.{slice_get}
 use Rattle.std.specs.Option.{option_and_then}
@@ -10,7 +10,7 @@ use Rattle.arena_ptr.specs.Blocks.{items_in, AreFilled}
 use Rattle.arena_ptr.specs.BlockLaws.{slice_get-left, slice_get-right, none_at_all, take_over, length-items_in}
 
 module _ {E : Type 0} where
-  -- an item is looked up in its block
+  -- An item is found in its block.
   pub get_in : (blocks : List (Vec E Global)) (n q r : ℕ) → r < 64 → AreFilled blocks n
       → slice_get (items_in blocks) (64 * q + r) ≡ option_and_then (λ (block : Vec E Global). slice_get block.items r) (slice_get blocks q)
   get_in [] n q r small filled = refl
@@ -39,9 +39,9 @@ module _ {E : Type 0} where
           ∙ (sym (slice_get_past (items_in blocks) (64 * q + r) (omega (arith, rest, few))) ∙ behind)
       by (inr many) behind = slice_get-right block.items (items_in blocks) (64 * suc q + r) (64 * q + r) (omega (arith, filled.0, many)) ∙ behind
 
-  -- a block for another: as many slots, and the items by what became of those in it
+  -- Replacing a block by `other` of the same capacity.
   module _ (other : Vec E Global) (e : E) where
-    -- .. with one more item behind the last
+    -- Appending to the block of the next item appends to all items.
     pub push_in : (blocks : List (Vec E Global)) (n q r : ℕ) (block : Vec E Global) → r < 64 → n ≡ 64 * q + r → AreFilled blocks n → slice_get blocks q ≡ Some block
         → other.items ≡ block.items ++ e ∷ [] → vec_capacity other ≡ vec_capacity block
         → (items_in (slice_set blocks q other) ≡ items_in blocks ++ e ∷ []) × AreFilled (slice_set blocks q other) (n + 1)
@@ -71,7 +71,7 @@ module _ {E : Type 0} where
           (filled.0 ∙ omega (arith, at), (filled.1.0, subst (AreFilled (slice_set blocks q other)) (let left : (n - 64) + 1 ≡ (n + 1) - 64 = omega (arith, at) in left) behind.1)),
         )
 
-  -- .. without the last of all items
+  -- Removing the last item from its block removes it from all items.
   pub pop_in : (other : Vec E Global) (blocks : List (Vec E Global)) (n q r : ℕ) (block : Vec E Global) → r < 64 → n ≡ 64 * q + r → AreFilled blocks (n + 1) → slice_get blocks q ≡ Some block
       → other.items ≡ take r block.items → vec_capacity other ≡ vec_capacity block
       → (items_in (slice_set blocks q other) ≡ take n (items_in blocks)) × AreFilled (slice_set blocks q other) n
@@ -104,7 +104,7 @@ module _ {E : Type 0} where
         (filled.0 ∙ omega (arith, at), (filled.1.0, behind.1)),
       )
 
-  -- how many items a block has, and room for how many
+  -- The number of items in a block, and its least capacity.
   pub block_in : (blocks : List (Vec E Global)) (n q : ℕ) (block : Vec E Global) → AreFilled blocks n → slice_get blocks q ≡ Some block
       → (length block.items ≡ min (n - 64 * q) 64) × (64 ≤ vec_capacity block)
   block_in [] n q block filled is = cc
@@ -116,7 +116,7 @@ module _ {E : Type 0} where
   block_in (b ∷ blocks) n (suc q) block filled is =
       let behind = block_in blocks (n - 64) q block filled.1.1 is in (behind.0 ∙ omega arith, behind.1)
 
-  -- an empty block behind the others
+  -- Appending an empty block keeps all items.
   pub more_in : (other : Vec E Global) (blocks : List (Vec E Global)) (n : ℕ) → other.items ≡ [] → 64 ≤ vec_capacity other → AreFilled blocks n
       → (items_in (blocks ++ other ∷ []) ≡ items_in blocks) × AreFilled (blocks ++ other ∷ []) n
   more_in other [] n none room filled = (
@@ -127,7 +127,7 @@ module _ {E : Type 0} where
       let behind = more_in other blocks (n - 64) none room filled.1.1 in
       (ap (λ (xs : List E). b.items ++ xs) behind.0, (filled.0, (filled.1.0, behind.1)))
 
-  -- fewer blocks, that hold all items still
+  -- Dropping blocks without items keeps all items.
   pub fewer_in : (blocks : List (Vec E Global)) (n k : ℕ) → n ≤ 64 * k → AreFilled blocks n → (items_in (take k blocks) ≡ items_in blocks) × AreFilled (take k blocks) n
   fewer_in [] n zero enough filled = (refl, filled)
   fewer_in [] n (suc k) enough filled = (refl, filled)

@@ -1,4 +1,4 @@
--- A place in a stack of blocks.
+-- Positions in a stack of blocks.
 use Rattle.std.proofs.Common.{◌≡◌, ℕ, ◌+◌, ◌*◌, ◌/◌, ◌%◌, ◌^◌, ◌≤◌, ◌<◌, List, [], ◌∷◌, ◌++◌, take, Bool, true, false, if◌then◌else◌, length, length-append, length-set, Option, None, Some, vec_len, vec_capacity, slice_set, slice_index_or, refl, sym, ap, ◌∙◌, subst, arith}
 use Rattle.std.specs.Prelude.{slice_get}
 use Rattle.std.specs.Coded.{le_prop}
@@ -13,7 +13,7 @@ use Rattle.arena_ptr.specs.ChunkStack.{with_item_in, with_item_at}
 use Rattle.arena_ptr.specs.declared.chunk_stack.ChunkStack.{ChunkStack}
 use Rattle.arena_ptr.proofs.BlockLemmas.{get_in, block_in, push_in, pop_in, more_in}
 
--- A write in a block, whatever shows that the blocks are filled then, is the write at the position.
+-- Writing in a block is writing at the position, for any proof that the blocks are filled.
 module _ {E : Type 0} (s : ChunkStack E) (i : ℕ) (e : E) where
   abbrev blocks_with : Vec E Global → Vec (Vec E Global) Global
   blocks_with block = with_item s.blocks (i / 64) (with_item block (i % 64) e)
@@ -30,15 +30,15 @@ module _ {E : Type 0} (s : ChunkStack E) (i : ℕ) (e : E) where
       (λ filled fits j. made b (AreFilled-prop (blocks_with b).items s.len filled (with_item_in s i e (Some b) is).filled j) (le_prop fits (with_item_in s i e (Some b) is).fits j))
 
 module _ {E : Type 0} (s : ChunkStack E) where
-  -- a place of an item lies in a block
+  -- The block of an item exists.
   pub within : (i : ℕ) → i < s.len → i / 64 < vec_len s.blocks
   within i inside = let room = filled_capacity s.blocks.items s.len s.filled in omega (arith, inside, room, s.blocks.ok.0)
 
-  -- no item lies beyond the last
+  -- No item is beyond the length.
   pub past : (i : ℕ) → s.len ≤ i → slice_get (items_in s.blocks.items) i ≡ None
   past i beyond = slice_get_past (items_in s.blocks.items) i (let long = length-items_in s.blocks.items s.len s.filled in omega (arith, beyond, long))
 
-  -- with an empty block behind the others, or with none
+  -- The invariant holds after an empty block is appended, or none.
   pub more_blocks : (block : Vec E Global) (done : Bool) (blocks : List (Vec E Global)) → blocks ≡ (if done then s.blocks.items ++ block ∷ [] else s.blocks.items) → block.items ≡ [] → 64 ≤ vec_capacity block
       → 64 * length s.blocks.items + 65 < 2 ^ 64 → AreFilled blocks s.len × (64 * length blocks + 1 < 2 ^ 64)
   more_blocks block true blocks is none room few = (
@@ -54,15 +54,15 @@ module _ {E : Type 0} (s : ChunkStack E) where
     pub found : slice_get s.blocks.items (i / 64) ≡ Some block
     found = slice_get_read s.blocks.items s.blocks.len (i / 64) block s.blocks.ok.0 lies is
 
-    -- .. which has an item there
+    -- The block has item `i`.
     pub inside_block : i < s.len → i % 64 < vec_len block
     inside_block inside = let has = block_in s.blocks.items s.len (i / 64) block s.filled found in omega (arith, inside, has.0, block.ok.0)
 
-    -- .. or room for the next one
+    -- The block has capacity for the next item.
     pub has_room : i ≡ s.len → vec_len block < vec_capacity block
     has_room at = let has = block_in s.blocks.items s.len (i / 64) block s.filled found in omega (arith, at, has.0, has.1, block.ok.0)
 
-    -- .. the item that is looked up
+    -- An item found in its block is item `i`.
     pub item_at : (e : E) → i % 64 < vec_len block → e ≡ slice_index_or block.items (i % 64) e → Some e ≡ slice_get (items_in s.blocks.items) i
     item_at e inside item =
         let at : 64 * (i / 64) + i % 64 ≡ i = omega arith in
@@ -70,14 +70,14 @@ module _ {E : Type 0} (s : ChunkStack E) where
         ∙ (ap (option_and_then (λ (b : Vec E Global). slice_get b.items (i % 64))) found ∙ slice_get_read block.items block.len (i % 64) e block.ok.0 inside item)))
 
     module _ (other : Vec E Global) where
-      -- as many blocks fit
+      -- Replacing a block keeps the stack within the size limit.
       pub still_fits : 64 * length (slice_set s.blocks.items (i / 64) other) + 1 < 2 ^ 64
       still_fits = subst (λ (k : ℕ). 64 * k + 1 < 2 ^ 64) (sym (length-set s.blocks.items (i / 64) other)) s.fits
 
       pub written_filled : (e : E) → other.items ≡ slice_set block.items (i % 64) e → vec_capacity other ≡ vec_capacity block → AreFilled (slice_set s.blocks.items (i / 64) other) s.len
       written_filled e made room = (set_in other e s.blocks.items s.len (i / 64) (i % 64) block (omega arith) s.filled found made room).1
 
-      -- .. with one item more, or without the last
+      -- Appending an item to its block, or removing the last one.
       pub pushed : (e : E) → i ≡ s.len → other.items ≡ block.items ++ e ∷ [] → vec_capacity other ≡ vec_capacity block
           → (items_in (slice_set s.blocks.items (i / 64) other) ≡ items_in s.blocks.items ++ e ∷ []) × AreFilled (slice_set s.blocks.items (i / 64) other) (s.len + 1)
       pushed e at made room = push_in other e s.blocks.items s.len (i / 64) (i % 64) block (omega arith) (omega (arith, at)) s.filled found made room
@@ -86,6 +86,6 @@ module _ {E : Type 0} (s : ChunkStack E) where
           → (items_in (slice_set s.blocks.items (i / 64) other) ≡ take i (items_in s.blocks.items)) × AreFilled (slice_set s.blocks.items (i / 64) other) i
       popped at made room = pop_in other s.blocks.items i (i / 64) (i % 64) block (omega arith) (omega arith) (subst (AreFilled s.blocks.items) (sym at) s.filled) found made room
 
-    -- what was lent is written
+    -- Writing a lent item gives `with_item_at`.
     pub same_written : (e : E) (filled : AreFilled (blocks_with s i e block).items s.len) (fits : 64 * length (blocks_with s i e block).items + 1 < 2 ^ 64) → made s i e block filled fits ≡ with_item_at s i e
     same_written e filled fits = same_made s i e (slice_get s.blocks.items (i / 64)) refl block found filled fits

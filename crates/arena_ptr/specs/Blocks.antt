@@ -6,11 +6,12 @@ use Rattle.std.specs.declared.vec.Vec.{Vec}
 use Rattle.std.specs.declared.alloc.Global.{Global}
 
 module _ {E : Type 0} where
-  -- the items of blocks, one block after another
+  -- The items of all blocks, in order.
   abbrev pub items_in : List (Vec E Global) → List E
   items_in blocks = flat_map (λ block. block.items) blocks
 
-  -- so many items lie in blocks with room for 64 each: all blocks before the last item's are full, and those behind it are empty
+  -- `n` items are in blocks with capacity for 64 each. Blocks before the last item's block are
+  -- full, and those after it are empty.
   abbrev pub AreFilled : List (Vec E Global) → ℕ → Type 0
   AreFilled [] n = n ≡ 0
   AreFilled (block ∷ blocks) n = (length block.items ≡ min n 64) × ((64 ≤ vec_capacity block) × AreFilled blocks (n - 64))
@@ -23,6 +24,6 @@ module _ {E : Type 0} where
       let rest : IsProp (AreFilled blocks (n - 64)) = AreFilled-prop blocks (n - 64) in
       ×_prop full (×_prop room rest)
 
--- the slots of as many blocks as so many items need
+-- The number of slots in the blocks that `n` items need.
 abbrev pub slots_for : ℕ → ℕ
 slots_for n = 64 * ((n + 63) / 64)

@@ -1,4 +1,4 @@
--- The number of a generation, by its type; the generation that follows it, and whether that one begins again at two.
+-- The number of a generation, the generation after it, and whether that one wraps to two.
 use Rattle.std.specs.Prelude.{◌≡◌, ℕ, ◌==◌, ◌↔◌, Bool, true}
 use Rattle.std.proofs.Common.{lit≤}
 use Rattle.arena_ptr.specs.Numbers.{IsWithin, IsWithin-prop, next_number, next_within, next_after_greatest, same_made, eq_is_same_number}
@@ -22,7 +22,7 @@ pub same_gen8 : (g h : Gen8) → number_of_gen8 g ≡ number_of_gen8 h → g ≡
 same_gen8 g h e =
     same_made {P = IsWithin 0xff} (λ n w. record { number = n; in_range = w }) (IsWithin-prop 0xff) g.number h.number g.in_range h.in_range e
 
--- after the greatest comes two
+-- Two follows the greatest generation.
 pub begins_again8 : (g : Gen8) → is_greatest8 g ≡ true → after8 g ≡ two8
 begins_again8 g greatest = same_gen8 (after8 g) two8 (next_after_greatest 0xff g.number greatest)
 
@@ -45,7 +45,7 @@ pub same_gen32 : (g h : Gen32) → number_of_gen32 g ≡ number_of_gen32 h → g
 same_gen32 g h e =
     same_made {P = IsWithin 0xffff_ffff} (λ n w. record { number = n; in_range = w }) (IsWithin-prop 0xffff_ffff) g.number h.number g.in_range h.in_range e
 
--- after the greatest comes two
+-- Two follows the greatest generation.
 pub begins_again32 : (g : Gen32) → is_greatest32 g ≡ true → after32 g ≡ two32
 begins_again32 g greatest = same_gen32 (after32 g) two32 (next_after_greatest 0xffff_ffff g.number greatest)
 
@@ -68,7 +68,7 @@ pub same_gen64 : (g h : Gen64) → number_of_gen64 g ≡ number_of_gen64 h → g
 same_gen64 g h e =
     same_made {P = IsWithin 0xffff_ffff_ffff_ffff} (λ n w. record { number = n; in_range = w }) (IsWithin-prop 0xffff_ffff_ffff_ffff) g.number h.number g.in_range h.in_range e
 
--- after the greatest comes two
+-- Two follows the greatest generation.
 pub begins_again64 : (g : Gen64) → is_greatest64 g ≡ true → after64 g ≡ two64
 begins_again64 g greatest = same_gen64 (after64 g) two64 (next_after_greatest 0xffff_ffff_ffff_ffff g.number greatest)
 

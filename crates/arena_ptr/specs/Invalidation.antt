@@ -1,4 +1,4 @@
--- What an answer of a call that invalidates holds: its value, and whether the counter overflowed.
+-- The value of an invalidation result, and whether the counter overflowed.
 use Rattle.std.specs.Prelude.{Bool, true, false, Option, Some, None}
 use Rattle.arena_ptr.specs.declared.invalidation.InvalidationOption.{InvalidationOption}
 use Rattle.arena_ptr.specs.declared.invalidation.InvalidationOption.TheVariants as option
@@ -14,7 +14,7 @@ module _ {T : Type 0} where
   is_overflow (option.Success t) = false
   is_overflow (option.GenerationOverflow t) = true
 
-  -- the answer of a value, where it is told whether the counter overflowed
+  -- The result for a value and an overflow.
   abbrev pub invalidation_option : Bool → T → InvalidationOption T
   invalidation_option false t = option.Success t
   invalidation_option true t = option.GenerationOverflow t
@@ -29,7 +29,7 @@ module _ {T : Type 0} where
   is_overflow_result (outcome.GenerationOverflow t) = true
   is_overflow_result outcome.InvalidPtr = false
 
-  -- the answer of a value, if there is one, where it is told whether the counter overflowed
+  -- The result for an optional value and an overflow.
   abbrev pub invalidation_result : Bool → Option T → InvalidationResult T
   invalidation_result overflow None = outcome.InvalidPtr
   invalidation_result false (Some t) = outcome.Success t

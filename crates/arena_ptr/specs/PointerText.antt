@@ -1,8 +1,8 @@
--- How the parts of a pointer are written.
+-- The text of the parts of a pointer.
 use Rattle.std.specs.Prelude.{ℕ, false, List, ◌++◌, codes}
 use Rattle.std.specs.Fmt.{digits}
 
--- lower-case hexadecimal, without a prefix
+-- Lower-case hexadecimal, without a prefix.
 abbrev pub hexadecimal : ℕ → List ℕ
 hexadecimal n = digits 16 false n
 

@@ -1,13 +1,13 @@
--- Words on a stack with a capacity and an optional maximum.
+-- The capacity of a stack and its optional maximum.
 use Rattle.std.specs.Prelude.{ℕ, ◌<◌, ◌≤◌, Option, Some, None, ⊤, min}
 use Rattle.std.specs.Coded.{le_prop, Unit-prop}
 
--- n is above the maximum, if there is one
+-- `n` is above the maximum; false if there is none.
 abbrev pub IsBeyond : Option ℕ → ℕ → Type 0
 IsBeyond None n = ⊥
 IsBeyond (Some most) n = most < n
 
--- n is at most the maximum, if there is one
+-- `n` is at most the maximum, if there is one.
 abbrev pub IsWithinMaximum : Option ℕ → ℕ → Type 0
 IsWithinMaximum None n = ⊤
 IsWithinMaximum (Some most) n = n ≤ most
@@ -16,7 +16,7 @@ pub IsWithinMaximum-prop : (maximum : Option ℕ) (n : ℕ) → IsProp (IsWithin
 IsWithinMaximum-prop None n = Unit-prop
 IsWithinMaximum-prop (Some most) n = le_prop
 
--- n, but no more than the maximum, if there is one
+-- `n`, limited to the maximum, if there is one.
 abbrev pub capped : Option ℕ → ℕ → ℕ
 capped None n = n
 capped (Some most) n = min n most

@@ -1,4 +1,4 @@
--- What is known of a vector of slots.
+-- The capacity of a vector of slots.
 use Rattle.std.specs.Prelude.{◌+◌, ◌^◌, ◌<◌, ◌≤◌, length, vec_capacity}
 use Rattle.std.specs.declared.vec.Vec.{Vec}
 use Rattle.std.proofs.Common.{arith}

@@ -1,4 +1,4 @@
--- A tool pointer is its index, as a number, and its generation.
+-- The key of a `ToolPtr`, its index number and generation, and its text.
 use Rattle.std.specs.Prelude.{◌≡◌, ℕ, ◌==◌, ◌&&◌, ◌↔◌, Bool, true, List, ◌++◌, codes}
 use Rattle.std.proofs.Common.{ap, rules}
 use Rattle.std.proofs.lemmas.Bool.{and_from}
@@ -32,6 +32,6 @@ eq_is_same_tool_ptr p q =
     right_true : (a b : Bool) → (a && b) ≡ true → b ≡ true
     right_true a b t = search rules
 
--- as `P0[1](2)`
+-- The text, as in `P0[1](2)`.
 abbrev pub text_of : ToolPtr → List ℕ
 text_of p = codes "P0" ++ codes "[" ++ hexadecimal (number_of_inx32 p.inx) ++ codes "]" ++ in_parentheses (number_of_gen32 p.generation)

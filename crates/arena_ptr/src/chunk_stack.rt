@@ -8,7 +8,7 @@ use crate::slot_stack::SlotStack;
 use std::alloc::{AllocError, Global};
 use std::mem;
 
-// How many slots a block has.
+// The number of slots in a block.
 const SLOTS: usize = 64;
 
 // The greatest number of blocks whose slots a `usize` can count.
@@ -16,10 +16,9 @@ const MOST: usize = usize::MAX / SLOTS;
 
 /// A slot stack in blocks of 64 slots, without a maximum.
 ///
-/// A growth adds the blocks that are missing, each a piece of memory of its own, and moves no slot, so that no push ever
-/// moves the others. What it moves is the list of the blocks, where that is full: 24 bytes for 64 slots. Where memory for
-/// a block is refused, those of that growth are given back. A slot is looked up by a shift and a mask, and one look more
-/// than in `HeapStack`.
+/// Growth allocates each missing block separately and moves no item. Only the list of blocks is
+/// moved, when it is full: 24 bytes for 64 slots. If memory for a block is refused, the blocks of
+/// that growth are freed. A lookup takes a shift, a mask and one more read than in `HeapStack`.
 #[derive(Drop)]
 pub struct ChunkStack<E> {
     blocks: Vec<Vec<E>>,
@@ -28,7 +27,7 @@ pub struct ChunkStack<E> {
     ghost fits: { 64 * length blocks.items + 1 < 2 ^ 64 },
 }
 
-// A new block.
+// Allocates an empty block.
 fn new_block<E: Drop>(alloc: Global) -> Result<Vec<E>, AllocError>
     ensures items { IfOk result (λ block. block.items ≡ []) }
     ensures room { IfOk result (λ block. 64 ≤ vec_capacity block) }
@@ -38,7 +37,7 @@ fn new_block<E: Drop>(alloc: Global) -> Result<Vec<E>, AllocError>
     Ok(block)
 }
 
-// Exchanges an item of a list with one of another.
+// Swaps an item of one list with one of another.
 fn exchange_items<E>(one: &mut Vec<E>, i: usize, other: &mut Vec<E>, j: usize)
     requires i_in_bounds { i < length one.old.items }
     requires j_in_bounds { j < length other.old.items }
@@ -56,7 +55,7 @@ impl<E: Drop> ChunkStack<E> {
     ghost use Rattle.arena_ptr.specs.ChunkStack.{with_item_at};
     ghost use Rattle.arena_ptr.specs.contracts.chunk_stack.ChunkStack.{the_row};
 
-    // The slot at position `i` for writing.
+    // Returns the slot at position `i` for writing.
     fn slot_mut(&mut self, i: usize) -> Option<&mut E>
         ensures* lends { sem 𝓛 (LendsSo (the_row E.row) E.row self.entry result
             (λ new w. OnSome result (new ≡ with_item_at self.old i w))
@@ -69,7 +68,7 @@ impl<E: Drop> ChunkStack<E> {
         Some(&mut self.blocks[i / SLOTS][i % SLOTS])
     }
 
-    // The slot at position `i`.
+    // Returns the slot at position `i`.
     fn slot(&self, i: usize) -> Option<&E>
         ensures { option_copied result ≡ slice_get (items_in self.now.blocks.items) i }
     {
@@ -79,7 +78,7 @@ impl<E: Drop> ChunkStack<E> {
         Some(&self.blocks[i / SLOTS][i % SLOTS])
     }
 
-    // Appends an item in the next place.
+    // Appends an item.
     fn push(&mut self, item: E)
         requires { self.old.len < 64 * length self.old.blocks.items }
         ensures items { items_in self.new.blocks.items ≡ items_in self.old.blocks.items
@@ -117,7 +116,7 @@ impl<E: Drop> ChunkStack<E> {
         }
     }
 
-    // Gives blocks back that have no items, down to so many.
+    // Frees empty blocks until `count` blocks are left.
     fn drop_blocks(&mut self, count: usize)
         requires few { count ≤ length self.old.blocks.items }
         requires room { self.old.len ≤ 64 * count }
@@ -127,7 +126,7 @@ impl<E: Drop> ChunkStack<E> {
         self.blocks.truncate(count);
     }
 
-    // Adds empty blocks up to so many.
+    // Adds empty blocks until there are `count`.
     fn add_blocks(&mut self, count: usize) -> Result<(), AllocError>
         requires more { length self.old.blocks.items ≤ count }
         requires few { 64 * count + 1 < 2 ^ 64 }
@@ -145,7 +144,7 @@ impl<E: Drop> ChunkStack<E> {
         Ok(())
     }
 
-    // Drops the last items, down to so many.
+    // Drops the items from position `n` on.
     fn keep(&mut self, n: usize)
         requires { n ≤ self.old.len }
         ensures items { items_in self.new.blocks.items ≡ take n (items_in self.old.blocks.items) }
@@ -156,7 +155,7 @@ impl<E: Drop> ChunkStack<E> {
         }
     }
 
-    // Exchanges two items of different blocks.
+    // Swaps two items of different blocks.
     fn exchange_between(&mut self, i: usize, j: usize)
         requires i_in_bounds { i < self.old.len }
         requires j_in_bounds { j < self.old.len }
@@ -170,7 +169,7 @@ impl<E: Drop> ChunkStack<E> {
         self.blocks[i / SLOTS] = one;
     }
 
-    // Exchanges two items.
+    // Swaps two items.
     fn exchange(&mut self, i: usize, j: usize)
         requires i_in_bounds { i < self.old.len }
         requires j_in_bounds { j < self.old.len }

@@ -1,8 +1,8 @@
 use std::alloc;
 
-/// Memory was refused, or an arena would need an index above the greatest of its type.
+/// An allocation failure, or a need for an index above the greatest of its type.
 ///
-/// Carries `AllocError` of `triple_arena`.
+/// Port of `AllocError`.
 #[derive(Debug, Clone, Copy, PartialEq, Eq)]
 pub struct AllocError;
 
@@ -12,35 +12,39 @@ impl From<alloc::AllocError> for AllocError {
     }
 }
 
-/// Why a stack or an arena did not grow. Nothing changed.
+/// The reason why a stack or an arena did not grow.
 ///
-/// Carries `ReallocationError` of `triple_arena`.
+/// Nothing changes then, unless the function says otherwise.
+///
+/// Port of `ReallocationError`.
 #[derive(Debug, Clone, Copy, PartialEq, Eq)]
 pub enum ReallocationError {
     /// Memory was refused, or the size needed is above the greatest index.
     AllocError,
-    /// The size needed is above the stack's maximum, which is tested first.
+    /// The size needed is above the stack's maximum. Tested first.
     BeyondMaxCapacity,
 }
 
-/// No entry is free up to the capacity, and the call does not grow.
+/// The error of an insertion that does not grow, when the capacity is used up.
 ///
-/// Carries `NotWithinCapacityError` of `triple_arena`.
+/// Port of `NotWithinCapacityError`.
 #[derive(Debug, Clone, Copy, PartialEq, Eq)]
 pub struct NotWithinCapacityError;
 
-/// The maximum asked for is below the capacity that the stack has already.
+/// The error of setting a maximum below the current capacity of the stack.
 ///
-/// Carries `MaxCapacityReductionError` of `triple_arena`.
+/// Port of `MaxCapacityReductionError`.
 #[derive(Debug, Clone, Copy, PartialEq, Eq)]
 pub struct MaxCapacityReductionError;
 
-/// Why a link was not inserted. Nothing changed, and the value that was handed in is dropped.
+/// The reason why a link was not inserted.
 ///
-/// Carries `ChainInsertionError` of `triple_arena`.
+/// Nothing changes then, and the value is dropped.
+///
+/// Port of `ChainInsertionError`.
 #[derive(Debug, Clone, Copy, PartialEq, Eq)]
 pub enum ChainInsertionError {
-    /// What the kind of insertion asks of the links beside the new one does not hold, which is tested first.
+    /// The neighbor links do not meet the requirement of the insertion kind. Tested first.
     FailedLinkRequirement,
     /// The number of links is the capacity, and the call does not grow.
     NotWithinCapacity,

@@ -1,4 +1,4 @@
-// Generations of three widths, and none.
+// Generations of 8, 32 and 64 bits, and the empty generation `()`.
 mod gen32;
 mod gen64;
 mod gen8;

@@ -3,9 +3,10 @@ use crate::slot_stack::SlotStack;
 use crate::slots;
 use std::alloc::Global;
 
-/// A slot stack in one block of the heap, without a maximum.
+/// A slot stack in one heap block, without a maximum.
 ///
-/// A growth reaches what is asked for, or twice the capacity if that is more, so that pushing n items moves fewer than 2 n of them in all.
+/// Growth reaches the size needed or twice the capacity, whichever is greater. So pushing n items
+/// moves fewer than 2 n items in all.
 #[derive(Drop)]
 pub struct HeapStack<E> {
     slots: Vec<E>,

@@ -1,4 +1,4 @@
-// Indexes of three widths.
+// Indexes of 8, 32 and 64 bits.
 mod inx32;
 mod inx64;
 mod inx8;

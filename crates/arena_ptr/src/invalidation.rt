@@ -2,33 +2,32 @@ ghost use Rattle.std.specs.Prelude.{◌≡◌, MatchOption, IsSomeAnd, None};
 ghost use Rattle.std.specs.Option.{ForSome};
 ghost use Rattle.arena_ptr.specs.Invalidation.{value_in, value_within, is_overflow, is_overflow_result};
 
-/// The answer of a call that invalidates: its value, and whether the generation counter overflowed,
-/// from the greatest generation to two.
+/// The result of an invalidation: a value, and whether the generation counter overflowed to two.
 ///
-/// Carries `InvalidationOption` of `triple_arena`.
+/// Port of `InvalidationOption`.
 #[derive(Debug, Clone, Copy, PartialEq, Eq, Drop)]
 pub enum InvalidationOption<T> {
     /// No overflow.
     Success(T),
-    /// The counter overflowed, so that pointers of older rounds may be valid again.
+    /// The counter overflowed, so pointers from earlier rounds may be valid again.
     GenerationOverflow(T),
 }
 
-/// The answer of a call that invalidates what a pointer or an index names, if that is valid.
+/// The result of invalidating what a pointer or an index names, if that is valid.
 ///
-/// Carries `InvalidationResult` of `triple_arena`.
+/// Port of `InvalidationResult`.
 #[derive(Debug, Clone, Copy, PartialEq, Eq, Drop)]
 pub enum InvalidationResult<T> {
     /// No overflow.
     Success(T),
-    /// The counter overflowed, so that pointers of older rounds may be valid again.
+    /// The counter overflowed, so pointers from earlier rounds may be valid again.
     GenerationOverflow(T),
     /// The pointer or index is not valid, and nothing changed.
     InvalidPtr,
 }
 
 impl<T> InvalidationOption<T> {
-    /// The value, whether or not the counter overflowed.
+    /// Returns the value, whether or not the counter overflowed.
     pub fn allow(self) -> T
         ensures { result ≡ value_in self }
     {
@@ -38,7 +37,7 @@ impl<T> InvalidationOption<T> {
         }
     }
 
-    /// The value, and whether the counter overflowed.
+    /// Returns the value and whether the counter overflowed.
     pub fn overflowing(self) -> (T, bool)
         ensures { result ≡ (value_in self, is_overflow self) }
     {
@@ -48,7 +47,7 @@ impl<T> InvalidationOption<T> {
         }
     }
 
-    /// The same answer with `f` of its value.
+    /// Applies `f` to the value.
     pub fn map<U, F: FnOnce(T) -> U>(self, f: F) -> InvalidationOption<U>
         requires { F.pre f (value_in self) }
         ensures value { F.post f (value_in self) (value_in result) }
@@ -62,7 +61,7 @@ impl<T> InvalidationOption<T> {
 }
 
 impl<T> InvalidationResult<T> {
-    /// The value, whether or not the counter overflowed. `None` for `InvalidPtr`.
+    /// Returns the value, whether or not the counter overflowed, or `None` for `InvalidPtr`.
     pub fn allow(self) -> Option<T>
         ensures { result ≡ value_within self }
     {
@@ -73,7 +72,7 @@ impl<T> InvalidationResult<T> {
         }
     }
 
-    /// The value, and whether the counter overflowed. `(None, false)` for `InvalidPtr`.
+    /// Returns the value and whether the counter overflowed, or `(None, false)` for `InvalidPtr`.
     pub fn overflowing(self) -> (Option<T>, bool)
         ensures { result ≡ (value_within self, is_overflow_result self) }
     {
@@ -84,7 +83,7 @@ impl<T> InvalidationResult<T> {
         }
     }
 
-    /// The same answer with `f` of its value. `InvalidPtr` stays, and `f` is not called.
+    /// Applies `f` to the value. `InvalidPtr` stays, and `f` is not called.
     pub fn map<U, F: FnOnce(T) -> U + Drop>(self, f: F) -> InvalidationResult<U>
         requires { ForSome (value_within self) (F.pre f) }
         ensures value { MatchOption (value_within self) (value_within result ≡ None)

@@ -1,4 +1,4 @@
-// What arenas ask of their pointers: less than a pointer type has, so that little stands in each call of an arena.
+// What arenas require of their pointers: less than the pointer traits, to keep their calls small.
 ghost use Rattle.std.specs.Prelude.{◌≡◌, ℕ, ◌^◌, ◌<◌, ◌≤◌, ◌↔◌, IsSome, IfSome, Option, Some, Bool, true};
 ghost use Rattle.std.specs.Option.{option_map};
 ghost use Rattle.arena_ptr.specs.declared.packed_option.PackedOption.{PackedOption};
@@ -7,40 +7,40 @@ ghost use Rattle.arena_ptr.specs.Numbers.{IsWithin};
 use crate::packed_option::PackedOption;
 use crate::ptr::{Ptr, PtrGen, PtrInx};
 
-/// What an arena asks of the indexes of its pointers. Each `PtrInx` is one, by the calls of the same names.
+/// The requirements of an arena on the indexes of its pointers.
 ///
-/// This crate's own: it is `PtrInx` with `is_same` for its `==`, and without its order, its hash and its texts, which no
-/// arena needs.
+/// Each `PtrInx` implements it by its functions of the same names. Not in `triple_arena`: it is
+/// `PtrInx` with `is_same` for `==`, without order, hash and texts.
 pub trait InxKey: Copy {
-    /// What an optional index is kept in.
+    /// The word that stores an optional index.
     type Word: Copy;
 
     // The number of an index, from 1 to the greatest. Contracts name indexes by it.
     ghost number: { Self → ℕ };
 
-    // Whether two indexes are one.
+    // Whether two indexes are equal.
     ghost same: { Self → Self → Bool };
 
-    // The number of the index that is packed, where there is one.
+    // The number of a packed index, if there is one.
     ghost packed_number: { PackedOption Self Self.Word → Option ℕ };
 
     ghost greatest: { ℕ };
 
-    /// The greatest index of the type, at least 1 and below 2^64.
+    /// Returns the greatest index of the type, at least 1 and below 2^64.
     fn greatest() -> usize
         ensures value { result ≡ greatest }
         ensures some { 1 ≤ result };
 
-    /// The index of a number. `None` where the number is 0 or above the greatest.
+    /// Returns the index with number `n`, or `None` if `n` is 0 or above the greatest.
     fn try_from_usize(n: usize) -> Option<Self>
         ensures variant { IsSome result ↔ ((1 ≤ n) × (n ≤ greatest)) }
         ensures value { IfSome result (λ i. number i ≡ n) };
 
-    /// The number of the index. Each index has one, since a `usize` has 64 bits.
+    /// Returns the number of the index, never `None`, since a `usize` has 64 bits.
     fn try_into_usize(self) -> Option<usize>
         ensures { result ≡ Some (number self) };
 
-    /// Whether this is the other index: what `==` is for a `PtrInx`.
+    /// Returns whether both indexes are equal, as `==` does for a `PtrInx`.
     fn is_same(self, other: Self) -> bool
         ensures { result ≡ same self other };
 
@@ -48,7 +48,7 @@ pub trait InxKey: Copy {
     fn pack(i: Option<Self>) -> PackedOption<Self, Self::Word>
         ensures { packed_number result ≡ option_map number i };
 
-    /// The optional index that is packed.
+    /// Returns the optional index that `packed` stores.
     fn unpack(packed: PackedOption<Self, Self::Word>) -> Option<Self>
         ensures { option_map number result ≡ packed_number packed };
 
@@ -66,31 +66,32 @@ pub trait InxKey: Copy {
         → o ≡ p };
 }
 
-/// What an arena asks of the generations of its pointers. Each `PtrGen` is one, by the calls of the same names.
+/// The requirements of an arena on the generations of its pointers.
 ///
-/// This crate's own: it is `PtrGen` with `is_same` for its `==`, and without its order, its hash and its texts.
+/// Each `PtrGen` implements it by its functions of the same names. Not in `triple_arena`: it is
+/// `PtrGen` with `is_same` for `==`, without order, hash and texts.
 pub trait GenKey: Copy {
     ghost first: { Self };
 
-    // What comes after a generation.
+    // The generation after a generation.
     ghost following: { Self → Self };
 
-    // Whether a generation is the greatest, after which the counting begins again.
+    // Whether a generation is the greatest, after which counting starts again.
     ghost wraps: { Self → Bool };
 
-    // Whether two generations are one.
+    // Whether two generations are equal.
     ghost same: { Self → Self → Bool };
 
-    /// The first generation that an arena gives.
+    /// Returns the first generation that an arena gives.
     fn two() -> Self
         ensures { result ≡ first };
 
-    /// The next generation and whether it overflowed: after the greatest comes two, and `true`.
+    /// Returns the next generation, and whether it overflowed from the greatest to two.
     fn generational_inc(self) -> (Self, bool)
         ensures next { result.0 ≡ following self }
         ensures overflow { result.1 ≡ wraps self };
 
-    /// Whether this is the other generation: what `==` is for a `PtrGen`.
+    /// Returns whether both generations are equal, as `==` does for a `PtrGen`.
     fn is_same(self, other: Self) -> bool
         ensures { result ≡ same self other };
 
@@ -99,11 +100,12 @@ pub trait GenKey: Copy {
     ghost same_is_equal: { (g h : Self) → (same g h ≡ true) ↔ (g ≡ h) };
 }
 
-/// What an arena asks of its pointers: an index and a generation, and that these two are all of a pointer. Each `Ptr` is
-/// one, by the calls of the same names.
+/// The requirements of an arena on its pointers: an index and a generation that determine the
+/// pointer.
 ///
-/// This crate's own: it is `Ptr` with `is_same` for its `==`, and without its order, its hash and its texts, which no arena
-/// needs. Write `impl Ptr` for a pointer type, and `P: Ptr` in code that is generic in it.
+/// Each `Ptr` implements it by its functions of the same names. Not in `triple_arena`: it is `Ptr`
+/// with `is_same` for `==`, without order, hash and texts. Implement `Ptr` for a pointer type, and
+/// write `P: Ptr` in generic code.
 pub trait PtrKey: Copy {
     /// The type of the index.
     type Inx: InxKey;
@@ -111,29 +113,29 @@ pub trait PtrKey: Copy {
     /// The type of the generation, `()` for pointers without one.
     type Gen: GenKey;
 
-    // The index as a number, and the generation: all that a pointer is.
+    // The index as a number, and the generation, which determine the pointer.
     ghost key: { Self → ℕ × Self.Gen };
 
-    // Whether two pointers are one.
+    // Whether two pointers are equal.
     ghost same: { Self → Self → Bool };
 
-    /// A pointer to nothing yet: its index is 1, and its generation should be 1, or `()`.
+    /// Returns a placeholder pointer with index 1. Its generation should be 1, or `()`.
     fn invalid() -> Self
         ensures { (key result).0 ≡ 1 };
 
-    /// The index.
+    /// Returns the index.
     fn inx(self) -> Self::Inx
         ensures { Self.Inx.number result ≡ (key self).0 };
 
-    /// The generation.
+    /// Returns the generation.
     fn generation(self) -> Self::Gen
         ensures { result ≡ (key self).1 };
 
-    /// Whether this is the other pointer, in both parts: what `==` is for a `Ptr`.
+    /// Returns whether both parts of the pointers are equal, as `==` does for a `Ptr`.
     fn is_same(self, other: Self) -> bool
         ensures { result ≡ same self other };
 
-    /// The pointer of an index and a generation, whether or not an entry stands there.
+    /// Returns the pointer with this index and generation, whether or not such an entry exists.
     fn _from_raw(inx: Self::Inx, generation: Self::Gen) -> Self
         ensures { key result ≡ (Self.Inx.number inx, generation) };
 

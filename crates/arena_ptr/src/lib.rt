@@ -1,5 +1,5 @@
-//! The lowest crate of the arenas: indexes, generations and pointers, the answers and errors that arenas give,
-//! the stacks that hold an arena's slots, and the recasting of values.
+//! The types below the arenas: indexes, generations, pointers, results and errors, slot stacks and
+//! recasting.
 #![tactic(auto)]
 
 mod chunk_stack;

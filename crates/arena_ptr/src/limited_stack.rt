@@ -8,9 +8,9 @@ use crate::slot_stack::{LimitStack, SetMaxCapacity, SlotStack};
 use crate::slots;
 use std::alloc::Global;
 
-/// A slot stack in one block of the heap, with a maximum once one is set.
+/// A slot stack in one heap block, with a maximum once one is set.
 ///
-/// A growth reaches what is asked for, or twice the capacity as far as the maximum allows, if that is more.
+/// Growth reaches the size needed, or twice the capacity within the maximum, whichever is greater.
 #[derive(Drop)]
 pub struct LimitedStack<E> {
     slots: Vec<E>,
@@ -23,7 +23,7 @@ impl<E> LimitedStack<E> {
     ghost use Rattle.arena_ptr.specs.LimitedStack.{with_item_at};
     ghost use Rattle.arena_ptr.specs.contracts.limited_stack.LimitedStack.{the_row};
 
-    // The slot at position `i` for writing.
+    // Returns the slot at position `i` for writing.
     fn slot_mut(&mut self, i: usize) -> Option<&mut E>
         ensures* lends { sem 𝓛 (LendsSo (the_row E.row) E.row self.entry result
             (λ new w. OnSome result (new ≡ with_item_at self.old i w))

@@ -12,8 +12,8 @@ use std::hash::Hash;
 
 /// An index into the slots of an arena: a number from 1 to the greatest of its type.
 ///
-/// Arenas keep many optional indexes, and so an index type says in which `Word` one is kept. A type that has a number
-/// to spare takes its own width, as `Inx32` does, in which 0 is none:
+/// Each index type chooses the `Word` that stores an optional index. A type with a spare number
+/// uses its own width, as `Inx32` does, where 0 means `None`:
 ///
 /// ```text
 /// ghost use Rattle.std.specs.Option.{option_map};
@@ -39,8 +39,8 @@ use std::hash::Hash;
 /// }
 /// ```
 ///
-/// A type whose every value is an index, as a struct `TinyInx` of one `bool`, keeps the `Option` itself, where `number` is
-/// its number of an index:
+/// A type without a spare number stores the `Option` itself. An example is a struct `TinyInx` of
+/// one `bool`, with `number` as its number of an index:
 ///
 /// ```text
 /// ghost use Rattle.std.specs.Prelude.{◌≡◌};
@@ -64,32 +64,32 @@ use std::hash::Hash;
 /// }
 /// ```
 ///
-/// Carries `PtrInx` of `triple_arena`, over `usize` in place of `NonZeroUsize`. The word and its two calls are this
-/// crate's own: they stand for the niche that `Option` of a NonZero type has in Rust.
+/// Port of `PtrInx`, over `usize` in place of `NonZeroUsize`. `Word`, `pack` and `unpack` are
+/// added: they replace the niche of `Option<NonZero>` in Rust.
 pub trait PtrInx: Copy + Eq + Ord + Hash + Debug {
-    /// What an optional index is kept in: as narrow as the index where it has a number to spare, as 0 is,
-    /// else `Option<Self>`.
+    /// The word that stores an optional index: as narrow as the index if a number is spare, else
+    /// `Option<Self>`.
     type Word: Copy;
 
     // The number of an index, from 1 to the greatest. Contracts name indexes by it.
     ghost number: { Self → ℕ };
 
-    // The number of the index that is packed, where there is one.
+    // The number of a packed index, if there is one.
     ghost packed_number: { PackedOption Self Self.Word → Option ℕ };
 
     ghost greatest: { ℕ };
 
-    /// The greatest index of the type, at least 1 and below 2^64.
+    /// Returns the greatest index of the type, at least 1 and below 2^64.
     fn greatest() -> usize
         ensures value { result ≡ greatest }
         ensures some { 1 ≤ result };
 
-    /// The index of a number. `None` where the number is 0 or above the greatest.
+    /// Returns the index with number `n`, or `None` if `n` is 0 or above the greatest.
     fn try_from_usize(n: usize) -> Option<Self>
         ensures variant { IsSome result ↔ ((1 ≤ n) × (n ≤ greatest)) }
         ensures value { IfSome result (λ i. number i ≡ n) };
 
-    /// The number of the index. Each index has one, since a `usize` has 64 bits.
+    /// Returns the number of the index, never `None`, since a `usize` has 64 bits.
     fn try_into_usize(self) -> Option<usize>
         ensures { result ≡ Some (number self) };
 
@@ -97,11 +97,11 @@ pub trait PtrInx: Copy + Eq + Ord + Hash + Debug {
     fn pack(i: Option<Self>) -> PackedOption<Self, Self::Word>
         ensures { packed_number result ≡ option_map number i };
 
-    /// The optional index that is packed.
+    /// Returns the optional index that `packed` stores.
     fn unpack(packed: PackedOption<Self, Self::Word>) -> Option<Self>
         ensures { option_map number result ≡ packed_number packed };
 
-    /// Writes the number in lower-case hexadecimal, without a prefix, whatever the caller's format.
+    /// Writes the number in lower-case hexadecimal, without a prefix, ignoring the caller's format.
     fn fmt_hex<W: fmt::Write>(self, f: &mut fmt::Formatter<W>) -> fmt::Result
         ensures { WritesOnOk W.write_str_gives f.old result (hexadecimal (number self)) f.new };
 
@@ -119,28 +119,28 @@ pub trait PtrInx: Copy + Eq + Ord + Hash + Debug {
         → o ≡ p };
 }
 
-/// A generation, which tells the entries that stood at one index apart.
+/// A generation, which distinguishes the entries that have used one index.
 ///
-/// Carries `PtrGen` of `triple_arena`, with `fmt_gen` beside it.
+/// Port of `PtrGen`, with `fmt_gen` added.
 pub trait PtrGen: Copy + Eq + Ord + Hash + Debug {
     ghost first: { Self };
 
-    // What comes after a generation.
+    // The generation after a generation.
     ghost following: { Self → Self };
 
-    // Whether a generation is the greatest, after which the counting begins again.
+    // Whether a generation is the greatest, after which counting starts again.
     ghost wraps: { Self → Bool };
 
-    /// The first generation that an arena gives.
+    /// Returns the first generation that an arena gives.
     fn two() -> Self
         ensures { result ≡ first };
 
-    /// The next generation and whether it overflowed: after the greatest comes two, and `true`.
+    /// Returns the next generation, and whether it overflowed from the greatest to two.
     fn generational_inc(self) -> (Self, bool)
         ensures next { result.0 ≡ following self }
         ensures overflow { result.1 ≡ wraps self };
 
-    /// Writes `(`, the generation in lower-case hexadecimal and `)`, whatever the caller's format.
+    /// Writes `(`, the generation in lower-case hexadecimal and `)`, ignoring the caller's format.
     /// Writes nothing for `()`.
     fn fmt_gen<W: fmt::Write>(self, f: &mut fmt::Formatter<W>) -> fmt::Result;
 
@@ -149,9 +149,11 @@ pub trait PtrGen: Copy + Eq + Ord + Hash + Debug {
     ghost eq_is_same: { (g h : Self) → (Self.eq g h ≡ true) ↔ (g ≡ h) };
 }
 
-/// A pointer to an entry of an arena: the index at which the entry stands, and the generation that it has.
+/// A pointer to an entry of an arena: the index and the generation of the entry.
 ///
-/// Two pointers are equal exactly if both parts are. Carries `Ptr` of `triple_arena`.
+/// Two pointers are equal exactly if both parts are.
+///
+/// Port of `Ptr`.
 pub trait Ptr: Copy + Eq + Ord + Hash + Debug {
     /// The type of the index.
     type Inx: PtrInx;
@@ -159,26 +161,28 @@ pub trait Ptr: Copy + Eq + Ord + Hash + Debug {
     /// The type of the generation, `()` for pointers without one.
     type Gen: PtrGen;
 
-    // The index as a number, and the generation: all that a pointer is.
+    // The index as a number, and the generation, which determine the pointer.
     ghost key: { Self → ℕ × Self.Gen };
 
-    /// The name of the pointer type, with which the text of a pointer begins.
+    /// Returns the name of the pointer type, with which a pointer's text begins.
     fn name() -> &'static str;
 
-    /// A pointer to nothing yet: its index is 1, and its generation should be 1, which counting never comes to, or `()`.
-    /// The clause tells the index alone, since a type that is generic in its generation has no other to give than two.
+    /// Returns a placeholder pointer with index 1.
+    ///
+    /// Its generation should be 1, which counting never reaches, or `()`. The clause omits that,
+    /// since a type generic in its generation can supply only two.
     fn invalid() -> Self
         ensures { (key result).0 ≡ 1 };
 
-    /// The index.
+    /// Returns the index.
     fn inx(self) -> Self::Inx
         ensures { Self.Inx.number result ≡ (key self).0 };
 
-    /// The generation.
+    /// Returns the generation.
     fn generation(self) -> Self::Gen
         ensures { result ≡ (key self).1 };
 
-    /// The pointer of an index and a generation, whether or not an entry stands there.
+    /// Returns the pointer with this index and generation, whether or not such an entry exists.
     fn _from_raw(inx: Self::Inx, generation: Self::Gen) -> Self
         ensures { key result ≡ (Self.Inx.number inx, generation) };
 

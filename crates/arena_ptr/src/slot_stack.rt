@@ -6,12 +6,12 @@ ghost use Rattle.arena_ptr.specs.SlotStack.{IsBeyond, IsWithinMaximum};
 use crate::errors::{MaxCapacityReductionError, ReallocationError};
 use std::alloc::Global;
 
-/// The slots of an arena: a list, a capacity that is at least its length, and an optional maximum that is at
+/// The slots of an arena: a list, a capacity of at least its length, and an optional maximum of at
 /// least the capacity.
 ///
-/// A stack is made with an allocator and keeps it. It stands in the place of the backings of `triple_arena`.
+/// A stack keeps the allocator that it is made with. It replaces the backings of `triple_arena`.
 pub trait SlotStack: Drop {
-    /// What a slot holds.
+    /// The item in a slot.
     type Item: Drop;
 
     ghost items: { Self → List Self.Item };
@@ -23,37 +23,44 @@ pub trait SlotStack: Drop {
     // The maximum of a new stack.
     ghost initial_maximum: { Option ℕ };
 
-    // From a capacity, under a maximum, a growth to room for so many items may reach a capacity. The default says nothing.
+    // Growth from a capacity, under a maximum, for so many items may reach a capacity: by default,
+    // any.
     ghost may_reach: { ℕ → Option ℕ → ℕ → ℕ → Type 0 } = { λ _ _ _ _. ⊤ };
 
-    // The stack after a write of an item at a position.
+    // The stack after an item is written at a position.
     ghost with_item: { Self → ℕ → Self.Item → Self };
 
-    /// An empty stack. It takes no memory, so its capacity is 0.
+    /// Returns an empty stack of capacity 0, without allocating.
     fn new(alloc: Global) -> Self
         ensures items { items result ≡ [] }
         ensures capacity { capacity result ≡ 0 }
         ensures maximum { maximum result ≡ initial_maximum };
 
-    /// The allocator that the stack was made with.
+    /// Returns the allocator that the stack was made with.
     fn allocator(&self) -> Global;
 
-    /// How many items there are.
+    /// Returns the number of items.
     fn len(&self) -> usize
         ensures { result ≡ length (items self.now) };
 
-    /// How many items there may be before the stack has to grow.
+    /// Returns the number of items that fit without growth.
     fn capacity(&self) -> usize
         ensures { result ≡ capacity self.now };
 
-    /// The greatest capacity that the stack may have, if there is a limit.
+    /// Returns the greatest capacity that the stack may have, if there is a limit.
     fn max_capacity(&self) -> Option<usize>
         ensures { result ≡ maximum self.now };
 
-    /// Grows so that there may be `n` items. Up to the capacity nothing changes.
+    /// Grows to a capacity of at least `n`, or changes nothing if the capacity suffices.
     ///
-    /// Above the maximum the answer is `BeyondMaxCapacity`, which is tested first, and else `AllocError` where
-    /// memory was refused. After either nothing has changed. How far a growth goes is the stack's to say.
+    /// Each stack decides how far it grows.
+    ///
+    /// # Errors
+    ///
+    /// - `BeyondMaxCapacity`: `n` is above the maximum.
+    /// - `AllocError`: memory was refused.
+    ///
+    /// Nothing changes on error.
     fn reserve_to(&mut self, n: usize) -> Result<(), ReallocationError>
         ensures items { items self.new ≡ items self.old }
         ensures maximum { maximum self.new ≡ maximum self.old }
@@ -68,24 +75,24 @@ pub trait SlotStack: Drop {
         ensures never_less { capacity self.old ≤ capacity self.new }
         ensures refused { OnErr result (capacity self.new ≡ capacity self.old) };
 
-    /// Appends an item where the capacity has room. The capacity stays.
+    /// Appends an item within the capacity, which stays the same.
     fn push_within(&mut self, item: Self::Item)
         requires { length (items self.old) < capacity self.old }
         ensures items { items self.new ≡ items self.old ++ item ∷ [] }
         ensures capacity { capacity self.new ≡ capacity self.old }
         ensures maximum { maximum self.new ≡ maximum self.old };
 
-    /// The item at position `i`, from 0. `None` from the length on.
+    /// Returns the item at position `i`, from 0, or `None` from the length on.
     fn get(&self, i: usize) -> Option<&Self::Item>
         ensures { option_copied result ≡ slice_get (items self.now) i };
 
-    /// The item at position `i` for writing, from 0. `None` from the length on.
+    /// Returns the item at position `i`, from 0, for writing, or `None` from the length on.
     fn get_mut(&mut self, i: usize) -> Option<&mut Self::Item>
         ensures* lends { sem 𝓛 (LendsIf Self.row Self.Item.row self.entry result
             (with_item self.old i) self.old) }
         ensures value { option_copied_mut result ≡ slice_get (items self.old) i };
 
-    /// Exchanges the items at positions `i` and `j`. The capacity stays.
+    /// Swaps the items at positions `i` and `j`. The capacity stays the same.
     fn swap(&mut self, i: usize, j: usize)
         requires i_in_bounds { i < length (items self.old) }
         requires j_in_bounds { j < length (items self.old) }
@@ -93,7 +100,7 @@ pub trait SlotStack: Drop {
         ensures capacity { capacity self.new ≡ capacity self.old }
         ensures maximum { maximum self.new ≡ maximum self.old };
 
-    /// Drops the items from position `n` on. The capacity stays.
+    /// Drops the items from position `n` on. The capacity stays the same.
     fn truncate(&mut self, n: usize)
         requires { n ≤ length (items self.old) }
         ensures items { items self.new ≡ take n (items self.old) }
@@ -118,22 +125,27 @@ pub trait SlotStack: Drop {
 
 /// A container whose greatest capacity can be set.
 ///
-/// Carries `SetMaxCapacity` of `triple_arena`.
+/// Port of `SetMaxCapacity`.
 pub trait SetMaxCapacity {
-    // The capacity that no maximum may fall below.
+    // The capacity, below which no maximum can be set.
     ghost stack_capacity: { Self → ℕ };
 
-    // What the second is, if it is the first with this maximum.
+    // The second is the first with this maximum.
     ghost limits: { Self → ℕ → Self → Type 0 };
 
-    /// Sets the maximum to `n`. Refused exactly if `n` is below the capacity of the stack, and then nothing changes.
+    /// Sets the maximum to `n`.
+    ///
+    /// # Errors
+    ///
+    /// `MaxCapacityReductionError` exactly if `n` is below the capacity of the stack; nothing
+    /// changes then.
     fn set_max_capacity(&mut self, n: usize) -> Result<(), MaxCapacityReductionError>
         ensures variant { IsOk result ↔ (stack_capacity self.old ≤ n) }
         ensures ok { OnOk result (limits self.old n self.new) }
         ensures err { OnErr result (self.new ≡ self.old) };
 }
 
-/// A slot stack whose maximum can be set, which changes nothing else of it.
+/// A slot stack whose maximum can be set without any other change.
 pub trait LimitStack: SlotStack + SetMaxCapacity {
     ghost same_capacity: { (s : Self) → Self.stack_capacity s ≡ Self.capacity s };
 

@@ -2,7 +2,7 @@ ghost use Rattle.std.specs.Prelude.{◌≡◌, ◌<◌, OnOk, OnErr, ◌≢◌, 
 
 use crate::errors::ReallocationError;
 
-/// Moves the slots to a block for exactly `n` items.
+/// Reallocates the slots to a capacity of exactly `n`.
 pub(crate) fn reserve_to<E>(slots: &mut Vec<E>, n: usize) -> Result<(), ReallocationError>
     requires { vec_capacity slots.old < n }
     ensures items { slots.new.items ≡ slots.old.items }

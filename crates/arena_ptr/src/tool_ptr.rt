@@ -5,9 +5,9 @@ use crate::index::Inx32;
 use crate::ptr::{Ptr, PtrGen, PtrInx};
 use std::fmt;
 
-/// The pointer type of the program: 32 bits of index, 32 bits of generation, and the name `P0`.
+/// The pointer type of the program, with a 32-bit index, a 32-bit generation and the name `P0`.
 ///
-/// Its order is by index first, then by generation.
+/// It is ordered by index first, then by generation.
 #[derive(Clone, Copy, PartialEq, Eq, PartialOrd, Ord, Hash)]
 pub struct ToolPtr {
     inx: Inx32,
@@ -37,7 +37,7 @@ impl Ptr for ToolPtr {
         "P0"
     }
 
-    /// Index 1 and generation 1, which counting never comes to.
+    /// Returns the pointer with index 1 and generation 1, which counting never reaches.
     fn invalid() -> Self
         ensures index { (key_of result).0 ≡ 1 }
         ensures generation { number_of_gen32 (key_of result).1 ≡ 1 }
@@ -68,7 +68,8 @@ impl fmt::Debug for ToolPtr {
 
     ghost debug_output = { λ p. Some (text_of p) };
 
-    /// The name, the index in brackets and the generation in parentheses, in hexadecimal, as `P0[1](2)`.
+    /// Writes the name, the index in brackets and the generation in parentheses, in hexadecimal, as
+    /// `P0[1](2)`.
     fn fmt<W: fmt::Write>(&self, f: &mut fmt::Formatter<W>) -> fmt::Result {
         let ToolPtr { inx, generation } = *self;
         f.write_str(Self::name())?;

@@ -4,10 +4,10 @@ ghost use Rattle.arena_ptr.specs.Numbers.{IsWithin};
 use crate::ptr::PtrGen;
 use std::fmt;
 
-/// A generation of 32 bits, from 1 to 4,294,967,295.
-/// Counting begins at 2, and begins again there after the greatest.
+/// A 32-bit generation, from 1 to 4,294,967,295.
 ///
-/// This crate's own, as `triple_arena` takes the NonZero types of Rust.
+/// Counting starts at 2 and returns to 2 after the greatest. Not in `triple_arena`, which uses
+/// `NonZero` types.
 #[derive(Clone, Copy, Debug, PartialEq, Eq, PartialOrd, Ord, Hash)]
 pub struct Gen32 {
     number: u32,
@@ -17,7 +17,7 @@ pub struct Gen32 {
 impl Gen32 {
     ghost use Rattle.arena_ptr.specs.Generations.{number_of_gen32};
 
-    /// The generation `n`. `None` exactly for 0.
+    /// Returns the generation `n`, or `None` exactly if `n` is 0.
     pub fn new(n: u32) -> Option<Self>
         ensures variant { IsSome result ↔ (1 ≤ n) }
         ensures value { IfSome result (λ g. number_of_gen32 g ≡ n) }
@@ -29,7 +29,7 @@ impl Gen32 {
         }
     }
 
-    /// The number of the generation, from 1.
+    /// Returns the number of the generation, at least 1.
     pub fn get(self) -> u32
         ensures value { result ≡ number_of_gen32 self }
         ensures some { 1 ≤ result }

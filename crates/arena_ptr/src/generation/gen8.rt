@@ -4,10 +4,10 @@ ghost use Rattle.arena_ptr.specs.Numbers.{IsWithin};
 use crate::ptr::PtrGen;
 use std::fmt;
 
-/// A generation of 8 bits, from 1 to 255.
-/// Counting begins at 2, and begins again there after the greatest.
+/// An 8-bit generation, from 1 to 255.
 ///
-/// This crate's own, as `triple_arena` takes the NonZero types of Rust.
+/// Counting starts at 2 and returns to 2 after the greatest. Not in `triple_arena`, which uses
+/// `NonZero` types.
 #[derive(Clone, Copy, Debug, PartialEq, Eq, PartialOrd, Ord, Hash)]
 pub struct Gen8 {
     number: u8,
@@ -17,7 +17,7 @@ pub struct Gen8 {
 impl Gen8 {
     ghost use Rattle.arena_ptr.specs.Generations.{number_of_gen8};
 
-    /// The generation `n`. `None` exactly for 0.
+    /// Returns the generation `n`, or `None` exactly if `n` is 0.
     pub fn new(n: u8) -> Option<Self>
         ensures variant { IsSome result ↔ (1 ≤ n) }
         ensures value { IfSome result (λ g. number_of_gen8 g ≡ n) }
@@ -29,7 +29,7 @@ impl Gen8 {
         }
     }
 
-    /// The number of the generation, from 1.
+    /// Returns the number of the generation, at least 1.
     pub fn get(self) -> u8
         ensures value { result ≡ number_of_gen8 self }
         ensures some { 1 ≤ result }

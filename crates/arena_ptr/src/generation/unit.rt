@@ -19,7 +19,7 @@ impl PtrGen for () {
 
     fn two() -> Self {}
 
-    /// There is one generation, which never overflows.
+    /// Returns the only generation, which never overflows.
     fn generational_inc(self) -> (Self, bool) {
         ((), false)
     }

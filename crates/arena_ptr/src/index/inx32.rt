@@ -5,9 +5,9 @@ use crate::packed_option::PackedOption;
 use crate::ptr::PtrInx;
 use std::fmt;
 
-/// An index of 32 bits, from 1 to 4,294,967,295.
+/// A 32-bit index, from 1 to 4,294,967,295.
 ///
-/// This crate's own, as `triple_arena` takes the NonZero types of Rust.
+/// Not in `triple_arena`, which uses `NonZero` types.
 #[derive(Clone, Copy, Debug, PartialEq, Eq, PartialOrd, Ord, Hash)]
 pub struct Inx32 {
     number: u32,
@@ -17,7 +17,7 @@ pub struct Inx32 {
 impl Inx32 {
     ghost use Rattle.arena_ptr.specs.Indexes.{number_of_inx32};
 
-    /// The index `n`. `None` exactly for 0.
+    /// Returns the index `n`, or `None` exactly if `n` is 0.
     pub fn new(n: u32) -> Option<Self>
         ensures variant { IsSome result ↔ (1 ≤ n) }
         ensures value { IfSome result (λ i. number_of_inx32 i ≡ n) }
@@ -29,7 +29,7 @@ impl Inx32 {
         }
     }
 
-    /// The number of the index, from 1.
+    /// Returns the number of the index, at least 1.
     pub fn get(self) -> u32
         ensures value { result ≡ number_of_inx32 self }
         ensures some { 1 ≤ result }

@@ -5,9 +5,9 @@ use crate::packed_option::PackedOption;
 use crate::ptr::PtrInx;
 use std::fmt;
 
-/// An index of 8 bits, from 1 to 255.
+/// An 8-bit index, from 1 to 255.
 ///
-/// This crate's own, as `triple_arena` takes the NonZero types of Rust.
+/// Not in `triple_arena`, which uses `NonZero` types.
 #[derive(Clone, Copy, Debug, PartialEq, Eq, PartialOrd, Ord, Hash)]
 pub struct Inx8 {
     number: u8,
@@ -17,7 +17,7 @@ pub struct Inx8 {
 impl Inx8 {
     ghost use Rattle.arena_ptr.specs.Indexes.{number_of_inx8};
 
-    /// The index `n`. `None` exactly for 0.
+    /// Returns the index `n`, or `None` exactly if `n` is 0.
     pub fn new(n: u8) -> Option<Self>
         ensures variant { IsSome result ↔ (1 ≤ n) }
         ensures value { IfSome result (λ i. number_of_inx8 i ≡ n) }
@@ -29,7 +29,7 @@ impl Inx8 {
         }
     }
 
-    /// The number of the index, from 1.
+    /// Returns the number of the index, at least 1.
     pub fn get(self) -> u8
         ensures value { result ≡ number_of_inx8 self }
         ensures some { 1 ≤ result }

@@ -1,4 +1,4 @@
--- The slots up to k are closed, and each was looked at once.
+-- The slots up to `k` have no holes, and each was read once.
 use Rattle.std.proofs.Common.{◌≡◌, ◌≤◌, ◌+◌}
 use denote.Param.Always.{always_mut}
 use Rattle.arena_base.specs.GatheredSlots.{with_totals}

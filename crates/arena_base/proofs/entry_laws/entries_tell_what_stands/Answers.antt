@@ -1,4 +1,4 @@
--- What stands at an index is found among the entries.
+-- A lookup among the entries finds the entry at an index.
 use Rattle.std.proofs.Common.{ap, sym, ◌∙◌}
 use Rattle.arena_base.specs.Entries.{found}
 use Rattle.arena_base.proofs.EntrySearchLemmas.{found-gone, found-kept}

@@ -1,4 +1,4 @@
--- The number of the next index is at most the greatest one.
+-- The next index is at most the greatest one.
 use Rattle.std.proofs.Common.{arith}
 use Rattle.arena_base.proofs.slot.inx_at.Goals as goal
 

@@ -1,4 +1,4 @@
--- The slot is written, and its index made.
+-- The slot is written, and its index exists.
 use Rattle.std.proofs.Common.{◌≡◌, None, Some, ◌∙◌, arith}
 use Rattle.arena_base.proofs.FreeListLemmas.{there}
 use Rattle.arena_base.proofs.slot.list_at.Goals as goal

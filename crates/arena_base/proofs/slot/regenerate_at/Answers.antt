@@ -1,4 +1,4 @@
--- A write of the slot that was read.
+-- Writes the slot that was read.
 use Rattle.std.proofs.Common.{sym, refl}
 use Rattle.arena_base.proofs.SlotLemmas.{with_generation_at-set, with_generation_at-none}
 use Rattle.arena_base.proofs.slot.regenerate_at.Goals as goal

@@ -1,4 +1,4 @@
--- The slots are like those of the source, so that they have its freed list.
+-- The slots are like the source's, so its freed list is valid.
 use Rattle.std.proofs.Common.{◌≡◌, length, min, false, true, refl, sym, ap, ◌∙◌, arith, inl, inr}
 use Rattle.std.proofs.lemmas.List.{length-map}
 use Rattle.arena_base.specs.Slots.{entry_of}

@@ -1,4 +1,4 @@
--- What lies ahead begins or ends at a position.
+-- The entries ahead start or end at a position.
 use Rattle.std.proofs.Common.{◌∙◌, ap}
 use Rattle.arena_base.specs.Entries.{first_key, last_key}
 use Rattle.arena_base.proofs.EntryRangeLemmas.{ahead_up, ahead_down}

@@ -1,4 +1,4 @@
--- The stack grows, or has told why it does not.
+-- The stack grows, or reports why not.
 use Rattle.std.proofs.Common.{refl, ap, arith}
 use Rattle.arena_ptr.specs.SlotStack.{IsWithinMaximum}
 use Rattle.arena_base.specs.Slots.{arena_of, freed_of}

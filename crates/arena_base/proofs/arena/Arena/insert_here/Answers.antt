@@ -1,4 +1,4 @@
--- The entry goes into the slot that was freed last, or else into a new one.
+-- The entry is written into the first freed slot, or else a new one.
 use Rattle.std.proofs.Common.{◌<◌, ap, ◌∙◌, arith}
 use Rattle.arena_base.specs.Arena.{insert_next}
 use Rattle.arena_base.proofs.ArenaModelLemmas.{filled_freed_view, filled_next_view}

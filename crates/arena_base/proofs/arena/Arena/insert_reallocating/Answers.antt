@@ -1,10 +1,10 @@
--- The entry comes where room was made.
+-- The entry is inserted after growth.
 use Rattle.std.proofs.Common.{◌≡◌, ◌+◌, Result, Err, false, true, refl, ap, ◌∙◌}
 use Rattle.arena_base.specs.Arena.{entry_count, next_index, insert_next}
 use Rattle.arena_base.proofs.ArenaModelLemmas.{inserted_grown, room_grown}
 use Rattle.arena_base.proofs.arena.Arena.insert_reallocating.Goals as goal
 
--- the same is refused, whatever else would be answered
+-- Equal errors are equal in a result of any value type.
 same_refusal : {X Y E : Type 0} (d e : E) → ◌≡◌ {A = Result X E} (Err d) (Err e) → ◌≡◌ {A = Result Y E} (Err d) (Err e)
 same_refusal d e is = let same : d ≡ e = cc in ap (λ f. Err f) same
 

@@ -1,4 +1,4 @@
--- Each position that was passed is free.
+-- Each passed position is free.
 use Rattle.std.proofs.Common.{◌≡◌, ◌<◌, ◌-◌, length, Some, None, sym, ◌∙◌, ap, arith}
 use Rattle.std.proofs.lemmas.List.{length-map}
 use Rattle.arena_base.specs.Slots.{entry_of}

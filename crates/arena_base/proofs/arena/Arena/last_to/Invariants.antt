@@ -1,4 +1,4 @@
--- No entry stands between this position and the last one.
+-- No entry is between this position and the last one.
 use Rattle.std.proofs.Common.{◌≡◌, take}
 use Rattle.arena_base.specs.Entries.{entries_from, last_key}
 use Rattle.arena_base.proofs.arena.Arena.last_to.Given as goal

@@ -1,4 +1,4 @@
--- Nothing stands at a position behind the slots.
+-- No entry is at a position past the slots.
 use Rattle.std.proofs.Common.{refl}
 use Rattle.arena_base.proofs.SlotLemmas.{slice_index_or-map}
 use Rattle.arena_base.proofs.arena.Arena.pair_at.Goals as goal

@@ -1,4 +1,4 @@
--- The slot of the entry gets the next generation.
+-- The entry's slot gets the next generation.
 use Rattle.std.specs.Prelude.{slice_get}
 use Rattle.arena_base.specs.Slots.{allocated_slot, entry_in}
 use Rattle.arena_base.proofs.SlotLemmas.{entry_at-position, allocated-at, the_value, with_generation_at-set}

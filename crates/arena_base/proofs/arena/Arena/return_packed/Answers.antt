@@ -1,4 +1,4 @@
--- The first slots are the entries, and none of them is free.
+-- Exactly the first slots are the entries.
 use Rattle.std.proofs.Common.{map, sym, None, subst}
 use Rattle.std.specs.Prelude.{[]}
 use Rattle.arena_base.specs.DetachedSlots.{IsPacked}
@@ -13,7 +13,7 @@ pub truncate-requires : goal.truncate-requires
 truncate-requires g c =
     packed-within c.args.count (g.S.SlotStack.items c.held.inside.slots) (subst (λ h. IsPacked h.slots c.args.count) (sym c.held.view_is) c.requires)
 
--- what is left is sound
+-- The remaining slots are sound.
 sound : (g : Over) (c : After-truncate g) → IsSound g.P.Inx.InxKey.number (g.S.SlotStack.items c.truncate.new.self) g.P.Inx.InxKey.greatest c.args.count None []
 sound g c =
     let items = g.S.SlotStack.items c.held.inside.slots in

@@ -1,4 +1,4 @@
--- No entry stands between the first position and this one.
+-- No entry is between the first position and this one.
 use Rattle.std.proofs.Common.{◌≡◌, ◌+◌, drop}
 use Rattle.arena_base.specs.Entries.{entries_from}
 use Rattle.arena_base.proofs.arena.Arena.search_from.Given as goal

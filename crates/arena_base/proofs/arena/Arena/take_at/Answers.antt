@@ -1,4 +1,4 @@
--- The entry's slot goes to the front of the freed list.
+-- The entry's slot becomes first in the freed list.
 use Rattle.std.proofs.Common.{◌≡◌, ◌-◌, Some, None, true, false, sym, ◌∙◌, ap, arith}
 use Rattle.std.specs.Prelude.{slice_get, is_some}
 use Rattle.arena_ptr.specs.Invalidation.{invalidation_result}

@@ -1,4 +1,4 @@
--- Nothing is left.
+-- No slot remains.
 use Rattle.std.proofs.Common.{ap, ◌∙◌}
 use Rattle.arena_base.specs.Arena.{cleared}
 use Rattle.arena_base.specs.Slots.{freed_of}

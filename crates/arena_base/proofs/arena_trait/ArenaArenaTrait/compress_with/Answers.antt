@@ -1,4 +1,4 @@
--- The entries are brought together, each with the counter, which was set before.
+-- The entries are compacted, each with the counter that was set before.
 use Rattle.std.proofs.Common.{ap, ◌∙◌}
 use Rattle.arena_ptr.specs.Invalidation.{invalidation_option}
 use Rattle.arena_base.specs.Compressions.{counter_after_compression, overflows_after_compression}

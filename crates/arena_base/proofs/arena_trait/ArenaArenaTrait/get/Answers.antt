@@ -1,4 +1,4 @@
--- Equal generations are the same.
+-- `is_same` on generations is equality.
 use Rattle.std.proofs.Common.{rules, refl}
 use Rattle.arena_base.proofs.arena_trait.ArenaArenaTrait.get.Goals as goal
 

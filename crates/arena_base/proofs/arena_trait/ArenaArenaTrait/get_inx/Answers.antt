@@ -1,4 +1,4 @@
--- The entry at an index is that of the slot at its position.
+-- The entry at an index is in the slot at its position.
 use Rattle.arena_base.proofs.SlotLemmas.{entry_at-position}
 use Rattle.arena_base.proofs.arena_trait.ArenaArenaTrait.get_inx.Goals as goal
 

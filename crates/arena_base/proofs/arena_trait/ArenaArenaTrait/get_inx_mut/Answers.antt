@@ -1,4 +1,4 @@
--- The arena gets the value written to the slot that was lent.
+-- The arena gets the value written to the lent slot.
 use Rattle.std.proofs.Common.{refl, sym, ◌∙◌, ap}
 use Rattle.std.specs.Option.{option_map}
 use Rattle.arena_base.specs.Arena.{with_value}

@@ -1,4 +1,4 @@
--- What is seen follows from the arena.
+-- The view follows from the arena.
 use Rattle.std.proofs.Common.{Some, refl}
 use Rattle.arena_base.proofs.ArenaViewLemmas.{renewed_key, value_within-made}
 use Rattle.arena_base.proofs.arena_trait.ArenaArenaTrait.invalidate.Goals as goal

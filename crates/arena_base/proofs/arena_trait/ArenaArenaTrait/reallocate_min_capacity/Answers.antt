@@ -1,4 +1,4 @@
--- What grows is the room.
+-- Only the capacity grows.
 use Rattle.std.proofs.Common.{ap, arith}
 use Rattle.arena_base.specs.Entries.{view_of}
 use Rattle.arena_base.proofs.SlotCopyLemmas.{on_ok}

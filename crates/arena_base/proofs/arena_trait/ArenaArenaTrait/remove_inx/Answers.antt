@@ -1,4 +1,4 @@
--- What is seen follows from the arena.
+-- The view follows from the arena.
 use Rattle.std.proofs.Common.{◌∙◌, ap}
 use Rattle.arena_base.specs.Entries.{view_of}
 use Rattle.arena_base.proofs.ArenaViewLemmas.{seen_removed}

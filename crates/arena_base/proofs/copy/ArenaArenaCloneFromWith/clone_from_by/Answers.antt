@@ -1,4 +1,4 @@
--- What the arena has become, as generic code sees it.
+-- The view of the copy.
 use Rattle.arena_base.proofs.SlotCopyLemmas.{copy_seen, given_up_seen, on_err_either, on_ok, on_ok_both}
 use Rattle.arena_base.proofs.copy.ArenaArenaCloneFromWith.clone_from_by.Goals as goal
 

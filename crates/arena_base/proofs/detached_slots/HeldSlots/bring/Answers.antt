@@ -1,4 +1,4 @@
--- The entry that was taken out stands in the free slot, or in its own.
+-- The removed entry is written to the free slot, or to its own.
 use Rattle.std.proofs.Common.{sym, ap, ◌∙◌}
 use Rattle.arena_base.proofs.DetachedSlotLemmas.{held_brought, brought_there, brought_free}
 use Rattle.arena_base.proofs.SlotLemmas.{slice_index_or-map}

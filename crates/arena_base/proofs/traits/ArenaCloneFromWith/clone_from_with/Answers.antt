@@ -1,4 +1,4 @@
--- What the map of the closure has made, the closure has answered.
+-- The values that the map makes are those that the closure returns.
 use Rattle.arena_base.specs.Copies.{IsCopyCall}
 use Rattle.arena_base.proofs.SlotCopyLemmas.{copy_by, on_err_by, on_ok, surely}
 use Rattle.arena_base.proofs.traits.ArenaCloneFromWith.clone_from_with.Goals as goal

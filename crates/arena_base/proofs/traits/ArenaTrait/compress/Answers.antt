@@ -1,4 +1,4 @@
--- The closure leaves each value as it is.
+-- The closure leaves each value unchanged.
 use Rattle.std.proofs.Common.{rules}
 use Rattle.arena_base.proofs.ClosureLemmas.{values_kept}
 use Rattle.arena_base.proofs.traits.ArenaTrait.compress.Goals as goal

@@ -1,4 +1,4 @@
--- The blocks with an empty one behind them, or as they were.
+-- An empty block is appended, or none.
 use Rattle.std.specs.Prelude.{is_ok}
 use Rattle.arena_ptr.proofs.ChunkStackLemmas.{more_blocks}
 use Rattle.arena_ptr.proofs.chunk_stack.ChunkStack.add_block.Goals as goal

@@ -1,4 +1,4 @@
--- The items lie in the blocks that were there at first.
+-- The items remain in the first blocks.
 use Rattle.std.proofs.Common.{arith}
 use Rattle.arena_ptr.specs.BlockLaws.{filled_capacity}
 use Rattle.arena_ptr.proofs.chunk_stack.ChunkStack.add_blocks.Goals as goal

@@ -1,4 +1,4 @@
--- The blocks that have items are left.
+-- All blocks with items remain.
 use Rattle.std.proofs.Common.{ap, sym, subst, ◌∙◌, length, length-take, arith}
 use Rattle.arena_ptr.specs.Blocks.{items_in, AreFilled}
 use Rattle.arena_ptr.proofs.BlockLemmas.{fewer_in}

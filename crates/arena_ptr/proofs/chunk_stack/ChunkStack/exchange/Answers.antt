@@ -1,4 +1,4 @@
--- Both items in one block.
+-- Both items are in one block.
 use Rattle.std.proofs.Common.{slice_index_or, ap, ◌∙◌, arith}
 use Rattle.arena_ptr.proofs.ChunkStackLemmas.{within, found, inside_block, still_fits}
 use Rattle.arena_ptr.proofs.BlockSwapLemmas.{exchanged_in}

@@ -1,4 +1,4 @@
--- At first all items are there.
+-- All items are there at first.
 use Rattle.std.proofs.Common.{refl, sym, take_all, arith}
 use Rattle.arena_ptr.specs.Blocks.{items_in}
 use Rattle.arena_ptr.specs.BlockLaws.{length-items_in}

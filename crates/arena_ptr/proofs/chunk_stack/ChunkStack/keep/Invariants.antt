@@ -1,4 +1,4 @@
--- The first items are left.
+-- The first items remain.
 use Rattle.std.proofs.Common.{◌≡◌, ◌-◌, ◌≤◌, length, take}
 use Rattle.arena_ptr.specs.Blocks.{items_in}
 use Rattle.arena_ptr.proofs.chunk_stack.ChunkStack.keep.Given as goal

@@ -1,4 +1,4 @@
--- The block of the next place gets the item.
+-- The item is appended to its block.
 use Rattle.std.proofs.Common.{◌<◌, ◌/◌, vec_len, refl, arith}
 use Rattle.arena_ptr.proofs.ChunkStackLemmas.{has_room, still_fits, pushed}
 use Rattle.arena_ptr.proofs.chunk_stack.ChunkStack.push.Goals as goal

@@ -1,4 +1,4 @@
--- The item, in its block.
+-- The item is found in its block.
 use Rattle.std.proofs.Common.{sym}
 use Rattle.arena_ptr.proofs.ChunkStackLemmas.{within, past, inside_block, item_at}
 use Rattle.arena_ptr.proofs.chunk_stack.ChunkStack.slot.Goals as goal

@@ -1,4 +1,4 @@
--- There is room for one more.
+-- There is capacity for one more item.
 use Rattle.std.proofs.Common.{arith}
 use Rattle.arena_ptr.specs.BlockLaws.{length-items_in}
 use Rattle.arena_ptr.proofs.chunk_stack.ChunkStackSlotStack.push_within.Goals as goal

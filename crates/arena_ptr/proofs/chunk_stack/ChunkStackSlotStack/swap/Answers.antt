@@ -1,4 +1,4 @@
--- Both items are there.
+-- Both positions are in bounds.
 use Rattle.std.proofs.Common.{arith}
 use Rattle.arena_ptr.specs.BlockLaws.{length-items_in}
 use Rattle.arena_ptr.proofs.chunk_stack.ChunkStackSlotStack.swap.Goals as goal

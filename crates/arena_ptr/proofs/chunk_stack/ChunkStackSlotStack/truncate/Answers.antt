@@ -1,4 +1,4 @@
--- No more than there are.
+-- The new length is at most the length.
 use Rattle.std.proofs.Common.{arith}
 use Rattle.arena_ptr.specs.BlockLaws.{length-items_in}
 use Rattle.arena_ptr.proofs.chunk_stack.ChunkStackSlotStack.truncate.Goals as goal
