@@ -1,4 +1,4 @@
--- Lemmas on the chains that interlinks make: what they have, that they exist, and that there is one set of them.
+-- Lemmas on chains: membership, existence and uniqueness.
 pub mod LinkedLists
 pub mod Uniqueness
 pub mod Rotations

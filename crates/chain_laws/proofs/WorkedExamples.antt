@@ -1,4 +1,4 @@
--- Examples that are computed from the definitions.
+-- Worked examples, computed from the definitions.
 pub mod Joins
 pub mod Removals
 pub mod Cuts

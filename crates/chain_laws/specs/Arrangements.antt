@@ -1,51 +1,51 @@
--- Arrangements: lists of all links, and the renumberings that they give, where the k-th link goes to index k.
+-- Arrangements of all links, and the renumberings they give.
 use Rattle.std.specs.Prelude.{◌≡◌, ◌↔◌, ℕ, suc, ◌+◌, ◌≤◌, ◌==◌, if◌then◌else◌, List, [], ◌∷◌, length, Option, None, Some}
 use Rattle.std.specs.List.{range_with_len}
 use Rattle.chain_laws.specs.Chains.{LinkMap, Chain, linear, cyclic, all_items, IsMember, AreDistinct, HasLink, HasLinksWithin, IsWellLinked, AreChains}
 use Rattle.chain_laws.specs.Neighbors.{AreTheChains, HasOneSetOfChains}
 use Rattle.chain_laws.specs.Renamings.{IsRenaming, AreImages}
 
--- a list that holds each valid index once, and nothing else
+-- a list of each valid index once, and nothing else
 pub record IsArrangement (link_map : LinkMap) (indexes : List ℕ) : Type 0 where
   pub once : AreDistinct indexes
   pub valid : (i : ℕ) → HasLink link_map i ↔ IsMember indexes i
 
--- the place of an index in a list whose first place is n
+-- the position of an index in a list, counted from n
 abbrev pub place_from : ℕ → List ℕ → ℕ → Option ℕ
 place_from n [] i = None
 place_from n (x ∷ xs) i = if x == i then Some n else place_from (suc n) xs i
 
--- the renumbering by a list: the k-th item goes to k
+-- the renumbering by a list: the k-th item moves to k
 abbrev pub place_in : List ℕ → ℕ → Option ℕ
 place_in indexes i = place_from 1 indexes i
 
--- the chains one after another, each linear one from its start, each cyclic one from one of its links
+-- the chains one after another, cyclic ones from any of their links
 pub record IsCanonical (link_map : LinkMap) (indexes : List ℕ) : Type 0 where
   pub chains : List Chain
   pub are : AreChains link_map chains
   pub items : indexes ≡ all_items chains
 
--- the chains one after another by their least index, each linear one from its start, each cyclic one from its least index
+-- the chains one after another by least index, cyclic ones from their least index
 pub record IsLeastIndexOrder (link_map : LinkMap) (indexes : List ℕ) : Type 0 where
   pub chains : List Chain
   pub are : AreTheChains link_map chains
   pub items : indexes ≡ all_items chains
 
--- the same as a function of the one set of chains
+-- the least-index order, from the one set of chains
 abbrev pub ordered : {link_map : LinkMap} → HasOneSetOfChains link_map → List ℕ
 ordered one = all_items one.chains
 
--- the chains, each of so many links, as runs of consecutive indexes from k on
+-- the chains as runs of consecutive indexes from k on
 abbrev pub in_runs : ℕ → List Chain → List Chain
 in_runs k [] = []
 in_runs k (linear xs ∷ chains) = linear (range_with_len k (length xs)) ∷ in_runs (k + length xs) chains
 in_runs k (cyclic xs ∷ chains) = cyclic (range_with_len k (length xs)) ∷ in_runs (k + length xs) chains
 
--- by an arrangement the k-th link goes to index k, and so the links to the indexes from 1 to their number ..
+-- an arrangement moves the k-th link to index k, up to the number of links
 abbrev pub ArrangementNumbers : Type 0
 ArrangementNumbers = (link_map : LinkMap) (indexes : List ℕ) → IsArrangement link_map indexes → AreImages (place_in indexes) indexes (range_with_len 1 (length indexes))
 
--- .. and no two to one
+-- no two items move to one index
 abbrev pub PlacesAreApart : Type 0
 PlacesAreApart = (indexes : List ℕ) (i j k : ℕ) → place_in indexes i ≡ Some k → place_in indexes j ≡ Some k → i ≡ j
 
@@ -53,37 +53,37 @@ PlacesAreApart = (indexes : List ℕ) (i j k : ℕ) → place_in indexes i ≡ S
 abbrev pub CanonicalArranges : Type 0
 CanonicalArranges = (link_map : LinkMap) (indexes : List ℕ) → IsCanonical link_map indexes → IsArrangement link_map indexes
 
--- the renumbering by chains one after another lays each of them in a run, in that order, from 1 on ..
+-- renumbering by the chains moves each to a run, in their order, from index 1 on
 abbrev pub PlacesChainsInRuns : Type 0
 PlacesChainsInRuns = (old new : LinkMap) (chains : List Chain) → AreChains old chains → IsRenaming (place_in (all_items chains)) old new
     → AreChains new (in_runs 1 chains) × (all_items (in_runs 1 chains) ≡ range_with_len 1 (length (all_items chains)))
 
--- .. and what has the chains in these runs is that renumbering
+-- only renumbering by the chains gives these runs
 abbrev pub RunsAreRenumbered : Type 0
 RunsAreRenumbered = (old new : LinkMap) (chains : List Chain) → AreChains old chains → AreChains new (in_runs 1 chains)
     → IsRenaming (place_in (all_items chains)) old new
 
--- there is a least-index order ..
+-- a well-linked arena has a least-index order
 abbrev pub HasLeastIndexOrder : Type 0
 HasLeastIndexOrder = (link_map : LinkMap) (slots : ℕ) → IsWellLinked link_map → HasLinksWithin link_map slots → (indexes : List ℕ) × IsLeastIndexOrder link_map indexes
 
--- .. and it is that function
+-- the least-index order is `ordered`
 abbrev pub LeastIndexOrderIsOrdered : Type 0
 LeastIndexOrderIsOrdered = (link_map : LinkMap) (one : HasOneSetOfChains link_map) (indexes : List ℕ) → IsLeastIndexOrder link_map indexes ↔ (indexes ≡ ordered one)
 
--- it is canonical ..
+-- the least-index order is canonical
 abbrev pub LeastIndexOrderIsCanonical : Type 0
 LeastIndexOrderIsCanonical = (link_map : LinkMap) (indexes : List ℕ) → IsLeastIndexOrder link_map indexes → IsCanonical link_map indexes
 
--- .. and where the links lie canonically as they stand, it leaves each in its place
+-- if the indexes from 1 to n are canonical, they are the least-index order
 abbrev pub LeastIndexOrderRests : Type 0
 LeastIndexOrderRests = (link_map : LinkMap) (n : ℕ) → IsCanonical link_map (range_with_len 1 n) → IsLeastIndexOrder link_map (range_with_len 1 n)
 
--- .. so once the links are laid out in it, it leaves each in its place ..
+-- after arranging by the least-index order, that order is the indexes from 1 on
 abbrev pub LayoutRests : Type 0
 LayoutRests = (old new : LinkMap) (indexes : List ℕ) → IsLeastIndexOrder old indexes → IsRenaming (place_in indexes) old new
     → IsLeastIndexOrder new (range_with_len 1 (length indexes))
 
--- .. which is where it stands
+-- the list from 1 to n moves no index
 abbrev pub PlacesRest : Type 0
 PlacesRest = (n i : ℕ) → 1 ≤ i → i ≤ n → place_in (range_with_len 1 n) i ≡ Some i

@@ -1,5 +1,7 @@
--- The chains that a change leaves alone. That a chain stays without the links that a change names is said by `rest` of
--- `Connects`, `Cuts`, `Exchanges`, `Inserts` and `Removes`; the laws here ask for less, or tell which chains were there before.
+-- Chains that a change leaves alone.
+--
+-- For chains without the links that a change names, see `rest` of `Connects`, `Cuts`, `Exchanges`,
+-- `Inserts` and `Removes`. The laws here require less, or say which chains existed before.
 use Rattle.std.specs.Prelude.{◌≡◌, ℕ, ◌⊎◌, List, [], ◌∷◌, Option, None}
 use Rattle.chain_laws.specs.Chains.{LinkMap, Chain, items, IsMember, IsChain, IsWellLinked, prev_of, next_of}
 use Rattle.chain_laws.specs.Neighbors.{AreNeighbors}
@@ -25,35 +27,35 @@ indexes_of_kind (prev_to b) = b ∷ []
 indexes_of_kind (at_interlink a b) = a ∷ b ∷ []
 indexes_of_kind (bridge a b) = a ∷ b ∷ []
 
--- a chain stays where its links show what they did, whatever others show
+-- a chain stays if its links keep their interlinks
 abbrev pub SameLinksKeepAChain : Type 0
 SameLinksKeepAChain = (old new : LinkMap) (c : Chain) → ((i : ℕ) → IsMember (items c) i → new i ≡ old i) → IsChain old c → IsChain new c
 
--- where a new link comes beside those that its kind names, a chain without these stays: what else stands beside it is in their chains ..
+-- an insertion keeps a chain without the links that its kind names
 abbrev pub InsertionKeepsOthers : Type 0
 InsertionKeepsOthers = (old new : LinkMap) (kind : InsertKind ℕ) (q : ℕ) → IsWellLinked old → old q ≡ None → Inserts old new q (link_before old kind q) (link_after old kind q)
     → (c : Chain) → IsDisjointFrom c (indexes_of_kind kind) → IsChain old c → IsChain new c
 
--- .. and each one without the new link was there before
+-- after an insertion, a chain without the new link existed before
 abbrev pub InsertionMakesNoOthers : Type 0
 InsertionMakesNoOthers = (link_map : LinkMap) (q : ℕ) (u v : Option ℕ) → IsWellLinked link_map → link_map q ≡ None → IsInsertPosition link_map q u v
     → (c : Chain) → (IsMember (items c) q → ⊥) → IsChain (inserted link_map q u v) c → IsChain link_map c
 
--- where a link comes that stands alone, each chain stays
+-- a new lone link keeps every chain
 abbrev pub LoneKeepsEach : Type 0
 LoneKeepsEach = (old new : LinkMap) (q : ℕ) → old q ≡ None → AddsLone old new q → (c : Chain) → IsChain old c → IsChain new c
 
--- where two neighbours are cut apart, a chain without one of them stays, since it lacks the other too ..
+-- a cut keeps a chain without one of the two neighbors
 abbrev pub CutKeepsOthers : Type 0
 CutKeepsOthers = (old new : LinkMap) (a b : ℕ) → IsWellLinked old → AreNeighbors old a b → Cuts old new a b
     → (c : Chain) → (IsMember (items c) a → ⊥) ⊎ (IsMember (items c) b → ⊥) → IsChain old c → IsChain new c
 
--- .. and where an end and a start are joined, a chain without one of them was there before
+-- after a join, a chain without one of the two links existed before
 abbrev pub JoinMakesNoOthers : Type 0
 JoinMakesNoOthers = (link_map : LinkMap) (a b : ℕ) → IsWellLinked link_map → AreEndAndStart link_map a b
     → (c : Chain) → (IsMember (items c) a → ⊥) ⊎ (IsMember (items c) b → ⊥) → IsChain (joined link_map a b) c → IsChain link_map c
 
--- where a link is removed, a chain without the links that it named was there before
+-- after a removal, a chain without the links that the removed one named existed before
 abbrev pub RemovalMakesNoOthers : Type 0
 RemovalMakesNoOthers = (link_map : LinkMap) (i : ℕ) → (c : Chain) → (HasIndex c (prev_of link_map i) → ⊥) → (HasIndex c (next_of link_map i) → ⊥)
     → IsChain (removed link_map i) c → IsChain link_map c

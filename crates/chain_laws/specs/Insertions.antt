@@ -1,11 +1,11 @@
--- Where a new link may come, and what becomes of the interlinks and of the chains where it comes.
+-- Insertion positions and insertions.
 use Rattle.std.specs.Prelude.{◌≡◌, ◌↔◌, ℕ, ◌⊎◌, List, [], ◌∷◌, ◌++◌, Option, None, Some}
 use Rattle.chain_laws.specs.Chains.{LinkMap, Chain, linear, cyclic, items, IsMember, IsChain, HasLink, HasLinksWithin, IsWellLinked, first_or, last_or, prev_of, next_of}
 use Rattle.chain_laws.specs.Neighbors.{AreNeighbors}
 use Rattle.chain_laws.specs.Joins.{linked, with_lone, AreEndAndStart, HaveSameChains}
 use Rattle.chain_laws.specs.Removals.{removed}
 
--- the kinds of insertion, with what names the links beside which the new one comes
+-- the kinds of insertion, with the names of the links beside the new one
 pub data InsertKind (N : Type 0) : Type 0 where
   disconnected : InsertKind N
   single_link_cyclic : InsertKind N
@@ -16,7 +16,7 @@ pub data InsertKind (N : Type 0) : Type 0 where
   at_interlink : N → N → InsertKind N
   bridge : N → N → InsertKind N
 
--- what a kind asks of the links that it names by their indexes
+-- what a kind requires of the links that it names
 abbrev pub CanInsert : LinkMap → InsertKind ℕ → Type 0
 CanInsert link_map disconnected = Unit {0}
 CanInsert link_map single_link_cyclic = Unit {0}
@@ -27,7 +27,7 @@ CanInsert link_map (prev_to b) = HasLink link_map b
 CanInsert link_map (at_interlink a b) = HasLink link_map a × HasLink link_map b × AreNeighbors link_map a b
 CanInsert link_map (bridge a b) = AreEndAndStart link_map a b
 
--- the link before the new one, which is q ..
+-- the link before the new link at q
 abbrev pub link_before : LinkMap → InsertKind ℕ → ℕ → Option ℕ
 link_before link_map disconnected q = None
 link_before link_map single_link_cyclic q = Some q
@@ -38,7 +38,7 @@ link_before link_map (prev_to b) q = prev_of link_map b
 link_before link_map (at_interlink a b) q = Some a
 link_before link_map (bridge a b) q = Some a
 
--- .. and the link after it
+-- the link after the new link at q
 abbrev pub link_after : LinkMap → InsertKind ℕ → ℕ → Option ℕ
 link_after link_map disconnected q = None
 link_after link_map single_link_cyclic q = Some q
@@ -49,84 +49,83 @@ link_after link_map (prev_to b) q = Some b
 link_after link_map (at_interlink a b) q = Some b
 link_after link_map (bridge a b) q = Some b
 
--- a new link at q comes after u and before v, each where it is some index
+-- q comes after u and before v; either may be none
 abbrev pub inserted : LinkMap → ℕ → Option ℕ → Option ℕ → LinkMap
 inserted link_map q u v = linked (linked (with_lone link_map q) u (Some q)) (Some q) v
 
--- a new link of a kind comes to q
+-- a new link at q, by its kind
 abbrev pub inserted_as : LinkMap → InsertKind ℕ → ℕ → LinkMap
 inserted_as link_map kind q = inserted link_map q (link_before link_map kind q) (link_after link_map kind q)
 
--- a new link at q may come between u and v: they are neighbours, or an end and a start; one of them may be missing, or
--- both; or both are the new link itself
+-- u and v are neighbors, or an end and a start (one or both may be missing), or both q
 abbrev pub IsInsertPosition : LinkMap → ℕ → Option ℕ → Option ℕ → Type 0
 IsInsertPosition link_map q None None = Unit {0}
 IsInsertPosition link_map q (Some a) None = HasLink link_map a × (next_of link_map a ≡ None)
 IsInsertPosition link_map q None (Some b) = HasLink link_map b × (prev_of link_map b ≡ None)
 IsInsertPosition link_map q (Some a) (Some b) = AreNeighbors link_map a b ⊎ AreEndAndStart link_map a b ⊎ ((a ≡ q) × (b ≡ q))
 
--- a new link comes between u and v, by pairs: theirs goes where it stands, and each of them and the new link become one
+-- by pairs: q comes between u and v, and their own pair goes, if any
 pub record InsertsPairs (old new : LinkMap) (q : ℕ) (u v : Option ℕ) : Type 0 where
   pub pairs : (i j : ℕ) → AreNeighbors new i j
       ↔ ((AreNeighbors old i j × ((u ≡ Some i) × (v ≡ Some j) → ⊥)) ⊎ ((u ≡ Some i) × (j ≡ q)) ⊎ ((i ≡ q) × (v ≡ Some j)))
   pub links : (i : ℕ) → HasLink new i ↔ (HasLink old i ⊎ (i ≡ q))
 
--- the chain has this index, if it is some
+-- the chain has this index; none is in no chain
 abbrev pub HasIndex : Chain → Option ℕ → Type 0
 HasIndex c None = ⊥
 HasIndex c (Some i) = IsMember (items c) i
 
--- a new link comes between u and v, by chains
+-- by chains: q comes between u and v
 pub record Inserts (old new : LinkMap) (q : ℕ) (u v : Option ℕ) : Type 0 where
   pub alone : u ≡ None → v ≡ None → IsChain new (linear (q ∷ []))
   pub ring : u ≡ Some q → v ≡ Some q → IsChain new (cyclic (q ∷ []))
-  -- after a link and before what came after that: it stands in their chain, which stays linear or cyclic ..
+  -- after a: q goes into its chain, which stays linear or cyclic
   pub after : (a : ℕ) → u ≡ Some a → v ≡ next_of old a → (x y : List ℕ)
       → (IsChain old (linear (x ++ a ∷ y)) → IsChain new (linear (x ++ a ∷ q ∷ y)))
       × (IsChain old (cyclic (x ++ a ∷ y)) → IsChain new (cyclic (x ++ a ∷ q ∷ y)))
-  -- .. and so before a link and after what came before that
+  -- before b: q goes into its chain, which stays linear or cyclic
   pub before : (b : ℕ) → v ≡ Some b → u ≡ prev_of old b → (x y : List ℕ)
       → (IsChain old (linear (x ++ b ∷ y)) → IsChain new (linear (x ++ q ∷ b ∷ y)))
       × (IsChain old (cyclic (x ++ b ∷ y)) → IsChain new (cyclic (x ++ q ∷ b ∷ y)))
-  -- after the end of one chain and before the start of another: the one, the link and the other become one
+  -- between two chains: both and q become one
   pub two : (a b : ℕ) → u ≡ Some a → v ≡ Some b → (x y : List ℕ) → IsChain old (linear (x ++ a ∷ [])) → IsChain old (linear (b ∷ y))
       → (IsMember (x ++ a ∷ []) b → ⊥) → IsChain new (linear ((x ++ a ∷ q ∷ []) ++ b ∷ y))
-  -- after the end and before the start of one chain: it becomes cyclic
+  -- between the end and the start of one chain: it becomes cyclic
   pub one : (a b : ℕ) → u ≡ Some a → v ≡ Some b → (xs : List ℕ) → IsChain old (linear xs) → first_or xs None ≡ Some b → last_or xs None ≡ Some a
       → IsChain new (cyclic (xs ++ q ∷ []))
   -- every other chain stays, item for item
   pub rest : (c : Chain) → (IsMember (items c) q → ⊥) → (HasIndex c u → ⊥) → (HasIndex c v → ⊥) → IsChain old c ↔ IsChain new c
   pub links : (i : ℕ) → HasLink new i ↔ (HasLink old i ⊎ (i ≡ q))
 
--- what a kind asks for is a gap ..
+-- a kind whose requirements hold gives an insertion position
 abbrev pub KindGivesAPosition : Type 0
 KindGivesAPosition = (link_map : LinkMap) (kind : InsertKind ℕ) (q : ℕ) → IsWellLinked link_map → CanInsert link_map kind
     → IsInsertPosition link_map q (link_before link_map kind q) (link_after link_map kind q)
 
--- .. and with a new link in it the interlinks still agree ..
+-- an insertion keeps the arena well linked
 abbrev pub InsertionAgrees : Type 0
 InsertionAgrees = (link_map : LinkMap) (q : ℕ) (u v : Option ℕ) → IsWellLinked link_map → link_map q ≡ None → IsInsertPosition link_map q u v → IsWellLinked (inserted link_map q u v)
 
--- .. the pairs are those with it ..
+-- an insertion changes pairs as `InsertsPairs` states
 abbrev pub InsertionInPairs : Type 0
 InsertionInPairs = (link_map : LinkMap) (q : ℕ) (u v : Option ℕ) → IsWellLinked link_map → link_map q ≡ None → IsInsertPosition link_map q u v
     → InsertsPairs link_map (inserted link_map q u v) q u v
 
--- .. and so are the chains, all cases
+-- an insertion changes chains as `Inserts` states
 abbrev pub InsertionInserts : Type 0
 InsertionInserts = (link_map : LinkMap) (q : ℕ) (u v : Option ℕ) → link_map q ≡ None → Inserts link_map (inserted link_map q u v) q u v
 
--- what inserts a link in a gap, by chains, has the chains of the insertion, and no others ..
+-- `Inserts` gives exactly the chains of the insertion
 abbrev pub InsertionIsDetermined : Type 0
 InsertionIsDetermined = (old new : LinkMap) (slots q : ℕ) (u v : Option ℕ) → IsWellLinked old → HasLinksWithin old slots → old q ≡ None → IsInsertPosition old q u v
     → Inserts old new q u v → HaveSameChains new (inserted old q u v)
 
--- .. and what inserts it by pairs, and agrees, is the insertion
+-- `InsertsPairs` with a well-linked result gives exactly the insertion
 abbrev pub InsertionIsDeterminedByPairs : Type 0
 InsertionIsDeterminedByPairs = (old new : LinkMap) (q : ℕ) (u v : Option ℕ) → IsWellLinked old → IsWellLinked new → old q ≡ None → IsInsertPosition old q u v
     → InsertsPairs old new q u v → new ≡ inserted old q u v
 
--- a new link next to another one, after it or before it, removed again, leaves what stood before
+-- removing a link just inserted beside another one restores the arena
 abbrev pub RemovalOfInsertedRestores : Type 0
 RemovalOfInsertedRestores = (link_map : LinkMap) (a q : ℕ) → IsWellLinked link_map → HasLink link_map a → link_map q ≡ None
     → (removed (inserted_as link_map (next_to a) q) q ≡ link_map) × (removed (inserted_as link_map (prev_to a) q) q ≡ link_map)

@@ -1,4 +1,4 @@
--- Chains that are taken out of one arena, link by link from their first, and laid in runs in another.
+-- Chains removed from one arena, first link by first link, and arranged in runs in another.
 use Rattle.std.specs.Prelude.{◌≡◌, ℕ, zero, suc, ◌+◌, ◌-◌, Bool, if◌then◌else◌, List, [], ◌∷◌, ◌++◌, length, Option, None, Some}
 use Rattle.chain_laws.specs.Chains.{LinkMap, Chain, all_items, IsWellLinked, AreChains, first_or, next_of}
 use Rattle.chain_laws.specs.Removals.{removed}
@@ -7,22 +7,22 @@ use Rattle.chain_laws.specs.Walks.{step_forward}
 use Rattle.chain_laws.specs.Arrangements.{in_runs}
 use Rattle.chain_laws.specs.ChainStart.{chain_of}
 
--- the chain of the items that are left to take, before the other chains; none where no items are left
+-- the chain of the items left, if any, before the other chains
 abbrev pub with_rest : Bool → List ℕ → List Chain → List Chain
 with_rest ring [] rest = rest
 with_rest ring (x ∷ xs) rest = chain_of ring (x ∷ xs) ∷ rest
 
--- the chain of the items that are laid, behind the other chains; none where no items are laid
+-- the chain of the items inserted so far, if any, after the other chains
 abbrev pub with_appended : List Chain → Bool → List ℕ → List Chain
 with_appended done ring [] = done
 with_appended done ring (x ∷ xs) = done ++ chain_of ring (x ∷ xs) ∷ []
 
--- once its first link is removed, the rest of a chain is left, from the link that came next, and the other chains stay
+-- removing its first link leaves the rest of a chain, from the next link on, and the others
 abbrev pub FirstIsTaken : Type 0
 FirstIsTaken = (link_map : LinkMap) (ring : Bool) (x : ℕ) (xs : List ℕ) (rest : List Chain) → IsWellLinked link_map → AreChains link_map (chain_of ring (x ∷ xs) ∷ rest)
     → AreChains (removed link_map x) (with_rest ring xs rest) × (step_forward x (next_of link_map x) ≡ first_or xs None)
 
--- the links beside a new one at q, at the end of a chain that lies in the so many indexes before q
+-- the links beside a new link at q, the end of a chain in the given number of indexes before q
 abbrev pub end_before : Bool → ℕ → ℕ → Option ℕ
 end_before ring zero q = if ring then Some q else None
 end_before ring (suc m) q = Some (q - 1)

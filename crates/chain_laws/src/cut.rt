@@ -1,30 +1,30 @@
-//! What a cut between two neighbours does to the interlinks and to the chains.
+//! Laws of cuts between two neighbors.
 
 ghost use Rattle.chain_laws.specs.Cuts.{CutAgrees, CutTakesAPair, CutPartsChains, CutIsDetermined, CutIsDeterminedByPairs, JoinOfCutRestores, CutOfJoinRestores};
 
-/// Where two neighbours are cut apart, the interlinks still agree.
+/// States that a cut between two neighbors keeps the arena well linked.
 pub fn cut_agrees()
     ensures { CutAgrees }
 {}
 
-/// A cut takes one neighbour pair away and adds none, and the links stay.
+/// States that a cut removes one neighbor pair, adds none, and keeps every link.
 pub fn cut_takes_a_pair()
     ensures { CutTakesAPair }
 {}
 
-/// A cut makes two chains of a linear one, or a linear one of a cyclic one, and every other chain stays.
+/// States that a cut splits a linear chain, or makes a cyclic one linear; other chains stay.
 pub fn cut_parts_chains()
     ensures { CutPartsChains }
 {}
 
-/// What `Cuts` or `TakesPair` says of two neighbours leaves no choice: whatever it holds of has the chains of their cut,
-/// and no others.
+/// States that `Cuts`, or `TakesPair` with a well-linked result, gives exactly the chains of the
+/// cut.
 pub fn cut_is_determined()
     ensures by_chains { CutIsDetermined }
     ensures by_pairs { CutIsDeterminedByPairs }
 {}
 
-/// A cut and a join of the same two indexes, one after the other, leave the interlinks that were there before.
+/// States that a cut and a join of the same indexes, in either order, restore the interlinks.
 pub fn cut_and_join_restore()
     ensures join_of_cut { JoinOfCutRestores }
     ensures cut_of_join { CutOfJoinRestores }

@@ -1,29 +1,32 @@
-//! The chains that a change leaves alone.
+//! Laws of the chains that a change leaves alone.
 
 ghost use Rattle.chain_laws.specs.Frame.{SameLinksKeepAChain, InsertionKeepsOthers, InsertionMakesNoOthers, LoneKeepsEach};
 ghost use Rattle.chain_laws.specs.Frame.{CutKeepsOthers, JoinMakesNoOthers, RemovalMakesNoOthers};
 
-/// A chain stays where its links show what they did.
+/// States that a chain stays if its links keep their interlinks.
 pub fn same_links_keep_a_chain()
     ensures { SameLinksKeepAChain }
 {}
 
-/// A chain that lacks the links beside which a new one comes stays, item for item, and no other such chain comes; each
-/// chain stays where the new link stands alone.
+/// States that an insertion keeps each chain without the links that its kind names.
+///
+/// A chain without the new link existed before. A lone link keeps every chain.
 pub fn insertion_keeps_others()
     ensures kept { InsertionKeepsOthers }
     ensures no_others { InsertionMakesNoOthers }
     ensures lone { LoneKeepsEach }
 {}
 
-/// A chain that lacks one of two neighbours lacks the other: so it stays where they are cut apart, and was there before they
-/// were joined.
+/// States that a chain without one of two neighbors survives their cut, and existed before their
+/// join.
+///
+/// Such a chain lacks both.
 pub fn cut_and_join_keep_others()
     ensures cut { CutKeepsOthers }
     ensures joined { JoinMakesNoOthers }
 {}
 
-/// A chain that lacks the links that a removed one named was there before.
+/// States that a chain without the links that a removed link named existed before the removal.
 pub fn removal_makes_no_others()
     ensures { RemovalMakesNoOthers }
 {}

@@ -1,35 +1,36 @@
-//! What a new link does to the interlinks and to the chains, whatever its kind.
+//! Laws of insertions of any kind.
 
 ghost use Rattle.chain_laws.specs.Insertions.{KindGivesAPosition, InsertionAgrees, InsertionInPairs, InsertionInserts, InsertionIsDetermined, InsertionIsDeterminedByPairs, RemovalOfInsertedRestores};
 
-/// What a kind asks for is a gap between the two links that it gives the new one.
+/// States that a kind whose requirements hold gives an insertion position.
 pub fn kind_gives_a_gap()
     ensures { KindGivesAPosition }
 {}
 
-/// With a new link in a gap the interlinks still agree.
+/// States that inserting at an insertion position keeps the arena well linked.
 pub fn insertion_agrees()
     ensures { InsertionAgrees }
 {}
 
-/// The pair of the gap goes where there is one, and those of the new link come.
+/// States that an insertion replaces the pair at its position, if any, by those of the new link.
 pub fn insertion_in_pairs()
     ensures { InsertionInPairs }
 {}
 
-/// A new link comes into a list, between two lists, or closes one, and every other chain stays.
+/// States that a new link goes into a chain, between two, closes one or is alone; other chains
+/// stay.
 pub fn insertion_inserts()
     ensures { InsertionInserts }
 {}
 
-/// What `Inserts` or `InsertsPairs` says of a gap leaves no choice: whatever it holds of has the chains of the insertion,
-/// and no others.
+/// States that `Inserts`, or `InsertsPairs` with a well-linked result, gives exactly the chains of
+/// the insertion.
 pub fn insertion_is_determined()
     ensures by_chains { InsertionIsDetermined }
     ensures by_pairs { InsertionIsDeterminedByPairs }
 {}
 
-/// A new link next to another one, removed again, leaves the interlinks that were there before.
+/// States that removing a link just inserted beside another one restores the interlinks.
 pub fn removal_of_inserted_restores()
     ensures { RemovalOfInsertedRestores }
 {}

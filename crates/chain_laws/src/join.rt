@@ -1,48 +1,48 @@
-//! What a join and a new lone link do to the interlinks and to the chains.
+//! Laws of joins of an end and a start, and of new lone links.
 
 ghost use Rattle.chain_laws.specs.Joins.{JoinAgrees, JoinAddsAPair, JoinConnects, JoinIsDetermined, LoneAgrees, LoneAdds, LoneIsDetermined, ChainsDecide, PairsDecide};
 
-/// Where an end and a start are joined, of two chains or of one, the interlinks still agree.
+/// States that a join, of two chains or of one, keeps the arena well linked.
 pub fn join_agrees()
     ensures { JoinAgrees }
 {}
 
-/// A join adds one neighbour pair and takes none away, and the links stay.
+/// States that a join adds one neighbor pair, removes none, and keeps every link.
 pub fn join_adds_a_pair()
     ensures { JoinAddsAPair }
 {}
 
-/// A join writes two chains as one, or closes one chain to a cyclic one, and every other chain stays.
+/// States that a join concatenates two chains or makes one cyclic; other chains stay.
 pub fn join_connects()
     ensures { JoinConnects }
 {}
 
-/// What `Connects` says of an end and a start leaves no choice: whatever it holds of has the chains of their join, and no others.
+/// States that `Connects` gives exactly the chains of the join.
 pub fn join_is_determined()
     ensures { JoinIsDetermined }
 {}
 
-/// With a new link that stands alone the interlinks still agree.
+/// States that adding a lone link keeps the arena well linked.
 pub fn lone_agrees()
     ensures { LoneAgrees }
 {}
 
-/// A new link that stands alone is a chain of its own, and every other chain stays.
+/// States that a new lone link is a chain of its own; other chains stay.
 pub fn lone_adds()
     ensures { LoneAdds }
 {}
 
-/// What `AddsLone` says leaves no choice: whatever it holds of has the chains with the new link, and no others.
+/// States that `AddsLone` gives exactly the chains with the new link.
 pub fn lone_is_determined()
     ensures { LoneIsDetermined }
 {}
 
-/// Two arenas whose interlinks agree and that have the same chains show the same interlinks.
+/// States that well-linked arenas with the same chains have the same interlinks.
 pub fn chains_decide()
     ensures { ChainsDecide }
 {}
 
-/// Two arenas whose interlinks agree and that have the same links and neighbour pairs show the same interlinks.
+/// States that well-linked arenas with the same links and neighbor pairs have the same interlinks.
 pub fn pairs_decide()
     ensures { PairsDecide }
 {}

@@ -1,5 +1,6 @@
-//! What chains are, and every law that speaks of chains alone. There is no code here: each public function has an
-//! empty body and carries a law as its contract.
+//! The definition of chains, and every law about chains alone.
+//!
+//! There is no code here: each function has an empty body, and its contract states a law.
 #![tactic(auto)]
 
 pub mod cut;

@@ -1,19 +1,21 @@
-//! What stands in a chain and in a list, for code that is built on chains.
+//! Laws of membership in chains and lists.
 
 ghost use Rattle.chain_laws.specs.Members.{MembersAreLinks, FreeIsInNoChain, MembersOccurOnce, MembersNameNeighbors};
 ghost use Rattle.chain_laws.specs.Members.{PlacesInALine, PlacesInARing, LinesEnd, RingsAreCyclic, NeighborsShareAChain, ChainsShareEach, RotationsHaveTheSame, HasInAll};
 ghost use Rattle.chain_laws.specs.Members.{HasInJoin, HasInRotation, HasInMiddle, MembersSplitAList, HasIsDecided, HasIsFilled};
 ghost use Rattle.chain_laws.specs.Members.{OnceInJoin, OnceInRotation, OnceInMiddle, OnceAtOnePlace, OnceIsNoLonger};
 
-/// A link stands at each index of a chain, and each index stands in it once.
+/// States that each index of a chain has a link and is in the chain once.
 pub fn members_are_links()
     ensures valid { MembersAreLinks }
     ensures free { FreeIsInNoChain }
     ensures once { MembersOccurOnce }
 {}
 
-/// A link of a chain names the links beside it there, and no others: in a linear chain nothing at its ends, in a cyclic one
-/// what comes round.
+/// States that a link of a chain names its neighbors there and no others.
+///
+/// An end of a linear chain names nothing on that side; last and first of a cyclic one are
+/// neighbors.
 pub fn members_name_neighbors()
     ensures neighbors { MembersNameNeighbors }
     ensures in_line { PlacesInALine }
@@ -22,7 +24,7 @@ pub fn members_name_neighbors()
     ensures ring_goes_round { RingsAreCyclic }
 {}
 
-/// What stands beside a link of a chain stands in that chain, and chains that share a link share each.
+/// States that neighbors share a chain, and that chains with a common link have the same links.
 pub fn neighbors_stand_together()
     ensures together { NeighborsShareAChain }
     ensures each { ChainsShareEach }
@@ -30,7 +32,7 @@ pub fn neighbors_stand_together()
     ensures in_all { HasInAll }
 {}
 
-/// What a list has, by its parts, in either order, and around one of its items.
+/// States what a list has, by its parts, in either order, and around an item.
 pub fn lists_have()
     ensures in_join { HasInJoin }
     ensures in_turn { HasInRotation }
@@ -40,7 +42,7 @@ pub fn lists_have()
     ensures filled { HasIsFilled }
 {}
 
-/// What a list without repetition is, by its parts, in either order, and around one of its items.
+/// States when a list has no repetition, by its parts, in either order, and around an item.
 pub fn lists_have_once()
     ensures in_join { OnceInJoin }
     ensures in_turn { OnceInRotation }

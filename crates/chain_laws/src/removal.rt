@@ -1,32 +1,33 @@
-//! What the removal of a link does to the interlinks and to the chains.
+//! Laws of removals.
 
 ghost use Rattle.chain_laws.specs.Removals.{RemovalAgrees, RemovalRemoves, RemovalInPairs, RemovalIsDetermined, RemovalLeavesEachWithout, RemovalIsDeterminedByPairs, RemovalOfLoneRestores};
 
-/// After a removal the interlinks still agree.
+/// States that a removal keeps the arena well linked.
 pub fn removal_agrees()
     ensures { RemovalAgrees }
 {}
 
-/// A removed index leaves its list, of which the rest stays linear or cyclic as it was; a chain of it alone is gone, and
-/// every other chain stays.
+/// States that an index leaves its chain, which stays linear or cyclic; other chains stay.
+///
+/// A chain of that index alone is gone.
 pub fn removal_removes()
     ensures { RemovalRemoves }
 {}
 
-/// A removal takes away all neighbour pairs with the index, and makes a pair of the two links that it stood between.
+/// States that a removal drops all pairs with the index, and pairs the links on its two sides.
 pub fn removal_in_pairs()
     ensures { RemovalInPairs }
 {}
 
-/// What `Removes` or `RemovesPairs` says leaves no choice: whatever it holds of has the chains of the removal, and no
-/// others, and they are the old ones without the index.
+/// States that `Removes`, or `RemovesPairs` with a well-linked result, gives exactly the old chains
+/// without the index.
 pub fn removal_is_determined()
     ensures by_chains { RemovalIsDetermined }
     ensures each { RemovalLeavesEachWithout }
     ensures by_pairs { RemovalIsDeterminedByPairs }
 {}
 
-/// A new link that stands alone, removed again, leaves the interlinks that were there before.
+/// States that removing a lone link just added restores the interlinks.
 pub fn removal_of_lone_restores()
     ensures { RemovalOfLoneRestores }
 {}

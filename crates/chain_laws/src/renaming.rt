@@ -1,12 +1,14 @@
-//! What a renaming does to the interlinks and to the chains, and the renumberings that lists of all links give.
+//! Laws of renamings, and of renumberings by a list of all links.
 
 ghost use Rattle.chain_laws.specs.Renamings.{RenamingAgrees, RenamingCarriesPairs, RenamingCarriesChains, RenamingCarriesAll, RenamingIsDetermined};
 ghost use Rattle.chain_laws.specs.Arrangements.{ArrangementNumbers, PlacesAreApart, CanonicalArranges, PlacesChainsInRuns, RunsAreRenumbered};
 ghost use Rattle.chain_laws.specs.Moves.{MoveRenames, NeighborsDetermineAMove, RenamingsCompose, GatheringBegins, GatheringSkips, GatheringContinues, GatheringEnds};
 ghost use Rattle.chain_laws.specs.Arrangements.{HasLeastIndexOrder, LeastIndexOrderIsOrdered, LeastIndexOrderIsCanonical, LeastIndexOrderRests, LayoutRests, PlacesRest};
 
-/// After a renaming the interlinks agree as before, and the pairs and the chains are those of before under their new indexes,
-/// each chain linear or cyclic as it was. Where the links go leaves no choice.
+/// States that a renaming keeps the arena well linked, and moves pairs and chains to their new
+/// indexes.
+///
+/// Chains stay linear or cyclic. The new indexes determine the result.
 pub fn renaming_carries()
     ensures agrees { RenamingAgrees }
     ensures pairs { RenamingCarriesPairs }
@@ -15,23 +17,24 @@ pub fn renaming_carries()
     ensures determined { RenamingIsDetermined }
 {}
 
-/// A list of all links sends the k-th of them to index k, and so all of them to the indexes from 1 to their number, no two
-/// to one.
+/// States that a list of all links moves its k-th link to index k, and no two to one index.
 pub fn arrangement_numbers()
     ensures numbers { ArrangementNumbers }
     ensures apart { PlacesAreApart }
 {}
 
-/// The chains one after another, in whatever order, are a list of all links; the renumbering by it lays each chain in a
-/// run, and no other arena has the chains in these runs.
+/// States that renumbering by the chains, in any order, moves each to a run of indexes.
+///
+/// The chains list all links. No other arena has them in these runs.
 pub fn canonical_lays_runs()
     ensures arranges { CanonicalArranges }
     ensures lays { PlacesChainsInRuns }
     ensures renumbered { RunsAreRenumbered }
 {}
 
-/// There is one least-index order of an arena whose interlinks agree. It is canonical, and where the links lie canonically
-/// as they stand, as they do once they are laid out in it, it leaves each in its place.
+/// States that a well-linked arena has one least-index order, which is canonical.
+///
+/// If the links are in a canonical order, as after arranging by it, each keeps its index.
 pub fn least_index_order()
     ensures there_is_one { HasLeastIndexOrder }
     ensures one { LeastIndexOrderIsOrdered }
@@ -41,15 +44,17 @@ pub fn least_index_order()
     ensures places_rest { PlacesRest }
 {}
 
-/// One link that goes to a free index is a renaming, for which only its neighbors have to be told; and renamings may be made
-/// one after another.
+/// States that moving a link to a free index is a renaming, and that renamings compose.
+///
+/// A move rewrites only the neighbors of the link.
 pub fn move_renames()
     ensures renames { MoveRenames }
     ensures neighbors { NeighborsDetermineAMove }
     ensures compose { RenamingsCompose }
 {}
 
-/// Where the links go to the indexes from 1 on, one after another by rising index, they are renumbered by that order.
+/// States that moving the links, by increasing index, to indexes from 1 on renumbers them in that
+/// order.
 pub fn gathering_renumbers()
     ensures begins { GatheringBegins }
     ensures skips { GatheringSkips }

@@ -1,4 +1,4 @@
--- An arena whose interlinks agree has chains: one from each index, and so a list of all.
+-- Lemmas that a well-linked arena has chains.
 use Rattle.std.proofs.Common.{◌≡◌, ◌≢◌, ℕ, zero, suc, ◌+◌, ◌<◌, ◌≤◌, ◌⊎◌, inl, inr, ⊎_elim, List, [], ◌∷◌, ◌++◌, length, Option, None, Some, refl, sym, ap, ◌∙◌, subst, length-append, arith}
 use Rattle.std.proofs.Math.Decide.{ℕ_discrete}
 use Rattle.chain_laws.specs.Chains.{LinkMap, Interlinks, HasLink, HasLinksWithin, IsWellLinked, IsMember, AreDistinct, Chain, linear, cyclic, items, last_or, prev_in, prev_of, next_of, AreLinked, IsChain, HasChain, all_items, StartsAtLeast, IsSortedByLeast, AreChains, IsInOrder}
@@ -8,34 +8,34 @@ use Rattle.chain_laws.proofs.ChainLemmas.Uniqueness.{chain_valid, chain_once, ch
 use Rattle.chain_laws.proofs.ChainLemmas.Rotations.{turned_to}
 use Rattle.chain_laws.proofs.ChainLemmas.ChainLists.{IsMember-all_items, chain_at, all_items_valid}
 
--- where the links that come after k lead: to an end, or round to k
+-- the links after k: they end, or return to k
 data Ending (link_map : LinkMap) (before : Option ℕ) (k : ℕ) : Type 0 where
   ends : (after : List ℕ) → AreLinked link_map before (k ∷ after) None → Ending link_map before k
   comes_round : (after : List ℕ) → AreLinked link_map before (k ∷ after) (Some k) → (IsMember after k → ⊥) → Ending link_map before k
 
--- a linear list that has k
+-- a linked list with k, and nothing before or after it
 data Beginning (link_map : LinkMap) (k : ℕ) : Type 0 where
   begins : (xs : List ℕ) → AreLinked link_map None xs None → IsMember xs k → Beginning link_map k
 
--- the chain of an index
+-- a chain with k in it
 pub data ChainOf (link_map : LinkMap) (k : ℕ) : Type 0 where
   stands_in : (c : Chain) → IsChain link_map c → IsMember (items c) k → ChainOf link_map k
 
 module _ (link_map : LinkMap) (slots : ℕ) (agrees : IsWellLinked link_map) (within : HasLinksWithin link_map slots) where
-  -- a list without repetition of valid indexes has no room beyond the slots
+  -- there are no more distinct valid indexes than slots
   room : (xs : List ℕ) → AreDistinct xs → ((i : ℕ) → IsMember xs i → HasLink link_map i) → slots < length xs → ⊥
   room xs once valid more =
       let bound : length xs ≤ slots = length_bound xs slots once (λ i h. within.within i (valid i h)) in
       omega arith
 
-  -- what comes after a list names its last item
+  -- what follows a list names its last item as prev
   names_last : (before : Option ℕ) (k : ℕ) (xs : List ℕ) (j : ℕ) → AreLinked link_map before (k ∷ xs) (Some j) → prev_of link_map j ≡ last_or (k ∷ xs) None
   names_last before k xs j s =
       let last = last_or-filled (k ∷ xs) k (inl refl) in
       let on : next_of link_map last.0 ≡ Some j = AreLinked-last link_map before (k ∷ xs) (Some j) last.0 s (IsMember-filled (k ∷ xs) k (inl refl)) (last.1 None) in
       (agrees.both last.0 j).0 on ∙ sym (last.1 None)
 
-  -- on from k, with xs passed and j next, in at most `left` steps
+  -- follows next from k, with xs passed and j to come, for at most `left` steps
   onward : (left : ℕ) (before : Option ℕ) (k : ℕ) (xs : List ℕ) (j : ℕ) → AreLinked link_map before (k ∷ xs) (Some j) → (IsMember xs k → ⊥) → (j ≢ k)
       → slots < left + length (k ∷ xs) → Ending link_map before k
   onward zero before k xs j s apart differs more =
@@ -67,7 +67,7 @@ module _ (link_map : LinkMap) (slots : ℕ) (agrees : IsWellLinked link_map) (wi
       by_next None n on = ends (xs ++ j ∷ []) (stands None n)
       by_next (Some m) n on = by_test m n (ℕ_discrete m k) on
 
-  -- on from a valid index
+  -- follows next from a valid index
   on_from : (k : ℕ) → HasLink link_map k → Ending link_map (prev_of link_map k) k
   on_from k valid = by_next (next_of link_map k) refl
     where
@@ -82,7 +82,7 @@ module _ (link_map : LinkMap) (slots : ℕ) (agrees : IsWellLinked link_map) (wi
       by_next None n = ends [] (stands None n)
       by_next (Some m) n = by_test m n (ℕ_discrete m k)
 
-  -- back from a list that leads to an end, in at most `left` steps
+  -- follows prev from a list with nothing after it, for at most `left` steps
   backward : (left : ℕ) (before : Option ℕ) (x : ℕ) (xs : List ℕ) (k : ℕ) → AreLinked link_map before (x ∷ xs) None → IsMember (x ∷ xs) k → slots < left + length (x ∷ xs) → Beginning link_map k
   backward left None x xs k s h more = begins (x ∷ xs) s h
   backward zero (Some j) x xs k s h more =
@@ -95,7 +95,7 @@ module _ (link_map : LinkMap) (slots : ℕ) (agrees : IsWellLinked link_map) (wi
       before : link_map j ≡ Some (link (prev_of link_map j) (Some x))
       before = shows_both link_map j (prev_of link_map j) (Some x) (next_valid link_map j x on) refl on
 
-  -- each valid index stands in a chain
+  -- each valid index is in a chain
   pub has_chain : (k : ℕ) → HasLink link_map k → ChainOf link_map k
   has_chain k valid = by_ending (on_from k valid)
     where
@@ -112,18 +112,18 @@ module _ (link_map : LinkMap) (slots : ℕ) (agrees : IsWellLinked link_map) (wi
           (IsMember-filled (k ∷ after) k (inl refl), apart_no_repetition link_map (prev_of link_map k) k after (Some k) s apart, ring after s)
           (inl refl)
 
-  -- the chain of an index that is at most its other indexes, a cyclic one written from it
+  -- a chain with k, from its least index if cyclic
   data WrittenFrom (k : ℕ) : Type 0 where
     written_from : (c : Chain) → IsChain link_map c → IsMember (items c) k → StartsAtLeast c → WrittenFrom k
 
-  -- the chain of an index that is not above the others, written from it where it is cyclic
+  -- the chain with least index k, written from k if cyclic
   from_least : (k : ℕ) → ChainOf link_map k → ((c : Chain) (y : ℕ) → IsChain link_map c → IsMember (items c) k → IsMember (items c) y → k ≤ y) → WrittenFrom k
   from_least k (stands_in (linear xs) h m) least = written_from (linear xs) h m tt
   from_least k (stands_in (cyclic xs) h m) least =
       let t = turned_to link_map xs k h m in
       written_from (cyclic (k ∷ t.0)) t.1 (inl refl) (IsMember-at_most k t.0 (λ y n. least (cyclic (k ∷ t.0)) y t.1 (inl refl) (inr n)))
 
-  -- the chains that are not among those done, by their least index
+  -- the chains not among those done, by least index
   record Others (done : List Chain) : Type 0 where
     chains : List Chain
     each : (c : Chain) → HasChain chains c → IsChain link_map c
@@ -133,7 +133,7 @@ module _ (link_map : LinkMap) (slots : ℕ) (agrees : IsWellLinked link_map) (wi
     all : (i : ℕ) → HasLink link_map i → IsMember (all_items done) i ⊎ IsMember (all_items chains) i
     rises : IsSortedByLeast chains
 
-  -- one more chain before the others
+  -- adds a chain before the others
   with_chain : (k : ℕ) (done : List Chain) (c : Chain) → IsChain link_map c → IsMember (items c) k → StartsAtLeast c
       → ((i : ℕ) → HasLink link_map i → i < k → IsMember (all_items done) i) → ((y : ℕ) → IsMember (items c) y → IsMember (all_items done) y → ⊥)
       → Others (c ∷ done) → Others done
@@ -169,7 +169,7 @@ module _ (link_map : LinkMap) (slots : ℕ) (agrees : IsWellLinked link_map) (wi
           let other : (k ≡ y) → ⊥ = λ (e : k ≡ y). more.apart y n (IsMember-left (items c) (all_items done) y (subst (IsMember (items c)) e m)) in
           omega arith
 
-  -- the chains of the indexes from k on that are not among those done
+  -- the chains of indexes from k on, not among those done
   others : (left k : ℕ) (done : List Chain) → k + left ≡ suc slots → ((c : Chain) → HasChain done c → IsChain link_map c)
       → ((i : ℕ) → HasLink link_map i → i < k → IsMember (all_items done) i) → Others done
   others zero k done e each below = record {

@@ -1,25 +1,25 @@
--- Lists of links that stand: taken apart, put together, framed, closed under the interlinks, without repetition.
+-- Lemmas on linked lists: parts, concatenation, frame, closure, no repetition.
 use Rattle.std.proofs.Common.{◌≡◌, ◌≢◌, ℕ, ◌+◌, ◌⊎◌, inl, inr, ⊎_elim, List, [], ◌∷◌, ◌++◌, length, Option, None, Some, refl, sym, ap, ◌∙◌, subst, length-append, arith}
 use Rattle.chain_laws.specs.Chains.{LinkMap, Interlinks, Chain, linear, cyclic, items, IsChain, HasLink, IsMember, AreDistinct, first_or, last_or, prev_in, next_in, prev_of, next_of, AreLinked}
 use Rattle.chain_laws.proofs.ListLemmas.Members.{IsMember-written, first_or-append, first_or-IsMember}
 
--- interlinks, as they are written
+-- interlinks with the given prev and next
 abbrev pub link : Option ℕ → Option ℕ → Interlinks
 link before after = record { prev = before; next = after }
 
--- an index that shows interlinks is valid
+-- an index with interlinks is valid
 pub shows_valid : (link_map : LinkMap) (i : ℕ) (l : Interlinks) → link_map i ≡ Some l → HasLink link_map i
 shows_valid link_map i l e = record { link = l; shows = e }
 
--- what an index with interlinks shows as next
+-- the next link of an index with given interlinks
 pub shows_next : (link_map : LinkMap) (i : ℕ) (before after : Option ℕ) → link_map i ≡ Some (link before after) → next_of link_map i ≡ after
 shows_next link_map i before after e = ap next_in e
 
--- what an index with interlinks shows as prev
+-- the previous link of an index with given interlinks
 pub shows_prev : (link_map : LinkMap) (i : ℕ) (before after : Option ℕ) → link_map i ≡ Some (link before after) → prev_of link_map i ≡ before
 shows_prev link_map i before after e = ap prev_in e
 
--- an index that names a next one is valid
+-- an index with a next link is valid
 pub next_valid : (link_map : LinkMap) (i j : ℕ) → next_of link_map i ≡ Some j → HasLink link_map i
 next_valid link_map i j e = by_link (link_map i) refl e
   where
@@ -27,7 +27,7 @@ next_valid link_map i j e = by_link (link_map i) refl e
     by_link None is n = absurd (cc)
     by_link (Some l) is n = record { link = l; shows = is }
 
--- an index that names a previous one is valid
+-- an index with a previous link is valid
 pub prev_valid : (link_map : LinkMap) (i j : ℕ) → prev_of link_map i ≡ Some j → HasLink link_map i
 prev_valid link_map i j e = by_link (link_map i) refl e
   where
@@ -35,7 +35,7 @@ prev_valid link_map i j e = by_link (link_map i) refl e
     by_link None is n = absurd (cc)
     by_link (Some l) is n = record { link = l; shows = is }
 
--- a valid index shows its prev and its next
+-- prev and next determine the interlinks of a valid index
 pub shows_both : (link_map : LinkMap) (i : ℕ) (before after : Option ℕ) → HasLink link_map i → prev_of link_map i ≡ before → next_of link_map i ≡ after → link_map i ≡ Some (link before after)
 shows_both link_map i before after v p n =
     let l : Interlinks = v.link in
@@ -46,7 +46,7 @@ shows_both link_map i before after v p n =
     both : (l : Interlinks) (before after : Option ℕ) → l.prev ≡ before → l.next ≡ after → l ≡ link before after
     both l before after q m = λ i. record { prev = q i; next = m i }
 
--- two lists that stand one after the other stand as one
+-- two linked lists in succession are one
 pub AreLinked-append : (link_map : LinkMap) (before : Option ℕ) (xs ys : List ℕ) (after : Option ℕ)
     → AreLinked link_map before xs (first_or ys after) → AreLinked link_map (last_or xs before) ys after → AreLinked link_map before (xs ++ ys) after
 AreLinked-append link_map before [] ys after s t = t
@@ -55,7 +55,7 @@ AreLinked-append link_map before (x ∷ xs) ys after s t = (
   AreLinked-append link_map (Some x) xs ys after s.1 t,
 )
 
--- the left part of a list that stands
+-- the left part of a linked list
 pub AreLinked-left : (link_map : LinkMap) (before : Option ℕ) (xs ys : List ℕ) (after : Option ℕ)
     → AreLinked link_map before (xs ++ ys) after → AreLinked link_map before xs (first_or ys after)
 AreLinked-left link_map before [] ys after s = tt
@@ -64,18 +64,18 @@ AreLinked-left link_map before (x ∷ xs) ys after s = (
   AreLinked-left link_map (Some x) xs ys after s.1,
 )
 
--- the right part of a list that stands
+-- the right part of a linked list
 pub AreLinked-right : (link_map : LinkMap) (before : Option ℕ) (xs ys : List ℕ) (after : Option ℕ)
     → AreLinked link_map before (xs ++ ys) after → AreLinked link_map (last_or xs before) ys after
 AreLinked-right link_map before [] ys after s = s
 AreLinked-right link_map before (x ∷ xs) ys after s = AreLinked-right link_map (Some x) xs ys after s.1
 
--- what an item of a list that stands shows
+-- the interlinks of an item of a linked list
 pub AreLinked-at : (link_map : LinkMap) (before : Option ℕ) (xs ys : List ℕ) (after : Option ℕ) (i : ℕ)
     → AreLinked link_map before (xs ++ i ∷ ys) after → link_map i ≡ Some (link (last_or xs before) (first_or ys after))
 AreLinked-at link_map before xs ys after i s = (AreLinked-right link_map before xs (i ∷ ys) after s).0
 
--- a list whose items each show what stands beside them stands
+-- a list is linked if each item names the items beside it
 pub AreLinked-each : (link_map : LinkMap) (before : Option ℕ) (xs : List ℕ) (after : Option ℕ)
     → ((left right : List ℕ) (i : ℕ) → xs ≡ left ++ i ∷ right → link_map i ≡ Some (link (last_or left before) (first_or right after))) → AreLinked link_map before xs after
 AreLinked-each link_map before [] after each = tt
@@ -84,26 +84,26 @@ AreLinked-each link_map before (x ∷ xs) after each = (
   AreLinked-each link_map (Some x) xs after (λ left right i e. each (x ∷ left) right i (ap (λ (zs : List ℕ). x ∷ zs) e)),
 )
 
--- a list that stands depends on what its own items show alone
+-- a list stays linked if its items keep their interlinks
 pub AreLinked-frame : (old new : LinkMap) (before : Option ℕ) (xs : List ℕ) (after : Option ℕ)
     → ((i : ℕ) → IsMember xs i → old i ≡ new i) → AreLinked old before xs after → AreLinked new before xs after
 AreLinked-frame old new before [] after same s = tt
 AreLinked-frame old new before (x ∷ xs) after same s =
     (sym (same x (inl refl)) ∙ s.0, AreLinked-frame old new (Some x) xs after (λ i h. same i (inr h)) s.1)
 
--- so a chain whose links show what they did stays
+-- a chain stays if its links keep their interlinks
 pub IsChain-frame : (old new : LinkMap) (c : Chain) → ((i : ℕ) → IsMember (items c) i → old i ≡ new i) → IsChain old c → IsChain new c
 IsChain-frame old new (linear xs) same c = (c.0, c.1, AreLinked-frame old new None xs None same c.2)
 IsChain-frame old new (cyclic xs) same c = (c.0, c.1, AreLinked-frame old new (last_or xs None) xs (first_or xs None) same c.2)
 
--- the items of a list that stands are valid
+-- items of a linked list are valid
 pub AreLinked-valid : (link_map : LinkMap) (before : Option ℕ) (xs : List ℕ) (after : Option ℕ) (i : ℕ)
     → AreLinked link_map before xs after → IsMember xs i → HasLink link_map i
 AreLinked-valid link_map before [] after i s h = elim h [ ]
 AreLinked-valid link_map before (x ∷ xs) after i s (inl e) = subst (HasLink link_map) e (shows_valid link_map x _ s.0)
 AreLinked-valid link_map before (x ∷ xs) after i s (inr h) = AreLinked-valid link_map (Some x) xs after i s.1 h
 
--- what comes after an item of a list that stands is an item of it, or comes after the list
+-- what follows an item of a linked list is an item, or follows the list
 pub AreLinked-next : (link_map : LinkMap) (before : Option ℕ) (xs : List ℕ) (after : Option ℕ) (i j : ℕ)
     → AreLinked link_map before xs after → IsMember xs i → next_of link_map i ≡ Some j → IsMember xs j ⊎ (after ≡ Some j)
 AreLinked-next link_map before [] after i j s h n = elim h [ ]
@@ -116,7 +116,7 @@ AreLinked-next link_map before (x ∷ xs) after i j s (inr h) n = widen (AreLink
     widen (inl k) = inl (inr k)
     widen (inr a) = inr a
 
--- what comes before an item of a list that stands is an item of it, or comes before the list
+-- what precedes an item of a linked list is an item, or precedes the list
 pub AreLinked-prev : (link_map : LinkMap) (before : Option ℕ) (xs : List ℕ) (after : Option ℕ) (i j : ℕ)
     → AreLinked link_map before xs after → IsMember xs i → prev_of link_map i ≡ Some j → IsMember xs j ⊎ (before ≡ Some j)
 AreLinked-prev link_map before [] after i j s h p = elim h [ ]
@@ -127,14 +127,14 @@ AreLinked-prev link_map before (x ∷ xs) after i j s (inr h) p = widen (AreLink
     widen (inl k) = inl (inr k)
     widen (inr a) = inl (inl (cc))
 
--- an item of a list with something before it shows that something comes before it
+-- with something before the list, each item has a previous link
 pub AreLinked-prev_some : (link_map : LinkMap) (b : ℕ) (xs : List ℕ) (after : Option ℕ) (i : ℕ)
     → AreLinked link_map (Some b) xs after → IsMember xs i → (j : ℕ) × (prev_of link_map i ≡ Some j)
 AreLinked-prev_some link_map b [] after i s h = elim h [ ]
 AreLinked-prev_some link_map b (x ∷ xs) after i s (inl e) = (b, sym (ap (prev_of link_map) e) ∙ ap prev_in s.0)
 AreLinked-prev_some link_map b (x ∷ xs) after i s (inr h) = AreLinked-prev_some link_map x xs after i s.1 h
 
--- the last item of a list that stands shows what comes after the list
+-- the last item names what follows the list
 pub AreLinked-last : (link_map : LinkMap) (before : Option ℕ) (xs : List ℕ) (after : Option ℕ) (a : ℕ)
     → AreLinked link_map before xs after → (xs ≢ []) → last_or xs None ≡ Some a → next_of link_map a ≡ after
 AreLinked-last link_map before [] after a s filled e = absurd (filled refl)
@@ -143,7 +143,7 @@ AreLinked-last link_map before (x ∷ []) after a s filled e =
     subst (λ (z : ℕ). next_of link_map z ≡ after) same (ap next_in s.0)
 AreLinked-last link_map before (x ∷ z ∷ xs) after a s filled e = AreLinked-last link_map (Some x) (z ∷ xs) after a s.1 (λ r. cc) e
 
--- of a list with nothing before it, an item that names nothing before it is the first
+-- with nothing before the list, only the first item has no previous link
 pub AreLinked-first : (link_map : LinkMap) (xs : List ℕ) (after : Option ℕ) (i : ℕ)
     → AreLinked link_map None xs after → IsMember xs i → prev_of link_map i ≡ None → (others : Option ℕ) → first_or xs others ≡ Some i
 AreLinked-first link_map [] after i s h p others = elim h [ ]
@@ -155,9 +155,9 @@ AreLinked-first link_map (x ∷ xs) after i s (inr h) p others =
     clash : (j : ℕ) → prev_of link_map i ≡ Some j → ⊥
     clash j q = cc
 
--- ---- no repetition for free
+-- ---- no repetition, from links alone
 
--- a list whose first item is not among the rest has no repetition
+-- a linked list whose first item is not in the rest has no repetition
 pub apart_no_repetition : (link_map : LinkMap) (before : Option ℕ) (x : ℕ) (xs : List ℕ) (after : Option ℕ)
     → AreLinked link_map before (x ∷ xs) after → (IsMember xs x → ⊥) → AreDistinct (x ∷ xs)
 apart_no_repetition link_map before x [] after s apart = (apart, tt)
@@ -170,7 +170,7 @@ apart_no_repetition link_map before x (y ∷ ys) after s apart =
     again : IsMember ys y → ⊥
     again h = ⊎_elim (λ (k : IsMember ys x). apart (inr k)) (λ (e : Some y ≡ Some x). apart (inl (cc))) (AreLinked-prev link_map (Some y) ys after y x s.1.1 h named)
 
--- a list with nothing before it has no repetition
+-- a linked list with nothing before it has no repetition
 pub first_no_repetition : (link_map : LinkMap) (xs : List ℕ) (after : Option ℕ) → AreLinked link_map None xs after → AreDistinct xs
 first_no_repetition link_map [] after s = tt
 first_no_repetition link_map (x ∷ xs) after s = apart_no_repetition link_map None x xs after s again
@@ -181,7 +181,7 @@ first_no_repetition link_map (x ∷ xs) after s = apart_no_repetition link_map N
     again : IsMember xs x → ⊥
     again h = let more = AreLinked-prev_some link_map x xs after x s.1 h in clash more.0 more.1
 
--- two lists that go on from the same index to an end are the same
+-- linked lists with the same first item and nothing after them are equal
 pub one_onward : (link_map : LinkMap) (before left : Option ℕ) (xs ys : List ℕ)
     → AreLinked link_map before xs None → AreLinked link_map left ys None → first_or xs None ≡ first_or ys None → xs ≡ ys
 one_onward link_map before left [] [] s t e = refl
@@ -193,7 +193,7 @@ one_onward link_map before left (x ∷ xs) (y ∷ ys) s t e =
     let rest = one_onward link_map (Some x) (Some y) xs ys s.1 t.1 n in
     cc (same, rest)
 
--- two lists that go on from the same index until they come to i are the same
+-- linked lists without i, with the same first item and i after them, are equal
 pub one_round : (link_map : LinkMap) (before left : Option ℕ) (xs ys : List ℕ) (i : ℕ)
     → AreLinked link_map before xs (Some i) → AreLinked link_map left ys (Some i) → (IsMember xs i → ⊥) → (IsMember ys i → ⊥)
     → first_or xs (Some i) ≡ first_or ys (Some i) → xs ≡ ys
@@ -206,14 +206,14 @@ one_round link_map before left (x ∷ xs) (y ∷ ys) i s t a b e =
     let rest = one_round link_map (Some x) (Some y) xs ys i s.1 t.1 (λ h. a (inr h)) (λ h. b (inr h)) n in
     cc (same, rest)
 
--- a list is not shorter than its own end
+-- no list equals a proper end of itself
 pub no_longer : (left : List ℕ) (x : ℕ) (right : List ℕ) → left ++ x ∷ right ≡ right → ⊥
 no_longer left x right e =
     let l : length (left ++ x ∷ right) ≡ length left + length (x ∷ right) = length-append left (x ∷ right) in
     let m : length (left ++ x ∷ right) ≡ length right = ap (length {A = ℕ}) e in
     omega arith
 
--- a list with nothing after it has no repetition
+-- a linked list with nothing after it has no repetition
 pub last_no_repetition : (link_map : LinkMap) (before : Option ℕ) (xs : List ℕ) → AreLinked link_map before xs None → AreDistinct xs
 last_no_repetition link_map before [] s = tt
 last_no_repetition link_map before (x ∷ xs) s = (again, last_no_repetition link_map (Some x) xs s.1)

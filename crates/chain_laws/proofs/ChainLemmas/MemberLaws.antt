@@ -1,4 +1,4 @@
--- What stands in a chain, and beside what.
+-- Lemmas on the items of a chain and their neighbors.
 use Rattle.std.proofs.Common.{◌≡◌, ℕ, List, [], ◌∷◌, ◌++◌, Option, None, Some, refl, sym, ap, ◌∙◌, subst, subst₂}
 use Rattle.chain_laws.specs.Chains.{linear, cyclic, IsMember, IsChain, AreLinked, first_or, last_or, prev_in, next_in, prev_of, next_of}
 use Rattle.chain_laws.specs.Members.{MembersAreLinks, FreeIsInNoChain, MembersNameNeighbors, PlacesInALine, PlacesInARing, LinesEnd, RingsAreCyclic}
@@ -11,28 +11,28 @@ use Rattle.chain_laws.proofs.ChainLemmas.ChainLists.{IsMember-all_items, chain_a
 use Rattle.chain_laws.proofs.InsertionLemmas.Pairs.{free_invalid}
 use Rattle.chain_laws.proofs.ChainLemmas.NeighborPairs.{chain_next, chain_prev, chain_shows}
 
--- the items of a chain show interlinks
+-- items of a chain are valid
 pub members_are_links : MembersAreLinks
 members_are_links link_map c i is has = chain_valid link_map c i is has
 
--- .. and a free index shows none
+-- a free index is in no chain
 pub free_is_in_no_chain : FreeIsInNoChain
 free_is_in_no_chain link_map c q free is has = free_invalid link_map q free (chain_valid link_map c q is has)
 
--- an item of a chain shows what stands beside its place
+-- an item of a chain names its neighbors there
 pub members_name_neighbors : MembersNameNeighbors
 members_name_neighbors link_map c i j is has = (chain_next link_map c i j is has, chain_prev link_map c i j is has)
 
--- the place of an item, in a linear chain
+-- the interlinks of an item of a linear chain
 pub places_in_a_line : PlacesInALine
 places_in_a_line link_map x y i is = chain_shows link_map (linear (x ++ i ∷ y)) x y i is refl
 
--- what comes before the first of a ring is its last, and what comes after that the first
+-- the interlinks of an item of a cyclic chain
 pub places_in_a_ring : PlacesInARing
 places_in_a_ring link_map x y i is = subst₂ (λ (before after : Option ℕ). link_map i ≡ Some (link (last_or x before) (first_or y after)))
     (last_or-append x (i ∷ y) None) (first_or-append x (i ∷ y) None) (chain_shows link_map (cyclic (x ++ i ∷ y)) x y i is refl)
 
--- what comes before i in a linear chain, or after it, decides whether it is written first, or last
+-- in a linear chain, only the last item has no next link, and only the first no previous one
 pub lines_end : LinesEnd
 lines_end link_map xs i is has = (
   (λ none. ends (IsMember-written xs i has) none, λ last. AreLinked-last link_map None xs None i is.2 is.0 last),
@@ -50,12 +50,12 @@ lines_end link_map xs i is has = (
     starts [] stands first = absurd (cc)
     starts (z ∷ zs) stands first = subst (λ (k : ℕ). prev_of link_map k ≡ None) (one_some first) (ap prev_in stands.0)
 
--- the first of what is written, and then of what comes round
+-- the first item, or else `after`, exists
 some_first : (xs : List ℕ) (after : ℕ) → (j : ℕ) × (first_or xs (Some after) ≡ Some j)
 some_first [] after = (after, refl)
 some_first (x ∷ xs) after = (x, refl)
 
--- the place of an item, in a cyclic chain, has something on both sides
+-- items of a cyclic chain have a next and a previous link in it
 pub rings_go_round : RingsAreCyclic
 rings_go_round link_map xs i is has =
     let closed = chain_closed link_map (cyclic xs) is in
@@ -67,17 +67,17 @@ rings_go_round link_map xs i is has =
     let prev = cyclic_prev_some link_map xs i is has in
     ((after.0, next, closed.forth i after.0 has next), (prev.0, prev.1, closed.back i prev.0 has prev.1))
 
--- the items of a chain are closed, and agreement turns the pair round
+-- a chain with one of two neighbors has both
 pub neighbors_stand_together : NeighborsShareAChain
 neighbors_stand_together link_map c a b agrees pair is =
     let closed = chain_closed link_map c is in
     (λ has. closed.forth a b has pair, λ has. closed.back b a has ((agrees.both a b).0 pair))
 
--- of two chains that share an index each has what the other has
+-- chains with a common index have the same items
 pub chains_share_each : ChainsShareEach
 chains_share_each link_map c other i j is also has too = (chains_share link_map c other i j is also has too, chains_share link_map other c i j also is too has)
 
--- two parts have the same in either order
+-- a rotation has the same items
 pub turns_have_the_same : RotationsHaveTheSame
 turns_have_the_same (linear xs) (linear ys) i same = (subst (λ (zs : List ℕ). IsMember zs i) same, subst (λ (zs : List ℕ). IsMember zs i) (sym same))
 turns_have_the_same (linear xs) (cyclic ys) i same = absurd same
@@ -87,6 +87,6 @@ turns_have_the_same (cyclic xs) (cyclic ys) i same = (
   λ has. subst (λ (zs : List ℕ). IsMember zs i) (sym same.2) (IsMember-turned same.1 same.0 i (subst (λ (zs : List ℕ). IsMember zs i) same.3 has)),
 )
 
--- the items of all chains, looked for and found in one
+-- the items of all chains are the items of each
 pub has_in_all : HasInAll
 has_in_all chains i = (chain_at chains i, λ w. IsMember-all_items chains w.0 i w.1 w.2)

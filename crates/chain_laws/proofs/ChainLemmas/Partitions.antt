@@ -1,4 +1,4 @@
--- The chains of an arena: that there is one list of them in order, and no other; and one chain of each index.
+-- Lemmas that an arena has one list of chains in order, and one chain with each index.
 use Rattle.std.proofs.Common.{◌≡◌, ◌↔◌, ℕ, ◌<◌, ◌⊎◌, inl, inr, ⊎_elim, List, [], ◌∷◌, refl, sym, subst, arith}
 use Rattle.chain_laws.specs.Chains.{LinkMap, HasLink, HasLinksWithin, IsWellLinked, IsMember, AreDistinct, Chain, items, IsChain, HasChain, all_items, AreChains, StartsAtLeast, IsSortedByLeast}
 use Rattle.chain_laws.specs.Neighbors.{AreTheChains, IsChainOf, AllStartAtLeast, IsRotation, HasOneSetOfChains}
@@ -9,20 +9,20 @@ use Rattle.chain_laws.proofs.ChainLemmas.ChainLists.{chain_at}
 use Rattle.chain_laws.proofs.ChainLemmas.Existence.{has_chains}
 use Rattle.chain_laws.proofs.ChainLemmas.NeighborPairs.{partitions, interlinks, chains_from_pairs}
 
--- the chains that an arena has, by its neighbour pairs
+-- a well-linked arena has chains by neighbor pairs
 pub the_chains : (link_map : LinkMap) (slots : ℕ) → IsWellLinked link_map → HasLinksWithin link_map slots → (chains : List Chain) × AreTheChains link_map chains
 the_chains link_map slots agrees within =
     let all = has_chains link_map slots agrees within in
     (all.0, record { partition = partitions link_map all.0 all.1; interlinks = interlinks link_map all.0 all.1; order = all.2 })
 
--- written chains of an arena, in order, that share nothing
+-- chains of an arena, in order and with no common index
 record Ordered (link_map : LinkMap) (chains : List Chain) : Type 0 where
   each : (c : Chain) → HasChain chains c → IsChain link_map c
   written : (c : Chain) → HasChain chains c → StartsAtLeast c
   once : AreDistinct (all_items chains)
   rises : IsSortedByLeast chains
 
--- the rest of chains in order is in order
+-- the rest of a list in order is in order
 rest_ordered : (link_map : LinkMap) (c : Chain) (chains : List Chain) → Ordered link_map (c ∷ chains) → Ordered link_map chains
 rest_ordered link_map c chains o = record {
   each = λ d m. o.each d (inr m);
@@ -31,7 +31,7 @@ rest_ordered link_map c chains o = record {
   rises = o.rises.1;
 }
 
--- the first chains of two lists in order with the same items are the same
+-- lists in order with the same items have the same first chain
 same_first : (link_map : LinkMap) (c d : Chain) (chains others : List Chain) → Ordered link_map (c ∷ chains) → Ordered link_map (d ∷ others)
     → ((i : ℕ) → IsMember (all_items (c ∷ chains)) i → IsMember (all_items (d ∷ others)) i) → ((i : ℕ) → IsMember (all_items (d ∷ others)) i → IsMember (all_items (c ∷ chains)) i) → c ≡ d
 same_first link_map c d chains others o p there back =
@@ -55,7 +55,7 @@ same_first link_map c d chains others o p there back =
         let above : low < least = o.rises.0.2 least k in
         absurd (omega arith)
 
--- what the rest of the chains has, the rest of the others has
+-- removing a common first chain keeps the items of one list among those of another
 rest_there : (c : Chain) (chains others : List Chain) → AreDistinct (all_items (c ∷ chains))
     → ((i : ℕ) → IsMember (all_items (c ∷ chains)) i → IsMember (all_items (c ∷ others)) i) → (i : ℕ) → IsMember (all_items chains) i → IsMember (all_items others) i
 rest_there c chains others once there i h =
@@ -68,7 +68,7 @@ no_empty link_map c chains h none =
     let x = filled-IsMember (items c) (chain_filled link_map c h) in
     none x.0 (IsMember-left (items c) (all_items chains) x.0 x.1)
 
--- two lists of chains in order with the same items are the same
+-- lists of chains in order with the same items are equal
 same_order : (link_map : LinkMap) (chains others : List Chain) → Ordered link_map chains → Ordered link_map others
     → ((i : ℕ) → IsMember (all_items chains) i → IsMember (all_items others) i) → ((i : ℕ) → IsMember (all_items others) i → IsMember (all_items chains) i) → chains ≡ others
 same_order link_map [] [] o p there back = refl
@@ -83,7 +83,7 @@ same_order link_map (c ∷ chains) (d ∷ others) o p there back =
     (rest_there c chains others o.once there_c) (rest_there c others chains once_c back_c) in
     cc (first, rest)
 
--- the chains of an arena, written and in order
+-- the chains of an arena are in order
 ordered : (link_map : LinkMap) (chains : List Chain) → AreTheChains link_map chains → Ordered link_map chains
 ordered link_map chains are = record {
   each = (chains_from_pairs link_map chains are.partition are.interlinks).each;
@@ -92,20 +92,20 @@ ordered link_map chains are = record {
   rises = are.order.rises;
 }
 
--- no two lists in order are the chains of one arena
+-- an arena has no two lists of chains in order
 pub no_others : (link_map : LinkMap) (chains others : List Chain) → AreTheChains link_map chains → AreTheChains link_map others → chains ≡ others
 no_others link_map chains others are also =
     same_order link_map chains others (ordered link_map chains are) (ordered link_map others also)
     (λ i h. (also.partition.valid i).0 ((are.partition.valid i).1 h)) (λ i h. (are.partition.valid i).0 ((also.partition.valid i).1 h))
 
--- a written chain of an arena is one of all its chains, if these are written
+-- a chain written from its least index is among all chains so written
 pub is_among : (link_map : LinkMap) (chains : List Chain) (c : Chain) → AreChains link_map chains → AllStartAtLeast chains → IsChain link_map c → StartsAtLeast c → HasChain chains c
 is_among link_map chains c are written h w =
     let x = filled-IsMember (items c) (chain_filled link_map c h) in
     let at = chain_at chains x.0 (are.all x.0 (chain_valid link_map c x.0 h x.1)) in
     subst (HasChain chains) (one_chain link_map at.0 c x.0 (are.each at.0 at.1) h (written at.0 at.1) w at.2 x.1) at.1
 
--- lists of all chains of one arena have the same members, if each cyclic one is written from its least index
+-- lists of all chains, from least indexes, have the same members
 pub same_members : (link_map : LinkMap) (chains others : List Chain) → AreChains link_map chains → AreChains link_map others → AllStartAtLeast chains → AllStartAtLeast others
     → (c : Chain) → HasChain chains c ↔ HasChain others c
 same_members link_map chains others are also written too c = (
@@ -113,7 +113,7 @@ same_members link_map chains others are also written too c = (
   (λ m. is_among link_map chains c are written (also.each c m) (too c m)),
 )
 
--- lists of all chains of one arena have the same members, but for where the cyclic ones are written from
+-- lists of all chains have the same members up to rotation
 pub same_turned : (link_map : LinkMap) (chains others : List Chain) → AreChains link_map chains → AreChains link_map others
     → (c : Chain) → HasChain chains c → (other : Chain) × HasChain others other × IsRotation c other
 same_turned link_map chains others are also c m =
@@ -121,18 +121,18 @@ same_turned link_map chains others are also c m =
     let at = chain_at others x.0 (also.all x.0 (chain_valid link_map c x.0 (are.each c m) x.1)) in
     (at.0, at.1, one_turned link_map x.0 c at.0 (are.each c m) (also.each at.0 at.1) x.1 at.2)
 
--- each valid index stands in a chain
+-- each valid index is in a chain
 pub chain_of_each : (link_map : LinkMap) (slots i : ℕ) → IsWellLinked link_map → HasLinksWithin link_map slots → HasLink link_map i → (c : Chain) × IsChainOf link_map i c
 chain_of_each link_map slots i agrees within valid =
     let all = has_chains link_map slots agrees within in
     let at = chain_at all.0 i (all.1.all i valid) in
     (at.0, record { chain = all.1.each at.0 at.1; written = all.2.written at.0 at.1; has = at.2 })
 
--- .. and in no other
+-- no index is in two chains
 pub no_other_of_each : (link_map : LinkMap) (i : ℕ) (c other : Chain) → IsChainOf link_map i c → IsChainOf link_map i other → c ≡ other
 no_other_of_each link_map i c other s t = one_chain link_map c other i s.chain t.chain s.written t.written s.has t.has
 
--- an arena whose interlinks agree has one set of chains
+-- a well-linked arena has exactly one set of chains
 pub one_set : (link_map : LinkMap) (slots : ℕ) → IsWellLinked link_map → HasLinksWithin link_map slots → HasOneSetOfChains link_map
 one_set link_map slots agrees within =
     let is = the_chains link_map slots agrees within in

@@ -1,4 +1,4 @@
--- A cyclic chain, written from another of its links.
+-- Lemmas on rotations of chains.
 use Rattle.std.proofs.Common.{◌≡◌, ◌↔◌, ℕ, inl, List, [], ◌∷◌, ◌++◌, Option, None, Some, refl, sym, ap, subst, append-nil}
 use Rattle.chain_laws.specs.Chains.{LinkMap, IsMember, Chain, linear, cyclic, items, last_or, AreLinked, IsChain}
 use Rattle.chain_laws.specs.Neighbors.{IsRotation}
@@ -6,7 +6,7 @@ use Rattle.chain_laws.proofs.ListLemmas.Members.{IsMember-written, IsMember-turn
 use Rattle.chain_laws.proofs.ChainLemmas.LinkedLists.{AreLinked-left, AreLinked-right, AreLinked-append}
 use Rattle.chain_laws.proofs.ChainLemmas.Uniqueness.{chains_share, one_cyclic, one_linear, not_both}
 
--- two parts that stand in a ring stand in it in the other order
+-- the two parts of a cyclic linked list may be swapped
 pub AreLinked-turned : (link_map : LinkMap) (x : ℕ) (xs : List ℕ) (y : ℕ) (ys : List ℕ)
     → AreLinked link_map (last_or (x ∷ xs ++ y ∷ ys) None) (x ∷ xs ++ y ∷ ys) (Some x)
     → AreLinked link_map (last_or (y ∷ ys ++ x ∷ xs) None) (y ∷ ys ++ x ∷ xs) (Some y)
@@ -19,7 +19,7 @@ AreLinked-turned link_map x xs y ys s =
     (subst (λ (o : Option ℕ). AreLinked link_map o (y ∷ ys) (Some x)) right_end right)
     (subst (λ (o : Option ℕ). AreLinked link_map o (x ∷ xs) (Some y)) left_end left)
 
--- a cyclic chain may be written from the start of its second part
+-- a cyclic chain may be written from its second part on
 pub turned : (link_map : LinkMap) (xs ys : List ℕ) → IsChain link_map (cyclic (xs ++ ys)) → IsChain link_map (cyclic (ys ++ xs))
 turned link_map [] ys h = subst (λ (zs : List ℕ). IsChain link_map (cyclic zs)) (sym (append-nil ys)) h
 turned link_map (x ∷ xs) [] h = subst (λ (zs : List ℕ). IsChain link_map (cyclic zs)) (append-nil (x ∷ xs)) h
@@ -29,7 +29,7 @@ turned link_map (x ∷ xs) (y ∷ ys) h = (
   AreLinked-turned link_map x xs y ys h.2,
 )
 
--- a cyclic chain may be written from any of its links, with the same items
+-- a cyclic chain may be written from any of its links
 pub turned_to : (link_map : LinkMap) (xs : List ℕ) (i : ℕ) → IsChain link_map (cyclic xs) → IsMember xs i
     → (rest : List ℕ) × IsChain link_map (cyclic (i ∷ rest)) × ((y : ℕ) → IsMember xs y ↔ IsMember (i ∷ rest) y)
 turned_to link_map xs i h m =
@@ -46,7 +46,7 @@ turned_to link_map xs i h m =
       ),
     )
 
--- a chain written from another of its links is a chain
+-- a rotation of a chain is a chain
 pub turns : (link_map : LinkMap) (c other : Chain) → IsChain link_map c → IsRotation c other → IsChain link_map other
 turns link_map (linear xs) (linear ys) h e = subst (λ (zs : List ℕ). IsChain link_map (linear zs)) e h
 turns link_map (linear xs) (cyclic ys) h e = absurd e
@@ -55,7 +55,7 @@ turns link_map (cyclic xs) (cyclic ys) h e =
     let other : IsChain link_map (cyclic (e.1 ++ e.0)) = turned link_map e.0 e.1 (subst (λ (zs : List ℕ). IsChain link_map (cyclic zs)) e.2 h) in
     subst (λ (zs : List ℕ). IsChain link_map (cyclic zs)) (sym e.3) other
 
--- cyclic chains that share an index are the same, but for where they are written from
+-- cyclic chains with a common index are rotations of each other
 pub one_ring : (link_map : LinkMap) (xs ys : List ℕ) (i : ℕ) → IsChain link_map (cyclic xs) → IsChain link_map (cyclic ys) → IsMember xs i → IsMember ys i
     → IsRotation (cyclic xs) (cyclic ys)
 one_ring link_map [] ys i h k m n = elim m [ ]
@@ -64,7 +64,7 @@ one_ring link_map (x ∷ xs) ys i h k m n =
     let from : IsChain link_map (cyclic (x ∷ w.1 ++ w.0)) = turned link_map w.0 (x ∷ w.1) (subst (λ (zs : List ℕ). IsChain link_map (cyclic zs)) w.2 k) in
     (x ∷ w.1, w.0, ap (λ (zs : List ℕ). x ∷ zs) (one_cyclic link_map x xs (w.1 ++ w.0) h from), w.2)
 
--- chains that share an index are the same, but for where a cyclic one is written from
+-- chains with a common index are rotations of each other
 pub one_turned : (link_map : LinkMap) (i : ℕ) (c other : Chain) → IsChain link_map c → IsChain link_map other → IsMember (items c) i → IsMember (items other) i → IsRotation c other
 one_turned link_map i (linear xs) (linear ys) h k m n = one_linear link_map xs ys i h k m n
 one_turned link_map i (linear xs) (cyclic ys) h k m n = not_both link_map xs ys i h k m n

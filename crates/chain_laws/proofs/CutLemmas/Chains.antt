@@ -1,4 +1,4 @@
--- What a cut does to the chains: a linear one becomes two, and a cyclic one linear; no choice is left.
+-- Lemmas on the chains after a cut, and that `Cuts` determines them.
 use Rattle.std.specs.Prelude.{◌≡◌, ◌≢◌, ◌↔◌, ℕ, List, [], ◌∷◌, ◌++◌, Option, None, Some}
 use Rattle.std.proofs.Common.{sym, refl, ap, ◌∙◌, subst, inl, ⊎_elim}
 use Rattle.std.proofs.lemmas.List.{append_assoc}
@@ -15,7 +15,7 @@ use Rattle.chain_laws.proofs.ChainLemmas.Existence.{ChainOf, stands_in, has_chai
 use Rattle.chain_laws.proofs.JoinLemmas.Lists.{IsOutside, IsOutside-Some, AreLinked-next_set, AreLinked-prev_set, AreLinked-next_of_last, AreLinked-prev_of_first, IsChain-linked}
 use Rattle.chain_laws.proofs.ChainLemmas.Determinacy.{NamesChains, settled}
 
--- the two parts of a linear list that is cut after its left part
+-- both parts of a linear list, cut after the left one, are chains
 parts_stand : (link_map : LinkMap) (a b : ℕ) (xs y : List ℕ) → xs ≢ [] → last_or xs None ≡ Some a → AreDistinct (xs ++ b ∷ y) → AreLinked link_map None (xs ++ b ∷ y) None
     → IsChain (cut link_map a b) (linear xs) × IsChain (cut link_map a b) (linear (b ∷ y))
 parts_stand link_map a b xs y filled ends once stands =
@@ -58,7 +58,7 @@ cut_one link_map a b (x ∷ xs) chain starts ends =
           (AreLinked-prev_of_first (next_set link_map (Some a) None) None (last_or xs (Some x)) (x ∷ xs) None chain.1 ended),
     )
 
--- no index is apart from any list
+-- no list has a missing index
 nowhere_apart : (xs : List ℕ) → IsOutside None xs
 nowhere_apart xs k e h = cc
 
@@ -73,11 +73,11 @@ cut_rest link_map a b c none_a none_b =
 pub cut_cuts : (link_map : LinkMap) (a b : ℕ) → Cuts link_map (cut link_map a b) a b
 cut_cuts link_map a b = record { two = cut_two link_map a b; one = cut_one link_map a b; rest = cut_rest link_map a b }
 
--- the chains of a and of b wherever they are cut apart
+-- the chains of a and b after any change with `Cuts`
 abbrev Parted : LinkMap → ℕ → ℕ → Type 0
 Parted old a b = NamesChains (λ (new : LinkMap). Cuts old new a b) a b
 
--- a cyclic chain that is written from b, of which a is the last
+-- the case of a cyclic chain, written from b to a
 parted_ring : (old : LinkMap) (a b : ℕ) (rest : List ℕ) → IsChain old (cyclic (b ∷ rest)) → prev_of old b ≡ Some a → IsMember (b ∷ rest) a → Parted old a b
 parted_ring old a b rest ring before has =
     let ends : last_or (b ∷ rest) None ≡ Some a = sym (shows_prev old b _ _ ring.2.0) ∙ before in
@@ -90,7 +90,7 @@ parted_ring old a b rest ring before has =
       right_stands = λ new cuts. cuts.one (b ∷ rest) ring refl ends;
     }
 
--- they are parts of the chain of a
+-- the chains of a and b come from the old chain of a
 parted : (old : LinkMap) (a b : ℕ) → IsWellLinked old → AreNeighbors old a b → ChainOf old a → Parted old a b
 parted old a b agrees pair (stands_in (linear xs) chain has) = let w = IsMember-written xs a has in by w.0 w.1 w.2
   where
@@ -118,7 +118,7 @@ parted old a b agrees pair (stands_in (cyclic xs) chain has) =
     let t = turned_to old xs b chain (closed.forth a b has pair) in
     parted_ring old a b t.0 t.1 ((agrees.both a b).0 pair) ((t.2 a).0 has)
 
--- what cuts two neighbours apart has the chains of their cut
+-- `Cuts` gives exactly the chains of the cut
 pub cut_is_determined : CutIsDetermined
 cut_is_determined old new slots a b agrees within pair cuts =
     settled old new (cut old a b) (λ (s : LinkMap). Cuts old s a b) a b (λ s made. made.rest)

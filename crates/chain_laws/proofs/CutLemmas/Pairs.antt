@@ -1,4 +1,4 @@
--- What a cut does to the interlinks: one pair goes, and they still agree.
+-- Lemmas on the interlinks after a cut.
 use Rattle.std.specs.Prelude.{◌≡◌, ◌≢◌, ◌↔◌, ℕ, ◌==◌, if◌then◌else◌, ◌⊎◌, None, Some}
 use Rattle.std.proofs.Common.{sym, refl, ap, ◌∙◌, inl, inr}
 use Rattle.std.proofs.lemmas.Bool.{cases_eq}
@@ -12,24 +12,24 @@ use Rattle.chain_laws.proofs.InterlinkLemmas.Linked.{IsValidAt, IsValidAt-Some, 
 use Rattle.chain_laws.proofs.JoinLemmas.Chains.{next_of-joined, joined_agrees, joined_adds_a_pair}
 use Rattle.chain_laws.proofs.ChainLemmas.Determinacy.{pairs_decide}
 
--- no index is valid, where it is one
+-- a missing index counts as valid
 nowhere_valid : (link_map : LinkMap) → IsValidAt link_map None
 nowhere_valid link_map i e = absurd (cc)
 
--- what comes after each index once nothing comes after a
+-- the next link of each index after a cut
 pub next_of-cut : (link_map : LinkMap) (a b : ℕ) → HasLink link_map a → (j : ℕ) → next_of (cut link_map a b) j ≡ altered (next_of link_map) a None j
 next_of-cut link_map a b valid j =
     next_of-linked (linked link_map (Some a) None) None (Some b) j (nowhere_valid (linked link_map (Some a) None))
     ∙ next_of-linked link_map (Some a) None j (IsValidAt-Some link_map a valid)
 
--- .. and what comes before each once nothing comes before b
+-- the previous link of each index after a cut
 pub prev_of-cut : (link_map : LinkMap) (a b : ℕ) → HasLink link_map b → (j : ℕ) → prev_of (cut link_map a b) j ≡ altered (prev_of link_map) b None j
 prev_of-cut link_map a b valid j =
     let ended = linked link_map (Some a) None in
     prev_of-linked ended None (Some b) j (IsValidAt-Some ended b ((HasLink-linked link_map (Some a) None b).1 valid))
     ∙ ap (λ o. if j == b then None else o) (prev_of-next_set link_map (Some a) None j)
 
--- a cut makes no index valid and none invalid
+-- a cut keeps the valid indexes
 pub HasLink-cut : (link_map : LinkMap) (a b j : ℕ) → HasLink (cut link_map a b) j ↔ HasLink link_map j
 HasLink-cut link_map a b j =
     let ended = linked link_map (Some a) None in
@@ -37,11 +37,11 @@ HasLink-cut link_map a b j =
     let inner = HasLink-linked link_map (Some a) None j in
     (λ v. inner.0 (outer.0 v), λ v. outer.1 (inner.1 v))
 
--- nor does a join
+-- a join keeps the valid indexes
 HasLink-joined : (link_map : LinkMap) (a b j : ℕ) → HasLink (joined link_map a b) j ↔ HasLink link_map j
 HasLink-joined link_map a b j = HasLink-linked link_map (Some a) (Some b) j
 
--- a cut keeps agreement
+-- a cut keeps the arena well linked
 pub cut_agrees : (link_map : LinkMap) (a b : ℕ) → IsWellLinked link_map → AreNeighbors link_map a b → IsWellLinked (cut link_map a b)
 cut_agrees link_map a b agrees pair =
     let back : prev_of link_map b ≡ Some a = (agrees.both a b).0 pair in
@@ -51,7 +51,7 @@ cut_agrees link_map a b agrees pair =
           (cut_undoes (next_of link_map) (prev_of link_map) a b agrees.both pair);
     }
 
--- a cut takes its pair and no other
+-- a cut removes its pair and no other
 pub cut_takes_a_pair : (link_map : LinkMap) (a b : ℕ) → AreNeighbors link_map a b → TakesPair link_map (cut link_map a b) a b
 cut_takes_a_pair link_map a b pair =
     record {
@@ -70,7 +70,7 @@ cut_takes_a_pair link_map a b pair =
     back i j p (inl s) = absurd (p.1 (s, one_some (sym p.0 ∙ ap (next_of link_map) s ∙ pair)))
     back i j p (inr ne) = after i ∙ altered-other (next_of link_map) a None i ne ∙ p.0
 
--- what takes the pair, and agrees, is the cut
+-- `TakesPair` with a well-linked result gives exactly the cut
 pub cut_is_determined_by_pairs : CutIsDeterminedByPairs
 cut_is_determined_by_pairs old new a b agrees agrees_new pair takes =
     let that = cut_takes_a_pair old a b pair in
@@ -90,7 +90,7 @@ cut_ends link_map a b agrees pair =
       start = prev_of-cut link_map a b valid_b b ∙ altered-same (prev_of link_map) b None b refl;
     }
 
--- the pairs of what is cut apart and joined again
+-- a cut and then a join keep the neighbor pairs
 join_of_cut_pairs : (link_map : LinkMap) (a b : ℕ) → IsWellLinked link_map → AreNeighbors link_map a b → (i j : ℕ)
     → AreNeighbors (joined (cut link_map a b) a b) i j ↔ AreNeighbors link_map i j
 join_of_cut_pairs link_map a b agrees pair i j =
@@ -110,7 +110,7 @@ join_of_cut_pairs link_map a b agrees pair i j =
     back e (inl s) = inr (s, one_some (sym e ∙ ap (next_of link_map) s ∙ pair))
     back e (inr ne) = inl ((takes.pairs i j).1 (e, λ p. ne p.0))
 
--- neighbours that are cut apart and joined again
+-- a cut and then a join restore the arena
 pub join_of_cut : JoinOfCutRestores
 join_of_cut link_map a b agrees pair =
     let ends = cut_ends link_map a b agrees pair in
@@ -122,11 +122,11 @@ join_of_cut link_map a b agrees pair =
           (join_of_cut_pairs link_map a b agrees pair),
     )
 
--- what is joined are neighbours
+-- joined links are neighbors
 pub joined_neighbors : (link_map : LinkMap) (a b : ℕ) → HasLink link_map a → AreNeighbors (joined link_map a b) a b
 joined_neighbors link_map a b valid = next_of-joined link_map a b valid a ∙ altered-same (next_of link_map) a (Some b) a refl
 
--- the pairs of what is joined and cut again
+-- a join and then a cut keep the neighbor pairs
 cut_of_join_pairs : (link_map : LinkMap) (a b : ℕ) → AreEndAndStart link_map a b → (i j : ℕ)
     → AreNeighbors (cut (joined link_map a b) a b) i j ↔ AreNeighbors link_map i j
 cut_of_join_pairs link_map a b ends i j =
@@ -148,7 +148,7 @@ cut_of_join_pairs link_map a b ends i j =
     there : AreNeighbors (joined link_map a b) i j × ((i ≡ a) × (j ≡ b) → ⊥) → AreNeighbors link_map i j
     there p = by ((adds.pairs i j).0 p.0) p.1
 
--- an end and a start that are joined and cut again
+-- a join and then a cut restore the arena
 pub cut_of_join : CutOfJoinRestores
 cut_of_join link_map a b agrees ends =
     let pair = joined_neighbors link_map a b ends.valid_end in

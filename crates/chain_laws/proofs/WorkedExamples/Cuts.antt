@@ -1,4 +1,4 @@
--- Worked rows: cuts in linear chains and in cycles. Each is computed.
+-- Examples of cuts in linear and cyclic chains.
 use Rattle.std.specs.Prelude.{◌≡◌, None, Some}
 use Rattle.std.proofs.Common.{refl}
 use Rattle.chain_laws.specs.Chains.{LinkMap}
@@ -6,7 +6,7 @@ use Rattle.chain_laws.specs.Joins.{prev_set, next_set, joined, with_lone}
 use Rattle.chain_laws.specs.Cuts.{cut}
 use Rattle.chain_laws.proofs.ChainLemmas.LinkedLists.{link}
 
--- nothing stands anywhere
+-- the empty arena
 abbrev bare : LinkMap
 bare i = None
 
@@ -26,50 +26,44 @@ ring = joined three 3 1
 cut_in_two_writes : (link_map : LinkMap) → cut link_map 1 2 ≡ prev_set (next_set link_map (Some 1) None) (Some 2) None
 cut_in_two_writes link_map = refl
 
--- a linear chain, cut after its start: the start is alone
+-- a linear chain cut after its start
 start_alone : cut three 1 2 1 ≡ Some (link None None)
 start_alone = refl
 
--- .. and the second starts the rest
 rest_starts : cut three 1 2 2 ≡ Some (link None (Some 3))
 rest_starts = refl
 
--- .. which ends where it ended
 rest_ends : cut three 1 2 3 ≡ Some (link (Some 2) None)
 rest_ends = refl
 
--- a cycle, cut after its last: it is linear from the first
+-- a cyclic chain cut between last and first
 ring_starts : cut ring 3 1 1 ≡ Some (link None (Some 2))
 ring_starts = refl
 
--- .. to the last
 ring_ends : cut ring 3 1 3 ≡ Some (link (Some 2) None)
 ring_ends = refl
 
--- a cycle, cut inside: it starts after the cut
+-- a cyclic chain cut inside
 ring_cut_inside : cut ring 1 2 2 ≡ Some (link None (Some 3))
 ring_cut_inside = refl
 
--- .. and goes on from its last to its first
 ring_goes_on : cut ring 1 2 3 ≡ Some (link (Some 2) (Some 1))
 ring_goes_on = refl
 
--- .. and ends before the cut
 ring_ends_inside : cut ring 1 2 1 ≡ Some (link (Some 3) None)
 ring_ends_inside = refl
 
--- a link that names itself, cut: it is alone
+-- a link that names itself, cut, is alone
 ring_of_one : cut (joined lone 2 2) 2 2 2 ≡ Some (link None None)
 ring_of_one = refl
 
--- one of the two pairs of a cycle of two: the first is the end
+-- a cyclic chain of two, cut
 ring_of_two_end : cut (joined (joined lone 1 2) 2 1) 1 2 1 ≡ Some (link (Some 2) None)
 ring_of_two_end = refl
 
--- .. and the second the start
 ring_of_two_start : cut (joined (joined lone 1 2) 2 1) 1 2 2 ≡ Some (link None (Some 1))
 ring_of_two_start = refl
 
--- what is joined and cut again
+-- joined links cut again are alone
 joined_and_cut : cut (joined lone 1 2) 1 2 2 ≡ Some (link None None)
 joined_and_cut = refl

@@ -1,4 +1,4 @@
--- The definitions on small worked examples, by computing.
+-- Examples of chains, their order and their neighbor pairs.
 use Rattle.std.proofs.Common.{◌≡◌, ℕ, ◌<◌, ◌≤◌, Bool, true, false, ◌==◌, if◌then◌else◌, inl, inr, List, [], ◌∷◌, ◌++◌, None, Some, refl, sym, ap, subst, eqb-true, arith}
 use Rattle.chain_laws.specs.Chains.{LinkMap, Interlinks, HasLink, HasLinksWithin, IsWellLinked, IsMember, Chain, linear, cyclic, prev_in, next_in, prev_of, next_of, IsChain, HasChain, all_items, AreChains, StartsAtLeast, IsSortedByLeast, IsInOrder}
 use Rattle.chain_laws.specs.Neighbors.{IsBeside, AreNeighborsIn, IsRotation, AreTheChains}
@@ -6,7 +6,7 @@ use Rattle.chain_laws.proofs.ChainLemmas.LinkedLists.{link}
 use Rattle.chain_laws.proofs.ChainLemmas.NeighborPairs.{partitions, interlinks, agrees_from_chains}
 use Rattle.chain_laws.proofs.ChainLemmas.Partitions.{no_others}
 
--- an arena in rows: each has an index, the one before it and the one after it
+-- an arena as rows of an index and its interlinks
 abbrev rows : List (ℕ × Interlinks) → LinkMap
 rows [] i = None
 rows (r ∷ rs) i = if i == r.0 then Some r.1 else rows rs i
@@ -15,7 +15,7 @@ abbrev indexes : List (ℕ × Interlinks) → List ℕ
 indexes [] = []
 indexes (r ∷ rs) = r.0 ∷ indexes rs
 
--- what is valid has a row
+-- each valid index has a row
 rows_valid : (rs : List (ℕ × Interlinks)) (i : ℕ) → HasLink (rows rs) i → IsMember (indexes rs) i
 rows_valid [] i v = let shows : None ≡ Some v.link = v.shows in absurd (cc)
 rows_valid (r ∷ rs) i v = by_test (i == r.0) refl v.shows (λ e. rows_valid rs i (record { link = v.link; shows = e }))
@@ -24,27 +24,27 @@ rows_valid (r ∷ rs) i v = by_test (i == r.0) refl v.shows (λ e. rows_valid rs
     by_test true is e rest = inl (sym (eqb-true i r.0 is))
     by_test false is e rest = inr (rest e)
 
--- 1 before 2, and 3 alone in a ring
+-- 1 before 2, and the cyclic chain 3
 abbrev three : List (ℕ × Interlinks)
 three = (1, link None (Some 2)) ∷ (2, link (Some 1) None) ∷ (3, link (Some 3) (Some 3)) ∷ []
 
--- the same with a ring of 2 and 3, and 1 alone
+-- the cyclic chain 2 3, and 1 alone
 abbrev ring : List (ℕ × Interlinks)
 ring = (3, link (Some 2) (Some 2)) ∷ (2, link (Some 3) (Some 3)) ∷ (1, link None None) ∷ []
 
--- 4 before 1, and 3 before 2: the order of chains isn't the order of their first items
+-- 4 before 1, and 3 before 2: chains are not ordered by their first items
 abbrev crossed : List (ℕ × Interlinks)
 crossed = (1, link (Some 4) None) ∷ (2, link (Some 3) None) ∷ (3, link None (Some 2)) ∷ (4, link None (Some 1)) ∷ []
 
--- 1 names 2, and 2 doesn't name 1
+-- 1 names 2, but 2 does not name 1
 abbrev broken : List (ℕ × Interlinks)
 broken = (1, link None (Some 2)) ∷ (2, link None None) ∷ []
 
--- 1 names 2, where no link stands
+-- 1 names 2, which is free
 abbrev stray : List (ℕ × Interlinks)
 stray = (1, link None (Some 2)) ∷ []
 
--- what the rows show
+-- the interlinks of the rows
 three_next : next_of (rows three) 1 ≡ Some 2
 three_next = refl
 
@@ -65,15 +65,13 @@ three_linear = ((λ e. cc), (two_apart, ((λ h. h), tt)), (refl, (refl, tt)))
     two_apart (inl e) = omega arith
     two_apart (inr h) = h
 
--- 3 alone is a cyclic one
+-- 3 alone is a cyclic chain only; 1 alone is no chain
 three_cyclic : IsChain (rows three) (cyclic (3 ∷ []))
 three_cyclic = ((λ e. cc), ((λ h. h), tt), (refl, tt))
 
--- .. and no linear one
 three_not_linear : IsChain (rows three) (linear (3 ∷ [])) → ⊥
 three_not_linear h = let shows : next_of (rows three) 3 ≡ None = ap next_in h.2.0 in cc
 
--- 1 alone is no chain, since 2 follows it
 three_not_whole : IsChain (rows three) (linear (1 ∷ [])) → ⊥
 three_not_whole h = let shows : next_of (rows three) 1 ≡ None = ap next_in h.2.0 in cc
 
@@ -85,12 +83,11 @@ three_not_cyclic h = let shows : prev_of (rows three) 1 ≡ Some 2 = ap prev_in 
 no_empty_chain : (link_map : LinkMap) → IsChain link_map (linear []) → ⊥
 no_empty_chain link_map h = h.0 refl
 
--- three is not two
 three_is_apart : IsMember (3 ∷ []) 2 → ⊥
 three_is_apart (inl e) = omega arith
 three_is_apart (inr h) = h
 
--- a ring of two may be written from either ..
+-- a cyclic chain of two may be written from either link
 ring_from_two : IsChain (rows ring) (cyclic (2 ∷ 3 ∷ []))
 ring_from_two = ((λ e. cc), (three_is_apart, ((λ h. h), tt)), (refl, (refl, tt)))
 
@@ -101,7 +98,7 @@ ring_from_three = ((λ e. cc), (apart, ((λ h. h), tt)), (refl, (refl, tt)))
     apart (inl e) = omega arith
     apart (inr h) = h
 
--- .. and is written from the least
+-- 2 3 starts at the least index, and its rotation 3 2 does not
 ring_written : StartsAtLeast (cyclic (2 ∷ 3 ∷ []))
 ring_written = (omega arith, tt)
 
@@ -111,18 +108,18 @@ ring_not_written w = let high : 3 ≤ 2 = w.0 in omega arith
 ring_turned : IsRotation (cyclic (3 ∷ 2 ∷ [])) (cyclic (2 ∷ 3 ∷ []))
 ring_turned = (3 ∷ [], 2 ∷ [], refl, refl)
 
--- neighbours in a list, and in a ring from the last to the first
+-- neighbors in a list, and around the end of a cyclic chain
 beside : IsBeside (1 ∷ 2 ∷ 3 ∷ []) 2 3
 beside = (1 ∷ [], [], refl)
 
 round_beside : AreNeighborsIn (cyclic (2 ∷ 3 ∷ [])) 3 2
 round_beside = inr (refl, refl)
 
--- a link alone in a ring is its own neighbour
+-- a link alone in a cyclic chain is its own neighbor
 own_neighbor : AreNeighborsIn (cyclic (3 ∷ [])) 3 3
 own_neighbor = inr (refl, refl)
 
--- 1 has no neighbour before it
+-- 1 does not follow 2
 not_beside : IsBeside (1 ∷ 2 ∷ []) 2 1 → ⊥
 not_beside b = by_before b.0 b.1 b.2
   where
@@ -132,7 +129,7 @@ not_beside b = by_before b.0 b.1 b.2
     by_before (x ∷ y ∷ []) after e = cc
     by_before (x ∷ y ∷ z ∷ before) after e = cc
 
--- all items, and the order of chains
+-- all items of chains, and the order of chains
 three_items : all_items (linear (1 ∷ 2 ∷ []) ∷ cyclic (3 ∷ []) ∷ []) ≡ 1 ∷ 2 ∷ 3 ∷ []
 three_items = refl
 
@@ -152,7 +149,7 @@ crossed_not_rises r = by_member r.0.0 r.0.1 (r.0.2 1 (inr (inl refl)))
     by_member m (inr (inl e)) l = let is : 2 ≡ m = e in omega arith
     by_member m (inr (inr h)) l = h
 
--- the chains of the three rows: there are no others
+-- the three rows have these chains and no others
 three_chains : AreChains (rows three) (linear (1 ∷ 2 ∷ []) ∷ cyclic (3 ∷ []) ∷ [])
 three_chains = record {
   each = each;
@@ -188,7 +185,7 @@ three_the_chains = record { partition = partitions (rows three) _ three_chains; 
 three_only : (chains : List Chain) → AreTheChains (rows three) chains → chains ≡ linear (1 ∷ 2 ∷ []) ∷ cyclic (3 ∷ []) ∷ []
 three_only chains are = no_others (rows three) chains _ are three_the_chains
 
--- the rows agree, and stand within three slots
+-- the rows are well linked and within three slots
 three_agrees : IsWellLinked (rows three)
 three_agrees = agrees_from_chains (rows three) _ three_chains
 
@@ -201,14 +198,14 @@ three_within = record { within = λ i v. by_row i (rows_valid three i v) }
     by_row i (inr (inr (inl e))) = let is : 3 ≡ i = e in omega arith
     by_row i (inr (inr (inr h))) = absurd h
 
--- rows of which one names another and is not named do not agree, nor do rows that name an index without a link
+-- rows are not well linked if 2 does not name 1 back, or is free
 broken_disagrees : IsWellLinked (rows broken) → ⊥
 broken_disagrees agrees = let back : prev_of (rows broken) 2 ≡ Some 1 = (agrees.both 1 2).0 refl in cc
 
 stray_disagrees : IsWellLinked (rows stray) → ⊥
 stray_disagrees agrees = let back : prev_of (rows stray) 2 ≡ Some 1 = (agrees.both 1 2).0 refl in cc
 
--- an arena without links has no chain
+-- an arena without links has no chains
 none_at_all : AreTheChains (rows []) []
 none_at_all = record { partition = partitions (rows []) [] empty; interlinks = interlinks (rows []) [] empty; order = record { written = λ c h. absurd h; rises = tt } }
   where

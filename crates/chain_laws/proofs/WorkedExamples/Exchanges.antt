@@ -1,4 +1,4 @@
--- Worked rows: exchanges in linear chains and in cycles. Each is computed, link by link.
+-- Examples of exchanges in linear and cyclic chains, link by link.
 use Rattle.std.specs.Prelude.{◌≡◌, ℕ, List, [], ◌∷◌, None, Some}
 use Rattle.std.proofs.Common.{refl}
 use Rattle.chain_laws.specs.Chains.{LinkMap, AreLinked, first_or, last_or, next_of}
@@ -6,7 +6,7 @@ use Rattle.chain_laws.specs.Joins.{prev_set, next_set, joined, with_lone}
 use Rattle.chain_laws.specs.Exchanges.{exchanged}
 use Rattle.chain_laws.proofs.ChainLemmas.LinkedLists.{link}
 
--- nothing stands anywhere
+-- the empty arena
 abbrev bare : LinkMap
 bare i = None
 
@@ -38,15 +38,15 @@ two_rings = joined three_and_ring 3 1
 abbrev ring_of_six : LinkMap
 ring_of_six = joined (joined (joined (with_lone four 6) 4 5) 5 6) 6 1
 
--- 1 and 2, each alone in a ring
+-- the cyclic chains 1 and 2
 abbrev rings_of_one : LinkMap
 rings_of_one = joined (joined lone 1 1) 2 2
 
--- the items stand as a linear chain ..
+-- the items are linked as a linear chain
 abbrev StandsInLine : LinkMap → List ℕ → Type 0
 StandsInLine link_map xs = AreLinked link_map None xs None
 
--- .. or as a cyclic one
+-- the items are linked as a cyclic chain
 abbrev StandsInRing : LinkMap → List ℕ → Type 0
 StandsInRing link_map xs = AreLinked link_map (last_or xs None) xs (first_or xs None)
 
@@ -56,114 +56,100 @@ exchanged_in_four_writes : (link_map : LinkMap) (p q : ℕ)
     ≡ prev_set (next_set (prev_set (next_set link_map (Some p) (next_of link_map q)) (next_of link_map q) (Some p)) (Some q) (next_of link_map p)) (next_of link_map p) (Some q)
 exchanged_in_four_writes link_map p q = refl
 
--- two links of a cycle: it goes on past what stood between them ..
+-- two links of a cyclic chain: it splits, and the same exchange again restores it
 six_with_first : StandsInRing (exchanged ring_of_six 2 5) (1 ∷ 2 ∷ 6 ∷ [])
 six_with_first = (refl, (refl, (refl, tt)))
 
--- .. which is a cycle of its own
 six_with_second : StandsInRing (exchanged ring_of_six 2 5) (3 ∷ 4 ∷ 5 ∷ [])
 six_with_second = (refl, (refl, (refl, tt)))
 
--- .. and again: all is as it was
 six_again : StandsInRing (exchanged (exchanged ring_of_six 2 5) 2 5) (1 ∷ 2 ∷ 3 ∷ 4 ∷ 5 ∷ 6 ∷ [])
 six_again = (refl, (refl, (refl, (refl, (refl, (refl, tt))))))
 
--- neighbours in a cycle: the second is alone in a ring ..
+-- neighbors in a cyclic chain: the second leaves it
 six_neighbours_second : StandsInRing (exchanged ring_of_six 2 3) (3 ∷ [])
 six_neighbours_second = (refl, tt)
 
--- .. and the cycle goes on past it
 six_neighbours : StandsInRing (exchanged ring_of_six 2 3) (1 ∷ 2 ∷ 4 ∷ 5 ∷ 6 ∷ [])
 six_neighbours = (refl, (refl, (refl, (refl, (refl, tt)))))
 
--- a link of a linear chain and one of a cycle: the cycle comes into the chain ..
+-- a link of a linear chain and one of a cyclic chain: the linear one takes in the cyclic one
 ring_taken_in : StandsInLine (exchanged three_and_ring 1 4) (1 ∷ 5 ∷ 4 ∷ 2 ∷ 3 ∷ [])
 ring_taken_in = (refl, (refl, (refl, (refl, (refl, tt)))))
 
--- .. also from the cycle's side
 ring_taken_in_back : StandsInLine (exchanged three_and_ring 4 1) (1 ∷ 5 ∷ 4 ∷ 2 ∷ 3 ∷ [])
 ring_taken_in_back = (refl, (refl, (refl, (refl, (refl, tt)))))
 
--- .. and after the end of the chain
 ring_taken_in_at_end : StandsInLine (exchanged three_and_ring 3 5) (1 ∷ 2 ∷ 3 ∷ 4 ∷ 5 ∷ [])
 ring_taken_in_at_end = (refl, (refl, (refl, (refl, (refl, tt)))))
 
--- neighbours in a linear chain: the second leaves it ..
+-- neighbors in a linear chain: the second leaves it
 second_left_out : StandsInLine (exchanged three 1 2) (1 ∷ 3 ∷ [])
 second_left_out = (refl, (refl, tt))
 
--- .. and is alone in a ring
 second_in_ring : StandsInRing (exchanged three 1 2) (2 ∷ [])
 second_in_ring = (refl, tt)
 
--- .. also where more follow
+-- neighbors in a longer chain, and the same exchange again, which restores it
 four_without_second : StandsInLine (exchanged four 1 2) (1 ∷ 3 ∷ 4 ∷ [])
 four_without_second = (refl, (refl, (refl, tt)))
 
--- .. which leave the second in its ring
 four_second_in_ring : StandsInRing (exchanged four 1 2) (2 ∷ [])
 four_second_in_ring = (refl, tt)
 
--- .. and again: all is as it was
 four_again : StandsInLine (exchanged (exchanged four 1 2) 1 2) (1 ∷ 2 ∷ 3 ∷ 4 ∷ [])
 four_again = (refl, (refl, (refl, (refl, tt))))
 
--- links with another between them, the later one named first: the other leaves the chain with that ..
+-- two links with one between them, the later one first
 between_left_out : StandsInLine (exchanged four 3 1) (1 ∷ 4 ∷ [])
 between_left_out = (refl, (refl, tt))
 
--- .. and they are a ring
 between_in_ring : StandsInRing (exchanged four 3 1) (2 ∷ 3 ∷ [])
 between_in_ring = (refl, (refl, tt))
 
--- the start and the end of a linear chain: the start is alone ..
+-- the start and end of a linear chain
 start_and_end : StandsInLine (exchanged three 1 3) (1 ∷ [])
 start_and_end = (refl, tt)
 
--- .. and all others are in a ring
 start_and_end_ring : StandsInRing (exchanged three 1 3) (2 ∷ 3 ∷ [])
 start_and_end_ring = (refl, (refl, tt))
 
--- links of two linear chains: the first goes on with the rest of the second ..
+-- links of two linear chains: what follows them is swapped
 two_lines_first : StandsInLine (exchanged three_and_two 1 4) (1 ∷ 5 ∷ [])
 two_lines_first = (refl, (refl, tt))
 
--- .. and the second with the rest of the first
 two_lines_second : StandsInLine (exchanged three_and_two 1 4) (4 ∷ 2 ∷ 3 ∷ [])
 two_lines_second = (refl, (refl, (refl, tt)))
 
--- .. also where nothing followed in the second: the first ends there ..
+-- links of two linear chains, one of them the end
 two_lines_end_first : StandsInLine (exchanged three_and_two 2 5) (1 ∷ 2 ∷ [])
 two_lines_end_first = (refl, (refl, tt))
 
--- .. and the second goes on
 two_lines_end_second : StandsInLine (exchanged three_and_two 2 5) (4 ∷ 5 ∷ 3 ∷ [])
 two_lines_end_second = (refl, (refl, (refl, tt)))
 
--- the ends of two linear chains: the one stays
+-- the ends of two linear chains: the chains stay
 two_ends : StandsInLine (exchanged three_and_two 3 5) (1 ∷ 2 ∷ 3 ∷ [])
 two_ends = (refl, (refl, (refl, tt)))
 
--- links of two cycles: they become one
+-- links of two cyclic chains: the chains merge
 two_rings_merged : StandsInRing (exchanged two_rings 1 4) (1 ∷ 5 ∷ 4 ∷ 2 ∷ 3 ∷ [])
 two_rings_merged = (refl, (refl, (refl, (refl, (refl, tt)))))
 
--- links that name themselves: a ring of the two
+-- two links that name themselves: the chains merge
 rings_of_one_merged : StandsInRing (exchanged rings_of_one 1 2) (1 ∷ 2 ∷ [])
 rings_of_one_merged = (refl, (refl, tt))
 
--- a link with itself: all stays, in a linear chain ..
+-- a link with itself: nothing changes
 itself_in_line : StandsInLine (exchanged three 1 1) (1 ∷ 2 ∷ 3 ∷ [])
 itself_in_line = (refl, (refl, (refl, tt)))
 
--- .. in a cycle ..
 itself_in_ring : StandsInRing (exchanged two_rings 5 5) (4 ∷ 5 ∷ [])
 itself_in_ring = (refl, (refl, tt))
 
--- .. and where it names itself
 itself_alone : StandsInRing (exchanged rings_of_one 2 2) (2 ∷ [])
 itself_alone = (refl, tt)
 
--- a chain with neither stays
+-- a chain without the two links stays
 others_stay : exchanged two_rings 4 5 2 ≡ Some (link (Some 1) (Some 3))
 others_stay = refl

@@ -1,4 +1,4 @@
--- Worked rows: insertions of each kind. Each is computed.
+-- Examples of insertions of each kind.
 use Rattle.std.specs.Prelude.{◌≡◌, None, Some}
 use Rattle.std.proofs.Common.{refl}
 use Rattle.chain_laws.specs.Chains.{LinkMap}
@@ -7,7 +7,7 @@ use Rattle.chain_laws.specs.Removals.{removed}
 use Rattle.chain_laws.specs.Insertions.{disconnected, single_link_cyclic, chain_end, chain_start, next_to, prev_to, at_interlink, bridge, inserted, inserted_as}
 use Rattle.chain_laws.proofs.ChainLemmas.LinkedLists.{link}
 
--- nothing stands anywhere
+-- the empty arena
 abbrev bare : LinkMap
 bare i = None
 
@@ -31,7 +31,7 @@ ring = joined three 3 1
 abbrev ring_of_two : LinkMap
 ring_of_two = joined two_and_lone 2 1
 
--- 2 alone in a ring, and the lone links 1 and 3
+-- the cyclic chain 2, and the lone links 1 and 3
 abbrev ring_of_one : LinkMap
 ring_of_one = joined lone 2 2
 
@@ -41,67 +41,58 @@ inserted_in_four_writes : (link_map : LinkMap)
     ≡ prev_set (next_set (prev_set (next_set (with_lone link_map 7) (Some 1) (Some 7)) (Some 7) (Some 1)) (Some 7) (Some 2)) (Some 2) (Some 7)
 inserted_in_four_writes link_map = refl
 
--- a new link that stands alone names no other
+-- a new lone link
 alone_new : inserted_as three disconnected 7 7 ≡ Some (link None None)
 alone_new = refl
 
--- .. and the others stay
 alone_other : inserted_as three disconnected 7 3 ≡ Some (link (Some 2) None)
 alone_other = refl
 
--- a new link in a ring of its own names itself
+-- a new cyclic chain of one
 ring_new : inserted_as three single_link_cyclic 7 7 ≡ Some (link (Some 7) (Some 7))
 ring_new = refl
 
--- .. and the others stay
 ring_other : inserted_as three single_link_cyclic 7 1 ≡ Some (link None (Some 2))
 ring_other = refl
 
--- after a lone link: that starts a chain
+-- after a lone link
 lone_end_start : inserted_as lone (chain_end 2) 7 2 ≡ Some (link None (Some 7))
 lone_end_start = refl
 
--- .. which the new link ends
 lone_end_new : inserted_as lone (chain_end 2) 7 7 ≡ Some (link (Some 2) None)
 lone_end_new = refl
 
--- after the end of a chain: that goes on
+-- after the end of a chain
 end_goes_on : inserted_as three (chain_end 3) 7 3 ≡ Some (link (Some 2) (Some 7))
 end_goes_on = refl
 
--- .. to the new link
 end_new : inserted_as three (chain_end 3) 7 7 ≡ Some (link (Some 3) None)
 end_new = refl
 
--- .. and the start stays
 end_start : inserted_as three (chain_end 3) 7 1 ≡ Some (link None (Some 2))
 end_start = refl
 
--- before a lone link: the new one starts a chain
+-- before a lone link
 lone_start_new : inserted_as lone (chain_start 2) 7 7 ≡ Some (link None (Some 2))
 lone_start_new = refl
 
--- .. which the other ends
 lone_start_end : inserted_as lone (chain_start 2) 7 2 ≡ Some (link (Some 7) None)
 lone_start_end = refl
 
--- before the start of a chain: the new link starts it
+-- before the start of a chain
 start_new : inserted_as three (chain_start 1) 7 7 ≡ Some (link None (Some 1))
 start_new = refl
 
--- .. and the old start is its second
 start_second : inserted_as three (chain_start 1) 7 1 ≡ Some (link (Some 7) (Some 2))
 start_second = refl
 
--- after the start, where another follows
+-- after the start
 next_to_start : inserted_as three (next_to 1) 7 1 ≡ Some (link None (Some 7))
 next_to_start = refl
 
--- .. and before that
 next_to_start_new : inserted_as three (next_to 1) 7 7 ≡ Some (link (Some 1) (Some 2))
 next_to_start_new = refl
 
--- .. which comes after the new link
 next_to_start_second : inserted_as three (next_to 1) 7 2 ≡ Some (link (Some 7) (Some 3))
 next_to_start_second = refl
 
@@ -109,7 +100,7 @@ next_to_start_second = refl
 next_to_middle : inserted_as three (next_to 2) 7 7 ≡ Some (link (Some 2) (Some 3))
 next_to_middle = refl
 
--- after the end: the new link ends the chain
+-- after the end
 next_to_end : inserted_as three (next_to 3) 7 7 ≡ Some (link (Some 3) None)
 next_to_end = refl
 
@@ -117,31 +108,27 @@ next_to_end = refl
 next_to_lone : inserted_as lone (next_to 2) 7 7 ≡ Some (link (Some 2) None)
 next_to_lone = refl
 
--- after the last of a ring, as it is written: before its first
+-- after the last link of a cyclic chain
 next_to_last : inserted_as ring (next_to 3) 7 7 ≡ Some (link (Some 3) (Some 1))
 next_to_last = refl
 
--- .. which comes after the new link
 next_to_last_first : inserted_as ring (next_to 3) 7 1 ≡ Some (link (Some 7) (Some 2))
 next_to_last_first = refl
 
--- after one of a cycle of two: the new link
+-- after a link of a cyclic chain of two
 next_to_of_two : inserted_as ring_of_two (next_to 1) 7 7 ≡ Some (link (Some 1) (Some 2))
 next_to_of_two = refl
 
--- .. and the one
 next_to_of_two_one : inserted_as ring_of_two (next_to 1) 7 1 ≡ Some (link (Some 2) (Some 7))
 next_to_of_two_one = refl
 
--- .. and the other
 next_to_of_two_other : inserted_as ring_of_two (next_to 1) 7 2 ≡ Some (link (Some 7) (Some 1))
 next_to_of_two_other = refl
 
--- after a link that names itself: the two name one another
+-- after a link that names itself: both name each other
 next_to_itself_new : inserted_as ring_of_one (next_to 2) 7 7 ≡ Some (link (Some 2) (Some 2))
 next_to_itself_new = refl
 
--- .. both ways
 next_to_itself : inserted_as ring_of_one (next_to 2) 7 2 ≡ Some (link (Some 7) (Some 7))
 next_to_itself = refl
 
@@ -149,43 +136,38 @@ next_to_itself = refl
 prev_to_middle : inserted_as three (prev_to 2) 7 7 ≡ Some (link (Some 1) (Some 2))
 prev_to_middle = refl
 
--- .. which comes after the new link
 prev_to_middle_second : inserted_as three (prev_to 2) 7 2 ≡ Some (link (Some 7) (Some 3))
 prev_to_middle_second = refl
 
--- .. and the start before it
 prev_to_middle_start : inserted_as three (prev_to 2) 7 1 ≡ Some (link None (Some 7))
 prev_to_middle_start = refl
 
--- before the start: the new link starts the chain
+-- before the start
 prev_to_start : inserted_as three (prev_to 1) 7 7 ≡ Some (link None (Some 1))
 prev_to_start = refl
 
--- before the first of a ring, as it is written: after its last
+-- before the first link of a cyclic chain
 prev_to_first : inserted_as ring (prev_to 1) 7 7 ≡ Some (link (Some 3) (Some 1))
 prev_to_first = refl
 
--- before a link that names itself: the two name one another
+-- before a link that names itself: both name each other
 prev_to_itself_new : inserted_as ring_of_one (prev_to 2) 7 7 ≡ Some (link (Some 2) (Some 2))
 prev_to_itself_new = refl
 
--- .. both ways
 prev_to_itself : inserted_as ring_of_one (prev_to 2) 7 2 ≡ Some (link (Some 7) (Some 7))
 prev_to_itself = refl
 
--- between neighbours: the first
+-- between neighbors
 between_first : inserted_as three (at_interlink 2 3) 7 2 ≡ Some (link (Some 1) (Some 7))
 between_first = refl
 
--- .. the new link
 between_new : inserted_as three (at_interlink 2 3) 7 7 ≡ Some (link (Some 2) (Some 3))
 between_new = refl
 
--- .. and the second
 between_second : inserted_as three (at_interlink 2 3) 7 3 ≡ Some (link (Some 7) None)
 between_second = refl
 
--- between the last and the first of a ring
+-- between the last and first link of a cyclic chain
 between_round : inserted_as ring (at_interlink 3 1) 7 7 ≡ Some (link (Some 3) (Some 1))
 between_round = refl
 
@@ -193,42 +175,36 @@ between_round = refl
 between_itself : inserted_as ring_of_one (at_interlink 2 2) 7 7 ≡ Some (link (Some 2) (Some 2))
 between_itself = refl
 
--- between two chains: the end of the one
+-- between two chains
 bridge_end : inserted_as two_and_lone (bridge 2 3) 7 2 ≡ Some (link (Some 1) (Some 7))
 bridge_end = refl
 
--- .. the new link
 bridge_new : inserted_as two_and_lone (bridge 2 3) 7 7 ≡ Some (link (Some 2) (Some 3))
 bridge_new = refl
 
--- .. and the start of the other
 bridge_start : inserted_as two_and_lone (bridge 2 3) 7 3 ≡ Some (link (Some 7) None)
 bridge_start = refl
 
--- between the end and the start of one chain: it closes to a ring at its end
+-- between the end and start of a chain, which becomes cyclic
 close_end : inserted_as three (bridge 3 1) 7 3 ≡ Some (link (Some 2) (Some 7))
 close_end = refl
 
--- .. by the new link
 close_new : inserted_as three (bridge 3 1) 7 7 ≡ Some (link (Some 3) (Some 1))
 close_new = refl
 
--- .. at its start
 close_start : inserted_as three (bridge 3 1) 7 1 ≡ Some (link (Some 7) (Some 2))
 close_start = refl
 
--- between a lone link and itself: a cycle of two, with the new one
+-- between a lone link and itself
 close_lone_new : inserted_as lone (bridge 2 2) 7 7 ≡ Some (link (Some 2) (Some 2))
 close_lone_new = refl
 
--- .. and the other
 close_lone : inserted_as lone (bridge 2 2) 7 2 ≡ Some (link (Some 7) (Some 7))
 close_lone = refl
 
--- a new link next to another one, removed
+-- a link inserted beside another and removed
 inserted_and_removed : removed (inserted_as three (next_to 2) 7) 7 2 ≡ Some (link (Some 1) (Some 3))
 inserted_and_removed = refl
 
--- .. in a ring of one
 inserted_and_removed_itself : removed (inserted_as ring_of_one (prev_to 2) 7) 7 2 ≡ Some (link (Some 2) (Some 2))
 inserted_and_removed_itself = refl

@@ -1,4 +1,4 @@
--- Worked rows: joins, and walks as a walker passes them. Each is computed.
+-- Examples of joins, and of walks.
 use Rattle.std.specs.Prelude.{◌≡◌, [], ◌∷◌, None, Some}
 use Rattle.std.proofs.Common.{refl, inl, inr, arith}
 use Rattle.chain_laws.specs.Chains.{LinkMap, IsChain, linear, cyclic, prev_of}
@@ -6,11 +6,11 @@ use Rattle.chain_laws.specs.Joins.{joined, linked, with_lone}
 use Rattle.chain_laws.specs.Walks.{IsWalk, there_and_back, round, walk_ahead}
 use Rattle.chain_laws.proofs.ChainLemmas.LinkedLists.{link, first_no_repetition}
 
--- nothing stands anywhere
+-- the empty arena
 abbrev bare : LinkMap
 bare i = None
 
--- two lone links, 1 and 2
+-- the lone links 1 and 2
 abbrev two_lone : LinkMap
 two_lone = with_lone (with_lone bare 1) 2
 
@@ -30,43 +30,40 @@ ring = joined three 3 1
 abbrev four : LinkMap
 four = joined (joined (joined (with_lone (with_lone (with_lone (with_lone bare 2) 4) 7) 9) 4 2) 9 7) 2 9
 
--- two lone links, joined: the first
+-- two lone links joined
 two_lone_joined_first : joined two_lone 1 2 1 ≡ Some (link None (Some 2))
 two_lone_joined_first = refl
 
--- .. and the second
 two_lone_joined_second : joined two_lone 1 2 2 ≡ Some (link (Some 1) None)
 two_lone_joined_second = refl
 
--- a lone link joined with itself is a cycle of one
+-- a lone link joined to itself is a cyclic chain of one; others stay
 lone_joined_with_itself : joined two_lone 1 1 1 ≡ Some (link (Some 1) (Some 1))
 lone_joined_with_itself = refl
 
--- .. and the other link stays
 lone_beside_a_cycle : joined two_lone 1 1 2 ≡ Some (link None None)
 lone_beside_a_cycle = refl
 
--- the linear chain 1 2 joined with 3: the one between
+-- the linear chain 1 2 joined to 3
 pair_joined_with_lone : three 2 ≡ Some (link (Some 1) (Some 3))
 pair_joined_with_lone = refl
 
--- .. and its end
 pair_joined_with_lone_end : three 3 ≡ Some (link (Some 2) None)
 pair_joined_with_lone_end = refl
 
--- the end joined with the start of the same chain
+-- the end of a chain joined to its start
 chain_joined_with_itself : ring 1 ≡ Some (link (Some 3) (Some 2))
 chain_joined_with_itself = refl
 
--- a join with an index where no link stands makes no link
+-- a join with a free index adds no link there
 join_with_nothing : joined two_lone 1 5 5 ≡ None
 join_with_nothing = refl
 
--- no index at one side: the other side is cut off
+-- linking to none removes the neighbor on that side
 linked_to_none : linked three (Some 1) None 1 ≡ Some (link None None)
 linked_to_none = refl
 
--- the linear chain that two lone links become
+-- two joined lone links are a linear chain
 two_lone_as_a_chain : IsChain (joined two_lone 1 2) (linear (1 ∷ 2 ∷ []))
 two_lone_as_a_chain = (λ e. cc, first_no_repetition (joined two_lone 1 2) (1 ∷ 2 ∷ []) None (refl, (refl, tt)), (refl, (refl, tt)))
 
@@ -74,38 +71,33 @@ two_lone_as_a_chain = (λ e. cc, first_no_repetition (joined two_lone 1 2) (1 �
 ring_as_a_chain : IsChain ring (cyclic (2 ∷ 3 ∷ 1 ∷ []))
 ring_as_a_chain = (λ e. cc, (λ h. elim h [ inl e ↦ absurd (omega arith) | inr k ↦ elim k [ inl e ↦ absurd (omega arith) | inr n ↦ n ] ], (λ h. elim h [ inl e ↦ absurd (omega arith) | inr n ↦ n ], (λ h. h, tt))), (refl, (refl, (refl, tt))))
 
--- a walker in a linear chain from its second link: on, and then back
+-- a walker in a linear chain: forwards to the end, and then back
 walker_from_second : walk_ahead 4 four 2 (Some 2) (prev_of four 2) ≡ 2 ∷ 9 ∷ 7 ∷ 4 ∷ []
 walker_from_second = refl
 
--- .. from its third link, back in two steps
 walker_from_third : walk_ahead 4 four 9 (Some 9) (prev_of four 9) ≡ 9 ∷ 7 ∷ 2 ∷ 4 ∷ []
 walker_from_third = refl
 
--- .. from its end
 walker_from_end : walk_ahead 9 four 7 (Some 7) (prev_of four 7) ≡ 7 ∷ 9 ∷ 2 ∷ 4 ∷ []
 walker_from_end = refl
 
--- a walker in a cyclic chain comes round and does not go back
+-- a walker in a cyclic chain stops once around, even with steps left
 walker_in_a_cycle : walk_ahead 3 ring 2 (Some 2) (prev_of ring 2) ≡ 2 ∷ 3 ∷ 1 ∷ []
 walker_in_a_cycle = refl
 
--- .. though it had steps left
 walker_in_a_cycle_at_ease : walk_ahead 9 ring 2 (Some 2) (prev_of ring 2) ≡ 2 ∷ 3 ∷ 1 ∷ []
 walker_in_a_cycle_at_ease = refl
 
--- a walker at a link that is tied to itself
+-- a walker at a link that names itself
 walker_in_a_cycle_of_one : walk_ahead 3 (joined two_lone 1 1) 1 (Some 1) (prev_of (joined two_lone 1 1) 1) ≡ 1 ∷ []
 walker_in_a_cycle_of_one = refl
 
--- the walk from the second link of a linear chain 4 2 9 7
+-- walks in linear and cyclic chains
 walk_from_second : (link_map : LinkMap) → IsChain link_map (linear (4 ∷ 2 ∷ 9 ∷ 7 ∷ [])) → IsWalk link_map 2 (2 ∷ 9 ∷ 7 ∷ 4 ∷ [])
 walk_from_second link_map chain = there_and_back (4 ∷ []) (9 ∷ 7 ∷ []) chain
 
--- .. and from its end
 walk_from_end : (link_map : LinkMap) → IsChain link_map (linear (4 ∷ 2 ∷ 9 ∷ 7 ∷ [])) → IsWalk link_map 7 (7 ∷ 9 ∷ 2 ∷ 4 ∷ [])
 walk_from_end link_map chain = there_and_back (4 ∷ 2 ∷ 9 ∷ []) [] chain
 
--- the walk from the second link of a cyclic chain 1 2 3
 walk_in_a_cycle : (link_map : LinkMap) → IsChain link_map (cyclic (2 ∷ 3 ∷ 1 ∷ [])) → IsWalk link_map 2 (2 ∷ 3 ∷ 1 ∷ [])
 walk_in_a_cycle link_map chain = round (3 ∷ 1 ∷ []) chain

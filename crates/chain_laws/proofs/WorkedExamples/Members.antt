@@ -1,4 +1,4 @@
--- Worked rows: what an arena shows beside a link, and that the laws of members and of other chains need what they ask. Each is computed.
+-- Examples of the interlinks beside a link, and of what fails without the premises of the laws.
 use Rattle.std.specs.Prelude.{◌≡◌, [], ◌∷◌, None, Some}
 use Rattle.std.proofs.Common.{refl, ap, inl, inr, arith}
 use Rattle.chain_laws.specs.Chains.{LinkMap, IsChain, linear, cyclic, IsMember, next_in, next_of}
@@ -11,7 +11,7 @@ use Rattle.chain_laws.specs.Members.{PlacesInARing}
 use Rattle.chain_laws.proofs.InterlinkLemmas.Inverses.{not_both_ways}
 use Rattle.chain_laws.proofs.ChainLemmas.LinkedLists.{link, first_no_repetition}
 
--- two lone links, 1 and 2
+-- the lone links 1 and 2
 abbrev two_lone : LinkMap
 two_lone = with_lone (with_lone (λ i. None) 1) 2
 
@@ -19,21 +19,21 @@ two_lone = with_lone (with_lone (λ i. None) 1) 2
 abbrev pair : LinkMap
 pair = joined two_lone 1 2
 
--- 1 names 2 after it, but 2 names none before it
+-- 1 names 2 as next, but 2 names nothing as prev
 abbrev torn : LinkMap
 torn = next_set two_lone (Some 1) (Some 2)
 
 pair_is_a_chain : IsChain pair (linear (1 ∷ 2 ∷ []))
 pair_is_a_chain = (λ e. cc, first_no_repetition pair (1 ∷ 2 ∷ []) None (refl, (refl, tt)), (refl, (refl, tt)))
 
--- the places in a ring of two, and in a ring of one, which names itself
+-- interlinks in cyclic chains of two and of one
 ring_of_two_places : PlacesInARing → (link_map : LinkMap) → IsChain link_map (cyclic (1 ∷ 2 ∷ [])) → link_map 2 ≡ Some (link (Some 1) (Some 1))
 ring_of_two_places places link_map is = places link_map (1 ∷ []) [] 2 is
 
 ring_of_one_places : PlacesInARing → (link_map : LinkMap) → IsChain link_map (cyclic (1 ∷ [])) → link_map 1 ≡ Some (link (Some 1) (Some 1))
 ring_of_one_places places link_map is = places link_map [] [] 1 is
 
--- where interlinks do not agree, a chain has one of two neighbours alone
+-- if the arena is not well linked, a chain may have only one of two neighbors
 torn_neighbors : AreNeighbors torn 1 2
 torn_neighbors = refl
 
@@ -44,18 +44,18 @@ torn_apart : IsMember (2 ∷ []) 1 → ⊥
 torn_apart (inl e) = omega arith
 torn_apart (inr h) = h
 
--- a chain that has the link beside which a new one comes does not stay ..
+-- a chain with the link beside a new one does not stay
 pair_goes_by_insertion : IsChain (inserted_as pair (next_to 1) 3) (linear (1 ∷ 2 ∷ [])) → ⊥
 pair_goes_by_insertion is = let shows = is.2.0 in cc
 
--- .. nor one that has both neighbours that are cut apart, and what is joined was not there before
+-- a chain with both neighbors does not survive their cut, or exist before their join
 pair_goes_by_cut : IsChain (cut pair 1 2) (linear (1 ∷ 2 ∷ [])) → ⊥
 pair_goes_by_cut is = let shows = is.2.0 in cc
 
 pair_comes_by_join : IsChain two_lone (linear (1 ∷ 2 ∷ [])) → ⊥
 pair_comes_by_join is = not_both_ways (next_of two_lone 1) 2 refl (ap next_in is.2.0)
 
--- .. and a chain of a link that named the removed one was not there before
+-- a chain with a link that named the removed one did not exist before
 rest_comes_by_removal : IsChain (removed pair 2) (linear (1 ∷ []))
 rest_comes_by_removal = (λ e. cc, (λ h. h, tt), (refl, tt))
 

@@ -1,4 +1,4 @@
--- Worked rows: removals from each kind of chain. Each is computed.
+-- Examples of removals from each kind of chain.
 use Rattle.std.specs.Prelude.{◌≡◌, ℕ, [], ◌∷◌, Option, None, Some}
 use Rattle.std.proofs.Common.{refl}
 use Rattle.chain_laws.specs.Chains.{LinkMap, linear, cyclic}
@@ -6,7 +6,7 @@ use Rattle.chain_laws.specs.Joins.{prev_set, next_set, linked, joined, with_lone
 use Rattle.chain_laws.specs.Removals.{vacated, removed, list_without, chain_without}
 use Rattle.chain_laws.proofs.ChainLemmas.LinkedLists.{link}
 
--- nothing stands anywhere
+-- the empty arena
 abbrev bare : LinkMap
 bare i = None
 
@@ -26,90 +26,81 @@ ring = joined three 3 1
 abbrev ring_of_two : LinkMap
 ring_of_two = joined (joined lone 1 2) 2 1
 
--- 2 alone in a ring, and the lone links 1 and 3
+-- the cyclic chain 2, and the lone links 1 and 3
 abbrev ring_of_one : LinkMap
 ring_of_one = joined lone 2 2
 
--- the two writes of a removal are one linking
+-- the two writes of a removal are one `linked`
 linked_in_two_writes : (link_map : LinkMap) (q : ℕ) (u v : Option ℕ) → prev_set (next_set (vacated link_map q) u v) v u ≡ linked (vacated link_map q) u v
 linked_in_two_writes link_map q u v = refl
 
--- out of the middle: the one before it
+-- removing the middle of a chain
 middle_before : removed three 2 1 ≡ Some (link None (Some 3))
 middle_before = refl
 
--- .. the one after it
 middle_after : removed three 2 3 ≡ Some (link (Some 1) None)
 middle_after = refl
 
--- .. and nothing stands there
 middle_gone : removed three 2 2 ≡ None
 middle_gone = refl
 
--- the start: the one after it starts
+-- removing the start of a chain
 start_after : removed three 1 2 ≡ Some (link None (Some 3))
 start_after = refl
 
--- .. and the end stays
 start_end : removed three 1 3 ≡ Some (link (Some 2) None)
 start_end = refl
 
--- the end: the one before it ends
+-- removing the end of a chain
 end_before : removed three 3 2 ≡ Some (link (Some 1) None)
 end_before = refl
 
--- a lone link: nothing stands there
+-- removing a lone link
 lone_gone : removed lone 2 2 ≡ None
 lone_gone = refl
 
--- .. and the others stay
 lone_other : removed lone 2 1 ≡ Some (link None None)
 lone_other = refl
 
--- one of a cycle of two leaves a link that names itself
+-- removing one of a cyclic chain of two leaves a link that names itself
 two_leave_one : removed ring_of_two 1 2 ≡ Some (link (Some 2) (Some 2))
 two_leave_one = refl
 
--- .. whichever of the two
 two_leave_other : removed ring_of_two 2 1 ≡ Some (link (Some 1) (Some 1))
 two_leave_other = refl
 
--- a link that names itself: nothing stands there
+-- removing a link that names itself
 one_gone : removed ring_of_one 2 2 ≡ None
 one_gone = refl
 
--- .. and the others stay
 one_other : removed ring_of_one 2 3 ≡ Some (link None None)
 one_other = refl
 
--- one of a cycle of three leaves a cycle of two: the first
+-- removing one of a cyclic chain of three leaves a cyclic chain of two
 three_leave_two_first : removed ring 2 1 ≡ Some (link (Some 3) (Some 3))
 three_leave_two_first = refl
 
--- .. and the second
 three_leave_two_second : removed ring 2 3 ≡ Some (link (Some 1) (Some 1))
 three_leave_two_second = refl
 
--- all of a cycle of three
+-- removing all of a cyclic chain of three
 all_gone : removed (removed (removed ring 2) 3) 1 1 ≡ None
 all_gone = refl
 
--- the removal of an index where no link stands changes nothing
+-- removing a free index changes nothing
 nothing_there : removed ring 7 2 ≡ Some (link (Some 1) (Some 3))
 nothing_there = refl
 
--- a new link that stands alone, removed
+-- removing a new lone link
 lone_again : removed (with_lone three 7) 7 2 ≡ Some (link (Some 1) (Some 3))
 lone_again = refl
 
--- a list without one of its items
+-- lists and chains without one of their items
 list_row : list_without (4 ∷ 2 ∷ 9 ∷ 7 ∷ []) 9 ≡ 4 ∷ 2 ∷ 7 ∷ []
 list_row = refl
 
--- .. and a chain, which stays cyclic
 chain_row : chain_without (cyclic (4 ∷ 2 ∷ 9 ∷ [])) 4 ≡ cyclic (2 ∷ 9 ∷ [])
 chain_row = refl
 
--- .. and one that is left empty
 chain_emptied : chain_without (linear (4 ∷ [])) 4 ≡ linear []
 chain_emptied = refl
